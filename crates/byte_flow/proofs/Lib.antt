@@ -1,0 +1,2 @@
+pub mod FileTableLemmas
+pub mod ScheduleLemmas

@@ -1,0 +1,6 @@
+pub mod Flow
+pub mod Transfer
+pub mod Schedule
+pub mod FileTable
+pub mod MemShelf
+pub mod MemSink

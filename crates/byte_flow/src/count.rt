@@ -1,0 +1,26 @@
+// A count of faults.
+ghost use Rattle.std.specs.Prelude.{◌≡◌, ◌<◌, ◌^◌};
+ghost use Rattle.byte_flow.specs.Flow.{raised};
+
+/// A number that rises by one at a time and stands still at its last value.
+#[derive(Drop)]
+pub struct Count {
+    pub number: u64,
+    ghost fits: { number < 2 ^ 64 },
+}
+
+impl Count {
+    /// Nothing was counted.
+    pub fn zero() -> Self
+        ensures { result.number ≡ 0 }
+    {
+        Count { number: 0 }
+    }
+
+    /// Counts one more.
+    pub fn raise(&mut self)
+        ensures { self.new.number ≡ raised self.old.number }
+    {
+        self.number = self.number.saturating_add(1);
+    }
+}

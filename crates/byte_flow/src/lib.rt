@@ -1,0 +1,24 @@
+//! Files that are read whole and reports that are written whole, through shelves and sinks that may fail.
+#![tactic(auto)]
+
+mod count;
+mod file_shelf;
+mod file_table;
+mod mem_shelf;
+mod mem_sink;
+mod schedule;
+mod shelf;
+mod sink;
+mod std_sink;
+mod transfer;
+
+pub use file_shelf::FileShelf;
+pub use mem_shelf::MemShelf;
+pub use mem_sink::MemSink;
+pub use shelf::{Failed, Shelf};
+pub use sink::Sink;
+pub use std_sink::StdSink;
+pub use transfer::{ReadError, WriteError, read_file, write_all};
+
+#[cfg(test)]
+mod tests;

@@ -1,0 +1,45 @@
+//! Compares versions: for each line `LEFT RIGHT` of standard input it writes `<`, `=` or `>`, or `?` where one of the
+//! two is no version.
+#![tactic(auto)]
+
+ghost use Rattle.std.specs.Prelude.{◌≡◌, IfOk};
+ghost use Rattle.deb_version.specs.Order.{version_order};
+
+use deb_version::{Version, VersionError};
+use std::alloc::{AllocError, Global};
+use std::cmp::Ordering;
+use std::io;
+use std::io::{BufRead, BufReader, BufWriter, Write};
+
+fn main(rt: HostRuntime) -> io::Result<()> {
+    let mut out = BufWriter::new(rt.alloc(), io::writer(&rt))?;
+    for line in BufReader::new(rt.alloc(), rt.reader())?.lines(rt.alloc()) {
+        let line = line?;
+        let sign = sign_of(rt.alloc(), line.as_str())?;
+        writeln!(out, "{sign}")?;
+    }
+    out.flush()
+}
+
+// The sign between the two versions of a line.
+fn sign_of(alloc: Global, line: &str) -> Result<&'static str, AllocError> {
+    let Some((left, right)) = line.split_once(' ') else {
+        return Ok("?");
+    };
+    match order_of(alloc, left, right) {
+        Ok(Ordering::Less) => Ok("<"),
+        Ok(Ordering::Equal) => Ok("="),
+        Ok(Ordering::Greater) => Ok(">"),
+        Err(VersionError::Shape) => Ok("?"),
+        Err(VersionError::Memory) => Err(AllocError),
+    }
+}
+
+// The order of two texts of versions.
+fn order_of(alloc: Global, left: &str, right: &str) -> Result<Ordering, VersionError>
+    ensures { IfOk result (λ order. order ≡ version_order left.now right.now) }
+{
+    let left = Version::parse(alloc, left.as_bytes())?;
+    let right = Version::parse(alloc, right.as_bytes())?;
+    Ok(left.order(&right))
+}

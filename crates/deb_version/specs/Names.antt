@@ -1,0 +1,18 @@
+-- The names of packages. A name has at least one character, each is an ASCII letter of either case, a
+-- digit or one of `+ - . _`, and the first is a letter or a digit. This is wider than Debian Policy
+-- 5.6.1 and 5.6.7, which want two characters and more, no upper-case letter and no `_`.
+use Rattle.std.specs.Prelude.{ℕ, Bool, false, ◌&&◌, ◌||◌, ◌==◌, List, [], ◌∷◌}
+use Rattle.std.specs.Char.{is_ascii_alphanumeric}
+use Rattle.std.specs.List.{list_all}
+
+-- a letter, a digit or one of `+ - . _`
+abbrev pub is_name_byte : ℕ → Bool
+is_name_byte c = is_ascii_alphanumeric c || (c == 43 || c == 45 || c == 46 || c == 95)
+
+-- there is a first byte, and it is a letter or a digit
+abbrev pub has_first : List ℕ → Bool
+has_first [] = false
+has_first (first ∷ rest) = is_ascii_alphanumeric first
+
+abbrev pub is_name : List ℕ → Bool
+is_name text = has_first text && list_all is_name_byte text

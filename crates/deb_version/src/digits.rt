@@ -1,0 +1,33 @@
+//! Runs of digits as whole numbers of any size.
+ghost use Rattle.std.specs.Prelude.{◌≡◌, ◌==◌, true, drop};
+ghost use Rattle.std.specs.Char.{is_ascii_digit};
+ghost use Rattle.std.specs.List.{list_all, prefix_len};
+ghost use Rattle.std.specs.Ordering.{nat_cmp};
+ghost use Rattle.deb_version.specs.Order.{number};
+
+use std::cmp::Ordering;
+
+/// Compares the numbers that two runs of digits write.
+///
+/// Without its leading zeros the longer run is the greater number, and of two runs of one length the first digit
+/// that differs decides.
+pub(crate) fn order_numbers(left: &[u8], right: &[u8]) -> Ordering
+    requires left { list_all is_ascii_digit left.now ≡ true }
+    requires right { list_all is_ascii_digit right.now ≡ true }
+    ensures { result ≡ nat_cmp (number left.now) (number right.now) }
+{
+    let left = without_zeros(left);
+    let right = without_zeros(right);
+    left.len().cmp(&right.len()).then(left.cmp(right))
+}
+
+// The digits behind the leading zeros.
+fn without_zeros(digits: &[u8]) -> &[u8]
+    ensures { result.now ≡ drop (prefix_len (λ c. c == 48) digits.now) digits.now }
+{
+    let mut rest = digits;
+    while let [b'0', behind @ ..] = rest {
+        rest = behind;
+    }
+    rest
+}

@@ -1,0 +1,40 @@
+//! A text of bytes that its holder owns.
+ghost use Rattle.std.specs.Prelude.{◌≡◌, IfOk};
+
+use std::alloc::{AllocError, Global};
+use std::marker::Model;
+
+/// An owned text, byte for byte.
+#[derive(Drop)]
+pub struct Bytes {
+    bytes: Vec<u8>,
+}
+
+impl Model for Bytes {
+    ghost use Rattle.std.specs.Prelude.{List, ℕ};
+    ghost use Rattle.std.specs.Coded.{coded_list, coded_ℕ};
+
+    ghost Value = { List ℕ };
+
+    ghost coded = { coded_list coded_ℕ };
+
+    ghost view = { λ s. s.bytes.items };
+}
+
+impl Bytes {
+    /// A copy of the text; it fails only where no memory is found.
+    pub fn copy(alloc: Global, text: &[u8]) -> Result<Self, AllocError>
+        ensures { IfOk result (λ t. t ≡ text.now) }
+    {
+        Ok(Bytes {
+            bytes: Vec::from_slice(alloc, text)?,
+        })
+    }
+
+    /// Lends the text; it takes no memory.
+    pub fn as_slice(&self) -> &[u8]
+        ensures { result.now ≡ self.now }
+    {
+        self.bytes.as_slice()
+    }
+}

@@ -1,0 +1,124 @@
+//! The versions of packages and their order.
+ghost use Rattle.std.specs.Prelude.{◌≡◌, true, false, IfOk, IfErr, OnOk, unwrap_or};
+ghost use Rattle.std.specs.Cmp.{IsTotalOrder};
+ghost use Rattle.std.specs.Option.{option_copied};
+ghost use Rattle.deb_version.specs.Grammar.{is_version};
+ghost use Rattle.deb_version.specs.Order.{version_order, or_zero, IsTotalUpToTies};
+ghost use Rattle.deb_version.specs.Refusals.{OnShape};
+
+use crate::cuts::{cut, is_well_formed};
+use crate::digits::order_numbers;
+use crate::parts::order_parts;
+use crate::texts::Bytes;
+use std::alloc::{AllocError, Global};
+use std::cmp::Ordering;
+use std::marker::Model;
+
+/// Why a text gave no version.
+#[derive(Clone, Copy, Debug, PartialEq, Eq)]
+pub enum VersionError {
+    /// The text is outside the grammar of versions.
+    Shape,
+    /// No memory was found.
+    Memory,
+}
+
+impl From<AllocError> for VersionError {
+    ghost use Rattle.std.specs.Prelude.{◌≡◌};
+    ghost use Rattle.deb_version.specs.declared.versions.VersionError.TheVariants.{Memory};
+
+    ghost from_gives = { λ _ e. e ≡ Memory };
+
+    fn from(_error: AllocError) -> Self {
+        VersionError::Memory
+    }
+}
+
+/// A version `[epoch:]upstream[-revision]`, as it was written.
+#[derive(Drop)]
+pub struct Version {
+    text: Bytes,
+}
+
+impl Model for Version {
+    ghost use Rattle.std.specs.Prelude.{◌≡◌, List, ℕ, true};
+    ghost use Rattle.std.specs.Coded.{coded_list, coded_ℕ};
+    ghost use Rattle.deb_version.specs.Grammar.{is_version};
+
+    ghost Value = { List ℕ };
+
+    ghost coded = { coded_list coded_ℕ };
+
+    ghost view = { λ s. s.text };
+
+    ghost invariant = { λ s. is_version s.text ≡ true };
+}
+
+impl Version {
+    /// Reads a version; a text outside the grammar is refused before any memory is asked for.
+    pub fn parse(alloc: Global, text: &[u8]) -> Result<Self, VersionError>
+        ensures text { IfOk result (λ v. v ≡ text.now) }
+        ensures grammar { OnOk result (is_version text.now ≡ true) }
+        ensures shape { IfErr result (OnShape (is_version text.now ≡ false)) }
+        ensures outside { is_version text.now ≡ false → result ≡ Err VersionError.Shape }
+    {
+        if !is_well_formed(text) {
+            return Err(VersionError::Shape);
+        }
+        Ok(Version {
+            text: Bytes::copy(alloc, text)?,
+        })
+    }
+
+    /// Compares two versions; it takes no memory, and time linear in the two texts.
+    pub fn order(&self, other: &Version) -> Ordering
+        ensures { result ≡ version_order self.now other.now }
+    {
+        order_texts(self.text(), other.text())
+    }
+
+    /// Lends the text that was parsed; it takes no memory.
+    pub fn text(&self) -> &[u8]
+        ensures value { result.now ≡ self.now }
+        ensures grammar { is_version self.now ≡ true }
+    {
+        self.text.as_slice()
+    }
+}
+
+// Compares two texts of versions by their epochs, then by their upstream parts, then by their revisions.
+fn order_texts(left: &[u8], right: &[u8]) -> Ordering
+    requires left { is_version left.now ≡ true }
+    requires right { is_version right.now ≡ true }
+    ensures { result ≡ version_order left.now right.now }
+{
+    let left = cut(left);
+    let right = cut(right);
+    let epochs = order_numbers(written_or_zero(left.epoch), written_or_zero(right.epoch));
+    if epochs.is_ne() {
+        return epochs;
+    }
+    let upstreams = order_parts(left.upstream, right.upstream);
+    if upstreams.is_ne() {
+        return upstreams;
+    }
+    order_parts(
+        written_or_zero(left.revision),
+        written_or_zero(right.revision),
+    )
+}
+
+// What is written, or else the `0` that a missing epoch and a missing revision count as.
+fn written_or_zero(written: Option<&[u8]>) -> &[u8]
+    ensures { result.now ≡ unwrap_or (option_copied written.entry) or_zero }
+{
+    written.unwrap_or(b"0")
+}
+
+/// The order of versions is total up to equal versions, so that callers may sort and search by it: each version is
+/// equal to itself, two that are each at most the other are equal, "at most" goes on from one to the next, and of two
+/// versions one is at most the other. Equal versions need not be the same text.
+pub fn order_is_total()
+    ensures laws { IsTotalUpToTies version_order }
+    ensures sorts { IsTotalOrder version_order }
+{}

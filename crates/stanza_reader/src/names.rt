@@ -1,0 +1,69 @@
+//! The names of fields.
+
+ghost use Rattle.std.specs.Prelude.{◌≡◌};
+ghost use Rattle.std.specs.List.{list_all, list_any};
+ghost use Rattle.stanza_reader.specs.Fields.{is_colon, is_name_byte, is_field_name, kind_of, name_of};
+
+use crate::stanza::FieldKind;
+use memchr::memchr;
+
+/// The text before the first colon of a line, or the whole line where it has none.
+pub(crate) fn name_of(line: &[u8]) -> &[u8]
+    ensures { result.now ≡ name_of line.now }
+{
+    match memchr(b':', line) {
+        Some(end) => &line[..end],
+        None => line,
+    }
+}
+
+/// Whether the line has a colon.
+pub(crate) fn has_colon(line: &[u8]) -> bool
+    ensures { result ≡ list_any is_colon line.now }
+{
+    line.iter().any(|byte| *byte == b':')
+}
+
+/// Whether the text is the name of a field.
+pub(crate) fn is_field_name(text: &[u8]) -> bool
+    ensures { result ≡ is_field_name text.now }
+{
+    match text {
+        [first, ..] => *first != b'#' && *first != b'-' && has_name_bytes(text),
+        [] => false,
+    }
+}
+
+fn has_name_bytes(text: &[u8]) -> bool
+    ensures { result ≡ list_all is_name_byte text.now }
+{
+    text.iter()
+        .all(|byte| 33 <= *byte && *byte <= 126 && *byte != b':')
+}
+
+/// The kind of a field by its name, for the fields that are kept.
+pub(crate) fn kind_of(name: &[u8]) -> Option<FieldKind>
+    ensures { result ≡ kind_of name.now }
+{
+    if name.eq_ignore_ascii_case(b"Package") {
+        Some(FieldKind::Package)
+    } else if name.eq_ignore_ascii_case(b"Version") {
+        Some(FieldKind::Version)
+    } else if name.eq_ignore_ascii_case(b"Architecture") {
+        Some(FieldKind::Architecture)
+    } else if name.eq_ignore_ascii_case(b"Pre-Depends") {
+        Some(FieldKind::PreDepends)
+    } else if name.eq_ignore_ascii_case(b"Depends") {
+        Some(FieldKind::Depends)
+    } else if name.eq_ignore_ascii_case(b"Conflicts") {
+        Some(FieldKind::Conflicts)
+    } else if name.eq_ignore_ascii_case(b"Breaks") {
+        Some(FieldKind::Breaks)
+    } else if name.eq_ignore_ascii_case(b"Provides") {
+        Some(FieldKind::Provides)
+    } else if name.eq_ignore_ascii_case(b"Status") {
+        Some(FieldKind::Status)
+    } else {
+        None
+    }
+}

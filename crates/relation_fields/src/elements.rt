@@ -1,0 +1,100 @@
+//! Reading the elements of a relation field.
+ghost use Rattle.std.specs.Prelude.{◌≡◌, IfOk, List, ℕ, Option};
+ghost use Rattle.relation_fields.specs.Grammar.{atom_of, alternatives_of, provide_at, provide_of};
+
+use crate::atoms::read_atom;
+use crate::relations::{Atom, AtomList, Bound, Op, Provide};
+use crate::texts::cut;
+use std::alloc::{AllocError, Global};
+
+/// What an element of a relation field says.
+pub(crate) trait Element: Drop {
+    /// What a text says, or nothing where it is outside the grammar.
+    ghost reading: { List ℕ → Option Self };
+
+    /// Reads the text of an element; it fails only where no memory is found.
+    fn read(alloc: Global, element: &[u8]) -> Result<Option<Self>, AllocError>
+        ensures { IfOk result (λ said. said ≡ reading element.now) };
+}
+
+impl Element for Atom {
+    ghost reading = { atom_of };
+
+    fn read(alloc: Global, element: &[u8]) -> Result<Option<Self>, AllocError> {
+        read_atom(alloc, element)
+    }
+}
+
+impl Element for AtomList {
+    ghost reading = { alternatives_of };
+
+    fn read(alloc: Global, element: &[u8]) -> Result<Option<Self>, AllocError> {
+        read_alternatives(alloc, element)
+    }
+}
+
+impl Element for Provide {
+    ghost reading = { provide_of };
+
+    fn read(alloc: Global, element: &[u8]) -> Result<Option<Self>, AllocError> {
+        read_provide(alloc, element)
+    }
+}
+
+// The alternatives between the bars.
+#[tactic(auto, unfolding(crate::specs::Grammar::alternatives_of))]
+fn read_alternatives(alloc: Global, text: &[u8]) -> Result<Option<AtomList>, AllocError>
+    ensures { IfOk result (λ atoms. atoms ≡ alternatives_of text.now) }
+{
+    let mut atoms = AtomList::new(alloc);
+    let mut left = Some(text);
+    while let Some(rest) = left {
+        let (piece, behind) = cut(rest, b'|');
+        let Some(atom) = read_atom(alloc, piece)? else {
+            return Ok(None);
+        };
+        atoms.push(atom)?;
+        left = behind;
+    }
+    Ok(Some(atoms))
+}
+
+// An atom whose operator, if it has one, is `=`.
+#[tactic(auto, unfolding(crate::specs::Grammar::provide_of))]
+fn read_provide(alloc: Global, text: &[u8]) -> Result<Option<Provide>, AllocError>
+    ensures { IfOk result (λ said. said ≡ provide_of text.now) }
+{
+    match read_atom(alloc, text)? {
+        Some(atom) => Ok(provide_from(atom)),
+        None => Ok(None),
+    }
+}
+
+// The provide that is written as the atom is, where that is one.
+fn provide_from(atom: Atom) -> Option<Provide>
+    ensures { result ≡ provide_at atom atom.bound }
+{
+    let Atom {
+        name,
+        qualifier,
+        bound,
+    } = atom;
+    match bound {
+        None => Some(Provide {
+            name,
+            qualifier,
+            version: None,
+        }),
+        Some(
+            Bound {
+                op: Op::Exactly,
+                version,
+            },
+        ) => Some(Provide {
+            name,
+            qualifier,
+            version: Some(version),
+        }),
+        Some(_) => None,
+    }
+}

@@ -1,0 +1,108 @@
+//! Reading relation fields.
+ghost use Rattle.std.specs.Prelude.{◌≡◌, ◌<◌, length, None, Some, IfOk, IfErr, OnOk};
+ghost use Rattle.relation_fields.specs.Grammar.{atom_of, alternatives_of, provide_of};
+ghost use Rattle.relation_fields.specs.Fields.{first_outside, said_in};
+ghost use Rattle.relation_fields.specs.Spelling.{SpellsEach, SpellsAlternatives, SpellsAtom, SpellsProvide, IsFirstFault};
+ghost use Rattle.relation_fields.specs.Refusals.{OnShape};
+
+use crate::elements::Element;
+use crate::relations::{AtomList, ElementList, ProvideList};
+use crate::texts::{cut, is_blank};
+use listed::Listed;
+use std::alloc::{AllocError, Global};
+
+/// Why a relation field was not read.
+#[derive(Clone, Copy, Debug, PartialEq, Eq)]
+pub enum RelationError {
+    /// An element is outside the grammar, and is the first such.
+    Shape {
+        /// The number of the element, from 1; elements of white space alone count.
+        element: u32,
+    },
+    /// No memory was found.
+    Memory,
+}
+
+impl From<AllocError> for RelationError {
+    ghost use Rattle.std.specs.Prelude.{◌≡◌};
+    ghost use Rattle.relation_fields.specs.declared.fields.RelationError.TheVariants.{Memory};
+
+    ghost from_gives = { λ _ e. e ≡ Memory };
+
+    fn from(_error: AllocError) -> Self {
+        RelationError::Memory
+    }
+}
+
+/// Reads the value of `Pre-Depends` or `Depends`: elements between commas, each a list of alternatives.
+///
+/// Time is linear in the value.
+pub fn parse_needs(alloc: Global, value: &[u8]) -> Result<ElementList, RelationError>
+    requires { length value.now < 4294967295 }
+    ensures said { IfOk result (λ elements. elements ≡ said_in alternatives_of value.now) }
+    ensures accepted { OnOk result (first_outside alternatives_of value.now ≡ None) }
+    ensures shape { IfErr result (OnShape (λ element. first_outside alternatives_of value.now ≡ Some element)) }
+
+    // The same by how relations are written.
+    ensures spelled { IfOk result (SpellsEach SpellsAlternatives value.now) }
+    ensures fault { IfErr result (OnShape (IsFirstFault SpellsAlternatives value.now)) }
+{
+    parse_elements(alloc, value)
+}
+
+/// Reads the value of `Conflicts` or `Breaks`: elements between commas, each one atom.
+///
+/// Time is linear in the value.
+pub fn parse_against(alloc: Global, value: &[u8]) -> Result<AtomList, RelationError>
+    requires { length value.now < 4294967295 }
+    ensures said { IfOk result (λ atoms. atoms ≡ said_in atom_of value.now) }
+    ensures accepted { OnOk result (first_outside atom_of value.now ≡ None) }
+    ensures shape { IfErr result (OnShape (λ element. first_outside atom_of value.now ≡ Some element)) }
+
+    // The same by how relations are written.
+    ensures spelled { IfOk result (SpellsEach SpellsAtom value.now) }
+    ensures fault { IfErr result (OnShape (IsFirstFault SpellsAtom value.now)) }
+{
+    parse_elements(alloc, value)
+}
+
+/// Reads the value of `Provides`: elements between commas, each one provide.
+///
+/// Time is linear in the value.
+pub fn parse_provides(alloc: Global, value: &[u8]) -> Result<ProvideList, RelationError>
+    requires { length value.now < 4294967295 }
+    ensures said { IfOk result (λ provides. provides ≡ said_in provide_of value.now) }
+    ensures accepted { OnOk result (first_outside provide_of value.now ≡ None) }
+    ensures shape { IfErr result (OnShape (λ element. first_outside provide_of value.now ≡ Some element)) }
+
+    // The same by how relations are written.
+    ensures spelled { IfOk result (SpellsEach SpellsProvide value.now) }
+    ensures fault { IfErr result (OnShape (IsFirstFault SpellsProvide value.now)) }
+{
+    parse_elements(alloc, value)
+}
+
+// The elements between the commas, or the number of the first that is outside the grammar.
+#[tactic(auto, unfolding(crate::specs::Fields::first_outside, crate::specs::Fields::said_in))]
+fn parse_elements<T: Element>(alloc: Global, value: &[u8]) -> Result<Listed<T>, RelationError>
+    requires { length value.now < 4294967295 }
+    ensures said { IfOk result (λ said. said ≡ said_in T.reading value.now) }
+    ensures accepted { OnOk result (first_outside T.reading value.now ≡ None) }
+    ensures shape { IfErr result (OnShape (λ element. first_outside T.reading value.now ≡ Some element)) }
+{
+    let mut said = Listed::new(alloc);
+    let mut element = 0u32;
+    let mut left = Some(value);
+    while let Some(rest) = left {
+        let (text, behind) = cut(rest, b',');
+        element += 1;
+        if !is_blank(text) {
+            let Some(one) = T::read(alloc, text)? else {
+                return Err(RelationError::Shape { element });
+            };
+            said.push(one)?;
+        }
+        left = behind;
+    }
+    Ok(said)
+}

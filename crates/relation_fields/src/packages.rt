@@ -1,0 +1,27 @@
+//! What a package's stanza says of it.
+use crate::relations::{AtomList, ElementList, ProvideList};
+use deb_version::{Bytes, Version};
+
+/// The common architecture of the packages of an index; an index of `all` alone has none.
+#[derive(Drop)]
+pub struct Home {
+    /// The name of the architecture.
+    pub name: Option<Bytes>,
+}
+
+/// A package with its relations.
+#[derive(Drop)]
+pub struct PackageFacts {
+    /// The number of the stanza's first line, from 1.
+    pub line: u64,
+    /// The package's name.
+    pub name: Bytes,
+    /// The package's version.
+    pub version: Version,
+    /// The elements of `Pre-Depends`, and then those of `Depends`.
+    pub needs: ElementList,
+    /// The atoms of `Conflicts`, and then those of `Breaks`.
+    pub against: AtomList,
+    /// The provides of `Provides`.
+    pub provides: ProvideList,
+}

@@ -1,0 +1,130 @@
+//! Cutting texts into pieces.
+ghost use Rattle.std.specs.Prelude.{◌≡◌, ◌≤◌, ◌==◌, ◌∷◌, ◌+◌, length, drop};
+ghost use Rattle.std.specs.List.{prefix_len, position, take_while};
+ghost use Rattle.std.specs.Option.{option_copied};
+ghost use Rattle.relation_fields.specs.Texts.{is_space, is_white, trim_start, trim_end, trimmed, behind_byte, before_byte, pieces, pieces_left, is_of_kind};
+
+/// The bytes that may stand in one kind of piece.
+#[derive(Clone, Copy)]
+pub(crate) enum ByteKind {
+    /// White space: a space, a tab or an LF.
+    Space,
+    /// A letter, a digit or one of `+ - . _`.
+    Name,
+    /// A lower-case letter, a digit or a hyphen.
+    Qualifier,
+    /// One of `< = >`.
+    Operator,
+}
+
+/// Whether the text has no byte but white space.
+pub(crate) fn is_blank(text: &[u8]) -> bool
+    ensures { result ≡ is_white text.now }
+{
+    text.iter().all(|byte| is_blank_byte(*byte))
+}
+
+/// The text without the white space at both ends.
+#[tactic(auto, unfolding(crate::specs::Texts::trimmed))]
+pub(crate) fn trim(text: &[u8]) -> &[u8]
+    ensures { result.now ≡ trimmed text.now }
+{
+    trim_back(trim_front(text))
+}
+
+/// The text without the white space at its front.
+#[tactic(auto, unfolding(crate::specs::Texts::trim_start))]
+pub(crate) fn trim_front(text: &[u8]) -> &[u8]
+    ensures { result.now ≡ trim_start text.now }
+{
+    split_front(text, ByteKind::Space).1
+}
+
+// The text without the white space at its end.
+#[tactic(auto, unfolding(crate::specs::Texts::trim_end))]
+fn trim_back(text: &[u8]) -> &[u8]
+    ensures { result.now ≡ trim_end text.now }
+{
+    let mut end = text.len();
+    while end > 0 && is_blank_byte(text[end - 1]) {
+        end -= 1;
+    }
+    &text[..end]
+}
+
+/// The longest front of bytes of the kind, and what stands behind it.
+pub(crate) fn split_front(text: &[u8], kind: ByteKind) -> (&[u8], &[u8])
+    ensures front { result.0.now ≡ take_while (is_of_kind kind) text.now }
+    ensures behind { result.1.now ≡ drop (prefix_len (is_of_kind kind) text.now) text.now }
+{
+    text.split_at(front_len(text, kind))
+}
+
+// The length of the longest front of bytes of the kind.
+fn front_len(text: &[u8], kind: ByteKind) -> usize
+    ensures is { result ≡ prefix_len (is_of_kind kind) text.now }
+    ensures within { result ≤ length text.now }
+{
+    for (i, byte) in text.iter().enumerate() {
+        if !has_kind(*byte, kind) {
+            return i;
+        }
+    }
+    text.len()
+}
+
+/// Whether the byte is of the kind.
+pub(crate) fn has_kind(byte: u8, kind: ByteKind) -> bool
+    ensures { result ≡ is_of_kind kind byte }
+{
+    match kind {
+        ByteKind::Space => is_blank_byte(byte),
+        ByteKind::Name => byte.is_ascii_alphanumeric() || matches!(byte, b'+' | b'-' | b'.' | b'_'),
+        ByteKind::Qualifier => byte.is_ascii_lowercase() || byte.is_ascii_digit() || byte == b'-',
+        ByteKind::Operator => matches!(byte, b'<' | b'=' | b'>'),
+    }
+}
+
+// Whether the byte is a space, a tab or an LF.
+fn is_blank_byte(byte: u8) -> bool
+    ensures { result ≡ is_space byte }
+{
+    matches!(byte, b' ' | b'\t' | b'\n')
+}
+
+/// What stands behind the byte, where the text begins with it.
+pub(crate) fn strip_first(text: &[u8], byte: u8) -> Option<&[u8]>
+    ensures { option_copied result ≡ behind_byte byte text.now }
+{
+    if text.is_empty() || text[0] != byte {
+        return None;
+    }
+    Some(&text[1..])
+}
+
+/// What stands before the byte, where the text ends with it.
+pub(crate) fn strip_last(text: &[u8], byte: u8) -> Option<&[u8]>
+    ensures { option_copied result ≡ before_byte byte text.now }
+{
+    if text.is_empty() || text[text.len() - 1] != byte {
+        return None;
+    }
+    Some(&text[..text.len() - 1])
+}
+
+/// The piece before the first such byte, and what stands behind that byte, where there is one.
+pub(crate) fn cut(text: &[u8], byte: u8) -> (&[u8], Option<&[u8]>)
+    ensures { pieces byte text.now ≡ result.0.now ∷ pieces_left byte (option_copied result.1) }
+{
+    match place_of(text, byte) {
+        Some(place) => (&text[..place], Some(&text[place + 1..])),
+        None => (text, None),
+    }
+}
+
+// The first place at which the byte stands.
+fn place_of(text: &[u8], byte: u8) -> Option<usize>
+    ensures { result ≡ position (λ x. x == byte) text.now }
+{
+    text.iter().position(|each| *each == byte)
+}

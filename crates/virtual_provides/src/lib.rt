@@ -1,0 +1,11 @@
+//! Packages by the names that they have and the names that they provide.
+#![tactic(auto)]
+
+pub mod names;
+pub mod numbers;
+
+pub use names::NameTable;
+pub use numbers::NumbersByName;
+
+#[cfg(test)]
+mod tests;

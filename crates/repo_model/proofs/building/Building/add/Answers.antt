@@ -1,0 +1,35 @@
+use Rattle.std.proofs.Common.{◌∙◌, length, sym, ap, subst, refl}
+use Rattle.std.specs.Prelude.{if◌then◌else◌}
+use Rattle.std.specs.Str.{bytes_eq}
+use Rattle.std.proofs.lemmas.Result.{err_from_is_err_and}
+use Rattle.virtual_provides.specs.Numbers.{numbers_under, with_number}
+use Rattle.repo_model.specs.Building.{is_named}
+use Rattle.repo_model.specs.Refusals.{Refuses}
+use Rattle.repo_model.proofs.Refusing.{refuses_first, refuses_behind, none_behind, duplicate_is}
+use Rattle.repo_model.proofs.Indexed.{numbers_where-push}
+use Rattle.repo_model.proofs.building.Building.add.Goals as goal
+
+pub returns-in_err-check_new-clause-fault : goal.returns-in_err-check_new-clause-fault
+returns-in_err-check_new-clause-fault c =
+    let p = err_from_is_err_and c.from_residual-in_err-check_new.result c.from_residual-in_err-check_new.ensures.1 in
+    let same = duplicate_is c.args.self.now.packages c.as_slice.result.now c.args.stanza.now c.in_ok-facts.facts c.as_slice.ensures c.in_ok-facts.ensures.1 in
+    rw (p.1, p.2) (refuses_behind _ _ _ c.in_ok-facts.ensures.0 (refuses_first _ _ _ (subst (Refuses c.in_err-check_new.field-0.0) same c.in_err-check_new.ensures)))
+
+pub returns-in_err-check_home-clause-fault : goal.returns-in_err-check_home-clause-fault
+returns-in_err-check_home-clause-fault c =
+    let p = err_from_is_err_and c.from_residual-in_err-check_home.result c.from_residual-in_err-check_home.ensures.1 in
+    let new = sym (duplicate_is c.args.self.now.packages c.as_slice.result.now c.args.stanza.now c.in_ok-facts.facts c.as_slice.ensures c.in_ok-facts.ensures.1) ∙ c.in_ok-check_new.ensures.0 in
+    rw (p.1, p.2) (refuses_behind _ _ _ c.in_ok-facts.ensures.0 (refuses_behind _ _ _ new (refuses_first _ _ _ c.in_err-check_home.ensures)))
+
+pub returns-clause-fault : goal.returns-clause-fault
+returns-clause-fault c =
+    let new = sym (duplicate_is c.args.self.now.packages c.as_slice.result.now c.args.stanza.now c.in_ok-facts.facts c.as_slice.ensures c.in_ok-facts.ensures.1) ∙ c.in_ok-check_new.ensures.0 in
+    (none_behind _ _ c.in_ok-facts.ensures.0 (none_behind _ _ new (none_behind _ _ c.in_ok-check_home.ensures.0 refl)), refl)
+
+pub returns-clause-indexed : goal.returns-clause-indexed
+returns-clause-indexed c = λ name.
+    let had = numbers_under c.args.self.now.names name in
+    let n = length c.as_slice-2.result.now in
+    numbers_where-push (is_named name) c.args.self.now.packages c.push.new.self c.in_ok-facts.facts n had (numbers_under c.put.new.self name)
+    c.in_ok-push.ensures.ok (ap length c.as_slice-2.ensures) (c.requires.indexed name)
+    (c.in_ok-put.ensures.ok name ∙ ap (λ bytes. if bytes_eq name bytes then with_number n had else had) c.as_slice-3.ensures)

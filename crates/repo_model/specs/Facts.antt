@@ -1,0 +1,34 @@
+-- The package that a stanza describes: Debian Policy 5.3, 5.6 and 7.
+use Rattle.std.specs.Prelude.{◌++◌, ℕ, Bool, ◌&&◌, if◌then◌else◌, List, Option, Some, None, codes}
+use Rattle.std.specs.Option.{option_and_then}
+use Rattle.std.specs.Ordering.{is_eq}
+use Rattle.std.specs.Str.{bytes_eq}
+use Rattle.deb_version.specs.Order.{version_order}
+use Rattle.stanza_reader.specs.declared.stanza.FieldKind.TheVariants.{Package, Version, Architecture, PreDepends, Depends, Conflicts, Breaks, Provides}
+use Rattle.stanza_reader.specs.declared.stanza.RawStanza.{RawStanza}
+use Rattle.relation_fields.specs.Grammar.{atom_of, alternatives_of, provide_of}
+use Rattle.relation_fields.specs.Fields.{said_in}
+use Rattle.relation_fields.specs.declared.packages.PackageFacts.{PackageFacts}
+use Rattle.repo_model.specs.Fields.{field_of, value_of}
+
+-- what a stanza says of its package; a missing relation field says nothing
+unfoldable pub facts_of : RawStanza → PackageFacts
+facts_of stanza = record {
+  line = stanza.line;
+  name = value_of Package stanza;
+  version = value_of Version stanza;
+  needs = said_in alternatives_of (value_of PreDepends stanza) ++ said_in alternatives_of (value_of Depends stanza);
+  against = said_in atom_of (value_of Conflicts stanza) ++ said_in atom_of (value_of Breaks stanza);
+  provides = said_in provide_of (value_of Provides stanza);
+}
+
+-- the same name, and versions that compare as equal
+abbrev pub is_same_package : PackageFacts → PackageFacts → Bool
+is_same_package one other = bytes_eq one.name other.name && is_eq (version_order one.version other.version)
+
+abbrev pub is_all : List ℕ → Bool
+is_all architecture = bytes_eq architecture (codes "all")
+
+-- the architecture of a stanza, unless that is `all`; a missing one is read as `all`
+unfoldable pub architecture_of : RawStanza → Option (List ℕ)
+architecture_of stanza = option_and_then (λ field. if is_all field.value then None else Some field.value) (field_of Architecture stanza)

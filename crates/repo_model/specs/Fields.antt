@@ -1,0 +1,44 @@
+-- The fields of a stanza by their kinds.
+use Rattle.std.specs.Prelude.{ℕ, ◌≤◌, Bool, ◌==◌, List, [], Option, find, length}
+use Rattle.std.specs.List.{AllByRecursion}
+use Rattle.std.specs.Option.{option_map_or}
+use Rattle.stanza_reader.specs.declared.stanza.FieldKind.{FieldKind}
+use Rattle.stanza_reader.specs.declared.stanza.FieldKind.TheVariants.{Package, Version, Architecture, PreDepends, Depends, Conflicts, Breaks, Provides, Status}
+use Rattle.stanza_reader.specs.declared.stanza.RawField.{RawField}
+use Rattle.stanza_reader.specs.declared.stanza.RawStanza.{RawStanza}
+
+-- the place of each kind in the list of kinds
+abbrev pub place_of : FieldKind → ℕ
+place_of Package = 0
+place_of Version = 1
+place_of Architecture = 2
+place_of PreDepends = 3
+place_of Depends = 4
+place_of Conflicts = 5
+place_of Breaks = 6
+place_of Provides = 7
+place_of Status = 8
+
+abbrev pub is_kind : FieldKind → FieldKind → Bool
+is_kind kind other = place_of other == place_of kind
+
+-- the field of the kind, where there is one
+abbrev pub field_among : FieldKind → List RawField → Option RawField
+field_among kind fields = find (λ field. is_kind kind field.kind) fields
+
+abbrev pub field_of : FieldKind → RawStanza → Option RawField
+field_of kind stanza = field_among kind stanza.fields
+
+-- the value of the field; that of a missing field is empty
+abbrev pub value_among : FieldKind → List RawField → List ℕ
+value_among kind fields = option_map_or (λ field. field.value) (field_among kind fields) []
+
+abbrev pub value_of : FieldKind → RawStanza → List ℕ
+value_of kind stanza = value_among kind stanza.fields
+
+-- no value is longer than the greatest index
+abbrev pub IsShort : RawField → Type 0
+IsShort field = length field.value ≤ 1073741824
+
+abbrev pub HasShortValues : RawStanza → Type 0
+HasShortValues stanza = AllByRecursion IsShort stanza.fields

@@ -1,0 +1,118 @@
+-- The first fault of an index. Each stanza is checked in this order:
+--   1. it is the 200,001st;
+--   2. the first line whose shape is bad;
+--   3. the first field line with the name of an earlier one;
+--   4. the fields `Package` and `Version` are there;
+--   5. the values of the fields that are used, in their fixed order;
+--   6. an earlier stanza has the same name and an equal version;
+--   7. an earlier stanza has another architecture than `all`, and so has this one, and they differ.
+-- The first stanza with a fault decides. Checks 2 and 3 are those of the stanza's reading.
+use Rattle.std.specs.Prelude.{ℕ, Bool, true, nat_le, ◌||◌, if◌then◌else◌, List, [], ◌∷◌, Option, Some, None, Result, Ok, Err, map, find, take, is_some, length}
+use Rattle.std.specs.List.{enumerate_from, filter_map}
+use Rattle.std.specs.Option.{option_map, option_map_or, option_and_then, option_or}
+use Rattle.std.specs.Result.{result_ok}
+use Rattle.std.specs.Str.{bytes_eq}
+use Rattle.deb_version.specs.Names.{is_name}
+use Rattle.deb_version.specs.Grammar.{is_version}
+use Rattle.stanza_reader.specs.Stanzas.{readings}
+use Rattle.stanza_reader.specs.declared.stanza.FieldKind.{FieldKind}
+use Rattle.stanza_reader.specs.declared.stanza.FieldKind.TheVariants.{Package, Version, Architecture, PreDepends, Depends, Conflicts, Breaks, Provides}
+use Rattle.stanza_reader.specs.declared.stanza.RawField.{RawField}
+use Rattle.stanza_reader.specs.declared.stanza.RawStanza.{RawStanza}
+use Rattle.stanza_reader.specs.declared.fault.StanzaFault.{StanzaFault}
+use Rattle.relation_fields.specs.Grammar.{is_architecture, atom_of, alternatives_of, provide_of}
+use Rattle.relation_fields.specs.Fields.{first_outside}
+use Rattle.relation_fields.specs.declared.packages.PackageFacts.{PackageFacts}
+use Rattle.repo_model.specs.Fields.{field_of}
+use Rattle.repo_model.specs.Facts.{facts_of, is_same_package, is_all, architecture_of}
+use Rattle.repo_model.specs.declared.fault.IndexFault.{IndexFault}
+use Rattle.repo_model.specs.declared.fault.IndexFault.TheVariants.{Stanza, MissingPackage, MissingVersion, BadPackage, BadVersion, BadArchitecture, BadRelation, Duplicate, Mixed, TooMany}
+
+-- the first that is there
+abbrev pub first_some : {X : Type 0} → List (Option X) → Option X
+first_some [] = None
+first_some (found ∷ more) = option_or found (first_some more)
+
+-- the fault of a stanza without a field of the kind
+abbrev pub missing : FieldKind → IndexFault → RawStanza → Option IndexFault
+missing kind fault stanza = if is_some (field_of kind stanza) then None else Some fault
+
+-- the fault of a field whose value fails the test
+abbrev pub unless_good : (List ℕ → Bool) → (ℕ → IndexFault) → RawField → Option IndexFault
+unless_good is_good fault field = if is_good field.value then None else Some (fault field.line)
+
+abbrev pub bad_value : FieldKind → (List ℕ → Bool) → (ℕ → IndexFault) → RawStanza → Option IndexFault
+bad_value kind is_good fault stanza = option_and_then (unless_good is_good fault) (field_of kind stanza)
+
+-- the fault of a relation field with an element outside the grammar
+abbrev pub unless_said : {X : Type 0} → (List ℕ → Option X) → RawField → Option IndexFault
+unless_said one field = option_map (BadRelation field.line) (first_outside one field.value)
+
+abbrev pub bad_relation : {X : Type 0} → FieldKind → (List ℕ → Option X) → RawStanza → Option IndexFault
+bad_relation kind one stanza = option_and_then (unless_said one) (field_of kind stanza)
+
+-- check 4
+unfoldable pub presence_fault : RawStanza → Option IndexFault
+presence_fault stanza = first_some (
+    missing Package (MissingPackage stanza.line) stanza
+    ∷ missing Version (MissingVersion stanza.line) stanza ∷ [])
+
+-- check 5
+unfoldable pub value_fault : RawStanza → Option IndexFault
+value_fault stanza = first_some (
+    bad_value Package is_name BadPackage stanza
+    ∷ bad_value Version is_version BadVersion stanza
+    ∷ bad_value Architecture is_architecture BadArchitecture stanza
+    ∷ bad_relation PreDepends alternatives_of stanza
+    ∷ bad_relation Depends alternatives_of stanza
+    ∷ bad_relation Conflicts atom_of stanza
+    ∷ bad_relation Breaks atom_of stanza
+    ∷ bad_relation Provides provide_of stanza ∷ [])
+
+-- checks 4 and 5
+abbrev pub own_fault : RawStanza → Option IndexFault
+own_fault stanza = option_or (presence_fault stanza) (value_fault stanza)
+
+-- check 6, among the packages of the stanzas before this one
+unfoldable pub duplicate_fault : List PackageFacts → RawStanza → Option IndexFault
+duplicate_fault before stanza = option_map (λ first. Duplicate first.line stanza.line) (find (is_same_package (facts_of stanza)) before)
+
+-- the common architecture of some stanzas: that of the first which is not `all`
+unfoldable pub home_of : List RawStanza → Option (List ℕ)
+home_of stanzas = first_some (map architecture_of stanzas)
+
+-- no home yet, or this one
+abbrev pub is_at_home : Option (List ℕ) → List ℕ → Bool
+is_at_home home architecture = option_map_or (bytes_eq architecture) home true
+
+-- check 7, where this is the common architecture of the stanzas before this one
+unfoldable pub mixed_fault : Option (List ℕ) → RawStanza → Option IndexFault
+mixed_fault home stanza = option_and_then (λ field. if is_all field.value || is_at_home home field.value then None else Some (Mixed field.line)) (field_of Architecture stanza)
+
+-- checks 4 to 7, with the packages and the common architecture of the stanzas before this one
+abbrev pub stanza_fault : List PackageFacts → Option (List ℕ) → RawStanza → Option IndexFault
+stanza_fault before home stanza = first_some (own_fault stanza ∷ duplicate_fault before stanza ∷ mixed_fault home stanza ∷ [])
+
+-- checks 2 to 7, with the stanzas before this one
+abbrev pub reading_fault : List RawStanza → Result RawStanza StanzaFault → Option IndexFault
+reading_fault before (Ok stanza) = stanza_fault (map facts_of before) (home_of before) stanza
+reading_fault before (Err fault) = Some (Stanza fault)
+
+abbrev pub stanzas_in : List (Result RawStanza StanzaFault) → List RawStanza
+stanzas_in all = filter_map result_ok all
+
+-- all checks, with what is read before this stanza
+abbrev pub fault_behind : List (Result RawStanza StanzaFault) → Result RawStanza StanzaFault → Option IndexFault
+fault_behind before reading = if nat_le 200000 (length before) then Some TooMany else reading_fault (stanzas_in before) reading
+
+-- the faults of the stanzas from the n-th on, each with all before it
+abbrev pub faults_from : List (Result RawStanza StanzaFault) → ℕ → List (Result RawStanza StanzaFault) → List (Option IndexFault)
+faults_from all n more = map (λ e. fault_behind (take e.0 all) e.1) (enumerate_from n more)
+
+-- the fault of the first stanza that has one
+unfoldable pub first_fault : List ℕ → Option IndexFault
+first_fault text = first_some (faults_from (readings text) 0 (readings text))
+
+-- the stanzas of an index, where it has no fault
+unfoldable pub stanzas_of : List ℕ → List RawStanza
+stanzas_of text = stanzas_in (readings text)

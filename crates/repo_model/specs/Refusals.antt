@@ -1,0 +1,27 @@
+-- When an index is refused.
+use Rattle.std.specs.Prelude.{◌≡◌, ⊤, Option, Some, None, Result, Ok, Err}
+use Rattle.repo_model.specs.declared.fault.IndexFault.{IndexFault}
+use Rattle.repo_model.specs.declared.fault.IndexFault.TheVariants.{Stanza, MissingPackage, MissingVersion, BadPackage, BadVersion, BadArchitecture, BadRelation, Duplicate, Mixed, TooMany, Memory}
+
+-- a fact for each fault of an index, and nothing for want of memory
+abbrev pub UnlessMemory : IndexFault → Type 0 → Type 0
+UnlessMemory (Stanza fault) P = P
+UnlessMemory (MissingPackage line) P = P
+UnlessMemory (MissingVersion line) P = P
+UnlessMemory (BadPackage line) P = P
+UnlessMemory (BadVersion line) P = P
+UnlessMemory (BadArchitecture line) P = P
+UnlessMemory (BadRelation line element) P = P
+UnlessMemory (Duplicate first_line line) P = P
+UnlessMemory (Mixed line) P = P
+UnlessMemory TooMany P = P
+UnlessMemory Memory P = ⊤
+
+-- a refusal is the fault that is there, unless memory ran out
+abbrev pub Refuses : IndexFault → Option IndexFault → Type 0
+Refuses fault there = UnlessMemory fault (there ≡ Some fault)
+
+-- an answer is this value where there is no fault, and otherwise a refusal
+abbrev pub Answers : {X : Type 0} → Result X IndexFault → Option IndexFault → X → Type 0
+Answers (Ok x) there value = (there ≡ None) × (x ≡ value)
+Answers (Err fault) there value = Refuses fault there

@@ -1,0 +1,173 @@
+//! A suite that is being read, stanza by stanza.
+ghost use Rattle.std.specs.Prelude.{◌≡◌, ◌<◌, ◌≤◌, ◌++◌, ◌∷◌, [], None, length, OnOk, find, slice_get};
+ghost use Rattle.std.specs.Option.{option_map, option_or, option_copied};
+ghost use Rattle.std.specs.Ordering.{is_eq};
+ghost use Rattle.deb_version.specs.Order.{version_order};
+ghost use Rattle.virtual_provides.specs.Numbers.{passes_at};
+ghost use Rattle.repo_model.specs.Fields.{field_of, HasShortValues};
+ghost use Rattle.repo_model.specs.Facts.{facts_of, is_all, is_same_package, architecture_of};
+ghost use Rattle.repo_model.specs.FirstFault.{stanza_fault, duplicate_fault, mixed_fault, is_at_home};
+ghost use Rattle.repo_model.specs.Refusals.{Answers};
+ghost use Rattle.repo_model.specs.Building.{has_equal_version, IsIndexOf};
+
+use crate::facts::read_facts;
+use crate::fault::IndexFault;
+use crate::fields::find_field;
+use crate::suite::PackageList;
+use deb_version::Bytes;
+use relation_fields::{Home, PackageFacts};
+use stanza_reader::{FieldKind, RawStanza};
+use std::alloc::{AllocError, Global};
+use virtual_provides::NumbersByName;
+
+/// The packages of the stanzas that were read so far, with their numbers under their names and their common architecture.
+#[derive(Drop)]
+pub(crate) struct Building {
+    pub(crate) packages: PackageList,
+    pub(crate) home: Home,
+    pub(crate) names: NumbersByName,
+}
+
+impl Building {
+    /// No stanza was read yet; it takes no memory.
+    pub(crate) fn new(alloc: Global) -> Self
+        ensures packages { result.packages ≡ [] }
+        ensures home { result.home.name ≡ None }
+        ensures indexed { IsIndexOf result.packages result.names }
+    {
+        Building {
+            packages: PackageList::new(alloc),
+            home: Home { name: None },
+            names: NumbersByName::new(alloc),
+        }
+    }
+
+    /// Puts the package of a stanza behind the others, or finds the first fault of that stanza among them.
+    pub(crate) fn add(&mut self, alloc: Global, stanza: &RawStanza) -> Result<(), IndexFault>
+        requires short { HasShortValues stanza.now }
+        requires room { length self.old.packages < 200000 }
+        requires indexed { IsIndexOf self.old.packages self.old.names }
+        ensures fault { Answers result (stanza_fault self.old.packages self.old.home.name stanza.now) tt }
+        ensures packages { OnOk result (self.new.packages ≡ self.old.packages ++ facts_of stanza.now ∷ []) }
+        ensures home { OnOk result (self.new.home.name ≡ option_or self.old.home.name (architecture_of stanza.now)) }
+        ensures indexed { OnOk result (IsIndexOf self.new.packages self.new.names) }
+    {
+        let facts = read_facts(alloc, stanza)?;
+        check_new(self.packages.as_slice(), &self.names, &facts)?;
+        check_home(&self.home, stanza)?;
+        settle_home(alloc, &mut self.home, stanza)?;
+        let number = self.packages.as_slice().len() as u32;
+        self.names.put(facts.name.as_slice(), number)?;
+        self.packages.push(facts)?;
+        Ok(())
+    }
+}
+
+// Checks that no earlier package has the name and an equal version.
+fn check_new(
+    packages: &[PackageFacts],
+    names: &NumbersByName,
+    facts: &PackageFacts,
+) -> Result<(), IndexFault>
+    requires { IsIndexOf packages.now names.now }
+    ensures { Answers result (option_map (λ first. IndexFault.Duplicate first.line facts.now.line) (find (is_same_package facts.now) packages.now)) tt }
+{
+    match find_same(packages, names, facts) {
+        Some(first) => Err(IndexFault::Duplicate {
+            first_line: first.line,
+            line: facts.line,
+        }),
+        None => Ok(()),
+    }
+}
+
+// The first package with the name and an equal version, which is looked for among those of that name.
+fn find_same<'a>(
+    packages: &'a [PackageFacts],
+    names: &NumbersByName,
+    facts: &PackageFacts,
+) -> Option<&'a PackageFacts>
+    requires { IsIndexOf packages.now names.now }
+    ensures { option_copied result ≡ find (is_same_package facts.now) packages.now }
+{
+    match first_equal(packages, names.numbers(facts.name.as_slice()), facts) {
+        Some(number) => package_at(packages, number),
+        None => None,
+    }
+}
+
+// The package of the number, where there is one.
+fn package_at(packages: &[PackageFacts], number: u32) -> Option<&PackageFacts>
+    ensures { option_copied result ≡ slice_get packages.now number }
+{
+    packages.get(number as usize)
+}
+
+// The first of the numbers that is that of a package with an equal version.
+fn first_equal(packages: &[PackageFacts], numbers: &[u32], facts: &PackageFacts) -> Option<u32>
+    ensures { result ≡ find (passes_at (has_equal_version facts.now) packages.now) numbers.now }
+{
+    numbers
+        .iter()
+        .copied()
+        .find(|number| is_equal_at(packages, *number, facts))
+}
+
+// Whether there is a package of that number, and it has an equal version.
+fn is_equal_at(packages: &[PackageFacts], number: u32, facts: &PackageFacts) -> bool
+    ensures { result ≡ passes_at (has_equal_version facts.now) packages.now number }
+{
+    match package_at(packages, number) {
+        Some(other) => facts.version.order(&other.version).is_eq(),
+        None => false,
+    }
+}
+
+// Checks that the stanza is of the home, where it names an architecture and there is a home.
+#[tactic(auto, unfolding(crate::specs::FirstFault::mixed_fault))]
+fn check_home(home: &Home, stanza: &RawStanza) -> Result<(), IndexFault>
+    ensures { Answers result (mixed_fault home.now.name stanza.now) tt }
+{
+    let Some(field) = find_field(stanza.fields.as_slice(), FieldKind::Architecture) else {
+        return Ok(());
+    };
+    let line = field.line;
+    let architecture = field.value.as_slice();
+    if is_all(architecture) || is_at_home(home, architecture) {
+        return Ok(());
+    }
+    Err(IndexFault::Mixed { line })
+}
+
+fn is_all(architecture: &[u8]) -> bool
+    ensures { result ≡ is_all architecture.now }
+{
+    architecture == b"all".as_slice()
+}
+
+fn is_at_home(home: &Home, architecture: &[u8]) -> bool
+    ensures { result ≡ is_at_home home.now.name architecture.now }
+{
+    match &home.name {
+        Some(name) => architecture == name.as_slice(),
+        None => true,
+    }
+}
+
+// Takes the architecture of the stanza as the home, where there is none yet and it is not `all`.
+#[tactic(auto, unfolding(crate::specs::Facts::architecture_of))]
+fn settle_home(alloc: Global, home: &mut Home, stanza: &RawStanza) -> Result<(), AllocError>
+    ensures { OnOk result (home.new.name ≡ option_or home.old.name (architecture_of stanza.now)) }
+{
+    if home.name.is_some() {
+        return Ok(());
+    }
+    let Some(field) = find_field(stanza.fields.as_slice(), FieldKind::Architecture) else {
+        return Ok(());
+    };
+    let architecture = field.value.as_slice();
+    if !is_all(architecture) {
+        home.name = Some(Bytes::copy(alloc, architecture)?);
+    }
+    Ok(())
+}

@@ -1,0 +1,86 @@
+//! The package that a stanza describes, or the fault of its fields.
+ghost use Rattle.std.specs.Prelude.{◌≡◌, None, Some};
+ghost use Rattle.std.specs.Option.{option_and_then};
+ghost use Rattle.deb_version.specs.Names.{is_name};
+ghost use Rattle.deb_version.specs.Grammar.{is_version};
+ghost use Rattle.relation_fields.specs.Grammar.{is_architecture};
+ghost use Rattle.repo_model.specs.declared.fault.IndexFault.TheVariants.{BadPackage, BadVersion, BadArchitecture};
+ghost use Rattle.repo_model.specs.Fields.{field_among, HasShortValues};
+ghost use Rattle.repo_model.specs.Facts.{facts_of};
+ghost use Rattle.repo_model.specs.FirstFault.{own_fault, unless_good};
+ghost use Rattle.repo_model.specs.Refusals.{Answers};
+
+use crate::fault::IndexFault;
+use crate::fields::{find_field, is_architecture};
+use crate::relations::{read_both, read_field};
+use deb_version::{Bytes, Version, VersionError, is_package_name};
+use relation_fields::PackageFacts;
+use stanza_reader::{FieldKind, RawField, RawStanza};
+use std::alloc::Global;
+
+/// The package that a stanza describes, or the first fault of its fields.
+#[tactic(auto, unfolding(crate::specs::Facts::facts_of, crate::specs::FirstFault::presence_fault, crate::specs::FirstFault::value_fault))]
+pub(crate) fn read_facts(alloc: Global, stanza: &RawStanza) -> Result<PackageFacts, IndexFault>
+    requires { HasShortValues stanza.now }
+    ensures { Answers result (own_fault stanza.now) (facts_of stanza.now) }
+{
+    let line = stanza.line;
+    let fields = stanza.fields.as_slice();
+    let Some(name) = find_field(fields, FieldKind::Package) else {
+        return Err(IndexFault::MissingPackage { line });
+    };
+    let Some(version) = find_field(fields, FieldKind::Version) else {
+        return Err(IndexFault::MissingVersion { line });
+    };
+    let name = read_name(alloc, name)?;
+    let version = read_version(alloc, version)?;
+    check_architecture(fields)?;
+    let needs = read_both(alloc, fields, FieldKind::PreDepends, FieldKind::Depends)?;
+    let against = read_both(alloc, fields, FieldKind::Conflicts, FieldKind::Breaks)?;
+    let provides = read_field(alloc, fields, FieldKind::Provides)?;
+    Ok(PackageFacts {
+        line,
+        name,
+        version,
+        needs,
+        against,
+        provides,
+    })
+}
+
+// The value of `Package`, where it is a package name.
+fn read_name(alloc: Global, field: &RawField) -> Result<Bytes, IndexFault>
+    ensures { Answers result (unless_good is_name BadPackage field.now) field.now.value }
+{
+    let line = field.line;
+    if !is_package_name(field.value.as_slice()) {
+        return Err(IndexFault::BadPackage { line });
+    }
+    Ok(Bytes::copy(alloc, field.value.as_slice())?)
+}
+
+// The value of `Version`, where it is a version.
+fn read_version(alloc: Global, field: &RawField) -> Result<Version, IndexFault>
+    ensures { Answers result (unless_good is_version BadVersion field.now) field.now.value }
+{
+    let line = field.line;
+    match Version::parse(alloc, field.value.as_slice()) {
+        Ok(version) => Ok(version),
+        Err(VersionError::Shape) => Err(IndexFault::BadVersion { line }),
+        Err(VersionError::Memory) => Err(IndexFault::Memory),
+    }
+}
+
+// Checks that the value of `Architecture`, where there is one, is the name of an architecture.
+fn check_architecture(fields: &[RawField]) -> Result<(), IndexFault>
+    ensures { Answers result (option_and_then (unless_good is_architecture BadArchitecture) (field_among FieldKind.Architecture fields.now)) tt }
+{
+    let Some(field) = find_field(fields, FieldKind::Architecture) else {
+        return Ok(());
+    };
+    let line = field.line;
+    if !is_architecture(field.value.as_slice()) {
+        return Err(IndexFault::BadArchitecture { line });
+    }
+    Ok(())
+}

@@ -1,0 +1,68 @@
+-- Families of clauses: the minimal ones, the order in which they are kept, and the families of all
+-- sets of numbers.
+use Rattle.std.specs.Prelude.{◌≡◌, ℕ, zero, suc, ◌<◌, Bool, true, false, not, ◌&&◌, ◌||◌, eqb, ltb, cond, List, [], ◌∷◌, ◌++◌, ◌⊎◌, map}
+use Rattle.std.specs.List.{list_all, filter}
+use Rattle.row_book.specs.Sets.{In, has}
+
+-- a set of numbers as a list: ascending, each number once
+abbrev pub Ascending : List ℕ → Type 0
+Ascending [] = Unit {0}
+Ascending (x ∷ xs) = ((y : ℕ) → In y xs → x < y) × Ascending xs
+
+-- each number of the first list is in the second
+abbrev pub Inside : List ℕ → List ℕ → Type 0
+Inside S T = (n : ℕ) → In n S → In n T
+
+abbrev pub is_inside : List ℕ → List ℕ → Bool
+is_inside S T = list_all (λ n. has T n) S
+
+-- the clauses that do not hold the number
+abbrev pub apart_from : ℕ → List (List ℕ) → List (List ℕ)
+apart_from p cs = filter (λ c. not (has c p)) cs
+
+-- the minimal clauses: no other clause of the family is within them
+abbrev pub minimal_of : List (List ℕ) → List (List ℕ)
+minimal_of cs = filter (λ T. list_all (λ S. not (is_inside S T) || is_inside T S) cs) cs
+
+-- lexicographic order: the first place that differs decides, and a proper prefix comes first
+abbrev pub Before : List ℕ → List ℕ → Type 0
+Before [] [] = ⊥
+Before [] (y ∷ ys) = Unit {0}
+Before (x ∷ xs) [] = ⊥
+Before (x ∷ xs) (y ∷ ys) = (x < y) ⊎ ((x ≡ y) × Before xs ys)
+
+-- a family of clauses as a list: in lexicographic order, each clause once
+abbrev pub InOrder : List (List ℕ) → Type 0
+InOrder [] = Unit {0}
+InOrder (c ∷ cs) = ((d : List ℕ) → In d cs → Before c d) × InOrder cs
+
+abbrev pub comes_before : List ℕ → List ℕ → Bool
+comes_before [] [] = false
+comes_before [] (y ∷ ys) = true
+comes_before (x ∷ xs) [] = false
+comes_before (x ∷ xs) (y ∷ ys) = ltb x y || (eqb x y && comes_before xs ys)
+
+abbrev pub placed : List ℕ → List (List ℕ) → List (List ℕ)
+placed c [] = c ∷ []
+placed c (d ∷ ds) =
+    cond (comes_before c d) (c ∷ (d ∷ ds)) (cond (comes_before d c) (d ∷ placed c ds) (d ∷ ds))
+
+-- the clauses in lexicographic order, each once
+abbrev pub ordered : List (List ℕ) → List (List ℕ)
+ordered [] = []
+ordered (c ∷ cs) = placed c (ordered cs)
+
+-- so many numbers, from the given one on
+unfoldable pub numbers : ℕ → ℕ → List ℕ
+numbers zero k = []
+numbers (suc n) k = k ∷ numbers n (suc k)
+
+-- all sets of such numbers but the empty one, in lexicographic order
+unfoldable pub nonempty_from : ℕ → ℕ → List (List ℕ)
+nonempty_from zero k = []
+nonempty_from (suc n) k = map (λ s. k ∷ s) ([] ∷ nonempty_from n (suc k)) ++ nonempty_from n (suc k)
+
+-- all sets of numbers below n, in lexicographic order: 2 ^ n lists, so nothing but small examples
+-- is computed by it
+unfoldable pub subsets : ℕ → List (List ℕ)
+subsets n = [] ∷ nonempty_from n 0

@@ -1,0 +1,18 @@
+-- What the laws on repositories ask of their data.
+use Rattle.std.specs.Prelude.{◌≡◌, ℕ, ◌<◌, true, List, length}
+use Rattle.row_book.specs.Sets.{NumSet, In}
+use Rattle.row_book.specs.Repository.{Repository, clauses_of, against}
+use Rattle.row_book.specs.Clauses.{Ascending}
+
+-- V is a set of packages
+abbrev pub OfPackages : Repository → NumSet → Type 0
+OfPackages R V = (n : ℕ) → V n ≡ true → n < length R.clauses
+
+-- each clause is ascending and has packages alone
+abbrev pub SoundClauses : Repository → Type 0
+SoundClauses R = (p : ℕ) (c : List ℕ) → In c (clauses_of R p) →
+    Ascending c × ((n : ℕ) → In n c → n < length R.clauses)
+
+-- conflicts are between packages
+abbrev pub BetweenPackages : Repository → Type 0
+BetweenPackages R = (m n : ℕ) → against R m n ≡ true → (m < length R.clauses) × (n < length R.clauses)

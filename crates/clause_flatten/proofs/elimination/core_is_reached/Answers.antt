@@ -1,0 +1,5 @@
+use Rattle.clause_flatten.proofs.Stages.{core_is_reached_lem}
+use Rattle.clause_flatten.proofs.elimination.core_is_reached.Goals as goal
+
+pub returns : goal.returns
+returns c = core_is_reached_lem

@@ -1,0 +1,50 @@
+//! The laws of elimination and of the flattened repository.
+
+ghost use Rattle.clause_flatten.specs.FlatLaws.{CoreIsReached, CoreIsTheConflicted, FlatByStages, FlatKeeps, NextIsLeast, OneRow, PassesByStages, StagesRun, TableStep};
+
+/// Each set is co-installable in the flattened repository exactly where it is in the repository.
+pub fn flat_keeps()
+    ensures { FlatKeeps }
+{}
+
+/// The package that is taken out next is the one without conflicts whose row has the fewest clauses,
+/// and of these the one of least number.
+pub fn next_is_least()
+    ensures { NextIsLeast }
+{}
+
+/// Each package of the core has a conflict.
+pub fn core_is_the_conflicted()
+    ensures { CoreIsTheConflicted }
+{}
+
+/// The core is what is left where no package is taken out any more.
+pub fn core_is_reached()
+    ensures { CoreIsReached }
+{}
+
+/// Substitution gives the next row of a package, in lexicographic order.
+pub fn one_row()
+    ensures { OneRow }
+{}
+
+/// Substitution in all rows gives the next table of rows.
+pub fn table_step()
+    ensures { TableStep }
+{}
+
+/// An elimination that only looks at its table of rows takes out the same packages, and has the
+/// rows over those that are left, at each stage.
+pub fn stages_run()
+    ensures { StagesRun }
+{}
+
+/// The flattened repository has the table of rows of the last stage.
+pub fn flat_by_stages()
+    ensures { FlatByStages }
+{}
+
+/// The clause limit is passed where the tables of the stages pass it.
+pub fn passes_by_stages()
+    ensures { PassesByStages }
+{}

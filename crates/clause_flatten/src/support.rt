@@ -1,0 +1,65 @@
+//! The laws of support and of rows, over any set of packages that is left.
+
+ghost use Rattle.clause_flatten.specs.Laws.{FirstRows, KeepsEverySet, LiftIsHealthy, OneStep, OwnRowStays, RowTells, Substitutes, SupportGrows};
+ghost use Rattle.clause_flatten.specs.FlatLaws.{RowComputes, RowIsOne, UnionMerges, UntouchedStays};
+
+/// What supports a package still does when it grows.
+pub fn support_grows()
+    ensures { SupportGrows }
+{}
+
+/// A set supports a package exactly where it hits each clause of the package's row.
+pub fn row_tells()
+    ensures { RowTells }
+{}
+
+/// What supports a package when one more package is taken out.
+pub fn one_step()
+    ensures { OneStep }
+{}
+
+/// Substitution gives the rows when one more package is taken out.
+pub fn substitutes()
+    ensures { Substitutes }
+{}
+
+/// The row of the package that is taken out stays as it is.
+pub fn own_row_stays()
+    ensures { OwnRowStays }
+{}
+
+/// The rows before any package is taken out.
+pub fn first_rows()
+    ensures { FirstRows }
+{}
+
+/// The computed row is the row, in lexicographic order.
+pub fn row_computes()
+    ensures { RowComputes }
+{}
+
+/// No other list is the row in lexicographic order.
+pub fn row_is_one()
+    ensures { RowIsOne }
+{}
+
+/// Each set is co-installable with the rows exactly where it is with the clauses.
+pub fn keeps_every_set()
+    ensures { KeepsEverySet }
+{}
+
+/// A set that is healthy with the rows is healthy with the clauses once the greatest set of
+/// packages without conflicts that it serves is put in.
+pub fn lift_is_healthy()
+    ensures { LiftIsHealthy }
+{}
+
+/// A row stays as it is where none of its clauses holds the package that is taken out.
+pub fn untouched_stays()
+    ensures { UntouchedStays }
+{}
+
+/// The union of two clauses can be made by merging.
+pub fn union_merges()
+    ensures { UnionMerges }
+{}

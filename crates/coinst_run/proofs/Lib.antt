@@ -1,0 +1,17 @@
+pub mod Blocks
+pub mod Elements
+pub mod Values
+pub mod Files
+pub mod Form
+pub mod Healthy
+pub mod KernelReads
+pub mod Meaning
+pub mod Members
+pub mod Numbers
+pub mod Packages
+pub mod Places
+pub mod Runs
+pub mod Short
+pub mod Steps
+pub mod Telling
+pub mod Texts

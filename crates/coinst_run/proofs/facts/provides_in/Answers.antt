@@ -1,0 +1,12 @@
+use Rattle.std.proofs.Common.{ap, sym, ◌∙◌}
+use Rattle.std.specs.Option.{option_copied}
+use Rattle.relation_fields.specs.Grammar.{provide_of}
+use Rattle.stanza_reader.specs.declared.stanza.FieldKind.TheVariants.{Provides}
+use Rattle.coinst_run.proofs.Values.{nothing_said, short_field}
+use Rattle.coinst_run.proofs.facts.provides_in.Goals as goal
+
+pub returns-in_default-clause-made : goal.returns-in_default-clause-made
+returns-in_default-clause-made c = c.new.ensures ∙ nothing_said provide_of c.args.stanza.now Provides (ap option_copied (sym c.in_default.is) ∙ c.field_of.ensures)
+
+pub parse_provides-requires : goal.parse_provides-requires
+parse_provides-requires c = rw (c.as_slice.ensures) (short_field c.args.stanza.now Provides c.in-Some.field.now c.requires (ap option_copied (sym c.in-Some.is) ∙ c.field_of.ensures))

@@ -1,0 +1,59 @@
+-- What each way for the work to end says.
+use Rattle.std.specs.Prelude.{◌≡◌, ℕ, ◌<◌, List, [], length, take, Option, ⊤}
+use Rattle.std.specs.Io.KnownBytes.{Appends}
+use Rattle.coinst_run.specs.declared.work.Ended.{Ended}
+use Rattle.coinst_run.specs.declared.work.Ended.TheVariants.{Printed, Unread, TooLong, Faulty, Cut, NoMemory}
+use Rattle.coinst_run.specs.declared.status.Status.{Status}
+use Rattle.coinst_run.specs.declared.status.Status.TheVariants.{Done, Content, ReadFault, WriteFault, Memory, TooLarge}
+use Rattle.coinst_run.specs.Outcome.{Outcome, refused, cut_line, fault_line, memory_line, too_long_line, unread_line}
+
+abbrev pub status_of : Ended → Status
+status_of Printed = Done
+status_of Unread = ReadFault
+status_of TooLong = TooLarge
+status_of (Faulty fault) = Content
+status_of (Cut written) = WriteFault
+status_of NoMemory = Memory
+
+-- what the end says of the outcome of the file
+abbrev pub Decides : List ℕ → Ended → Outcome → Type 0
+Decides path Printed o = o.status ≡ Done
+Decides path Unread o = ⊤
+Decides path TooLong o = o ≡ refused TooLarge (too_long_line path)
+Decides path (Faulty fault) o = o ≡ refused Content (fault_line path fault)
+Decides path (Cut written) o = o.status ≡ Done
+Decides path NoMemory o = ⊤
+
+-- what standard output took of the report
+abbrev pub Reports : Ended → Option (List ℕ) → Option (List ℕ) → List ℕ → Type 0
+Reports Printed old new report = Appends old new report
+Reports (Cut written) old new report = (written < length report) × Appends old new (take written report)
+Reports _ old new report = Appends old new []
+
+-- the same of a report that is not known
+abbrev pub Takes : Ended → Option (List ℕ) → Option (List ℕ) → Type 0
+Takes Printed old new = ⊤
+Takes (Cut written) old new = (report : List ℕ) × (written < length report) × Appends old new (take written report)
+Takes _ old new = Appends old new []
+
+-- a fact where the file could not be read, where the write was cut, and where the file has a fault
+abbrev pub OnUnread : Ended → Type 0 → Type 0
+OnUnread Unread P = P
+OnUnread _ P = ⊤
+
+abbrev pub OnCut : Ended → Type 0 → Type 0
+OnCut (Cut written) P = P
+OnCut _ P = ⊤
+
+abbrev pub OnFaulty : Ended → Type 0 → Type 0
+OnFaulty (Faulty fault) P = P
+OnFaulty _ P = ⊤
+
+-- the line that tells how the work on the file of a path ended
+abbrev pub TellsEnd : Ended → List ℕ → (List ℕ → Type 0) → Type 0
+TellsEnd Printed path Line = Line []
+TellsEnd Unread path Line = Line (unread_line path)
+TellsEnd TooLong path Line = Line (too_long_line path)
+TellsEnd (Faulty fault) path Line = Line (fault_line path fault)
+TellsEnd (Cut written) path Line = Line (cut_line written)
+TellsEnd NoMemory path Line = Line memory_line

@@ -1,0 +1,17 @@
+pub mod Blocks
+pub mod Causes
+pub mod Ended
+pub mod Faults
+pub mod FileReport
+pub mod Index
+pub mod IndexKernel
+pub mod IndexRepository
+pub mod KernelReads
+pub mod KernelText
+pub mod Meaning
+pub mod Outcome
+pub mod Readers
+pub mod Refusals
+pub mod Stanzas
+pub mod Status
+pub mod Words

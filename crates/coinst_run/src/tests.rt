@@ -1,0 +1,354 @@
+//! Runs over files and streams in memory, against answers that were worked out by hand.
+use crate::index::read_index;
+use crate::slow::are_coinstallable;
+use crate::{Job, PathText, read_words, run};
+use byte_flow::{MemShelf, MemSink};
+use row_book::{ClauseList, NumList, is_coinst};
+use std::alloc::{AllocError, Global};
+use std::test::Fail;
+
+/// The empty index's kernel.
+const EMPTY_KERNEL: &str = "coinst-kernel 1\nend 0 0\n";
+
+/// An index in which a package depends on one of two that conflict.
+const CHOICE: &str =
+    "Package: a\nVersion: 1\nDepends: b | c\n\nPackage: b\nVersion: 1\nConflicts: c\n\nPackage: c\nVersion: 1\n\n";
+
+/// What one run is given: the text of the file `I`, the words, and the calls of the shelf, of standard
+/// output and of standard error that fail, 0 for none.
+#[derive(Clone, Copy)]
+struct Given<'a> {
+    text: &'a str,
+    words: &'a str,
+    failing: (u64, u64, u64),
+}
+
+/// What one run left: the status, and what the two streams took.
+#[derive(Drop)]
+struct Left {
+    code: u8,
+    out: MemSink,
+    err: MemSink,
+}
+
+fn strings(alloc: Global, words: &str) -> Result<Vec<String>, AllocError> {
+    let mut made = Vec::new(alloc);
+    for word in words.split_whitespace() {
+        made.push(String::from_str(alloc, word)?)?;
+    }
+    Ok(made)
+}
+
+/// A stream with room enough that takes ten bytes at a time.
+fn stream(alloc: Global, failing: u64) -> Result<MemSink, AllocError> {
+    let mut stream = MemSink::new(alloc, 10);
+    stream.make_room(1_000)?;
+    stream.fail_at(failing)?;
+    Ok(stream)
+}
+
+fn left_by(alloc: Global, given: &Given) -> Result<Left, AllocError> {
+    let mut shelf = MemShelf::new(alloc, 65_536);
+    shelf.add("I", given.text.as_bytes())?;
+    shelf.fail_at(given.failing.0)?;
+    let mut out = stream(alloc, given.failing.1)?;
+    let mut err = stream(alloc, given.failing.2)?;
+    let words = strings(alloc, given.words)?;
+    let status = run(alloc, words.as_slice(), &mut shelf, &mut out, &mut err);
+    Ok(Left {
+        code: status.code(),
+        out,
+        err,
+    })
+}
+
+#[test]
+fn indexes_are_printed(rt: HostRuntime) -> Result<(), Fail> {
+    let alloc = rt.alloc();
+    let cases = [
+        ("", EMPTY_KERNEL),
+        (
+            "Package: a\nVersion: 1\n\n",
+            "coinst-kernel 1\nclass 0\nmember a 1\nend 1 1\n",
+        ),
+        (
+            "Package: a\nVersion: 1\nDepends: nowhere\n",
+            "coinst-kernel 1\nclass 0\nmember a 1\nneeds\nend 1 1\n",
+        ),
+        (
+            CHOICE,
+            "coinst-kernel 1\nclass 0\nmember a 1\nneeds 1 2\nclass 1\nmember b 1\nagainst 2\nclass 2\nmember c 1\nend 3 3\n",
+        ),
+        (
+            "Package: a\nVersion: 1\nDepends: b\n\nPackage: b\nVersion: 1\nDepends: a",
+            "coinst-kernel 1\nclass 0\nmember a 1\nneeds 1\nclass 1\nmember b 1\nneeds 0\nend 2 2\n",
+        ),
+        (
+            "Package: a\nVersion: 1\nDepends: b (>= 2)\n\nPackage: b\nVersion: 1\n\n",
+            "coinst-kernel 1\nclass 0\nmember a 1\nneeds\nclass 1\nmember b 1\nend 2 2\n",
+        ),
+        (
+            "\n \nDepends: b (>= 2),\n , c\nversion: 1\nPACKAGE: a\nDescription: a package\n\n\nPackage: b\nVersion: 1:0\nArchitecture: all\nConflicts: a (<< 1), c\n\nPackage: c\nVersion: 0~1",
+            "coinst-kernel 1\nclass 0\nmember a 1\nneeds 1\nneeds 2\nclass 1\nmember b 1:0\nagainst 2\nclass 2\nmember c 0~1\nend 3 3\n",
+        ),
+    ];
+    for (text, report) in cases {
+        let left = left_by(
+            alloc,
+            &Given {
+                text,
+                words: "kernel I",
+                failing: (0, 0, 0),
+            },
+        )?;
+        assert_eq!(rt; left.code, 0, "{text}");
+        assert_eq!(rt; left.out.taken(), report.as_bytes(), "{text}");
+        assert_eq!(rt; left.err.taken(), b"".as_slice(), "{text}");
+    }
+    Ok(())
+}
+
+#[test]
+fn faults_are_told(rt: HostRuntime) -> Result<(), Fail> {
+    let alloc = rt.alloc();
+    let outside = "Package: a\nVersion: 1\nProvides: x\n";
+    let index = "kernel I";
+    let nowhere = "kernel J";
+    let not_a_command = "words: not a command of coinst\n";
+    let cases = [
+        ("", "", (0, 0, 0), 2, "", not_a_command),
+        ("", "kernel", (0, 0, 0), 2, "", not_a_command),
+        ("", "kernel -x I", (0, 0, 0), 2, "", not_a_command),
+        ("", "kernel -x", (0, 0, 0), 2, "", not_a_command),
+        (outside, index, (0, 0, 0), 3, "", "I: line 1: not built\n"),
+        ("", nowhere, (0, 0, 0), 5, "", "J: read failed\n"),
+        (CHOICE, index, (2, 0, 0), 5, "", "I: read failed\n"),
+        (
+            "",
+            index,
+            (0, 2, 0),
+            6,
+            "coinst-ker",
+            "write failed after 10 bytes\n",
+        ),
+        ("", index, (0, 2, 1), 6, "coinst-ker", ""),
+        ("", index, (0, 0, 1), 0, EMPTY_KERNEL, ""),
+        (outside, index, (0, 0, 1), 3, "", ""),
+        ("", nowhere, (0, 0, 1), 5, "", ""),
+    ];
+    for (text, words, failing, code, report, line) in cases {
+        let left = left_by(
+            alloc,
+            &Given {
+                text,
+                words,
+                failing,
+            },
+        )?;
+        assert_eq!(rt; left.code, code, "{text} {words} {failing:?}");
+        assert_eq!(rt;
+            left.out.taken(),
+            report.as_bytes(),
+            "{text} {words} {failing:?}"
+        );
+        assert_eq!(rt;
+            left.err.taken(),
+            line.as_bytes(),
+            "{text} {words} {failing:?}"
+        );
+    }
+    Ok(())
+}
+
+#[test]
+fn faults_have_their_lines(rt: HostRuntime) -> Result<(), Fail> {
+    let alloc = rt.alloc();
+    let cases = [
+        ("Package: a\nVersion: 1\n\nPackage\n", "4: no colon"),
+        ("Package: a\nVersion 1\nb c: d\n", "2: no colon"),
+        ("Pack age: a\n", "1: bad field name"),
+        ("\n x\n", "2: continuation before any field"),
+        ("Package: a\npackage: b\n", "2: field repeated"),
+        ("\nVersion: ?\n", "2: no Package field"),
+        ("Package: ?\n", "1: no Version field"),
+        ("Version: -1\nPackage: +a\n", "2: bad Package value"),
+        ("Package: a\r\nVersion: 1\r\n", "1: bad Package value"),
+        ("Package: a\nVersion: -1\n", "2: bad Version value"),
+        (
+            "Depends: |\nPackage: a\nVersion: 1\nArchitecture: A\n",
+            "4: bad Architecture value",
+        ),
+        (
+            "Package: a\nVersion: 1\nDepends: b (>= 1), c |\n",
+            "3: bad relation, element 2",
+        ),
+        (
+            "Package: a\nVersion: 1\nConflicts: |\nPre-Depends: ,,\n b b\n",
+            "4: bad relation, element 3",
+        ),
+        (
+            "Provides: x\nPackage: a\nVersion: 1\nBreaks: b | c\n",
+            "4: bad relation, element 1",
+        ),
+        (
+            "Provides: x (>= 1)\nPackage: a\nVersion: 1\n",
+            "1: bad relation, element 1",
+        ),
+        ("Package: a\nVersion: 1\nBreaks:\n", "1: not built"),
+        ("Package: a\nVersion: 1\nPre-Depends: b\n", "1: not built"),
+        (
+            "Package: a\nVersion: 1\nArchitecture: amd64\n",
+            "1: not built",
+        ),
+        (
+            "Package: a\nVersion: 1\n\nPackage: b\nVersion: 1\nDepends: c | d:any\n\nx\n",
+            "4: not built",
+        ),
+        ("Package: a\nVersion: 1\nConflicts: b:all\n", "1: not built"),
+        (
+            "Package: a\nVersion: 1\n\nPackage: b\nVersion: 1\n\nPackage: a\nVersion: 2\n",
+            "7: not built",
+        ),
+    ];
+    for (text, line) in cases {
+        let left = left_by(
+            alloc,
+            &Given {
+                text,
+                words: "kernel I",
+                failing: (0, 0, 0),
+            },
+        )?;
+        let told = format!(in alloc; "I: line {line}\n")?;
+        assert_eq!(rt; left.code, 3, "{text}");
+        assert_eq!(rt; left.out.taken(), b"".as_slice(), "{text}");
+        assert_eq!(rt; left.err.taken(), told.as_bytes(), "{text}");
+    }
+    Ok(())
+}
+
+#[test]
+fn words_give_a_job(rt: HostRuntime) -> Result<(), Fail> {
+    let alloc = rt.alloc();
+    let words = strings(alloc, "kernel debian/Packages")?;
+    let job = read_words(alloc, words.as_slice())?;
+    let Job::Kernel { index } = &job;
+    let path = PathText::copy(alloc, "debian/Packages")?;
+    assert_eq!(rt; index.as_str(), path.as_str());
+    assert_eq!(rt; job.index().as_str(), "debian/Packages");
+    Ok(())
+}
+
+/// The classes that a printed text names: each one's member line, its clauses, and its conflicts.
+#[derive(Drop)]
+struct Printed {
+    members: Vec<String>,
+    clauses: Vec<ClauseList>,
+    conflicts: Vec<NumList>,
+}
+
+/// The numbers that stand behind spaces.
+fn numbers(alloc: Global, text: &str) -> Result<NumList, Fail> {
+    let mut numbers = NumList::new(alloc);
+    for word in text.split_whitespace() {
+        numbers.push(word.parse::<u32>()?)?;
+    }
+    Ok(numbers)
+}
+
+fn read_printed(alloc: Global, text: &str) -> Result<Printed, Fail> {
+    let mut printed = Printed {
+        members: Vec::new(alloc),
+        clauses: Vec::new(alloc),
+        conflicts: Vec::new(alloc),
+    };
+    for line in text.lines() {
+        if line.starts_with("class ") {
+            printed.clauses.push(ClauseList::new(alloc))?;
+            printed.conflicts.push(NumList::new(alloc))?;
+        } else if let Some(member) = line.strip_prefix("member ") {
+            printed.members.push(String::from_str(alloc, member)?)?;
+        } else if let Some(clause) = line.strip_prefix("needs") {
+            let clauses = printed
+                .clauses
+                .last_mut()
+                .ok_or("a clause without a class")?;
+            clauses.push(numbers(alloc, clause)?)?;
+        } else if let Some(rival) = line.strip_prefix("against ") {
+            let conflicts = printed
+                .conflicts
+                .last_mut()
+                .ok_or("a conflict without a class")?;
+            conflicts.push(rival.parse::<u32>()?)?;
+        }
+    }
+    Ok(printed)
+}
+
+/// The numbers below 4 whose bits are set.
+fn wanted_by(alloc: Global, subset: u32) -> Result<Vec<u32>, AllocError> {
+    let mut wanted = Vec::new(alloc);
+    for (number, bit) in [1, 2, 4, 8].into_iter().enumerate() {
+        if subset & bit != 0 {
+            wanted.push(number as u32)?;
+        }
+    }
+    Ok(wanted)
+}
+
+/// Every set of the four packages a, b, c and d, of which those that contain a broken one can't be
+/// installed together: so say the stanzas, and so say the classes of the printed text.
+#[test]
+fn each_set_keeps_its_answer(rt: HostRuntime) -> Result<(), Fail> {
+    let alloc = rt.alloc();
+    let cases: [(&str, &[u32]); 3] = [
+        (
+            "Package: a\nVersion: 1\nDepends: b | c\n\nPackage: b\nVersion: 1\nConflicts: c\n\nPackage: c\nVersion: 1\n\nPackage: d\nVersion: 1\nDepends: nowhere\n\n",
+            &[0b0110, 0b1000],
+        ),
+        (
+            "Package: a\nVersion: 1\nDepends: b, c\n\nPackage: b\nVersion: 1\nConflicts: c\n\nPackage: c\nVersion: 1\n\nPackage: d\nVersion: 1\nDepends: d\nConflicts: d, nowhere\n\n",
+            &[0b0001, 0b0110],
+        ),
+        (
+            "Package: a\nVersion: 1\nDepends: b\n\nPackage: b\nVersion: 1\nDepends: a\nConflicts: c\n\nPackage: c\nVersion: 1\nDepends: nowhere | a\n\nPackage: d\nVersion: 1\nConflicts: a\n\n",
+            &[0b0100, 0b1001, 0b1010],
+        ),
+    ];
+    for (text, broken) in cases {
+        let left = left_by(
+            alloc,
+            &Given {
+                text,
+                words: "kernel I",
+                failing: (0, 0, 0),
+            },
+        )?;
+        let printed = read_printed(alloc, std::str::from_utf8(left.out.taken())?)?;
+        assert_eq!(rt; printed.members.len(), 4, "{text}");
+        for (member, name) in printed.members.iter().zip(["a 1", "b 1", "c 1", "d 1"]) {
+            assert_eq!(rt; member.as_str(), name, "{text}");
+        }
+        if text.len() > 1000 {
+            return Err("a short text".into());
+        }
+        let stanzas = read_index(alloc, text.as_bytes())?;
+        for subset in 0..16 {
+            let wanted = wanted_by(alloc, subset)?;
+            let expected = !broken.iter().any(|set| subset & *set == *set);
+            let on_stanzas = are_coinstallable(alloc, stanzas.as_slice(), wanted.as_slice())?;
+            let on_classes = is_coinst(
+                alloc,
+                printed.clauses.as_slice(),
+                printed.conflicts.as_slice(),
+                wanted.as_slice(),
+            )?;
+            assert_eq!(rt;
+                (on_stanzas, on_classes),
+                (expected, expected),
+                "{text} {wanted:?}"
+            );
+        }
+    }
+    Ok(())
+}

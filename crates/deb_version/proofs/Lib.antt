@@ -1,6 +1,9 @@
 pub mod Cutting
+pub mod EqualKeys
+pub mod KeySteps
 pub mod Numbers
 pub mod PieceSteps
+pub mod TellingKeys
 pub mod TotalOrder
 pub mod Weights
 pub mod VersionSteps

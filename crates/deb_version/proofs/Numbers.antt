@@ -70,7 +70,7 @@ compared a b y z d e =
     (λ is h. rw is (sym (after-same 0 a b h d e)))
     (λ is h. rw is (sym (greater _ _ (number-longer b a h y e d))))
 
-number-without_zeros : (a : List ℕ) → number (drop (zeros a) a) ≡ number a
+pub number-without_zeros : (a : List ℕ) → number (drop (zeros a) a) ≡ number a
 number-without_zeros [] = refl
 number-without_zeros (x ∷ xs) =
     elim (x == 48) as (λ b. (x == 48) ≡ b → number (drop (cond b (1 + zeros xs) 0) (x ∷ xs)) ≡ number (x ∷ xs)) [
@@ -92,7 +92,7 @@ zeros-without_zeros (x ∷ xs) =
       | false ↦ λ is. rw is refl
     ] refl
 
-digits-drop : (n : ℕ) (a : List ℕ) → list_all is_ascii_digit a ≡ true → list_all is_ascii_digit (drop n a) ≡ true
+pub digits-drop : (n : ℕ) (a : List ℕ) → list_all is_ascii_digit a ≡ true → list_all is_ascii_digit (drop n a) ≡ true
 digits-drop zero a d = d
 digits-drop (suc n) [] d = refl
 digits-drop (suc n) (x ∷ xs) d = let both = and_parts _ _ d in digits-drop n xs both.1

@@ -43,7 +43,7 @@ first_difference-more f n (suc m) h =
 length-behind_plain : (part : List ℕ) → length (behind_plain part) ≤ length part
 length-behind_plain part = omega (arith, length-drop (prefix_len is_plain part) part)
 
-length-behind_front : (part : List ℕ) → length (behind_front part) ≤ length part
+pub length-behind_front : (part : List ℕ) → length (behind_front part) ≤ length part
 length-behind_front part = omega (arith, length-drop (prefix_len is_ascii_digit (behind_plain part)) (behind_plain part), length-behind_plain part)
 
 -- the front of a part that is not empty has a byte
@@ -130,7 +130,7 @@ pub part_order-empty : (v w : List ℕ) → length v ≡ 0 → length w ≡ 0 �
 unfolding first_difference
 part_order-empty v w g h = sym (part_order-at v w 0 (omega arith) (omega arith))
 
-take_while-all : (xs : List ℕ) → list_all is_ascii_digit (take_while is_ascii_digit xs) ≡ true
+pub take_while-all : (xs : List ℕ) → list_all is_ascii_digit (take_while is_ascii_digit xs) ≡ true
 take_while-all [] = refl
 take_while-all (x ∷ xs) =
     elim (is_ascii_digit x) as (λ b. is_ascii_digit x ≡ b → list_all is_ascii_digit (take (cond b (1 + prefix_len is_ascii_digit xs) 0) (x ∷ xs)) ≡ true) [

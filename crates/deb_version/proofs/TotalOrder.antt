@@ -20,7 +20,7 @@ unfolding first_difference
 differences_total zero = record { antisymm = λ v w. refl; trans = λ u v w p q. p; congr = λ u v w p. refl }
 differences_total (suc n) = then_total (differences_total n) (pieces_total n)
 
-part_total : IsTotalOrder part_order
+pub part_total : IsTotalOrder part_order
 part_total = record {
   antisymm = λ v w.
       let n : ℕ = length v + length w in

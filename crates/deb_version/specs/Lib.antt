@@ -1,4 +1,5 @@
 pub mod Names
 pub mod Grammar
 pub mod Order
+pub mod Keys
 pub mod Refusals

@@ -1,8 +1,9 @@
 //! Runs of digits as whole numbers of any size.
-ghost use Rattle.std.specs.Prelude.{◌≡◌, ◌==◌, true, drop};
+ghost use Rattle.std.specs.Prelude.{◌≡◌, true};
 ghost use Rattle.std.specs.Char.{is_ascii_digit};
-ghost use Rattle.std.specs.List.{list_all, prefix_len};
+ghost use Rattle.std.specs.List.{list_all};
 ghost use Rattle.std.specs.Ordering.{nat_cmp};
+ghost use Rattle.deb_version.specs.Keys.{without_zeros};
 ghost use Rattle.deb_version.specs.Order.{number};
 
 use std::cmp::Ordering;
@@ -21,9 +22,9 @@ pub(crate) fn order_numbers(left: &[u8], right: &[u8]) -> Ordering
     left.len().cmp(&right.len()).then(left.cmp(right))
 }
 
-// The digits behind the leading zeros.
-fn without_zeros(digits: &[u8]) -> &[u8]
-    ensures { result.now ≡ drop (prefix_len (λ c. c == 48) digits.now) digits.now }
+/// The digits behind the leading zeros.
+pub(crate) fn without_zeros(digits: &[u8]) -> &[u8]
+    ensures { result.now ≡ without_zeros digits.now }
 {
     let mut rest = digits;
     while let [b'0', behind @ ..] = rest {

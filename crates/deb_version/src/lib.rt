@@ -3,6 +3,7 @@
 
 mod cuts;
 mod digits;
+mod keys;
 pub mod names;
 mod parts;
 pub mod texts;
@@ -10,7 +11,7 @@ pub mod versions;
 
 pub use names::is_package_name;
 pub use texts::Bytes;
-pub use versions::{Version, VersionError, order_is_total};
+pub use versions::{Version, VersionError, keys_are_shared, order_is_total};
 
 #[cfg(test)]
 mod tests;

@@ -28,15 +28,16 @@ pub(crate) fn order_parts(left: &[u8], right: &[u8]) -> Ordering
     Ordering::Equal
 }
 
-// The two pieces at the front of a part, and what is left behind them.
+/// The two pieces at the front of a part, and what is left behind them.
 #[derive(Clone, Copy)]
-struct Pieces<'a> {
-    plain: &'a [u8],
-    digits: &'a [u8],
-    rest: &'a [u8],
+pub(crate) struct Pieces<'a> {
+    pub(crate) plain: &'a [u8],
+    pub(crate) digits: &'a [u8],
+    pub(crate) rest: &'a [u8],
 }
 
-fn front(part: &[u8]) -> Pieces<'_>
+/// Takes the two pieces off the front of a part.
+pub(crate) fn front(part: &[u8]) -> Pieces<'_>
     ensures plain { result.plain.now ≡ take_while is_plain part.now }
     ensures digits { result.digits.now ≡ take_while is_ascii_digit (behind_plain part.now) }
     ensures rest { result.rest.now ≡ behind_digits (behind_plain part.now) }

@@ -84,6 +84,52 @@ fn refuses_what_is_no_version(rt: HostRuntime) {
     }
 }
 
+// Pairs of versions with `=` where they have the same key, and `!` where they have not.
+const KEYS: &str = "\
+1. = 1.0
+1 = 1-0
+1 = 0:1
+1 = 01
+1-0 = 00:001-00
+a00b = a0b
+0099999999999999999999:1 = 99999999999999999999:1-0
+1.0 ! 1.0+
+1 ! 1.0
+a0b ! ab
+0a ! a
+1.10 ! 1.1
+1-1 ! 1.1
+1-1 ! 11
+1:1 ! 1
+1~ ! 1
+";
+
+#[test]
+fn shares_keys_as_the_table_says(rt: HostRuntime) -> Result<(), Fail> {
+    for line in KEYS.lines() {
+        compare_keys(&rt, line)?;
+    }
+    keys_are_shared();
+    Ok(())
+}
+
+fn compare_keys(rt: &(impl Abort + AllocGlobal), line: &str) -> Result<(), Fail> {
+    let (left, rest) = line.split_once(' ').ok_or("no sign")?;
+    let (sign, right) = rest.split_once(' ').ok_or("no right side")?;
+    let left = Version::parse(rt.alloc(), left.as_bytes())?.key(rt.alloc())?;
+    let right = Version::parse(rt.alloc(), right.as_bytes())?.key(rt.alloc())?;
+    let is_shared = left.as_slice() == right.as_slice();
+    assert_eq!(rt; is_shared, sign == "=", "{line}");
+    Ok(())
+}
+
+#[test]
+fn writes_keys(rt: HostRuntime) -> Result<(), Fail> {
+    let key = Version::parse(rt.alloc(), b"01:02.0a00-~007")?.key(rt.alloc())?;
+    assert_eq!(rt; key.as_slice(), b"1 2.0a ~7".as_slice());
+    Ok(())
+}
+
 #[test]
 fn keeps_the_text(rt: HostRuntime) -> Result<(), Fail> {
     let version = Version::parse(rt.alloc(), b"1:2.10-3+b1")?;

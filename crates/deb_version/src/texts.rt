@@ -31,6 +31,13 @@ impl Bytes {
         })
     }
 
+    /// The text of a vector's bytes; it takes no memory.
+    pub fn of(bytes: Vec<u8>) -> Self
+        ensures { result ≡ bytes.items }
+    {
+        Bytes { bytes }
+    }
+
     /// Lends the text; it takes no memory.
     pub fn as_slice(&self) -> &[u8]
         ensures { result.now ≡ self.now }

@@ -1,13 +1,15 @@
 //! The versions of packages and their order.
-ghost use Rattle.std.specs.Prelude.{◌≡◌, true, false, IfOk, IfErr, OnOk, unwrap_or};
+ghost use Rattle.std.specs.Prelude.{◌≡◌, true, false, List, ℕ, IfOk, IfErr, OnOk, unwrap_or};
 ghost use Rattle.std.specs.Cmp.{IsTotalOrder};
 ghost use Rattle.std.specs.Option.{option_copied};
 ghost use Rattle.deb_version.specs.Grammar.{is_version};
 ghost use Rattle.deb_version.specs.Order.{version_order, or_zero, IsTotalUpToTies};
+ghost use Rattle.deb_version.specs.Keys.{version_key};
 ghost use Rattle.deb_version.specs.Refusals.{OnShape};
 
 use crate::cuts::{cut, is_well_formed};
-use crate::digits::order_numbers;
+use crate::digits::{order_numbers, without_zeros};
+use crate::keys::push_part;
 use crate::parts::order_parts;
 use crate::texts::Bytes;
 use std::alloc::{AllocError, Global};
@@ -77,6 +79,20 @@ impl Version {
         order_texts(self.text(), other.text())
     }
 
+    /// A text that is the same for versions that compare as equal, and for no others; it takes time linear in the text.
+    #[tactic(auto, using(std::proofs::Common::append_assoc), unfolding(crate::specs::Keys::version_key))]
+    pub fn key(&self, alloc: Global) -> Result<Bytes, AllocError>
+        ensures { IfOk result (λ key. key ≡ version_key self.now) }
+    {
+        let parts = cut(self.text());
+        let mut key = Vec::from_slice(alloc, without_zeros(written_or_zero(parts.epoch)))?;
+        key.push(b' ')?;
+        push_part(&mut key, parts.upstream)?;
+        key.push(b' ')?;
+        push_part(&mut key, written_or_zero(parts.revision))?;
+        Ok(Bytes::of(key))
+    }
+
     /// Lends the text that was parsed; it takes no memory.
     pub fn text(&self) -> &[u8]
         ensures value { result.now ≡ self.now }
@@ -121,4 +137,11 @@ fn written_or_zero(written: Option<&[u8]>) -> &[u8]
 pub fn order_is_total()
     ensures laws { IsTotalUpToTies version_order }
     ensures sorts { IsTotalOrder version_order }
+{}
+
+/// Versions that compare as equal have the same key, so that they may be looked up by it, and versions with the same key
+/// compare as equal.
+pub fn keys_are_shared()
+    ensures by_equals { (v w : List ℕ) → is_version v ≡ true → is_version w ≡ true → version_order v w ≡ Ordering.Equal → version_key v ≡ version_key w }
+    ensures by_no_others { (v w : List ℕ) → is_version v ≡ true → is_version w ≡ true → version_key v ≡ version_key w → version_order v w ≡ Ordering.Equal }
 {}

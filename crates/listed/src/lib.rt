@@ -49,6 +49,15 @@ impl<T: Drop> Listed<T> {
         Ok(())
     }
 
+    /// Puts the items of another list behind the others; where no memory is found, the list stays as it was.
+    pub fn append(&mut self, other: Listed<T>) -> Result<(), AllocError>
+        ensures ok { OnOk result (self.new ≡ self.old ++ other) }
+        ensures err { OnErr result (self.new ≡ self.old) }
+    {
+        let Listed { mut items } = other;
+        self.items.append(&mut items)
+    }
+
     /// Lends the items in their order; it takes no memory.
     pub fn as_slice(&self) -> &[T]
         ensures { result.now ≡ self.now }
@@ -66,7 +75,8 @@ mod tests {
     fn keeps_items_in_order(rt: HostRuntime) -> Result<(), Fail> {
         let mut list = Listed::of(vec![in rt.alloc(); 1u32]?);
         list.push(2)?;
-        assert_eq!(rt; list.as_slice(), [1, 2].as_slice());
+        list.append(Listed::of(vec![in rt.alloc(); 3u32, 4]?))?;
+        assert_eq!(rt; list.as_slice(), [1, 2, 3, 4].as_slice());
         assert!(rt; Listed::<u32>::new(rt.alloc()).as_slice().is_empty());
         Ok(())
     }

@@ -1,12 +1,11 @@
 //! Reading an atom.
 ghost use Rattle.std.specs.Prelude.{◌≡◌, true, IfOk};
-ghost use Rattle.std.specs.List.{list_all};
 ghost use Rattle.std.specs.Option.{option_copied, option_map_or};
-ghost use Rattle.relation_fields.specs.Texts.{is_architecture_byte};
-ghost use Rattle.relation_fields.specs.Grammar.{op_of, bound_at, bound_of, in_parentheses, restriction_of, begins_architecture, is_architecture, name_at, behind_name, qualifier_at, behind_qualifier, atom_of};
+ghost use Rattle.relation_fields.specs.Grammar.{op_of, bound_at, bound_of, in_parentheses, restriction_of, is_architecture, name_at, behind_name, qualifier_at, behind_qualifier, atom_of};
 
+use crate::grammar::is_architecture;
 use crate::relations::{Atom, Bound, Op};
-use crate::texts::{ByteKind, has_kind, split_front, strip_first, strip_last, trim, trim_front};
+use crate::texts::{ByteKind, split_front, strip_first, strip_last, trim, trim_front};
 use deb_version::{Bytes, Version, VersionError, is_package_name};
 use std::alloc::{AllocError, Global};
 
@@ -62,26 +61,9 @@ fn fits_qualifier(qualifier: Option<&[u8]>) -> bool
     ensures { result ≡ option_map_or is_architecture (option_copied qualifier.entry) true }
 {
     match qualifier {
-        Some(text) => begins_well(text) && has_architecture_bytes(text),
+        Some(text) => is_architecture(text),
         None => true,
     }
-}
-
-// Whether there is a first byte, and it is a lower-case letter or a digit.
-fn begins_well(text: &[u8]) -> bool
-    ensures { result ≡ begins_architecture text.now }
-{
-    match text {
-        [first, ..] => first.is_ascii_lowercase() || first.is_ascii_digit(),
-        [] => false,
-    }
-}
-
-// Whether each byte may stand in the name of an architecture.
-fn has_architecture_bytes(text: &[u8]) -> bool
-    ensures { result ≡ list_all is_architecture_byte text.now }
-{
-    text.iter().all(|byte| has_kind(*byte, ByteKind::Qualifier))
 }
 
 // A copy of the text, where it is written.

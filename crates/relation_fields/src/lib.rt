@@ -11,7 +11,7 @@ pub mod relations;
 mod texts;
 
 pub use fields::{RelationError, parse_against, parse_needs, parse_provides};
-pub use grammar::readings_are_spellings;
+pub use grammar::{is_architecture, readings_are_spellings};
 pub use packages::{Home, PackageFacts};
 pub use relations::{Atom, AtomList, Bound, ElementList, Op, Provide, ProvideList};
 

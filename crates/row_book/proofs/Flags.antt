@@ -32,7 +32,7 @@ zip_from p (x ∷ xs) (b ∷ flags) d f =
     (zip_from p xs flags d (λ n l y. f (suc n) (omega arith) y))
 
 -- a flag that is up stands in the row
-flag_in : (flags : List Bool) (n : ℕ) → flag flags n ≡ true → n < length flags
+pub flag_in : (flags : List Bool) (n : ℕ) → flag flags n ≡ true → n < length flags
 flag_in [] n h = absurd (false≢true h)
 flag_in (b ∷ flags) zero h = omega arith
 flag_in (b ∷ flags) (suc n) h = let l : n < length flags = flag_in flags n h in omega arith

@@ -3,4 +3,11 @@ pub mod Flags
 pub mod Sets
 pub mod Clauses
 pub mod Order
+pub mod Books
+pub mod Pairs
+pub mod Faults
 mod Examples
+pub mod Inserts
+pub mod Tables
+pub mod Users
+pub mod Samples

@@ -1,13 +1,9 @@
 -- Families of clauses: the minimal ones, the order in which they are kept, and the families of all
 -- sets of numbers.
-use Rattle.std.specs.Prelude.{◌≡◌, ℕ, zero, suc, ◌<◌, Bool, true, false, not, ◌&&◌, ◌||◌, eqb, ltb, cond, List, [], ◌∷◌, ◌++◌, ◌⊎◌, map}
+use Rattle.std.specs.Prelude.{ℕ, zero, suc, Bool, true, false, not, ◌&&◌, ◌||◌, eqb, ltb, cond, List, [], ◌∷◌, ◌++◌, map}
 use Rattle.std.specs.List.{list_all, filter}
 use Rattle.row_book.specs.Sets.{In, has}
-
--- a set of numbers as a list: ascending, each number once
-abbrev pub Ascending : List ℕ → Type 0
-Ascending [] = Unit {0}
-Ascending (x ∷ xs) = ((y : ℕ) → In y xs → x < y) × Ascending xs
+pub use Rattle.clause_pool.specs.Lists.{Ascending, Before, InOrder}
 
 -- each number of the first list is in the second
 abbrev pub Inside : List ℕ → List ℕ → Type 0
@@ -24,18 +20,7 @@ apart_from p cs = filter (λ c. not (has c p)) cs
 abbrev pub minimal_of : List (List ℕ) → List (List ℕ)
 minimal_of cs = filter (λ T. list_all (λ S. not (is_inside S T) || is_inside T S) cs) cs
 
--- lexicographic order: the first place that differs decides, and a proper prefix comes first
-abbrev pub Before : List ℕ → List ℕ → Type 0
-Before [] [] = ⊥
-Before [] (y ∷ ys) = Unit {0}
-Before (x ∷ xs) [] = ⊥
-Before (x ∷ xs) (y ∷ ys) = (x < y) ⊎ ((x ≡ y) × Before xs ys)
-
--- a family of clauses as a list: in lexicographic order, each clause once
-abbrev pub InOrder : List (List ℕ) → Type 0
-InOrder [] = Unit {0}
-InOrder (c ∷ cs) = ((d : List ℕ) → In d cs → Before c d) × InOrder cs
-
+-- whether the first clause comes before the second in lexicographic order
 abbrev pub comes_before : List ℕ → List ℕ → Bool
 comes_before [] [] = false
 comes_before [] (y ∷ ys) = true

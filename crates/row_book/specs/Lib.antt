@@ -1,6 +1,12 @@
+pub use Rattle.clause_pool.specs.Interned
+pub use Rattle.clause_pool.specs.Lists
 pub mod Sets
 pub mod Repository
+pub mod Book
+pub mod Pairs
+pub mod Uses
 pub mod Flags
+pub mod Health
 pub mod Clauses
 pub mod Support
 pub mod Sound

@@ -1,6 +1,7 @@
 -- Sets of packages as tests, clauses as lists, and what a set hits.
-use Rattle.std.specs.Prelude.{◌≡◌, ℕ, Bool, true, not, ◌&&◌, ◌||◌, eqb, List, ◌∷◌}
+use Rattle.std.specs.Prelude.{◌≡◌, ℕ, Bool, true, not, ◌&&◌, ◌||◌, eqb, List}
 use Rattle.std.specs.List.{list_any}
+pub use Rattle.clause_pool.specs.Lists.{In, here, there}
 
 -- a set of numbers, as the test of its members
 abbrev pub NumSet : Type 0
@@ -11,11 +12,6 @@ Is X n = X n ≡ true
 
 abbrev pub Within : NumSet → NumSet → Type 0
 Within X Y = (n : ℕ) → X n ≡ true → Y n ≡ true
-
--- one of the elements of a list
-pub data In {A : Type 0} : A → List A → Type 0 where
-  here : {x : A} {xs : List A} → In x (x ∷ xs)
-  there : {x y : A} {xs : List A} → In x xs → In x (y ∷ xs)
 
 -- whether the list has the number
 abbrev pub has : List ℕ → ℕ → Bool

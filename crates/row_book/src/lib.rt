@@ -1,13 +1,25 @@
 //! Repositories of numbered packages with their clauses and conflicts.
 #![tactic(auto)]
 
+pub mod book;
+pub mod health;
+pub mod pair;
+mod pairing;
 mod subsets;
+mod uses;
 
+pub use book::{Book, ConflictTable, RowList};
+pub use clause_pool::NumList;
+pub use health::Unhealthy;
 use listed::Listed;
+pub use pair::Pair;
 pub use subsets::is_coinst;
-
-/// A set of packages, as the ascending list of their numbers.
-pub type NumList = Listed<u32>;
+pub use uses::UseTable;
 
 /// The clauses of one package.
 pub type ClauseList = Listed<NumList>;
+
+#[cfg(test)]
+mod tests;
+#[cfg(test)]
+mod uses_tests;

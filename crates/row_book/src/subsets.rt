@@ -101,7 +101,7 @@ fn hits_row(flags: &[bool], row: &[NumList]) -> bool
         .all(|clause| hits_clause(flags, clause.as_slice()))
 }
 
-fn hits_clause(flags: &[bool], clause: &[u32]) -> bool
+pub(crate) fn hits_clause(flags: &[bool], clause: &[u32]) -> bool
     ensures { result ≡ list_any (flag flags.now) clause.now }
 {
     clause.iter().any(|&number| is_member(flags, number))
@@ -113,7 +113,7 @@ fn has_all(flags: &[bool], wanted: &[u32]) -> bool
     wanted.iter().all(|&number| is_member(flags, number))
 }
 
-fn is_member(flags: &[bool], number: u32) -> bool
+pub(crate) fn is_member(flags: &[bool], number: u32) -> bool
     ensures { result ≡ flag flags.now number }
 {
     match flags.get(number as usize) {

@@ -1,0 +1,240 @@
+-- The users of numbers: as members of lists, over a pool that has grown, and after a row has changed.
+use Rattle.std.proofs.Common.{◌≡◌, ℕ, zero, suc, ◌<◌, ◌≤◌, ◌+◌, Bool, true, false, not, eqb, ltb, List, [], ◌∷◌, inl, inr, refl, sym, ◌∙◌, ap, ap₂, subst, arith, ◌&&◌, ◌||◌, length, get_or, map, filter, ne_eqb, eq-eqb, cond, take, drop, ◌++◌, append-nil}
+use Rattle.std.specs.Global.{Vec}
+use Rattle.std.specs.List.{slice_set, list_any}
+use Rattle.std.proofs.lemmas.Bool.{cases_Bool, cases_eq, both_ways, and_parts, and_from, or_left, or_right, ltb-true, ltb-false, lt-ltb, le-ltb}
+use Rattle.std.proofs.lemmas.List.{get_or-set_same, get_or-set_other, length-set, length-map, drop_all, take_all}
+use Rattle.std.proofs.lemmas.Grind.{get_or_default_zero}
+use Rattle.clause_pool.specs.Interned.{Interned, Kept, IsPool, clause_at, ids_at, row_at}
+use Rattle.row_book.specs.Sets.{NumSet, In, here, there, has}
+use Rattle.row_book.specs.Clauses.{Ascending, numbers}
+use Rattle.row_book.specs.Book.{RowsFit}
+use Rattle.row_book.specs.Uses.{row_id, row_holds, users_of, uses_of, IsListOf, lists_in, list_in}
+use Rattle.row_book.proofs.Lists.{In_has, has_In, has_not, any_cases, any_from, filter_from, filter_cases, ascending_filter}
+use Rattle.row_book.proofs.Order.{numbers_from, numbers_parts, map_same, at_numbers}
+use Rattle.row_book.proofs.Inserts.{listed_once, listed_as, In_place}
+
+-- members of a list of users
+pub user_within : (pool : Interned) (rows : List ℕ) (n p : ℕ) → In p (users_of pool rows n) → (p < length rows) × (row_holds pool (row_id rows p) n ≡ true)
+user_within pool rows n p i =
+    let w : In p (numbers (length rows) 0) × (row_holds pool (row_id rows p) n ≡ true) = filter_cases (λ q. row_holds pool (row_id rows q) n) (numbers (length rows) 0) p i in
+    let u : (0 ≤ p) × (p < 0 + length rows) = numbers_parts (length rows) 0 p w.0 in
+    (omega arith, w.1)
+
+pub user_from : (pool : Interned) (rows : List ℕ) (n p : ℕ) → p < length rows → row_holds pool (row_id rows p) n ≡ true → In p (users_of pool rows n)
+user_from pool rows n p l h = filter_from (λ q. row_holds pool (row_id rows q) n) (numbers (length rows) 0) p (numbers_from (length rows) 0 p (omega arith) (omega arith)) h
+
+-- what it is that a row holds a number
+pub held_by : (pool : Interned) (id n : ℕ) → row_holds pool id n ≡ true → (c : List ℕ) × In c (row_at pool id) × In n c
+held_by pool id n h =
+    let w : (c : List ℕ) × In c (row_at pool id) × (has c n ≡ true) = any_cases (λ c. has c n) (row_at pool id) h in
+    (w.0, w.1, has_In w.0 n w.2)
+
+pub holds_from : (pool : Interned) (id n : ℕ) (c : List ℕ) → In c (row_at pool id) → In n c → row_holds pool id n ≡ true
+holds_from pool id n c i j = any_from (λ d. has d n) (row_at pool id) c i (In_has j)
+
+-- lists of users ascend
+numbers_ascend : (n k : ℕ) → Ascending (numbers n k)
+unfolding numbers
+numbers_ascend zero k = tt
+numbers_ascend (suc n) k = ((λ m i. let w : (suc k ≤ m) × (m < suc k + n) = numbers_parts n (suc k) m i in omega arith), numbers_ascend n (suc k))
+
+pub users_ascend : (pool : Interned) (rows : List ℕ) (n : ℕ) → Ascending (users_of pool rows n)
+users_ascend pool rows n = ascending_filter (λ q. row_holds pool (row_id rows q) n) (numbers (length rows) 0) (numbers_ascend (length rows) 0)
+
+-- the packages below k whose row holds the number
+abbrev pub uses_number : Interned → List ℕ → ℕ → ℕ → NumSet
+uses_number pool rows k n m = ltb m k && row_holds pool (row_id rows m) n
+
+pub users_listed : (pool : Interned) (rows : List ℕ) (n : ℕ) → IsListOf (uses_number pool rows (length rows) n) (users_of pool rows n)
+users_listed pool rows n = record {
+  ascending = users_ascend pool rows n;
+  members = λ m. elim (cases_Bool (uses_number pool rows (length rows) n m)) [
+    | inl y ↦
+        let w : (ltb m (length rows) ≡ true) × (row_holds pool (row_id rows m) n ≡ true) = and_parts (ltb m (length rows)) (row_holds pool (row_id rows m) n) y in
+        In_has (user_from pool rows n m (ltb-true m (length rows) w.0) w.1) ∙ sym y
+    | inr f ↦
+        has_not (users_of pool rows n) m
+        (λ i. let w : (m < length rows) × (row_holds pool (row_id rows m) n ≡ true) = user_within pool rows n m i in
+        both_ways (uses_number pool rows (length rows) n m) f (and_from (ltb m (length rows)) (row_holds pool (row_id rows m) n) (lt-ltb m (length rows) w.0) w.1))
+        ∙ sym f
+  ];
+}
+
+-- a list made place by place
+made_of : {A : Type 0} (f : ℕ → A) (d : A) (xs : List A) (k : ℕ) → ((i : ℕ) → i < length xs → get_or xs i d ≡ f (k + i)) → xs ≡ map f (numbers (length xs) k)
+unfolding numbers
+made_of f d [] k e = refl
+made_of f d (x ∷ xs) k e =
+    ap (λ y. y ∷ xs) (e 0 (omega arith) ∙ ap f (omega arith))
+    ∙ ap (λ ys. f k ∷ ys) (made_of f d xs (suc k) (λ i l. e (suc i) (omega arith) ∙ ap f (omega arith)))
+
+-- a table whose lists are the users is that of the rows
+pub is_uses_of : (table : List (List ℕ)) (pool : Interned) (rows : List ℕ) → length table ≡ length rows
+    → ((n : ℕ) → n < length rows → IsListOf (uses_number pool rows (length rows) n) (get_or table n [])) → table ≡ uses_of pool rows
+unfolding uses_of
+is_uses_of table pool rows e f =
+    made_of (users_of pool rows) [] table 0 (λ i l.
+    let u : i < length rows = omega arith in
+    listed_once (uses_number pool rows (length rows) i) (get_or table i []) (users_of pool rows i) (f i u) (users_listed pool rows i) ∙ ap (users_of pool rows) (omega arith))
+    ∙ ap (λ size. map (users_of pool rows) (numbers size 0)) e
+
+length_numbered : (f : ℕ → List ℕ) (n k : ℕ) → length (map f (numbers n k)) ≡ n
+unfolding numbers
+length_numbered f zero k = refl
+length_numbered f (suc n) k = ap suc (length_numbered f n (suc k))
+
+pub length_uses : (pool : Interned) (rows : List ℕ) → length (uses_of pool rows) ≡ length rows
+unfolding uses_of
+length_uses pool rows = length_numbered (users_of pool rows) (length rows) 0
+
+-- a row stays in a pool that grows, and so do its users
+pub row_kept : (old new : Interned) (id : ℕ) → IsPool old → Kept old new → id < length old.rows → row_at new id ≡ row_at old id
+row_kept old new id p k l =
+    ap (map (clause_at new)) (k.rows id l).1
+    ∙ map_same (clause_at new) (clause_at old) (ids_at old id) (λ c i. (k.clauses c (p.of_pool id l c i)).1)
+
+filter_same : (p q : ℕ → Bool) (xs : List ℕ) → ((x : ℕ) → In x xs → p x ≡ q x) → filter p xs ≡ filter q xs
+filter_same p q [] f = refl
+filter_same p q (x ∷ xs) f = ap₂ (λ b ys. cond b (x ∷ ys) ys) (f x here) (filter_same p q xs (λ y i. f y (there i)))
+
+pub users_kept : (old new : Interned) (rows : List ℕ) → IsPool old → Kept old new → ((id : ℕ) → In id rows → id < length old.rows) → (n : ℕ) → users_of new rows n ≡ users_of old rows n
+users_kept old new rows p k f n =
+    filter_same (λ q. row_holds new (row_id rows q) n) (λ q. row_holds old (row_id rows q) n) (numbers (length rows) 0)
+    (λ q i.
+    let w : (0 ≤ q) × (q < 0 + length rows) = numbers_parts (length rows) 0 q i in
+    ap (list_any (λ c. has c n)) (row_kept old new (row_id rows q) p k (f (row_id rows q) (In_place rows q (omega arith)))))
+
+pub uses_kept : (old new : Interned) (rows : List ℕ) → IsPool old → Kept old new → ((id : ℕ) → In id rows → id < length old.rows) → uses_of new rows ≡ uses_of old rows
+unfolding uses_of
+uses_kept old new rows p k f = map_same (users_of new rows) (users_of old rows) (numbers (length rows) 0) (λ n i. users_kept old new rows p k f n)
+
+-- one more package
+below_next : (m k : ℕ) → ltb m (k + 1) ≡ (ltb m k || eqb m k)
+below_next m k =
+    elim (cases_Bool (ltb m k)) [
+      | inl y ↦ let l : m < k = ltb-true m k y in lt-ltb m (k + 1) (omega arith) ∙ sym (or_left (ltb m k) (eqb m k) y)
+      | inr f ↦ let l : k ≤ m = ltb-false m k f in elim (cases_eq m k) [
+        | inl e ↦ lt-ltb m (k + 1) (omega arith) ∙ sym (or_right (ltb m k) (eqb m k) (eq-eqb m k e))
+        | inr ne ↦ le-ltb m (k + 1) (omega (arith, ne)) ∙ sym (ap₂ (λ a b. a || b) f (ne_eqb m k ne))
+      ]
+    ]
+
+more_here : (a x : Bool) → ((a && x) || (x && true)) ≡ ((a || true) && x)
+more_here true true = refl
+more_here true false = refl
+more_here false true = refl
+more_here false false = refl
+
+more_other : (a x y : Bool) → ((a && x) || (y && false)) ≡ ((a || false) && x)
+more_other true true y = refl
+more_other true false true = refl
+more_other true false false = refl
+more_other false x true = refl
+more_other false x false = refl
+
+pub uses_more : (pool : Interned) (rows : List ℕ) (k row n : ℕ) → row ≡ row_id rows k → (before after held : List ℕ) → has held n ≡ row_holds pool row n
+    → IsListOf (uses_number pool rows k n) before
+    → (Ascending before → IsListOf (λ m. has before m || (has held n && eqb m k)) after)
+    → IsListOf (uses_number pool rows (k + 1) n) after
+uses_more pool rows k row n e before after held h b f =
+    listed_as (λ m. has before m || (has held n && eqb m k)) (uses_number pool rows (k + 1) n) after
+    (λ m.
+    let holds = λ (q : ℕ). row_holds pool (row_id rows q) n in
+    ap₂ (λ x y. x || (y && eqb m k)) (b.members m) (h ∙ ap (λ r. row_holds pool r n) e)
+    ∙ elim (cases_eq m k) [
+      | inl s ↦ ap₂ (λ x y. (ltb m k && holds m) || (x && y)) (sym (ap holds s)) (eq-eqb m k s) ∙ more_here (ltb m k) (holds m) ∙ ap (λ x. (ltb m k || x) && holds m) (sym (eq-eqb m k s))
+      | inr ne ↦ ap (λ y. (ltb m k && holds m) || (holds k && y)) (ne_eqb m k ne) ∙ more_other (ltb m k) (holds m) (holds k) ∙ ap (λ x. (ltb m k || x) && holds m) (sym (ne_eqb m k ne))
+    ]
+    ∙ ap (λ x. x && holds m) (sym (below_next m k)))
+    (f b.ascending)
+
+-- a slice that was lent whole, put back
+pub lent_whole : {A : Type 0} (size : ℕ) (xs ys : List A) → length xs ≡ length ys → size ≡ length ys → take size (xs ++ drop (length xs) ys) ≡ xs
+lent_whole size xs ys e f =
+    ap (λ zs. take size (xs ++ zs)) (drop_all (length xs) ys (omega arith)) ∙ ap (take size) (append-nil xs) ∙ take_all size xs (omega arith)
+
+-- the numbers that a row of a book holds are below its size
+pub held_within : (pool : Interned) (rows : List ℕ) (row n : ℕ) → RowsFit pool rows → In row rows → row_holds pool row n ≡ true → n < length rows
+held_within pool rows row n f i h = let w : (c : List ℕ) × In c (row_at pool row) × In n c = held_by pool row n h in f.numbers row i w.0 w.1 n w.2
+
+-- a package that has another row now
+changed_here : (a b : Bool) → ((b || (a && true)) && not (b && not a && true)) ≡ (true && a)
+changed_here true true = refl
+changed_here true false = refl
+changed_here false true = refl
+changed_here false false = refl
+
+changed_other : (x a b : Bool) → ((x || (a && false)) && not (b && not a && false)) ≡ x
+changed_other true true true = refl
+changed_other true true false = refl
+changed_other true false true = refl
+changed_other true false false = refl
+changed_other false true true = refl
+changed_other false true false = refl
+changed_other false false true = refl
+changed_other false false false = refl
+
+pub uses_changed : (pool : Interned) (rows : List ℕ) (p old new n : ℕ) → p < length rows → row_id rows p ≡ old
+    → (xs ys zs before after : List ℕ) → has before n ≡ row_holds pool old n → has after n ≡ row_holds pool new n → xs ≡ users_of pool rows n
+    → (Ascending xs → IsListOf (λ m. has xs m || (has after n && eqb m p)) ys)
+    → (Ascending ys → IsListOf (λ m. has ys m && not (has before n && not (has after n) && eqb m p)) zs)
+    → IsListOf (uses_number pool (slice_set rows p new) (length (slice_set rows p new)) n) zs
+uses_changed pool rows p old new n l o xs ys zs before after hb ha e f g =
+    let first : IsListOf (uses_number pool rows (length rows) n) xs = subst (IsListOf (uses_number pool rows (length rows) n)) (sym e) (users_listed pool rows n) in
+    let second : IsListOf (λ m. has xs m || (has after n && eqb m p)) ys = f first.ascending in
+    let A = row_holds pool new n in
+    let B = row_holds pool old n in
+    let size : length (slice_set rows p new) ≡ length rows = length-set rows p new in
+    listed_as (λ m. has ys m && not (has before n && not (has after n) && eqb m p)) (uses_number pool (slice_set rows p new) (length (slice_set rows p new)) n) zs
+    (λ m.
+    ap (λ x. x && not (has before n && not (has after n) && eqb m p)) (second.members m ∙ ap (λ x. x || (has after n && eqb m p)) (first.members m))
+    ∙ ap₂ (λ a b. (uses_number pool rows (length rows) n m || (a && eqb m p)) && not (b && not a && eqb m p)) ha hb
+    ∙ elim (cases_eq m p) [
+      | inl s ↦
+          let own : uses_number pool rows (length rows) n m ≡ B = ap (uses_number pool rows (length rows) n) s ∙ ap₂ (λ x r. x && row_holds pool r n) (lt-ltb p (length rows) l) o in
+          let now : row_id (slice_set rows p new) m ≡ new = ap (row_id (slice_set rows p new)) s ∙ get_or-set_same rows p new 0 l in
+          ap₂ (λ x y. (x || (A && y)) && not (B && not A && y)) own (eq-eqb m p s) ∙ changed_here A B
+          ∙ sym (ap₂ (λ x r. x && row_holds pool r n) (lt-ltb m (length (slice_set rows p new)) (omega (arith, s, size))) now)
+      | inr ne ↦
+          ap (λ y. (uses_number pool rows (length rows) n m || (A && y)) && not (B && not A && y)) (ne_eqb m p ne) ∙ changed_other (uses_number pool rows (length rows) n m) A B
+          ∙ sym (ap₂ (λ k r. ltb m k && row_holds pool r n) size (get_or-set_other rows p m new 0 ne))
+    ])
+    (g second.ascending)
+
+-- the numbers that a row holds are those of its clauses
+pub held_below : (pool : Interned) (id size n : ℕ) → ((c : List ℕ) → In c (row_at pool id) → (m : ℕ) → In m c → m < size) → row_holds pool id n ≡ true → n < size
+held_below pool id size n f h = let w : (c : List ℕ) × In c (row_at pool id) × In n c = held_by pool id n h in f w.0 w.1 n w.2
+
+-- the list of a number in a table of the rows
+pub list_of_uses : (pool : Interned) (rows : List ℕ) (n : ℕ) → n < length rows → get_or (uses_of pool rows) n [] ≡ users_of pool rows n
+unfolding uses_of
+list_of_uses pool rows n l = at_numbers (users_of pool rows) [] (length rows) 0 n l ∙ ap (users_of pool rows) (omega arith)
+
+-- the lists of a table after the row of one more package
+pub row_added : (pool : Interned) (rows : List ℕ) (k row : ℕ) → row ≡ get_or rows k row → k < length rows → (users lent new : List (Vec ℕ)) (held : List ℕ) → lent ≡ users
+    → ((n : ℕ) → has held n ≡ row_holds pool row n)
+    → ((n : ℕ) → IsListOf (uses_number pool rows k n) (list_in users n))
+    → ((n : ℕ) → Ascending (list_in lent n) → IsListOf (λ m. has (list_in lent n) m || (has held n && eqb m k)) (list_in new n))
+    → (n : ℕ) → IsListOf (uses_number pool rows (k + 1) n) (list_in new n)
+row_added pool rows k row e l users lent new held same h b f n =
+    uses_more pool rows k row n (e ∙ get_or_default_zero rows k row l) (list_in lent n) (list_in new n) held (h n)
+    (subst (λ t. IsListOf (uses_number pool rows k n) (list_in t n)) (sym same) (b n)) (f n)
+
+-- and after the package has another row
+pub uses_replaced : (pool : Interned) (rows : List ℕ) (p old new : ℕ) → p < length rows → row_id rows p ≡ old → (first second third : List (Vec ℕ)) (before after kept : List ℕ)
+    → lists_in first ≡ uses_of pool rows → length second ≡ length first → length third ≡ length second
+    → ((n : ℕ) → has before n ≡ row_holds pool old n) → ((n : ℕ) → has after n ≡ row_holds pool new n) → ((n : ℕ) → has kept n ≡ row_holds pool new n)
+    → ((n : ℕ) → Ascending (list_in first n) → IsListOf (λ m. has (list_in first n) m || (has after n && eqb m p)) (list_in second n))
+    → ((n : ℕ) → Ascending (list_in second n) → IsListOf (λ m. has (list_in second n) m && not (has before n && not (has kept n) && eqb m p)) (list_in third n))
+    → lists_in third ≡ uses_of pool (slice_set rows p new)
+uses_replaced pool rows p old new l o first second third before after kept e s t hb ha hk f g =
+    let size : length (slice_set rows p new) ≡ length rows = length-set rows p new in
+    let whole : length (lists_in third) ≡ length (slice_set rows p new) =
+    length-map third (λ v. v.items) ∙ t ∙ s ∙ sym (length-map first (λ v. v.items)) ∙ ap length e ∙ length_uses pool rows ∙ sym size in
+    is_uses_of (lists_in third) pool (slice_set rows p new) whole
+    (λ n u.
+    let k : n < length rows = omega arith in
+    uses_changed pool rows p old new n l o (list_in first n) (list_in second n) (list_in third n) before after (hb n) (ha n)
+    (ap (λ xs. get_or xs n []) e ∙ list_of_uses pool rows n k) (f n)
+    (λ a. subst (λ b. IsListOf (λ m. has (list_in second n) m && not (has before n && not b && eqb m p)) (list_in third n)) (hk n ∙ sym (ha n)) (g n a)))

@@ -1,0 +1,38 @@
+use Rattle.std.proofs.Common.{◌≡◌, ◌<◌, ◌+◌, ◌++◌, ◌∙◌, ap, sym, subst, length, take, drop, arith}
+use Rattle.std.proofs.lemmas.List.{length-map}
+use Rattle.row_book.specs.Sets.{In, has}
+use Rattle.row_book.specs.Uses.{IsListOf, list_in, lists_in}
+use Rattle.row_book.proofs.Inserts.{In_at}
+use Rattle.row_book.proofs.Users.{held_within, is_uses_of, lent_whole, row_added, uses_number}
+use Rattle.row_book.proofs.uses.UseTable.of.Goals as goal
+
+pub numbers_of-requires : goal.numbers_of-requires
+numbers_of-requires c = c.requires.fit.of_pool c.index-rows-package.result (In_at c.args.rows.now c.loop-package.package c.index-rows-package.result c.loop-package-test.true c.index-rows-package.is)
+
+pub add_to_each-requires : goal.add_to_each-requires
+add_to_each-requires c = λ n h.
+    let row = c.index-rows-package.result in
+    let i : In row c.args.rows.now = In_at c.args.rows.now c.loop-package.package row c.loop-package-test.true c.index-rows-package.is in
+    subst (λ size. n < size) (sym (ap length c.as_mut_slice.ensures.value ∙ c.loop-package.invariant.size))
+    (held_within c.args.pool.now c.args.rows.now row n c.requires.fit i (sym (c.in_ok-numbers.ensures n) ∙ ap (λ xs. has xs n) (sym c.as_slice.ensures.value) ∙ h))
+
+pub loop-package-preserved : goal.loop-package-preserved
+loop-package-preserved c =
+    let users = c.loop-package.users in
+    let new = c.add_to_each.new.table in
+    let k = c.loop-package.package in
+    let size : length new ≡ length users.items = c.add_to_each.auto.table ∙ ap length c.as_mut_slice.ensures.value in
+    let whole : take users.len (new ++ drop (length new) users.items) ≡ new = lent_whole users.len new users.items size users.ok.0 in
+    record {
+      size = ap length whole ∙ size ∙ c.loop-package.invariant.size;
+      listed = λ n.
+          subst (λ t. IsListOf (uses_number c.args.pool.now c.args.rows.now (k + 1) n) (list_in t n)) (sym whole)
+          (row_added c.args.pool.now c.args.rows.now k c.index-rows-package.result c.index-rows-package.is c.loop-package-test.true users.items c.as_mut_slice.result.now new c.as_slice.result.now c.as_mut_slice.ensures.value
+          (λ m. ap (λ xs. has xs m) c.as_slice.ensures.value ∙ c.in_ok-numbers.ensures m) c.loop-package.invariant.listed c.in_ok-add_to_each.ensures.ok n);
+    }
+
+pub returns : goal.returns
+returns c =
+    let all : c.loop-package.package ≡ length c.args.rows.now = omega arith in
+    is_uses_of (lists_in c.loop-package.users.items) c.args.pool.now c.args.rows.now (length-map c.loop-package.users.items (λ v. v.items) ∙ c.loop-package.invariant.size)
+    (λ n l. subst (λ k. IsListOf (uses_number c.args.pool.now c.args.rows.now k n) (list_in c.loop-package.users.items n)) all (c.loop-package.invariant.listed n))

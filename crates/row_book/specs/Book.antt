@@ -1,0 +1,58 @@
+-- Books: what a book of rows means for the pool that its rows are of.
+use Rattle.std.specs.Prelude.{◌≡◌, ℕ, ◌<◌, ◌≤◌, Bool, true, false, ◌&&◌, ◌||◌, eqb, List, [], length, map, filter, slice_index_or}
+use Rattle.std.specs.List.{list_any}
+use Rattle.clause_pool.specs.Interned.{Interned, ids_at, row_at}
+use Rattle.row_book.specs.Sets.{In, has}
+use Rattle.row_book.specs.Clauses.{Ascending, Inside, numbers}
+use Rattle.row_book.specs.Uses.{row_id}
+use Rattle.row_book.specs.Repository.{Repository}
+use Rattle.row_book.specs.declared.book.Book.{Book}
+use Rattle.row_book.specs.declared.pair.Pair.{Pair}
+
+-- the repository of a book: for each package the clauses of its row, and the packages that conflict with it
+abbrev pub repository_of : Interned → Book → Repository
+repository_of pool book = record { clauses = map (row_at pool) book.rows; conflicts = book.conflicts }
+
+-- rows of the pool, of which each number is below the number of rows
+pub record RowsFit (pool : Interned) (rows : List ℕ) : Type 0 where
+  pub of_pool : (id : ℕ) → In id rows → id < length pool.rows
+  pub numbers : (id : ℕ) → In id rows → (c : List ℕ) → In c (row_at pool id) → (n : ℕ) → In n c → n < length rows
+
+-- the conflicts of a package, as its list in a table
+abbrev pub listed_for : List (List ℕ) → ℕ → List ℕ
+listed_for table p = slice_index_or table p []
+
+-- lists of conflicts: each strictly ascending, either way round, and without the package itself
+pub record AreConflicts (table : List (List ℕ)) : Type 0 where
+  pub ascending : (p : ℕ) → Ascending (listed_for table p)
+  pub either_way : (p q : ℕ) → has (listed_for table p) q ≡ true → has (listed_for table q) p ≡ true
+  pub apart : (p : ℕ) → has (listed_for table p) p ≡ false
+
+-- a book is sound for a pool: its rows are of the pool, every number in them is a package, and so are its
+-- conflicts
+pub record Sound (pool : Interned) (book : Book) : Type 0 where
+  pub rows : RowsFit pool book.rows
+  pub conflicts : AreConflicts book.conflicts
+
+-- one of the pairs is of the two packages
+abbrev pub are_paired : List Pair → ℕ → ℕ → Bool
+are_paired pairs p q = list_any (λ pair. (eqb pair.low p && eqb pair.high q) || (eqb pair.low q && eqb pair.high p)) pairs
+
+-- for each of so many packages, ascending, those that it is paired with
+unfoldable pub lists_of_pairs : List Pair → ℕ → List (List ℕ)
+lists_of_pairs pairs size = map (λ p. filter (are_paired pairs p) (numbers size 0)) (numbers size 0)
+
+-- the lesser package of each pair first, and both below the size
+pub record PairsFit (pairs : List Pair) (size : ℕ) : Type 0 where
+  pub ordered : (pair : Pair) → In pair pairs → pair.low < pair.high
+  pub below : (pair : Pair) → In pair pairs → pair.high < size
+
+-- the pool has gained these rows and their clauses alone
+pub record AddsOnly (old new : Interned) (gained : List ℕ) : Type 0 where
+  pub rows : (id : ℕ) → length old.rows ≤ id → id < length new.rows → In id gained
+  pub clauses : (id : ℕ) → length old.clauses ≤ id → id < length new.clauses → (row : ℕ) × In row gained × In id (ids_at new row)
+
+-- no clause of a row holds the row's own package, or includes another clause of that row
+pub record RowsTidy (pool : Interned) (rows : List ℕ) : Type 0 where
+  pub apart : (p : ℕ) → p < length rows → (c : List ℕ) → In c (row_at pool (row_id rows p)) → In p c → ⊥
+  pub minimal : (p : ℕ) → p < length rows → (c d : List ℕ) → In c (row_at pool (row_id rows p)) → In d (row_at pool (row_id rows p)) → Inside c d → c ≡ d

@@ -1,0 +1,41 @@
+-- Which packages name which: for each number the packages whose row has a clause that holds it.
+use Rattle.std.specs.Prelude.{◌≡◌, ℕ, ◌-◌, Bool, List, [], map, filter, length, slice_index_or}
+use Rattle.std.specs.List.{list_any}
+use Rattle.std.specs.Global.{Vec}
+use Rattle.std.specs.Vec.{vec_capacity, vec_len}
+use Rattle.clause_pool.specs.Interned.{Interned, row_at}
+use Rattle.row_book.specs.Sets.{NumSet, has}
+use Rattle.row_book.specs.Clauses.{Ascending, numbers}
+
+-- the id of the row of a package
+abbrev pub row_id : List ℕ → ℕ → ℕ
+row_id rows p = slice_index_or rows p 0
+
+-- a clause of the row holds the number
+abbrev pub row_holds : Interned → ℕ → ℕ → Bool
+row_holds pool id n = list_any (λ c. has c n) (row_at pool id)
+
+-- the packages whose row has a clause that holds the number, ascending
+abbrev pub users_of : Interned → List ℕ → ℕ → List ℕ
+users_of pool rows n = filter (λ p. row_holds pool (row_id rows p) n) (numbers (length rows) 0)
+
+-- for each number its users
+unfoldable pub uses_of : Interned → List ℕ → List (List ℕ)
+uses_of pool rows = map (users_of pool rows) (numbers (length rows) 0)
+
+-- the members of a set, ascending
+pub record IsListOf (S : NumSet) (xs : List ℕ) : Type 0 where
+  pub ascending : Ascending xs
+  pub members : (m : ℕ) → has xs m ≡ S m
+
+-- the lists of a table
+abbrev pub lists_in : List (Vec ℕ) → List (List ℕ)
+lists_in table = map (λ v. v.items) table
+
+-- the list of a number in a table, empty where the table has none
+abbrev pub list_in : List (Vec ℕ) → ℕ → List ℕ
+list_in table n = slice_index_or (lists_in table) n []
+
+-- how many more packages the list of a number takes without new memory
+abbrev pub room_in : List (Vec ℕ) → ℕ → ℕ
+room_in table n = slice_index_or (map (λ v. vec_capacity v - vec_len v) table) n 0

@@ -1,0 +1,110 @@
+//! Books: for each package its row in a pool and the packages that conflict with it.
+ghost use Rattle.std.specs.Prelude.{◌≡◌, ◌<◌, IfOk, length};
+
+use crate::pair::Pair;
+use crate::pairing::conflict_lists;
+use clause_pool::{NumList, Pool, RowId};
+use listed::Listed;
+use std::alloc::{AllocError, Global};
+
+/// A row for each package.
+pub type RowList = Listed<RowId>;
+
+/// For each package, ascending, the packages that conflict with it.
+pub type ConflictTable = Listed<NumList>;
+
+/// The packages of a repository, numbered from 0: fewer than 4,294,967,295.
+#[derive(Drop)]
+pub struct Book {
+    /// The row of each package, in one pool.
+    pub rows: RowList,
+    /// The conflicts of each package.
+    pub conflicts: ConflictTable,
+    ghost few: { length rows < 4294967295 },
+    ghost paired: { length conflicts ≡ length rows },
+}
+
+impl Book {
+    ghost use Rattle.std.specs.Prelude.{◌≡◌, ◌<◌, List, [], IfOk, length, slice_index_or};
+    ghost use Rattle.row_book.specs.Sets.{has};
+    ghost use Rattle.row_book.specs.Book.{listed_for, lists_of_pairs, PairsFit, RowsFit, Sound};
+
+    /// The book of these rows of the pool, in which the packages of each pair conflict; it fails only where no memory is
+    /// found. A pair may stand twice.
+    pub fn build(
+        alloc: Global,
+        pool: &Pool,
+        rows: &[RowId],
+        pairs: &[Pair],
+    ) -> Result<Book, AllocError>
+        requires few { length rows.now < 4294967295 }
+        requires fit { RowsFit pool.now rows.now }
+        requires pairs { PairsFit pairs.now (length rows.now) }
+        ensures rows { IfOk result (λ book. book.rows ≡ rows.now) }
+        ensures conflicts { IfOk result (λ book. book.conflicts ≡ lists_of_pairs pairs.now (length rows.now)) }
+        ensures sound { IfOk result (Sound pool.now) }
+    {
+        let conflicts = conflict_lists(alloc, pairs, rows.len())?;
+        let rows = Vec::from_slice(alloc, rows)?;
+        Ok(Book {
+            rows: Listed::of(rows),
+            conflicts: Listed::of(conflicts),
+        })
+    }
+
+    /// A book with the same rows and conflicts; it fails only where no memory is found.
+    pub fn copy(&self, alloc: Global) -> Result<Book, AllocError>
+        ensures rows { IfOk result (λ book. book.rows ≡ self.now.rows) }
+        ensures conflicts { IfOk result (λ book. book.conflicts ≡ self.now.conflicts) }
+    {
+        let conflicts = copied(alloc, self.conflicts.as_slice())?;
+        let rows = Vec::from_slice(alloc, self.rows.as_slice())?;
+        Ok(Book {
+            rows: Listed::of(rows),
+            conflicts: Listed::of(conflicts),
+        })
+    }
+
+    /// The number of packages; it takes no memory.
+    pub fn size(&self) -> u32
+        ensures { result ≡ length self.now.rows }
+    {
+        self.rows.as_slice().len() as u32
+    }
+
+    /// The row of a package below the size; it takes no memory.
+    pub fn row(&self, package: u32) -> RowId
+        requires { «package» < length self.now.rows }
+        ensures { result ≡ slice_index_or self.now.rows «package» 0 }
+    {
+        self.rows.as_slice()[package as usize]
+    }
+
+    /// Lends, ascending, the packages that conflict with a package below the size; it takes no memory.
+    pub fn against(&self, package: u32) -> &[u32]
+        requires { «package» < length self.now.rows }
+        ensures { result.now ≡ listed_for self.now.conflicts «package» }
+    {
+        self.conflicts.as_slice()[package as usize].as_slice()
+    }
+
+    /// Whether the second package is among the conflicts of the first, both below the size; it takes no memory.
+    pub fn conflicts_with(&self, a: u32, b: u32) -> bool
+        requires a { a < length self.now.rows }
+        requires b { b < length self.now.rows }
+        ensures { result ≡ has (listed_for self.now.conflicts a) b }
+    {
+        self.against(a).iter().any(|&other| b == other)
+    }
+}
+
+/// The same lists.
+fn copied(alloc: Global, lists: &[NumList]) -> Result<Vec<NumList>, AllocError>
+    ensures { IfOk result (λ made. made.items ≡ lists.now) }
+{
+    let mut made = Vec::new(alloc);
+    for list in lists {
+        made.push(Listed::of(Vec::from_slice(alloc, list.as_slice())?))?;
+    }
+    Ok(made)
+}

@@ -1,0 +1,111 @@
+//! Whether a set of packages is healthy, and the first reason why not.
+ghost use Rattle.std.specs.Prelude.{◌≡◌, ◌<◌, ◌&&◌, ltb, length, IfErr, MatchOption, OnOk};
+ghost use Rattle.std.specs.List.{find};
+ghost use Rattle.clause_pool.specs.Interned.{clauses_at, OfPool};
+ghost use Rattle.row_book.specs.Sets.{HitsAll};
+ghost use Rattle.row_book.specs.Repository.{Healthy};
+ghost use Rattle.row_book.specs.Book.{repository_of, AreConflicts, Sound};
+ghost use Rattle.row_book.specs.Flags.{flag};
+ghost use Rattle.row_book.specs.Health.{AllSatisfied, HasNoClash, IsFirstClash, IsFirstFault, IsFirstUnhit};
+
+use crate::book::Book;
+use crate::pair::Pair;
+use crate::subsets::{hits_clause, is_member};
+use clause_pool::{ClauseId, Pool};
+
+/// The first reason why a set of packages is not healthy.
+#[derive(Clone, Copy, Debug, PartialEq, Eq)]
+pub enum Unhealthy {
+    /// A clause of a package of the set, counted from 0, of which the set has no number.
+    Unhit {
+        /// The least package with such a clause.
+        package: u32,
+        /// The place of its first such clause.
+        clause: u64,
+    },
+    /// Two packages of the set that conflict, where every clause is hit.
+    Clash {
+        /// The least package that conflicts with a greater one of the set.
+        first: u32,
+        /// The least of those that it conflicts with.
+        second: u32,
+    },
+}
+
+impl Book {
+    /// Whether the packages with a flag that is up are a healthy set, or the first reason why not: a clause that is not hit,
+    /// by package and place, and else a conflict, by its lesser and then by its greater number. It takes no memory.
+    pub fn is_healthy(&self, pool: &Pool, chosen: &[bool]) -> Result<(), Unhealthy>
+        requires sound { Sound pool.now self.now }
+        requires flags { length chosen.now ≡ length self.now.rows }
+        ensures healthy { OnOk result (Healthy (repository_of pool.now self.now) (flag chosen.now)) }
+        ensures refused { IfErr result (IsFirstFault (repository_of pool.now self.now) (flag chosen.now)) }
+    {
+        self.check_clauses(pool, chosen)?;
+        match self.first_clash(chosen) {
+            Some(pair) => Err(Unhealthy::Clash {
+                first: pair.low,
+                second: pair.high,
+            }),
+            None => Ok(()),
+        }
+    }
+
+    /// Whether each clause of each chosen package is hit, or the first that is not.
+    fn check_clauses(&self, pool: &Pool, chosen: &[bool]) -> Result<(), Unhealthy>
+        requires sound { Sound pool.now self.now }
+        requires flags { length chosen.now ≡ length self.now.rows }
+        ensures satisfied { OnOk result (AllSatisfied (repository_of pool.now self.now) (flag chosen.now)) }
+        ensures refused { IfErr result (IsFirstFault (repository_of pool.now self.now) (flag chosen.now)) }
+    {
+        for package in 0..self.size() {
+            if is_member(chosen, package) {
+                let ids = pool.row(self.row(package));
+                if let Some(clause) = first_unhit(pool, ids, chosen) {
+                    return Err(Unhealthy::Unhit { package, clause });
+                }
+            }
+        }
+        Ok(())
+    }
+
+    /// The first two chosen packages that conflict.
+    fn first_clash(&self, chosen: &[bool]) -> Option<Pair>
+        requires conflicts { AreConflicts self.now.conflicts }
+        requires flags { length chosen.now ≡ length self.now.rows }
+        ensures { MatchOption result (HasNoClash self.now.conflicts (flag chosen.now))
+            (λ pair. IsFirstClash self.now.conflicts (flag chosen.now) pair.low pair.high) }
+    {
+        for low in 0..self.size() {
+            if is_member(chosen, low) {
+                if let Some(high) = first_foe(self.against(low), low, chosen) {
+                    return Some(Pair { low, high });
+                }
+            }
+        }
+        None
+    }
+}
+
+/// The place of the first clause that is not hit.
+fn first_unhit(pool: &Pool, ids: &[ClauseId], chosen: &[bool]) -> Option<u64>
+    requires { OfPool pool.now ids.now }
+    ensures { MatchOption result (HitsAll (flag chosen.now) (clauses_at pool.now ids.now))
+        (IsFirstUnhit (clauses_at pool.now ids.now) (flag chosen.now)) }
+{
+    for (place, id) in ids.iter().enumerate() {
+        if !hits_clause(chosen, pool.slice(*id)) {
+            return Some(place as u64);
+        }
+    }
+    None
+}
+
+/// The first of the packages that is chosen and greater than the given one.
+fn first_foe(foes: &[u32], low: u32, chosen: &[bool]) -> Option<u32>
+    ensures { result ≡ find (λ n. ltb low n && flag chosen.now n) foes.now }
+{
+    foes.iter()
+        .copied()
+        .find(|&foe| low < foe && is_member(chosen, foe))
+}

@@ -1,0 +1,195 @@
+//! Which packages name which.
+ghost use Rattle.std.specs.Prelude.{◌≡◌, ◌<◌, ◌-◌, ◌⊎◌, ◌&&◌, ◌||◌, ℕ, List, [], IfOk, OnOk, OnErr, true, not, eqb, length, slice_set, vec_capacity, vec_len};
+ghost use Rattle.std.specs.List.Sorted.{IsNonDecreasing};
+ghost use Rattle.clause_pool.specs.Interned.{row_at};
+ghost use Rattle.row_book.specs.Sets.{In, has, plus, without};
+ghost use Rattle.row_book.specs.Clauses.{Ascending};
+ghost use Rattle.row_book.specs.Book.{listed_for, RowsFit};
+ghost use Rattle.row_book.specs.Uses.{row_holds, row_id, uses_of, IsListOf, lists_in, list_in, room_in};
+
+use clause_pool::{Pool, RowId};
+use std::alloc::{AllocError, Global};
+use std::marker::Model;
+
+/// For each number of a package the packages whose rows have a clause that holds it.
+#[derive(Drop)]
+pub struct UseTable {
+    users: Vec<Vec<u32>>,
+}
+
+impl Model for UseTable {
+    ghost use Rattle.std.specs.Prelude.{List, ℕ};
+    ghost use Rattle.std.specs.Coded.{coded_list, coded_ℕ};
+    ghost use Rattle.row_book.specs.Uses.{lists_in};
+
+    ghost Value = { List (List ℕ) };
+
+    ghost coded = { coded_list (coded_list coded_ℕ) };
+
+    ghost view = { λ s. lists_in s.users.items };
+}
+
+impl UseTable {
+    /// The table of the rows; it fails only where no memory is found.
+    pub fn of(alloc: Global, pool: &Pool, rows: &[RowId]) -> Result<UseTable, AllocError>
+        requires few { length rows.now < 4294967295 }
+        requires fit { RowsFit pool.now rows.now }
+        ensures { IfOk result (λ table. table ≡ uses_of pool.now rows.now) }
+    {
+        let mut users = empty_lists(alloc, rows.len())?;
+        for (package, row) in rows.iter().enumerate() {
+            let numbers = numbers_of(alloc, pool, *row)?;
+            add_to_each(users.as_mut_slice(), numbers.as_slice(), package as u32)?;
+        }
+        Ok(UseTable { users })
+    }
+
+    /// Lends, ascending, the packages whose row has a clause that holds the number; it takes no memory.
+    pub fn packages(&self, literal: u32) -> &[u32]
+        requires { literal < length self.now }
+        ensures { result.now ≡ listed_for self.now literal }
+    {
+        self.users[literal as usize].as_slice()
+    }
+
+    /// Puts a new row in the place of the old one of a package: a table of rows in which the package has the old row is
+    /// then that of the same rows with the new one there. Where no memory is found, the table stays as it was.
+    pub fn replace(
+        &mut self,
+        alloc: Global,
+        pool: &Pool,
+        package: u32,
+        old: RowId,
+        new: RowId,
+    ) -> Result<(), AllocError>
+        requires old { old < length pool.now.rows }
+        requires new { new < length pool.now.rows }
+        requires old_numbers { (c : List ℕ) → In c (row_at pool.now old) → (n : ℕ) → In n c → n < length self.old }
+        requires numbers { (c : List ℕ) → In c (row_at pool.now new) → (n : ℕ) → In n c → n < length self.old }
+        ensures ok { OnOk result ((rows : List ℕ) → «package» < length rows → row_id rows «package» ≡ old →
+            self.old ≡ uses_of pool.now rows → self.new ≡ uses_of pool.now (slice_set rows «package» new)) }
+        ensures err { OnErr result (self.new ≡ self.old) }
+    {
+        let before = numbers_of(alloc, pool, old)?;
+        let after = sorted_numbers_of(alloc, pool, new)?;
+        let table = self.users.as_mut_slice();
+        add_to_each(table, after.as_slice(), package)?;
+        take_from_each(table, before.as_slice(), after.as_slice(), package);
+        Ok(())
+    }
+}
+
+/// So many empty lists.
+fn empty_lists(alloc: Global, size: usize) -> Result<Vec<Vec<u32>>, AllocError>
+    ensures size { IfOk result (λ made. length made.items ≡ size) }
+    ensures empty { IfOk result (λ made. (n : ℕ) → list_in made.items n ≡ []) }
+{
+    let mut made = Vec::new(alloc);
+    for _i in 0..size {
+        made.push(Vec::new(alloc))?;
+    }
+    Ok(made)
+}
+
+/// The numbers that the clauses of a row hold.
+fn numbers_of(alloc: Global, pool: &Pool, row: RowId) -> Result<Vec<u32>, AllocError>
+    requires { row < length pool.now.rows }
+    ensures { IfOk result (λ found. (n : ℕ) → has found.items n ≡ row_holds pool.now row n) }
+{
+    let mut found = Vec::new(alloc);
+    for clause in pool.row(row) {
+        found.extend_from_slice(pool.slice(*clause))?;
+    }
+    Ok(found)
+}
+
+/// The numbers that the clauses of a row hold, in their order.
+fn sorted_numbers_of(alloc: Global, pool: &Pool, row: RowId) -> Result<Vec<u32>, AllocError>
+    requires { row < length pool.now.rows }
+    ensures members { IfOk result (λ found. (n : ℕ) → has found.items n ≡ row_holds pool.now row n) }
+    ensures sorted { IfOk result (λ found. IsNonDecreasing found.items) }
+{
+    let mut found = numbers_of(alloc, pool, row)?;
+    found.sort_unstable();
+    Ok(found)
+}
+
+/// Puts the package into the list of each of the numbers, where it is not there yet; where no memory is found, the lists
+/// stay as they were.
+fn add_to_each(table: &mut [Vec<u32>], numbers: &[u32], package: u32) -> Result<(), AllocError>
+    requires { (n : ℕ) → has numbers.now n ≡ true → n < length table.old }
+    ensures ok { OnOk result ((n : ℕ) → Ascending (list_in table.old n) →
+        IsListOf (λ m. has (list_in table.old n) m || (has numbers.now n && eqb m «package»)) (list_in table.new n)) }
+    ensures err { OnErr result (lists_in table.new ≡ lists_in table.old) }
+{
+    make_room(table, numbers)?;
+    put_into_each(table, numbers, package);
+    Ok(())
+}
+
+/// Makes room for one more package in the list of each of the numbers.
+fn make_room(table: &mut [Vec<u32>], numbers: &[u32]) -> Result<(), AllocError>
+    requires { (n : ℕ) → has numbers.now n ≡ true → n < length table.old }
+    ensures lists { lists_in table.new ≡ lists_in table.old }
+    ensures room { OnOk result ((n : ℕ) → has numbers.now n ≡ true → 0 < room_in table.new n) }
+{
+    for number in numbers {
+        table[*number as usize].reserve(1)?;
+    }
+    Ok(())
+}
+
+/// Puts the package into the list of each of the numbers, all of which have room, where it is not there yet.
+fn put_into_each(table: &mut [Vec<u32>], numbers: &[u32], package: u32)
+    requires within { (n : ℕ) → has numbers.now n ≡ true → n < length table.old }
+    requires room { (n : ℕ) → has numbers.now n ≡ true → 0 < room_in table.old n }
+    ensures { (n : ℕ) → Ascending (list_in table.old n) →
+        IsListOf (λ m. has (list_in table.old n) m || (has numbers.now n && eqb m «package»)) (list_in table.new n) }
+{
+    for number in numbers {
+        put(&mut table[*number as usize], package);
+    }
+}
+
+/// Takes the package out of the list of each of the numbers that is not among those kept.
+fn take_from_each(table: &mut [Vec<u32>], numbers: &[u32], kept: &[u32], package: u32)
+    requires sorted { IsNonDecreasing kept.now }
+    requires within { (n : ℕ) → has numbers.now n ≡ true → n < length table.old }
+    ensures { (n : ℕ) → Ascending (list_in table.old n) →
+        IsListOf (λ m. has (list_in table.old n) m && not (has numbers.now n && not (has kept.now n) && eqb m «package»)) (list_in table.new n) }
+{
+    for number in numbers {
+        if holds(kept, *number) {
+            continue;
+        }
+        take_out(&mut table[*number as usize], package);
+    }
+}
+
+/// Whether the number is among those of a sorted list.
+fn holds(sorted: &[u32], number: u32) -> bool
+    requires { IsNonDecreasing sorted.now }
+    ensures { result ≡ has sorted.now number }
+{
+    sorted.binary_search(&number).is_ok()
+}
+
+/// Puts a number into its place in an ascending list with room for one more, where it is not there yet.
+fn put(list: &mut Vec<u32>, number: u32)
+    ensures { Ascending list.old.items → (has list.old.items number ≡ true) ⊎ (0 < vec_capacity list.old - vec_len list.old) →
+        IsListOf (plus (has list.old.items) number) list.new.items }
+{
+    if let Err(place) = list.as_slice().binary_search(&number) {
+        // with room left it is always put in
+        let _ = list.insert(place, number);
+    }
+}
+
+/// Takes a number out of an ascending list, where it is there.
+fn take_out(list: &mut Vec<u32>, number: u32)
+    ensures { Ascending list.old.items → IsListOf (without (has list.old.items) number) list.new.items }
+{
+    if let Ok(place) = list.as_slice().binary_search(&number) {
+        list.remove(place);
+    }
+}

@@ -11,5 +11,16 @@ pub mod Tables
 pub mod Flat
 pub mod Stages
 pub mod Shortcuts
+pub mod Members
+pub mod Families
+pub mod Rewritten
+pub mod Replacing
+pub mod Midway
+pub mod Small
+pub mod Turns
+pub mod Tidied
+pub mod Runs
+pub mod Flattened
+pub mod SmallBooks
 mod Examples
 mod Refuted

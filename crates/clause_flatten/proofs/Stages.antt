@@ -71,7 +71,7 @@ unfolding flat
 flat_by_stages_lem R sound = ap (λ s. record { clauses = s.table; conflicts = R.conflicts }) (sym (stages_run_lem R sound (length R.clauses)))
 
 -- equal counts pass the limit at one place
-passed_same : (f g : ℕ → ℕ) (limit i : ℕ) (ps : List ℕ) → ((p : ℕ) → In p ps → f p ≡ g p) → passed_by f ps limit i ≡ passed_by g ps limit i
+pub passed_same : (f g : ℕ → ℕ) (limit i : ℕ) (ps : List ℕ) → ((p : ℕ) → In p ps → f p ≡ g p) → passed_by f ps limit i ≡ passed_by g ps limit i
 passed_same f g limit i [] e = refl
 passed_same f g limit i (p ∷ ps) e =
     pick (ltb limit (f p)) (passed_same f g limit i ps (λ q j. e q (there j))) ∙ ap (λ b. option_map (made g) (cond b (Some p) (find (λ p. ltb limit (g p)) ps))) (ap (ltb limit) (e p here))
@@ -91,7 +91,7 @@ passes_by_stages_lem R sound limit =
     ∙ passed_same (length_in (rows_over R (left_after R i))) (row_length R (left_after R i)) limit i (packages R) (same_length R (left_after R i)))))
 
 -- where no package is taken out the stages stay
-stays_more : (R : Repository) (i : ℕ) → next_gone R (left_after R i) ≡ None → (n : ℕ) → left_after R (n + i) ≡ left_after R i
+pub stays_more : (R : Repository) (i : ℕ) → next_gone R (left_after R i) ≡ None → (n : ℕ) → left_after R (n + i) ≡ left_after R i
 unfolding left_after
 stays_more R i e zero = ap (left_after R) (omega arith)
 stays_more R i e (suc n) =

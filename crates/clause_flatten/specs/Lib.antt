@@ -5,5 +5,10 @@ pub use Rattle.row_book.specs.Support
 pub use Rattle.row_book.specs.Sound
 pub use Rattle.row_book.specs.Flattening
 pub mod Substitution
+pub mod Families
 pub mod Laws
 pub mod FlatLaws
+pub mod Refusals
+pub mod Waiting
+pub mod TidyRows
+pub mod TakingOut

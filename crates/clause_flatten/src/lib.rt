@@ -1,16 +1,33 @@
 //! Flattening: packages without conflicts are taken out one after another, and the clauses of each
 //! package are told in terms of those that are left. Every set of packages stays co-installable or
-//! not. The functions of this crate do nothing: the contract of each is one law.
+//! not: the functions of `elimination` and `support` do nothing, the contract of each is one law.
 #![tactic(auto)]
 
 mod elimination;
+pub mod error;
+mod family;
+mod flattening;
+mod rewriting;
+mod scratch;
+mod substitution;
 mod support;
+mod taking_out;
+mod tidy_rows;
+mod waiting;
 
 pub use elimination::{
     core_is_reached, core_is_the_conflicted, flat_by_stages, flat_keeps, next_is_least, one_row,
     passes_by_stages, stages_run, table_step,
 };
+pub use error::FlatError;
+pub use flattening::flatten;
+pub use substitution::eliminate;
 pub use support::{
     first_rows, keeps_every_set, lift_is_healthy, one_step, own_row_stays, row_computes,
     row_is_one, row_tells, substitutes, support_grows, union_merges, untouched_stays,
 };
+
+#[cfg(test)]
+mod book_tests;
+#[cfg(test)]
+mod tests;

@@ -1,0 +1,134 @@
+-- The rows in the middle of an elimination: those of some users are replaced.
+use Rattle.std.proofs.Common.{◌≡◌, ◌≢◌, ℕ, ◌<◌, ◌+◌, List, [], ◌∷◌, ◌++◌, length, get_or, take, map, ◌⊎◌, inl, inr, refl, sym, ◌∙◌, ap, ap₂, subst}
+use Rattle.std.proofs.lemmas.Bool.{cases_eq}
+use Rattle.std.proofs.lemmas.List.{take_more}
+use Rattle.clause_pool.specs.Interned.{Interned, IsPool, Kept, row_at}
+use Rattle.clause_pool.proofs.Lists.{In_at}
+use Rattle.row_book.specs.Sets.{In, here}
+use Rattle.row_book.specs.Clauses.{Ascending, ordered}
+use Rattle.row_book.specs.Book.{RowsFit, RowsTidy}
+use Rattle.row_book.specs.Uses.{row_id, users_of, uses_of}
+use Rattle.row_book.proofs.Lists.{In_append_cases, In_append_left, In_append_right, In_cases, In_none, decided_in}
+use Rattle.clause_flatten.specs.Substitution.{eliminated, substituted, table_row}
+use Rattle.clause_flatten.proofs.Families.{kept_trans}
+use Rattle.clause_flatten.proofs.Replacing.{id_in, in_take, not_before, not_user, other_eliminated, own_eliminated, own_user, row_kept, table_same, tidy_untouched, user_in, users_up}
+
+pub record Midway (start : Interned) (first : List ℕ) (q : ℕ) (pool : Interned) (rows : List ℕ) (uses : List (List ℕ)) (done : List ℕ) : Type 0 where
+  pub size : length rows ≡ length first
+  pub kept : Kept start pool
+  pub fit : RowsFit pool rows
+  pub tidy : RowsTidy pool rows
+  pub table : uses ≡ uses_of pool rows
+  pub changed : (p : ℕ) → In p done → row_at pool (row_id rows p) ≡ ordered (substituted p q (row_at start (row_id first p)) (row_at start (row_id first q)))
+  pub same : (p : ℕ) → (In p done → ⊥) → row_id rows p ≡ row_id first p
+
+pub kept_self : (pool : Interned) → Kept pool pool
+kept_self pool = record { clauses = λ id l. (l, refl); rows = λ id l. (l, refl) }
+
+pub midway_start : (start : Interned) (first : List ℕ) (q : ℕ) (uses : List (List ℕ)) → RowsFit start first → RowsTidy start first → uses ≡ uses_of start first → Midway start first q start first uses []
+midway_start start first q uses fit tidy table = record {
+  size = refl;
+  kept = kept_self start;
+  fit = fit;
+  tidy = tidy;
+  table = table;
+  changed = λ p i. absurd (In_none i);
+  same = λ p f. refl;
+}
+
+-- what the replacing of one row keeps, whether it is refused or not
+pub record Around (pool : Interned) (rows : List ℕ) (user : ℕ) (next : Interned) (after : List ℕ) (uses : List (List ℕ)) : Type 0 where
+  pub size : length after ≡ length rows
+  pub kept : Kept pool next
+  pub fit : RowsFit next after
+  pub tidy : RowsTidy next after
+  pub table : uses ≡ uses_of next after
+  pub others : (p : ℕ) → p ≢ user → row_id after p ≡ row_id rows p
+  pub stay : (p : ℕ) → p < length rows → p ≢ user → row_at next (row_id after p) ≡ row_at pool (row_id rows p)
+
+module _ (start : Interned) (first : List ℕ) (q : ℕ) (is : IsPool start) (fit : RowsFit start first) (tidy : RowsTidy start first) (q_in : q < length first)
+    (users : List ℕ) (users_is : users ≡ users_of start first q) where
+  pub below : (p : ℕ) → In p users → p < length first
+  below p i = user_in start first q p (subst (λ z. In p z) users_is i)
+
+  not_own : (p : ℕ) → In p users → p ≢ q
+  not_own p i e = own_user start first q tidy q_in (subst (λ z. In z (users_of start first q)) e (subst (λ z. In p z) users_is i))
+
+  fresh : (i : ℕ) → i < length users → In (get_or users i 0) (take i users) → ⊥
+  fresh i l = not_before users i (subst (λ z. Ascending z) (sym users_is) (users_up start first q)) l
+
+  -- a row that is not done reads as it did at the start
+  reads : (pool : Interned) (rows : List ℕ) (uses : List (List ℕ)) (done : List ℕ) → Midway start first q pool rows uses done → (p : ℕ) → p < length first → (In p done → ⊥) →
+      row_at pool (row_id rows p) ≡ row_at start (row_id first p)
+  reads pool rows uses done m p l f = ap (row_at pool) (m.same p f) ∙ row_kept start pool is m.kept (row_id first p) (fit.of_pool (row_id first p) (id_in first p l))
+
+  module _ (i : ℕ) (l : i < length users) (pool : Interned) (rows : List ℕ) (uses : List (List ℕ)) (m : Midway start first q pool rows uses (take i users))
+      (next : Interned) (after : List ℕ) (more : List (List ℕ)) (a : Around pool rows (get_or users i 0) next after more) where
+    still_changed : (p : ℕ) → In p (take i users) → row_at next (row_id after p) ≡ ordered (substituted p q (row_at start (row_id first p)) (row_at start (row_id first q)))
+    still_changed p j =
+        a.stay p (subst (λ z. p < z) (sym m.size) (below p (in_take users i p j))) (λ e. fresh i l (subst (λ z. In z (take i users)) e j)) ∙ m.changed p j
+
+    pub midway_refused : after ≡ rows → Midway start first q next after more (take i users)
+    midway_refused e = record {
+      size = a.size ∙ m.size;
+      kept = kept_trans start pool next m.kept a.kept;
+      fit = a.fit;
+      tidy = a.tidy;
+      table = a.table;
+      changed = still_changed;
+      same = λ p f. ap (λ z. row_id z p) e ∙ m.same p f;
+    }
+
+    pub midway_step : row_at next (row_id after (get_or users i 0)) ≡ ordered (substituted (get_or users i 0) q (row_at pool (row_id rows (get_or users i 0))) (row_at pool (row_id rows q))) →
+        Midway start first q next after more (take (i + 1) users)
+    midway_step made =
+        let user : ℕ = get_or users i 0 in
+        let grown : take (i + 1) users ≡ take i users ++ user ∷ [] = take_more users i 0 l in
+        let user_there : In user users = In_at users i 0 l in
+        record {
+          size = a.size ∙ m.size;
+          kept = kept_trans start pool next m.kept a.kept;
+          fit = a.fit;
+          tidy = a.tidy;
+          table = a.table;
+          changed = λ p j. elim (In_append_cases (take i users) (user ∷ []) p (subst (λ z. In p z) grown j)) [
+            | inl k ↦ still_changed p k
+            | inr k ↦ elim (In_cases k) [
+              | inl e ↦
+                  subst (λ z. row_at next (row_id after z) ≡ ordered (substituted z q (row_at start (row_id first z)) (row_at start (row_id first q)))) (sym e)
+                  (made ∙ ap₂ (λ x y. ordered (substituted user q x y)) (reads pool rows uses (take i users) m user (below user user_there) (fresh i l))
+                  (reads pool rows uses (take i users) m q q_in (λ o. not_own q (in_take users i q o) refl)))
+              | inr o ↦ absurd (In_none o)
+            ]
+          ];
+          same = λ p f.
+              a.others p (λ e. f (subst (λ z. In p z) (sym grown) (In_append_right (take i users) (user ∷ []) p (subst (λ z. In p (z ∷ [])) e here))))
+              ∙ m.same p (λ o. f (subst (λ z. In p z) (sym grown) (In_append_left (take i users) (user ∷ []) p o)));
+        }
+
+  module _ (pool : Interned) (rows : List ℕ) (uses : List (List ℕ)) where
+    pub each_row : (i : ℕ) → Midway start first q pool rows uses (take i users) → (p : ℕ) → p < length first →
+        (row_id rows p ≡ row_id first p) ⊎ (row_at pool (row_id rows p) ≡ table_row (eliminated q (map (row_at start) first)) p)
+    each_row i m p l =
+        elim (decided_in p (take i users)) [
+          | inl j ↦ inr (m.changed p j ∙ sym (other_eliminated start first q q_in p l (not_own p (in_take users i p j))))
+          | inr f ↦ inl (m.same p f)
+        ]
+
+    pub all_rows : (i : ℕ) → take i users ≡ users → Midway start first q pool rows uses (take i users) → map (row_at pool) rows ≡ eliminated q (map (row_at start) first)
+    all_rows i all half =
+        let m : Midway start first q pool rows uses users = subst (λ z. Midway start first q pool rows uses z) all half in
+        table_same start first q q_in pool rows m.size (λ p l.
+        elim (cases_eq p q) [
+          | inl e ↦
+              subst (λ z. row_at pool (row_id rows z) ≡ table_row (eliminated q (map (row_at start) first)) z) (sym e)
+              (reads pool rows uses users m q q_in (λ o. not_own q o refl) ∙ sym (own_eliminated start first q q_in))
+          | inr ne ↦ elim (decided_in p users) [
+            | inl j ↦ m.changed p j ∙ sym (other_eliminated start first q q_in p l ne)
+            | inr f ↦
+                reads pool rows uses users m p l f
+                ∙ sym (tidy_untouched p q (row_at start (row_id first p)) (row_at start (row_id first q)) (is.in_order (row_id first p) (fit.of_pool (row_id first p) (id_in first p l)))
+                (tidy.apart p l) (tidy.minimal p l) (not_user start first q p l (λ o. f (subst (λ z. In p z) (sym users_is) o))))
+                ∙ sym (other_eliminated start first q q_in p l ne)
+          ]
+        ])

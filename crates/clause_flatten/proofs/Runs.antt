@@ -1,0 +1,247 @@
+-- A package taken out of rows in a pool: the rows that do not name it stay, so only those of its users are looked at.
+use Rattle.std.proofs.Common.{◌≡◌, ℕ, zero, suc, ◌<◌, ◌≤◌, ◌+◌, Bool, true, false, ◌||◌, eqb, cond, List, [], ◌∷◌, ◌++◌, length, get_or, inl, inr, refl, sym, ◌∙◌, ap, subst, arith, filter, map, take, Some, None, eq-eqb, eqb-true, ne_eqb, zero-le}
+use Rattle.std.specs.List.{find}
+use Rattle.std.specs.Option.{option_map}
+use Rattle.std.proofs.lemmas.Bool.{both_ways, cases_Bool, cases_eq, cases_lt, cond-true, cond-false, false_from_ne_true, ltb-false, le-ltb}
+use Rattle.std.proofs.lemmas.List as lists
+use Rattle.clause_pool.specs.Interned.{Interned, IsPool, row_at}
+use Rattle.row_book.specs.Sets.{In, has, here, there}
+use Rattle.row_book.specs.Clauses.{Ascending, InOrder, Inside, apart_from, numbers, ordered}
+use Rattle.row_book.specs.Uses.{row_holds, row_id, users_of, uses_of}
+use Rattle.row_book.specs.Book.{RowsFit, RowsTidy, listed_for}
+use Rattle.row_book.specs.Flattening.{passed_by}
+use Rattle.row_book.proofs.Books.{in_place}
+use Rattle.row_book.proofs.Lists.{In_cases, In_has, In_none, any_none, ascending_filter, filter_cases, filter_from, find_not, find_none, has_not}
+use Rattle.row_book.proofs.Clauses.{apart_cases, apart_in, minimal_of_from, minimal_of_parts}
+use Rattle.row_book.proofs.Order.{at_numbers, length_numbers, numbers_from, numbers_parts, order_same, ordered_has, ordered_order, ordered_parts}
+use Rattle.clause_flatten.specs.Substitution.{eliminated, length_in, replaced, substituted, table_row}
+use Rattle.clause_flatten.specs.TakingOut.{counted_anew, is_over}
+use Rattle.clause_flatten.specs.Waiting.{Filed, recounted}
+use Rattle.clause_flatten.specs.declared.waiting.Waiting.{Waiting}
+use Rattle.clause_flatten.proofs.Unions.{Comes, replaced_cases, replaced_kept}
+use Rattle.clause_flatten.proofs.Tidied.{same_read}
+use Rattle.clause_flatten.proofs.Turns.{filed_as}
+
+-- a tidy row that does not hold q stays as it is
+untouched : (p q : ℕ) (A B : List (List ℕ)) → InOrder A → ((c : List ℕ) → In c A → In q c → ⊥) → ((c : List ℕ) → In c A → In p c → ⊥) →
+    ((c d : List ℕ) → In c A → In d A → Inside c d → c ≡ d) → ordered (substituted p q A B) ≡ A
+untouched p q A B o f g m =
+    let back : (c : List ℕ) → In c (apart_from p (replaced q A B)) → In c A =
+    λ c i.
+    let w : (T : List ℕ) × In T A × Comes q B T c = replaced_cases q A B c (apart_cases p (replaced q A B) c i).0 in
+    elim w.2.how [ inl k ↦ subst (λ z. In z A) (sym k.1) w.1 | inr n ↦ absurd (f w.0 w.1 n.2) ] in
+    order_same (ordered (substituted p q A B)) A (ordered_order (substituted p q A B)) o
+    (λ c i. back c (minimal_of_parts (apart_from p (replaced q A B)) c (ordered_parts (substituted p q A B) c i)).0)
+    (λ c i. ordered_has (substituted p q A B) c
+    (minimal_of_from (apart_from p (replaced q A B)) c
+    (apart_in p (replaced q A B) c (replaced_kept q A B c i (f c i)) (g c i))
+    (λ S j h. subst (λ z. Inside c z) (sym (m S c (back S j) i h)) (λ n k. k))))
+
+-- the rows of a table when q is taken out
+pub eliminated_at : (q : ℕ) (t : List (List (List ℕ))) (p : ℕ) → p < length t → table_row (eliminated q t) p ≡ cond (eqb p q) (table_row t q) (ordered (substituted p q (table_row t p) (table_row t q)))
+unfolding eliminated
+eliminated_at q t p l =
+    let new : ℕ → List (List ℕ) = λ p. cond (eqb p q) (table_row t q) (ordered (substituted p q (table_row t p) (table_row t q))) in
+    at_numbers new [] (length t) 0 p l ∙ ap new (omega arith)
+
+pub eliminated_count : (q : ℕ) (t : List (List (List ℕ))) → length (eliminated q t) ≡ length t
+unfolding eliminated
+eliminated_count q t = length_numbers (λ p. cond (eqb p q) (table_row t q) (ordered (substituted p q (table_row t p) (table_row t q)))) (length t) 0
+
+-- the users of a package
+pub users_are : (pool : Interned) (rows : List ℕ) (q : ℕ) → q < length rows → listed_for (uses_of pool rows) q ≡ users_of pool rows q
+unfolding uses_of
+users_are pool rows q l = at_numbers (users_of pool rows) [] (length rows) 0 q l ∙ ap (users_of pool rows) (omega arith)
+
+numbers_ascending : (n k : ℕ) → Ascending (numbers n k)
+unfolding numbers
+numbers_ascending zero k = tt
+numbers_ascending (suc n) k = ((λ y i. let w : (suc k ≤ y) × (y < suc k + n) = numbers_parts n (suc k) y i in omega arith), numbers_ascending n (suc k))
+
+module _ (pool : Interned) (rows : List ℕ) (q : ℕ) (l : q < length rows) (users : List ℕ) (e : users ≡ listed_for (uses_of pool rows) q) where
+  same : users ≡ users_of pool rows q
+  same = e ∙ users_are pool rows q l
+
+  pub users_below : (p : ℕ) → In p users → p < length rows
+  users_below p i =
+      let j : In p (numbers (length rows) 0) = (filter_cases (λ p. row_holds pool (row_id rows p) q) (numbers (length rows) 0) p (subst (λ xs. In p xs) same i)).0 in
+      let w : (0 ≤ p) × (p < 0 + length rows) = numbers_parts (length rows) 0 p j in
+      omega arith
+
+  pub users_ascending : Ascending users
+  users_ascending =
+      subst Ascending (sym same) (ascending_filter (λ p. row_holds pool (row_id rows p) q) (numbers (length rows) 0) (numbers_ascending (length rows) 0))
+
+  -- a package that is no user names q in no clause
+  not_named : (p : ℕ) → p < length rows → (In p users → ⊥) → (c : List ℕ) → In c (row_at pool (row_id rows p)) → In q c → ⊥
+  not_named p m f c i j =
+      let none : row_holds pool (row_id rows p) q ≡ false =
+      false_from_ne_true (row_holds pool (row_id rows p) q) (λ h. f (subst (λ xs. In p xs) (sym same)
+      (filter_from (λ p. row_holds pool (row_id rows p) q) (numbers (length rows) 0) p (numbers_from (length rows) 0 p zero-le (omega arith)) h))) in
+      both_ways (has c q) (any_none (λ c. has c q) (row_at pool (row_id rows p)) none c i) (In_has j)
+
+  -- and its row stays
+  stays_for : IsPool pool → RowsFit pool rows → RowsTidy pool rows → (p : ℕ) → p < length rows → (In p users → ⊥) →
+      table_row (eliminated q (map (row_at pool) rows)) p ≡ table_row (map (row_at pool) rows) p
+  stays_for is fit tidy p m f =
+      let t : List (List (List ℕ)) = map (row_at pool) rows in
+      let count : length (map (row_at pool) rows) ≡ length rows = lists.length-map rows (row_at pool) in
+      let at : table_row (map (row_at pool) rows) p ≡ row_at pool (row_id rows p) = lists.get_or-map (row_at pool) rows p 0 [] m in
+      elim (cases_eq p q) [
+        | inl s ↦
+            eliminated_at q t p (omega (arith, count))
+            ∙ cond-true (eqb p q) (table_row t q) (ordered (substituted p q (table_row t p) (table_row t q))) (eq-eqb p q s)
+            ∙ ap (table_row t) (sym s)
+        | inr ne ↦
+            eliminated_at q t p (omega (arith, count))
+            ∙ cond-false (eqb p q) (table_row t q) (ordered (substituted p q (table_row t p) (table_row t q))) (ne_eqb p q ne)
+            ∙ ap (λ xs. ordered (substituted p q xs (table_row t q))) at
+            ∙ untouched p q (row_at pool (row_id rows p)) (table_row t q)
+            (is.in_order (row_id rows p) (fit.of_pool (row_id rows p) (in_place rows p 0 m)))
+            (not_named p m f) (tidy.apart p m) (tidy.minimal p m)
+            ∙ sym at
+      ]
+
+  pub counts_stay : IsPool pool → RowsFit pool rows → RowsTidy pool rows → (p : ℕ) → has users p ≡ false →
+      length_in (eliminated q (map (row_at pool) rows)) p ≡ length_in (map (row_at pool) rows) p
+  counts_stay is fit tidy p h =
+      let t : List (List (List ℕ)) = map (row_at pool) rows in
+      let count : length (map (row_at pool) rows) ≡ length rows = lists.length-map rows (row_at pool) in
+      elim (cases_lt p (length rows)) [
+        | inl m ↦ ap length (stays_for is fit tidy p m (λ i. both_ways (has users p) h (In_has i)))
+        | inr m ↦
+            ap length (lists.get_or_past (eliminated q t) p [] (omega (arith, eliminated_count q t, count)))
+            ∙ sym (ap length (lists.get_or_past t p [] (omega (arith, count))))
+      ]
+
+  -- the first row that is over the limit is that of a user
+  pub over_all : IsPool pool → RowsFit pool rows → RowsTidy pool rows → (limit : ℕ) → ((p : ℕ) → p < length rows → length_in (map (row_at pool) rows) p ≤ limit) →
+      find (is_over (eliminated q (map (row_at pool) rows)) limit) (numbers (length rows) 0) ≡ find (is_over (eliminated q (map (row_at pool) rows)) limit) users
+  over_all is fit tidy limit within =
+      let new : List (List (List ℕ)) = eliminated q (map (row_at pool) rows) in
+      sym (ap (find (is_over new limit)) same
+      ∙ find_filter (is_over new limit) (λ p. row_holds pool (row_id rows p) q) (numbers (length rows) 0)
+      (λ p i h.
+      let w : (0 ≤ p) × (p < 0 + length rows) = numbers_parts (length rows) 0 p i in
+      let none : has users p ≡ false =
+      has_not users p (λ j. both_ways (row_holds pool (row_id rows p) q) h (filter_cases (λ p. row_holds pool (row_id rows p) q) (numbers (length rows) 0) p (subst (λ xs. In p xs) same j)).1) in
+      le-ltb limit (length_in new p) (let k : length_in (map (row_at pool) rows) p ≤ limit = within p (omega arith) in omega (arith, counts_stay is fit tidy p none))))
+    where
+      find_filter : (f g : ℕ → Bool) (xs : List ℕ) → ((x : ℕ) → In x xs → g x ≡ false → f x ≡ false) → find f (filter g xs) ≡ find f xs
+      find_filter f g [] k = refl
+      find_filter f g (x ∷ xs) k = pick (g x) refl (find_filter f g xs (λ y i. k y (there i)))
+        where
+          pick : (b : Bool) → g x ≡ b → find f (filter g xs) ≡ find f xs → find f (cond b (x ∷ filter g xs) (filter g xs)) ≡ cond (f x) (Some x) (find f xs)
+          pick true u h = ap (cond (f x) (Some x)) h
+          pick false u h = h ∙ sym (cond-false (f x) (Some x) (find f xs) (k x here u))
+
+  pub filed_after : IsPool pool → RowsFit pool rows → RowsTidy pool rows → (w : Waiting) (may : ℕ → Bool) (new : List (List (List ℕ))) → new ≡ eliminated q (map (row_at pool) rows) →
+      Filed w may (counted_anew (length_in (map (row_at pool) rows)) new users) → Filed w may (length_in (eliminated q (map (row_at pool) rows)))
+  filed_after is fit tidy w may new d f =
+      let t : List (List (List ℕ)) = map (row_at pool) rows in
+      filed_as w may may (counted_anew (length_in t) new users) (length_in (eliminated q t)) f (λ p. refl)
+      (λ p h. elim (cases_Bool (has users p)) [
+        | inl u ↦ cond-true (has users p) (length_in new p) (length_in t p) u ∙ ap (λ x. length_in x p) d
+        | inr u ↦ cond-false (has users p) (length_in new p) (length_in t p) u ∙ sym (counts_stay is fit tidy p u)
+      ])
+
+pub uses_count : (pool : Interned) (rows : List ℕ) → length (uses_of pool rows) ≡ length rows
+unfolding uses_of
+uses_count pool rows = length_numbers (users_of pool rows) (length rows) 0
+
+-- the first of a list that passes, by places
+pub find_at : (p : ℕ → Bool) (xs : List ℕ) (i x : ℕ) → i < length xs → x ≡ get_or xs i x → ((k : ℕ) → k < i → p (get_or xs k 0) ≡ false) → p x ≡ true → find p xs ≡ Some x
+find_at p [] i x l e f h = absurd (omega arith)
+find_at p (y ∷ ys) zero x l e f h = cond-true (p y) (Some y) (find p ys) (ap p (sym e) ∙ h) ∙ ap (λ z. Some z) (sym e)
+find_at p (y ∷ ys) (suc i) x l e f h =
+    cond-false (p y) (Some y) (find p ys) (f 0 (omega arith)) ∙ find_at p ys i x (omega arith) e (λ k m. f (suc k) (omega arith)) h
+
+pub find_nowhere : (p : ℕ → Bool) (xs : List ℕ) → ((k : ℕ) → k < length xs → p (get_or xs k 0) ≡ false) → find p xs ≡ None
+find_nowhere p [] f = refl
+find_nowhere p (x ∷ xs) f = cond-false (p x) (Some x) (find p xs) (f 0 (omega arith)) ∙ find_nowhere p xs (λ k l. f (suc k) (omega arith))
+
+number_at : (n s k d : ℕ) → k < n → get_or (numbers n s) k d ≡ s + k
+unfolding numbers
+number_at zero s k d l = absurd (omega arith)
+number_at (suc n) s zero d l = omega arith
+number_at (suc n) s (suc k) d l = number_at n (suc s) k d (omega arith) ∙ omega arith
+
+numbers_count : (n s : ℕ) → length (numbers n s) ≡ n
+unfolding numbers
+numbers_count zero s = refl
+numbers_count (suc n) s = ap suc (numbers_count n (suc s))
+
+-- the least number that passes
+pub least_passing : (p : ℕ → Bool) (n x : ℕ) → x < n → ((k : ℕ) → k < x → p k ≡ false) → p x ≡ true → find p (numbers n 0) ≡ Some x
+least_passing p n x l f h =
+    find_at p (numbers n 0) x x (omega (arith, numbers_count n 0)) (sym (number_at n 0 x x l ∙ omega arith))
+    (λ k m. ap p (number_at n 0 k 0 (omega arith) ∙ omega arith) ∙ f k m) h
+
+pub none_passing : (p : ℕ → Bool) (n : ℕ) → ((k : ℕ) → k < n → p k ≡ false) → find p (numbers n 0) ≡ None
+none_passing p n f = find_not p (numbers n 0) (λ k i. let w : (0 ≤ k) × (k < 0 + n) = numbers_parts n 0 k i in f k (omega arith))
+
+-- what is told of the first one
+pub passed_some : (t : List (List (List ℕ))) (limit i q n : ℕ) (ps : List ℕ) → find (is_over t limit) ps ≡ Some q → n ≡ length_in t q →
+    passed_by (length_in t) ps limit i ≡ Some (record { gone = i; «package» = q; count = n })
+passed_some t limit i q n ps e d =
+    ap (option_map (λ p. record { gone = i; «package» = p; count = length_in t p })) e ∙ ap (λ k. Some (record { gone = i; «package» = q; count = k })) (sym d)
+
+pub none_over : (t : List (List (List ℕ))) (limit : ℕ) (n : ℕ) → find (is_over t limit) (numbers n 0) ≡ None → (p : ℕ) → p < n → length_in t p ≤ limit
+none_over t limit n e p l =
+    ltb-false limit (length_in t p) (find_none (is_over t limit) (numbers n 0) e p (numbers_from n 0 p zero-le (omega arith)))
+
+-- one more user filed
+before_place : (xs : List ℕ) (i y : ℕ) → Ascending xs → i < length xs → In y (take i xs) → y < get_or xs i 0
+before_place [] i y a l j = absurd (omega arith)
+before_place (x ∷ xs) zero y a l j = absurd (In_none j)
+before_place (x ∷ xs) (suc i) y a l j =
+    elim (In_cases j) [
+      | inl e ↦ let u : x < get_or xs i 0 = a.0 (get_or xs i 0) (in_place xs i 0 (omega arith)) in omega (arith, e)
+      | inr k ↦ before_place xs i y a.1 (omega arith) k
+    ]
+
+or_cond : (a b c : Bool) → (a || cond b true c) ≡ cond b true (a || c)
+or_cond true true c = refl
+or_cond true false c = refl
+or_cond false true c = refl
+or_cond false false c = refl
+
+has_push : (ys : List ℕ) (y n : ℕ) → has (ys ++ y ∷ []) n ≡ cond (eqb n y) true (has ys n)
+has_push [] y n = last (eqb n y)
+  where
+    last : (b : Bool) → (b || false) ≡ cond b true false
+    last true = refl
+    last false = refl
+has_push (z ∷ zs) y n = ap (λ b. eqb n z || b) (has_push zs y n) ∙ or_cond (eqb n z) (eqb n y) (has zs n)
+
+has_more : (xs : List ℕ) (i n : ℕ) → i < length xs → has (take (i + 1) xs) n ≡ cond (eqb n (get_or xs i 0)) true (has (take i xs) n)
+has_more xs i n l = ap (λ ys. has ys n) (lists.take_more xs i 0 l) ∙ has_push (take i xs) (get_or xs i 0) n
+
+pub file_more : (old new : Waiting) (may : ℕ → Bool) (count : ℕ → ℕ) (t : List (List (List ℕ))) (users counts : List ℕ) (i user was : ℕ) →
+    Ascending users → i < length users → user ≡ get_or users i user → counts ≡ map count users → was ≡ get_or counts i was →
+    Filed old may (counted_anew count t (take i users)) →
+    ((may : ℕ → Bool) (count : ℕ → ℕ) → Filed old may count → count user ≡ was → Filed new may (recounted count user (length_in t user))) →
+    Filed new may (counted_anew count t (take (i + 1) users))
+file_more old new may count t users counts i user was a l e c w d f =
+    let at : user ≡ get_or users i 0 = e ∙ same_read users i user 0 l in
+    let size : length counts ≡ length users = ap length c ∙ lists.length-map users count in
+    let told : count user ≡ was =
+    ap count at
+    ∙ sym (lists.get_or-map count users i 0 0 l)
+    ∙ ap (λ xs. get_or xs i 0) (sym c)
+    ∙ same_read counts i 0 was (omega (arith, size))
+    ∙ sym w in
+    let new_one : has (take i users) user ≡ false = has_not (take i users) user (λ j. let k : user < get_or users i 0 = before_place users i user a l j in omega (arith, at)) in
+    let before : counted_anew count t (take i users) user ≡ was = cond-false (has (take i users) user) (length_in t user) (count user) new_one ∙ told in
+    filed_as new may may (recounted (counted_anew count t (take i users)) user (length_in t user)) (counted_anew count t (take (i + 1) users))
+    (f may (counted_anew count t (take i users)) d before)
+    (λ q. refl)
+    (λ q h. pick q (eqb q user) refl ∙ ap (λ b. cond b (length_in t q) (count q)) (sym (has_more users i q l ∙ ap (λ z. cond (eqb q z) true (has (take i users) q)) (sym at))))
+  where
+    pick : (q : ℕ) (b : Bool) → eqb q user ≡ b →
+        cond b (length_in t user) (cond (has (take i users) q) (length_in t q) (count q)) ≡ cond (cond b true (has (take i users) q)) (length_in t q) (count q)
+    pick q true u = ap (length_in t) (sym (eqb-true q user u))
+    pick q false u = refl
+
+pub file_none : (w : Waiting) (may : ℕ → Bool) (count : ℕ → ℕ) (t : List (List (List ℕ))) (users : List ℕ) → Filed w may count → Filed w may (counted_anew count t (take 0 users))
+file_none w may count t users d = filed_as w may may count (counted_anew count t (take 0 users)) d (λ q. refl) (λ q h. refl)

@@ -1,0 +1,248 @@
+-- The first rows: the clauses that stay are the minimal ones that do not hold the package.
+use Rattle.std.proofs.Common.{◌≡◌, ℕ, zero, suc, ◌<◌, ◌≤◌, ◌+◌, Bool, true, false, not, ltb, cond, List, [], ◌∷◌, ◌++◌, length, get_or, inl, inr, refl, sym, ◌∙◌, ap, ap₂, subst, arith, filter, map, Result, Ok, Err}
+use Rattle.std.specs.List.{list_any}
+use Rattle.std.specs.Result.{IfOk}
+use Rattle.std.proofs.lemmas.Bool.{both_ways, cases_lt, and_parts, and_from, or_from, not_from_false, not-true, false_from_ne_true, ltb-true, lt-ltb}
+use Rattle.std.proofs.lemmas.List as lists
+use Rattle.clause_pool.specs.Interned.{Interned, IsIdOf, IsPool, Kept, clause_at, clauses_at, ids_at, row_at}
+use Rattle.row_book.specs.Sets.{In, has, here, there}
+use Rattle.row_book.specs.Clauses.{Ascending, InOrder, Inside, apart_from, is_inside, minimal_of, numbers}
+use Rattle.row_book.specs.Uses.{row_id}
+use Rattle.row_book.specs.Book.{RowsFit, RowsTidy}
+use Rattle.row_book.proofs.Books.{in_place, row_ascending}
+use Rattle.row_book.proofs.Lists.{In_append_cases, In_cases, In_has, In_map, In_none, any_cases, any_from, ascending_same, filter_cases, filter_from, has_not}
+use Rattle.row_book.proofs.Clauses.{apart_cases, apart_in, inside_at, inside_from, minimal_of_from, minimal_of_parts}
+use Rattle.row_book.proofs.Order.{at_numbers, length_numbers, map_same, numbers_parts, order_filter, order_same, ordered_has, ordered_order, ordered_parts}
+use Rattle.clause_flatten.specs.Substitution.{table_row}
+use Rattle.clause_flatten.specs.TidyRows.{RowsStay, is_strictly_inside, stays, tidied, tidied_table}
+
+-- elements by their places
+pub read_in : (xs : List ℕ) (i x : ℕ) → i < length xs → x ≡ get_or xs i x → In x xs
+read_in xs i x l e = subst (λ z. In z xs) (sym e) (in_place xs i x l)
+
+pub place_of : (xs : List ℕ) (x : ℕ) → In x xs → (i : ℕ) × (i < length xs) × (get_or xs i 0 ≡ x)
+place_of [] x j = absurd (In_none j)
+place_of (y ∷ ys) x j =
+    elim (In_cases j) [
+      | inl e ↦ (0, omega arith, sym e)
+      | inr k ↦ let w : (i : ℕ) × (i < length ys) × (get_or ys i 0 ≡ x) = place_of ys x k in (suc w.0, omega (arith, w.1), w.2)
+    ]
+
+pub same_read : (xs : List ℕ) (i d e : ℕ) → i < length xs → get_or xs i d ≡ get_or xs i e
+same_read [] i d e l = absurd (omega arith)
+same_read (x ∷ xs) zero d e l = refl
+same_read (x ∷ xs) (suc i) d e l = same_read xs i d e (omega arith)
+
+pub any_at : (p : List ℕ → Bool) (f : ℕ → List ℕ) (xs : List ℕ) (x : ℕ) → In x xs → p (f x) ≡ true → list_any p (map f xs) ≡ true
+any_at p f xs x i h = any_from p (map f xs) (f x) (In_map f xs x i) h
+
+pub none_at : (p : List ℕ → Bool) (f : ℕ → List ℕ) (xs : List ℕ) → ((k : ℕ) → k < length xs → p (f (get_or xs k 0)) ≡ false) → list_any p (map f xs) ≡ false
+none_at p f [] g = refl
+none_at p f (x ∷ xs) g = or_from (p (f x)) (list_any p (map f xs)) (g 0 (omega arith)) (none_at p f xs (λ k l. g (suc k) (omega arith)))
+
+pub map_filter : {A B : Type 0} (f : A → B) (p : B → Bool) (xs : List A) → map f (filter (λ x. p (f x)) xs) ≡ filter p (map f xs)
+map_filter f p [] = refl
+map_filter f p (x ∷ xs) = pick (p (f x)) (map_filter f p xs)
+  where
+    pick : (b : Bool) → map f (filter (λ x. p (f x)) xs) ≡ filter p (map f xs) → map f (cond b (x ∷ filter (λ x. p (f x)) xs) (filter (λ x. p (f x)) xs)) ≡ cond b (f x ∷ filter p (map f xs)) (filter p (map f xs))
+    pick true e = ap (λ ys. f x ∷ ys) e
+    pick false e = e
+
+-- of two ascending lists the one within the other is no longer, and where it is as long it is the same
+inside_length : (T S : List ℕ) → Ascending S → Ascending T → Inside S T → (length S ≤ length T) × (length T ≤ length S → S ≡ T)
+inside_length [] [] a b f = (omega arith, λ l. refl)
+inside_length [] (s ∷ ss) a b f = absurd (In_none (f s here))
+inside_length (t ∷ ts) [] a b f = (omega arith, λ l. absurd (omega arith))
+inside_length (t ∷ ts) (s ∷ ss) a b f =
+    elim (In_cases (f s here)) [
+      | inl e ↦
+          let g : Inside ss ts = λ n i. elim (In_cases (f n (there i))) [
+            | inl h ↦ let l : s < n = a.0 n i in absurd (omega (arith, e, h))
+            | inr j ↦ j
+          ] in
+          let w : (length ss ≤ length ts) × (length ts ≤ length ss → ss ≡ ts) = inside_length ts ss a.1 b.1 g in
+          (omega (arith, w.0), λ l. ap₂ (λ x xs. x ∷ xs) e (w.1 (omega arith)))
+      | inr i ↦
+          let l : t < s = b.0 s i in
+          let g : Inside (s ∷ ss) ts = λ n j. elim (In_cases (f n j)) [
+            | inl h ↦ elim (In_cases j) [ inl k ↦ absurd (omega (arith, h, k)) | inr k ↦ let m : s < n = a.0 n k in absurd (omega (arith, h)) ]
+            | inr k ↦ k
+          ] in
+          let w : (length (s ∷ ss) ≤ length ts) × (length ts ≤ length (s ∷ ss) → (s ∷ ss) ≡ ts) = inside_length ts (s ∷ ss) a b.1 g in
+          (omega (arith, w.0), λ k. absurd (omega (arith, w.0)))
+    ]
+
+-- the clauses that stay
+module _ (p : ℕ) (cs : List (List ℕ)) (up : (c : List ℕ) → In c cs → Ascending c) where
+  minimal_from_stays : (T : List ℕ) → In T cs → stays p cs T ≡ true → In T (minimal_of (apart_from p cs))
+  minimal_from_stays T i h =
+      let w : (not (has T p) ≡ true) × (not (list_any (λ S. is_strictly_inside S T) cs) ≡ true) = and_parts (not (has T p)) (not (list_any (λ S. is_strictly_inside S T) cs)) h in
+      let apart : In p T → ⊥ = λ j. both_ways (has T p) (not-true (has T p) w.0) (In_has j) in
+      minimal_of_from (apart_from p cs) T (apart_in p cs T i apart) (λ S j f.
+      let s : In S cs × (In p S → ⊥) = apart_cases p cs S j in
+      elim (cases_lt (length S) (length T)) [
+        | inl l ↦
+            absurd (both_ways (list_any (λ S. is_strictly_inside S T) cs) (not-true (list_any (λ S. is_strictly_inside S T) cs) w.1)
+            (any_from (λ S. is_strictly_inside S T) cs S s.0 (and_from (ltb (length S) (length T)) (is_inside S T) (lt-ltb (length S) (length T) l) (inside_from S T f))))
+        | inr g ↦ subst (λ z. Inside T z) (sym ((inside_length T S (up S s.0) (up T i) f).1 g)) (λ n k. k)
+      ])
+
+  stays_from_minimal : (T : List ℕ) → In T (minimal_of (apart_from p cs)) → stays p cs T ≡ true
+  stays_from_minimal T i =
+      let w : In T (apart_from p cs) × ((S : List ℕ) → In S (apart_from p cs) → Inside S T → Inside T S) = minimal_of_parts (apart_from p cs) T i in
+      let t : In T cs × (In p T → ⊥) = apart_cases p cs T w.0 in
+      and_from (not (has T p)) (not (list_any (λ S. is_strictly_inside S T) cs))
+      (not_from_false (has T p) (has_not T p t.1))
+      (not_from_false (list_any (λ S. is_strictly_inside S T) cs) (false_from_ne_true (list_any (λ S. is_strictly_inside S T) cs) (λ h.
+      let a : (S : List ℕ) × In S cs × (is_strictly_inside S T ≡ true) = any_cases (λ S. is_strictly_inside S T) cs h in
+      let u : (ltb (length a.0) (length T) ≡ true) × (is_inside a.0 T ≡ true) = and_parts (ltb (length a.0) (length T)) (is_inside a.0 T) a.2 in
+      let f : Inside a.0 T = inside_at a.0 T u.1 in
+      let g : Inside T a.0 = w.1 a.0 (apart_in p cs a.0 a.1 (λ j. t.1 (f p j))) f in
+      let m : length T ≤ length a.0 = (inside_length a.0 T (up T t.0) (up a.0 a.1) g).0 in
+      let l : length a.0 < length T = ltb-true (length a.0) (length T) u.0 in
+      omega arith)))
+
+  tidied_is : InOrder cs → filter (stays p cs) cs ≡ tidied p cs
+  tidied_is o =
+      order_same (filter (stays p cs) cs) (tidied p cs) (order_filter (stays p cs) cs o) (ordered_order (minimal_of (apart_from p cs)))
+      (λ T i.
+      let w : In T cs × (stays p cs T ≡ true) = filter_cases (stays p cs) cs T i in
+      ordered_has (minimal_of (apart_from p cs)) T (minimal_from_stays T w.0 w.1))
+      (λ T i.
+      let j : In T (minimal_of (apart_from p cs)) = ordered_parts (minimal_of (apart_from p cs)) T i in
+      filter_from (stays p cs) cs T (apart_cases p cs T (minimal_of_parts (apart_from p cs) T j).0).0 (stays_from_minimal T j))
+
+-- what the first row has
+pub tidied_parts : (p : ℕ) (cs : List (List ℕ)) (T : List ℕ) → In T (tidied p cs) → In T cs × (In p T → ⊥)
+tidied_parts p cs T i = apart_cases p cs T (minimal_of_parts (apart_from p cs) T (ordered_parts (minimal_of (apart_from p cs)) T i)).0
+
+pub tidied_minimal : (p : ℕ) (cs : List (List ℕ)) → ((c : List ℕ) → In c cs → Ascending c) → (S T : List ℕ) → In S (tidied p cs) → In T (tidied p cs) → Inside S T → S ≡ T
+tidied_minimal p cs up S T i j f =
+    let a : In S (apart_from p cs) = (minimal_of_parts (apart_from p cs) S (ordered_parts (minimal_of (apart_from p cs)) S i)).0 in
+    ascending_same S T (up S (tidied_parts p cs S i).0) (up T (tidied_parts p cs T j).0) f
+    ((minimal_of_parts (apart_from p cs) T (ordered_parts (minimal_of (apart_from p cs)) T j)).1 S a f)
+
+-- the row of the clauses that stay is the first row
+pub tidied_row : {E : Type 0} (old new : Interned) (p row : ℕ) (ids kept : List ℕ) (result : Result ℕ E) → IsPool old → row < length old.rows →
+    ids ≡ ids_at old row → kept ≡ filter (λ id. stays p (clauses_at old ids) (clause_at old id)) ids → new.clauses ≡ old.clauses →
+    IfOk result (IsIdOf new.rows kept) → IfOk result (λ id. row_at new id ≡ tidied p (row_at old row))
+tidied_row old new p row ids kept (Err e) is l same stay clauses made = tt
+tidied_row old new p row ids kept (Ok id) is l same stay clauses made =
+    let kept_is : kept ≡ filter (λ id. stays p (row_at old row) (clause_at old id)) (ids_at old row) =
+    stay ∙ ap (λ xs. filter (λ id. stays p (clauses_at old xs) (clause_at old id)) xs) same in
+    ap (clauses_at new) made.holds
+    ∙ ap (λ cs. map (λ i. get_or cs i []) kept) clauses
+    ∙ ap (clauses_at old) kept_is
+    ∙ map_filter (clause_at old) (stays p (row_at old row)) (ids_at old row)
+    ∙ tidied_is p (row_at old row) (row_ascending old is row l) (is.in_order row l)
+
+pub kept_in_order : (old : Interned) (p : ℕ) (ids kept : List ℕ) → kept ≡ filter (λ id. stays p (clauses_at old ids) (clause_at old id)) ids → InOrder (clauses_at old ids) → InOrder (clauses_at old kept)
+kept_in_order old p ids kept stay o =
+    subst InOrder (sym (ap (clauses_at old) stay ∙ map_filter (clause_at old) (stays p (clauses_at old ids)) ids))
+    (order_filter (stays p (clauses_at old ids)) (clauses_at old ids) o)
+
+pub kept_within : (old : Interned) (p : ℕ) (ids kept : List ℕ) → kept ≡ filter (λ id. stays p (clauses_at old ids) (clause_at old id)) ids → (id : ℕ) → In id kept → In id ids
+kept_within old p ids kept stay id i =
+    (filter_cases (λ id. stays p (clauses_at old ids) (clause_at old id)) ids id (subst (λ xs. In id xs) stay i)).0
+
+-- one pool after another
+pub kept_same : (pool : Interned) → Kept pool pool
+kept_same pool = record { clauses = λ id l. (l, refl); rows = λ id l. (l, refl) }
+
+pub kept_kept : (a b c : Interned) → Kept a b → Kept b c → Kept a c
+kept_kept a b c k h = record {
+  clauses = λ id l. let u : (id < length b.clauses) × (clause_at b id ≡ clause_at a id) = k.clauses id l in let v : (id < length c.clauses) × (clause_at c id ≡ clause_at b id) = h.clauses id u.0 in (v.0, v.1 ∙ u.1);
+  rows = λ id l. let u : (id < length b.rows) × (ids_at b id ≡ ids_at a id) = k.rows id l in let v : (id < length c.rows) × (ids_at c id ≡ ids_at b id) = h.rows id u.0 in (v.0, v.1 ∙ u.1);
+}
+
+pub rows_stay_map : (old new : Interned) → RowsStay old new → (rows : List ℕ) → ((id : ℕ) → In id rows → id < length old.rows) → map (row_at new) rows ≡ map (row_at old) rows
+rows_stay_map old new s [] f = refl
+rows_stay_map old new s (id ∷ ids) f = ap₂ (λ x xs. x ∷ xs) (s.same id (f id here)) (rows_stay_map old new s ids (λ i j. f i (there j)))
+
+numbers_end : (n k : ℕ) → numbers (suc n) k ≡ numbers n k ++ (k + n) ∷ []
+unfolding numbers
+numbers_end zero k = ap (λ x. x ∷ []) (omega arith)
+numbers_end (suc n) k = ap (λ xs. k ∷ xs) (numbers_end n (suc k) ∙ ap (λ x. numbers n (suc k) ++ x ∷ []) (omega arith))
+
+pub numbers_more : (n : ℕ) → numbers (n + 1) 0 ≡ numbers n 0 ++ n ∷ []
+numbers_more n = ap (λ m. numbers m 0) (omega arith) ∙ numbers_end n 0 ∙ ap (λ x. numbers n 0 ++ x ∷ []) (omega arith)
+
+-- the first rows of so many packages are made
+pub record TidiedTo (start now : Interned) (rows made : List ℕ) (n : ℕ) : Type 0 where
+  pub table : map (row_at now) made ≡ map (λ p. tidied p (row_at start (row_id rows p))) (numbers n 0)
+  pub within : (id : ℕ) → In id made → id < length now.rows
+  pub stay : RowsStay start now
+  pub kept : Kept start now
+
+pub tidied_none : (start : Interned) (rows made : List ℕ) → made ≡ [] → TidiedTo start start rows made 0
+unfolding numbers
+tidied_none start rows made e = record {
+  table = ap (map (row_at start)) e;
+  within = λ id i. absurd (In_none (subst (λ xs. In id xs) e i));
+  stay = record { within = λ id l. l; same = λ id l. refl };
+  kept = kept_same start;
+}
+
+pub tidied_more : (start old new : Interned) (rows made after : List ℕ) (n row first : ℕ) → TidiedTo start old rows made n → RowsStay old new → Kept old new →
+    n < length rows → row ≡ get_or rows n row → row < length start.rows → first < length new.rows → row_at new first ≡ tidied n (row_at old row) →
+    after ≡ made ++ first ∷ [] → TidiedTo start new rows after (n + 1)
+tidied_more start old new rows made after n row first t s k l e l_row l_first d a =
+    let T : ℕ → List (List ℕ) = λ p. tidied p (row_at start (row_id rows p)) in
+    let here_too : row_at new first ≡ tidied n (row_at start (row_id rows n)) =
+    d ∙ ap (tidied n) (t.stay.same row l_row ∙ ap (row_at start) (e ∙ same_read rows n row 0 l)) in
+    record {
+      table =
+          ap (map (row_at new)) a
+          ∙ lists.map-append (row_at new) made (first ∷ [])
+          ∙ ap₂ (λ xs x. xs ++ x ∷ []) (rows_stay_map old new s made t.within ∙ t.table) here_too
+          ∙ sym (ap (map T) (numbers_more n) ∙ lists.map-append T (numbers n 0) (n ∷ []));
+      within = λ id i. elim (In_append_cases made (first ∷ []) id (subst (λ xs. In id xs) a i)) [
+        | inl j ↦ s.within id (t.within id j)
+        | inr j ↦ elim (In_cases j) [ inl h ↦ subst (λ z. z < length new.rows) (sym h) l_first | inr h ↦ absurd (In_none h) ]
+      ];
+      stay = record { within = λ id m. s.within id (t.stay.within id m); same = λ id m. s.same id (t.stay.within id m) ∙ t.stay.same id m };
+      kept = kept_kept start old new t.kept k;
+    }
+
+module _ (start now : Interned) (rows made : List ℕ) (t : TidiedTo start now rows made (length rows)) where
+  pub tidied_count : length made ≡ length rows
+  tidied_count = sym (lists.length-map made (row_at now)) ∙ ap length t.table ∙ length_numbers (λ p. tidied p (row_at start (row_id rows p))) (length rows) 0
+
+  tidied_at : (p : ℕ) → p < length rows → row_at now (row_id made p) ≡ tidied p (row_at start (row_id rows p))
+  tidied_at p l =
+      sym (lists.get_or-map (row_at now) made p 0 [] (omega (arith, tidied_count)))
+      ∙ ap (λ xs. get_or xs p []) t.table
+      ∙ at_numbers (λ p. tidied p (row_at start (row_id rows p))) [] (length rows) 0 p l
+      ∙ ap (λ q. tidied q (row_at start (row_id rows q))) (omega arith)
+
+  pub tidied_all : map (row_at now) made ≡ tidied_table (map (row_at start) rows)
+  unfolding tidied_table
+  tidied_all =
+      t.table
+      ∙ map_same (λ p. tidied p (row_at start (row_id rows p))) (λ p. tidied p (table_row (map (row_at start) rows) p)) (numbers (length rows) 0)
+      (λ p i.
+      let w : (0 ≤ p) × (p < 0 + length rows) = numbers_parts (length rows) 0 p i in
+      ap (tidied p) (sym (lists.get_or-map (row_at start) rows p 0 [] (omega arith))))
+      ∙ ap (λ n. map (λ p. tidied p (table_row (map (row_at start) rows) p)) (numbers n 0)) (sym (lists.length-map rows (row_at start)))
+
+  pub tidied_fit : RowsFit start rows → RowsFit now made
+  tidied_fit fit = record {
+    of_pool = t.within;
+    numbers = λ id i c j n m.
+        let w : (p : ℕ) × (p < length made) × (row_id made p ≡ id) = place_of made id i in
+        let l : w.0 < length rows = omega (arith, w.1, tidied_count) in
+        let k : In c (tidied w.0 (row_at start (row_id rows w.0))) = subst (λ cs. In c cs) (ap (row_at now) (sym w.2) ∙ tidied_at w.0 l) j in
+        let b : n < length rows = fit.numbers (row_id rows w.0) (in_place rows w.0 0 l) c (tidied_parts w.0 (row_at start (row_id rows w.0)) c k).0 n m in
+        omega (arith, tidied_count);
+  }
+
+  pub tidied_tidy : IsPool start → RowsFit start rows → RowsTidy now made
+  tidied_tidy is fit = record {
+    apart = λ p l c i j.
+        let m : p < length rows = omega (arith, tidied_count) in
+        (tidied_parts p (row_at start (row_id rows p)) c (subst (λ cs. In c cs) (tidied_at p m) i)).1 j;
+    minimal = λ p l c d i j f.
+        let m : p < length rows = omega (arith, tidied_count) in
+        tidied_minimal p (row_at start (row_id rows p)) (row_ascending start is (row_id rows p) (fit.of_pool (row_id rows p) (in_place rows p 0 m))) c d
+        (subst (λ cs. In c cs) (tidied_at p m) i) (subst (λ cs. In d cs) (tidied_at p m) j) f;
+  }

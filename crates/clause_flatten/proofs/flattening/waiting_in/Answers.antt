@@ -1,0 +1,30 @@
+use Rattle.std.proofs.Common.{◌≡◌, ◌&&◌, ◌+◌, true, false, eqb, ltb, sym, ◌∙◌, ap, length, map, subst}
+use Rattle.clause_pool.specs.Interned.{row_at}
+use Rattle.clause_flatten.specs.Substitution.{length_in}
+use Rattle.clause_flatten.specs.TakingOut.{is_free}
+use Rattle.clause_flatten.specs.Waiting.{Filed}
+use Rattle.clause_flatten.proofs.Flattened.{waiting_more, waiting_none, waiting_same}
+use Rattle.clause_flatten.proofs.flattening.waiting_in.Goals as goal
+use Rattle.clause_flatten.proofs.flattening.waiting_in.Goals.{then-is_empty+in_ok-put, else-is_empty}
+
+pub loop-package-init : goal.loop-package-init
+loop-package-init c =
+    waiting_none c.new-waiting.result c.args.book.now.conflicts (length_in (map (row_at c.args.pool.now) c.args.rows.now))
+    (c.new-waiting.ensures (length_in (map (row_at c.args.pool.now) c.args.rows.now)))
+
+pub loop-package-preserved : goal.loop-package-preserved
+loop-package-preserved c =
+    elim c.if-is_empty.branch [
+      | then-is_empty+in_ok-put w ↦
+          let free : is_free c.args.book.now.conflicts c.loop-package.«package» ≡ true =
+          ap (λ xs. eqb (length xs) 0) (sym c.against.ensures) ∙ sym c.is_empty.ensures ∙ w.if-is_empty.true in
+          subst (λ x. Filed x (λ q. ltb q (c.loop-package.«package» + 1) && is_free c.args.book.now.conflicts q) (length_in (map (row_at c.args.pool.now) c.args.rows.now))) (sym w.waiting-is)
+          (waiting_more w.put.new.self c.args.book.now.conflicts (length_in (map (row_at c.args.pool.now) c.args.rows.now)) c.loop-package.«package» free
+          (w.in_ok-put.ensures (λ q. ltb q c.loop-package.«package» && is_free c.args.book.now.conflicts q) (length_in (map (row_at c.args.pool.now) c.args.rows.now))
+          c.loop-package.invariant (sym w.clauses_in.ensures)))
+      | else-is_empty w ↦
+          let free : is_free c.args.book.now.conflicts c.loop-package.«package» ≡ false =
+          ap (λ xs. eqb (length xs) 0) (sym c.against.ensures) ∙ sym c.is_empty.ensures ∙ w.if-is_empty.false in
+          subst (λ x. Filed x (λ q. ltb q (c.loop-package.«package» + 1) && is_free c.args.book.now.conflicts q) (length_in (map (row_at c.args.pool.now) c.args.rows.now))) (sym w.waiting-is)
+          (waiting_same c.loop-package.waiting c.args.book.now.conflicts (length_in (map (row_at c.args.pool.now) c.args.rows.now)) c.loop-package.«package» free c.loop-package.invariant)
+    ]

@@ -1,0 +1,44 @@
+-- Families of clauses that are built before they are put into the pool.
+use Rattle.std.specs.Prelude.{◌≡◌, ℕ, Bool, not, ◌&&◌, ltb, cond, List, [], length, map, ◌⊎◌}
+use Rattle.std.specs.List.{filter, flat_map, list_any}
+use Rattle.clause_pool.specs.Interned.{Interned, clause_at, clauses_at, Kept, OfPool}
+use Rattle.row_book.specs.Sets.{In, has}
+use Rattle.row_book.specs.Clauses.{Inside, is_inside}
+use Rattle.clause_flatten.specs.Substitution.{dropped, joined}
+
+-- the clause holds one of the numbers
+abbrev pub HoldsOneOf : List ℕ → List ℕ → Type 0
+HoldsOneOf numbers clause = (n : ℕ) × In n clause × In n numbers
+
+-- the clause includes one of the others
+abbrev pub IncludesOneOf : List (List ℕ) → List ℕ → Type 0
+IncludesOneOf others clause = (s : List ℕ) × In s others × Inside s clause
+
+-- the ids of clauses that do not hold the package; of the others that do not hold it, none is left out that is needed
+pub record Useful (pool : Interned) (user : ℕ) (Needless : List ℕ → Type 0) (ids useful : List ℕ) : Type 0 where
+  pub part : (id : ℕ) → In id useful → In id ids
+  pub apart : (id : ℕ) → In id useful → In user (clause_at pool id) → ⊥
+  pub rest : (id : ℕ) → In id ids → In id useful ⊎ (In user (clause_at pool id) ⊎ Needless (clause_at pool id))
+
+-- the unions of a clause, without the number, with each of the others
+abbrev pub unions_of : ℕ → List (List ℕ) → List ℕ → List (List ℕ)
+unions_of spent others clause = map (λ other. joined (dropped spent clause) other) others
+
+-- those of each clause that holds the number
+abbrev pub all_unions : ℕ → List (List ℕ) → List (List ℕ) → List (List ℕ)
+all_unions spent row others = flat_map (λ clause. cond (has clause spent) (unions_of spent others clause) []) row
+
+-- the same clauses in another list
+pub record SameClauses (old new : List (List ℕ)) : Type 0 where
+  pub there : (c : List ℕ) → In c old → In c new
+  pub back : (c : List ℕ) → In c new → In c old
+
+-- a shorter clause of the family is inside the clause
+abbrev pub has_shorter : List (List ℕ) → List ℕ → Bool
+has_shorter family clause = list_any (λ other. ltb (length other) (length clause) && is_inside other clause) family
+
+-- the clauses without such a one are in the pool, which keeps what it held
+pub record InternedSoFar (start pool : Interned) (family done : List (List ℕ)) (ids : List ℕ) : Type 0 where
+  pub made : clauses_at pool ids ≡ filter (λ clause. not (has_shorter family clause)) done
+  pub of_pool : OfPool pool ids
+  pub kept : Kept start pool

@@ -1,0 +1,249 @@
+//! The clauses that may stand in a row once a package is taken out, in scratch space.
+ghost use Rattle.std.specs.Prelude.{◌≡◌, ℕ, ◌<◌, ◌++◌, ◌∷◌, [], List, IfOk, IfSome, OnOk, length};
+ghost use Rattle.std.specs.Bool.{OnTrue};
+ghost use Rattle.clause_pool.specs.Interned.{clauses_at, row_at, Kept, OfPool};
+ghost use Rattle.row_book.specs.Sets.{In};
+ghost use Rattle.row_book.specs.Clauses.{apart_from, is_inside, minimal_of, Ascending, InOrder};
+ghost use Rattle.clause_flatten.specs.Families.{all_unions, has_shorter, unions_of, HoldsOneOf, IncludesOneOf, SameClauses, Useful};
+
+use crate::scratch::{Clause, contains};
+use clause_pool::{ClauseId, Pool, RowId};
+use std::alloc::{AllocError, Global};
+
+/// The clauses of the spent package's row whose unions may be wanted in the row of a user: they do not hold the user,
+/// and the most that include a clause of the user's row without the spent package are left out.
+pub(crate) fn useful_of(
+    alloc: Global,
+    pool: &Pool,
+    user: u32,
+    spent: u32,
+    row: &[ClauseId],
+    others: &[ClauseId],
+) -> Result<Vec<ClauseId>, AllocError>
+    requires row { OfPool pool.now row.now }
+    requires others { OfPool pool.now others.now }
+    ensures { IfOk result (λ useful.
+        Useful pool.now user (IncludesOneOf (apart_from spent (clauses_at pool.now row.now))) others.now useful.items) }
+{
+    if others.is_empty() {
+        return Ok(Vec::new(alloc));
+    }
+    let singles = singles_of(alloc, pool, spent, row)?;
+    useful_beside(alloc, pool, user, singles.as_slice(), others)
+}
+
+/// The numbers, other than the spent one, that are clauses by themselves; they ascend as the row is in order.
+fn singles_of(
+    alloc: Global,
+    pool: &Pool,
+    spent: u32,
+    row: &[ClauseId],
+) -> Result<Vec<u32>, AllocError>
+    requires { OfPool pool.now row.now }
+    ensures { IfOk result (λ singles. (n : ℕ) → In n singles.items → In (n ∷ []) (apart_from spent (clauses_at pool.now row.now))) }
+{
+    let mut singles = Vec::new(alloc);
+    for id in row {
+        if let Some(literal) = single(pool.slice(*id)) {
+            if literal != spent {
+                singles.push(literal)?;
+            }
+        }
+    }
+    Ok(singles)
+}
+
+/// The literal of a clause that has one alone.
+fn single(clause: &[u32]) -> Option<u32>
+    ensures { IfSome result (λ literal. clause.now ≡ literal ∷ []) }
+{
+    match clause {
+        [literal] => Some(*literal),
+        _ => None,
+    }
+}
+
+/// The clauses that hold neither the user nor one of the numbers.
+fn useful_beside(
+    alloc: Global,
+    pool: &Pool,
+    user: u32,
+    singles: &[u32],
+    others: &[ClauseId],
+) -> Result<Vec<ClauseId>, AllocError>
+    requires { OfPool pool.now others.now }
+    ensures { IfOk result (λ useful. Useful pool.now user (HoldsOneOf singles.now) others.now useful.items) }
+{
+    let mut useful = Vec::new(alloc);
+    for id in others {
+        let clause = pool.slice(*id);
+        if !contains(clause, user) && !holds_one_of(singles, clause) {
+            useful.push(*id)?;
+        }
+    }
+    Ok(useful)
+}
+
+/// Whether the clause holds one of the numbers, which are ascending.
+fn holds_one_of(numbers: &[u32], clause: &[u32]) -> bool
+    ensures { OnTrue result (HoldsOneOf numbers.now clause.now) }
+{
+    for literal in clause {
+        if is_one_of(numbers, *literal) {
+            return true;
+        }
+    }
+    false
+}
+
+/// Whether the number is one of the numbers, which are ascending.
+fn is_one_of(numbers: &[u32], number: u32) -> bool
+    ensures { OnTrue result (In number numbers.now) }
+{
+    numbers.binary_search(&number).is_ok()
+}
+
+/// The clauses of the row of a user that do not hold the spent package, and the unions, without it, of each other one
+/// with each useful clause, in order.
+pub(crate) fn candidates(
+    alloc: Global,
+    pool: &Pool,
+    spent: u32,
+    row: &[ClauseId],
+    useful: &[ClauseId],
+) -> Result<Vec<Clause>, AllocError>
+    requires row { OfPool pool.now row.now }
+    requires useful { OfPool pool.now useful.now }
+    ensures in_order { IfOk result (λ family. InOrder family.items) }
+    ensures same { IfOk result (λ family. SameClauses (apart_from spent (clauses_at pool.now row.now)
+        ++ all_unions spent (clauses_at pool.now row.now) (clauses_at pool.now useful.now)) family.items) }
+{
+    let mut family = clauses_without(alloc, pool, spent, row)?;
+    add_unions(alloc, pool, spent, row, useful, &mut family)?;
+    put_in_order(&mut family);
+    Ok(family)
+}
+
+/// The clauses that do not hold a number.
+fn clauses_without(
+    alloc: Global,
+    pool: &Pool,
+    number: u32,
+    row: &[ClauseId],
+) -> Result<Vec<Clause>, AllocError>
+    requires { OfPool pool.now row.now }
+    ensures { IfOk result (λ family. family.items ≡ apart_from number (clauses_at pool.now row.now)) }
+{
+    let mut family = Vec::new(alloc);
+    for id in row {
+        let clause = pool.slice(*id);
+        if !contains(clause, number) {
+            family.push(Clause::copy(alloc, clause)?)?;
+        }
+    }
+    Ok(family)
+}
+
+/// Puts the unions of each clause that holds the spent package behind the others.
+fn add_unions(
+    alloc: Global,
+    pool: &Pool,
+    spent: u32,
+    row: &[ClauseId],
+    others: &[ClauseId],
+    family: &mut Vec<Clause>,
+) -> Result<(), AllocError>
+    requires row { OfPool pool.now row.now }
+    requires others { OfPool pool.now others.now }
+    ensures { OnOk result (family.new.items ≡ family.old.items
+        ++ all_unions spent (clauses_at pool.now row.now) (clauses_at pool.now others.now)) }
+{
+    for id in row {
+        let clause = pool.slice(*id);
+        if contains(clause, spent) {
+            add_unions_of(alloc, pool, spent, clause, others, family)?;
+        }
+    }
+    Ok(())
+}
+
+/// Puts the unions of one clause behind the others.
+fn add_unions_of(
+    alloc: Global,
+    pool: &Pool,
+    spent: u32,
+    clause: &[u32],
+    others: &[ClauseId],
+    family: &mut Vec<Clause>,
+) -> Result<(), AllocError>
+    requires { OfPool pool.now others.now }
+    ensures { OnOk result (family.new.items ≡ family.old.items
+        ++ unions_of spent (clauses_at pool.now others.now) clause.now) }
+{
+    for other in others {
+        let union = Clause::union_without(alloc, spent, clause, pool.slice(*other))?;
+        family.push(union)?;
+    }
+    Ok(())
+}
+
+/// Puts the clauses in order, each once.
+fn put_in_order(family: &mut Vec<Clause>)
+    ensures in_order { InOrder family.new.items }
+    ensures same { SameClauses family.old.items family.new.items }
+{
+    family.sort_unstable();
+    family.dedup();
+}
+
+/// The row of the minimal clauses of the family, in the pool.
+pub(crate) fn intern_minimal(
+    alloc: Global,
+    pool: &mut Pool,
+    family: &[Clause],
+) -> Result<RowId, AllocError>
+    requires ascending { (c : List ℕ) → In c family.now → Ascending c }
+    requires in_order { InOrder family.now }
+    ensures ok { IfOk result (λ id. row_at pool.new id ≡ minimal_of family.now) }
+    ensures of_pool { IfOk result (λ id. id < length pool.new.rows) }
+    ensures kept { Kept pool.old pool.new }
+{
+    let ids = minimal_ids(alloc, pool, family)?;
+    pool.intern_row(ids.as_slice())
+}
+
+/// The ids of the minimal clauses of the family, in its order.
+fn minimal_ids(
+    alloc: Global,
+    pool: &mut Pool,
+    family: &[Clause],
+) -> Result<Vec<ClauseId>, AllocError>
+    requires { (c : List ℕ) → In c family.now → Ascending c }
+    ensures ok { IfOk result (λ ids. clauses_at pool.new ids.items ≡ minimal_of family.now) }
+    ensures of_pool { IfOk result (λ ids. OfPool pool.new ids.items) }
+    ensures kept { Kept pool.old pool.new }
+{
+    let mut ids = Vec::new(alloc);
+    for clause in family {
+        if !has_shorter(family, clause.as_slice()) {
+            let id = pool.intern(clause.as_slice())?;
+            ids.push(id)?;
+        }
+    }
+    Ok(ids)
+}
+
+/// Whether a shorter clause of the family is inside the clause: among ascending ones, another one inside is shorter.
+fn has_shorter(family: &[Clause], clause: &[u32]) -> bool
+    ensures { result ≡ has_shorter family.now clause.now }
+{
+    family.iter().any(|other| other.as_slice().len() < clause.len()
+        && is_within(other.as_slice(), clause))
+}
+
+/// Whether each literal of the first clause is in the second.
+fn is_within(inner: &[u32], outer: &[u32]) -> bool
+    ensures { result ≡ is_inside inner.now outer.now }
+{
+    inner.iter().all(|literal| contains(outer, *literal))
+}

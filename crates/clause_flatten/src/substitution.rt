@@ -1,0 +1,78 @@
+//! One elimination: a package is taken out of all rows.
+ghost use Rattle.std.specs.Prelude.{◌≡◌, ◌≢◌, ◌<◌, ◌⊎◌, ℕ, OnErr, OnOk, length, map};
+ghost use Rattle.clause_pool.specs.Interned.{row_at, Kept};
+ghost use Rattle.row_book.specs.Book.{RowsFit, RowsTidy};
+ghost use Rattle.row_book.specs.Clauses.{ordered};
+ghost use Rattle.row_book.specs.Uses.{row_id, uses_of};
+ghost use Rattle.clause_flatten.specs.Substitution.{eliminated, substituted, table_row};
+
+use crate::rewriting::rewrite;
+use clause_pool::{Pool, RowId};
+use row_book::UseTable;
+use std::alloc::{AllocError, Global};
+
+/// Takes a package out of the rows: each clause that holds it is replaced by its unions with the clauses of the package's own row, which stays.
+///
+/// The table tells which packages name which in these rows, and does so afterwards. What the pool held stays. Where no
+/// memory is found, each row is the old or the new one.
+pub fn eliminate(
+    alloc: Global,
+    pool: &mut Pool,
+    rows: &mut [RowId],
+    uses: &mut UseTable,
+    gone: u32,
+) -> Result<(), AllocError>
+    requires few { length rows.old < 4294967295 }
+    requires fit { RowsFit pool.old rows.old }
+    requires tidy { RowsTidy pool.old rows.old }
+    requires table { uses.old ≡ uses_of pool.old rows.old }
+    requires gone { gone < length rows.old }
+    ensures ok { OnOk result (map (row_at pool.new) rows.new ≡ eliminated gone (map (row_at pool.old) rows.old)) }
+    ensures each { (p : ℕ) → p < length rows.old → (row_id rows.new p ≡ row_id rows.old p)
+        ⊎ (row_at pool.new (row_id rows.new p) ≡ table_row (eliminated gone (map (row_at pool.old) rows.old)) p) }
+    ensures fit { RowsFit pool.new rows.new }
+    ensures tidy { RowsTidy pool.new rows.new }
+    ensures table { uses.new ≡ uses_of pool.new rows.new }
+    ensures kept { Kept pool.old pool.new }
+{
+    // The count says that the pool is sound.
+    pool.clause_count();
+    let users = Vec::from_slice(alloc, uses.packages(gone))?;
+    for user in &users {
+        replace_row(alloc, pool, rows, uses, *user, gone)?;
+    }
+    Ok(())
+}
+
+/// Takes a package out of the row of another one; where no memory is found, the rows stay as they were.
+fn replace_row(
+    alloc: Global,
+    pool: &mut Pool,
+    rows: &mut [RowId],
+    uses: &mut UseTable,
+    user: u32,
+    gone: u32,
+) -> Result<(), AllocError>
+    requires fit { RowsFit pool.old rows.old }
+    requires tidy { RowsTidy pool.old rows.old }
+    requires table { uses.old ≡ uses_of pool.old rows.old }
+    requires user { user < length rows.old }
+    requires gone { gone < length rows.old }
+    ensures ok { OnOk result (row_at pool.new (row_id rows.new user)
+        ≡ ordered (substituted user gone (row_at pool.old (row_id rows.old user)) (row_at pool.old (row_id rows.old gone)))) }
+    ensures err { OnErr result (rows.new ≡ rows.old) }
+    ensures others { (p : ℕ) → p ≢ user → row_id rows.new p ≡ row_id rows.old p }
+    ensures stay { (p : ℕ) → p < length rows.old → p ≢ user → row_at pool.new (row_id rows.new p) ≡ row_at pool.old (row_id rows.old p) }
+    ensures fit { RowsFit pool.new rows.new }
+    ensures tidy { RowsTidy pool.new rows.new }
+    ensures table { uses.new ≡ uses_of pool.new rows.new }
+    ensures kept { Kept pool.old pool.new }
+{
+    // The count says that the pool is sound.
+    pool.clause_count();
+    let old = rows[user as usize];
+    let new = rewrite(alloc, pool, user, gone, old, rows[gone as usize])?;
+    uses.replace(alloc, pool, user, old, new)?;
+    rows[user as usize] = new;
+    Ok(())
+}

@@ -1,0 +1,153 @@
+//! One step of flattening: a package is taken out.
+ghost use Rattle.std.specs.Prelude.{◌≡◌, ◌<◌, ◌≤◌, ℕ, Bool, Some, IfOk, IfErr, OnOk, length, map};
+ghost use Rattle.std.specs.List.{find};
+ghost use Rattle.clause_pool.specs.Interned.{row_at, Kept};
+ghost use Rattle.row_book.specs.Sets.{In};
+ghost use Rattle.row_book.specs.Clauses.{numbers, Ascending};
+ghost use Rattle.row_book.specs.Book.{RowsFit, RowsTidy};
+ghost use Rattle.row_book.specs.Uses.{uses_of};
+ghost use Rattle.row_book.specs.Flattening.{passed_by};
+ghost use Rattle.clause_flatten.specs.Substitution.{eliminated, length_in};
+ghost use Rattle.clause_flatten.specs.Refusals.{OnLimit};
+ghost use Rattle.clause_flatten.specs.Waiting.{Filed};
+ghost use Rattle.clause_flatten.specs.TakingOut.{counted_anew, is_over};
+
+use crate::error::FlatError;
+use crate::substitution::eliminate;
+use crate::waiting::Waiting;
+use clause_pool::{Pool, RowId};
+use row_book::UseTable;
+use std::alloc::{AllocError, Global};
+
+/// The number of clauses in the row of a package.
+pub(crate) fn clauses_in(pool: &Pool, rows: &[RowId], package: u32) -> u64
+    requires fit { RowsFit pool.now rows.now }
+    requires there { «package» < length rows.now }
+    ensures { result ≡ length_in (map (row_at pool.now) rows.now) «package» }
+{
+    pool.row(rows[package as usize]).len() as u64
+}
+
+/// Whether the row of a package has more clauses than the limit allows.
+fn is_over(pool: &Pool, rows: &[RowId], package: u32, limit: u32) -> bool
+    requires fit { RowsFit pool.now rows.now }
+    requires there { «package» < length rows.now }
+    ensures { result ≡ is_over (map (row_at pool.now) rows.now) limit «package» }
+{
+    u64::from(limit) < clauses_in(pool, rows, package)
+}
+
+/// The numbers of clauses in the rows of the packages.
+fn counts_of(
+    alloc: Global,
+    pool: &Pool,
+    rows: &[RowId],
+    packages: &[u32],
+) -> Result<Vec<u64>, AllocError>
+    requires fit { RowsFit pool.now rows.now }
+    requires packages { (q : ℕ) → In q packages.now → q < length rows.now }
+    ensures { IfOk result (λ counts. counts.items ≡ map (length_in (map (row_at pool.now) rows.now)) packages.now) }
+{
+    let mut counts = Vec::new(alloc);
+    for package in packages {
+        counts.push(clauses_in(pool, rows, *package))?;
+    }
+    Ok(counts)
+}
+
+/// The first of the packages whose row has more clauses than the limit allows.
+fn first_over(pool: &Pool, rows: &[RowId], packages: &[u32], limit: u32) -> Option<u32>
+    requires fit { RowsFit pool.now rows.now }
+    requires packages { (q : ℕ) → In q packages.now → q < length rows.now }
+    ensures { result ≡ find (is_over (map (row_at pool.now) rows.now) limit) packages.now }
+{
+    for package in packages {
+        if is_over(pool, rows, *package, limit) {
+            return Some(*package);
+        }
+    }
+    None
+}
+
+/// The least package whose row has more clauses than the limit allows.
+pub(crate) fn least_over(pool: &Pool, rows: &[RowId], limit: u32) -> Option<u32>
+    requires few { length rows.now < 4294967295 }
+    requires fit { RowsFit pool.now rows.now }
+    ensures { result ≡ find (is_over (map (row_at pool.now) rows.now) limit) (numbers (length rows.now) 0) }
+{
+    for package in 0..rows.len() as u32 {
+        if is_over(pool, rows, package, limit) {
+            return Some(package);
+        }
+    }
+    None
+}
+
+/// Files the packages, with the numbers of clauses that they had, under those of their rows.
+fn file_users(
+    pool: &Pool,
+    rows: &[RowId],
+    users: &[u32],
+    counts: &[u64],
+    waiting: &mut Waiting,
+) -> Result<(), AllocError>
+    requires fit { RowsFit pool.now rows.now }
+    requires users { (q : ℕ) → In q users.now → q < length rows.now }
+    requires ascending { Ascending users.now }
+    requires counts { length counts.now ≡ length users.now }
+    ensures { OnOk result ((may : ℕ → Bool) (count : ℕ → ℕ) → Filed waiting.old may count → counts.now ≡ map count users.now →
+        Filed waiting.new may (counted_anew count (map (row_at pool.now) rows.now) users.now)) }
+{
+    for (place, user) in users.iter().enumerate() {
+        let count = clauses_in(pool, rows, *user);
+        waiting.file_again(*user, counts[place], count)?;
+    }
+    Ok(())
+}
+
+/// Takes a package that waits no longer out of the rows, tests the rows of its users against the limit, and files those
+/// that wait again. With this package `gone` are gone.
+#[allow(clippy::too_many_arguments)]
+pub(crate) fn take_out(
+    alloc: Global,
+    pool: &mut Pool,
+    rows: &mut [RowId],
+    uses: &mut UseTable,
+    waiting: &mut Waiting,
+    package: u32,
+    gone: u32,
+    limit: u32,
+) -> Result<(), FlatError>
+    requires few { length rows.old < 4294967295 }
+    requires fit { RowsFit pool.old rows.old }
+    requires tidy { RowsTidy pool.old rows.old }
+    requires table { uses.old ≡ uses_of pool.old rows.old }
+    requires there { «package» < length rows.old }
+    requires within { (p : ℕ) → p < length rows.old → length_in (map (row_at pool.old) rows.old) p ≤ limit }
+    ensures rows { OnOk result (map (row_at pool.new) rows.new ≡ eliminated «package» (map (row_at pool.old) rows.old)) }
+    ensures fit { RowsFit pool.new rows.new }
+    ensures tidy { RowsTidy pool.new rows.new }
+    ensures table { uses.new ≡ uses_of pool.new rows.new }
+    ensures kept { Kept pool.old pool.new }
+    ensures within { OnOk result ((p : ℕ) → p < length rows.old →
+        length_in (eliminated «package» (map (row_at pool.old) rows.old)) p ≤ limit) }
+    ensures passed { IfErr result (OnLimit (λ passed.
+        passed_by (length_in (eliminated «package» (map (row_at pool.old) rows.old))) (numbers (length rows.old) 0) limit gone ≡ Some passed)) }
+    ensures filed { OnOk result ((may : ℕ → Bool) → Filed waiting.old may (length_in (map (row_at pool.old) rows.old)) →
+        Filed waiting.new may (length_in (eliminated «package» (map (row_at pool.old) rows.old)))) }
+{
+    // What holds of every pool is told by this call alone.
+    pool.clause_count();
+    let users = Vec::from_slice(alloc, uses.packages(package))?;
+    let counts = counts_of(alloc, pool, rows, users.as_slice())?;
+    eliminate(alloc, pool, rows, uses, package)?;
+    if let Some(over) = first_over(pool, rows, users.as_slice(), limit) {
+        return Err(FlatError::Limit {
+            gone,
+            package: over,
+            count: clauses_in(pool, rows, over),
+        });
+    }
+    file_users(pool, rows, users.as_slice(), counts.as_slice(), waiting)?;
+    Ok(())
+}

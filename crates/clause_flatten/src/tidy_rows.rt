@@ -1,0 +1,108 @@
+//! The rows before any package is taken out.
+ghost use Rattle.std.specs.Prelude.{◌≡◌, ◌<◌, IfOk, length, map};
+ghost use Rattle.std.specs.List.{filter, list_any};
+ghost use Rattle.clause_pool.specs.Interned.{clause_at, clauses_at, row_at, Kept, OfPool};
+ghost use Rattle.row_book.specs.Sets.{has};
+ghost use Rattle.row_book.specs.Clauses.{is_inside};
+ghost use Rattle.row_book.specs.Book.{RowsFit, RowsTidy};
+ghost use Rattle.clause_flatten.specs.TidyRows.{is_strictly_inside, stays, tidied, tidied_table, RowsStay};
+
+use clause_pool::{ClauseId, Pool, RowId};
+use std::alloc::{AllocError, Global};
+
+fn has(clause: &[u32], number: u32) -> bool
+    ensures { result ≡ has clause.now number }
+{
+    clause.iter().any(|other| number == *other)
+}
+
+fn is_inside(small: &[u32], large: &[u32]) -> bool
+    ensures { result ≡ is_inside small.now large.now }
+{
+    small.iter().all(|number| has(large, *number))
+}
+
+/// Only where the first is the shorter one are the numbers looked at.
+fn is_strictly_inside(small: &[u32], large: &[u32]) -> bool
+    ensures { result ≡ is_strictly_inside small.now large.now }
+{
+    small.len() < large.len() && is_inside(small, large)
+}
+
+/// Whether a clause of the row is strictly within the clause.
+fn has_smaller(pool: &Pool, row: &[ClauseId], clause: &[u32]) -> bool
+    requires { OfPool pool.now row.now }
+    ensures { result ≡ list_any (λ other. is_strictly_inside other clause.now) (clauses_at pool.now row.now) }
+{
+    for other in row {
+        if is_strictly_inside(pool.slice(*other), clause) {
+            return true;
+        }
+    }
+    false
+}
+
+/// Whether a clause stays in the first row of the package.
+fn stays(pool: &Pool, package: u32, row: &[ClauseId], clause: &[u32]) -> bool
+    requires { OfPool pool.now row.now }
+    ensures { result ≡ stays «package» (clauses_at pool.now row.now) clause.now }
+{
+    !has(clause, package) && !has_smaller(pool, row, clause)
+}
+
+/// The clauses that stay.
+fn kept_clauses(
+    alloc: Global,
+    pool: &Pool,
+    package: u32,
+    row: &[ClauseId],
+) -> Result<Vec<ClauseId>, AllocError>
+    requires { OfPool pool.now row.now }
+    ensures { IfOk result (λ kept. kept.items ≡ filter (λ id. stays «package» (clauses_at pool.now row.now) (clause_at pool.now id)) row.now) }
+{
+    let mut kept = Vec::new(alloc);
+    for id in row {
+        if stays(pool, package, row, pool.slice(*id)) {
+            kept.push(*id)?;
+        }
+    }
+    Ok(kept)
+}
+
+/// The first row of a package from the row of its clauses.
+fn tidy_row(alloc: Global, pool: &mut Pool, package: u32, row: RowId) -> Result<RowId, AllocError>
+    requires { row < length pool.old.rows }
+    ensures within { IfOk result (λ id. id < length pool.new.rows) }
+    ensures tidied { IfOk result (λ id. row_at pool.new id ≡ tidied «package» (row_at pool.old row)) }
+    ensures stay { RowsStay pool.old pool.new }
+    ensures kept { Kept pool.old pool.new }
+{
+    // What holds of every pool is told by this call alone.
+    pool.clause_count();
+    let kept = kept_clauses(alloc, pool, package, pool.row(row))?;
+    pool.intern_row(kept.as_slice())
+}
+
+/// The first row of each package from the rows of their clauses.
+pub(crate) fn tidy_rows(
+    alloc: Global,
+    pool: &mut Pool,
+    rows: &[RowId],
+) -> Result<Vec<RowId>, AllocError>
+    requires few { length rows.now < 4294967295 }
+    requires fit { RowsFit pool.old rows.now }
+    ensures tidied { IfOk result (λ made. map (row_at pool.new) made.items ≡ tidied_table (map (row_at pool.old) rows.now)) }
+    ensures count { IfOk result (λ made. length made.items ≡ length rows.now) }
+    ensures fit { IfOk result (λ made. RowsFit pool.new made.items) }
+    ensures tidy { IfOk result (λ made. RowsTidy pool.new made.items) }
+    ensures kept { Kept pool.old pool.new }
+{
+    // What holds of every pool is told by this call alone.
+    pool.clause_count();
+    let mut made = Vec::new(alloc);
+    for (package, row) in rows.iter().enumerate() {
+        let first = tidy_row(alloc, pool, package as u32, *row)?;
+        made.push(first)?;
+    }
+    Ok(made)
+}

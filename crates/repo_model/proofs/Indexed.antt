@@ -1,34 +1,41 @@
--- Items by their numbers: the first of those under a name that passes a test, and one more item.
+-- Items by their numbers: the first of those that pass a test, and one more item.
 use Rattle.std.proofs.Common.{◌≡◌, ℕ, suc, ◌+◌, Bool, true, false, cond, List, [], ◌∷◌, ◌++◌, length, Option, Some, find, refl, sym, ap, ◌∙◌, add-zero, zero-add, arith}
-use Rattle.std.specs.Prelude.{◌&&◌, slice_get, if◌then◌else◌}
-use Rattle.std.specs.Option.{option_map_or, option_and_then}
+use Rattle.std.specs.Prelude.{slice_get, if◌then◌else◌}
+use Rattle.std.specs.List.{AllByRecursion}
+use Rattle.std.specs.Option.{option_and_then}
 use Rattle.std.proofs.lemmas.List.{append-nil}
-use Rattle.virtual_provides.specs.Numbers.{numbers_from, numbers_where, passes_at, with_number}
+use Rattle.virtual_provides.specs.Numbers.{numbers_from, numbers_where, with_number}
 use Rattle.virtual_provides.specs.Bearers.{if_so}
 use Rattle.virtual_provides.proofs.Numbered.{numbers_from-cons, numbers_from-push, numbers_where-fresh}
 
-module _ {X : Type 0} (named equal : X → Bool) where
-  find_step : (all : List X) (n : ℕ) (x : X) (numbers : List ℕ) (found : Option X) → slice_get all n ≡ Some x → option_and_then (slice_get all) (find (passes_at equal all) numbers) ≡ found
-      → (b t : Bool) → equal x ≡ t → option_and_then (slice_get all) (find (passes_at equal all) (if_so b n ++ numbers)) ≡ cond (b && t) (Some x) found
-  find_step all n x numbers found here rest true true e =
-      ap (λ c. option_and_then (slice_get all) (cond c (Some n) (find (passes_at equal all) numbers))) (ap (λ o. option_map_or equal o false) here ∙ e) ∙ here
-  find_step all n x numbers found here rest true false e =
-      ap (λ c. option_and_then (slice_get all) (cond c (Some n) (find (passes_at equal all) numbers))) (ap (λ o. option_map_or equal o false) here ∙ e) ∙ rest
-  find_step all n x numbers found here rest false true e = rest
-  find_step all n x numbers found here rest false false e = rest
+module _ {X : Type 0} (test : X → Bool) where
+  first_step : (all : List X) (n : ℕ) (x : X) (numbers : List ℕ) (found : Option X) → slice_get all n ≡ Some x → option_and_then (slice_get all) (slice_get numbers 0) ≡ found
+      → (b : Bool) → option_and_then (slice_get all) (slice_get (if_so b n ++ numbers) 0) ≡ cond b (Some x) found
+  first_step all n x numbers found here rest true = here
+  first_step all n x numbers found here rest false = rest
 
-  find_from : (all items : List X) (n : ℕ) → ((k : ℕ) → slice_get all (n + k) ≡ slice_get items k)
-      → option_and_then (slice_get all) (find (passes_at equal all) (numbers_from n named items)) ≡ find (λ x. named x && equal x) items
-  find_from all [] n same = refl
-  find_from all (x ∷ items) n same =
+  first_from : (all items : List X) (n : ℕ) → ((k : ℕ) → slice_get all (n + k) ≡ slice_get items k)
+      → option_and_then (slice_get all) (slice_get (numbers_from n test items) 0) ≡ find test items
+  first_from all [] n same = refl
+  first_from all (x ∷ items) n same =
       let onward : (k : ℕ) → slice_get all (n + 1 + k) ≡ slice_get items k = λ k. let place : n + 1 + k ≡ n + suc k = omega arith in ap (slice_get all) place ∙ same (suc k) in
-      rw (numbers_from-cons named n x items)
-      (find_step all n x (numbers_from (n + 1) named items) (find (λ y. named y && equal y) items) (ap (slice_get all) (sym (add-zero n)) ∙ same 0) (find_from all items (n + 1) onward)
-      (named x) (equal x) refl)
+      rw (numbers_from-cons test n x items)
+      (first_step all n x (numbers_from (n + 1) test items) (find test items) (ap (slice_get all) (sym (add-zero n)) ∙ same 0) (first_from all items (n + 1) onward) (test x))
 
-  -- among the items under a name the first that is equal is the first item that is both
-  pub find_where : (all : List X) → option_and_then (slice_get all) (find (passes_at equal all) (numbers_where named all)) ≡ find (λ x. named x && equal x) all
-  find_where all = find_from all all 0 (λ k. ap (slice_get all) (zero-add k))
+  -- the item of the first number is the first item that passes
+  pub first_where : (all : List X) → option_and_then (slice_get all) (slice_get (numbers_where test all) 0) ≡ find test all
+  first_where all = first_from all all 0 (λ k. ap (slice_get all) (zero-add k))
+
+  -- two tests that are alike on each item find the same item
+  pub find_alike : (P : X → Type 0) (other : X → Bool) → ((x : X) → P x → test x ≡ other x) → (items : List X) → AllByRecursion P items → find test items ≡ find other items
+  find_alike P other alike [] all = refl
+  find_alike P other alike (x ∷ items) all =
+      ap (λ b. cond b (Some x) (find test items)) (alike x all.0) ∙ ap (λ found. cond (other x) (Some x) found) (find_alike P other alike items all.1)
+
+-- one more item
+pub all_push : {X : Type 0} (P : X → Type 0) (items : List X) (x : X) → AllByRecursion P items → P x → AllByRecursion P (items ++ x ∷ [])
+all_push P [] x all own = (own, tt)
+all_push P (y ∷ items) x all own = (all.0, all_push P items x all.1 own)
 
 module _ {X : Type 0} (named : X → Bool) where
   push_step : (items : List X) (b : Bool) → (if b then with_number (length items) (numbers_where named items) else numbers_where named items) ≡ numbers_where named items ++ if_so b (length items)

@@ -34,7 +34,7 @@ abbrev pub fault_from : List Reading → ℕ → List Reading → Option IndexFa
 fault_from all n more = first_some (faults_from all n more)
 
 -- The packages so far are those of the stanzas before the place, none of which has a fault.
-pub record IsRead (bytes : List ℕ) (at : Place) (packages : List PackageFacts) (home : Option (List ℕ)) (names : NumbersByName) : Type 0 where
+pub record IsRead (bytes : List ℕ) (at : Place) (packages : List PackageFacts) (home : Option (List ℕ)) (keys : NumbersByName) : Type 0 where
   pub before : List RawStanza
   pub place : IsPlace bytes at
   pub few : length packages ≤ 200000
@@ -42,7 +42,7 @@ pub record IsRead (bytes : List ℕ) (at : Place) (packages : List PackageFacts)
   pub left : first_fault bytes ≡ fault_from (readings bytes) (length before) (readings_at bytes at)
   pub facts : packages ≡ map facts_of before
   pub common : home ≡ home_of before
-  pub indexed : IsIndexOf packages names
+  pub indexed : IsIndexOf packages keys
 
 stanzas_in-ok : (before : List RawStanza) → stanzas_in (map ok_of before) ≡ before
 stanzas_in-ok [] = refl
@@ -102,10 +102,10 @@ unfolding home_of
 home_of-push before stanza = ap first_some (map-append architecture_of before (stanza ∷ [])) ∙ first_some-push (map architecture_of before) (architecture_of stanza)
 
 -- nothing was read yet
-pub read_first : (bytes : List ℕ) (packages : List PackageFacts) (home : Option (List ℕ)) (names : NumbersByName) → packages ≡ [] → home ≡ None → IsIndexOf packages names
-    → IsPlace bytes record { offset = 0; line = 1 } → IsRead bytes record { offset = 0; line = 1 } packages home names
+pub read_first : (bytes : List ℕ) (packages : List PackageFacts) (home : Option (List ℕ)) (keys : NumbersByName) → packages ≡ [] → home ≡ None → IsIndexOf packages keys
+    → IsPlace bytes record { offset = 0; line = 1 } → IsRead bytes record { offset = 0; line = 1 } packages home keys
 unfolding first_fault home_of
-read_first bytes packages home names none all indexed place = record {
+read_first bytes packages home keys none all indexed place = record {
   before = [];
   place = place;
   few = rw none (omega arith);
@@ -117,15 +117,15 @@ read_first bytes packages home names none all indexed place = record {
 }
 
 -- a refusal in the checks 1 to 3 is that of the index
-pub shape_refused : {bytes : List ℕ} {at : Place} {packages : List PackageFacts} {home : Option (List ℕ)} {names : NumbersByName} (fault : IndexFault) (count : ℕ)
-    → IsRead bytes at packages home names → count ≡ length packages → Refuses fault (option_and_then (shape_fault count) (first_reading (readings_at bytes at))) → Refuses fault (first_fault bytes)
+pub shape_refused : {bytes : List ℕ} {at : Place} {packages : List PackageFacts} {home : Option (List ℕ)} {keys : NumbersByName} (fault : IndexFault) (count : ℕ)
+    → IsRead bytes at packages home keys → count ≡ length packages → Refuses fault (option_and_then (shape_fault count) (first_reading (readings_at bytes at))) → Refuses fault (first_fault bytes)
 shape_refused {bytes} {at} {packages} fault count r counted = for_same fault (λ h.
     let n : count ≡ length r.before = counted ∙ ap length r.facts ∙ length-map r.before facts_of in
     r.left ∙ next_refused bytes r.before (readings_at bytes at) fault r.read (ap (λ m. option_and_then (shape_fault m) (first_reading (readings_at bytes at))) (sym n) ∙ h))
 
 -- a refusal in the checks 4 to 7 is that of the index
-pub stanza_refused : {bytes : List ℕ} {at : Place} {packages : List PackageFacts} {home : Option (List ℕ)} {names : NumbersByName} (fault : IndexFault) (count : ℕ) (stanza : RawStanza) (after : Place)
-    → IsRead bytes at packages home names → count ≡ length packages → GoesOn bytes at count stanza after → Refuses fault (stanza_fault packages home stanza) → Refuses fault (first_fault bytes)
+pub stanza_refused : {bytes : List ℕ} {at : Place} {packages : List PackageFacts} {home : Option (List ℕ)} {keys : NumbersByName} (fault : IndexFault) (count : ℕ) (stanza : RawStanza) (after : Place)
+    → IsRead bytes at packages home keys → count ≡ length packages → GoesOn bytes at count stanza after → Refuses fault (stanza_fault packages home stanza) → Refuses fault (first_fault bytes)
 stanza_refused {bytes} {at} {packages} {home} fault count stanza after r counted on = for_same fault (λ h.
     let n : count ≡ length r.before = counted ∙ ap length r.facts ∙ length-map r.before facts_of in
     let room : length r.before < 200000 = subst (λ m. m < 200000) n on.room in
@@ -134,8 +134,8 @@ stanza_refused {bytes} {at} {packages} {home} fault count stanza after r counted
     ∙ there_first fault (readings bytes) (length r.before) (Ok stanza) (readings_at bytes after) (stanza_is bytes r.before stanza (readings_at bytes at) r.read room ∙ own))
 
 -- one more stanza
-pub read_more : {bytes : List ℕ} {at : Place} {packages : List PackageFacts} {home : Option (List ℕ)} {names : NumbersByName} (count : ℕ) (stanza : RawStanza) (after : Place)
-    (more : List PackageFacts) (settled : Option (List ℕ)) (put : NumbersByName) → IsRead bytes at packages home names → count ≡ length packages → GoesOn bytes at count stanza after
+pub read_more : {bytes : List ℕ} {at : Place} {packages : List PackageFacts} {home : Option (List ℕ)} {keys : NumbersByName} (count : ℕ) (stanza : RawStanza) (after : Place)
+    (more : List PackageFacts) (settled : Option (List ℕ)) (put : NumbersByName) → IsRead bytes at packages home keys → count ≡ length packages → GoesOn bytes at count stanza after
     → stanza_fault packages home stanza ≡ None → more ≡ packages ++ facts_of stanza ∷ [] → settled ≡ option_or home (architecture_of stanza) → IsIndexOf more put → IsRead bytes after more settled put
 read_more {bytes} {at} {packages} {home} count stanza after more settled put r counted on fine pushed known indexed =
     let n : count ≡ length r.before = counted ∙ ap length r.facts ∙ length-map r.before facts_of in
@@ -162,8 +162,8 @@ pub record IsWhole (bytes : List ℕ) (packages : List PackageFacts) (home : Opt
   pub facts : packages ≡ map facts_of (stanzas_of bytes)
   pub common : home ≡ home_of (stanzas_of bytes)
 
-pub read_all : {bytes : List ℕ} {at : Place} {packages : List PackageFacts} {home : Option (List ℕ)} {names : NumbersByName}
-    → IsRead bytes at packages home names → readings_at bytes at ≡ [] → IsWhole bytes packages home
+pub read_all : {bytes : List ℕ} {at : Place} {packages : List PackageFacts} {home : Option (List ℕ)} {keys : NumbersByName}
+    → IsRead bytes at packages home keys → readings_at bytes at ≡ [] → IsWhole bytes packages home
 unfolding stanzas_of
 read_all {bytes} {at} r none =
     let all : stanzas_of bytes ≡ r.before = ap stanzas_in (r.read ∙ ap (λ rest. map ok_of r.before ++ rest) none ∙ append-nil (map ok_of r.before)) ∙ stanzas_in-ok r.before in

@@ -1,19 +1,26 @@
 -- A suite that is being read, stanza by stanza.
-use Rattle.std.specs.Prelude.{◌≡◌, ℕ, Bool, List}
-use Rattle.std.specs.Ordering.{is_eq}
+use Rattle.std.specs.Prelude.{◌≡◌, ℕ, Bool, true, List, ◌∷◌, ◌++◌}
+use Rattle.std.specs.List.{AllByRecursion}
 use Rattle.std.specs.Str.{bytes_eq}
-use Rattle.deb_version.specs.Order.{version_order}
+use Rattle.deb_version.specs.Grammar.{is_version}
+use Rattle.deb_version.specs.Keys.{version_key}
+use Rattle.deb_version.specs.Names.{is_name}
 use Rattle.relation_fields.specs.declared.packages.PackageFacts.{PackageFacts}
 use Rattle.virtual_provides.specs.declared.numbers.NumbersByName.{NumbersByName}
 use Rattle.virtual_provides.specs.Numbers.{numbers_under, numbers_where}
 
-abbrev pub is_named : List ℕ → PackageFacts → Bool
-is_named name facts = bytes_eq name facts.name
+-- the name of a package and the key of its version, with a space between them, which stands in no name
+abbrev pub package_key : PackageFacts → List ℕ
+package_key facts = facts.name ++ (32 ∷ version_key facts.version)
 
--- under each name the numbers of the packages that have it
-abbrev pub IsIndexOf : List PackageFacts → NumbersByName → Type 0
-IsIndexOf packages table = (name : List ℕ) → numbers_under table name ≡ numbers_where (is_named name) packages
+abbrev pub has_key : List ℕ → PackageFacts → Bool
+has_key key facts = bytes_eq key (package_key facts)
 
--- a version that compares as equal
-abbrev pub has_equal_version : PackageFacts → PackageFacts → Bool
-has_equal_version one other = is_eq (version_order one.version other.version)
+-- the name and the version are in their grammars
+abbrev pub IsWellFormed : PackageFacts → Type 0
+IsWellFormed facts = (is_name facts.name ≡ true) × (is_version facts.version ≡ true)
+
+-- The packages are well formed, and the table has under each key the numbers of those that have it.
+pub record IsIndexOf (packages : List PackageFacts) (table : NumbersByName) : Type 0 where
+  pub well_formed : AllByRecursion IsWellFormed packages
+  pub numbers : (key : List ℕ) → numbers_under table key ≡ numbers_where (has_key key) packages

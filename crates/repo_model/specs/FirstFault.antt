@@ -1,11 +1,13 @@
--- The first fault of an index. Each stanza is checked in this order:
---   1. it is the 200,001st;
---   2. the first line whose shape is bad;
---   3. the first field line with the name of an earlier one;
---   4. the fields `Package` and `Version` are there;
---   5. the values of the fields that are used, in their fixed order;
---   6. an earlier stanza has the same name and an equal version;
---   7. an earlier stanza has another architecture than `all`, and so has this one, and they differ.
+-- The first fault of an index. Each stanza is checked in this order, and each of these is a fault of it:
+--   1. 200,000 stanzas or more stand before it;
+--   2. a line has a bad shape, the first of which is named;
+--   3. a field line has the name of an earlier one, the first of which is named;
+--   4. there is no field `Package`, and then no field `Version`;
+--   5. a value is bad: that of `Package`, of `Version`, of `Architecture`, and then an element of `Pre-Depends`, of
+--      `Depends`, of `Conflicts`, of `Breaks`, of `Provides`; a field that is not there has no bad value;
+--   6. an earlier stanza has the same name and an equal version, the first of which is named;
+--   7. it has a field `Architecture` whose value is not `all`, and differs from that of the first earlier stanza that has
+--      such a field, where there is one.
 -- The first stanza with a fault decides. Checks 2 and 3 are those of the stanza's reading.
 use Rattle.std.specs.Prelude.{ℕ, Bool, true, nat_le, ◌||◌, if◌then◌else◌, List, [], ◌∷◌, Option, Some, None, Result, Ok, Err, map, find, take, is_some, length}
 use Rattle.std.specs.List.{enumerate_from, filter_map}
@@ -33,7 +35,7 @@ abbrev pub first_some : {X : Type 0} → List (Option X) → Option X
 first_some [] = None
 first_some (found ∷ more) = option_or found (first_some more)
 
--- the fault of a stanza without a field of the kind
+-- the fault of a stanza that has no field of the kind
 abbrev pub missing : FieldKind → IndexFault → RawStanza → Option IndexFault
 missing kind fault stanza = if is_some (field_of kind stanza) then None else Some fault
 
@@ -41,13 +43,15 @@ missing kind fault stanza = if is_some (field_of kind stanza) then None else Som
 abbrev pub unless_good : (List ℕ → Bool) → (ℕ → IndexFault) → RawField → Option IndexFault
 unless_good is_good fault field = if is_good field.value then None else Some (fault field.line)
 
+-- the same, of the stanza's field of the kind, where there is one
 abbrev pub bad_value : FieldKind → (List ℕ → Bool) → (ℕ → IndexFault) → RawStanza → Option IndexFault
 bad_value kind is_good fault stanza = option_and_then (unless_good is_good fault) (field_of kind stanza)
 
--- the fault of a relation field with an element outside the grammar
+-- the fault of a relation field with an element outside the grammar, the first of which is named
 abbrev pub unless_said : {X : Type 0} → (List ℕ → Option X) → RawField → Option IndexFault
 unless_said one field = option_map (BadRelation field.line) (first_outside one field.value)
 
+-- the same, of the stanza's field of the kind, where there is one
 abbrev pub bad_relation : {X : Type 0} → FieldKind → (List ℕ → Option X) → RawStanza → Option IndexFault
 bad_relation kind one stanza = option_and_then (unless_said one) (field_of kind stanza)
 
@@ -77,15 +81,15 @@ own_fault stanza = option_or (presence_fault stanza) (value_fault stanza)
 unfoldable pub duplicate_fault : List PackageFacts → RawStanza → Option IndexFault
 duplicate_fault before stanza = option_map (λ first. Duplicate first.line stanza.line) (find (is_same_package (facts_of stanza)) before)
 
--- the common architecture of some stanzas: that of the first which is not `all`
+-- the common architecture of some stanzas: that of the first that has one other than `all`
 unfoldable pub home_of : List RawStanza → Option (List ℕ)
 home_of stanzas = first_some (map architecture_of stanzas)
 
--- no home yet, or this one
+-- there is no home, or it is this architecture
 abbrev pub is_at_home : Option (List ℕ) → List ℕ → Bool
 is_at_home home architecture = option_map_or (bytes_eq architecture) home true
 
--- check 7, where this is the common architecture of the stanzas before this one
+-- check 7, with the common architecture of the stanzas before this one
 unfoldable pub mixed_fault : Option (List ℕ) → RawStanza → Option IndexFault
 mixed_fault home stanza = option_and_then (λ field. if is_all field.value || is_at_home home field.value then None else Some (Mixed field.line)) (field_of Architecture stanza)
 
@@ -93,19 +97,20 @@ mixed_fault home stanza = option_and_then (λ field. if is_all field.value || is
 abbrev pub stanza_fault : List PackageFacts → Option (List ℕ) → RawStanza → Option IndexFault
 stanza_fault before home stanza = first_some (own_fault stanza ∷ duplicate_fault before stanza ∷ mixed_fault home stanza ∷ [])
 
--- checks 2 to 7, with the stanzas before this one
+-- checks 2 to 7 of what is read of a stanza, with the stanzas before it
 abbrev pub reading_fault : List RawStanza → Result RawStanza StanzaFault → Option IndexFault
 reading_fault before (Ok stanza) = stanza_fault (map facts_of before) (home_of before) stanza
 reading_fault before (Err fault) = Some (Stanza fault)
 
+-- the stanzas among what is read
 abbrev pub stanzas_in : List (Result RawStanza StanzaFault) → List RawStanza
 stanzas_in all = filter_map result_ok all
 
--- all checks, with what is read before this stanza
+-- all checks, with what is read of the stanzas before this one
 abbrev pub fault_behind : List (Result RawStanza StanzaFault) → Result RawStanza StanzaFault → Option IndexFault
 fault_behind before reading = if nat_le 200000 (length before) then Some TooMany else reading_fault (stanzas_in before) reading
 
--- the faults of the stanzas from the n-th on, each with all before it
+-- the faults of the stanzas from the n-th on, counted from 0, each with all before it among the stanzas of the index
 abbrev pub faults_from : List (Result RawStanza StanzaFault) → ℕ → List (Result RawStanza StanzaFault) → List (Option IndexFault)
 faults_from all n more = map (λ e. fault_behind (take e.0 all) e.1) (enumerate_from n more)
 
@@ -113,6 +118,6 @@ faults_from all n more = map (λ e. fault_behind (take e.0 all) e.1) (enumerate_
 unfoldable pub first_fault : List ℕ → Option IndexFault
 first_fault text = first_some (faults_from (readings text) 0 (readings text))
 
--- the stanzas of an index, where it has no fault
+-- the stanzas of an index, without those that have a fault of their lines
 unfoldable pub stanzas_of : List ℕ → List RawStanza
 stanzas_of text = stanzas_in (readings text)

@@ -4,3 +4,9 @@ pub mod FirstFault
 pub mod Refusals
 pub mod Building
 pub mod Reading
+pub mod Stanzas
+pub mod Repository
+pub mod Laws
+pub mod Meeting
+pub mod Interning
+pub mod Pairs

@@ -1,14 +1,12 @@
 //! A suite that is being read, stanza by stanza.
-ghost use Rattle.std.specs.Prelude.{◌≡◌, ◌<◌, ◌≤◌, ◌++◌, ◌∷◌, [], None, length, OnOk, find, slice_get};
+ghost use Rattle.std.specs.Prelude.{◌≡◌, ◌<◌, ◌≤◌, ◌++◌, ◌∷◌, [], None, length, IfOk, OnOk, find, slice_get};
 ghost use Rattle.std.specs.Option.{option_map, option_or, option_copied};
-ghost use Rattle.std.specs.Ordering.{is_eq};
-ghost use Rattle.deb_version.specs.Order.{version_order};
-ghost use Rattle.virtual_provides.specs.Numbers.{passes_at};
 ghost use Rattle.repo_model.specs.Fields.{field_of, HasShortValues};
 ghost use Rattle.repo_model.specs.Facts.{facts_of, is_all, is_same_package, architecture_of};
 ghost use Rattle.repo_model.specs.FirstFault.{stanza_fault, duplicate_fault, mixed_fault, is_at_home};
 ghost use Rattle.repo_model.specs.Refusals.{Answers};
-ghost use Rattle.repo_model.specs.Building.{has_equal_version, IsIndexOf};
+ghost use Rattle.repo_model.specs.Building.{package_key, IsWellFormed, IsIndexOf};
+ghost use Rattle.relation_fields.specs.declared.packages.PackageFacts.{PackageFacts};
 
 use crate::facts::read_facts;
 use crate::fault::IndexFault;
@@ -20,12 +18,13 @@ use stanza_reader::{FieldKind, RawStanza};
 use std::alloc::{AllocError, Global};
 use virtual_provides::NumbersByName;
 
-/// The packages of the stanzas that were read so far, with their numbers under their names and their common architecture.
+/// The packages of the stanzas that were read so far, with their numbers under their names and versions and their common
+/// architecture. A package's name and the key of its version are one text, so that an equal earlier one is found by hash.
 #[derive(Drop)]
 pub(crate) struct Building {
     pub(crate) packages: PackageList,
     pub(crate) home: Home,
-    pub(crate) names: NumbersByName,
+    pub(crate) keys: NumbersByName,
 }
 
 impl Building {
@@ -33,12 +32,12 @@ impl Building {
     pub(crate) fn new(alloc: Global) -> Self
         ensures packages { result.packages ≡ [] }
         ensures home { result.home.name ≡ None }
-        ensures indexed { IsIndexOf result.packages result.names }
+        ensures indexed { IsIndexOf result.packages result.keys }
     {
         Building {
             packages: PackageList::new(alloc),
             home: Home { name: None },
-            names: NumbersByName::new(alloc),
+            keys: NumbersByName::new(alloc),
         }
     }
 
@@ -46,33 +45,48 @@ impl Building {
     pub(crate) fn add(&mut self, alloc: Global, stanza: &RawStanza) -> Result<(), IndexFault>
         requires short { HasShortValues stanza.now }
         requires room { length self.old.packages < 200000 }
-        requires indexed { IsIndexOf self.old.packages self.old.names }
+        requires indexed { IsIndexOf self.old.packages self.old.keys }
         ensures fault { Answers result (stanza_fault self.old.packages self.old.home.name stanza.now) tt }
         ensures packages { OnOk result (self.new.packages ≡ self.old.packages ++ facts_of stanza.now ∷ []) }
         ensures home { OnOk result (self.new.home.name ≡ option_or self.old.home.name (architecture_of stanza.now)) }
-        ensures indexed { OnOk result (IsIndexOf self.new.packages self.new.names) }
+        ensures indexed { OnOk result (IsIndexOf self.new.packages self.new.keys) }
     {
         let facts = read_facts(alloc, stanza)?;
-        check_new(self.packages.as_slice(), &self.names, &facts)?;
+        let key = key_of(alloc, &facts)?;
+        check_new(self.packages.as_slice(), &self.keys, &key, &facts)?;
         check_home(&self.home, stanza)?;
         settle_home(alloc, &mut self.home, stanza)?;
         let number = self.packages.as_slice().len() as u32;
-        self.names.put(facts.name.as_slice(), number)?;
+        self.keys.put(&key, number)?;
         self.packages.push(facts)?;
         Ok(())
     }
 }
 
+// The key of a package, which those with its name and an equal version share.
+fn key_of(alloc: Global, facts: &PackageFacts) -> Result<Vec<u8>, AllocError>
+    ensures { IfOk result (λ key. key.items ≡ package_key facts.now) }
+{
+    let version = facts.version.key(alloc)?;
+    let mut key = Vec::from_slice(alloc, facts.name.as_slice())?;
+    key.push(b' ')?;
+    key.extend_from_slice(version.as_slice())?;
+    Ok(key)
+}
+
 // Checks that no earlier package has the name and an equal version.
 fn check_new(
     packages: &[PackageFacts],
-    names: &NumbersByName,
+    keys: &NumbersByName,
+    key: &[u8],
     facts: &PackageFacts,
 ) -> Result<(), IndexFault>
-    requires { IsIndexOf packages.now names.now }
+    requires indexed { IsIndexOf packages.now keys.now }
+    requires well_formed { IsWellFormed facts.now }
+    requires key { key.now ≡ package_key facts.now }
     ensures { Answers result (option_map (λ first. IndexFault.Duplicate first.line facts.now.line) (find (is_same_package facts.now) packages.now)) tt }
 {
-    match find_same(packages, names, facts) {
+    match find_same(packages, keys, key) {
         Some(first) => Err(IndexFault::Duplicate {
             first_line: first.line,
             line: facts.line,
@@ -81,17 +95,17 @@ fn check_new(
     }
 }
 
-// The first package with the name and an equal version, which is looked for among those of that name.
+// The first package with the name and an equal version of the one that has the key.
 fn find_same<'a>(
     packages: &'a [PackageFacts],
-    names: &NumbersByName,
-    facts: &PackageFacts,
+    keys: &NumbersByName,
+    key: &[u8],
 ) -> Option<&'a PackageFacts>
-    requires { IsIndexOf packages.now names.now }
-    ensures { option_copied result ≡ find (is_same_package facts.now) packages.now }
+    requires { IsIndexOf packages.now keys.now }
+    ensures { (facts : PackageFacts) → IsWellFormed facts → key.now ≡ package_key facts → option_copied result ≡ find (is_same_package facts) packages.now }
 {
-    match first_equal(packages, names.numbers(facts.name.as_slice()), facts) {
-        Some(number) => package_at(packages, number),
+    match keys.numbers(key).first() {
+        Some(number) => package_at(packages, *number),
         None => None,
     }
 }
@@ -101,26 +115,6 @@ fn package_at(packages: &[PackageFacts], number: u32) -> Option<&PackageFacts>
     ensures { option_copied result ≡ slice_get packages.now number }
 {
     packages.get(number as usize)
-}
-
-// The first of the numbers that is that of a package with an equal version.
-fn first_equal(packages: &[PackageFacts], numbers: &[u32], facts: &PackageFacts) -> Option<u32>
-    ensures { result ≡ find (passes_at (has_equal_version facts.now) packages.now) numbers.now }
-{
-    numbers
-        .iter()
-        .copied()
-        .find(|number| is_equal_at(packages, *number, facts))
-}
-
-// Whether there is a package of that number, and it has an equal version.
-fn is_equal_at(packages: &[PackageFacts], number: u32, facts: &PackageFacts) -> bool
-    ensures { result ≡ passes_at (has_equal_version facts.now) packages.now number }
-{
-    match package_at(packages, number) {
-        Some(other) => facts.version.order(&other.version).is_eq(),
-        None => false,
-    }
 }
 
 // Checks that the stanza is of the home, where it names an architecture and there is a home.

@@ -11,10 +11,10 @@ ghost use Rattle.repo_model.specs.FirstFault.{own_fault, unless_good};
 ghost use Rattle.repo_model.specs.Refusals.{Answers};
 
 use crate::fault::IndexFault;
-use crate::fields::{find_field, is_architecture};
+use crate::fields::find_field;
 use crate::relations::{read_both, read_field};
 use deb_version::{Bytes, Version, VersionError, is_package_name};
-use relation_fields::PackageFacts;
+use relation_fields::{PackageFacts, is_architecture};
 use stanza_reader::{FieldKind, RawField, RawStanza};
 use std::alloc::Global;
 

@@ -33,7 +33,8 @@ pub enum IndexFault {
     /// The stanza that begins at `line` has the name of the one that begins at `first_line`, and an equal version.
     #[error("line {line}: same package as line {first_line}")]
     Duplicate { first_line: u64, line: u64 },
-    /// The field `Architecture` that begins at the line names another architecture than an earlier stanza.
+    /// The field `Architecture` that begins at the line names another architecture than `all` and than the first earlier
+    /// stanza that is not of `all`.
     #[error("line {line}: second architecture")]
     Mixed { line: u64 },
     /// There are more than 200,000 stanzas.

@@ -2,14 +2,24 @@
 #![tactic(auto)]
 
 mod building;
+mod clauses;
 mod facts;
 pub mod fault;
 mod fields;
+mod laws;
+mod pairs;
+pub mod plain;
 mod relations;
+mod repository;
+mod rows;
 pub mod suite;
 
 pub use fault::IndexFault;
+pub use laws::{health_is_kept, repository_is_of_packages};
+pub use plain::{PlainRepository, are_coinstallable, plain_repository};
 pub use suite::{PackageList, Suite, read_suite};
 
+#[cfg(test)]
+mod repository_tests;
 #[cfg(test)]
 mod tests;

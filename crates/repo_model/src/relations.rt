@@ -1,5 +1,5 @@
 //! The relation fields of a stanza.
-ghost use Rattle.std.specs.Prelude.{◌≡◌, ◌≤◌, ◌<◌, ◌++◌, ◌∷◌, List, ℕ, Option, None, Some, length, IfOk, OnOk, IfErr, IfSome};
+ghost use Rattle.std.specs.Prelude.{◌≡◌, ◌<◌, ◌++◌, List, ℕ, Option, None, Some, length, IfOk, OnOk, IfErr, IfSome};
 ghost use Rattle.std.specs.List.{AllByRecursion};
 ghost use Rattle.std.specs.Option.{option_and_then, option_or};
 ghost use Rattle.relation_fields.specs.Grammar.{atom_of, alternatives_of, provide_of};
@@ -16,7 +16,7 @@ use relation_fields::{
     Atom, AtomList, Provide, RelationError, parse_against, parse_needs, parse_provides,
 };
 use stanza_reader::{FieldKind, RawField};
-use std::alloc::{AllocError, Global};
+use std::alloc::Global;
 
 /// What the elements of a relation field are.
 pub(crate) trait Relation: Drop {
@@ -75,7 +75,7 @@ pub(crate) fn read_field<T: Relation>(
     }
 }
 
-/// What one relation field says, and then another.
+/// What one relation field says, and behind it what another says.
 pub(crate) fn read_both<T: Relation>(
     alloc: Global,
     fields: &[RawField],
@@ -85,40 +85,7 @@ pub(crate) fn read_both<T: Relation>(
     requires { AllByRecursion IsShort fields.now }
     ensures { Answers result (option_or (option_and_then (unless_said T.reading) (field_among first fields.now)) (option_and_then (unless_said T.reading) (field_among second fields.now))) (said_in T.reading (value_among first fields.now) ++ said_in T.reading (value_among second fields.now)) }
 {
-    let front: Listed<T> = read_field(alloc, fields, first)?;
-    let back: Listed<T> = read_field(alloc, fields, second)?;
-    if front.as_slice().is_empty() {
-        return Ok(back);
-    }
-    if back.as_slice().is_empty() {
-        return Ok(front);
-    }
-    let value = joined(alloc, value_of(fields, first), value_of(fields, second))?;
-    match T::parse(alloc, &value) {
-        Ok(said) => Ok(said),
-        Err(RelationError::Memory) => Err(IndexFault::Memory),
-        // Neither value has such an element, so the two together have none.
-        Err(RelationError::Shape { .. }) => unreachable!(),
-    }
-}
-
-// The value of the field of a kind; that of a missing field is empty.
-fn value_of(fields: &[RawField], kind: FieldKind) -> &[u8]
-    ensures value { result.now ≡ value_among kind fields.now }
-    ensures short { AllByRecursion IsShort fields.now → length result.now ≤ 1073741824 }
-{
-    match find_field(fields, kind) {
-        Some(field) => field.value.as_slice(),
-        None => b"",
-    }
-}
-
-// The two texts with a comma between them.
-fn joined(alloc: Global, front: &[u8], back: &[u8]) -> Result<Vec<u8>, AllocError>
-    ensures { IfOk result (λ text. text.items ≡ front.now ++ 44 ∷ back.now) }
-{
-    let mut text = Vec::from_slice(alloc, front)?;
-    text.push(b',')?;
-    text.extend_from_slice(back)?;
-    Ok(text)
+    let mut said: Listed<T> = read_field(alloc, fields, first)?;
+    said.append(read_field(alloc, fields, second)?)?;
+    Ok(said)
 }

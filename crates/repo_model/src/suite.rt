@@ -53,9 +53,9 @@ impl Suite {
     }
 }
 
-/// Reads a whole index of at most 1,073,741,824 bytes: the packages of its stanzas and their common architecture, or the
-/// fault of the first stanza that has one. Time is linear in the index, but for versions of one name, which are compared
-/// with each other.
+/// Reads a whole index: the packages of its stanzas and their common architecture, or the fault of the first stanza that
+/// has one. An index has at most 1,073,741,824 bytes, the limit that the program keeps for files. Time is linear in the
+/// index, but for the ordered set of a stanza's field names.
 pub fn read_suite(alloc: Global, bytes: &[u8]) -> Result<Suite, IndexFault>
     requires { length bytes.now ≤ 1073741824 }
     ensures refused { IfErr result (λ fault. Refuses fault (first_fault bytes.now)) }

@@ -175,3 +175,44 @@ fn at_most_200000_packages(rt: HostRuntime) -> Result<(), Fail> {
     assert_eq!(rt; read_suite(alloc, &text).err(), Some(IndexFault::TooMany));
     Ok(())
 }
+
+#[test]
+fn an_earlier_fault_comes_before_too_many(rt: HostRuntime) -> Result<(), Fail> {
+    let alloc = rt.alloc();
+    let mut text = Vec::new(alloc);
+    for i in 0..200_001u32 {
+        text.extend_from_slice(format!(in alloc; "Package: p{i}\n")?.as_bytes())?;
+        if i != 123_456 {
+            text.extend_from_slice(b"Version: 1\n")?;
+        }
+        text.push(b'\n')?;
+    }
+    assert!(rt; text.len() < 10_000_000);
+    assert_eq!(rt;
+        read_suite(alloc, &text).err(),
+        Some(IndexFault::MissingVersion { line: 370_369 })
+    );
+    Ok(())
+}
+
+#[test]
+fn many_versions_of_one_name(rt: HostRuntime) -> Result<(), Fail> {
+    let alloc = rt.alloc();
+    let mut text = Vec::new(alloc);
+    for i in 0..400u32 {
+        text.extend_from_slice(format!(in alloc; "Package: a\nVersion: 1.{i}\n\n")?.as_bytes())?;
+    }
+    assert!(rt; text.len() < 10_000_000);
+    let read = read_suite(alloc, &text);
+    assert_eq!(rt; read.ok().ok_or("a fault")?.count(), 400);
+    text.extend_from_slice(b"Package: a\nVersion: 0:01.0398-0\n")?;
+    assert!(rt; text.len() < 10_000_000);
+    assert_eq!(rt;
+        read_suite(alloc, &text).err(),
+        Some(IndexFault::Duplicate {
+            first_line: 1195,
+            line: 1201
+        })
+    );
+    Ok(())
+}

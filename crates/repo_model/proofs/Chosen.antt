@@ -1,0 +1,123 @@
+-- The numbers of the packages that pass a test, and the clause of an element by the packages that meet its alternatives.
+use Rattle.std.proofs.Common.{◌≡◌, ℕ, suc, ◌+◌, ◌<◌, ◌↔◌, ◌++◌, Bool, true, false, ◌||◌, cond, List, [], ◌∷◌, length, get_or, filter, inl, inr, refl, sym, ap, ap₂, subst, ◌∙◌, add-zero, zero-add, eqb, arith}
+use Rattle.std.specs.List.{flat_map, range_with_len, Contains, AllPairs, dedup}
+use Rattle.std.specs.List.Sorted.{IsPermutation, IsSorted}
+use Rattle.std.specs.Ordering.{nat_cmp}
+use Rattle.std.proofs.lemmas.List.Kept.{AllPairs-from_increasing, Contains-dedup_nat, Contains-from_dedup}
+use Rattle.std.proofs.lemmas.List.Sorted.{Contains-permutation, IsPermutation-sym}
+use Rattle.std.proofs.lemmas.Map.Keys.{IsStrictlyIncreasing-dedup}
+use Rattle.relation_fields.specs.Meeting.{meets}
+use Rattle.relation_fields.specs.declared.packages.Home.{Home}
+use Rattle.relation_fields.specs.declared.packages.PackageFacts.{PackageFacts}
+use Rattle.relation_fields.specs.declared.relations.Atom.{Atom}
+use Rattle.row_book.specs.Clauses.{Ascending, Inside}
+use Rattle.row_book.specs.Sets.{In, here, there}
+use Rattle.row_book.proofs.Lists.{In_cases, In_none, In_append_cases, In_append_left, In_append_right, any_from, any_cases, ascending_filter, ascending_same}
+use Rattle.virtual_provides.specs.Bearers.{if_so}
+use Rattle.virtual_provides.specs.Numbers.{numbers_from, numbers_where}
+use Rattle.virtual_provides.proofs.Numbered.{numbers_from-cons}
+use Rattle.repo_model.specs.Meeting.{meeting}
+use Rattle.repo_model.specs.Repository.{clause_of, meets_any, packages_of}
+use Rattle.repo_model.specs.Stanzas.{no_stanza, stanza_at}
+use Rattle.repo_model.proofs.Elements.{at_place, place_of, range_ascending}
+use Rattle.repo_model.proofs.Packages.{chosen_cases, chosen_from, literal_cases, literal_from}
+
+-- the numbers of the items that pass are the numbers at which an item passes
+module _ {X : Type 0} (test : X → Bool) (at : ℕ → X) where
+  numbered : (n : ℕ) (items : List X) (d : X) → ((i : ℕ) → i < length items → at (n + i) ≡ get_or items i d) → numbers_from n test items ≡ filter (λ k. test (at k)) (range_with_len n (length items))
+  numbered n [] d same = refl
+  numbered n (x ∷ items) d same =
+      let first : at n ≡ x = ap at (sym (add-zero n)) ∙ same 0 (omega arith) in
+      let onward : (i : ℕ) → i < length items → at (n + 1 + i) ≡ get_or items i d = λ i l. let place : n + 1 + i ≡ n + suc i = omega arith in ap at place ∙ same (suc i) (omega arith) in
+      numbers_from-cons test n x items ∙ by (test x) (numbered (n + 1) items d onward)
+      ∙ ap (λ y. cond (test y) (n ∷ filter (λ k. test (at k)) (range_with_len (n + 1) (length items))) (filter (λ k. test (at k)) (range_with_len (n + 1) (length items)))) (sym first)
+    where
+      by : (b : Bool) → numbers_from (n + 1) test items ≡ filter (λ k. test (at k)) (range_with_len (n + 1) (length items)) →
+          if_so b n ++ numbers_from (n + 1) test items ≡ cond b (n ∷ filter (λ k. test (at k)) (range_with_len (n + 1) (length items))) (filter (λ k. test (at k)) (range_with_len (n + 1) (length items)))
+      by true rest = ap (λ ns. n ∷ ns) rest
+      by false rest = rest
+
+pub numbers_chosen : (test : PackageFacts → Bool) (packages : List PackageFacts) → numbers_where test packages ≡ filter (λ n. test (stanza_at packages n)) (packages_of packages)
+numbers_chosen test packages = numbered test (stanza_at packages) 0 packages no_stanza (λ i l. ap (stanza_at packages) (zero-add i))
+
+-- a package is among them where it passes
+pub number_cases : (test : PackageFacts → Bool) (packages : List PackageFacts) (n : ℕ) → In n (numbers_where test packages) → (n < length packages) × (test (stanza_at packages n) ≡ true)
+number_cases test packages n i = chosen_cases packages (λ n. test (stanza_at packages n)) n (subst (λ ns. In n ns) (numbers_chosen test packages) i)
+
+pub number_from : (test : PackageFacts → Bool) (packages : List PackageFacts) (n : ℕ) → n < length packages → test (stanza_at packages n) ≡ true → In n (numbers_where test packages)
+number_from test packages n l h = subst (λ ns. In n ns) (sym (numbers_chosen test packages)) (chosen_from packages (λ n. test (stanza_at packages n)) n l h)
+
+pub filter_same : {A : Type 0} (p q : A → Bool) (xs : List A) → ((x : A) → In x xs → p x ≡ q x) → filter p xs ≡ filter q xs
+filter_same p q [] same = refl
+filter_same p q (x ∷ xs) same = ap₂ (λ b ys. cond b (x ∷ ys) ys) (same x here) (filter_same p q xs (λ y i. same y (there i)))
+
+or_false : (b : Bool) → b ≡ (b || false)
+or_false true = refl
+or_false false = refl
+
+-- the clause of an element of one alternative
+pub clause_single : (home : Home) (packages : List PackageFacts) (atom : Atom) → meeting home packages atom ≡ clause_of home packages (atom ∷ [])
+clause_single home packages atom =
+    numbers_chosen (λ facts. meets atom facts home) packages
+    ∙ filter_same (λ n. meets atom (stanza_at packages n) home) (λ n. meets_any home (atom ∷ []) (stanza_at packages n)) (packages_of packages) (λ n i. or_false (meets atom (stanza_at packages n) home))
+
+pub clause_ascending : (home : Home) (packages : List PackageFacts) (element : List Atom) → Ascending (clause_of home packages element)
+clause_ascending home packages element = ascending_filter (λ n. meets_any home element (stanza_at packages n)) (packages_of packages) (range_ascending (length packages) 0)
+
+-- lists put one behind the other
+pub In_flat_cases : {X A : Type 0} (f : X → List A) (xs : List X) (y : A) → In y (flat_map f xs) → (x : X) × In x xs × In y (f x)
+In_flat_cases f [] y i = absurd (In_none i)
+In_flat_cases f (x ∷ xs) y i =
+    elim (In_append_cases (f x) (flat_map f xs) y i) [
+      | inl j ↦ (x, here, j)
+      | inr j ↦ let w : (z : _) × In z xs × In y (f z) = In_flat_cases f xs y j in (w.0, there w.1, w.2)
+    ]
+
+pub In_flat : {X A : Type 0} (f : X → List A) (xs : List X) (x : X) (y : A) → In x xs → In y (f x) → In y (flat_map f xs)
+In_flat f [] x y i j = absurd (In_none i)
+In_flat f (z ∷ xs) x y i j =
+    elim (In_cases i) [
+      | inl e ↦ In_append_left (f z) (flat_map f xs) y (subst (λ k. In y (f k)) e j)
+      | inr k ↦ In_append_right (f z) (flat_map f xs) y (In_flat f xs x y k j)
+    ]
+
+-- the packages that meet the alternatives, ascending and each once, are the clause
+pub clause_gathered : (home : Home) (packages : List PackageFacts) (element : List Atom) (numbers all : List ℕ) → Ascending numbers → ((n : ℕ) → In n numbers ↔ In n all) →
+    all ≡ flat_map (meeting home packages) element → numbers ≡ clause_of home packages element
+clause_gathered home packages element numbers all a same gathered =
+    let to : Inside numbers (clause_of home packages element) = λ n i.
+    let w : (atom : Atom) × In atom element × In n (meeting home packages atom) =
+    In_flat_cases (meeting home packages) element n (subst (λ ns. In n ns) gathered ((same n).0 i)) in
+    let m : (n < length packages) × (meets w.0 (stanza_at packages n) home ≡ true) = number_cases (λ facts. meets w.0 facts home) packages n w.2 in
+    literal_from home packages element n m.0 (any_from (λ atom. meets atom (stanza_at packages n) home) element w.0 w.1 m.1) in
+    let back : Inside (clause_of home packages element) numbers = λ n i.
+    let m : (n < length packages) × (meets_any home element (stanza_at packages n) ≡ true) = literal_cases home packages element n i in
+    let w : (atom : Atom) × In atom element × (meets atom (stanza_at packages n) home ≡ true) = any_cases (λ atom. meets atom (stanza_at packages n) home) element m.1 in
+    (same n).1 (subst (λ ns. In n ns) (sym gathered)
+    (In_flat (meeting home packages) element w.0 n w.1 (number_from (λ facts. meets w.0 facts home) packages n m.0 w.2))) in
+    ascending_same numbers (clause_of home packages element) a (clause_ascending home packages element) to back
+
+-- sorted numbers, each once
+ascending_pairs : (xs : List ℕ) → AllPairs (λ x y. x < y) xs → Ascending xs
+ascending_pairs [] pairs = tt
+ascending_pairs (x ∷ xs) pairs = (
+  (λ y i. let w : (n : ℕ) × (n < length xs) × (get_or xs n x ≡ y) = place_of xs y x i in
+      let l : w.0 < length xs = w.1 in
+      subst (λ z. x < z) w.2 (pairs 0 (suc w.0) x (omega arith) (omega arith))),
+  ascending_pairs xs (λ i j d l m. pairs (suc i) (suc j) d (omega arith) (omega arith)),
+)
+
+In_contained : (xs : List ℕ) (x : ℕ) → Contains xs x → In x xs
+In_contained xs x c = subst (λ z. In z xs) c.2 (at_place xs c.0 x c.1)
+
+contained_In : (xs : List ℕ) (x : ℕ) → In x xs → Contains xs x
+contained_In xs x i = place_of xs x x i
+
+pub once_ascending : (sorted new : List ℕ) → IsSorted nat_cmp sorted → new ≡ dedup eqb sorted → Ascending new
+once_ascending sorted new s is = subst Ascending (sym is) (ascending_pairs (dedup eqb sorted) (AllPairs-from_increasing (dedup eqb sorted) (IsStrictlyIncreasing-dedup sorted s)))
+
+pub once_same : (old sorted new : List ℕ) → IsPermutation old sorted → new ≡ dedup eqb sorted → (n : ℕ) → In n new ↔ In n old
+once_same old sorted new moved is n = (
+  (λ i. In_contained old n (Contains-permutation sorted old n (IsPermutation-sym old sorted moved) (Contains-from_dedup eqb sorted n (contained_In (dedup eqb sorted) n (subst (λ ns. In n ns) is i))))),
+  (λ i. subst (λ ns. In n ns) (sym is) (In_contained (dedup eqb sorted) n (Contains-dedup_nat sorted n (Contains-permutation old sorted n moved (contained_In old n i))))),
+)

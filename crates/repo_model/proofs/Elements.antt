@@ -1,0 +1,43 @@
+-- The places of a list's elements, and the numbers of a range.
+use Rattle.std.proofs.Common.{◌≡◌, ℕ, zero, suc, ◌<◌, ◌≤◌, ◌+◌, List, [], ◌∷◌, length, get_or, inl, inr, sym, subst, arith}
+use Rattle.std.specs.List.{range_with_len}
+use Rattle.std.proofs.lemmas.Bool.{cases_eq}
+use Rattle.row_book.specs.Clauses.{Ascending}
+use Rattle.row_book.specs.Sets.{In, here, there}
+use Rattle.row_book.proofs.Lists.{In_cases, In_none}
+
+-- an element of a list, by its place
+pub at_place : {A : Type 0} (xs : List A) (n : ℕ) (d : A) → n < length xs → In (get_or xs n d) xs
+at_place [] n d l = absurd (omega arith)
+at_place (x ∷ xs) zero d l = here
+at_place (x ∷ xs) (suc n) d l = there (at_place xs n d (omega arith))
+
+pub place_of : {A : Type 0} (xs : List A) (x d : A) → In x xs → (n : ℕ) × (n < length xs) × (get_or xs n d ≡ x)
+place_of [] x d i = absurd (In_none i)
+place_of (y ∷ xs) x d i =
+    elim (In_cases i) [
+      | inl e ↦ (0, omega arith, sym e)
+      | inr j ↦ let w : (n : ℕ) × (n < length xs) × (get_or xs n d ≡ x) = place_of xs x d j in let l : w.0 < length xs = w.1 in (suc w.0, omega arith, w.2)
+    ]
+
+-- n numbers from k on
+pub range_from : (n k m : ℕ) → k ≤ m → m < k + n → In m (range_with_len k n)
+range_from zero k m l u = absurd (omega arith)
+range_from (suc n) k m l u =
+    elim (cases_eq m k) [
+      | inl e ↦ subst (λ z. In m (z ∷ range_with_len (k + 1) n)) e here
+      | inr ne ↦ there (range_from n (k + 1) m (omega (arith, ne)) (omega arith))
+    ]
+
+pub range_cases : (n k m : ℕ) → In m (range_with_len k n) → (k ≤ m) × (m < k + n)
+range_cases zero k m i = absurd (In_none i)
+range_cases (suc n) k m i =
+    elim (In_cases i) [
+      | inl e ↦ (omega (arith, e), omega (arith, e))
+      | inr j ↦ let w : (k + 1 ≤ m) × (m < k + 1 + n) = range_cases n (k + 1) m j in (omega arith, omega arith)
+    ]
+
+pub range_ascending : (n k : ℕ) → Ascending (range_with_len k n)
+range_ascending zero k = tt
+range_ascending (suc n) k =
+    ((λ y i. let w : (k + 1 ≤ y) × (y < k + 1 + n) = range_cases n (k + 1) y i in omega arith), range_ascending n (k + 1))

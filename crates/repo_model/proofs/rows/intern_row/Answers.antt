@@ -1,0 +1,21 @@
+use Rattle.std.proofs.Common.{◌∙◌, ap, subst, sym, map}
+use Rattle.clause_pool.specs.Interned.{clauses_at}
+use Rattle.row_book.specs.Clauses.{ordered, InOrder}
+use Rattle.row_book.proofs.Order.{ordered_order}
+use Rattle.repo_model.specs.Interning.{HasIds}
+use Rattle.repo_model.specs.Repository.{clause_of}
+use Rattle.repo_model.proofs.Interning.{row_made}
+use Rattle.repo_model.proofs.rows.intern_row.Goals as goal
+
+pub intern_row-requires-clause-in_order : goal.intern_row-requires-clause-in_order
+intern_row-requires-clause-in_order c =
+    let clauses = map (clause_of c.args.home.now c.args.packages.now) c.args.elements.now in
+    subst InOrder (sym (ap (clauses_at c.intern_clauses.new.pool) c.deref.ensures.value ∙ c.in_ok-ids.ensures.ids.clauses)) (ordered_order clauses)
+
+pub returns-clause-row : goal.returns-clause-row
+returns-clause-row c =
+    let clauses = ordered (map (clause_of c.args.home.now c.args.packages.now) c.args.elements.now) in
+    let pool = c.intern_clauses.new.pool in
+    row_made c.args.pool.now pool c.intern_row.new.self clauses c.deref.result.now c.in_ok-row.row
+    (subst (λ ids. HasIds c.args.pool.now pool clauses ids) (sym c.deref.ensures.value) c.in_ok-ids.ensures.ids) c.intern_row.ensures.kept c.intern_row.ensures.clauses c.in_ok-row.ensures.ok
+    c.in_ok-row.ensures.gains

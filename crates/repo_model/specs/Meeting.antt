@@ -1,0 +1,11 @@
+-- The packages that an atom is met by.
+use Rattle.std.specs.Prelude.{ℕ, List}
+use Rattle.relation_fields.specs.Meeting.{meets}
+use Rattle.relation_fields.specs.declared.packages.Home.{Home}
+use Rattle.relation_fields.specs.declared.packages.PackageFacts.{PackageFacts}
+use Rattle.relation_fields.specs.declared.relations.Atom.{Atom}
+use Rattle.virtual_provides.specs.Numbers.{numbers_where}
+
+-- the numbers of the packages that meet the atom, ascending
+abbrev pub meeting : Home → List PackageFacts → Atom → List ℕ
+meeting home packages atom = numbers_where (λ facts. meets atom facts home) packages

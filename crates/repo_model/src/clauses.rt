@@ -1,0 +1,95 @@
+//! Clauses: the order in which a row has them, and the clause of an element.
+ghost use Rattle.std.specs.Prelude.{◌≡◌, ◌∷◌, ◌↔◌, [], ℕ, IfOk};
+ghost use Rattle.std.specs.List.{flat_map};
+ghost use Rattle.row_book.specs.Clauses.{comes_before, Ascending};
+ghost use Rattle.row_book.specs.Sets.{In};
+ghost use Rattle.virtual_provides.specs.Bearers.{IsBuiltFrom};
+ghost use Rattle.repo_model.specs.Meeting.{meeting};
+ghost use Rattle.repo_model.specs.Repository.{clause_of};
+
+use relation_fields::{Atom, Home, PackageFacts};
+use std::alloc::{AllocError, Global};
+use virtual_provides::NameTable;
+
+/// Whether the first clause comes before the second in lexicographic order.
+#[tactic(auto, using(crate::proofs::Compared::before_compared))]
+pub(crate) fn is_before(first: &[u32], second: &[u32]) -> bool
+    ensures { result ≡ comes_before first.now second.now }
+{
+    first.cmp(second).is_lt()
+}
+
+/// The clause of an element: the packages that meet one of its alternatives, which are looked up by their names.
+pub(crate) fn element_clause(
+    alloc: Global,
+    names: &NameTable,
+    packages: &[PackageFacts],
+    home: &Home,
+    element: &[Atom],
+) -> Result<Vec<u32>, AllocError>
+    requires { IsBuiltFrom packages.now names.now }
+    ensures { IfOk result (λ clause. clause.items ≡ clause_of home.now packages.now element.now) }
+{
+    match element {
+        [atom] => single_clause(alloc, names, packages, home, atom),
+        _ => joined_clause(alloc, names, packages, home, element),
+    }
+}
+
+// The clause of an element of one alternative.
+fn single_clause(
+    alloc: Global,
+    names: &NameTable,
+    packages: &[PackageFacts],
+    home: &Home,
+    atom: &Atom,
+) -> Result<Vec<u32>, AllocError>
+    requires { IsBuiltFrom packages.now names.now }
+    ensures { IfOk result (λ clause. clause.items ≡ clause_of home.now packages.now (atom.now ∷ [])) }
+{
+    names.meeting(alloc, packages, atom, home)
+}
+
+// The clause of an element of any alternatives.
+fn joined_clause(
+    alloc: Global,
+    names: &NameTable,
+    packages: &[PackageFacts],
+    home: &Home,
+    element: &[Atom],
+) -> Result<Vec<u32>, AllocError>
+    requires { IsBuiltFrom packages.now names.now }
+    ensures { IfOk result (λ clause. clause.items ≡ clause_of home.now packages.now element.now) }
+{
+    let mut numbers = meeting_each(alloc, names, packages, home, element)?;
+    sort_once(&mut numbers);
+    Ok(numbers)
+}
+
+// The packages that meet each of the atoms, one atom's behind the other's.
+fn meeting_each(
+    alloc: Global,
+    names: &NameTable,
+    packages: &[PackageFacts],
+    home: &Home,
+    atoms: &[Atom],
+) -> Result<Vec<u32>, AllocError>
+    requires { IsBuiltFrom packages.now names.now }
+    ensures { IfOk result (λ numbers. numbers.items ≡ flat_map (meeting home.now packages.now) atoms.now) }
+{
+    let mut numbers = Vec::new(alloc);
+    for atom in atoms {
+        let mut found = names.meeting(alloc, packages, atom, home)?;
+        numbers.append(&mut found)?;
+    }
+    Ok(numbers)
+}
+
+// Puts the numbers in their order, each once.
+fn sort_once(numbers: &mut Vec<u32>)
+    ensures ascending { Ascending numbers.new.items }
+    ensures same { (n : ℕ) → In n numbers.new.items ↔ In n numbers.old.items }
+{
+    numbers.sort_unstable();
+    numbers.dedup();
+}

@@ -1,0 +1,134 @@
+//! The rows of packages: their clauses, interned in a pool.
+ghost use Rattle.std.specs.Prelude.{◌≡◌, ◌≤◌, ◌<◌, ◌∷◌, ℕ, List, [], IfOk, OnOk, map, length, slice_index_or, true, false};
+ghost use Rattle.clause_pool.specs.Interned.{clause_at, clauses_at, Interned, Kept, OfPool};
+ghost use Rattle.row_book.specs.Clauses.{comes_before, ordered, placed, Ascending};
+ghost use Rattle.row_book.specs.Sets.{In};
+ghost use Rattle.virtual_provides.specs.Bearers.{IsBuiltFrom};
+ghost use Rattle.repo_model.specs.Interning.{HasIds, HasRows};
+ghost use Rattle.repo_model.specs.Repository.{clause_of, row_of};
+
+use crate::clauses::{element_clause, is_before};
+use clause_pool::{ClauseId, Pool, RowId};
+use relation_fields::{AtomList, Home, PackageFacts};
+use std::alloc::{AllocError, Global};
+use virtual_provides::NameTable;
+
+/// The rows of the packages; the pool gains these and their clauses alone.
+pub(crate) fn intern_rows(
+    alloc: Global,
+    pool: &mut Pool,
+    names: &NameTable,
+    packages: &[PackageFacts],
+    home: &Home,
+) -> Result<Vec<RowId>, AllocError>
+    requires { IsBuiltFrom packages.now names.now }
+    ensures rows { IfOk result (λ rows. HasRows pool.old pool.new (map (row_of home.now packages.now) packages.now) rows.items) }
+    ensures kept { Kept pool.old pool.new }
+{
+    let mut rows = Vec::new(alloc);
+    for facts in packages {
+        rows.push(intern_row(alloc, pool, names, packages, home, facts.needs.as_slice())?)?;
+    }
+    Ok(rows)
+}
+
+// The row of a package with these elements.
+fn intern_row(
+    alloc: Global,
+    pool: &mut Pool,
+    names: &NameTable,
+    packages: &[PackageFacts],
+    home: &Home,
+    elements: &[AtomList],
+) -> Result<RowId, AllocError>
+    requires { IsBuiltFrom packages.now names.now }
+    ensures row { IfOk result (λ row. HasRows pool.old pool.new (ordered (map (clause_of home.now packages.now) elements.now) ∷ []) (row ∷ [])) }
+    ensures kept { Kept pool.old pool.new }
+{
+    let ids = intern_clauses(alloc, pool, names, packages, home, elements)?;
+    let row = pool.intern_row(&ids)?;
+    Ok(row)
+}
+
+// The ids of the distinct clauses of the elements, in the order of the clauses.
+fn intern_clauses(
+    alloc: Global,
+    pool: &mut Pool,
+    names: &NameTable,
+    packages: &[PackageFacts],
+    home: &Home,
+    elements: &[AtomList],
+) -> Result<Vec<ClauseId>, AllocError>
+    requires { IsBuiltFrom packages.now names.now }
+    ensures ids { IfOk result (λ ids. HasIds pool.old pool.new (ordered (map (clause_of home.now packages.now) elements.now)) ids.items) }
+    ensures kept { Kept pool.old pool.new }
+{
+    let mut ids = Vec::new(alloc);
+    let mut left = elements.len();
+    while left > 0 {
+        left -= 1;
+        let clause = element_clause(alloc, names, packages, home, elements[left].as_slice())?;
+        intern_placed(pool, &mut ids, &clause)?;
+    }
+    Ok(ids)
+}
+
+// Puts the id of a clause into its place among ids in the order of their clauses, where it is not there yet.
+fn intern_placed(pool: &mut Pool, ids: &mut Vec<ClauseId>, clause: &[u32]) -> Result<(), AllocError>
+    requires ascending { Ascending clause.now }
+    requires of_pool { OfPool pool.old ids.old.items }
+    ensures placed { OnOk result ((start : Interned) (clauses : List (List ℕ)) → HasIds start pool.old clauses ids.old.items →
+        HasIds start pool.new (placed clause.now clauses) ids.new.items) }
+    ensures kept { Kept pool.old pool.new }
+{
+    let id = pool.intern(clause)?;
+    place(pool, ids, id, clause)?;
+    Ok(())
+}
+
+// Puts an id into its place among ids in the order of their clauses, where its clause is not there yet.
+#[tactic(auto, using(crate::proofs::Placed::placed_there, crate::proofs::Placed::placed_id, crate::proofs::Placed::of_pool_insert, crate::proofs::Placed::In_insert))]
+fn place(
+    pool: &Pool,
+    ids: &mut Vec<ClauseId>,
+    id: ClauseId,
+    clause: &[u32],
+) -> Result<(), AllocError>
+    requires id { id < length pool.now.clauses }
+    requires is { clause_at pool.now id ≡ clause.now }
+    requires of_pool { OfPool pool.now ids.old.items }
+    ensures placed { OnOk result (clauses_at pool.now ids.new.items ≡ placed clause.now (clauses_at pool.now ids.old.items)) }
+    ensures of_pool { OnOk result (OfPool pool.now ids.new.items) }
+    ensures stays { OnOk result ((other : ℕ) → In other ids.old.items → In other ids.new.items) }
+{
+    let place = place_of(pool, ids, clause);
+    if place < ids.len() && !is_before_place(pool, clause, ids, place) {
+        return Ok(());
+    }
+    ids.insert(place, id)?;
+    Ok(())
+}
+
+// Whether the clause comes before the one at a place.
+fn is_before_place(pool: &Pool, clause: &[u32], ids: &[ClauseId], place: usize) -> bool
+    requires place { place < length ids.now }
+    requires of_pool { OfPool pool.now ids.now }
+    ensures { result ≡ comes_before clause.now (slice_index_or (clauses_at pool.now ids.now) place []) }
+{
+    is_before(clause, pool.slice(ids[place]))
+}
+
+// The first place at which the clause is not behind the one that stands there.
+fn place_of(pool: &Pool, ids: &[ClauseId], clause: &[u32]) -> usize
+    requires { OfPool pool.now ids.now }
+    ensures within { result ≤ length ids.now }
+    ensures before { (k : ℕ) → k < result → comes_before (slice_index_or (clauses_at pool.now ids.now) k []) clause.now ≡ true }
+    ensures stop { result < length ids.now → comes_before (slice_index_or (clauses_at pool.now ids.now) result []) clause.now ≡ false }
+{
+    for (place, id) in ids.iter().enumerate() {
+        if !is_before(pool.slice(*id), clause) {
+            return place;
+        }
+    }
+    ids.len()
+}

@@ -3,29 +3,32 @@ use Rattle.std.proofs.Common.{◌≡◌, ◌≢◌, ℕ, ◌≤◌, Bool, true, 
 use Rattle.std.specs.Prelude.{IfSome, IsNone, ⊤}
 use Rattle.std.specs.Io.KnownBytes.{Appends}
 use Rattle.byte_flow.specs.Flow.{Files, LacksFile}
-use Rattle.coinst_run.specs.declared.fault.Fault.{Fault}
+use Rattle.repo_model.specs.declared.fault.IndexFault.{IndexFault}
+use Rattle.repo_model.specs.declared.fault.IndexFault.TheVariants as index
+use Rattle.repo_model.specs.FirstFault.{first_fault}
+use Rattle.repo_model.specs.Repository.{suite_repository}
+use Rattle.row_book.specs.Flattening.{Passed, passes}
 use Rattle.coinst_run.specs.declared.status.Status.{Status}
-use Rattle.coinst_run.specs.declared.status.Status.TheVariants.{Done, Words, Content, ReadFault, Memory, TooLarge}
+use Rattle.coinst_run.specs.declared.status.Status.TheVariants.{Done, Words, Content, ClauseLimit, ReadFault, Memory, TooLarge}
 use Rattle.coinst_run.specs.declared.words.Job.TheVariants.{Kernel}
 use Rattle.coinst_run.specs.declared.work.Ended.{Ended}
-use Rattle.coinst_run.specs.declared.work.Ended.TheVariants.{Printed, Unread, TooLong, Faulty, Cut, NoMemory}
+use Rattle.coinst_run.specs.declared.work.Ended.TheVariants.{Printed, Unread, TooLong, TooMany, Faulty, Limited, Cut, NoMemory}
 use Rattle.coinst_run.specs.Causes.{Answers, Completes, OnDone, OnReadFault, OnRefusal, OnWriteFault, Prints, Took}
 use Rattle.coinst_run.specs.Ended.{Decides, OnCut, OnUnread, Reports, TellsEnd, status_of}
-use Rattle.coinst_run.specs.Index.{index_of}
+use Rattle.coinst_run.specs.Index.{home_in, packages_in}
 use Rattle.coinst_run.specs.IndexKernel.{index_kernel_text}
 use Rattle.coinst_run.specs.Meaning.{KernelMeans, KernelIsMeant}
-use Rattle.coinst_run.specs.Outcome.{Outcome, of_file, of_index, of_job, outcome_of, file_limit, refused, words_line, too_long_line}
+use Rattle.coinst_run.specs.Outcome.{Outcome, of_accepted, of_fault, of_file, of_index, of_job, of_packages, outcome_of, file_limit, refused, words_line, too_long_line}
 use Rattle.coinst_run.specs.Words.{job_of}
 use Rattle.coinst_run.proofs.Meaning.{index_kernel_means}
-use Rattle.coinst_run.specs.Stanzas.{Stanza}
 
 pub outcome_none : (words : List (List ℕ)) (files : Files) → job_of words ≡ None → outcome_of words files ≡ refused Words words_line
 unfolding outcome_of
 outcome_none words files none = ap (λ job. of_job job files) none
 
-pub outcome_kernel : (words : List (List ℕ)) (files : Files) (path : List ℕ) → job_of words ≡ Some (Kernel path) → outcome_of words files ≡ of_file path (files path)
+pub outcome_kernel : (words : List (List ℕ)) (files : Files) (path : List ℕ) (limit : ℕ) → job_of words ≡ Some (Kernel path limit) → outcome_of words files ≡ of_file path limit (files path)
 unfolding outcome_of
-outcome_kernel words files path job = ap (λ job. of_job job files) job
+outcome_kernel words files path limit job = ap (λ job. of_job job files) job
 
 -- a fact about the outcome of the file is one about the outcome
 pub if_told : (contents : Option Files) {P Q : Files → Type 0} → ((files : Files) → P files → Q files) → IfSome contents P → IfSome contents Q
@@ -37,27 +40,43 @@ each_told None f = tt
 each_told (Some files) f = f files
 
 -- the outcome of a file has no fault of the words
-file_words : (path : List ℕ) (file : Option (List ℕ)) → (of_file path file).status ≢ Words
-file_words path None = λ e. cc
-file_words path (Some text) = longer (nat_lt file_limit (length text))
+file_words : (path : List ℕ) (limit : ℕ) (file : Option (List ℕ)) → (of_file path limit file).status ≢ Words
+file_words path limit None = λ e. cc
+file_words path limit (Some text) = longer (nat_lt file_limit (length text))
   where
-    read : (stanzas : Result (List Stanza) Fault) → (of_index path stanzas).status ≢ Words
-    read (Err fault) = λ e. cc
-    read (Ok stanzas) = λ e. cc
+    kept : (passed : Option Passed) → (of_packages path limit (home_in text) (packages_in text) passed).status ≢ Words
+    kept None = λ e. cc
+    kept (Some passed) = λ e. cc
 
-    longer : (b : Bool) → (cond b (refused TooLarge (too_long_line path)) (of_index path (index_of text))).status ≢ Words
+    read : (there : Option IndexFault) → (of_index path limit text there).status ≢ Words
+    read None = kept (passes (suite_repository (home_in text) (packages_in text)) limit)
+    read (Some (index.Stanza f)) = λ e. cc
+    read (Some (index.MissingPackage line)) = λ e. cc
+    read (Some (index.MissingVersion line)) = λ e. cc
+    read (Some (index.BadPackage line)) = λ e. cc
+    read (Some (index.BadVersion line)) = λ e. cc
+    read (Some (index.BadArchitecture line)) = λ e. cc
+    read (Some (index.BadRelation line element)) = λ e. cc
+    read (Some (index.Duplicate first line)) = λ e. cc
+    read (Some (index.Mixed line)) = λ e. cc
+    read (Some index.TooMany) = λ e. cc
+    read (Some index.Memory) = λ e. cc
+
+    longer : (b : Bool) → (cond b (refused TooLarge (too_long_line path)) (of_index path limit text (first_fault text))).status ≢ Words
     longer true = λ e. cc
-    longer false = read (index_of text)
+    longer false = read (first_fault text)
 
-pub answers_end : (ended : Ended) (path : List ℕ) (file : Option (List ℕ)) (o : Outcome) (s : Status) → s ≡ status_of ended → o ≡ of_file path file →
-    Decides path ended (of_file path file) → Answers s o
-answers_end ended path file o s is same decides = subst (λ t. Answers t o) (sym is) (subst (Answers (status_of ended)) (sym same) (go ended decides))
+pub answers_end : (ended : Ended) (path : List ℕ) (limit : ℕ) (file : Option (List ℕ)) (o : Outcome) (s : Status) → s ≡ status_of ended → o ≡ of_file path limit file →
+    Decides path ended (of_file path limit file) → Answers s o
+answers_end ended path limit file o s is same decides = subst (λ t. Answers t o) (sym is) (subst (Answers (status_of ended)) (sym same) (go ended decides))
   where
-    go : (ended : Ended) → Decides path ended (of_file path file) → Answers (status_of ended) (of_file path file)
+    go : (ended : Ended) → Decides path ended (of_file path limit file) → Answers (status_of ended) (of_file path limit file)
     go Printed h = h
-    go Unread h = file_words path file
+    go Unread h = file_words path limit file
     go TooLong h = ap (λ x. x.status) h
+    go TooMany h = ap (λ x. x.status) h
     go (Faulty fault) h = ap (λ x. x.status) h
+    go (Limited passed) h = ap (λ x. x.status) h
     go (Cut written) h = h
     go NoMemory h = tt
 
@@ -69,96 +88,123 @@ prints_end ended old new o p s is same reports =
     go Printed h = h
     go Unread h = h
     go TooLong h = h
+    go TooMany h = h
     go (Faulty fault) h = h
+    go (Limited passed) h = h
     go (Cut written) h = (written, h.0, h.1)
     go NoMemory h = h
 
 -- a file whose kernel is reported
-record IsReported (path : List ℕ) (file : Option (List ℕ)) : Type 0 where
+record IsReported (path : List ℕ) (limit : ℕ) (file : Option (List ℕ)) : Type 0 where
   text : List ℕ
   there : file ≡ Some text
-  stanzas : List Stanza
-  index : index_of text ≡ Ok stanzas
-  report : (of_file path file).report ≡ index_kernel_text stanzas
+  accepted : first_fault text ≡ None
+  report : (of_file path limit file).report ≡ index_kernel_text (home_in text) (packages_in text)
 
-reported_file : (path : List ℕ) (file : Option (List ℕ)) → (of_file path file).status ≡ Done → IsReported path file
-reported_file path None e = absurd cc
-reported_file path (Some text) e = longer (nat_lt file_limit (length text)) refl e
+-- a fault is not reported
+not_done : (path : List ℕ) (fault : IndexFault) → (of_fault path fault).status ≢ Done
+not_done path (index.Stanza f) = λ e. cc
+not_done path (index.MissingPackage line) = λ e. cc
+not_done path (index.MissingVersion line) = λ e. cc
+not_done path (index.BadPackage line) = λ e. cc
+not_done path (index.BadVersion line) = λ e. cc
+not_done path (index.BadArchitecture line) = λ e. cc
+not_done path (index.BadRelation line element) = λ e. cc
+not_done path (index.Duplicate first line) = λ e. cc
+not_done path (index.Mixed line) = λ e. cc
+not_done path index.TooMany = λ e. cc
+not_done path index.Memory = λ e. cc
+
+reported_file : (path : List ℕ) (limit : ℕ) (file : Option (List ℕ)) → (of_file path limit file).status ≡ Done → IsReported path limit file
+reported_file path limit None e = absurd cc
+reported_file path limit (Some text) e = longer (nat_lt file_limit (length text)) refl e
   where
-    read : nat_lt file_limit (length text) ≡ false → (stanzas : Result (List Stanza) Fault) → index_of text ≡ stanzas → (of_index path stanzas).status ≡ Done → IsReported path (Some text)
-    read fits (Err fault) index e = absurd cc
-    read fits (Ok stanzas) index e = record {
+    kept : (passed : Option Passed) → passes (suite_repository (home_in text) (packages_in text)) limit ≡ passed → (of_packages path limit (home_in text) (packages_in text) passed).status ≡ Done →
+        (of_accepted path limit (home_in text) (packages_in text)).report ≡ index_kernel_text (home_in text) (packages_in text)
+    kept (Some passed) is e = absurd cc
+    kept None is e = ap (λ p. (of_packages path limit (home_in text) (packages_in text) p).report) is
+
+    read : nat_lt file_limit (length text) ≡ false → (there : Option IndexFault) → first_fault text ≡ there → (of_index path limit text there).status ≡ Done → IsReported path limit (Some text)
+    read fits (Some fault) is e = absurd (not_done path fault e)
+    read fits None is e = record {
       text = text;
       there = refl;
-      stanzas = stanzas;
-      index = index;
-      report = ap (λ b. (cond b (refused TooLarge (too_long_line path)) (of_index path (index_of text))).report) fits ∙ ap (λ r. (of_index path r).report) index;
+      accepted = is;
+      report = ap (λ b. (cond b (refused TooLarge (too_long_line path)) (of_index path limit text (first_fault text))).report) fits ∙ ap (λ f. (of_index path limit text f).report) is
+          ∙ kept (passes (suite_repository (home_in text) (packages_in text)) limit) refl e;
     }
 
-    longer : (b : Bool) → nat_lt file_limit (length text) ≡ b → (cond b (refused TooLarge (too_long_line path)) (of_index path (index_of text))).status ≡ Done → IsReported path (Some text)
+    longer : (b : Bool) → nat_lt file_limit (length text) ≡ b → (cond b (refused TooLarge (too_long_line path)) (of_index path limit text (first_fault text))).status ≡ Done → IsReported path limit (Some text)
     longer true is e = absurd cc
-    longer false is e = read is (index_of text) refl e
+    longer false is e = read is (first_fault text) refl e
 
-pub means_end : (ended : Ended) (words : List (List ℕ)) (files : Files) (path : List ℕ) (old new : Option (List ℕ)) (s : Status) → s ≡ status_of ended →
-    job_of words ≡ Some (Kernel path) → Decides path ended (of_file path (files path)) → Reports ended old new (of_file path (files path)).report →
+pub means_end : (ended : Ended) (words : List (List ℕ)) (files : Files) (path : List ℕ) (limit : ℕ) (old new : Option (List ℕ)) (s : Status) → s ≡ status_of ended →
+    job_of words ≡ Some (Kernel path limit) → Decides path ended (of_file path limit (files path)) → Reports ended old new (of_file path limit (files path)).report →
     OnDone s (Took old new (KernelIsMeant words files))
-means_end ended words files path old new s is job decides reports = subst (λ t. OnDone t (Took old new (KernelIsMeant words files))) (sym is) (go ended decides reports)
+means_end ended words files path limit old new s is job decides reports = subst (λ t. OnDone t (Took old new (KernelIsMeant words files))) (sym is) (go ended decides reports)
   where
-    took : (old : Option (List ℕ)) → (of_file path (files path)).status ≡ Done → Appends old new (of_file path (files path)).report → Took old new (KernelIsMeant words files)
+    took : (old : Option (List ℕ)) → (of_file path limit (files path)).status ≡ Done → Appends old new (of_file path limit (files path)).report → Took old new (KernelIsMeant words files)
     took None e h = tt
     took (Some xs) e h =
-        let r : IsReported path (files path) = reported_file path (files path) e in (
-          (of_file path (files path)).report,
+        let r : IsReported path limit (files path) = reported_file path limit (files path) e in (
+          (of_file path limit (files path)).report,
           h,
           record {
             path = path;
+            limit = limit;
             job = job;
             text = r.text;
             file = r.there;
-            means = subst (KernelMeans r.text) (sym r.report) (index_kernel_means r.text r.stanzas r.index);
+            means = subst (KernelMeans r.text) (sym r.report) (index_kernel_means r.text r.accepted);
           },
         )
 
-    go : (ended : Ended) → Decides path ended (of_file path (files path)) → Reports ended old new (of_file path (files path)).report → OnDone (status_of ended) (Took old new (KernelIsMeant words files))
+    go : (ended : Ended) → Decides path ended (of_file path limit (files path)) → Reports ended old new (of_file path limit (files path)).report → OnDone (status_of ended) (Took old new (KernelIsMeant words files))
     go Printed e h = took old e h
     go Unread e h = tt
     go TooLong e h = tt
+    go TooMany e h = tt
     go (Faulty fault) e h = tt
+    go (Limited passed) e h = tt
     go (Cut written) e h = tt
     go NoMemory e h = tt
 
-pub means_told : (ended : Ended) (words : List (List ℕ)) (contents : Option Files) (path : List ℕ) (old new : Option (List ℕ)) (s : Status) → s ≡ status_of ended →
-    job_of words ≡ Some (Kernel path) → IfSome contents (λ files. Decides path ended (of_file path (files path))) →
-    IfSome contents (λ files. Reports ended old new (of_file path (files path)).report) → OnDone s (IfSome contents (λ files. Took old new (KernelIsMeant words files)))
-means_told ended words None path old new s is job decides reports = subst (λ t. OnDone t ⊤) (sym is) (go ended)
+pub means_told : (ended : Ended) (words : List (List ℕ)) (contents : Option Files) (path : List ℕ) (limit : ℕ) (old new : Option (List ℕ)) (s : Status) → s ≡ status_of ended →
+    job_of words ≡ Some (Kernel path limit) → IfSome contents (λ files. Decides path ended (of_file path limit (files path))) →
+    IfSome contents (λ files. Reports ended old new (of_file path limit (files path)).report) → OnDone s (IfSome contents (λ files. Took old new (KernelIsMeant words files)))
+means_told ended words None path limit old new s is job decides reports = subst (λ t. OnDone t ⊤) (sym is) (go ended)
   where
     go : (ended : Ended) → OnDone (status_of ended) ⊤
     go Printed = tt
     go Unread = tt
     go TooLong = tt
+    go TooMany = tt
     go (Faulty fault) = tt
+    go (Limited passed) = tt
     go (Cut written) = tt
     go NoMemory = tt
-means_told ended words (Some files) path old new s is job decides reports = means_end ended words files path old new s is job decides reports
+means_told ended words (Some files) path limit old new s is job decides reports = means_end ended words files path limit old new s is job decides reports
 
 -- a file that is not there cannot be read
-lacking : (path : List ℕ) (file : Option (List ℕ)) → IsNone file → (of_file path file).status ≡ ReadFault
-lacking path None h = refl
-lacking path (Some text) h = absurd cc
+lacking : (path : List ℕ) (limit : ℕ) (file : Option (List ℕ)) → IsNone file → (of_file path limit file).status ≡ ReadFault
+lacking path limit None h = refl
+lacking path limit (Some text) h = absurd cc
 
-pub quiet_end : (ended : Ended) (words : List (List ℕ)) (contents : Option Files) (path : List ℕ) (s : Status) → s ≡ status_of ended → job_of words ≡ Some (Kernel path) →
+pub quiet_end : (ended : Ended) (words : List (List ℕ)) (contents : Option Files) (path : List ℕ) (limit : ℕ) (s : Status) → s ≡ status_of ended → job_of words ≡ Some (Kernel path limit) →
     OnUnread ended (LacksFile contents path) → OnReadFault s (IfSome contents (λ files. (outcome_of words files).status ≡ ReadFault))
-quiet_end ended words contents path s is job lacks = subst (λ t. OnReadFault t (IfSome contents (λ files. (outcome_of words files).status ≡ ReadFault))) (sym is) (go ended lacks)
+quiet_end ended words contents path limit s is job lacks = subst (λ t. OnReadFault t (IfSome contents (λ files. (outcome_of words files).status ≡ ReadFault))) (sym is) (go ended lacks)
   where
     told : (contents : Option Files) → LacksFile contents path → IfSome contents (λ files. (outcome_of words files).status ≡ ReadFault)
     told None h = tt
-    told (Some files) h = ap (λ o. o.status) (outcome_kernel words files path job) ∙ lacking path (files path) h
+    told (Some files) h = ap (λ o. o.status) (outcome_kernel words files path limit job) ∙ lacking path limit (files path) h
 
     go : (ended : Ended) → OnUnread ended (LacksFile contents path) → OnReadFault (status_of ended) (IfSome contents (λ files. (outcome_of words files).status ≡ ReadFault))
     go Printed h = tt
     go Unread h = told contents h
     go TooLong h = tt
+    go TooMany h = tt
     go (Faulty fault) h = tt
+    go (Limited passed) h = tt
     go (Cut written) h = tt
     go NoMemory h = tt
 
@@ -170,7 +216,9 @@ room_end ended o p room s is same fits small =
     go Printed h = tt
     go Unread h = tt
     go TooLong h = tt
+    go TooMany h = tt
     go (Faulty fault) h = tt
+    go (Limited passed) h = tt
     go (Cut written) h = h
     go NoMemory h = tt
 
@@ -183,7 +231,9 @@ completes_end ended path o p s {R} {W} is same decides unread cut noread nowrite
     go Printed d u c e = inl refl
     go Unread d u c e = absurd (noread u)
     go TooLong d u c e = absurd (let f : TooLarge ≡ Done = sym (ap (λ x. x.status) d) ∙ e in cc)
+    go TooMany d u c e = absurd (let f : TooLarge ≡ Done = sym (ap (λ x. x.status) d) ∙ e in cc)
     go (Faulty fault) d u c e = absurd (let f : Content ≡ Done = sym (ap (λ x. x.status) d) ∙ e in cc)
+    go (Limited passed) d u c e = absurd (let f : ClauseLimit ≡ Done = sym (ap (λ x. x.status) d) ∙ e in cc)
     go (Cut written) d u c e = absurd (nowrite c)
     go NoMemory d u c e = inr refl
 
@@ -194,7 +244,9 @@ line_end ended path o p s Line is same decides told = subst (λ t. OnRefusal t (
     go Printed d h = tt
     go Unread d h = tt
     go TooLong d h = subst Line (sym (ap (λ x. x.line) d)) h
+    go TooMany d h = subst Line (sym (ap (λ x. x.line) d)) h
     go (Faulty fault) d h = subst Line (sym (ap (λ x. x.line) d)) h
+    go (Limited passed) d h = subst Line (sym (ap (λ x. x.line) d)) h
     go (Cut written) d h = tt
     go NoMemory d h = tt
 

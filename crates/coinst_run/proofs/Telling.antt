@@ -8,6 +8,11 @@ use Rattle.std.proofs.lemmas.List.{take-append-le, take-append-drop}
 use Rattle.std.proofs.lemmas.List.Concat.{flat_map-append}
 use Rattle.byte_flow.specs.Flow.{Rose}
 use Rattle.coinst_run.specs.Causes.{Tells}
+use Rattle.coinst_run.specs.Faults.{line_at, line_text, number_of, number_text, words_of}
+use Rattle.coinst_run.specs.Outcome.{about, fault_line, limit_line, passed_line}
+use Rattle.coinst_run.specs.declared.limit.PassedLimit.{PassedLimit}
+use Rattle.std.specs.Fmt.{decimal}
+use Rattle.repo_model.specs.declared.fault.IndexFault.{IndexFault}
 
 -- a line from its pieces
 abbrev pub line_of : List (Bor (List ℕ)) → List ℕ
@@ -86,5 +91,27 @@ append_nothing (x ∷ xs) = ap (λ ys. x ∷ ys) (append_nothing xs)
 
 -- a line about a fault, by its pieces
 pub about_fault : (path colon line digits between words number end : List ℕ) →
-    path ++ ((colon ++ line) ++ (digits ++ (between ++ (words ++ (number ++ (end ++ [])))))) ≡ path ++ colon ++ (line ++ digits ++ between ++ words ++ number) ++ end
+    path ++ ((colon ++ line) ++ (digits ++ (between ++ (words ++ (number ++ (end ++ [])))))) ≡ path ++ colon ++ ((line ++ digits ++ between) ++ words ++ number) ++ end
 about_fault path colon line digits between words number end = simp (append_assoc, append_nothing)
+
+-- and about one that has no line
+pub about_whole : (path colon words number end : List ℕ) → path ++ (colon ++ (words ++ (number ++ (end ++ [])))) ≡ path ++ colon ++ ([] ++ words ++ number) ++ end
+about_whole path colon words number end = simp (append_assoc, append_nothing)
+
+-- the line of a fault, by its parts
+pub fault_parts : (path : List ℕ) (fault : IndexFault) (line words number : List ℕ) → line ≡ line_text (line_at fault) → words ≡ words_of fault → number ≡ number_text (number_of fault) →
+    about path (line ++ words ++ number) ≡ fault_line path fault
+unfolding fault_line
+fault_parts path fault line words number a b c = rw (a, b, c) refl
+
+-- a line about a row that passed the limit, by its pieces
+pub about_limit : (path colon limit_words limit gone_words gone package_words name space version count_words count end : List ℕ) →
+    path ++ ((colon ++ limit_words) ++ (limit ++ (gone_words ++ (gone ++ (package_words ++ (name ++ (space ++ (version ++ (count_words ++ (count ++ (end ++ [])))))))))))
+    ≡ path ++ colon ++ (limit_words ++ limit ++ gone_words ++ gone ++ package_words ++ name ++ space ++ version ++ count_words ++ count) ++ end
+about_limit path colon limit_words limit gone_words gone package_words name space version count_words count end = simp (append_assoc, append_nothing)
+
+-- the same by the parts of the row
+pub limit_parts : (path : List ℕ) (passed : PassedLimit) (limit gone name version count : List ℕ) → limit ≡ decimal passed.limit → gone ≡ decimal passed.gone → name ≡ passed.name →
+    version ≡ passed.version → count ≡ decimal passed.count → passed_line path limit gone name version count ≡ limit_line path passed
+unfolding limit_line
+limit_parts path passed limit gone name version count a b c d e = rw (a, b, c, d, e) refl

@@ -26,7 +26,6 @@ Answers TooLarge o = o.status ≡ TooLarge
 -- the statuses that a run can have so far
 abbrev pub IsAnswer : Status → Type 0
 IsAnswer Negative = ⊥
-IsAnswer ClauseLimit = ⊥
 IsAnswer Undecided = ⊥
 IsAnswer UnknownGoal = ⊥
 IsAnswer _ = ⊤
@@ -65,8 +64,10 @@ abbrev pub OnWords : Status → Type 0 → Type 0
 OnWords Words P = P
 OnWords _ P = ⊤
 
+-- a fact where the content of a file was refused, other than one package too many
 abbrev pub OnContent : Status → Type 0 → Type 0
 OnContent Content P = P
+OnContent ClauseLimit P = P
 OnContent _ P = ⊤
 
 abbrev pub OnReadFault : Status → Type 0 → Type 0
@@ -81,10 +82,11 @@ abbrev pub OnMemory : Status → Type 0 → Type 0
 OnMemory Memory P = P
 OnMemory _ P = ⊤
 
--- a fact where the words or the content of a file were refused
+-- a fact where the words, the length or the content of a file, or a row of its kernel were refused
 abbrev pub OnRefusal : Status → Type 0 → Type 0
 OnRefusal Words P = P
 OnRefusal Content P = P
+OnRefusal ClauseLimit P = P
 OnRefusal TooLarge P = P
 OnRefusal _ P = ⊤
 
@@ -92,9 +94,9 @@ OnRefusal _ P = ⊤
 abbrev pub Tells : Option (List ℕ) → Option (List ℕ) → ℕ → ℕ → List ℕ → Type 0
 Tells old new before now line = Appends old new line ⊎ (Rose before now × (n : ℕ) × Appends old new (take n line))
 
--- the words ask for the kernel of a path of which the fact holds
+-- the words ask for the kernel of a path of which the fact holds, under some limit
 abbrev pub OfPath : List (List ℕ) → (List ℕ → Type 0) → Type 0
-OfPath words P = (path : List ℕ) × (job_of words ≡ Some (Kernel path)) × P path
+OfPath words P = (path : List ℕ) × (limit : ℕ) × (job_of words ≡ Some (Kernel path limit)) × P path
 
 -- the line names how many bytes were taken
 abbrev pub TellsCut : Option (List ℕ) → Option (List ℕ) → (List ℕ → Type 0) → Type 0
@@ -104,6 +106,6 @@ TellsCut old new Line = (bytes : List ℕ) × Appends old new bytes × Line (cut
 abbrev pub IsReadWhole : List (List ℕ) → Files → ℕ → Type 0
 IsReadWhole words files moved = OfPath words (λ path. IfSome (files path) (λ text. moved ≡ length text))
 
--- with no fault and every file fit to be read, the run is done, or it found no memory
+-- where the outcome is a report, the run is done, or it found no memory
 abbrev pub Completes : Status → Outcome → Type 0
 Completes result o = o.status ≡ Done → (result ≡ Done) ⊎ (result ≡ Memory)

@@ -2,16 +2,18 @@
 use Rattle.std.specs.Prelude.{◌≡◌, ℕ, ◌<◌, List, [], length, take, Option, ⊤}
 use Rattle.std.specs.Io.KnownBytes.{Appends}
 use Rattle.coinst_run.specs.declared.work.Ended.{Ended}
-use Rattle.coinst_run.specs.declared.work.Ended.TheVariants.{Printed, Unread, TooLong, Faulty, Cut, NoMemory}
+use Rattle.coinst_run.specs.declared.work.Ended.TheVariants.{Printed, Unread, TooLong, TooMany, Faulty, Limited, Cut, NoMemory}
 use Rattle.coinst_run.specs.declared.status.Status.{Status}
-use Rattle.coinst_run.specs.declared.status.Status.TheVariants.{Done, Content, ReadFault, WriteFault, Memory, TooLarge}
-use Rattle.coinst_run.specs.Outcome.{Outcome, refused, cut_line, fault_line, memory_line, too_long_line, unread_line}
+use Rattle.coinst_run.specs.declared.status.Status.TheVariants.{Done, Content, ClauseLimit, ReadFault, WriteFault, Memory, TooLarge}
+use Rattle.coinst_run.specs.Outcome.{Outcome, refused, cut_line, fault_line, limit_line, memory_line, too_long_line, too_many_line, unread_line}
 
 abbrev pub status_of : Ended → Status
 status_of Printed = Done
 status_of Unread = ReadFault
 status_of TooLong = TooLarge
+status_of TooMany = TooLarge
 status_of (Faulty fault) = Content
+status_of (Limited passed) = ClauseLimit
 status_of (Cut written) = WriteFault
 status_of NoMemory = Memory
 
@@ -20,7 +22,9 @@ abbrev pub Decides : List ℕ → Ended → Outcome → Type 0
 Decides path Printed o = o.status ≡ Done
 Decides path Unread o = ⊤
 Decides path TooLong o = o ≡ refused TooLarge (too_long_line path)
+Decides path TooMany o = o ≡ refused TooLarge (too_many_line path)
 Decides path (Faulty fault) o = o ≡ refused Content (fault_line path fault)
+Decides path (Limited passed) o = o ≡ refused ClauseLimit (limit_line path passed)
 Decides path (Cut written) o = o.status ≡ Done
 Decides path NoMemory o = ⊤
 
@@ -36,7 +40,7 @@ Takes Printed old new = ⊤
 Takes (Cut written) old new = (report : List ℕ) × (written < length report) × Appends old new (take written report)
 Takes _ old new = Appends old new []
 
--- a fact where the file could not be read, where the write was cut, and where the file has a fault
+-- a fact where the file could not be read, where the write was cut, and where the file was read and refused
 abbrev pub OnUnread : Ended → Type 0 → Type 0
 OnUnread Unread P = P
 OnUnread _ P = ⊤
@@ -46,7 +50,9 @@ OnCut (Cut written) P = P
 OnCut _ P = ⊤
 
 abbrev pub OnFaulty : Ended → Type 0 → Type 0
+OnFaulty TooMany P = P
 OnFaulty (Faulty fault) P = P
+OnFaulty (Limited passed) P = P
 OnFaulty _ P = ⊤
 
 -- the line that tells how the work on the file of a path ended
@@ -54,6 +60,8 @@ abbrev pub TellsEnd : Ended → List ℕ → (List ℕ → Type 0) → Type 0
 TellsEnd Printed path Line = Line []
 TellsEnd Unread path Line = Line (unread_line path)
 TellsEnd TooLong path Line = Line (too_long_line path)
+TellsEnd TooMany path Line = Line (too_many_line path)
 TellsEnd (Faulty fault) path Line = Line (fault_line path fault)
+TellsEnd (Limited passed) path Line = Line (limit_line path passed)
 TellsEnd (Cut written) path Line = Line (cut_line written)
 TellsEnd NoMemory path Line = Line memory_line

@@ -1,48 +1,67 @@
--- What is wrong with an index.
-use Rattle.std.specs.Prelude.{ℕ, Bool, if◌then◌else◌, List, [], ◌∷◌, Option, Some, None, codes}
+-- The fault of an index in words.
+use Rattle.std.specs.Prelude.{ℕ, List, [], ◌++◌, Option, Some, None, codes}
 use Rattle.std.specs.Fmt.{decimal}
-use Rattle.coinst_run.specs.declared.fault.Cause.{Cause}
-use Rattle.coinst_run.specs.declared.fault.Fault.{Fault}
-use Rattle.coinst_run.specs.declared.fault.Cause.TheVariants.{NoColon, BadName, LoneContinuation, Repeated, NoPackage, NoVersion, BadPackage, BadVersion, BadArchitecture, BadRelation, NotBuilt}
 use Rattle.stanza_reader.specs.declared.fault.StanzaFault.{StanzaFault}
 use Rattle.stanza_reader.specs.declared.fault.StanzaFault.TheVariants as shape
+use Rattle.repo_model.specs.declared.fault.IndexFault.{IndexFault}
+use Rattle.repo_model.specs.declared.fault.IndexFault.TheVariants.{Stanza, MissingPackage, MissingVersion, BadPackage, BadVersion, BadArchitecture, BadRelation, Duplicate, Mixed, TooMany, Memory}
 
--- a fault at a line
-abbrev pub at_line : ℕ → Cause → Fault
-at_line line cause = record { line = line; cause = cause }
+-- the line at which a fault is seen, where it has one
+abbrev pub shape_line : StanzaFault → Option ℕ
+shape_line (shape.NoColon line) = Some line
+shape_line (shape.BadName line) = Some line
+shape_line (shape.LoneContinuation line) = Some line
+shape_line (shape.Repeated line) = Some line
+shape_line shape.Memory = None
 
--- the fault at a line, where there is one
-abbrev pub fault_if : Bool → ℕ → Cause → Option Fault
-fault_if is_wrong line cause = if is_wrong then Some (at_line line cause) else None
+abbrev pub line_at : IndexFault → Option ℕ
+line_at (Stanza fault) = shape_line fault
+line_at (MissingPackage line) = Some line
+line_at (MissingVersion line) = Some line
+line_at (BadPackage line) = Some line
+line_at (BadVersion line) = Some line
+line_at (BadArchitecture line) = Some line
+line_at (BadRelation line element) = Some line
+line_at (Duplicate first line) = Some line
+line_at (Mixed line) = Some line
+line_at TooMany = None
+line_at Memory = None
 
--- of checks in their order, the first fault
-abbrev pub first_of : List (Option Fault) → Option Fault
-first_of [] = None
-first_of (None ∷ checks) = first_of checks
-first_of (Some fault ∷ checks) = Some fault
+-- what is wrong
+abbrev pub shape_words : StanzaFault → List ℕ
+shape_words (shape.NoColon line) = codes "no colon"
+shape_words (shape.BadName line) = codes "bad field name"
+shape_words (shape.LoneContinuation line) = codes "continuation before any field"
+shape_words (shape.Repeated line) = codes "field repeated"
+shape_words shape.Memory = codes "out of memory"
 
--- a fault in the shape of a stanza's lines; no text has the last one
-abbrev pub shape_fault : StanzaFault → Fault
-shape_fault (shape.NoColon line) = at_line line NoColon
-shape_fault (shape.BadName line) = at_line line BadName
-shape_fault (shape.LoneContinuation line) = at_line line LoneContinuation
-shape_fault (shape.Repeated line) = at_line line Repeated
-shape_fault shape.Memory = at_line 0 NoColon
+abbrev pub words_of : IndexFault → List ℕ
+words_of (Stanza fault) = shape_words fault
+words_of (MissingPackage line) = codes "no Package field"
+words_of (MissingVersion line) = codes "no Version field"
+words_of (BadPackage line) = codes "bad Package value"
+words_of (BadVersion line) = codes "bad Version value"
+words_of (BadArchitecture line) = codes "bad Architecture value"
+words_of (BadRelation line element) = codes "bad relation, element "
+words_of (Duplicate first line) = codes "same package as line "
+words_of (Mixed line) = codes "second architecture"
+words_of TooMany = codes "more than 200000 packages"
+words_of Memory = codes "out of memory"
 
--- a cause in words, and the number behind them, where there is one
-abbrev pub cause_words : Cause → List ℕ
-cause_words NoColon = codes "no colon"
-cause_words BadName = codes "bad field name"
-cause_words LoneContinuation = codes "continuation before any field"
-cause_words Repeated = codes "field repeated"
-cause_words NoPackage = codes "no Package field"
-cause_words NoVersion = codes "no Version field"
-cause_words BadPackage = codes "bad Package value"
-cause_words BadVersion = codes "bad Version value"
-cause_words BadArchitecture = codes "bad Architecture value"
-cause_words (BadRelation element) = codes "bad relation, element "
-cause_words NotBuilt = codes "not built"
+-- the number behind these words, where there is one
+abbrev pub number_of : IndexFault → Option ℕ
+number_of (BadRelation line element) = Some element
+number_of (Duplicate first line) = Some first
+number_of _ = None
 
-abbrev pub cause_number : Cause → List ℕ
-cause_number (BadRelation element) = decimal element
-cause_number _ = []
+abbrev pub line_text : Option ℕ → List ℕ
+line_text None = []
+line_text (Some line) = codes "line " ++ decimal line ++ codes ": "
+
+abbrev pub number_text : Option ℕ → List ℕ
+number_text None = []
+number_text (Some number) = decimal number
+
+-- `line N: ` where the fault has a line, what is wrong, and the number behind it
+abbrev pub fault_text : IndexFault → List ℕ
+fault_text fault = line_text (line_at fault) ++ words_of fault ++ number_text (number_of fault)

@@ -1,20 +1,22 @@
--- The kernel that is printed for an index. So far it is the repository of the index itself, each package a
+-- The kernel that is printed for an index. So far it is the flattened repository of the index, each package a
 -- class of its own.
 use Rattle.std.specs.Prelude.{ℕ, List, [], ◌∷◌, map}
-use Rattle.coinst_run.specs.IndexRepository.{index_repository}
+use Rattle.relation_fields.specs.declared.packages.Home.{Home}
+use Rattle.relation_fields.specs.declared.packages.PackageFacts.{PackageFacts}
+use Rattle.repo_model.specs.Repository.{suite_repository}
 use Rattle.coinst_run.specs.KernelText.{Member, Members, kernel_text}
+use Rattle.row_book.specs.Flattening.{flat}
 use Rattle.row_book.specs.Repository.{Repository}
-use Rattle.coinst_run.specs.Stanzas.{Stanza}
 
-abbrev pub member_of : Stanza → Member
+abbrev pub member_of : PackageFacts → Member
 member_of s = record { name = s.name; version = s.version }
 
-abbrev pub index_members : List Stanza → Members
+abbrev pub index_members : List PackageFacts → Members
 index_members stanzas = map (λ s. member_of s ∷ []) stanzas
 
--- the kernel of an index, so far its repository as it is
-unfoldable pub index_kernel : List Stanza → Repository
-index_kernel stanzas = index_repository stanzas
+-- the kernel of an index, so far its repository, flattened
+unfoldable pub index_kernel : Home → List PackageFacts → Repository
+index_kernel home stanzas = flat (suite_repository home stanzas)
 
-unfoldable pub index_kernel_text : List Stanza → List ℕ
-index_kernel_text stanzas = kernel_text (index_kernel stanzas) (index_members stanzas)
+unfoldable pub index_kernel_text : Home → List PackageFacts → List ℕ
+index_kernel_text home stanzas = kernel_text (index_kernel home stanzas) (index_members stanzas)

@@ -22,7 +22,7 @@ is_same_package m o = bytes_eq m.name o.name && is_eq (version_order m.version o
 -- no member line names the package of an earlier one
 abbrev pub AreSingle : List Member → Type 0
 AreSingle [] = Unit {0}
-AreSingle (m ∷ ms) = ((o : Member) → In o ms → is_same_package m o ≡ false) × AreSingle ms
+AreSingle (m ∷ ms) = ((o : Member) → In o ms → is_same_package o m ≡ false) × AreSingle ms
 
 -- a package name and a version
 abbrev pub IsNamed : Member → Type 0
@@ -38,7 +38,7 @@ pub record AreRivals (R : Repository) (m n : ℕ) : Type 0 where
 -- The text spells the repository of its classes with their members, and these are what the format
 -- allows: fewer than 4,294,967,295 classes and member lines; a member at least in each class, each a
 -- package name and a version, no package twice; clauses and conflicts ascending and in order, of numbers
--- of classes; a conflict is between two classes, either way round. So far a clause may hold its own class.
+-- of classes, and no clause holds its own class; a conflict is between two classes, either way round.
 pub record KernelReads (text : List ℕ) (R : Repository) (members : Members) : Type 0 where
   pub spelled : text ≡ kernel_text R members
   pub rival_lists : length R.conflicts ≡ length R.clauses
@@ -50,5 +50,6 @@ pub record KernelReads (text : List ℕ) (R : Repository) (members : Members) : 
   pub single : AreSingle (flat_map (λ ms. ms) members)
   pub clauses : (n : ℕ) → InOrder (clauses_of R n)
   pub literals : (n : ℕ) (c : List ℕ) → In c (clauses_of R n) → Ascending c × ((l : ℕ) → In l c → l < length R.clauses)
+  pub apart : (n : ℕ) (c : List ℕ) → In c (clauses_of R n) → In n c → ⊥
   pub rivals : (n : ℕ) → Ascending (conflicts_of R n)
   pub conflicts : (m n : ℕ) → against R m n ≡ true → AreRivals R m n

@@ -1,3 +1,7 @@
+pub use Rattle.repo_model.specs.Facts
+pub use Rattle.repo_model.specs.FirstFault
+pub use Rattle.repo_model.specs.Repository
+pub use Rattle.repo_model.specs.Stanzas
 pub mod Blocks
 pub mod Causes
 pub mod Ended
@@ -5,13 +9,10 @@ pub mod Faults
 pub mod FileReport
 pub mod Index
 pub mod IndexKernel
-pub mod IndexRepository
 pub mod KernelReads
 pub mod KernelText
 pub mod Meaning
 pub mod Outcome
-pub mod Readers
 pub mod Refusals
-pub mod Stanzas
 pub mod Status
 pub mod Words

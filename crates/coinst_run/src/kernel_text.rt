@@ -2,16 +2,17 @@
 ghost use Rattle.std.specs.Prelude.{◌≡◌, ◌++◌, ◌≤◌, ◌<◌, ℕ, ltb, IfOk, OnOk, length, filter};
 ghost use Rattle.std.specs.Fmt.{decimal};
 ghost use Rattle.std.specs.List.{flat_map, range_with_len};
-ghost use Rattle.coinst_run.specs.Blocks.{Keeps, class_block};
-ghost use Rattle.coinst_run.specs.IndexKernel.{index_kernel, index_kernel_text, index_members, member_of};
-ghost use Rattle.coinst_run.specs.IndexRepository.{index_repository};
+ghost use Rattle.clause_pool.specs.Interned.{clauses_at, OfPool};
+ghost use Rattle.row_book.specs.Book.{repository_of, Sound};
+ghost use Rattle.coinst_run.specs.Blocks.{class_block};
+ghost use Rattle.coinst_run.specs.IndexKernel.{index_members, member_of};
 ghost use Rattle.coinst_run.specs.KernelText.{against_line, class_line, class_text, end_line, head_line, kernel_text, member_line, needs_line, spaced};
-ghost use Rattle.coinst_run.specs.Stanzas.{stanza_at};
 
-use crate::repository::IndexRepository;
+use clause_pool::{ClauseId, Pool};
 use itoa::Buffer;
 use relation_fields::PackageFacts;
-use row_book::NumList;
+use repo_model::Suite;
+use row_book::Book;
 use std::alloc::{AllocError, Global};
 
 // Puts a number behind the text, in decimal digits.
@@ -73,12 +74,13 @@ fn push_needs_line(out: &mut Vec<u8>, clause: &[u32]) -> Result<(), AllocError>
     out.extend_from_slice(b"\n")
 }
 
-// Puts the lines of the clauses behind the text.
-fn push_needs_lines(out: &mut Vec<u8>, clauses: &[NumList]) -> Result<(), AllocError>
-    ensures { OnOk result (out.new.items ≡ out.old.items ++ flat_map needs_line clauses.now) }
+// Puts the lines of the clauses with the ids behind the text.
+fn push_needs_lines(out: &mut Vec<u8>, pool: &Pool, ids: &[ClauseId]) -> Result<(), AllocError>
+    requires { OfPool pool.now ids.now }
+    ensures { OnOk result (out.new.items ≡ out.old.items ++ flat_map needs_line (clauses_at pool.now ids.now)) }
 {
-    for clause in clauses {
-        push_needs_line(out, clause.as_slice())?;
+    for id in ids {
+        push_needs_line(out, pool.slice(*id))?;
     }
     Ok(())
 }
@@ -111,50 +113,56 @@ fn push_class(
     out: &mut Vec<u8>,
     number: u32,
     member: &PackageFacts,
-    clauses: &[NumList],
+    pool: &Pool,
+    clauses: &[ClauseId],
     rivals: &[u32],
 ) -> Result<(), AllocError>
-    ensures { OnOk result (out.new.items ≡ out.old.items ++ class_block number member.now clauses.now rivals.now) }
+    requires { OfPool pool.now clauses.now }
+    ensures { OnOk result (out.new.items ≡ out.old.items ++ class_block number member.now (clauses_at pool.now clauses.now) rivals.now) }
 {
     push_class_line(out, number)?;
     push_member_line(out, member)?;
-    push_needs_lines(out, clauses)?;
+    push_needs_lines(out, pool, clauses)?;
     push_against_lines(out, number, rivals)
 }
 
 // Puts the block of the class with the number behind the text.
 fn push_class_at(
     out: &mut Vec<u8>,
-    stanzas: &[PackageFacts],
-    kernel: &IndexRepository,
+    packages: &[PackageFacts],
+    pool: &Pool,
+    kernel: &Book,
     number: u32,
 ) -> Result<(), AllocError>
-    requires inside { number < length stanzas.now }
-    requires kernel { Keeps stanzas.now kernel.now }
-    ensures { OnOk result (out.new.items ≡ out.old.items ++ class_text (index_kernel stanzas.now) (index_members stanzas.now) number) }
+    requires inside { number < length packages.now }
+    requires size { length kernel.now.rows ≡ length packages.now }
+    requires sound { Sound pool.now kernel.now }
+    ensures { OnOk result (out.new.items ≡ out.old.items ++ class_text (repository_of pool.now kernel.now) (index_members packages.now) number) }
 {
-    let place = number as usize;
     push_class(
         out,
         number,
-        &stanzas[place],
-        kernel.clauses.as_slice()[place].as_slice(),
-        kernel.conflicts.as_slice()[place].as_slice(),
+        &packages[number as usize],
+        pool,
+        pool.row(kernel.row(number)),
+        kernel.against(number),
     )
 }
 
 // Puts the blocks of all classes behind the text.
 fn push_classes(
     out: &mut Vec<u8>,
-    stanzas: &[PackageFacts],
-    kernel: &IndexRepository,
+    packages: &[PackageFacts],
+    pool: &Pool,
+    kernel: &Book,
 ) -> Result<(), AllocError>
-    requires few { length stanzas.now ≤ 200000 }
-    requires kernel { Keeps stanzas.now kernel.now }
-    ensures { OnOk result (out.new.items ≡ out.old.items ++ flat_map (class_text (index_kernel stanzas.now) (index_members stanzas.now)) (range_with_len 0 (length stanzas.now))) }
+    requires few { length packages.now ≤ 200000 }
+    requires size { length kernel.now.rows ≡ length packages.now }
+    requires sound { Sound pool.now kernel.now }
+    ensures { OnOk result (out.new.items ≡ out.old.items ++ flat_map (class_text (repository_of pool.now kernel.now) (index_members packages.now)) (range_with_len 0 (length packages.now))) }
 {
-    for number in 0..stanzas.len() as u32 {
-        push_class_at(out, stanzas, kernel, number)?;
+    for number in 0..packages.len() as u32 {
+        push_class_at(out, packages, pool, kernel, number)?;
     }
     Ok(())
 }
@@ -171,19 +179,21 @@ fn push_end(out: &mut Vec<u8>, classes: u32) -> Result<(), AllocError>
     out.extend_from_slice(b"\n")
 }
 
-/// The text of the kernel of an index; it fails only where no memory is found.
+/// The text of a kernel in which each package of the suite is a class; it fails only where no memory is found.
 pub fn kernel_text(
     alloc: Global,
-    stanzas: &[PackageFacts],
-    kernel: &IndexRepository,
+    suite: &Suite,
+    pool: &Pool,
+    kernel: &Book,
 ) -> Result<Vec<u8>, AllocError>
-    requires few { length stanzas.now ≤ 200000 }
-    requires kernel { Keeps stanzas.now kernel.now }
-    ensures { IfOk result (λ text. text.items ≡ index_kernel_text stanzas.now) }
+    requires size { length kernel.now.rows ≡ length suite.now.packages }
+    requires sound { Sound pool.now kernel.now }
+    ensures { IfOk result (λ text. text.items ≡ kernel_text (repository_of pool.now kernel.now) (index_members suite.now.packages)) }
 {
+    let packages = suite.packages.as_slice();
     let mut text = Vec::new(alloc);
     push_head(&mut text)?;
-    push_classes(&mut text, stanzas, kernel)?;
-    push_end(&mut text, stanzas.len() as u32)?;
+    push_classes(&mut text, packages, pool, kernel)?;
+    push_end(&mut text, suite.count())?;
     Ok(text)
 }

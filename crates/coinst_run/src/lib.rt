@@ -1,14 +1,8 @@
 //! The program behind `coinst`: from words, files and streams to a status.
 #![tactic(auto)]
 
-mod facts;
-mod fault;
-mod index;
 mod kernel_text;
-mod laws;
-mod repository;
-#[cfg(test)]
-mod slow;
+pub mod limit;
 mod status;
 mod tell;
 #[cfg(test)]
@@ -17,7 +11,6 @@ mod top;
 mod words;
 mod work;
 
-pub use laws::health_is_kept;
 pub use status::Status;
 pub use top::run;
 pub use words::{Job, PathText, WordError, read_words};

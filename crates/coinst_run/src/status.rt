@@ -23,7 +23,7 @@ pub enum Status {
     Undecided,
     /// 9: a goal names no package.
     UnknownGoal,
-    /// 10: a file is too long.
+    /// 10: a file is too long, or has too many packages.
     TooLarge,
 }
 

@@ -1,8 +1,7 @@
 //! Runs over files and streams in memory, against answers that were worked out by hand.
-use crate::index::read_index;
-use crate::slow::are_coinstallable;
-use crate::{Job, PathText, read_words, run};
+use crate::{PathText, read_words, run};
 use byte_flow::{MemShelf, MemSink};
+use repo_model::{are_coinstallable, read_suite};
 use row_book::{ClauseList, NumList, is_coinst};
 use std::alloc::{AllocError, Global};
 use std::test::Fail;
@@ -81,7 +80,15 @@ fn indexes_are_printed(rt: HostRuntime) -> Result<(), Fail> {
         ),
         (
             "Package: a\nVersion: 1\nDepends: b\n\nPackage: b\nVersion: 1\nDepends: a",
-            "coinst-kernel 1\nclass 0\nmember a 1\nneeds 1\nclass 1\nmember b 1\nneeds 0\nend 2 2\n",
+            "coinst-kernel 1\nclass 0\nmember a 1\nclass 1\nmember b 1\nend 2 2\n",
+        ),
+        (
+            "Package: a\nVersion: 1\nDepends: b\n\nPackage: b\nVersion: 1\n\n",
+            "coinst-kernel 1\nclass 0\nmember a 1\nclass 1\nmember b 1\nend 2 2\n",
+        ),
+        (
+            "Package: a\nVersion: 1\nDepends: b, c\n\nPackage: b\nVersion: 1\nConflicts: c\n\nPackage: c\nVersion: 1\n\n",
+            "coinst-kernel 1\nclass 0\nmember a 1\nneeds 1\nneeds 2\nclass 1\nmember b 1\nagainst 2\nclass 2\nmember c 1\nend 3 3\n",
         ),
         (
             "Package: a\nVersion: 1\nDepends: b (>= 2)\n\nPackage: b\nVersion: 1\n\n",
@@ -90,6 +97,30 @@ fn indexes_are_printed(rt: HostRuntime) -> Result<(), Fail> {
         (
             "\n \nDepends: b (>= 2),\n , c\nversion: 1\nPACKAGE: a\nDescription: a package\n\n\nPackage: b\nVersion: 1:0\nArchitecture: all\nConflicts: a (<< 1), c\n\nPackage: c\nVersion: 0~1",
             "coinst-kernel 1\nclass 0\nmember a 1\nneeds 1\nneeds 2\nclass 1\nmember b 1:0\nagainst 2\nclass 2\nmember c 0~1\nend 3 3\n",
+        ),
+        (
+            "Package: a\nVersion: 1\n\nPackage: a\nVersion: 2\n\n",
+            "coinst-kernel 1\nclass 0\nmember a 1\nagainst 1\nclass 1\nmember a 2\nend 2 2\n",
+        ),
+        (
+            "Package: p\nVersion: 1\nProvides: x\n\nPackage: q\nVersion: 1\nProvides: x (= 3)\nConflicts: t\n\nPackage: t\nVersion: 1\n\nPackage: r\nVersion: 1\nDepends: x (>= 2)\n\nPackage: s\nVersion: 1\nDepends: x\n\n",
+            "coinst-kernel 1\nclass 0\nmember p 1\nclass 1\nmember q 1\nagainst 2\nclass 2\nmember t 1\nclass 3\nmember r 1\nneeds 1\nclass 4\nmember s 1\nend 5 5\n",
+        ),
+        (
+            "Package: hello\nVersion: 2.10-3\nArchitecture: amd64\nMulti-Arch: foreign\nDepends: libc6 (>= 2.14), python3:any (>= 3.5~)\nDescription: example package based on GNU hello\n The GNU hello program produces a familiar, friendly greeting.\n .\n It is an example.\nSection: devel\n\nPackage: libc6\nVersion: 2.36-9+deb12u4\nArchitecture: amd64\n\nPackage: python3\nVersion: 3.11.2-1+b1\nArchitecture: amd64",
+            "coinst-kernel 1\nclass 0\nmember hello 2.10-3\nclass 1\nmember libc6 2.36-9+deb12u4\nclass 2\nmember python3 3.11.2-1+b1\nend 3 3\n",
+        ),
+        (
+            "Package: a\nVersion: 1\nProvides: x\nConflicts: x\n\nPackage: b\nVersion: 1\nProvides: x\n\n",
+            "coinst-kernel 1\nclass 0\nmember a 1\nagainst 1\nclass 1\nmember b 1\nend 2 2\n",
+        ),
+        (
+            "Package: a\nVersion: 1\nPre-Depends: b:amd64, b:arm64\nBreaks: c (<< 2)\nArchitecture: amd64\n\nPackage: b\nVersion: 1\n\nPackage: c\nVersion: 1\n\nPackage: c\nVersion: 2\nConflicts: b:arm64\n\n",
+            "coinst-kernel 1\nclass 0\nmember a 1\nneeds\nagainst 2\nclass 1\nmember b 1\nclass 2\nmember c 1\nagainst 3\nclass 3\nmember c 2\nend 4 4\n",
+        ),
+        (
+            "Package: a\nVersion: 1\nDepends: m\n\nPackage: m\nVersion: 1\nDepends: b, c | d\n\nPackage: b\nVersion: 1\nConflicts: e\n\nPackage: c\nVersion: 1\nConflicts: e\n\nPackage: d\nVersion: 1\nConflicts: f\n\nPackage: e\nVersion: 1\n\nPackage: f\nVersion: 1\n\n",
+            "coinst-kernel 1\nclass 0\nmember a 1\nneeds 2\nneeds 3 4\nclass 1\nmember m 1\nneeds 2\nneeds 3 4\nclass 2\nmember b 1\nagainst 5\nclass 3\nmember c 1\nagainst 5\nclass 4\nmember d 1\nagainst 6\nclass 5\nmember e 1\nclass 6\nmember f 1\nend 7 7\n",
         ),
     ];
     for (text, report) in cases {
@@ -111,16 +142,83 @@ fn indexes_are_printed(rt: HostRuntime) -> Result<(), Fail> {
 #[test]
 fn faults_are_told(rt: HostRuntime) -> Result<(), Fail> {
     let alloc = rt.alloc();
-    let outside = "Package: a\nVersion: 1\nProvides: x\n";
+    let outside = "Package: a\nVersion: 1\nProvides: x (>> 1)\n";
     let index = "kernel I";
     let nowhere = "kernel J";
     let not_a_command = "words: not a command of coinst\n";
+    let two =
+        "Package: a\nVersion: 1\nDepends: b, c\n\nPackage: b\nVersion: 1\n\nPackage: c\nVersion: 1\n\n";
+    let three =
+        "Package: a\nVersion: 1\nDepends: m, n\n\nPackage: m\nVersion: 1\nDepends: b, c\n\nPackage: n\nVersion: 1\nDepends: d\n\nPackage: b\nVersion: 1\nConflicts: e\n\nPackage: c\nVersion: 1\nConflicts: e\n\nPackage: d\nVersion: 1\nConflicts: e\n\nPackage: e\nVersion: 1\n\n";
     let cases = [
         ("", "", (0, 0, 0), 2, "", not_a_command),
         ("", "kernel", (0, 0, 0), 2, "", not_a_command),
         ("", "kernel -x I", (0, 0, 0), 2, "", not_a_command),
         ("", "kernel -x", (0, 0, 0), 2, "", not_a_command),
-        (outside, index, (0, 0, 0), 3, "", "I: line 1: not built\n"),
+        (
+            "",
+            "kernel --clause-limit 0 I",
+            (0, 0, 0),
+            2,
+            "",
+            not_a_command,
+        ),
+        (
+            "",
+            "kernel --clause-limit 1000001 I",
+            (0, 0, 0),
+            2,
+            "",
+            not_a_command,
+        ),
+        (
+            "",
+            "kernel --clause-limit 000000000000000000001 I",
+            (0, 0, 0),
+            2,
+            "",
+            not_a_command,
+        ),
+        (
+            "",
+            "kernel --clause-limit 00000000000001000000 I",
+            (0, 0, 0),
+            0,
+            EMPTY_KERNEL,
+            "",
+        ),
+        (
+            two,
+            "kernel --clause-limit 1 I",
+            (0, 0, 0),
+            4,
+            "",
+            "I: clause limit 1 passed: round 1, gone 0, package a 1, clauses 2\n",
+        ),
+        (
+            three,
+            "kernel --clause-limit 2 I",
+            (0, 0, 0),
+            4,
+            "",
+            "I: clause limit 2 passed: round 1, gone 3, package a 1, clauses 3\n",
+        ),
+        (
+            three,
+            "kernel --clause-limit 3 I",
+            (0, 0, 0),
+            0,
+            "coinst-kernel 1\nclass 0\nmember a 1\nneeds 3\nneeds 4\nneeds 5\nclass 1\nmember m 1\nneeds 3\nneeds 4\nclass 2\nmember n 1\nneeds 5\nclass 3\nmember b 1\nagainst 6\nclass 4\nmember c 1\nagainst 6\nclass 5\nmember d 1\nagainst 6\nclass 6\nmember e 1\nend 7 7\n",
+            "",
+        ),
+        (
+            outside,
+            index,
+            (0, 0, 0),
+            3,
+            "",
+            "I: line 3: bad relation, element 1\n",
+        ),
         ("", nowhere, (0, 0, 0), 5, "", "J: read failed\n"),
         (CHOICE, index, (2, 0, 0), 5, "", "I: read failed\n"),
         (
@@ -170,6 +268,7 @@ fn faults_have_their_lines(rt: HostRuntime) -> Result<(), Fail> {
         ("\n x\n", "2: continuation before any field"),
         ("Package: a\npackage: b\n", "2: field repeated"),
         ("\nVersion: ?\n", "2: no Package field"),
+        ("Package: a\n", "1: no Version field"),
         ("Package: ?\n", "1: no Version field"),
         ("Version: -1\nPackage: +a\n", "2: bad Package value"),
         ("Package: a\r\nVersion: 1\r\n", "1: bad Package value"),
@@ -194,20 +293,13 @@ fn faults_have_their_lines(rt: HostRuntime) -> Result<(), Fail> {
             "Provides: x (>= 1)\nPackage: a\nVersion: 1\n",
             "1: bad relation, element 1",
         ),
-        ("Package: a\nVersion: 1\nBreaks:\n", "1: not built"),
-        ("Package: a\nVersion: 1\nPre-Depends: b\n", "1: not built"),
         (
-            "Package: a\nVersion: 1\nArchitecture: amd64\n",
-            "1: not built",
+            "Package: a\nVersion: 1.0\n\nPackage: a\nVersion: 1.0-0\n",
+            "4: same package as line 1",
         ),
         (
-            "Package: a\nVersion: 1\n\nPackage: b\nVersion: 1\nDepends: c | d:any\n\nx\n",
-            "4: not built",
-        ),
-        ("Package: a\nVersion: 1\nConflicts: b:all\n", "1: not built"),
-        (
-            "Package: a\nVersion: 1\n\nPackage: b\nVersion: 1\n\nPackage: a\nVersion: 2\n",
-            "7: not built",
+            "Package: a\nVersion: 1\nArchitecture: amd64\n\nPackage: b\nVersion: 1\nArchitecture: arm64\n",
+            "7: second architecture",
         ),
     ];
     for (text, line) in cases {
@@ -232,10 +324,10 @@ fn words_give_a_job(rt: HostRuntime) -> Result<(), Fail> {
     let alloc = rt.alloc();
     let words = strings(alloc, "kernel debian/Packages")?;
     let job = read_words(alloc, words.as_slice())?;
-    let Job::Kernel { index } = &job;
+    let (index, limit) = job.kernel();
     let path = PathText::copy(alloc, "debian/Packages")?;
     assert_eq!(rt; index.as_str(), path.as_str());
-    assert_eq!(rt; job.index().as_str(), "debian/Packages");
+    assert_eq!(rt; limit, 65_536);
     Ok(())
 }
 
@@ -301,7 +393,7 @@ fn wanted_by(alloc: Global, subset: u32) -> Result<Vec<u32>, AllocError> {
 #[test]
 fn each_set_keeps_its_answer(rt: HostRuntime) -> Result<(), Fail> {
     let alloc = rt.alloc();
-    let cases: [(&str, &[u32]); 3] = [
+    let cases: [(&str, &[u32]); 4] = [
         (
             "Package: a\nVersion: 1\nDepends: b | c\n\nPackage: b\nVersion: 1\nConflicts: c\n\nPackage: c\nVersion: 1\n\nPackage: d\nVersion: 1\nDepends: nowhere\n\n",
             &[0b0110, 0b1000],
@@ -313,6 +405,10 @@ fn each_set_keeps_its_answer(rt: HostRuntime) -> Result<(), Fail> {
         (
             "Package: a\nVersion: 1\nDepends: b\n\nPackage: b\nVersion: 1\nDepends: a\nConflicts: c\n\nPackage: c\nVersion: 1\nDepends: nowhere | a\n\nPackage: d\nVersion: 1\nConflicts: a\n\n",
             &[0b0100, 0b1001, 0b1010],
+        ),
+        (
+            "Package: a\nVersion: 1\nPre-Depends: x (>= 2)\n\nPackage: b\nVersion: 1\nProvides: x\n\nPackage: c\nVersion: 1\nProvides: x (= 2)\nBreaks: x\n\nPackage: d\nVersion: 1\nDepends: x, d:arm64 | x:any\n\n",
+            &[0b0011, 0b0110],
         ),
     ];
     for (text, broken) in cases {
@@ -332,11 +428,11 @@ fn each_set_keeps_its_answer(rt: HostRuntime) -> Result<(), Fail> {
         if text.len() > 1000 {
             return Err("a short text".into());
         }
-        let stanzas = read_index(alloc, text.as_bytes())?;
+        let suite = read_suite(alloc, text.as_bytes()).ok().ok_or("a fault")?;
         for subset in 0..16 {
             let wanted = wanted_by(alloc, subset)?;
             let expected = !broken.iter().any(|set| subset & *set == *set);
-            let on_stanzas = are_coinstallable(alloc, stanzas.as_slice(), wanted.as_slice())?;
+            let on_stanzas = are_coinstallable(alloc, &suite, wanted.as_slice())?;
             let on_classes = is_coinst(
                 alloc,
                 printed.clauses.as_slice(),

@@ -9,22 +9,27 @@ ghost use Rattle.coinst_run.specs.Outcome.{cut_line, memory_line, outcome_of, un
 ghost use Rattle.coinst_run.specs.Words.{job_of};
 
 use crate::status::Status;
-use crate::tell::{tell_cut, tell_fault, tell_memory, tell_too_long, tell_unread, tell_words};
+use crate::tell::{
+    tell_cut, tell_fault, tell_limit, tell_memory, tell_too_long, tell_too_many, tell_unread,
+    tell_words,
+};
 use crate::words::{WordError, read_words};
 use crate::work::{Ended, print_kernel};
 use byte_flow::{Shelf, Sink};
 use std::alloc::Global;
 
 // Tells on standard error how the work on the file of a path ended.
-fn tell_end<E: Sink>(err: &mut E, path: &str, ended: Ended)
-    ensures { TellsEnd ended path.now (Tells (E.taken err.old) (E.taken err.new) (E.faults err.old) (E.faults err.new)) }
+fn tell_end<E: Sink>(err: &mut E, path: &str, ended: &Ended)
+    ensures { TellsEnd ended.now path.now (Tells (E.taken err.old) (E.taken err.new) (E.faults err.old) (E.faults err.new)) }
 {
     match ended {
         Ended::Printed => {}
         Ended::Unread => tell_unread(err, path),
         Ended::TooLong => tell_too_long(err, path),
-        Ended::Faulty(fault) => tell_fault(err, path, fault),
-        Ended::Cut { written } => tell_cut(err, written),
+        Ended::TooMany => tell_too_many(err, path),
+        Ended::Faulty(fault) => tell_fault(err, path, *fault),
+        Ended::Limited(passed) => tell_limit(err, path, passed),
+        Ended::Cut { written } => tell_cut(err, *written),
         Ended::NoMemory => tell_memory(err),
     }
 }
@@ -45,7 +50,7 @@ pub fn run<F: Shelf, O: Sink, E: Sink>(
     // What was printed means what the stanzas of the index say.
     ensures meaning { OnDone result (IfSome (F.contents shelf.old) (λ files. Took (O.taken out.old) (O.taken out.new) (KernelIsMeant (map string_bytes words.now) files))) }
 
-    // Why each status comes, on any shelf.
+    // Why each status comes.
     ensures statuses { IsAnswer result }
     ensures words { OnWords result (job_of (map string_bytes words.now) ≡ None) }
     ensures no_job { job_of (map string_bytes words.now) ≡ None → result ≡ Status.Words }
@@ -66,9 +71,10 @@ pub fn run<F: Shelf, O: Sink, E: Sink>(
 {
     match read_words(alloc, words) {
         Ok(job) => {
-            let path = job.index().as_str();
-            let ended = print_kernel(alloc, shelf, path, out);
-            tell_end(err, path, ended);
+            let (index, limit) = job.kernel();
+            let path = index.as_str();
+            let ended = print_kernel(alloc, shelf, path, limit, out);
+            tell_end(err, path, &ended);
             ended.status()
         }
         Err(WordError::NotACommand) => {

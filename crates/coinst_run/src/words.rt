@@ -1,7 +1,10 @@
 //! The words of the command line.
-ghost use Rattle.std.specs.Prelude.{◌≡◌, ◌&&◌, IfOk, IfErr, None, Some, map, string_bytes, codes};
+ghost use Rattle.std.specs.Prelude.{◌≡◌, ◌&&◌, ◌<◌, ◌^◌, ◌∷◌, [], true, Err, IfOk, IfErr, IfSome, None, Some, map, min, string_bytes, codes};
+ghost use Rattle.std.specs.Char.{is_ascii_digit};
+ghost use Rattle.std.specs.List.{list_all};
 ghost use Rattle.std.specs.Str.{bytes_eq};
-ghost use Rattle.coinst_run.specs.Words.{job_of, is_path};
+ghost use Rattle.deb_version.specs.Order.{number};
+ghost use Rattle.coinst_run.specs.Words.{job_of, is_number, is_path, limit_of, HasLimit};
 ghost use Rattle.coinst_run.specs.Refusals.{OnNotACommand};
 
 use std::alloc::{AllocError, Global};
@@ -49,16 +52,21 @@ pub enum Job {
     Kernel {
         /// The path of the index.
         index: PathText,
+        /// The most clauses that a row may have, from 1 to 1,000,000.
+        clause_limit: u32,
     },
 }
 
 impl Job {
-    /// The index whose kernel is asked for.
-    pub fn index(&self) -> &PathText
-        ensures { self.now ≡ Job.Kernel result.now }
+    /// The index whose kernel is asked for, and the clause limit.
+    pub fn kernel(&self) -> (&PathText, u32)
+        ensures { self.now ≡ Job.Kernel result.0.now result.1 }
     {
         match self {
-            Job::Kernel { index } => index,
+            Job::Kernel {
+                index,
+                clause_limit,
+            } => (index, *clause_limit),
         }
     }
 }
@@ -88,15 +96,59 @@ pub fn read_words(alloc: Global, words: &[String]) -> Result<Job, WordError>
     ensures job { IfOk result (λ job. job_of (map string_bytes words.now) ≡ Some job) }
     ensures refusal { IfErr result (OnNotACommand (job_of (map string_bytes words.now) ≡ None)) }
     ensures outside { job_of (map string_bytes words.now) ≡ None → result ≡ Err WordError.NotACommand }
+    ensures limited { IfOk result HasLimit }
 {
-    let [command, index] = words else {
-        return Err(WordError::NotACommand);
-    };
-    if !is_kernel(command.as_str(), index.as_str()) {
+    match words {
+        [command, index] => kernel_job(alloc, command.as_str(), index.as_str()),
+        [command, name, limit, index] => limited_job(
+            alloc,
+            command.as_str(),
+            name.as_str(),
+            limit.as_str(),
+            index.as_str(),
+        ),
+        _ => Err(WordError::NotACommand),
+    }
+}
+
+// The job of two words.
+fn kernel_job(alloc: Global, command: &str, index: &str) -> Result<Job, WordError>
+    ensures job { IfOk result (λ job. job_of (command.now ∷ index.now ∷ []) ≡ Some job) }
+    ensures refusal { IfErr result (OnNotACommand (job_of (command.now ∷ index.now ∷ []) ≡ None)) }
+    ensures outside { job_of (command.now ∷ index.now ∷ []) ≡ None → result ≡ Err WordError.NotACommand }
+    ensures limited { IfOk result HasLimit }
+{
+    if !is_kernel(command, index) {
         return Err(WordError::NotACommand);
     }
     Ok(Job::Kernel {
-        index: PathText::copy(alloc, index.as_str())?,
+        index: PathText::copy(alloc, index)?,
+        clause_limit: 65_536,
+    })
+}
+
+// The job of four words.
+fn limited_job(
+    alloc: Global,
+    command: &str,
+    name: &str,
+    limit: &str,
+    index: &str,
+) -> Result<Job, WordError>
+    ensures job { IfOk result (λ job. job_of (command.now ∷ name.now ∷ limit.now ∷ index.now ∷ []) ≡ Some job) }
+    ensures refusal { IfErr result (OnNotACommand (job_of (command.now ∷ name.now ∷ limit.now ∷ index.now ∷ []) ≡ None)) }
+    ensures outside { job_of (command.now ∷ name.now ∷ limit.now ∷ index.now ∷ []) ≡ None → result ≡ Err WordError.NotACommand }
+    ensures limited { IfOk result HasLimit }
+{
+    if !is_limited_kernel(command, name, index) {
+        return Err(WordError::NotACommand);
+    }
+    let Some(clause_limit) = limit_of(limit.as_bytes()) else {
+        return Err(WordError::NotACommand);
+    };
+    Ok(Job::Kernel {
+        index: PathText::copy(alloc, index)?,
+        clause_limit,
     })
 }
 
@@ -107,6 +159,19 @@ fn is_kernel(command: &str, index: &str) -> bool
     command == "kernel" && may_be_path(index.as_bytes())
 }
 
+// Whether the command is `kernel` with the option for a clause limit, and the last word a path.
+fn is_limited_kernel(command: &str, name: &str, index: &str) -> bool
+    ensures { result ≡ (bytes_eq command.now (codes "kernel") && (bytes_eq name.now (codes "--clause-limit") && is_path index.now)) }
+{
+    command == "kernel" && is_limited_index(name, index)
+}
+
+fn is_limited_index(name: &str, index: &str) -> bool
+    ensures { result ≡ (bytes_eq name.now (codes "--clause-limit") && is_path index.now) }
+{
+    name == "--clause-limit" && may_be_path(index.as_bytes())
+}
+
 // Whether the word may be a path.
 fn may_be_path(word: &[u8]) -> bool
     ensures { result ≡ is_path word.now }
@@ -115,4 +180,45 @@ fn may_be_path(word: &[u8]) -> bool
         [first, ..] => *first != b'-',
         [] => false,
     }
+}
+
+// The clause limit that a word gives, where it is one.
+#[tactic(auto, unfolding(crate::specs::Words::limit_of))]
+fn limit_of(word: &[u8]) -> Option<u32>
+    ensures limit { result ≡ limit_of word.now }
+    ensures range { IfSome result (λ limit. 0 < limit) }
+{
+    if !is_number(word) {
+        return None;
+    }
+    let number = number_up_to(word, 1_000_001);
+    if number < 1 || number > 1_000_000 {
+        return None;
+    }
+    Some(number)
+}
+
+fn is_number(word: &[u8]) -> bool
+    ensures { result ≡ is_number word.now }
+{
+    !word.is_empty() && word.len() <= 20 && has_digits_alone(word)
+}
+
+fn has_digits_alone(word: &[u8]) -> bool
+    ensures { result ≡ list_all is_ascii_digit word.now }
+{
+    word.iter().all(|byte| byte.is_ascii_digit())
+}
+
+// The number that decimal digits write, or the greatest that is asked for where it is greater.
+fn number_up_to(digits: &[u8], most: u32) -> u32
+    requires digits { list_all is_ascii_digit digits.now ≡ true }
+    requires most { most < 2 ^ 28 }
+    ensures { result ≡ min (number digits.now) most }
+{
+    let mut value = 0;
+    for digit in digits {
+        value = most.min(10 * value + u32::from(*digit - b'0'));
+    }
+    value
 }

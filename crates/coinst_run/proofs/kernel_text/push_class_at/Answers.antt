@@ -1,22 +1,23 @@
-use Rattle.std.proofs.Common.{◌++◌, [], length, arith, ap, ◌∙◌}
+use Rattle.std.proofs.Common.{◌++◌, ◌<◌, length, sym, subst, ap, ◌∙◌, arith}
 use Rattle.std.proofs.lemmas.Result.{on_ok_weaker}
-use Rattle.coinst_run.specs.IndexKernel.{index_kernel}
-use Rattle.coinst_run.proofs.Blocks.{class_at, kernel_size, rivals_size}
-use Rattle.coinst_run.proofs.Numbers.{kept_at, same_stanza}
+use Rattle.clause_pool.specs.Interned.{clauses_at, row_at}
+use Rattle.row_book.specs.Book.{repository_of}
+use Rattle.row_book.specs.Sets.{In}
+use Rattle.repo_model.proofs.Elements.{at_place}
+use Rattle.repo_model.proofs.Numbers.{same_stanza}
+use Rattle.coinst_run.proofs.Blocks.{class_at, row_of_book}
 use Rattle.coinst_run.proofs.kernel_text.push_class_at.Goals as goal
 
-pub bounds-as_slice-place : goal.bounds-as_slice-place
-bounds-as_slice-place c = omega (arith, ap length (c.as_slice.ensures ∙ c.requires.kernel.clauses), kernel_size c.args.stanzas.now)
-
-pub bounds-as_slice-place-2 : goal.bounds-as_slice-place-2
-bounds-as_slice-place-2 c = omega (arith, ap length (c.as_slice-3.ensures ∙ c.requires.kernel.conflicts), rivals_size c.args.stanzas.now)
+pub row-requires-2 : goal.row-requires-2
+row-requires-2 c =
+    let inside : c.args.number < length c.args.kernel.now.rows = omega (arith, c.requires.inside, c.requires.size) in
+    c.requires.sound.rows.of_pool c.row.result (subst (λ id. In id c.args.kernel.now.rows) (sym c.row.ensures) (at_place c.args.kernel.now.rows c.args.number 0 inside))
 
 pub returns : goal.returns
 returns c =
+    let inside : c.args.number < length c.args.kernel.now.rows = omega (arith, c.requires.inside, c.requires.size) in
     on_ok_weaker c.push_class.result (λ pushed. pushed ∙ ap (λ t. c.args.out.now.items ++ t)
-    (class_at c.args.stanzas.now c.args.number c.index-stanzas-place.result c.as_slice-2.result.now c.as_slice-4.result.now c.requires.inside
-    (same_stanza c.args.stanzas.now c.args.number c.index-stanzas-place.result c.requires.inside c.index-stanzas-place.is)
-    (kept_at c.as_slice.result.now c.args.kernel.now.clauses (index_kernel c.args.stanzas.now).clauses c.args.number c.index-as_slice-place.result c.as_slice-2.result.now []
-    (omega (arith, c.requires.inside, kernel_size c.args.stanzas.now)) c.as_slice-2.ensures c.index-as_slice-place.is c.as_slice.ensures c.requires.kernel.clauses)
-    (kept_at c.as_slice-3.result.now c.args.kernel.now.conflicts (index_kernel c.args.stanzas.now).conflicts c.args.number c.index-as_slice-place-2.result c.as_slice-4.result.now []
-    (omega (arith, c.requires.inside, rivals_size c.args.stanzas.now)) c.as_slice-4.ensures c.index-as_slice-place-2.is c.as_slice-3.ensures c.requires.kernel.conflicts))) c.push_class.ensures
+    (class_at (repository_of c.args.pool.now c.args.kernel.now) c.args.packages.now c.args.number c.index-packages-number.result (clauses_at c.args.pool.now c.row-2.result.now) c.against.result.now
+    c.requires.inside (same_stanza c.args.packages.now c.args.number c.index-packages-number.result c.requires.inside c.index-packages-number.is)
+    (ap (clauses_at c.args.pool.now) c.row-2.ensures.lent ∙ ap (row_at c.args.pool.now) c.row.ensures ∙ row_of_book (row_at c.args.pool.now) c.args.kernel.now.rows c.args.number 0 inside)
+    c.against.ensures)) c.push_class.ensures

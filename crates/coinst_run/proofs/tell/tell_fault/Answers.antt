@@ -1,15 +1,19 @@
-use Rattle.std.proofs.Common.{[], ◌∷◌, ◌++◌, ap, ap₂, ◌∙◌}
-use Rattle.std.specs.Fmt.{decimal}
+use Rattle.std.proofs.Common.{[], ◌++◌, ap, ◌∙◌}
 use Rattle.std.specs.Prelude.{codes}
-use Rattle.coinst_run.specs.Faults.{cause_number, cause_words}
+use Rattle.coinst_run.specs.Faults.{line_text, number_text}
 use Rattle.coinst_run.specs.Outcome.{fault_line}
-use Rattle.coinst_run.proofs.Telling.{about_fault, tells_same}
+use Rattle.coinst_run.proofs.Telling.{fault_parts, tells_same}
 use Rattle.coinst_run.proofs.tell.tell_fault.Goals as goal
 
-pub returns : goal.returns
-unfolding fault_line
-returns g c =
-    tells_same (g.E.Sink.taken c.args.err.now) (g.E.Sink.taken c.tell.new.err) (g.E.Sink.faults c.args.err.now) (g.E.Sink.faults c.tell.new.err) _ (fault_line c.args.path.now c.args.fault)
-    (ap₂ (λ a b. a ++ b) c.as_bytes.ensures.value (ap₂ (λ a b. a ++ b) c.as_slice.ensures (ap₂ (λ a b. a ++ b) (c.as_bytes-digits.ensures.value ∙ c.format.ensures.text)
-    (ap₂ (λ a b. a ++ b) c.as_slice-2.ensures (ap₂ (λ a b. a ++ b) c.cause_words.ensures (ap₂ (λ a b. a ++ b) c.cause_number-number.ensures (ap (λ a. a ++ []) c.as_slice-3.ensures))))))
-    ∙ about_fault c.args.path.now (codes ": ") (codes "line ") (decimal c.args.fault.line) (codes ": ") (cause_words c.args.fault.cause) (cause_number c.args.fault.cause) (10 ∷ [])) c.tell.ensures
+pub returns-in-Some : goal.returns-in-Some
+returns-in-Some g c =
+    tells_same (g.E.Sink.taken c.args.err.now) (g.E.Sink.taken c.tell_at_line.new.err) (g.E.Sink.faults c.args.err.now) (g.E.Sink.faults c.tell_at_line.new.err) _ (fault_line c.args.path.now c.args.fault)
+    (fault_parts c.args.path.now c.args.fault (codes "line " ++ c.as_bytes-digits.result.now ++ codes ": ") c.words_of.result.now c.digits_of-number.result.now
+    (ap (λ digits. codes "line " ++ digits ++ codes ": ") (c.as_bytes-digits.ensures.value ∙ c.format.ensures.text) ∙ ap line_text c.in-Some.ensures)
+    c.words_of.ensures (c.digits_of-number.ensures ∙ ap number_text c.number_of.ensures)) c.tell_at_line.ensures
+
+pub returns-in-None : goal.returns-in-None
+returns-in-None g c =
+    tells_same (g.E.Sink.taken c.args.err.now) (g.E.Sink.taken c.tell_of_file.new.err) (g.E.Sink.faults c.args.err.now) (g.E.Sink.faults c.tell_of_file.new.err) _ (fault_line c.args.path.now c.args.fault)
+    (fault_parts c.args.path.now c.args.fault [] c.words_of-in-None.result.now c.digits_of-number.result.now (ap line_text c.in-None.ensures)
+    c.words_of-in-None.ensures (c.digits_of-number.ensures ∙ ap number_text c.number_of.ensures)) c.tell_of_file.ensures

@@ -1,6 +1,0 @@
-use Rattle.std.proofs.Common.{◌≡◌, ℕ, ◌<◌, [], slice_index_or, true}
-use Rattle.row_book.specs.Clauses.{comes_before}
-use Rattle.coinst_run.proofs.repository.place_of.Given as goal
-
-abbrev pub invariant-loop-place : goal.invariant-loop-place
-invariant-loop-place l = (k : ℕ) → k < l.place → comes_before (slice_index_or l.row k []) l.clause ≡ true

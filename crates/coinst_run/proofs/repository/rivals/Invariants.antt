@@ -1,7 +1,0 @@
-use Rattle.std.proofs.Common.{◌≡◌, filter}
-use Rattle.std.specs.List.{range_with_len}
-use Rattle.coinst_run.specs.IndexRepository.{in_conflict}
-use Rattle.coinst_run.proofs.repository.rivals.Given as goal
-
-abbrev pub invariant-loop-number : goal.invariant-loop-number
-invariant-loop-number l = l.rivals ≡ filter (in_conflict l.stanzas l.of) (range_with_len 0 l.number)

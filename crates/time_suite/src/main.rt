@@ -1,16 +1,91 @@
-//! A measuring program: reads an index, makes its suite and looks up each atom, and prints the time of each step.
-//! No part of coinst stands on it; `bench/suite` runs it.
+//! A measuring program: reads an index, makes its suite, looks up each atom, makes the repository and flattens it, and
+//! prints the time of each step. No part of coinst stands on it; `bench/suite` runs it.
 #![tactic(auto)]
 
+ghost use Rattle.row_book.specs.Book.{Sound};
+
 use byte_flow::{FileShelf, read_file};
-use repo_model::read_suite;
+use clause_flatten::flatten;
+use clause_pool::Pool;
+use repo_model::{Suite, read_suite};
+use row_book::Book;
+use std::alloc::{AllocError, Global};
 use std::env;
 use std::process::ExitCode;
-use std::time::Instant;
+use std::time::{Duration, Instant};
 use virtual_provides::NameTable;
 
 /// The most bytes of an index, as the program has it.
 const MOST_BYTES: u64 = 1073741824;
+
+/// The greatest clause limit, as the program has it.
+const MOST_CLAUSES: u32 = 1_000_000;
+
+/// How many packages meet the atoms of all needs, each atom counted anew.
+fn count_met(alloc: Global, suite: &Suite) -> Result<u64, AllocError> {
+    let mut met = 0u64;
+    let packages = suite.packages.as_slice();
+    if packages.len() >= 4294967295 {
+        return Ok(met);
+    }
+    let table = NameTable::build(alloc, packages)?;
+    for package in packages {
+        for element in package.needs.as_slice() {
+            for atom in element.as_slice() {
+                let found = table.meeting(alloc, packages, atom, &suite.home)?;
+                met = met.wrapping_add(found.len() as u64);
+            }
+        }
+    }
+    Ok(met)
+}
+
+/// How many packages have an element that no package meets: their rows begin with the empty clause.
+fn count_unmet(pool: &Pool, book: &Book) -> u64
+    requires { Sound pool.now book.now }
+{
+    let mut unmet = 0u64;
+    let Some(empty) = pool.find(&[]) else {
+        return unmet;
+    };
+    for row in book.rows.as_slice() {
+        if pool.row(*row).first() == Some(&empty) {
+            unmet = unmet.wrapping_add(1);
+        }
+    }
+    unmet
+}
+
+/// The time since the start, or none where the clock fails.
+fn since(rt: &HostRuntime, start: &Instant) -> Duration {
+    start.elapsed(rt).unwrap_or(Duration::ZERO)
+}
+
+/// Prints what a suite has and the time of each step; it fails only where no memory is found.
+fn measure(rt: &HostRuntime, start: &Instant, suite: &Suite) -> Result<(), AllocError> {
+    let alloc = rt.alloc();
+    let made = since(rt, start);
+    let met = count_met(alloc, suite)?;
+    let all = since(rt, start);
+    let mut pool = Pool::new(alloc)?;
+    let book = suite.book(alloc, &mut pool)?;
+    let booked = since(rt, start);
+    let count = suite.count();
+    let unmet = count_unmet(&pool, &book);
+    let clauses = pool.clause_count();
+    let _ = println!(rt;
+        "{count} packages, {met} that meet an atom, {unmet} with an element that nobody meets, {clauses} clauses"
+    );
+    let _ = println!(rt;
+        "a suite after {made:?}, all atoms looked up after {all:?}, a book after {booked:?}"
+    );
+    let before = since(rt, start);
+    let is_flat = flatten(alloc, &mut pool, &book, MOST_CLAUSES).is_ok();
+    let flattened = since(rt, start);
+    let kept = pool.clause_count();
+    let _ = println!(rt; "flattened ({is_flat}) from {before:?} to {flattened:?}, {kept} clauses");
+    Ok(())
+}
 
 /// Statuses: 0, measured; 2, the one word INDEX is missing; 3, a fault of the index, which is printed; 5, the index
 /// could not be read or is too long; 7, want of memory or of a clock.
@@ -29,47 +104,16 @@ fn main(rt: HostRuntime) -> ExitCode {
     let Ok(bytes) = read_file(rt.alloc(), &mut shelf, path.as_str(), MOST_BYTES) else {
         return ExitCode::from(5)
     };
-    let Ok(read) = start.elapsed(&rt) else {
-        return ExitCode::from(7)
-    };
+    let read = since(&rt, &start);
+    let _ = println!(rt; "read after {read:?}");
     if bytes.len() > 1073741824 {
         return ExitCode::from(5);
     }
     match read_suite(rt.alloc(), &bytes) {
-        Ok(suite) => {
-            let Ok(made) = start.elapsed(&rt) else {
-                return ExitCode::from(7)
-            };
-            let count = suite.count();
-            let mut met = 0u64;
-            if count < 4294967295 {
-                let Ok(table) = NameTable::build(rt.alloc(), suite.packages.as_slice()) else {
-                    return ExitCode::from(7)
-                };
-                for package in suite.packages.as_slice() {
-                    for element in package.needs.as_slice() {
-                        for atom in element.as_slice() {
-                            let Ok(found) = table.meeting(
-                                rt.alloc(),
-                                suite.packages.as_slice(),
-                                atom,
-                                &suite.home,
-                            ) else {
-                                return ExitCode::from(7);
-                            };
-                            met = met.wrapping_add(found.len() as u64);
-                        }
-                    }
-                }
-            }
-            let Ok(all) = start.elapsed(&rt) else {
-                return ExitCode::from(7)
-            };
-            let _ = println!(rt;
-                "{count} packages, {met} that meet an atom; read after {read:?}, a suite after {made:?}, looked up after {all:?}"
-            );
-            ExitCode::from(0)
-        }
+        Ok(suite) => match measure(&rt, &start, &suite) {
+            Ok(()) => ExitCode::from(0),
+            Err(_) => ExitCode::from(7),
+        },
         Err(fault) => {
             let _ = println!(rt; "{fault}");
             ExitCode::from(3)

@@ -1,5 +1,5 @@
 -- What the calls of a shelf and a sink answer and leave: bytes by paths, counts of faults, bytes moved, room.
-use Rattle.std.specs.Prelude.{◌≡◌, ℕ, ◌+◌, ◌-◌, ◌^◌, ◌<◌, ◌≤◌, min, List, [], length, Option, Some, None, IsSome, IsNone, IsSomeAnd, bytes_eq, if◌then◌else◌, Result, Ok, Err, OnErr, IfOk, ⊤}
+use Rattle.std.specs.Prelude.{◌≡◌, Bool, ℕ, ◌+◌, ◌-◌, ◌^◌, ◌<◌, ◌≤◌, min, List, [], length, Option, Some, None, IsSome, IsNone, IsSomeAnd, bytes_eq, if◌then◌else◌, Result, Ok, Err, OnErr, IfOk, ⊤}
 
 -- the bytes of each path, none where the path is not there
 abbrev pub Files : Type 0
@@ -16,6 +16,10 @@ with_file path bytes files = λ q. if bytes_eq path q then Some bytes else files
 -- a count after one more, which stands still at the last number of 64 bits
 abbrev pub raised : ℕ → ℕ
 raised count = min (count + 1) (2 ^ 64 - 1)
+
+-- a count of faults after a call, which is raised exactly where the call fails
+abbrev pub faults_after : ℕ → Bool → ℕ
+faults_after before succeeded = if succeeded then before else raised before
 
 -- the count grew, or it stands at the last number of 64 bits
 abbrev pub Rose : ℕ → ℕ → Type 0

@@ -4,3 +4,4 @@ pub mod Schedule
 pub mod FileTable
 pub mod MemShelf
 pub mod MemSink
+pub mod FileShelf

@@ -1,7 +1,7 @@
 -- A shelf in memory: its files, the rest of the started one, its listed calls, and what each call does to them.
 use Rattle.std.specs.Prelude.{◌≡◌, ℕ, ◌+◌, ◌-◌, ◌^◌, min, Bool, not, ◌&&◌, List, [], length, drop, Option, Some, None, is_some, unwrap_or, if◌then◌else◌}
 use Rattle.byte_flow.specs.declared.mem_shelf.MemShelf.{MemShelf}
-use Rattle.byte_flow.specs.Flow.{Files, raised}
+use Rattle.byte_flow.specs.Flow.{Files, faults_after, raised}
 use Rattle.byte_flow.specs.FileTable.{files_in, rest_in}
 use Rattle.byte_flow.specs.Schedule.{has_pending, is_next_listed}
 
@@ -62,7 +62,7 @@ pub record Called (old : MemShelf) (succeeded : Bool) (new : MemShelf) : Type 0 
   pub calls : calls_of new ≡ raised (calls_of old)
   pub listed : listed_of new ≡ listed_of old
   pub step : step_of new ≡ step_of old
-  pub faults : faults_of new ≡ (if succeeded then faults_of old else raised (faults_of old))
+  pub faults : faults_of new ≡ faults_after (faults_of old) succeeded
 
 -- a start fails exactly where it is a listed call or the path is not there
 pub record Started (old : MemShelf) (path : List ℕ) (succeeded : Bool) (new : MemShelf) : Type 0 where

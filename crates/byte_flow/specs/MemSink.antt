@@ -1,7 +1,7 @@
 -- A sink in memory: what it took, the room made, its listed calls, and what a write does to them.
 use Rattle.std.specs.Prelude.{◌≡◌, ℕ, ◌-◌, min, Bool, ◌||◌, List, ◌++◌, length, take, Option, Some, None, is_some, unwrap_or, nat_lt, if◌then◌else◌}
 use Rattle.byte_flow.specs.declared.mem_sink.MemSink.{MemSink}
-use Rattle.byte_flow.specs.Flow.{raised}
+use Rattle.byte_flow.specs.Flow.{faults_after, raised}
 use Rattle.byte_flow.specs.Schedule.{has_pending, is_next_listed}
 
 -- the bytes taken
@@ -61,4 +61,4 @@ pub record Written (old : MemSink) (piece : List ℕ) (answer : Option ℕ) (new
   pub calls : calls_of new ≡ raised (calls_of old)
   pub listed : listed_of new ≡ listed_of old
   pub step : step_of new ≡ step_of old
-  pub faults : faults_of new ≡ (if is_some answer then faults_of old else raised (faults_of old))
+  pub faults : faults_of new ≡ faults_after (faults_of old) (is_some answer)

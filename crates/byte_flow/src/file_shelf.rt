@@ -1,5 +1,5 @@
-// The shelf over real files; what a file holds is known to no clause.
-ghost use Rattle.std.specs.Prelude.{◌≡◌};
+// The shelf over real files; what a file holds is known to no clause but where an open file tells what it has left.
+ghost use Rattle.std.specs.Prelude.{◌≡◌, [], Some};
 
 use crate::count::Count;
 use crate::{Failed, Shelf};
@@ -17,10 +17,11 @@ pub struct FileShelf<'a, R: Files> {
 }
 
 impl<'a, R: Files> FileShelf<'a, R> {
-    /// A shelf over the lent runtime, on which no call was made.
+    /// A shelf over the lent runtime, on which no call was made and no file is started.
     pub fn new(rt: &'a R) -> Self
         ensures faults { ⟦<FileShelf<'a, R> as Shelf>⟧.faults result ≡ 0 }
         ensures moved { ⟦<FileShelf<'a, R> as Shelf>⟧.moved result ≡ 0 }
+        ensures closed { ⟦<FileShelf<'a, R> as Shelf>⟧.rest result ≡ Some [] }
     {
         FileShelf {
             rt,
@@ -32,17 +33,24 @@ impl<'a, R: Files> FileShelf<'a, R> {
 }
 
 impl<R: Files> Shelf for FileShelf<'_, R> {
-    ghost use Rattle.std.specs.Prelude.{None};
+    ghost use Rattle.std.specs.Prelude.{◌≡◌, None, is_some};
+    ghost use Rattle.byte_flow.specs.FileShelf.{rest_of_open};
+    ghost use Rattle.byte_flow.specs.Flow.{faults_after};
 
     ghost contents = { λ _. None };
 
-    ghost rest = { λ _. None };
+    ghost rest = { λ s. rest_of_open ⟦<R::File as Read>⟧.remaining s.file };
 
     ghost faults = { λ s. s.faults.number };
 
     ghost moved = { λ s. s.moved };
 
     ghost is_quiet = { λ _. ⊥ };
+
+    // The count is raised by a failed call, and by no other.
+    ghost start_gives = { λ old _ succeeded new. new.faults.number ≡ faults_after old.faults.number succeeded };
+
+    ghost read_gives = { λ old _ answer new. new.faults.number ≡ faults_after old.faults.number (is_some answer) };
 
     ghost quiet_tells = { λ _ quiet. absurd quiet };
 

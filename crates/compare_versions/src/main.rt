@@ -2,8 +2,11 @@
 //! two is no version.
 #![tactic(auto)]
 
-ghost use Rattle.std.specs.Prelude.{◌≡◌, IfOk};
+ghost use Rattle.std.specs.Prelude.{◌≡◌, ◌&&◌, IfOk, IfErr, false, true};
+ghost use Rattle.deb_version.specs.Grammar.{is_version};
 ghost use Rattle.deb_version.specs.Order.{version_order};
+ghost use Rattle.deb_version.specs.Refusals.{OnShape};
+ghost use Rattle.compare_versions.specs.Signs.{sign_between};
 
 use deb_version::{Version, VersionError};
 use std::alloc::{AllocError, Global};
@@ -21,11 +24,18 @@ fn main(rt: HostRuntime) -> io::Result<()> {
     out.flush()
 }
 
-// The sign between the two versions of a line.
+/// The sign between the two texts of a line, or `?` where it has no space.
 fn sign_of(alloc: Global, line: &str) -> Result<&'static str, AllocError> {
     let Some((left, right)) = line.split_once(' ') else {
         return Ok("?");
     };
+    sign_of_two(alloc, left, right)
+}
+
+/// The sign between two texts; it fails only where no memory is found.
+fn sign_of_two(alloc: Global, left: &str, right: &str) -> Result<&'static str, AllocError>
+    ensures { IfOk result (λ sign. sign.now ≡ sign_between left.now right.now) }
+{
     match order_of(alloc, left, right) {
         Ok(Ordering::Less) => Ok("<"),
         Ok(Ordering::Equal) => Ok("="),
@@ -35,9 +45,11 @@ fn sign_of(alloc: Global, line: &str) -> Result<&'static str, AllocError> {
     }
 }
 
-// The order of two texts of versions.
+/// The order of two texts of versions.
 fn order_of(alloc: Global, left: &str, right: &str) -> Result<Ordering, VersionError>
-    ensures { IfOk result (λ order. order ≡ version_order left.now right.now) }
+    ensures order { IfOk result (λ order. order ≡ version_order left.now right.now) }
+    ensures both { IfOk result (λ _. (is_version left.now && is_version right.now) ≡ true) }
+    ensures shape { IfErr result (OnShape ((is_version left.now && is_version right.now) ≡ false)) }
 {
     let left = Version::parse(alloc, left.as_bytes())?;
     let right = Version::parse(alloc, right.as_bytes())?;

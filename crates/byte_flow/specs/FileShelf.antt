@@ -1,0 +1,7 @@
+-- What a shelf over real files tells of the rest.
+use Rattle.std.specs.Prelude.{ℕ, List, [], Option, Some, None}
+
+-- what an open file tells of its unread rest; no bytes where no file is open
+abbrev pub rest_of_open : {File : Type 0} → (File → Option (List ℕ)) → Option File → Option (List ℕ)
+rest_of_open remaining None = Some []
+rest_of_open remaining (Some file) = remaining file

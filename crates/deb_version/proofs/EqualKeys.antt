@@ -119,7 +119,7 @@ alike_step v w e rest =
     let follows : zero_before (behind_front v) ≡ zero_before (behind_front w)
     = sym (zero_before-key (behind_front v) (behind_digits-plain (behind_plain v))) ∙ ap zero_before more ∙ zero_before-key (behind_front w) (behind_digits-plain (behind_plain w)) in
     let digits : without_zeros (take_while is_ascii_digit (behind_plain v)) ≡ without_zeros (take_while is_ascii_digit (behind_plain w))
-    = runs_alike (take_while is_ascii_digit (behind_plain v)) (take_while is_ascii_digit (behind_plain w)) (take_while-all (behind_plain v)) (take_while-all (behind_plain w)) (exact_unsigned _ _ pieces.1) in
+    = runs_alike (take_while is_ascii_digit (behind_plain v)) (take_while is_ascii_digit (behind_plain w)) (take_while-all is_ascii_digit (behind_plain v)) (take_while-all is_ascii_digit (behind_plain w)) (exact_unsigned _ _ pieces.1) in
     let numbers : number_key v ≡ number_key w = number_before-alike _ _ _ _ digits follows in
     part_key-step v ∙ ap (λ xs. (xs ++ number_key v) ++ part_key (behind_front v)) plain ∙ ap (λ xs. (take_while is_plain w ++ xs) ++ part_key (behind_front v)) numbers
     ∙ ap (λ xs. (take_while is_plain w ++ number_key w) ++ xs) more ∙ sym (part_key-step w)

@@ -1,5 +1,5 @@
 -- The numbers that runs of digits write, compared as runs.
-use Rattle.std.proofs.Common.{◌≡◌, ◌≢◌, ℕ, zero, suc, ◌+◌, ◌-◌, ◌*◌, ◌<◌, ◌≤◌, true, false, cond, List, [], ◌∷◌, length, drop, refl, sym, ap, ◌∙◌, arith}
+use Rattle.std.proofs.Common.{◌≡◌, ◌≢◌, ℕ, zero, suc, ◌+◌, ◌-◌, ◌*◌, ◌<◌, ◌≤◌, Bool, true, false, cond, List, [], ◌∷◌, length, drop, refl, sym, ap, ◌∙◌, arith}
 use Rattle.std.specs.Prelude.{◌==◌}
 use Rattle.std.specs.declared.cmp.Ordering.TheVariants.{Less, Greater}
 use Rattle.std.specs.Char.{is_ascii_digit}
@@ -92,14 +92,14 @@ zeros-without_zeros (x ∷ xs) =
       | false ↦ λ is. rw is refl
     ] refl
 
-pub digits-drop : (n : ℕ) (a : List ℕ) → list_all is_ascii_digit a ≡ true → list_all is_ascii_digit (drop n a) ≡ true
-digits-drop zero a d = d
-digits-drop (suc n) [] d = refl
-digits-drop (suc n) (x ∷ xs) d = let both = and_parts _ _ d in digits-drop n xs both.1
+pub list_all-drop : (p : ℕ → Bool) (n : ℕ) (xs : List ℕ) → list_all p xs ≡ true → list_all p (drop n xs) ≡ true
+list_all-drop p zero xs h = h
+list_all-drop p (suc n) [] h = refl
+list_all-drop p (suc n) (x ∷ xs) h = let both = and_parts _ _ h in list_all-drop p n xs both.1
 
 -- two runs, once their leading zeros are left out
 pub order_by_runs : (a b : List ℕ) → list_all is_ascii_digit a ≡ true → list_all is_ascii_digit b ≡ true →
     ordering_then (nat_cmp (length (drop (zeros a) a)) (length (drop (zeros b) b))) (slice_cmp nat_cmp (drop (zeros a) a) (drop (zeros b) b)) ≡ nat_cmp (number a) (number b)
 order_by_runs a b d e =
-    compared (drop (zeros a) a) (drop (zeros b) b) (zeros-without_zeros a) (zeros-without_zeros b) (digits-drop (zeros a) a d) (digits-drop (zeros b) b e)
+    compared (drop (zeros a) a) (drop (zeros b) b) (zeros-without_zeros a) (zeros-without_zeros b) (list_all-drop is_ascii_digit (zeros a) a d) (list_all-drop is_ascii_digit (zeros b) b e)
     ∙ rw (number-without_zeros a, number-without_zeros b) refl

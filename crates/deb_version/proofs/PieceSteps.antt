@@ -1,5 +1,5 @@
 -- The order of two parts, pieces taken off their fronts.
-use Rattle.std.proofs.Common.{◌≡◌, ℕ, zero, suc, ◌+◌, ◌-◌, ◌<◌, ◌≤◌, max, true, false, cond, List, [], ◌∷◌, length, take, drop, refl, sym, ap, ◌∙◌, arith}
+use Rattle.std.proofs.Common.{◌≡◌, ℕ, zero, suc, ◌+◌, ◌-◌, ◌<◌, ◌≤◌, max, Bool, true, false, cond, List, [], ◌∷◌, length, take, drop, refl, sym, ap, ◌∙◌, arith}
 use Rattle.std.specs.declared.cmp.Ordering.{Ordering}
 use Rattle.std.specs.declared.cmp.Ordering.TheVariants.{Less, Equal, Greater}
 use Rattle.std.specs.Char.{is_ascii_digit}
@@ -130,16 +130,17 @@ pub part_order-empty : (v w : List ℕ) → length v ≡ 0 → length w ≡ 0 �
 unfolding first_difference
 part_order-empty v w g h = sym (part_order-at v w 0 (omega arith) (omega arith))
 
-pub take_while-all : (xs : List ℕ) → list_all is_ascii_digit (take_while is_ascii_digit xs) ≡ true
-take_while-all [] = refl
-take_while-all (x ∷ xs) =
-    elim (is_ascii_digit x) as (λ b. is_ascii_digit x ≡ b → list_all is_ascii_digit (take (cond b (1 + prefix_len is_ascii_digit xs) 0) (x ∷ xs)) ≡ true) [
+-- each element of the longest front that passes does
+pub take_while-all : (p : ℕ → Bool) (xs : List ℕ) → list_all p (take_while p xs) ≡ true
+take_while-all p [] = refl
+take_while-all p (x ∷ xs) =
+    elim (p x) as (λ b. p x ≡ b → list_all p (take (cond b (1 + prefix_len p xs) 0) (x ∷ xs)) ≡ true) [
       | true ↦ λ is.
-          let more : 1 + prefix_len is_ascii_digit xs ≡ suc (prefix_len is_ascii_digit xs) = omega arith in
-          ap (λ k. list_all is_ascii_digit (take k (x ∷ xs))) more ∙ and_from _ _ is (take_while-all xs)
+          let more : 1 + prefix_len p xs ≡ suc (prefix_len p xs) = omega arith in
+          ap (λ k. list_all p (take k (x ∷ xs))) more ∙ and_from _ _ is (take_while-all p xs)
       | false ↦ λ is. refl
     ] refl
 
 -- the longest front of digits has digits alone
 pub digits_front : (digits xs : List ℕ) (n : ℕ) → digits ≡ take n xs → n ≡ prefix_len is_ascii_digit xs → list_all is_ascii_digit digits ≡ true
-digits_front digits xs n e h = ap (λ (ds : List ℕ). list_all is_ascii_digit ds) (e ∙ ap (λ m. take m xs) h) ∙ take_while-all xs
+digits_front digits xs n e h = ap (λ (ds : List ℕ). list_all is_ascii_digit ds) (e ∙ ap (λ m. take m xs) h) ∙ take_while-all is_ascii_digit xs

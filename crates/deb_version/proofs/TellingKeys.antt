@@ -17,7 +17,7 @@ use Rattle.deb_version.specs.Order.{number, is_plain, weights, behind_plain, beh
 use Rattle.deb_version.proofs.Cutting.{epoch_digits}
 use Rattle.deb_version.proofs.EqualKeys.{stops, starts_plain, behind_digits-plain}
 use Rattle.deb_version.proofs.KeySteps.{part_key-step, part_key-empty}
-use Rattle.deb_version.proofs.Numbers.{number-without_zeros, digits-drop}
+use Rattle.deb_version.proofs.Numbers.{number-without_zeros, list_all-drop}
 use Rattle.deb_version.proofs.PieceSteps.{behind_front, shorter-behind_front, part_order-step, part_order-empty, take_while-all}
 use Rattle.deb_version.proofs.TotalOrder.{part_total}
 
@@ -42,23 +42,10 @@ module _ (p : ℕ → Bool) where
       let both = and_parts _ _ h in
       ap (λ b. drop (cond b (1 + prefix_len p (xs ++ ys)) 0) (x ∷ (xs ++ ys))) both.0 ∙ ap (λ n. drop n (x ∷ (xs ++ ys))) more ∙ drop_front xs ys both.1 s
 
-  all_taken : (xs : List ℕ) → list_all p (take_while p xs) ≡ true
-  all_taken [] = refl
-  all_taken (x ∷ xs) = ap (list_all p) (take_while-cons p x xs) ∙ by (all_taken xs) (p x) refl
-    where
-      by : list_all p (take_while p xs) ≡ true → (b : Bool) → p x ≡ b → list_all p (cond b (x ∷ take_while p xs) []) ≡ true
-      by rest true is = and_from _ _ is rest
-      by rest false is = refl
-
   all_take : (n : ℕ) (xs : List ℕ) → list_all p xs ≡ true → list_all p (take n xs) ≡ true
   all_take zero xs h = refl
   all_take (suc n) [] h = refl
   all_take (suc n) (x ∷ xs) h = let both = and_parts _ _ h in and_from _ _ both.0 (all_take n xs both.1)
-
-  all_drop : (n : ℕ) (xs : List ℕ) → list_all p xs ≡ true → list_all p (drop n xs) ≡ true
-  all_drop zero xs h = h
-  all_drop (suc n) [] h = refl
-  all_drop (suc n) (x ∷ xs) h = let both = and_parts _ _ h in all_drop n xs both.1
 
 -- a number in a key: its digits, its value, and that it is cut off again
 number_digits : (digits more : List ℕ) → list_all is_ascii_digit digits ≡ true → list_all is_ascii_digit (number_before digits more) ≡ true
@@ -96,9 +83,9 @@ unfolding front_key
 same_step v rest =
     let more : List ℕ = part_key (behind_front v) in
     let written : List ℕ = number_key v in
-    let digits : list_all is_ascii_digit (without_zeros (digits_of v)) ≡ true = digits-drop _ (digits_of v) (take_while-all (behind_plain v)) in
+    let digits : list_all is_ascii_digit (without_zeros (digits_of v)) ≡ true = list_all-drop is_ascii_digit _ (digits_of v) (take_while-all is_ascii_digit (behind_plain v)) in
     let key : part_key v ≡ plain_of v ++ (written ++ more) = part_key-step v ∙ append_assoc (plain_of v) written more in
-    let plain_all : list_all is_plain (plain_of v) ≡ true = all_taken is_plain v in
+    let plain_all : list_all is_plain (plain_of v) ≡ true = take_while-all is_plain v in
     let plain_end : stops is_plain (written ++ more) ≡ true = number_stops (without_zeros (digits_of v)) (behind_front v) digits in
     let digits_all : list_all is_ascii_digit written ≡ true = number_digits (without_zeros (digits_of v)) (behind_front v) digits in
     let digits_end : stops is_ascii_digit more ≡ true = key_starts (behind_front v) (behind_digits-plain (behind_plain v)) in
@@ -152,10 +139,10 @@ fronts_no_space : (n : ℕ) (part : List ℕ) → list_all no_space part ≡ tru
 unfolding fronts_key front_key
 fronts_no_space zero part h = refl
 fronts_no_space (suc n) part h =
-    let behind = all_drop no_space (prefix_len is_plain part) part h in
-    let left = all_drop no_space (prefix_len is_ascii_digit (behind_plain part)) (behind_plain part) behind in
+    let behind = list_all-drop no_space (prefix_len is_plain part) part h in
+    let left = list_all-drop no_space (prefix_len is_ascii_digit (behind_plain part)) (behind_plain part) behind in
     let plain = all_take no_space (prefix_len is_plain part) part h in
-    let digits = all_drop no_space _ (digits_of part) (all_take no_space (prefix_len is_ascii_digit (behind_plain part)) (behind_plain part) behind) in
+    let digits = list_all-drop no_space _ (digits_of part) (all_take no_space (prefix_len is_ascii_digit (behind_plain part)) (behind_plain part) behind) in
     let written = number_no_space (without_zeros (digits_of part)) (behind_front part) digits in
     list_all-append no_space (front_key part) (fronts_key n (behind_front part))
     ∙ and_from _ _ (list_all-append no_space (plain_of part) (number_key part) ∙ and_from _ _ plain written) (fronts_no_space n (behind_front part) left)
@@ -176,7 +163,7 @@ cut_alike (x ∷ xs) ys (u ∷ us) vs g h e =
 
 epoch_no_space : (v : List ℕ) → is_version v ≡ true → list_all no_space (epoch_key v) ≡ true
 epoch_no_space v h = all_weaker is_ascii_digit no_space digit_no_space (epoch_key v)
-    (digits-drop (prefix_len (λ c. c == 48) (unwrap_or (epoch_of v) or_zero)) (unwrap_or (epoch_of v) or_zero) (epoch_digits v _ (epoch_of v) h refl refl))
+    (list_all-drop is_ascii_digit (prefix_len (λ c. c == 48) (unwrap_or (epoch_of v) or_zero)) (unwrap_or (epoch_of v) or_zero) (epoch_digits v _ (epoch_of v) h refl refl))
 
 parts_upstream : (epoch : Option (List ℕ)) (upstream : List ℕ) (revision : Option (List ℕ)) → are_parts epoch upstream revision ≡ true → list_all is_upstream_byte upstream ≡ true
 parts_upstream epoch upstream revision h = (and_parts _ _ (and_parts _ _ (and_parts _ _ h).0).1).1

@@ -2,7 +2,7 @@
 use Rattle.std.proofs.Common.{◌≡◌, ℕ, ◌+◌, ◌<◌, true, false, List, [], ◌∷◌, drop, refl, sym, ap, ◌∙◌, ℤ, pos, negsuc, arith}
 use Rattle.std.specs.Prelude.{◌==◌, if◌then◌else◌}
 use Rattle.std.specs.declared.cmp.Ordering.{Ordering}
-use Rattle.std.specs.declared.cmp.Ordering.TheVariants.{Less, Equal, Greater}
+use Rattle.std.specs.declared.cmp.Ordering.TheVariants.{Less, Greater}
 use Rattle.std.specs.Char.{is_ascii_alphabetic}
 use Rattle.std.specs.Cmp.Lexicographic.{slice_cmp}
 use Rattle.std.specs.Ordering.{ordering_then, int_cmp, is_ne}
@@ -10,6 +10,7 @@ use Rattle.std.proofs.lemmas.Bool.Decides.{nat_tests}
 use Rattle.std.proofs.lemmas.Bool.{cond_both}
 use Rattle.std.proofs.lemmas.List.{drop-drop}
 use Rattle.deb_version.specs.Order.{weight, weights, weight_at_front}
+use Rattle.deb_version.proofs.PieceSteps.{tied}
 
 drop_one : (i : ℕ) (xs : List ℕ) → drop 1 (drop i xs) ≡ drop (i + 1) xs
 drop_one i xs = drop-drop 1 i xs
@@ -47,14 +48,9 @@ weights-step [] (y ∷ ys) = end_first y _ _
 weights-step (x ∷ xs) [] = end_second x _ _
 weights-step (x ∷ xs) (y ∷ ys) = refl
 
-level : (o p q : Ordering) → q ≡ ordering_then o p → is_ne o ≡ false → q ≡ p
-level Less p q e h = cc
-level Equal p q e h = e
-level Greater p q e h = cc
-
 -- where the weights at a place are alike, those behind it decide
 pub weights-level : (l r : List ℕ) (i : ℕ) (o : Ordering) → o ≡ int_cmp (weight_at_front (drop i l)) (weight_at_front (drop i r)) → is_ne o ≡ false → slice_cmp int_cmp (weights (drop i l)) (weights (drop i r)) ≡ slice_cmp int_cmp (weights (drop (i + 1) l)) (weights (drop (i + 1) r))
 weights-level l r i o e h =
-    level _ _ _ (weights-step (drop i l) (drop i r)) (ap is_ne (sym e) ∙ h)
+    tied _ _ _ (weights-step (drop i l) (drop i r)) (ap is_ne (sym e) ∙ h)
     ∙ ap (λ k. slice_cmp int_cmp (weights k) (weights (drop 1 (drop i r)))) (drop_one i l)
     ∙ ap (λ k. slice_cmp int_cmp (weights (drop (i + 1) l)) (weights k)) (drop_one i r)

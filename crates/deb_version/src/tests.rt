@@ -28,6 +28,7 @@ a:1
 1:-1
 1:1-
 1-1:1
+1:1-1:1
 1_0
 1-1_
 1/2
@@ -143,7 +144,17 @@ fn tells_names(rt: HostRuntime) -> Result<(), Fail> {
     for name in ["a", "0ad", "libstdc++6", "Foo_bar", "x.y-z"] {
         assert!(rt; is_package_name(name.as_bytes()), "{name}");
     }
-    for text in ["", "+a", ".a", "_a", "a b", "a:any", "caf\u{e9}"] {
+    for text in [
+        "",
+        "+a",
+        "-a",
+        ".a",
+        "_a",
+        "a~",
+        "a b",
+        "a:any",
+        "caf\u{e9}",
+    ] {
         assert!(rt; !is_package_name(text.as_bytes()), "{text}");
     }
     let name = Bytes::copy(rt.alloc(), b"libc6")?;

@@ -1,9 +1,10 @@
 -- What a sound book says of its repository, and what stays of a book while its pool grows.
-use Rattle.std.proofs.Common.{◌≡◌, ℕ, zero, suc, ◌<◌, true, List, [], ◌∷◌, length, map, slice_index_or, inl, inr, refl, sym, ◌∙◌, ap, ap₂, subst, arith}
+use Rattle.std.proofs.Common.{◌≡◌, ℕ, ◌<◌, true, List, [], ◌∷◌, length, map, slice_index_or, inl, inr, refl, sym, ◌∙◌, ap, ap₂, subst}
 use Rattle.std.proofs.lemmas.Bool.{cases_lt}
 use Rattle.std.proofs.lemmas.List.{get_or_past, length-map}
 use Rattle.std.proofs.lemmas.List as lists
 use Rattle.clause_pool.specs.Interned.{Interned, clause_at, ids_at, clauses_at, row_at, OfPool, IsPool, Kept}
+use Rattle.clause_pool.proofs.Interned.{clauses_at_same}
 use Rattle.row_book.specs.declared.book.Book.{Book}
 use Rattle.row_book.specs.Sets.{In, here, there, has}
 use Rattle.row_book.specs.Clauses.{Ascending}
@@ -11,7 +12,7 @@ use Rattle.row_book.specs.Uses.{row_id}
 use Rattle.row_book.specs.Repository.{Repository, clauses_of}
 use Rattle.row_book.specs.Sound.{SoundClauses, BetweenPackages}
 use Rattle.row_book.specs.Book.{repository_of, RowsFit, listed_for, Sound}
-use Rattle.row_book.proofs.Lists.{In_none, has_In, In_map_cases}
+use Rattle.row_book.proofs.Lists.{In_none, In_at, has_In, In_map_cases}
 
 -- an element of the list at a place, which then is within
 pub in_listed : {A : Type 0} (lists : List (List A)) (p : ℕ) (x : A) → In x (slice_index_or lists p []) → p < length lists
@@ -21,11 +22,6 @@ in_listed lists p x i =
       | inr past ↦ absurd (In_none (subst (λ xs. In x xs) (get_or_past lists p [] past) i))
     ]
 
-pub in_place : {A : Type 0} (xs : List A) (p : ℕ) (d : A) → p < length xs → In (slice_index_or xs p d) xs
-in_place [] p d l = absurd (omega arith)
-in_place (x ∷ xs) zero d l = here
-in_place (x ∷ xs) (suc p) d l = there (in_place xs p d (omega arith))
-
 -- the clauses of a package are those of its row
 pub clauses_row : (pool : Interned) (book : Book) (p : ℕ) → p < length book.rows → clauses_of (repository_of pool book) p ≡ row_at pool (row_id book.rows p)
 clauses_row pool book p l = lists.get_or-map (row_at pool) book.rows p 0 [] l
@@ -33,9 +29,7 @@ clauses_row pool book p l = lists.get_or-map (row_at pool) book.rows p 0 [] l
 -- a pool that has gained clauses and rows
 module _ (old new : Interned) (is : IsPool old) (kept : Kept old new) where
   clauses_kept : (ids : List ℕ) → OfPool old ids → clauses_at new ids ≡ clauses_at old ids
-  clauses_kept [] within = refl
-  clauses_kept (id ∷ ids) within =
-      ap₂ (λ c cs. c ∷ cs) (kept.clauses id (within id here)).1 (clauses_kept ids (λ i j. within i (there j)))
+  clauses_kept ids within = clauses_at_same old new ids within (λ id l. (kept.clauses id l).1)
 
   pub row_kept : (id : ℕ) → id < length old.rows → row_at new id ≡ row_at old id
   row_kept id l = ap (clauses_at new) (kept.rows id l).1 ∙ clauses_kept (ids_at old id) (is.of_pool id l)
@@ -75,7 +69,7 @@ module _ (pool : Interned) (book : Book) (s : Sound pool book) where
   pub sound_clauses : IsPool pool → SoundClauses (repository_of pool book)
   sound_clauses is p c i =
       let within : p < length book.rows = subst (λ n. p < n) count (in_listed (repository_of pool book).clauses p c i) in
-      let id : In (row_id book.rows p) book.rows = in_place book.rows p 0 within in
+      let id : In (row_id book.rows p) book.rows = In_at book.rows p 0 within in
       let j : In c (row_at pool (row_id book.rows p)) = subst (λ cs. In c cs) (clauses_row pool book p within) i in (
         row_ascending pool is (row_id book.rows p) (s.rows.of_pool (row_id book.rows p) id) c j,
         λ n k. subst (λ m. n < m) (sym count) (s.rows.numbers (row_id book.rows p) id c j n k),

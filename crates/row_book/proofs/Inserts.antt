@@ -1,15 +1,16 @@
 -- A number that is put into an ascending list or taken out of it.
-use Rattle.std.proofs.Common.{◌≡◌, ℕ, zero, suc, ◌<◌, ◌≤◌, Bool, true, false, not, eqb, List, [], ◌∷◌, inl, inr, refl, sym, ◌∙◌, ap, ap₂, subst, arith, ◌&&◌, ◌||◌, length, take, drop, get_or, ne_eqb, eq-eqb, Result, Ok, Err, if◌then◌else◌}
+use Rattle.std.proofs.Common.{◌≡◌, ℕ, zero, suc, ◌<◌, ◌≤◌, Bool, true, false, not, eqb, List, [], ◌∷◌, inl, inr, sym, ◌∙◌, ap, ap₂, subst, arith, ◌&&◌, ◌||◌, length, take, drop, get_or, ne_eqb, eq-eqb, Result, Ok, Err, if◌then◌else◌}
 use Rattle.std.specs.List.{insert, remove}
 use Rattle.std.specs.List.Sorted.{IsBinarySearchResult, IsNonDecreasing}
 use Rattle.std.specs.Ordering.{nat_cmp}
 use Rattle.std.specs.Result.{MatchResult, IsOk, is_ok}
+use Rattle.std.proofs.Math.Bool.{or_assoc, or_comm, or-false, and-true, and-false}
 use Rattle.std.proofs.lemmas.Bool.{cases_eq, false≢true}
 use Rattle.std.proofs.lemmas.List.Sorted.{searched}
 use Rattle.row_book.specs.Sets.{NumSet, In, here, there, has, plus, without}
 use Rattle.row_book.specs.Clauses.{Ascending}
 use Rattle.row_book.specs.Uses.{IsListOf}
-use Rattle.row_book.proofs.Lists.{In_cases, In_none, In_has, has_In, has_not, In_append_cases, ascending_same}
+use Rattle.row_book.proofs.Lists.{In_cases, In_none, In_at, In_has, has_In, has_not, in_take, In_append_cases, ascending_same}
 
 -- a list is the only one of its set
 pub listed_once : (S : NumSet) (xs ys : List ℕ) → IsListOf S xs → IsListOf S ys → xs ≡ ys
@@ -21,22 +22,6 @@ listed_once S xs ys a b =
 pub listed_as : (S T : NumSet) (xs : List ℕ) → ((m : ℕ) → S m ≡ T m) → IsListOf S xs → IsListOf T xs
 listed_as S T xs e l = record { ascending = l.ascending; members = λ m. l.members m ∙ e m }
 
--- members by their places
-pub In_place : (xs : List ℕ) (k : ℕ) → k < length xs → In (get_or xs k 0) xs
-In_place [] k l = absurd (omega arith)
-In_place (x ∷ xs) zero l = here
-In_place (x ∷ xs) (suc k) l = there (In_place xs k (omega arith))
-
-pub In_at : {A : Type 0} (xs : List A) (k : ℕ) (x : A) → k < length xs → x ≡ get_or xs k x → In x xs
-In_at [] k x l e = absurd (omega arith)
-In_at (y ∷ ys) zero x l e = subst (λ z. In x (z ∷ ys)) e here
-In_at (y ∷ ys) (suc k) x l e = there (In_at ys k x (omega arith) e)
-
-In_take : (i : ℕ) (xs : List ℕ) (y : ℕ) → In y (take i xs) → In y xs
-In_take zero xs y j = absurd (In_none j)
-In_take (suc i) [] y j = absurd (In_none j)
-In_take (suc i) (x ∷ xs) y j = elim (In_cases j) [ inl e ↦ subst (λ z. In y (z ∷ xs)) e here | inr l ↦ there (In_take i xs y l) ]
-
 In_drop : (i : ℕ) (xs : List ℕ) (y : ℕ) → In y (drop i xs) → In y xs
 In_drop zero xs y j = j
 In_drop (suc i) [] y j = absurd (In_none j)
@@ -46,7 +31,7 @@ In_drop (suc i) (x ∷ xs) y j = there (In_drop i xs y j)
 ascending_places : (xs : List ℕ) → Ascending xs → (i j : ℕ) → i ≤ j → j < length xs → get_or xs i 0 ≤ get_or xs j 0
 ascending_places [] a i j l u = absurd (omega arith)
 ascending_places (x ∷ xs) a zero zero l u = omega arith
-ascending_places (x ∷ xs) a zero (suc j) l u = let h : x < get_or xs j 0 = a.0 (get_or xs j 0) (In_place xs j (omega arith)) in omega arith
+ascending_places (x ∷ xs) a zero (suc j) l u = let h : x < get_or xs j 0 = a.0 (get_or xs j 0) (In_at xs j 0 (omega arith)) in omega arith
 ascending_places (x ∷ xs) a (suc i) zero l u = absurd (omega arith)
 ascending_places (x ∷ xs) a (suc i) (suc j) l u = ascending_places xs a.1 i j (omega arith) (omega arith)
 
@@ -76,7 +61,7 @@ insert_ascends xs zero p a f g = (g, a)
 insert_ascends [] (suc i) p a f g = (g, tt)
 insert_ascends (x ∷ xs) (suc i) p a f g = (
   λ y j. elim (In_append_cases (take i xs) (p ∷ drop i xs) y j) [
-    | inl l ↦ a.0 y (In_take i xs y l)
+    | inl l ↦ a.0 y (in_take xs i y l)
     | inr r ↦ elim (In_cases r) [
       | inl e ↦ let h : x < p = f x here in omega (arith, e)
       | inr d ↦ a.0 y (In_drop i xs y d)
@@ -85,24 +70,14 @@ insert_ascends (x ∷ xs) (suc i) p a f g = (
   insert_ascends xs i p a.1 (λ y j. f y (there j)) g,
 )
 
-or_swap : (a b c : Bool) → (a || (b || c)) ≡ ((a || b) || c)
-or_swap true b c = refl
-or_swap false b c = refl
-
-or_comm : (a b : Bool) → (a || b) ≡ (b || a)
-or_comm true true = refl
-or_comm true false = refl
-or_comm false true = refl
-or_comm false false = refl
-
 insert_has : (xs : List ℕ) (i p m : ℕ) → has (insert xs i p) m ≡ plus (has xs) p m
 insert_has xs zero p m = or_comm (eqb m p) (has xs m)
 insert_has [] (suc i) p m = or_comm (eqb m p) false
-insert_has (x ∷ xs) (suc i) p m = ap (λ b. eqb m x || b) (insert_has xs i p m) ∙ or_swap (eqb m x) (has xs m) (eqb m p)
+insert_has (x ∷ xs) (suc i) p m = ap (λ b. eqb m x || b) (insert_has xs i p m) ∙ sym (or_assoc (eqb m x) (has xs m) (eqb m p))
 
 -- a number taken out of its place
 remove_In : (xs : List ℕ) (i y : ℕ) → In y (remove xs i) → In y xs
-remove_In xs i y j = elim (In_append_cases (take i xs) (drop (suc i) xs) y j) [ inl l ↦ In_take i xs y l | inr r ↦ In_drop (suc i) xs y r ]
+remove_In xs i y j = elim (In_append_cases (take i xs) (drop (suc i) xs) y j) [ inl l ↦ in_take xs i y l | inr r ↦ In_drop (suc i) xs y r ]
 
 remove_ascends : (xs : List ℕ) (i : ℕ) → Ascending xs → Ascending (remove xs i)
 remove_ascends [] zero a = tt
@@ -114,12 +89,8 @@ without_here : (xs : List ℕ) (x m : ℕ) → ((y : ℕ) → In y xs → x < y)
 without_here xs x m a =
     elim (cases_eq m x) [
       | inl e ↦ has_not xs m (λ i. let h : x < m = a m i in omega (arith, e)) ∙ ap (λ b. (b || has xs m) && not b) (sym (eq-eqb m x e))
-      | inr ne ↦ and_true (has xs m) ∙ ap (λ b. (b || has xs m) && not b) (sym (ne_eqb m x ne))
+      | inr ne ↦ sym (and-true (has xs m)) ∙ ap (λ b. (b || has xs m) && not b) (sym (ne_eqb m x ne))
     ]
-  where
-    and_true : (b : Bool) → b ≡ (b && true)
-    and_true true = refl
-    and_true false = refl
 
 without_later : (x p m : ℕ) (b : Bool) → x < p → (eqb m x || (b && not (eqb m p))) ≡ ((eqb m x || b) && not (eqb m p))
 without_later x p m b l =
@@ -133,7 +104,7 @@ remove_has : (xs : List ℕ) (i p m : ℕ) → Ascending xs → i < length xs �
 remove_has [] i p m a l e = absurd (omega arith)
 remove_has (x ∷ xs) zero p m a l e = without_here xs x m a.0 ∙ ap (λ q. without (has (x ∷ xs)) q m) e
 remove_has (x ∷ xs) (suc i) p m a l e =
-    let u : x < p = subst (λ q. x < q) e (a.0 (get_or xs i 0) (In_place xs i (omega arith))) in
+    let u : x < p = subst (λ q. x < q) e (a.0 (get_or xs i 0) (In_at xs i 0 (omega arith))) in
     ap (λ b. eqb m x || b) (remove_has xs i p m a.1 (omega arith) e) ∙ without_later x p m (has xs m) u
 
 -- what a search for a number in an ascending list says, and what an insert or a removal then leaves
@@ -147,14 +118,10 @@ found_is_there xs p i a s =
     record {
       ascending = a;
       members = λ m. elim (cases_eq m p) [
-        | inl e ↦ let h : has xs m ≡ true = In_has (subst (λ q. In q xs) (w.1 ∙ sym e) (In_place xs i w.0)) in h ∙ ap (λ b. b || eqb m p) (sym h)
-        | inr ne ↦ or_false (has xs m) ∙ ap (λ b. has xs m || b) (sym (ne_eqb m p ne))
+        | inl e ↦ let h : has xs m ≡ true = In_has (subst (λ q. In q xs) (w.1 ∙ sym e) (In_at xs i 0 w.0)) in h ∙ ap (λ b. b || eqb m p) (sym h)
+        | inr ne ↦ sym (or-false (has xs m)) ∙ ap (λ b. has xs m || b) (sym (ne_eqb m p ne))
       ];
     }
-  where
-    or_false : (b : Bool) → b ≡ (b || false)
-    or_false true = refl
-    or_false false = refl
 
 pub inserted_where_missed : (xs : List ℕ) (p i : ℕ) → Ascending xs → IsBinarySearchResult (λ y. nat_cmp y p) xs (Err i) → IsListOf (plus (has xs) p) (insert xs i p)
 inserted_where_missed xs p i a s =
@@ -192,18 +159,10 @@ missed_is_gone xs p i a s =
     record {
       ascending = a;
       members = λ m. elim (cases_eq m p) [
-        | inl e ↦ ap (has xs) e ∙ missed xs p i a s ∙ sym (ap (λ b. has xs m && not b) (eq-eqb m p e) ∙ and_false (has xs m))
-        | inr ne ↦ and_true (has xs m) ∙ ap (λ b. has xs m && not b) (sym (ne_eqb m p ne))
+        | inl e ↦ ap (has xs) e ∙ missed xs p i a s ∙ sym (ap (λ b. has xs m && not b) (eq-eqb m p e) ∙ and-false (has xs m))
+        | inr ne ↦ sym (and-true (has xs m)) ∙ ap (λ b. has xs m && not b) (sym (ne_eqb m p ne))
       ];
     }
-  where
-    and_true : (b : Bool) → b ≡ (b && true)
-    and_true true = refl
-    and_true false = refl
-
-    and_false : (b : Bool) → (b && false) ≡ false
-    and_false true = refl
-    and_false false = refl
 
 pub removed_where_found : (xs : List ℕ) (p i : ℕ) → Ascending xs → IsBinarySearchResult (λ y. nat_cmp y p) xs (Ok i) → IsListOf (without (has xs) p) (remove xs i)
 removed_where_found xs p i a s =
@@ -214,7 +173,7 @@ removed_where_found xs p i a s =
 pub search_tells : (xs : List ℕ) (p : ℕ) (r : Result ℕ ℕ) → IsNonDecreasing xs → IsBinarySearchResult (λ y. nat_cmp y p) xs r → is_ok r ≡ has xs p
 search_tells xs p (Ok i) up s =
     let w : (i < length xs) × (get_or xs i 0 ≡ p) = searched xs p (Ok i) s (λ j k l u. up j k 0 l u) in
-    sym (In_has (subst (λ q. In q xs) w.1 (In_place xs i w.0)))
+    sym (In_has (subst (λ q. In q xs) w.1 (In_at xs i 0 w.0)))
 search_tells xs p (Err i) up s =
     let w : (i ≤ length xs) × ((k : ℕ) → k < i → get_or xs k 0 < p) × ((k : ℕ) → i ≤ k → k < length xs → p < get_or xs k 0) = searched xs p (Err i) s (λ j k l u. up j k 0 l u) in
     sym (has_not xs p (missed_not_there xs p i w.0 w.1 w.2))

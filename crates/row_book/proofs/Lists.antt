@@ -1,16 +1,14 @@
 -- Elements of lists, ascending lists, decisions, and what the tests of all and of some elements say.
-use Rattle.std.proofs.Common.{◌≡◌, ℕ, zero, suc, ◌<◌, ◌≤◌, ◌+◌, Bool, true, false, not, eqb, cond, List, [], ◌∷◌, ◌++◌, ◌⊎◌, inl, inr, refl, sym, ◌∙◌, ap, subst, eq-eqb, eqb-true, arith, filter, map, ◌&&◌, ap₂, Some, None}
+use Rattle.std.proofs.Common.{◌≡◌, ℕ, zero, suc, ◌<◌, ◌≤◌, ◌+◌, Bool, true, false, not, eqb, cond, List, [], ◌∷◌, ◌++◌, ◌⊎◌, inl, inr, refl, sym, ◌∙◌, ap, subst, eq-eqb, eqb-true, arith, filter, map, ◌&&◌, ap₂, Some, None, length, get_or, take}
 use Rattle.std.specs.List.{list_all, list_any, find}
 use Rattle.std.proofs.lemmas.Bool.{or_cases, or_left, or_right, and_parts, and_from, not_from_false, not-true, both_ways, cases_Bool, cases_eq, false≢true, false_from_ne_true}
+pub use Rattle.clause_pool.proofs.Lists.{In_cases, In_none, In_at}
 use Rattle.row_book.specs.Sets.{NumSet, In, here, there, Hit, Is, has, minus}
 use Rattle.row_book.specs.Clauses.{Ascending, Inside}
 
-pub In_cases : {A : Type 0} {x y : A} {xs : List A} → In x (y ∷ xs) → (x ≡ y) ⊎ In x xs
-In_cases here = inl refl
-In_cases (there i) = inr i
-
-pub In_none : {A : Type 0} {x : A} → In x [] → ⊥
-In_none i = elim i [ ]
+-- what is read at a place is an element
+pub item_in : {A : Type 0} (xs : List A) (i : ℕ) (x : A) → i < length xs → x ≡ get_or xs i x → In x xs
+item_in xs i x l e = subst (λ z. In z xs) (sym e) (In_at xs i x l)
 
 pub In_has : {n : ℕ} {T : List ℕ} → In n T → has T n ≡ true
 In_has {n} (here {xs = ms}) = or_left (eqb n n) (has ms n) (eq-eqb n n refl)
@@ -105,6 +103,12 @@ all_same p q [] f = refl
 all_same p q (x ∷ xs) f = ap₂ (λ b c. b && c) (f x here) (all_same p q xs (λ y i. f y (there i)))
 
 -- lists made of lists
+pub in_take : {A : Type 0} (xs : List A) (i : ℕ) (x : A) → In x (take i xs) → In x xs
+in_take [] zero x j = j
+in_take [] (suc i) x j = j
+in_take (y ∷ ys) zero x j = absurd (In_none j)
+in_take (y ∷ ys) (suc i) x j = elim (In_cases j) [ inl e ↦ subst (λ z. In x (z ∷ ys)) e here | inr k ↦ there (in_take ys i x k) ]
+
 pub In_append_cases : {A : Type 0} (xs ys : List A) (x : A) → In x (xs ++ ys) → In x xs ⊎ In x ys
 In_append_cases [] ys x i = inr i
 In_append_cases (y ∷ xs) ys x i =
@@ -230,6 +234,10 @@ filter_cases p (y ∷ ys) x i =
       | inl s ↦ (subst (λ k. In x (k ∷ ys)) s.0 here, ap p s.0 ∙ s.1)
       | inr j ↦ (there (filter_cases p ys x j).0, (filter_cases p ys x j).1)
     ]
+
+pub filter_same : {A : Type 0} (p q : A → Bool) (xs : List A) → ((x : A) → In x xs → p x ≡ q x) → filter p xs ≡ filter q xs
+filter_same p q [] f = refl
+filter_same p q (x ∷ xs) f = ap₂ (λ b ys. cond b (x ∷ ys) ys) (f x here) (filter_same p q xs (λ y i. f y (there i)))
 
 pub ascending_filter : (p : ℕ → Bool) (xs : List ℕ) → Ascending xs → Ascending (filter p xs)
 ascending_filter p [] a = tt

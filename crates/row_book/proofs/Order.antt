@@ -200,6 +200,11 @@ numbers_parts (suc n) k m i =
       | inr j ↦ let w : (suc k ≤ m) × (m < suc k + n) = numbers_parts n (suc k) m j in (omega arith, omega arith)
     ]
 
+pub numbers_ascending : (n k : ℕ) → Ascending (numbers n k)
+unfolding numbers
+numbers_ascending zero k = tt
+numbers_ascending (suc n) k = ((λ m i. let w : (suc k ≤ m) × (m < suc k + n) = numbers_parts n (suc k) m i in omega arith), numbers_ascending n (suc k))
+
 pub length_numbers : {A : Type 0} (f : ℕ → A) (n k : ℕ) → length (map f (numbers n k)) ≡ n
 unfolding numbers
 length_numbers f zero k = refl

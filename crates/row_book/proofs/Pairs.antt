@@ -12,10 +12,10 @@ use Rattle.row_book.specs.declared.pair.Pair.{Pair}
 use Rattle.row_book.specs.Sets.{In, here, there}
 use Rattle.row_book.specs.Clauses.{Ascending, numbers}
 use Rattle.row_book.specs.Book.{listed_for, are_paired, lists_of_pairs, AreConflicts, PairsFit}
-use Rattle.row_book.specs.Pairs.{NoLater, Rising, AllEmpty, is_last, with_last, Entered, ListsPairs}
-use Rattle.row_book.proofs.Lists.{In_cases, In_none, In_has, has_In, has_not, any_from, any_cases, In_append_cases, In_append_left, In_append_right, ascending_same, ascending_filter, filter_from, filter_cases}
-use Rattle.row_book.proofs.Order.{numbers_from, numbers_parts, length_numbers, at_numbers}
-use Rattle.row_book.proofs.Books.{in_listed, in_place}
+use Rattle.row_book.specs.Pairs.{NoLater, Rising, is_last, with_last, Entered, ListsPairs}
+use Rattle.row_book.proofs.Lists.{In_cases, In_none, In_at, In_has, has_In, has_not, any_from, any_cases, In_append_cases, In_append_left, In_append_right, ascending_same, ascending_filter, filter_from, filter_cases, in_take}
+use Rattle.row_book.proofs.Order.{numbers_from, numbers_parts, numbers_ascending, length_numbers, at_numbers}
+use Rattle.row_book.proofs.Books.{in_listed}
 
 -- the order of pairs
 no_later_from : (x y : Pair) → is_lt (ordering_then (nat_cmp y.low x.low) (nat_cmp y.high x.high)) ≡ false → NoLater x y
@@ -64,16 +64,9 @@ rising_at [] d r i l y j = absurd (omega arith)
 rising_at (x ∷ xs) d r zero l y j = absurd (In_none j)
 rising_at (x ∷ xs) d r (suc i) l y j =
     elim (In_cases j) [
-      | inl e ↦ subst (λ z. NoLater z (get_or xs i d)) (sym e) (r.0 (get_or xs i d) (in_place xs i d (omega arith)))
+      | inl e ↦ subst (λ z. NoLater z (get_or xs i d)) (sym e) (r.0 (get_or xs i d) (In_at xs i d (omega arith)))
       | inr k ↦ rising_at xs d r.1 i (omega arith) y k
     ]
-
-in_take : {A : Type 0} (xs : List A) (i : ℕ) (y : A) → In y (take i xs) → In y xs
-in_take [] zero y j = absurd (In_none j)
-in_take [] (suc i) y j = absurd (In_none j)
-in_take (x ∷ xs) zero y j = absurd (In_none j)
-in_take (x ∷ xs) (suc i) y j =
-    elim (In_cases j) [ inl e ↦ subst (λ z. In y (z ∷ xs)) e here | inr k ↦ there (in_take xs i y k) ]
 
 -- a list that ends in a number
 pub is_last_at : (xs : List ℕ) (k x n : ℕ) → k + 1 ≡ length xs → Some x ≡ slice_get xs k → eqb x n ≡ is_last xs n
@@ -146,7 +139,7 @@ with_ascending xs n a f = pick (is_last xs n) refl
 abbrev IsOf : ℕ → ℕ → Pair → Type 0
 IsOf p q pair = ((pair.low ≡ p) × (pair.high ≡ q)) ⊎ ((pair.low ≡ q) × (pair.high ≡ p))
 
-abbrev is_of : ℕ → ℕ → Pair → Bool
+abbrev pub is_of : ℕ → ℕ → Pair → Bool
 is_of p q pair = (eqb pair.low p && eqb pair.high q) || (eqb pair.low q && eqb pair.high p)
 
 both_from : (a b c d : ℕ) → a ≡ b → c ≡ d → (eqb a b && eqb c d) ≡ true
@@ -173,15 +166,6 @@ paired_cases pairs p q h =
         | inr b ↦ inr (both_parts w.0.low q w.0.high p b)
       ],
     )
-
--- no pairs yet
-pub lists_none : (table : List (List ℕ)) (size : ℕ) → length table ≡ size → AllEmpty table → ListsPairs table size []
-lists_none table size e none = record {
-  count = e;
-  ascending = λ p. subst (λ xs. Ascending xs) (sym (none p)) tt;
-  has_all = λ p q h. absurd (false≢true h);
-  only = λ p q i. absurd (In_none (subst (λ xs. In q xs) (none p) i));
-}
 
 -- one more pair, that no earlier one comes after
 module _ (table new : List (List ℕ)) (size : ℕ) (pairs : List Pair) (pair : Pair)
@@ -273,13 +257,13 @@ pub lists_step : (table new : List (List ℕ)) (size : ℕ) (pairs : List Pair) 
     ListsPairs table size (take i pairs) → Entered table new (get_or pairs i d).low (get_or pairs i d).high → ListsPairs new size (take (i + 1) pairs)
 lists_step table new size pairs i d l up fit lists entered =
     subst (λ ps. ListsPairs new size ps) (sym (take_more pairs i d l))
-    (lists_more table new size (take i pairs) (get_or pairs i d) lists entered (fit.ordered (get_or pairs i d) (in_place pairs i d l))
+    (lists_more table new size (take i pairs) (get_or pairs i d) lists entered (fit.ordered (get_or pairs i d) (In_at pairs i d l))
     (λ x j. fit.ordered x (in_take pairs i x j)) (λ x j. rising_at pairs d up i l x j))
 
 -- pairs in another order
 pub in_permuted : (xs ys : List Pair) → IsPermutation xs ys → (P : Pair → Type 0) → ((x : Pair) → In x xs → P x) → (y : Pair) → In y ys → P y
 in_permuted xs ys same P f y i =
-    let all : All P ys = All-permutation P xs ys same (All-from_get_or P xs no_pair (λ k l. f (get_or xs k no_pair) (in_place xs k no_pair l))) in
+    let all : All P ys = All-permutation P xs ys same (All-from_get_or P xs no_pair (λ k l. f (get_or xs k no_pair) (In_at xs k no_pair l))) in
     at ys y i all
   where
     at : (zs : List Pair) (z : Pair) → In z zs → All P zs → P z
@@ -294,11 +278,6 @@ fit_permuted xs ys size same fit = record {
   ordered = in_permuted xs ys same (λ pair. pair.low < pair.high) fit.ordered;
   below = in_permuted xs ys same (λ pair. pair.high < size) fit.below;
 }
-
-numbers_ascending : (n k : ℕ) → Ascending (numbers n k)
-unfolding numbers
-numbers_ascending zero k = tt
-numbers_ascending (suc n) k = ((λ y i. let w : (suc k ≤ y) × (y < suc k + n) = numbers_parts n (suc k) y i in omega arith), numbers_ascending n (suc k))
 
 -- a table that has the conflicts of the pairs is the table of the pairs
 pub lists_all : (table : List (List ℕ)) (size : ℕ) (xs ys : List Pair) → IsPermutation xs ys → PairsFit xs size → ListsPairs table size ys → table ≡ lists_of_pairs xs size

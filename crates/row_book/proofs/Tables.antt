@@ -2,6 +2,7 @@
 use Rattle.std.proofs.Common.{◌≡◌, ◌≢◌, ℕ, zero, suc, ◌<◌, ◌≤◌, ◌+◌, ◌-◌, Bool, true, false, not, eqb, List, [], ◌∷◌, ◌++◌, ◌⊎◌, inl, inr, refl, sym, ◌∙◌, ap, ap₂, subst, arith, ◌&&◌, ◌||◌, length, take, get_or, map, ne_eqb, eq-eqb, vec_capacity, vec_len}
 use Rattle.std.specs.Global.{Vec}
 use Rattle.std.specs.List.{slice_set}
+use Rattle.std.proofs.Math.Bool.{or-false}
 use Rattle.std.proofs.lemmas.Bool.{cases_eq, or_right, and_from}
 use Rattle.std.proofs.lemmas.List.{map-set, get_or-set_same, get_or-set_other, get_or-map, length-map}
 use Rattle.std.proofs.lemmas.List.Folds.{list_any_more, list_any-append}
@@ -10,8 +11,8 @@ use Rattle.clause_pool.specs.Interned.{Interned, clause_at}
 use Rattle.row_book.specs.Sets.{has, plus, without}
 use Rattle.row_book.specs.Clauses.{Ascending}
 use Rattle.row_book.specs.Uses.{IsListOf, lists_in, list_in, room_in}
-use Rattle.row_book.proofs.Lists.{In_has}
-use Rattle.row_book.proofs.Inserts.{listed_as, In_place}
+use Rattle.row_book.proofs.Lists.{In_at, In_has}
+use Rattle.row_book.proofs.Inserts.{listed_as}
 
 list_set_same : (table : List (Vec ℕ)) (i : ℕ) (v : Vec ℕ) → i < length table → list_in (slice_set table i v) i ≡ v.items
 list_set_same table i v l =
@@ -49,24 +50,15 @@ lists_kept (t ∷ ts) (suc i) v w d l e same = ap (λ xs. t.items ∷ xs) (lists
 has_more : (numbers : List ℕ) (k x n : ℕ) → k < length numbers → x ≡ get_or numbers k x → has (take (k + 1) numbers) n ≡ (has (take k numbers) n || eqb n x)
 has_more numbers k x n l e = list_any_more (λ m. eqb n m) numbers k x l ∙ ap (λ y. has (take k numbers) n || eqb n y) (sym e)
 
-or_false : (b : Bool) → (b || false) ≡ b
-or_false true = refl
-or_false false = refl
-
 has_more_other : (numbers : List ℕ) (k x n : ℕ) → k < length numbers → x ≡ get_or numbers k x → n ≢ x → has (take (k + 1) numbers) n ≡ has (take k numbers) n
-has_more_other numbers k x n l e ne = has_more numbers k x n l e ∙ ap (λ b. has (take k numbers) n || b) (ne_eqb n x ne) ∙ or_false (has (take k numbers) n)
+has_more_other numbers k x n l e ne = has_more numbers k x n l e ∙ ap (λ b. has (take k numbers) n || b) (ne_eqb n x ne) ∙ or-false (has (take k numbers) n)
 
 has_more_same : (numbers : List ℕ) (k x n : ℕ) → k < length numbers → x ≡ get_or numbers k x → n ≡ x → has (take (k + 1) numbers) n ≡ true
 has_more_same numbers k x n l e f = has_more numbers k x n l e ∙ or_right (has (take k numbers) n) (eqb n x) (eq-eqb n x f)
 
 -- each of the numbers is among them
 pub place_within : {A : Type 0} (table : List A) (numbers : List ℕ) (k size : ℕ) → length table ≡ size → k < length numbers → ((n : ℕ) → has numbers n ≡ true → n < size) → get_or numbers k 0 < length table
-place_within table numbers k size e l f = let h : get_or numbers k 0 < size = f (get_or numbers k 0) (In_has (In_place numbers k l)) in omega arith
-
-pub at_place : (numbers : List ℕ) (k : ℕ) → k < length numbers → get_or numbers k 0 ≡ get_or numbers k (get_or numbers k 0)
-at_place [] k l = absurd (omega arith)
-at_place (x ∷ xs) zero l = refl
-at_place (x ∷ xs) (suc k) l = at_place xs k (omega arith)
+place_within table numbers k size e l f = let h : get_or numbers k 0 < size = f (get_or numbers k 0) (In_has (In_at numbers k 0 l)) in omega arith
 
 any_map : {A B : Type 0} (p : B → Bool) (f : A → B) (xs : List A) → list_any p (map f xs) ≡ list_any (λ x. p (f x)) xs
 any_map p f [] = refl

@@ -1,18 +1,18 @@
--- The users of numbers: as members of lists, over a pool that has grown, and after a row has changed.
-use Rattle.std.proofs.Common.{◌≡◌, ℕ, zero, suc, ◌<◌, ◌≤◌, ◌+◌, Bool, true, false, not, eqb, ltb, List, [], ◌∷◌, inl, inr, refl, sym, ◌∙◌, ap, ap₂, subst, arith, ◌&&◌, ◌||◌, length, get_or, map, filter, ne_eqb, eq-eqb, cond, take, drop, ◌++◌, append-nil}
+-- The users of numbers: as members of lists, and after a row has changed.
+use Rattle.std.proofs.Common.{◌≡◌, ℕ, suc, ◌<◌, ◌≤◌, ◌+◌, Bool, true, false, not, eqb, ltb, List, [], ◌∷◌, inl, inr, refl, sym, ◌∙◌, ap, ap₂, subst, arith, ◌&&◌, ◌||◌, length, get_or, map, ne_eqb, eq-eqb, take, drop, ◌++◌, append-nil}
 use Rattle.std.specs.Global.{Vec}
-use Rattle.std.specs.List.{slice_set, list_any}
+use Rattle.std.specs.List.{slice_set}
 use Rattle.std.proofs.lemmas.Bool.{cases_Bool, cases_eq, both_ways, and_parts, and_from, or_left, or_right, ltb-true, ltb-false, lt-ltb, le-ltb}
 use Rattle.std.proofs.lemmas.List.{get_or-set_same, get_or-set_other, length-set, length-map, drop_all, take_all}
 use Rattle.std.proofs.lemmas.Grind.{get_or_default_zero}
-use Rattle.clause_pool.specs.Interned.{Interned, Kept, IsPool, clause_at, ids_at, row_at}
-use Rattle.row_book.specs.Sets.{NumSet, In, here, there, has}
+use Rattle.clause_pool.specs.Interned.{Interned, row_at}
+use Rattle.row_book.specs.Sets.{NumSet, In, has}
 use Rattle.row_book.specs.Clauses.{Ascending, numbers}
 use Rattle.row_book.specs.Book.{RowsFit}
 use Rattle.row_book.specs.Uses.{row_id, row_holds, users_of, uses_of, IsListOf, lists_in, list_in}
-use Rattle.row_book.proofs.Lists.{In_has, has_In, has_not, any_cases, any_from, filter_from, filter_cases, ascending_filter}
-use Rattle.row_book.proofs.Order.{numbers_from, numbers_parts, map_same, at_numbers}
-use Rattle.row_book.proofs.Inserts.{listed_once, listed_as, In_place}
+use Rattle.row_book.proofs.Lists.{In_has, has_In, has_not, any_cases, filter_from, filter_cases, ascending_filter}
+use Rattle.row_book.proofs.Order.{numbers_from, numbers_parts, numbers_ascending, length_numbers, at_numbers}
+use Rattle.row_book.proofs.Inserts.{listed_once, listed_as}
 
 -- members of a list of users
 pub user_within : (pool : Interned) (rows : List ℕ) (n p : ℕ) → In p (users_of pool rows n) → (p < length rows) × (row_holds pool (row_id rows p) n ≡ true)
@@ -30,17 +30,9 @@ held_by pool id n h =
     let w : (c : List ℕ) × In c (row_at pool id) × (has c n ≡ true) = any_cases (λ c. has c n) (row_at pool id) h in
     (w.0, w.1, has_In w.0 n w.2)
 
-pub holds_from : (pool : Interned) (id n : ℕ) (c : List ℕ) → In c (row_at pool id) → In n c → row_holds pool id n ≡ true
-holds_from pool id n c i j = any_from (λ d. has d n) (row_at pool id) c i (In_has j)
-
 -- lists of users ascend
-numbers_ascend : (n k : ℕ) → Ascending (numbers n k)
-unfolding numbers
-numbers_ascend zero k = tt
-numbers_ascend (suc n) k = ((λ m i. let w : (suc k ≤ m) × (m < suc k + n) = numbers_parts n (suc k) m i in omega arith), numbers_ascend n (suc k))
-
 pub users_ascend : (pool : Interned) (rows : List ℕ) (n : ℕ) → Ascending (users_of pool rows n)
-users_ascend pool rows n = ascending_filter (λ q. row_holds pool (row_id rows q) n) (numbers (length rows) 0) (numbers_ascend (length rows) 0)
+users_ascend pool rows n = ascending_filter (λ q. row_holds pool (row_id rows q) n) (numbers (length rows) 0) (numbers_ascending (length rows) 0)
 
 -- the packages below k whose row holds the number
 abbrev pub uses_number : Interned → List ℕ → ℕ → ℕ → NumSet
@@ -79,35 +71,9 @@ is_uses_of table pool rows e f =
     listed_once (uses_number pool rows (length rows) i) (get_or table i []) (users_of pool rows i) (f i u) (users_listed pool rows i) ∙ ap (users_of pool rows) (omega arith))
     ∙ ap (λ size. map (users_of pool rows) (numbers size 0)) e
 
-length_numbered : (f : ℕ → List ℕ) (n k : ℕ) → length (map f (numbers n k)) ≡ n
-unfolding numbers
-length_numbered f zero k = refl
-length_numbered f (suc n) k = ap suc (length_numbered f n (suc k))
-
 pub length_uses : (pool : Interned) (rows : List ℕ) → length (uses_of pool rows) ≡ length rows
 unfolding uses_of
-length_uses pool rows = length_numbered (users_of pool rows) (length rows) 0
-
--- a row stays in a pool that grows, and so do its users
-pub row_kept : (old new : Interned) (id : ℕ) → IsPool old → Kept old new → id < length old.rows → row_at new id ≡ row_at old id
-row_kept old new id p k l =
-    ap (map (clause_at new)) (k.rows id l).1
-    ∙ map_same (clause_at new) (clause_at old) (ids_at old id) (λ c i. (k.clauses c (p.of_pool id l c i)).1)
-
-filter_same : (p q : ℕ → Bool) (xs : List ℕ) → ((x : ℕ) → In x xs → p x ≡ q x) → filter p xs ≡ filter q xs
-filter_same p q [] f = refl
-filter_same p q (x ∷ xs) f = ap₂ (λ b ys. cond b (x ∷ ys) ys) (f x here) (filter_same p q xs (λ y i. f y (there i)))
-
-pub users_kept : (old new : Interned) (rows : List ℕ) → IsPool old → Kept old new → ((id : ℕ) → In id rows → id < length old.rows) → (n : ℕ) → users_of new rows n ≡ users_of old rows n
-users_kept old new rows p k f n =
-    filter_same (λ q. row_holds new (row_id rows q) n) (λ q. row_holds old (row_id rows q) n) (numbers (length rows) 0)
-    (λ q i.
-    let w : (0 ≤ q) × (q < 0 + length rows) = numbers_parts (length rows) 0 q i in
-    ap (list_any (λ c. has c n)) (row_kept old new (row_id rows q) p k (f (row_id rows q) (In_place rows q (omega arith)))))
-
-pub uses_kept : (old new : Interned) (rows : List ℕ) → IsPool old → Kept old new → ((id : ℕ) → In id rows → id < length old.rows) → uses_of new rows ≡ uses_of old rows
-unfolding uses_of
-uses_kept old new rows p k f = map_same (users_of new rows) (users_of old rows) (numbers (length rows) 0) (λ n i. users_kept old new rows p k f n)
+length_uses pool rows = length_numbers (users_of pool rows) (length rows) 0
 
 -- one more package
 below_next : (m k : ℕ) → ltb m (k + 1) ≡ (ltb m k || eqb m k)

@@ -10,7 +10,7 @@ use std::alloc::{AllocError, Global};
 /// A row for each package.
 pub type RowList = Listed<RowId>;
 
-/// For each package, ascending, the packages that conflict with it.
+/// For each package the packages that conflict with it: in a sound book ascending.
 pub type ConflictTable = Listed<NumList>;
 
 /// The packages of a repository, numbered from 0: fewer than 4,294,967,295.
@@ -18,7 +18,7 @@ pub type ConflictTable = Listed<NumList>;
 pub struct Book {
     /// The row of each package, in one pool.
     pub rows: RowList,
-    /// The conflicts of each package.
+    /// The packages that conflict with each package.
     pub conflicts: ConflictTable,
     ghost few: { length rows < 4294967295 },
     ghost paired: { length conflicts ≡ length rows },
@@ -80,7 +80,7 @@ impl Book {
         self.rows.as_slice()[package as usize]
     }
 
-    /// Lends, ascending, the packages that conflict with a package below the size; it takes no memory.
+    /// Lends the packages that conflict with a package below the size, in a sound book ascending; it takes no memory.
     pub fn against(&self, package: u32) -> &[u32]
         requires { «package» < length self.now.rows }
         ensures { result.now ≡ listed_for self.now.conflicts «package» }

@@ -20,6 +20,6 @@ pub use uses::UseTable;
 pub type ClauseList = Listed<NumList>;
 
 #[cfg(test)]
-mod tests;
+mod book_tests;
 #[cfg(test)]
 mod uses_tests;

@@ -44,7 +44,8 @@ impl UseTable {
         Ok(UseTable { users })
     }
 
-    /// Lends, ascending, the packages whose row has a clause that holds the number; it takes no memory.
+    /// Lends the packages that the table has for the number: in a table of rows, ascending, those whose row has a clause
+    /// that holds it; it takes no memory.
     pub fn packages(&self, literal: u32) -> &[u32]
         requires { literal < length self.now }
         ensures { result.now ≡ listed_for self.now literal }

@@ -2,12 +2,12 @@ use Rattle.std.proofs.Common.{◌∙◌, ap, sym}
 use Rattle.std.specs.List.{list_any}
 use Rattle.row_book.specs.Flags.{flag}
 use Rattle.row_book.proofs.Faults.{hits_more, unhit_first}
-use Rattle.row_book.proofs.Books.{in_place}
+use Rattle.row_book.proofs.Lists.{In_at}
 use Rattle.row_book.proofs.health.first_unhit.Goals as goal
 
 pub slice-requires : goal.slice-requires
 slice-requires c =
-    rw c.index-ids-place.is (c.requires _ (in_place c.args.ids.now c.loop-place.place _ c.loop-place-test.true))
+    rw c.index-ids-place.is (c.requires _ (In_at c.args.ids.now c.loop-place.place _ c.loop-place-test.true))
 
 pub returns-then-not-hits_clause : goal.returns-then-not-hits_clause
 returns-then-not-hits_clause c =

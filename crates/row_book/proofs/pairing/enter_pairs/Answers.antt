@@ -1,14 +1,14 @@
 use Rattle.std.proofs.Common.{arith}
-use Rattle.row_book.proofs.Books.{in_place}
+use Rattle.row_book.proofs.Lists.{In_at}
 use Rattle.row_book.proofs.Pairs.{lists_step}
 use Rattle.row_book.proofs.pairing.enter_pairs.Goals as goal
 
 pub enter_pair-requires-clause-ordered : goal.enter_pair-requires-clause-ordered
-enter_pair-requires-clause-ordered c = c.requires.fit.ordered _ (in_place c.args.pairs.now c.loop-pair.pair-index _ (omega arith))
+enter_pair-requires-clause-ordered c = c.requires.fit.ordered _ (In_at c.args.pairs.now c.loop-pair.pair-index _ (omega arith))
 
 pub enter_pair-requires-clause-below : goal.enter_pair-requires-clause-below
 enter_pair-requires-clause-below c =
-    rw c.loop-pair.invariant.count (c.requires.fit.below _ (in_place c.args.pairs.now c.loop-pair.pair-index _ (omega arith)))
+    rw c.loop-pair.invariant.count (c.requires.fit.below _ (In_at c.args.pairs.now c.loop-pair.pair-index _ (omega arith)))
 
 pub loop-pair-preserved : goal.loop-pair-preserved
 loop-pair-preserved c =

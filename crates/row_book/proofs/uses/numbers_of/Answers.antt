@@ -1,9 +1,9 @@
-use Rattle.row_book.proofs.Inserts.{In_at}
+use Rattle.row_book.proofs.Lists.{item_in}
 use Rattle.row_book.proofs.Tables.{holds_more}
 use Rattle.row_book.proofs.uses.numbers_of.Goals as goal
 
 pub slice-requires : goal.slice-requires
-slice-requires c = c.row-clause-items.ensures.of_pool c.clause-item.result (In_at c.row-clause-items.result.now c.loop-clause.clause-index c.clause-item.result c.loop-clause-test.true c.clause-item.is)
+slice-requires c = c.row-clause-items.ensures.of_pool c.clause-item.result (item_in c.row-clause-items.result.now c.loop-clause.clause-index c.clause-item.result c.loop-clause-test.true c.clause-item.is)
 
 pub loop-clause-preserved : goal.loop-clause-preserved
 loop-clause-preserved c = λ n.

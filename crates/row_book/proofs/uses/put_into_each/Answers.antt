@@ -1,7 +1,7 @@
 use Rattle.std.proofs.Common.{◌<◌, get_or, length, refl}
-use Rattle.row_book.proofs.Inserts.{In_place}
-use Rattle.row_book.proofs.Lists.{In_has}
-use Rattle.row_book.proofs.Tables.{place_within, at_place, put_more}
+use Rattle.std.proofs.lemmas.List.{get_or_default}
+use Rattle.row_book.proofs.Lists.{In_at, In_has}
+use Rattle.row_book.proofs.Tables.{place_within, put_more}
 use Rattle.row_book.proofs.uses.put_into_each.Goals as goal
 
 pub bounds-table-number : goal.bounds-table-number
@@ -12,5 +12,5 @@ loop-number-preserved c =
     let k = c.loop-number.number-index in
     let x = get_or c.args.numbers.now k 0 in
     let u : x < length c.loop-number.table = place_within c.loop-number.table c.args.numbers.now c.loop-number.number-index (length c.args.table.now) c.loop-number.auto.table c.loop-number-test.true c.requires.within in
-    put_more c.args.table.now c.loop-number.table c.args.numbers.now k x c.args.package (get_or c.loop-number.table x c.index-table-number.result) c.put.new.list c.index-table-number.result c.loop-number-test.true (at_place c.args.numbers.now k c.loop-number-test.true) u refl
-    (c.requires.room x (In_has (In_place c.args.numbers.now k c.loop-number-test.true))) c.put.ensures c.loop-number.invariant
+    put_more c.args.table.now c.loop-number.table c.args.numbers.now k x c.args.package (get_or c.loop-number.table x c.index-table-number.result) c.put.new.list c.index-table-number.result c.loop-number-test.true (get_or_default c.args.numbers.now k 0 x c.loop-number-test.true) u refl
+    (c.requires.room x (In_has (In_at c.args.numbers.now k 0 c.loop-number-test.true))) c.put.ensures c.loop-number.invariant

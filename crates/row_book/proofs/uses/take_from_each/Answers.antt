@@ -1,6 +1,7 @@
 use Rattle.std.proofs.Common.{◌≡◌, ◌<◌, get_or, length, refl, false, sym, ◌∙◌}
+use Rattle.std.proofs.lemmas.List.{get_or_default}
 use Rattle.row_book.specs.Sets.{has}
-use Rattle.row_book.proofs.Tables.{place_within, at_place, take_more_out}
+use Rattle.row_book.proofs.Tables.{place_within, take_more_out}
 use Rattle.row_book.proofs.uses.take_from_each.Goals as goal
 
 pub bounds-table-number : goal.bounds-table-number
@@ -12,5 +13,5 @@ loop-number-preserved c =
     let x = get_or c.args.numbers.now k 0 in
     let u : x < length c.loop-number.table = place_within c.loop-number.table c.args.numbers.now c.loop-number.number-index (length c.args.table.now) c.loop-number.auto.table c.loop-number-test.true c.requires.within in
     let r : has c.args.kept.now x ≡ false = sym c.holds.ensures ∙ c.if-holds.false in
-    take_more_out c.args.table.now c.loop-number.table c.args.numbers.now c.args.kept.now k x c.args.package (get_or c.loop-number.table x c.index-table-number.result) c.take_out.new.list c.index-table-number.result c.loop-number-test.true (at_place c.args.numbers.now k c.loop-number-test.true) u refl
+    take_more_out c.args.table.now c.loop-number.table c.args.numbers.now c.args.kept.now k x c.args.package (get_or c.loop-number.table x c.index-table-number.result) c.take_out.new.list c.index-table-number.result c.loop-number-test.true (get_or_default c.args.numbers.now k 0 x c.loop-number-test.true) u refl
     r c.take_out.ensures c.loop-number.invariant

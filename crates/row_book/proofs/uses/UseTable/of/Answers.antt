@@ -2,17 +2,17 @@ use Rattle.std.proofs.Common.{◌≡◌, ◌<◌, ◌+◌, ◌++◌, ◌∙◌, 
 use Rattle.std.proofs.lemmas.List.{length-map}
 use Rattle.row_book.specs.Sets.{In, has}
 use Rattle.row_book.specs.Uses.{IsListOf, list_in, lists_in}
-use Rattle.row_book.proofs.Inserts.{In_at}
+use Rattle.row_book.proofs.Lists.{item_in}
 use Rattle.row_book.proofs.Users.{held_within, is_uses_of, lent_whole, row_added, uses_number}
 use Rattle.row_book.proofs.uses.UseTable.of.Goals as goal
 
 pub numbers_of-requires : goal.numbers_of-requires
-numbers_of-requires c = c.requires.fit.of_pool c.index-rows-package.result (In_at c.args.rows.now c.loop-package.package c.index-rows-package.result c.loop-package-test.true c.index-rows-package.is)
+numbers_of-requires c = c.requires.fit.of_pool c.index-rows-package.result (item_in c.args.rows.now c.loop-package.package c.index-rows-package.result c.loop-package-test.true c.index-rows-package.is)
 
 pub add_to_each-requires : goal.add_to_each-requires
 add_to_each-requires c = λ n h.
     let row = c.index-rows-package.result in
-    let i : In row c.args.rows.now = In_at c.args.rows.now c.loop-package.package row c.loop-package-test.true c.index-rows-package.is in
+    let i : In row c.args.rows.now = item_in c.args.rows.now c.loop-package.package row c.loop-package-test.true c.index-rows-package.is in
     subst (λ size. n < size) (sym (ap length c.as_mut_slice.ensures.value ∙ c.loop-package.invariant.size))
     (held_within c.args.pool.now c.args.rows.now row n c.requires.fit i (sym (c.in_ok-numbers.ensures n) ∙ ap (λ xs. has xs n) (sym c.as_slice.ensures.value) ∙ h))
 

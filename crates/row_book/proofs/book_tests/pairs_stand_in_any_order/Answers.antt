@@ -1,6 +1,6 @@
 use Rattle.std.proofs.Common.{lit<}
 use Rattle.row_book.proofs.Pairs.{fit_none, fit_more}
-use Rattle.row_book.proofs.tests.pairs_stand_in_any_order.Goals as goal
+use Rattle.row_book.proofs.book_tests.pairs_stand_in_any_order.Goals as goal
 
 pub small_book-requires : goal.small_book-requires
 small_book-requires g c =

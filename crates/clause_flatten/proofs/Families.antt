@@ -16,14 +16,12 @@ use Rattle.clause_pool.specs.Interned.{Interned, clause_at, clauses_at, ids_at, 
 use Rattle.clause_pool.proofs.Lists.{In_at}
 use Rattle.row_book.specs.Sets.{In, here, there}
 use Rattle.row_book.specs.Clauses.{Ascending, Inside, apart_from, is_inside, minimal_of}
-use Rattle.row_book.proofs.Lists.{In_append_cases, In_append_left, In_append_right, In_cases, In_map, In_none, any_from, any_cases, filter_cases, filter_from}
+use Rattle.row_book.proofs.Lists.{In_append_cases, In_append_left, In_append_right, In_cases, In_map, In_none, any_from, any_cases, filter_cases, filter_from, filter_same, item_in}
 use Rattle.row_book.proofs.Clauses.{apart_in, inside_at, inside_from, minimal_of_from, minimal_of_parts}
-use Rattle.clause_flatten.specs.Families.{HoldsOneOf, IncludesOneOf, InternedSoFar, Useful, has_shorter}
+use Rattle.clause_flatten.specs.Inclusion.{has_shorter}
+use Rattle.clause_flatten.specs.Families.{HoldsOneOf, IncludesOneOf, InternedSoFar, Useful}
 
 -- Steps of loops over lists.
-
-pub item_in : {A : Type 0} (xs : List A) (i : ℕ) (x : A) → i < length xs → x ≡ get_or xs i x → In x xs
-item_in xs i x l e = subst (λ z. In z xs) (sym e) (In_at xs i x l)
 
 pub item_zero : (xs : List ℕ) (i x : ℕ) → i < length xs → x ≡ get_or xs i x → get_or xs i 0 ≡ x
 item_zero [] i x l e = absurd (omega arith)
@@ -165,13 +163,6 @@ singles_more spent pool row i id clause literal old new l e f g ne before is n j
     ]
 
 module _ (pool : Interned) (user : ℕ) (Needless : List ℕ → Type 0) where
-  pub useful_none : (ids : List ℕ) → ids ≡ [] → Useful pool user Needless ids []
-  useful_none ids e = record {
-    part = λ id j. absurd (In_none j);
-    apart = λ id j. absurd (In_none j);
-    rest = λ id j. absurd (In_none (subst (λ z. In id z) e j));
-  }
-
   next_of : (ids : List ℕ) (i id k : ℕ) → i < length ids → id ≡ get_or ids i id → In k (take (i + 1) ids) → In k (take i ids) ⊎ (k ≡ id)
   next_of ids i id k l e j =
       elim (In_append_cases (take i ids) (id ∷ []) k (subst (λ z. In k z) (take_more ids i id l ∙ ap (λ z. take i ids ++ z ∷ []) (sym e)) j)) [
@@ -302,10 +293,6 @@ module _ (family : List (List ℕ)) (up : (c : List ℕ) → In c family → Asc
   pub lowest_minimal : filter (λ clause. not (has_shorter family clause)) family ≡ minimal_of family
   unfolding lowest
   lowest_minimal = filter_same (λ clause. not (has_shorter family clause)) lowest family lowest_is
-    where
-      filter_same : (p q : List ℕ → Bool) (xs : List (List ℕ)) → ((x : List ℕ) → In x xs → p x ≡ q x) → filter p xs ≡ filter q xs
-      filter_same p q [] f = refl
-      filter_same p q (x ∷ xs) f = ap₂ (λ b ys. cond b (x ∷ ys) ys) (f x here) (filter_same p q xs (λ y i. f y (there i)))
 
 pub interned_more : (start old new : Interned) (family : List (List ℕ)) (i : ℕ) (clause : List ℕ) (ids more : List ℕ) (id : ℕ) → At family i clause → has_shorter family clause ≡ false →
     InternedSoFar start old family (take i family) ids → Kept old new → IsIdOf new.clauses clause id → more ≡ ids ++ id ∷ [] → InternedSoFar start new family (take (i + 1) family) more

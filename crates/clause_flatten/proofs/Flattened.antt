@@ -1,5 +1,6 @@
 -- The run of flattening over rows in a pool: where it stands when so many packages are gone.
 use Rattle.std.proofs.Common.{◌≡◌, ℕ, zero, suc, ◌<◌, ◌≤◌, ◌+◌, ◌-◌, Bool, true, false, not, ◌&&◌, ◌||◌, eqb, ltb, List, [], ◌∷◌, ◌++◌, length, inl, inr, refl, sym, ◌∙◌, ap, ap₂, subst, arith, map, take, Option, Some, None, ne_eqb, zero-le}
+use Rattle.std.specs.Cmp.{both_ways as bool_same}
 use Rattle.std.specs.List.{find}
 use Rattle.std.specs.Option.{option_map}
 use Rattle.std.proofs.lemmas.Bool.{both_ways, cases_eq, cases_lt, and_left, and_parts, and_from, or_left, or_cases, not_from_true, true_from_ne_false, false_from_ne_true, ltb-true, lt-ltb, le-ltb, not-true, not_from_false}
@@ -282,10 +283,6 @@ on_limit P Q f (Limit gone «package» count) h = f (record { gone = gone; «pac
 on_limit P Q f Memory h = tt
 
 -- the packages without conflicts, up to one of them
-bool_same : (a b : Bool) → (a ≡ true → b ≡ true) → (b ≡ true → a ≡ true) → a ≡ b
-bool_same true b f g = sym (f refl)
-bool_same false b f g = sym (false_from_ne_true b (λ h. both_ways false refl (g h)))
-
 pub waiting_none : (w : Waiting) (conflicts : List (List ℕ)) (count : ℕ → ℕ) → Filed w (λ q. false) count → Filed w (λ q. ltb q 0 && is_free conflicts q) count
 waiting_none w conflicts count f = filed_as w (λ q. false) (λ q. ltb q 0 && is_free conflicts q) count count f (λ q. sym (and_left (ltb q 0) (is_free conflicts q) (le-ltb q 0 (omega arith)))) (λ q h. refl)
 

@@ -16,7 +16,6 @@ pub mod Families
 pub mod Rewritten
 pub mod Replacing
 pub mod Midway
-pub mod Small
 pub mod Turns
 pub mod Tidied
 pub mod Runs

@@ -8,10 +8,11 @@ use Rattle.row_book.specs.Sets.{In, here}
 use Rattle.row_book.specs.Clauses.{Ascending, ordered}
 use Rattle.row_book.specs.Book.{RowsFit, RowsTidy}
 use Rattle.row_book.specs.Uses.{row_id, users_of, uses_of}
-use Rattle.row_book.proofs.Lists.{In_append_cases, In_append_left, In_append_right, In_cases, In_none, decided_in}
+use Rattle.row_book.proofs.Books.{row_kept}
+use Rattle.row_book.proofs.Lists.{In_append_cases, In_append_left, In_append_right, In_cases, In_none, decided_in, in_take}
 use Rattle.clause_flatten.specs.Substitution.{eliminated, substituted, table_row}
 use Rattle.clause_flatten.proofs.Families.{kept_trans}
-use Rattle.clause_flatten.proofs.Replacing.{id_in, in_take, not_before, not_user, other_eliminated, own_eliminated, own_user, row_kept, table_same, tidy_untouched, user_in, users_up}
+use Rattle.clause_flatten.proofs.Replacing.{id_in, not_before, not_user, other_eliminated, own_eliminated, own_user, table_same, tidy_untouched, user_in, users_up}
 
 pub record Midway (start : Interned) (first : List ℕ) (q : ℕ) (pool : Interned) (rows : List ℕ) (uses : List (List ℕ)) (done : List ℕ) : Type 0 where
   pub size : length rows ≡ length first
@@ -21,20 +22,6 @@ pub record Midway (start : Interned) (first : List ℕ) (q : ℕ) (pool : Intern
   pub table : uses ≡ uses_of pool rows
   pub changed : (p : ℕ) → In p done → row_at pool (row_id rows p) ≡ ordered (substituted p q (row_at start (row_id first p)) (row_at start (row_id first q)))
   pub same : (p : ℕ) → (In p done → ⊥) → row_id rows p ≡ row_id first p
-
-pub kept_self : (pool : Interned) → Kept pool pool
-kept_self pool = record { clauses = λ id l. (l, refl); rows = λ id l. (l, refl) }
-
-pub midway_start : (start : Interned) (first : List ℕ) (q : ℕ) (uses : List (List ℕ)) → RowsFit start first → RowsTidy start first → uses ≡ uses_of start first → Midway start first q start first uses []
-midway_start start first q uses fit tidy table = record {
-  size = refl;
-  kept = kept_self start;
-  fit = fit;
-  tidy = tidy;
-  table = table;
-  changed = λ p i. absurd (In_none i);
-  same = λ p f. refl;
-}
 
 -- what the replacing of one row keeps, whether it is refused or not
 pub record Around (pool : Interned) (rows : List ℕ) (user : ℕ) (next : Interned) (after : List ℕ) (uses : List (List ℕ)) : Type 0 where

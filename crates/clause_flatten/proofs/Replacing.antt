@@ -1,32 +1,25 @@
 -- Rows of a pool of which one after another is replaced, and what a package's elimination comes to.
-use Rattle.std.proofs.Common.{◌≡◌, ◌≢◌, ℕ, zero, suc, ◌<◌, ◌≤◌, ◌+◌, Bool, true, eqb, cond, List, [], ◌∷◌, length, get_or, take, map, filter, slice_set, ◌⊎◌, inl, inr, refl, sym, ◌∙◌, ap, ap₂, subst, arith, eq-eqb, ne_eqb}
+use Rattle.std.proofs.Common.{◌≡◌, ◌≢◌, ℕ, zero, suc, ◌<◌, ◌≤◌, ◌+◌, true, eqb, cond, List, [], ◌∷◌, length, get_or, take, map, slice_set, ◌⊎◌, inl, inr, refl, sym, ◌∙◌, ap, ap₂, subst, arith, eq-eqb, ne_eqb}
 use Rattle.std.specs.List.{list_any}
 use Rattle.std.proofs.lemmas.Bool.{cases_eq, cond-true, cond-false}
 use Rattle.std.proofs.lemmas.List.{get_or-set_same, get_or-set_other, get_or-map, length-set, length-map}
-use Rattle.clause_pool.specs.Interned.{Interned, IsPool, Kept, clause_at, clauses_at, ids_at, row_at}
+use Rattle.clause_pool.specs.Interned.{Interned, IsPool, Kept, clause_at, ids_at, row_at}
 use Rattle.clause_pool.proofs.Lists.{In_at}
 use Rattle.row_book.specs.Sets.{In, here, there, has}
 use Rattle.row_book.specs.Clauses.{Ascending, InOrder, Inside, apart_from, numbers, ordered}
 use Rattle.row_book.specs.Book.{RowsFit, RowsTidy, listed_for}
 use Rattle.row_book.specs.Uses.{row_holds, row_id, users_of, uses_of}
-use Rattle.row_book.proofs.Lists.{In_cases, In_has, In_map_cases, In_none, any_cases, any_from, ascending_filter, ascending_same, filter_cases, filter_from, has_In}
+use Rattle.row_book.proofs.Lists.{In_cases, In_has, In_map_cases, In_none, any_cases, any_from, ascending_filter, ascending_same, filter_cases, filter_from, has_In, filter_same}
+use Rattle.row_book.proofs.Books.{row_kept}
 use Rattle.row_book.proofs.Clauses.{apart_cases, apart_in, minimal_of_from, minimal_of_parts}
 use Rattle.row_book.proofs.Order.{at_numbers, length_numbers, map_same, numbers_from, numbers_parts, order_same, ordered_has, ordered_order, ordered_parts}
 use Rattle.clause_flatten.specs.Substitution.{dropped, eliminated, replaced, substituted, table_row}
-use Rattle.clause_flatten.proofs.Families.{kept_same}
 use Rattle.clause_flatten.proofs.Unions.{Comes, dropped_parts, joined_ascending, joined_cases, replaced_cases, replaced_kept}
 
 -- Rows in a pool that grows.
 
-pub row_kept : (old new : Interned) → IsPool old → Kept old new → (id : ℕ) → id < length old.rows → row_at new id ≡ row_at old id
-row_kept old new is k id l = ap (clauses_at new) (k.rows id l).1 ∙ kept_same old new k (ids_at old id) (is.of_pool id l)
-
 pub id_in : (rows : List ℕ) (p : ℕ) → p < length rows → In (row_id rows p) rows
 id_in rows p l = In_at rows p 0 l
-
-filter_same : (p q : ℕ → Bool) (xs : List ℕ) → ((x : ℕ) → In x xs → p x ≡ q x) → filter p xs ≡ filter q xs
-filter_same p q [] f = refl
-filter_same p q (x ∷ xs) f = ap₂ (λ b ys. cond b (x ∷ ys) ys) (f x here) (filter_same p q xs (λ y i. f y (there i)))
 
 module _ (old new : Interned) (rows : List ℕ) (is : IsPool old) (k : Kept old new) (fit : RowsFit old rows) where
   pub at_same : (p : ℕ) → p < length rows → row_at new (row_id rows p) ≡ row_at old (row_id rows p)
@@ -196,12 +189,6 @@ not_before (x ∷ xs) (suc i) a l j =
       | inl e ↦ let k : i < length xs = omega arith in let m : x < get_or xs i 0 = a.0 (get_or xs i 0) (In_at xs i 0 k) in absurd (omega arith)
       | inr k ↦ not_before xs i a.1 (omega arith) k
     ]
-
-pub in_take : {A : Type 0} (xs : List A) (i : ℕ) (x : A) → In x (take i xs) → In x xs
-in_take [] zero x j = j
-in_take [] (suc i) x j = j
-in_take (y ∷ ys) zero x j = absurd (In_none j)
-in_take (y ∷ ys) (suc i) x j = elim (In_cases j) [ inl e ↦ subst (λ z. In x (z ∷ ys)) e here | inr k ↦ there (in_take ys i x k) ]
 
 -- The table of rows once a package is taken out.
 

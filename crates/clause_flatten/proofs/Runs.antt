@@ -10,10 +10,9 @@ use Rattle.row_book.specs.Clauses.{Ascending, InOrder, Inside, apart_from, numbe
 use Rattle.row_book.specs.Uses.{row_holds, row_id, users_of, uses_of}
 use Rattle.row_book.specs.Book.{RowsFit, RowsTidy, listed_for}
 use Rattle.row_book.specs.Flattening.{passed_by}
-use Rattle.row_book.proofs.Books.{in_place}
-use Rattle.row_book.proofs.Lists.{In_cases, In_has, In_none, any_none, ascending_filter, filter_cases, filter_from, find_not, find_none, has_not}
+use Rattle.row_book.proofs.Lists.{In_cases, In_has, In_none, any_none, ascending_filter, filter_cases, filter_from, find_not, find_none, has_not, In_at}
 use Rattle.row_book.proofs.Clauses.{apart_cases, apart_in, minimal_of_from, minimal_of_parts}
-use Rattle.row_book.proofs.Order.{at_numbers, length_numbers, numbers_from, numbers_parts, order_same, ordered_has, ordered_order, ordered_parts}
+use Rattle.row_book.proofs.Order.{at_numbers, length_numbers, numbers_from, numbers_parts, order_same, ordered_has, ordered_order, ordered_parts, numbers_ascending}
 use Rattle.clause_flatten.specs.Substitution.{eliminated, length_in, replaced, substituted, table_row}
 use Rattle.clause_flatten.specs.TakingOut.{counted_anew, is_over}
 use Rattle.clause_flatten.specs.Waiting.{Filed, recounted}
@@ -52,11 +51,6 @@ eliminated_count q t = length_numbers (λ p. cond (eqb p q) (table_row t q) (ord
 pub users_are : (pool : Interned) (rows : List ℕ) (q : ℕ) → q < length rows → listed_for (uses_of pool rows) q ≡ users_of pool rows q
 unfolding uses_of
 users_are pool rows q l = at_numbers (users_of pool rows) [] (length rows) 0 q l ∙ ap (users_of pool rows) (omega arith)
-
-numbers_ascending : (n k : ℕ) → Ascending (numbers n k)
-unfolding numbers
-numbers_ascending zero k = tt
-numbers_ascending (suc n) k = ((λ y i. let w : (suc k ≤ y) × (y < suc k + n) = numbers_parts n (suc k) y i in omega arith), numbers_ascending n (suc k))
 
 module _ (pool : Interned) (rows : List ℕ) (q : ℕ) (l : q < length rows) (users : List ℕ) (e : users ≡ listed_for (uses_of pool rows) q) where
   same : users ≡ users_of pool rows q
@@ -97,7 +91,7 @@ module _ (pool : Interned) (rows : List ℕ) (q : ℕ) (l : q < length rows) (us
             ∙ cond-false (eqb p q) (table_row t q) (ordered (substituted p q (table_row t p) (table_row t q))) (ne_eqb p q ne)
             ∙ ap (λ xs. ordered (substituted p q xs (table_row t q))) at
             ∙ untouched p q (row_at pool (row_id rows p)) (table_row t q)
-            (is.in_order (row_id rows p) (fit.of_pool (row_id rows p) (in_place rows p 0 m)))
+            (is.in_order (row_id rows p) (fit.of_pool (row_id rows p) (In_at rows p 0 m)))
             (not_named p m f) (tidy.apart p m) (tidy.minimal p m)
             ∙ sym at
       ]
@@ -196,7 +190,7 @@ before_place [] i y a l j = absurd (omega arith)
 before_place (x ∷ xs) zero y a l j = absurd (In_none j)
 before_place (x ∷ xs) (suc i) y a l j =
     elim (In_cases j) [
-      | inl e ↦ let u : x < get_or xs i 0 = a.0 (get_or xs i 0) (in_place xs i 0 (omega arith)) in omega (arith, e)
+      | inl e ↦ let u : x < get_or xs i 0 = a.0 (get_or xs i 0) (In_at xs i 0 (omega arith)) in omega (arith, e)
       | inr k ↦ before_place xs i y a.1 (omega arith) k
     ]
 
@@ -242,6 +236,3 @@ file_more old new may count t users counts i user was a l e c w d f =
         cond b (length_in t user) (cond (has (take i users) q) (length_in t q) (count q)) ≡ cond (cond b true (has (take i users) q)) (length_in t q) (count q)
     pick q true u = ap (length_in t) (sym (eqb-true q user u))
     pick q false u = refl
-
-pub file_none : (w : Waiting) (may : ℕ → Bool) (count : ℕ → ℕ) (t : List (List (List ℕ))) (users : List ℕ) → Filed w may count → Filed w may (counted_anew count t (take 0 users))
-file_none w may count t users d = filed_as w may may count (counted_anew count t (take 0 users)) d (λ q. refl) (λ q h. refl)

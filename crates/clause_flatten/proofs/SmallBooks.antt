@@ -1,5 +1,5 @@
 -- Books that are written out.
-use Rattle.std.proofs.Common.{◌≡◌, ℕ, ◌<◌, true, ◌&&◌, ltb, List, [], ◌∷◌, length, inl, inr, sym, subst, map}
+use Rattle.std.proofs.Common.{◌≡◌, ℕ, ◌<◌, true, ◌&&◌, ltb, List, [], ◌∷◌, length, inl, inr, refl, sym, ◌∙◌, ap₂, subst, map}
 use Rattle.std.specs.List.{list_all}
 use Rattle.std.proofs.lemmas.Bool.{and_parts, ltb-true}
 use Rattle.clause_pool.specs.Lists.{Before, In, InOrder}
@@ -31,13 +31,38 @@ two_in_order pool a b low high e f l = (
 pub rows_stay : (old new : Interned) → IsPool old → Kept old new → RowsStay old new
 rows_stay old new is kept = record { within = λ id l. (kept.rows id l).0; same = λ id l. row_kept old new is kept id l }
 
--- rows of these clauses, whose numbers are below the number of rows
-pub fit_from : (pool : Interned) (rows : List ℕ) (t : List (List (List ℕ))) → map (row_at pool) rows ≡ t → EachIs (λ id. id < length pool.rows) rows →
+-- the id is of a row with these clauses
+abbrev pub RowIs : Interned → ℕ → List (List ℕ) → Type 0
+RowIs pool id cs = (id < length pool.rows) × (row_at pool id ≡ cs)
+
+pub row_stays : (old new : Interned) (id : ℕ) (cs : List (List ℕ)) → RowsStay old new → RowIs old id cs → RowIs new id cs
+row_stays old new id cs s r = (s.within id r.0, s.same id r.0 ∙ r.1)
+
+-- and each of the ids of one with those of its place
+abbrev pub RowsAre : Interned → List ℕ → List (List (List ℕ)) → Type 0
+RowsAre pool [] [] = Unit {0}
+RowsAre pool [] (cs ∷ t) = ⊥
+RowsAre pool (id ∷ ids) [] = ⊥
+RowsAre pool (id ∷ ids) (cs ∷ t) = RowIs pool id cs × RowsAre pool ids t
+
+rows_table : (pool : Interned) (rows : List ℕ) (t : List (List (List ℕ))) → RowsAre pool rows t → map (row_at pool) rows ≡ t
+rows_table pool [] [] h = refl
+rows_table pool [] (cs ∷ t) h = absurd h
+rows_table pool (id ∷ ids) [] h = absurd h
+rows_table pool (id ∷ ids) (cs ∷ t) h = ap₂ (λ x xs. x ∷ xs) h.0.1 (rows_table pool ids t h.1)
+
+rows_within : (pool : Interned) (rows : List ℕ) (t : List (List (List ℕ))) → RowsAre pool rows t → EachIs (λ id. id < length pool.rows) rows
+rows_within pool [] t h = tt
+rows_within pool (id ∷ ids) [] h = absurd h
+rows_within pool (id ∷ ids) (cs ∷ t) h = (h.0.0, rows_within pool ids t h.1)
+
+-- rows of clauses whose numbers are below the number of rows
+pub fit_from : (pool : Interned) (rows : List ℕ) (t : List (List (List ℕ))) → RowsAre pool rows t →
     list_all (λ cs. list_all (λ c. list_all (λ n. ltb n (length rows)) c) cs) t ≡ true → RowsFit pool rows
-fit_from pool rows t e within h = record {
-  of_pool = each_at (λ id. id < length pool.rows) rows within;
+fit_from pool rows t are h = record {
+  of_pool = each_at (λ id. id < length pool.rows) rows (rows_within pool rows t are);
   numbers = λ id i c j n k.
-      let one : In (row_at pool id) t = subst (λ z. In (row_at pool id) z) e (In_map (row_at pool) rows id i) in
+      let one : In (row_at pool id) t = subst (λ z. In (row_at pool id) z) (rows_table pool rows t are) (In_map (row_at pool) rows id i) in
       ltb-true n (length rows)
       (all_at (λ n. ltb n (length rows)) c
       (all_at (λ c. list_all (λ n. ltb n (length rows)) c) (row_at pool id)

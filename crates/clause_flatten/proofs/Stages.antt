@@ -2,7 +2,7 @@
 use Rattle.std.proofs.Common.{◌≡◌, ℕ, zero, suc, ◌<◌, ◌≤◌, ◌+◌, ◌-◌, Bool, true, false, not, ◌&&◌, ◌||◌, eqb, ltb, cond, List, [], ◌∷◌, length, ◌⊎◌, inl, inr, refl, sym, ◌∙◌, ap, ap₂, subst, arith, filter, Option, Some, None, zero-le}
 use Rattle.std.specs.List.{find}
 use Rattle.std.specs.Option.{option_map}
-use Rattle.std.proofs.lemmas.Bool.{both_ways, and_left, and_parts, and_from, not_from_false, false_from_ne_true, true_from_ne_false, ltb-true}
+use Rattle.std.proofs.lemmas.Bool.{both_ways, and_left, and_parts, and_from, not_from_false, false_from_ne_true, true_from_ne_false, lt-ltb, ltb-true}
 use Rattle.row_book.specs.Sets.{In, NumSet, here, there, without}
 use Rattle.row_book.specs.Repository.{Repository, clauses_of}
 use Rattle.row_book.specs.Clauses.{apart_from, minimal_of, numbers, ordered}
@@ -11,7 +11,7 @@ use Rattle.row_book.specs.Sound.{OfPackages, SoundClauses}
 use Rattle.row_book.specs.Flattening.{all_packages, core_of, first_some, flat, has_conflict, left_after, less_one, may_go, next_gone, packages, Passed, passed_at, passed_by, passes, row_length, rows_over, sooner, is_soonest}
 use Rattle.clause_flatten.specs.Substitution.{choice_in, first_table, length_in, passes_by_stages, stage_after, stage_less}
 use Rattle.clause_flatten.specs.FlatLaws.{CoreIsReached, CoreIsTheConflicted, FlatByStages, PassesByStages, StagesRun}
-use Rattle.row_book.proofs.Sets.{without_parts}
+use Rattle.row_book.proofs.Sets.{without_from, without_parts}
 use Rattle.row_book.proofs.Lists.{In_cases, In_none, all_same, filter_cases, filter_from, find_same}
 use Rattle.row_book.proofs.Order.{map_same, numbers_from, numbers_parts, ordered_order}
 use Rattle.clause_flatten.proofs.Kept.{first_rows_lem}
@@ -174,9 +174,9 @@ empty_has_none : {A : Type 0} (xs : List A) (x : A) → length xs ≤ 0 → In x
 empty_has_none [] x l i = In_none i
 empty_has_none (y ∷ ys) x l i = absurd (omega arith)
 
-pub core_is_the_conflicted_lem : CoreIsTheConflicted
+core_has_conflicts : (R : Repository) (q : ℕ) → core_of R q ≡ true → has_conflict R q ≡ true
 unfolding choices
-core_is_the_conflicted_lem R q c = true_from_ne_false (has_conflict R q) (λ f.
+core_has_conflicts R q c = true_from_ne_false (has_conflict R q) (λ f.
     let i : In q (choices R (core_of R)) =
     filter_from (may_go R (core_of R)) (packages R) q
     (numbers_from (length R.clauses) 0 q zero-le (let s : q < length R.clauses = left_bound R (length R.clauses) q c in omega arith))
@@ -185,3 +185,20 @@ core_is_the_conflicted_lem R q c = true_from_ne_false (has_conflict R q) (λ f.
       | inl l ↦ empty_has_none (choices R (core_of R)) q l i
       | inr e ↦ none_left R (core_of R) e q i
     ])
+
+conflicted_stays : (R : Repository) (V : NumSet) (q : ℕ) → has_conflict R q ≡ true → V q ≡ true → (o : Option ℕ) → next_gone R V ≡ o → less_one V o q ≡ true
+conflicted_stays R V q h v None e = v
+conflicted_stays R V q h v (Some r) e =
+    let w : (V r ≡ true) × (has_conflict R r ≡ false) = next_gone_is R V r e in
+    without_from V r q v (λ s. both_ways (has_conflict R r) w.1 (subst (λ z. has_conflict R z ≡ true) s h))
+
+conflicted_left : (R : Repository) (q : ℕ) → q < length R.clauses → has_conflict R q ≡ true → (i : ℕ) → left_after R i q ≡ true
+unfolding left_after
+conflicted_left R q l h zero = lt-ltb q (length R.clauses) l
+conflicted_left R q l h (suc i) = conflicted_stays R (left_after R i) q h (conflicted_left R q l h i) (next_gone R (left_after R i)) refl
+
+pub core_is_the_conflicted_lem : CoreIsTheConflicted
+core_is_the_conflicted_lem R q = (
+  (λ c. (left_bound R (length R.clauses) q c, core_has_conflicts R q c)),
+  (λ h. conflicted_left R q h.0 h.1 (length R.clauses)),
+)

@@ -5,29 +5,20 @@ use Rattle.std.specs.Result.{IfOk}
 use Rattle.std.proofs.lemmas.Bool.{both_ways, cases_lt, and_parts, and_from, or_from, not_from_false, not-true, false_from_ne_true, ltb-true, lt-ltb}
 use Rattle.std.proofs.lemmas.List as lists
 use Rattle.clause_pool.specs.Interned.{Interned, IsIdOf, IsPool, Kept, clause_at, clauses_at, ids_at, row_at}
+use Rattle.clause_pool.proofs.Lists.{In_place}
 use Rattle.row_book.specs.Sets.{In, has, here, there}
 use Rattle.row_book.specs.Clauses.{Ascending, InOrder, Inside, apart_from, is_inside, minimal_of, numbers}
 use Rattle.row_book.specs.Uses.{row_id}
 use Rattle.row_book.specs.Book.{RowsFit, RowsTidy}
-use Rattle.row_book.proofs.Books.{in_place, row_ascending}
-use Rattle.row_book.proofs.Lists.{In_append_cases, In_cases, In_has, In_map, In_none, any_cases, any_from, ascending_same, filter_cases, filter_from, has_not}
+use Rattle.row_book.proofs.Books.{row_ascending}
+use Rattle.row_book.proofs.Lists.{In_append_cases, In_cases, In_has, In_map, In_none, any_cases, any_from, ascending_same, filter_cases, filter_from, has_not, In_at}
 use Rattle.row_book.proofs.Clauses.{apart_cases, apart_in, inside_at, inside_from, minimal_of_from, minimal_of_parts}
 use Rattle.row_book.proofs.Order.{at_numbers, length_numbers, map_same, numbers_parts, order_filter, order_same, ordered_has, ordered_order, ordered_parts}
 use Rattle.clause_flatten.specs.Substitution.{table_row}
-use Rattle.clause_flatten.specs.TidyRows.{RowsStay, is_strictly_inside, stays, tidied, tidied_table}
+use Rattle.clause_flatten.specs.Inclusion.{is_strictly_inside}
+use Rattle.clause_flatten.specs.TidyRows.{RowsStay, stays, tidied, tidied_table}
 
 -- elements by their places
-pub read_in : (xs : List ℕ) (i x : ℕ) → i < length xs → x ≡ get_or xs i x → In x xs
-read_in xs i x l e = subst (λ z. In z xs) (sym e) (in_place xs i x l)
-
-pub place_of : (xs : List ℕ) (x : ℕ) → In x xs → (i : ℕ) × (i < length xs) × (get_or xs i 0 ≡ x)
-place_of [] x j = absurd (In_none j)
-place_of (y ∷ ys) x j =
-    elim (In_cases j) [
-      | inl e ↦ (0, omega arith, sym e)
-      | inr k ↦ let w : (i : ℕ) × (i < length ys) × (get_or ys i 0 ≡ x) = place_of ys x k in (suc w.0, omega (arith, w.1), w.2)
-    ]
-
 pub same_read : (xs : List ℕ) (i d e : ℕ) → i < length xs → get_or xs i d ≡ get_or xs i e
 same_read [] i d e l = absurd (omega arith)
 same_read (x ∷ xs) zero d e l = refl
@@ -229,10 +220,10 @@ module _ (start now : Interned) (rows made : List ℕ) (t : TidiedTo start now r
   tidied_fit fit = record {
     of_pool = t.within;
     numbers = λ id i c j n m.
-        let w : (p : ℕ) × (p < length made) × (row_id made p ≡ id) = place_of made id i in
+        let w : (p : ℕ) × (p < length made) × (row_id made p ≡ id) = In_place made id 0 i in
         let l : w.0 < length rows = omega (arith, w.1, tidied_count) in
         let k : In c (tidied w.0 (row_at start (row_id rows w.0))) = subst (λ cs. In c cs) (ap (row_at now) (sym w.2) ∙ tidied_at w.0 l) j in
-        let b : n < length rows = fit.numbers (row_id rows w.0) (in_place rows w.0 0 l) c (tidied_parts w.0 (row_at start (row_id rows w.0)) c k).0 n m in
+        let b : n < length rows = fit.numbers (row_id rows w.0) (In_at rows w.0 0 l) c (tidied_parts w.0 (row_at start (row_id rows w.0)) c k).0 n m in
         omega (arith, tidied_count);
   }
 
@@ -243,6 +234,6 @@ module _ (start now : Interned) (rows made : List ℕ) (t : TidiedTo start now r
         (tidied_parts p (row_at start (row_id rows p)) c (subst (λ cs. In c cs) (tidied_at p m) i)).1 j;
     minimal = λ p l c d i j f.
         let m : p < length rows = omega (arith, tidied_count) in
-        tidied_minimal p (row_at start (row_id rows p)) (row_ascending start is (row_id rows p) (fit.of_pool (row_id rows p) (in_place rows p 0 m))) c d
+        tidied_minimal p (row_at start (row_id rows p)) (row_ascending start is (row_id rows p) (fit.of_pool (row_id rows p) (In_at rows p 0 m))) c d
         (subst (λ cs. In c cs) (tidied_at p m) i) (subst (λ cs. In d cs) (tidied_at p m) j) f;
   }

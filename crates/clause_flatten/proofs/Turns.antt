@@ -5,7 +5,7 @@ use Rattle.std.specs.declared.cmp.Ordering.TheVariants.{Less, Equal, Greater}
 use Rattle.std.specs.BTreeMap.{is_at}
 use Rattle.std.specs.Cmp.{tied_then, unsigned_tied}
 use Rattle.std.specs.List.{list_any}
-use Rattle.std.proofs.lemmas.Bool.{both_ways, cases_Bool, cases_order, cases_lt, cases_eq, and_parts, and_from, cond-true, cond-false, le-ltb, false≢true, false_from_ne_true}
+use Rattle.std.proofs.lemmas.Bool.{both_ways, cases_Bool, cases_order, cases_lt, cases_eq, and_parts, and_from, cond-true, cond-false, le-ltb, false_from_ne_true}
 use Rattle.row_book.specs.Sets.{NumSet, plus, without}
 use Rattle.row_book.proofs.Sets.{plus_cases, plus_new, plus_old, without_from, without_parts}
 use Rattle.clause_flatten.specs.Waiting.{turn_cmp, is_filed, Filed, IsFirst, recounted}
@@ -52,15 +52,6 @@ not_after m p n q h =
           let after : is_gt (turn_cmp (m, p) (n, q)) ≡ true = ap (λ a. is_gt (ordering_then a (nat_cmp p q))) (greater m n l) in
           absurd (both_ways (is_gt (turn_cmp (m, p) (n, q))) h after)
     ]
-
-pub filed_none : (w : Waiting) (count : ℕ → ℕ) → ((n q : ℕ) → is_filed w n q ≡ false) → Filed w (λ q. false) count
-filed_none w count f = record {
-  only = λ n q h. absurd (both_ways (is_filed w n q) (f n q) h);
-  each = λ q h. absurd (false≢true h);
-}
-
-pub none_waits : (w : Waiting) (may : NumSet) (count : ℕ → ℕ) → ((n q : ℕ) → is_filed w n q ≡ false) → Filed w may count → (q : ℕ) → may q ≡ false
-none_waits w may count f d q = false_from_ne_true (may q) (λ h. both_ways (is_filed w (count q) q) (f (count q) q) (d.each q h))
 
 -- a set of turns with one more
 pub filed_more : (v w : Waiting) (may : NumSet) (count : ℕ → ℕ) (p m : ℕ) →

@@ -1,9 +1,10 @@
 -- Families of clauses that are built before they are put into the pool.
-use Rattle.std.specs.Prelude.{◌≡◌, ℕ, Bool, not, ◌&&◌, ltb, cond, List, [], length, map, ◌⊎◌}
-use Rattle.std.specs.List.{filter, flat_map, list_any}
+use Rattle.std.specs.Prelude.{◌≡◌, ℕ, not, cond, List, [], map, ◌⊎◌}
+use Rattle.std.specs.List.{filter, flat_map}
 use Rattle.clause_pool.specs.Interned.{Interned, clause_at, clauses_at, Kept, OfPool}
 use Rattle.row_book.specs.Sets.{In, has}
-use Rattle.row_book.specs.Clauses.{Inside, is_inside}
+use Rattle.row_book.specs.Clauses.{Inside}
+use Rattle.clause_flatten.specs.Inclusion.{has_shorter}
 use Rattle.clause_flatten.specs.Substitution.{dropped, joined}
 
 -- the clause holds one of the numbers
@@ -33,11 +34,7 @@ pub record SameClauses (old new : List (List ℕ)) : Type 0 where
   pub there : (c : List ℕ) → In c old → In c new
   pub back : (c : List ℕ) → In c new → In c old
 
--- a shorter clause of the family is inside the clause
-abbrev pub has_shorter : List (List ℕ) → List ℕ → Bool
-has_shorter family clause = list_any (λ other. ltb (length other) (length clause) && is_inside other clause) family
-
--- the clauses without such a one are in the pool, which keeps what it held
+-- the clauses that have no shorter one of the family within them are in the pool, which keeps what it held
 pub record InternedSoFar (start pool : Interned) (family done : List (List ℕ)) (ids : List ℕ) : Type 0 where
   pub made : clauses_at pool ids ≡ filter (λ clause. not (has_shorter family clause)) done
   pub of_pool : OfPool pool ids

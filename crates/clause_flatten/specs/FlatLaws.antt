@@ -38,9 +38,10 @@ NextIsLeast = (R : Repository) (V : NumSet) → OfPackages R V → TakesTheLeast
 abbrev pub FlatKeeps : Type 0
 FlatKeeps = (R : Repository) → BetweenPackages R → (S : NumSet) → (Coinst R S ↔ Coinst (flat R) S)
 
--- each package of the core has a conflict
+-- the core has the packages with a conflict, and no others
 abbrev pub CoreIsTheConflicted : Type 0
-CoreIsTheConflicted = (R : Repository) (q : ℕ) → core_of R q ≡ true → has_conflict R q ≡ true
+CoreIsTheConflicted = (R : Repository) (q : ℕ) →
+    (core_of R q ≡ true) ↔ ((q < length R.clauses) × (has_conflict R q ≡ true))
 
 -- the core is reached where no package is taken out any more
 abbrev pub CoreIsReached : Type 0

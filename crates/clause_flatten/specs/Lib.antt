@@ -5,6 +5,7 @@ pub use Rattle.row_book.specs.Support
 pub use Rattle.row_book.specs.Sound
 pub use Rattle.row_book.specs.Flattening
 pub mod Substitution
+pub mod Inclusion
 pub mod Families
 pub mod Laws
 pub mod FlatLaws

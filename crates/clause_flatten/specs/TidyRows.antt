@@ -1,9 +1,9 @@
 -- Rows before any package is taken out: of the clauses of a package those that do not hold it, and of these the minimal ones.
-use Rattle.std.specs.Prelude.{◌≡◌, ℕ, ◌<◌, Bool, not, ◌&&◌, ltb, List, length, map}
-use Rattle.std.specs.List.{list_any}
+use Rattle.std.specs.Prelude.{◌≡◌, ℕ, ◌<◌, Bool, not, ◌&&◌, List, length, map}
 use Rattle.clause_pool.specs.Interned.{Interned, row_at}
 use Rattle.row_book.specs.Sets.{has}
-use Rattle.row_book.specs.Clauses.{apart_from, is_inside, minimal_of, numbers, ordered}
+use Rattle.row_book.specs.Clauses.{apart_from, minimal_of, numbers, ordered}
+use Rattle.clause_flatten.specs.Inclusion.{has_shorter}
 use Rattle.clause_flatten.specs.Substitution.{table_row}
 
 -- the first row of a package from its clauses
@@ -14,13 +14,9 @@ tidied p cs = ordered (minimal_of (apart_from p cs))
 unfoldable pub tidied_table : List (List (List ℕ)) → List (List (List ℕ))
 tidied_table t = map (λ p. tidied p (table_row t p)) (numbers (length t) 0)
 
--- whether the first clause is within the second, and shorter
-abbrev pub is_strictly_inside : List ℕ → List ℕ → Bool
-is_strictly_inside S T = ltb (length S) (length T) && is_inside S T
-
--- whether a clause of p stays: it does not hold p, and none of the others is strictly within it
+-- whether a clause of p stays: it does not hold p, and no shorter one is within it
 abbrev pub stays : ℕ → List (List ℕ) → List ℕ → Bool
-stays p cs T = not (has T p) && not (list_any (λ S. is_strictly_inside S T) cs)
+stays p cs T = not (has T p) && not (has_shorter cs T)
 
 -- each row of the old pool has the same clauses in the new one
 pub record RowsStay (old new : Interned) : Type 0 where

@@ -13,7 +13,7 @@ pub fn next_is_least()
     ensures { NextIsLeast }
 {}
 
-/// Each package of the core has a conflict.
+/// The core has the packages with a conflict, and no others.
 pub fn core_is_the_conflicted()
     ensures { CoreIsTheConflicted }
 {}

@@ -2,7 +2,7 @@
 ghost use Rattle.std.specs.Prelude.{◌≡◌};
 ghost use Rattle.clause_flatten.specs.declared.error.FlatError.TheVariants.{Memory};
 
-use std::alloc::{AllocError, AllocFailed};
+use std::alloc::AllocError;
 use thiserror::Error;
 
 /// Why a book was not flattened.
@@ -27,14 +27,6 @@ impl From<AllocError> for FlatError {
     ghost from_gives = { λ _ e. e ≡ Memory };
 
     fn from(_e: AllocError) -> FlatError {
-        FlatError::Memory
-    }
-}
-
-impl<T: Drop> From<AllocFailed<T>> for FlatError {
-    ghost from_gives = { λ _ e. e ≡ Memory };
-
-    fn from(_e: AllocFailed<T>) -> FlatError {
         FlatError::Memory
     }
 }

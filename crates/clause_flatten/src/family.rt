@@ -3,10 +3,12 @@ ghost use Rattle.std.specs.Prelude.{◌≡◌, ℕ, ◌<◌, ◌++◌, ◌∷◌
 ghost use Rattle.std.specs.Bool.{OnTrue};
 ghost use Rattle.clause_pool.specs.Interned.{clauses_at, row_at, Kept, OfPool};
 ghost use Rattle.row_book.specs.Sets.{In};
-ghost use Rattle.row_book.specs.Clauses.{apart_from, is_inside, minimal_of, Ascending, InOrder};
-ghost use Rattle.clause_flatten.specs.Families.{all_unions, has_shorter, unions_of, HoldsOneOf, IncludesOneOf, SameClauses, Useful};
+ghost use Rattle.row_book.specs.Clauses.{apart_from, minimal_of, Ascending, InOrder};
+ghost use Rattle.clause_flatten.specs.Inclusion.{has_shorter};
+ghost use Rattle.clause_flatten.specs.Families.{all_unions, unions_of, HoldsOneOf, IncludesOneOf, SameClauses, Useful};
 
-use crate::scratch::{Clause, contains};
+use crate::inclusion::{contains, is_strictly_inside};
+use crate::scratch::Clause;
 use clause_pool::{ClauseId, Pool, RowId};
 use std::alloc::{AllocError, Global};
 
@@ -237,13 +239,7 @@ fn minimal_ids(
 fn has_shorter(family: &[Clause], clause: &[u32]) -> bool
     ensures { result ≡ has_shorter family.now clause.now }
 {
-    family.iter().any(|other| other.as_slice().len() < clause.len()
-        && is_within(other.as_slice(), clause))
-}
-
-/// Whether each literal of the first clause is in the second.
-fn is_within(inner: &[u32], outer: &[u32]) -> bool
-    ensures { result ≡ is_inside inner.now outer.now }
-{
-    inner.iter().all(|literal| contains(outer, *literal))
+    family
+        .iter()
+        .any(|other| is_strictly_inside(other.as_slice(), clause))
 }

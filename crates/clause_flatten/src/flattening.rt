@@ -12,7 +12,7 @@ ghost use Rattle.clause_flatten.specs.TidyRows.{tidied_table};
 ghost use Rattle.clause_flatten.specs.Waiting.{Filed};
 
 use crate::error::FlatError;
-use crate::taking_out::{clauses_in, least_over, take_out};
+use crate::taking_out::{Elimination, clauses_in, least_over, take_out};
 use crate::tidy_rows::tidy_rows;
 use crate::waiting::Waiting;
 use clause_pool::{Pool, RowId};
@@ -72,7 +72,12 @@ fn take_all_out(
         let Some(next) = waiting.take_first() else {
             return Ok(());
         };
-        take_out(alloc, pool, rows, uses, &mut waiting, next, gone + 1, limit)?;
+        let step = Elimination {
+            package: next,
+            gone: gone + 1,
+            limit,
+        };
+        take_out(alloc, pool, rows, uses, &mut waiting, step)?;
     }
     Ok(())
 }

@@ -7,6 +7,7 @@ mod elimination;
 pub mod error;
 mod family;
 mod flattening;
+mod inclusion;
 mod rewriting;
 mod scratch;
 mod substitution;
@@ -27,7 +28,5 @@ pub use support::{
     row_is_one, row_tells, substitutes, support_grows, union_merges, untouched_stays,
 };
 
-#[cfg(test)]
-mod book_tests;
 #[cfg(test)]
 mod tests;

@@ -6,7 +6,7 @@ ghost use Rattle.row_book.specs.Clauses.{apart_from, ordered, Inside};
 ghost use Rattle.clause_flatten.specs.Substitution.{substituted};
 
 use crate::family::{candidates, intern_minimal, useful_of};
-use crate::scratch::contains;
+use crate::inclusion::contains;
 use clause_pool::{ClauseId, Pool, RowId};
 use std::alloc::{AllocError, Global};
 

@@ -4,7 +4,6 @@ ghost use Rattle.std.specs.Cmp.Lexicographic.{pointwise, slice_cmp, slice_partia
 ghost use Rattle.std.specs.Cmp.{partial_equiv_from_equiv};
 ghost use Rattle.std.specs.Ordering.{nat_cmp};
 ghost use Rattle.std.specs.Prelude.{nat_eq, Some, refl};
-ghost use Rattle.row_book.specs.Sets.{has};
 ghost use Rattle.row_book.specs.Clauses.{Ascending};
 ghost use Rattle.clause_flatten.specs.Substitution.{dropped, joined};
 
@@ -118,11 +117,4 @@ fn together_without(
         }
     }
     Ok(literals)
-}
-
-/// Whether the clause holds the number.
-pub(crate) fn contains(clause: &[u32], number: u32) -> bool
-    ensures { result ≡ has clause.now number }
-{
-    clause.iter().any(|literal| number == *literal)
 }

@@ -105,45 +105,53 @@ fn file_users(
     Ok(())
 }
 
+/// The elimination of one package.
+#[derive(Clone, Copy)]
+pub(crate) struct Elimination {
+    /// The package that is taken out.
+    pub(crate) package: u32,
+    /// How many packages are gone with this one.
+    pub(crate) gone: u32,
+    /// How many clauses a row may have.
+    pub(crate) limit: u32,
+}
+
 /// Takes a package that waits no longer out of the rows, tests the rows of its users against the limit, and files those
-/// that wait again. With this package `gone` are gone.
-#[allow(clippy::too_many_arguments)]
+/// that wait again.
 pub(crate) fn take_out(
     alloc: Global,
     pool: &mut Pool,
     rows: &mut [RowId],
     uses: &mut UseTable,
     waiting: &mut Waiting,
-    package: u32,
-    gone: u32,
-    limit: u32,
+    step: Elimination,
 ) -> Result<(), FlatError>
     requires few { length rows.old < 4294967295 }
     requires fit { RowsFit pool.old rows.old }
     requires tidy { RowsTidy pool.old rows.old }
     requires table { uses.old ≡ uses_of pool.old rows.old }
-    requires there { «package» < length rows.old }
-    requires within { (p : ℕ) → p < length rows.old → length_in (map (row_at pool.old) rows.old) p ≤ limit }
-    ensures rows { OnOk result (map (row_at pool.new) rows.new ≡ eliminated «package» (map (row_at pool.old) rows.old)) }
+    requires there { step.«package» < length rows.old }
+    requires within { (p : ℕ) → p < length rows.old → length_in (map (row_at pool.old) rows.old) p ≤ step.limit }
+    ensures rows { OnOk result (map (row_at pool.new) rows.new ≡ eliminated step.«package» (map (row_at pool.old) rows.old)) }
     ensures fit { RowsFit pool.new rows.new }
     ensures tidy { RowsTidy pool.new rows.new }
     ensures table { uses.new ≡ uses_of pool.new rows.new }
     ensures kept { Kept pool.old pool.new }
     ensures within { OnOk result ((p : ℕ) → p < length rows.old →
-        length_in (eliminated «package» (map (row_at pool.old) rows.old)) p ≤ limit) }
+        length_in (eliminated step.«package» (map (row_at pool.old) rows.old)) p ≤ step.limit) }
     ensures passed { IfErr result (OnLimit (λ passed.
-        passed_by (length_in (eliminated «package» (map (row_at pool.old) rows.old))) (numbers (length rows.old) 0) limit gone ≡ Some passed)) }
+        passed_by (length_in (eliminated step.«package» (map (row_at pool.old) rows.old))) (numbers (length rows.old) 0) step.limit step.gone ≡ Some passed)) }
     ensures filed { OnOk result ((may : ℕ → Bool) → Filed waiting.old may (length_in (map (row_at pool.old) rows.old)) →
-        Filed waiting.new may (length_in (eliminated «package» (map (row_at pool.old) rows.old)))) }
+        Filed waiting.new may (length_in (eliminated step.«package» (map (row_at pool.old) rows.old)))) }
 {
     // What holds of every pool is told by this call alone.
     pool.clause_count();
-    let users = Vec::from_slice(alloc, uses.packages(package))?;
+    let users = Vec::from_slice(alloc, uses.packages(step.package))?;
     let counts = counts_of(alloc, pool, rows, users.as_slice())?;
-    eliminate(alloc, pool, rows, uses, package)?;
-    if let Some(over) = first_over(pool, rows, users.as_slice(), limit) {
+    eliminate(alloc, pool, rows, uses, step.package)?;
+    if let Some(over) = first_over(pool, rows, users.as_slice(), step.limit) {
         return Err(FlatError::Limit {
-            gone,
+            gone: step.gone,
             package: over,
             count: clauses_in(pool, rows, over),
         });

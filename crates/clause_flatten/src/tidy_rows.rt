@@ -1,38 +1,19 @@
 //! The rows before any package is taken out.
 ghost use Rattle.std.specs.Prelude.{◌≡◌, ◌<◌, IfOk, length, map};
-ghost use Rattle.std.specs.List.{filter, list_any};
+ghost use Rattle.std.specs.List.{filter};
 ghost use Rattle.clause_pool.specs.Interned.{clause_at, clauses_at, row_at, Kept, OfPool};
-ghost use Rattle.row_book.specs.Sets.{has};
-ghost use Rattle.row_book.specs.Clauses.{is_inside};
 ghost use Rattle.row_book.specs.Book.{RowsFit, RowsTidy};
-ghost use Rattle.clause_flatten.specs.TidyRows.{is_strictly_inside, stays, tidied, tidied_table, RowsStay};
+ghost use Rattle.clause_flatten.specs.Inclusion.{has_shorter};
+ghost use Rattle.clause_flatten.specs.TidyRows.{stays, tidied, tidied_table, RowsStay};
 
+use crate::inclusion::{contains, is_strictly_inside};
 use clause_pool::{ClauseId, Pool, RowId};
 use std::alloc::{AllocError, Global};
-
-fn has(clause: &[u32], number: u32) -> bool
-    ensures { result ≡ has clause.now number }
-{
-    clause.iter().any(|other| number == *other)
-}
-
-fn is_inside(small: &[u32], large: &[u32]) -> bool
-    ensures { result ≡ is_inside small.now large.now }
-{
-    small.iter().all(|number| has(large, *number))
-}
-
-/// Only where the first is the shorter one are the numbers looked at.
-fn is_strictly_inside(small: &[u32], large: &[u32]) -> bool
-    ensures { result ≡ is_strictly_inside small.now large.now }
-{
-    small.len() < large.len() && is_inside(small, large)
-}
 
 /// Whether a clause of the row is strictly within the clause.
 fn has_smaller(pool: &Pool, row: &[ClauseId], clause: &[u32]) -> bool
     requires { OfPool pool.now row.now }
-    ensures { result ≡ list_any (λ other. is_strictly_inside other clause.now) (clauses_at pool.now row.now) }
+    ensures { result ≡ has_shorter (clauses_at pool.now row.now) clause.now }
 {
     for other in row {
         if is_strictly_inside(pool.slice(*other), clause) {
@@ -47,7 +28,7 @@ fn stays(pool: &Pool, package: u32, row: &[ClauseId], clause: &[u32]) -> bool
     requires { OfPool pool.now row.now }
     ensures { result ≡ stays «package» (clauses_at pool.now row.now) clause.now }
 {
-    !has(clause, package) && !has_smaller(pool, row, clause)
+    !contains(clause, package) && !has_smaller(pool, row, clause)
 }
 
 /// The clauses that stay.

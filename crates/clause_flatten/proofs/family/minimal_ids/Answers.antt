@@ -2,8 +2,10 @@ use Rattle.std.proofs.Common.{ap, sym, ◌∙◌, subst, refl, not, filter, take
 use Rattle.std.proofs.lemmas.List.{take_all}
 use Rattle.row_book.specs.Clauses.{Ascending}
 use Rattle.clause_pool.specs.Interned.{IsIdOf}
-use Rattle.clause_flatten.specs.Families.{InternedSoFar, has_shorter}
-use Rattle.clause_flatten.proofs.Families.{At, at_item, interned_less, interned_more, item_in, kept_trans, lowest_minimal}
+use Rattle.row_book.proofs.Lists.{item_in}
+use Rattle.clause_flatten.specs.Inclusion.{has_shorter}
+use Rattle.clause_flatten.specs.Families.{InternedSoFar}
+use Rattle.clause_flatten.proofs.Families.{At, at_item, interned_less, interned_more, kept_trans, lowest_minimal}
 use Rattle.clause_flatten.proofs.family.minimal_ids.Goals as goal
 use Rattle.clause_flatten.proofs.family.minimal_ids.Goals.{then-not-has_shorter+in_ok-id+in_ok-push, else-not-has_shorter}
 

@@ -2,7 +2,8 @@ use Rattle.std.proofs.Common.{◌≡◌, ℕ, ◌<◌, List, length, ap, sym, �
 use Rattle.clause_pool.specs.Interned.{row_at}
 use Rattle.row_book.specs.Sets.{In}
 use Rattle.row_book.specs.Uses.{row_id}
-use Rattle.clause_flatten.proofs.Families.{item_in, item_zero}
+use Rattle.row_book.proofs.Lists.{item_in}
+use Rattle.clause_flatten.proofs.Families.{item_zero}
 use Rattle.clause_flatten.proofs.Replacing.{at_same, fit_kept, fit_set, id_other, new_apart, new_numbers, new_thin, pool_up, tidy_kept, tidy_set, uses_kept, uses_length}
 use Rattle.clause_flatten.proofs.substitution.replace_row.Goals as goal
 

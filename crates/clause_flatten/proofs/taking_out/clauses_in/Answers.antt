@@ -1,8 +1,8 @@
 use Rattle.std.proofs.Common.{arith}
-use Rattle.clause_flatten.proofs.Tidied.{read_in}
+use Rattle.row_book.proofs.Lists.{item_in}
 use Rattle.clause_flatten.proofs.taking_out.clauses_in.Goals as goal
 
 pub row-requires : goal.row-requires
 row-requires c =
     c.requires.fit.of_pool c.index-rows-package.result
-    (read_in c.args.rows.now c.args.«package» c.index-rows-package.result (omega (arith, c.requires.there)) c.index-rows-package.is)
+    (item_in c.args.rows.now c.args.«package» c.index-rows-package.result (omega (arith, c.requires.there)) c.index-rows-package.is)

@@ -1,13 +1,13 @@
 use Rattle.std.proofs.Common.{ℕ, arith, get_or, map, subst}
 use Rattle.clause_pool.specs.Interned.{row_at}
-use Rattle.row_book.proofs.Books.{in_place}
+use Rattle.row_book.proofs.Lists.{In_at}
 use Rattle.clause_flatten.specs.Waiting.{Filed, recounted}
 use Rattle.clause_flatten.proofs.Tidied.{same_read}
 use Rattle.clause_flatten.proofs.Runs.{file_more}
 use Rattle.clause_flatten.proofs.taking_out.file_users.Goals as goal
 
 pub clauses_in-count-requires-clause-there : goal.clauses_in-count-requires-clause-there
-clauses_in-count-requires-clause-there c = c.requires.users _ (in_place c.args.users.now c.loop-place.place 0 (omega arith))
+clauses_in-count-requires-clause-there c = c.requires.users _ (In_at c.args.users.now c.loop-place.place 0 (omega arith))
 
 pub loop-place-preserved : goal.loop-place-preserved
 loop-place-preserved c may count d e =

@@ -1,13 +1,13 @@
 use Rattle.std.proofs.Common.{sym, ◌∙◌, arith, get_or, map}
 use Rattle.clause_pool.specs.Interned.{row_at}
-use Rattle.row_book.proofs.Books.{in_place}
+use Rattle.row_book.proofs.Lists.{In_at}
 use Rattle.clause_flatten.specs.TakingOut.{is_over}
 use Rattle.clause_flatten.proofs.Tidied.{same_read}
 use Rattle.clause_flatten.proofs.Runs.{find_at, find_nowhere}
 use Rattle.clause_flatten.proofs.taking_out.first_over.Goals as goal
 
 pub is_over-requires-clause-there : goal.is_over-requires-clause-there
-is_over-requires-clause-there c = c.requires.packages _ (in_place c.args.packages.now c.loop-package.package-index 0 (omega arith))
+is_over-requires-clause-there c = c.requires.packages _ (In_at c.args.packages.now c.loop-package.package-index 0 (omega arith))
 
 pub returns-then-is_over : goal.returns-then-is_over
 returns-then-is_over c =

@@ -1,31 +1,20 @@
-use Rattle.std.proofs.Common.{◌<◌, ◌∙◌, [], ◌∷◌, ap, ap₂, length}
-use Rattle.row_book.specs.Clauses.{minimal_of}
-use Rattle.clause_flatten.proofs.Small.{Sound, chain_sound, pair_up}
+use Rattle.std.proofs.Common.{◌∷◌, [], refl}
+use Rattle.clause_flatten.proofs.SmallBooks.{RowIs, fit_from, pairs_from, row_stays}
 use Rattle.clause_flatten.proofs.tests.chain.Goals as goal
 
-pub returns-clause-fit : goal.returns-clause-fit
-returns-clause-fit c =
-    let s : Sound c.add_row-3.new.pool (c.in_ok-user.user ∷ c.in_ok-spent.spent ∷ c.in_ok-empty.empty ∷ c.in_ok-empty.empty ∷ c.in_ok-empty.empty ∷ []) =
-    chain_sound c.add_row-3.new.pool c.in_ok-user.user c.in_ok-spent.spent c.in_ok-empty.empty
-    (c.add_row-3.ensures.stay c.in_ok-user.user (c.add_row-2.ensures.kept.rows c.in_ok-user.user c.in_ok-user.ensures.of_pool).0
-    ∙ c.add_row-2.ensures.stay c.in_ok-user.user c.in_ok-user.ensures.of_pool ∙ c.in_ok-user.ensures.row ∙ ap (λ z. minimal_of (z ∷ [])) c.in_ok-copy.ensures)
-    (c.add_row-3.ensures.stay c.in_ok-spent.spent c.in_ok-spent.ensures.of_pool ∙ c.in_ok-spent.ensures.row ∙ ap₂ (λ y z. minimal_of (y ∷ z ∷ [])) c.in_ok-copy-2.ensures c.in_ok-copy-3.ensures)
-    c.in_ok-empty.ensures.row
-    (c.add_row-3.ensures.kept.rows c.in_ok-user.user (c.add_row-2.ensures.kept.rows c.in_ok-user.user c.in_ok-user.ensures.of_pool).0).0
-    (c.add_row-3.ensures.kept.rows c.in_ok-spent.spent c.in_ok-spent.ensures.of_pool).0 c.in_ok-empty.ensures.of_pool in
-    s.fit
+pub build-requires-clause-fit : goal.build-requires-clause-fit
+build-requires-clause-fit c =
+    let user : RowIs c.no_clauses.new.pool c.in_ok-user.user ((1 ∷ []) ∷ []) =
+    row_stays c.two_clauses.new.pool c.no_clauses.new.pool c.in_ok-user.user ((1 ∷ []) ∷ []) c.in_ok-none.ensures.stay
+    (row_stays c.one_clause.new.pool c.two_clauses.new.pool c.in_ok-user.user ((1 ∷ []) ∷ []) c.in_ok-used.ensures.stay (c.in_ok-user.ensures.within, c.in_ok-user.ensures.row)) in
+    let used : RowIs c.no_clauses.new.pool c.in_ok-used.used ((2 ∷ []) ∷ (3 ∷ 4 ∷ []) ∷ []) =
+    row_stays c.two_clauses.new.pool c.no_clauses.new.pool c.in_ok-used.used ((2 ∷ []) ∷ (3 ∷ 4 ∷ []) ∷ []) c.in_ok-none.ensures.stay (c.in_ok-used.ensures.within, c.in_ok-used.ensures.row) in
+    let none : RowIs c.no_clauses.new.pool c.in_ok-none.none [] = (c.in_ok-none.ensures.within, c.in_ok-none.ensures.row) in
+    fit_from c.no_clauses.new.pool
+    (c.in_ok-user.user ∷ c.in_ok-used.used ∷ c.in_ok-none.none ∷ c.in_ok-none.none ∷ c.in_ok-none.none ∷ c.in_ok-none.none ∷ c.in_ok-none.none ∷ [])
+    (((1 ∷ []) ∷ []) ∷ ((2 ∷ []) ∷ (3 ∷ 4 ∷ []) ∷ []) ∷ [] ∷ [] ∷ [] ∷ [] ∷ [] ∷ [])
+    (user, (used, (none, (none, (none, (none, (none, tt))))))) refl
 
-pub returns-clause-tidy : goal.returns-clause-tidy
-returns-clause-tidy c =
-    let s : Sound c.add_row-3.new.pool (c.in_ok-user.user ∷ c.in_ok-spent.spent ∷ c.in_ok-empty.empty ∷ c.in_ok-empty.empty ∷ c.in_ok-empty.empty ∷ []) =
-    chain_sound c.add_row-3.new.pool c.in_ok-user.user c.in_ok-spent.spent c.in_ok-empty.empty
-    (c.add_row-3.ensures.stay c.in_ok-user.user (c.add_row-2.ensures.kept.rows c.in_ok-user.user c.in_ok-user.ensures.of_pool).0
-    ∙ c.add_row-2.ensures.stay c.in_ok-user.user c.in_ok-user.ensures.of_pool ∙ c.in_ok-user.ensures.row ∙ ap (λ z. minimal_of (z ∷ [])) c.in_ok-copy.ensures)
-    (c.add_row-3.ensures.stay c.in_ok-spent.spent c.in_ok-spent.ensures.of_pool ∙ c.in_ok-spent.ensures.row ∙ ap₂ (λ y z. minimal_of (y ∷ z ∷ [])) c.in_ok-copy-2.ensures c.in_ok-copy-3.ensures)
-    c.in_ok-empty.ensures.row
-    (c.add_row-3.ensures.kept.rows c.in_ok-user.user (c.add_row-2.ensures.kept.rows c.in_ok-user.user c.in_ok-user.ensures.of_pool).0).0
-    (c.add_row-3.ensures.kept.rows c.in_ok-spent.spent c.in_ok-spent.ensures.of_pool).0 c.in_ok-empty.ensures.of_pool in
-    s.tidy
-
-pub add_row-requires-2-clause-ascending : goal.add_row-requires-2-clause-ascending
-add_row-requires-2-clause-ascending c = pair_up c.in_ok-copy-2.field-0 c.in_ok-copy-3.field-0 c.in_ok-copy-2.ensures c.in_ok-copy-3.ensures
+pub build-requires-clause-pairs : goal.build-requires-clause-pairs
+build-requires-clause-pairs c =
+    pairs_from (record { low = 2; high = 5 } ∷ record { low = 3; high = 5 } ∷ record { low = 4; high = 6 } ∷ []) 7 refl

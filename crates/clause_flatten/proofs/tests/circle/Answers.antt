@@ -1,28 +1,14 @@
-use Rattle.std.proofs.Common.{◌<◌, ◌∙◌, [], ◌∷◌, ap, length}
-use Rattle.row_book.specs.Clauses.{minimal_of}
-use Rattle.clause_flatten.proofs.Small.{Sound, circle_sound}
+use Rattle.std.proofs.Common.{◌∷◌, [], refl}
+use Rattle.clause_flatten.proofs.SmallBooks.{RowIs, fit_from, row_stays}
 use Rattle.clause_flatten.proofs.tests.circle.Goals as goal
 
-pub returns-clause-fit : goal.returns-clause-fit
-returns-clause-fit c =
-    let s : Sound c.add_row-3.new.pool (c.in_ok-user.user ∷ c.in_ok-spent.spent ∷ c.in_ok-empty.empty ∷ []) =
-    circle_sound c.add_row-3.new.pool c.in_ok-user.user c.in_ok-spent.spent c.in_ok-empty.empty
-    (c.add_row-3.ensures.stay c.in_ok-user.user (c.add_row-2.ensures.kept.rows c.in_ok-user.user c.in_ok-user.ensures.of_pool).0
-    ∙ c.add_row-2.ensures.stay c.in_ok-user.user c.in_ok-user.ensures.of_pool ∙ c.in_ok-user.ensures.row ∙ ap (λ z. minimal_of (z ∷ [])) c.in_ok-copy.ensures)
-    (c.add_row-3.ensures.stay c.in_ok-spent.spent c.in_ok-spent.ensures.of_pool ∙ c.in_ok-spent.ensures.row ∙ ap (λ z. minimal_of (z ∷ [])) c.in_ok-copy-2.ensures)
-    c.in_ok-empty.ensures.row
-    (c.add_row-3.ensures.kept.rows c.in_ok-user.user (c.add_row-2.ensures.kept.rows c.in_ok-user.user c.in_ok-user.ensures.of_pool).0).0
-    (c.add_row-3.ensures.kept.rows c.in_ok-spent.spent c.in_ok-spent.ensures.of_pool).0 c.in_ok-empty.ensures.of_pool in
-    s.fit
-
-pub returns-clause-tidy : goal.returns-clause-tidy
-returns-clause-tidy c =
-    let s : Sound c.add_row-3.new.pool (c.in_ok-user.user ∷ c.in_ok-spent.spent ∷ c.in_ok-empty.empty ∷ []) =
-    circle_sound c.add_row-3.new.pool c.in_ok-user.user c.in_ok-spent.spent c.in_ok-empty.empty
-    (c.add_row-3.ensures.stay c.in_ok-user.user (c.add_row-2.ensures.kept.rows c.in_ok-user.user c.in_ok-user.ensures.of_pool).0
-    ∙ c.add_row-2.ensures.stay c.in_ok-user.user c.in_ok-user.ensures.of_pool ∙ c.in_ok-user.ensures.row ∙ ap (λ z. minimal_of (z ∷ [])) c.in_ok-copy.ensures)
-    (c.add_row-3.ensures.stay c.in_ok-spent.spent c.in_ok-spent.ensures.of_pool ∙ c.in_ok-spent.ensures.row ∙ ap (λ z. minimal_of (z ∷ [])) c.in_ok-copy-2.ensures)
-    c.in_ok-empty.ensures.row
-    (c.add_row-3.ensures.kept.rows c.in_ok-user.user (c.add_row-2.ensures.kept.rows c.in_ok-user.user c.in_ok-user.ensures.of_pool).0).0
-    (c.add_row-3.ensures.kept.rows c.in_ok-spent.spent c.in_ok-spent.ensures.of_pool).0 c.in_ok-empty.ensures.of_pool in
-    s.tidy
+pub build-requires-clause-fit : goal.build-requires-clause-fit
+build-requires-clause-fit c =
+    let first : RowIs c.no_clauses.new.pool c.in_ok-first.first ((1 ∷ []) ∷ []) =
+    row_stays c.one_clause-2.new.pool c.no_clauses.new.pool c.in_ok-first.first ((1 ∷ []) ∷ []) c.in_ok-none.ensures.stay
+    (row_stays c.one_clause.new.pool c.one_clause-2.new.pool c.in_ok-first.first ((1 ∷ []) ∷ []) c.in_ok-second.ensures.stay (c.in_ok-first.ensures.within, c.in_ok-first.ensures.row)) in
+    let second : RowIs c.no_clauses.new.pool c.in_ok-second.second ((0 ∷ []) ∷ []) =
+    row_stays c.one_clause-2.new.pool c.no_clauses.new.pool c.in_ok-second.second ((0 ∷ []) ∷ []) c.in_ok-none.ensures.stay (c.in_ok-second.ensures.within, c.in_ok-second.ensures.row) in
+    let none : RowIs c.no_clauses.new.pool c.in_ok-none.none [] = (c.in_ok-none.ensures.within, c.in_ok-none.ensures.row) in
+    fit_from c.no_clauses.new.pool (c.in_ok-first.first ∷ c.in_ok-second.second ∷ c.in_ok-none.none ∷ []) (((1 ∷ []) ∷ []) ∷ ((0 ∷ []) ∷ []) ∷ [] ∷ [])
+    (first, (second, (none, tt))) refl

@@ -1,5 +1,6 @@
 use Rattle.std.proofs.Common.{◌≡◌, length, arith, subst}
-use Rattle.clause_flatten.proofs.Tidied.{TidiedTo, kept_kept, read_in, tidied_all, tidied_count, tidied_fit, tidied_more, tidied_none, tidied_tidy}
+use Rattle.row_book.proofs.Lists.{item_in}
+use Rattle.clause_flatten.proofs.Tidied.{TidiedTo, kept_kept, tidied_all, tidied_count, tidied_fit, tidied_more, tidied_none, tidied_tidy}
 use Rattle.clause_flatten.proofs.tidy_rows.tidy_rows.Goals as goal
 
 pub loop-package-init : goal.loop-package-init
@@ -8,7 +9,7 @@ loop-package-init c = tidied_none c.args.pool.now c.args.rows.now c.new-made.res
 pub tidy_row-requires : goal.tidy_row-requires
 tidy_row-requires c =
     c.loop-package.invariant.stay.within c.index-rows-package.result
-    (c.requires.fit.of_pool c.index-rows-package.result (read_in c.args.rows.now c.loop-package.«package» c.index-rows-package.result (omega arith) c.index-rows-package.is))
+    (c.requires.fit.of_pool c.index-rows-package.result (item_in c.args.rows.now c.loop-package.«package» c.index-rows-package.result (omega arith) c.index-rows-package.is))
 
 pub returns-in_err-first-clause-kept : goal.returns-in_err-first-clause-kept
 returns-in_err-first-clause-kept c = kept_kept c.args.pool.now c.loop-package.pool c.tidy_row.new.pool c.loop-package.invariant.kept c.tidy_row.ensures.kept
@@ -20,7 +21,7 @@ pub loop-package-preserved : goal.loop-package-preserved
 loop-package-preserved c =
     tidied_more c.args.pool.now c.loop-package.pool c.tidy_row.new.pool c.args.rows.now c.loop-package.made.items c.push.new.self.items c.loop-package.«package» c.index-rows-package.result c.in_ok-first.first
     c.loop-package.invariant c.in_ok-first.ensures.stay c.in_ok-first.ensures.kept (omega arith) c.index-rows-package.is
-    (c.requires.fit.of_pool c.index-rows-package.result (read_in c.args.rows.now c.loop-package.«package» c.index-rows-package.result (omega arith) c.index-rows-package.is))
+    (c.requires.fit.of_pool c.index-rows-package.result (item_in c.args.rows.now c.loop-package.«package» c.index-rows-package.result (omega arith) c.index-rows-package.is))
     c.in_ok-first.ensures.within c.in_ok-first.ensures.tidied c.in_ok-push.ensures.items
 
 pub returns-clause-tidied : goal.returns-clause-tidied

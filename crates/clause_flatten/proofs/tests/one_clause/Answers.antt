@@ -1,7 +1,7 @@
 use Rattle.std.proofs.Common.{◌<◌, length, [], ◌∷◌}
 use Rattle.clause_flatten.proofs.SmallBooks.{each_at, rows_stay}
 use Rattle.clause_flatten.proofs.Tidied.{kept_kept}
-use Rattle.clause_flatten.proofs.book_tests.one_clause.Goals as goal
+use Rattle.clause_flatten.proofs.tests.one_clause.Goals as goal
 
 pub intern_row-requires-clause-of_pool : goal.intern_row-requires-clause-of_pool
 intern_row-requires-clause-of_pool c =

@@ -1,7 +1,7 @@
 use Rattle.std.proofs.Common.{◌<◌, ◌∙◌, length, [], ◌∷◌}
 use Rattle.clause_flatten.proofs.SmallBooks.{each_at, rows_stay, two_in_order}
 use Rattle.clause_flatten.proofs.Tidied.{kept_kept}
-use Rattle.clause_flatten.proofs.book_tests.two_clauses.Goals as goal
+use Rattle.clause_flatten.proofs.tests.two_clauses.Goals as goal
 
 pub returns-in_err-second-clause-stay : goal.returns-in_err-second-clause-stay
 returns-in_err-second-clause-stay c =

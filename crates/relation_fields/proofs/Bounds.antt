@@ -11,10 +11,10 @@ use Rattle.deb_version.specs.Grammar.{is_version, is_upstream_byte}
 use Rattle.relation_fields.specs.declared.relations.Op.{Op}
 use Rattle.relation_fields.specs.declared.relations.Op.TheVariants.{Earlier, EarlierEqual, Exactly, LaterEqual, Later}
 use Rattle.relation_fields.specs.declared.relations.Bound.{Bound}
-use Rattle.relation_fields.specs.Texts.{is_space, is_white, trim_start, trimmed, behind_byte, before_byte, is_operator_byte}
+use Rattle.relation_fields.specs.Texts.{is_white_byte, is_white, trim_start, trim_both, behind_byte, before_byte, is_operator_byte}
 use Rattle.relation_fields.specs.Grammar.{op_of, bound_at, bound_of, in_parentheses, restriction_of}
 use Rattle.relation_fields.specs.Spelling.{SpellsOp, SpellsBound, SpellsRestriction}
-use Rattle.relation_fields.proofs.Fronts.{stops, front_passes, front_taken, front_left, list_all-reverse, trim_start-white, trim_start-stops, trim_start-joined, trimmed-around, trimmed-in}
+use Rattle.relation_fields.proofs.Fronts.{stops, front_passes, front_taken, front_left, list_all-reverse, trim_start-white, trim_start-stops, trim_start-joined, trim_both-around, trim_both-in}
 use Rattle.relation_fields.proofs.Bytes.{stops-from_all, stops-append, fails_at_space, version_no_space, version_no_operator, version_bytes}
 use Rattle.relation_fields.proofs.Ends.{behind_byte-cons, before_byte-push, begins, ends}
 
@@ -73,14 +73,14 @@ op_spelled text op e =
       ]
     ]
 
-op_begins : (text : List ℕ) (op : Op) (rest : List ℕ) → SpellsOp text op → stops is_space (text ++ rest) ≡ true
-op_begins text Earlier rest e = ap (λ t. stops is_space (t ++ rest)) e
-op_begins text EarlierEqual rest (inl e) = ap (λ t. stops is_space (t ++ rest)) e
-op_begins text EarlierEqual rest (inr e) = ap (λ t. stops is_space (t ++ rest)) e
-op_begins text Exactly rest e = ap (λ t. stops is_space (t ++ rest)) e
-op_begins text LaterEqual rest (inl e) = ap (λ t. stops is_space (t ++ rest)) e
-op_begins text LaterEqual rest (inr e) = ap (λ t. stops is_space (t ++ rest)) e
-op_begins text Later rest e = ap (λ t. stops is_space (t ++ rest)) e
+op_begins : (text : List ℕ) (op : Op) (rest : List ℕ) → SpellsOp text op → stops is_white_byte (text ++ rest) ≡ true
+op_begins text Earlier rest e = ap (λ t. stops is_white_byte (t ++ rest)) e
+op_begins text EarlierEqual rest (inl e) = ap (λ t. stops is_white_byte (t ++ rest)) e
+op_begins text EarlierEqual rest (inr e) = ap (λ t. stops is_white_byte (t ++ rest)) e
+op_begins text Exactly rest e = ap (λ t. stops is_white_byte (t ++ rest)) e
+op_begins text LaterEqual rest (inl e) = ap (λ t. stops is_white_byte (t ++ rest)) e
+op_begins text LaterEqual rest (inr e) = ap (λ t. stops is_white_byte (t ++ rest)) e
+op_begins text Later rest e = ap (λ t. stops is_white_byte (t ++ rest)) e
 
 op_bytes : (text : List ℕ) (op : Op) → SpellsOp text op → list_all is_operator_byte text ≡ true
 op_bytes text Earlier e = ap (list_all is_operator_byte) e
@@ -93,7 +93,7 @@ op_bytes text Later e = ap (list_all is_operator_byte) e
 
 -- white space stops each test that fails at a space, a tab and an LF
 pub white_stops : (p : ℕ → Bool) → p 32 ≡ false → p 9 ≡ false → p 10 ≡ false → (text : List ℕ) → is_white text ≡ true → stops p text ≡ true
-white_stops p a b d text white = stops-from_all p is_space (fails_at_space p a b d) text white
+white_stops p a b d text white = stops-from_all p is_white_byte (fails_at_space p a b d) text white
 
 bound_read : (text : List ℕ) (bound : Bound) → SpellsBound text bound → bound_of text ≡ Some bound
 unfolding bound_of
@@ -108,10 +108,10 @@ bound_read text bound s =
     (stops-append is_operator_byte version s.back (stops-from_all is_operator_byte is_upstream_byte version_no_operator version bytes) (white_stops is_operator_byte refl refl refl s.back s.white_back)) in
     let operator : take (prefix_len is_operator_byte (s.operator ++ rest)) (s.operator ++ rest) ≡ s.operator = front_taken is_operator_byte s.operator rest (op_bytes s.operator bound.op s.op) stop in
     let behind : drop (prefix_len is_operator_byte (s.operator ++ rest)) (s.operator ++ rest) ≡ rest = front_left is_operator_byte s.operator rest (op_bytes s.operator bound.op s.op) stop in
-    let ending : stops is_space (reverse version) ≡ true =
-    stops-from_all is_space is_upstream_byte version_no_space (reverse version) (list_all-reverse is_upstream_byte version ∙ bytes) in
-    let trim : trimmed rest ≡ version =
-    trimmed-around s.middle version s.back s.white_middle s.white_back (stops-from_all is_space is_upstream_byte version_no_space version bytes) ending in
+    let ending : stops is_white_byte (reverse version) ≡ true =
+    stops-from_all is_white_byte is_upstream_byte version_no_space (reverse version) (list_all-reverse is_upstream_byte version ∙ bytes) in
+    let trim : trim_both rest ≡ version =
+    trim_both-around s.middle version s.back s.white_middle s.white_back (stops-from_all is_white_byte is_upstream_byte version_no_space version bytes) ending in
     rw (inside, operator, behind, trim, op_read s.operator bound.op s.op, s.version) refl
 
 bound_spelled : (text : List ℕ) (bound : Bound) → bound_of text ≡ Some bound → SpellsBound text bound
@@ -120,20 +120,20 @@ bound_spelled text bound e =
     let inside = trim_start text in
     let n = prefix_len is_operator_byte inside in
     let behind = drop n inside in
-    let op = bind_some (bound_at (trimmed behind)) (op_of (take n inside)) bound e in
-    let made = cond_some (is_version (trimmed behind)) (record { op = op.0; version = trimmed behind }) bound op.2 in
-    let around = trimmed-in behind in
+    let op = bind_some (bound_at (trim_both behind)) (op_of (take n inside)) bound e in
+    let made = cond_some (is_version (trim_both behind)) (record { op = op.0; version = trim_both behind }) bound op.2 in
+    let around = trim_both-in behind in
     subst (SpellsBound text) made.1 (record {
-      front = take (prefix_len is_space text) text;
+      front = take (prefix_len is_white_byte text) text;
       operator = take n inside;
       middle = around.front;
       back = around.back;
-      white_front = front_passes is_space text;
+      white_front = front_passes is_white_byte text;
       white_middle = around.white_front;
       white_back = around.white_back;
       op = op_spelled (take n inside) op.0 op.1;
       version = made.0;
-      joined = trim_start-joined text ∙ ap (λ t. take (prefix_len is_space text) text ++ t) (sym (take-append-drop n inside) ∙ ap (λ t. take n inside ++ t) around.joined);
+      joined = trim_start-joined text ∙ ap (λ t. take (prefix_len is_white_byte text) text ++ t) (sym (take-append-drop n inside) ∙ ap (λ t. take n inside ++ t) around.joined);
     })
 
 pub restriction_read : (text : List ℕ) (bound : Option Bound) → SpellsRestriction text bound → restriction_of text ≡ Some bound

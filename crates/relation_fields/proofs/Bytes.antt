@@ -10,11 +10,11 @@ use Rattle.std.proofs.lemmas.List.Sums.{split_at_first, passes_at_first}
 use Rattle.std.proofs.lemmas.List.Folds.{list_all-append}
 use Rattle.deb_version.specs.Names.{is_name_byte}
 use Rattle.deb_version.specs.Grammar.{is_colon, is_hyphen, epoch_of, behind_epoch, upstream_in, revision_in, upstream_of, revision_of, is_filled, is_epoch, is_revision_byte, is_upstream_byte, is_upstream, is_revision, is_version}
-use Rattle.relation_fields.specs.Texts.{is_space, is_operator_byte}
+use Rattle.relation_fields.specs.Texts.{is_white_byte, is_operator_byte}
 use Rattle.relation_fields.proofs.Fronts.{stops, list_all-reverse, end_dropped, end_taken}
 
 -- a test that fails at the three bytes of white space fails at white space, and so at the three of operators
-pub fails_at_space : (q : ℕ → Bool) → q 32 ≡ false → q 9 ≡ false → q 10 ≡ false → (c : ℕ) → is_space c ≡ true → q c ≡ false
+pub fails_at_space : (q : ℕ → Bool) → q 32 ≡ false → q 9 ≡ false → q 10 ≡ false → (c : ℕ) → is_white_byte c ≡ true → q c ≡ false
 fails_at_space q a b d c space =
     elim (or_cases (c == 32) (c == 9 || c == 10) space) [
       | inl e ↦ ap q (eqb-true c 32 e) ∙ a
@@ -32,11 +32,11 @@ fails_at_operator q a b d c operator =
 pub apart : (p q : ℕ → Bool) → ((c : ℕ) → p c ≡ true → q c ≡ false) → (c : ℕ) → q c ≡ true → p c ≡ false
 apart p q h c passes = elim (cases_Bool (p c)) [ inl holds ↦ absurd (both_ways (q c) (h c holds) passes) | inr fails ↦ fails ]
 
-pub name_no_space : (c : ℕ) → is_name_byte c ≡ true → is_space c ≡ false
-name_no_space = apart is_space is_name_byte (fails_at_space is_name_byte refl refl refl)
+pub name_no_space : (c : ℕ) → is_name_byte c ≡ true → is_white_byte c ≡ false
+name_no_space = apart is_white_byte is_name_byte (fails_at_space is_name_byte refl refl refl)
 
-pub version_no_space : (c : ℕ) → is_upstream_byte c ≡ true → is_space c ≡ false
-version_no_space = apart is_space is_upstream_byte (fails_at_space is_upstream_byte refl refl refl)
+pub version_no_space : (c : ℕ) → is_upstream_byte c ≡ true → is_white_byte c ≡ false
+version_no_space = apart is_white_byte is_upstream_byte (fails_at_space is_upstream_byte refl refl refl)
 
 pub version_no_operator : (c : ℕ) → is_upstream_byte c ≡ true → is_operator_byte c ≡ false
 version_no_operator = apart is_operator_byte is_upstream_byte (fails_at_operator is_upstream_byte refl refl refl)

@@ -11,8 +11,8 @@ use Rattle.relation_fields.specs.declared.fields.RelationError.{RelationError}
 use Rattle.relation_fields.specs.declared.fields.RelationError.TheVariants.{Shape, Memory}
 use Rattle.relation_fields.specs.Texts.{is_white}
 use Rattle.relation_fields.specs.Fields.{elements, is_outside, first_outside, said_in}
-use Rattle.relation_fields.specs.Spelling.{SpellsEach, IsFirstFault, Reads}
-use Rattle.relation_fields.specs.Refusals.{OnShape}
+use Rattle.relation_fields.specs.Spelling.{SpellsEach, IsFirstFaultyElement, Reads}
+use Rattle.relation_fields.specs.Refusals.{OnFaultyElement}
 use Rattle.relation_fields.proofs.Bounds.{map_some}
 
 some_found : {X : Type 0} (o : Option X) → is_none o ≡ false → (x : X) × (o ≡ Some x)
@@ -52,7 +52,7 @@ module _ {X : Type 0} (one : List ℕ → Option X) (Spells : List ℕ → X →
   unfolding first_outside said_in
   field_said value none = all_said (elements value) (nowhere (is_outside one) (elements value) none)
 
-  field_fault : (value : List ℕ) (number : ℕ) → first_outside one value ≡ Some number → IsFirstFault Spells value number
+  field_fault : (value : List ℕ) (number : ℕ) → first_outside one value ≡ Some number → IsFirstFaultyElement Spells value number
   unfolding first_outside
   field_fault value number e =
       let es = elements value in
@@ -80,7 +80,7 @@ module _ {X : Type 0} (one : List ℕ → Option X) (Spells : List ℕ → X →
   spelled_from value (Ok said) is none = subst (SpellsEach Spells value) (sym is) (field_said value none)
   spelled_from value (Err e) is none = tt
 
-  pub refused_from : (value : List ℕ) (result : Result (List X) RelationError) → IfErr result (OnShape (λ element. first_outside one value ≡ Some element)) → IfErr result (OnShape (IsFirstFault Spells value))
+  pub refused_from : (value : List ℕ) (result : Result (List X) RelationError) → IfErr result (OnFaultyElement (λ element. first_outside one value ≡ Some element)) → IfErr result (OnFaultyElement (IsFirstFaultyElement Spells value))
   refused_from value (Ok said) fault = tt
   refused_from value (Err (Shape element)) fault = field_fault value element fault
   refused_from value (Err Memory) fault = tt

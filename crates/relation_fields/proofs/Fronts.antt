@@ -8,7 +8,7 @@ use Rattle.std.proofs.lemmas.List.Folds.{list_all-append}
 use Rattle.std.proofs.lemmas.List.Sums.{list_all-from_AllPass, prefix_len_passes}
 use Rattle.std.proofs.Math.Nat.{sub-zero}
 use Rattle.std.proofs.Math.Seq.{take-append_seam, drop-append_seam, drop-append-add, take-length}
-use Rattle.relation_fields.specs.Texts.{is_space, is_white, trim_start, trim_end, trimmed}
+use Rattle.relation_fields.specs.Texts.{is_white_byte, is_white, trim_start, trim_end, trim_both}
 
 -- the text is empty, or its first byte fails
 abbrev pub stops : (ℕ → Bool) → List ℕ → Bool
@@ -43,39 +43,39 @@ pub list_all-reverse : (p : ℕ → Bool) (xs : List ℕ) → list_all p (revers
 list_all-reverse p [] = refl
 list_all-reverse p (x ∷ xs) = grind (arith, common_steps, list_all-append, list_all-reverse p xs)
 
--- white space in front of a text, and behind it, is trimmed
+-- white space in front of a text, and behind it, is dropped
 pub trim_start-white : (front text : List ℕ) → is_white front ≡ true → trim_start (front ++ text) ≡ trim_start text
 unfolding trim_start
-trim_start-white front text white = rw (prefix_len-passed is_space front text white) (drop-append-add front text (prefix_len is_space text))
+trim_start-white front text white = rw (prefix_len-passed is_white_byte front text white) (drop-append-add front text (prefix_len is_white_byte text))
 
-pub trim_start-stops : (text : List ℕ) → stops is_space text ≡ true → trim_start text ≡ text
+pub trim_start-stops : (text : List ℕ) → stops is_white_byte text ≡ true → trim_start text ≡ text
 unfolding trim_start
-trim_start-stops text stop = rw (prefix_len-stops is_space text stop) refl
+trim_start-stops text stop = rw (prefix_len-stops is_white_byte text stop) refl
 
 pub trim_end-white : (text back : List ℕ) → is_white back ≡ true → trim_end (text ++ back) ≡ trim_end text
 unfolding trim_end
 trim_end-white text back white =
-    let white_back : list_all is_space (reverse back) ≡ true = list_all-reverse is_space back ∙ white in
-    let more : suffix_len is_space (text ++ back) ≡ length back + suffix_len is_space text =
-    ap (prefix_len is_space) (reverse-append text back) ∙ grind (arith, common_steps, prefix_len-passed is_space (reverse back) (reverse text) white_back) in
+    let white_back : list_all is_white_byte (reverse back) ≡ true = list_all-reverse is_white_byte back ∙ white in
+    let more : suffix_len is_white_byte (text ++ back) ≡ length back + suffix_len is_white_byte text =
+    ap (prefix_len is_white_byte) (reverse-append text back) ∙ grind (arith, common_steps, prefix_len-passed is_white_byte (reverse back) (reverse text) white_back) in
     let len = length-append text back in
-    let cut : length (text ++ back) - suffix_len is_space (text ++ back) ≡ length text - suffix_len is_space text = omega arith in
-    rw cut (take-append-le (length text - suffix_len is_space text) text back (omega arith))
+    let cut : length (text ++ back) - suffix_len is_white_byte (text ++ back) ≡ length text - suffix_len is_white_byte text = omega arith in
+    rw cut (take-append-le (length text - suffix_len is_white_byte text) text back (omega arith))
 
-pub trim_end-stops : (text : List ℕ) → stops is_space (reverse text) ≡ true → trim_end text ≡ text
+pub trim_end-stops : (text : List ℕ) → stops is_white_byte (reverse text) ≡ true → trim_end text ≡ text
 unfolding trim_end
-trim_end-stops text stop = rw (prefix_len-stops is_space (reverse text) stop, sub-zero) (take-length text)
+trim_end-stops text stop = rw (prefix_len-stops is_white_byte (reverse text) stop, sub-zero) (take-length text)
 
-pub trimmed-white : (text : List ℕ) → is_white text ≡ true → trimmed text ≡ []
-unfolding trimmed trim_end
-trimmed-white text white =
+pub trim_both-white : (text : List ℕ) → is_white text ≡ true → trim_both text ≡ []
+unfolding trim_both trim_end
+trim_both-white text white =
     ap trim_end (ap trim_start (sym (append-nil text)) ∙ trim_start-white text [] white ∙ trim_start-stops [] refl)
 
 -- a text in white space that has none at its own ends
-pub trimmed-around : (front text back : List ℕ) → is_white front ≡ true → is_white back ≡ true → stops is_space text ≡ true → stops is_space (reverse text) ≡ true → trimmed (front ++ (text ++ back)) ≡ text
-unfolding trimmed
-trimmed-around front [] back white_front white_back begins ends = trimmed-white (front ++ back) (list_all-append is_space front back ∙ and_from (is_white front) (is_white back) white_front white_back)
-trimmed-around front (x ∷ text) back white_front white_back begins ends =
+pub trim_both-around : (front text back : List ℕ) → is_white front ≡ true → is_white back ≡ true → stops is_white_byte text ≡ true → stops is_white_byte (reverse text) ≡ true → trim_both (front ++ (text ++ back)) ≡ text
+unfolding trim_both
+trim_both-around front [] back white_front white_back begins ends = trim_both-white (front ++ back) (list_all-append is_white_byte front back ∙ and_from (is_white front) (is_white back) white_front white_back)
+trim_both-around front (x ∷ text) back white_front white_back begins ends =
     ap trim_end (trim_start-white front (x ∷ (text ++ back)) white_front ∙ trim_start-stops (x ∷ (text ++ back)) begins) ∙ trim_end-white (x ∷ text) back white_back ∙ trim_end-stops (x ∷ text) ends
 
 -- a text is what is left of it, with white space around
@@ -86,9 +86,9 @@ pub record IsIn (inner text : List ℕ) : Type 0 where
   pub white_back : is_white back ≡ true
   pub joined : text ≡ front ++ (inner ++ back)
 
-pub trim_start-joined : (text : List ℕ) → text ≡ take (prefix_len is_space text) text ++ trim_start text
+pub trim_start-joined : (text : List ℕ) → text ≡ take (prefix_len is_white_byte text) text ++ trim_start text
 unfolding trim_start
-trim_start-joined text = sym (take-append-drop (prefix_len is_space text) text)
+trim_start-joined text = sym (take-append-drop (prefix_len is_white_byte text) text)
 
 -- the last bytes of a text, and those before them, as fronts of the text from its end
 pub end_dropped : (xs : List ℕ) (n : ℕ) → drop (length xs - n) xs ≡ reverse (take n (reverse xs))
@@ -107,18 +107,18 @@ end_taken xs n =
     let len : length (reverse front) ≡ length xs - n = omega (arith, length-reverse front, length-drop n (reverse xs), length-reverse xs) in
     ap (λ t. take (length xs - n) t) cut ∙ ap (λ m. take m (reverse front ++ reverse back)) (sym len) ∙ take-append_seam (reverse front) (reverse back)
 
-white_end : (text : List ℕ) → is_white (drop (length text - suffix_len is_space text) text) ≡ true
+white_end : (text : List ℕ) → is_white (drop (length text - suffix_len is_white_byte text) text) ≡ true
 white_end text =
-    ap is_white (end_dropped text (suffix_len is_space text)) ∙ list_all-reverse is_space (take (prefix_len is_space (reverse text)) (reverse text)) ∙ front_passes is_space (reverse text)
+    ap is_white (end_dropped text (suffix_len is_white_byte text)) ∙ list_all-reverse is_white_byte (take (prefix_len is_white_byte (reverse text)) (reverse text)) ∙ front_passes is_white_byte (reverse text)
 
-pub trimmed-in : (text : List ℕ) → IsIn (trimmed text) text
-unfolding trimmed trim_end
-trimmed-in text =
+pub trim_both-in : (text : List ℕ) → IsIn (trim_both text) text
+unfolding trim_both trim_end
+trim_both-in text =
     let rest = trim_start text in
     record {
-      front = take (prefix_len is_space text) text;
-      back = drop (length rest - suffix_len is_space rest) rest;
-      white_front = front_passes is_space text;
+      front = take (prefix_len is_white_byte text) text;
+      back = drop (length rest - suffix_len is_white_byte rest) rest;
+      white_front = front_passes is_white_byte text;
       white_back = white_end rest;
-      joined = trim_start-joined text ∙ ap (λ r. take (prefix_len is_space text) text ++ r) (sym (take-append-drop (length rest - suffix_len is_space rest) rest));
+      joined = trim_start-joined text ∙ ap (λ r. take (prefix_len is_white_byte text) text ++ r) (sym (take-append-drop (length rest - suffix_len is_white_byte rest) rest));
     }

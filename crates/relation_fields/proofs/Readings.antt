@@ -11,15 +11,15 @@ use Rattle.relation_fields.specs.declared.relations.Op.TheVariants.{Earlier, Ear
 use Rattle.relation_fields.specs.declared.relations.Bound.{Bound}
 use Rattle.relation_fields.specs.declared.relations.Atom.{Atom}
 use Rattle.relation_fields.specs.declared.relations.Provide.{Provide}
-use Rattle.relation_fields.specs.Texts.{is_space, trim_start, trimmed, behind_byte, is_architecture_byte, pieces}
+use Rattle.relation_fields.specs.Texts.{is_white_byte, trim_start, trim_both, behind_byte, is_architecture_byte, pieces}
 use Rattle.relation_fields.specs.Grammar.{restriction_of, begins_architecture, is_architecture, name_at, behind_name, qualifier_at, behind_qualifier, atom_at, atom_of, alternatives_of, version_at, provide_at, provide_of}
 use Rattle.relation_fields.specs.Spelling.{SpellsRestriction, SpellsQualifier, SpellsAtom, SpellsAlternatives, exactly_at, SpellsProvide, Reads}
-use Rattle.relation_fields.proofs.Fronts.{stops, front_passes, front_taken, front_left, trim_start-white, trim_start-stops, trim_start-joined, trimmed-around, trimmed-in}
+use Rattle.relation_fields.proofs.Fronts.{stops, front_passes, front_taken, front_left, trim_start-white, trim_start-stops, trim_start-joined, trim_both-around, trim_both-in}
 use Rattle.relation_fields.proofs.Bytes.{stops-append, name_no_space}
 use Rattle.relation_fields.proofs.Ends.{behind_byte-cons, behind_byte-stops, begins}
 use Rattle.relation_fields.proofs.Bounds.{bind_some, map_some, white_stops, restriction_read, restriction_spelled}
 
-name_begins : (name rest : List ℕ) → is_name name ≡ true → stops is_space (name ++ rest) ≡ true
+name_begins : (name rest : List ℕ) → is_name name ≡ true → stops is_white_byte (name ++ rest) ≡ true
 name_begins [] rest named = absurd (false≢true named)
 name_begins (x ∷ name) rest named =
     let bytes = and_parts (has_first (x ∷ name)) (list_all is_name_byte (x ∷ name)) named in
@@ -34,9 +34,9 @@ restriction_begins : (p : ℕ → Bool) → p 40 ≡ false → (text : List ℕ)
 restriction_begins p at text None e = ap (stops p) e
 restriction_begins p at text (Some bound) s = ap (stops p) s.joined ∙ ap not at
 
-restriction_ends : (text : List ℕ) (bound : Option Bound) → SpellsRestriction text bound → stops is_space (reverse text) ≡ true
-restriction_ends text None e = ap (λ t. stops is_space (reverse t)) e
-restriction_ends text (Some bound) s = ap (λ t. stops is_space (reverse t)) s.joined ∙ ap (stops is_space) (reverse-append (40 ∷ s.inside) (41 ∷ []))
+restriction_ends : (text : List ℕ) (bound : Option Bound) → SpellsRestriction text bound → stops is_white_byte (reverse text) ≡ true
+restriction_ends text None e = ap (λ t. stops is_white_byte (reverse t)) e
+restriction_ends text (Some bound) s = ap (λ t. stops is_white_byte (reverse t)) s.joined ∙ ap (stops is_white_byte) (reverse-append (40 ∷ s.inside) (41 ∷ []))
 
 qualifier_test : (text : List ℕ) (qualifier : Option (List ℕ)) → SpellsQualifier text qualifier → option_map_or is_architecture qualifier true ≡ true
 qualifier_test text None e = refl
@@ -99,9 +99,9 @@ atom_read text atom s =
     let name : take (prefix_len is_name_byte (atom.name ++ rest)) (atom.name ++ rest) ≡ atom.name = front_taken is_name_byte atom.name rest bytes stop_name in
     let behind : drop (prefix_len is_name_byte (atom.name ++ rest)) (atom.name ++ rest) ≡ rest = front_left is_name_byte atom.name rest bytes stop_name in
     let qualifier = qualifier_read s.qualifier atom.qualifier tail s.qualified (stop (λ x. x == 58) refl refl refl refl) (stop is_architecture_byte refl refl refl refl) in
-    let trim : trimmed tail ≡ s.restriction =
-    trimmed-around s.middle s.restriction s.back s.white_middle s.white_back
-    (restriction_begins is_space refl s.restriction atom.bound s.restricted) (restriction_ends s.restriction atom.bound s.restricted) in
+    let trim : trim_both tail ≡ s.restriction =
+    trim_both-around s.middle s.restriction s.back s.white_middle s.white_back
+    (restriction_begins is_white_byte refl s.restriction atom.bound s.restricted) (restriction_ends s.restriction atom.bound s.restricted) in
     let tests = and_from (is_name atom.name) (option_map_or is_architecture atom.qualifier true) s.named (qualifier_test s.qualifier atom.qualifier s.qualified) in
     rw (front, name, behind, qualifier.0, qualifier.1, trim, restriction_read s.restriction atom.bound s.restricted, tests) refl
 
@@ -117,24 +117,24 @@ atom_spelled text atom e =
     let name = take n front in
     let behind = drop n front in
     let rest = behind_qualifier behind in
-    let made = guarded (is_name name && option_map_or is_architecture (qualifier_at behind) true) (option_map (atom_at name (qualifier_at behind)) (restriction_of (trimmed rest))) atom e in
+    let made = guarded (is_name name && option_map_or is_architecture (qualifier_at behind) true) (option_map (atom_at name (qualifier_at behind)) (restriction_of (trim_both rest))) atom e in
     let tests = and_parts (is_name name) (option_map_or is_architecture (qualifier_at behind) true) made.0 in
-    let bound = map_some (atom_at name (qualifier_at behind)) (restriction_of (trimmed rest)) atom made.1 in
+    let bound = map_some (atom_at name (qualifier_at behind)) (restriction_of (trim_both rest)) atom made.1 in
     let qualifier = qualified-by behind (behind_byte 58 behind) refl tests.1 in
-    let around = trimmed-in rest in
+    let around = trim_both-in rest in
     subst (SpellsAtom text) bound.2 (record {
-      front = take (prefix_len is_space text) text;
+      front = take (prefix_len is_white_byte text) text;
       qualifier = qualifier.qualifier;
       middle = around.front;
-      restriction = trimmed rest;
+      restriction = trim_both rest;
       back = around.back;
-      white_front = front_passes is_space text;
+      white_front = front_passes is_white_byte text;
       white_middle = around.white_front;
       white_back = around.white_back;
       named = tests.0;
       qualified = qualifier.spelled;
-      restricted = restriction_spelled (trimmed rest) bound.0 bound.1;
-      joined = trim_start-joined text ∙ ap (λ t. take (prefix_len is_space text) text ++ t)
+      restricted = restriction_spelled (trim_both rest) bound.0 bound.1;
+      joined = trim_start-joined text ∙ ap (λ t. take (prefix_len is_white_byte text) text ++ t)
           (sym (take-append-drop n front) ∙ ap (λ t. name ++ t) (qualifier.joined ∙ ap (λ t. qualifier.qualifier ++ t) around.joined));
     })
 

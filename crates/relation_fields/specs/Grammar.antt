@@ -13,7 +13,7 @@ use Rattle.relation_fields.specs.declared.relations.Op.TheVariants.{Earlier, Ear
 use Rattle.relation_fields.specs.declared.relations.Bound.{Bound}
 use Rattle.relation_fields.specs.declared.relations.Atom.{Atom}
 use Rattle.relation_fields.specs.declared.relations.Provide.{Provide}
-use Rattle.relation_fields.specs.Texts.{trim_start, trimmed, behind_byte, before_byte, pieces, is_architecture_byte, is_operator_byte}
+use Rattle.relation_fields.specs.Texts.{trim_start, trim_both, behind_byte, before_byte, pieces, is_architecture_byte, is_operator_byte}
 
 -- the operators, and the two deprecated ones: `<` is read as `<=`, and `>` as `>=`
 unfoldable pub op_of : List ℕ → Option Op
@@ -33,7 +33,7 @@ bound_at text op = if is_version text then Some (record { op = op; version = tex
 unfoldable pub bound_of : List ℕ → Option Bound
 bound_of text =
     let inside = trim_start text in
-    option_and_then (bound_at (trimmed (drop (prefix_len is_operator_byte inside) inside))) (op_of (take_while is_operator_byte inside))
+    option_and_then (bound_at (trim_both (drop (prefix_len is_operator_byte inside) inside))) (op_of (take_while is_operator_byte inside))
 
 -- what stands between an opening parenthesis at the front and a closing one at the end
 abbrev pub in_parentheses : List ℕ → Option (List ℕ)
@@ -77,7 +77,7 @@ atom_of text =
     let name = name_at front in
     let qualifier = qualifier_at (behind_name front) in
     if is_name name && option_map_or is_architecture qualifier true
-    then option_map (atom_at name qualifier) (restriction_of (trimmed (behind_qualifier (behind_name front))))
+    then option_map (atom_at name qualifier) (restriction_of (trim_both (behind_qualifier (behind_name front))))
     else None
 
 -- what each text says, where each of them says something

@@ -32,14 +32,18 @@ fits version bound = wants bound.op (version_order version bound.version)
 abbrev pub is_always_ignored : List ℕ → Bool
 is_always_ignored written = bytes_eq written (codes "any") || bytes_eq written (codes "native") || bytes_eq written (codes "all")
 
+-- the name of the home, where it has one
+abbrev pub is_home : List ℕ → Home → Bool
+is_home written home = option_map_or (bytes_eq written) home.name false
+
 -- a missing qualifier is ignored, and so are these three and the name of the home; with any other the atom or provide
 -- matches nothing
 abbrev pub is_ignored : Option (List ℕ) → Home → Bool
-is_ignored qualifier home = option_map_or (λ written. is_always_ignored written || option_map_or (bytes_eq written) home.name false) qualifier true
+is_ignored qualifier home = option_map_or (λ written. is_always_ignored written || is_home written home) qualifier true
 
 -- the package's own name is the atom's, and its version fits the restriction if there is one
-abbrev pub is_named : Atom → PackageFacts → Bool
-is_named atom facts = bytes_eq atom.name facts.name && option_map_or (fits facts.version) atom.bound true
+abbrev pub is_met_by_name : Atom → PackageFacts → Bool
+is_met_by_name atom facts = bytes_eq atom.name facts.name && option_map_or (fits facts.version) atom.bound true
 
 -- the version that is provided fits the restriction; a provide without a version fits none
 abbrev pub fits_provided : Option (List ℕ) → Bound → Bool
@@ -51,4 +55,4 @@ is_provided_by atom home provide = is_ignored provide.qualifier home && (bytes_e
 
 -- by its own name, or by one of its provides
 unfoldable pub meets : Atom → PackageFacts → Home → Bool
-meets atom facts home = is_ignored atom.qualifier home && (is_named atom facts || list_any (is_provided_by atom home) facts.provides)
+meets atom facts home = is_ignored atom.qualifier home && (is_met_by_name atom facts || list_any (is_provided_by atom home) facts.provides)

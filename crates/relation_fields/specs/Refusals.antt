@@ -4,6 +4,6 @@ use Rattle.relation_fields.specs.declared.fields.RelationError.{RelationError}
 use Rattle.relation_fields.specs.declared.fields.RelationError.TheVariants.{Shape, Memory}
 
 -- the fact of the element, where one was refused for its shape
-abbrev pub OnShape : (ℕ → Type 0) → RelationError → Type 0
-OnShape P (Shape element) = P element
-OnShape P Memory = ⊤
+abbrev pub OnFaultyElement : (ℕ → Type 0) → RelationError → Type 0
+OnFaultyElement P (Shape element) = P element
+OnFaultyElement P Memory = ⊤

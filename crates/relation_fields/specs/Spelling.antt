@@ -82,7 +82,7 @@ SpellsEach Spells value said = AllZip Spells (written value) said
 
 -- the element of that number, from 1, is not white space alone and is no way of writing anything, and each element before
 -- it is white space alone or one way of writing something
-pub record IsFirstFault {X : Type 0} (Spells : List ℕ → X → Type 0) (value : List ℕ) (number : ℕ) : Type 0 where
+pub record IsFirstFaultyElement {X : Type 0} (Spells : List ℕ → X → Type 0) (value : List ℕ) (number : ℕ) : Type 0 where
   pub place : ℕ
   pub numbered : number ≡ place + 1
   pub within : place < length (elements value)

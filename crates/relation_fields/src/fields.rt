@@ -2,12 +2,12 @@
 ghost use Rattle.std.specs.Prelude.{◌≡◌, ◌<◌, length, None, Some, IfOk, IfErr, OnOk};
 ghost use Rattle.relation_fields.specs.Grammar.{atom_of, alternatives_of, provide_of};
 ghost use Rattle.relation_fields.specs.Fields.{first_outside, said_in};
-ghost use Rattle.relation_fields.specs.Spelling.{SpellsEach, SpellsAlternatives, SpellsAtom, SpellsProvide, IsFirstFault};
-ghost use Rattle.relation_fields.specs.Refusals.{OnShape};
+ghost use Rattle.relation_fields.specs.Spelling.{SpellsEach, SpellsAlternatives, SpellsAtom, SpellsProvide, IsFirstFaultyElement};
+ghost use Rattle.relation_fields.specs.Refusals.{OnFaultyElement};
 
 use crate::elements::Element;
 use crate::relations::{AtomList, ElementList, ProvideList};
-use crate::texts::{cut, is_blank};
+use crate::texts::{cut, is_white};
 use listed::Listed;
 use std::alloc::{AllocError, Global};
 
@@ -41,11 +41,11 @@ pub fn parse_needs(alloc: Global, value: &[u8]) -> Result<ElementList, RelationE
     requires { length value.now < 4294967295 }
     ensures said { IfOk result (λ elements. elements ≡ said_in alternatives_of value.now) }
     ensures accepted { OnOk result (first_outside alternatives_of value.now ≡ None) }
-    ensures shape { IfErr result (OnShape (λ element. first_outside alternatives_of value.now ≡ Some element)) }
+    ensures shape { IfErr result (OnFaultyElement (λ element. first_outside alternatives_of value.now ≡ Some element)) }
 
     // The same by how relations are written.
     ensures spelled { IfOk result (SpellsEach SpellsAlternatives value.now) }
-    ensures fault { IfErr result (OnShape (IsFirstFault SpellsAlternatives value.now)) }
+    ensures fault { IfErr result (OnFaultyElement (IsFirstFaultyElement SpellsAlternatives value.now)) }
 {
     parse_elements(alloc, value)
 }
@@ -57,11 +57,11 @@ pub fn parse_against(alloc: Global, value: &[u8]) -> Result<AtomList, RelationEr
     requires { length value.now < 4294967295 }
     ensures said { IfOk result (λ atoms. atoms ≡ said_in atom_of value.now) }
     ensures accepted { OnOk result (first_outside atom_of value.now ≡ None) }
-    ensures shape { IfErr result (OnShape (λ element. first_outside atom_of value.now ≡ Some element)) }
+    ensures shape { IfErr result (OnFaultyElement (λ element. first_outside atom_of value.now ≡ Some element)) }
 
     // The same by how relations are written.
     ensures spelled { IfOk result (SpellsEach SpellsAtom value.now) }
-    ensures fault { IfErr result (OnShape (IsFirstFault SpellsAtom value.now)) }
+    ensures fault { IfErr result (OnFaultyElement (IsFirstFaultyElement SpellsAtom value.now)) }
 {
     parse_elements(alloc, value)
 }
@@ -73,11 +73,11 @@ pub fn parse_provides(alloc: Global, value: &[u8]) -> Result<ProvideList, Relati
     requires { length value.now < 4294967295 }
     ensures said { IfOk result (λ provides. provides ≡ said_in provide_of value.now) }
     ensures accepted { OnOk result (first_outside provide_of value.now ≡ None) }
-    ensures shape { IfErr result (OnShape (λ element. first_outside provide_of value.now ≡ Some element)) }
+    ensures shape { IfErr result (OnFaultyElement (λ element. first_outside provide_of value.now ≡ Some element)) }
 
     // The same by how relations are written.
     ensures spelled { IfOk result (SpellsEach SpellsProvide value.now) }
-    ensures fault { IfErr result (OnShape (IsFirstFault SpellsProvide value.now)) }
+    ensures fault { IfErr result (OnFaultyElement (IsFirstFaultyElement SpellsProvide value.now)) }
 {
     parse_elements(alloc, value)
 }
@@ -88,7 +88,7 @@ fn parse_elements<T: Element>(alloc: Global, value: &[u8]) -> Result<Listed<T>, 
     requires { length value.now < 4294967295 }
     ensures said { IfOk result (λ said. said ≡ said_in T.reading value.now) }
     ensures accepted { OnOk result (first_outside T.reading value.now ≡ None) }
-    ensures shape { IfErr result (OnShape (λ element. first_outside T.reading value.now ≡ Some element)) }
+    ensures shape { IfErr result (OnFaultyElement (λ element. first_outside T.reading value.now ≡ Some element)) }
 {
     let mut said = Listed::new(alloc);
     let mut element = 0u32;
@@ -96,7 +96,7 @@ fn parse_elements<T: Element>(alloc: Global, value: &[u8]) -> Result<Listed<T>, 
     while let Some(rest) = left {
         let (text, behind) = cut(rest, b',');
         element += 1;
-        if !is_blank(text) {
+        if !is_white(text) {
             let Some(one) = T::read(alloc, text)? else {
                 return Err(RelationError::Shape { element });
             };

@@ -3,11 +3,11 @@
 
 mod atoms;
 mod elements;
-pub mod fields;
-pub mod grammar;
+mod fields;
+mod grammar;
 mod meeting;
-pub mod packages;
-pub mod relations;
+mod packages;
+mod relations;
 mod texts;
 
 pub use fields::{RelationError, parse_against, parse_needs, parse_provides};

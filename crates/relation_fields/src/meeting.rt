@@ -1,9 +1,8 @@
 //! When a package meets an atom.
-ghost use Rattle.std.specs.Prelude.{◌≡◌, true, false};
+ghost use Rattle.std.specs.Prelude.{◌≡◌, true};
 ghost use Rattle.std.specs.List.{list_any};
 ghost use Rattle.std.specs.Option.{option_map_or};
-ghost use Rattle.std.specs.Str.{bytes_eq};
-ghost use Rattle.relation_fields.specs.Meeting.{wants, fits, is_always_ignored, is_ignored, is_named, fits_provided, is_provided_by, meets};
+ghost use Rattle.relation_fields.specs.Meeting.{wants, fits, is_always_ignored, is_home, is_ignored, is_met_by_name, fits_provided, is_provided_by, meets};
 
 use crate::packages::{Home, PackageFacts};
 use crate::relations::{Atom, Bound, Op, Provide};
@@ -19,12 +18,13 @@ impl Atom {
     pub fn met_by(&self, package: &PackageFacts, home: &Home) -> bool
         ensures { result ≡ meets self.now «package».now home.now }
     {
-        is_free(&self.qualifier, home) && (self.is_name_of(package) || self.is_among(package, home))
+        is_ignored(&self.qualifier, home)
+            && (self.is_met_by_name(package) || self.is_met_by_provide(package, home))
     }
 
     // Whether the package has the atom's name, and a version that fits the restriction if there is one.
-    fn is_name_of(&self, package: &PackageFacts) -> bool
-        ensures { result ≡ is_named self.now «package».now }
+    fn is_met_by_name(&self, package: &PackageFacts) -> bool
+        ensures { result ≡ is_met_by_name self.now «package».now }
     {
         self.name.as_slice() == package.name.as_slice() && self.allows(&package.version)
     }
@@ -40,7 +40,7 @@ impl Atom {
     }
 
     // Whether one of the package's provides meets the atom.
-    fn is_among(&self, package: &PackageFacts, home: &Home) -> bool
+    fn is_met_by_provide(&self, package: &PackageFacts, home: &Home) -> bool
         ensures { result ≡ list_any (is_provided_by self.now home.now) «package».now.provides }
     {
         let provides = package.provides.as_slice();
@@ -53,7 +53,7 @@ impl Atom {
     fn is_provided(&self, provide: &Provide, home: &Home) -> bool
         ensures { result ≡ is_provided_by self.now home.now provide.now }
     {
-        is_free(&provide.qualifier, home)
+        is_ignored(&provide.qualifier, home)
             && self.name.as_slice() == provide.name.as_slice()
             && self.allows_provided(&provide.version)
     }
@@ -97,17 +97,17 @@ impl Op {
 }
 
 // Whether the qualifier is one that is ignored.
-fn is_free(qualifier: &Option<Bytes>, home: &Home) -> bool
+fn is_ignored(qualifier: &Option<Bytes>, home: &Home) -> bool
     ensures { result ≡ is_ignored qualifier.now home.now }
 {
     match qualifier {
-        Some(written) => is_any(written.as_slice()) || is_home(written.as_slice(), home),
+        Some(written) => is_always_ignored(written.as_slice()) || is_home(written.as_slice(), home),
         None => true,
     }
 }
 
 // Whether the qualifier is ignored whatever the home is.
-fn is_any(written: &[u8]) -> bool
+fn is_always_ignored(written: &[u8]) -> bool
     ensures { result ≡ is_always_ignored written.now }
 {
     written == b"any".as_slice() || written == b"native".as_slice() || written == b"all".as_slice()
@@ -115,7 +115,7 @@ fn is_any(written: &[u8]) -> bool
 
 // Whether the qualifier is the name of the home.
 fn is_home(written: &[u8], home: &Home) -> bool
-    ensures { result ≡ option_map_or (bytes_eq written.now) home.now.name false }
+    ensures { result ≡ is_home written.now home.now }
 {
     match &home.name {
         Some(name) => written == name.as_slice(),

@@ -169,6 +169,10 @@ fn faults_are_named(rt: HostRuntime) {
         ("a (= a:1)", 1),
         (" ,\n,a\r", 3),
         ("a, b=1, ?", 2),
+        (",,, a\0", 4),
+        ("a\u{e9}", 1),
+        ("a (>= 1\u{a0})", 1),
+        ("a (>= 1)\x0c", 1),
     ] {
         assert!(rt;
             is_refused_at(needs(rt.alloc(), value.as_bytes()), element),

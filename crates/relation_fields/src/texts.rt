@@ -2,13 +2,13 @@
 ghost use Rattle.std.specs.Prelude.{◌≡◌, ◌≤◌, ◌==◌, ◌∷◌, ◌+◌, length, drop};
 ghost use Rattle.std.specs.List.{prefix_len, position, take_while};
 ghost use Rattle.std.specs.Option.{option_copied};
-ghost use Rattle.relation_fields.specs.Texts.{is_space, is_white, trim_start, trim_end, trimmed, behind_byte, before_byte, pieces, pieces_left, is_of_kind};
+ghost use Rattle.relation_fields.specs.Texts.{is_white_byte, is_white, trim_start, trim_end, trim_both, behind_byte, before_byte, pieces, pieces_left, is_of_kind};
 
 /// The bytes that may stand in one kind of piece.
 #[derive(Clone, Copy)]
 pub(crate) enum ByteKind {
     /// White space: a space, a tab or an LF.
-    Space,
+    White,
     /// A letter, a digit or one of `+ - . _`.
     Name,
     /// A lower-case letter, a digit or a hyphen.
@@ -18,16 +18,16 @@ pub(crate) enum ByteKind {
 }
 
 /// Whether the text has no byte but white space.
-pub(crate) fn is_blank(text: &[u8]) -> bool
+pub(crate) fn is_white(text: &[u8]) -> bool
     ensures { result ≡ is_white text.now }
 {
-    text.iter().all(|byte| is_blank_byte(*byte))
+    text.iter().all(|byte| is_white_byte(*byte))
 }
 
 /// The text without the white space at both ends.
-#[tactic(auto, unfolding(crate::specs::Texts::trimmed))]
+#[tactic(auto, unfolding(crate::specs::Texts::trim_both))]
 pub(crate) fn trim(text: &[u8]) -> &[u8]
-    ensures { result.now ≡ trimmed text.now }
+    ensures { result.now ≡ trim_both text.now }
 {
     trim_back(trim_front(text))
 }
@@ -37,7 +37,7 @@ pub(crate) fn trim(text: &[u8]) -> &[u8]
 pub(crate) fn trim_front(text: &[u8]) -> &[u8]
     ensures { result.now ≡ trim_start text.now }
 {
-    split_front(text, ByteKind::Space).1
+    split_front(text, ByteKind::White).1
 }
 
 // The text without the white space at its end.
@@ -46,7 +46,7 @@ fn trim_back(text: &[u8]) -> &[u8]
     ensures { result.now ≡ trim_end text.now }
 {
     let mut end = text.len();
-    while end > 0 && is_blank_byte(text[end - 1]) {
+    while end > 0 && is_white_byte(text[end - 1]) {
         end -= 1;
     }
     &text[..end]
@@ -78,7 +78,7 @@ pub(crate) fn has_kind(byte: u8, kind: ByteKind) -> bool
     ensures { result ≡ is_of_kind kind byte }
 {
     match kind {
-        ByteKind::Space => is_blank_byte(byte),
+        ByteKind::White => is_white_byte(byte),
         ByteKind::Name => byte.is_ascii_alphanumeric() || matches!(byte, b'+' | b'-' | b'.' | b'_'),
         ByteKind::Qualifier => byte.is_ascii_lowercase() || byte.is_ascii_digit() || byte == b'-',
         ByteKind::Operator => matches!(byte, b'<' | b'=' | b'>'),
@@ -86,8 +86,8 @@ pub(crate) fn has_kind(byte: u8, kind: ByteKind) -> bool
 }
 
 // Whether the byte is a space, a tab or an LF.
-fn is_blank_byte(byte: u8) -> bool
-    ensures { result ≡ is_space byte }
+fn is_white_byte(byte: u8) -> bool
+    ensures { result ≡ is_white_byte byte }
 {
     matches!(byte, b' ' | b'\t' | b'\n')
 }

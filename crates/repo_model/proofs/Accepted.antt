@@ -1,9 +1,9 @@
 -- What is known of the packages of an index without a fault: they are few, each has a package name and a version, and none
 -- is the package of an earlier one.
 use Rattle.std.proofs.Common.{◌≡◌, ℕ, ◌+◌, ◌≤◌, Bool, true, false, cond, List, [], ◌∷◌, ◌++◌, length, take, map, Option, Some, None, Result, Ok, Err, refl, sym, ap, ◌∙◌, subst, inl, inr, arith, length-append, append_assoc}
-use Rattle.std.specs.Prelude.{nat_le, find, is_some}
+use Rattle.std.specs.Prelude.{nat_le, find}
 use Rattle.std.specs.List.{enumerate_from}
-use Rattle.std.specs.Option.{option_map, option_map_or, option_and_then, option_or}
+use Rattle.std.specs.Option.{option_map}
 use Rattle.std.specs.Result.{result_ok}
 use Rattle.std.proofs.Math.Seq.{take-append_seam}
 use Rattle.std.proofs.lemmas.List.{append-nil, length-map, map-append}
@@ -12,19 +12,16 @@ use Rattle.std.proofs.lemmas.Bool.Decides.{nat_tests}
 use Rattle.deb_version.specs.Names.{is_name}
 use Rattle.deb_version.specs.Grammar.{is_version}
 use Rattle.stanza_reader.specs.Stanzas.{readings}
-use Rattle.stanza_reader.specs.declared.stanza.FieldKind.TheVariants.{Package, Version, Architecture, PreDepends, Depends, Conflicts, Breaks, Provides}
-use Rattle.stanza_reader.specs.declared.stanza.RawField.{RawField}
 use Rattle.stanza_reader.specs.declared.stanza.RawStanza.{RawStanza}
 use Rattle.stanza_reader.specs.declared.fault.StanzaFault.{StanzaFault}
-use Rattle.relation_fields.specs.Grammar.{is_architecture, atom_of, alternatives_of, provide_of}
 use Rattle.relation_fields.specs.declared.packages.PackageFacts.{PackageFacts}
 use Rattle.row_book.specs.Sets.{In, here, there}
 use Rattle.row_book.proofs.Lists.{In_append_cases, In_cases, In_none, find_none}
 use Rattle.repo_model.specs.Facts.{facts_of, is_same_package}
-use Rattle.repo_model.specs.Fields.{field_of}
-use Rattle.repo_model.specs.FirstFault.{first_some, missing, unless_good, bad_value, bad_relation, presence_fault, value_fault, own_fault, duplicate_fault, mixed_fault, stanza_fault, reading_fault, stanzas_in, stanzas_of, fault_behind, faults_from, first_fault, home_of}
+use Rattle.repo_model.specs.FirstFault.{first_some, own_fault, duplicate_fault, stanza_fault, reading_fault, stanzas_in, stanzas_of, fault_behind, faults_from, first_fault, home_of}
 use Rattle.repo_model.specs.declared.fault.IndexFault.{IndexFault}
-use Rattle.repo_model.specs.declared.fault.IndexFault.TheVariants.{Stanza, MissingPackage, MissingVersion, BadPackage, BadVersion, BadArchitecture, Duplicate, TooMany}
+use Rattle.repo_model.specs.declared.fault.IndexFault.TheVariants.{Stanza, Duplicate, TooMany}
+use Rattle.repo_model.proofs.WellFormed.{none_of, facts_well_formed}
 
 -- none is the package of an earlier one
 abbrev pub AreSingle : List PackageFacts → Type 0
@@ -40,43 +37,8 @@ pub record Accepted (packages : List PackageFacts) : Type 0 where
   pub single : AreSingle packages
   pub named : (s : PackageFacts) → In s packages → IsNamed s
 
--- of checks that find no fault, none does
-first_none : (check : Option IndexFault) (checks : List (Option IndexFault)) → first_some (check ∷ checks) ≡ None → (check ≡ None) × (first_some checks ≡ None)
-first_none None checks e = (refl, e)
-first_none (Some fault) checks e = absurd (let k : ⊥ = cc in k)
-
-either_none : (a b : Option IndexFault) → option_or a b ≡ None → (a ≡ None) × (b ≡ None)
-either_none None b e = (refl, e)
-either_none (Some fault) b e = absurd (let k : ⊥ = cc in k)
-
--- a field that is there and fits
-good_field : (good : List ℕ → Bool) (bad : ℕ → IndexFault) (field : RawField) → unless_good good bad field ≡ None → good field.value ≡ true
-good_field good bad field e = go (good field.value) e
-  where
-    go : (b : Bool) → cond b None (Some (bad field.line)) ≡ None → b ≡ true
-    go true h = refl
-    go false h = absurd (let k : ⊥ = cc in k)
-
-good_value : (good : List ℕ → Bool) (bad : ℕ → IndexFault) (lacking : IndexFault) (field : Option RawField) → cond (is_some field) None (Some lacking) ≡ None →
-    option_and_then (unless_good good bad) field ≡ None → good (option_map_or (λ f. f.value) field []) ≡ true
-good_value good bad lacking None found fit = absurd (let k : ⊥ = cc in k)
-good_value good bad lacking (Some field) found fit = good_field good bad field fit
-
 named_stanza : (stanza : RawStanza) → own_fault stanza ≡ None → IsNamed (facts_of stanza)
-unfolding facts_of presence_fault value_fault
-named_stanza stanza e =
-    let both = either_none (presence_fault stanza) (value_fault stanza) e in
-    let name_there = first_none (missing Package (MissingPackage stanza.line) stanza) (missing Version (MissingVersion stanza.line) stanza ∷ []) both.0 in
-    let version_there = first_none (missing Version (MissingVersion stanza.line) stanza) [] name_there.1 in
-    let relations : List (Option IndexFault) =
-    bad_relation PreDepends alternatives_of stanza ∷ bad_relation Depends alternatives_of stanza ∷ bad_relation Conflicts atom_of stanza ∷ bad_relation Breaks atom_of stanza ∷ bad_relation Provides provide_of stanza ∷ [] in
-    let name_good =
-    first_none (bad_value Package is_name BadPackage stanza) (bad_value Version is_version BadVersion stanza ∷ (bad_value Architecture is_architecture BadArchitecture stanza ∷ relations)) both.1 in
-    let version_good = first_none (bad_value Version is_version BadVersion stanza) (bad_value Architecture is_architecture BadArchitecture stanza ∷ relations) name_good.1 in
-    record {
-      name = good_value is_name BadPackage (MissingPackage stanza.line) (field_of Package stanza) name_there.0 name_good.0;
-      version = good_value is_version BadVersion (MissingVersion stanza.line) (field_of Version stanza) version_there.0 version_good.0;
-    }
+named_stanza stanza e = let both = facts_well_formed stanza (facts_of stanza) e refl in record { name = both.0; version = both.1 }
 
 -- no earlier package is the same
 new_stanza : (before : List PackageFacts) (stanza : RawStanza) → duplicate_fault before stanza ≡ None →
@@ -106,8 +68,8 @@ single_more (y ∷ ys) x s f = (
 accepted_more : (before : List RawStanza) (stanza : RawStanza) → length before + 1 ≤ 200000 → stanza_fault (map facts_of before) (home_of before) stanza ≡ None →
     Accepted (map facts_of before) → Accepted (map facts_of before ++ facts_of stanza ∷ [])
 accepted_more before stanza few e a =
-    let own = first_none (own_fault stanza) (duplicate_fault (map facts_of before) stanza ∷ mixed_fault (home_of before) stanza ∷ []) e in
-    let new = first_none (duplicate_fault (map facts_of before) stanza) (mixed_fault (home_of before) stanza ∷ []) own.1 in
+    let own = none_of (own_fault stanza) _ e in
+    let new = none_of (duplicate_fault (map facts_of before) stanza) _ own.1 in
     record {
       few = rw (length-append, length-map) few;
       single = single_more (map facts_of before) (facts_of stanza) a.single (new_stanza (map facts_of before) stanza new.0);
@@ -139,7 +101,7 @@ record Read (all front more : List (Result RawStanza StanzaFault)) : Type 0 wher
 
 read_more : (all front more : List (Result RawStanza StanzaFault)) (stanza : RawStanza) → Read all front (Ok stanza ∷ more) → Read all (front ++ Ok stanza ∷ []) more
 read_more all front more stanza r =
-    let both = first_none (fault_behind (take (length front) all) (Ok stanza)) (faults_from all (length front + 1) more) r.faultless in
+    let both = none_of (fault_behind (take (length front) all) (Ok stanza)) (first_some (faults_from all (length front + 1) more)) r.faultless in
     let before : take (length front) all ≡ front = ap (take (length front)) r.whole ∙ take-append_seam front (Ok stanza ∷ more) in
     let own : fault_behind front (Ok stanza) ≡ None = subst (λ xs. fault_behind xs (Ok stanza) ≡ None) before both.0 in
     let now = early (length front) (reading_fault (stanzas_in front) (Ok stanza)) own in
@@ -160,7 +122,7 @@ walk : (all front more : List (Result RawStanza StanzaFault)) → Read all front
 walk all front [] r = subst (λ xs. Accepted (map facts_of (stanzas_in xs))) (sym (r.whole ∙ append-nil front)) r.accepted
 walk all front (Ok stanza ∷ more) r = walk all (front ++ Ok stanza ∷ []) more (read_more all front more stanza r)
 walk all front (Err fault ∷ more) r =
-    let both = first_none (fault_behind (take (length front) all) (Err fault)) (faults_from all (length front + 1) more) r.faultless in
+    let both = none_of (fault_behind (take (length front) all) (Err fault)) (first_some (faults_from all (length front + 1) more)) r.faultless in
     let now = early (length (take (length front) all)) (Some (Stanza fault)) both.0 in
     let never : Some (Stanza fault) ≡ None = now.1 in
     absurd (let k : ⊥ = cc in k)

@@ -1,8 +1,9 @@
 -- The numbers of the packages that pass a test, and the clause of an element by the packages that meet its alternatives.
-use Rattle.std.proofs.Common.{◌≡◌, ℕ, suc, ◌+◌, ◌<◌, ◌↔◌, ◌++◌, Bool, true, false, ◌||◌, cond, List, [], ◌∷◌, length, get_or, filter, inl, inr, refl, sym, ap, ap₂, subst, ◌∙◌, add-zero, zero-add, eqb, arith}
+use Rattle.std.proofs.Common.{◌≡◌, ℕ, suc, ◌+◌, ◌<◌, ◌↔◌, ◌++◌, Bool, true, false, cond, List, [], ◌∷◌, length, get_or, filter, inl, inr, refl, sym, ap, subst, ◌∙◌, add-zero, zero-add, eqb, arith}
 use Rattle.std.specs.List.{flat_map, range_with_len, Contains, AllPairs, dedup}
 use Rattle.std.specs.List.Sorted.{IsPermutation, IsSorted}
 use Rattle.std.specs.Ordering.{nat_cmp}
+use Rattle.std.proofs.Math.Bool.{or-false}
 use Rattle.std.proofs.lemmas.List.Kept.{AllPairs-from_increasing, Contains-dedup_nat, Contains-from_dedup}
 use Rattle.std.proofs.lemmas.List.Sorted.{Contains-permutation, IsPermutation-sym}
 use Rattle.std.proofs.lemmas.Map.Keys.{IsStrictlyIncreasing-dedup}
@@ -12,7 +13,7 @@ use Rattle.relation_fields.specs.declared.packages.PackageFacts.{PackageFacts}
 use Rattle.relation_fields.specs.declared.relations.Atom.{Atom}
 use Rattle.row_book.specs.Clauses.{Ascending, Inside}
 use Rattle.row_book.specs.Sets.{In, here, there}
-use Rattle.row_book.proofs.Lists.{In_cases, In_none, In_append_cases, In_append_left, In_append_right, any_from, any_cases, ascending_filter, ascending_same}
+use Rattle.row_book.proofs.Lists.{In_cases, In_none, In_append_cases, In_append_left, In_append_right, any_from, any_cases, ascending_filter, ascending_same, filter_same}
 use Rattle.virtual_provides.specs.Bearers.{if_so}
 use Rattle.virtual_provides.specs.Numbers.{numbers_from, numbers_where}
 use Rattle.virtual_provides.proofs.Numbered.{numbers_from-cons}
@@ -47,19 +48,11 @@ number_cases test packages n i = chosen_cases packages (λ n. test (stanza_at pa
 pub number_from : (test : PackageFacts → Bool) (packages : List PackageFacts) (n : ℕ) → n < length packages → test (stanza_at packages n) ≡ true → In n (numbers_where test packages)
 number_from test packages n l h = subst (λ ns. In n ns) (sym (numbers_chosen test packages)) (chosen_from packages (λ n. test (stanza_at packages n)) n l h)
 
-pub filter_same : {A : Type 0} (p q : A → Bool) (xs : List A) → ((x : A) → In x xs → p x ≡ q x) → filter p xs ≡ filter q xs
-filter_same p q [] same = refl
-filter_same p q (x ∷ xs) same = ap₂ (λ b ys. cond b (x ∷ ys) ys) (same x here) (filter_same p q xs (λ y i. same y (there i)))
-
-or_false : (b : Bool) → b ≡ (b || false)
-or_false true = refl
-or_false false = refl
-
 -- the clause of an element of one alternative
 pub clause_single : (home : Home) (packages : List PackageFacts) (atom : Atom) → meeting home packages atom ≡ clause_of home packages (atom ∷ [])
 clause_single home packages atom =
     numbers_chosen (λ facts. meets atom facts home) packages
-    ∙ filter_same (λ n. meets atom (stanza_at packages n) home) (λ n. meets_any home (atom ∷ []) (stanza_at packages n)) (packages_of packages) (λ n i. or_false (meets atom (stanza_at packages n) home))
+    ∙ filter_same (λ n. meets atom (stanza_at packages n) home) (λ n. meets_any home (atom ∷ []) (stanza_at packages n)) (packages_of packages) (λ n i. sym (or-false (meets atom (stanza_at packages n) home)))
 
 pub clause_ascending : (home : Home) (packages : List PackageFacts) (element : List Atom) → Ascending (clause_of home packages element)
 clause_ascending home packages element = ascending_filter (λ n. meets_any home element (stanza_at packages n)) (packages_of packages) (range_ascending (length packages) 0)

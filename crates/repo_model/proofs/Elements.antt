@@ -1,24 +1,11 @@
 -- The places of a list's elements, and the numbers of a range.
-use Rattle.std.proofs.Common.{◌≡◌, ℕ, zero, suc, ◌<◌, ◌≤◌, ◌+◌, List, [], ◌∷◌, length, get_or, inl, inr, sym, subst, arith}
+use Rattle.std.proofs.Common.{ℕ, zero, suc, ◌<◌, ◌≤◌, ◌+◌, ◌∷◌, inl, inr, subst, arith}
 use Rattle.std.specs.List.{range_with_len}
 use Rattle.std.proofs.lemmas.Bool.{cases_eq}
+pub use Rattle.clause_pool.proofs.Lists.{In_at as at_place, In_place as place_of}
 use Rattle.row_book.specs.Clauses.{Ascending}
 use Rattle.row_book.specs.Sets.{In, here, there}
 use Rattle.row_book.proofs.Lists.{In_cases, In_none}
-
--- an element of a list, by its place
-pub at_place : {A : Type 0} (xs : List A) (n : ℕ) (d : A) → n < length xs → In (get_or xs n d) xs
-at_place [] n d l = absurd (omega arith)
-at_place (x ∷ xs) zero d l = here
-at_place (x ∷ xs) (suc n) d l = there (at_place xs n d (omega arith))
-
-pub place_of : {A : Type 0} (xs : List A) (x d : A) → In x xs → (n : ℕ) × (n < length xs) × (get_or xs n d ≡ x)
-place_of [] x d i = absurd (In_none i)
-place_of (y ∷ xs) x d i =
-    elim (In_cases i) [
-      | inl e ↦ (0, omega arith, sym e)
-      | inr j ↦ let w : (n : ℕ) × (n < length xs) × (get_or xs n d ≡ x) = place_of xs x d j in let l : w.0 < length xs = w.1 in (suc w.0, omega arith, w.2)
-    ]
 
 -- n numbers from k on
 pub range_from : (n k m : ℕ) → k ≤ m → m < k + n → In m (range_with_len k n)

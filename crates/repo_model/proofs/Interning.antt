@@ -29,16 +29,6 @@ clauses_kept a b k (id ∷ ids) within = ap₂ (λ c cs. c ∷ cs) (k.clauses id
 of_pool_kept : (a b : Interned) → Kept a b → (ids : List ℕ) → OfPool a ids → OfPool b ids
 of_pool_kept a b k ids within id i = (k.clauses id (within id i)).0
 
--- no clause yet
-pub ids_first : (pool : Interned) → HasIds pool pool [] []
-ids_first pool = record {
-  rows = refl;
-  kept = kept_same pool;
-  of_pool = λ id i. absurd (In_none i);
-  clauses = refl;
-  only = λ id l u. absurd (omega arith);
-}
-
 -- a clause is among those into which it was put
 pub placed_holds : (c : List ℕ) (ds : List (List ℕ)) → In c (placed c ds)
 placed_holds c [] = here
@@ -78,16 +68,6 @@ module _ (start old new : Interned) (clauses : List (List ℕ)) (ids more : List
       last other g u (inr pushed) =
           let e : length new.clauses ≡ length old.clauses + 1 = ap length pushed.1 ∙ length-append old.clauses (clause ∷ []) in
           ap (λ cs. get_or cs other []) pushed.1 ∙ get_or_push old.clauses clause [] other (omega arith)
-
--- no row yet
-pub rows_first : (pool : Interned) → HasRows pool pool [] []
-rows_first pool = record {
-  kept = kept_same pool;
-  within = λ row i. absurd (In_none i);
-  of_pool = λ row i. absurd (In_none i);
-  clauses = refl;
-  only = record { rows = λ id l u. absurd (omega arith); clauses = λ id l u. absurd (omega arith) };
-}
 
 only_one : (row other : ℕ) → In other (row ∷ []) → row ≡ other
 only_one row other i = elim (In_cases i) [ inl e ↦ sym e | inr j ↦ absurd (In_none j) ]

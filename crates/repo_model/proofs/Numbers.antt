@@ -1,6 +1,7 @@
 -- Loops over the numbers of stanzas.
 use Rattle.std.proofs.Common.{◌≡◌, ℕ, zero, suc, ◌<◌, ◌+◌, Bool, true, false, cond, List, [], ◌∷◌, ◌++◌, length, get_or, map, filter, refl, sym, ap, ◌∙◌, add-one, zero-add, arith}
 use Rattle.std.specs.List.{range_with_len}
+use Rattle.std.proofs.lemmas.List.{append-nil}
 use Rattle.std.proofs.lemmas.List.FromFn.{map-range_with_len_more}
 use Rattle.relation_fields.specs.declared.packages.PackageFacts.{PackageFacts}
 use Rattle.repo_model.specs.Stanzas.{no_stanza, stanza_at}
@@ -37,13 +38,9 @@ pub number_kept : (p : ℕ → Bool) (n : ℕ) (out new : List ℕ) → p n ≡ 
 number_kept p n out new passes sofar pushed =
     pushed ∙ ap (λ xs. xs ++ n ∷ []) sofar ∙ ap (λ b. filter p (range_with_len 0 n) ++ cond b (n ∷ []) []) (sym passes) ∙ sym (numbers_more p n)
 
-nothing_more : (xs : List ℕ) → xs ≡ xs ++ []
-nothing_more [] = refl
-nothing_more (x ∷ xs) = ap (λ ys. x ∷ ys) (nothing_more xs)
-
 pub number_left : (p : ℕ → Bool) (n : ℕ) (out : List ℕ) → p n ≡ false → out ≡ filter p (range_with_len 0 n) → out ≡ filter p (range_with_len 0 (n + 1))
 number_left p n out fails sofar =
-    sofar ∙ nothing_more (filter p (range_with_len 0 n)) ∙ ap (λ b. filter p (range_with_len 0 n) ++ cond b (n ∷ []) []) (sym fails) ∙ sym (numbers_more p n)
+    sofar ∙ sym (append-nil (filter p (range_with_len 0 n))) ∙ ap (λ b. filter p (range_with_len 0 n) ++ cond b (n ∷ []) []) (sym fails) ∙ sym (numbers_more p n)
 
 -- the value at one more number
 pub number_mapped : {A : Type 0} (f : ℕ → A) (n : ℕ) (out new : List A) (x : A) → x ≡ f n → out ≡ map f (range_with_len 0 n) → new ≡ out ++ x ∷ [] → new ≡ map f (range_with_len 0 (n + 1))

@@ -1,6 +1,7 @@
 -- The pairs that are found package by package are those of the packages that conflict.
-use Rattle.std.proofs.Common.{◌≡◌, ◌≢◌, ℕ, zero, suc, ◌+◌, ◌<◌, ◌≤◌, ◌++◌, ◌⊎◌, Bool, true, false, ◌&&◌, ◌||◌, eqb, List, [], ◌∷◌, length, get_or, map, filter, take, inl, inr, refl, sym, ap, ap₂, subst, ◌∙◌, eq-eqb, eqb-true, arith}
+use Rattle.std.proofs.Common.{◌≡◌, ◌≢◌, ℕ, zero, suc, ◌+◌, ◌<◌, ◌≤◌, ◌++◌, ◌⊎◌, Bool, true, ◌&&◌, ◌||◌, eqb, List, [], ◌∷◌, length, get_or, map, filter, take, inl, inr, refl, sym, ap, ap₂, subst, ◌∙◌, eq-eqb, eqb-true, arith}
 use Rattle.std.specs.Prelude.{max, min}
+use Rattle.std.specs.Cmp.{both_ways as bool_same}
 use Rattle.std.specs.List.{range_with_len}
 use Rattle.std.specs.Str.{bytes_eq}
 use Rattle.std.proofs.lemmas.Bool.{and_from, and_parts, cases_lt, or_cases, or_left, or_right}
@@ -14,13 +15,14 @@ use Rattle.row_book.specs.Book.{are_paired, lists_of_pairs, PairsFit}
 use Rattle.row_book.specs.Clauses.{numbers}
 use Rattle.row_book.specs.Sets.{In, here}
 use Rattle.row_book.specs.declared.pair.Pair.{Pair}
-use Rattle.row_book.proofs.Lists.{any_cases, any_from, In_append_cases, In_append_left, In_append_right, In_cases, In_none}
+use Rattle.row_book.proofs.Lists.{any_cases, any_from, In_append_cases, In_append_left, In_append_right, In_cases, In_none, filter_same}
 use Rattle.row_book.proofs.Order.{map_same}
+use Rattle.row_book.proofs.Pairs.{is_of}
 use Rattle.repo_model.specs.Meeting.{meeting}
 use Rattle.repo_model.specs.Pairs.{is_named, pair_of, Adds, IsAgainst, IsFound, IsNamesake, IsPairWith}
 use Rattle.repo_model.specs.Repository.{in_conflict, packages_of, rivals_of, stands_against}
 use Rattle.repo_model.specs.Stanzas.{no_stanza, stanza_at}
-use Rattle.repo_model.proofs.Chosen.{filter_same, number_cases, number_from}
+use Rattle.repo_model.proofs.Chosen.{number_cases, number_from}
 use Rattle.repo_model.proofs.Elements.{range_cases}
 use Rattle.repo_model.proofs.Form.{conflict_back, same_name}
 use Rattle.repo_model.proofs.Packages.{conflict_by_first, conflict_by_name, conflict_cases}
@@ -121,20 +123,12 @@ two_apart m n apart =
 two_below : (m n k : ℕ) → m < k → n < k → max m n < k
 two_below m n k l r = elim (sorted_two m n) [ inl w ↦ subst (λ z. z < k) (sym w.1) r | inr w ↦ subst (λ z. z < k) (sym w.1) l ]
 
-bool_same : (a b : Bool) → (a ≡ true → b ≡ true) → (b ≡ true → a ≡ true) → a ≡ b
-bool_same true b f g = sym (f refl)
-bool_same false true f g = g refl
-bool_same false false f g = refl
-
 numbers_range : (n k : ℕ) → numbers n k ≡ range_with_len k n
 unfolding numbers
 numbers_range zero k = refl
 numbers_range (suc n) k = ap (λ ns. k ∷ ns) (numbers_range n (suc k) ∙ ap (λ m. range_with_len m n) (omega arith))
 
 -- a pair of two packages is of them either way round
-abbrev is_of : ℕ → ℕ → Pair → Bool
-is_of p q pair = (eqb pair.low p && eqb pair.high q) || (eqb pair.low q && eqb pair.high p)
-
 named_two : (low high p q : ℕ) → AreTurned low high p q → ((eqb low p && eqb high q) || (eqb low q && eqb high p)) ≡ true
 named_two low high p q (inl w) = or_left (eqb low p && eqb high q) (eqb low q && eqb high p) (and_from (eqb low p) (eqb high q) (eq-eqb low p w.0) (eq-eqb high q w.1))
 named_two low high p q (inr w) = or_right (eqb low p && eqb high q) (eqb low q && eqb high p) (and_from (eqb low q) (eqb high p) (eq-eqb low q w.0) (eq-eqb high p w.1))

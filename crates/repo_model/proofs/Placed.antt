@@ -5,14 +5,9 @@ use Rattle.clause_pool.specs.Interned.{Interned, clause_at, clauses_at, OfPool}
 use Rattle.row_book.specs.Clauses.{comes_before, placed}
 use Rattle.row_book.specs.Sets.{In, there}
 use Rattle.row_book.proofs.Lists.{In_cases, In_append_cases, In_append_left, In_append_right}
-use Rattle.repo_model.proofs.Elements.{at_place}
 use Rattle.repo_model.proofs.Places.{placed_same, placed_new}
 
--- an element at a place is one of the list
-pub is_in : (ids : List ℕ) (n id : ℕ) → n < length ids → id ≡ get_or ids n id → In id ids
-is_in ids n id l is = subst (λ z. In z ids) (sym is) (at_place ids n id l)
-
--- and its clause is the one at that place
+-- the clause of an id at a place is the one at that place
 pub clause_there : (pool : Interned) (ids : List ℕ) (n id : ℕ) → n < length ids → id ≡ get_or ids n id → clause_at pool id ≡ get_or (clauses_at pool ids) n []
 clause_there pool ids n id l is = ap (clause_at pool) is ∙ sym (get_or-map (clause_at pool) ids n id [] l)
 

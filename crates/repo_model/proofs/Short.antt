@@ -4,10 +4,11 @@ use Rattle.std.specs.Prelude.{if◌then◌else◌}
 use Rattle.std.specs.List.{AllByRecursion, slice_split, onto_first, after_first, position_or_len, cons_option, filter}
 use Rattle.std.specs.Option.{option_map, option_or}
 use Rattle.std.proofs.lemmas.List.{length-append, length-drop}
+use Rattle.deb_version.specs.Grammar.{is_colon}
 use Rattle.stanza_reader.specs.Lines.{Line, is_line_feed, is_continuation, lines, numbered}
-use Rattle.stanza_reader.specs.Fields.{is_colon, is_edge, name_of, behind_colon, kind_of, trimmed_start, trimmed_end, before_trimmed, trimmed, continued}
+use Rattle.stanza_reader.specs.Fields.{is_edge, name_of, behind_colon, kind_of, trimmed_start, trimmed_end, before_trimmed, trimmed, continued}
 use Rattle.stanza_reader.specs.Places.{lines_at}
-use Rattle.stanza_reader.specs.Stanzas.{is_blank_line, has_line, groups, shape_fault, repeat_fault, first_number, texts, kept_field, kept_fields, unless_fault, stanza_of}
+use Rattle.stanza_reader.specs.Stanzas.{is_blank_line, has_line, groups, group_shape_fault, repeat_fault, first_number, texts, kept_field, kept_fields, unless_fault, stanza_of}
 use Rattle.stanza_reader.specs.Reading.{readings_at}
 use Rattle.stanza_reader.specs.declared.place.Place.{Place}
 use Rattle.stanza_reader.specs.declared.stanza.FieldKind.{FieldKind}
@@ -152,7 +153,7 @@ unfolding stanza_of
 first_fits n [] stanza more fit e = cc
 first_fits n (group ∷ parts) stanza more fit e =
     let own : stanza_of group ≡ Ok stanza = cc in
-    fit_more (size_of group) n stanza.fields fit.0 (stanza_fits (option_or (shape_fault group) (repeat_fault [] group)) group (first_number group) stanza own)
+    fit_more (size_of group) n stanza.fields fit.0 (stanza_fits (option_or (group_shape_fault group) (repeat_fault [] group)) group (first_number group) stanza own)
 
 shorter : (n : ℕ) (fields : List RawField) → n ≤ 1073741825 → FitEach n fields → AllByRecursion IsShort fields
 shorter n [] h fit = tt

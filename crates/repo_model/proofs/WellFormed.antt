@@ -16,7 +16,8 @@ use Rattle.repo_model.specs.FirstFault.{missing, unless_good, bad_value, presenc
 use Rattle.repo_model.specs.declared.fault.IndexFault.{IndexFault}
 use Rattle.repo_model.specs.declared.fault.IndexFault.TheVariants.{MissingPackage, MissingVersion, BadPackage, BadVersion}
 
-none_of : (there more : Option IndexFault) → option_or there more ≡ None → (there ≡ None) × (more ≡ None)
+-- where neither of two checks finds a fault, each finds none
+pub none_of : (there more : Option IndexFault) → option_or there more ≡ None → (there ≡ None) × (more ≡ None)
 none_of None more e = (refl, e)
 none_of (Some fault) more e = cc
 

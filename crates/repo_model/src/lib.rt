@@ -1,4 +1,4 @@
-//! The packages of an index, or its first fault.
+//! A suite: the packages of an index, or its first fault, and the repository of the packages.
 #![tactic(auto)]
 
 mod building;

@@ -4,7 +4,7 @@ ghost use Rattle.std.specs.List.{AllByRecursion};
 ghost use Rattle.std.specs.Option.{option_and_then, option_or};
 ghost use Rattle.relation_fields.specs.Grammar.{atom_of, alternatives_of, provide_of};
 ghost use Rattle.relation_fields.specs.Fields.{first_outside, said_in};
-ghost use Rattle.relation_fields.specs.Refusals.{OnShape};
+ghost use Rattle.relation_fields.specs.Refusals.{OnFaultyElement};
 ghost use Rattle.repo_model.specs.Fields.{field_among, value_among, IsShort};
 ghost use Rattle.repo_model.specs.FirstFault.{unless_said};
 ghost use Rattle.repo_model.specs.Refusals.{Answers};
@@ -28,7 +28,7 @@ pub(crate) trait Relation: Drop {
         requires { length value.now < 4294967295 }
         ensures said { IfOk result (λ all. all ≡ said_in reading value.now) }
         ensures accepted { OnOk result (first_outside reading value.now ≡ None) }
-        ensures shape { IfErr result (OnShape (λ element. first_outside reading value.now ≡ Some element)) };
+        ensures shape { IfErr result (OnFaultyElement (λ element. first_outside reading value.now ≡ Some element)) };
 }
 
 impl Relation for AtomList {

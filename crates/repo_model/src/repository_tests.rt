@@ -95,7 +95,7 @@ fn suite_of(alloc: Global, text: &[u8]) -> Result<Suite, Fail> {
     Ok(read_suite(alloc, text).ok().ok_or("a fault")?)
 }
 
-const REPOSITORIES: [(&[u8], &[u8]); 7] = [
+const REPOSITORIES: [(&[u8], &[u8]); 10] = [
     (b"", b""),
     (
         b"Package: a\nVersion: 1\nDepends: x (>= 2), x\n\nPackage: b\nVersion: 1\nProvides: x\n\nPackage: c\nVersion: 1\nProvides: x (= 2)\n\nPackage: x\nVersion: 1\n",
@@ -120,6 +120,18 @@ const REPOSITORIES: [(&[u8], &[u8]); 7] = [
     (
         b"Package: a\nVersion: 1\nDepends: c | b, b | c, b, a\n\nPackage: b\nVersion: 1\n\nPackage: c\nVersion: 1\n",
         b"[( 0)( 1)( 1 2)|][|][|]",
+    ),
+    (
+        b"Package: a\nVersion: 1\n\nPackage: a\nVersion: 2\nConflicts: a\n\nPackage: a\nVersion: 3\n",
+        b"[| 1 2][| 0 2][| 0 1]",
+    ),
+    (
+        b"Package: a\nVersion: 1\nPre-Depends: b | a, zz\nDepends: , a,\n\nPackage: b\nVersion: 1\nConflicts: a (<< 1), c\nProvides: c (= 1)\n\nPackage: c\nVersion: 2\n",
+        b"[()( 0)( 0 1)|][| 2][| 1]",
+    ),
+    (
+        b"Package: a\nVersion: 1\nArchitecture: all\nDepends: b:all, b:amd64\n\nPackage: b\nVersion: 1\n",
+        b"[()( 1)|][|]",
     ),
 ];
 

@@ -60,7 +60,7 @@ fn show(alloc: Global, text: &[u8]) -> Result<Vec<u8>, AllocError> {
     Ok(out)
 }
 
-const READINGS: [(&[u8], &[u8]); 29] = [
+const READINGS: [(&[u8], &[u8]); 31] = [
     (b"", b""),
     (b"\n \n", b""),
     (
@@ -87,6 +87,10 @@ const READINGS: [(&[u8], &[u8]); 29] = [
         b"line 2: no Package field",
     ),
     (b"x: y", b"line 1: no Package field"),
+    (
+        b"Package: a\nVersion: 1\n\n \n\nX: y\nVersion: 1\n",
+        b"line 6: no Package field",
+    ),
     (b"Package:\nVersion:\n", b"line 1: bad Package value"),
     (b"Version: -\nPackage: a\r\n", b"line 2: bad Package value"),
     (b"Package: a\nVersion: \n", b"line 2: bad Version value"),
@@ -129,6 +133,10 @@ const READINGS: [(&[u8], &[u8]); 29] = [
     (
         b"Package: a\nVersion: 1.\n\nPackage: b\nVersion: 1.0\n\nPackage: a\nVersion: 0:01.0\nArchitecture: amd64\n\nx",
         b"line 7: same package as line 1",
+    ),
+    (
+        b"X: y\nPackage: a\nVersion: 1\n\nX: y\n z\nVersion: 1\nPackage: a\n",
+        b"line 5: same package as line 1",
     ),
     (
         b"Package: a\nVersion: 1\nArchitecture: amd64\n\nPackage: b\nVersion: 1\nArchitecture: arm64\n",

@@ -5,8 +5,8 @@ use Rattle.std.specs.List.{slice_split, before_first, after_first}
 use Rattle.std.proofs.lemmas.List.{length-drop}
 use Rattle.stanza_reader.specs.Lines.{Line, is_line_feed, is_blank, numbered, lines}
 use Rattle.stanza_reader.specs.Places.{lines_at}
-use Rattle.stanza_reader.specs.Stanzas.{groups, is_blank_line, has_line, first_group, behind_blank, behind_group, shape_fault, repeat_fault, kept_fields, first_number, stanza_of}
-use Rattle.stanza_reader.specs.Reading.{UnlessMemory}
+use Rattle.stanza_reader.specs.Stanzas.{groups, is_blank_line, has_line, first_group, behind_blank, behind_group, group_shape_fault, repeat_fault, kept_fields, first_number, stanza_of}
+use Rattle.stanza_reader.specs.Reading.{OnTextFault}
 use Rattle.stanza_reader.specs.declared.place.Place.{Place}
 use Rattle.stanza_reader.specs.declared.stanza.RawField.{RawField}
 use Rattle.stanza_reader.specs.declared.fault.StanzaFault.{StanzaFault}
@@ -14,22 +14,22 @@ use Rattle.stanza_reader.specs.declared.fault.StanzaFault.TheVariants.{NoColon, 
 use Rattle.stanza_reader.proofs.LineLemmas.{lines_first}
 
 -- what holds in any case holds for each fault of a text
-pub for_fault : (fault : StanzaFault) {P : Type 0} → P → UnlessMemory fault P
+pub for_fault : (fault : StanzaFault) {P : Type 0} → P → OnTextFault fault P
 for_fault (NoColon line) h = h
 for_fault (BadName line) h = h
 for_fault (LoneContinuation line) h = h
 for_fault (Repeated line) h = h
 for_fault Memory h = tt
 
-pub shape_refused : (group : List Line) (fault : StanzaFault) → Some fault ≡ shape_fault group → UnlessMemory fault (stanza_of group ≡ Err fault)
+pub shape_refused : (group : List Line) (fault : StanzaFault) → Some fault ≡ group_shape_fault group → OnTextFault fault (stanza_of group ≡ Err fault)
 unfolding stanza_of
 shape_refused group fault e = for_fault fault (rw (← e) refl)
 
-pub repeat_refused : (group : List Line) (fault : StanzaFault) → None ≡ shape_fault group → Some fault ≡ repeat_fault [] group → UnlessMemory fault (stanza_of group ≡ Err fault)
+pub repeat_refused : (group : List Line) (fault : StanzaFault) → None ≡ group_shape_fault group → Some fault ≡ repeat_fault [] group → OnTextFault fault (stanza_of group ≡ Err fault)
 unfolding stanza_of
 repeat_refused group fault none e = for_fault fault (rw (← none, ← e) refl)
 
-pub accepted : (group : List Line) (number : ℕ) (fields : List RawField) → None ≡ shape_fault group → None ≡ repeat_fault [] group → first_number group ≡ number → fields ≡ kept_fields group
+pub accepted : (group : List Line) (number : ℕ) (fields : List RawField) → None ≡ group_shape_fault group → None ≡ repeat_fault [] group → first_number group ≡ number → fields ≡ kept_fields group
     → stanza_of group ≡ Ok record { line = number; fields = fields }
 unfolding stanza_of
 accepted group number fields none once first kept = rw (← none, ← once, first, kept) refl

@@ -4,7 +4,7 @@ use Rattle.std.proofs.lemmas.List.{drop_all}
 use Rattle.stanza_reader.specs.Lines.{Line, is_blank, lines, numbered}
 use Rattle.stanza_reader.specs.Places.{lines_at}
 use Rattle.stanza_reader.specs.Stanzas.{groups, has_line, first_group, behind_blank, behind_group, stanza_of, readings, all_or_fault, with_first, stanzas}
-use Rattle.stanza_reader.specs.Reading.{UnlessMemory, readings_at, first_reading}
+use Rattle.stanza_reader.specs.Reading.{OnTextFault, readings_at, first_reading}
 use Rattle.stanza_reader.specs.declared.place.Place.{Place}
 use Rattle.stanza_reader.specs.declared.stanza.RawStanza.{RawStanza}
 use Rattle.stanza_reader.specs.declared.fault.StanzaFault.{StanzaFault}
@@ -41,7 +41,7 @@ readings_at-stanza bytes at start second after line stanza skipped full first be
     let passed : behind_group (lines_at bytes start) ≡ lines_at bytes after = ap behind_group first ∙ behind_first record { number = start.line; text = line } (lines_at bytes second) _ refl (rw first at full) ∙ sym behind in
     readings_at-group bytes at start skipped full ∙ rw (found, passed) refl
 
-for_same : (fault : StanzaFault) {P Q : Type 0} → (P → Q) → UnlessMemory fault P → UnlessMemory fault Q
+for_same : (fault : StanzaFault) {P Q : Type 0} → (P → Q) → OnTextFault fault P → OnTextFault fault Q
 for_same (NoColon line) step h = step h
 for_same (BadName line) step h = step h
 for_same (LoneContinuation line) step h = step h
@@ -50,7 +50,7 @@ for_same Memory step h = tt
 
 -- a fault is next
 pub readings_at-fault : (bytes : List ℕ) (at start : Place) (fault : StanzaFault) → lines_at bytes start ≡ behind_blank (lines_at bytes at) → has_line (first_group (lines_at bytes start)) ≡ true
-    → UnlessMemory fault (stanza_of (first_group (lines_at bytes start)) ≡ Err fault) → UnlessMemory fault (first_reading (readings_at bytes at) ≡ Some (Err fault))
+    → OnTextFault fault (stanza_of (first_group (lines_at bytes start)) ≡ Err fault) → OnTextFault fault (first_reading (readings_at bytes at) ≡ Some (Err fault))
 readings_at-fault bytes at start fault skipped full = for_same fault (λ h. ap first_reading (readings_at-group bytes at start skipped full) ∙ ap Some h)
 
 -- stanzas before others, where none of those has a fault

@@ -10,7 +10,7 @@ use crate::fields::kept_fields;
 use crate::lines::is_blank;
 use crate::place::{Place, next_line};
 use crate::repeats::repeat_fault;
-use crate::shape::shape_fault;
+use crate::shape::group_shape_fault;
 use crate::stanza::RawStanza;
 use std::alloc::Global;
 
@@ -58,7 +58,7 @@ pub(crate) fn read_group(alloc: Global, bytes: &[u8], at: Place) -> Result<RawSt
     requires full { has_line (first_group (lines_at bytes.now at)) ≡ true }
     ensures { Gives result (stanza_of (first_group (lines_at bytes.now at))) }
 {
-    if let Some(fault) = shape_fault(bytes, at) {
+    if let Some(fault) = group_shape_fault(bytes, at) {
         return Err(fault);
     }
     if let Some(fault) = repeat_fault(alloc, bytes, at)? {

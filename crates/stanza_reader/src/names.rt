@@ -2,7 +2,8 @@
 
 ghost use Rattle.std.specs.Prelude.{◌≡◌};
 ghost use Rattle.std.specs.List.{list_all, list_any};
-ghost use Rattle.stanza_reader.specs.Fields.{is_colon, is_name_byte, is_field_name, kind_of, name_of};
+ghost use Rattle.deb_version.specs.Grammar.{is_colon};
+ghost use Rattle.stanza_reader.specs.Fields.{is_field_name_byte, is_field_name, kind_of, name_of};
 
 use crate::stanza::FieldKind;
 use memchr::memchr;
@@ -35,7 +36,7 @@ pub(crate) fn is_field_name(text: &[u8]) -> bool
 }
 
 fn has_name_bytes(text: &[u8]) -> bool
-    ensures { result ≡ list_all is_name_byte text.now }
+    ensures { result ≡ list_all is_field_name_byte text.now }
 {
     text.iter()
         .all(|byte| 33 <= *byte && *byte <= 126 && *byte != b':')

@@ -21,8 +21,7 @@ pub enum Next {
 /// Reads the first stanza from a place on, or finds that only blank lines are left.
 ///
 /// The place is any at which a line begins, with that line's number: offset 0 and line 1, or one that this call gave
-/// for the same bytes. The error is the first fault of
-/// that stanza, or want of memory.
+/// for the same bytes. The error is the first fault of that stanza, or want of memory.
 pub fn next_stanza(alloc: Global, bytes: &[u8], at: Place) -> Result<Next, StanzaFault>
     requires { IsPlace bytes.now at }
     // It is what is read there, and the place behind a stanza has what is read after it.

@@ -2,7 +2,7 @@
 
 ghost use Rattle.std.specs.Prelude.{◌≡◌};
 ghost use Rattle.stanza_reader.specs.Places.{IsPlace, lines_at};
-ghost use Rattle.stanza_reader.specs.Stanzas.{line_fault, first_line_fault, shape_fault, first_group};
+ghost use Rattle.stanza_reader.specs.Stanzas.{line_fault, first_line_fault, group_shape_fault, first_group};
 
 use crate::fault::StanzaFault;
 use crate::lines::{is_blank, is_continuation};
@@ -10,9 +10,9 @@ use crate::names::{has_colon, is_field_name, name_of};
 use crate::place::{Place, next_line};
 
 /// The fault in the shape of the group of lines at a place, the first one.
-pub(crate) fn shape_fault(bytes: &[u8], at: Place) -> Option<StanzaFault>
+pub(crate) fn group_shape_fault(bytes: &[u8], at: Place) -> Option<StanzaFault>
     requires { IsPlace bytes.now at }
-    ensures { result ≡ shape_fault (first_group (lines_at bytes.now at)) }
+    ensures { result ≡ group_shape_fault (first_group (lines_at bytes.now at)) }
 {
     if bytes.len() as u64 <= at.offset {
         return None;

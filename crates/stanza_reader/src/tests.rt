@@ -12,7 +12,7 @@ const INDEX: &[u8] =
 const NO_COLON: &[u8] =
     b"Package: hello\nVersion: 2.10-3\nArchitecture: amd64\nMulti-Arch: foreign\nDepends libc6\nSection: devel\n\nPackage: libc6\nPackage: libc6";
 
-const READINGS: [(&[u8], &[u8]); 31] = [
+const READINGS: [(&[u8], &[u8]); 38] = [
     (b"", b""),
     (b" \n\t\n\n \t", b""),
     (b"Package: a", b"[1 Package@1=a]"),
@@ -56,6 +56,22 @@ const READINGS: [(&[u8], &[u8]); 31] = [
         b"[1 Package@1=a][3 Version@3=1]",
     ),
     (b"Package_: a\nxPackage: b\nPackag: c", b"[1]"),
+    (
+        b"Depends: \t \nVersion:\n\t1 \n  ",
+        b"[1 Depends@1= Version@2=1]",
+    ),
+    (
+        b"Depends: a\n \r\nStatus: s",
+        b"[1 Depends@1=a\n \r Status@3=s]",
+    ),
+    (
+        b"Package: \x00\xff\n \x00\xc2\xa0",
+        b"[1 Package@1=\x00\xff\n \x00\xc2\xa0]",
+    ),
+    (b"a: 1\n\x0c\n", b"NoColon { line: 2 }"),
+    (b"a: 1\n\xc2\xa0: 2", b"BadName { line: 2 }"),
+    (b"x[: 1\nx{: 2\nx`: 3\nx@: 4", b"[1]"),
+    (b":", b"BadName { line: 1 }"),
 ];
 
 fn show_stanza(alloc: Global, stanza: &RawStanza, out: &mut Vec<u8>) -> Result<(), AllocError> {
@@ -84,6 +100,23 @@ fn show(alloc: Global, text: &[u8]) -> Result<Vec<u8>, AllocError> {
 fn readings(rt: HostRuntime) -> Result<(), Fail> {
     for (text, reading) in READINGS {
         assert_eq!(rt; show(rt.alloc(), text)?.as_slice(), reading);
+    }
+    Ok(())
+}
+
+#[test]
+fn faults_are_told(rt: HostRuntime) -> Result<(), Fail> {
+    for (fault, told) in [
+        (StanzaFault::NoColon { line: 5 }, "line 5: no colon"),
+        (StanzaFault::BadName { line: 5 }, "line 5: bad field name"),
+        (
+            StanzaFault::LoneContinuation { line: 5 },
+            "line 5: continuation before any field",
+        ),
+        (StanzaFault::Repeated { line: 5 }, "line 5: field repeated"),
+        (StanzaFault::Memory, "out of memory"),
+    ] {
+        assert_eq!(rt; format!(in rt.alloc(); "{fault}")?.as_str(), told);
     }
     Ok(())
 }

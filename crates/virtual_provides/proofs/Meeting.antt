@@ -4,20 +4,12 @@ use Rattle.std.specs.Prelude.{◌&&◌, ◌||◌}
 use Rattle.std.specs.List.{list_any}
 use Rattle.std.specs.Option.{option_map_or}
 use Rattle.std.specs.Str.{bytes_eq}
-use Rattle.std.proofs.lemmas.Bool.{false≢true}
-use Rattle.relation_fields.specs.Meeting.{meets, fits, is_ignored, is_named, is_provided_by}
+use Rattle.std.proofs.lemmas.Bool.{and_parts, false≢true}
+use Rattle.relation_fields.specs.Meeting.{meets, fits, is_ignored, is_met_by_name, is_provided_by}
 use Rattle.relation_fields.specs.declared.relations.Atom.{Atom}
 use Rattle.relation_fields.specs.declared.packages.Home.{Home}
 use Rattle.relation_fields.specs.declared.packages.PackageFacts.{PackageFacts}
 use Rattle.virtual_provides.specs.Bearers.{bears}
-
-both_left : (a b : Bool) → (a && b) ≡ true → a ≡ true
-both_left true b e = refl
-both_left false b e = e
-
-both_right : (a b : Bool) → (a && b) ≡ true → b ≡ true
-both_right true b e = e
-both_right false b e = absurd (false≢true e)
 
 either_wider : (a b c d : Bool) → (a ≡ true → c ≡ true) → (b ≡ true → d ≡ true) → (a || b) ≡ true → (c || d) ≡ true
 either_wider true b true d f g e = refl
@@ -32,10 +24,7 @@ list_any-wider p q wider (x ∷ xs) e = either_wider (p x) (list_any p xs) (q x)
 pub bears_met : (atom : Atom) (home : Home) (facts : PackageFacts) → meets atom facts home ≡ true → bears atom.name facts ≡ true
 unfolding meets
 bears_met atom home facts e =
-    either_wider (is_named atom facts) (list_any (is_provided_by atom home) facts.provides) (bytes_eq atom.name facts.name) (list_any (λ provide. bytes_eq atom.name provide.name) facts.provides)
-    (both_left (bytes_eq atom.name facts.name) (option_map_or (fits facts.version) atom.bound true))
-    (list_any-wider (is_provided_by atom home) (λ provide. bytes_eq atom.name provide.name)
-    (λ provide h. both_left (bytes_eq atom.name provide.name) (option_map_or (λ bound. option_map_or (λ version. fits version bound) provide.version false) atom.bound true)
-    (both_right (is_ignored provide.qualifier home) (bytes_eq atom.name provide.name && option_map_or (λ bound. option_map_or (λ version. fits version bound) provide.version false) atom.bound true) h))
-    facts.provides)
-    (both_right (is_ignored atom.qualifier home) (is_named atom facts || list_any (is_provided_by atom home) facts.provides) e)
+    either_wider (is_met_by_name atom facts) (list_any (is_provided_by atom home) facts.provides) (bytes_eq atom.name facts.name) (list_any (λ provide. bytes_eq atom.name provide.name) facts.provides)
+    (λ h. (and_parts _ _ h).0)
+    (list_any-wider (is_provided_by atom home) (λ provide. bytes_eq atom.name provide.name) (λ provide h. (and_parts _ _ (and_parts _ _ h).1).0) facts.provides)
+    (and_parts _ _ e).1

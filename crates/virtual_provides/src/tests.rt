@@ -2,7 +2,7 @@
 use super::{NameTable, NumbersByName};
 use deb_version::{Bytes, Version};
 use relation_fields::{
-    Atom, AtomList, ElementList, Home, PackageFacts, parse_against, parse_provides,
+    AtomList, ElementList, Home, PackageFacts, ProvideList, parse_against, parse_provides,
 };
 use std::alloc::Global;
 use std::test::Fail;
@@ -36,7 +36,7 @@ const MEETINGS: [(&str, &[u32]); 14] = [
     ("X", &[]),
 ];
 
-fn provides_of(alloc: Global, text: &str) -> Result<relation_fields::ProvideList, Fail> {
+fn provides_of(alloc: Global, text: &str) -> Result<ProvideList, Fail> {
     let bytes = text.as_bytes();
     if bytes.len() > 1000 {
         return Err("a long field".into());

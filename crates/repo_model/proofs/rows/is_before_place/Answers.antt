@@ -1,10 +1,11 @@
 use Rattle.std.proofs.Common.{◌∙◌, ap}
 use Rattle.row_book.specs.Clauses.{comes_before}
-use Rattle.repo_model.proofs.Placed.{clause_there, is_in}
+use Rattle.row_book.proofs.Lists.{item_in}
+use Rattle.repo_model.proofs.Placed.{clause_there}
 use Rattle.repo_model.proofs.rows.is_before_place.Goals as goal
 
 pub slice-requires : goal.slice-requires
-slice-requires c = c.requires.of_pool _ (is_in c.args.ids.now c.args.place c.index-ids-place.result c.requires.place c.index-ids-place.is)
+slice-requires c = c.requires.of_pool _ (item_in c.args.ids.now c.args.place c.index-ids-place.result c.requires.place c.index-ids-place.is)
 
 pub returns : goal.returns
 returns c =

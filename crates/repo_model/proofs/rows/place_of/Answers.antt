@@ -2,11 +2,12 @@ use Rattle.std.proofs.Common.{◌≡◌, ◌∙◌, true, [], ap, get_or, sym, a
 use borrow.Author.Count.{below_more}
 use Rattle.clause_pool.specs.Interned.{clauses_at}
 use Rattle.row_book.specs.Clauses.{comes_before}
-use Rattle.repo_model.proofs.Placed.{clause_there, is_in}
+use Rattle.row_book.proofs.Lists.{item_in}
+use Rattle.repo_model.proofs.Placed.{clause_there}
 use Rattle.repo_model.proofs.rows.place_of.Goals as goal
 
 pub slice-requires : goal.slice-requires
-slice-requires c = c.requires _ (is_in c.args.ids.now c.loop-place.place c.index-ids-place.result (omega arith) c.index-ids-place.is)
+slice-requires c = c.requires _ (item_in c.args.ids.now c.loop-place.place c.index-ids-place.result (omega arith) c.index-ids-place.is)
 
 pub loop-place-preserved : goal.loop-place-preserved
 loop-place-preserved c =

@@ -7,9 +7,9 @@ returns-in-Some c = shape_refused _ c.in-Some.fault c.in-Some.ensures
 
 pub returns-in-Some-2 : goal.returns-in-Some-2
 returns-in-Some-2 c =
-    repeat_refused _ c.in-Some-2.fault (sym c.in_default.is ∙ c.shape_fault.ensures) (sym c.in-Some-2.is ∙ c.in_ok-fault.ensures)
+    repeat_refused _ c.in-Some-2.fault (sym c.in_default.is ∙ c.group_shape_fault.ensures) (sym c.in-Some-2.is ∙ c.in_ok-fault.ensures)
 
 pub returns : goal.returns
 returns c =
-    accepted _ c.args.at.line c.in_ok-fields.fields (sym c.in_default.is ∙ c.shape_fault.ensures) (sym c.in_default-2.is ∙ c.in_ok-fault.ensures)
+    accepted _ c.args.at.line c.in_ok-fields.fields (sym c.in_default.is ∙ c.group_shape_fault.ensures) (sym c.in_default-2.is ∙ c.in_ok-fault.ensures)
     (number_at c.args.bytes.now c.args.at c.requires.more c.requires.full) c.in_ok-fields.ensures

@@ -1,8 +1,12 @@
 //! The program `coinst`: the words, the files and the streams of the process, handed to the top call.
 #![tactic(auto)]
 
+ghost use Rattle.std.specs.Prelude.{◌≡◌};
+ghost use Rattle.std.specs.Process.{exit_status};
+ghost use Rattle.coinst_run.specs.Status.{code_of};
+
 use byte_flow::{FileShelf, StdSink};
-use coinst_run::run;
+use coinst_run::{Status, run};
 use std::process::ExitCode;
 use std::{env, io};
 
@@ -15,6 +19,13 @@ fn words_of(rt: &HostRuntime) -> io::Result<Vec<String>> {
     Ok(words.skip(1).collect(rt.alloc())?)
 }
 
+// How the process ends after a run with the status.
+fn exit_code(status: Status) -> ExitCode
+    ensures { exit_status result ≡ code_of status }
+{
+    ExitCode::from(status.code())
+}
+
 fn main(rt: HostRuntime) -> ExitCode {
     let Ok(words) = words_of(&rt) else {
         return ExitCode::from(NO_WORDS);
@@ -23,5 +34,5 @@ fn main(rt: HostRuntime) -> ExitCode {
     let mut out = StdSink::over(rt.stdout());
     let mut err = StdSink::over(rt.stderr());
     let status = run(rt.alloc(), words.as_slice(), &mut shelf, &mut out, &mut err);
-    ExitCode::from(status.code())
+    exit_code(status)
 }

@@ -1,12 +1,13 @@
 -- The outcome of a file, by what was read of it.
-use Rattle.std.proofs.Common.{◌≡◌, ℕ, ◌<◌, ◌≤◌, cond, List, length, map, Option, Some, None, refl, sym, ap, subst, ◌∙◌, arith, lt-ltb, le-ltb}
+use Rattle.std.proofs.Common.{◌≡◌, ℕ, ◌<◌, ◌≤◌, cond, List, length, map, Option, Some, None, refl, sym, ap, subst, ◌∙◌, arith, lt-ltb, le-ltb, Result, Ok, Err}
 use Rattle.std.specs.Prelude.{IfSome, IsSomeAnd}
 use Rattle.byte_flow.specs.Flow.{Files, FileIs, FileIsLonger}
 use Rattle.coinst_run.specs.declared.limit.PassedLimit.{PassedLimit}
 use Rattle.coinst_run.specs.declared.status.Status.TheVariants.{ClauseLimit, TooLarge}
 use Rattle.coinst_run.specs.declared.work.FileError.{FileError}
 use Rattle.coinst_run.specs.declared.work.FileError.TheVariants.{Limited}
-use Rattle.coinst_run.specs.FileReport.{IsOfText, OnRefused}
+use Rattle.coinst_run.specs.declared.work.FileError.TheVariants as file
+use Rattle.coinst_run.specs.FileReport.{HasRead, IsOfText, OnReadFile, OnRefused, ReadsFile}
 use Rattle.coinst_run.specs.Index.{home_in, packages_in}
 use Rattle.coinst_run.specs.IndexKernel.{index_kernel, index_kernel_text, index_members}
 use Rattle.coinst_run.specs.KernelText.{kernel_text}
@@ -103,3 +104,28 @@ pub limit_is_told : (path : List ℕ) (limit : ℕ) (packages : List PackageFact
     passes R limit ≡ Some passed → told ≡ passed_limit packages limit passed → OnRefused path (Limited told) (of_accepted path limit home packages)
 limit_is_told path limit packages home R passed told is passes_it same =
     ap (of_packages path limit home packages) (ap (λ S. passes S limit) (sym is) ∙ passes_it) ∙ ap (λ t. refused ClauseLimit (limit_line path t)) (sym same)
+
+-- a file that was read whole, and one that is too long
+pub whole_read : (contents : Option Files) (path text : List ℕ) (moved : ℕ) → FileIs contents path text → length text ≤ 1073741824 → moved ≡ length text → ReadsFile contents path moved
+whole_read None path text moved is fits all = tt
+whole_read (Some files) path text moved is fits all =
+    subst (λ file. IfSome file (λ t. HasRead t moved)) (sym is)
+    (record { whole = λ short. all; past = λ longer. (let e : file_limit ≡ 1073741824 = limit_is in omega arith) })
+
+pub past_read : (contents : Option Files) (path : List ℕ) (moved : ℕ) → FileIsLonger contents path 1073741824 → 1073741824 < moved → ReadsFile contents path moved
+past_read None path moved longer past = tt
+past_read (Some files) path moved longer past = go (files path) longer
+  where
+    go : (file : Option (List ℕ)) → IsSomeAnd file (λ bytes. 1073741824 < length bytes) → IfSome file (λ text. HasRead text moved)
+    go None h = tt
+    go (Some text) h = record { whole = λ short. (let e : file_limit ≡ 1073741824 = limit_is in omega arith); past = λ longer. (let e : file_limit ≡ 1073741824 = limit_is in omega arith) }
+
+-- a fact that holds however the report ended
+pub however_read : {R P : Type 0} (result : Result R FileError) → P → OnReadFile P result
+however_read (Ok report) h = h
+however_read (Err file.Unread) h = tt
+however_read (Err file.TooLong) h = h
+however_read (Err file.TooMany) h = h
+however_read (Err (file.Faulty fault)) h = h
+however_read (Err (file.Limited passed)) h = h
+however_read (Err file.Memory) h = tt

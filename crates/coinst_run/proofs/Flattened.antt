@@ -1,16 +1,16 @@
 -- The form of a flattened repository: as many packages, the rows over the core as clauses, and the same conflicts.
-use Rattle.std.proofs.Common.{◌≡◌, ℕ, suc, ◌+◌, ◌<◌, ◌≤◌, true, List, [], length, inl, inr, Option, Some, None, ◌∷◌, refl, sym, ◌∙◌, ap, subst, arith, map}
+use Rattle.std.proofs.Common.{◌≡◌, ℕ, suc, ◌+◌, ◌<◌, ◌≤◌, List, [], length, inl, inr, Option, Some, None, ◌∷◌, refl, sym, ◌∙◌, ap, subst, arith, map}
 use Rattle.std.specs.List.{find}
-use Rattle.std.specs.Option.{option_map, option_or}
+use Rattle.std.specs.Option.{option_map}
 use Rattle.std.specs.Prelude.{ltb}
 use Rattle.std.proofs.lemmas.Bool.{cases_lt}
 use Rattle.std.proofs.lemmas.List.{get_or_past}
 use Rattle.row_book.specs.Sets.{In, here, there}
 use Rattle.row_book.specs.Clauses.{Ascending, InOrder, numbers}
-use Rattle.row_book.specs.Repository.{Repository, clauses_of, conflicts_of}
+use Rattle.row_book.specs.Repository.{Repository, clauses_of}
 use Rattle.row_book.specs.Support.{IsRow, MinimalBlock, row}
-use Rattle.row_book.specs.Flattening.{Passed, core_of, first_some, flat, packages, passed_at, passed_by, passes, row_length, rows_over, left_after}
-use Rattle.row_book.proofs.Lists.{In_none, In_cases, In_map_cases, find_some}
+use Rattle.row_book.specs.Flattening.{Passed, core_of, first_some, flat, packages, passed_at, passes, row_length, rows_over, left_after}
+use Rattle.row_book.proofs.Lists.{In_none, In_map_cases, find_some}
 use Rattle.row_book.proofs.Order.{at_numbers, length_numbers, numbers_parts}
 use Rattle.clause_flatten.proofs.Tables.{row_computes_lem}
 use Rattle.clause_flatten.proofs.Stages.{left_bound}

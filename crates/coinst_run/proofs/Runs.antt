@@ -1,5 +1,5 @@
 -- What a run answers, from how its work ended.
-use Rattle.std.proofs.Common.{◌≡◌, ◌≢◌, ℕ, ◌≤◌, Bool, true, false, cond, List, length, nat_lt, Option, Some, None, Result, Ok, Err, refl, sym, ap, subst, ◌∙◌, inl, inr, ◌⊎◌}
+use Rattle.std.proofs.Common.{◌≡◌, ◌≢◌, ℕ, ◌≤◌, Bool, true, false, cond, List, length, nat_lt, Option, Some, None, refl, sym, ap, subst, ◌∙◌, inl, inr, ◌⊎◌}
 use Rattle.std.specs.Prelude.{IfSome, IsNone, ⊤}
 use Rattle.std.specs.Io.KnownBytes.{Appends}
 use Rattle.byte_flow.specs.Flow.{Files, LacksFile}
@@ -13,7 +13,7 @@ use Rattle.coinst_run.specs.declared.status.Status.TheVariants.{Done, Words, Con
 use Rattle.coinst_run.specs.declared.words.Job.TheVariants.{Kernel}
 use Rattle.coinst_run.specs.declared.work.Ended.{Ended}
 use Rattle.coinst_run.specs.declared.work.Ended.TheVariants.{Printed, Unread, TooLong, TooMany, Faulty, Limited, Cut, NoMemory}
-use Rattle.coinst_run.specs.Causes.{Answers, Completes, OnDone, OnReadFault, OnRefusal, OnWriteFault, Prints, Took}
+use Rattle.coinst_run.specs.Causes.{Answers, Completes, OnDone, OnReadFault, OnRefusal, OnWriteFault, Prints, TellsRefusal, Took}
 use Rattle.coinst_run.specs.Ended.{Decides, OnCut, OnUnread, Reports, TellsEnd, status_of}
 use Rattle.coinst_run.specs.Index.{home_in, packages_in}
 use Rattle.coinst_run.specs.IndexKernel.{index_kernel_text}
@@ -237,10 +237,11 @@ completes_end ended path o p s {R} {W} is same decides unread cut noread nowrite
     go (Cut written) d u c e = absurd (nowrite c)
     go NoMemory d u c e = inr refl
 
-pub line_end : (ended : Ended) (path : List ℕ) (o p : Outcome) (s : Status) (Line : List ℕ → Type 0) → s ≡ status_of ended → o ≡ p → Decides path ended p → TellsEnd ended path Line → OnRefusal s (Line o.line)
-line_end ended path o p s Line is same decides told = subst (λ t. OnRefusal t (Line o.line)) (sym is) (subst (λ q. OnRefusal (status_of ended) (Line q.line)) (sym same) (go ended decides told))
+pub line_end : (ended : Ended) (path : List ℕ) (o p : Outcome) (s : Status) (Untouched : Type 0) (Line : List ℕ → Type 0) → s ≡ status_of ended → o ≡ p → Decides path ended p → TellsEnd ended path Untouched Line →
+    OnRefusal s (Line o.line)
+line_end ended path o p s Untouched Line is same decides told = subst (λ t. OnRefusal t (Line o.line)) (sym is) (subst (λ q. OnRefusal (status_of ended) (Line q.line)) (sym same) (go ended decides told))
   where
-    go : (ended : Ended) → Decides path ended p → TellsEnd ended path Line → OnRefusal (status_of ended) (Line p.line)
+    go : (ended : Ended) → Decides path ended p → TellsEnd ended path Untouched Line → OnRefusal (status_of ended) (Line p.line)
     go Printed d h = tt
     go Unread d h = tt
     go TooLong d h = subst Line (sym (ap (λ x. x.line) d)) h
@@ -249,6 +250,20 @@ line_end ended path o p s Line is same decides told = subst (λ t. OnRefusal t (
     go (Limited passed) d h = subst Line (sym (ap (λ x. x.line) d)) h
     go (Cut written) d h = tt
     go NoMemory d h = tt
+
+pub refusal_end : (ended : Ended) (words : List (List ℕ)) (path : List ℕ) (limit : ℕ) (s : Status) (Untouched : Type 0) (Line : List ℕ → Type 0) → s ≡ status_of ended → job_of words ≡ Some (Kernel path limit) → TellsEnd ended path Untouched Line →
+    TellsRefusal s words Line
+refusal_end ended words path limit s Untouched Line is job told = subst (λ t. TellsRefusal t words Line) (sym is) (go ended told)
+  where
+    go : (ended : Ended) → TellsEnd ended path Untouched Line → TellsRefusal (status_of ended) words Line
+    go Printed h = tt
+    go Unread h = tt
+    go TooLong h = (path, limit, job, inl h)
+    go TooMany h = (path, limit, job, inr h)
+    go (Faulty fault) h = (path, limit, job, (fault, h))
+    go (Limited passed) h = (path, limit, job, (passed, h))
+    go (Cut written) h = tt
+    go NoMemory h = tt
 
 -- the words are no command
 pub answers_none : (words : List (List ℕ)) (files : Files) → job_of words ≡ None → Answers Words (outcome_of words files)

@@ -1,5 +1,5 @@
 -- A line that is written piece by piece.
-use Rattle.std.proofs.Common.{◌≡◌, ℕ, zero, suc, ◌<◌, ◌≤◌, ◌+◌, List, [], ◌∷◌, ◌++◌, length, take, drop, get_or, Option, Some, None, refl, sym, ap, ◌∙◌, inl, inr, subst, arith, append_assoc, drop-cons}
+use Rattle.std.proofs.Common.{◌≡◌, ℕ, suc, ◌<◌, ◌≤◌, ◌+◌, List, [], ◌∷◌, ◌++◌, length, take, drop, get_or, Option, Some, None, refl, sym, ap, ◌∙◌, inr, subst, arith, append_assoc, drop-cons}
 use Rattle.std.specs.Borrow.{Bor}
 use Rattle.std.specs.Io.KnownBytes.{Appends}
 use Rattle.std.specs.List.{flat_map}
@@ -64,18 +64,6 @@ told_front old mid new before first now pieces i n d inside told short taken ros
 -- another spelling of the line
 pub tells_same : (old new : Option (List ℕ)) (before now : ℕ) (line other : List ℕ) → line ≡ other → Tells old new before now line → Tells old new before now other
 tells_same old new before now line other same told = subst (Tells old new before now) same told
-
--- nothing is told
-pub tells_nothing : (old : Option (List ℕ)) (before : ℕ) → Tells old old before before []
-tells_nothing old before = inl (appends_none old)
-
-pub told_nothing : (old new : Option (List ℕ)) (before now : ℕ) → Tells old new before now [] → Appends old new []
-told_nothing old new before now (inl told) = told
-told_nothing old new before now (inr cut) = subst (Appends old new) (no_front cut.1) cut.2
-  where
-    no_front : (n : ℕ) → take {A = ℕ} n [] ≡ []
-    no_front zero = refl
-    no_front (suc n) = refl
 
 -- a line about a path, by its pieces
 pub about_path : (path between text end : List ℕ) → path ++ (between ++ (text ++ end)) ≡ path ++ between ++ text ++ end

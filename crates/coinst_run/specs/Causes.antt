@@ -1,11 +1,13 @@
 -- What each status of a run says: of the outcome, of what standard output took and of why it came.
-use Rattle.std.specs.Prelude.{◌≡◌, ◌≢◌, ℕ, ◌<◌, ◌⊎◌, List, [], length, take, Option, Some, None, ⊤, IfSome}
+use Rattle.std.specs.Prelude.{◌≡◌, ◌≢◌, ℕ, ◌<◌, ◌⊎◌, List, [], length, take, Option, Some, None, ⊤}
 use Rattle.std.specs.Io.KnownBytes.{Appends}
-use Rattle.byte_flow.specs.Flow.{Files, Rose}
+use Rattle.byte_flow.specs.Flow.{Rose}
 use Rattle.coinst_run.specs.declared.status.Status.{Status}
 use Rattle.coinst_run.specs.declared.status.Status.TheVariants.{Done, Negative, Words, Content, ClauseLimit, ReadFault, WriteFault, Memory, Undecided, UnknownGoal, TooLarge}
 use Rattle.coinst_run.specs.declared.words.Job.TheVariants.{Kernel}
-use Rattle.coinst_run.specs.Outcome.{Outcome, cut_line}
+use Rattle.coinst_run.specs.declared.limit.PassedLimit.{PassedLimit}
+use Rattle.coinst_run.specs.Outcome.{Outcome, cut_line, fault_line, limit_line, too_long_line, too_many_line, words_line}
+use Rattle.repo_model.specs.declared.fault.IndexFault.{IndexFault}
 use Rattle.coinst_run.specs.Words.{job_of}
 
 -- Of the statuses that a run decides by itself, the status is the outcome's. What it cannot decide are a
@@ -42,14 +44,6 @@ Prints Undecided old new report = Appends old new report
 Prints WriteFault old new report = TookFront old new report
 Prints _ old new report = Appends old new []
 
--- nothing was taken where there is no report
-abbrev pub IsSilent : Status → Option (List ℕ) → Option (List ℕ) → Type 0
-IsSilent Done old new = ⊤
-IsSilent Negative old new = ⊤
-IsSilent Undecided old new = ⊤
-IsSilent WriteFault old new = ⊤
-IsSilent _ old new = Appends old new []
-
 -- what was taken, where it is told, has the property
 abbrev pub Took : Option (List ℕ) → Option (List ℕ) → (List ℕ → Type 0) → Type 0
 Took None new P = ⊤
@@ -64,11 +58,20 @@ abbrev pub OnWords : Status → Type 0 → Type 0
 OnWords Words P = P
 OnWords _ P = ⊤
 
--- a fact where the content of a file was refused, other than one package too many
-abbrev pub OnContent : Status → Type 0 → Type 0
-OnContent Content P = P
-OnContent ClauseLimit P = P
-OnContent _ P = ⊤
+-- a fact where no report was begun
+abbrev pub OnNoReport : Status → Type 0 → Type 0
+OnNoReport Done P = ⊤
+OnNoReport Negative P = ⊤
+OnNoReport Undecided P = ⊤
+OnNoReport WriteFault P = ⊤
+OnNoReport _ P = P
+
+-- a fact where what a file holds decided the status, or its length
+abbrev pub OnRead : Status → Type 0 → Type 0
+OnRead Words P = ⊤
+OnRead ReadFault P = ⊤
+OnRead Memory P = ⊤
+OnRead _ P = P
 
 abbrev pub OnReadFault : Status → Type 0 → Type 0
 OnReadFault ReadFault P = P
@@ -98,13 +101,18 @@ Tells old new before now line = Appends old new line ⊎ (Rose before now × (n 
 abbrev pub OfPath : List (List ℕ) → (List ℕ → Type 0) → Type 0
 OfPath words P = (path : List ℕ) × (limit : ℕ) × (job_of words ≡ Some (Kernel path limit)) × P path
 
+-- The line of a refusal, where the contents of the files may be unknown: for the words their own, for a file one that names
+-- its path, with some fault of content, some row that passed the limit, or one of the two ways to be too large.
+abbrev pub TellsRefusal : Status → List (List ℕ) → (List ℕ → Type 0) → Type 0
+TellsRefusal Words words Line = Line words_line
+TellsRefusal Content words Line = OfPath words (λ path. (fault : IndexFault) × Line (fault_line path fault))
+TellsRefusal ClauseLimit words Line = OfPath words (λ path. (passed : PassedLimit) × Line (limit_line path passed))
+TellsRefusal TooLarge words Line = OfPath words (λ path. Line (too_long_line path) ⊎ Line (too_many_line path))
+TellsRefusal _ words Line = ⊤
+
 -- the line names how many bytes were taken
 abbrev pub TellsCut : Option (List ℕ) → Option (List ℕ) → (List ℕ → Type 0) → Type 0
 TellsCut old new Line = (bytes : List ℕ) × Appends old new bytes × Line (cut_line (length bytes))
-
--- so many bytes were moved as the file of the path has
-abbrev pub IsReadWhole : List (List ℕ) → Files → ℕ → Type 0
-IsReadWhole words files moved = OfPath words (λ path. IfSome (files path) (λ text. moved ≡ length text))
 
 -- where the outcome is a report, the run is done, or it found no memory
 abbrev pub Completes : Status → Outcome → Type 0

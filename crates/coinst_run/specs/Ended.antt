@@ -34,34 +34,37 @@ Reports Printed old new report = Appends old new report
 Reports (Cut written) old new report = (written < length report) × Appends old new (take written report)
 Reports _ old new report = Appends old new []
 
--- the same of a report that is not known
-abbrev pub Takes : Ended → Option (List ℕ) → Option (List ℕ) → Type 0
-Takes Printed old new = ⊤
-Takes (Cut written) old new = (report : List ℕ) × (written < length report) × Appends old new (take written report)
-Takes _ old new = Appends old new []
+-- what it took where the write was cut, of a report that is not known
+abbrev pub TakesFront : Ended → Option (List ℕ) → Option (List ℕ) → Type 0
+TakesFront (Cut written) old new = (report : List ℕ) × (written < length report) × Appends old new (take written report)
+TakesFront _ old new = ⊤
 
--- a fact where the file could not be read, where the write was cut, and where the file was read and refused
+-- a fact where the file could not be read, where it was read, where no report was begun, and where the write was cut
 abbrev pub OnUnread : Ended → Type 0 → Type 0
 OnUnread Unread P = P
 OnUnread _ P = ⊤
+
+abbrev pub OnRead : Ended → Type 0 → Type 0
+OnRead Unread P = ⊤
+OnRead NoMemory P = ⊤
+OnRead _ P = P
+
+abbrev pub OnNoReport : Ended → Type 0 → Type 0
+OnNoReport Printed P = ⊤
+OnNoReport (Cut written) P = ⊤
+OnNoReport _ P = P
 
 abbrev pub OnCut : Ended → Type 0 → Type 0
 OnCut (Cut written) P = P
 OnCut _ P = ⊤
 
-abbrev pub OnFaulty : Ended → Type 0 → Type 0
-OnFaulty TooMany P = P
-OnFaulty (Faulty fault) P = P
-OnFaulty (Limited passed) P = P
-OnFaulty _ P = ⊤
-
--- the line that tells how the work on the file of a path ended
-abbrev pub TellsEnd : Ended → List ℕ → (List ℕ → Type 0) → Type 0
-TellsEnd Printed path Line = Line []
-TellsEnd Unread path Line = Line (unread_line path)
-TellsEnd TooLong path Line = Line (too_long_line path)
-TellsEnd TooMany path Line = Line (too_many_line path)
-TellsEnd (Faulty fault) path Line = Line (fault_line path fault)
-TellsEnd (Limited passed) path Line = Line (limit_line path passed)
-TellsEnd (Cut written) path Line = Line (cut_line written)
-TellsEnd NoMemory path Line = Line memory_line
+-- the line that tells how the work on the file of a path ended; no line where the report was written whole
+abbrev pub TellsEnd : Ended → List ℕ → Type 0 → (List ℕ → Type 0) → Type 0
+TellsEnd Printed path Untouched Line = Untouched
+TellsEnd Unread path Untouched Line = Line (unread_line path)
+TellsEnd TooLong path Untouched Line = Line (too_long_line path)
+TellsEnd TooMany path Untouched Line = Line (too_many_line path)
+TellsEnd (Faulty fault) path Untouched Line = Line (fault_line path fault)
+TellsEnd (Limited passed) path Untouched Line = Line (limit_line path passed)
+TellsEnd (Cut written) path Untouched Line = Line (cut_line written)
+TellsEnd NoMemory path Untouched Line = Line memory_line

@@ -1,5 +1,5 @@
 -- Facts by the cause of a refusal.
-use Rattle.std.specs.Prelude.{◌≡◌, ⊤}
+use Rattle.std.specs.Prelude.{⊤}
 use Rattle.coinst_run.specs.declared.words.WordError.{WordError}
 use Rattle.coinst_run.specs.declared.words.WordError.TheVariants as words
 use Rattle.coinst_run.specs.declared.work.FileError.{FileError}

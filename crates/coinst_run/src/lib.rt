@@ -2,7 +2,7 @@
 #![tactic(auto)]
 
 mod kernel_text;
-pub mod limit;
+mod limit;
 mod status;
 mod tell;
 #[cfg(test)]

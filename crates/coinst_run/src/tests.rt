@@ -1,10 +1,16 @@
 //! Runs over files and streams in memory, against answers that were worked out by hand.
 use crate::{PathText, read_words, run};
 use byte_flow::{MemShelf, MemSink};
-use repo_model::{are_coinstallable, read_suite};
+use repo_model::{Suite, are_coinstallable, read_suite};
 use row_book::{ClauseList, NumList, is_coinst};
 use std::alloc::{AllocError, Global};
+use std::process::Abort;
 use std::test::Fail;
+
+/// The words of most runs, and those for a file that is not there.
+const INDEX: &str = "kernel I";
+
+const NOWHERE: &str = "kernel J";
 
 /// The empty index's kernel.
 const EMPTY_KERNEL: &str = "coinst-kernel 1\nend 0 0\n";
@@ -12,6 +18,231 @@ const EMPTY_KERNEL: &str = "coinst-kernel 1\nend 0 0\n";
 /// An index in which a package depends on one of two that conflict.
 const CHOICE: &str =
     "Package: a\nVersion: 1\nDepends: b | c\n\nPackage: b\nVersion: 1\nConflicts: c\n\nPackage: c\nVersion: 1\n\n";
+
+/// An index whose first package has two clauses.
+const TWO_CLAUSES: &str =
+    "Package: a\nVersion: 1\nDepends: b, c\n\nPackage: b\nVersion: 1\n\nPackage: c\nVersion: 1\n\n";
+
+/// An index whose first package has three clauses once three packages are gone.
+const THREE_CLAUSES: &str =
+    "Package: a\nVersion: 1\nDepends: m, n\n\nPackage: m\nVersion: 1\nDepends: b, c\n\nPackage: n\nVersion: 1\nDepends: d\n\nPackage: b\nVersion: 1\nConflicts: e\n\nPackage: c\nVersion: 1\nConflicts: e\n\nPackage: d\nVersion: 1\nConflicts: e\n\nPackage: e\nVersion: 1\n\n";
+
+/// An index with a provide that is outside the grammar.
+const OUTSIDE: &str = "Package: a\nVersion: 1\nProvides: x (>> 1)\n";
+
+/// The line for words that are no command.
+const NOT_A_COMMAND: &str = "words: not a command of coinst\n";
+
+/// Indexes and their kernels.
+const KERNELS: [(&str, &str); 15] = [
+    ("", EMPTY_KERNEL),
+    (
+        "Package: a\nVersion: 1\n\n",
+        "coinst-kernel 1\nclass 0\nmember a 1\nend 1 1\n",
+    ),
+    (
+        "Package: a\nVersion: 1\nDepends: nowhere\n",
+        "coinst-kernel 1\nclass 0\nmember a 1\nneeds\nend 1 1\n",
+    ),
+    (
+        CHOICE,
+        "coinst-kernel 1\nclass 0\nmember a 1\nneeds 1 2\nclass 1\nmember b 1\nagainst 2\nclass 2\nmember c 1\nend 3 3\n",
+    ),
+    (
+        "Package: a\nVersion: 1\nDepends: b\n\nPackage: b\nVersion: 1\nDepends: a",
+        "coinst-kernel 1\nclass 0\nmember a 1\nclass 1\nmember b 1\nend 2 2\n",
+    ),
+    (
+        "Package: a\nVersion: 1\nDepends: b\n\nPackage: b\nVersion: 1\n\n",
+        "coinst-kernel 1\nclass 0\nmember a 1\nclass 1\nmember b 1\nend 2 2\n",
+    ),
+    (
+        "Package: a\nVersion: 1\nDepends: b, c\n\nPackage: b\nVersion: 1\nConflicts: c\n\nPackage: c\nVersion: 1\n\n",
+        "coinst-kernel 1\nclass 0\nmember a 1\nneeds 1\nneeds 2\nclass 1\nmember b 1\nagainst 2\nclass 2\nmember c 1\nend 3 3\n",
+    ),
+    (
+        "Package: a\nVersion: 1\nDepends: b (>= 2)\n\nPackage: b\nVersion: 1\n\n",
+        "coinst-kernel 1\nclass 0\nmember a 1\nneeds\nclass 1\nmember b 1\nend 2 2\n",
+    ),
+    (
+        "\n \nDepends: b (>= 2),\n , c\nversion: 1\nPACKAGE: a\nDescription: a package\n\n\nPackage: b\nVersion: 1:0\nArchitecture: all\nConflicts: a (<< 1), c\n\nPackage: c\nVersion: 0~1",
+        "coinst-kernel 1\nclass 0\nmember a 1\nneeds 1\nneeds 2\nclass 1\nmember b 1:0\nagainst 2\nclass 2\nmember c 0~1\nend 3 3\n",
+    ),
+    (
+        "Package: a\nVersion: 1\n\nPackage: a\nVersion: 2\n\n",
+        "coinst-kernel 1\nclass 0\nmember a 1\nagainst 1\nclass 1\nmember a 2\nend 2 2\n",
+    ),
+    (
+        "Package: p\nVersion: 1\nProvides: x\n\nPackage: q\nVersion: 1\nProvides: x (= 3)\nConflicts: t\n\nPackage: t\nVersion: 1\n\nPackage: r\nVersion: 1\nDepends: x (>= 2)\n\nPackage: s\nVersion: 1\nDepends: x\n\n",
+        "coinst-kernel 1\nclass 0\nmember p 1\nclass 1\nmember q 1\nagainst 2\nclass 2\nmember t 1\nclass 3\nmember r 1\nneeds 1\nclass 4\nmember s 1\nend 5 5\n",
+    ),
+    (
+        "Package: hello\nVersion: 2.10-3\nArchitecture: amd64\nMulti-Arch: foreign\nDepends: libc6 (>= 2.14), python3:any (>= 3.5~)\nDescription: example package based on GNU hello\n The GNU hello program produces a familiar, friendly greeting.\n .\n It is an example.\nSection: devel\n\nPackage: libc6\nVersion: 2.36-9+deb12u4\nArchitecture: amd64\n\nPackage: python3\nVersion: 3.11.2-1+b1\nArchitecture: amd64",
+        "coinst-kernel 1\nclass 0\nmember hello 2.10-3\nclass 1\nmember libc6 2.36-9+deb12u4\nclass 2\nmember python3 3.11.2-1+b1\nend 3 3\n",
+    ),
+    (
+        "Package: a\nVersion: 1\nProvides: x\nConflicts: x\n\nPackage: b\nVersion: 1\nProvides: x\n\n",
+        "coinst-kernel 1\nclass 0\nmember a 1\nagainst 1\nclass 1\nmember b 1\nend 2 2\n",
+    ),
+    (
+        "Package: a\nVersion: 1\nPre-Depends: b:amd64, b:arm64\nBreaks: c (<< 2)\nArchitecture: amd64\n\nPackage: b\nVersion: 1\n\nPackage: c\nVersion: 1\n\nPackage: c\nVersion: 2\nConflicts: b:arm64\n\n",
+        "coinst-kernel 1\nclass 0\nmember a 1\nneeds\nagainst 2\nclass 1\nmember b 1\nclass 2\nmember c 1\nagainst 3\nclass 3\nmember c 2\nend 4 4\n",
+    ),
+    (
+        "Package: a\nVersion: 1\nDepends: m\n\nPackage: m\nVersion: 1\nDepends: b, c | d\n\nPackage: b\nVersion: 1\nConflicts: e\n\nPackage: c\nVersion: 1\nConflicts: e\n\nPackage: d\nVersion: 1\nConflicts: f\n\nPackage: e\nVersion: 1\n\nPackage: f\nVersion: 1\n\n",
+        "coinst-kernel 1\nclass 0\nmember a 1\nneeds 2\nneeds 3 4\nclass 1\nmember m 1\nneeds 2\nneeds 3 4\nclass 2\nmember b 1\nagainst 5\nclass 3\nmember c 1\nagainst 5\nclass 4\nmember d 1\nagainst 6\nclass 5\nmember e 1\nclass 6\nmember f 1\nend 7 7\n",
+    ),
+];
+
+/// Indexes with a fault of content, and its line behind the path.
+const FAULTS: [(&str, &str); 18] = [
+    ("Package: a\nVersion: 1\n\nPackage\n", "4: no colon"),
+    ("Package: a\nVersion 1\nb c: d\n", "2: no colon"),
+    ("Pack age: a\n", "1: bad field name"),
+    ("\n x\n", "2: continuation before any field"),
+    ("Package: a\npackage: b\n", "2: field repeated"),
+    ("\nVersion: ?\n", "2: no Package field"),
+    ("Package: a\n", "1: no Version field"),
+    ("Package: ?\n", "1: no Version field"),
+    ("Version: -1\nPackage: +a\n", "2: bad Package value"),
+    ("Package: a\r\nVersion: 1\r\n", "1: bad Package value"),
+    ("Package: a\nVersion: -1\n", "2: bad Version value"),
+    (
+        "Depends: |\nPackage: a\nVersion: 1\nArchitecture: A\n",
+        "4: bad Architecture value",
+    ),
+    (
+        "Package: a\nVersion: 1\nDepends: b (>= 1), c |\n",
+        "3: bad relation, element 2",
+    ),
+    (
+        "Package: a\nVersion: 1\nConflicts: |\nPre-Depends: ,,\n b b\n",
+        "4: bad relation, element 3",
+    ),
+    (
+        "Provides: x\nPackage: a\nVersion: 1\nBreaks: b | c\n",
+        "4: bad relation, element 1",
+    ),
+    (
+        "Provides: x (>= 1)\nPackage: a\nVersion: 1\n",
+        "1: bad relation, element 1",
+    ),
+    (
+        "Package: a\nVersion: 1.0\n\nPackage: a\nVersion: 1.0-0\n",
+        "4: same package as line 1",
+    ),
+    (
+        "Package: a\nVersion: 1\nArchitecture: amd64\n\nPackage: b\nVersion: 1\nArchitecture: arm64\n",
+        "7: second architecture",
+    ),
+];
+
+/// The text of the file `I`, the words, the calls that fail as `Given` has them, and then the status, the report and the
+/// line.
+const ANSWERS: [(&str, &str, (u64, u64, u64), u8, &str, &str); 19] = [
+    ("", "", (0, 0, 0), 2, "", NOT_A_COMMAND),
+    ("", "kernel", (0, 0, 0), 2, "", NOT_A_COMMAND),
+    ("", "kernel -x I", (0, 0, 0), 2, "", NOT_A_COMMAND),
+    ("", "kernel -x", (0, 0, 0), 2, "", NOT_A_COMMAND),
+    (
+        "",
+        "kernel --clause-limit 0 I",
+        (0, 0, 0),
+        2,
+        "",
+        NOT_A_COMMAND,
+    ),
+    (
+        "",
+        "kernel --clause-limit 1000001 I",
+        (0, 0, 0),
+        2,
+        "",
+        NOT_A_COMMAND,
+    ),
+    (
+        "",
+        "kernel --clause-limit 000000000000000000001 I",
+        (0, 0, 0),
+        2,
+        "",
+        NOT_A_COMMAND,
+    ),
+    (
+        "",
+        "kernel --clause-limit 00000000000001000000 I",
+        (0, 0, 0),
+        0,
+        EMPTY_KERNEL,
+        "",
+    ),
+    (
+        TWO_CLAUSES,
+        "kernel --clause-limit 1 I",
+        (0, 0, 0),
+        4,
+        "",
+        "I: clause limit 1 passed: round 1, gone 0, package a 1, clauses 2\n",
+    ),
+    (
+        THREE_CLAUSES,
+        "kernel --clause-limit 2 I",
+        (0, 0, 0),
+        4,
+        "",
+        "I: clause limit 2 passed: round 1, gone 3, package a 1, clauses 3\n",
+    ),
+    (
+        THREE_CLAUSES,
+        "kernel --clause-limit 3 I",
+        (0, 0, 0),
+        0,
+        "coinst-kernel 1\nclass 0\nmember a 1\nneeds 3\nneeds 4\nneeds 5\nclass 1\nmember m 1\nneeds 3\nneeds 4\nclass 2\nmember n 1\nneeds 5\nclass 3\nmember b 1\nagainst 6\nclass 4\nmember c 1\nagainst 6\nclass 5\nmember d 1\nagainst 6\nclass 6\nmember e 1\nend 7 7\n",
+        "",
+    ),
+    (
+        OUTSIDE,
+        INDEX,
+        (0, 0, 0),
+        3,
+        "",
+        "I: line 3: bad relation, element 1\n",
+    ),
+    ("", NOWHERE, (0, 0, 0), 5, "", "J: read failed\n"),
+    (CHOICE, INDEX, (2, 0, 0), 5, "", "I: read failed\n"),
+    (
+        "",
+        INDEX,
+        (0, 2, 0),
+        6,
+        "coinst-ker",
+        "write failed after 10 bytes\n",
+    ),
+    ("", INDEX, (0, 2, 1), 6, "coinst-ker", ""),
+    ("", INDEX, (0, 0, 1), 0, EMPTY_KERNEL, ""),
+    (OUTSIDE, INDEX, (0, 0, 1), 3, "", ""),
+    ("", NOWHERE, (0, 0, 1), 5, "", ""),
+];
+
+/// Indexes of the packages a, b, c and d, and their least sets that can't be installed together, as bits.
+const BROKEN: [(&str, &[u32]); 4] = [
+    (
+        "Package: a\nVersion: 1\nDepends: b | c\n\nPackage: b\nVersion: 1\nConflicts: c\n\nPackage: c\nVersion: 1\n\nPackage: d\nVersion: 1\nDepends: nowhere\n\n",
+        &[0b0110, 0b1000],
+    ),
+    (
+        "Package: a\nVersion: 1\nDepends: b, c\n\nPackage: b\nVersion: 1\nConflicts: c\n\nPackage: c\nVersion: 1\n\nPackage: d\nVersion: 1\nDepends: d\nConflicts: d, nowhere\n\n",
+        &[0b0001, 0b0110],
+    ),
+    (
+        "Package: a\nVersion: 1\nDepends: b\n\nPackage: b\nVersion: 1\nDepends: a\nConflicts: c\n\nPackage: c\nVersion: 1\nDepends: nowhere | a\n\nPackage: d\nVersion: 1\nConflicts: a\n\n",
+        &[0b0100, 0b1001, 0b1010],
+    ),
+    (
+        "Package: a\nVersion: 1\nPre-Depends: x (>= 2)\n\nPackage: b\nVersion: 1\nProvides: x\n\nPackage: c\nVersion: 1\nProvides: x (= 2)\nBreaks: x\n\nPackage: d\nVersion: 1\nDepends: x, d:arm64 | x:any\n\n",
+        &[0b0011, 0b0110],
+    ),
+];
 
 /// What one run is given: the text of the file `I`, the words, and the calls of the shelf, of standard
 /// output and of standard error that fail, 0 for none.
@@ -61,260 +292,59 @@ fn left_by(alloc: Global, given: &Given) -> Result<Left, AllocError> {
     })
 }
 
-#[test]
-fn indexes_are_printed(rt: HostRuntime) -> Result<(), Fail> {
-    let alloc = rt.alloc();
-    let cases = [
-        ("", EMPTY_KERNEL),
-        (
-            "Package: a\nVersion: 1\n\n",
-            "coinst-kernel 1\nclass 0\nmember a 1\nend 1 1\n",
-        ),
-        (
-            "Package: a\nVersion: 1\nDepends: nowhere\n",
-            "coinst-kernel 1\nclass 0\nmember a 1\nneeds\nend 1 1\n",
-        ),
-        (
-            CHOICE,
-            "coinst-kernel 1\nclass 0\nmember a 1\nneeds 1 2\nclass 1\nmember b 1\nagainst 2\nclass 2\nmember c 1\nend 3 3\n",
-        ),
-        (
-            "Package: a\nVersion: 1\nDepends: b\n\nPackage: b\nVersion: 1\nDepends: a",
-            "coinst-kernel 1\nclass 0\nmember a 1\nclass 1\nmember b 1\nend 2 2\n",
-        ),
-        (
-            "Package: a\nVersion: 1\nDepends: b\n\nPackage: b\nVersion: 1\n\n",
-            "coinst-kernel 1\nclass 0\nmember a 1\nclass 1\nmember b 1\nend 2 2\n",
-        ),
-        (
-            "Package: a\nVersion: 1\nDepends: b, c\n\nPackage: b\nVersion: 1\nConflicts: c\n\nPackage: c\nVersion: 1\n\n",
-            "coinst-kernel 1\nclass 0\nmember a 1\nneeds 1\nneeds 2\nclass 1\nmember b 1\nagainst 2\nclass 2\nmember c 1\nend 3 3\n",
-        ),
-        (
-            "Package: a\nVersion: 1\nDepends: b (>= 2)\n\nPackage: b\nVersion: 1\n\n",
-            "coinst-kernel 1\nclass 0\nmember a 1\nneeds\nclass 1\nmember b 1\nend 2 2\n",
-        ),
-        (
-            "\n \nDepends: b (>= 2),\n , c\nversion: 1\nPACKAGE: a\nDescription: a package\n\n\nPackage: b\nVersion: 1:0\nArchitecture: all\nConflicts: a (<< 1), c\n\nPackage: c\nVersion: 0~1",
-            "coinst-kernel 1\nclass 0\nmember a 1\nneeds 1\nneeds 2\nclass 1\nmember b 1:0\nagainst 2\nclass 2\nmember c 0~1\nend 3 3\n",
-        ),
-        (
-            "Package: a\nVersion: 1\n\nPackage: a\nVersion: 2\n\n",
-            "coinst-kernel 1\nclass 0\nmember a 1\nagainst 1\nclass 1\nmember a 2\nend 2 2\n",
-        ),
-        (
-            "Package: p\nVersion: 1\nProvides: x\n\nPackage: q\nVersion: 1\nProvides: x (= 3)\nConflicts: t\n\nPackage: t\nVersion: 1\n\nPackage: r\nVersion: 1\nDepends: x (>= 2)\n\nPackage: s\nVersion: 1\nDepends: x\n\n",
-            "coinst-kernel 1\nclass 0\nmember p 1\nclass 1\nmember q 1\nagainst 2\nclass 2\nmember t 1\nclass 3\nmember r 1\nneeds 1\nclass 4\nmember s 1\nend 5 5\n",
-        ),
-        (
-            "Package: hello\nVersion: 2.10-3\nArchitecture: amd64\nMulti-Arch: foreign\nDepends: libc6 (>= 2.14), python3:any (>= 3.5~)\nDescription: example package based on GNU hello\n The GNU hello program produces a familiar, friendly greeting.\n .\n It is an example.\nSection: devel\n\nPackage: libc6\nVersion: 2.36-9+deb12u4\nArchitecture: amd64\n\nPackage: python3\nVersion: 3.11.2-1+b1\nArchitecture: amd64",
-            "coinst-kernel 1\nclass 0\nmember hello 2.10-3\nclass 1\nmember libc6 2.36-9+deb12u4\nclass 2\nmember python3 3.11.2-1+b1\nend 3 3\n",
-        ),
-        (
-            "Package: a\nVersion: 1\nProvides: x\nConflicts: x\n\nPackage: b\nVersion: 1\nProvides: x\n\n",
-            "coinst-kernel 1\nclass 0\nmember a 1\nagainst 1\nclass 1\nmember b 1\nend 2 2\n",
-        ),
-        (
-            "Package: a\nVersion: 1\nPre-Depends: b:amd64, b:arm64\nBreaks: c (<< 2)\nArchitecture: amd64\n\nPackage: b\nVersion: 1\n\nPackage: c\nVersion: 1\n\nPackage: c\nVersion: 2\nConflicts: b:arm64\n\n",
-            "coinst-kernel 1\nclass 0\nmember a 1\nneeds\nagainst 2\nclass 1\nmember b 1\nclass 2\nmember c 1\nagainst 3\nclass 3\nmember c 2\nend 4 4\n",
-        ),
-        (
-            "Package: a\nVersion: 1\nDepends: m\n\nPackage: m\nVersion: 1\nDepends: b, c | d\n\nPackage: b\nVersion: 1\nConflicts: e\n\nPackage: c\nVersion: 1\nConflicts: e\n\nPackage: d\nVersion: 1\nConflicts: f\n\nPackage: e\nVersion: 1\n\nPackage: f\nVersion: 1\n\n",
-            "coinst-kernel 1\nclass 0\nmember a 1\nneeds 2\nneeds 3 4\nclass 1\nmember m 1\nneeds 2\nneeds 3 4\nclass 2\nmember b 1\nagainst 5\nclass 3\nmember c 1\nagainst 5\nclass 4\nmember d 1\nagainst 6\nclass 5\nmember e 1\nclass 6\nmember f 1\nend 7 7\n",
-        ),
-    ];
-    for (text, report) in cases {
-        let left = left_by(
-            alloc,
-            &Given {
-                text,
-                words: "kernel I",
-                failing: (0, 0, 0),
-            },
-        )?;
-        assert_eq!(rt; left.code, 0, "{text}");
-        assert_eq!(rt; left.out.taken(), report.as_bytes(), "{text}");
-        assert_eq!(rt; left.err.taken(), b"".as_slice(), "{text}");
-    }
+/// Holds the status, the report and the line of a run against those that are wanted.
+fn expect(
+    rt: &(impl Abort + AllocGlobal),
+    given: &Given,
+    code: u8,
+    report: &str,
+    line: &str,
+) -> Result<(), Fail> {
+    let left = left_by(rt.alloc(), given)?;
+    let text = given.text;
+    let words = given.words;
+    assert_eq!(rt; left.code, code, "{text} {words}");
+    assert_eq!(rt; left.out.taken(), report.as_bytes(), "{text} {words}");
+    assert_eq!(rt; left.err.taken(), line.as_bytes(), "{text} {words}");
     Ok(())
 }
 
 #[test]
-fn faults_are_told(rt: HostRuntime) -> Result<(), Fail> {
-    let alloc = rt.alloc();
-    let outside = "Package: a\nVersion: 1\nProvides: x (>> 1)\n";
-    let index = "kernel I";
-    let nowhere = "kernel J";
-    let not_a_command = "words: not a command of coinst\n";
-    let two =
-        "Package: a\nVersion: 1\nDepends: b, c\n\nPackage: b\nVersion: 1\n\nPackage: c\nVersion: 1\n\n";
-    let three =
-        "Package: a\nVersion: 1\nDepends: m, n\n\nPackage: m\nVersion: 1\nDepends: b, c\n\nPackage: n\nVersion: 1\nDepends: d\n\nPackage: b\nVersion: 1\nConflicts: e\n\nPackage: c\nVersion: 1\nConflicts: e\n\nPackage: d\nVersion: 1\nConflicts: e\n\nPackage: e\nVersion: 1\n\n";
-    let cases = [
-        ("", "", (0, 0, 0), 2, "", not_a_command),
-        ("", "kernel", (0, 0, 0), 2, "", not_a_command),
-        ("", "kernel -x I", (0, 0, 0), 2, "", not_a_command),
-        ("", "kernel -x", (0, 0, 0), 2, "", not_a_command),
-        (
-            "",
-            "kernel --clause-limit 0 I",
-            (0, 0, 0),
-            2,
-            "",
-            not_a_command,
-        ),
-        (
-            "",
-            "kernel --clause-limit 1000001 I",
-            (0, 0, 0),
-            2,
-            "",
-            not_a_command,
-        ),
-        (
-            "",
-            "kernel --clause-limit 000000000000000000001 I",
-            (0, 0, 0),
-            2,
-            "",
-            not_a_command,
-        ),
-        (
-            "",
-            "kernel --clause-limit 00000000000001000000 I",
-            (0, 0, 0),
-            0,
-            EMPTY_KERNEL,
-            "",
-        ),
-        (
-            two,
-            "kernel --clause-limit 1 I",
-            (0, 0, 0),
-            4,
-            "",
-            "I: clause limit 1 passed: round 1, gone 0, package a 1, clauses 2\n",
-        ),
-        (
-            three,
-            "kernel --clause-limit 2 I",
-            (0, 0, 0),
-            4,
-            "",
-            "I: clause limit 2 passed: round 1, gone 3, package a 1, clauses 3\n",
-        ),
-        (
-            three,
-            "kernel --clause-limit 3 I",
-            (0, 0, 0),
-            0,
-            "coinst-kernel 1\nclass 0\nmember a 1\nneeds 3\nneeds 4\nneeds 5\nclass 1\nmember m 1\nneeds 3\nneeds 4\nclass 2\nmember n 1\nneeds 5\nclass 3\nmember b 1\nagainst 6\nclass 4\nmember c 1\nagainst 6\nclass 5\nmember d 1\nagainst 6\nclass 6\nmember e 1\nend 7 7\n",
-            "",
-        ),
-        (
-            outside,
-            index,
-            (0, 0, 0),
-            3,
-            "",
-            "I: line 3: bad relation, element 1\n",
-        ),
-        ("", nowhere, (0, 0, 0), 5, "", "J: read failed\n"),
-        (CHOICE, index, (2, 0, 0), 5, "", "I: read failed\n"),
-        (
-            "",
-            index,
-            (0, 2, 0),
-            6,
-            "coinst-ker",
-            "write failed after 10 bytes\n",
-        ),
-        ("", index, (0, 2, 1), 6, "coinst-ker", ""),
-        ("", index, (0, 0, 1), 0, EMPTY_KERNEL, ""),
-        (outside, index, (0, 0, 1), 3, "", ""),
-        ("", nowhere, (0, 0, 1), 5, "", ""),
-    ];
-    for (text, words, failing, code, report, line) in cases {
-        let left = left_by(
-            alloc,
-            &Given {
-                text,
-                words,
-                failing,
-            },
-        )?;
-        assert_eq!(rt; left.code, code, "{text} {words} {failing:?}");
-        assert_eq!(rt;
-            left.out.taken(),
-            report.as_bytes(),
-            "{text} {words} {failing:?}"
-        );
-        assert_eq!(rt;
-            left.err.taken(),
-            line.as_bytes(),
-            "{text} {words} {failing:?}"
-        );
+fn indexes_are_printed(rt: HostRuntime) -> Result<(), Fail> {
+    for (text, report) in KERNELS {
+        let given = Given {
+            text,
+            words: INDEX,
+            failing: (0, 0, 0),
+        };
+        expect(&rt, &given, 0, report, "")?;
     }
     Ok(())
 }
 
 #[test]
 fn faults_have_their_lines(rt: HostRuntime) -> Result<(), Fail> {
-    let alloc = rt.alloc();
-    let cases = [
-        ("Package: a\nVersion: 1\n\nPackage\n", "4: no colon"),
-        ("Package: a\nVersion 1\nb c: d\n", "2: no colon"),
-        ("Pack age: a\n", "1: bad field name"),
-        ("\n x\n", "2: continuation before any field"),
-        ("Package: a\npackage: b\n", "2: field repeated"),
-        ("\nVersion: ?\n", "2: no Package field"),
-        ("Package: a\n", "1: no Version field"),
-        ("Package: ?\n", "1: no Version field"),
-        ("Version: -1\nPackage: +a\n", "2: bad Package value"),
-        ("Package: a\r\nVersion: 1\r\n", "1: bad Package value"),
-        ("Package: a\nVersion: -1\n", "2: bad Version value"),
-        (
-            "Depends: |\nPackage: a\nVersion: 1\nArchitecture: A\n",
-            "4: bad Architecture value",
-        ),
-        (
-            "Package: a\nVersion: 1\nDepends: b (>= 1), c |\n",
-            "3: bad relation, element 2",
-        ),
-        (
-            "Package: a\nVersion: 1\nConflicts: |\nPre-Depends: ,,\n b b\n",
-            "4: bad relation, element 3",
-        ),
-        (
-            "Provides: x\nPackage: a\nVersion: 1\nBreaks: b | c\n",
-            "4: bad relation, element 1",
-        ),
-        (
-            "Provides: x (>= 1)\nPackage: a\nVersion: 1\n",
-            "1: bad relation, element 1",
-        ),
-        (
-            "Package: a\nVersion: 1.0\n\nPackage: a\nVersion: 1.0-0\n",
-            "4: same package as line 1",
-        ),
-        (
-            "Package: a\nVersion: 1\nArchitecture: amd64\n\nPackage: b\nVersion: 1\nArchitecture: arm64\n",
-            "7: second architecture",
-        ),
-    ];
-    for (text, line) in cases {
-        let left = left_by(
-            alloc,
-            &Given {
-                text,
-                words: "kernel I",
-                failing: (0, 0, 0),
-            },
-        )?;
-        let told = format!(in alloc; "I: line {line}\n")?;
-        assert_eq!(rt; left.code, 3, "{text}");
-        assert_eq!(rt; left.out.taken(), b"".as_slice(), "{text}");
-        assert_eq!(rt; left.err.taken(), told.as_bytes(), "{text}");
+    for (text, line) in FAULTS {
+        let given = Given {
+            text,
+            words: INDEX,
+            failing: (0, 0, 0),
+        };
+        let told = format!(in rt.alloc(); "I: line {line}\n")?;
+        expect(&rt, &given, 3, "", told.as_str())?;
+    }
+    Ok(())
+}
+
+#[test]
+fn answers_have_their_causes(rt: HostRuntime) -> Result<(), Fail> {
+    for (text, words, failing, code, report, line) in ANSWERS {
+        let given = Given {
+            text,
+            words,
+            failing,
+        };
+        expect(&rt, &given, code, report, line)?;
     }
     Ok(())
 }
@@ -388,38 +418,45 @@ fn wanted_by(alloc: Global, subset: u32) -> Result<Vec<u32>, AllocError> {
     Ok(wanted)
 }
 
+/// Holds each set of four packages, on the stanzas and in the printed text, against the broken ones among them.
+fn expect_sets(
+    rt: &(impl Abort + AllocGlobal),
+    suite: &Suite,
+    printed: &Printed,
+    broken: &[u32],
+) -> Result<(), Fail> {
+    let alloc = rt.alloc();
+    for subset in 0..16 {
+        let wanted = wanted_by(alloc, subset)?;
+        let expected = !broken.iter().any(|set| subset & *set == *set);
+        let on_stanzas = are_coinstallable(alloc, suite, wanted.as_slice())?;
+        let on_classes = is_coinst(
+            alloc,
+            printed.clauses.as_slice(),
+            printed.conflicts.as_slice(),
+            wanted.as_slice(),
+        )?;
+        assert_eq!(rt;
+            (on_stanzas, on_classes),
+            (expected, expected),
+            "{wanted:?}"
+        );
+    }
+    Ok(())
+}
+
 /// Every set of the four packages a, b, c and d, of which those that contain a broken one can't be
 /// installed together: so say the stanzas, and so say the classes of the printed text.
 #[test]
 fn each_set_keeps_its_answer(rt: HostRuntime) -> Result<(), Fail> {
     let alloc = rt.alloc();
-    let cases: [(&str, &[u32]); 4] = [
-        (
-            "Package: a\nVersion: 1\nDepends: b | c\n\nPackage: b\nVersion: 1\nConflicts: c\n\nPackage: c\nVersion: 1\n\nPackage: d\nVersion: 1\nDepends: nowhere\n\n",
-            &[0b0110, 0b1000],
-        ),
-        (
-            "Package: a\nVersion: 1\nDepends: b, c\n\nPackage: b\nVersion: 1\nConflicts: c\n\nPackage: c\nVersion: 1\n\nPackage: d\nVersion: 1\nDepends: d\nConflicts: d, nowhere\n\n",
-            &[0b0001, 0b0110],
-        ),
-        (
-            "Package: a\nVersion: 1\nDepends: b\n\nPackage: b\nVersion: 1\nDepends: a\nConflicts: c\n\nPackage: c\nVersion: 1\nDepends: nowhere | a\n\nPackage: d\nVersion: 1\nConflicts: a\n\n",
-            &[0b0100, 0b1001, 0b1010],
-        ),
-        (
-            "Package: a\nVersion: 1\nPre-Depends: x (>= 2)\n\nPackage: b\nVersion: 1\nProvides: x\n\nPackage: c\nVersion: 1\nProvides: x (= 2)\nBreaks: x\n\nPackage: d\nVersion: 1\nDepends: x, d:arm64 | x:any\n\n",
-            &[0b0011, 0b0110],
-        ),
-    ];
-    for (text, broken) in cases {
-        let left = left_by(
-            alloc,
-            &Given {
-                text,
-                words: "kernel I",
-                failing: (0, 0, 0),
-            },
-        )?;
+    for (text, broken) in BROKEN {
+        let given = Given {
+            text,
+            words: INDEX,
+            failing: (0, 0, 0),
+        };
+        let left = left_by(alloc, &given)?;
         let printed = read_printed(alloc, std::str::from_utf8(left.out.taken())?)?;
         assert_eq!(rt; printed.members.len(), 4, "{text}");
         for (member, name) in printed.members.iter().zip(["a 1", "b 1", "c 1", "d 1"]) {
@@ -429,22 +466,7 @@ fn each_set_keeps_its_answer(rt: HostRuntime) -> Result<(), Fail> {
             return Err("a short text".into());
         }
         let suite = read_suite(alloc, text.as_bytes()).ok().ok_or("a fault")?;
-        for subset in 0..16 {
-            let wanted = wanted_by(alloc, subset)?;
-            let expected = !broken.iter().any(|set| subset & *set == *set);
-            let on_stanzas = are_coinstallable(alloc, &suite, wanted.as_slice())?;
-            let on_classes = is_coinst(
-                alloc,
-                printed.clauses.as_slice(),
-                printed.conflicts.as_slice(),
-                wanted.as_slice(),
-            )?;
-            assert_eq!(rt;
-                (on_stanzas, on_classes),
-                (expected, expected),
-                "{text} {wanted:?}"
-            );
-        }
+        expect_sets(&rt, &suite, &printed, broken)?;
     }
     Ok(())
 }

@@ -1,8 +1,8 @@
 //! The work on the kernel of an index: read the file, make the report, print it.
 ghost use Rattle.std.specs.Prelude.{◌≡◌, ◌<◌, ◌≤◌, ℕ, List, length, IfOk, IfErr, IfSome};
 ghost use Rattle.byte_flow.specs.Flow.{LacksFile, Rose};
-ghost use Rattle.coinst_run.specs.Ended.{Decides, OnCut, OnFaulty, OnUnread, Reports, Takes, status_of};
-ghost use Rattle.coinst_run.specs.FileReport.{IsOfText, OnFaultyFile, OnRefused, OnUnreadFile};
+ghost use Rattle.coinst_run.specs.Ended.{Decides, OnCut, OnNoReport, OnRead, OnUnread, Reports, TakesFront, status_of};
+ghost use Rattle.coinst_run.specs.FileReport.{IsOfText, OnReadFile, OnRefused, OnUnreadFile, ReadsFile};
 ghost use Rattle.coinst_run.specs.Outcome.{of_accepted, of_file, of_index, passed_limit, reported};
 ghost use Rattle.coinst_run.specs.Refusals.{file_error};
 ghost use Rattle.repo_model.specs.FirstFault.{first_fault};
@@ -173,7 +173,7 @@ fn file_report<F: Shelf>(
 
     ensures unread { IfErr result (OnUnreadFile (Rose (F.faults shelf.old) (F.faults shelf.new))) }
     ensures quiet { F.is_quiet shelf.old → IfErr result (OnUnreadFile (LacksFile (F.contents shelf.old) path.now)) }
-    ensures faulty { IfErr result (OnFaultyFile (IfSome (F.contents shelf.old) (λ files. IfSome (files path.now) (λ text. F.moved shelf.new ≡ length text)))) }
+    ensures read { OnReadFile (ReadsFile (F.contents shelf.old) path.now (F.moved shelf.new)) result }
     ensures later { F.faults shelf.old ≤ F.faults shelf.new }
 {
     match read_file(alloc, shelf, path, FILE_LIMIT) {
@@ -195,11 +195,12 @@ pub fn print_kernel<F: Shelf, O: Sink>(
     requires { 0 < limit }
     ensures decides { IfSome (F.contents shelf.old) (λ files. Decides path.now result (of_file path.now limit (files path.now))) }
     ensures reports { IfSome (F.contents shelf.old) (λ files. Reports result (O.taken out.old) (O.taken out.new) (of_file path.now limit (files path.now)).report) }
-    ensures takes { Takes result (O.taken out.old) (O.taken out.new) }
+    ensures front { TakesFront result (O.taken out.old) (O.taken out.new) }
+    ensures silent { OnNoReport result (out.new ≡ out.old) }
 
     ensures unread { OnUnread result (Rose (F.faults shelf.old) (F.faults shelf.new)) }
     ensures quiet { F.is_quiet shelf.old → OnUnread result (LacksFile (F.contents shelf.old) path.now) }
-    ensures faulty { OnFaulty result (IfSome (F.contents shelf.old) (λ files. IfSome (files path.now) (λ text. F.moved shelf.new ≡ length text))) }
+    ensures read { OnRead result (ReadsFile (F.contents shelf.old) path.now (F.moved shelf.new)) }
 
     ensures cut { OnCut result (Rose (O.faults out.old) (O.faults out.new)) }
     ensures room { IfSome (F.contents shelf.old) (λ files. length (of_file path.now limit (files path.now)).report ≤ O.room out.old → OnCut result ⊥) }

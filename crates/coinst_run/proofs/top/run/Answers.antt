@@ -4,7 +4,7 @@ use Rattle.coinst_run.specs.declared.words.Job.TheVariants.{Kernel}
 use Rattle.coinst_run.specs.Causes.{Tells}
 use Rattle.coinst_run.specs.Outcome.{outcome_of, of_file}
 use Rattle.coinst_run.specs.Words.{job_of}
-use Rattle.coinst_run.proofs.Runs.{answers_end, answers_none, completes_end, completes_none, each_told, if_told, line_end, line_none, means_told, outcome_kernel, prints_end, quiet_end, room_end}
+use Rattle.coinst_run.proofs.Runs.{answers_end, answers_none, completes_end, completes_none, each_told, if_told, line_end, line_none, means_told, outcome_kernel, prints_end, quiet_end, refusal_end, room_end}
 use Rattle.coinst_run.proofs.top.run.Goals as goal
 
 pub returns-in-Ok-clause-answers : goal.returns-in-Ok-clause-answers
@@ -40,7 +40,12 @@ returns-in-Ok-clause-completes g c =
 pub returns-in-Ok-clause-line : goal.returns-in-Ok-clause-line
 returns-in-Ok-clause-line g c =
     let job : job_of (map string_bytes c.args.words.now) ≡ Some (Kernel c.as_str-path.result.now c.kernel-limit.result.1) = c.in-Ok.ensures.job ∙ ap Some (c.kernel-limit.ensures ∙ ap (λ index. Kernel index c.kernel-limit.result.1) (sym c.as_str-path.ensures)) in
-    if_told (g.F.Shelf.contents c.args.shelf.now) (λ files h. line_end c.print_kernel-ended.result c.as_str-path.result.now (outcome_of (map string_bytes c.args.words.now) files) (of_file c.as_str-path.result.now c.kernel-limit.result.1 (files c.as_str-path.result.now)) c.status.result (Tells (g.E.Sink.taken c.args.err.now) (g.E.Sink.taken c.tell_end.new.err) (g.E.Sink.faults c.args.err.now) (g.E.Sink.faults c.tell_end.new.err)) c.status.ensures (outcome_kernel (map string_bytes c.args.words.now) files c.as_str-path.result.now c.kernel-limit.result.1 job) h c.tell_end.ensures) c.print_kernel-ended.ensures.decides
+    if_told (g.F.Shelf.contents c.args.shelf.now) (λ files h. line_end c.print_kernel-ended.result c.as_str-path.result.now (outcome_of (map string_bytes c.args.words.now) files) (of_file c.as_str-path.result.now c.kernel-limit.result.1 (files c.as_str-path.result.now)) c.status.result (c.tell_end.new.err ≡ c.args.err.now) (Tells (g.E.Sink.taken c.args.err.now) (g.E.Sink.taken c.tell_end.new.err) (g.E.Sink.faults c.args.err.now) (g.E.Sink.faults c.tell_end.new.err)) c.status.ensures (outcome_kernel (map string_bytes c.args.words.now) files c.as_str-path.result.now c.kernel-limit.result.1 job) h c.tell_end.ensures) c.print_kernel-ended.ensures.decides
+
+pub returns-in-Ok-clause-refusal_line : goal.returns-in-Ok-clause-refusal_line
+returns-in-Ok-clause-refusal_line g c =
+    let job : job_of (map string_bytes c.args.words.now) ≡ Some (Kernel c.as_str-path.result.now c.kernel-limit.result.1) = c.in-Ok.ensures.job ∙ ap Some (c.kernel-limit.ensures ∙ ap (λ index. Kernel index c.kernel-limit.result.1) (sym c.as_str-path.ensures)) in
+    refusal_end c.print_kernel-ended.result (map string_bytes c.args.words.now) c.as_str-path.result.now c.kernel-limit.result.1 c.status.result (c.tell_end.new.err ≡ c.args.err.now) (Tells (g.E.Sink.taken c.args.err.now) (g.E.Sink.taken c.tell_end.new.err) (g.E.Sink.faults c.args.err.now) (g.E.Sink.faults c.tell_end.new.err)) c.status.ensures job c.tell_end.ensures
 
 pub returns-in-Err-NotACommand-clause-answers : goal.returns-in-Err-NotACommand-clause-answers
 returns-in-Err-NotACommand-clause-answers g c =

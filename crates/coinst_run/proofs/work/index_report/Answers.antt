@@ -1,8 +1,6 @@
-use Rattle.std.proofs.Common.{List, ℕ, ◌≡◌, ap, sym, subst, ◌∙◌}
+use Rattle.std.proofs.Common.{sym, subst, ◌∙◌}
 use Rattle.std.proofs.lemmas.Result.{IfOk-weaker, IfErr-weaker}
-use Rattle.repo_model.specs.FirstFault.{first_fault}
 use Rattle.coinst_run.specs.FileReport.{OnRefused}
-use Rattle.coinst_run.specs.Outcome.{of_accepted, of_index, reported}
 use Rattle.coinst_run.proofs.Files.{text_packages}
 use Rattle.coinst_run.proofs.work.index_report.Goals as goal
 

@@ -2,7 +2,6 @@ use Rattle.std.proofs.Common.{◌<◌, length, sym, ap, ◌∙◌, arith}
 use Rattle.std.proofs.lemmas.List.{length-map}
 use Rattle.clause_pool.specs.Interned.{row_at}
 use Rattle.row_book.specs.Book.{repository_of}
-use Rattle.repo_model.specs.Repository.{suite_repository}
 use Rattle.repo_model.proofs.Packages.{length_clauses}
 use Rattle.coinst_run.proofs.Files.{report_is}
 use Rattle.coinst_run.proofs.Flattened.{flat_size, passed_inside}

@@ -46,7 +46,8 @@ impl Element for Provide {
 fn read_alternatives(alloc: Global, text: &[u8]) -> Result<Option<AtomList>, AllocError>
     ensures { IfOk result (λ atoms. atoms ≡ alternatives_of text.now) }
 {
-    let mut atoms = AtomList::new(alloc);
+    // Most elements have one alternative, so the list begins with room for one.
+    let mut atoms = AtomList::of(Vec::with_capacity(alloc, 1)?);
     let mut left = Some(text);
     while let Some(rest) = left {
         let (piece, behind) = cut(rest, b'|');

@@ -9,5 +9,6 @@ pub mod Faults
 mod Examples
 pub mod Inserts
 pub mod Tables
+pub mod Differences
 pub mod Users
 pub mod Samples

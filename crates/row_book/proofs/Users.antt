@@ -1,18 +1,20 @@
 -- The users of numbers: as members of lists, and after a row has changed.
-use Rattle.std.proofs.Common.{◌≡◌, ℕ, suc, ◌<◌, ◌≤◌, ◌+◌, Bool, true, false, not, eqb, ltb, List, [], ◌∷◌, inl, inr, refl, sym, ◌∙◌, ap, ap₂, subst, arith, ◌&&◌, ◌||◌, length, get_or, map, ne_eqb, eq-eqb, take, drop, ◌++◌, append-nil}
+use Rattle.std.proofs.Common.{◌≡◌, ℕ, suc, ◌<◌, ◌≤◌, ◌+◌, Bool, true, false, not, eqb, ltb, List, [], ◌∷◌, ◌⊎◌, inl, inr, refl, sym, ◌∙◌, ap, ap₂, subst, arith, ◌&&◌, ◌||◌, length, get_or, map, ne_eqb, eq-eqb, take, drop, ◌++◌, append-nil}
 use Rattle.std.specs.Global.{Vec}
 use Rattle.std.specs.List.{slice_set}
-use Rattle.std.proofs.lemmas.Bool.{cases_Bool, cases_eq, both_ways, and_parts, and_from, or_left, or_right, ltb-true, ltb-false, lt-ltb, le-ltb}
+use Rattle.std.proofs.Math.Bool.{or-false, and-true, and-false}
+use Rattle.std.proofs.lemmas.Bool.{false≢true, cases_Bool, cases_eq, both_ways, and_parts, and_from, or_left, or_right, ltb-true, ltb-false, lt-ltb, le-ltb}
 use Rattle.std.proofs.lemmas.List.{get_or-set_same, get_or-set_other, length-set, length-map, drop_all, take_all}
 use Rattle.std.proofs.lemmas.Grind.{get_or_default_zero}
-use Rattle.clause_pool.specs.Interned.{Interned, row_at}
+use Rattle.clause_pool.specs.Interned.{Interned, clauses_at, ids_at, row_at}
 use Rattle.row_book.specs.Sets.{NumSet, In, has}
 use Rattle.row_book.specs.Clauses.{Ascending, numbers}
 use Rattle.row_book.specs.Book.{RowsFit}
-use Rattle.row_book.specs.Uses.{row_id, row_holds, users_of, uses_of, IsListOf, lists_in, list_in}
+use Rattle.row_book.specs.Uses.{row_id, row_holds, some_holds, users_of, uses_of, HoldsDifference, IsListOf, lists_in, list_in}
 use Rattle.row_book.proofs.Lists.{In_has, has_In, has_not, any_cases, filter_from, filter_cases, ascending_filter}
 use Rattle.row_book.proofs.Order.{numbers_from, numbers_parts, numbers_ascending, length_numbers, at_numbers}
 use Rattle.row_book.proofs.Inserts.{listed_once, listed_as}
+use Rattle.row_book.proofs.Differences.{difference_all, difference_held}
 
 -- members of a list of users
 pub user_within : (pool : Interned) (rows : List ℕ) (n p : ℕ) → In p (users_of pool rows n) → (p < length rows) × (row_holds pool (row_id rows p) n ≡ true)
@@ -23,6 +25,11 @@ user_within pool rows n p i =
 
 pub user_from : (pool : Interned) (rows : List ℕ) (n p : ℕ) → p < length rows → row_holds pool (row_id rows p) n ≡ true → In p (users_of pool rows n)
 user_from pool rows n p l h = filter_from (λ q. row_holds pool (row_id rows q) n) (numbers (length rows) 0) p (numbers_from (length rows) 0 p (omega arith) (omega arith)) h
+
+-- the numbers of the ids that a row lends are those that it holds
+pub row_numbers : (pool : Interned) (row : ℕ) (ids found : List ℕ) → ids ≡ ids_at pool row → ((n : ℕ) → has found n ≡ some_holds (clauses_at pool ids) n)
+    → (n : ℕ) → has found n ≡ row_holds pool row n
+row_numbers pool row ids found e f n = f n ∙ ap (λ xs. some_holds (clauses_at pool xs) n) e
 
 -- what it is that a row holds a number
 pub held_by : (pool : Interned) (id n : ℕ) → row_holds pool id n ≡ true → (c : List ℕ) × In c (row_at pool id) × In n c
@@ -124,49 +131,70 @@ lent_whole size xs ys e f =
 pub held_within : (pool : Interned) (rows : List ℕ) (row n : ℕ) → RowsFit pool rows → In row rows → row_holds pool row n ≡ true → n < length rows
 held_within pool rows row n f i h = let w : (c : List ℕ) × In c (row_at pool row) × In n c = held_by pool row n h in f.numbers row i w.0 w.1 n w.2
 
--- a package that has another row now
-changed_here : (a b : Bool) → ((b || (a && true)) && not (b && not a && true)) ≡ (true && a)
-changed_here true true = refl
-changed_here true false = refl
-changed_here false true = refl
-changed_here false false = refl
+-- A package that has another row now.
 
-changed_other : (x a b : Bool) → ((x || (a && false)) && not (b && not a && false)) ≡ x
-changed_other true true true = refl
-changed_other true true false = refl
-changed_other true false true = refl
-changed_other true false false = refl
-changed_other false true true = refl
-changed_other false true false = refl
-changed_other false false true = refl
-changed_other false false false = refl
+-- whether a number is held by the old row, by the new one, among the numbers that were lost, and among those that came
+pub record Shifts (was is lost came : Bool) : Type 0 where
+  pub lost_held : lost ≡ true → was ≡ true
+  pub lost_all : was ≡ true → (lost ≡ true) ⊎ (is ≡ true)
+  pub came_held : came ≡ true → is ≡ true
+  pub came_all : is ≡ true → (came ≡ true) ⊎ (was ≡ true)
+
+changed_here : (was is lost came : Bool) → Shifts was is lost came → ((was || (came && true)) && not (lost && not (is && lost) && true)) ≡ (true && is)
+changed_here true true true came s = refl
+changed_here true true false came s = refl
+changed_here false true true true s = refl
+changed_here false true false true s = refl
+changed_here false true lost false s = elim (s.came_all refl) [ inl e ↦ absurd (false≢true e) | inr e ↦ absurd (false≢true e) ]
+changed_here was false lost true s = absurd (false≢true (s.came_held refl))
+changed_here true false true false s = refl
+changed_here true false false false s = elim (s.lost_all refl) [ inl e ↦ absurd (false≢true e) | inr e ↦ absurd (false≢true e) ]
+changed_here false false lost false s = refl
+
+changed_other : (x came lost kept : Bool) → ((x || (came && false)) && not (lost && not kept && false)) ≡ x
+changed_other x came lost kept = ap₂ (λ a b. (x || a) && not b) (and-false came) (and-false (lost && not kept)) ∙ and-true (x || false) ∙ or-false x
 
 pub uses_changed : (pool : Interned) (rows : List ℕ) (p old new n : ℕ) → p < length rows → row_id rows p ≡ old
-    → (xs ys zs before after : List ℕ) → has before n ≡ row_holds pool old n → has after n ≡ row_holds pool new n → xs ≡ users_of pool rows n
+    → (xs ys zs before after kept : List ℕ) → Shifts (row_holds pool old n) (row_holds pool new n) (has before n) (has after n)
+    → has kept n ≡ (row_holds pool new n && has before n) → xs ≡ users_of pool rows n
     → (Ascending xs → IsListOf (λ m. has xs m || (has after n && eqb m p)) ys)
-    → (Ascending ys → IsListOf (λ m. has ys m && not (has before n && not (has after n) && eqb m p)) zs)
+    → (Ascending ys → IsListOf (λ m. has ys m && not (has before n && not (has kept n) && eqb m p)) zs)
     → IsListOf (uses_number pool (slice_set rows p new) (length (slice_set rows p new)) n) zs
-uses_changed pool rows p old new n l o xs ys zs before after hb ha e f g =
+uses_changed pool rows p old new n l o xs ys zs before after kept shifts hk e f g =
     let first : IsListOf (uses_number pool rows (length rows) n) xs = subst (IsListOf (uses_number pool rows (length rows) n)) (sym e) (users_listed pool rows n) in
     let second : IsListOf (λ m. has xs m || (has after n && eqb m p)) ys = f first.ascending in
     let A = row_holds pool new n in
     let B = row_holds pool old n in
     let size : length (slice_set rows p new) ≡ length rows = length-set rows p new in
-    listed_as (λ m. has ys m && not (has before n && not (has after n) && eqb m p)) (uses_number pool (slice_set rows p new) (length (slice_set rows p new)) n) zs
+    listed_as (λ m. has ys m && not (has before n && not (has kept n) && eqb m p)) (uses_number pool (slice_set rows p new) (length (slice_set rows p new)) n) zs
     (λ m.
-    ap (λ x. x && not (has before n && not (has after n) && eqb m p)) (second.members m ∙ ap (λ x. x || (has after n && eqb m p)) (first.members m))
-    ∙ ap₂ (λ a b. (uses_number pool rows (length rows) n m || (a && eqb m p)) && not (b && not a && eqb m p)) ha hb
+    ap (λ x. x && not (has before n && not (has kept n) && eqb m p)) (second.members m ∙ ap (λ x. x || (has after n && eqb m p)) (first.members m))
     ∙ elim (cases_eq m p) [
       | inl s ↦
           let own : uses_number pool rows (length rows) n m ≡ B = ap (uses_number pool rows (length rows) n) s ∙ ap₂ (λ x r. x && row_holds pool r n) (lt-ltb p (length rows) l) o in
           let now : row_id (slice_set rows p new) m ≡ new = ap (row_id (slice_set rows p new)) s ∙ get_or-set_same rows p new 0 l in
-          ap₂ (λ x y. (x || (A && y)) && not (B && not A && y)) own (eq-eqb m p s) ∙ changed_here A B
+          ap₂ (λ x y. (x || (has after n && y)) && not (has before n && not (has kept n) && y)) own (eq-eqb m p s)
+          ∙ ap (λ k. (B || (has after n && true)) && not (has before n && not k && true)) hk
+          ∙ changed_here B A (has before n) (has after n) shifts
           ∙ sym (ap₂ (λ x r. x && row_holds pool r n) (lt-ltb m (length (slice_set rows p new)) (omega (arith, s, size))) now)
       | inr ne ↦
-          ap (λ y. (uses_number pool rows (length rows) n m || (A && y)) && not (B && not A && y)) (ne_eqb m p ne) ∙ changed_other (uses_number pool rows (length rows) n m) A B
+          ap (λ y. (uses_number pool rows (length rows) n m || (has after n && y)) && not (has before n && not (has kept n) && y)) (ne_eqb m p ne)
+          ∙ changed_other (uses_number pool rows (length rows) n m) (has after n) (has before n) (has kept n)
           ∙ sym (ap₂ (λ k r. ltb m k && row_holds pool r n) size (get_or-set_other rows p m new 0 ne))
     ])
     (g second.ascending)
+
+-- the numbers of what a row lost and gained
+pub shifts_of : (pool : Interned) (old new : ℕ) (lost gained before after : List ℕ) (n : ℕ)
+    → HoldsDifference (ids_at pool old) (ids_at pool new) lost → HoldsDifference (ids_at pool new) (ids_at pool old) gained
+    → has before n ≡ some_holds (clauses_at pool lost) n → has after n ≡ some_holds (clauses_at pool gained) n
+    → Shifts (row_holds pool old n) (row_holds pool new n) (has before n) (has after n)
+shifts_of pool old new lost gained before after n d g hb ha = record {
+  lost_held = λ h. difference_held pool (ids_at pool old) (ids_at pool new) lost n d (sym hb ∙ h);
+  lost_all = λ h. elim (difference_all pool (ids_at pool old) (ids_at pool new) lost n d h) [ inl a ↦ inl (hb ∙ a) | inr b ↦ inr b ];
+  came_held = λ h. difference_held pool (ids_at pool new) (ids_at pool old) gained n g (sym ha ∙ h);
+  came_all = λ h. elim (difference_all pool (ids_at pool new) (ids_at pool old) gained n g h) [ inl a ↦ inl (ha ∙ a) | inr b ↦ inr b ];
+}
 
 -- the numbers that a row holds are those of its clauses
 pub held_below : (pool : Interned) (id size n : ℕ) → ((c : List ℕ) → In c (row_at pool id) → (m : ℕ) → In m c → m < size) → row_holds pool id n ≡ true → n < size
@@ -190,17 +218,16 @@ row_added pool rows k row e l users lent new held same h b f n =
 -- and after the package has another row
 pub uses_replaced : (pool : Interned) (rows : List ℕ) (p old new : ℕ) → p < length rows → row_id rows p ≡ old → (first second third : List (Vec ℕ)) (before after kept : List ℕ)
     → lists_in first ≡ uses_of pool rows → length second ≡ length first → length third ≡ length second
-    → ((n : ℕ) → has before n ≡ row_holds pool old n) → ((n : ℕ) → has after n ≡ row_holds pool new n) → ((n : ℕ) → has kept n ≡ row_holds pool new n)
+    → ((n : ℕ) → Shifts (row_holds pool old n) (row_holds pool new n) (has before n) (has after n)) → ((n : ℕ) → has kept n ≡ (row_holds pool new n && has before n))
     → ((n : ℕ) → Ascending (list_in first n) → IsListOf (λ m. has (list_in first n) m || (has after n && eqb m p)) (list_in second n))
     → ((n : ℕ) → Ascending (list_in second n) → IsListOf (λ m. has (list_in second n) m && not (has before n && not (has kept n) && eqb m p)) (list_in third n))
     → lists_in third ≡ uses_of pool (slice_set rows p new)
-uses_replaced pool rows p old new l o first second third before after kept e s t hb ha hk f g =
+uses_replaced pool rows p old new l o first second third before after kept e s t shifts hk f g =
     let size : length (slice_set rows p new) ≡ length rows = length-set rows p new in
     let whole : length (lists_in third) ≡ length (slice_set rows p new) =
     length-map third (λ v. v.items) ∙ t ∙ s ∙ sym (length-map first (λ v. v.items)) ∙ ap length e ∙ length_uses pool rows ∙ sym size in
     is_uses_of (lists_in third) pool (slice_set rows p new) whole
     (λ n u.
     let k : n < length rows = omega arith in
-    uses_changed pool rows p old new n l o (list_in first n) (list_in second n) (list_in third n) before after (hb n) (ha n)
-    (ap (λ xs. get_or xs n []) e ∙ list_of_uses pool rows n k) (f n)
-    (λ a. subst (λ b. IsListOf (λ m. has (list_in second n) m && not (has before n && not b && eqb m p)) (list_in third n)) (hk n ∙ sym (ha n)) (g n a)))
+    uses_changed pool rows p old new n l o (list_in first n) (list_in second n) (list_in third n) before after kept (shifts n) (hk n)
+    (ap (λ xs. get_or xs n []) e ∙ list_of_uses pool rows n k) (f n) (g n))

@@ -1,19 +1,23 @@
 -- Which packages name which: for each number the packages whose row has a clause that holds it.
-use Rattle.std.specs.Prelude.{◌≡◌, ℕ, ◌-◌, Bool, List, [], map, filter, length, slice_index_or}
+use Rattle.std.specs.Prelude.{◌≡◌, ℕ, ◌-◌, ◌⊎◌, Bool, List, [], map, filter, length, slice_index_or}
 use Rattle.std.specs.List.{list_any}
 use Rattle.std.specs.Global.{Vec}
 use Rattle.std.specs.Vec.{vec_capacity, vec_len}
 use Rattle.clause_pool.specs.Interned.{Interned, row_at}
-use Rattle.row_book.specs.Sets.{NumSet, has}
+use Rattle.row_book.specs.Sets.{NumSet, In, has}
 use Rattle.row_book.specs.Clauses.{Ascending, numbers}
 
 -- the id of the row of a package
 abbrev pub row_id : List ℕ → ℕ → ℕ
 row_id rows p = slice_index_or rows p 0
 
+-- one of the clauses holds the number
+abbrev pub some_holds : List (List ℕ) → ℕ → Bool
+some_holds clauses n = list_any (λ c. has c n) clauses
+
 -- a clause of the row holds the number
 abbrev pub row_holds : Interned → ℕ → ℕ → Bool
-row_holds pool id n = list_any (λ c. has c n) (row_at pool id)
+row_holds pool id n = some_holds (row_at pool id) n
 
 -- the packages whose row has a clause that holds the number, ascending
 abbrev pub users_of : Interned → List ℕ → ℕ → List ℕ
@@ -22,6 +26,11 @@ users_of pool rows n = filter (λ p. row_holds pool (row_id rows p) n) (numbers 
 -- for each number its users
 unfoldable pub uses_of : Interned → List ℕ → List (List ℕ)
 uses_of pool rows = map (users_of pool rows) (numbers (length rows) 0)
+
+-- members of the first list, and of these at least all that are not in the second
+pub record HoldsDifference (first second found : List ℕ) : Type 0 where
+  pub part : (x : ℕ) → In x found → In x first
+  pub rest : (x : ℕ) → In x first → In x found ⊎ In x second
 
 -- the members of a set, ascending
 pub record IsListOf (S : NumSet) (xs : List ℕ) : Type 0 where

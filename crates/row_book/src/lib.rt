@@ -2,6 +2,7 @@
 #![tactic(auto)]
 
 pub mod book;
+mod changes;
 pub mod health;
 pub mod pair;
 mod pairing;

@@ -1,13 +1,14 @@
 //! Which packages name which.
 ghost use Rattle.std.specs.Prelude.{◌≡◌, ◌<◌, ◌-◌, ◌⊎◌, ◌&&◌, ◌||◌, ℕ, List, [], IfOk, OnOk, OnErr, true, not, eqb, length, slice_set, vec_capacity, vec_len};
 ghost use Rattle.std.specs.List.Sorted.{IsNonDecreasing};
-ghost use Rattle.clause_pool.specs.Interned.{row_at};
+ghost use Rattle.clause_pool.specs.Interned.{clauses_at, row_at, OfPool};
 ghost use Rattle.row_book.specs.Sets.{In, has, plus, without};
 ghost use Rattle.row_book.specs.Clauses.{Ascending};
 ghost use Rattle.row_book.specs.Book.{listed_for, RowsFit};
-ghost use Rattle.row_book.specs.Uses.{row_holds, row_id, uses_of, IsListOf, lists_in, list_in, room_in};
+ghost use Rattle.row_book.specs.Uses.{row_id, some_holds, uses_of, IsListOf, lists_in, list_in, room_in};
 
-use clause_pool::{Pool, RowId};
+use crate::changes::changes_between;
+use clause_pool::{ClauseId, Pool, RowId};
 use std::alloc::{AllocError, Global};
 use std::marker::Model;
 
@@ -38,7 +39,7 @@ impl UseTable {
     {
         let mut users = empty_lists(alloc, rows.len())?;
         for (package, row) in rows.iter().enumerate() {
-            let numbers = numbers_of(alloc, pool, *row)?;
+            let numbers = numbers_in(alloc, pool, pool.row(*row))?;
             add_to_each(users.as_mut_slice(), numbers.as_slice(), package as u32)?;
         }
         Ok(UseTable { users })
@@ -71,11 +72,13 @@ impl UseTable {
             self.old ≡ uses_of pool.now rows → self.new ≡ uses_of pool.now (slice_set rows «package» new)) }
         ensures err { OnErr result (self.new ≡ self.old) }
     {
-        let before = numbers_of(alloc, pool, old)?;
-        let after = sorted_numbers_of(alloc, pool, new)?;
+        let changes = changes_between(alloc, pool, pool.row(old), pool.row(new))?;
+        let before = sorted_numbers_in(alloc, pool, changes.lost.as_slice())?;
+        let after = numbers_in(alloc, pool, changes.gained.as_slice())?;
+        let kept = numbers_among(alloc, pool, pool.row(new), before.as_slice())?;
         let table = self.users.as_mut_slice();
         add_to_each(table, after.as_slice(), package)?;
-        take_from_each(table, before.as_slice(), after.as_slice(), package);
+        take_from_each(table, before.as_slice(), kept.as_slice(), package);
         Ok(())
     }
 }
@@ -92,27 +95,60 @@ fn empty_lists(alloc: Global, size: usize) -> Result<Vec<Vec<u32>>, AllocError>
     Ok(made)
 }
 
-/// The numbers that the clauses of a row hold.
-fn numbers_of(alloc: Global, pool: &Pool, row: RowId) -> Result<Vec<u32>, AllocError>
-    requires { row < length pool.now.rows }
-    ensures { IfOk result (λ found. (n : ℕ) → has found.items n ≡ row_holds pool.now row n) }
+/// The numbers that clauses hold.
+fn numbers_in(alloc: Global, pool: &Pool, ids: &[ClauseId]) -> Result<Vec<u32>, AllocError>
+    requires { OfPool pool.now ids.now }
+    ensures { IfOk result (λ found. (n : ℕ) → has found.items n ≡ some_holds (clauses_at pool.now ids.now) n) }
 {
     let mut found = Vec::new(alloc);
-    for clause in pool.row(row) {
-        found.extend_from_slice(pool.slice(*clause))?;
+    for id in ids {
+        found.extend_from_slice(pool.slice(*id))?;
     }
     Ok(found)
 }
 
-/// The numbers that the clauses of a row hold, in their order.
-fn sorted_numbers_of(alloc: Global, pool: &Pool, row: RowId) -> Result<Vec<u32>, AllocError>
-    requires { row < length pool.now.rows }
-    ensures members { IfOk result (λ found. (n : ℕ) → has found.items n ≡ row_holds pool.now row n) }
+/// The numbers that clauses hold, in their order.
+fn sorted_numbers_in(alloc: Global, pool: &Pool, ids: &[ClauseId]) -> Result<Vec<u32>, AllocError>
+    requires { OfPool pool.now ids.now }
+    ensures members { IfOk result (λ found. (n : ℕ) → has found.items n ≡ some_holds (clauses_at pool.now ids.now) n) }
     ensures sorted { IfOk result (λ found. IsNonDecreasing found.items) }
 {
-    let mut found = numbers_of(alloc, pool, row)?;
+    let mut found = numbers_in(alloc, pool, ids)?;
     found.sort_unstable();
     Ok(found)
+}
+
+/// Those of the wanted numbers, which are sorted, that clauses hold, in their order.
+fn numbers_among(
+    alloc: Global,
+    pool: &Pool,
+    ids: &[ClauseId],
+    wanted: &[u32],
+) -> Result<Vec<u32>, AllocError>
+    requires of_pool { OfPool pool.now ids.now }
+    requires sorted { IsNonDecreasing wanted.now }
+    ensures members { IfOk result (λ found. (n : ℕ) → has found.items n ≡ (some_holds (clauses_at pool.now ids.now) n && has wanted.now n)) }
+    ensures sorted { IfOk result (λ found. IsNonDecreasing found.items) }
+{
+    let mut found = Vec::new(alloc);
+    for id in ids {
+        add_wanted(pool.slice(*id), wanted, &mut found)?;
+    }
+    found.sort_unstable();
+    Ok(found)
+}
+
+/// Puts the wanted numbers, which are sorted, of a clause behind the others.
+fn add_wanted(clause: &[u32], wanted: &[u32], found: &mut Vec<u32>) -> Result<(), AllocError>
+    requires { IsNonDecreasing wanted.now }
+    ensures { OnOk result ((n : ℕ) → has found.new.items n ≡ (has found.old.items n || (has clause.now n && has wanted.now n))) }
+{
+    for number in clause {
+        if holds(wanted, *number) {
+            found.push(*number)?;
+        }
+    }
+    Ok(())
 }
 
 /// Puts the package into the list of each of the numbers, where it is not there yet; where no memory is found, the lists

@@ -1,6 +1,6 @@
 use Rattle.std.proofs.Common.{◌∙◌, eqb, sym}
 use Rattle.std.proofs.lemmas.List.Sorted.{IsNonDecreasingBy-from_sort, list_any-IsPermutation}
-use Rattle.row_book.proofs.uses.sorted_numbers_of.Goals as goal
+use Rattle.row_book.proofs.uses.sorted_numbers_in.Goals as goal
 
 pub returns-clause-members : goal.returns-clause-members
 returns-clause-members c = λ n. sym (list_any-IsPermutation (λ m. eqb n m) c.in_ok-found.found.items c.sort_unstable.new.self.items c.sort_unstable.ensures.permutation) ∙ c.in_ok-found.ensures n

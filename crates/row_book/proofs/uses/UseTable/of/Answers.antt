@@ -3,18 +3,18 @@ use Rattle.std.proofs.lemmas.List.{length-map}
 use Rattle.row_book.specs.Sets.{In, has}
 use Rattle.row_book.specs.Uses.{IsListOf, list_in, lists_in}
 use Rattle.row_book.proofs.Lists.{item_in}
-use Rattle.row_book.proofs.Users.{held_within, is_uses_of, lent_whole, row_added, uses_number}
+use Rattle.row_book.proofs.Users.{held_within, is_uses_of, lent_whole, row_added, row_numbers, uses_number}
 use Rattle.row_book.proofs.uses.UseTable.of.Goals as goal
 
-pub numbers_of-requires : goal.numbers_of-requires
-numbers_of-requires c = c.requires.fit.of_pool c.index-rows-package.result (item_in c.args.rows.now c.loop-package.package c.index-rows-package.result c.loop-package-test.true c.index-rows-package.is)
+pub row-requires : goal.row-requires
+row-requires c = c.requires.fit.of_pool c.index-rows-package.result (item_in c.args.rows.now c.loop-package.package c.index-rows-package.result c.loop-package-test.true c.index-rows-package.is)
 
 pub add_to_each-requires : goal.add_to_each-requires
 add_to_each-requires c = λ n h.
     let row = c.index-rows-package.result in
     let i : In row c.args.rows.now = item_in c.args.rows.now c.loop-package.package row c.loop-package-test.true c.index-rows-package.is in
     subst (λ size. n < size) (sym (ap length c.as_mut_slice.ensures.value ∙ c.loop-package.invariant.size))
-    (held_within c.args.pool.now c.args.rows.now row n c.requires.fit i (sym (c.in_ok-numbers.ensures n) ∙ ap (λ xs. has xs n) (sym c.as_slice.ensures.value) ∙ h))
+    (held_within c.args.pool.now c.args.rows.now row n c.requires.fit i (sym (row_numbers c.args.pool.now row c.row.result.now c.in_ok-numbers.numbers.items c.row.ensures.lent c.in_ok-numbers.ensures n) ∙ ap (λ xs. has xs n) (sym c.as_slice.ensures.value) ∙ h))
 
 pub loop-package-preserved : goal.loop-package-preserved
 loop-package-preserved c =
@@ -28,7 +28,7 @@ loop-package-preserved c =
       listed = λ n.
           subst (λ t. IsListOf (uses_number c.args.pool.now c.args.rows.now (k + 1) n) (list_in t n)) (sym whole)
           (row_added c.args.pool.now c.args.rows.now k c.index-rows-package.result c.index-rows-package.is c.loop-package-test.true users.items c.as_mut_slice.result.now new c.as_slice.result.now c.as_mut_slice.ensures.value
-          (λ m. ap (λ xs. has xs m) c.as_slice.ensures.value ∙ c.in_ok-numbers.ensures m) c.loop-package.invariant.listed c.in_ok-add_to_each.ensures.ok n);
+          (λ m. ap (λ xs. has xs m) c.as_slice.ensures.value ∙ row_numbers c.args.pool.now c.index-rows-package.result c.row.result.now c.in_ok-numbers.numbers.items c.row.ensures.lent c.in_ok-numbers.ensures m) c.loop-package.invariant.listed c.in_ok-add_to_each.ensures.ok n);
     }
 
 pub returns : goal.returns

@@ -190,7 +190,7 @@ fn add_unions_of(
 }
 
 /// Puts the clauses in order, each once.
-fn put_in_order(family: &mut Vec<Clause>)
+pub fn put_in_order(family: &mut Vec<Clause>)
     ensures in_order { InOrder family.new.items }
     ensures same { SameClauses family.old.items family.new.items }
 {
@@ -199,7 +199,7 @@ fn put_in_order(family: &mut Vec<Clause>)
 }
 
 /// The row of the minimal clauses of the family, in the pool.
-pub(crate) fn intern_minimal(
+pub fn intern_minimal(
     alloc: Global,
     pool: &mut Pool,
     family: &[Clause],

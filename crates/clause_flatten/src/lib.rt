@@ -21,7 +21,9 @@ pub use elimination::{
     passes_by_stages, stages_run, table_step,
 };
 pub use error::FlatError;
+pub use family::{intern_minimal, put_in_order};
 pub use flattening::flatten;
+pub use scratch::Clause;
 pub use substitution::eliminate;
 pub use support::{
     first_rows, keeps_every_set, lift_is_healthy, one_step, own_row_stays, row_computes,

@@ -15,7 +15,7 @@ use std::marker::Model;
 /// A clause that is not in the pool, in lexicographic order among others. Most clauses are short, and then take no memory
 /// of their own.
 #[derive(Drop)]
-pub(crate) struct Clause {
+pub struct Clause {
     literals: SmallVec<u32, 6>,
 }
 
@@ -70,7 +70,7 @@ impl Ord for Clause {
 
 impl Clause {
     /// The clause with these literals.
-    pub(crate) fn copy(alloc: Global, literals: &[u32]) -> Result<Clause, AllocError>
+    pub fn copy(alloc: Global, literals: &[u32]) -> Result<Clause, AllocError>
         ensures { IfOk result (λ clause. clause ≡ literals.now) }
     {
         let literals = SmallVec::from_slice(alloc, literals)?;
@@ -94,7 +94,7 @@ impl Clause {
     }
 
     /// Lends the literals in their order.
-    pub(crate) fn as_slice(&self) -> &[u32]
+    pub fn as_slice(&self) -> &[u32]
         ensures { result.now ≡ self.now }
     {
         self.literals.as_slice()

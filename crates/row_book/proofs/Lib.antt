@@ -12,3 +12,6 @@ pub mod Tables
 pub mod Differences
 pub mod Users
 pub mod Samples
+pub mod Repositories
+pub mod Facing
+pub mod BookRepositories

@@ -11,3 +11,10 @@ pub mod Clauses
 pub mod Support
 pub mod Sound
 pub mod Flattening
+pub mod Keeping
+pub mod Facing
+pub mod Merging
+pub mod Pruning
+pub mod Thinning
+pub mod Rounds
+pub mod Trail

@@ -2,7 +2,8 @@
 use Rattle.std.specs.Prelude.{◌≡◌, ℕ, ◌<◌, true, List, length}
 use Rattle.row_book.specs.Sets.{NumSet, In}
 use Rattle.row_book.specs.Repository.{Repository, clauses_of, against}
-use Rattle.row_book.specs.Clauses.{Ascending}
+use Rattle.row_book.specs.Clauses.{Ascending, Inside}
+use Rattle.row_book.specs.Book.{AreConflicts}
 
 -- V is a set of packages
 abbrev pub OfPackages : Repository → NumSet → Type 0
@@ -16,3 +17,16 @@ SoundClauses R = (p : ℕ) (c : List ℕ) → In c (clauses_of R p) →
 -- conflicts are between packages
 abbrev pub BetweenPackages : Repository → Type 0
 BetweenPackages R = (m n : ℕ) → against R m n ≡ true → (m < length R.clauses) × (n < length R.clauses)
+
+-- a sound repository: sound clauses, and a list of conflicts for each package, strictly ascending, either way round, and
+-- without the package itself
+pub record SoundRepository (R : Repository) : Type 0 where
+  pub clauses : SoundClauses R
+  pub count : length R.conflicts ≡ length R.clauses
+  pub conflicts : AreConflicts R.conflicts
+
+-- a tidy one: no clause of a package holds the package, or is within another clause of it
+pub record TidyRepository (R : Repository) : Type 0 where
+  pub sound : SoundRepository R
+  pub apart : (p : ℕ) (c : List ℕ) → In c (clauses_of R p) → In p c → ⊥
+  pub minimal : (p : ℕ) (c d : List ℕ) → In c (clauses_of R p) → In d (clauses_of R p) → Inside c d → c ≡ d

@@ -3,18 +3,22 @@
 
 pub mod book;
 mod changes;
+mod conflicting;
 pub mod health;
 pub mod pair;
 mod pairing;
 mod subsets;
+pub mod trail;
 mod uses;
 
 pub use book::{Book, ConflictTable, RowList};
 pub use clause_pool::NumList;
+pub use conflicting::{all_conflict, are_against, conflicts_with_all, holds, is_inside};
 pub use health::Unhealthy;
 use listed::Listed;
 pub use pair::Pair;
 pub use subsets::is_coinst;
+pub use trail::{Step, StepList, Trail};
 pub use uses::UseTable;
 
 /// The clauses of one package.

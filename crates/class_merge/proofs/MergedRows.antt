@@ -1,0 +1,201 @@
+-- The rows and conflicts that are made from a list of classes are those of the merged repository.
+use Rattle.std.proofs.Common.{◌≡◌, ℕ, ◌<◌, ◌≤◌, ◌+◌, Bool, true, false, not, ◌||◌, cond, eqb, List, [], ◌∷◌, ◌++◌, length, get_or, refl, sym, ◌∙◌, ap, ap₂, subst, arith, map, eq-eqb, eqb-true, slice_index_or, ◌↔◌}
+use Rattle.std.specs.List.{list_all, list_any}
+use Rattle.std.proofs.lemmas.List.{get_or-map, length-map, map-append}
+use Rattle.std.proofs.lemmas.List.Elements.{filter-append}
+use Rattle.clause_pool.specs.Interned.{Interned, IsPool, row_at}
+use Rattle.row_book.specs.declared.book.Book.{Book}
+use Rattle.row_book.specs.Sets.{In, here, there, has}
+use Rattle.row_book.specs.Clauses.{InOrder, apart_from, is_inside, minimal_of, numbers, ordered}
+use Rattle.row_book.specs.Uses.{row_id}
+use Rattle.row_book.specs.Repository.{Repository, Coinst, against, clauses_of, conflicts_of}
+use Rattle.row_book.specs.Flattening.{packages}
+use Rattle.row_book.specs.Sound.{SoundRepository, TidyRepository}
+use Rattle.row_book.specs.Keeping.{KeepsImages}
+use Rattle.row_book.specs.Book.{listed_for, repository_of, RowsTidy, Sound}
+use Rattle.row_book.specs.Merging.{class_clauses, class_conflicts, class_list, class_of, classes, clause_image, firsts, first_of, image, quotient}
+use Rattle.row_book.proofs.Books.{clauses_row}
+use Rattle.row_book.proofs.BookRepositories.{book_size, sound_book, sound_repository}
+use Rattle.row_book.proofs.Clauses.{minimal_of_from, minimal_of_parts}
+use Rattle.row_book.proofs.Lists.{In_has, In_map_cases, any_cases, any_from, filter_same, has_In}
+use Rattle.row_book.proofs.Order.{at_numbers, length_numbers, numbers_parts, order_filter, order_same, ordered_has, ordered_order, ordered_parts}
+use Rattle.row_book.proofs.Repositories.{between, ranged, repository_same, same_test, symmetric}
+use Rattle.clause_flatten.specs.Families.{SameClauses}
+use Rattle.class_merge.specs.Classes.{class_in, clauses_in, image_in, ClassesWithin, HasClasses}
+use Rattle.class_merge.specs.Grouping.{AreClasses}
+use Rattle.class_merge.proofs.Classes.{alike_self, class_alike, first_within, has_class_lem, image_from, image_parts, of_classes}
+use Rattle.class_merge.proofs.Groups.{class_unique}
+use Rattle.clause_flatten.proofs.Tidied.{numbers_more}
+use Rattle.class_merge.proofs.Kept.{merge_is_tidy_lem, merge_keeps_lem, merged_size}
+use Rattle.class_merge.proofs.Plain.{firsts_le}
+
+-- the classes in a list
+pub class_at : (R : Repository) (p : ℕ) → p < length R.clauses → class_in (class_list R) p ≡ class_of R p
+class_at R p l = at_numbers (class_of R) 0 (length R.clauses) 0 p l ∙ ap (class_of R) (omega arith)
+
+pub list_size : (R : Repository) → length (class_list R) ≡ length R.clauses
+list_size R = length_numbers (class_of R) (length R.clauses) 0
+
+pub list_within : (R : Repository) → ClassesWithin (length (firsts R)) (class_list R)
+list_within R k i =
+    let w : (p : ℕ) × In p (packages R) × (k ≡ class_of R p) = In_map_cases (class_of R) (packages R) k i in
+    let l : (0 ≤ w.0) × (w.0 < 0 + length R.clauses) = numbers_parts (length R.clauses) 0 w.0 w.1 in
+    subst (λ z. z < length (firsts R)) (sym w.2) (has_class_lem R w.0 (omega arith)).within
+
+-- the image of a clause
+pub image_at : (R : Repository) (c : List ℕ) → ((n : ℕ) → In n c → n < length R.clauses) → image_in (length (firsts R)) (class_list R) c ≡ clause_image R c
+unfolding image_in
+image_at R c range =
+    filter_same (λ k. list_any (λ n. eqb (class_in (class_list R) n) k) c) (image R (has c)) (classes R) (λ k i.
+    same_test (list_any (λ n. eqb (class_in (class_list R) n) k) c) (image R (has c) k)
+    (λ t.
+    let w : (n : ℕ) × In n c × (eqb (class_in (class_list R) n) k ≡ true) = any_cases (λ n. eqb (class_in (class_list R) n) k) c t in
+    subst (λ z. image R (has c) z ≡ true) (sym (class_at R w.0 (range w.0 w.1)) ∙ eqb-true (class_in (class_list R) w.0) k w.2)
+    (image_from R (has c) w.0 (range w.0 w.1) (In_has w.1)))
+    (λ t.
+    let w : (p : ℕ) × (p < length R.clauses) × (has c p ≡ true) × (class_of R p ≡ k) = image_parts R (has c) k t in
+    any_from (λ n. eqb (class_in (class_list R) n) k) c w.0 (has_In c w.0 w.2) (eq-eqb (class_in (class_list R) w.0) k (class_at R w.0 w.1 ∙ w.3))))
+
+map_same_list : (f g : List ℕ → List ℕ) (cs : List (List ℕ)) → ((c : List ℕ) → In c cs → f c ≡ g c) → map f cs ≡ map g cs
+map_same_list f g [] e = refl
+map_same_list f g (c ∷ cs) e = ap₂ (λ x xs. x ∷ xs) (e c here) (map_same_list f g cs (λ d i. e d (there i)))
+
+-- the conflicts of a class
+pub conflicts_at : (R : Repository) → SoundRepository R → (k : ℕ) → k < length (firsts R) → image_in (length (firsts R)) (class_list R) (conflicts_of R (first_of R k)) ≡ class_conflicts R k
+unfolding image_in
+conflicts_at R s k l =
+    let f : ℕ = first_of R k in
+    let own : f < length R.clauses = first_within R k l in
+    let range : (n : ℕ) → In n (conflicts_of R f) → n < length R.clauses = λ n i. (between R s f n (In_has i)).1 in
+    filter_same (λ m. list_any (λ n. eqb (class_in (class_list R) n) m) (conflicts_of R f)) (λ m. against R f (first_of R m)) (classes R) (λ m i.
+    let small : m < length (firsts R) = of_classes R m i in
+    same_test (list_any (λ n. eqb (class_in (class_list R) n) m) (conflicts_of R f)) (against R f (first_of R m))
+    (λ t.
+    let w : (n : ℕ) × In n (conflicts_of R f) × (eqb (class_in (class_list R) n) m ≡ true) = any_cases (λ n. eqb (class_in (class_list R) n) m) (conflicts_of R f) t in
+    let b : w.0 < length R.clauses = range w.0 w.1 in
+    let e : class_of R w.0 ≡ m = sym (class_at R w.0 b) ∙ eqb-true (class_in (class_list R) w.0) m w.2 in
+    let same : against R w.0 f ≡ against R (first_of R m) f = ap (λ xs. has xs f) (class_alike R w.0 b).conflicts ∙ ap (λ z. against R (first_of R z) f) e in
+    symmetric R s f (first_of R m) ∙ (sym same ∙ (symmetric R s w.0 f ∙ In_has w.1)))
+    (λ t.
+    let b : first_of R m < length R.clauses = first_within R m small in
+    any_from (λ n. eqb (class_in (class_list R) n) m) (conflicts_of R f) (first_of R m) (has_In (conflicts_of R f) (first_of R m) t)
+    (eq-eqb (class_in (class_list R) (first_of R m)) m (class_at R (first_of R m) b ∙ sym (class_unique R (first_of R m) m b small (alike_self R (first_of R m)))))))
+
+-- the row of a class
+pub clauses_at_class : (R : Repository) → SoundRepository R → (k : ℕ) → k < length (firsts R) → clauses_in (length (firsts R)) (class_list R) k (clauses_of R (first_of R k)) ≡ class_clauses R k
+clauses_at_class R s k l =
+    ap (λ cs. ordered (minimal_of (apart_from k cs)))
+    (map_same_list (image_in (length (firsts R)) (class_list R)) (clause_image R) (clauses_of R (first_of R k)) (λ c i. image_at R c (ranged R s (first_of R k) c i)))
+
+-- a family in order has its minimal clauses in order
+pub minimal_ordered : (all family : List (List ℕ)) → SameClauses all family → InOrder family → minimal_of family ≡ ordered (minimal_of all)
+minimal_ordered all family same order =
+    order_same (minimal_of family) (ordered (minimal_of all)) (order_filter (λ T. list_all (λ S. not (is_inside S T) || is_inside T S) family) family order) (ordered_order (minimal_of all))
+    (λ c i. ordered_has (minimal_of all) c (minimal_of_from all c (same.back c (minimal_of_parts family c i).0) (λ S j f. (minimal_of_parts family c i).1 S (same.there S j) f)))
+    (λ c i. let j : In c (minimal_of all) = ordered_parts (minimal_of all) c i in
+    minimal_of_from family c (same.there c (minimal_of_parts all c j).0) (λ S u f. (minimal_of_parts all c j).1 S (same.back S u) f))
+
+-- the images that do not hold a class, one more
+pub apart_more : (k : ℕ) (f : List ℕ → List ℕ) (xs : List (List ℕ)) (x : List ℕ) → apart_from k (map f (xs ++ x ∷ [])) ≡ apart_from k (map f xs) ++ cond (has (f x) k) [] (f x ∷ [])
+apart_more k f xs x =
+    ap (apart_from k) (map-append f xs (x ∷ [])) ∙ filter-append (λ c. not (has c k)) (map f xs) (f x ∷ [])
+    ∙ ap (λ b. apart_from k (map f xs) ++ b) (pick (has (f x) k))
+  where
+    pick : (b : Bool) → cond (not b) (f x ∷ []) [] ≡ cond b [] (f x ∷ [])
+    pick true = refl
+    pick false = refl
+
+-- what is asked of the lists of classes
+pub record Serves (pool : Interned) (book : Book) (least class_of : List ℕ) : Type 0 where
+  pub count : length least ≡ length (firsts (repository_of pool book))
+  pub few : length least < 4294967295
+  pub inside : (k : ℕ) → k < length least → get_or least k 0 < length book.rows
+  pub within : ClassesWithin (length least) class_of
+  pub has_row : (k : ℕ) → k < length least → (c : List ℕ) → In c (row_at pool (row_id book.rows (get_or least k 0))) → HasClasses class_of c
+  pub row : (k : ℕ) → k < length least → clauses_in (length least) class_of k (row_at pool (row_id book.rows (get_or least k 0))) ≡ class_clauses (repository_of pool book) k
+  pub has_list : (k : ℕ) → k < length least → HasClasses class_of (listed_for book.conflicts (get_or least k 0))
+  pub list : (k : ℕ) → k < length least → image_in (length least) class_of (listed_for book.conflicts (get_or least k 0)) ≡ class_conflicts (repository_of pool book) k
+
+its_own : (pool : Interned) (book : Book) → IsPool pool → Sound pool book → Serves pool book (firsts (repository_of pool book)) (class_list (repository_of pool book))
+its_own pool book is sound =
+    let R : Repository = repository_of pool book in
+    let s : SoundRepository R = sound_repository pool book is sound in
+    let size : length R.clauses ≡ length book.rows = book_size pool book in
+    let inside : (k : ℕ) → k < length (firsts R) → first_of R k < length book.rows = λ k l. subst (λ z. first_of R k < z) size (first_within R k l) in
+    record {
+      count = refl;
+      few = (let a : length (firsts R) ≤ length R.clauses = firsts_le R in let b : length book.rows < 4294967295 = book.few in omega (arith, a, b, size));
+      inside = inside;
+      within = list_within R;
+      has_row = λ k l c i n j. subst (λ z. n < z) (sym (list_size R))
+          (ranged R s (first_of R k) c (subst (λ cs. In c cs) (sym (clauses_row pool book (first_of R k) (inside k l))) i) n j);
+      row = λ k l. ap (clauses_in (length (firsts R)) (class_list R) k) (sym (clauses_row pool book (first_of R k) (inside k l))) ∙ clauses_at_class R s k l;
+      has_list = λ k l n i. subst (λ z. n < z) (sym (list_size R)) (between R s (first_of R k) n (In_has i)).1;
+      list = λ k l. conflicts_at R s k l;
+    }
+
+pub classes_serve : (pool : Interned) (book : Book) (least class_of : List ℕ) → IsPool pool → Sound pool book → AreClasses pool book least class_of → Serves pool book least class_of
+classes_serve pool book least class_of is sound a =
+    subst (λ z. Serves pool book z class_of) (sym a.firsts) (subst (λ z. Serves pool book (firsts (repository_of pool book)) z) (sym a.classes) (its_own pool book is sound))
+
+-- the tables of the merged repository
+pub merged_table : (R : Repository) (n : ℕ) → n ≡ length (firsts R) → map (class_clauses R) (numbers n 0) ≡ (quotient R).clauses
+unfolding quotient
+merged_table R n e = ap (λ z. map (class_clauses R) (numbers z 0)) e
+
+pub merged_lists : (R : Repository) (n : ℕ) → n ≡ length (firsts R) → map (class_conflicts R) (numbers n 0) ≡ (quotient R).conflicts
+unfolding quotient
+merged_lists R n e = ap (λ z. map (class_conflicts R) (numbers z 0)) e
+
+-- a list of lists that grows
+pub lists_more : (f : ℕ → List ℕ) (n : ℕ) (old new : List (List ℕ)) (list : List ℕ) → old ≡ map f (numbers n 0) → list ≡ f n → new ≡ old ++ list ∷ [] → new ≡ map f (numbers (n + 1) 0)
+lists_more f n old new list e h g = g ∙ ap₂ (λ xs x. xs ++ x ∷ []) e h ∙ sym (ap (map f) (numbers_more n) ∙ map-append f (numbers n 0) (n ∷ []))
+
+-- the repository of a book
+pub made_repository : (pool : Interned) (rows : List ℕ) (book : Book) (R : Repository) → map (row_at pool) book.rows ≡ R.clauses → book.conflicts ≡ R.conflicts → repository_of pool book ≡ R
+made_repository pool rows book R e f = repository_same (repository_of pool book) R e f
+
+-- the rows of a merged book
+rows_size : (pool : Interned) (rows : List ℕ) (R : Repository) → map (row_at pool) rows ≡ R.clauses → length rows ≡ length R.clauses
+rows_size pool rows R e = sym (length-map rows (row_at pool)) ∙ ap length e
+
+pub merged_few : (start new : Interned) (book : Book) (rows given : List ℕ) → map (row_at new) rows ≡ (quotient (repository_of start book)).clauses → given ≡ rows → length given < 4294967295
+merged_few start new book rows given e g =
+    let R : Repository = repository_of start book in
+    let a : length rows ≡ length (firsts R) = rows_size new rows (quotient R) e ∙ merged_size R in
+    let b : length (firsts R) ≤ length R.clauses = firsts_le R in
+    let c : length R.clauses ≡ length book.rows = book_size start book in
+    let d : length book.rows < 4294967295 = book.few in
+    let f : length given ≡ length rows = ap length g in
+    omega (arith, a, b, c, d, f)
+
+pub merged_paired : (start new : Interned) (book : Book) (rows given : List ℕ) (lists told : List (List ℕ)) → IsPool start → Sound start book → map (row_at new) rows ≡ (quotient (repository_of start book)).clauses → given ≡ rows →
+    lists ≡ (quotient (repository_of start book)).conflicts → told ≡ lists → length told ≡ length given
+merged_paired start new book rows given lists told is s e g f h =
+    ap length h ∙ ap length f ∙ (merge_is_tidy_lem (repository_of start book) (sound_repository start book is s)).sound.count
+    ∙ sym (ap length g ∙ rows_size new rows (quotient (repository_of start book)) e)
+
+pub merged_sound : (start new : Interned) (book made : Book) (rows : List ℕ) (lists : List (List ℕ)) → IsPool start → Sound start book → map (row_at new) rows ≡ (quotient (repository_of start book)).clauses → made.rows ≡ rows →
+    lists ≡ (quotient (repository_of start book)).conflicts → made.conflicts ≡ lists → ((id : ℕ) → In id rows → id < length new.rows) → Sound new made
+merged_sound start new book made rows lists is s e g f h of =
+    let M : Repository = quotient (repository_of start book) in
+    let same : repository_of new made ≡ M = repository_same (repository_of new made) M (ap (map (row_at new)) g ∙ e) (h ∙ f) in
+    sound_book new made (λ id i. of id (subst (λ z. In id z) g i))
+    (subst SoundRepository (sym same) (merge_is_tidy_lem (repository_of start book) (sound_repository start book is s)).sound)
+
+pub rows_tidy : (new : Interned) (R : Repository) (rows given : List ℕ) → TidyRepository R → map (row_at new) rows ≡ R.clauses → given ≡ rows → RowsTidy new given
+rows_tidy new R rows given t e g = subst (RowsTidy new) (sym g) (record {
+  apart = λ p l c i j. t.apart p c (at p l c i) j;
+  minimal = λ p l c d i j f. t.minimal p c d (at p l c i) (at p l d j) f;
+})
+  where
+    at : (p : ℕ) → p < length rows → (c : List ℕ) → In c (row_at new (row_id rows p)) → In c (clauses_of R p)
+    at p l c i = subst (λ cs. In c cs) (sym (get_or-map (row_at new) rows p 0 [] l) ∙ ap (λ t. slice_index_or t p []) e) i
+
+pub merged_rows_tidy : (start new : Interned) (book : Book) (rows given : List ℕ) → IsPool start → Sound start book → map (row_at new) rows ≡ (quotient (repository_of start book)).clauses → given ≡ rows → RowsTidy new given
+merged_rows_tidy start new book rows given is s e g =
+    rows_tidy new (quotient (repository_of start book)) rows given (merge_is_tidy_lem (repository_of start book) (sound_repository start book is s)) e g
+
+-- a book that is the quotient keeps every set, by images
+pub merged_keeps : (R F : Repository) → SoundRepository R → F ≡ quotient R → KeepsImages R F (image R)
+merged_keeps R F s same S small = subst (λ M. Coinst R S ↔ Coinst M (image R S)) (sym same) (merge_keeps_lem R S s small)

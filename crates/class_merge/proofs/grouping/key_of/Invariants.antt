@@ -1,0 +1,7 @@
+use Rattle.std.proofs.Common.{◌≡◌, ◌∷◌, take}
+use Rattle.row_book.specs.Uses.{row_id}
+use Rattle.row_book.specs.Book.{listed_for}
+use Rattle.class_merge.proofs.grouping.key_of.Given as goal
+
+abbrev pub invariant-loop-other : goal.invariant-loop-other
+invariant-loop-other l = l.key.items ≡ row_id l.book.rows l.«package» ∷ take l.other-index (listed_for l.book.conflicts l.«package»)

@@ -1,0 +1,67 @@
+//! The classes of packages that are alike: in a pool, packages have the same clauses where they have the same row.
+ghost use Rattle.std.specs.Prelude.{◌≡◌, ◌<◌, ◌∷◌, ◌++◌, [], ℕ, List, IfOk, OnOk, cond, length, map, nat_eq, position};
+ghost use Rattle.std.specs.Cmp.Lexicographic.{pointwise};
+ghost use Rattle.row_book.specs.Book.{Sound};
+ghost use Rattle.row_book.specs.Sets.{In};
+ghost use Rattle.class_merge.specs.Classes.{key_of};
+ghost use Rattle.class_merge.specs.Grouping.{AreClasses, IsPlaceAmong};
+
+use crate::key_table::KeyTable;
+use clause_pool::Pool;
+use row_book::Book;
+use std::alloc::{AllocError, Global};
+
+/// The least package of each class, ascending, and the class of each package.
+#[derive(Drop)]
+pub(crate) struct Classes {
+    pub(crate) firsts: Vec<u32>,
+    pub(crate) class_of: Vec<u32>,
+}
+
+/// The row of a package and its conflicts.
+fn key_of(alloc: Global, book: &Book, package: u32) -> Result<Vec<u64>, AllocError>
+    requires { «package» < length book.now.rows }
+    ensures { IfOk result (λ key. key.items ≡ key_of book.now «package») }
+{
+    let mut key = Vec::new(alloc);
+    key.push(book.row(package).place() as u64)?;
+    for other in book.against(package) {
+        key.push(u64::from(*other))?;
+    }
+    Ok(key)
+}
+
+/// The place of the key among those that were seen, behind which they are put where they are new; the package is then the
+/// first of its class.
+fn place_among(
+    seen: &mut KeyTable,
+    firsts: &mut Vec<u32>,
+    package: u32,
+    key: &[u64],
+) -> Result<usize, AllocError>
+    ensures { IfOk result (IsPlaceAmong seen.old seen.new firsts.old.items firsts.new.items «package» key.now) }
+{
+    if let Some(place) = seen.find(key) {
+        return Ok(place);
+    }
+    firsts.push(package)?;
+    seen.push(key)
+}
+
+/// The classes of the book's packages.
+pub(crate) fn classes_of(alloc: Global, pool: &Pool, book: &Book) -> Result<Classes, AllocError>
+    requires { Sound pool.now book.now }
+    ensures { IfOk result (λ made. AreClasses pool.now book.now made.firsts.items made.class_of.items) }
+{
+    // What holds of every pool is told by this call alone.
+    pool.clause_count();
+    let mut seen = KeyTable::new(alloc);
+    let mut firsts = Vec::new(alloc);
+    let mut class_of = Vec::new(alloc);
+    for package in 0..book.size() {
+        let key = key_of(alloc, book, package)?;
+        let class = place_among(&mut seen, &mut firsts, package, key.as_slice())?;
+        class_of.push(class as u32)?;
+    }
+    Ok(Classes { firsts, class_of })
+}

@@ -1,0 +1,13 @@
+//! Merging: packages with the same clauses and the same conflicts become one class. The functions of `laws` do nothing,
+//! the contract of each is one law.
+#![tactic(auto)]
+
+mod class_rows;
+mod grouping;
+mod images;
+mod key_table;
+mod laws;
+pub mod merging;
+
+pub use laws::{has_class, merge_is_tidy, merge_keeps, merge_lifts, merge_plain};
+pub use merging::{Merged, merge};

@@ -1,0 +1,119 @@
+//! Pruning of a book.
+ghost use Rattle.std.specs.Prelude.{◌≡◌, ◌<◌, ◌++◌, ◌∷◌, [], ℕ, List, IfOk, OnOk, length, map};
+ghost use Rattle.clause_pool.specs.Interned.{row_at, Kept};
+ghost use Rattle.row_book.specs.Sets.{In};
+ghost use Rattle.row_book.specs.Book.{listed_for, repository_of, RowsFit, RowsTidy, Sound};
+ghost use Rattle.row_book.specs.Repository.{Repository};
+ghost use Rattle.row_book.specs.Keeping.{KeepsSets};
+ghost use Rattle.row_book.specs.Sound.{TidyRepository};
+ghost use Rattle.row_book.specs.Pruning.{idle_steps, package_steps, prune, prune_package, with_clauses};
+ghost use Rattle.row_book.specs.Rounds.{IdleStep};
+ghost use Rattle.row_book.specs.Trail.{trail_meaning};
+ghost use Rattle.clause_prune.specs.Tests.{repository_in};
+
+use crate::clauses::prune_each;
+use crate::dead::is_dead;
+use clause_pool::{NumList, Pool, RowId};
+use listed::Listed;
+use row_book::{Book, StepList};
+use std::alloc::{AllocError, Global};
+
+/// A pruned book, with a step for each clause that was dropped as idle.
+#[derive(Drop)]
+pub struct Pruned {
+    /// The book.
+    pub book: Book,
+    /// The steps, in order.
+    pub idle: StepList,
+}
+
+/// The row of the empty clause alone.
+fn empty_row(pool: &mut Pool) -> Result<RowId, AllocError>
+    ensures row { IfOk result (λ id. row_at pool.new id ≡ [] ∷ []) }
+    ensures of_pool { IfOk result (λ id. id < length pool.new.rows) }
+    ensures kept { Kept pool.old pool.new }
+{
+    pool.clause_count();
+    let empty = pool.intern(&[])?;
+    pool.intern_row(&[empty])
+}
+
+/// The row of the package when it is pruned among the rows.
+fn pruned_row(
+    alloc: Global,
+    pool: &mut Pool,
+    rows: &[RowId],
+    table: &[NumList],
+    package: u32,
+    idle: &mut StepList,
+) -> Result<RowId, AllocError>
+    requires fit { RowsFit pool.old rows.now }
+    requires conflicts { (p n : ℕ) → In n (listed_for table.now p) → n < length rows.now }
+    requires inside { «package» < length rows.now }
+    ensures row { IfOk result (λ id. ◌≡◌ {A = Repository} (prune_package (repository_in pool.old rows.now table.now) «package») (with_clauses (repository_in pool.old rows.now table.now) «package» (row_at pool.new id))) }
+    ensures of_pool { IfOk result (λ id. id < length pool.new.rows) }
+    ensures idle { OnOk result (trail_meaning pool.old idle.new ≡ trail_meaning pool.old idle.old ++ map IdleStep (package_steps (repository_in pool.old rows.now table.now) «package»)) }
+    ensures kept { Kept pool.old pool.new }
+{
+    // What holds of every pool is told by this call alone.
+    pool.clause_count();
+    let ids = Vec::from_slice(alloc, pool.row(rows[package as usize]))?;
+    if is_dead(pool, table, package, ids.as_slice()) {
+        return empty_row(pool);
+    }
+    let left = prune_each(alloc, pool, rows, table, package, ids.as_slice(), idle)?;
+    pool.intern_row(left.as_slice())
+}
+
+/// Prunes one package after another among the rows.
+fn prune_rows(
+    alloc: Global,
+    pool: &mut Pool,
+    rows: &mut [RowId],
+    table: &[NumList],
+    idle: &mut StepList,
+) -> Result<(), AllocError>
+    requires few { length rows.old < 4294967295 }
+    requires tidy { TidyRepository (repository_in pool.old rows.old table.now) }
+    requires of_pool { (id : ℕ) → In id rows.old → id < length pool.old.rows }
+    requires none { trail_meaning pool.old idle.old ≡ [] }
+    ensures rows { OnOk result (◌≡◌ {A = Repository} (repository_in pool.new rows.new table.now) (prune (repository_in pool.old rows.old table.now))) }
+    ensures of_pool { OnOk result ((id : ℕ) → In id rows.new → id < length pool.new.rows) }
+    ensures idle { OnOk result (trail_meaning pool.new idle.new ≡ map IdleStep (idle_steps (repository_in pool.old rows.old table.now))) }
+    ensures kept { Kept pool.old pool.new }
+{
+    // What holds of every pool is told by this call alone.
+    pool.clause_count();
+    for package in 0..rows.len() {
+        let row = pruned_row(alloc, pool, rows, table, package as u32, idle)?;
+        // What holds of every pool is told by this call alone.
+        pool.clause_count();
+        rows[package] = row;
+    }
+    Ok(())
+}
+
+/// The pruned book: a dead package gets the empty clause alone, and of the others each clause is dropped in turn that is
+/// forced or idle in what is left. What the pool held stays; it fails only where no memory is found.
+pub fn prune(alloc: Global, pool: &mut Pool, book: &Book) -> Result<Pruned, AllocError>
+    requires sound { Sound pool.old book.now }
+    requires tidy { RowsTidy pool.old book.now.rows }
+    ensures pruned { IfOk result (λ made. repository_of pool.new made.book ≡ prune (repository_of pool.old book.now)) }
+    ensures idle { IfOk result (λ made. trail_meaning pool.new made.idle ≡ map IdleStep (idle_steps (repository_of pool.old book.now))) }
+    ensures keeps { IfOk result (λ made. KeepsSets (repository_of pool.old book.now) (repository_of pool.new made.book)) }
+    ensures sound { IfOk result (λ made. Sound pool.new made.book) }
+    ensures kept { Kept pool.old pool.new }
+{
+    // What holds of every pool is told by this call alone.
+    pool.clause_count();
+    let mut rows = Vec::from_slice(alloc, book.rows.as_slice())?;
+    let mut idle = StepList::new(alloc);
+    let table = book.conflicts.as_slice();
+    prune_rows(alloc, pool, rows.as_mut_slice(), table, &mut idle)?;
+    let Book { rows: _, conflicts } = book.copy(alloc)?;
+    let pruned = Book {
+        rows: Listed::of(rows),
+        conflicts,
+    };
+    Ok(Pruned { book: pruned, idle })
+}

@@ -1,0 +1,67 @@
+-- A kernel is its own kernel, and passes no limit that was not passed on the way to it.
+use Rattle.std.proofs.Common.{◌≡◌, ℕ, suc, ◌≤◌, ◌<◌, List, [], ◌∷◌, inl, inr, refl, sym, ◌∙◌, ap, subst, arith, map, zero-le, Option, Some, None, ◌↔◌}
+use Rattle.std.specs.Option.{option_map}
+use Rattle.row_book.specs.Sets.{In}
+use Rattle.row_book.specs.Repository.{Repository, Coinst}
+use Rattle.row_book.specs.Keeping.{KeepsImages}
+use Rattle.row_book.specs.Sound.{SoundRepository}
+use Rattle.row_book.specs.Flattening.{first_some, passes, Passed}
+use Rattle.row_book.specs.Rounds.{in_round, kernel, kernel_class, kernel_image, Settled, class_after, limit_at, passed_in_round, round, rounds, round_count, steps_after}
+use Rattle.row_book.proofs.Lists.{In_cases, In_none}
+use Rattle.row_book.proofs.Order.{numbers_from}
+use Rattle.row_book.specs.Clauses.{numbers}
+use Rattle.kernel_rounds.specs.Laws.{KernelOfKernel, OwnKernel}
+use Rattle.kernel_rounds.specs.Extracting.{IsOwnKernel}
+use Rattle.kernel_rounds.proofs.Midways.{none_passed}
+use Rattle.kernel_rounds.proofs.Reached.{kernel_is_lem, kernel_keeps_lem}
+
+-- where no value is found, each is absent
+each_none : {A : Type 0} (f : ℕ → Option A) (xs : List ℕ) → first_some (map f xs) ≡ None → (x : ℕ) → In x xs → f x ≡ None
+each_none f [] h x i = absurd (In_none i)
+each_none {A} f (y ∷ ys) h x i = pick (f y) refl h (λ g j. each_none f ys g x j)
+  where
+    pick : (o : Option A) → f y ≡ o → first_some (o ∷ map f ys) ≡ None → (first_some (map f ys) ≡ None → In x ys → f x ≡ None) → f x ≡ None
+    pick None e g more = elim (In_cases i) [ inl s ↦ ap f s ∙ e | inr j ↦ more g j ]
+    pick (Some w) e g more = absurd (let never : ⊥ = cc in never)
+
+map_none : {A B : Type 0} (f : A → B) (o : Option A) → option_map f o ≡ None → o ≡ None
+map_none f None h = refl
+map_none f (Some x) h = absurd (let never : ⊥ = cc in never)
+
+module _ (R : Repository) (s : SoundRepository R) where
+  fixed : round (kernel R) ≡ kernel R
+  fixed = (kernel_is_lem R s).fixed
+
+  sound : SoundRepository (kernel R)
+  sound = (kernel_is_lem R s).sound
+
+  none : round_count (kernel R) ≡ 0
+  none = let l : round_count (kernel R) ≤ 0 = (kernel_is_lem (kernel R) sound).first 0 fixed in omega (arith, l)
+
+  -- the last round that the limit is asked of is the one over the kernel
+  within : (limit : ℕ) → limit_at R limit ≡ None → limit_at (kernel R) limit ≡ None
+  unfolding limit_at
+  within limit h =
+      none_passed (kernel R) sound limit 0 (sym none) (λ j l. absurd (omega arith))
+      (map_none (in_round R (round_count R)) (passes (kernel R) limit)
+      (each_none (passed_in_round R limit) (numbers (suc (round_count R)) 0) h (round_count R) (numbers_from (suc (round_count R)) 0 (round_count R) zero-le (omega arith))))
+
+pub kernel_of_kernel_lem : KernelOfKernel
+kernel_of_kernel_lem R s = record {
+  same = ap (λ n. rounds (kernel R) n) (none R s);
+  classes = λ p. ap (λ n. class_after (kernel R) n p) (none R s);
+  steps = ap (λ n. steps_after (kernel R) n) (none R s);
+  within = within R s;
+}
+
+-- what holds of a repository that is the kernel
+pub extracted_keeps : (R F : Repository) → SoundRepository R → F ≡ kernel R → KeepsImages R F (kernel_image R)
+extracted_keeps R F s e S small = subst (λ K. Coinst R S ↔ Coinst K (kernel_image R S)) (sym e) (kernel_keeps_lem R s S small)
+
+pub extracted_settled : (R F : Repository) → SoundRepository R → F ≡ kernel R → Settled F
+extracted_settled R F s e = subst Settled (sym e) (kernel_is_lem R s).settled
+
+pub extracted_own : (R F : Repository) (limit : ℕ) → SoundRepository R → F ≡ kernel R → limit_at R limit ≡ None → IsOwnKernel F limit
+extracted_own R F limit s e h =
+    let own : OwnKernel R = kernel_of_kernel_lem R s in
+    subst (λ K. IsOwnKernel K limit) (sym e) (record { same = own.same; classes = own.classes; steps = own.steps; within = own.within limit h })

@@ -1,0 +1,10 @@
+pub mod Flattened
+pub mod Tails
+pub mod Thins
+pub mod Ending
+pub mod Settling
+pub mod Reached
+pub mod Midways
+pub mod Compared
+mod Again
+mod SampleRows

@@ -1,0 +1,263 @@
+-- One more round on the way to a kernel.
+use Rattle.std.proofs.Common.{◌≡◌, ℕ, zero, suc, ◌<◌, ◌≤◌, ◌+◌, Bool, true, false, cond, min, eqb, List, [], ◌∷◌, ◌++◌, length, inl, inr, refl, sym, ◌∙◌, ap, ap₂, subst, arith, map, zero-le, append_assoc, append-nil, Option, Some, None}
+use Rattle.std.specs.Option.{option_map}
+use Rattle.std.proofs.lemmas.Bool.{cases_eq, cases_lt, both_ways}
+use Rattle.std.proofs.lemmas.List.{map-append}
+use Rattle.clause_pool.specs.Interned.{Interned, IsPool, Kept, row_at}
+use Rattle.clause_flatten.specs.declared.error.FlatError.{FlatError}
+use Rattle.clause_flatten.specs.declared.error.FlatError.TheVariants as faults
+use Rattle.clause_flatten.specs.Refusals.{OnLimit}
+use Rattle.row_book.specs.declared.book.Book.{Book}
+use Rattle.row_book.specs.declared.trail.Step.{Step}
+use Rattle.row_book.specs.declared.trail.Step.TheVariants.{Flat, Idle, Merge}
+use Rattle.row_book.specs.Sets.{In, here, there}
+use Rattle.row_book.specs.Clauses.{numbers}
+use Rattle.row_book.specs.Repository.{Repository}
+use Rattle.row_book.specs.Book.{repository_of, AreConflicts, RowsFit, Sound}
+use Rattle.row_book.specs.Sound.{SoundRepository}
+use Rattle.row_book.specs.Flattening.{flat, first_some, packages, Passed, passes}
+use Rattle.row_book.specs.Merging.{class_list, class_of, quotient, place_of}
+use Rattle.row_book.specs.Pruning.{IdleClause, idle_steps, prune}
+use Rattle.row_book.specs.Thinning.{thin}
+use Rattle.row_book.specs.Rounds.{is_same_repository, RoundStep, FlatStep, IdleStep, MergeStep, round, rounds, round_steps, round_count, class_after, steps_after, in_round, limit_at, passed_in_round}
+use Rattle.row_book.specs.Trail.{SoundStep, SoundSteps, trail_meaning, step_meaning}
+use Rattle.row_book.proofs.BookRepositories.{book_size}
+use Rattle.row_book.proofs.Books.{repository_kept, sound_kept}
+use Rattle.row_book.proofs.Lists.{In_append_cases, In_cases, In_none}
+use Rattle.row_book.proofs.Order.{length_numbers, map_same, numbers_parts}
+use Rattle.row_book.proofs.Repositories.{of_packages, repository_same}
+use Rattle.clause_flatten.proofs.Tidied.{kept_kept, kept_same}
+use Rattle.class_merge.specs.Classes.{class_in}
+use Rattle.class_merge.proofs.Classes.{has_class_lem}
+use Rattle.class_merge.proofs.MergedRows.{class_at}
+use Rattle.kernel_rounds.specs.Extracting.{IsExtracted, IsMidway, OnRoundLimit, refusal}
+use Rattle.kernel_rounds.proofs.Flattened.{flat_size}
+use Rattle.kernel_rounds.proofs.Reached.{kernel_is_lem, repository_test, rounds_sound, same_from}
+use Rattle.kernel_rounds.proofs.Tails.{round_size, thin_tail}
+
+-- the last of some rounds
+rounds_last : (n : ℕ) (R : Repository) → rounds R (suc n) ≡ round (rounds R n)
+rounds_last zero R = refl
+rounds_last (suc n) R = rounds_last n (round R)
+
+class_last : (n : ℕ) (R : Repository) (p : ℕ) → class_after R (suc n) p ≡ class_of (flat (rounds R n)) (class_after R n p)
+class_last zero R p = refl
+class_last (suc n) R p = class_last n (round R) (class_of (flat R) p)
+
+steps_last : (n : ℕ) (R : Repository) → steps_after R (suc n) ≡ steps_after R n ++ round_steps (rounds R n)
+steps_last zero R = append-nil (round_steps R)
+steps_last (suc n) R = ap (λ z. round_steps R ++ z) (steps_last n (round R)) ∙ sym (append_assoc (round_steps R) (steps_after (round R) n) (round_steps (rounds (round R) n)))
+
+class_within : (n : ℕ) (R : Repository) → SoundRepository R → (p : ℕ) → p < length R.clauses → class_after R n p < length (rounds R n).clauses
+unfolding round
+class_within zero R s p l = l
+class_within (suc n) R s p l =
+    let m : p < length (flat R).clauses = subst (λ z. p < z) (sym (flat_size R)) l in
+    let k : class_of (flat R) p < length (round R).clauses = subst (λ z. class_of (flat R) p < z) (sym (round_size (λ R. thin (prune R)) thin_tail R s)) (has_class_lem (flat R) p m).within in
+    class_within n (round R) (rounds_sound R s 1) (class_of (flat R) p) k
+
+-- the limit
+first_none : {A : Type 0} (f : ℕ → Option A) (xs : List ℕ) → ((x : ℕ) → In x xs → f x ≡ None) → first_some (map f xs) ≡ None
+first_none f [] h = refl
+first_none f (x ∷ xs) h = ap (λ o. first_some (o ∷ map f xs)) (h x here) ∙ first_none f xs (λ y i. h y (there i))
+
+first_at : {A : Type 0} (f : ℕ → Option A) (n k i : ℕ) (w : A) → k ≤ i → i < k + n → ((j : ℕ) → j < i → f j ≡ None) → f i ≡ Some w → first_some (map f (numbers n k)) ≡ Some w
+unfolding numbers
+first_at f zero k i w l m h e = absurd (omega arith)
+first_at f (suc n) k i w l m h e =
+    elim (cases_eq i k) [
+      | inl s ↦ ap (λ o. first_some (o ∷ map f (numbers n (suc k)))) (ap f (sym s) ∙ e)
+      | inr ne ↦ ap (λ o. first_some (o ∷ map f (numbers n (suc k)))) (h k (omega (arith, ne))) ∙ first_at f n (suc k) i w (omega (arith, ne)) (omega arith) h e
+    ]
+
+module _ (R : Repository) (s : SoundRepository R) (limit : ℕ) where
+  -- where each round so far has changed something, there are at least so many
+  pub changing : (i : ℕ) → ((j : ℕ) → j < i → round (rounds R j) ≡ rounds R j → ⊥) → i ≤ round_count R
+  changing i f = elim (cases_lt (round_count R) i) [
+    | inl l ↦ absurd (f (round_count R) l (kernel_is_lem R s).fixed)
+    | inr l ↦ l
+  ]
+
+  pub reached : (i : ℕ) → ((j : ℕ) → j < i → round (rounds R j) ≡ rounds R j → ⊥) → round (rounds R i) ≡ rounds R i → i ≡ round_count R
+  reached i f e = let a : i ≤ round_count R = changing i f in let b : round_count R ≤ i = (kernel_is_lem R s).first i e in omega (arith, a, b)
+
+  pub none_passed : (i : ℕ) → i ≡ round_count R → ((j : ℕ) → j < i → passes (rounds R j) limit ≡ None) → passes (rounds R i) limit ≡ None → limit_at R limit ≡ None
+  unfolding limit_at
+  none_passed i e h last =
+      first_none (passed_in_round R limit) (numbers (suc (round_count R)) 0) (λ j k.
+      let w : (0 ≤ j) × (j < 0 + suc (round_count R)) = numbers_parts (suc (round_count R)) 0 j k in
+      ap (option_map (in_round R j)) (elim (cases_lt j i) [
+        | inl l ↦ h j l
+        | inr l ↦ let same : j ≡ i = omega (arith, e) in ap (λ z. passes (rounds R z) limit) same ∙ last
+      ]))
+
+  pub one_passed : (i : ℕ) (w : Passed) → i ≤ round_count R → ((j : ℕ) → j < i → passes (rounds R j) limit ≡ None) → passes (rounds R i) limit ≡ Some w → limit_at R limit ≡ Some (in_round R i w)
+  unfolding limit_at
+  one_passed i w l h e =
+      first_at (passed_in_round R limit) (suc (round_count R)) 0 i (in_round R i w) zero-le (omega arith)
+      (λ j m. ap (option_map (in_round R j)) (h j m)) (ap (option_map (in_round R i)) e)
+
+-- as many rounds fewer are left after one
+pub falls : (R : Repository) → SoundRepository R → (round R ≡ R → ⊥) → round_count (round R) < round_count R
+falls R s f = by (round_count R) refl
+  where
+    by : (n : ℕ) → round_count R ≡ n → round_count (round R) < round_count R
+    by zero e = absurd (f (ap (λ z. round (rounds R z)) (sym e) ∙ (kernel_is_lem R s).fixed ∙ ap (rounds R) e))
+    by (suc n) e =
+        let fixed : round (rounds (round R) n) ≡ rounds (round R) n = ap (λ z. round (rounds R z)) (sym e) ∙ (kernel_is_lem R s).fixed ∙ ap (rounds R) e in
+        let l : round_count (round R) ≤ n = (kernel_is_lem (round R) (rounds_sound R s 1)).first n fixed in
+        omega (arith, l, e)
+
+-- steps while the pool grows
+pub told_kept : (old new : Interned) → IsPool old → Kept old new → (steps : List Step) → SoundSteps old steps → trail_meaning new steps ≡ trail_meaning old steps
+told_kept old new is k [] f = refl
+told_kept old new is k (Flat before ∷ steps) f =
+    ap₂ (λ x xs. x ∷ xs) (ap FlatStep (repository_kept old new is k before (f (Flat before) here))) (told_kept old new is k steps (λ x i. f x (there i)))
+told_kept old new is k (Idle p clause added ∷ steps) f = ap (λ xs. step_meaning new (Idle p clause added) ∷ xs) (told_kept old new is k steps (λ x i. f x (there i)))
+told_kept old new is k (Merge class_of ∷ steps) f = ap (λ xs. step_meaning new (Merge class_of) ∷ xs) (told_kept old new is k steps (λ x i. f x (there i)))
+
+sound_step : (old new : Interned) → IsPool old → Kept old new → (step : Step) → SoundStep old step → SoundStep new step
+sound_step old new is k (Flat before) s = sound_kept old new is k before s
+sound_step old new is k (Idle p clause added) s = tt
+sound_step old new is k (Merge class_of) s = tt
+
+-- idle steps have no book
+idle_sound : (pool : Interned) (step : Step) (idle : IdleClause) → step_meaning pool step ≡ IdleStep idle → SoundStep pool step
+idle_sound pool (Flat before) idle e = absurd (let f : ⊥ = cc in f)
+idle_sound pool (Idle p clause added) idle e = tt
+idle_sound pool (Merge class_of) idle e = absurd (let f : ⊥ = cc in f)
+
+idles_sound : (pool : Interned) (steps : List Step) (idles : List IdleClause) → trail_meaning pool steps ≡ map IdleStep idles → SoundSteps pool steps
+idles_sound pool [] idles e step i = absurd (In_none i)
+idles_sound pool (x ∷ xs) [] e step i = absurd (let f : ⊥ = cc in f)
+idles_sound pool (x ∷ xs) (y ∷ ys) e step i =
+    elim (In_cases i) [
+      | inl s ↦ subst (SoundStep pool) (sym s) (idle_sound pool x y (let f : step_meaning pool x ≡ IdleStep y = cc in f))
+      | inr j ↦ idles_sound pool xs ys (let f : trail_meaning pool xs ≡ map IdleStep ys = cc in f) step j
+    ]
+
+-- the classes of a list of classes
+classes_next : (R : Repository) → SoundRepository R → (i : ℕ) (classes next made : List ℕ) → classes ≡ map (class_after R i) (packages R) → next ≡ class_list (flat (rounds R i)) →
+    made ≡ map (class_in next) classes → made ≡ map (class_after R (suc i)) (packages R)
+classes_next R s i classes next made e f g =
+    g ∙ ap₂ (λ n c. map (class_in n) c) f e
+    ∙ map_map (class_in (class_list (flat (rounds R i)))) (class_after R i) (packages R)
+    ∙ map_same (λ p. class_in (class_list (flat (rounds R i))) (class_after R i p)) (class_after R (suc i)) (packages R) (λ p j.
+    class_at (flat (rounds R i)) (class_after R i p) (subst (λ z. class_after R i p < z) (sym (flat_size (rounds R i))) (class_within i R s p (of_packages R p j)))
+    ∙ sym (class_last i R p))
+  where
+    map_map : (f g : ℕ → ℕ) (xs : List ℕ) → map f (map g xs) ≡ map (λ x. f (g x)) xs
+    map_map f g [] = refl
+    map_map f g (x ∷ xs) = ap (λ z. f (g x) ∷ z) (map_map f g xs)
+
+-- one round more
+pub midway_more : (R : Repository) (limit : ℕ) (start old new : Interned) (book made : Book) (classes next compose : List ℕ) (trail idle more : List Step) (number after : ℕ) →
+    SoundRepository R → IsPool old → IsMidway R limit start old book classes trail number →
+    repository_of new made ≡ round (repository_of old book) → next ≡ class_list (flat (repository_of old book)) → trail_meaning new idle ≡ map IdleStep (idle_steps (quotient (flat (repository_of old book)))) →
+    Sound new made → passes (repository_of old book) limit ≡ None → Kept old new → (round (repository_of old book) ≡ repository_of old book → ⊥) →
+    compose ≡ map (class_in next) classes → more ≡ (trail ++ (Flat book ∷ (Merge next ∷ []))) ++ idle → after ≡ min (number + 1) 4294967295 →
+    IsMidway R limit start new made compose more after
+midway_more R limit start old new book made classes next compose trail idle more number after s is m r c d sound pass k f g h a =
+    let i : ℕ = m.index in
+    record {
+      index = suc i;
+      is = r ∙ ap round m.is ∙ sym (rounds_last i R);
+      sound = sound;
+      class_of = classes_next R s i classes next compose m.class_of (c ∙ ap (λ z. class_list (flat z)) m.is) g;
+      steps =
+          ap (trail_meaning new) h
+          ∙ map-append (step_meaning new) (trail ++ (Flat book ∷ (Merge next ∷ []))) idle
+          ∙ ap (λ z. z ++ trail_meaning new idle) (map-append (step_meaning new) trail (Flat book ∷ (Merge next ∷ [])))
+          ∙ append_assoc (trail_meaning new trail) (trail_meaning new (Flat book ∷ (Merge next ∷ []))) (trail_meaning new idle)
+          ∙ ap₂ (λ x y. x ++ y) (told_kept old new is k trail m.books ∙ m.steps)
+          (ap₂ (λ (x : RoundStep) (y : List RoundStep). x ∷ y) (ap FlatStep (repository_kept old new is k book m.sound ∙ m.is))
+          (ap₂ (λ (x : RoundStep) (y : List RoundStep). x ∷ y) (ap MergeStep (c ∙ ap (λ z. class_list (flat z)) m.is)) (d ∙ ap (λ z. map IdleStep (idle_steps (quotient (flat z)))) m.is)))
+          ∙ sym (steps_last i R);
+      books = λ step j. elim (In_append_cases (trail ++ (Flat book ∷ (Merge next ∷ []))) idle step (subst (λ z. In step z) h j)) [
+        | inl u ↦ elim (In_append_cases trail (Flat book ∷ (Merge next ∷ [])) step u) [
+          | inl v ↦ sound_step old new is k step (m.books step v)
+          | inr v ↦ elim (In_cases v) [
+            | inl e ↦ subst (SoundStep new) (sym e) (sound_kept old new is k book m.sound)
+            | inr w ↦ elim (In_cases w) [ inl e ↦ subst (SoundStep new) (sym e) tt | inr x ↦ absurd (In_none x) ]
+          ]
+        ]
+        | inr u ↦ idles_sound new idle (idle_steps (quotient (flat (repository_of old book)))) d step u
+      ];
+      counted = a ∙ ap (λ z. min (z + 1) 4294967295) m.counted ∙ omega arith;
+      passed = λ j l. elim (cases_lt j i) [
+        | inl u ↦ m.passed j u
+        | inr u ↦ let e : j ≡ i = omega arith in ap (λ z. passes (rounds R z) limit) e ∙ ap (λ z. passes z limit) (sym m.is) ∙ pass
+      ];
+      changed = λ j l. elim (cases_lt j i) [
+        | inl u ↦ m.changed j u
+        | inr u ↦ λ e. let same : j ≡ i = omega arith in
+            f (subst (λ z. round z ≡ z) (ap (rounds R) same ∙ sym m.is) e)
+      ];
+      kept = kept_kept start old new m.kept k;
+    }
+
+-- and the end
+pub midway_end : (R : Repository) (limit : ℕ) (start old new : Interned) (book made : Book) (classes : List ℕ) (trail : List Step) (number : ℕ) →
+    SoundRepository R → IsPool old → IsMidway R limit start old book classes trail number →
+    repository_of new made ≡ round (repository_of old book) → round (repository_of old book) ≡ repository_of old book → Sound new made → passes (repository_of old book) limit ≡ None → Kept old new →
+    IsExtracted R limit start new made classes trail
+midway_end R limit start old new book made classes trail number s is m r fixed sound pass k =
+    let i : ℕ = m.index in
+    let at : i ≡ round_count R = reached R s limit i m.changed (subst (λ z. round z ≡ z) m.is fixed) in
+    record {
+      is = r ∙ fixed ∙ m.is ∙ ap (rounds R) at;
+      class_of = m.class_of ∙ ap (λ z. map (class_after R z) (packages R)) at;
+      steps = told_kept old new is k trail m.books ∙ m.steps ∙ ap (steps_after R) at;
+      sound = sound;
+      books = λ step j. sound_step old new is k step (m.books step j);
+      within = none_passed R s limit i at m.passed (ap (λ z. passes z limit) (sym m.is) ∙ pass);
+      kept = kept_kept start old new m.kept k;
+    }
+
+place_map : (f : ℕ → ℕ) (test : ℕ → Bool) (xs : List ℕ) → place_of test (map f xs) ≡ place_of (λ x. test (f x)) xs
+place_map f test [] = refl
+place_map f test (x ∷ xs) = ap (λ z. cond (test (f x)) 0 (suc z)) (place_map f test xs)
+
+pub midway_refused : (R : Repository) (limit : ℕ) (start pool : Interned) (book : Book) (classes : List ℕ) (trail : List Step) (number : ℕ) (fault : FlatError) →
+    SoundRepository R → IsMidway R limit start pool book classes trail number → OnLimit (λ passed. passes (repository_of pool book) limit ≡ Some passed) fault →
+    OnRoundLimit (λ passed. limit_at R limit ≡ Some passed) (refusal number classes fault)
+midway_refused R limit start pool book classes trail number (faults.Limit gone p count) s m e =
+    let w : Passed = record { gone = gone; «package» = p; count = count } in
+    one_passed R s limit m.index w (changing R s limit m.index m.changed) m.passed (ap (λ z. passes z limit) (sym m.is) ∙ e)
+    ∙ ap Some (ap₂ (λ (n q : ℕ). record { number = n; gone = gone; «package» = q; count = count }) (sym m.counted)
+    (sym (place_map (class_after R m.index) (λ k. eqb k p) (packages R)) ∙ ap (place_of (λ k. eqb k p)) (sym m.class_of)))
+midway_refused R limit start pool book classes trail number faults.Memory s m e = tt
+
+-- before any round
+pub midway_none : (pool : Interned) (book copy : Book) (classes : List ℕ) (trail : List Step) (limit size : ℕ) → Sound pool book → copy.rows ≡ book.rows → copy.conflicts ≡ book.conflicts →
+    size ≡ length book.rows → classes ≡ numbers size 0 → trail ≡ [] → IsMidway (repository_of pool book) limit pool pool copy classes trail 1
+midway_none pool book copy classes trail limit size s e f g h t = record {
+  index = 0;
+  is = repository_same (repository_of pool copy) (repository_of pool book) (ap (map (row_at pool)) e) f;
+  sound = record { rows = subst (RowsFit pool) (sym e) s.rows; conflicts = subst AreConflicts (sym f) s.conflicts };
+  class_of = h ∙ ap (λ n. numbers n 0) (g ∙ sym (book_size pool book)) ∙ sym (same_list (packages (repository_of pool book)));
+  steps = ap (trail_meaning pool) t;
+  books = λ step i. absurd (In_none (subst (λ z. In step z) t i));
+  counted = refl;
+  passed = λ j l. absurd (omega arith);
+  changed = λ j l. absurd (omega arith);
+  kept = kept_same pool;
+}
+  where
+    same_list : (xs : List ℕ) → map (λ p. p) xs ≡ xs
+    same_list [] = refl
+    same_list (x ∷ xs) = ap (λ z. x ∷ z) (same_list xs)
+
+-- a round that the test of books tells to change nothing
+pub told_same : (old new : Interned) (book made : Book) → IsPool old → Kept old new → Sound old book → repository_of new made ≡ round (repository_of old book) →
+    is_same_repository (repository_of new book) (repository_of new made) ≡ true → round (repository_of old book) ≡ repository_of old book
+told_same old new book made is k s r t = sym r ∙ sym (same_from (repository_of new book) (repository_of new made) t) ∙ repository_kept old new is k book s
+
+pub told_other : (old new : Interned) (book made : Book) → IsPool old → Kept old new → Sound old book → repository_of new made ≡ round (repository_of old book) →
+    is_same_repository (repository_of new book) (repository_of new made) ≡ false → round (repository_of old book) ≡ repository_of old book → ⊥
+told_other old new book made is k s r t e =
+    both_ways (is_same_repository (repository_of new book) (repository_of new made)) t
+    (repository_test (repository_of new book) (repository_of new made) (repository_kept old new is k book s ∙ sym e ∙ sym r))
+
+pub midway_size : (R : Repository) (limit : ℕ) (start pool : Interned) (book : Book) (classes : List ℕ) (trail : List Step) (number : ℕ) → IsMidway R limit start pool book classes trail number → length classes ≡ length R.clauses
+midway_size R limit start pool book classes trail number m = ap length m.class_of ∙ length_numbers (class_after R m.index) (length R.clauses) 0

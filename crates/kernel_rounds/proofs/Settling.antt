@@ -1,0 +1,78 @@
+-- A repository that a round leaves is left by each part of the round.
+use Rattle.std.proofs.Common.{◌≡◌, ℕ, ◌<◌, true, List, [], length, ◌⊎◌, inl, inr, sym, ◌∙◌, ap, subst, slice_index_or}
+use Rattle.row_book.specs.Sets.{In}
+use Rattle.row_book.specs.Clauses.{InOrder}
+use Rattle.row_book.specs.Repository.{Repository, clauses_of}
+use Rattle.row_book.specs.Sound.{SoundRepository, TidyRepository}
+use Rattle.row_book.specs.Flattening.{core_of, flat}
+use Rattle.row_book.specs.Merging.{firsts, quotient}
+use Rattle.row_book.specs.Pruning.{prune}
+use Rattle.row_book.specs.Thinning.{thin}
+use Rattle.row_book.specs.Rounds.{round}
+use Rattle.row_book.proofs.Lists.{In_none}
+use Rattle.row_book.proofs.Order.{order_same}
+use Rattle.row_book.proofs.Repositories.{repository_same, table_same}
+use Rattle.class_merge.specs.Laws.{plain_clauses}
+use Rattle.class_merge.proofs.Kept.{merged_order, merged_size}
+use Rattle.clause_prune.proofs.Dropping.{Step, prune_step}
+use Rattle.conflict_reduce.proofs.Thinned.{thin_is_sound_lem}
+use Rattle.kernel_rounds.specs.Laws.{FixedParts}
+use Rattle.kernel_rounds.proofs.Ending.{merge_full}
+use Rattle.kernel_rounds.proofs.Flattened.{flat_conflicts, flat_minimal, flat_order, flat_plain_lem, flat_row, flat_size, plain_from, plain_parts}
+use Rattle.kernel_rounds.proofs.Tails.{merged_tidy}
+
+record Parts (K : Repository) : Type 0 where
+  flat_same : flat K ≡ K
+  merge_same : quotient (flat K) ≡ flat K
+  prune_same : prune (quotient (flat K)) ≡ K
+
+parts : (K : Repository) → SoundRepository K → thin (prune (quotient (flat K))) ≡ K → Parts K
+parts K s e =
+    let F : Repository = flat K in
+    let M : Repository = quotient F in
+    let m : TidyRepository M = merged_tidy K s in
+    let P : Repository = prune M in
+    let t : Step M P = prune_step M m in
+    let clauses : P.clauses ≡ K.clauses = sym (thin_is_sound_lem P t.tidy.sound).clauses ∙ ap (λ R. R.clauses) e in
+    let size : length (firsts F) ≡ length K.clauses = sym (t.size ∙ merged_size F) ∙ ap (λ c. length c) clauses in
+    let merge_same : M ≡ F = merge_full K s size in
+    let p_row : (p : ℕ) → clauses_of P p ≡ clauses_of K p = λ p. ap (λ c. slice_index_or c p []) clauses in
+    let of_flat : (p : ℕ) (c : List ℕ) → In c (clauses_of K p) → In c (clauses_of F p) ⊎ (c ≡ []) =
+    λ p c i. elim (t.rows p c (subst (λ r. In c r) (sym (p_row p)) i)) [
+      | inl j ↦ inl (subst (λ R. In c (clauses_of R p)) merge_same j)
+      | inr g ↦ inr g
+    ] in
+    let inner : (p : ℕ) (c : List ℕ) (n : ℕ) → In c (clauses_of K p) → In n c → core_of K n ≡ true =
+    λ p c n i j. elim (of_flat p c i) [
+      | inl h ↦ (flat_minimal K s p c h).blocks.within n j
+      | inr g ↦ absurd (In_none (subst (λ d. In n d) g j))
+    ] in
+    let plain : (p : ℕ) → p < length K.clauses → clauses_of F p ≡ plain_clauses K p = λ p l. flat_row K p l ∙ flat_plain_lem K s inner p l in
+    let k_order : (p : ℕ) → InOrder (clauses_of K p) = λ p. subst (λ r. InOrder r) (p_row p) (t.order (merged_order F) p) in
+    let same : (p : ℕ) → p < length K.clauses → clauses_of F p ≡ clauses_of K p =
+    λ p l. order_same (clauses_of F p) (clauses_of K p) (flat_order K p) (k_order p)
+    (λ c i. plain_parts K p c (subst (λ r. In c r) (plain p l) i))
+    (λ c i. elim (of_flat p c i) [
+      | inl h ↦ h
+      | inr g ↦ subst (λ r. In c r) (sym (plain p l))
+          (plain_from K p c i (λ j. In_none (subst (λ d. In p d) g j)) (λ S j u n v. absurd (In_none (subst (λ d. In n d) g v))))
+    ]) in
+    let flat_same : F ≡ K = repository_same F K (table_same F.clauses K.clauses (flat_size K) (λ p l. same p (subst (λ z. p < z) (flat_size K) l))) (flat_conflicts K) in
+    record {
+      flat_same = flat_same;
+      merge_same = merge_same;
+      prune_same = repository_same P K clauses (t.conflicts ∙ (ap (λ R. R.conflicts) merge_same ∙ flat_conflicts K));
+    }
+
+pub fixed_parts_lem : FixedParts
+unfolding round
+fixed_parts_lem K s e =
+    let p : Parts K = parts K s e in
+    let merge_k : quotient K ≡ K = subst (λ R. quotient R ≡ R) p.flat_same p.merge_same in
+    let merge_f : quotient (flat K) ≡ K = p.merge_same ∙ p.flat_same in
+    record {
+      flattening = p.flat_same;
+      merging = merge_k;
+      pruning = subst (λ R. prune R ≡ K) merge_f p.prune_same;
+      thinning = subst (λ R. thin R ≡ K) p.prune_same e;
+    }

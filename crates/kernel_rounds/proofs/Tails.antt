@@ -1,0 +1,93 @@
+-- Rounds keep every set, whatever comes after merging; the three choices of what comes.
+use Rattle.std.proofs.Common.{◌≡◌, ℕ, zero, suc, ◌<◌, [], length, inl, inr, refl, sym, ◌∙◌, ap, subst, slice_index_or, ◌↔◌}
+use Rattle.row_book.specs.Sets.{NumSet, In, Is}
+use Rattle.row_book.specs.Clauses.{InOrder}
+use Rattle.row_book.specs.Repository.{Repository, Coinst, clauses_of}
+use Rattle.row_book.specs.Sound.{OfPackages, SoundRepository, TidyRepository}
+use Rattle.row_book.specs.Flattening.{flat}
+use Rattle.row_book.specs.Merging.{firsts, class_of, image, quotient}
+use Rattle.row_book.specs.Pruning.{prune}
+use Rattle.row_book.specs.Thinning.{thin}
+use Rattle.row_book.proofs.Repositories.{between, both, healthy_coinst}
+use Rattle.clause_flatten.proofs.Flat.{flat_keeps_lem}
+use Rattle.class_merge.proofs.Classes.{has_class_lem, image_parts}
+use Rattle.class_merge.proofs.Kept.{merge_is_tidy_lem, merge_keeps_lem, merged_size}
+use Rattle.clause_prune.proofs.Dropping.{prune_step}
+use Rattle.conflict_reduce.proofs.Thinned.{thin_is_sound_lem, thin_keeps_lem}
+use Rattle.kernel_rounds.specs.Tails.{Lighter, Tail, conflict_count, round_with}
+use Rattle.kernel_rounds.specs.Laws.{RoundsKept, TailsKeep, ThreeTails}
+use Rattle.kernel_rounds.proofs.Flattened.{flat_size, flat_sound}
+use Rattle.kernel_rounds.proofs.Thins.{count_same, thin_or}
+
+pub merged_tidy : (K : Repository) → SoundRepository K → TidyRepository (quotient (flat K))
+merged_tidy K s = merge_is_tidy_lem (flat K) (flat_sound K s)
+
+pub round_sound : (t : Repository → Repository) → Tail t → (R : Repository) → SoundRepository R → SoundRepository (round_with t R)
+round_sound t tail R s = tail.sound (quotient (flat R)) (merged_tidy R s)
+
+pub round_size : (t : Repository → Repository) → Tail t → (R : Repository) → SoundRepository R → length (round_with t R).clauses ≡ length (firsts (flat R))
+round_size t tail R s = tail.size (quotient (flat R)) (merged_tidy R s) ∙ merged_size (flat R)
+
+-- the image of a set is a set of classes
+pub image_within : (t : Repository → Repository) → Tail t → (R : Repository) → SoundRepository R → (S : NumSet) → OfPackages (round_with t R) (image (flat R) S)
+image_within t tail R s S k i =
+    let w : (q : ℕ) × (q < length (flat R).clauses) × Is S q × (class_of (flat R) q ≡ k) = image_parts (flat R) S k i in
+    subst (λ z. k < z) (sym (round_size t tail R s)) (subst (λ z. z < length (firsts (flat R))) w.3 (has_class_lem (flat R) w.0 w.1).within)
+
+pub round_keeps : (t : Repository → Repository) → Tail t → (R : Repository) → SoundRepository R → (S : NumSet) → OfPackages R S → (Coinst R S ↔ Coinst (round_with t R) (image (flat R) S))
+round_keeps t tail R s S small =
+    both (flat_keeps_lem R (between R s) S)
+    (both (merge_keeps_lem (flat R) S (flat_sound R s) (λ q i. subst (λ z. q < z) (sym (flat_size R)) (small q i)))
+    (tail.keeps (quotient (flat R)) (merged_tidy R s) (image (flat R) S)))
+
+pub tails_keep_lem : TailsKeep
+tails_keep_lem t tail R s zero = record { keeps = λ S small. ((λ h. h), (λ h. h)); sound = s }
+tails_keep_lem t tail R s (suc n) =
+    let rest : RoundsKept t (round_with t R) n = tails_keep_lem t tail (round_with t R) (round_sound t tail R s) n in
+    record {
+      keeps = λ S small. both (round_keeps t tail R s S small) (rest.keeps (image (flat R) S) (image_within t tail R s S));
+      sound = rest.sound;
+    }
+
+-- the three rounds
+plain_tail : Tail (λ R. R)
+plain_tail = record {
+  sound = λ R f. f.sound;
+  keeps = λ R f S. ((λ h. h), (λ h. h));
+  size = λ R f. refl;
+  conflicts = λ R f. inl refl;
+  clauses = λ R f p c i. inl i;
+  order = λ R f o. o;
+  weight = λ R f p. inl refl;
+}
+
+prune_tail : Tail prune
+prune_tail = record {
+  sound = λ R f. (prune_step R f).tidy.sound;
+  keeps = λ R f. (prune_step R f).keeps;
+  size = λ R f. (prune_step R f).size;
+  conflicts = λ R f. inl (prune_step R f).conflicts;
+  clauses = λ R f. (prune_step R f).rows;
+  order = λ R f. (prune_step R f).order;
+  weight = λ R f. (prune_step R f).weight;
+}
+
+thin_row : (R : Repository) → SoundRepository R → (p : ℕ) → clauses_of (thin R) p ≡ clauses_of R p
+thin_row R s p = ap (λ c. slice_index_or c p []) (thin_is_sound_lem R s).clauses
+
+pub thin_tail : Tail (λ R. thin (prune R))
+thin_tail = record {
+  sound = λ R f. (thin_is_sound_lem (prune R) (prune_step R f).tidy.sound).sound;
+  keeps = λ R f S. both ((prune_step R f).keeps S) (healthy_coinst (prune R) (thin (prune R)) (λ I. thin_keeps_lem (prune R) I) S);
+  size = λ R f. ap (λ c. length c) (thin_is_sound_lem (prune R) (prune_step R f).tidy.sound).clauses ∙ (prune_step R f).size;
+  conflicts = λ R f. elim (thin_or (prune R) (prune_step R f).tidy.sound) [
+    | inl e ↦ inl (ap (λ F. F.conflicts) e ∙ (prune_step R f).conflicts)
+    | inr l ↦ inr (subst (λ n. conflict_count (thin (prune R)) < n) (count_same (prune R) R (prune_step R f).size (prune_step R f).conflicts) l)
+  ];
+  clauses = λ R f p c i. (prune_step R f).rows p c (subst (λ r. In c r) (thin_row (prune R) (prune_step R f).tidy.sound p) i);
+  order = λ R f o p. subst (λ r. InOrder r) (sym (thin_row (prune R) (prune_step R f).tidy.sound p)) ((prune_step R f).order o p);
+  weight = λ R f p. subst (λ r. Lighter r (clauses_of R p)) (sym (thin_row (prune R) (prune_step R f).tidy.sound p)) ((prune_step R f).weight p);
+}
+
+pub three_tails_lem : ThreeTails
+three_tails_lem = record { merging = plain_tail; pruning = prune_tail; thinning = thin_tail }

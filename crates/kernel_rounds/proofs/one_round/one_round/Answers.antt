@@ -1,0 +1,20 @@
+use Rattle.std.proofs.Common.{◌∙◌, ap}
+use Rattle.row_book.specs.Merging.{quotient}
+use Rattle.row_book.specs.Pruning.{prune}
+use Rattle.row_book.specs.Rounds.{round}
+use Rattle.row_book.specs.Thinning.{thin}
+use Rattle.clause_flatten.proofs.Tidied.{kept_kept}
+use Rattle.kernel_rounds.proofs.one_round.one_round.Goals as goal
+
+pub returns-in_err-thinned-clause-kept : goal.returns-in_err-thinned-clause-kept
+returns-in_err-thinned-clause-kept c =
+    kept_kept c.args.pool.now c.merge.new.pool c.prune.new.pool (kept_kept c.args.pool.now c.flatten.new.pool c.merge.new.pool c.flatten.ensures.kept c.merge.ensures.kept) c.prune.ensures.kept
+
+pub returns-clause-round : goal.returns-clause-round
+unfolding round
+returns-clause-round c =
+    c.in_ok-thinned.ensures.thinned ∙ ap thin (c.in_ok-pruned.ensures.pruned ∙ ap prune (c.in_ok-classes.ensures.quotient ∙ ap quotient c.in_ok-flat.ensures.flat))
+
+pub returns-clause-kept : goal.returns-clause-kept
+returns-clause-kept c =
+    kept_kept c.args.pool.now c.merge.new.pool c.prune.new.pool (kept_kept c.args.pool.now c.flatten.new.pool c.merge.new.pool c.flatten.ensures.kept c.merge.ensures.kept) c.prune.ensures.kept

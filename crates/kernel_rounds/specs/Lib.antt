@@ -1,0 +1,4 @@
+pub mod Tails
+pub mod Laws
+pub mod Extracting
+pub mod Samples

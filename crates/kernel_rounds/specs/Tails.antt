@@ -1,0 +1,41 @@
+-- Rounds whatever comes after merging, so that one proof of their end serves each choice of parts.
+use Rattle.std.specs.Prelude.{◌≡◌, ℕ, zero, suc, ◌<◌, List, [], ◌⊎◌, ◌↔◌, length}
+use Rattle.row_book.specs.Sets.{NumSet, In}
+use Rattle.row_book.specs.Repository.{Repository, Coinst, clauses_of}
+use Rattle.row_book.specs.Clauses.{InOrder}
+use Rattle.row_book.specs.Sound.{SoundRepository, TidyRepository}
+use Rattle.row_book.specs.Flattening.{flat}
+use Rattle.row_book.specs.Merging.{image, quotient}
+use Rattle.row_book.specs.Thinning.{conflicting_pairs}
+use Rattle.row_book.specs.Rounds.{weigh}
+
+abbrev pub round_with : (Repository → Repository) → Repository → Repository
+round_with t R = t (quotient (flat R))
+
+abbrev pub rounds_with : (Repository → Repository) → Repository → ℕ → Repository
+rounds_with t R zero = R
+rounds_with t R (suc n) = rounds_with t (round_with t R) n
+
+abbrev pub image_with : (Repository → Repository) → Repository → ℕ → NumSet → NumSet
+image_with t R zero S = S
+image_with t R (suc n) S = image_with t (round_with t R) n (image (flat R) S)
+
+-- how many pairs of packages conflict
+unfoldable pub conflict_count : Repository → ℕ
+conflict_count R = length (conflicting_pairs R)
+
+-- the same clauses, or clauses that weigh less
+abbrev pub Lighter : List (List ℕ) → List (List ℕ) → Type 0
+Lighter xs ys = (xs ≡ ys) ⊎ (weigh xs < weigh ys)
+
+-- what may come after merging: a tidy repository stays sound and keeps every set and its packages, has the same
+-- conflicts or fewer, and no clauses but old ones and empty ones; the order of its clauses stays, and the clauses of each
+-- package weigh less where they are not the same
+pub record Tail (t : Repository → Repository) : Type 0 where
+  pub sound : (R : Repository) → TidyRepository R → SoundRepository (t R)
+  pub keeps : (R : Repository) → TidyRepository R → (S : NumSet) → (Coinst R S ↔ Coinst (t R) S)
+  pub size : (R : Repository) → TidyRepository R → length (t R).clauses ≡ length R.clauses
+  pub conflicts : (R : Repository) → TidyRepository R → ((t R).conflicts ≡ R.conflicts) ⊎ (conflict_count (t R) < conflict_count R)
+  pub clauses : (R : Repository) → TidyRepository R → (p : ℕ) (c : List ℕ) → In c (clauses_of (t R) p) → In c (clauses_of R p) ⊎ (c ≡ [])
+  pub order : (R : Repository) → TidyRepository R → ((p : ℕ) → InOrder (clauses_of R p)) → (p : ℕ) → InOrder (clauses_of (t R) p)
+  pub weight : (R : Repository) → TidyRepository R → (p : ℕ) → Lighter (clauses_of (t R) p) (clauses_of R p)

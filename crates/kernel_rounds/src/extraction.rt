@@ -1,0 +1,224 @@
+//! Extraction of a kernel.
+ghost use Rattle.std.specs.Prelude.{Some, ◌≡◌, ◌<◌, ◌+◌, ◌∷◌, ◌++◌, [], IfErr, IfOk, OnOk, List, eqb, length, map, min, slice_index_or, ℕ};
+ghost use Rattle.clause_pool.specs.Interned.{Interned, Kept};
+ghost use Rattle.row_book.specs.Book.{repository_of, Sound};
+ghost use Rattle.row_book.specs.Clauses.{numbers};
+ghost use Rattle.row_book.specs.Merging.{place_of};
+ghost use Rattle.row_book.specs.Repository.{Repository};
+ghost use Rattle.row_book.specs.Keeping.{KeepsImages};
+ghost use Rattle.row_book.specs.Rounds.{kernel_image, limit_at, Settled};
+ghost use Rattle.row_book.specs.Sound.{SoundRepository};
+ghost use Rattle.row_book.specs.declared.trail.Step.TheVariants.{Flat, Merge};
+ghost use Rattle.class_merge.specs.Classes.{class_in};
+ghost use Rattle.kernel_rounds.specs.Extracting.{refusal, IsOwnKernel, IsOutcome, IsExtracted, IsMidway, OnRoundLimit};
+
+use crate::comparing::same_books;
+use crate::error::RoundError;
+use crate::one_round::{RoundResult, one_round};
+use clause_flatten::FlatError;
+use clause_pool::{NumList, Pool};
+use listed::Listed;
+use row_book::{Book, Step, StepList, Trail};
+use std::alloc::{AllocError, Global};
+
+/// A kernel.
+#[derive(Drop)]
+pub struct Kernel {
+    /// The classes as packages.
+    pub book: Book,
+    /// For each package of the old book its class.
+    pub class_of: NumList,
+    /// The steps by which the kernel came from the old book.
+    pub trail: Trail,
+}
+
+/// A kernel on its way: the book after some rounds, the class of each package in it, the steps so far, and the number of
+/// the next round.
+#[derive(Drop)]
+struct Progress {
+    book: Book,
+    class_of: Vec<u32>,
+    steps: StepList,
+    number: u32,
+}
+
+/// What a round comes to.
+#[derive(Drop)]
+enum Outcome {
+    /// It changes nothing.
+    Done(Kernel),
+    /// There is more to do.
+    More(Progress),
+}
+
+/// So many numbers, from 0 on.
+fn own_classes(alloc: Global, size: u32) -> Result<Vec<u32>, AllocError>
+    ensures { IfOk result (λ made. made.items ≡ numbers size 0) }
+{
+    let mut made = Vec::new(alloc);
+    for number in 0..size {
+        made.push(number)?;
+    }
+    Ok(made)
+}
+
+/// The class of a package in a list.
+fn class_in(class_of: &[u32], package: u32) -> u32
+    ensures { result ≡ class_in class_of.now «package» }
+{
+    match class_of.get(package as usize) {
+        Some(class) => *class,
+        None => 0,
+    }
+}
+
+/// The classes of classes.
+fn compose(alloc: Global, class_of: &[u32], next: &[u32]) -> Result<Vec<u32>, AllocError>
+    ensures { IfOk result (λ made. made.items ≡ map (class_in next.now) class_of.now) }
+{
+    let mut made = Vec::new(alloc);
+    for class in class_of {
+        made.push(class_in(next, *class))?;
+    }
+    Ok(made)
+}
+
+/// The least package of the class, or the number of all where none is of it.
+fn least_member(class_of: &[u32], class: u32) -> u32
+    requires { length class_of.now < 4294967296 }
+    ensures { result ≡ place_of (λ k. eqb k class) class_of.now }
+{
+    for (package, own) in class_of.iter().enumerate() {
+        if *own == class {
+            return package as u32;
+        }
+    }
+    class_of.len() as u32
+}
+
+/// Why no kernel is extracted where the flattening of a round is refused.
+fn round_error(fault: FlatError, number: u32, class_of: &[u32]) -> RoundError
+    requires { length class_of.now < 4294967296 }
+    ensures { result ≡ refusal number class_of.now fault }
+{
+    match fault {
+        FlatError::Limit {
+            gone,
+            package,
+            count,
+        } => RoundError::Limit {
+            round: number,
+            gone,
+            package: least_member(class_of, package),
+            count,
+        },
+        FlatError::Memory => RoundError::Memory,
+    }
+}
+
+/// The steps with those of one more round.
+fn add_round(
+    alloc: Global,
+    mut steps: StepList,
+    before: Book,
+    class_of: NumList,
+    idle: StepList,
+) -> Result<StepList, AllocError>
+    ensures { IfOk result (λ made. made ≡ (steps ++ (Flat before ∷ (Merge class_of ∷ []))) ++ idle) }
+{
+    let mut round = StepList::new(alloc);
+    round.push(Step::Flat { before })?;
+    round.push(Step::Merge { class_of })?;
+    steps.append(round)?;
+    steps.append(idle)?;
+    Ok(steps)
+}
+
+/// One round more, where it changes something.
+fn advance(
+    alloc: Global,
+    pool: &mut Pool,
+    now: Progress,
+    limit: u32,
+) -> Result<Outcome, RoundError>
+    requires sound { Sound pool.old now.book }
+    requires limit { 0 < limit }
+    requires few { length now.class_of.items < 4294967296 }
+    ensures made { (R : Repository) (start : Interned) → SoundRepository R → IsMidway R limit start pool.old now.book now.class_of.items now.steps now.number →
+        IfOk result (IsOutcome R limit start pool.new (repository_of pool.old now.book)) }
+    ensures passed { (R : Repository) (start : Interned) → SoundRepository R → IsMidway R limit start pool.old now.book now.class_of.items now.steps now.number →
+        IfErr result (OnRoundLimit (λ passed. limit_at R limit ≡ Some passed)) }
+    ensures kept { Kept pool.old pool.new }
+{
+    // What holds of every pool is told by this call alone.
+    pool.clause_count();
+    let made = match one_round(alloc, pool, &now.book, limit) {
+        Ok(made) => made,
+        Err(fault) => return Err(round_error(fault, now.number, now.class_of.as_slice())),
+    };
+    let RoundResult {
+        book,
+        class_of,
+        idle,
+    } = made;
+    if same_books(pool, &now.book, &book) {
+        return Ok(Outcome::Done(Kernel {
+            book,
+            class_of: Listed::of(now.class_of),
+            trail: Trail { steps: now.steps },
+        }));
+    }
+    let next = compose(alloc, now.class_of.as_slice(), class_of.as_slice())?;
+    let steps = add_round(alloc, now.steps, now.book, class_of, idle)?;
+    Ok(Outcome::More(Progress {
+        book,
+        class_of: next,
+        steps,
+        number: now.number.saturating_add(1),
+    }))
+}
+
+/// The state before any round.
+fn first_state(alloc: Global, pool: &Pool, book: &Book) -> Result<Progress, AllocError>
+    requires { Sound pool.now book.now }
+    ensures { (limit : ℕ) → IfOk result (λ made. IsMidway (repository_of pool.now book.now) limit pool.now pool.now made.book made.class_of.items made.steps made.number) }
+{
+    let class_of = own_classes(alloc, book.size())?;
+    let copy = book.copy(alloc)?;
+    Ok(Progress {
+        book: copy,
+        class_of,
+        steps: StepList::new(alloc),
+        number: 1,
+    })
+}
+
+/// The kernel of the book: rounds of flattening, merging, pruning and thinning go on until one changes nothing.
+///
+/// It is refused where a row has more clauses than the limit allows at some stage of the flattening of some round, with
+/// the first such round. What the pool held stays.
+pub fn extract(
+    alloc: Global,
+    pool: &mut Pool,
+    book: &Book,
+    limit: u32,
+) -> Result<Kernel, RoundError>
+    requires sound { Sound pool.old book.now }
+    requires limit { 0 < limit }
+    ensures kernel { IfOk result (λ made. IsExtracted (repository_of pool.old book.now) limit pool.old pool.new made.book made.class_of made.trail.steps) }
+    ensures keeps { IfOk result (λ made. KeepsImages (repository_of pool.old book.now) (repository_of pool.new made.book) (kernel_image (repository_of pool.old book.now))) }
+    ensures settled { IfOk result (λ made. Settled (repository_of pool.new made.book)) }
+    ensures own { IfOk result (λ made. IsOwnKernel (repository_of pool.new made.book) limit) }
+    ensures passed { IfErr result (OnRoundLimit (λ passed. limit_at (repository_of pool.old book.now) limit ≡ Some passed)) }
+    ensures kept { Kept pool.old pool.new }
+{
+    // What holds of every pool is told by this call alone.
+    pool.clause_count();
+    let mut now = first_state(alloc, pool, book)?;
+    loop {
+        match advance(alloc, pool, now, limit)? {
+            Outcome::Done(kernel) => return Ok(kernel),
+            Outcome::More(next) => now = next,
+        }
+    }
+}

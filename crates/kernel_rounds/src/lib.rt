@@ -1,0 +1,21 @@
+//! Rounds of flattening, merging, pruning and thinning, up to the kernel, which no further round changes. The functions of
+//! `laws` do nothing, the contract of each is one law.
+#![tactic(auto)]
+
+mod comparing;
+pub mod error;
+pub mod extraction;
+mod laws;
+mod one_round;
+
+pub use error::RoundError;
+pub use extraction::{Kernel, extract};
+pub use laws::{
+    fixed_is_settled, fixed_parts, flat_plain, image_is_of_classes, kernel_is, kernel_keeps,
+    kernel_of_kernel, tails_end, tails_keep, three_tails,
+};
+
+#[cfg(test)]
+mod samples;
+#[cfg(test)]
+mod tests;

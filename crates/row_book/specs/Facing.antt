@@ -1,0 +1,23 @@
+-- Packages that exclude each other by what they need: a healthy set with the package has a member of each of the
+-- package's sides.
+use Rattle.std.specs.Prelude.{ℕ, Bool, List, [], ◌∷◌}
+use Rattle.std.specs.List.{list_all, list_any}
+use Rattle.row_book.specs.Sets.{has}
+use Rattle.row_book.specs.Book.{listed_for}
+use Rattle.row_book.specs.Repository.{Repository, clauses_of}
+
+-- the package alone, and each of its clauses
+abbrev pub sides : Repository → ℕ → List (List ℕ)
+sides R p = (p ∷ []) ∷ clauses_of R p
+
+-- by the test, each member of d conflicts with each member of e
+abbrev pub all_against : (ℕ → ℕ → Bool) → List ℕ → List ℕ → Bool
+all_against test d e = list_all (λ m. list_all (test m) e) d
+
+-- by the test, some set of ds conflicts as a whole with some set of es
+abbrev pub face : (ℕ → ℕ → Bool) → List (List ℕ) → List (List ℕ) → Bool
+face test ds es = list_any (λ d. list_any (all_against test d) es) ds
+
+-- whether the table has n among the conflicts of m
+abbrev pub against_in : List (List ℕ) → ℕ → ℕ → Bool
+against_in table m n = has (listed_for table m) n

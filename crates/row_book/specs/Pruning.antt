@@ -1,0 +1,117 @@
+-- Pruning: packages that cannot be installed get the empty clause alone, and clauses that are always hit, or may be hit
+-- at no cost, are dropped.
+use Rattle.std.specs.Prelude.{ℕ, Bool, not, ◌&&◌, ◌||◌, eqb, cond, List, [], ◌∷◌, ◌++◌, filter, Option, Some, None, slice_set}
+use Rattle.std.specs.List.{list_all, list_any, find}
+use Rattle.std.specs.Cmp.Lexicographic.{pointwise}
+use Rattle.row_book.specs.Sets.{NumSet, has, plus}
+use Rattle.row_book.specs.Repository.{Repository, against, clauses_of}
+use Rattle.row_book.specs.Clauses.{is_inside}
+use Rattle.row_book.specs.Flattening.{packages}
+use Rattle.row_book.specs.Facing.{sides, face}
+
+-- the repository with other clauses for a package
+abbrev pub with_clauses : Repository → ℕ → List (List ℕ) → Repository
+with_clauses R p cs = record { clauses = slice_set R.clauses p cs; conflicts = R.conflicts }
+
+-- whether no healthy set has the package, since two of its sides conflict as a whole
+abbrev pub is_dead : Repository → ℕ → Bool
+is_dead R p = face (against R) (sides R p) (sides R p)
+
+-- the package with the empty clause alone
+abbrev pub with_empty_clause : Repository → ℕ → Repository
+with_empty_clause R p = with_clauses R p ([] ∷ [])
+
+-- the clauses of p other than d
+abbrev pub others : Repository → ℕ → List ℕ → List (List ℕ)
+others R p d = filter (λ c. not (pointwise eqb c d)) (clauses_of R p)
+
+-- the repository without the clause d of p
+abbrev pub without_clause : Repository → ℕ → List ℕ → Repository
+without_clause R p d = with_clauses R p (others R p d)
+
+-- whether a package that is installed sees to it that d is hit: it is in d, or has a clause within d
+abbrev pub serves : Repository → List ℕ → ℕ → Bool
+serves R d m = has d m || list_any (λ c. is_inside c d) (clauses_of R m)
+
+-- whether the clause d of p is hit as soon as the others are: each member of one of these serves
+abbrev pub is_forced : Repository → ℕ → List ℕ → Bool
+is_forced R p d = list_any (λ e. list_all (serves R d) e) (others R p d)
+
+-- whether y, which conflicts with a member of d, is out anyway where p is in and d is not hit: it is in d itself, or
+-- conflicts with p, or with every member of another clause of p
+abbrev pub is_harmless : Repository → ℕ → List ℕ → ℕ → Bool
+is_harmless R p d y =
+    not (eqb y p) && (has d y || (against R p y || list_any (λ e. list_all (against R y) e) (others R p d)))
+
+-- whether the clause is hit wherever p is in and its clauses other than d are hit
+abbrev pub is_met : Repository → ℕ → List ℕ → List ℕ → Bool
+is_met R p d c = has c p || list_any (λ e. is_inside e c) (others R p d)
+
+-- whether the member x of d can be put in wherever p is in and d is not hit
+abbrev pub is_idle : Repository → ℕ → List ℕ → ℕ → Bool
+is_idle R p d x =
+    has d x
+    && (list_all (λ y. not (against R x y) || is_harmless R p d y) (packages R)
+    && list_all (is_met R p d) (clauses_of R x))
+
+-- whether the clause d of p is dropped: it is forced, or idle by one of its members
+abbrev pub is_dropped : Repository → ℕ → List ℕ → Bool
+is_dropped R p d = is_forced R p d || list_any (is_idle R p d) d
+
+abbrev pub prune_clause : Repository → ℕ → List ℕ → Repository
+prune_clause R p d = cond (is_dropped R p d) (without_clause R p d) R
+
+-- one clause after another, each in what is left
+abbrev pub prune_clauses : Repository → ℕ → List (List ℕ) → Repository
+prune_clauses R p [] = R
+prune_clauses R p (d ∷ ds) = prune_clauses (prune_clause R p d) p ds
+
+abbrev pub prune_package : Repository → ℕ → Repository
+prune_package R p = cond (is_dead R p) (with_empty_clause R p) (prune_clauses R p (clauses_of R p))
+
+-- one package after another, each in what is left
+abbrev pub prune_over : Repository → List ℕ → Repository
+prune_over R [] = R
+prune_over R (p ∷ ps) = prune_over (prune_package R p) ps
+
+unfoldable pub prune : Repository → Repository
+prune R = prune_over R (packages R)
+
+-- The steps of pruning that a healthy set of what is left has to be taken back through.
+
+-- the clause of the package was dropped as idle by the least of its members that serve
+pub record IdleClause : Type 0 where
+  pub «package» : ℕ
+  pub clause : List ℕ
+  pub added : ℕ
+
+abbrev pub step_by : ℕ → List ℕ → Option ℕ → List IdleClause
+step_by p d None = []
+step_by p d (Some x) = record { «package» = p; clause = d; added = x } ∷ []
+
+abbrev pub clause_steps : Repository → ℕ → List ℕ → List IdleClause
+clause_steps R p d = cond (is_forced R p d) [] (step_by p d (find (is_idle R p d) d))
+
+abbrev pub clauses_steps : Repository → ℕ → List (List ℕ) → List IdleClause
+clauses_steps R p [] = []
+clauses_steps R p (d ∷ ds) = clause_steps R p d ++ clauses_steps (prune_clause R p d) p ds
+
+abbrev pub package_steps : Repository → ℕ → List IdleClause
+package_steps R p = cond (is_dead R p) [] (clauses_steps R p (clauses_of R p))
+
+abbrev pub steps_over : Repository → List ℕ → List IdleClause
+steps_over R [] = []
+steps_over R (p ∷ ps) = package_steps R p ++ steps_over (prune_package R p) ps
+
+-- the idle steps of pruning, in order
+unfoldable pub idle_steps : Repository → List IdleClause
+idle_steps R = steps_over R (packages R)
+
+-- the set with x put in, where p is there and nothing of d is
+abbrev pub lift_idle : NumSet → ℕ → List ℕ → ℕ → NumSet
+lift_idle I p d x = cond (I p && not (list_any I d)) (plus I x) I
+
+-- the set taken back through the steps, from the last to the first
+abbrev pub lift_all : NumSet → List IdleClause → NumSet
+lift_all I [] = I
+lift_all I (s ∷ ss) = lift_idle (lift_all I ss) s.«package» s.clause s.added

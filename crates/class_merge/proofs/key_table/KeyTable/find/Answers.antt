@@ -1,6 +1,6 @@
 use Rattle.std.proofs.Common.{◌∙◌, eqb}
 use Rattle.std.specs.Cmp.Lexicographic.{pointwise}
-use Rattle.clause_pool.proofs.Places.{place_shown}
+use Rattle.class_merge.proofs.Places.{place_shown}
 use Rattle.class_merge.proofs.key_table.KeyTable.find.Goals as goal
 
 pub returns : goal.returns

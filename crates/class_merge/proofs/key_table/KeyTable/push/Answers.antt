@@ -1,5 +1,5 @@
 use Rattle.std.proofs.Common.{◌∙◌, eqb}
-use Rattle.clause_pool.proofs.Places.{new_place, new_lists}
+use Rattle.class_merge.proofs.Places.{new_place, new_lists}
 use Rattle.class_merge.proofs.key_table.KeyTable.push.Goals as goal
 
 pub returns-clause-place : goal.returns-clause-place

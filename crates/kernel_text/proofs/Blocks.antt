@@ -89,11 +89,11 @@ blocks_reading k (b ∷ bs) N last ms ns ps fit e h =
     }
 
 -- the items of one block among those of all, by their class
-filter_all : {A : Type 0} (key : A → ℕ) (n : ℕ) (xs : List A) → ((x : A) → In x xs → key x ≡ n) → filter (λ x. eqb (key x) n) xs ≡ xs
+pub filter_all : {A : Type 0} (key : A → ℕ) (n : ℕ) (xs : List A) → ((x : A) → In x xs → key x ≡ n) → filter (λ x. eqb (key x) n) xs ≡ xs
 filter_all key n [] h = refl
 filter_all key n (x ∷ xs) h = rw (eq-eqb (key x) n (h x here)) (ap (λ ys. x ∷ ys) (filter_all key n xs (λ y i. h y (there i))))
 
-filter_none : {A : Type 0} (key : A → ℕ) (n : ℕ) (xs : List A) → ((x : A) → In x xs → key x ≢ n) → filter (λ x. eqb (key x) n) xs ≡ []
+pub filter_none : {A : Type 0} (key : A → ℕ) (n : ℕ) (xs : List A) → ((x : A) → In x xs → key x ≢ n) → filter (λ x. eqb (key x) n) xs ≡ []
 filter_none key n [] h = refl
 filter_none key n (x ∷ xs) h = rw (eqb_other (key x) n (h x here)) (filter_none key n xs (λ y i. h y (there i)))
 

@@ -9,3 +9,4 @@ pub mod Shape
 pub mod Blocks
 pub mod Writable
 pub mod ReadIsWritten
+pub mod Classified

@@ -1,6 +1,7 @@
 -- The laws of kernel texts.
-use Rattle.std.specs.Prelude.{◌≡◌, ℕ, ◌<◌, false, ◌↔◌, List, [], ◌∷◌, length}
+use Rattle.std.specs.Prelude.{◌≡◌, ℕ, ◌<◌, ◌↔◌, List, length}
 use Rattle.relation_fields.specs.declared.packages.PackageFacts.{PackageFacts}
+use Rattle.repo_model.proofs.Accepted.{Accepted}
 use Rattle.row_book.specs.Book.{AreConflicts}
 use Rattle.row_book.specs.Clauses.{InOrder}
 use Rattle.row_book.specs.Repository.{Repository, clauses_of}
@@ -8,9 +9,9 @@ use Rattle.row_book.specs.Sets.{In}
 use Rattle.row_book.specs.Sound.{SoundClauses}
 use Rattle.kernel_text.specs.declared.member.Member.{Member}
 use Rattle.kernel_text.specs.KernelReads.{HasOneReading, KernelReads}
-use Rattle.kernel_text.specs.KernelText.{AreSingle, IsWritable, kernel_text}
-use Rattle.kernel_text.specs.Members.{file_members, kernel_members}
-use Rattle.kernel_text.specs.Reading.{number_limit, IsNamed}
+use Rattle.kernel_text.specs.KernelText.{IsWritable, kernel_text}
+use Rattle.kernel_text.specs.Members.{kernel_members}
+use Rattle.kernel_text.specs.Reading.{number_limit}
 
 -- a text has one reading at most
 abbrev pub TextsAreReadOnce : Type 0
@@ -21,8 +22,8 @@ abbrev pub ReadIsWritten : Type 0
 ReadIsWritten = (text : List ℕ) (R : Repository) (members : List Member) →
     (KernelReads text R members ↔ (IsWritable R members × (text ≡ kernel_text R members)))
 
--- R is sound; the clauses of a class are in order and do not hold the class; each package has a name and a version and is
--- in one of the classes, none is the package of an earlier one, and each class has a package
+-- R is sound, the clauses of a class are in order and do not hold the class; the packages are those of an index without a
+-- fault; each of them is in one of the classes, and each class has one
 pub record IsKernelOf (R : Repository) (packages : List PackageFacts) (class_of : List ℕ) : Type 0 where
   pub clauses : SoundClauses R
   pub conflict_lists : length R.conflicts ≡ length R.clauses
@@ -30,9 +31,7 @@ pub record IsKernelOf (R : Repository) (packages : List PackageFacts) (class_of 
   pub order : (n : ℕ) → InOrder (clauses_of R n)
   pub apart : (n : ℕ) (c : List ℕ) → In c (clauses_of R n) → In n c → ⊥
   pub few_classes : length R.clauses < number_limit
-  pub few_packages : length packages < number_limit
-  pub named : (facts : PackageFacts) → In facts packages → IsNamed facts.name facts.version
-  pub single : AreSingle (file_members packages class_of)
+  pub accepted : Accepted packages
   pub each : length class_of ≡ length packages
   pub inside : (class : ℕ) → In class class_of → class < length R.clauses
   pub populated : (class : ℕ) → class < length R.clauses → In class class_of

@@ -28,7 +28,7 @@ use Rattle.kernel_text.proofs.Blocks.{filter_all, filter_none}
 use Rattle.kernel_text.proofs.Retold.{eqb_other, in_flat_cases}
 
 -- the same function at each element
-flat_same : {X A : Type 0} (f g : X → List A) (xs : List X) → ((x : X) → In x xs → f x ≡ g x) → flat_map f xs ≡ flat_map g xs
+pub flat_same : {X A : Type 0} (f g : X → List A) (xs : List X) → ((x : X) → In x xs → f x ≡ g x) → flat_map f xs ≡ flat_map g xs
 flat_same f g [] h = refl
 flat_same f g (x ∷ xs) h = ap₂ (λ ys zs. ys ++ zs) (h x here) (flat_same f g xs (λ y i. h y (there i)))
 
@@ -41,7 +41,7 @@ other_members ms k n ne =
     filter_none (λ (m : Member). m.class) n (members_of ms k) (λ m i e. ne (sym (eqb-true m.class k (filter_cases (λ (o : Member). eqb o.class k) ms m i).1) ∙ e))
 
 -- the members of the classes from k on
-abbrev by_classes : List Member → ℕ → ℕ → List Member
+abbrev pub by_classes : List Member → ℕ → ℕ → List Member
 by_classes ms j k = flat_map (members_of ms) (numbers j k)
 
 members_append : (xs ys : List Member) (n : ℕ) → members_of (xs ++ ys) n ≡ members_of xs n ++ members_of ys n
@@ -54,7 +54,7 @@ none_of_class ms (suc j) k n l =
     members_append (members_of ms k) (by_classes ms j (suc k)) n
     ∙ ap₂ (λ xs ys. xs ++ ys) (other_members ms k n (λ e. absurd (omega (arith, e)))) (none_of_class ms j (suc k) n (omega arith))
 
-all_of_class : (ms : List Member) (j k n : ℕ) → k ≤ n → n < k + j → members_of (by_classes ms j k) n ≡ members_of ms n
+pub all_of_class : (ms : List Member) (j k n : ℕ) → k ≤ n → n < k + j → members_of (by_classes ms j k) n ≡ members_of ms n
 unfolding numbers
 all_of_class ms zero k n l u = absurd (omega arith)
 all_of_class ms (suc j) k n l u =
@@ -171,19 +171,19 @@ single_by_classes ms s (suc j) k =
     two_classes ms s x y v.0 w.inside (λ f. absurd (omega (arith, e, b, f))))
 
 -- the members in file order
-length_file : (packages : List PackageFacts) (class_of : List ℕ) → length class_of ≡ length packages → length (file_members packages class_of) ≡ length packages
+pub length_file : (packages : List PackageFacts) (class_of : List ℕ) → length class_of ≡ length packages → length (file_members packages class_of) ≡ length packages
 length_file [] class_of e = refl
 length_file (facts ∷ packages) [] e = absurd (omega (arith, e))
 length_file (facts ∷ packages) (c ∷ class_of) e = ap suc (length_file packages class_of (omega (arith, e)))
 
 -- a member is of a class of the list, and has the name and the version of a package
-record IsMemberOf (packages : List PackageFacts) (class_of : List ℕ) (m : Member) : Type 0 where
-  class : In m.class class_of
-  facts : PackageFacts
-  inside : In facts packages
-  is : m ≡ member_in m.class facts
+pub record IsMemberOf (packages : List PackageFacts) (class_of : List ℕ) (m : Member) : Type 0 where
+  pub class : In m.class class_of
+  pub facts : PackageFacts
+  pub inside : In facts packages
+  pub is : m ≡ member_in m.class facts
 
-file_member : (packages : List PackageFacts) (class_of : List ℕ) (m : Member) → In m (file_members packages class_of) → IsMemberOf packages class_of m
+pub file_member : (packages : List PackageFacts) (class_of : List ℕ) (m : Member) → In m (file_members packages class_of) → IsMemberOf packages class_of m
 file_member [] class_of m i = absurd (In_none i)
 file_member (facts ∷ packages) [] m i = absurd (In_none i)
 file_member (facts ∷ packages) (c ∷ class_of) m i =

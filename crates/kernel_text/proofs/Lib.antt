@@ -1,3 +1,4 @@
+pub mod Pieces
 pub mod Spelling
 pub mod OneReading
 pub mod LineCuts
@@ -10,3 +11,4 @@ pub mod Blocks
 pub mod Writable
 pub mod ReadIsWritten
 pub mod Classified
+pub mod Written

@@ -5,3 +5,4 @@ pub mod KernelReads
 pub mod KernelText
 pub mod Members
 pub mod Laws
+pub mod Writing

@@ -1,6 +1,6 @@
 -- What the blocks of classes say, one behind the other, and that they are the lines of the kernel that they say.
-use Rattle.std.proofs.Common.{◌≡◌, ◌≢◌, ℕ, zero, suc, ◌+◌, ◌<◌, Bool, true, false, ◌&&◌, ◌==◌, eqb, ltb, List, [], ◌∷◌, ◌++◌, ◌⊎◌, Option, Some, length, map, filter, get_or, inl, inr, refl, sym, ap, ap₂, ◌∙◌, subst, append_assoc, add-one, zero-add, eq-eqb, arith}
-use Rattle.std.specs.List.{flat_map, onto_first}
+use Rattle.std.proofs.Common.{◌≡◌, ◌≢◌, ℕ, zero, suc, ◌+◌, ◌<◌, true, ◌&&◌, eqb, ltb, List, [], ◌∷◌, ◌++◌, ◌⊎◌, Option, Some, length, map, filter, get_or, inl, inr, refl, sym, ap, ap₂, ◌∙◌, subst, append_assoc, add-one, zero-add, eq-eqb, arith}
+use Rattle.std.specs.List.{flat_map}
 use Rattle.std.proofs.lemmas.Bool.{and_from, or_left, lt-ltb, ltb-true}
 use Rattle.std.proofs.lemmas.List.{append-nil}
 use Rattle.std.proofs.lemmas.List.Elements.{filter-append}
@@ -13,14 +13,14 @@ use Rattle.row_book.proofs.Lists.{In_none, In_map, In_map_cases, In_append_cases
 use Rattle.row_book.proofs.Order.{numbers_from, numbers_ascending, length_numbers, at_numbers}
 use Rattle.row_book.proofs.Pairs.{is_of, paired_cases}
 use Rattle.kernel_text.specs.declared.member.Member.{Member}
-use Rattle.kernel_text.specs.KernelLines.{KernelLine, HeadLine, ClassLine, MemberLine, NeedsLine, AgainstLine, EndLine, lines_of, line_text}
-use Rattle.kernel_text.specs.KernelReads.{KernelReads, LinesGive, IsEnded, IsInRange, clauses_of_class, repository_of_reading}
-use Rattle.kernel_text.specs.KernelText.{class_lines, greater_conflicts, kernel_lines, kernel_text, line_of_member}
-use Rattle.kernel_text.specs.Reading.{Reading, ClassClause, empty_reading, with_line}
-use Rattle.kernel_text.proofs.LineCuts.{with_lines, AreAllowed}
+use Rattle.kernel_text.specs.KernelLines.{KernelLine, HeadLine, ClassLine, NeedsLine, AgainstLine, EndLine}
+use Rattle.kernel_text.specs.KernelReads.{clauses_of_class}
+use Rattle.kernel_text.specs.KernelText.{class_lines, greater_conflicts, kernel_lines, line_of_member}
+use Rattle.kernel_text.specs.Reading.{Reading, ClassClause}
+use Rattle.kernel_text.proofs.LineCuts.{with_lines}
 use Rattle.kernel_text.proofs.Printed.{reading_at, clause_entry, pair_of, last_of, with_append, members_reading, clauses_reading, conflicts_reading, clauses_last, conflicts_last}
 use Rattle.kernel_text.proofs.Retold.{eqb_other}
-use Rattle.kernel_text.proofs.Shape.{Block, FitBlock, FitBlocks, IsTail, Shaped, block_lines, empty, over_blocks, shape, some_none}
+use Rattle.kernel_text.proofs.Shape.{Block, FitBlock, FitBlocks, block_lines, empty, over_blocks}
 
 -- what blocks tell
 abbrev pub NotEnd : Option KernelLine → Type 0
@@ -247,4 +247,3 @@ module _ (bs : List Block) (fit : FitBlocks 0 bs) (low : (pair : Pair) → In pa
   lines_are =
       ap (λ n. HeadLine ∷ (flat_map (class_lines R_read member_list) (numbers n 0) ++ EndLine n (length member_list) ∷ [])) size_is
       ∙ ap (λ xs. HeadLine ∷ (xs ++ EndLine size (length member_list) ∷ [])) (by_blocks block_lines (class_lines R_read member_list) 0 bs class_is)
-

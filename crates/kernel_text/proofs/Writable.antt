@@ -1,5 +1,5 @@
 -- A kernel that is read is one that the format can write.
-use Rattle.std.proofs.Common.{◌≡◌, ℕ, zero, suc, ◌+◌, ◌<◌, false, List, [], ◌∷◌, ◌++◌, length, map, filter, eqb, get_or, inl, inr, refl, sym, ap, ◌∙◌, subst, zero-add, arith}
+use Rattle.std.proofs.Common.{◌≡◌, ℕ, zero, suc, ◌<◌, false, List, [], ◌∷◌, ◌++◌, length, filter, eqb, get_or, inl, inr, sym, ap, ◌∙◌, subst, zero-add, arith}
 use Rattle.std.specs.List.{flat_map}
 use Rattle.std.proofs.lemmas.Bool.{cases_lt}
 use Rattle.std.proofs.lemmas.List.{get_or_past}
@@ -18,7 +18,7 @@ use Rattle.kernel_text.specs.KernelText.{AreSingle, IsWritable, members_of}
 use Rattle.kernel_text.specs.Reading.{Reading, ClassClause, IsAllowed, IsClauseOf, IsNamed, IsNew, is_same_member, member_of_line, number_limit, with_line}
 use Rattle.kernel_text.proofs.LineCuts.{AreAllowed, with_lines}
 use Rattle.kernel_text.proofs.Blocks.{R_read, by_blocks, clause_entries_in, clauses_are, fit_at, keyed_members, members_in, picked, reading_of_blocks, rising, size_is}
-use Rattle.kernel_text.proofs.Shape.{ArePopulated, Block, FitBlock, FitBlocks, empty, over_blocks}
+use Rattle.kernel_text.proofs.Shape.{ArePopulated, Block, FitBlocks, empty, over_blocks}
 
 -- each allowed member line is of a new member, so none names the package of an earlier one
 single_more : (ms : List Member) (m : Member) → AreSingle ms → IsNew m ms → AreSingle (ms ++ m ∷ [])

@@ -1,21 +1,19 @@
 -- What the writer puts together: the packages of each class, the blocks of classes, and the whole text.
-use Rattle.std.proofs.Common.{◌≡◌, ◌≢◌, ℕ, zero, suc, ◌+◌, ◌<◌, ◌≤◌, Bool, true, false, eqb, ltb, List, [], ◌∷◌, ◌++◌, length, take, drop, map, filter, get_or, set, inl, inr, refl, sym, ap, ap₂, ◌∙◌, subst, add-one, zero-add, eq-eqb, eqb-true, append_assoc, arith}
+use Rattle.std.proofs.Common.{◌≡◌, ℕ, zero, suc, ◌+◌, ◌<◌, ◌≤◌, Bool, true, false, eqb, ltb, List, [], ◌∷◌, ◌++◌, length, take, drop, map, filter, get_or, set, inl, inr, refl, sym, ap, ap₂, ◌∙◌, subst, add-one, zero-add, eq-eqb, append_assoc, arith}
 use Rattle.std.specs.List.{flat_map}
 use Rattle.std.proofs.Math.ListN.{length-set}
 use Rattle.std.proofs.Math.Seq.{drop-cons}
 use Rattle.std.proofs.lemmas.Bool.{cases_eq, cases_lt}
 use Rattle.std.proofs.lemmas.Grind.{flat_map-append}
-use Rattle.std.proofs.lemmas.List.{append-nil, flat_map_more, get_or_past, get_or-set_same, get_or-set_other, length-map, take_more}
+use Rattle.std.proofs.lemmas.List.{append-nil, flat_map_more, get_or_past, get_or-set_same, get_or-set_other, take_more}
 use Rattle.std.proofs.lemmas.List.Elements.{filter-append}
 use Rattle.std.proofs.lemmas.List.Folds.{flat_map-map}
-use Rattle.clause_pool.specs.Interned.{Interned, row_at}
 use Rattle.relation_fields.specs.declared.packages.PackageFacts.{PackageFacts}
 use Rattle.repo_model.specs.Stanzas.{stanza_at, no_stanza}
-use Rattle.row_book.specs.Book.{listed_for, repository_of}
+use Rattle.row_book.specs.Book.{listed_for}
 use Rattle.row_book.specs.Clauses.{numbers}
 use Rattle.row_book.specs.Repository.{Repository, clauses_of, conflicts_of}
 use Rattle.row_book.specs.Sets.{In}
-use Rattle.row_book.specs.declared.book.Book.{Book}
 use Rattle.row_book.proofs.Lists.{In_none, filter_cases}
 use Rattle.row_book.proofs.Order.{numbers_parts}
 use Rattle.kernel_text.specs.declared.member.Member.{Member}

@@ -11,3 +11,6 @@ mod write;
 pub use laws::{kernels_are_writable, read_is_written, texts_are_read_once};
 pub use member::Member;
 pub use write::write_kernel;
+
+#[cfg(test)]
+mod tests;

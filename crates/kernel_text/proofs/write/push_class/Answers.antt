@@ -1,4 +1,4 @@
-use Rattle.std.proofs.Common.{sym, subst, ap, ◌∙◌, slice_index_or, [], length, ◌<◌, arith}
+use Rattle.std.proofs.Common.{sym, subst, ap, ◌∙◌, arith}
 use Rattle.std.proofs.lemmas.Result.{on_ok_weaker}
 use Rattle.clause_pool.specs.Interned.{clauses_at, row_at}
 use Rattle.row_book.specs.Book.{repository_of}

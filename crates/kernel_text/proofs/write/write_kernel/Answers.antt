@@ -1,4 +1,4 @@
-use Rattle.std.proofs.Common.{ℕ, List, ◌≡◌, ◌++◌, ◌<◌, length, subst, sym, ap, ap₂, ◌∙◌}
+use Rattle.std.proofs.Common.{ℕ, List, ◌++◌, length, subst, sym, ap, ap₂, ◌∙◌}
 use Rattle.std.proofs.lemmas.List.{length-map}
 use Rattle.clause_pool.specs.Interned.{row_at}
 use Rattle.row_book.specs.Book.{repository_of}

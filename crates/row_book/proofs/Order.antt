@@ -115,7 +115,7 @@ neither_before (x ∷ xs) (y ∷ ys) h k =
     (false_from_ne_true (comes_before ys xs) (λ t. both_ways (eqb y x && comes_before ys xs) b.1 (and_from (eqb y x) (comes_before ys xs) (eq-eqb y x (sym e)) t))) in
     ap₂ (λ z zs. z ∷ zs) e same
 
-before_trans : (a b c : List ℕ) → Before a b → Before b c → Before a c
+pub before_trans : (a b c : List ℕ) → Before a b → Before b c → Before a c
 before_trans [] b [] f g = elim_end b f g
   where
     elim_end : (b : List ℕ) → Before [] b → Before b [] → ⊥

@@ -1,0 +1,46 @@
+-- What a kernel text is read as: the grammar of the format.
+use Rattle.std.specs.Prelude.{◌≡◌, ℕ, ◌<◌, eqb, List, [], ◌∷◌, length, map, filter, Some}
+use Rattle.row_book.specs.Book.{lists_of_pairs}
+use Rattle.row_book.specs.Clauses.{numbers}
+use Rattle.row_book.specs.Repository.{Repository}
+use Rattle.row_book.specs.Sets.{In}
+use Rattle.row_book.specs.declared.pair.Pair.{Pair}
+use Rattle.kernel_text.specs.declared.member.Member.{Member}
+use Rattle.kernel_text.specs.KernelLines.{KernelLine, EndLine, lines_of, line_text}
+use Rattle.kernel_text.specs.Reading.{Reading, ClassClause, empty_reading, with_line, IsAllowed}
+
+-- each line is the bytes of one that is allowed behind those before it, and with them all the reading t becomes u
+abbrev pub LinesGive : Reading → List (List ℕ) → Reading → Type 0
+LinesGive t [] u = t ≡ u
+LinesGive t (line ∷ more) u = (l : KernelLine) × (line ≡ line_text l) × IsAllowed t l × LinesGive (with_line t l) more u
+
+-- of the clauses those of one class
+abbrev pub clauses_of_class : List ClassClause → ℕ → List (List ℕ)
+clauses_of_class clauses n = map (λ entry. entry.clause) (filter (λ entry. eqb entry.class n) clauses)
+
+-- the classes with their clauses, and the conflicts either way round
+unfoldable pub repository_of_reading : Reading → Repository
+repository_of_reading t = record { clauses = map (clauses_of_class t.clauses) (numbers t.classes 0); conflicts = lists_of_pairs t.conflicts t.classes }
+
+-- the last line is the end line, with the numbers of class and member lines
+abbrev pub IsEnded : Reading → Type 0
+IsEnded t = t.last ≡ Some (EndLine t.classes (length t.members))
+
+-- each number of a clause and each conflicting number is one of a class
+pub record IsInRange (t : Reading) : Type 0 where
+  pub clauses : (entry : ClassClause) → In entry t.clauses → (l : ℕ) → In l entry.clause → l < t.classes
+  pub conflicts : (pair : Pair) → In pair t.conflicts → pair.high < t.classes
+
+-- The lines of the text are allowed, one behind the other, up to an end line with the right numbers; all numbers
+-- are of classes; and the text stands for the repository and the members that its lines say.
+pub record KernelReads (text : List ℕ) (R : Repository) (members : List Member) : Type 0 where
+  pub reading : Reading
+  pub given : LinesGive empty_reading (lines_of text) reading
+  pub ended : IsEnded reading
+  pub in_range : IsInRange reading
+  pub repository : R ≡ repository_of_reading reading
+  pub member_list : members ≡ reading.members
+
+-- two readings of the text are one
+abbrev pub HasOneReading : List ℕ → Type 0
+HasOneReading text = (R S : Repository) (ms ns : List Member) → KernelReads text R ms → KernelReads text S ns → (R ≡ S) × (ms ≡ ns)

@@ -1,0 +1,37 @@
+-- What the parts of the writer put behind a text, and the packages of each class by their numbers.
+use Rattle.std.specs.Prelude.{◌≡◌, ℕ, ◌<◌, eqb, List, ◌++◌, length, filter, slice_index}
+use Rattle.std.specs.List.{flat_map}
+use Rattle.relation_fields.specs.declared.packages.PackageFacts.{PackageFacts}
+use Rattle.row_book.specs.Book.{listed_for}
+use Rattle.row_book.specs.Clauses.{numbers}
+use Rattle.row_book.specs.Repository.{Repository, clauses_of}
+use Rattle.row_book.specs.Sets.{In}
+use Rattle.repo_model.specs.Stanzas.{stanza_at}
+use Rattle.kernel_text.specs.KernelLines.{KernelLine, ClassLine, MemberLine, NeedsLine, AgainstLine, line_text}
+use Rattle.kernel_text.specs.KernelText.{greater_conflicts}
+
+-- a line for each element
+abbrev pub lines_text : {A : Type 0} → (A → KernelLine) → List A → List ℕ
+lines_text line xs = flat_map (λ x. line_text (line x)) xs
+
+abbrev pub line_of_package : PackageFacts → KernelLine
+line_of_package facts = MemberLine facts.name facts.version
+
+-- the block of a class, of which the table has the packages by their numbers
+unfoldable pub block_text : Repository → List PackageFacts → List (List ℕ) → ℕ → List ℕ
+block_text R packages table n =
+    line_text (ClassLine n) ++ (lines_text (λ i. line_of_package (stanza_at packages i)) (listed_for table n)
+    ++ (lines_text NeedsLine (clauses_of R n) ++ lines_text AgainstLine (greater_conflicts R n)))
+
+-- the numbers of the table are of packages
+abbrev pub OfPackages : List (List ℕ) → List PackageFacts → Type 0
+OfPackages table packages = (n i : ℕ) → In i (listed_for table n) → i < length packages
+
+-- of the first so many packages those of a class, ascending
+abbrev pub numbers_of_class : List ℕ → ℕ → ℕ → List ℕ
+numbers_of_class class_of count n = filter (λ i. eqb (slice_index class_of i) n) (numbers count 0)
+
+-- the table has for each of so many classes the numbers of its packages, among the first so many
+pub record IsByClass (class_of : List ℕ) (taken size : ℕ) (table : List (List ℕ)) : Type 0 where
+  pub count : length table ≡ size
+  pub each : (n : ℕ) → n < size → listed_for table n ≡ numbers_of_class class_of taken n

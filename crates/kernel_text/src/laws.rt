@@ -1,0 +1,18 @@
+//! Laws over the definitions that the contracts of kernel texts cite; these functions do nothing.
+ghost use Rattle.kernel_text.specs.Laws.{KernelsAreWritable, ReadIsWritten, TextsAreReadOnce};
+
+/// A text is read as one repository and one list of members at most.
+pub fn texts_are_read_once()
+    ensures { TextsAreReadOnce }
+{}
+
+/// A text is read as a kernel exactly where the format can write the kernel and the text is the one that is written for
+/// it. So no two texts have the same reading, and a written text is read as what it was written for.
+pub fn read_is_written()
+    ensures { ReadIsWritten }
+{}
+
+/// A sound repository with the packages of its classes, as an extracted kernel has them, is one that the format can write.
+pub fn kernels_are_writable()
+    ensures { KernelsAreWritable }
+{}

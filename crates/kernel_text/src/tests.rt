@@ -1,0 +1,107 @@
+//! Texts of small kernels, worked out by hand.
+ghost use Rattle.std.specs.Prelude.{◌≡◌, ltb};
+ghost use Rattle.std.specs.List.{list_all};
+ghost use Rattle.row_book.specs.Book.{Sound};
+
+use crate::write_kernel;
+use clause_pool::{NumList, Pool};
+use repo_model::{IndexFault, Suite, read_suite};
+use row_book::Book;
+use std::alloc::{AllocError, Global};
+use std::test::Fail;
+
+/// The rows: an index whose packages are the classes, an index of their members, the class of each member, and the text.
+const KERNELS: [(&str, &str, &str, &str); 5] = [
+    ("", "", "", "coinst-kernel 1\nend 0 0\n"),
+    (
+        "Package: a\nVersion: 1\nDepends: nowhere\n",
+        "Package: a\nVersion: 1.0-1\n",
+        "0",
+        "coinst-kernel 1\nclass 0\nmember a 1.0-1\nneeds\nend 1 1\n",
+    ),
+    (
+        "Package: a\nVersion: 1\n",
+        "Package: a\nVersion: 1\n\nPackage: b\nVersion: 1\n",
+        "00",
+        "coinst-kernel 1\nclass 0\nmember a 1\nmember b 1\nend 1 2\n",
+    ),
+    (
+        "Package: a\nVersion: 1\nDepends: b | c\n\nPackage: b\nVersion: 1\nConflicts: c\n\nPackage: c\nVersion: 1\n",
+        "Package: a\nVersion: 1\n\nPackage: b\nVersion: 1\n\nPackage: c\nVersion: 1\n",
+        "012",
+        "coinst-kernel 1\nclass 0\nmember a 1\nneeds 1 2\nclass 1\nmember b 1\nagainst 2\nclass 2\nmember c 1\nend 3 3\n",
+    ),
+    (
+        "Package: p\nVersion: 1\n\nPackage: q\nVersion: 1\nConflicts: t\n\nPackage: t\nVersion: 1\n\nPackage: r\nVersion: 1\nDepends: q\n",
+        "Package: p\nVersion: 1\n\nPackage: q\nVersion: 1\n\nPackage: t\nVersion: 1\n\nPackage: r\nVersion: 1\n\nPackage: s\nVersion: 1\n",
+        "01230",
+        "coinst-kernel 1\nclass 0\nmember p 1\nmember s 1\nclass 1\nmember q 1\nagainst 2\nclass 2\nmember t 1\nclass 3\nmember r 1\nneeds 1\nend 4 5\n",
+    ),
+];
+
+// The index of a short text.
+fn suite_of(alloc: Global, text: &str) -> Result<Suite, IndexFault> {
+    if text.len() > 1000 {
+        return Err(IndexFault::TooMany);
+    }
+    read_suite(alloc, text.as_bytes())
+}
+
+// The numbers that the digits write, each by itself.
+fn numbers(alloc: Global, digits: &str) -> Result<NumList, AllocError> {
+    let mut list = NumList::new(alloc);
+    for digit in digits.as_bytes() {
+        list.push(u32::from(digit.wrapping_sub(48)))?;
+    }
+    Ok(list)
+}
+
+// Whether all numbers are below the size.
+fn are_below(numbers: &[u32], size: u32) -> bool
+    ensures { result ≡ list_all (λ n. ltb n size) numbers.now }
+{
+    numbers.iter().all(|n| *n < size)
+}
+
+// The text of a kernel, where each package of the suite has a class.
+fn text_of(
+    alloc: Global,
+    pool: &Pool,
+    suite: &Suite,
+    book: &Book,
+    class_of: &NumList,
+) -> Result<Option<Vec<u8>>, AllocError>
+    requires { Sound pool.now book.now }
+{
+    let classes = class_of.as_slice();
+    if classes.len() != suite.packages.as_slice().len() {
+        return Ok(None);
+    }
+    if !are_below(classes, book.size()) {
+        return Ok(None);
+    }
+    Ok(Some(write_kernel(alloc, pool, suite, book, class_of)?))
+}
+
+// The text of a row's kernel.
+fn text_of_row(
+    alloc: Global,
+    classes: &str,
+    packages: &str,
+    digits: &str,
+) -> Result<Option<Vec<u8>>, IndexFault> {
+    let suite = suite_of(alloc, packages)?;
+    let mut pool = Pool::new(alloc)?;
+    let book = suite_of(alloc, classes)?.book(alloc, &mut pool)?;
+    let class_of = numbers(alloc, digits)?;
+    Ok(text_of(alloc, &pool, &suite, &book, &class_of)?)
+}
+
+#[test]
+fn texts_are_as_worked_out(rt: HostRuntime) -> Result<(), Fail> {
+    for (classes, packages, digits, expected) in KERNELS {
+        let text = text_of_row(rt.alloc(), classes, packages, digits)?.ok_or("no text")?;
+        assert_eq!(rt; text.as_slice(), expected.as_bytes());
+    }
+    Ok(())
+}

@@ -1,0 +1,85 @@
+//! Writing the text of a kernel.
+ghost use Rattle.std.specs.Prelude.{◌≡◌, ◌++◌, ◌≤◌, ◌<◌, ℕ, IfOk, OnOk, length};
+ghost use Rattle.std.specs.List.{flat_map};
+ghost use Rattle.row_book.specs.Book.{repository_of, Sound};
+ghost use Rattle.row_book.specs.Clauses.{numbers};
+ghost use Rattle.row_book.specs.Sets.{In};
+ghost use Rattle.kernel_text.specs.KernelText.{kernel_text};
+ghost use Rattle.kernel_text.specs.Members.{kernel_members};
+ghost use Rattle.kernel_text.specs.Writing.{block_text, OfPackages};
+
+use crate::classify::packages_by_class;
+use crate::push_lines::{
+    push_against_lines, push_class_line, push_end, push_head, push_member_lines, push_needs_lines,
+};
+use clause_pool::{NumList, Pool};
+use relation_fields::PackageFacts;
+use repo_model::Suite;
+use row_book::Book;
+use std::alloc::{AllocError, Global};
+
+/// The text of a kernel in which each package of the suite is a member of its class, in file order; it fails only where no
+/// memory is found. Time is linear in the packages, the classes and the text.
+pub fn write_kernel(
+    alloc: Global,
+    pool: &Pool,
+    suite: &Suite,
+    book: &Book,
+    class_of: &NumList,
+) -> Result<Vec<u8>, AllocError>
+    requires sound { Sound pool.now book.now }
+    requires each { length class_of.now ≡ length suite.now.packages }
+    requires inside { (class : ℕ) → In class class_of.now → class < length book.now.rows }
+    ensures { IfOk result (λ text. text.items ≡ kernel_text (repository_of pool.now book.now)
+        (kernel_members suite.now.packages class_of.now (length book.now.rows))) }
+{
+    let packages = suite.packages.as_slice();
+    let by_class = packages_by_class(alloc, class_of.as_slice(), book.size())?;
+    let mut text = Vec::new(alloc);
+    push_head(&mut text)?;
+    push_classes(&mut text, packages, by_class.as_slice(), pool, book)?;
+    push_end(&mut text, book.size(), suite.count())?;
+    Ok(text)
+}
+
+// Puts the blocks of all classes behind the text.
+fn push_classes(
+    out: &mut Vec<u8>,
+    packages: &[PackageFacts],
+    by_class: &[NumList],
+    pool: &Pool,
+    book: &Book,
+) -> Result<(), AllocError>
+    requires size { length by_class.now ≡ length book.now.rows }
+    requires members { OfPackages by_class.now packages.now }
+    requires sound { Sound pool.now book.now }
+    ensures { OnOk result (out.new.items ≡ out.old.items
+        ++ flat_map (block_text (repository_of pool.now book.now) packages.now by_class.now) (numbers (length book.now.rows) 0)) }
+{
+    for number in 0..book.size() {
+        push_class(out, packages, by_class, pool, book, number)?;
+    }
+    Ok(())
+}
+
+// Puts the block of the class with the number behind the text.
+fn push_class(
+    out: &mut Vec<u8>,
+    packages: &[PackageFacts],
+    by_class: &[NumList],
+    pool: &Pool,
+    book: &Book,
+    number: u32,
+) -> Result<(), AllocError>
+    requires inside { number < length book.now.rows }
+    requires size { length by_class.now ≡ length book.now.rows }
+    requires members { OfPackages by_class.now packages.now }
+    requires sound { Sound pool.now book.now }
+    ensures { OnOk result (out.new.items ≡ out.old.items
+        ++ block_text (repository_of pool.now book.now) packages.now by_class.now number) }
+{
+    push_class_line(out, number)?;
+    push_member_lines(out, packages, by_class[number as usize].as_slice())?;
+    push_needs_lines(out, pool, pool.row(book.row(number)))?;
+    push_against_lines(out, number, book.against(number))
+}

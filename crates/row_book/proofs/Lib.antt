@@ -1,4 +1,5 @@
 pub mod Lists
+pub mod Needed
 pub mod Flags
 pub mod Sets
 pub mod Clauses

@@ -10,6 +10,7 @@ pub mod Health
 pub mod Clauses
 pub mod Support
 pub mod Sound
+pub mod Needs
 pub mod Flattening
 pub mod Keeping
 pub mod Facing

@@ -1,0 +1,11 @@
+pub mod Trails
+pub mod Running
+pub mod Drains
+pub mod Openings
+pub mod Standing
+pub mod Stacking
+pub mod Walking
+pub mod Calm
+pub mod Climbing
+pub mod Building
+pub mod Preparing

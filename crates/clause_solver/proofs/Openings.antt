@@ -1,0 +1,132 @@
+-- The first open need.
+use Rattle.std.proofs.Common.{◌≡◌, ℕ, zero, suc, ◌+◌, ◌<◌, ◌≤◌, Bool, true, false, not, cond, List, [], ◌∷◌, ◌++◌, ◌⊎◌, length, get_or, take, refl, ap, sym, ◌∙◌, arith, inl, inr, Some, None, subst}
+use Rattle.std.specs.Prelude.{All, Contains, slice_get}
+use Rattle.std.specs.List.{find}
+use Rattle.std.proofs.lemmas.Bool.{cases_Bool, both_ways, false_from_ne_true}
+use Rattle.std.proofs.lemmas.List.{take_all}
+use Rattle.std.proofs.lemmas.List.Elements.{All-contains, All-more, Contains-get_or}
+use Rattle.search_terms.specs.declared.literals.Literal.{Literal}
+use Rattle.search_terms.specs.Closure.{literal, negation}
+use Rattle.search_terms.specs.Marks.{flag_place}
+use Rattle.search_terms.specs.Tree.{is_open_need}
+use Rattle.search_terms.proofs.Lists.{contains_in}
+use Rattle.row_book.proofs.Lists.{all_at}
+use Rattle.clause_solver.specs.Marking.{among}
+use Rattle.clause_solver.specs.Engine.{IsTable}
+use Rattle.clause_solver.specs.Nodes.{HaveNegative, IsLeastOpen}
+use Rattle.clause_solver.proofs.Running.{among_contains}
+
+abbrev pub at : List (List Literal) → ℕ → List Literal
+at own k = get_or own k []
+
+-- what holds of all elements of a front and of the next one
+contains_take : (row : List ℕ) (i k : ℕ) → i < length row → Contains (take (i + 1) row) k → Contains (take i row) k ⊎ (k ≡ get_or row i 0)
+contains_take row i k lt c = All-contains (λ x. Contains (take i row) x ⊎ (x ≡ get_or row i 0)) (take (i + 1) row) k
+    (All-more (λ x. Contains (take i row) x ⊎ (x ≡ get_or row i 0)) row i 0 lt (λ j d jlt. inl (Contains-get_or (take i row) j d jlt)) (inr refl)) c
+
+pub least_begin : (set : Literal → Bool) (own : List (List Literal)) (row : List ℕ) (before : ℕ) → IsLeastOpen set own (take 0 row) before before
+least_begin set own row before = record { lower = omega arith; opens = inl refl; none = λ k c lt. absurd (omega (arith, c.1)) }
+
+pub least_skip : (set : Literal → Bool) (own : List (List Literal)) (row : List ℕ) (before least i : ℕ) → i < length row
+    → ((get_or row i 0 < least) → is_open_need set (at own (get_or row i 0)) ≡ false) → IsLeastOpen set own (take i row) before least → IsLeastOpen set own (take (i + 1) row) before least
+least_skip set own row before least i lt closed inv = record {
+  lower = inv.lower;
+  opens = inv.opens;
+  none = λ k c klt. elim (contains_take row i k lt c) [
+    | inl old ↦ inv.none k old klt
+    | inr e ↦ rw e (closed (rw e at klt))
+  ];
+}
+
+pub least_take : (set : Literal → Bool) (own : List (List Literal)) (row : List ℕ) (before least i : ℕ) → i < length row
+    → get_or row i 0 < least → is_open_need set (at own (get_or row i 0)) ≡ true → IsLeastOpen set own (take i row) before least → IsLeastOpen set own (take (i + 1) row) before (get_or row i 0)
+least_take set own row before least i lt less opens inv = record {
+  lower = let x = inv.lower in omega (arith, x, less);
+  opens = inr opens;
+  none = λ k c klt. elim (contains_take row i k lt c) [
+    | inl old ↦ inv.none k old (omega (arith, klt, less))
+    | inr e ↦ absurd (omega (arith, klt, e))
+  ];
+}
+
+pub least_end : (set : Literal → Bool) (own : List (List Literal)) (row : List ℕ) (before least i : ℕ) → length row ≤ i → IsLeastOpen set own (take i row) before least → IsLeastOpen set own row before least
+least_end set own row before least i le inv = subst (λ r. IsLeastOpen set own r before least) (take_all i row le) inv
+
+-- the rows of the true literals so far have no open sentence below the least
+pub record IsSwept (set : Literal → Bool) (own : List (List Literal)) (uses : List (List ℕ)) (seen : List Literal) (least : ℕ) : Type 0 where
+  pub within : least ≤ length own
+  pub opens : (least ≡ length own) ⊎ (is_open_need set (at own least) ≡ true)
+  pub none : All (λ l. l.positive ≡ true → (k : ℕ) → Contains (get_or uses (flag_place l) []) k → k < least → is_open_need set (at own k) ≡ false) seen
+
+pub swept_begin : (set : Literal → Bool) (own : List (List Literal)) (uses : List (List ℕ)) (trail : List Literal) → IsSwept set own uses (take 0 trail) (length own)
+swept_begin set own uses trail = record { within = omega arith; opens = inl refl; none = λ j d lt. absurd (omega arith) }
+
+pub swept_skip : (set : Literal → Bool) (own : List (List Literal)) (uses : List (List ℕ)) (trail : List Literal) (least i : ℕ) (l : Literal) → i < length trail → l ≡ get_or trail i l → l.positive ≡ false
+    → IsSwept set own uses (take i trail) least → IsSwept set own uses (take (i + 1) trail) least
+swept_skip set own uses trail least i l lt e sign inv = record {
+  within = inv.within;
+  opens = inv.opens;
+  none = All-more (λ m. m.positive ≡ true → (k : ℕ) → Contains (get_or uses (flag_place m) []) k → k < least → is_open_need set (at own k) ≡ false) trail i l lt inv.none (rw (← e) (λ t. absurd (cc (t, sign))));
+}
+
+pub swept_more : (set : Literal → Bool) (own : List (List Literal)) (uses : List (List ℕ)) (trail : List Literal) (least less i : ℕ) (l : Literal) (row : List ℕ) → i < length trail → l ≡ get_or trail i l
+    → row ≡ get_or uses (flag_place l) [] → IsLeastOpen set own row least less → IsSwept set own uses (take i trail) least → IsSwept set own uses (take (i + 1) trail) less
+swept_more set own uses trail least less i l row lt e r found inv = record {
+  within = let x = inv.within in let y = found.lower in omega (arith, x, y);
+  opens = elim found.opens [ inl same_one ↦ rw same_one inv.opens | inr o ↦ inr o ];
+  none = All-more (λ m. m.positive ≡ true → (k : ℕ) → Contains (get_or uses (flag_place m) []) k → k < less → is_open_need set (at own k) ≡ false) trail i l lt
+      (λ j d jlt t k c klt. inv.none j d jlt t k c (let y = found.lower in omega (arith, klt, y)))
+      (rw (← e) (λ t k c klt. found.none k (rw r c) klt));
+}
+
+-- an open sentence has a true class
+open_true : (set : Literal → Bool) (s : List Literal) (p : ℕ) → is_open_need set s ≡ true → Contains s (literal p false) → set (literal p true) ≡ true
+open_true set s p o c = all_at (λ l. cond l.positive (not (set l)) (set (negation l))) s o (literal p false) (contains_in s (literal p false) c)
+
+pub swept_end : (n : ℕ) (own : List (List Literal)) (uses : List (List ℕ)) (trail seen : List Literal) (least i : ℕ) → IsTable n uses own → HaveNegative own → seen ≡ trail → length seen ≤ i
+    → IsSwept (among trail) own uses (take i seen) least → (k : ℕ) → k < least → is_open_need (among trail) (at own k) ≡ false
+swept_end n own uses trail seen least i table negative e le inv k klt = false_from_ne_true (is_open_need (among trail) (at own k)) (λ o.
+    let in_own : k < length own = (let x = inv.within in omega (arith, klt, x)) in
+    let neg = negative k [] in_own in
+    let t = open_true (among trail) (at own k) neg.0 o neg.1 in
+    let there_it_is : Contains trail (literal neg.0 true) = among_contains trail (literal neg.0 true) t in
+    let all = rw (take_all i seen le, e) at inv.none in
+    let f = All-contains (λ l. l.positive ≡ true → (j : ℕ) → Contains (get_or uses (flag_place l) []) j → j < least → is_open_need (among trail) (at own j) ≡ false) trail (literal neg.0 true) all there_it_is refl k
+    (table.listed k (literal neg.0 false) in_own neg.1) klt in
+    both_ways (is_open_need (among trail) (at own k)) f o)
+
+pub find_at : (p : List Literal → Bool) (xs : List (List Literal)) (k : ℕ) → ((j : ℕ) → j < k → p (at xs j) ≡ false) → (k < length xs → p (at xs k) ≡ true) → k ≤ length xs → find p xs ≡ slice_get xs k
+find_at p [] k none some le = refl
+find_at p (x ∷ xs) zero none some le = rw (some (omega arith)) refl
+find_at p (x ∷ xs) (suc k) none some le = rw (none 0 (omega arith)) (find_at p xs k (λ j lt. none (suc j) (omega arith)) (λ lt. some (omega arith)) (omega arith))
+
+pub find_behind : (p : List Literal → Bool) (xs ys : List (List Literal)) → find p xs ≡ None → find p (xs ++ ys) ≡ find p ys
+find_behind p [] ys h = refl
+find_behind p (x ∷ xs) ys h = elim (cases_Bool (p x)) [
+  | inl t ↦ absurd (cc (rw t at h))
+  | inr f ↦ rw f (find_behind p xs ys (rw f at h))
+]
+
+pub find_front : (p : List Literal → Bool) (xs ys : List (List Literal)) (x : List Literal) → find p xs ≡ Some x → find p (xs ++ ys) ≡ Some x
+find_front p [] ys x h = absurd (cc h)
+find_front p (y ∷ xs) ys x h = elim (cases_Bool (p y)) [
+  | inl t ↦ rw t (rw t at h)
+  | inr f ↦ rw f (find_front p xs ys x (rw f at h))
+]
+
+get_past : (xs : List (List Literal)) (k : ℕ) → k ≡ length xs → slice_get xs k ≡ None
+get_past [] k e = refl
+get_past (x ∷ xs) zero e = absurd (omega (arith, e))
+get_past (x ∷ xs) (suc k) e = get_past xs k (omega (arith, e))
+
+get_there : (xs : List (List Literal)) (k : ℕ) (x : List Literal) → k < length xs → x ≡ get_or xs k x → slice_get xs k ≡ Some x
+get_there [] k x lt e = absurd (omega arith)
+get_there (y ∷ xs) zero x lt e = ap Some (sym e)
+get_there (y ∷ xs) (suc k) x lt e = get_there xs k x (omega arith) e
+
+pub found_none : (p : List Literal → Bool) (own : List (List Literal)) (k : ℕ) → ((j : ℕ) → j < k → p (at own j) ≡ false) → (k < length own → p (at own k) ≡ true) → k ≤ length own → k ≡ length own → find p own ≡ None
+found_none p own k none some le e = find_at p own k none some le ∙ get_past own k e
+
+pub found_some : (p : List Literal → Bool) (own : List (List Literal)) (k : ℕ) (x : List Literal) → ((j : ℕ) → j < k → p (at own j) ≡ false) → (k < length own → p (at own k) ≡ true) → k ≤ length own
+    → k < length own → x ≡ get_or own k x → find p own ≡ Some x
+found_some p own k x none some le lt e = find_at p own k none some le ∙ get_there own k x lt e

@@ -1,0 +1,7 @@
+use Rattle.std.proofs.Common.{take}
+use Rattle.clause_solver.specs.Marking.{among}
+use Rattle.clause_solver.proofs.Openings.{IsSwept}
+use Rattle.clause_solver.proofs.nodes.first_open.Given as goal
+
+abbrev pub invariant-loop-l : goal.invariant-loop-l
+invariant-loop-l l = IsSwept (among l.marks.1) l.own l.uses (take l.l-index l.l-items) l.least

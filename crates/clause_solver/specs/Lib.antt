@@ -1,0 +1,9 @@
+pub mod Marking
+pub mod Running
+pub mod Engine
+pub mod Levels
+pub mod Nodes
+pub mod Solvers
+pub mod Standing
+pub mod Verdicts
+pub mod Outcomes

@@ -1,0 +1,38 @@
+-- What a node is whose closure does not clash.
+use Rattle.std.specs.Prelude.{◌≡◌, ℕ, ◌<◌, ◌≤◌, Bool, true, false, List, [], ◌∷◌, ◌++◌, All, Contains, slice_index_or, ◌⊎◌}
+use Rattle.search_terms.specs.declared.literals.Literal.{Literal}
+use Rattle.search_terms.specs.Closure.{literal}
+use Rattle.search_terms.specs.Tree.{IsFoundLeaf, IsSplit, is_open_need, is_undecided}
+use Rattle.search_terms.specs.Marks.{classes_left, true_classes}
+use Rattle.clause_solver.specs.Marking.{among}
+use Rattle.clause_solver.specs.declared.nodes.Node.{Node}
+use Rattle.clause_solver.specs.declared.nodes.Node.TheVariants.{Met, Splits}
+
+-- the marks leave no need open, and so are those of a found leaf; or the node splits on a class, and each branch leaves fewer
+-- classes
+abbrev pub IsNode : ℕ → List (List Literal) → List Literal → List Literal → Node → Type 0
+IsNode classes formula decisions trail Met = IsFoundLeaf classes formula decisions (true_classes classes (among trail))
+IsNode classes formula decisions trail (Splits c) =
+    IsSplit formula decisions c
+    × (c < classes)
+    × (classes_left classes (decisions ++ literal c true ∷ []) < classes_left classes decisions)
+    × (classes_left classes (decisions ++ literal c false ∷ []) < classes_left classes decisions)
+
+-- each sentence has a negative literal
+abbrev pub HaveNegative : List (List Literal) → Type 0
+HaveNegative own = All (λ s. (p : ℕ) × Contains s (literal p false)) own
+
+-- no sentence is empty
+abbrev pub AreFull : List (List Literal) → Type 0
+AreFull formula = All (λ s. (l : Literal) × Contains s l) formula
+
+-- of the sentences at the places of a row none below the least is open, and the least is, unless it is the one before
+pub record IsLeastOpen (set : Literal → Bool) (own : List (List Literal)) (row : List ℕ) (before least : ℕ) : Type 0 where
+  pub lower : least ≤ before
+  pub opens : (least ≡ before) ⊎ (is_open_need set (slice_index_or own least []) ≡ true)
+  pub none : (k : ℕ) → Contains row k → k < least → is_open_need set (slice_index_or own k []) ≡ false
+
+-- a class on which a node splits is undecided
+abbrev pub IsUndecidedAt : List Literal → Node → Type 0
+IsUndecidedAt trail Met = Unit {0}
+IsUndecidedAt trail (Splits c) = is_undecided (among trail) (literal c true) ≡ true

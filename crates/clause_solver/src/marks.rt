@@ -1,0 +1,93 @@
+//! Marks that can be taken back.
+ghost use Rattle.std.specs.Prelude.{◌≡◌, ◌<◌, ◌≤◌, ◌+◌, ◌*◌, ◌∷◌, ◌++◌, [], length, take, false, IfOk, OnOk, OnErr, All};
+ghost use Rattle.clause_solver.specs.Marking.{among, EachOnce};
+
+use search_terms::Literal;
+use std::alloc::{AllocError, Global};
+use std::marker::Model;
+
+/// The literals that are marked: a flag for each, and their order.
+#[derive(Drop)]
+pub(crate) struct Marks {
+    classes: u32,
+    flags: Vec<bool>,
+    trail: Vec<Literal>,
+}
+
+impl Model for Marks {
+    ghost use Rattle.std.specs.Prelude.{ℕ, List};
+    ghost use Rattle.search_terms.specs.declared.literals.Literal.{Literal};
+    ghost use Rattle.clause_solver.specs.Marking.{IsMarked};
+
+    ghost Value = { ℕ × List Literal };
+
+    ghost view = { λ s. (s.classes, s.trail.items) };
+
+    ghost invariant = { λ s. IsMarked s.classes s.flags.items s.trail.items };
+}
+
+impl Marks {
+    /// No marks.
+    pub(crate) fn new(alloc: Global, classes: u32) -> Result<Marks, AllocError>
+        ensures { IfOk result (λ marks. marks ≡ (classes, [])) }
+    {
+        Ok(Marks {
+            classes,
+            flags: vec![in alloc; false; classes as usize * 2]?,
+            trail: Vec::new(alloc),
+        })
+    }
+
+    /// Whether the literal is marked.
+    pub(crate) fn has(&self, l: Literal) -> bool
+        ensures { result ≡ among self.now.1 l }
+    {
+        self.flags.get(l.place()).copied().unwrap_or(false)
+    }
+
+    /// The marked literals, in their order.
+    pub(crate) fn as_slice(&self) -> &[Literal]
+        ensures items { result.now ≡ self.now.1 }
+        ensures once { EachOnce self.now.1 }
+        ensures few { length self.now.1 ≤ self.now.0 * 2 }
+        ensures ranged { All (λ l. l.class < self.now.0) self.now.1 }
+    {
+        self.trail.as_slice()
+    }
+
+    /// Marks a literal that is not marked.
+    pub(crate) fn put(&mut self, l: Literal) -> Result<(), AllocError>
+        requires class { l.class < self.old.0 }
+        requires new { among self.old.1 l ≡ false }
+        ensures ok { OnOk result (self.new ≡ (self.old.0, self.old.1 ++ l ∷ [])) }
+        ensures err { OnErr result (self.new ≡ self.old) }
+    {
+        self.trail.push(l)?;
+        self.flags[l.place()] = true;
+        Ok(())
+    }
+
+    /// The same marks.
+    pub(crate) fn copy(&self, alloc: Global) -> Result<Marks, AllocError>
+        ensures { IfOk result (λ marks. marks ≡ self.now) }
+    {
+        Ok(Marks {
+            classes: self.classes,
+            flags: Vec::from_slice(alloc, self.flags.as_slice())?,
+            trail: Vec::from_slice(alloc, self.trail.as_slice())?,
+        })
+    }
+
+    /// Takes marks back until so many are left.
+    pub(crate) fn undo(&mut self, keep: usize)
+        requires { keep ≤ length self.old.1 }
+        ensures { self.new ≡ (self.old.0, take keep self.old.1) }
+    {
+        while self.trail.len() > keep {
+            let Some(l) = self.trail.pop() else {
+                unreachable!();
+            };
+            self.flags[l.place()] = false;
+        }
+    }
+}

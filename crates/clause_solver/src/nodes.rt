@@ -1,0 +1,146 @@
+//! What a node of the tree is.
+ghost use Rattle.std.specs.Prelude.{◌≡◌, ◌<◌, ◌≤◌, ◌++◌, [], ℕ, true, false, List, All, Contains, IfOk, length, slice_index_or};
+ghost use Rattle.std.specs.Option.{option_copied};
+ghost use Rattle.std.specs.List.{find};
+ghost use Rattle.search_terms.specs.declared.literals.Literal.{Literal};
+ghost use Rattle.search_terms.specs.Tree.{is_open_need};
+ghost use Rattle.search_terms.specs.Marks.{true_classes};
+ghost use Rattle.clause_solver.specs.Marking.{among};
+ghost use Rattle.clause_solver.specs.Engine.{whole_form, IsEngine, IsTable};
+ghost use Rattle.clause_solver.specs.Levels.{CalmAt};
+ghost use Rattle.clause_solver.specs.Nodes.{AreFull, HaveNegative, IsLeastOpen, IsNode, IsUndecidedAt};
+
+use crate::marks::Marks;
+use crate::reading::{is_open_need, undecided};
+use clause_pool::NumList;
+use listed::Listed;
+use search_terms::{Literal, LiteralList};
+use std::alloc::{AllocError, Global};
+
+/// A node whose closure does not clash.
+#[derive(Clone, Copy)]
+pub(crate) enum Node {
+    /// No need is open.
+    Met,
+    /// The class on which it splits.
+    Splits(u32),
+}
+
+/// The least place of the row below another one at which a sentence is open, or else the other one.
+fn lesser_open(marks: &Marks, own: &[LiteralList], row: &[usize], before: usize) -> usize
+    requires { All (λ k. k < length own.now) row.now }
+    ensures { IsLeastOpen (among marks.now.1) own.now row.now before result }
+{
+    let mut least = before;
+    for k in row {
+        if *k >= least {
+            continue;
+        }
+        if !is_open_need(marks, own[*k].as_slice()) {
+            continue;
+        }
+        least = *k;
+    }
+    least
+}
+
+/// The place of the first open sentence, or the number of sentences.
+fn first_open(marks: &Marks, own: &[LiteralList], uses: &[Listed<usize>]) -> usize
+    requires table { IsTable marks.now.0 uses.now own.now }
+    requires negative { HaveNegative own.now }
+    ensures within { result ≤ length own.now }
+    ensures opens { result < length own.now → is_open_need (among marks.now.1) (slice_index_or own.now result []) ≡ true }
+    ensures none { (k : ℕ) → k < result → is_open_need (among marks.now.1) (slice_index_or own.now k []) ≡ false }
+{
+    let mut least = own.len();
+    for l in marks.as_slice() {
+        if !l.positive {
+            continue;
+        }
+        least = lesser_open(marks, own, uses[l.place()].as_slice(), least);
+    }
+    least
+}
+
+/// The first goal that is open.
+fn open_goal<'a>(marks: &Marks, goals: &'a [LiteralList]) -> Option<&'a LiteralList>
+    ensures { option_copied result ≡ find (is_open_need (among marks.now.1)) goals.now }
+{
+    goals
+        .iter()
+        .find(|sentence| is_open_need(marks, sentence.as_slice()))
+}
+
+/// The first clause that is open.
+fn open_own<'a>(
+    marks: &Marks,
+    own: &'a [LiteralList],
+    uses: &[Listed<usize>],
+) -> Option<&'a LiteralList>
+    requires table { IsTable marks.now.0 uses.now own.now }
+    requires negative { HaveNegative own.now }
+    ensures { option_copied result ≡ find (is_open_need (among marks.now.1)) own.now }
+{
+    let place = first_open(marks, own, uses);
+    if place == own.len() {
+        return None;
+    }
+    Some(&own[place])
+}
+
+/// The first open need.
+fn open_need<'a>(
+    marks: &Marks,
+    goals: &'a [LiteralList],
+    own: &'a [LiteralList],
+    uses: &[Listed<usize>],
+) -> Option<&'a LiteralList>
+    requires table { IsTable marks.now.0 uses.now own.now }
+    requires negative { HaveNegative own.now }
+    ensures { option_copied result ≡ find (is_open_need (among marks.now.1)) (goals.now ++ own.now) }
+{
+    match open_goal(marks, goals) {
+        Some(goal) => Some(goal),
+        None => open_own(marks, own, uses),
+    }
+}
+
+/// A flag for each class, up where it is true.
+pub(crate) fn chosen(alloc: Global, classes: u32, marks: &Marks) -> Result<Vec<bool>, AllocError>
+    ensures { IfOk result (λ v. v.items ≡ true_classes classes (among marks.now.1)) }
+{
+    (0..classes)
+        .map(|class| {
+            marks.has(Literal {
+                class,
+                positive: true,
+            })
+        })
+        .collect(alloc)
+}
+
+/// What the node of these decisions is, of which the marks are the closure.
+pub(crate) fn look(
+    classes: u32,
+    marks: &Marks,
+    goals: &[LiteralList],
+    own: &[LiteralList],
+    uses: &[Listed<usize>],
+    conflicts: &[NumList],
+) -> Node
+    requires classes { marks.now.0 ≡ classes }
+    requires engine { IsEngine marks.now.0 goals.now own.now uses.now conflicts.now }
+    requires negative { HaveNegative own.now }
+    requires full { AreFull goals.now }
+    requires calm { (decisions : List Literal) × CalmAt (whole_form goals.now own.now conflicts.now) decisions marks.now.1 }
+    ensures node { (decisions : List Literal) → CalmAt (whole_form goals.now own.now conflicts.now) decisions marks.now.1 → IsNode classes (whole_form goals.now own.now conflicts.now) decisions marks.now.1 result }
+    ensures undecided { IsUndecidedAt marks.now.1 result }
+{
+    match open_need(marks, goals, own, uses) {
+        None => Node::Met,
+        Some(need) => match undecided(marks, need.as_slice()) {
+            Some(member) => Node::Splits(member.class),
+            None => unreachable!(),
+        },
+    }
+}

@@ -1,0 +1,37 @@
+//! The checker of logs.
+ghost use Rattle.std.specs.Prelude.{IfOk, IsTrue, ◌↔◌, length};
+ghost use Rattle.std.specs.Bool.{OnTrue};
+ghost use Rattle.row_book.specs.Book.{repository_of, Sound};
+ghost use Rattle.row_book.specs.Needs.{NeedsFit};
+ghost use Rattle.search_terms.specs.Closure.{InRange};
+ghost use Rattle.search_terms.specs.Derives.{Derives};
+ghost use Rattle.search_terms.specs.Form.{form};
+ghost use Rattle.search_terms.specs.Laws.{HasNoSolution};
+
+use crate::derivation::derives;
+use crate::formula::form_of;
+use clause_pool::Pool;
+use row_book::{Book, Needs};
+use search_terms::Log;
+use std::alloc::{AllocError, Global};
+
+/// Whether the log derives the empty entry over the formula of the book and the goals; where it does, no healthy set of the
+/// book hits every goal. It fails only where no memory is found. It scans the formula and the earlier entries once for each
+/// unit step of each entry.
+pub fn check(
+    alloc: Global,
+    pool: &Pool,
+    book: &Book,
+    goals: &Needs,
+    log: &Log,
+) -> Result<bool, AllocError>
+    requires sound { Sound pool.now book.now }
+    requires goals { NeedsFit (length book.now.rows) goals.now }
+    requires log { InRange (length book.now.rows) log.now.entries }
+    ensures derives { IfOk result (λ r. IsTrue r ↔ Derives (form (repository_of pool.now book.now) goals.now) log.now.entries) }
+    ensures refutes { IfOk result (λ r. OnTrue r (HasNoSolution (repository_of pool.now book.now) goals.now)) }
+{
+    let formula = form_of(alloc, pool, book, goals)?;
+    let answer = derives(alloc, book.size(), &formula, log.entries.as_slice())?;
+    Ok(answer)
+}

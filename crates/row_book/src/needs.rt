@@ -1,0 +1,69 @@
+//! Clauses that are wanted and that no pool holds.
+ghost use Rattle.std.specs.Prelude.{◌≡◌, ◌<◌, ◌∷◌, ◌++◌, [], length, slice_index_or, OnOk, OnErr};
+ghost use Rattle.row_book.specs.Clauses.{Ascending};
+ghost use Rattle.row_book.specs.Needs.{AreNeeds, IsNeed};
+
+use crate::NumList;
+use listed::Listed;
+use std::alloc::{AllocError, Global};
+use std::marker::Model;
+
+/// A growing list of clauses, each strictly ascending and not empty, of which a set is to hit every one.
+#[derive(Drop)]
+pub struct Needs {
+    clauses: Vec<NumList>,
+}
+
+impl Model for Needs {
+    ghost use Rattle.std.specs.Prelude.{ℕ, List};
+    ghost use Rattle.std.specs.Coded.{coded_list, coded_ℕ};
+    ghost use Rattle.row_book.specs.Needs.{AreNeeds};
+
+    ghost Value = { List (List ℕ) };
+
+    ghost coded = { coded_list (coded_list coded_ℕ) };
+
+    ghost view = { λ s. s.clauses.items };
+
+    ghost invariant = { λ s. AreNeeds s.clauses.items };
+}
+
+impl Needs {
+    /// No clauses; it takes no memory.
+    pub fn new(alloc: Global) -> Needs
+        ensures { result ≡ [] }
+    {
+        Needs {
+            clauses: Vec::new(alloc),
+        }
+    }
+
+    /// Puts a clause, strictly ascending and not empty, behind the others; where no memory is found, the list stays as it was.
+    pub fn push(&mut self, clause: &[u32]) -> Result<(), AllocError>
+        requires ascending { Ascending clause.now }
+        requires filled { 0 < length clause.now }
+        ensures ok { OnOk result (self.new ≡ self.old ++ clause.now ∷ []) }
+        ensures err { OnErr result (self.new ≡ self.old) }
+    {
+        let copy = Vec::from_slice(*self.clauses.allocator(), clause)?;
+        self.clauses.push(Listed::of(copy))?;
+        Ok(())
+    }
+
+    /// The number of clauses; it takes no memory.
+    pub fn count(&self) -> u64
+        ensures count { result ≡ length self.now }
+        ensures needs { AreNeeds self.now }
+    {
+        self.clauses.len() as u64
+    }
+
+    /// Lends the clause at a place below the count; it takes no memory.
+    pub fn at(&self, place: u64) -> &[u32]
+        requires { place < length self.now }
+        ensures clause { result.now ≡ slice_index_or self.now place [] }
+        ensures need { IsNeed result.now }
+    {
+        self.clauses[place as usize].as_slice()
+    }
+}

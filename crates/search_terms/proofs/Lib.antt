@@ -1,0 +1,13 @@
+pub mod Lists
+pub mod Building
+pub mod Sets
+pub mod Least
+pub mod Models
+pub mod Trees
+pub mod Shapes
+pub mod Exists
+pub mod Certificates
+pub mod Forms
+pub mod Ranges
+pub mod Found
+pub mod Picking

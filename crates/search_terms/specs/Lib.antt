@@ -1,0 +1,7 @@
+pub mod Closure
+pub mod Marks
+pub mod Form
+pub mod Derives
+pub mod Tree
+pub mod Certificate
+pub mod Laws

@@ -1,0 +1,78 @@
+//! The laws of search trees and logs: the functions do nothing, the contract of each is one law.
+ghost use Rattle.search_terms.specs.Laws.{TreeIsThere, TreeIsOne, BudgetIsEnough, SmallTreesAreWalked, LogIsShort, FoundIsModel, LogDerives, DerivesNoModel, DerivesNoSolution, ModelsAreHealthy, FindsHealthy};
+ghost use Rattle.search_terms.specs.Certificate.{CertificateTells, CertificatesJoin, FirstChoiceCertifies, FirstChoicesJoin};
+
+/// Each formula has a tree.
+pub fn tree_is_there()
+    ensures { TreeIsThere }
+{}
+
+/// It has no other one.
+pub fn tree_is_one()
+    ensures { TreeIsOne }
+{}
+
+/// No tree has more failed leaves than two to the number of classes.
+pub fn budget_is_enough()
+    ensures { BudgetIsEnough }
+{}
+
+/// A budget of a million failed leaves is enough for nineteen classes.
+pub fn small_trees_are_walked()
+    ensures { SmallTreesAreWalked }
+{}
+
+/// A log has one entry less than twice as many as the tree has failed leaves.
+pub fn log_is_short()
+    ensures { LogIsShort }
+{}
+
+/// What a tree finds is a model.
+pub fn found_is_model()
+    ensures { FoundIsModel }
+{}
+
+/// The log of a tree that finds nothing derives the empty entry.
+pub fn log_derives()
+    ensures { LogDerives }
+{}
+
+/// A log that derives the empty entry shows that there is no model.
+pub fn derives_no_model()
+    ensures { DerivesNoModel }
+{}
+
+/// A log that derives the empty entry shows that no healthy set hits every goal.
+pub fn derives_no_solution()
+    ensures { DerivesNoSolution }
+{}
+
+/// The models of a repository's formula are its healthy sets that hit every goal.
+pub fn models_are_healthy()
+    ensures { ModelsAreHealthy }
+{}
+
+/// A tree finds something exactly where some healthy set hits every goal.
+pub fn finds_healthy()
+    ensures { FindsHealthy }
+{}
+
+/// Where there is a certificate, the tree finds something and has no failed leaf before it.
+pub fn certificate_tells()
+    ensures { CertificateTells }
+{}
+
+/// Certificates that are at peace certify both lists of goals together.
+pub fn certificates_join()
+    ensures { CertificatesJoin }
+{}
+
+/// A first choice is a certificate.
+pub fn first_choice_certifies()
+    ensures { FirstChoiceCertifies }
+{}
+
+/// Two first choices that are at peace are one for both lists of goals together.
+pub fn first_choices_join()
+    ensures { FirstChoicesJoin }
+{}

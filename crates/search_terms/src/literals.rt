@@ -1,0 +1,59 @@
+//! Signed classes and lists of them.
+use listed::Listed;
+
+/// A class with a sign: that it is chosen, or that it is not.
+#[derive(Clone, Copy, Debug, PartialEq, Eq)]
+pub struct Literal {
+    /// The number of the class.
+    pub class: u32,
+    /// Whether the class is chosen.
+    pub positive: bool,
+}
+
+/// A list of signed classes: a sentence, an entry of a log, or decisions.
+pub type LiteralList = Listed<Literal>;
+
+/// The entries of a log.
+pub type EntryList = Listed<LiteralList>;
+
+/// A refutation: entries each of which follows by unit steps from the formula and the entries before it.
+#[derive(Drop)]
+pub struct Log {
+    /// The entries in their order; in a refutation the last one is empty.
+    pub entries: EntryList,
+}
+
+impl Literal {
+    ghost use Rattle.std.specs.Prelude.{◌≡◌};
+    ghost use Rattle.search_terms.specs.Closure.{negation, is_same};
+    ghost use Rattle.search_terms.specs.Marks.{flag_place};
+
+    /// The class with the other sign; it takes no memory.
+    pub fn negation(self) -> Literal
+        ensures { result ≡ negation self }
+    {
+        Literal {
+            class: self.class,
+            positive: !self.positive,
+        }
+    }
+
+    /// Whether both are one; it takes no memory.
+    pub fn is_same(self, other: Literal) -> bool
+        ensures { result ≡ is_same self other }
+    {
+        self.class == other.class
+            && if self.positive {
+                other.positive
+            } else {
+                !other.positive
+            }
+    }
+
+    /// The place of the literal among flags of which each class has two; it takes no memory.
+    pub fn place(self) -> usize
+        ensures { result ≡ flag_place self }
+    {
+        self.class as usize * 2 + if self.positive { 1 } else { 0 }
+    }
+}

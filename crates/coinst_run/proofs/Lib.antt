@@ -1,8 +1,9 @@
 pub mod Blocks
-pub mod Files
 pub mod Flattened
-pub mod KernelReads
+pub mod Follows
 pub mod Meaning
+pub mod KernelReads
+pub mod Kernels
 pub mod Members
 pub mod Runs
 pub mod Telling

@@ -1,276 +1,189 @@
--- What a run answers, from how its work ended.
-use Rattle.std.proofs.Common.{◌≡◌, ◌≢◌, ℕ, ◌≤◌, Bool, true, false, cond, List, length, nat_lt, Option, Some, None, refl, sym, ap, subst, ◌∙◌, inl, inr, ◌⊎◌}
-use Rattle.std.specs.Prelude.{IfSome, IsNone, ⊤}
+-- What a run answers, by how the course of its command ended and what the sinks took.
+use Rattle.std.proofs.Common.{◌≡◌, ℕ, Bool, List, [], Option, Some, None, Result, Err, refl, sym, ap, subst, ◌∙◌, inl, inr}
+use Rattle.std.specs.Prelude.{◌↔◌, IfSome}
 use Rattle.std.specs.Io.KnownBytes.{Appends}
-use Rattle.byte_flow.specs.Flow.{Files, LacksFile}
-use Rattle.repo_model.specs.declared.fault.IndexFault.{IndexFault}
-use Rattle.repo_model.specs.declared.fault.IndexFault.TheVariants as index
-use Rattle.repo_model.specs.FirstFault.{first_fault}
-use Rattle.repo_model.specs.Repository.{suite_repository}
-use Rattle.row_book.specs.Flattening.{Passed, passes}
+use Rattle.byte_flow.specs.Flow.{Files, Rose}
+use Rattle.coinst_run.specs.declared.answer.Cause.{Cause}
+use Rattle.coinst_run.specs.declared.answer.Cause.TheVariants.{Content, ClauseLimit, UnknownGoal, TooLarge}
+use Rattle.coinst_run.specs.declared.answer.Verdict.{Verdict}
+use Rattle.coinst_run.specs.declared.answer.Verdict.TheVariants.{Done, Negative, Undecided}
 use Rattle.coinst_run.specs.declared.status.Status.{Status}
-use Rattle.coinst_run.specs.declared.status.Status.TheVariants.{Done, Words, Content, ClauseLimit, ReadFault, Memory, TooLarge}
-use Rattle.coinst_run.specs.declared.words.Job.TheVariants.{Kernel}
-use Rattle.coinst_run.specs.declared.work.Ended.{Ended}
-use Rattle.coinst_run.specs.declared.work.Ended.TheVariants.{Printed, Unread, TooLong, TooMany, Faulty, Limited, Cut, NoMemory}
-use Rattle.coinst_run.specs.Causes.{Answers, Completes, OnDone, OnReadFault, OnRefusal, OnWriteFault, Prints, TellsRefusal, Took}
-use Rattle.coinst_run.specs.Ended.{Decides, OnCut, OnUnread, Reports, TellsEnd, status_of}
-use Rattle.coinst_run.specs.Index.{home_in, packages_in}
-use Rattle.coinst_run.specs.IndexKernel.{index_kernel_text}
-use Rattle.coinst_run.specs.Meaning.{KernelMeans, KernelIsMeant}
-use Rattle.coinst_run.specs.Outcome.{Outcome, of_accepted, of_fault, of_file, of_index, of_job, of_packages, outcome_of, file_limit, refused, words_line, too_long_line}
-use Rattle.coinst_run.specs.Words.{job_of}
-use Rattle.coinst_run.proofs.Meaning.{index_kernel_means}
+use Rattle.coinst_run.specs.declared.status.Status.TheVariants as status
+use Rattle.coinst_run.specs.declared.words.Job.{Job}
+use Rattle.coinst_run.specs.declared.words.WordError.{WordError}
+use Rattle.coinst_run.specs.declared.words.WordError.TheVariants as words
+use Rattle.coinst_run.specs.Answer.{reported, refused}
+use Rattle.coinst_run.specs.Delivers.{Delivers, IsRefused, Tells, a_cut_report, a_refusal, a_report}
+use Rattle.coinst_run.specs.Ending.{stop_ending, word_stop}
+use Rattle.coinst_run.specs.Follows.{FollowsJob, of_a_job, of_no_job, without_memory}
+use Rattle.coinst_run.specs.Meaning.{IsMeant}
+use Rattle.coinst_run.specs.Outcome.{Outcome, answered, unread, not_a_command, course_of, of_job, outcome_of, report_of, status_of}
+use Rattle.coinst_run.specs.Run.{Answers, Completes, EndsAs, Took}
+use Rattle.coinst_run.specs.Run as run
+use Rattle.coinst_run.specs.Status.{cause_status, verdict_status}
+use Rattle.coinst_run.specs.Words.{OnNotACommand, job_of}
+use Rattle.coinst_run.proofs.Follows.{ends_as, no_words, unread_rose}
+use Rattle.coinst_run.proofs.Meaning.{report_means}
+use Rattle.coinst_run.proofs.Telling.{appends_none}
 
-pub outcome_none : (words : List (List ℕ)) (files : Files) → job_of words ≡ None → outcome_of words files ≡ refused Words words_line
-unfolding outcome_of
-outcome_none words files none = ap (λ job. of_job job files) none
+-- a fact where the contents are told
+pub each_told : (contents : Option Files) {Q : Files → Type 0} → ((files : Files) → contents ≡ Some files → Q files) → IfSome contents Q
+each_told None f = tt
+each_told (Some files) f = f files refl
 
-pub outcome_kernel : (words : List (List ℕ)) (files : Files) (path : List ℕ) (limit : ℕ) → job_of words ≡ Some (Kernel path limit) → outcome_of words files ≡ of_file path limit (files path)
-unfolding outcome_of
-outcome_kernel words files path limit job = ap (λ job. of_job job files) job
-
--- a fact about the outcome of the file is one about the outcome
 pub if_told : (contents : Option Files) {P Q : Files → Type 0} → ((files : Files) → P files → Q files) → IfSome contents P → IfSome contents Q
 if_told None f h = tt
 if_told (Some files) f h = f files h
 
-pub each_told : (contents : Option Files) {Q : Files → Type 0} → ((files : Files) → Q files) → IfSome contents Q
-each_told None f = tt
-each_told (Some files) f = f files
+-- the statuses of reports and refusals
+record IsAnswered (s : Status) : Type 0 where
+  not_words : s ≡ status.Words → ⊥
+  not_unread : s ≡ status.ReadFault → ⊥
+  not_cut : s ≡ status.WriteFault → ⊥
 
--- the outcome of a file has no fault of the words
-file_words : (path : List ℕ) (limit : ℕ) (file : Option (List ℕ)) → (of_file path limit file).status ≢ Words
-file_words path limit None = λ e. cc
-file_words path limit (Some text) = longer (nat_lt file_limit (length text))
-  where
-    kept : (passed : Option Passed) → (of_packages path limit (home_in text) (packages_in text) passed).status ≢ Words
-    kept None = λ e. cc
-    kept (Some passed) = λ e. cc
+of_verdict : (verdict : Verdict) → IsAnswered (verdict_status verdict)
+of_verdict Done = record { not_words = λ e. cc; not_unread = λ e. cc; not_cut = λ e. cc }
+of_verdict Negative = record { not_words = λ e. cc; not_unread = λ e. cc; not_cut = λ e. cc }
+of_verdict Undecided = record { not_words = λ e. cc; not_unread = λ e. cc; not_cut = λ e. cc }
 
-    read : (there : Option IndexFault) → (of_index path limit text there).status ≢ Words
-    read None = kept (passes (suite_repository (home_in text) (packages_in text)) limit)
-    read (Some (index.Stanza f)) = λ e. cc
-    read (Some (index.MissingPackage line)) = λ e. cc
-    read (Some (index.MissingVersion line)) = λ e. cc
-    read (Some (index.BadPackage line)) = λ e. cc
-    read (Some (index.BadVersion line)) = λ e. cc
-    read (Some (index.BadArchitecture line)) = λ e. cc
-    read (Some (index.BadRelation line element)) = λ e. cc
-    read (Some (index.Duplicate first line)) = λ e. cc
-    read (Some (index.Mixed line)) = λ e. cc
-    read (Some index.TooMany) = λ e. cc
-    read (Some index.Memory) = λ e. cc
+of_cause : (cause : Cause) → IsAnswered (cause_status cause)
+of_cause Content = record { not_words = λ e. cc; not_unread = λ e. cc; not_cut = λ e. cc }
+of_cause ClauseLimit = record { not_words = λ e. cc; not_unread = λ e. cc; not_cut = λ e. cc }
+of_cause UnknownGoal = record { not_words = λ e. cc; not_unread = λ e. cc; not_cut = λ e. cc }
+of_cause TooLarge = record { not_words = λ e. cc; not_unread = λ e. cc; not_cut = λ e. cc }
 
-    longer : (b : Bool) → (cond b (refused TooLarge (too_long_line path)) (of_index path limit text (first_fault text))).status ≢ Words
-    longer true = λ e. cc
-    longer false = read (first_fault text)
+not_done : (cause : Cause) → cause_status cause ≡ status.Done → ⊥
+not_done Content = λ e. cc
+not_done ClauseLimit = λ e. cc
+not_done UnknownGoal = λ e. cc
+not_done TooLarge = λ e. cc
 
-pub answers_end : (ended : Ended) (path : List ℕ) (limit : ℕ) (file : Option (List ℕ)) (o : Outcome) (s : Status) → s ≡ status_of ended → o ≡ of_file path limit file →
-    Decides path ended (of_file path limit file) → Answers s o
-answers_end ended path limit file o s is same decides = subst (λ t. Answers t o) (sym is) (subst (Answers (status_of ended)) (sym same) (go ended decides))
-  where
-    go : (ended : Ended) → Decides path ended (of_file path limit file) → Answers (status_of ended) (of_file path limit file)
-    go Printed h = h
-    go Unread h = file_words path limit file
-    go TooLong h = ap (λ x. x.status) h
-    go TooMany h = ap (λ x. x.status) h
-    go (Faulty fault) h = ap (λ x. x.status) h
-    go (Limited passed) h = ap (λ x. x.status) h
-    go (Cut written) h = h
-    go NoMemory h = tt
+-- the report on a job, taken
+took_report : (old new : Option (List ℕ)) (report : List ℕ) (P : List ℕ → Type 0) → Appends old new report → P report → Took old new P
+took_report None new report P took h = tt
+took_report (Some xs) new report P took h = (report, took, h)
 
-pub prints_end : (ended : Ended) (old new : Option (List ℕ)) (o p : Outcome) (s : Status) → s ≡ status_of ended → o ≡ p → Reports ended old new p.report → Prints s old new o.report
-prints_end ended old new o p s is same reports =
-    subst (λ t. Prints t old new o.report) (sym is) (subst (λ q. Prints (status_of ended) old new q.report) (sym same) (go ended reports))
-  where
-    go : (ended : Ended) → Reports ended old new p.report → Prints (status_of ended) old new p.report
-    go Printed h = h
-    go Unread h = h
-    go TooLong h = h
-    go TooMany h = h
-    go (Faulty fault) h = h
-    go (Limited passed) h = h
-    go (Cut written) h = (written, h.0, h.1)
-    go NoMemory h = h
+done : (old new : Option (List ℕ)) (words : List (List ℕ)) (files : Files) (job : Option Job) → job_of words ≡ job → (o : Outcome) → of_job job files ≡ o → status_of o ≡ status.Done → Appends old new (report_of o) → Took old new (IsMeant words files)
+done old new words files None asked o is e took = absurd (let k : status_of not_a_command ≡ status.Done = ap status_of is ∙ e in cc)
+done old new words files (Some job) asked (answered (reported verdict report)) is e took =
+    took_report old new report (IsMeant words files) took (record { job = job; asked = asked; means = report_means job files verdict report is })
+done old new words files (Some job) asked (answered (refused cause line)) is e took = absurd (not_done cause e)
+done old new words files (Some job) asked (unread path) is e took = absurd cc
+done old new words files (Some job) asked not_a_command is e took = absurd cc
 
--- a file whose kernel is reported
-record IsReported (path : List ℕ) (limit : ℕ) (file : Option (List ℕ)) : Type 0 where
-  text : List ℕ
-  there : file ≡ Some text
-  accepted : first_fault text ≡ None
-  report : (of_file path limit file).report ≡ index_kernel_text (home_in text) (packages_in text)
+-- where the outcome is told, the clauses on it follow from the ways to answer
+module _ {Quiet RoseIn RoseOut : Type 0} {room : ℕ} {Line : List ℕ → Type 0} {old new : Option (List ℕ)} {result : Status} where
+  pub completes_told : (o : Outcome) → Answers Quiet RoseIn RoseOut room Line o old new result → (RoseIn → ⊥) → (RoseOut → ⊥) → Completes result o
+  completes_told o (run.as_told is took line) noread nowrite report = inl is
+  completes_told o (run.unread_file path is rose quiet took line) noread nowrite report = absurd (noread rose)
+  completes_told o (run.cut_report is rose roomless report took) noread nowrite h = absurd (nowrite rose)
+  completes_told o (run.want_of_memory is took) noread nowrite report = inr is
 
--- a fault is not reported
-not_done : (path : List ℕ) (fault : IndexFault) → (of_fault path fault).status ≢ Done
-not_done path (index.Stanza f) = λ e. cc
-not_done path (index.MissingPackage line) = λ e. cc
-not_done path (index.MissingVersion line) = λ e. cc
-not_done path (index.BadPackage line) = λ e. cc
-not_done path (index.BadVersion line) = λ e. cc
-not_done path (index.BadArchitecture line) = λ e. cc
-not_done path (index.BadRelation line element) = λ e. cc
-not_done path (index.Duplicate first line) = λ e. cc
-not_done path (index.Mixed line) = λ e. cc
-not_done path index.TooMany = λ e. cc
-not_done path index.Memory = λ e. cc
+  pub meaning_told : (words : List (List ℕ)) (files : Files) → Answers Quiet RoseIn RoseOut room Line (outcome_of words files) old new result → result ≡ status.Done → Took old new (IsMeant words files)
+  unfolding outcome_of
+  meaning_told words files (run.as_told is took line) e = done old new words files (job_of words) refl (of_job (job_of words) files) refl (sym is ∙ e) took
+  meaning_told words files (run.unread_file path is rose quiet took line) e = absurd (let k : status.ReadFault ≡ status.Done = sym is ∙ e in cc)
+  meaning_told words files (run.cut_report is rose roomless report took) e = absurd (let k : status.WriteFault ≡ status.Done = sym is ∙ e in cc)
+  meaning_told words files (run.want_of_memory is took) e = absurd (let k : status.Memory ≡ status.Done = sym is ∙ e in cc)
 
-reported_file : (path : List ℕ) (limit : ℕ) (file : Option (List ℕ)) → (of_file path limit file).status ≡ Done → IsReported path limit file
-reported_file path limit None e = absurd cc
-reported_file path limit (Some text) e = longer (nat_lt file_limit (length text)) refl e
-  where
-    kept : (passed : Option Passed) → passes (suite_repository (home_in text) (packages_in text)) limit ≡ passed → (of_packages path limit (home_in text) (packages_in text) passed).status ≡ Done →
-        (of_accepted path limit (home_in text) (packages_in text)).report ≡ index_kernel_text (home_in text) (packages_in text)
-    kept (Some passed) is e = absurd cc
-    kept None is e = ap (λ p. (of_packages path limit (home_in text) (packages_in text) p).report) is
+nothing : {O : Type 0} (taken : O → Option (List ℕ)) (out out_after : O) → out_after ≡ out → Appends (taken out) (taken out_after) []
+nothing taken out out_after same = subst (λ x. Appends (taken out) (taken x) []) (sym same) (appends_none (taken out))
 
-    read : nat_lt file_limit (length text) ≡ false → (there : Option IndexFault) → first_fault text ≡ there → (of_index path limit text there).status ≡ Done → IsReported path limit (Some text)
-    read fits (Some fault) is e = absurd (not_done path fault e)
-    read fits None is e = record {
-      text = text;
-      there = refl;
-      accepted = is;
-      report = ap (λ b. (cond b (refused TooLarge (too_long_line path)) (of_index path limit text (first_fault text))).report) fits ∙ ap (λ f. (of_index path limit text f).report) is
-          ∙ kept (passes (suite_repository (home_in text) (packages_in text)) limit) refl e;
-    }
+module _ {O E : Type 0} {taken : O → Option (List ℕ)} {faults room : O → ℕ} {write : O → List ℕ → Option ℕ → O → Type 0} {told : E → Option (List ℕ)} {told_faults : E → ℕ}
+    {out out_after : O} {err err_after : E} {result : Status} where
+  -- a run whose outcome is told
+  pub answers_told : {Quiet RoseIn : Type 0} (o : Outcome) {ending : Option Outcome} → EndsAs Quiet o ending → ((path : List ℕ) → ending ≡ Some (unread path) → RoseIn) →
+      Delivers taken faults room write told told_faults out err result out_after err_after ending →
+      Answers Quiet RoseIn (Rose (faults out) (faults out_after)) (room out) (Tells told told_faults err err_after) o (taken out) (taken out_after) result
+  answers_told o run.as_told rose (a_report verdict report w) = run.as_told w.status w.took (λ stop. absurd stop)
+  answers_told o run.as_told rose (a_cut_report verdict report k) = run.cut_report k.status k.rose k.roomless (λ stop. stop) (k.written, k.short, k.took)
+  answers_told o run.as_told rose (a_refusal ending same d) = as_refused o same d
+    where
+      as_refused : {Quiet RoseIn : Type 0} (o : Outcome) → out_after ≡ out → IsRefused told told_faults err (Some o) result err_after →
+          Answers Quiet RoseIn (Rose (faults out) (faults out_after)) (room out) (Tells told told_faults err err_after) o (taken out) (taken out_after) result
+      as_refused (answered (reported verdict report)) same d = absurd d.0
+      as_refused (answered (refused cause line)) same d = run.as_told d.1 (nothing taken out out_after same) (λ stop. d.2)
+      as_refused (unread path) same d = run.as_told d.1 (nothing taken out out_after same) (λ stop. d.2)
+      as_refused not_a_command same d = run.as_told d.1 (nothing taken out out_after same) (λ stop. d.2)
+  answers_told o (run.at_an_unread_file path quiet) rose (a_refusal ending same d) = run.unread_file path d.1 (rose path refl) quiet (nothing taken out out_after same) d.2
+  answers_told o run.without_memory rose (a_refusal ending same d) = run.want_of_memory d.0 (nothing taken out out_after same)
 
-    longer : (b : Bool) → nat_lt file_limit (length text) ≡ b → (cond b (refused TooLarge (too_long_line path)) (of_index path limit text (first_fault text))).status ≡ Done → IsReported path limit (Some text)
-    longer true is e = absurd cc
-    longer false is e = read is (first_fault text) refl e
+  -- a write fault comes of a failed write
+  pub cut_rose : (ending : Option Outcome) → Delivers taken faults room write told told_faults out err result out_after err_after ending → result ≡ status.WriteFault → Rose (faults out) (faults out_after)
+  cut_rose ending (a_report verdict report w) e = absurd ((of_verdict verdict).not_cut (sym w.status ∙ e))
+  cut_rose ending (a_cut_report verdict report k) e = k.rose
+  cut_rose (Some (answered (reported verdict report))) (a_refusal ending same d) e = absurd d.0
+  cut_rose (Some (answered (refused cause line))) (a_refusal ending same d) e = absurd ((of_cause cause).not_cut (sym d.1 ∙ e))
+  cut_rose (Some (unread path)) (a_refusal ending same d) e = absurd (let k : status.ReadFault ≡ status.WriteFault = sym d.1 ∙ e in cc)
+  cut_rose (Some not_a_command) (a_refusal ending same d) e = absurd (let k : status.Words ≡ status.WriteFault = sym d.1 ∙ e in cc)
+  cut_rose None (a_refusal ending same d) e = absurd (let k : status.Memory ≡ status.WriteFault = sym d.0 ∙ e in cc)
 
-pub means_end : (ended : Ended) (words : List (List ℕ)) (files : Files) (path : List ℕ) (limit : ℕ) (old new : Option (List ℕ)) (s : Status) → s ≡ status_of ended →
-    job_of words ≡ Some (Kernel path limit) → Decides path ended (of_file path limit (files path)) → Reports ended old new (of_file path limit (files path)).report →
-    OnDone s (Took old new (KernelIsMeant words files))
-means_end ended words files path limit old new s is job decides reports = subst (λ t. OnDone t (Took old new (KernelIsMeant words files))) (sym is) (go ended decides reports)
-  where
-    took : (old : Option (List ℕ)) → (of_file path limit (files path)).status ≡ Done → Appends old new (of_file path limit (files path)).report → Took old new (KernelIsMeant words files)
-    took None e h = tt
-    took (Some xs) e h =
-        let r : IsReported path limit (files path) = reported_file path limit (files path) e in (
-          (of_file path limit (files path)).report,
-          h,
-          record {
-            path = path;
-            limit = limit;
-            job = job;
-            text = r.text;
-            file = r.there;
-            means = subst (KernelMeans r.text) (sym r.report) (index_kernel_means r.text r.accepted);
-          },
-        )
+  -- a read fault is told of an unread file
+  unread_at : (ending : Option Outcome) → Delivers taken faults room write told told_faults out err result out_after err_after ending → result ≡ status.ReadFault → (path : List ℕ) × (ending ≡ Some (unread path))
+  unread_at ending (a_report verdict report w) e = absurd ((of_verdict verdict).not_unread (sym w.status ∙ e))
+  unread_at ending (a_cut_report verdict report k) e = absurd (let l : status.WriteFault ≡ status.ReadFault = sym k.status ∙ e in cc)
+  unread_at (Some (answered (reported verdict report))) (a_refusal ending same d) e = absurd d.0
+  unread_at (Some (answered (refused cause line))) (a_refusal ending same d) e = absurd ((of_cause cause).not_unread (sym d.1 ∙ e))
+  unread_at (Some (unread path)) (a_refusal ending same d) e = (path, refl)
+  unread_at (Some not_a_command) (a_refusal ending same d) e = absurd (let k : status.Words ≡ status.ReadFault = sym d.1 ∙ e in cc)
+  unread_at None (a_refusal ending same d) e = absurd (let k : status.Memory ≡ status.ReadFault = sym d.0 ∙ e in cc)
 
-    go : (ended : Ended) → Decides path ended (of_file path limit (files path)) → Reports ended old new (of_file path limit (files path)).report → OnDone (status_of ended) (Took old new (KernelIsMeant words files))
-    go Printed e h = took old e h
-    go Unread e h = tt
-    go TooLong e h = tt
-    go TooMany e h = tt
-    go (Faulty fault) e h = tt
-    go (Limited passed) e h = tt
-    go (Cut written) e h = tt
-    go NoMemory e h = tt
+  -- the words are refused of no command
+  words_at : (ending : Option Outcome) → Delivers taken faults room write told told_faults out err result out_after err_after ending → result ≡ status.Words → ending ≡ Some not_a_command
+  words_at ending (a_report verdict report w) e = absurd ((of_verdict verdict).not_words (sym w.status ∙ e))
+  words_at ending (a_cut_report verdict report k) e = absurd (let l : status.WriteFault ≡ status.Words = sym k.status ∙ e in cc)
+  words_at (Some (answered (reported verdict report))) (a_refusal ending same d) e = absurd d.0
+  words_at (Some (answered (refused cause line))) (a_refusal ending same d) e = absurd ((of_cause cause).not_words (sym d.1 ∙ e))
+  words_at (Some (unread path)) (a_refusal ending same d) e = absurd (let k : status.ReadFault ≡ status.Words = sym d.1 ∙ e in cc)
+  words_at (Some not_a_command) (a_refusal ending same d) e = refl
+  words_at None (a_refusal ending same d) e = absurd (let k : status.Memory ≡ status.Words = sym d.0 ∙ e in cc)
 
-pub means_told : (ended : Ended) (words : List (List ℕ)) (contents : Option Files) (path : List ℕ) (limit : ℕ) (old new : Option (List ℕ)) (s : Status) → s ≡ status_of ended →
-    job_of words ≡ Some (Kernel path limit) → IfSome contents (λ files. Decides path ended (of_file path limit (files path))) →
-    IfSome contents (λ files. Reports ended old new (of_file path limit (files path)).report) → OnDone s (IfSome contents (λ files. Took old new (KernelIsMeant words files)))
-means_told ended words None path limit old new s is job decides reports = subst (λ t. OnDone t ⊤) (sym is) (go ended)
-  where
-    go : (ended : Ended) → OnDone (status_of ended) ⊤
-    go Printed = tt
-    go Unread = tt
-    go TooLong = tt
-    go TooMany = tt
-    go (Faulty fault) = tt
-    go (Limited passed) = tt
-    go (Cut written) = tt
-    go NoMemory = tt
-means_told ended words (Some files) path limit old new s is job decides reports = means_end ended words files path limit old new s is job decides reports
+  words_from : Delivers taken faults room write told told_faults out err result out_after err_after (Some not_a_command) → result ≡ status.Words
+  words_from (a_refusal ending same d) = d.1
 
--- a file that is not there cannot be read
-lacking : (path : List ℕ) (limit : ℕ) (file : Option (List ℕ)) → IsNone file → (of_file path limit file).status ≡ ReadFault
-lacking path limit None h = refl
-lacking path limit (Some text) h = absurd cc
+module _ {F : Type 0} {contents : F → Option Files} {shelf_faults moved : F → ℕ} {is_quiet : F → Type 0}
+    {start : F → List ℕ → Bool → F → Type 0} {read : F → ℕ → Option ℕ → F → Type 0} where
+  job_rose : {job : Option Job} {shelf after : F} {ending : Option Outcome} {path : List ℕ} → FollowsJob contents shelf_faults moved is_quiet start read job shelf ending after → ending ≡ Some (unread path) →
+      Rose (shelf_faults shelf) (shelf_faults after)
+  job_rose (of_no_job s) e = absurd cc
+  job_rose (of_a_job job s t x f) e = unread_rose f e
 
-pub quiet_end : (ended : Ended) (words : List (List ℕ)) (contents : Option Files) (path : List ℕ) (limit : ℕ) (s : Status) → s ≡ status_of ended → job_of words ≡ Some (Kernel path limit) →
-    OnUnread ended (LacksFile contents path) → OnReadFault s (IfSome contents (λ files. (outcome_of words files).status ≡ ReadFault))
-quiet_end ended words contents path limit s is job lacks = subst (λ t. OnReadFault t (IfSome contents (λ files. (outcome_of words files).status ≡ ReadFault))) (sym is) (go ended lacks)
-  where
-    told : (contents : Option Files) → LacksFile contents path → IfSome contents (λ files. (outcome_of words files).status ≡ ReadFault)
-    told None h = tt
-    told (Some files) h = ap (λ o. o.status) (outcome_kernel words files path limit job) ∙ lacking path limit (files path) h
+  job_ends : {job : Option Job} {shelf after : F} {ending : Option Outcome} (files : Files) → FollowsJob contents shelf_faults moved is_quiet start read job shelf ending after → contents shelf ≡ Some files →
+      EndsAs (is_quiet shelf) (of_job job files) ending
+  job_ends files (of_no_job s) is = run.as_told
+  job_ends files (of_a_job job s t x f) is = ends_as files f is
 
-    go : (ended : Ended) → OnUnread ended (LacksFile contents path) → OnReadFault (status_of ended) (IfSome contents (λ files. (outcome_of words files).status ≡ ReadFault))
-    go Printed h = tt
-    go Unread h = told contents h
-    go TooLong h = tt
-    go TooMany h = tt
-    go (Faulty fault) h = tt
-    go (Limited passed) h = tt
-    go (Cut written) h = tt
-    go NoMemory h = tt
+  -- words that give no job are refused, or no memory is found for those that do
+  pub words_refused : (job : Option Job) (error : WordError) (result : Result Job WordError) → result ≡ Err error → (job ≡ None → result ≡ Err words.NotACommand) → OnNotACommand (job ≡ None) error → (s : F) →
+      FollowsJob contents shelf_faults moved is_quiet start read job s (stop_ending (word_stop error)) s
+  words_refused None words.NotACommand result is outside h s = of_no_job s
+  words_refused None words.Memory result is outside h s = absurd (let k : result ≡ Err words.NotACommand = outside refl in cc)
+  words_refused (Some job) words.NotACommand result is outside h s = absurd cc
+  words_refused (Some job) words.Memory result is outside h s = of_a_job job s s None (without_memory (course_of job) s)
 
-pub room_end : (ended : Ended) (o p : Outcome) (room : ℕ) (s : Status) → s ≡ status_of ended → o ≡ p → (length p.report ≤ room → OnCut ended ⊥) → length o.report ≤ room → OnWriteFault s ⊥
-room_end ended o p room s is same fits small =
-    subst (λ t. OnWriteFault t ⊥) (sym is) (go ended (fits (subst (λ q. length q.report ≤ room) same small)))
-  where
-    go : (ended : Ended) → OnCut ended ⊥ → OnWriteFault (status_of ended) ⊥
-    go Printed h = tt
-    go Unread h = tt
-    go TooLong h = tt
-    go TooMany h = tt
-    go (Faulty fault) h = tt
-    go (Limited passed) h = tt
-    go (Cut written) h = h
-    go NoMemory h = tt
+  module _ {O E : Type 0} {taken : O → Option (List ℕ)} {faults room : O → ℕ} {write : O → List ℕ → Option ℕ → O → Type 0} {told : E → Option (List ℕ)} {told_faults : E → ℕ} where
+    -- the clauses of a run, from what was done to the shelf and what the sinks took
+    pub answers_run : {shelf after : F} {ending : Option Outcome} {out out_after : O} {err err_after : E} {result : Status} (words : List (List ℕ)) → FollowsJob contents shelf_faults moved is_quiet start read (job_of words) shelf ending after →
+        Delivers taken faults room write told told_faults out err result out_after err_after ending →
+        IfSome (contents shelf) (λ files. Answers (is_quiet shelf) (Rose (shelf_faults shelf) (shelf_faults after)) (Rose (faults out) (faults out_after)) (room out) (Tells told told_faults err err_after)
+        (outcome_of words files) (taken out) (taken out_after) result)
+    unfolding outcome_of
+    answers_run {shelf = shelf} words f d = each_told (contents shelf) (λ files is. answers_told (of_job (job_of words) files) (job_ends files f is) (λ path e. job_rose f e) d)
 
-pub completes_end : (ended : Ended) (path : List ℕ) (o p : Outcome) (s : Status) {R W : Type 0} → s ≡ status_of ended → o ≡ p → Decides path ended p → OnUnread ended R → OnCut ended W →
-    (R → ⊥) → (W → ⊥) → Completes s o
-completes_end ended path o p s {R} {W} is same decides unread cut noread nowrite done =
-    subst (λ t. (t ≡ Done) ⊎ (t ≡ Memory)) (sym is) (go ended decides unread cut (sym (ap (λ x. x.status) same) ∙ done))
-  where
-    go : (ended : Ended) → Decides path ended p → OnUnread ended R → OnCut ended W → p.status ≡ Done → (status_of ended ≡ Done) ⊎ (status_of ended ≡ Memory)
-    go Printed d u c e = inl refl
-    go Unread d u c e = absurd (noread u)
-    go TooLong d u c e = absurd (let f : TooLarge ≡ Done = sym (ap (λ x. x.status) d) ∙ e in cc)
-    go TooMany d u c e = absurd (let f : TooLarge ≡ Done = sym (ap (λ x. x.status) d) ∙ e in cc)
-    go (Faulty fault) d u c e = absurd (let f : Content ≡ Done = sym (ap (λ x. x.status) d) ∙ e in cc)
-    go (Limited passed) d u c e = absurd (let f : ClauseLimit ≡ Done = sym (ap (λ x. x.status) d) ∙ e in cc)
-    go (Cut written) d u c e = absurd (nowrite c)
-    go NoMemory d u c e = inr refl
+    pub meaning_run : {shelf after : F} {ending : Option Outcome} {out out_after : O} {err err_after : E} {result : Status} (words : List (List ℕ)) → FollowsJob contents shelf_faults moved is_quiet start read (job_of words) shelf ending after →
+        Delivers taken faults room write told told_faults out err result out_after err_after ending → result ≡ status.Done → IfSome (contents shelf) (λ files. Took (taken out) (taken out_after) (IsMeant words files))
+    meaning_run {shelf = shelf} words f d e = if_told (contents shelf) (λ files h. meaning_told words files h e) (answers_run words f d)
 
-pub line_end : (ended : Ended) (path : List ℕ) (o p : Outcome) (s : Status) (Untouched : Type 0) (Line : List ℕ → Type 0) → s ≡ status_of ended → o ≡ p → Decides path ended p → TellsEnd ended path Untouched Line →
-    OnRefusal s (Line o.line)
-line_end ended path o p s Untouched Line is same decides told = subst (λ t. OnRefusal t (Line o.line)) (sym is) (subst (λ q. OnRefusal (status_of ended) (Line q.line)) (sym same) (go ended decides told))
-  where
-    go : (ended : Ended) → Decides path ended p → TellsEnd ended path Untouched Line → OnRefusal (status_of ended) (Line p.line)
-    go Printed d h = tt
-    go Unread d h = tt
-    go TooLong d h = subst Line (sym (ap (λ x. x.line) d)) h
-    go TooMany d h = subst Line (sym (ap (λ x. x.line) d)) h
-    go (Faulty fault) d h = subst Line (sym (ap (λ x. x.line) d)) h
-    go (Limited passed) d h = subst Line (sym (ap (λ x. x.line) d)) h
-    go (Cut written) d h = tt
-    go NoMemory d h = tt
+    pub completes_run : {shelf after : F} {ending : Option Outcome} {out out_after : O} {err err_after : E} {result : Status} (words : List (List ℕ)) → FollowsJob contents shelf_faults moved is_quiet start read (job_of words) shelf ending after →
+        Delivers taken faults room write told told_faults out err result out_after err_after ending →
+        IfSome (contents shelf) (λ files. (Rose (shelf_faults shelf) (shelf_faults after) → ⊥) → (Rose (faults out) (faults out_after) → ⊥) → Completes result (outcome_of words files))
+    completes_run {shelf = shelf} words f d = if_told (contents shelf) (λ files h. completes_told (outcome_of words files) h) (answers_run words f d)
 
-pub refusal_end : (ended : Ended) (words : List (List ℕ)) (path : List ℕ) (limit : ℕ) (s : Status) (Untouched : Type 0) (Line : List ℕ → Type 0) → s ≡ status_of ended → job_of words ≡ Some (Kernel path limit) → TellsEnd ended path Untouched Line →
-    TellsRefusal s words Line
-refusal_end ended words path limit s Untouched Line is job told = subst (λ t. TellsRefusal t words Line) (sym is) (go ended told)
-  where
-    go : (ended : Ended) → TellsEnd ended path Untouched Line → TellsRefusal (status_of ended) words Line
-    go Printed h = tt
-    go Unread h = tt
-    go TooLong h = (path, limit, job, inl h)
-    go TooMany h = (path, limit, job, inr h)
-    go (Faulty fault) h = (path, limit, job, (fault, h))
-    go (Limited passed) h = (path, limit, job, (passed, h))
-    go (Cut written) h = tt
-    go NoMemory h = tt
+    pub read_fault_run : {shelf after : F} {ending : Option Outcome} {out out_after : O} {err err_after : E} {result : Status} {job : Option Job} → FollowsJob contents shelf_faults moved is_quiet start read job shelf ending after →
+        Delivers taken faults room write told told_faults out err result out_after err_after ending → result ≡ status.ReadFault → Rose (shelf_faults shelf) (shelf_faults after)
+    read_fault_run {ending = ending} f d e = let at : (path : List ℕ) × (ending ≡ Some (unread path)) = unread_at ending d e in job_rose f at.1
 
--- the words are no command
-pub answers_none : (words : List (List ℕ)) (files : Files) → job_of words ≡ None → Answers Words (outcome_of words files)
-answers_none words files none = ap (λ o. o.status) (outcome_none words files none)
-
-pub completes_none : (words : List (List ℕ)) (files : Files) → job_of words ≡ None → Completes Words (outcome_of words files)
-completes_none words files none done = absurd (let f : Words ≡ Done = sym (ap (λ o. o.status) (outcome_none words files none)) ∙ done in cc)
-
-pub line_none : (words : List (List ℕ)) (files : Files) (Line : List ℕ → Type 0) → job_of words ≡ None → Line words_line → Line (outcome_of words files).line
-line_none words files Line none told = subst Line (sym (ap (λ o. o.line) (outcome_none words files none))) told
+    pub words_run : {shelf after : F} {ending : Option Outcome} {out out_after : O} {err err_after : E} {result : Status} {job : Option Job} → FollowsJob contents shelf_faults moved is_quiet start read job shelf ending after →
+        Delivers taken faults room write told told_faults out err result out_after err_after ending → ((result ≡ status.Words) ↔ (job ≡ None))
+    words_run (of_no_job s) d = ((λ e. refl), (λ e. words_from d))
+    words_run (of_a_job job s t x f) d = ((λ e. absurd (no_words f (words_at x d e))), (λ e. absurd cc))

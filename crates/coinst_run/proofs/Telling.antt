@@ -1,5 +1,5 @@
 -- A line that is written piece by piece.
-use Rattle.std.proofs.Common.{◌≡◌, ℕ, suc, ◌<◌, ◌≤◌, ◌+◌, List, [], ◌∷◌, ◌++◌, length, take, drop, get_or, Option, Some, None, refl, sym, ap, ◌∙◌, inr, subst, arith, append_assoc, drop-cons}
+use Rattle.std.proofs.Common.{◌≡◌, ℕ, suc, ◌<◌, ◌≤◌, ◌+◌, List, [], ◌∷◌, ◌++◌, length, take, drop, get_or, Option, Some, None, refl, sym, ap, ◌∙◌, inr, ◌⊎◌, subst, arith, append_assoc, drop-cons}
 use Rattle.std.specs.Borrow.{Bor}
 use Rattle.std.specs.Io.KnownBytes.{Appends}
 use Rattle.std.specs.List.{flat_map}
@@ -7,12 +7,10 @@ use Rattle.std.proofs.Math.Seq.{take-append-add}
 use Rattle.std.proofs.lemmas.List.{take-append-le, take-append-drop}
 use Rattle.std.proofs.lemmas.List.Concat.{flat_map-append}
 use Rattle.byte_flow.specs.Flow.{Rose}
-use Rattle.coinst_run.specs.Causes.{Tells}
-use Rattle.coinst_run.specs.Faults.{line_at, line_text, number_of, number_text, words_of}
-use Rattle.coinst_run.specs.Outcome.{about, fault_line, limit_line, passed_line}
-use Rattle.coinst_run.specs.declared.limit.PassedLimit.{PassedLimit}
-use Rattle.std.specs.Fmt.{decimal}
-use Rattle.repo_model.specs.declared.fault.IndexFault.{IndexFault}
+
+-- what standard error took of a line, by values: what it had taken, what it has taken, and its counts of faults
+abbrev Tells : Option (List ℕ) → Option (List ℕ) → ℕ → ℕ → List ℕ → Type 0
+Tells old new before now line = Appends old new line ⊎ (Rose before now × ((n : ℕ) × Appends old new (take n line)))
 
 -- a line from its pieces
 abbrev pub line_of : List (Bor (List ℕ)) → List ℕ
@@ -23,7 +21,7 @@ pub record HasTold (old new : Option (List ℕ)) (before now : ℕ) (pieces : Li
   pub later : before ≤ now
   pub told : Appends old new (line_of (take i pieces))
 
-appends_none : (old : Option (List ℕ)) → Appends old old []
+pub appends_none : (old : Option (List ℕ)) → Appends old old []
 appends_none None = tt
 appends_none (Some xs) = nothing xs
   where
@@ -59,7 +57,7 @@ told_front old mid new before first now pieces i n d inside told short taken ros
     ap (take (length front + n)) (pieces_split pieces i d inside) ∙ take-append-add front (piece ++ rest) n
     ∙ ap (λ t. front ++ t) (take-append-le n piece rest (omega arith)) in
     let grown : Rose before now = omega arith in
-    inr (grown, length front + n, subst (Appends old new) (sym cut) (appends_both old mid new front (take n piece) told.told taken))
+    inr (grown, (length front + n, subst (Appends old new) (sym cut) (appends_both old mid new front (take n piece) told.told taken)))
 
 -- another spelling of the line
 pub tells_same : (old new : Option (List ℕ)) (before now : ℕ) (line other : List ℕ) → line ≡ other → Tells old new before now line → Tells old new before now other
@@ -72,34 +70,3 @@ about_path path between text end = sym (append_assoc (path ++ between) text end 
 -- a line about a number, by its pieces
 pub about_number : (front digits behind end : List ℕ) → front ++ (digits ++ (behind ++ end)) ≡ front ++ digits ++ behind ++ end
 about_number front digits behind end = about_path front digits behind end
-
-append_nothing : (xs : List ℕ) → xs ++ [] ≡ xs
-append_nothing [] = refl
-append_nothing (x ∷ xs) = ap (λ ys. x ∷ ys) (append_nothing xs)
-
--- a line about a fault, by its pieces
-pub about_fault : (path colon line digits between words number end : List ℕ) →
-    path ++ ((colon ++ line) ++ (digits ++ (between ++ (words ++ (number ++ (end ++ [])))))) ≡ path ++ colon ++ ((line ++ digits ++ between) ++ words ++ number) ++ end
-about_fault path colon line digits between words number end = simp (append_assoc, append_nothing)
-
--- and about one that has no line
-pub about_whole : (path colon words number end : List ℕ) → path ++ (colon ++ (words ++ (number ++ (end ++ [])))) ≡ path ++ colon ++ ([] ++ words ++ number) ++ end
-about_whole path colon words number end = simp (append_assoc, append_nothing)
-
--- the line of a fault, by its parts
-pub fault_parts : (path : List ℕ) (fault : IndexFault) (line words number : List ℕ) → line ≡ line_text (line_at fault) → words ≡ words_of fault → number ≡ number_text (number_of fault) →
-    about path (line ++ words ++ number) ≡ fault_line path fault
-unfolding fault_line
-fault_parts path fault line words number a b c = rw (a, b, c) refl
-
--- a line about a row that passed the limit, by its pieces
-pub about_limit : (path colon limit_words limit gone_words gone package_words name space version count_words count end : List ℕ) →
-    path ++ ((colon ++ limit_words) ++ (limit ++ (gone_words ++ (gone ++ (package_words ++ (name ++ (space ++ (version ++ (count_words ++ (count ++ (end ++ [])))))))))))
-    ≡ path ++ colon ++ (limit_words ++ limit ++ gone_words ++ gone ++ package_words ++ name ++ space ++ version ++ count_words ++ count) ++ end
-about_limit path colon limit_words limit gone_words gone package_words name space version count_words count end = simp (append_assoc, append_nothing)
-
--- the same by the parts of the row
-pub limit_parts : (path : List ℕ) (passed : PassedLimit) (limit gone name version count : List ℕ) → limit ≡ decimal passed.limit → gone ≡ decimal passed.gone → name ≡ passed.name →
-    version ≡ passed.version → count ≡ decimal passed.count → passed_line path limit gone name version count ≡ limit_line path passed
-unfolding limit_line
-limit_parts path passed limit gone name version count a b c d e = rw (a, b, c, d, e) refl

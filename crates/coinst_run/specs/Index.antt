@@ -1,13 +1,42 @@
 -- What an index without a fault says: its packages in file order, and its home, the common architecture of those that
 -- are not of `all`.
-use Rattle.std.specs.Prelude.{ℕ, List, map}
+use Rattle.std.specs.Prelude.{ℕ, List, map, Option, Some, None, Ok, Err}
 use Rattle.relation_fields.specs.declared.packages.Home.{Home}
 use Rattle.relation_fields.specs.declared.packages.PackageFacts.{PackageFacts}
+use Rattle.repo_model.specs.declared.fault.IndexFault.{IndexFault}
+use Rattle.repo_model.specs.declared.suite.Suite.{Suite}
 use Rattle.repo_model.specs.Facts.{facts_of}
-use Rattle.repo_model.specs.FirstFault.{home_of, stanzas_of}
+use Rattle.repo_model.specs.FirstFault.{first_fault, home_of, stanzas_of}
+use Rattle.coinst_run.specs.Answer.{Stage, refused}
+use Rattle.coinst_run.specs.Course.{Course, reads, then_on}
+use Rattle.coinst_run.specs.Faults.{fault_cause}
+use Rattle.coinst_run.specs.Lines.{fault_line}
 
 unfoldable pub packages_in : List ℕ → List PackageFacts
 packages_in text = map facts_of (stanzas_of text)
 
 unfoldable pub home_in : List ℕ → Home
 home_in text = record { name = home_of (stanzas_of text) }
+
+pub record Index : Type 0 where
+  pub home : Home
+  pub packages : List PackageFacts
+
+abbrev pub index_in : List ℕ → Index
+index_in text = record { home = home_in text; packages = packages_in text }
+
+-- what a suite says
+abbrev pub index_of : Suite → Index
+index_of suite = record { home = suite.home; packages = suite.packages }
+
+-- an index by its first fault, where there is one
+abbrev pub by_fault : List ℕ → List ℕ → Option IndexFault → Stage Index
+by_fault path text None = Ok (index_in text)
+by_fault path text (Some fault) = Err (refused (fault_cause fault) (fault_line path fault))
+
+abbrev pub checked_index : List ℕ → List ℕ → Stage Index
+checked_index path text = by_fault path text (first_fault text)
+
+-- the index at a path
+abbrev pub reads_index : List ℕ → (Index → Course) → Course
+reads_index path next = reads path (λ text. then_on (checked_index path text) next)

@@ -11,6 +11,7 @@ use Rattle.repo_model.specs.FirstFault.{first_fault}
 use Rattle.repo_model.specs.Repository.{packages_of}
 use Rattle.repo_model.specs.Stanzas.{stanza_at, CoinstStanzas}
 use Rattle.coinst_run.specs.Words.{job_of}
+use Rattle.coinst_run.specs.declared.words.Job.{Job}
 use Rattle.coinst_run.specs.declared.words.Job.TheVariants.{Kernel}
 use Rattle.byte_flow.specs.Flow.{Files}
 use Rattle.row_book.specs.Repository.{Repository, Coinst}
@@ -49,11 +50,12 @@ pub record KernelMeans (text printed : List ℕ) : Type 0 where
   pub keeps : (S : NumSet) → ((n : ℕ) → Is S n → n < length (packages_in text)) →
       (CoinstStanzas (home_in text) (packages_in text) S ↔ Coinst repository (classes_of (packages_in text) members S))
 
--- The words ask for the kernel of a file that is there, under some limit, and this is what the printed bytes mean for its text.
-pub record KernelIsMeant (words : List (List ℕ)) (files : Files) (printed : List ℕ) : Type 0 where
-  pub path : List ℕ
-  pub limit : ℕ
-  pub job : job_of words ≡ Some (Kernel path limit)
-  pub text : List ℕ
-  pub file : files path ≡ Some text
-  pub means : KernelMeans text printed
+-- what a printed report means for the job that it was asked for
+abbrev pub MeansJob : Job → Files → List ℕ → Type 0
+MeansJob (Kernel path limit) files printed = (text : List ℕ) × (files path ≡ Some text) × KernelMeans text printed
+
+-- The words ask for a job, and this is what the printed bytes mean for it.
+pub record IsMeant (words : List (List ℕ)) (files : Files) (printed : List ℕ) : Type 0 where
+  pub job : Job
+  pub asked : job_of words ≡ Some job
+  pub means : MeansJob job files printed

@@ -1,5 +1,9 @@
--- The exit status of each way to end.
+-- The exit status of each status, and the status of each verdict and each refusal.
 use Rattle.std.specs.Prelude.{ℕ}
+use Rattle.coinst_run.specs.declared.answer.Cause.{Cause}
+use Rattle.coinst_run.specs.declared.answer.Cause.TheVariants as cause
+use Rattle.coinst_run.specs.declared.answer.Verdict.{Verdict}
+use Rattle.coinst_run.specs.declared.answer.Verdict.TheVariants as verdict
 use Rattle.coinst_run.specs.declared.status.Status.{Status}
 use Rattle.coinst_run.specs.declared.status.Status.TheVariants.{Done, Negative, Words, Content, ClauseLimit, ReadFault, WriteFault, Memory, Undecided, UnknownGoal, TooLarge}
 
@@ -15,3 +19,14 @@ code_of Memory = 7
 code_of Undecided = 8
 code_of UnknownGoal = 9
 code_of TooLarge = 10
+
+abbrev pub verdict_status : Verdict → Status
+verdict_status verdict.Done = Done
+verdict_status verdict.Negative = Negative
+verdict_status verdict.Undecided = Undecided
+
+abbrev pub cause_status : Cause → Status
+cause_status cause.Content = Content
+cause_status cause.ClauseLimit = ClauseLimit
+cause_status cause.UnknownGoal = UnknownGoal
+cause_status cause.TooLarge = TooLarge

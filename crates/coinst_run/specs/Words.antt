@@ -1,11 +1,13 @@
 -- The words of the command line. So far `kernel [--clause-limit N] INDEX` is the only command.
-use Rattle.std.specs.Prelude.{ℕ, ◌<◌, Bool, false, not, ◌&&◌, ◌==◌, nat_le, cond, if◌then◌else◌, List, [], ◌∷◌, length, Option, Some, None, codes}
+use Rattle.std.specs.Prelude.{ℕ, ◌<◌, Bool, false, not, ◌&&◌, ◌==◌, nat_le, cond, if◌then◌else◌, List, [], ◌∷◌, length, Option, Some, None, codes, ⊤}
 use Rattle.std.specs.Char.{is_ascii_digit}
 use Rattle.std.specs.List.{list_all}
 use Rattle.std.specs.Option.{option_map}
 use Rattle.std.specs.Str.{bytes_eq}
 use Rattle.coinst_run.specs.declared.words.Job.{Job}
 use Rattle.coinst_run.specs.declared.words.Job.TheVariants.{Kernel}
+use Rattle.coinst_run.specs.declared.words.WordError.{WordError}
+use Rattle.coinst_run.specs.declared.words.WordError.TheVariants.{NotACommand, Memory}
 use Rattle.deb_version.specs.Order.{number}
 
 -- a path, so far: not empty, and it does not begin with `-`
@@ -41,3 +43,8 @@ job_of (command ∷ name ∷ limit ∷ index ∷ more ∷ words) = None
 -- the clause limit of a job is at least 1
 abbrev pub HasLimit : Job → Type 0
 HasLimit (Kernel index limit) = 0 < limit
+
+-- a fact for words that are no command
+abbrev pub OnNotACommand : Type 0 → WordError → Type 0
+OnNotACommand P NotACommand = P
+OnNotACommand P Memory = ⊤

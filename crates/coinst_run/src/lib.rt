@@ -1,15 +1,17 @@
 //! The program behind `coinst`: from words, files and streams to a status.
 #![tactic(auto)]
 
+mod answer;
+mod deliver;
+mod kernel;
 mod kernel_text;
-mod limit;
+mod lines;
+mod stages;
 mod status;
-mod tell;
 #[cfg(test)]
 mod tests;
 mod top;
 mod words;
-mod work;
 
 pub use status::Status;
 pub use top::run;

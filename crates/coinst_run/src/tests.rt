@@ -139,7 +139,7 @@ const FAULTS: [(&str, &str); 18] = [
 
 /// The text of the file `I`, the words, the calls that fail as `Given` has them, and then the status, the report and the
 /// line.
-const ANSWERS: [(&str, &str, (u64, u64, u64), u8, &str, &str); 19] = [
+const ANSWERS: [(&str, &str, (u64, u64, u64), u8, &str, &str); 24] = [
     ("", "", (0, 0, 0), 2, "", NOT_A_COMMAND),
     ("", "kernel", (0, 0, 0), 2, "", NOT_A_COMMAND),
     ("", "kernel -x I", (0, 0, 0), 2, "", NOT_A_COMMAND),
@@ -209,7 +209,10 @@ const ANSWERS: [(&str, &str, (u64, u64, u64), u8, &str, &str); 19] = [
         "I: line 3: bad relation, element 1\n",
     ),
     ("", NOWHERE, (0, 0, 0), 5, "", "J: read failed\n"),
+    (CHOICE, INDEX, (1, 0, 0), 5, "", "I: read failed\n"),
     (CHOICE, INDEX, (2, 0, 0), 5, "", "I: read failed\n"),
+    (CHOICE, INDEX, (3, 0, 0), 5, "", "I: read failed\n"),
+    ("", INDEX, (0, 1, 0), 6, "", "write failed after 0 bytes\n"),
     (
         "",
         INDEX,
@@ -221,6 +224,15 @@ const ANSWERS: [(&str, &str, (u64, u64, u64), u8, &str, &str); 19] = [
     ("", INDEX, (0, 2, 1), 6, "coinst-ker", ""),
     ("", INDEX, (0, 0, 1), 0, EMPTY_KERNEL, ""),
     (OUTSIDE, INDEX, (0, 0, 1), 3, "", ""),
+    (
+        TWO_CLAUSES,
+        "kernel --clause-limit 1 I",
+        (0, 0, 1),
+        4,
+        "",
+        "",
+    ),
+    ("", "kernel", (0, 0, 1), 2, "", ""),
     ("", NOWHERE, (0, 0, 1), 5, "", ""),
 ];
 

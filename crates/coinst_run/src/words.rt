@@ -4,8 +4,7 @@ ghost use Rattle.std.specs.Char.{is_ascii_digit};
 ghost use Rattle.std.specs.List.{list_all};
 ghost use Rattle.std.specs.Str.{bytes_eq};
 ghost use Rattle.deb_version.specs.Order.{number};
-ghost use Rattle.coinst_run.specs.Words.{job_of, is_number, is_path, limit_of, HasLimit};
-ghost use Rattle.coinst_run.specs.Refusals.{OnNotACommand};
+ghost use Rattle.coinst_run.specs.Words.{job_of, is_number, is_path, limit_of, HasLimit, OnNotACommand};
 
 use std::alloc::{AllocError, Global};
 use std::marker::Model;

@@ -1,0 +1,119 @@
+-- What follows from the course of a command on a shelf, by the way it went.
+use Rattle.std.proofs.Common.{◌≡◌, ℕ, ◌<◌, ◌≤◌, Bool, List, length, cond, Option, Some, None, Ok, inl, inr, refl, sym, ap, subst, ◌∙◌, arith, lt-ltb, le-ltb}
+use Rattle.std.specs.Prelude.{IfSome, IsNone, IsSomeAnd}
+use Rattle.byte_flow.specs.Flow.{FileIs, FileIsLonger, Files, LacksFile, Rose}
+use Rattle.coinst_run.specs.Answer.{Stage}
+use Rattle.coinst_run.specs.Course.{Course, reads, then_on}
+use Rattle.coinst_run.specs.Ending.{Settles, StopsAt}
+use Rattle.coinst_run.specs.Follows.{Follows, ReachesIndex, WasRead, WasTooLong, WasUnread, at_its_end, behind_a_text, at_an_unread_file, at_a_long_file, without_memory, without_memory_for_a_file}
+use Rattle.coinst_run.specs.Index.{Index, checked_index, reads_index}
+use Rattle.coinst_run.specs.Outcome.{Outcome, answered, unread, not_a_command, file_limit, outcome_over, over_file, too_long}
+use Rattle.coinst_run.specs.Run.{EndsAs}
+use Rattle.coinst_run.specs.Run as run
+
+-- a text that was read is the file's, and no longer than the limit
+over_text : (files : Files) (path text : List ℕ) (next : List ℕ → Outcome) → files path ≡ Some text → length text ≤ file_limit → over_file path (files path) next ≡ next text
+over_text files path text next is within =
+    ap (λ file. over_file path file next) is ∙ ap (λ b. cond b (answered (too_long path)) (next text)) (le-ltb file_limit (length text) within)
+
+over_long : (path : List ℕ) (file : Option (List ℕ)) (next : List ℕ → Outcome) → IsSomeAnd file (λ bytes. file_limit < length bytes) → over_file path file next ≡ answered (too_long path)
+over_long path None next h = absurd h
+over_long path (Some text) next h = ap (λ b. cond b (answered (too_long path)) (next text)) (lt-ltb file_limit (length text) h)
+
+over_none : (path : List ℕ) (file : Option (List ℕ)) (next : List ℕ → Outcome) → IsNone file → over_file path file next ≡ unread path
+over_none path None next h = refl
+over_none path (Some text) next h = absurd cc
+
+lacking : (contents : Option Files) (files : Files) (path : List ℕ) → contents ≡ Some files → LacksFile contents path → IsNone (files path)
+lacking None files path is h = absurd h
+lacking (Some told) files path is h = let same : told ≡ files = cc in subst (λ (f : Files). IsNone (f path)) same h
+
+told_text : (contents : Option Files) (files : Files) (path text : List ℕ) → contents ≡ Some files → FileIs contents path text → files path ≡ Some text
+told_text None files path text is h = absurd cc
+told_text (Some told) files path text is h = let same : told ≡ files = cc in subst (λ (f : Files). f path ≡ Some text) same h
+
+told_longer : (contents : Option Files) (files : Files) (path : List ℕ) → contents ≡ Some files → FileIsLonger contents path file_limit → IsSomeAnd (files path) (λ bytes. file_limit < length bytes)
+told_longer None files path is h = absurd cc
+told_longer (Some told) files path is h = let same : told ≡ files = cc in subst (λ (f : Files). IsSomeAnd (f path) (λ bytes. file_limit < length bytes)) same h
+
+-- a part that ends a command, with what would go on
+pub stopped : {A : Type 0} (stage : Stage A) (next : A → Course) (ending : Option Outcome) → StopsAt stage ending → Settles (then_on stage next) ending
+stopped stage next None h = tt
+stopped stage next (Some (answered answer)) h = ap (λ x. then_on x next) h
+stopped stage next (Some (unread path)) h = absurd h
+stopped stage next (Some not_a_command) h = absurd h
+
+module _ {S : Type 0} {contents : S → Option Files} {faults moved : S → ℕ} {is_quiet : S → Type 0}
+    {start : S → List ℕ → Bool → S → Type 0} {read : S → ℕ → Option ℕ → S → Type 0} where
+  -- where the files are told the course ends as over them
+  pub ends_as : (files : Files) {course : Course} {s u : S} {ending : Option Outcome} → Follows contents faults moved is_quiet start read course s ending u → contents s ≡ Some files →
+      EndsAs (is_quiet s) (outcome_over files course) ending
+  ends_as files (at_its_end answer s) is = run.as_told
+  ends_as files (behind_a_text path text next s t u ending w f) is =
+      quieter ending w.stays_quiet
+      (subst (λ o. EndsAs (is_quiet t) o ending)
+      (sym (over_text files path text (λ x. outcome_over files (next x)) (told_text (contents s) files path text is w.told) w.within))
+      (ends_as files f (w.same ∙ is)))
+    where
+      quieter : {P Q : Type 0} {o : Outcome} (ending : Option Outcome) → (P → Q) → EndsAs Q o ending → EndsAs P o ending
+      quieter ending f run.as_told = run.as_told
+      quieter ending f (run.at_an_unread_file path h) = run.at_an_unread_file path (λ p. h (f p))
+      quieter ending f run.without_memory = run.without_memory
+  ends_as files (at_an_unread_file path next s t w) is =
+      run.at_an_unread_file path (λ q. over_none path (files path) (λ x. outcome_over files (next x)) (lacking (contents s) files path is (w.lacks q)))
+  ends_as files (at_a_long_file path next s t w) is =
+      subst (λ o. EndsAs (is_quiet s) o (Some (answered (too_long path))))
+      (sym (over_long path (files path) (λ x. outcome_over files (next x)) (told_longer (contents s) files path is w.told))) run.as_told
+  ends_as files (without_memory course s) is = run.without_memory
+  ends_as files (without_memory_for_a_file path next s t w) is = run.without_memory
+
+  -- a file is unread only where the count of faults rose
+  pub unread_rose : {course : Course} {s u : S} {ending : Option Outcome} {path : List ℕ} → Follows contents faults moved is_quiet start read course s ending u → ending ≡ Some (unread path) →
+      Rose (faults s) (faults u)
+  unread_rose (at_its_end answer s) e = absurd cc
+  unread_rose (behind_a_text path text next s t u ending w f) e = let k : Rose (faults t) (faults u) = unread_rose f e in let l : faults s ≤ faults t = w.later in omega arith
+  unread_rose (at_an_unread_file path next s t w) e = w.rose
+  unread_rose (at_a_long_file path next s t w) e = absurd cc
+  unread_rose (without_memory course s) e = absurd cc
+  unread_rose (without_memory_for_a_file path next s t w) e = absurd cc
+
+  -- the words are refused by no course
+  pub no_words : {course : Course} {s u : S} {ending : Option Outcome} → Follows contents faults moved is_quiet start read course s ending u → ending ≡ Some not_a_command → ⊥
+  no_words (at_its_end answer s) e = cc
+  no_words (behind_a_text path text next s t u ending w f) e = no_words f e
+  no_words (at_an_unread_file path next s t w) e = cc
+  no_words (at_a_long_file path next s t w) e = cc
+  no_words (without_memory course s) e = cc
+  no_words (without_memory_for_a_file path next s t w) e = cc
+
+  -- a file that could not be read, or no memory to say so
+  pub stops_unread : (path : List ℕ) (next : List ℕ → Course) (s t : S) (ending : Option Outcome) → WasUnread contents faults is_quiet start read s path t → IfSome ending (λ o. o ≡ unread path) →
+      Follows contents faults moved is_quiet start read (reads path next) s ending t
+  stops_unread path next s t None w h = without_memory_for_a_file path next s t (inl w.calls)
+  stops_unread path next s t (Some o) w h = subst (λ x. Follows contents faults moved is_quiet start read (reads path next) s (Some x) t) (sym h) (at_an_unread_file path next s t w)
+
+  -- a file that is too long, or no memory to say so
+  pub stops_long : (path : List ℕ) (next : List ℕ → Course) (s t : S) (ending : Option Outcome) → WasTooLong contents moved start read s path t → IfSome ending (λ o. o ≡ answered (too_long path)) →
+      Follows contents faults moved is_quiet start read (reads path next) s ending t
+  stops_long path next s t None w h = without_memory_for_a_file path next s t (inr (inl w.calls))
+  stops_long path next s t (Some o) w h = subst (λ x. Follows contents faults moved is_quiet start read (reads path next) s (Some x) t) (sym h) (at_a_long_file path next s t w)
+
+  -- a course that reads no more
+  pub settled_follows : (course : Course) (ending : Option Outcome) (s : S) → Settles course ending → Follows contents faults moved is_quiet start read course s ending s
+  settled_follows course None s h = without_memory course s
+  settled_follows course (Some (answered answer)) s h = subst (λ c. Follows contents faults moved is_quiet start read c s (Some (answered answer)) s) (sym h) (at_its_end answer s)
+  settled_follows course (Some (unread path)) s h = absurd h
+  settled_follows course (Some not_a_command) s h = absurd h
+
+  -- an index that was read, and one that was refused
+  pub index_reached : (path text lent : List ℕ) (index : Index) (s t : S) → WasRead contents faults moved is_quiet start read s path text t → lent ≡ text → checked_index path lent ≡ Ok index →
+      ReachesIndex contents faults moved is_quiet start read s path index t
+  index_reached path text lent index s t w same is next ending u f =
+      behind_a_text path text (λ x. then_on (checked_index path x) next) s t u ending w
+      (subst (λ c. Follows contents faults moved is_quiet start read c t ending u) (sym (ap (λ x. then_on (checked_index path x) next) (sym same) ∙ ap (λ stage. then_on stage next) is)) f)
+
+  pub index_refused : (path text lent : List ℕ) (next : Index → Course) (ending : Option Outcome) (s t : S) → WasRead contents faults moved is_quiet start read s path text t → lent ≡ text →
+      StopsAt (checked_index path lent) ending → Follows contents faults moved is_quiet start read (reads_index path next) s ending t
+  index_refused path text lent next ending s t w same h =
+      behind_a_text path text (λ x. then_on (checked_index path x) next) s t t ending w
+      (settled_follows (then_on (checked_index path text) next) ending t (stopped (checked_index path text) next ending (subst (λ x. StopsAt (checked_index path x) ending) same h)))

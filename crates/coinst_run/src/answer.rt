@@ -1,0 +1,116 @@
+//! What a command answers: a report, or why there is none.
+use crate::status::Status;
+use crate::words::{PathText, WordError};
+use std::alloc::AllocError;
+
+/// What a report says as a whole.
+#[derive(Clone, Copy, Debug, PartialEq, Eq)]
+pub enum Verdict {
+    /// Done; yes; nothing broken and nothing open.
+    Done,
+    /// No; something broken.
+    Negative,
+    /// A search spent its budget.
+    Undecided,
+}
+
+impl Verdict {
+    ghost use Rattle.std.specs.Prelude.{◌≡◌};
+    ghost use Rattle.coinst_run.specs.Status.{verdict_status};
+
+    /// The status of a run whose report was written whole; it takes no memory.
+    pub fn status(&self) -> Status
+        ensures { result ≡ verdict_status self.now }
+    {
+        match self {
+            Verdict::Done => Status::Done,
+            Verdict::Negative => Status::Negative,
+            Verdict::Undecided => Status::Undecided,
+        }
+    }
+}
+
+/// What was refused.
+#[derive(Clone, Copy, Debug, PartialEq, Eq)]
+pub enum Cause {
+    /// The content of a file.
+    Content,
+    /// A package with more clauses than the limit allows.
+    ClauseLimit,
+    /// A goal that names no package.
+    UnknownGoal,
+    /// A file that is too long, or has too many packages.
+    TooLarge,
+}
+
+impl Cause {
+    ghost use Rattle.std.specs.Prelude.{◌≡◌};
+    ghost use Rattle.coinst_run.specs.Status.{cause_status};
+
+    /// The status of a run that refused so; it takes no memory.
+    pub fn status(&self) -> Status
+        ensures { result ≡ cause_status self.now }
+    {
+        match self {
+            Cause::Content => Status::Content,
+            Cause::ClauseLimit => Status::ClauseLimit,
+            Cause::UnknownGoal => Status::UnknownGoal,
+            Cause::TooLarge => Status::TooLarge,
+        }
+    }
+}
+
+/// A report, made whole before its first byte is written.
+#[derive(Drop)]
+pub struct Report {
+    /// What it says as a whole.
+    pub verdict: Verdict,
+    /// Its bytes.
+    pub text: Vec<u8>,
+}
+
+/// Why there is no report.
+#[derive(Drop)]
+pub enum Stop {
+    /// The words are no command of the program.
+    NotACommand,
+    /// Something was refused.
+    Refused {
+        /// What was refused.
+        cause: Cause,
+        /// The line that says so, with its line feed.
+        line: Vec<u8>,
+    },
+    /// The file at a path could not be read.
+    Unread {
+        /// The path.
+        path: PathText,
+    },
+    /// No memory was found.
+    Memory,
+}
+
+impl From<AllocError> for Stop {
+    ghost use Rattle.std.specs.Prelude.{◌≡◌};
+    ghost use Rattle.coinst_run.specs.declared.answer.Stop.TheVariants.{Memory};
+
+    ghost from_gives = { λ _ e. e ≡ Memory };
+
+    fn from(_error: AllocError) -> Self {
+        Stop::Memory
+    }
+}
+
+impl From<WordError> for Stop {
+    ghost use Rattle.std.specs.Prelude.{◌≡◌};
+    ghost use Rattle.coinst_run.specs.Ending.{word_stop};
+
+    ghost from_gives = { λ error e. e ≡ word_stop error };
+
+    fn from(error: WordError) -> Self {
+        match error {
+            WordError::NotACommand => Stop::NotACommand,
+            WordError::Memory => Stop::Memory,
+        }
+    }
+}

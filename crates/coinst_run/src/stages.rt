@@ -1,0 +1,144 @@
+//! The parts of commands: a file read whole, an index checked, its kernel.
+ghost use Rattle.std.specs.Prelude.{◌≡◌, ◌<◌, ◌≤◌, ℕ, List, length, Ok, IfOk, IfErr, IfSome};
+ghost use Rattle.row_book.specs.Book.{repository_of, Sound};
+ghost use Rattle.coinst_run.specs.Ending.{StopsAt, stop_ending};
+ghost use Rattle.coinst_run.specs.Course.{Course, reads};
+ghost use Rattle.coinst_run.specs.Faults.{fault_cause};
+ghost use Rattle.coinst_run.specs.Follows.{Follows, ReachesIndex, WasRead};
+ghost use Rattle.coinst_run.specs.Index.{Index, checked_index, index_of, reads_index};
+ghost use Rattle.coinst_run.specs.Kernel.{kernel_of};
+ghost use Rattle.coinst_run.specs.Outcome.{answered, too_long, unread};
+
+use crate::answer::{Cause, Stop};
+use crate::lines::{fault_line, limit_line, too_long_line};
+use crate::words::PathText;
+use byte_flow::{ReadError, Shelf, read_file};
+use clause_flatten::{FlatError, flatten};
+use clause_pool::Pool;
+use repo_model::{IndexFault, Suite, read_suite};
+use row_book::Book;
+use std::alloc::Global;
+
+/// The most bytes that a file may have.
+const FILE_LIMIT: u64 = 1_073_741_824;
+
+// What a fault of an index is refused as.
+fn fault_cause(fault: IndexFault) -> Cause
+    ensures { result ≡ fault_cause fault }
+{
+    match fault {
+        IndexFault::TooMany => Cause::TooLarge,
+        IndexFault::Stanza(_)
+        | IndexFault::MissingPackage { line: _ }
+        | IndexFault::MissingVersion { line: _ }
+        | IndexFault::BadPackage { line: _ }
+        | IndexFault::BadVersion { line: _ }
+        | IndexFault::BadArchitecture { line: _ }
+        | IndexFault::BadRelation {
+            line: _,
+            element: _,
+        }
+        | IndexFault::Duplicate {
+            first_line: _,
+            line: _,
+        }
+        | IndexFault::Mixed { line: _ }
+        | IndexFault::Memory => Cause::Content,
+    }
+}
+
+// The stop of a file that could not be read.
+fn unread(alloc: Global, path: &str) -> Stop
+    ensures { IfSome (stop_ending result) (λ outcome. outcome ≡ unread path.now) }
+{
+    match PathText::copy(alloc, path) {
+        Ok(path) => Stop::Unread { path },
+        Err(_) => Stop::Memory,
+    }
+}
+
+// The stop of a file that is longer than the limit.
+fn too_long(alloc: Global, path: &str) -> Stop
+    ensures { IfSome (stop_ending result) (λ outcome. outcome ≡ answered (too_long path.now)) }
+{
+    match too_long_line(alloc, path) {
+        Ok(line) => Stop::Refused {
+            cause: Cause::TooLarge,
+            line,
+        },
+        Err(_) => Stop::Memory,
+    }
+}
+
+// Reads the file at a path whole.
+fn text_at<F: Shelf>(alloc: Global, shelf: &mut F, path: &str) -> Result<Vec<u8>, Stop>
+    ensures text { IfOk result (λ text. WasRead F.contents F.faults F.moved F.is_quiet F.start_gives F.read_gives shelf.old path.now text.items shelf.new) }
+    ensures stop { IfErr result (λ stop. (next : List ℕ → Course) → Follows F.contents F.faults F.moved F.is_quiet F.start_gives F.read_gives (reads path.now next) shelf.old (stop_ending stop) shelf.new) }
+{
+    match read_file(alloc, shelf, path, FILE_LIMIT) {
+        Ok(text) => Ok(text),
+        Err(ReadError::Failed) => Err(unread(alloc, path)),
+        Err(ReadError::TooLong) => Err(too_long(alloc, path)),
+        Err(ReadError::Memory) => Err(Stop::Memory),
+    }
+}
+
+// Reads the packages of an index, or refuses its first fault.
+fn checked_index(alloc: Global, path: &str, text: &[u8]) -> Result<Suite, Stop>
+    requires { length text.now ≤ 1073741824 }
+    ensures suite { IfOk result (λ suite. checked_index path.now text.now ≡ Ok (index_of suite)) }
+    ensures stop { IfErr result (λ stop. StopsAt (checked_index path.now text.now) (stop_ending stop)) }
+{
+    match read_suite(alloc, text) {
+        Ok(suite) => Ok(suite),
+        Err(IndexFault::Memory) => Err(Stop::Memory),
+        Err(fault) => Err(Stop::Refused {
+            cause: fault_cause(fault),
+            line: fault_line(alloc, path, fault)?,
+        }),
+    }
+}
+
+/// Reads the index at a path whole and checks it, or says why it cannot be used; its text is dropped.
+pub fn suite_at<F: Shelf>(alloc: Global, shelf: &mut F, path: &str) -> Result<Suite, Stop>
+    ensures suite { IfOk result (λ suite. ReachesIndex F.contents F.faults F.moved F.is_quiet F.start_gives F.read_gives shelf.old path.now (index_of suite) shelf.new) }
+    ensures stop { IfErr result (λ stop. (next : Index → Course) → Follows F.contents F.faults F.moved F.is_quiet F.start_gives F.read_gives (reads_index path.now next) shelf.old (stop_ending stop) shelf.new) }
+{
+    let text = text_at(alloc, shelf, path)?;
+    checked_index(alloc, path, text.as_slice())
+}
+
+/// The kernel of an index, as a book over the pool, or the package that passed the clause limit.
+pub fn kernel_of(
+    alloc: Global,
+    pool: &mut Pool,
+    suite: &Suite,
+    path: &str,
+    limit: u32,
+) -> Result<Book, Stop>
+    requires { 0 < limit }
+    ensures kernel { IfOk result (λ kernel. kernel_of path.now limit (index_of suite.now) ≡ Ok (repository_of pool.new kernel)) }
+    ensures size { IfOk result (λ kernel. length kernel.rows ≡ length suite.now.packages) }
+    ensures sound { IfOk result (Sound pool.new) }
+    ensures stop { IfErr result (λ stop. StopsAt (kernel_of path.now limit (index_of suite.now)) (stop_ending stop)) }
+{
+    let book = suite.book(alloc, pool)?;
+    match flatten(alloc, pool, &book, limit) {
+        Ok(kernel) => Ok(kernel),
+        Err(
+            FlatError::Limit {
+                gone,
+                package,
+                count,
+            },
+        ) => {
+            let facts = &suite.packages.as_slice()[package as usize];
+            let line = limit_line(alloc, path, u64::from(limit), u64::from(gone), facts, count)?;
+            Err(Stop::Refused {
+                cause: Cause::ClauseLimit,
+                line,
+            })
+        }
+        Err(FlatError::Memory) => Err(Stop::Memory),
+    }
+}

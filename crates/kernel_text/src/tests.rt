@@ -5,8 +5,9 @@ ghost use Rattle.row_book.specs.Book.{Sound};
 
 use crate::write_kernel;
 use clause_pool::{NumList, Pool};
+use kernel_rounds::Kernel;
 use repo_model::{IndexFault, Suite, read_suite};
-use row_book::Book;
+use row_book::{StepList, Trail};
 use std::alloc::{AllocError, Global};
 use std::test::Fail;
 
@@ -68,19 +69,18 @@ fn text_of(
     alloc: Global,
     pool: &Pool,
     suite: &Suite,
-    book: &Book,
-    class_of: &NumList,
+    kernel: &Kernel,
 ) -> Result<Option<Vec<u8>>, AllocError>
-    requires { Sound pool.now book.now }
+    requires { Sound pool.now kernel.now.book }
 {
-    let classes = class_of.as_slice();
+    let classes = kernel.class_of.as_slice();
     if classes.len() != suite.packages.as_slice().len() {
         return Ok(None);
     }
-    if !are_below(classes, book.size()) {
+    if !are_below(classes, kernel.book.size()) {
         return Ok(None);
     }
-    Ok(Some(write_kernel(alloc, pool, suite, book, class_of)?))
+    Ok(Some(write_kernel(alloc, pool, suite, kernel)?))
 }
 
 // The text of a row's kernel.
@@ -93,8 +93,14 @@ fn text_of_row(
     let suite = suite_of(alloc, packages)?;
     let mut pool = Pool::new(alloc)?;
     let book = suite_of(alloc, classes)?.book(alloc, &mut pool)?;
-    let class_of = numbers(alloc, digits)?;
-    Ok(text_of(alloc, &pool, &suite, &book, &class_of)?)
+    let kernel = Kernel {
+        book,
+        class_of: numbers(alloc, digits)?,
+        trail: Trail {
+            steps: StepList::new(alloc),
+        },
+    };
+    Ok(text_of(alloc, &pool, &suite, &kernel)?)
 }
 
 #[test]

@@ -13,14 +13,31 @@ use crate::push_lines::{
     push_against_lines, push_class_line, push_end, push_head, push_member_lines, push_needs_lines,
 };
 use clause_pool::{NumList, Pool};
+use kernel_rounds::Kernel;
 use relation_fields::PackageFacts;
 use repo_model::Suite;
 use row_book::Book;
 use std::alloc::{AllocError, Global};
 
-/// The text of a kernel in which each package of the suite is a member of its class, in file order; it fails only where no
-/// memory is found. Time is linear in the packages, the classes and the text.
+/// The text of a kernel of the suite's book, in which each package of the suite is a member of its class, in file order; it
+/// fails only where no memory is found. Time is linear in the packages, the classes and the text.
 pub fn write_kernel(
+    alloc: Global,
+    pool: &Pool,
+    suite: &Suite,
+    kernel: &Kernel,
+) -> Result<Vec<u8>, AllocError>
+    requires sound { Sound pool.now kernel.now.book }
+    requires each { length kernel.now.class_of ≡ length suite.now.packages }
+    requires inside { (class : ℕ) → In class kernel.now.class_of → class < length kernel.now.book.rows }
+    ensures { IfOk result (λ text. text.items ≡ kernel_text (repository_of pool.now kernel.now.book)
+        (kernel_members suite.now.packages kernel.now.class_of (length kernel.now.book.rows))) }
+{
+    write_classes(alloc, pool, suite, &kernel.book, &kernel.class_of)
+}
+
+// The text of the classes of a book, with the packages of each.
+fn write_classes(
     alloc: Global,
     pool: &Pool,
     suite: &Suite,

@@ -8,7 +8,7 @@ use Rattle.kernel_text.specs.KernelText.{kernel_text}
 use Rattle.kernel_text.specs.Members.{kernel_members}
 use Rattle.kernel_text.specs.Writing.{IsByClass}
 use Rattle.kernel_text.proofs.Written.{of_packages, whole}
-use Rattle.kernel_text.proofs.write.write_kernel.Goals as goal
+use Rattle.kernel_text.proofs.write.write_classes.Goals as goal
 
 -- the lent lists are those of the suite and of the classes
 pub push_classes-requires-clause-members : goal.push_classes-requires-clause-members

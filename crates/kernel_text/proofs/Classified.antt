@@ -263,10 +263,8 @@ module _ (R : Repository) (packages : List PackageFacts) (class_of : List ℕ) (
     named = named;
     single = single_by_classes ms (file_single packages class_of kernel.accepted.single) size 0;
     order = kernel.order;
-    clauses = kernel.clauses;
     apart = kernel.apart;
-    conflict_lists = kernel.conflict_lists;
-    conflicts = kernel.conflicts;
+    sound = kernel.sound;
   }
 
 pub kernels_are_writable : KernelsAreWritable

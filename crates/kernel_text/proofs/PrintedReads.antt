@@ -23,8 +23,8 @@ module _ (R : Repository) (members : List Member) (kernel : IsWritable R members
   -- a conflict is with a class, since it stands the other way round as well
   conflict_low : (m n : ℕ) → In n (conflicts_of R m) → n < size
   conflict_low m n i =
-      let listed : n < length R.conflicts = in_listed R.conflicts n m (has_In (conflicts_of R n) m (kernel.conflicts.either_way m n (In_has i))) in
-      subst (λ k. n < k) kernel.conflict_lists listed
+      let listed : n < length R.conflicts = in_listed R.conflicts n m (has_In (conflicts_of R n) m (kernel.sound.conflicts.either_way m n (In_has i))) in
+      subst (λ k. n < k) kernel.sound.count listed
 
   abbrev last_line : KernelLine
   last_line = EndLine size (length members)
@@ -43,11 +43,11 @@ module _ (R : Repository) (members : List Member) (kernel : IsWritable R members
             (eqb-true m.class n w.1, kernel.named m w.0);
         order = kernel.order n;
         clauses = λ c i. record {
-          ascending = (kernel.clauses n c i).0;
+          ascending = (kernel.sound.clauses n c i).0;
           apart = kernel.apart n c i;
-          low = λ l j. let b : l < size = (kernel.clauses n c i).1 l j in omega arith;
+          low = λ l j. let b : l < size = (kernel.sound.clauses n c i).1 l j in omega arith;
         };
-        up = ascending_filter (λ m. ltb n m) (conflicts_of R n) (kernel.conflicts.ascending n);
+        up = ascending_filter (λ m. ltb n m) (conflicts_of R n) (kernel.sound.conflicts.ascending n);
         conflicts = λ m i.
             let w : In m (conflicts_of R n) × (ltb n m ≡ true) = filter_cases (λ m. ltb n m) (conflicts_of R n) m i in
             let b : m < size = conflict_low n m w.0 in
@@ -85,20 +85,20 @@ module _ (R : Repository) (members : List Member) (kernel : IsWritable R members
   entry_low entry i l j =
       let w : (n : ℕ) × In n (numbers size 0) × In entry (clause_entries R n) = in_flat_cases (clause_entries R) (numbers size 0) entry i in
       let v : (c : List ℕ) × In c (clauses_of R w.0) × (entry ≡ clause_entry w.0 c) = In_map_cases (clause_entry w.0) (clauses_of R w.0) entry w.2 in
-      (kernel.clauses w.0 v.0 v.1).1 l (subst (λ (x : ClassClause). In l x.clause) v.2 j)
+      (kernel.sound.clauses w.0 v.0 v.1).1 l (subst (λ (x : ClassClause). In l x.clause) v.2 j)
 
   repository_is : R ≡ repository_of_reading reading
   unfolding repository_of_reading
   repository_is =
       let made : List (List (List ℕ)) → List (List ℕ) → Repository = λ cs xs. record { clauses = cs; conflicts = xs } in
-      ap₂ made (clauses_retold R) (conflicts_retold R size kernel.conflict_lists kernel.conflicts conflict_low)
+      ap₂ made (clauses_retold R) (conflicts_retold R size kernel.sound.count kernel.sound.conflicts conflict_low)
 
   pub printed_reads : KernelReads (kernel_text R members) R members
   printed_reads = record {
     reading = reading;
     given = text_reading;
     ended = refl;
-    in_range = record { clauses = entry_low; conflicts = high_low R size kernel.conflict_lists kernel.conflicts conflict_low };
+    in_range = record { clauses = entry_low; conflicts = high_low R size kernel.sound.count kernel.sound.conflicts conflict_low };
     repository = repository_is;
     member_list = refl;
   }

@@ -123,8 +123,10 @@ module _ (bs : List Block) (fit : FitBlocks 0 bs) (populated : ArePopulated bs) 
     named = named_in 0 bs fit;
     single = single;
     order = order;
-    clauses = sound;
     apart = λ n c i. (of_class n c i).apart;
-    conflict_lists = length_pairs (reading_of_blocks bs).conflicts size ∙ sym size_of;
-    conflicts = pairs_conflict (reading_of_blocks bs).conflicts size (record { ordered = rising 0 bs fit; below = range.conflicts });
+    sound = record {
+      clauses = sound;
+      count = length_pairs (reading_of_blocks bs).conflicts size ∙ sym size_of;
+      conflicts = pairs_conflict (reading_of_blocks bs).conflicts size (record { ordered = rising 0 bs fit; below = range.conflicts });
+    };
   }

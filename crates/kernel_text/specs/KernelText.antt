@@ -2,11 +2,10 @@
 -- and the conflicting classes with greater numbers; and the end line, with the numbers of classes and members.
 use Rattle.std.specs.Prelude.{◌≡◌, ℕ, ◌<◌, false, eqb, ltb, List, [], ◌∷◌, ◌++◌, length, map, filter}
 use Rattle.std.specs.List.{flat_map}
-use Rattle.row_book.specs.Book.{AreConflicts}
 use Rattle.row_book.specs.Clauses.{InOrder, numbers}
 use Rattle.row_book.specs.Repository.{Repository, clauses_of, conflicts_of}
 use Rattle.row_book.specs.Sets.{In}
-use Rattle.row_book.specs.Sound.{SoundClauses}
+use Rattle.row_book.specs.Sound.{SoundRepository}
 use Rattle.kernel_text.specs.declared.member.Member.{Member}
 use Rattle.kernel_text.specs.KernelLines.{KernelLine, HeadLine, ClassLine, MemberLine, NeedsLine, AgainstLine, EndLine, line_text}
 use Rattle.kernel_text.specs.Reading.{number_limit, is_same_member, IsNamed}
@@ -41,7 +40,7 @@ AreSingle (m ∷ ms) = ((o : Member) → In o ms → is_same_member o m ≡ fals
 
 -- A kernel with its members, as the format can write it: fewer than 4,294,967,295 classes and members; the members in
 -- the order of their classes, one at least in each class, each with a package name and a version, no package twice; the
--- clauses of a class in order, each an ascending list of classes without its own; and conflicts between classes.
+-- clauses of a class in order, and none of them holds the class; and the repository of the classes is sound.
 pub record IsWritable (R : Repository) (members : List Member) : Type 0 where
   pub few_classes : length R.clauses < number_limit
   pub few_members : length members < number_limit
@@ -50,7 +49,5 @@ pub record IsWritable (R : Repository) (members : List Member) : Type 0 where
   pub named : (m : Member) → In m members → IsNamed m.name m.version
   pub single : AreSingle members
   pub order : (n : ℕ) → InOrder (clauses_of R n)
-  pub clauses : SoundClauses R
   pub apart : (n : ℕ) (c : List ℕ) → In c (clauses_of R n) → In n c → ⊥
-  pub conflict_lists : length R.conflicts ≡ length R.clauses
-  pub conflicts : AreConflicts R.conflicts
+  pub sound : SoundRepository R

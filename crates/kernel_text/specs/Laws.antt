@@ -2,11 +2,10 @@
 use Rattle.std.specs.Prelude.{◌≡◌, ℕ, ◌<◌, ◌↔◌, List, length}
 use Rattle.relation_fields.specs.declared.packages.PackageFacts.{PackageFacts}
 use Rattle.repo_model.proofs.Accepted.{Accepted}
-use Rattle.row_book.specs.Book.{AreConflicts}
 use Rattle.row_book.specs.Clauses.{InOrder}
 use Rattle.row_book.specs.Repository.{Repository, clauses_of}
 use Rattle.row_book.specs.Sets.{In}
-use Rattle.row_book.specs.Sound.{SoundClauses}
+use Rattle.row_book.specs.Sound.{SoundRepository}
 use Rattle.kernel_text.specs.declared.member.Member.{Member}
 use Rattle.kernel_text.specs.KernelReads.{HasOneReading, KernelReads}
 use Rattle.kernel_text.specs.KernelText.{IsWritable, kernel_text}
@@ -25,9 +24,7 @@ ReadIsWritten = (text : List ℕ) (R : Repository) (members : List Member) →
 -- R is sound, the clauses of a class are in order and do not hold the class; the packages are those of an index without a
 -- fault; each of them is in one of the classes, and each class has one
 pub record IsKernelOf (R : Repository) (packages : List PackageFacts) (class_of : List ℕ) : Type 0 where
-  pub clauses : SoundClauses R
-  pub conflict_lists : length R.conflicts ≡ length R.clauses
-  pub conflicts : AreConflicts R.conflicts
+  pub sound : SoundRepository R
   pub order : (n : ℕ) → InOrder (clauses_of R n)
   pub apart : (n : ℕ) (c : List ℕ) → In c (clauses_of R n) → In n c → ⊥
   pub few_classes : length R.clauses < number_limit

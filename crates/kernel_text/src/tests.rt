@@ -93,12 +93,12 @@ fn text_of_row(
     let suite = suite_of(alloc, packages)?;
     let mut pool = Pool::new(alloc)?;
     let book = suite_of(alloc, classes)?.book(alloc, &mut pool)?;
-    let class_of = numbers(alloc, digits)?;
-    let steps = StepList::new(alloc);
     let kernel = Kernel {
         book,
-        class_of,
-        trail: Trail { steps },
+        class_of: numbers(alloc, digits)?,
+        trail: Trail {
+            steps: StepList::new(alloc),
+        },
     };
     Ok(text_of(alloc, &pool, &suite, &kernel)?)
 }

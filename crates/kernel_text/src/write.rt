@@ -19,8 +19,8 @@ use repo_model::Suite;
 use row_book::Book;
 use std::alloc::{AllocError, Global};
 
-/// The text of a kernel in which each package of the suite is a member of its class, in file order; it fails only where no
-/// memory is found. Time is linear in the packages, the classes and the text.
+/// The text of a kernel of the suite's book, in which each package of the suite is a member of its class, in file order; it
+/// fails only where no memory is found. Time is linear in the packages, the classes and the text.
 pub fn write_kernel(
     alloc: Global,
     pool: &Pool,
@@ -36,7 +36,7 @@ pub fn write_kernel(
     write_classes(alloc, pool, suite, &kernel.book, &kernel.class_of)
 }
 
-// The text of a book in which each package of the suite is a member of its class.
+// The text of the classes of a book, with the packages of each.
 fn write_classes(
     alloc: Global,
     pool: &Pool,

@@ -1,11 +1,11 @@
 -- Families in order, looked at by how their clauses begin.
-use Rattle.std.proofs.Common.{◌≡◌, ◌≢◌, ℕ, zero, suc, ◌<◌, ◌≤◌, ◌+◌, ◌-◌, Bool, true, false, not, ◌&&◌, ◌||◌, eqb, ltb, List, [], ◌∷◌, ◌⊎◌, inl, inr, refl, sym, ◌∙◌, ap, ap₂, subst, length, get_or, drop, arith, lt-ltb, eq-eqb, eqb-true, ne_eqb}
+use Rattle.std.proofs.Common.{◌≡◌, ◌≢◌, ℕ, zero, suc, ◌<◌, ◌≤◌, ◌+◌, ◌-◌, Bool, true, false, not, ◌&&◌, eqb, ltb, List, [], ◌∷◌, inl, inr, refl, sym, ◌∙◌, ap, subst, length, get_or, drop, arith, lt-ltb, eq-eqb, ne_eqb}
 use Rattle.std.specs.List.{list_any}
 use Rattle.std.specs.List.Sorted.{IsNonDecreasing, IsPartitionedBy}
 use Rattle.std.proofs.lemmas.Bool.{and_from, and_parts, both_ways, cases_eq, cases_lt, eqb-false, false_from_ne_true, false≢true, le-ltb, ltb-false, ltb-true, not_from_false, or_from, or_left}
 use Rattle.std.proofs.lemmas.List.{get_or-drop}
 use Rattle.clause_pool.proofs.Lists.{In_at, In_place}
-use Rattle.row_book.specs.Sets.{In, has, here}
+use Rattle.row_book.specs.Sets.{In, here}
 use Rattle.row_book.specs.Clauses.{Ascending, Before, InOrder, is_inside}
 use Rattle.row_book.proofs.Lists.{In_cases, In_none, any_cases, any_from}
 use Rattle.row_book.proofs.Clauses.{inside_at}

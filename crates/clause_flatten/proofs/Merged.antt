@@ -1,9 +1,8 @@
 -- The union of two ascending clauses by merging.
-use Rattle.std.proofs.Common.{◌≡◌, ◌≢◌, ℕ, zero, suc, ◌<◌, ◌≤◌, ◌+◌, ◌-◌, true, false, not, eqb, cond, List, [], ◌∷◌, ◌++◌, ◌⊎◌, inl, inr, refl, sym, ◌∙◌, ap, ap₂, subst, length, get_or, take, drop, filter, arith, add-one, append_assoc, append-nil, eq-eqb, ne_eqb, length-drop, drop-cons}
+use Rattle.std.proofs.Common.{◌≡◌, ◌≢◌, ℕ, zero, suc, ◌<◌, ◌≤◌, ◌+◌, ◌-◌, not, eqb, cond, List, [], ◌∷◌, ◌++◌, ◌⊎◌, inl, inr, sym, ◌∙◌, ap, ap₂, subst, length, get_or, take, drop, arith, add-one, append_assoc, append-nil, eq-eqb, ne_eqb, length-drop, drop-cons}
 use Rattle.std.proofs.lemmas.List.{drop_all, take_all}
-use Rattle.row_book.specs.Sets.{In, here, there}
 use Rattle.row_book.specs.Clauses.{Ascending}
-use Rattle.row_book.proofs.Lists.{In_cases, In_none, ascending_filter, ascending_same, filter_cases}
+use Rattle.row_book.proofs.Lists.{In_none, ascending_filter, ascending_same, filter_cases}
 use Rattle.clause_flatten.specs.Substitution.{dropped, joined}
 use Rattle.clause_flatten.specs.FlatLaws.{Merges}
 use Rattle.clause_flatten.proofs.Shortcuts.{union_merges_lem}

@@ -1,19 +1,18 @@
 -- A row in which unions stand for the clauses that hold a package.
-use Rattle.std.proofs.Common.{◌≡◌, ℕ, ◌<◌, ◌+◌, Bool, true, false, not, ◌&&◌, ◌||◌, List, [], ◌∷◌, ◌++◌, ◌⊎◌, inl, inr, refl, sym, ◌∙◌, ap, ap₂, subst, length, take, filter}
+use Rattle.std.proofs.Common.{◌≡◌, ℕ, ◌<◌, ◌+◌, true, false, not, ◌&&◌, ◌||◌, List, [], ◌∷◌, ◌++◌, ◌⊎◌, inl, inr, refl, sym, ◌∙◌, ap, ap₂, subst, length, take, filter}
 use Rattle.std.specs.List.{list_all}
 use Rattle.std.proofs.lemmas.Bool.{and_from, and_parts, both_ways, false_from_ne_true, not-true, not_from_false}
-use Rattle.std.proofs.lemmas.List.{take_more}
 use Rattle.clause_pool.specs.Interned.{Interned, IsIdOf, IsPool, Kept, OfPool, clause_at, clauses_at, ids_at, row_at}
 use Rattle.row_book.specs.Sets.{In, has, here}
 use Rattle.row_book.specs.Clauses.{Ascending, InOrder, Inside, apart_from, is_inside, minimal_of, ordered}
 use Rattle.row_book.proofs.Books.{row_ascending}
-use Rattle.row_book.proofs.Lists.{In_append_cases, In_append_left, In_append_right, In_cases, In_has, In_map, In_map_cases, In_none, filter_cases, filter_from, has_not}
-use Rattle.row_book.proofs.Clauses.{apart_cases, apart_in, minimal_of_from, minimal_of_parts}
+use Rattle.row_book.proofs.Lists.{In_append_cases, In_append_left, In_append_right, In_cases, In_map, In_map_cases, In_none, filter_cases, filter_from, has_not}
+use Rattle.row_book.proofs.Clauses.{apart_cases, minimal_of_from, minimal_of_parts}
 use Rattle.row_book.proofs.Order.{order_filter, order_same, ordered_has, ordered_order, ordered_parts}
 use Rattle.clause_flatten.specs.Inclusion.{has_shorter}
 use Rattle.clause_flatten.specs.TidyRows.{stays}
 use Rattle.clause_flatten.specs.Families.{HasGained, HasUnions, IsShortest, SameClauses, all_unions}
-use Rattle.clause_flatten.proofs.Families.{At, kept_of_pool, kept_same, not_shorter, some_shorter, taken_at}
+use Rattle.clause_flatten.proofs.Families.{At, kept_same, not_shorter, some_shorter, taken_at}
 use Rattle.clause_flatten.proofs.Rewritten.{unions_up}
 
 -- no union was looked at yet

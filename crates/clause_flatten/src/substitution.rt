@@ -64,8 +64,9 @@ pub(crate) fn eliminate_for(
 {
     // What holds of every pool is told by this call alone.
     pool.clause_count();
-    for user in users {
-        replace_row(alloc, pool, rows, uses, *user, gone)?;
+    // The last user comes first: what each leaves in the table then stands at the ends of its lists.
+    for place in (0..users.len()).rev() {
+        replace_row(alloc, pool, rows, uses, users[place], gone)?;
     }
     Ok(())
 }

@@ -1,5 +1,5 @@
 -- The parts of the row as the calls lend and make them.
-use Rattle.std.proofs.Common.{◌≡◌, ap, ◌++◌, ◌∙◌, sym, subst, filter, List, ℕ}
+use Rattle.std.proofs.Common.{◌≡◌, ap, ◌++◌, ◌∙◌, sym, subst, filter}
 use Rattle.std.proofs.lemmas.Result.{IfOk-weaker}
 use Rattle.clause_pool.specs.Interned.{IsIdOf, OfPool, clauses_at, row_at}
 use Rattle.row_book.specs.Clauses.{apart_from, minimal_of, ordered, InOrder}

@@ -1,4 +1,4 @@
-use Rattle.std.proofs.Common.{ap, ◌∙◌, ◌+◌, ◌∷◌, [], sym, subst, refl, take, List, ℕ}
+use Rattle.std.proofs.Common.{ap, ◌∙◌, ◌+◌, sym, subst, refl, take, List, ℕ}
 use Rattle.clause_pool.specs.Interned.{Interned, IsIdOf, Kept, OfPool, clauses_at}
 use Rattle.row_book.specs.Clauses.{Ascending, InOrder}
 use Rattle.row_book.proofs.Lists.{item_in}

@@ -1,4 +1,4 @@
-use Rattle.std.proofs.Common.{◌≡◌, ◌<◌, ◌+◌, ◌-◌, ◌/◌, ◌∙◌, true, false, ap, sym, arith, get_or, length, ℕ}
+use Rattle.std.proofs.Common.{◌≡◌, ◌+◌, ◌-◌, ◌/◌, ◌∙◌, ap, sym, arith, get_or, ℕ}
 use Rattle.std.proofs.lemmas.List.{get_or_read}
 use Rattle.clause_pool.specs.Interned.{clause_at}
 use Rattle.row_book.specs.Clauses.{comes_before}

@@ -1,4 +1,4 @@
-use Rattle.std.proofs.Common.{◌≡◌, ◌∙◌, ◌&&◌, sym, ap, not, false, get_or, ℕ, below_more, arith, subst}
+use Rattle.std.proofs.Common.{◌≡◌, ◌∙◌, ◌&&◌, sym, ap, not, false, get_or, below_more, arith}
 use Rattle.std.specs.List.{list_any}
 use Rattle.clause_flatten.specs.Inclusion.{begins_with, is_strictly_inside}
 use Rattle.clause_flatten.proofs.Beginnings.{empty_shorter, none_shorter, one_shorter}

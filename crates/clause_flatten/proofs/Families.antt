@@ -33,11 +33,11 @@ item_nil [] i x l e = absurd (omega arith)
 item_nil (y ∷ ys) zero x l e = sym e
 item_nil (y ∷ ys) (suc i) x l e = item_nil ys i x (omega arith) e
 
-clauses_length : (pool : Interned) (ids : List ℕ) → length (clauses_at pool ids) ≡ length ids
+pub clauses_length : (pool : Interned) (ids : List ℕ) → length (clauses_at pool ids) ≡ length ids
 clauses_length pool [] = refl
 clauses_length pool (id ∷ ids) = ap suc (clauses_length pool ids)
 
-clauses_item : (pool : Interned) (ids : List ℕ) (i : ℕ) → i < length ids → get_or (clauses_at pool ids) i [] ≡ clause_at pool (get_or ids i 0)
+pub clauses_item : (pool : Interned) (ids : List ℕ) (i : ℕ) → i < length ids → get_or (clauses_at pool ids) i [] ≡ clause_at pool (get_or ids i 0)
 clauses_item pool [] i l = absurd (omega arith)
 clauses_item pool (id ∷ ids) zero l = refl
 clauses_item pool (id ∷ ids) (suc i) l = clauses_item pool ids i (omega arith)
@@ -56,8 +56,8 @@ at_clause pool ids i id clause l e f = record {
 pub at_item : (xs : List (List ℕ)) (i : ℕ) (x clause : List ℕ) → i < length xs → x ≡ get_or xs i x → clause ≡ x → At xs i clause
 at_item xs i x clause l e f = record { below = l; is = item_nil xs i x l e ∙ sym f }
 
-take_at : (xs : List (List ℕ)) (i : ℕ) (clause : List ℕ) → At xs i clause → take (i + 1) xs ≡ take i xs ++ clause ∷ []
-take_at xs i clause a = take_more xs i [] a.below ∙ ap (λ z. take i xs ++ z ∷ []) a.is
+pub taken_at : (xs : List (List ℕ)) (i : ℕ) (clause : List ℕ) → At xs i clause → take (i + 1) xs ≡ take i xs ++ clause ∷ []
+taken_at xs i clause a = take_more xs i [] a.below ∙ ap (λ z. take i xs ++ z ∷ []) a.is
 
 pub filter_kept : (p : List ℕ → Bool) (xs : List (List ℕ)) (i : ℕ) (clause : List ℕ) → At xs i clause → p clause ≡ true → filter p (take (i + 1) xs) ≡ filter p (take i xs) ++ clause ∷ []
 filter_kept p xs i clause a h =
@@ -73,11 +73,11 @@ filter_left p xs i clause a h =
     ∙ append-nil (filter p (take i xs))
 
 pub map_at : (f : List ℕ → List ℕ) (xs : List (List ℕ)) (i : ℕ) (clause : List ℕ) → At xs i clause → map f (take (i + 1) xs) ≡ map f (take i xs) ++ f clause ∷ []
-map_at f xs i clause a = ap (map f) (take_at xs i clause a) ∙ map-append f (take i xs) (clause ∷ [])
+map_at f xs i clause a = ap (map f) (taken_at xs i clause a) ∙ map-append f (take i xs) (clause ∷ [])
 
 pub flat_at : (f : List ℕ → List (List ℕ)) (xs : List (List ℕ)) (i : ℕ) (clause : List ℕ) → At xs i clause → flat_map f (take (i + 1) xs) ≡ flat_map f (take i xs) ++ f clause
 flat_at f xs i clause a =
-    ap (flat_map f) (take_at xs i clause a) ∙ flat_map-append f (take i xs) (clause ∷ []) ∙ ap (λ z. flat_map f (take i xs) ++ z) (append-nil (f clause))
+    ap (flat_map f) (taken_at xs i clause a) ∙ flat_map-append f (take i xs) (clause ∷ []) ∙ ap (λ z. flat_map f (take i xs) ++ z) (append-nil (f clause))
 
 pub filter_push : (p : List ℕ → Bool) (xs : List (List ℕ)) (i : ℕ) (clause x : List ℕ) (old new : List (List ℕ)) → At xs i clause → p clause ≡ true → old ≡ filter p (take i xs) → x ≡ clause →
     new ≡ old ++ x ∷ [] → new ≡ filter p (take (i + 1) xs)
@@ -258,21 +258,21 @@ inside_same (s ∷ ss) (t ∷ ts) a b f l n i =
     ]
 
 module _ (family : List (List ℕ)) (up : (c : List ℕ) → In c family → Ascending c) where
-  not_shorter : (T : List ℕ) → In T family → has_shorter family T ≡ false → (S : List ℕ) → In S family → Inside S T → Inside T S
+  pub not_shorter : (T : List ℕ) → Ascending T → has_shorter family T ≡ false → (S : List ℕ) → In S family → Inside S T → Inside T S
   not_shorter T t h S s f =
       elim (cases_lt (length S) (length T)) [
         | inl l ↦
             absurd (both_ways (has_shorter family T) h
             (any_from (λ other. ltb (length other) (length T) && is_inside other T) family S s (and_from (ltb (length S) (length T)) (is_inside S T) (lt-ltb (length S) (length T) l) (inside_from S T f))))
-        | inr m ↦ inside_same S T (up S s) (up T t) f (omega arith)
+        | inr m ↦ inside_same S T (up S s) t f (omega arith)
       ]
 
-  some_shorter : (T : List ℕ) → In T family → has_shorter family T ≡ true → ((S : List ℕ) → In S family → Inside S T → Inside T S) → ⊥
+  pub some_shorter : (T : List ℕ) → Ascending T → has_shorter family T ≡ true → ((S : List ℕ) → In S family → Inside S T → Inside T S) → ⊥
   some_shorter T t h f =
       let w : (S : List ℕ) × In S family × ((ltb (length S) (length T) && is_inside S T) ≡ true) = any_cases (λ other. ltb (length other) (length T) && is_inside other T) family h in
       let b : (ltb (length w.0) (length T) ≡ true) × (is_inside w.0 T ≡ true) = and_parts (ltb (length w.0) (length T)) (is_inside w.0 T) w.2 in
       let l : length w.0 < length T = ltb-true (length w.0) (length T) b.0 in
-      let m : length T ≤ length w.0 = inside_length T w.0 (up T t) (up w.0 w.1) (f w.0 w.1 (inside_at w.0 T b.1)) in
+      let m : length T ≤ length w.0 = inside_length T w.0 t (up w.0 w.1) (f w.0 w.1 (inside_at w.0 T b.1)) in
       omega arith
 
   lowest : List ℕ → Bool
@@ -284,10 +284,10 @@ module _ (family : List (List ℕ)) (up : (c : List ℕ) → In c family → Asc
       elim (cases_Bool (has_shorter family T)) [
         | inl h ↦
             not_from_true (has_shorter family T) h
-            ∙ sym (false_from_ne_true (lowest T) (λ k. some_shorter T t h (minimal_of_parts family T (filter_from lowest family T t k)).1))
+            ∙ sym (false_from_ne_true (lowest T) (λ k. some_shorter T (up T t) h (minimal_of_parts family T (filter_from lowest family T t k)).1))
         | inr h ↦
             not_from_false (has_shorter family T) h
-            ∙ sym (filter_cases lowest family T (minimal_of_from family T t (not_shorter T t h))).1
+            ∙ sym (filter_cases lowest family T (minimal_of_from family T t (not_shorter T (up T t) h))).1
       ]
 
   pub lowest_minimal : filter (λ clause. not (has_shorter family clause)) family ≡ minimal_of family

@@ -13,6 +13,10 @@ pub mod Stages
 pub mod Shortcuts
 pub mod Members
 pub mod Families
+pub mod Beginnings
+pub mod Gainings
+pub mod Merged
+pub mod UnionRows
 pub mod Rewritten
 pub mod Replacing
 pub mod Midway

@@ -52,7 +52,7 @@ sorted_union xs ys sorted made up moved order once =
     contains_in (dedup eqb sorted) n (Contains-dedup_nat sorted n (Contains-permutation (ys ++ xs) sorted n moved (in_contains (ys ++ xs) n k))))
 
 -- a family sorted, each clause once
-before_less : (c d : List ℕ) → slice_cmp nat_cmp c d ≡ Less → Before c d
+pub before_less : (c d : List ℕ) → slice_cmp nat_cmp c d ≡ Less → Before c d
 before_less [] [] e = absurd (let f : ⊥ = cc in f)
 before_less [] (y ∷ ys) e = tt
 before_less (x ∷ xs) [] e = absurd (let f : ⊥ = cc in f)

@@ -1,18 +1,18 @@
 -- The rows in the middle of an elimination: those of some users are replaced.
-use Rattle.std.proofs.Common.{◌≡◌, ◌≢◌, ℕ, ◌<◌, ◌+◌, List, [], ◌∷◌, ◌++◌, length, get_or, take, map, ◌⊎◌, inl, inr, refl, sym, ◌∙◌, ap, ap₂, subst}
+use Rattle.std.proofs.Common.{◌≡◌, ◌≢◌, ℕ, ◌<◌, ◌+◌, List, [], ◌∷◌, length, get_or, drop, drop-cons, add-one, map, ◌⊎◌, inl, inr, refl, sym, ◌∙◌, ap, ap₂, subst}
 use Rattle.std.proofs.lemmas.Bool.{cases_eq}
-use Rattle.std.proofs.lemmas.List.{take_more}
 use Rattle.clause_pool.specs.Interned.{Interned, IsPool, Kept, row_at}
 use Rattle.clause_pool.proofs.Lists.{In_at}
-use Rattle.row_book.specs.Sets.{In, here}
+use Rattle.row_book.specs.Sets.{In, here, there}
 use Rattle.row_book.specs.Clauses.{Ascending, ordered}
 use Rattle.row_book.specs.Book.{RowsFit, RowsTidy}
 use Rattle.row_book.specs.Uses.{row_id, users_of, uses_of}
 use Rattle.row_book.proofs.Books.{row_kept}
-use Rattle.row_book.proofs.Lists.{In_append_cases, In_append_left, In_append_right, In_cases, In_none, decided_in, in_take}
+use Rattle.row_book.proofs.Lists.{In_cases, In_none, decided_in}
+use Rattle.row_book.proofs.Inserts.{In_drop}
 use Rattle.clause_flatten.specs.Substitution.{eliminated, substituted, table_row}
 use Rattle.clause_flatten.proofs.Families.{kept_trans}
-use Rattle.clause_flatten.proofs.Replacing.{id_in, not_before, not_user, other_eliminated, own_eliminated, own_user, table_same, tidy_untouched, user_in, users_up}
+use Rattle.clause_flatten.proofs.Replacing.{id_in, not_behind, not_user, other_eliminated, own_eliminated, own_user, table_same, tidy_untouched, user_in, users_up}
 
 pub record Midway (start : Interned) (first : List ℕ) (q : ℕ) (pool : Interned) (rows : List ℕ) (uses : List (List ℕ)) (done : List ℕ) : Type 0 where
   pub size : length rows ≡ length first
@@ -22,6 +22,19 @@ pub record Midway (start : Interned) (first : List ℕ) (q : ℕ) (pool : Intern
   pub table : uses ≡ uses_of pool rows
   pub changed : (p : ℕ) → In p done → row_at pool (row_id rows p) ≡ ordered (substituted p q (row_at start (row_id first p)) (row_at start (row_id first q)))
   pub same : (p : ℕ) → (In p done → ⊥) → row_id rows p ≡ row_id first p
+
+-- no user is done yet
+pub midway_none : (start : Interned) (first : List ℕ) (q : ℕ) (uses : List (List ℕ)) (done : List ℕ) → done ≡ [] → RowsFit start first → RowsTidy start first → uses ≡ uses_of start first →
+    Midway start first q start first uses done
+midway_none start first q uses done none fit tidy table = record {
+  size = refl;
+  kept = record { clauses = λ id l. (l, refl); rows = λ id l. (l, refl) };
+  fit = fit;
+  tidy = tidy;
+  table = table;
+  changed = λ p i. absurd (In_none (subst (λ z. In p z) none i));
+  same = λ p f. refl;
+}
 
 -- what the replacing of one row keeps, whether it is refused or not
 pub record Around (pool : Interned) (rows : List ℕ) (user : ℕ) (next : Interned) (after : List ℕ) (uses : List (List ℕ)) : Type 0 where
@@ -41,21 +54,22 @@ module _ (start : Interned) (first : List ℕ) (q : ℕ) (is : IsPool start) (fi
   not_own : (p : ℕ) → In p users → p ≢ q
   not_own p i e = own_user start first q tidy q_in (subst (λ z. In z (users_of start first q)) e (subst (λ z. In p z) users_is i))
 
-  fresh : (i : ℕ) → i < length users → In (get_or users i 0) (take i users) → ⊥
-  fresh i l = not_before users i (subst (λ z. Ascending z) (sym users_is) (users_up start first q)) l
+  -- a user stands once
+  fresh : (i : ℕ) → i < length users → In (get_or users i 0) (drop (i + 1) users) → ⊥
+  fresh i l = not_behind users i (subst (λ z. Ascending z) (sym users_is) (users_up start first q)) l
 
   -- a row that is not done reads as it did at the start
   reads : (pool : Interned) (rows : List ℕ) (uses : List (List ℕ)) (done : List ℕ) → Midway start first q pool rows uses done → (p : ℕ) → p < length first → (In p done → ⊥) →
       row_at pool (row_id rows p) ≡ row_at start (row_id first p)
   reads pool rows uses done m p l f = ap (row_at pool) (m.same p f) ∙ row_kept start pool is m.kept (row_id first p) (fit.of_pool (row_id first p) (id_in first p l))
 
-  module _ (i : ℕ) (l : i < length users) (pool : Interned) (rows : List ℕ) (uses : List (List ℕ)) (m : Midway start first q pool rows uses (take i users))
+  module _ (i : ℕ) (l : i < length users) (pool : Interned) (rows : List ℕ) (uses : List (List ℕ)) (m : Midway start first q pool rows uses (drop (i + 1) users))
       (next : Interned) (after : List ℕ) (more : List (List ℕ)) (a : Around pool rows (get_or users i 0) next after more) where
-    still_changed : (p : ℕ) → In p (take i users) → row_at next (row_id after p) ≡ ordered (substituted p q (row_at start (row_id first p)) (row_at start (row_id first q)))
+    still_changed : (p : ℕ) → In p (drop (i + 1) users) → row_at next (row_id after p) ≡ ordered (substituted p q (row_at start (row_id first p)) (row_at start (row_id first q)))
     still_changed p j =
-        a.stay p (subst (λ z. p < z) (sym m.size) (below p (in_take users i p j))) (λ e. fresh i l (subst (λ z. In z (take i users)) e j)) ∙ m.changed p j
+        a.stay p (subst (λ z. p < z) (sym m.size) (below p (In_drop (i + 1) users p j))) (λ e. fresh i l (subst (λ z. In z (drop (i + 1) users)) e j)) ∙ m.changed p j
 
-    pub midway_refused : after ≡ rows → Midway start first q next after more (take i users)
+    pub midway_refused : after ≡ rows → Midway start first q next after more (drop (i + 1) users)
     midway_refused e = record {
       size = a.size ∙ m.size;
       kept = kept_trans start pool next m.kept a.kept;
@@ -67,10 +81,10 @@ module _ (start : Interned) (first : List ℕ) (q : ℕ) (is : IsPool start) (fi
     }
 
     pub midway_step : row_at next (row_id after (get_or users i 0)) ≡ ordered (substituted (get_or users i 0) q (row_at pool (row_id rows (get_or users i 0))) (row_at pool (row_id rows q))) →
-        Midway start first q next after more (take (i + 1) users)
+        Midway start first q next after more (drop i users)
     midway_step made =
         let user : ℕ = get_or users i 0 in
-        let grown : take (i + 1) users ≡ take i users ++ user ∷ [] = take_more users i 0 l in
+        let grown : drop i users ≡ user ∷ drop (i + 1) users = drop-cons users i 0 l ∙ ap (λ n. user ∷ drop n users) (sym (add-one i)) in
         let user_there : In user users = In_at users i 0 l in
         record {
           size = a.size ∙ m.size;
@@ -78,31 +92,28 @@ module _ (start : Interned) (first : List ℕ) (q : ℕ) (is : IsPool start) (fi
           fit = a.fit;
           tidy = a.tidy;
           table = a.table;
-          changed = λ p j. elim (In_append_cases (take i users) (user ∷ []) p (subst (λ z. In p z) grown j)) [
-            | inl k ↦ still_changed p k
-            | inr k ↦ elim (In_cases k) [
-              | inl e ↦
+          changed = λ p j. elim (In_cases (subst (λ z. In p z) grown j)) [
+            | inr k ↦ still_changed p k
+            | inl e ↦
                   subst (λ z. row_at next (row_id after z) ≡ ordered (substituted z q (row_at start (row_id first z)) (row_at start (row_id first q)))) (sym e)
-                  (made ∙ ap₂ (λ x y. ordered (substituted user q x y)) (reads pool rows uses (take i users) m user (below user user_there) (fresh i l))
-                  (reads pool rows uses (take i users) m q q_in (λ o. not_own q (in_take users i q o) refl)))
-              | inr o ↦ absurd (In_none o)
-            ]
+                  (made ∙ ap₂ (λ x y. ordered (substituted user q x y)) (reads pool rows uses (drop (i + 1) users) m user (below user user_there) (fresh i l))
+                  (reads pool rows uses (drop (i + 1) users) m q q_in (λ o. not_own q (In_drop (i + 1) users q o) refl)))
           ];
           same = λ p f.
-              a.others p (λ e. f (subst (λ z. In p z) (sym grown) (In_append_right (take i users) (user ∷ []) p (subst (λ z. In p (z ∷ [])) e here))))
-              ∙ m.same p (λ o. f (subst (λ z. In p z) (sym grown) (In_append_left (take i users) (user ∷ []) p o)));
+              a.others p (λ e. f (subst (λ z. In p z) (sym grown) (subst (λ z. In p (z ∷ drop (i + 1) users)) e here)))
+              ∙ m.same p (λ o. f (subst (λ z. In p z) (sym grown) (there o)));
         }
 
   module _ (pool : Interned) (rows : List ℕ) (uses : List (List ℕ)) where
-    pub each_row : (i : ℕ) → Midway start first q pool rows uses (take i users) → (p : ℕ) → p < length first →
+    pub each_row : (i : ℕ) → Midway start first q pool rows uses (drop i users) → (p : ℕ) → p < length first →
         (row_id rows p ≡ row_id first p) ⊎ (row_at pool (row_id rows p) ≡ table_row (eliminated q (map (row_at start) first)) p)
     each_row i m p l =
-        elim (decided_in p (take i users)) [
-          | inl j ↦ inr (m.changed p j ∙ sym (other_eliminated start first q q_in p l (not_own p (in_take users i p j))))
+        elim (decided_in p (drop i users)) [
+          | inl j ↦ inr (m.changed p j ∙ sym (other_eliminated start first q q_in p l (not_own p (In_drop i users p j))))
           | inr f ↦ inl (m.same p f)
         ]
 
-    pub all_rows : (i : ℕ) → take i users ≡ users → Midway start first q pool rows uses (take i users) → map (row_at pool) rows ≡ eliminated q (map (row_at start) first)
+    pub all_rows : (i : ℕ) → drop i users ≡ users → Midway start first q pool rows uses (drop i users) → map (row_at pool) rows ≡ eliminated q (map (row_at start) first)
     all_rows i all half =
         let m : Midway start first q pool rows uses users = subst (λ z. Midway start first q pool rows uses z) all half in
         table_same start first q q_in pool rows m.size (λ p l.

@@ -1,5 +1,5 @@
 -- Rows of a pool of which one after another is replaced, and what a package's elimination comes to.
-use Rattle.std.proofs.Common.{◌≡◌, ◌≢◌, ℕ, zero, suc, ◌<◌, ◌≤◌, ◌+◌, true, eqb, cond, List, [], ◌∷◌, length, get_or, take, map, slice_set, ◌⊎◌, inl, inr, refl, sym, ◌∙◌, ap, ap₂, subst, arith, eq-eqb, ne_eqb}
+use Rattle.std.proofs.Common.{◌≡◌, ◌≢◌, ℕ, zero, suc, ◌<◌, ◌≤◌, ◌+◌, true, eqb, cond, List, [], ◌∷◌, length, get_or, drop, map, slice_set, ◌⊎◌, inl, inr, refl, sym, ◌∙◌, ap, ap₂, subst, arith, eq-eqb, ne_eqb}
 use Rattle.std.specs.List.{list_any}
 use Rattle.std.proofs.lemmas.Bool.{cases_eq, cond-true, cond-false}
 use Rattle.std.proofs.lemmas.List.{get_or-set_same, get_or-set_other, get_or-map, length-set, length-map}
@@ -181,14 +181,12 @@ numbers_up (suc n) k = ((λ m i. let w : (suc k ≤ m) × (m < suc k + n) = numb
 pub users_up : (pool : Interned) (rows : List ℕ) (n : ℕ) → Ascending (users_of pool rows n)
 users_up pool rows n = ascending_filter (λ p. row_holds pool (row_id rows p) n) (numbers (length rows) 0) (numbers_up (length rows) 0)
 
-pub not_before : (xs : List ℕ) (i : ℕ) → Ascending xs → i < length xs → In (get_or xs i 0) (take i xs) → ⊥
-not_before [] i a l j = absurd (omega arith)
-not_before (x ∷ xs) zero a l j = In_none j
-not_before (x ∷ xs) (suc i) a l j =
-    elim (In_cases j) [
-      | inl e ↦ let k : i < length xs = omega arith in let m : x < get_or xs i 0 = a.0 (get_or xs i 0) (In_at xs i 0 k) in absurd (omega arith)
-      | inr k ↦ not_before xs i a.1 (omega arith) k
-    ]
+pub not_behind : (xs : List ℕ) (i : ℕ) → Ascending xs → i < length xs → In (get_or xs i 0) (drop (i + 1) xs) → ⊥
+not_behind [] i a l j = absurd (omega arith)
+not_behind (x ∷ xs) zero a l j = let h : x < x = a.0 x j in omega arith
+not_behind (x ∷ xs) (suc i) a l j =
+    let e : suc i + 1 ≡ suc (i + 1) = omega arith in
+    not_behind xs i a.1 (omega arith) (subst (λ n. In (get_or xs i 0) (drop n (x ∷ xs))) e j)
 
 -- The table of rows once a package is taken out.
 

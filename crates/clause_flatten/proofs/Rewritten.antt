@@ -1,5 +1,5 @@
 -- The row that is made from candidates is the substituted one.
-use Rattle.std.proofs.Common.{◌≡◌, ℕ, ◌<◌, length, Bool, true, false, not, ◌||◌, cond, List, [], ◌∷◌, ◌++◌, inl, inr, refl, sym, ◌∙◌, subst}
+use Rattle.std.proofs.Common.{◌≡◌, ℕ, ◌<◌, length, Bool, true, false, not, ◌||◌, cond, List, [], ◌∷◌, ◌++◌, inl, inr, refl, sym, ◌∙◌, ap, subst}
 use Rattle.std.specs.List.{list_all}
 use Rattle.clause_pool.specs.Interned.{Interned, IsPool, OfPool, clause_at, clauses_at, ids_at, row_at}
 use Rattle.row_book.specs.Sets.{In, here, there, has}
@@ -45,6 +45,12 @@ unions_from spent (S ∷ A) U T other i h j =
           (subst (λ z. In (joined (dropped spent z) other) (unions_of spent U S)) (sym e) (In_map (λ u. joined (dropped spent S) u) U other j)))
       | inr k ↦ In_append_right (cond (has S spent) (unions_of spent U S) []) (all_unions spent A U) (joined (dropped spent T) other) (unions_from spent A U T other k h j)
     ]
+
+-- unions ascend as the other clauses do
+pub unions_up : (spent : ℕ) (A U : List (List ℕ)) → ((c : List ℕ) → In c U → Ascending c) → (c : List ℕ) → In c (all_unions spent A U) → Ascending c
+unions_up spent A U up c i =
+    let w : Union spent A U c = unions_cases spent A U c i in
+    subst Ascending (sym w.is) (joined_ascending (dropped spent w.from) w.other (up w.other w.with))
 
 module _ (pool : Interned) (user spent : ℕ) (row others useful : List ℕ)
     (apart : (c : List ℕ) → In c (clauses_at pool row) → In user c → ⊥)
@@ -175,18 +181,17 @@ module _ (pool : Interned) (user spent row others : ℕ) (is : IsPool pool) (of_
       shortened pool user spent (ids_at pool row) (ids_at pool others) useful apart (useful_at r o useful e f u) is (is.of_pool row of_row) (is.of_pool others of_others) none
       (is.in_order row of_row) thin
 
-  module _ (r o s useful slice : List ℕ) (family : List (List ℕ)) (r_is : r ≡ ids_at pool row) (o_is : o ≡ ids_at pool others) (s_is : s ≡ ids_at pool row) (slice_is : slice ≡ useful)
-      (u : Useful pool user (IncludesOneOf (apart_from spent (clauses_at pool r))) o useful)
-      (same : SameClauses (apart_from spent (clauses_at pool s) ++ all_unions spent (clauses_at pool s) (clauses_at pool slice)) family) where
-    same_at : SameClauses (apart_from spent (row_at pool row) ++ all_unions spent (row_at pool row) (clauses_at pool useful)) family
-    same_at =
-        subst (λ z. SameClauses (apart_from spent (row_at pool row) ++ all_unions spent (row_at pool row) (clauses_at pool z)) family) slice_is
-        (subst (λ z. SameClauses (apart_from spent (clauses_at pool z) ++ all_unions spent (clauses_at pool z) (clauses_at pool slice)) family) s_is same)
+  -- the minimal clauses of the row and of the unions make the substituted row
+  pub unions_minimal : (r o useful slice : List ℕ) → r ≡ ids_at pool row → o ≡ ids_at pool others → slice ≡ useful → Useful pool user (IncludesOneOf (apart_from spent (clauses_at pool r))) o useful →
+      minimal_of (ordered (apart_from spent (row_at pool row) ++ all_unions spent (row_at pool row) (clauses_at pool slice))) ≡ ordered (substituted user spent (row_at pool row) (row_at pool others))
+  unions_minimal r o useful slice e f is_slice u =
+      let both : List ℕ → List (List ℕ) = λ ids. apart_from spent (row_at pool row) ++ all_unions spent (row_at pool row) (clauses_at pool ids) in
+      let same : SameClauses (both useful) (ordered (both useful)) = record { there = ordered_has (both useful); back = ordered_parts (both useful) } in
+      ap (λ ids. minimal_of (ordered (both ids))) is_slice
+      ∙ family_minimal pool user spent (ids_at pool row) (ids_at pool others) useful apart (useful_at r o useful e f u) is (is.of_pool row of_row) (is.of_pool others of_others)
+      (ordered (both useful)) same (ordered_order (both useful))
 
-    pub candidates_up : InOrder family → (c : List ℕ) → In c family → Ascending c
-    candidates_up order =
-        family_up pool user spent (ids_at pool row) (ids_at pool others) useful apart (useful_at r o useful r_is o_is u) is (is.of_pool row of_row) (is.of_pool others of_others) family same_at order
-
-    pub candidates_minimal : InOrder family → minimal_of family ≡ ordered (substituted user spent (row_at pool row) (row_at pool others))
-    candidates_minimal order =
-        family_minimal pool user spent (ids_at pool row) (ids_at pool others) useful apart (useful_at r o useful r_is o_is u) is (is.of_pool row of_row) (is.of_pool others of_others) family same_at order
+  -- the ids of the useful clauses are of the pool
+  pub useful_of_pool : (o useful slice : List ℕ) (Needless : List ℕ → Type 0) → o ≡ ids_at pool others → slice ≡ useful → Useful pool user Needless o useful → OfPool pool slice
+  useful_of_pool o useful slice Needless f is_slice u id i =
+      is.of_pool others of_others id (subst (λ z. In id z) f (u.part id (subst (λ z. In id z) is_slice i)))

@@ -1,9 +1,9 @@
 -- Families of clauses that are built before they are put into the pool.
-use Rattle.std.specs.Prelude.{◌≡◌, ℕ, not, cond, List, [], map, ◌⊎◌}
+use Rattle.std.specs.Prelude.{◌≡◌, ℕ, false, not, cond, List, [], map, ◌⊎◌}
 use Rattle.std.specs.List.{filter, flat_map}
 use Rattle.clause_pool.specs.Interned.{Interned, clause_at, clauses_at, Kept, OfPool}
 use Rattle.row_book.specs.Sets.{In, has}
-use Rattle.row_book.specs.Clauses.{Inside}
+use Rattle.row_book.specs.Clauses.{InOrder, Inside}
 use Rattle.clause_flatten.specs.Inclusion.{has_shorter}
 use Rattle.clause_flatten.specs.Substitution.{dropped, joined}
 
@@ -28,6 +28,24 @@ unions_of spent others clause = map (λ other. joined (dropped spent clause) oth
 -- those of each clause that holds the number
 abbrev pub all_unions : ℕ → List (List ℕ) → List (List ℕ) → List (List ℕ)
 all_unions spent row others = flat_map (λ clause. cond (has clause spent) (unions_of spent others clause) []) row
+
+-- one more id
+pub record HasGained (old new : List ℕ) (id : ℕ) : Type 0 where
+  pub stay : (k : ℕ) → In k old → In k new
+  pub one : In id new
+  pub back : (k : ℕ) → In k new → In k old ⊎ (k ≡ id)
+
+-- a clause has no shorter one of either family within it
+pub record IsShortest (kept unions : List (List ℕ)) (clause : List ℕ) : Type 0 where
+  pub by_kept : has_shorter kept clause ≡ false
+  pub by_unions : has_shorter unions clause ≡ false
+
+-- in order the old clauses, and of the unions that were looked at those that have no shorter clause of either family within them
+pub record HasUnions (old kept unions done new : List (List ℕ)) : Type 0 where
+  pub order : InOrder new
+  pub stay : (c : List ℕ) → In c old → In c new
+  pub put : (c : List ℕ) → In c done → IsShortest kept unions c → In c new
+  pub back : (c : List ℕ) → In c new → In c old ⊎ (In c done × IsShortest kept unions c)
 
 -- the same clauses in another list
 pub record SameClauses (old new : List (List ℕ)) : Type 0 where

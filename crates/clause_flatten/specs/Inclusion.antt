@@ -1,5 +1,5 @@
 -- Clauses that lie within other ones.
-use Rattle.std.specs.Prelude.{ℕ, Bool, ◌&&◌, ltb, List, length}
+use Rattle.std.specs.Prelude.{ℕ, Bool, true, false, ◌&&◌, eqb, ltb, List, [], ◌∷◌, length}
 use Rattle.std.specs.List.{list_any}
 use Rattle.row_book.specs.Clauses.{is_inside}
 
@@ -10,3 +10,19 @@ is_strictly_inside S T = ltb (length S) (length T) && is_inside S T
 -- whether a shorter clause of the family is within the clause
 abbrev pub has_shorter : List (List ℕ) → List ℕ → Bool
 has_shorter family clause = list_any (λ other. is_strictly_inside other clause) family
+
+-- whether the clause is empty or begins with a lesser number
+abbrev pub begins_below : ℕ → List ℕ → Bool
+begins_below first [] = true
+begins_below first (x ∷ xs) = ltb x first
+
+-- whether the clause begins with the number
+abbrev pub begins_with : ℕ → List ℕ → Bool
+begins_with first [] = false
+begins_with first (x ∷ xs) = eqb x first
+
+-- whether the first clause is empty
+abbrev pub has_empty : List (List ℕ) → Bool
+has_empty [] = false
+has_empty ([] ∷ cs) = true
+has_empty ((x ∷ xs) ∷ cs) = false

@@ -1,14 +1,17 @@
 //! The clauses that may stand in a row once a package is taken out, in scratch space.
 ghost use Rattle.std.specs.Prelude.{◌≡◌, ℕ, ◌<◌, ◌++◌, ◌∷◌, [], List, IfOk, IfSome, OnOk, length};
 ghost use Rattle.std.specs.Bool.{OnTrue};
+ghost use Rattle.std.specs.List.{filter};
 ghost use Rattle.clause_pool.specs.Interned.{clauses_at, row_at, Kept, OfPool};
 ghost use Rattle.row_book.specs.Sets.{In};
-ghost use Rattle.row_book.specs.Clauses.{apart_from, minimal_of, Ascending, InOrder};
-ghost use Rattle.clause_flatten.specs.Inclusion.{has_shorter};
-ghost use Rattle.clause_flatten.specs.Families.{all_unions, unions_of, HoldsOneOf, IncludesOneOf, SameClauses, Useful};
+ghost use Rattle.row_book.specs.Clauses.{apart_from, minimal_of, ordered, Ascending, InOrder, Inside};
+ghost use Rattle.clause_flatten.specs.TidyRows.{stays};
+ghost use Rattle.clause_flatten.specs.Families.{all_unions, unions_of, HasUnions, HoldsOneOf, IncludesOneOf, SameClauses, Useful};
 
-use crate::inclusion::{contains, is_strictly_inside};
+use crate::inclusion::contains;
+use crate::placing::put_in_place;
 use crate::scratch::Clause;
+use crate::shorter::{has_shorter, is_shortest, stays};
 use clause_pool::{ClauseId, Pool, RowId};
 use std::alloc::{AllocError, Global};
 
@@ -105,9 +108,34 @@ fn is_one_of(numbers: &[u32], number: u32) -> bool
     numbers.binary_search(&number).is_ok()
 }
 
-/// The clauses of the row of a user that do not hold the spent package, and the unions, without it, of each other one
-/// with each useful clause, in order.
-pub(crate) fn candidates(
+/// The row with unions in the place of the clauses that hold the spent package, in the pool: those of each such clause,
+/// without the package, with each useful clause. Only the minimal clauses stay. As those of the row are minimal among
+/// themselves, the unions alone are tested against the others, and the others against the unions.
+pub(crate) fn intern_with_unions(
+    alloc: Global,
+    pool: &mut Pool,
+    spent: u32,
+    row: RowId,
+    useful: &[ClauseId],
+) -> Result<RowId, AllocError>
+    requires row { row < length pool.old.rows }
+    requires useful { OfPool pool.old useful.now }
+    requires minimal { (c d : List ℕ) → In c (row_at pool.old row) → In d (row_at pool.old row) → Inside c d → c ≡ d }
+    ensures ok { IfOk result (λ id. row_at pool.new id ≡ minimal_of (ordered (apart_from spent (row_at pool.old row)
+        ++ all_unions spent (row_at pool.old row) (clauses_at pool.old useful.now)))) }
+    ensures of_pool { IfOk result (λ id. id < length pool.new.rows) }
+    ensures kept { Kept pool.old pool.new }
+{
+    pool.clause_count();
+    let unions = unions_in_order(alloc, pool, spent, pool.row(row), useful)?;
+    let kept = clauses_without(alloc, pool, spent, pool.row(row))?;
+    let mut ids = ids_beside(alloc, pool, spent, pool.row(row), unions.as_slice())?;
+    put_unions(pool, kept.as_slice(), unions.as_slice(), &mut ids)?;
+    pool.intern_row(ids.as_slice())
+}
+
+/// The unions of each clause of the row that holds the spent package, without it, with each useful clause, in order.
+fn unions_in_order(
     alloc: Global,
     pool: &Pool,
     spent: u32,
@@ -116,14 +144,62 @@ pub(crate) fn candidates(
 ) -> Result<Vec<Clause>, AllocError>
     requires row { OfPool pool.now row.now }
     requires useful { OfPool pool.now useful.now }
-    ensures in_order { IfOk result (λ family. InOrder family.items) }
-    ensures same { IfOk result (λ family. SameClauses (apart_from spent (clauses_at pool.now row.now)
-        ++ all_unions spent (clauses_at pool.now row.now) (clauses_at pool.now useful.now)) family.items) }
+    ensures in_order { IfOk result (λ unions. InOrder unions.items) }
+    ensures same { IfOk result (λ unions.
+        SameClauses (all_unions spent (clauses_at pool.now row.now) (clauses_at pool.now useful.now)) unions.items) }
 {
-    let mut family = clauses_without(alloc, pool, spent, row)?;
-    add_unions(alloc, pool, spent, row, useful, &mut family)?;
-    put_in_order(&mut family);
-    Ok(family)
+    let mut unions = Vec::new(alloc);
+    add_unions(alloc, pool, spent, row, useful, &mut unions)?;
+    put_in_order(&mut unions);
+    Ok(unions)
+}
+
+/// The ids of the clauses that do not hold a number and have no shorter one of the unions within them.
+fn ids_beside(
+    alloc: Global,
+    pool: &Pool,
+    number: u32,
+    row: &[ClauseId],
+    unions: &[Clause],
+) -> Result<Vec<ClauseId>, AllocError>
+    requires row { OfPool pool.now row.now }
+    requires in_order { InOrder unions.now }
+    ensures ok { IfOk result (λ ids. clauses_at pool.now ids.items
+        ≡ filter (stays number unions.now) (clauses_at pool.now row.now)) }
+    ensures of_pool { IfOk result (λ ids. OfPool pool.now ids.items) }
+{
+    let mut ids = Vec::new(alloc);
+    for id in row {
+        if stays(number, unions, pool.slice(*id)) {
+            ids.push(*id)?;
+        }
+    }
+    Ok(ids)
+}
+
+/// Puts the unions that have no shorter one of the kept clauses or of the unions within them into their places.
+fn put_unions(
+    pool: &mut Pool,
+    kept: &[Clause],
+    unions: &[Clause],
+    ids: &mut Vec<ClauseId>,
+) -> Result<(), AllocError>
+    requires kept_in_order { InOrder kept.now }
+    requires unions_in_order { InOrder unions.now }
+    requires ascending { (c : List ℕ) → In c unions.now → Ascending c }
+    requires of_pool { OfPool pool.old ids.old.items }
+    requires in_order { InOrder (clauses_at pool.old ids.old.items) }
+    ensures ok { OnOk result (HasUnions (clauses_at pool.old ids.old.items) kept.now unions.now unions.now (clauses_at pool.new ids.new.items)) }
+    ensures of_pool { OnOk result (OfPool pool.new ids.new.items) }
+    ensures kept { Kept pool.old pool.new }
+{
+    for union in unions {
+        if is_shortest(kept, unions, union.as_slice()) {
+            let id = pool.intern(union.as_slice())?;
+            put_in_place(pool, ids, id)?;
+        }
+    }
+    Ok(())
 }
 
 /// The clauses that do not hold a number.
@@ -178,7 +254,8 @@ fn add_unions_of(
     others: &[ClauseId],
     family: &mut Vec<Clause>,
 ) -> Result<(), AllocError>
-    requires { OfPool pool.now others.now }
+    requires others { OfPool pool.now others.now }
+    requires ascending { Ascending clause.now }
     ensures { OnOk result (family.new.items ≡ family.old.items
         ++ unions_of spent (clauses_at pool.now others.now) clause.now) }
 {
@@ -220,7 +297,8 @@ fn minimal_ids(
     pool: &mut Pool,
     family: &[Clause],
 ) -> Result<Vec<ClauseId>, AllocError>
-    requires { (c : List ℕ) → In c family.now → Ascending c }
+    requires ascending { (c : List ℕ) → In c family.now → Ascending c }
+    requires in_order { InOrder family.now }
     ensures ok { IfOk result (λ ids. clauses_at pool.new ids.items ≡ minimal_of family.now) }
     ensures of_pool { IfOk result (λ ids. OfPool pool.new ids.items) }
     ensures kept { Kept pool.old pool.new }
@@ -233,13 +311,4 @@ fn minimal_ids(
         }
     }
     Ok(ids)
-}
-
-/// Whether a shorter clause of the family is inside the clause: among ascending ones, another one inside is shorter.
-fn has_shorter(family: &[Clause], clause: &[u32]) -> bool
-    ensures { result ≡ has_shorter family.now clause.now }
-{
-    family
-        .iter()
-        .any(|other| is_strictly_inside(other.as_slice(), clause))
 }

@@ -116,9 +116,6 @@ pub fn flatten(alloc: Global, pool: &mut Pool, book: &Book, limit: u32) -> Resul
         book,
         limit,
     )?;
-    let Book { rows: _, conflicts } = book.copy(alloc)?;
-    Ok(Book {
-        rows: Listed::of(rows),
-        conflicts,
-    })
+    let made = book.with_rows(alloc, Listed::of(rows))?;
+    Ok(made)
 }

@@ -5,7 +5,7 @@ ghost use Rattle.row_book.specs.Sets.{In};
 ghost use Rattle.row_book.specs.Clauses.{apart_from, ordered, Inside};
 ghost use Rattle.clause_flatten.specs.Substitution.{substituted};
 
-use crate::family::{candidates, intern_minimal, useful_of};
+use crate::family::{intern_with_unions, useful_of};
 use crate::inclusion::contains;
 use clause_pool::{ClauseId, Pool, RowId};
 use std::alloc::{AllocError, Global};
@@ -29,14 +29,13 @@ pub(crate) fn rewrite(
     ensures of_pool { IfOk result (λ id. id < length pool.new.rows) }
     ensures kept { Kept pool.old pool.new }
 {
-    // The count says that the clauses of the pool ascend, which those in scratch space take from them.
+    // What holds of every pool is told by this call alone.
     pool.clause_count();
     let useful = useful_of(alloc, pool, user, spent, pool.row(row), pool.row(others))?;
     if useful.is_empty() {
         return shorten(alloc, pool, spent, row);
     }
-    let family = candidates(alloc, pool, spent, pool.row(row), useful.as_slice())?;
-    intern_minimal(alloc, pool, family.as_slice())
+    intern_with_unions(alloc, pool, spent, row, useful.as_slice())
 }
 
 /// The row without the clauses that hold a number.

@@ -1,5 +1,5 @@
 //! Clauses that are not in the pool.
-ghost use Rattle.std.specs.Prelude.{◌≡◌, ◌==◌, ◌++◌, IfOk};
+ghost use Rattle.std.specs.Prelude.{◌≡◌, ◌==◌, ◌++◌, IfOk, OnOk};
 ghost use Rattle.std.specs.Cmp.Lexicographic.{pointwise, slice_cmp, slice_partial_cmp, lists_equiv, lists_total, nat_list_cmp_total, nat_list_eq_equiv, texts_po, texts_ties};
 ghost use Rattle.std.specs.Cmp.{partial_equiv_from_equiv};
 ghost use Rattle.std.specs.Ordering.{nat_cmp};
@@ -84,13 +84,33 @@ impl Clause {
         clause: &[u32],
         other: &[u32],
     ) -> Result<Clause, AllocError>
-        requires { Ascending other.now }
+        requires clause { Ascending clause.now }
+        requires other { Ascending other.now }
         ensures { IfOk result (λ union. union ≡ joined (dropped spent clause.now) other.now) }
     {
-        let mut literals = together_without(alloc, spent, clause, other)?;
-        literals.sort_unstable();
-        literals.dedup();
-        Clause::copy(alloc, literals.as_slice())
+        let mut literals = SmallVec::new(alloc);
+        let mut i = 0;
+        let mut j = 0;
+        'merge: while i < clause.len() && j < other.len() {
+            let own = clause[i];
+            let next = other[j];
+            if own == spent {
+                i += 1;
+            } else if own < next {
+                literals.push(own)?;
+                i += 1;
+            } else if next < own {
+                literals.push(next)?;
+                j += 1;
+            } else {
+                literals.push(own)?;
+                i += 1;
+                j += 1;
+            }
+        }
+        add_without(&mut literals, spent, &clause[i..])?;
+        literals.extend_from_slice(&other[j..])?;
+        Ok(Clause { literals })
     }
 
     /// Lends the literals in their order.
@@ -101,20 +121,18 @@ impl Clause {
     }
 }
 
-/// The literals of one clause without a number behind those of another.
-fn together_without(
-    alloc: Global,
+/// Puts the literals of a clause, without a number, behind the others.
+fn add_without(
+    literals: &mut SmallVec<u32, 6>,
     spent: u32,
     clause: &[u32],
-    other: &[u32],
-) -> Result<Vec<u32>, AllocError>
-    ensures { IfOk result (λ literals. literals.items ≡ other.now ++ dropped spent clause.now) }
+) -> Result<(), AllocError>
+    ensures { OnOk result (literals.new.items ≡ literals.old.items ++ dropped spent clause.now) }
 {
-    let mut literals = Vec::from_slice(alloc, other)?;
     for literal in clause {
         if *literal != spent {
             literals.push(*literal)?;
         }
     }
-    Ok(literals)
+    Ok(())
 }

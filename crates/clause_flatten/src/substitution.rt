@@ -3,7 +3,7 @@ ghost use Rattle.std.specs.Prelude.{◌≡◌, ◌≢◌, ◌<◌, ◌⊎◌, �
 ghost use Rattle.clause_pool.specs.Interned.{row_at, Kept};
 ghost use Rattle.row_book.specs.Book.{RowsFit, RowsTidy};
 ghost use Rattle.row_book.specs.Clauses.{ordered};
-ghost use Rattle.row_book.specs.Uses.{row_id, uses_of};
+ghost use Rattle.row_book.specs.Uses.{row_id, users_of, uses_of};
 ghost use Rattle.clause_flatten.specs.Substitution.{eliminated, substituted, table_row};
 
 use crate::rewriting::rewrite;
@@ -35,11 +35,38 @@ pub fn eliminate(
     ensures table { uses.new ≡ uses_of pool.new rows.new }
     ensures kept { Kept pool.old pool.new }
 {
-    // The count says that the pool is sound.
-    pool.clause_count();
     let users = Vec::from_slice(alloc, uses.packages(gone))?;
-    for user in &users {
-        replace_row(alloc, pool, rows, uses, *user, gone)?;
+    eliminate_for(alloc, pool, rows, uses, users.as_slice(), gone)
+}
+
+/// The same, where the users of the package are known.
+pub(crate) fn eliminate_for(
+    alloc: Global,
+    pool: &mut Pool,
+    rows: &mut [RowId],
+    uses: &mut UseTable,
+    users: &[u32],
+    gone: u32,
+) -> Result<(), AllocError>
+    requires few { length rows.old < 4294967295 }
+    requires fit { RowsFit pool.old rows.old }
+    requires tidy { RowsTidy pool.old rows.old }
+    requires table { uses.old ≡ uses_of pool.old rows.old }
+    requires gone { gone < length rows.old }
+    requires users { users.now ≡ users_of pool.old rows.old gone }
+    ensures ok { OnOk result (map (row_at pool.new) rows.new ≡ eliminated gone (map (row_at pool.old) rows.old)) }
+    ensures each { (p : ℕ) → p < length rows.old → (row_id rows.new p ≡ row_id rows.old p)
+        ⊎ (row_at pool.new (row_id rows.new p) ≡ table_row (eliminated gone (map (row_at pool.old) rows.old)) p) }
+    ensures fit { RowsFit pool.new rows.new }
+    ensures tidy { RowsTidy pool.new rows.new }
+    ensures table { uses.new ≡ uses_of pool.new rows.new }
+    ensures kept { Kept pool.old pool.new }
+{
+    // What holds of every pool is told by this call alone.
+    pool.clause_count();
+    // The last user comes first: what each leaves in the table then stands at the ends of its lists.
+    for place in (0..users.len()).rev() {
+        replace_row(alloc, pool, rows, uses, users[place], gone)?;
     }
     Ok(())
 }
@@ -68,7 +95,7 @@ fn replace_row(
     ensures table { uses.new ≡ uses_of pool.new rows.new }
     ensures kept { Kept pool.old pool.new }
 {
-    // The count says that the pool is sound.
+    // What holds of every pool is told by this call alone.
     pool.clause_count();
     let old = rows[user as usize];
     let new = rewrite(alloc, pool, user, gone, old, rows[gone as usize])?;

@@ -13,7 +13,7 @@ ghost use Rattle.clause_flatten.specs.Waiting.{Filed};
 ghost use Rattle.clause_flatten.specs.TakingOut.{counted_anew, is_over};
 
 use crate::error::FlatError;
-use crate::substitution::eliminate;
+use crate::substitution::eliminate_for;
 use crate::waiting::Waiting;
 use clause_pool::{Pool, RowId};
 use row_book::UseTable;
@@ -148,7 +148,7 @@ pub(crate) fn take_out(
     pool.clause_count();
     let users = Vec::from_slice(alloc, uses.packages(step.package))?;
     let counts = counts_of(alloc, pool, rows, users.as_slice())?;
-    eliminate(alloc, pool, rows, uses, step.package)?;
+    eliminate_for(alloc, pool, rows, uses, users.as_slice(), step.package)?;
     if let Some(over) = first_over(pool, rows, users.as_slice(), step.limit) {
         return Err(FlatError::Limit {
             gone: step.gone,

@@ -3,32 +3,24 @@ ghost use Rattle.std.specs.Prelude.{◌≡◌, ◌<◌, IfOk, length, map};
 ghost use Rattle.std.specs.List.{filter};
 ghost use Rattle.clause_pool.specs.Interned.{clause_at, clauses_at, row_at, Kept, OfPool};
 ghost use Rattle.row_book.specs.Book.{RowsFit, RowsTidy};
-ghost use Rattle.clause_flatten.specs.Inclusion.{has_shorter};
+ghost use Rattle.row_book.specs.Clauses.{InOrder};
 ghost use Rattle.clause_flatten.specs.TidyRows.{stays, tidied, tidied_table, RowsStay};
 
-use crate::inclusion::{contains, is_strictly_inside};
+use crate::scratch::Clause;
+use crate::shorter::stays;
 use clause_pool::{ClauseId, Pool, RowId};
 use std::alloc::{AllocError, Global};
 
-/// Whether a clause of the row is strictly within the clause.
-fn has_smaller(pool: &Pool, row: &[ClauseId], clause: &[u32]) -> bool
+/// The clauses of the row, in scratch space.
+fn family_of(alloc: Global, pool: &Pool, row: &[ClauseId]) -> Result<Vec<Clause>, AllocError>
     requires { OfPool pool.now row.now }
-    ensures { result ≡ has_shorter (clauses_at pool.now row.now) clause.now }
+    ensures { IfOk result (λ family. family.items ≡ clauses_at pool.now row.now) }
 {
-    for other in row {
-        if is_strictly_inside(pool.slice(*other), clause) {
-            return true;
-        }
+    let mut family = Vec::new(alloc);
+    for id in row {
+        family.push(Clause::copy(alloc, pool.slice(*id))?)?;
     }
-    false
-}
-
-/// Whether a clause stays in the first row of the package.
-fn stays(pool: &Pool, package: u32, row: &[ClauseId], clause: &[u32]) -> bool
-    requires { OfPool pool.now row.now }
-    ensures { result ≡ stays «package» (clauses_at pool.now row.now) clause.now }
-{
-    !contains(clause, package) && !has_smaller(pool, row, clause)
+    Ok(family)
 }
 
 /// The clauses that stay.
@@ -38,12 +30,14 @@ fn kept_clauses(
     package: u32,
     row: &[ClauseId],
 ) -> Result<Vec<ClauseId>, AllocError>
-    requires { OfPool pool.now row.now }
+    requires of_pool { OfPool pool.now row.now }
+    requires in_order { InOrder (clauses_at pool.now row.now) }
     ensures { IfOk result (λ kept. kept.items ≡ filter (λ id. stays «package» (clauses_at pool.now row.now) (clause_at pool.now id)) row.now) }
 {
+    let family = family_of(alloc, pool, row)?;
     let mut kept = Vec::new(alloc);
     for id in row {
-        if stays(pool, package, row, pool.slice(*id)) {
+        if stays(package, family.as_slice(), pool.slice(*id)) {
             kept.push(*id)?;
         }
     }

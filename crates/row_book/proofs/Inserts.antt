@@ -1,15 +1,15 @@
 -- A number that is put into an ascending list or taken out of it.
-use Rattle.std.proofs.Common.{◌≡◌, ℕ, zero, suc, ◌<◌, ◌≤◌, Bool, true, false, not, eqb, List, [], ◌∷◌, inl, inr, sym, ◌∙◌, ap, ap₂, subst, arith, ◌&&◌, ◌||◌, length, take, drop, get_or, ne_eqb, eq-eqb, Result, Ok, Err, if◌then◌else◌}
+use Rattle.std.proofs.Common.{◌≡◌, ℕ, zero, suc, ◌<◌, ◌≤◌, ◌-◌, Bool, true, false, not, eqb, List, [], ◌∷◌, inl, inr, sym, ◌∙◌, ap, ap₂, subst, arith, ◌&&◌, ◌||◌, length, take, drop, get_or, ne_eqb, eq-eqb, Result, Ok, Err, if◌then◌else◌}
 use Rattle.std.specs.List.{insert, remove}
 use Rattle.std.specs.List.Sorted.{IsBinarySearchResult, IsNonDecreasing}
 use Rattle.std.specs.Ordering.{nat_cmp}
-use Rattle.std.specs.Result.{MatchResult, IsOk, is_ok}
+use Rattle.std.specs.Result.{IsOk, is_ok}
 use Rattle.std.proofs.Math.Bool.{or_assoc, or_comm, or-false, and-true, and-false}
 use Rattle.std.proofs.lemmas.Bool.{cases_eq, false≢true}
 use Rattle.std.proofs.lemmas.List.Sorted.{searched}
 use Rattle.row_book.specs.Sets.{NumSet, In, here, there, has, plus, without}
 use Rattle.row_book.specs.Clauses.{Ascending}
-use Rattle.row_book.specs.Uses.{IsListOf}
+use Rattle.row_book.specs.Uses.{IsListOf, IsPlaceOf}
 use Rattle.row_book.proofs.Lists.{In_cases, In_none, In_at, In_has, has_In, has_not, in_take, In_append_cases, ascending_same}
 
 -- a list is the only one of its set
@@ -22,7 +22,7 @@ listed_once S xs ys a b =
 pub listed_as : (S T : NumSet) (xs : List ℕ) → ((m : ℕ) → S m ≡ T m) → IsListOf S xs → IsListOf T xs
 listed_as S T xs e l = record { ascending = l.ascending; members = λ m. l.members m ∙ e m }
 
-In_drop : (i : ℕ) (xs : List ℕ) (y : ℕ) → In y (drop i xs) → In y xs
+pub In_drop : (i : ℕ) (xs : List ℕ) (y : ℕ) → In y (drop i xs) → In y xs
 In_drop zero xs y j = j
 In_drop (suc i) [] y j = absurd (In_none j)
 In_drop (suc i) (x ∷ xs) y j = there (In_drop i xs y j)
@@ -108,30 +108,34 @@ remove_has (x ∷ xs) (suc i) p m a l e =
     ap (λ b. eqb m x || b) (remove_has xs i p m a.1 (omega arith) e) ∙ without_later x p m (has xs m) u
 
 -- what a search for a number in an ascending list says, and what an insert or a removal then leaves
-search_facts : (xs : List ℕ) (p : ℕ) (r : Result ℕ ℕ) → Ascending xs → IsBinarySearchResult (λ y. nat_cmp y p) xs r
-    → MatchResult r (λ i. (i < length xs) × (get_or xs i 0 ≡ p)) (λ i. (i ≤ length xs) × ((k : ℕ) → k < i → get_or xs k 0 < p) × ((k : ℕ) → i ≤ k → k < length xs → p < get_or xs k 0))
-search_facts xs p r a s = searched xs p r s (ascending_places xs a)
+pub search_place : (xs : List ℕ) (p : ℕ) (r : Result ℕ ℕ) → IsBinarySearchResult (λ y. nat_cmp y p) xs r → Ascending xs → IsPlaceOf xs p r
+search_place xs p (Ok i) s a = searched xs p (Ok i) s (ascending_places xs a)
+search_place xs p (Err i) s a = searched xs p (Err i) s (ascending_places xs a)
 
-pub found_is_there : (xs : List ℕ) (p i : ℕ) → Ascending xs → IsBinarySearchResult (λ y. nat_cmp y p) xs (Ok i) → IsListOf (plus (has xs) p) xs
-found_is_there xs p i a s =
-    let w : (i < length xs) × (get_or xs i 0 ≡ p) = search_facts xs p (Ok i) a s in
-    record {
-      ascending = a;
-      members = λ m. elim (cases_eq m p) [
-        | inl e ↦ let h : has xs m ≡ true = In_has (subst (λ q. In q xs) (w.1 ∙ sym e) (In_at xs i 0 w.0)) in h ∙ ap (λ b. b || eqb m p) (sym h)
-        | inr ne ↦ sym (or-false (has xs m)) ∙ ap (λ b. has xs m || b) (sym (ne_eqb m p ne))
-      ];
-    }
+-- all are below one that is greater than the last
+pub place_behind : (xs : List ℕ) (p : ℕ) → 0 < length xs → get_or xs (length xs - 1) 0 < p → Ascending xs → IsPlaceOf xs p (Err (length xs))
+place_behind xs p l h a = (
+  omega arith,
+  λ k u. let g : get_or xs k 0 ≤ get_or xs (length xs - 1) 0 = ascending_places xs a k (length xs - 1) (omega arith) (omega arith) in omega arith,
+  λ k u v. absurd (omega arith),
+)
 
-pub inserted_where_missed : (xs : List ℕ) (p i : ℕ) → Ascending xs → IsBinarySearchResult (λ y. nat_cmp y p) xs (Err i) → IsListOf (plus (has xs) p) (insert xs i p)
-inserted_where_missed xs p i a s =
-    let w : (i ≤ length xs) × ((k : ℕ) → k < i → get_or xs k 0 < p) × ((k : ℕ) → i ≤ k → k < length xs → p < get_or xs k 0) = search_facts xs p (Err i) a s in
-    record {
-      ascending = insert_ascends xs i p a (front_below xs i p w.1 w.0) (rest_above xs i p w.2);
-      members = λ m. insert_has xs i p m;
-    }
+pub found_is_there : (xs : List ℕ) (p i : ℕ) → Ascending xs → IsPlaceOf xs p (Ok i) → IsListOf (plus (has xs) p) xs
+found_is_there xs p i a w = record {
+  ascending = a;
+  members = λ m. elim (cases_eq m p) [
+    | inl e ↦ let h : has xs m ≡ true = In_has (subst (λ q. In q xs) (w.1 ∙ sym e) (In_at xs i 0 w.0)) in h ∙ ap (λ b. b || eqb m p) (sym h)
+    | inr ne ↦ sym (or-false (has xs m)) ∙ ap (λ b. has xs m || b) (sym (ne_eqb m p ne))
+  ];
+}
 
-pub inserted_list : {A E : Type 0} (xs ys : List ℕ) (p i : ℕ) (r : Result A E) → IsOk r → ys ≡ (if is_ok r then insert xs i p else xs) → Ascending xs → IsBinarySearchResult (λ y. nat_cmp y p) xs (Err i) → IsListOf (plus (has xs) p) ys
+pub inserted_where_missed : (xs : List ℕ) (p i : ℕ) → Ascending xs → IsPlaceOf xs p (Err i) → IsListOf (plus (has xs) p) (insert xs i p)
+inserted_where_missed xs p i a w = record {
+  ascending = insert_ascends xs i p a (front_below xs i p w.1 w.0) (rest_above xs i p w.2);
+  members = λ m. insert_has xs i p m;
+}
+
+pub inserted_list : {A E : Type 0} (xs ys : List ℕ) (p i : ℕ) (r : Result A E) → IsOk r → ys ≡ (if is_ok r then insert xs i p else xs) → Ascending xs → IsPlaceOf xs p (Err i) → IsListOf (plus (has xs) p) ys
 inserted_list xs ys p i (Ok u) k e a s = subst (λ zs. IsListOf (plus (has xs) p) zs) (sym e) (inserted_where_missed xs p i a s)
 inserted_list xs ys p i (Err u) k e a s = absurd (false≢true k)
 
@@ -149,24 +153,21 @@ missed_not_there (x ∷ xs) p (suc i) l f g j =
       | inr r ↦ missed_not_there xs p i (omega arith) (λ k u. f (suc k) (omega arith)) (λ k u v. g (suc k) (omega arith) (omega arith)) r
     ]
 
-pub missed : (xs : List ℕ) (p i : ℕ) → Ascending xs → IsBinarySearchResult (λ y. nat_cmp y p) xs (Err i) → has xs p ≡ false
-missed xs p i a s =
-    let w : (i ≤ length xs) × ((k : ℕ) → k < i → get_or xs k 0 < p) × ((k : ℕ) → i ≤ k → k < length xs → p < get_or xs k 0) = search_facts xs p (Err i) a s in
-    has_not xs p (missed_not_there xs p i w.0 w.1 w.2)
+pub missed : (xs : List ℕ) (p i : ℕ) → IsPlaceOf xs p (Err i) → has xs p ≡ false
+missed xs p i w = has_not xs p (missed_not_there xs p i w.0 w.1 w.2)
 
-pub missed_is_gone : (xs : List ℕ) (p i : ℕ) → Ascending xs → IsBinarySearchResult (λ y. nat_cmp y p) xs (Err i) → IsListOf (without (has xs) p) xs
+pub missed_is_gone : (xs : List ℕ) (p i : ℕ) → Ascending xs → IsPlaceOf xs p (Err i) → IsListOf (without (has xs) p) xs
 missed_is_gone xs p i a s =
     record {
       ascending = a;
       members = λ m. elim (cases_eq m p) [
-        | inl e ↦ ap (has xs) e ∙ missed xs p i a s ∙ sym (ap (λ b. has xs m && not b) (eq-eqb m p e) ∙ and-false (has xs m))
+        | inl e ↦ ap (has xs) e ∙ missed xs p i s ∙ sym (ap (λ b. has xs m && not b) (eq-eqb m p e) ∙ and-false (has xs m))
         | inr ne ↦ sym (and-true (has xs m)) ∙ ap (λ b. has xs m && not b) (sym (ne_eqb m p ne))
       ];
     }
 
-pub removed_where_found : (xs : List ℕ) (p i : ℕ) → Ascending xs → IsBinarySearchResult (λ y. nat_cmp y p) xs (Ok i) → IsListOf (without (has xs) p) (remove xs i)
-removed_where_found xs p i a s =
-    let w : (i < length xs) × (get_or xs i 0 ≡ p) = search_facts xs p (Ok i) a s in
+pub removed_where_found : (xs : List ℕ) (p i : ℕ) → Ascending xs → IsPlaceOf xs p (Ok i) → IsListOf (without (has xs) p) (remove xs i)
+removed_where_found xs p i a w =
     record { ascending = remove_ascends xs i a; members = λ m. remove_has xs i p m a w.0 w.1 }
 
 -- a search in a sorted list finds the number where the list has it

@@ -12,6 +12,7 @@ pub mod Inserts
 pub mod Tables
 pub mod Differences
 pub mod Users
+pub mod Moved
 pub mod Samples
 pub mod Repositories
 pub mod Facing

@@ -43,7 +43,7 @@ order_filter p (c ∷ cs) a = keep (p c) (order_filter p cs a.1)
     keep true o = ((λ d i. a.0 d (filter_cases p cs d i).0), o)
     keep false o = o
 
-order_append : (xs ys : List (List ℕ)) → InOrder xs → InOrder ys → ((x y : List ℕ) → In x xs → In y ys → Before x y) → InOrder (xs ++ ys)
+pub order_append : (xs ys : List (List ℕ)) → InOrder xs → InOrder ys → ((x y : List ℕ) → In x xs → In y ys → Before x y) → InOrder (xs ++ ys)
 order_append [] ys a b f = b
 order_append (x ∷ xs) ys a b f = (
   (λ d i. elim (In_append_cases xs ys d i) [ inl l ↦ a.0 d l | inr r ↦ f x d here r ]),

@@ -52,6 +52,11 @@ pub record AddsOnly (old new : Interned) (gained : List ℕ) : Type 0 where
   pub rows : (id : ℕ) → length old.rows ≤ id → id < length new.rows → In id gained
   pub clauses : (id : ℕ) → length old.clauses ≤ id → id < length new.clauses → (row : ℕ) × In row gained × In id (ids_at new row)
 
+-- a book in another pool: the same repository, and sound where the first is
+pub record IsSameBook (pool : Interned) (book : Book) (new : Interned) (moved : Book) : Type 0 where
+  pub repository : repository_of new moved ≡ repository_of pool book
+  pub sound : Sound pool book → Sound new moved
+
 -- no clause of a row holds the row's own package, or includes another clause of that row
 pub record RowsTidy (pool : Interned) (rows : List ℕ) : Type 0 where
   pub apart : (p : ℕ) → p < length rows → (c : List ℕ) → In c (row_at pool (row_id rows p)) → In p c → ⊥

@@ -1,5 +1,5 @@
 -- Which packages name which: for each number the packages whose row has a clause that holds it.
-use Rattle.std.specs.Prelude.{◌≡◌, ℕ, ◌-◌, ◌⊎◌, Bool, List, [], map, filter, length, slice_index_or}
+use Rattle.std.specs.Prelude.{◌≡◌, ℕ, ◌<◌, ◌≤◌, ◌-◌, ◌⊎◌, Bool, List, [], map, filter, length, slice_index_or, Result, Ok, Err}
 use Rattle.std.specs.List.{list_any}
 use Rattle.std.specs.Global.{Vec}
 use Rattle.std.specs.Vec.{vec_capacity, vec_len}
@@ -36,6 +36,11 @@ pub record HoldsDifference (first second found : List ℕ) : Type 0 where
 pub record IsListOf (S : NumSet) (xs : List ℕ) : Type 0 where
   pub ascending : Ascending xs
   pub members : (m : ℕ) → has xs m ≡ S m
+
+-- the place of the number in the list, or the place between the lesser and the greater ones where it is not there
+abbrev pub IsPlaceOf : List ℕ → ℕ → Result ℕ ℕ → Type 0
+IsPlaceOf xs n (Ok i) = (i < length xs) × (slice_index_or xs i 0 ≡ n)
+IsPlaceOf xs n (Err i) = (i ≤ length xs) × ((k : ℕ) → k < i → slice_index_or xs k 0 < n) × ((k : ℕ) → i ≤ k → k < length xs → n < slice_index_or xs k 0)
 
 -- the lists of a table
 abbrev pub lists_in : List (Vec ℕ) → List (List ℕ)

@@ -52,17 +52,26 @@ impl Book {
         })
     }
 
+    /// A book with the same conflicts and these rows; it fails only where no memory is found.
+    pub fn with_rows(&self, alloc: Global, rows: RowList) -> Result<Book, AllocError>
+        requires { length rows ≡ length self.now.rows }
+        ensures rows { IfOk result (λ book. book.rows ≡ rows) }
+        ensures conflicts { IfOk result (λ book. book.conflicts ≡ self.now.conflicts) }
+    {
+        let conflicts = copied(alloc, self.conflicts.as_slice())?;
+        Ok(Book {
+            rows,
+            conflicts: Listed::of(conflicts),
+        })
+    }
+
     /// A book with the same rows and conflicts; it fails only where no memory is found.
     pub fn copy(&self, alloc: Global) -> Result<Book, AllocError>
         ensures rows { IfOk result (λ book. book.rows ≡ self.now.rows) }
         ensures conflicts { IfOk result (λ book. book.conflicts ≡ self.now.conflicts) }
     {
-        let conflicts = copied(alloc, self.conflicts.as_slice())?;
         let rows = Vec::from_slice(alloc, self.rows.as_slice())?;
-        Ok(Book {
-            rows: Listed::of(rows),
-            conflicts: Listed::of(conflicts),
-        })
+        self.with_rows(alloc, Listed::of(rows))
     }
 
     /// The number of packages; it takes no memory.

@@ -5,6 +5,7 @@ pub mod book;
 mod changes;
 mod conflicting;
 pub mod health;
+mod moving;
 pub mod needs;
 pub mod pair;
 mod pairing;

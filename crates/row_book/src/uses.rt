@@ -1,11 +1,11 @@
 //! Which packages name which.
 ghost use Rattle.std.specs.Prelude.{◌≡◌, ◌<◌, ◌-◌, ◌⊎◌, ◌&&◌, ◌||◌, ℕ, List, [], IfOk, OnOk, OnErr, true, not, eqb, length, slice_set, vec_capacity, vec_len};
-ghost use Rattle.std.specs.List.Sorted.{IsNonDecreasing};
+ghost use Rattle.std.specs.List.Sorted.{IsNonDecreasing, IsSearchInRange};
 ghost use Rattle.clause_pool.specs.Interned.{clauses_at, row_at, OfPool};
 ghost use Rattle.row_book.specs.Sets.{In, has, plus, without};
 ghost use Rattle.row_book.specs.Clauses.{Ascending};
 ghost use Rattle.row_book.specs.Book.{listed_for, RowsFit};
-ghost use Rattle.row_book.specs.Uses.{row_id, some_holds, uses_of, IsListOf, lists_in, list_in, room_in};
+ghost use Rattle.row_book.specs.Uses.{row_id, some_holds, uses_of, IsListOf, IsPlaceOf, lists_in, list_in, room_in};
 
 use crate::changes::changes_between;
 use clause_pool::{ClauseId, Pool, RowId};
@@ -216,7 +216,7 @@ fn put(list: &mut Vec<u32>, number: u32)
     ensures { Ascending list.old.items → (has list.old.items number ≡ true) ⊎ (0 < vec_capacity list.old - vec_len list.old) →
         IsListOf (plus (has list.old.items) number) list.new.items }
 {
-    if let Err(place) = list.as_slice().binary_search(&number) {
+    if let Err(place) = place_of(list.as_slice(), number) {
         // with room left it is always put in
         let _ = list.insert(place, number);
     }
@@ -226,7 +226,23 @@ fn put(list: &mut Vec<u32>, number: u32)
 fn take_out(list: &mut Vec<u32>, number: u32)
     ensures { Ascending list.old.items → IsListOf (without (has list.old.items) number) list.new.items }
 {
-    if let Ok(place) = list.as_slice().binary_search(&number) {
+    if let Ok(place) = place_of(list.as_slice(), number) {
         list.remove(place);
     }
+}
+
+/// The place of a number in an ascending list, or the place where it would be put. The end is looked at first: tables grow
+/// there, and lose there what is taken out last package first.
+fn place_of(list: &[u32], number: u32) -> Result<usize, usize>
+    ensures bound { IsSearchInRange result (length list.now) }
+    ensures place { Ascending list.now → IsPlaceOf list.now number result }
+{
+    let size = list.len();
+    if size > 0 && list[size - 1] < number {
+        return Err(size);
+    }
+    if size > 0 && list[size - 1] == number {
+        return Ok(size - 1);
+    }
+    list.binary_search(&number)
 }

@@ -4,7 +4,7 @@ use Rattle.clause_flatten.proofs.Families.{At, at_clause, map_push, of_pool_item
 use Rattle.clause_flatten.proofs.family.add_unions_of.Goals as goal
 
 pub slice-requires : goal.slice-requires
-slice-requires c = of_pool_item c.args.pool.now c.args.others.now c.loop-other.other-index c.other-item.result c.requires c.loop-other-test.true c.other-item.is
+slice-requires c = of_pool_item c.args.pool.now c.args.others.now c.loop-other.other-index c.other-item.result c.requires.others c.loop-other-test.true c.other-item.is
 
 pub loop-other-preserved : goal.loop-other-preserved
 loop-other-preserved c =

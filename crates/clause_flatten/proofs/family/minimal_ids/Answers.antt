@@ -9,9 +9,13 @@ use Rattle.clause_flatten.proofs.Families.{At, at_item, interned_less, interned_
 use Rattle.clause_flatten.proofs.family.minimal_ids.Goals as goal
 use Rattle.clause_flatten.proofs.family.minimal_ids.Goals.{then-not-has_shorter+in_ok-id+in_ok-push, else-not-has_shorter}
 
+pub has_shorter-requires-clause-ascending : goal.has_shorter-requires-clause-ascending
+has_shorter-requires-clause-ascending c =
+    subst (λ z. Ascending z) (sym c.as_slice.ensures) (c.requires.ascending c.clause-item.result (item_in c.args.family.now c.loop-clause.clause-index c.clause-item.result c.loop-clause-test.true c.clause-item.is))
+
 pub intern-requires : goal.intern-requires
 intern-requires c =
-    subst (λ z. Ascending z) (sym c.as_slice-then-not-has_shorter.ensures) (c.requires c.clause-item.result (item_in c.args.family.now c.loop-clause.clause-index c.clause-item.result c.loop-clause-test.true c.clause-item.is))
+    subst (λ z. Ascending z) (sym c.as_slice-then-not-has_shorter.ensures) (c.requires.ascending c.clause-item.result (item_in c.args.family.now c.loop-clause.clause-index c.clause-item.result c.loop-clause-test.true c.clause-item.is))
 
 pub returns-in_err-push-clause-kept : goal.returns-in_err-push-clause-kept
 returns-in_err-push-clause-kept c = kept_trans c.args.pool.now c.loop-clause.pool c.intern.new.self c.loop-clause.invariant.kept c.intern.ensures.kept
@@ -34,4 +38,4 @@ loop-clause-preserved c =
     ]
 
 pub returns-clause-ok : goal.returns-clause-ok
-returns-clause-ok c = c.loop-clause.invariant.made ∙ ap (filter (λ clause. not (has_shorter c.args.family.now clause))) (take_all c.loop-clause.clause-index c.args.family.now c.loop-clause-test.false) ∙ lowest_minimal c.args.family.now c.requires
+returns-clause-ok c = c.loop-clause.invariant.made ∙ ap (filter (λ clause. not (has_shorter c.args.family.now clause))) (take_all c.loop-clause.clause-index c.args.family.now c.loop-clause-test.false) ∙ lowest_minimal c.args.family.now c.requires.ascending

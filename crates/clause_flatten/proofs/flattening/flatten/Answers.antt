@@ -68,9 +68,9 @@ returns-clause-flat c =
     repository_kept c.args.pool.now c.tidy_rows.new.pool c.clause_count.ensures.sound c.tidy_rows.ensures.kept c.args.book.now c.requires.sound in
     let made : List ℕ → List (List ℕ) → Repository = λ xs ys. record { clauses = map (row_at c.take_all_out.new.pool) xs; conflicts = ys } in
     let size : c.in_ok-rows.rows.len ≡ length c.take_all_out.new.rows = omega (arith, c.in_ok-rows.rows.ok.0) in
-    let rows_are : c.of-2.result ≡ c.take_all_out.new.rows =
-    c.of-2.ensures ∙ take_whole c.in_ok-rows.rows.len c.take_all_out.new.rows (drop (length c.take_all_out.new.rows) c.in_ok-rows.rows.items) size in
-    let conflicts_are : c.in_ok-conflicts.field-0.conflicts ≡ c.args.book.now.conflicts = c.in_ok-conflicts.ensures.conflicts in
+    let rows_are : c.in_ok-made.made.rows ≡ c.take_all_out.new.rows =
+    c.in_ok-made.ensures.rows ∙ c.of-2.ensures ∙ take_whole c.in_ok-rows.rows.len c.take_all_out.new.rows (drop (length c.take_all_out.new.rows) c.in_ok-rows.rows.items) size in
+    let conflicts_are : c.in_ok-made.made.conflicts ≡ c.args.book.now.conflicts = c.in_ok-made.ensures.conflicts in
     ap₂ made rows_are conflicts_are ∙ c.in_ok-take_all_out.ensures.flat ∙ ap flat same
 
 pub returns-clause-within : goal.returns-clause-within

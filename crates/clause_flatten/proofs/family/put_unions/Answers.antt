@@ -1,0 +1,77 @@
+use Rattle.std.proofs.Common.{ap, ◌∙◌, ◌+◌, sym, subst, refl, take, List, ℕ}
+use Rattle.clause_pool.specs.Interned.{Interned, IsIdOf, Kept, OfPool, clauses_at}
+use Rattle.row_book.specs.Clauses.{Ascending, InOrder}
+use Rattle.row_book.proofs.Lists.{item_in}
+use Rattle.clause_flatten.specs.Families.{HasUnions}
+use Rattle.clause_flatten.proofs.Families.{At, at_item, kept_of_pool, kept_same, kept_trans}
+use Rattle.clause_flatten.proofs.UnionRows.{gained_of_pool, unions_less, unions_more, unions_none}
+use Rattle.clause_flatten.proofs.family.put_unions.Goals as goal
+use Rattle.clause_flatten.proofs.family.put_unions.Goals.{then-is_shortest+in_ok-id+in_ok-put_in_place, else-is_shortest}
+
+pub loop-union-init : goal.loop-union-init
+loop-union-init c = record {
+  made = unions_none (clauses_at c.args.pool.now c.args.ids.now.items) c.args.kept.now c.args.unions.now c.requires.in_order;
+  of_pool = c.requires.of_pool;
+  stay = record { clauses = λ id l. (l, refl); rows = λ id l. (l, refl) };
+}
+
+pub is_shortest-requires-clause-ascending : goal.is_shortest-requires-clause-ascending
+is_shortest-requires-clause-ascending c =
+    subst Ascending (sym c.as_slice.ensures)
+    (c.requires.ascending c.union-item.result (item_in c.args.unions.now c.loop-union.union-index c.union-item.result c.loop-union-test.true c.union-item.is))
+
+pub intern-requires : goal.intern-requires
+intern-requires c =
+    subst Ascending (sym c.as_slice-then-is_shortest.ensures)
+    (c.requires.ascending c.union-item.result (item_in c.args.unions.now c.loop-union.union-index c.union-item.result c.loop-union-test.true c.union-item.is))
+
+pub put_in_place-requires-clause-of_pool : goal.put_in_place-requires-clause-of_pool
+put_in_place-requires-clause-of_pool c = kept_of_pool c.loop-union.pool c.intern.new.self c.in_ok-id.ensures.kept c.loop-union.ids.items c.loop-union.invariant.of_pool
+
+pub put_in_place-requires-clause-in_order : goal.put_in_place-requires-clause-in_order
+put_in_place-requires-clause-in_order c =
+    subst InOrder (sym (kept_same c.loop-union.pool c.intern.new.self c.in_ok-id.ensures.kept c.loop-union.ids.items c.loop-union.invariant.of_pool)) c.loop-union.invariant.made.order
+
+pub returns-in_err-put_in_place-clause-kept : goal.returns-in_err-put_in_place-clause-kept
+returns-in_err-put_in_place-clause-kept c = kept_trans c.args.pool.now c.loop-union.pool c.intern.new.self c.loop-union.invariant.stay c.in_ok-id.ensures.kept
+
+pub loop-union-preserved : goal.loop-union-preserved
+loop-union-preserved c =
+    let old : List (List ℕ) = clauses_at c.args.pool.now c.args.ids.now.items in
+    let at : At c.args.unions.now c.loop-union.union-index c.as_slice.result.now =
+    at_item c.args.unions.now c.loop-union.union-index c.union-item.result c.as_slice.result.now c.loop-union-test.true c.union-item.is c.as_slice.ensures in
+    elim c.if-is_shortest.branch [
+      | then-is_shortest+in_ok-id+in_ok-put_in_place w ↦
+          let next : Interned = w.intern.new.self in
+          let ids : List ℕ = w.put_in_place.new.ids.items in
+          let there_is : IsIdOf next.clauses c.as_slice.result.now w.in_ok-id.id =
+          subst (λ z. IsIdOf next.clauses z w.in_ok-id.id) (w.as_slice-then-is_shortest.ensures ∙ sym c.as_slice.ensures) w.in_ok-id.ensures.ok in
+          let made : HasUnions old c.args.kept.now c.args.unions.now (take (c.loop-union.union-index + 1) c.args.unions.now) (clauses_at next ids) =
+          unions_more old c.args.kept.now c.args.unions.now c.loop-union.union-index c.as_slice.result.now at c.loop-union.pool next c.loop-union.ids.items ids w.in_ok-id.id
+          c.loop-union.invariant.of_pool w.in_ok-id.ensures.kept there_is w.in_ok-put_in_place.ensures.gained w.in_ok-put_in_place.ensures.in_order
+          (sym c.is_shortest.ensures ∙ w.if-is_shortest.true) c.loop-union.invariant.made in
+          let of_pool : OfPool next ids =
+          gained_of_pool next c.loop-union.ids.items ids w.in_ok-id.id (kept_of_pool c.loop-union.pool next w.in_ok-id.ensures.kept c.loop-union.ids.items c.loop-union.invariant.of_pool)
+          w.in_ok-id.ensures.ok.within w.in_ok-put_in_place.ensures.gained in
+          subst (λ p. record {
+            made : HasUnions old c.args.kept.now c.args.unions.now (take (c.loop-union.union-index + 1) c.args.unions.now) (clauses_at p c.if-is_shortest.ids.items);
+            of_pool : OfPool p c.if-is_shortest.ids.items;
+            stay : Kept c.args.pool.now p;
+          }) (sym w.pool-is) (record {
+            made = subst (λ z. HasUnions old c.args.kept.now c.args.unions.now (take (c.loop-union.union-index + 1) c.args.unions.now) (clauses_at next z)) (sym (ap (λ z. z.items) w.ids-is)) made;
+            of_pool = subst (λ z. OfPool next z) (sym (ap (λ z. z.items) w.ids-is)) of_pool;
+            stay = kept_trans c.args.pool.now c.loop-union.pool next c.loop-union.invariant.stay w.in_ok-id.ensures.kept;
+          })
+      | else-is_shortest w ↦
+          subst (λ p. record {
+            made : HasUnions old c.args.kept.now c.args.unions.now (take (c.loop-union.union-index + 1) c.args.unions.now) (clauses_at p c.if-is_shortest.ids.items);
+            of_pool : OfPool p c.if-is_shortest.ids.items;
+            stay : Kept c.args.pool.now p;
+          }) (sym w.pool-is) (record {
+            made = subst (λ z. HasUnions old c.args.kept.now c.args.unions.now (take (c.loop-union.union-index + 1) c.args.unions.now) (clauses_at c.loop-union.pool z)) (sym (ap (λ z. z.items) w.ids-is))
+                (unions_less old c.args.kept.now c.args.unions.now c.loop-union.union-index c.as_slice.result.now at (clauses_at c.loop-union.pool c.loop-union.ids.items)
+                (sym c.is_shortest.ensures ∙ w.if-is_shortest.false) c.loop-union.invariant.made);
+            of_pool = subst (λ z. OfPool c.loop-union.pool z) (sym (ap (λ z. z.items) w.ids-is)) c.loop-union.invariant.of_pool;
+            stay = c.loop-union.invariant.stay;
+          })
+    ]

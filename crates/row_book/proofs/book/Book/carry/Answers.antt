@@ -1,0 +1,40 @@
+use Rattle.std.proofs.Common.{◌≡◌, ◌<◌, ◌∙◌, ℕ, ap, sym, subst, map, length}
+use Rattle.std.proofs.lemmas.List.{take_all}
+use Rattle.clause_pool.specs.Interned.{row_at}
+use Rattle.row_book.specs.Sets.{In}
+use Rattle.row_book.specs.Book.{IsSameBook}
+use Rattle.row_book.proofs.Lists.{item_in}
+use Rattle.row_book.proofs.Moved.{carried_more, carried_none, kept_more, ok_both, same_book}
+use Rattle.row_book.proofs.book.Book.carry.Goals as goal
+
+pub loop-row-init : goal.loop-row-init
+loop-row-init c = carried_none c.args.from.now c.args.into.now c.as_slice-row-items.result.now c.new-rows.result.items c.new-rows.ensures.items c.clause_count.ensures.sound
+
+pub carry_row-requires : goal.carry_row-requires
+carry_row-requires c =
+    c.requires.rows.of_pool c.row-item.result
+    (subst (λ z. In c.row-item.result z) c.as_slice-row-items.ensures (item_in c.as_slice-row-items.result.now c.loop-row.row-index c.row-item.result c.loop-row-test.true c.row-item.is))
+
+pub returns-in_err-carried-clause-kept : goal.returns-in_err-carried-clause-kept
+returns-in_err-carried-clause-kept c = kept_more c.args.into.now c.loop-row.into c.carry_row.new.self c.loop-row.invariant.kept c.carry_row.ensures.kept
+
+pub returns-in_err-push-clause-kept : goal.returns-in_err-push-clause-kept
+returns-in_err-push-clause-kept c = kept_more c.args.into.now c.loop-row.into c.carry_row.new.self c.loop-row.invariant.kept c.carry_row.ensures.kept
+
+pub loop-row-preserved : goal.loop-row-preserved
+loop-row-preserved c =
+    carried_more c.args.from.now c.args.into.now c.loop-row.into c.as_slice-row-items.result.now c.loop-row.rows.items c.loop-row.row-index c.loop-row.invariant
+    c.carry_row.new.self c.row-item.result c.in_ok-carried.carried c.push.new.self.items c.loop-row-test.true c.row-item.is
+    c.in_ok-carried.ensures.ok c.in_ok-carried.ensures.rows c.in_ok-carried.ensures.clauses c.in_ok-carried.ensures.kept c.in_ok-carried.ensures.sound c.in_ok-push.ensures.items
+
+pub returns-clause-same : goal.returns-clause-same
+returns-clause-same c =
+    ok_both (λ book. book.rows ≡ c.of.result) (λ book. book.conflicts ≡ c.args.self.now.conflicts)
+    (λ book. IsSameBook c.args.from.now c.args.self.now c.loop-row.into book) c.with_rows.result
+    (λ book e f.
+    let is : book.rows ≡ c.loop-row.rows.items = e ∙ c.of.ensures in
+    same_book c.args.from.now c.args.self.now c.loop-row.into book
+    (ap (map (row_at c.loop-row.into)) is ∙ c.loop-row.invariant.same
+    ∙ ap (map (row_at c.args.from.now)) (take_all c.loop-row.row-index c.as_slice-row-items.result.now c.loop-row-test.false ∙ c.as_slice-row-items.ensures)) f
+    (subst (λ z. (id : ℕ) → In id z → id < length c.loop-row.into.rows) (sym is) c.loop-row.invariant.within))
+    c.with_rows.ensures.rows c.with_rows.ensures.conflicts

@@ -1,0 +1,44 @@
+//! Books whose rows come into another pool.
+ghost use Rattle.std.specs.Prelude.{ℕ, List, IfOk, OnOk};
+ghost use Rattle.clause_pool.specs.Interned.{Interned, IsPool, Kept};
+ghost use Rattle.clause_pool.specs.Compacting.{Compacts, Knows};
+ghost use Rattle.row_book.specs.Sets.{In};
+ghost use Rattle.row_book.specs.Book.{AddsOnly, IsSameBook, Sound};
+
+use crate::book::Book;
+use clause_pool::{Pool, Remap};
+use listed::Listed;
+use std::alloc::{AllocError, Global};
+
+impl Book {
+    /// The same book in the pool that a compaction has left, where each of its rows was live; it fails only where no memory
+    /// is found.
+    pub fn rename(&self, alloc: Global, remap: &Remap) -> Result<Book, AllocError>
+        requires { (id : ℕ) → In id self.now.rows → Knows remap.now id }
+        ensures { IfOk result (λ book. (old new : Interned) (live : List ℕ) → Compacts old live remap.now new → IsSameBook old self.now new book) }
+    {
+        let mut rows = Vec::new(alloc);
+        for row in self.rows.as_slice() {
+            rows.push(remap.row(*row))?;
+        }
+        self.with_rows(alloc, Listed::of(rows))
+    }
+
+    /// The same book in another pool, which gains its rows and their clauses alone; it fails only where no memory is found,
+    /// and then some of these may have been gained. What that pool held stays.
+    pub fn carry(&self, alloc: Global, from: &Pool, into: &mut Pool) -> Result<Book, AllocError>
+        requires { Sound from.now self.now }
+        ensures same { IfOk result (λ book. IsSameBook from.now self.now into.new book) }
+        ensures only { IfOk result (λ book. AddsOnly into.old into.new book.rows) }
+        ensures kept { Kept into.old into.new }
+        ensures pool { OnOk result (IsPool into.new) }
+    {
+        into.clause_count();
+        let mut rows = Vec::new(alloc);
+        for row in self.rows.as_slice() {
+            let carried = into.carry_row(from, *row)?;
+            rows.push(carried)?;
+        }
+        self.with_rows(alloc, Listed::of(rows))
+    }
+}

@@ -13,6 +13,7 @@ pub mod Sound
 pub mod Flattening
 pub mod Keeping
 pub mod Facing
+pub mod Within
 pub mod Merging
 pub mod Pruning
 pub mod Thinning

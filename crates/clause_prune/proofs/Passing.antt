@@ -11,18 +11,12 @@ use Rattle.row_book.specs.Book.{listed_for}
 use Rattle.row_book.specs.Flattening.{packages}
 use Rattle.row_book.specs.Repository.{Repository, against, clauses_of}
 use Rattle.row_book.specs.Uses.{row_id}
+use Rattle.row_book.proofs.Leads.{all_fails, all_pass, any_at, none_at}
 use Rattle.row_book.proofs.Lists.{In_has, In_map, all_at, all_from, all_same, any_from, has_In}
 use Rattle.row_book.proofs.Repositories.{in_packages, numbers_test, same_numbers, same_test}
 use Rattle.row_book.specs.Pruning.{is_forced, is_harmless, is_idle, is_met, serves}
 use Rattle.row_book.specs.Facing.{against_in}
 use Rattle.clause_prune.specs.Tests.{forces_in, harmless_in, with_ids, met_in}
-
-pub any_at : (p : List ℕ → Bool) (f : ℕ → List ℕ) (xs : List ℕ) (x : ℕ) → In x xs → p (f x) ≡ true → list_any p (map f xs) ≡ true
-any_at p f xs x i h = any_from p (map f xs) (f x) (In_map f xs x i) h
-
-pub none_at : (p : List ℕ → Bool) (f : ℕ → List ℕ) (xs : List ℕ) → ((k : ℕ) → k < length xs → p (f (get_or xs k 0)) ≡ false) → list_any p (map f xs) ≡ false
-none_at p f [] h = refl
-none_at p f (x ∷ xs) h = or_from (p (f x)) (list_any p (map f xs)) (h 0 (omega arith)) (none_at p f xs (λ k l. h (suc k) (omega arith)))
 
 -- the clauses in what is left
 module _ (pool : Interned) (rows : List ℕ) (p : ℕ) (left : List ℕ) (table : List (List ℕ)) (inside : p < length rows) where
@@ -44,16 +38,6 @@ any_filter test keep (x ∷ xs) = pick (keep x) (any_filter test keep xs)
     pick : (b : Bool) → list_any test (filter keep xs) ≡ list_any (λ x. keep x && test x) xs → list_any test (cond b (x ∷ filter keep xs) (filter keep xs)) ≡ ((b && test x) || list_any (λ x. keep x && test x) xs)
     pick true e = ap (λ z. test x || z) e
     pick false e = e
-
--- one of all fails
-pub all_fails : (f : ℕ → Bool) (xs : List ℕ) (i : ℕ) → i < length xs → f (get_or xs i 0) ≡ false → list_all f xs ≡ false
-all_fails f [] i l e = absurd (omega arith)
-all_fails f (x ∷ xs) zero l e = and_left (f x) (list_all f xs) e
-all_fails f (x ∷ xs) (suc i) l e = and_right (f x) (list_all f xs) (all_fails f xs i (omega arith) e)
-
-pub all_pass : (f : ℕ → Bool) (xs : List ℕ) → ((k : ℕ) → k < length xs → f (get_or xs k 0) ≡ true) → list_all f xs ≡ true
-all_pass f [] h = refl
-all_pass f (x ∷ xs) h = and_from (f x) (list_all f xs) (h 0 (omega arith)) (all_pass f xs (λ k l. h (suc k) (omega arith)))
 
 -- ids of a pool differ where their clauses do
 pub other_id : (pool : Interned) → IsPool pool → (i j : ℕ) → i < length pool.clauses → j < length pool.clauses → (i ≡ j → ⊥) → not (pointwise eqb (clause_at pool i) (clause_at pool j)) ≡ true

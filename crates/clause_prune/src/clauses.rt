@@ -2,7 +2,7 @@
 ghost use Rattle.std.specs.Prelude.{◌≡◌, ◌<◌, ◌++◌, [], ℕ, IfOk, List, OnOk, eqb, filter, length, map, not};
 ghost use Rattle.clause_pool.specs.Interned.{clause_at, clauses_at, OfPool};
 ghost use Rattle.row_book.specs.Sets.{In};
-ghost use Rattle.row_book.specs.Clauses.{InOrder};
+ghost use Rattle.row_book.specs.Clauses.{Ascending, InOrder};
 ghost use Rattle.row_book.specs.Book.{listed_for, RowsFit};
 ghost use Rattle.row_book.specs.Repository.{Repository};
 ghost use Rattle.row_book.specs.Pruning.{clause_steps, clauses_steps, prune_clause, prune_clauses};
@@ -51,13 +51,15 @@ fn prune_one(
     requires conflicts { (p n : ℕ) → In n (listed_for table.now p) → n < length rows.now }
     requires inside { «package» < length rows.now }
     requires left { OfPool pool.now left.old.items }
+    requires order { InOrder (clauses_at pool.now left.old.items) }
+    requires table { (p : ℕ) → Ascending (listed_for table.now p) }
     requires clause { clause < length pool.now.clauses }
     requires own { (n : ℕ) → In n (clause_at pool.now clause) → n < length rows.now }
     requires members { (c : List ℕ) → In c (clauses_at pool.now left.old.items) → (n : ℕ) → In n c → n < length rows.now }
     ensures left { OnOk result (◌≡◌ {A = Repository} (with_ids pool.now rows.now «package» left.new.items table.now)
         (prune_clause (with_ids pool.now rows.now «package» left.old.items table.now) «package» (clause_at pool.now clause))) }
     ensures part { OnOk result ((id : ℕ) → In id left.new.items → In id left.old.items) }
-    ensures order { OnOk result (InOrder (clauses_at pool.now left.old.items) → InOrder (clauses_at pool.now left.new.items)) }
+    ensures order { OnOk result (InOrder (clauses_at pool.now left.new.items)) }
     ensures idle { OnOk result (trail_meaning pool.now idle.new ≡ trail_meaning pool.now idle.old
         ++ map IdleStep (clause_steps (with_ids pool.now rows.now «package» left.old.items table.now) «package» (clause_at pool.now clause))) }
 {
@@ -93,11 +95,13 @@ pub(crate) fn prune_each(
     requires conflicts { (p n : ℕ) → In n (listed_for table.now p) → n < length rows.now }
     requires inside { «package» < length rows.now }
     requires ids { OfPool pool.now ids.now }
+    requires order { InOrder (clauses_at pool.now ids.now) }
+    requires table { (p : ℕ) → Ascending (listed_for table.now p) }
     requires members { (c : List ℕ) → In c (clauses_at pool.now ids.now) → (n : ℕ) → In n c → n < length rows.now }
     ensures left { IfOk result (λ left. ◌≡◌ {A = Repository} (with_ids pool.now rows.now «package» left.items table.now)
         (prune_clauses (with_ids pool.now rows.now «package» ids.now table.now) «package» (clauses_at pool.now ids.now))) }
     ensures part { IfOk result (λ left. (id : ℕ) → In id left.items → In id ids.now) }
-    ensures order { IfOk result (λ left. InOrder (clauses_at pool.now ids.now) → InOrder (clauses_at pool.now left.items)) }
+    ensures order { IfOk result (λ left. InOrder (clauses_at pool.now left.items)) }
     ensures idle { OnOk result (trail_meaning pool.now idle.new ≡ trail_meaning pool.now idle.old
         ++ map IdleStep (clauses_steps (with_ids pool.now rows.now «package» ids.now table.now) «package» (clauses_at pool.now ids.now))) }
 {

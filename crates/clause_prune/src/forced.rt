@@ -3,14 +3,14 @@ ghost use Rattle.std.specs.Prelude.{◌≡◌, ◌<◌, ◌&&◌, ◌||◌, [], 
 ghost use Rattle.std.specs.List.{list_all, list_any};
 ghost use Rattle.clause_pool.specs.Interned.{clause_at, clauses_at, OfPool};
 ghost use Rattle.row_book.specs.Sets.{has, In};
-ghost use Rattle.row_book.specs.Clauses.{is_inside};
+ghost use Rattle.row_book.specs.Clauses.{Ascending, InOrder};
 ghost use Rattle.row_book.specs.Book.{RowsFit};
 ghost use Rattle.row_book.specs.Repository.{clauses_of};
 ghost use Rattle.row_book.specs.Pruning.{is_forced, serves};
 ghost use Rattle.clause_prune.specs.Tests.{forces_in, with_ids};
 
 use clause_pool::{ClauseId, Pool, RowId};
-use row_book::{holds, is_inside};
+use row_book::{has_within, holds};
 
 /// The clauses of a package: of the one that is pruned those that are left.
 pub(crate) fn clauses_of<'a>(
@@ -24,27 +24,18 @@ pub(crate) fn clauses_of<'a>(
     requires inside { «package» < length rows.now }
     requires other { other < length rows.now }
     requires left { OfPool pool.now left.now }
+    requires order { InOrder (clauses_at pool.now left.now) }
     ensures is { clauses_at pool.now result.now ≡ clauses_of (with_ids pool.now rows.now «package» left.now []) other }
     ensures of_pool { OfPool pool.now result.now }
+    ensures order { InOrder (clauses_at pool.now result.now) }
 {
+    // What holds of every pool is told by this call alone.
+    pool.clause_count();
     if other == package {
         left
     } else {
         pool.row(rows[other as usize])
     }
-}
-
-/// Whether a clause of the row lies within the clause.
-fn has_inside(pool: &Pool, row: &[ClauseId], clause: &[u32]) -> bool
-    requires { OfPool pool.now row.now }
-    ensures { result ≡ list_any (λ c. is_inside c clause.now) (clauses_at pool.now row.now) }
-{
-    for id in row {
-        if is_inside(pool.slice(*id), clause) {
-            return true;
-        }
-    }
-    false
 }
 
 /// Whether the other package sees to it that the clause is hit.
@@ -60,9 +51,12 @@ fn serves(
     requires inside { «package» < length rows.now }
     requires other { other < length rows.now }
     requires left { OfPool pool.now left.now }
+    requires order { InOrder (clauses_at pool.now left.now) }
+    requires clause { Ascending clause.now }
     ensures { result ≡ serves (with_ids pool.now rows.now «package» left.now []) clause.now other }
 {
-    holds(clause, other) || has_inside(pool, clauses_of(pool, rows, package, left, other), clause)
+    holds(clause, other)
+        || has_within(pool, clauses_of(pool, rows, package, left, other), &None, clause)
 }
 
 /// Whether each of the packages sees to it that the clause is hit.
@@ -78,6 +72,8 @@ fn each_serves(
     requires inside { «package» < length rows.now }
     requires members { (n : ℕ) → In n members.now → n < length rows.now }
     requires left { OfPool pool.now left.now }
+    requires order { InOrder (clauses_at pool.now left.now) }
+    requires clause { Ascending clause.now }
     ensures { result ≡ list_all (serves (with_ids pool.now rows.now «package» left.now []) clause.now) members.now }
 {
     for member in members {
@@ -100,6 +96,7 @@ fn forces(
     requires fit { RowsFit pool.now rows.now }
     requires inside { «package» < length rows.now }
     requires left { OfPool pool.now left.now }
+    requires order { InOrder (clauses_at pool.now left.now) }
     requires clause { clause < length pool.now.clauses }
     requires id { id < length pool.now.clauses }
     requires members { (n : ℕ) → In n (clause_at pool.now id) → n < length rows.now }
@@ -121,6 +118,7 @@ pub(crate) fn is_forced(
     requires fit { RowsFit pool.now rows.now }
     requires inside { «package» < length rows.now }
     requires left { OfPool pool.now left.now }
+    requires order { InOrder (clauses_at pool.now left.now) }
     requires clause { clause < length pool.now.clauses }
     requires members { (c : List ℕ) → In c (clauses_at pool.now left.now) → (n : ℕ) → In n c → n < length rows.now }
     ensures { result ≡ is_forced (with_ids pool.now rows.now «package» left.now []) «package» (clause_at pool.now clause) }

@@ -4,6 +4,7 @@ ghost use Rattle.std.specs.Cmp.Lexicographic.{pointwise};
 ghost use Rattle.std.specs.List.{find, list_all, list_any};
 ghost use Rattle.clause_pool.specs.Interned.{clause_at, clauses_at, OfPool};
 ghost use Rattle.row_book.specs.Sets.{has, In};
+ghost use Rattle.row_book.specs.Clauses.{Ascending, InOrder};
 ghost use Rattle.row_book.specs.Book.{listed_for, RowsFit};
 ghost use Rattle.row_book.specs.Pruning.{is_idle};
 ghost use Rattle.row_book.specs.Facing.{against_in};
@@ -11,31 +12,17 @@ ghost use Rattle.clause_prune.specs.Tests.{excludes_in, harmless_in, includes_in
 
 use crate::forced::clauses_of;
 use clause_pool::{ClauseId, NumList, Pool, RowId};
-use row_book::{are_against, conflicts_with_all, holds, is_inside};
-
-/// Whether the clause of the id is another one than the clause, and the package conflicts with each of its members.
-fn excludes(pool: &Pool, table: &[NumList], package: u32, clause: ClauseId, id: ClauseId) -> bool
-    requires clause { clause < length pool.now.clauses }
-    requires id { id < length pool.now.clauses }
-    ensures { result ≡ excludes_in pool.now table.now «package» (clause_at pool.now clause) (clause_at pool.now id) }
-{
-    // What holds of every pool is told by this call alone.
-    pool.clause_count();
-    id != clause && conflicts_with_all(table, package, pool.slice(id))
-}
+use row_book::{are_against, conflicts_of, has_within, holds};
 
 /// Whether the package conflicts with each member of some clause that is left, other than the given one.
 fn excludes_one(pool: &Pool, table: &[NumList], left: &[ClauseId], clause: ClauseId, package: u32) -> bool
     requires left { OfPool pool.now left.now }
+    requires order { InOrder (clauses_at pool.now left.now) }
+    requires table { (p : ℕ) → Ascending (listed_for table.now p) }
     requires clause { clause < length pool.now.clauses }
     ensures { result ≡ list_any (excludes_in pool.now table.now «package» (clause_at pool.now clause)) (clauses_at pool.now left.now) }
 {
-    for id in left {
-        if excludes(pool, table, package, clause, *id) {
-            return true;
-        }
-    }
-    false
+    has_within(pool, left, &Some(clause), conflicts_of(table, package))
 }
 
 /// Whether the other package, which conflicts with a member of the clause, is out anyway where the package is in and the
@@ -49,6 +36,8 @@ fn is_harmless(
     other: u32,
 ) -> bool
     requires left { OfPool pool.now left.now }
+    requires order { InOrder (clauses_at pool.now left.now) }
+    requires table { (p : ℕ) → Ascending (listed_for table.now p) }
     requires clause { clause < length pool.now.clauses }
     ensures { result ≡ harmless_in pool.now table.now «package» left.now (clause_at pool.now clause) other }
 {
@@ -58,34 +47,22 @@ fn is_harmless(
                 || excludes_one(pool, table, left, clause, other)))
 }
 
-/// Whether the clause of the id is another one than the clause, and lies within the third.
-fn includes(pool: &Pool, clause: ClauseId, whole: &[u32], id: ClauseId) -> bool
-    requires clause { clause < length pool.now.clauses }
-    requires id { id < length pool.now.clauses }
-    ensures { result ≡ includes_in (clause_at pool.now clause) whole.now (clause_at pool.now id) }
-{
-    // What holds of every pool is told by this call alone.
-    pool.clause_count();
-    id != clause && is_inside(pool.slice(id), whole)
-}
-
 /// Whether some clause that is left, other than the given one, lies within the third.
 fn includes_one(pool: &Pool, left: &[ClauseId], clause: ClauseId, whole: &[u32]) -> bool
     requires left { OfPool pool.now left.now }
+    requires order { InOrder (clauses_at pool.now left.now) }
     requires clause { clause < length pool.now.clauses }
+    requires whole { Ascending whole.now }
     ensures { result ≡ list_any (includes_in (clause_at pool.now clause) whole.now) (clauses_at pool.now left.now) }
 {
-    for id in left {
-        if includes(pool, clause, whole, *id) {
-            return true;
-        }
-    }
-    false
+    has_within(pool, left, &Some(clause), whole)
 }
 
 /// Whether the third clause is hit wherever the package is in and its other clauses are hit.
 fn is_met(pool: &Pool, package: u32, left: &[ClauseId], clause: ClauseId, whole: &[u32]) -> bool
     requires left { OfPool pool.now left.now }
+    requires order { InOrder (clauses_at pool.now left.now) }
+    requires whole { Ascending whole.now }
     requires clause { clause < length pool.now.clauses }
     ensures { result ≡ met_in pool.now «package» left.now (clause_at pool.now clause) whole.now }
 {
@@ -102,6 +79,8 @@ fn all_harmless(
     conflicting: &[u32],
 ) -> bool
     requires left { OfPool pool.now left.now }
+    requires order { InOrder (clauses_at pool.now left.now) }
+    requires table { (p : ℕ) → Ascending (listed_for table.now p) }
     requires clause { clause < length pool.now.clauses }
     ensures { result ≡ list_all (harmless_in pool.now table.now «package» left.now (clause_at pool.now clause)) conflicting.now }
 {
@@ -122,26 +101,19 @@ fn all_met(
     row: &[ClauseId],
 ) -> bool
     requires left { OfPool pool.now left.now }
+    requires order { InOrder (clauses_at pool.now left.now) }
     requires clause { clause < length pool.now.clauses }
     requires row { OfPool pool.now row.now }
     ensures { result ≡ list_all (met_in pool.now «package» left.now (clause_at pool.now clause)) (clauses_at pool.now row.now) }
 {
+    // What holds of every pool is told by this call alone.
+    pool.clause_count();
     for id in row {
         if !is_met(pool, package, left, clause, pool.slice(*id)) {
             return false;
         }
     }
     true
-}
-
-/// The packages that the table has for a package.
-fn conflicts_of(table: &[NumList], package: u32) -> &[u32]
-    ensures { result.now ≡ listed_for table.now «package» }
-{
-    match table.get(package as usize) {
-        Some(list) => list.as_slice(),
-        None => &[],
-    }
 }
 
 /// Whether the clause is idle by its member.
@@ -158,6 +130,8 @@ fn is_idle(
     requires conflicts { (p n : ℕ) → In n (listed_for table.now p) → n < length rows.now }
     requires inside { «package» < length rows.now }
     requires left { OfPool pool.now left.now }
+    requires order { InOrder (clauses_at pool.now left.now) }
+    requires table { (p : ℕ) → Ascending (listed_for table.now p) }
     requires clause { clause < length pool.now.clauses }
     requires member { In member (clause_at pool.now clause) }
     requires below { member < length rows.now }
@@ -180,6 +154,8 @@ pub(crate) fn idle_by(
     requires conflicts { (p n : ℕ) → In n (listed_for table.now p) → n < length rows.now }
     requires inside { «package» < length rows.now }
     requires left { OfPool pool.now left.now }
+    requires order { InOrder (clauses_at pool.now left.now) }
+    requires table { (p : ℕ) → Ascending (listed_for table.now p) }
     requires clause { clause < length pool.now.clauses }
     requires members { (n : ℕ) → In n (clause_at pool.now clause) → n < length rows.now }
     ensures { result ≡ find (is_idle (with_ids pool.now rows.now «package» left.now table.now) «package» (clause_at pool.now clause)) (clause_at pool.now clause) }

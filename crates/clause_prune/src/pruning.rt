@@ -2,6 +2,7 @@
 ghost use Rattle.std.specs.Prelude.{◌≡◌, ◌<◌, ◌++◌, ◌∷◌, [], ℕ, List, IfOk, OnOk, length, map};
 ghost use Rattle.clause_pool.specs.Interned.{row_at, Kept};
 ghost use Rattle.row_book.specs.Sets.{In};
+ghost use Rattle.row_book.specs.Clauses.{Ascending};
 ghost use Rattle.row_book.specs.Book.{listed_for, repository_of, RowsFit, RowsTidy, Sound};
 ghost use Rattle.row_book.specs.Repository.{Repository};
 ghost use Rattle.row_book.specs.Keeping.{KeepsSets};
@@ -49,6 +50,7 @@ fn pruned_row(
 ) -> Result<RowId, AllocError>
     requires fit { RowsFit pool.old rows.now }
     requires conflicts { (p n : ℕ) → In n (listed_for table.now p) → n < length rows.now }
+    requires table { (p : ℕ) → Ascending (listed_for table.now p) }
     requires inside { «package» < length rows.now }
     ensures row { IfOk result (λ id. ◌≡◌ {A = Repository} (prune_package (repository_in pool.old rows.now table.now) «package») (with_clauses (repository_in pool.old rows.now table.now) «package» (row_at pool.new id))) }
     ensures of_pool { IfOk result (λ id. id < length pool.new.rows) }
@@ -58,7 +60,8 @@ fn pruned_row(
     // What holds of every pool is told by this call alone.
     pool.clause_count();
     let ids = Vec::from_slice(alloc, pool.row(rows[package as usize]))?;
-    if is_dead(pool, table, package, ids.as_slice()) {
+    let dead = is_dead(alloc, pool, table, package, ids.as_slice())?;
+    if dead {
         return empty_row(pool);
     }
     let left = prune_each(alloc, pool, rows, table, package, ids.as_slice(), idle)?;

@@ -1,5 +1,6 @@
 -- The test of thinning over a table of conflicts, and the pairs that it goes through.
 use Rattle.std.specs.Prelude.{ℕ, Bool, not, ◌&&◌, eqb, ltb, List, map, filter, cond, slice_set}
+use Rattle.std.specs.List.{list_all}
 use Rattle.clause_pool.specs.Interned.{Interned, row_at}
 use Rattle.row_book.specs.declared.book.Book.{Book}
 use Rattle.row_book.specs.declared.pair.Pair.{Pair}
@@ -11,6 +12,10 @@ use Rattle.row_book.specs.Thinning.{is_pair, is_redundant}
 -- whether m and n conflict in the table, by another pair than the given one
 abbrev pub conflict_but : List (List ℕ) → Pair → ℕ → ℕ → Bool
 conflict_but table pair m n = against_in table m n && not (is_pair pair.low pair.high m n)
+
+-- the conflicts of the first package with which each number of the list conflicts by another pair
+abbrev pub common_but : List (List ℕ) → Pair → ℕ → List ℕ → List ℕ
+common_but table pair first list = filter (λ n. list_all (λ m. conflict_but table pair m n) list) (listed_for table first)
 
 -- the book's rows with a table of conflicts
 abbrev pub with_table : Interned → Book → List (List ℕ) → Repository

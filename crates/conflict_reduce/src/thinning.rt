@@ -1,6 +1,7 @@
 //! Thinning of a book.
-ghost use Rattle.std.specs.Prelude.{◌≡◌, ◌<◌, ◌++◌, ◌∷◌, [], IfOk, OnOk, length, slice_set};
+ghost use Rattle.std.specs.Prelude.{◌≡◌, ◌<◌, ◌++◌, ◌∷◌, [], ℕ, IfOk, OnOk, length, slice_set};
 ghost use Rattle.row_book.specs.Book.{listed_for, repository_of, PairsFit, RowsFit, Sound};
+ghost use Rattle.row_book.specs.Clauses.{Ascending};
 ghost use Rattle.row_book.specs.Repository.{Repository};
 ghost use Rattle.row_book.specs.Keeping.{KeepsHealthySets};
 ghost use Rattle.row_book.specs.Thinning.{conflicting_pairs, thin, thin_over};
@@ -93,11 +94,13 @@ fn thin_pair(
 ) -> Result<(), AllocError>
     requires rows { RowsFit pool.now book.now.rows }
     requires count { length table.old ≡ length book.now.rows }
+    requires table { (p : ℕ) → Ascending (listed_for table.old p) }
     requires low { pair.low < length book.now.rows }
     requires high { pair.high < length book.now.rows }
     ensures { OnOk result (table.new ≡ table_after (with_table pool.now book.now table.old) pair) }
 {
-    if is_redundant(pool, book, table, pair) {
+    let redundant = is_redundant(alloc, pool, book, table, pair)?;
+    if redundant {
         drop_conflict(alloc, table, pair)?;
     }
     Ok(())
@@ -113,6 +116,7 @@ fn thin_pairs(
 ) -> Result<(), AllocError>
     requires rows { RowsFit pool.now book.now.rows }
     requires count { length table.old ≡ length book.now.rows }
+    requires table { (p : ℕ) → Ascending (listed_for table.old p) }
     requires fit { PairsFit pairs.now (length book.now.rows) }
     ensures { OnOk result (◌≡◌ {A = Repository} (with_table pool.now book.now table.new) (thin_over (with_table pool.now book.now table.old) (as_numbers pairs.now))) }
 {

@@ -17,3 +17,4 @@ pub mod Samples
 pub mod Repositories
 pub mod Facing
 pub mod BookRepositories
+pub mod Leads

@@ -1,6 +1,6 @@
 -- Packages that exclude each other by what they need: a healthy set with the package has a member of each of the
 -- package's sides.
-use Rattle.std.specs.Prelude.{ℕ, Bool, List, [], ◌∷◌}
+use Rattle.std.specs.Prelude.{ℕ, Bool, List, [], ◌∷◌, filter}
 use Rattle.std.specs.List.{list_all, list_any}
 use Rattle.row_book.specs.Sets.{has}
 use Rattle.row_book.specs.Book.{listed_for}
@@ -21,3 +21,7 @@ face test ds es = list_any (λ d. list_any (all_against test d) es) ds
 -- whether the table has n among the conflicts of m
 abbrev pub against_in : List (List ℕ) → ℕ → ℕ → Bool
 against_in table m n = has (listed_for table m) n
+
+-- the packages that conflict with the first and with each of the others, by the table
+abbrev pub common_to : List (List ℕ) → ℕ → List ℕ → List ℕ
+common_to table first others = filter (λ n. list_all (λ m. against_in table m n) others) (listed_for table first)

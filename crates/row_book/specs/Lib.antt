@@ -14,6 +14,7 @@ pub mod Needs
 pub mod Flattening
 pub mod Keeping
 pub mod Facing
+pub mod Within
 pub mod Merging
 pub mod Pruning
 pub mod Thinning

@@ -1,12 +1,14 @@
 //! Which packages conflict, by a table of their conflicts.
-ghost use Rattle.std.specs.Prelude.{◌≡◌};
+ghost use Rattle.std.specs.Prelude.{◌≡◌, ℕ, IfOk};
 ghost use Rattle.std.specs.List.{list_all};
 ghost use Rattle.row_book.specs.Sets.{has};
 ghost use Rattle.row_book.specs.Book.{listed_for};
-ghost use Rattle.row_book.specs.Clauses.{is_inside};
-ghost use Rattle.row_book.specs.Facing.{against_in, all_against};
+ghost use Rattle.row_book.specs.Clauses.{is_inside, Ascending};
+ghost use Rattle.row_book.specs.Facing.{against_in, all_against, common_to};
 
+use crate::within::holds_ascending;
 use crate::{Book, NumList};
+use std::alloc::{AllocError, Global};
 
 /// Whether the list holds the number.
 pub fn holds(list: &[u32], number: u32) -> bool
@@ -22,30 +24,63 @@ pub fn is_inside(small: &[u32], large: &[u32]) -> bool
     small.iter().all(|number| holds(large, *number))
 }
 
-/// Whether the table has the second package among the conflicts of the first.
-pub fn are_against(table: &[NumList], first: u32, second: u32) -> bool
-    ensures { result ≡ against_in table.now first second }
+/// The packages that the table has for a package.
+pub fn conflicts_of(table: &[NumList], package: u32) -> &[u32]
+    ensures { result.now ≡ listed_for table.now «package» }
 {
-    match table.get(first as usize) {
-        Some(list) => holds(list.as_slice(), second),
-        None => false,
+    match table.get(package as usize) {
+        Some(list) => list.as_slice(),
+        None => &[],
     }
 }
 
-/// Whether the table has each package of the list among the conflicts of the given one.
-pub fn conflicts_with_all(table: &[NumList], package: u32, list: &[u32]) -> bool
-    ensures { result ≡ list_all (against_in table.now «package») list.now }
+/// Whether the table, whose lists ascend, has the second package among the conflicts of the first.
+pub fn are_against(table: &[NumList], first: u32, second: u32) -> bool
+    requires { Ascending (listed_for table.now first) }
+    ensures { result ≡ against_in table.now first second }
 {
-    list.iter().all(|other| are_against(table, package, *other))
+    holds_ascending(conflicts_of(table, first), second)
+}
+
+/// Whether the table, whose lists ascend, has the package among the conflicts of each of the others.
+fn is_against_each(table: &[NumList], others: &[u32], package: u32) -> bool
+    requires { (p : ℕ) → Ascending (listed_for table.now p) }
+    ensures { result ≡ list_all (λ other. against_in table.now other «package») others.now }
+{
+    for other in others {
+        if !are_against(table, *other, package) {
+            return false;
+        }
+    }
+    true
+}
+
+/// The packages that conflict with the first and with each of the others, by the table, whose lists ascend.
+pub fn common_conflicts(
+    alloc: Global,
+    table: &[NumList],
+    first: u32,
+    others: &[u32],
+) -> Result<Vec<u32>, AllocError>
+    requires { (p : ℕ) → Ascending (listed_for table.now p) }
+    ensures { IfOk result (λ common. common.items ≡ common_to table.now first others.now) }
+{
+    let mut common = Vec::new(alloc);
+    for package in conflicts_of(table, first) {
+        if is_against_each(table, others, *package) {
+            common.push(*package)?;
+        }
+    }
+    Ok(common)
 }
 
 /// Whether each package of the first list conflicts with each of the second, by the table.
-pub fn all_conflict(table: &[NumList], first: &[u32], second: &[u32]) -> bool
+fn all_conflict(table: &[NumList], first: &[u32], second: &[u32]) -> bool
     ensures { result ≡ all_against (against_in table.now) first.now second.now }
 {
     first
         .iter()
-        .all(|package| conflicts_with_all(table, *package, second))
+        .all(|package| is_inside(second, conflicts_of(table, *package)))
 }
 
 impl Book {

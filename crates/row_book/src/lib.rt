@@ -12,10 +12,11 @@ mod pairing;
 mod subsets;
 pub mod trail;
 mod uses;
+mod within;
 
 pub use book::{Book, ConflictTable, RowList};
 pub use clause_pool::NumList;
-pub use conflicting::{all_conflict, are_against, conflicts_with_all, holds, is_inside};
+pub use conflicting::{are_against, common_conflicts, conflicts_of, holds, is_inside};
 pub use health::Unhealthy;
 use listed::Listed;
 pub use needs::Needs;
@@ -23,6 +24,7 @@ pub use pair::Pair;
 pub use subsets::is_coinst;
 pub use trail::{Step, StepList, Trail};
 pub use uses::UseTable;
+pub use within::{has_side_within, has_within};
 
 /// The clauses of one package.
 pub type ClauseList = Listed<NumList>;

@@ -7,6 +7,7 @@ ghost use Rattle.row_book.specs.Book.{Sound};
 use byte_flow::{FileShelf, read_file};
 use clause_flatten::flatten;
 use clause_pool::Pool;
+use kernel_rounds::{Kernel, extract};
 use repo_model::{Suite, read_suite};
 use row_book::Book;
 use std::alloc::{AllocError, Global};
@@ -81,7 +82,42 @@ fn measure(rt: &HostRuntime, start: &Instant, suite: &Suite) -> Result<(), Alloc
     let flattened = since(rt, start);
     let kept = pool.clause_count();
     let _ = println!(rt; "flattened ({is_flat}) from {before:?} to {flattened:?}, {kept} clauses");
+    measure_kernel(rt, start, suite)
+}
+
+/// Prints what the kernel of a suite has and the time that it took; it fails only where no memory is found.
+fn measure_kernel(rt: &HostRuntime, start: &Instant, suite: &Suite) -> Result<(), AllocError> {
+    let alloc = rt.alloc();
+    let mut pool = Pool::new(alloc)?;
+    let book = suite.book(alloc, &mut pool)?;
+    let before = since(rt, start);
+    let found = extract(alloc, &mut pool, &book, MOST_CLAUSES);
+    let extracted = since(rt, start);
+    let _ = println!(rt; "extracted from {before:?} to {extracted:?}");
+    match found {
+        Ok(kernel) => print_kernel(rt, &pool, &kernel),
+        Err(error) => {
+            let _ = println!(rt; "no kernel: {error}");
+        }
+    }
     Ok(())
+}
+
+/// Prints how many classes, clauses and conflicting pairs a kernel has.
+fn print_kernel(rt: &HostRuntime, pool: &Pool, kernel: &Kernel)
+    requires { Sound pool.now kernel.now.book }
+{
+    let mut clauses = 0u64;
+    let mut conflicts = 0u64;
+    for row in kernel.book.rows.as_slice() {
+        clauses = clauses.wrapping_add(pool.row(*row).len() as u64);
+    }
+    for list in kernel.book.conflicts.as_slice() {
+        conflicts = conflicts.wrapping_add(list.as_slice().len() as u64);
+    }
+    let classes = kernel.book.size();
+    let pairs = conflicts / 2;
+    let _ = println!(rt; "{classes} classes, {clauses} clauses, {pairs} conflicting pairs");
 }
 
 /// Statuses: 0, measured; 2, the one word INDEX is missing; 3, a fault of the index, which is printed; 5, the index

@@ -21,6 +21,9 @@ prune_one-requires-clause-clause c = c.requires.ids c.id-item.result (item_in c.
 pub prune_one-requires-clause-left : goal.prune_one-requires-clause-left
 prune_one-requires-clause-left c = λ id i. c.requires.ids id (c.loop-id.invariant.part id i)
 
+pub prune_one-requires-clause-order : goal.prune_one-requires-clause-order
+prune_one-requires-clause-order c = c.loop-id.invariant.order c.requires.order
+
 pub prune_one-requires-clause-own : goal.prune_one-requires-clause-own
 prune_one-requires-clause-own c =
     c.requires.members (clause_at c.args.pool.now c.id-item.result) (In_map (clause_at c.args.pool.now) c.args.ids.now c.id-item.result (item_in c.args.ids.now c.loop-id.id-index c.id-item.result (omega arith) c.id-item.is))
@@ -40,7 +43,7 @@ loop-id-preserved c =
     pruning_more c.args.pool.now c.args.rows.now c.args.«package» c.args.ids.now c.loop-id.left.items c.prune_one.new.left.items c.args.table.now (trail_meaning c.args.pool.now c.args.idle.now) (trail_meaning c.args.pool.now c.loop-id.idle) (trail_meaning c.args.pool.now c.prune_one.new.idle)
     id (drop (i + 1) c.args.ids.now)
     (subst (λ z. Pruning c.args.pool.now c.args.rows.now c.args.«package» c.args.ids.now c.loop-id.left.items c.args.table.now (trail_meaning c.args.pool.now c.args.idle.now) (trail_meaning c.args.pool.now c.loop-id.idle) z) d c.loop-id.invariant)
-    c.in_ok-prune_one.ensures.left c.in_ok-prune_one.ensures.part c.in_ok-prune_one.ensures.order c.in_ok-prune_one.ensures.idle
+    c.in_ok-prune_one.ensures.left c.in_ok-prune_one.ensures.part (λ _. c.in_ok-prune_one.ensures.order) c.in_ok-prune_one.ensures.idle
 
 pub returns-clause-left : goal.returns-clause-left
 returns-clause-left c =
@@ -51,7 +54,7 @@ pub returns-clause-part : goal.returns-clause-part
 returns-clause-part c = c.loop-id.invariant.part
 
 pub returns-clause-order : goal.returns-clause-order
-returns-clause-order c = c.loop-id.invariant.order
+returns-clause-order c = c.loop-id.invariant.order c.requires.order
 
 pub returns-clause-idle : goal.returns-clause-idle
 returns-clause-idle c =

@@ -19,7 +19,7 @@ pub returns-then-is_forced-clause-part : goal.returns-then-is_forced-clause-part
 returns-then-is_forced-clause-part c = part_less c.args.left.now.items c.drop_id.new.left.items c.args.clause c.in_ok-drop_id.ensures
 
 pub returns-then-is_forced-clause-order : goal.returns-then-is_forced-clause-order
-returns-then-is_forced-clause-order c = order_less c.args.pool.now c.clause_count.ensures.sound c.args.left.now.items c.drop_id.new.left.items c.args.clause c.requires.left c.requires.clause c.in_ok-drop_id.ensures
+returns-then-is_forced-clause-order c = order_less c.args.pool.now c.clause_count.ensures.sound c.args.left.now.items c.drop_id.new.left.items c.args.clause c.requires.left c.requires.clause c.in_ok-drop_id.ensures c.requires.order
 
 pub returns-in_ok-drop_id-2-clause-left : goal.returns-in_ok-drop_id-2-clause-left
 returns-in_ok-drop_id-2-clause-left c =
@@ -33,7 +33,7 @@ pub returns-in_ok-drop_id-2-clause-part : goal.returns-in_ok-drop_id-2-clause-pa
 returns-in_ok-drop_id-2-clause-part c = part_less c.args.left.now.items c.drop_id-in-Some.new.left.items c.args.clause c.in_ok-drop_id-2.ensures
 
 pub returns-in_ok-drop_id-2-clause-order : goal.returns-in_ok-drop_id-2-clause-order
-returns-in_ok-drop_id-2-clause-order c = order_less c.args.pool.now c.clause_count.ensures.sound c.args.left.now.items c.drop_id-in-Some.new.left.items c.args.clause c.requires.left c.requires.clause c.in_ok-drop_id-2.ensures
+returns-in_ok-drop_id-2-clause-order c = order_less c.args.pool.now c.clause_count.ensures.sound c.args.left.now.items c.drop_id-in-Some.new.left.items c.args.clause c.requires.left c.requires.clause c.in_ok-drop_id-2.ensures c.requires.order
 
 pub returns-in_ok-drop_id-2-clause-idle : goal.returns-in_ok-drop_id-2-clause-idle
 returns-in_ok-drop_id-2-clause-idle c =

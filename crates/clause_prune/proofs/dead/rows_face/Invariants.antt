@@ -1,10 +1,10 @@
 use Rattle.std.proofs.Common.{◌≡◌, ◌∷◌, [], ℕ, ◌<◌, false, get_or}
 use Rattle.std.specs.List.{list_any}
 use Rattle.clause_pool.specs.Interned.{clause_at, clauses_at}
-use Rattle.row_book.specs.Facing.{all_against}
-use Rattle.row_book.specs.Facing.{against_in}
+use Rattle.row_book.specs.Facing.{against_in, all_against}
 use Rattle.clause_prune.proofs.dead.rows_face.Given as goal
 
+-- no clause so far faces a side
 abbrev pub invariant-loop-id : goal.invariant-loop-id
 invariant-loop-id l = (k : ℕ) → k < l.id-index →
-    list_any (all_against (against_in l.table) (clause_at l.pool (get_or l.first k 0))) ((l.«package» ∷ []) ∷ clauses_at l.pool l.second) ≡ false
+    list_any (all_against (against_in l.table) (clause_at l.pool (get_or l.row k 0))) ((l.«package» ∷ []) ∷ clauses_at l.pool l.row) ≡ false

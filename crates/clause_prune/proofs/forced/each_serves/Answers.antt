@@ -2,7 +2,7 @@ use Rattle.std.proofs.Common.{◌∙◌, [], arith, sym}
 use Rattle.row_book.specs.Pruning.{serves}
 use Rattle.row_book.proofs.Lists.{In_at}
 use Rattle.clause_prune.specs.Tests.{with_ids}
-use Rattle.clause_prune.proofs.Passing.{all_fails, all_pass}
+use Rattle.row_book.proofs.Leads.{all_fails, all_pass}
 use Rattle.clause_prune.proofs.forced.each_serves.Goals as goal
 
 pub serves-requires-clause-other : goal.serves-requires-clause-other

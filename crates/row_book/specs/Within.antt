@@ -1,0 +1,23 @@
+-- Whether a clause of a family lies within some numbers.
+use Rattle.std.specs.Prelude.{ℕ, zero, suc, Bool, true, not, ◌&&◌, eqb, List, [], ◌∷◌, Option, Some, None}
+use Rattle.std.specs.List.{list_any}
+use Rattle.std.specs.Cmp.Lexicographic.{pointwise}
+use Rattle.row_book.specs.Clauses.{is_inside}
+
+-- whether the clause is another one than the given one, where one is given
+abbrev pub is_other : Option (List ℕ) → List ℕ → Bool
+is_other None e = true
+is_other (Some d) e = not (pointwise eqb e d)
+
+-- whether the clause is another one than the given one, and each of its members is among the numbers
+abbrev pub is_within : Option (List ℕ) → List ℕ → List ℕ → Bool
+is_within but ns e = is_other but e && is_inside e ns
+
+-- whether this holds of some clause
+abbrev pub some_within : Option (List ℕ) → List ℕ → List (List ℕ) → Bool
+some_within but ns cs = list_any (is_within but ns) cs
+
+-- one more than the first number of a clause, or 0 for the empty clause: it rises along clauses in lexicographic order
+abbrev pub lead : List ℕ → ℕ
+lead [] = zero
+lead (x ∷ xs) = suc x

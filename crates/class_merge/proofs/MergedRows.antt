@@ -6,7 +6,7 @@ use Rattle.std.proofs.lemmas.List.Elements.{filter-append}
 use Rattle.clause_pool.specs.Interned.{Interned, IsPool, row_at}
 use Rattle.row_book.specs.declared.book.Book.{Book}
 use Rattle.row_book.specs.Sets.{In, here, there, has}
-use Rattle.row_book.specs.Clauses.{InOrder, apart_from, is_inside, minimal_of, numbers, ordered}
+use Rattle.row_book.specs.Clauses.{InOrder, apart_from, is_inside, minimal_of, numbers, in_row_order}
 use Rattle.row_book.specs.Uses.{row_id}
 use Rattle.row_book.specs.Repository.{Repository, Coinst, against, clauses_of, conflicts_of}
 use Rattle.row_book.specs.Flattening.{packages}
@@ -84,13 +84,13 @@ conflicts_at R s k l =
 -- the row of a class
 pub clauses_at_class : (R : Repository) → SoundRepository R → (k : ℕ) → k < length (firsts R) → clauses_in (length (firsts R)) (class_list R) k (clauses_of R (first_of R k)) ≡ class_clauses R k
 clauses_at_class R s k l =
-    ap (λ cs. ordered (minimal_of (apart_from k cs)))
+    ap (λ cs. in_row_order (minimal_of (apart_from k cs)))
     (map_same_list (image_in (length (firsts R)) (class_list R)) (clause_image R) (clauses_of R (first_of R k)) (λ c i. image_at R c (ranged R s (first_of R k) c i)))
 
 -- a family in order has its minimal clauses in order
-pub minimal_ordered : (all family : List (List ℕ)) → SameClauses all family → InOrder family → minimal_of family ≡ ordered (minimal_of all)
+pub minimal_ordered : (all family : List (List ℕ)) → SameClauses all family → InOrder family → minimal_of family ≡ in_row_order (minimal_of all)
 minimal_ordered all family same order =
-    order_same (minimal_of family) (ordered (minimal_of all)) (order_filter (λ T. list_all (λ S. not (is_inside S T) || is_inside T S) family) family order) (ordered_order (minimal_of all))
+    order_same (minimal_of family) (in_row_order (minimal_of all)) (order_filter (λ T. list_all (λ S. not (is_inside S T) || is_inside T S) family) family order) (ordered_order (minimal_of all))
     (λ c i. ordered_has (minimal_of all) c (minimal_of_from all c (same.back c (minimal_of_parts family c i).0) (λ S j f. (minimal_of_parts family c i).1 S (same.there S j) f)))
     (λ c i. let j : In c (minimal_of all) = ordered_parts (minimal_of all) c i in
     minimal_of_from family c (same.there c (minimal_of_parts all c j).0) (λ S u f. (minimal_of_parts all c j).1 S (same.back S u) f))

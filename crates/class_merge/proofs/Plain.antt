@@ -3,7 +3,7 @@ use Rattle.std.proofs.Common.{◌≡◌, ◌≢◌, ℕ, zero, suc, ◌<◌, ◌
 use Rattle.std.specs.List.{list_any}
 use Rattle.std.proofs.lemmas.Bool.{both_ways, cases_eq, not-true}
 use Rattle.row_book.specs.Sets.{In, here, there}
-use Rattle.row_book.specs.Clauses.{Ascending, apart_from, minimal_of, numbers, ordered}
+use Rattle.row_book.specs.Clauses.{Ascending, apart_from, minimal_of, numbers, in_row_order}
 use Rattle.row_book.specs.Repository.{Repository, against, clauses_of}
 use Rattle.row_book.specs.Flattening.{packages}
 use Rattle.row_book.specs.Sound.{SoundRepository}
@@ -100,7 +100,7 @@ merge_plain_lem R s e p l =
     let f : first_of R p ≡ p = first_same R e p l in
     let images : map (clause_image R) (clauses_of R (first_of R p)) ≡ clauses_of R p =
     ap (λ k. map (clause_image R) (clauses_of R k)) f ∙ map_id (clause_image R) (clauses_of R p) (λ c i. image_same R e c (s.clauses p c i).0 (s.clauses p c i).1) in
-    record { class = class_same R e p l; clauses = merged_clauses R p (subst (λ n. p < n) (sym e) l) ∙ ap (λ cs. ordered (minimal_of (apart_from p cs))) images }
+    record { class = class_same R e p l; clauses = merged_clauses R p (subst (λ n. p < n) (sym e) l) ∙ ap (λ cs. in_row_order (minimal_of (apart_from p cs))) images }
 
 -- and the conflicts stay
 pub plain_conflicts : (R : Repository) → SoundRepository R → length (firsts R) ≡ length R.clauses → (quotient R).conflicts ≡ R.conflicts

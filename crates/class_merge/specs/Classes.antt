@@ -5,7 +5,7 @@ use Rattle.row_book.specs.declared.book.Book.{Book}
 use Rattle.row_book.specs.Book.{listed_for}
 use Rattle.row_book.specs.Uses.{row_id}
 use Rattle.row_book.specs.Sets.{In}
-use Rattle.row_book.specs.Clauses.{apart_from, minimal_of, numbers, ordered}
+use Rattle.row_book.specs.Clauses.{apart_from, minimal_of, numbers, in_row_order}
 
 -- the class of a package in a list of classes
 abbrev pub class_in : List ℕ → ℕ → ℕ
@@ -25,7 +25,7 @@ HasClasses class_of c = (n : ℕ) → In n c → n < length class_of
 
 -- the clauses of a class from those of its least package
 abbrev pub clauses_in : ℕ → List ℕ → ℕ → List (List ℕ) → List (List ℕ)
-clauses_in count class_of k cs = ordered (minimal_of (apart_from k (map (image_in count class_of) cs)))
+clauses_in count class_of k cs = in_row_order (minimal_of (apart_from k (map (image_in count class_of) cs)))
 
 -- the row of a package and its conflicts: packages with the same of these are alike
 abbrev pub key_of : Book → ℕ → List ℕ

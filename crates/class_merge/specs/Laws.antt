@@ -2,7 +2,7 @@
 use Rattle.std.specs.Prelude.{◌≡◌, ℕ, ◌<◌, true, List, length, ◌↔◌}
 use Rattle.row_book.specs.Sets.{NumSet}
 use Rattle.row_book.specs.Repository.{Repository, Coinst, Healthy, clauses_of}
-use Rattle.row_book.specs.Clauses.{apart_from, minimal_of, ordered}
+use Rattle.row_book.specs.Clauses.{apart_from, minimal_of, in_row_order}
 use Rattle.row_book.specs.Sound.{OfPackages, SoundRepository, TidyRepository}
 use Rattle.row_book.specs.Merging.{are_alike, class_of, firsts, first_of, image, members, quotient}
 
@@ -29,7 +29,7 @@ EachHasClass = (R : Repository) (p : ℕ) → p < length R.clauses → HasClass 
 
 -- the clauses of p that do not hold p, the minimal ones in order
 abbrev pub plain_clauses : Repository → ℕ → List (List ℕ)
-plain_clauses R p = ordered (minimal_of (apart_from p (clauses_of R p)))
+plain_clauses R p = in_row_order (minimal_of (apart_from p (clauses_of R p)))
 
 -- where no two packages are alike, merging only drops clauses
 pub record IsPlain (R : Repository) (p : ℕ) : Type 0 where

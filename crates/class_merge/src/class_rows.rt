@@ -97,7 +97,14 @@ pub(crate) fn class_rows(
     pool.clause_count();
     let mut rows = Vec::new(alloc);
     for (class, first) in firsts.iter().enumerate() {
-        let row = class_row(alloc, pool, firsts.len() as u32, class_of, class as u32, book.row(*first))?;
+        let row = class_row(
+            alloc,
+            pool,
+            firsts.len() as u32,
+            class_of,
+            class as u32,
+            book.row(*first),
+        )?;
         rows.push(row)?;
     }
     Ok(rows)

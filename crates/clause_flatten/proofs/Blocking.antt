@@ -5,7 +5,7 @@ use Rattle.row_book.specs.Sets.{Hit, HitsAll, In, Is, NumSet, Within, minus, plu
 use Rattle.row_book.specs.Repository.{Repository}
 use Rattle.row_book.specs.Clauses.{Ascending, Inside}
 use Rattle.row_book.specs.Support.{Blocks, IsRow, MinimalBlock, Support}
-use Rattle.clause_flatten.specs.Substitution.{dropped}
+use Rattle.clause_flatten.specs.Substitution.{clause_without}
 use Rattle.row_book.proofs.Sets.{plus_new, plus_old, without_from, without_parts}
 use Rattle.row_book.proofs.Lists.{In_cases, In_none, ascending_filter, ascending_same, decided_hit, decided_in, hits_or, members_from, members_from_ascending, members_from_from, members_from_parts, minus_from, minus_parts}
 use Rattle.clause_flatten.proofs.Supports.{support_grows_lem}
@@ -41,15 +41,15 @@ record Shrunk (R : Repository) (V : NumSet) (p : ℕ) (xs T : List ℕ) : Type 0
   part : Inside left T
   order : Ascending left
   blocking : Blocks R V p left
-  tight : (x : ℕ) → In x xs → In x left → Blocks R V p (dropped x left) → ⊥
+  tight : (x : ℕ) → In x xs → In x left → Blocks R V p (clause_without x left) → ⊥
 
-dropped_inside : (x : ℕ) (S T : List ℕ) → Inside S T → Inside (dropped x S) (dropped x T)
+dropped_inside : (x : ℕ) (S T : List ℕ) → Inside S T → Inside (clause_without x S) (clause_without x T)
 dropped_inside x S T f n i = dropped_from x T n (f n (dropped_parts x S n i).0) (dropped_parts x S n i).1
 
 shrink : (R : Repository) (V : NumSet) (p : ℕ) → (xs T : List ℕ) → Ascending T → Blocks R V p T → Shrunk R V p xs T
 shrink R V p [] T a b = record { left = T; part = λ n i. i; order = a; blocking = b; tight = λ x i. absurd (In_none i) }
 shrink R V p (x ∷ xs) T a b =
-    elim (decided_support R V p (minus V (dropped x T))) [
+    elim (decided_support R V p (minus V (clause_without x T))) [
       | inl yes_f ↦
           let s : Shrunk R V p xs T = shrink R V p xs T a b in
           record {
@@ -59,18 +59,18 @@ shrink R V p (x ∷ xs) T a b =
             blocking = s.blocking;
             tight = λ y i j c. elim (In_cases i) [
               | inl e ↦
-                  let c2 : Blocks R V p (dropped x s.left) = subst (λ k. Blocks R V p (dropped k s.left)) e c in
-                  c2.fails (support_grows_lem R V p (minus V (dropped x T)) (minus V (dropped x s.left)) (minus_less V (dropped x s.left) (dropped x T) (dropped_inside x s.left T s.part)) yes_f)
+                  let c2 : Blocks R V p (clause_without x s.left) = subst (λ k. Blocks R V p (clause_without k s.left)) e c in
+                  c2.fails (support_grows_lem R V p (minus V (clause_without x T)) (minus V (clause_without x s.left)) (minus_less V (clause_without x s.left) (clause_without x T) (dropped_inside x s.left T s.part)) yes_f)
               | inr k ↦ s.tight y k j c
             ];
           }
       | inr no_f ↦
-          let b2 : Blocks R V p (dropped x T) = record {
+          let b2 : Blocks R V p (clause_without x T) = record {
             within = λ n i. b.within n (dropped_parts x T n i).0;
             apart = λ n i. b.apart n (dropped_parts x T n i).0;
             fails = no_f;
           } in
-          let s : Shrunk R V p xs (dropped x T) = shrink R V p xs (dropped x T) (ascending_filter (λ n. not (eqb n x)) T a) b2 in
+          let s : Shrunk R V p xs (clause_without x T) = shrink R V p xs (clause_without x T) (ascending_filter (λ n. not (eqb n x)) T a) b2 in
           record {
             left = s.left;
             part = λ n i. (dropped_parts x T n (s.part n i)).0;
@@ -94,7 +94,7 @@ least_inside R V p T a b =
         minimal = λ S c f n i. elim (decided_in n S) [
           | inl y ↦ y
           | inr no_n ↦ absurd (s.tight n (s.part n i) i
-              (blocks_more R V p S (dropped n s.left)
+              (blocks_more R V p S (clause_without n s.left)
               (λ k j. dropped_from n s.left k (f k j) (λ e. no_n (subst (λ x. In x S) e j)))
               (λ k j. s.blocking.within k (dropped_parts n s.left k j).0)
               (λ k j. s.blocking.apart k (dropped_parts n s.left k j).0) c))

@@ -10,7 +10,7 @@ use Rattle.row_book.specs.Sound.{SoundClauses}
 use Rattle.row_book.specs.Flattening.{flat, passes, packages}
 use Rattle.row_book.proofs.Lists.{In_none, all_at}
 use Rattle.row_book.proofs.Order.{numbers_from}
-use Rattle.clause_flatten.specs.Substitution.{eliminated, choice_in, first_table, stage_after, passes_by_stages}
+use Rattle.clause_flatten.specs.Substitution.{table_without, choice_in, first_table, stage_after, passes_by_stages}
 use Rattle.clause_flatten.proofs.Stages.{flat_by_stages_lem, passes_by_stages_lem}
 
 -- clauses that are sound, by a test
@@ -54,7 +54,7 @@ chain = record {
 
 -- a and m are taken out, and a gets the clauses of m
 flat_chain : (flat chain).clauses ≡ ((2 ∷ []) ∷ (3 ∷ 4 ∷ []) ∷ []) ∷ ((2 ∷ []) ∷ (3 ∷ 4 ∷ []) ∷ []) ∷ [] ∷ [] ∷ [] ∷ [] ∷ [] ∷ []
-unfolding chain is_sound is_ascending numbers eliminated choice_in first_table stage_after
+unfolding chain is_sound is_ascending numbers table_without choice_in first_table stage_after
 flat_chain = ap (λ r. r.clauses) (flat_by_stages_lem chain (sound_from chain refl))
 
 -- `a: Depends m, n`, `m: Depends b, c`, `n: Depends d`, `b: Conflicts e`, `c: Conflicts e`, `d: Conflicts e`, `e`
@@ -66,9 +66,9 @@ grown = record {
 
 -- n goes first, then a, then m, and then the row of a has three clauses
 passes_grown : passes grown 2 ≡ Some (record { gone = 3; «package» = 0; count = 3 })
-unfolding grown is_sound is_ascending numbers eliminated choice_in first_table stage_after passes_by_stages
+unfolding grown is_sound is_ascending numbers table_without choice_in first_table stage_after passes_by_stages
 passes_grown = passes_by_stages_lem grown (sound_from grown refl) 2
 
 grown_is_allowed : passes grown 3 ≡ None
-unfolding grown is_sound is_ascending numbers eliminated choice_in first_table stage_after passes_by_stages
+unfolding grown is_sound is_ascending numbers table_without choice_in first_table stage_after passes_by_stages
 grown_is_allowed = passes_by_stages_lem grown (sound_from grown refl) 3

@@ -18,7 +18,7 @@ use Rattle.row_book.proofs.Sets.{plus_cases, plus_new, plus_old}
 use Rattle.row_book.proofs.Books.{between_packages, sound_clauses}
 use Rattle.row_book.proofs.Lists.{In_none, any_cases, any_from, find_not, find_some, has_In, In_has}
 use Rattle.row_book.proofs.Order.{numbers_from, numbers_parts}
-use Rattle.clause_flatten.specs.Substitution.{eliminated, first_table, length_in, stage_after}
+use Rattle.clause_flatten.specs.Substitution.{table_without, first_table, length_in, stage_after}
 use Rattle.clause_flatten.specs.Refusals.{OnLimit}
 use Rattle.clause_flatten.specs.declared.error.FlatError.{FlatError}
 use Rattle.clause_flatten.specs.declared.error.FlatError.TheVariants.{Limit, Memory}
@@ -224,13 +224,13 @@ module _ (R : Repository) (limit i : ℕ) (start now : Interned) (rows : List �
     next_left : left_after R (i + 1) ≡ without (left_after R i) q
     next_left = left_next R i (Some q) gone
 
-    next_table : eliminated q (map (row_at now) rows) ≡ rows_over R (left_after R (i + 1))
-    next_table = ap (eliminated q) run.table ∙ table_step_lem R (left_after R i) q (left_bound R i) there_still ∙ ap (rows_over R) (sym next_left)
+    next_table : table_without q (map (row_at now) rows) ≡ rows_over R (left_after R (i + 1))
+    next_table = ap (table_without q) run.table ∙ table_step_lem R (left_after R i) q (left_bound R i) there_still ∙ ap (rows_over R) (sym next_left)
 
     pub run_more : (new : Interned) (after : List ℕ) (used_after : List (List ℕ)) (waiting_after : Waiting) →
-        map (row_at new) after ≡ eliminated q (map (row_at now) rows) → RowsFit new after → RowsTidy new after → used_after ≡ uses_of new after → Kept now new →
-        ((p : ℕ) → p < length rows → length_in (eliminated q (map (row_at now) rows)) p ≤ limit) →
-        Filed waiting_after (without (may_go R (left_after R i)) q) (length_in (eliminated q (map (row_at now) rows))) →
+        map (row_at new) after ≡ table_without q (map (row_at now) rows) → RowsFit new after → RowsTidy new after → used_after ≡ uses_of new after → Kept now new →
+        ((p : ℕ) → p < length rows → length_in (table_without q (map (row_at now) rows)) p ≤ limit) →
+        Filed waiting_after (without (may_go R (left_after R i)) q) (length_in (table_without q (map (row_at now) rows))) →
         RunAt R limit (i + 1) start new after used_after waiting_after
     run_more new after used_after waiting_after made fit tidy uses kept within filed = record {
       table = made ∙ next_table;
@@ -238,21 +238,21 @@ module _ (R : Repository) (limit i : ℕ) (start now : Interned) (rows : List �
       tidy = tidy;
       uses = uses;
       filed = filed_as waiting_after (without (may_go R (left_after R i)) q) (may_go R (left_after R (i + 1)))
-          (length_in (eliminated q (map (row_at now) rows))) (length_in (map (row_at new) after)) filed
+          (length_in (table_without q (map (row_at now) rows))) (length_in (map (row_at new) after)) filed
           (λ x. and_swap (left_after R i x) (not (has_conflict R x)) (not (eqb x q)) ∙ ap (λ W. may_go R W x) (sym next_left))
           (λ x h. ap (λ t. length_in t x) (sym made));
       within = λ j l. elim (cases_lt j (i + 1)) [
         | inl m ↦ run.within j (omega arith)
         | inr m ↦
             let e : i + 1 ≡ j = omega arith in
-            subst (IsWithin R limit) e (within_of R limit (i + 1) (length rows) (eliminated q (map (row_at now) rows)) next_table run_size within)
+            subst (IsWithin R limit) e (within_of R limit (i + 1) (length rows) (table_without q (map (row_at now) rows)) next_table run_size within)
       ];
       kept = kept_kept start now new run.kept kept;
     }
 
-    pub run_passed : (w : Passed) → i < length R.clauses → passed_by (length_in (eliminated q (map (row_at now) rows))) (numbers (length rows) 0) limit (i + 1) ≡ Some w → passes R limit ≡ Some w
+    pub run_passed : (w : Passed) → i < length R.clauses → passed_by (length_in (table_without q (map (row_at now) rows))) (numbers (length rows) 0) limit (i + 1) ≡ Some w → passes R limit ≡ Some w
     run_passed w l h =
-        passes_at R limit (i + 1) (length rows) (eliminated q (map (row_at now) rows)) w (omega arith) next_table run_size (λ j m. run.within j (omega arith)) h
+        passes_at R limit (i + 1) (length rows) (table_without q (map (row_at now) rows)) w (omega arith) next_table run_size (λ j m. run.within j (omega arith)) h
 
   -- the run ends where no package waits, or as many are gone as there are
   run_flat : core_of R ≡ left_after R i → ◌≡◌ {A = Repository} (record { clauses = map (row_at now) rows; conflicts = R.conflicts }) (flat R)

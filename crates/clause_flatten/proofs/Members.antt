@@ -16,7 +16,7 @@ use Rattle.clause_pool.proofs.Lists.{In_place, In_at}
 use Rattle.row_book.specs.Sets.{In}
 use Rattle.row_book.specs.Clauses.{Ascending, Before, InOrder}
 use Rattle.row_book.proofs.Lists.{In_append_cases, In_append_left, In_append_right, In_cases, In_none, ascending_same}
-use Rattle.clause_flatten.specs.Substitution.{joined}
+use Rattle.clause_flatten.specs.Substitution.{union_of}
 use Rattle.clause_flatten.specs.Families.{SameClauses}
 use Rattle.clause_flatten.proofs.Unions.{joined_ascending, joined_cases, joined_left, joined_right}
 
@@ -38,10 +38,10 @@ increasing_ascending xs f = ascending_pairs xs (AllPairs-from_increasing xs f)
 
 -- the union of two clauses: their numbers sorted, each once
 pub sorted_union : (xs ys sorted made : List ℕ) → Ascending ys → IsPermutation (ys ++ xs) sorted → IsSorted nat_cmp sorted → IsFiltered (DiffersFromLast eqb) [] sorted made →
-    made ≡ joined xs ys
+    made ≡ union_of xs ys
 sorted_union xs ys sorted made up moved order once =
     let is : made ≡ dedup eqb sorted = dedup_is eqb sorted made once in
-    is ∙ ascending_same (dedup eqb sorted) (joined xs ys)
+    is ∙ ascending_same (dedup eqb sorted) (union_of xs ys)
     (increasing_ascending (dedup eqb sorted) (IsStrictlyIncreasing-dedup sorted order))
     (joined_ascending xs ys up)
     (λ n i.

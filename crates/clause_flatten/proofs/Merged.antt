@@ -3,7 +3,7 @@ use Rattle.std.proofs.Common.{◌≡◌, ◌≢◌, ℕ, zero, suc, ◌<◌, ◌
 use Rattle.std.proofs.lemmas.List.{drop_all, take_all}
 use Rattle.row_book.specs.Clauses.{Ascending}
 use Rattle.row_book.proofs.Lists.{In_none, ascending_filter, ascending_same, filter_cases}
-use Rattle.clause_flatten.specs.Substitution.{dropped, joined}
+use Rattle.clause_flatten.specs.Substitution.{clause_without, union_of}
 use Rattle.clause_flatten.specs.FlatLaws.{Merges}
 use Rattle.clause_flatten.proofs.Shortcuts.{union_merges_lem}
 use Rattle.clause_flatten.proofs.Unions.{joined_ascending, joined_cases, joined_left}
@@ -18,46 +18,46 @@ rest_ascends (suc i) (x ∷ xs) a = rest_ascends i xs a.1
 left_at : (xs : List ℕ) (i x : ℕ) → i < length xs → x ≡ get_or xs i 0 → drop i xs ≡ x ∷ drop (i + 1) xs
 left_at xs i x l e = drop-cons xs i 0 l ∙ ap₂ (λ y ys. y ∷ ys) (sym e) (ap (λ n. drop n xs) (sym (add-one i)))
 
-with_nothing : (xs : List ℕ) → Ascending xs → joined xs [] ≡ xs
+with_nothing : (xs : List ℕ) → Ascending xs → union_of xs [] ≡ xs
 with_nothing xs a =
-    ascending_same (joined xs []) xs (joined_ascending xs [] tt) a
+    ascending_same (union_of xs []) xs (joined_ascending xs [] tt) a
     (λ n i. elim (joined_cases xs [] n i) [ inl l ↦ l | inr r ↦ absurd (In_none r) ])
     (λ n i. joined_left xs [] n i)
 
-dropped_more : (spent x : ℕ) (xs : List ℕ) → x ≢ spent → dropped spent (x ∷ xs) ≡ x ∷ dropped spent xs
-dropped_more spent x xs ne = ap (λ b. cond (not b) (x ∷ dropped spent xs) (dropped spent xs)) (ne_eqb x spent ne)
+dropped_more : (spent x : ℕ) (xs : List ℕ) → x ≢ spent → clause_without spent (x ∷ xs) ≡ x ∷ clause_without spent xs
+dropped_more spent x xs ne = ap (λ b. cond (not b) (x ∷ clause_without spent xs) (clause_without spent xs)) (ne_eqb x spent ne)
 
-dropped_less : (spent x : ℕ) (xs : List ℕ) → x ≡ spent → dropped spent (x ∷ xs) ≡ dropped spent xs
-dropped_less spent x xs e = ap (λ b. cond (not b) (x ∷ dropped spent xs) (dropped spent xs)) (eq-eqb x spent e)
+dropped_less : (spent x : ℕ) (xs : List ℕ) → x ≡ spent → clause_without spent (x ∷ xs) ≡ clause_without spent xs
+dropped_less spent x xs e = ap (λ b. cond (not b) (x ∷ clause_without spent xs) (clause_without spent xs)) (eq-eqb x spent e)
 
-dropped_up : (spent : ℕ) (xs : List ℕ) → Ascending xs → Ascending (dropped spent xs)
+dropped_up : (spent : ℕ) (xs : List ℕ) → Ascending xs → Ascending (clause_without spent xs)
 dropped_up spent xs a = ascending_filter (λ n. not (eqb n spent)) xs a
 
 -- the literals so far, and the union of what is left, are the union
 pub record Merging (spent : ℕ) (clause other literals : List ℕ) (i j : ℕ) : Type 0 where
   pub own_in : i ≤ length clause
   pub other_in : j ≤ length other
-  pub union : joined (dropped spent clause) other ≡ literals ++ joined (dropped spent (drop i clause)) (drop j other)
+  pub union : union_of (clause_without spent clause) other ≡ literals ++ union_of (clause_without spent (drop i clause)) (drop j other)
 
 module _ (spent : ℕ) (clause other : List ℕ) (up : Ascending clause) (other_up : Ascending other) where
   module _ (literals : List ℕ) (i j : ℕ) (m : Merging spent clause other literals i j) where
     -- nothing is left of one of the clauses
     pub merge_ends : (length clause ≤ i) ⊎ (length other ≤ j) → (first second : List ℕ) →
-        first ≡ literals ++ dropped spent (take (length clause - i) (drop i clause)) → second ≡ first ++ take (length other - j) (drop j other) →
-        second ≡ joined (dropped spent clause) other
+        first ≡ literals ++ clause_without spent (take (length clause - i) (drop i clause)) → second ≡ first ++ take (length other - j) (drop j other) →
+        second ≡ union_of (clause_without spent clause) other
     merge_ends done first second f s =
         let own : take (length clause - i) (drop i clause) ≡ drop i clause = take_all (length clause - i) (drop i clause) (omega (arith, length-drop i clause)) in
         let rest : take (length other - j) (drop j other) ≡ drop j other = take_all (length other - j) (drop j other) (omega (arith, length-drop j other)) in
-        let left : joined (dropped spent (drop i clause)) (drop j other) ≡ dropped spent (drop i clause) ++ drop j other =
+        let left : union_of (clause_without spent (drop i clause)) (drop j other) ≡ clause_without spent (drop i clause) ++ drop j other =
         elim done [
           | inl l ↦ let none : drop i clause ≡ [] = drop_all i clause l in
-              ap (λ z. joined (dropped spent z) (drop j other)) none ∙ sym (ap (λ z. dropped spent z ++ drop j other) none)
+              ap (λ z. union_of (clause_without spent z) (drop j other)) none ∙ sym (ap (λ z. clause_without spent z ++ drop j other) none)
           | inr l ↦ let none : drop j other ≡ [] = drop_all j other l in
-              ap (λ z. joined (dropped spent (drop i clause)) z) none ∙ with_nothing (dropped spent (drop i clause)) (dropped_up spent (drop i clause) (rest_ascends i clause up))
-              ∙ sym (append-nil (dropped spent (drop i clause))) ∙ sym (ap (λ z. dropped spent (drop i clause) ++ z) none)
+              ap (λ z. union_of (clause_without spent (drop i clause)) z) none ∙ with_nothing (clause_without spent (drop i clause)) (dropped_up spent (drop i clause) (rest_ascends i clause up))
+              ∙ sym (append-nil (clause_without spent (drop i clause))) ∙ sym (ap (λ z. clause_without spent (drop i clause) ++ z) none)
         ] in
-        s ∙ ap₂ (λ x y. x ++ y) (f ∙ ap (λ z. literals ++ dropped spent z) own) rest
-        ∙ append_assoc literals (dropped spent (drop i clause)) (drop j other)
+        s ∙ ap₂ (λ x y. x ++ y) (f ∙ ap (λ z. literals ++ clause_without spent z) own) rest
+        ∙ append_assoc literals (clause_without spent (drop i clause)) (drop j other)
         ∙ ap (λ z. literals ++ z) (sym left) ∙ sym m.union
 
     module _ (own : ℕ) (l : i < length clause) (own_is : own ≡ get_or clause i 0) where
@@ -72,7 +72,7 @@ module _ (spent : ℕ) (clause other : List ℕ) (up : Ascending clause) (other_
       merge_spent e = record {
         own_in = omega arith;
         other_in = m.other_in;
-        union = m.union ∙ ap (λ z. literals ++ joined z (drop j other)) (ap (dropped spent) at_own ∙ dropped_less spent own (drop (i + 1) clause) e);
+        union = m.union ∙ ap (λ z. literals ++ union_of z (drop j other)) (ap (clause_without spent) at_own ∙ dropped_less spent own (drop (i + 1) clause) e);
       }
 
       module _ (next : ℕ) (u : j < length other) (next_is : next ≡ get_or other j 0) (ne : own ≢ spent) where
@@ -82,41 +82,41 @@ module _ (spent : ℕ) (clause other : List ℕ) (up : Ascending clause) (other_
         up_next : Ascending (next ∷ drop (j + 1) other)
         up_next = subst Ascending at_next (rest_ascends j other other_up)
 
-        own_left : dropped spent (drop i clause) ≡ own ∷ dropped spent (drop (i + 1) clause)
-        own_left = ap (dropped spent) at_own ∙ dropped_more spent own (drop (i + 1) clause) ne
+        own_left : clause_without spent (drop i clause) ≡ own ∷ clause_without spent (drop (i + 1) clause)
+        own_left = ap (clause_without spent) at_own ∙ dropped_more spent own (drop (i + 1) clause) ne
 
-        up_left : Ascending (own ∷ dropped spent (drop (i + 1) clause))
+        up_left : Ascending (own ∷ clause_without spent (drop (i + 1) clause))
         up_left = ((λ y k. up_own.0 y (filter_cases (λ n. not (eqb n spent)) (drop (i + 1) clause) y k).0), dropped_up spent (drop (i + 1) clause) up_own.1)
 
-        merges : Merges own next (dropped spent (drop (i + 1) clause)) (drop (j + 1) other)
-        merges = union_merges_lem own next (dropped spent (drop (i + 1) clause)) (drop (j + 1) other) up_left up_next
+        merges : Merges own next (clause_without spent (drop (i + 1) clause)) (drop (j + 1) other)
+        merges = union_merges_lem own next (clause_without spent (drop (i + 1) clause)) (drop (j + 1) other) up_left up_next
 
-        heads : joined (dropped spent (drop i clause)) (drop j other) ≡ joined (own ∷ dropped spent (drop (i + 1) clause)) (next ∷ drop (j + 1) other)
-        heads = ap₂ (λ x y. joined x y) own_left at_next
+        heads : union_of (clause_without spent (drop i clause)) (drop j other) ≡ union_of (own ∷ clause_without spent (drop (i + 1) clause)) (next ∷ drop (j + 1) other)
+        heads = ap₂ (λ x y. union_of x y) own_left at_next
 
-        put : (x : ℕ) (rest more : List ℕ) → more ≡ literals ++ x ∷ [] → joined (own ∷ dropped spent (drop (i + 1) clause)) (next ∷ drop (j + 1) other) ≡ x ∷ rest →
-            joined (dropped spent clause) other ≡ more ++ rest
+        put : (x : ℕ) (rest more : List ℕ) → more ≡ literals ++ x ∷ [] → union_of (own ∷ clause_without spent (drop (i + 1) clause)) (next ∷ drop (j + 1) other) ≡ x ∷ rest →
+            union_of (clause_without spent clause) other ≡ more ++ rest
         put x rest more is e = m.union ∙ ap (λ z. literals ++ z) (heads ∙ e) ∙ sym (append_assoc literals (x ∷ []) rest) ∙ ap (λ z. z ++ rest) (sym is)
 
         pub merge_own : own < next → (more : List ℕ) → more ≡ literals ++ own ∷ [] → Merging spent clause other more (i + 1) j
         merge_own h more is = record {
           own_in = omega arith;
           other_in = m.other_in;
-          union = put own (joined (dropped spent (drop (i + 1) clause)) (next ∷ drop (j + 1) other)) more is (merges.less h)
-              ∙ ap (λ z. more ++ joined (dropped spent (drop (i + 1) clause)) z) (sym at_next);
+          union = put own (union_of (clause_without spent (drop (i + 1) clause)) (next ∷ drop (j + 1) other)) more is (merges.less h)
+              ∙ ap (λ z. more ++ union_of (clause_without spent (drop (i + 1) clause)) z) (sym at_next);
         }
 
         pub merge_next : next < own → (more : List ℕ) → more ≡ literals ++ next ∷ [] → Merging spent clause other more i (j + 1)
         merge_next h more is = record {
           own_in = m.own_in;
           other_in = omega arith;
-          union = put next (joined (own ∷ dropped spent (drop (i + 1) clause)) (drop (j + 1) other)) more is (merges.more h)
-              ∙ ap (λ z. more ++ joined z (drop (j + 1) other)) (sym own_left);
+          union = put next (union_of (own ∷ clause_without spent (drop (i + 1) clause)) (drop (j + 1) other)) more is (merges.more h)
+              ∙ ap (λ z. more ++ union_of z (drop (j + 1) other)) (sym own_left);
         }
 
         pub merge_both : own ≡ next → (more : List ℕ) → more ≡ literals ++ own ∷ [] → Merging spent clause other more (i + 1) (j + 1)
         merge_both h more is = record {
           own_in = omega arith;
           other_in = omega arith;
-          union = put own (joined (dropped spent (drop (i + 1) clause)) (drop (j + 1) other)) more is (merges.same h);
+          union = put own (union_of (clause_without spent (drop (i + 1) clause)) (drop (j + 1) other)) more is (merges.same h);
         }

@@ -4,13 +4,13 @@ use Rattle.std.proofs.lemmas.Bool.{cases_eq}
 use Rattle.clause_pool.specs.Interned.{Interned, IsPool, Kept, row_at}
 use Rattle.clause_pool.proofs.Lists.{In_at}
 use Rattle.row_book.specs.Sets.{In, here, there}
-use Rattle.row_book.specs.Clauses.{Ascending, ordered}
+use Rattle.row_book.specs.Clauses.{Ascending, in_row_order}
 use Rattle.row_book.specs.Book.{RowsFit, RowsTidy}
 use Rattle.row_book.specs.Uses.{row_id, users_of, uses_of}
 use Rattle.row_book.proofs.Books.{row_kept}
 use Rattle.row_book.proofs.Lists.{In_cases, In_none, decided_in}
 use Rattle.row_book.proofs.Inserts.{In_drop}
-use Rattle.clause_flatten.specs.Substitution.{eliminated, substituted, table_row}
+use Rattle.clause_flatten.specs.Substitution.{table_without, substituted, table_row}
 use Rattle.clause_flatten.proofs.Families.{kept_trans}
 use Rattle.clause_flatten.proofs.Replacing.{id_in, not_behind, not_user, other_eliminated, own_eliminated, own_user, table_same, tidy_untouched, user_in, users_up}
 
@@ -20,7 +20,7 @@ pub record Midway (start : Interned) (first : List ℕ) (q : ℕ) (pool : Intern
   pub fit : RowsFit pool rows
   pub tidy : RowsTidy pool rows
   pub table : uses ≡ uses_of pool rows
-  pub changed : (p : ℕ) → In p done → row_at pool (row_id rows p) ≡ ordered (substituted p q (row_at start (row_id first p)) (row_at start (row_id first q)))
+  pub changed : (p : ℕ) → In p done → row_at pool (row_id rows p) ≡ in_row_order (substituted p q (row_at start (row_id first p)) (row_at start (row_id first q)))
   pub same : (p : ℕ) → (In p done → ⊥) → row_id rows p ≡ row_id first p
 
 -- no user is done yet
@@ -65,7 +65,7 @@ module _ (start : Interned) (first : List ℕ) (q : ℕ) (is : IsPool start) (fi
 
   module _ (i : ℕ) (l : i < length users) (pool : Interned) (rows : List ℕ) (uses : List (List ℕ)) (m : Midway start first q pool rows uses (drop (i + 1) users))
       (next : Interned) (after : List ℕ) (more : List (List ℕ)) (a : Around pool rows (get_or users i 0) next after more) where
-    still_changed : (p : ℕ) → In p (drop (i + 1) users) → row_at next (row_id after p) ≡ ordered (substituted p q (row_at start (row_id first p)) (row_at start (row_id first q)))
+    still_changed : (p : ℕ) → In p (drop (i + 1) users) → row_at next (row_id after p) ≡ in_row_order (substituted p q (row_at start (row_id first p)) (row_at start (row_id first q)))
     still_changed p j =
         a.stay p (subst (λ z. p < z) (sym m.size) (below p (In_drop (i + 1) users p j))) (λ e. fresh i l (subst (λ z. In z (drop (i + 1) users)) e j)) ∙ m.changed p j
 
@@ -80,7 +80,7 @@ module _ (start : Interned) (first : List ℕ) (q : ℕ) (is : IsPool start) (fi
       same = λ p f. ap (λ z. row_id z p) e ∙ m.same p f;
     }
 
-    pub midway_step : row_at next (row_id after (get_or users i 0)) ≡ ordered (substituted (get_or users i 0) q (row_at pool (row_id rows (get_or users i 0))) (row_at pool (row_id rows q))) →
+    pub midway_step : row_at next (row_id after (get_or users i 0)) ≡ in_row_order (substituted (get_or users i 0) q (row_at pool (row_id rows (get_or users i 0))) (row_at pool (row_id rows q))) →
         Midway start first q next after more (drop i users)
     midway_step made =
         let user : ℕ = get_or users i 0 in
@@ -95,9 +95,9 @@ module _ (start : Interned) (first : List ℕ) (q : ℕ) (is : IsPool start) (fi
           changed = λ p j. elim (In_cases (subst (λ z. In p z) grown j)) [
             | inr k ↦ still_changed p k
             | inl e ↦
-                  subst (λ z. row_at next (row_id after z) ≡ ordered (substituted z q (row_at start (row_id first z)) (row_at start (row_id first q)))) (sym e)
-                  (made ∙ ap₂ (λ x y. ordered (substituted user q x y)) (reads pool rows uses (drop (i + 1) users) m user (below user user_there) (fresh i l))
-                  (reads pool rows uses (drop (i + 1) users) m q q_in (λ o. not_own q (In_drop (i + 1) users q o) refl)))
+                subst (λ z. row_at next (row_id after z) ≡ in_row_order (substituted z q (row_at start (row_id first z)) (row_at start (row_id first q)))) (sym e)
+                (made ∙ ap₂ (λ x y. in_row_order (substituted user q x y)) (reads pool rows uses (drop (i + 1) users) m user (below user user_there) (fresh i l))
+                (reads pool rows uses (drop (i + 1) users) m q q_in (λ o. not_own q (In_drop (i + 1) users q o) refl)))
           ];
           same = λ p f.
               a.others p (λ e. f (subst (λ z. In p z) (sym grown) (subst (λ z. In p (z ∷ drop (i + 1) users)) e here)))
@@ -106,20 +106,20 @@ module _ (start : Interned) (first : List ℕ) (q : ℕ) (is : IsPool start) (fi
 
   module _ (pool : Interned) (rows : List ℕ) (uses : List (List ℕ)) where
     pub each_row : (i : ℕ) → Midway start first q pool rows uses (drop i users) → (p : ℕ) → p < length first →
-        (row_id rows p ≡ row_id first p) ⊎ (row_at pool (row_id rows p) ≡ table_row (eliminated q (map (row_at start) first)) p)
+        (row_id rows p ≡ row_id first p) ⊎ (row_at pool (row_id rows p) ≡ table_row (table_without q (map (row_at start) first)) p)
     each_row i m p l =
         elim (decided_in p (drop i users)) [
           | inl j ↦ inr (m.changed p j ∙ sym (other_eliminated start first q q_in p l (not_own p (In_drop i users p j))))
           | inr f ↦ inl (m.same p f)
         ]
 
-    pub all_rows : (i : ℕ) → drop i users ≡ users → Midway start first q pool rows uses (drop i users) → map (row_at pool) rows ≡ eliminated q (map (row_at start) first)
+    pub all_rows : (i : ℕ) → drop i users ≡ users → Midway start first q pool rows uses (drop i users) → map (row_at pool) rows ≡ table_without q (map (row_at start) first)
     all_rows i all half =
         let m : Midway start first q pool rows uses users = subst (λ z. Midway start first q pool rows uses z) all half in
         table_same start first q q_in pool rows m.size (λ p l.
         elim (cases_eq p q) [
           | inl e ↦
-              subst (λ z. row_at pool (row_id rows z) ≡ table_row (eliminated q (map (row_at start) first)) z) (sym e)
+              subst (λ z. row_at pool (row_id rows z) ≡ table_row (table_without q (map (row_at start) first)) z) (sym e)
               (reads pool rows uses users m q q_in (λ o. not_own q o refl) ∙ sym (own_eliminated start first q q_in))
           | inr ne ↦ elim (decided_in p users) [
             | inl j ↦ m.changed p j ∙ sym (other_eliminated start first q q_in p l ne)

@@ -8,7 +8,7 @@ use Rattle.row_book.specs.Support.{Support, IsRow, supports, is_supported, block
 use Rattle.row_book.specs.Sound.{OfPackages}
 use Rattle.row_book.specs.Flattening.{all_packages}
 use Rattle.row_book.proofs.Lists.{In_cases, In_none, has_In}
-use Rattle.clause_flatten.specs.Substitution.{replaced}
+use Rattle.clause_flatten.specs.Substitution.{all_unions_for}
 use Rattle.clause_flatten.specs.Laws.{FlattenedBy}
 use Rattle.clause_flatten.proofs.Rows.{support_from, support_test, row_is}
 
@@ -39,7 +39,7 @@ step_wants_the_user law =
 -- substitution that keeps the clauses which hold p
 abbrev SubstitutesAll : Type 0
 SubstitutesAll = (R : Repository) (V : NumSet) (p q : ℕ) (A B : List (List ℕ)) → OfPackages R V → p < length R.clauses → V q ≡ true → p ≢ q →
-    IsRow R V p A → IsRow R V q B → IsRow R (without V q) p (minimal_of (replaced q A B))
+    IsRow R V p A → IsRow R V q B → IsRow R (without V q) p (minimal_of (all_unions_for q A B))
 
 circle_bound : OfPackages circle (all_packages circle)
 circle_bound n h = ltb-true n (length circle.clauses) h

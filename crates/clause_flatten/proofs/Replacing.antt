@@ -6,14 +6,14 @@ use Rattle.std.proofs.lemmas.List.{get_or-set_same, get_or-set_other, get_or-map
 use Rattle.clause_pool.specs.Interned.{Interned, IsPool, Kept, clause_at, ids_at, row_at}
 use Rattle.clause_pool.proofs.Lists.{In_at}
 use Rattle.row_book.specs.Sets.{In, here, there, has}
-use Rattle.row_book.specs.Clauses.{Ascending, InOrder, Inside, apart_from, numbers, ordered}
+use Rattle.row_book.specs.Clauses.{Ascending, InOrder, Inside, apart_from, numbers, in_row_order}
 use Rattle.row_book.specs.Book.{RowsFit, RowsTidy, listed_for}
 use Rattle.row_book.specs.Uses.{row_holds, row_id, users_of, uses_of}
 use Rattle.row_book.proofs.Lists.{In_cases, In_has, In_map_cases, In_none, any_cases, any_from, ascending_filter, ascending_same, filter_cases, filter_from, has_In, filter_same}
 use Rattle.row_book.proofs.Books.{row_kept}
 use Rattle.row_book.proofs.Clauses.{apart_cases, apart_in, minimal_of_from, minimal_of_parts}
 use Rattle.row_book.proofs.Order.{at_numbers, length_numbers, map_same, numbers_from, numbers_parts, order_same, ordered_has, ordered_order, ordered_parts}
-use Rattle.clause_flatten.specs.Substitution.{dropped, eliminated, replaced, substituted, table_row}
+use Rattle.clause_flatten.specs.Substitution.{clause_without, table_without, all_unions_for, substituted, table_row}
 use Rattle.clause_flatten.proofs.Unions.{Comes, dropped_parts, joined_ascending, joined_cases, replaced_cases, replaced_kept}
 
 -- Rows in a pool that grows.
@@ -88,53 +88,53 @@ module _ (pool : Interned) (rows : List ℕ) (user id : ℕ) (user_in : user < l
 -- What a substituted row is like.
 
 module _ (p q : ℕ) (A B : List (List ℕ)) where
-  came : (c : List ℕ) → In c (ordered (substituted p q A B)) → In c (replaced q A B) × (In p c → ⊥)
-  came c i = apart_cases p (replaced q A B) c (minimal_of_parts (apart_from p (replaced q A B)) c (ordered_parts (substituted p q A B) c i)).0
+  came : (c : List ℕ) → In c (in_row_order (substituted p q A B)) → In c (all_unions_for q A B) × (In p c → ⊥)
+  came c i = apart_cases p (all_unions_for q A B) c (minimal_of_parts (apart_from p (all_unions_for q A B)) c (ordered_parts (substituted p q A B) c i)).0
 
-  pub new_apart : (c : List ℕ) → In c (ordered (substituted p q A B)) → In p c → ⊥
+  pub new_apart : (c : List ℕ) → In c (in_row_order (substituted p q A B)) → In p c → ⊥
   new_apart c i = (came c i).1
 
   pub new_numbers : (size : ℕ) → ((c : List ℕ) → In c A → (n : ℕ) → In n c → n < size) → ((c : List ℕ) → In c B → (n : ℕ) → In n c → n < size) →
-      (c : List ℕ) → In c (ordered (substituted p q A B)) → (n : ℕ) → In n c → n < size
+      (c : List ℕ) → In c (in_row_order (substituted p q A B)) → (n : ℕ) → In n c → n < size
   new_numbers size f g c i n j =
       let from : (T : List ℕ) × In T A × Comes q B T c = replaced_cases q A B c (came c i).0 in
       elim from.2.how [
         | inl kept ↦ f from.0 from.1 n (subst (λ z. In n z) kept.1 j)
-        | inr made ↦ elim (joined_cases (dropped q from.0) made.0 n (subst (λ z. In n z) made.3 j)) [
+        | inr made ↦ elim (joined_cases (clause_without q from.0) made.0 n (subst (λ z. In n z) made.3 j)) [
           | inl a ↦ f from.0 from.1 n (dropped_parts q from.0 n a).0
           | inr b ↦ g made.0 made.1 n b
         ]
       ]
 
-  pub new_up : ((c : List ℕ) → In c A → Ascending c) → ((c : List ℕ) → In c B → Ascending c) → (c : List ℕ) → In c (ordered (substituted p q A B)) → Ascending c
+  pub new_up : ((c : List ℕ) → In c A → Ascending c) → ((c : List ℕ) → In c B → Ascending c) → (c : List ℕ) → In c (in_row_order (substituted p q A B)) → Ascending c
   new_up f g c i =
       let from : (T : List ℕ) × In T A × Comes q B T c = replaced_cases q A B c (came c i).0 in
       elim from.2.how [
         | inl kept ↦ subst (λ z. Ascending z) (sym kept.1) (f from.0 from.1)
-        | inr made ↦ subst (λ z. Ascending z) (sym made.3) (joined_ascending (dropped q from.0) made.0 (g made.0 made.1))
+        | inr made ↦ subst (λ z. Ascending z) (sym made.3) (joined_ascending (clause_without q from.0) made.0 (g made.0 made.1))
       ]
 
   pub new_thin : ((c : List ℕ) → In c A → Ascending c) → ((c : List ℕ) → In c B → Ascending c) →
-      (c d : List ℕ) → In c (ordered (substituted p q A B)) → In d (ordered (substituted p q A B)) → Inside c d → c ≡ d
+      (c d : List ℕ) → In c (in_row_order (substituted p q A B)) → In d (in_row_order (substituted p q A B)) → Inside c d → c ≡ d
   new_thin f g c d i j inside =
-      let w : In d (apart_from p (replaced q A B)) × ((S : List ℕ) → In S (apart_from p (replaced q A B)) → Inside S d → Inside d S) =
-      minimal_of_parts (apart_from p (replaced q A B)) d (ordered_parts (substituted p q A B) d j) in
-      let c_in : In c (apart_from p (replaced q A B)) = (minimal_of_parts (apart_from p (replaced q A B)) c (ordered_parts (substituted p q A B) c i)).0 in
+      let w : In d (apart_from p (all_unions_for q A B)) × ((S : List ℕ) → In S (apart_from p (all_unions_for q A B)) → Inside S d → Inside d S) =
+      minimal_of_parts (apart_from p (all_unions_for q A B)) d (ordered_parts (substituted p q A B) d j) in
+      let c_in : In c (apart_from p (all_unions_for q A B)) = (minimal_of_parts (apart_from p (all_unions_for q A B)) c (ordered_parts (substituted p q A B) c i)).0 in
       ascending_same c d (new_up f g c i) (new_up f g d j) inside (w.1 c c_in inside)
 
   -- a row whose clauses do not hold the package stays
   pub tidy_untouched : InOrder A → ((c : List ℕ) → In c A → In p c → ⊥) → ((c d : List ℕ) → In c A → In d A → Inside c d → c ≡ d) →
-      ((c : List ℕ) → In c A → In q c → ⊥) → ordered (substituted p q A B) ≡ A
+      ((c : List ℕ) → In c A → In q c → ⊥) → in_row_order (substituted p q A B) ≡ A
   tidy_untouched o apart thin f =
-      let back : (c : List ℕ) → In c (apart_from p (replaced q A B)) → In c A =
+      let back : (c : List ℕ) → In c (apart_from p (all_unions_for q A B)) → In c A =
       λ c i.
-      let w : (T : List ℕ) × In T A × Comes q B T c = replaced_cases q A B c (apart_cases p (replaced q A B) c i).0 in
+      let w : (T : List ℕ) × In T A × Comes q B T c = replaced_cases q A B c (apart_cases p (all_unions_for q A B) c i).0 in
       elim w.2.how [ inl k ↦ subst (λ z. In z A) (sym k.1) w.1 | inr m ↦ absurd (f w.0 w.1 m.2) ] in
-      order_same (ordered (substituted p q A B)) A (ordered_order (substituted p q A B)) o
-      (λ c i. back c (minimal_of_parts (apart_from p (replaced q A B)) c (ordered_parts (substituted p q A B) c i)).0)
+      order_same (in_row_order (substituted p q A B)) A (ordered_order (substituted p q A B)) o
+      (λ c i. back c (minimal_of_parts (apart_from p (all_unions_for q A B)) c (ordered_parts (substituted p q A B) c i)).0)
       (λ c i. ordered_has (substituted p q A B) c
-      (minimal_of_from (apart_from p (replaced q A B)) c
-      (apart_in p (replaced q A B) c (replaced_kept q A B c i (f c i)) (apart c i))
+      (minimal_of_from (apart_from p (all_unions_for q A B)) c
+      (apart_in p (all_unions_for q A B) c (replaced_kept q A B c i (f c i)) (apart c i))
       (λ S j g. subst (λ z. Inside c z) (sym (thin S c (back S j) i g)) (λ n k. k))))
 
 pub pool_up : (pool : Interned) → IsPool pool → (id : ℕ) → id < length pool.rows → (c : List ℕ) → In c (row_at pool id) → Ascending c
@@ -198,15 +198,15 @@ same_items (x ∷ xs) (y ∷ ys) d e f =
     let k : suc (length xs) ≡ suc (length ys) = e in
     ap₂ (λ z zs. z ∷ zs) (f 0 (omega arith)) (same_items xs ys d (omega arith) (λ i l. f (suc i) (omega arith)))
 
-pub eliminated_length : (q : ℕ) (t : List (List (List ℕ))) → length (eliminated q t) ≡ length t
-unfolding eliminated
-eliminated_length q t = length_numbers (λ p. cond (eqb p q) (table_row t q) (ordered (substituted p q (table_row t p) (table_row t q)))) (length t) 0
+pub eliminated_length : (q : ℕ) (t : List (List (List ℕ))) → length (table_without q t) ≡ length t
+unfolding table_without
+eliminated_length q t = length_numbers (λ p. cond (eqb p q) (table_row t q) (in_row_order (substituted p q (table_row t p) (table_row t q)))) (length t) 0
 
 eliminated_at : (q : ℕ) (t : List (List (List ℕ))) (p : ℕ) → p < length t →
-    table_row (eliminated q t) p ≡ cond (eqb p q) (table_row t q) (ordered (substituted p q (table_row t p) (table_row t q)))
-unfolding eliminated
+    table_row (table_without q t) p ≡ cond (eqb p q) (table_row t q) (in_row_order (substituted p q (table_row t p) (table_row t q)))
+unfolding table_without
 eliminated_at q t p l =
-    let new : ℕ → List (List ℕ) = λ k. cond (eqb k q) (table_row t q) (ordered (substituted k q (table_row t k) (table_row t q))) in
+    let new : ℕ → List (List ℕ) = λ k. cond (eqb k q) (table_row t q) (in_row_order (substituted k q (table_row t k) (table_row t q))) in
     at_numbers new [] (length t) 0 p l ∙ ap new (let e : 0 + p ≡ p = omega arith in e)
 
 module _ (start : Interned) (first : List ℕ) (q : ℕ) (q_in : q < length first) where
@@ -219,23 +219,23 @@ module _ (start : Interned) (first : List ℕ) (q : ℕ) (q_in : q < length firs
   table_at : (p : ℕ) → p < length first → table_row table p ≡ row_at start (row_id first p)
   table_at p l = get_or-map (row_at start) first p 0 [] l
 
-  pub own_eliminated : table_row (eliminated q (map (row_at start) first)) q ≡ row_at start (row_id first q)
+  pub own_eliminated : table_row (table_without q (map (row_at start) first)) q ≡ row_at start (row_id first q)
   own_eliminated =
       eliminated_at q table q (subst (λ z. q < z) (sym table_size) q_in)
-      ∙ cond-true (eqb q q) (table_row table q) (ordered (substituted q q (table_row table q) (table_row table q))) (eq-eqb q q refl)
+      ∙ cond-true (eqb q q) (table_row table q) (in_row_order (substituted q q (table_row table q) (table_row table q))) (eq-eqb q q refl)
       ∙ table_at q q_in
 
   pub other_eliminated : (p : ℕ) → p < length first → p ≢ q →
-      table_row (eliminated q (map (row_at start) first)) p ≡ ordered (substituted p q (row_at start (row_id first p)) (row_at start (row_id first q)))
+      table_row (table_without q (map (row_at start) first)) p ≡ in_row_order (substituted p q (row_at start (row_id first p)) (row_at start (row_id first q)))
   other_eliminated p l ne =
       eliminated_at q table p (subst (λ z. p < z) (sym table_size) l)
-      ∙ cond-false (eqb p q) (table_row table q) (ordered (substituted p q (table_row table p) (table_row table q))) (ne_eqb p q ne)
-      ∙ ap₂ (λ a b. ordered (substituted p q a b)) (table_at p l) (table_at q q_in)
+      ∙ cond-false (eqb p q) (table_row table q) (in_row_order (substituted p q (table_row table p) (table_row table q))) (ne_eqb p q ne)
+      ∙ ap₂ (λ a b. in_row_order (substituted p q a b)) (table_at p l) (table_at q q_in)
 
   pub table_same : (pool : Interned) (rows : List ℕ) → length rows ≡ length first →
-      ((p : ℕ) → p < length first → row_at pool (row_id rows p) ≡ table_row (eliminated q (map (row_at start) first)) p) →
-      map (row_at pool) rows ≡ eliminated q (map (row_at start) first)
+      ((p : ℕ) → p < length first → row_at pool (row_id rows p) ≡ table_row (table_without q (map (row_at start) first)) p) →
+      map (row_at pool) rows ≡ table_without q (map (row_at start) first)
   table_same pool rows size f =
       let long : length (map (row_at pool) rows) ≡ length rows = length-map rows (row_at pool) in
-      same_items (map (row_at pool) rows) (eliminated q table) [] (long ∙ size ∙ sym (eliminated_length q table ∙ table_size))
+      same_items (map (row_at pool) rows) (table_without q table) [] (long ∙ size ∙ sym (eliminated_length q table ∙ table_size))
       (λ p l. get_or-map (row_at pool) rows p 0 [] (subst (λ z. p < z) long l) ∙ f p (subst (λ z. p < z) (long ∙ size) l))

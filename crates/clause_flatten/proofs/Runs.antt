@@ -6,14 +6,14 @@ use Rattle.std.proofs.lemmas.Bool.{both_ways, cases_Bool, cases_eq, cases_lt, co
 use Rattle.std.proofs.lemmas.List as lists
 use Rattle.clause_pool.specs.Interned.{Interned, IsPool, row_at}
 use Rattle.row_book.specs.Sets.{In, has, here, there}
-use Rattle.row_book.specs.Clauses.{Ascending, InOrder, Inside, apart_from, numbers, ordered}
+use Rattle.row_book.specs.Clauses.{Ascending, InOrder, Inside, apart_from, numbers, in_row_order}
 use Rattle.row_book.specs.Uses.{row_holds, row_id, users_of, uses_of}
 use Rattle.row_book.specs.Book.{RowsFit, RowsTidy, listed_for}
 use Rattle.row_book.specs.Flattening.{passed_by}
 use Rattle.row_book.proofs.Lists.{In_cases, In_has, In_none, any_none, ascending_filter, filter_cases, filter_from, find_not, find_none, has_not, In_at}
 use Rattle.row_book.proofs.Clauses.{apart_cases, apart_in, minimal_of_from, minimal_of_parts}
 use Rattle.row_book.proofs.Order.{at_numbers, length_numbers, numbers_from, numbers_parts, order_same, ordered_has, ordered_order, ordered_parts, numbers_ascending}
-use Rattle.clause_flatten.specs.Substitution.{eliminated, length_in, replaced, substituted, table_row}
+use Rattle.clause_flatten.specs.Substitution.{table_without, length_in, all_unions_for, substituted, table_row}
 use Rattle.clause_flatten.specs.TakingOut.{counted_anew, is_over}
 use Rattle.clause_flatten.specs.Waiting.{Filed, recounted}
 use Rattle.clause_flatten.specs.declared.waiting.Waiting.{Waiting}
@@ -23,29 +23,29 @@ use Rattle.clause_flatten.proofs.Turns.{filed_as}
 
 -- a tidy row that does not hold q stays as it is
 untouched : (p q : ℕ) (A B : List (List ℕ)) → InOrder A → ((c : List ℕ) → In c A → In q c → ⊥) → ((c : List ℕ) → In c A → In p c → ⊥) →
-    ((c d : List ℕ) → In c A → In d A → Inside c d → c ≡ d) → ordered (substituted p q A B) ≡ A
+    ((c d : List ℕ) → In c A → In d A → Inside c d → c ≡ d) → in_row_order (substituted p q A B) ≡ A
 untouched p q A B o f g m =
-    let back : (c : List ℕ) → In c (apart_from p (replaced q A B)) → In c A =
+    let back : (c : List ℕ) → In c (apart_from p (all_unions_for q A B)) → In c A =
     λ c i.
-    let w : (T : List ℕ) × In T A × Comes q B T c = replaced_cases q A B c (apart_cases p (replaced q A B) c i).0 in
+    let w : (T : List ℕ) × In T A × Comes q B T c = replaced_cases q A B c (apart_cases p (all_unions_for q A B) c i).0 in
     elim w.2.how [ inl k ↦ subst (λ z. In z A) (sym k.1) w.1 | inr n ↦ absurd (f w.0 w.1 n.2) ] in
-    order_same (ordered (substituted p q A B)) A (ordered_order (substituted p q A B)) o
-    (λ c i. back c (minimal_of_parts (apart_from p (replaced q A B)) c (ordered_parts (substituted p q A B) c i)).0)
+    order_same (in_row_order (substituted p q A B)) A (ordered_order (substituted p q A B)) o
+    (λ c i. back c (minimal_of_parts (apart_from p (all_unions_for q A B)) c (ordered_parts (substituted p q A B) c i)).0)
     (λ c i. ordered_has (substituted p q A B) c
-    (minimal_of_from (apart_from p (replaced q A B)) c
-    (apart_in p (replaced q A B) c (replaced_kept q A B c i (f c i)) (g c i))
+    (minimal_of_from (apart_from p (all_unions_for q A B)) c
+    (apart_in p (all_unions_for q A B) c (replaced_kept q A B c i (f c i)) (g c i))
     (λ S j h. subst (λ z. Inside c z) (sym (m S c (back S j) i h)) (λ n k. k))))
 
 -- the rows of a table when q is taken out
-pub eliminated_at : (q : ℕ) (t : List (List (List ℕ))) (p : ℕ) → p < length t → table_row (eliminated q t) p ≡ cond (eqb p q) (table_row t q) (ordered (substituted p q (table_row t p) (table_row t q)))
-unfolding eliminated
+pub eliminated_at : (q : ℕ) (t : List (List (List ℕ))) (p : ℕ) → p < length t → table_row (table_without q t) p ≡ cond (eqb p q) (table_row t q) (in_row_order (substituted p q (table_row t p) (table_row t q)))
+unfolding table_without
 eliminated_at q t p l =
-    let new : ℕ → List (List ℕ) = λ p. cond (eqb p q) (table_row t q) (ordered (substituted p q (table_row t p) (table_row t q))) in
+    let new : ℕ → List (List ℕ) = λ p. cond (eqb p q) (table_row t q) (in_row_order (substituted p q (table_row t p) (table_row t q))) in
     at_numbers new [] (length t) 0 p l ∙ ap new (omega arith)
 
-pub eliminated_count : (q : ℕ) (t : List (List (List ℕ))) → length (eliminated q t) ≡ length t
-unfolding eliminated
-eliminated_count q t = length_numbers (λ p. cond (eqb p q) (table_row t q) (ordered (substituted p q (table_row t p) (table_row t q)))) (length t) 0
+pub eliminated_count : (q : ℕ) (t : List (List (List ℕ))) → length (table_without q t) ≡ length t
+unfolding table_without
+eliminated_count q t = length_numbers (λ p. cond (eqb p q) (table_row t q) (in_row_order (substituted p q (table_row t p) (table_row t q)))) (length t) 0
 
 -- the users of a package
 pub users_are : (pool : Interned) (rows : List ℕ) (q : ℕ) → q < length rows → listed_for (uses_of pool rows) q ≡ users_of pool rows q
@@ -76,7 +76,7 @@ module _ (pool : Interned) (rows : List ℕ) (q : ℕ) (l : q < length rows) (us
 
   -- and its row stays
   stays_for : IsPool pool → RowsFit pool rows → RowsTidy pool rows → (p : ℕ) → p < length rows → (In p users → ⊥) →
-      table_row (eliminated q (map (row_at pool) rows)) p ≡ table_row (map (row_at pool) rows) p
+      table_row (table_without q (map (row_at pool) rows)) p ≡ table_row (map (row_at pool) rows) p
   stays_for is fit tidy p m f =
       let t : List (List (List ℕ)) = map (row_at pool) rows in
       let count : length (map (row_at pool) rows) ≡ length rows = lists.length-map rows (row_at pool) in
@@ -84,12 +84,12 @@ module _ (pool : Interned) (rows : List ℕ) (q : ℕ) (l : q < length rows) (us
       elim (cases_eq p q) [
         | inl s ↦
             eliminated_at q t p (omega (arith, count))
-            ∙ cond-true (eqb p q) (table_row t q) (ordered (substituted p q (table_row t p) (table_row t q))) (eq-eqb p q s)
+            ∙ cond-true (eqb p q) (table_row t q) (in_row_order (substituted p q (table_row t p) (table_row t q))) (eq-eqb p q s)
             ∙ ap (table_row t) (sym s)
         | inr ne ↦
             eliminated_at q t p (omega (arith, count))
-            ∙ cond-false (eqb p q) (table_row t q) (ordered (substituted p q (table_row t p) (table_row t q))) (ne_eqb p q ne)
-            ∙ ap (λ xs. ordered (substituted p q xs (table_row t q))) at
+            ∙ cond-false (eqb p q) (table_row t q) (in_row_order (substituted p q (table_row t p) (table_row t q))) (ne_eqb p q ne)
+            ∙ ap (λ xs. in_row_order (substituted p q xs (table_row t q))) at
             ∙ untouched p q (row_at pool (row_id rows p)) (table_row t q)
             (is.in_order (row_id rows p) (fit.of_pool (row_id rows p) (In_at rows p 0 m)))
             (not_named p m f) (tidy.apart p m) (tidy.minimal p m)
@@ -97,22 +97,22 @@ module _ (pool : Interned) (rows : List ℕ) (q : ℕ) (l : q < length rows) (us
       ]
 
   pub counts_stay : IsPool pool → RowsFit pool rows → RowsTidy pool rows → (p : ℕ) → has users p ≡ false →
-      length_in (eliminated q (map (row_at pool) rows)) p ≡ length_in (map (row_at pool) rows) p
+      length_in (table_without q (map (row_at pool) rows)) p ≡ length_in (map (row_at pool) rows) p
   counts_stay is fit tidy p h =
       let t : List (List (List ℕ)) = map (row_at pool) rows in
       let count : length (map (row_at pool) rows) ≡ length rows = lists.length-map rows (row_at pool) in
       elim (cases_lt p (length rows)) [
         | inl m ↦ ap length (stays_for is fit tidy p m (λ i. both_ways (has users p) h (In_has i)))
         | inr m ↦
-            ap length (lists.get_or_past (eliminated q t) p [] (omega (arith, eliminated_count q t, count)))
+            ap length (lists.get_or_past (table_without q t) p [] (omega (arith, eliminated_count q t, count)))
             ∙ sym (ap length (lists.get_or_past t p [] (omega (arith, count))))
       ]
 
   -- the first row that is over the limit is that of a user
   pub over_all : IsPool pool → RowsFit pool rows → RowsTidy pool rows → (limit : ℕ) → ((p : ℕ) → p < length rows → length_in (map (row_at pool) rows) p ≤ limit) →
-      find (is_over (eliminated q (map (row_at pool) rows)) limit) (numbers (length rows) 0) ≡ find (is_over (eliminated q (map (row_at pool) rows)) limit) users
+      find (is_over (table_without q (map (row_at pool) rows)) limit) (numbers (length rows) 0) ≡ find (is_over (table_without q (map (row_at pool) rows)) limit) users
   over_all is fit tidy limit within =
-      let new : List (List (List ℕ)) = eliminated q (map (row_at pool) rows) in
+      let new : List (List (List ℕ)) = table_without q (map (row_at pool) rows) in
       sym (ap (find (is_over new limit)) same
       ∙ find_filter (is_over new limit) (λ p. row_holds pool (row_id rows p) q) (numbers (length rows) 0)
       (λ p i h.
@@ -129,11 +129,11 @@ module _ (pool : Interned) (rows : List ℕ) (q : ℕ) (l : q < length rows) (us
           pick true u h = ap (cond (f x) (Some x)) h
           pick false u h = h ∙ sym (cond-false (f x) (Some x) (find f xs) (k x here u))
 
-  pub filed_after : IsPool pool → RowsFit pool rows → RowsTidy pool rows → (w : Waiting) (may : ℕ → Bool) (new : List (List (List ℕ))) → new ≡ eliminated q (map (row_at pool) rows) →
-      Filed w may (counted_anew (length_in (map (row_at pool) rows)) new users) → Filed w may (length_in (eliminated q (map (row_at pool) rows)))
+  pub filed_after : IsPool pool → RowsFit pool rows → RowsTidy pool rows → (w : Waiting) (may : ℕ → Bool) (new : List (List (List ℕ))) → new ≡ table_without q (map (row_at pool) rows) →
+      Filed w may (counted_anew (length_in (map (row_at pool) rows)) new users) → Filed w may (length_in (table_without q (map (row_at pool) rows)))
   filed_after is fit tidy w may new d f =
       let t : List (List (List ℕ)) = map (row_at pool) rows in
-      filed_as w may may (counted_anew (length_in t) new users) (length_in (eliminated q t)) f (λ p. refl)
+      filed_as w may may (counted_anew (length_in t) new users) (length_in (table_without q t)) f (λ p. refl)
       (λ p h. elim (cases_Bool (has users p)) [
         | inl u ↦ cond-true (has users p) (length_in new p) (length_in t p) u ∙ ap (λ x. length_in x p) d
         | inr u ↦ cond-false (has users p) (length_in new p) (length_in t p) u ∙ sym (counts_stay is fit tidy p u)

@@ -5,7 +5,7 @@ use Rattle.std.specs.Option.{option_map}
 use Rattle.std.proofs.lemmas.Bool.{both_ways, and_left, and_parts, and_from, not_from_false, false_from_ne_true, true_from_ne_false, lt-ltb, ltb-true}
 use Rattle.row_book.specs.Sets.{In, NumSet, here, there, without}
 use Rattle.row_book.specs.Repository.{Repository, clauses_of}
-use Rattle.row_book.specs.Clauses.{apart_from, minimal_of, numbers, ordered}
+use Rattle.row_book.specs.Clauses.{apart_from, minimal_of, numbers, in_row_order}
 use Rattle.row_book.specs.Support.{row}
 use Rattle.row_book.specs.Sound.{OfPackages, SoundClauses}
 use Rattle.row_book.specs.Flattening.{all_packages, core_of, first_some, flat, has_conflict, left_after, less_one, may_go, next_gone, packages, Passed, passed_at, passed_by, passes, row_length, rows_over, sooner, is_soonest}
@@ -46,8 +46,8 @@ first_stage : (R : Repository) → SoundClauses R → first_table R ≡ rows_ove
 unfolding first_table rows_over
 first_stage R sound =
     let bound : OfPackages R (all_packages R) = λ n h. ltb-true n (length R.clauses) h in
-    map_same (λ p. ordered (minimal_of (apart_from p (clauses_of R p)))) (row R (all_packages R)) (packages R)
-    (λ p i. row_is_one_lem R (all_packages R) p (ordered (minimal_of (apart_from p (clauses_of R p)))) bound
+    map_same (λ p. in_row_order (minimal_of (apart_from p (clauses_of R p)))) (row R (all_packages R)) (packages R)
+    (λ p i. row_is_one_lem R (all_packages R) p (in_row_order (minimal_of (apart_from p (clauses_of R p)))) bound
     (row_ordered R (all_packages R) p (minimal_of (apart_from p (clauses_of R p))) (first_rows_lem R p sound))
     (ordered_order (minimal_of (apart_from p (clauses_of R p)))))
 

@@ -6,7 +6,7 @@ use Rattle.row_book.specs.Repository.{Repository}
 use Rattle.row_book.specs.Clauses.{Ascending, apart_from}
 use Rattle.row_book.specs.Support.{IsRow, Support}
 use Rattle.row_book.specs.Sound.{OfPackages}
-use Rattle.clause_flatten.specs.Substitution.{dropped, joined, replaced, substituted}
+use Rattle.clause_flatten.specs.Substitution.{clause_without, union_of, all_unions_for, substituted}
 use Rattle.clause_flatten.specs.Laws.{RowTells, Substitutes, with_user}
 use Rattle.row_book.proofs.Sets.{Hit-mono, plus_cases, plus_new, plus_old, without_from, without_parts}
 use Rattle.row_book.proofs.Lists.{decided_in, hits_or}
@@ -47,9 +47,9 @@ module _ (R : Repository) (V : NumSet) (p q : ℕ) (A B : List (List ℕ)) (boun
   in_v : (X : NumSet) → Within X (without V q) → Within X V
   in_v X w n h = (without_parts V q n (w n h)).0
 
-  hits_after : (X : NumSet) → Within X (without V q) → Support R (without V q) p X → HitsAll X (apart_from p (replaced q A B))
+  hits_after : (X : NumSet) → Within X (without V q) → Support R (without V q) p X → HitsAll X (apart_from p (all_unions_for q A B))
   hits_after X w s c i =
-      let c_parts : In c (replaced q A B) × (In p c → ⊥) = apart_cases p (replaced q A B) c i in
+      let c_parts : In c (all_unions_for q A B) × (In p c → ⊥) = apart_cases p (all_unions_for q A B) c i in
       let from : (T : List ℕ) × In T A × Comes q B T c = replaced_cases q A B c c_parts.0 in
       elim ((one_step_lem R V p q X p_in (bound q q_v) q_v).0 s) [
         | inl s1 ↦
@@ -59,7 +59,7 @@ module _ (R : Repository) (V : NumSet) (p q : ℕ) (A B : List (List ℕ)) (boun
               | inr made ↦ record {
                 by = hit.by;
                 inside = subst (λ k. In hit.by k) (sym made.3)
-                    (joined_left (dropped q from.0) made.0 hit.by (dropped_from q from.0 hit.by hit.inside (without_parts V q hit.by (w hit.by hit.alive)).1));
+                    (joined_left (clause_without q from.0) made.0 hit.by (dropped_from q from.0 hit.by hit.inside (without_parts V q hit.by (w hit.by hit.alive)).1));
                 alive = hit.alive;
               }
             ]
@@ -74,7 +74,7 @@ module _ (R : Repository) (V : NumSet) (p q : ℕ) (A B : List (List ℕ)) (boun
                   })
               | inr made ↦
                   let hit : Hit (Is (with_user V p X)) made.0 = all_q (with_user V p X) (with_user_within (V p) V p X refl (in_v X w)) s2.1 made.0 made.1 in
-                  let there_too : In hit.by c = subst (λ k. In hit.by k) (sym made.3) (joined_right (dropped q from.0) made.0 hit.by hit.inside) in
+                  let there_too : In hit.by c = subst (λ k. In hit.by k) (sym made.3) (joined_right (clause_without q from.0) made.0 hit.by hit.inside) in
                   record {
                     by = hit.by;
                     inside = there_too;
@@ -86,31 +86,31 @@ module _ (R : Repository) (V : NumSet) (p q : ℕ) (A B : List (List ℕ)) (boun
   apart_p : (T : List ℕ) → In T A → In p T → ⊥
   apart_p T i j = (row_p.sound T i).blocks.apart p j refl
 
-  kept_hit : (X : NumSet) → HitsAll X (apart_from p (replaced q A B)) → (T : List ℕ) → In T A → (In q T → ⊥) → Hit (Is X) T
-  kept_hit X h T i f = h T (apart_in p (replaced q A B) T (replaced_kept q A B T i f) (apart_p T i))
+  kept_hit : (X : NumSet) → HitsAll X (apart_from p (all_unions_for q A B)) → (T : List ℕ) → In T A → (In q T → ⊥) → Hit (Is X) T
+  kept_hit X h T i f = h T (apart_in p (all_unions_for q A B) T (replaced_kept q A B T i f) (apart_p T i))
 
-  with_q : (X : NumSet) → HitsAll X (apart_from p (replaced q A B)) → HitsAll (plus X q) A
+  with_q : (X : NumSet) → HitsAll X (apart_from p (all_unions_for q A B)) → HitsAll (plus X q) A
   with_q X h T i =
       elim (decided_in q T) [
         | inl j ↦ record { by = q; inside = j; alive = plus_new X q q refl }
         | inr f ↦ Hit-mono (λ n a. plus_old X q n a) (kept_hit X h T i f)
       ]
 
-  user_hits : (X : NumSet) → HitsAll X (apart_from p (replaced q A B)) → (T : List ℕ) → In T A → (Hit (Is X) T → ⊥) → In q T → HitsAll (with_user V p X) B
+  user_hits : (X : NumSet) → HitsAll X (apart_from p (all_unions_for q A B)) → (T : List ℕ) → In T A → (Hit (Is X) T → ⊥) → In q T → HitsAll (with_user V p X) B
   user_hits X h T i missed q_t U j =
       elim (decided_in p U) [
         | inl p_u ↦ record { by = p; inside = p_u; alive = with_user_new (V p) p X ((row_q.sound U j).blocks.within p p_u) }
         | inr f ↦
-            let hit : Hit (Is X) (joined (dropped q T) U) =
-            h (joined (dropped q T) U) (apart_in p (replaced q A B) (joined (dropped q T) U) (replaced_joined q A B T U i q_t j)
-            (λ l. elim (joined_cases (dropped q T) U p l) [ inl a ↦ apart_p T i (dropped_parts q T p a).0 | inr b ↦ f b ])) in
-            elim (joined_cases (dropped q T) U hit.by hit.inside) [
+            let hit : Hit (Is X) (union_of (clause_without q T) U) =
+            h (union_of (clause_without q T) U) (apart_in p (all_unions_for q A B) (union_of (clause_without q T) U) (replaced_joined q A B T U i q_t j)
+            (λ l. elim (joined_cases (clause_without q T) U p l) [ inl a ↦ apart_p T i (dropped_parts q T p a).0 | inr b ↦ f b ])) in
+            elim (joined_cases (clause_without q T) U hit.by hit.inside) [
               | inl a ↦ absurd (missed (record { by = hit.by; inside = (dropped_parts q T hit.by a).0; alive = hit.alive }))
               | inr b ↦ record { by = hit.by; inside = b; alive = with_user_old (V p) p X hit.by hit.alive }
             ]
       ]
 
-  support_after : (X : NumSet) → Within X (without V q) → HitsAll X (apart_from p (replaced q A B)) → Support R (without V q) p X
+  support_after : (X : NumSet) → Within X (without V q) → HitsAll X (apart_from p (all_unions_for q A B)) → Support R (without V q) p X
   support_after X w h =
       let back : (Support R V p X ⊎ (Support R V p (plus X q) × Support R V q (with_user V p X))) → Support R (without V q) p X =
       (one_step_lem R V p q X p_in (bound q q_v) q_v).1 in
@@ -122,15 +122,15 @@ module _ (R : Repository) (V : NumSet) (p q : ℕ) (A B : List (List ℕ)) (boun
         ]
       ]
 
-  came : (c : List ℕ) → In c (substituted p q A B) → (In c (replaced q A B) × (In p c → ⊥))
-  came c i = apart_cases p (replaced q A B) c (minimal_of_parts (apart_from p (replaced q A B)) c i).0
+  came : (c : List ℕ) → In c (substituted p q A B) → (In c (all_unions_for q A B) × (In p c → ⊥))
+  came c i = apart_cases p (all_unions_for q A B) c (minimal_of_parts (apart_from p (all_unions_for q A B)) c i).0
 
   order : (c : List ℕ) → In c (substituted p q A B) → Ascending c
   order c i =
       let from : (T : List ℕ) × In T A × Comes q B T c = replaced_cases q A B c (came c i).0 in
       elim from.2.how [
         | inl kept ↦ subst Ascending (sym kept.1) (row_p.sound from.0 from.1).ascending
-        | inr made ↦ subst Ascending (sym made.3) (joined_ascending (dropped q from.0) made.0 (row_q.sound made.0 made.1).ascending)
+        | inr made ↦ subst Ascending (sym made.3) (joined_ascending (clause_without q from.0) made.0 (row_q.sound made.0 made.1).ascending)
       ]
 
   inside_v : (c : List ℕ) → In c (substituted p q A B) → (n : ℕ) → In n c → Is (without V q) n
@@ -141,7 +141,7 @@ module _ (R : Repository) (V : NumSet) (p q : ℕ) (A B : List (List ℕ)) (boun
             let k : In n from.0 = subst (λ k. In n k) kept.1 j in
             without_from V q n ((row_p.sound from.0 from.1).blocks.within n k) (λ e. kept.0 (subst (λ m. In m from.0) e k))
         | inr made ↦
-            elim (joined_cases (dropped q from.0) made.0 n (subst (λ k. In n k) made.3 j)) [
+            elim (joined_cases (clause_without q from.0) made.0 n (subst (λ k. In n k) made.3 j)) [
               | inl a ↦ without_from V q n ((row_p.sound from.0 from.1).blocks.within n (dropped_parts q from.0 n a).0) (dropped_parts q from.0 n a).1
               | inr b ↦ without_from V q n ((row_q.sound made.0 made.1).blocks.within n b) ((row_q.sound made.0 made.1).blocks.apart n b)
             ]
@@ -151,10 +151,10 @@ module _ (R : Repository) (V : NumSet) (p q : ℕ) (A B : List (List ℕ)) (boun
   new_row = row_from_hits R (without V q) p (substituted p q A B)
       order inside_v
       (λ c i n j e. (came c i).1 (subst (λ k. In k c) e j))
-      (λ S T i j f. (minimal_of_parts (apart_from p (replaced q A B)) T j).1 S (minimal_of_parts (apart_from p (replaced q A B)) S i).0 f)
+      (λ S T i j f. (minimal_of_parts (apart_from p (all_unions_for q A B)) T j).1 S (minimal_of_parts (apart_from p (all_unions_for q A B)) S i).0 f)
       (λ X w. (
-        (λ s c i. hits_after X w s c (minimal_of_parts (apart_from p (replaced q A B)) c i).0),
-        (λ h. support_after X w (hits_minimal X (apart_from p (replaced q A B)) h)),
+        (λ s c i. hits_after X w s c (minimal_of_parts (apart_from p (all_unions_for q A B)) c i).0),
+        (λ h. support_after X w (hits_minimal X (apart_from p (all_unions_for q A B)) h)),
       ))
 
 pub substitutes_lem : Substitutes

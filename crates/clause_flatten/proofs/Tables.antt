@@ -3,11 +3,11 @@ use Rattle.std.proofs.Common.{◌≡◌, ℕ, ◌<◌, ◌≤◌, ◌+◌, eqb, 
 use Rattle.std.proofs.lemmas.Bool.{cases_eq}
 use Rattle.row_book.specs.Sets.{NumSet, without}
 use Rattle.row_book.specs.Repository.{Repository}
-use Rattle.row_book.specs.Clauses.{InOrder, numbers, ordered, subsets}
+use Rattle.row_book.specs.Clauses.{InOrder, numbers, in_row_order, subsets}
 use Rattle.row_book.specs.Support.{IsRow, is_minimal_block, row}
 use Rattle.row_book.specs.Sound.{OfPackages}
 use Rattle.row_book.specs.Flattening.{rows_over}
-use Rattle.clause_flatten.specs.Substitution.{eliminated, substituted, table_row}
+use Rattle.clause_flatten.specs.Substitution.{table_without, substituted, table_row}
 use Rattle.clause_flatten.specs.FlatLaws.{OneRow, RowComputes, RowIsOne, TableStep}
 use Rattle.row_book.proofs.Sets.{without_parts}
 use Rattle.row_book.proofs.Order.{at_numbers, length_numbers, map_same, numbers_parts, order_filter, order_same, ordered_has, ordered_order, ordered_parts, subsets_order}
@@ -27,7 +27,7 @@ row_is_one_lem R V p rows bound r o =
     let s : IsRow R V p (row R V p) = row_is R V p bound in
     order_same rows (row R V p) o (row_order R V p) (λ T i. s.whole T (r.sound T i)) (λ T i. r.whole T (s.sound T i))
 
-pub row_ordered : (R : Repository) (V : NumSet) (p : ℕ) (rows : List (List ℕ)) → IsRow R V p rows → IsRow R V p (ordered rows)
+pub row_ordered : (R : Repository) (V : NumSet) (p : ℕ) (rows : List (List ℕ)) → IsRow R V p rows → IsRow R V p (in_row_order rows)
 row_ordered R V p rows r = record {
   sound = λ T i. r.sound T (ordered_parts rows T i);
   whole = λ T l. ordered_has rows T (r.whole T l);
@@ -40,7 +40,7 @@ pub one_row_lem : OneRow
 one_row_lem R V p q bound p_in q_v ne =
     let A : List (List ℕ) = row R V p in
     let B : List (List ℕ) = row R V q in
-    row_is_one_lem R (without V q) p (ordered (substituted p q A B)) (less_bound R V q bound)
+    row_is_one_lem R (without V q) p (in_row_order (substituted p q A B)) (less_bound R V q bound)
     (row_ordered R (without V q) p (substituted p q A B) (substitutes_lem R V p q A B bound p_in q_v ne (row_is R V p bound) (row_is R V q bound)))
     (ordered_order (substituted p q A B))
 
@@ -57,19 +57,19 @@ unfolding rows_over
 table_length R V = length_numbers (row R V) (length R.clauses) 0
 
 pub table_step_lem : TableStep
-unfolding eliminated rows_over
+unfolding table_without rows_over
 table_step_lem R V q bound q_v =
     let size : ℕ = length R.clauses in
     let t : List (List (List ℕ)) = rows_over R V in
-    let new : ℕ → List (List ℕ) = λ p. cond (eqb p q) (table_row t q) (ordered (substituted p q (table_row t p) (table_row t q))) in
+    let new : ℕ → List (List ℕ) = λ p. cond (eqb p q) (table_row t q) (in_row_order (substituted p q (table_row t p) (table_row t q))) in
     let at : (p : ℕ) → p < size → new p ≡ row R (without V q) p =
     λ p l. elim (cases_eq p q) [
       | inl e ↦
-          subst (λ b. cond b (table_row t q) (ordered (substituted p q (table_row t p) (table_row t q))) ≡ row R (without V q) p) (sym (eq-eqb p q e))
+          subst (λ b. cond b (table_row t q) (in_row_order (substituted p q (table_row t p) (table_row t q))) ≡ row R (without V q) p) (sym (eq-eqb p q e))
           (table_at R V q (bound q q_v) ∙ own_row R V q bound ∙ ap (row R (without V q)) (sym e))
       | inr ne ↦
-          subst (λ b. cond b (table_row t q) (ordered (substituted p q (table_row t p) (table_row t q))) ≡ row R (without V q) p) (sym (ne_eqb p q ne))
-          (ap₂ (λ a b. ordered (substituted p q a b)) (table_at R V p l) (table_at R V q (bound q q_v)) ∙ one_row_lem R V p q bound l q_v ne)
+          subst (λ b. cond b (table_row t q) (in_row_order (substituted p q (table_row t p) (table_row t q))) ≡ row R (without V q) p) (sym (ne_eqb p q ne))
+          (ap₂ (λ a b. in_row_order (substituted p q a b)) (table_at R V p l) (table_at R V q (bound q q_v)) ∙ one_row_lem R V p q bound l q_v ne)
     ] in
     ap (λ n. map new (numbers n 0)) (table_length R V)
     ∙ map_same new (row R (without V q)) (numbers size 0) (λ p i. at p (let w : (0 ≤ p) × (p < 0 + size) = numbers_parts size 0 p i in omega arith))

@@ -16,7 +16,7 @@ use Rattle.row_book.proofs.Clauses.{apart_cases, apart_in, inside_at, inside_fro
 use Rattle.row_book.proofs.Order.{at_numbers, length_numbers, map_same, numbers_parts, order_filter, order_same, ordered_has, ordered_order, ordered_parts}
 use Rattle.clause_flatten.specs.Substitution.{table_row}
 use Rattle.clause_flatten.specs.Inclusion.{is_strictly_inside}
-use Rattle.clause_flatten.specs.TidyRows.{RowsStay, stays, tidied, tidied_table}
+use Rattle.clause_flatten.specs.TidyRows.{RowsStay, stays, first_row, tidied_table}
 
 -- elements by their places
 pub same_read : (xs : List ℕ) (i d e : ℕ) → i < length xs → get_or xs i d ≡ get_or xs i e
@@ -93,9 +93,9 @@ module _ (p : ℕ) (cs : List (List ℕ)) (up : (c : List ℕ) → In c cs → A
       let l : length a.0 < length T = ltb-true (length a.0) (length T) u.0 in
       omega arith)))
 
-  tidied_is : InOrder cs → filter (stays p cs) cs ≡ tidied p cs
+  tidied_is : InOrder cs → filter (stays p cs) cs ≡ first_row p cs
   tidied_is o =
-      order_same (filter (stays p cs) cs) (tidied p cs) (order_filter (stays p cs) cs o) (ordered_order (minimal_of (apart_from p cs)))
+      order_same (filter (stays p cs) cs) (first_row p cs) (order_filter (stays p cs) cs o) (ordered_order (minimal_of (apart_from p cs)))
       (λ T i.
       let w : In T cs × (stays p cs T ≡ true) = filter_cases (stays p cs) cs T i in
       ordered_has (minimal_of (apart_from p cs)) T (minimal_from_stays T w.0 w.1))
@@ -104,10 +104,10 @@ module _ (p : ℕ) (cs : List (List ℕ)) (up : (c : List ℕ) → In c cs → A
       filter_from (stays p cs) cs T (apart_cases p cs T (minimal_of_parts (apart_from p cs) T j).0).0 (stays_from_minimal T j))
 
 -- what the first row has
-pub tidied_parts : (p : ℕ) (cs : List (List ℕ)) (T : List ℕ) → In T (tidied p cs) → In T cs × (In p T → ⊥)
+pub tidied_parts : (p : ℕ) (cs : List (List ℕ)) (T : List ℕ) → In T (first_row p cs) → In T cs × (In p T → ⊥)
 tidied_parts p cs T i = apart_cases p cs T (minimal_of_parts (apart_from p cs) T (ordered_parts (minimal_of (apart_from p cs)) T i)).0
 
-pub tidied_minimal : (p : ℕ) (cs : List (List ℕ)) → ((c : List ℕ) → In c cs → Ascending c) → (S T : List ℕ) → In S (tidied p cs) → In T (tidied p cs) → Inside S T → S ≡ T
+pub tidied_minimal : (p : ℕ) (cs : List (List ℕ)) → ((c : List ℕ) → In c cs → Ascending c) → (S T : List ℕ) → In S (first_row p cs) → In T (first_row p cs) → Inside S T → S ≡ T
 tidied_minimal p cs up S T i j f =
     let a : In S (apart_from p cs) = (minimal_of_parts (apart_from p cs) S (ordered_parts (minimal_of (apart_from p cs)) S i)).0 in
     ascending_same S T (up S (tidied_parts p cs S i).0) (up T (tidied_parts p cs T j).0) f
@@ -116,7 +116,7 @@ tidied_minimal p cs up S T i j f =
 -- the row of the clauses that stay is the first row
 pub tidied_row : {E : Type 0} (old new : Interned) (p row : ℕ) (ids kept : List ℕ) (result : Result ℕ E) → IsPool old → row < length old.rows →
     ids ≡ ids_at old row → kept ≡ filter (λ id. stays p (clauses_at old ids) (clause_at old id)) ids → new.clauses ≡ old.clauses →
-    IfOk result (IsIdOf new.rows kept) → IfOk result (λ id. row_at new id ≡ tidied p (row_at old row))
+    IfOk result (IsIdOf new.rows kept) → IfOk result (λ id. row_at new id ≡ first_row p (row_at old row))
 tidied_row old new p row ids kept (Err e) is l same stay clauses made = tt
 tidied_row old new p row ids kept (Ok id) is l same stay clauses made =
     let kept_is : kept ≡ filter (λ id. stays p (row_at old row) (clause_at old id)) (ids_at old row) =
@@ -160,7 +160,7 @@ numbers_more n = ap (λ m. numbers m 0) (omega arith) ∙ numbers_end n 0 ∙ ap
 
 -- the first rows of so many packages are made
 pub record TidiedTo (start now : Interned) (rows made : List ℕ) (n : ℕ) : Type 0 where
-  pub table : map (row_at now) made ≡ map (λ p. tidied p (row_at start (row_id rows p))) (numbers n 0)
+  pub table : map (row_at now) made ≡ map (λ p. first_row p (row_at start (row_id rows p))) (numbers n 0)
   pub within : (id : ℕ) → In id made → id < length now.rows
   pub stay : RowsStay start now
   pub kept : Kept start now
@@ -175,12 +175,12 @@ tidied_none start rows made e = record {
 }
 
 pub tidied_more : (start old new : Interned) (rows made after : List ℕ) (n row first : ℕ) → TidiedTo start old rows made n → RowsStay old new → Kept old new →
-    n < length rows → row ≡ get_or rows n row → row < length start.rows → first < length new.rows → row_at new first ≡ tidied n (row_at old row) →
+    n < length rows → row ≡ get_or rows n row → row < length start.rows → first < length new.rows → row_at new first ≡ first_row n (row_at old row) →
     after ≡ made ++ first ∷ [] → TidiedTo start new rows after (n + 1)
 tidied_more start old new rows made after n row first t s k l e l_row l_first d a =
-    let T : ℕ → List (List ℕ) = λ p. tidied p (row_at start (row_id rows p)) in
-    let here_too : row_at new first ≡ tidied n (row_at start (row_id rows n)) =
-    d ∙ ap (tidied n) (t.stay.same row l_row ∙ ap (row_at start) (e ∙ same_read rows n row 0 l)) in
+    let T : ℕ → List (List ℕ) = λ p. first_row p (row_at start (row_id rows p)) in
+    let here_too : row_at new first ≡ first_row n (row_at start (row_id rows n)) =
+    d ∙ ap (first_row n) (t.stay.same row l_row ∙ ap (row_at start) (e ∙ same_read rows n row 0 l)) in
     record {
       table =
           ap (map (row_at new)) a
@@ -197,24 +197,24 @@ tidied_more start old new rows made after n row first t s k l e l_row l_first d 
 
 module _ (start now : Interned) (rows made : List ℕ) (t : TidiedTo start now rows made (length rows)) where
   pub tidied_count : length made ≡ length rows
-  tidied_count = sym (lists.length-map made (row_at now)) ∙ ap length t.table ∙ length_numbers (λ p. tidied p (row_at start (row_id rows p))) (length rows) 0
+  tidied_count = sym (lists.length-map made (row_at now)) ∙ ap length t.table ∙ length_numbers (λ p. first_row p (row_at start (row_id rows p))) (length rows) 0
 
-  tidied_at : (p : ℕ) → p < length rows → row_at now (row_id made p) ≡ tidied p (row_at start (row_id rows p))
+  tidied_at : (p : ℕ) → p < length rows → row_at now (row_id made p) ≡ first_row p (row_at start (row_id rows p))
   tidied_at p l =
       sym (lists.get_or-map (row_at now) made p 0 [] (omega (arith, tidied_count)))
       ∙ ap (λ xs. get_or xs p []) t.table
-      ∙ at_numbers (λ p. tidied p (row_at start (row_id rows p))) [] (length rows) 0 p l
-      ∙ ap (λ q. tidied q (row_at start (row_id rows q))) (omega arith)
+      ∙ at_numbers (λ p. first_row p (row_at start (row_id rows p))) [] (length rows) 0 p l
+      ∙ ap (λ q. first_row q (row_at start (row_id rows q))) (omega arith)
 
   pub tidied_all : map (row_at now) made ≡ tidied_table (map (row_at start) rows)
   unfolding tidied_table
   tidied_all =
       t.table
-      ∙ map_same (λ p. tidied p (row_at start (row_id rows p))) (λ p. tidied p (table_row (map (row_at start) rows) p)) (numbers (length rows) 0)
+      ∙ map_same (λ p. first_row p (row_at start (row_id rows p))) (λ p. first_row p (table_row (map (row_at start) rows) p)) (numbers (length rows) 0)
       (λ p i.
       let w : (0 ≤ p) × (p < 0 + length rows) = numbers_parts (length rows) 0 p i in
-      ap (tidied p) (sym (lists.get_or-map (row_at start) rows p 0 [] (omega arith))))
-      ∙ ap (λ n. map (λ p. tidied p (table_row (map (row_at start) rows) p)) (numbers n 0)) (sym (lists.length-map rows (row_at start)))
+      ap (first_row p) (sym (lists.get_or-map (row_at start) rows p 0 [] (omega arith))))
+      ∙ ap (λ n. map (λ p. first_row p (table_row (map (row_at start) rows) p)) (numbers n 0)) (sym (lists.length-map rows (row_at start)))
 
   pub tidied_fit : RowsFit start rows → RowsFit now made
   tidied_fit fit = record {
@@ -222,7 +222,7 @@ module _ (start now : Interned) (rows made : List ℕ) (t : TidiedTo start now r
     numbers = λ id i c j n m.
         let w : (p : ℕ) × (p < length made) × (row_id made p ≡ id) = In_place made id 0 i in
         let l : w.0 < length rows = omega (arith, w.1, tidied_count) in
-        let k : In c (tidied w.0 (row_at start (row_id rows w.0))) = subst (λ cs. In c cs) (ap (row_at now) (sym w.2) ∙ tidied_at w.0 l) j in
+        let k : In c (first_row w.0 (row_at start (row_id rows w.0))) = subst (λ cs. In c cs) (ap (row_at now) (sym w.2) ∙ tidied_at w.0 l) j in
         let b : n < length rows = fit.numbers (row_id rows w.0) (In_at rows w.0 0 l) c (tidied_parts w.0 (row_at start (row_id rows w.0)) c k).0 n m in
         omega (arith, tidied_count);
   }

@@ -4,7 +4,7 @@ use Rattle.std.specs.List.{list_all}
 use Rattle.std.proofs.lemmas.Bool.{and_from, and_parts, both_ways, false_from_ne_true, not-true, not_from_false}
 use Rattle.clause_pool.specs.Interned.{Interned, IsIdOf, IsPool, Kept, OfPool, clause_at, clauses_at, ids_at, row_at}
 use Rattle.row_book.specs.Sets.{In, has, here}
-use Rattle.row_book.specs.Clauses.{Ascending, InOrder, Inside, apart_from, is_inside, minimal_of, ordered}
+use Rattle.row_book.specs.Clauses.{Ascending, InOrder, Inside, apart_from, is_inside, minimal_of, in_row_order}
 use Rattle.row_book.proofs.Books.{row_ascending}
 use Rattle.row_book.proofs.Lists.{In_append_cases, In_append_left, In_append_right, In_cases, In_map, In_map_cases, In_none, filter_cases, filter_from, has_not}
 use Rattle.row_book.proofs.Clauses.{apart_cases, minimal_of_from, minimal_of_parts}
@@ -114,28 +114,28 @@ module _ (spent : ℕ) (A U unions new : List (List ℕ)) (up : (c : List ℕ) �
 
   module _ (made : HasUnions beside others unions unions new) where
     -- what is left has no other clause within it
-    left_is_minimal : (c : List ℕ) → In c beside → In c (minimal_of (ordered all))
+    left_is_minimal : (c : List ℕ) → In c beside → In c (minimal_of (in_row_order all))
     left_is_minimal c i =
         let w : In c A × ((not (has c spent) && not (has_shorter unions c)) ≡ true) = filter_cases (stays spent unions) A c i in
         let b : (not (has c spent) ≡ true) × (not (has_shorter unions c) ≡ true) = and_parts (not (has c spent)) (not (has_shorter unions c)) w.1 in
         let there : In c others = filter_from (λ d. not (has d spent)) A c w.0 b.0 in
-        minimal_of_from (ordered all) c (ordered_has all c (In_append_left others (all_unions spent A U) c there)) (λ S j f.
+        minimal_of_from (in_row_order all) c (ordered_has all c (In_append_left others (all_unions spent A U) c there)) (λ S j f.
         elim (In_append_cases others (all_unions spent A U) S (ordered_parts all S j)) [
           | inl k ↦ subst (λ z. Inside c z) (sym (minimal S c (apart_cases spent A S k).0 w.0 f)) (λ n m. m)
           | inr k ↦ not_shorter unions unions_rise c (up c w.0) (not-true (has_shorter unions c) b.1) S (same.there S k) f
         ])
 
-    put_is_minimal : (c : List ℕ) → In c unions → IsShortest others unions c → In c (minimal_of (ordered all))
+    put_is_minimal : (c : List ℕ) → In c unions → IsShortest others unions c → In c (minimal_of (in_row_order all))
     put_is_minimal c i s =
-        minimal_of_from (ordered all) c (ordered_has all c (In_append_right others (all_unions spent A U) c (same.back c i))) (λ S j f.
+        minimal_of_from (in_row_order all) c (ordered_has all c (In_append_right others (all_unions spent A U) c (same.back c i))) (λ S j f.
         elim (In_append_cases others (all_unions spent A U) S (ordered_parts all S j)) [
           | inl k ↦ not_shorter others others_up c (unions_rise c i) s.by_kept S k f
           | inr k ↦ not_shorter unions unions_rise c (unions_rise c i) s.by_unions S (same.there S k) f
         ])
 
-    minimal_is_there : (c : List ℕ) → In c (minimal_of (ordered all)) → In c new
+    minimal_is_there : (c : List ℕ) → In c (minimal_of (in_row_order all)) → In c new
     minimal_is_there c i =
-        let m : In c (ordered all) × ((S : List ℕ) → In S (ordered all) → Inside S c → Inside c S) = minimal_of_parts (ordered all) c i in
+        let m : In c (in_row_order all) × ((S : List ℕ) → In S (in_row_order all) → Inside S c → Inside c S) = minimal_of_parts (in_row_order all) c i in
         let tight : (S : List ℕ) → In S all → Inside S c → Inside c S = λ S j. m.1 S (ordered_has all S j) in
         let no_union : Ascending c → has_shorter unions c ≡ false = λ a. false_from_ne_true (has_shorter unions c) (λ h.
         some_shorter unions unions_rise c a h (λ S j. tight S (In_append_right others (all_unions spent A U) S (same.back S j)))) in
@@ -153,10 +153,10 @@ module _ (spent : ℕ) (A U unions new : List (List ℕ)) (up : (c : List ℕ) �
               })
         ]
 
-    pub unions_are_minimal : new ≡ minimal_of (ordered all)
+    pub unions_are_minimal : new ≡ minimal_of (in_row_order all)
     unions_are_minimal =
-        order_same new (minimal_of (ordered all)) made.order
-        (order_filter (λ T. list_all (λ S. not (is_inside S T) || is_inside T S) (ordered all)) (ordered all) (ordered_order all))
+        order_same new (minimal_of (in_row_order all)) made.order
+        (order_filter (λ T. list_all (λ S. not (is_inside S T) || is_inside T S) (in_row_order all)) (in_row_order all) (ordered_order all))
         (λ c i. elim (made.back c i) [ inl a ↦ left_is_minimal c a | inr b ↦ put_is_minimal c b.0 b.1 ])
         minimal_is_there
 
@@ -195,7 +195,7 @@ module _ (pool : Interned) (spent row : ℕ) (useful : List ℕ) (is : IsPool po
 
   pub row_is_minimal : ((c d : List ℕ) → In c clauses → In d clauses → Inside c d → c ≡ d) → (unions kept left new : List (List ℕ)) → SameClauses (all_unions spent clauses usable) unions →
       kept ≡ apart_from spent clauses → left ≡ filter (stays spent unions) clauses → HasUnions left kept unions unions new →
-      new ≡ minimal_of (ordered (apart_from spent clauses ++ all_unions spent clauses usable))
+      new ≡ minimal_of (in_row_order (apart_from spent clauses ++ all_unions spent clauses usable))
   row_is_minimal minimal unions kept left new same e f made =
       unions_are_minimal spent clauses usable unions new (row_ascending pool is row of_row) usable_up minimal same
       (subst (λ z. HasUnions z (apart_from spent clauses) unions unions new) f (subst (λ z. HasUnions left z unions unions new) e made))

@@ -5,16 +5,16 @@ use Rattle.std.proofs.lemmas.Bool.{both_ways, not_from_false, not-true, ltb-true
 use Rattle.std.proofs.lemmas.Bool.{not_from_false, not-true, both_ways, eqb-false}
 use Rattle.row_book.specs.Sets.{In, has, here, there}
 use Rattle.row_book.specs.Clauses.{Ascending}
-use Rattle.clause_flatten.specs.Substitution.{dropped, inserted, joined, replaced, spread}
+use Rattle.clause_flatten.specs.Substitution.{clause_without, inserted, union_of, all_unions_for, unions_for}
 use Rattle.row_book.proofs.Lists.{In_append_cases, In_append_left, In_append_right, In_cases, In_has, In_map, In_map_cases, In_none, filter_cases, filter_from, has_In, has_not}
 
 -- one number dropped from a list
-pub dropped_parts : (x : ℕ) (T : List ℕ) (n : ℕ) → In n (dropped x T) → In n T × (n ≢ x)
+pub dropped_parts : (x : ℕ) (T : List ℕ) (n : ℕ) → In n (clause_without x T) → In n T × (n ≢ x)
 dropped_parts x T n i =
     let w : In n T × (not (eqb n x) ≡ true) = filter_cases (λ m. not (eqb m x)) T n i in
     (w.0, eqb-false n x (not-true (eqb n x) w.1))
 
-pub dropped_from : (x : ℕ) (T : List ℕ) (n : ℕ) → In n T → n ≢ x → In n (dropped x T)
+pub dropped_from : (x : ℕ) (T : List ℕ) (n : ℕ) → In n T → n ≢ x → In n (clause_without x T)
 dropped_from x T n i e = filter_from (λ m. not (eqb m x)) T n i (not_from_false (eqb n x) (ne_eqb n x e))
 
 -- one more number
@@ -65,69 +65,69 @@ inserted_ascending k (m ∷ ms) a = pick (ltb k m) (eqb k m) refl refl (inserted
         ((λ y i. elim (inserted_cases k ms y i) [ inl h ↦ omega (arith, h, ne) | inr j ↦ a.0 y j ]), f)
 
 -- a union
-pub joined_cases : (xs ys : List ℕ) (n : ℕ) → In n (joined xs ys) → In n xs ⊎ In n ys
+pub joined_cases : (xs ys : List ℕ) (n : ℕ) → In n (union_of xs ys) → In n xs ⊎ In n ys
 joined_cases [] ys n i = inr i
 joined_cases (x ∷ xs) ys n i =
-    elim (inserted_cases x (joined xs ys) n i) [
+    elim (inserted_cases x (union_of xs ys) n i) [
       | inl e ↦ inl (subst (λ k. In n (k ∷ xs)) e here)
       | inr j ↦ elim (joined_cases xs ys n j) [ inl l ↦ inl (there l) | inr r ↦ inr r ]
     ]
 
-pub joined_left : (xs ys : List ℕ) (n : ℕ) → In n xs → In n (joined xs ys)
+pub joined_left : (xs ys : List ℕ) (n : ℕ) → In n xs → In n (union_of xs ys)
 joined_left [] ys n i = absurd (In_none i)
 joined_left (x ∷ xs) ys n i =
     elim (In_cases i) [
-      | inl e ↦ subst (λ k. In k (inserted x (joined xs ys))) (sym e) (inserted_new x (joined xs ys))
-      | inr j ↦ inserted_old x (joined xs ys) n (joined_left xs ys n j)
+      | inl e ↦ subst (λ k. In k (inserted x (union_of xs ys))) (sym e) (inserted_new x (union_of xs ys))
+      | inr j ↦ inserted_old x (union_of xs ys) n (joined_left xs ys n j)
     ]
 
-pub joined_right : (xs ys : List ℕ) (n : ℕ) → In n ys → In n (joined xs ys)
+pub joined_right : (xs ys : List ℕ) (n : ℕ) → In n ys → In n (union_of xs ys)
 joined_right [] ys n i = i
-joined_right (x ∷ xs) ys n i = inserted_old x (joined xs ys) n (joined_right xs ys n i)
+joined_right (x ∷ xs) ys n i = inserted_old x (union_of xs ys) n (joined_right xs ys n i)
 
-pub joined_ascending : (xs ys : List ℕ) → Ascending ys → Ascending (joined xs ys)
+pub joined_ascending : (xs ys : List ℕ) → Ascending ys → Ascending (union_of xs ys)
 joined_ascending [] ys a = a
-joined_ascending (x ∷ xs) ys a = inserted_ascending x (joined xs ys) (joined_ascending xs ys a)
+joined_ascending (x ∷ xs) ys a = inserted_ascending x (union_of xs ys) (joined_ascending xs ys a)
 
 -- what stands for a clause
 pub record Comes (q : ℕ) (B : List (List ℕ)) (T c : List ℕ) : Type 0 where
-  pub how : ((In q T → ⊥) × (c ≡ T)) ⊎ ((U : List ℕ) × In U B × In q T × (c ≡ joined (dropped q T) U))
+  pub how : ((In q T → ⊥) × (c ≡ T)) ⊎ ((U : List ℕ) × In U B × In q T × (c ≡ union_of (clause_without q T) U))
 
-spread_cases : (q : ℕ) (B : List (List ℕ)) (T c : List ℕ) → In c (spread q B T) → Comes q B T c
+spread_cases : (q : ℕ) (B : List (List ℕ)) (T c : List ℕ) → In c (unions_for q B T) → Comes q B T c
 spread_cases q B T c i = pick (has T q) refl i
   where
-    pick : (b : Bool) → has T q ≡ b → In c (cond b (map (λ U. joined (dropped q T) U) B) (T ∷ [])) → Comes q B T c
+    pick : (b : Bool) → has T q ≡ b → In c (cond b (map (λ U. union_of (clause_without q T) U) B) (T ∷ [])) → Comes q B T c
     pick true e j =
-        let w : (U : List ℕ) × In U B × (c ≡ joined (dropped q T) U) = In_map_cases (λ U. joined (dropped q T) U) B c j in
+        let w : (U : List ℕ) × In U B × (c ≡ union_of (clause_without q T) U) = In_map_cases (λ U. union_of (clause_without q T) U) B c j in
         record { how = inr (w.0, w.1, has_In T q e, w.2) }
     pick false e j =
         record { how = inl ((λ l. both_ways (has T q) e (In_has l)), elim (In_cases j) [ inl h ↦ h | inr k ↦ absurd (In_none k) ]) }
 
-spread_kept : (q : ℕ) (B : List (List ℕ)) (T : List ℕ) → (In q T → ⊥) → In T (spread q B T)
-spread_kept q B T f = subst (λ b. In T (cond b (map (λ U. joined (dropped q T) U) B) (T ∷ []))) (sym (has_not T q f)) here
+spread_kept : (q : ℕ) (B : List (List ℕ)) (T : List ℕ) → (In q T → ⊥) → In T (unions_for q B T)
+spread_kept q B T f = subst (λ b. In T (cond b (map (λ U. union_of (clause_without q T) U) B) (T ∷ []))) (sym (has_not T q f)) here
 
-spread_joined : (q : ℕ) (B : List (List ℕ)) (T U : List ℕ) → In q T → In U B → In (joined (dropped q T) U) (spread q B T)
+spread_joined : (q : ℕ) (B : List (List ℕ)) (T U : List ℕ) → In q T → In U B → In (union_of (clause_without q T) U) (unions_for q B T)
 spread_joined q B T U i j =
-    subst (λ b. In (joined (dropped q T) U) (cond b (map (λ U. joined (dropped q T) U) B) (T ∷ []))) (sym (In_has i)) (In_map (λ U. joined (dropped q T) U) B U j)
+    subst (λ b. In (union_of (clause_without q T) U) (cond b (map (λ U. union_of (clause_without q T) U) B) (T ∷ []))) (sym (In_has i)) (In_map (λ U. union_of (clause_without q T) U) B U j)
 
-pub replaced_cases : (q : ℕ) (A B : List (List ℕ)) (c : List ℕ) → In c (replaced q A B) → (T : List ℕ) × In T A × Comes q B T c
+pub replaced_cases : (q : ℕ) (A B : List (List ℕ)) (c : List ℕ) → In c (all_unions_for q A B) → (T : List ℕ) × In T A × Comes q B T c
 replaced_cases q [] B c i = absurd (In_none i)
 replaced_cases q (T ∷ A) B c i =
-    elim (In_append_cases (spread q B T) (replaced q A B) c i) [
+    elim (In_append_cases (unions_for q B T) (all_unions_for q A B) c i) [
       | inl l ↦ (T, here, spread_cases q B T c l)
       | inr r ↦ let w : (S : List ℕ) × In S A × Comes q B S c = replaced_cases q A B c r in (w.0, there w.1, w.2)
     ]
 
-replaced_at : (q : ℕ) (A B : List (List ℕ)) (T c : List ℕ) → In T A → In c (spread q B T) → In c (replaced q A B)
+replaced_at : (q : ℕ) (A B : List (List ℕ)) (T c : List ℕ) → In T A → In c (unions_for q B T) → In c (all_unions_for q A B)
 replaced_at q [] B T c i j = absurd (In_none i)
 replaced_at q (S ∷ A) B T c i j =
     elim (In_cases i) [
-      | inl e ↦ In_append_left (spread q B S) (replaced q A B) c (subst (λ k. In c (spread q B k)) e j)
-      | inr k ↦ In_append_right (spread q B S) (replaced q A B) c (replaced_at q A B T c k j)
+      | inl e ↦ In_append_left (unions_for q B S) (all_unions_for q A B) c (subst (λ k. In c (unions_for q B k)) e j)
+      | inr k ↦ In_append_right (unions_for q B S) (all_unions_for q A B) c (replaced_at q A B T c k j)
     ]
 
-pub replaced_kept : (q : ℕ) (A B : List (List ℕ)) (T : List ℕ) → In T A → (In q T → ⊥) → In T (replaced q A B)
+pub replaced_kept : (q : ℕ) (A B : List (List ℕ)) (T : List ℕ) → In T A → (In q T → ⊥) → In T (all_unions_for q A B)
 replaced_kept q A B T i f = replaced_at q A B T T i (spread_kept q B T f)
 
-pub replaced_joined : (q : ℕ) (A B : List (List ℕ)) (T U : List ℕ) → In T A → In q T → In U B → In (joined (dropped q T) U) (replaced q A B)
-replaced_joined q A B T U i j k = replaced_at q A B T (joined (dropped q T) U) i (spread_joined q B T U j k)
+pub replaced_joined : (q : ℕ) (A B : List (List ℕ)) (T U : List ℕ) → In T A → In q T → In U B → In (union_of (clause_without q T) U) (all_unions_for q A B)
+replaced_joined q A B T U i j k = replaced_at q A B T (union_of (clause_without q T) U) i (spread_joined q B T U j k)

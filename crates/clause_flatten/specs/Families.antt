@@ -5,7 +5,7 @@ use Rattle.clause_pool.specs.Interned.{Interned, clause_at, clauses_at, Kept, Of
 use Rattle.row_book.specs.Sets.{In, has}
 use Rattle.row_book.specs.Clauses.{InOrder, Inside}
 use Rattle.clause_flatten.specs.Inclusion.{has_shorter}
-use Rattle.clause_flatten.specs.Substitution.{dropped, joined}
+use Rattle.clause_flatten.specs.Substitution.{clause_without, union_of}
 
 -- the clause holds one of the numbers
 abbrev pub HoldsOneOf : List ℕ → List ℕ → Type 0
@@ -23,7 +23,7 @@ pub record Useful (pool : Interned) (user : ℕ) (Needless : List ℕ → Type 0
 
 -- the unions of a clause, without the number, with each of the others
 abbrev pub unions_of : ℕ → List (List ℕ) → List ℕ → List (List ℕ)
-unions_of spent others clause = map (λ other. joined (dropped spent clause) other) others
+unions_of spent others clause = map (λ other. union_of (clause_without spent clause) other) others
 
 -- those of each clause that holds the number
 abbrev pub all_unions : ℕ → List (List ℕ) → List (List ℕ) → List (List ℕ)

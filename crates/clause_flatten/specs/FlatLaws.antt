@@ -2,11 +2,11 @@
 use Rattle.std.specs.Prelude.{◌≡◌, ◌≢◌, ℕ, ◌<◌, ◌≤◌, true, List, ◌∷◌, length, ◌⊎◌, ◌↔◌, false, Some, None}
 use Rattle.row_book.specs.Sets.{NumSet, In, without}
 use Rattle.row_book.specs.Repository.{Repository, Coinst}
-use Rattle.row_book.specs.Clauses.{Ascending, InOrder, ordered}
+use Rattle.row_book.specs.Clauses.{Ascending, InOrder, in_row_order}
 use Rattle.row_book.specs.Support.{IsRow, row}
 use Rattle.row_book.specs.Sound.{OfPackages, SoundClauses, BetweenPackages}
 use Rattle.row_book.specs.Flattening.{has_conflict, row_length, next_gone, left_after, core_of, rows_over, flat, passes}
-use Rattle.clause_flatten.specs.Substitution.{joined, substituted, eliminated, stage_after, passes_by_stages}
+use Rattle.clause_flatten.specs.Substitution.{union_of, substituted, table_without, stage_after, passes_by_stages}
 
 -- the computed row is the row, in order
 abbrev pub RowComputes : Type 0
@@ -52,12 +52,12 @@ CoreIsReached = (R : Repository) (i : ℕ) →
 abbrev pub OneRow : Type 0
 OneRow = (R : Repository) (V : NumSet) (p q : ℕ) →
     OfPackages R V → p < length R.clauses → V q ≡ true → p ≢ q →
-    ordered (substituted p q (row R V p) (row R V q)) ≡ row R (without V q) p
+    in_row_order (substituted p q (row R V p) (row R V q)) ≡ row R (without V q) p
 
 -- and the next table of rows
 abbrev pub TableStep : Type 0
 TableStep = (R : Repository) (V : NumSet) (q : ℕ) → OfPackages R V → V q ≡ true →
-    eliminated q (rows_over R V) ≡ rows_over R (without V q)
+    table_without q (rows_over R V) ≡ rows_over R (without V q)
 
 -- an elimination that only looks at its table has what is left, and its rows, at each stage
 abbrev pub StagesRun : Type 0
@@ -78,13 +78,13 @@ PassesByStages = (R : Repository) → SoundClauses R → (limit : ℕ) →
 abbrev pub UntouchedStays : Type 0
 UntouchedStays = (R : Repository) (V : NumSet) (p q : ℕ) (A B : List (List ℕ)) →
     IsRow R V p A → InOrder A → ((T : List ℕ) → In T A → In q T → ⊥) →
-    ordered (substituted p q A B) ≡ A
+    in_row_order (substituted p q A B) ≡ A
 
 -- a union by merging: of two ascending lists the lesser first number comes first
 pub record Merges (x y : ℕ) (xs ys : List ℕ) : Type 0 where
-  pub less : x < y → joined (x ∷ xs) (y ∷ ys) ≡ x ∷ joined xs (y ∷ ys)
-  pub same : x ≡ y → joined (x ∷ xs) (y ∷ ys) ≡ x ∷ joined xs ys
-  pub more : y < x → joined (x ∷ xs) (y ∷ ys) ≡ y ∷ joined (x ∷ xs) ys
+  pub less : x < y → union_of (x ∷ xs) (y ∷ ys) ≡ x ∷ union_of xs (y ∷ ys)
+  pub same : x ≡ y → union_of (x ∷ xs) (y ∷ ys) ≡ x ∷ union_of xs ys
+  pub more : y < x → union_of (x ∷ xs) (y ∷ ys) ≡ y ∷ union_of (x ∷ xs) ys
 
 abbrev pub UnionMerges : Type 0
 UnionMerges = (x y : ℕ) (xs ys : List ℕ) → Ascending (x ∷ xs) → Ascending (y ∷ ys) → Merges x y xs ys

@@ -5,7 +5,7 @@ use Rattle.std.specs.Prelude.{ℕ, zero, suc, not, eqb, ltb, cond, List, [], ◌
 use Rattle.std.specs.List.{filter}
 use Rattle.row_book.specs.Sets.{NumSet, has, without}
 use Rattle.row_book.specs.Repository.{Repository, clauses_of}
-use Rattle.row_book.specs.Clauses.{apart_from, minimal_of, ordered, numbers}
+use Rattle.row_book.specs.Clauses.{apart_from, minimal_of, in_row_order, numbers}
 use Rattle.row_book.specs.Flattening.{packages, all_packages, may_go, soonest, Passed, passed_by, first_some}
 
 abbrev pub inserted : ℕ → List ℕ → List ℕ
@@ -13,36 +13,36 @@ inserted n [] = n ∷ []
 inserted n (m ∷ ms) = cond (ltb n m) (n ∷ (m ∷ ms)) (cond (eqb n m) (m ∷ ms) (m ∷ inserted n ms))
 
 -- the union of two ascending lists
-abbrev pub joined : List ℕ → List ℕ → List ℕ
-joined [] ys = ys
-joined (x ∷ xs) ys = inserted x (joined xs ys)
+abbrev pub union_of : List ℕ → List ℕ → List ℕ
+union_of [] ys = ys
+union_of (x ∷ xs) ys = inserted x (union_of xs ys)
 
 -- the clause without the number
-abbrev pub dropped : ℕ → List ℕ → List ℕ
-dropped x T = filter (λ n. not (eqb n x)) T
+abbrev pub clause_without : ℕ → List ℕ → List ℕ
+clause_without x T = filter (λ n. not (eqb n x)) T
 
 -- what stands for a clause when q is taken out: the clause itself, or where it holds q its union,
 -- without q, with each clause of q
-abbrev pub spread : ℕ → List (List ℕ) → List ℕ → List (List ℕ)
-spread q B T = cond (has T q) (map (λ U. joined (dropped q T) U) B) (T ∷ [])
+abbrev pub unions_for : ℕ → List (List ℕ) → List ℕ → List (List ℕ)
+unions_for q B T = cond (has T q) (map (λ U. union_of (clause_without q T) U) B) (T ∷ [])
 
-abbrev pub replaced : ℕ → List (List ℕ) → List (List ℕ) → List (List ℕ)
-replaced q [] B = []
-replaced q (T ∷ A) B = spread q B T ++ replaced q A B
+abbrev pub all_unions_for : ℕ → List (List ℕ) → List (List ℕ) → List (List ℕ)
+all_unions_for q [] B = []
+all_unions_for q (T ∷ A) B = unions_for q B T ++ all_unions_for q A B
 
 -- the clauses of p when q is taken out, from those of p and of q: each is replaced, what then holds
 -- p is dropped, and the minimal ones are kept
 abbrev pub substituted : ℕ → ℕ → List (List ℕ) → List (List ℕ) → List (List ℕ)
-substituted p q A B = minimal_of (apart_from p (replaced q A B))
+substituted p q A B = minimal_of (apart_from p (all_unions_for q A B))
 
 -- the row of a package in a table of rows
 abbrev pub table_row : List (List (List ℕ)) → ℕ → List (List ℕ)
 table_row t p = slice_index_or t p []
 
 -- the table when q is taken out: each row but that of q is substituted
-unfoldable pub eliminated : ℕ → List (List (List ℕ)) → List (List (List ℕ))
-eliminated q t =
-    map (λ p. cond (eqb p q) (table_row t q) (ordered (substituted p q (table_row t p) (table_row t q))))
+unfoldable pub table_without : ℕ → List (List (List ℕ)) → List (List (List ℕ))
+table_without q t =
+    map (λ p. cond (eqb p q) (table_row t q) (in_row_order (substituted p q (table_row t p) (table_row t q))))
     (numbers (length t) 0)
 
 -- A whole elimination with its table of rows.
@@ -62,11 +62,11 @@ choice_in R s = soonest (length_in s.table) (may_go R s.left) (packages R)
 
 abbrev pub stage_less : Stage → Option ℕ → Stage
 stage_less s None = s
-stage_less s (Some q) = record { left = without s.left q; table = eliminated q s.table }
+stage_less s (Some q) = record { left = without s.left q; table = table_without q s.table }
 
 -- before any step each row has the minimal clauses of the package that do not hold it
 unfoldable pub first_table : Repository → List (List (List ℕ))
-first_table R = map (λ p. ordered (minimal_of (apart_from p (clauses_of R p)))) (packages R)
+first_table R = map (λ p. in_row_order (minimal_of (apart_from p (clauses_of R p)))) (packages R)
 
 unfoldable pub stage_after : Repository → ℕ → Stage
 stage_after R zero = record { left = all_packages R; table = first_table R }

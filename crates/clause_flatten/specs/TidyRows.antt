@@ -2,17 +2,17 @@
 use Rattle.std.specs.Prelude.{◌≡◌, ℕ, ◌<◌, Bool, not, ◌&&◌, List, length, map}
 use Rattle.clause_pool.specs.Interned.{Interned, row_at}
 use Rattle.row_book.specs.Sets.{has}
-use Rattle.row_book.specs.Clauses.{apart_from, minimal_of, numbers, ordered}
+use Rattle.row_book.specs.Clauses.{apart_from, minimal_of, numbers, in_row_order}
 use Rattle.clause_flatten.specs.Inclusion.{has_shorter}
 use Rattle.clause_flatten.specs.Substitution.{table_row}
 
 -- the first row of a package from its clauses
-abbrev pub tidied : ℕ → List (List ℕ) → List (List ℕ)
-tidied p cs = ordered (minimal_of (apart_from p cs))
+abbrev pub first_row : ℕ → List (List ℕ) → List (List ℕ)
+first_row p cs = in_row_order (minimal_of (apart_from p cs))
 
 -- the first row of each package from a table of clauses
 unfoldable pub tidied_table : List (List (List ℕ)) → List (List (List ℕ))
-tidied_table t = map (λ p. tidied p (table_row t p)) (numbers (length t) 0)
+tidied_table t = map (λ p. first_row p (table_row t p)) (numbers (length t) 0)
 
 -- whether a clause of p stays: it does not hold p, and no shorter one is within it
 abbrev pub stays : ℕ → List (List ℕ) → List ℕ → Bool

@@ -4,7 +4,7 @@ ghost use Rattle.std.specs.Bool.{OnTrue};
 ghost use Rattle.std.specs.List.{filter};
 ghost use Rattle.clause_pool.specs.Interned.{clauses_at, row_at, Kept, OfPool};
 ghost use Rattle.row_book.specs.Sets.{In};
-ghost use Rattle.row_book.specs.Clauses.{apart_from, minimal_of, ordered, Ascending, InOrder, Inside};
+ghost use Rattle.row_book.specs.Clauses.{apart_from, minimal_of, in_row_order, Ascending, InOrder, Inside};
 ghost use Rattle.clause_flatten.specs.TidyRows.{stays};
 ghost use Rattle.clause_flatten.specs.Families.{all_unions, unions_of, HasUnions, HoldsOneOf, IncludesOneOf, SameClauses, Useful};
 
@@ -121,7 +121,7 @@ pub(crate) fn intern_with_unions(
     requires row { row < length pool.old.rows }
     requires useful { OfPool pool.old useful.now }
     requires minimal { (c d : List ℕ) → In c (row_at pool.old row) → In d (row_at pool.old row) → Inside c d → c ≡ d }
-    ensures ok { IfOk result (λ id. row_at pool.new id ≡ minimal_of (ordered (apart_from spent (row_at pool.old row)
+    ensures ok { IfOk result (λ id. row_at pool.new id ≡ minimal_of (in_row_order (apart_from spent (row_at pool.old row)
         ++ all_unions spent (row_at pool.old row) (clauses_at pool.old useful.now)))) }
     ensures of_pool { IfOk result (λ id. id < length pool.new.rows) }
     ensures kept { Kept pool.old pool.new }

@@ -2,7 +2,7 @@
 ghost use Rattle.std.specs.Prelude.{◌≡◌, ◌<◌, ℕ, List, IfOk, length};
 ghost use Rattle.clause_pool.specs.Interned.{clauses_at, ids_at, row_at, IsPool, Kept, OfPool};
 ghost use Rattle.row_book.specs.Sets.{In};
-ghost use Rattle.row_book.specs.Clauses.{apart_from, ordered, Inside};
+ghost use Rattle.row_book.specs.Clauses.{apart_from, in_row_order, Inside};
 ghost use Rattle.clause_flatten.specs.Substitution.{substituted};
 
 use crate::family::{intern_with_unions, useful_of};
@@ -25,7 +25,7 @@ pub(crate) fn rewrite(
     requires apart { (c : List ℕ) → In c (row_at pool.old row) → In user c → ⊥ }
     requires minimal { (c d : List ℕ) → In c (row_at pool.old row) → In d (row_at pool.old row) → Inside c d → c ≡ d }
     ensures ok { IfOk result (λ id. row_at pool.new id
-        ≡ ordered (substituted user spent (row_at pool.old row) (row_at pool.old others))) }
+        ≡ in_row_order (substituted user spent (row_at pool.old row) (row_at pool.old others))) }
     ensures of_pool { IfOk result (λ id. id < length pool.new.rows) }
     ensures kept { Kept pool.old pool.new }
 {

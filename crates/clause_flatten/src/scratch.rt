@@ -5,7 +5,7 @@ ghost use Rattle.std.specs.Cmp.{partial_equiv_from_equiv};
 ghost use Rattle.std.specs.Ordering.{nat_cmp};
 ghost use Rattle.std.specs.Prelude.{nat_eq, Some, refl};
 ghost use Rattle.row_book.specs.Clauses.{Ascending};
-ghost use Rattle.clause_flatten.specs.Substitution.{dropped, joined};
+ghost use Rattle.clause_flatten.specs.Substitution.{clause_without, union_of};
 
 use smallvec::SmallVec;
 use std::alloc::{AllocError, Global};
@@ -86,7 +86,7 @@ impl Clause {
     ) -> Result<Clause, AllocError>
         requires clause { Ascending clause.now }
         requires other { Ascending other.now }
-        ensures { IfOk result (λ union. union ≡ joined (dropped spent clause.now) other.now) }
+        ensures { IfOk result (λ union. union ≡ union_of (clause_without spent clause.now) other.now) }
     {
         let mut literals = SmallVec::new(alloc);
         let mut i = 0;
@@ -127,7 +127,7 @@ fn add_without(
     spent: u32,
     clause: &[u32],
 ) -> Result<(), AllocError>
-    ensures { OnOk result (literals.new.items ≡ literals.old.items ++ dropped spent clause.now) }
+    ensures { OnOk result (literals.new.items ≡ literals.old.items ++ clause_without spent clause.now) }
 {
     for literal in clause {
         if *literal != spent {

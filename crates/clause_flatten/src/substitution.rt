@@ -2,9 +2,9 @@
 ghost use Rattle.std.specs.Prelude.{◌≡◌, ◌≢◌, ◌<◌, ◌⊎◌, ℕ, OnErr, OnOk, length, map};
 ghost use Rattle.clause_pool.specs.Interned.{row_at, Kept};
 ghost use Rattle.row_book.specs.Book.{RowsFit, RowsTidy};
-ghost use Rattle.row_book.specs.Clauses.{ordered};
+ghost use Rattle.row_book.specs.Clauses.{in_row_order};
 ghost use Rattle.row_book.specs.Uses.{row_id, users_of, uses_of};
-ghost use Rattle.clause_flatten.specs.Substitution.{eliminated, substituted, table_row};
+ghost use Rattle.clause_flatten.specs.Substitution.{table_without, substituted, table_row};
 
 use crate::rewriting::rewrite;
 use clause_pool::{Pool, RowId};
@@ -27,9 +27,9 @@ pub fn eliminate(
     requires tidy { RowsTidy pool.old rows.old }
     requires table { uses.old ≡ uses_of pool.old rows.old }
     requires gone { gone < length rows.old }
-    ensures ok { OnOk result (map (row_at pool.new) rows.new ≡ eliminated gone (map (row_at pool.old) rows.old)) }
+    ensures ok { OnOk result (map (row_at pool.new) rows.new ≡ table_without gone (map (row_at pool.old) rows.old)) }
     ensures each { (p : ℕ) → p < length rows.old → (row_id rows.new p ≡ row_id rows.old p)
-        ⊎ (row_at pool.new (row_id rows.new p) ≡ table_row (eliminated gone (map (row_at pool.old) rows.old)) p) }
+        ⊎ (row_at pool.new (row_id rows.new p) ≡ table_row (table_without gone (map (row_at pool.old) rows.old)) p) }
     ensures fit { RowsFit pool.new rows.new }
     ensures tidy { RowsTidy pool.new rows.new }
     ensures table { uses.new ≡ uses_of pool.new rows.new }
@@ -54,9 +54,9 @@ pub(crate) fn eliminate_for(
     requires table { uses.old ≡ uses_of pool.old rows.old }
     requires gone { gone < length rows.old }
     requires users { users.now ≡ users_of pool.old rows.old gone }
-    ensures ok { OnOk result (map (row_at pool.new) rows.new ≡ eliminated gone (map (row_at pool.old) rows.old)) }
+    ensures ok { OnOk result (map (row_at pool.new) rows.new ≡ table_without gone (map (row_at pool.old) rows.old)) }
     ensures each { (p : ℕ) → p < length rows.old → (row_id rows.new p ≡ row_id rows.old p)
-        ⊎ (row_at pool.new (row_id rows.new p) ≡ table_row (eliminated gone (map (row_at pool.old) rows.old)) p) }
+        ⊎ (row_at pool.new (row_id rows.new p) ≡ table_row (table_without gone (map (row_at pool.old) rows.old)) p) }
     ensures fit { RowsFit pool.new rows.new }
     ensures tidy { RowsTidy pool.new rows.new }
     ensures table { uses.new ≡ uses_of pool.new rows.new }
@@ -86,7 +86,7 @@ fn replace_row(
     requires user { user < length rows.old }
     requires gone { gone < length rows.old }
     ensures ok { OnOk result (row_at pool.new (row_id rows.new user)
-        ≡ ordered (substituted user gone (row_at pool.old (row_id rows.old user)) (row_at pool.old (row_id rows.old gone)))) }
+        ≡ in_row_order (substituted user gone (row_at pool.old (row_id rows.old user)) (row_at pool.old (row_id rows.old gone)))) }
     ensures err { OnErr result (rows.new ≡ rows.old) }
     ensures others { (p : ℕ) → p ≢ user → row_id rows.new p ≡ row_id rows.old p }
     ensures stay { (p : ℕ) → p < length rows.old → p ≢ user → row_at pool.new (row_id rows.new p) ≡ row_at pool.old (row_id rows.old p) }

@@ -7,7 +7,7 @@ ghost use Rattle.row_book.specs.Clauses.{numbers, Ascending};
 ghost use Rattle.row_book.specs.Book.{RowsFit, RowsTidy};
 ghost use Rattle.row_book.specs.Uses.{uses_of};
 ghost use Rattle.row_book.specs.Flattening.{passed_by};
-ghost use Rattle.clause_flatten.specs.Substitution.{eliminated, length_in};
+ghost use Rattle.clause_flatten.specs.Substitution.{table_without, length_in};
 ghost use Rattle.clause_flatten.specs.Refusals.{OnLimit};
 ghost use Rattle.clause_flatten.specs.Waiting.{Filed};
 ghost use Rattle.clause_flatten.specs.TakingOut.{counted_anew, is_over};
@@ -132,17 +132,17 @@ pub(crate) fn take_out(
     requires table { uses.old ≡ uses_of pool.old rows.old }
     requires there { step.«package» < length rows.old }
     requires within { (p : ℕ) → p < length rows.old → length_in (map (row_at pool.old) rows.old) p ≤ step.limit }
-    ensures rows { OnOk result (map (row_at pool.new) rows.new ≡ eliminated step.«package» (map (row_at pool.old) rows.old)) }
+    ensures rows { OnOk result (map (row_at pool.new) rows.new ≡ table_without step.«package» (map (row_at pool.old) rows.old)) }
     ensures fit { RowsFit pool.new rows.new }
     ensures tidy { RowsTidy pool.new rows.new }
     ensures table { uses.new ≡ uses_of pool.new rows.new }
     ensures kept { Kept pool.old pool.new }
     ensures within { OnOk result ((p : ℕ) → p < length rows.old →
-        length_in (eliminated step.«package» (map (row_at pool.old) rows.old)) p ≤ step.limit) }
+        length_in (table_without step.«package» (map (row_at pool.old) rows.old)) p ≤ step.limit) }
     ensures passed { IfErr result (OnLimit (λ passed.
-        passed_by (length_in (eliminated step.«package» (map (row_at pool.old) rows.old))) (numbers (length rows.old) 0) step.limit step.gone ≡ Some passed)) }
+        passed_by (length_in (table_without step.«package» (map (row_at pool.old) rows.old))) (numbers (length rows.old) 0) step.limit step.gone ≡ Some passed)) }
     ensures filed { OnOk result ((may : ℕ → Bool) → Filed waiting.old may (length_in (map (row_at pool.old) rows.old)) →
-        Filed waiting.new may (length_in (eliminated step.«package» (map (row_at pool.old) rows.old)))) }
+        Filed waiting.new may (length_in (table_without step.«package» (map (row_at pool.old) rows.old)))) }
 {
     // What holds of every pool is told by this call alone.
     pool.clause_count();

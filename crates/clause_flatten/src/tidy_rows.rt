@@ -4,7 +4,7 @@ ghost use Rattle.std.specs.List.{filter};
 ghost use Rattle.clause_pool.specs.Interned.{clause_at, clauses_at, row_at, Kept, OfPool};
 ghost use Rattle.row_book.specs.Book.{RowsFit, RowsTidy};
 ghost use Rattle.row_book.specs.Clauses.{InOrder};
-ghost use Rattle.clause_flatten.specs.TidyRows.{stays, tidied, tidied_table, RowsStay};
+ghost use Rattle.clause_flatten.specs.TidyRows.{stays, first_row, tidied_table, RowsStay};
 
 use crate::scratch::Clause;
 use crate::shorter::stays;
@@ -48,7 +48,7 @@ fn kept_clauses(
 fn tidy_row(alloc: Global, pool: &mut Pool, package: u32, row: RowId) -> Result<RowId, AllocError>
     requires { row < length pool.old.rows }
     ensures within { IfOk result (λ id. id < length pool.new.rows) }
-    ensures tidied { IfOk result (λ id. row_at pool.new id ≡ tidied «package» (row_at pool.old row)) }
+    ensures tidied { IfOk result (λ id. row_at pool.new id ≡ first_row «package» (row_at pool.old row)) }
     ensures stay { RowsStay pool.old pool.new }
     ensures kept { Kept pool.old pool.new }
 {

@@ -82,8 +82,12 @@ over_find (v ∷ ws) R s f = pick (is_redundant R v.0 v.1) refl (over_find ws R 
     pick : (t : Bool) → is_redundant R v.0 v.1 ≡ t → ((thin_over R ws ≡ R) ⊎ ((w : ℕ × ℕ) × In w ws × (against (thin_over R ws) w.0 w.1 ≡ false))) →
         (thin_over R (v ∷ ws) ≡ R) ⊎ ((w : ℕ × ℕ) × In w (v ∷ ws) × (against (thin_over R (v ∷ ws)) w.0 w.1 ≡ false))
     pick true t r =
-        inr (v, here, ap (λ b. against (thin_over (cond b (without_pair R v.0 v.1) R) ws) v.0 v.1) t
-        ∙ over_against ws (without_pair R v.0 v.1) (less_sound R v.0 v.1 s) v.0 v.1 (pair_gone R s v.0 v.1))
+        inr (
+          v,
+          here,
+          ap (λ b. against (thin_over (cond b (without_pair R v.0 v.1) R) ws) v.0 v.1) t
+              ∙ over_against ws (without_pair R v.0 v.1) (less_sound R v.0 v.1 s) v.0 v.1 (pair_gone R s v.0 v.1),
+        )
     pick false t r =
         let same : thin_pair R v.0 v.1 ≡ R = ap (λ b. cond b (without_pair R v.0 v.1) R) t in
         elim r [

@@ -135,12 +135,7 @@ fn add_round(
 }
 
 /// One round more, where it changes something.
-fn advance(
-    alloc: Global,
-    pool: &mut Pool,
-    now: Progress,
-    limit: u32,
-) -> Result<Outcome, RoundError>
+fn advance(alloc: Global, pool: &mut Pool, now: Progress, limit: u32) -> Result<Outcome, RoundError>
     requires sound { Sound pool.old now.book }
     requires limit { 0 < limit }
     requires few { length now.class_of.items < 4294967296 }

@@ -19,11 +19,7 @@ pub(crate) struct Sample<'a> {
 }
 
 /// The numbers as a clause; each has to be below the size.
-fn clause_of(
-    alloc: Global,
-    size: usize,
-    numbers: &[u32],
-) -> Result<Clause, AllocError>
+fn clause_of(alloc: Global, size: usize, numbers: &[u32]) -> Result<Clause, AllocError>
     ensures ascending { IfOk result Ascending }
     ensures below { IfOk result (AllBelow size) }
 {
@@ -63,11 +59,7 @@ fn row_of(
 }
 
 /// The rows of the packages, of which each number has to be below their number.
-fn rows_of(
-    alloc: Global,
-    pool: &mut Pool,
-    clauses: &[&[&[u32]]],
-) -> Result<Vec<RowId>, AllocError>
+fn rows_of(alloc: Global, pool: &mut Pool, clauses: &[&[&[u32]]]) -> Result<Vec<RowId>, AllocError>
     ensures count { IfOk result (λ rows. length rows.items ≡ length clauses.now) }
     ensures below { IfOk result (λ rows. RowsBelow pool.new rows.items (length clauses.now)) }
     ensures kept { Kept pool.old pool.new }
@@ -83,11 +75,7 @@ fn rows_of(
 }
 
 /// The pairs, each of two numbers below the size, the lesser first.
-fn pairs_of(
-    alloc: Global,
-    size: usize,
-    pairs: &[(u32, u32)],
-) -> Result<Vec<Pair>, AllocError>
+fn pairs_of(alloc: Global, size: usize, pairs: &[(u32, u32)]) -> Result<Vec<Pair>, AllocError>
     ensures { IfOk result (λ made. PairsFit made.items size) }
 {
     let mut made = Vec::new(alloc);

@@ -33,7 +33,10 @@ fn check_kernel(rt: &(impl Abort + AllocGlobal), case: &Case<'_>) -> Result<(), 
 }
 
 /// Why no kernel is extracted with limit 2, if none is.
-fn refusal(rt: &(impl Abort + AllocGlobal), sample: Sample<'_>) -> Result<Option<RoundError>, Fail> {
+fn refusal(
+    rt: &(impl Abort + AllocGlobal),
+    sample: Sample<'_>,
+) -> Result<Option<RoundError>, Fail> {
     let alloc = rt.alloc();
     let mut pool = Pool::new(alloc)?;
     let book = book_of(alloc, &mut pool, sample)?;
@@ -164,7 +167,17 @@ fn kernels_and_refusals_are_as_worked_out(rt: HostRuntime) -> Result<(), Fail> {
     };
     // Thinning frees 1 of its conflict with 5, and the next round takes it out.
     let freed = Sample {
-        clauses: &[&[&[1], &[4]], &[&[2], &[3]], &[], &[], &[], &[], &[], &[], &[]],
+        clauses: &[
+            &[&[1], &[4]],
+            &[&[2], &[3]],
+            &[],
+            &[],
+            &[],
+            &[],
+            &[],
+            &[],
+            &[],
+        ],
         pairs: &[(1, 5), (2, 5), (2, 6), (3, 7), (4, 8)],
     };
     let cases = [

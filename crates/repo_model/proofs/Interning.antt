@@ -3,7 +3,7 @@ use Rattle.std.proofs.Common.{◌≡◌, ℕ, ◌+◌, ◌-◌, ◌<◌, ◌≤�
 use Rattle.std.proofs.lemmas.Bool.{cases_lt}
 use Rattle.std.proofs.lemmas.List.{get_or_push, map-append, take_more}
 use Rattle.clause_pool.specs.Interned.{Interned, clause_at, clauses_at, ids_at, row_at, Gains, IsIdOf, Kept, OfPool}
-use Rattle.row_book.specs.Clauses.{comes_before, ordered, placed}
+use Rattle.row_book.specs.Clauses.{comes_before, in_row_order, insert_clause}
 use Rattle.row_book.specs.Sets.{In, here, there}
 use Rattle.row_book.proofs.Order.{neither_before}
 use Rattle.row_book.proofs.Lists.{In_cases, In_none, In_append_cases, In_append_left, In_append_right, In_map_cases}
@@ -30,26 +30,26 @@ of_pool_kept : (a b : Interned) → Kept a b → (ids : List ℕ) → OfPool a i
 of_pool_kept a b k ids within id i = (k.clauses id (within id i)).0
 
 -- a clause is among those into which it was put
-pub placed_holds : (c : List ℕ) (ds : List (List ℕ)) → In c (placed c ds)
+pub placed_holds : (c : List ℕ) (ds : List (List ℕ)) → In c (insert_clause c ds)
 placed_holds c [] = here
 placed_holds c (d ∷ ds) = pick (comes_before c d) (comes_before d c) refl refl (placed_holds c ds)
   where
-    pick : (s t : Bool) → comes_before c d ≡ s → comes_before d c ≡ t → In c (placed c ds) → In c (cond s (c ∷ (d ∷ ds)) (cond t (d ∷ placed c ds) (d ∷ ds)))
+    pick : (s t : Bool) → comes_before c d ≡ s → comes_before d c ≡ t → In c (insert_clause c ds) → In c (cond s (c ∷ (d ∷ ds)) (cond t (d ∷ insert_clause c ds) (d ∷ ds)))
     pick true t u v f = here
     pick false true u v f = there f
     pick false false u v f = subst (λ z. In z (d ∷ ds)) (sym (neither_before c d u v)) here
 
 -- one more clause: where it is new, its id is among the ids with its place
 module _ (start old new : Interned) (clauses : List (List ℕ)) (ids more : List ℕ) (clause : List ℕ) (id : ℕ) where
-  pub id_placed : IsIdOf new.clauses clause id → OfPool new more → clauses_at new more ≡ placed clause clauses → In id more
+  pub id_placed : IsIdOf new.clauses clause id → OfPool new more → clauses_at new more ≡ insert_clause clause clauses → In id more
   id_placed is within put =
       let w : (other : ℕ) × In other more × (clause ≡ clause_at new other) = In_map_cases (clause_at new) more clause (subst (λ cs. In clause cs) (sym put) (placed_holds clause clauses)) in
       subst (λ z. In z more) (is.only w.0 (within w.0 w.1) (sym w.2)) w.1
 
   pub ids_more : HasIds start old clauses ids → Kept old new → new.rows ≡ old.rows → IsIdOf new.clauses clause id → Gains old.clauses clause new.clauses →
-      OfPool new more → clauses_at new more ≡ placed clause (clauses_at new ids) → ((other : ℕ) → In other ids → In other more) → HasIds start new (placed clause clauses) more
+      OfPool new more → clauses_at new more ≡ insert_clause clause (clauses_at new ids) → ((other : ℕ) → In other ids → In other more) → HasIds start new (insert_clause clause clauses) more
   ids_more h kept rows is gains within put stays =
-      let now : clauses_at new more ≡ placed clause clauses = put ∙ ap (placed clause) (clauses_kept old new kept ids h.of_pool ∙ h.clauses) in
+      let now : clauses_at new more ≡ insert_clause clause clauses = put ∙ ap (insert_clause clause) (clauses_kept old new kept ids h.of_pool ∙ h.clauses) in
       let inside : In id more = id_placed is within now in
       record {
         rows = rows ∙ h.rows;
@@ -136,10 +136,10 @@ rows_more start old new clauses more rows next h n = record {
 
 -- the next clause, in front of those that are in place
 pub ids_back : {A : Type 0} (f : A → List ℕ) (xs : List A) (i : ℕ) (x : A) (clause : List ℕ) (start new : Interned) (ids : List ℕ) → 0 < i → i ≤ length xs → x ≡ get_or xs (i - 1) x →
-    clause ≡ f x → HasIds start new (placed clause (ordered (map f (drop i xs)))) ids → HasIds start new (ordered (map f (drop (i - 1) xs))) ids
+    clause ≡ f x → HasIds start new (insert_clause clause (in_row_order (map f (drop i xs)))) ids → HasIds start new (in_row_order (map f (drop (i - 1) xs))) ids
 ids_back f xs i x clause start new ids some within is of h =
     subst (λ row. HasIds start new row ids)
-    (row_back f xs i x (ordered (map f (drop i xs))) (placed clause (ordered (map f (drop i xs)))) some within is refl (ap (λ c. placed c (ordered (map f (drop i xs)))) of)) h
+    (row_back f xs i x (in_row_order (map f (drop i xs))) (insert_clause clause (in_row_order (map f (drop i xs)))) some within is refl (ap (λ c. insert_clause c (in_row_order (map f (drop i xs)))) of)) h
 
 -- the row of the next package
 pub rows_next : {A : Type 0} (f : A → List (List ℕ)) (xs : List A) (i : ℕ) (x : A) (start old new : Interned) (rows more : List ℕ) (row : ℕ) → i < length xs → x ≡ get_or xs i x →

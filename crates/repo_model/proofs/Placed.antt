@@ -2,7 +2,7 @@
 use Rattle.std.proofs.Common.{◌≡◌, ℕ, ◌<◌, ◌≤◌, ◌++◌, true, false, List, [], ◌∷◌, length, get_or, take, drop, inl, inr, sym, ap, ap₂, subst, ◌∙◌}
 use Rattle.std.proofs.lemmas.List.{drop-map, get_or-map, length-map, map-append, take-append-drop, take-map}
 use Rattle.clause_pool.specs.Interned.{Interned, clause_at, clauses_at, OfPool}
-use Rattle.row_book.specs.Clauses.{comes_before, placed}
+use Rattle.row_book.specs.Clauses.{comes_before, insert_clause}
 use Rattle.row_book.specs.Sets.{In, there}
 use Rattle.row_book.proofs.Lists.{In_cases, In_append_cases, In_append_left, In_append_right}
 use Rattle.repo_model.proofs.Places.{placed_same, placed_new}
@@ -13,12 +13,12 @@ clause_there pool ids n id l is = ap (clause_at pool) is ∙ sym (get_or-map (cl
 
 module _ (pool : Interned) (clause : List ℕ) (ids : List ℕ) where
   pub placed_there : (i : ℕ) → i < length ids → ((k : ℕ) → k < i → comes_before (get_or (clauses_at pool ids) k []) clause ≡ true) →
-      comes_before (get_or (clauses_at pool ids) i []) clause ≡ false → comes_before clause (get_or (clauses_at pool ids) i []) ≡ false → clauses_at pool ids ≡ placed clause (clauses_at pool ids)
+      comes_before (get_or (clauses_at pool ids) i []) clause ≡ false → comes_before clause (get_or (clauses_at pool ids) i []) ≡ false → clauses_at pool ids ≡ insert_clause clause (clauses_at pool ids)
   placed_there i l before stop after = placed_same clause (clauses_at pool ids) i (rw length-map l) before stop after
 
   pub placed_id : (i id : ℕ) → i ≤ length ids → ((k : ℕ) → k < i → comes_before (get_or (clauses_at pool ids) k []) clause ≡ true) →
       (i < length ids → comes_before clause (get_or (clauses_at pool ids) i []) ≡ true) → clause_at pool id ≡ clause →
-      clauses_at pool (take i ids ++ (id ∷ drop i ids)) ≡ placed clause (clauses_at pool ids)
+      clauses_at pool (take i ids ++ (id ∷ drop i ids)) ≡ insert_clause clause (clauses_at pool ids)
   placed_id i id l before after is =
       map-append (clause_at pool) (take i ids) (id ∷ drop i ids)
       ∙ ap₂ (λ front back. front ++ back) (sym (take-map (clause_at pool) i ids)) (ap₂ (λ c cs. c ∷ cs) is (sym (drop-map (clause_at pool) i ids)))

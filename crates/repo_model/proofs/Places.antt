@@ -1,32 +1,32 @@
 -- A clause put into its place among clauses in order.
 use Rattle.std.proofs.Common.{◌≡◌, ℕ, zero, suc, ◌<◌, ◌≤◌, ◌-◌, true, false, cond, List, [], ◌∷◌, ◌++◌, length, get_or, take, drop, map, refl, sym, ◌∙◌, ap, arith, drop-cons}
 use Rattle.std.proofs.lemmas.Bool.{cond-true, cond-false, false_from_ne_true}
-use Rattle.row_book.specs.Clauses.{comes_before, placed, ordered}
+use Rattle.row_book.specs.Clauses.{comes_before, insert_clause, in_row_order}
 use Rattle.repo_model.proofs.Numbers.{same_at}
 use Rattle.row_book.proofs.Order.{before_asym, before_test}
 
 not_before : (c d : List ℕ) → comes_before d c ≡ true → comes_before c d ≡ false
 not_before c d h = false_from_ne_true (comes_before c d) (λ t. before_asym c d (before_test c d t) (before_test d c h))
 
-placed_past : (c d : List ℕ) (ds : List (List ℕ)) → comes_before d c ≡ true → placed c (d ∷ ds) ≡ d ∷ placed c ds
+placed_past : (c d : List ℕ) (ds : List (List ℕ)) → comes_before d c ≡ true → insert_clause c (d ∷ ds) ≡ d ∷ insert_clause c ds
 placed_past c d ds h =
-    cond-false (comes_before c d) (c ∷ (d ∷ ds)) (cond (comes_before d c) (d ∷ placed c ds) (d ∷ ds)) (not_before c d h)
-    ∙ cond-true (comes_before d c) (d ∷ placed c ds) (d ∷ ds) h
+    cond-false (comes_before c d) (c ∷ (d ∷ ds)) (cond (comes_before d c) (d ∷ insert_clause c ds) (d ∷ ds)) (not_before c d h)
+    ∙ cond-true (comes_before d c) (d ∷ insert_clause c ds) (d ∷ ds) h
 
 pub placed_same : (c : List ℕ) (ds : List (List ℕ)) (i : ℕ) → i < length ds → ((k : ℕ) → k < i → comes_before (get_or ds k []) c ≡ true) →
-    comes_before (get_or ds i []) c ≡ false → comes_before c (get_or ds i []) ≡ false → ds ≡ placed c ds
+    comes_before (get_or ds i []) c ≡ false → comes_before c (get_or ds i []) ≡ false → ds ≡ insert_clause c ds
 placed_same c [] i l b e f = absurd (omega arith)
 placed_same c (d ∷ ds) zero l b e f =
-    sym (cond-false (comes_before c d) (c ∷ (d ∷ ds)) (cond (comes_before d c) (d ∷ placed c ds) (d ∷ ds)) f
-    ∙ cond-false (comes_before d c) (d ∷ placed c ds) (d ∷ ds) e)
+    sym (cond-false (comes_before c d) (c ∷ (d ∷ ds)) (cond (comes_before d c) (d ∷ insert_clause c ds) (d ∷ ds)) f
+    ∙ cond-false (comes_before d c) (d ∷ insert_clause c ds) (d ∷ ds) e)
 placed_same c (d ∷ ds) (suc i) l b e f =
     ap (λ ys. d ∷ ys) (placed_same c ds i (omega arith) (λ k h. b (suc k) (omega arith)) e f) ∙ sym (placed_past c d ds (b 0 (omega arith)))
 
 pub placed_new : (c : List ℕ) (ds : List (List ℕ)) (i : ℕ) → i ≤ length ds → ((k : ℕ) → k < i → comes_before (get_or ds k []) c ≡ true) →
-    (i < length ds → comes_before c (get_or ds i []) ≡ true) → take i ds ++ (c ∷ drop i ds) ≡ placed c ds
+    (i < length ds → comes_before c (get_or ds i []) ≡ true) → take i ds ++ (c ∷ drop i ds) ≡ insert_clause c ds
 placed_new c [] zero l b s = refl
 placed_new c [] (suc i) l b s = absurd (omega arith)
-placed_new c (d ∷ ds) zero l b s = sym (cond-true (comes_before c d) (c ∷ (d ∷ ds)) (cond (comes_before d c) (d ∷ placed c ds) (d ∷ ds)) (s (omega arith)))
+placed_new c (d ∷ ds) zero l b s = sym (cond-true (comes_before c d) (c ∷ (d ∷ ds)) (cond (comes_before d c) (d ∷ insert_clause c ds) (d ∷ ds)) (s (omega arith)))
 placed_new c (d ∷ ds) (suc i) l b s =
     ap (λ ys. d ∷ ys) (placed_new c ds i (omega arith) (λ k h. b (suc k) (omega arith)) (λ h. s (omega arith))) ∙ sym (placed_past c d ds (b 0 (omega arith)))
 
@@ -35,8 +35,8 @@ same_clause row n c inside is = is ∙ same_at row n c [] inside
 
 -- the next clause, in front of those that are in place
 pub row_back : {A : Type 0} (f : A → List ℕ) (xs : List A) (i : ℕ) (x : A) (row new : List (List ℕ)) → 0 < i → i ≤ length xs →
-    x ≡ get_or xs (i - 1) x → row ≡ ordered (map f (drop i xs)) → new ≡ placed (f x) row → new ≡ ordered (map f (drop (i - 1) xs))
+    x ≡ get_or xs (i - 1) x → row ≡ in_row_order (map f (drop i xs)) → new ≡ insert_clause (f x) row → new ≡ in_row_order (map f (drop (i - 1) xs))
 row_back f xs i x row new some within is sofar put =
     let back : suc (i - 1) ≡ i = omega arith in
-    put ∙ ap (placed (f x)) (sofar ∙ ap (λ n. ordered (map f (drop n xs))) (sym back))
-    ∙ sym (ap (λ ys. ordered (map f ys)) (drop-cons xs (i - 1) x (omega arith)) ∙ ap (λ y. placed (f y) (ordered (map f (drop (suc (i - 1)) xs)))) (sym is))
+    put ∙ ap (insert_clause (f x)) (sofar ∙ ap (λ n. in_row_order (map f (drop n xs))) (sym back))
+    ∙ sym (ap (λ ys. in_row_order (map f ys)) (drop-cons xs (i - 1) x (omega arith)) ∙ ap (λ y. insert_clause (f y) (in_row_order (map f (drop (suc (i - 1)) xs)))) (sym is))

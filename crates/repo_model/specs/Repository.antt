@@ -4,7 +4,7 @@
 use Rattle.std.specs.Prelude.{ℕ, Bool, not, ◌&&◌, ◌||◌, eqb, List, map, filter, length}
 use Rattle.std.specs.List.{list_any, range_with_len}
 use Rattle.std.specs.Str.{bytes_eq}
-use Rattle.row_book.specs.Clauses.{ordered}
+use Rattle.row_book.specs.Clauses.{in_row_order}
 use Rattle.relation_fields.specs.Meeting.{meets}
 use Rattle.relation_fields.specs.declared.packages.Home.{Home}
 use Rattle.relation_fields.specs.declared.packages.PackageFacts.{PackageFacts}
@@ -26,7 +26,7 @@ clause_of home stanzas element = filter (λ n. meets_any home element (stanza_at
 
 -- the clauses of a stanza
 abbrev pub row_of : Home → List PackageFacts → PackageFacts → List (List ℕ)
-row_of home stanzas s = ordered (map (clause_of home stanzas) s.needs)
+row_of home stanzas s = in_row_order (map (clause_of home stanzas) s.needs)
 
 -- the second meets one of the conflicts of the first
 abbrev pub stands_against : Home → PackageFacts → PackageFacts → Bool

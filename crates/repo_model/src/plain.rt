@@ -2,7 +2,7 @@
 ghost use Rattle.std.specs.Prelude.{◌≡◌, ◌≤◌, ◌<◌, ◌↔◌, ℕ, [], IfOk, IsTrue, OnOk, map, length, slice_index_or, true, false, ◌||◌};
 ghost use Rattle.std.specs.Str.{bytes_eq};
 ghost use Rattle.relation_fields.specs.Meeting.{meets};
-ghost use Rattle.row_book.specs.Clauses.{comes_before, ordered, placed};
+ghost use Rattle.row_book.specs.Clauses.{comes_before, in_row_order, insert_clause};
 ghost use Rattle.row_book.specs.Sets.{has};
 ghost use Rattle.repo_model.specs.Repository.{clause_of, in_conflict, meets_any, packages_of, rivals_of, row_of, stands_against, suite_repository};
 ghost use Rattle.repo_model.specs.Stanzas.{stanza_at, CoinstStanzas};
@@ -131,7 +131,7 @@ fn is_before_place(clause: &[u32], row: &[NumList], place: usize) -> bool
 // Puts a clause into its place among clauses in order, where it is not there yet.
 #[tactic(auto, using(crate::proofs::Places::placed_same, crate::proofs::Places::placed_new))]
 fn place(row: &mut Vec<NumList>, clause: NumList) -> Result<(), AllocError>
-    ensures { OnOk result (row.new.items ≡ placed clause row.old.items) }
+    ensures { OnOk result (row.new.items ≡ insert_clause clause row.old.items) }
 {
     let place = place_of(row.as_slice(), clause.as_slice());
     if place < row.len() && !is_before_place(clause.as_slice(), row.as_slice(), place) {
@@ -149,7 +149,7 @@ fn row(
     elements: &[AtomList],
 ) -> Result<ClauseList, AllocError>
     requires { length stanzas.now ≤ 200000 }
-    ensures { IfOk result (λ r. r ≡ ordered (map (clause_of home.now stanzas.now) elements.now)) }
+    ensures { IfOk result (λ r. r ≡ in_row_order (map (clause_of home.now stanzas.now) elements.now)) }
 {
     let mut row = Vec::new(alloc);
     let mut left = elements.len();

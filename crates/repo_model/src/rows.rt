@@ -1,7 +1,7 @@
 //! The rows of packages: their clauses, interned in a pool.
 ghost use Rattle.std.specs.Prelude.{◌≡◌, ◌≤◌, ◌<◌, ◌∷◌, ℕ, List, [], IfOk, OnOk, map, length, slice_index_or, true, false};
 ghost use Rattle.clause_pool.specs.Interned.{clause_at, clauses_at, Interned, Kept, OfPool};
-ghost use Rattle.row_book.specs.Clauses.{comes_before, ordered, placed, Ascending};
+ghost use Rattle.row_book.specs.Clauses.{comes_before, in_row_order, insert_clause, Ascending};
 ghost use Rattle.row_book.specs.Sets.{In};
 ghost use Rattle.virtual_provides.specs.Bearers.{IsBuiltFrom};
 ghost use Rattle.repo_model.specs.Interning.{HasIds, HasRows};
@@ -42,7 +42,7 @@ fn intern_row(
     elements: &[AtomList],
 ) -> Result<RowId, AllocError>
     requires { IsBuiltFrom packages.now names.now }
-    ensures row { IfOk result (λ row. HasRows pool.old pool.new (ordered (map (clause_of home.now packages.now) elements.now) ∷ []) (row ∷ [])) }
+    ensures row { IfOk result (λ row. HasRows pool.old pool.new (in_row_order (map (clause_of home.now packages.now) elements.now) ∷ []) (row ∷ [])) }
     ensures kept { Kept pool.old pool.new }
 {
     let ids = intern_clauses(alloc, pool, names, packages, home, elements)?;
@@ -60,7 +60,7 @@ fn intern_clauses(
     elements: &[AtomList],
 ) -> Result<Vec<ClauseId>, AllocError>
     requires { IsBuiltFrom packages.now names.now }
-    ensures ids { IfOk result (λ ids. HasIds pool.old pool.new (ordered (map (clause_of home.now packages.now) elements.now)) ids.items) }
+    ensures ids { IfOk result (λ ids. HasIds pool.old pool.new (in_row_order (map (clause_of home.now packages.now) elements.now)) ids.items) }
     ensures kept { Kept pool.old pool.new }
 {
     let mut ids = Vec::new(alloc);
@@ -78,7 +78,7 @@ fn intern_placed(pool: &mut Pool, ids: &mut Vec<ClauseId>, clause: &[u32]) -> Re
     requires ascending { Ascending clause.now }
     requires of_pool { OfPool pool.old ids.old.items }
     ensures placed { OnOk result ((start : Interned) (clauses : List (List ℕ)) → HasIds start pool.old clauses ids.old.items →
-        HasIds start pool.new (placed clause.now clauses) ids.new.items) }
+        HasIds start pool.new (insert_clause clause.now clauses) ids.new.items) }
     ensures kept { Kept pool.old pool.new }
 {
     let id = pool.intern(clause)?;
@@ -97,7 +97,7 @@ fn place(
     requires id { id < length pool.now.clauses }
     requires is { clause_at pool.now id ≡ clause.now }
     requires of_pool { OfPool pool.now ids.old.items }
-    ensures placed { OnOk result (clauses_at pool.now ids.new.items ≡ placed clause.now (clauses_at pool.now ids.old.items)) }
+    ensures placed { OnOk result (clauses_at pool.now ids.new.items ≡ insert_clause clause.now (clauses_at pool.now ids.old.items)) }
     ensures of_pool { OnOk result (OfPool pool.now ids.new.items) }
     ensures stays { OnOk result ((other : ℕ) → In other ids.old.items → In other ids.new.items) }
 {

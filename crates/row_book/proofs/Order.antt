@@ -2,7 +2,7 @@
 use Rattle.std.proofs.Common.{◌≡◌, ℕ, zero, suc, ◌<◌, ◌≤◌, ◌+◌, Bool, true, false, ◌&&◌, eqb, ltb, cond, List, [], ◌∷◌, ◌++◌, length, ◌⊎◌, inl, inr, refl, sym, ◌∙◌, ap, ap₂, subst, arith, map, filter, eq-eqb, eqb-true, zero-le, slice_index_or}
 use Rattle.std.proofs.lemmas.Bool.{both_ways, cases_eq, and_parts, and_from, or_cases, or_parts, false_from_ne_true, false≢true, ltb-true, ltb-false}
 use Rattle.row_book.specs.Sets.{In, here, there}
-use Rattle.row_book.specs.Clauses.{Ascending, Before, InOrder, comes_before, placed, ordered, numbers, nonempty_from, subsets}
+use Rattle.row_book.specs.Clauses.{Ascending, Before, InOrder, comes_before, insert_clause, in_row_order, numbers, nonempty_from, subsets}
 use Rattle.row_book.proofs.Lists.{In_cases, In_none, filter_cases, In_append_cases, In_append_left, In_append_right, In_map, In_map_cases}
 
 pub before_asym : (a b : List ℕ) → Before a b → Before b a → ⊥
@@ -129,38 +129,38 @@ before_trans (x ∷ xs) (y ∷ ys) (z ∷ zs) (inl l) (inr m) = inl (let e : y �
 before_trans (x ∷ xs) (y ∷ ys) (z ∷ zs) (inr l) (inl m) = inl (let e : x ≡ y = l.0 in omega arith)
 before_trans (x ∷ xs) (y ∷ ys) (z ∷ zs) (inr l) (inr m) = inr (l.0 ∙ m.0, before_trans xs ys zs l.1 m.1)
 
-placed_cases : (c : List ℕ) (ds : List (List ℕ)) (x : List ℕ) → In x (placed c ds) → (x ≡ c) ⊎ In x ds
+placed_cases : (c : List ℕ) (ds : List (List ℕ)) (x : List ℕ) → In x (insert_clause c ds) → (x ≡ c) ⊎ In x ds
 placed_cases c [] x i = In_cases i
 placed_cases c (d ∷ ds) x i = pick (comes_before c d) (comes_before d c) (placed_cases c ds x) i
   where
-    pick : (s t : Bool) → (In x (placed c ds) → (x ≡ c) ⊎ In x ds) → In x (cond s (c ∷ (d ∷ ds)) (cond t (d ∷ placed c ds) (d ∷ ds))) → (x ≡ c) ⊎ In x (d ∷ ds)
+    pick : (s t : Bool) → (In x (insert_clause c ds) → (x ≡ c) ⊎ In x ds) → In x (cond s (c ∷ (d ∷ ds)) (cond t (d ∷ insert_clause c ds) (d ∷ ds))) → (x ≡ c) ⊎ In x (d ∷ ds)
     pick true t f j = In_cases j
     pick false true f j = elim (In_cases j) [ inl e ↦ inr (subst (λ z. In x (z ∷ ds)) e here) | inr l ↦ elim (f l) [ inl e ↦ inl e | inr r ↦ inr (there r) ] ]
     pick false false f j = inr j
 
-placed_old : (c : List ℕ) (ds : List (List ℕ)) (x : List ℕ) → In x ds → In x (placed c ds)
+placed_old : (c : List ℕ) (ds : List (List ℕ)) (x : List ℕ) → In x ds → In x (insert_clause c ds)
 placed_old c [] x i = absurd (In_none i)
 placed_old c (d ∷ ds) x i = pick (comes_before c d) (comes_before d c) (placed_old c ds x)
   where
-    pick : (s t : Bool) → (In x ds → In x (placed c ds)) → In x (cond s (c ∷ (d ∷ ds)) (cond t (d ∷ placed c ds) (d ∷ ds)))
+    pick : (s t : Bool) → (In x ds → In x (insert_clause c ds)) → In x (cond s (c ∷ (d ∷ ds)) (cond t (d ∷ insert_clause c ds) (d ∷ ds)))
     pick true t f = there i
-    pick false true f = elim (In_cases i) [ inl e ↦ subst (λ z. In x (z ∷ placed c ds)) e here | inr j ↦ there (f j) ]
+    pick false true f = elim (In_cases i) [ inl e ↦ subst (λ z. In x (z ∷ insert_clause c ds)) e here | inr j ↦ there (f j) ]
     pick false false f = i
 
-placed_new : (c : List ℕ) (ds : List (List ℕ)) → In c (placed c ds)
+placed_new : (c : List ℕ) (ds : List (List ℕ)) → In c (insert_clause c ds)
 placed_new c [] = here
 placed_new c (d ∷ ds) = pick (comes_before c d) (comes_before d c) refl refl (placed_new c ds)
   where
-    pick : (s t : Bool) → comes_before c d ≡ s → comes_before d c ≡ t → In c (placed c ds) → In c (cond s (c ∷ (d ∷ ds)) (cond t (d ∷ placed c ds) (d ∷ ds)))
+    pick : (s t : Bool) → comes_before c d ≡ s → comes_before d c ≡ t → In c (insert_clause c ds) → In c (cond s (c ∷ (d ∷ ds)) (cond t (d ∷ insert_clause c ds) (d ∷ ds)))
     pick true t u v f = here
     pick false true u v f = there f
     pick false false u v f = subst (λ z. In c (z ∷ ds)) (neither_before c d u v) here
 
-placed_order : (c : List ℕ) (ds : List (List ℕ)) → InOrder ds → InOrder (placed c ds)
+placed_order : (c : List ℕ) (ds : List (List ℕ)) → InOrder ds → InOrder (insert_clause c ds)
 placed_order c [] a = ((λ d i. absurd (In_none i)), tt)
 placed_order c (d ∷ ds) a = pick (comes_before c d) (comes_before d c) refl refl (placed_order c ds a.1)
   where
-    pick : (s t : Bool) → comes_before c d ≡ s → comes_before d c ≡ t → InOrder (placed c ds) → InOrder (cond s (c ∷ (d ∷ ds)) (cond t (d ∷ placed c ds) (d ∷ ds)))
+    pick : (s t : Bool) → comes_before c d ≡ s → comes_before d c ≡ t → InOrder (insert_clause c ds) → InOrder (cond s (c ∷ (d ∷ ds)) (cond t (d ∷ insert_clause c ds) (d ∷ ds)))
     pick true t u v f =
         let l : Before c d = before_test c d u in
         ((λ x i. elim (In_cases i) [ inl e ↦ subst (λ z. Before c z) (sym e) l | inr j ↦ before_trans c d x l (a.0 x j) ]), a)
@@ -168,20 +168,20 @@ placed_order c (d ∷ ds) a = pick (comes_before c d) (comes_before d c) refl re
         ((λ x i. elim (placed_cases c ds x i) [ inl e ↦ subst (λ z. Before d z) (sym e) (before_test d c v) | inr j ↦ a.0 x j ]), f)
     pick false false u v f = a
 
-pub ordered_order : (cs : List (List ℕ)) → InOrder (ordered cs)
+pub ordered_order : (cs : List (List ℕ)) → InOrder (in_row_order cs)
 ordered_order [] = tt
-ordered_order (c ∷ cs) = placed_order c (ordered cs) (ordered_order cs)
+ordered_order (c ∷ cs) = placed_order c (in_row_order cs) (ordered_order cs)
 
-pub ordered_parts : (cs : List (List ℕ)) (x : List ℕ) → In x (ordered cs) → In x cs
+pub ordered_parts : (cs : List (List ℕ)) (x : List ℕ) → In x (in_row_order cs) → In x cs
 ordered_parts [] x i = absurd (In_none i)
-ordered_parts (c ∷ cs) x i = elim (placed_cases c (ordered cs) x i) [ inl e ↦ subst (λ z. In x (z ∷ cs)) e here | inr j ↦ there (ordered_parts cs x j) ]
+ordered_parts (c ∷ cs) x i = elim (placed_cases c (in_row_order cs) x i) [ inl e ↦ subst (λ z. In x (z ∷ cs)) e here | inr j ↦ there (ordered_parts cs x j) ]
 
-pub ordered_has : (cs : List (List ℕ)) (x : List ℕ) → In x cs → In x (ordered cs)
+pub ordered_has : (cs : List (List ℕ)) (x : List ℕ) → In x cs → In x (in_row_order cs)
 ordered_has [] x i = absurd (In_none i)
 ordered_has (c ∷ cs) x i =
     elim (In_cases i) [
-      | inl e ↦ subst (λ z. In z (placed c (ordered cs))) (sym e) (placed_new c (ordered cs))
-      | inr j ↦ placed_old c (ordered cs) x (ordered_has cs x j)
+      | inl e ↦ subst (λ z. In z (insert_clause c (in_row_order cs))) (sym e) (placed_new c (in_row_order cs))
+      | inr j ↦ placed_old c (in_row_order cs) x (ordered_has cs x j)
     ]
 
 -- numbers

@@ -27,15 +27,15 @@ comes_before [] (y ∷ ys) = true
 comes_before (x ∷ xs) [] = false
 comes_before (x ∷ xs) (y ∷ ys) = ltb x y || (eqb x y && comes_before xs ys)
 
-abbrev pub placed : List ℕ → List (List ℕ) → List (List ℕ)
-placed c [] = c ∷ []
-placed c (d ∷ ds) =
-    cond (comes_before c d) (c ∷ (d ∷ ds)) (cond (comes_before d c) (d ∷ placed c ds) (d ∷ ds))
+abbrev pub insert_clause : List ℕ → List (List ℕ) → List (List ℕ)
+insert_clause c [] = c ∷ []
+insert_clause c (d ∷ ds) =
+    cond (comes_before c d) (c ∷ (d ∷ ds)) (cond (comes_before d c) (d ∷ insert_clause c ds) (d ∷ ds))
 
 -- the clauses in lexicographic order, each once
-abbrev pub ordered : List (List ℕ) → List (List ℕ)
-ordered [] = []
-ordered (c ∷ cs) = placed c (ordered cs)
+abbrev pub in_row_order : List (List ℕ) → List (List ℕ)
+in_row_order [] = []
+in_row_order (c ∷ cs) = insert_clause c (in_row_order cs)
 
 -- so many numbers, from the given one on
 unfoldable pub numbers : ℕ → ℕ → List ℕ

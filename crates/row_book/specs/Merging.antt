@@ -5,7 +5,7 @@ use Rattle.std.specs.List.{list_any}
 use Rattle.std.specs.Cmp.Lexicographic.{pointwise}
 use Rattle.row_book.specs.Sets.{NumSet, has}
 use Rattle.row_book.specs.Repository.{Repository, against, clauses_of, conflicts_of}
-use Rattle.row_book.specs.Clauses.{apart_from, minimal_of, numbers, ordered}
+use Rattle.row_book.specs.Clauses.{apart_from, minimal_of, numbers, in_row_order}
 use Rattle.row_book.specs.Flattening.{packages}
 
 -- whether two packages have the same clauses and the same conflicts
@@ -56,7 +56,7 @@ clause_image R c = filter (image R (has c)) (classes R)
 
 -- the clauses of a class: the images of its packages' clauses that do not hold the class itself, and of these the minimal ones
 abbrev pub class_clauses : Repository → ℕ → List (List ℕ)
-class_clauses R k = ordered (minimal_of (apart_from k (map (clause_image R) (clauses_of R (first_of R k)))))
+class_clauses R k = in_row_order (minimal_of (apart_from k (map (clause_image R) (clauses_of R (first_of R k)))))
 
 -- the classes that conflict with a class, as their packages do
 abbrev pub class_conflicts : Repository → ℕ → List ℕ

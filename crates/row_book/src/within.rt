@@ -118,7 +118,13 @@ fn begins_with(pool: &Pool, id: ClauseId, number: u32) -> bool
 }
 
 /// Whether some clause that begins with the number is within the numbers.
-fn some_with(pool: &Pool, row: &[ClauseId], but: &Option<ClauseId>, numbers: &[u32], number: u32) -> bool
+fn some_with(
+    pool: &Pool,
+    row: &[ClauseId],
+    but: &Option<ClauseId>,
+    numbers: &[u32],
+    number: u32,
+) -> bool
     requires row { OfPool pool.now row.now }
     requires order { InOrder (clauses_at pool.now row.now) }
     requires but { ForSome but.now (λ other. other < length pool.now.clauses) }

@@ -2,7 +2,7 @@
 use Rattle.std.proofs.Common.{◌≡◌, ap, ◌++◌, ◌∙◌, sym, subst, filter}
 use Rattle.std.proofs.lemmas.Result.{IfOk-weaker}
 use Rattle.clause_pool.specs.Interned.{IsIdOf, OfPool, clauses_at, row_at}
-use Rattle.row_book.specs.Clauses.{apart_from, minimal_of, ordered, InOrder}
+use Rattle.row_book.specs.Clauses.{apart_from, minimal_of, in_row_order, InOrder}
 use Rattle.clause_flatten.specs.Families.{SameClauses, all_unions}
 use Rattle.clause_flatten.specs.TidyRows.{stays}
 use Rattle.clause_flatten.proofs.Families.{kept_trans, row_interned}
@@ -48,7 +48,7 @@ returns-clause-ok c =
     beside_lent c.args.pool.now c.args.spent c.args.row c.args.useful.now c.clause_count.ensures.sound c.requires.row c.requires.useful c.as_slice.result.now c.in_ok-unions.unions.items c.as_slice-3.result.now
     c.in_ok-ids.ids.items c.row-3.result.now c.row-3.ensures.lent c.in_ok-ids.ensures.ok c.as_slice.ensures.value c.as_slice-3.ensures.value in
     IfOk-weaker c.intern_row.result (IsIdOf c.intern_row.new.self.rows c.as_slice-4.result.now)
-    (λ id. row_at c.intern_row.new.self id ≡ minimal_of (ordered (apart_from c.args.spent (row_at c.args.pool.now c.args.row)
+    (λ id. row_at c.intern_row.new.self id ≡ minimal_of (in_row_order (apart_from c.args.spent (row_at c.args.pool.now c.args.row)
     ++ all_unions c.args.spent (row_at c.args.pool.now c.args.row) (clauses_at c.args.pool.now c.args.useful.now))))
     (λ id at.
     row_interned c.put_unions.new.pool c.intern_row.new.self c.as_slice-4.result.now id c.intern_row.ensures.kept

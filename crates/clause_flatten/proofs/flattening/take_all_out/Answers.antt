@@ -7,7 +7,7 @@ use Rattle.row_book.specs.Clauses.{numbers}
 use Rattle.row_book.specs.Flattening.{left_after, may_go, passed_by, passes}
 use Rattle.row_book.specs.Repository.{Repository}
 use Rattle.row_book.specs.Sets.{without}
-use Rattle.clause_flatten.specs.Substitution.{eliminated, length_in}
+use Rattle.clause_flatten.specs.Substitution.{table_without, length_in}
 use Rattle.clause_flatten.proofs.Flattened.{first_there, on_limit, run_empty, run_full, run_here, run_more, run_passed, run_size, run_start}
 use Rattle.clause_flatten.proofs.flattening.take_all_out.Goals as goal
 
@@ -58,7 +58,7 @@ returns-in_err-take_out-clause-passed c =
     let p = err_from_is_err_and c.from_residual.result c.from_residual.ensures.1 in
     rw (p.1, p.2)
     (on_limit
-    (λ w. passed_by (length_in (eliminated c.in-Some.next (map (row_at c.loop-gone.pool) c.loop-gone.rows))) (numbers (length c.loop-gone.rows) 0) c.args.limit (c.loop-gone.gone + 1) ≡ Some w)
+    (λ w. passed_by (length_in (table_without c.in-Some.next (map (row_at c.loop-gone.pool) c.loop-gone.rows))) (numbers (length c.loop-gone.rows) 0) c.args.limit (c.loop-gone.gone + 1) ≡ Some w)
     (λ w. passes (repository_of c.args.pool.now c.args.book.now) c.args.limit ≡ Some w)
     (λ w h. run_passed R c.args.limit c.loop-gone.gone c.args.pool.now c.loop-gone.pool c.loop-gone.rows c.loop-gone.uses c.loop-gone.waiting c.loop-gone.invariant c.in-Some.next
     (c.in-Some.ensures.first (may_go R (left_after R c.loop-gone.gone)) (length_in (map (row_at c.loop-gone.pool) c.loop-gone.rows)) c.loop-gone.invariant.filed)

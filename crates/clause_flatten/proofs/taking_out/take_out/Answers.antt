@@ -4,7 +4,7 @@ use Rattle.clause_pool.specs.Interned.{row_at}
 use Rattle.row_book.specs.Book.{listed_for}
 use Rattle.row_book.specs.Clauses.{numbers}
 use Rattle.row_book.proofs.Lists.{find_some}
-use Rattle.clause_flatten.specs.Substitution.{eliminated, length_in}
+use Rattle.clause_flatten.specs.Substitution.{table_without, length_in}
 use Rattle.clause_flatten.specs.TakingOut.{is_over}
 use Rattle.clause_flatten.proofs.Replacing.{users_are}
 use Rattle.clause_flatten.proofs.Runs.{filed_after, none_over, over_all, passed_some, users_ascending, users_below, uses_count}
@@ -37,8 +37,8 @@ clauses_in-requires-clause-there c =
 
 pub returns-in-Some-clause-passed : goal.returns-in-Some-clause-passed
 returns-in-Some-clause-passed c =
-    let new : List (List (List ℕ)) = eliminated c.args.step.«package» (map (row_at c.args.pool.now) c.args.rows.now) in
-    let made : map (row_at c.eliminate_for.new.pool) c.eliminate_for.new.rows ≡ eliminated c.args.step.«package» (map (row_at c.args.pool.now) c.args.rows.now) = c.in_ok-eliminate_for.ensures.ok in
+    let new : List (List (List ℕ)) = table_without c.args.step.«package» (map (row_at c.args.pool.now) c.args.rows.now) in
+    let made : map (row_at c.eliminate_for.new.pool) c.eliminate_for.new.rows ≡ table_without c.args.step.«package» (map (row_at c.args.pool.now) c.args.rows.now) = c.in_ok-eliminate_for.ensures.ok in
     passed_some new c.args.step.limit c.args.step.gone c.in-Some.over c.clauses_in.result (numbers (length c.args.rows.now) 0)
     (over_all c.args.pool.now c.args.rows.now c.args.step.«package» c.requires.there c.as_slice-3.result.now
     (c.as_slice-3.ensures.value ∙ c.in_ok-users.ensures.items ∙ c.packages.ensures ∙ ap (λ t. listed_for t c.args.step.«package») c.requires.table)
@@ -61,8 +61,8 @@ file_users-requires-clause-ascending c =
 
 pub returns-clause-within : goal.returns-clause-within
 returns-clause-within c =
-    let new : List (List (List ℕ)) = eliminated c.args.step.«package» (map (row_at c.args.pool.now) c.args.rows.now) in
-    let made : map (row_at c.eliminate_for.new.pool) c.eliminate_for.new.rows ≡ eliminated c.args.step.«package» (map (row_at c.args.pool.now) c.args.rows.now) = c.in_ok-eliminate_for.ensures.ok in
+    let new : List (List (List ℕ)) = table_without c.args.step.«package» (map (row_at c.args.pool.now) c.args.rows.now) in
+    let made : map (row_at c.eliminate_for.new.pool) c.eliminate_for.new.rows ≡ table_without c.args.step.«package» (map (row_at c.args.pool.now) c.args.rows.now) = c.in_ok-eliminate_for.ensures.ok in
     none_over new c.args.step.limit (length c.args.rows.now)
     (over_all c.args.pool.now c.args.rows.now c.args.step.«package» c.requires.there c.as_slice-3.result.now
     (c.as_slice-3.ensures.value ∙ c.in_ok-users.ensures.items ∙ c.packages.ensures ∙ ap (λ t. listed_for t c.args.step.«package») c.requires.table)

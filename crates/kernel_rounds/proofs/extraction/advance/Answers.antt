@@ -29,8 +29,8 @@ returns-clause-made c = λ R start s m.
     let changes : round (repository_of c.args.pool.now c.args.now.book) ≡ repository_of c.args.pool.now c.args.now.book → ⊥ =
     told_other c.args.pool.now c.one_round.new.pool c.args.now.book c.in-Ok.made.book c.clause_count.ensures.sound c.one_round.ensures.kept c.requires.sound c.in-Ok.ensures.round (sym c.same_books.ensures ∙ c.if-same_books.false) in (
       midway_more R c.args.limit start c.args.pool.now c.one_round.new.pool c.args.now.book c.in-Ok.made.book c.args.now.class_of.items c.in-Ok.made.class_of c.in_ok-next.next.items c.args.now.steps c.in-Ok.made.idle c.in_ok-steps.steps c.args.now.number c.saturating_add.result
-      s c.clause_count.ensures.sound m c.in-Ok.ensures.round c.in-Ok.ensures.classes c.in-Ok.ensures.idle c.in-Ok.ensures.sound c.in-Ok.ensures.within c.one_round.ensures.kept changes
-      (c.in_ok-next.ensures ∙ ap₂ (λ n cs. map (class_in n) cs) c.as_slice-3.ensures c.as_slice-2.ensures.value) c.in_ok-steps.ensures c.saturating_add.ensures,
+          s c.clause_count.ensures.sound m c.in-Ok.ensures.round c.in-Ok.ensures.classes c.in-Ok.ensures.idle c.in-Ok.ensures.sound c.in-Ok.ensures.within c.one_round.ensures.kept changes
+          (c.in_ok-next.ensures ∙ ap₂ (λ n cs. map (class_in n) cs) c.as_slice-3.ensures c.as_slice-2.ensures.value) c.in_ok-steps.ensures c.saturating_add.ensures,
       subst (λ z. round_count z < round_count (repository_of c.args.pool.now c.args.now.book)) (sym c.in-Ok.ensures.round)
-      (falls (repository_of c.args.pool.now c.args.now.book) (sound_repository c.args.pool.now c.args.now.book c.clause_count.ensures.sound c.requires.sound) changes),
+          (falls (repository_of c.args.pool.now c.args.now.book) (sound_repository c.args.pool.now c.args.now.book c.clause_count.ensures.sound c.requires.sound) changes),
     )

@@ -1,6 +1,6 @@
 use Rattle.std.proofs.Common.{◌∙◌, ap, subst, sym, map}
 use Rattle.clause_pool.specs.Interned.{clauses_at}
-use Rattle.row_book.specs.Clauses.{ordered, InOrder}
+use Rattle.row_book.specs.Clauses.{in_row_order, InOrder}
 use Rattle.row_book.proofs.Order.{ordered_order}
 use Rattle.repo_model.specs.Interning.{HasIds}
 use Rattle.repo_model.specs.Repository.{clause_of}
@@ -14,7 +14,7 @@ intern_row-requires-clause-in_order c =
 
 pub returns-clause-row : goal.returns-clause-row
 returns-clause-row c =
-    let clauses = ordered (map (clause_of c.args.home.now c.args.packages.now) c.args.elements.now) in
+    let clauses = in_row_order (map (clause_of c.args.home.now c.args.packages.now) c.args.elements.now) in
     let pool = c.intern_clauses.new.pool in
     row_made c.args.pool.now pool c.intern_row.new.self clauses c.deref.result.now c.in_ok-row.row
     (subst (λ ids. HasIds c.args.pool.now pool clauses ids) (sym c.deref.ensures.value) c.in_ok-ids.ensures.ids) c.intern_row.ensures.kept c.intern_row.ensures.clauses c.in_ok-row.ensures.ok

@@ -16,7 +16,7 @@ loop-low-preserved-then-begins_below c =
       omega arith,
       high,
       below_at c.args.pool.now c.args.row.now c.requires.order c.args.number (c.loop-low.low + (c.loop-low.high - c.loop-low.low) / 2) c.index-row-middle.result (omega (arith, high)) c.index-row-middle.is
-      c.if-begins_below.ensures.below,
+          c.if-begins_below.ensures.below,
       c.loop-low.invariant.3,
     )
 
@@ -28,5 +28,5 @@ loop-low-preserved c =
       omega (arith, high),
       c.loop-low.invariant.2,
       above_at c.args.pool.now c.args.row.now c.requires.order c.args.number (c.loop-low.low + (c.loop-low.high - c.loop-low.low) / 2) c.index-row-middle.result (omega (arith, high)) c.index-row-middle.is
-      c.if-begins_below.ensures.not_below,
+          c.if-begins_below.ensures.not_below,
     )

@@ -1,19 +1,39 @@
 -- The stages of the kernel of an index, by what the calls below answer.
-use Rattle.std.proofs.Common.{◌≡◌, ℕ, List, map, Some, None, Ok, Err, sym, ap, ◌∙◌}
+use Rattle.std.proofs.Common.{◌≡◌, ℕ, ◌+◌, ◌<◌, ◌≤◌, List, length, map, Some, None, Ok, Err, refl, sym, ap, ap₂, subst, ◌∙◌, arith}
+use Rattle.std.proofs.lemmas.List.{length-map}
+use Rattle.clause_pool.specs.Interned.{Interned, row_at}
+use Rattle.kernel_rounds.specs.Extracting.{IsExtracted}
+use Rattle.kernel_rounds.specs.declared.extraction.Kernel.{Kernel}
 use Rattle.relation_fields.specs.declared.packages.Home.{Home}
 use Rattle.relation_fields.specs.declared.packages.PackageFacts.{PackageFacts}
+use Rattle.repo_model.proofs.Accepted.{Accepted}
+use Rattle.repo_model.proofs.Packages.{length_clauses}
+use Rattle.repo_model.proofs.Form.{clause_form, conflict_two, conflict_turned, conflicts_order, form_lists}
 use Rattle.repo_model.specs.Facts.{facts_of}
 use Rattle.repo_model.specs.FirstFault.{first_fault, home_of, stanzas_of}
 use Rattle.repo_model.specs.Repository.{suite_repository}
 use Rattle.repo_model.specs.Stanzas.{stanza_at}
-use Rattle.row_book.specs.Flattening.{Passed, flat, passes}
-use Rattle.row_book.specs.Repository.{Repository}
+use Rattle.row_book.specs.Clauses.{InOrder}
+use Rattle.row_book.specs.Flattening.{flat, packages}
+use Rattle.row_book.specs.Repository.{Repository, clauses_of, conflicts_of}
+use Rattle.row_book.specs.Rounds.{PassedRound, kernel, kernel_class, limit_at, round_count}
+use Rattle.row_book.specs.Sets.{In}
+use Rattle.row_book.specs.Sound.{SoundRepository, TidyRepository}
+use Rattle.row_book.proofs.Lists.{In_has, In_map, In_map_cases, has_not}
+use Rattle.row_book.proofs.Order.{length_numbers, numbers_from, numbers_parts}
+use Rattle.kernel_rounds.specs.Laws.{IsKernel}
+use Rattle.kernel_rounds.proofs.Flattened.{flat_order, flat_tidy}
+use Rattle.kernel_rounds.proofs.Reached.{kernel_is_lem}
+use Rattle.kernel_rounds.proofs.Settling.{fixed_parts_lem}
+use Rattle.kernel_text.specs.Laws.{IsKernelOf}
+use Rattle.kernel_text.specs.Reading.{number_limit}
 use Rattle.coinst_run.specs.declared.answer.Cause.TheVariants.{ClauseLimit}
 use Rattle.coinst_run.specs.Answer.{refused}
 use Rattle.coinst_run.specs.Index.{Index, by_fault, checked_index, home_in, packages_in}
-use Rattle.coinst_run.specs.IndexKernel.{index_kernel}
-use Rattle.coinst_run.specs.Kernel.{by_limit, kernel_of}
+use Rattle.coinst_run.specs.IndexKernel.{ClassedKernel, classed_kernel, index_kernel}
+use Rattle.coinst_run.specs.Kernel.{FitsSuite, by_limit, kernel_of}
 use Rattle.coinst_run.specs.Lines.{limit_line}
+use Rattle.coinst_run.proofs.Classes.{HasPackage, class_met, class_within, classes_few}
 
 -- the packages that were read are those of the text
 pub index_accepted : (path text : List ℕ) (home : Home) (packages : List PackageFacts) → first_fault text ≡ None → packages ≡ map facts_of (stanzas_of text) → home.name ≡ home_of (stanzas_of text) →
@@ -25,16 +45,71 @@ index_accepted path text home packages accepted said at =
     ∙ ap (λ n. let h : Home = record { name = n } in Ok (index h (map facts_of (stanzas_of text)))) (sym at)
     ∙ ap (λ ps. Ok (index home ps)) (sym said)
 
--- the repository that was flattened is the kernel, where no row passes the limit
-pub kernel_made : (path : List ℕ) (limit : ℕ) (index : Index) (R F : Repository) → R ≡ suite_repository index.home index.packages → passes R limit ≡ None → F ≡ flat R → kernel_of path limit index ≡ Ok F
-unfolding index_kernel
-kernel_made path limit index R F is within made =
-    ap (by_limit path limit index) (ap (λ S. passes S limit) (sym is) ∙ within) ∙ ap (λ S. Ok (flat S)) (sym is) ∙ ap (λ S. Ok S) (sym made)
+-- the kernel that was extracted is that of the index, where no round passes the limit
+pub kernel_made : (path : List ℕ) (limit : ℕ) (index : Index) (R : Repository) (made : ClassedKernel) → R ≡ suite_repository index.home index.packages → limit_at R limit ≡ None →
+    made.repository ≡ kernel R → made.class_of ≡ map (kernel_class R) (packages R) → kernel_of path limit index ≡ Ok made
+unfolding index_kernel classed_kernel
+kernel_made path limit index R made is within book classes =
+    let both : Repository → List ℕ → ClassedKernel = λ r c. record { repository = r; class_of = c } in
+    ap (by_limit path limit index) (ap (λ S. limit_at S limit) (sym is) ∙ within) ∙ ap (λ S. Ok (classed_kernel S)) (sym is) ∙ ap₂ (λ r c. Ok (both r c)) (sym book) (sym classes)
 
--- and a row that passes the limit is told
-pub limit_told : (path : List ℕ) (limit : ℕ) (index : Index) (R : Repository) (passed : Passed) (facts : PackageFacts) (line : List ℕ) → R ≡ suite_repository index.home index.packages →
-    passes R limit ≡ Some passed → facts ≡ stanza_at index.packages passed.«package» → line ≡ limit_line path limit passed.gone facts passed.count →
+-- and a round that passes the limit is told
+pub limit_told : (path : List ℕ) (limit : ℕ) (index : Index) (R : Repository) (passed : PassedRound) (facts : PackageFacts) (line : List ℕ) → R ≡ suite_repository index.home index.packages →
+    limit_at R limit ≡ Some passed → facts ≡ stanza_at index.packages passed.«package» → line ≡ limit_line path limit passed.number passed.gone facts passed.count →
     kernel_of path limit index ≡ Err (refused ClauseLimit line)
 limit_told path limit index R passed facts line is passes_it said made =
-    ap (by_limit path limit index) (ap (λ S. passes S limit) (sym is) ∙ passes_it)
-    ∙ ap (λ x. Err (refused ClauseLimit x)) (ap (λ p. limit_line path limit passed.gone p passed.count) (sym said) ∙ sym made)
+    ap (by_limit path limit index) (ap (λ S. limit_at S limit) (sym is) ∙ passes_it)
+    ∙ ap (λ x. Err (refused ClauseLimit x)) (ap (λ p. limit_line path limit passed.number passed.gone p passed.count) (sym said) ∙ sym made)
+
+-- the repository of an index is sound
+pub suite_sound : (home : Home) (stanzas : List PackageFacts) → SoundRepository (suite_repository home stanzas)
+suite_sound home stanzas = record {
+  clauses = clause_form home stanzas;
+  count = form_lists home stanzas;
+  conflicts = record {
+    ascending = conflicts_order home stanzas;
+    either_way = conflict_turned home stanzas;
+    apart = λ p. has_not (conflicts_of (suite_repository home stanzas) p) p (λ i. conflict_two home stanzas p p (In_has i) refl);
+  };
+}
+
+-- the kernel of a sound repository, with the class of each of its packages, is one that can be written
+pub kernel_fits : (R : Repository) (stanzas : List PackageFacts) → SoundRepository R → length R.clauses ≡ length stanzas → Accepted stanzas → IsKernelOf (kernel R) stanzas (map (kernel_class R) (packages R))
+unfolding number_limit
+kernel_fits R stanzas s count accepted =
+    let k : IsKernel R = kernel_is_lem R s in
+    let fixed : flat (kernel R) ≡ kernel R = (fixed_parts_lem (kernel R) k.sound k.fixed).flattening in
+    let tidy : TidyRepository (kernel R) = subst TidyRepository fixed (flat_tidy (kernel R) k.sound) in
+    record {
+      clauses = k.sound.clauses;
+      conflict_lists = k.sound.count;
+      conflicts = k.sound.conflicts;
+      order = λ n. subst (λ F. InOrder (clauses_of F n)) fixed (flat_order (kernel R) n);
+      apart = tidy.apart;
+      few_classes = let few : length stanzas ≤ 200000 = accepted.few in let less : length (kernel R).clauses ≤ length R.clauses = classes_few (round_count R) R s in omega arith;
+      accepted = accepted;
+      each = length_numbers (kernel_class R) (length R.clauses) 0 ∙ count;
+      inside = λ class i.
+          let w : (p : ℕ) × In p (packages R) × (class ≡ kernel_class R p) = In_map_cases (kernel_class R) (packages R) class i in
+          let p : (0 ≤ w.0) × (w.0 < 0 + length R.clauses) = numbers_parts (length R.clauses) 0 w.0 w.1 in
+          subst (λ k. k < length (kernel R).clauses) (sym w.2) (class_within (round_count R) R s w.0 (omega (arith, p.1)));
+      populated = λ class l.
+          let w : HasPackage R (round_count R) class = class_met (round_count R) R s class l in
+          let within : w.by < length R.clauses = w.within in
+          subst (λ k. In k (map (kernel_class R) (packages R))) w.class (In_map (kernel_class R) (packages R) w.by (numbers_from (length R.clauses) 0 w.by (omega arith) (omega arith)));
+    }
+
+-- the kernel that was extracted has a class for each package
+pub extracted_fits : (home : Home) (stanzas : List PackageFacts) (R : Repository) (limit : ℕ) (old pool : Interned) (made : Kernel) → R ≡ suite_repository home stanzas →
+    IsExtracted R limit old pool made.book made.class_of made.trail.steps → FitsSuite pool stanzas made
+extracted_fits home stanzas R limit old pool made is w =
+    let s : SoundRepository R = subst SoundRepository (sym is) (suite_sound home stanzas) in
+    record {
+      sound = w.sound;
+      each = ap length w.class_of ∙ length_numbers (kernel_class R) (length R.clauses) 0 ∙ ap (λ S. length S.clauses) is ∙ length_clauses home stanzas;
+      inside = λ class i.
+          let v : (p : ℕ) × In p (packages R) × (class ≡ kernel_class R p) = In_map_cases (kernel_class R) (packages R) class (subst (λ cs. In class cs) w.class_of i) in
+          let p : (0 ≤ v.0) × (v.0 < 0 + length R.clauses) = numbers_parts (length R.clauses) 0 v.0 v.1 in
+          let l : kernel_class R v.0 < length (kernel R).clauses = class_within (round_count R) R s v.0 (omega (arith, p.1)) in
+          subst (λ n. class < n) (ap (λ S. length S.clauses) (sym w.is) ∙ length-map made.book.rows (row_at pool)) (subst (λ k. k < length (kernel R).clauses) (sym v.2) l);
+    }

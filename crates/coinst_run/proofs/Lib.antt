@@ -1,9 +1,7 @@
-pub mod Blocks
-pub mod Flattened
+pub mod Classes
 pub mod Follows
-pub mod Meaning
-pub mod KernelReads
 pub mod Kernels
+pub mod Meaning
 pub mod Members
 pub mod Runs
 pub mod Telling

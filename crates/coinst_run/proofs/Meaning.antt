@@ -1,75 +1,137 @@
 -- What the kernel text of an index means.
-use Rattle.std.proofs.Common.{◌≡◌, ℕ, Bool, true, false, cond, nat_lt, List, length, Option, Some, None, refl, subst}
+use Rattle.std.proofs.Common.{◌≡◌, ℕ, ◌<◌, Bool, true, false, cond, nat_lt, List, length, map, slice_index_or, Option, Some, None, refl, sym, ap, subst, ◌∙◌, arith, zero-add}
+use Rattle.std.specs.Prelude.{◌↔◌}
 use Rattle.byte_flow.specs.Flow.{Files}
+use Rattle.relation_fields.specs.declared.packages.Home.{Home}
+use Rattle.relation_fields.specs.declared.packages.PackageFacts.{PackageFacts}
+use Rattle.repo_model.specs.declared.fault.IndexFault.{IndexFault}
+use Rattle.repo_model.specs.FirstFault.{first_fault}
+use Rattle.repo_model.specs.Repository.{suite_repository}
+use Rattle.repo_model.specs.Stanzas.{CoinstStanzas, stanza_at}
+use Rattle.repo_model.proofs.Accepted.{Accepted}
+use Rattle.repo_model.proofs.Accepted as accepted
+use Rattle.repo_model.proofs.Healthy.{coinst_same}
+use Rattle.repo_model.proofs.Packages.{length_clauses}
+use Rattle.row_book.specs.Flattening.{packages}
+use Rattle.row_book.specs.Repository.{Repository, Coinst}
+use Rattle.row_book.specs.Rounds.{PassedRound, kernel, kernel_class, kernel_image, limit_at, round_count}
+use Rattle.row_book.specs.Sets.{Is, NumSet}
+use Rattle.row_book.proofs.Order.{at_numbers}
+use Rattle.kernel_rounds.specs.Laws.{HasImage}
+use Rattle.kernel_rounds.proofs.Reached.{image_is_of_classes_lem, kernel_keeps_lem}
+use Rattle.kernel_text.specs.KernelReads.{KernelReads}
+use Rattle.kernel_text.specs.KernelText.{kernel_text}
+use Rattle.kernel_text.specs.Laws.{IsKernelOf}
+use Rattle.kernel_text.specs.Members.{kernel_members}
+use Rattle.kernel_text.proofs.Classified.{kernels_are_writable}
+use Rattle.kernel_text.proofs.OneReading.{one_reading}
+use Rattle.kernel_text.proofs.ReadIsWritten.{read_is_written}
 use Rattle.coinst_run.specs.declared.answer.Verdict.{Verdict}
 use Rattle.coinst_run.specs.declared.answer.Verdict.TheVariants.{Done}
-use Rattle.coinst_run.specs.KernelText.{kernel_text}
 use Rattle.coinst_run.specs.declared.words.Job.{Job}
 use Rattle.coinst_run.specs.declared.words.Job.TheVariants.{Kernel}
 use Rattle.coinst_run.specs.Answer.{reported}
 use Rattle.coinst_run.specs.Course.{answers, then_on}
 use Rattle.coinst_run.specs.Index.{by_fault, home_in, index_in, packages_in}
-use Rattle.coinst_run.specs.IndexKernel.{index_kernel, index_members, index_kernel_text}
+use Rattle.coinst_run.specs.IndexKernel.{classed_kernel, index_kernel, members_for, text_for}
 use Rattle.coinst_run.specs.Kernel.{by_limit, kernel_answer}
-use Rattle.coinst_run.specs.Meaning.{KernelMeans, MeansJob}
+use Rattle.coinst_run.specs.Meaning.{KernelMeans, MeansJob, StandsOnce, classes_of}
 use Rattle.coinst_run.specs.Outcome.{answered, course_of, file_limit, outcome_over, over_file, too_long}
-use Rattle.repo_model.specs.declared.fault.IndexFault.{IndexFault}
-use Rattle.row_book.specs.Flattening.{Passed, passes}
-use Rattle.relation_fields.specs.declared.packages.PackageFacts.{PackageFacts}
-use Rattle.repo_model.specs.FirstFault.{first_fault}
-use Rattle.repo_model.specs.Repository.{suite_repository}
-use Rattle.clause_flatten.proofs.Flat.{flat_keeps_lem}
-use Rattle.row_book.specs.Flattening.{flat}
-use Rattle.row_book.specs.Repository.{Repository, Coinst}
-use Rattle.repo_model.proofs.Form.{conflict_packages}
-use Rattle.repo_model.proofs.Accepted.{Accepted}
-use Rattle.repo_model.proofs.Accepted as accepted
-use Rattle.repo_model.proofs.Healthy.{coinst_same}
-use Rattle.coinst_run.proofs.Members.{stands_once, class_member, member_class}
-use Rattle.coinst_run.proofs.KernelReads.{index_reads}
+use Rattle.coinst_run.proofs.Classes.{class_within}
+use Rattle.coinst_run.proofs.Kernels.{kernel_fits, suite_sound}
+use Rattle.coinst_run.proofs.Members.{class_from, class_parts, stands_once}
 
 formed : (text : List ℕ) → first_fault text ≡ None → Accepted (packages_in text)
 unfolding packages_in
 formed text e = accepted.accepted text e
 
-pub index_kernel_means : (text : List ℕ) → first_fault text ≡ None → KernelMeans text (index_kernel_text (home_in text) (packages_in text))
-unfolding index_kernel
+-- the kernel of an accepted index, with its members
+module _ (home : Home) (stanzas : List PackageFacts) (accepted : Accepted stanzas) where
+  abbrev classes : List ℕ
+  classes = map (kernel_class (suite_repository home stanzas)) (packages (suite_repository home stanzas))
+
+  abbrev size : ℕ
+  size = length (kernel (suite_repository home stanzas)).clauses
+
+  abbrev K : Repository
+  K = kernel (suite_repository home stanzas)
+
+  fits : IsKernelOf K stanzas classes
+  fits = kernel_fits (suite_repository home stanzas) stanzas (suite_sound home stanzas) (length_clauses home stanzas) accepted
+
+  class_is : (i : ℕ) → i < length stanzas → slice_index_or classes i 0 ≡ kernel_class (suite_repository home stanzas) i
+  class_is i l =
+      let k : i < length (suite_repository home stanzas).clauses = omega (arith, length_clauses home stanzas) in
+      at_numbers (kernel_class (suite_repository home stanzas)) 0 (length (suite_repository home stanzas).clauses) 0 i k ∙ ap (kernel_class (suite_repository home stanzas)) (zero-add i)
+
+  within : (i : ℕ) → i < length stanzas → slice_index_or classes i 0 < size
+  within i l =
+      let k : i < length (suite_repository home stanzas).clauses = omega (arith, length_clauses home stanzas) in
+      subst (λ n. n < size) (sym (class_is i l)) (class_within (round_count (suite_repository home stanzas)) (suite_repository home stanzas) (suite_sound home stanzas) i k)
+
+  pub stands : (i : ℕ) → i < length stanzas → StandsOnce size (kernel_members stanzas classes size) (stanza_at stanzas i)
+  stands i l = stands_once stanzas accepted.single classes fits.each size within i l
+
+  pub reads : KernelReads (kernel_text K (kernel_members stanzas classes size)) K (kernel_members stanzas classes size)
+  reads = (read_is_written (kernel_text K (kernel_members stanzas classes size)) K (kernel_members stanzas classes size)).1 (kernels_are_writable K stanzas classes fits, refl)
+
+  -- a set of stanzas is co-installable exactly when its classes are
+  pub keeps : (S : NumSet) → ((n : ℕ) → Is S n → n < length stanzas) →
+      (CoinstStanzas home stanzas S ↔ Coinst K (classes_of stanzas (kernel_members stanzas classes size) S))
+  keeps S small =
+      let few : (n : ℕ) → S n ≡ true → n < length (suite_repository home stanzas).clauses = λ n h. (let l : n < length stanzas = small n h in omega (arith, length_clauses home stanzas)) in
+      (
+        (λ c.
+            let k : Coinst K (kernel_image (suite_repository home stanzas) S) = (kernel_keeps_lem (suite_repository home stanzas) (suite_sound home stanzas) S few).0 ((coinst_same home stanzas S).0 c) in
+            record {
+              whole = k.whole;
+              healthy = k.healthy;
+              contains = λ n h.
+                  let w : (i : ℕ) × (i < length stanzas) × Is S i × (slice_index_or classes i 0 ≡ n) = class_parts stanzas accepted.single classes fits.each size within S n h in
+                  k.contains n ((image_is_of_classes_lem (suite_repository home stanzas) (suite_sound home stanzas) S few n).1
+                  (record { by = w.0; within = few w.0 w.2; inside = w.2; class = sym (class_is w.0 w.1) ∙ w.3 }));
+            }),
+        (λ c.
+            let k : Coinst K (kernel_image (suite_repository home stanzas) S) = record {
+              whole = c.whole;
+              healthy = c.healthy;
+              contains = λ n h.
+                  let w : HasImage (suite_repository home stanzas) S n = (image_is_of_classes_lem (suite_repository home stanzas) (suite_sound home stanzas) S few n).0 h in
+                  let l : w.by < length stanzas = small w.by w.inside in
+                  c.contains n (subst (λ z. Is (classes_of stanzas (kernel_members stanzas classes size) S) z) (class_is w.by l ∙ w.class) (class_from stanzas accepted.single classes fits.each size within S w.by l w.inside));
+            } in
+            (coinst_same home stanzas S).1 ((kernel_keeps_lem (suite_repository home stanzas) (suite_sound home stanzas) S few).1 k)),
+      )
+
+pub index_kernel_means : (text : List ℕ) → first_fault text ≡ None → KernelMeans text (text_for (packages_in text) (index_kernel (home_in text) (packages_in text)))
+unfolding index_kernel classed_kernel
 index_kernel_means text e =
-    let stanzas : List PackageFacts = packages_in text in
-    let f : Accepted stanzas = formed text e in
-    let R : Repository = suite_repository (home_in text) stanzas in
+    let f : Accepted (packages_in text) = formed text e in
+    let R : Repository = suite_repository (home_in text) (packages_in text) in
     record {
       accepted = e;
-      repository = flat R;
-      members = index_members stanzas;
-      reads = index_reads (home_in text) stanzas f;
+      repository = kernel R;
+      members = members_for (packages_in text) (index_kernel (home_in text) (packages_in text));
+      reads = reads (home_in text) (packages_in text) f;
+      once = one_reading (text_for (packages_in text) (index_kernel (home_in text) (packages_in text)));
       kernel = refl;
       people = refl;
-      stands = λ i l. stands_once stanzas f.single i l;
-      keeps = λ S small. (
-        (λ c.
-            let k : Coinst (flat R) S = (flat_keeps_lem R (conflict_packages (home_in text) stanzas) S).0 ((coinst_same (home_in text) stanzas S).0 c) in
-            record { whole = k.whole; healthy = k.healthy; contains = λ n h. k.contains n (class_member stanzas f.single S n h) }),
-        (λ c.
-            let k : Coinst (flat R) S = record { whole = c.whole; healthy = c.healthy; contains = λ n h. c.contains n (member_class stanzas S n (small n h) h) } in
-            (coinst_same (home_in text) stanzas S).1 ((flat_keeps_lem R (conflict_packages (home_in text) stanzas) S).1 k)),
-      );
+      stands = stands (home_in text) (packages_in text) f;
+      keeps = keeps (home_in text) (packages_in text) f;
     }
 
 -- the report of the command is the kernel text of the file's index, which is accepted
 module _ (path : List ℕ) (limit : ℕ) (files : Files) (verdict : Verdict) (report : List ℕ) where
-  kernel_limited : (text : List ℕ) (passed : Option Passed) → first_fault text ≡ None →
-      outcome_over files (then_on (by_limit path limit (index_in text) passed) (λ kernel. answers (reported Done (kernel_text kernel (index_members (packages_in text)))))) ≡ answered (reported verdict report) →
-      KernelMeans text report
-  unfolding index_kernel_text
+  kernel_limited : (text : List ℕ) (passed : Option PassedRound) → first_fault text ≡ None →
+      outcome_over files (then_on (by_limit path limit (index_in text) passed) (λ made. answers (reported Done (text_for (packages_in text) made)))) ≡ answered (reported verdict report) → KernelMeans text report
   kernel_limited text (Some passed) accepted e = absurd cc
   kernel_limited text None accepted e =
-      let same : index_kernel_text (home_in text) (packages_in text) ≡ report = cc in subst (KernelMeans text) same (index_kernel_means text accepted)
+      let same : text_for (packages_in text) (index_kernel (home_in text) (packages_in text)) ≡ report = cc in subst (KernelMeans text) same (index_kernel_means text accepted)
 
   kernel_checked : (text : List ℕ) (there : Option IndexFault) → first_fault text ≡ there → outcome_over files (then_on (by_fault path text there) (kernel_answer path limit)) ≡ answered (reported verdict report) →
       KernelMeans text report
   kernel_checked text (Some fault) is e = absurd cc
-  kernel_checked text None is e = kernel_limited text (passes (suite_repository (home_in text) (packages_in text)) limit) is e
+  kernel_checked text None is e = kernel_limited text (limit_at (suite_repository (home_in text) (packages_in text)) limit) is e
 
   kernel_fitting : (text : List ℕ) (b : Bool) → cond b (answered (too_long path)) (outcome_over files (then_on (by_fault path text (first_fault text)) (kernel_answer path limit))) ≡ answered (reported verdict report) →
       KernelMeans text report

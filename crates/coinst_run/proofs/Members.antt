@@ -1,24 +1,24 @@
 -- The members of the classes of an index: each stanza alone in its class.
-use Rattle.std.proofs.Common.{◌≡◌, ℕ, zero, suc, ◌+◌, ◌<◌, ◌≤◌, true, false, ◌&&◌, List, [], ◌∷◌, length, inl, inr, refl, sym, ◌∙◌, ap, subst, arith}
-use Rattle.std.specs.List.{list_any, flat_map, sum_by}
+use Rattle.std.proofs.Common.{◌≡◌, ℕ, zero, suc, ◌+◌, ◌<◌, ◌≤◌, true, ◌&&◌, List, [], ◌∷◌, ◌++◌, length, eqb, slice_index_or, inl, inr, refl, sym, ◌∙◌, ap, subst, arith, eq-eqb, eqb-true}
+use Rattle.std.specs.List.{flat_map}
 use Rattle.std.specs.Ordering.{is_eq}
 use Rattle.std.specs.Str.{bytes_eq}
-use Rattle.std.proofs.lemmas.Bool.{cases_lt, and_parts, and_from, or_left, false≢true, both_ways}
-use Rattle.std.proofs.lemmas.List.{get_or_past}
-use Rattle.std.proofs.lemmas.List.Concat.{length-flat_map}
+use Rattle.std.proofs.lemmas.Bool.{and_parts, and_from, both_ways}
 use Rattle.std.proofs.lemmas.Slice.Eq.{bytes_eq-Decides}
+use Rattle.kernel_text.specs.KernelText.{members_of}
+use Rattle.kernel_text.specs.Members.{file_members, kernel_members, member_in}
+use Rattle.kernel_text.specs.declared.member.Member.{Member}
 use Rattle.repo_model.proofs.Accepted.{AreSingle}
-use Rattle.coinst_run.specs.IndexKernel.{member_of, index_members}
 use Rattle.repo_model.specs.Facts.{is_same_package}
 use Rattle.repo_model.specs.Repository.{packages_of}
-use Rattle.coinst_run.specs.KernelReads as reads
-use Rattle.coinst_run.specs.KernelText.{Member, members_of}
 use Rattle.coinst_run.specs.Meaning.{is_line_of, is_in_class, classes_of, StandsOnce}
 use Rattle.relation_fields.specs.declared.packages.PackageFacts.{PackageFacts}
 use Rattle.repo_model.specs.Stanzas.{stanza_at, no_stanza}
 use Rattle.deb_version.specs.Order.{version_order}
+use Rattle.row_book.specs.Clauses.{numbers}
 use Rattle.row_book.specs.Sets.{NumSet, Is, In, here, there}
-use Rattle.row_book.proofs.Lists.{In_cases, In_none, any_from, any_cases}
+use Rattle.row_book.proofs.Lists.{In_append_cases, In_append_left, In_append_right, In_cases, In_none, any_from, any_cases, filter_cases, filter_from}
+use Rattle.row_book.proofs.Order.{numbers_from}
 use Rattle.repo_model.proofs.Elements.{at_place, range_from, range_cases}
 use Rattle.deb_version.proofs.TotalOrder.{version_total_up_to_ties}
 
@@ -27,19 +27,6 @@ same_text a b h = (bytes_eq-Decides a b).0 h
 
 pub text_same : (a b : List ℕ) → a ≡ b → bytes_eq a b ≡ true
 text_same a b e = (bytes_eq-Decides a b).1 e
-
--- the members of a class
-pub members_at : (stanzas : List PackageFacts) (n : ℕ) → n < length stanzas → members_of (index_members stanzas) n ≡ (member_of (stanza_at stanzas n) ∷ [])
-members_at [] n l = absurd (omega arith)
-members_at (s ∷ stanzas) zero l = refl
-members_at (s ∷ stanzas) (suc n) l = members_at stanzas n (omega arith)
-
-pub length_members : (stanzas : List PackageFacts) → length (index_members stanzas) ≡ length stanzas
-length_members [] = refl
-length_members (s ∷ stanzas) = ap suc (length_members stanzas)
-
-pub members_past : (stanzas : List PackageFacts) (n : ℕ) → length stanzas ≤ n → members_of (index_members stanzas) n ≡ []
-members_past stanzas n l = get_or_past (index_members stanzas) n [] (omega (arith, length_members stanzas))
 
 -- a package with the name and the version of another is the same package
 same_package : (s t : PackageFacts) → s.name ≡ t.name → s.version ≡ t.version → is_same_package s t ≡ true
@@ -58,99 +45,93 @@ place_of_package (s ∷ stanzas) d (suc i) zero l m e f =
     absurd (both_ways (is_same_package (stanza_at stanzas i) s) (d.0 (stanza_at stanzas i) (at_place stanzas i no_stanza (omega arith))) (same_package (stanza_at stanzas i) s e f))
 place_of_package (s ∷ stanzas) d (suc i) (suc j) l m e f = ap suc (place_of_package stanzas d.1 i j (omega arith) (omega arith) e f)
 
--- a stanza's class is the one with its number
-own_class : (stanzas : List PackageFacts) (i : ℕ) → i < length stanzas → is_in_class (index_members stanzas) (stanza_at stanzas i) i ≡ true
-own_class stanzas i l =
-    let s : PackageFacts = stanza_at stanzas i in
-    subst (λ ms. list_any (is_line_of s) ms ≡ true) (sym (members_at stanzas i l))
-    (or_left (is_line_of s (member_of s)) false
-    (and_from (bytes_eq s.name s.name) (bytes_eq s.version s.version) (text_same s.name s.name refl) (text_same s.version s.version refl)))
-
--- the stanza of a class has its member's name and version
-record IsClassOf (stanzas : List PackageFacts) (s : PackageFacts) (n : ℕ) : Type 0 where
-  inside : n < length stanzas
-  name : (stanza_at stanzas n).name ≡ s.name
-  version : (stanza_at stanzas n).version ≡ s.version
-
-class_of : (stanzas : List PackageFacts) (s : PackageFacts) (n : ℕ) → is_in_class (index_members stanzas) s n ≡ true → IsClassOf stanzas s n
-class_of stanzas s n h =
-    elim (cases_lt n (length stanzas)) [
-      | inl l ↦ member l (any_cases (is_line_of s) (members_of (index_members stanzas) n) h)
-      | inr g ↦ absurd (false≢true (subst (λ ms. list_any (is_line_of s) ms ≡ true) (members_past stanzas n g) h))
+-- an element of one of the lists, and so of all together
+flat_cases : {X A : Type 0} (f : X → List A) (xs : List X) (y : A) → In y (flat_map f xs) → (x : X) × In x xs × In y (f x)
+flat_cases f [] y i = absurd (In_none i)
+flat_cases f (x ∷ xs) y i =
+    elim (In_append_cases (f x) (flat_map f xs) y i) [
+      | inl j ↦ (x, here, j)
+      | inr j ↦ let w = flat_cases f xs y j in (w.0, there w.1, w.2)
     ]
-  where
-    member : n < length stanzas → (m : Member) × In m (members_of (index_members stanzas) n) × (is_line_of s m ≡ true) → IsClassOf stanzas s n
-    member l w =
-        let i : In w.0 (member_of (stanza_at stanzas n) ∷ []) = subst (λ ms. In w.0 ms) (members_at stanzas n l) w.1 in
-        let e : w.0 ≡ member_of (stanza_at stanzas n) = elim (In_cases i) [ inl e ↦ e | inr j ↦ absurd (In_none j) ] in
-        let p : (bytes_eq w.0.name s.name ≡ true) × (bytes_eq w.0.version s.version ≡ true) = and_parts (bytes_eq w.0.name s.name) (bytes_eq w.0.version s.version) w.2 in
-        record {
-          inside = l;
-          name = ap (λ m. m.name) (sym e) ∙ same_text w.0.name s.name p.0;
-          version = ap (λ m. m.version) (sym e) ∙ same_text w.0.version s.version p.1;
-        }
 
-pub class_of_stanza : (stanzas : List PackageFacts) → AreSingle stanzas → (i n : ℕ) → i < length stanzas →
-    is_in_class (index_members stanzas) (stanza_at stanzas i) n ≡ true → n ≡ i
-class_of_stanza stanzas d i n l h =
-    let w : IsClassOf stanzas (stanza_at stanzas i) n = class_of stanzas (stanza_at stanzas i) n h in
-    place_of_package stanzas d n i w.inside l w.name w.version
-
--- each stanza stands once
-pub stands_once : (stanzas : List PackageFacts) → AreSingle stanzas → (i : ℕ) → i < length stanzas → StandsOnce (index_members stanzas) (stanza_at stanzas i)
-stands_once stanzas d i l = record {
-  at = i;
-  inside = omega (arith, length_members stanzas);
-  found = own_class stanzas i l;
-  only = λ n h. class_of_stanza stanzas d i n l h;
-}
-
--- the classes of a set of stanzas are the set itself
-pub class_member : (stanzas : List PackageFacts) → AreSingle stanzas → (S : NumSet) (n : ℕ) → Is (classes_of stanzas (index_members stanzas) S) n → Is S n
-class_member stanzas d S n h =
-    let w : (i : ℕ) × In i (packages_of stanzas) × ((S i && is_in_class (index_members stanzas) (stanza_at stanzas i) n) ≡ true) =
-    any_cases (λ i. S i && is_in_class (index_members stanzas) (stanza_at stanzas i) n) (packages_of stanzas) h in
-    let r : (0 ≤ w.0) × (w.0 < 0 + length stanzas) = range_cases (length stanzas) 0 w.0 w.1 in
-    let p : (S w.0 ≡ true) × (is_in_class (index_members stanzas) (stanza_at stanzas w.0) n ≡ true) =
-    and_parts (S w.0) (is_in_class (index_members stanzas) (stanza_at stanzas w.0) n) w.2 in
-    subst (λ k. S k ≡ true) (sym (class_of_stanza stanzas d w.0 n (omega arith) p.1)) p.0
-
-pub member_class : (stanzas : List PackageFacts) (S : NumSet) (n : ℕ) → n < length stanzas → Is S n → Is (classes_of stanzas (index_members stanzas) S) n
-member_class stanzas S n l h =
-    any_from (λ i. S i && is_in_class (index_members stanzas) (stanza_at stanzas i) n) (packages_of stanzas) n
-    (range_from (length stanzas) 0 n (omega arith) (omega arith))
-    (and_from (S n) (is_in_class (index_members stanzas) (stanza_at stanzas n) n) h (own_class stanzas n l))
-
--- all members in one list
-joined : List PackageFacts → List Member
-joined stanzas = flat_map (λ ms. ms) (index_members stanzas)
-
-joined_cases : (stanzas : List PackageFacts) (o : Member) → In o (joined stanzas) → (t : PackageFacts) × In t stanzas × (o ≡ member_of t)
-unfolding joined
-joined_cases [] o i = absurd (In_none i)
-joined_cases (s ∷ stanzas) o i =
+flat_from : {X A : Type 0} (f : X → List A) (xs : List X) (x : X) (y : A) → In x xs → In y (f x) → In y (flat_map f xs)
+flat_from f [] x y i j = absurd (In_none i)
+flat_from f (z ∷ xs) x y i j =
     elim (In_cases i) [
-      | inl e ↦ (s, here, e)
-      | inr j ↦ let w : (t : PackageFacts) × In t stanzas × (o ≡ member_of t) = joined_cases stanzas o j in (w.0, there w.1, w.2)
+      | inl e ↦ In_append_left (f z) (flat_map f xs) y (subst (λ w. In y (f w)) e j)
+      | inr k ↦ In_append_right (f z) (flat_map f xs) y (flat_from f xs x y k j)
     ]
 
-length_joined : (stanzas : List PackageFacts) → length (joined stanzas) ≡ length stanzas
-unfolding joined
-length_joined [] = refl
-length_joined (s ∷ stanzas) = ap suc (length_joined stanzas)
+-- the members of the file, by their places
+file_at : (stanzas : List PackageFacts) (class_of : List ℕ) → length class_of ≡ length stanzas → (m : Member) → In m (file_members stanzas class_of) →
+    (j : ℕ) × (j < length stanzas) × (m ≡ member_in (slice_index_or class_of j 0) (stanza_at stanzas j))
+file_at [] class_of e m i = absurd (In_none i)
+file_at (s ∷ stanzas) [] e m i = absurd (omega (arith, e))
+file_at (s ∷ stanzas) (c ∷ class_of) e m i =
+    elim (In_cases i) [
+      | inl same ↦ (0, (omega arith), same)
+      | inr j ↦ let w : (j : ℕ) × (j < length stanzas) × (m ≡ member_in (slice_index_or class_of j 0) (stanza_at stanzas j)) = file_at stanzas class_of (omega (arith, e)) m j in (suc w.0, (omega (arith, w.1)), w.2)
+    ]
 
--- no member line names the package of an earlier one
-pub members_single : (stanzas : List PackageFacts) → AreSingle stanzas → reads.AreSingle (flat_map (λ ms. ms) (index_members stanzas))
-unfolding joined
-members_single [] d = tt
-members_single (s ∷ stanzas) d = (
-  (λ o i.
-      let t : (t : PackageFacts) × In t stanzas × (o ≡ member_of t) = joined_cases stanzas o i in
-      subst (λ m. reads.is_same_package m (member_of s) ≡ false) (sym t.2) (d.0 t.0 t.1)),
-  members_single stanzas d.1,
-)
+file_from : (stanzas : List PackageFacts) (class_of : List ℕ) → length class_of ≡ length stanzas → (j : ℕ) → j < length stanzas →
+    In (member_in (slice_index_or class_of j 0) (stanza_at stanzas j)) (file_members stanzas class_of)
+file_from [] class_of e j l = absurd (omega arith)
+file_from (s ∷ stanzas) [] e j l = absurd (omega (arith, e))
+file_from (s ∷ stanzas) (c ∷ class_of) e zero l = here
+file_from (s ∷ stanzas) (c ∷ class_of) e (suc j) l = there (file_from stanzas class_of (omega (arith, e)) j (omega arith))
 
--- a stanza has one member line
-pub members_count : (stanzas : List PackageFacts) → sum_by length (index_members stanzas) ≡ length stanzas
-unfolding joined
-members_count stanzas = sym (length-flat_map (λ (ms : List Member). ms) (index_members stanzas)) ∙ length_joined stanzas
+-- the stanzas of an index, of which none is the package of an earlier one, each with one of so many classes
+module _ (stanzas : List PackageFacts) (single : AreSingle stanzas) (class_of : List ℕ) (each : length class_of ≡ length stanzas)
+    (size : ℕ) (inside : (i : ℕ) → i < length stanzas → slice_index_or class_of i 0 < size) where
+  abbrev all : List Member
+  all = kernel_members stanzas class_of size
+
+  abbrev class_at : ℕ → ℕ
+  class_at i = slice_index_or class_of i 0
+
+  -- a stanza has a member line in its class
+  own_class : (i : ℕ) → i < length stanzas → is_in_class all (stanza_at stanzas i) (class_at i) ≡ true
+  unfolding kernel_members
+  own_class i l =
+      let s : PackageFacts = stanza_at stanzas i in
+      let m : Member = member_in (class_at i) s in
+      let of_class : In m (members_of (file_members stanzas class_of) (class_at i)) =
+      filter_from (λ (o : Member). eqb o.class (class_at i)) (file_members stanzas class_of) m (file_from stanzas class_of each i l) (eq-eqb (class_at i) (class_at i) refl) in
+      let listed : In m all = flat_from (members_of (file_members stanzas class_of)) (numbers size 0) (class_at i) m (numbers_from size 0 (class_at i) (omega arith) (let k : class_at i < size = inside i l in omega arith)) of_class in
+      any_from (is_line_of s) (members_of all (class_at i)) m
+      (filter_from (λ (o : Member). eqb o.class (class_at i)) all m listed (eq-eqb (class_at i) (class_at i) refl))
+      (and_from (bytes_eq s.name s.name) (bytes_eq s.version s.version) (text_same s.name s.name refl) (text_same s.version s.version refl))
+
+  -- and in no other
+  only_class : (i n : ℕ) → i < length stanzas → is_in_class all (stanza_at stanzas i) n ≡ true → n ≡ class_at i
+  unfolding kernel_members
+  only_class i n l h =
+      let s : PackageFacts = stanza_at stanzas i in
+      let w : (m : Member) × In m (members_of all n) × (is_line_of s m ≡ true) = any_cases (is_line_of s) (members_of all n) h in
+      let of_class : In w.0 all × (eqb w.0.class n ≡ true) = filter_cases (λ (o : Member). eqb o.class n) all w.0 w.1 in
+      let block : (k : ℕ) × In k (numbers size 0) × In w.0 (members_of (file_members stanzas class_of) k) = flat_cases (members_of (file_members stanzas class_of)) (numbers size 0) w.0 of_class.0 in
+      let filed : In w.0 (file_members stanzas class_of) = (filter_cases (λ (o : Member). eqb o.class block.0) (file_members stanzas class_of) w.0 block.2).0 in
+      let at : (j : ℕ) × (j < length stanzas) × (w.0 ≡ member_in (class_at j) (stanza_at stanzas j)) = file_at stanzas class_of each w.0 filed in
+      let p : (bytes_eq w.0.name s.name ≡ true) × (bytes_eq w.0.version s.version ≡ true) = and_parts (bytes_eq w.0.name s.name) (bytes_eq w.0.version s.version) w.2 in
+      let same : at.0 ≡ i =
+      place_of_package stanzas single at.0 i at.1 l (ap (λ (m : Member). m.name) (sym at.2) ∙ same_text w.0.name s.name p.0) (ap (λ (m : Member). m.version) (sym at.2) ∙ same_text w.0.version s.version p.1) in
+      sym (eqb-true w.0.class n of_class.1) ∙ ap (λ (m : Member). m.class) at.2 ∙ ap class_at same
+
+  -- each stanza stands once
+  pub stands_once : (i : ℕ) → i < length stanzas → StandsOnce size all (stanza_at stanzas i)
+  stands_once i l = record { at = class_at i; inside = inside i l; found = own_class i l; only = λ n h. only_class i n l h }
+
+  -- a class of a set of stanzas is that of one of them
+  pub class_parts : (S : NumSet) (n : ℕ) → Is (classes_of stanzas all S) n → (i : ℕ) × (i < length stanzas) × Is S i × (class_at i ≡ n)
+  class_parts S n h =
+      let w : (i : ℕ) × In i (packages_of stanzas) × ((S i && is_in_class all (stanza_at stanzas i) n) ≡ true) =
+      any_cases (λ i. S i && is_in_class all (stanza_at stanzas i) n) (packages_of stanzas) h in
+      let l : (0 ≤ w.0) × (w.0 < 0 + length stanzas) = range_cases (length stanzas) 0 w.0 w.1 in
+      let k : w.0 < length stanzas = omega (arith, l.1) in
+      let p : (S w.0 ≡ true) × (is_in_class all (stanza_at stanzas w.0) n ≡ true) = and_parts (S w.0) (is_in_class all (stanza_at stanzas w.0) n) w.2 in
+      (w.0, k, p.0, sym (only_class w.0 n k p.1))
+
+  pub class_from : (S : NumSet) (i : ℕ) → i < length stanzas → Is S i → Is (classes_of stanzas all S) (class_at i)
+  class_from S i l h =
+      any_from (λ j. S j && is_in_class all (stanza_at stanzas j) (class_at i)) (packages_of stanzas) i (range_from (length stanzas) 0 i (omega arith) (omega arith))
+      (and_from (S i) (is_in_class all (stanza_at stanzas i) (class_at i)) h (own_class i l))

@@ -1,22 +1,31 @@
--- The kernel that is printed for an index. So far it is the flattened repository of the index, each package a
--- class of its own.
-use Rattle.std.specs.Prelude.{ℕ, List, [], ◌∷◌, map}
+-- The kernel of an index: that of its repository, with the packages of each class as its members.
+use Rattle.std.specs.Prelude.{ℕ, List, length, map}
+use Rattle.kernel_text.specs.KernelText.{kernel_text}
+use Rattle.kernel_text.specs.Members.{kernel_members}
+use Rattle.kernel_text.specs.declared.member.Member.{Member}
 use Rattle.relation_fields.specs.declared.packages.Home.{Home}
 use Rattle.relation_fields.specs.declared.packages.PackageFacts.{PackageFacts}
 use Rattle.repo_model.specs.Repository.{suite_repository}
-use Rattle.coinst_run.specs.KernelText.{Member, Members, kernel_text}
-use Rattle.row_book.specs.Flattening.{flat}
+use Rattle.row_book.specs.Flattening.{packages}
 use Rattle.row_book.specs.Repository.{Repository}
+use Rattle.row_book.specs.Rounds.{kernel, kernel_class}
 
-abbrev pub member_of : PackageFacts → Member
-member_of s = record { name = s.name; version = s.version }
+-- a repository of classes, and for each package its class
+pub record ClassedKernel : Type 0 where
+  pub repository : Repository
+  pub class_of : List ℕ
 
-abbrev pub index_members : List PackageFacts → Members
-index_members stanzas = map (λ s. member_of s ∷ []) stanzas
+-- the kernel of a repository
+unfoldable pub classed_kernel : Repository → ClassedKernel
+classed_kernel R = record { repository = kernel R; class_of = map (kernel_class R) (packages R) }
 
--- the kernel of an index, so far its repository, flattened
-unfoldable pub index_kernel : Home → List PackageFacts → Repository
-index_kernel home stanzas = flat (suite_repository home stanzas)
+unfoldable pub index_kernel : Home → List PackageFacts → ClassedKernel
+index_kernel home packages = classed_kernel (suite_repository home packages)
 
-unfoldable pub index_kernel_text : Home → List PackageFacts → List ℕ
-index_kernel_text home stanzas = kernel_text (index_kernel home stanzas) (index_members stanzas)
+-- the members of its classes
+abbrev pub members_for : List PackageFacts → ClassedKernel → List Member
+members_for packages made = kernel_members packages made.class_of (length made.repository.clauses)
+
+-- its text
+abbrev pub text_for : List PackageFacts → ClassedKernel → List ℕ
+text_for packages made = kernel_text made.repository (members_for packages made)

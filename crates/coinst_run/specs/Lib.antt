@@ -3,7 +3,6 @@ pub use Rattle.repo_model.specs.FirstFault
 pub use Rattle.repo_model.specs.Repository
 pub use Rattle.repo_model.specs.Stanzas
 pub mod Answer
-pub mod Blocks
 pub mod Course
 pub mod Delivers
 pub mod Ending
@@ -12,8 +11,6 @@ pub mod Follows
 pub mod Index
 pub mod IndexKernel
 pub mod Kernel
-pub mod KernelReads
-pub mod KernelText
 pub mod Lines
 pub mod Meaning
 pub mod Outcome

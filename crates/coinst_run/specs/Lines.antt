@@ -60,13 +60,13 @@ fault_text Memory = codes "out of memory"
 unfoldable pub fault_line : List ℕ → IndexFault → List ℕ
 fault_line path fault = about path (fault_text fault)
 
--- which limit was passed, and when so many packages were gone. So far there is one round of reductions
-abbrev pub stage_text : ℕ → ℕ → List ℕ
-stage_text limit gone = codes "clause limit " ++ decimal limit ++ codes " passed: round 1, gone " ++ decimal gone
+-- which limit was passed, and when: in which round, counted from 1, and how many packages were gone in it
+abbrev pub stage_text : ℕ → ℕ → ℕ → List ℕ
+stage_text limit round gone = codes "clause limit " ++ decimal limit ++ codes " passed: round " ++ decimal round ++ codes ", gone " ++ decimal gone
 
 -- the package that passed it, and the number of its clauses
 abbrev pub row_text : PackageFacts → ℕ → List ℕ
 row_text facts count = codes ", package " ++ facts.name ++ codes " " ++ facts.version ++ codes ", clauses " ++ decimal count
 
-unfoldable pub limit_line : List ℕ → ℕ → ℕ → PackageFacts → ℕ → List ℕ
-limit_line path limit gone facts count = about path (stage_text limit gone ++ row_text facts count)
+unfoldable pub limit_line : List ℕ → ℕ → ℕ → ℕ → PackageFacts → ℕ → List ℕ
+limit_line path limit round gone facts count = about path (stage_text limit round gone ++ row_text facts count)

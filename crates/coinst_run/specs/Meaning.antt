@@ -3,18 +3,20 @@ use Rattle.std.specs.Prelude.{◌≡◌, ℕ, ◌<◌, Bool, true, ◌&&◌, ◌
 use Rattle.std.specs.List.{list_any}
 use Rattle.std.specs.Str.{bytes_eq}
 use Rattle.coinst_run.specs.Index.{home_in, packages_in}
-use Rattle.coinst_run.specs.IndexKernel.{index_kernel, index_members}
-use Rattle.coinst_run.specs.KernelReads.{KernelReads}
-use Rattle.coinst_run.specs.KernelText.{Member, Members, members_of}
+use Rattle.coinst_run.specs.IndexKernel.{index_kernel, members_for}
+use Rattle.kernel_text.specs.KernelReads.{HasOneReading, KernelReads}
+use Rattle.kernel_text.specs.KernelText.{members_of}
+use Rattle.kernel_text.specs.declared.member.Member.{Member}
 use Rattle.relation_fields.specs.declared.packages.PackageFacts.{PackageFacts}
 use Rattle.repo_model.specs.FirstFault.{first_fault}
-use Rattle.repo_model.specs.Repository.{packages_of}
+use Rattle.repo_model.specs.Repository.{packages_of, suite_repository}
 use Rattle.repo_model.specs.Stanzas.{stanza_at, CoinstStanzas}
 use Rattle.coinst_run.specs.Words.{job_of}
 use Rattle.coinst_run.specs.declared.words.Job.{Job}
 use Rattle.coinst_run.specs.declared.words.Job.TheVariants.{Kernel}
 use Rattle.byte_flow.specs.Flow.{Files}
 use Rattle.row_book.specs.Repository.{Repository, Coinst}
+use Rattle.row_book.specs.Rounds.{kernel}
 use Rattle.row_book.specs.Sets.{NumSet, Is}
 
 -- the member line has the stanza's name and version
@@ -22,31 +24,33 @@ abbrev pub is_line_of : PackageFacts → Member → Bool
 is_line_of s m = bytes_eq m.name s.name && bytes_eq m.version s.version
 
 -- the class has a member line of the stanza
-abbrev pub is_in_class : Members → PackageFacts → ℕ → Bool
+abbrev pub is_in_class : List Member → PackageFacts → ℕ → Bool
 is_in_class members s n = list_any (is_line_of s) (members_of members n)
 
 -- the classes of a set of stanzas: those with a member line of one of them
-abbrev pub classes_of : List PackageFacts → Members → NumSet → NumSet
+abbrev pub classes_of : List PackageFacts → List Member → NumSet → NumSet
 classes_of stanzas members S n = list_any (λ i. S i && is_in_class members (stanza_at stanzas i) n) (packages_of stanzas)
 
--- a stanza's one class
-pub record StandsOnce (members : Members) (s : PackageFacts) : Type 0 where
+-- a stanza's one class, of so many
+pub record StandsOnce (classes : ℕ) (members : List Member) (s : PackageFacts) : Type 0 where
   pub at : ℕ
-  pub inside : at < length members
+  pub inside : at < classes
   pub found : is_in_class members s at ≡ true
   pub only : (n : ℕ) → is_in_class members s n ≡ true → n ≡ at
 
--- The text is an index without a fault, and the printed bytes read as a repository of classes with their members: the
--- kernel of the index. Each stanza stands in one class, and a set of stanzas is co-installable, judged on
--- the stanzas alone, exactly when its classes are co-installable in the repository that the bytes read as.
+-- The text is an index without a fault, and the printed bytes read, by the grammar of the format, for exactly one
+-- repository and list of members: the kernel of the index. Each stanza stands in one class, and a set of stanzas is
+-- co-installable, judged on the stanzas alone, exactly when its classes are co-installable in the repository that the
+-- bytes read as.
 pub record KernelMeans (text printed : List ℕ) : Type 0 where
   pub accepted : first_fault text ≡ None
   pub repository : Repository
-  pub members : Members
+  pub members : List Member
   pub reads : KernelReads printed repository members
-  pub kernel : repository ≡ index_kernel (home_in text) (packages_in text)
-  pub people : members ≡ index_members (packages_in text)
-  pub stands : (i : ℕ) → i < length (packages_in text) → StandsOnce members (stanza_at (packages_in text) i)
+  pub once : HasOneReading printed
+  pub kernel : repository ≡ kernel (suite_repository (home_in text) (packages_in text))
+  pub people : members ≡ members_for (packages_in text) (index_kernel (home_in text) (packages_in text))
+  pub stands : (i : ℕ) → i < length (packages_in text) → StandsOnce (length repository.clauses) members (stanza_at (packages_in text) i)
   pub keeps : (S : NumSet) → ((n : ℕ) → Is S n → n < length (packages_in text)) →
       (CoinstStanzas (home_in text) (packages_in text) S ↔ Coinst repository (classes_of (packages_in text) members S))
 

@@ -6,10 +6,10 @@ ghost use Rattle.coinst_run.specs.Index.{index_of};
 ghost use Rattle.coinst_run.specs.Kernel.{kernel_answer, kernel_course};
 
 use crate::answer::{Report, Stop, Verdict};
-use crate::kernel_text::kernel_text;
 use crate::stages::{kernel_of, suite_at};
 use byte_flow::Shelf;
 use clause_pool::Pool;
+use kernel_text::write_kernel;
 use repo_model::Suite;
 use std::alloc::Global;
 
@@ -36,6 +36,6 @@ fn kernel_report(alloc: Global, suite: &Suite, path: &str, limit: u32) -> Result
     let kernel = kernel_of(alloc, &mut pool, suite, path, limit)?;
     Ok(Report {
         verdict: Verdict::Done,
-        text: kernel_text(alloc, suite, &pool, &kernel)?,
+        text: write_kernel(alloc, &pool, suite, &kernel)?,
     })
 }

@@ -4,7 +4,6 @@
 mod answer;
 mod deliver;
 mod kernel;
-mod kernel_text;
 mod lines;
 mod stages;
 mod status;

@@ -109,12 +109,14 @@ pub fn too_long_line(alloc: Global, path: &str) -> Result<Vec<u8>, AllocError>
 
 // Puts which limit was passed, and when, behind the line.
 #[tactic(auto, using(crate::proofs::Texts::appended))]
-fn push_stage(line: &mut Vec<u8>, limit: u64, gone: u64) -> Result<(), AllocError>
-    ensures { OnOk result (line.new.items ≡ line.old.items ++ stage_text limit gone) }
+fn push_stage(line: &mut Vec<u8>, limit: u64, round: u64, gone: u64) -> Result<(), AllocError>
+    ensures { OnOk result (line.new.items ≡ line.old.items ++ stage_text limit round gone) }
 {
     line.extend_from_slice(b"clause limit ")?;
     push_number(line, limit)?;
-    line.extend_from_slice(b" passed: round 1, gone ")?;
+    line.extend_from_slice(b" passed: round ")?;
+    push_number(line, round)?;
+    line.extend_from_slice(b", gone ")?;
     push_number(line, gone)
 }
 
@@ -131,22 +133,23 @@ fn push_row(line: &mut Vec<u8>, facts: &PackageFacts, count: u64) -> Result<(), 
     push_number(line, count)
 }
 
-/// The line of a package that has more clauses than the limit allows, when so many packages are gone; it fails only where
-/// no memory is found.
+/// The line of a package that has more clauses than the limit allows, when so many packages are gone in a round; it fails
+/// only where no memory is found.
 #[tactic(auto, using(crate::proofs::Texts::appended), unfolding(crate::specs::Lines::limit_line))]
 pub fn limit_line(
     alloc: Global,
     path: &str,
     limit: u64,
+    round: u64,
     gone: u64,
     facts: &PackageFacts,
     count: u64,
 ) -> Result<Vec<u8>, AllocError>
-    ensures { IfOk result (λ line. line.items ≡ limit_line path.now limit gone facts.now count) }
+    ensures { IfOk result (λ line. line.items ≡ limit_line path.now limit round gone facts.now count) }
 {
     let mut line = Vec::from_slice(alloc, path.as_bytes())?;
     line.extend_from_slice(b": ")?;
-    push_stage(&mut line, limit, gone)?;
+    push_stage(&mut line, limit, round, gone)?;
     push_row(&mut line, facts, count)?;
     line.extend_from_slice(b"\n")?;
     Ok(line)

@@ -1,22 +1,20 @@
 //! The parts of commands: a file read whole, an index checked, its kernel.
 ghost use Rattle.std.specs.Prelude.{◌≡◌, ◌<◌, ◌≤◌, ℕ, List, length, Ok, IfOk, IfErr, IfSome};
-ghost use Rattle.row_book.specs.Book.{repository_of, Sound};
 ghost use Rattle.coinst_run.specs.Ending.{StopsAt, stop_ending};
 ghost use Rattle.coinst_run.specs.Course.{Course, reads};
 ghost use Rattle.coinst_run.specs.Faults.{fault_cause};
 ghost use Rattle.coinst_run.specs.Follows.{Follows, ReachesIndex, WasRead};
 ghost use Rattle.coinst_run.specs.Index.{Index, checked_index, index_of, reads_index};
-ghost use Rattle.coinst_run.specs.Kernel.{kernel_of};
+ghost use Rattle.coinst_run.specs.Kernel.{FitsSuite, kernel_in, kernel_of};
 ghost use Rattle.coinst_run.specs.Outcome.{answered, too_long, unread};
 
 use crate::answer::{Cause, Stop};
 use crate::lines::{fault_line, limit_line, too_long_line};
 use crate::words::PathText;
 use byte_flow::{ReadError, Shelf, read_file};
-use clause_flatten::{FlatError, flatten};
 use clause_pool::Pool;
+use kernel_rounds::{Kernel, RoundError, extract};
 use repo_model::{IndexFault, Suite, read_suite};
-use row_book::Book;
 use std::alloc::Global;
 
 /// The most bytes that a file may have.
@@ -108,37 +106,45 @@ pub fn suite_at<F: Shelf>(alloc: Global, shelf: &mut F, path: &str) -> Result<Su
     checked_index(alloc, path, text.as_slice())
 }
 
-/// The kernel of an index, as a book over the pool, or the package that passed the clause limit.
+/// The kernel of an index over the pool, or the package that passed the clause limit.
 pub fn kernel_of(
     alloc: Global,
     pool: &mut Pool,
     suite: &Suite,
     path: &str,
     limit: u32,
-) -> Result<Book, Stop>
+) -> Result<Kernel, Stop>
     requires { 0 < limit }
-    ensures kernel { IfOk result (λ kernel. kernel_of path.now limit (index_of suite.now) ≡ Ok (repository_of pool.new kernel)) }
-    ensures size { IfOk result (λ kernel. length kernel.rows ≡ length suite.now.packages) }
-    ensures sound { IfOk result (Sound pool.new) }
+    ensures kernel { IfOk result (λ kernel. kernel_of path.now limit (index_of suite.now) ≡ Ok (kernel_in pool.new kernel)) }
+    ensures fits { IfOk result (FitsSuite pool.new suite.now.packages) }
     ensures stop { IfErr result (λ stop. StopsAt (kernel_of path.now limit (index_of suite.now)) (stop_ending stop)) }
 {
     let book = suite.book(alloc, pool)?;
-    match flatten(alloc, pool, &book, limit) {
+    match extract(alloc, pool, &book, limit) {
         Ok(kernel) => Ok(kernel),
         Err(
-            FlatError::Limit {
+            RoundError::Limit {
+                round,
                 gone,
                 package,
                 count,
             },
         ) => {
             let facts = &suite.packages.as_slice()[package as usize];
-            let line = limit_line(alloc, path, u64::from(limit), u64::from(gone), facts, count)?;
+            let line = limit_line(
+                alloc,
+                path,
+                u64::from(limit),
+                u64::from(round),
+                u64::from(gone),
+                facts,
+                count,
+            )?;
             Err(Stop::Refused {
                 cause: Cause::ClauseLimit,
                 line,
             })
         }
-        Err(FlatError::Memory) => Err(Stop::Memory),
+        Err(RoundError::Memory) => Err(Stop::Memory),
     }
 }

@@ -19,7 +19,6 @@ use Rattle.row_book.proofs.Order.{length_numbers, numbers_from, numbers_parts}
 use Rattle.class_merge.proofs.Classes.{alike_self, first_within, has_class_lem}
 use Rattle.class_merge.proofs.Groups.{class_unique}
 use Rattle.kernel_rounds.proofs.Flattened.{flat_size}
-use Rattle.kernel_rounds.proofs.Reached.{rounds_sound}
 use Rattle.kernel_rounds.proofs.Tails.{round_size, round_sound, thin_tail}
 use Rattle.kernel_rounds.proofs.Thins.{filter_short}
 

@@ -81,9 +81,7 @@ kernel_fits R stanzas s count accepted =
     let fixed : flat (kernel R) ≡ kernel R = (fixed_parts_lem (kernel R) k.sound k.fixed).flattening in
     let tidy : TidyRepository (kernel R) = subst TidyRepository fixed (flat_tidy (kernel R) k.sound) in
     record {
-      clauses = k.sound.clauses;
-      conflict_lists = k.sound.count;
-      conflicts = k.sound.conflicts;
+      sound = k.sound;
       order = λ n. subst (λ F. InOrder (clauses_of F n)) fixed (flat_order (kernel R) n);
       apart = tidy.apart;
       few_classes = let few : length stanzas ≤ 200000 = accepted.few in let less : length (kernel R).clauses ≤ length R.clauses = classes_few (round_count R) R s in omega arith;

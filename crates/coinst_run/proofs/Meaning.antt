@@ -79,8 +79,7 @@ module _ (home : Home) (stanzas : List PackageFacts) (accepted : Accepted stanza
   pub keeps : (S : NumSet) → ((n : ℕ) → Is S n → n < length stanzas) →
       (CoinstStanzas home stanzas S ↔ Coinst K (classes_of stanzas (kernel_members stanzas classes size) S))
   keeps S small =
-      let few : (n : ℕ) → S n ≡ true → n < length (suite_repository home stanzas).clauses = λ n h. (let l : n < length stanzas = small n h in omega (arith, length_clauses home stanzas)) in
-      (
+      let few : (n : ℕ) → S n ≡ true → n < length (suite_repository home stanzas).clauses = λ n h. (let l : n < length stanzas = small n h in omega (arith, length_clauses home stanzas)) in (
         (λ c.
             let k : Coinst K (kernel_image (suite_repository home stanzas) S) = (kernel_keeps_lem (suite_repository home stanzas) (suite_sound home stanzas) S few).0 ((coinst_same home stanzas S).0 c) in
             record {

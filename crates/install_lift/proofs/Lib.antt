@@ -1,0 +1,5 @@
+pub mod Lowering
+pub mod Trimmed
+pub mod Steps
+pub mod Lifted
+pub mod Through

@@ -1,0 +1,100 @@
+-- Flags of sets, and the steps of lifting on them.
+use Rattle.std.proofs.Common.{◌≡◌, ℕ, zero, suc, ◌+◌, ◌<◌, ◌≤◌, Bool, true, false, not, ◌&&◌, ◌||◌, eqb, cond, List, [], ◌∷◌, length, get_or, set, drop, replicate, map, refl, sym, ap, ◌∙◌, subst, arith, inl, inr}
+use Rattle.std.proofs.Math.Path.{fun_ext}
+use Rattle.std.proofs.Math.ListN.{get_or-eq_default}
+use Rattle.std.proofs.Math.Numerals.{add-one}
+use Rattle.std.proofs.Math.Seq.{drop-cons}
+use Rattle.std.specs.List.{list_any}
+use Rattle.std.proofs.lemmas.Bool.{cases_lt, cases_eq, lt-ltb, le-ltb, eq-eqb, ne_eqb, false_from_ne_true}
+use Rattle.std.proofs.lemmas.List.{get_or-set_same, get_or-set_other, length-map, length-replicate}
+use Rattle.clause_pool.specs.Interned.{Interned, IsPool}
+use Rattle.row_book.specs.Sets.{NumSet, plus, union}
+use Rattle.row_book.specs.Repository.{Repository, Healthy}
+use Rattle.row_book.specs.Flags.{flag}
+use Rattle.row_book.specs.Pruning.{lift_idle}
+use Rattle.row_book.specs.Rounds.{kernel, kernel_steps}
+use Rattle.row_book.specs.Book.{repository_of, Sound}
+use Rattle.row_book.specs.declared.book.Book.{Book}
+use Rattle.row_book.proofs.BookRepositories.{book_size, sound_repository}
+use Rattle.install_lift.specs.Laws.{HoldsMembers}
+use Rattle.install_lift.proofs.Lifted.{lift_is_healthy}
+use Rattle.row_book.specs.Trail.{step_meaning, trail_meaning}
+use Rattle.row_book.specs.declared.trail.Step.{Step}
+use Rattle.install_lift.specs.Lifting.{members_by, IsLift, IsLiftThrough}
+
+-- past the flags nothing is up
+flag_past : (flags : List Bool) (n : ℕ) → length flags ≤ n → flag flags n ≡ false
+flag_past flags n le = get_or-eq_default flags false le
+
+-- as many flags as the longer set has
+pub union_is : (first second made : List Bool) (size : ℕ) → length first ≤ size → length second ≤ size → length made ≡ size
+    → ((n : ℕ) → n < size → flag made n ≡ (flag first n || flag second n)) → flag made ≡ union (flag first) (flag second)
+union_is first second made size a b long each = fun_ext (λ n. elim (cases_lt n size) [
+  | inl lt ↦ each n lt
+  | inr ge ↦ flag_past made n (omega arith) ∙ sym (ap (λ x. x || flag second n) (flag_past first n (omega arith)) ∙ flag_past second n (omega arith))
+])
+
+-- one flag alone
+pub only_is : (n size : ℕ) → n < size → flag (set (replicate size false) n true) ≡ (λ m. eqb m n)
+only_is n size lt = fun_ext (λ m. elim (cases_eq m n) [
+  | inl e ↦ rw e (get_or-set_same (replicate size false) n true false (rw length-replicate lt) ∙ sym (eq-eqb n n refl))
+  | inr ne ↦ get_or-set_other (replicate size false) n m true false ne ∙ none size m ∙ sym (ne_eqb m n ne)
+])
+  where
+    none : (k m : ℕ) → flag (replicate k false) m ≡ false
+    none zero m = refl
+    none (suc k) zero = refl
+    none (suc k) (suc m) = none k m
+
+-- the classes of packages
+pub members_is : (class_of : List ℕ) (K : NumSet) (made : List Bool) → made ≡ map (λ k. K k) class_of → flag made ≡ members_by class_of K
+members_is class_of K made e = rw e (fun_ext (λ p. elim (cases_lt p (length class_of)) [
+  | inl lt ↦ at class_of p lt ∙ sym (ap (λ b. b && K (get_or class_of p 0)) (lt-ltb p (length class_of) lt))
+  | inr ge ↦ flag_past (map (λ k. K k) class_of) p (rw (length-map class_of (λ k. K k)) ge) ∙ sym (ap (λ b. b && K (get_or class_of p 0)) (le-ltb p (length class_of) ge))
+]))
+  where
+    at : (xs : List ℕ) (p : ℕ) → p < length xs → flag (map (λ k. K k) xs) p ≡ K (get_or xs p 0)
+    at [] p lt = absurd (omega arith)
+    at (x ∷ xs) zero lt = refl
+    at (x ∷ xs) (suc p) lt = at xs p (omega arith)
+
+-- where the member is not wanted, the set stays
+pub idle_stays : (I : NumSet) (p : ℕ) (d : List ℕ) (x : ℕ) → (I p && not (list_any I d)) ≡ false → lift_idle I p d x ≡ I
+idle_stays I p d x e = ap (λ b. cond b (plus I x) I) e
+
+pub idle_puts : (I : NumSet) (p : ℕ) (d : List ℕ) (x : ℕ) → I p ≡ true → list_any I d ≡ false → lift_idle I p d x ≡ plus I x
+idle_puts I p d x there_it_is free = ap (λ b. cond b (plus I x) I) (ap (λ b. b && not (list_any I d)) there_it_is ∙ ap not free)
+
+-- one step more
+pub lift_more : (pool : Interned) (steps : List Step) (k : ℕ) (step : Step) (classes before after : NumSet) → k < length steps → step ≡ get_or steps k step
+    → IsLift (trail_meaning pool (drop (k + 1) steps)) classes before → IsLiftThrough (step_meaning pool step) before after → IsLift (trail_meaning pool (drop k steps)) classes after
+lift_more pool steps k step classes before after lt is lifts through =
+    let cut : drop k steps ≡ step ∷ drop (k + 1) steps = rw add-one (drop-cons steps k step lt ∙ ap (λ s. s ∷ drop (suc k) steps) (sym is)) in
+    rw cut (before, lifts, through)
+
+-- all packages are among so many flags
+pub front_is : (R : Repository) (flags made : List Bool) (size : ℕ) → length R.clauses ≡ size → Healthy R (flag flags) → length made ≡ size → ((n : ℕ) → n < size → flag made n ≡ flag flags n) → flag made ≡ flag flags
+front_is R flags made size count healthy long each = fun_ext (λ n. elim (cases_lt n size) [
+  | inl lt ↦ each n lt
+  | inr ge ↦ flag_past made n (omega arith) ∙ sym (false_from_ne_true (flag flags n) (λ h. let lt = healthy.packages n h in omega arith))
+])
+
+-- what is promised of the flags that are handed out
+pub record IsLifted (R : Repository) (classes : NumSet) (made : List Bool) : Type 0 where
+  pub lift : IsLift (kernel_steps R) classes (flag made)
+  pub healthy : Healthy R (flag made)
+  pub holds : HoldsMembers R classes (flag made)
+
+pub lifted_flags : (pool : Interned) (from to : Book) (steps : List Step) (classes : NumSet) (flags made : List Bool) (size : ℕ) → IsPool pool → Sound pool from → repository_of pool to ≡ kernel (repository_of pool from)
+    → trail_meaning pool steps ≡ kernel_steps (repository_of pool from) → Healthy (repository_of pool to) classes → IsLift (trail_meaning pool steps) classes (flag flags)
+    → size ≡ length from.rows → length made ≡ size → ((n : ℕ) → n < size → flag made n ≡ flag flags n) → IsLifted (repository_of pool from) classes made
+lifted_flags pool from to steps classes flags made size is sound kernel_is trail healthy lifts count long each =
+    let R = repository_of pool from in
+    let through : IsLift (kernel_steps R) classes (flag flags) = subst (λ x. IsLift x classes (flag flags)) trail lifts in
+    let both = lift_is_healthy R classes (flag flags) (sound_repository pool from is sound) (subst (λ K. Healthy K classes) kernel_is healthy) through in
+    let same : flag made ≡ flag flags = front_is R flags made size (book_size pool from ∙ sym count) both.0 long each in
+    record {
+      lift = subst (λ T. IsLift (kernel_steps R) classes T) (sym same) through;
+      healthy = subst (λ T. Healthy R T) (sym same) both.0;
+      holds = subst (λ T. HoldsMembers R classes T) (sym same) both.1;
+    }

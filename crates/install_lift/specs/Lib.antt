@@ -1,0 +1,4 @@
+pub mod Raising
+pub mod Trimming
+pub mod Lifting
+pub mod Laws

@@ -1,0 +1,50 @@
+-- Trimming: as few of the chosen packages as the open needs ask for, one after another.
+use Rattle.std.specs.Prelude.{◌≡◌, ℕ, ◌<◌, Bool, true, false, not, cond, List, [], ◌++◌, Option, Some, None}
+use Rattle.std.specs.List.{list_any, find, flat_map}
+use Rattle.row_book.specs.Sets.{NumSet, Within, HitsAll, plus}
+use Rattle.row_book.specs.Repository.{Repository, Healthy, clauses_of}
+use Rattle.row_book.specs.Flattening.{packages}
+
+-- the clauses of a package that is in the set
+abbrev pub member_clauses : Repository → NumSet → ℕ → List (List ℕ)
+member_clauses R S p = cond (S p) (clauses_of R p) []
+
+-- the set does not hit the clause
+abbrev pub is_unhit : NumSet → List ℕ → Bool
+is_unhit S c = not (list_any S c)
+
+-- the first open need: a goal that the set does not hit, goals in order, and then such a clause of a member, members
+-- ascending, the clauses of each in order
+abbrev pub first_need : Repository → List (List ℕ) → NumSet → Option (List ℕ)
+first_need R goals S = find (is_unhit S) (goals ++ flat_map (member_clauses R S) (packages R))
+
+-- from the first set the second comes: as long as there is an open need, the first of its members that is chosen is put in
+pub data Trims (R : Repository) (goals : List (List ℕ)) (chosen : NumSet) : NumSet → NumSet → Type 0 where
+  ends : {S : NumSet} → first_need R goals S ≡ None → Trims R goals chosen S S
+  puts : {S T : NumSet} (c : List ℕ) (n : ℕ) → first_need R goals S ≡ Some c → find chosen c ≡ Some n → Trims R goals chosen (plus S n) T → Trims R goals chosen S T
+
+-- from no package
+abbrev pub IsTrim : Repository → List (List ℕ) → NumSet → NumSet → Type 0
+IsTrim R goals chosen T = Trims R goals chosen (λ n. false) T
+
+-- the trim of a healthy set that hits every goal is a healthy part of it that hits every goal
+pub record IsHealthyPart (R : Repository) (goals : List (List ℕ)) (chosen T : NumSet) : Type 0 where
+  pub healthy : Healthy R T
+  pub hits : HitsAll T goals
+  pub part : Within T chosen
+
+abbrev pub TrimIsHealthy : Type 0
+TrimIsHealthy = (R : Repository) (goals : List (List ℕ)) (chosen T : NumSet) → Healthy R chosen → HitsAll chosen goals → IsTrim R goals chosen T → IsHealthyPart R goals chosen T
+
+-- there is one trim alone
+abbrev pub TrimIsOne : Type 0
+TrimIsOne = (R : Repository) (goals : List (List ℕ)) (chosen S T : NumSet) → IsTrim R goals chosen S → IsTrim R goals chosen T → T ≡ S
+
+-- while it is trimmed: what comes from this set comes from no package, and it is a part of what is chosen
+pub record IsTrimming (R : Repository) (goals : List (List ℕ)) (chosen S : NumSet) : Type 0 where
+  pub leads : (T : NumSet) → Trims R goals chosen S T → IsTrim R goals chosen T
+  pub part : Within S chosen
+
+-- the set hits each clause of each member below the place
+abbrev pub AreMet : Repository → NumSet → ℕ → Type 0
+AreMet R S place = (p : ℕ) → p < place → S p ≡ true → find (is_unhit S) (clauses_of R p) ≡ None

@@ -1,0 +1,23 @@
+//! The laws of lifting and of trimming: the functions do nothing, the contract of each is one law.
+ghost use Rattle.install_lift.specs.Laws.{LiftIsHealthy, LiftIsOne};
+ghost use Rattle.install_lift.specs.Trimming.{TrimIsHealthy, TrimIsOne};
+
+/// A lifted set is healthy, and holds each package of each class that it came from.
+pub fn lift_is_healthy()
+    ensures { LiftIsHealthy }
+{}
+
+/// A set is lifted in one way alone.
+pub fn lift_is_one()
+    ensures { LiftIsOne }
+{}
+
+/// The trim of a healthy set that hits every goal is a healthy part of it that hits every goal.
+pub fn trim_is_healthy()
+    ensures { TrimIsHealthy }
+{}
+
+/// There is no other trim.
+pub fn trim_is_one()
+    ensures { TrimIsOne }
+{}

@@ -1,0 +1,145 @@
+//! Trimming: as few of the chosen packages as the open needs ask for.
+ghost use Rattle.std.specs.Prelude.{◌≡◌, ◌<◌, ◌≤◌, ℕ, Bool, true, false, List, [], Some, None, IfOk, IfSome, IfNone, All, replicate, length, slice_set};
+ghost use Rattle.std.specs.List.{list_any, find};
+ghost use Rattle.clause_pool.specs.Interned.{clause_at, clauses_at, OfPool};
+ghost use Rattle.row_book.specs.Sets.{HitsAll};
+ghost use Rattle.row_book.specs.Repository.{Healthy};
+ghost use Rattle.row_book.specs.Book.{repository_of, Sound};
+ghost use Rattle.row_book.specs.Flags.{flag};
+ghost use Rattle.row_book.specs.Needs.{NeedsFit};
+ghost use Rattle.install_lift.specs.Trimming.{is_unhit, AreMet, IsHealthyPart, IsTrim, IsTrimming};
+
+use crate::raising::is_up;
+use clause_pool::{ClauseId, FlagList, Pool};
+use listed::Listed;
+use row_book::{Book, Needs};
+use std::alloc::{AllocError, Global};
+
+/// Whether the clause is hit.
+pub(crate) fn hits_one(set: &[bool], clause: &[u32]) -> bool
+    ensures { result ≡ list_any (flag set.now) clause.now }
+{
+    clause.iter().any(|n| is_up(set, *n))
+}
+
+/// The first clause that is not hit.
+fn first_unhit(pool: &Pool, set: &[bool], ids: &[ClauseId]) -> Option<ClauseId>
+    requires { OfPool pool.now ids.now }
+    ensures none { IfNone result (find (is_unhit (flag set.now)) (clauses_at pool.now ids.now) ≡ None) }
+    ensures some { IfSome result (λ id. find (is_unhit (flag set.now)) (clauses_at pool.now ids.now) ≡ Some (clause_at pool.now id)) }
+    ensures within { IfSome result (λ id. id < length pool.now.clauses) }
+{
+    for id in ids {
+        if !hits_one(set, pool.slice(*id)) {
+            return Some(*id);
+        }
+    }
+    None
+}
+
+/// The first member of the clause that is chosen.
+fn first_chosen(chosen: &[bool], clause: &[u32]) -> Option<u32>
+    ensures { result ≡ find (flag chosen.now) clause.now }
+{
+    clause.iter().copied().find(|n| is_up(chosen, *n))
+}
+
+/// Puts in the first chosen member of a clause, and answers it.
+fn put_first(chosen: &[bool], set: &mut [bool], clause: &[u32]) -> u32
+    requires hit { list_any (flag chosen.now) clause.now ≡ true }
+    requires long { length set.old ≡ length chosen.now }
+    ensures first { find (flag chosen.now) clause.now ≡ Some result }
+    ensures put { set.new ≡ slice_set set.old result true }
+{
+    match first_chosen(chosen, clause) {
+        Some(n) => {
+            set[n as usize] = true;
+            n
+        }
+        None => unreachable!(),
+    }
+}
+
+/// Puts in what the goals ask for.
+fn trim_goals(pool: &Pool, book: &Book, goals: &Needs, chosen: &[bool], set: &mut [bool])
+    requires hits { HitsAll (flag chosen.now) goals.now }
+    requires long { length set.old ≡ length chosen.now }
+    requires trimming { IsTrimming (repository_of pool.now book.now) goals.now (flag chosen.now) (flag set.old) }
+    ensures long { length set.new ≡ length set.old }
+    ensures trimming { IsTrimming (repository_of pool.now book.now) goals.now (flag chosen.now) (flag set.new) }
+    ensures hit { All (λ g. list_any (flag set.new) g ≡ true) goals.now }
+{
+    for place in 0..goals.count() {
+        let goal = goals.at(place);
+        if hits_one(set, goal) {
+            continue;
+        }
+        put_first(chosen, set, goal);
+    }
+}
+
+/// The lesser of two numbers.
+fn lesser(a: u32, b: u32) -> u32
+    ensures { (result ≤ a) × (result ≤ b) }
+{
+    if a < b { a } else { b }
+}
+
+/// Puts in what the clauses of members ask for.
+fn trim_clauses(pool: &Pool, book: &Book, goals: &Needs, chosen: &[bool], set: &mut [bool])
+    requires sound { Sound pool.now book.now }
+    requires healthy { Healthy (repository_of pool.now book.now) (flag chosen.now) }
+    requires long { length set.old ≡ length chosen.now }
+    requires hit { All (λ g. list_any (flag set.old) g ≡ true) goals.now }
+    requires trimming { IsTrimming (repository_of pool.now book.now) goals.now (flag chosen.now) (flag set.old) }
+    ensures { IsTrim (repository_of pool.now book.now) goals.now (flag chosen.now) (flag set.new) }
+{
+    let mut place = 0u32;
+    while place < book.size() {
+        if !is_up(set, place) {
+            place += 1;
+            continue;
+        }
+        let Some(id) = first_unhit(pool, set, pool.row(book.row(place))) else {
+            place += 1;
+            continue;
+        };
+        let n = put_first(chosen, set, pool.slice(id));
+        place = lesser(place, n);
+    }
+}
+
+/// A healthy part of the chosen packages that hits every goal: from no package on, the first chosen member of the first open
+/// need is put in, until no need is open. It fails only where no memory is found.
+pub fn trim(
+    alloc: Global,
+    pool: &Pool,
+    book: &Book,
+    goals: &Needs,
+    chosen: &[bool],
+) -> Result<FlagList, AllocError>
+    requires sound { Sound pool.now book.now }
+    requires goals { NeedsFit (length book.now.rows) goals.now }
+    requires healthy { Healthy (repository_of pool.now book.now) (flag chosen.now) }
+    requires hits { HitsAll (flag chosen.now) goals.now }
+    ensures trim { IfOk result (λ set. IsTrim (repository_of pool.now book.now) goals.now (flag chosen.now) (flag set)) }
+    ensures part { IfOk result (λ set. IsHealthyPart (repository_of pool.now book.now) goals.now (flag chosen.now) (flag set)) }
+    ensures long { IfOk result (λ set. length set ≡ length chosen.now) }
+{
+    let mut set = vec![in alloc; false; chosen.len()]?;
+    trim_set(pool, book, goals, chosen, &mut set);
+    Ok(Listed::of(set))
+}
+
+/// Puts in what goals and clauses ask for.
+fn trim_set(pool: &Pool, book: &Book, goals: &Needs, chosen: &[bool], set: &mut [bool])
+    requires sound { Sound pool.now book.now }
+    requires healthy { Healthy (repository_of pool.now book.now) (flag chosen.now) }
+    requires hits { HitsAll (flag chosen.now) goals.now }
+    requires none { set.old ≡ replicate (length chosen.now) false }
+    ensures trim { IsTrim (repository_of pool.now book.now) goals.now (flag chosen.now) (flag set.new) }
+    ensures part { IsHealthyPart (repository_of pool.now book.now) goals.now (flag chosen.now) (flag set.new) }
+{
+    trim_goals(pool, book, goals, chosen, set);
+    trim_clauses(pool, book, goals, chosen, set);
+}

@@ -1,15 +1,14 @@
--- Families in order, looked at by how their clauses begin.
-use Rattle.std.proofs.Common.{◌≡◌, ◌≢◌, ℕ, zero, suc, ◌<◌, ◌≤◌, ◌+◌, ◌-◌, Bool, true, false, not, ◌&&◌, eqb, ltb, List, [], ◌∷◌, inl, inr, refl, sym, ◌∙◌, ap, subst, length, get_or, drop, arith, lt-ltb, eq-eqb, ne_eqb}
+-- Families in order, looked at by how their clauses go on.
+use Rattle.std.proofs.Common.{◌≡◌, ◌≢◌, ℕ, zero, suc, ◌<◌, ◌≤◌, ◌+◌, ◌-◌, Bool, true, false, ltb, cond, List, [], ◌∷◌, inl, inr, refl, sym, ◌∙◌, ap, subst, length, get_or, map, filter, take, drop, length-drop, arith, lt-ltb, eq-eqb, eqb-true, ne_eqb}
 use Rattle.std.specs.List.{list_any}
 use Rattle.std.specs.List.Sorted.{IsNonDecreasing, IsPartitionedBy}
-use Rattle.std.proofs.lemmas.Bool.{and_from, and_parts, both_ways, cases_eq, cases_lt, eqb-false, false_from_ne_true, false≢true, le-ltb, ltb-false, ltb-true, not_from_false, or_from, or_left}
+use Rattle.std.proofs.lemmas.Bool.{and_from, and_parts, both_ways, cases_eq, cond-true, cond-false, false_from_ne_true, false≢true, ltb-false, ltb-true}
 use Rattle.std.proofs.lemmas.List.{get_or-drop}
 use Rattle.clause_pool.proofs.Lists.{In_at, In_place}
-use Rattle.row_book.specs.Sets.{In, here}
+use Rattle.row_book.specs.Sets.{In, has}
 use Rattle.row_book.specs.Clauses.{Ascending, Before, InOrder, is_inside}
-use Rattle.row_book.proofs.Lists.{In_cases, In_none, any_cases, any_from}
-use Rattle.row_book.proofs.Clauses.{inside_at}
-use Rattle.clause_flatten.specs.Inclusion.{begins_below, begins_with, has_empty, has_shorter, is_strictly_inside}
+use Rattle.row_book.proofs.Lists.{In_has, In_map, In_map_cases, any_cases, any_from, filter_cases, filter_from, has_In}
+use Rattle.clause_flatten.specs.Inclusion.{begins_below, begins_with, goes_on, is_within}
 
 -- an ascending clause never falls from place to place
 pub ascending_rises : (xs : List ℕ) → Ascending xs → IsNonDecreasing xs
@@ -34,120 +33,195 @@ before_begins first (x ∷ xs) [] b h = absurd b
 before_begins first (x ∷ xs) (y ∷ ys) (inl l) h = let m : y < first = ltb-true y first h in lt-ltb x first (omega arith)
 before_begins first (x ∷ xs) (y ∷ ys) (inr e) h = let s : x ≡ y = e.0 in let m : y < first = ltb-true y first h in lt-ltb x first (omega arith)
 
--- so those that begin lower stand in front
-pub below_parted : (first : ℕ) (cs : List (List ℕ)) → InOrder cs → IsPartitionedBy (begins_below first) cs
-below_parted first cs o i j d l u h =
-    elim (cases_eq i j) [
-      | inl e ↦ subst (λ k. begins_below first (get_or cs k d) ≡ true) (sym e) h
-      | inr ne ↦ before_begins first (get_or cs i d) (get_or cs j d) (order_places cs o i j (omega (arith, ne)) u d) h
-    ]
+-- clauses in order from a depth on
+module _ (depth : ℕ) where
+  depth_places : (cs : List (List ℕ)) → InOrder (map (drop depth) cs) → (i j : ℕ) → i < j → j < length cs → (d : List ℕ) → Before (drop depth (get_or cs i d)) (drop depth (get_or cs j d))
+  depth_places [] a i j l u d = absurd (omega arith)
+  depth_places (c ∷ cs) a zero zero l u d = absurd (omega arith)
+  depth_places (c ∷ cs) a zero (suc j) l u d = a.0 (drop depth (get_or cs j d)) (In_map (drop depth) cs (get_or cs j d) (In_at cs j d (omega arith)))
+  depth_places (c ∷ cs) a (suc i) zero l u d = absurd (omega arith)
+  depth_places (c ∷ cs) a (suc i) (suc j) l u d = depth_places cs a.1 i j (omega arith) (omega arith) d
 
--- what begins lower does not begin with the number
-below_not_with : (first : ℕ) (c : List ℕ) → begins_below first c ≡ true → begins_with first c ≡ false
-below_not_with first [] h = refl
-below_not_with first (x ∷ xs) h = let l : x < first = ltb-true x first h in ne_eqb x first (λ e. let f : ⊥ = omega (arith, e) in f)
+  -- those that go on lower stand in front
+  pub below_parted : (number : ℕ) (cs : List (List ℕ)) → InOrder (map (drop depth) cs) → IsPartitionedBy (λ c. begins_below number (drop depth c)) cs
+  below_parted number cs o i j d l u h =
+      elim (cases_eq i j) [
+        | inl e ↦ subst (λ k. begins_below number (drop depth (get_or cs k d)) ≡ true) (sym e) h
+        | inr ne ↦ before_begins number (drop depth (get_or cs i d)) (drop depth (get_or cs j d)) (depth_places cs o i j (omega (arith, ne)) u d) h
+      ]
 
--- and nothing does behind a clause that begins higher
-passed_by : (first : ℕ) (c d : List ℕ) → begins_below first c ≡ false → begins_with first c ≡ false → Before c d → begins_with first d ≡ false
-passed_by first [] d h k b = absurd (false≢true (sym h))
-passed_by first (x ∷ xs) [] h k b = absurd b
-passed_by first (x ∷ xs) (y ∷ ys) h k (inl l) =
-    let m : first ≤ x = ltb-false x first h in ne_eqb y first (λ e. let f : ⊥ = omega (arith, e) in f)
-passed_by first (x ∷ xs) (y ∷ ys) h k (inr s) =
-    let m : first ≤ x = ltb-false x first h in
-    let ne : x ≢ first = eqb-false x first k in
-    let t : x ≡ y = s.0 in
-    ne_eqb y first (λ e. ne (t ∙ e))
+  -- of those that do not go on lower, the ones that go on with the number stand in front
+  pub same_parted : (number : ℕ) (cs : List (List ℕ)) → InOrder (map (drop depth) cs) → ((k : ℕ) (d : List ℕ) → k < length cs → begins_below number (drop depth (get_or cs k d)) ≡ false) →
+      IsPartitionedBy (goes_on depth number) cs
+  same_parted number cs o above i j d l u h =
+      elim (cases_eq i j) [
+        | inl e ↦ subst (λ k. goes_on depth number (get_or cs k d) ≡ true) (sym e) h
+        | inr ne ↦ between number (drop depth (get_or cs i d)) (drop depth (get_or cs j d)) (depth_places cs o i j (omega (arith, ne)) u d) (above i d (omega arith)) h
+      ]
+    where
+      between : (number : ℕ) (c d : List ℕ) → Before c d → begins_below number c ≡ false → begins_with number d ≡ true → begins_with number c ≡ true
+      between number [] d b f g = absurd (false≢true (sym f))
+      between number (x ∷ xs) [] b f g = absurd b
+      between number (x ∷ xs) (y ∷ ys) (inl l) f g = let m : number ≤ x = ltb-false x number f in let e : y ≡ number = eqb-true y number g in absurd (omega arith)
+      between number (x ∷ xs) (y ∷ ys) (inr s) f g = let t : x ≡ y = s.0 in let e : y ≡ number = eqb-true y number g in eq-eqb x number (t ∙ e)
 
--- no element passes a test that fails at each place
-pub none_places : (test : List ℕ → Bool) (cs : List (List ℕ)) → ((k : ℕ) → k < length cs → test (get_or cs k []) ≡ false) → list_any test cs ≡ false
-none_places test [] f = refl
-none_places test (c ∷ cs) f = or_from (test c) (list_any test cs) (f 0 (omega arith)) (none_places test cs (λ k l. f (suc k) (omega arith)))
+below_not_with : (number : ℕ) (c : List ℕ) → begins_below number c ≡ true → begins_with number c ≡ false
+below_not_with number [] h = refl
+below_not_with number (x ∷ xs) h = let l : x < number = ltb-true x number h in ne_eqb x number (λ e. let f : ⊥ = omega (arith, e) in f)
 
-both_false : (a b : Bool) → a ≡ false → (a && b) ≡ false
-both_false a b e = ap (λ x. x && b) e
+-- what a test keeps, where it holds of the elements of a range and of no others
+filter_range : (p : List ℕ → Bool) (xs : List (List ℕ)) (start count : ℕ) → ((k : ℕ) → k < start → k < length xs → p (get_or xs k []) ≡ false)
+    → ((k : ℕ) → start ≤ k → k < start + count → k < length xs → p (get_or xs k []) ≡ true) → ((k : ℕ) → start + count ≤ k → k < length xs → p (get_or xs k []) ≡ false)
+    → take count (drop start xs) ≡ filter p xs
+filter_range p [] zero zero f g h = refl
+filter_range p [] zero (suc c) f g h = refl
+filter_range p [] (suc s) zero f g h = refl
+filter_range p [] (suc s) (suc c) f g h = refl
+filter_range p (x ∷ xs) (suc s) count f g h =
+    filter_range p xs s count (λ k l u. f (suc k) (omega arith) (omega arith)) (λ k l m u. g (suc k) (omega arith) (omega arith) (omega arith)) (λ k l u. h (suc k) (omega arith) (omega arith))
+    ∙ sym (cond-false (p x) (x ∷ filter p xs) (filter p xs) (f 0 (omega arith) (omega arith)))
+filter_range p (x ∷ xs) zero (suc c) f g h =
+    ap (λ ys. x ∷ ys) (filter_range p xs zero c (λ k l u. absurd (omega arith)) (λ k l m u. g (suc k) (omega arith) (omega arith) (omega arith)) (λ k l u. h (suc k) (omega arith) (omega arith)))
+    ∙ sym (cond-true (p x) (x ∷ filter p xs) (filter p xs) (g 0 (omega arith) (omega arith) (omega arith)))
+filter_range p (x ∷ xs) zero zero f g h =
+    filter_range p xs zero zero (λ k l u. absurd (omega arith)) (λ k l m u. absurd (omega arith)) (λ k l u. h (suc k) (omega arith) (omega arith))
+    ∙ sym (cond-false (p x) (x ∷ filter p xs) (filter p xs) (h 0 (omega arith) (omega arith)))
 
--- A walk over those that begin with a number.
-module _ (family : List (List ℕ)) (order : InOrder family) (first : ℕ) (clause : List ℕ) (start : ℕ) (bound : start ≤ length family)
-    (below : (k : ℕ) (d : List ℕ) → k < start → begins_below first (get_or family k d) ≡ true)
-    (behind : (k : ℕ) (d : List ℕ) → start ≤ k → k < length family → begins_below first (get_or family k d) ≡ false)
-    (walked : List (List ℕ)) (walked_is : walked ≡ drop start family) (i : ℕ)
-    (failed : (k : ℕ) → k < i → (begins_with first (get_or walked k []) && is_strictly_inside (get_or walked k []) clause) ≡ false) where
-  abbrev test : List ℕ → Bool
-  test other = begins_with first other && is_strictly_inside other clause
+module _ (depth number : ℕ) (group : List (List ℕ)) (start : ℕ) (bound : start ≤ length group)
+    (below : (k : ℕ) (d : List ℕ) → k < start → begins_below number (drop depth (get_or group k d)) ≡ true)
+    (behind : (k : ℕ) (d : List ℕ) → start ≤ k → k < length group → begins_below number (drop depth (get_or group k d)) ≡ false)
+    (others : List (List ℕ)) (others_are : others ≡ drop start group) where
+  count : length others ≡ length group - start
+  count = ap length others_are ∙ length-drop start group
 
-  at : (k : ℕ) → get_or walked k [] ≡ get_or family (start + k) []
-  at k = ap (λ z. get_or z k []) walked_is ∙ get_or-drop start family k []
+  at : (k : ℕ) (d : List ℕ) → get_or others k d ≡ get_or group (start + k) d
+  at k d = ap (λ z. get_or z k d) others_are ∙ get_or-drop start group k d
 
-  in_front : (k : ℕ) → k < start → test (get_or family k []) ≡ false
-  in_front k l = both_false (begins_with first (get_or family k [])) (is_strictly_inside (get_or family k []) clause) (below_not_with first (get_or family k []) (below k [] l))
+  pub others_above : (k : ℕ) (d : List ℕ) → k < length others → begins_below number (drop depth (get_or others k d)) ≡ false
+  others_above k d l = ap (λ z. begins_below number (drop depth z)) (at k d) ∙ behind (start + k) d (omega arith) (omega (arith, count))
 
-  done : (k : ℕ) → start ≤ k → k < start + i → test (get_or family k []) ≡ false
-  done k l u =
+  pub others_in_order : InOrder (map (drop depth) group) → InOrder (map (drop depth) others)
+  others_in_order o = subst (λ z. InOrder (map (drop depth) z)) (sym others_are) (rest start group o)
+    where
+      rest : (n : ℕ) (cs : List (List ℕ)) → InOrder (map (drop depth) cs) → InOrder (map (drop depth) (drop n cs))
+      rest zero cs a = a
+      rest (suc n) [] a = tt
+      rest (suc n) (c ∷ cs) a = rest n cs a.1
+
+  pub group_is : (n : ℕ) → ((k : ℕ) (d : List ℕ) → k < n → goes_on depth number (get_or others k d) ≡ true)
+      → ((k : ℕ) (d : List ℕ) → n ≤ k → k < length others → goes_on depth number (get_or others k d) ≡ false) → take n others ≡ filter (goes_on depth number) group
+  group_is n same other =
+      ap (take n) others_are
+      ∙ filter_range (goes_on depth number) group start n
+      (λ k l u. below_not_with number (drop depth (get_or group k [])) (below k [] l))
+      (λ k l m u.
       let e : start + (k - start) ≡ k = omega arith in
-      ap test (ap (λ z. get_or family z []) (sym e) ∙ sym (at (k - start))) ∙ failed (k - start) (omega arith)
+      ap (λ z. goes_on depth number (get_or group z [])) (sym e) ∙ ap (goes_on depth number) (sym (at (k - start) [])) ∙ same (k - start) [] (omega arith))
+      (λ k l u.
+      let e : start + (k - start) ≡ k = omega arith in
+      ap (λ z. goes_on depth number (get_or group z [])) (sym e) ∙ ap (goes_on depth number) (sym (at (k - start) [])) ∙ other (k - start) [] (omega arith) (omega (arith, count)))
 
-  -- all were looked at
-  pub none_begins : length family ≤ start + i → list_any test family ≡ false
-  none_begins all = none_places test family (λ k l. elim (cases_lt k start) [
-    | inl m ↦ in_front k m
-    | inr m ↦ done k m (omega arith)
-  ])
+-- one number more of a clause that has it at the depth
+goes_on_cons : (depth number : ℕ) (c : List ℕ) → goes_on depth number c ≡ true → (drop depth c ≡ number ∷ drop (depth + 1) c) × (depth + 1 ≤ length c)
+goes_on_cons zero number [] h = absurd (false≢true h)
+goes_on_cons zero number (x ∷ xs) h = (ap (λ y. y ∷ xs) (eqb-true x number h), omega arith)
+goes_on_cons (suc d) number [] h = absurd (false≢true h)
+goes_on_cons (suc d) number (x ∷ xs) h =
+    let w : (drop d xs ≡ number ∷ drop (d + 1) xs) × (d + 1 ≤ length xs) = goes_on_cons d number xs h in
+    let e : suc d + 1 ≡ suc (d + 1) = omega arith in
+    (w.0 ∙ ap (λ n. number ∷ drop n (x ∷ xs)) (sym e), omega (arith, w.1))
 
-  -- one begins otherwise, so all behind it do
-  pub none_further : begins_with first (get_or walked i []) ≡ false → list_any test family ≡ false
-  none_further stop = none_places test family (λ k l. elim (cases_lt k start) [
-    | inl m ↦ in_front k m
-    | inr m ↦ elim (cases_lt k (start + i)) [
-      | inl u ↦ done k m u
-      | inr v ↦
-          let other : begins_with first (get_or family (start + i) []) ≡ false = ap (begins_with first) (sym (at i)) ∙ stop in
-          elim (cases_eq (start + i) k) [
-            | inl e ↦ both_false (begins_with first (get_or family k [])) (is_strictly_inside (get_or family k []) clause) (ap (λ z. begins_with first (get_or family z [])) (sym e) ∙ other)
-            | inr ne ↦ both_false (begins_with first (get_or family k [])) (is_strictly_inside (get_or family k []) clause)
-                (passed_by first (get_or family (start + i) []) (get_or family k []) (behind (start + i) [] (omega arith) (omega arith)) other
-                (order_places family order (start + i) k (omega (arith, ne)) l []))
+module _ (depth : ℕ) (group : List (List ℕ)) (order : InOrder (map (drop depth) group)) (number : ℕ) (part : List (List ℕ)) (part_is : part ≡ filter (goes_on depth number) group) where
+  in_part : (c : List ℕ) → In c part → In c group × (goes_on depth number c ≡ true)
+  in_part c i = filter_cases (goes_on depth number) group c (subst (λ z. In c z) part_is i)
+
+  pub part_deep : (c : List ℕ) → In c part → depth + 1 ≤ length c
+  part_deep c i = (goes_on_cons depth number c (in_part c i).1).1
+
+  pub part_in_order : InOrder (map (drop (depth + 1)) part)
+  part_in_order = subst (λ z. InOrder (map (drop (depth + 1)) z)) (sym part_is) (kept group order)
+    where
+      after : (c d : List ℕ) → goes_on depth number c ≡ true → goes_on depth number d ≡ true → Before (drop depth c) (drop depth d) → Before (drop (depth + 1) c) (drop (depth + 1) d)
+      after c d g h b =
+          elim (subst (λ z. Before z (number ∷ drop (depth + 1) d)) (goes_on_cons depth number c g).0 (subst (λ z. Before (drop depth c) z) (goes_on_cons depth number d h).0 b)) [
+            | inl l ↦ let f : number < number = l in absurd (omega arith)
+            | inr e ↦ e.1
           ]
-    ]
-  ])
+      kept : (cs : List (List ℕ)) → InOrder (map (drop depth) cs) → InOrder (map (drop (depth + 1)) (filter (goes_on depth number) cs))
+      kept [] o = tt
+      kept (c ∷ cs) o = pick (goes_on depth number c) refl (kept cs o.1)
+        where
+          pick : (b : Bool) → goes_on depth number c ≡ b → InOrder (map (drop (depth + 1)) (filter (goes_on depth number) cs)) →
+              InOrder (map (drop (depth + 1)) (cond b (c ∷ filter (goes_on depth number) cs) (filter (goes_on depth number) cs)))
+          pick true e r = (
+            λ d i.
+                let w : (x : List ℕ) × In x (filter (goes_on depth number) cs) × (d ≡ drop (depth + 1) x) = In_map_cases (drop (depth + 1)) (filter (goes_on depth number) cs) d i in
+                let v : In w.0 cs × (goes_on depth number w.0 ≡ true) = filter_cases (goes_on depth number) cs w.0 w.1 in
+                subst (λ z. Before (drop (depth + 1) c) z) (sym w.2) (after c w.0 e v.1 (o.0 (drop depth w.0) (In_map (drop depth) cs w.0 v.0))),
+            r,
+          )
+          pick false e r = r
 
--- What has a shorter clause within it has one that is empty or begins with one of its numbers.
+-- What is wanted of a group is wanted of its parts.
+module _ (depth : ℕ) (group : List (List ℕ)) (order : InOrder (map (drop depth) group)) (wanted : List ℕ) (size : ℕ) where
+  pub one_within : (number : ℕ) → In number wanted → list_any (is_within (depth + 1) wanted size) (filter (goes_on depth number) group) ≡ true → list_any (is_within depth wanted size) group ≡ true
+  one_within number there_is h =
+      let w : (c : List ℕ) × In c (filter (goes_on depth number) group) × (is_within (depth + 1) wanted size c ≡ true) =
+      any_cases (is_within (depth + 1) wanted size) (filter (goes_on depth number) group) h in
+      let v : In w.0 group × (goes_on depth number w.0 ≡ true) = filter_cases (goes_on depth number) group w.0 w.1 in
+      let b : (ltb (length w.0) size ≡ true) × (is_inside (drop (depth + 1) w.0) wanted ≡ true) = and_parts (ltb (length w.0) size) (is_inside (drop (depth + 1) w.0) wanted) w.2 in
+      any_from (is_within depth wanted size) group w.0 v.0
+      (and_from (ltb (length w.0) size) (is_inside (drop depth w.0) wanted) b.0
+      (ap (λ z. is_inside z wanted) (goes_on_cons depth number w.0 v.1).0
+      ∙ and_from (has wanted number) (is_inside (drop (depth + 1) w.0) wanted) (In_has there_is) b.1))
 
-empty_first : (family : List (List ℕ)) → InOrder family → In [] family → has_empty family ≡ true
-empty_first [] o i = absurd (In_none i)
-empty_first ([] ∷ cs) o i = refl
-empty_first ((x ∷ xs) ∷ cs) o i = elim (In_cases i) [ inl e ↦ absurd (let f : ⊥ = cc in f) | inr j ↦ absurd (o.0 [] j) ]
+  -- the first clause goes on, so each does
+  goes_further : (c : List ℕ) → depth ≢ length (get_or group 0 []) → depth ≤ length (get_or group 0 []) → In c group → (x : ℕ) × (goes_on depth x c ≡ true)
+  goes_further c ne deep i =
+      let p : (k : ℕ) × (k < length group) × (get_or group k [] ≡ c) = In_place group c [] i in
+      elim (cases_eq p.0 0) [
+        | inl e ↦ subst (λ z. (x : ℕ) × (goes_on depth x z ≡ true)) (ap (λ k. get_or group k []) (sym e) ∙ p.2) (longer depth (get_or group 0 []) (omega (arith, ne)))
+        | inr other ↦
+            let b : Before (drop depth (get_or group 0 [])) (drop depth c) =
+            subst (λ z. Before (drop depth (get_or group 0 [])) (drop depth z)) p.2 (depth_places depth group order 0 p.0 (omega (arith, other)) p.1 []) in
+            not_empty (drop depth (get_or group 0 [])) (drop depth c) b
+      ]
+    where
+      longer : (n : ℕ) (xs : List ℕ) → n < length xs → (x : ℕ) × (goes_on n x xs ≡ true)
+      longer zero [] l = absurd (omega arith)
+      longer zero (x ∷ xs) l = (x, eq-eqb x x refl)
+      longer (suc n) [] l = absurd (omega arith)
+      longer (suc n) (x ∷ xs) l = longer n xs (omega arith)
+      not_empty : (xs ys : List ℕ) → Before xs ys → (x : ℕ) × (begins_with x ys ≡ true)
+      not_empty [] [] b = absurd b
+      not_empty (x ∷ xs) [] b = absurd b
+      not_empty xs (y ∷ ys) b = (y, eq-eqb y y refl)
 
-pub none_shorter : (family : List (List ℕ)) (clause : List ℕ) → InOrder family → has_empty family ≡ false
-    → ((k : ℕ) → k < length clause → list_any (λ other. begins_with (get_or clause k 0) other && is_strictly_inside other clause) family ≡ false)
-    → has_shorter family clause ≡ false
-none_shorter family clause o e f =
-    false_from_ne_true (has_shorter family clause) (λ h.
-    let w : (S : List ℕ) × In S family × (is_strictly_inside S clause ≡ true) = any_cases (λ other. is_strictly_inside other clause) family h in
-    pick w.0 w.1 w.2)
-  where
-    pick : (S : List ℕ) → In S family → is_strictly_inside S clause ≡ true → ⊥
-    pick [] i h = both_ways (has_empty family) e (empty_first family o i)
-    pick (s ∷ ss) i h =
-        let b : (ltb (length (s ∷ ss)) (length clause) ≡ true) × (is_inside (s ∷ ss) clause ≡ true) = and_parts (ltb (length (s ∷ ss)) (length clause)) (is_inside (s ∷ ss) clause) h in
-        let p : (k : ℕ) × (k < length clause) × (get_or clause k 0 ≡ s) = In_place clause s 0 (inside_at (s ∷ ss) clause b.1 s here) in
-        let test : List ℕ → Bool = λ other. begins_with (get_or clause p.0 0) other && is_strictly_inside other clause in
-        both_ways (list_any test family) (f p.0 p.1)
-        (any_from test family (s ∷ ss) i (and_from (eqb s (get_or clause p.0 0)) (is_strictly_inside (s ∷ ss) clause) (eq-eqb s (get_or clause p.0 0) (sym p.2)) h))
+  pub none_within : depth ≢ length (get_or group 0 []) → depth ≤ length (get_or group 0 [])
+      → ((k : ℕ) → k < length wanted → list_any (is_within (depth + 1) wanted size) (filter (goes_on depth (get_or wanted k 0)) group) ≡ false) → list_any (is_within depth wanted size) group ≡ false
+  none_within ne deep f =
+      false_from_ne_true (list_any (is_within depth wanted size) group) (λ h.
+      let w : (c : List ℕ) × In c group × (is_within depth wanted size c ≡ true) = any_cases (is_within depth wanted size) group h in
+      let b : (ltb (length w.0) size ≡ true) × (is_inside (drop depth w.0) wanted ≡ true) = and_parts (ltb (length w.0) size) (is_inside (drop depth w.0) wanted) w.2 in
+      let x : (n : ℕ) × (goes_on depth n w.0 ≡ true) = goes_further w.0 ne deep w.1 in
+      let parts : (has wanted x.0 ≡ true) × (is_inside (drop (depth + 1) w.0) wanted ≡ true) =
+      and_parts (has wanted x.0) (is_inside (drop (depth + 1) w.0) wanted) (sym (ap (λ z. is_inside z wanted) (goes_on_cons depth x.0 w.0 x.1).0) ∙ b.1) in
+      let p : (k : ℕ) × (k < length wanted) × (get_or wanted k 0 ≡ x.0) = In_place wanted x.0 0 (has_In wanted x.0 parts.0) in
+      both_ways (list_any (is_within (depth + 1) wanted size) (filter (goes_on depth (get_or wanted p.0 0)) group)) (f p.0 p.1)
+      (any_from (is_within (depth + 1) wanted size) (filter (goes_on depth (get_or wanted p.0 0)) group) w.0
+      (filter_from (goes_on depth (get_or wanted p.0 0)) group w.0 w.1 (ap (λ n. goes_on depth n w.0) p.2 ∙ x.1))
+      (and_from (ltb (length w.0) size) (is_inside (drop (depth + 1) w.0) wanted) b.0 parts.1)))
 
-pub one_shorter : (family : List (List ℕ)) (clause : List ℕ) (first : ℕ) → list_any (λ other. begins_with first other && is_strictly_inside other clause) family ≡ true
-    → has_shorter family clause ≡ true
-one_shorter family clause first h =
-    let test : List ℕ → Bool = λ other. begins_with first other && is_strictly_inside other clause in
-    let w : (S : List ℕ) × In S family × (test S ≡ true) = any_cases test family h in
-    any_from (λ other. is_strictly_inside other clause) family w.0 w.1 (and_parts (begins_with first w.0) (is_strictly_inside w.0 clause) w.2).1
+  -- none is so short
+  pub none_short : size ≤ depth → ((c : List ℕ) → In c group → depth ≤ length c) → list_any (is_within depth wanted size) group ≡ false
+  none_short l deep =
+      false_from_ne_true (list_any (is_within depth wanted size) group) (λ h.
+      let w : (c : List ℕ) × In c group × (is_within depth wanted size c ≡ true) = any_cases (is_within depth wanted size) group h in
+      let s : length w.0 < size = ltb-true (length w.0) size (and_parts (ltb (length w.0) size) (is_inside (drop depth w.0) wanted) w.2).0 in
+      let m : depth ≤ length w.0 = deep w.0 w.1 in
+      omega arith)
 
--- the empty clause is within each longer one
-pub empty_shorter : (family : List (List ℕ)) (clause : List ℕ) → has_empty family ≡ true → has_shorter family clause ≡ not (eqb (length clause) 0)
-empty_shorter [] clause h = absurd (false≢true h)
-empty_shorter ((x ∷ xs) ∷ cs) clause h = absurd (false≢true h)
-empty_shorter ([] ∷ cs) [] h = none_places (λ other. is_strictly_inside other []) ([] ∷ cs) (λ k l. both_false (ltb (length (get_or ([] ∷ cs) k [])) 0) (is_inside (get_or ([] ∷ cs) k []) []) (le-ltb (length (get_or ([] ∷ cs) k [])) 0 (omega arith)))
-empty_shorter ([] ∷ cs) (t ∷ ts) h =
-    or_left (is_strictly_inside [] (t ∷ ts)) (list_any (λ other. is_strictly_inside other (t ∷ ts)) cs)
-    (and_from (ltb 0 (length (t ∷ ts))) (is_inside [] (t ∷ ts)) (lt-ltb 0 (length (t ∷ ts)) (omega arith)) refl)
-    ∙ sym (not_from_false (eqb (length (t ∷ ts)) 0) (ne_eqb (length (t ∷ ts)) 0 (λ e. let f : ⊥ = omega (arith, e) in f)))
+-- a family is its own group at depth 0
+pub whole_group : (family : List (List ℕ)) → map (drop 0) family ≡ family
+whole_group [] = refl
+whole_group (c ∷ cs) = ap (λ ds. c ∷ ds) (whole_group cs)

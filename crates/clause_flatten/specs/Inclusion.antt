@@ -1,5 +1,5 @@
 -- Clauses that lie within other ones.
-use Rattle.std.specs.Prelude.{ℕ, Bool, true, false, ◌&&◌, eqb, ltb, List, [], ◌∷◌, length}
+use Rattle.std.specs.Prelude.{ℕ, Bool, true, false, ◌&&◌, eqb, ltb, List, [], ◌∷◌, length, drop}
 use Rattle.std.specs.List.{list_any}
 use Rattle.row_book.specs.Clauses.{is_inside}
 
@@ -21,8 +21,10 @@ abbrev pub begins_with : ℕ → List ℕ → Bool
 begins_with first [] = false
 begins_with first (x ∷ xs) = eqb x first
 
--- whether the first clause is empty
-abbrev pub has_empty : List (List ℕ) → Bool
-has_empty [] = false
-has_empty ([] ∷ cs) = true
-has_empty ((x ∷ xs) ∷ cs) = false
+-- whether the clause has the number at the depth
+abbrev pub goes_on : ℕ → ℕ → List ℕ → Bool
+goes_on depth number clause = begins_with number (drop depth clause)
+
+-- whether the clause has fewer numbers than the size, and those from the depth on are all wanted
+abbrev pub is_within : ℕ → List ℕ → ℕ → List ℕ → Bool
+is_within depth wanted size clause = ltb (length clause) size && is_inside (drop depth clause) wanted

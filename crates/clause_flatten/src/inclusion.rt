@@ -1,8 +1,7 @@
-//! Which numbers clauses hold, and which clauses lie within others.
+//! Which numbers clauses hold.
 ghost use Rattle.std.specs.Prelude.{◌≡◌};
 ghost use Rattle.row_book.specs.Sets.{has};
-ghost use Rattle.row_book.specs.Clauses.{is_inside, Ascending};
-ghost use Rattle.clause_flatten.specs.Inclusion.{is_strictly_inside};
+ghost use Rattle.row_book.specs.Clauses.{Ascending};
 
 /// Whether the clause holds the number.
 pub(crate) fn contains(clause: &[u32], number: u32) -> bool
@@ -10,20 +9,4 @@ pub(crate) fn contains(clause: &[u32], number: u32) -> bool
     ensures { result ≡ has clause.now number }
 {
     clause.binary_search(&number).is_ok()
-}
-
-/// Whether each number of the first clause is in the second; the first that is not ends the test.
-fn is_inside(small: &[u32], large: &[u32]) -> bool
-    requires { Ascending large.now }
-    ensures { result ≡ is_inside small.now large.now }
-{
-    small.iter().all(|literal| contains(large, *literal))
-}
-
-/// Whether the first clause is within the second, and shorter. Only where it is shorter are its numbers looked at.
-pub(crate) fn is_strictly_inside(small: &[u32], large: &[u32]) -> bool
-    requires { Ascending large.now }
-    ensures { result ≡ is_strictly_inside small.now large.now }
-{
-    small.len() < large.len() && is_inside(small, large)
 }

@@ -1,11 +1,12 @@
 //! Whether a family in order has a shorter clause within a clause.
-ghost use Rattle.std.specs.Prelude.{◌≡◌, ◌&&◌, ◌≤◌, ◌<◌, ℕ, List, length, not, true, false, slice_index_or};
-ghost use Rattle.std.specs.List.{list_any};
+ghost use Rattle.std.specs.Prelude.{◌≡◌, ◌&&◌, ◌≤◌, ℕ, List, length, map, drop, not};
+ghost use Rattle.std.specs.List.{filter, list_any};
+ghost use Rattle.row_book.specs.Sets.{In};
 ghost use Rattle.row_book.specs.Clauses.{Ascending, InOrder};
-ghost use Rattle.clause_flatten.specs.Inclusion.{begins_below, begins_with, has_empty, has_shorter, is_strictly_inside};
+ghost use Rattle.clause_flatten.specs.Inclusion.{begins_below, goes_on, has_shorter, is_within};
 ghost use Rattle.clause_flatten.specs.TidyRows.{stays};
 
-use crate::inclusion::{contains, is_strictly_inside};
+use crate::inclusion::contains;
 use crate::scratch::Clause;
 
 /// Whether the clause does not hold the number, and has no shorter one of the family within it.
@@ -21,84 +22,70 @@ pub(crate) fn stays(number: u32, family: &[Clause], clause: &[u32]) -> bool
 pub(crate) fn is_shortest(kept: &[Clause], unions: &[Clause], clause: &[u32]) -> bool
     requires kept { InOrder kept.now }
     requires unions { InOrder unions.now }
-    requires ascending { Ascending clause.now }
     ensures { result ≡ (not (has_shorter kept.now clause.now) && not (has_shorter unions.now clause.now)) }
 {
     !has_shorter(kept, clause) && !has_shorter(unions, clause)
 }
 
-/// Whether a shorter clause of the family is inside the clause. Such a one is empty, or it begins with a number of the
-/// clause, and in a family in order those that begin alike stand together.
+/// Whether a shorter clause of the family is inside the clause.
 pub(crate) fn has_shorter(family: &[Clause], clause: &[u32]) -> bool
-    requires in_order { InOrder family.now }
-    requires ascending { Ascending clause.now }
+    requires { InOrder family.now }
     ensures { result ≡ has_shorter family.now clause.now }
 {
-    if has_empty(family) {
-        return !clause.is_empty();
+    has_within(family, 0, clause, clause.len())
+}
+
+/// Whether a clause of the group, with fewer numbers than the size, has all its numbers from the depth on among the wanted
+/// ones. The clauses of a group begin alike up to there: the shortest comes first, and those that go on alike stand together.
+fn has_within(group: &[Clause], depth: usize, wanted: &[u32], size: usize) -> bool
+    requires deep { (c : List ℕ) → In c group.now → depth ≤ length c }
+    requires in_order { InOrder (map (drop depth) group.now) }
+    ensures { result ≡ list_any (is_within depth wanted.now size) group.now }
+{
+    let Some(first) = group.first() else {
+        return false;
+    };
+    if size <= depth {
+        return false;
     }
-    for literal in clause {
-        if has_shorter_from(family, *literal, clause) {
+    if first.as_slice().len() == depth {
+        return true;
+    }
+    for number in wanted {
+        if has_within(group_of(group, depth, *number), depth + 1, wanted, size) {
             return true;
         }
     }
     false
 }
 
-/// Whether the first clause of the family is empty.
-fn has_empty(family: &[Clause]) -> bool
-    ensures { result ≡ has_empty family.now }
+/// Lends the clauses of the group that have the number at the depth.
+fn group_of(group: &[Clause], depth: usize, number: u32) -> &[Clause]
+    requires { InOrder (map (drop depth) group.now) }
+    ensures { result.now ≡ filter (goes_on depth number) group.now }
 {
-    match family.first() {
-        Some(first) => first.as_slice().is_empty(),
-        None => false,
-    }
+    let start = group.partition_point(|clause| goes_on_below(clause.as_slice(), depth, number));
+    let others = &group[start..];
+    let count = others.partition_point(|clause| goes_on(clause.as_slice(), depth, number));
+    &others[..count]
 }
 
-/// Whether a shorter clause of the family that begins with the number is inside the clause.
-fn has_shorter_from(family: &[Clause], first: u32, clause: &[u32]) -> bool
-    requires in_order { InOrder family.now }
-    requires ascending { Ascending clause.now }
-    ensures { result ≡ list_any (λ other. begins_with first other && is_strictly_inside other clause.now) family.now }
+/// Whether the clause ends at the depth or has a lesser number there.
+fn goes_on_below(clause: &[u32], depth: usize, number: u32) -> bool
+    ensures { result ≡ begins_below number (drop depth clause.now) }
 {
-    let start = count_below(family, first);
-    for other in &family[start..] {
-        if !begins_with(other.as_slice(), first) {
-            return false;
-        }
-        if is_strictly_inside(other.as_slice(), clause) {
-            return true;
-        }
-    }
-    false
-}
-
-/// How many clauses of the family are empty or begin with a lesser number.
-fn count_below(family: &[Clause], first: u32) -> usize
-    requires { InOrder family.now }
-    ensures bound { result ≤ length family.now }
-    ensures below { (k : ℕ) (d : List ℕ) → k < result → begins_below first (slice_index_or family.now k d) ≡ true }
-    ensures behind { (k : ℕ) (d : List ℕ) → result ≤ k → k < length family.now → begins_below first (slice_index_or family.now k d) ≡ false }
-{
-    family.partition_point(|clause| begins_below(clause.as_slice(), first))
-}
-
-/// Whether the clause is empty or begins with a lesser number.
-fn begins_below(clause: &[u32], first: u32) -> bool
-    ensures { result ≡ begins_below first clause.now }
-{
-    match clause.first() {
-        Some(literal) => *literal < first,
+    match clause.get(depth) {
+        Some(literal) => *literal < number,
         None => true,
     }
 }
 
-/// Whether the clause begins with the number.
-fn begins_with(clause: &[u32], first: u32) -> bool
-    ensures { result ≡ begins_with first clause.now }
+/// Whether the clause has the number at the depth.
+fn goes_on(clause: &[u32], depth: usize, number: u32) -> bool
+    ensures { result ≡ goes_on depth number clause.now }
 {
-    match clause.first() {
-        Some(literal) => *literal == first,
+    match clause.get(depth) {
+        Some(literal) => *literal == number,
         None => false,
     }
 }

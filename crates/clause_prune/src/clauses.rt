@@ -14,11 +14,15 @@ use crate::forced::is_forced;
 use crate::idle::idle_by;
 use clause_pool::{ClauseId, NumList, Pool, RowId};
 use listed::Listed;
-use row_book::{Step, StepList};
+use row_book::{Step, StepList, distinct_numbers_in};
 use std::alloc::{AllocError, Global};
 
 /// The ids without one.
-fn without_id(alloc: Global, left: &[ClauseId], clause: ClauseId) -> Result<Vec<ClauseId>, AllocError>
+fn without_id(
+    alloc: Global,
+    left: &[ClauseId],
+    clause: ClauseId,
+) -> Result<Vec<ClauseId>, AllocError>
     ensures { IfOk result (λ made. made.items ≡ ids_without left.now clause) }
 {
     left.iter()
@@ -36,7 +40,7 @@ fn drop_id(alloc: Global, left: &mut Vec<ClauseId>, clause: ClauseId) -> Result<
 }
 
 /// Drops the clause of the package where it is forced or idle among those that are left; where it is idle and not forced,
-/// the step is put behind the others.
+/// the step is put behind the others. The packages are all members of clauses that are left.
 fn prune_one(
     alloc: Global,
     pool: &Pool,
@@ -44,6 +48,7 @@ fn prune_one(
     table: &[NumList],
     package: u32,
     left: &mut Vec<ClauseId>,
+    packages: &[u32],
     clause: ClauseId,
     idle: &mut StepList,
 ) -> Result<(), AllocError>
@@ -55,7 +60,8 @@ fn prune_one(
     requires table { (p : ℕ) → Ascending (listed_for table.now p) }
     requires clause { clause < length pool.now.clauses }
     requires own { (n : ℕ) → In n (clause_at pool.now clause) → n < length rows.now }
-    requires members { (c : List ℕ) → In c (clauses_at pool.now left.old.items) → (n : ℕ) → In n c → n < length rows.now }
+    requires packages { (n : ℕ) → In n packages.now → n < length rows.now }
+    requires all { (c : List ℕ) → In c (clauses_at pool.now left.old.items) → (n : ℕ) → In n c → In n packages.now }
     ensures left { OnOk result (◌≡◌ {A = Repository} (with_ids pool.now rows.now «package» left.new.items table.now)
         (prune_clause (with_ids pool.now rows.now «package» left.old.items table.now) «package» (clause_at pool.now clause))) }
     ensures part { OnOk result ((id : ℕ) → In id left.new.items → In id left.old.items) }
@@ -65,7 +71,7 @@ fn prune_one(
 {
     // What holds of every pool is told by this call alone.
     pool.clause_count();
-    if is_forced(pool, rows, package, left.as_slice(), clause) {
+    if is_forced(pool, rows, package, left.as_slice(), packages, clause) {
         drop_id(alloc, left, clause)?;
         return Ok(());
     }
@@ -105,9 +111,13 @@ pub(crate) fn prune_each(
     ensures idle { OnOk result (trail_meaning pool.now idle.new ≡ trail_meaning pool.now idle.old
         ++ map IdleStep (clauses_steps (with_ids pool.now rows.now «package» ids.now table.now) «package» (clauses_at pool.now ids.now))) }
 {
+    let packages = distinct_numbers_in(alloc, pool, ids)?;
+    let members = packages.as_slice();
     let mut left = Vec::from_slice(alloc, ids)?;
     for id in ids {
-        prune_one(alloc, pool, rows, table, package, &mut left, *id, idle)?;
+        prune_one(
+            alloc, pool, rows, table, package, &mut left, members, *id, idle,
+        )?;
     }
     Ok(left)
 }

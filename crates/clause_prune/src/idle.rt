@@ -15,7 +15,13 @@ use clause_pool::{ClauseId, NumList, Pool, RowId};
 use row_book::{are_against, conflicts_of, has_within, holds};
 
 /// Whether the package conflicts with each member of some clause that is left, other than the given one.
-fn excludes_one(pool: &Pool, table: &[NumList], left: &[ClauseId], clause: ClauseId, package: u32) -> bool
+fn excludes_one(
+    pool: &Pool,
+    table: &[NumList],
+    left: &[ClauseId],
+    clause: ClauseId,
+    package: u32,
+) -> bool
     requires left { OfPool pool.now left.now }
     requires order { InOrder (clauses_at pool.now left.now) }
     requires table { (p : ℕ) → Ascending (listed_for table.now p) }
@@ -93,13 +99,7 @@ fn all_harmless(
 }
 
 /// Whether each clause of the row is hit wherever the package is in and its other clauses are hit.
-fn all_met(
-    pool: &Pool,
-    package: u32,
-    left: &[ClauseId],
-    clause: ClauseId,
-    row: &[ClauseId],
-) -> bool
+fn all_met(pool: &Pool, package: u32, left: &[ClauseId], clause: ClauseId, row: &[ClauseId]) -> bool
     requires left { OfPool pool.now left.now }
     requires order { InOrder (clauses_at pool.now left.now) }
     requires clause { clause < length pool.now.clauses }
@@ -137,8 +137,20 @@ fn is_idle(
     requires below { member < length rows.now }
     ensures { result ≡ is_idle (with_ids pool.now rows.now «package» left.now table.now) «package» (clause_at pool.now clause) member }
 {
-    all_harmless(pool, table, package, left, clause, conflicts_of(table, member))
-        && all_met(pool, package, left, clause, clauses_of(pool, rows, package, left, member))
+    all_harmless(
+        pool,
+        table,
+        package,
+        left,
+        clause,
+        conflicts_of(table, member),
+    ) && all_met(
+        pool,
+        package,
+        left,
+        clause,
+        clauses_of(pool, rows, package, left, member),
+    )
 }
 
 /// The least member by which the clause is idle, where there is one.

@@ -56,7 +56,7 @@ sub_or (x ∷ xs) (y ∷ ys) a b f =
     ]
 
 -- the weight of all clauses
-pub total : List (List (List ℕ)) → ℕ
+unfoldable pub total : List (List (List ℕ)) → ℕ
 total [] = 0
 total (r ∷ t) = weigh r + total t
 
@@ -87,7 +87,7 @@ total_few (x ∷ xs) w f =
     omega (arith, a, b)
 
 -- what a round does
-Less : Repository → Repository → Type 0
+unfoldable pub Less : Repository → Repository → Type 0
 Less K T = (length T.clauses < length K.clauses) ⊎ ((length T.clauses ≡ length K.clauses) × (conflict_count T < conflict_count K))
 
 pub record Same (t : Repository → Repository) (K T : Repository) : Type 0 where
@@ -105,7 +105,7 @@ merge_full K s e =
     (λ p l. (merge_plain_lem F f full p (subst (λ z. p < z) (merged_size F ∙ full) l)).clauses ∙ flat_is_plain K s p))
     (plain_conflicts F f full)
 
-outcome : (t : Repository → Repository) → Tail t → (K : Repository) → SoundRepository K → Less K (round_with t K) ⊎ Same t K (round_with t K)
+pub outcome : (t : Repository → Repository) → Tail t → (K : Repository) → SoundRepository K → Less K (round_with t K) ⊎ Same t K (round_with t K)
 unfolding Less
 outcome t tail K s =
     let F : Repository = flat K in
@@ -140,7 +140,7 @@ conflict_of R q c =
 same_against : (R F : Repository) → R.conflicts ≡ F.conflicts → (m n : ℕ) → against R m n ≡ against F m n
 same_against R F e m n = ap (λ t. has (slice_index_or t m []) n) e
 
-tail_nice : (t : Repository → Repository) → Tail t → (K : Repository) → SoundRepository K → (t (flat K)).conflicts ≡ K.conflicts → Nice (t (flat K))
+pub tail_nice : (t : Repository → Repository) → Tail t → (K : Repository) → SoundRepository K → (t (flat K)).conflicts ≡ K.conflicts → Nice (t (flat K))
 tail_nice t tail K s conflicts =
     let F : Repository = flat K in
     let P : Repository = t F in
@@ -160,7 +160,7 @@ tail_nice t tail K s conflicts =
       sorted = tail.order F tidy (flat_order K);
     }
 
-tail_lighter : (t : Repository → Repository) → Tail t → (K : Repository) → SoundRepository K → Nice K → (t (flat K)).conflicts ≡ K.conflicts →
+pub tail_lighter : (t : Repository → Repository) → Tail t → (K : Repository) → SoundRepository K → Nice K → (t (flat K)).conflicts ≡ K.conflicts →
     (t (flat K) ≡ K) ⊎ (total (t (flat K)).clauses < total K.clauses)
 tail_lighter t tail K s n conflicts =
     let F : Repository = flat K in

@@ -8,3 +8,4 @@ pub mod Midways
 pub mod Compared
 mod Again
 mod SampleRows
+mod Levels

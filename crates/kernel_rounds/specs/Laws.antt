@@ -1,16 +1,17 @@
 -- The laws of the rounds and of the kernel.
-use Rattle.std.specs.Prelude.{◌≡◌, ℕ, ◌<◌, ◌≤◌, ◌↔◌, true, List, [], length, None}
+use Rattle.std.specs.Prelude.{◌≡◌, ℕ, ◌<◌, ◌≤◌, ◌+◌, ◌∷◌, ◌↔◌, true, List, [], length, None}
 use Rattle.row_book.specs.Sets.{NumSet, In, Is}
 use Rattle.row_book.specs.Repository.{Repository, Coinst, clauses_of}
 use Rattle.row_book.specs.Sound.{OfPackages, SoundRepository}
-use Rattle.row_book.specs.Flattening.{core_of, flat}
+use Rattle.row_book.specs.Clauses.{InOrder}
+use Rattle.row_book.specs.Flattening.{core_of, flat, has_conflict}
 use Rattle.row_book.specs.Support.{row}
 use Rattle.row_book.specs.Merging.{quotient}
 use Rattle.row_book.specs.Pruning.{prune}
 use Rattle.row_book.specs.Thinning.{thin}
-use Rattle.row_book.specs.Rounds.{round, rounds, enough_rounds, round_count, kernel, kernel_class, kernel_image, kernel_steps, limit_at, Settled}
+use Rattle.row_book.specs.Rounds.{round, rounds, enough_rounds, round_count, kernel, kernel_class, kernel_image, kernel_steps, limit_at, weigh, Settled}
 use Rattle.class_merge.specs.Laws.{plain_clauses}
-use Rattle.kernel_rounds.specs.Tails.{Tail, round_with, rounds_with, image_with}
+use Rattle.kernel_rounds.specs.Tails.{Tail, conflict_count, round_with, rounds_with, image_with}
 
 -- where each package that stands in a clause is of the core, flattening only drops clauses
 abbrev pub FlatPlain : Type 0
@@ -85,3 +86,30 @@ pub record OwnKernel (R : Repository) : Type 0 where
 
 abbrev pub KernelOfKernel : Type 0
 KernelOfKernel = (R : Repository) → SoundRepository R → OwnKernel R
+
+-- the sum, over all clauses, of the clause's length plus one
+abbrev pub total_weight : List (List (List ℕ)) → ℕ
+total_weight [] = 0
+total_weight (row ∷ rows) = weigh row + total_weight rows
+
+-- each package that stands in a clause has a conflict
+abbrev pub NeedsConflicted : Repository → Type 0
+NeedsConflicted R = (p : ℕ) (c : List ℕ) (n : ℕ) → In c (clauses_of R p) → In n c → has_conflict R n ≡ true
+
+-- the clauses of each package are in order, each once, as in every book
+abbrev pub RowsInOrder : Repository → Type 0
+RowsInOrder R = (p : ℕ) → InOrder (clauses_of R p)
+
+-- a round that changes something, and leaves as many packages and as many conflicts
+pub record IsLevel (R : Repository) : Type 0 where
+  pub changes : round R ≡ R → ⊥
+  pub size : length (round R).clauses ≡ length R.clauses
+  pub conflicts : conflict_count (round R) ≡ conflict_count R
+
+-- after it each package that stands in a clause has a conflict, and where this was so before it too, the clauses weigh less
+pub record AfterLevel (R : Repository) : Type 0 where
+  pub conflicted : NeedsConflicted (round R)
+  pub lighter : RowsInOrder R → NeedsConflicted R → total_weight (round R).clauses < total_weight R.clauses
+
+abbrev pub LevelRounds : Type 0
+LevelRounds = (R : Repository) → SoundRepository R → IsLevel R → AfterLevel R

@@ -12,7 +12,7 @@ pub use error::RoundError;
 pub use extraction::{Kernel, extract};
 pub use laws::{
     fixed_is_settled, fixed_parts, flat_plain, image_is_of_classes, kernel_is, kernel_keeps,
-    kernel_of_kernel, tails_end, tails_keep, three_tails,
+    kernel_of_kernel, level_rounds, tails_end, tails_keep, three_tails,
 };
 
 #[cfg(test)]

@@ -18,3 +18,4 @@ pub mod Repositories
 pub mod Facing
 pub mod BookRepositories
 pub mod Leads
+mod Distinct

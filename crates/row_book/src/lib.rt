@@ -23,7 +23,7 @@ pub use needs::Needs;
 pub use pair::Pair;
 pub use subsets::is_coinst;
 pub use trail::{Step, StepList, Trail};
-pub use uses::UseTable;
+pub use uses::{UseTable, distinct_numbers_in};
 pub use within::{has_side_within, has_within};
 
 /// The clauses of one package.

@@ -118,6 +118,21 @@ fn sorted_numbers_in(alloc: Global, pool: &Pool, ids: &[ClauseId]) -> Result<Vec
     Ok(found)
 }
 
+/// The numbers that clauses hold, each once; it fails only where no memory is found.
+pub fn distinct_numbers_in(
+    alloc: Global,
+    pool: &Pool,
+    ids: &[ClauseId],
+) -> Result<Vec<u32>, AllocError>
+    requires { OfPool pool.now ids.now }
+    ensures held { IfOk result (λ found. (n : ℕ) → In n found.items → some_holds (clauses_at pool.now ids.now) n ≡ true) }
+    ensures all { IfOk result (λ found. (n : ℕ) → some_holds (clauses_at pool.now ids.now) n ≡ true → In n found.items) }
+{
+    let mut found = sorted_numbers_in(alloc, pool, ids)?;
+    found.dedup();
+    Ok(found)
+}
+
 /// Those of the wanted numbers, which are sorted, that clauses hold, in their order.
 fn numbers_among(
     alloc: Global,

@@ -1,11 +1,12 @@
-use Rattle.std.proofs.Common.{◌≡◌, ◌<◌, ◌≤◌, ◌+◌, ◌∷◌, ◌++◌, ◌∙◌, [], ℕ, ap, ap₂, append-nil, arith, drop, drop-cons, length, map, refl, subst, suc, sym}
+use Rattle.std.proofs.Common.{◌≡◌, ◌<◌, ◌≤◌, ◌+◌, ◌∷◌, ◌++◌, ◌∙◌, [], ℕ, ap, ap₂, append-nil, arith, drop, drop-cons, length, map, refl, subst, suc, sym, true, List}
 use Rattle.std.proofs.lemmas.List.{drop_all}
 use Rattle.clause_pool.specs.Interned.{clause_at, clauses_at}
-use Rattle.row_book.specs.Sets.{In}
+use Rattle.row_book.specs.Sets.{In, has}
+use Rattle.row_book.specs.Uses.{some_holds}
 use Rattle.row_book.specs.Pruning.{clauses_steps, prune_clauses}
 use Rattle.row_book.specs.Rounds.{IdleStep}
 use Rattle.row_book.specs.Trail.{trail_meaning}
-use Rattle.row_book.proofs.Lists.{In_map, In_map_cases, item_in}
+use Rattle.row_book.proofs.Lists.{In_has, In_map, In_map_cases, any_cases, any_from, has_In, item_in}
 use Rattle.clause_prune.specs.Tests.{with_ids}
 use Rattle.clause_prune.proofs.Left.{Pruning, pruning_more}
 use Rattle.clause_prune.proofs.clauses.prune_each.Goals as goal
@@ -28,10 +29,19 @@ pub prune_one-requires-clause-own : goal.prune_one-requires-clause-own
 prune_one-requires-clause-own c =
     c.requires.members (clause_at c.args.pool.now c.id-item.result) (In_map (clause_at c.args.pool.now) c.args.ids.now c.id-item.result (item_in c.args.ids.now c.loop-id.id-index c.id-item.result (omega arith) c.id-item.is))
 
-pub prune_one-requires-clause-members : goal.prune_one-requires-clause-members
-prune_one-requires-clause-members c = λ d i.
+-- the numbers that the clauses hold are packages, and those that are left hold no others
+pub prune_one-requires-clause-packages : goal.prune_one-requires-clause-packages
+prune_one-requires-clause-packages c = λ n i.
+    let t : some_holds (clauses_at c.args.pool.now c.args.ids.now) n ≡ true = c.in_ok-packages.ensures.held n (subst (λ z. In n z) c.as_slice-members.ensures.value i) in
+    let w : (d : List ℕ) × In d (clauses_at c.args.pool.now c.args.ids.now) × (has d n ≡ true) = any_cases (λ d. has d n) (clauses_at c.args.pool.now c.args.ids.now) t in
+    c.requires.members w.0 w.1 n (has_In w.0 n w.2)
+
+pub prune_one-requires-clause-all : goal.prune_one-requires-clause-all
+prune_one-requires-clause-all c = λ d i n j.
     let w : (id : ℕ) × In id c.loop-id.left.items × (d ≡ clause_at c.args.pool.now id) = In_map_cases (clause_at c.args.pool.now) c.loop-id.left.items d i in
-    c.requires.members d (subst (λ z. In z (clauses_at c.args.pool.now c.args.ids.now)) (sym w.2) (In_map (clause_at c.args.pool.now) c.args.ids.now w.0 (c.loop-id.invariant.part w.0 w.1)))
+    let k : In d (clauses_at c.args.pool.now c.args.ids.now) =
+    subst (λ z. In z (clauses_at c.args.pool.now c.args.ids.now)) (sym w.2) (In_map (clause_at c.args.pool.now) c.args.ids.now w.0 (c.loop-id.invariant.part w.0 w.1)) in
+    subst (λ z. In n z) (sym c.as_slice-members.ensures.value) (c.in_ok-packages.ensures.all n (any_from (λ e. has e n) (clauses_at c.args.pool.now c.args.ids.now) d k (In_has j)))
 
 pub loop-id-preserved : goal.loop-id-preserved
 loop-id-preserved c =

@@ -2,7 +2,7 @@
 use Rattle.std.proofs.Common.{◌≡◌, ◌≢◌, ℕ, zero, suc, ◌<◌, ◌≤◌, ◌+◌, ◌-◌, Bool, true, false, ltb, cond, List, [], ◌∷◌, inl, inr, refl, sym, ◌∙◌, ap, subst, length, get_or, map, filter, take, drop, length-drop, arith, lt-ltb, eq-eqb, eqb-true, ne_eqb}
 use Rattle.std.specs.List.{list_any}
 use Rattle.std.specs.List.Sorted.{IsNonDecreasing, IsPartitionedBy}
-use Rattle.std.proofs.lemmas.Bool.{and_from, and_parts, both_ways, cases_eq, cond-true, cond-false, false_from_ne_true, false≢true, ltb-false, ltb-true}
+use Rattle.std.proofs.lemmas.Bool.{and_from, and_parts, both_ways, cases_eq, cond-true, cond-false, false_from_ne_true, false≢true, ltb-false, ltb-true, or_from}
 use Rattle.std.proofs.lemmas.List.{get_or-drop}
 use Rattle.clause_pool.proofs.Lists.{In_at, In_place}
 use Rattle.row_book.specs.Sets.{In, has}
@@ -147,6 +147,7 @@ module _ (depth : ℕ) (group : List (List ℕ)) (order : InOrder (map (drop dep
             | inl l ↦ let f : number < number = l in absurd (omega arith)
             | inr e ↦ e.1
           ]
+
       kept : (cs : List (List ℕ)) → InOrder (map (drop depth) cs) → InOrder (map (drop (depth + 1)) (filter (goes_on depth number) cs))
       kept [] o = tt
       kept (c ∷ cs) o = pick (goes_on depth number c) refl (kept cs o.1)
@@ -192,6 +193,7 @@ module _ (depth : ℕ) (group : List (List ℕ)) (order : InOrder (map (drop dep
       longer zero (x ∷ xs) l = (x, eq-eqb x x refl)
       longer (suc n) [] l = absurd (omega arith)
       longer (suc n) (x ∷ xs) l = longer n xs (omega arith)
+
       not_empty : (xs ys : List ℕ) → Before xs ys → (x : ℕ) × (begins_with x ys ≡ true)
       not_empty [] [] b = absurd b
       not_empty (x ∷ xs) [] b = absurd b
@@ -220,6 +222,11 @@ module _ (depth : ℕ) (group : List (List ℕ)) (order : InOrder (map (drop dep
       let s : length w.0 < size = ltb-true (length w.0) size (and_parts (ltb (length w.0) size) (is_inside (drop depth w.0) wanted) w.2).0 in
       let m : depth ≤ length w.0 = deep w.0 w.1 in
       omega arith)
+
+-- no element passes a test that fails at each place
+pub none_places : (test : List ℕ → Bool) (cs : List (List ℕ)) → ((k : ℕ) → k < length cs → test (get_or cs k []) ≡ false) → list_any test cs ≡ false
+none_places test [] f = refl
+none_places test (c ∷ cs) f = or_from (test c) (list_any test cs) (f 0 (omega arith)) (none_places test cs (λ k l. f (suc k) (omega arith)))
 
 -- a family is its own group at depth 0
 pub whole_group : (family : List (List ℕ)) → map (drop 0) family ≡ family

@@ -6,8 +6,11 @@ ghost use Rattle.row_book.specs.Clauses.{Ascending, InOrder};
 ghost use Rattle.clause_flatten.specs.Inclusion.{begins_below, goes_on, has_shorter, is_within};
 ghost use Rattle.clause_flatten.specs.TidyRows.{stays};
 
-use crate::inclusion::contains;
+use crate::inclusion::{contains, is_inside};
 use crate::scratch::Clause;
+
+/// A group of so many clauses is not cut any more.
+const FEW: usize = 4;
 
 /// Whether the clause does not hold the number, and has no shorter one of the family within it.
 pub(crate) fn stays(number: u32, family: &[Clause], clause: &[u32]) -> bool
@@ -22,6 +25,7 @@ pub(crate) fn stays(number: u32, family: &[Clause], clause: &[u32]) -> bool
 pub(crate) fn is_shortest(kept: &[Clause], unions: &[Clause], clause: &[u32]) -> bool
     requires kept { InOrder kept.now }
     requires unions { InOrder unions.now }
+    requires ascending { Ascending clause.now }
     ensures { result ≡ (not (has_shorter kept.now clause.now) && not (has_shorter unions.now clause.now)) }
 {
     !has_shorter(kept, clause) && !has_shorter(unions, clause)
@@ -29,7 +33,8 @@ pub(crate) fn is_shortest(kept: &[Clause], unions: &[Clause], clause: &[u32]) ->
 
 /// Whether a shorter clause of the family is inside the clause.
 pub(crate) fn has_shorter(family: &[Clause], clause: &[u32]) -> bool
-    requires { InOrder family.now }
+    requires in_order { InOrder family.now }
+    requires ascending { Ascending clause.now }
     ensures { result ≡ has_shorter family.now clause.now }
 {
     has_within(family, 0, clause, clause.len())
@@ -40,8 +45,12 @@ pub(crate) fn has_shorter(family: &[Clause], clause: &[u32]) -> bool
 fn has_within(group: &[Clause], depth: usize, wanted: &[u32], size: usize) -> bool
     requires deep { (c : List ℕ) → In c group.now → depth ≤ length c }
     requires in_order { InOrder (map (drop depth) group.now) }
+    requires ascending { Ascending wanted.now }
     ensures { result ≡ list_any (is_within depth wanted.now size) group.now }
 {
+    if group.len() <= FEW {
+        return any_within(group, depth, wanted, size);
+    }
     let Some(first) = group.first() else {
         return false;
     };
@@ -57,6 +66,29 @@ fn has_within(group: &[Clause], depth: usize, wanted: &[u32], size: usize) -> bo
         }
     }
     false
+}
+
+/// The same for a group of few clauses, each looked at by itself.
+fn any_within(group: &[Clause], depth: usize, wanted: &[u32], size: usize) -> bool
+    requires deep { (c : List ℕ) → In c group.now → depth ≤ length c }
+    requires ascending { Ascending wanted.now }
+    ensures { result ≡ list_any (is_within depth wanted.now size) group.now }
+{
+    for other in group {
+        if is_within(other.as_slice(), depth, wanted, size) {
+            return true;
+        }
+    }
+    false
+}
+
+/// Whether the clause has fewer numbers than the size, and those from the depth on are all wanted.
+fn is_within(clause: &[u32], depth: usize, wanted: &[u32], size: usize) -> bool
+    requires deep { depth ≤ length clause.now }
+    requires ascending { Ascending wanted.now }
+    ensures { result ≡ is_within depth wanted.now size clause.now }
+{
+    clause.len() < size && is_inside(&clause[depth..], wanted)
 }
 
 /// Lends the clauses of the group that have the number at the depth.

@@ -9,6 +9,10 @@ use Rattle.clause_flatten.proofs.Families.{At, at_item, interned_less, interned_
 use Rattle.clause_flatten.proofs.family.minimal_ids.Goals as goal
 use Rattle.clause_flatten.proofs.family.minimal_ids.Goals.{then-not-has_shorter+in_ok-id+in_ok-push, else-not-has_shorter}
 
+pub has_shorter-requires-clause-ascending : goal.has_shorter-requires-clause-ascending
+has_shorter-requires-clause-ascending c =
+    subst (λ z. Ascending z) (sym c.as_slice.ensures) (c.requires.ascending c.clause-item.result (item_in c.args.family.now c.loop-clause.clause-index c.clause-item.result c.loop-clause-test.true c.clause-item.is))
+
 pub intern-requires : goal.intern-requires
 intern-requires c =
     subst (λ z. Ascending z) (sym c.as_slice-then-not-has_shorter.ensures) (c.requires.ascending c.clause-item.result (item_in c.args.family.now c.loop-clause.clause-index c.clause-item.result c.loop-clause-test.true c.clause-item.is))

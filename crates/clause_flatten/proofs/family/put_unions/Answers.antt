@@ -15,6 +15,11 @@ loop-union-init c = record {
   stay = record { clauses = λ id l. (l, refl); rows = λ id l. (l, refl) };
 }
 
+pub is_shortest-requires-clause-ascending : goal.is_shortest-requires-clause-ascending
+is_shortest-requires-clause-ascending c =
+    subst Ascending (sym c.as_slice.ensures)
+    (c.requires.ascending c.union-item.result (item_in c.args.unions.now c.loop-union.union-index c.union-item.result c.loop-union-test.true c.union-item.is))
+
 pub intern-requires : goal.intern-requires
 intern-requires c =
     subst Ascending (sym c.as_slice-then-is_shortest.ensures)

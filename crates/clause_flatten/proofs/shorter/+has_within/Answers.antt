@@ -14,7 +14,10 @@ has_within-requires t c = (
   omega (arith, c.decreases, c.if-size-depth.false),
   (
     part_deep c.args.depth c.args.group.now c.requires.in_order (get_or c.args.wanted.now c.loop-number.number-index 0) c.group_of.result.now c.group_of.ensures,
-    part_in_order c.args.depth c.args.group.now c.requires.in_order (get_or c.args.wanted.now c.loop-number.number-index 0) c.group_of.result.now c.group_of.ensures
+    (
+      part_in_order c.args.depth c.args.group.now c.requires.in_order (get_or c.args.wanted.now c.loop-number.number-index 0) c.group_of.result.now c.group_of.ensures,
+      c.requires.ascending,
+    ),
   ),
 )
 

@@ -4,8 +4,8 @@
     tools/fail_memory.py WORDS..
 
 The answer is to stay what it is, or to become that of want of memory: status 7 with its line, or 11 while the
-words are being found, and an empty report. The contract of `run` promises this over a shelf that tells its files and
-does not fail; here it is seen over the real files, with the real allocator. It wants gcc and glibc.
+words are being found, and an empty report. The contract of `run` promises this over a shelf that tells its files,
+where no call fails; here it is seen over the real files, with the real allocator. It wants gcc and glibc.
 """
 import os
 import subprocess

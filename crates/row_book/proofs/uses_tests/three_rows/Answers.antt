@@ -9,6 +9,10 @@ use Rattle.row_book.proofs.uses_tests.three_rows.Goals as goal
 pub intern_row-requires-clause-of_pool : goal.intern_row-requires-clause-of_pool
 intern_row-requires-clause-of_pool c = each (λ id. id < length c.in_ok-pool.pool.clauses) (c.in_ok-pool.one ∷ []) (c.in_ok-pool.ensures.of_pool c.in_ok-pool.one here, tt)
 
+-- a row of one clause is in order
+pub intern_row-requires-clause-in_order : goal.intern_row-requires-clause-in_order
+intern_row-requires-clause-in_order c = ((λ d i. absurd (In_none i)), tt)
+
 pub intern_row-requires-2-clause-of_pool : goal.intern_row-requires-2-clause-of_pool
 intern_row-requires-2-clause-of_pool c =
     let old = c.in_ok-pool.pool.clauses in

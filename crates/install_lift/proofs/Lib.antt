@@ -3,3 +3,4 @@ pub mod Trimmed
 pub mod Steps
 pub mod Lifted
 pub mod Through
+pub mod Computed

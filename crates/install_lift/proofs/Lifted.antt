@@ -117,7 +117,7 @@ pub lift_is_healthy : LiftIsHealthy
 lift_is_healthy R I T s healthy h = lift_rounds (round_count R) R I T s healthy h
 
 -- the greatest set that is served is one
-lifts_one : (R : Repository) (I J K : NumSet) → Lifts R I J → Lifts R I K → J ≡ K
+pub lifts_one : (R : Repository) (I J K : NumSet) → Lifts R I J → Lifts R I K → J ≡ K
 lifts_one R I J K j k = fun_ext (λ n. same (J n) (K n) (k.greatest J j.served n) (j.greatest K k.served n))
   where
     same : (a b : Bool) → (a ≡ true → b ≡ true) → (b ≡ true → a ≡ true) → a ≡ b

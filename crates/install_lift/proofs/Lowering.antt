@@ -50,7 +50,7 @@ either_true I J n (inr b) = or_right (I n) (J n) b
 pub row_served : (I J : NumSet) (row : List (List ℕ)) → ((c : List ℕ) → In c row → Hit (λ m. Is I m ⊎ Is J m) c) → is_served I J row ≡ true
 row_served I J row h = all_from (λ d. list_any (λ n. I n || J n) d) row (λ c i. let w = h c i in any_from (λ n. I n || J n) c w.by w.inside (either_true I J w.by w.alive))
 
-hit_more : (I J K : NumSet) (c : List ℕ) → Within J K → Hit (λ m. Is I m ⊎ Is J m) c → Hit (λ m. Is I m ⊎ Is K m) c
+pub hit_more : (I J K : NumSet) (c : List ℕ) → Within J K → Hit (λ m. Is I m ⊎ Is J m) c → Hit (λ m. Is I m ⊎ Is K m) c
 hit_more I J K c w h = record { by = h.by; inside = h.inside; alive = elim h.alive [ inl a ↦ inl a | inr b ↦ inr (w h.by b) ] }
 
 -- all that wait were looked at

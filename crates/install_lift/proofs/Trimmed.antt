@@ -62,7 +62,7 @@ trimmed R goals chosen S healthy none part = record {
     not_open : (c : List ℕ) → In c (goals ++ flat_map (member_clauses R S) (packages R)) → list_any S c ≡ true
     not_open c i = not-false (list_any S c) (find_no (is_unhit S) (goals ++ flat_map (member_clauses R S) (packages R)) none c i)
 
-plus_part : (S chosen : NumSet) (n : ℕ) → Within S chosen → chosen n ≡ true → Within (plus S n) chosen
+pub plus_part : (S chosen : NumSet) (n : ℕ) → Within S chosen → chosen n ≡ true → Within (plus S n) chosen
 plus_part S chosen n part t m h = elim (or_cases (S m) (eqb m n) h) [ inl a ↦ part m a | inr b ↦ subst (λ z. chosen z ≡ true) (sym (eqb-true m n b)) t ]
 
 trims_part : (R : Repository) (goals : List (List ℕ)) (chosen S T : NumSet) → Healthy R chosen → Within S chosen → Trims R goals chosen S T → IsHealthyPart R goals chosen T

@@ -1,10 +1,10 @@
 -- The laws of lifting.
-use Rattle.std.specs.Prelude.{◌≡◌, ℕ, ◌<◌, List, length}
+use Rattle.std.specs.Prelude.{◌≡◌, ◌↔◌, ℕ, ◌<◌, List, length}
 use Rattle.row_book.specs.Sets.{NumSet, Is}
 use Rattle.row_book.specs.Repository.{Repository, Healthy}
 use Rattle.row_book.specs.Sound.{SoundRepository}
 use Rattle.row_book.specs.Rounds.{RoundStep, kernel, kernel_class, kernel_steps}
-use Rattle.install_lift.specs.Lifting.{IsLift}
+use Rattle.install_lift.specs.Lifting.{IsLift, lift_of}
 
 -- the set holds each package whose class is in the other one
 abbrev pub HoldsMembers : Repository → NumSet → NumSet → Type 0
@@ -18,3 +18,7 @@ LiftIsHealthy = (R : Repository) (I T : NumSet) → SoundRepository R → Health
 -- a set is taken back in one way alone
 abbrev pub LiftIsOne : Type 0
 LiftIsOne = (steps : List RoundStep) (I S T : NumSet) → IsLift steps I S → IsLift steps I T → T ≡ S
+
+-- and that is what is computed
+abbrev pub LiftIsOf : Type 0
+LiftIsOf = (steps : List RoundStep) (I T : NumSet) → (IsLift steps I T ↔ (T ≡ lift_of steps I))

@@ -1,6 +1,7 @@
 -- Trimming: as few of the chosen packages as the open needs ask for, one after another.
-use Rattle.std.specs.Prelude.{◌≡◌, ℕ, ◌<◌, Bool, true, false, not, cond, List, [], ◌++◌, Option, Some, None}
+use Rattle.std.specs.Prelude.{◌≡◌, ◌↔◌, ℕ, zero, suc, ◌<◌, Bool, true, false, not, cond, List, [], ◌++◌, length, Option, Some, None}
 use Rattle.std.specs.List.{list_any, find, flat_map}
+use Rattle.std.specs.Option.{option_and_then}
 use Rattle.row_book.specs.Sets.{NumSet, Within, HitsAll, plus}
 use Rattle.row_book.specs.Repository.{Repository, Healthy, clauses_of}
 use Rattle.row_book.specs.Flattening.{packages}
@@ -27,6 +28,23 @@ pub data Trims (R : Repository) (goals : List (List ℕ)) (chosen : NumSet) : Nu
 abbrev pub IsTrim : Repository → List (List ℕ) → NumSet → NumSet → Type 0
 IsTrim R goals chosen T = Trims R goals chosen (λ n. false) T
 
+-- the first chosen member of the first open need
+abbrev pub next_put : Repository → List (List ℕ) → NumSet → NumSet → Option ℕ
+next_put R goals chosen S = option_and_then (find chosen) (first_need R goals S)
+
+abbrev pub with_put : NumSet → Option ℕ → NumSet
+with_put S None = S
+with_put S (Some n) = plus S n
+
+-- the set after so many packages are put in
+abbrev pub trim_after : ℕ → Repository → List (List ℕ) → NumSet → NumSet → NumSet
+trim_after zero R goals chosen S = S
+trim_after (suc n) R goals chosen S = trim_after n R goals chosen (with_put S (next_put R goals chosen S))
+
+-- the trim, from no package on; no more are put in than there are
+unfoldable pub trim_of : Repository → List (List ℕ) → NumSet → NumSet
+trim_of R goals chosen = trim_after (length R.clauses) R goals chosen (λ n. false)
+
 -- the trim of a healthy set that hits every goal is a healthy part of it that hits every goal
 pub record IsHealthyPart (R : Repository) (goals : List (List ℕ)) (chosen T : NumSet) : Type 0 where
   pub healthy : Healthy R T
@@ -39,6 +57,10 @@ TrimIsHealthy = (R : Repository) (goals : List (List ℕ)) (chosen T : NumSet) �
 -- there is one trim alone
 abbrev pub TrimIsOne : Type 0
 TrimIsOne = (R : Repository) (goals : List (List ℕ)) (chosen S T : NumSet) → IsTrim R goals chosen S → IsTrim R goals chosen T → T ≡ S
+
+-- and that is the one that is computed, of a healthy set that hits every goal
+abbrev pub TrimIsOf : Type 0
+TrimIsOf = (R : Repository) (goals : List (List ℕ)) (chosen T : NumSet) → Healthy R chosen → HitsAll chosen goals → (IsTrim R goals chosen T ↔ (T ≡ trim_of R goals chosen))
 
 -- while it is trimmed: what comes from this set comes from no package, and it is a part of what is chosen
 pub record IsTrimming (R : Repository) (goals : List (List ℕ)) (chosen S : NumSet) : Type 0 where

@@ -1,6 +1,6 @@
 //! The laws of lifting and of trimming: the functions do nothing, the contract of each is one law.
-ghost use Rattle.install_lift.specs.Laws.{LiftIsHealthy, LiftIsOne};
-ghost use Rattle.install_lift.specs.Trimming.{TrimIsHealthy, TrimIsOne};
+ghost use Rattle.install_lift.specs.Laws.{LiftIsHealthy, LiftIsOne, LiftIsOf};
+ghost use Rattle.install_lift.specs.Trimming.{TrimIsHealthy, TrimIsOne, TrimIsOf};
 
 /// A lifted set is healthy, and holds each package of each class that it came from.
 pub fn lift_is_healthy()
@@ -12,6 +12,11 @@ pub fn lift_is_one()
     ensures { LiftIsOne }
 {}
 
+/// It is the set that is computed.
+pub fn lift_is_of()
+    ensures { LiftIsOf }
+{}
+
 /// The trim of a healthy set that hits every goal is a healthy part of it that hits every goal.
 pub fn trim_is_healthy()
     ensures { TrimIsHealthy }
@@ -20,4 +25,9 @@ pub fn trim_is_healthy()
 /// There is no other trim.
 pub fn trim_is_one()
     ensures { TrimIsOne }
+{}
+
+/// It is the trim that is computed.
+pub fn trim_is_of()
+    ensures { TrimIsOf }
 {}

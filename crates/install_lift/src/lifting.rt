@@ -7,7 +7,7 @@ ghost use Rattle.row_book.specs.Flags.{flag};
 ghost use Rattle.row_book.specs.Pruning.{lift_idle};
 ghost use Rattle.row_book.specs.Rounds.{kernel, kernel_steps};
 ghost use Rattle.row_book.specs.Trail.{step_meaning, trail_meaning, SoundStep, SoundSteps};
-ghost use Rattle.install_lift.specs.Lifting.{members_by, IsLift, IsLiftThrough};
+ghost use Rattle.install_lift.specs.Lifting.{lift_of, members_by, IsLift, IsLiftThrough};
 ghost use Rattle.install_lift.specs.Laws.{HoldsMembers};
 
 use crate::raising::{greatest_support, is_up};
@@ -177,6 +177,7 @@ pub fn lift(
     requires trail { trail_meaning pool.now trail.now.steps ≡ kernel_steps (repository_of pool.now from.now) }
     requires healthy { Healthy (repository_of pool.now to.now) (flag classes.now) }
     ensures lift { IfOk result (λ set. IsLift (kernel_steps (repository_of pool.now from.now)) (flag classes.now) (flag set)) }
+    ensures is { IfOk result (λ set. flag set ≡ lift_of (kernel_steps (repository_of pool.now from.now)) (flag classes.now)) }
     ensures healthy { IfOk result (λ set. Healthy (repository_of pool.now from.now) (flag set)) }
     ensures holds { IfOk result (λ set. HoldsMembers (repository_of pool.now from.now) (flag classes.now) (flag set)) }
     ensures long { IfOk result (λ set. length set ≡ length from.now.rows) }

@@ -7,7 +7,7 @@ ghost use Rattle.row_book.specs.Repository.{Healthy};
 ghost use Rattle.row_book.specs.Book.{repository_of, Sound};
 ghost use Rattle.row_book.specs.Flags.{flag};
 ghost use Rattle.row_book.specs.Needs.{NeedsFit};
-ghost use Rattle.install_lift.specs.Trimming.{is_unhit, AreMet, IsHealthyPart, IsTrim, IsTrimming};
+ghost use Rattle.install_lift.specs.Trimming.{is_unhit, AreMet, IsHealthyPart, IsTrim, IsTrimming, trim_of};
 
 use crate::raising::is_up;
 use clause_pool::{ClauseId, FlagList, Pool};
@@ -123,6 +123,7 @@ pub fn trim(
     requires healthy { Healthy (repository_of pool.now book.now) (flag chosen.now) }
     requires hits { HitsAll (flag chosen.now) goals.now }
     ensures trim { IfOk result (λ set. IsTrim (repository_of pool.now book.now) goals.now (flag chosen.now) (flag set)) }
+    ensures is { IfOk result (λ set. flag set ≡ trim_of (repository_of pool.now book.now) goals.now (flag chosen.now)) }
     ensures part { IfOk result (λ set. IsHealthyPart (repository_of pool.now book.now) goals.now (flag chosen.now) (flag set)) }
     ensures long { IfOk result (λ set. length set ≡ length chosen.now) }
 {
@@ -138,6 +139,7 @@ fn trim_set(pool: &Pool, book: &Book, goals: &Needs, chosen: &[bool], set: &mut 
     requires hits { HitsAll (flag chosen.now) goals.now }
     requires none { set.old ≡ replicate (length chosen.now) false }
     ensures trim { IsTrim (repository_of pool.now book.now) goals.now (flag chosen.now) (flag set.new) }
+    ensures is { flag set.new ≡ trim_of (repository_of pool.now book.now) goals.now (flag chosen.now) }
     ensures part { IsHealthyPart (repository_of pool.now book.now) goals.now (flag chosen.now) (flag set.new) }
 {
     trim_goals(pool, book, goals, chosen, set);

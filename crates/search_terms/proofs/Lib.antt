@@ -6,6 +6,7 @@ pub mod Models
 pub mod Trees
 pub mod Shapes
 pub mod Exists
+pub mod Computed
 pub mod Certificates
 pub mod Forms
 pub mod Ranges

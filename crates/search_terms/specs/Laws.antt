@@ -7,6 +7,7 @@ use Rattle.search_terms.specs.declared.literals.Literal.{Literal}
 use Rattle.search_terms.specs.Closure.{InRange, Models, HaveNoModel}
 use Rattle.search_terms.specs.Derives.{Derives}
 use Rattle.search_terms.specs.Tree.{Tree, IsTree, found_of, failed_leaves, log_of}
+use Rattle.search_terms.specs.SearchTree.{search_tree}
 use Rattle.search_terms.specs.Form.{form}
 
 -- what a search is after: a healthy set that hits every goal
@@ -24,6 +25,10 @@ TreeIsThere = (classes : ℕ) (formula : List (List Literal)) → InRange classe
 -- and it has one tree alone
 abbrev pub TreeIsOne : Type 0
 TreeIsOne = (classes : ℕ) (formula : List (List Literal)) (first second : Tree) → IsTree classes formula [] first → IsTree classes formula [] second → second ≡ first
+
+-- it is the one that is computed
+abbrev pub SearchTreeIs : Type 0
+SearchTreeIs = (classes : ℕ) (formula : List (List Literal)) → InRange classes formula → IsTree classes formula [] (search_tree classes formula)
 
 -- no tree has more failed leaves than two to the number of classes, so a budget of that many is never spent
 abbrev pub BudgetIsEnough : Type 0

@@ -3,5 +3,6 @@ pub mod Marks
 pub mod Form
 pub mod Derives
 pub mod Tree
+pub mod SearchTree
 pub mod Certificate
 pub mod Laws

@@ -1,5 +1,5 @@
 //! The laws of search trees and logs: the functions do nothing, the contract of each is one law.
-ghost use Rattle.search_terms.specs.Laws.{TreeIsThere, TreeIsOne, BudgetIsEnough, SmallTreesAreWalked, LogIsShort, FoundIsModel, LogDerives, DerivesNoModel, DerivesNoSolution, ModelsAreHealthy, FindsHealthy};
+ghost use Rattle.search_terms.specs.Laws.{TreeIsThere, TreeIsOne, SearchTreeIs, BudgetIsEnough, SmallTreesAreWalked, LogIsShort, FoundIsModel, LogDerives, DerivesNoModel, DerivesNoSolution, ModelsAreHealthy, FindsHealthy};
 ghost use Rattle.search_terms.specs.Certificate.{CertificateTells, CertificatesJoin, FirstChoiceCertifies, FirstChoicesJoin};
 
 /// Each formula has a tree.
@@ -10,6 +10,11 @@ pub fn tree_is_there()
 /// It has no other one.
 pub fn tree_is_one()
     ensures { TreeIsOne }
+{}
+
+/// It is the search tree that is computed.
+pub fn search_tree_is()
+    ensures { SearchTreeIs }
 {}
 
 /// No tree has more failed leaves than two to the number of classes.

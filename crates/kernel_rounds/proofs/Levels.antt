@@ -1,14 +1,13 @@
 -- Level rounds: what they come to, and that the clauses weigh less.
-use Rattle.std.proofs.Common.{◌≡◌, ℕ, ◌<◌, ◌+◌, true, List, [], ◌∷◌, length, inl, inr, refl, sym, ◌∙◌, ap, subst, arith, ◌⊎◌}
-use Rattle.row_book.specs.Sets.{In}
-use Rattle.row_book.specs.Repository.{Repository, clauses_of}
+use Rattle.std.proofs.Common.{◌≡◌, ℕ, ◌<◌, ◌+◌, List, [], ◌∷◌, length, inl, inr, refl, sym, ◌∙◌, ap, subst, arith}
+use Rattle.row_book.specs.Repository.{Repository}
 use Rattle.row_book.specs.Sound.{SoundRepository}
-use Rattle.row_book.specs.Flattening.{core_of, flat, has_conflict}
+use Rattle.row_book.specs.Flattening.{flat}
 use Rattle.row_book.specs.Pruning.{prune}
 use Rattle.row_book.specs.Thinning.{thin}
 use Rattle.row_book.specs.Rounds.{round, weigh}
 use Rattle.clause_flatten.proofs.Stages.{core_is_the_conflicted_lem}
-use Rattle.kernel_rounds.specs.Laws.{AfterLevel, IsLevel, LevelRounds, NeedsConflicted, RowsInOrder, total_weight}
+use Rattle.kernel_rounds.specs.Laws.{IsLevel, LevelRounds, NeedsConflicted, RowsInOrder, total_weight}
 use Rattle.kernel_rounds.specs.Tails.{conflict_count}
 use Rattle.kernel_rounds.proofs.Ending.{Less, Nice, Same, outcome, tail_lighter, tail_nice, total}
 use Rattle.kernel_rounds.proofs.Tails.{thin_tail}

@@ -5,7 +5,9 @@ pub mod Ending
 pub mod Settling
 pub mod Reached
 pub mod Midways
+pub mod MovedSteps
 pub mod Compared
 mod Again
 mod SampleRows
 mod Levels
+pub mod Classes

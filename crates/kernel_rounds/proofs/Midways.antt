@@ -1,9 +1,10 @@
 -- One more round on the way to a kernel.
-use Rattle.std.proofs.Common.{◌≡◌, ℕ, zero, suc, ◌<◌, ◌≤◌, ◌+◌, Bool, true, false, cond, min, eqb, List, [], ◌∷◌, ◌++◌, length, inl, inr, refl, sym, ◌∙◌, ap, ap₂, subst, arith, map, zero-le, append_assoc, append-nil, Option, Some, None}
+use Rattle.std.proofs.Common.{◌≡◌, ℕ, zero, suc, ◌<◌, ◌≤◌, ◌+◌, Bool, true, false, not, ◌↔◌, cond, min, eqb, List, [], ◌∷◌, ◌++◌, length, inl, inr, refl, sym, ◌∙◌, ap, ap₂, subst, arith, map, zero-le, append_assoc, append-nil, Option, Some, None}
+use Rattle.std.specs.Prelude.{if◌then◌else◌}
 use Rattle.std.specs.Option.{option_map}
 use Rattle.std.proofs.lemmas.Bool.{cases_eq, cases_lt, both_ways}
 use Rattle.std.proofs.lemmas.List.{map-append}
-use Rattle.clause_pool.specs.Interned.{Interned, IsPool, Kept, row_at}
+use Rattle.clause_pool.specs.Interned.{Interned, IsPool, Kept}
 use Rattle.clause_flatten.specs.declared.error.FlatError.{FlatError}
 use Rattle.clause_flatten.specs.declared.error.FlatError.TheVariants as faults
 use Rattle.clause_flatten.specs.Refusals.{OnLimit}
@@ -13,7 +14,7 @@ use Rattle.row_book.specs.declared.trail.Step.TheVariants.{Flat, Idle, Merge}
 use Rattle.row_book.specs.Sets.{In, here, there}
 use Rattle.row_book.specs.Clauses.{numbers}
 use Rattle.row_book.specs.Repository.{Repository}
-use Rattle.row_book.specs.Book.{repository_of, AreConflicts, RowsFit, Sound}
+use Rattle.row_book.specs.Book.{repository_of, Sound}
 use Rattle.row_book.specs.Sound.{SoundRepository}
 use Rattle.row_book.specs.Flattening.{flat, first_some, packages, Passed, passes}
 use Rattle.row_book.specs.Merging.{class_list, class_of, quotient, place_of}
@@ -25,8 +26,8 @@ use Rattle.row_book.proofs.BookRepositories.{book_size}
 use Rattle.row_book.proofs.Books.{repository_kept, sound_kept}
 use Rattle.row_book.proofs.Lists.{In_append_cases, In_cases, In_none}
 use Rattle.row_book.proofs.Order.{length_numbers, map_same, numbers_parts}
-use Rattle.row_book.proofs.Repositories.{of_packages, repository_same}
-use Rattle.clause_flatten.proofs.Tidied.{kept_kept, kept_same}
+use Rattle.row_book.proofs.Repositories.{of_packages}
+use Rattle.clause_flatten.proofs.Tidied.{kept_same}
 use Rattle.class_merge.specs.Classes.{class_in}
 use Rattle.class_merge.proofs.Classes.{has_class_lem}
 use Rattle.class_merge.proofs.MergedRows.{class_at}
@@ -116,7 +117,7 @@ told_kept old new is k (Flat before ∷ steps) f =
 told_kept old new is k (Idle p clause added ∷ steps) f = ap (λ xs. step_meaning new (Idle p clause added) ∷ xs) (told_kept old new is k steps (λ x i. f x (there i)))
 told_kept old new is k (Merge class_of ∷ steps) f = ap (λ xs. step_meaning new (Merge class_of) ∷ xs) (told_kept old new is k steps (λ x i. f x (there i)))
 
-sound_step : (old new : Interned) → IsPool old → Kept old new → (step : Step) → SoundStep old step → SoundStep new step
+pub sound_step : (old new : Interned) → IsPool old → Kept old new → (step : Step) → SoundStep old step → SoundStep new step
 sound_step old new is k (Flat before) s = sound_kept old new is k before s
 sound_step old new is k (Idle p clause added) s = tt
 sound_step old new is k (Merge class_of) s = tt
@@ -136,6 +137,41 @@ idles_sound pool (x ∷ xs) (y ∷ ys) e step i =
       | inr j ↦ idles_sound pool xs ys (let f : trail_meaning pool xs ≡ map IdleStep ys = cc in f) step j
     ]
 
+-- what a trail tells after one more round
+pub record IsNext (old new : Interned) (book : Book) (past steps : List Step) (changed : Bool) : Type 0 where
+  pub meaning : trail_meaning new steps ≡ trail_meaning old past ++ (if changed then round_steps (repository_of old book) else [])
+  pub sound : SoundSteps new steps
+
+pub round_told : (old new : Interned) (book : Book) (next : List ℕ) (past idle steps : List Step) (changed : Bool) → IsPool old → Kept old new → Sound old book → SoundSteps old past →
+    next ≡ class_list (flat (repository_of old book)) → trail_meaning new idle ≡ map IdleStep (idle_steps (quotient (flat (repository_of old book)))) →
+    steps ≡ (if changed then (past ++ (Flat book ∷ (Merge next ∷ []))) ++ idle else past) → IsNext old new book past steps changed
+round_told old new book next past idle steps true is k s f c d h =
+    let own : List Step = Flat book ∷ (Merge next ∷ []) in
+    record {
+      meaning =
+          ap (trail_meaning new) h
+          ∙ map-append (step_meaning new) (past ++ own) idle
+          ∙ ap (λ z. z ++ trail_meaning new idle) (map-append (step_meaning new) past own)
+          ∙ append_assoc (trail_meaning new past) (trail_meaning new own) (trail_meaning new idle)
+          ∙ ap₂ (λ x y. x ++ y) (told_kept old new is k past f)
+          (ap₂ (λ (x : RoundStep) (y : List RoundStep). x ∷ y) (ap FlatStep (repository_kept old new is k book s))
+          (ap₂ (λ (x : RoundStep) (y : List RoundStep). x ∷ y) (ap MergeStep c) d));
+      sound = λ step j. elim (In_append_cases (past ++ own) idle step (subst (λ z. In step z) h j)) [
+        | inl u ↦ elim (In_append_cases past own step u) [
+          | inl v ↦ sound_step old new is k step (f step v)
+          | inr v ↦ elim (In_cases v) [
+            | inl e ↦ subst (SoundStep new) (sym e) (sound_kept old new is k book s)
+            | inr w ↦ elim (In_cases w) [ inl e ↦ subst (SoundStep new) (sym e) tt | inr x ↦ absurd (In_none x) ]
+          ]
+        ]
+        | inr u ↦ idles_sound new idle (idle_steps (quotient (flat (repository_of old book)))) d step u
+      ];
+    }
+round_told old new book next past idle steps false is k s f c d h = record {
+  meaning = ap (trail_meaning new) h ∙ told_kept old new is k past f ∙ sym (append-nil (trail_meaning old past));
+  sound = λ step j. sound_step old new is k step (f step (subst (λ z. In step z) h j));
+}
+
 -- the classes of a list of classes
 classes_next : (R : Repository) → SoundRepository R → (i : ℕ) (classes next made : List ℕ) → classes ≡ map (class_after R i) (packages R) → next ≡ class_list (flat (rounds R i)) →
     made ≡ map (class_in next) classes → made ≡ map (class_after R (suc i)) (packages R)
@@ -151,38 +187,21 @@ classes_next R s i classes next made e f g =
     map_map f g (x ∷ xs) = ap (λ z. f (g x) ∷ z) (map_map f g xs)
 
 -- one round more
-pub midway_more : (R : Repository) (limit : ℕ) (start old new : Interned) (book made : Book) (classes next compose : List ℕ) (trail idle more : List Step) (number after : ℕ) →
-    SoundRepository R → IsPool old → IsMidway R limit start old book classes trail number →
-    repository_of new made ≡ round (repository_of old book) → next ≡ class_list (flat (repository_of old book)) → trail_meaning new idle ≡ map IdleStep (idle_steps (quotient (flat (repository_of old book)))) →
-    Sound new made → passes (repository_of old book) limit ≡ None → Kept old new → (round (repository_of old book) ≡ repository_of old book → ⊥) →
-    compose ≡ map (class_in next) classes → more ≡ (trail ++ (Flat book ∷ (Merge next ∷ []))) ++ idle → after ≡ min (number + 1) 4294967295 →
-    IsMidway R limit start new made compose more after
-midway_more R limit start old new book made classes next compose trail idle more number after s is m r c d sound pass k f g h a =
+pub midway_more : (R : Repository) (limit : ℕ) (old new : Interned) (book made : Book) (classes next compose : List ℕ) (trail more : List Step) (number after : ℕ) →
+    SoundRepository R → IsMidway R limit old book classes trail number →
+    repository_of new made ≡ round (repository_of old book) → next ≡ class_list (flat (repository_of old book)) → trail_meaning new more ≡ trail_meaning old trail ++ round_steps (repository_of old book) →
+    Sound new made → SoundSteps new more → passes (repository_of old book) limit ≡ None → (round (repository_of old book) ≡ repository_of old book → ⊥) →
+    compose ≡ map (class_in next) classes → after ≡ min (number + 1) 4294967295 →
+    IsMidway R limit new made compose more after
+midway_more R limit old new book made classes next compose trail more number after s m r c d sound books pass f g a =
     let i : ℕ = m.index in
     record {
       index = suc i;
       is = r ∙ ap round m.is ∙ sym (rounds_last i R);
       sound = sound;
       class_of = classes_next R s i classes next compose m.class_of (c ∙ ap (λ z. class_list (flat z)) m.is) g;
-      steps =
-          ap (trail_meaning new) h
-          ∙ map-append (step_meaning new) (trail ++ (Flat book ∷ (Merge next ∷ []))) idle
-          ∙ ap (λ z. z ++ trail_meaning new idle) (map-append (step_meaning new) trail (Flat book ∷ (Merge next ∷ [])))
-          ∙ append_assoc (trail_meaning new trail) (trail_meaning new (Flat book ∷ (Merge next ∷ []))) (trail_meaning new idle)
-          ∙ ap₂ (λ x y. x ++ y) (told_kept old new is k trail m.books ∙ m.steps)
-          (ap₂ (λ (x : RoundStep) (y : List RoundStep). x ∷ y) (ap FlatStep (repository_kept old new is k book m.sound ∙ m.is))
-          (ap₂ (λ (x : RoundStep) (y : List RoundStep). x ∷ y) (ap MergeStep (c ∙ ap (λ z. class_list (flat z)) m.is)) (d ∙ ap (λ z. map IdleStep (idle_steps (quotient (flat z)))) m.is)))
-          ∙ sym (steps_last i R);
-      books = λ step j. elim (In_append_cases (trail ++ (Flat book ∷ (Merge next ∷ []))) idle step (subst (λ z. In step z) h j)) [
-        | inl u ↦ elim (In_append_cases trail (Flat book ∷ (Merge next ∷ [])) step u) [
-          | inl v ↦ sound_step old new is k step (m.books step v)
-          | inr v ↦ elim (In_cases v) [
-            | inl e ↦ subst (SoundStep new) (sym e) (sound_kept old new is k book m.sound)
-            | inr w ↦ elim (In_cases w) [ inl e ↦ subst (SoundStep new) (sym e) tt | inr x ↦ absurd (In_none x) ]
-          ]
-        ]
-        | inr u ↦ idles_sound new idle (idle_steps (quotient (flat (repository_of old book)))) d step u
-      ];
+      steps = d ∙ ap₂ (λ x y. x ++ round_steps y) m.steps m.is ∙ sym (steps_last i R);
+      books = books;
       counted = a ∙ ap (λ z. min (z + 1) 4294967295) m.counted ∙ omega arith;
       passed = λ j l. elim (cases_lt j i) [
         | inl u ↦ m.passed j u
@@ -193,71 +212,75 @@ midway_more R limit start old new book made classes next compose trail idle more
         | inr u ↦ λ e. let same : j ≡ i = omega arith in
             f (subst (λ z. round z ≡ z) (ap (rounds R) same ∙ sym m.is) e)
       ];
-      kept = kept_kept start old new m.kept k;
     }
 
 -- and the end
-pub midway_end : (R : Repository) (limit : ℕ) (start old new : Interned) (book made : Book) (classes : List ℕ) (trail : List Step) (number : ℕ) →
-    SoundRepository R → IsPool old → IsMidway R limit start old book classes trail number →
-    repository_of new made ≡ round (repository_of old book) → round (repository_of old book) ≡ repository_of old book → Sound new made → passes (repository_of old book) limit ≡ None → Kept old new →
-    IsExtracted R limit start new made classes trail
-midway_end R limit start old new book made classes trail number s is m r fixed sound pass k =
+pub midway_end : (R : Repository) (limit : ℕ) (old new : Interned) (book made : Book) (classes : List ℕ) (trail more : List Step) (number : ℕ) →
+    SoundRepository R → IsMidway R limit old book classes trail number →
+    repository_of new made ≡ round (repository_of old book) → round (repository_of old book) ≡ repository_of old book → trail_meaning new more ≡ trail_meaning old trail →
+    Sound new made → SoundSteps new more → passes (repository_of old book) limit ≡ None →
+    IsExtracted R limit new new made classes more
+midway_end R limit old new book made classes trail more number s m r fixed d sound books pass =
     let i : ℕ = m.index in
     let at : i ≡ round_count R = reached R s limit i m.changed (subst (λ z. round z ≡ z) m.is fixed) in
     record {
       is = r ∙ fixed ∙ m.is ∙ ap (rounds R) at;
       class_of = m.class_of ∙ ap (λ z. map (class_after R z) (packages R)) at;
-      steps = told_kept old new is k trail m.books ∙ m.steps ∙ ap (steps_after R) at;
+      steps = d ∙ m.steps ∙ ap (steps_after R) at;
       sound = sound;
-      books = λ step j. sound_step old new is k step (m.books step j);
+      books = books;
       within = none_passed R s limit i at m.passed (ap (λ z. passes z limit) (sym m.is) ∙ pass);
-      kept = kept_kept start old new m.kept k;
+      kept = kept_same new;
     }
 
 place_map : (f : ℕ → ℕ) (test : ℕ → Bool) (xs : List ℕ) → place_of test (map f xs) ≡ place_of (λ x. test (f x)) xs
 place_map f test [] = refl
 place_map f test (x ∷ xs) = ap (λ z. cond (test (f x)) 0 (suc z)) (place_map f test xs)
 
-pub midway_refused : (R : Repository) (limit : ℕ) (start pool : Interned) (book : Book) (classes : List ℕ) (trail : List Step) (number : ℕ) (fault : FlatError) →
-    SoundRepository R → IsMidway R limit start pool book classes trail number → OnLimit (λ passed. passes (repository_of pool book) limit ≡ Some passed) fault →
+pub midway_refused : (R : Repository) (limit : ℕ) (pool : Interned) (book : Book) (classes : List ℕ) (trail : List Step) (number : ℕ) (fault : FlatError) →
+    SoundRepository R → IsMidway R limit pool book classes trail number → OnLimit (λ passed. passes (repository_of pool book) limit ≡ Some passed) fault →
     OnRoundLimit (λ passed. limit_at R limit ≡ Some passed) (refusal number classes fault)
-midway_refused R limit start pool book classes trail number (faults.Limit gone p count) s m e =
+midway_refused R limit pool book classes trail number (faults.Limit gone p count) s m e =
     let w : Passed = record { gone = gone; «package» = p; count = count } in
     one_passed R s limit m.index w (changing R s limit m.index m.changed) m.passed (ap (λ z. passes z limit) (sym m.is) ∙ e)
     ∙ ap Some (ap₂ (λ (n q : ℕ). record { number = n; gone = gone; «package» = q; count = count }) (sym m.counted)
     (sym (place_map (class_after R m.index) (λ k. eqb k p) (packages R)) ∙ ap (place_of (λ k. eqb k p)) (sym m.class_of)))
-midway_refused R limit start pool book classes trail number faults.Memory s m e = tt
+midway_refused R limit pool book classes trail number faults.Memory s m e = tt
 
 -- before any round
-pub midway_none : (pool : Interned) (book copy : Book) (classes : List ℕ) (trail : List Step) (limit size : ℕ) → Sound pool book → copy.rows ≡ book.rows → copy.conflicts ≡ book.conflicts →
-    size ≡ length book.rows → classes ≡ numbers size 0 → trail ≡ [] → IsMidway (repository_of pool book) limit pool pool copy classes trail 1
-midway_none pool book copy classes trail limit size s e f g h t = record {
+pub midway_none : (pool : Interned) (book : Book) (classes : List ℕ) (trail : List Step) (limit size : ℕ) → Sound pool book →
+    size ≡ length book.rows → classes ≡ numbers size 0 → trail ≡ [] → IsMidway (repository_of pool book) limit pool book classes trail 1
+midway_none pool book classes trail limit size s g h t = record {
   index = 0;
-  is = repository_same (repository_of pool copy) (repository_of pool book) (ap (map (row_at pool)) e) f;
-  sound = record { rows = subst (RowsFit pool) (sym e) s.rows; conflicts = subst AreConflicts (sym f) s.conflicts };
+  is = refl;
+  sound = s;
   class_of = h ∙ ap (λ n. numbers n 0) (g ∙ sym (book_size pool book)) ∙ sym (same_list (packages (repository_of pool book)));
   steps = ap (trail_meaning pool) t;
   books = λ step i. absurd (In_none (subst (λ z. In step z) t i));
   counted = refl;
   passed = λ j l. absurd (omega arith);
   changed = λ j l. absurd (omega arith);
-  kept = kept_same pool;
 }
   where
     same_list : (xs : List ℕ) → map (λ p. p) xs ≡ xs
     same_list [] = refl
     same_list (x ∷ xs) = ap (λ z. x ∷ z) (same_list xs)
 
--- a round that the test of books tells to change nothing
-pub told_same : (old new : Interned) (book made : Book) → IsPool old → Kept old new → Sound old book → repository_of new made ≡ round (repository_of old book) →
+-- the test of books tells whether a round changes nothing
+told_same : (old new : Interned) (book made : Book) → IsPool old → Kept old new → Sound old book → repository_of new made ≡ round (repository_of old book) →
     is_same_repository (repository_of new book) (repository_of new made) ≡ true → round (repository_of old book) ≡ repository_of old book
 told_same old new book made is k s r t = sym r ∙ sym (same_from (repository_of new book) (repository_of new made) t) ∙ repository_kept old new is k book s
 
-pub told_other : (old new : Interned) (book made : Book) → IsPool old → Kept old new → Sound old book → repository_of new made ≡ round (repository_of old book) →
+told_other : (old new : Interned) (book made : Book) → IsPool old → Kept old new → Sound old book → repository_of new made ≡ round (repository_of old book) →
     is_same_repository (repository_of new book) (repository_of new made) ≡ false → round (repository_of old book) ≡ repository_of old book → ⊥
 told_other old new book made is k s r t e =
     both_ways (is_same_repository (repository_of new book) (repository_of new made)) t
     (repository_test (repository_of new book) (repository_of new made) (repository_kept old new is k book s ∙ sym e ∙ sym r))
 
-pub midway_size : (R : Repository) (limit : ℕ) (start pool : Interned) (book : Book) (classes : List ℕ) (trail : List Step) (number : ℕ) → IsMidway R limit start pool book classes trail number → length classes ≡ length R.clauses
-midway_size R limit start pool book classes trail number m = ap length m.class_of ∙ length_numbers (class_after R m.index) (length R.clauses) 0
+pub round_changes : (old new : Interned) (book made : Book) (same : Bool) → IsPool old → Kept old new → Sound old book → repository_of new made ≡ round (repository_of old book) →
+    same ≡ is_same_repository (repository_of new book) (repository_of new made) → (not same ≡ false) ↔ (round (repository_of old book) ≡ repository_of old book)
+round_changes old new book made true is k s r e = (λ _. told_same old new book made is k s r (sym e), λ _. refl)
+round_changes old new book made false is k s r e = (λ f. absurd (let n : ⊥ = cc in n), λ f. absurd (told_other old new book made is k s r (sym e) f))
+
+pub midway_size : (R : Repository) (limit : ℕ) (pool : Interned) (book : Book) (classes : List ℕ) (trail : List Step) (number : ℕ) → IsMidway R limit pool book classes trail number → length classes ≡ length R.clauses
+midway_size R limit pool book classes trail number m = ap length m.class_of ∙ length_numbers (class_after R m.index) (length R.clauses) 0

@@ -17,7 +17,7 @@ use Rattle.kernel_rounds.specs.declared.error.RoundError.{RoundError}
 use Rattle.kernel_rounds.specs.declared.error.RoundError.TheVariants.{Limit, Memory}
 
 -- after some rounds, each of which changed something and passed no limit
-pub record IsMidway (R : Repository) (limit : ℕ) (start pool : Interned) (book : Book) (classes : List ℕ) (trail : List Step) (number : ℕ) : Type 0 where
+pub record IsMidway (R : Repository) (limit : ℕ) (pool : Interned) (book : Book) (classes : List ℕ) (trail : List Step) (number : ℕ) : Type 0 where
   pub index : ℕ
   pub is : repository_of pool book ≡ rounds R index
   pub sound : Sound pool book
@@ -27,7 +27,6 @@ pub record IsMidway (R : Repository) (limit : ℕ) (start pool : Interned) (book
   pub counted : number ≡ min (suc index) 4294967295
   pub passed : (j : ℕ) → j < index → passes (rounds R j) limit ≡ None
   pub changed : (j : ℕ) → j < index → round (rounds R j) ≡ rounds R j → ⊥
-  pub kept : Kept start pool
 
 -- the kernel with its classes and its trail, whose books are sound
 pub record IsExtracted (R : Repository) (limit : ℕ) (start pool : Interned) (book : Book) (classes : List ℕ) (trail : List Step) : Type 0 where
@@ -57,7 +56,7 @@ refusal number class_of (faults.Limit gone «package» count) = Limit number gon
 refusal number class_of faults.Memory = Memory
 
 -- what a round comes to
-abbrev pub IsOutcome : Repository → ℕ → Interned → Interned → Repository → Outcome → Type 0
-IsOutcome R limit start pool before (Done made) = IsExtracted R limit start pool made.book made.class_of made.trail.steps
-IsOutcome R limit start pool before (More next) =
-    IsMidway R limit start pool next.book next.class_of.items next.steps next.number × (round_count (repository_of pool next.book) < round_count before)
+abbrev pub IsOutcome : Repository → ℕ → Interned → Repository → Outcome → Type 0
+IsOutcome R limit pool before (Done made) = IsExtracted R limit pool pool made.book made.class_of made.trail.steps
+IsOutcome R limit pool before (More next) =
+    IsMidway R limit pool next.book next.class_of.items next.trail.steps next.number × (round_count (repository_of pool next.book) < round_count before)

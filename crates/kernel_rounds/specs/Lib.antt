@@ -1,4 +1,5 @@
 pub mod Tails
 pub mod Laws
 pub mod Extracting
+pub mod Moving
 pub mod Samples

@@ -1,24 +1,25 @@
 //! Extraction of a kernel.
 ghost use Rattle.std.specs.Prelude.{Some, ◌≡◌, ◌<◌, ◌+◌, ◌∷◌, ◌++◌, [], IfErr, IfOk, OnOk, List, eqb, length, map, min, slice_index_or, ℕ};
 ghost use Rattle.clause_pool.specs.Interned.{Interned, Kept};
-ghost use Rattle.row_book.specs.Book.{repository_of, Sound};
+ghost use Rattle.row_book.specs.Book.{repository_of, AddsOnly, IsSameBook, Sound};
 ghost use Rattle.row_book.specs.Clauses.{numbers};
 ghost use Rattle.row_book.specs.Merging.{place_of};
 ghost use Rattle.row_book.specs.Repository.{Repository};
 ghost use Rattle.row_book.specs.Keeping.{KeepsImages};
 ghost use Rattle.row_book.specs.Rounds.{kernel_image, limit_at, Settled};
 ghost use Rattle.row_book.specs.Sound.{SoundRepository};
-ghost use Rattle.row_book.specs.declared.trail.Step.TheVariants.{Flat, Merge};
+ghost use Rattle.row_book.specs.Trail.{SoundSteps};
 ghost use Rattle.class_merge.specs.Classes.{class_in};
 ghost use Rattle.kernel_rounds.specs.Extracting.{refusal, IsOwnKernel, IsOutcome, IsExtracted, IsMidway, OnRoundLimit};
+ghost use Rattle.kernel_rounds.specs.Moving.{live_rows, AreSameSteps};
 
-use crate::comparing::same_books;
 use crate::error::RoundError;
-use crate::one_round::{RoundResult, one_round};
+use crate::moving::carry_steps;
+use crate::rounding::{Rounded, one_round};
 use clause_flatten::FlatError;
 use clause_pool::{NumList, Pool};
 use listed::Listed;
-use row_book::{Book, Step, StepList, Trail};
+use row_book::{Book, StepList, Trail};
 use std::alloc::{AllocError, Global};
 
 /// A kernel.
@@ -38,7 +39,7 @@ pub struct Kernel {
 struct Progress {
     book: Book,
     class_of: Vec<u32>,
-    steps: StepList,
+    trail: Trail,
     number: u32,
 }
 
@@ -116,82 +117,119 @@ fn round_error(fault: FlatError, number: u32, class_of: &[u32]) -> RoundError
     }
 }
 
-/// The steps with those of one more round.
-fn add_round(
-    alloc: Global,
-    mut steps: StepList,
-    before: Book,
-    class_of: NumList,
-    idle: StepList,
-) -> Result<StepList, AllocError>
-    ensures { IfOk result (λ made. made ≡ (steps ++ (Flat before ∷ (Merge class_of ∷ []))) ++ idle) }
-{
-    let mut round = StepList::new(alloc);
-    round.push(Step::Flat { before })?;
-    round.push(Step::Merge { class_of })?;
-    steps.append(round)?;
-    steps.append(idle)?;
-    Ok(steps)
-}
-
 /// One round more, where it changes something.
 fn advance(alloc: Global, pool: &mut Pool, now: Progress, limit: u32) -> Result<Outcome, RoundError>
     requires sound { Sound pool.old now.book }
+    requires books { SoundSteps pool.old now.trail.steps }
     requires limit { 0 < limit }
     requires few { length now.class_of.items < 4294967296 }
-    ensures made { (R : Repository) (start : Interned) → SoundRepository R → IsMidway R limit start pool.old now.book now.class_of.items now.steps now.number →
-        IfOk result (IsOutcome R limit start pool.new (repository_of pool.old now.book)) }
-    ensures passed { (R : Repository) (start : Interned) → SoundRepository R → IsMidway R limit start pool.old now.book now.class_of.items now.steps now.number →
+    ensures made { (R : Repository) → SoundRepository R → IsMidway R limit pool.old now.book now.class_of.items now.trail.steps now.number →
+        IfOk result (IsOutcome R limit pool.new (repository_of pool.old now.book)) }
+    ensures passed { (R : Repository) → SoundRepository R → IsMidway R limit pool.old now.book now.class_of.items now.trail.steps now.number →
         IfErr result (OnRoundLimit (λ passed. limit_at R limit ≡ Some passed)) }
-    ensures kept { Kept pool.old pool.new }
 {
     // What holds of every pool is told by this call alone.
     pool.clause_count();
-    let made = match one_round(alloc, pool, &now.book, limit) {
+    let Progress {
+        book: before,
+        class_of: so_far,
+        trail: past,
+        number,
+    } = now;
+    let made = match one_round(alloc, pool, before, past, limit) {
         Ok(made) => made,
-        Err(fault) => return Err(round_error(fault, now.number, now.class_of.as_slice())),
+        Err(fault) => return Err(round_error(fault, number, so_far.as_slice())),
     };
-    let RoundResult {
+    let Rounded {
         book,
         class_of,
-        idle,
+        trail,
+        changed,
     } = made;
-    if same_books(pool, &now.book, &book) {
+    if !changed {
         return Ok(Outcome::Done(Kernel {
             book,
-            class_of: Listed::of(now.class_of),
-            trail: Trail { steps: now.steps },
+            class_of: Listed::of(so_far),
+            trail,
         }));
     }
-    let next = compose(alloc, now.class_of.as_slice(), class_of.as_slice())?;
-    let steps = add_round(alloc, now.steps, now.book, class_of, idle)?;
+    let next = compose(alloc, so_far.as_slice(), class_of.as_slice())?;
     Ok(Outcome::More(Progress {
         book,
         class_of: next,
-        steps,
-        number: now.number.saturating_add(1),
+        trail,
+        number: number.saturating_add(1),
     }))
 }
 
 /// The state before any round.
-fn first_state(alloc: Global, pool: &Pool, book: &Book) -> Result<Progress, AllocError>
-    requires { Sound pool.now book.now }
-    ensures { (limit : ℕ) → IfOk result (λ made. IsMidway (repository_of pool.now book.now) limit pool.now pool.now made.book made.class_of.items made.steps made.number) }
+fn first_state(alloc: Global, book: Book) -> Result<Progress, AllocError>
+    ensures { (pool : Interned) (limit : ℕ) → Sound pool book →
+        IfOk result (λ made. IsMidway (repository_of pool book) limit pool made.book made.class_of.items made.trail.steps made.number) }
 {
     let class_of = own_classes(alloc, book.size())?;
-    let copy = book.copy(alloc)?;
     Ok(Progress {
-        book: copy,
+        book,
         class_of,
-        steps: StepList::new(alloc),
+        trail: Trail {
+            steps: StepList::new(alloc),
+        },
         number: 1,
     })
+}
+
+/// The kernel with its books in another pool, which gains the rows of these books and their clauses alone.
+fn carry_kernel(
+    alloc: Global,
+    kernel: Kernel,
+    from: &Pool,
+    into: &mut Pool,
+) -> Result<Kernel, AllocError>
+    requires sound { Sound from.now kernel.book }
+    requires books { SoundSteps from.now kernel.trail.steps }
+    ensures same { IfOk result (λ made. IsSameBook from.now kernel.book into.new made.book) }
+    ensures classes { IfOk result (λ made. made.class_of ≡ kernel.class_of) }
+    ensures steps { IfOk result (λ made. AreSameSteps from.now kernel.trail.steps into.new made.trail.steps) }
+    ensures only { IfOk result (λ made. AddsOnly into.old into.new (live_rows made.book made.trail.steps)) }
+    ensures kept { Kept into.old into.new }
+{
+    let Kernel {
+        book: own,
+        class_of,
+        trail: past,
+    } = kernel;
+    let book = own.carry(alloc, from, into)?;
+    let steps = carry_steps(alloc, past.steps.as_slice(), from, into)?;
+    Ok(Kernel {
+        book,
+        class_of,
+        trail: Trail { steps },
+    })
+}
+
+/// The kernel of a book in the book's own pool, which each round compacts: rounds go on until one changes nothing.
+fn all_rounds(alloc: Global, pool: &mut Pool, book: Book, limit: u32) -> Result<Kernel, RoundError>
+    requires sound { Sound pool.old book }
+    requires limit { 0 < limit }
+    ensures kernel { IfOk result (λ made. IsExtracted (repository_of pool.old book) limit pool.new pool.new made.book made.class_of made.trail.steps) }
+    ensures passed { IfErr result (OnRoundLimit (λ passed. limit_at (repository_of pool.old book) limit ≡ Some passed)) }
+{
+    // What holds of every pool is told by this call alone.
+    pool.clause_count();
+    let mut now = first_state(alloc, book)?;
+    loop {
+        match advance(alloc, pool, now, limit)? {
+            Outcome::Done(kernel) => return Ok(kernel),
+            Outcome::More(next) => now = next,
+        }
+    }
 }
 
 /// The kernel of the book: rounds of flattening, merging, pruning and thinning go on until one changes nothing.
 ///
 /// It is refused where a row has more clauses than the limit allows at some stage of the flattening of some round, with
-/// the first such round. What the pool held stays.
+/// the first such round. The rounds work in a pool of their own: what the pool held stays, and it gains the rows of the
+/// kernel's book and of the books in the trail with their clauses alone.
 pub fn extract(
     alloc: Global,
     pool: &mut Pool,
@@ -204,16 +242,15 @@ pub fn extract(
     ensures keeps { IfOk result (λ made. KeepsImages (repository_of pool.old book.now) (repository_of pool.new made.book) (kernel_image (repository_of pool.old book.now))) }
     ensures settled { IfOk result (λ made. Settled (repository_of pool.new made.book)) }
     ensures own { IfOk result (λ made. IsOwnKernel (repository_of pool.new made.book) limit) }
+    ensures only { IfOk result (λ made. AddsOnly pool.old pool.new (live_rows made.book made.trail.steps)) }
     ensures passed { IfErr result (OnRoundLimit (λ passed. limit_at (repository_of pool.old book.now) limit ≡ Some passed)) }
     ensures kept { Kept pool.old pool.new }
 {
     // What holds of every pool is told by this call alone.
     pool.clause_count();
-    let mut now = first_state(alloc, pool, book)?;
-    loop {
-        match advance(alloc, pool, now, limit)? {
-            Outcome::Done(kernel) => return Ok(kernel),
-            Outcome::More(next) => now = next,
-        }
-    }
+    let mut own = Pool::new(alloc)?;
+    let carried = book.carry(alloc, pool, &mut own)?;
+    let kernel = all_rounds(alloc, &mut own, carried, limit)?;
+    let made = carry_kernel(alloc, kernel, &own, pool)?;
+    Ok(made)
 }

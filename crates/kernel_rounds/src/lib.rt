@@ -6,7 +6,8 @@ mod comparing;
 pub mod error;
 pub mod extraction;
 mod laws;
-mod one_round;
+mod moving;
+pub mod rounding;
 
 pub use error::RoundError;
 pub use extraction::{Kernel, extract};
@@ -14,6 +15,7 @@ pub use laws::{
     fixed_is_settled, fixed_parts, flat_plain, image_is_of_classes, kernel_is, kernel_keeps,
     kernel_of_kernel, level_rounds, tails_end, tails_keep, three_tails,
 };
+pub use rounding::{Rounded, one_round};
 
 #[cfg(test)]
 mod samples;

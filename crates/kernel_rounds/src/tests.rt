@@ -1,10 +1,29 @@
-//! Small repositories and their kernels.
+//! Small repositories and their kernels, and what their rounds leave in a pool.
+ghost use Rattle.std.specs.Prelude.{IfOk};
+ghost use Rattle.clause_pool.specs.Interned.{Interned};
+ghost use Rattle.row_book.specs.Book.{Sound};
+ghost use Rattle.row_book.specs.Trail.{SoundSteps};
+
 use crate::comparing::same_books;
 use crate::samples::{Sample, book_of};
-use crate::{RoundError, extract};
+use crate::{RoundError, Rounded, extract, one_round};
 use clause_pool::Pool;
+use row_book::{Book, StepList, Trail};
+use std::alloc::Global;
 use std::process::Abort;
 use std::test::Fail;
+
+/// Package 0 depends on 1, which depends on 3 and on 4, and on 2, which depends on 5; these conflict with 6.
+const FORK: Sample<'static> = Sample {
+    clauses: &[&[&[1], &[2]], &[&[3], &[4]], &[&[5]], &[], &[], &[], &[]],
+    pairs: &[(3, 6), (4, 6), (5, 6)],
+};
+
+/// Package 0 depends on 1 or 2, and 1 on 3 or 4; 2, 3 and 4 conflict with 5.
+const DETOUR: Sample<'static> = Sample {
+    clauses: &[&[&[1, 2]], &[&[3, 4]], &[], &[], &[], &[]],
+    pairs: &[(2, 5), (3, 5), (4, 5)],
+};
 
 /// A repository with its kernel: for each package its class, and the classes as a repository.
 #[derive(Clone, Copy)]
@@ -153,12 +172,8 @@ fn kernels_and_refusals_are_as_worked_out(rt: HostRuntime) -> Result<(), Fail> {
             pairs: &[(1, 3), (2, 4)],
         },
     };
-    // Package 0 depends on 1, which depends on 3 and on 4, and on 2, which depends on 5; these conflict with 6.
     let fork = Case {
-        sample: Sample {
-            clauses: &[&[&[1], &[2]], &[&[3], &[4]], &[&[5]], &[], &[], &[], &[]],
-            pairs: &[(3, 6), (4, 6), (5, 6)],
-        },
+        sample: FORK,
         class_of: &[0, 0, 0, 1, 1, 1, 2],
         kernel: Sample {
             clauses: &[&[&[1]], &[], &[]],
@@ -210,5 +225,75 @@ fn kernels_and_refusals_are_as_worked_out(rt: HostRuntime) -> Result<(), Fail> {
     };
     assert_eq!(rt; refusal(&rt, freed)?, Some(in_second_round));
     assert_eq!(rt; refusal(&rt, redundant.sample)?, None);
+    Ok(())
+}
+
+/// No steps.
+fn no_steps(alloc: Global) -> Trail
+    ensures { (pool : Interned) → SoundSteps pool result.steps }
+{
+    Trail {
+        steps: StepList::new(alloc),
+    }
+}
+
+/// Asserts what one more round gives: whether it changes something, the classes, and how many clauses the pool then has.
+fn check_round(
+    rt: &impl Abort,
+    alloc: Global,
+    pool: &mut Pool,
+    book: Book,
+    past: Trail,
+    wanted: (bool, &[u32], u64),
+) -> Result<(Book, Trail), Fail>
+    requires sound { Sound pool.old book }
+    requires books { SoundSteps pool.old past.steps }
+    ensures sound { IfOk result (λ made. Sound pool.new made.0) }
+    ensures books { IfOk result (λ made. SoundSteps pool.new made.1.steps) }
+{
+    let (changes, classes, clauses) = wanted;
+    let Rounded {
+        book,
+        class_of,
+        trail,
+        changed,
+    } = one_round(alloc, pool, book, past, 65_536)?;
+    assert_eq!(rt; changed, changes);
+    assert_eq!(rt; class_of.as_slice(), classes);
+    assert_eq!(rt; pool.clause_count(), clauses);
+    Ok((book, trail))
+}
+
+/// Flattening gives 0 the clause of 2, 3 and 4, which merging makes the clause of their class: the longer one is gone after the
+/// round, and those of the books before stay.
+#[test]
+fn rounds_leave_the_clauses_of_their_books(rt: HostRuntime) -> Result<(), Fail> {
+    let alloc = rt.alloc();
+    let mut pool = Pool::new(alloc)?;
+    let book = book_of(alloc, &mut pool, DETOUR)?;
+    let past = no_steps(alloc);
+    let first = (true, [0, 1, 2, 2, 2, 3].as_slice(), 3);
+    let (book, past) = check_round(&rt, alloc, &mut pool, book, past, first)?;
+    assert_eq!(rt; pool.find(&[2, 3, 4]), None);
+    assert!(rt; pool.find(&[1, 2]).is_some());
+    assert!(rt; pool.find(&[3, 4]).is_some());
+    assert!(rt; pool.find(&[2]).is_some());
+    let second = (true, [0, 0, 1, 2].as_slice(), 4);
+    let (book, past) = check_round(&rt, alloc, &mut pool, book, past, second)?;
+    assert!(rt; pool.find(&[1]).is_some());
+    let third = (false, [0, 1, 2].as_slice(), 4);
+    check_round(&rt, alloc, &mut pool, book, past, third)?;
+    Ok(())
+}
+
+/// Each clause of the kernel's book and of the books of the trail was in the pool before.
+#[test]
+fn extraction_leaves_what_the_rounds_made(rt: HostRuntime) -> Result<(), Fail> {
+    let alloc = rt.alloc();
+    let mut pool = Pool::new(alloc)?;
+    let book = book_of(alloc, &mut pool, FORK)?;
+    assert_eq!(rt; pool.clause_count(), 5);
+    extract(alloc, &mut pool, &book, 3)?;
+    assert_eq!(rt; pool.clause_count(), 5);
     Ok(())
 }

@@ -1,13 +1,18 @@
-//! A measuring program: reads an index, makes its suite, looks up each atom, makes the repository and flattens it, and
-//! prints the time of each step. No part of coinst stands on it; `bench/suite` runs it.
+//! A measuring program: reads an index, makes its suite, looks up each atom, makes the repository, flattens it, makes its
+//! kernel and then each part of each round by itself, and prints the time of each step. No part of coinst stands on it;
+//! `bench/suite` runs it.
 #![tactic(auto)]
 
+ghost use Rattle.std.specs.Prelude.{IfOk};
 ghost use Rattle.row_book.specs.Book.{Sound};
 
 use byte_flow::{FileShelf, read_file};
+use class_merge::merge;
 use clause_flatten::flatten;
 use clause_pool::Pool;
-use kernel_rounds::{Kernel, extract};
+use clause_prune::prune;
+use conflict_reduce::thin;
+use kernel_rounds::extract;
 use repo_model::{Suite, read_suite};
 use row_book::Book;
 use std::alloc::{AllocError, Global};
@@ -21,6 +26,9 @@ const MOST_BYTES: u64 = 1_073_741_824;
 
 /// The greatest clause limit, as the program has it.
 const MOST_CLAUSES: u32 = 1_000_000;
+
+/// The most rounds whose parts are measured.
+const MOST_ROUNDS: u32 = 20;
 
 /// How many packages meet the atoms of all needs, each atom counted anew.
 fn count_met(alloc: Global, suite: &Suite) -> Result<u64, AllocError> {
@@ -95,29 +103,80 @@ fn measure_kernel(rt: &HostRuntime, start: &Instant, suite: &Suite) -> Result<()
     let extracted = since(rt, start);
     let _ = println!(rt; "extracted from {before:?} to {extracted:?}");
     match found {
-        Ok(kernel) => print_kernel(rt, &pool, &kernel),
+        Ok(kernel) => {
+            print_counts(rt, &pool, &kernel.book);
+        }
         Err(error) => {
             let _ = println!(rt; "no kernel: {error}");
         }
     }
-    Ok(())
+    measure_rounds(rt, start, suite)
 }
 
-/// Prints how many classes, clauses and conflicting pairs a kernel has.
-fn print_kernel(rt: &HostRuntime, pool: &Pool, kernel: &Kernel)
-    requires { Sound pool.now kernel.now.book }
+/// Prints how many classes, clauses and conflicting pairs a book has, and answers the sum of these.
+fn print_counts(rt: &HostRuntime, pool: &Pool, book: &Book) -> u64
+    requires { Sound pool.now book.now }
 {
     let mut clauses = 0u64;
     let mut conflicts = 0u64;
-    for row in kernel.book.rows.as_slice() {
+    for row in book.rows.as_slice() {
         clauses = clauses.wrapping_add(pool.row(*row).len() as u64);
     }
-    for list in kernel.book.conflicts.as_slice() {
+    for list in book.conflicts.as_slice() {
         conflicts = conflicts.wrapping_add(list.as_slice().len() as u64);
     }
-    let classes = kernel.book.size();
+    let classes = book.size();
     let pairs = conflicts / 2;
     let _ = println!(rt; "{classes} classes, {clauses} clauses, {pairs} conflicting pairs");
+    clauses.wrapping_add(pairs).wrapping_add(u64::from(classes))
+}
+
+/// Prints the time after each part of a round, and answers the book that it leaves; it fails where no memory is found, and
+/// where the clause limit is passed.
+fn measure_round(
+    rt: &HostRuntime,
+    start: &Instant,
+    pool: &mut Pool,
+    book: &Book,
+) -> Result<Book, AllocError>
+    requires { Sound pool.old book.now }
+    ensures { IfOk result (Sound pool.new) }
+{
+    let alloc = rt.alloc();
+    let before = since(rt, start);
+    let Ok(flat) = flatten(alloc, pool, book, MOST_CLAUSES) else {
+        return Err(AllocError);
+    };
+    let flattened = since(rt, start);
+    let classes = merge(alloc, pool, &flat)?;
+    let merged = since(rt, start);
+    let pruned = prune(alloc, pool, &classes.book)?;
+    let left = since(rt, start);
+    let thinned = thin(alloc, pool, &pruned.book)?;
+    let done = since(rt, start);
+    let _ = println!(rt;
+        "a round from {before:?}, flattened {flattened:?}, merged {merged:?}, pruned {left:?}, thinned {done:?}"
+    );
+    Ok(thinned)
+}
+
+/// Prints the time of each part of each round, up to one that leaves as many classes, clauses and conflicts; it fails as
+/// `measure_round` does.
+fn measure_rounds(rt: &HostRuntime, start: &Instant, suite: &Suite) -> Result<(), AllocError> {
+    let alloc = rt.alloc();
+    let mut pool = Pool::new(alloc)?;
+    let mut book = suite.book(alloc, &mut pool)?;
+    let mut count = 0;
+    for _ in 0..MOST_ROUNDS {
+        let next = measure_round(rt, start, &mut pool, &book)?;
+        book = next;
+        let left = print_counts(rt, &pool, &book);
+        if left == count {
+            return Ok(());
+        }
+        count = left;
+    }
+    Ok(())
 }
 
 /// Statuses: 0, measured; 2, the one word INDEX is missing; 3, a fault of the index, which is printed; 5, the index

@@ -1,54 +1,22 @@
-use Rattle.std.proofs.Common.{◌≡◌, ◌<◌, arith, length, subst}
-use Rattle.std.proofs.lemmas.Result.{err_from_is_err_and}
+use Rattle.std.proofs.Common.{◌≡◌, ◌∙◌, ap, subst, None}
 use Rattle.row_book.specs.Book.{repository_of}
-use Rattle.row_book.specs.Repository.{Repository}
-use Rattle.row_book.proofs.BookRepositories.{book_size, sound_repository}
-use Rattle.kernel_rounds.specs.Extracting.{IsOutcome}
-use Rattle.kernel_rounds.proofs.Midways.{midway_size}
+use Rattle.row_book.specs.Rounds.{kernel, limit_at}
+use Rattle.row_book.proofs.BookRepositories.{sound_repository}
 use Rattle.kernel_rounds.proofs.Again.{extracted_keeps, extracted_own, extracted_settled}
 use Rattle.kernel_rounds.proofs.extraction.extract.Goals as goal
 
-pub advance-requires-clause-few : goal.advance-requires-clause-few
-advance-requires-clause-few c =
-    let R : Repository = repository_of c.args.pool.now c.args.book.now in
-    let a : length c.loop-kernel.now.class_of.items ≡ length R.clauses =
-    midway_size R c.args.limit c.args.pool.now c.loop-kernel.pool c.loop-kernel.now.book c.loop-kernel.now.class_of.items c.loop-kernel.now.steps c.loop-kernel.now.number c.loop-kernel.invariant in
-    let b : length R.clauses ≡ length c.args.book.now.rows = book_size c.args.pool.now c.args.book.now in
-    let d : length c.args.book.now.rows < 4294967295 = c.args.book.now.few in
-    omega (arith, a, b, d)
+pub returns-clause-keeps : goal.returns-clause-keeps
+returns-clause-keeps c =
+    extracted_keeps (repository_of c.args.pool.now c.args.book.now) _ (sound_repository c.args.pool.now c.args.book.now c.clause_count.ensures.sound c.requires.sound)
+    (c.in_ok-made.ensures.same.repository ∙ c.in_ok-kernel.ensures.kernel.is ∙ ap kernel c.in_ok-carried.ensures.same.repository)
 
-pub returns-in_err-kernel-clause-passed : goal.returns-in_err-kernel-clause-passed
-returns-in_err-kernel-clause-passed c =
-    let p = err_from_is_err_and c.from_residual-in_err-kernel.result c.from_residual-in_err-kernel.ensures.1 in
-    rw (p.1, p.2)
-    (c.in_err-kernel.ensures.passed (repository_of c.args.pool.now c.args.book.now) c.args.pool.now (sound_repository c.args.pool.now c.args.book.now c.clause_count.ensures.sound c.requires.sound) c.loop-kernel.invariant)
+pub returns-clause-settled : goal.returns-clause-settled
+returns-clause-settled c =
+    extracted_settled (repository_of c.args.pool.now c.args.book.now) _ (sound_repository c.args.pool.now c.args.book.now c.clause_count.ensures.sound c.requires.sound)
+    (c.in_ok-made.ensures.same.repository ∙ c.in_ok-kernel.ensures.kernel.is ∙ ap kernel c.in_ok-carried.ensures.same.repository)
 
-pub returns-in-Done-clause-kernel : goal.returns-in-Done-clause-kernel
-returns-in-Done-clause-kernel c =
-    subst (IsOutcome (repository_of c.args.pool.now c.args.book.now) c.args.limit c.args.pool.now c.advance.new.pool (repository_of c.loop-kernel.pool c.loop-kernel.now.book)) c.in-Done.is
-    (c.in_ok-kernel.ensures.made (repository_of c.args.pool.now c.args.book.now) c.args.pool.now (sound_repository c.args.pool.now c.args.book.now c.clause_count.ensures.sound c.requires.sound) c.loop-kernel.invariant)
-
-pub loop-kernel-smaller : goal.loop-kernel-smaller
-loop-kernel-smaller c =
-    let w = subst (IsOutcome (repository_of c.args.pool.now c.args.book.now) c.args.limit c.args.pool.now c.advance.new.pool (repository_of c.loop-kernel.pool c.loop-kernel.now.book)) c.in-More.is
-    (c.in_ok-kernel.ensures.made (repository_of c.args.pool.now c.args.book.now) c.args.pool.now (sound_repository c.args.pool.now c.args.book.now c.clause_count.ensures.sound c.requires.sound) c.loop-kernel.invariant) in
-    w.1
-
-pub loop-kernel-preserved : goal.loop-kernel-preserved
-loop-kernel-preserved c =
-    let w = subst (IsOutcome (repository_of c.args.pool.now c.args.book.now) c.args.limit c.args.pool.now c.advance.new.pool (repository_of c.loop-kernel.pool c.loop-kernel.now.book)) c.in-More.is
-    (c.in_ok-kernel.ensures.made (repository_of c.args.pool.now c.args.book.now) c.args.pool.now (sound_repository c.args.pool.now c.args.book.now c.clause_count.ensures.sound c.requires.sound) c.loop-kernel.invariant) in
-    w.0
-
-pub returns-in-Done-clause-keeps : goal.returns-in-Done-clause-keeps
-returns-in-Done-clause-keeps c =
-    extracted_keeps (repository_of c.args.pool.now c.args.book.now) _ (sound_repository c.args.pool.now c.args.book.now c.clause_count.ensures.sound c.requires.sound) (returns-in-Done-clause-kernel c).is
-
-pub returns-in-Done-clause-settled : goal.returns-in-Done-clause-settled
-returns-in-Done-clause-settled c =
-    extracted_settled (repository_of c.args.pool.now c.args.book.now) _ (sound_repository c.args.pool.now c.args.book.now c.clause_count.ensures.sound c.requires.sound) (returns-in-Done-clause-kernel c).is
-
-pub returns-in-Done-clause-own : goal.returns-in-Done-clause-own
-returns-in-Done-clause-own c =
+pub returns-clause-own : goal.returns-clause-own
+returns-clause-own c =
     extracted_own (repository_of c.args.pool.now c.args.book.now) _ c.args.limit (sound_repository c.args.pool.now c.args.book.now c.clause_count.ensures.sound c.requires.sound)
-    (returns-in-Done-clause-kernel c).is (returns-in-Done-clause-kernel c).within
+    (c.in_ok-made.ensures.same.repository ∙ c.in_ok-kernel.ensures.kernel.is ∙ ap kernel c.in_ok-carried.ensures.same.repository)
+    (subst (λ R. limit_at R c.args.limit ≡ None) c.in_ok-carried.ensures.same.repository c.in_ok-kernel.ensures.kernel.within)

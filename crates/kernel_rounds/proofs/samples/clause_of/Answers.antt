@@ -1,4 +1,4 @@
-use Rattle.std.proofs.Common.{◌≡◌, ◌<◌, ◌∙◌, arith, subst, sym}
+use Rattle.std.proofs.Common.{◌<◌, ◌∙◌, arith, subst, sym}
 use Rattle.row_book.specs.Clauses.{Ascending}
 use Rattle.row_book.specs.Sets.{In}
 use Rattle.class_merge.proofs.Mapped.{sorted_ascending, sorted_from}

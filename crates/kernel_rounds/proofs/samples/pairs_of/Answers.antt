@@ -1,4 +1,4 @@
-use Rattle.std.proofs.Common.{◌<◌, arith}
+use Rattle.std.proofs.Common.{arith}
 use Rattle.kernel_rounds.proofs.SampleRows.{pairs_more}
 use Rattle.kernel_rounds.proofs.samples.pairs_of.Goals as goal
 

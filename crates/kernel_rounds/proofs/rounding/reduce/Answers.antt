@@ -4,7 +4,7 @@ use Rattle.row_book.specs.Pruning.{prune}
 use Rattle.row_book.specs.Rounds.{round}
 use Rattle.row_book.specs.Thinning.{thin}
 use Rattle.clause_flatten.proofs.Tidied.{kept_kept}
-use Rattle.kernel_rounds.proofs.one_round.one_round.Goals as goal
+use Rattle.kernel_rounds.proofs.rounding.reduce.Goals as goal
 
 pub returns-in_err-thinned-clause-kept : goal.returns-in_err-thinned-clause-kept
 returns-in_err-thinned-clause-kept c =

@@ -1,7 +1,7 @@
 use Rattle.std.proofs.Common.{List, ℕ, sym, subst}
 use Rattle.row_book.specs.Sets.{In}
 use Rattle.repo_model.proofs.Elements.{at_place}
-use Rattle.time_suite.proofs.print_kernel.Goals as goal
+use Rattle.time_suite.proofs.print_counts.Goals as goal
 
 pub row-requires : goal.row-requires
 row-requires c =

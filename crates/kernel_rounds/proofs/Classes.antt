@@ -1,0 +1,130 @@
+-- The classes of a kernel: each package is of one, each has a package, and there are no more of them than packages. And the
+-- package that is named where a round passes the clause limit.
+use Rattle.std.proofs.Common.{◌≡◌, ℕ, zero, suc, ◌+◌, ◌<◌, ◌≤◌, Bool, true, false, cond, eqb, List, [], ◌∷◌, length, map, filter, Option, Some, None, refl, sym, ◌∙◌, ap, subst, arith, inl, inr, eq-eqb}
+use Rattle.std.specs.Prelude.{ltb}
+use Rattle.std.specs.List.{find}
+use Rattle.std.specs.Option.{option_map}
+use Rattle.std.proofs.lemmas.List.{length-map}
+use Rattle.row_book.specs.Clauses.{numbers}
+use Rattle.row_book.specs.Flattening.{Passed, first_some, flat, left_after, packages, passed_at, passes, row_length}
+use Rattle.row_book.specs.Merging.{class_of, first_of, firsts, is_first, place_of}
+use Rattle.row_book.specs.Pruning.{prune}
+use Rattle.row_book.specs.Repository.{Repository}
+use Rattle.row_book.specs.Rounds.{PassedRound, class_after, in_round, least_member, limit_at, passed_in_round, round, round_count, rounds}
+use Rattle.row_book.specs.Sets.{In, here, there}
+use Rattle.row_book.specs.Sound.{SoundRepository}
+use Rattle.row_book.specs.Thinning.{thin}
+use Rattle.row_book.proofs.Lists.{In_cases, In_none, In_map_cases, find_some}
+use Rattle.row_book.proofs.Order.{length_numbers, numbers_from, numbers_parts}
+use Rattle.class_merge.proofs.Classes.{alike_self, first_within, has_class_lem}
+use Rattle.class_merge.proofs.Groups.{class_unique}
+use Rattle.kernel_rounds.proofs.Flattened.{flat_size}
+use Rattle.kernel_rounds.proofs.Tails.{round_size, round_sound, thin_tail}
+use Rattle.kernel_rounds.proofs.Thins.{filter_short}
+
+-- a round has a package for each class of the flattened repository, and stays sound
+sized : (R : Repository) → SoundRepository R → length (round R).clauses ≡ length (firsts (flat R))
+unfolding round
+sized R s = round_size (λ R. thin (prune R)) thin_tail R s
+
+stays_sound : (R : Repository) → SoundRepository R → SoundRepository (round R)
+unfolding round
+stays_sound R s = round_sound (λ R. thin (prune R)) thin_tail R s
+
+-- each package is of a class
+pub class_within : (n : ℕ) (R : Repository) → SoundRepository R → (p : ℕ) → p < length R.clauses → class_after R n p < length (rounds R n).clauses
+class_within zero R s p l = l
+class_within (suc n) R s p l =
+    let own : p < length (flat R).clauses = subst (λ k. p < k) (sym (flat_size R)) l in
+    class_within n (round R) (stays_sound R s) (class_of (flat R) p) (subst (λ k. class_of (flat R) p < k) (sym (sized R s)) (has_class_lem (flat R) p own).within)
+
+-- a package of a class
+pub record HasPackage (R : Repository) (n k : ℕ) : Type 0 where
+  pub by : ℕ
+  pub within : by < length R.clauses
+  pub class : class_after R n by ≡ k
+
+-- each class has one: the least package of the class that it was before
+pub class_met : (n : ℕ) (R : Repository) → SoundRepository R → (k : ℕ) → k < length (rounds R n).clauses → HasPackage R n k
+class_met zero R s k l = record { by = k; within = l; class = refl }
+class_met (suc n) R s k l =
+    let w : HasPackage (round R) n k = class_met n (round R) (stays_sound R s) k l in
+    let named : w.by < length (firsts (flat R)) = subst (λ k. w.by < k) (sized R s) w.within in
+    let least : first_of (flat R) w.by < length (flat R).clauses = first_within (flat R) w.by named in
+    record {
+      by = first_of (flat R) w.by;
+      within = subst (λ k. first_of (flat R) w.by < k) (flat_size R) least;
+      class = ap (class_after (round R) n) (sym (class_unique (flat R) (first_of (flat R) w.by) w.by least named (alike_self (flat R) (first_of (flat R) w.by)))) ∙ w.class;
+    }
+
+firsts_few : (R : Repository) → length (firsts R) ≤ length R.clauses
+unfolding firsts
+firsts_few R =
+    let l : length (filter (is_first R) (packages R)) ≤ length (packages R) = filter_short (is_first R) (packages R) in
+    let same : length (packages R) ≡ length R.clauses = sym (length-map (packages R) (λ p. p)) ∙ length_numbers (λ p. p) (length R.clauses) 0 in
+    omega arith
+
+-- there are no more classes than packages
+pub classes_few : (n : ℕ) (R : Repository) → SoundRepository R → length (rounds R n).clauses ≤ length R.clauses
+classes_few zero R s = omega arith
+classes_few (suc n) R s =
+    let later : length (rounds (round R) n).clauses ≤ length (round R).clauses = classes_few n (round R) (stays_sound R s) in
+    let few : length (firsts (flat R)) ≤ length (flat R).clauses = firsts_few (flat R) in
+    omega (arith, sized R s, flat_size R)
+
+-- the first of some options is one of them
+first_in : {A : Type 0} (xs : List (Option A)) (x : A) → first_some xs ≡ Some x → In (Some x) xs
+first_in [] x e = absurd (let k : ⊥ = cc in k)
+first_in (None ∷ xs) x e = there (first_in xs x e)
+first_in (Some y ∷ xs) x e = subst (λ o. In o (Some y ∷ xs)) e here
+
+-- the row that passes a limit is that of a package
+passed_row : (R : Repository) (count : ℕ → ℕ) (limit i : ℕ) (p : Passed) (found : Option ℕ) → find (λ q. ltb limit (count q)) (packages R) ≡ found →
+    option_map (λ q. record { gone = i; «package» = q; count = count q }) found ≡ Some p → p.«package» < length R.clauses
+passed_row R count limit i p None is e = absurd (let k : ⊥ = cc in k)
+passed_row R count limit i p (Some q) is e =
+    let inside : In q (packages R) = (find_some (λ q. ltb limit (count q)) (packages R) q is).0 in
+    let same : q ≡ p.«package» = let made : record { gone = i; «package» = q; count = count q } ≡ p = cc in ap (λ (x : Passed). x.«package») made in
+    let low : (0 ≤ q) × (q < 0 + length R.clauses) = numbers_parts (length R.clauses) 0 q inside in
+    omega arith
+
+passed_inside : (R : Repository) (limit : ℕ) (p : Passed) → passes R limit ≡ Some p → p.«package» < length R.clauses
+unfolding passes
+passed_inside R limit p e =
+    let stage : (i : ℕ) × In i (numbers (suc (length R.clauses)) 0) × (Some p ≡ passed_at R limit i) =
+    In_map_cases (passed_at R limit) (numbers (suc (length R.clauses)) 0) (Some p) (first_in (map (passed_at R limit) (numbers (suc (length R.clauses)) 0)) p e) in
+    passed_row R (row_length R (left_after R stage.0)) limit stage.0 p (find (λ q. ltb limit (row_length R (left_after R stage.0) q)) (packages R)) refl (sym stage.2)
+
+place_inside : (test : ℕ → Bool) (xs : List ℕ) (x : ℕ) → In x xs → test x ≡ true → place_of test xs < length xs
+place_inside test [] x i h = absurd (In_none i)
+place_inside test (y ∷ ys) x i h = by_test (test y) refl (λ j. place_inside test ys x j h)
+  where
+    by_test : (b : Bool) → test y ≡ b → (In x ys → place_of test ys < length ys) → cond b 0 (suc (place_of test ys)) < suc (length ys)
+    by_test true e later = omega arith
+    by_test false e later =
+        let behind : In x ys = elim (In_cases i) [ inl same ↦ absurd (let k : true ≡ false = sym h ∙ ap test same ∙ e in cc) | inr j ↦ j ] in
+        let l : place_of test ys < length ys = later behind in
+        omega arith
+
+-- the least package of a class is one of the packages
+least_inside : (R : Repository) → SoundRepository R → (n k : ℕ) → k < length (rounds R n).clauses → least_member R n k < length R.clauses
+least_inside R s n k l =
+    let w : HasPackage R n k = class_met n R s k l in
+    let found : least_member R n k < length (packages R) =
+    place_inside (λ p. eqb (class_after R n p) k) (packages R) w.by (numbers_from (length R.clauses) 0 w.by (omega arith) (let m : w.by < length R.clauses = w.within in omega arith)) (eq-eqb (class_after R n w.by) k w.class) in
+    let same : length (packages R) ≡ length R.clauses = sym (length-map (packages R) (λ p. p)) ∙ length_numbers (λ p. p) (length R.clauses) 0 in
+    omega arith
+
+-- the package that is named where a round passes the limit is one of the repository's
+pub limit_inside : (R : Repository) → SoundRepository R → (limit : ℕ) (w : PassedRound) → limit_at R limit ≡ Some w → w.«package» < length R.clauses
+unfolding limit_at
+limit_inside R s limit w e =
+    let stage : (i : ℕ) × In i (numbers (suc (round_count R)) 0) × (Some w ≡ passed_in_round R limit i) =
+    In_map_cases (passed_in_round R limit) (numbers (suc (round_count R)) 0) (Some w) (first_in (map (passed_in_round R limit) (numbers (suc (round_count R)) 0)) w e) in
+    by_round stage.0 (passes (rounds R stage.0) limit) refl (sym stage.2)
+  where
+    by_round : (i : ℕ) (found : Option Passed) → passes (rounds R i) limit ≡ found → option_map (in_round R i) found ≡ Some w → w.«package» < length R.clauses
+    by_round i None is e = absurd (let k : ⊥ = cc in k)
+    by_round i (Some p) is e =
+        let made : in_round R i p ≡ w = cc in
+        subst (λ (v : PassedRound). v.«package» < length R.clauses) made (least_inside R s i p.«package» (passed_inside (rounds R i) limit p is))

@@ -1,0 +1,182 @@
+-- Steps whose books come into another pool, and what is left of a pool.
+use Rattle.std.proofs.Common.{◌≡◌, ℕ, ◌<◌, ◌+◌, List, [], ◌∷◌, ◌++◌, inl, inr, refl, sym, ◌∙◌, ap, ap₂, subst, length, get_or, take, drop, map, arith, append_assoc, append-nil}
+use Rattle.std.proofs.lemmas.Bool.{cases_lt}
+use Rattle.std.proofs.lemmas.List.{map-append, take_more, take-append-drop}
+use Rattle.clause_pool.specs.Interned.{Interned, IsPool, Kept, clause_at, ids_at, row_at}
+use Rattle.clause_pool.specs.Compacting.{Compacts, Renames, RowsOf}
+use Rattle.class_merge.proofs.Groups.{row_once}
+use Rattle.clause_flatten.proofs.Tidied.{kept_kept}
+use Rattle.row_book.specs.declared.book.Book.{Book}
+use Rattle.row_book.specs.declared.trail.Step.{Step}
+use Rattle.row_book.specs.declared.trail.Step.TheVariants.{Flat, Idle, Merge}
+use Rattle.row_book.specs.Sets.{In, here, there}
+use Rattle.row_book.specs.Book.{repository_of, AddsOnly, IsSameBook, Sound}
+use Rattle.row_book.specs.Rounds.{RoundStep, FlatStep, IdleStep, MergeStep}
+use Rattle.row_book.specs.Trail.{SoundStep, SoundSteps, step_meaning, trail_meaning}
+use Rattle.row_book.proofs.Books.{repository_kept, sound_kept}
+use Rattle.row_book.proofs.Lists.{In_append_cases, In_append_left, In_append_right, In_at, In_cases, In_map, In_map_cases, In_none}
+use Rattle.kernel_rounds.specs.Moving.{live_rows, step_rows, trail_rows, AreSameSteps, HasOnly, IsSameStep}
+use Rattle.kernel_rounds.proofs.Midways.{sound_step, told_kept}
+
+-- the rows of sound books are of the pool
+step_within : (pool : Interned) (step : Step) → SoundStep pool step → (id : ℕ) → In id (step_rows step) → id < length pool.rows
+step_within pool (Flat before) s id i = s.rows.of_pool id i
+step_within pool (Idle p clause added) s id i = absurd (In_none i)
+step_within pool (Merge class_of) s id i = absurd (In_none i)
+
+pub steps_within : (pool : Interned) (steps : List Step) → SoundSteps pool steps → (id : ℕ) → In id (trail_rows steps) → id < length pool.rows
+steps_within pool [] s id i = absurd (In_none i)
+steps_within pool (x ∷ xs) s id i =
+    elim (In_append_cases (step_rows x) (trail_rows xs) id i) [ inl j ↦ step_within pool x (s x here) id j | inr j ↦ steps_within pool xs (λ y k. s y (there k)) id j ]
+
+pub live_within : (pool : Interned) (book : Book) (steps : List Step) → Sound pool book → SoundSteps pool steps → RowsOf pool (live_rows book steps)
+live_within pool book steps s b id i =
+    elim (In_append_cases book.rows (trail_rows steps) id i) [ inl j ↦ s.rows.of_pool id j | inr j ↦ steps_within pool steps b id j ]
+
+pub item_rows : (steps : List Step) (step : Step) → In step steps → (id : ℕ) → In id (step_rows step) → In id (trail_rows steps)
+item_rows [] step i id j = absurd (In_none i)
+item_rows (x ∷ xs) step i id j =
+    elim (In_cases i) [
+      | inl e ↦ In_append_left (step_rows x) (trail_rows xs) id (subst (λ z. In id (step_rows z)) e j)
+      | inr k ↦ In_append_right (step_rows x) (trail_rows xs) id (item_rows xs step k id j)
+    ]
+
+pub In_take : {A : Type 0} (n : ℕ) (xs : List A) (x : A) → In x (take n xs) → In x xs
+In_take n xs x i = subst (λ z. In x z) (take-append-drop n xs) (In_append_left (take n xs) (drop n xs) x i)
+
+pub next_steps : (steps : List Step) (i : ℕ) (step : Step) → i < length steps → step ≡ get_or steps i step → take (i + 1) steps ≡ take i steps ++ step ∷ []
+next_steps steps i step l e = take_more steps i step l ∙ ap (λ z. take i steps ++ z ∷ []) (sym e)
+
+pub rows_append : (xs ys : List Step) → trail_rows (xs ++ ys) ≡ trail_rows xs ++ trail_rows ys
+rows_append [] ys = refl
+rows_append (x ∷ xs) ys = ap (λ z. step_rows x ++ z) (rows_append xs ys) ∙ sym (append_assoc (step_rows x) (trail_rows xs) (trail_rows ys))
+
+-- the same steps name the same clauses
+step_clauses : RoundStep → List (List (List ℕ))
+step_clauses (FlatStep R) = R.clauses
+step_clauses (MergeStep class_of) = []
+step_clauses (IdleStep idle) = []
+
+trail_clauses : List RoundStep → List (List (List ℕ))
+trail_clauses [] = []
+trail_clauses (x ∷ xs) = step_clauses x ++ trail_clauses xs
+
+step_told : (pool : Interned) (step : Step) → map (row_at pool) (step_rows step) ≡ step_clauses (step_meaning pool step)
+unfolding step_clauses
+step_told pool (Flat before) = refl
+step_told pool (Idle p clause added) = refl
+step_told pool (Merge class_of) = refl
+
+trail_told : (pool : Interned) (steps : List Step) → map (row_at pool) (trail_rows steps) ≡ trail_clauses (trail_meaning pool steps)
+unfolding trail_clauses
+trail_told pool [] = refl
+trail_told pool (x ∷ xs) = map-append (row_at pool) (step_rows x) (trail_rows xs) ∙ ap₂ (λ y ys. y ++ ys) (step_told pool x) (trail_told pool xs)
+
+pub live_same : (old new : Interned) (book moved : Book) (steps more : List Step) → repository_of new moved ≡ repository_of old book → trail_meaning new more ≡ trail_meaning old steps →
+    map (row_at new) (live_rows moved more) ≡ map (row_at old) (live_rows book steps)
+live_same old new book moved steps more e f =
+    map-append (row_at new) moved.rows (trail_rows more)
+    ∙ ap₂ (λ x y. x ++ y) (ap (λ R. R.clauses) e) (trail_told new more ∙ ap trail_clauses f ∙ sym (trail_told old steps))
+    ∙ sym (map-append (row_at old) book.rows (trail_rows steps))
+
+-- what a compaction leaves is the rows of whatever stands for the live ones
+pub only_live : (old new : Interned) (live remap moved : List ℕ) → IsPool new → Compacts old live remap new → map (row_at new) moved ≡ map (row_at old) live →
+    ((id : ℕ) → In id moved → id < length new.rows) → HasOnly new moved
+only_live old new live remap moved is k same within =
+    let twin : (row : ℕ) → In row live → (id : ℕ) × In id moved × (row_at old row ≡ row_at new id) =
+    λ row i. In_map_cases (row_at new) moved (row_at old row) (subst (λ z. In (row_at old row) z) (sym same) (In_map (row_at old) live row i)) in
+    record {
+      of_pool = within;
+      rows = λ id l.
+          let w : (row : ℕ) × In row live × Renames remap row id = k.rows id l in
+          let t : (n : ℕ) × In n moved × (row_at old w.0 ≡ row_at new n) = twin w.0 w.1 in
+          let e : row_at new t.0 ≡ row_at new id = sym t.2 ∙ sym (k.same w.0 id w.2).same in
+          subst (λ z. In z moved) (row_once new is t.0 id (within t.0 t.1) l e) t.1;
+      clauses = λ id l.
+          let w : (row : ℕ) × In row live × In (clause_at new id) (row_at old row) = k.clauses (clause_at new id) (In_at new.clauses id [] l) in
+          let t : (n : ℕ) × In n moved × (row_at old w.0 ≡ row_at new n) = twin w.0 w.1 in
+          let m : (n : ℕ) × In n (ids_at new t.0) × (clause_at new id ≡ clause_at new n) =
+          In_map_cases (clause_at new) (ids_at new t.0) (clause_at new id) (subst (λ z. In (clause_at new id) z) t.2 w.2) in
+          let e : m.0 ≡ id = is.clauses_once m.0 id (is.of_pool t.0 (within t.0 t.1) m.0 m.1) l (sym m.2) in
+          (t.0, t.1, subst (λ z. In z (ids_at new t.0)) e m.1);
+    }
+
+-- a step in another pool
+pub flat_moved : (old : Interned) (before : Book) (new : Interned) (moved : Book) → IsSameBook old before new moved → IsSameStep old (Flat before) new (Flat moved)
+flat_moved old before new moved s = record { meaning = ap FlatStep s.repository; sound = s.sound }
+
+pub idle_moved : (old new : Interned) (p added : ℕ) (clause made : List ℕ) → made ≡ clause → IsSameStep old (Idle p clause added) new (Idle p made added)
+idle_moved old new p added clause made e = record { meaning = ap (λ z. step_meaning new (Idle p z added)) e; sound = λ s. s }
+
+pub merge_moved : (old new : Interned) (class_of made : List ℕ) → made ≡ class_of → IsSameStep old (Merge class_of) new (Merge made)
+merge_moved old new class_of made e = record { meaning = ap MergeStep e; sound = λ s. s }
+
+-- steps in another pool
+pub steps_none : (old new : Interned) (steps made : List Step) → steps ≡ [] → made ≡ [] → AreSameSteps old steps new made
+steps_none old new steps made e f = record {
+  meaning = ap (trail_meaning new) f ∙ sym (ap (trail_meaning old) e);
+  sound = λ s step i. absurd (In_none (subst (λ z. In step z) f i));
+}
+
+pub steps_more : (old new : Interned) (steps all : List Step) (step moved : Step) (made more : List Step) → AreSameSteps old steps new made → IsSameStep old step new moved →
+    all ≡ steps ++ step ∷ [] → more ≡ made ++ moved ∷ [] → AreSameSteps old all new more
+steps_more old new steps all step moved made more s one a e = record {
+  meaning =
+      ap (trail_meaning new) e ∙ map-append (step_meaning new) made (moved ∷ []) ∙ ap₂ (λ xs x. xs ++ x ∷ []) s.meaning one.meaning
+      ∙ sym (map-append (step_meaning old) steps (step ∷ [])) ∙ sym (ap (trail_meaning old) a);
+  sound = λ f x i.
+      let g : SoundSteps old (steps ++ step ∷ []) = subst (SoundSteps old) a f in
+      elim (In_append_cases made (moved ∷ []) x (subst (λ z. In x z) e i)) [
+        | inl j ↦ s.sound (λ y k. g y (In_append_left steps (step ∷ []) y k)) x j
+        | inr j ↦ elim (In_cases j) [
+          | inl q ↦ subst (SoundStep new) (sym q) (one.sound (g step (In_append_right steps (step ∷ []) step here)))
+          | inr n ↦ absurd (In_none n)
+        ]
+      ];
+}
+
+-- what a pool gains in two parts
+pub adds_both : (a b c : Interned) (xs ys all : List ℕ) → AddsOnly a b xs → AddsOnly b c ys → Kept b c → ((id : ℕ) → In id xs → id < length b.rows) → all ≡ xs ++ ys → AddsOnly a c all
+adds_both a b c xs ys all p q k within e =
+    let left : (id : ℕ) → In id xs → In id all = λ id i. subst (λ z. In id z) (sym e) (In_append_left xs ys id i) in
+    let right : (id : ℕ) → In id ys → In id all = λ id i. subst (λ z. In id z) (sym e) (In_append_right xs ys id i) in
+    record {
+      rows = λ id low high. elim (cases_lt id (length b.rows)) [ inl u ↦ left id (p.rows id low u) | inr u ↦ right id (q.rows id u high) ];
+      clauses = λ id low high. elim (cases_lt id (length b.clauses)) [
+        | inl u ↦
+            let w : (row : ℕ) × In row xs × In id (ids_at b row) = p.clauses id low u in
+            (w.0, left w.0 w.1, subst (λ z. In id z) (sym (k.rows w.0 (within w.0 w.1)).1) w.2)
+        | inr u ↦ let w : (row : ℕ) × In row ys × In id (ids_at c row) = q.clauses id u high in (w.0, right w.0 w.1, w.2)
+      ];
+    }
+
+pub adds_none : (pool : Interned) (rows : List ℕ) → AddsOnly pool pool rows
+adds_none pool rows = record { rows = λ id low high. absurd (omega arith); clauses = λ id low high. absurd (omega arith) }
+
+-- some of the steps were carried, and nothing else came into the pool
+pub record CarriedSteps (from start pool : Interned) (steps made : List Step) : Type 0 where
+  pub kept : Kept start pool
+  pub same : AreSameSteps from steps pool made
+  pub only : AddsOnly start pool (trail_rows made)
+
+pub carried_steps : (from start pool next : Interned) (steps all : List Step) (step moved : Step) (made more : List Step) → IsPool pool → SoundSteps from steps → CarriedSteps from start pool steps made →
+    IsSameStep from step next moved → AddsOnly pool next (step_rows moved) → Kept pool next → all ≡ steps ++ step ∷ [] → more ≡ made ++ moved ∷ [] → CarriedSteps from start next all more
+carried_steps from start pool next steps all step moved made more is s done one adds k a e =
+    let books : SoundSteps pool made = done.same.sound s in
+    record {
+      kept = kept_kept start pool next done.kept k;
+      same =
+          steps_more from next steps all step moved made more
+          (record { meaning = told_kept pool next is k made books ∙ done.same.meaning; sound = λ f x i. sound_step pool next is k x (done.same.sound f x i) })
+          one a e;
+      only =
+          adds_both start pool next (trail_rows made) (step_rows moved) (trail_rows more) done.only adds k (steps_within pool made books)
+          (ap trail_rows e ∙ rows_append made (moved ∷ []) ∙ ap (λ z. trail_rows made ++ z) (append-nil (step_rows moved)));
+    }
+
+-- the book and the steps of a kernel were carried, one after the other
+pub book_stays : (from middle next : Interned) (book moved : Book) → IsPool middle → Kept middle next → Sound from book → IsSameBook from book middle moved → IsSameBook from book next moved
+book_stays from middle next book moved is k s same = record {
+  repository = repository_kept middle next is k moved (same.sound s) ∙ same.repository;
+  sound = λ t. sound_kept middle next is k moved (same.sound t);
+}

@@ -17,3 +17,6 @@ pub mod Packages
 pub mod Paired
 pub mod Placed
 pub mod Places
+pub mod Naming
+pub mod NameSteps
+pub mod SoundSuite

@@ -10,3 +10,6 @@ pub mod Laws
 pub mod Meeting
 pub mod Interning
 pub mod Pairs
+pub mod Goals
+pub mod GoalRefusals
+pub mod NameOrder

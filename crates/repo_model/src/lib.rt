@@ -2,11 +2,14 @@
 #![tactic(auto)]
 
 mod building;
+mod choose;
 mod clauses;
 mod facts;
 pub mod fault;
 mod fields;
+pub mod goals;
 mod laws;
+pub mod names;
 mod pairs;
 pub mod plain;
 mod relations;
@@ -15,10 +18,14 @@ mod rows;
 pub mod suite;
 
 pub use fault::IndexFault;
+pub use goals::{Goal, GoalError, GoalList};
 pub use laws::{health_is_kept, repository_is_of_packages};
+pub use names::NameList;
 pub use plain::{PlainRepository, are_coinstallable, plain_repository};
 pub use suite::{PackageList, Suite, read_suite};
 
+#[cfg(test)]
+mod goal_tests;
 #[cfg(test)]
 mod repository_tests;
 #[cfg(test)]

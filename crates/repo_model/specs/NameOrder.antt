@@ -1,0 +1,16 @@
+-- Names in the order of their bytes.
+use Rattle.std.specs.Prelude.{◌≡◌, ℕ, ◌<◌, ◌≤◌, ◌-◌, Bool, false, ◌&&◌, nat_lt, List, [], length, slice_index_or}
+use Rattle.std.specs.Str.{bytes_eq}
+use Rattle.row_book.specs.Clauses.{comes_before}
+
+-- the name at a place
+abbrev pub name_at : List (List ℕ) → ℕ → List ℕ
+name_at names place = slice_index_or names place []
+
+-- no name comes before an earlier one
+abbrev pub Rising : List (List ℕ) → Type 0
+Rising names = (i j : ℕ) → i ≤ j → j < length names → comes_before (name_at names j) (name_at names i) ≡ false
+
+-- the name at a place stands in front of it too
+abbrev pub is_repeated : List (List ℕ) → ℕ → Bool
+is_repeated names place = nat_lt 0 place && bytes_eq (name_at names (place - 1)) (name_at names place)

@@ -146,11 +146,11 @@ single_append (x ∷ xs) ys s t h = (
 )
 
 -- a member of the classes from k on
-record IsFrom (ms : List Member) (k : ℕ) (m : Member) : Type 0 where
-  inside : In m ms
-  above : k ≤ m.class
+pub record IsFrom (ms : List Member) (k : ℕ) (m : Member) : Type 0 where
+  pub inside : In m ms
+  pub above : k ≤ m.class
 
-member_from : (ms : List Member) (j k : ℕ) (m : Member) → In m (by_classes ms j k) → IsFrom ms k m
+pub member_from : (ms : List Member) (j k : ℕ) (m : Member) → In m (by_classes ms j k) → IsFrom ms k m
 member_from ms j k m i =
     let w : (n : ℕ) × In n (numbers j k) × In m (members_of ms n) = in_flat_cases (members_of ms) (numbers j k) m i in
     let v : In m ms × (eqb m.class w.0 ≡ true) = filter_cases (λ (o : Member). eqb o.class w.0) ms m w.2 in

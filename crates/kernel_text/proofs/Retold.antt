@@ -25,7 +25,7 @@ in_flat_cases f (x ∷ xs) y i =
       | inr j ↦ let w : (z : _) × In z xs × In y (f z) = in_flat_cases f xs y j in (w.0, there w.1, w.2)
     ]
 
-in_flat : {X A : Type 0} (f : X → List A) (xs : List X) (x : X) (y : A) → In x xs → In y (f x) → In y (flat_map f xs)
+pub in_flat : {X A : Type 0} (f : X → List A) (xs : List X) (x : X) (y : A) → In x xs → In y (f x) → In y (flat_map f xs)
 in_flat f [] x y i j = absurd (In_none i)
 in_flat f (z ∷ xs) x y i j =
     elim (In_cases i) [

@@ -124,11 +124,11 @@ allowed_fits t (AgainstLine m) a = a.2
 allowed_fits t (EndLine classes members) a = (a.1, a.2)
 
 -- the first two bytes
-kind : List ℕ → ℕ
+unfoldable pub kind : List ℕ → ℕ
 kind (a ∷ b ∷ more) = 256 * a + b
 kind more = 0
 
-abbrev kind_of : KernelLine → ℕ
+abbrev pub kind_of : KernelLine → ℕ
 kind_of HeadLine = 25455
 kind_of (ClassLine n) = 25452
 kind_of (MemberLine name version) = 28005
@@ -172,3 +172,7 @@ by_kind k l f g e h = absurd (omega (arith, h))
 
 pub same_line : (t : Reading) (k l : KernelLine) → IsAllowed t k → IsAllowed t l → line_text k ≡ line_text l → k ≡ l
 same_line t k l a b e = by_kind k l (allowed_fits t k a) (allowed_fits t l b) e (sym (kind_is k) ∙ ap kind e ∙ kind_is l)
+
+-- lines that say no more than fits and have the same bytes say the same
+pub same_fit : (k l : KernelLine) → Fits k → Fits l → line_text k ≡ line_text l → k ≡ l
+same_fit k l a b e = by_kind k l a b e (sym (kind_is k) ∙ ap kind e ∙ kind_is l)

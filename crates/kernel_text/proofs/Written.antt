@@ -29,7 +29,7 @@ unfolding numbers
 numbers_end zero k = ap (λ m. m ∷ []) (omega arith)
 numbers_end (suc n) k = ap (λ xs. k ∷ xs) (numbers_end n (suc k) ∙ ap (λ m. numbers n (suc k) ++ m ∷ []) (omega arith))
 
-numbers_more : (n : ℕ) → numbers (n + 1) 0 ≡ numbers n 0 ++ n ∷ []
+pub numbers_more : (n : ℕ) → numbers (n + 1) 0 ≡ numbers n 0 ++ n ∷ []
 numbers_more n = ap (λ m. numbers m 0) (add-one n) ∙ numbers_end n 0 ∙ ap (λ m. numbers n 0 ++ m ∷ []) (zero-add n)
 
 -- lists of classes: at first empty, and then with one more package
@@ -141,7 +141,7 @@ module _ (R : Repository) (packages : List PackageFacts) (class_of : List ℕ) (
   abbrev K : List Member
   K = kernel_members packages class_of size
 
-  members_are : (n : ℕ) → n < size → map line_of_member (members_of K n) ≡ map (λ i. line_of_package (stanza_at packages i)) (listed_for table n)
+  pub members_are : (n : ℕ) → n < size → map line_of_member (members_of K n) ≡ map (λ i. line_of_package (stanza_at packages i)) (listed_for table n)
   unfolding kernel_members
   members_are n l =
       ap (map line_of_member) (all_of_class (file_members packages class_of) size 0 n (omega arith) (omega arith))

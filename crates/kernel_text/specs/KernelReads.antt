@@ -41,6 +41,14 @@ pub record KernelReads (text : List ℕ) (R : Repository) (members : List Member
   pub repository : R ≡ repository_of_reading reading
   pub member_list : members ≡ reading.members
 
+-- the classes of a kernel and their packages
+pub record KernelContent : Type 0 where
+  pub repository : Repository
+  pub members : List Member
+
+abbrev pub content : Repository → List Member → KernelContent
+content R members = record { repository = R; members = members }
+
 -- two readings of the text are one
 abbrev pub HasOneReading : List ℕ → Type 0
 HasOneReading text = (R S : Repository) (ms ns : List Member) → KernelReads text R ms → KernelReads text S ns → (R ≡ S) × (ms ≡ ns)

@@ -1,12 +1,19 @@
 -- The laws of kernel texts.
-use Rattle.std.specs.Prelude.{◌≡◌, ℕ, ◌<◌, ◌↔◌, List, length}
+use Rattle.std.specs.Prelude.{◌≡◌, ℕ, ◌<◌, ◌↔◌, ◌⊎◌, eqb, List, filter, length, slice_index}
+use Rattle.std.specs.List.{list_any}
 use Rattle.relation_fields.specs.declared.packages.PackageFacts.{PackageFacts}
 use Rattle.repo_model.proofs.Accepted.{Accepted}
-use Rattle.row_book.specs.Clauses.{InOrder}
+use Rattle.repo_model.specs.declared.goals.Goal.{Goal}
+use Rattle.repo_model.specs.Goals.{packages_named}
+use Rattle.row_book.specs.Clauses.{InOrder, numbers}
 use Rattle.row_book.specs.Repository.{Repository, clauses_of}
 use Rattle.row_book.specs.Sets.{In}
 use Rattle.row_book.specs.Sound.{SoundRepository}
+use Rattle.kernel_text.specs.declared.fault.KernelFault.{KernelFault}
+use Rattle.kernel_text.specs.declared.fault.KernelFault.TheVariants.{Memory}
 use Rattle.kernel_text.specs.declared.member.Member.{Member}
+use Rattle.kernel_text.specs.Images.{image_of, is_unknown}
+use Rattle.kernel_text.specs.KernelFaults.{IsFault}
 use Rattle.kernel_text.specs.KernelReads.{HasOneReading, KernelReads}
 use Rattle.kernel_text.specs.KernelText.{IsWritable, kernel_text}
 use Rattle.kernel_text.specs.Members.{kernel_members}
@@ -20,6 +27,19 @@ TextsAreReadOnce = (text : List ℕ) → HasOneReading text
 abbrev pub ReadIsWritten : Type 0
 ReadIsWritten = (text : List ℕ) (R : Repository) (members : List Member) →
     (KernelReads text R members ↔ (IsWritable R members × (text ≡ kernel_text R members)))
+
+-- a fault of the text itself
+abbrev pub IsFaultOf : List ℕ → KernelFault → Type 0
+IsFaultOf text fault = (fault ≡ Memory → ⊥) × IsFault text fault
+
+-- the text is that of a kernel or has a fault, not both, and one fault at most
+pub record IsJudged (text : List ℕ) : Type 0 where
+  pub either : ((R : Repository) × (members : List Member) × KernelReads text R members) ⊎ ((fault : KernelFault) × IsFaultOf text fault)
+  pub apart : (R : Repository) (members : List Member) (fault : KernelFault) → KernelReads text R members → IsFaultOf text fault → ⊥
+  pub once : (first second : KernelFault) → IsFaultOf text first → IsFaultOf text second → first ≡ second
+
+abbrev pub TextsAreJudged : Type 0
+TextsAreJudged = (text : List ℕ) → IsJudged text
 
 -- R is sound, the clauses of a class are in order and do not hold the class; the packages are those of an index without a
 -- fault; each of them is in one of the classes, and each class has one
@@ -37,3 +57,17 @@ pub record IsKernelOf (R : Repository) (packages : List PackageFacts) (class_of 
 abbrev pub KernelsAreWritable : Type 0
 KernelsAreWritable = (R : Repository) (packages : List PackageFacts) (class_of : List ℕ) → IsKernelOf R packages class_of →
     IsWritable R (kernel_members packages class_of (length R.clauses))
+
+-- of so many classes those of the packages that a goal names, ascending
+abbrev pub classes_named : List PackageFacts → List ℕ → ℕ → Goal → List ℕ
+classes_named packages class_of size goal = filter (λ n. list_any (λ i. eqb n (slice_index class_of i)) (packages_named packages goal)) (numbers size 0)
+
+-- The text that is written for a kernel with the packages of its classes is read as this kernel; in it a goal names the
+-- classes of the packages that it names in the index, and no package exactly where it names none in the index.
+pub record IsReadBack (R : Repository) (packages : List PackageFacts) (class_of : List ℕ) : Type 0 where
+  pub reads : KernelReads (kernel_text R (kernel_members packages class_of (length R.clauses))) R (kernel_members packages class_of (length R.clauses))
+  pub images : (goal : Goal) → image_of (kernel_members packages class_of (length R.clauses)) (length R.clauses) goal ≡ classes_named packages class_of (length R.clauses) goal
+  pub unknown : (goal : Goal) → is_unknown (kernel_members packages class_of (length R.clauses)) goal ≡ eqb (length (packages_named packages goal)) 0
+
+abbrev pub WrittenIsReadBack : Type 0
+WrittenIsReadBack = (R : Repository) (packages : List PackageFacts) (class_of : List ℕ) → IsKernelOf R packages class_of → IsReadBack R packages class_of

@@ -6,3 +6,12 @@ pub mod KernelText
 pub mod Members
 pub mod Laws
 pub mod Writing
+pub mod Numbers
+pub mod Words
+pub mod KernelFaults
+pub mod Reader
+pub mod Strays
+pub mod Booking
+pub mod Images
+pub mod KernelJson
+pub mod JsonData

@@ -1,5 +1,5 @@
 //! Laws over the definitions that the contracts of kernel texts cite; these functions do nothing.
-ghost use Rattle.kernel_text.specs.Laws.{KernelsAreWritable, ReadIsWritten, TextsAreReadOnce};
+ghost use Rattle.kernel_text.specs.Laws.{KernelsAreWritable, ReadIsWritten, TextsAreJudged, TextsAreReadOnce, WrittenIsReadBack};
 
 /// A text is read as one repository and one list of members at most.
 pub fn texts_are_read_once()
@@ -15,4 +15,15 @@ pub fn read_is_written()
 /// A sound repository with the packages of its classes, as an extracted kernel has them, is one that the format can write.
 pub fn kernels_are_writable()
     ensures { KernelsAreWritable }
+{}
+
+/// A text is that of a kernel or has a fault, not both, and one fault at most.
+pub fn texts_are_judged()
+    ensures { TextsAreJudged }
+{}
+
+/// The text of an index's kernel is read as that kernel, and goals name in it the classes of the packages that they name in
+/// the index. So a question to the stored kernel is that to the index.
+pub fn written_is_read_back()
+    ensures { WrittenIsReadBack }
 {}

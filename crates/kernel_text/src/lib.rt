@@ -2,15 +2,38 @@
 //! nothing, the contract of each is one law.
 #![tactic(auto)]
 
+mod build_book;
+mod check_range;
 mod classify;
+mod clause_shape;
+mod content;
+pub mod fault;
+mod find_stray;
+pub mod images;
 mod laws;
+mod line_end;
 pub mod member;
 mod push_lines;
+mod read;
+mod read_line;
+mod read_number;
+mod reader;
+pub mod stored;
 mod write;
+mod write_json;
 
-pub use laws::{kernels_are_writable, read_is_written, texts_are_read_once};
+pub use fault::KernelFault;
+pub use images::ImageError;
+pub use laws::{
+    kernels_are_writable, read_is_written, texts_are_judged, texts_are_read_once,
+    written_is_read_back,
+};
 pub use member::Member;
+pub use stored::{MemberList, StoredKernel, read_kernel};
 pub use write::write_kernel;
+pub use write_json::kernel_json;
 
+#[cfg(test)]
+mod read_tests;
 #[cfg(test)]
 mod tests;

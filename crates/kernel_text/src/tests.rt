@@ -1,9 +1,10 @@
-//! Texts of small kernels, worked out by hand.
-ghost use Rattle.std.specs.Prelude.{◌≡◌, ltb};
+//! Texts of small kernels and their JSON, worked out by hand.
+ghost use Rattle.std.specs.Prelude.{◌≡◌, ltb, IfOk};
 ghost use Rattle.std.specs.List.{list_all};
 ghost use Rattle.row_book.specs.Book.{Sound};
+ghost use Rattle.kernel_text.specs.JsonData.{AreNamedPackages};
 
-use crate::write_kernel;
+use crate::{kernel_json, write_kernel};
 use clause_pool::{NumList, Pool};
 use kernel_rounds::Kernel;
 use repo_model::{IndexFault, Suite, read_suite};
@@ -11,37 +12,57 @@ use row_book::{StepList, Trail};
 use std::alloc::{AllocError, Global};
 use std::test::Fail;
 
-/// The rows: an index whose packages are the classes, an index of their members, the class of each member, and the text.
-const KERNELS: [(&str, &str, &str, &str); 5] = [
-    ("", "", "", "coinst-kernel 1\nend 0 0\n"),
+/// The rows: an index whose packages are the classes, an index of their members, the class of each member, the text and the
+/// JSON.
+const KERNELS: [(&str, &str, &str, &str, &str); 6] = [
+    (
+        "",
+        "",
+        "",
+        "coinst-kernel 1\nend 0 0\n",
+        "{\"classes\":[],\"format\":1}\n",
+    ),
     (
         "Package: a\nVersion: 1\nDepends: nowhere\n",
         "Package: a\nVersion: 1.0-1\n",
         "0",
         "coinst-kernel 1\nclass 0\nmember a 1.0-1\nneeds\nend 1 1\n",
+        "{\"classes\":[{\"against\":[],\"members\":[[\"a\",\"1.0-1\"]],\"needs\":[[]]}],\"format\":1}\n",
     ),
     (
         "Package: a\nVersion: 1\n",
         "Package: a\nVersion: 1\n\nPackage: b\nVersion: 1\n",
         "00",
         "coinst-kernel 1\nclass 0\nmember a 1\nmember b 1\nend 1 2\n",
+        "{\"classes\":[{\"against\":[],\"members\":[[\"a\",\"1\"],[\"b\",\"1\"]],\"needs\":[]}],\"format\":1}\n",
     ),
     (
         "Package: a\nVersion: 1\nDepends: b | c\n\nPackage: b\nVersion: 1\nConflicts: c\n\nPackage: c\nVersion: 1\n",
         "Package: a\nVersion: 1\n\nPackage: b\nVersion: 1\n\nPackage: c\nVersion: 1\n",
         "012",
         "coinst-kernel 1\nclass 0\nmember a 1\nneeds 1 2\nclass 1\nmember b 1\nagainst 2\nclass 2\nmember c 1\nend 3 3\n",
+        "{\"classes\":[{\"against\":[],\"members\":[[\"a\",\"1\"]],\"needs\":[[1,2]]},{\"against\":[2],\"members\":[[\"b\",\"1\"]],\"needs\":[]},{\"against\":[],\"members\":[[\"c\",\"1\"]],\"needs\":[]}],\"format\":1}\n",
+    ),
+    (
+        "Package: a\nVersion: 1\n\nPackage: b\nVersion: 1\nConflicts: c\n\nPackage: c\nVersion: 1\n",
+        "Package: a\nVersion: 1\n\nPackage: b\nVersion: 1\n\nPackage: c\nVersion: 1\n",
+        "012",
+        "coinst-kernel 1\nclass 0\nmember a 1\nclass 1\nmember b 1\nagainst 2\nclass 2\nmember c 1\nend 3 3\n",
+        "{\"classes\":[{\"against\":[],\"members\":[[\"a\",\"1\"]],\"needs\":[]},{\"against\":[2],\"members\":[[\"b\",\"1\"]],\"needs\":[]},{\"against\":[],\"members\":[[\"c\",\"1\"]],\"needs\":[]}],\"format\":1}\n",
     ),
     (
         "Package: p\nVersion: 1\n\nPackage: q\nVersion: 1\nConflicts: t\n\nPackage: t\nVersion: 1\n\nPackage: r\nVersion: 1\nDepends: q\n",
         "Package: p\nVersion: 1\n\nPackage: q\nVersion: 1\n\nPackage: t\nVersion: 1\n\nPackage: r\nVersion: 1\n\nPackage: s\nVersion: 1\n",
         "01230",
         "coinst-kernel 1\nclass 0\nmember p 1\nmember s 1\nclass 1\nmember q 1\nagainst 2\nclass 2\nmember t 1\nclass 3\nmember r 1\nneeds 1\nend 4 5\n",
+        "{\"classes\":[{\"against\":[],\"members\":[[\"p\",\"1\"],[\"s\",\"1\"]],\"needs\":[]},{\"against\":[2],\"members\":[[\"q\",\"1\"]],\"needs\":[]},{\"against\":[],\"members\":[[\"t\",\"1\"]],\"needs\":[]},{\"against\":[],\"members\":[[\"r\",\"1\"]],\"needs\":[[1]]}],\"format\":1}\n",
     ),
 ];
 
 // The index of a short text.
-fn suite_of(alloc: Global, text: &str) -> Result<Suite, IndexFault> {
+fn suite_of(alloc: Global, text: &str) -> Result<Suite, IndexFault>
+    ensures { IfOk result (λ suite. AreNamedPackages suite.packages) }
+{
     if text.len() > 1000 {
         return Err(IndexFault::TooMany);
     }
@@ -64,14 +85,15 @@ fn are_below(numbers: &[u32], size: u32) -> bool
     numbers.iter().all(|n| *n < size)
 }
 
-// The text of a kernel, where each package of the suite has a class.
-fn text_of(
+// The text of a kernel and its JSON, where each package of the suite has a class.
+fn texts_of(
     alloc: Global,
     pool: &Pool,
     suite: &Suite,
     kernel: &Kernel,
-) -> Result<Option<Vec<u8>>, AllocError>
-    requires { Sound pool.now kernel.now.book }
+) -> Result<Option<(Vec<u8>, Vec<u8>)>, AllocError>
+    requires sound { Sound pool.now kernel.now.book }
+    requires named { AreNamedPackages suite.now.packages }
 {
     let classes = kernel.class_of.as_slice();
     if classes.len() != suite.packages.as_slice().len() {
@@ -80,16 +102,18 @@ fn text_of(
     if !are_below(classes, kernel.book.size()) {
         return Ok(None);
     }
-    Ok(Some(write_kernel(alloc, pool, suite, kernel)?))
+    let text = write_kernel(alloc, pool, suite, kernel)?;
+    let json = kernel_json(alloc, pool, suite, kernel)?;
+    Ok(Some((text, json)))
 }
 
-// The text of a row's kernel.
-fn text_of_row(
+// The text and the JSON of a row's kernel.
+fn texts_of_row(
     alloc: Global,
     classes: &str,
     packages: &str,
     digits: &str,
-) -> Result<Option<Vec<u8>>, IndexFault> {
+) -> Result<Option<(Vec<u8>, Vec<u8>)>, IndexFault> {
     let suite = suite_of(alloc, packages)?;
     let mut pool = Pool::new(alloc)?;
     let book = suite_of(alloc, classes)?.book(alloc, &mut pool)?;
@@ -100,14 +124,17 @@ fn text_of_row(
             steps: StepList::new(alloc),
         },
     };
-    Ok(text_of(alloc, &pool, &suite, &kernel)?)
+    Ok(texts_of(alloc, &pool, &suite, &kernel)?)
 }
 
 #[test]
 fn texts_are_as_worked_out(rt: HostRuntime) -> Result<(), Fail> {
-    for (classes, packages, digits, expected) in KERNELS {
-        let text = text_of_row(rt.alloc(), classes, packages, digits)?.ok_or("no text")?;
-        assert_eq!(rt; text.as_slice(), expected.as_bytes());
+    for (classes, packages, digits, text, json) in KERNELS {
+        let (made, made_json) = texts_of_row(rt.alloc(), classes, packages, digits)?.ok_or(
+            "no text",
+        )?;
+        assert_eq!(rt; made.as_slice(), text.as_bytes());
+        assert_eq!(rt; made_json.as_slice(), json.as_bytes());
     }
     Ok(())
 }

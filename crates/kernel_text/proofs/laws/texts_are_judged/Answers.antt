@@ -1,0 +1,5 @@
+use Rattle.kernel_text.proofs.OneFault.{is_judged}
+use Rattle.kernel_text.proofs.laws.texts_are_judged.Goals as goal
+
+pub returns : goal.returns
+returns c = is_judged

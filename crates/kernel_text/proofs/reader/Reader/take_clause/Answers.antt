@@ -1,0 +1,54 @@
+use Rattle.std.proofs.Common.{ℕ, [], ◌∷◌, ◌++◌, ◌-◌, map, refl, sym, ap, ap₂, ◌∙◌, subst}
+use Rattle.std.proofs.lemmas.Bool.{both_ways}
+use Rattle.std.proofs.lemmas.List.{map-append}
+use Rattle.row_book.specs.Clauses.{Ascending}
+use Rattle.row_book.specs.Sets.{In, has}
+use Rattle.row_book.proofs.Lists.{In_has, has_In}
+use Rattle.kernel_text.specs.Reader.{entry_of, may_add_clause}
+use Rattle.kernel_text.specs.Reading.{ClassClause}
+use Rattle.kernel_text.proofs.ClauseTaken.{may_clause, may_not_clause, same_clause}
+use Rattle.kernel_text.proofs.reader.Reader.take_clause.Goals as goal
+
+-- the previous clause is the last line's, where that is one
+pub returns-then-not-may_add_clause : goal.returns-then-not-may_add_clause
+returns-then-not-may_add_clause c t h a =
+    let previous = c.args.self.now.previous in
+    let clause = c.args.clause in
+    let same = ap (λ kind. may_add_clause kind previous clause) (sym h.last) ∙ ap₂ (may_add_clause c.args.self.now.last) (sym c.as_slice.ensures) (sym c.as_slice-numbers.ensures) in
+    may_not_clause t.last previous clause h.previous (same ∙ sym c.if-not-may_add_clause.ensures) a.0
+
+-- the clause holds its own class
+pub returns-then-holds : goal.returns-then-holds
+returns-then-holds c t h a =
+    let class = c.this_class-class.ensures ∙ ap (λ n. n - 1) h.classes in
+    a.1.apart (subst (λ k. In k c.args.clause) class
+    (subst (In c.this_class-class.result) c.as_slice-numbers.ensures (has_In c.as_slice-numbers.result.now c.this_class-class.result (sym c.if-holds.ensures))))
+
+pub returns : goal.returns
+returns c t h =
+    let previous = c.args.self.now.previous in
+    let clause = c.args.clause in
+    let numbers = c.as_slice-numbers.result.now in
+    let same = ap (λ kind. may_add_clause kind previous clause) (sym h.last) ∙ ap₂ (may_add_clause c.args.self.now.last) (sym c.as_slice.ensures) (sym c.as_slice-numbers.ensures) in
+    let class = c.this_class-class.ensures ∙ ap (λ n. n - 1) h.classes in
+    let entry : ℕ → ClassClause = λ k. record { class = k; clause = clause } in (
+      (
+        may_clause t.last previous clause h.previous (same ∙ sym c.if-not-may_add_clause.ensures),
+        record {
+          ascending = subst Ascending c.as_slice-numbers.ensures (c.is_ascending.ensures.0 c.if-not-is_ascending.false);
+          apart = λ i. both_ways (has numbers c.this_class-class.result) (sym c.if-holds.ensures)
+              (In_has (subst (In c.this_class-class.result) (sym c.as_slice-numbers.ensures) (subst (λ k. In k clause) (sym class) i)));
+          low = c.requires;
+        },
+      ),
+      record {
+        last = refl;
+        previous = λ d e. c.of-previous.ensures ∙ c.in_ok-from_slice.ensures.items ∙ c.as_slice-numbers.ensures ∙ same_clause clause d e;
+        classes = h.classes;
+        members = h.members;
+        table = h.table;
+        clauses = ap (map entry_of) c.in_ok-push.ensures.ok ∙ map-append entry_of c.args.self.now.clauses (record { class = c.this_class-class.result; numbers = clause } ∷ [])
+            ∙ ap₂ (λ xs k. xs ++ entry k ∷ []) h.clauses class;
+        conflicts = h.conflicts;
+      },
+    )

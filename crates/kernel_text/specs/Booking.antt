@@ -1,0 +1,29 @@
+-- What was read as a book over a pool.
+use Rattle.std.specs.Prelude.{◌≡◌, ℕ, ◌<◌, List, length, map}
+use Rattle.clause_pool.specs.Interned.{Interned, clauses_at, ids_at, row_at, OfPool}
+use Rattle.row_book.specs.Book.{PairsFit, listed_for}
+use Rattle.row_book.specs.Clauses.{Ascending, InOrder}
+use Rattle.row_book.specs.Sets.{In}
+use Rattle.kernel_text.specs.KernelReads.{clauses_of_class}
+use Rattle.kernel_text.specs.Reading.{Reading, ClassClause, number_limit}
+
+-- each clause is one of a class, strictly ascending, in the order of clauses, and has classes alone; and so do the conflicts
+pub record IsBookable (t : Reading) : Type 0 where
+  pub few : t.classes < number_limit
+  pub of_classes : (entry : ClassClause) → In entry t.clauses → entry.class < t.classes
+  pub ascending : (entry : ClassClause) → In entry t.clauses → Ascending entry.clause
+  pub in_order : (n : ℕ) → n < t.classes → InOrder (clauses_of_class t.clauses n)
+  pub numbers : (entry : ClassClause) → In entry t.clauses → (l : ℕ) → In l entry.clause → l < t.classes
+  pub conflicts : PairsFit t.conflicts t.classes
+
+-- the table has for each of so many classes the ids of its clauses, in their order
+pub record HasIdsByClass (pool : Interned) (clauses : List ClassClause) (classes : ℕ) (table : List (List ℕ)) : Type 0 where
+  pub count : length table ≡ classes
+  pub of_pool : (n : ℕ) → OfPool pool (listed_for table n)
+  pub each : (n : ℕ) → n < classes → clauses_at pool (listed_for table n) ≡ clauses_of_class clauses n
+
+-- the rows are of the pool, and have these clauses
+pub record AreRows (pool : Interned) (clauses : List (List (List ℕ))) (rows : List ℕ) : Type 0 where
+  pub within : (row : ℕ) → In row rows → row < length pool.rows
+  pub of_pool : (row : ℕ) → In row rows → OfPool pool (ids_at pool row)
+  pub same : map (row_at pool) rows ≡ clauses

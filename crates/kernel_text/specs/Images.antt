@@ -1,0 +1,37 @@
+-- The classes of a stored kernel that goals name.
+use Rattle.std.specs.Prelude.{◌≡◌, ⊤, ℕ, Bool, true, not, ◌&&◌, eqb, List, Option, Some, filter}
+use Rattle.std.specs.List.{list_any, position_from}
+use Rattle.std.specs.Option.{option_map_or}
+use Rattle.std.specs.Ordering.{is_eq}
+use Rattle.std.specs.Str.{bytes_eq}
+use Rattle.deb_version.specs.Order.{version_order}
+use Rattle.row_book.specs.Clauses.{numbers}
+use Rattle.repo_model.specs.declared.goals.Goal.{Goal}
+use Rattle.kernel_text.specs.declared.images.ImageError.{ImageError}
+use Rattle.kernel_text.specs.declared.images.ImageError.TheVariants.{Unknown, Memory}
+use Rattle.kernel_text.specs.declared.member.Member.{Member}
+
+-- the package has the goal's name, and a version that compares as equal where the goal has one
+abbrev pub is_named_by : Goal → Member → Bool
+is_named_by goal m = bytes_eq goal.name m.name && option_map_or (λ version. is_eq (version_order m.version version)) goal.version true
+
+-- the goal names a package of the class
+abbrev pub names_in_class : List Member → Goal → ℕ → Bool
+names_in_class members goal n = list_any (λ m. eqb n m.class && is_named_by goal m) members
+
+-- of so many classes those with a package that the goal names, ascending
+unfoldable pub image_of : List Member → ℕ → Goal → List ℕ
+image_of members size goal = filter (names_in_class members goal) (numbers size 0)
+
+-- the goal names no package
+abbrev pub is_unknown : List Member → Goal → Bool
+is_unknown members goal = not (list_any (is_named_by goal) members)
+
+-- the first goal, counted from 1, that names no package
+abbrev pub unknown_goal : List Member → List Goal → Option ℕ
+unknown_goal members goals = position_from (is_unknown members) 1 goals
+
+-- the goal that names no package, where that is why there are no images
+abbrev pub Refuses : Option ℕ → ImageError → Type 0
+Refuses found (Unknown goal) = found ≡ Some goal
+Refuses found Memory = ⊤

@@ -1,0 +1,47 @@
+-- The JSON of a kernel: an object of the classes and the number of the format. Keys stand in the order of their bytes, there is
+-- no white space, and a line feed follows.
+use Rattle.std.specs.Prelude.{ℕ, List, [], ◌∷◌, ◌++◌, length, map, codes}
+use Rattle.std.specs.Fmt.{decimal}
+use Rattle.row_book.specs.Clauses.{numbers}
+use Rattle.row_book.specs.Repository.{Repository, clauses_of}
+use Rattle.kernel_text.specs.declared.member.Member.{Member}
+use Rattle.kernel_text.specs.KernelText.{greater_conflicts, members_of}
+
+-- each text behind a comma
+abbrev pub behind_commas : List (List ℕ) → List ℕ
+behind_commas [] = []
+behind_commas (x ∷ xs) = 44 ∷ (x ++ behind_commas xs)
+
+-- the texts, with commas between them
+abbrev pub with_commas : List (List ℕ) → List ℕ
+with_commas [] = []
+with_commas (x ∷ xs) = x ++ behind_commas xs
+
+-- a list, between brackets
+abbrev pub list_json : List (List ℕ) → List ℕ
+list_json texts = codes "[" ++ (with_commas texts ++ codes "]")
+
+abbrev pub numbers_json : List ℕ → List ℕ
+numbers_json ns = list_json (map decimal ns)
+
+-- a name or a version between quotes: they have no byte that JSON escapes
+abbrev pub quoted_text : List ℕ → List ℕ
+quoted_text text = codes "\"" ++ (text ++ codes "\"")
+
+-- the name and the version of a package
+abbrev pub package_json : List ℕ → List ℕ → List ℕ
+package_json name version = list_json (quoted_text name ∷ (quoted_text version ∷ []))
+
+abbrev pub member_json : Member → List ℕ
+member_json m = package_json m.name m.version
+
+-- an object of the three parts of a class
+abbrev pub object_json : List ℕ → List ℕ → List ℕ → List ℕ
+object_json against members needs = codes "{\"against\":" ++ (against ++ (codes ",\"members\":" ++ (members ++ (codes ",\"needs\":" ++ (needs ++ codes "}")))))
+
+-- a class: the greater classes that it conflicts with, its packages and its clauses
+unfoldable pub class_json : Repository → List Member → ℕ → List ℕ
+class_json R members n = object_json (numbers_json (greater_conflicts R n)) (list_json (map member_json (members_of members n))) (list_json (map numbers_json (clauses_of R n)))
+
+unfoldable pub kernel_json : Repository → List Member → List ℕ
+kernel_json R members = (codes "{\"classes\":" ++ (list_json (map (class_json R members) (numbers (length R.clauses) 0)) ++ codes ",\"format\":1}")) ++ codes "\n"

@@ -1,0 +1,121 @@
+-- What a reader of kernel texts holds of the lines so far.
+use Rattle.std.specs.Prelude.{◌≡◌, ℕ, ◌≤◌, Bool, true, false, nat_lt, List, ◌∷◌, ◌++◌, length, take, drop, map, filter, Option, Some, None}
+use Rattle.std.specs.Str.{bytes_eq}
+use Rattle.deb_version.specs.Keys.{version_key}
+use Rattle.row_book.specs.Clauses.{comes_before}
+use Rattle.row_book.specs.Sets.{In}
+use Rattle.virtual_provides.specs.declared.numbers.NumbersByName.{NumbersByName}
+use Rattle.virtual_provides.specs.Numbers.{numbers_under}
+use Rattle.kernel_text.specs.declared.member.Member.{Member}
+use Rattle.kernel_text.specs.declared.reader.Clause.{Clause}
+use Rattle.kernel_text.specs.declared.reader.LastLine.{LastLine}
+use Rattle.kernel_text.specs.declared.reader.LastLine.TheVariants as last
+use Rattle.kernel_text.specs.declared.reader.Reader.{Reader}
+use Rattle.kernel_text.specs.KernelLines.{KernelLine, HeadLine, ClassLine, MemberLine, NeedsLine, AgainstLine, EndLine, lines_of, line_text}
+use Rattle.kernel_text.specs.KernelReads.{IsEnded, IsInRange, LinesGive}
+use Rattle.kernel_text.specs.Reading.{Reading, ClassClause, empty_reading, with_line, IsAllowed, IsNamed}
+
+-- the kind of the last line, with what of it bears on the next one
+abbrev pub kind_of_last : Option KernelLine → LastLine
+kind_of_last None = last.Nothing
+kind_of_last (Some HeadLine) = last.Head
+kind_of_last (Some (ClassLine n)) = last.Class
+kind_of_last (Some (MemberLine name version)) = last.Member
+kind_of_last (Some (NeedsLine clause)) = last.Needs
+kind_of_last (Some (AgainstLine m)) = last.Against m
+kind_of_last (Some (EndLine classes members)) = last.End classes members
+
+-- whether a block or the end line may stand next
+abbrev pub may_begin : LastLine → Bool
+may_begin last.Head = true
+may_begin last.Member = true
+may_begin last.Needs = true
+may_begin (last.Against m) = true
+may_begin line = false
+
+-- whether a member may
+abbrev pub may_add_member : LastLine → Bool
+may_add_member last.Class = true
+may_add_member last.Member = true
+may_add_member line = false
+
+-- whether a clause may, behind the previous one
+abbrev pub may_add_clause : LastLine → List ℕ → List ℕ → Bool
+may_add_clause last.Member previous clause = true
+may_add_clause last.Needs previous clause = comes_before previous clause
+may_add_clause line previous clause = false
+
+-- whether a conflict with the class may
+abbrev pub may_add_conflict : LastLine → ℕ → Bool
+may_add_conflict last.Member m = true
+may_add_conflict last.Needs m = true
+may_add_conflict (last.Against lesser) m = nat_lt lesser m
+may_add_conflict line m = false
+
+abbrev pub entry_of : Clause → ClassClause
+entry_of c = record { class = c.class; clause = c.numbers }
+
+-- the name of a member and the key of its version, with a space between them, which stands in no name
+abbrev pub member_key : Member → List ℕ
+member_key m = m.name ++ 32 ∷ version_key m.version
+
+abbrev pub AreNamed : List Member → Type 0
+AreNamed members = (m : Member) → In m members → IsNamed m.name m.version
+
+-- the members are named, and the table has under each key the classes of those that have it
+pub record IsMemberTable (members : List Member) (table : NumbersByName) : Type 0 where
+  pub named : AreNamed members
+  pub classes : (key : List ℕ) → numbers_under table key ≡ map (λ m. m.class) (filter (λ m. bytes_eq key (member_key m)) members)
+
+-- the reader holds what the lines so far say
+pub record Holds (reader : Reader) (t : Reading) : Type 0 where
+  pub last : reader.last ≡ kind_of_last t.last
+  pub previous : (clause : List ℕ) → t.last ≡ Some (NeedsLine clause) → reader.previous ≡ clause
+  pub classes : reader.classes ≡ t.classes
+  pub members : reader.members ≡ t.members
+  pub table : IsMemberTable reader.members reader.keys
+  pub clauses : map entry_of reader.clauses ≡ t.clauses
+  pub conflicts : reader.conflicts ≡ t.conflicts
+
+-- by whether the line is allowed
+abbrev pub Takes : Reading → KernelLine → Reader → Bool → Type 0
+Takes t l new true = IsAllowed t l × Holds new (with_line t l)
+Takes t l new false = IsAllowed t l → ⊥
+
+-- the same of the bytes of a line
+abbrev pub Adds : Reading → List ℕ → Reader → Bool → Type 0
+Adds t line new true = (l : KernelLine) × (line ≡ line_text l) × IsAllowed t l × Holds new (with_line t l)
+Adds t line new false = (l : KernelLine) → line ≡ line_text l → IsAllowed t l → ⊥
+
+-- by whether the end is reached
+abbrev pub EndIsTold : Reading → Bool → Type 0
+EndIsTold t true = IsEnded t
+EndIsTold t false = IsEnded t → ⊥
+
+-- by whether all numbers are of classes
+abbrev pub RangeIsTold : Reading → Bool → Type 0
+RangeIsTold t true = IsInRange t
+RangeIsTold t false = IsInRange t → ⊥
+
+-- the lines of the text are allowed, and the reader holds what they say
+pub record HoldsAll (bytes : List ℕ) (reader : Reader) : Type 0 where
+  pub reading : Reading
+  pub given : LinesGive empty_reading (lines_of bytes) reading
+  pub holds : Holds reader reading
+
+-- the reader has taken so many lines, up to a place of the text
+pub record HoldsUpTo (bytes : List ℕ) (place line : ℕ) (reader : Reader) : Type 0 where
+  pub inside : place ≤ length bytes
+  pub few : line ≤ place
+  pub left : lines_of (drop place bytes) ≡ drop line (lines_of bytes)
+  pub reading : Reading
+  pub given : LinesGive empty_reading (take line (lines_of bytes)) reading
+  pub holds : Holds reader reading
+
+-- the text is one of a kernel, and the reader holds what its lines say
+pub record HoldsKernel (bytes : List ℕ) (reader : Reader) : Type 0 where
+  pub reading : Reading
+  pub given : LinesGive empty_reading (lines_of bytes) reading
+  pub holds : Holds reader reading
+  pub ended : IsEnded reading
+  pub in_range : IsInRange reading

@@ -1,0 +1,31 @@
+//! The shape of clauses: ascending, in order, and apart from their class.
+ghost use Rattle.std.specs.Prelude.{◌≡◌, ◌↔◌, IsTrue};
+ghost use Rattle.row_book.specs.Clauses.{Ascending, comes_before};
+ghost use Rattle.row_book.specs.Sets.{has};
+
+/// Whether the first clause comes before the second in lexicographic order.
+#[tactic(auto, using(repo_model::proofs::Compared::before_compared))]
+pub(crate) fn is_before(first: &[u32], second: &[u32]) -> bool
+    ensures { result ≡ comes_before first.now second.now }
+{
+    first.cmp(second).is_lt()
+}
+
+/// Whether the numbers are strictly ascending.
+pub(crate) fn is_ascending(numbers: &[u32]) -> bool
+    ensures { IsTrue result ↔ Ascending numbers.now }
+{
+    for i in 1..numbers.len() {
+        if numbers[i] <= numbers[i - 1] {
+            return false;
+        }
+    }
+    true
+}
+
+/// Whether the number is one of the clause.
+pub(crate) fn holds(clause: &[u32], number: u32) -> bool
+    ensures { result ≡ has clause.now number }
+{
+    clause.iter().any(|&other| number == other)
+}

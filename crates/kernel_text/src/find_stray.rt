@@ -1,0 +1,55 @@
+//! The first line with a number that is not one of a class.
+ghost use Rattle.std.specs.Prelude.{◌≡◌, ◌≤◌, ◌↔◌, IsTrue, IfOk, length};
+ghost use Rattle.kernel_text.specs.KernelFaults.{Strays};
+ghost use Rattle.kernel_text.specs.Strays.{StrayIsTold, strays_by};
+ghost use Rattle.kernel_text.specs.Words.{line_of_content};
+
+use crate::check_range::is_below;
+use crate::content::LineContent;
+use crate::line_end::line_end;
+use crate::read_line::read_line;
+use std::alloc::{AllocError, Global};
+
+/// The first line, counted from 1, with a number that is not one of so many classes, where there is one. The lines are read
+/// anew, since nothing else asks for their places.
+pub(crate) fn first_stray(
+    alloc: Global,
+    bytes: &[u8],
+    classes: u32,
+) -> Result<Option<u64>, AllocError>
+    requires { length bytes.now ≤ 1073741824 }
+    ensures { IfOk result (StrayIsTold bytes.now classes) }
+{
+    let mut place = 0;
+    let mut line = 0u64;
+    while place < bytes.len() {
+        let end = line_end(bytes, place);
+        line += 1;
+        if is_stray(alloc, &bytes[place..end], classes)? {
+            return Ok(Some(line));
+        }
+        place = end;
+    }
+    Ok(None)
+}
+
+// Whether the line has a number that is not one of so many classes.
+fn is_stray(alloc: Global, line: &[u8], classes: u32) -> Result<bool, AllocError>
+    ensures { IfOk result (λ found. IsTrue found ↔ Strays classes line.now) }
+{
+    match read_line(alloc, line)? {
+        Some(content) => Ok(has_stray(&content, classes)),
+        None => Ok(false),
+    }
+}
+
+// The same of what the line says.
+fn has_stray(content: &LineContent, classes: u32) -> bool
+    ensures { result ≡ strays_by classes (line_of_content content.now) }
+{
+    match content {
+        LineContent::Needs { clause } => !is_below(clause.as_slice(), classes),
+        LineContent::Against { class } => *class >= classes,
+        _ => false,
+    }
+}

@@ -1,0 +1,54 @@
+//! Reading the lines of a kernel text.
+ghost use Rattle.std.specs.Prelude.{◌≡◌, ℕ, ◌≤◌, IfOk, IfErr, length};
+ghost use Rattle.kernel_text.specs.KernelFaults.{IsFault};
+ghost use Rattle.kernel_text.specs.Reader.{HoldsAll, HoldsKernel};
+
+use crate::check_range::is_in_range;
+use crate::fault::KernelFault;
+use crate::find_stray::first_stray;
+use crate::line_end::line_end;
+use crate::reader::Reader;
+use std::alloc::Global;
+
+/// Reads a whole text: what its lines say, or its first fault.
+pub(crate) fn read_text(alloc: Global, bytes: &[u8]) -> Result<Reader, KernelFault>
+    requires { length bytes.now ≤ 1073741824 }
+    ensures read { IfOk result (HoldsKernel bytes.now) }
+    ensures refused { IfErr result (IsFault bytes.now) }
+{
+    let reader = read_lines(alloc, bytes)?;
+    if !reader.is_ended() {
+        return Err(KernelFault::End);
+    }
+    if !is_in_range(
+        reader.clauses.as_slice(),
+        reader.conflicts.as_slice(),
+        reader.classes,
+    ) {
+        let Some(line) = first_stray(alloc, bytes, reader.classes)? else {
+            unreachable!()
+        };
+        return Err(KernelFault::Range { line });
+    }
+    Ok(reader)
+}
+
+// Takes all lines, or finds the first that is not allowed behind those before it.
+fn read_lines(alloc: Global, bytes: &[u8]) -> Result<Reader, KernelFault>
+    requires { length bytes.now ≤ 1073741824 }
+    ensures read { IfOk result (HoldsAll bytes.now) }
+    ensures refused { IfErr result (IsFault bytes.now) }
+{
+    let mut reader = Reader::new(alloc);
+    let mut place = 0;
+    let mut line = 0u64;
+    while place < bytes.len() {
+        let end = line_end(bytes, place);
+        line += 1;
+        if !reader.add(alloc, &bytes[place..end])? {
+            return Err(KernelFault::Line { line });
+        }
+        place = end;
+    }
+    Ok(reader)
+}

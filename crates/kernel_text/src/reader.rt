@@ -1,0 +1,278 @@
+//! What is read of a text so far.
+ghost use Rattle.std.specs.Prelude.{◌≡◌, ◌<◌, ◌-◌, ℕ, true, IfOk};
+ghost use Rattle.row_book.specs.Sets.{In};
+ghost use Rattle.kernel_text.specs.KernelLines.{AgainstLine, ClassLine, EndLine, HeadLine, MemberLine, NeedsLine};
+ghost use Rattle.kernel_text.specs.Reader.{Adds, EndIsTold, Holds, may_add_clause, may_add_conflict, may_add_member, may_begin, member_key, Takes};
+ghost use Rattle.kernel_text.specs.Reading.{empty_reading, IsNamed, number_limit, Reading};
+ghost use Rattle.kernel_text.specs.Words.{IsWellFormed, line_of_content};
+
+use crate::clause_shape::{holds, is_ascending, is_before};
+use crate::content::LineContent;
+use crate::member::Member;
+use crate::read_line::read_line;
+use clause_pool::NumList;
+use deb_version::{Bytes, Version};
+use listed::Listed;
+use row_book::Pair;
+use std::alloc::{AllocError, Global};
+use virtual_provides::NumbersByName;
+
+/// What the last line says of which line may stand next.
+#[derive(Clone, Copy, Debug, PartialEq, Eq)]
+pub(crate) enum LastLine {
+    Nothing,
+    Head,
+    Class,
+    Member,
+    Needs,
+    Against { class: u32 },
+    End { classes: u32, members: u32 },
+}
+
+/// A clause of a class.
+#[derive(Drop)]
+pub(crate) struct Clause {
+    pub(crate) class: u32,
+    pub(crate) numbers: NumList,
+}
+
+/// What the lines so far say: the last of them, with its clause where it is one, how many classes have begun, the members
+/// with their classes under their names and versions, the clauses and the pairs of conflicting classes.
+#[derive(Drop)]
+pub(crate) struct Reader {
+    pub(crate) last: LastLine,
+    pub(crate) previous: NumList,
+    pub(crate) classes: u32,
+    pub(crate) members: Listed<Member>,
+    pub(crate) keys: NumbersByName,
+    pub(crate) clauses: Listed<Clause>,
+    pub(crate) conflicts: Listed<Pair>,
+}
+
+impl Reader {
+    /// Before the first line.
+    pub(crate) fn new(alloc: Global) -> Reader
+        ensures { Holds result empty_reading }
+    {
+        Reader {
+            last: LastLine::Nothing,
+            previous: NumList::new(alloc),
+            classes: 0,
+            members: Listed::new(alloc),
+            keys: NumbersByName::new(alloc),
+            clauses: Listed::new(alloc),
+            conflicts: Listed::new(alloc),
+        }
+    }
+
+    /// Takes a line where it is allowed behind those before it.
+    pub(crate) fn add(&mut self, alloc: Global, line: &[u8]) -> Result<bool, AllocError>
+        ensures { (t : Reading) → Holds self.old t → IfOk result (Adds t line.now self.new) }
+    {
+        match read_line(alloc, line)? {
+            Some(content) => self.take(alloc, content),
+            None => Ok(false),
+        }
+    }
+
+    // Takes a line by what it says.
+    fn take(&mut self, alloc: Global, content: LineContent) -> Result<bool, AllocError>
+        requires { IsWellFormed (line_of_content content) }
+        ensures { (t : Reading) → Holds self.old t → IfOk result (Takes t (line_of_content content) self.new) }
+    {
+        match content {
+            LineContent::Head => Ok(self.take_head()),
+            LineContent::Class { number } => Ok(self.take_class(number)),
+            LineContent::Member { name, version } => self.take_member(alloc, name, version),
+            LineContent::Needs { clause } => self.take_clause(alloc, clause),
+            LineContent::Against { class } => self.take_conflict(class),
+            LineContent::End { classes, members } => Ok(self.take_end(classes, members)),
+        }
+    }
+
+    // Takes the first line.
+    fn take_head(&mut self) -> bool
+        ensures { (t : Reading) → Holds self.old t → Takes t HeadLine self.new result }
+    {
+        match self.last {
+            LastLine::Nothing => {
+                self.last = LastLine::Head;
+                true
+            }
+            _ => false,
+        }
+    }
+
+    // Begins a class.
+    fn take_class(&mut self, number: u32) -> bool
+        requires { number < number_limit }
+        ensures { (t : Reading) → Holds self.old t → Takes t (ClassLine number) self.new result }
+    {
+        if !may_begin(self.last) {
+            return false;
+        }
+        if number != self.classes {
+            return false;
+        }
+        self.classes += 1;
+        self.last = LastLine::Class;
+        true
+    }
+
+    // Takes a member of the class.
+    fn take_member(
+        &mut self,
+        alloc: Global,
+        name: Bytes,
+        version: Version,
+    ) -> Result<bool, AllocError>
+        requires { IsNamed name version }
+        ensures { (t : Reading) → Holds self.old t → IfOk result (Takes t (MemberLine name version) self.new) }
+    {
+        if !may_add_member(self.last) {
+            return Ok(false);
+        }
+        let class = self.this_class();
+        let member = Member {
+            class,
+            name,
+            version,
+        };
+        let key = key_of(alloc, &member)?;
+        if !self.keys.numbers(&key).is_empty() {
+            return Ok(false);
+        }
+        self.keys.put(&key, class)?;
+        self.members.push(member)?;
+        self.last = LastLine::Member;
+        Ok(true)
+    }
+
+    // Takes a clause of the class.
+    fn take_clause(&mut self, alloc: Global, clause: NumList) -> Result<bool, AllocError>
+        requires { (l : ℕ) → In l clause → l < number_limit }
+        ensures { (t : Reading) → Holds self.old t → IfOk result (Takes t (NeedsLine clause) self.new) }
+    {
+        let class = self.this_class();
+        let numbers = clause.as_slice();
+        if !may_add_clause(self.last, self.previous.as_slice(), numbers) {
+            return Ok(false);
+        }
+        if !is_ascending(numbers) {
+            return Ok(false);
+        }
+        if holds(numbers, class) {
+            return Ok(false);
+        }
+        let previous = NumList::of(Vec::from_slice(alloc, numbers)?);
+        self.clauses.push(Clause {
+            class,
+            numbers: clause,
+        })?;
+        self.previous = previous;
+        self.last = LastLine::Needs;
+        Ok(true)
+    }
+
+    // Takes a conflict of the class.
+    fn take_conflict(&mut self, class: u32) -> Result<bool, AllocError>
+        requires { class < number_limit }
+        ensures { (t : Reading) → Holds self.old t → IfOk result (Takes t (AgainstLine class) self.new) }
+    {
+        let low = self.this_class();
+        if !may_add_conflict(self.last, class) {
+            return Ok(false);
+        }
+        if class <= low {
+            return Ok(false);
+        }
+        self.conflicts.push(Pair { low, high: class })?;
+        self.last = LastLine::Against { class };
+        Ok(true)
+    }
+
+    // The class whose block the last line stands in.
+    fn this_class(&self) -> u32
+        ensures { result ≡ self.now.classes - 1 }
+    {
+        self.classes.saturating_sub(1)
+    }
+
+    // Takes the end line.
+    fn take_end(&mut self, classes: u32, members: u32) -> bool
+        requires classes { classes < number_limit }
+        requires members { members < number_limit }
+        ensures { (t : Reading) → Holds self.old t → Takes t (EndLine classes members) self.new result }
+    {
+        if !may_begin(self.last) {
+            return false;
+        }
+        self.last = LastLine::End { classes, members };
+        true
+    }
+
+    /// Whether the last line is the end line with the right numbers.
+    pub(crate) fn is_ended(&self) -> bool
+        ensures { (t : Reading) → Holds self.now t → EndIsTold t result }
+    {
+        match self.last {
+            LastLine::End { classes, members } => {
+                classes == self.classes && members as usize == self.members.as_slice().len()
+            }
+            _ => false,
+        }
+    }
+}
+
+// The key of a member, which those with its name and an equal version share.
+fn key_of(alloc: Global, member: &Member) -> Result<Vec<u8>, AllocError>
+    ensures { IfOk result (λ key. key.items ≡ member_key member.now) }
+{
+    let version = member.version.key(alloc)?;
+    let mut key = Vec::from_slice(alloc, member.name.as_slice())?;
+    key.push(b' ')?;
+    key.extend_from_slice(version.as_slice())?;
+    Ok(key)
+}
+
+// Whether the clause may stand next, where the previous one is given.
+fn may_add_clause(last: LastLine, previous: &[u32], clause: &[u32]) -> bool
+    ensures { result ≡ may_add_clause last previous.now clause.now }
+{
+    match last {
+        LastLine::Member => true,
+        LastLine::Needs => is_before(previous, clause),
+        _ => false,
+    }
+}
+
+// Whether a conflict with the class may stand next.
+fn may_add_conflict(last: LastLine, class: u32) -> bool
+    ensures { result ≡ may_add_conflict last class }
+{
+    match last {
+        LastLine::Member | LastLine::Needs => true,
+        LastLine::Against { class: lesser } => lesser < class,
+        _ => false,
+    }
+}
+
+// Whether a member may stand next.
+fn may_add_member(last: LastLine) -> bool
+    ensures { result ≡ may_add_member last }
+{
+    match last {
+        LastLine::Class | LastLine::Member => true,
+        _ => false,
+    }
+}
+
+// Whether a block or the end line may stand next.
+fn may_begin(last: LastLine) -> bool
+    ensures { result ≡ may_begin last }
+{
+    match last {
+        LastLine::Head | LastLine::Member | LastLine::Needs | LastLine::Against { .. } => true,
+        LastLine::Nothing | LastLine::Class | LastLine::End { .. } => false,
+    }
+}

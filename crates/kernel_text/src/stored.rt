@@ -1,0 +1,51 @@
+//! Stored kernels.
+ghost use Rattle.std.specs.Prelude.{◌≡◌, ◌≤◌, ◌<◌, IfOk, IfErr, length};
+ghost use Rattle.clause_pool.specs.Interned.{Kept};
+ghost use Rattle.row_book.specs.Book.{repository_of, Sound};
+ghost use Rattle.row_book.specs.Sets.{In};
+ghost use Rattle.kernel_text.specs.declared.member.Member.{Member};
+ghost use Rattle.kernel_text.specs.KernelFaults.{IsFault};
+ghost use Rattle.kernel_text.specs.KernelReads.{KernelReads};
+
+use crate::build_book::book_of;
+use crate::fault::KernelFault;
+use crate::member::Member;
+use crate::read::read_text;
+use crate::reader::Reader;
+use clause_pool::Pool;
+use listed::Listed;
+use row_book::Book;
+use std::alloc::Global;
+
+/// Packages of classes, in the order of their classes.
+pub type MemberList = Listed<Member>;
+
+/// The classes of a kernel, as a book over a pool, and their packages.
+#[derive(Drop)]
+pub struct StoredKernel {
+    /// The classes.
+    pub book: Book,
+    /// The packages of the classes.
+    pub members: MemberList,
+    ghost inside: { (m : Member) → In m members → m.class < length book.rows },
+}
+
+/// Reads the text of a kernel: its classes, over the pool, and their packages, or the first fault of the text. What the
+/// pool held stays, after a refusal too. A text has at most 1,073,741,824 bytes, the limit that the program keeps for files.
+/// Time is linear in the text; equal packages are found by a hash of the name and the version's key.
+pub fn read_kernel(
+    alloc: Global,
+    bytes: &[u8],
+    pool: &mut Pool,
+) -> Result<StoredKernel, KernelFault>
+    requires { length bytes.now ≤ 1073741824 }
+    ensures read { IfOk result (λ stored. KernelReads bytes.now (repository_of pool.new stored.book) stored.members) }
+    ensures sound { IfOk result (λ stored. Sound pool.new stored.book) }
+    ensures refused { IfErr result (IsFault bytes.now) }
+    ensures kept { Kept pool.old pool.new }
+{
+    let reader = read_text(alloc, bytes)?;
+    let book = book_of(alloc, pool, &reader)?;
+    let Reader { members, .. } = reader;
+    Ok(StoredKernel { book, members })
+}

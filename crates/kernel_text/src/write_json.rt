@@ -1,0 +1,181 @@
+//! Writing a kernel as JSON.
+ghost use Rattle.std.specs.Prelude.{◌≡◌, ◌++◌, ◌<◌, ℕ, ltb, codes, IfOk, filter, length};
+ghost use Rattle.std.specs.Str.{IsAscii};
+ghost use Rattle.clause_pool.specs.Interned.{clauses_at, OfPool};
+ghost use Rattle.relation_fields.specs.declared.packages.PackageFacts.{PackageFacts};
+ghost use Rattle.repo_model.specs.Stanzas.{stanza_at};
+ghost use Rattle.row_book.specs.Book.{repository_of, Sound};
+ghost use Rattle.row_book.specs.Sets.{In};
+ghost use Rattle.serde_json.specs.Data.{string};
+ghost use Rattle.serde_json.specs.View.{view};
+ghost use Rattle.serde_json.specs.Written.{compact_text};
+ghost use Rattle.kernel_text.specs.JsonData.{AreNamedPackages, clauses_data, data_of_class, kernel_data, numbers_data, package_data, packages_data};
+ghost use Rattle.kernel_text.specs.KernelJson.{kernel_json};
+ghost use Rattle.kernel_text.specs.Members.{kernel_members};
+ghost use Rattle.kernel_text.specs.Writing.{OfPackages};
+
+use crate::classify::packages_by_class;
+use clause_pool::{ClauseId, NumList, Pool};
+use kernel_rounds::Kernel;
+use relation_fields::PackageFacts;
+use repo_model::Suite;
+use row_book::Book;
+use serde_json::{Value, json};
+use std::alloc::{AllocError, Global};
+
+/// The JSON of a kernel of the suite's book, in which each package of the suite is a member of its class, in file order; it
+/// fails only where no memory is found. Time is linear in the packages, the classes and the text.
+pub fn kernel_json(
+    alloc: Global,
+    pool: &Pool,
+    suite: &Suite,
+    kernel: &Kernel,
+) -> Result<Vec<u8>, AllocError>
+    requires sound { Sound pool.now kernel.now.book }
+    requires each { length kernel.now.class_of ≡ length suite.now.packages }
+    requires inside { (class : ℕ) → In class kernel.now.class_of → class < length kernel.now.book.rows }
+    requires named { AreNamedPackages suite.now.packages }
+    ensures { IfOk result (λ text. text.items ≡ kernel_json (repository_of pool.now kernel.now.book)
+        (kernel_members suite.now.packages kernel.now.class_of (length kernel.now.book.rows))) }
+{
+    let packages = suite.packages.as_slice();
+    let by_class = packages_by_class(alloc, kernel.class_of.as_slice(), kernel.book.size())?;
+    document_text(alloc, packages, by_class.as_slice(), pool, &kernel.book)
+}
+
+// The text of the document, and a line feed.
+fn document_text(
+    alloc: Global,
+    packages: &[PackageFacts],
+    by_class: &[NumList],
+    pool: &Pool,
+    book: &Book,
+) -> Result<Vec<u8>, AllocError>
+    requires size { length by_class.now ≡ length book.now.rows }
+    requires members { OfPackages by_class.now packages.now }
+    requires named { AreNamedPackages packages.now }
+    requires sound { Sound pool.now book.now }
+    ensures { IfOk result (λ text. text.items
+        ≡ compact_text (kernel_data (repository_of pool.now book.now) packages.now by_class.now (length book.now.rows)) ++ codes "\n") }
+{
+    let mut text = document(alloc, packages, by_class, pool, book)?.to_vec(alloc)?;
+    text.extend_from_slice(b"\n")?;
+    Ok(text)
+}
+
+// The document of all classes.
+fn document(
+    alloc: Global,
+    packages: &[PackageFacts],
+    by_class: &[NumList],
+    pool: &Pool,
+    book: &Book,
+) -> Result<Value, AllocError>
+    requires size { length by_class.now ≡ length book.now.rows }
+    requires members { OfPackages by_class.now packages.now }
+    requires named { AreNamedPackages packages.now }
+    requires sound { Sound pool.now book.now }
+    ensures { IfOk result (λ value. view value ≡ kernel_data (repository_of pool.now book.now) packages.now by_class.now (length book.now.rows)) }
+{
+    let mut items = Vec::new(alloc);
+    for number in 0..book.size() {
+        items.push(class_value(alloc, packages, by_class, pool, book, number)?)?;
+    }
+    let classes = Value::Array(items);
+    json!(in alloc; {"classes": classes, "format": 1u32})
+}
+
+// A class: the greater classes that it conflicts with, its packages and its clauses.
+fn class_value(
+    alloc: Global,
+    packages: &[PackageFacts],
+    by_class: &[NumList],
+    pool: &Pool,
+    book: &Book,
+    number: u32,
+) -> Result<Value, AllocError>
+    requires inside { number < length book.now.rows }
+    requires size { length by_class.now ≡ length book.now.rows }
+    requires members { OfPackages by_class.now packages.now }
+    requires named { AreNamedPackages packages.now }
+    requires sound { Sound pool.now book.now }
+    ensures { IfOk result (λ value. view value ≡ data_of_class (repository_of pool.now book.now) packages.now by_class.now number) }
+{
+    let against = against_value(alloc, number, book.against(number))?;
+    let members = members_value(alloc, packages, by_class[number as usize].as_slice())?;
+    let needs = needs_value(alloc, pool, pool.row(book.row(number)))?;
+    json!(in alloc; {"against": against, "members": members, "needs": needs})
+}
+
+// The conflicts with greater classes.
+fn against_value(alloc: Global, number: u32, conflicts: &[u32]) -> Result<Value, AllocError>
+    ensures { IfOk result (λ value. view value ≡ numbers_data (filter (λ m. ltb number m) conflicts.now)) }
+{
+    let mut items = Vec::new(alloc);
+    for class in conflicts {
+        if number < *class {
+            items.push(Value::from(*class))?;
+        }
+    }
+    Ok(Value::Array(items))
+}
+
+// The packages with these numbers.
+fn members_value(
+    alloc: Global,
+    packages: &[PackageFacts],
+    members: &[u32],
+) -> Result<Value, AllocError>
+    requires members { (i : ℕ) → In i members.now → i < length packages.now }
+    requires named { AreNamedPackages packages.now }
+    ensures { IfOk result (λ value. view value ≡ packages_data packages.now members.now) }
+{
+    let mut items = Vec::new(alloc);
+    for member in members {
+        items.push(package_value(alloc, &packages[*member as usize])?)?;
+    }
+    Ok(Value::Array(items))
+}
+
+// The name and the version of a package.
+fn package_value(alloc: Global, facts: &PackageFacts) -> Result<Value, AllocError>
+    requires name { IsAscii facts.now.name }
+    requires version { IsAscii facts.now.version }
+    ensures { IfOk result (λ value. view value ≡ package_data facts.now) }
+{
+    let name = text_value(alloc, facts.name.as_slice())?;
+    let version = text_value(alloc, facts.version.text())?;
+    json!(in alloc; [name, version])
+}
+
+// A text that is ASCII, so that nothing is lost.
+fn text_value(alloc: Global, text: &[u8]) -> Result<Value, AllocError>
+    requires { IsAscii text.now }
+    ensures { IfOk result (λ value. view value ≡ string text.now) }
+{
+    let text = String::from_utf8_lossy(alloc, text)?;
+    Ok(Value::from(text))
+}
+
+// The clauses with these ids.
+fn needs_value(alloc: Global, pool: &Pool, ids: &[ClauseId]) -> Result<Value, AllocError>
+    requires { OfPool pool.now ids.now }
+    ensures { IfOk result (λ value. view value ≡ clauses_data (clauses_at pool.now ids.now)) }
+{
+    let mut items = Vec::new(alloc);
+    for id in ids {
+        items.push(numbers_value(alloc, pool.slice(*id))?)?;
+    }
+    Ok(Value::Array(items))
+}
+
+// The numbers of a clause.
+fn numbers_value(alloc: Global, numbers: &[u32]) -> Result<Value, AllocError>
+    ensures { IfOk result (λ value. view value ≡ numbers_data numbers.now) }
+{
+    let mut items = Vec::new(alloc);
+    for number in numbers {
+        items.push(Value::from(*number))?;
+    }
+    Ok(Value::Array(items))
+}

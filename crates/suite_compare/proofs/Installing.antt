@@ -1,0 +1,30 @@
+-- From classes that were found to an installation.
+use Rattle.std.proofs.Common.{◌≡◌, ℕ, zero, suc, ◌<◌, Bool, true, false, List, [], ◌∷◌, length, refl, sym, ap, subst, ◌∙◌, arith}
+use Rattle.std.proofs.Math.Path.{fun_ext}
+use Rattle.std.specs.List.{range_with_len}
+use Rattle.row_book.specs.Flags.{flag}
+use Rattle.row_book.specs.Repository.{Repository, Healthy}
+use Rattle.row_book.specs.Sets.{HitsAll, has}
+use Rattle.row_book.proofs.Lists.{In_has, has_not, filter_cases, filter_from}
+use Rattle.repo_model.proofs.Elements.{range_from}
+use Rattle.suite_compare.specs.Answering.{true_numbers}
+
+in_flags : (flags : List Bool) (k : ℕ) → flag flags k ≡ true → k < length flags
+in_flags [] k h = absurd (let e : ⊥ = cc in e)
+in_flags (b ∷ flags) zero h = omega arith
+in_flags (b ∷ flags) (suc k) h = let l : k < length flags = in_flags flags k h in omega arith
+
+-- the numbers of flags are the set of the flags
+pub numbers_set : (flags : List Bool) → has (true_numbers flags) ≡ flag flags
+numbers_set flags = fun_ext (λ n. at n (flag flags n) refl)
+  where
+    at : (n : ℕ) (b : Bool) → flag flags n ≡ b → has (true_numbers flags) n ≡ flag flags n
+    at n true e = In_has (filter_from (flag flags) (range_with_len 0 (length flags)) n (range_from (length flags) 0 n (omega arith) (let l = in_flags flags n e in omega (arith, l))) e) ∙ sym e
+    at n false e = has_not (true_numbers flags) n (λ i. let k = (filter_cases (flag flags) (range_with_len 0 (length flags)) n i).1 in absurd (cc (k, e))) ∙ sym e
+
+-- a set that is healthy, or hits goals, does so as its numbers too
+pub healthy_numbers : (R : Repository) (flags : List Bool) (numbers : List ℕ) → numbers ≡ true_numbers flags → Healthy R (flag flags) → Healthy R (has numbers)
+healthy_numbers R flags numbers e h = subst (Healthy R) (sym (ap has e ∙ numbers_set flags)) h
+
+pub hits_numbers : (flags : List Bool) (numbers : List ℕ) (wanted : List (List ℕ)) → numbers ≡ true_numbers flags → HitsAll (flag flags) wanted → HitsAll (has numbers) wanted
+hits_numbers flags numbers wanted e h = subst (λ S. HitsAll S wanted) (sym (ap has e ∙ numbers_set flags)) h

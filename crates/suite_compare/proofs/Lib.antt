@@ -1,0 +1,17 @@
+pub mod SuiteKernels
+pub mod Ranged
+pub mod Deciding
+pub mod Viewed
+pub mod Gathering
+pub mod Installing
+pub mod Answered
+pub mod Named
+pub mod Groups
+pub mod Numbered
+pub mod Chosen
+pub mod Suspected
+pub mod Judged
+pub mod Gathered
+pub mod Told
+pub mod Reported
+pub mod Compared

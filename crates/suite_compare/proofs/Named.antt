@@ -1,0 +1,144 @@
+-- The names of both suites, and their classes.
+use Rattle.std.proofs.Common.{eqb-true, ◌≡◌, ℕ, ◌<◌, ◌≤◌, ◌+◌, Bool, true, false, cond, eqb, List, [], ◌∷◌, ◌++◌, ◌⊎◌, inl, inr, length, get_or, take, map, filter, refl, sym, ◌∙◌, ap, subst, arith, ◌&&◌}
+use Rattle.std.specs.Prelude.{if◌then◌else◌}
+use Rattle.std.specs.List.{list_any, range_with_len}
+use Rattle.std.specs.Str.{bytes_eq}
+use Rattle.std.proofs.Math.Bool.{and-true}
+use Rattle.std.proofs.lemmas.Bool.{cases_Bool, both_ways, false_from_ne_true, false≢true}
+use Rattle.std.proofs.lemmas.List.{append-nil, map_more, take_all, take_more}
+use Rattle.std.proofs.lemmas.List.Elements.{filter-append}
+use Rattle.clause_pool.specs.Interned.{Interned}
+use Rattle.row_book.specs.Book.{repository_of}
+use Rattle.row_book.specs.Clauses.{Ascending}
+use Rattle.row_book.specs.Needs.{AreNeeds, IsNeed, NeedsFit}
+use Rattle.row_book.specs.Rounds.{kernel}
+use Rattle.row_book.specs.Sets.{In, here, there}
+use Rattle.row_book.specs.declared.book.Book.{Book}
+use Rattle.row_book.proofs.Lists.{In_none, In_at, In_map_cases, any_cases, any_from, filter_cases, filter_same}
+use Rattle.clause_pool.proofs.Lists.{In_place}
+use Rattle.row_book.proofs.Order.{ordered_parts}
+use Rattle.relation_fields.specs.declared.packages.Home.{Home}
+use Rattle.relation_fields.specs.declared.packages.PackageFacts.{PackageFacts}
+use Rattle.repo_model.specs.Goals.{any_version, is_named_by, names_in, packages_named}
+use Rattle.repo_model.specs.Repository.{packages_of, suite_repository}
+use Rattle.repo_model.specs.Stanzas.{no_stanza, stanza_at}
+use Rattle.std.proofs.lemmas.Slice.Eq.{bytes_eq-Decides}
+use Rattle.repo_model.proofs.Packages.{length_clauses}
+use Rattle.repo_model.proofs.Chosen.{number_cases, number_from, numbers_chosen}
+use Rattle.virtual_provides.specs.Bearers.{if_so}
+use Rattle.virtual_provides.specs.Numbers.{ends_in, numbers_where, with_number}
+use Rattle.virtual_provides.proofs.Numbered.{numbers_where-fresh_take, numbers_where-more}
+use Rattle.suite_compare.specs.Asking.{goal_classes, image_of}
+use Rattle.suite_compare.specs.Names.{names_of_both, stands_in}
+use Rattle.suite_compare.proofs.SuiteKernels.{classes_ascending, classes_fit, classes_from, suite_sound}
+
+-- one package more under its name
+pub named_more : (name lent : List ℕ) (packages : List PackageFacts) (i : ℕ) (x : PackageFacts) (now new : List ℕ) → i < length packages → x ≡ get_or packages i x → lent ≡ x.name
+    → now ≡ numbers_where (λ facts. bytes_eq name facts.name) (take i packages) → new ≡ (if bytes_eq name lent then with_number i now else now)
+    → new ≡ numbers_where (λ facts. bytes_eq name facts.name) (take (i + 1) packages)
+named_more name lent packages i x now new l is same so put =
+    put
+    ∙ ap (λ z. if bytes_eq name z then with_number i now else now) same
+    ∙ ap (λ z. if bytes_eq name x.name then with_number i z else z) so
+    ∙ by (bytes_eq name x.name)
+    ∙ sym (numbers_where-more (λ facts. bytes_eq name facts.name) packages i x l is)
+  where
+    by : (b : Bool) → (if b then with_number i (numbers_where (λ facts. bytes_eq name facts.name) (take i packages)) else numbers_where (λ facts. bytes_eq name facts.name) (take i packages))
+        ≡ numbers_where (λ facts. bytes_eq name facts.name) (take i packages) ++ if_so b i
+    by true = ap (λ e. if e then numbers_where (λ facts. bytes_eq name facts.name) (take i packages) else numbers_where (λ facts. bytes_eq name facts.name) (take i packages) ++ i ∷ [])
+        (numbers_where-fresh_take (λ facts. bytes_eq name facts.name) packages i l)
+    by false = sym (append-nil (numbers_where (λ facts. bytes_eq name facts.name) (take i packages)))
+
+-- the packages of a name are those that it names as a goal
+pub named_is : (packages : List PackageFacts) (name : List ℕ) → numbers_where (λ facts. bytes_eq name facts.name) packages ≡ packages_named packages (any_version name)
+named_is packages name =
+    numbers_chosen (λ facts. bytes_eq name facts.name) packages
+    ∙ filter_same (λ n. bytes_eq name (stanza_at packages n).name) (λ n. is_named_by (any_version name) (stanza_at packages n)) (packages_of packages) (λ n i. sym (and-true (bytes_eq name (stanza_at packages n).name)))
+
+-- a name stands in the packages where some package has it
+pub stands_filled : (packages : List PackageFacts) (name : List ℕ) → stands_in packages name ≡ true → (n : ℕ) × In n (numbers_where (λ facts. bytes_eq name facts.name) packages)
+stands_filled packages name h =
+    let w : (x : PackageFacts) × In x packages × (bytes_eq name x.name ≡ true) = any_cases (λ facts. bytes_eq name facts.name) packages h in
+    let p : (i : ℕ) × (i < length packages) × (get_or packages i no_stanza ≡ w.0) = In_place packages w.0 no_stanza w.1 in
+    (p.0, number_from (λ facts. bytes_eq name facts.name) packages p.0 p.1 (ap (λ z. bytes_eq name z.name) p.2 ∙ w.2))
+
+pub stands_empty : (packages : List PackageFacts) (name lent : List ℕ) (r : Bool) → lent ≡ numbers_where (λ facts. bytes_eq name facts.name) packages → r ≡ eqb (length lent) 0 → r ≡ true → stands_in packages name ≡ false
+stands_empty packages name lent r is size t = false_from_ne_true (stands_in packages name) (λ h.
+    let w = stands_filled packages name h in none lent (sym size ∙ t) w.0 (subst (λ z. In w.0 z) (sym is) w.1))
+  where
+    none : (list : List ℕ) → eqb (length list) 0 ≡ true → (n : ℕ) → In n list → ⊥
+    none [] e n i = In_none i
+    none (x ∷ xs) e n i = let h : length (x ∷ xs) ≡ 0 = eqb-true (length (x ∷ xs)) 0 e in absurd (omega arith)
+
+pub stands_some : (packages : List PackageFacts) (name lent : List ℕ) (r : Bool) → lent ≡ numbers_where (λ facts. bytes_eq name facts.name) packages → r ≡ eqb (length lent) 0 → r ≡ false → stands_in packages name ≡ true
+stands_some packages name lent r is size f = by lent is (sym size ∙ f)
+  where
+    by : (list : List ℕ) → list ≡ numbers_where (λ facts. bytes_eq name facts.name) packages → eqb (length list) 0 ≡ false → stands_in packages name ≡ true
+    by [] e z = absurd (false≢true (sym z))
+    by (n ∷ ns) e z =
+        let w : (n < length packages) × (bytes_eq name (stanza_at packages n).name ≡ true) = number_cases (λ facts. bytes_eq name facts.name) packages n (subst (λ z. In n z) e here) in
+        any_from (λ facts. bytes_eq name facts.name) packages (stanza_at packages n) (In_at packages n no_stanza w.0) w.1
+
+-- the packages of a name are packages
+pub named_below : (packages : List PackageFacts) (name lent : List ℕ) → lent ≡ numbers_where (λ facts. bytes_eq name facts.name) packages → (n : ℕ) → In n lent → n < length packages
+named_below packages name lent is n i = (number_cases (λ facts. bytes_eq name facts.name) packages n (subst (λ z. In n z) is i)).0
+
+-- the image of a name that some package has is a need of the kernel
+pub image_need : (home : Home) (stanzas : List PackageFacts) (name : List ℕ) → stands_in stanzas name ≡ true → IsNeed (image_of home stanzas (any_version name))
+image_need home stanzas name h =
+    let w : (n : ℕ) × In n (numbers_where (λ facts. bytes_eq name facts.name) stanzas) = stands_filled stanzas name h in
+    let i : In w.0 (packages_named stanzas (any_version name)) = subst (λ z. In w.0 z) (named_is stanzas name) w.1 in
+    record {
+      ascending = classes_ascending (suite_repository home stanzas) (packages_named stanzas (any_version name));
+      filled = filled_by _ _ (classes_from (suite_repository home stanzas) (suite_sound home stanzas) (packages_named stanzas (any_version name)) (chosen_below home stanzas name) w.0 i);
+    }
+  where
+    filled_by : (list : List ℕ) (n : ℕ) → In n list → 0 < length list
+    filled_by [] n i = absurd (In_none i)
+    filled_by (x ∷ xs) n i = omega arith
+
+    chosen_below : (home : Home) (stanzas : List PackageFacts) (name : List ℕ) (n : ℕ) → In n (packages_named stanzas (any_version name)) → n < length (suite_repository home stanzas).clauses
+    chosen_below home stanzas name n i = subst (λ z. n < z) (sym (length_clauses home stanzas)) (named_below stanzas name (packages_named stanzas (any_version name)) (sym (named_is stanzas name)) n i)
+
+-- the names of an index stand in it
+pub own_names : (packages : List PackageFacts) (name : List ℕ) → In name (names_in packages) → stands_in packages name ≡ true
+own_names packages name i =
+    let w : (x : PackageFacts) × In x packages × (name ≡ x.name) = In_map_cases (λ facts. facts.name) packages name (ordered_parts (map (λ facts. facts.name) packages) name i) in
+    any_from (λ facts. bytes_eq name facts.name) packages w.0 w.1 (ap (λ z. bytes_eq z w.0.name) w.2 ∙ (bytes_eq-Decides w.0.name w.0.name).1 refl)
+
+-- the lists of classes of names that some package has
+pub lists_need : (home : Home) (stanzas : List PackageFacts) (names lists : List (List ℕ)) → lists ≡ map (λ name. image_of home stanzas (any_version name)) names → ((name : List ℕ) → In name names → stands_in stanzas name ≡ true) → AreNeeds lists
+lists_need home stanzas names lists made stand c i =
+    let w = In_map_cases (λ name. image_of home stanzas (any_version name)) names c (subst (λ z. In c z) made i) in
+    subst IsNeed (sym w.2) (image_need home stanzas w.0 (stand w.0 w.1))
+
+pub lists_fit : (home : Home) (stanzas : List PackageFacts) (names lists : List (List ℕ)) (size : ℕ) → lists ≡ map (λ name. image_of home stanzas (any_version name)) names → length (kernel (suite_repository home stanzas)).clauses ≡ size → NeedsFit size lists
+lists_fit home stanzas names lists size made e c i n j =
+    let w = In_map_cases (λ name. image_of home stanzas (any_version name)) names c (subst (λ z. In c z) made i) in
+    subst (λ z. n < z) e (classes_fit (suite_repository home stanzas) (packages_named stanzas (any_version w.0)) n (subst (λ z. In n z) w.2 j))
+
+-- one name more that passes, or does not
+pub named_kept : (p : List ℕ → Bool) (names : List (List ℕ)) (i : ℕ) (item copy : List ℕ) (made new : List (List ℕ)) → i < length names → item ≡ get_or names i item → copy ≡ item → p item ≡ true → new ≡ made ++ copy ∷ []
+    → made ≡ filter p (take i names) → new ≡ filter p (take (i + 1) names)
+named_kept p names i item copy made new l is same passes e so =
+    e ∙ ap (λ z. made ++ z ∷ []) same ∙ ap (λ z. z ++ item ∷ []) so
+    ∙ sym (ap (filter p) (take_more names i item l ∙ ap (λ z. take i names ++ z ∷ []) (sym is)) ∙ filter-append p (take i names) (item ∷ []) ∙ ap (λ b. filter p (take i names) ++ cond b (item ∷ []) []) passes)
+
+pub named_skip : (p : List ℕ → Bool) (names : List (List ℕ)) (i : ℕ) (item : List ℕ) (made : List (List ℕ)) → i < length names → item ≡ get_or names i item → p item ≡ false → made ≡ filter p (take i names) → made ≡ filter p (take (i + 1) names)
+named_skip p names i item made l is fails so =
+    so ∙ sym (ap (filter p) (take_more names i item l ∙ ap (λ z. take i names ++ z ∷ []) (sym is)) ∙ filter-append p (take i names) (item ∷ []) ∙ ap (λ b. filter p (take i names) ++ cond b (item ∷ []) []) fails ∙ append-nil (filter p (take i names)))
+
+pub named_all : (p : List ℕ → Bool) (names : List (List ℕ)) (i : ℕ) (made : List (List ℕ)) → length names ≤ i → made ≡ filter p (take i names) → made ≡ filter p names
+named_all p names i made l so = so ∙ ap (filter p) (take_all i names l)
+
+-- the names of both stand in both
+pub both_old : (old new : List PackageFacts) (names : List (List ℕ)) → names ≡ names_of_both old new → (name : List ℕ) → In name names → stands_in old name ≡ true
+both_old old new names e name i = own_names old name (filter_cases (stands_in new) (names_in old) name (subst (λ z. In name z) e i)).0
+
+pub both_new : (old new : List PackageFacts) (names : List (List ℕ)) → names ≡ names_of_both old new → (name : List ℕ) → In name names → stands_in new name ≡ true
+both_new old new names e name i = (filter_cases (stands_in new) (names_in old) name (subst (λ z. In name z) e i)).1
+
+-- one list of classes more
+pub mapped_step : {A B : Type 0} (f : A → B) (xs : List A) (i : ℕ) (x : A) (made new : List B) (y : B) → i < length xs → x ≡ get_or xs i x → new ≡ made ++ y ∷ [] → y ≡ f x → made ≡ map f (take i xs) → new ≡ map f (take (i + 1) xs)
+mapped_step f xs i x made new y l is e same so =
+    e ∙ ap (λ z. z ++ y ∷ []) so ∙ ap (λ z. map f (take i xs) ++ z ∷ []) (same ∙ ap f is) ∙ sym (map_more f xs i x l)

@@ -1,0 +1,35 @@
+-- The classes in the formula of a sound repository and goals are its packages.
+use Rattle.std.proofs.Common.{ℕ, ◌<◌, true, false, List, [], ◌∷◌, length, get_or, subst}
+use Rattle.std.specs.Prelude.{All}
+use Rattle.std.proofs.lemmas.List.Elements.{All-nil, All-cons, Contains-get_or}
+use Rattle.row_book.specs.Needs.{NeedsFit}
+use Rattle.row_book.specs.Repository.{Repository, conflicts_of}
+use Rattle.row_book.specs.Sets.{In}
+use Rattle.row_book.specs.Sound.{SoundRepository}
+use Rattle.search_terms.specs.declared.literals.Literal.{Literal}
+use Rattle.search_terms.specs.Closure.{literal, InRange}
+use Rattle.search_terms.specs.Form.{goal_sentence, form}
+use Rattle.search_terms.proofs.Lists.{contains_in}
+use Rattle.search_terms.proofs.Forms.{from_map, IsSentence, sentence_cases}
+use Rattle.search_terms.proofs.Forms.IsSentence.{of_goal, of_clause, of_conflict}
+use Rattle.search_terms.proofs.Ranges.{other_way, listed_in}
+
+members_ranged : (n : ℕ) (c : List ℕ) → ((m : ℕ) → In m c → m < n) → All (λ l. l.class < n) (goal_sentence c)
+members_ranged n c h = λ k d lt.
+    let w = from_map (λ m. literal m true) c (get_or (goal_sentence c) k d) (contains_in (goal_sentence c) (get_or (goal_sentence c) k d) (Contains-get_or (goal_sentence c) k d lt)) in
+    rw w.2 (h w.0 w.1)
+
+pub formula_ranged : (R : Repository) (goals : List (List ℕ)) → SoundRepository R → NeedsFit (length R.clauses) goals → InRange (length R.clauses) (form R goals)
+formula_ranged R goals sound fit = λ k d lt.
+    one (get_or (form R goals) k d) (sentence_cases R goals (get_or (form R goals) k d) (contains_in (form R goals) (get_or (form R goals) k d) (Contains-get_or (form R goals) k d lt)))
+  where
+    below : (p q : ℕ) → In q (conflicts_of R p) → p < length R.clauses
+    below p q i = subst (λ n. p < n) sound.count (listed_in R.conflicts p q i)
+
+    one : (s : List Literal) → IsSentence R goals s → All (λ l. l.class < length R.clauses) s
+    one s (of_goal g i e) = rw e (members_ranged (length R.clauses) g (fit g i))
+    one s (of_clause p c lt i e) =
+        rw e (All-cons (λ l. l.class < length R.clauses) (literal p false) (goal_sentence c) lt (members_ranged (length R.clauses) c (sound.clauses p c i).1))
+    one s (of_conflict p q i e) =
+        rw e (All-cons (λ l. l.class < length R.clauses) (literal p false) (literal q false ∷ []) (below p q i)
+        (All-cons (λ l. l.class < length R.clauses) (literal q false) [] (below q p (other_way R.conflicts sound.conflicts p q i)) (All-nil (λ l. l.class < length R.clauses))))

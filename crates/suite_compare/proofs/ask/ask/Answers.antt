@@ -1,0 +1,27 @@
+use Rattle.std.proofs.Common.{◌<◌, length, sym, subst, ◌∙◌, arith}
+use Rattle.std.proofs.lemmas.Grind.{common_steps}
+use Rattle.repo_model.specs.Repository.{suite_repository}
+use Rattle.row_book.specs.Clauses.{Ascending}
+use Rattle.row_book.specs.Sets.{In}
+use Rattle.suite_compare.proofs.Gathering.{image_filled, named_ascending, named_inside}
+use Rattle.suite_compare.proofs.SuiteKernels.{classes_ascending}
+use Rattle.suite_compare.proofs.ask.ask.Goals as goal
+
+pub image_of-requires : goal.image_of-requires
+image_of-requires c = λ n i. named_inside c.args.view.now.suite.packages c.index-goals-place.result n (subst (λ ns. In n ns) (c.deref.ensures.value ∙ c.in_ok-chosen.ensures) i)
+
+pub push-requires-clause-ascending : goal.push-requires-clause-ascending
+push-requires-clause-ascending c =
+    subst Ascending (sym (c.deref-in-loop-place.ensures.value ∙ c.in_ok-chosen.ensures)) (named_ascending c.args.view.now.suite.packages c.index-goals-place.result)
+
+pub push-requires-in-loop-place-clause-ascending : goal.push-requires-in-loop-place-clause-ascending
+push-requires-in-loop-place-clause-ascending c =
+    subst Ascending (sym (c.deref-in-loop-place-2.ensures.value ∙ c.in_ok-image.ensures))
+    (classes_ascending (suite_repository c.args.view.now.suite.home c.args.view.now.suite.packages) c.deref.result.now)
+
+pub push-requires-in-loop-place-clause-filled : goal.push-requires-in-loop-place-clause-filled
+push-requires-in-loop-place-clause-filled c =
+    let some : 0 < length c.deref.result.now = grind (arith, common_steps) in
+    subst (λ ns. 0 < length ns) (sym (c.deref-in-loop-place-2.ensures.value ∙ c.in_ok-image.ensures))
+    (image_filled c.args.view.now.suite.home c.args.view.now.suite.packages c.deref.result.now
+    (λ n i. named_inside c.args.view.now.suite.packages c.index-goals-place.result n (subst (λ ns. In n ns) (c.deref.ensures.value ∙ c.in_ok-chosen.ensures) i)) some)

@@ -1,0 +1,6 @@
+use Rattle.row_book.specs.Book.{repository_of}
+use Rattle.suite_compare.proofs.Chosen.{FollowedTo}
+use Rattle.suite_compare.proofs.choose.follow.Given as goal
+
+abbrev pub invariant-loop-place : goal.invariant-loop-place
+invariant-loop-place l = FollowedTo (repository_of l.pool l.book) l.goal l.chosen.items l.place

@@ -1,0 +1,36 @@
+use Rattle.std.proofs.Common.{◌≤◌, ◌∙◌, ap, filter, length, map, subst, sym}
+use Rattle.repo_model.specs.Goals.{any_version}
+use Rattle.search_terms.proofs.Ranges.{rows_long}
+use Rattle.suite_compare.specs.Asking.{verdict_in}
+use Rattle.suite_compare.specs.Comparing.{told_report}
+use Rattle.suite_compare.specs.Names.{stands_in, HasNames}
+use Rattle.suite_compare.proofs.Compared.{verdicts_are}
+use Rattle.suite_compare.proofs.Named.{both_new, both_old, lists_fit, lists_need}
+use Rattle.suite_compare.proofs.comparison.compare.Goals as goal
+
+pub packages_by_name-requires : goal.packages_by_name-requires
+packages_by_name-requires c = subst (λ z. length z ≤ 200000) (sym c.as_slice-old_packages.ensures) c.args.old.now.suite.few
+
+pub packages_by_name-requires-2 : goal.packages_by_name-requires-2
+packages_by_name-requires-2 c = subst (λ z. length z ≤ 200000) (sym c.as_slice-new_packages.ensures) c.args.new.now.suite.few
+
+pub classes_of_names-requires : goal.classes_of_names-requires
+classes_of_names-requires c = subst (λ z. HasNames z c.in_ok-old_table.old_table) c.as_slice-old_packages.ensures c.in_ok-old_table.ensures
+
+pub classes_of_names-requires-2 : goal.classes_of_names-requires-2
+classes_of_names-requires-2 c = subst (λ z. HasNames z c.in_ok-new_table.new_table) c.as_slice-new_packages.ensures c.in_ok-new_table.ensures
+
+pub lines_of-requires-clause-old_needs : goal.lines_of-requires-clause-old_needs
+lines_of-requires-clause-old_needs c = lists_need c.args.old.now.suite.home c.args.old.now.suite.packages c.as_slice-names.result.now c.as_slice-2.result.now (c.as_slice-2.ensures.value ∙ c.in_ok-old_lists.ensures) (both_old c.args.old.now.suite.packages c.args.new.now.suite.packages c.as_slice-names.result.now (c.as_slice-names.ensures.value ∙ c.in_ok-found.ensures c.args.new.now.suite.packages (subst (λ z. HasNames z c.in_ok-new_table.new_table) c.as_slice-new_packages.ensures c.in_ok-new_table.ensures) ∙ ap (filter (stands_in c.args.new.now.suite.packages)) (c.as_slice.ensures ∙ c.in_ok-all.ensures)))
+
+pub lines_of-requires-clause-new_needs : goal.lines_of-requires-clause-new_needs
+lines_of-requires-clause-new_needs c = lists_need c.args.new.now.suite.home c.args.new.now.suite.packages c.as_slice-names.result.now c.as_slice-3.result.now (c.as_slice-3.ensures.value ∙ c.in_ok-new_lists.ensures) (both_new c.args.old.now.suite.packages c.args.new.now.suite.packages c.as_slice-names.result.now (c.as_slice-names.ensures.value ∙ c.in_ok-found.ensures c.args.new.now.suite.packages (subst (λ z. HasNames z c.in_ok-new_table.new_table) c.as_slice-new_packages.ensures c.in_ok-new_table.ensures) ∙ ap (filter (stands_in c.args.new.now.suite.packages)) (c.as_slice.ensures ∙ c.in_ok-all.ensures)))
+
+pub lines_of-requires-clause-old_fit : goal.lines_of-requires-clause-old_fit
+lines_of-requires-clause-old_fit c = lists_fit c.args.old.now.suite.home c.args.old.now.suite.packages c.as_slice-names.result.now c.as_slice-2.result.now (length c.args.old.now.kernel.book.rows) (c.as_slice-2.ensures.value ∙ c.in_ok-old_lists.ensures) (sym (ap (λ K. length K.clauses) c.args.old.now.of_suite.kernel_is.book.repository) ∙ rows_long c.args.old.now.pool c.args.old.now.kernel.book.rows)
+
+pub lines_of-requires-clause-new_fit : goal.lines_of-requires-clause-new_fit
+lines_of-requires-clause-new_fit c = lists_fit c.args.new.now.suite.home c.args.new.now.suite.packages c.as_slice-names.result.now c.as_slice-3.result.now (length c.args.new.now.kernel.book.rows) (c.as_slice-3.ensures.value ∙ c.in_ok-new_lists.ensures) (sym (ap (λ K. length K.clauses) c.args.new.now.of_suite.kernel_is.book.repository) ∙ rows_long c.args.new.now.pool c.args.new.now.kernel.book.rows)
+
+pub returns : goal.returns
+returns c = c.in_ok-lines.ensures (λ ns. verdict_in c.args.old.now.suite.home c.args.old.now.suite.packages c.args.budget (map any_version ns)) (λ ns. verdict_in c.args.new.now.suite.home c.args.new.now.suite.packages c.args.budget (map any_version ns)) (verdicts_are c.args.old.now.pool c.args.old.now.kernel.book c.args.old.now.suite.home c.args.old.now.suite.packages c.args.budget c.as_slice-names.result.now c.as_slice-2.result.now c.args.old.now.of_suite.kernel_is.book.repository (c.as_slice-2.ensures.value ∙ c.in_ok-old_lists.ensures)) (verdicts_are c.args.new.now.pool c.args.new.now.kernel.book c.args.new.now.suite.home c.args.new.now.suite.packages c.args.budget c.as_slice-names.result.now c.as_slice-3.result.now c.args.new.now.of_suite.kernel_is.book.repository (c.as_slice-3.ensures.value ∙ c.in_ok-new_lists.ensures)) ∙ ap (told_report (λ ns. verdict_in c.args.old.now.suite.home c.args.old.now.suite.packages c.args.budget (map any_version ns)) (λ ns. verdict_in c.args.new.now.suite.home c.args.new.now.suite.packages c.args.budget (map any_version ns))) (c.as_slice-names.ensures.value ∙ c.in_ok-found.ensures c.args.new.now.suite.packages (subst (λ z. HasNames z c.in_ok-new_table.new_table) c.as_slice-new_packages.ensures c.in_ok-new_table.ensures) ∙ ap (filter (stands_in c.args.new.now.suite.packages)) (c.as_slice.ensures ∙ c.in_ok-all.ensures))

@@ -1,0 +1,5 @@
+use Rattle.suite_compare.proofs.Suspected.{AreHoldersTo}
+use Rattle.suite_compare.proofs.suspect.enter_choices.Given as goal
+
+abbrev pub invariant-loop-kind : goal.invariant-loop-kind
+invariant-loop-kind l = AreHoldersTo l.kind l.choices l.table

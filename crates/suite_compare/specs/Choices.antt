@@ -1,0 +1,35 @@
+-- First choices as lists of classes, and which of them are at peace.
+use Rattle.std.specs.Prelude.{◌≡◌, ℕ, ◌<◌, ◌⊎◌, true, false, List, [], ◌∷◌, ◌++◌, length}
+use Rattle.row_book.specs.Sets.{In, has}
+use Rattle.row_book.specs.Book.{listed_for}
+use Rattle.row_book.specs.Repository.{Repository, clauses_of}
+use Rattle.search_terms.specs.Certificate.{first_of, is_one_of, AreAtPeace, IsFirstChoice}
+
+-- each number of the list is below the size
+abbrev pub AreBelow : ℕ → List ℕ → Type 0
+AreBelow size list = (n : ℕ) → In n list → n < size
+
+-- no member of the first list conflicts with one of the second
+abbrev pub ArePeaceful : List (List ℕ) → List ℕ → List ℕ → Type 0
+ArePeaceful conflicts S T = (m n : ℕ) → In m S → In n T → has (listed_for conflicts m) n ≡ false
+
+-- the numbers of the second list are put behind the first, those that are not there yet
+pub record ArePut (old new more : List ℕ) : Type 0 where
+  pub rest : List ℕ
+  pub behind : new ≡ old ++ rest
+  pub all : (n : ℕ) → In n more → In n new
+  pub only : (n : ℕ) → In n rest → In n more
+
+-- the first member of each clause is among the chosen
+abbrev pub HaveFirsts : List (List ℕ) → List ℕ → Type 0
+HaveFirsts clauses chosen = (c : List ℕ) → In c clauses → is_one_of (has chosen) (first_of c) ≡ true
+
+-- where there is any, it is a first choice of the goal
+abbrev pub IsChosen : Repository → List ℕ → List ℕ → Type 0
+IsChosen R goal chosen = (n : ℕ) → In n chosen → IsFirstChoice R (goal ∷ []) (has chosen)
+
+-- where there is any, the first member of the goal is there, and that of each clause of a member
+pub record IsFollowed (R : Repository) (goal chosen : List ℕ) : Type 0 where
+  pub below : AreBelow (length R.clauses) chosen
+  pub goal_first : (n : ℕ) → In n chosen → HaveFirsts (goal ∷ []) chosen
+  pub clause_firsts : (p : ℕ) → In p chosen → HaveFirsts (clauses_of R p) chosen

@@ -1,0 +1,67 @@
+-- Kinds: names of a kind have the same classes, and so the same verdicts.
+use Rattle.std.specs.Prelude.{◌≡◌, ℕ, ◌<◌, ◌⊎◌, List, [], ◌∷◌, ◌++◌, length, slice_index_or}
+use Rattle.row_book.specs.Sets.{In}
+use Rattle.row_book.specs.Book.{Sound, listed_for, repository_of}
+use Rattle.row_book.specs.Needs.{AreNeeds, NeedsFit}
+use Rattle.row_book.specs.Repository.{Repository}
+use Rattle.row_book.specs.declared.book.Book.{Book}
+use Rattle.clause_pool.specs.Interned.{Interned}
+use Rattle.suite_compare.specs.Asking.{tree_of, verdict_of}
+use Rattle.clause_solver.specs.Outcomes.{IsBudget}
+use Rattle.clause_solver.specs.Solvers.{IsReady}
+use Rattle.clause_solver.specs.declared.solver.Solver.{Solver}
+use Rattle.clause_solver.specs.declared.outcomes.Verdict.{Verdict}
+
+-- the verdict of a search in a kernel, for goals as lists of classes
+abbrev pub kernel_verdict : Repository → ℕ → List (List ℕ) → Verdict
+kernel_verdict K budget goals = verdict_of budget (tree_of K goals)
+
+abbrev pub alone : Repository → ℕ → List ℕ → Verdict
+alone K budget goal = kernel_verdict K budget (goal ∷ [])
+
+abbrev pub together : Repository → ℕ → List ℕ → List ℕ → Verdict
+together K budget first second = kernel_verdict K budget (first ∷ (second ∷ []))
+
+-- the number of an item among others, behind which it is put where it is new
+pub record IsNumbered (old new : List (List ℕ)) (item : List ℕ) (k : ℕ) : Type 0 where
+  pub within : k < length new
+  pub is : listed_for new k ≡ item
+  pub gains : (new ≡ old) ⊎ (new ≡ old ++ item ∷ [])
+
+-- for each list the number of a kind that is the same list, and no other kinds
+pub record AreKinds (lists kinds : List (List ℕ)) (kind_of : List ℕ) : Type 0 where
+  pub long : length kind_of ≡ length lists
+  pub within : (i : ℕ) → i < length lists → slice_index_or kind_of i 0 < length kinds
+  pub each : (i : ℕ) → i < length lists → listed_for kinds (slice_index_or kind_of i 0) ≡ listed_for lists i
+  pub only : (c : List ℕ) → In c kinds → In c lists
+
+-- each pair of kinds as a key of two numbers
+pub record AreKeys (keys : List (List ℕ)) (olds news : List ℕ) : Type 0 where
+  pub olds_long : length olds ≡ length keys
+  pub news_long : length news ≡ length keys
+  pub each : (k : ℕ) → k < length keys → listed_for keys k ≡ slice_index_or olds k 0 ∷ (slice_index_or news k 0 ∷ [])
+
+-- the number of a pair among others, behind which it is put where it is new
+pub record IsJoined (olds new_olds news new_news : List ℕ) (old new k : ℕ) : Type 0 where
+  pub within : k < length new_news
+  pub is_old : slice_index_or new_olds k 0 ≡ old
+  pub is_new : slice_index_or new_news k 0 ≡ new
+  pub gains : ((new_olds ≡ olds) × (new_news ≡ news)) ⊎ ((new_olds ≡ olds ++ old ∷ []) × (new_news ≡ news ++ new ∷ []))
+
+-- for each name the number of the pair of its kinds, and no other pairs
+pub record AreJoined (old_of new_of olds news joint_of : List ℕ) : Type 0 where
+  pub long : length joint_of ≡ length new_of
+  pub same : length olds ≡ length news
+  pub within : (i : ℕ) → i < length new_of → slice_index_or joint_of i 0 < length news
+  pub each_old : (i : ℕ) → i < length new_of → slice_index_or olds (slice_index_or joint_of i 0) 0 ≡ slice_index_or old_of i 0
+  pub each_new : (i : ℕ) → i < length new_of → slice_index_or news (slice_index_or joint_of i 0) 0 ≡ slice_index_or new_of i 0
+  pub only_old : (k : ℕ) → In k olds → In k old_of
+  pub only_new : (k : ℕ) → In k news → In k new_of
+
+-- what a search over kinds asks for: a sound book, a solver of it, kinds that are needs of its classes, and a budget
+pub record IsJudge (pool : Interned) (book : Book) (solver : Solver) (kinds : List (List ℕ)) (budget : ℕ) : Type 0 where
+  pub sound : Sound pool book
+  pub ready : IsReady (repository_of pool book) solver
+  pub needs : AreNeeds kinds
+  pub fit : NeedsFit (length book.rows) kinds
+  pub allowed : IsBudget budget

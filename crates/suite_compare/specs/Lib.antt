@@ -1,0 +1,15 @@
+pub mod Report
+pub mod Asking
+pub mod Laws
+pub mod Views
+pub mod Refusals
+pub mod Answering
+pub mod Names
+pub mod Groups
+pub mod Kinds
+pub mod Choices
+pub mod Suspects
+pub mod Bad
+pub mod Partners
+pub mod Telling
+pub mod Comparing

@@ -1,0 +1,84 @@
+-- A view of a suite: the repository of its packages as a book over a pool, and the kernel of that with its classes and steps.
+use Rattle.std.specs.Prelude.{◌≡◌, ◌⊎◌, ℕ, Bool, List, [], ◌∷◌, map, refl}
+use Rattle.std.proofs.Common.{inl, inr}
+use Rattle.std.specs.Coded.{Coded, Coded-set, code_by, coded×, coded⊎, coded_list, coded_ℕ, coded_bool, ×_prop, Unit-prop, le_prop}
+use Rattle.clause_pool.specs.Interned.{Interned}
+use Rattle.row_book.specs.Book.{repository_of, AreConflicts, Sound}
+use Rattle.row_book.specs.Clauses.{Ascending}
+use Rattle.row_book.specs.Flattening.{packages}
+use Rattle.row_book.specs.Pruning.{IdleClause}
+use Rattle.row_book.specs.Repository.{Repository}
+use Rattle.row_book.specs.Rounds.{RoundStep, FlatStep, MergeStep, IdleStep, kernel, kernel_class, kernel_steps}
+use Rattle.row_book.specs.Trail.{SoundStep, SoundSteps, trail_meaning}
+use Rattle.row_book.specs.declared.book.Book.{Book}
+use Rattle.row_book.specs.declared.trail.Step.{Step}
+use Rattle.row_book.specs.declared.trail.Step.TheVariants.{Flat, Idle, Merge}
+use Rattle.kernel_rounds.specs.declared.extraction.Kernel.{Kernel}
+use Rattle.relation_fields.specs.declared.packages.Home.{Home}
+use Rattle.relation_fields.specs.declared.packages.PackageFacts.{PackageFacts}
+use Rattle.repo_model.specs.Repository.{suite_repository}
+
+-- a book is a repository over the pool, and sound
+pub record IsBookOf (pool : Interned) (book : Book) (R : Repository) : Type 0 where
+  pub repository : repository_of pool book ≡ R
+  pub sound : Sound pool book
+
+-- a kernel is that of a repository, with the class of each package and the steps by which it came
+pub record IsKernelOf (pool : Interned) (made : Kernel) (R : Repository) : Type 0 where
+  pub book : IsBookOf pool made.book (kernel R)
+  pub class_of : made.class_of ≡ map (kernel_class R) (packages R)
+  pub steps : trail_meaning pool made.trail.steps ≡ kernel_steps R
+  pub books : SoundSteps pool made.trail.steps
+
+-- the book is the repository of the packages, and the kernel is its kernel
+pub record IsViewOf (pool : Interned) (home : Home) (stanzas : List PackageFacts) (book : Book) (made : Kernel) : Type 0 where
+  pub book_is : IsBookOf pool book (suite_repository home stanzas)
+  pub kernel_is : IsKernelOf pool made (suite_repository home stanzas)
+
+-- These facts have one proof at most, so that a view may keep them.
+abbrev repository_code : Coded Repository
+repository_code =
+    code_by (List (List (List ℕ)) × List (List ℕ)) (coded× (coded_list (coded_list (coded_list coded_ℕ))) (coded_list (coded_list coded_ℕ)))
+    (λ R. (R.clauses, R.conflicts)) (λ p. record { clauses = p.0; conflicts = p.1 }) (λ _. refl)
+
+abbrev idle_code : Coded IdleClause
+idle_code =
+    code_by (ℕ × (List ℕ × ℕ)) (coded× coded_ℕ (coded× (coded_list coded_ℕ) coded_ℕ))
+    (λ s. (s.«package», (s.clause, s.added))) (λ p. record { «package» = p.0; clause = p.1.0; added = p.1.1 }) (λ _. refl)
+
+abbrev step_code : Coded RoundStep
+step_code =
+    code_by (Repository ⊎ (List ℕ ⊎ IdleClause)) (coded⊎ repository_code (coded⊎ (coded_list coded_ℕ) idle_code))
+    (elim [ FlatStep R ↦ inl R | MergeStep c ↦ inr (inl c) | IdleStep s ↦ inr (inr s) ])
+    (elim [ inl R ↦ FlatStep R | inr rest ↦ elim rest [ inl c ↦ MergeStep c | inr s ↦ IdleStep s ] ])
+    (elim [ FlatStep R ↦ refl | MergeStep c ↦ refl | IdleStep s ↦ refl ])
+
+Ascending-prop : (xs : List ℕ) → IsProp (Ascending xs)
+Ascending-prop [] = Unit-prop
+Ascending-prop (x ∷ xs) = ×_prop (hlevel le_prop) (Ascending-prop xs)
+
+bool-set : IsSet Bool
+bool-set = Coded-set coded_bool
+
+conflicts-prop : (table : List (List ℕ)) → IsProp (AreConflicts table)
+conflicts-prop table = hlevel (Ascending-prop, bool-set)
+
+Sound-prop : (pool : Interned) (book : Book) → IsProp (Sound pool book)
+Sound-prop pool book = hlevel (conflicts-prop, le_prop)
+
+SoundStep-prop : (pool : Interned) (step : Step) → IsProp (SoundStep pool step)
+SoundStep-prop pool (Flat before) = Sound-prop pool before
+SoundStep-prop pool (Idle «package» clause added) = Unit-prop
+SoundStep-prop pool (Merge class_of) = Unit-prop
+
+book-prop : (pool : Interned) (book : Book) (R : Repository) → IsProp (IsBookOf pool book R)
+book-prop pool book R = let e : IsProp (repository_of pool book ≡ R) = Coded-set repository_code (repository_of pool book) R in hlevel (e, Sound-prop)
+
+kernel-prop : (pool : Interned) (made : Kernel) (R : Repository) → IsProp (IsKernelOf pool made R)
+kernel-prop pool made R =
+    let classes : IsProp (made.class_of ≡ map (kernel_class R) (packages R)) = Coded-set (coded_list coded_ℕ) made.class_of (map (kernel_class R) (packages R)) in
+    let steps : IsProp (trail_meaning pool made.trail.steps ≡ kernel_steps R) = Coded-set (coded_list step_code) (trail_meaning pool made.trail.steps) (kernel_steps R) in
+    hlevel (book-prop, classes, steps, SoundStep-prop)
+
+pub IsViewOf-prop : (pool : Interned) (home : Home) (stanzas : List PackageFacts) (book : Book) (made : Kernel) → IsProp (IsViewOf pool home stanzas book made)
+IsViewOf-prop pool home stanzas book made = hlevel (book-prop, kernel-prop)

@@ -1,0 +1,60 @@
+//! The way from classes that were found to packages that are installed.
+ghost use Rattle.std.specs.Prelude.{◌≡◌, ◌<◌, filter, length, IfOk};
+ghost use Rattle.std.specs.List.{range_with_len};
+ghost use Rattle.install_lift.specs.Lifting.{lift_of};
+ghost use Rattle.install_lift.specs.Trimming.{trim_of};
+ghost use Rattle.row_book.specs.Book.{repository_of};
+ghost use Rattle.row_book.specs.Flags.{flag};
+ghost use Rattle.row_book.specs.Needs.{NeedsFit};
+ghost use Rattle.row_book.specs.Repository.{Healthy};
+ghost use Rattle.row_book.specs.Rounds.{kernel_class, kernel_steps};
+ghost use Rattle.row_book.specs.Sets.{has, HitsAll};
+ghost use Rattle.suite_compare.specs.Answering.{true_numbers};
+
+use crate::view::SuiteView;
+use clause_pool::NumList;
+use install_lift::{lift, trim};
+use row_book::Needs;
+use std::alloc::{AllocError, Global};
+
+/// The packages that are installed where these classes are found: a healthy set that has a wanted package for each goal,
+/// without what no need asks for, ascending.
+pub(crate) fn install(
+    alloc: Global,
+    view: &SuiteView,
+    wanted: &Needs,
+    chosen: &[bool],
+) -> Result<NumList, AllocError>
+    requires healthy { Healthy (repository_of view.now.pool view.now.kernel.book) (flag chosen.now) }
+    requires fit { NeedsFit (length view.now.book.rows) wanted.now }
+    requires hits { HitsAll (λ n. flag chosen.now (kernel_class (repository_of view.now.pool view.now.book) n)) wanted.now }
+    ensures is { IfOk result (λ install. install ≡ filter (trim_of (repository_of view.now.pool view.now.book) wanted.now (lift_of (kernel_steps (repository_of view.now.pool view.now.book)) (flag chosen.now))) (range_with_len 0 (length view.now.book.rows))) }
+    ensures healthy { IfOk result (λ install. Healthy (repository_of view.now.pool view.now.book) (has install)) }
+    ensures hits { IfOk result (λ install. HitsAll (has install) wanted.now) }
+{
+    let lifted = lift(
+        alloc,
+        &view.pool,
+        &view.book,
+        &view.kernel.book,
+        &view.kernel.trail,
+        chosen,
+    )?;
+    let trimmed = trim(alloc, &view.pool, &view.book, wanted, lifted.as_slice())?;
+    let numbers = true_numbers(alloc, trimmed.as_slice())?;
+    Ok(numbers)
+}
+
+/// The numbers of the flags that are up, ascending.
+pub(crate) fn true_numbers(alloc: Global, flags: &[bool]) -> Result<NumList, AllocError>
+    requires { length flags.now < 4294967296 }
+    ensures { IfOk result (λ numbers. numbers ≡ true_numbers flags.now) }
+{
+    let mut numbers = NumList::new(alloc);
+    for place in 0..flags.len() {
+        if flags[place] {
+            numbers.push(place as u32)?;
+        }
+    }
+    Ok(numbers)
+}

@@ -1,0 +1,17 @@
+//! The laws of goals and verdicts: the functions do nothing, the contract of each is one law.
+ghost use Rattle.suite_compare.specs.Laws.{AnswerIsVerdict, KernelDecides, VerdictIsJudged};
+
+/// Goals are co-installable, judged on the stanzas, exactly where some healthy set of classes has a class of each goal.
+pub fn kernel_decides()
+    ensures { KernelDecides }
+{}
+
+/// The verdict that the search tree gives is the one that is judged on the stanzas.
+pub fn verdict_is_judged()
+    ensures { VerdictIsJudged }
+{}
+
+/// An answer on goals tells the verdict that the search tree gives.
+pub fn answer_is_verdict()
+    ensures { AnswerIsVerdict }
+{}

@@ -1,0 +1,130 @@
+//! How views are made.
+ghost use Rattle.std.specs.Prelude.{◌≡◌, ◌<◌, ◌≤◌, length, List, ℕ, None, Some, IfOk, IfErr, OnOk};
+ghost use Rattle.repo_model.specs.FirstFault.{first_fault};
+ghost use Rattle.repo_model.specs.Repository.{suite_repository};
+ghost use Rattle.row_book.specs.Rounds.{limit_at};
+ghost use Rattle.suite_compare.specs.Refusals.{home_in, packages_in, RefusesIndex, RefusesSuite};
+
+use crate::refusals::{LimitError, ViewError};
+use crate::view::SuiteView;
+use clause_pool::Pool;
+use deb_version::Bytes;
+use kernel_rounds::{RoundError, extract};
+use relation_fields::PackageFacts;
+use repo_model::{IndexFault, Suite, read_suite};
+use std::alloc::{AllocError, Global};
+
+impl SuiteView {
+    /// The view of an index, with at most so many clauses in any row on the way to its kernel: the index is read, and then
+    /// its kernel is extracted.
+    pub fn of(alloc: Global, bytes: &[u8], limit: u32) -> Result<SuiteView, ViewError>
+        requires short { length bytes.now ≤ 1073741824 }
+        requires limit { 0 < limit }
+        ensures refused { IfErr result (RefusesIndex bytes.now limit) }
+        ensures accepted { OnOk result (first_fault bytes.now ≡ None) }
+        ensures within { OnOk result (limit_at (suite_repository (home_in bytes.now) (packages_in bytes.now)) limit ≡ None) }
+        ensures packages { IfOk result (λ view. view.suite.packages ≡ packages_in bytes.now) }
+        ensures home { IfOk result (λ view. view.suite.home ≡ home_in bytes.now) }
+    {
+        let suite = match read_suite(alloc, bytes) {
+            Ok(suite) => suite,
+            Err(IndexFault::Memory) => return Err(ViewError::Memory),
+            Err(fault) => return Err(ViewError::Index(fault)),
+        };
+        match SuiteView::of_suite(alloc, suite, limit) {
+            Ok(view) => Ok(view),
+            Err(error) => Err(of_index(error)),
+        }
+    }
+
+    /// The view of a suite, with at most so many clauses in any row on the way to its kernel; a refusal drops the suite.
+    pub fn of_suite(alloc: Global, suite: Suite, limit: u32) -> Result<SuiteView, LimitError>
+        requires { 0 < limit }
+        ensures refused { IfErr result (RefusesSuite suite.home suite.packages limit) }
+        ensures within { OnOk result (limit_at (suite_repository suite.home suite.packages) limit ≡ None) }
+        ensures packages { IfOk result (λ view. view.suite.packages ≡ suite.packages) }
+        ensures home { IfOk result (λ view. view.suite.home ≡ suite.home) }
+    {
+        let mut pool = Pool::new(alloc)?;
+        let book = suite.book(alloc, &mut pool)?;
+        // What holds of every pool is told by this call alone.
+        pool.clause_count();
+        match extract(alloc, &mut pool, &book, limit) {
+            Ok(kernel) => Ok(SuiteView {
+                pool,
+                suite,
+                book,
+                kernel,
+            }),
+            Err(
+                RoundError::Limit {
+                    round,
+                    gone,
+                    package,
+                    count,
+                },
+            ) => Err(limit_of(alloc, &suite, round, gone, package, count)),
+            Err(RoundError::Memory) => Err(LimitError::Memory),
+        }
+    }
+}
+
+// The limit that was passed, with the texts of its package.
+fn limit_of(
+    alloc: Global,
+    suite: &Suite,
+    round: u32,
+    gone: u32,
+    package: u32,
+    count: u64,
+) -> LimitError
+    requires { «package» < length suite.now.packages }
+    ensures { (limit : ℕ) → limit_at (suite_repository suite.now.home suite.now.packages) limit ≡ Some (record { number = round; gone = gone; «package» = «package»; count = count }) →
+        RefusesSuite suite.now.home suite.now.packages limit result }
+{
+    match texts_of(alloc, &suite.packages.as_slice()[package as usize]) {
+        Ok((name, version)) => LimitError::Limit {
+            round,
+            gone,
+            package,
+            count,
+            name,
+            version,
+        },
+        Err(_) => LimitError::Memory,
+    }
+}
+
+// The name and the version of a package.
+fn texts_of(alloc: Global, facts: &PackageFacts) -> Result<(Bytes, Bytes), AllocError>
+    ensures name { IfOk result (λ texts. texts.0 ≡ facts.now.name) }
+    ensures version { IfOk result (λ texts. texts.1 ≡ facts.now.version) }
+{
+    let name = Bytes::copy(alloc, facts.name.as_slice())?;
+    let version = Bytes::copy(alloc, facts.version.text())?;
+    Ok((name, version))
+}
+
+// The same refusal, of the index that the suite was read from.
+fn of_index(error: LimitError) -> ViewError
+    ensures { (text : List ℕ) (limit : ℕ) → first_fault text ≡ None → RefusesSuite (home_in text) (packages_in text) limit error → RefusesIndex text limit result }
+{
+    match error {
+        LimitError::Limit {
+            round,
+            gone,
+            package,
+            count,
+            name,
+            version,
+        } => ViewError::Limit {
+            round,
+            gone,
+            package,
+            count,
+            name,
+            version,
+        },
+        LimitError::Memory => ViewError::Memory,
+    }
+}

@@ -1,0 +1,81 @@
+//! What a comparison tells.
+ghost use Rattle.std.specs.Prelude.{◌≡◌};
+ghost use Rattle.suite_compare.specs.Report.{finding, is_yes};
+
+use clause_solver::Verdict;
+use deb_version::Bytes;
+use listed::Listed;
+
+/// What is told of a name, or of two names together.
+#[derive(Clone, Copy, Debug, PartialEq, Eq)]
+pub enum Finding {
+    /// It was installable in the old suite, and is not in the new one.
+    Broken,
+    /// A search that would tell spent its budget.
+    Open,
+}
+
+/// A line of a report.
+#[derive(Drop)]
+pub enum ReportLine {
+    /// The name is broken.
+    Broken1 {
+        /// The name.
+        name: Bytes,
+    },
+    /// The two names are broken together.
+    Broken2 {
+        /// The lesser name.
+        first: Bytes,
+        /// The greater name.
+        second: Bytes,
+    },
+    /// The name is open.
+    Open1 {
+        /// The name.
+        name: Bytes,
+    },
+    /// The two names are open together.
+    Open2 {
+        /// The lesser name.
+        first: Bytes,
+        /// The greater name.
+        second: Bytes,
+    },
+}
+
+/// The lines of a report, in their order.
+pub type LineList = Listed<ReportLine>;
+
+/// What a new suite has broken of an old one.
+#[derive(Drop)]
+pub struct Report {
+    /// The lines on single names, ascending, and then those on pairs.
+    pub lines: LineList,
+}
+
+/// What is told where these are the verdicts in the old and in the new suite; it takes no memory.
+pub(crate) fn finding_of(old: Verdict, new: Verdict) -> Option<Finding>
+    ensures { result ≡ finding old new }
+{
+    match new {
+        Verdict::Yes => None,
+        Verdict::Spent => Some(Finding::Open),
+        Verdict::No => match old {
+            Verdict::Yes => Some(Finding::Broken),
+            Verdict::No => None,
+            Verdict::Spent => Some(Finding::Open),
+        },
+    }
+}
+
+/// Whether the verdict is yes; it takes no memory.
+pub(crate) fn is_yes(verdict: Verdict) -> bool
+    ensures { result ≡ is_yes verdict }
+{
+    match verdict {
+        Verdict::Yes => true,
+        Verdict::No => false,
+        Verdict::Spent => false,
+    }
+}

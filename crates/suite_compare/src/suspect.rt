@@ -1,0 +1,160 @@
+//! Which kinds may not go together: those whose first choices are at peace do.
+ghost use Rattle.std.specs.Prelude.{◌≡◌, ◌<◌, ◌↔◌, [], ℕ, IfOk, OnOk, length};
+ghost use Rattle.row_book.specs.Sets.{In};
+ghost use Rattle.row_book.specs.Book.{listed_for, repository_of, Sound};
+ghost use Rattle.row_book.specs.Needs.{NeedsFit};
+ghost use Rattle.suite_compare.specs.Choices.{AreBelow};
+ghost use Rattle.suite_compare.specs.Suspects.{AreAllChosen, AreChoices, AreHeld, AreHolders, AreSuspects, AreWithout, HaveMarked};
+
+use crate::choose::first_choice;
+use crate::group::{PlaceList, classes_at, empty_lists, enter, places_at, sort_once};
+use clause_pool::{NumList, Pool};
+use row_book::Book;
+use std::alloc::{AllocError, Global};
+
+/// The first choices of kinds, with tables to find those that may not go together.
+#[derive(Drop)]
+pub(crate) struct Choices {
+    /// The first choice of each kind, empty where it has none.
+    of: Vec<NumList>,
+    /// For each class the kinds whose first choice has it.
+    holders: Vec<PlaceList>,
+    /// The kinds without a first choice.
+    without: Vec<usize>,
+}
+
+/// The first choice of each kind.
+fn choices_of(
+    alloc: Global,
+    pool: &Pool,
+    book: &Book,
+    kinds: &[NumList],
+) -> Result<Vec<NumList>, AllocError>
+    requires sound { Sound pool.now book.now }
+    requires fit { NeedsFit (length book.now.rows) kinds.now }
+    ensures { IfOk result (λ choices. AreAllChosen (repository_of pool.now book.now) kinds.now choices.items) }
+{
+    let mut choices = Vec::new(alloc);
+    for kind in kinds {
+        let choice = first_choice(alloc, pool, book, kind.as_slice())?;
+        choices.push(choice)?;
+    }
+    Ok(choices)
+}
+
+/// Enters a kind under each of the classes.
+fn enter_each(table: &mut [PlaceList], classes: &[u32], kind: usize) -> Result<(), AllocError>
+    requires { AreBelow (length table.old) classes.now }
+    ensures { OnOk result (AreHeld table.old table.new classes.now kind) }
+{
+    for class in classes {
+        enter(table, *class as usize, kind)?;
+    }
+    Ok(())
+}
+
+/// Enters each kind under the classes of its first choice.
+fn enter_choices(table: &mut [PlaceList], choices: &[NumList]) -> Result<(), AllocError>
+    requires below { NeedsFit (length table.old) choices.now }
+    requires empty { (k : ℕ) → listed_for table.old k ≡ [] }
+    ensures { OnOk result (AreHolders choices.now table.new) }
+{
+    for (kind, choice) in choices.iter().enumerate() {
+        enter_each(table, choice.as_slice(), kind)?;
+    }
+    Ok(())
+}
+
+/// The kinds without a first choice.
+fn without_choice(alloc: Global, choices: &[NumList]) -> Result<Vec<usize>, AllocError>
+    ensures { IfOk result (λ without. AreWithout choices.now without.items) }
+{
+    let mut without = Vec::new(alloc);
+    for (kind, choice) in choices.iter().enumerate() {
+        if choice.as_slice().is_empty() {
+            without.push(kind)?;
+        }
+    }
+    Ok(without)
+}
+
+impl Choices {
+    /// The first choices of the kinds of a book, with their tables.
+    pub(crate) fn new(
+        alloc: Global,
+        pool: &Pool,
+        book: &Book,
+        kinds: &[NumList],
+    ) -> Result<Choices, AllocError>
+        requires sound { Sound pool.now book.now }
+        requires fit { NeedsFit (length book.now.rows) kinds.now }
+        ensures { IfOk result (AreChoices (repository_of pool.now book.now) kinds.now) }
+    {
+        let of = choices_of(alloc, pool, book, kinds)?;
+        let mut holders = empty_lists(alloc, book.rows.as_slice().len())?;
+        enter_choices(&mut holders, &of)?;
+        let without = without_choice(alloc, &of)?;
+        Ok(Choices {
+            of,
+            holders,
+            without,
+        })
+    }
+
+    /// The kinds that are not known to go together with a kind, ascending.
+    pub(crate) fn suspects(
+        &self,
+        alloc: Global,
+        pool: &Pool,
+        book: &Book,
+        kinds: &[NumList],
+        kind: usize,
+    ) -> Result<Vec<usize>, AllocError>
+        requires sound { Sound pool.now book.now }
+        requires choices { AreChoices (repository_of pool.now book.now) kinds.now self.now }
+        requires kind { kind < length kinds.now }
+        ensures { IfOk result (λ suspects. AreSuspects book.now.conflicts self.now.of.items kind suspects.items) }
+    {
+        let choices = self.of.as_slice();
+        let choice = classes_at(choices, kind);
+        if choice.is_empty() {
+            let all = all_places(alloc, choices.len())?;
+            return Ok(all);
+        }
+        let free = self.without.as_slice();
+        let holders = self.holders.as_slice();
+        let mut found = Vec::from_slice(alloc, free)?;
+        for class in choice {
+            let rivals = book.against(*class);
+            add_rivals(rivals, holders, &mut found)?;
+        }
+        sort_once(&mut found);
+        Ok(found)
+    }
+}
+
+/// So many places, from 0 on.
+fn all_places(alloc: Global, count: usize) -> Result<Vec<usize>, AllocError>
+    ensures { IfOk result (λ made. (k : ℕ) → In k made.items ↔ (k < count)) }
+{
+    let mut made = Vec::new(alloc);
+    for place in 0..count {
+        made.push(place)?;
+    }
+    Ok(made)
+}
+
+/// Puts the kinds whose first choice has one of the classes behind the others.
+fn add_rivals(
+    classes: &[u32],
+    holders: &[PlaceList],
+    found: &mut Vec<usize>,
+) -> Result<(), AllocError>
+    requires { AreBelow (length holders.now) classes.now }
+    ensures { OnOk result (HaveMarked classes.now holders.now found.old.items found.new.items) }
+{
+    for class in classes {
+        found.extend_from_slice(places_at(holders, *class as usize))?;
+    }
+    Ok(())
+}

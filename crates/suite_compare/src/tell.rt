@@ -1,0 +1,165 @@
+//! The lines of a report.
+ghost use Rattle.std.specs.Prelude.{◌≡◌, ◌<◌, ◌++◌, ℕ, OnOk, Some, filter, length, ltb, slice_index_or};
+ghost use Rattle.std.specs.List.{flat_map};
+ghost use Rattle.row_book.specs.Sets.{In};
+ghost use Rattle.row_book.specs.Book.{listed_for};
+ghost use Rattle.row_book.specs.Clauses.{numbers, Ascending};
+ghost use Rattle.clause_solver.specs.declared.outcomes.Verdict.TheVariants.{Spent};
+ghost use Rattle.suite_compare.specs.Report.{is_yes, pair_line, single_line};
+ghost use Rattle.suite_compare.specs.Telling.{found_beside, partners_at, told_after, told_alone, told_pair};
+
+use crate::gather::Partners;
+use crate::group::{holds, place_at, verdict_at};
+use crate::report::{Finding, LineList, ReportLine, finding_of, is_yes};
+use clause_solver::Verdict;
+use deb_version::Bytes;
+use std::alloc::{AllocError, Global};
+
+/// The name at a place of a list.
+fn name_at(names: &[Bytes], place: usize) -> &[u8]
+    requires { place < length names.now }
+    ensures { result.now ≡ listed_for names.now place }
+{
+    names[place].as_slice()
+}
+
+/// The partners of a pair of kinds.
+fn partners_at(table: &[Partners], joint: usize) -> &Partners
+    requires { joint < length table.now }
+    ensures { result.now ≡ partners_at table.now joint }
+{
+    &table[joint]
+}
+
+/// Puts the line of a single name behind the others, where something is told of it.
+fn push_single(
+    alloc: Global,
+    name: &[u8],
+    finding: Option<Finding>,
+    lines: &mut LineList,
+) -> Result<(), AllocError>
+    ensures { OnOk result (lines.new ≡ lines.old ++ single_line name.now finding) }
+{
+    match finding {
+        None => Ok(()),
+        Some(Finding::Broken) => {
+            let name = Bytes::copy(alloc, name)?;
+            lines.push(ReportLine::Broken1 { name })?;
+            Ok(())
+        }
+        Some(Finding::Open) => {
+            let name = Bytes::copy(alloc, name)?;
+            lines.push(ReportLine::Open1 { name })?;
+            Ok(())
+        }
+    }
+}
+
+/// Puts the line of two names behind the others.
+fn push_pair(
+    alloc: Global,
+    first: &[u8],
+    second: &[u8],
+    finding: Finding,
+    lines: &mut LineList,
+) -> Result<(), AllocError>
+    ensures { OnOk result (lines.new ≡ lines.old ++ pair_line first.now second.now (Some finding)) }
+{
+    let first = Bytes::copy(alloc, first)?;
+    let second = Bytes::copy(alloc, second)?;
+    match finding {
+        Finding::Broken => {
+            lines.push(ReportLine::Broken2 { first, second })?;
+            Ok(())
+        }
+        Finding::Open => {
+            lines.push(ReportLine::Open2 { first, second })?;
+            Ok(())
+        }
+    }
+}
+
+/// Puts the lines of the names by themselves behind the others.
+pub(crate) fn tell_singles(
+    alloc: Global,
+    names: &[Bytes],
+    old: &[Verdict],
+    new: &[Verdict],
+    lines: &mut LineList,
+) -> Result<(), AllocError>
+    requires old { length old.now ≡ length names.now }
+    requires new { length new.now ≡ length names.now }
+    ensures { OnOk result (lines.new ≡ lines.old ++ flat_map (told_alone names.now old.now new.now) (numbers (length names.now) 0)) }
+{
+    for place in 0..names.len() {
+        let before = verdict_at(old, place);
+        let after = verdict_at(new, place);
+        let finding = finding_of(before, after);
+        push_single(alloc, name_at(names, place), finding, lines)?;
+    }
+    Ok(())
+}
+
+/// What is told of a partner.
+fn finding_beside(partners: &Partners, other: usize) -> Finding
+    requires { Ascending partners.now.undecided }
+    ensures { result ≡ found_beside partners.now other }
+{
+    if holds(partners.undecided.as_slice(), other) {
+        Finding::Open
+    } else {
+        Finding::Broken
+    }
+}
+
+/// Puts the lines of a name with its partners behind it behind the others.
+fn tell_later(
+    alloc: Global,
+    names: &[Bytes],
+    place: usize,
+    partners: &Partners,
+    lines: &mut LineList,
+) -> Result<(), AllocError>
+    requires place { place < length names.now }
+    requires within { (j : ℕ) → In j partners.now.told → j < length names.now }
+    requires ascending { Ascending partners.now.undecided }
+    ensures { OnOk result (lines.new ≡ lines.old ++ flat_map (told_pair names.now partners.now place) (filter (ltb place) partners.now.told)) }
+{
+    let others = partners.told.as_slice();
+    for other in others {
+        if *other <= place {
+            continue;
+        }
+        let finding = finding_beside(partners, *other);
+        let first = name_at(names, place);
+        let second = name_at(names, *other);
+        push_pair(alloc, first, second, finding, lines)?;
+    }
+    Ok(())
+}
+
+/// Puts the lines of the pairs of names, each of which is found by itself, behind the others.
+pub(crate) fn tell_pairs(
+    alloc: Global,
+    names: &[Bytes],
+    singles: &[Verdict],
+    joint_of: &[usize],
+    partners: &[Partners],
+    lines: &mut LineList,
+) -> Result<(), AllocError>
+    requires singles { length singles.now ≡ length names.now }
+    requires joints { length joint_of.now ≡ length names.now }
+    requires within { (i : ℕ) → i < length names.now → slice_index_or joint_of.now i 0 < length partners.now }
+    requires told { (a j : ℕ) → a < length partners.now → In j (partners_at partners.now a).told → j < length names.now }
+    requires undecided { (a : ℕ) → a < length partners.now → Ascending (partners_at partners.now a).undecided }
+    ensures { OnOk result (lines.new ≡ lines.old ++ flat_map (told_after names.now joint_of.now partners.now) (filter (λ i. is_yes (slice_index_or singles.now i Spent)) (numbers (length names.now) 0))) }
+{
+    for place in 0..names.len() {
+        if !is_yes(verdict_at(singles, place)) {
+            continue;
+        }
+        let joint = place_at(joint_of, place);
+        tell_later(alloc, names, place, partners_at(partners, joint), lines)?;
+    }
+    Ok(())
+}

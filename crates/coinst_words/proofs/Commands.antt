@@ -1,0 +1,52 @@
+-- Commands that are put together argument by argument.
+use Rattle.std.proofs.Common.{◌≡◌, ◌∙◌, ℕ, ◌<◌, ◌+◌, ◌||◌, false, sym, ap, ap₂, subst, List, [], ◌∷◌, ◌++◌, map, take, append_assoc}
+use Rattle.std.specs.Borrow.{Bor}
+use Rattle.clap.specs.Walk.{Rule, rule_of}
+use Rattle.clap.specs.Built.{AddsArg}
+use Rattle.clap.specs.Simple.{App, app_of, new_shape, with_rule}
+use Rattle.clap.specs.declared.builder.arg.Arg.{Arg}
+use Rattle.clap.specs.declared.builder.command.Command.{Command}
+use Rattle.clap.specs.declared.builder.command.Command.TheViews.{out-Command}
+use Rattle.std.proofs.Common.{◌≤◌, append-nil, get_or, length}
+use Rattle.std.proofs.lemmas.List.{map-append, take_all, take_more}
+use Rattle.coinst_words.specs.Usage.{Text}
+use Rattle.coinst_words.specs.Program.{IsCommand, flag_rule, valued_rule, words_rule}
+
+-- the command has this name and these arguments, and nothing else
+pub record IsBuilt (name : Text) (rules : List Rule) (c : Command) : Type 0 where
+  pub app : app_of c ≡ record { top = record (new_shape name) { rules = rules }; subs = [] }
+  pub globals : (out-Command c).has_globals ≡ false
+
+pub added : (name : Text) (rules : List Rule) (old : Command) (a : Arg) (new : Command) (r : Rule) → AddsArg old a new → rule_of a ≡ r → a.global ≡ false → IsBuilt name rules old
+    → IsBuilt name (rules ++ r ∷ []) new
+added name rules old a new r adds rule local is = record {
+  app = adds.shape local ∙ ap₂ with_rule is.app rule;
+  globals = adds.globals ∙ ap₂ (λ x y. x || y) is.globals local;
+}
+
+abbrev now : Bor Text → Text
+now s = s.now
+
+taken : (make : Text → Rule) (xs : List (Bor Text)) (i : ℕ) (d : Bor Text) → i < length xs → map make (map now (take (i + 1) xs)) ≡ map make (map now (take i xs)) ++ make (get_or xs i d).now ∷ []
+taken make xs i d lt = ap (λ ys. map make (map now ys)) (take_more xs i d lt) ∙ ap (map make) (map-append now (take i xs) (get_or xs i d ∷ [])) ∙ map-append make (map now (take i xs)) ((get_or xs i d).now ∷ [])
+
+-- one more option of a list
+pub added_next : (make : Text → Rule) (name : Text) (before : List Rule) (xs : List (Bor Text)) (i : ℕ) (d : Bor Text) (old : Command) (a : Arg) (new : Command) → i < length xs → AddsArg old a new
+    → rule_of a ≡ make (get_or xs i d).now → a.global ≡ false → IsBuilt name (before ++ map make (map now (take i xs))) old → IsBuilt name (before ++ map make (map now (take (i + 1) xs))) new
+added_next make name before xs i d old a new lt adds rule local is =
+    subst (λ (rs : List Rule). IsBuilt name rs new) (append_assoc before (map make (map now (take i xs))) (make (get_or xs i d).now ∷ []) ∙ ap (λ rs. before ++ rs) (sym (taken make xs i d lt)))
+    (added name (before ++ map make (map now (take i xs))) old a new (make (get_or xs i d).now) adds rule local is)
+
+pub taken_all : (name : Text) (flags valued : List (Bor Text)) (i : ℕ) (c : Command) → length valued ≤ i
+    → IsBuilt name (map flag_rule (map now flags) ++ map valued_rule (map now (take i valued))) c → IsBuilt name (map flag_rule (map now flags) ++ map valued_rule (map now valued)) c
+taken_all name flags valued i c past is = subst (λ (vs : List (Bor Text)). IsBuilt name (map flag_rule (map now flags) ++ map valued_rule (map now vs)) c) (take_all i valued past) is
+
+-- the command, with the words that are no options
+pub finished : (name : Text) (flags valued : List Text) (old : Command) (a : Arg) (new : Command) → AddsArg old a new → rule_of a ≡ words_rule → a.global ≡ false
+    → IsBuilt name (map flag_rule flags ++ map valued_rule valued) old → IsCommand name flags valued new
+finished name flags valued old a new adds rule local is =
+    let all = added name (map flag_rule flags ++ map valued_rule valued) old a new words_rule adds rule local is in
+    (ap (λ (x : App). x.top) all.app ∙ ap (λ rs. record (new_shape name) { rules = rs }) (append_assoc (map flag_rule flags) (map valued_rule valued) (words_rule ∷ [])), all.globals)
+
+pub flags_all : (name : Text) (flags : List (Bor Text)) (i : ℕ) (c : Command) → length flags ≤ i → IsBuilt name (map flag_rule (map now (take i flags))) c → IsBuilt name (map flag_rule (map now flags) ++ []) c
+flags_all name flags i c past is = subst (λ (rs : List Rule). IsBuilt name rs c) (ap (λ fs. map flag_rule (map now fs)) (take_all i flags past) ∙ sym (append-nil (map flag_rule (map now flags)))) is

@@ -1,0 +1,12 @@
+pub mod Apps
+pub mod Commands
+pub mod Defaults
+pub mod Digits
+pub mod Entered
+pub mod GoalWords
+pub mod Letters
+pub mod Parsing
+pub mod Reading
+pub mod RowsSaid
+pub mod Rules
+pub mod Walks

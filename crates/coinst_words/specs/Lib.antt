@@ -1,0 +1,5 @@
+pub mod Jobs
+pub mod Parsed
+pub mod Program
+pub mod Refusals
+pub mod Usage

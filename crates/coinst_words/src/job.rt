@@ -1,0 +1,55 @@
+//! What the program can be asked for.
+use crate::path::PathText;
+use repo_model::GoalList;
+
+/// What the words ask for.
+#[derive(Drop)]
+pub enum Job {
+    /// Print the kernel of an index.
+    Kernel {
+        /// The path of the index.
+        index: PathText,
+        /// Whether the kernel is printed as JSON.
+        json: bool,
+        /// The most clauses that a row may have, from 1 to 1,000,000.
+        clause_limit: u32,
+    },
+    /// Say whether one package for each goal can be installed together.
+    Query {
+        /// The path of the index.
+        index: PathText,
+        /// The goals, at least one.
+        goals: GoalList,
+        /// The most failed leaves of the search, from 1 to 1,000,000.
+        budget: u64,
+        /// The most clauses that a row may have, from 1 to 1,000,000.
+        clause_limit: u32,
+    },
+    /// Say the same on a stored kernel.
+    StoredQuery {
+        /// The path of the kernel.
+        kernel: PathText,
+        /// The goals, at least one.
+        goals: GoalList,
+        /// The most failed leaves of the search, from 1 to 1,000,000.
+        budget: u64,
+    },
+    /// List what a newer index has broken.
+    Compare {
+        /// The path of the older index.
+        old: PathText,
+        /// The path of the newer index.
+        new: PathText,
+        /// The most failed leaves of each search, from 1 to 1,000,000.
+        budget: u64,
+        /// The most clauses that a row may have, from 1 to 1,000,000.
+        clause_limit: u32,
+    },
+    /// Extract the kernel of a suite made from a number, and print its measures.
+    Sample {
+        /// The number that the suite is made from.
+        seed: u64,
+        /// How many packages the suite has, from 1 to 200,000.
+        count: u32,
+    },
+}

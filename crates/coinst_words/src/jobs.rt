@@ -1,0 +1,171 @@
+//! The job of each command, by the values of its options and by its ordinary words.
+ghost use Rattle.std.specs.Prelude.{◌≡◌, false, true, IfOk, IfErr, None, Some, map, option_map};
+ghost use Rattle.coinst_words.specs.Jobs.{compare_job, index_query, is_on, is_path, kernel_job, query_job, sample_job, stored_query, IsInLimits};
+ghost use Rattle.coinst_words.specs.Refusals.{OnNotACommand};
+
+use crate::error::WordError;
+use crate::goals::goals_in;
+use crate::job::Job;
+use crate::numbers::{budget_of, clause_limit_of, count_of, seed_of};
+use crate::path::PathText;
+use std::alloc::Global;
+
+// Whether a flag was given.
+fn is_on(value: Option<&str>) -> bool
+    ensures { result ≡ is_on (option_map (λ s. s.now) value.entry) }
+{
+    match value {
+        Some(value) => value == "true",
+        None => false,
+    }
+}
+
+// Whether the word may be a path.
+fn is_path(word: &str) -> bool
+    ensures { result ≡ is_path word.now }
+{
+    word != "" && word != "-"
+}
+
+// A copy of the word, where it may be a path.
+fn path_in(alloc: Global, word: &str) -> Result<PathText, WordError>
+    ensures path { IfOk result (λ path. (is_path word.now ≡ true) × (path ≡ word.now)) }
+    ensures refusal { IfErr result (OnNotACommand (is_path word.now ≡ false)) }
+{
+    if !is_path(word) {
+        return Err(WordError::NotACommand);
+    }
+    Ok(PathText::copy(alloc, word)?)
+}
+
+/// The job of `kernel`.
+pub(crate) fn kernel_job(
+    alloc: Global,
+    json: Option<&str>,
+    limit: Option<&str>,
+    words: &[&str],
+) -> Result<Job, WordError>
+    ensures job { IfOk result (λ job. kernel_job (option_map (λ s. s.now) json.entry) (option_map (λ s. s.now) limit.entry) (map (λ s. s.now) words.now) ≡ Some job) }
+    ensures refusal { IfErr result (OnNotACommand (kernel_job (option_map (λ s. s.now) json.entry) (option_map (λ s. s.now) limit.entry) (map (λ s. s.now) words.now) ≡ None)) }
+    ensures limited { IfOk result IsInLimits }
+{
+    let [index] = words else {
+        return Err(WordError::NotACommand);
+    };
+    let index = path_in(alloc, index)?;
+    let clause_limit = clause_limit_of(limit)?;
+    Ok(Job::Kernel {
+        index,
+        json: is_on(json),
+        clause_limit,
+    })
+}
+
+/// The job of `compare`.
+pub(crate) fn compare_job(
+    alloc: Global,
+    budget: Option<&str>,
+    limit: Option<&str>,
+    words: &[&str],
+) -> Result<Job, WordError>
+    ensures job { IfOk result (λ job. compare_job (option_map (λ s. s.now) budget.entry) (option_map (λ s. s.now) limit.entry) (map (λ s. s.now) words.now) ≡ Some job) }
+    ensures refusal { IfErr result (OnNotACommand (compare_job (option_map (λ s. s.now) budget.entry) (option_map (λ s. s.now) limit.entry) (map (λ s. s.now) words.now) ≡ None)) }
+    ensures limited { IfOk result IsInLimits }
+{
+    let [old, new] = words else {
+        return Err(WordError::NotACommand);
+    };
+    let old = path_in(alloc, old)?;
+    let new = path_in(alloc, new)?;
+    let budget = budget_of(budget)?;
+    let clause_limit = clause_limit_of(limit)?;
+    Ok(Job::Compare {
+        old,
+        new,
+        budget,
+        clause_limit,
+    })
+}
+
+/// The job of `sample`.
+pub(crate) fn sample_job(words: &[&str]) -> Result<Job, WordError>
+    ensures job { IfOk result (λ job. sample_job (map (λ s. s.now) words.now) ≡ Some job) }
+    ensures refusal { IfErr result (OnNotACommand (sample_job (map (λ s. s.now) words.now) ≡ None)) }
+    ensures limited { IfOk result IsInLimits }
+{
+    let [seed, count] = words else {
+        return Err(WordError::NotACommand);
+    };
+    let seed = seed_of(seed)?;
+    let count = count_of(count)?;
+    Ok(Job::Sample { seed, count })
+}
+
+/// The job of `query`: on a stored kernel where one is named, else on the index that the first word names.
+pub(crate) fn query_job(
+    alloc: Global,
+    kernel: Option<&str>,
+    budget: Option<&str>,
+    limit: Option<&str>,
+    words: &[&str],
+) -> Result<Job, WordError>
+    ensures job { IfOk result (λ job. query_job (option_map (λ s. s.now) kernel.entry) (option_map (λ s. s.now) budget.entry) (option_map (λ s. s.now) limit.entry) (map (λ s. s.now) words.now) ≡ Some job) }
+    ensures refusal { IfErr result (OnNotACommand (query_job (option_map (λ s. s.now) kernel.entry) (option_map (λ s. s.now) budget.entry) (option_map (λ s. s.now) limit.entry) (map (λ s. s.now) words.now) ≡ None)) }
+    ensures limited { IfOk result IsInLimits }
+{
+    match kernel {
+        Some(kernel) => stored_query(alloc, kernel, budget, limit, words),
+        None => index_query(alloc, budget, limit, words),
+    }
+}
+
+// A query on an index.
+fn index_query(
+    alloc: Global,
+    budget: Option<&str>,
+    limit: Option<&str>,
+    words: &[&str],
+) -> Result<Job, WordError>
+    ensures job { IfOk result (λ job. index_query (option_map (λ s. s.now) budget.entry) (option_map (λ s. s.now) limit.entry) (map (λ s. s.now) words.now) ≡ Some job) }
+    ensures refusal { IfErr result (OnNotACommand (index_query (option_map (λ s. s.now) budget.entry) (option_map (λ s. s.now) limit.entry) (map (λ s. s.now) words.now) ≡ None)) }
+    ensures limited { IfOk result IsInLimits }
+{
+    let [index, goals @ ..] = words else {
+        return Err(WordError::NotACommand);
+    };
+    let index = path_in(alloc, index)?;
+    let budget = budget_of(budget)?;
+    let clause_limit = clause_limit_of(limit)?;
+    let goals = goals_in(alloc, goals)?;
+    Ok(Job::Query {
+        index,
+        goals,
+        budget,
+        clause_limit,
+    })
+}
+
+// A query on a stored kernel; a clause limit has no meaning there.
+fn stored_query(
+    alloc: Global,
+    kernel: &str,
+    budget: Option<&str>,
+    limit: Option<&str>,
+    words: &[&str],
+) -> Result<Job, WordError>
+    ensures job { IfOk result (λ job. stored_query kernel.now (option_map (λ s. s.now) budget.entry) (option_map (λ s. s.now) limit.entry) (map (λ s. s.now) words.now) ≡ Some job) }
+    ensures refusal { IfErr result (OnNotACommand (stored_query kernel.now (option_map (λ s. s.now) budget.entry) (option_map (λ s. s.now) limit.entry) (map (λ s. s.now) words.now) ≡ None)) }
+    ensures limited { IfOk result IsInLimits }
+{
+    if limit.is_some() {
+        return Err(WordError::NotACommand);
+    }
+    let kernel = path_in(alloc, kernel)?;
+    let budget = budget_of(budget)?;
+    let goals = goals_in(alloc, words)?;
+    Ok(Job::StoredQuery {
+        kernel,
+        goals,
+        budget,
+    })
+}

@@ -1,0 +1,18 @@
+//! The words of the command line: what each command takes, and the job that words ask for.
+#![tactic(auto)]
+
+mod error;
+mod goals;
+mod job;
+mod jobs;
+mod numbers;
+mod parse;
+mod path;
+mod read;
+#[cfg(test)]
+mod tests;
+
+pub use error::WordError;
+pub use job::Job;
+pub use path::PathText;
+pub use read::read_words;

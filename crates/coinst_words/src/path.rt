@@ -1,0 +1,40 @@
+//! Paths, as they were written.
+ghost use Rattle.std.specs.Prelude.{◌≡◌, IfOk};
+
+use std::alloc::{AllocError, Global};
+use std::marker::Model;
+
+/// The path of a file, as it was written.
+#[derive(Drop)]
+pub struct PathText {
+    text: String,
+}
+
+impl Model for PathText {
+    ghost use Rattle.std.specs.Prelude.{List, ℕ, string_bytes};
+    ghost use Rattle.std.specs.Coded.{coded_list, coded_ℕ};
+
+    ghost Value = { List ℕ };
+
+    ghost coded = { coded_list coded_ℕ };
+
+    ghost view = { λ s. string_bytes s.text };
+}
+
+impl PathText {
+    /// A copy of the path; it fails only where no memory is found.
+    pub fn copy(alloc: Global, text: &str) -> Result<Self, AllocError>
+        ensures { IfOk result (λ t. t ≡ text.now) }
+    {
+        Ok(PathText {
+            text: String::from_str(alloc, text)?,
+        })
+    }
+
+    /// Lends the path; it takes no memory.
+    pub fn as_str(&self) -> &str
+        ensures { result.now ≡ self.now }
+    {
+        self.text.as_str()
+    }
+}

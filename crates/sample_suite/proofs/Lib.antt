@@ -1,0 +1,11 @@
+pub mod Accepting
+pub mod DrawSteps
+pub mod Drawn
+pub mod DrawnPackages
+pub mod Fitting
+pub mod Names
+pub mod Pieces
+pub mod Relations
+pub mod SampleLines
+pub mod SampleStanzas
+pub mod Values

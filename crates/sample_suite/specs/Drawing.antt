@@ -1,0 +1,58 @@
+-- The packages of a sample suite, drawn with a linear congruential generator (Knuth's for 64 bits).
+use Rattle.std.specs.Prelude.{ℕ, ◌+◌, ◌*◌, ◌/◌, ◌%◌, ◌≤◌, ◌==◌, zero, suc, List, [], ◌∷◌, Option, Some, None, if◌then◌else◌}
+use Rattle.sample_suite.specs.declared.package.SamplePackage.{SamplePackage}
+
+-- what was drawn, and the state of the generator behind that
+pub record Drawn (A : Type 0) : Type 0 where
+  pub value : A
+  pub state : ℕ
+
+-- the state behind one draw
+abbrev pub next_state : ℕ → ℕ
+next_state state = (state * 6364136223846793005 + 1442695040888963407) % 18446744073709551616
+
+-- a number below `below`, from the upper bits of the next state
+unfoldable pub draw : ℕ → ℕ → Drawn ℕ
+draw below state = record { value = (next_state state / 8589934592) % below; state = next_state state }
+
+-- one draw before others
+abbrev pub with_first : {A : Type 0} → A → Drawn (List A) → Drawn (List A)
+with_first first more = record { value = first ∷ more.value; state = more.state }
+
+-- so many draws, one behind the other
+unfoldable pub draws : {A : Type 0} → (ℕ → Drawn A) → ℕ → ℕ → Drawn (List A)
+draws one zero state = record { value = []; state = state }
+draws one (suc n) state = with_first (one state).value (draws one n (one state).state)
+
+-- one or two alternatives, each the number of a package
+abbrev pub draw_element : ℕ → ℕ → Drawn (List ℕ)
+draw_element count state = let more = draw 2 state in draws (draw count) (more.value + 1) more.state
+
+-- of five numbers two stand for no element, two for one, and one for two
+abbrev pub draw_needs : ℕ → ℕ → Drawn (List (List ℕ))
+draw_needs count state = let chance = draw 5 state in draws (draw_element count) (chance.value / 2) chance.state
+
+-- the package that it conflicts with
+abbrev pub some_rival : Drawn ℕ → Drawn (Option ℕ)
+some_rival rival = record { value = Some rival.value; state = rival.state }
+
+abbrev pub no_rival : ℕ → Drawn (Option ℕ)
+no_rival state = record { value = None; state = state }
+
+-- one package in four conflicts with one
+abbrev pub draw_rival : ℕ → ℕ → Drawn (Option ℕ)
+draw_rival count state = let chance = draw 4 state in if chance.value == 0 then some_rival (draw count chance.state) else no_rival chance.state
+
+abbrev pub draw_package : ℕ → ℕ → Drawn SamplePackage
+draw_package count state =
+    let needs = draw_needs count state in
+    let rival = draw_rival count needs.state in
+    record { value = record { needs = needs.value; rival = rival.value }; state = rival.state }
+
+-- the packages of a suite of so many
+abbrev pub sample_packages : ℕ → ℕ → List SamplePackage
+sample_packages seed count = (draws (draw_package count) count seed).value
+
+-- how many packages a suite may have
+abbrev pub IsCount : ℕ → Type 0
+IsCount count = (1 ≤ count) × (count ≤ 200000)

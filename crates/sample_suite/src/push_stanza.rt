@@ -1,0 +1,120 @@
+//! The stanza of a package, put behind a text.
+ghost use Rattle.std.specs.Prelude.{◌≡◌, ◌++◌, ◌∷◌, [], OnOk, codes, map};
+ghost use Rattle.std.specs.List.{flat_map};
+ghost use Rattle.sample_suite.specs.SampleText.{conflicts_lines, depends_lines, element_text, joined_by, lines_text, needs_text, package_name, stanza_text};
+
+use crate::package::SamplePackage;
+use clause_pool::NumList;
+use itoa::Buffer;
+use std::alloc::AllocError;
+
+// Puts the name of a package behind the text.
+#[tactic(auto, using(crate::proofs::Pieces::appended))]
+fn push_name(out: &mut Vec<u8>, number: u32) -> Result<(), AllocError>
+    ensures { OnOk result (out.new.items ≡ out.old.items ++ package_name number) }
+{
+    let mut buffer = Buffer::new();
+    out.extend_from_slice(b"p")?;
+    out.extend_from_slice(buffer.format(number).as_bytes())
+}
+
+// Puts an element behind the text.
+#[tactic(auto, using(crate::proofs::Pieces::appended))]
+fn push_element(out: &mut Vec<u8>, alternatives: &[u32]) -> Result<(), AllocError>
+    ensures { OnOk result (out.new.items ≡ out.old.items ++ element_text alternatives.now) }
+{
+    let [first, more @ ..] = alternatives else {
+        return Ok(());
+    };
+    push_name(out, *first)?;
+    push_alternatives(out, more)
+}
+
+// Puts the alternatives behind the first one behind the text.
+fn push_alternatives(out: &mut Vec<u8>, more: &[u32]) -> Result<(), AllocError>
+    ensures { OnOk result (out.new.items ≡ out.old.items ++ flat_map (λ other. codes " | " ++ other) (map package_name more.now)) }
+{
+    for other in more {
+        push_alternative(out, *other)?;
+    }
+    Ok(())
+}
+
+#[tactic(auto, using(crate::proofs::Pieces::appended))]
+fn push_alternative(out: &mut Vec<u8>, number: u32) -> Result<(), AllocError>
+    ensures { OnOk result (out.new.items ≡ out.old.items ++ (codes " | " ++ package_name number)) }
+{
+    out.extend_from_slice(b" | ")?;
+    push_name(out, number)
+}
+
+// Puts the line of what is needed behind the text, where something is.
+fn push_depends(out: &mut Vec<u8>, needs: &[NumList]) -> Result<(), AllocError>
+    ensures { OnOk result (out.new.items ≡ out.old.items ++ lines_text (depends_lines needs.now)) }
+{
+    if needs.is_empty() {
+        return Ok(());
+    }
+    out.extend_from_slice(b"Depends: ")?;
+    push_needs(out, needs)?;
+    out.extend_from_slice(b"\n")
+}
+
+// Puts what is needed behind the text.
+#[tactic(auto, using(crate::proofs::Pieces::appended))]
+fn push_needs(out: &mut Vec<u8>, needs: &[NumList]) -> Result<(), AllocError>
+    ensures { OnOk result (out.new.items ≡ out.old.items ++ needs_text needs.now) }
+{
+    let [first, more @ ..] = needs else {
+        return Ok(());
+    };
+    push_element(out, first.as_slice())?;
+    push_elements(out, more)
+}
+
+// Puts the elements behind the first one behind the text.
+fn push_elements(out: &mut Vec<u8>, more: &[NumList]) -> Result<(), AllocError>
+    ensures { OnOk result (out.new.items ≡ out.old.items ++ flat_map (λ other. codes ", " ++ other) (map element_text more.now)) }
+{
+    for other in more {
+        push_next_element(out, other.as_slice())?;
+    }
+    Ok(())
+}
+
+#[tactic(auto, using(crate::proofs::Pieces::appended))]
+fn push_next_element(out: &mut Vec<u8>, alternatives: &[u32]) -> Result<(), AllocError>
+    ensures { OnOk result (out.new.items ≡ out.old.items ++ (codes ", " ++ element_text alternatives.now)) }
+{
+    out.extend_from_slice(b", ")?;
+    push_element(out, alternatives)
+}
+
+// Puts the line of a conflict behind the text, where there is one.
+fn push_conflicts(out: &mut Vec<u8>, rival: Option<u32>) -> Result<(), AllocError>
+    ensures { OnOk result (out.new.items ≡ out.old.items ++ lines_text (conflicts_lines rival)) }
+{
+    let Some(rival) = rival else {
+        return Ok(());
+    };
+    out.extend_from_slice(b"Conflicts: ")?;
+    push_name(out, rival)?;
+    out.extend_from_slice(b"\n")
+}
+
+/// Puts the stanza of a package behind the text.
+#[tactic(auto, using(crate::proofs::Pieces::appended, crate::proofs::Pieces::lines_joined))]
+pub(crate) fn push_stanza(
+    out: &mut Vec<u8>,
+    number: u32,
+    made: &SamplePackage,
+) -> Result<(), AllocError>
+    ensures { OnOk result (out.new.items ≡ out.old.items ++ stanza_text number made.now) }
+{
+    out.extend_from_slice(b"Package: ")?;
+    push_name(out, number)?;
+    out.extend_from_slice(b"\nVersion: 1\n")?;
+    push_depends(out, made.needs.as_slice())?;
+    push_conflicts(out, made.rival)?;
+    out.extend_from_slice(b"\n")
+}

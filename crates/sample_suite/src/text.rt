@@ -1,0 +1,25 @@
+//! The index of a sample suite.
+ghost use Rattle.std.specs.Prelude.{◌≡◌, ◌≤◌, IfOk, None, length};
+ghost use Rattle.repo_model.specs.FirstFault.{first_fault};
+ghost use Rattle.sample_suite.specs.Drawing.{IsCount};
+ghost use Rattle.sample_suite.specs.SampleText.{sample_text};
+
+use crate::draws::Draws;
+use crate::push_stanza::push_stanza;
+use std::alloc::{AllocError, Global};
+
+/// The index of a suite of so many packages, made from a number; it has no fault.
+pub fn sample_text(alloc: Global, seed: u64, count: u32) -> Result<Vec<u8>, AllocError>
+    requires { IsCount count }
+    ensures text { IfOk result (λ text. text.items ≡ sample_text seed count) }
+    ensures accepted { IfOk result (λ text. first_fault text.items ≡ None) }
+    ensures short { IfOk result (λ text. length text.items ≤ 1073741824) }
+{
+    let mut draws = Draws { state: seed };
+    let mut text = Vec::new(alloc);
+    for number in 0..count {
+        let package = draws.package(alloc, count)?;
+        push_stanza(&mut text, number, &package)?;
+    }
+    Ok(text)
+}

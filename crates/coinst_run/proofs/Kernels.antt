@@ -6,8 +6,11 @@ use Rattle.kernel_rounds.specs.Extracting.{IsExtracted}
 use Rattle.kernel_rounds.specs.declared.extraction.Kernel.{Kernel}
 use Rattle.relation_fields.specs.declared.packages.Home.{Home}
 use Rattle.relation_fields.specs.declared.packages.PackageFacts.{PackageFacts}
+use Rattle.kernel_text.specs.JsonData.{AreNamedPackages}
 use Rattle.repo_model.proofs.Accepted.{Accepted}
+use Rattle.repo_model.proofs.Accepted as accepting
 use Rattle.repo_model.proofs.Packages.{length_clauses}
+pub use Rattle.repo_model.proofs.SoundSuite.{suite_sound}
 use Rattle.repo_model.proofs.Form.{clause_form, conflict_two, conflict_turned, conflicts_order, form_lists}
 use Rattle.repo_model.specs.Facts.{facts_of}
 use Rattle.repo_model.specs.FirstFault.{first_fault, home_of, stanzas_of}
@@ -45,6 +48,12 @@ index_accepted path text home packages accepted said at =
     ∙ ap (λ n. let h : Home = record { name = n } in Ok (index h (map facts_of (stanzas_of text)))) (sym at)
     ∙ ap (λ ps. Ok (index home ps)) (sym said)
 
+-- and they have names and versions
+pub index_named : (text : List ℕ) (packages : List PackageFacts) → first_fault text ≡ None → packages ≡ map facts_of (stanzas_of text) → AreNamedPackages packages
+index_named text packages none said =
+    let accepted : Accepted (map facts_of (stanzas_of text)) = accepting.accepted text none in
+    subst AreNamedPackages (sym said) (λ facts i. let named = accepted.named facts i in (named.name, named.version))
+
 -- the kernel that was extracted is that of the index, where no round passes the limit
 pub kernel_made : (path : List ℕ) (limit : ℕ) (index : Index) (R : Repository) (made : ClassedKernel) → R ≡ suite_repository index.home index.packages → limit_at R limit ≡ None →
     made.repository ≡ kernel R → made.class_of ≡ map (kernel_class R) (packages R) → kernel_of path limit index ≡ Ok made
@@ -60,18 +69,6 @@ pub limit_told : (path : List ℕ) (limit : ℕ) (index : Index) (R : Repository
 limit_told path limit index R passed facts line is passes_it said made =
     ap (by_limit path limit index) (ap (λ S. limit_at S limit) (sym is) ∙ passes_it)
     ∙ ap (λ x. Err (refused ClauseLimit x)) (ap (λ p. limit_line path limit passed.number passed.gone p passed.count) (sym said) ∙ sym made)
-
--- the repository of an index is sound
-pub suite_sound : (home : Home) (stanzas : List PackageFacts) → SoundRepository (suite_repository home stanzas)
-suite_sound home stanzas = record {
-  clauses = clause_form home stanzas;
-  count = form_lists home stanzas;
-  conflicts = record {
-    ascending = conflicts_order home stanzas;
-    either_way = conflict_turned home stanzas;
-    apart = λ p. has_not (conflicts_of (suite_repository home stanzas) p) p (λ i. conflict_two home stanzas p p (In_has i) refl);
-  };
-}
 
 -- the kernel of a sound repository, with the class of each of its packages, is one that can be written
 pub kernel_fits : (R : Repository) (stanzas : List PackageFacts) → SoundRepository R → length R.clauses ≡ length stanzas → Accepted stanzas → IsKernelOf (kernel R) stanzas (map (kernel_class R) (packages R))

@@ -6,3 +6,14 @@ pub mod Members
 pub mod Runs
 pub mod Telling
 pub mod Texts
+pub mod Installed
+pub mod QueryMeant
+pub mod LimitLines
+pub mod StoredKernels
+pub mod Queries
+pub mod SampleMeaning
+pub mod Sizes
+pub mod Onward
+pub mod Reported
+pub mod CompareMeant
+pub mod OneInstallation

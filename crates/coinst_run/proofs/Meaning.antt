@@ -28,8 +28,8 @@ use Rattle.kernel_text.proofs.OneReading.{one_reading}
 use Rattle.kernel_text.proofs.ReadIsWritten.{read_is_written}
 use Rattle.coinst_run.specs.declared.answer.Verdict.{Verdict}
 use Rattle.coinst_run.specs.declared.answer.Verdict.TheVariants.{Done}
-use Rattle.coinst_run.specs.declared.words.Job.{Job}
-use Rattle.coinst_run.specs.declared.words.Job.TheVariants.{Kernel}
+use Rattle.coinst_words.specs.declared.job.Job.{Job}
+use Rattle.coinst_words.specs.declared.job.Job.TheVariants.{Kernel, Query, StoredQuery, Compare, Sample}
 use Rattle.coinst_run.specs.Answer.{reported}
 use Rattle.coinst_run.specs.Course.{answers, then_on}
 use Rattle.coinst_run.specs.Index.{by_fault, home_in, index_in, packages_in}
@@ -39,6 +39,9 @@ use Rattle.coinst_run.specs.Meaning.{KernelMeans, MeansJob, StandsOnce, classes_
 use Rattle.coinst_run.specs.Outcome.{answered, course_of, file_limit, outcome_over, over_file, too_long}
 use Rattle.coinst_run.proofs.Classes.{class_within}
 use Rattle.coinst_run.proofs.Kernels.{kernel_fits, suite_sound}
+use Rattle.coinst_run.proofs.CompareMeant.{compare_is_meant}
+use Rattle.coinst_run.proofs.QueryMeant.{query_is_meant}
+use Rattle.coinst_run.proofs.SampleMeaning.{sample_report_means}
 use Rattle.coinst_run.proofs.Members.{class_from, class_parts, stands_once}
 
 formed : (text : List ℕ) → first_fault text ≡ None → Accepted (packages_in text)
@@ -127,21 +130,26 @@ module _ (path : List ℕ) (limit : ℕ) (files : Files) (verdict : Verdict) (re
   kernel_limited text None accepted e =
       let same : text_for (packages_in text) (index_kernel (home_in text) (packages_in text)) ≡ report = cc in subst (KernelMeans text) same (index_kernel_means text accepted)
 
-  kernel_checked : (text : List ℕ) (there : Option IndexFault) → first_fault text ≡ there → outcome_over files (then_on (by_fault path text there) (kernel_answer path limit)) ≡ answered (reported verdict report) →
+  kernel_checked : (text : List ℕ) (there : Option IndexFault) → first_fault text ≡ there → outcome_over files (then_on (by_fault path text there) (kernel_answer path false limit)) ≡ answered (reported verdict report) →
       KernelMeans text report
   kernel_checked text (Some fault) is e = absurd cc
   kernel_checked text None is e = kernel_limited text (limit_at (suite_repository (home_in text) (packages_in text)) limit) is e
 
-  kernel_fitting : (text : List ℕ) (b : Bool) → cond b (answered (too_long path)) (outcome_over files (then_on (by_fault path text (first_fault text)) (kernel_answer path limit))) ≡ answered (reported verdict report) →
+  kernel_fitting : (text : List ℕ) (b : Bool) → cond b (answered (too_long path)) (outcome_over files (then_on (by_fault path text (first_fault text)) (kernel_answer path false limit))) ≡ answered (reported verdict report) →
       KernelMeans text report
   kernel_fitting text true e = absurd cc
   kernel_fitting text false e = kernel_checked text (first_fault text) refl e
 
   kernel_report_means : (file : Option (List ℕ)) → files path ≡ file →
-      over_file path file (λ text. outcome_over files (then_on (by_fault path text (first_fault text)) (kernel_answer path limit))) ≡ answered (reported verdict report) → MeansJob (Kernel path limit) files report
+      over_file path file (λ text. outcome_over files (then_on (by_fault path text (first_fault text)) (kernel_answer path false limit))) ≡ answered (reported verdict report) → MeansJob (Kernel path false limit) files verdict report
   kernel_report_means None is e = absurd cc
   kernel_report_means (Some text) is e = (text, is, kernel_fitting text (nat_lt file_limit (length text)) e)
 
 -- what the report on a job means
-pub report_means : (job : Job) (files : Files) (verdict : Verdict) (report : List ℕ) → outcome_over files (course_of job) ≡ answered (reported verdict report) → MeansJob job files report
-report_means (Kernel path limit) files verdict report e = kernel_report_means path limit files verdict report (files path) refl e
+pub report_means : (job : Job) (files : Files) (verdict : Verdict) (report : List ℕ) → outcome_over files (course_of job) ≡ answered (reported verdict report) → MeansJob job files verdict report
+report_means (Kernel path false limit) files verdict report e = kernel_report_means path limit files verdict report (files path) refl e
+report_means (Kernel path true limit) files verdict report e = tt
+report_means (Query path goals budget limit) files verdict report e = query_is_meant path goals budget limit files verdict report e
+report_means (StoredQuery path goals budget) files verdict report e = tt
+report_means (Compare old new budget limit) files verdict report e = compare_is_meant old new budget limit files verdict report e
+report_means (Sample seed count) files verdict report e = sample_report_means files verdict report seed count e

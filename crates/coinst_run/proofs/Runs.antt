@@ -1,6 +1,6 @@
 -- What a run answers, by how the course of its command ended and what the sinks took.
-use Rattle.std.proofs.Common.{◌≡◌, ℕ, Bool, List, [], Option, Some, None, Result, Err, refl, sym, ap, subst, ◌∙◌, inl, inr}
-use Rattle.std.specs.Prelude.{◌↔◌, IfSome}
+use Rattle.std.proofs.Common.{◌≡◌, ℕ, Bool, List, [], Option, Some, None, refl, sym, ap, subst, ◌∙◌, inl, inr}
+use Rattle.std.specs.Prelude.{◌⊎◌, IfSome}
 use Rattle.std.specs.Io.KnownBytes.{Appends}
 use Rattle.byte_flow.specs.Flow.{Files, Rose}
 use Rattle.coinst_run.specs.declared.answer.Cause.{Cause}
@@ -9,19 +9,20 @@ use Rattle.coinst_run.specs.declared.answer.Verdict.{Verdict}
 use Rattle.coinst_run.specs.declared.answer.Verdict.TheVariants.{Done, Negative, Undecided}
 use Rattle.coinst_run.specs.declared.status.Status.{Status}
 use Rattle.coinst_run.specs.declared.status.Status.TheVariants as status
-use Rattle.coinst_run.specs.declared.words.Job.{Job}
-use Rattle.coinst_run.specs.declared.words.WordError.{WordError}
-use Rattle.coinst_run.specs.declared.words.WordError.TheVariants as words
+use Rattle.coinst_words.specs.declared.job.Job.{Job}
+use Rattle.coinst_words.specs.declared.error.WordError.{WordError}
+use Rattle.coinst_words.specs.declared.error.WordError.TheVariants as words
 use Rattle.coinst_run.specs.Answer.{reported, refused}
 use Rattle.coinst_run.specs.Delivers.{Delivers, IsRefused, Tells, a_cut_report, a_refusal, a_report}
 use Rattle.coinst_run.specs.Ending.{stop_ending, word_stop}
-use Rattle.coinst_run.specs.Follows.{FollowsJob, of_a_job, of_no_job, without_memory}
-use Rattle.coinst_run.specs.Meaning.{IsMeant}
+use Rattle.coinst_run.specs.Follows.{FollowsJob, of_a_job, of_no_job, without_memory, without_memory_for_words}
+use Rattle.coinst_run.specs.Meaning.{IsMeant, MeansJob}
 use Rattle.coinst_run.specs.Outcome.{Outcome, answered, unread, not_a_command, course_of, of_job, outcome_of, report_of, status_of}
 use Rattle.coinst_run.specs.Run.{Answers, Completes, EndsAs, Took}
 use Rattle.coinst_run.specs.Run as run
 use Rattle.coinst_run.specs.Status.{cause_status, verdict_status}
-use Rattle.coinst_run.specs.Words.{OnNotACommand, job_of}
+use Rattle.coinst_words.specs.Jobs.{job_of}
+use Rattle.coinst_words.specs.Refusals.{OnNotACommand}
 use Rattle.coinst_run.proofs.Follows.{ends_as, no_words, unread_rose}
 use Rattle.coinst_run.proofs.Meaning.{report_means}
 use Rattle.coinst_run.proofs.Telling.{appends_none}
@@ -40,36 +41,59 @@ record IsAnswered (s : Status) : Type 0 where
   not_words : s ≡ status.Words → ⊥
   not_unread : s ≡ status.ReadFault → ⊥
   not_cut : s ≡ status.WriteFault → ⊥
+  not_memory : s ≡ status.Memory → ⊥
 
 of_verdict : (verdict : Verdict) → IsAnswered (verdict_status verdict)
-of_verdict Done = record { not_words = λ e. cc; not_unread = λ e. cc; not_cut = λ e. cc }
-of_verdict Negative = record { not_words = λ e. cc; not_unread = λ e. cc; not_cut = λ e. cc }
-of_verdict Undecided = record { not_words = λ e. cc; not_unread = λ e. cc; not_cut = λ e. cc }
+of_verdict Done = record { not_words = λ e. cc; not_unread = λ e. cc; not_cut = λ e. cc; not_memory = λ e. cc }
+of_verdict Negative = record { not_words = λ e. cc; not_unread = λ e. cc; not_cut = λ e. cc; not_memory = λ e. cc }
+of_verdict Undecided = record { not_words = λ e. cc; not_unread = λ e. cc; not_cut = λ e. cc; not_memory = λ e. cc }
 
 of_cause : (cause : Cause) → IsAnswered (cause_status cause)
-of_cause Content = record { not_words = λ e. cc; not_unread = λ e. cc; not_cut = λ e. cc }
-of_cause ClauseLimit = record { not_words = λ e. cc; not_unread = λ e. cc; not_cut = λ e. cc }
-of_cause UnknownGoal = record { not_words = λ e. cc; not_unread = λ e. cc; not_cut = λ e. cc }
-of_cause TooLarge = record { not_words = λ e. cc; not_unread = λ e. cc; not_cut = λ e. cc }
+of_cause Content = record { not_words = λ e. cc; not_unread = λ e. cc; not_cut = λ e. cc; not_memory = λ e. cc }
+of_cause ClauseLimit = record { not_words = λ e. cc; not_unread = λ e. cc; not_cut = λ e. cc; not_memory = λ e. cc }
+of_cause UnknownGoal = record { not_words = λ e. cc; not_unread = λ e. cc; not_cut = λ e. cc; not_memory = λ e. cc }
+of_cause TooLarge = record { not_words = λ e. cc; not_unread = λ e. cc; not_cut = λ e. cc; not_memory = λ e. cc }
 
-not_done : (cause : Cause) → cause_status cause ≡ status.Done → ⊥
-not_done Content = λ e. cc
-not_done ClauseLimit = λ e. cc
-not_done UnknownGoal = λ e. cc
-not_done TooLarge = λ e. cc
+-- a refusal has no status of a report, and each report its own
+no_verdict : (cause : Cause) (verdict : Verdict) → cause_status cause ≡ verdict_status verdict → ⊥
+no_verdict Content Done = λ e. cc
+no_verdict Content Negative = λ e. cc
+no_verdict Content Undecided = λ e. cc
+no_verdict ClauseLimit Done = λ e. cc
+no_verdict ClauseLimit Negative = λ e. cc
+no_verdict ClauseLimit Undecided = λ e. cc
+no_verdict UnknownGoal Done = λ e. cc
+no_verdict UnknownGoal Negative = λ e. cc
+no_verdict UnknownGoal Undecided = λ e. cc
+no_verdict TooLarge Done = λ e. cc
+no_verdict TooLarge Negative = λ e. cc
+no_verdict TooLarge Undecided = λ e. cc
+
+one_verdict : (first second : Verdict) → verdict_status first ≡ verdict_status second → first ≡ second
+one_verdict Done Done e = refl
+one_verdict Done Negative e = absurd (cc e)
+one_verdict Done Undecided e = absurd (cc e)
+one_verdict Negative Done e = absurd (cc e)
+one_verdict Negative Negative e = refl
+one_verdict Negative Undecided e = absurd (cc e)
+one_verdict Undecided Done e = absurd (cc e)
+one_verdict Undecided Negative e = absurd (cc e)
+one_verdict Undecided Undecided e = refl
 
 -- the report on a job, taken
 took_report : (old new : Option (List ℕ)) (report : List ℕ) (P : List ℕ → Type 0) → Appends old new report → P report → Took old new P
 took_report None new report P took h = tt
 took_report (Some xs) new report P took h = (report, took, h)
 
-done : (old new : Option (List ℕ)) (words : List (List ℕ)) (files : Files) (job : Option Job) → job_of words ≡ job → (o : Outcome) → of_job job files ≡ o → status_of o ≡ status.Done → Appends old new (report_of o) → Took old new (IsMeant words files)
-done old new words files None asked o is e took = absurd (let k : status_of not_a_command ≡ status.Done = ap status_of is ∙ e in cc)
-done old new words files (Some job) asked (answered (reported verdict report)) is e took =
-    took_report old new report (IsMeant words files) took (record { job = job; asked = asked; means = report_means job files verdict report is })
-done old new words files (Some job) asked (answered (refused cause line)) is e took = absurd (not_done cause e)
-done old new words files (Some job) asked (unread path) is e took = absurd cc
-done old new words files (Some job) asked not_a_command is e took = absurd cc
+taken_is_meant : (old new : Option (List ℕ)) (words : List (List ℕ)) (files : Files) (verdict : Verdict) (job : Option Job) → job_of words ≡ job → (o : Outcome) → of_job job files ≡ o → status_of o ≡ verdict_status verdict →
+    Appends old new (report_of o) → Took old new (IsMeant words files verdict)
+taken_is_meant old new words files verdict None asked o is e took = absurd ((of_verdict verdict).not_words (sym (ap status_of is ∙ e)))
+taken_is_meant old new words files verdict (Some job) asked (answered (reported told report)) is e took =
+    took_report old new report (IsMeant words files verdict) took
+    (record { job = job; asked = asked; means = subst (λ v. MeansJob job files v report) (one_verdict told verdict e) (report_means job files told report is) })
+taken_is_meant old new words files verdict (Some job) asked (answered (refused cause line)) is e took = absurd (no_verdict cause verdict e)
+taken_is_meant old new words files verdict (Some job) asked (unread path) is e took = absurd ((of_verdict verdict).not_unread (sym e))
+taken_is_meant old new words files verdict (Some job) asked not_a_command is e took = absurd ((of_verdict verdict).not_words (sym e))
 
 -- where the outcome is told, the clauses on it follow from the ways to answer
 module _ {Quiet RoseIn RoseOut : Type 0} {room : ℕ} {Line : List ℕ → Type 0} {old new : Option (List ℕ)} {result : Status} where
@@ -79,12 +103,12 @@ module _ {Quiet RoseIn RoseOut : Type 0} {room : ℕ} {Line : List ℕ → Type 
   completes_told o (run.cut_report is rose roomless report took) noread nowrite h = absurd (nowrite rose)
   completes_told o (run.want_of_memory is took) noread nowrite report = inr is
 
-  pub meaning_told : (words : List (List ℕ)) (files : Files) → Answers Quiet RoseIn RoseOut room Line (outcome_of words files) old new result → result ≡ status.Done → Took old new (IsMeant words files)
+  pub meaning_told : (words : List (List ℕ)) (files : Files) (verdict : Verdict) → Answers Quiet RoseIn RoseOut room Line (outcome_of words files) old new result → result ≡ verdict_status verdict → Took old new (IsMeant words files verdict)
   unfolding outcome_of
-  meaning_told words files (run.as_told is took line) e = done old new words files (job_of words) refl (of_job (job_of words) files) refl (sym is ∙ e) took
-  meaning_told words files (run.unread_file path is rose quiet took line) e = absurd (let k : status.ReadFault ≡ status.Done = sym is ∙ e in cc)
-  meaning_told words files (run.cut_report is rose roomless report took) e = absurd (let k : status.WriteFault ≡ status.Done = sym is ∙ e in cc)
-  meaning_told words files (run.want_of_memory is took) e = absurd (let k : status.Memory ≡ status.Done = sym is ∙ e in cc)
+  meaning_told words files verdict (run.as_told is took line) e = taken_is_meant old new words files verdict (job_of words) refl (of_job (job_of words) files) refl (sym is ∙ e) took
+  meaning_told words files verdict (run.unread_file path is rose quiet took line) e = absurd ((of_verdict verdict).not_unread (sym e ∙ is))
+  meaning_told words files verdict (run.cut_report is rose roomless report took) e = absurd ((of_verdict verdict).not_cut (sym e ∙ is))
+  meaning_told words files verdict (run.want_of_memory is took) e = absurd ((of_verdict verdict).not_memory (sym e ∙ is))
 
 nothing : {O : Type 0} (taken : O → Option (List ℕ)) (out out_after : O) → out_after ≡ out → Appends (taken out) (taken out_after) []
 nothing taken out out_after same = subst (λ x. Appends (taken out) (taken x) []) (sym same) (appends_none (taken out))
@@ -141,25 +165,29 @@ module _ {O E : Type 0} {taken : O → Option (List ℕ)} {faults room : O → �
   words_from : Delivers taken faults room write told told_faults out err result out_after err_after (Some not_a_command) → result ≡ status.Words
   words_from (a_refusal ending same d) = d.1
 
+  memory_from : Delivers taken faults room write told told_faults out err result out_after err_after None → result ≡ status.Memory
+  memory_from (a_refusal ending same d) = d.0
+
 module _ {F : Type 0} {contents : F → Option Files} {shelf_faults moved : F → ℕ} {is_quiet : F → Type 0}
     {start : F → List ℕ → Bool → F → Type 0} {read : F → ℕ → Option ℕ → F → Type 0} where
   job_rose : {job : Option Job} {shelf after : F} {ending : Option Outcome} {path : List ℕ} → FollowsJob contents shelf_faults moved is_quiet start read job shelf ending after → ending ≡ Some (unread path) →
       Rose (shelf_faults shelf) (shelf_faults after)
   job_rose (of_no_job s) e = absurd cc
+  job_rose (without_memory_for_words s) e = absurd cc
   job_rose (of_a_job job s t x f) e = unread_rose f e
 
   job_ends : {job : Option Job} {shelf after : F} {ending : Option Outcome} (files : Files) → FollowsJob contents shelf_faults moved is_quiet start read job shelf ending after → contents shelf ≡ Some files →
       EndsAs (is_quiet shelf) (of_job job files) ending
   job_ends files (of_no_job s) is = run.as_told
+  job_ends files (without_memory_for_words s) is = run.without_memory
   job_ends files (of_a_job job s t x f) is = ends_as files f is
 
-  -- words that give no job are refused, or no memory is found for those that do
-  pub words_refused : (job : Option Job) (error : WordError) (result : Result Job WordError) → result ≡ Err error → (job ≡ None → result ≡ Err words.NotACommand) → OnNotACommand (job ≡ None) error → (s : F) →
-      FollowsJob contents shelf_faults moved is_quiet start read job s (stop_ending (word_stop error)) s
-  words_refused None words.NotACommand result is outside h s = of_no_job s
-  words_refused None words.Memory result is outside h s = absurd (let k : result ≡ Err words.NotACommand = outside refl in cc)
-  words_refused (Some job) words.NotACommand result is outside h s = absurd cc
-  words_refused (Some job) words.Memory result is outside h s = of_a_job job s s None (without_memory (course_of job) s)
+  -- words that give no job are refused, or no memory is found
+  pub words_refused : (job : Option Job) (error : WordError) → OnNotACommand (job ≡ None) error → (s : F) → FollowsJob contents shelf_faults moved is_quiet start read job s (stop_ending (word_stop error)) s
+  words_refused None words.NotACommand h s = of_no_job s
+  words_refused None words.Memory h s = without_memory_for_words s
+  words_refused (Some job) words.NotACommand h s = absurd cc
+  words_refused (Some job) words.Memory h s = of_a_job job s s None (without_memory (course_of job) s)
 
   module _ {O E : Type 0} {taken : O → Option (List ℕ)} {faults room : O → ℕ} {write : O → List ℕ → Option ℕ → O → Type 0} {told : E → Option (List ℕ)} {told_faults : E → ℕ} where
     -- the clauses of a run, from what was done to the shelf and what the sinks took
@@ -170,9 +198,9 @@ module _ {F : Type 0} {contents : F → Option Files} {shelf_faults moved : F �
     unfolding outcome_of
     answers_run {shelf = shelf} words f d = each_told (contents shelf) (λ files is. answers_told (of_job (job_of words) files) (job_ends files f is) (λ path e. job_rose f e) d)
 
-    pub meaning_run : {shelf after : F} {ending : Option Outcome} {out out_after : O} {err err_after : E} {result : Status} (words : List (List ℕ)) → FollowsJob contents shelf_faults moved is_quiet start read (job_of words) shelf ending after →
-        Delivers taken faults room write told told_faults out err result out_after err_after ending → result ≡ status.Done → IfSome (contents shelf) (λ files. Took (taken out) (taken out_after) (IsMeant words files))
-    meaning_run {shelf = shelf} words f d e = if_told (contents shelf) (λ files h. meaning_told words files h e) (answers_run words f d)
+    pub meaning_run : {shelf after : F} {ending : Option Outcome} {out out_after : O} {err err_after : E} {result : Status} (words : List (List ℕ)) (verdict : Verdict) → FollowsJob contents shelf_faults moved is_quiet start read (job_of words) shelf ending after →
+        Delivers taken faults room write told told_faults out err result out_after err_after ending → result ≡ verdict_status verdict → IfSome (contents shelf) (λ files. Took (taken out) (taken out_after) (IsMeant words files verdict))
+    meaning_run {shelf = shelf} words verdict f d e = if_told (contents shelf) (λ files h. meaning_told words files verdict h e) (answers_run words f d)
 
     pub completes_run : {shelf after : F} {ending : Option Outcome} {out out_after : O} {err err_after : E} {result : Status} (words : List (List ℕ)) → FollowsJob contents shelf_faults moved is_quiet start read (job_of words) shelf ending after →
         Delivers taken faults room write told told_faults out err result out_after err_after ending →
@@ -184,6 +212,13 @@ module _ {F : Type 0} {contents : F → Option Files} {shelf_faults moved : F �
     read_fault_run {ending = ending} f d e = let at : (path : List ℕ) × (ending ≡ Some (unread path)) = unread_at ending d e in job_rose f at.1
 
     pub words_run : {shelf after : F} {ending : Option Outcome} {out out_after : O} {err err_after : E} {result : Status} {job : Option Job} → FollowsJob contents shelf_faults moved is_quiet start read job shelf ending after →
-        Delivers taken faults room write told told_faults out err result out_after err_after ending → ((result ≡ status.Words) ↔ (job ≡ None))
-    words_run (of_no_job s) d = ((λ e. refl), (λ e. words_from d))
-    words_run (of_a_job job s t x f) d = ((λ e. absurd (no_words f (words_at x d e))), (λ e. absurd cc))
+        Delivers taken faults room write told told_faults out err result out_after err_after ending → result ≡ status.Words → job ≡ None
+    words_run (of_no_job s) d e = refl
+    words_run (without_memory_for_words s) d e = refl
+    words_run (of_a_job job s t x f) d e = absurd (no_words f (words_at x d e))
+
+    pub no_job_run : {shelf after : F} {ending : Option Outcome} {out out_after : O} {err err_after : E} {result : Status} {job : Option Job} → FollowsJob contents shelf_faults moved is_quiet start read job shelf ending after →
+        Delivers taken faults room write told told_faults out err result out_after err_after ending → job ≡ None → (result ≡ status.Words) ⊎ (result ≡ status.Memory)
+    no_job_run (of_no_job s) d e = inl (words_from d)
+    no_job_run (without_memory_for_words s) d e = inr (memory_from d)
+    no_job_run (of_a_job job s t x f) d e = absurd cc

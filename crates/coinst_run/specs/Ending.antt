@@ -3,8 +3,8 @@ use Rattle.std.specs.Prelude.{◌≡◌, Option, Some, None, Result, Ok, Err, �
 use Rattle.coinst_run.specs.declared.answer.Report.{Report}
 use Rattle.coinst_run.specs.declared.answer.Stop.{Stop}
 use Rattle.coinst_run.specs.declared.answer.Stop.TheVariants.{NotACommand, Refused, Unread, Memory}
-use Rattle.coinst_run.specs.declared.words.WordError.{WordError}
-use Rattle.coinst_run.specs.declared.words.WordError.TheVariants as words
+use Rattle.coinst_words.specs.declared.error.WordError.{WordError}
+use Rattle.coinst_words.specs.declared.error.WordError.TheVariants as words
 use Rattle.coinst_run.specs.Answer.{Stage, reported, refused}
 use Rattle.coinst_run.specs.Course.{Course, answers}
 use Rattle.coinst_run.specs.Outcome.{Outcome, answered, unread, not_a_command}

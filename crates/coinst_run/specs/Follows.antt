@@ -2,7 +2,7 @@
 use Rattle.std.specs.Prelude.{◌≡◌, ℕ, ◌<◌, ◌≤◌, Bool, false, ◌⊎◌, List, length, Option, Some, None}
 use Rattle.byte_flow.specs.Flow.{FileIs, FileIsLonger, Files, LacksFile, Rose}
 use Rattle.byte_flow.specs.Transfer.{EndsBy, PassesLimit, StopsWithin}
-use Rattle.coinst_run.specs.declared.words.Job.{Job}
+use Rattle.coinst_words.specs.declared.job.Job.{Job}
 use Rattle.coinst_run.specs.Answer.{Answer}
 use Rattle.coinst_run.specs.Course.{Course, answers, reads}
 use Rattle.coinst_run.specs.Index.{Index, reads_index}
@@ -53,10 +53,11 @@ pub data Follows {S : Type 0} (contents : S → Option Files) (faults moved : S 
   without_memory_for_a_file : (path : List ℕ) (next : List ℕ → Course) (s t : S) → WasGivenUp start read s path t →
       Follows contents faults moved is_quiet start read (reads path next) s None t
 
--- the same of words: where they give no job nothing is done
+-- the same of words: where they give no job nothing is done, though want of memory may come before that is found
 pub data FollowsJob {S : Type 0} (contents : S → Option Files) (faults moved : S → ℕ) (is_quiet : S → Type 0)
     (start : S → List ℕ → Bool → S → Type 0) (read : S → ℕ → Option ℕ → S → Type 0) : Option Job → S → Option Outcome → S → Type 0 where
   of_no_job : (s : S) → FollowsJob contents faults moved is_quiet start read None s (Some not_a_command) s
+  without_memory_for_words : (s : S) → FollowsJob contents faults moved is_quiet start read None s None s
   of_a_job : (job : Job) (s t : S) (ending : Option Outcome) → Follows contents faults moved is_quiet start read (course_of job) s ending t →
       FollowsJob contents faults moved is_quiet start read (Some job) s ending t
 

@@ -1,5 +1,6 @@
 -- The kernel of an index: that of its repository, with the packages of each class as its members.
 use Rattle.std.specs.Prelude.{ℕ, List, length, map}
+use Rattle.kernel_text.specs.KernelJson.{kernel_json}
 use Rattle.kernel_text.specs.KernelText.{kernel_text}
 use Rattle.kernel_text.specs.Members.{kernel_members}
 use Rattle.kernel_text.specs.declared.member.Member.{Member}
@@ -29,3 +30,7 @@ members_for packages made = kernel_members packages made.class_of (length made.r
 -- its text
 abbrev pub text_for : List PackageFacts → ClassedKernel → List ℕ
 text_for packages made = kernel_text made.repository (members_for packages made)
+
+-- and its JSON
+abbrev pub json_for : List PackageFacts → ClassedKernel → List ℕ
+json_for packages made = kernel_json made.repository (members_for packages made)

@@ -1,5 +1,5 @@
 -- The command that prints the kernel of an index.
-use Rattle.std.specs.Prelude.{◌≡◌, ℕ, ◌<◌, List, length, Option, Some, None, Ok, Err}
+use Rattle.std.specs.Prelude.{◌≡◌, ℕ, ◌<◌, Bool, true, false, List, length, Option, Some, None, Ok, Err}
 use Rattle.clause_pool.specs.Interned.{Interned}
 use Rattle.kernel_rounds.specs.declared.extraction.Kernel.{Kernel}
 use Rattle.relation_fields.specs.declared.packages.PackageFacts.{PackageFacts}
@@ -10,7 +10,7 @@ use Rattle.coinst_run.specs.declared.answer.Verdict.TheVariants.{Done}
 use Rattle.coinst_run.specs.Answer.{Stage, reported, refused}
 use Rattle.coinst_run.specs.Course.{Course, answers, then_on}
 use Rattle.coinst_run.specs.Index.{Index, reads_index}
-use Rattle.coinst_run.specs.IndexKernel.{ClassedKernel, index_kernel, text_for}
+use Rattle.coinst_run.specs.IndexKernel.{ClassedKernel, index_kernel, json_for, text_for}
 use Rattle.coinst_run.specs.Lines.{limit_line}
 use Rattle.repo_model.specs.Repository.{suite_repository}
 use Rattle.repo_model.specs.Stanzas.{stanza_at}
@@ -25,11 +25,16 @@ by_limit path limit index (Some passed) =
 abbrev pub kernel_of : List ℕ → ℕ → Index → Stage ClassedKernel
 kernel_of path limit index = by_limit path limit index (limit_at (suite_repository index.home index.packages) limit)
 
-abbrev pub kernel_answer : List ℕ → ℕ → Index → Course
-kernel_answer path limit index = then_on (kernel_of path limit index) (λ kernel. answers (reported Done (text_for index.packages kernel)))
+-- a kernel as text, or as JSON where that is asked for
+abbrev pub printed_kernel : Bool → List PackageFacts → ClassedKernel → List ℕ
+printed_kernel false packages kernel = text_for packages kernel
+printed_kernel true packages kernel = json_for packages kernel
 
-abbrev pub kernel_course : List ℕ → ℕ → Course
-kernel_course path limit = reads_index path (kernel_answer path limit)
+abbrev pub kernel_answer : List ℕ → Bool → ℕ → Index → Course
+kernel_answer path json limit index = then_on (kernel_of path limit index) (λ kernel. answers (reported Done (printed_kernel json index.packages kernel)))
+
+abbrev pub kernel_course : List ℕ → Bool → ℕ → Course
+kernel_course path json limit = reads_index path (kernel_answer path json limit)
 
 -- what a kernel over a pool says
 abbrev pub kernel_in : Interned → Kernel → ClassedKernel

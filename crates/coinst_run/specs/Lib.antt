@@ -15,5 +15,12 @@ pub mod Lines
 pub mod Meaning
 pub mod Outcome
 pub mod Run
+pub mod Sample
 pub mod Status
-pub mod Words
+pub mod QueryText
+pub mod Query
+pub mod QueryMeaning
+pub mod CompareText
+pub mod Compare
+pub mod CompareMeaning
+pub mod StoredQuery

@@ -1,4 +1,4 @@
--- The lines on standard error.
+-- The lines on standard error, and the one on the size of a kernel.
 use Rattle.std.specs.Prelude.{ℕ, List, [], ◌∷◌, ◌++◌, codes}
 use Rattle.std.specs.Fmt.{decimal}
 use Rattle.relation_fields.specs.declared.packages.PackageFacts.{PackageFacts}
@@ -65,8 +65,13 @@ abbrev pub stage_text : ℕ → ℕ → ℕ → List ℕ
 stage_text limit round gone = codes "clause limit " ++ decimal limit ++ codes " passed: round " ++ decimal round ++ codes ", gone " ++ decimal gone
 
 -- the package that passed it, and the number of its clauses
-abbrev pub row_text : PackageFacts → ℕ → List ℕ
-row_text facts count = codes ", package " ++ facts.name ++ codes " " ++ facts.version ++ codes ", clauses " ++ decimal count
+abbrev pub row_text : List ℕ → List ℕ → ℕ → List ℕ
+row_text name version count = codes ", package " ++ name ++ codes " " ++ version ++ codes ", clauses " ++ decimal count
+
+-- how large a kernel is
+unfoldable pub size_line : ℕ → ℕ → ℕ → ℕ → List ℕ
+size_line packages classes clauses conflicts =
+    line_of_text (codes "packages " ++ decimal packages ++ codes " classes " ++ decimal classes ++ codes " clauses " ++ decimal clauses ++ codes " conflicts " ++ decimal conflicts)
 
 unfoldable pub limit_line : List ℕ → ℕ → ℕ → ℕ → PackageFacts → ℕ → List ℕ
-limit_line path limit round gone facts count = about path (stage_text limit round gone ++ row_text facts count)
+limit_line path limit round gone facts count = about path (stage_text limit round gone ++ row_text facts.name facts.version count)

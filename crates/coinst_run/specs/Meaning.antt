@@ -1,9 +1,11 @@
--- What a printed kernel means for the index that it came from.
-use Rattle.std.specs.Prelude.{◌≡◌, ℕ, ◌<◌, Bool, true, ◌&&◌, ◌↔◌, List, length, Some, None}
+-- What a printed report means for the files that it came from.
+use Rattle.std.specs.Prelude.{◌≡◌, ℕ, ◌<◌, Bool, true, false, ◌&&◌, ◌↔◌, List, length, Some, None, ⊤}
 use Rattle.std.specs.List.{list_any}
 use Rattle.std.specs.Str.{bytes_eq}
 use Rattle.coinst_run.specs.Index.{home_in, packages_in}
 use Rattle.coinst_run.specs.IndexKernel.{index_kernel, members_for}
+use Rattle.coinst_run.specs.Sample.{size_report}
+use Rattle.sample_suite.specs.SampleText.{sample_text}
 use Rattle.kernel_text.specs.KernelReads.{HasOneReading, KernelReads}
 use Rattle.kernel_text.specs.KernelText.{members_of}
 use Rattle.kernel_text.specs.declared.member.Member.{Member}
@@ -11,10 +13,13 @@ use Rattle.relation_fields.specs.declared.packages.PackageFacts.{PackageFacts}
 use Rattle.repo_model.specs.FirstFault.{first_fault}
 use Rattle.repo_model.specs.Repository.{packages_of, suite_repository}
 use Rattle.repo_model.specs.Stanzas.{stanza_at, CoinstStanzas}
-use Rattle.coinst_run.specs.Words.{job_of}
-use Rattle.coinst_run.specs.declared.words.Job.{Job}
-use Rattle.coinst_run.specs.declared.words.Job.TheVariants.{Kernel}
+use Rattle.coinst_words.specs.Jobs.{job_of}
+use Rattle.coinst_words.specs.declared.job.Job.{Job}
+use Rattle.coinst_words.specs.declared.job.Job.TheVariants.{Kernel, Query, StoredQuery, Compare, Sample}
 use Rattle.byte_flow.specs.Flow.{Files}
+use Rattle.coinst_run.specs.declared.answer.Verdict.{Verdict}
+use Rattle.coinst_run.specs.CompareMeaning.{CompareMeans}
+use Rattle.coinst_run.specs.QueryMeaning.{QueryMeans}
 use Rattle.row_book.specs.Repository.{Repository, Coinst}
 use Rattle.row_book.specs.Rounds.{kernel}
 use Rattle.row_book.specs.Sets.{NumSet, Is}
@@ -54,12 +59,24 @@ pub record KernelMeans (text printed : List ℕ) : Type 0 where
   pub keeps : (S : NumSet) → ((n : ℕ) → Is S n → n < length (packages_in text)) →
       (CoinstStanzas (home_in text) (packages_in text) S ↔ Coinst repository (classes_of (packages_in text) members S))
 
--- what a printed report means for the job that it was asked for
-abbrev pub MeansJob : Job → Files → List ℕ → Type 0
-MeansJob (Kernel path limit) files printed = (text : List ℕ) × (files path ≡ Some text) × KernelMeans text printed
+-- The text is an index without a fault, and the printed line has the numbers of its kernel.
+pub record SizeMeans (text printed : List ℕ) : Type 0 where
+  pub accepted : first_fault text ≡ None
+  pub line : printed ≡ size_report (packages_in text) (index_kernel (home_in text) (packages_in text))
+
+-- what a printed report means for the job that it was asked for, by its verdict; of a kernel as JSON, and of what a stored kernel
+-- answers, the bytes are told and no more
+abbrev pub MeansJob : Job → Files → Verdict → List ℕ → Type 0
+MeansJob (Kernel path false limit) files verdict printed = (text : List ℕ) × (files path ≡ Some text) × KernelMeans text printed
+MeansJob (Kernel path true limit) files verdict printed = ⊤
+MeansJob (Query index goals budget limit) files verdict printed = (text : List ℕ) × (files index ≡ Some text) × QueryMeans text goals budget verdict printed
+MeansJob (StoredQuery kernel goals budget) files verdict printed = ⊤
+MeansJob (Compare old new budget limit) files verdict printed =
+    (first second : List ℕ) × (files old ≡ Some first) × (files new ≡ Some second) × CompareMeans first second budget verdict printed
+MeansJob (Sample seed count) files verdict printed = SizeMeans (sample_text seed count) printed
 
 -- The words ask for a job, and this is what the printed bytes mean for it.
-pub record IsMeant (words : List (List ℕ)) (files : Files) (printed : List ℕ) : Type 0 where
+pub record IsMeant (words : List (List ℕ)) (files : Files) (verdict : Verdict) (printed : List ℕ) : Type 0 where
   pub job : Job
   pub asked : job_of words ≡ Some job
-  pub means : MeansJob job files printed
+  pub means : MeansJob job files verdict printed

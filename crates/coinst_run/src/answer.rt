@@ -1,6 +1,6 @@
 //! What a command answers: a report, or why there is none.
 use crate::status::Status;
-use crate::words::{PathText, WordError};
+use coinst_words::{PathText, WordError};
 use std::alloc::AllocError;
 
 /// What a report says as a whole.

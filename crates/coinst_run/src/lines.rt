@@ -1,7 +1,7 @@
 //! The lines about a file, each made whole in memory.
-ghost use Rattle.std.specs.Prelude.{◌≡◌, ◌++◌, IfOk, OnOk};
+ghost use Rattle.std.specs.Prelude.{◌≡◌, ◌++◌, IfOk, OnOk, codes};
 ghost use Rattle.std.specs.Fmt.{decimal};
-ghost use Rattle.coinst_run.specs.Lines.{at_line, fault_line, fault_text, limit_line, row_text, shape_text, stage_text, too_long_line};
+ghost use Rattle.coinst_run.specs.Lines.{at_line, fault_line, fault_text, limit_line, line_of_text, row_text, shape_text, size_line, stage_text, too_long_line};
 
 use itoa::Buffer;
 use relation_fields::PackageFacts;
@@ -9,17 +9,17 @@ use repo_model::IndexFault;
 use stanza_reader::StanzaFault;
 use std::alloc::{AllocError, Global};
 
-// Puts a number behind the line, in decimal digits.
-fn push_number(line: &mut Vec<u8>, number: u64) -> Result<(), AllocError>
+/// Puts a number behind the line, in decimal digits; it fails only where no memory is found.
+pub(crate) fn push_number(line: &mut Vec<u8>, number: u64) -> Result<(), AllocError>
     ensures { OnOk result (line.new.items ≡ line.old.items ++ decimal number) }
 {
     let mut buffer = Buffer::new();
     line.extend_from_slice(buffer.format(number).as_bytes())
 }
 
-// Puts what is wrong at a line of a file behind the line.
+/// Puts what is wrong at a line of a file behind the line.
 #[tactic(auto, using(crate::proofs::Texts::appended))]
-fn push_at_line(line: &mut Vec<u8>, number: u64, words: &[u8]) -> Result<(), AllocError>
+pub(crate) fn push_at_line(line: &mut Vec<u8>, number: u64, words: &[u8]) -> Result<(), AllocError>
     ensures { OnOk result (line.new.items ≡ line.old.items ++ at_line number words.now) }
 {
     line.extend_from_slice(b"line ")?;
@@ -30,7 +30,7 @@ fn push_at_line(line: &mut Vec<u8>, number: u64, words: &[u8]) -> Result<(), All
 
 // Puts the same behind the line, with a number behind it.
 #[tactic(auto, using(crate::proofs::Texts::appended))]
-fn push_numbered(
+pub(crate) fn push_numbered(
     line: &mut Vec<u8>,
     number: u64,
     words: &[u8],
@@ -122,15 +122,48 @@ fn push_stage(line: &mut Vec<u8>, limit: u64, round: u64, gone: u64) -> Result<(
 
 // Puts which package passed it, and by how many clauses, behind the line.
 #[tactic(auto, using(crate::proofs::Texts::appended))]
-fn push_row(line: &mut Vec<u8>, facts: &PackageFacts, count: u64) -> Result<(), AllocError>
-    ensures { OnOk result (line.new.items ≡ line.old.items ++ row_text facts.now count) }
+fn push_row(line: &mut Vec<u8>, name: &[u8], version: &[u8], count: u64) -> Result<(), AllocError>
+    ensures { OnOk result (line.new.items ≡ line.old.items ++ row_text name.now version.now count) }
 {
     line.extend_from_slice(b", package ")?;
-    line.extend_from_slice(facts.name.as_slice())?;
+    line.extend_from_slice(name)?;
     line.extend_from_slice(b" ")?;
-    line.extend_from_slice(facts.version.text())?;
+    line.extend_from_slice(version)?;
     line.extend_from_slice(b", clauses ")?;
     push_number(line, count)
+}
+
+/// The front of the line of a clause limit that was passed in a round, when so many packages were gone in it; it fails only
+/// where no memory is found.
+#[tactic(auto, using(crate::proofs::Texts::appended))]
+pub fn limit_front(
+    alloc: Global,
+    path: &str,
+    limit: u64,
+    round: u64,
+    gone: u64,
+) -> Result<Vec<u8>, AllocError>
+    ensures { IfOk result (λ line. line.items ≡ path.now ++ codes ": " ++ stage_text limit round gone) }
+{
+    let mut line = Vec::from_slice(alloc, path.as_bytes())?;
+    line.extend_from_slice(b": ")?;
+    push_stage(&mut line, limit, round, gone)?;
+    Ok(line)
+}
+
+/// Puts the package that passed the limit, by its name and version, the number of its clauses, and the line feed behind the
+/// front; it fails only where no memory is found.
+#[tactic(auto, using(crate::proofs::Texts::appended))]
+pub fn end_limit(
+    line: &mut Vec<u8>,
+    name: &[u8],
+    version: &[u8],
+    count: u64,
+) -> Result<(), AllocError>
+    ensures { OnOk result (line.new.items ≡ line.old.items ++ line_of_text (row_text name.now version.now count)) }
+{
+    push_row(line, name, version, count)?;
+    line.extend_from_slice(b"\n")
 }
 
 /// The line of a package that has more clauses than the limit allows, when so many packages are gone in a round; it fails
@@ -147,10 +180,35 @@ pub fn limit_line(
 ) -> Result<Vec<u8>, AllocError>
     ensures { IfOk result (λ line. line.items ≡ limit_line path.now limit round gone facts.now count) }
 {
-    let mut line = Vec::from_slice(alloc, path.as_bytes())?;
-    line.extend_from_slice(b": ")?;
-    push_stage(&mut line, limit, round, gone)?;
-    push_row(&mut line, facts, count)?;
+    let mut line = limit_front(alloc, path, limit, round, gone)?;
+    end_limit(
+        &mut line,
+        facts.name.as_slice(),
+        facts.version.text(),
+        count,
+    )?;
+    Ok(line)
+}
+
+/// The line on the size of a kernel; it fails only where no memory is found.
+#[tactic(auto, using(crate::proofs::Texts::appended), unfolding(crate::specs::Lines::size_line))]
+pub fn size_line(
+    alloc: Global,
+    packages: u64,
+    classes: u64,
+    clauses: u64,
+    conflicts: u64,
+) -> Result<Vec<u8>, AllocError>
+    ensures { IfOk result (λ line. line.items ≡ size_line packages classes clauses conflicts) }
+{
+    let mut line = Vec::from_slice(alloc, b"packages ")?;
+    push_number(&mut line, packages)?;
+    line.extend_from_slice(b" classes ")?;
+    push_number(&mut line, classes)?;
+    line.extend_from_slice(b" clauses ")?;
+    push_number(&mut line, clauses)?;
+    line.extend_from_slice(b" conflicts ")?;
+    push_number(&mut line, conflicts)?;
     line.extend_from_slice(b"\n")?;
     Ok(line)
 }

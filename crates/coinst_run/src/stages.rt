@@ -1,5 +1,6 @@
 //! The parts of commands: a file read whole, an index checked, its kernel.
 ghost use Rattle.std.specs.Prelude.{◌≡◌, ◌<◌, ◌≤◌, ℕ, List, length, Ok, IfOk, IfErr, IfSome};
+ghost use Rattle.kernel_text.specs.JsonData.{AreNamedPackages};
 ghost use Rattle.coinst_run.specs.Ending.{StopsAt, stop_ending};
 ghost use Rattle.coinst_run.specs.Course.{Course, reads};
 ghost use Rattle.coinst_run.specs.Faults.{fault_cause};
@@ -10,9 +11,9 @@ ghost use Rattle.coinst_run.specs.Outcome.{answered, too_long, unread};
 
 use crate::answer::{Cause, Stop};
 use crate::lines::{fault_line, limit_line, too_long_line};
-use crate::words::PathText;
 use byte_flow::{ReadError, Shelf, read_file};
 use clause_pool::Pool;
+use coinst_words::PathText;
 use kernel_rounds::{Kernel, RoundError, extract};
 use repo_model::{IndexFault, Suite, read_suite};
 use std::alloc::Global;
@@ -68,8 +69,8 @@ fn too_long(alloc: Global, path: &str) -> Stop
     }
 }
 
-// Reads the file at a path whole.
-fn text_at<F: Shelf>(alloc: Global, shelf: &mut F, path: &str) -> Result<Vec<u8>, Stop>
+/// Reads the file at a path whole.
+pub(crate) fn text_at<F: Shelf>(alloc: Global, shelf: &mut F, path: &str) -> Result<Vec<u8>, Stop>
     ensures text { IfOk result (λ text. WasRead F.contents F.faults F.moved F.is_quiet F.start_gives F.read_gives shelf.old path.now text.items shelf.new) }
     ensures stop { IfErr result (λ stop. (next : List ℕ → Course) → Follows F.contents F.faults F.moved F.is_quiet F.start_gives F.read_gives (reads path.now next) shelf.old (stop_ending stop) shelf.new) }
 {
@@ -81,10 +82,11 @@ fn text_at<F: Shelf>(alloc: Global, shelf: &mut F, path: &str) -> Result<Vec<u8>
     }
 }
 
-// Reads the packages of an index, or refuses its first fault.
-fn checked_index(alloc: Global, path: &str, text: &[u8]) -> Result<Suite, Stop>
+/// Reads the packages of an index, or refuses its first fault.
+pub fn checked_index(alloc: Global, path: &str, text: &[u8]) -> Result<Suite, Stop>
     requires { length text.now ≤ 1073741824 }
     ensures suite { IfOk result (λ suite. checked_index path.now text.now ≡ Ok (index_of suite)) }
+    ensures named { IfOk result (λ suite. AreNamedPackages suite.packages) }
     ensures stop { IfErr result (λ stop. StopsAt (checked_index path.now text.now) (stop_ending stop)) }
 {
     match read_suite(alloc, text) {
@@ -100,6 +102,7 @@ fn checked_index(alloc: Global, path: &str, text: &[u8]) -> Result<Suite, Stop>
 /// Reads the index at a path whole and checks it, or says why it cannot be used; its text is dropped.
 pub fn suite_at<F: Shelf>(alloc: Global, shelf: &mut F, path: &str) -> Result<Suite, Stop>
     ensures suite { IfOk result (λ suite. ReachesIndex F.contents F.faults F.moved F.is_quiet F.start_gives F.read_gives shelf.old path.now (index_of suite) shelf.new) }
+    ensures named { IfOk result (λ suite. AreNamedPackages suite.packages) }
     ensures stop { IfErr result (λ stop. (next : Index → Course) → Follows F.contents F.faults F.moved F.is_quiet F.start_gives F.read_gives (reads_index path.now next) shelf.old (stop_ending stop) shelf.new) }
 {
     let text = text_at(alloc, shelf, path)?;

@@ -1,5 +1,5 @@
 //! Runs over files and streams in memory, against answers that were worked out by hand.
-use crate::{PathText, read_words, run};
+use crate::run;
 use byte_flow::{MemShelf, MemSink};
 use repo_model::{Suite, are_coinstallable, read_suite};
 use row_book::{ClauseList, NumList, is_coinst};
@@ -155,43 +155,9 @@ const FAULTS: [(&str, &str); 18] = [
 
 /// The text of the file `I`, the words, the calls that fail as `Given` has them, and then the status, the report and the
 /// line.
-const ANSWERS: [(&str, &str, (u64, u64, u64), u8, &str, &str); 24] = [
+const ANSWERS: [(&str, &str, (u64, u64, u64), u8, &str, &str); 22] = [
     ("", "", (0, 0, 0), 2, "", NOT_A_COMMAND),
     ("", "kernel", (0, 0, 0), 2, "", NOT_A_COMMAND),
-    ("", "kernel -x I", (0, 0, 0), 2, "", NOT_A_COMMAND),
-    ("", "kernel -x", (0, 0, 0), 2, "", NOT_A_COMMAND),
-    (
-        "",
-        "kernel --clause-limit 0 I",
-        (0, 0, 0),
-        2,
-        "",
-        NOT_A_COMMAND,
-    ),
-    (
-        "",
-        "kernel --clause-limit 1000001 I",
-        (0, 0, 0),
-        2,
-        "",
-        NOT_A_COMMAND,
-    ),
-    (
-        "",
-        "kernel --clause-limit 000000000000000000001 I",
-        (0, 0, 0),
-        2,
-        "",
-        NOT_A_COMMAND,
-    ),
-    (
-        "",
-        "kernel --clause-limit 00000000000001000000 I",
-        (0, 0, 0),
-        0,
-        EMPTY_KERNEL,
-        "",
-    ),
     (
         TWO_CLAUSES,
         "kernel --clause-limit 1 I",
@@ -209,20 +175,38 @@ const ANSWERS: [(&str, &str, (u64, u64, u64), u8, &str, &str); 24] = [
         "I: clause limit 2 passed: round 1, gone 3, package a 1, clauses 3\n",
     ),
     (
-        THREE_CLAUSES,
-        "kernel --clause-limit 3 I",
-        (0, 0, 0),
-        0,
-        "coinst-kernel 1\nclass 0\nmember a 1\nmember m 1\nmember n 1\nneeds 1\nclass 1\nmember b 1\nmember c 1\nmember d 1\nagainst 2\nclass 2\nmember e 1\nend 3 7\n",
-        "",
-    ),
-    (
         OUTSIDE,
         INDEX,
         (0, 0, 0),
         3,
         "",
         "I: line 3: bad relation, element 1\n",
+    ),
+    (
+        "",
+        "sample 7 1",
+        (1, 0, 0),
+        0,
+        "packages 1 classes 1 clauses 0 conflicts 0\n",
+        "",
+    ),
+    (CHOICE, "query I b c", (0, 0, 0), 1, "no\nlog\n", ""),
+    (
+        CHOICE,
+        "query I a zz",
+        (0, 0, 0),
+        9,
+        "",
+        "goal 2 is unknown: zz\n",
+    ),
+    (CHOICE, "compare I I", (0, 0, 0), 0, "end 0 0\n", ""),
+    (
+        EMPTY_KERNEL,
+        "query --kernel I a",
+        (0, 0, 0),
+        9,
+        "",
+        "goal 1 is unknown: a\n",
     ),
     ("", NOWHERE, (0, 0, 0), 5, "", "J: read failed\n"),
     (CHOICE, INDEX, (1, 0, 0), 5, "", "I: read failed\n"),
@@ -374,18 +358,6 @@ fn answers_have_their_causes(rt: HostRuntime) -> Result<(), Fail> {
         };
         expect(&rt, &given, code, report, line)?;
     }
-    Ok(())
-}
-
-#[test]
-fn words_give_a_job(rt: HostRuntime) -> Result<(), Fail> {
-    let alloc = rt.alloc();
-    let words = strings(alloc, "kernel debian/Packages")?;
-    let job = read_words(alloc, words.as_slice())?;
-    let (index, limit) = job.kernel();
-    let path = PathText::copy(alloc, "debian/Packages")?;
-    assert_eq!(rt; index.as_str(), path.as_str());
-    assert_eq!(rt; limit, 65_536);
     Ok(())
 }
 

@@ -1,5 +1,5 @@
 //! The top call: all that the program does, over any shelf and any two sinks.
-ghost use Rattle.std.specs.Prelude.{◌≡◌, ◌↔◌, IfSome, None, Option, map, string_bytes};
+ghost use Rattle.std.specs.Prelude.{◌≡◌, ◌⊎◌, IfSome, None, Option, map, string_bytes};
 ghost use Rattle.byte_flow.specs.Flow.{Rose};
 ghost use Rattle.coinst_run.specs.Delivers.{Delivers, Tells};
 ghost use Rattle.coinst_run.specs.Ending.{ending_of};
@@ -7,23 +7,66 @@ ghost use Rattle.coinst_run.specs.Follows.{Follows, FollowsJob};
 ghost use Rattle.coinst_run.specs.Meaning.{IsMeant};
 ghost use Rattle.coinst_run.specs.Outcome.{Outcome, course_of, outcome_of};
 ghost use Rattle.coinst_run.specs.Run.{Answers, Completes, Took};
-ghost use Rattle.coinst_run.specs.Words.{HasLimit, job_of};
+ghost use Rattle.coinst_run.specs.Status.{verdict_status};
+ghost use Rattle.coinst_run.specs.declared.answer.Verdict.{Verdict};
+ghost use Rattle.coinst_words.specs.Jobs.{IsInLimits, job_of};
 
 use crate::answer::{Report, Stop};
+use crate::compare::compare;
 use crate::deliver::deliver;
 use crate::kernel::kernel;
+use crate::query::query;
+use crate::sample::sample;
 use crate::status::Status;
-use crate::words::{Job, read_words};
+use crate::stored_query::stored_query;
 use byte_flow::{Shelf, Sink};
+use coinst_words::{Job, read_words};
 use std::alloc::Global;
 
 // What the command of a job makes of the shelf.
 fn answer_job<F: Shelf>(alloc: Global, shelf: &mut F, job: &Job) -> Result<Report, Stop>
-    requires { HasLimit job.now }
+    requires { IsInLimits job.now }
     ensures { Follows F.contents F.faults F.moved F.is_quiet F.start_gives F.read_gives (course_of job.now) shelf.old (ending_of result) shelf.new }
 {
-    let (index, limit) = job.kernel();
-    kernel(alloc, shelf, index.as_str(), limit)
+    match job {
+        Job::Kernel {
+            index,
+            json,
+            clause_limit,
+        } => kernel(alloc, shelf, index.as_str(), *json, *clause_limit),
+        Job::Query {
+            index,
+            goals,
+            budget,
+            clause_limit,
+        } => query(
+            alloc,
+            shelf,
+            index.as_str(),
+            goals.as_slice(),
+            *budget,
+            *clause_limit,
+        ),
+        Job::StoredQuery {
+            kernel,
+            goals,
+            budget,
+        } => stored_query(alloc, shelf, kernel.as_str(), goals.as_slice(), *budget),
+        Job::Compare {
+            old,
+            new,
+            budget,
+            clause_limit,
+        } => compare(
+            alloc,
+            shelf,
+            old.as_str(),
+            new.as_str(),
+            *budget,
+            *clause_limit,
+        ),
+        Job::Sample { seed, count } => sample(alloc, *seed, *count),
+    }
 }
 
 // The answer to the words.
@@ -49,8 +92,8 @@ pub fn run<F: Shelf, O: Sink, E: Sink>(
     ensures answers { IfSome (F.contents shelf.old) (λ files. Answers (F.is_quiet shelf.old) (Rose (F.faults shelf.old) (F.faults shelf.new)) (Rose (O.faults out.old) (O.faults out.new)) (O.room out.old)
         (Tells E.taken E.faults err.old err.new) (outcome_of (map string_bytes words.now) files) (O.taken out.old) (O.taken out.new) result) }
 
-    // What was printed means what the stanzas of the index say.
-    ensures meaning { result ≡ Status.Done → IfSome (F.contents shelf.old) (λ files. Took (O.taken out.old) (O.taken out.new) (IsMeant (map string_bytes words.now) files)) }
+    // What was printed means what the stanzas of the indexes say.
+    ensures meaning { (verdict : Verdict) → result ≡ verdict_status verdict → IfSome (F.contents shelf.old) (λ files. Took (O.taken out.old) (O.taken out.new) (IsMeant (map string_bytes words.now) files verdict)) }
 
     // Where no call failed, a report is written whole unless no memory is found.
     ensures completes { IfSome (F.contents shelf.old) (λ files. (Rose (F.faults shelf.old) (F.faults shelf.new) → ⊥) → (Rose (O.faults out.old) (O.faults out.new) → ⊥) → Completes result (outcome_of (map string_bytes words.now) files)) }
@@ -61,7 +104,8 @@ pub fn run<F: Shelf, O: Sink, E: Sink>(
         × Delivers O.taken O.faults O.room O.write_gives E.taken E.faults out.old err.old result out.new err.new ending }
 
     // Why the statuses of the words, of a failed read and of a failed write come.
-    ensures words { (result ≡ Status.Words) ↔ (job_of (map string_bytes words.now) ≡ None) }
+    ensures words { result ≡ Status.Words → job_of (map string_bytes words.now) ≡ None }
+    ensures no_job { job_of (map string_bytes words.now) ≡ None → (result ≡ Status.Words) ⊎ (result ≡ Status.Memory) }
     ensures read_fault { result ≡ Status.ReadFault → Rose (F.faults shelf.old) (F.faults shelf.new) }
     ensures write_fault { result ≡ Status.WriteFault → Rose (O.faults out.old) (O.faults out.new) }
 {

@@ -1,4 +1,10 @@
+use Rattle.coinst_run.specs.Follows.{without_memory}
+use Rattle.coinst_run.specs.Ending.{ending_of}
+use Rattle.coinst_run.specs.Outcome.{course_of}
+use Rattle.coinst_run.specs.Sample.{sample_course}
+use Rattle.coinst_run.proofs.Follows.{settled_follows}
 use Rattle.coinst_run.proofs.top.answer_job.Goals as goal
 
-pub returns : goal.returns
-returns g c = rw c.kernel-limit.ensures (rw c.as_str.ensures at c.kernel.ensures)
+pub returns-in-Sample : goal.returns-in-Sample
+returns-in-Sample g c =
+    rw c.in-Sample.is (settled_follows (sample_course c.in-Sample.seed c.in-Sample.count) (ending_of c.sample.result) c.args.shelf.now c.sample.ensures)

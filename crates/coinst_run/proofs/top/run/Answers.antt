@@ -1,14 +1,14 @@
 use Rattle.std.proofs.Common.{map}
 use Rattle.std.specs.Prelude.{string_bytes}
 use Rattle.coinst_run.specs.Ending.{ending_of}
-use Rattle.coinst_run.proofs.Runs.{answers_run, cut_rose, read_fault_run, words_run, completes_run, meaning_run}
+use Rattle.coinst_run.proofs.Runs.{answers_run, cut_rose, read_fault_run, words_run, completes_run, meaning_run, no_job_run}
 use Rattle.coinst_run.proofs.top.run.Goals as goal
 
 pub returns-clause-answers : goal.returns-clause-answers
 returns-clause-answers g c = answers_run (map string_bytes c.args.words.now) c.answer_to-answer.ensures c.deliver.ensures
 
 pub returns-clause-meaning : goal.returns-clause-meaning
-returns-clause-meaning g c = meaning_run (map string_bytes c.args.words.now) c.answer_to-answer.ensures c.deliver.ensures
+returns-clause-meaning g c = λ verdict. meaning_run (map string_bytes c.args.words.now) verdict c.answer_to-answer.ensures c.deliver.ensures
 
 pub returns-clause-completes : goal.returns-clause-completes
 returns-clause-completes g c = completes_run (map string_bytes c.args.words.now) c.answer_to-answer.ensures c.deliver.ensures
@@ -18,6 +18,9 @@ returns-clause-runs g c = (ending_of c.answer_to-answer.result, c.answer_to-answ
 
 pub returns-clause-words : goal.returns-clause-words
 returns-clause-words g c = words_run c.answer_to-answer.ensures c.deliver.ensures
+
+pub returns-clause-no_job : goal.returns-clause-no_job
+returns-clause-no_job g c = no_job_run c.answer_to-answer.ensures c.deliver.ensures
 
 pub returns-clause-read_fault : goal.returns-clause-read_fault
 returns-clause-read_fault g c = read_fault_run c.answer_to-answer.ensures c.deliver.ensures

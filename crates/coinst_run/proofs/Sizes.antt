@@ -1,0 +1,131 @@
+-- How many lines of each kind the text of a kernel has.
+use Rattle.std.proofs.Common.{◌≡◌, ◌∙◌, ◌+◌, ℕ, Bool, true, false, cond, zero, suc, add-one, zero-add, refl, sym, ap, ap₂, subst, List, [], ◌∷◌, ◌++◌, map, length, filter, ltb, arith}
+use Rattle.std.specs.List.{count_by, flat_map, sum_by}
+use Rattle.std.proofs.lemmas.List.Sums.{sum_by-append}
+use Rattle.std.proofs.lemmas.List.{length-map}
+use Rattle.clause_pool.specs.Interned.{Interned, row_at}
+use Rattle.kernel_rounds.specs.declared.extraction.Kernel.{Kernel}
+use Rattle.relation_fields.specs.declared.packages.PackageFacts.{PackageFacts}
+use Rattle.row_book.specs.Book.{listed_for, repository_of}
+use Rattle.coinst_run.specs.IndexKernel.{members_for}
+use Rattle.coinst_run.specs.Kernel.{kernel_in}
+use Rattle.coinst_run.specs.Lines.{size_line}
+use Rattle.kernel_text.specs.KernelLines.{KernelLine, HeadLine, ClassLine, MemberLine, NeedsLine, AgainstLine, EndLine}
+use Rattle.kernel_text.specs.KernelText.{class_lines, greater_conflicts, kernel_lines, line_of_member, members_of}
+use Rattle.kernel_text.specs.declared.member.Member.{Member}
+use Rattle.row_book.specs.Clauses.{numbers}
+use Rattle.row_book.specs.Repository.{Repository, clauses_of}
+use Rattle.coinst_run.specs.Sample.{is_against_line, is_needs_line, size_report}
+
+sum_first : {X : Type 0} (f : X → ℕ) (x : X) (xs : List X) → sum_by f (x ∷ xs) ≡ f x + sum_by f xs
+sum_first f x xs = let h : sum_by f (x ∷ xs) ≡ sum_by f (x ∷ []) + sum_by f xs = sum_by-append f (x ∷ []) xs in let one : sum_by f (x ∷ []) ≡ f x = omega arith in omega (arith, h, one)
+
+-- lines of one kind
+module _ {X : Type 0} (p : KernelLine → Bool) (line : X → KernelLine) where
+  none_of_kind : ((x : X) → p (line x) ≡ false) → (xs : List X) → count_by p (map line xs) ≡ 0
+  none_of_kind other [] = refl
+  none_of_kind other (x ∷ xs) =
+      let e = ap {B = ℕ} (λ b. cond b 1 0) (other x) in
+      let h = none_of_kind other xs in
+      let first = sum_first (λ l. cond (p l) 1 0) (line x) (map line xs) in omega (arith, first, e, h)
+
+  all_of_kind : ((x : X) → p (line x) ≡ true) → (xs : List X) → count_by p (map line xs) ≡ length xs
+  all_of_kind same [] = refl
+  all_of_kind same (x ∷ xs) =
+      let e = ap {B = ℕ} (λ b. cond b 1 0) (same x) in
+      let h = all_of_kind same xs in
+      let first = sum_first (λ l. cond (p l) 1 0) (line x) (map line xs) in omega (arith, first, e, h)
+
+-- the lines of all classes
+module _ (p : KernelLine → Bool) (head : p HeadLine ≡ false) (end : (c m : ℕ) → p (EndLine c m) ≡ false) (f : ℕ → ℕ) (R : Repository) (members : List Member)
+    (each : (n : ℕ) → count_by p (class_lines R members n) ≡ f n) where
+  of_classes : (ns : List ℕ) → count_by p (flat_map (class_lines R members) ns) ≡ sum_by f ns
+  of_classes [] = refl
+  of_classes (n ∷ ns) =
+      let one = each n in
+      let h = of_classes ns in
+      let both = sum_by-append (λ l. cond (p l) 1 0) (class_lines R members n) (flat_map (class_lines R members) ns) in
+      let first = sum_first f n ns in omega (arith, one, h, both, first)
+
+  of_text : count_by p (kernel_lines R members) ≡ sum_by f (numbers (length R.clauses) 0)
+  unfolding kernel_lines
+  of_text =
+      let body = flat_map (class_lines R members) (numbers (length R.clauses) 0) in
+      let last = EndLine (length R.clauses) (length members) in
+      let first = sum_first (λ l. cond (p l) 1 0) HeadLine (body ++ last ∷ []) in
+      let both = sum_by-append (λ l. cond (p l) 1 0) body (last ∷ []) in
+      let a = ap {B = ℕ} (λ b. cond b 1 0) head in
+      let b = ap {B = ℕ} (λ b. cond b 1 0) (end (length R.clauses) (length members)) in
+      let h = of_classes (numbers (length R.clauses) 0) in
+      omega (arith, first, both, a, b, h)
+
+module _ (R : Repository) (members : List Member) where
+  class_needs : (n : ℕ) → count_by is_needs_line (class_lines R members n) ≡ length (clauses_of R n)
+  unfolding class_lines
+  class_needs n =
+      let first = sum_first (λ l. cond (is_needs_line l) 1 0) (ClassLine n) (map line_of_member (members_of members n) ++ (map NeedsLine (clauses_of R n) ++ map AgainstLine (greater_conflicts R n))) in
+      let one = sum_by-append (λ l. cond (is_needs_line l) 1 0) (map line_of_member (members_of members n)) (map NeedsLine (clauses_of R n) ++ map AgainstLine (greater_conflicts R n)) in
+      let two = sum_by-append (λ l. cond (is_needs_line l) 1 0) (map NeedsLine (clauses_of R n)) (map AgainstLine (greater_conflicts R n)) in
+      let a = none_of_kind is_needs_line line_of_member (λ m. refl) (members_of members n) in
+      let b = all_of_kind is_needs_line NeedsLine (λ c. refl) (clauses_of R n) in
+      let c = none_of_kind is_needs_line AgainstLine (λ m. refl) (greater_conflicts R n) in
+      omega (arith, first, one, two, a, b, c)
+
+  class_against : (n : ℕ) → count_by is_against_line (class_lines R members n) ≡ length (greater_conflicts R n)
+  unfolding class_lines
+  class_against n =
+      let first = sum_first (λ l. cond (is_against_line l) 1 0) (ClassLine n) (map line_of_member (members_of members n) ++ (map NeedsLine (clauses_of R n) ++ map AgainstLine (greater_conflicts R n))) in
+      let one = sum_by-append (λ l. cond (is_against_line l) 1 0) (map line_of_member (members_of members n)) (map NeedsLine (clauses_of R n) ++ map AgainstLine (greater_conflicts R n)) in
+      let two = sum_by-append (λ l. cond (is_against_line l) 1 0) (map NeedsLine (clauses_of R n)) (map AgainstLine (greater_conflicts R n)) in
+      let a = none_of_kind is_against_line line_of_member (λ m. refl) (members_of members n) in
+      let b = none_of_kind is_against_line NeedsLine (λ c. refl) (clauses_of R n) in
+      let c = all_of_kind is_against_line AgainstLine (λ m. refl) (greater_conflicts R n) in
+      omega (arith, first, one, two, a, b, c)
+
+  pub needs_counted : count_by is_needs_line (kernel_lines R members) ≡ sum_by (λ n. length (clauses_of R n)) (numbers (length R.clauses) 0)
+  needs_counted = of_text is_needs_line refl (λ c m. refl) (λ n. length (clauses_of R n)) R members class_needs
+
+  pub against_counted : count_by is_against_line (kernel_lines R members) ≡ sum_by (λ n. length (greater_conflicts R n)) (numbers (length R.clauses) 0)
+  against_counted = of_text is_against_line refl (λ c m. refl) (λ n. length (greater_conflicts R n)) R members class_against
+
+-- ---- sums over the classes so far
+
+no_numbers : numbers 0 0 ≡ []
+unfolding numbers
+no_numbers = refl
+
+pub sum_none : (f : ℕ → ℕ) → 0 ≡ sum_by f (numbers 0 0)
+sum_none f = ap (sum_by f) (sym no_numbers)
+
+numbers_end : (n k : ℕ) → numbers (suc n) k ≡ numbers n k ++ (k + n) ∷ []
+unfolding numbers
+numbers_end zero k = ap (λ m. m ∷ []) (omega arith)
+numbers_end (suc n) k = ap (λ xs. k ∷ xs) (numbers_end n (suc k) ∙ ap (λ m. numbers n (suc k) ++ m ∷ []) (omega arith))
+
+numbers_more : (n : ℕ) → numbers (n + 1) 0 ≡ numbers n 0 ++ n ∷ []
+numbers_more n = ap (λ m. numbers m 0) (add-one n) ∙ numbers_end n 0 ∙ ap (λ m. numbers n 0 ++ m ∷ []) (zero-add n)
+
+-- one more class
+pub sum_more : (f : ℕ → ℕ) (n before one new : ℕ) → before ≡ sum_by f (numbers n 0) → one ≡ f n → new ≡ one + before → new ≡ sum_by f (numbers (n + 1) 0)
+sum_more f n before one new sofar is added =
+    let last = sum_by-append f (numbers n 0) (n ∷ []) in
+    let all = ap (sum_by f) (numbers_more n) in
+    let single : sum_by f (n ∷ []) ≡ f n = omega arith in
+    omega (arith, sofar, is, added, last, all, single)
+
+-- ---- the line
+
+pub size_told : (stanzas : List PackageFacts) (pool : Interned) (made : Kernel) (packages classes clauses conflicts : ℕ) (line : List ℕ) → packages ≡ length stanzas → classes ≡ length made.book.rows
+    → clauses ≡ sum_by (λ n. length (clauses_of (repository_of pool made.book) n)) (numbers (length made.book.rows) 0)
+    → conflicts ≡ sum_by (λ n. length (filter (λ m. ltb n m) (listed_for made.book.conflicts n))) (numbers (length made.book.rows) 0)
+    → line ≡ size_line packages classes clauses conflicts → line ≡ size_report stanzas (kernel_in pool made)
+unfolding size_report
+size_told stanzas pool made packages classes clauses conflicts line a b c d e =
+    let R = repository_of pool made.book in
+    let members = members_for stanzas (kernel_in pool made) in
+    let size : length R.clauses ≡ length made.book.rows = length-map made.book.rows (row_at pool) in
+    let needs : clauses ≡ count_by is_needs_line (kernel_lines R members) =
+    c ∙ ap (λ n. sum_by (λ n. length (clauses_of R n)) (numbers n 0)) (sym size) ∙ sym (needs_counted R members) in
+    let rivals : conflicts ≡ count_by is_against_line (kernel_lines R members) =
+    d ∙ ap (λ n. sum_by (λ n. length (greater_conflicts R n)) (numbers n 0)) (sym size) ∙ sym (against_counted R members) in
+    e ∙ ap₂ (λ p q. size_line p q clauses conflicts) a (b ∙ sym size) ∙ ap₂ (λ p q. size_line (length stanzas) (length R.clauses) p q) needs rivals

@@ -1,0 +1,145 @@
+-- What is answered to goals that are asked of a stored kernel.
+use Rattle.std.proofs.Common.{◌≡◌, ℕ, ◌+◌, ◌<◌, ◌≤◌, Bool, true, false, cond, ltb, List, [], ◌∷◌, ◌++◌, length, map, filter, Option, Some, None, Result, Ok, Err, inl, inr, refl, sym, ap, ap₂, ◌∙◌, subst, lt-ltb, arith}
+use Rattle.std.specs.Prelude.{IfSome, nat_lt}
+use Rattle.std.specs.List.{flat_map, position_from}
+use Rattle.std.proofs.lemmas.Bool.{cases_Bool, le-ltb}
+use Rattle.std.proofs.lemmas.List.{append-nil, flat_map_more}
+use Rattle.std.proofs.lemmas.List.Elements.{filter-append}
+use Rattle.clause_solver.specs.Outcomes.{IsSearchOutcome}
+use Rattle.clause_solver.specs.declared.outcomes.Outcome.{Outcome}
+use Rattle.clause_solver.specs.declared.outcomes.Outcome.TheVariants.{Found, Refuted, Spent}
+use Rattle.kernel_text.specs.declared.fault.KernelFault.{KernelFault}
+use Rattle.kernel_text.specs.declared.fault.KernelFault.TheVariants.{Line, End, Range, Memory}
+use Rattle.kernel_text.specs.declared.member.Member.{Member}
+use Rattle.kernel_text.specs.Images.{image_of, is_unknown, names_in_class, unknown_goal}
+use Rattle.kernel_text.specs.KernelFaults.{IsFault}
+use Rattle.kernel_text.specs.KernelReads.{KernelReads, content}
+use Rattle.kernel_text.proofs.ReadIsWritten.{read_is_written}
+use Rattle.kernel_text.proofs.StoredReading.{reading_is}
+use Rattle.kernel_text.proofs.Written.{numbers_more}
+use Rattle.repo_model.specs.declared.goals.Goal.{Goal}
+use Rattle.row_book.specs.Clauses.{numbers}
+use Rattle.row_book.specs.Flags.{flag}
+use Rattle.row_book.specs.Needs.{NeedsFit}
+use Rattle.row_book.specs.Repository.{Repository}
+use Rattle.row_book.specs.Sets.{In}
+use Rattle.row_book.specs.Sound.{SoundRepository}
+use Rattle.row_book.proofs.Lists.{In_map_cases, filter_cases}
+use Rattle.row_book.proofs.Order.{numbers_parts}
+use Rattle.search_terms.specs.Form.{form}
+use Rattle.search_terms.specs.declared.literals.Log.{Log}
+use Rattle.search_terms.specs.Tree.{IsTree, Tree, failed_leaves, found_of, log_of}
+use Rattle.search_terms.proofs.Computed.{search_tree_is}
+use Rattle.search_terms.proofs.Found.{one_tree}
+use Rattle.suite_compare.specs.Asking.{tree_of}
+use Rattle.suite_compare.proofs.Ranged.{formula_ranged}
+use Rattle.coinst_run.specs.declared.answer.Cause.TheVariants.{Content, UnknownGoal}
+use Rattle.coinst_run.specs.declared.answer.Verdict.TheVariants.{Done, Negative, Undecided}
+use Rattle.coinst_run.specs.Answer.{Answer, refused, reported}
+use Rattle.coinst_run.specs.Course.{answers}
+use Rattle.coinst_run.specs.Ending.{StopsAt}
+use Rattle.coinst_run.specs.Outcome.{answered}
+use Rattle.coinst_run.specs.Outcome as run
+use Rattle.coinst_run.specs.Query.{goal_of_number}
+use Rattle.coinst_run.specs.QueryText.{no_text, undecided_text, unknown_line}
+use Rattle.coinst_run.specs.StoredQuery.{by_reading, checked_kernel, class_line, classes_by_tree, classes_found, classes_text, kernel_fault_line, stored_answer, stored_by_unknown}
+
+-- a text that was read, and one that was refused
+pub kernel_checked : (path text : List ℕ) (R : Repository) (members : List Member) → KernelReads text R members → checked_kernel path text ≡ Ok (content R members)
+kernel_checked path text R members k = ap (by_reading path) (((reading_is text).kernels R members).0 k)
+
+pub kernel_sound : (text : List ℕ) (R : Repository) (members : List Member) → KernelReads text R members → SoundRepository R
+kernel_sound text R members k = (((read_is_written text R members).0 k).0).sound
+
+pub kernel_refused : (path text : List ℕ) (fault : KernelFault) → (fault ≡ Memory → ⊥) → IsFault text fault → checked_kernel path text ≡ Err (refused Content (kernel_fault_line path fault))
+kernel_refused path text fault other is = ap (by_reading path) (((reading_is text).faults fault).0 (other, is))
+
+-- the stop of a text with a fault
+pub fault_stops : (path text : List ℕ) (fault : KernelFault) (ending : Option run.Outcome) → (fault ≡ Memory → ⊥) → IsFault text fault →
+    IfSome ending (λ o. o ≡ answered (refused Content (kernel_fault_line path fault))) → StopsAt (checked_kernel path text) ending
+fault_stops path text fault None other is h = tt
+fault_stops path text fault (Some o) other is h = subst (λ x. StopsAt (checked_kernel path text) (Some x)) (sym h) (kernel_refused path text fault other is)
+
+pub line_other : (n : ℕ) → Line n ≡ Memory → ⊥
+line_other n e = let f : ⊥ = cc in f
+
+pub end_other : End ≡ Memory → ⊥
+end_other e = let f : ⊥ = cc in f
+
+pub range_other : (n : ℕ) → Range n ≡ Memory → ⊥
+range_other n e = let f : ⊥ = cc in f
+
+-- the classes that goals name are classes
+pub images_fit : (members : List Member) (size : ℕ) (goals : List Goal) → NeedsFit size (map (image_of members size) goals)
+unfolding image_of
+images_fit members size goals c i n j =
+    let w : (g : Goal) × In g goals × (c ≡ image_of members size g) = In_map_cases (image_of members size) goals c i in
+    let k : In n (numbers size 0) = (filter_cases (names_in_class members w.0) (numbers size 0) n (subst (λ xs. In n xs) w.2 j)).0 in
+    let b : (0 ≤ n) × (n < 0 + size) = numbers_parts size 0 n k in
+    omega arith
+
+-- the number of an unknown goal is one of a goal
+pub unknown_within : (p : Goal → Bool) (n k : ℕ) (goals : List Goal) → position_from p n goals ≡ Some k → (n ≤ k) × (k < n + length goals)
+unknown_within p n k [] e = absurd (cc e)
+unknown_within p n k (g ∷ gs) e = elim (cases_Bool (p g)) [
+  | inl t ↦ let same : n ≡ k = cc (rw t at e) in (omega (arith, same), omega (arith, same))
+  | inr f ↦ let w : (n + 1 ≤ k) × (k < n + 1 + length gs) = unknown_within p (n + 1) k gs (rw f at e) in (omega (arith, w.0), omega (arith, w.1))
+]
+
+pub unknown_told : (R : Repository) (members : List Member) (goals : List Goal) (budget number : ℕ) (goal : Goal) (line : List ℕ) → unknown_goal members goals ≡ Some number → goal ≡ goal_of_number goals number →
+    line ≡ unknown_line number goal → answers (stored_answer goals budget (content R members)) ≡ answers (refused UnknownGoal line)
+unknown_told R members goals budget number goal line unknown is made =
+    ap answers (ap (stored_by_unknown (content R members) goals budget) unknown ∙ ap (λ g. refused UnknownGoal (unknown_line number g)) (sym is) ∙ ap (refused UnknownGoal) (sym made))
+
+-- goals that are known are answered by the tree
+pub known_told : (R : Repository) (members : List Member) (goals : List Goal) (budget size : ℕ) (needs : List (List ℕ)) → unknown_goal members goals ≡ None → size ≡ length R.clauses →
+    needs ≡ map (image_of members size) goals → answers (classes_by_tree budget (tree_of R needs)) ≡ answers (stored_answer goals budget (content R members))
+known_told R members goals budget size needs known count made =
+    ap answers (ap (λ xs. classes_by_tree budget (tree_of R xs)) (made ∙ ap (λ n. map (image_of members n) goals) count) ∙ sym (ap (stored_by_unknown (content R members) goals budget) known))
+
+-- the tree of a search is the one of the definition
+module _ (R : Repository) (goals : List (List ℕ)) (sound : SoundRepository R) (fit : NeedsFit (length R.clauses) goals) (budget : ℕ) where
+  tree_is : (tree : Tree) → IsTree (length R.clauses) (form R goals) [] tree → tree ≡ tree_of R goals
+  unfolding tree_of
+  tree_is tree is = one_tree (length R.clauses) (form R goals) [] (tree_of R goals) tree (search_tree_is (length R.clauses) (form R goals) (formula_ranged R goals sound fit)) is
+
+  by_size : Bool → Tree → Answer
+  by_size b tree = cond b (reported Undecided (undecided_text budget)) (classes_found tree (found_of tree))
+
+  pub found_told : (chosen : List Bool) → IsSearchOutcome R goals budget (Found chosen) → classes_by_tree budget (tree_of R goals) ≡ reported Done (classes_text chosen)
+  unfolding by_size
+  found_told chosen o =
+      let tree : Tree = o.0 in
+      ap (classes_by_tree budget) (sym (tree_is tree o.1)) ∙ ap (λ b. by_size b tree) (le-ltb budget (failed_leaves tree) o.2.1) ∙ ap (classes_found tree) o.2.0
+
+  pub refuted_told : (log : Log) → IsSearchOutcome R goals budget (Refuted log) → classes_by_tree budget (tree_of R goals) ≡ reported Negative (no_text log.entries)
+  unfolding by_size
+  refuted_told log o =
+      let tree : Tree = o.0 in
+      ap (classes_by_tree budget) (sym (tree_is tree o.1)) ∙ ap (λ b. by_size b tree) (le-ltb budget (failed_leaves tree) o.2.1) ∙ ap (classes_found tree) o.2.0
+      ∙ ap (λ xs. reported Negative (no_text xs)) (sym o.2.2)
+
+  pub spent_told : (failed : ℕ) → IsSearchOutcome R goals budget (Spent failed) → classes_by_tree budget (tree_of R goals) ≡ reported Undecided (undecided_text budget)
+  unfolding by_size
+  spent_told failed o =
+      let tree : Tree = o.0 in
+      ap (classes_by_tree budget) (sym (tree_is tree o.1)) ∙ ap (λ b. by_size b tree) (lt-ltb budget (failed_leaves tree) o.2.0)
+
+-- the lines of classes, flag by flag
+pub no_class_lines : (chosen : List Bool) (start : List ℕ) → start ≡ start ++ flat_map class_line (filter (flag chosen) (numbers 0 0))
+unfolding numbers
+no_class_lines chosen start = sym (append-nil start)
+
+module _ (chosen : List Bool) (n : ℕ) (start out new : List ℕ) (sofar : out ≡ start ++ flat_map class_line (filter (flag chosen) (numbers n 0))) where
+  one_number : filter (flag chosen) (numbers (n + 1) 0) ≡ filter (flag chosen) (numbers n 0) ++ cond (flag chosen n) (n ∷ []) []
+  one_number = ap (filter (flag chosen)) (numbers_more n) ∙ filter-append (flag chosen) (numbers n 0) (n ∷ [])
+
+  pub class_told : flag chosen n ≡ true → new ≡ out ++ class_line n → new ≡ start ++ flat_map class_line (filter (flag chosen) (numbers (n + 1) 0))
+  class_told e pushed =
+      pushed ∙ ap (λ t. t ++ class_line n) sofar ∙ flat_map_more class_line start (filter (flag chosen) (numbers n 0)) n
+      ∙ ap (λ xs. start ++ flat_map class_line xs) (sym (one_number ∙ ap (λ b. filter (flag chosen) (numbers n 0) ++ cond b (n ∷ []) []) e))
+
+  pub class_passed : flag chosen n ≡ false → out ≡ start ++ flat_map class_line (filter (flag chosen) (numbers (n + 1) 0))
+  class_passed e =
+      sofar ∙ ap (λ xs. start ++ flat_map class_line xs)
+      (sym (one_number ∙ ap (λ b. filter (flag chosen) (numbers n 0) ++ cond b (n ∷ []) []) e ∙ append-nil (filter (flag chosen) (numbers n 0))))

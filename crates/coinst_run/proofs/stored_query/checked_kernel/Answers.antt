@@ -1,0 +1,24 @@
+use Rattle.row_book.specs.Book.{repository_of}
+use Rattle.kernel_text.specs.declared.fault.KernelFault.TheVariants.{Line, End, Range}
+use Rattle.coinst_run.specs.Ending.{stop_ending}
+use Rattle.coinst_run.proofs.StoredKernels.{end_other, fault_stops, kernel_checked, kernel_sound, line_other, range_other}
+use Rattle.coinst_run.proofs.stored_query.checked_kernel.Goals as goal
+
+pub returns-in-Ok-clause-kernel : goal.returns-in-Ok-clause-kernel
+returns-in-Ok-clause-kernel c = kernel_checked c.args.path.now c.args.text.now (repository_of c.read_kernel.new.pool c.in-Ok.stored.book) c.in-Ok.stored.members c.in-Ok.ensures.read
+
+pub returns-in-Ok-clause-repository : goal.returns-in-Ok-clause-repository
+returns-in-Ok-clause-repository c = kernel_sound c.args.text.now (repository_of c.read_kernel.new.pool c.in-Ok.stored.book) c.in-Ok.stored.members c.in-Ok.ensures.read
+
+pub returns-in-Err-Line-clause-stop : goal.returns-in-Err-Line-clause-stop
+returns-in-Err-Line-clause-stop c =
+    fault_stops c.args.path.now c.args.text.now (Line c.in-Err-Line.line) (stop_ending c.faulty.result) (line_other c.in-Err-Line.line) (rw c.in-Err-Line.field-0-is at c.in-Err-Line.ensures.refused) c.faulty.ensures
+
+pub returns-in-Err-End-clause-stop : goal.returns-in-Err-End-clause-stop
+returns-in-Err-End-clause-stop c =
+    fault_stops c.args.path.now c.args.text.now End (stop_ending c.faulty-in-Err-End.result) end_other (rw c.in-Err-End.field-0-is at c.in-Err-End.ensures.refused) c.faulty-in-Err-End.ensures
+
+pub returns-in-Err-Range-clause-stop : goal.returns-in-Err-Range-clause-stop
+returns-in-Err-Range-clause-stop c =
+    fault_stops c.args.path.now c.args.text.now (Range c.in-Err-Range.line) (stop_ending c.faulty-in-Err-Range.result) (range_other c.in-Err-Range.line) (rw c.in-Err-Range.field-0-is at c.in-Err-Range.ensures.refused)
+    c.faulty-in-Err-Range.ensures

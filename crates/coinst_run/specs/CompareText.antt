@@ -1,0 +1,44 @@
+-- The text of a comparison.
+use Rattle.std.specs.Prelude.{ℕ, Bool, true, false, not, List, ◌++◌, codes, filter, length, if◌then◌else◌}
+use Rattle.std.specs.Fmt.{decimal}
+use Rattle.std.specs.List.{flat_map, list_any}
+use Rattle.suite_compare.specs.declared.report.ReportLine.{ReportLine}
+use Rattle.suite_compare.specs.declared.report.ReportLine.TheVariants.{Broken1, Broken2, Open1, Open2}
+use Rattle.coinst_run.specs.declared.answer.Verdict.{Verdict}
+use Rattle.coinst_run.specs.declared.answer.Verdict.TheVariants.{Done, Negative, Undecided}
+use Rattle.coinst_run.specs.Lines.{line_of_text}
+
+-- what is told of a name
+abbrev pub single_text : List ℕ → List ℕ → List ℕ
+single_text word name = line_of_text (word ++ codes " " ++ name)
+
+-- and of two names together
+abbrev pub pair_text : List ℕ → List ℕ → List ℕ → List ℕ
+pair_text word first second = line_of_text (word ++ codes " " ++ first ++ codes " " ++ second)
+
+abbrev pub comparison_line : ReportLine → List ℕ
+comparison_line (Broken1 name) = single_text (codes "broken") name
+comparison_line (Broken2 first second) = pair_text (codes "broken") first second
+comparison_line (Open1 name) = single_text (codes "open") name
+comparison_line (Open2 first second) = pair_text (codes "open") first second
+
+abbrev pub is_broken : ReportLine → Bool
+is_broken (Broken1 name) = true
+is_broken (Broken2 first second) = true
+is_broken (Open1 name) = false
+is_broken (Open2 first second) = false
+
+abbrev pub is_open : ReportLine → Bool
+is_open line = not (is_broken line)
+
+-- how many lines are broken, and how many open
+unfoldable pub end_text : List ReportLine → List ℕ
+end_text lines = line_of_text (codes "end " ++ decimal (length (filter is_broken lines)) ++ codes " " ++ decimal (length (filter is_open lines)))
+
+-- the lines in their order, and the last one
+unfoldable pub comparison_text : List ReportLine → List ℕ
+comparison_text lines = flat_map comparison_line lines ++ end_text lines
+
+-- something is broken, or something is open, or neither
+abbrev pub comparison_verdict : List ReportLine → Verdict
+comparison_verdict lines = if list_any is_broken lines then Negative else (if list_any is_open lines then Undecided else Done)

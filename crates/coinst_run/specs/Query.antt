@@ -1,0 +1,43 @@
+-- The command that asks whether one package for each goal can be installed together.
+use Rattle.std.specs.Prelude.{ℕ, ◌-◌, nat_lt, if◌then◌else◌, List, [], slice_index_or, Option, Some, None, Bool}
+use Rattle.repo_model.specs.Goals.{any_version}
+use Rattle.repo_model.specs.declared.goals.Goal.{Goal}
+use Rattle.search_terms.specs.Tree.{Tree, failed_leaves, found_of, log_of}
+use Rattle.suite_compare.specs.Answering.{unknown_goal}
+use Rattle.suite_compare.specs.Asking.{asked_tree, installation}
+use Rattle.coinst_run.specs.declared.answer.Cause.TheVariants.{UnknownGoal}
+use Rattle.coinst_run.specs.declared.answer.Verdict.TheVariants.{Done, Negative, Undecided}
+use Rattle.coinst_run.specs.Answer.{Answer, reported, refused}
+use Rattle.coinst_run.specs.Course.{Course, answers, then_on}
+use Rattle.coinst_run.specs.Index.{Index, reads_index}
+use Rattle.coinst_run.specs.Kernel.{kernel_of}
+use Rattle.coinst_run.specs.QueryText.{no_text, undecided_text, unknown_line, yes_text}
+
+-- the goal of a number, counted from 1
+abbrev pub goal_of_number : List Goal → ℕ → Goal
+goal_of_number goals number = slice_index_or goals (number - 1) (any_version [])
+
+-- yes and what is installed, where the tree finds classes, and otherwise no and the log of the tree
+abbrev pub by_found : Index → List Goal → Tree → Option (List Bool) → Answer
+by_found index goals tree (Some chosen) = reported Done (yes_text index.packages (installation index.home index.packages goals chosen))
+by_found index goals tree None = reported Negative (no_text (log_of [] tree))
+
+-- undecided where the tree has more failed leaves than the budget
+abbrev pub by_tree : Index → List Goal → ℕ → Tree → Answer
+by_tree index goals budget tree =
+    if nat_lt budget (failed_leaves tree) then reported Undecided (undecided_text budget) else by_found index goals tree (found_of tree)
+
+-- goals by the first that names no package, where there is one
+abbrev pub by_unknown : Index → List Goal → ℕ → Option ℕ → Answer
+by_unknown index goals budget (Some number) = refused UnknownGoal (unknown_line number (goal_of_number goals number))
+by_unknown index goals budget None = by_tree index goals budget (asked_tree index.home index.packages goals)
+
+-- what is answered to goals
+abbrev pub goals_answer : List Goal → ℕ → Index → Answer
+goals_answer goals budget index = by_unknown index goals budget (unknown_goal index.packages goals)
+
+abbrev pub query_answer : List ℕ → List Goal → ℕ → ℕ → Index → Course
+query_answer path goals budget limit index = then_on (kernel_of path limit index) (λ kernel. answers (goals_answer goals budget index))
+
+abbrev pub query_course : List ℕ → List Goal → ℕ → ℕ → Course
+query_course path goals budget limit = reads_index path (query_answer path goals budget limit)

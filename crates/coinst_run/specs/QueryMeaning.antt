@@ -1,0 +1,61 @@
+-- What the report of a query means for the index that was asked.
+use Rattle.std.specs.Prelude.{◌≡◌, ℕ, ◌<◌, List, [], length, Some, None}
+use Rattle.byte_flow.specs.Flow.{Files}
+use Rattle.repo_model.specs.FirstFault.{first_fault}
+use Rattle.repo_model.specs.Goals.{CoinstGoals, packages_named}
+use Rattle.repo_model.specs.Repository.{suite_repository}
+use Rattle.repo_model.specs.declared.goals.Goal.{Goal}
+use Rattle.row_book.specs.Clauses.{Ascending}
+use Rattle.row_book.specs.Rounds.{kernel}
+use Rattle.row_book.specs.Sets.{In, has}
+use Rattle.search_terms.specs.declared.literals.Literal.{Literal}
+use Rattle.search_terms.specs.Derives.{Derives}
+use Rattle.search_terms.specs.Form.{form}
+use Rattle.search_terms.specs.Tree.{failed_leaves}
+use Rattle.suite_compare.specs.Answering.{Serves}
+use Rattle.suite_compare.specs.Asking.{asked_tree, images_of}
+use Rattle.coinst_run.specs.declared.answer.Verdict.{Verdict}
+use Rattle.coinst_run.specs.declared.answer.Verdict.TheVariants.{Done, Negative, Undecided}
+use Rattle.coinst_run.specs.Index.{home_in, packages_in}
+use Rattle.coinst_run.specs.Answer.{reported}
+use Rattle.coinst_run.specs.Outcome.{answered, outcome_over}
+use Rattle.coinst_run.specs.Query.{query_course}
+use Rattle.coinst_run.specs.QueryText.{no_text, undecided_text, yes_text}
+
+-- The printed packages, which no other ones are printed as, are in file order, and are a healthy set of stanzas that has a
+-- package for each goal.
+pub record YesMeans (text : List ℕ) (goals : List Goal) (printed : List ℕ) : Type 0 where
+  pub numbers : List ℕ
+  pub reads : printed ≡ yes_text (packages_in text) numbers
+  pub once : (other : List ℕ) → ((n : ℕ) → In n other → n < length (packages_in text)) → printed ≡ yes_text (packages_in text) other → other ≡ numbers
+  pub order : Ascending numbers
+  pub serves : Serves (home_in text) (packages_in text) goals (has numbers)
+
+-- The goals are not co-installable, judged on the stanzas, and the printed log shows it: it derives the empty entry over the
+-- formula of the kernel and the classes of the goals.
+pub record NoMeans (text : List ℕ) (goals : List Goal) (printed : List ℕ) : Type 0 where
+  pub refuted : ¬ (CoinstGoals (home_in text) (packages_in text) goals)
+  pub log : List (List Literal)
+  pub reads : printed ≡ no_text log
+  pub derives : Derives (form (kernel (suite_repository (home_in text) (packages_in text))) (images_of (home_in text) (packages_in text) goals)) log
+
+-- The search tree has more failed leaves than the budget that is printed.
+pub record UndecidedMeans (text : List ℕ) (goals : List Goal) (budget : ℕ) (printed : List ℕ) : Type 0 where
+  pub reads : printed ≡ undecided_text budget
+  pub spent : budget < failed_leaves (asked_tree (home_in text) (packages_in text) goals)
+
+abbrev pub MeansVerdict : List ℕ → List Goal → ℕ → Verdict → List ℕ → Type 0
+MeansVerdict text goals budget Done printed = YesMeans text goals printed
+MeansVerdict text goals budget Negative printed = NoMeans text goals printed
+MeansVerdict text goals budget Undecided printed = UndecidedMeans text goals budget printed
+
+-- The text is an index without a fault, each goal names a package of it, and the printed bytes mean what their verdict says.
+pub record QueryMeans (text : List ℕ) (goals : List Goal) (budget : ℕ) (verdict : Verdict) (printed : List ℕ) : Type 0 where
+  pub accepted : first_fault text ≡ None
+  pub known : (goal : Goal) → In goal goals → (n : ℕ) × In n (packages_named (packages_in text) goal)
+  pub means : MeansVerdict text goals budget verdict printed
+
+-- what is reported over files means this for the file at the path
+abbrev pub QueryIsMeant : Type 0
+QueryIsMeant = (path : List ℕ) (goals : List Goal) (budget limit : ℕ) (files : Files) (verdict : Verdict) (printed : List ℕ) → outcome_over files (query_course path goals budget limit) ≡ answered (reported verdict printed) →
+    (text : List ℕ) × (files path ≡ Some text) × QueryMeans text goals budget verdict printed

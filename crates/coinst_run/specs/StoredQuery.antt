@@ -1,0 +1,78 @@
+-- The command that asks of a stored kernel whether one package for each goal can be installed together.
+use Rattle.std.specs.Prelude.{ℕ, nat_lt, if◌then◌else◌, List, [], ◌++◌, codes, filter, length, map, Bool, Option, Some, None, Result, Ok, Err}
+use Rattle.std.specs.Fmt.{decimal}
+use Rattle.std.specs.List.{flat_map}
+use Rattle.kernel_text.specs.Images.{image_of, unknown_goal}
+use Rattle.kernel_text.specs.KernelReads.{KernelContent}
+use Rattle.kernel_text.specs.declared.fault.KernelFault.{KernelFault}
+use Rattle.kernel_text.specs.declared.fault.KernelFault.TheVariants.{Line, End, Range, Memory}
+use Rattle.kernel_text.proofs.StoredReading.{stored_reading}
+use Rattle.repo_model.specs.declared.goals.Goal.{Goal}
+use Rattle.row_book.specs.Clauses.{numbers}
+use Rattle.row_book.specs.Flags.{flag}
+use Rattle.row_book.specs.Repository.{Repository}
+use Rattle.search_terms.specs.Tree.{Tree, failed_leaves, found_of, log_of}
+use Rattle.suite_compare.specs.Asking.{tree_of}
+use Rattle.coinst_run.specs.declared.answer.Cause.TheVariants.{Content, UnknownGoal}
+use Rattle.coinst_run.specs.declared.answer.Verdict.TheVariants.{Done, Negative, Undecided}
+use Rattle.coinst_run.specs.Answer.{Answer, Stage, reported, refused}
+use Rattle.coinst_run.specs.Course.{Course, answers, reads, then_on}
+use Rattle.coinst_run.specs.Lines.{about, at_line, line_of_text}
+use Rattle.coinst_run.specs.Query.{goal_of_number}
+use Rattle.coinst_run.specs.QueryText.{no_text, undecided_text, unknown_line}
+
+-- why a text is not that of a kernel
+abbrev pub kernel_fault_text : KernelFault → List ℕ
+kernel_fault_text (Line line) = at_line line (codes "not a kernel line")
+kernel_fault_text End = codes "no matching end line"
+kernel_fault_text (Range line) = at_line line (codes "no such class")
+kernel_fault_text Memory = codes "out of memory"
+
+unfoldable pub kernel_fault_line : List ℕ → KernelFault → List ℕ
+kernel_fault_line path fault = about path (kernel_fault_text fault)
+
+-- A stored kernel by the reading of its text: its classes and their packages, or its fault. `stored_reading` is the reading and
+-- the fault of the grammar, and nothing else: the law `texts_are_judged` of kernel_text, with the lemma `reading_is` beside it.
+abbrev pub by_reading : List ℕ → Result KernelContent KernelFault → Stage KernelContent
+by_reading path (Ok kernel) = Ok kernel
+by_reading path (Err fault) = Err (refused Content (kernel_fault_line path fault))
+
+abbrev pub checked_kernel : List ℕ → List ℕ → Stage KernelContent
+checked_kernel path text = by_reading path (stored_reading text)
+
+-- a true class
+abbrev pub class_line : ℕ → List ℕ
+class_line n = line_of_text (codes "class " ++ decimal n)
+
+-- yes, and the classes whose flags are up
+unfoldable pub classes_text : List Bool → List ℕ
+classes_text chosen = line_of_text (codes "yes") ++ flat_map class_line (filter (flag chosen) (numbers (length chosen) 0))
+
+-- yes and the true classes, where the tree finds some, and otherwise no and the log of the tree
+abbrev pub classes_found : Tree → Option (List Bool) → Answer
+classes_found tree (Some chosen) = reported Done (classes_text chosen)
+classes_found tree None = reported Negative (no_text (log_of [] tree))
+
+-- undecided where the tree has more failed leaves than the budget
+abbrev pub classes_by_tree : ℕ → Tree → Answer
+classes_by_tree budget tree = if nat_lt budget (failed_leaves tree) then reported Undecided (undecided_text budget) else classes_found tree (found_of tree)
+
+-- for each goal the classes that it names
+abbrev pub images_in : KernelContent → List Goal → List (List ℕ)
+images_in kernel goals = map (image_of kernel.members (length kernel.repository.clauses)) goals
+
+-- goals by the first that names no package, where there is one
+abbrev pub stored_by_unknown : KernelContent → List Goal → ℕ → Option ℕ → Answer
+stored_by_unknown kernel goals budget (Some number) = refused UnknownGoal (unknown_line number (goal_of_number goals number))
+stored_by_unknown kernel goals budget None = classes_by_tree budget (tree_of kernel.repository (images_in kernel goals))
+
+-- what is answered to goals
+abbrev pub stored_answer : List Goal → ℕ → KernelContent → Answer
+stored_answer goals budget kernel = stored_by_unknown kernel goals budget (unknown_goal kernel.members goals)
+
+-- and to a text
+abbrev pub stored_query_answer : List ℕ → List Goal → ℕ → List ℕ → Course
+stored_query_answer path goals budget text = then_on (checked_kernel path text) (λ kernel. answers (stored_answer goals budget kernel))
+
+abbrev pub stored_query_course : List ℕ → List Goal → ℕ → Course
+stored_query_course path goals budget = reads path (stored_query_answer path goals budget)

@@ -1,0 +1,105 @@
+//! The command that asks whether one package for each goal can be installed together.
+ghost use Rattle.std.specs.Prelude.{◌≡◌, ◌<◌, ◌≤◌, length};
+ghost use Rattle.clause_solver.specs.Outcomes.{IsBudget};
+ghost use Rattle.coinst_run.specs.Course.{answers};
+ghost use Rattle.coinst_run.specs.Ending.{Settles, ending_of};
+ghost use Rattle.coinst_run.specs.Follows.{Follows};
+ghost use Rattle.coinst_run.specs.Index.{index_of};
+ghost use Rattle.coinst_run.specs.Query.{goal_of_number, goals_answer, query_answer, query_course};
+ghost use Rattle.coinst_run.specs.QueryMeaning.{QueryIsMeant};
+
+use crate::answer::{Cause, Report, Stop, Verdict};
+use crate::query_text::{no_text, undecided_text, unknown_line, yes_text};
+use crate::stages::suite_at;
+use crate::views::view_of;
+use byte_flow::Shelf;
+use repo_model::{Goal, Suite};
+use std::alloc::Global;
+use suite_compare::{Answer, DecideError, SuiteView, decide};
+
+/// The report on goals that are asked of the index at a path, within a budget of failed leaves.
+pub fn query<F: Shelf>(
+    alloc: Global,
+    shelf: &mut F,
+    path: &str,
+    goals: &[Goal],
+    budget: u64,
+    limit: u32,
+) -> Result<Report, Stop>
+    requires budget { IsBudget budget }
+    requires limit { 0 < limit }
+    ensures { Follows F.contents F.faults F.moved F.is_quiet F.start_gives F.read_gives (query_course path.now goals.now budget limit) shelf.old (ending_of result) shelf.new }
+{
+    let suite = suite_at(alloc, shelf, path)?;
+    query_report(alloc, suite, path, goals, budget, limit)
+}
+
+// The report on goals that are asked of a suite.
+fn query_report(
+    alloc: Global,
+    suite: Suite,
+    path: &str,
+    goals: &[Goal],
+    budget: u64,
+    limit: u32,
+) -> Result<Report, Stop>
+    requires budget { IsBudget budget }
+    requires limit { 0 < limit }
+    ensures { Settles (query_answer path.now goals.now budget limit (index_of suite)) (ending_of result) }
+{
+    let view = view_of(alloc, suite, path, limit)?;
+    goals_report(alloc, &view, goals, budget)
+}
+
+/// The goal of a number, counted from 1.
+pub(crate) fn goal_of_number(goals: &[Goal], number: u64) -> &Goal
+    requires counted { 0 < number }
+    requires within { number ≤ length goals.now }
+    ensures { result.now ≡ goal_of_number goals.now number }
+{
+    &goals[number as usize - 1]
+}
+
+// The report on goals that are asked of a view.
+fn goals_report(
+    alloc: Global,
+    view: &SuiteView,
+    goals: &[Goal],
+    budget: u64,
+) -> Result<Report, Stop>
+    requires { IsBudget budget }
+    ensures { Settles (answers (goals_answer goals.now budget (index_of view.now.suite))) (ending_of result) }
+{
+    match decide(alloc, view, goals, budget) {
+        Ok(
+            Answer::Yes {
+                install,
+                classes: _,
+            },
+        ) => Ok(Report {
+            verdict: Verdict::Done,
+            text: yes_text(alloc, view.suite.packages.as_slice(), install.as_slice())?,
+        }),
+        Ok(Answer::No { log }) => Ok(Report {
+            verdict: Verdict::Negative,
+            text: no_text(alloc, &log)?,
+        }),
+        Ok(Answer::Spent { failed: _ }) => Ok(Report {
+            verdict: Verdict::Undecided,
+            text: undecided_text(alloc, budget)?,
+        }),
+        Err(DecideError::Unknown { goal }) => {
+            let line = unknown_line(alloc, goal, goal_of_number(goals, goal))?;
+            Err(Stop::Refused {
+                cause: Cause::UnknownGoal,
+                line,
+            })
+        }
+        Err(DecideError::Memory) => Err(Stop::Memory),
+    }
+}
+
+/// What the report of a query means; the function does nothing.
+pub(crate) fn query_is_meant()
+    ensures { QueryIsMeant }
+{}

@@ -1,0 +1,210 @@
+//! The command that asks of a stored kernel whether one package for each goal can be installed together.
+ghost use Rattle.std.specs.Prelude.{◌≡◌, ◌++◌, ◌<◌, ◌≤◌, Ok, OnOk, IfOk, IfErr, IfSome, filter, length};
+ghost use Rattle.std.specs.List.{flat_map};
+ghost use Rattle.clause_solver.specs.Outcomes.{IsBudget};
+ghost use Rattle.kernel_text.specs.KernelReads.{content};
+ghost use Rattle.row_book.specs.Book.{repository_of, Sound};
+ghost use Rattle.row_book.specs.Clauses.{numbers};
+ghost use Rattle.row_book.specs.Flags.{flag};
+ghost use Rattle.row_book.specs.Needs.{NeedsFit};
+ghost use Rattle.row_book.specs.Sound.{SoundRepository};
+ghost use Rattle.suite_compare.specs.Asking.{tree_of};
+ghost use Rattle.coinst_run.specs.Answer.{refused};
+ghost use Rattle.coinst_run.specs.Course.{answers};
+ghost use Rattle.coinst_run.specs.Ending.{ending_of, Settles, stop_ending, StopsAt};
+ghost use Rattle.coinst_run.specs.Follows.{Follows};
+ghost use Rattle.coinst_run.specs.Outcome.{answered};
+ghost use Rattle.coinst_run.specs.declared.answer.Cause.TheVariants.{Content};
+ghost use Rattle.coinst_run.specs.StoredQuery.{checked_kernel, class_line, classes_by_tree, classes_text, kernel_fault_line, kernel_fault_text, stored_answer, stored_query_answer, stored_query_course};
+
+use crate::answer::{Cause, Report, Stop, Verdict};
+use crate::lines::{push_at_line, push_number};
+use crate::query::goal_of_number;
+use crate::query_text::{no_text, undecided_text, unknown_line};
+use crate::stages::text_at;
+use byte_flow::Shelf;
+use clause_pool::Pool;
+use clause_solver::{Outcome, search};
+use kernel_text::{ImageError, KernelFault, StoredKernel, read_kernel};
+use repo_model::Goal;
+use row_book::{Book, Needs};
+use std::alloc::{AllocError, Global};
+
+/// The report on goals that are asked of the stored kernel at a path, within a budget of failed leaves.
+pub fn stored_query<F: Shelf>(
+    alloc: Global,
+    shelf: &mut F,
+    path: &str,
+    goals: &[Goal],
+    budget: u64,
+) -> Result<Report, Stop>
+    requires { IsBudget budget }
+    ensures { Follows F.contents F.faults F.moved F.is_quiet F.start_gives F.read_gives (stored_query_course path.now goals.now budget) shelf.old (ending_of result) shelf.new }
+{
+    let text = text_at(alloc, shelf, path)?;
+    stored_report(alloc, text.as_slice(), path, goals, budget)
+}
+
+// The report on goals that are asked of the kernel of a text.
+fn stored_report(
+    alloc: Global,
+    text: &[u8],
+    path: &str,
+    goals: &[Goal],
+    budget: u64,
+) -> Result<Report, Stop>
+    requires budget { IsBudget budget }
+    requires short { length text.now ≤ 1073741824 }
+    ensures { Settles (stored_query_answer path.now goals.now budget text.now) (ending_of result) }
+{
+    let mut pool = Pool::new(alloc)?;
+    let stored = checked_kernel(alloc, &mut pool, path, text)?;
+    goals_report(alloc, &pool, &stored, goals, budget)
+}
+
+// Reads a stored kernel over the pool, or refuses its fault.
+fn checked_kernel(
+    alloc: Global,
+    pool: &mut Pool,
+    path: &str,
+    text: &[u8],
+) -> Result<StoredKernel, Stop>
+    requires { length text.now ≤ 1073741824 }
+    ensures kernel { IfOk result (λ stored. checked_kernel path.now text.now ≡ Ok (content (repository_of pool.new stored.book) stored.members)) }
+    ensures sound { IfOk result (λ stored. Sound pool.new stored.book) }
+    ensures repository { IfOk result (λ stored. SoundRepository (repository_of pool.new stored.book)) }
+    ensures stop { IfErr result (λ stop. StopsAt (checked_kernel path.now text.now) (stop_ending stop)) }
+{
+    match read_kernel(alloc, text, pool) {
+        Ok(stored) => Ok(stored),
+        Err(KernelFault::Line { line }) => Err(faulty(alloc, path, KernelFault::Line { line })),
+        Err(KernelFault::End) => Err(faulty(alloc, path, KernelFault::End)),
+        Err(KernelFault::Range { line }) => Err(faulty(alloc, path, KernelFault::Range { line })),
+        Err(KernelFault::Memory) => Err(Stop::Memory),
+    }
+}
+
+// The stop of a text with a fault.
+fn faulty(alloc: Global, path: &str, fault: KernelFault) -> Stop
+    ensures { IfSome (stop_ending result) (λ outcome. outcome ≡ answered (refused Content (kernel_fault_line path.now fault))) }
+{
+    match kernel_fault_line(alloc, path, fault) {
+        Ok(line) => Stop::Refused {
+            cause: Cause::Content,
+            line,
+        },
+        Err(_) => Stop::Memory,
+    }
+}
+
+// The report on goals that are asked of a stored kernel.
+fn goals_report(
+    alloc: Global,
+    pool: &Pool,
+    stored: &StoredKernel,
+    goals: &[Goal],
+    budget: u64,
+) -> Result<Report, Stop>
+    requires sound { Sound pool.now stored.now.book }
+    requires repository { SoundRepository (repository_of pool.now stored.now.book) }
+    requires budget { IsBudget budget }
+    ensures { Settles (answers (stored_answer goals.now budget (content (repository_of pool.now stored.now.book) stored.now.members))) (ending_of result) }
+{
+    match stored.images(alloc, goals) {
+        Ok(needs) => tree_report(alloc, pool, &stored.book, &needs, budget),
+        Err(ImageError::Unknown { goal }) => {
+            let line = unknown_line(alloc, goal, goal_of_number(goals, goal))?;
+            Err(Stop::Refused {
+                cause: Cause::UnknownGoal,
+                line,
+            })
+        }
+        Err(ImageError::Memory) => Err(Stop::Memory),
+    }
+}
+
+// The report on classes of which one is wanted each.
+fn tree_report(
+    alloc: Global,
+    pool: &Pool,
+    book: &Book,
+    needs: &Needs,
+    budget: u64,
+) -> Result<Report, Stop>
+    requires sound { Sound pool.now book.now }
+    requires repository { SoundRepository (repository_of pool.now book.now) }
+    requires fit { NeedsFit (length book.now.rows) needs.now }
+    requires budget { IsBudget budget }
+    ensures { Settles (answers (classes_by_tree budget (tree_of (repository_of pool.now book.now) needs.now))) (ending_of result) }
+{
+    match search(alloc, pool, book, needs, budget)? {
+        Outcome::Found { chosen } => Ok(Report {
+            verdict: Verdict::Done,
+            text: classes_text(alloc, chosen.as_slice())?,
+        }),
+        Outcome::Refuted { log } => Ok(Report {
+            verdict: Verdict::Negative,
+            text: no_text(alloc, &log)?,
+        }),
+        Outcome::Spent { failed: _ } => Ok(Report {
+            verdict: Verdict::Undecided,
+            text: undecided_text(alloc, budget)?,
+        }),
+    }
+}
+
+// Puts the line of a true class behind the text.
+#[tactic(auto, using(crate::proofs::Texts::appended))]
+fn push_class(out: &mut Vec<u8>, number: u64) -> Result<(), AllocError>
+    ensures { OnOk result (out.new.items ≡ out.old.items ++ class_line number) }
+{
+    out.extend_from_slice(b"class ")?;
+    push_number(out, number)?;
+    out.extend_from_slice(b"\n")
+}
+
+// Puts the lines of the classes whose flags are up behind the text.
+fn push_classes(out: &mut Vec<u8>, chosen: &[bool]) -> Result<(), AllocError>
+    ensures { OnOk result (out.new.items ≡ out.old.items ++ flat_map class_line (filter (flag chosen.now) (numbers (length chosen.now) 0))) }
+{
+    for number in 0..chosen.len() {
+        if chosen[number] {
+            push_class(out, number as u64)?;
+        }
+    }
+    Ok(())
+}
+
+// Yes, and the classes whose flags are up; it fails only where no memory is found.
+#[tactic(auto, using(crate::proofs::Texts::appended), unfolding(crate::specs::StoredQuery::classes_text))]
+fn classes_text(alloc: Global, chosen: &[bool]) -> Result<Vec<u8>, AllocError>
+    ensures { IfOk result (λ text. text.items ≡ classes_text chosen.now) }
+{
+    let mut text = Vec::from_slice(alloc, b"yes\n")?;
+    push_classes(&mut text, chosen)?;
+    Ok(text)
+}
+
+// Puts why a text is not that of a kernel behind the line.
+fn push_kernel_fault(line: &mut Vec<u8>, fault: KernelFault) -> Result<(), AllocError>
+    ensures { OnOk result (line.new.items ≡ line.old.items ++ kernel_fault_text fault) }
+{
+    match fault {
+        KernelFault::Line { line: at } => push_at_line(line, at, b"not a kernel line"),
+        KernelFault::End => line.extend_from_slice(b"no matching end line"),
+        KernelFault::Range { line: at } => push_at_line(line, at, b"no such class"),
+        KernelFault::Memory => line.extend_from_slice(b"out of memory"),
+    }
+}
+
+// The line of the fault of the stored kernel at a path; it fails only where no memory is found.
+#[tactic(auto, using(crate::proofs::Texts::appended), unfolding(crate::specs::StoredQuery::kernel_fault_line))]
+fn kernel_fault_line(alloc: Global, path: &str, fault: KernelFault) -> Result<Vec<u8>, AllocError>
+    ensures { IfOk result (λ line. line.items ≡ kernel_fault_line path.now fault) }
+{
+    let mut line = Vec::from_slice(alloc, path.as_bytes())?;
+    line.extend_from_slice(b": ")?;
+    push_kernel_fault(&mut line, fault)?;
+    line.extend_from_slice(b"\n")?;
+    Ok(line)
+}

@@ -31,7 +31,8 @@ use Rattle.clause_flatten.proofs.Tidied.{kept_same}
 use Rattle.class_merge.specs.Classes.{class_in}
 use Rattle.class_merge.proofs.Classes.{has_class_lem}
 use Rattle.class_merge.proofs.MergedRows.{class_at}
-use Rattle.kernel_rounds.specs.Extracting.{IsExtracted, IsMidway, OnRoundLimit, refusal}
+use Rattle.kernel_rounds.specs.Extracting.{IsMidway, IsReached, OnRoundLimit, refusal}
+use Rattle.kernel_rounds.specs.Moving.{HasSteps}
 use Rattle.kernel_rounds.proofs.Flattened.{flat_size}
 use Rattle.kernel_rounds.proofs.Reached.{kernel_is_lem, repository_test, rounds_sound, same_from}
 use Rattle.kernel_rounds.proofs.Tails.{round_size, thin_tail}
@@ -187,21 +188,21 @@ classes_next R s i classes next made e f g =
     map_map f g (x ∷ xs) = ap (λ z. f (g x) ∷ z) (map_map f g xs)
 
 -- one round more
-pub midway_more : (R : Repository) (limit : ℕ) (old new : Interned) (book made : Book) (classes next compose : List ℕ) (trail more : List Step) (number after : ℕ) →
-    SoundRepository R → IsMidway R limit old book classes trail number →
-    repository_of new made ≡ round (repository_of old book) → next ≡ class_list (flat (repository_of old book)) → trail_meaning new more ≡ trail_meaning old trail ++ round_steps (repository_of old book) →
-    Sound new made → SoundSteps new more → passes (repository_of old book) limit ≡ None → (round (repository_of old book) ≡ repository_of old book → ⊥) →
+pub midway_more : (R : Repository) (limit : ℕ) (start pool grown old new : Interned) (book made : Book) (classes next compose : List ℕ) (steps more : List Step) (number after : ℕ) →
+    SoundRepository R → (m : IsMidway R limit start pool old book classes steps number) →
+    repository_of new made ≡ round (repository_of old book) → next ≡ class_list (flat (repository_of old book)) →
+    HasSteps start grown more (steps_after R m.index ++ round_steps (repository_of old book)) →
+    Sound new made → passes (repository_of old book) limit ≡ None → (round (repository_of old book) ≡ repository_of old book → ⊥) →
     compose ≡ map (class_in next) classes → after ≡ min (number + 1) 4294967295 →
-    IsMidway R limit new made compose more after
-midway_more R limit old new book made classes next compose trail more number after s m r c d sound books pass f g a =
+    IsMidway R limit start grown new made compose more after
+midway_more R limit start pool grown old new book made classes next compose steps more number after s m r c d sound pass f g a =
     let i : ℕ = m.index in
     record {
       index = suc i;
       is = r ∙ ap round m.is ∙ sym (rounds_last i R);
       sound = sound;
       class_of = classes_next R s i classes next compose m.class_of (c ∙ ap (λ z. class_list (flat z)) m.is) g;
-      steps = d ∙ ap₂ (λ x y. x ++ round_steps y) m.steps m.is ∙ sym (steps_last i R);
-      books = books;
+      steps = subst (λ told. HasSteps start grown more told) (ap (λ z. steps_after R i ++ round_steps z) m.is ∙ sym (steps_last i R)) d;
       counted = a ∙ ap (λ z. min (z + 1) 4294967295) m.counted ∙ omega arith;
       passed = λ j l. elim (cases_lt j i) [
         | inl u ↦ m.passed j u
@@ -215,48 +216,53 @@ midway_more R limit old new book made classes next compose trail more number aft
     }
 
 -- and the end
-pub midway_end : (R : Repository) (limit : ℕ) (old new : Interned) (book made : Book) (classes : List ℕ) (trail more : List Step) (number : ℕ) →
-    SoundRepository R → IsMidway R limit old book classes trail number →
-    repository_of new made ≡ round (repository_of old book) → round (repository_of old book) ≡ repository_of old book → trail_meaning new more ≡ trail_meaning old trail →
-    Sound new made → SoundSteps new more → passes (repository_of old book) limit ≡ None →
-    IsExtracted R limit new new made classes more
-midway_end R limit old new book made classes trail more number s m r fixed d sound books pass =
+pub midway_end : (R : Repository) (limit : ℕ) (start pool old new : Interned) (book made : Book) (classes : List ℕ) (steps : List Step) (number : ℕ) →
+    SoundRepository R → IsMidway R limit start pool old book classes steps number →
+    repository_of new made ≡ round (repository_of old book) → round (repository_of old book) ≡ repository_of old book →
+    Sound new made → passes (repository_of old book) limit ≡ None →
+    IsReached R limit start pool new made classes steps
+midway_end R limit start pool old new book made classes steps number s m r fixed sound pass =
     let i : ℕ = m.index in
     let at : i ≡ round_count R = reached R s limit i m.changed (subst (λ z. round z ≡ z) m.is fixed) in
     record {
       is = r ∙ fixed ∙ m.is ∙ ap (rounds R) at;
-      class_of = m.class_of ∙ ap (λ z. map (class_after R z) (packages R)) at;
-      steps = d ∙ m.steps ∙ ap (steps_after R) at;
       sound = sound;
-      books = books;
+      class_of = m.class_of ∙ ap (λ z. map (class_after R z) (packages R)) at;
+      steps = subst (λ z. HasSteps start pool steps (steps_after R z)) at m.steps;
       within = none_passed R s limit i at m.passed (ap (λ z. passes z limit) (sym m.is) ∙ pass);
-      kept = kept_same new;
     }
 
 place_map : (f : ℕ → ℕ) (test : ℕ → Bool) (xs : List ℕ) → place_of test (map f xs) ≡ place_of (λ x. test (f x)) xs
 place_map f test [] = refl
 place_map f test (x ∷ xs) = ap (λ z. cond (test (f x)) 0 (suc z)) (place_map f test xs)
 
-pub midway_refused : (R : Repository) (limit : ℕ) (pool : Interned) (book : Book) (classes : List ℕ) (trail : List Step) (number : ℕ) (fault : FlatError) →
-    SoundRepository R → IsMidway R limit pool book classes trail number → OnLimit (λ passed. passes (repository_of pool book) limit ≡ Some passed) fault →
+pub midway_refused : (R : Repository) (limit : ℕ) (start pool work : Interned) (book : Book) (classes : List ℕ) (steps : List Step) (number : ℕ) (fault : FlatError) →
+    SoundRepository R → IsMidway R limit start pool work book classes steps number → OnLimit (λ passed. passes (repository_of work book) limit ≡ Some passed) fault →
     OnRoundLimit (λ passed. limit_at R limit ≡ Some passed) (refusal number classes fault)
-midway_refused R limit pool book classes trail number (faults.Limit gone p count) s m e =
+midway_refused R limit start pool work book classes steps number (faults.Limit gone p count) s m e =
     let w : Passed = record { gone = gone; «package» = p; count = count } in
     one_passed R s limit m.index w (changing R s limit m.index m.changed) m.passed (ap (λ z. passes z limit) (sym m.is) ∙ e)
     ∙ ap Some (ap₂ (λ (n q : ℕ). record { number = n; gone = gone; «package» = q; count = count }) (sym m.counted)
     (sym (place_map (class_after R m.index) (λ k. eqb k p) (packages R)) ∙ ap (place_of (λ k. eqb k p)) (sym m.class_of)))
-midway_refused R limit pool book classes trail number faults.Memory s m e = tt
+midway_refused R limit start pool work book classes steps number faults.Memory s m e = tt
 
 -- before any round
-pub midway_none : (pool : Interned) (book : Book) (classes : List ℕ) (trail : List Step) (limit size : ℕ) → Sound pool book →
-    size ≡ length book.rows → classes ≡ numbers size 0 → trail ≡ [] → IsMidway (repository_of pool book) limit pool book classes trail 1
-midway_none pool book classes trail limit size s g h t = record {
+steps_none_yet : (pool : Interned) (steps : List Step) → steps ≡ [] → HasSteps pool pool steps []
+steps_none_yet pool steps e = record {
+  meaning = ap (trail_meaning pool) e;
+  books = λ step i. absurd (In_none (subst (λ z. In step z) e i));
+  only = record { rows = λ id low high. absurd (omega arith); clauses = λ id low high. absurd (omega arith) };
+  kept = kept_same pool;
+}
+
+pub midway_none : (pool work : Interned) (book : Book) (classes : List ℕ) (steps : List Step) (limit size : ℕ) → Sound work book →
+    size ≡ length book.rows → classes ≡ numbers size 0 → steps ≡ [] → IsMidway (repository_of work book) limit pool pool work book classes steps 1
+midway_none pool work book classes steps limit size s g h t = record {
   index = 0;
   is = refl;
   sound = s;
-  class_of = h ∙ ap (λ n. numbers n 0) (g ∙ sym (book_size pool book)) ∙ sym (same_list (packages (repository_of pool book)));
-  steps = ap (trail_meaning pool) t;
-  books = λ step i. absurd (In_none (subst (λ z. In step z) t i));
+  class_of = h ∙ ap (λ n. numbers n 0) (g ∙ sym (book_size work book)) ∙ sym (same_list (packages (repository_of work book)));
+  steps = steps_none_yet pool steps t;
   counted = refl;
   passed = λ j l. absurd (omega arith);
   changed = λ j l. absurd (omega arith);
@@ -282,5 +288,6 @@ pub round_changes : (old new : Interned) (book made : Book) (same : Bool) → Is
 round_changes old new book made true is k s r e = (λ _. told_same old new book made is k s r (sym e), λ _. refl)
 round_changes old new book made false is k s r e = (λ f. absurd (let n : ⊥ = cc in n), λ f. absurd (told_other old new book made is k s r (sym e) f))
 
-pub midway_size : (R : Repository) (limit : ℕ) (pool : Interned) (book : Book) (classes : List ℕ) (trail : List Step) (number : ℕ) → IsMidway R limit pool book classes trail number → length classes ≡ length R.clauses
-midway_size R limit pool book classes trail number m = ap length m.class_of ∙ length_numbers (class_after R m.index) (length R.clauses) 0
+pub midway_size : (R : Repository) (limit : ℕ) (start pool work : Interned) (book : Book) (classes : List ℕ) (steps : List Step) (number : ℕ) →
+    IsMidway R limit start pool work book classes steps number → length classes ≡ length R.clauses
+midway_size R limit start pool work book classes steps number m = ap length m.class_of ∙ length_numbers (class_after R m.index) (length R.clauses) 0

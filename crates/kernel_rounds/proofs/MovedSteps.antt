@@ -11,11 +11,13 @@ use Rattle.row_book.specs.declared.trail.Step.{Step}
 use Rattle.row_book.specs.declared.trail.Step.TheVariants.{Flat, Idle, Merge}
 use Rattle.row_book.specs.Sets.{In, here, there}
 use Rattle.row_book.specs.Book.{repository_of, AddsOnly, IsSameBook, Sound}
+use Rattle.row_book.specs.Repository.{Repository}
 use Rattle.row_book.specs.Rounds.{RoundStep, FlatStep, IdleStep, MergeStep}
 use Rattle.row_book.specs.Trail.{SoundStep, SoundSteps, step_meaning, trail_meaning}
 use Rattle.row_book.proofs.Books.{repository_kept, sound_kept}
 use Rattle.row_book.proofs.Lists.{In_append_cases, In_append_left, In_append_right, In_at, In_cases, In_map, In_map_cases, In_none}
-use Rattle.kernel_rounds.specs.Moving.{live_rows, step_rows, trail_rows, AreSameSteps, HasOnly, IsSameStep}
+use Rattle.kernel_rounds.specs.Extracting.{IsExtracted, IsReached}
+use Rattle.kernel_rounds.specs.Moving.{live_rows, step_rows, trail_rows, AreSameSteps, HasOnly, HasSteps, IsSameStep}
 use Rattle.kernel_rounds.proofs.Midways.{sound_step, told_kept}
 
 -- the rows of sound books are of the pool
@@ -174,9 +176,47 @@ carried_steps from start pool next steps all step moved made more is s done one 
           (ap trail_rows e ∙ rows_append made (moved ∷ []) ∙ ap (λ z. trail_rows made ++ z) (append-nil (step_rows moved)));
     }
 
--- the book and the steps of a kernel were carried, one after the other
-pub book_stays : (from middle next : Interned) (book moved : Book) → IsPool middle → Kept middle next → Sound from book → IsSameBook from book middle moved → IsSameBook from book next moved
-book_stays from middle next book moved is k s same = record {
-  repository = repository_kept middle next is k moved (same.sound s) ∙ same.repository;
-  sound = λ t. sound_kept middle next is k moved (same.sound t);
+-- steps behind others
+pub steps_behind : (start old new from : Interned) (steps round moved all : List Step) (told : List RoundStep) → IsPool old → HasSteps start old steps told → SoundSteps from round →
+    AreSameSteps from round new moved → AddsOnly old new (trail_rows moved) → Kept old new → all ≡ steps ++ moved → HasSteps start new all (told ++ trail_meaning from round)
+steps_behind start old new from steps round moved all told is h s same adds k e = record {
+  meaning =
+      ap (trail_meaning new) e ∙ map-append (step_meaning new) steps moved
+      ∙ ap₂ (λ (x y : List RoundStep). x ++ y) (told_kept old new is k steps h.books ∙ h.meaning) same.meaning;
+  books = λ step i. elim (In_append_cases steps moved step (subst (λ z. In step z) e i)) [
+    | inl j ↦ sound_step old new is k step (h.books step j)
+    | inr j ↦ same.sound s step j
+  ];
+  only =
+      adds_both start old new (trail_rows steps) (trail_rows moved) (trail_rows all) h.only adds k (steps_within old steps h.books)
+      (ap trail_rows e ∙ rows_append steps moved);
+  kept = kept_kept start old new h.kept k;
 }
+
+-- the kernel's book behind the steps
+pub extracted_behind : (R : Repository) (limit : ℕ) (start old new work : Interned) (book made : Book) (classes : List ℕ) (steps : List Step) → IsPool old →
+    IsReached R limit start old work book classes steps → IsSameBook work book new made → Kept old new → IsExtracted R limit start new made classes steps
+extracted_behind R limit start old new work book made classes steps is r same k = record {
+  is = same.repository ∙ r.is;
+  class_of = r.class_of;
+  steps = told_kept old new is k steps r.steps.books ∙ r.steps.meaning;
+  sound = same.sound r.sound;
+  books = λ step i. sound_step old new is k step (r.steps.books step i);
+  within = r.within;
+  kept = kept_kept start old new r.steps.kept k;
+}
+
+pub live_behind : (start old new : Interned) (made : Book) (steps : List Step) (told : List RoundStep) → HasSteps start old steps told → AddsOnly old new made.rows → Kept old new →
+    AddsOnly start new (live_rows made steps)
+live_behind start old new made steps told h adds k =
+    let both : AddsOnly start new (trail_rows steps ++ made.rows) =
+    adds_both start old new (trail_rows steps) made.rows (trail_rows steps ++ made.rows) h.only adds k (steps_within old steps h.books) refl in
+    let swapped : (id : ℕ) → In id (trail_rows steps ++ made.rows) → In id (live_rows made steps) =
+    λ id i. elim (In_append_cases (trail_rows steps) made.rows id i) [
+      | inl j ↦ In_append_right made.rows (trail_rows steps) id j
+      | inr j ↦ In_append_left made.rows (trail_rows steps) id j
+    ] in
+    record {
+      rows = λ id low high. swapped id (both.rows id low high);
+      clauses = λ id low high. let w : (row : ℕ) × In row (trail_rows steps ++ made.rows) × In id (ids_at new row) = both.clauses id low high in (w.0, swapped w.0 w.1, w.2);
+    }

@@ -15,18 +15,27 @@ use Rattle.kernel_rounds.specs.declared.extraction.Outcome.{Outcome}
 use Rattle.kernel_rounds.specs.declared.extraction.Outcome.TheVariants.{Done, More}
 use Rattle.kernel_rounds.specs.declared.error.RoundError.{RoundError}
 use Rattle.kernel_rounds.specs.declared.error.RoundError.TheVariants.{Limit, Memory}
+use Rattle.kernel_rounds.specs.Moving.{HasSteps}
 
--- after some rounds, each of which changed something and passed no limit
-pub record IsMidway (R : Repository) (limit : ℕ) (pool : Interned) (book : Book) (classes : List ℕ) (trail : List Step) (number : ℕ) : Type 0 where
+-- after some rounds, each of which changed something and passed no limit: the book is of the pool that the rounds work in, and
+-- the steps are of another
+pub record IsMidway (R : Repository) (limit : ℕ) (start pool work : Interned) (book : Book) (classes : List ℕ) (trail : List Step) (number : ℕ) : Type 0 where
   pub index : ℕ
-  pub is : repository_of pool book ≡ rounds R index
-  pub sound : Sound pool book
+  pub is : repository_of work book ≡ rounds R index
+  pub sound : Sound work book
   pub class_of : classes ≡ map (class_after R index) (packages R)
-  pub steps : trail_meaning pool trail ≡ steps_after R index
-  pub books : SoundSteps pool trail
+  pub steps : HasSteps start pool trail (steps_after R index)
   pub counted : number ≡ min (suc index) 4294967295
   pub passed : (j : ℕ) → j < index → passes (rounds R j) limit ≡ None
   pub changed : (j : ℕ) → j < index → round (rounds R j) ≡ rounds R j → ⊥
+
+-- after as many rounds as change something: the kernel's book is of the pool that the rounds work in, and its trail of another
+pub record IsReached (R : Repository) (limit : ℕ) (start pool work : Interned) (book : Book) (classes : List ℕ) (trail : List Step) : Type 0 where
+  pub is : repository_of work book ≡ kernel R
+  pub sound : Sound work book
+  pub class_of : classes ≡ map (kernel_class R) (packages R)
+  pub steps : HasSteps start pool trail (kernel_steps R)
+  pub within : limit_at R limit ≡ None
 
 -- the kernel with its classes and its trail, whose books are sound
 pub record IsExtracted (R : Repository) (limit : ℕ) (start pool : Interned) (book : Book) (classes : List ℕ) (trail : List Step) : Type 0 where
@@ -56,7 +65,7 @@ refusal number class_of (faults.Limit gone «package» count) = Limit number gon
 refusal number class_of faults.Memory = Memory
 
 -- what a round comes to
-abbrev pub IsOutcome : Repository → ℕ → Interned → Repository → Outcome → Type 0
-IsOutcome R limit pool before (Done made) = IsExtracted R limit pool pool made.book made.class_of made.trail.steps
-IsOutcome R limit pool before (More next) =
-    IsMidway R limit pool next.book next.class_of.items next.trail.steps next.number × (round_count (repository_of pool next.book) < round_count before)
+abbrev pub IsOutcome : Repository → ℕ → Interned → Interned → Interned → Repository → Outcome → Type 0
+IsOutcome R limit start pool work before (Done last) = IsReached R limit start pool work last.book last.class_of.items last.steps
+IsOutcome R limit start pool work before (More next) =
+    IsMidway R limit start pool work next.book next.class_of.items next.steps next.number × (round_count (repository_of work next.book) < round_count before)

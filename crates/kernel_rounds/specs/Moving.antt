@@ -1,10 +1,12 @@
 -- Steps whose books come into another pool, and pools that have some rows alone.
 use Rattle.std.specs.Prelude.{◌≡◌, ℕ, ◌<◌, List, [], ◌∷◌, ◌++◌, length}
-use Rattle.clause_pool.specs.Interned.{Interned, ids_at}
+use Rattle.clause_pool.specs.Interned.{Interned, Kept, ids_at}
 use Rattle.row_book.specs.declared.book.Book.{Book}
 use Rattle.row_book.specs.declared.trail.Step.{Step}
 use Rattle.row_book.specs.declared.trail.Step.TheVariants.{Flat, Idle, Merge}
 use Rattle.row_book.specs.Sets.{In}
+use Rattle.row_book.specs.Book.{AddsOnly}
+use Rattle.row_book.specs.Rounds.{RoundStep}
 use Rattle.row_book.specs.Trail.{SoundStep, SoundSteps, step_meaning, trail_meaning}
 
 -- the rows of the book of a step, if it has one
@@ -37,3 +39,10 @@ pub record HasOnly (pool : Interned) (these : List ℕ) : Type 0 where
   pub of_pool : (id : ℕ) → In id these → id < length pool.rows
   pub rows : (id : ℕ) → id < length pool.rows → In id these
   pub clauses : (id : ℕ) → id < length pool.clauses → (row : ℕ) × In row these × In id (ids_at pool row)
+
+-- the pool has gained steps that tell this, which are sound: the rows of their books with the clauses of these, and no others
+pub record HasSteps (start pool : Interned) (steps : List Step) (told : List RoundStep) : Type 0 where
+  pub meaning : trail_meaning pool steps ≡ told
+  pub books : SoundSteps pool steps
+  pub only : AddsOnly start pool (trail_rows steps)
+  pub kept : Kept start pool

@@ -1,20 +1,19 @@
 //! Extraction of a kernel.
 ghost use Rattle.std.specs.Prelude.{Some, ◌≡◌, ◌<◌, ◌+◌, ◌∷◌, ◌++◌, [], IfErr, IfOk, OnOk, List, eqb, length, map, min, slice_index_or, ℕ};
 ghost use Rattle.clause_pool.specs.Interned.{Interned, Kept};
-ghost use Rattle.row_book.specs.Book.{repository_of, AddsOnly, IsSameBook, Sound};
+ghost use Rattle.row_book.specs.Book.{repository_of, AddsOnly, Sound};
 ghost use Rattle.row_book.specs.Clauses.{numbers};
 ghost use Rattle.row_book.specs.Merging.{place_of};
 ghost use Rattle.row_book.specs.Repository.{Repository};
 ghost use Rattle.row_book.specs.Keeping.{KeepsImages};
-ghost use Rattle.row_book.specs.Rounds.{kernel_image, limit_at, Settled};
+ghost use Rattle.row_book.specs.Rounds.{kernel_image, limit_at, RoundStep, Settled};
 ghost use Rattle.row_book.specs.Sound.{SoundRepository};
-ghost use Rattle.row_book.specs.Trail.{SoundSteps};
 ghost use Rattle.class_merge.specs.Classes.{class_in};
-ghost use Rattle.kernel_rounds.specs.Extracting.{refusal, IsOwnKernel, IsOutcome, IsExtracted, IsMidway, OnRoundLimit};
-ghost use Rattle.kernel_rounds.specs.Moving.{live_rows, AreSameSteps};
+ghost use Rattle.kernel_rounds.specs.Extracting.{refusal, IsOwnKernel, IsOutcome, IsExtracted, IsMidway, IsReached, OnRoundLimit};
+ghost use Rattle.kernel_rounds.specs.Moving.{live_rows, HasSteps};
 
 use crate::error::RoundError;
-use crate::moving::carry_steps;
+use crate::moving::{carry_round, no_steps};
 use crate::rounding::{Rounded, one_round};
 use clause_flatten::FlatError;
 use clause_pool::{NumList, Pool};
@@ -33,13 +32,13 @@ pub struct Kernel {
     pub trail: Trail,
 }
 
-/// A kernel on its way: the book after some rounds, the class of each package in it, the steps so far, and the number of
-/// the next round.
+/// A kernel on its way: the book after some rounds, in the pool that the rounds work in, the class of each package in it,
+/// the steps so far, in the pool that the kernel is for, and the number of the next round.
 #[derive(Drop)]
 struct Progress {
     book: Book,
     class_of: Vec<u32>,
-    trail: Trail,
+    steps: StepList,
     number: u32,
 }
 
@@ -47,7 +46,7 @@ struct Progress {
 #[derive(Drop)]
 enum Outcome {
     /// It changes nothing.
-    Done(Kernel),
+    Done(Progress),
     /// There is more to do.
     More(Progress),
 }
@@ -117,26 +116,34 @@ fn round_error(fault: FlatError, number: u32, class_of: &[u32]) -> RoundError
     }
 }
 
-/// One round more, where it changes something.
-fn advance(alloc: Global, pool: &mut Pool, now: Progress, limit: u32) -> Result<Outcome, RoundError>
-    requires sound { Sound pool.old now.book }
-    requires books { SoundSteps pool.old now.trail.steps }
+/// One round more, where it changes something: its steps come into the other pool at once, so that the next round has its
+/// book alone to work on.
+fn advance(
+    alloc: Global,
+    work: &mut Pool,
+    now: Progress,
+    limit: u32,
+    into: &mut Pool,
+) -> Result<Outcome, RoundError>
+    requires sound { Sound work.old now.book }
     requires limit { 0 < limit }
     requires few { length now.class_of.items < 4294967296 }
-    ensures made { (R : Repository) → SoundRepository R → IsMidway R limit pool.old now.book now.class_of.items now.trail.steps now.number →
-        IfOk result (IsOutcome R limit pool.new (repository_of pool.old now.book)) }
-    ensures passed { (R : Repository) → SoundRepository R → IsMidway R limit pool.old now.book now.class_of.items now.trail.steps now.number →
+    ensures made { (R : Repository) (start : Interned) → SoundRepository R → IsMidway R limit start into.old work.old now.book now.class_of.items now.steps now.number →
+        IfOk result (IsOutcome R limit start into.new work.new (repository_of work.old now.book)) }
+    ensures passed { (R : Repository) (start : Interned) → SoundRepository R → IsMidway R limit start into.old work.old now.book now.class_of.items now.steps now.number →
         IfErr result (OnRoundLimit (λ passed. limit_at R limit ≡ Some passed)) }
+    ensures kept { Kept into.old into.new }
 {
     // What holds of every pool is told by this call alone.
-    pool.clause_count();
+    work.clause_count();
     let Progress {
         book: before,
         class_of: so_far,
-        trail: past,
+        steps,
         number,
     } = now;
-    let made = match one_round(alloc, pool, before, past, limit) {
+    let past = no_steps(alloc);
+    let made = match one_round(alloc, work, before, past, limit) {
         Ok(made) => made,
         Err(fault) => return Err(round_error(fault, number, so_far.as_slice())),
     };
@@ -147,82 +154,91 @@ fn advance(alloc: Global, pool: &mut Pool, now: Progress, limit: u32) -> Result<
         changed,
     } = made;
     if !changed {
-        return Ok(Outcome::Done(Kernel {
+        return Ok(Outcome::Done(Progress {
             book,
-            class_of: Listed::of(so_far),
-            trail,
+            class_of: so_far,
+            steps,
+            number,
         }));
     }
     let next = compose(alloc, so_far.as_slice(), class_of.as_slice())?;
+    let steps = carry_round(alloc, steps, trail.steps.as_slice(), work, into)?;
     Ok(Outcome::More(Progress {
         book,
         class_of: next,
-        trail,
+        steps,
         number: number.saturating_add(1),
     }))
 }
 
 /// The state before any round.
 fn first_state(alloc: Global, book: Book) -> Result<Progress, AllocError>
-    ensures { (pool : Interned) (limit : ℕ) → Sound pool book →
-        IfOk result (λ made. IsMidway (repository_of pool book) limit pool made.book made.class_of.items made.trail.steps made.number) }
+    ensures { (pool work : Interned) (limit : ℕ) → Sound work book →
+        IfOk result (λ made. IsMidway (repository_of work book) limit pool pool work made.book made.class_of.items made.steps made.number) }
 {
     let class_of = own_classes(alloc, book.size())?;
     Ok(Progress {
         book,
         class_of,
-        trail: Trail {
-            steps: StepList::new(alloc),
-        },
+        steps: StepList::new(alloc),
         number: 1,
     })
 }
 
-/// The kernel with its books in another pool, which gains the rows of these books and their clauses alone.
-fn carry_kernel(
+/// The kernel of a book in a pool that each round compacts: rounds go on until one changes nothing, and their steps come into
+/// the other pool, which gains the rows of their books and their clauses alone.
+fn all_rounds(
     alloc: Global,
-    kernel: Kernel,
-    from: &Pool,
+    work: &mut Pool,
+    book: Book,
+    limit: u32,
     into: &mut Pool,
-) -> Result<Kernel, AllocError>
-    requires sound { Sound from.now kernel.book }
-    requires books { SoundSteps from.now kernel.trail.steps }
-    ensures same { IfOk result (λ made. IsSameBook from.now kernel.book into.new made.book) }
-    ensures classes { IfOk result (λ made. made.class_of ≡ kernel.class_of) }
-    ensures steps { IfOk result (λ made. AreSameSteps from.now kernel.trail.steps into.new made.trail.steps) }
-    ensures only { IfOk result (λ made. AddsOnly into.old into.new (live_rows made.book made.trail.steps)) }
+) -> Result<Progress, RoundError>
+    requires sound { Sound work.old book }
+    requires limit { 0 < limit }
+    ensures reached { IfOk result (λ last. IsReached (repository_of work.old book) limit into.old into.new work.new last.book last.class_of.items last.steps) }
+    ensures passed { IfErr result (OnRoundLimit (λ passed. limit_at (repository_of work.old book) limit ≡ Some passed)) }
     ensures kept { Kept into.old into.new }
 {
-    let Kernel {
-        book: own,
-        class_of,
-        trail: past,
-    } = kernel;
-    let book = own.carry(alloc, from, into)?;
-    let steps = carry_steps(alloc, past.steps.as_slice(), from, into)?;
-    Ok(Kernel {
-        book,
-        class_of,
-        trail: Trail { steps },
-    })
-}
-
-/// The kernel of a book in the book's own pool, which each round compacts: rounds go on until one changes nothing.
-fn all_rounds(alloc: Global, pool: &mut Pool, book: Book, limit: u32) -> Result<Kernel, RoundError>
-    requires sound { Sound pool.old book }
-    requires limit { 0 < limit }
-    ensures kernel { IfOk result (λ made. IsExtracted (repository_of pool.old book) limit pool.new pool.new made.book made.class_of made.trail.steps) }
-    ensures passed { IfErr result (OnRoundLimit (λ passed. limit_at (repository_of pool.old book) limit ≡ Some passed)) }
-{
     // What holds of every pool is told by this call alone.
-    pool.clause_count();
+    work.clause_count();
     let mut now = first_state(alloc, book)?;
     loop {
-        match advance(alloc, pool, now, limit)? {
-            Outcome::Done(kernel) => return Ok(kernel),
+        match advance(alloc, work, now, limit, into)? {
+            Outcome::Done(last) => return Ok(last),
             Outcome::More(next) => now = next,
         }
     }
+}
+
+/// The kernel with its book too in the other pool, which gains the rows of the book and their clauses alone.
+fn carry_kernel(
+    alloc: Global,
+    last: Progress,
+    from: &Pool,
+    into: &mut Pool,
+) -> Result<Kernel, AllocError>
+    requires { Sound from.now last.book }
+    ensures kernel { (R : Repository) (limit : ℕ) (start : Interned) → IsReached R limit start into.old from.now last.book last.class_of.items last.steps →
+        IfOk result (λ made. IsExtracted R limit start into.new made.book made.class_of made.trail.steps) }
+    ensures only { (start : Interned) (told : List RoundStep) → HasSteps start into.old last.steps told →
+        IfOk result (λ made. AddsOnly start into.new (live_rows made.book made.trail.steps)) }
+    ensures kept { Kept into.old into.new }
+{
+    // What holds of every pool is told by this call alone.
+    into.clause_count();
+    let Progress {
+        book: own,
+        class_of,
+        steps,
+        ..
+    } = last;
+    let book = own.carry(alloc, from, into)?;
+    Ok(Kernel {
+        book,
+        class_of: Listed::of(class_of),
+        trail: Trail { steps },
+    })
 }
 
 /// The kernel of the book: rounds of flattening, merging, pruning and thinning go on until one changes nothing.
@@ -250,7 +266,7 @@ pub fn extract(
     pool.clause_count();
     let mut own = Pool::new(alloc)?;
     let carried = book.carry(alloc, pool, &mut own)?;
-    let kernel = all_rounds(alloc, &mut own, carried, limit)?;
-    let made = carry_kernel(alloc, kernel, &own, pool)?;
+    let last = all_rounds(alloc, &mut own, carried, limit, pool)?;
+    let made = carry_kernel(alloc, last, &own, pool)?;
     Ok(made)
 }

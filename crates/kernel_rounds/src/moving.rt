@@ -1,15 +1,16 @@
 //! Books and trails that come into another pool, and pools with their live rows alone.
-ghost use Rattle.std.specs.Prelude.{◌≡◌, ℕ, List, IfOk};
+ghost use Rattle.std.specs.Prelude.{◌≡◌, ◌++◌, [], ℕ, List, IfOk};
 ghost use Rattle.clause_pool.specs.Interned.{Interned, Kept};
 ghost use Rattle.clause_pool.specs.Compacting.{Compacts, Knows};
 ghost use Rattle.row_book.specs.Sets.{In};
 ghost use Rattle.row_book.specs.Book.{AddsOnly, IsSameBook, Sound};
-ghost use Rattle.row_book.specs.Trail.{SoundStep, SoundSteps};
-ghost use Rattle.kernel_rounds.specs.Moving.{live_rows, step_rows, trail_rows, AreSameSteps, HasOnly, IsSameStep};
+ghost use Rattle.row_book.specs.Rounds.{RoundStep};
+ghost use Rattle.row_book.specs.Trail.{trail_meaning, SoundStep, SoundSteps};
+ghost use Rattle.kernel_rounds.specs.Moving.{live_rows, step_rows, trail_rows, AreSameSteps, HasOnly, HasSteps, IsSameStep};
 
 use clause_pool::{NumList, Pool, Remap, RowId};
 use listed::Listed;
-use row_book::{Book, Step, StepList};
+use row_book::{Book, Step, StepList, Trail};
 use std::alloc::{AllocError, Global};
 
 /// The same numbers.
@@ -138,7 +139,7 @@ fn carry_step(alloc: Global, step: &Step, from: &Pool, into: &mut Pool) -> Resul
 }
 
 /// The same steps in another pool, which gains the rows of their books and their clauses alone.
-pub(crate) fn carry_steps(
+fn carry_steps(
     alloc: Global,
     steps: &[Step],
     from: &Pool,
@@ -157,4 +158,34 @@ pub(crate) fn carry_steps(
         made.push(moved)?;
     }
     Ok(made)
+}
+
+/// The steps in a pool with those of one more round behind them, which come from another pool: the pool gains the rows of
+/// their books and their clauses alone.
+pub(crate) fn carry_round(
+    alloc: Global,
+    mut steps: StepList,
+    round: &[Step],
+    from: &Pool,
+    into: &mut Pool,
+) -> Result<StepList, AllocError>
+    requires { SoundSteps from.now round.now }
+    ensures steps { (start : Interned) (told : List RoundStep) → HasSteps start into.old steps told →
+        IfOk result (λ made. HasSteps start into.new made (told ++ trail_meaning from.now round.now)) }
+    ensures kept { Kept into.old into.new }
+{
+    // What holds of every pool is told by this call alone.
+    into.clause_count();
+    let moved = carry_steps(alloc, round, from, into)?;
+    steps.append(moved)?;
+    Ok(steps)
+}
+
+/// No steps.
+pub(crate) fn no_steps(alloc: Global) -> Trail
+    ensures { result.steps ≡ [] }
+{
+    Trail {
+        steps: StepList::new(alloc),
+    }
 }

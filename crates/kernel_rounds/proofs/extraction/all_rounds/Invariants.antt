@@ -3,8 +3,8 @@ use Rattle.row_book.specs.Rounds.{round_count}
 use Rattle.kernel_rounds.specs.Extracting.{IsMidway}
 use Rattle.kernel_rounds.proofs.extraction.all_rounds.Given as goal
 
-abbrev pub invariant-loop-kernel : goal.invariant-loop-kernel
-invariant-loop-kernel l = IsMidway (repository_of l.fn.pool l.fn.book) l.limit l.pool l.now.book l.now.class_of.items l.now.trail.steps l.now.number
+abbrev pub invariant-loop-last : goal.invariant-loop-last
+invariant-loop-last l = IsMidway (repository_of l.fn.work l.fn.book) l.limit l.fn.into l.into l.work l.now.book l.now.class_of.items l.now.steps l.now.number
 
-abbrev pub decreases-loop-kernel : goal.decreases-loop-kernel
-decreases-loop-kernel l = round_count (repository_of l.pool l.now.book)
+abbrev pub decreases-loop-last : goal.decreases-loop-last
+decreases-loop-last l = round_count (repository_of l.work l.now.book)

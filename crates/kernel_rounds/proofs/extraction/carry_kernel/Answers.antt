@@ -1,13 +1,14 @@
-use Rattle.std.proofs.Common.{refl}
-use Rattle.kernel_rounds.specs.Moving.{trail_rows}
-use Rattle.kernel_rounds.proofs.MovedSteps.{adds_both, book_stays}
+use Rattle.std.proofs.Common.{subst, sym}
+use Rattle.kernel_rounds.specs.Extracting.{IsExtracted}
+use Rattle.kernel_rounds.proofs.MovedSteps.{extracted_behind, live_behind}
 use Rattle.kernel_rounds.proofs.extraction.carry_kernel.Goals as goal
 
-pub returns-clause-same : goal.returns-clause-same
-returns-clause-same c =
-    book_stays c.args.from.now c.carry.new.into c.carry_steps.new.into c.args.kernel.book c.in_ok-book.book c.in_ok-book.ensures.pool c.carry_steps.ensures.kept c.requires.sound c.in_ok-book.ensures.same
+pub returns-clause-kernel : goal.returns-clause-kernel
+returns-clause-kernel c = λ R limit start r.
+    subst (λ classes. IsExtracted R limit start c.carry.new.into c.in_ok-book.book classes c.args.last.steps) (sym c.of.ensures)
+    (extracted_behind R limit start c.args.into.now c.carry.new.into c.args.from.now c.args.last.book c.in_ok-book.book c.args.last.class_of.items c.args.last.steps
+    c.clause_count.ensures.sound r c.in_ok-book.ensures.same c.carry.ensures.kept)
 
 pub returns-clause-only : goal.returns-clause-only
-returns-clause-only c =
-    adds_both c.args.into.now c.carry.new.into c.carry_steps.new.into c.in_ok-book.book.rows (trail_rows c.in_ok-steps.steps) _ c.in_ok-book.ensures.only c.in_ok-steps.ensures.only
-    c.carry_steps.ensures.kept (c.in_ok-book.ensures.same.sound c.requires.sound).rows.of_pool refl
+returns-clause-only c = λ start told h.
+    live_behind start c.args.into.now c.carry.new.into c.in_ok-book.book c.args.last.steps told h c.in_ok-book.ensures.only c.carry.ensures.kept

@@ -1,22 +1,42 @@
 use Rattle.std.proofs.Common.{◌≡◌, ◌∙◌, ap, subst, None}
+use Rattle.clause_flatten.proofs.Tidied.{kept_kept}
 use Rattle.row_book.specs.Book.{repository_of}
-use Rattle.row_book.specs.Rounds.{kernel, limit_at}
+use Rattle.row_book.specs.Rounds.{kernel, kernel_steps, limit_at}
 use Rattle.row_book.proofs.BookRepositories.{sound_repository}
+use Rattle.kernel_rounds.specs.Extracting.{IsExtracted}
 use Rattle.kernel_rounds.proofs.Again.{extracted_keeps, extracted_own, extracted_settled}
 use Rattle.kernel_rounds.proofs.extraction.extract.Goals as goal
+
+pub returns-in_err-made-clause-kept : goal.returns-in_err-made-clause-kept
+returns-in_err-made-clause-kept c = kept_kept c.args.pool.now c.all_rounds.new.into c.carry_kernel.new.into c.all_rounds.ensures.kept c.carry_kernel.ensures.kept
+
+pub returns-clause-kernel : goal.returns-clause-kernel
+returns-clause-kernel c =
+    subst (λ R. IsExtracted R c.args.limit c.args.pool.now c.carry_kernel.new.into c.in_ok-made.made.book c.in_ok-made.made.class_of c.in_ok-made.made.trail.steps)
+    c.in_ok-carried.ensures.same.repository
+    (c.in_ok-made.ensures.kernel (repository_of c.carry.new.into c.in_ok-carried.carried) c.args.limit c.args.pool.now c.in_ok-last.ensures.reached)
 
 pub returns-clause-keeps : goal.returns-clause-keeps
 returns-clause-keeps c =
     extracted_keeps (repository_of c.args.pool.now c.args.book.now) _ (sound_repository c.args.pool.now c.args.book.now c.clause_count.ensures.sound c.requires.sound)
-    (c.in_ok-made.ensures.same.repository ∙ c.in_ok-kernel.ensures.kernel.is ∙ ap kernel c.in_ok-carried.ensures.same.repository)
+    ((c.in_ok-made.ensures.kernel (repository_of c.carry.new.into c.in_ok-carried.carried) c.args.limit c.args.pool.now c.in_ok-last.ensures.reached).is
+    ∙ ap kernel c.in_ok-carried.ensures.same.repository)
 
 pub returns-clause-settled : goal.returns-clause-settled
 returns-clause-settled c =
     extracted_settled (repository_of c.args.pool.now c.args.book.now) _ (sound_repository c.args.pool.now c.args.book.now c.clause_count.ensures.sound c.requires.sound)
-    (c.in_ok-made.ensures.same.repository ∙ c.in_ok-kernel.ensures.kernel.is ∙ ap kernel c.in_ok-carried.ensures.same.repository)
+    ((c.in_ok-made.ensures.kernel (repository_of c.carry.new.into c.in_ok-carried.carried) c.args.limit c.args.pool.now c.in_ok-last.ensures.reached).is
+    ∙ ap kernel c.in_ok-carried.ensures.same.repository)
 
 pub returns-clause-own : goal.returns-clause-own
 returns-clause-own c =
     extracted_own (repository_of c.args.pool.now c.args.book.now) _ c.args.limit (sound_repository c.args.pool.now c.args.book.now c.clause_count.ensures.sound c.requires.sound)
-    (c.in_ok-made.ensures.same.repository ∙ c.in_ok-kernel.ensures.kernel.is ∙ ap kernel c.in_ok-carried.ensures.same.repository)
-    (subst (λ R. limit_at R c.args.limit ≡ None) c.in_ok-carried.ensures.same.repository c.in_ok-kernel.ensures.kernel.within)
+    ((c.in_ok-made.ensures.kernel (repository_of c.carry.new.into c.in_ok-carried.carried) c.args.limit c.args.pool.now c.in_ok-last.ensures.reached).is
+    ∙ ap kernel c.in_ok-carried.ensures.same.repository)
+    (subst (λ R. limit_at R c.args.limit ≡ None) c.in_ok-carried.ensures.same.repository c.in_ok-last.ensures.reached.within)
+
+pub returns-clause-only : goal.returns-clause-only
+returns-clause-only c = c.in_ok-made.ensures.only c.args.pool.now (kernel_steps (repository_of c.carry.new.into c.in_ok-carried.carried)) c.in_ok-last.ensures.reached.steps
+
+pub returns-clause-kept : goal.returns-clause-kept
+returns-clause-kept c = kept_kept c.args.pool.now c.all_rounds.new.into c.carry_kernel.new.into c.all_rounds.ensures.kept c.carry_kernel.ensures.kept

@@ -29,7 +29,7 @@ use Rattle.suite_compare.proofs.Deciding.{asked_is, asked_range, named_parts, na
 use Rattle.suite_compare.proofs.SuiteKernels.{classes_parts}
 
 -- a set of numbers that are kept is that of the test
-kept : (n : ℕ) (I : NumSet) (xs : List ℕ) → ((m : ℕ) → Is I m → In m xs) → has (filter I xs) n ≡ I n
+pub kept : (n : ℕ) (I : NumSet) (xs : List ℕ) → ((m : ℕ) → Is I m → In m xs) → has (filter I xs) n ≡ I n
 kept n I xs all = same (has (filter I xs) n) (I n) (λ h. (filter_cases I xs n (has_In (filter I xs) n h)).1) (λ h. In_has (filter_from I xs n (all n h) h))
   where
     same : (a b : Bool) → (a ≡ true → b ≡ true) → (b ≡ true → a ≡ true) → a ≡ b

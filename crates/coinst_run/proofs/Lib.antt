@@ -9,6 +9,7 @@ pub mod Texts
 pub mod Installed
 pub mod QueryMeant
 pub mod LimitLines
+pub mod StoredReading
 pub mod StoredKernels
 pub mod Queries
 pub mod SampleMeaning
@@ -17,3 +18,5 @@ pub mod Onward
 pub mod Reported
 pub mod CompareMeant
 pub mod OneInstallation
+pub mod StoredMeant
+pub mod StoredAgrees

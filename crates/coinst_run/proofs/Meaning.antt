@@ -1,5 +1,5 @@
 -- What the kernel text of an index means.
-use Rattle.std.proofs.Common.{◌≡◌, ℕ, ◌<◌, Bool, true, false, cond, nat_lt, List, length, map, slice_index_or, Option, Some, None, refl, sym, ap, subst, ◌∙◌, arith, zero-add}
+use Rattle.std.proofs.Common.{◌≡◌, ℕ, ◌<◌, Bool, true, false, cond, nat_lt, List, length, map, slice_index_or, Option, Some, None, refl, sym, ap, ap₂, subst, ◌∙◌, arith, zero-add}
 use Rattle.std.specs.Prelude.{◌↔◌}
 use Rattle.byte_flow.specs.Flow.{Files}
 use Rattle.relation_fields.specs.declared.packages.Home.{Home}
@@ -19,6 +19,7 @@ use Rattle.row_book.specs.Sets.{Is, NumSet}
 use Rattle.row_book.proofs.Order.{at_numbers}
 use Rattle.kernel_rounds.specs.Laws.{HasImage}
 use Rattle.kernel_rounds.proofs.Reached.{image_is_of_classes_lem, kernel_keeps_lem}
+use Rattle.kernel_text.specs.KernelJson.{kernel_json}
 use Rattle.kernel_text.specs.KernelReads.{KernelReads}
 use Rattle.kernel_text.specs.KernelText.{kernel_text}
 use Rattle.kernel_text.specs.Laws.{IsKernelOf}
@@ -33,18 +34,20 @@ use Rattle.coinst_words.specs.declared.job.Job.TheVariants.{Kernel, Query, Store
 use Rattle.coinst_run.specs.Answer.{reported}
 use Rattle.coinst_run.specs.Course.{answers, then_on}
 use Rattle.coinst_run.specs.Index.{by_fault, home_in, index_in, packages_in}
-use Rattle.coinst_run.specs.IndexKernel.{classed_kernel, index_kernel, members_for, text_for}
+use Rattle.coinst_run.specs.IndexKernel.{classed_kernel, index_kernel, json_for, members_for, text_for}
 use Rattle.coinst_run.specs.Kernel.{by_limit, kernel_answer}
-use Rattle.coinst_run.specs.Meaning.{KernelMeans, MeansJob, StandsOnce, classes_of}
+use Rattle.coinst_run.specs.Meaning.{JsonMeans, KernelMeans, MeansJob, StandsOnce, classes_of}
 use Rattle.coinst_run.specs.Outcome.{answered, course_of, file_limit, outcome_over, over_file, too_long}
 use Rattle.coinst_run.proofs.Classes.{class_within}
 use Rattle.coinst_run.proofs.Kernels.{kernel_fits, suite_sound}
 use Rattle.coinst_run.proofs.CompareMeant.{compare_is_meant}
 use Rattle.coinst_run.proofs.QueryMeant.{query_is_meant}
+use Rattle.coinst_run.proofs.Reported.{index_used, kernel_used}
 use Rattle.coinst_run.proofs.SampleMeaning.{sample_report_means}
+use Rattle.coinst_run.proofs.StoredMeant.{stored_query_is_meant}
 use Rattle.coinst_run.proofs.Members.{class_from, class_parts, stands_once}
 
-formed : (text : List ℕ) → first_fault text ≡ None → Accepted (packages_in text)
+pub formed : (text : List ℕ) → first_fault text ≡ None → Accepted (packages_in text)
 unfolding packages_in
 formed text e = accepted.accepted text e
 
@@ -59,10 +62,10 @@ module _ (home : Home) (stanzas : List PackageFacts) (accepted : Accepted stanza
   abbrev K : Repository
   K = kernel (suite_repository home stanzas)
 
-  fits : IsKernelOf K stanzas classes
+  pub fits : IsKernelOf K stanzas classes
   fits = kernel_fits (suite_repository home stanzas) stanzas (suite_sound home stanzas) (length_clauses home stanzas) accepted
 
-  class_is : (i : ℕ) → i < length stanzas → slice_index_or classes i 0 ≡ kernel_class (suite_repository home stanzas) i
+  pub class_is : (i : ℕ) → i < length stanzas → slice_index_or classes i 0 ≡ kernel_class (suite_repository home stanzas) i
   class_is i l =
       let k : i < length (suite_repository home stanzas).clauses = omega (arith, length_clauses home stanzas) in
       at_numbers (kernel_class (suite_repository home stanzas)) 0 (length (suite_repository home stanzas).clauses) 0 i k ∙ ap (kernel_class (suite_repository home stanzas)) (zero-add i)
@@ -145,11 +148,26 @@ module _ (path : List ℕ) (limit : ℕ) (files : Files) (verdict : Verdict) (re
   kernel_report_means None is e = absurd cc
   kernel_report_means (Some text) is e = (text, is, kernel_fitting text (nat_lt file_limit (length text)) e)
 
+-- as JSON it is that of the kernel for which the text stands
+index_json_means : (text : List ℕ) → first_fault text ≡ None → JsonMeans text (json_for (packages_in text) (index_kernel (home_in text) (packages_in text)))
+unfolding index_kernel classed_kernel
+index_json_means text e =
+    let means : KernelMeans text (text_for (packages_in text) (index_kernel (home_in text) (packages_in text))) = index_kernel_means text e in
+    record { kernel_text = text_for (packages_in text) (index_kernel (home_in text) (packages_in text)); means = means; json = ap₂ kernel_json (sym means.kernel) (sym means.people) }
+
+json_report_means : (path : List ℕ) (limit : ℕ) (files : Files) (verdict : Verdict) (report : List ℕ) → outcome_over files (course_of (Kernel path true limit)) ≡ answered (reported verdict report) →
+    MeansJob (Kernel path true limit) files verdict report
+json_report_means path limit files verdict report e =
+    let first = index_used path (kernel_answer path true limit) files verdict report e in
+    let end = kernel_used path limit (index_in first.0) (λ made. answers (reported Done (json_for (packages_in first.0) made))) files verdict report first.2.1 in
+    let same : json_for (packages_in first.0) (index_kernel (home_in first.0) (packages_in first.0)) ≡ report = cc in
+    (first.0, first.1, subst (JsonMeans first.0) same (index_json_means first.0 first.2.0))
+
 -- what the report on a job means
 pub report_means : (job : Job) (files : Files) (verdict : Verdict) (report : List ℕ) → outcome_over files (course_of job) ≡ answered (reported verdict report) → MeansJob job files verdict report
 report_means (Kernel path false limit) files verdict report e = kernel_report_means path limit files verdict report (files path) refl e
-report_means (Kernel path true limit) files verdict report e = tt
+report_means (Kernel path true limit) files verdict report e = json_report_means path limit files verdict report e
 report_means (Query path goals budget limit) files verdict report e = query_is_meant path goals budget limit files verdict report e
-report_means (StoredQuery path goals budget) files verdict report e = tt
+report_means (StoredQuery path goals budget) files verdict report e = stored_query_is_meant path goals budget files verdict report e
 report_means (Compare old new budget limit) files verdict report e = compare_is_meant old new budget limit files verdict report e
 report_means (Sample seed count) files verdict report e = sample_report_means files verdict report seed count e

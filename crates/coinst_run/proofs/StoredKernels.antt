@@ -15,7 +15,6 @@ use Rattle.kernel_text.specs.Images.{image_of, is_unknown, names_in_class, unkno
 use Rattle.kernel_text.specs.KernelFaults.{IsFault}
 use Rattle.kernel_text.specs.KernelReads.{KernelReads, content}
 use Rattle.kernel_text.proofs.ReadIsWritten.{read_is_written}
-use Rattle.kernel_text.proofs.StoredReading.{reading_is}
 use Rattle.kernel_text.proofs.Written.{numbers_more}
 use Rattle.repo_model.specs.declared.goals.Goal.{Goal}
 use Rattle.row_book.specs.Clauses.{numbers}
@@ -42,6 +41,7 @@ use Rattle.coinst_run.specs.Outcome.{answered}
 use Rattle.coinst_run.specs.Outcome as run
 use Rattle.coinst_run.specs.Query.{goal_of_number}
 use Rattle.coinst_run.specs.QueryText.{no_text, undecided_text, unknown_line}
+use Rattle.coinst_run.proofs.StoredReading.{reading_is}
 use Rattle.coinst_run.specs.StoredQuery.{by_reading, checked_kernel, class_line, classes_by_tree, classes_found, classes_text, kernel_fault_line, stored_answer, stored_by_unknown}
 
 -- a text that was read, and one that was refused

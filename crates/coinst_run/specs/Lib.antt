@@ -23,4 +23,7 @@ pub mod QueryMeaning
 pub mod CompareText
 pub mod Compare
 pub mod CompareMeaning
+pub mod StoredReading
 pub mod StoredQuery
+pub mod StoredMeaning
+pub mod StoredAgrees

@@ -1,11 +1,12 @@
 -- What a printed report means for the files that it came from.
-use Rattle.std.specs.Prelude.{◌≡◌, ℕ, ◌<◌, Bool, true, false, ◌&&◌, ◌↔◌, List, length, Some, None, ⊤}
+use Rattle.std.specs.Prelude.{◌≡◌, ℕ, ◌<◌, Bool, true, false, ◌&&◌, ◌↔◌, List, length, Some, None}
 use Rattle.std.specs.List.{list_any}
 use Rattle.std.specs.Str.{bytes_eq}
 use Rattle.coinst_run.specs.Index.{home_in, packages_in}
 use Rattle.coinst_run.specs.IndexKernel.{index_kernel, members_for}
 use Rattle.coinst_run.specs.Sample.{size_report}
 use Rattle.sample_suite.specs.SampleText.{sample_text}
+use Rattle.kernel_text.specs.KernelJson.{kernel_json}
 use Rattle.kernel_text.specs.KernelReads.{HasOneReading, KernelReads}
 use Rattle.kernel_text.specs.KernelText.{members_of}
 use Rattle.kernel_text.specs.declared.member.Member.{Member}
@@ -20,6 +21,7 @@ use Rattle.byte_flow.specs.Flow.{Files}
 use Rattle.coinst_run.specs.declared.answer.Verdict.{Verdict}
 use Rattle.coinst_run.specs.CompareMeaning.{CompareMeans}
 use Rattle.coinst_run.specs.QueryMeaning.{QueryMeans}
+use Rattle.coinst_run.specs.StoredMeaning.{StoredMeans}
 use Rattle.row_book.specs.Repository.{Repository, Coinst}
 use Rattle.row_book.specs.Rounds.{kernel}
 use Rattle.row_book.specs.Sets.{NumSet, Is}
@@ -59,18 +61,24 @@ pub record KernelMeans (text printed : List ℕ) : Type 0 where
   pub keeps : (S : NumSet) → ((n : ℕ) → Is S n → n < length (packages_in text)) →
       (CoinstStanzas (home_in text) (packages_in text) S ↔ Coinst repository (classes_of (packages_in text) members S))
 
+-- A kernel text has this meaning for the index, and the printed bytes are the JSON of the repository and the members that it reads
+-- for.
+pub record JsonMeans (text printed : List ℕ) : Type 0 where
+  pub kernel_text : List ℕ
+  pub means : KernelMeans text kernel_text
+  pub json : printed ≡ kernel_json means.repository means.members
+
 -- The text is an index without a fault, and the printed line has the numbers of its kernel.
 pub record SizeMeans (text printed : List ℕ) : Type 0 where
   pub accepted : first_fault text ≡ None
   pub line : printed ≡ size_report (packages_in text) (index_kernel (home_in text) (packages_in text))
 
--- what a printed report means for the job that it was asked for, by its verdict; of a kernel as JSON, and of what a stored kernel
--- answers, the bytes are told and no more
+-- what a printed report means for the job that it was asked for, by its verdict
 abbrev pub MeansJob : Job → Files → Verdict → List ℕ → Type 0
 MeansJob (Kernel path false limit) files verdict printed = (text : List ℕ) × (files path ≡ Some text) × KernelMeans text printed
-MeansJob (Kernel path true limit) files verdict printed = ⊤
+MeansJob (Kernel path true limit) files verdict printed = (text : List ℕ) × (files path ≡ Some text) × JsonMeans text printed
 MeansJob (Query index goals budget limit) files verdict printed = (text : List ℕ) × (files index ≡ Some text) × QueryMeans text goals budget verdict printed
-MeansJob (StoredQuery kernel goals budget) files verdict printed = ⊤
+MeansJob (StoredQuery path goals budget) files verdict printed = (text : List ℕ) × (files path ≡ Some text) × StoredMeans text goals budget verdict printed
 MeansJob (Compare old new budget limit) files verdict printed =
     (first second : List ℕ) × (files old ≡ Some first) × (files new ≡ Some second) × CompareMeans first second budget verdict printed
 MeansJob (Sample seed count) files verdict printed = SizeMeans (sample_text seed count) printed

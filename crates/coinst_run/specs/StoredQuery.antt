@@ -6,11 +6,9 @@ use Rattle.kernel_text.specs.Images.{image_of, unknown_goal}
 use Rattle.kernel_text.specs.KernelReads.{KernelContent}
 use Rattle.kernel_text.specs.declared.fault.KernelFault.{KernelFault}
 use Rattle.kernel_text.specs.declared.fault.KernelFault.TheVariants.{Line, End, Range, Memory}
-use Rattle.kernel_text.proofs.StoredReading.{stored_reading}
 use Rattle.repo_model.specs.declared.goals.Goal.{Goal}
 use Rattle.row_book.specs.Clauses.{numbers}
 use Rattle.row_book.specs.Flags.{flag}
-use Rattle.row_book.specs.Repository.{Repository}
 use Rattle.search_terms.specs.Tree.{Tree, failed_leaves, found_of, log_of}
 use Rattle.suite_compare.specs.Asking.{tree_of}
 use Rattle.coinst_run.specs.declared.answer.Cause.TheVariants.{Content, UnknownGoal}
@@ -20,6 +18,7 @@ use Rattle.coinst_run.specs.Course.{Course, answers, reads, then_on}
 use Rattle.coinst_run.specs.Lines.{about, at_line, line_of_text}
 use Rattle.coinst_run.specs.Query.{goal_of_number}
 use Rattle.coinst_run.specs.QueryText.{no_text, undecided_text, unknown_line}
+use Rattle.coinst_run.specs.StoredReading.{stored_reading}
 
 -- why a text is not that of a kernel
 abbrev pub kernel_fault_text : KernelFault → List ℕ
@@ -32,7 +31,7 @@ unfoldable pub kernel_fault_line : List ℕ → KernelFault → List ℕ
 kernel_fault_line path fault = about path (kernel_fault_text fault)
 
 -- A stored kernel by the reading of its text: its classes and their packages, or its fault. `stored_reading` is the reading and
--- the fault of the grammar, and nothing else: the law `texts_are_judged` of kernel_text, with the lemma `reading_is` beside it.
+-- the fault of the grammar, and nothing else: the law `texts_are_told`.
 abbrev pub by_reading : List ℕ → Result KernelContent KernelFault → Stage KernelContent
 by_reading path (Ok kernel) = Ok kernel
 by_reading path (Err fault) = Err (refused Content (kernel_fault_line path fault))
@@ -44,9 +43,13 @@ checked_kernel path text = by_reading path (stored_reading text)
 abbrev pub class_line : ℕ → List ℕ
 class_line n = line_of_text (codes "class " ++ decimal n)
 
+-- yes, and these classes
+abbrev pub listed_classes : List ℕ → List ℕ
+listed_classes classes = line_of_text (codes "yes") ++ flat_map class_line classes
+
 -- yes, and the classes whose flags are up
 unfoldable pub classes_text : List Bool → List ℕ
-classes_text chosen = line_of_text (codes "yes") ++ flat_map class_line (filter (flag chosen) (numbers (length chosen) 0))
+classes_text chosen = listed_classes (filter (flag chosen) (numbers (length chosen) 0))
 
 -- yes and the true classes, where the tree finds some, and otherwise no and the log of the tree
 abbrev pub classes_found : Tree → Option (List Bool) → Answer

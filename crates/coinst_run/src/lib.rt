@@ -6,6 +6,7 @@ mod compare;
 mod compare_text;
 mod deliver;
 mod kernel;
+mod laws;
 mod lines;
 mod query;
 mod query_text;
@@ -19,5 +20,9 @@ mod top;
 mod views;
 
 pub use coinst_words::{Job, PathText, WordError, read_words};
+pub use laws::{
+    comparison_is_meant, query_is_meant, stored_answers_as_index, stored_images_are_of_index,
+    stored_query_is_meant, texts_are_told,
+};
 pub use status::Status;
 pub use top::run;

@@ -6,7 +6,6 @@ ghost use Rattle.coinst_run.specs.Ending.{Settles, ending_of};
 ghost use Rattle.coinst_run.specs.Follows.{Follows};
 ghost use Rattle.coinst_run.specs.Index.{index_of};
 ghost use Rattle.coinst_run.specs.Query.{goal_of_number, goals_answer, query_answer, query_course};
-ghost use Rattle.coinst_run.specs.QueryMeaning.{QueryIsMeant};
 
 use crate::answer::{Cause, Report, Stop, Verdict};
 use crate::query_text::{no_text, undecided_text, unknown_line, yes_text};
@@ -98,8 +97,3 @@ fn goals_report(
         Err(DecideError::Memory) => Err(Stop::Memory),
     }
 }
-
-/// What the report of a query means; the function does nothing.
-pub(crate) fn query_is_meant()
-    ensures { QueryIsMeant }
-{}

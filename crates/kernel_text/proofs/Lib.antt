@@ -29,7 +29,6 @@ pub mod Decisions
 pub mod Candidates
 pub mod Judged
 pub mod OneFault
-pub mod StoredReading
 pub mod JsonTexts
 pub mod GoalImages
 pub mod ReadBack

@@ -1,7 +1,5 @@
--- What a text is read as, as a function: the kernel that it is the text of, or its first fault. Whether a text is read can be
--- decided line by line; what it is read as is told by `reading_is` below and by the law `texts_are_judged`, and not by how it
--- was decided.
-use Rattle.std.proofs.Common.{◌≡◌, ◌↔◌, ℕ, List, Result, Ok, Err, ap, ap₂, subst}
+-- What a text is read as.
+use Rattle.std.proofs.Common.{◌≡◌, ℕ, List, Result, Ok, Err, ap, ap₂, subst}
 use Rattle.row_book.specs.Repository.{Repository}
 use Rattle.kernel_text.specs.declared.fault.KernelFault.{KernelFault}
 use Rattle.kernel_text.specs.declared.member.Member.{Member}
@@ -10,18 +8,7 @@ use Rattle.kernel_text.specs.Laws.{IsFaultOf}
 use Rattle.kernel_text.proofs.Judged.{Judgement, a_fault, a_kernel, judgement}
 use Rattle.kernel_text.proofs.OneFault.{kernel_excludes, one_fault}
 use Rattle.kernel_text.proofs.OneReading.{one_reading}
-
-told_by : (text : List ℕ) → Judgement text → Result KernelContent KernelFault
-told_by text (a_kernel R members reads) = Ok (content R members)
-told_by text (a_fault fault other is) = Err fault
-
-pub stored_reading : List ℕ → Result KernelContent KernelFault
-stored_reading text = told_by text (judgement text)
-
--- the text is read as a kernel exactly where the grammar reads it so, and has exactly the fault of the grammar
-pub record ReadingIs (text : List ℕ) : Type 0 where
-  pub kernels : (R : Repository) (members : List Member) → (KernelReads text R members ↔ (stored_reading text ≡ Ok (content R members)))
-  pub faults : (fault : KernelFault) → (IsFaultOf text fault ↔ (stored_reading text ≡ Err fault))
+use Rattle.coinst_run.specs.StoredReading.{ReadingIs, stored_reading, told_by}
 
 -- the content of a reading, or else the other
 content_or : Result KernelContent KernelFault → KernelContent → KernelContent
@@ -30,14 +17,13 @@ content_or (Err fault) other = other
 
 module _ (text : List ℕ) where
   told_kernel : (j : Judgement text) (R : Repository) (members : List Member) → KernelReads text R members → told_by text j ≡ Ok (content R members)
-  unfolding told_by
   told_kernel (a_kernel S others reads) R members k =
       let same : (S ≡ R) × (others ≡ members) = one_reading text S R others members reads k in
       ap₂ (λ T ms. Ok (content T ms)) same.0 same.1
   told_kernel (a_fault fault other is) R members k = absurd (kernel_excludes text R members fault k other is)
 
   kernel_told : (j : Judgement text) (R : Repository) (members : List Member) → told_by text j ≡ Ok (content R members) → KernelReads text R members
-  unfolding told_by content_or
+  unfolding content_or
   kernel_told (a_kernel S others reads) R members e =
       let same : S ≡ R = ap (λ r. (content_or r (content R members)).repository) e in
       let all : others ≡ members = ap (λ r. (content_or r (content R members)).members) e in
@@ -45,12 +31,10 @@ module _ (text : List ℕ) where
   kernel_told (a_fault fault other is) R members e = let f : ⊥ = cc in absurd f
 
   told_fault : (j : Judgement text) (f : KernelFault) → IsFaultOf text f → told_by text j ≡ Err f
-  unfolding told_by
   told_fault (a_kernel S others reads) f h = absurd (kernel_excludes text S others f reads h.0 h.1)
   told_fault (a_fault fault other is) f h = ap Err (one_fault text fault f other h.0 is h.1)
 
   fault_told : (j : Judgement text) (f : KernelFault) → told_by text j ≡ Err f → IsFaultOf text f
-  unfolding told_by
   fault_told (a_kernel S others reads) f e = let g : ⊥ = cc in absurd g
   fault_told (a_fault fault other is) f e = let same : fault ≡ f = cc in subst (IsFaultOf text) same (other, is)
 

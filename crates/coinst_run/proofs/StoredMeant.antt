@@ -1,0 +1,231 @@
+-- What the report of a query of a stored kernel means.
+use Rattle.std.proofs.Common.{◌≡◌, ℕ, ◌+◌, ◌<◌, ◌≤◌, Bool, true, false, cond, ◌&&◌, eqb, eqb-true, eq-eqb, nat_lt, List, [], ◌∷◌, ◌++◌, length, filter, Option, Some, None, Result, Ok, Err, inl, inr, refl, sym, ap, ap₂, subst, ◌∙◌, append_assoc, arith}
+use Rattle.std.specs.Prelude.{codes}
+use Rattle.std.specs.Fmt.{decimal}
+use Rattle.std.specs.List.{flat_map, list_any, position_from}
+use Rattle.std.proofs.Math.Path.{fun_ext}
+use Rattle.std.proofs.lemmas.Bool.{and_from, and_parts, both_ways, cases_Bool, cases_lt, ltb-true}
+use Rattle.std.proofs.lemmas.List.{append_cancel_left, get_or_past}
+use Rattle.byte_flow.specs.Flow.{Files}
+use Rattle.kernel_text.specs.declared.fault.KernelFault.{KernelFault}
+use Rattle.kernel_text.specs.declared.member.Member.{Member}
+use Rattle.kernel_text.specs.Images.{image_of, is_named_by, is_unknown, names_in_class, unknown_goal}
+use Rattle.kernel_text.specs.KernelReads.{KernelContent, KernelReads}
+use Rattle.kernel_text.specs.KernelText.{IsWritable, members_of}
+use Rattle.kernel_text.specs.Reading.{number_limit}
+use Rattle.kernel_text.proofs.OneReading.{one_reading}
+use Rattle.kernel_text.proofs.ReadIsWritten.{read_is_written}
+use Rattle.kernel_text.proofs.Retold.{in_flat_cases}
+use Rattle.kernel_text.proofs.Spelling.{number_same}
+use Rattle.repo_model.specs.declared.goals.Goal.{Goal}
+use Rattle.row_book.specs.Clauses.{numbers}
+use Rattle.row_book.specs.Flags.{flag}
+use Rattle.row_book.specs.Repository.{Healthy}
+use Rattle.row_book.specs.Sets.{Hit, HitsAll, In, Is, NumSet, has, here, there}
+use Rattle.row_book.proofs.Lists.{In_cases, In_has, In_map, In_map_cases, In_none, any_cases, any_from, ascending_filter, filter_cases, filter_from}
+use Rattle.row_book.proofs.Order.{numbers_ascending, numbers_from, numbers_parts}
+use Rattle.search_terms.specs.Closure.{InRange}
+use Rattle.search_terms.specs.Form.{form}
+use Rattle.search_terms.specs.Laws.{Solves}
+use Rattle.search_terms.specs.Tree.{IsTree, Tree, failed_leaves, found_of, log_of}
+use Rattle.search_terms.proofs.Certificates.{tree_derives}
+use Rattle.search_terms.proofs.Computed.{search_tree_is}
+use Rattle.search_terms.proofs.Exists.{cases_Option}
+use Rattle.search_terms.proofs.Found.{finds_healthy}
+use Rattle.suite_compare.specs.Asking.{tree_of}
+use Rattle.suite_compare.proofs.Ranged.{formula_ranged}
+use Rattle.coinst_run.specs.declared.answer.Verdict.{Verdict}
+use Rattle.coinst_run.specs.declared.answer.Verdict.TheVariants.{Done, Negative, Undecided}
+use Rattle.coinst_run.specs.Answer.{reported}
+use Rattle.coinst_run.specs.Course.{answers, then_on}
+use Rattle.coinst_run.specs.Lines.{line_of_text}
+use Rattle.coinst_run.specs.Outcome.{answered, file_limit, outcome_over, over_file, too_long}
+use Rattle.coinst_run.specs.QueryText.{no_text, undecided_text}
+use Rattle.coinst_run.specs.StoredMeaning.{HasClassFor, MeansStored, ServesStored, StoredMeans, StoredQueryIsMeant}
+use Rattle.coinst_run.specs.StoredReading.{stored_reading}
+use Rattle.coinst_run.specs.StoredQuery.{by_reading, class_line, classes_by_tree, classes_found, classes_text, images_in, stored_answer, stored_by_unknown, stored_query_answer}
+use Rattle.coinst_run.proofs.Installed.{kept}
+use Rattle.coinst_run.proofs.StoredReading.{reading_is}
+use Rattle.coinst_run.proofs.StoredKernels.{images_fit}
+
+-- where no goal is unknown, each names a package
+named_one : (members : List Member) (goal : Goal) → is_unknown members goal ≡ false → (m : Member) × In m members × (is_named_by goal m ≡ true)
+named_one members goal e = elim (cases_Bool (list_any (is_named_by goal) members)) [
+  | inl t ↦ any_cases (is_named_by goal) members t
+  | inr f ↦ absurd (both_ways (is_unknown members goal) e (rw f refl))
+]
+
+all_known : (members : List Member) (number : ℕ) (goals : List Goal) → position_from (is_unknown members) number goals ≡ None → (goal : Goal) → In goal goals → (m : Member) × In m members × (is_named_by goal m ≡ true)
+all_known members number [] e goal i = absurd (In_none i)
+all_known members number (g ∷ gs) e goal i = elim (cases_Bool (is_unknown members g)) [
+  | inl t ↦ absurd (cc (rw t at e))
+  | inr f ↦ elim (In_cases i) [
+    | inl same ↦ named_one members goal (subst (λ k. is_unknown members k ≡ false) (sym same) f)
+    | inr later ↦ all_known members (number + 1) gs (rw f at e) goal later
+  ]
+]
+
+-- no two lists of classes have one text
+one_line : (m n : ℕ) (R S : List ℕ) → m < number_limit → n < number_limit → class_line m ++ R ≡ class_line n ++ S → (m ≡ n) × (R ≡ S)
+one_line m n R S l k e =
+    let A : List ℕ = codes "class " in
+    let F : List ℕ = 10 ∷ [] in
+    let pieces : (j : ℕ) (T : List ℕ) → class_line j ++ T ≡ A ++ (decimal j ++ (F ++ T)) = λ j T. append_assoc (A ++ decimal j) F T ∙ append_assoc A (decimal j) (F ++ T) in
+    let w = number_same m n (F ++ R) (F ++ S) l k (inr refl) (inr refl) (append_cancel_left A (decimal m ++ (F ++ R)) (decimal n ++ (F ++ S)) (sym (pieces m R) ∙ e ∙ pieces n S)) in
+    (w.0, append_cancel_left F R S w.1)
+
+one_list : (xs ys : List ℕ) → ((n : ℕ) → In n xs → n < number_limit) → ((n : ℕ) → In n ys → n < number_limit) → flat_map class_line xs ≡ flat_map class_line ys → xs ≡ ys
+one_list [] [] f g e = refl
+one_list [] (y ∷ ys) f g e = absurd (cc e)
+one_list (x ∷ xs) [] f g e = absurd (cc e)
+one_list (x ∷ xs) (y ∷ ys) f g e =
+    let w = one_line x y (flat_map class_line xs) (flat_map class_line ys) (f x here) (g y here) e in
+    ap₂ (λ z zs. z ∷ zs) w.0 (one_list xs ys (λ n i. f n (there i)) (λ n i. g n (there i)) w.1)
+
+-- a flag that is up is one of the flags
+flag_inside : (flags : List Bool) (n : ℕ) → flag flags n ≡ true → n < length flags
+flag_inside flags n h = elim (cases_lt n (length flags)) [ inl l ↦ l | inr g ↦ absurd (both_ways (flag flags n) (get_or_past flags n false g) h) ]
+
+-- the classes whose flags are up
+abbrev raised : List Bool → List ℕ
+raised chosen = filter (flag chosen) (numbers (length chosen) 0)
+
+raised_same : (chosen : List Bool) → has (raised chosen) ≡ flag chosen
+raised_same chosen = fun_ext (λ n. kept n (flag chosen) (numbers (length chosen) 0) (λ m h. let l = flag_inside chosen m h in numbers_from (length chosen) 0 m (omega arith) (omega arith)))
+
+-- a kernel that the format can write
+module _ (kernel : KernelContent) (writable : IsWritable kernel.repository kernel.members) (goals : List Goal) where
+  abbrev size : ℕ
+  size = length kernel.repository.clauses
+
+  abbrev images : List (List ℕ)
+  images = images_in kernel goals
+
+  abbrev tree : Tree
+  tree = tree_of kernel.repository images
+
+  member_inside : (m : Member) → In m kernel.members → m.class < size
+  member_inside m i =
+      let w : (k : ℕ) × In k (numbers size 0) × In m (members_of kernel.members k) = in_flat_cases (members_of kernel.members) (numbers size 0) m (subst (λ ms. In m ms) writable.by_class i) in
+      let same : m.class ≡ w.0 = eqb-true m.class w.0 (filter_cases (λ (o : Member). eqb o.class w.0) kernel.members m w.2).1 in
+      let p : (0 ≤ w.0) × (w.0 < 0 + size) = numbers_parts size 0 w.0 w.1 in
+      omega (arith, same, p.1)
+
+  -- a set has a class for a goal exactly where it hits the classes that the goal names
+  class_for : (I : NumSet) (goal : Goal) → Hit (Is I) (image_of kernel.members size goal) → HasClassFor kernel.members I goal
+  unfolding image_of
+  class_for I goal h =
+      let named : names_in_class kernel.members goal h.by ≡ true = (filter_cases (names_in_class kernel.members goal) (numbers size 0) h.by h.inside).1 in
+      let w : (m : Member) × In m kernel.members × ((eqb h.by m.class && is_named_by goal m) ≡ true) = any_cases (λ (m : Member). eqb h.by m.class && is_named_by goal m) kernel.members named in
+      let p : (eqb h.by w.0.class ≡ true) × (is_named_by goal w.0 ≡ true) = and_parts (eqb h.by w.0.class) (is_named_by goal w.0) w.2 in
+      record { by = w.0; listed = w.1; named = p.1; alive = subst (Is I) (eqb-true h.by w.0.class p.0) h.alive }
+
+  hit_for : (I : NumSet) (goal : Goal) → HasClassFor kernel.members I goal → Hit (Is I) (image_of kernel.members size goal)
+  unfolding image_of
+  hit_for I goal h =
+      let l : h.by.class < size = member_inside h.by h.listed in
+      record {
+        by = h.by.class;
+        inside =
+            filter_from (names_in_class kernel.members goal) (numbers size 0) h.by.class (numbers_from size 0 h.by.class (omega arith) (omega arith))
+            (any_from (λ (m : Member). eqb h.by.class m.class && is_named_by goal m) kernel.members h.by h.listed (and_from (eqb h.by.class h.by.class) (is_named_by goal h.by) (eq-eqb h.by.class h.by.class refl) h.named));
+        alive = h.alive;
+      }
+
+  serves_from : (I : NumSet) → Healthy kernel.repository I → HitsAll I images → ServesStored kernel goals I
+  serves_from I healthy hits = record {
+    healthy = healthy;
+    each = λ goal i. class_for I goal (hits (image_of kernel.members size goal) (In_map (image_of kernel.members size) goals goal i));
+  }
+
+  hits_from : (I : NumSet) → ServesStored kernel goals I → HitsAll I images
+  hits_from I s c i =
+      let g = In_map_cases (image_of kernel.members size) goals c i in
+      subst (λ d. Hit (Is I) d) (sym g.2) (hit_for I g.0 (s.each g.0 g.1))
+
+  range : InRange size (form kernel.repository images)
+  range = formula_ranged kernel.repository images writable.sound (images_fit kernel.members size goals)
+
+  is_tree : IsTree size (form kernel.repository images) [] tree
+  unfolding tree_of
+  is_tree = search_tree_is size (form kernel.repository images) range
+
+  module _ (budget : ℕ) (verdict : Verdict) (report : List ℕ) where
+    means_as : (told : Verdict) (bytes : List ℕ) → reported told bytes ≡ reported verdict report → MeansStored kernel goals budget told bytes → MeansStored kernel goals budget verdict report
+    means_as told bytes e m =
+        let v : told ≡ verdict = cc in
+        let b : bytes ≡ report = cc in
+        subst (λ w. MeansStored kernel goals budget w report) v (subst (MeansStored kernel goals budget told) b m)
+
+    yes_means : (chosen : List Bool) → found_of tree ≡ Some chosen → MeansStored kernel goals budget Done (classes_text chosen)
+    unfolding classes_text
+    yes_means chosen some =
+        let solves : Solves kernel.repository images (flag chosen) = (finds_healthy kernel.repository images tree range is_tree).1 chosen some in
+        let serves : ServesStored kernel goals (has (raised chosen)) = subst (ServesStored kernel goals) (sym (raised_same chosen)) (serves_from (flag chosen) solves.0 solves.1) in
+        let few : size < number_limit = writable.few_classes in
+        record {
+          classes = raised chosen;
+          reads = refl;
+          once = λ other inside same.
+              one_list other (raised chosen) (λ n i. let l = inside n i in omega arith) (λ n i. let l = serves.healthy.packages n (In_has i) in omega arith)
+              (append_cancel_left (line_of_text (codes "yes")) (flat_map class_line other) (flat_map class_line (raised chosen)) (sym same));
+          order = ascending_filter (flag chosen) (numbers (length chosen) 0) (numbers_ascending (length chosen) 0);
+          serves = serves;
+        }
+
+    no_means : found_of tree ≡ None → MeansStored kernel goals budget Negative (no_text (log_of [] tree))
+    no_means none = record {
+      refuted = λ w.
+          let found = (finds_healthy kernel.repository images tree range is_tree).0 (w.whole, w.serves.healthy, hits_from w.whole w.serves) in
+          let there_it_is = found.1 in
+          cc (none, there_it_is);
+      log = log_of [] tree;
+      reads = refl;
+      derives = tree_derives size (form kernel.repository images) tree is_tree none;
+    }
+
+    found_means : classes_found tree (found_of tree) ≡ reported verdict report → MeansStored kernel goals budget verdict report
+    found_means e = elim (cases_Option (found_of tree)) [
+      | inr some ↦ means_as Done (classes_text some.0) (sym (ap (classes_found tree) some.1) ∙ e) (yes_means some.0 some.1)
+      | inl none ↦ means_as Negative (no_text (log_of [] tree)) (sym (ap (classes_found tree) none) ∙ e) (no_means none)
+    ]
+
+    tree_means : classes_by_tree budget tree ≡ reported verdict report → MeansStored kernel goals budget verdict report
+    tree_means e = elim (cases_Bool (nat_lt budget (failed_leaves tree))) [
+      | inl t ↦
+          means_as Undecided (undecided_text budget) (sym (ap (λ b. cond b (reported Undecided (undecided_text budget)) (classes_found tree (found_of tree))) t) ∙ e)
+          record { reads = refl; spent = ltb-true budget (failed_leaves tree) t }
+      | inr f ↦ found_means (sym (ap (λ b. cond b (reported Undecided (undecided_text budget)) (classes_found tree (found_of tree))) f) ∙ e)
+    ]
+
+-- the report of a query of the stored kernel at the path
+module _ (path : List ℕ) (goals : List Goal) (budget : ℕ) (files : Files) (verdict : Verdict) (report : List ℕ) where
+  goals_mean : (text : List ℕ) (kernel : KernelContent) (first : Option ℕ) → KernelReads text kernel.repository kernel.members → unknown_goal kernel.members goals ≡ first →
+      stored_by_unknown kernel goals budget first ≡ reported verdict report → StoredMeans text goals budget verdict report
+  goals_mean text kernel (Some number) reads is e = absurd (cc e)
+  goals_mean text kernel None reads is e = record {
+    kernel = kernel;
+    reads = reads;
+    once = one_reading text;
+    known = all_known kernel.members 1 goals is;
+    means = tree_means kernel ((read_is_written text kernel.repository kernel.members).0 reads).0 goals budget verdict report e;
+  }
+
+  by_text : (text : List ℕ) (found : Result KernelContent KernelFault) → stored_reading text ≡ found →
+      outcome_over files (then_on (by_reading path found) (λ kernel. answers (stored_answer goals budget kernel))) ≡ answered (reported verdict report) → StoredMeans text goals budget verdict report
+  by_text text (Err fault) is e = absurd cc
+  by_text text (Ok kernel) is e =
+      let same : stored_answer goals budget kernel ≡ reported verdict report = cc in
+      goals_mean text kernel (unknown_goal kernel.members goals) (((reading_is text).kernels kernel.repository kernel.members).1 is) refl same
+
+  fitting : (text : List ℕ) (b : Bool) → cond b (answered (too_long path)) (outcome_over files (stored_query_answer path goals budget text)) ≡ answered (reported verdict report) → StoredMeans text goals budget verdict report
+  fitting text true e = absurd cc
+  fitting text false e = by_text text (stored_reading text) refl e
+
+  of_file : (file : Option (List ℕ)) → files path ≡ file → over_file path file (λ text. outcome_over files (stored_query_answer path goals budget text)) ≡ answered (reported verdict report) →
+      (text : List ℕ) × (files path ≡ Some text) × StoredMeans text goals budget verdict report
+  of_file None is e = absurd cc
+  of_file (Some text) is e = (text, is, fitting text (nat_lt file_limit (length text)) e)
+
+pub stored_query_is_meant : StoredQueryIsMeant
+stored_query_is_meant path goals budget files verdict report e = of_file path goals budget files verdict report (files path) refl e

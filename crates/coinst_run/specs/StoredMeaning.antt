@@ -1,0 +1,78 @@
+-- What the report of a query of a stored kernel means for the kernel that its text stands for.
+use Rattle.std.specs.Prelude.{◌≡◌, ℕ, ◌<◌, true, List, length, Some}
+use Rattle.byte_flow.specs.Flow.{Files}
+use Rattle.kernel_text.specs.Images.{is_named_by}
+use Rattle.kernel_text.specs.KernelReads.{HasOneReading, KernelContent, KernelReads}
+use Rattle.kernel_text.specs.declared.member.Member.{Member}
+use Rattle.repo_model.specs.declared.goals.Goal.{Goal}
+use Rattle.row_book.specs.Clauses.{Ascending}
+use Rattle.row_book.specs.Repository.{Healthy}
+use Rattle.row_book.specs.Sets.{In, Is, NumSet, has}
+use Rattle.search_terms.specs.declared.literals.Literal.{Literal}
+use Rattle.search_terms.specs.Derives.{Derives}
+use Rattle.search_terms.specs.Form.{form}
+use Rattle.search_terms.specs.Tree.{failed_leaves}
+use Rattle.suite_compare.specs.Asking.{tree_of}
+use Rattle.coinst_run.specs.declared.answer.Verdict.{Verdict}
+use Rattle.coinst_run.specs.declared.answer.Verdict.TheVariants.{Done, Negative, Undecided}
+use Rattle.coinst_run.specs.Answer.{reported}
+use Rattle.coinst_run.specs.Outcome.{answered, outcome_over}
+use Rattle.coinst_run.specs.QueryText.{no_text, undecided_text}
+use Rattle.coinst_run.specs.StoredQuery.{images_in, listed_classes, stored_query_course}
+
+-- the goal names a package of a class in the set
+pub record HasClassFor (members : List Member) (I : NumSet) (goal : Goal) : Type 0 where
+  pub by : Member
+  pub listed : In by members
+  pub named : is_named_by goal by ≡ true
+  pub alive : Is I by.class
+
+-- a healthy set of classes that has one for each goal
+pub record ServesStored (kernel : KernelContent) (goals : List Goal) (I : NumSet) : Type 0 where
+  pub healthy : Healthy kernel.repository I
+  pub each : (goal : Goal) → In goal goals → HasClassFor kernel.members I goal
+
+-- goals are co-installable in a kernel where some set of classes serves them
+pub record CoinstStored (kernel : KernelContent) (goals : List Goal) : Type 0 where
+  pub whole : NumSet
+  pub serves : ServesStored kernel goals whole
+
+-- The goals are co-installable: the printed classes, which no other ones are printed as, are ascending and serve them.
+pub record StoredYes (kernel : KernelContent) (goals : List Goal) (printed : List ℕ) : Type 0 where
+  pub classes : List ℕ
+  pub reads : printed ≡ listed_classes classes
+  pub once : (other : List ℕ) → ((n : ℕ) → In n other → n < length kernel.repository.clauses) → printed ≡ listed_classes other → other ≡ classes
+  pub order : Ascending classes
+  pub serves : ServesStored kernel goals (has classes)
+
+-- The goals are not co-installable, and the printed log shows it: it derives the empty entry over the formula of the kernel and
+-- the classes that the goals name.
+pub record StoredNo (kernel : KernelContent) (goals : List Goal) (printed : List ℕ) : Type 0 where
+  pub refuted : ¬ (CoinstStored kernel goals)
+  pub log : List (List Literal)
+  pub reads : printed ≡ no_text log
+  pub derives : Derives (form kernel.repository (images_in kernel goals)) log
+
+-- The search tree has more failed leaves than the budget that is printed.
+pub record StoredUndecided (kernel : KernelContent) (goals : List Goal) (budget : ℕ) (printed : List ℕ) : Type 0 where
+  pub reads : printed ≡ undecided_text budget
+  pub spent : budget < failed_leaves (tree_of kernel.repository (images_in kernel goals))
+
+abbrev pub MeansStored : KernelContent → List Goal → ℕ → Verdict → List ℕ → Type 0
+MeansStored kernel goals budget Done printed = StoredYes kernel goals printed
+MeansStored kernel goals budget Negative printed = StoredNo kernel goals printed
+MeansStored kernel goals budget Undecided printed = StoredUndecided kernel goals budget printed
+
+-- The text stands for one kernel, by the grammar of the format, each goal names a package of it, and the printed bytes mean what
+-- their verdict says.
+pub record StoredMeans (text : List ℕ) (goals : List Goal) (budget : ℕ) (verdict : Verdict) (printed : List ℕ) : Type 0 where
+  pub kernel : KernelContent
+  pub reads : KernelReads text kernel.repository kernel.members
+  pub once : HasOneReading text
+  pub known : (goal : Goal) → In goal goals → (m : Member) × In m kernel.members × (is_named_by goal m ≡ true)
+  pub means : MeansStored kernel goals budget verdict printed
+
+-- what is reported over files means this for the file at the path
+abbrev pub StoredQueryIsMeant : Type 0
+StoredQueryIsMeant = (path : List ℕ) (goals : List Goal) (budget : ℕ) (files : Files) (verdict : Verdict) (printed : List ℕ) → outcome_over files (stored_query_course path goals budget) ≡ answered (reported verdict printed) →
+    (text : List ℕ) × (files path ≡ Some text) × StoredMeans text goals budget verdict printed

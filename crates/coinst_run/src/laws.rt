@@ -1,0 +1,36 @@
+//! The laws of reports: the functions do nothing, the contract of each is one law.
+ghost use Rattle.coinst_run.specs.CompareMeaning.{CompareIsMeant};
+ghost use Rattle.coinst_run.specs.QueryMeaning.{QueryIsMeant};
+ghost use Rattle.coinst_run.specs.StoredAgrees.{StoredAnswersAsIndex, StoredImagesAreOfIndex};
+ghost use Rattle.coinst_run.specs.StoredMeaning.{StoredQueryIsMeant};
+ghost use Rattle.coinst_run.specs.StoredReading.{TextsAreTold};
+
+/// What the report of a query of an index means.
+pub fn query_is_meant()
+    ensures { QueryIsMeant }
+{}
+
+/// What a text is read as, as a function, is the kernel by which the grammar reads it, or else the fault of the grammar.
+pub fn texts_are_told()
+    ensures { TextsAreTold }
+{}
+
+/// What the report of a query of a stored kernel means.
+pub fn stored_query_is_meant()
+    ensures { StoredQueryIsMeant }
+{}
+
+/// What the report of a comparison means.
+pub fn comparison_is_meant()
+    ensures { CompareIsMeant }
+{}
+
+/// In the kernel text of an index, goals name the classes of the packages that they name in the index.
+pub fn stored_images_are_of_index()
+    ensures { StoredImagesAreOfIndex }
+{}
+
+/// The kernel text of an index answers goals as the index does: yes, no with the same log, undecided, or which goal is unknown.
+pub fn stored_answers_as_index()
+    ensures { StoredAnswersAsIndex }
+{}

@@ -2,7 +2,8 @@ pub mod Examples
 pub mod FieldLemmas
 pub mod GroupLemmas
 pub mod LineLemmas
+pub mod NoteLemmas
 pub mod PlaceLemmas
 pub mod ReadingLemmas
-pub mod RepeatLemmas
+pub mod ScanLemmas
 pub mod ValueLemmas

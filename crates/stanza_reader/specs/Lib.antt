@@ -1,5 +1,6 @@
 pub mod Lines
 pub mod Fields
+pub mod Note
 pub mod Places
 pub mod Reading
 pub mod Stanzas

@@ -1,15 +1,16 @@
 //! The stanzas of a Debian control file, or the first fault with its line.
 #![tactic(auto)]
 
+mod check;
 mod fault;
 mod fields;
 mod groups;
 mod lines;
 mod names;
+mod note;
 mod place;
 mod reading;
-mod repeats;
-mod shape;
+mod scan;
 mod stanza;
 mod values;
 

@@ -18,11 +18,12 @@ pub(crate) fn name_of(line: &[u8]) -> &[u8]
     }
 }
 
-/// Whether the line has a colon.
-pub(crate) fn has_colon(line: &[u8]) -> bool
+/// Whether the line has a colon, by the text before the first one.
+pub(crate) fn has_colon(line: &[u8], name: &[u8]) -> bool
+    requires { name.now ≡ name_of line.now }
     ensures { result ≡ list_any is_colon line.now }
 {
-    line.iter().any(|byte| *byte == b':')
+    name.len() < line.len()
 }
 
 /// Whether the text is the name of a field.

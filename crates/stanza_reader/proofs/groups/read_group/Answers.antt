@@ -1,15 +1,26 @@
 use Rattle.std.proofs.Common.{sym, ◌∙◌}
-use Rattle.stanza_reader.proofs.GroupLemmas.{shape_refused, repeat_refused, accepted, number_at}
+use Rattle.std.proofs.lemmas.Result.{err_from_is_err_and}
+use Rattle.stanza_reader.specs.Places.{lines_at}
+use Rattle.stanza_reader.specs.Stanzas.{first_group}
+use Rattle.stanza_reader.proofs.GroupLemmas.{lines_refused, shape_of, lone_refused, repeat_refused, accepted, number_at}
 use Rattle.stanza_reader.proofs.groups.read_group.Goals as goal
 
-pub returns-in-Some : goal.returns-in-Some
-returns-in-Some c = shape_refused _ c.in-Some.fault c.in-Some.ensures
+pub returns-then-is_continuation-clause-fault : goal.returns-then-is_continuation-clause-fault
+returns-then-is_continuation-clause-fault c = lone_refused _ _ _ c.next_line.ensures.lines c.requires.full (sym c.is_continuation.ensures ∙ c.if-is_continuation.true)
 
-pub returns-in-Some-2 : goal.returns-in-Some-2
-returns-in-Some-2 c =
-    repeat_refused _ c.in-Some-2.fault (sym c.in_default.is ∙ c.group_shape_fault.ensures) (sym c.in-Some-2.is ∙ c.in_ok-fault.ensures)
+pub returns-in_err-found-clause-fault : goal.returns-in_err-found-clause-fault
+returns-in_err-found-clause-fault c =
+    let p = err_from_is_err_and c.from_residual.result c.from_residual.ensures.1 in
+    let same = shape_of _ _ _ c.next_line.ensures.lines (sym c.is_continuation.ensures ∙ c.if-is_continuation.false) in
+    rw (p.1, p.2) (lines_refused (first_group (lines_at c.args.bytes.now c.args.at)) _ same c.in_err-found.ensures.fault)
 
-pub returns : goal.returns
-returns c =
-    accepted _ c.args.at.line c.in_ok-fields.fields (sym c.in_default.is ∙ c.group_shape_fault.ensures) (sym c.in_default-2.is ∙ c.in_ok-fault.ensures)
-    (number_at c.args.bytes.now c.args.at c.requires.more c.requires.full) c.in_ok-fields.ensures
+pub returns-in-Some-clause-fault : goal.returns-in-Some-clause-fault
+returns-in-Some-clause-fault c =
+    let same = shape_of _ _ _ c.next_line.ensures.lines (sym c.is_continuation.ensures ∙ c.if-is_continuation.false) in
+    repeat_refused _ c.in-Some.fault (sym (same ∙ c.in_ok-found.ensures.shape)) (sym c.in-Some.is ∙ c.in_ok-found.ensures.repeat)
+
+pub returns-clause-stanza : goal.returns-clause-stanza
+returns-clause-stanza c =
+    let same = shape_of _ _ _ c.next_line.ensures.lines (sym c.is_continuation.ensures ∙ c.if-is_continuation.false) in
+    accepted _ c.args.at.line c.in_ok-found.found.fields (sym (same ∙ c.in_ok-found.ensures.shape)) (sym c.in_default.is ∙ c.in_ok-found.ensures.repeat)
+    (number_at c.args.bytes.now c.args.at c.requires.more c.requires.full) (c.in_ok-found.ensures.fields c.in_default.is)

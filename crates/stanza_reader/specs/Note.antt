@@ -1,0 +1,56 @@
+-- The names of the field lines so far, as they are noted one by one.
+use Rattle.std.specs.Prelude.{◌≡◌, ℕ, ◌+◌, ◌*◌, ◌^◌, ◌%◌, ◌<◌, false, List, [], ◌∷◌, ◌++◌, length, map, Option, None}
+use Rattle.std.specs.BTreeSet.{BTreeSet, contains}
+use Rattle.std.specs.Cmp.Lexicographic.{slice_cmp}
+use Rattle.std.specs.List.{list_any}
+use Rattle.std.specs.Option.{option_or}
+use Rattle.std.specs.Ordering.{nat_cmp}
+use Rattle.std.specs.Str.{bytes_eq}
+use Rattle.std.specs.declared.cmp.Ordering.{Ordering}
+use Rattle.std.specs.declared.vec.Vec.{Vec}
+use Rattle.stanza_reader.specs.Fields.{lowered, name_of}
+use Rattle.stanza_reader.specs.Lines.{Line, is_continuation}
+use Rattle.stanza_reader.specs.Stanzas.{has_name, repeat_fault}
+use Rattle.stanza_reader.specs.declared.fault.StanzaFault.{StanzaFault}
+use Rattle.stanza_reader.specs.declared.note.KeyedName.{KeyedName}
+use Rattle.stanza_reader.specs.declared.note.Names.{Names}
+
+-- a number of a text, below 2 ^ 32
+abbrev pub key_from : ℕ → List ℕ → ℕ
+key_from key [] = key
+key_from key (b ∷ bs) = key_from ((((key * 31) % 2 ^ 32) + b) % 2 ^ 32) bs
+
+-- the number of a name, which knows nothing of the case of letters
+abbrev pub key_of : List ℕ → ℕ
+key_of name = key_from 0 (lowered name)
+
+abbrev pub IsKeyed : KeyedName → Type 0
+IsKeyed one = one.key ≡ key_of one.name.now
+
+abbrev pub names_in : List KeyedName → List (List ℕ)
+names_in few = map (λ one. one.name.now) few
+
+abbrev pub by_text : {A : Type 0} → Vec ℕ A → Vec ℕ A → Ordering
+by_text x y = slice_cmp nat_cmp x.items y.items
+
+-- the set has exactly these names, in lower case
+abbrev pub HasNames : {A : Type 0} → BTreeSet (Vec ℕ A) → List (List ℕ) → Type 0
+HasNames {A} set names = (q : Vec ℕ A) → contains by_text set q ≡ list_any (λ name. bytes_eq (lowered name) q.items) names
+
+-- The names that are held are these, in any order. Only where 64 are compared one by one do others stand in the set.
+pub record Holds (names : Names) (before : List (List ℕ)) : Type 0 where
+  pub others : List (List ℕ)
+  pub in_set : HasNames names.others others
+  pub behind : length names.few.items < 64 → others ≡ []
+  pub same : (q : List ℕ) → has_name (names_in names.few.items ++ others) q ≡ has_name before q
+
+-- With the lines that are left, the names lead to this repeated one.
+pub record LeadsTo (names : Names) (left : List Line) (fault : Option StanzaFault) : Type 0 where
+  pub before : List (List ℕ)
+  pub held : names.repeat ≡ None → Holds names before
+  pub found : option_or names.repeat (repeat_fault before left) ≡ fault
+
+-- A field line with this name and number is no longer left.
+abbrev pub IsNoted : Names → Names → List ℕ → ℕ → Type 0
+IsNoted old new name number = (text : List ℕ) (more : List Line) (fault : Option StanzaFault) → name_of text ≡ name → is_continuation text ≡ false
+    → LeadsTo old (record { number = number; text = text } ∷ more) fault → LeadsTo new more fault

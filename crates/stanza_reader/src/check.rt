@@ -1,0 +1,26 @@
+//! The shape of a field line.
+
+ghost use Rattle.std.specs.Prelude.{◌≡◌, false, None, Some, OnOk, IfOk, IfErr};
+ghost use Rattle.stanza_reader.specs.Fields.{name_of};
+ghost use Rattle.stanza_reader.specs.Lines.{is_continuation};
+ghost use Rattle.stanza_reader.specs.Stanzas.{line_fault};
+
+use crate::fault::StanzaFault;
+use crate::names::{has_colon, is_field_name, name_of};
+
+/// The name of the field that a line begins, or the fault in the shape of the line.
+pub(crate) fn checked_name(line: &[u8], number: u64) -> Result<&[u8], StanzaFault>
+    requires { is_continuation line.now ≡ false }
+    ensures name { IfOk result (λ name. name.now ≡ name_of line.now) }
+    ensures fine { OnOk result (line_fault record { number = number; text = line.now } ≡ None) }
+    ensures fault { IfErr result (λ fault. line_fault record { number = number; text = line.now } ≡ Some fault) }
+{
+    let name = name_of(line);
+    if !has_colon(line, name) {
+        return Err(StanzaFault::NoColon { line: number });
+    }
+    if !is_field_name(name) {
+        return Err(StanzaFault::BadName { line: number });
+    }
+    Ok(name)
+}

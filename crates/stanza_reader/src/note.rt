@@ -1,0 +1,135 @@
+//! The names of a stanza's fields, noted one by one.
+
+ghost use Rattle.std.specs.Prelude.{◌≡◌, [], ◌∷◌, None, true, not, OnOk, IfOk, All, List, ℕ};
+ghost use Rattle.stanza_reader.specs.Fields.{is_same_name, lowered};
+ghost use Rattle.stanza_reader.specs.Note.{Holds, IsKeyed, IsNoted, key_of, names_in};
+ghost use Rattle.stanza_reader.specs.Stanzas.{has_name};
+
+use crate::fault::StanzaFault;
+use std::alloc::{AllocError, Global};
+use std::collections::BTreeSet;
+
+/// So many names are compared one by one. Those behind them stand in an ordered set, so that a stanza takes not much
+/// longer than its length, whatever its names are.
+const FEW: usize = 64;
+
+/// A name, with a number that it shares with each name that differs from it in the case of letters alone.
+#[derive(Clone, Copy)]
+pub(crate) struct KeyedName<'a> {
+    pub(crate) key: u32,
+    pub(crate) name: &'a [u8],
+}
+
+/// The names of a stanza's field lines, up to the first that an earlier line has, and the fault of that one.
+#[derive(Drop)]
+pub(crate) struct Names<'a> {
+    pub(crate) few: Vec<KeyedName<'a>>,
+    pub(crate) others: BTreeSet<Vec<u8>>,
+    pub(crate) repeat: Option<StanzaFault>,
+}
+
+impl<'a> Names<'a> {
+    /// No name; there is room for those of a common stanza.
+    pub(crate) fn new(alloc: Global) -> Result<Self, AllocError>
+        ensures keys { IfOk result (λ names. All IsKeyed names.few.items) }
+        ensures holds { IfOk result (λ names. Holds names []) }
+        ensures repeat { IfOk result (λ names. names.repeat ≡ None) }
+    {
+        Ok(Names {
+            few: Vec::with_capacity(alloc, 32)?,
+            others: BTreeSet::new(alloc),
+            repeat: None,
+        })
+    }
+
+    /// Notes the name of the next field line, which has this number.
+    pub(crate) fn note(
+        &mut self,
+        alloc: Global,
+        name: &'a [u8],
+        line: u64,
+    ) -> Result<(), AllocError>
+        requires { All IsKeyed self.old.few.items }
+        ensures keys { OnOk result (All IsKeyed self.new.few.items) }
+        ensures noted { OnOk result (IsNoted self.old self.new name.now line) }
+        ensures first { OnOk result (self.new.repeat ≡ None → self.old.repeat ≡ None) }
+    {
+        if self.repeat.is_none() && !self.add(alloc, name)? {
+            self.repeat = Some(StanzaFault::Repeated { line });
+        }
+        Ok(())
+    }
+
+    /// Adds a name where none of the names is this one, and answers whether that is so.
+    fn add(&mut self, alloc: Global, name: &'a [u8]) -> Result<bool, AllocError>
+        requires { All IsKeyed self.old.few.items }
+        ensures keys { OnOk result (All IsKeyed self.new.few.items) }
+        ensures answer { IfOk result (λ is_new. (before : List (List ℕ)) → Holds self.old before → is_new ≡ not (has_name before name.now)) }
+        ensures added { IfOk result (λ is_new. (before : List (List ℕ)) → Holds self.old before → is_new ≡ true → Holds self.new (name.now ∷ before)) }
+        ensures repeat { self.new.repeat ≡ self.old.repeat }
+    {
+        let key = key_of(name);
+        if has_name(self.few.as_slice(), key, name) {
+            return Ok(false);
+        }
+        if self.few.len() < FEW {
+            self.few.push(KeyedName { key, name })?;
+            return Ok(true);
+        }
+        let name = lowered(alloc, name)?;
+        Ok(self.others.insert(name)?)
+    }
+}
+
+// The number of a name.
+fn key_of(name: &[u8]) -> u32
+    ensures { result ≡ key_of name.now }
+{
+    let mut key: u32 = 0;
+    for byte in name {
+        key = key
+            .wrapping_mul(31)
+            .wrapping_add(byte.to_ascii_lowercase() as u32);
+    }
+    key
+}
+
+// Whether one of the names is this one, without regard to the case of letters.
+fn has_name(few: &[KeyedName<'_>], key: u32, name: &[u8]) -> bool
+    requires keys { All IsKeyed few.now }
+    requires key { key ≡ key_of name.now }
+    ensures { result ≡ has_name (names_in few.now) name.now }
+{
+    for one in few {
+        if is_name(one.key, one.name, key, name) {
+            return true;
+        }
+    }
+    false
+}
+
+// Whether two names are the same; most that are not differ in their numbers.
+fn is_name(other_key: u32, other: &[u8], key: u32, name: &[u8]) -> bool
+    requires other { other_key ≡ key_of other.now }
+    requires key { key ≡ key_of name.now }
+    ensures { result ≡ is_same_name other.now name.now }
+{
+    if other_key != key {
+        return false;
+    }
+    is_same(other, name)
+}
+
+fn is_same(a: &[u8], b: &[u8]) -> bool
+    ensures { result ≡ is_same_name a.now b.now }
+{
+    a.eq_ignore_ascii_case(b)
+}
+
+fn lowered(alloc: Global, name: &[u8]) -> Result<Vec<u8>, AllocError>
+    ensures { IfOk result (λ text. text.items ≡ lowered name.now) }
+{
+    name.iter()
+        .map(|byte| byte.to_ascii_lowercase())
+        .collect(alloc)
+}

@@ -2,12 +2,12 @@
 use Rattle.std.proofs.Common.{◌≡◌, ◌≢◌, ℕ, zero, suc, ◌<◌, ◌≤◌, ◌+◌, ◌-◌, Bool, true, false, ltb, cond, List, [], ◌∷◌, inl, inr, refl, sym, ◌∙◌, ap, subst, length, get_or, map, filter, take, drop, length-drop, arith, lt-ltb, eq-eqb, eqb-true, ne_eqb}
 use Rattle.std.specs.List.{list_any}
 use Rattle.std.specs.List.Sorted.{IsNonDecreasing, IsPartitionedBy}
-use Rattle.std.proofs.lemmas.Bool.{and_from, and_parts, both_ways, cases_eq, cond-true, cond-false, false_from_ne_true, false≢true, ltb-false, ltb-true, or_from}
+use Rattle.std.proofs.lemmas.Bool.{and_from, and_parts, both_ways, cases_eq, cases_lt, cond-true, cond-false, false_from_ne_true, false≢true, ltb-false, ltb-true, or_from}
 use Rattle.std.proofs.lemmas.List.{get_or-drop}
 use Rattle.clause_pool.proofs.Lists.{In_at, In_place}
-use Rattle.row_book.specs.Sets.{In, has}
+use Rattle.row_book.specs.Sets.{In, has, there}
 use Rattle.row_book.specs.Clauses.{Ascending, Before, InOrder, is_inside}
-use Rattle.row_book.proofs.Lists.{In_has, In_map, In_map_cases, any_cases, any_from, filter_cases, filter_from, has_In}
+use Rattle.row_book.proofs.Lists.{In_cases, In_has, In_map, In_map_cases, In_none, all_at, all_from, any_cases, any_from, filter_cases, filter_from, has_In}
 use Rattle.clause_flatten.specs.Inclusion.{begins_below, begins_with, goes_on, is_within}
 
 -- an ascending clause never falls from place to place
@@ -132,7 +132,7 @@ goes_on_cons (suc d) number (x ∷ xs) h =
     (w.0 ∙ ap (λ n. number ∷ drop n (x ∷ xs)) (sym e), omega (arith, w.1))
 
 module _ (depth : ℕ) (group : List (List ℕ)) (order : InOrder (map (drop depth) group)) (number : ℕ) (part : List (List ℕ)) (part_is : part ≡ filter (goes_on depth number) group) where
-  in_part : (c : List ℕ) → In c part → In c group × (goes_on depth number c ≡ true)
+  pub in_part : (c : List ℕ) → In c part → In c group × (goes_on depth number c ≡ true)
   in_part c i = filter_cases (goes_on depth number) group c (subst (λ z. In c z) part_is i)
 
   pub part_deep : (c : List ℕ) → In c part → depth + 1 ≤ length c
@@ -163,18 +163,67 @@ module _ (depth : ℕ) (group : List (List ℕ)) (order : InOrder (map (drop dep
           )
           pick false e r = r
 
+-- the rest of an ascending clause ascends
+pub rest_ascends : (i : ℕ) (xs : List ℕ) → Ascending xs → Ascending (drop i xs)
+rest_ascends zero xs a = a
+rest_ascends (suc i) [] a = tt
+rest_ascends (suc i) (x ∷ xs) a = rest_ascends i xs a.1
+
+-- what is behind a place of a clause is in the clause
+in_rest : (i : ℕ) (xs : List ℕ) (n : ℕ) → In n (drop i xs) → In n xs
+in_rest zero xs n h = h
+in_rest (suc i) [] n h = h
+in_rest (suc i) (x ∷ xs) n h = there (in_rest i xs n h)
+
+-- a number of an ascending clause that is greater than the one at a place is behind it
+behind : (k : ℕ) (xs : List ℕ) (n : ℕ) → Ascending xs → k < length xs → get_or xs k 0 < n → In n xs → In n (drop (suc k) xs)
+behind k [] n a l g h = absurd (In_none h)
+behind zero (x ∷ xs) n a l g h = elim (In_cases h) [ inl e ↦ absurd (omega (arith, e)) | inr r ↦ r ]
+behind (suc k) (x ∷ xs) n a l g h =
+    elim (In_cases h) [
+      | inl e ↦ absurd (let m : x < get_or xs k 0 = a.0 (get_or xs k 0) (In_at xs k 0 (omega arith)) in omega (arith, e, m))
+      | inr r ↦ behind k xs n a.1 (omega arith) g r
+    ]
+
+inside_more : (i : ℕ) (xs wanted : List ℕ) → is_inside xs (drop i wanted) ≡ true → is_inside xs wanted ≡ true
+inside_more i xs wanted h = all_from (has wanted) xs (λ n j. In_has (in_rest i wanted n (has_In (drop i wanted) n (all_at (has (drop i wanted)) xs h n j))))
+
+inside_behind : (k : ℕ) (xs wanted : List ℕ) → Ascending wanted → k < length wanted → ((n : ℕ) → In n xs → get_or wanted k 0 < n) → is_inside xs wanted ≡ true → is_inside xs (drop (suc k) wanted) ≡ true
+inside_behind k xs wanted a l g h =
+    all_from (has (drop (suc k) wanted)) xs (λ n j. In_has (behind k wanted n a l (g n j) (has_In wanted n (all_at (has wanted) xs h n j))))
+
+below_more : (low high : ℕ) (c : List ℕ) → low ≤ high → begins_below low c ≡ true → begins_below high c ≡ true
+below_more low high [] l h = refl
+below_more low high (x ∷ xs) l h = let m : x < low = ltb-true x low h in lt-ltb x high (omega arith)
+
+-- whether one of those that go on with the wanted number at a place goes on with numbers behind it
+abbrev pub part_within : ℕ → List (List ℕ) → List ℕ → ℕ → ℕ → Bool
+part_within depth group wanted size k = list_any (is_within (depth + 1) (drop (k + 1) wanted) size) (filter (goes_on depth (get_or wanted k 0)) group)
+
 -- What is wanted of a group is wanted of its parts.
 module _ (depth : ℕ) (group : List (List ℕ)) (order : InOrder (map (drop depth) group)) (wanted : List ℕ) (size : ℕ) where
-  pub one_within : (number : ℕ) → In number wanted → list_any (is_within (depth + 1) wanted size) (filter (goes_on depth number) group) ≡ true → list_any (is_within depth wanted size) group ≡ true
-  one_within number there_is h =
-      let w : (c : List ℕ) × In c (filter (goes_on depth number) group) × (is_within (depth + 1) wanted size c ≡ true) =
-      any_cases (is_within (depth + 1) wanted size) (filter (goes_on depth number) group) h in
+  pub one_within : (k : ℕ) → k < length wanted → part_within depth group wanted size k ≡ true → list_any (is_within depth wanted size) group ≡ true
+  one_within k l h =
+      let number : ℕ = get_or wanted k 0 in
+      let w : (c : List ℕ) × In c (filter (goes_on depth number) group) × (is_within (depth + 1) (drop (k + 1) wanted) size c ≡ true) =
+      any_cases (is_within (depth + 1) (drop (k + 1) wanted) size) (filter (goes_on depth number) group) h in
       let v : In w.0 group × (goes_on depth number w.0 ≡ true) = filter_cases (goes_on depth number) group w.0 w.1 in
-      let b : (ltb (length w.0) size ≡ true) × (is_inside (drop (depth + 1) w.0) wanted ≡ true) = and_parts (ltb (length w.0) size) (is_inside (drop (depth + 1) w.0) wanted) w.2 in
+      let b : (ltb (length w.0) size ≡ true) × (is_inside (drop (depth + 1) w.0) (drop (k + 1) wanted) ≡ true) =
+      and_parts (ltb (length w.0) size) (is_inside (drop (depth + 1) w.0) (drop (k + 1) wanted)) w.2 in
       any_from (is_within depth wanted size) group w.0 v.0
       (and_from (ltb (length w.0) size) (is_inside (drop depth w.0) wanted) b.0
       (ap (λ z. is_inside z wanted) (goes_on_cons depth number w.0 v.1).0
-      ∙ and_from (has wanted number) (is_inside (drop (depth + 1) w.0) wanted) (In_has there_is) b.1))
+      ∙ and_from (has wanted number) (is_inside (drop (depth + 1) w.0) wanted) (In_has (In_at wanted k 0 l)) (inside_more (k + 1) (drop (depth + 1) w.0) wanted b.1)))
+
+  -- where each goes on lower than a wanted number, none goes on with it or one behind it
+  pub none_beyond : Ascending wanted → (k : ℕ) → ((c : List ℕ) → In c group → begins_below (get_or wanted k 0) (drop depth c) ≡ true) → (j : ℕ) → k ≤ j → j < length wanted → part_within depth group wanted size j ≡ false
+  none_beyond a k below j l u =
+      false_from_ne_true (part_within depth group wanted size j) (λ h.
+      let number : ℕ = get_or wanted j 0 in
+      let w : (c : List ℕ) × In c (filter (goes_on depth number) group) × (is_within (depth + 1) (drop (j + 1) wanted) size c ≡ true) =
+      any_cases (is_within (depth + 1) (drop (j + 1) wanted) size) (filter (goes_on depth number) group) h in
+      let v : In w.0 group × (goes_on depth number w.0 ≡ true) = filter_cases (goes_on depth number) group w.0 w.1 in
+      both_ways (goes_on depth number w.0) (below_not_with number (drop depth w.0) (below_more (get_or wanted k 0) number (drop depth w.0) (ascending_rises wanted a k j 0 l u) (below w.0 v.0))) v.1)
 
   -- the first clause goes on, so each does
   goes_further : (c : List ℕ) → depth ≢ length (get_or group 0 []) → depth ≤ length (get_or group 0 []) → In c group → (x : ℕ) × (goes_on depth x c ≡ true)
@@ -199,9 +248,9 @@ module _ (depth : ℕ) (group : List (List ℕ)) (order : InOrder (map (drop dep
       not_empty (x ∷ xs) [] b = absurd b
       not_empty xs (y ∷ ys) b = (y, eq-eqb y y refl)
 
-  pub none_within : depth ≢ length (get_or group 0 []) → depth ≤ length (get_or group 0 [])
-      → ((k : ℕ) → k < length wanted → list_any (is_within (depth + 1) wanted size) (filter (goes_on depth (get_or wanted k 0)) group) ≡ false) → list_any (is_within depth wanted size) group ≡ false
-  none_within ne deep f =
+  pub none_within : ((c : List ℕ) → In c group → Ascending c) → Ascending wanted → depth ≢ length (get_or group 0 []) → depth ≤ length (get_or group 0 [])
+      → ((k : ℕ) → k < length wanted → part_within depth group wanted size k ≡ false) → list_any (is_within depth wanted size) group ≡ false
+  none_within rising up ne deep f =
       false_from_ne_true (list_any (is_within depth wanted size) group) (λ h.
       let w : (c : List ℕ) × In c group × (is_within depth wanted size c ≡ true) = any_cases (is_within depth wanted size) group h in
       let b : (ltb (length w.0) size ≡ true) × (is_inside (drop depth w.0) wanted ≡ true) = and_parts (ltb (length w.0) size) (is_inside (drop depth w.0) wanted) w.2 in
@@ -209,10 +258,22 @@ module _ (depth : ℕ) (group : List (List ℕ)) (order : InOrder (map (drop dep
       let parts : (has wanted x.0 ≡ true) × (is_inside (drop (depth + 1) w.0) wanted ≡ true) =
       and_parts (has wanted x.0) (is_inside (drop (depth + 1) w.0) wanted) (sym (ap (λ z. is_inside z wanted) (goes_on_cons depth x.0 w.0 x.1).0) ∙ b.1) in
       let p : (k : ℕ) × (k < length wanted) × (get_or wanted k 0 ≡ x.0) = In_place wanted x.0 0 (has_In wanted x.0 parts.0) in
-      both_ways (list_any (is_within (depth + 1) wanted size) (filter (goes_on depth (get_or wanted p.0 0)) group)) (f p.0 p.1)
-      (any_from (is_within (depth + 1) wanted size) (filter (goes_on depth (get_or wanted p.0 0)) group) w.0
+      let greater : Ascending (x.0 ∷ drop (depth + 1) w.0) = subst Ascending (goes_on_cons depth x.0 w.0 x.1).0 (rest_ascends depth w.0 (rising w.0 w.1)) in
+      let next : suc p.0 ≡ p.0 + 1 = omega arith in
+      let rest : is_inside (drop (depth + 1) w.0) (drop (p.0 + 1) wanted) ≡ true =
+      subst (λ k. is_inside (drop (depth + 1) w.0) (drop k wanted) ≡ true) next
+      (inside_behind p.0 (drop (depth + 1) w.0) wanted up p.1 (λ n j. subst (λ z. z < n) (sym p.2) (greater.0 n j)) parts.1) in
+      both_ways (part_within depth group wanted size p.0) (f p.0 p.1)
+      (any_from (is_within (depth + 1) (drop (p.0 + 1) wanted) size) (filter (goes_on depth (get_or wanted p.0 0)) group) w.0
       (filter_from (goes_on depth (get_or wanted p.0 0)) group w.0 w.1 (ap (λ n. goes_on depth n w.0) p.2 ∙ x.1))
-      (and_from (ltb (length w.0) size) (is_inside (drop (depth + 1) w.0) wanted) b.0 parts.1)))
+      (and_from (ltb (length w.0) size) (is_inside (drop (depth + 1) w.0) (drop (p.0 + 1) wanted)) b.0 rest)))
+
+  -- what comes behind a number that each is below need not be looked at
+  pub none_further : ((c : List ℕ) → In c group → Ascending c) → Ascending wanted → depth ≢ length (get_or group 0 []) → depth ≤ length (get_or group 0 [])
+      → (k : ℕ) → ((c : List ℕ) → In c group → begins_below (get_or wanted k 0) (drop depth c) ≡ true)
+      → ((j : ℕ) → j < k → part_within depth group wanted size j ≡ false) → list_any (is_within depth wanted size) group ≡ false
+  none_further rising up ne deep k below f =
+      none_within rising up ne deep (λ j u. elim (cases_lt j k) [ inl l ↦ f j l | inr m ↦ none_beyond up k below j m u ])
 
   -- none is so short
   pub none_short : size ≤ depth → ((c : List ℕ) → In c group → depth ≤ length c) → list_any (is_within depth wanted size) group ≡ false
@@ -222,6 +283,13 @@ module _ (depth : ℕ) (group : List (List ℕ)) (order : InOrder (map (drop dep
       let s : length w.0 < size = ltb-true (length w.0) size (and_parts (ltb (length w.0) size) (is_inside (drop depth w.0) wanted) w.2).0 in
       let m : depth ≤ length w.0 = deep w.0 w.1 in
       omega arith)
+
+-- where the last goes on lower than the number, each does
+pub each_below : (depth number : ℕ) (group : List (List ℕ)) → InOrder (map (drop depth) group) → (k : ℕ) → suc k ≡ length group → begins_below number (drop depth (get_or group k [])) ≡ true
+    → (c : List ℕ) → In c group → begins_below number (drop depth c) ≡ true
+each_below depth number group o k e h c i =
+    let p : (j : ℕ) × (j < length group) × (get_or group j [] ≡ c) = In_place group c [] i in
+    subst (λ z. begins_below number (drop depth z) ≡ true) p.2 (below_parted depth number group o p.0 k [] (omega (arith, p.1, e)) (omega (arith, e)) h)
 
 -- no element passes a test that fails at each place
 pub none_places : (test : List ℕ → Bool) (cs : List (List ℕ)) → ((k : ℕ) → k < length cs → test (get_or cs k []) ≡ false) → list_any test cs ≡ false

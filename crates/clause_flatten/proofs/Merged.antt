@@ -5,14 +5,9 @@ use Rattle.row_book.specs.Clauses.{Ascending}
 use Rattle.row_book.proofs.Lists.{In_none, ascending_filter, ascending_same, filter_cases}
 use Rattle.clause_flatten.specs.Substitution.{clause_without, union_of}
 use Rattle.clause_flatten.specs.FlatLaws.{Merges}
+use Rattle.clause_flatten.proofs.Beginnings.{rest_ascends}
 use Rattle.clause_flatten.proofs.Shortcuts.{union_merges_lem}
 use Rattle.clause_flatten.proofs.Unions.{joined_ascending, joined_cases, joined_left}
-
--- the rest of an ascending clause ascends
-rest_ascends : (i : ℕ) (xs : List ℕ) → Ascending xs → Ascending (drop i xs)
-rest_ascends zero xs a = a
-rest_ascends (suc i) [] a = tt
-rest_ascends (suc i) (x ∷ xs) a = rest_ascends i xs a.1
 
 -- what is left begins with the literal at the place
 left_at : (xs : List ℕ) (i x : ℕ) → i < length xs → x ≡ get_or xs i 0 → drop i xs ≡ x ∷ drop (i + 1) xs

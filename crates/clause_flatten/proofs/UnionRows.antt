@@ -187,6 +187,9 @@ module _ (pool : Interned) (spent row : ℕ) (useful : List ℕ) (is : IsPool po
   pub kept_in_order : (kept : List (List ℕ)) → kept ≡ apart_from spent clauses → InOrder kept
   kept_in_order kept e = subst InOrder (sym e) (order_filter (λ c. not (has c spent)) clauses (is.in_order row of_row))
 
+  pub kept_ascend : (kept : List (List ℕ)) → kept ≡ apart_from spent clauses → (c : List ℕ) → In c kept → Ascending c
+  kept_ascend kept e c i = row_ascending pool is row of_row c (apart_cases spent clauses c (subst (λ z. In c z) e i)).0
+
   pub beside_in_order : (unions left : List (List ℕ)) → left ≡ filter (stays spent unions) clauses → InOrder left
   beside_in_order unions left e = subst InOrder (sym e) (order_filter (stays spent unions) clauses (is.in_order row of_row))
 

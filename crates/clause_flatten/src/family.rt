@@ -164,6 +164,7 @@ fn ids_beside(
 ) -> Result<Vec<ClauseId>, AllocError>
     requires row { OfPool pool.now row.now }
     requires in_order { InOrder unions.now }
+    requires ascending { (c : List ℕ) → In c unions.now → Ascending c }
     ensures ok { IfOk result (λ ids. clauses_at pool.now ids.items
         ≡ filter (stays number unions.now) (clauses_at pool.now row.now)) }
     ensures of_pool { IfOk result (λ ids. OfPool pool.now ids.items) }
@@ -185,6 +186,7 @@ fn put_unions(
     ids: &mut Vec<ClauseId>,
 ) -> Result<(), AllocError>
     requires kept_in_order { InOrder kept.now }
+    requires kept_ascending { (c : List ℕ) → In c kept.now → Ascending c }
     requires unions_in_order { InOrder unions.now }
     requires ascending { (c : List ℕ) → In c unions.now → Ascending c }
     requires of_pool { OfPool pool.old ids.old.items }

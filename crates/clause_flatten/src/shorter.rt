@@ -1,5 +1,6 @@
 //! Whether a family in order has a shorter clause within a clause.
-ghost use Rattle.std.specs.Prelude.{◌≡◌, ◌&&◌, ◌≤◌, ℕ, List, length, map, drop, not};
+ghost use Rattle.std.specs.Prelude.{◌≡◌, ◌&&◌, ◌<◌, ◌≤◌, ◌+◌, ℕ, List, length, map, drop, not, true};
+ghost use Rattle.std.specs.Bool.{OnTrue};
 ghost use Rattle.std.specs.List.{filter, list_any};
 ghost use Rattle.row_book.specs.Sets.{In};
 ghost use Rattle.row_book.specs.Clauses.{Ascending, InOrder};
@@ -15,6 +16,7 @@ const FEW: usize = 4;
 /// Whether the clause does not hold the number, and has no shorter one of the family within it.
 pub(crate) fn stays(number: u32, family: &[Clause], clause: &[u32]) -> bool
     requires in_order { InOrder family.now }
+    requires rising { (c : List ℕ) → In c family.now → Ascending c }
     requires ascending { Ascending clause.now }
     ensures { result ≡ stays number family.now clause.now }
 {
@@ -24,7 +26,9 @@ pub(crate) fn stays(number: u32, family: &[Clause], clause: &[u32]) -> bool
 /// Whether the clause has no shorter one of either family within it.
 pub(crate) fn is_shortest(kept: &[Clause], unions: &[Clause], clause: &[u32]) -> bool
     requires kept { InOrder kept.now }
+    requires kept_rising { (c : List ℕ) → In c kept.now → Ascending c }
     requires unions { InOrder unions.now }
+    requires unions_rising { (c : List ℕ) → In c unions.now → Ascending c }
     requires ascending { Ascending clause.now }
     ensures { result ≡ (not (has_shorter kept.now clause.now) && not (has_shorter unions.now clause.now)) }
 {
@@ -34,6 +38,7 @@ pub(crate) fn is_shortest(kept: &[Clause], unions: &[Clause], clause: &[u32]) ->
 /// Whether a shorter clause of the family is inside the clause.
 pub(crate) fn has_shorter(family: &[Clause], clause: &[u32]) -> bool
     requires in_order { InOrder family.now }
+    requires rising { (c : List ℕ) → In c family.now → Ascending c }
     requires ascending { Ascending clause.now }
     ensures { result ≡ has_shorter family.now clause.now }
 {
@@ -42,9 +47,11 @@ pub(crate) fn has_shorter(family: &[Clause], clause: &[u32]) -> bool
 
 /// Whether a clause of the group, with fewer numbers than the size, has all its numbers from the depth on among the wanted
 /// ones. The clauses of a group begin alike up to there: the shortest comes first, and those that go on alike stand together.
+/// As clauses ascend, each goes on with the wanted numbers behind that which it has at the depth.
 fn has_within(group: &[Clause], depth: usize, wanted: &[u32], size: usize) -> bool
     requires deep { (c : List ℕ) → In c group.now → depth ≤ length c }
     requires in_order { InOrder (map (drop depth) group.now) }
+    requires rising { (c : List ℕ) → In c group.now → Ascending c }
     requires ascending { Ascending wanted.now }
     ensures { result ≡ list_any (is_within depth wanted.now size) group.now }
 {
@@ -60,12 +67,35 @@ fn has_within(group: &[Clause], depth: usize, wanted: &[u32], size: usize) -> bo
     if first.as_slice().len() == depth {
         return true;
     }
-    for number in wanted {
-        if has_within(group_of(group, depth, *number), depth + 1, wanted, size) {
+    for (place, number) in wanted.iter().enumerate() {
+        if all_below(group, depth, *number) {
+            return false;
+        }
+        let rest = numbers_behind(wanted, place);
+        if has_within(group_of(group, depth, *number), depth + 1, rest, size) {
             return true;
         }
     }
     false
+}
+
+/// Lends the numbers behind a place.
+fn numbers_behind(numbers: &[u32], place: usize) -> &[u32]
+    requires { place < length numbers.now }
+    ensures { result.now ≡ drop (place + 1) numbers.now }
+{
+    &numbers[place + 1..]
+}
+
+/// Whether the last clause of the group, and so each, ends at the depth or has a lesser number there.
+fn all_below(group: &[Clause], depth: usize, number: u32) -> bool
+    requires { InOrder (map (drop depth) group.now) }
+    ensures { OnTrue result ((c : List ℕ) → In c group.now → begins_below number (drop depth c) ≡ true) }
+{
+    match group.last() {
+        Some(last) => goes_on_below(last.as_slice(), depth, number),
+        None => false,
+    }
 }
 
 /// The same for a group of few clauses, each looked at by itself.

@@ -1,9 +1,10 @@
 //! The rows before any package is taken out.
-ghost use Rattle.std.specs.Prelude.{◌≡◌, ◌<◌, IfOk, length, map};
+ghost use Rattle.std.specs.Prelude.{◌≡◌, ◌<◌, ℕ, List, IfOk, length, map};
 ghost use Rattle.std.specs.List.{filter};
 ghost use Rattle.clause_pool.specs.Interned.{clause_at, clauses_at, row_at, Kept, OfPool};
 ghost use Rattle.row_book.specs.Book.{RowsFit, RowsTidy};
-ghost use Rattle.row_book.specs.Clauses.{InOrder};
+ghost use Rattle.row_book.specs.Clauses.{Ascending, InOrder};
+ghost use Rattle.row_book.specs.Sets.{In};
 ghost use Rattle.clause_flatten.specs.TidyRows.{stays, first_row, tidied_table, RowsStay};
 
 use crate::scratch::Clause;
@@ -32,6 +33,7 @@ fn kept_clauses(
 ) -> Result<Vec<ClauseId>, AllocError>
     requires of_pool { OfPool pool.now row.now }
     requires in_order { InOrder (clauses_at pool.now row.now) }
+    requires rising { (c : List ℕ) → In c (clauses_at pool.now row.now) → Ascending c }
     ensures { IfOk result (λ kept. kept.items ≡ filter (λ id. stays «package» (clauses_at pool.now row.now) (clause_at pool.now id)) row.now) }
 {
     let family = family_of(alloc, pool, row)?;

@@ -6,12 +6,24 @@ use Rattle.row_book.specs.Clauses.{apart_from, minimal_of, in_row_order, InOrder
 use Rattle.clause_flatten.specs.Families.{SameClauses, all_unions}
 use Rattle.clause_flatten.specs.TidyRows.{stays}
 use Rattle.clause_flatten.proofs.Families.{kept_trans, row_interned}
-use Rattle.clause_flatten.proofs.UnionRows.{beside_in_order, beside_lent, kept_in_order, kept_lent, row_is_minimal, same_lent, unions_ascend}
+use Rattle.clause_flatten.proofs.UnionRows.{beside_in_order, beside_lent, kept_ascend, kept_in_order, kept_lent, row_is_minimal, same_lent, unions_ascend}
 use Rattle.clause_flatten.proofs.family.intern_with_unions.Goals as goal
 
 pub put_unions-requires-clause-kept_in_order : goal.put_unions-requires-clause-kept_in_order
 put_unions-requires-clause-kept_in_order c =
     kept_in_order c.args.pool.now c.args.spent c.args.row c.args.useful.now c.clause_count.ensures.sound c.requires.row c.requires.useful c.as_slice-2.result.now
+    (kept_lent c.args.pool.now c.args.spent c.args.row c.args.useful.now c.clause_count.ensures.sound c.requires.row c.requires.useful c.in_ok-kept.kept.items c.as_slice-2.result.now c.row-2.result.now
+    c.row-2.ensures.lent c.in_ok-kept.ensures c.as_slice-2.ensures.value)
+
+pub ids_beside-requires-clause-ascending : goal.ids_beside-requires-clause-ascending
+ids_beside-requires-clause-ascending c =
+    unions_ascend c.args.pool.now c.args.spent c.args.row c.args.useful.now c.clause_count.ensures.sound c.requires.row c.requires.useful c.as_slice.result.now
+    (same_lent c.args.pool.now c.args.spent c.args.row c.args.useful.now c.clause_count.ensures.sound c.requires.row c.requires.useful c.in_ok-unions.unions.items c.as_slice.result.now c.row.result.now
+    c.row.ensures.lent c.in_ok-unions.ensures.same c.as_slice.ensures.value)
+
+pub put_unions-requires-clause-kept_ascending : goal.put_unions-requires-clause-kept_ascending
+put_unions-requires-clause-kept_ascending c =
+    kept_ascend c.args.pool.now c.args.spent c.args.row c.args.useful.now c.clause_count.ensures.sound c.requires.row c.requires.useful c.as_slice-2.result.now
     (kept_lent c.args.pool.now c.args.spent c.args.row c.args.useful.now c.clause_count.ensures.sound c.requires.row c.requires.useful c.in_ok-kept.kept.items c.as_slice-2.result.now c.row-2.result.now
     c.row-2.ensures.lent c.in_ok-kept.ensures c.as_slice-2.ensures.value)
 

@@ -1,6 +1,13 @@
-use Rattle.std.proofs.Common.{◌∙◌}
+use Rattle.std.proofs.Common.{◌∙◌, subst}
+use Rattle.clause_pool.specs.Interned.{clauses_at}
+use Rattle.row_book.specs.Sets.{In}
+use Rattle.row_book.proofs.Books.{row_ascending}
 use Rattle.clause_flatten.proofs.Tidied.{kept_in_order, kept_within, tidied_row}
 use Rattle.clause_flatten.proofs.tidy_rows.tidy_row.Goals as goal
+
+pub kept_clauses-requires-clause-rising : goal.kept_clauses-requires-clause-rising
+kept_clauses-requires-clause-rising c d i =
+    row_ascending c.args.pool.now c.clause_count.ensures.sound c.args.row c.requires d (subst (λ ids. In d (clauses_at c.args.pool.now ids)) c.row.ensures.lent i)
 
 pub intern_row-requires-clause-of_pool : goal.intern_row-requires-clause-of_pool
 intern_row-requires-clause-of_pool c id i =

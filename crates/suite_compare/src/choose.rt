@@ -35,7 +35,8 @@ fn put(chosen: &mut Vec<u32>, number: u32) -> Result<(), AllocError>
     Ok(())
 }
 
-/// Puts the first member of each clause of a row behind the others; answers whether each clause has one.
+/// Puts the first member of each clause of a row behind the others; answers whether each clause has one, and they are not too
+/// many, as they are where a hostile index gives a class thousands of clauses.
 fn put_firsts(pool: &Pool, row: &[ClauseId], chosen: &mut Vec<u32>) -> Result<bool, AllocError>
     requires { OfPool pool.now row.now }
     ensures behind { OnOk result ((more : List ℕ) × (chosen.new.items ≡ chosen.old.items ++ more)) }
@@ -43,6 +44,9 @@ fn put_firsts(pool: &Pool, row: &[ClauseId], chosen: &mut Vec<u32>) -> Result<bo
     ensures below { OnOk result ((size : ℕ) → AreBelow size chosen.old.items → ((c : List ℕ) → In c (clauses_at pool.now row.now) → AreBelow size c) → AreBelow size chosen.new.items) }
 {
     for id in row {
+        if MOST_MEMBERS < chosen.as_slice().len() {
+            return Ok(false);
+        }
         match pool.slice(*id).first() {
             None => return Ok(false),
             Some(number) => put(chosen, *number)?,

@@ -13,6 +13,9 @@ slice-requires c = c.requires c.id-item.result (item_in c.args.row.now c.loop-id
 pub loop-id-preserved : goal.loop-id-preserved
 loop-id-preserved c = firsts_more c.args.pool.now c.args.row.now c.loop-id.id-index c.id-item.result c.slice.result.now c.in-Some.number.now c.args.chosen.now.items c.loop-id.chosen.items c.put.new.chosen.items c.loop-id-test.true c.id-item.is c.slice.ensures.lent c.in-Some.ensures.value c.in_ok-put-in-Some.ensures c.loop-id.invariant
 
+pub returns-then-as_slice-gt-MOST_MEMBERS-clause-below : goal.returns-then-as_slice-gt-MOST_MEMBERS-clause-below
+returns-then-as_slice-gt-MOST_MEMBERS-clause-below c = λ size o all. c.loop-id.invariant.below size o (λ d i. all d (In_map_part (clause_at c.args.pool.now) c.args.row.now c.loop-id.id-index d i))
+
 pub returns-in-None-clause-behind : goal.returns-in-None-clause-behind
 returns-in-None-clause-behind c = c.loop-id.invariant.more
 

@@ -1,8 +1,10 @@
+pub mod CloseLemmas
 pub mod Examples
 pub mod FieldLemmas
 pub mod GroupLemmas
 pub mod LineLemmas
 pub mod NoteLemmas
+pub mod PartLemmas
 pub mod PlaceLemmas
 pub mod ReadingLemmas
 pub mod ScanLemmas

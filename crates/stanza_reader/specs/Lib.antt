@@ -1,3 +1,4 @@
+pub mod Close
 pub mod Lines
 pub mod Fields
 pub mod Note

@@ -2,9 +2,11 @@
 #![tactic(auto)]
 
 mod check;
+mod close;
 mod fault;
 mod fields;
 mod groups;
+mod laws;
 mod lines;
 mod names;
 mod note;
@@ -14,7 +16,12 @@ mod scan;
 mod stanza;
 mod values;
 
+pub use close::closed_front;
 pub use fault::StanzaFault;
+pub use laws::{
+    closed_front_is_closed, closed_front_is_one, closed_texts_join, reads_in_parts,
+    stanzas_in_parts,
+};
 pub use place::Place;
 pub use reading::{Next, next_stanza, read_stanzas};
 pub use stanza::{FieldKind, FieldList, RawField, RawStanza, StanzaList};

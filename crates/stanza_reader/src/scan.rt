@@ -1,7 +1,7 @@
 //! One pass over the lines of a group.
 
 ghost use Rattle.std.specs.Prelude.{◌≡◌, ◌<◌, length, [], true, None, Some, OnOk, IfOk, IfErr};
-ghost use Rattle.stanza_reader.specs.Places.{IsPlace, lines_at};
+ghost use Rattle.stanza_reader.specs.Places.{CountsOn, IsPlace, lines_at};
 ghost use Rattle.stanza_reader.specs.Reading.{OnTextFault};
 ghost use Rattle.stanza_reader.specs.Stanzas.{behind_group, first_group, first_line_fault, has_line, kept_fields, repeat_fault};
 
@@ -25,6 +25,7 @@ pub(crate) struct Found {
 
 /// Passes once over the lines of the group at a place, up to the first fault of shape. A first line that is a
 /// continuation line is none of these.
+#[tactic(auto, using(crate::proofs::PlaceLemmas::counts_on))]
 pub(crate) fn scan(alloc: Global, bytes: &[u8], at: Place) -> Result<Found, StanzaFault>
     requires place { IsPlace bytes.now at }
     requires full { has_line (first_group (lines_at bytes.now at)) ≡ true }
@@ -34,6 +35,7 @@ pub(crate) fn scan(alloc: Global, bytes: &[u8], at: Place) -> Result<Found, Stan
     ensures fields { IfOk result (λ found. found.repeat ≡ None → found.fields ≡ kept_fields (first_group (lines_at bytes.now at))) }
     ensures place { IfOk result (λ found. IsPlace bytes.now found.after) }
     ensures onward { IfOk result (λ found. at.offset < found.after.offset) }
+    ensures counted { IfOk result (λ found. CountsOn bytes.now at found.after) }
     ensures lines { IfOk result (λ found. lines_at bytes.now found.after ≡ behind_group (lines_at bytes.now at)) }
 {
     let mut fields = FieldList::new(alloc);

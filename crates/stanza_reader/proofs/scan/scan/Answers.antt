@@ -2,6 +2,7 @@ use Rattle.std.proofs.Common.{sym, ◌∙◌, refl, ap, arith}
 use Rattle.std.proofs.lemmas.List.{drop_all}
 use Rattle.stanza_reader.specs.Lines.{numbered, lines}
 use Rattle.stanza_reader.specs.Stanzas.{first_group}
+use Rattle.stanza_reader.proofs.PlaceLemmas.{counts_on}
 use Rattle.stanza_reader.proofs.ScanLemmas.{behind_more, shape_more, fields_more, fields_past, repeat_first, repeat_more, repeat_none}
 use Rattle.stanza_reader.proofs.scan.scan.Goals as goal
 
@@ -10,6 +11,7 @@ pub loop-at-init : goal.loop-at-init
 loop-at-init c = record {
   place = c.requires.place;
   onward = omega arith;
+  counted = refl;
   start = λ _. c.requires.full;
   behind = refl;
   shape = refl;
@@ -28,6 +30,7 @@ loop-at-preserved-in_default c =
     record {
       place = next.place;
       onward = omega arith;
+      counted = counts_on c.args.bytes.now c.args.at c.loop-at.at c.next_line.result.1 held.counted next.counted;
       start = λ e. absurd (omega arith);
       behind = behind_more _ _ _ _ next.lines full held.behind;
       shape = shape_more _ _ _ _ next.lines full c.in-Ok.ensures.fine held.shape;
@@ -46,6 +49,7 @@ loop-at-preserved c =
     record {
       place = next.place;
       onward = omega arith;
+      counted = counts_on c.args.bytes.now c.args.at c.loop-at.at c.next_line.result.1 held.counted next.counted;
       start = λ e. absurd (omega arith);
       behind = behind_more _ _ _ _ next.lines full held.behind;
       shape = shape_more _ _ _ _ next.lines full c.in-Ok.ensures.fine held.shape;

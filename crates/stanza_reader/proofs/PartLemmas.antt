@@ -1,13 +1,15 @@
 -- A text whose first part is closed reads as its two parts, one after the other.
-use Rattle.std.proofs.Common.{◌≡◌, ℕ, ◌+◌, suc, Bool, true, false, cond, List, [], ◌∷◌, ◌++◌, length, Result, Ok, Err, map, refl, ap, sym, ◌∙◌, arith}
+use Rattle.std.proofs.Common.{◌≡◌, ℕ, ◌+◌, suc, Bool, true, false, cond, List, [], ◌∷◌, ◌++◌, length, drop, Result, Ok, Err, map, refl, ap, sym, ◌∙◌, arith}
 use Rattle.std.specs.Prelude.{filter, count_by}
 use Rattle.std.specs.List.{slice_split, onto_first, before_first, after_first}
 use Rattle.std.proofs.lemmas.List.{append-nil, map-append}
 use Rattle.std.proofs.lemmas.List.Elements.{filter-append}
 use Rattle.std.proofs.lemmas.List.Sums.{sum_by-cons}
 use Rattle.stanza_reader.specs.Lines.{Line, is_line_feed, is_blank, lines, numbered}
-use Rattle.stanza_reader.specs.Stanzas.{groups, is_blank_line, has_line, stanza_of, all_or_fault, with_first}
+use Rattle.stanza_reader.specs.Stanzas.{groups, is_blank_line, has_line, stanza_of, readings, all_or_fault, with_first}
 use Rattle.stanza_reader.specs.Close.{is_ended, ends_blank, readings_from, followed_by, ReadsInParts, StanzasInParts, ClosedTextsJoin}
+use Rattle.stanza_reader.specs.Reading.{readings_at}
+use Rattle.stanza_reader.specs.declared.place.Place.{Place}
 use Rattle.stanza_reader.specs.declared.stanza.RawStanza.{RawStanza}
 use Rattle.stanza_reader.specs.declared.fault.StanzaFault.{StanzaFault}
 use Rattle.stanza_reader.proofs.LineLemmas.{lines_first}
@@ -100,6 +102,15 @@ reads_in_parts number front rest closed =
     ∙ ap (map stanza_of) (groups_parts number (lines front) (numbered (number + length (lines front)) (lines rest)) closed.blank)
     ∙ map-append stanza_of (groups (numbered number (lines front))) (groups (numbered (number + length (lines front)) (lines rest)))
     ∙ ap (λ n. map stanza_of (groups (numbered number (lines front))) ++ map stanza_of (groups (numbered n (lines rest)))) count
+
+-- what is read from a place on is what the text from there on reads as, with the lines counted on from its number
+pub readings_at-from : (bytes : List ℕ) (at : Place) → readings_at bytes at ≡ readings_from at.line (drop at.offset bytes)
+unfolding readings_at readings_from
+readings_at-from bytes at = refl
+
+pub readings-from : (text : List ℕ) → readings text ≡ readings_from 1 text
+unfolding readings readings_from
+readings-from text = refl
 
 first_before : (stanza : RawStanza) (front rest : Result (List RawStanza) StanzaFault) → with_first stanza (followed_by front rest) ≡ followed_by (with_first stanza front) rest
 first_before stanza (Ok front) (Ok rest) = refl

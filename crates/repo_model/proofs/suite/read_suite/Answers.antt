@@ -1,13 +1,14 @@
-use Rattle.std.proofs.Common.{length, ap, refl, arith}
+use Rattle.std.proofs.Common.{length, ap, arith}
 use Rattle.std.proofs.lemmas.Result.{err_from_is_err_and}
 use Rattle.repo_model.proofs.Short.{values_short}
 use Rattle.repo_model.proofs.Steps.{read_first, shape_refused, stanza_refused, read_more, read_all}
+use Rattle.stanza_reader.proofs.PlaceLemmas.{place_first}
 use Rattle.repo_model.proofs.suite.read_suite.Goals as goal
 
 pub loop-building-init : goal.loop-building-init
 loop-building-init c =
     read_first c.args.bytes.now _ _ _ c.new-building.ensures.packages c.new-building.ensures.home c.new-building.ensures.indexed
-    (record { within = omega arith; start = refl; counted = refl })
+    (place_first c.args.bytes.now (omega (arith, c.requires)))
 
 pub returns-in_err-read_next-clause-refused : goal.returns-in_err-read_next-clause-refused
 returns-in_err-read_next-clause-refused c =

@@ -236,6 +236,21 @@ const ANSWERS: [(&str, &str, (u64, u64, u64), u8, &str, &str); 22] = [
     ("", NOWHERE, (0, 0, 1), 5, "", ""),
 ];
 
+/// An index of the packages of `CHOICE` without what they need and what they conflict with.
+const ALONE: &str =
+    "Package: a\nVersion: 1\n\nPackage: b\nVersion: 1\n\nPackage: c\nVersion: 1\n\n";
+
+/// The call of the shelf that fails where `O`, of three calls, is compared with `N`, and then the status, the report and the line.
+const COMPARED: [(u64, u8, &str, &str); 7] = [
+    (1, 5, "", "O: read failed\n"),
+    (2, 5, "", "O: read failed\n"),
+    (3, 5, "", "O: read failed\n"),
+    (4, 5, "", "N: read failed\n"),
+    (5, 5, "", "N: read failed\n"),
+    (6, 5, "", "N: read failed\n"),
+    (7, 1, "broken b c\nend 1 0\n", ""),
+];
+
 /// Indexes of the packages a, b, c and d, and their least sets that can't be installed together, as bits.
 const BROKEN: [(&str, &[u32]); 4] = [
     (
@@ -289,19 +304,43 @@ fn stream(alloc: Global, failing: u64) -> Result<MemSink, AllocError> {
     Ok(stream)
 }
 
-fn left_by(alloc: Global, given: &Given) -> Result<Left, AllocError> {
-    let mut shelf = MemShelf::new(alloc, 65_536);
-    shelf.add("I", given.text.as_bytes())?;
-    shelf.fail_at(given.failing.0)?;
-    let mut out = stream(alloc, given.failing.1)?;
-    let mut err = stream(alloc, given.failing.2)?;
-    let words = strings(alloc, given.words)?;
-    let status = run(alloc, words.as_slice(), &mut shelf, &mut out, &mut err);
+/// What a run over the shelf left, where the numbered writes of standard output and of standard error fail.
+fn left_on(
+    alloc: Global,
+    shelf: &mut MemShelf,
+    words: &str,
+    failing: (u64, u64),
+) -> Result<Left, AllocError> {
+    let mut out = stream(alloc, failing.0)?;
+    let mut err = stream(alloc, failing.1)?;
+    let words = strings(alloc, words)?;
+    let status = run(alloc, words.as_slice(), shelf, &mut out, &mut err);
     Ok(Left {
         code: status.code(),
         out,
         err,
     })
+}
+
+fn left_by(alloc: Global, given: &Given) -> Result<Left, AllocError> {
+    let mut shelf = MemShelf::new(alloc, 65_536);
+    shelf.add("I", given.text.as_bytes())?;
+    shelf.fail_at(given.failing.0)?;
+    left_on(
+        alloc,
+        &mut shelf,
+        given.words,
+        (given.failing.1, given.failing.2),
+    )
+}
+
+/// What a comparison left where a call of the shelf fails.
+fn left_by_comparison(alloc: Global, failing: u64) -> Result<Left, AllocError> {
+    let mut shelf = MemShelf::new(alloc, 65_536);
+    shelf.add("O", ALONE.as_bytes())?;
+    shelf.add("N", CHOICE.as_bytes())?;
+    shelf.fail_at(failing)?;
+    left_on(alloc, &mut shelf, "compare O N", (0, 0))
 }
 
 /// Holds the status, the report and the line of a run against those that are wanted.
@@ -358,6 +397,44 @@ fn answers_have_their_causes(rt: HostRuntime) -> Result<(), Fail> {
         };
         expect(&rt, &given, code, report, line)?;
     }
+    Ok(())
+}
+
+#[test]
+fn failed_calls_end_the_work(rt: HostRuntime) -> Result<(), Fail> {
+    for (failing, code, report, line) in COMPARED {
+        let left = left_by_comparison(rt.alloc(), failing)?;
+        assert_eq!(rt; left.code, code, "call {failing}");
+        assert_eq!(rt; left.out.taken(), report.as_bytes(), "call {failing}");
+        assert_eq!(rt; left.err.taken(), line.as_bytes(), "call {failing}");
+    }
+    let cut = Given {
+        text: "",
+        words: INDEX,
+        failing: (0, 3, 0),
+    };
+    expect(
+        &rt,
+        &cut,
+        6,
+        "coinst-kernel 1\nend ",
+        "write failed after 20 bytes\n",
+    )
+}
+
+#[test]
+fn a_sample_is_the_same_again(rt: HostRuntime) -> Result<(), Fail> {
+    let given = Given {
+        text: "",
+        words: "sample 3 5000",
+        failing: (0, 0, 0),
+    };
+    let first = left_by(rt.alloc(), &given)?;
+    let again = left_by(rt.alloc(), &given)?;
+    assert!(rt; first.code == 0 || first.code == 4);
+    assert_eq!(rt; first.code, again.code);
+    assert_eq!(rt; first.out.taken(), again.out.taken());
+    assert_eq!(rt; first.err.taken(), again.err.taken());
     Ok(())
 }
 

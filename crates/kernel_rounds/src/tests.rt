@@ -1,14 +1,14 @@
 //! Small repositories and their kernels, and what their rounds leave in a pool.
 ghost use Rattle.std.specs.Prelude.{IfOk};
+ghost use Rattle.clause_pool.specs.Interned.{Interned};
 ghost use Rattle.row_book.specs.Book.{Sound};
 ghost use Rattle.row_book.specs.Trail.{SoundSteps};
 
 use crate::comparing::same_books;
-use crate::moving::no_steps;
 use crate::samples::{Sample, book_of};
 use crate::{RoundError, Rounded, extract, one_round};
 use clause_pool::Pool;
-use row_book::{Book, Trail};
+use row_book::{Book, StepList, Trail};
 use std::alloc::Global;
 use std::process::Abort;
 use std::test::Fail;
@@ -226,6 +226,15 @@ fn kernels_and_refusals_are_as_worked_out(rt: HostRuntime) -> Result<(), Fail> {
     assert_eq!(rt; refusal(&rt, freed)?, Some(in_second_round));
     assert_eq!(rt; refusal(&rt, redundant.sample)?, None);
     Ok(())
+}
+
+/// No steps.
+fn no_steps(alloc: Global) -> Trail
+    ensures { (pool : Interned) → SoundSteps pool result.steps }
+{
+    Trail {
+        steps: StepList::new(alloc),
+    }
 }
 
 /// Asserts what one more round gives: whether it changes something, the classes, and how many clauses the pool then has.

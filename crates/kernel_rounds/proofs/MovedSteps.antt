@@ -14,7 +14,6 @@ use Rattle.row_book.specs.Book.{repository_of, AddsOnly, IsSameBook, Sound}
 use Rattle.row_book.specs.Repository.{Repository}
 use Rattle.row_book.specs.Rounds.{RoundStep, FlatStep, IdleStep, MergeStep}
 use Rattle.row_book.specs.Trail.{SoundStep, SoundSteps, step_meaning, trail_meaning}
-use Rattle.row_book.proofs.Books.{repository_kept, sound_kept}
 use Rattle.row_book.proofs.Lists.{In_append_cases, In_append_left, In_append_right, In_at, In_cases, In_map, In_map_cases, In_none}
 use Rattle.kernel_rounds.specs.Extracting.{IsExtracted, IsReached}
 use Rattle.kernel_rounds.specs.Moving.{live_rows, step_rows, trail_rows, AreSameSteps, HasOnly, HasSteps, IsSameStep}
@@ -151,9 +150,6 @@ adds_both a b c xs ys all p q k within e =
         | inr u ↦ let w : (row : ℕ) × In row ys × In id (ids_at c row) = q.clauses id u high in (w.0, right w.0 w.1, w.2)
       ];
     }
-
-pub adds_none : (pool : Interned) (rows : List ℕ) → AddsOnly pool pool rows
-adds_none pool rows = record { rows = λ id low high. absurd (omega arith); clauses = λ id low high. absurd (omega arith) }
 
 -- some of the steps were carried, and nothing else came into the pool
 pub record CarriedSteps (from start pool : Interned) (steps made : List Step) : Type 0 where

@@ -1,2 +1,3 @@
 pub mod FileTableLemmas
+pub mod ReadingSteps
 pub mod ScheduleLemmas

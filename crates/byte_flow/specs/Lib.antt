@@ -1,5 +1,6 @@
 pub mod Flow
 pub mod Transfer
+pub mod Feeding
 pub mod Schedule
 pub mod FileTable
 pub mod MemShelf

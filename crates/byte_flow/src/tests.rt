@@ -1,4 +1,9 @@
-use crate::{FileShelf, MemShelf, MemSink, Shelf, StdSink, WriteError, read_file, write_all};
+ghost use Rattle.std.specs.Prelude.{◌≡◌, length};
+
+use crate::{
+    FileShelf, MemShelf, MemSink, Shelf, StdSink, Taker, WriteError, feed_file, read_file,
+    write_all,
+};
 use std::alloc::{AllocError, Global};
 use std::fs;
 use std::test::Fail;
@@ -110,5 +115,153 @@ fn real_streams_take_bytes_or_fail(rt: HostRuntime) -> Result<(), Fail> {
         panic!(rt; "a file that is only read took a byte");
     };
     assert_eq!(rt; written, 0);
+    Ok(())
+}
+
+/// A taker that keeps the bytes of its pieces, and refuses the piece with a number, from 1.
+#[derive(Drop)]
+struct Keeper {
+    bytes: Vec<u8>,
+    pieces: u64,
+    refused: u64,
+}
+
+impl Taker for Keeper {
+    ghost use Rattle.std.specs.Prelude.{◌≡◌, length};
+
+    ghost stands_for = { λ keeper s. keeper.bytes.items ≡ s };
+
+    ghost taken = { λ keeper. length keeper.bytes.items };
+
+    ghost limit = { λ _. 4294967296 };
+
+    fn take(&mut self, piece: &[u8]) -> Result<(), AllocError> {
+        self.pieces = self.pieces.saturating_add(1);
+        if self.pieces == self.refused {
+            return Err(AllocError);
+        }
+        self.bytes.extend_from_slice(piece)
+    }
+}
+
+/// A text of so many bytes that differs from piece to piece.
+fn long_text(alloc: Global, length: u32) -> Result<Vec<u8>, AllocError> {
+    let mut text = Vec::new(alloc);
+    for i in 0..length {
+        text.push((i % 251) as u8)?;
+    }
+    Ok(text)
+}
+
+/// How the feeding of a file ended, and what the taker had by then.
+fn feeding_told<F: Shelf>(
+    alloc: Global,
+    shelf: &mut F,
+    limit: u32,
+    keeper: &mut Keeper,
+) -> Result<String, AllocError>
+    requires { length keeper.old.bytes.items ≡ 0 }
+{
+    let fed = feed_file(alloc, shelf, "a", u64::from(limit), keeper);
+    let bytes = keeper.bytes.len();
+    let pieces = keeper.pieces;
+    match fed {
+        Ok(count) => format!(in alloc; "fed {count}: {bytes} bytes in {pieces} pieces"),
+        Err(refusal) => format!(in alloc; "{refusal}: {bytes} bytes in {pieces} pieces"),
+    }
+}
+
+#[test]
+fn a_taker_is_given_a_file_in_pieces(rt: HostRuntime) -> Result<(), Fail> {
+    let alloc = rt.alloc();
+    let cases = [
+        (0, 2, 0, 0, 0, "fed 0: 0 bytes in 0 pieces"),
+        (1, 2, 0, 0, 9, "fed 1: 1 bytes in 1 pieces"),
+        (
+            65_536,
+            70_000,
+            0,
+            0,
+            70_000,
+            "fed 65536: 65536 bytes in 1 pieces",
+        ),
+        (
+            65_537,
+            70_000,
+            0,
+            0,
+            70_000,
+            "fed 65537: 65537 bytes in 2 pieces",
+        ),
+        (
+            196_608,
+            70_000,
+            0,
+            0,
+            196_608,
+            "fed 196608: 196608 bytes in 3 pieces",
+        ),
+        (
+            196_608,
+            70_000,
+            0,
+            0,
+            196_607,
+            "the file is longer than the limit: 131072 bytes in 2 pieces",
+        ),
+        (5, 2, 0, 0, 5, "fed 5: 5 bytes in 3 pieces"),
+        (
+            5,
+            2,
+            0,
+            0,
+            4,
+            "the file is longer than the limit: 4 bytes in 2 pieces",
+        ),
+        (
+            5,
+            2,
+            1,
+            0,
+            5,
+            "the file could not be read: 0 bytes in 0 pieces",
+        ),
+        (
+            5,
+            2,
+            4,
+            0,
+            5,
+            "the file could not be read: 4 bytes in 2 pieces",
+        ),
+        (
+            5,
+            2,
+            5,
+            0,
+            5,
+            "the file could not be read: 5 bytes in 3 pieces",
+        ),
+        (5, 2, 0, 2, 5, "out of memory: 2 bytes in 2 pieces"),
+    ];
+    for (length, step, call, refused, limit, want) in cases {
+        let file = long_text(alloc, length)?;
+        let mut shelf = MemShelf::new(alloc, step);
+        shelf.add("a", &file)?;
+        shelf.fail_at(call)?;
+        let bytes = Vec::new(alloc);
+        let mut keeper = Keeper {
+            bytes,
+            pieces: 0,
+            refused,
+        };
+        let told = feeding_told(alloc, &mut shelf, limit, &mut keeper)?;
+        assert_eq!(rt;
+            told.as_str(),
+            want,
+            "length {length}, limit {limit}, call {call}"
+        );
+        assert!(rt; file.starts_with(keeper.bytes.as_slice()));
+    }
     Ok(())
 }

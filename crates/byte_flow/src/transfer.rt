@@ -92,7 +92,7 @@ pub fn read_file<F: Shelf>(
 }
 
 /// A buffer for one read.
-fn make_piece(alloc: Global) -> Result<Vec<u8>, AllocError>
+pub fn make_piece(alloc: Global) -> Result<Vec<u8>, AllocError>
     ensures { IfOk result (λ v. length v.items ≡ 65536) }
 {
     vec![in alloc; 0u8; PIECE_SIZE]

@@ -1,13 +1,7 @@
-use Rattle.std.proofs.Common.{◌≡◌, ℕ, ◌+◌, ◌-◌, ◌≤◌, List, ◌++◌, length, Option, Some, None}
-use Rattle.byte_flow.specs.Flow.{Files}
+use Rattle.std.proofs.Common.{◌≡◌, ◌+◌, ◌-◌, ◌≤◌, length}
 use Rattle.byte_flow.specs.Transfer.{Reached}
+use Rattle.byte_flow.proofs.ReadingSteps.{IsReadSoFar}
 use Rattle.byte_flow.proofs.transfer.read_file.Given as goal
-
--- what was read and what is left are the file, where the contents are told
-abbrev pub IsReadSoFar : Option Files → List ℕ → List ℕ → Option (List ℕ) → Type 0
-IsReadSoFar None path bytes rest = Unit {0}
-IsReadSoFar (Some files) path bytes None = ⊥
-IsReadSoFar (Some files) path bytes (Some xs) = files path ≡ Some (bytes ++ xs)
 
 abbrev pub invariant-loop-bytes : goal.invariant-loop-bytes
 invariant-loop-bytes g l = record {

@@ -30,7 +30,8 @@ pub fn stored_images_are_of_index()
     ensures { StoredImagesAreOfIndex }
 {}
 
-/// The kernel text of an index answers goals as the index does: yes, no with the same log, undecided, or which goal is unknown.
+/// The kernel text of an index answers goals as the index does: yes, with classes in the place of the packages that are installed
+/// for them, no with the same log, undecided, or which goal is unknown.
 pub fn stored_answers_as_index()
     ensures { StoredAnswersAsIndex }
 {}

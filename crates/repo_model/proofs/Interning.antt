@@ -26,7 +26,7 @@ pub clauses_kept : (a b : Interned) → Kept a b → (ids : List ℕ) → OfPool
 clauses_kept a b k [] within = refl
 clauses_kept a b k (id ∷ ids) within = ap₂ (λ c cs. c ∷ cs) (k.clauses id (within id here)).1 (clauses_kept a b k ids (λ i j. within i (there j)))
 
-of_pool_kept : (a b : Interned) → Kept a b → (ids : List ℕ) → OfPool a ids → OfPool b ids
+pub of_pool_kept : (a b : Interned) → Kept a b → (ids : List ℕ) → OfPool a ids → OfPool b ids
 of_pool_kept a b k ids within id i = (k.clauses id (within id i)).0
 
 -- a clause is among those into which it was put

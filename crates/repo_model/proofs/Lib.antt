@@ -7,11 +7,13 @@ pub mod Short
 pub mod Booked
 pub mod Chosen
 pub mod Accepted
+pub mod AlikeLists
 pub mod Compared
 pub mod Elements
 pub mod Form
 pub mod Healthy
 pub mod Interning
+pub mod KnownIds
 pub mod Numbers
 pub mod Packages
 pub mod Paired

@@ -9,6 +9,7 @@ pub mod Repository
 pub mod Laws
 pub mod Meeting
 pub mod Interning
+pub mod Known
 pub mod Pairs
 pub mod Goals
 pub mod GoalRefusals

@@ -1,6 +1,7 @@
 //! A suite: the packages of an index, or its first fault, and the repository of the packages.
 #![tactic(auto)]
 
+mod alike;
 mod building;
 mod choose;
 mod clauses;
@@ -8,6 +9,7 @@ mod facts;
 pub mod fault;
 mod fields;
 pub mod goals;
+mod known;
 mod laws;
 pub mod names;
 mod pairs;

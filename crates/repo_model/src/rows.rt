@@ -1,19 +1,23 @@
 //! The rows of packages: their clauses, interned in a pool.
-ghost use Rattle.std.specs.Prelude.{◌≡◌, ◌≤◌, ◌<◌, ◌∷◌, ℕ, List, [], IfOk, OnOk, map, length, slice_index_or, true, false};
-ghost use Rattle.clause_pool.specs.Interned.{clause_at, clauses_at, Interned, Kept, OfPool};
+ghost use Rattle.std.specs.Prelude.{◌≡◌, ◌≤◌, ◌<◌, ◌∷◌, ℕ, [], Some, IfOk, OnOk, map, length, slice_get, slice_index_or, true, false};
+ghost use Rattle.std.specs.Option.{option_map};
+ghost use Rattle.clause_pool.specs.Interned.{clause_at, clauses_at, Kept, OfPool};
 ghost use Rattle.row_book.specs.Clauses.{comes_before, in_row_order, insert_clause, Ascending};
 ghost use Rattle.row_book.specs.Sets.{In};
 ghost use Rattle.virtual_provides.specs.Bearers.{IsBuiltFrom};
 ghost use Rattle.repo_model.specs.Interning.{HasIds, HasRows};
+ghost use Rattle.repo_model.specs.Known.{AreKnown};
 ghost use Rattle.repo_model.specs.Repository.{clause_of, row_of};
 
-use crate::clauses::{element_clause, is_before};
+use crate::clauses::is_before;
+use crate::known::{KnownClauses, NeedPlace, clause_id};
 use clause_pool::{ClauseId, Pool, RowId};
 use relation_fields::{AtomList, Home, PackageFacts};
 use std::alloc::{AllocError, Global};
 use virtual_provides::NameTable;
 
 /// The rows of the packages; the pool gains these and their clauses alone.
+#[tactic(auto, using(crate::proofs::KnownIds::needs_there, crate::proofs::KnownIds::none_known))]
 pub(crate) fn intern_rows(
     alloc: Global,
     pool: &mut Pool,
@@ -25,9 +29,13 @@ pub(crate) fn intern_rows(
     ensures rows { IfOk result (λ rows. HasRows pool.old pool.new (map (row_of home.now packages.now) packages.now) rows.items) }
     ensures kept { Kept pool.old pool.new }
 {
+    let mut known = KnownClauses::new(alloc);
     let mut rows = Vec::new(alloc);
-    for facts in packages {
-        rows.push(intern_row(alloc, pool, names, packages, home, facts.needs.as_slice())?)?;
+    for (number, facts) in packages.iter().enumerate() {
+        let needs = facts.needs.as_slice();
+        rows.push(intern_row(
+            alloc, pool, &mut known, names, packages, home, number, needs,
+        )?)?;
     }
     Ok(rows)
 }
@@ -36,54 +44,57 @@ pub(crate) fn intern_rows(
 fn intern_row(
     alloc: Global,
     pool: &mut Pool,
+    known: &mut KnownClauses,
     names: &NameTable,
     packages: &[PackageFacts],
     home: &Home,
+    number: usize,
     elements: &[AtomList],
 ) -> Result<RowId, AllocError>
-    requires { IsBuiltFrom packages.now names.now }
+    requires built { IsBuiltFrom packages.now names.now }
+    requires known { AreKnown home.now packages.now pool.old.clauses known.old }
+    requires of { option_map (λ facts. facts.needs) (slice_get packages.now number) ≡ Some elements.now }
     ensures row { IfOk result (λ row. HasRows pool.old pool.new (in_row_order (map (clause_of home.now packages.now) elements.now) ∷ []) (row ∷ [])) }
     ensures kept { Kept pool.old pool.new }
+    ensures known { OnOk result (AreKnown home.now packages.now pool.new.clauses known.new) }
 {
-    let ids = intern_clauses(alloc, pool, names, packages, home, elements)?;
+    let ids = intern_clauses(alloc, pool, known, names, packages, home, number, elements)?;
     let row = pool.intern_row(&ids)?;
     Ok(row)
 }
 
 // The ids of the distinct clauses of the elements, in the order of the clauses.
+#[tactic(auto, using(crate::proofs::KnownIds::element_there))]
 fn intern_clauses(
     alloc: Global,
     pool: &mut Pool,
+    known: &mut KnownClauses,
     names: &NameTable,
     packages: &[PackageFacts],
     home: &Home,
+    number: usize,
     elements: &[AtomList],
 ) -> Result<Vec<ClauseId>, AllocError>
-    requires { IsBuiltFrom packages.now names.now }
+    requires built { IsBuiltFrom packages.now names.now }
+    requires known { AreKnown home.now packages.now pool.old.clauses known.old }
+    requires of { option_map (λ facts. facts.needs) (slice_get packages.now number) ≡ Some elements.now }
     ensures ids { IfOk result (λ ids. HasIds pool.old pool.new (in_row_order (map (clause_of home.now packages.now) elements.now)) ids.items) }
     ensures kept { Kept pool.old pool.new }
+    ensures known { OnOk result (AreKnown home.now packages.now pool.new.clauses known.new) }
 {
     let mut ids = Vec::new(alloc);
     let mut left = elements.len();
     while left > 0 {
         left -= 1;
-        let clause = element_clause(alloc, names, packages, home, elements[left].as_slice())?;
-        intern_placed(pool, &mut ids, &clause)?;
+        let element = elements[left].as_slice();
+        let at = NeedPlace {
+            number,
+            place: left,
+        };
+        let id = clause_id(alloc, pool, known, names, packages, home, at, element)?;
+        place(pool, &mut ids, id, pool.slice(id))?;
     }
     Ok(ids)
-}
-
-// Puts the id of a clause into its place among ids in the order of their clauses, where it is not there yet.
-fn intern_placed(pool: &mut Pool, ids: &mut Vec<ClauseId>, clause: &[u32]) -> Result<(), AllocError>
-    requires ascending { Ascending clause.now }
-    requires of_pool { OfPool pool.old ids.old.items }
-    ensures placed { OnOk result ((start : Interned) (clauses : List (List ℕ)) → HasIds start pool.old clauses ids.old.items →
-        HasIds start pool.new (insert_clause clause.now clauses) ids.new.items) }
-    ensures kept { Kept pool.old pool.new }
-{
-    let id = pool.intern(clause)?;
-    place(pool, ids, id, clause)?;
-    Ok(())
 }
 
 // Puts an id into its place among ids in the order of their clauses, where its clause is not there yet.

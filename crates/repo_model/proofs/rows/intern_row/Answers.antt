@@ -3,6 +3,7 @@ use Rattle.clause_pool.specs.Interned.{clauses_at}
 use Rattle.row_book.specs.Clauses.{in_row_order, InOrder}
 use Rattle.row_book.proofs.Order.{ordered_order}
 use Rattle.repo_model.specs.Interning.{HasIds}
+use Rattle.repo_model.specs.Known.{AreKnown}
 use Rattle.repo_model.specs.Repository.{clause_of}
 use Rattle.repo_model.proofs.Interning.{row_made}
 use Rattle.repo_model.proofs.rows.intern_row.Goals as goal
@@ -19,3 +20,7 @@ returns-clause-row c =
     row_made c.args.pool.now pool c.intern_row.new.self clauses c.deref.result.now c.in_ok-row.row
     (subst (λ ids. HasIds c.args.pool.now pool clauses ids) (sym c.deref.ensures.value) c.in_ok-ids.ensures.ids) c.intern_row.ensures.kept c.intern_row.ensures.clauses c.in_ok-row.ensures.ok
     c.in_ok-row.ensures.gains
+
+pub returns-clause-known : goal.returns-clause-known
+returns-clause-known c =
+    subst (λ clauses. AreKnown c.args.home.now c.args.packages.now clauses c.intern_clauses.new.known) (sym c.intern_row.ensures.clauses) c.in_ok-ids.ensures.known

@@ -16,6 +16,7 @@ pub mod Numerals
 pub mod LineWords
 pub mod NumberWords
 pub mod MemberTable
+pub mod MemberKeys
 pub mod Rising
 pub mod ClauseTaken
 pub mod Cuts

@@ -1,19 +1,15 @@
 -- The members so far, by the keys of their names and versions.
-use Rattle.std.proofs.Common.{◌≡◌, ℕ, suc, Bool, true, false, ◌==◌, eqb-true, List, [], ◌∷◌, ◌++◌, Option, Some, None, length, map, filter, inl, inr, refl, sym, ap, ap₂, ◌∙◌, subst, arith}
-use Rattle.std.specs.Prelude.{if◌then◌else◌}
+use Rattle.std.proofs.Common.{◌≡◌, ℕ, Bool, true, false, not, ◌||◌, List, [], ◌∷◌, ◌++◌, Option, Some, None, map, inl, inr, refl, sym, ap, ap₂, ◌∙◌, subst}
+use Rattle.std.specs.List.{list_any}
 use Rattle.std.specs.Str.{bytes_eq}
 use Rattle.std.proofs.lemmas.Bool.{both_ways, false≢true, false_from_ne_true}
-use Rattle.std.proofs.lemmas.List.{append-nil, map-append}
-use Rattle.std.proofs.lemmas.List.Elements.{filter-append}
-use Rattle.std.proofs.lemmas.Slice.Eq.{bytes_eq-Decides}
+use Rattle.std.proofs.lemmas.List.{map-append}
 use Rattle.relation_fields.specs.declared.packages.PackageFacts.{PackageFacts}
 use Rattle.repo_model.proofs.PackageKeys.{has_key-same}
-use Rattle.row_book.specs.Sets.{In, here}
-use Rattle.row_book.proofs.Lists.{In_append_cases, In_cases, In_none, filter_cases, filter_from}
-use Rattle.virtual_provides.specs.declared.numbers.NumbersByName.{NumbersByName}
-use Rattle.virtual_provides.specs.Numbers.{Puts, numbers_under, with_number}
+use Rattle.row_book.specs.Sets.{In}
+use Rattle.row_book.proofs.Lists.{In_append_cases, In_cases, In_none, any_cases, any_from}
 use Rattle.kernel_text.specs.declared.member.Member.{Member}
-use Rattle.kernel_text.specs.Reader.{IsMemberTable, kind_of_last, may_add_member, member_key}
+use Rattle.kernel_text.specs.Reader.{AreKeysOf, kind_of_last, may_add_member, member_key}
 use Rattle.kernel_text.specs.KernelLines.{KernelLine, HeadLine, ClassLine, MemberLine, NeedsLine, AgainstLine, EndLine}
 use Rattle.kernel_text.specs.Reading.{IsNamed, IsNew, MayAddMember, is_same_member}
 
@@ -25,63 +21,50 @@ key_tells : (m o : Member) → IsNamed m.name m.version → IsNamed o.name o.ver
 unfolding as_facts
 key_tells m o own its = has_key-same (as_facts m) (as_facts o) own its
 
--- those that have a key
-abbrev with_key : List ℕ → List Member → List Member
-with_key key members = filter (λ o. bytes_eq key (member_key o)) members
+-- a key is one of the members' where a member has it
+keys_any : (key : List ℕ) (members : List Member) → list_any (bytes_eq key) (map member_key members) ≡ list_any (λ o. bytes_eq key (member_key o)) members
+keys_any key [] = refl
+keys_any key (m ∷ ms) = ap (λ b. bytes_eq key (member_key m) || b) (keys_any key ms)
 
-none_mapped : (ms : List Member) → map (λ (o : Member). o.class) ms ≡ [] → ms ≡ []
-none_mapped [] e = refl
-none_mapped (m ∷ ms) e = absurd (let l : suc (length (map (λ (o : Member). o.class) ms)) ≡ 0 = ap length e in omega (arith, l))
+-- none has no key
+pub no_keys : (members : List Member) (keys : List (List ℕ)) → members ≡ [] → keys ≡ [] → AreKeysOf members keys
+no_keys members keys none empty = record { named = λ m i. absurd (In_none (subst (λ ms. In m ms) none i)); each = empty ∙ ap (map member_key) (sym none) }
 
--- under whose key there is none is a new member
-pub new_member : (m : Member) (members : List Member) (table : NumbersByName) (key : List ℕ) → IsMemberTable members table → IsNamed m.name m.version → key ≡ member_key m →
-    numbers_under table key ≡ [] → IsNew m members
-new_member m members table key index own e none o i =
-    sym (key_tells m o own (index.named o i)) ∙ false_from_ne_true (bytes_eq (member_key m) (member_key o)) (λ h.
-    let all : with_key key members ≡ [] = none_mapped (with_key key members) (sym (index.classes key) ∙ none) in
-    In_none (subst (λ xs. In o xs) all (filter_from (λ z. bytes_eq key (member_key z)) members o i (ap (λ k. bytes_eq k (member_key o)) e ∙ h))))
+-- whose key is none of the members' is a new member
+module _ (m : Member) (members : List Member) (keys : List (List ℕ)) (key : List ℕ) (of : AreKeysOf members keys) (own : IsNamed m.name m.version) (is : key ≡ member_key m) where
+  found_same : list_any (bytes_eq key) keys ≡ list_any (λ o. bytes_eq key (member_key o)) members
+  found_same = ap (list_any (bytes_eq key)) of.each ∙ keys_any key members
 
-pub old_member : (m : Member) (members : List Member) (table : NumbersByName) (key : List ℕ) → IsMemberTable members table → IsNamed m.name m.version → key ≡ member_key m →
-    (numbers_under table key ≡ [] → ⊥) → IsNew m members → ⊥
-old_member m members table key index own e some new = by_list (with_key key members) refl
-  where
-    by_list : (found : List Member) → with_key key members ≡ found → ⊥
-    by_list [] f = some (index.classes key ∙ ap (map (λ (o : Member). o.class)) f)
-    by_list (o ∷ found) f =
-        let w : In o members × (bytes_eq key (member_key o) ≡ true) = filter_cases (λ z. bytes_eq key (member_key z)) members o (subst (λ xs. In o xs) (sym f) here) in
-        both_ways (is_same_member m o) (new o w.0) (sym (key_tells m o own (index.named o w.0)) ∙ ap (λ k. bytes_eq k (member_key o)) (sym e) ∙ w.1)
+  pub new_member : list_any (bytes_eq key) keys ≡ false → IsNew m members
+  new_member none o i =
+      sym (key_tells m o own (of.named o i))
+      ∙ false_from_ne_true (bytes_eq (member_key m) (member_key o)) (λ h.
+      both_ways (list_any (bytes_eq key) keys) none (found_same ∙ any_from (λ z. bytes_eq key (member_key z)) members o i (ap (λ k. bytes_eq k (member_key o)) is ∙ h)))
 
--- one more member, with its class under its key
-pub table_more : (m : Member) (members more : List Member) (old new : NumbersByName) (key : List ℕ) → IsMemberTable members old → IsNamed m.name m.version → key ≡ member_key m →
-    numbers_under old key ≡ [] → Puts old new key m.class → more ≡ members ++ m ∷ [] → IsMemberTable more new
-table_more m members more old new key index own e none put pushed = record {
-  named = λ o i.
-      elim (In_append_cases members (m ∷ []) o (subst (λ xs. In o xs) pushed i)) [
-        | inl j ↦ index.named o j
-        | inr j ↦ elim (In_cases j) [ inl f ↦ subst (λ (z : Member). IsNamed z.name z.version) (sym f) own | inr k ↦ absurd (In_none k) ]
-      ];
-  classes = λ other.
-      put other ∙ by_test other (bytes_eq other key) refl
-      ∙ sym (map-append (λ (o : Member). o.class) (with_key other members) (with_key other (m ∷ [])))
-      ∙ ap (map (λ (o : Member). o.class)) (sym (filter-append (λ o. bytes_eq other (member_key o)) members (m ∷ [])))
-      ∙ ap (λ xs. map (λ (o : Member). o.class) (with_key other xs)) (sym pushed);
-}
-  where
-    by_test : (other : List ℕ) (t : Bool) → bytes_eq other key ≡ t →
-        (if bytes_eq other key then with_number m.class (numbers_under old other) else numbers_under old other)
-        ≡ map (λ (o : Member). o.class) (with_key other members) ++ map (λ (o : Member). o.class) (with_key other (m ∷ []))
-    by_test other true h =
-        let same : other ≡ key = (bytes_eq-Decides other key).0 h in
-        let was : numbers_under old other ≡ [] = ap (numbers_under old) same ∙ none in
-        let has : bytes_eq other (member_key m) ≡ true = ap (bytes_eq other) (sym e) ∙ h in
-        rw (h, was) (ap₂ (λ xs ys. xs ++ ys) (sym was ∙ index.classes other) (sym (rw has refl)))
-    by_test other false h =
-        let has : bytes_eq other (member_key m) ≡ false = ap (bytes_eq other) (sym e) ∙ h in
-        rw h (index.classes other ∙ sym (append-nil (map (λ (o : Member). o.class) (with_key other members))) ∙ ap (λ ys. map (λ (o : Member). o.class) (with_key other members) ++ ys) (sym (rw has refl)))
+  pub old_member : list_any (bytes_eq key) keys ≡ true → IsNew m members → ⊥
+  old_member some new =
+      let w : (o : Member) × In o members × (bytes_eq key (member_key o) ≡ true) = any_cases (λ o. bytes_eq key (member_key o)) members (sym found_same ∙ some) in
+      both_ways (is_same_member m w.0) (new w.0 w.1) (sym (key_tells m w.0 own (of.named w.0 w.1)) ∙ ap (λ k. bytes_eq k (member_key w.0)) (sym is) ∙ w.2)
 
-pub no_elements : {A : Type 0} (xs : List A) → (length xs == 0) ≡ true → xs ≡ []
-no_elements [] e = refl
-no_elements (x ∷ xs) e = absurd (let l : suc (length xs) ≡ 0 = eqb-true (suc (length xs)) 0 e in omega (arith, l))
+  -- one more member, with its key behind the others
+  pub keys_more : (more : List Member) (new : List (List ℕ)) → new ≡ keys ++ key ∷ [] → more ≡ members ++ m ∷ [] → AreKeysOf more new
+  keys_more more new put pushed = record {
+    named = λ o i.
+        elim (In_append_cases members (m ∷ []) o (subst (λ xs. In o xs) pushed i)) [
+          | inl j ↦ of.named o j
+          | inr j ↦ elim (In_cases j) [ inl f ↦ subst (λ (z : Member). IsNamed z.name z.version) (sym f) own | inr k ↦ absurd (In_none k) ]
+        ];
+    each = put ∙ ap₂ (λ xs k. xs ++ k ∷ []) of.each is ∙ sym (map-append member_key members (m ∷ [])) ∙ ap (map member_key) (sym pushed);
+  }
+
+-- by what is told of a key
+pub seen_before : (seen told : Bool) → told ≡ not seen → told ≡ false → seen ≡ true
+seen_before true told e f = refl
+seen_before false told e f = absurd (false≢true (sym f ∙ e))
+
+pub not_seen : (seen told : Bool) → told ≡ not seen → told ≡ true → seen ≡ false
+not_seen true told e f = absurd (false≢true (sym e ∙ f))
+not_seen false told e f = refl
 
 -- what may stand next, told by the kind of the last line
 pub may_member : (o : Option KernelLine) → may_add_member (kind_of_last o) ≡ true → MayAddMember o

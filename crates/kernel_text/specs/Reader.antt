@@ -1,11 +1,8 @@
 -- What a reader of kernel texts holds of the lines so far.
-use Rattle.std.specs.Prelude.{◌≡◌, ℕ, ◌≤◌, Bool, true, false, nat_lt, List, ◌∷◌, ◌++◌, length, take, drop, map, filter, Option, Some, None}
-use Rattle.std.specs.Str.{bytes_eq}
+use Rattle.std.specs.Prelude.{◌≡◌, ℕ, ◌≤◌, Bool, true, false, nat_lt, List, ◌∷◌, ◌++◌, length, take, drop, map, Option, Some, None}
 use Rattle.deb_version.specs.Keys.{version_key}
 use Rattle.row_book.specs.Clauses.{comes_before}
 use Rattle.row_book.specs.Sets.{In}
-use Rattle.virtual_provides.specs.declared.numbers.NumbersByName.{NumbersByName}
-use Rattle.virtual_provides.specs.Numbers.{numbers_under}
 use Rattle.kernel_text.specs.declared.member.Member.{Member}
 use Rattle.kernel_text.specs.declared.reader.Clause.{Clause}
 use Rattle.kernel_text.specs.declared.reader.LastLine.{LastLine}
@@ -62,10 +59,10 @@ member_key m = m.name ++ 32 ∷ version_key m.version
 abbrev pub AreNamed : List Member → Type 0
 AreNamed members = (m : Member) → In m members → IsNamed m.name m.version
 
--- the members are named, and the table has under each key the classes of those that have it
-pub record IsMemberTable (members : List Member) (table : NumbersByName) : Type 0 where
+-- the members are named, and these are their keys
+pub record AreKeysOf (members : List Member) (keys : List (List ℕ)) : Type 0 where
   pub named : AreNamed members
-  pub classes : (key : List ℕ) → numbers_under table key ≡ map (λ m. m.class) (filter (λ m. bytes_eq key (member_key m)) members)
+  pub each : keys ≡ map member_key members
 
 -- the reader holds what the lines so far say
 pub record Holds (reader : Reader) (t : Reading) : Type 0 where
@@ -73,7 +70,7 @@ pub record Holds (reader : Reader) (t : Reading) : Type 0 where
   pub previous : (clause : List ℕ) → t.last ≡ Some (NeedsLine clause) → reader.previous ≡ clause
   pub classes : reader.classes ≡ t.classes
   pub members : reader.members ≡ t.members
-  pub table : IsMemberTable reader.members reader.keys
+  pub keyed : AreKeysOf reader.members reader.keys
   pub clauses : map entry_of reader.clauses ≡ t.clauses
   pub conflicts : reader.conflicts ≡ t.conflicts
 

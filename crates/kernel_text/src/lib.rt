@@ -13,6 +13,7 @@ pub mod images;
 mod laws;
 mod line_end;
 pub mod member;
+mod member_keys;
 mod push_lines;
 mod read;
 mod read_line;

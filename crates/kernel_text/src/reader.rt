@@ -9,13 +9,13 @@ ghost use Rattle.kernel_text.specs.Words.{IsWellFormed, line_of_content};
 use crate::clause_shape::{holds, is_ascending, is_before};
 use crate::content::LineContent;
 use crate::member::Member;
+use crate::member_keys::MemberKeys;
 use crate::read_line::read_line;
 use clause_pool::NumList;
 use deb_version::{Bytes, Version};
 use listed::Listed;
 use row_book::Pair;
 use std::alloc::{AllocError, Global};
-use virtual_provides::NumbersByName;
 
 /// What the last line says of which line may stand next.
 #[derive(Clone, Copy, Debug, PartialEq, Eq)]
@@ -44,7 +44,7 @@ pub(crate) struct Reader {
     pub(crate) previous: NumList,
     pub(crate) classes: u32,
     pub(crate) members: Listed<Member>,
-    pub(crate) keys: NumbersByName,
+    pub(crate) keys: MemberKeys,
     pub(crate) clauses: Listed<Clause>,
     pub(crate) conflicts: Listed<Pair>,
 }
@@ -59,7 +59,7 @@ impl Reader {
             previous: NumList::new(alloc),
             classes: 0,
             members: Listed::new(alloc),
-            keys: NumbersByName::new(alloc),
+            keys: MemberKeys::new(alloc),
             clauses: Listed::new(alloc),
             conflicts: Listed::new(alloc),
         }
@@ -139,10 +139,10 @@ impl Reader {
             version,
         };
         let key = key_of(alloc, &member)?;
-        if !self.keys.numbers(&key).is_empty() {
+        let is_new = self.keys.insert(key)?;
+        if !is_new {
             return Ok(false);
         }
-        self.keys.put(&key, class)?;
         self.members.push(member)?;
         self.last = LastLine::Member;
         Ok(true)

@@ -46,7 +46,7 @@ returns c t h =
         previous = λ d e. c.of-previous.ensures ∙ c.in_ok-from_slice.ensures.items ∙ c.as_slice-numbers.ensures ∙ same_clause clause d e;
         classes = h.classes;
         members = h.members;
-        table = h.table;
+        keyed = h.keyed;
         clauses = ap (map entry_of) c.in_ok-push.ensures.ok ∙ map-append entry_of c.args.self.now.clauses (record { class = c.this_class-class.result; numbers = clause } ∷ [])
             ∙ ap₂ (λ xs k. xs ++ entry k ∷ []) h.clauses class;
         conflicts = h.conflicts;

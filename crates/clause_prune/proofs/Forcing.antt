@@ -1,43 +1,32 @@
--- Where no member has a clause within a clause, those clauses alone force it that lie within it.
-use Rattle.std.proofs.Common.{◌≡◌, ℕ, Bool, true, false, not, ◌&&◌, ◌||◌, eqb, List, [], refl, Some}
-use Rattle.std.specs.List.{list_all, list_any}
+-- A clause is forced where another one lies within those that see to it that it is hit.
+use Rattle.std.proofs.Common.{◌≡◌, ℕ, Bool, true, false, not, ◌&&◌, ◌||◌, eqb, List, [], ◌∷◌, refl, ap, ap₂, filter, Some}
+use Rattle.std.specs.List.{list_any}
 use Rattle.std.specs.Cmp.Lexicographic.{pointwise}
-use Rattle.std.proofs.lemmas.Bool.{and_from, and_parts, or_left, both_ways}
+use Rattle.std.proofs.lemmas.Bool.{both_ways}
 use Rattle.clause_pool.specs.Interned.{Interned}
-use Rattle.row_book.specs.Sets.{In, has}
-use Rattle.row_book.specs.Clauses.{is_inside}
-use Rattle.row_book.specs.Repository.{clauses_of}
+use Rattle.row_book.specs.Sets.{In, has, here, there}
 use Rattle.row_book.specs.Within.{is_within}
 use Rattle.row_book.specs.Pruning.{serves}
-use Rattle.row_book.proofs.Lists.{all_at, all_from, any_cases, any_from}
+use Rattle.row_book.proofs.Lists.{In_has, all_same, filter_cases, filter_from, has_not}
 use Rattle.clause_prune.specs.Tests.{forces_in, with_ids}
 
-module _ (pool : Interned) (rows : List ℕ) (p : ℕ) (left : List ℕ) (d : List ℕ) (cs : List (List ℕ)) where
-  -- a clause within another one forces it
-  pub forced_by_inside : list_any (is_within (Some d) d) cs ≡ true → list_any (forces_in pool rows p left d) cs ≡ true
-  forced_by_inside t =
-      let w : (e : List ℕ) × In e cs × (is_within (Some d) d e ≡ true) = any_cases (is_within (Some d) d) cs t in
-      let v : (not (pointwise eqb w.0 d) ≡ true) × (is_inside w.0 d ≡ true) = and_parts (not (pointwise eqb w.0 d)) (is_inside w.0 d) w.2 in
-      any_from (forces_in pool rows p left d) cs w.0 w.1
-      (and_from (not (pointwise eqb w.0 d)) (list_all (serves (with_ids pool rows p left []) d) w.0) v.0
-      (all_from (serves (with_ids pool rows p left []) d) w.0 (λ n i. or_left (has d n) (list_any (λ c. is_inside c d) (clauses_of (with_ids pool rows p left []) n)) (all_at (has d) w.0 v.1 n i))))
+-- of the elements of a list a test keeps those that pass it
+kept_pass : (test : ℕ → Bool) (xs : List ℕ) (n : ℕ) → In n xs → has (filter test xs) n ≡ test n
+kept_pass test xs n i = pick (test n) refl
+  where
+    pick : (b : Bool) → test n ≡ b → has (filter test xs) n ≡ b
+    pick true t = In_has (filter_from test xs n i t)
+    pick false f = has_not (filter test xs) n (λ j. both_ways (test n) f (filter_cases test xs n j).1)
 
-  -- and no other clause does where no member has a clause within it
-  pub not_forced : list_any (is_within (Some d) d) cs ≡ false →
-      ((e : List ℕ) → In e cs → (n : ℕ) → In n e → list_any (λ c. is_inside c d) (clauses_of (with_ids pool rows p left []) n) ≡ false) → list_any (forces_in pool rows p left d) cs ≡ false
-  not_forced f none = pick (list_any (forces_in pool rows p left d) cs) refl
-    where
-      only : (a b : Bool) → b ≡ false → (a || b) ≡ true → a ≡ true
-      only true b e t = refl
-      only false b e t = absurd (both_ways b e t)
+any_same : (p q : List ℕ → Bool) (cs : List (List ℕ)) → ((c : List ℕ) → In c cs → p c ≡ q c) → list_any p cs ≡ list_any q cs
+any_same p q [] f = refl
+any_same p q (c ∷ cs) f = ap₂ (λ a b. a || b) (f c here) (any_same p q cs (λ d i. f d (there i)))
 
-      pick : (b : Bool) → list_any (forces_in pool rows p left d) cs ≡ b → list_any (forces_in pool rows p left d) cs ≡ false
-      pick false t = t
-      pick true t =
-          let w : (e : List ℕ) × In e cs × (forces_in pool rows p left d e ≡ true) = any_cases (forces_in pool rows p left d) cs t in
-          let v : (not (pointwise eqb w.0 d) ≡ true) × (list_all (serves (with_ids pool rows p left []) d) w.0 ≡ true) =
-          and_parts (not (pointwise eqb w.0 d)) (list_all (serves (with_ids pool rows p left []) d) w.0) w.2 in
-          absurd (both_ways (list_any (is_within (Some d) d) cs) f
-          (any_from (is_within (Some d) d) cs w.0 w.1 (and_from (not (pointwise eqb w.0 d)) (is_inside w.0 d) v.0
-          (all_from (has d) w.0 (λ n i.
-          only (has d n) (list_any (λ c. is_inside c d) (clauses_of (with_ids pool rows p left []) n)) (none w.0 w.1 n i) (all_at (serves (with_ids pool rows p left []) d) w.0 v.1 n i))))))
+module _ (pool : Interned) (rows : List ℕ) (p : ℕ) (left : List ℕ) (d packages : List ℕ) (cs : List (List ℕ)) where
+  pub forced_within : ((c : List ℕ) → In c cs → (n : ℕ) → In n c → In n packages) →
+      list_any (is_within (Some d) (filter (serves (with_ids pool rows p left []) d) packages)) cs ≡ list_any (forces_in pool rows p left d) cs
+  forced_within all =
+      any_same (is_within (Some d) (filter (serves (with_ids pool rows p left []) d) packages)) (forces_in pool rows p left d) cs (λ e i.
+      ap (λ b. not (pointwise eqb e d) && b)
+      (all_same (has (filter (serves (with_ids pool rows p left []) d) packages)) (serves (with_ids pool rows p left []) d) e
+      (λ n j. kept_pass (serves (with_ids pool rows p left []) d) packages n (all e i n j))))

@@ -2,7 +2,7 @@
 use Rattle.std.proofs.Common.{◌≡◌, ℕ, zero, suc, ◌<◌, ◌≢◌, Bool, true, false, not, ◌&&◌, ◌||◌, cond, eqb, List, [], ◌∷◌, length, get_or, refl, sym, ◌∙◌, ap, ap₂, subst, inl, inr, arith, map, Some, None, length-set}
 use Rattle.std.specs.List.{find, list_all, list_any, filter}
 use Rattle.std.specs.Cmp.Lexicographic.{pointwise}
-use Rattle.std.proofs.lemmas.Bool.{and_from, and_left, and_right, both_ways, cases_Bool, false_from_ne_true, not_from_false, not_from_true, not-true, or_cases, or_from, or_left, or_right}
+use Rattle.std.proofs.lemmas.Bool.{and_from, both_ways, cases_Bool, false_from_ne_true, not_from_false, not_from_true, not-true, or_cases, or_left, or_right}
 use Rattle.std.proofs.lemmas.List.{get_or-map, get_or-set_other, get_or-set_same, length-map}
 use Rattle.clause_pool.specs.Interned.{Interned, IsPool, clause_at, clauses_at, row_at}
 use Rattle.row_book.specs.Sets.{In, has}
@@ -11,8 +11,7 @@ use Rattle.row_book.specs.Book.{listed_for}
 use Rattle.row_book.specs.Flattening.{packages}
 use Rattle.row_book.specs.Repository.{Repository, against, clauses_of}
 use Rattle.row_book.specs.Uses.{row_id}
-use Rattle.row_book.proofs.Leads.{all_fails, all_pass, any_at, none_at}
-use Rattle.row_book.proofs.Lists.{In_has, In_map, all_at, all_from, all_same, any_from, has_In}
+use Rattle.row_book.proofs.Lists.{In_has, In_map, all_at, all_from, all_same, has_In}
 use Rattle.row_book.proofs.Repositories.{in_packages, numbers_test, same_numbers, same_test}
 use Rattle.row_book.specs.Pruning.{is_forced, is_harmless, is_idle, is_met, serves}
 use Rattle.row_book.specs.Facing.{against_in}
@@ -25,10 +24,6 @@ module _ (pool : Interned) (rows : List ℕ) (p : ℕ) (left : List ℕ) (table 
 
   pub left_other : (m : ℕ) → m ≢ p → m < length rows → clauses_of (with_ids pool rows p left table) m ≡ row_at pool (row_id rows m)
   left_other m ne l = get_or-set_other (map (row_at pool) rows) p m (clauses_at pool left) [] ne ∙ get_or-map (row_at pool) rows m 0 [] l
-
--- the first of two tests is false
-pub or_second : (a b x y : Bool) → a ≡ false → a ≡ x → b ≡ y → b ≡ (x || y)
-or_second a b x y f e g = g ∙ ap (λ z. z || y) (sym f ∙ e)
 
 -- some of those that pass one test pass another
 pub any_filter : (test keep : List ℕ → Bool) (xs : List (List ℕ)) → list_any test (filter keep xs) ≡ list_any (λ x. keep x && test x) xs

@@ -6,7 +6,6 @@ use Rattle.row_book.specs.Clauses.{is_inside}
 use Rattle.row_book.specs.Pruning.{serves}
 use Rattle.clause_pool.specs.Interned.{Interned, clauses_at, row_at}
 use Rattle.row_book.specs.Sets.{has}
-use Rattle.row_book.specs.Book.{listed_for}
 use Rattle.row_book.specs.Repository.{Repository}
 use Rattle.row_book.specs.Facing.{against_in}
 

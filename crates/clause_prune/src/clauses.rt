@@ -1,5 +1,5 @@
 //! Pruning of the clauses of one package.
-ghost use Rattle.std.specs.Prelude.{◌≡◌, ◌<◌, ◌++◌, [], ℕ, IfOk, List, OnOk, eqb, filter, length, map, not};
+ghost use Rattle.std.specs.Prelude.{◌≡◌, ◌<◌, ◌≤◌, ◌++◌, [], ℕ, IfOk, List, OnOk, length, map, slice_index_or, true};
 ghost use Rattle.clause_pool.specs.Interned.{clause_at, clauses_at, OfPool};
 ghost use Rattle.row_book.specs.Sets.{In};
 ghost use Rattle.row_book.specs.Clauses.{Ascending, InOrder};
@@ -8,6 +8,7 @@ ghost use Rattle.row_book.specs.Repository.{Repository};
 ghost use Rattle.row_book.specs.Pruning.{clause_steps, clauses_steps, prune_clause, prune_clauses};
 ghost use Rattle.row_book.specs.Rounds.{IdleStep, RoundStep};
 ghost use Rattle.row_book.specs.Trail.{trail_meaning};
+ghost use Rattle.row_book.specs.Uses.{some_holds};
 ghost use Rattle.clause_prune.specs.Tests.{ids_without, with_ids};
 
 use crate::forced::is_forced;
@@ -17,30 +18,33 @@ use listed::Listed;
 use row_book::{Step, StepList, distinct_numbers_in};
 use std::alloc::{AllocError, Global};
 
-/// The ids without one.
-fn without_id(
-    alloc: Global,
-    left: &[ClauseId],
-    clause: ClauseId,
-) -> Result<Vec<ClauseId>, AllocError>
-    ensures { IfOk result (λ made. made.items ≡ ids_without left.now clause) }
+/// The place of the clause among those that are left, or how many they are.
+fn place_of(left: &[ClauseId], clause: ClauseId) -> usize
+    ensures within { result ≤ length left.now }
+    ensures before { (k : ℕ) → k < result → slice_index_or left.now k 0 ≡ clause → ⊥ }
+    ensures at { result < length left.now → slice_index_or left.now result 0 ≡ clause }
 {
-    left.iter()
-        .copied()
-        .filter(|other| *other != clause)
-        .collect::<Vec<ClauseId>>(alloc)
+    for (place, other) in left.iter().enumerate() {
+        if *other == clause {
+            return place;
+        }
+    }
+    left.len()
 }
 
-/// Takes the clause out of those that are left.
-fn drop_id(alloc: Global, left: &mut Vec<ClauseId>, clause: ClauseId) -> Result<(), AllocError>
-    ensures { OnOk result (left.new.items ≡ ids_without left.old.items clause) }
+/// Takes the clause out of those that are left, each of which stands there once.
+fn drop_id(left: &mut Vec<ClauseId>, clause: ClauseId)
+    requires { (i j : ℕ) → i < j → j < length left.old.items → slice_index_or left.old.items i 0 ≡ slice_index_or left.old.items j 0 → ⊥ }
+    ensures { left.new.items ≡ ids_without left.old.items clause }
 {
-    *left = without_id(alloc, left.as_slice(), clause)?;
-    Ok(())
+    let place = place_of(left.as_slice(), clause);
+    if place < left.len() {
+        left.remove(place);
+    }
 }
 
 /// Drops the clause of the package where it is forced or idle among those that are left; where it is idle and not forced,
-/// the step is put behind the others. The packages are all members of clauses that are left.
+/// the step is put behind the others. The packages, in their order, are all members of clauses that are left.
 fn prune_one(
     alloc: Global,
     pool: &Pool,
@@ -61,6 +65,7 @@ fn prune_one(
     requires clause { clause < length pool.now.clauses }
     requires own { (n : ℕ) → In n (clause_at pool.now clause) → n < length rows.now }
     requires packages { (n : ℕ) → In n packages.now → n < length rows.now }
+    requires ascending { Ascending packages.now }
     requires all { (c : List ℕ) → In c (clauses_at pool.now left.old.items) → (n : ℕ) → In n c → In n packages.now }
     ensures left { OnOk result (◌≡◌ {A = Repository} (with_ids pool.now rows.now «package» left.new.items table.now)
         (prune_clause (with_ids pool.now rows.now «package» left.old.items table.now) «package» (clause_at pool.now clause))) }
@@ -71,8 +76,17 @@ fn prune_one(
 {
     // What holds of every pool is told by this call alone.
     pool.clause_count();
-    if is_forced(pool, rows, package, left.as_slice(), packages, clause) {
-        drop_id(alloc, left, clause)?;
+    let forced = is_forced(
+        alloc,
+        pool,
+        rows,
+        package,
+        left.as_slice(),
+        packages,
+        clause,
+    )?;
+    if forced {
+        drop_id(left, clause);
         return Ok(());
     }
     if let Some(added) = idle_by(pool, rows, table, package, left.as_slice(), clause) {
@@ -82,9 +96,22 @@ fn prune_one(
             clause: Listed::of(copy),
             added,
         })?;
-        drop_id(alloc, left, clause)?;
+        drop_id(left, clause);
     }
     Ok(())
+}
+
+/// The members of the clauses, in their order.
+fn members_of(alloc: Global, pool: &Pool, ids: &[ClauseId]) -> Result<Vec<u32>, AllocError>
+    requires { OfPool pool.now ids.now }
+    ensures held { IfOk result (λ members. (n : ℕ) → In n members.items → some_holds (clauses_at pool.now ids.now) n ≡ true) }
+    ensures all { IfOk result (λ members. (n : ℕ) → some_holds (clauses_at pool.now ids.now) n ≡ true → In n members.items) }
+    ensures ascending { IfOk result (λ members. Ascending members.items) }
+{
+    let mut members = distinct_numbers_in(alloc, pool, ids)?;
+    members.sort_unstable();
+    members.dedup();
+    Ok(members)
 }
 
 /// The clauses of the package that are left when each is dropped in turn that is forced or idle.
@@ -111,7 +138,7 @@ pub(crate) fn prune_each(
     ensures idle { OnOk result (trail_meaning pool.now idle.new ≡ trail_meaning pool.now idle.old
         ++ map IdleStep (clauses_steps (with_ids pool.now rows.now «package» ids.now table.now) «package» (clauses_at pool.now ids.now))) }
 {
-    let packages = distinct_numbers_in(alloc, pool, ids)?;
+    let packages = members_of(alloc, pool, ids)?;
     let members = packages.as_slice();
     let mut left = Vec::from_slice(alloc, ids)?;
     for id in ids {

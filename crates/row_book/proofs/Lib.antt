@@ -18,4 +18,5 @@ pub mod Repositories
 pub mod Facing
 pub mod BookRepositories
 pub mod Leads
+pub mod Groups
 mod Distinct

@@ -1,7 +1,8 @@
 -- Whether a clause of a family lies within some numbers.
-use Rattle.std.specs.Prelude.{ℕ, zero, suc, Bool, true, not, ◌&&◌, eqb, List, [], ◌∷◌, Option, Some, None}
+use Rattle.std.specs.Prelude.{ℕ, zero, suc, Bool, true, not, ◌&&◌, eqb, List, [], ◌∷◌, drop, Option, Some, None}
 use Rattle.std.specs.List.{list_any}
 use Rattle.std.specs.Cmp.Lexicographic.{pointwise}
+use Rattle.clause_pool.specs.Interned.{Interned, clause_at}
 use Rattle.row_book.specs.Clauses.{is_inside}
 
 -- whether the clause is another one than the given one, where one is given
@@ -21,3 +22,15 @@ some_within but ns cs = list_any (is_within but ns) cs
 abbrev pub lead : List ℕ → ℕ
 lead [] = zero
 lead (x ∷ xs) = suc x
+
+-- what the clause of an id has from a depth on
+abbrev pub rest_at : Interned → ℕ → ℕ → List ℕ
+rest_at pool depth id = drop depth (clause_at pool id)
+
+-- whether the clause of the id has the number at the depth
+abbrev pub goes_on : Interned → ℕ → ℕ → ℕ → Bool
+goes_on pool depth number id = eqb (lead (rest_at pool depth id)) (suc number)
+
+-- whether the clause of the id is another one than the given one, and each of its numbers from the depth on is wanted
+abbrev pub rest_within : Interned → Option (List ℕ) → ℕ → List ℕ → ℕ → Bool
+rest_within pool but depth wanted id = is_other but (clause_at pool id) && is_inside (rest_at pool depth id) wanted

@@ -1,13 +1,13 @@
-//! Whether a clause of a row lies within some numbers. Rows are in lexicographic order, so a clause is looked for by its
-//! least number alone, and no long row is gone over from end to end.
-ghost use Rattle.std.specs.Prelude.{◌≡◌, ◌<◌, ◌≤◌, ◌&&◌, ◌||◌, ℕ, false, true, length, suc, slice_index_or};
+//! Whether a clause of a row lies within some numbers. Rows are in lexicographic order, so those clauses are looked at that
+//! begin with some of the numbers, and no long row is gone over from end to end.
+ghost use Rattle.std.specs.Prelude.{◌≡◌, ◌<◌, ◌≤◌, ◌+◌, ◌||◌, ℕ, drop, filter, length, map, slice_index_or};
 ghost use Rattle.std.specs.Bool.{OnFalse, OnTrue};
 ghost use Rattle.std.specs.List.{list_any};
 ghost use Rattle.std.specs.Option.{option_map, ForSome};
 ghost use Rattle.clause_pool.specs.Interned.{clause_at, clauses_at, OfPool};
-ghost use Rattle.row_book.specs.Sets.{has};
+ghost use Rattle.row_book.specs.Sets.{has, In};
 ghost use Rattle.row_book.specs.Clauses.{is_inside, Ascending, InOrder};
-ghost use Rattle.row_book.specs.Within.{is_within, lead, some_within};
+ghost use Rattle.row_book.specs.Within.{goes_on, lead, rest_at, rest_within, some_within};
 
 use crate::conflicting::holds;
 use clause_pool::{ClauseId, Pool};
@@ -42,61 +42,85 @@ fn is_inside_ascending(small: &[u32], large: &[u32]) -> bool
     true
 }
 
-/// Whether the clause of the id is another one than the given one, and lies within the numbers.
-fn is_within(pool: &Pool, but: &Option<ClauseId>, numbers: &[u32], id: ClauseId) -> bool
-    requires numbers { Ascending numbers.now }
-    requires but { ForSome but.now (λ other. other < length pool.now.clauses) }
+/// Lends what the clause of the id has from the depth on.
+fn rest_of(pool: &Pool, id: ClauseId, depth: usize) -> &[u32]
     requires id { id < length pool.now.clauses }
-    ensures { result ≡ is_within (option_map (clause_at pool.now) but.now) numbers.now (clause_at pool.now id) }
+    requires deep { depth ≤ length (clause_at pool.now id) }
+    ensures { result.now ≡ rest_at pool.now depth id }
+{
+    let clause = pool.slice(id);
+    &clause[depth..]
+}
+
+/// Whether the clause of the id is another one than the given one, and has no numbers from the depth on but wanted ones.
+fn is_within(
+    pool: &Pool,
+    but: &Option<ClauseId>,
+    depth: usize,
+    wanted: &[u32],
+    id: ClauseId,
+) -> bool
+    requires but { ForSome but.now (λ other. other < length pool.now.clauses) }
+    requires wanted { Ascending wanted.now }
+    requires id { id < length pool.now.clauses }
+    requires deep { depth ≤ length (clause_at pool.now id) }
+    ensures { result ≡ rest_within pool.now (option_map (clause_at pool.now) but.now) depth wanted.now id }
 {
     // What holds of every pool is told by this call alone.
     pool.clause_count();
     match but {
-        Some(other) => id != *other && is_inside_ascending(pool.slice(id), numbers),
-        None => is_inside_ascending(pool.slice(id), numbers),
+        Some(other) => id != *other && is_inside_ascending(rest_of(pool, id, depth), wanted),
+        None => is_inside_ascending(rest_of(pool, id, depth), wanted),
     }
 }
 
-/// Whether some clause of the row is within the numbers, by a look at each.
-fn some_of_all(pool: &Pool, row: &[ClauseId], but: &Option<ClauseId>, numbers: &[u32]) -> bool
-    requires row { OfPool pool.now row.now }
+/// Whether this holds of some clause of the group, by a look at each.
+fn any_within(
+    pool: &Pool,
+    group: &[ClauseId],
+    depth: usize,
+    but: &Option<ClauseId>,
+    wanted: &[u32],
+) -> bool
+    requires group { OfPool pool.now group.now }
+    requires deep { (id : ℕ) → In id group.now → depth ≤ length (clause_at pool.now id) }
     requires but { ForSome but.now (λ other. other < length pool.now.clauses) }
-    requires numbers { Ascending numbers.now }
-    ensures { result ≡ some_within (option_map (clause_at pool.now) but.now) numbers.now (clauses_at pool.now row.now) }
+    requires wanted { Ascending wanted.now }
+    ensures { result ≡ list_any (rest_within pool.now (option_map (clause_at pool.now) but.now) depth wanted.now) group.now }
 {
-    for id in row {
-        if is_within(pool, but, numbers, *id) {
+    for id in group {
+        if is_within(pool, but, depth, wanted, *id) {
             return true;
         }
     }
     false
 }
 
-/// Whether the clause of the id is empty or begins below the number.
-fn begins_below(pool: &Pool, id: ClauseId, number: u32) -> bool
+/// Whether the clause of the id ends at the depth or has a lesser number there.
+fn goes_on_below(pool: &Pool, id: ClauseId, depth: usize, number: u64) -> bool
     requires { id < length pool.now.clauses }
-    ensures below { OnTrue result (lead (clause_at pool.now id) ≤ number) }
-    ensures not_below { OnFalse result (number < lead (clause_at pool.now id)) }
+    ensures below { OnTrue result (lead (rest_at pool.now depth id) ≤ number) }
+    ensures not_below { OnFalse result (number < lead (rest_at pool.now depth id)) }
 {
-    match pool.slice(id) {
-        [] => true,
-        [least, ..] => *least < number,
+    match pool.slice(id).get(depth) {
+        Some(literal) => u64::from(*literal) < number,
+        None => true,
     }
 }
 
-/// The place in the row of the first clause that begins with the number or a greater one.
-fn first_from(pool: &Pool, row: &[ClauseId], number: u32) -> usize
-    requires row { OfPool pool.now row.now }
-    requires order { InOrder (clauses_at pool.now row.now) }
-    ensures within { result ≤ length row.now }
-    ensures before { (k : ℕ) → k < result → lead (clause_at pool.now (slice_index_or row.now k 0)) ≤ number }
-    ensures behind { (k : ℕ) → result ≤ k → k < length row.now → number < lead (clause_at pool.now (slice_index_or row.now k 0)) }
+/// The place in the group of the first clause that has the number or a greater one at the depth.
+fn first_from(pool: &Pool, group: &[ClauseId], depth: usize, number: u64) -> usize
+    requires group { OfPool pool.now group.now }
+    requires order { InOrder (map (rest_at pool.now depth) group.now) }
+    ensures within { result ≤ length group.now }
+    ensures before { (k : ℕ) → k < result → lead (rest_at pool.now depth (slice_index_or group.now k 0)) ≤ number }
+    ensures behind { (k : ℕ) → result ≤ k → k < length group.now → number < lead (rest_at pool.now depth (slice_index_or group.now k 0)) }
 {
     let mut low = 0;
-    let mut high = row.len();
+    let mut high = group.len();
     while low < high {
         let middle = low + (high - low) / 2;
-        if begins_below(pool, row[middle], number) {
+        if goes_on_below(pool, group[middle], depth, number) {
             low = middle + 1;
         } else {
             high = middle;
@@ -105,40 +129,70 @@ fn first_from(pool: &Pool, row: &[ClauseId], number: u32) -> usize
     low
 }
 
-/// Whether the clause of the id begins with the number.
-fn begins_with(pool: &Pool, id: ClauseId, number: u32) -> bool
-    requires { id < length pool.now.clauses }
-    ensures begins { OnTrue result (lead (clause_at pool.now id) ≡ suc number) }
-    ensures not { OnFalse result (lead (clause_at pool.now id) ≡ suc number → ⊥) }
+/// Lends the clauses of the group that have the number at the depth.
+fn group_of<'a>(pool: &Pool, group: &'a [ClauseId], depth: usize, number: u32) -> &'a [ClauseId]
+    requires group { OfPool pool.now group.now }
+    requires order { InOrder (map (rest_at pool.now depth) group.now) }
+    ensures { result.now ≡ filter (goes_on pool.now depth number) group.now }
 {
-    match pool.slice(id) {
-        [] => false,
-        [least, ..] => *least == number,
+    let start = first_from(pool, group, depth, u64::from(number));
+    let end = first_from(pool, group, depth, u64::from(number) + 1);
+    &group[start..end]
+}
+
+/// Whether the last clause of the group, and so each, ends at the depth or has a lesser number there.
+fn all_below(pool: &Pool, group: &[ClauseId], depth: usize, number: u32) -> bool
+    requires group { OfPool pool.now group.now }
+    requires order { InOrder (map (rest_at pool.now depth) group.now) }
+    ensures { OnTrue result ((id : ℕ) → In id group.now → lead (rest_at pool.now depth id) ≤ number) }
+{
+    match group.last() {
+        Some(last) => goes_on_below(pool, *last, depth, u64::from(number)),
+        None => false,
     }
 }
 
-/// Whether some clause that begins with the number is within the numbers.
-fn some_with(
-    pool: &Pool,
-    row: &[ClauseId],
-    but: &Option<ClauseId>,
-    numbers: &[u32],
-    number: u32,
-) -> bool
-    requires row { OfPool pool.now row.now }
-    requires order { InOrder (clauses_at pool.now row.now) }
-    requires but { ForSome but.now (λ other. other < length pool.now.clauses) }
-    requires numbers { Ascending numbers.now }
-    ensures some { OnTrue result (some_within (option_map (clause_at pool.now) but.now) numbers.now (clauses_at pool.now row.now) ≡ true) }
-    ensures none { OnFalse result ((k : ℕ) → k < length row.now → lead (clause_at pool.now (slice_index_or row.now k 0)) ≡ suc number →
-        is_within (option_map (clause_at pool.now) but.now) numbers.now (clause_at pool.now (slice_index_or row.now k 0)) ≡ false) }
+/// Lends the numbers behind a place.
+fn numbers_behind(numbers: &[u32], place: usize) -> &[u32]
+    requires { place < length numbers.now }
+    ensures { result.now ≡ drop (place + 1) numbers.now }
 {
-    let start = first_from(pool, row, number);
-    for place in start..row.len() {
-        if !begins_with(pool, row[place], number) {
+    &numbers[place + 1..]
+}
+
+/// Whether some clause of the group, other than the given one, has no numbers from the depth on but wanted ones. The
+/// clauses of a group begin alike up to there: one that ends there comes first, and those that go on alike stand together.
+/// As clauses ascend, each goes on with the wanted numbers behind that which it has at the depth.
+fn has_rest_within(
+    pool: &Pool,
+    group: &[ClauseId],
+    depth: usize,
+    but: &Option<ClauseId>,
+    wanted: &[u32],
+) -> bool
+    requires group { OfPool pool.now group.now }
+    requires deep { (id : ℕ) → In id group.now → depth ≤ length (clause_at pool.now id) }
+    requires order { InOrder (map (rest_at pool.now depth) group.now) }
+    requires but { ForSome but.now (λ other. other < length pool.now.clauses) }
+    requires wanted { Ascending wanted.now }
+    requires fits { depth + length wanted.now < 18446744073709551616 }
+    ensures { result ≡ list_any (rest_within pool.now (option_map (clause_at pool.now) but.now) depth wanted.now) group.now }
+{
+    if group.len() <= SHORT || group.len() <= wanted.len() {
+        return any_within(pool, group, depth, but, wanted);
+    }
+    // What holds of every pool is told by this call alone.
+    pool.clause_count();
+    if is_within(pool, but, depth, wanted, group[0]) {
+        return true;
+    }
+    for (place, number) in wanted.iter().enumerate() {
+        if all_below(pool, group, depth, *number) {
             return false;
         }
-        if is_within(pool, but, numbers, row[place]) {
+        let part = group_of(pool, group, depth, *number);
+        let rest = numbers_behind(wanted, place);
+        if has_rest_within(pool, part, depth + 1, but, rest) {
             return true;
         }
     }
@@ -153,19 +207,7 @@ pub fn has_within(pool: &Pool, row: &[ClauseId], but: &Option<ClauseId>, numbers
     requires numbers { Ascending numbers.now }
     ensures { result ≡ some_within (option_map (clause_at pool.now) but.now) numbers.now (clauses_at pool.now row.now) }
 {
-    if row.len() <= SHORT || row.len() <= numbers.len() {
-        return some_of_all(pool, row, but, numbers);
-    }
-    // The empty clause, which begins with no number, would come first.
-    if is_within(pool, but, numbers, row[0]) {
-        return true;
-    }
-    for number in numbers {
-        if some_with(pool, row, but, numbers, *number) {
-            return true;
-        }
-    }
-    false
+    has_rest_within(pool, row, 0, but, numbers)
 }
 
 /// Whether the package, or a clause of its row, lies within the ascending numbers; it takes no memory.

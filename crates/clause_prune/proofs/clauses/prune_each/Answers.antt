@@ -7,6 +7,7 @@ use Rattle.row_book.specs.Pruning.{clauses_steps, prune_clauses}
 use Rattle.row_book.specs.Rounds.{IdleStep}
 use Rattle.row_book.specs.Trail.{trail_meaning}
 use Rattle.row_book.proofs.Lists.{In_has, In_map, In_map_cases, any_cases, any_from, has_In, item_in}
+use Rattle.row_book.specs.Clauses.{Ascending}
 use Rattle.clause_prune.specs.Tests.{with_ids}
 use Rattle.clause_prune.proofs.Left.{Pruning, pruning_more}
 use Rattle.clause_prune.proofs.clauses.prune_each.Goals as goal
@@ -35,6 +36,9 @@ prune_one-requires-clause-packages c = λ n i.
     let t : some_holds (clauses_at c.args.pool.now c.args.ids.now) n ≡ true = c.in_ok-packages.ensures.held n (subst (λ z. In n z) c.as_slice-members.ensures.value i) in
     let w : (d : List ℕ) × In d (clauses_at c.args.pool.now c.args.ids.now) × (has d n ≡ true) = any_cases (λ d. has d n) (clauses_at c.args.pool.now c.args.ids.now) t in
     c.requires.members w.0 w.1 n (has_In w.0 n w.2)
+
+pub prune_one-requires-clause-ascending : goal.prune_one-requires-clause-ascending
+prune_one-requires-clause-ascending c = subst Ascending (sym c.as_slice-members.ensures.value) c.in_ok-packages.ensures.ascending
 
 pub prune_one-requires-clause-all : goal.prune_one-requires-clause-all
 prune_one-requires-clause-all c = λ d i n j.

@@ -1,4 +1,4 @@
-use Rattle.std.proofs.Common.{sym, subst, Err, ℕ}
+use Rattle.std.proofs.Common.{sym, subst}
 use Rattle.std.specs.List.Sorted.{IsBinarySearchResult}
 use Rattle.std.specs.Ordering.{nat_cmp}
 use Rattle.row_book.proofs.Leads.{not_found}

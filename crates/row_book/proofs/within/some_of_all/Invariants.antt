@@ -1,8 +1,0 @@
-use Rattle.std.proofs.Common.{◌≡◌, ℕ, ◌<◌, false, get_or}
-use Rattle.std.specs.Option.{option_map}
-use Rattle.clause_pool.specs.Interned.{clause_at}
-use Rattle.row_book.specs.Within.{is_within}
-use Rattle.row_book.proofs.within.some_of_all.Given as goal
-
-abbrev pub invariant-loop-id : goal.invariant-loop-id
-invariant-loop-id l = (k : ℕ) → k < l.id-index → is_within (option_map (clause_at l.pool) l.but) l.numbers (clause_at l.pool (get_or l.row k 0)) ≡ false

@@ -17,7 +17,7 @@ use Rattle.conflict_reduce.specs.Laws.{RedundantKeeps, ThinKeeps, ThinIsSound, T
 less_conflicts : Repository → ℕ → ℕ → ℕ → List ℕ
 less_conflicts R a b p = filter (λ q. not (is_pair a b p q)) (conflicts_of R p)
 
-less_list : (R : Repository) (a b m : ℕ) → m < length R.clauses → conflicts_of (without_pair R a b) m ≡ filter (λ q. not (is_pair a b m q)) (conflicts_of R m)
+pub less_list : (R : Repository) (a b m : ℕ) → m < length R.clauses → conflicts_of (without_pair R a b) m ≡ filter (λ q. not (is_pair a b m q)) (conflicts_of R m)
 less_list R a b m l =
     at_numbers (λ p. filter (λ q. not (is_pair a b p q)) (conflicts_of R p)) [] (length R.clauses) 0 m l
     ∙ ap (λ p. filter (λ q. not (is_pair a b p q)) (conflicts_of R p)) (omega arith)
@@ -95,7 +95,7 @@ swap false false true false = refl
 swap false false false true = refl
 swap false false false false = refl
 
-less_count : (R : Repository) (a b : ℕ) → length (without_pair R a b).conflicts ≡ length R.clauses
+pub less_count : (R : Repository) (a b : ℕ) → length (without_pair R a b).conflicts ≡ length R.clauses
 less_count R a b = length_numbers (λ p. filter (λ q. not (is_pair a b p q)) (conflicts_of R p)) (length R.clauses) 0
 
 pub less_test : (R : Repository) (a b : ℕ) → SoundRepository R → (m n : ℕ) → against (without_pair R a b) m n ≡ against_but R a b m n

@@ -1,44 +1,55 @@
--- The test of thinning over a table of conflicts, and the pairs that it goes through.
-use Rattle.std.specs.Prelude.{ℕ, Bool, not, ◌&&◌, eqb, ltb, List, map, filter, cond, slice_set}
+-- Thinning by a list of what is gone: the conflicts that are left of a table, and the pairs of one package.
+use Rattle.std.specs.Prelude.{◌≡◌, ℕ, ◌<◌, Bool, not, ◌&&◌, ltb, List, [], ◌∷◌, ◌++◌, ◌⊎◌, length, map, filter, cond, slice_set}
 use Rattle.std.specs.List.{list_all}
 use Rattle.clause_pool.specs.Interned.{Interned, row_at}
 use Rattle.row_book.specs.declared.book.Book.{Book}
 use Rattle.row_book.specs.declared.pair.Pair.{Pair}
+use Rattle.row_book.specs.Sets.{In}
+use Rattle.row_book.specs.Clauses.{Ascending, numbers}
 use Rattle.row_book.specs.Facing.{against_in}
 use Rattle.row_book.specs.Book.{listed_for}
 use Rattle.row_book.specs.Repository.{Repository}
 use Rattle.row_book.specs.Thinning.{is_pair, is_redundant}
 
+-- the conflicts of a package by the first table that the second one does not have
+abbrev pub left_for : List (List ℕ) → List (List ℕ) → ℕ → List ℕ
+left_for table gone p = filter (λ q. not (against_in gone p q)) (listed_for table p)
+
+-- what is left of the first table without the conflicts of the second
+unfoldable pub left_of : List (List ℕ) → List (List ℕ) → List (List ℕ)
+left_of table gone = map (left_for table gone) (numbers (length table) 0)
+
+-- the book's rows with the conflicts that are left of its own
+abbrev pub book_left : Interned → Book → List (List ℕ) → Repository
+book_left pool book gone = record { clauses = map (row_at pool) book.rows; conflicts = left_of book.conflicts gone }
+
 -- whether m and n conflict in the table, by another pair than the given one
 abbrev pub conflict_but : List (List ℕ) → Pair → ℕ → ℕ → Bool
 conflict_but table pair m n = against_in table m n && not (is_pair pair.low pair.high m n)
 
--- the conflicts of the first package with which each number of the list conflicts by another pair
-abbrev pub common_but : List (List ℕ) → Pair → ℕ → List ℕ → List ℕ
-common_but table pair first list = filter (λ n. list_all (λ m. conflict_but table pair m n) list) (listed_for table first)
+-- the conflicts of the first package by the table with which each number of the list conflicts, in what is left, by
+-- another pair
+abbrev pub common_but : List (List ℕ) → List (List ℕ) → Pair → ℕ → List ℕ → List ℕ
+common_but table gone pair first list = filter (λ n. list_all (λ m. conflict_but (left_of table gone) pair m n) list) (listed_for table first)
 
--- the book's rows with a table of conflicts
-abbrev pub with_table : Interned → Book → List (List ℕ) → Repository
-with_table pool book table = record { clauses = map (row_at pool) book.rows; conflicts = table }
+-- the table with a number behind the list of a package
+abbrev pub with_behind : List (List ℕ) → ℕ → ℕ → List (List ℕ)
+with_behind table p n = slice_set table p (listed_for table p ++ n ∷ [])
 
--- pairs as pairs of numbers
-abbrev pub as_numbers : List Pair → List (ℕ × ℕ)
-as_numbers pairs = map (λ pair. (pair.low, pair.high)) pairs
+-- the conflict of a and b behind those that are gone
+abbrev pub with_gone : List (List ℕ) → ℕ → ℕ → List (List ℕ)
+with_gone gone a b = with_behind (with_behind gone a b) b a
+
+-- what is gone after the conflict of a with b was looked at: where b is the greater one and the conflict is redundant, that too
+abbrev pub gone_after : Repository → List (List ℕ) → ℕ → ℕ → List (List ℕ)
+gone_after R gone a b = cond (ltb a b && is_redundant R a b) (with_gone gone a b) gone
 
 -- the pairs of a package with the greater ones of a list
 abbrev pub pairs_with : ℕ → List ℕ → List (ℕ × ℕ)
 pairs_with a list = map (λ b. (a, b)) (filter (λ b. ltb a b) list)
 
--- the list without a number
-abbrev pub list_without : List ℕ → ℕ → List ℕ
-list_without list number = filter (λ q. not (eqb q number)) list
-
--- the table without a conflict
-abbrev pub table_without : List (List ℕ) → Pair → List (List ℕ)
-table_without table pair =
-    let first : List (List ℕ) = slice_set table pair.low (list_without (listed_for table pair.low) pair.high) in
-    slice_set first pair.high (list_without (listed_for first pair.high) pair.low)
-
--- the table of a repository, without a conflict where it is redundant there
-abbrev pub table_after : Repository → Pair → List (List ℕ)
-table_after R pair = cond (is_redundant R pair.low pair.high) (table_without R.conflicts pair) R.conflicts
+-- lists of what is gone of so many packages: each ascends, and each conflict in them has a package below the given one
+pub record PassedBelow (gone : List (List ℕ)) (size a : ℕ) : Type 0 where
+  pub count : length gone ≡ size
+  pub ascending : (p : ℕ) → Ascending (listed_for gone p)
+  pub below : (p q : ℕ) → In q (listed_for gone p) → (p < a) ⊎ (q < a)

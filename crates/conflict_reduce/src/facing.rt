@@ -1,13 +1,16 @@
-//! Whether two packages exclude each other by other conflicts.
-ghost use Rattle.std.specs.Prelude.{◌≡◌, ◌<◌, ◌∷◌, [], ℕ, IfOk, length};
+//! Whether two packages exclude each other by other conflicts that are left. No list of conflicts is gone through where a
+//! look at the members of a clause will do.
+ghost use Rattle.std.specs.Prelude.{◌≡◌, ◌<◌, ◌∷◌, [], ℕ, List, IfOk, length};
 ghost use Rattle.std.specs.List.{list_all, list_any};
 ghost use Rattle.clause_pool.specs.Interned.{clauses_at, OfPool};
-ghost use Rattle.row_book.specs.Book.{listed_for, RowsFit};
+ghost use Rattle.row_book.specs.Book.{listed_for, Sound};
 ghost use Rattle.row_book.specs.Clauses.{Ascending, InOrder};
-ghost use Rattle.row_book.specs.Facing.{all_against, face};
+ghost use Rattle.row_book.specs.Facing.{against_in, all_against, face};
 ghost use Rattle.row_book.specs.Thinning.{is_pair, is_redundant};
-ghost use Rattle.conflict_reduce.specs.Tests.{common_but, conflict_but, with_table};
+ghost use Rattle.conflict_reduce.specs.Live.{live_of};
+ghost use Rattle.conflict_reduce.specs.Tests.{book_left, common_but, conflict_but, left_of};
 
+use crate::live::IdList;
 use clause_pool::{ClauseId, NumList, Pool};
 use row_book::{Book, Pair, are_against, conflicts_of, has_side_within};
 use std::alloc::{AllocError, Global};
@@ -19,53 +22,161 @@ fn is_the_pair(pair: Pair, m: u32, n: u32) -> bool
     (m == pair.low && n == pair.high) || (m == pair.high && n == pair.low)
 }
 
-/// Whether m and n conflict by another pair than the given one.
-fn conflict_but(table: &[NumList], pair: Pair, m: u32, n: u32) -> bool
-    requires { Ascending (listed_for table.now m) }
-    ensures { result ≡ conflict_but table.now pair m n }
+/// Whether m and n conflict by the table, and not by what is gone.
+fn are_left(table: &[NumList], gone: &[NumList], m: u32, n: u32) -> bool
+    requires table { Ascending (listed_for table.now m) }
+    requires gone { Ascending (listed_for gone.now m) }
+    ensures { result ≡ against_in (left_of table.now gone.now) m n }
 {
-    are_against(table, m, n) && !is_the_pair(pair, m, n)
+    are_against(table, m, n) && !are_against(gone, m, n)
+}
+
+/// Whether a conflict of m and n is left, by another pair than the given one.
+fn conflict_but(table: &[NumList], gone: &[NumList], pair: Pair, m: u32, n: u32) -> bool
+    requires table { Ascending (listed_for table.now m) }
+    requires gone { Ascending (listed_for gone.now m) }
+    ensures { result ≡ conflict_but (left_of table.now gone.now) pair m n }
+{
+    !is_the_pair(pair, m, n) && are_left(table, gone, m, n)
 }
 
 /// Whether each number of the list conflicts so with the package.
-fn each_conflicts_but(table: &[NumList], pair: Pair, list: &[u32], package: u32) -> bool
-    requires { (p : ℕ) → Ascending (listed_for table.now p) }
-    ensures { result ≡ list_all (λ m. conflict_but table.now pair m «package») list.now }
+fn each_conflicts_but(
+    table: &[NumList],
+    gone: &[NumList],
+    pair: Pair,
+    list: &[u32],
+    package: u32,
+) -> bool
+    requires table { (p : ℕ) → Ascending (listed_for table.now p) }
+    requires gone { (p : ℕ) → Ascending (listed_for gone.now p) }
+    ensures { result ≡ list_all (λ m. conflict_but (left_of table.now gone.now) pair m «package») list.now }
 {
     for member in list {
-        if !conflict_but(table, pair, *member, package) {
+        if !conflict_but(table, gone, pair, *member, package) {
             return false;
         }
     }
     true
 }
 
-/// The conflicts of the first package with which each number of the list conflicts so.
+/// The conflicts of the first package, by the table, with which each number of the list conflicts so.
 fn common_but(
     alloc: Global,
     table: &[NumList],
+    gone: &[NumList],
     pair: Pair,
     first: u32,
     list: &[u32],
 ) -> Result<Vec<u32>, AllocError>
-    requires { (p : ℕ) → Ascending (listed_for table.now p) }
-    ensures { IfOk result (λ common. common.items ≡ common_but table.now pair first list.now) }
+    requires table { (p : ℕ) → Ascending (listed_for table.now p) }
+    requires gone { (p : ℕ) → Ascending (listed_for gone.now p) }
+    ensures { IfOk result (λ common. common.items ≡ common_but table.now gone.now pair first list.now) }
 {
     let mut common = Vec::new(alloc);
     for package in conflicts_of(table, first) {
-        if each_conflicts_but(table, pair, list, *package) {
+        if each_conflicts_but(table, gone, pair, list, *package) {
             common.push(*package)?;
         }
     }
     Ok(common)
 }
 
-/// Whether the list conflicts so as a whole with the greater package of the pair, or with a clause of its row: whether
-/// that is within the packages that conflict so with each member of the list.
+/// Whether the package conflicts so with each number of the list.
+fn conflicts_with_each(
+    table: &[NumList],
+    gone: &[NumList],
+    pair: Pair,
+    package: u32,
+    list: &[u32],
+) -> bool
+    requires table { Ascending (listed_for table.now «package») }
+    requires gone { Ascending (listed_for gone.now «package») }
+    ensures { result ≡ list_all (conflict_but (left_of table.now gone.now) pair «package») list.now }
+{
+    for member in list {
+        if !conflict_but(table, gone, pair, package, *member) {
+            return false;
+        }
+    }
+    true
+}
+
+/// Whether the lists conflict so as a whole.
+fn all_conflict_but(
+    table: &[NumList],
+    gone: &[NumList],
+    pair: Pair,
+    list: &[u32],
+    other: &[u32],
+) -> bool
+    requires table { (p : ℕ) → Ascending (listed_for table.now p) }
+    requires gone { (p : ℕ) → Ascending (listed_for gone.now p) }
+    ensures { result ≡ all_against (conflict_but (left_of table.now gone.now) pair) list.now other.now }
+{
+    for package in list {
+        if !conflicts_with_each(table, gone, pair, *package, other) {
+            return false;
+        }
+    }
+    true
+}
+
+/// Whether the list conflicts so as a whole with a clause of the row, by a look at each.
+fn faces_clause(
+    pool: &Pool,
+    table: &[NumList],
+    gone: &[NumList],
+    pair: Pair,
+    list: &[u32],
+    row: &[ClauseId],
+) -> bool
+    requires row { OfPool pool.now row.now }
+    requires table { (p : ℕ) → Ascending (listed_for table.now p) }
+    requires gone { (p : ℕ) → Ascending (listed_for gone.now p) }
+    ensures { result ≡ list_any (all_against (conflict_but (left_of table.now gone.now) pair) list.now) (clauses_at pool.now row.now) }
+{
+    // What holds of every pool is told by this call alone.
+    pool.clause_count();
+    for id in row {
+        if all_conflict_but(table, gone, pair, list, pool.slice(*id)) {
+            return true;
+        }
+    }
+    false
+}
+
+/// Whether the list, which begins with the first number, conflicts so as a whole with the greater package of the pair, or
+/// with a clause of its row: whether that is within the packages that conflict so with each member of the list.
+fn faces_common(
+    alloc: Global,
+    pool: &Pool,
+    table: &[NumList],
+    gone: &[NumList],
+    pair: Pair,
+    first: u32,
+    list: &[u32],
+    row: &[ClauseId],
+) -> Result<bool, AllocError>
+    requires first { (others : List ℕ) × (list.now ≡ first ∷ others) }
+    requires row { OfPool pool.now row.now }
+    requires order { InOrder (clauses_at pool.now row.now) }
+    requires table { (p : ℕ) → Ascending (listed_for table.now p) }
+    requires gone { (p : ℕ) → Ascending (listed_for gone.now p) }
+    ensures { IfOk result (λ faces. faces ≡ list_any (all_against (conflict_but (left_of table.now gone.now) pair) list.now) ((pair.high ∷ []) ∷ clauses_at pool.now row.now)) }
+{
+    let common = common_but(alloc, table, gone, pair, first, list)?;
+    let faces = has_side_within(pool, pair.high, row, common.as_slice());
+    Ok(faces)
+}
+
+/// Whether the list conflicts so as a whole with the greater package of the pair, or with a clause of its row. A row that
+/// is longer than the list of a member's conflicts is not gone through.
 fn faces_greater(
     alloc: Global,
     pool: &Pool,
     table: &[NumList],
+    gone: &[NumList],
     pair: Pair,
     list: &[u32],
     row: &[ClauseId],
@@ -73,14 +184,19 @@ fn faces_greater(
     requires row { OfPool pool.now row.now }
     requires order { InOrder (clauses_at pool.now row.now) }
     requires table { (p : ℕ) → Ascending (listed_for table.now p) }
-    ensures { IfOk result (λ faces. faces ≡ list_any (all_against (conflict_but table.now pair) list.now) ((pair.high ∷ []) ∷ clauses_at pool.now row.now)) }
+    requires gone { (p : ℕ) → Ascending (listed_for gone.now p) }
+    ensures { IfOk result (λ faces. faces ≡ list_any (all_against (conflict_but (left_of table.now gone.now) pair) list.now) ((pair.high ∷ []) ∷ clauses_at pool.now row.now)) }
 {
     match list.split_first() {
         None => Ok(true),
         Some((first, _others)) => {
-            let common = common_but(alloc, table, pair, *first, list)?;
-            let faces = has_side_within(pool, pair.high, row, common.as_slice());
-            Ok(faces)
+            if row.len() > conflicts_of(table, *first).len() {
+                return faces_common(alloc, pool, table, gone, pair, *first, list, row);
+            }
+            Ok(
+                all_conflict_but(table, gone, pair, list, &[pair.high])
+                    || faces_clause(pool, table, gone, pair, list, row),
+            )
         }
     }
 }
@@ -90,6 +206,7 @@ fn rows_face(
     alloc: Global,
     pool: &Pool,
     table: &[NumList],
+    gone: &[NumList],
     pair: Pair,
     first: &[ClauseId],
     second: &[ClauseId],
@@ -98,10 +215,11 @@ fn rows_face(
     requires second { OfPool pool.now second.now }
     requires order { InOrder (clauses_at pool.now second.now) }
     requires table { (p : ℕ) → Ascending (listed_for table.now p) }
-    ensures { IfOk result (λ faces. faces ≡ face (conflict_but table.now pair) (clauses_at pool.now first.now) ((pair.high ∷ []) ∷ clauses_at pool.now second.now)) }
+    requires gone { (p : ℕ) → Ascending (listed_for gone.now p) }
+    ensures { IfOk result (λ faces. faces ≡ face (conflict_but (left_of table.now gone.now) pair) (clauses_at pool.now first.now) ((pair.high ∷ []) ∷ clauses_at pool.now second.now)) }
 {
     for id in first {
-        let faces = faces_greater(alloc, pool, table, pair, pool.slice(*id), second)?;
+        let faces = faces_greater(alloc, pool, table, gone, pair, pool.slice(*id), second)?;
         if faces {
             return Ok(true);
         }
@@ -114,6 +232,7 @@ fn sides_face(
     alloc: Global,
     pool: &Pool,
     table: &[NumList],
+    gone: &[NumList],
     pair: Pair,
     first: &[ClauseId],
     second: &[ClauseId],
@@ -122,33 +241,49 @@ fn sides_face(
     requires second { OfPool pool.now second.now }
     requires order { InOrder (clauses_at pool.now second.now) }
     requires table { (p : ℕ) → Ascending (listed_for table.now p) }
-    ensures { IfOk result (λ faces. faces ≡ face (conflict_but table.now pair) ((pair.low ∷ []) ∷ clauses_at pool.now first.now) ((pair.high ∷ []) ∷ clauses_at pool.now second.now)) }
+    requires gone { (p : ℕ) → Ascending (listed_for gone.now p) }
+    ensures { IfOk result (λ faces. faces ≡ face (conflict_but (left_of table.now gone.now) pair) ((pair.low ∷ []) ∷ clauses_at pool.now first.now) ((pair.high ∷ []) ∷ clauses_at pool.now second.now)) }
 {
-    let faces = faces_greater(alloc, pool, table, pair, &[pair.low], second)?;
+    let faces = faces_greater(alloc, pool, table, gone, pair, &[pair.low], second)?;
     if faces {
         return Ok(true);
     }
-    rows_face(alloc, pool, table, pair, first, second)
+    rows_face(alloc, pool, table, gone, pair, first, second)
 }
 
-/// Whether the packages of the pair exclude each other by other conflicts of the table.
+/// The ids that the list has for a package.
+fn live_for(live: &[IdList], package: u32) -> &[ClauseId]
+    ensures { result.now ≡ listed_for live.now «package» }
+{
+    match live.get(package as usize) {
+        Some(list) => list.as_slice(),
+        None => &[],
+    }
+}
+
+/// Whether the packages of the pair exclude each other by other conflicts that are left of the book's, whose table it is; for
+/// each package those of its clauses are given that can take part.
 pub(crate) fn is_redundant(
     alloc: Global,
     pool: &Pool,
     book: &Book,
     table: &[NumList],
+    live: &[IdList],
+    gone: &[NumList],
     pair: Pair,
 ) -> Result<bool, AllocError>
-    requires rows { RowsFit pool.now book.now.rows }
+    requires sound { Sound pool.now book.now }
+    requires table { table.now ≡ book.now.conflicts }
+    requires live { live.now ≡ live_of pool.now book.now }
     requires low { pair.low < length book.now.rows }
     requires high { pair.high < length book.now.rows }
-    requires table { (p : ℕ) → Ascending (listed_for table.now p) }
-    ensures { IfOk result (λ redundant. redundant ≡ is_redundant (with_table pool.now book.now table.now) pair.low pair.high) }
+    requires gone { (p : ℕ) → Ascending (listed_for gone.now p) }
+    ensures { IfOk result (λ redundant. redundant ≡ is_redundant (book_left pool.now book.now gone.now) pair.low pair.high) }
 {
     // What holds of every pool is told by this call alone.
     pool.clause_count();
-    let first = pool.row(book.row(pair.low));
-    let second = pool.row(book.row(pair.high));
-    let faces = sides_face(alloc, pool, table, pair, first, second)?;
+    let first = live_for(live, pair.low);
+    let second = live_for(live, pair.high);
+    let faces = sides_face(alloc, pool, table, gone, pair, first, second)?;
     Ok(faces)
 }

@@ -1,129 +1,172 @@
-//! Thinning of a book.
-ghost use Rattle.std.specs.Prelude.{◌≡◌, ◌<◌, ◌++◌, ◌∷◌, [], ℕ, IfOk, OnOk, length, slice_set};
-ghost use Rattle.row_book.specs.Book.{listed_for, repository_of, PairsFit, RowsFit, Sound};
+//! Thinning of a book. The book's own conflicts stay in their lists, and those that are dropped are put into lists of
+//! their own: so no list is moved up for one that goes.
+ghost use Rattle.std.specs.Prelude.{◌≡◌, ◌<◌, ◌+◌, ◌++◌, ◌∷◌, [], ℕ, IfOk, OnOk, filter, length, map, not};
+ghost use Rattle.row_book.specs.Book.{listed_for, repository_of, Sound};
 ghost use Rattle.row_book.specs.Clauses.{Ascending};
+ghost use Rattle.row_book.specs.Facing.{against_in};
 ghost use Rattle.row_book.specs.Repository.{Repository};
 ghost use Rattle.row_book.specs.Keeping.{KeepsHealthySets};
-ghost use Rattle.row_book.specs.Thinning.{conflicting_pairs, thin, thin_over};
-ghost use Rattle.conflict_reduce.specs.Tests.{as_numbers, list_without, pairs_with, table_without, table_after, with_table};
+ghost use Rattle.row_book.specs.Thinning.{thin, thin_over};
+ghost use Rattle.conflict_reduce.specs.Live.{live_of};
+ghost use Rattle.conflict_reduce.specs.Tests.{book_left, gone_after, left_of, pairs_with, with_behind, with_gone, PassedBelow};
 
 use crate::facing::is_redundant;
+use crate::live::{IdList, live_rows};
 use clause_pool::{NumList, Pool};
 use listed::Listed;
-use row_book::{Book, Pair};
+use row_book::{Book, Pair, are_against, conflicts_of};
 use std::alloc::{AllocError, Global};
 
-/// Puts the pairs of a package with the greater ones of the list behind the others.
-fn push_pairs(pairs: &mut Vec<Pair>, package: u32, list: &[u32]) -> Result<(), AllocError>
-    ensures { OnOk result (as_numbers pairs.new.items ≡ as_numbers pairs.old.items ++ pairs_with «package» list.now) }
+/// Puts the number behind the list of a package.
+fn put_behind(table: &mut Vec<NumList>, package: u32, number: u32) -> Result<(), AllocError>
+    requires { «package» < length table.old.items }
+    ensures { OnOk result (table.new.items ≡ with_behind table.old.items «package» number) }
 {
-    for other in list {
-        if package < *other {
-            pairs.push(Pair {
-                low: package,
-                high: *other,
-            })?;
-        }
-    }
+    let list = &mut table[package as usize];
+    list.push(number)?;
     Ok(())
 }
 
-/// The conflicting pairs of the book, ascending.
-fn pairs_of(alloc: Global, pool: &Pool, book: &Book) -> Result<Vec<Pair>, AllocError>
-    requires { Sound pool.now book.now }
-    ensures pairs { IfOk result (λ pairs. as_numbers pairs.items ≡ conflicting_pairs (repository_of pool.now book.now)) }
-    ensures fit { IfOk result (λ pairs. PairsFit pairs.items (length book.now.rows)) }
+/// Puts the conflict of two packages behind those that are gone.
+fn drop_conflict(gone: &mut Vec<NumList>, a: u32, b: u32) -> Result<(), AllocError>
+    requires a { a < length gone.old.items }
+    requires b { b < length gone.old.items }
+    ensures { OnOk result (gone.new.items ≡ with_gone gone.old.items a b) }
 {
-    // What holds of every pool is told by this call alone.
-    pool.clause_count();
-    let mut pairs = Vec::new(alloc);
-    for package in 0..book.size() {
-        push_pairs(&mut pairs, package, book.against(package))?;
-    }
-    Ok(pairs)
+    put_behind(gone, a, b)?;
+    put_behind(gone, b, a)
 }
 
-/// The same lists.
-fn copy_lists(alloc: Global, lists: &[NumList]) -> Result<Vec<NumList>, AllocError>
-    ensures { IfOk result (λ made. made.items ≡ lists.now) }
-{
-    let mut made = Vec::new(alloc);
-    for list in lists {
-        made.push(Listed::of(Vec::from_slice(alloc, list.as_slice())?))?;
-    }
-    Ok(made)
-}
-
-/// The list without the number.
-fn without(alloc: Global, list: &[u32], number: u32) -> Result<NumList, AllocError>
-    ensures { IfOk result (λ made. made ≡ list_without list.now number) }
-{
-    let kept = list
-        .iter()
-        .copied()
-        .filter(|other| *other != number)
-        .collect::<Vec<u32>>(alloc)?;
-    Ok(Listed::of(kept))
-}
-
-/// Takes the number out of the list.
-fn drop_number(alloc: Global, list: &mut NumList, number: u32) -> Result<(), AllocError>
-    ensures { OnOk result (list.new ≡ list_without list.old number) }
-{
-    *list = without(alloc, list.as_slice(), number)?;
-    Ok(())
-}
-
-/// Takes the conflict of a pair out of the table.
-fn drop_conflict(alloc: Global, table: &mut [NumList], pair: Pair) -> Result<(), AllocError>
-    requires low { pair.low < length table.old }
-    requires high { pair.high < length table.old }
-    ensures { OnOk result (table.new ≡ table_without table.old pair) }
-{
-    drop_number(alloc, &mut table[pair.low as usize], pair.high)?;
-    drop_number(alloc, &mut table[pair.high as usize], pair.low)
-}
-
-/// Takes the conflict of a pair out of the table, where it is redundant there.
+/// Drops the conflict of a package with another one, where that is the greater and the conflict is redundant in what is
+/// left.
 fn thin_pair(
     alloc: Global,
     pool: &Pool,
     book: &Book,
-    table: &mut [NumList],
-    pair: Pair,
+    table: &[NumList],
+    live: &[IdList],
+    gone: &mut Vec<NumList>,
+    a: u32,
+    b: u32,
 ) -> Result<(), AllocError>
-    requires rows { RowsFit pool.now book.now.rows }
-    requires count { length table.old ≡ length book.now.rows }
-    requires table { (p : ℕ) → Ascending (listed_for table.old p) }
-    requires low { pair.low < length book.now.rows }
-    requires high { pair.high < length book.now.rows }
-    ensures { OnOk result (table.new ≡ table_after (with_table pool.now book.now table.old) pair) }
+    requires sound { Sound pool.now book.now }
+    requires table { table.now ≡ book.now.conflicts }
+    requires live { live.now ≡ live_of pool.now book.now }
+    requires count { length gone.old.items ≡ length book.now.rows }
+    requires gone { (p : ℕ) → Ascending (listed_for gone.old.items p) }
+    requires a { a < length book.now.rows }
+    requires b { b < length book.now.rows }
+    ensures { OnOk result (gone.new.items ≡ gone_after (book_left pool.now book.now gone.old.items) gone.old.items a b) }
 {
-    let redundant = is_redundant(alloc, pool, book, table, pair)?;
+    if a >= b {
+        return Ok(());
+    }
+    let pair = Pair { low: a, high: b };
+    let redundant = is_redundant(alloc, pool, book, table, live, gone.as_slice(), pair)?;
     if redundant {
-        drop_conflict(alloc, table, pair)?;
+        drop_conflict(gone, a, b)?;
     }
     Ok(())
 }
 
-/// Takes the conflicts of the pairs out of the table in turn, each where it is redundant in what is left.
-fn thin_pairs(
+/// Drops the conflicts of a package with the greater ones in turn, each where it is redundant in what is left.
+fn thin_package(
     alloc: Global,
     pool: &Pool,
     book: &Book,
-    table: &mut [NumList],
-    pairs: &[Pair],
+    table: &[NumList],
+    live: &[IdList],
+    gone: &mut Vec<NumList>,
+    package: u32,
+    list: &[u32],
 ) -> Result<(), AllocError>
-    requires rows { RowsFit pool.now book.now.rows }
-    requires count { length table.old ≡ length book.now.rows }
-    requires table { (p : ℕ) → Ascending (listed_for table.old p) }
-    requires fit { PairsFit pairs.now (length book.now.rows) }
-    ensures { OnOk result (◌≡◌ {A = Repository} (with_table pool.now book.now table.new) (thin_over (with_table pool.now book.now table.old) (as_numbers pairs.now))) }
+    requires sound { Sound pool.now book.now }
+    requires table { table.now ≡ book.now.conflicts }
+    requires live { live.now ≡ live_of pool.now book.now }
+    requires inside { «package» < length book.now.rows }
+    requires list { list.now ≡ listed_for book.now.conflicts «package» }
+    requires passed { PassedBelow gone.old.items (length book.now.rows) «package» }
+    ensures left { OnOk result (◌≡◌ {A = Repository} (book_left pool.now book.now gone.new.items) (thin_over (book_left pool.now book.now gone.old.items) (pairs_with «package» list.now))) }
+    ensures passed { OnOk result (PassedBelow gone.new.items (length book.now.rows) («package» + 1)) }
 {
-    for pair in pairs {
-        thin_pair(alloc, pool, book, table, *pair)?;
+    // What holds of every pool is told by this call alone.
+    pool.clause_count();
+    for other in list {
+        thin_pair(alloc, pool, book, table, live, gone, package, *other)?;
     }
     Ok(())
+}
+
+/// So many empty lists.
+fn empty_lists(alloc: Global, size: u32) -> Result<Vec<NumList>, AllocError>
+    ensures { IfOk result (λ made. PassedBelow made.items size 0) }
+{
+    let mut made = Vec::new(alloc);
+    for _ in 0..size {
+        made.push(NumList::new(alloc))?;
+    }
+    Ok(made)
+}
+
+/// The conflicts that go when the book is thinned.
+fn gone_of(alloc: Global, pool: &Pool, book: &Book) -> Result<Vec<NumList>, AllocError>
+    requires { Sound pool.now book.now }
+    ensures thinned { IfOk result (λ gone. ◌≡◌ {A = Repository} (book_left pool.now book.now gone.items) (thin (repository_of pool.now book.now))) }
+    ensures ascending { IfOk result (λ gone. (p : ℕ) → Ascending (listed_for gone.items p)) }
+{
+    // What holds of every pool is told by this call alone.
+    pool.clause_count();
+    let table = book.conflicts.as_slice();
+    let live = live_rows(alloc, pool, book, table)?;
+    let ids = live.as_slice();
+    let mut gone = empty_lists(alloc, book.size())?;
+    for package in 0..book.size() {
+        let list = book.against(package);
+        thin_package(alloc, pool, book, table, ids, &mut gone, package, list)?;
+    }
+    Ok(gone)
+}
+
+/// The conflicts of a package in the list that are not gone.
+fn left_list(
+    alloc: Global,
+    gone: &[NumList],
+    package: u32,
+    list: &[u32],
+) -> Result<NumList, AllocError>
+    requires { Ascending (listed_for gone.now «package») }
+    ensures { IfOk result (λ made. made ≡ filter (λ q. not (against_in gone.now «package» q)) list.now) }
+{
+    if conflicts_of(gone, package).is_empty() {
+        return Ok(Listed::of(Vec::from_slice(alloc, list)?));
+    }
+    let mut made = NumList::new(alloc);
+    for other in list {
+        if !are_against(gone, package, *other) {
+            made.push(*other)?;
+        }
+    }
+    Ok(made)
+}
+
+/// What is left of so many lists of conflicts.
+fn left_lists(
+    alloc: Global,
+    table: &[NumList],
+    gone: &[NumList],
+    size: u32,
+) -> Result<Vec<NumList>, AllocError>
+    requires size { length table.now ≡ size }
+    requires gone { (p : ℕ) → Ascending (listed_for gone.now p) }
+    ensures left { IfOk result (λ made. made.items ≡ left_of table.now gone.now) }
+    ensures count { IfOk result (λ made. length made.items ≡ size) }
+{
+    let mut made = Vec::new(alloc);
+    for package in 0..size {
+        let list = left_list(alloc, gone, package, conflicts_of(table, package))?;
+        made.push(list)?;
+    }
+    Ok(made)
 }
 
 /// The thinned book: each conflict is dropped in turn that is redundant in what is left. It fails only where no memory is
@@ -137,12 +180,16 @@ pub fn thin(alloc: Global, pool: &Pool, book: &Book) -> Result<Book, AllocError>
 {
     // What holds of every pool is told by this call alone.
     pool.clause_count();
-    let pairs = pairs_of(alloc, pool, book)?;
-    let mut table = copy_lists(alloc, book.conflicts.as_slice())?;
-    thin_pairs(alloc, pool, book, table.as_mut_slice(), pairs.as_slice())?;
+    let gone = gone_of(alloc, pool, book)?;
+    let conflicts = left_lists(
+        alloc,
+        book.conflicts.as_slice(),
+        gone.as_slice(),
+        book.size(),
+    )?;
     let rows = Vec::from_slice(alloc, book.rows.as_slice())?;
     Ok(Book {
         rows: Listed::of(rows),
-        conflicts: Listed::of(table),
+        conflicts: Listed::of(conflicts),
     })
 }

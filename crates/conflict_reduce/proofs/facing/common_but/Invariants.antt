@@ -1,8 +1,8 @@
 use Rattle.std.proofs.Common.{◌≡◌, filter, take}
 use Rattle.std.specs.List.{list_all}
 use Rattle.row_book.specs.Book.{listed_for}
-use Rattle.conflict_reduce.specs.Tests.{conflict_but}
+use Rattle.conflict_reduce.specs.Tests.{conflict_but, left_of}
 use Rattle.conflict_reduce.proofs.facing.common_but.Given as goal
 
 abbrev pub invariant-loop-package : goal.invariant-loop-package
-invariant-loop-package l = l.common.items ≡ filter (λ n. list_all (λ m. conflict_but l.table l.pair m n) l.list) (take l.package-index (listed_for l.table l.first))
+invariant-loop-package l = l.common.items ≡ filter (λ n. list_all (λ m. conflict_but (left_of l.table l.gone) l.pair m n) l.list) (take l.package-index (listed_for l.table l.first))

@@ -1,0 +1,14 @@
+use Rattle.std.proofs.Common.{sym, arith, ◌∙◌}
+use Rattle.std.specs.List.{list_all}
+use Rattle.row_book.proofs.Leads.{all_fails, all_pass}
+use Rattle.conflict_reduce.specs.Tests.{conflict_but, left_of}
+use Rattle.conflict_reduce.proofs.facing.all_conflict_but.Goals as goal
+
+pub returns-then-not-conflicts_with_each : goal.returns-then-not-conflicts_with_each
+returns-then-not-conflicts_with_each c =
+    sym (all_fails (λ m. list_all (conflict_but (left_of c.args.table.now c.args.gone.now) c.args.pair m) c.args.other.now) c.args.list.now c.loop-package.package-index (omega arith)
+    (sym c.conflicts_with_each.ensures ∙ c.if-not-conflicts_with_each.true))
+
+pub returns : goal.returns
+returns c =
+    sym (all_pass (λ m. list_all (conflict_but (left_of c.args.table.now c.args.gone.now) c.args.pair m) c.args.other.now) c.args.list.now (λ k l. c.loop-package.invariant k (omega arith)))

@@ -1,0 +1,21 @@
+use Rattle.std.proofs.Common.{sym, ap, ◌∙◌, arith}
+use Rattle.clause_pool.specs.Interned.{clause_at}
+use Rattle.row_book.specs.Facing.{all_against}
+use Rattle.row_book.proofs.Leads.{any_at, none_at}
+use Rattle.row_book.proofs.Lists.{item_in}
+use Rattle.conflict_reduce.specs.Tests.{conflict_but, left_of}
+use Rattle.conflict_reduce.proofs.facing.faces_clause.Goals as goal
+
+pub slice-requires : goal.slice-requires
+slice-requires c = c.requires.row c.id-item.result (item_in c.args.row.now c.loop-id.id-index c.id-item.result (omega arith) c.id-item.is)
+
+pub returns-then-all_conflict_but : goal.returns-then-all_conflict_but
+returns-then-all_conflict_but c =
+    sym (any_at (all_against (conflict_but (left_of c.args.table.now c.args.gone.now) c.args.pair) c.args.list.now) (clause_at c.args.pool.now) c.args.row.now c.id-item.result
+    (item_in c.args.row.now c.loop-id.id-index c.id-item.result (omega arith) c.id-item.is)
+    (ap (all_against (conflict_but (left_of c.args.table.now c.args.gone.now) c.args.pair) c.args.list.now) (sym c.slice.ensures.lent) ∙ sym c.all_conflict_but.ensures ∙ c.if-all_conflict_but.true))
+
+pub returns : goal.returns
+returns c =
+    sym (none_at (all_against (conflict_but (left_of c.args.table.now c.args.gone.now) c.args.pair) c.args.list.now) (clause_at c.args.pool.now) c.args.row.now
+    (λ k l. c.loop-id.invariant k (omega arith)))

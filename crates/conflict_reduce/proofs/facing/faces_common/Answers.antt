@@ -1,0 +1,32 @@
+use Rattle.std.proofs.Common.{◌≡◌, ◌∷◌, ◌||◌, ◌∙◌, [], List, ℕ, ap, sym, subst}
+use Rattle.std.specs.List.{list_all, list_any}
+use Rattle.clause_pool.specs.Interned.{clauses_at}
+use Rattle.row_book.specs.Book.{listed_for}
+use Rattle.row_book.specs.Clauses.{Ascending, is_inside}
+use Rattle.row_book.specs.Facing.{all_against}
+use Rattle.row_book.specs.Sets.{has}
+use Rattle.row_book.proofs.Facing.{faces_filtered}
+use Rattle.row_book.proofs.Lists.{ascending_filter}
+use Rattle.conflict_reduce.specs.Tests.{common_but, conflict_but, left_of}
+use Rattle.conflict_reduce.proofs.Left.{left_own}
+use Rattle.conflict_reduce.proofs.facing.faces_common.Goals as goal
+
+pub has_side_within-faces-requires-clause-numbers : goal.has_side_within-faces-requires-clause-numbers
+has_side_within-faces-requires-clause-numbers c =
+    subst Ascending (sym (c.as_slice.ensures.value ∙ c.in_ok-common.ensures))
+    (ascending_filter (λ n. list_all (λ m. conflict_but (left_of c.args.table.now c.args.gone.now) c.args.pair m n) c.args.list.now) (listed_for c.args.table.now c.args.first) (c.requires.table c.args.first))
+
+-- what the list conflicts with as a whole lies within the conflicts that its members have in common
+pub returns : goal.returns
+returns c =
+    let p : ℕ = c.args.pair.high in
+    let m : ℕ = c.args.first in
+    let ms : List ℕ = c.requires.first.0 in
+    let cs : List (List ℕ) = clauses_at c.args.pool.now c.args.row.now in
+    let split : c.args.list.now ≡ m ∷ ms = c.requires.first.1 in
+    let same : c.as_slice.result.now ≡ common_but c.args.table.now c.args.gone.now c.args.pair m (m ∷ ms) =
+    c.as_slice.ensures.value ∙ c.in_ok-common.ensures ∙ ap (common_but c.args.table.now c.args.gone.now c.args.pair m) split in
+    c.has_side_within-faces.ensures
+    ∙ ap (λ ns. has ns p || list_any (λ e. is_inside e ns) cs) same
+    ∙ sym (faces_filtered (conflict_but (left_of c.args.table.now c.args.gone.now) c.args.pair) (listed_for c.args.table.now m) cs p m ms (left_own c.args.table.now c.args.gone.now c.args.pair m))
+    ∙ ap (λ l. list_any (all_against (conflict_but (left_of c.args.table.now c.args.gone.now) c.args.pair) l) ((p ∷ []) ∷ cs)) (sym split)

@@ -2,7 +2,10 @@ pub mod Refusing
 pub mod WellFormed
 pub mod Indexed
 pub mod PackageKeys
+pub mod Closing
+pub mod Opening
 pub mod Steps
+pub mod Standing
 pub mod Short
 pub mod Booked
 pub mod Chosen

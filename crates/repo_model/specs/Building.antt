@@ -1,6 +1,7 @@
 -- A suite that is being read, stanza by stanza.
 use Rattle.std.specs.Prelude.{◌≡◌, ℕ, Bool, true, List, ◌∷◌, ◌++◌}
-use Rattle.std.specs.List.{AllByRecursion}
+use Rattle.std.specs.Coded.{Coded-set, coded_bool, coded_list, coded_ℕ, ×_prop}
+use Rattle.std.specs.List.{AllByRecursion, AllByRecursion-prop}
 use Rattle.std.specs.Str.{bytes_eq}
 use Rattle.deb_version.specs.Grammar.{is_version}
 use Rattle.deb_version.specs.Keys.{version_key}
@@ -24,3 +25,14 @@ IsWellFormed facts = (is_name facts.name ≡ true) × (is_version facts.version 
 pub record IsIndexOf (packages : List PackageFacts) (table : NumbersByName) : Type 0 where
   pub well_formed : AllByRecursion IsWellFormed packages
   pub numbers : (key : List ℕ) → numbers_under table key ≡ numbers_where (has_key key) packages
+
+-- This fact has one proof at most, so that a value may keep it.
+IsWellFormed-prop : (facts : PackageFacts) → IsProp (IsWellFormed facts)
+IsWellFormed-prop facts = ×_prop (Coded-set coded_bool (is_name facts.name) true) (Coded-set coded_bool (is_version facts.version) true)
+
+pub IsIndexOf-prop : (packages : List PackageFacts) (table : NumbersByName) → IsProp (IsIndexOf packages table)
+IsIndexOf-prop packages table =
+    let each : IsProp (AllByRecursion IsWellFormed packages) = AllByRecursion-prop IsWellFormed IsWellFormed-prop packages in
+    let numbers : (key : List ℕ) → IsProp (numbers_under table key ≡ numbers_where (has_key key) packages) =
+    λ key. Coded-set (coded_list coded_ℕ) (numbers_under table key) (numbers_where (has_key key) packages) in
+    hlevel (each, numbers)

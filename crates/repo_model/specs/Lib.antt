@@ -4,6 +4,9 @@ pub mod FirstFault
 pub mod Refusals
 pub mod Building
 pub mod Reading
+pub mod Backward
+pub mod Feeding
+pub mod Feed
 pub mod Stanzas
 pub mod Repository
 pub mod Laws

@@ -1,5 +1,5 @@
 -- When an index is refused.
-use Rattle.std.specs.Prelude.{◌≡◌, ⊤, Option, Some, None, Result, Ok, Err}
+use Rattle.std.specs.Prelude.{◌≡◌, ⊤, Bool, true, false, Option, Some, None, Result, Ok, Err}
 use Rattle.repo_model.specs.declared.fault.IndexFault.{IndexFault}
 use Rattle.repo_model.specs.declared.fault.IndexFault.TheVariants.{Stanza, MissingPackage, MissingVersion, BadPackage, BadVersion, BadArchitecture, BadRelation, Duplicate, Mixed, TooMany, Memory}
 
@@ -25,3 +25,17 @@ Refuses fault there = UnlessMemory fault (there ≡ Some fault)
 abbrev pub Answers : {X : Type 0} → Result X IndexFault → Option IndexFault → X → Type 0
 Answers (Ok x) there value = (there ≡ None) × (x ≡ value)
 Answers (Err fault) there value = Refuses fault there
+
+-- whether a refusal is want of memory
+abbrev pub is_memory : IndexFault → Bool
+is_memory (Stanza fault) = false
+is_memory (MissingPackage line) = false
+is_memory (MissingVersion line) = false
+is_memory (BadPackage line) = false
+is_memory (BadVersion line) = false
+is_memory (BadArchitecture line) = false
+is_memory (BadRelation line element) = false
+is_memory (Duplicate first_line line) = false
+is_memory (Mixed line) = false
+is_memory TooMany = false
+is_memory Memory = true

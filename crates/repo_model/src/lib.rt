@@ -2,11 +2,13 @@
 #![tactic(auto)]
 
 mod alike;
+mod blank;
 mod building;
 mod choose;
 mod clauses;
 mod facts;
 pub mod fault;
+pub mod feed;
 mod fields;
 pub mod goals;
 mod known;
@@ -14,12 +16,16 @@ mod laws;
 pub mod names;
 mod pairs;
 pub mod plain;
+mod progress;
+mod reading;
 mod relations;
 mod repository;
 mod rows;
+mod stand;
 pub mod suite;
 
 pub use fault::IndexFault;
+pub use feed::SuiteFeed;
 pub use goals::{Goal, GoalError, GoalList};
 pub use laws::{health_is_kept, repository_is_of_packages};
 pub use names::NameList;

@@ -1,5 +1,6 @@
 //! Indexes with the packages that they have, or with their first faults.
-use super::{IndexFault, Suite, read_suite};
+use super::{IndexFault, Suite, SuiteFeed, read_suite};
+use byte_flow::{MemShelf, feed_file};
 use relation_fields::AtomList;
 use std::alloc::{AllocError, Global};
 use std::test::Fail;
@@ -164,6 +165,71 @@ const READINGS: [(&[u8], &[u8]); 31] = [
 fn readings(rt: HostRuntime) -> Result<(), Fail> {
     for (text, reading) in READINGS {
         assert_eq!(rt; show(rt.alloc(), text)?.as_slice(), reading);
+    }
+    Ok(())
+}
+
+// The same, where the text is taken in pieces of so many bytes.
+fn show_fed(alloc: Global, text: &[u8], step: u32) -> Result<Vec<u8>, AllocError> {
+    let mut out = Vec::new(alloc);
+    let mut shelf = MemShelf::new(alloc, step.max(1));
+    shelf.add("I", text)?;
+    let mut feed = SuiteFeed::new(alloc)?;
+    if feed_file(alloc, &mut shelf, "I", 1_000_000, &mut feed).is_err() {
+        return Ok(out);
+    }
+    match feed.finish() {
+        Ok(suite) => show_suite(alloc, &suite, &mut out)?,
+        Err(fault) => out.extend_from_slice(format!(in alloc; "{fault}")?.as_bytes())?,
+    }
+    Ok(out)
+}
+
+/// Indexes whose stanzas, blank lines and faults end in one piece or in another.
+const PIECES: [(&[u8], &[u8]); 11] = [
+    (b"", b""),
+    (b"\n \n\n", b""),
+    (
+        b"Package: a\nVersion: 1\n \n\nPackage: b\nVersion: 2\n\n",
+        b"[1 a 1||][5 b 2||]",
+    ),
+    (
+        b"Package: a\nVersion: 1\n\n\n\t\nPackage: b\nVersion: 2\nDepends: a,\n c | d\nArchitecture: i386",
+        b"[1 a 1||][6 b 2, a, c d||] i386",
+    ),
+    (b"x", b"line 1: no colon"),
+    (
+        b"x\n\nPackage: a\nVersion: 1\n\nPackage: a\nVersion: 1\n\n",
+        b"line 1: no colon",
+    ),
+    (
+        b"Package: a\nVersion: 1\n\n\nVersion: 2\n\nx\n\n",
+        b"line 5: no Package field",
+    ),
+    (
+        b"Package: a\nVersion: 1\n\nPackage: b",
+        b"line 4: no Version field",
+    ),
+    (
+        b"Package: a\nVersion: 1\n\nPackage: b\nVersion: 1\n\nPackage: a\nVersion: 0:1\n\n",
+        b"line 7: same package as line 1",
+    ),
+    (
+        b"Package: a\nVersion: 1\nArchitecture: amd64\n\nPackage: b\nVersion: 1\nArchitecture: arm64\n\n",
+        b"line 7: second architecture",
+    ),
+    (
+        b"Package: a\nVersion: 1\n\nPackage: b\nVersion: 1\nDepends: a, b |\n\n \n",
+        b"line 6: bad relation, element 2",
+    ),
+];
+
+#[test]
+fn readings_in_pieces(rt: HostRuntime) -> Result<(), Fail> {
+    for (text, reading) in PIECES {
+        for step in [1, 7, 65_536] {
+            assert_eq!(rt; show_fed(rt.alloc(), text, step)?.as_slice(), reading);
+        }
     }
     Ok(())
 }

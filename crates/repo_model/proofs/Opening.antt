@@ -1,0 +1,76 @@
+-- Texts of which no front is closed.
+use Rattle.std.proofs.Common.{◌≡◌, ℕ, ◌+◌, ◌-◌, ◌<◌, ◌≤◌, true, false, ◌⊎◌, inl, inr, List, [], ◌∷◌, ◌++◌, length, take, drop, refl, sym, ap, subst, ◌∙◌, append_assoc, take-append-drop, length-append, arith}
+use Rattle.std.proofs.Math.Seq.{take-append-add}
+use Rattle.std.proofs.lemmas.Bool.{cases_lt}
+use Rattle.std.proofs.lemmas.List.{take_at, length-take-le}
+use Rattle.stanza_reader.specs.Close.{IsClosed}
+use Rattle.stanza_reader.proofs.PartLemmas.{closed_texts_join}
+use Rattle.repo_model.specs.Backward.{closes}
+use Rattle.repo_model.specs.Feeding.{IsOpen}
+use Rattle.repo_model.proofs.Closing.{closed_closes}
+
+-- no front that is longer than this closes
+abbrev pub NoneCloses : List ℕ → ℕ → Type 0
+NoneCloses text end = (n : ℕ) → end < n → n ≤ length text → closes (take n text) ≡ false
+
+pub none_longer : (text : List ℕ) (end : ℕ) → length text ≤ end → NoneCloses text end
+none_longer text end whole = λ n behind within. absurd (omega (arith, whole, behind, within))
+
+-- nor one that is longer than one byte less
+pub none_shorter : (text : List ℕ) (end : ℕ) → NoneCloses text end → closes (take end text) ≡ false → NoneCloses text (end - 1)
+none_shorter text end none this = λ n behind within. by n behind within (cases_lt end n)
+  where
+    by : (n : ℕ) → end - 1 < n → n ≤ length text → (end < n) ⊎ (n ≤ end) → closes (take n text) ≡ false
+    by n behind within (inl longer) = none n longer within
+    by n behind within (inr short) = let same : n ≡ end = omega (arith, behind, short) in ap (λ m. closes (take m text)) same ∙ this
+
+never : true ≡ false → ⊥
+never e = cc
+
+not_longer : (text front rest : List ℕ) (end : ℕ) → NoneCloses text end → text ≡ front ++ rest → IsClosed front → end < length front → ⊥
+not_longer text front rest end none same closed longer =
+    let size : length text ≡ length front + length rest = ap length same ∙ length-append front rest in
+    let here : take (length front) text ≡ front = ap (take (length front)) same ∙ take_at front rest (length front) refl in
+    let shut : closes (take (length front) text) ≡ true = ap closes here ∙ closed_closes front closed in
+    never (sym shut ∙ none (length front) longer (omega (arith, size)))
+
+empty_or_some : (front : List ℕ) → (front ≡ []) ⊎ (0 < length front)
+empty_or_some [] = inl refl
+empty_or_some (b ∷ bs) = inr (omega arith)
+
+-- what stands behind the longest front that closes is open
+pub open_behind : (text : List ℕ) (end : ℕ) → end ≤ length text → IsClosed (take end text) → NoneCloses text end → IsOpen (drop end text)
+open_behind text end within closed none = record { fronts = λ front rest same shut. by front rest same shut (empty_or_some front) }
+  where
+    by : (front rest : List ℕ) → drop end text ≡ front ++ rest → IsClosed front → (front ≡ []) ⊎ (0 < length front) → front ≡ []
+    by front rest same shut (inl empty) = empty
+    by front rest same shut (inr some) =
+        let cut : text ≡ (take end text ++ front) ++ rest =
+        sym (take-append-drop end text) ∙ ap (λ more. take end text ++ more) same ∙ sym (append_assoc (take end text) front rest) in
+        let size : length (take end text ++ front) ≡ end + length front = length-append (take end text) front ∙ ap (λ n. n + length front) (length-take-le end text within) in
+        absurd (not_longer text (take end text ++ front) rest end none cut (closed_texts_join (take end text) front closed shut) (omega (arith, size, some)))
+
+-- a text is open where a front of it is, and no longer front closes
+pub open_still : (text : List ℕ) (from end : ℕ) → end ≤ from → IsOpen (take from text) → NoneCloses text end → IsOpen (drop 0 text)
+open_still text from end tried before none = record { fronts = λ front rest same shut. by front rest same shut (cases_lt end (length front)) }
+  where
+    by : (front rest : List ℕ) → text ≡ front ++ rest → IsClosed front → (end < length front) ⊎ (length front ≤ end) → front ≡ []
+    by front rest same shut (inl longer) = absurd (not_longer text front rest end none same shut longer)
+    by front rest same shut (inr short) =
+        let more = from - length front in
+        let whole : from ≡ length front + more = omega (arith, short, tried) in
+        before.fronts front (take more rest) (ap (λ n. take n text) whole ∙ ap (take (length front + more)) same ∙ take-append-add front rest more) shut
+
+pub open-nil : IsOpen []
+open-nil = record { fronts = λ front rest same shut. by front rest same }
+  where
+    by : (front rest : List ℕ) → [] ≡ front ++ rest → front ≡ []
+    by [] rest same = refl
+    by (b ∷ bs) rest same = absurd cc
+
+pub open_same : (held text : List ℕ) → IsOpen text → held ≡ text → IsOpen held
+open_same held text h same = subst IsOpen (sym same) h
+
+-- bytes that were held, before others
+pub open_before : (held piece all front : List ℕ) (n : ℕ) → IsOpen held → all ≡ held ++ piece → length held ≡ n → front ≡ take n all → IsOpen front
+open_before held piece all front n h whole size same = open_same front held h (same ∙ ap (take n) whole ∙ take_at held piece n size)

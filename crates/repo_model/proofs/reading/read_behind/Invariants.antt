@@ -1,0 +1,19 @@
+use Rattle.std.proofs.Common.{ℕ, ◌≤◌, ◌-◌, List, ◌++◌, length}
+use Rattle.stanza_reader.specs.Places.{IsPlace}
+use Rattle.stanza_reader.specs.Reading.{readings_at}
+use Rattle.stanza_reader.specs.Stanzas.{readings}
+use Rattle.repo_model.specs.Building.{IsIndexOf}
+use Rattle.repo_model.specs.Feeding.{IsFront}
+use Rattle.repo_model.proofs.Steps.{IsRead}
+use Rattle.repo_model.proofs.reading.read_behind.Given as goal
+
+abbrev pub invariant-loop-building : goal.invariant-loop-building
+invariant-loop-building l = record {
+  place : IsPlace l.part l.at;
+  few : length l.building.packages ≤ 200000;
+  indexed : IsIndexOf l.building.packages l.building.keys;
+  read : (text : List ℕ) → IsFront l.fn.front l.fn.line text → IsRead (readings (text ++ l.part)) (readings_at l.part l.at) l.building.packages l.building.home.name;
+}
+
+abbrev pub decreases-loop-building : goal.decreases-loop-building
+decreases-loop-building l = length l.part - l.at.offset

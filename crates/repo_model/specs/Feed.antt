@@ -1,0 +1,16 @@
+-- A feed, by what it holds.
+use Rattle.std.specs.Prelude.{ℕ, Bool, List}
+use Rattle.repo_model.specs.Feeding.{is_spent, StandsFor}
+use Rattle.repo_model.specs.declared.feed.SuiteFeed.{SuiteFeed}
+
+-- how many bytes it has taken
+abbrev pub taken_of : SuiteFeed → ℕ
+taken_of feed = feed.taken
+
+-- it stands for a text, where this is what it has taken
+abbrev pub FeedStandsFor : SuiteFeed → List ℕ → Type 0
+FeedStandsFor feed text = StandsFor feed.reading text
+
+-- whether a piece was refused, since memory ran out
+abbrev pub was_refused : SuiteFeed → Bool
+was_refused feed = is_spent feed.reading

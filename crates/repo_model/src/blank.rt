@@ -1,0 +1,71 @@
+//! Blank lines, seen from the end of a text.
+ghost use Rattle.std.specs.Prelude.{◌≡◌, ◌<◌, ◌≤◌, length, take, drop, count_by};
+ghost use Rattle.stanza_reader.specs.Close.{IsClosed};
+ghost use Rattle.stanza_reader.specs.Lines.{is_blank_byte, is_line_feed};
+ghost use Rattle.repo_model.specs.Backward.{closes, is_last_blank};
+ghost use Rattle.repo_model.specs.Feeding.{IsOpen};
+
+/// How many bytes end with the last blank line that ends with a line feed; 0 where there is none. Of the first `from` bytes
+/// it is known that there is none among them.
+pub(crate) fn closed_length(text: &[u8], from: usize) -> usize
+    requires { IsOpen (take from text.now) }
+    ensures within { result ≤ length text.now }
+    ensures closed { IsClosed (take result text.now) }
+    ensures unclosed { IsOpen (drop result text.now) }
+{
+    let mut end = text.len();
+    while from < end {
+        if closes(text, end) {
+            return end;
+        }
+        end -= 1;
+    }
+    0
+}
+
+/// Whether the first bytes, at least one, end with a blank line and a line feed.
+fn closes(text: &[u8], end: usize) -> bool
+    requires some { 0 < end }
+    requires within { end ≤ length text.now }
+    ensures { result ≡ closes (take end text.now) }
+{
+    is_feed(text[end - 1]) && is_last_blank(text, end - 1)
+}
+
+/// Whether what stands behind the last line feed of the first bytes is blank.
+fn is_last_blank(text: &[u8], end: usize) -> bool
+    requires { end ≤ length text.now }
+    ensures { result ≡ is_last_blank (take end text.now) }
+{
+    let mut start = end;
+    while 0 < start {
+        let byte = text[start - 1];
+        if is_feed(byte) {
+            return true;
+        }
+        if !is_blank(byte) {
+            return false;
+        }
+        start -= 1;
+    }
+    true
+}
+
+fn is_feed(byte: u8) -> bool
+    ensures { result ≡ is_line_feed byte }
+{
+    byte == b'\n'
+}
+
+fn is_blank(byte: u8) -> bool
+    ensures { result ≡ is_blank_byte byte }
+{
+    byte == b' ' || byte == b'\t'
+}
+
+/// The number of line feeds.
+pub(crate) fn count_feeds(text: &[u8]) -> u64
+    ensures { result ≡ count_by is_line_feed text.now }
+{
+    text.iter().filter(|byte| **byte == b'\n').count() as u64
+}

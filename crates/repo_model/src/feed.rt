@@ -1,0 +1,91 @@
+//! An index that is read piece by piece.
+ghost use Rattle.std.specs.Prelude.{◌≤◌};
+ghost use Rattle.repo_model.specs.Feeding.{FitsWithin, FitsWithin-prop, HoldsOpen, HoldsOpen-prop};
+
+use crate::fault::IndexFault;
+use crate::progress::Progress;
+use crate::stand::{is_spent, read_piece};
+use crate::suite::Suite;
+use byte_flow::Taker;
+use std::alloc::{AllocError, Global};
+use std::mem;
+
+/// An index that is taken in pieces. Of the stanzas that are closed it keeps the packages, of the open one the bytes, and from
+/// the first fault on that fault alone.
+#[derive(Drop)]
+pub struct SuiteFeed {
+    alloc: Global,
+    taken: u64,
+    reading: Result<Progress, IndexFault>,
+    ghost within: { taken ≤ 1073741824 },
+    ghost fits: { FitsWithin taken reading } by { FitsWithin-prop taken reading },
+    ghost unclosed: { HoldsOpen reading } by { HoldsOpen-prop reading },
+}
+
+impl SuiteFeed {
+    ghost use Rattle.std.specs.Prelude.{◌≡◌, List, ℕ, [], true, map, None, IfOk, IfErr, IsErrAnd, OnOk};
+    ghost use Rattle.repo_model.specs.Facts.{facts_of};
+    ghost use Rattle.repo_model.specs.Feed.{taken_of, was_refused, FeedStandsFor};
+    ghost use Rattle.repo_model.specs.FirstFault.{first_fault, home_of, stanzas_of};
+    ghost use Rattle.repo_model.specs.Refusals.{is_memory, Refuses};
+
+    /// A feed that has taken no byte.
+    pub fn new(alloc: Global) -> Result<SuiteFeed, AllocError>
+        ensures taken { IfOk result (λ feed. taken_of feed ≡ 0) }
+        ensures stands { IfOk result (λ feed. FeedStandsFor feed []) }
+    {
+        let reading = Ok(Progress::new(alloc));
+        Ok(SuiteFeed {
+            alloc,
+            taken: 0,
+            reading,
+        })
+    }
+
+    /// The suite of the bytes that were taken, or their first fault, as if they were read at once. Where a piece was refused the
+    /// answer is want of memory.
+    pub fn finish(self) -> Result<Suite, IndexFault>
+        ensures refused { IfErr result (λ fault. (text : List ℕ) → FeedStandsFor self text → Refuses fault (first_fault text)) }
+        ensures accepted { OnOk result ((text : List ℕ) → FeedStandsFor self text → first_fault text ≡ None) }
+        ensures packages { IfOk result (λ suite. (text : List ℕ) → FeedStandsFor self text → suite.packages ≡ map facts_of (stanzas_of text)) }
+        ensures home { IfOk result (λ suite. (text : List ℕ) → FeedStandsFor self text → suite.home.name ≡ home_of (stanzas_of text)) }
+        ensures spent { was_refused self ≡ true → IsErrAnd result (λ fault. is_memory fault ≡ true) }
+    {
+        let SuiteFeed { alloc, reading, .. } = self;
+        match reading {
+            Ok(progress) => progress.finish(alloc),
+            Err(fault) => Err(fault),
+        }
+    }
+}
+
+impl Taker for SuiteFeed {
+    ghost use Rattle.std.specs.Prelude.{◌≡◌, ◌+◌, ◌≤◌, ◌++◌, List, ℕ, true, length, OnOk, OnErr, IsErr};
+    ghost use Rattle.repo_model.specs.Feed.{taken_of, was_refused, FeedStandsFor};
+
+    ghost stands_for = { λ feed text. FeedStandsFor feed text };
+
+    ghost taken = { λ feed. taken_of feed };
+
+    ghost limit = { λ _. 1073741824 };
+
+    /// Takes the next piece. Behind a refusal each further piece is refused too.
+    fn take(&mut self, piece: &[u8]) -> Result<(), AllocError>
+        requires { taken_of self.old + length piece.now ≤ 1073741824 }
+        ensures grows { OnOk result (taken_of self.new ≡ taken_of self.old + length piece.now) }
+        ensures stands { OnOk result ((text : List ℕ) → FeedStandsFor self.old text → FeedStandsFor self.new (text ++ piece.now)) }
+        ensures keeps { OnErr result (taken_of self.new ≡ taken_of self.old) }
+        ensures spends { OnErr result (was_refused self.new ≡ true) }
+        ensures stays_spent { was_refused self.old ≡ true → IsErr result }
+    {
+        let alloc = self.alloc;
+        let before = mem::replace(&mut self.reading, Err(IndexFault::Memory));
+        let reading = read_piece(alloc, before, piece);
+        if is_spent(&reading) {
+            return Err(AllocError);
+        }
+        self.reading = reading;
+        self.taken += piece.len() as u64;
+        Ok(())
+    }
+}

@@ -1,0 +1,112 @@
+//! How far an index is read that comes in pieces.
+ghost use Rattle.std.specs.Prelude.{◌≤◌, length};
+ghost use Rattle.repo_model.specs.Building.{IsIndexOf, IsIndexOf-prop};
+
+use crate::blank::{closed_length, count_feeds};
+use crate::building::Building;
+use crate::fault::IndexFault;
+use crate::reading::read_behind;
+use crate::suite::Suite;
+use std::alloc::Global;
+
+/// The packages of the stanzas that are closed, the number of the line behind them, and the bytes from there on.
+#[derive(Drop)]
+pub(crate) struct Progress {
+    pub(crate) building: Building,
+    pub(crate) line: u64,
+    pub(crate) pending: Vec<u8>,
+    ghost counted: { 1 ≤ line },
+    ghost few: { length building.packages ≤ 200000 },
+    ghost indexed: { IsIndexOf building.packages building.keys } by { IsIndexOf-prop building.packages building.keys },
+}
+
+impl Progress {
+    ghost use Rattle.std.specs.Prelude.{◌≡◌, ◌+◌, ◌++◌, List, ℕ, [], take, drop, IfOk, IfErr};
+    ghost use Rattle.stanza_reader.specs.Close.{IsClosed};
+    ghost use Rattle.repo_model.specs.Feeding.{IsOpen, IsProgress, IsSuiteOf, StandsUnlessMemory};
+    ghost use Rattle.repo_model.specs.FirstFault.{first_fault};
+    ghost use Rattle.repo_model.specs.Refusals.{Refuses};
+
+    /// Nothing was read; it takes no memory.
+    pub(crate) fn new(alloc: Global) -> Self
+        ensures stands { IsProgress result [] }
+        ensures line { result.line ≡ 1 }
+        ensures pending { result.pending.items ≡ [] }
+        ensures unclosed { IsOpen result.pending.items }
+    {
+        Progress {
+            building: Building::new(alloc),
+            line: 1,
+            pending: Vec::new(alloc),
+        }
+    }
+
+    /// Takes a piece behind the pending bytes, and reads the stanzas that it closes.
+    pub(crate) fn add(self, alloc: Global, piece: &[u8]) -> Result<Self, IndexFault>
+        requires room { self.line + length self.pending.items + length piece.now ≤ 1073741825 }
+        requires unclosed { IsOpen self.pending.items }
+        ensures stands { (text : List ℕ) → IsProgress self text → StandsUnlessMemory result (text ++ piece.now) }
+        ensures fits { IfOk result (λ new. new.line + length new.pending.items ≤ self.line + length self.pending.items + length piece.now) }
+        ensures unclosed { IfOk result (λ new. IsOpen new.pending.items) }
+    {
+        let Progress {
+            building,
+            line,
+            mut pending,
+        } = self;
+        let before = pending.len();
+        pending.extend_from_slice(piece)?;
+        let closed = closed_length(&pending, before);
+        let grown = Progress {
+            building,
+            line,
+            pending,
+        };
+        if closed == 0 {
+            return Ok(grown);
+        }
+        grown.close(alloc, closed)
+    }
+
+    /// Reads the first pending bytes, so many that no stanza of theirs goes on behind them.
+    fn close(self, alloc: Global, closed: usize) -> Result<Self, IndexFault>
+        requires room { self.line + length self.pending.items ≤ 1073741825 }
+        requires within { closed ≤ length self.pending.items }
+        requires closed { IsClosed (take closed self.pending.items) }
+        requires unclosed { IsOpen (drop closed self.pending.items) }
+        ensures stands { (text : List ℕ) → IsProgress self text → StandsUnlessMemory result text }
+        ensures fits { IfOk result (λ new. new.line + length new.pending.items ≤ self.line + length self.pending.items) }
+        ensures unclosed { IfOk result (λ new. IsOpen new.pending.items) }
+    {
+        let Progress {
+            building,
+            line,
+            pending,
+        } = self;
+        let (part, rest) = pending.split_at(closed);
+        let building = read_behind(alloc, building, part, line)?;
+        let line = line + count_feeds(part);
+        let pending = Vec::from_slice(alloc, rest)?;
+        Ok(Progress {
+            building,
+            line,
+            pending,
+        })
+    }
+
+    /// The suite of all bytes, or their first fault.
+    pub(crate) fn finish(self, alloc: Global) -> Result<Suite, IndexFault>
+        requires { self.line + length self.pending.items ≤ 1073741825 }
+        ensures refused { IfErr result (λ fault. (text : List ℕ) → IsProgress self text → Refuses fault (first_fault text)) }
+        ensures suite { IfOk result (λ suite. (text : List ℕ) → IsProgress self text → IsSuiteOf text suite.packages suite.home.name) }
+    {
+        let Progress {
+            building,
+            line,
+            pending,
+        } = self;
+        let read = read_behind(alloc, building, &pending, line)?;
+        let Building { packages, home, .. } = read;
+        Ok(Suite { packages, home })
+    }
+}

@@ -1,0 +1,77 @@
+//! Stanzas that are read one after the other.
+ghost use Rattle.std.specs.Prelude.{◌≡◌, ◌≤◌, ◌++◌, List, ℕ, length, nat_le, IfOk, IfErr};
+ghost use Rattle.std.specs.Option.{option_and_then};
+ghost use Rattle.stanza_reader.specs.Places.{IsPlace};
+ghost use Rattle.stanza_reader.specs.Reading.{first_reading, readings_at};
+ghost use Rattle.repo_model.specs.Building.{IsIndexOf};
+ghost use Rattle.repo_model.specs.Feeding.{IsFront, IsSuiteOf};
+ghost use Rattle.repo_model.specs.FirstFault.{first_fault};
+ghost use Rattle.repo_model.specs.Refusals.{Refuses};
+ghost use Rattle.repo_model.specs.Reading.{shape_fault, Goes};
+ghost use Rattle.stanza_reader.specs.declared.place.Place.{Place};
+
+use crate::building::Building;
+use crate::fault::IndexFault;
+use stanza_reader::{Next, Place, StanzaFault, next_stanza};
+use std::alloc::Global;
+
+/// Reads the stanzas of a part of an index, whose first line has the number, behind the front that was read.
+pub(crate) fn read_behind(
+    alloc: Global,
+    front: Building,
+    part: &[u8],
+    line: u64,
+) -> Result<Building, IndexFault>
+    requires short { length part.now ≤ 1073741824 }
+    requires place { IsPlace part.now (record { offset = 0; line = line }) }
+    requires few { length front.packages ≤ 200000 }
+    requires indexed { IsIndexOf front.packages front.keys }
+    ensures refused { IfErr result (λ fault. (text : List ℕ) → IsFront front line text → Refuses fault (first_fault (text ++ part.now))) }
+    ensures suite { IfOk result (λ read. (text : List ℕ) → IsFront front line text → IsSuiteOf (text ++ part.now) read.packages read.home.name) }
+    ensures few { IfOk result (λ read. length read.packages ≤ 200000) }
+    ensures indexed { IfOk result (λ read. IsIndexOf read.packages read.keys) }
+{
+    let mut building = front;
+    let mut at = Place { offset: 0, line };
+    loop {
+        let before = building.packages.as_slice().len();
+        match read_next(alloc, part, at, before)? {
+            Next::End => return Ok(building),
+            Next::Stanza { stanza, after } => {
+                building.add(alloc, &stanza)?;
+                at = after;
+            }
+        }
+    }
+}
+
+// The stanza at a place behind so many others, or its fault in checks 1 to 3.
+fn read_next(alloc: Global, bytes: &[u8], at: Place, before: usize) -> Result<Next, IndexFault>
+    requires { IsPlace bytes.now at }
+    ensures next { IfOk result (Goes bytes.now at before) }
+    ensures refused { IfErr result (λ fault. Refuses fault (option_and_then (shape_fault before) (first_reading (readings_at bytes.now at)))) }
+{
+    match next_stanza(alloc, bytes, at) {
+        Ok(Next::End) => Ok(Next::End),
+        Err(StanzaFault::Memory) => Err(IndexFault::Memory),
+        Ok(Next::Stanza { stanza, after }) => {
+            if is_full(before) {
+                return Err(IndexFault::TooMany);
+            }
+            Ok(Next::Stanza { stanza, after })
+        }
+        Err(fault) => {
+            if is_full(before) {
+                return Err(IndexFault::TooMany);
+            }
+            Err(IndexFault::Stanza(fault))
+        }
+    }
+}
+
+// Whether an index with so many packages has room for no more.
+fn is_full(packages: usize) -> bool
+    ensures { result ≡ nat_le 200000 packages }
+{
+    packages >= 200_000
+}

@@ -106,14 +106,14 @@ module _ {S : Type 0} {contents : S → Option Files} {faults moved : S → ℕ}
   settled_follows course (Some not_a_command) s h = absurd h
 
   -- an index that was read, and one that was refused
-  pub index_reached : (path text lent : List ℕ) (index : Index) (s t : S) → WasRead contents faults moved is_quiet start read s path text t → lent ≡ text → checked_index path lent ≡ Ok index →
+  pub index_reached : (path text : List ℕ) (index : Index) (s t : S) → WasRead contents faults moved is_quiet start read s path text t → checked_index path text ≡ Ok index →
       ReachesIndex contents faults moved is_quiet start read s path index t
-  index_reached path text lent index s t w same is next ending u f =
+  index_reached path text index s t w is next ending u f =
       behind_a_text path text (λ x. then_on (checked_index path x) next) s t u ending w
-      (subst (λ c. Follows contents faults moved is_quiet start read c t ending u) (sym (ap (λ x. then_on (checked_index path x) next) (sym same) ∙ ap (λ stage. then_on stage next) is)) f)
+      (subst (λ c. Follows contents faults moved is_quiet start read c t ending u) (sym (ap (λ stage. then_on stage next) is)) f)
 
-  pub index_refused : (path text lent : List ℕ) (next : Index → Course) (ending : Option Outcome) (s t : S) → WasRead contents faults moved is_quiet start read s path text t → lent ≡ text →
-      StopsAt (checked_index path lent) ending → Follows contents faults moved is_quiet start read (reads_index path next) s ending t
-  index_refused path text lent next ending s t w same h =
+  pub index_refused : (path text : List ℕ) (next : Index → Course) (ending : Option Outcome) (s t : S) → WasRead contents faults moved is_quiet start read s path text t →
+      StopsAt (checked_index path text) ending → Follows contents faults moved is_quiet start read (reads_index path next) s ending t
+  index_refused path text next ending s t w h =
       behind_a_text path text (λ x. then_on (checked_index path x) next) s t t ending w
-      (settled_follows (then_on (checked_index path text) next) ending t (stopped (checked_index path text) next ending (subst (λ x. StopsAt (checked_index path x) ending) same h)))
+      (settled_follows (then_on (checked_index path text) next) ending t (stopped (checked_index path text) next ending h))

@@ -1,5 +1,5 @@
 -- The stages of the kernel of an index, by what the calls below answer.
-use Rattle.std.proofs.Common.{◌≡◌, ℕ, ◌+◌, ◌<◌, ◌≤◌, List, length, map, Some, None, Ok, Err, refl, sym, ap, ap₂, subst, ◌∙◌, arith}
+use Rattle.std.proofs.Common.{◌≡◌, ℕ, ◌+◌, ◌<◌, ◌≤◌, false, List, length, map, Some, None, Ok, Err, refl, sym, ap, ap₂, subst, ◌∙◌, arith}
 use Rattle.std.proofs.lemmas.List.{length-map}
 use Rattle.clause_pool.specs.Interned.{Interned, row_at}
 use Rattle.kernel_rounds.specs.Extracting.{IsExtracted}
@@ -10,12 +10,15 @@ use Rattle.kernel_text.specs.JsonData.{AreNamedPackages}
 use Rattle.repo_model.proofs.Accepted.{Accepted}
 use Rattle.repo_model.proofs.Accepted as accepting
 use Rattle.repo_model.proofs.Packages.{length_clauses}
+use Rattle.repo_model.proofs.Standing.{not_memory}
 pub use Rattle.repo_model.proofs.SoundSuite.{suite_sound}
 use Rattle.repo_model.proofs.Form.{clause_form, conflict_two, conflict_turned, conflicts_order, form_lists}
 use Rattle.repo_model.specs.Facts.{facts_of}
 use Rattle.repo_model.specs.FirstFault.{first_fault, home_of, stanzas_of}
+use Rattle.repo_model.specs.Refusals.{Refuses, is_memory}
 use Rattle.repo_model.specs.Repository.{suite_repository}
 use Rattle.repo_model.specs.Stanzas.{stanza_at}
+use Rattle.repo_model.specs.declared.fault.IndexFault.{IndexFault}
 use Rattle.row_book.specs.Clauses.{InOrder}
 use Rattle.row_book.specs.Flattening.{flat, packages}
 use Rattle.row_book.specs.Repository.{Repository, clauses_of, conflicts_of}
@@ -30,12 +33,14 @@ use Rattle.kernel_rounds.proofs.Reached.{kernel_is_lem}
 use Rattle.kernel_rounds.proofs.Settling.{fixed_parts_lem}
 use Rattle.kernel_text.specs.Laws.{IsKernelOf}
 use Rattle.kernel_text.specs.Reading.{number_limit}
+use Rattle.coinst_run.specs.declared.answer.Cause.{Cause}
 use Rattle.coinst_run.specs.declared.answer.Cause.TheVariants.{ClauseLimit}
 use Rattle.coinst_run.specs.Answer.{refused}
+use Rattle.coinst_run.specs.Faults.{fault_cause}
 use Rattle.coinst_run.specs.Index.{Index, by_fault, checked_index, home_in, packages_in}
 use Rattle.coinst_run.specs.IndexKernel.{ClassedKernel, classed_kernel, index_kernel}
 use Rattle.coinst_run.specs.Kernel.{FitsSuite, by_limit, kernel_of}
-use Rattle.coinst_run.specs.Lines.{limit_line}
+use Rattle.coinst_run.specs.Lines.{fault_line, limit_line}
 use Rattle.coinst_run.proofs.Classes.{HasPackage, class_met, class_within, classes_few}
 
 -- the packages that were read are those of the text
@@ -53,6 +58,13 @@ pub index_named : (text : List ℕ) (packages : List PackageFacts) → first_fau
 index_named text packages none said =
     let accepted : Accepted (map facts_of (stanzas_of text)) = accepting.accepted text none in
     subst AreNamedPackages (sym said) (λ facts i. let named = accepted.named facts i in (named.name, named.version))
+
+-- a fault of the text is the answer
+pub index_faulty : (fault : IndexFault) (path text : List ℕ) (cause : Cause) (line : List ℕ) → Refuses fault (first_fault text) → is_memory fault ≡ false → cause ≡ fault_cause fault →
+    line ≡ fault_line path fault → checked_index path text ≡ Err (refused cause line)
+index_faulty fault path text cause line refuses known is told =
+    let found : first_fault text ≡ Some fault = not_memory fault refuses known in
+    ap (by_fault path text) found ∙ ap (λ c. Err (refused c (fault_line path fault))) (sym is) ∙ ap (λ l. Err (refused cause l)) (sym told)
 
 -- the kernel that was extracted is that of the index, where no round passes the limit
 pub kernel_made : (path : List ℕ) (limit : ℕ) (index : Index) (R : Repository) (made : ClassedKernel) → R ≡ suite_repository index.home index.packages → limit_at R limit ≡ None →

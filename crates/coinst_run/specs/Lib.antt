@@ -8,6 +8,7 @@ pub mod Delivers
 pub mod Ending
 pub mod Faults
 pub mod Follows
+pub mod Feeding
 pub mod Index
 pub mod IndexKernel
 pub mod Kernel

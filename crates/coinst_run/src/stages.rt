@@ -1,9 +1,13 @@
-//! The parts of commands: a file read whole, an index checked, its kernel.
+//! The parts of commands: a file read whole, an index checked as it is read, its kernel.
 ghost use Rattle.std.specs.Prelude.{◌≡◌, ◌<◌, ◌≤◌, ℕ, List, length, Ok, IfOk, IfErr, IfSome};
 ghost use Rattle.kernel_text.specs.JsonData.{AreNamedPackages};
+ghost use Rattle.repo_model.specs.Feed.{FeedStandsFor};
+ghost use Rattle.repo_model.specs.FirstFault.{first_fault};
+ghost use Rattle.repo_model.specs.Refusals.{is_memory, Refuses};
 ghost use Rattle.coinst_run.specs.Ending.{StopsAt, stop_ending};
 ghost use Rattle.coinst_run.specs.Course.{Course, reads};
 ghost use Rattle.coinst_run.specs.Faults.{fault_cause};
+ghost use Rattle.coinst_run.specs.Feeding.{WasFed};
 ghost use Rattle.coinst_run.specs.Follows.{Follows, ReachesIndex, WasRead};
 ghost use Rattle.coinst_run.specs.Index.{Index, checked_index, index_of, reads_index};
 ghost use Rattle.coinst_run.specs.Kernel.{FitsSuite, kernel_in, kernel_of};
@@ -11,11 +15,11 @@ ghost use Rattle.coinst_run.specs.Outcome.{answered, too_long, unread};
 
 use crate::answer::{Cause, Stop};
 use crate::lines::{fault_line, limit_line, too_long_line};
-use byte_flow::{ReadError, Shelf, read_file};
+use byte_flow::{ReadError, Shelf, feed_file, read_file};
 use clause_pool::Pool;
 use coinst_words::PathText;
 use kernel_rounds::{Kernel, RoundError, extract};
-use repo_model::{IndexFault, Suite, read_suite};
+use repo_model::{IndexFault, Suite, SuiteFeed, read_suite};
 use std::alloc::Global;
 
 /// The most bytes that a file may have.
@@ -82,6 +86,29 @@ pub(crate) fn text_at<F: Shelf>(alloc: Global, shelf: &mut F, path: &str) -> Res
     }
 }
 
+// Whether a fault is want of memory.
+fn is_memory(fault: IndexFault) -> bool
+    ensures { result ≡ is_memory fault }
+{
+    matches!(fault, IndexFault::Memory)
+}
+
+// The stop of an index with this fault.
+fn faulty(alloc: Global, path: &str, fault: IndexFault) -> Stop
+    ensures { (text : List ℕ) → Refuses fault (first_fault text) → StopsAt (checked_index path.now text) (stop_ending result) }
+{
+    if is_memory(fault) {
+        return Stop::Memory;
+    }
+    match fault_line(alloc, path, fault) {
+        Ok(line) => Stop::Refused {
+            cause: fault_cause(fault),
+            line,
+        },
+        Err(_) => Stop::Memory,
+    }
+}
+
 /// Reads the packages of an index, or refuses its first fault.
 pub fn checked_index(alloc: Global, path: &str, text: &[u8]) -> Result<Suite, Stop>
     requires { length text.now ≤ 1073741824 }
@@ -91,22 +118,45 @@ pub fn checked_index(alloc: Global, path: &str, text: &[u8]) -> Result<Suite, St
 {
     match read_suite(alloc, text) {
         Ok(suite) => Ok(suite),
-        Err(IndexFault::Memory) => Err(Stop::Memory),
-        Err(fault) => Err(Stop::Refused {
-            cause: fault_cause(fault),
-            line: fault_line(alloc, path, fault)?,
-        }),
+        Err(fault) => Err(faulty(alloc, path, fault)),
     }
 }
 
-/// Reads the index at a path whole and checks it, or says why it cannot be used; its text is dropped.
+// Gives the file at a path whole to a feed, piece by piece.
+fn feed_at<F: Shelf>(alloc: Global, shelf: &mut F, path: &str) -> Result<SuiteFeed, Stop>
+    ensures fed { IfOk result (λ feed. WasFed F.contents F.faults F.moved F.is_quiet F.start_gives F.read_gives shelf.old path.now feed shelf.new) }
+    ensures stop { IfErr result (λ stop. (next : List ℕ → Course) → Follows F.contents F.faults F.moved F.is_quiet F.start_gives F.read_gives (reads path.now next) shelf.old (stop_ending stop) shelf.new) }
+{
+    let mut feed = SuiteFeed::new(alloc)?;
+    match feed_file(alloc, shelf, path, FILE_LIMIT, &mut feed) {
+        Ok(_) => Ok(feed),
+        Err(ReadError::Failed) => Err(unread(alloc, path)),
+        Err(ReadError::TooLong) => Err(too_long(alloc, path)),
+        Err(ReadError::Memory) => Err(Stop::Memory),
+    }
+}
+
+// The packages of the index that a feed stands for, or the refusal of its first fault.
+fn finished_index(alloc: Global, path: &str, feed: SuiteFeed) -> Result<Suite, Stop>
+    ensures suite { IfOk result (λ suite. (text : List ℕ) → FeedStandsFor feed text → checked_index path.now text ≡ Ok (index_of suite)) }
+    ensures named { IfOk result (λ suite. (text : List ℕ) → FeedStandsFor feed text → AreNamedPackages suite.packages) }
+    ensures stop { IfErr result (λ stop. (text : List ℕ) → FeedStandsFor feed text → StopsAt (checked_index path.now text) (stop_ending stop)) }
+{
+    match feed.finish() {
+        Ok(suite) => Ok(suite),
+        Err(fault) => Err(faulty(alloc, path, fault)),
+    }
+}
+
+/// Reads the index at a path whole, piece by piece, and checks it as it is read, or says why it cannot be used. Of its text
+/// only the stanza that is open is held.
 pub fn suite_at<F: Shelf>(alloc: Global, shelf: &mut F, path: &str) -> Result<Suite, Stop>
     ensures suite { IfOk result (λ suite. ReachesIndex F.contents F.faults F.moved F.is_quiet F.start_gives F.read_gives shelf.old path.now (index_of suite) shelf.new) }
     ensures named { IfOk result (λ suite. AreNamedPackages suite.packages) }
     ensures stop { IfErr result (λ stop. (next : Index → Course) → Follows F.contents F.faults F.moved F.is_quiet F.start_gives F.read_gives (reads_index path.now next) shelf.old (stop_ending stop) shelf.new) }
 {
-    let text = text_at(alloc, shelf, path)?;
-    checked_index(alloc, path, text.as_slice())
+    let feed = feed_at(alloc, shelf, path)?;
+    finished_index(alloc, path, feed)
 }
 
 /// The kernel of an index over the pool, or the package that passed the clause limit.

@@ -211,7 +211,7 @@ const ANSWERS: [(&str, &str, (u64, u64, u64), u8, &str, &str); 22] = [
     ("", NOWHERE, (0, 0, 0), 5, "", "J: read failed\n"),
     (CHOICE, INDEX, (1, 0, 0), 5, "", "I: read failed\n"),
     (CHOICE, INDEX, (2, 0, 0), 5, "", "I: read failed\n"),
-    (CHOICE, INDEX, (3, 0, 0), 5, "", "I: read failed\n"),
+    ("x", INDEX, (3, 0, 0), 5, "", "I: read failed\n"),
     ("", INDEX, (0, 1, 0), 6, "", "write failed after 0 bytes\n"),
     (
         "",
@@ -322,8 +322,9 @@ fn left_on(
     })
 }
 
-fn left_by(alloc: Global, given: &Given) -> Result<Left, AllocError> {
-    let mut shelf = MemShelf::new(alloc, 65_536);
+/// What a run left where the shelf gives so many bytes at a time.
+fn left_by(alloc: Global, given: &Given, step: u32) -> Result<Left, AllocError> {
+    let mut shelf = MemShelf::new(alloc, step.max(1));
     shelf.add("I", given.text.as_bytes())?;
     shelf.fail_at(given.failing.0)?;
     left_on(
@@ -343,7 +344,8 @@ fn left_by_comparison(alloc: Global, failing: u64) -> Result<Left, AllocError> {
     left_on(alloc, &mut shelf, "compare O N", (0, 0))
 }
 
-/// Holds the status, the report and the line of a run against those that are wanted.
+/// Holds the status, the report and the line of a run against those that are wanted, in small pieces too where no call of the
+/// shelf is to fail by its number.
 fn expect(
     rt: &(impl Abort + AllocGlobal),
     given: &Given,
@@ -351,12 +353,21 @@ fn expect(
     report: &str,
     line: &str,
 ) -> Result<(), Fail> {
-    let left = left_by(rt.alloc(), given)?;
     let text = given.text;
     let words = given.words;
-    assert_eq!(rt; left.code, code, "{text} {words}");
-    assert_eq!(rt; left.out.taken(), report.as_bytes(), "{text} {words}");
-    assert_eq!(rt; left.err.taken(), line.as_bytes(), "{text} {words}");
+    for step in [65_536, 7, 1] {
+        if step < 65_536 && given.failing.0 > 0 {
+            return Ok(());
+        }
+        let left = left_by(rt.alloc(), given, step)?;
+        assert_eq!(rt; left.code, code, "{text} {words} {step}");
+        assert_eq!(rt;
+            left.out.taken(),
+            report.as_bytes(),
+            "{text} {words} {step}"
+        );
+        assert_eq!(rt; left.err.taken(), line.as_bytes(), "{text} {words} {step}");
+    }
     Ok(())
 }
 
@@ -429,8 +440,8 @@ fn a_sample_is_the_same_again(rt: HostRuntime) -> Result<(), Fail> {
         words: "sample 3 5000",
         failing: (0, 0, 0),
     };
-    let first = left_by(rt.alloc(), &given)?;
-    let again = left_by(rt.alloc(), &given)?;
+    let first = left_by(rt.alloc(), &given, 65_536)?;
+    let again = left_by(rt.alloc(), &given, 65_536)?;
     assert!(rt; first.code == 0 || first.code == 4);
     assert_eq!(rt; first.code, again.code);
     assert_eq!(rt; first.out.taken(), again.out.taken());
@@ -555,7 +566,7 @@ fn each_set_keeps_its_answer(rt: HostRuntime) -> Result<(), Fail> {
             words: INDEX,
             failing: (0, 0, 0),
         };
-        let left = left_by(alloc, &given)?;
+        let left = left_by(alloc, &given, 65_536)?;
         let printed = read_printed(alloc, std::str::from_utf8(left.out.taken())?)?;
         assert_eq!(rt; printed.members.len(), 4, "{text}");
         if text.len() > 1000 {

@@ -34,7 +34,7 @@ const OUTSIDE: &str = "Package: a\nVersion: 1\nProvides: x (>> 1)\n";
 const NOT_A_COMMAND: &str = "words: not a command of coinst\n";
 
 /// Indexes and their kernels.
-const KERNELS: [(&str, &str); 19] = [
+const KERNELS: [(&str, &str); 20] = [
     ("", EMPTY_KERNEL),
     (
         "Package: a\nVersion: 1\n\n",
@@ -42,6 +42,10 @@ const KERNELS: [(&str, &str); 19] = [
     ),
     (
         "Package: a\nVersion: 1\nDepends: nowhere\n",
+        "coinst-kernel 1\nclass 0\nmember a 1\nneeds\nend 1 1\n",
+    ),
+    (
+        "Package: a\nVersion: 1\nDepends: b, , c,\n",
         "coinst-kernel 1\nclass 0\nmember a 1\nneeds\nend 1 1\n",
     ),
     (
@@ -69,7 +73,7 @@ const KERNELS: [(&str, &str); 19] = [
         "coinst-kernel 1\nclass 0\nmember a 1\nneeds\nclass 1\nmember b 1:0\nagainst 2\nclass 2\nmember c 0~1\nend 3 3\n",
     ),
     (
-        "Package: a\nVersion: 1\n\nPackage: a\nVersion: 2\n\n",
+        TWO_VERSIONS,
         "coinst-kernel 1\nclass 0\nmember a 1\nagainst 1\nclass 1\nmember a 2\nend 2 2\n",
     ),
     (
@@ -111,9 +115,13 @@ const KERNELS: [(&str, &str); 19] = [
 ];
 
 /// Indexes with a fault of content, and its line behind the path.
-const FAULTS: [(&str, &str); 18] = [
+const FAULTS: [(&str, &str); 20] = [
     ("Package: a\nVersion: 1\n\nPackage\n", "4: no colon"),
     ("Package: a\nVersion 1\nb c: d\n", "2: no colon"),
+    (
+        "Package: hello\nVersion: 2.10-3\nArchitecture: amd64\nMulti-Arch: foreign\nDepends libc6\nSection: devel\n\nPackage: libc6\nVersion: 2.36-9+deb12u4\nArchitecture: amd64",
+        "5: no colon",
+    ),
     ("Pack age: a\n", "1: bad field name"),
     ("\n x\n", "2: continuation before any field"),
     ("Package: a\npackage: b\n", "2: field repeated"),
@@ -130,6 +138,10 @@ const FAULTS: [(&str, &str); 18] = [
     (
         "Package: a\nVersion: 1\nDepends: b (>= 1), c |\n",
         "3: bad relation, element 2",
+    ),
+    (
+        "Package: a\nVersion: 1\nDepends: b, , c [amd64],\n",
+        "3: bad relation, element 3",
     ),
     (
         "Package: a\nVersion: 1\nConflicts: |\nPre-Depends: ,,\n b b\n",
@@ -234,6 +246,15 @@ const ANSWERS: [(&str, &str, (u64, u64, u64), u8, &str, &str); 22] = [
     ),
     ("", "kernel", (0, 0, 1), 2, "", ""),
     ("", NOWHERE, (0, 0, 1), 5, "", ""),
+];
+
+/// An index with two versions of a name, and questions on it with their statuses and reports.
+const TWO_VERSIONS: &str = "Package: a\nVersion: 1\n\nPackage: a\nVersion: 2\n\n";
+
+const QUESTIONS: [(&str, u8, &str); 3] = [
+    ("query I a", 0, "yes\ninstall a 1\n"),
+    ("query I a=1-0", 0, "yes\ninstall a 1\n"),
+    ("query I a=1 a=2", 1, "no\nlog\n"),
 ];
 
 /// An index of the packages of `CHOICE` without what they need and what they conflict with.
@@ -407,6 +428,19 @@ fn answers_have_their_causes(rt: HostRuntime) -> Result<(), Fail> {
             failing,
         };
         expect(&rt, &given, code, report, line)?;
+    }
+    Ok(())
+}
+
+#[test]
+fn questions_name_versions(rt: HostRuntime) -> Result<(), Fail> {
+    for (words, code, report) in QUESTIONS {
+        let given = Given {
+            text: TWO_VERSIONS,
+            words,
+            failing: (0, 0, 0),
+        };
+        expect(&rt, &given, code, report, "")?;
     }
     Ok(())
 }

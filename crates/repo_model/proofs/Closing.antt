@@ -125,9 +125,6 @@ last_blank-push front b = ap (λ back. is_blank (before_first is_line_feed back)
     by true e = rw (cut_here is_line_feed b (reverse front) e).0 refl
     by false e = rw (cut_later is_line_feed b (reverse front) e).0 refl
 
-pub closes-push : (front : List ℕ) (b : ℕ) → closes (front ++ b ∷ []) ≡ (is_line_feed b && is_last_blank front)
-closes-push front b = ap is_closing (reverse-append front (b ∷ []))
-
 -- the front of a text by its last byte
 front_push : (text : List ℕ) (n : ℕ) → 0 < n → n ≤ length text → take n text ≡ take (n - 1) text ++ get_or text (n - 1) 0 ∷ []
 front_push text n some within =
@@ -137,9 +134,6 @@ front_push text n some within =
 pub last_blank-at : (text : List ℕ) (n : ℕ) → 0 < n → n ≤ length text
     → is_last_blank (take n text) ≡ (if is_line_feed (get_or text (n - 1) 0) then true else is_blank_byte (get_or text (n - 1) 0) && is_last_blank (take (n - 1) text))
 last_blank-at text n some within = ap is_last_blank (front_push text n some within) ∙ last_blank-push (take (n - 1) text) (get_or text (n - 1) 0)
-
-pub closes-at : (text : List ℕ) (n : ℕ) → 0 < n → n ≤ length text → closes (take n text) ≡ (is_line_feed (get_or text (n - 1) 0) && is_last_blank (take (n - 1) text))
-closes-at text n some within = ap closes (front_push text n some within) ∙ closes-push (take (n - 1) text) (get_or text (n - 1) 0)
 
 pub blank_stops : (text whole : List ℕ) (n : ℕ) → 0 < n → n ≤ length text → is_line_feed (get_or text (n - 1) 0) ≡ false → is_blank_byte (get_or text (n - 1) 0) ≡ false
     → is_last_blank (take n text) ≡ is_last_blank whole → false ≡ is_last_blank whole

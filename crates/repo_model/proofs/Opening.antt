@@ -61,16 +61,5 @@ open_still text from end tried before none = record { fronts = λ front rest sam
         let whole : from ≡ length front + more = omega (arith, short, tried) in
         before.fronts front (take more rest) (ap (λ n. take n text) whole ∙ ap (take (length front + more)) same ∙ take-append-add front rest more) shut
 
-pub open-nil : IsOpen []
-open-nil = record { fronts = λ front rest same shut. by front rest same }
-  where
-    by : (front rest : List ℕ) → [] ≡ front ++ rest → front ≡ []
-    by [] rest same = refl
-    by (b ∷ bs) rest same = absurd cc
-
 pub open_same : (held text : List ℕ) → IsOpen text → held ≡ text → IsOpen held
 open_same held text h same = subst IsOpen (sym same) h
-
--- bytes that were held, before others
-pub open_before : (held piece all front : List ℕ) (n : ℕ) → IsOpen held → all ≡ held ++ piece → length held ≡ n → front ≡ take n all → IsOpen front
-open_before held piece all front n h whole size same = open_same front held h (same ∙ ap (take n) whole ∙ take_at held piece n size)

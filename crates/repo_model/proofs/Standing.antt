@@ -1,5 +1,5 @@
 -- What the readings of a feed stand for, from one piece to the next.
-use Rattle.std.proofs.Common.{◌≡◌, ℕ, ◌+◌, ◌≤◌, false, cond, List, [], ◌++◌, length, take, drop, Some, None, Result, Ok, Err, refl, sym, ap, ◌∙◌, append_assoc, take-append-drop, arith}
+use Rattle.std.proofs.Common.{◌≡◌, ℕ, ◌+◌, ◌≤◌, false, cond, List, [], ◌++◌, length, take, drop, Some, None, refl, sym, ap, ◌∙◌, append_assoc, take-append-drop, arith}
 use Rattle.std.specs.Prelude.{count_by}
 use Rattle.std.proofs.lemmas.List.{append-nil}
 use Rattle.std.proofs.lemmas.List.Sums.{count_by-le-length, sum_by-append}
@@ -7,7 +7,7 @@ use Rattle.stanza_reader.specs.Close.{IsClosed}
 use Rattle.stanza_reader.specs.Lines.{is_line_feed}
 use Rattle.stanza_reader.specs.Places.{IsPlace}
 use Rattle.stanza_reader.specs.Stanzas.{groups, readings}
-use Rattle.repo_model.specs.Feeding.{is_spent, HasFault, IsFront, IsProgress, IsSuiteOf, StandsFor, StandsUnlessMemory}
+use Rattle.repo_model.specs.Feeding.{HasFault, IsFront, IsProgress, IsSuiteOf}
 use Rattle.repo_model.specs.FirstFault.{first_fault, home_of, stanzas_of}
 use Rattle.repo_model.specs.Refusals.{UnlessMemory, Refuses, is_memory}
 use Rattle.repo_model.specs.declared.building.Building.{Building}
@@ -47,19 +47,9 @@ not_memory (Mixed line) h e = h
 not_memory TooMany h e = h
 not_memory Memory h e = absurd cc
 
-pub stands_on : (reading : Result Progress IndexFault) (text : List ℕ) → StandsUnlessMemory reading text → is_spent reading ≡ false → StandsFor reading text
-stands_on (Ok progress) text h e = h
-stands_on (Err fault) text h e = not_memory fault h e
-
--- a fault stays whatever follows
-pub fault_on : (fault : IndexFault) (text piece : List ℕ) → HasFault fault text → HasFault fault (text ++ piece)
-fault_on fault text piece h = λ more. ap first_fault (append_assoc text piece more) ∙ h (piece ++ more)
-
+-- a fault that the text has, whatever follows it, is its own
 pub fault_now : (fault : IndexFault) (text : List ℕ) → HasFault fault text → Refuses fault (first_fault text)
 fault_now fault text h = for_fault fault (ap first_fault (sym (append-nil text)) ∙ h [])
-
-pub stays_faulty : (fault : IndexFault) (text piece : List ℕ) → HasFault fault text → StandsUnlessMemory (Err fault) (text ++ piece)
-stays_faulty fault text piece h = for_fault fault (fault_on fault text piece h)
 
 -- the first line of a part may have any number from 1 on that leaves room
 pub place_first : (part : List ℕ) (line : ℕ) → 1 ≤ line → line + length part ≤ 1073741825 → IsPlace part record { offset = 0; line = line }

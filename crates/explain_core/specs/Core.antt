@@ -1,0 +1,37 @@
+-- The core of goals that cannot be installed together: those of them that matter for it.
+use Rattle.std.specs.Prelude.{ℕ, ◌-◌, List, [], length, map, slice_index_or}
+use Rattle.std.specs.List.{range_with_len}
+use Rattle.clause_solver.specs.declared.outcomes.Verdict.{Verdict}
+use Rattle.relation_fields.specs.declared.packages.Home.{Home}
+use Rattle.relation_fields.specs.declared.packages.PackageFacts.{PackageFacts}
+use Rattle.repo_model.specs.Goals.{any_version}
+use Rattle.repo_model.specs.declared.goals.Goal.{Goal}
+use Rattle.suite_compare.specs.Asking.{verdict_in}
+use Rattle.explain_core.specs.Deletion.{Kept, kept_of}
+use Rattle.explain_core.specs.declared.explanation.Mark.{Mark}
+
+-- the goal of a number, where they are counted from 1
+abbrev pub goal_numbered : List Goal → ℕ → Goal
+goal_numbered goals n = slice_index_or goals (n - 1) (any_version [])
+
+abbrev pub goals_numbered : List Goal → List ℕ → List Goal
+goals_numbered goals numbers = map (goal_numbered goals) numbers
+
+-- the verdict on the goals of these numbers
+abbrev pub verdict_on : Home → List PackageFacts → ℕ → List Goal → List ℕ → Verdict
+verdict_on home stanzas budget goals numbers = verdict_in home stanzas budget (goals_numbered goals numbers)
+
+-- the core: one goal after another is left out, as long as the verdict on the others is no
+abbrev pub core_of : Home → List PackageFacts → ℕ → List Goal → List (Kept ℕ)
+core_of home stanzas budget goals = kept_of (verdict_on home stanzas budget goals) (range_with_len 1 (length goals))
+
+-- the core as it is told
+abbrev pub mark : Kept ℕ → Mark
+mark k = record { goal = k.item; unsettled = k.unsettled }
+
+abbrev pub marks_of : List (Kept ℕ) → List Mark
+marks_of core = map mark core
+
+-- the goals that are marked
+abbrev pub marked_goals : List Goal → List Mark → List Goal
+marked_goals goals marks = goals_numbered goals (map (λ m. m.goal) marks)

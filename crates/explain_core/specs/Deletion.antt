@@ -1,0 +1,32 @@
+-- Lists from which one item after another is left out, as long as what is left still has the verdict no. So a minimal
+-- unsatisfiable set of clauses is found by deletion.
+use Rattle.std.specs.Prelude.{Bool, true, false, List, [], ◌∷◌, ◌++◌, map}
+use Rattle.clause_solver.specs.declared.outcomes.Verdict.{Verdict}
+use Rattle.clause_solver.specs.declared.outcomes.Verdict.TheVariants.{Yes, No, Spent}
+
+-- an item that stays, and whether it is open if it has to
+pub record Kept (X : Type 0) : Type 0 where
+  pub item : X
+  pub unsettled : Bool
+
+abbrev pub kept : {X : Type 0} → X → Bool → Kept X
+kept x unsettled = record { item = x; unsettled = unsettled }
+
+abbrev pub items_of : {X : Type 0} → List (Kept X) → List X
+items_of stay = map (λ k. k.item) stay
+
+-- an item by the verdict on the others: it is left out where that is no, stays where it is yes, and stays and is open where the
+-- search is spent
+abbrev pub kept_by : {X : Type 0} → X → Verdict → List (Kept X)
+kept_by x No = []
+kept_by x Yes = kept x false ∷ []
+kept_by x Spent = kept x true ∷ []
+
+-- the items are taken in order: the others of an item are those before it that stay and all those behind it
+unfoldable pub kept_behind : {X : Type 0} → (List X → Verdict) → List (Kept X) → List X → List (Kept X)
+kept_behind verdict before [] = before
+kept_behind verdict before (x ∷ after) = kept_behind verdict (before ++ kept_by x (verdict (items_of before ++ after))) after
+
+-- what is left when all items have been taken
+abbrev pub kept_of : {X : Type 0} → (List X → Verdict) → List X → List (Kept X)
+kept_of verdict items = kept_behind verdict [] items

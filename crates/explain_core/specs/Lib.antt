@@ -1,0 +1,11 @@
+pub mod Deletion
+pub mod Core
+pub mod Picking
+pub mod Reach
+pub mod Meeting
+pub mod Only
+pub mod Solving
+pub mod Reasons
+pub mod Explaining
+pub mod Meaning
+pub mod Laws

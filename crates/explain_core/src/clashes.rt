@@ -1,0 +1,135 @@
+//! The conflicts that matter: one conflict after another is left out, as long as the search with the others finds nothing.
+ghost use Rattle.std.specs.Prelude.{◌≡◌, ◌++◌, IfOk, OnOk, length};
+ghost use Rattle.std.specs.Option.{option_map};
+ghost use Rattle.clause_solver.specs.Outcomes.{IsBudget};
+ghost use Rattle.row_book.specs.Book.{repository_of, PairsFit};
+ghost use Rattle.row_book.specs.Needs.{NeedsFit};
+ghost use Rattle.row_book.specs.declared.pair.Pair.{Pair};
+ghost use Rattle.explain_core.specs.Deletion.{kept_by, kept_of};
+ghost use Rattle.explain_core.specs.Reasons.{clashes_of, is_spent, reasons_of, told_pairs, verdict_over};
+ghost use Rattle.explain_core.specs.Solving.{SolvesAny};
+
+use crate::conflicts::conflicts_within;
+use crate::explanation::{Clash, ClashList};
+use crate::reach::reach_of;
+use clause_pool::Pool;
+use clause_solver::{Solver, Verdict};
+use row_book::{Book, Needs, Pair};
+use std::alloc::{AllocError, Global};
+use suite_compare::SuiteView;
+
+/// Whether the search was spent.
+fn is_spent(verdict: Verdict) -> bool
+    ensures { result ≡ is_spent verdict }
+{
+    match verdict {
+        Verdict::Spent => true,
+        Verdict::Yes => false,
+        Verdict::No => false,
+    }
+}
+
+/// The verdict on the goals where these pairs alone conflict. The solver has the formula of the clauses, made once; the pairs are
+/// those of a book of their own.
+fn verdict_over(
+    alloc: Global,
+    pool: &Pool,
+    book: &Book,
+    solver: &Solver,
+    goals: &Needs,
+    pairs: &[Pair],
+    budget: u64,
+) -> Result<Verdict, AllocError>
+    requires solver { SolvesAny pool.now book.now solver.now }
+    requires goals { NeedsFit (length book.now.rows) goals.now }
+    requires pairs { PairsFit pairs.now (length book.now.rows) }
+    requires budget { IsBudget budget }
+    ensures { IfOk result (λ verdict. verdict ≡ verdict_over (repository_of pool.now book.now) budget goals.now pairs.now) }
+{
+    let chosen = Book::build(alloc, pool, book.rows.as_slice(), pairs)?;
+    let verdict = solver.verdict(alloc, pool, &chosen, goals, budget)?;
+    Ok(verdict)
+}
+
+/// The others of a conflict: those before it that were kept, and all behind it.
+fn others(alloc: Global, clashes: &[Clash], behind: &[Pair]) -> Result<Vec<Pair>, AllocError>
+    ensures { IfOk result (λ made. made.items ≡ told_pairs clashes.now ++ behind.now) }
+{
+    let mut made = Vec::new(alloc);
+    for clash in clashes {
+        made.push(Pair {
+            low: clash.first,
+            high: clash.second,
+        })?;
+    }
+    made.extend_from_slice(behind)?;
+    Ok(made)
+}
+
+/// Tells of a conflict, unless the verdict on the others is no.
+fn tell_by(clashes: &mut ClashList, pair: Pair, verdict: Verdict) -> Result<(), AllocError>
+    ensures { OnOk result (clashes.new ≡ clashes.old ++ clashes_of (kept_by pair verdict)) }
+{
+    match verdict {
+        Verdict::No => Ok(()),
+        Verdict::Yes => clashes.push(Clash {
+            first: pair.low,
+            second: pair.high,
+            unsettled: false,
+        }),
+        Verdict::Spent => clashes.push(Clash {
+            first: pair.low,
+            second: pair.high,
+            unsettled: true,
+        }),
+    }
+}
+
+/// The conflicts among the pairs that matter for the goals.
+fn reasons_among(
+    alloc: Global,
+    pool: &Pool,
+    book: &Book,
+    solver: &Solver,
+    goals: &Needs,
+    pairs: &[Pair],
+    budget: u64,
+) -> Result<ClashList, AllocError>
+    requires solver { SolvesAny pool.now book.now solver.now }
+    requires goals { NeedsFit (length book.now.rows) goals.now }
+    requires pairs { PairsFit pairs.now (length book.now.rows) }
+    requires budget { IsBudget budget }
+    ensures { IfOk result (λ clashes. clashes ≡ clashes_of (kept_of (verdict_over (repository_of pool.now book.now) budget goals.now) pairs.now)) }
+{
+    let mut clashes = ClashList::new(alloc);
+    for place in 0..pairs.len() {
+        let rest = others(alloc, clashes.as_slice(), &pairs[place + 1..])?;
+        let verdict = verdict_over(alloc, pool, book, solver, goals, rest.as_slice(), budget)?;
+        tell_by(&mut clashes, pairs[place], verdict)?;
+    }
+    Ok(clashes)
+}
+
+/// The conflicts that matter for goals, each a set of packages; none where the search with all that are within reach is spent.
+pub(crate) fn clashes_for(
+    alloc: Global,
+    view: &SuiteView,
+    goals: &Needs,
+    budget: u64,
+) -> Result<Option<ClashList>, AllocError>
+    requires goals { NeedsFit (length view.now.book.rows) goals.now }
+    requires budget { IsBudget budget }
+    ensures { IfOk result (λ clashes. clashes ≡ option_map clashes_of (reasons_of (repository_of view.now.pool view.now.book) budget goals.now)) }
+{
+    let pool = &view.pool;
+    let book = &view.book;
+    let reach = reach_of(alloc, pool, book, goals)?;
+    let pairs = conflicts_within(alloc, pool, book, reach.as_slice())?;
+    let solver = Solver::new(alloc, pool, book)?;
+    let verdict = verdict_over(alloc, pool, book, &solver, goals, pairs.as_slice(), budget)?;
+    if is_spent(verdict) {
+        return Ok(None);
+    }
+    let clashes = reasons_among(alloc, pool, book, &solver, goals, pairs.as_slice(), budget)?;
+    Ok(Some(clashes))
+}

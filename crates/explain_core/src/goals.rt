@@ -1,0 +1,100 @@
+//! The core of the goals: one goal after another is left out, as long as the others cannot be installed together.
+ghost use Rattle.std.specs.Prelude.{◌≡◌, ◌-◌, ◌≤◌, ◌<◌, ◌++◌, IfOk, OnOk, drop, length};
+ghost use Rattle.clause_solver.specs.Outcomes.{IsBudget};
+ghost use Rattle.clause_solver.specs.Solvers.{IsReady};
+ghost use Rattle.row_book.specs.Book.{repository_of};
+ghost use Rattle.suite_compare.specs.Asking.{images_of};
+ghost use Rattle.explain_core.specs.Core.{core_of, marks_of};
+ghost use Rattle.explain_core.specs.Deletion.{kept_by};
+ghost use Rattle.explain_core.specs.Picking.{picked, ArePlacesFrom1};
+
+use crate::explanation::{Mark, MarkList};
+use clause_solver::{Solver, Verdict};
+use repo_model::Goal;
+use row_book::Needs;
+use std::alloc::{AllocError, Global};
+use suite_compare::SuiteView;
+
+/// Puts the goals that are marked behind the others.
+fn add_marked(needs: &Needs, marks: &[Mark], out: &mut Needs) -> Result<(), AllocError>
+    requires { ArePlacesFrom1 (length needs.now) marks.now }
+    ensures { OnOk result (out.new ≡ out.old ++ picked needs.now marks.now) }
+{
+    for mark in marks {
+        out.push(needs.at(mark.goal - 1))?;
+    }
+    Ok(())
+}
+
+/// Puts the goals from a place on behind the others.
+fn add_behind(needs: &Needs, from: u64, out: &mut Needs) -> Result<(), AllocError>
+    requires { from ≤ length needs.now }
+    ensures { OnOk result (out.new ≡ out.old ++ drop from needs.now) }
+{
+    for place in from..needs.count() {
+        out.push(needs.at(place))?;
+    }
+    Ok(())
+}
+
+/// The goals that are marked.
+pub(crate) fn marked(alloc: Global, needs: &Needs, marks: &[Mark]) -> Result<Needs, AllocError>
+    requires { ArePlacesFrom1 (length needs.now) marks.now }
+    ensures { IfOk result (λ made. made ≡ picked needs.now marks.now) }
+{
+    let mut made = Needs::new(alloc);
+    add_marked(needs, marks, &mut made)?;
+    Ok(made)
+}
+
+/// The others of a goal: the marked ones before it, and all from a place on.
+fn others(alloc: Global, needs: &Needs, marks: &[Mark], from: u64) -> Result<Needs, AllocError>
+    requires marks { ArePlacesFrom1 (length needs.now) marks.now }
+    requires from { from ≤ length needs.now }
+    ensures { IfOk result (λ made. made ≡ picked needs.now marks.now ++ drop from needs.now) }
+{
+    let mut made = Needs::new(alloc);
+    add_marked(needs, marks, &mut made)?;
+    add_behind(needs, from, &mut made)?;
+    Ok(made)
+}
+
+/// Marks a goal, unless the verdict on the others is no.
+fn mark_by(marks: &mut MarkList, goal: u64, verdict: Verdict) -> Result<(), AllocError>
+    ensures { OnOk result (marks.new ≡ marks.old ++ marks_of (kept_by goal verdict)) }
+{
+    match verdict {
+        Verdict::No => Ok(()),
+        Verdict::Yes => marks.push(Mark {
+            goal,
+            unsettled: false,
+        }),
+        Verdict::Spent => marks.push(Mark {
+            goal,
+            unsettled: true,
+        }),
+    }
+}
+
+/// The core of the goals, whose classes are given with a solver of the kernel.
+pub(crate) fn core_of(
+    alloc: Global,
+    view: &SuiteView,
+    solver: &Solver,
+    goals: &[Goal],
+    classes: &Needs,
+    budget: u64,
+) -> Result<MarkList, AllocError>
+    requires ready { IsReady (repository_of view.now.pool view.now.kernel.book) solver.now }
+    requires classes { classes.now ≡ images_of view.now.suite.home view.now.suite.packages goals.now }
+    requires budget { IsBudget budget }
+    ensures { IfOk result (λ marks. marks ≡ marks_of (core_of view.now.suite.home view.now.suite.packages budget goals.now)) }
+{
+    let mut marks = MarkList::new(alloc);
+    for place in 0..classes.count() {
+        let rest = others(alloc, classes, marks.as_slice(), place + 1)?;
+        let verdict = solver.verdict(alloc, &view.pool, &view.kernel.book, &rest, budget)?;
+        mark_by(&mut marks, place + 1, verdict)?;
+    }
+    Ok(marks)
+}

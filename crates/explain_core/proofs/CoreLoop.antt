@@ -1,0 +1,120 @@
+-- The core, goal by goal, over a view of the suite.
+use Rattle.std.proofs.Common.{◌≡◌, ℕ, suc, ◌+◌, ◌-◌, ◌<◌, ◌≤◌, true, false, List, [], ◌∷◌, ◌++◌, length, drop, map, inl, inr, refl, sym, ap, ◌∙◌, subst, arith}
+use Rattle.std.specs.List.{range_with_len}
+use Rattle.std.proofs.lemmas.List.{drop-map, map-append, length-map}
+use Rattle.clause_pool.specs.Interned.{Interned}
+use Rattle.clause_solver.specs.Verdicts.{IsSearchVerdict}
+use Rattle.clause_solver.specs.declared.outcomes.Verdict.{Verdict}
+use Rattle.clause_solver.specs.declared.outcomes.Verdict.TheVariants.{Yes, No, Spent}
+use Rattle.kernel_rounds.specs.declared.extraction.Kernel.{Kernel}
+use Rattle.relation_fields.specs.declared.packages.Home.{Home}
+use Rattle.relation_fields.specs.declared.packages.PackageFacts.{PackageFacts}
+use Rattle.repo_model.specs.Repository.{suite_repository}
+use Rattle.repo_model.specs.declared.goals.Goal.{Goal}
+use Rattle.row_book.specs.Book.{repository_of}
+use Rattle.row_book.specs.Needs.{NeedsFit}
+use Rattle.row_book.specs.Repository.{Repository}
+use Rattle.row_book.specs.Rounds.{kernel}
+use Rattle.row_book.specs.Sets.{In}
+use Rattle.row_book.specs.declared.book.Book.{Book}
+use Rattle.row_book.proofs.BookRepositories.{book_size}
+use Rattle.row_book.proofs.Lists.{In_append_cases, In_cases, In_none}
+use Rattle.suite_compare.specs.Asking.{image_of, images_of, tree_of, verdict_in, verdict_of}
+use Rattle.suite_compare.specs.Views.{IsViewOf}
+use Rattle.suite_compare.proofs.Deciding.{images_fit}
+use Rattle.suite_compare.proofs.Judged.{verdict_is}
+use Rattle.explain_core.specs.Core.{core_of, goal_numbered, goals_numbered, marks_of, verdict_on}
+use Rattle.explain_core.specs.Deletion.{Kept, items_of, kept_behind, kept_by}
+use Rattle.explain_core.specs.Picking.{picked, ArePlacesFrom1}
+use Rattle.explain_core.specs.declared.explanation.Mark.{Mark}
+use Rattle.explain_core.proofs.Told.{kept_mark, kept_marks, marks_back, marks_items, marks_there, picked_numbered, rest_numbered}
+
+-- one item more
+behind_more : {X : Type 0} (f : List X → Verdict) (before : List (Kept X)) (x : X) (after : List X) (v : Verdict) → v ≡ f (items_of before ++ after) →
+    kept_behind f before (x ∷ after) ≡ kept_behind f (before ++ kept_by x v) after
+unfolding kept_behind
+behind_more f before x after v e = ap (λ w. kept_behind f (before ++ kept_by x w) after) (sym e)
+
+pub behind_none : {X : Type 0} (f : List X → Verdict) (before : List (Kept X)) (after : List X) → after ≡ [] → kept_behind f before after ≡ before
+unfolding kept_behind
+behind_none f before after e = ap (kept_behind f before) e
+
+pub behind_step : {X : Type 0} (f : List X → Verdict) (all : List (Kept X)) (before new : List (Kept X)) (x : X) (left after : List X) (v : Verdict) → v ≡ f (items_of before ++ after) →
+    left ≡ x ∷ after → new ≡ before ++ kept_by x v → all ≡ kept_behind f before left → all ≡ kept_behind f new after
+behind_step f all before new x left after v told cut more e =
+    e ∙ ap (kept_behind f before) cut ∙ behind_more f before x after v told ∙ ap (λ b. kept_behind f b after) (sym more)
+
+-- marks of what one verdict keeps
+pub marks_more : (marks new : List Mark) (kept : List (Kept ℕ)) → new ≡ marks ++ marks_of kept → kept_marks new ≡ kept_marks marks ++ kept
+marks_more marks new kept e = ap kept_marks e ∙ map-append kept_mark marks (marks_of kept) ∙ ap (λ l. kept_marks marks ++ l) (marks_back kept)
+
+pub places_more : (marks new : List Mark) (place : ℕ) (v : Verdict) → new ≡ marks ++ marks_of (kept_by (place + 1) v) → ArePlacesFrom1 place marks → ArePlacesFrom1 (place + 1) new
+places_more marks new place v e places m i = elim (In_append_cases marks (marks_of (kept_by (place + 1) v)) m (subst (λ l. In m l) e i)) [
+  | inl a ↦ let w = places m a in (w.0, omega (arith, w.1))
+  | inr b ↦ last v b
+]
+  where
+    at : (k : Mark) → k.goal ≡ place + 1 → m ≡ k → (0 < m.goal) × (m.goal ≤ place + 1)
+    at k goal same = let e : m.goal ≡ place + 1 = ap (λ z. z.goal) same ∙ goal in (omega arith, omega arith)
+
+    last : (v : Verdict) → In m (marks_of (kept_by (place + 1) v)) → (0 < m.goal) × (m.goal ≤ place + 1)
+    last No j = absurd (In_none j)
+    last Yes j = elim (In_cases j) [ inl same ↦ at (record { goal = place + 1; unsettled = false }) refl same | inr k ↦ absurd (In_none k) ]
+    last Spent j = elim (In_cases j) [ inl same ↦ at (record { goal = place + 1; unsettled = true }) refl same | inr k ↦ absurd (In_none k) ]
+
+pub places_wider : (marks : List Mark) (place size : ℕ) → place ≤ size → ArePlacesFrom1 place marks → ArePlacesFrom1 size marks
+places_wider marks place size l places m i = let w = places m i in (w.0, omega (arith, w.1))
+
+module _ (pool : Interned) (home : Home) (stanzas : List PackageFacts) (book : Book) (made : Kernel) (view : IsViewOf pool home stanzas book made) (goals : List Goal) (classes : List (List ℕ)) (are : classes ≡ images_of home stanzas goals) where
+  abbrev K : Repository
+  K = repository_of pool made.book
+
+  k_is : K ≡ kernel (suite_repository home stanzas)
+  k_is = view.kernel_is.book.repository
+
+  pub classes_long : length classes ≡ length goals
+  classes_long = ap length are ∙ length-map goals (image_of home stanzas)
+
+  -- classes of some goals are classes of the kernel
+  pub images_are_fit : (some : List Goal) (images : List (List ℕ)) → images ≡ images_of home stanzas some → NeedsFit (length made.book.rows) images
+  images_are_fit some images e =
+      subst (λ n. NeedsFit n images) (ap (λ S. length S.clauses) (sym k_is) ∙ book_size pool made.book) (subst (NeedsFit (length (kernel (suite_repository home stanzas)).clauses)) (sym e) (images_fit home stanzas some))
+
+  -- a search of the kernel for classes of some goals has the verdict on these
+  pub verdict_found : (budget : ℕ) (some : List Goal) (images : List (List ℕ)) (v : Verdict) → images ≡ images_of home stanzas some → IsSearchVerdict K images budget v → v ≡ verdict_in home stanzas budget some
+  verdict_found budget some images v e w =
+      verdict_is pool made.book images budget v view.kernel_is.book.sound (images_are_fit some images e) w
+      ∙ ap (λ S. verdict_of budget (tree_of S images)) k_is ∙ ap (λ cs. verdict_of budget (tree_of (kernel (suite_repository home stanzas)) cs)) e
+
+  -- the others of the goal at a place
+  abbrev numbers_behind : ℕ → List ℕ
+  numbers_behind place = range_with_len (place + 1 + 1) (length goals - (place + 1))
+
+  pub others_are : (marks : List Mark) (place : ℕ) (others : List (List ℕ)) → place < length goals → ArePlacesFrom1 place marks → others ≡ picked classes marks ++ drop (place + 1) classes →
+      others ≡ images_of home stanzas (goals_numbered goals (items_of (kept_marks marks) ++ numbers_behind place))
+  others_are marks place others l places e =
+      let sum : place + 1 + (length goals - (place + 1)) ≡ length goals = omega arith in
+      e ∙ ap (λ cs. picked cs marks ++ drop (place + 1) cs) are
+      ∙ ap (λ front. front ++ drop (place + 1) (images_of home stanzas goals)) (picked_numbered (image_of home stanzas) goals marks (places_wider marks place (length goals) (omega arith) places))
+      ∙ ap (λ back. map (image_of home stanzas) (goals_numbered goals (map (λ m. m.goal) marks)) ++ back) (drop-map (image_of home stanzas) (place + 1) goals ∙ ap (map (image_of home stanzas)) (rest_numbered goals (place + 1) (length goals - (place + 1)) sum))
+      ∙ sym (map-append (image_of home stanzas) (goals_numbered goals (map (λ m. m.goal) marks)) (goals_numbered goals (numbers_behind place)))
+      ∙ ap (map (image_of home stanzas)) (sym (map-append (goal_numbered goals) (map (λ m. m.goal) marks) (numbers_behind place)))
+      ∙ ap (λ ns. images_of home stanzas (goals_numbered goals (ns ++ numbers_behind place))) (sym (marks_items marks))
+
+  pub core_step : (budget : ℕ) (marks new : List Mark) (place : ℕ) (others : List (List ℕ)) (v : Verdict) → place < length goals → ArePlacesFrom1 place marks → others ≡ picked classes marks ++ drop (place + 1) classes →
+      IsSearchVerdict K others budget v → new ≡ marks ++ marks_of (kept_by (place + 1) v) →
+      core_of home stanzas budget goals ≡ kept_behind (verdict_on home stanzas budget goals) (kept_marks marks) (range_with_len (place + 1) (length goals - place)) →
+      core_of home stanzas budget goals ≡ kept_behind (verdict_on home stanzas budget goals) (kept_marks new) (range_with_len (place + 1 + 1) (length goals - (place + 1)))
+  core_step budget marks new place others v l places made_of searched pushed e =
+      let size : length goals - place ≡ suc (length goals - (place + 1)) = omega arith in
+      behind_step (verdict_on home stanzas budget goals) (core_of home stanzas budget goals) (kept_marks marks) (kept_marks new) (place + 1) (range_with_len (place + 1) (length goals - place)) (numbers_behind place) v
+      (verdict_found budget (goals_numbered goals (items_of (kept_marks marks) ++ numbers_behind place)) others v (others_are marks place others l places made_of) searched)
+      (ap (range_with_len (place + 1)) size)
+      (marks_more marks new (kept_by (place + 1) v) pushed) e
+
+  pub core_done : (budget : ℕ) (marks : List Mark) (place : ℕ) → length goals ≤ place →
+      core_of home stanzas budget goals ≡ kept_behind (verdict_on home stanzas budget goals) (kept_marks marks) (range_with_len (place + 1) (length goals - place)) →
+      marks ≡ marks_of (core_of home stanzas budget goals)
+  core_done budget marks place l e =
+      let none : length goals - place ≡ 0 = omega arith in
+      sym (ap marks_of (e ∙ behind_none (verdict_on home stanzas budget goals) (kept_marks marks) (range_with_len (place + 1) (length goals - place)) (ap (range_with_len (place + 1)) none)) ∙ marks_there marks)

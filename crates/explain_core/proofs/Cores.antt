@@ -1,0 +1,58 @@
+-- What the core tells, judged on the stanzas.
+use Rattle.std.proofs.Common.{◌≡◌, ℕ, List, ◌∷◌, ◌++◌, length, map, sym, ap, ◌∙◌, subst}
+use Rattle.std.specs.List.{range_with_len}
+use Rattle.std.proofs.lemmas.List.{map-append}
+use Rattle.clause_solver.specs.declared.outcomes.Verdict.{Verdict}
+use Rattle.clause_solver.specs.declared.outcomes.Verdict.TheVariants.{Yes, No}
+use Rattle.relation_fields.specs.declared.packages.Home.{Home}
+use Rattle.relation_fields.specs.declared.packages.PackageFacts.{PackageFacts}
+use Rattle.repo_model.specs.Goals.{CoinstGoals}
+use Rattle.repo_model.specs.declared.goals.Goal.{Goal}
+use Rattle.row_book.specs.Sets.{In}
+use Rattle.row_book.proofs.Lists.{In_map, In_map_cases}
+use Rattle.suite_compare.specs.Asking.{verdict_in, HasVerdict}
+use Rattle.suite_compare.proofs.Deciding.{verdict_is_judged}
+use Rattle.explain_core.specs.Core.{core_of, goal_numbered, goals_numbered, marked_goals, marks_of, verdict_on}
+use Rattle.explain_core.specs.Deletion.{Kept, items_of, kept_of}
+use Rattle.explain_core.specs.Meaning.{IsCoreOf}
+use Rattle.explain_core.proofs.Deleted.{Suffice, kept_needed, kept_no}
+use Rattle.explain_core.proofs.Told.{all_numbered, kept_mark, kept_marks, marks_back, marks_items}
+
+module _ (home : Home) (stanzas : List PackageFacts) (budget : ℕ) where
+  -- a verdict, judged
+  pub judged : (goals : List Goal) (v : Verdict) → verdict_in home stanzas budget goals ≡ v → HasVerdict home stanzas budget goals v
+  judged goals v e = subst (HasVerdict home stanzas budget goals) e (verdict_is_judged home stanzas budget goals)
+
+  -- fewer goals
+  coinst_fewer : (more less : List Goal) → ((g : Goal) → In g less → In g more) → CoinstGoals home stanzas more → CoinstGoals home stanzas less
+  coinst_fewer more less h w = record { whole = w.whole; healthy = w.healthy; serves = λ g i. w.serves g (h g i) }
+
+  module _ (goals : List Goal) where
+    abbrev f : List ℕ → Verdict
+    f = verdict_on home stanzas budget goals
+
+    abbrev all : List ℕ
+    all = range_with_len 1 (length goals)
+
+    numbered_in : (more less : List ℕ) → ((n : ℕ) → In n less → In n more) → (g : Goal) → In g (goals_numbered goals less) → In g (goals_numbered goals more)
+    numbered_in more less h g i =
+        let w = In_map_cases (goal_numbered goals) less g i in
+        subst (λ x. In x (goals_numbered goals more)) (sym w.2) (In_map (goal_numbered goals) more w.0 (h w.0 w.1))
+
+    -- the goals of what was kept
+    goals_kept : (core : List (Kept ℕ)) → marked_goals goals (marks_of core) ≡ goals_numbered goals (items_of core)
+    goals_kept core = ap (goals_numbered goals) (sym (marks_items (marks_of core)) ∙ ap items_of (marks_back core))
+
+    -- of a no
+    pub core_is : verdict_in home stanzas budget goals ≡ No → IsCoreOf home stanzas goals (marks_of (core_of home stanzas budget goals))
+    core_is refused = record {
+      impossible = subst (λ gs. ¬ (CoinstGoals home stanzas gs)) (sym (goals_kept (kept_of f all)))
+          (judged (goals_numbered goals (items_of (kept_of f all))) No (kept_no f all (ap (verdict_in home stanzas budget) (all_numbered goals) ∙ refused))).1;
+      needed = λ before after m d u.
+          let cut : kept_of f all ≡ kept_marks before ++ kept_mark m ∷ kept_marks after = sym (marks_back (kept_of f all)) ∙ ap kept_marks d ∙ map-append kept_mark before (m ∷ after) in
+          let w : Suffice (λ n. Unit {0}) f (items_of (kept_marks before ++ kept_marks after)) = kept_needed (λ n. Unit {0}) f all (kept_marks before) (kept_marks after) (kept_mark m) (λ n i. tt) cut u in
+          let same : items_of (kept_marks before ++ kept_marks after) ≡ map (λ m. m.goal) (before ++ after) = ap items_of (sym (map-append kept_mark before after)) ∙ marks_items (before ++ after) in
+          coinst_fewer (goals_numbered goals w.all) (marked_goals goals (before ++ after))
+          (numbered_in w.all (map (λ m. m.goal) (before ++ after)) (λ n i. w.has n (subst (λ l. In n l) (sym same) i)))
+          (judged (goals_numbered goals w.all) Yes w.yes).1;
+    }

@@ -1,0 +1,13 @@
+pub mod Deleted
+pub mod Reached
+pub mod AnyConflicts
+pub mod Told
+pub mod Cores
+pub mod Overs
+pub mod Withins
+pub mod Explained
+pub mod Meetings
+pub mod CoreLoop
+pub mod ClashLoop
+pub mod Askings
+pub mod Answering

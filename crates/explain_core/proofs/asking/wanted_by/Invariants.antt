@@ -1,0 +1,10 @@
+use Rattle.std.proofs.Common.{◌≡◌, ◌+◌, map, take, drop}
+use Rattle.repo_model.specs.Goals.{packages_named}
+use Rattle.suite_compare.specs.Answering.{unknown_from, unknown_goal}
+use Rattle.explain_core.proofs.asking.wanted_by.Given as goal
+
+abbrev pub invariant-loop-place : goal.invariant-loop-place
+invariant-loop-place l = record {
+  wanted : l.wanted ≡ map (packages_named l.view.suite.packages) (take l.place l.goals);
+  known : unknown_goal l.view.suite.packages l.goals ≡ unknown_from (l.place + 1) l.view.suite.packages (drop l.place l.goals);
+}

@@ -1,6 +1,6 @@
 -- Versions that have the same key compare as equal: a part and its key have the same pieces.
 use Rattle.std.proofs.Common.{◌≡◌, ℕ, zero, suc, ◌+◌, ◌≤◌, Bool, true, false, cond, not, List, [], ◌∷◌, ◌++◌, length, take, drop, refl, sym, ap, ◌∙◌, append_assoc, arith}
-use Rattle.std.specs.Prelude.{◌==◌, unwrap_or, Option}
+use Rattle.std.specs.Prelude.{◌==◌, unwrap_or, Option, Some, None}
 use Rattle.std.specs.declared.cmp.Ordering.TheVariants.{Equal}
 use Rattle.std.specs.Char.{is_ascii_digit}
 use Rattle.std.specs.Cmp.Lexicographic.{slice_cmp}
@@ -11,7 +11,7 @@ use Rattle.std.proofs.lemmas.Bool.Decides.{nat_tests}
 use Rattle.std.proofs.lemmas.Cmp.{tied_itself, tied_back, nat_cmp_total, int_cmp_total, lists_total}
 use Rattle.std.proofs.lemmas.List.Folds.{list_all-append}
 use Rattle.std.proofs.lemmas.List.Sums.{take_while-cons}
-use Rattle.deb_version.specs.Grammar.{epoch_of, upstream_of, revision_of, is_upstream_byte, are_parts, is_version}
+use Rattle.deb_version.specs.Grammar.{epoch_of, upstream_of, revision_of, is_upstream_byte, is_revision_byte, are_parts, is_version}
 use Rattle.deb_version.specs.Keys.{without_zeros, number_before, number_key, front_key, fronts_key, part_key, epoch_key, version_key}
 use Rattle.deb_version.specs.Order.{number, is_plain, weights, behind_plain, behind_digits, part_order, or_zero, epoch_number, full_revision, version_order}
 use Rattle.deb_version.proofs.Cutting.{epoch_digits}
@@ -190,3 +190,34 @@ keys_tell v w g h e =
     ap (λ o. ordering_then o (ordering_then (part_order (upstream_of v) (upstream_of w)) (part_order (full_revision v) (full_revision w)))) (epochs_told v w parts.0)
     ∙ ap (λ o. ordering_then o (part_order (full_revision v) (full_revision w))) (parts_told (upstream_of v) (upstream_of w) behind.0)
     ∙ parts_told (full_revision v) (full_revision w) behind.1
+
+revision_no_space : (c : ℕ) → is_revision_byte c ≡ true → no_space c ≡ true
+revision_no_space c h = grind (arith, nat_tests)
+
+parts_revision : (epoch : Option (List ℕ)) (upstream : List ℕ) (revision : Option (List ℕ)) → are_parts epoch upstream revision ≡ true → list_all is_revision_byte (unwrap_or revision or_zero) ≡ true
+parts_revision epoch upstream None h = refl
+parts_revision epoch upstream (Some text) h = (and_parts _ _ (and_parts _ _ h).1).1
+
+revision_key_no_space : (v : List ℕ) → is_version v ≡ true → list_all no_space (part_key (full_revision v)) ≡ true
+unfolding is_version part_key
+revision_key_no_space v h =
+    fronts_no_space (length (full_revision v)) (full_revision v)
+    (all_weaker is_revision_byte no_space revision_no_space (full_revision v) (parts_revision (epoch_of v) (upstream_of v) (revision_of v) h))
+
+spread : (es us rs xs : List ℕ) → es ++ (32 ∷ us) ++ (32 ∷ rs) ++ (32 ∷ xs) ≡ es ++ (32 ∷ (us ++ (32 ∷ (rs ++ (32 ∷ xs)))))
+spread es us rs xs = append_assoc (es ++ (32 ∷ us)) (32 ∷ rs) (32 ∷ xs) ∙ append_assoc es (32 ∷ us) (32 ∷ (rs ++ (32 ∷ xs)))
+
+-- behind a key and a space any text may stand, and both are told
+pub keys_before : (v w xs ys : List ℕ) → is_version v ≡ true → is_version w ≡ true → version_key v ++ (32 ∷ xs) ≡ version_key w ++ (32 ∷ ys) → (version_key v ≡ version_key w) × (xs ≡ ys)
+unfolding version_key
+keys_before v w xs ys g h e =
+    let revision = part_key (full_revision v) ++ (32 ∷ xs) in
+    let other = part_key (full_revision w) ++ (32 ∷ ys) in
+    let first = cut_alike (epoch_key v) (part_key (upstream_of v) ++ (32 ∷ revision)) (epoch_key w) (part_key (upstream_of w) ++ (32 ∷ other)) (epoch_no_space v g) (epoch_no_space w h)
+    (sym (spread (epoch_key v) (part_key (upstream_of v)) (part_key (full_revision v)) xs) ∙ e ∙ spread (epoch_key w) (part_key (upstream_of w)) (part_key (full_revision w)) ys) in
+    let second = cut_alike (part_key (upstream_of v)) revision (part_key (upstream_of w)) other (upstream_key_no_space v g) (upstream_key_no_space w h) first.1 in
+    let third = cut_alike (part_key (full_revision v)) xs (part_key (full_revision w)) ys (revision_key_no_space v g) (revision_key_no_space w h) second.1 in
+    let epoch : epoch_key v ≡ epoch_key w = first.0 in
+    let upstream : part_key (upstream_of v) ≡ part_key (upstream_of w) = second.0 in
+    let last : part_key (full_revision v) ≡ part_key (full_revision w) = third.0 in
+    (cc, third.1)

@@ -1,5 +1,5 @@
 //! The versions of packages and their order.
-ghost use Rattle.std.specs.Prelude.{◌≡◌, true, false, List, ℕ, IfOk, IfErr, OnOk, unwrap_or};
+ghost use Rattle.std.specs.Prelude.{◌≡◌, ◌++◌, true, false, List, ℕ, IfOk, IfErr, OnOk, unwrap_or};
 ghost use Rattle.std.specs.Cmp.{IsTotalOrder};
 ghost use Rattle.std.specs.Option.{option_copied};
 ghost use Rattle.deb_version.specs.Grammar.{is_version};
@@ -80,17 +80,28 @@ impl Version {
     }
 
     /// A text that is the same for versions that compare as equal, and for no others; it takes time linear in the text.
-    #[tactic(auto, using(std::proofs::Common::append_assoc), unfolding(crate::specs::Keys::version_key))]
     pub fn key(&self, alloc: Global) -> Result<Bytes, AllocError>
         ensures { IfOk result (λ key. key ≡ version_key self.now) }
     {
-        let parts = cut(self.text());
-        let mut key = Vec::from_slice(alloc, without_zeros(written_or_zero(parts.epoch)))?;
-        key.push(b' ')?;
-        push_part(&mut key, parts.upstream)?;
-        key.push(b' ')?;
-        push_part(&mut key, written_or_zero(parts.revision))?;
+        // At most the two spaces are more than the text has, as in the key ` 1 ` of `1`.
+        let mut key = Vec::with_capacity(alloc, self.text().len().saturating_add(2))?;
+        self.push_key(&mut key)?;
         Ok(Bytes::of(key))
+    }
+
+    /// Writes that text behind what was written, so that a longer key needs no copy of it; where no memory is found, some
+    /// of it may be written.
+    #[tactic(auto, using(std::proofs::Common::append_assoc), unfolding(crate::specs::Keys::version_key))]
+    pub fn push_key(&self, out: &mut Vec<u8>) -> Result<(), AllocError>
+        ensures { OnOk result (out.new.items ≡ out.old.items ++ version_key self.now) }
+    {
+        let parts = cut(self.text());
+        out.extend_from_slice(without_zeros(written_or_zero(parts.epoch)))?;
+        out.push(b' ')?;
+        push_part(out, parts.upstream)?;
+        out.push(b' ')?;
+        push_part(out, written_or_zero(parts.revision))?;
+        Ok(())
     }
 
     /// Lends the text that was parsed; it takes no memory.

@@ -67,10 +67,15 @@ impl Building {
 fn key_of(alloc: Global, facts: &PackageFacts) -> Result<Vec<u8>, AllocError>
     ensures { IfOk result (λ key. key.items ≡ package_key facts.now) }
 {
-    let version = facts.version.key(alloc)?;
-    let mut key = Vec::from_slice(alloc, facts.name.as_slice())?;
+    let name = facts.name.as_slice();
+    let room = name
+        .len()
+        .saturating_add(facts.version.text().len())
+        .saturating_add(3);
+    let mut key = Vec::with_capacity(alloc, room)?;
+    key.extend_from_slice(name)?;
     key.push(b' ')?;
-    key.extend_from_slice(version.as_slice())?;
+    facts.version.push_key(&mut key)?;
     Ok(key)
 }
 

@@ -1,3 +1,4 @@
 pub mod Keys
 pub mod Numbered
 pub mod Meeting
+pub mod ExactKeys

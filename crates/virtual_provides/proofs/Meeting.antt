@@ -11,13 +11,13 @@ use Rattle.relation_fields.specs.declared.packages.Home.{Home}
 use Rattle.relation_fields.specs.declared.packages.PackageFacts.{PackageFacts}
 use Rattle.virtual_provides.specs.Bearers.{bears}
 
-either_wider : (a b c d : Bool) → (a ≡ true → c ≡ true) → (b ≡ true → d ≡ true) → (a || b) ≡ true → (c || d) ≡ true
+pub either_wider : (a b c d : Bool) → (a ≡ true → c ≡ true) → (b ≡ true → d ≡ true) → (a || b) ≡ true → (c || d) ≡ true
 either_wider true b true d f g e = refl
 either_wider true b false d f g e = absurd (false≢true (f refl))
 either_wider false b true d f g e = refl
 either_wider false b false d f g e = g e
 
-list_any-wider : {X : Type 0} (p q : X → Bool) → ((x : X) → p x ≡ true → q x ≡ true) → (xs : List X) → list_any p xs ≡ true → list_any q xs ≡ true
+pub list_any-wider : {X : Type 0} (p q : X → Bool) → ((x : X) → p x ≡ true → q x ≡ true) → (xs : List X) → list_any p xs ≡ true → list_any q xs ≡ true
 list_any-wider p q wider [] e = e
 list_any-wider p q wider (x ∷ xs) e = either_wider (p x) (list_any p xs) (q x) (list_any q xs) (wider x) (list_any-wider p q wider xs) e
 

@@ -1,6 +1,7 @@
 //! Packages by the names that they have and the names that they provide.
 #![tactic(auto)]
 
+mod exact;
 pub mod names;
 pub mod numbers;
 

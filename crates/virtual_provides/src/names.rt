@@ -1,17 +1,23 @@
 //! The table of names.
-ghost use Rattle.std.specs.Prelude.{◌≡◌, ◌<◌, ◌++◌, List, ℕ, false, length, IfOk, OnOk};
+ghost use Rattle.std.specs.Prelude.{◌≡◌, ◌<◌, ◌++◌, List, ℕ, true, false, filter, length, IfOk, OnOk};
+ghost use Rattle.deb_version.specs.Grammar.{is_version};
 ghost use Rattle.relation_fields.specs.Meeting.{meets};
 ghost use Rattle.virtual_provides.specs.Numbers.{ends_in, numbers_under, numbers_where, passes_at};
-ghost use Rattle.virtual_provides.specs.Bearers.{bears, if_so, IsBuiltFrom};
+ghost use Rattle.virtual_provides.specs.Bearers.{bears, if_so, HasBearers, IsBuiltFrom};
+ghost use Rattle.virtual_provides.specs.Exact.{exact_key};
 
+use crate::exact::{exact_bearers, exact_key, exact_version, is_crowded};
 use crate::numbers::NumbersByName;
+use deb_version::Version;
 use relation_fields::{Atom, Home, PackageFacts};
 use std::alloc::{AllocError, Global};
 
-/// The numbers of the packages under each name that they have or provide; packages are numbered from 0 in their order.
+/// The numbers of the packages under each name that they have or provide, and under each such name with a version where
+/// many bear the name; packages are numbered from 0 in their order.
 #[derive(Drop)]
 pub struct NameTable {
     bearers: NumbersByName,
+    exact: NumbersByName,
 }
 
 impl NameTable {
@@ -20,17 +26,16 @@ impl NameTable {
         requires { length packages.now < 4294967295 }
         ensures { IfOk result (IsBuiltFrom packages.now) }
     {
-        let mut bearers = NumbersByName::new(alloc);
-        for (number, package) in packages.iter().enumerate() {
-            put_package(&mut bearers, number as u32, package)?;
-        }
-        Ok(NameTable { bearers })
+        let bearers = all_bearers(alloc, packages)?;
+        let exact = exact_bearers(alloc, &bearers, packages)?;
+        Ok(NameTable { bearers, exact })
     }
 
     /// The numbers of the packages that meet the atom, ascending, each once; it fails only where no memory is found.
     ///
     /// The table was built from these packages. The atom's name is looked up without a copy, and only the packages that
-    /// have or provide it are asked.
+    /// have or provide it are asked; where these are many and the atom asks for one version exactly, only those that
+    /// have or provide the name in an equal version.
     pub fn meeting(
         &self,
         alloc: Global,
@@ -41,14 +46,61 @@ impl NameTable {
         requires { IsBuiltFrom packages.now self.now }
         ensures { IfOk result (λ found. found.items ≡ numbers_where (λ facts. meets atom.now facts home.now) packages.now) }
     {
-        let mut found = Vec::new(alloc);
-        for number in self.bearers.numbers(atom.name.as_slice()) {
-            if is_met_at(packages, *number, atom, home) {
-                found.push(*number)?;
+        let name = atom.name.as_slice();
+        let bearers = self.bearers.numbers(name);
+        if is_crowded(bearers) {
+            if let Some(version) = exact_version(atom) {
+                let exact = self.exact_numbers(alloc, name, version)?;
+                return met_among(alloc, packages, exact, atom, home);
             }
         }
-        Ok(found)
+        met_among(alloc, packages, bearers, atom, home)
     }
+
+    // The numbers of the packages that bear the name in a version equal to that one, where the name is crowded.
+    fn exact_numbers(
+        &self,
+        alloc: Global,
+        name: &[u8],
+        version: &Version,
+    ) -> Result<&[u32], AllocError>
+        ensures numbers { IfOk result (λ numbers. numbers.now ≡ numbers_under self.now.exact (exact_key name.now version.now)) }
+        ensures version { is_version version.now ≡ true }
+    {
+        let key = exact_key(alloc, name, version)?;
+        Ok(self.exact.numbers(&key))
+    }
+}
+
+// The numbers of the packages under each name that they have or provide.
+fn all_bearers(alloc: Global, packages: &[PackageFacts]) -> Result<NumbersByName, AllocError>
+    requires { length packages.now < 4294967295 }
+    ensures { IfOk result (HasBearers packages.now) }
+{
+    let mut bearers = NumbersByName::new(alloc);
+    for (number, package) in packages.iter().enumerate() {
+        put_package(&mut bearers, number as u32, package)?;
+    }
+    Ok(bearers)
+}
+
+// Those of the numbers whose packages meet the atom.
+fn met_among(
+    alloc: Global,
+    packages: &[PackageFacts],
+    numbers: &[u32],
+    atom: &Atom,
+    home: &Home,
+) -> Result<Vec<u32>, AllocError>
+    ensures { IfOk result (λ found. found.items ≡ filter (passes_at (λ facts. meets atom.now facts home.now) packages.now) numbers.now) }
+{
+    let mut found = Vec::new(alloc);
+    for number in numbers {
+        if is_met_at(packages, *number, atom, home) {
+            found.push(*number)?;
+        }
+    }
+    Ok(found)
 }
 
 // Puts the number of a package under its name and under each name that it provides, once under each.

@@ -5,6 +5,7 @@ use relation_fields::{
     AtomList, ElementList, Home, PackageFacts, ProvideList, parse_against, parse_provides,
 };
 use std::alloc::Global;
+use std::process::Abort;
 use std::test::Fail;
 
 /// Packages by name, version and provides.
@@ -34,6 +35,42 @@ const MEETINGS: [(&str, &[u32]); 14] = [
     ("y (>> 9)", &[6]),
     ("nowhere", &[]),
     ("X", &[]),
+];
+
+/// Packages of which all bear the name `m`, more than are walked through.
+const CROWD: [(&str, &str, &str); 18] = [
+    ("a", "9", "m (= 1)"),
+    ("b", "9", "m (= 1-0)"),
+    ("c", "9", "m (= 0:1)"),
+    ("d", "1", "m (= 01)"),
+    ("e", "1", "m (= 2)"),
+    ("f", "1", "m"),
+    ("g", "1", "m:arm64 (= 1)"),
+    ("h", "1", "m (= 1.0)"),
+    ("i", "1", "m (= 2), m (= 1)"),
+    ("j", "1", "m (= 3), m (= 3-0)"),
+    ("k", "1", "m (= 4)"),
+    ("l", "1", "m (= 4), n (= 1)"),
+    ("m", "1", "m (= 5)"),
+    ("n", "1", "m (= 6)"),
+    ("o", "1", "m (= 7)"),
+    ("p", "1", "m (= 8)"),
+    ("q", "1", "m (= 9)"),
+    ("m", "1~", "n (= 1)"),
+];
+
+/// Atoms on that name with the numbers of the packages that meet them.
+const IN_THE_CROWD: [(&str, &[u32]); 10] = [
+    ("m (= 1)", &[0, 1, 2, 3, 8, 12]),
+    ("m:any (= 00:1-00)", &[0, 1, 2, 3, 8, 12]),
+    ("m (= 2)", &[4, 8]),
+    ("m (= 3)", &[9]),
+    ("m (= 1~)", &[17]),
+    ("m (= 10)", &[]),
+    ("m:arm64 (= 1)", &[]),
+    ("m (>= 8)", &[15, 16]),
+    ("m (<< 1)", &[17]),
+    ("n (= 1)", &[11, 13, 17]),
 ];
 
 fn provides_of(alloc: Global, text: &str) -> Result<ProvideList, Fail> {
@@ -72,20 +109,36 @@ fn atoms_of(alloc: Global, text: &str) -> Result<AtomList, Fail> {
 
 #[test]
 fn packages_that_meet_an_atom(rt: HostRuntime) -> Result<(), Fail> {
+    assert_meetings(&rt, &PACKAGES, &MEETINGS)
+}
+
+#[test]
+fn packages_with_a_name_that_many_bear(rt: HostRuntime) -> Result<(), Fail> {
+    assert_meetings(&rt, &CROWD, &IN_THE_CROWD)
+}
+
+// Each atom is met by the packages of these numbers.
+fn assert_meetings(
+    rt: &(impl Abort + AllocGlobal),
+    facts: &[(&str, &str, &str)],
+    meetings: &[(&str, &[u32])],
+) -> Result<(), Fail> {
     let alloc = rt.alloc();
     let home = Home {
         name: Some(Bytes::copy(alloc, b"amd64")?),
     };
     let mut packages = Vec::new(alloc);
-    for (name, version, provides) in PACKAGES {
+    for (name, version, provides) in facts {
         packages.push(package_of(alloc, name, version, provides)?)?;
     }
-    assert_eq!(rt; packages.len(), 7);
+    if packages.len() > 1000 {
+        return Err("many packages".into());
+    }
     let table = NameTable::build(alloc, &packages)?;
-    for (text, numbers) in MEETINGS {
+    for (text, numbers) in meetings {
         for atom in atoms_of(alloc, text)?.as_slice() {
             let found = table.meeting(alloc, &packages, atom, &home)?;
-            assert_eq!(rt; found.as_slice(), numbers, "at {text}");
+            assert_eq!(rt; found.as_slice(), *numbers, "at {text}");
         }
     }
     Ok(())

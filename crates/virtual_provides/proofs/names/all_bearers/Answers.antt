@@ -2,7 +2,7 @@ use Rattle.std.proofs.Common.{◌∙◌, ◌++◌, sym, ap}
 use Rattle.virtual_provides.specs.Numbers.{ends_in}
 use Rattle.virtual_provides.specs.Bearers.{bears, if_so}
 use Rattle.virtual_provides.proofs.Numbered.{numbers_where-fresh_take, numbers_where-more}
-use Rattle.virtual_provides.proofs.names.NameTable.build.Goals as goal
+use Rattle.virtual_provides.proofs.names.all_bearers.Goals as goal
 
 pub put_package-requires : goal.put_package-requires
 put_package-requires c = λ name.

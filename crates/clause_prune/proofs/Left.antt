@@ -71,9 +71,6 @@ module _ (pool : Interned) (is : IsPool pool) (rows : List ℕ) (p : ℕ) (left 
       sym (ap (λ t. cond t (without_clause R p (clause_at pool id)) R)
       (ap (λ t. t || list_any (is_idle R p (clause_at pool id)) (clause_at pool id)) e ∙ any_found (is_idle R p (clause_at pool id)) (clause_at pool id) ∙ ap is_some (sym f)))
 
-  pub forced_steps : is_forced R p (clause_at pool id) ≡ true → clause_steps R p (clause_at pool id) ≡ []
-  forced_steps e = ap (λ t. cond t [] (step_by p (clause_at pool id) (find (is_idle R p (clause_at pool id)) (clause_at pool id)))) e
-
   pub found_steps : (o : Option ℕ) → is_forced R p (clause_at pool id) ≡ false → o ≡ find (is_idle R p (clause_at pool id)) (clause_at pool id) → clause_steps R p (clause_at pool id) ≡ step_by p (clause_at pool id) o
   found_steps o e f = ap₂ (λ t u. cond t [] (step_by p (clause_at pool id) u)) e (sym f)
 

@@ -1,16 +1,15 @@
 -- What some clause of a row passes, and what none does.
-use Rattle.std.proofs.Common.{◌≡◌, ℕ, zero, suc, ◌<◌, ◌≢◌, Bool, true, false, not, ◌&&◌, ◌||◌, cond, eqb, List, [], ◌∷◌, length, get_or, refl, sym, ◌∙◌, ap, ap₂, subst, inl, inr, arith, map, Some, None, length-set}
+use Rattle.std.proofs.Common.{◌≡◌, ℕ, zero, suc, ◌<◌, Bool, true, false, not, ◌&&◌, ◌||◌, cond, eqb, List, [], ◌∷◌, length, get_or, refl, sym, ◌∙◌, ap, ap₂, subst, inl, inr, arith, map, Some, None, length-set}
 use Rattle.std.specs.List.{find, list_all, list_any, filter}
 use Rattle.std.specs.Cmp.Lexicographic.{pointwise}
 use Rattle.std.proofs.lemmas.Bool.{and_from, both_ways, cases_Bool, false_from_ne_true, not_from_false, not_from_true, not-true, or_cases, or_left, or_right}
-use Rattle.std.proofs.lemmas.List.{get_or-map, get_or-set_other, get_or-set_same, length-map}
+use Rattle.std.proofs.lemmas.List.{get_or-set_same, length-map}
 use Rattle.clause_pool.specs.Interned.{Interned, IsPool, clause_at, clauses_at, row_at}
 use Rattle.row_book.specs.Sets.{In, has}
 use Rattle.row_book.specs.Clauses.{is_inside}
 use Rattle.row_book.specs.Book.{listed_for}
 use Rattle.row_book.specs.Flattening.{packages}
 use Rattle.row_book.specs.Repository.{Repository, against, clauses_of}
-use Rattle.row_book.specs.Uses.{row_id}
 use Rattle.row_book.proofs.Lists.{In_has, In_map, all_at, all_from, all_same, has_In}
 use Rattle.row_book.proofs.Repositories.{in_packages, numbers_test, same_numbers, same_test}
 use Rattle.row_book.specs.Pruning.{is_forced, is_harmless, is_idle, is_met, serves}
@@ -21,9 +20,6 @@ use Rattle.clause_prune.specs.Tests.{forces_in, harmless_in, with_ids, met_in}
 module _ (pool : Interned) (rows : List ℕ) (p : ℕ) (left : List ℕ) (table : List (List ℕ)) (inside : p < length rows) where
   pub left_own : clauses_of (with_ids pool rows p left table) p ≡ clauses_at pool left
   left_own = get_or-set_same (map (row_at pool) rows) p (clauses_at pool left) [] (let e : length (map (row_at pool) rows) ≡ length rows = length-map rows (row_at pool) in omega (arith, e))
-
-  pub left_other : (m : ℕ) → m ≢ p → m < length rows → clauses_of (with_ids pool rows p left table) m ≡ row_at pool (row_id rows m)
-  left_other m ne l = get_or-set_other (map (row_at pool) rows) p m (clauses_at pool left) [] ne ∙ get_or-map (row_at pool) rows m 0 [] l
 
 -- some of those that pass one test pass another
 pub any_filter : (test keep : List ℕ → Bool) (xs : List (List ℕ)) → list_any test (filter keep xs) ≡ list_any (λ x. keep x && test x) xs

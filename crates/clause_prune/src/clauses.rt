@@ -1,5 +1,5 @@
 //! Pruning of the clauses of one package.
-ghost use Rattle.std.specs.Prelude.{◌≡◌, ◌<◌, ◌≤◌, ◌++◌, [], ℕ, IfOk, List, OnOk, length, map, slice_index_or, true};
+ghost use Rattle.std.specs.Prelude.{◌≡◌, ◌<◌, ◌≤◌, ◌++◌, [], ℕ, IfOk, List, OnOk, length, map, slice_index_or};
 ghost use Rattle.clause_pool.specs.Interned.{clause_at, clauses_at, OfPool};
 ghost use Rattle.row_book.specs.Sets.{In};
 ghost use Rattle.row_book.specs.Clauses.{Ascending, InOrder};
@@ -8,7 +8,6 @@ ghost use Rattle.row_book.specs.Repository.{Repository};
 ghost use Rattle.row_book.specs.Pruning.{clause_steps, clauses_steps, prune_clause, prune_clauses};
 ghost use Rattle.row_book.specs.Rounds.{IdleStep, RoundStep};
 ghost use Rattle.row_book.specs.Trail.{trail_meaning};
-ghost use Rattle.row_book.specs.Uses.{some_holds};
 ghost use Rattle.clause_prune.specs.Tests.{ids_without, with_ids};
 
 use crate::forced::is_forced;
@@ -101,19 +100,6 @@ fn prune_one(
     Ok(())
 }
 
-/// The members of the clauses, in their order.
-fn members_of(alloc: Global, pool: &Pool, ids: &[ClauseId]) -> Result<Vec<u32>, AllocError>
-    requires { OfPool pool.now ids.now }
-    ensures held { IfOk result (λ members. (n : ℕ) → In n members.items → some_holds (clauses_at pool.now ids.now) n ≡ true) }
-    ensures all { IfOk result (λ members. (n : ℕ) → some_holds (clauses_at pool.now ids.now) n ≡ true → In n members.items) }
-    ensures ascending { IfOk result (λ members. Ascending members.items) }
-{
-    let mut members = distinct_numbers_in(alloc, pool, ids)?;
-    members.sort_unstable();
-    members.dedup();
-    Ok(members)
-}
-
 /// The clauses of the package that are left when each is dropped in turn that is forced or idle.
 pub(crate) fn prune_each(
     alloc: Global,
@@ -138,7 +124,7 @@ pub(crate) fn prune_each(
     ensures idle { OnOk result (trail_meaning pool.now idle.new ≡ trail_meaning pool.now idle.old
         ++ map IdleStep (clauses_steps (with_ids pool.now rows.now «package» ids.now table.now) «package» (clauses_at pool.now ids.now))) }
 {
-    let packages = members_of(alloc, pool, ids)?;
+    let packages = distinct_numbers_in(alloc, pool, ids)?;
     let members = packages.as_slice();
     let mut left = Vec::from_slice(alloc, ids)?;
     for id in ids {

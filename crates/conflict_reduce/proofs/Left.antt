@@ -29,12 +29,6 @@ not_or : (x y : Bool) → not (x || y) ≡ (not x && not y)
 not_or true y = refl
 not_or false y = refl
 
-pub and_other : (x y : Bool) → (x && y) ≡ (y && x)
-and_other true true = refl
-and_other true false = refl
-and_other false true = refl
-and_other false false = refl
-
 -- lists
 filter_all : (f : ℕ → Bool) (xs : List ℕ) → ((x : ℕ) → f x ≡ true) → filter f xs ≡ xs
 filter_all f [] h = refl

@@ -1,6 +1,6 @@
 //! The clauses that can take part in thinning. Conflicts only go away in the pass, so a clause whose members have no
 //! conflict in common when it begins excludes no package.
-ghost use Rattle.std.specs.Prelude.{◌≡◌, ◌<◌, ℕ, IfOk, filter, length};
+ghost use Rattle.std.specs.Prelude.{◌≡◌, ◌<◌, ℕ, IfOk, filter};
 ghost use Rattle.clause_pool.specs.Interned.{clause_at, OfPool};
 ghost use Rattle.row_book.specs.Book.{listed_for, Sound};
 ghost use Rattle.row_book.specs.Clauses.{Ascending};

@@ -1,6 +1,6 @@
 //! Thinning of a book. The book's own conflicts stay in their lists, and those that are dropped are put into lists of
 //! their own: so no list is moved up for one that goes.
-ghost use Rattle.std.specs.Prelude.{◌≡◌, ◌<◌, ◌+◌, ◌++◌, ◌∷◌, [], ℕ, IfOk, OnOk, filter, length, map, not};
+ghost use Rattle.std.specs.Prelude.{◌≡◌, ◌<◌, ◌+◌, ℕ, IfOk, OnOk, filter, length, not};
 ghost use Rattle.row_book.specs.Book.{listed_for, repository_of, Sound};
 ghost use Rattle.row_book.specs.Clauses.{Ascending};
 ghost use Rattle.row_book.specs.Facing.{against_in};

@@ -1,3 +1,4 @@
+pub mod BlankLemmas
 pub mod CloseLemmas
 pub mod Examples
 pub mod FieldLemmas

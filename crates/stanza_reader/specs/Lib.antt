@@ -1,4 +1,5 @@
 pub mod Close
+pub mod Blanking
 pub mod Lines
 pub mod Fields
 pub mod Note

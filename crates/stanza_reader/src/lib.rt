@@ -1,6 +1,7 @@
 //! The stanzas of a Debian control file, or the first fault with its line.
 #![tactic(auto)]
 
+mod blanking;
 mod check;
 mod close;
 mod fault;
@@ -16,6 +17,7 @@ mod scan;
 mod stanza;
 mod values;
 
+pub use blanking::blank_lines;
 pub use close::closed_front;
 pub use fault::StanzaFault;
 pub use laws::{

@@ -1,5 +1,5 @@
 -- Repositories that are flattened by the definition, told by the tables of its stages.
-use Rattle.std.proofs.Common.{◌≡◌, ℕ, Bool, true, ◌&&◌, ltb, List, [], ◌∷◌, inl, inr, length, refl, ap, arith, Some, None}
+use Rattle.std.proofs.Common.{◌≡◌, ℕ, Bool, true, false, ◌&&◌, ltb, List, [], ◌∷◌, inl, inr, length, refl, sym, ap, arith, filter, Some, None}
 use Rattle.std.specs.List.{list_all}
 use Rattle.std.proofs.lemmas.Bool.{and_parts, ltb-true, cases_lt}
 use Rattle.std.proofs.lemmas.List.{get_or_past}
@@ -7,11 +7,11 @@ use Rattle.row_book.specs.Sets.{In}
 use Rattle.row_book.specs.Repository.{Repository, clauses_of}
 use Rattle.row_book.specs.Clauses.{Ascending, numbers}
 use Rattle.row_book.specs.Sound.{SoundClauses}
-use Rattle.row_book.specs.Flattening.{flat, passes, packages}
+use Rattle.row_book.specs.Flattening.{flat, held_of, passes, packages}
 use Rattle.row_book.proofs.Lists.{In_none, all_at}
 use Rattle.row_book.proofs.Order.{numbers_from}
-use Rattle.clause_flatten.specs.Substitution.{table_without, choice_in, first_table, stage_after, passes_by_stages}
-use Rattle.clause_flatten.proofs.Stages.{flat_by_stages_lem, passes_by_stages_lem}
+use Rattle.clause_flatten.specs.Substitution.{table_without, table_passes, choice_in, first_table, stage_after, passes_by_stages}
+use Rattle.clause_flatten.proofs.Stages.{flat_by_stages_lem, passes_by_stages_lem, stages_run_lem}
 
 -- clauses that are sound, by a test
 is_ascending : List ℕ → Bool
@@ -53,9 +53,9 @@ chain = record {
 }
 
 -- a and m are taken out, and a gets the clauses of m
-flat_chain : (flat chain).clauses ≡ ((2 ∷ []) ∷ (3 ∷ 4 ∷ []) ∷ []) ∷ ((2 ∷ []) ∷ (3 ∷ 4 ∷ []) ∷ []) ∷ [] ∷ [] ∷ [] ∷ [] ∷ [] ∷ []
-unfolding chain is_sound is_ascending numbers table_without choice_in first_table stage_after
-flat_chain = ap (λ r. r.clauses) (flat_by_stages_lem chain (sound_from chain refl))
+flat_chain : (flat 2 false chain).clauses ≡ ((2 ∷ []) ∷ (3 ∷ 4 ∷ []) ∷ []) ∷ ((2 ∷ []) ∷ (3 ∷ 4 ∷ []) ∷ []) ∷ [] ∷ [] ∷ [] ∷ [] ∷ [] ∷ []
+unfolding chain is_sound is_ascending numbers table_without table_passes choice_in first_table stage_after
+flat_chain = ap (λ r. r.clauses) (flat_by_stages_lem 2 false chain (sound_from chain refl))
 
 -- `a: Depends m, n`, `m: Depends b, c`, `n: Depends d`, `b: Conflicts e`, `c: Conflicts e`, `d: Conflicts e`, `e`
 grown : Repository
@@ -65,10 +65,28 @@ grown = record {
 }
 
 -- n goes first, then a, then m, and then the row of a has three clauses
-passes_grown : passes grown 2 ≡ Some (record { gone = 3; «package» = 0; count = 3 })
-unfolding grown is_sound is_ascending numbers table_without choice_in first_table stage_after passes_by_stages
-passes_grown = passes_by_stages_lem grown (sound_from grown refl) 2
+passes_grown : passes 2 false grown ≡ Some (record { gone = 3; «package» = 0; count = 3 })
+unfolding grown is_sound is_ascending numbers table_without table_passes choice_in first_table stage_after passes_by_stages
+passes_grown = passes_by_stages_lem 2 false grown (sound_from grown refl)
 
-grown_is_allowed : passes grown 3 ≡ None
-unfolding grown is_sound is_ascending numbers table_without choice_in first_table stage_after passes_by_stages
-grown_is_allowed = passes_by_stages_lem grown (sound_from grown refl) 3
+grown_is_allowed : passes 3 false grown ≡ None
+unfolding grown is_sound is_ascending numbers table_without table_passes choice_in first_table stage_after passes_by_stages
+grown_is_allowed = passes_by_stages_lem 3 false grown (sound_from grown refl)
+
+-- with hold the limit is not passed, and m stays, as the row of a would have three clauses without it
+grown_is_held : passes 2 true grown ≡ None
+unfolding grown is_sound is_ascending numbers table_without table_passes choice_in first_table stage_after passes_by_stages
+grown_is_held = passes_by_stages_lem 2 true grown (sound_from grown refl)
+
+held_grown : held_of 2 true grown ≡ 1 ∷ []
+unfolding grown is_sound is_ascending held_of numbers table_without table_passes choice_in first_table stage_after
+held_grown = ap (λ s. filter s.remaining.held (packages grown)) (sym (stages_run_lem 2 true grown (sound_from grown refl) 7))
+
+flat_grown : (flat 2 true grown).clauses ≡ ((1 ∷ []) ∷ (5 ∷ []) ∷ []) ∷ ((3 ∷ []) ∷ (4 ∷ []) ∷ []) ∷ ((5 ∷ []) ∷ []) ∷ [] ∷ [] ∷ [] ∷ [] ∷ []
+unfolding grown is_sound is_ascending numbers table_without table_passes choice_in first_table stage_after
+flat_grown = ap (λ r. r.clauses) (flat_by_stages_lem 2 true grown (sound_from grown refl))
+
+-- at limit 3 none is held
+held_none : held_of 3 true grown ≡ []
+unfolding grown is_sound is_ascending held_of numbers table_without table_passes choice_in first_table stage_after
+held_none = ap (λ s. filter s.remaining.held (packages grown)) (sym (stages_run_lem 3 true grown (sound_from grown refl) 7))

@@ -11,7 +11,9 @@ pub mod Tables
 pub mod Flat
 pub mod Stages
 pub mod Shortcuts
+pub mod Held
 pub mod Members
+pub mod Counts
 pub mod Families
 pub mod Beginnings
 pub mod Gainings
@@ -23,7 +25,9 @@ pub mod Midway
 pub mod Turns
 pub mod Tidied
 pub mod Runs
-pub mod Flattened
+pub mod Free
+pub mod Passing
+pub mod Running
 pub mod SmallBooks
 mod Examples
 mod Refuted

@@ -1,5 +1,5 @@
 -- The union of two ascending clauses by merging.
-use Rattle.std.proofs.Common.{◌≡◌, ◌≢◌, ℕ, zero, suc, ◌<◌, ◌≤◌, ◌+◌, ◌-◌, not, eqb, cond, List, [], ◌∷◌, ◌++◌, ◌⊎◌, inl, inr, sym, ◌∙◌, ap, ap₂, subst, length, get_or, take, drop, arith, add-one, append_assoc, append-nil, eq-eqb, ne_eqb, length-drop, drop-cons}
+use Rattle.std.proofs.Common.{◌≡◌, ◌≢◌, ℕ, ◌<◌, ◌≤◌, ◌+◌, ◌-◌, not, eqb, cond, List, [], ◌∷◌, ◌++◌, ◌⊎◌, inl, inr, sym, ◌∙◌, ap, ap₂, subst, length, get_or, take, drop, arith, add-one, append_assoc, append-nil, eq-eqb, ne_eqb, length-drop, drop-cons}
 use Rattle.std.proofs.lemmas.List.{drop_all, take_all}
 use Rattle.row_book.specs.Clauses.{Ascending}
 use Rattle.row_book.proofs.Lists.{In_none, ascending_filter, ascending_same, filter_cases}

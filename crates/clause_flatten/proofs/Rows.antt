@@ -1,17 +1,21 @@
 -- The computed row is the row.
-use Rattle.std.proofs.Common.{◌≡◌, ℕ, ◌<◌, Bool, true, not, ◌&&◌, ◌||◌, eqb, List, ◌∷◌, length, inl, inr, sym, subst, arith, eq-eqb, eqb-true, zero-le}
+use Rattle.std.proofs.Common.{◌≡◌, ℕ, ◌<◌, Bool, true, not, ◌&&◌, ◌||◌, eqb, List, [], ◌∷◌, length, ◌⊎◌, inl, inr, refl, sym, subst, arith, eq-eqb, eqb-true, zero-le}
 use Rattle.std.specs.List.{list_all, list_any}
-use Rattle.std.proofs.lemmas.Bool.{both_ways, cases_Bool, and_parts, and_from, or_cases, or_left, or_right, not_from_false, not-true, false_from_ne_true}
-use Rattle.row_book.specs.Sets.{In, Is, NumSet, has, here, minus, there, without}
+use Rattle.std.proofs.lemmas.Bool.{both_ways, cases_Bool, cases_lt, and_parts, and_from, or_cases, or_left, or_right, not_from_false, not-true, false_from_ne_true}
+use Rattle.std.proofs.lemmas.List.{get_or_past}
+use Rattle.row_book.specs.Sets.{Hit, In, Is, NumSet, has, here, minus, there, without}
 use Rattle.row_book.specs.Repository.{Repository, Satisfied, clauses_of}
 use Rattle.row_book.specs.Clauses.{Inside, is_inside, subsets}
 use Rattle.row_book.specs.Support.{Alive, Blocks, IsRow, MinimalBlock, Support, among, blocks, is_minimal_block, is_supported, row, supports}
 use Rattle.row_book.specs.Sound.{OfPackages}
+use Rattle.row_book.specs.Flattening.{packages}
 use Rattle.row_book.proofs.Sets.{Hit-mono, without_from, without_parts}
-use Rattle.row_book.proofs.Lists.{In_cases, In_has, all_at, all_from, any_cases, any_from, any_hit, filter_cases, filter_from, has_In, hit_any, members_from, members_from_ascending, members_from_from, members_from_parts, minus_from, minus_parts}
+use Rattle.row_book.proofs.Lists.{In_cases, In_has, In_none, all_at, all_from, any_cases, any_from, any_hit, any_none, filter_cases, filter_from, has_In, hit_any, members_from, members_from_ascending, members_from_from, members_from_parts, minus_from, minus_parts}
 use Rattle.row_book.proofs.Clauses.{inside_at, inside_from}
-use Rattle.row_book.proofs.Order.{subsets_has, subsets_parts}
+use Rattle.row_book.proofs.Order.{numbers_from, subsets_has, subsets_parts}
+use Rattle.clause_flatten.specs.Substitution.{clause_without}
 use Rattle.clause_flatten.proofs.Supports.{support_grows_lem}
+use Rattle.clause_flatten.proofs.Unions.{dropped_from, dropped_parts}
 
 -- the test of support
 among_alive : (X : NumSet) (J : List ℕ) (p n : ℕ) → Is (among X J p) n → Alive X (has J) p n
@@ -146,3 +150,60 @@ row_is R V p bound = record {
       (subsets_has (length R.clauses) T l.ascending (λ m i. bound m (l.blocks.within m i)))
       (least_test R V p T l);
 }
+
+-- the package stands in a clause of the repository
+abbrev pub Stands : Repository → ℕ → Type 0
+Stands R q = (p : ℕ) × (c : List ℕ) × In c (clauses_of R p) × In q c
+
+stands_or : (R : Repository) (q : ℕ) → Stands R q ⊎ ((p : ℕ) (c : List ℕ) → In c (clauses_of R p) → In q c → ⊥)
+stands_or R q =
+    elim (cases_Bool (list_any (λ p. list_any (λ c. has c q) (clauses_of R p)) (packages R))) [
+      | inl t ↦
+          let w : (p : ℕ) × In p (packages R) × (list_any (λ c. has c q) (clauses_of R p) ≡ true) =
+          any_cases (λ p. list_any (λ c. has c q) (clauses_of R p)) (packages R) t in
+          let v : (c : List ℕ) × In c (clauses_of R w.0) × (has c q ≡ true) = any_cases (λ c. has c q) (clauses_of R w.0) w.2 in
+          inl (w.0, v.0, v.1, has_In v.0 q v.2)
+      | inr f ↦ inr (λ p c i j. elim (cases_lt p (length R.clauses)) [
+        | inl l ↦
+            both_ways (has c q)
+            (any_none (λ c. has c q) (clauses_of R p)
+            (any_none (λ p. list_any (λ c. has c q) (clauses_of R p)) (packages R) f p (numbers_from (length R.clauses) 0 p zero-le (omega arith))) c i)
+            (In_has j)
+        | inr g ↦ In_none (subst (λ z. In c z) (get_or_past R.clauses p [] g) i)
+      ])
+    ]
+
+-- a package that stands in no clause supports nothing
+module _ (R : Repository) (V : NumSet) (p q : ℕ) (unused : (r : ℕ) (c : List ℕ) → In c (clauses_of R r) → In q c → ⊥) where
+  supports_less : (T : List ℕ) → Support R V p (minus V (clause_without q T)) → Support R V p (minus V T)
+  supports_less T s = record {
+    helpers = s.helpers;
+    packages = s.packages;
+    outside = s.outside;
+    own = met p s.own;
+    others = λ n j. met n (s.others n j);
+  }
+    where
+      met : (r : ℕ) → Satisfied R (Alive (minus V (clause_without q T)) s.helpers p) r → Satisfied R (Alive (minus V T) s.helpers p) r
+      met r f c i = hit (f c i)
+        where
+          hit : Hit (Alive (minus V (clause_without q T)) s.helpers p) c → Hit (Alive (minus V T) s.helpers p) c
+          hit h = record { by = h.by; inside = h.inside; alive = live h.alive }
+            where
+              live : Alive (minus V (clause_without q T)) s.helpers p h.by → Alive (minus V T) s.helpers p h.by
+              live (inl x) =
+                  let w : Is V h.by × (In h.by (clause_without q T) → ⊥) = minus_parts V (clause_without q T) h.by x in
+                  inl (minus_from V T h.by w.0 (λ j. w.1 (dropped_from q T h.by j (λ e. unused r c i (subst (λ z. In z c) e h.inside)))))
+              live (inr y) = inr y
+
+  not_in_blocks : (T : List ℕ) → MinimalBlock R V p T → In q T → ⊥
+  not_in_blocks T m i =
+      (dropped_parts q T q (m.minimal (clause_without q T) (record {
+        within = λ n j. m.blocks.within n (dropped_parts q T n j).0;
+        apart = λ n j. m.blocks.apart n (dropped_parts q T n j).0;
+        fails = λ s. m.blocks.fails (supports_less T s);
+      }) (λ n j. (dropped_parts q T n j).0) q i)).1 refl
+
+-- a member of a row stands in some clause
+pub member_stands : (R : Repository) (V : NumSet) (p : ℕ) (T : List ℕ) (q : ℕ) → MinimalBlock R V p T → In q T → Stands R q
+member_stands R V p T q m i = elim (stands_or R q) [ inl u ↦ u | inr f ↦ absurd (not_in_blocks R V p q f T m i) ]

@@ -1,6 +1,6 @@
 -- A package taken out of rows in a pool: the rows that do not name it stay, so only those of its users are looked at.
-use Rattle.std.proofs.Common.{◌≡◌, ℕ, zero, suc, ◌<◌, ◌≤◌, ◌+◌, Bool, true, false, ◌||◌, eqb, cond, List, [], ◌∷◌, ◌++◌, length, get_or, inl, inr, refl, sym, ◌∙◌, ap, subst, arith, filter, map, take, Some, None, eq-eqb, eqb-true, ne_eqb, zero-le}
-use Rattle.std.specs.List.{find}
+use Rattle.std.proofs.Common.{◌≡◌, ℕ, zero, suc, ◌<◌, ◌≤◌, ◌+◌, Bool, true, false, ◌&&◌, ◌||◌, eqb, ltb, cond, List, [], ◌∷◌, ◌++◌, length, get_or, inl, inr, refl, sym, ◌∙◌, ap, subst, arith, filter, map, take, Some, None, eq-eqb, eqb-true, ne_eqb, zero-le}
+use Rattle.std.specs.List.{find, list_any}
 use Rattle.std.specs.Option.{option_map}
 use Rattle.std.proofs.lemmas.Bool.{both_ways, cases_Bool, cases_eq, cases_lt, cond-true, cond-false, false_from_ne_true, ltb-false, le-ltb}
 use Rattle.std.proofs.lemmas.List as lists
@@ -9,11 +9,11 @@ use Rattle.row_book.specs.Sets.{In, has, here, there}
 use Rattle.row_book.specs.Clauses.{Ascending, InOrder, Inside, apart_from, numbers, in_row_order}
 use Rattle.row_book.specs.Uses.{row_holds, row_id, users_of, uses_of}
 use Rattle.row_book.specs.Book.{RowsFit, RowsTidy, listed_for}
-use Rattle.row_book.specs.Flattening.{passed_by}
-use Rattle.row_book.proofs.Lists.{In_cases, In_has, In_none, any_none, ascending_filter, filter_cases, filter_from, find_not, find_none, has_not, In_at}
+use Rattle.row_book.specs.Flattening.{Passed, passed_by}
+use Rattle.row_book.proofs.Lists.{In_cases, In_has, In_none, any_cases, any_from, any_none, ascending_filter, filter_cases, filter_from, find_not, find_none, has_not, In_at}
 use Rattle.row_book.proofs.Clauses.{apart_cases, apart_in, minimal_of_from, minimal_of_parts}
 use Rattle.row_book.proofs.Order.{at_numbers, length_numbers, numbers_from, numbers_parts, order_same, ordered_has, ordered_order, ordered_parts, numbers_ascending}
-use Rattle.clause_flatten.specs.Substitution.{table_without, length_in, all_unions_for, substituted, table_row}
+use Rattle.clause_flatten.specs.Substitution.{table_without, table_passes, length_in, all_unions_for, substituted, table_row}
 use Rattle.clause_flatten.specs.TakingOut.{counted_anew, is_over}
 use Rattle.clause_flatten.specs.Waiting.{Filed, recounted}
 use Rattle.clause_flatten.specs.declared.waiting.Waiting.{Waiting}
@@ -129,6 +129,34 @@ module _ (pool : Interned) (rows : List ℕ) (q : ℕ) (l : q < length rows) (us
           pick true u h = ap (cond (f x) (Some x)) h
           pick false u h = h ∙ sym (cond-false (f x) (Some x) (find f xs) (k x here u))
 
+  -- so that some row passes the limit where that of a user does
+  pub table_over : (limit p : ℕ) → In p users → is_over (table_without q (map (row_at pool) rows)) limit p ≡ true → table_passes limit (table_without q (map (row_at pool) rows)) ≡ true
+  unfolding table_passes
+  table_over limit p i h =
+      let new : List (List (List ℕ)) = table_without q (map (row_at pool) rows) in
+      let count : length (map (row_at pool) rows) ≡ length rows = lists.length-map rows (row_at pool) in
+      let below : p < length rows = users_below p i in
+      any_from (λ p. ltb limit (length_in new p)) (numbers (length new) 0) p
+      (numbers_from (length new) 0 p zero-le (omega (arith, eliminated_count q (map (row_at pool) rows), count))) h
+
+  pub table_within : IsPool pool → RowsFit pool rows → RowsTidy pool rows → (limit : ℕ) → ((p : ℕ) → p < length rows → length_in (map (row_at pool) rows) p ≤ limit) →
+      ((k : ℕ) → k < length users → is_over (table_without q (map (row_at pool) rows)) limit (get_or users k 0) ≡ false) →
+      table_passes limit (table_without q (map (row_at pool) rows)) ≡ false
+  unfolding table_passes
+  table_within is fit tidy limit within f =
+      let new : List (List (List ℕ)) = table_without q (map (row_at pool) rows) in
+      let size : length (table_without q (map (row_at pool) rows)) ≡ length rows = eliminated_count q (map (row_at pool) rows) ∙ lists.length-map rows (row_at pool) in
+      let none : find (is_over new limit) (numbers (length rows) 0) ≡ None =
+      over_all is fit tidy limit within ∙ nowhere (is_over new limit) users f in
+      ap (λ n. list_any (λ p. ltb limit (length_in new p)) (numbers n 0)) size
+      ∙ false_from_ne_true (list_any (λ p. ltb limit (length_in new p)) (numbers (length rows) 0)) (λ t.
+      let w : (p : ℕ) × In p (numbers (length rows) 0) × (ltb limit (length_in new p) ≡ true) = any_cases (λ p. ltb limit (length_in new p)) (numbers (length rows) 0) t in
+      both_ways (ltb limit (length_in new w.0)) (find_none (is_over new limit) (numbers (length rows) 0) none w.0 w.1) w.2)
+    where
+      nowhere : (p : ℕ → Bool) (xs : List ℕ) → ((k : ℕ) → k < length xs → p (get_or xs k 0) ≡ false) → find p xs ≡ None
+      nowhere p [] g = refl
+      nowhere p (x ∷ xs) g = cond-false (p x) (Some x) (find p xs) (g 0 (omega arith)) ∙ nowhere p xs (λ k l. g (suc k) (omega arith))
+
   pub filed_after : IsPool pool → RowsFit pool rows → RowsTidy pool rows → (w : Waiting) (may : ℕ → Bool) (new : List (List (List ℕ))) → new ≡ table_without q (map (row_at pool) rows) →
       Filed w may (counted_anew (length_in (map (row_at pool) rows)) new users) → Filed w may (length_in (table_without q (map (row_at pool) rows)))
   filed_after is fit tidy w may new d f =
@@ -236,3 +264,18 @@ file_more old new may count t users counts i user was a l e c w d f =
         cond b (length_in t user) (cond (has (take i users) q) (length_in t q) (count q)) ≡ cond (cond b true (has (take i users) q)) (length_in t q) (count q)
     pick q true u = ap (length_in t) (sym (eqb-true q user u))
     pick q false u = refl
+
+-- a limit that is passed when a package is taken out, where it is held if some row would pass it
+pub holds_none : (hold : Bool) (t : List (List (List ℕ))) (limit i n : ℕ) (w : Passed) → n ≡ length t → false ≡ (hold && table_passes limit t) →
+    passed_by (length_in t) (numbers n 0) limit i ≡ Some w → hold ≡ false
+unfolding table_passes
+holds_none false t limit i n w size e h = refl
+holds_none true t limit i n w size e h =
+    let none : find (is_over t limit) (numbers n 0) ≡ None =
+    find_not (is_over t limit) (numbers n 0) (λ p j.
+    any_none (λ p. ltb limit (length_in t p)) (numbers (length t) 0) (sym e) p (subst (λ m. In p (numbers m 0)) size j)) in
+    let made : ℕ → Passed = λ p. record { gone = i; «package» = p; count = length_in t p } in
+    absurd (none_some (sym (ap (option_map made) none) ∙ h))
+  where
+    none_some : None ≡ Some w → ⊥
+    none_some f = cc

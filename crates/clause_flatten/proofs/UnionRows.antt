@@ -196,9 +196,22 @@ module _ (pool : Interned) (spent row : ℕ) (useful : List ℕ) (is : IsPool po
   pub unions_ascend : (unions : List (List ℕ)) → SameClauses (all_unions spent clauses usable) unions → (c : List ℕ) → In c unions → Ascending c
   unions_ascend unions same c i = unions_up spent clauses usable usable_up c (same.back c i)
 
+  pub family_ascends : (family : List (List ℕ)) → family ≡ in_row_order (apart_from spent clauses ++ all_unions spent clauses usable) → (c : List ℕ) → In c family → Ascending c
+  family_ascends family e c i =
+      elim (In_append_cases (apart_from spent clauses) (all_unions spent clauses usable) c
+      (ordered_parts (apart_from spent clauses ++ all_unions spent clauses usable) c (subst (λ z. In c z) e i))) [
+        | inl a ↦ row_ascending pool is row of_row c (apart_cases spent clauses c a).0
+        | inr u ↦ unions_up spent clauses usable usable_up c u
+      ]
+
   pub row_is_minimal : ((c d : List ℕ) → In c clauses → In d clauses → Inside c d → c ≡ d) → (unions kept left new : List (List ℕ)) → SameClauses (all_unions spent clauses usable) unions →
       kept ≡ apart_from spent clauses → left ≡ filter (stays spent unions) clauses → HasUnions left kept unions unions new →
       new ≡ minimal_of (in_row_order (apart_from spent clauses ++ all_unions spent clauses usable))
   row_is_minimal minimal unions kept left new same e f made =
       unions_are_minimal spent clauses usable unions new (row_ascending pool is row of_row) usable_up minimal same
       (subst (λ z. HasUnions z (apart_from spent clauses) unions unions new) f (subst (λ z. HasUnions left z unions unions new) e made))
+
+-- a family in order
+pub family_is : (family cs : List (List ℕ)) → InOrder family → SameClauses cs family → family ≡ in_row_order cs
+family_is family cs o same =
+    order_same family (in_row_order cs) o (ordered_order cs) (λ c i. ordered_has cs c (same.back c i)) (λ c i. same.there c (ordered_parts cs c i))

@@ -1,11 +1,11 @@
 -- The laws of the computed rows, of elimination and of the flattened repository.
-use Rattle.std.specs.Prelude.{◌≡◌, ◌≢◌, ℕ, ◌<◌, ◌≤◌, true, List, ◌∷◌, length, ◌⊎◌, ◌↔◌, false, Some, None}
+use Rattle.std.specs.Prelude.{◌≡◌, ◌≢◌, ℕ, zero, suc, ◌<◌, ◌≤◌, Bool, true, List, ◌∷◌, length, ◌⊎◌, ◌↔◌, false, Option, Some, None}
 use Rattle.row_book.specs.Sets.{NumSet, In, without}
-use Rattle.row_book.specs.Repository.{Repository, Coinst}
+use Rattle.row_book.specs.Repository.{Repository, Coinst, clauses_of}
 use Rattle.row_book.specs.Clauses.{Ascending, InOrder, in_row_order}
 use Rattle.row_book.specs.Support.{IsRow, row}
 use Rattle.row_book.specs.Sound.{OfPackages, SoundClauses, BetweenPackages}
-use Rattle.row_book.specs.Flattening.{has_conflict, row_length, next_gone, left_after, core_of, rows_over, flat, passes}
+use Rattle.row_book.specs.Flattening.{all_packages, at_last, has_conflict, row_length, next_gone, remaining_after, core_of, is_held, rows_over, flat, passes, Remaining}
 use Rattle.clause_flatten.specs.Substitution.{union_of, substituted, table_without, stage_after, passes_by_stages}
 
 -- the computed row is the row, in order
@@ -18,35 +18,62 @@ abbrev pub RowIsOne : Type 0
 RowIsOne = (R : Repository) (V : NumSet) (p : ℕ) (rows : List (List ℕ)) →
     OfPackages R V → IsRow R V p rows → InOrder rows → rows ≡ row R V p
 
--- of the packages of V without conflicts the one whose row has the fewest clauses, and of these the
+-- of the packages that are left, without conflicts and not held, the one whose row has the fewest clauses, and of these the
 -- one of least number
-pub record LeastToGo (R : Repository) (V : NumSet) (q : ℕ) : Type 0 where
-  pub left : V q ≡ true
+pub record LeastToGo (R : Repository) (s : Remaining) (q : ℕ) : Type 0 where
+  pub left : s.left q ≡ true
   pub free : has_conflict R q ≡ false
-  pub least : (r : ℕ) → V r ≡ true → has_conflict R r ≡ false →
-      (row_length R V q < row_length R V r) ⊎ ((row_length R V q ≡ row_length R V r) × (q ≤ r))
+  pub unheld : s.held q ≡ false
+  pub least : (r : ℕ) → s.left r ≡ true → has_conflict R r ≡ false → s.held r ≡ false →
+      (row_length R s.left q < row_length R s.left r) ⊎ ((row_length R s.left q ≡ row_length R s.left r) × (q ≤ r))
 
--- that one is taken out next, and none is where each package of V has a conflict
-pub record TakesTheLeast (R : Repository) (V : NumSet) : Type 0 where
-  pub some : (q : ℕ) → (next_gone R V ≡ Some q) ↔ LeastToGo R V q
-  pub none : (next_gone R V ≡ None) ↔ ((q : ℕ) → V q ≡ true → has_conflict R q ≡ true)
+-- that one is taken out next, and none is where each package that is left has a conflict or is held
+pub record TakesTheLeast (R : Repository) (s : Remaining) : Type 0 where
+  pub some : (q : ℕ) → (next_gone R s ≡ Some q) ↔ LeastToGo R s q
+  pub none : (next_gone R s ≡ None) ↔ ((q : ℕ) → s.left q ≡ true → (has_conflict R q ≡ true) ⊎ (s.held q ≡ true))
 
 abbrev pub NextIsLeast : Type 0
-NextIsLeast = (R : Repository) (V : NumSet) → OfPackages R V → TakesTheLeast R V
+NextIsLeast = (R : Repository) (s : Remaining) → OfPackages R s.left → TakesTheLeast R s
 
 -- flattening keeps every set
 abbrev pub FlatKeeps : Type 0
-FlatKeeps = (R : Repository) → BetweenPackages R → (S : NumSet) → (Coinst R S ↔ Coinst (flat R) S)
+FlatKeeps = (limit : ℕ) (hold : Bool) (R : Repository) → BetweenPackages R → (S : NumSet) → (Coinst R S ↔ Coinst (flat limit hold R) S)
 
--- the core has the packages with a conflict, and no others
-abbrev pub CoreIsTheConflicted : Type 0
-CoreIsTheConflicted = (R : Repository) (q : ℕ) →
-    (core_of R q ≡ true) ↔ ((q < length R.clauses) × (has_conflict R q ≡ true))
+-- the core has the packages with a conflict and those that are held, and no others
+abbrev pub CoreStays : Type 0
+CoreStays = (limit : ℕ) (hold : Bool) (R : Repository) (q : ℕ) →
+    (core_of limit hold R q ≡ true) ↔ ((q < length R.clauses) × ((has_conflict R q ≡ true) ⊎ (is_held limit hold R q ≡ true)))
 
--- the core is reached where no package is taken out any more
+-- a held package has no conflict, and stands in some clause
+abbrev pub HeldIsUsed : Type 0
+HeldIsUsed = (limit : ℕ) (hold : Bool) (R : Repository) (q : ℕ) → SoundClauses R → passes limit hold R ≡ None → is_held limit hold R q ≡ true →
+    (has_conflict R q ≡ false) × ((p : ℕ) × (c : List ℕ) × In c (clauses_of R p) × In q c)
+
+-- with hold no step makes a row pass the limit
+abbrev pub HoldStaysWithin : Type 0
+HoldStaysWithin = (limit : ℕ) (R : Repository) → passes limit true R ≡ None →
+    (i p : ℕ) → p < length R.clauses → row_length R (remaining_after limit true R i).left p ≤ limit
+
+-- elimination as it is without hold, at no limit: the packages that are left after so many steps
+abbrev pub less_one : NumSet → Option ℕ → NumSet
+less_one V None = V
+less_one V (Some q) = without V q
+
+abbrev pub none_held : NumSet → Remaining
+none_held V = record { left = V; held = λ n. false }
+
+unfoldable pub left_after : Repository → ℕ → NumSet
+left_after R zero = all_packages R
+left_after R (suc i) = less_one (left_after R i) (next_gone R (none_held (left_after R i)))
+
+-- without hold no package is held, at whatever limit
+abbrev pub WithoutHold : Type 0
+WithoutHold = (limit : ℕ) (R : Repository) (i : ℕ) → remaining_after limit false R i ≡ none_held (left_after R i)
+
+-- where none is taken out any more all stays
 abbrev pub CoreIsReached : Type 0
-CoreIsReached = (R : Repository) (i : ℕ) →
-    next_gone R (left_after R i) ≡ None → i ≤ length R.clauses → core_of R ≡ left_after R i
+CoreIsReached = (limit : ℕ) (hold : Bool) (R : Repository) (i : ℕ) →
+    next_gone R (remaining_after limit hold R i) ≡ None → i ≤ length R.clauses → at_last limit hold R ≡ remaining_after limit hold R i
 
 -- substitution gives the next row, in order
 abbrev pub OneRow : Type 0
@@ -59,20 +86,20 @@ abbrev pub TableStep : Type 0
 TableStep = (R : Repository) (V : NumSet) (q : ℕ) → OfPackages R V → V q ≡ true →
     table_without q (rows_over R V) ≡ rows_over R (without V q)
 
--- an elimination that only looks at its table has what is left, and its rows, at each stage
+-- an elimination that only looks at its table has what is left, what is held, and the rows, at each stage
 abbrev pub StagesRun : Type 0
-StagesRun = (R : Repository) → SoundClauses R → (i : ℕ) →
-    stage_after R i ≡ record { left = left_after R i; table = rows_over R (left_after R i) }
+StagesRun = (limit : ℕ) (hold : Bool) (R : Repository) → SoundClauses R → (i : ℕ) →
+    stage_after limit hold R i ≡ record { remaining = remaining_after limit hold R i; table = rows_over R (remaining_after limit hold R i).left }
 
 -- so the last table has the clauses of the flattened repository
 abbrev pub FlatByStages : Type 0
-FlatByStages = (R : Repository) → SoundClauses R →
-    flat R ≡ record { clauses = (stage_after R (length R.clauses)).table; conflicts = R.conflicts }
+FlatByStages = (limit : ℕ) (hold : Bool) (R : Repository) → SoundClauses R →
+    flat limit hold R ≡ record { clauses = (stage_after limit hold R (length R.clauses)).table; conflicts = R.conflicts }
 
 -- and the limit is passed where the tables pass it
 abbrev pub PassesByStages : Type 0
-PassesByStages = (R : Repository) → SoundClauses R → (limit : ℕ) →
-    passes R limit ≡ passes_by_stages R limit
+PassesByStages = (limit : ℕ) (hold : Bool) (R : Repository) → SoundClauses R →
+    passes limit hold R ≡ passes_by_stages limit hold R
 
 -- a row stays as it is where none of its clauses holds the package that is taken out
 abbrev pub UntouchedStays : Type 0

@@ -13,3 +13,4 @@ pub mod Refusals
 pub mod Waiting
 pub mod TidyRows
 pub mod TakingOut
+pub mod Holding

@@ -1,12 +1,12 @@
 -- Flattening by substitution: when a package is taken out, each clause that names it is replaced by
 -- its unions with the package's own clauses. Vouillon and Di Cosmo, "On Software Component
 -- Co-Installability", the section on flattening.
-use Rattle.std.specs.Prelude.{ℕ, zero, suc, not, eqb, ltb, cond, List, [], ◌∷◌, ◌++◌, map, length, slice_index_or, Option, Some, None}
-use Rattle.std.specs.List.{filter}
-use Rattle.row_book.specs.Sets.{NumSet, has, without}
+use Rattle.std.specs.Prelude.{ℕ, zero, suc, Bool, not, ◌&&◌, eqb, ltb, cond, List, [], ◌∷◌, ◌++◌, map, length, slice_index_or, Option, Some, None}
+use Rattle.std.specs.List.{filter, list_any}
+use Rattle.row_book.specs.Sets.{has, plus, without}
 use Rattle.row_book.specs.Repository.{Repository, clauses_of}
 use Rattle.row_book.specs.Clauses.{apart_from, minimal_of, in_row_order, numbers}
-use Rattle.row_book.specs.Flattening.{packages, all_packages, may_go, soonest, Passed, passed_by, first_some}
+use Rattle.row_book.specs.Flattening.{packages, none_gone, may_go, soonest, Passed, passed_by, first_some, Remaining}
 
 abbrev pub inserted : ℕ → List ℕ → List ℕ
 inserted n [] = n ∷ []
@@ -47,9 +47,9 @@ table_without q t =
 
 -- A whole elimination with its table of rows.
 
--- a stage of it: the packages that are left, and the rows of all packages
+-- a stage of it: the packages that are left, those of them that are held, and the rows of all packages
 pub record Stage : Type 0 where
-  pub left : NumSet
+  pub remaining : Remaining
   pub table : List (List (List ℕ))
 
 -- how many clauses the row of the package in the table has
@@ -58,22 +58,39 @@ length_in t q = length (table_row t q)
 
 -- the next package to be taken out, as the table tells
 unfoldable pub choice_in : Repository → Stage → Option ℕ
-choice_in R s = soonest (length_in s.table) (may_go R s.left) (packages R)
+choice_in R s = soonest (length_in s.table) (may_go R s.remaining) (packages R)
 
-abbrev pub stage_less : Stage → Option ℕ → Stage
-stage_less s None = s
-stage_less s (Some q) = record { left = without s.left q; table = table_without q s.table }
+-- whether some row of the table has more clauses than the limit allows
+unfoldable pub table_passes : ℕ → List (List (List ℕ)) → Bool
+table_passes limit t = list_any (λ p. ltb limit (length_in t p)) (numbers (length t) 0)
+
+-- the stage where the package is taken out, and where it is held
+abbrev pub stage_without : Stage → ℕ → Stage
+stage_without s q = record {
+  remaining = record { left = without s.remaining.left q; held = s.remaining.held };
+  table = table_without q s.table;
+}
+
+abbrev pub stage_holding : Stage → ℕ → Stage
+stage_holding s q = record {
+  remaining = record { left = s.remaining.left; held = plus s.remaining.held q };
+  table = s.table;
+}
+
+abbrev pub next_stage : ℕ → Bool → Stage → Option ℕ → Stage
+next_stage limit hold s None = s
+next_stage limit hold s (Some q) = cond (hold && table_passes limit (table_without q s.table)) (stage_holding s q) (stage_without s q)
 
 -- before any step each row has the minimal clauses of the package that do not hold it
 unfoldable pub first_table : Repository → List (List (List ℕ))
 first_table R = map (λ p. in_row_order (minimal_of (apart_from p (clauses_of R p)))) (packages R)
 
-unfoldable pub stage_after : Repository → ℕ → Stage
-stage_after R zero = record { left = all_packages R; table = first_table R }
-stage_after R (suc i) = stage_less (stage_after R i) (choice_in R (stage_after R i))
+unfoldable pub stage_after : ℕ → Bool → Repository → ℕ → Stage
+stage_after limit hold R zero = record { remaining = none_gone R; table = first_table R }
+stage_after limit hold R (suc i) = next_stage limit hold (stage_after limit hold R i) (choice_in R (stage_after limit hold R i))
 
--- where a row of some stage has more clauses than the limit allows
-unfoldable pub passes_by_stages : Repository → ℕ → Option Passed
-passes_by_stages R limit =
-    first_some (map (λ i. passed_by (length_in (stage_after R i).table) (packages R) limit i)
-    (numbers (suc (length R.clauses)) 0))
+-- where a row of some stage has more clauses than the limit allows; with hold, of the first stage alone
+unfoldable pub passes_by_stages : ℕ → Bool → Repository → Option Passed
+passes_by_stages limit hold R =
+    first_some (map (λ i. passed_by (length_in (stage_after limit hold R i).table) (packages R) limit i)
+    (numbers (cond hold 1 (suc (length R.clauses))) 0))

@@ -1,21 +1,36 @@
 //! The laws of elimination and of the flattened repository.
 
-ghost use Rattle.clause_flatten.specs.FlatLaws.{CoreIsReached, CoreIsTheConflicted, FlatByStages, FlatKeeps, NextIsLeast, OneRow, PassesByStages, StagesRun, TableStep};
+ghost use Rattle.clause_flatten.specs.FlatLaws.{CoreIsReached, CoreStays, FlatByStages, FlatKeeps, HeldIsUsed, HoldStaysWithin, NextIsLeast, OneRow, PassesByStages, StagesRun, TableStep, WithoutHold};
 
 /// Each set is co-installable in the flattened repository exactly where it is in the repository.
 pub fn flat_keeps()
     ensures { FlatKeeps }
 {}
 
-/// The package that is taken out next is the one without conflicts whose row has the fewest clauses,
+/// The package that is taken out next is the one without conflicts, and not held, whose row has the fewest clauses,
 /// and of these the one of least number.
 pub fn next_is_least()
     ensures { NextIsLeast }
 {}
 
-/// The core has the packages with a conflict, and no others.
-pub fn core_is_the_conflicted()
-    ensures { CoreIsTheConflicted }
+/// The core has the packages with a conflict and those that are held, and no others.
+pub fn core_stays()
+    ensures { CoreStays }
+{}
+
+/// A held package has no conflict, and stands in some clause.
+pub fn held_is_used()
+    ensures { HeldIsUsed }
+{}
+
+/// With hold no step makes a row pass the limit.
+pub fn hold_stays_within()
+    ensures { HoldStaysWithin }
+{}
+
+/// Without hold no package is held, and the same packages are left at whatever limit.
+pub fn without_hold()
+    ensures { WithoutHold }
 {}
 
 /// The core is what is left where no package is taken out any more.
@@ -33,7 +48,7 @@ pub fn table_step()
     ensures { TableStep }
 {}
 
-/// An elimination that only looks at its table of rows takes out the same packages, and has the
+/// An elimination that only looks at its table of rows takes out and holds the same packages, and has the
 /// rows over those that are left, at each stage.
 pub fn stages_run()
     ensures { StagesRun }

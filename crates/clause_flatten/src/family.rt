@@ -205,7 +205,7 @@ fn put_unions(
 }
 
 /// The clauses that do not hold a number.
-fn clauses_without(
+pub(crate) fn clauses_without(
     alloc: Global,
     pool: &Pool,
     number: u32,
@@ -225,7 +225,7 @@ fn clauses_without(
 }
 
 /// Puts the unions of each clause that holds the spent package behind the others.
-fn add_unions(
+pub(crate) fn add_unions(
     alloc: Global,
     pool: &Pool,
     spent: u32,

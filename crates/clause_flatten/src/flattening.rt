@@ -1,8 +1,11 @@
 //! Flattening of a book.
-ghost use Rattle.std.specs.Prelude.{◌≡◌, ◌<◌, ◌≤◌, ℕ, ◌&&◌, ltb, None, Some, IfOk, IfErr, OnOk, length, map};
+ghost use Rattle.std.specs.Prelude.{◌≡◌, ◌<◌, ◌≤◌, ℕ, ◌&&◌, ltb, false, None, Some, IfOk, IfErr, OnOk, length, map, replicate, slice_set};
+ghost use Rattle.std.specs.List.{filter};
 ghost use Rattle.clause_pool.specs.Interned.{row_at, Kept};
 ghost use Rattle.row_book.specs.Book.{repository_of, AreConflicts, RowsFit, RowsTidy, Sound};
-ghost use Rattle.row_book.specs.Flattening.{flat, passes};
+ghost use Rattle.row_book.specs.Clauses.{numbers};
+ghost use Rattle.row_book.specs.Flags.{flag};
+ghost use Rattle.row_book.specs.Flattening.{flat, held_of, passes};
 ghost use Rattle.row_book.specs.Repository.{Repository};
 ghost use Rattle.row_book.specs.Uses.{uses_of};
 ghost use Rattle.clause_flatten.specs.Refusals.{OnLimit};
@@ -12,12 +15,12 @@ ghost use Rattle.clause_flatten.specs.TidyRows.{tidied_table};
 ghost use Rattle.clause_flatten.specs.Waiting.{Filed};
 
 use crate::error::FlatError;
-use crate::taking_out::{Elimination, clauses_in, least_over, take_out};
+use crate::taking_out::{Elimination, clauses_in, least_over, take_out_or_hold};
 use crate::tidy_rows::tidy_rows;
 use crate::waiting::Waiting;
 use clause_pool::{Pool, RowId};
 use listed::Listed;
-use row_book::{Book, UseTable};
+use row_book::{Book, NumList, UseTable};
 use std::alloc::{AllocError, Global};
 
 /// The packages without conflicts, each filed under the number of clauses of its row.
@@ -41,7 +44,15 @@ fn waiting_in(
     Ok(waiting)
 }
 
-/// Takes the packages that wait out of the rows, one after another, until none is left that waits.
+/// How many clauses a row may have, and whether a package is held whose elimination would make a row pass that.
+#[derive(Clone, Copy)]
+struct Rule {
+    limit: u32,
+    hold: bool,
+}
+
+/// Takes the packages that wait out of the rows, one after another, until none is left that waits, and answers which of
+/// them are held.
 fn take_all_out(
     alloc: Global,
     pool: &mut Pool,
@@ -49,8 +60,8 @@ fn take_all_out(
     uses: &mut UseTable,
     mut waiting: Waiting,
     book: &Book,
-    limit: u32,
-) -> Result<(), FlatError>
+    rule: Rule,
+) -> Result<Vec<bool>, FlatError>
     requires sound { Sound pool.old book.now }
     requires first { map (row_at pool.old) rows.old ≡ tidied_table (map (row_at pool.old) book.now.rows) }
     requires fit { RowsFit pool.old rows.old }
@@ -58,41 +69,95 @@ fn take_all_out(
     requires table { uses.old ≡ uses_of pool.old rows.old }
     requires waiting { Filed waiting (λ q. ltb q (length book.now.rows) && is_free book.now.conflicts q)
         (length_in (map (row_at pool.old) rows.old)) }
-    requires within { (p : ℕ) → p < length rows.old → length_in (map (row_at pool.old) rows.old) p ≤ limit }
+    requires within { (p : ℕ) → p < length rows.old → length_in (map (row_at pool.old) rows.old) p ≤ rule.limit }
     ensures flat { OnOk result (◌≡◌ {A = Repository} (record { clauses = map (row_at pool.new) rows.new; conflicts = book.now.conflicts })
-        (flat (repository_of pool.old book.now))) }
+        (flat rule.limit rule.hold (repository_of pool.old book.now))) }
+    ensures held { IfOk result (λ held. filter (flag held.items) (numbers (length held.items) 0)
+        ≡ held_of rule.limit rule.hold (repository_of pool.old book.now)) }
+    ensures few { IfOk result (λ held. length held.items ≡ length book.now.rows) }
     ensures fit { OnOk result (RowsFit pool.new rows.new) }
-    ensures within { OnOk result (passes (repository_of pool.old book.now) limit ≡ None) }
-    ensures passed { IfErr result (OnLimit (λ passed. passes (repository_of pool.old book.now) limit ≡ Some passed)) }
+    ensures within { OnOk result (passes rule.limit rule.hold (repository_of pool.old book.now) ≡ None) }
+    ensures passed { IfErr result (OnLimit (λ passed. passes rule.limit rule.hold (repository_of pool.old book.now) ≡ Some passed)) }
     ensures kept { Kept pool.old pool.new }
 {
     // What holds of every pool is told by this call alone.
     pool.clause_count();
-    for gone in 0..book.size() {
+    let mut held = none_held(alloc, book.size())?;
+    for turn in 0..book.size() {
         let Some(next) = waiting.take_first() else {
-            return Ok(());
+            return Ok(held);
         };
         let step = Elimination {
             package: next,
-            gone: gone + 1,
-            limit,
+            gone: turn + 1,
+            limit: rule.limit,
+            hold: rule.hold,
         };
-        take_out(alloc, pool, rows, uses, &mut waiting, step)?;
+        let stays = take_out_or_hold(alloc, pool, rows, uses, &mut waiting, step)?;
+        held = with_flag(held, next, stays);
     }
-    Ok(())
+    Ok(held)
 }
 
-/// The flattened book: the packages without conflicts are taken out one after another, that with the fewest clauses first.
+/// So many flags, none of them up.
+fn none_held(alloc: Global, size: u32) -> Result<Vec<bool>, AllocError>
+    ensures { IfOk result (λ flags. flags.items ≡ replicate size false) }
+{
+    vec![in alloc; false; size as usize]
+}
+
+/// The flags with that of a number as it is told.
+fn with_flag(flags: Vec<bool>, number: u32, is_up: bool) -> Vec<bool>
+    requires { number < length flags.items }
+    ensures { result.items ≡ slice_set flags.items number is_up }
+{
+    let mut flags = flags;
+    flags[number as usize] = is_up;
+    flags
+}
+
+/// The numbers of the flags that are up, ascending.
+fn flagged(alloc: Global, flags: &[bool]) -> Result<NumList, AllocError>
+    requires { length flags.now < 4294967296 }
+    ensures { IfOk result (λ set. set ≡ filter (flag flags.now) (numbers (length flags.now) 0)) }
+{
+    let mut set = NumList::new(alloc);
+    for number in 0..flags.len() as u32 {
+        if flags[number as usize] {
+            set.push(number)?;
+        }
+    }
+    Ok(set)
+}
+
+/// A flattened book, and the packages that were held.
+#[derive(Drop)]
+pub struct Flattened {
+    /// The flattened book.
+    pub book: Book,
+    /// The packages without conflicts that stay in it, ascending.
+    pub held: NumList,
+}
+
+/// The flattened book: the packages without conflicts are taken out one after another, that with the fewest clauses first;
+/// with hold a package stays whose elimination would make a row have more clauses than the limit allows.
 ///
-/// It is refused where a row has more clauses than the limit allows at some stage, with the first stage and its least
-/// package. What the pool held stays.
-pub fn flatten(alloc: Global, pool: &mut Pool, book: &Book, limit: u32) -> Result<Book, FlatError>
+/// It is refused where a row has more clauses than the limit allows at some stage, with hold before any step, with the
+/// first stage and its least package. What the pool held stays.
+pub fn flatten(
+    alloc: Global,
+    pool: &mut Pool,
+    book: &Book,
+    limit: u32,
+    hold: bool,
+) -> Result<Flattened, FlatError>
     requires sound { Sound pool.old book.now }
     requires limit { 0 < limit }
-    ensures flat { IfOk result (λ made. repository_of pool.new made ≡ flat (repository_of pool.old book.now)) }
-    ensures sound { IfOk result (Sound pool.new) }
-    ensures within { OnOk result (passes (repository_of pool.old book.now) limit ≡ None) }
-    ensures passed { IfErr result (OnLimit (λ passed. passes (repository_of pool.old book.now) limit ≡ Some passed)) }
+    ensures flat { IfOk result (λ made. repository_of pool.new made.book ≡ flat limit hold (repository_of pool.old book.now)) }
+    ensures held { IfOk result (λ made. made.held ≡ held_of limit hold (repository_of pool.old book.now)) }
+    ensures sound { IfOk result (λ made. Sound pool.new made.book) }
+    ensures within { OnOk result (passes limit hold (repository_of pool.old book.now) ≡ None) }
+    ensures passed { IfErr result (OnLimit (λ passed. passes limit hold (repository_of pool.old book.now) ≡ Some passed)) }
     ensures kept { Kept pool.old pool.new }
 {
     // What holds of every pool is told by this call alone.
@@ -107,15 +172,17 @@ pub fn flatten(alloc: Global, pool: &mut Pool, book: &Book, limit: u32) -> Resul
     }
     let mut uses = UseTable::of(alloc, pool, rows.as_slice())?;
     let waiting = waiting_in(alloc, pool, rows.as_slice(), book)?;
-    take_all_out(
+    let rule = Rule { limit, hold };
+    let flags = take_all_out(
         alloc,
         pool,
         rows.as_mut_slice(),
         &mut uses,
         waiting,
         book,
-        limit,
+        rule,
     )?;
+    let held = flagged(alloc, flags.as_slice())?;
     let made = book.with_rows(alloc, Listed::of(rows))?;
-    Ok(made)
+    Ok(Flattened { book: made, held })
 }

@@ -1,12 +1,14 @@
 //! Flattening: packages without conflicts are taken out one after another, and the clauses of each
-//! package are told in terms of those that are left. Every set of packages stays co-installable or
-//! not: the functions of `elimination` and `support` do nothing, the contract of each is one law.
+//! package are told in terms of those that are left. With hold a package stays where a row would pass the
+//! clause limit without it. Every set of packages stays co-installable or not: the functions of
+//! `elimination` and `support` do nothing, the contract of each is one law.
 #![tactic(auto)]
 
 mod elimination;
 pub mod error;
 mod family;
 mod flattening;
+mod holding;
 mod inclusion;
 mod placing;
 mod rewriting;
@@ -19,12 +21,12 @@ mod tidy_rows;
 mod waiting;
 
 pub use elimination::{
-    core_is_reached, core_is_the_conflicted, flat_by_stages, flat_keeps, next_is_least, one_row,
-    passes_by_stages, stages_run, table_step,
+    core_is_reached, core_stays, flat_by_stages, flat_keeps, held_is_used, hold_stays_within,
+    next_is_least, one_row, passes_by_stages, stages_run, table_step, without_hold,
 };
 pub use error::FlatError;
 pub use family::{intern_minimal, put_in_order};
-pub use flattening::flatten;
+pub use flattening::{Flattened, flatten};
 pub use scratch::Clause;
 pub use substitution::eliminate;
 pub use support::{

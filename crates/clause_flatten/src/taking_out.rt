@@ -1,5 +1,5 @@
 //! One step of flattening: a package is taken out.
-ghost use Rattle.std.specs.Prelude.{◌≡◌, ◌<◌, ◌≤◌, ℕ, Bool, Some, IfOk, IfErr, OnOk, length, map};
+ghost use Rattle.std.specs.Prelude.{◌≡◌, ◌<◌, ◌≤◌, ◌&&◌, ℕ, Bool, false, cond, Some, IfOk, IfErr, OnOk, length, map};
 ghost use Rattle.std.specs.List.{find};
 ghost use Rattle.clause_pool.specs.Interned.{row_at, Kept};
 ghost use Rattle.row_book.specs.Sets.{In};
@@ -7,12 +7,13 @@ ghost use Rattle.row_book.specs.Clauses.{numbers, Ascending};
 ghost use Rattle.row_book.specs.Book.{RowsFit, RowsTidy};
 ghost use Rattle.row_book.specs.Uses.{uses_of};
 ghost use Rattle.row_book.specs.Flattening.{passed_by};
-ghost use Rattle.clause_flatten.specs.Substitution.{table_without, length_in};
+ghost use Rattle.clause_flatten.specs.Substitution.{table_without, table_passes, length_in};
 ghost use Rattle.clause_flatten.specs.Refusals.{OnLimit};
 ghost use Rattle.clause_flatten.specs.Waiting.{Filed};
 ghost use Rattle.clause_flatten.specs.TakingOut.{counted_anew, is_over};
 
 use crate::error::FlatError;
+use crate::holding::would_pass;
 use crate::substitution::eliminate_for;
 use crate::waiting::Waiting;
 use clause_pool::{Pool, RowId};
@@ -114,6 +115,69 @@ pub(crate) struct Elimination {
     pub(crate) gone: u32,
     /// How many clauses a row may have.
     pub(crate) limit: u32,
+    /// Whether the package is held where a row would have more.
+    pub(crate) hold: bool,
+}
+
+/// Takes a package that waits no longer out of the rows, or holds it where a row would pass the limit, and answers
+/// whether it is held. Then the rows stay.
+pub(crate) fn take_out_or_hold(
+    alloc: Global,
+    pool: &mut Pool,
+    rows: &mut [RowId],
+    uses: &mut UseTable,
+    waiting: &mut Waiting,
+    step: Elimination,
+) -> Result<bool, FlatError>
+    requires few { length rows.old < 4294967295 }
+    requires fit { RowsFit pool.old rows.old }
+    requires tidy { RowsTidy pool.old rows.old }
+    requires table { uses.old ≡ uses_of pool.old rows.old }
+    requires there { step.«package» < length rows.old }
+    requires within { (p : ℕ) → p < length rows.old → length_in (map (row_at pool.old) rows.old) p ≤ step.limit }
+    ensures held { IfOk result (λ held. held ≡ (step.hold && table_passes step.limit (table_without step.«package» (map (row_at pool.old) rows.old)))) }
+    ensures rows { IfOk result (λ held. map (row_at pool.new) rows.new
+        ≡ cond held (map (row_at pool.old) rows.old) (table_without step.«package» (map (row_at pool.old) rows.old))) }
+    ensures fit { RowsFit pool.new rows.new }
+    ensures tidy { RowsTidy pool.new rows.new }
+    ensures table { uses.new ≡ uses_of pool.new rows.new }
+    ensures kept { Kept pool.old pool.new }
+    ensures within { IfOk result (λ held. held ≡ false → (p : ℕ) → p < length rows.old →
+        length_in (table_without step.«package» (map (row_at pool.old) rows.old)) p ≤ step.limit) }
+    ensures passed { IfErr result (OnLimit (λ passed. (step.hold ≡ false)
+        × (passed_by (length_in (table_without step.«package» (map (row_at pool.old) rows.old))) (numbers (length rows.old) 0) step.limit step.gone ≡ Some passed))) }
+    ensures filed { IfOk result (λ held. (may : ℕ → Bool) → Filed waiting.old may (length_in (map (row_at pool.old) rows.old)) →
+        Filed waiting.new may (length_in (cond held (map (row_at pool.old) rows.old) (table_without step.«package» (map (row_at pool.old) rows.old))))) }
+{
+    // What holds of every pool is told by this call alone.
+    pool.clause_count();
+    let stays = is_to_stay(alloc, pool, rows, uses, step)?;
+    if stays {
+        return Ok(true);
+    }
+    take_out(alloc, pool, rows, uses, waiting, step)?;
+    Ok(false)
+}
+
+/// Whether the package is held.
+fn is_to_stay(
+    alloc: Global,
+    pool: &Pool,
+    rows: &[RowId],
+    uses: &UseTable,
+    step: Elimination,
+) -> Result<bool, AllocError>
+    requires fit { RowsFit pool.now rows.now }
+    requires tidy { RowsTidy pool.now rows.now }
+    requires table { uses.now ≡ uses_of pool.now rows.now }
+    requires there { step.«package» < length rows.now }
+    requires within { (p : ℕ) → p < length rows.now → length_in (map (row_at pool.now) rows.now) p ≤ step.limit }
+    ensures { IfOk result (λ stays. stays ≡ (step.hold && table_passes step.limit (table_without step.«package» (map (row_at pool.now) rows.now)))) }
+{
+    if !step.hold {
+        return Ok(false);
+    }
+    would_pass(alloc, pool, rows, uses, step.package, step.limit)
 }
 
 /// Takes a package that waits no longer out of the rows, tests the rows of its users against the limit, and files those

@@ -99,6 +99,25 @@ fn fork(alloc: Global) -> Result<(Pool, Book), AllocError>
     Ok((pool, book))
 }
 
+/// Package 0 depends on 1 and on 4, and 1 on 2 and on 3; 2, 3 and 4 conflict with 5, 6 and 7.
+fn joint(alloc: Global) -> Result<(Pool, Book), AllocError>
+    ensures sound { IfOk result (λ made. Sound made.0 made.1) }
+    ensures size { IfOk result (λ made. length made.1.rows ≡ 8) }
+{
+    let mut pool = Pool::new(alloc)?;
+    let user = two_clauses(&mut pool, &[1], &[4])?;
+    let used = two_clauses(&mut pool, &[2], &[3])?;
+    let none = no_clauses(&mut pool)?;
+    let rows = [user, used, none, none, none, none, none, none];
+    let pairs = [
+        Pair { low: 2, high: 5 },
+        Pair { low: 3, high: 6 },
+        Pair { low: 4, high: 7 },
+    ];
+    let book = Book::build(alloc, &pool, &rows, &pairs)?;
+    Ok((pool, book))
+}
+
 /// The first rows of a book once a package is taken out of them, and the table of those that name each.
 fn rows_without(
     alloc: Global,
@@ -117,23 +136,24 @@ fn rows_without(
     Ok((rows, uses))
 }
 
-/// Why the fork is not flattened under a limit, if it is not.
-fn refusal(alloc: Global, limit: u32) -> Result<Option<FlatError>, AllocError>
+/// Why the fork is not flattened under a limit, with hold or not, if it is not.
+fn refusal(alloc: Global, limit: u32, hold: bool) -> Result<Option<FlatError>, AllocError>
     requires { 0 < limit }
 {
     let (mut pool, book) = fork(alloc)?;
-    Ok(flatten(alloc, &mut pool, &book, limit).err())
+    Ok(flatten(alloc, &mut pool, &book, limit, hold).err())
 }
 
 #[test]
 fn clauses_are_handed_on(rt: HostRuntime) -> Result<(), Fail> {
     let (mut pool, book) = chain(rt.alloc())?;
-    let flat = flatten(rt.alloc(), &mut pool, &book, 2)?;
+    let flat = flatten(rt.alloc(), &mut pool, &book, 2, false)?;
     let used = book.row(1);
     let none = book.row(2);
     let rows = [used, used, none, none, none, none, none];
-    assert_eq!(rt; flat.rows.as_slice(), rows.as_slice());
-    assert_eq!(rt; flat.against(5), [2, 3].as_slice());
+    assert_eq!(rt; flat.book.rows.as_slice(), rows.as_slice());
+    assert_eq!(rt; flat.book.against(5), [2, 3].as_slice());
+    assert!(rt; flat.held.as_slice().is_empty());
     Ok(())
 }
 
@@ -144,14 +164,45 @@ fn limit_is_passed_at_once_or_later(rt: HostRuntime) -> Result<(), Fail> {
         package: 0,
         count: 2,
     };
-    assert_eq!(rt; refusal(rt.alloc(), 1)?, Some(at_once));
+    assert_eq!(rt; refusal(rt.alloc(), 1, false)?, Some(at_once));
     let later = FlatError::Limit {
         gone: 3,
         package: 0,
         count: 3,
     };
-    assert_eq!(rt; refusal(rt.alloc(), 2)?, Some(later));
-    assert_eq!(rt; refusal(rt.alloc(), 3)?, None);
+    assert_eq!(rt; refusal(rt.alloc(), 2, false)?, Some(later));
+    assert_eq!(rt; refusal(rt.alloc(), 3, false)?, None);
+    Ok(())
+}
+
+#[test]
+fn limit_is_passed_at_once_alone_with_hold(rt: HostRuntime) -> Result<(), Fail> {
+    let at_once = FlatError::Limit {
+        gone: 0,
+        package: 0,
+        count: 2,
+    };
+    assert_eq!(rt; refusal(rt.alloc(), 1, true)?, Some(at_once));
+    assert_eq!(rt; refusal(rt.alloc(), 2, true)?, None);
+    Ok(())
+}
+
+#[test]
+fn a_package_is_held_where_a_row_would_pass(rt: HostRuntime) -> Result<(), Fail> {
+    let (mut pool, book) = joint(rt.alloc())?;
+    let flat = flatten(rt.alloc(), &mut pool, &book, 2, true)?;
+    let none = book.row(2);
+    let rows = [book.row(0), book.row(1), none, none, none, none, none, none];
+    assert_eq!(rt; flat.held.as_slice(), [1].as_slice());
+    assert_eq!(rt; flat.book.rows.as_slice(), rows.as_slice());
+    Ok(())
+}
+
+#[test]
+fn none_is_held_where_no_row_would_pass(rt: HostRuntime) -> Result<(), Fail> {
+    let (mut pool, book) = joint(rt.alloc())?;
+    let flat = flatten(rt.alloc(), &mut pool, &book, 3, true)?;
+    assert!(rt; flat.held.as_slice().is_empty());
     Ok(())
 }
 

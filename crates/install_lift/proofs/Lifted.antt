@@ -58,22 +58,22 @@ members_are F K = fun_ext (λ p. elim (cases_lt p (length F.clauses)) [
 ])
 
 -- the rows over the core
-flattened_by : (R : Repository) → SoundRepository R → FlattenedBy R (core_of R) (flat R)
-flattened_by R s = record {
-  size = flat_size R;
-  rows = λ p l. subst (λ z. IsRow R (core_of R) p z) (sym (flat_row R p l)) (row_is R (core_of R) p (kept_after R (between R s) (length R.clauses)).bound);
-  conflicts = flat_conflicts R;
+flattened_by : (limit : ℕ) (hold : Bool) → (R : Repository) → SoundRepository R → FlattenedBy R (core_of limit hold R) (flat limit hold R)
+flattened_by limit hold R s = record {
+  size = flat_size limit hold R;
+  rows = λ p l. subst (λ z. IsRow R (core_of limit hold R) p z) (sym (flat_row limit hold R p l)) (row_is R (core_of limit hold R) p (kept_after limit hold R (between R s) (length R.clauses)).bound);
+  conflicts = flat_conflicts limit hold R;
 }
 
 -- what is lifted through flattening, merging and pruning, from what is healthy after a round
-pub record LiftedRound (R : Repository) (I T : NumSet) : Type 0 where
+pub record LiftedRound (limit : ℕ) (hold : Bool) (R : Repository) (I T : NumSet) : Type 0 where
   pub healthy : Healthy R T
-  pub holds : (p : ℕ) → p < length R.clauses → Is I (class_of (flat R) p) → Is T p
+  pub holds : (p : ℕ) → p < length R.clauses → Is I (class_of (flat limit hold R) p) → Is T p
 
-lift_round : (R : Repository) (I T : NumSet) → SoundRepository R → Healthy (round R) I → IsLift (round_steps R) I T → LiftedRound R I T
+lift_round : (limit : ℕ) (hold : Bool) → (R : Repository) (I T : NumSet) → SoundRepository R → Healthy (round limit hold R) I → IsLift (round_steps limit hold R) I T → LiftedRound limit hold R I T
 unfolding round
-lift_round R I T s healthy h =
-    let F = flat R in
+lift_round limit hold R I T s healthy h =
+    let F = flat limit hold R in
     let Q = quotient F in
     let idle = idle_steps Q in
     let merged : NumSet = h.0 in
@@ -82,39 +82,39 @@ lift_round R I T s healthy h =
     let back : pruned ≡ lift_all I idle = idle_is idle I pruned h.1.1 in
     let classes : merged ≡ members F (lift_all I idle) = h.1.2 ∙ ap (members_by (class_list F)) back ∙ members_are F (lift_all I idle) in
     let in_prune : Healthy (prune Q) I = (thin_keeps_lem (prune Q) I).1 healthy in
-    let in_quotient : Healthy Q (lift_all I idle) = prune_lifts_lem Q I (merged_tidy R s) in_prune in
-    let in_flat : Healthy F merged = subst (λ K. Healthy F K) (sym classes) (merge_lifts_lem F (lift_all I idle) (flat_sound R s) in_quotient) in
-    let core = kept_after R (between R s) (length R.clauses) in
+    let in_quotient : Healthy Q (lift_all I idle) = prune_lifts_lem Q I (merged_tidy limit hold R s) in_prune in
+    let in_flat : Healthy F merged = subst (λ K. Healthy F K) (sym classes) (merge_lifts_lem F (lift_all I idle) (flat_sound limit hold R s) in_quotient) in
+    let core = kept_after limit hold R (between R s) (length R.clauses) in
     record {
-      healthy = subst (λ K. Healthy R K) (sym served.2) (lift_is_healthy_lem R (core_of R) F core.bound core.holds (flattened_by R s) merged served.0 in_flat served.1);
+      healthy = subst (λ K. Healthy R K) (sym served.2) (lift_is_healthy_lem R (core_of limit hold R) F core.bound core.holds (flattened_by limit hold R s) merged served.0 in_flat served.1);
       holds = λ p lt i.
-          let plt : p < length F.clauses = rw flat_size lt in
+          let plt : p < length F.clauses = rw (flat_size limit hold) lt in
           let in_merged : Is merged p = subst (λ K. Is K p) (sym classes) (and_from (ltb p (length F.clauses)) (lift_all I idle (class_of F p)) (lt-ltb p (length F.clauses) plt) (idle_holds I idle (class_of F p) i)) in
           subst (λ K. Is K p) (sym served.2) (or_left (merged p) (served.0 p) in_merged);
     }
 
 -- the class of a package is one of the classes after a round
-class_within : (R : Repository) (p : ℕ) → SoundRepository R → p < length R.clauses → class_of (flat R) p < length (round R).clauses
+class_within : (limit : ℕ) (hold : Bool) → (R : Repository) (p : ℕ) → SoundRepository R → p < length R.clauses → class_of (flat limit hold R) p < length (round limit hold R).clauses
 unfolding round
-class_within R p s lt =
-    let plt : p < length (flat R).clauses = rw flat_size lt in
-    rw (round_size (λ K. thin (prune K)) thin_tail R s) ((has_class_lem (flat R) p plt).within)
+class_within limit hold R p s lt =
+    let plt : p < length (flat limit hold R).clauses = rw (flat_size limit hold) lt in
+    rw (round_size limit hold (λ K. thin (prune K)) thin_tail R s) ((has_class_lem (flat limit hold R) p plt).within)
 
 -- one round after another
-lift_rounds : (n : ℕ) (R : Repository) (I T : NumSet) → SoundRepository R → Healthy (rounds R n) I → IsLift (steps_after R n) I T
-    → Healthy R T × ((p : ℕ) → p < length R.clauses → Is I (class_after R n p) → Is T p)
-lift_rounds zero R I T s healthy h = (subst (λ K. Healthy R K) (sym h) healthy, λ p lt i. subst (λ K. Is K p) (sym h) i)
-lift_rounds (suc n) R I T s healthy h =
-    let parts = lift_parts (round_steps R) (steps_after (round R) n) I T h in
-    let later = lift_rounds n (round R) I parts.0 (rounds_sound R s 1) healthy parts.1 in
-    let first = lift_round R parts.0 T s later.0 parts.2 in (
+lift_rounds : (limit : ℕ) (hold : Bool) → (n : ℕ) (R : Repository) (I T : NumSet) → SoundRepository R → Healthy (rounds limit hold R n) I → IsLift (steps_after limit hold R n) I T
+    → Healthy R T × ((p : ℕ) → p < length R.clauses → Is I (class_after limit hold R n p) → Is T p)
+lift_rounds limit hold zero R I T s healthy h = (subst (λ K. Healthy R K) (sym h) healthy, λ p lt i. subst (λ K. Is K p) (sym h) i)
+lift_rounds limit hold (suc n) R I T s healthy h =
+    let parts = lift_parts (round_steps limit hold R) (steps_after limit hold (round limit hold R) n) I T h in
+    let later = lift_rounds limit hold n (round limit hold R) I parts.0 (rounds_sound limit hold R s 1) healthy parts.1 in
+    let first = lift_round limit hold R parts.0 T s later.0 parts.2 in (
       first.healthy,
-      (λ p lt i. first.holds p lt (later.1 (class_of (flat R) p) (class_within R p s lt) i)),
+      (λ p lt i. first.holds p lt (later.1 (class_of (flat limit hold R) p) (class_within limit hold R p s lt) i)),
     )
 
 -- all rounds of the kernel
 pub lift_is_healthy : LiftIsHealthy
-lift_is_healthy R I T s healthy h = lift_rounds (round_count R) R I T s healthy h
+lift_is_healthy limit hold R I T s healthy h = lift_rounds limit hold (round_count limit hold R) R I T s healthy h
 
 -- the greatest set that is served is one
 pub lifts_one : (R : Repository) (I J K : NumSet) → Lifts R I J → Lifts R I K → J ≡ K

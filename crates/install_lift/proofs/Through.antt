@@ -12,11 +12,12 @@ use Rattle.row_book.specs.Sets.{NumSet, plus, union}
 use Rattle.row_book.specs.Repository.{Repository, Healthy}
 use Rattle.row_book.specs.Flags.{flag}
 use Rattle.row_book.specs.Pruning.{lift_idle}
-use Rattle.row_book.specs.Rounds.{kernel, kernel_steps}
+use Rattle.row_book.specs.Rounds.{RoundStep}
+use Rattle.row_book.specs.Sound.{SoundRepository}
 use Rattle.row_book.specs.Book.{repository_of, Sound}
 use Rattle.row_book.specs.declared.book.Book.{Book}
 use Rattle.row_book.proofs.BookRepositories.{book_size, sound_repository}
-use Rattle.install_lift.specs.Laws.{HoldsMembers}
+use Rattle.install_lift.specs.Laws.{HoldsMembers, IsKernelBy}
 use Rattle.install_lift.proofs.Lifted.{lift_is_healthy}
 use Rattle.row_book.specs.Trail.{step_meaning, trail_meaning}
 use Rattle.row_book.specs.declared.trail.Step.{Step}
@@ -80,21 +81,28 @@ front_is R flags made size count healthy long each = fun_ext (λ n. elim (cases_
 ])
 
 -- what is promised of the flags that are handed out
-pub record IsLifted (R : Repository) (classes : NumSet) (made : List Bool) : Type 0 where
-  pub lift : IsLift (kernel_steps R) classes (flag made)
+pub record IsLifted (R K : Repository) (trail : List RoundStep) (classes : NumSet) (made : List Bool) : Type 0 where
+  pub lift : IsLift trail classes (flag made)
   pub healthy : Healthy R (flag made)
-  pub holds : HoldsMembers R classes (flag made)
+  pub holds : (by : IsKernelBy R K trail) → HoldsMembers by.limit by.hold R classes (flag made)
 
-pub lifted_flags : (pool : Interned) (from to : Book) (steps : List Step) (classes : NumSet) (flags made : List Bool) (size : ℕ) → IsPool pool → Sound pool from → repository_of pool to ≡ kernel (repository_of pool from)
-    → trail_meaning pool steps ≡ kernel_steps (repository_of pool from) → Healthy (repository_of pool to) classes → IsLift (trail_meaning pool steps) classes (flag flags)
-    → size ≡ length from.rows → length made ≡ size → ((n : ℕ) → n < size → flag made n ≡ flag flags n) → IsLifted (repository_of pool from) classes made
-lifted_flags pool from to steps classes flags made size is sound kernel_is trail healthy lifts count long each =
+lifted_by : (R K : Repository) (trail : List RoundStep) (classes lifted : NumSet) → SoundRepository R → Healthy K classes → IsLift trail classes lifted → (by : IsKernelBy R K trail) →
+    Healthy R lifted × HoldsMembers by.limit by.hold R classes lifted
+lifted_by R K trail classes lifted sound healthy lifts by =
+    lift_is_healthy by.limit by.hold R classes lifted sound (subst (λ K. Healthy K classes) by.is healthy) (subst (λ steps. IsLift steps classes lifted) by.steps lifts)
+
+pub lifted_flags : (pool : Interned) (from to : Book) (steps : List Step) (classes : NumSet) (flags made : List Bool) (size : ℕ) → IsPool pool → Sound pool from
+    → IsKernelBy (repository_of pool from) (repository_of pool to) (trail_meaning pool steps) → Healthy (repository_of pool to) classes → IsLift (trail_meaning pool steps) classes (flag flags)
+    → size ≡ length from.rows → length made ≡ size → ((n : ℕ) → n < size → flag made n ≡ flag flags n) → IsLifted (repository_of pool from) (repository_of pool to) (trail_meaning pool steps) classes made
+lifted_flags pool from to steps classes flags made size is sound by healthy lifts count long each =
     let R = repository_of pool from in
-    let through : IsLift (kernel_steps R) classes (flag flags) = subst (λ x. IsLift x classes (flag flags)) trail lifts in
-    let both = lift_is_healthy R classes (flag flags) (sound_repository pool from is sound) (subst (λ K. Healthy K classes) kernel_is healthy) through in
-    let same : flag made ≡ flag flags = front_is R flags made size (book_size pool from ∙ sym count) both.0 long each in
+    let K = repository_of pool to in
+    let trail = trail_meaning pool steps in
+    let of_kernel : (by : IsKernelBy R K trail) → Healthy R (flag flags) × HoldsMembers by.limit by.hold R classes (flag flags) =
+    lifted_by R K trail classes (flag flags) (sound_repository pool from is sound) healthy lifts in
+    let same : flag made ≡ flag flags = front_is R flags made size (book_size pool from ∙ sym count) (of_kernel by).0 long each in
     record {
-      lift = subst (λ T. IsLift (kernel_steps R) classes T) (sym same) through;
-      healthy = subst (λ T. Healthy R T) (sym same) both.0;
-      holds = subst (λ T. HoldsMembers R classes T) (sym same) both.1;
+      lift = subst (λ T. IsLift trail classes T) (sym same) lifts;
+      healthy = subst (λ T. Healthy R T) (sym same) (of_kernel by).0;
+      holds = λ other. subst (λ T. HoldsMembers other.limit other.hold R classes T) (sym same) (of_kernel other).1;
     }

@@ -5,10 +5,9 @@ ghost use Rattle.row_book.specs.Repository.{Healthy};
 ghost use Rattle.row_book.specs.Book.{repository_of, Sound};
 ghost use Rattle.row_book.specs.Flags.{flag};
 ghost use Rattle.row_book.specs.Pruning.{lift_idle};
-ghost use Rattle.row_book.specs.Rounds.{kernel, kernel_steps};
 ghost use Rattle.row_book.specs.Trail.{step_meaning, trail_meaning, SoundStep, SoundSteps};
 ghost use Rattle.install_lift.specs.Lifting.{lift_of, members_by, IsLift, IsLiftThrough};
-ghost use Rattle.install_lift.specs.Laws.{HoldsMembers};
+ghost use Rattle.install_lift.specs.Laws.{HoldsMembers, IsKernelBy};
 
 use crate::raising::{greatest_support, is_up};
 use crate::trimming::hits_one;
@@ -160,8 +159,8 @@ fn take_all_back(
     Ok(set)
 }
 
-/// A healthy set of the kernel of a book, taken back through the steps of the kernel: a healthy set of the book, which holds
-/// each package of each given class. It fails only where no memory is found.
+/// A healthy set of the kernel of a book, at whatever limit and hold, taken back through the steps of the kernel: a healthy set
+/// of the book, which holds each package of each given class. It fails only where no memory is found.
 pub fn lift(
     alloc: Global,
     pool: &Pool,
@@ -173,13 +172,13 @@ pub fn lift(
     requires from { Sound pool.now from.now }
     requires to { Sound pool.now to.now }
     requires steps { SoundSteps pool.now trail.now.steps }
-    requires kernel { repository_of pool.now to.now ≡ kernel (repository_of pool.now from.now) }
-    requires trail { trail_meaning pool.now trail.now.steps ≡ kernel_steps (repository_of pool.now from.now) }
+    requires kernel { IsKernelBy (repository_of pool.now from.now) (repository_of pool.now to.now) (trail_meaning pool.now trail.now.steps) }
     requires healthy { Healthy (repository_of pool.now to.now) (flag classes.now) }
-    ensures lift { IfOk result (λ set. IsLift (kernel_steps (repository_of pool.now from.now)) (flag classes.now) (flag set)) }
-    ensures is { IfOk result (λ set. flag set ≡ lift_of (kernel_steps (repository_of pool.now from.now)) (flag classes.now)) }
+    ensures lift { IfOk result (λ set. IsLift (trail_meaning pool.now trail.now.steps) (flag classes.now) (flag set)) }
+    ensures is { IfOk result (λ set. flag set ≡ lift_of (trail_meaning pool.now trail.now.steps) (flag classes.now)) }
     ensures healthy { IfOk result (λ set. Healthy (repository_of pool.now from.now) (flag set)) }
-    ensures holds { IfOk result (λ set. HoldsMembers (repository_of pool.now from.now) (flag classes.now) (flag set)) }
+    ensures holds { (by : IsKernelBy (repository_of pool.now from.now) (repository_of pool.now to.now) (trail_meaning pool.now trail.now.steps)) →
+        IfOk result (λ set. HoldsMembers by.limit by.hold (repository_of pool.now from.now) (flag classes.now) (flag set)) }
     ensures long { IfOk result (λ set. length set ≡ length from.now.rows) }
 {
     // What holds of every pool is told by this call alone.

@@ -1,11 +1,11 @@
 -- A kernel is its own kernel, and passes no limit that was not passed on the way to it.
-use Rattle.std.proofs.Common.{◌≡◌, ℕ, suc, ◌≤◌, List, [], ◌∷◌, inl, inr, refl, sym, ◌∙◌, ap, subst, arith, map, zero-le, Option, Some, None, ◌↔◌}
+use Rattle.std.proofs.Common.{◌≡◌, ℕ, Bool, suc, ◌≤◌, List, [], ◌∷◌, inl, inr, refl, sym, ◌∙◌, ap, subst, arith, map, zero-le, Option, Some, None, ◌↔◌}
 use Rattle.std.specs.Option.{option_map}
 use Rattle.row_book.specs.Sets.{In}
 use Rattle.row_book.specs.Repository.{Repository, Coinst}
 use Rattle.row_book.specs.Keeping.{KeepsImages}
 use Rattle.row_book.specs.Sound.{SoundRepository}
-use Rattle.row_book.specs.Flattening.{first_some, passes}
+use Rattle.row_book.specs.Flattening.{first_some, held_of, passes}
 use Rattle.row_book.specs.Rounds.{in_round, kernel, kernel_image, Settled, class_after, limit_at, passed_in_round, round, rounds, round_count, steps_after}
 use Rattle.row_book.proofs.Lists.{In_cases, In_none}
 use Rattle.row_book.proofs.Order.{numbers_from}
@@ -28,40 +28,41 @@ map_none : {A B : Type 0} (f : A → B) (o : Option A) → option_map f o ≡ No
 map_none f None h = refl
 map_none f (Some x) h = absurd (let never : ⊥ = cc in never)
 
-module _ (R : Repository) (s : SoundRepository R) where
-  fixed : round (kernel R) ≡ kernel R
-  fixed = (kernel_is_lem R s).fixed
+module _ (limit : ℕ) (hold : Bool) (R : Repository) (s : SoundRepository R) where
+  fixed : round limit hold (kernel limit hold R) ≡ kernel limit hold R
+  fixed = (kernel_is_lem limit hold R s).fixed
 
-  sound : SoundRepository (kernel R)
-  sound = (kernel_is_lem R s).sound
+  sound : SoundRepository (kernel limit hold R)
+  sound = (kernel_is_lem limit hold R s).sound
 
-  none : round_count (kernel R) ≡ 0
-  none = let l : round_count (kernel R) ≤ 0 = (kernel_is_lem (kernel R) sound).first 0 fixed in omega (arith, l)
+  none : round_count limit hold (kernel limit hold R) ≡ 0
+  none = let l : round_count limit hold (kernel limit hold R) ≤ 0 = (kernel_is_lem limit hold (kernel limit hold R) sound).first 0 fixed in omega (arith, l)
 
   -- the last round that the limit is asked of is the one over the kernel
-  within : (limit : ℕ) → limit_at R limit ≡ None → limit_at (kernel R) limit ≡ None
+  within : limit_at limit hold R ≡ None → limit_at limit hold (kernel limit hold R) ≡ None
   unfolding limit_at
-  within limit h =
-      none_passed (kernel R) sound limit 0 (sym none) (λ j l. absurd (omega arith))
-      (map_none (in_round R (round_count R)) (passes (kernel R) limit)
-      (each_none (passed_in_round R limit) (numbers (suc (round_count R)) 0) h (round_count R) (numbers_from (suc (round_count R)) 0 (round_count R) zero-le (omega arith))))
+  within h =
+      none_passed limit hold (kernel limit hold R) sound 0 (sym none) (λ j l. absurd (omega arith))
+      (map_none (in_round limit hold R (round_count limit hold R)) (passes limit hold (kernel limit hold R))
+      (each_none (passed_in_round limit hold R) (numbers (suc (round_count limit hold R)) 0) h (round_count limit hold R) (numbers_from (suc (round_count limit hold R)) 0 (round_count limit hold R) zero-le (omega arith))))
 
 pub kernel_of_kernel_lem : KernelOfKernel
-kernel_of_kernel_lem R s = record {
-  same = ap (λ n. rounds (kernel R) n) (none R s);
-  classes = λ p. ap (λ n. class_after (kernel R) n p) (none R s);
-  steps = ap (λ n. steps_after (kernel R) n) (none R s);
-  within = within R s;
+kernel_of_kernel_lem limit hold R s = record {
+  same = ap (λ n. rounds limit hold (kernel limit hold R) n) (none limit hold R s);
+  held = ap (λ n. held_of limit hold (rounds limit hold (kernel limit hold R) n)) (none limit hold R s);
+  classes = λ p. ap (λ n. class_after limit hold (kernel limit hold R) n p) (none limit hold R s);
+  steps = ap (λ n. steps_after limit hold (kernel limit hold R) n) (none limit hold R s);
+  within = within limit hold R s;
 }
 
 -- what holds of a repository that is the kernel
-pub extracted_keeps : (R F : Repository) → SoundRepository R → F ≡ kernel R → KeepsImages R F (kernel_image R)
-extracted_keeps R F s e S small = subst (λ K. Coinst R S ↔ Coinst K (kernel_image R S)) (sym e) (kernel_keeps_lem R s S small)
+pub extracted_keeps : (limit : ℕ) (hold : Bool) → (R F : Repository) → SoundRepository R → F ≡ kernel limit hold R → KeepsImages R F (kernel_image limit hold R)
+extracted_keeps limit hold R F s e S small = subst (λ K. Coinst R S ↔ Coinst K (kernel_image limit hold R S)) (sym e) (kernel_keeps_lem limit hold R s S small)
 
-pub extracted_settled : (R F : Repository) → SoundRepository R → F ≡ kernel R → Settled F
-extracted_settled R F s e = subst Settled (sym e) (kernel_is_lem R s).settled
+pub extracted_settled : (limit : ℕ) (hold : Bool) → (R F : Repository) → SoundRepository R → F ≡ kernel limit hold R → Settled limit hold F
+extracted_settled limit hold R F s e = subst (Settled limit hold) (sym e) (kernel_is_lem limit hold R s).settled
 
-pub extracted_own : (R F : Repository) (limit : ℕ) → SoundRepository R → F ≡ kernel R → limit_at R limit ≡ None → IsOwnKernel F limit
-extracted_own R F limit s e h =
-    let own : OwnKernel R = kernel_of_kernel_lem R s in
-    subst (λ K. IsOwnKernel K limit) (sym e) (record { same = own.same; classes = own.classes; steps = own.steps; within = own.within limit h })
+pub extracted_own : (limit : ℕ) (hold : Bool) → (R F : Repository) → SoundRepository R → F ≡ kernel limit hold R → limit_at limit hold R ≡ None → IsOwnKernel F limit hold
+extracted_own limit hold R F s e h =
+    let own : OwnKernel limit hold R = kernel_of_kernel_lem limit hold R s in
+    subst (λ K. IsOwnKernel K limit hold) (sym e) (record { same = own.same; held = own.held; classes = own.classes; steps = own.steps; within = own.within h })

@@ -6,7 +6,7 @@ use Rattle.std.specs.List.{find}
 use Rattle.std.specs.Option.{option_map}
 use Rattle.std.proofs.lemmas.List.{length-map}
 use Rattle.row_book.specs.Clauses.{numbers}
-use Rattle.row_book.specs.Flattening.{Passed, first_some, flat, left_after, packages, passed_at, passes, row_length}
+use Rattle.row_book.specs.Flattening.{Passed, first_some, flat, packages, passed_at, passes, remaining_after, row_length}
 use Rattle.row_book.specs.Merging.{class_of, first_of, firsts, is_first, place_of}
 use Rattle.row_book.specs.Pruning.{prune}
 use Rattle.row_book.specs.Repository.{Repository}
@@ -23,38 +23,38 @@ use Rattle.kernel_rounds.proofs.Tails.{round_size, round_sound, thin_tail}
 use Rattle.kernel_rounds.proofs.Thins.{filter_short}
 
 -- a round has a package for each class of the flattened repository, and stays sound
-sized : (R : Repository) → SoundRepository R → length (round R).clauses ≡ length (firsts (flat R))
+sized : (limit : ℕ) (hold : Bool) → (R : Repository) → SoundRepository R → length (round limit hold R).clauses ≡ length (firsts (flat limit hold R))
 unfolding round
-sized R s = round_size (λ R. thin (prune R)) thin_tail R s
+sized limit hold R s = round_size limit hold (λ R. thin (prune R)) thin_tail R s
 
-stays_sound : (R : Repository) → SoundRepository R → SoundRepository (round R)
+stays_sound : (limit : ℕ) (hold : Bool) → (R : Repository) → SoundRepository R → SoundRepository (round limit hold R)
 unfolding round
-stays_sound R s = round_sound (λ R. thin (prune R)) thin_tail R s
+stays_sound limit hold R s = round_sound limit hold (λ R. thin (prune R)) thin_tail R s
 
 -- each package is of a class
-pub class_within : (n : ℕ) (R : Repository) → SoundRepository R → (p : ℕ) → p < length R.clauses → class_after R n p < length (rounds R n).clauses
-class_within zero R s p l = l
-class_within (suc n) R s p l =
-    let own : p < length (flat R).clauses = subst (λ k. p < k) (sym (flat_size R)) l in
-    class_within n (round R) (stays_sound R s) (class_of (flat R) p) (subst (λ k. class_of (flat R) p < k) (sym (sized R s)) (has_class_lem (flat R) p own).within)
+pub class_within : (limit : ℕ) (hold : Bool) → (n : ℕ) (R : Repository) → SoundRepository R → (p : ℕ) → p < length R.clauses → class_after limit hold R n p < length (rounds limit hold R n).clauses
+class_within limit hold zero R s p l = l
+class_within limit hold (suc n) R s p l =
+    let own : p < length (flat limit hold R).clauses = subst (λ k. p < k) (sym (flat_size limit hold R)) l in
+    class_within limit hold n (round limit hold R) (stays_sound limit hold R s) (class_of (flat limit hold R) p) (subst (λ k. class_of (flat limit hold R) p < k) (sym (sized limit hold R s)) (has_class_lem (flat limit hold R) p own).within)
 
 -- a package of a class
-pub record HasPackage (R : Repository) (n k : ℕ) : Type 0 where
+pub record HasPackage (limit : ℕ) (hold : Bool) (R : Repository) (n k : ℕ) : Type 0 where
   pub by : ℕ
   pub within : by < length R.clauses
-  pub class : class_after R n by ≡ k
+  pub class : class_after limit hold R n by ≡ k
 
 -- each class has one: the least package of the class that it was before
-pub class_met : (n : ℕ) (R : Repository) → SoundRepository R → (k : ℕ) → k < length (rounds R n).clauses → HasPackage R n k
-class_met zero R s k l = record { by = k; within = l; class = refl }
-class_met (suc n) R s k l =
-    let w : HasPackage (round R) n k = class_met n (round R) (stays_sound R s) k l in
-    let named : w.by < length (firsts (flat R)) = subst (λ k. w.by < k) (sized R s) w.within in
-    let least : first_of (flat R) w.by < length (flat R).clauses = first_within (flat R) w.by named in
+pub class_met : (limit : ℕ) (hold : Bool) → (n : ℕ) (R : Repository) → SoundRepository R → (k : ℕ) → k < length (rounds limit hold R n).clauses → HasPackage limit hold R n k
+class_met limit hold zero R s k l = record { by = k; within = l; class = refl }
+class_met limit hold (suc n) R s k l =
+    let w : HasPackage limit hold (round limit hold R) n k = class_met limit hold n (round limit hold R) (stays_sound limit hold R s) k l in
+    let named : w.by < length (firsts (flat limit hold R)) = subst (λ k. w.by < k) (sized limit hold R s) w.within in
+    let least : first_of (flat limit hold R) w.by < length (flat limit hold R).clauses = first_within (flat limit hold R) w.by named in
     record {
-      by = first_of (flat R) w.by;
-      within = subst (λ k. first_of (flat R) w.by < k) (flat_size R) least;
-      class = ap (class_after (round R) n) (sym (class_unique (flat R) (first_of (flat R) w.by) w.by least named (alike_self (flat R) (first_of (flat R) w.by)))) ∙ w.class;
+      by = first_of (flat limit hold R) w.by;
+      within = subst (λ k. first_of (flat limit hold R) w.by < k) (flat_size limit hold R) least;
+      class = ap (class_after limit hold (round limit hold R) n) (sym (class_unique (flat limit hold R) (first_of (flat limit hold R) w.by) w.by least named (alike_self (flat limit hold R) (first_of (flat limit hold R) w.by)))) ∙ w.class;
     }
 
 firsts_few : (R : Repository) → length (firsts R) ≤ length R.clauses
@@ -65,12 +65,12 @@ firsts_few R =
     omega arith
 
 -- there are no more classes than packages
-pub classes_few : (n : ℕ) (R : Repository) → SoundRepository R → length (rounds R n).clauses ≤ length R.clauses
-classes_few zero R s = omega arith
-classes_few (suc n) R s =
-    let later : length (rounds (round R) n).clauses ≤ length (round R).clauses = classes_few n (round R) (stays_sound R s) in
-    let few : length (firsts (flat R)) ≤ length (flat R).clauses = firsts_few (flat R) in
-    omega (arith, sized R s, flat_size R)
+pub classes_few : (limit : ℕ) (hold : Bool) → (n : ℕ) (R : Repository) → SoundRepository R → length (rounds limit hold R n).clauses ≤ length R.clauses
+classes_few limit hold zero R s = omega arith
+classes_few limit hold (suc n) R s =
+    let later : length (rounds limit hold (round limit hold R) n).clauses ≤ length (round limit hold R).clauses = classes_few limit hold n (round limit hold R) (stays_sound limit hold R s) in
+    let few : length (firsts (flat limit hold R)) ≤ length (flat limit hold R).clauses = firsts_few (flat limit hold R) in
+    omega (arith, sized limit hold R s, flat_size limit hold R)
 
 -- the first of some options is one of them
 first_in : {A : Type 0} (xs : List (Option A)) (x : A) → first_some xs ≡ Some x → In (Some x) xs
@@ -88,12 +88,13 @@ passed_row R count limit i p (Some q) is e =
     let low : (0 ≤ q) × (q < 0 + length R.clauses) = numbers_parts (length R.clauses) 0 q inside in
     omega arith
 
-passed_inside : (R : Repository) (limit : ℕ) (p : Passed) → passes R limit ≡ Some p → p.«package» < length R.clauses
+passed_inside : (limit : ℕ) (hold : Bool) (R : Repository) (p : Passed) → passes limit hold R ≡ Some p → p.«package» < length R.clauses
 unfolding passes
-passed_inside R limit p e =
-    let stage : (i : ℕ) × In i (numbers (suc (length R.clauses)) 0) × (Some p ≡ passed_at R limit i) =
-    In_map_cases (passed_at R limit) (numbers (suc (length R.clauses)) 0) (Some p) (first_in (map (passed_at R limit) (numbers (suc (length R.clauses)) 0)) p e) in
-    passed_row R (row_length R (left_after R stage.0)) limit stage.0 p (find (λ q. ltb limit (row_length R (left_after R stage.0) q)) (packages R)) refl (sym stage.2)
+passed_inside limit hold R p e =
+    let stages : List ℕ = numbers (cond hold 1 (suc (length R.clauses))) 0 in
+    let stage : (i : ℕ) × In i stages × (Some p ≡ passed_at limit hold R i) =
+    In_map_cases (passed_at limit hold R) stages (Some p) (first_in (map (passed_at limit hold R) stages) p e) in
+    passed_row R (row_length R (remaining_after limit hold R stage.0).left) limit stage.0 p (find (λ q. ltb limit (row_length R (remaining_after limit hold R stage.0).left q)) (packages R)) refl (sym stage.2)
 
 place_inside : (test : ℕ → Bool) (xs : List ℕ) (x : ℕ) → In x xs → test x ≡ true → place_of test xs < length xs
 place_inside test [] x i h = absurd (In_none i)
@@ -107,24 +108,24 @@ place_inside test (y ∷ ys) x i h = by_test (test y) refl (λ j. place_inside t
         omega arith
 
 -- the least package of a class is one of the packages
-least_inside : (R : Repository) → SoundRepository R → (n k : ℕ) → k < length (rounds R n).clauses → least_member R n k < length R.clauses
-least_inside R s n k l =
-    let w : HasPackage R n k = class_met n R s k l in
-    let found : least_member R n k < length (packages R) =
-    place_inside (λ p. eqb (class_after R n p) k) (packages R) w.by (numbers_from (length R.clauses) 0 w.by (omega arith) (let m : w.by < length R.clauses = w.within in omega arith)) (eq-eqb (class_after R n w.by) k w.class) in
+least_inside : (limit : ℕ) (hold : Bool) → (R : Repository) → SoundRepository R → (n k : ℕ) → k < length (rounds limit hold R n).clauses → least_member limit hold R n k < length R.clauses
+least_inside limit hold R s n k l =
+    let w : HasPackage limit hold R n k = class_met limit hold n R s k l in
+    let found : least_member limit hold R n k < length (packages R) =
+    place_inside (λ p. eqb (class_after limit hold R n p) k) (packages R) w.by (numbers_from (length R.clauses) 0 w.by (omega arith) (let m : w.by < length R.clauses = w.within in omega arith)) (eq-eqb (class_after limit hold R n w.by) k w.class) in
     let same : length (packages R) ≡ length R.clauses = sym (length-map (packages R) (λ p. p)) ∙ length_numbers (λ p. p) (length R.clauses) 0 in
     omega arith
 
 -- the package that is named where a round passes the limit is one of the repository's
-pub limit_inside : (R : Repository) → SoundRepository R → (limit : ℕ) (w : PassedRound) → limit_at R limit ≡ Some w → w.«package» < length R.clauses
+pub limit_inside : (limit : ℕ) (hold : Bool) (R : Repository) → SoundRepository R → (w : PassedRound) → limit_at limit hold R ≡ Some w → w.«package» < length R.clauses
 unfolding limit_at
-limit_inside R s limit w e =
-    let stage : (i : ℕ) × In i (numbers (suc (round_count R)) 0) × (Some w ≡ passed_in_round R limit i) =
-    In_map_cases (passed_in_round R limit) (numbers (suc (round_count R)) 0) (Some w) (first_in (map (passed_in_round R limit) (numbers (suc (round_count R)) 0)) w e) in
-    by_round stage.0 (passes (rounds R stage.0) limit) refl (sym stage.2)
+limit_inside limit hold R s w e =
+    let stage : (i : ℕ) × In i (numbers (suc (round_count limit hold R)) 0) × (Some w ≡ passed_in_round limit hold R i) =
+    In_map_cases (passed_in_round limit hold R) (numbers (suc (round_count limit hold R)) 0) (Some w) (first_in (map (passed_in_round limit hold R) (numbers (suc (round_count limit hold R)) 0)) w e) in
+    by_round stage.0 (passes limit hold (rounds limit hold R stage.0)) refl (sym stage.2)
   where
-    by_round : (i : ℕ) (found : Option Passed) → passes (rounds R i) limit ≡ found → option_map (in_round R i) found ≡ Some w → w.«package» < length R.clauses
+    by_round : (i : ℕ) (found : Option Passed) → passes limit hold (rounds limit hold R i) ≡ found → option_map (in_round limit hold R i) found ≡ Some w → w.«package» < length R.clauses
     by_round i None is e = absurd (let k : ⊥ = cc in k)
     by_round i (Some p) is e =
-        let made : in_round R i p ≡ w = cc in
-        subst (λ (v : PassedRound). v.«package» < length R.clauses) made (least_inside R s i p.«package» (passed_inside (rounds R i) limit p is))
+        let made : in_round limit hold R i p ≡ w = cc in
+        subst (λ (v : PassedRound). v.«package» < length R.clauses) made (least_inside limit hold R s i p.«package» (passed_inside limit hold (rounds limit hold R i) p is))

@@ -1,26 +1,28 @@
--- The rounds end, whatever comes after merging: packages, then conflicts, then the weight of the clauses go down.
-use Rattle.std.proofs.Common.{◌≡◌, ℕ, zero, suc, ◌<◌, ◌≤◌, ◌+◌, ◌*◌, true, ◌||◌, List, [], ◌∷◌, length, ◌⊎◌, inl, inr, refl, sym, ◌∙◌, ap, ap₂, subst, arith, slice_index_or, zero-le}
+-- The rounds end, whatever comes after merging: packages, then conflicts, then packages without conflicts in clauses, then the
+-- weight of the clauses go down.
+use Rattle.std.proofs.Common.{◌≡◌, ℕ, Bool, zero, suc, ◌<◌, ◌≤◌, ◌+◌, ◌*◌, true, false, List, [], ◌∷◌, length, ◌⊎◌, inl, inr, refl, sym, ◌∙◌, ap, ap₂, subst, arith, slice_index_or, zero-le}
 use Rattle.std.proofs.Math.Nat.{mul-le-mul_right, mul-le-mul_left}
-use Rattle.std.proofs.lemmas.Bool.{cases_lt, or_cases}
-use Rattle.row_book.specs.Sets.{In, here, there, has}
+use Rattle.std.proofs.lemmas.Bool.{cases_Bool, cases_lt}
+use Rattle.row_book.specs.Sets.{In, here, there}
 use Rattle.row_book.specs.Clauses.{Ascending, Before, InOrder, subsets}
-use Rattle.row_book.specs.Repository.{Repository, against, clauses_of}
+use Rattle.row_book.specs.Repository.{Repository, clauses_of}
 use Rattle.row_book.specs.Sound.{SoundRepository, TidyRepository}
-use Rattle.row_book.specs.Flattening.{core_of, flat, packages}
+use Rattle.row_book.specs.Flattening.{core_of, flat, has_conflict}
+use Rattle.row_book.specs.Support.{MinimalBlock}
 use Rattle.row_book.specs.Merging.{firsts, quotient}
 use Rattle.row_book.specs.Rounds.{weigh, enough_rounds}
-use Rattle.row_book.proofs.Lists.{In_cases, In_none, any_cases}
+use Rattle.row_book.proofs.Lists.{In_cases, In_none}
 use Rattle.row_book.proofs.Order.{before_asym, subsets_has, subsets_order, subsets_parts}
-use Rattle.row_book.proofs.Repositories.{between, repository_same, table_same}
-use Rattle.clause_flatten.proofs.Flat.{kept_after}
-use Rattle.clause_flatten.proofs.Stages.{core_is_the_conflicted_lem}
+use Rattle.row_book.proofs.Repositories.{repository_same, table_same}
+use Rattle.clause_flatten.proofs.Stages.{core_stays_lem}
 use Rattle.class_merge.specs.Laws.{plain_clauses}
-use Rattle.class_merge.proofs.Kept.{merged_size}
+use Rattle.class_merge.proofs.Kept.{merged_order, merged_size}
 use Rattle.class_merge.proofs.Plain.{firsts_le, merge_plain_lem, plain_conflicts}
 use Rattle.clause_prune.proofs.Dropping.{lighter_trans}
 use Rattle.kernel_rounds.specs.Tails.{Lighter, Tail, conflict_count, round_with, rounds_with}
-use Rattle.kernel_rounds.specs.Laws.{TailsEnd}
+use Rattle.kernel_rounds.specs.Laws.{RowsInOrder, TailsEnd, standing_count, stands}
 use Rattle.kernel_rounds.proofs.Flattened.{flat_conflicts, flat_is_plain, flat_minimal, flat_order, flat_plain_lem, flat_row, flat_size, flat_sound, flat_tidy, plain_parts}
+use Rattle.kernel_rounds.proofs.Standing.{StandsAt, blocks_stand, standing_few, standing_or, stands_from, stands_parts}
 use Rattle.kernel_rounds.proofs.Tails.{merged_tidy, round_size, round_sound}
 use Rattle.kernel_rounds.proofs.Thins.{count_few, count_same}
 
@@ -86,102 +88,122 @@ total_few (x ∷ xs) w f =
     let b : total xs ≤ length xs * w = total_few xs w (λ p l. f (suc p) (omega arith)) in
     omega (arith, a, b)
 
--- what a round does
+-- what a round does: fewer packages, or as many and fewer conflicts, or as many of both and fewer packages without conflicts in
+-- clauses
 unfoldable pub Less : Repository → Repository → Type 0
-Less K T = (length T.clauses < length K.clauses) ⊎ ((length T.clauses ≡ length K.clauses) × (conflict_count T < conflict_count K))
+Less K T =
+    (length T.clauses < length K.clauses)
+    ⊎ ((length T.clauses ≡ length K.clauses) × ((conflict_count T < conflict_count K) ⊎ ((conflict_count T ≡ conflict_count K) × (standing_count T < standing_count K))))
 
-pub record Same (t : Repository → Repository) (K T : Repository) : Type 0 where
-  pub is : T ≡ t (flat K)
+-- or as many of all these, and then each package that stands in a clause was of the core
+pub record Same (limit : ℕ) (hold : Bool) (t : Repository → Repository) (K T : Repository) : Type 0 where
+  pub is : T ≡ t (flat limit hold K)
   pub size : length T.clauses ≡ length K.clauses
   pub conflicts : T.conflicts ≡ K.conflicts
+  pub standing : standing_count T ≡ standing_count K
+  pub inner : (p : ℕ) (c : List ℕ) (n : ℕ) → In c (clauses_of K p) → In n c → core_of limit hold K n ≡ true
 
-pub merge_full : (K : Repository) → SoundRepository K → length (firsts (flat K)) ≡ length K.clauses → quotient (flat K) ≡ flat K
-merge_full K s e =
-    let F : Repository = flat K in
-    let f : SoundRepository F = flat_sound K s in
-    let full : length (firsts F) ≡ length F.clauses = e ∙ sym (flat_size K) in
+pub merge_full : (limit : ℕ) (hold : Bool) (K : Repository) → SoundRepository K → length (firsts (flat limit hold K)) ≡ length K.clauses → quotient (flat limit hold K) ≡ flat limit hold K
+merge_full limit hold K s e =
+    let F : Repository = flat limit hold K in
+    let f : SoundRepository F = flat_sound limit hold K s in
+    let full : length (firsts F) ≡ length F.clauses = e ∙ sym (flat_size limit hold K) in
     repository_same (quotient F) F
     (table_same (quotient F).clauses F.clauses (merged_size F ∙ full)
-    (λ p l. (merge_plain_lem F f full p (subst (λ z. p < z) (merged_size F ∙ full) l)).clauses ∙ flat_is_plain K s p))
+    (λ p l. (merge_plain_lem F f full p (subst (λ z. p < z) (merged_size F ∙ full) l)).clauses ∙ flat_is_plain limit hold K s p))
     (plain_conflicts F f full)
 
-pub outcome : (t : Repository → Repository) → Tail t → (K : Repository) → SoundRepository K → Less K (round_with t K) ⊎ Same t K (round_with t K)
+-- a package that stands in a clause of the flattened repository is of the core, and stood in a clause before
+record FromCore (limit : ℕ) (hold : Bool) (K : Repository) (q : ℕ) : Type 0 where
+  stood : stands K q ≡ true
+  core : core_of limit hold K q ≡ true
+
+from_core : (limit : ℕ) (hold : Bool) (t : Repository → Repository) → Tail t → (K : Repository) → SoundRepository K → (q : ℕ) → stands (t (flat limit hold K)) q ≡ true → FromCore limit hold K q
+from_core limit hold t tail K s q h =
+    let F : Repository = flat limit hold K in
+    let w : StandsAt (t F) q = stands_parts (t F) q h in
+    elim (tail.clauses F (flat_tidy limit hold K s) w.holder w.clause w.listed) [
+      | inl i ↦
+          let m : MinimalBlock K (core_of limit hold K) w.holder w.clause = flat_minimal limit hold K s w.holder w.clause i in
+          record { stood = blocks_stand K (core_of limit hold K) w.holder w.clause q m w.inside; core = m.blocks.within q w.inside }
+      | inr e ↦ absurd (In_none (subst (λ d. In q d) e w.inside))
+    ]
+
+-- where as many packages without conflicts are left in clauses, each package that stood in a clause was of the core
+all_of_core : (limit : ℕ) (hold : Bool) (t : Repository → Repository) → Tail t → (K : Repository) → SoundRepository K →
+    ((q : ℕ) → q < length K.clauses → has_conflict K q ≡ false → stands K q ≡ true → stands (t (flat limit hold K)) q ≡ true) →
+    (p : ℕ) (c : List ℕ) (n : ℕ) → In c (clauses_of K p) → In n c → core_of limit hold K n ≡ true
+all_of_core limit hold t tail K s h p c n i j =
+    let l : n < length K.clauses = (s.clauses p c i).1 n j in
+    elim (cases_Bool (has_conflict K n)) [
+      | inl y ↦ (core_stays_lem limit hold K n).1 (l, inl y)
+      | inr f ↦ (from_core limit hold t tail K s n (h n l f (stands_from K p c n i j))).core
+    ]
+
+-- where merging merges nothing and what comes after it drops no conflict
+level_outcome : (limit : ℕ) (hold : Bool) (t : Repository → Repository) → Tail t → (K T : Repository) → SoundRepository K → T ≡ t (flat limit hold K) → length T.clauses ≡ length K.clauses → T.conflicts ≡ K.conflicts →
+    Less K T ⊎ Same limit hold t K T
 unfolding Less
-outcome t tail K s =
-    let F : Repository = flat K in
+level_outcome limit hold t tail K T s is size conflicts =
+    let stood : (q : ℕ) → stands T q ≡ true → stands K q ≡ true = λ q h. (from_core limit hold t tail K s q (subst (λ F. stands F q ≡ true) is h)).stood in
+    elim (standing_or T K size conflicts stood) [
+      | inl l ↦ inl (inr (size, inr (count_same T K size conflicts, l)))
+      | inr w ↦ inr (record {
+        is = is;
+        size = size;
+        conflicts = conflicts;
+        standing = w.0;
+        inner = all_of_core limit hold t tail K s (λ q l f h. subst (λ F. stands F q ≡ true) is (w.1 q l f h));
+      })
+    ]
+
+pub outcome : (limit : ℕ) (hold : Bool) (t : Repository → Repository) → Tail t → (K : Repository) → SoundRepository K → Less K (round_with limit hold t K) ⊎ Same limit hold t K (round_with limit hold t K)
+unfolding Less
+outcome limit hold t tail K s =
+    let F : Repository = flat limit hold K in
     let M : Repository = quotient F in
-    let m : TidyRepository M = merged_tidy K s in
+    let m : TidyRepository M = merged_tidy limit hold K s in
     let T : Repository = t M in
-    let t_size : length T.clauses ≡ length (firsts F) = round_size t tail K s in
-    let le : length (firsts F) ≤ length K.clauses = subst (λ n. length (firsts F) ≤ n) (flat_size K) (firsts_le F) in
+    let t_size : length T.clauses ≡ length (firsts F) = round_size limit hold t tail K s in
+    let le : length (firsts F) ≤ length K.clauses = subst (λ n. length (firsts F) ≤ n) (flat_size limit hold K) (firsts_le F) in
     elim (cases_lt (length (firsts F)) (length K.clauses)) [
       | inl l ↦ inl (inl (subst (λ n. n < length K.clauses) (sym t_size) l))
       | inr ge ↦
           let e : length (firsts F) ≡ length K.clauses = omega arith in
-          let mf : M ≡ F = merge_full K s e in
-          let conflicts : M.conflicts ≡ K.conflicts = ap (λ R. R.conflicts) mf ∙ flat_conflicts K in
+          let mf : M ≡ F = merge_full limit hold K s e in
+          let conflicts : M.conflicts ≡ K.conflicts = ap (λ R. R.conflicts) mf ∙ flat_conflicts limit hold K in
           elim (tail.conflicts M m) [
-            | inl g ↦ inr (record { is = ap t mf; size = t_size ∙ e; conflicts = g ∙ conflicts })
-            | inr l ↦ inl (inr (t_size ∙ e, subst (λ n. conflict_count T < n) (count_same M K (merged_size F ∙ e) conflicts) l))
+            | inl g ↦ level_outcome limit hold t tail K T s (ap t mf) (t_size ∙ e) (g ∙ conflicts)
+            | inr l ↦ inl (inr (t_size ∙ e, inl (subst (λ n. conflict_count T < n) (count_same M K (merged_size F ∙ e) conflicts) l)))
           ]
     ]
 
--- clauses in order, of packages with conflicts alone
-pub record Nice (R : Repository) : Type 0 where
-  pub inner : (p : ℕ) (c : List ℕ) (n : ℕ) → In c (clauses_of R p) → In n c → core_of R n ≡ true
-  pub sorted : (p : ℕ) → InOrder (clauses_of R p)
+-- the clauses are in order after a round
+pub sorted_after : (limit : ℕ) (hold : Bool) (t : Repository → Repository) → Tail t → (K : Repository) → SoundRepository K → RowsInOrder (round_with limit hold t K)
+sorted_after limit hold t tail K s = tail.order (quotient (flat limit hold K)) (merged_tidy limit hold K s) (merged_order (flat limit hold K))
 
-conflict_of : (R : Repository) (q : ℕ) → core_of R q ≡ true → (m : ℕ) × ((against R q m || against R m q) ≡ true)
-conflict_of R q c =
-    let w : (m : ℕ) × In m (packages R) × ((against R q m || against R m q) ≡ true) =
-    any_cases (λ n. against R q n || against R n q) (packages R) ((core_is_the_conflicted_lem R q).0 c).1 in
-    (w.0, w.2)
-
-same_against : (R F : Repository) → R.conflicts ≡ F.conflicts → (m n : ℕ) → against R m n ≡ against F m n
-same_against R F e m n = ap (λ t. has (slice_index_or t m []) n) e
-
-pub tail_nice : (t : Repository → Repository) → Tail t → (K : Repository) → SoundRepository K → (t (flat K)).conflicts ≡ K.conflicts → Nice (t (flat K))
-tail_nice t tail K s conflicts =
-    let F : Repository = flat K in
+pub tail_lighter : (limit : ℕ) (hold : Bool) (t : Repository → Repository) → Tail t → (K T : Repository) → SoundRepository K → RowsInOrder K → Same limit hold t K T → (T ≡ K) ⊎ (total T.clauses < total K.clauses)
+tail_lighter limit hold t tail K T s sorted same =
+    let F : Repository = flat limit hold K in
     let P : Repository = t F in
-    let tidy : TidyRepository F = flat_tidy K s in
-    let p : SoundRepository P = tail.sound F tidy in
-    let holds : (m n : ℕ) → against P m n ≡ true → (core_of P m ≡ true) × (core_of P n ≡ true) = (kept_after P (between P p) (length P.clauses)).holds in
-    record {
-      inner = λ q c n i j. elim (tail.clauses F tidy q c i) [
-        | inl h ↦
-            let w : (m : ℕ) × ((against K n m || against K m n) ≡ true) = conflict_of K n ((flat_minimal K s q c h).blocks.within n j) in
-            elim (or_cases (against K n w.0) (against K w.0 n) w.1) [
-              | inl u ↦ (holds n w.0 (same_against P K conflicts n w.0 ∙ u)).0
-              | inr u ↦ (holds w.0 n (same_against P K conflicts w.0 n ∙ u)).1
-            ]
-        | inr g ↦ absurd (In_none (subst (λ d. In n d) g j))
-      ];
-      sorted = tail.order F tidy (flat_order K);
-    }
-
-pub tail_lighter : (t : Repository → Repository) → Tail t → (K : Repository) → SoundRepository K → Nice K → (t (flat K)).conflicts ≡ K.conflicts →
-    (t (flat K) ≡ K) ⊎ (total (t (flat K)).clauses < total K.clauses)
-tail_lighter t tail K s n conflicts =
-    let F : Repository = flat K in
-    let P : Repository = t F in
-    let tidy : TidyRepository F = flat_tidy K s in
-    let size : length P.clauses ≡ length K.clauses = tail.size F tidy ∙ flat_size K in
+    let tidy : TidyRepository F = flat_tidy limit hold K s in
+    let size : length P.clauses ≡ length K.clauses = tail.size F tidy ∙ flat_size limit hold K in
     let rows : (p : ℕ) → p < length P.clauses → Lighter (clauses_of P p) (clauses_of K p) = λ p u.
     let l : p < length K.clauses = subst (λ z. p < z) size u in
-    let plain : clauses_of F p ≡ plain_clauses K p = flat_row K p l ∙ flat_plain_lem K s n.inner p l in
+    let plain : clauses_of F p ≡ plain_clauses K p = flat_row limit hold K p l ∙ flat_plain_lem limit hold K s same.inner p l in
     lighter_trans (clauses_of P p) (clauses_of F p) (clauses_of K p) (tail.weight F tidy p)
-    (sub_or (clauses_of F p) (clauses_of K p) (flat_order K p) (n.sorted p) (λ c i. plain_parts K p c (subst (λ r. In c r) plain i))) in
-    elim (total_or P.clauses K.clauses size rows) [
-      | inl e ↦ inl (repository_same P K e conflicts)
+    (sub_or (clauses_of F p) (clauses_of K p) (flat_order limit hold K p) (sorted p) (λ c i. plain_parts K p c (subst (λ r. In c r) plain i))) in
+    subst (λ F. (F ≡ K) ⊎ (total F.clauses < total K.clauses)) (sym same.is)
+    (elim (total_or P.clauses K.clauses size rows) [
+      | inl e ↦ inl (repository_same P K e (subst (λ F. F.conflicts ≡ K.conflicts) same.is same.conflicts))
       | inr l ↦ inr l
-    ]
+    ])
 
 -- the greatest weight of such clauses
-nice_weight : (R : Repository) → SoundRepository R → Nice R → total R.clauses ≤ length R.clauses * weigh (subsets (length R.clauses))
-nice_weight R s n =
+sorted_weight : (R : Repository) → SoundRepository R → RowsInOrder R → total R.clauses ≤ length R.clauses * weigh (subsets (length R.clauses))
+sorted_weight R s sorted =
     total_few R.clauses (weigh (subsets (length R.clauses))) (λ p l.
-    elim (sub_or (clauses_of R p) (subsets (length R.clauses)) (n.sorted p) (subsets_order (length R.clauses))
+    elim (sub_or (clauses_of R p) (subsets (length R.clauses)) (sorted p) (subsets_order (length R.clauses))
     (λ c i. subsets_has (length R.clauses) c (s.clauses p c i).0 (s.clauses p c i).1)) [
       | inl e ↦ (let k : weigh (clauses_of R p) ≡ weigh (subsets (length R.clauses)) = ap weigh e in omega (arith, k))
       | inr u ↦ omega (arith, u)
@@ -195,9 +217,9 @@ subsets_more m n l =
       | inr u ↦ omega (arith, u)
     ]
 
-weight_bound : (R : Repository) (n : ℕ) → SoundRepository R → Nice R → length R.clauses ≤ n → total R.clauses ≤ n * weigh (subsets n)
-weight_bound R n s nice l =
-    let a : total R.clauses ≤ length R.clauses * weigh (subsets (length R.clauses)) = nice_weight R s nice in
+weight_bound : (R : Repository) (n : ℕ) → SoundRepository R → RowsInOrder R → length R.clauses ≤ n → total R.clauses ≤ n * weigh (subsets n)
+weight_bound R n s sorted l =
+    let a : total R.clauses ≤ length R.clauses * weigh (subsets (length R.clauses)) = sorted_weight R s sorted in
     let b : length R.clauses * weigh (subsets (length R.clauses)) ≤ length R.clauses * weigh (subsets n) = mul-le-mul_left (length R.clauses) (subsets_more (length R.clauses) n l) in
     let c : length R.clauses * weigh (subsets n) ≤ n * weigh (subsets n) = mul-le-mul_right (weigh (subsets n)) l in
     omega (arith, a, b, c)
@@ -210,97 +232,124 @@ count_bound R n l =
     omega (arith, a, b, c)
 
 -- what no round changes after so many, none changes after more
-Ends : (Repository → Repository) → Repository → ℕ → Type 0
-Ends t R n = round_with t (rounds_with t R n) ≡ rounds_with t R n
+Ends : ℕ → Bool → (Repository → Repository) → Repository → ℕ → Type 0
+Ends limit hold t R n = round_with limit hold t (rounds_with limit hold t R n) ≡ rounds_with limit hold t R n
 
-ends_now : (t : Repository → Repository) (n : ℕ) (R : Repository) → round_with t R ≡ R → Ends t R n
+ends_now : (limit : ℕ) (hold : Bool) (t : Repository → Repository) (n : ℕ) (R : Repository) → round_with limit hold t R ≡ R → Ends limit hold t R n
 unfolding Ends
-ends_now t zero R e = e
-ends_now t (suc n) R e = subst (λ F. round_with t (rounds_with t F n) ≡ rounds_with t F n) (sym e) (ends_now t n R e)
+ends_now limit hold t zero R e = e
+ends_now limit hold t (suc n) R e = subst (λ F. round_with limit hold t (rounds_with limit hold t F n) ≡ rounds_with limit hold t F n) (sym e) (ends_now limit hold t n R e)
 
-ends_later : (t : Repository → Repository) (m n : ℕ) (R : Repository) → m ≤ n → Ends t R m → Ends t R n
+ends_later : (limit : ℕ) (hold : Bool) (t : Repository → Repository) (m n : ℕ) (R : Repository) → m ≤ n → Ends limit hold t R m → Ends limit hold t R n
 unfolding Ends
-ends_later t zero n R l e = ends_now t n R e
-ends_later t (suc m) zero R l e = absurd (omega arith)
-ends_later t (suc m) (suc n) R l e = ends_later t m n (round_with t R) (omega arith) e
+ends_later limit hold t zero n R l e = ends_now limit hold t n R e
+ends_later limit hold t (suc m) zero R l e = absurd (omega arith)
+ends_later limit hold t (suc m) (suc n) R l e = ends_later limit hold t m n (round_with limit hold t R) (omega arith) e
 
-ends_next : (t : Repository → Repository) (n : ℕ) (R : Repository) → Ends t (round_with t R) n → Ends t R (suc n)
+ends_next : (limit : ℕ) (hold : Bool) (t : Repository → Repository) (n : ℕ) (R : Repository) → Ends limit hold t (round_with limit hold t R) n → Ends limit hold t R (suc n)
 unfolding Ends
-ends_next t n R e = e
+ends_next limit hold t n R e = e
 
 -- where each lesser repository ends after so many
-Lower : (Repository → Repository) → Repository → ℕ → Type 0
-Lower t R n = (F : Repository) → SoundRepository F → Less R F → Ends t F n
+Lower : ℕ → Bool → (Repository → Repository) → Repository → ℕ → Type 0
+Lower limit hold t R n = (F : Repository) → SoundRepository F → Less R F → Ends limit hold t F n
 
-lower_same : (t : Repository → Repository) (R T : Repository) (n : ℕ) → Same t R T → Lower t R n → Lower t T n
+lower_same : (limit : ℕ) (hold : Bool) (t : Repository → Repository) (R T : Repository) (n : ℕ) → Same limit hold t R T → Lower limit hold t R n → Lower limit hold t T n
 unfolding Lower Less
-lower_same t R T n e low F s l =
+lower_same limit hold t R T n e low F s l =
+    let counts : conflict_count T ≡ conflict_count R = count_same T R e.size e.conflicts in
     low F s (elim l [
       | inl k ↦ inl (subst (λ n. length F.clauses < n) e.size k)
-      | inr w ↦ inr (w.0 ∙ e.size, subst (λ n. conflict_count F < n) (count_same T R e.size e.conflicts) w.1)
+      | inr w ↦ inr (
+        w.0 ∙ e.size,
+        elim w.1 [
+          | inl c ↦ inl (subst (λ n. conflict_count F < n) counts c)
+          | inr d ↦ inr (d.0 ∙ counts, subst (λ n. standing_count F < n) e.standing d.1)
+        ],
+      )
     ])
 
-same_conflicts : (t : Repository → Repository) (R T : Repository) → Same t R T → (t (flat R)).conflicts ≡ R.conflicts
-same_conflicts t R T e = subst (λ F. F.conflicts ≡ R.conflicts) e.is e.conflicts
-
-ends_nice : (t : Repository → Repository) → Tail t → (c b : ℕ) (R : Repository) → SoundRepository R → Nice R → total R.clauses < c → Lower t R b → Ends t R (c + b)
+ends_sorted : (limit : ℕ) (hold : Bool) (t : Repository → Repository) → Tail t → (c b : ℕ) (R : Repository) → SoundRepository R → RowsInOrder R → total R.clauses < c → Lower limit hold t R b →
+    Ends limit hold t R (c + b)
 unfolding Lower
-ends_nice t tail zero b R s n l low = absurd (omega arith)
-ends_nice t tail (suc c) b R s n l low =
-    elim (outcome t tail R s) [
-      | inl less ↦ ends_later t (suc b) (suc c + b) R (omega arith) (ends_next t b R (low (round_with t R) (round_sound t tail R s) less))
-      | inr same ↦
-          let conflicts : (t (flat R)).conflicts ≡ R.conflicts = same_conflicts t R (round_with t R) same in
-          elim (tail_lighter t tail R s n conflicts) [
-            | inl e ↦ ends_now t (suc c + b) R (same.is ∙ e)
-            | inr w ↦
-                ends_later t (suc (c + b)) (suc c + b) R (omega arith)
-                (ends_next t (c + b) R (ends_nice t tail c b (round_with t R) (round_sound t tail R s) (subst (λ F. Nice F) (sym same.is) (tail_nice t tail R s conflicts))
-                (let v : total (round_with t R).clauses < total R.clauses = subst (λ F. total F.clauses < total R.clauses) (sym same.is) w in omega arith)
-                (lower_same t R (round_with t R) b same low)))
-          ]
+ends_sorted limit hold t tail zero b R s sorted l low = absurd (omega arith)
+ends_sorted limit hold t tail (suc c) b R s sorted l low =
+    let T : Repository = round_with limit hold t R in
+    let sound : SoundRepository T = round_sound limit hold t tail R s in
+    elim (outcome limit hold t tail R s) [
+      | inl less ↦ ends_later limit hold t (suc b) (suc c + b) R (omega arith) (ends_next limit hold t b R (low T sound less))
+      | inr same ↦ elim (tail_lighter limit hold t tail R T s sorted same) [
+        | inl e ↦ ends_now limit hold t (suc c + b) R e
+        | inr w ↦
+            ends_later limit hold t (suc (c + b)) (suc c + b) R (omega arith)
+            (ends_next limit hold t (c + b) R (ends_sorted limit hold t tail c b T sound (sorted_after limit hold t tail R s) (omega (arith, w)) (lower_same limit hold t R T b same low)))
+      ]
     ]
 
--- a round to have clauses in order of packages with conflicts alone, and then as many as the greatest weight
-ends_any : (t : Repository → Repository) → Tail t → (n b : ℕ) (R : Repository) → SoundRepository R → length R.clauses ≤ n → Lower t R b → Ends t R ((2 + n * weigh (subsets n)) + b)
+-- a round to have clauses in order, and then as many as the greatest weight
+ends_any : (limit : ℕ) (hold : Bool) (t : Repository → Repository) → Tail t → (n b : ℕ) (R : Repository) → SoundRepository R → length R.clauses ≤ n → Lower limit hold t R b →
+    Ends limit hold t R ((2 + n * weigh (subsets n)) + b)
 unfolding Lower
-ends_any t tail n b R s l low =
+ends_any limit hold t tail n b R s l low =
     let W : ℕ = n * weigh (subsets n) in
-    elim (outcome t tail R s) [
-      | inl less ↦ ends_later t (suc b) ((2 + W) + b) R (omega arith) (ends_next t b R (low (round_with t R) (round_sound t tail R s) less))
+    let T : Repository = round_with limit hold t R in
+    let sound : SoundRepository T = round_sound limit hold t tail R s in
+    elim (outcome limit hold t tail R s) [
+      | inl less ↦ ends_later limit hold t (suc b) ((2 + W) + b) R (omega arith) (ends_next limit hold t b R (low T sound less))
       | inr same ↦
-          let T : Repository = round_with t R in
-          let nice : Nice T = subst (λ F. Nice F) (sym same.is) (tail_nice t tail R s (same_conflicts t R T same)) in
+          let sorted : RowsInOrder T = sorted_after limit hold t tail R s in
           let small : length T.clauses ≤ n = subst (λ z. z ≤ n) (sym same.size) l in
-          let w : total T.clauses ≤ W = weight_bound T n (round_sound t tail R s) nice small in
-          ends_later t (suc (suc W + b)) ((2 + W) + b) R (omega arith)
-          (ends_next t (suc W + b) R (ends_nice t tail (suc W) b T (round_sound t tail R s) nice (omega arith) (lower_same t R T b same low)))
+          let w : total T.clauses ≤ W = weight_bound T n sound sorted small in
+          ends_later limit hold t (suc (suc W + b)) ((2 + W) + b) R (omega arith)
+          (ends_next limit hold t (suc W + b) R (ends_sorted limit hold t tail (suc W) b T sound sorted (omega arith) (lower_same limit hold t R T b same low)))
     ]
 
-by_conflicts : (t : Repository → Repository) → Tail t → (n b : ℕ) → (a : ℕ) → a ≤ n → ((F : Repository) → SoundRepository F → length F.clauses < a → Ends t F b) →
-    (c : ℕ) (R : Repository) → SoundRepository R → length R.clauses ≤ a → conflict_count R < c → Ends t R (c * (2 + n * weigh (subsets n)) + b)
-unfolding Lower Less
-by_conflicts t tail n b a u f zero R s l m = absurd (omega arith)
-by_conflicts t tail n b a u f (suc c) R s l m =
+-- where each repository with fewer packages, or no more and fewer conflicts, ends after so many
+Fewer : ℕ → Bool → (Repository → Repository) → ℕ → ℕ → ℕ → Type 0
+Fewer limit hold t a c b = (F : Repository) → SoundRepository F → (length F.clauses < a) ⊎ ((length F.clauses ≤ a) × (conflict_count F < c)) → Ends limit hold t F b
+
+by_standing : (limit : ℕ) (hold : Bool) (t : Repository → Repository) → Tail t → (n b a c : ℕ) → a ≤ n → Fewer limit hold t a c b →
+    (k : ℕ) (R : Repository) → SoundRepository R → length R.clauses ≤ a → conflict_count R ≤ c → standing_count R < k → Ends limit hold t R (k * (2 + n * weigh (subsets n)) + b)
+unfolding Lower Less Fewer
+by_standing limit hold t tail n b a c u f zero R s l m v = absurd (omega arith)
+by_standing limit hold t tail n b a c u f (suc k) R s l m v =
     let W : ℕ = n * weigh (subsets n) in
-    ends_later t ((2 + W) + (c * (2 + W) + b)) (suc c * (2 + W) + b) R (omega arith)
-    (ends_any t tail n (c * (2 + W) + b) R s (omega arith) (λ F g k. elim k [
-      | inl v ↦ ends_later t b (c * (2 + W) + b) F (omega arith) (f F g (omega arith))
+    ends_later limit hold t ((2 + W) + (k * (2 + W) + b)) (suc k * (2 + W) + b) R (omega arith)
+    (ends_any limit hold t tail n (k * (2 + W) + b) R s (omega arith) (λ F g less. elim less [
+      | inl x ↦ ends_later limit hold t b (k * (2 + W) + b) F (omega arith) (f F g (inl (omega arith)))
       | inr w ↦
-          let v : length F.clauses ≡ length R.clauses = w.0 in
-          let x : conflict_count F < conflict_count R = w.1 in
-          by_conflicts t tail n b a u f c F g (omega arith) (omega arith)
+          let size : length F.clauses ≡ length R.clauses = w.0 in
+          elim w.1 [
+            | inl x ↦ ends_later limit hold t b (k * (2 + W) + b) F (omega arith) (f F g (inr (omega arith, omega arith)))
+            | inr y ↦
+                let counts : conflict_count F ≡ conflict_count R = y.0 in
+                let fewer : standing_count F < standing_count R = y.1 in
+                by_standing limit hold t tail n b a c u f k F g (omega arith) (omega arith) (omega arith)
+          ]
     ]))
 
-by_packages : (t : Repository → Repository) → Tail t → (n a : ℕ) → a ≤ suc n → (R : Repository) → SoundRepository R → length R.clauses < a →
-    Ends t R (a * (suc (n * n) * (2 + n * weigh (subsets n))))
-by_packages t tail n zero u R s l = absurd (omega arith)
-by_packages t tail n (suc a) u R s l =
-    let once : ℕ = suc (n * n) * (2 + n * weigh (subsets n)) in
+by_conflicts : (limit : ℕ) (hold : Bool) (t : Repository → Repository) → Tail t → (n b : ℕ) → (a : ℕ) → a ≤ n → ((F : Repository) → SoundRepository F → length F.clauses < a → Ends limit hold t F b) →
+    (c : ℕ) (R : Repository) → SoundRepository R → length R.clauses ≤ a → conflict_count R < c → Ends limit hold t R (c * (suc n * (2 + n * weigh (subsets n))) + b)
+unfolding Fewer
+by_conflicts limit hold t tail n b a u f zero R s l m = absurd (omega arith)
+by_conflicts limit hold t tail n b a u f (suc c) R s l m =
+    let once : ℕ = suc n * (2 + n * weigh (subsets n)) in
+    let few : standing_count R ≤ length R.clauses = standing_few R in
+    ends_later limit hold t (once + (c * once + b)) (suc c * once + b) R (omega arith)
+    (by_standing limit hold t tail n (c * once + b) a c u (λ F g k. elim k [
+      | inl v ↦ ends_later limit hold t b (c * once + b) F (omega arith) (f F g v)
+      | inr w ↦ by_conflicts limit hold t tail n b a u f c F g w.0 w.1
+    ]) (suc n) R s l (omega arith) (omega arith))
+
+by_packages : (limit : ℕ) (hold : Bool) (t : Repository → Repository) → Tail t → (n a : ℕ) → a ≤ suc n → (R : Repository) → SoundRepository R → length R.clauses < a →
+    Ends limit hold t R (a * (suc (n * n) * (suc n * (2 + n * weigh (subsets n)))))
+by_packages limit hold t tail n zero u R s l = absurd (omega arith)
+by_packages limit hold t tail n (suc a) u R s l =
+    let once : ℕ = suc (n * n) * (suc n * (2 + n * weigh (subsets n))) in
     let few : conflict_count R ≤ n * n = count_bound R n (omega arith) in
-    ends_later t (once + a * once) (suc a * once) R (omega arith)
-    (by_conflicts t tail n (a * once) a (omega arith) (λ F g k. by_packages t tail n a (omega arith) F g k) (suc (n * n)) R s (omega arith) (omega arith))
+    ends_later limit hold t (once + a * once) (suc a * once) R (omega arith)
+    (by_conflicts limit hold t tail n (a * once) a (omega arith) (λ F g k. by_packages limit hold t tail n a (omega arith) F g k) (suc (n * n)) R s (omega arith) (omega arith))
 
 pub tails_end_lem : TailsEnd
 unfolding Ends enough_rounds
-tails_end_lem t tail R s = by_packages t tail (length R.clauses) (suc (length R.clauses)) (omega arith) R s (omega arith)
+tails_end_lem limit hold t tail R s = by_packages limit hold t tail (length R.clauses) (suc (length R.clauses)) (omega arith) R s (omega arith)

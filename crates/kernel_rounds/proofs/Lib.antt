@@ -1,6 +1,7 @@
 pub mod Flattened
 pub mod Tails
 pub mod Thins
+pub mod Standing
 pub mod Ending
 pub mod Settling
 pub mod Reached
@@ -9,5 +10,6 @@ pub mod MovedSteps
 pub mod Compared
 mod Again
 mod SampleRows
-mod Levels
+mod Descent
+mod Limits
 pub mod Classes

@@ -16,7 +16,7 @@ use Rattle.row_book.specs.Clauses.{numbers}
 use Rattle.row_book.specs.Repository.{Repository}
 use Rattle.row_book.specs.Book.{repository_of, Sound}
 use Rattle.row_book.specs.Sound.{SoundRepository}
-use Rattle.row_book.specs.Flattening.{flat, first_some, packages, Passed, passes}
+use Rattle.row_book.specs.Flattening.{flat, first_some, held_of, packages, Passed, passes}
 use Rattle.row_book.specs.Merging.{class_list, class_of, quotient, place_of}
 use Rattle.row_book.specs.Pruning.{IdleClause, idle_steps, prune}
 use Rattle.row_book.specs.Thinning.{thin}
@@ -38,25 +38,25 @@ use Rattle.kernel_rounds.proofs.Reached.{kernel_is_lem, repository_test, rounds_
 use Rattle.kernel_rounds.proofs.Tails.{round_size, thin_tail}
 
 -- the last of some rounds
-rounds_last : (n : ℕ) (R : Repository) → rounds R (suc n) ≡ round (rounds R n)
-rounds_last zero R = refl
-rounds_last (suc n) R = rounds_last n (round R)
+rounds_last : (limit : ℕ) (hold : Bool) → (n : ℕ) (R : Repository) → rounds limit hold R (suc n) ≡ round limit hold (rounds limit hold R n)
+rounds_last limit hold zero R = refl
+rounds_last limit hold (suc n) R = rounds_last limit hold n (round limit hold R)
 
-class_last : (n : ℕ) (R : Repository) (p : ℕ) → class_after R (suc n) p ≡ class_of (flat (rounds R n)) (class_after R n p)
-class_last zero R p = refl
-class_last (suc n) R p = class_last n (round R) (class_of (flat R) p)
+class_last : (limit : ℕ) (hold : Bool) → (n : ℕ) (R : Repository) (p : ℕ) → class_after limit hold R (suc n) p ≡ class_of (flat limit hold (rounds limit hold R n)) (class_after limit hold R n p)
+class_last limit hold zero R p = refl
+class_last limit hold (suc n) R p = class_last limit hold n (round limit hold R) (class_of (flat limit hold R) p)
 
-steps_last : (n : ℕ) (R : Repository) → steps_after R (suc n) ≡ steps_after R n ++ round_steps (rounds R n)
-steps_last zero R = append-nil (round_steps R)
-steps_last (suc n) R = ap (λ z. round_steps R ++ z) (steps_last n (round R)) ∙ sym (append_assoc (round_steps R) (steps_after (round R) n) (round_steps (rounds (round R) n)))
+steps_last : (limit : ℕ) (hold : Bool) → (n : ℕ) (R : Repository) → steps_after limit hold R (suc n) ≡ steps_after limit hold R n ++ round_steps limit hold (rounds limit hold R n)
+steps_last limit hold zero R = append-nil (round_steps limit hold R)
+steps_last limit hold (suc n) R = ap (λ z. round_steps limit hold R ++ z) (steps_last limit hold n (round limit hold R)) ∙ sym (append_assoc (round_steps limit hold R) (steps_after limit hold (round limit hold R) n) (round_steps limit hold (rounds limit hold (round limit hold R) n)))
 
-class_within : (n : ℕ) (R : Repository) → SoundRepository R → (p : ℕ) → p < length R.clauses → class_after R n p < length (rounds R n).clauses
+class_within : (limit : ℕ) (hold : Bool) → (n : ℕ) (R : Repository) → SoundRepository R → (p : ℕ) → p < length R.clauses → class_after limit hold R n p < length (rounds limit hold R n).clauses
 unfolding round
-class_within zero R s p l = l
-class_within (suc n) R s p l =
-    let m : p < length (flat R).clauses = subst (λ z. p < z) (sym (flat_size R)) l in
-    let k : class_of (flat R) p < length (round R).clauses = subst (λ z. class_of (flat R) p < z) (sym (round_size (λ R. thin (prune R)) thin_tail R s)) (has_class_lem (flat R) p m).within in
-    class_within n (round R) (rounds_sound R s 1) (class_of (flat R) p) k
+class_within limit hold zero R s p l = l
+class_within limit hold (suc n) R s p l =
+    let m : p < length (flat limit hold R).clauses = subst (λ z. p < z) (sym (flat_size limit hold R)) l in
+    let k : class_of (flat limit hold R) p < length (round limit hold R).clauses = subst (λ z. class_of (flat limit hold R) p < z) (sym (round_size limit hold (λ R. thin (prune R)) thin_tail R s)) (has_class_lem (flat limit hold R) p m).within in
+    class_within limit hold n (round limit hold R) (rounds_sound limit hold R s 1) (class_of (flat limit hold R) p) k
 
 -- the limit
 first_none : {A : Type 0} (f : ℕ → Option A) (xs : List ℕ) → ((x : ℕ) → In x xs → f x ≡ None) → first_some (map f xs) ≡ None
@@ -72,42 +72,42 @@ first_at f (suc n) k i w l m h e =
       | inr ne ↦ ap (λ o. first_some (o ∷ map f (numbers n (suc k)))) (h k (omega (arith, ne))) ∙ first_at f n (suc k) i w (omega (arith, ne)) (omega arith) h e
     ]
 
-module _ (R : Repository) (s : SoundRepository R) (limit : ℕ) where
+module _ (limit : ℕ) (hold : Bool) (R : Repository) (s : SoundRepository R) where
   -- where each round so far has changed something, there are at least so many
-  pub changing : (i : ℕ) → ((j : ℕ) → j < i → round (rounds R j) ≡ rounds R j → ⊥) → i ≤ round_count R
-  changing i f = elim (cases_lt (round_count R) i) [
-    | inl l ↦ absurd (f (round_count R) l (kernel_is_lem R s).fixed)
+  pub changing : (i : ℕ) → ((j : ℕ) → j < i → round limit hold (rounds limit hold R j) ≡ rounds limit hold R j → ⊥) → i ≤ round_count limit hold R
+  changing i f = elim (cases_lt (round_count limit hold R) i) [
+    | inl l ↦ absurd (f (round_count limit hold R) l (kernel_is_lem limit hold R s).fixed)
     | inr l ↦ l
   ]
 
-  pub reached : (i : ℕ) → ((j : ℕ) → j < i → round (rounds R j) ≡ rounds R j → ⊥) → round (rounds R i) ≡ rounds R i → i ≡ round_count R
-  reached i f e = let a : i ≤ round_count R = changing i f in let b : round_count R ≤ i = (kernel_is_lem R s).first i e in omega (arith, a, b)
+  pub reached : (i : ℕ) → ((j : ℕ) → j < i → round limit hold (rounds limit hold R j) ≡ rounds limit hold R j → ⊥) → round limit hold (rounds limit hold R i) ≡ rounds limit hold R i → i ≡ round_count limit hold R
+  reached i f e = let a : i ≤ round_count limit hold R = changing i f in let b : round_count limit hold R ≤ i = (kernel_is_lem limit hold R s).first i e in omega (arith, a, b)
 
-  pub none_passed : (i : ℕ) → i ≡ round_count R → ((j : ℕ) → j < i → passes (rounds R j) limit ≡ None) → passes (rounds R i) limit ≡ None → limit_at R limit ≡ None
+  pub none_passed : (i : ℕ) → i ≡ round_count limit hold R → ((j : ℕ) → j < i → passes limit hold (rounds limit hold R j) ≡ None) → passes limit hold (rounds limit hold R i) ≡ None → limit_at limit hold R ≡ None
   unfolding limit_at
   none_passed i e h last =
-      first_none (passed_in_round R limit) (numbers (suc (round_count R)) 0) (λ j k.
-      let w : (0 ≤ j) × (j < 0 + suc (round_count R)) = numbers_parts (suc (round_count R)) 0 j k in
-      ap (option_map (in_round R j)) (elim (cases_lt j i) [
+      first_none (passed_in_round limit hold R) (numbers (suc (round_count limit hold R)) 0) (λ j k.
+      let w : (0 ≤ j) × (j < 0 + suc (round_count limit hold R)) = numbers_parts (suc (round_count limit hold R)) 0 j k in
+      ap (option_map (in_round limit hold R j)) (elim (cases_lt j i) [
         | inl l ↦ h j l
-        | inr l ↦ let same : j ≡ i = omega (arith, e) in ap (λ z. passes (rounds R z) limit) same ∙ last
+        | inr l ↦ let same : j ≡ i = omega (arith, e) in ap (λ z. passes limit hold (rounds limit hold R z)) same ∙ last
       ]))
 
-  pub one_passed : (i : ℕ) (w : Passed) → i ≤ round_count R → ((j : ℕ) → j < i → passes (rounds R j) limit ≡ None) → passes (rounds R i) limit ≡ Some w → limit_at R limit ≡ Some (in_round R i w)
+  pub one_passed : (i : ℕ) (w : Passed) → i ≤ round_count limit hold R → ((j : ℕ) → j < i → passes limit hold (rounds limit hold R j) ≡ None) → passes limit hold (rounds limit hold R i) ≡ Some w → limit_at limit hold R ≡ Some (in_round limit hold R i w)
   unfolding limit_at
   one_passed i w l h e =
-      first_at (passed_in_round R limit) (suc (round_count R)) 0 i (in_round R i w) zero-le (omega arith)
-      (λ j m. ap (option_map (in_round R j)) (h j m)) (ap (option_map (in_round R i)) e)
+      first_at (passed_in_round limit hold R) (suc (round_count limit hold R)) 0 i (in_round limit hold R i w) zero-le (omega arith)
+      (λ j m. ap (option_map (in_round limit hold R j)) (h j m)) (ap (option_map (in_round limit hold R i)) e)
 
 -- as many rounds fewer are left after one
-pub falls : (R : Repository) → SoundRepository R → (round R ≡ R → ⊥) → round_count (round R) < round_count R
-falls R s f = by (round_count R) refl
+pub falls : (limit : ℕ) (hold : Bool) → (R : Repository) → SoundRepository R → (round limit hold R ≡ R → ⊥) → round_count limit hold (round limit hold R) < round_count limit hold R
+falls limit hold R s f = by (round_count limit hold R) refl
   where
-    by : (n : ℕ) → round_count R ≡ n → round_count (round R) < round_count R
-    by zero e = absurd (f (ap (λ z. round (rounds R z)) (sym e) ∙ (kernel_is_lem R s).fixed ∙ ap (rounds R) e))
+    by : (n : ℕ) → round_count limit hold R ≡ n → round_count limit hold (round limit hold R) < round_count limit hold R
+    by zero e = absurd (f (ap (λ z. round limit hold (rounds limit hold R z)) (sym e) ∙ (kernel_is_lem limit hold R s).fixed ∙ ap (rounds limit hold R) e))
     by (suc n) e =
-        let fixed : round (rounds (round R) n) ≡ rounds (round R) n = ap (λ z. round (rounds R z)) (sym e) ∙ (kernel_is_lem R s).fixed ∙ ap (rounds R) e in
-        let l : round_count (round R) ≤ n = (kernel_is_lem (round R) (rounds_sound R s 1)).first n fixed in
+        let fixed : round limit hold (rounds limit hold (round limit hold R) n) ≡ rounds limit hold (round limit hold R) n = ap (λ z. round limit hold (rounds limit hold R z)) (sym e) ∙ (kernel_is_lem limit hold R s).fixed ∙ ap (rounds limit hold R) e in
+        let l : round_count limit hold (round limit hold R) ≤ n = (kernel_is_lem limit hold (round limit hold R) (rounds_sound limit hold R s 1)).first n fixed in
         omega (arith, l, e)
 
 -- steps while the pool grows
@@ -139,14 +139,14 @@ idles_sound pool (x ∷ xs) (y ∷ ys) e step i =
     ]
 
 -- what a trail tells after one more round
-pub record IsNext (old new : Interned) (book : Book) (past steps : List Step) (changed : Bool) : Type 0 where
-  pub meaning : trail_meaning new steps ≡ trail_meaning old past ++ (if changed then round_steps (repository_of old book) else [])
+pub record IsNext (limit : ℕ) (hold : Bool) (old new : Interned) (book : Book) (past steps : List Step) (changed : Bool) : Type 0 where
+  pub meaning : trail_meaning new steps ≡ trail_meaning old past ++ (if changed then round_steps limit hold (repository_of old book) else [])
   pub sound : SoundSteps new steps
 
-pub round_told : (old new : Interned) (book : Book) (next : List ℕ) (past idle steps : List Step) (changed : Bool) → IsPool old → Kept old new → Sound old book → SoundSteps old past →
-    next ≡ class_list (flat (repository_of old book)) → trail_meaning new idle ≡ map IdleStep (idle_steps (quotient (flat (repository_of old book)))) →
-    steps ≡ (if changed then (past ++ (Flat book ∷ (Merge next ∷ []))) ++ idle else past) → IsNext old new book past steps changed
-round_told old new book next past idle steps true is k s f c d h =
+pub round_told : (limit : ℕ) (hold : Bool) → (old new : Interned) (book : Book) (next : List ℕ) (past idle steps : List Step) (changed : Bool) → IsPool old → Kept old new → Sound old book → SoundSteps old past →
+    next ≡ class_list (flat limit hold (repository_of old book)) → trail_meaning new idle ≡ map IdleStep (idle_steps (quotient (flat limit hold (repository_of old book)))) →
+    steps ≡ (if changed then (past ++ (Flat book ∷ (Merge next ∷ []))) ++ idle else past) → IsNext limit hold old new book past steps changed
+round_told limit hold old new book next past idle steps true is k s f c d h =
     let own : List Step = Flat book ∷ (Merge next ∷ []) in
     record {
       meaning =
@@ -165,86 +165,87 @@ round_told old new book next past idle steps true is k s f c d h =
             | inr w ↦ elim (In_cases w) [ inl e ↦ subst (SoundStep new) (sym e) tt | inr x ↦ absurd (In_none x) ]
           ]
         ]
-        | inr u ↦ idles_sound new idle (idle_steps (quotient (flat (repository_of old book)))) d step u
+        | inr u ↦ idles_sound new idle (idle_steps (quotient (flat limit hold (repository_of old book)))) d step u
       ];
     }
-round_told old new book next past idle steps false is k s f c d h = record {
+round_told limit hold old new book next past idle steps false is k s f c d h = record {
   meaning = ap (trail_meaning new) h ∙ told_kept old new is k past f ∙ sym (append-nil (trail_meaning old past));
   sound = λ step j. sound_step old new is k step (f step (subst (λ z. In step z) h j));
 }
 
 -- the classes of a list of classes
-classes_next : (R : Repository) → SoundRepository R → (i : ℕ) (classes next made : List ℕ) → classes ≡ map (class_after R i) (packages R) → next ≡ class_list (flat (rounds R i)) →
-    made ≡ map (class_in next) classes → made ≡ map (class_after R (suc i)) (packages R)
-classes_next R s i classes next made e f g =
+classes_next : (limit : ℕ) (hold : Bool) → (R : Repository) → SoundRepository R → (i : ℕ) (classes next made : List ℕ) → classes ≡ map (class_after limit hold R i) (packages R) → next ≡ class_list (flat limit hold (rounds limit hold R i)) →
+    made ≡ map (class_in next) classes → made ≡ map (class_after limit hold R (suc i)) (packages R)
+classes_next limit hold R s i classes next made e f g =
     g ∙ ap₂ (λ n c. map (class_in n) c) f e
-    ∙ map_map (class_in (class_list (flat (rounds R i)))) (class_after R i) (packages R)
-    ∙ map_same (λ p. class_in (class_list (flat (rounds R i))) (class_after R i p)) (class_after R (suc i)) (packages R) (λ p j.
-    class_at (flat (rounds R i)) (class_after R i p) (subst (λ z. class_after R i p < z) (sym (flat_size (rounds R i))) (class_within i R s p (of_packages R p j)))
-    ∙ sym (class_last i R p))
+    ∙ map_map (class_in (class_list (flat limit hold (rounds limit hold R i)))) (class_after limit hold R i) (packages R)
+    ∙ map_same (λ p. class_in (class_list (flat limit hold (rounds limit hold R i))) (class_after limit hold R i p)) (class_after limit hold R (suc i)) (packages R) (λ p j.
+    class_at (flat limit hold (rounds limit hold R i)) (class_after limit hold R i p) (subst (λ z. class_after limit hold R i p < z) (sym (flat_size limit hold (rounds limit hold R i))) (class_within limit hold i R s p (of_packages R p j)))
+    ∙ sym (class_last limit hold i R p))
   where
     map_map : (f g : ℕ → ℕ) (xs : List ℕ) → map f (map g xs) ≡ map (λ x. f (g x)) xs
     map_map f g [] = refl
     map_map f g (x ∷ xs) = ap (λ z. f (g x) ∷ z) (map_map f g xs)
 
 -- one round more
-pub midway_more : (R : Repository) (limit : ℕ) (start pool grown old new : Interned) (book made : Book) (classes next compose : List ℕ) (steps more : List Step) (number after : ℕ) →
-    SoundRepository R → (m : IsMidway R limit start pool old book classes steps number) →
-    repository_of new made ≡ round (repository_of old book) → next ≡ class_list (flat (repository_of old book)) →
-    HasSteps start grown more (steps_after R m.index ++ round_steps (repository_of old book)) →
-    Sound new made → passes (repository_of old book) limit ≡ None → (round (repository_of old book) ≡ repository_of old book → ⊥) →
+pub midway_more : (limit : ℕ) (hold : Bool) (R : Repository) (start pool grown old new : Interned) (book made : Book) (classes next compose : List ℕ) (steps more : List Step) (number after : ℕ) →
+    SoundRepository R → (m : IsMidway R limit hold start pool old book classes steps number) →
+    repository_of new made ≡ round limit hold (repository_of old book) → next ≡ class_list (flat limit hold (repository_of old book)) →
+    HasSteps start grown more (steps_after limit hold R m.index ++ round_steps limit hold (repository_of old book)) →
+    Sound new made → passes limit hold (repository_of old book) ≡ None → (round limit hold (repository_of old book) ≡ repository_of old book → ⊥) →
     compose ≡ map (class_in next) classes → after ≡ min (number + 1) 4294967295 →
-    IsMidway R limit start grown new made compose more after
-midway_more R limit start pool grown old new book made classes next compose steps more number after s m r c d sound pass f g a =
+    IsMidway R limit hold start grown new made compose more after
+midway_more limit hold R start pool grown old new book made classes next compose steps more number after s m r c d sound pass f g a =
     let i : ℕ = m.index in
     record {
       index = suc i;
-      is = r ∙ ap round m.is ∙ sym (rounds_last i R);
+      is = r ∙ ap (round limit hold) m.is ∙ sym (rounds_last limit hold i R);
       sound = sound;
-      class_of = classes_next R s i classes next compose m.class_of (c ∙ ap (λ z. class_list (flat z)) m.is) g;
-      steps = subst (λ told. HasSteps start grown more told) (ap (λ z. steps_after R i ++ round_steps z) m.is ∙ sym (steps_last i R)) d;
+      class_of = classes_next limit hold R s i classes next compose m.class_of (c ∙ ap (λ z. class_list (flat limit hold z)) m.is) g;
+      steps = subst (λ told. HasSteps start grown more told) (ap (λ z. steps_after limit hold R i ++ round_steps limit hold z) m.is ∙ sym (steps_last limit hold i R)) d;
       counted = a ∙ ap (λ z. min (z + 1) 4294967295) m.counted ∙ omega arith;
       passed = λ j l. elim (cases_lt j i) [
         | inl u ↦ m.passed j u
-        | inr u ↦ let e : j ≡ i = omega arith in ap (λ z. passes (rounds R z) limit) e ∙ ap (λ z. passes z limit) (sym m.is) ∙ pass
+        | inr u ↦ let e : j ≡ i = omega arith in ap (λ z. passes limit hold (rounds limit hold R z)) e ∙ ap (λ z. passes limit hold z) (sym m.is) ∙ pass
       ];
       changed = λ j l. elim (cases_lt j i) [
         | inl u ↦ m.changed j u
         | inr u ↦ λ e. let same : j ≡ i = omega arith in
-            f (subst (λ z. round z ≡ z) (ap (rounds R) same ∙ sym m.is) e)
+            f (subst (λ z. round limit hold z ≡ z) (ap (rounds limit hold R) same ∙ sym m.is) e)
       ];
     }
 
 -- and the end
-pub midway_end : (R : Repository) (limit : ℕ) (start pool old new : Interned) (book made : Book) (classes : List ℕ) (steps : List Step) (number : ℕ) →
-    SoundRepository R → IsMidway R limit start pool old book classes steps number →
-    repository_of new made ≡ round (repository_of old book) → round (repository_of old book) ≡ repository_of old book →
-    Sound new made → passes (repository_of old book) limit ≡ None →
-    IsReached R limit start pool new made classes steps
-midway_end R limit start pool old new book made classes steps number s m r fixed sound pass =
+pub midway_end : (limit : ℕ) (hold : Bool) (R : Repository) (start pool old new : Interned) (book made : Book) (classes held : List ℕ) (steps : List Step) (number : ℕ) →
+    SoundRepository R → IsMidway R limit hold start pool old book classes steps number →
+    repository_of new made ≡ round limit hold (repository_of old book) → round limit hold (repository_of old book) ≡ repository_of old book →
+    Sound new made → passes limit hold (repository_of old book) ≡ None → held ≡ held_of limit hold (repository_of old book) →
+    IsReached R limit hold start pool new made classes held steps
+midway_end limit hold R start pool old new book made classes held steps number s m r fixed sound pass h =
     let i : ℕ = m.index in
-    let at : i ≡ round_count R = reached R s limit i m.changed (subst (λ z. round z ≡ z) m.is fixed) in
+    let at : i ≡ round_count limit hold R = reached limit hold R s i m.changed (subst (λ z. round limit hold z ≡ z) m.is fixed) in
     record {
-      is = r ∙ fixed ∙ m.is ∙ ap (rounds R) at;
+      is = r ∙ fixed ∙ m.is ∙ ap (rounds limit hold R) at;
       sound = sound;
-      class_of = m.class_of ∙ ap (λ z. map (class_after R z) (packages R)) at;
-      steps = subst (λ z. HasSteps start pool steps (steps_after R z)) at m.steps;
-      within = none_passed R s limit i at m.passed (ap (λ z. passes z limit) (sym m.is) ∙ pass);
+      class_of = m.class_of ∙ ap (λ z. map (class_after limit hold R z) (packages R)) at;
+      held = h ∙ ap (held_of limit hold) (m.is ∙ ap (rounds limit hold R) at);
+      steps = subst (λ z. HasSteps start pool steps (steps_after limit hold R z)) at m.steps;
+      within = none_passed limit hold R s i at m.passed (ap (λ z. passes limit hold z) (sym m.is) ∙ pass);
     }
 
 place_map : (f : ℕ → ℕ) (test : ℕ → Bool) (xs : List ℕ) → place_of test (map f xs) ≡ place_of (λ x. test (f x)) xs
 place_map f test [] = refl
 place_map f test (x ∷ xs) = ap (λ z. cond (test (f x)) 0 (suc z)) (place_map f test xs)
 
-pub midway_refused : (R : Repository) (limit : ℕ) (start pool work : Interned) (book : Book) (classes : List ℕ) (steps : List Step) (number : ℕ) (fault : FlatError) →
-    SoundRepository R → IsMidway R limit start pool work book classes steps number → OnLimit (λ passed. passes (repository_of work book) limit ≡ Some passed) fault →
-    OnRoundLimit (λ passed. limit_at R limit ≡ Some passed) (refusal number classes fault)
-midway_refused R limit start pool work book classes steps number (faults.Limit gone p count) s m e =
+pub midway_refused : (limit : ℕ) (hold : Bool) (R : Repository) (start pool work : Interned) (book : Book) (classes : List ℕ) (steps : List Step) (number : ℕ) (fault : FlatError) →
+    SoundRepository R → IsMidway R limit hold start pool work book classes steps number → OnLimit (λ passed. passes limit hold (repository_of work book) ≡ Some passed) fault →
+    OnRoundLimit (λ passed. limit_at limit hold R ≡ Some passed) (refusal number classes fault)
+midway_refused limit hold R start pool work book classes steps number (faults.Limit gone p count) s m e =
     let w : Passed = record { gone = gone; «package» = p; count = count } in
-    one_passed R s limit m.index w (changing R s limit m.index m.changed) m.passed (ap (λ z. passes z limit) (sym m.is) ∙ e)
+    one_passed limit hold R s m.index w (changing limit hold R s m.index m.changed) m.passed (ap (λ z. passes limit hold z) (sym m.is) ∙ e)
     ∙ ap Some (ap₂ (λ (n q : ℕ). record { number = n; gone = gone; «package» = q; count = count }) (sym m.counted)
-    (sym (place_map (class_after R m.index) (λ k. eqb k p) (packages R)) ∙ ap (place_of (λ k. eqb k p)) (sym m.class_of)))
-midway_refused R limit start pool work book classes steps number faults.Memory s m e = tt
+    (sym (place_map (class_after limit hold R m.index) (λ k. eqb k p) (packages R)) ∙ ap (place_of (λ k. eqb k p)) (sym m.class_of)))
+midway_refused limit hold R start pool work book classes steps number faults.Memory s m e = tt
 
 -- before any round
 steps_none_yet : (pool : Interned) (steps : List Step) → steps ≡ [] → HasSteps pool pool steps []
@@ -255,9 +256,9 @@ steps_none_yet pool steps e = record {
   kept = kept_same pool;
 }
 
-pub midway_none : (pool work : Interned) (book : Book) (classes : List ℕ) (steps : List Step) (limit size : ℕ) → Sound work book →
-    size ≡ length book.rows → classes ≡ numbers size 0 → steps ≡ [] → IsMidway (repository_of work book) limit pool pool work book classes steps 1
-midway_none pool work book classes steps limit size s g h t = record {
+pub midway_none : (limit : ℕ) (hold : Bool) (pool work : Interned) (book : Book) (classes : List ℕ) (steps : List Step) (size : ℕ) → Sound work book →
+    size ≡ length book.rows → classes ≡ numbers size 0 → steps ≡ [] → IsMidway (repository_of work book) limit hold pool pool work book classes steps 1
+midway_none limit hold pool work book classes steps size s g h t = record {
   index = 0;
   is = refl;
   sound = s;
@@ -273,21 +274,21 @@ midway_none pool work book classes steps limit size s g h t = record {
     same_list (x ∷ xs) = ap (λ z. x ∷ z) (same_list xs)
 
 -- the test of books tells whether a round changes nothing
-told_same : (old new : Interned) (book made : Book) → IsPool old → Kept old new → Sound old book → repository_of new made ≡ round (repository_of old book) →
-    is_same_repository (repository_of new book) (repository_of new made) ≡ true → round (repository_of old book) ≡ repository_of old book
-told_same old new book made is k s r t = sym r ∙ sym (same_from (repository_of new book) (repository_of new made) t) ∙ repository_kept old new is k book s
+told_same : (limit : ℕ) (hold : Bool) → (old new : Interned) (book made : Book) → IsPool old → Kept old new → Sound old book → repository_of new made ≡ round limit hold (repository_of old book) →
+    is_same_repository (repository_of new book) (repository_of new made) ≡ true → round limit hold (repository_of old book) ≡ repository_of old book
+told_same limit hold old new book made is k s r t = sym r ∙ sym (same_from (repository_of new book) (repository_of new made) t) ∙ repository_kept old new is k book s
 
-told_other : (old new : Interned) (book made : Book) → IsPool old → Kept old new → Sound old book → repository_of new made ≡ round (repository_of old book) →
-    is_same_repository (repository_of new book) (repository_of new made) ≡ false → round (repository_of old book) ≡ repository_of old book → ⊥
-told_other old new book made is k s r t e =
+told_other : (limit : ℕ) (hold : Bool) → (old new : Interned) (book made : Book) → IsPool old → Kept old new → Sound old book → repository_of new made ≡ round limit hold (repository_of old book) →
+    is_same_repository (repository_of new book) (repository_of new made) ≡ false → round limit hold (repository_of old book) ≡ repository_of old book → ⊥
+told_other limit hold old new book made is k s r t e =
     both_ways (is_same_repository (repository_of new book) (repository_of new made)) t
     (repository_test (repository_of new book) (repository_of new made) (repository_kept old new is k book s ∙ sym e ∙ sym r))
 
-pub round_changes : (old new : Interned) (book made : Book) (same : Bool) → IsPool old → Kept old new → Sound old book → repository_of new made ≡ round (repository_of old book) →
-    same ≡ is_same_repository (repository_of new book) (repository_of new made) → (not same ≡ false) ↔ (round (repository_of old book) ≡ repository_of old book)
-round_changes old new book made true is k s r e = (λ _. told_same old new book made is k s r (sym e), λ _. refl)
-round_changes old new book made false is k s r e = (λ f. absurd (let n : ⊥ = cc in n), λ f. absurd (told_other old new book made is k s r (sym e) f))
+pub round_changes : (limit : ℕ) (hold : Bool) → (old new : Interned) (book made : Book) (same : Bool) → IsPool old → Kept old new → Sound old book → repository_of new made ≡ round limit hold (repository_of old book) →
+    same ≡ is_same_repository (repository_of new book) (repository_of new made) → (not same ≡ false) ↔ (round limit hold (repository_of old book) ≡ repository_of old book)
+round_changes limit hold old new book made true is k s r e = (λ _. told_same limit hold old new book made is k s r (sym e), λ _. refl)
+round_changes limit hold old new book made false is k s r e = (λ f. absurd (let n : ⊥ = cc in n), λ f. absurd (told_other limit hold old new book made is k s r (sym e) f))
 
-pub midway_size : (R : Repository) (limit : ℕ) (start pool work : Interned) (book : Book) (classes : List ℕ) (steps : List Step) (number : ℕ) →
-    IsMidway R limit start pool work book classes steps number → length classes ≡ length R.clauses
-midway_size R limit start pool work book classes steps number m = ap length m.class_of ∙ length_numbers (class_after R m.index) (length R.clauses) 0
+pub midway_size : (limit : ℕ) (hold : Bool) (R : Repository) (start pool work : Interned) (book : Book) (classes : List ℕ) (steps : List Step) (number : ℕ) →
+    IsMidway R limit hold start pool work book classes steps number → length classes ≡ length R.clauses
+midway_size limit hold R start pool work book classes steps number m = ap length m.class_of ∙ length_numbers (class_after limit hold R m.index) (length R.clauses) 0

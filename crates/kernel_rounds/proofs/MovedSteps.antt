@@ -1,5 +1,5 @@
 -- Steps whose books come into another pool, and what is left of a pool.
-use Rattle.std.proofs.Common.{◌≡◌, ℕ, ◌<◌, ◌+◌, List, [], ◌∷◌, ◌++◌, inl, inr, refl, sym, ◌∙◌, ap, ap₂, subst, length, get_or, take, drop, map, arith, append_assoc, append-nil}
+use Rattle.std.proofs.Common.{◌≡◌, ℕ, Bool, ◌<◌, ◌+◌, List, [], ◌∷◌, ◌++◌, inl, inr, refl, sym, ◌∙◌, ap, ap₂, subst, length, get_or, take, drop, map, append_assoc, append-nil}
 use Rattle.std.proofs.lemmas.Bool.{cases_lt}
 use Rattle.std.proofs.lemmas.List.{map-append, take_more, take-append-drop}
 use Rattle.clause_pool.specs.Interned.{Interned, IsPool, Kept, clause_at, ids_at, row_at}
@@ -190,11 +190,12 @@ steps_behind start old new from steps round moved all told is h s same adds k e 
 }
 
 -- the kernel's book behind the steps
-pub extracted_behind : (R : Repository) (limit : ℕ) (start old new work : Interned) (book made : Book) (classes : List ℕ) (steps : List Step) → IsPool old →
-    IsReached R limit start old work book classes steps → IsSameBook work book new made → Kept old new → IsExtracted R limit start new made classes steps
-extracted_behind R limit start old new work book made classes steps is r same k = record {
+pub extracted_behind : (limit : ℕ) (hold : Bool) (R : Repository) (start old new work : Interned) (book made : Book) (classes held : List ℕ) (steps : List Step) → IsPool old →
+    IsReached R limit hold start old work book classes held steps → IsSameBook work book new made → Kept old new → IsExtracted R limit hold start new made classes held steps
+extracted_behind limit hold R start old new work book made classes held steps is r same k = record {
   is = same.repository ∙ r.is;
   class_of = r.class_of;
+  held = r.held;
   steps = told_kept old new is k steps r.steps.books ∙ r.steps.meaning;
   sound = same.sound r.sound;
   books = λ step i. sound_step old new is k step (r.steps.books step i);

@@ -16,7 +16,7 @@ use Rattle.row_book.proofs.Books.{in_listed}
 use Rattle.row_book.proofs.Lists.{In_cases, In_none}
 use Rattle.row_book.proofs.Order.{numbers_parts}
 use Rattle.row_book.proofs.Repositories.{repository_same, same_rows, rows_test, same_tables, tables_test, table_same}
-use Rattle.clause_flatten.proofs.Stages.{core_is_the_conflicted_lem}
+use Rattle.clause_flatten.proofs.Stages.{core_stays_lem}
 use Rattle.class_merge.proofs.Classes.{alike_from, image_from, image_parts}
 use Rattle.class_merge.proofs.Kept.{merged_size}
 use Rattle.class_merge.proofs.Plain.{alike_one}
@@ -137,13 +137,13 @@ needed_clause K tidy e p d i = pick (is_dead K p) refl
     pick false t = (prune_fine K tidy e p l).kept d t i
 
 pub fixed_is_settled_lem : FixedIsSettled
-fixed_is_settled_lem K s e =
-    let w : LeftByEach K = fixed_parts_lem K s e in
-    let tidy : TidyRepository K = subst (λ R. TidyRepository R) w.flattening (flat_tidy K s) in
+fixed_is_settled_lem limit hold K s e =
+    let w : LeftByEach limit hold K = fixed_parts_lem limit hold K s e in
+    let tidy : TidyRepository K = subst (λ R. TidyRepository R) w.flattening (flat_tidy limit hold K s) in
     let size : length (firsts K) ≡ length K.clauses = sym (merged_size K) ∙ ap (λ R. length R.clauses) w.merging in
     record {
-      conflicted = λ p c n i j.
-          ((core_is_the_conflicted_lem K n).0 ((flat_minimal K s p c (subst (λ R. In c (clauses_of R p)) (sym w.flattening) i)).blocks.within n j)).1;
+      stays = λ p c n i j.
+          ((core_stays_lem limit hold K n).0 ((flat_minimal limit hold K s p c (subst (λ R. In c (clauses_of R p)) (sym w.flattening) i)).blocks.within n j)).1;
       unlike = λ p q l m t. alike_one K size p q l m (alike_from K p q t);
       dead = λ p l t. (prune_fine K tidy w.pruning p l).dead t;
       needed = needed_clause K tidy w.pruning;
@@ -162,116 +162,116 @@ repository_test R F e =
     and_from (pointwise (pointwise (pointwise eqb)) R.clauses F.clauses) (pointwise (pointwise eqb) R.conflicts F.conflicts)
     (tables_test R.clauses F.clauses (ap (λ T. T.clauses) e)) (rows_test R.conflicts F.conflicts (ap (λ T. T.conflicts) e))
 
-record Until (m : ℕ) (R : Repository) : Type 0 where
-  fixed : (n : ℕ) → n ≤ m → round (rounds R n) ≡ rounds R n → round (rounds R (rounds_until m R)) ≡ rounds R (rounds_until m R)
-  first : (n : ℕ) → round (rounds R n) ≡ rounds R n → rounds_until m R ≤ n
+record Until (limit : ℕ) (hold : Bool) (m : ℕ) (R : Repository) : Type 0 where
+  fixed : (n : ℕ) → n ≤ m → round limit hold (rounds limit hold R n) ≡ rounds limit hold R n → round limit hold (rounds limit hold R (rounds_until limit hold m R)) ≡ rounds limit hold R (rounds_until limit hold m R)
+  first : (n : ℕ) → round limit hold (rounds limit hold R n) ≡ rounds limit hold R n → rounds_until limit hold m R ≤ n
 
-until_is : (m : ℕ) (R : Repository) → Until m R
-until_is zero R = record {
-  fixed = λ n l e. subst (λ k. round (rounds R k) ≡ rounds R k) (let z : n ≡ 0 = omega arith in z) e;
+until_is : (limit : ℕ) (hold : Bool) → (m : ℕ) (R : Repository) → Until limit hold m R
+until_is limit hold zero R = record {
+  fixed = λ n l e. subst (λ k. round limit hold (rounds limit hold R k) ≡ rounds limit hold R k) (let z : n ≡ 0 = omega arith in z) e;
   first = λ n e. zero-le;
 }
-until_is (suc m) R = pick (is_same_repository (round R) R) refl (until_is m (round R))
+until_is limit hold (suc m) R = pick (is_same_repository (round limit hold R) R) refl (until_is limit hold m (round limit hold R))
   where
-    pick : (b : Bool) → is_same_repository (round R) R ≡ b → Until m (round R) → Until (suc m) R
+    pick : (b : Bool) → is_same_repository (round limit hold R) R ≡ b → Until limit hold m (round limit hold R) → Until limit hold (suc m) R
     pick true t u = record {
-      fixed = λ n l e. subst (λ b. round (rounds R (cond b 0 (suc (rounds_until m (round R))))) ≡ rounds R (cond b 0 (suc (rounds_until m (round R))))) (sym t) (same_from (round R) R t);
-      first = λ n e. subst (λ b. cond b 0 (suc (rounds_until m (round R))) ≤ n) (sym t) zero-le;
+      fixed = λ n l e. subst (λ b. round limit hold (rounds limit hold R (cond b 0 (suc (rounds_until limit hold m (round limit hold R))))) ≡ rounds limit hold R (cond b 0 (suc (rounds_until limit hold m (round limit hold R))))) (sym t) (same_from (round limit hold R) R t);
+      first = λ n e. subst (λ b. cond b 0 (suc (rounds_until limit hold m (round limit hold R))) ≤ n) (sym t) zero-le;
     }
     pick false t u = record {
-      fixed = λ n l e. subst (λ b. round (rounds R (cond b 0 (suc (rounds_until m (round R))))) ≡ rounds R (cond b 0 (suc (rounds_until m (round R))))) (sym t) (later n l e);
-      first = λ n e. subst (λ b. cond b 0 (suc (rounds_until m (round R))) ≤ n) (sym t) (below n e);
+      fixed = λ n l e. subst (λ b. round limit hold (rounds limit hold R (cond b 0 (suc (rounds_until limit hold m (round limit hold R))))) ≡ rounds limit hold R (cond b 0 (suc (rounds_until limit hold m (round limit hold R))))) (sym t) (later n l e);
+      first = λ n e. subst (λ b. cond b 0 (suc (rounds_until limit hold m (round limit hold R))) ≤ n) (sym t) (below n e);
     }
       where
-        later : (n : ℕ) → n ≤ suc m → round (rounds R n) ≡ rounds R n → round (rounds (round R) (rounds_until m (round R))) ≡ rounds (round R) (rounds_until m (round R))
-        later zero l e = absurd (both_ways (is_same_repository (round R) R) t (repository_test (round R) R e))
+        later : (n : ℕ) → n ≤ suc m → round limit hold (rounds limit hold R n) ≡ rounds limit hold R n → round limit hold (rounds limit hold (round limit hold R) (rounds_until limit hold m (round limit hold R))) ≡ rounds limit hold (round limit hold R) (rounds_until limit hold m (round limit hold R))
+        later zero l e = absurd (both_ways (is_same_repository (round limit hold R) R) t (repository_test (round limit hold R) R e))
         later (suc n) l e = u.fixed n (omega arith) e
 
-        below : (n : ℕ) → round (rounds R n) ≡ rounds R n → suc (rounds_until m (round R)) ≤ n
-        below zero e = absurd (both_ways (is_same_repository (round R) R) t (repository_test (round R) R e))
-        below (suc n) e = let l : rounds_until m (round R) ≤ n = u.first n e in omega (arith, l)
+        below : (n : ℕ) → round limit hold (rounds limit hold R n) ≡ rounds limit hold R n → suc (rounds_until limit hold m (round limit hold R)) ≤ n
+        below zero e = absurd (both_ways (is_same_repository (round limit hold R) R) t (repository_test (round limit hold R) R e))
+        below (suc n) e = let l : rounds_until limit hold m (round limit hold R) ≤ n = u.first n e in omega (arith, l)
 
 -- rounds as the tail's
 tail : Repository → Repository
 tail R = thin (prune R)
 
-rounds_are : (R : Repository) (n : ℕ) → rounds_with (λ R. thin (prune R)) R n ≡ rounds R n
+rounds_are : (limit : ℕ) (hold : Bool) → (R : Repository) (n : ℕ) → rounds_with limit hold (λ R. thin (prune R)) R n ≡ rounds limit hold R n
 unfolding round
-rounds_are R zero = refl
-rounds_are R (suc n) = rounds_are (round R) n
+rounds_are limit hold R zero = refl
+rounds_are limit hold R (suc n) = rounds_are limit hold (round limit hold R) n
 
-images_are : (R : Repository) (n : ℕ) (S : NumSet) → image_with (λ R. thin (prune R)) R n S ≡ image_after R n S
+images_are : (limit : ℕ) (hold : Bool) → (R : Repository) (n : ℕ) (S : NumSet) → image_with limit hold (λ R. thin (prune R)) R n S ≡ image_after limit hold R n S
 unfolding round
-images_are R zero S = refl
-images_are R (suc n) S = images_are (round R) n (image (flat R) S)
+images_are limit hold R zero S = refl
+images_are limit hold R (suc n) S = images_are limit hold (round limit hold R) n (image (flat limit hold R) S)
 
-rounds_end : (R : Repository) → SoundRepository R → round (rounds R (enough_rounds (length R.clauses))) ≡ rounds R (enough_rounds (length R.clauses))
+rounds_end : (limit : ℕ) (hold : Bool) → (R : Repository) → SoundRepository R → round limit hold (rounds limit hold R (enough_rounds (length R.clauses))) ≡ rounds limit hold R (enough_rounds (length R.clauses))
 unfolding round
-rounds_end R s = subst (λ F. thin (prune (quotient (flat F))) ≡ F) (rounds_are R (enough_rounds (length R.clauses))) (tails_end_lem (λ R. thin (prune R)) thin_tail R s)
+rounds_end limit hold R s = subst (λ F. thin (prune (quotient (flat limit hold F))) ≡ F) (rounds_are limit hold R (enough_rounds (length R.clauses))) (tails_end_lem limit hold (λ R. thin (prune R)) thin_tail R s)
 
-pub rounds_sound : (R : Repository) → SoundRepository R → (n : ℕ) → SoundRepository (rounds R n)
-rounds_sound R s n = subst (λ F. SoundRepository F) (rounds_are R n) (tails_keep_lem (λ R. thin (prune R)) thin_tail R s n).sound
+pub rounds_sound : (limit : ℕ) (hold : Bool) → (R : Repository) → SoundRepository R → (n : ℕ) → SoundRepository (rounds limit hold R n)
+rounds_sound limit hold R s n = subst (λ F. SoundRepository F) (rounds_are limit hold R n) (tails_keep_lem limit hold (λ R. thin (prune R)) thin_tail R s n).sound
 
-stays_fixed : (n : ℕ) (R : Repository) → round R ≡ R → rounds R n ≡ R
-stays_fixed zero R e = refl
-stays_fixed (suc n) R e = ap (λ F. rounds F n) e ∙ stays_fixed n R e
+stays_fixed : (limit : ℕ) (hold : Bool) → (n : ℕ) (R : Repository) → round limit hold R ≡ R → rounds limit hold R n ≡ R
+stays_fixed limit hold zero R e = refl
+stays_fixed limit hold (suc n) R e = ap (λ F. rounds limit hold F n) e ∙ stays_fixed limit hold n R e
 
-one_end : (R : Repository) (m n : ℕ) → round (rounds R m) ≡ rounds R m → round (rounds R n) ≡ rounds R n → rounds R m ≡ rounds R n
-one_end R zero n e f = sym (stays_fixed n R e)
-one_end R (suc m) zero e f = stays_fixed (suc m) R f
-one_end R (suc m) (suc n) e f = one_end (round R) m n e f
+one_end : (limit : ℕ) (hold : Bool) → (R : Repository) (m n : ℕ) → round limit hold (rounds limit hold R m) ≡ rounds limit hold R m → round limit hold (rounds limit hold R n) ≡ rounds limit hold R n → rounds limit hold R m ≡ rounds limit hold R n
+one_end limit hold R zero n e f = sym (stays_fixed limit hold n R e)
+one_end limit hold R (suc m) zero e f = stays_fixed limit hold (suc m) R f
+one_end limit hold R (suc m) (suc n) e f = one_end limit hold (round limit hold R) m n e f
 
 pub kernel_is_lem : KernelIs
 unfolding round_count
-kernel_is_lem R s =
+kernel_is_lem limit hold R s =
     let n : ℕ = enough_rounds (length R.clauses) in
-    let u : Until n R = until_is n R in
-    let fixed : round (kernel R) ≡ kernel R = u.fixed n (omega arith) (rounds_end R s) in
-    let sound : SoundRepository (kernel R) = rounds_sound R s (round_count R) in
+    let u : Until limit hold n R = until_is limit hold n R in
+    let fixed : round limit hold (kernel limit hold R) ≡ kernel limit hold R = u.fixed n (omega arith) (rounds_end limit hold R s) in
+    let sound : SoundRepository (kernel limit hold R) = rounds_sound limit hold R s (round_count limit hold R) in
     record {
       fixed = fixed;
       first = u.first;
-      only = λ m e. one_end R m (round_count R) e fixed;
+      only = λ m e. one_end limit hold R m (round_count limit hold R) e fixed;
       sound = sound;
-      settled = fixed_is_settled_lem (kernel R) sound fixed;
+      settled = fixed_is_settled_lem limit hold (kernel limit hold R) sound fixed;
     }
 
 pub kernel_keeps_lem : KernelKeeps
-kernel_keeps_lem R s S small =
-    let k : RoundsKept (λ R. thin (prune R)) R (round_count R) = tails_keep_lem (λ R. thin (prune R)) thin_tail R s (round_count R) in
-    let both : (F : Repository) (T : NumSet) → rounds_with (λ R. thin (prune R)) R (round_count R) ≡ F → image_with (λ R. thin (prune R)) R (round_count R) S ≡ T →
-    (Coinst R S ↔ Coinst F T) = λ F T e f. subst (λ F. Coinst R S ↔ Coinst F T) e (subst (λ T. Coinst R S ↔ Coinst (rounds_with (λ R. thin (prune R)) R (round_count R)) T) f (k.keeps S small)) in
-    both (kernel R) (kernel_image R S) (rounds_are R (round_count R)) (images_are R (round_count R) S)
+kernel_keeps_lem limit hold R s S small =
+    let k : RoundsKept limit hold (λ R. thin (prune R)) R (round_count limit hold R) = tails_keep_lem limit hold (λ R. thin (prune R)) thin_tail R s (round_count limit hold R) in
+    let both : (F : Repository) (T : NumSet) → rounds_with limit hold (λ R. thin (prune R)) R (round_count limit hold R) ≡ F → image_with limit hold (λ R. thin (prune R)) R (round_count limit hold R) S ≡ T →
+    (Coinst R S ↔ Coinst F T) = λ F T e f. subst (λ F. Coinst R S ↔ Coinst F T) e (subst (λ T. Coinst R S ↔ Coinst (rounds_with limit hold (λ R. thin (prune R)) R (round_count limit hold R)) T) f (k.keeps S small)) in
+    both (kernel limit hold R) (kernel_image limit hold R S) (rounds_are limit hold R (round_count limit hold R)) (images_are limit hold R (round_count limit hold R) S)
 
 -- the image of a set
-record Imaged (R : Repository) (n : ℕ) (S : NumSet) (k : ℕ) : Type 0 where
+record Imaged (limit : ℕ) (hold : Bool) (R : Repository) (n : ℕ) (S : NumSet) (k : ℕ) : Type 0 where
   by : ℕ
   within : by < length R.clauses
   inside : Is S by
-  class : class_after R n by ≡ k
+  class : class_after limit hold R n by ≡ k
 
-imaged_parts : (R : Repository) → SoundRepository R → (n : ℕ) (S : NumSet) → OfPackages R S → (k : ℕ) → Is (image_after R n S) k → Imaged R n S k
+imaged_parts : (limit : ℕ) (hold : Bool) → (R : Repository) → SoundRepository R → (n : ℕ) (S : NumSet) → OfPackages R S → (k : ℕ) → Is (image_after limit hold R n S) k → Imaged limit hold R n S k
 unfolding round
-imaged_parts R s zero S small k i = record { by = k; within = small k i; inside = i; class = refl }
-imaged_parts R s (suc n) S small k i =
-    let w : Imaged (round R) n (image (flat R) S) k =
-    imaged_parts (round R) (round_sound (λ R. thin (prune R)) thin_tail R s) n (image (flat R) S) (image_within (λ R. thin (prune R)) thin_tail R s S) k i in
-    let v : (p : ℕ) × (p < length (flat R).clauses) × Is S p × (class_of (flat R) p ≡ w.by) = image_parts (flat R) S w.by w.inside in
-    record { by = v.0; within = subst (λ z. v.0 < z) (flat_size R) v.1; inside = v.2; class = ap (class_after (round R) n) v.3 ∙ w.class }
+imaged_parts limit hold R s zero S small k i = record { by = k; within = small k i; inside = i; class = refl }
+imaged_parts limit hold R s (suc n) S small k i =
+    let w : Imaged limit hold (round limit hold R) n (image (flat limit hold R) S) k =
+    imaged_parts limit hold (round limit hold R) (round_sound limit hold (λ R. thin (prune R)) thin_tail R s) n (image (flat limit hold R) S) (image_within limit hold (λ R. thin (prune R)) thin_tail R s S) k i in
+    let v : (p : ℕ) × (p < length (flat limit hold R).clauses) × Is S p × (class_of (flat limit hold R) p ≡ w.by) = image_parts (flat limit hold R) S w.by w.inside in
+    record { by = v.0; within = subst (λ z. v.0 < z) (flat_size limit hold R) v.1; inside = v.2; class = ap (class_after limit hold (round limit hold R) n) v.3 ∙ w.class }
 
-imaged_from : (R : Repository) (n : ℕ) (S : NumSet) (p : ℕ) → p < length R.clauses → SoundRepository R → Is S p → Is (image_after R n S) (class_after R n p)
+imaged_from : (limit : ℕ) (hold : Bool) → (R : Repository) (n : ℕ) (S : NumSet) (p : ℕ) → p < length R.clauses → SoundRepository R → Is S p → Is (image_after limit hold R n S) (class_after limit hold R n p)
 unfolding round
-imaged_from R zero S p l s i = i
-imaged_from R (suc n) S p l s i =
-    let q : p < length (flat R).clauses = subst (λ z. p < z) (sym (flat_size R)) l in
-    let j : Is (image (flat R) S) (class_of (flat R) p) = image_from (flat R) S p q i in
-    imaged_from (round R) n (image (flat R) S) (class_of (flat R) p)
-    (image_within (λ R. thin (prune R)) thin_tail R s S (class_of (flat R) p) j)
-    (round_sound (λ R. thin (prune R)) thin_tail R s) j
+imaged_from limit hold R zero S p l s i = i
+imaged_from limit hold R (suc n) S p l s i =
+    let q : p < length (flat limit hold R).clauses = subst (λ z. p < z) (sym (flat_size limit hold R)) l in
+    let j : Is (image (flat limit hold R) S) (class_of (flat limit hold R) p) = image_from (flat limit hold R) S p q i in
+    imaged_from limit hold (round limit hold R) n (image (flat limit hold R) S) (class_of (flat limit hold R) p)
+    (image_within limit hold (λ R. thin (prune R)) thin_tail R s S (class_of (flat limit hold R) p) j)
+    (round_sound limit hold (λ R. thin (prune R)) thin_tail R s) j
 
 pub image_is_of_classes_lem : ImageIsOfClasses
-image_is_of_classes_lem R s S small k = (
-  (λ i. let w : Imaged R (round_count R) S k = imaged_parts R s (round_count R) S small k i in
+image_is_of_classes_lem limit hold R s S small k = (
+  (λ i. let w : Imaged limit hold R (round_count limit hold R) S k = imaged_parts limit hold R s (round_count limit hold R) S small k i in
       record { by = w.by; within = w.within; inside = w.inside; class = w.class }),
-  (λ h. subst (λ z. Is (kernel_image R S) z) h.class (imaged_from R (round_count R) S h.by h.within s h.inside)),
+  (λ h. subst (λ z. Is (kernel_image limit hold R S) z) h.class (imaged_from limit hold R (round_count limit hold R) S h.by h.within s h.inside)),
 )

@@ -1,5 +1,5 @@
 -- A repository that a round leaves is left by each part of the round.
-use Rattle.std.proofs.Common.{◌≡◌, ℕ, ◌<◌, true, List, [], length, ◌⊎◌, inl, inr, sym, ◌∙◌, ap, subst, slice_index_or}
+use Rattle.std.proofs.Common.{◌≡◌, ℕ, Bool, ◌<◌, true, List, [], length, ◌⊎◌, inl, inr, sym, ◌∙◌, ap, subst, slice_index_or}
 use Rattle.row_book.specs.Sets.{In}
 use Rattle.row_book.specs.Clauses.{InOrder}
 use Rattle.row_book.specs.Repository.{Repository, clauses_of}
@@ -21,55 +21,55 @@ use Rattle.kernel_rounds.proofs.Ending.{merge_full}
 use Rattle.kernel_rounds.proofs.Flattened.{flat_conflicts, flat_minimal, flat_order, flat_plain_lem, flat_row, flat_size, plain_from, plain_parts}
 use Rattle.kernel_rounds.proofs.Tails.{merged_tidy}
 
-record Parts (K : Repository) : Type 0 where
-  flat_same : flat K ≡ K
-  merge_same : quotient (flat K) ≡ flat K
-  prune_same : prune (quotient (flat K)) ≡ K
+record Parts (limit : ℕ) (hold : Bool) (K : Repository) : Type 0 where
+  flat_same : flat limit hold K ≡ K
+  merge_same : quotient (flat limit hold K) ≡ flat limit hold K
+  prune_same : prune (quotient (flat limit hold K)) ≡ K
 
-parts : (K : Repository) → SoundRepository K → thin (prune (quotient (flat K))) ≡ K → Parts K
-parts K s e =
-    let F : Repository = flat K in
+parts : (limit : ℕ) (hold : Bool) → (K : Repository) → SoundRepository K → thin (prune (quotient (flat limit hold K))) ≡ K → Parts limit hold K
+parts limit hold K s e =
+    let F : Repository = flat limit hold K in
     let M : Repository = quotient F in
-    let m : TidyRepository M = merged_tidy K s in
+    let m : TidyRepository M = merged_tidy limit hold K s in
     let P : Repository = prune M in
     let t : Step M P = prune_step M m in
     let clauses : P.clauses ≡ K.clauses = sym (thin_is_sound_lem P t.tidy.sound).clauses ∙ ap (λ R. R.clauses) e in
     let size : length (firsts F) ≡ length K.clauses = sym (t.size ∙ merged_size F) ∙ ap (λ c. length c) clauses in
-    let merge_same : M ≡ F = merge_full K s size in
+    let merge_same : M ≡ F = merge_full limit hold K s size in
     let p_row : (p : ℕ) → clauses_of P p ≡ clauses_of K p = λ p. ap (λ c. slice_index_or c p []) clauses in
     let of_flat : (p : ℕ) (c : List ℕ) → In c (clauses_of K p) → In c (clauses_of F p) ⊎ (c ≡ []) =
     λ p c i. elim (t.rows p c (subst (λ r. In c r) (sym (p_row p)) i)) [
       | inl j ↦ inl (subst (λ R. In c (clauses_of R p)) merge_same j)
       | inr g ↦ inr g
     ] in
-    let inner : (p : ℕ) (c : List ℕ) (n : ℕ) → In c (clauses_of K p) → In n c → core_of K n ≡ true =
+    let inner : (p : ℕ) (c : List ℕ) (n : ℕ) → In c (clauses_of K p) → In n c → core_of limit hold K n ≡ true =
     λ p c n i j. elim (of_flat p c i) [
-      | inl h ↦ (flat_minimal K s p c h).blocks.within n j
+      | inl h ↦ (flat_minimal limit hold K s p c h).blocks.within n j
       | inr g ↦ absurd (In_none (subst (λ d. In n d) g j))
     ] in
-    let plain : (p : ℕ) → p < length K.clauses → clauses_of F p ≡ plain_clauses K p = λ p l. flat_row K p l ∙ flat_plain_lem K s inner p l in
+    let plain : (p : ℕ) → p < length K.clauses → clauses_of F p ≡ plain_clauses K p = λ p l. flat_row limit hold K p l ∙ flat_plain_lem limit hold K s inner p l in
     let k_order : (p : ℕ) → InOrder (clauses_of K p) = λ p. subst (λ r. InOrder r) (p_row p) (t.order (merged_order F) p) in
     let same : (p : ℕ) → p < length K.clauses → clauses_of F p ≡ clauses_of K p =
-    λ p l. order_same (clauses_of F p) (clauses_of K p) (flat_order K p) (k_order p)
+    λ p l. order_same (clauses_of F p) (clauses_of K p) (flat_order limit hold K p) (k_order p)
     (λ c i. plain_parts K p c (subst (λ r. In c r) (plain p l) i))
     (λ c i. elim (of_flat p c i) [
       | inl h ↦ h
       | inr g ↦ subst (λ r. In c r) (sym (plain p l))
           (plain_from K p c i (λ j. In_none (subst (λ d. In p d) g j)) (λ S j u n v. absurd (In_none (subst (λ d. In n d) g v))))
     ]) in
-    let flat_same : F ≡ K = repository_same F K (table_same F.clauses K.clauses (flat_size K) (λ p l. same p (subst (λ z. p < z) (flat_size K) l))) (flat_conflicts K) in
+    let flat_same : F ≡ K = repository_same F K (table_same F.clauses K.clauses (flat_size limit hold K) (λ p l. same p (subst (λ z. p < z) (flat_size limit hold K) l))) (flat_conflicts limit hold K) in
     record {
       flat_same = flat_same;
       merge_same = merge_same;
-      prune_same = repository_same P K clauses (t.conflicts ∙ (ap (λ R. R.conflicts) merge_same ∙ flat_conflicts K));
+      prune_same = repository_same P K clauses (t.conflicts ∙ (ap (λ R. R.conflicts) merge_same ∙ flat_conflicts limit hold K));
     }
 
 pub fixed_parts_lem : FixedParts
 unfolding round
-fixed_parts_lem K s e =
-    let p : Parts K = parts K s e in
+fixed_parts_lem limit hold K s e =
+    let p : Parts limit hold K = parts limit hold K s e in
     let merge_k : quotient K ≡ K = subst (λ R. quotient R ≡ R) p.flat_same p.merge_same in
-    let merge_f : quotient (flat K) ≡ K = p.merge_same ∙ p.flat_same in
+    let merge_f : quotient (flat limit hold K) ≡ K = p.merge_same ∙ p.flat_same in
     record {
       flattening = p.flat_same;
       merging = merge_k;

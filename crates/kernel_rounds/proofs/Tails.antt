@@ -1,5 +1,5 @@
 -- Rounds keep every set, whatever comes after merging; the three choices of what comes.
-use Rattle.std.proofs.Common.{◌≡◌, ℕ, zero, suc, ◌<◌, [], length, inl, inr, refl, sym, ◌∙◌, ap, subst, slice_index_or, ◌↔◌}
+use Rattle.std.proofs.Common.{◌≡◌, ℕ, Bool, zero, suc, ◌<◌, [], length, inl, inr, refl, sym, ◌∙◌, ap, subst, slice_index_or, ◌↔◌}
 use Rattle.row_book.specs.Sets.{NumSet, In, Is}
 use Rattle.row_book.specs.Clauses.{InOrder}
 use Rattle.row_book.specs.Repository.{Repository, Coinst, clauses_of}
@@ -19,33 +19,33 @@ use Rattle.kernel_rounds.specs.Laws.{RoundsKept, TailsKeep, ThreeTails}
 use Rattle.kernel_rounds.proofs.Flattened.{flat_size, flat_sound}
 use Rattle.kernel_rounds.proofs.Thins.{count_same, thin_or}
 
-pub merged_tidy : (K : Repository) → SoundRepository K → TidyRepository (quotient (flat K))
-merged_tidy K s = merge_is_tidy_lem (flat K) (flat_sound K s)
+pub merged_tidy : (limit : ℕ) (hold : Bool) → (K : Repository) → SoundRepository K → TidyRepository (quotient (flat limit hold K))
+merged_tidy limit hold K s = merge_is_tidy_lem (flat limit hold K) (flat_sound limit hold K s)
 
-pub round_sound : (t : Repository → Repository) → Tail t → (R : Repository) → SoundRepository R → SoundRepository (round_with t R)
-round_sound t tail R s = tail.sound (quotient (flat R)) (merged_tidy R s)
+pub round_sound : (limit : ℕ) (hold : Bool) → (t : Repository → Repository) → Tail t → (R : Repository) → SoundRepository R → SoundRepository (round_with limit hold t R)
+round_sound limit hold t tail R s = tail.sound (quotient (flat limit hold R)) (merged_tidy limit hold R s)
 
-pub round_size : (t : Repository → Repository) → Tail t → (R : Repository) → SoundRepository R → length (round_with t R).clauses ≡ length (firsts (flat R))
-round_size t tail R s = tail.size (quotient (flat R)) (merged_tidy R s) ∙ merged_size (flat R)
+pub round_size : (limit : ℕ) (hold : Bool) → (t : Repository → Repository) → Tail t → (R : Repository) → SoundRepository R → length (round_with limit hold t R).clauses ≡ length (firsts (flat limit hold R))
+round_size limit hold t tail R s = tail.size (quotient (flat limit hold R)) (merged_tidy limit hold R s) ∙ merged_size (flat limit hold R)
 
 -- the image of a set is a set of classes
-pub image_within : (t : Repository → Repository) → Tail t → (R : Repository) → SoundRepository R → (S : NumSet) → OfPackages (round_with t R) (image (flat R) S)
-image_within t tail R s S k i =
-    let w : (q : ℕ) × (q < length (flat R).clauses) × Is S q × (class_of (flat R) q ≡ k) = image_parts (flat R) S k i in
-    subst (λ z. k < z) (sym (round_size t tail R s)) (subst (λ z. z < length (firsts (flat R))) w.3 (has_class_lem (flat R) w.0 w.1).within)
+pub image_within : (limit : ℕ) (hold : Bool) → (t : Repository → Repository) → Tail t → (R : Repository) → SoundRepository R → (S : NumSet) → OfPackages (round_with limit hold t R) (image (flat limit hold R) S)
+image_within limit hold t tail R s S k i =
+    let w : (q : ℕ) × (q < length (flat limit hold R).clauses) × Is S q × (class_of (flat limit hold R) q ≡ k) = image_parts (flat limit hold R) S k i in
+    subst (λ z. k < z) (sym (round_size limit hold t tail R s)) (subst (λ z. z < length (firsts (flat limit hold R))) w.3 (has_class_lem (flat limit hold R) w.0 w.1).within)
 
-pub round_keeps : (t : Repository → Repository) → Tail t → (R : Repository) → SoundRepository R → (S : NumSet) → OfPackages R S → (Coinst R S ↔ Coinst (round_with t R) (image (flat R) S))
-round_keeps t tail R s S small =
-    both (flat_keeps_lem R (between R s) S)
-    (both (merge_keeps_lem (flat R) S (flat_sound R s) (λ q i. subst (λ z. q < z) (sym (flat_size R)) (small q i)))
-    (tail.keeps (quotient (flat R)) (merged_tidy R s) (image (flat R) S)))
+pub round_keeps : (limit : ℕ) (hold : Bool) → (t : Repository → Repository) → Tail t → (R : Repository) → SoundRepository R → (S : NumSet) → OfPackages R S → (Coinst R S ↔ Coinst (round_with limit hold t R) (image (flat limit hold R) S))
+round_keeps limit hold t tail R s S small =
+    both (flat_keeps_lem limit hold R (between R s) S)
+    (both (merge_keeps_lem (flat limit hold R) S (flat_sound limit hold R s) (λ q i. subst (λ z. q < z) (sym (flat_size limit hold R)) (small q i)))
+    (tail.keeps (quotient (flat limit hold R)) (merged_tidy limit hold R s) (image (flat limit hold R) S)))
 
 pub tails_keep_lem : TailsKeep
-tails_keep_lem t tail R s zero = record { keeps = λ S small. ((λ h. h), (λ h. h)); sound = s }
-tails_keep_lem t tail R s (suc n) =
-    let rest : RoundsKept t (round_with t R) n = tails_keep_lem t tail (round_with t R) (round_sound t tail R s) n in
+tails_keep_lem limit hold t tail R s zero = record { keeps = λ S small. ((λ h. h), (λ h. h)); sound = s }
+tails_keep_lem limit hold t tail R s (suc n) =
+    let rest : RoundsKept limit hold t (round_with limit hold t R) n = tails_keep_lem limit hold t tail (round_with limit hold t R) (round_sound limit hold t tail R s) n in
     record {
-      keeps = λ S small. both (round_keeps t tail R s S small) (rest.keeps (image (flat R) S) (image_within t tail R s S));
+      keeps = λ S small. both (round_keeps limit hold t tail R s S small) (rest.keeps (image (flat limit hold R) S) (image_within limit hold t tail R s S));
       sound = rest.sound;
     }
 

@@ -32,7 +32,7 @@ filter_short f (x ∷ xs) = pick (f x) (filter_short f xs)
     pick true l = omega arith
     pick false l = omega arith
 
-filter_lt : {A : Type 0} (f g : A → Bool) (xs : List A) → ((x : A) → f x ≡ true → g x ≡ true) → (w : A) → In w xs → g w ≡ true → f w ≡ false →
+pub filter_lt : {A : Type 0} (f g : A → Bool) (xs : List A) → ((x : A) → f x ≡ true → g x ≡ true) → (w : A) → In w xs → g w ≡ true → f w ≡ false →
     length (filter f xs) < length (filter g xs)
 filter_lt f g [] h w i t e = absurd (In_none i)
 filter_lt f g (x ∷ xs) h w i t e =

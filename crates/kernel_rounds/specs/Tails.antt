@@ -1,5 +1,5 @@
 -- Rounds whatever comes after merging, so that one proof of their end serves each choice of parts.
-use Rattle.std.specs.Prelude.{◌≡◌, ℕ, zero, suc, ◌<◌, List, [], ◌⊎◌, ◌↔◌, length}
+use Rattle.std.specs.Prelude.{◌≡◌, ℕ, zero, suc, ◌<◌, Bool, List, [], ◌⊎◌, ◌↔◌, length}
 use Rattle.row_book.specs.Sets.{NumSet, In}
 use Rattle.row_book.specs.Repository.{Repository, Coinst, clauses_of}
 use Rattle.row_book.specs.Clauses.{InOrder}
@@ -9,16 +9,16 @@ use Rattle.row_book.specs.Merging.{image, quotient}
 use Rattle.row_book.specs.Thinning.{conflicting_pairs}
 use Rattle.row_book.specs.Rounds.{weigh}
 
-abbrev pub round_with : (Repository → Repository) → Repository → Repository
-round_with t R = t (quotient (flat R))
+abbrev pub round_with : ℕ → Bool → (Repository → Repository) → Repository → Repository
+round_with limit hold t R = t (quotient (flat limit hold R))
 
-abbrev pub rounds_with : (Repository → Repository) → Repository → ℕ → Repository
-rounds_with t R zero = R
-rounds_with t R (suc n) = rounds_with t (round_with t R) n
+abbrev pub rounds_with : ℕ → Bool → (Repository → Repository) → Repository → ℕ → Repository
+rounds_with limit hold t R zero = R
+rounds_with limit hold t R (suc n) = rounds_with limit hold t (round_with limit hold t R) n
 
-abbrev pub image_with : (Repository → Repository) → Repository → ℕ → NumSet → NumSet
-image_with t R zero S = S
-image_with t R (suc n) S = image_with t (round_with t R) n (image (flat R) S)
+abbrev pub image_with : ℕ → Bool → (Repository → Repository) → Repository → ℕ → NumSet → NumSet
+image_with limit hold t R zero S = S
+image_with limit hold t R (suc n) S = image_with limit hold t (round_with limit hold t R) n (image (flat limit hold R) S)
 
 -- how many pairs of packages conflict
 unfoldable pub conflict_count : Repository → ℕ

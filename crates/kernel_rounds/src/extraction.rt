@@ -1,5 +1,5 @@
 //! Extraction of a kernel.
-ghost use Rattle.std.specs.Prelude.{Some, ◌≡◌, ◌<◌, ◌+◌, ◌∷◌, ◌++◌, [], IfErr, IfOk, OnOk, List, eqb, length, map, min, slice_index_or, ℕ};
+ghost use Rattle.std.specs.Prelude.{Bool, Some, ◌≡◌, ◌<◌, ◌+◌, ◌∷◌, ◌++◌, [], IfErr, IfOk, OnOk, List, eqb, length, map, min, slice_index_or, ℕ};
 ghost use Rattle.clause_pool.specs.Interned.{Interned, Kept};
 ghost use Rattle.row_book.specs.Book.{repository_of, AddsOnly, Sound};
 ghost use Rattle.row_book.specs.Clauses.{numbers};
@@ -28,6 +28,10 @@ pub struct Kernel {
     pub book: Book,
     /// For each package of the old book its class.
     pub class_of: NumList,
+    /// The held packages of the book, ascending.
+    pub held: NumList,
+    /// Whether the rounds held packages where a row would have passed the limit.
+    pub hold: bool,
     /// The steps by which the kernel came from the old book.
     pub trail: Trail,
 }
@@ -42,11 +46,21 @@ struct Progress {
     number: u32,
 }
 
+/// What no round changes: a book, in the pool that the rounds work in, the class of each package in it, its held
+/// packages, and the steps, in the pool that the kernel is for.
+#[derive(Drop)]
+struct FixedPoint {
+    book: Book,
+    class_of: Vec<u32>,
+    held: NumList,
+    steps: StepList,
+}
+
 /// What a round comes to.
 #[derive(Drop)]
 enum Outcome {
     /// It changes nothing.
-    Done(Progress),
+    Done(FixedPoint),
     /// There is more to do.
     More(Progress),
 }
@@ -123,15 +137,16 @@ fn advance(
     work: &mut Pool,
     now: Progress,
     limit: u32,
+    hold: bool,
     into: &mut Pool,
 ) -> Result<Outcome, RoundError>
     requires sound { Sound work.old now.book }
     requires limit { 0 < limit }
     requires few { length now.class_of.items < 4294967296 }
-    ensures made { (R : Repository) (start : Interned) → SoundRepository R → IsMidway R limit start into.old work.old now.book now.class_of.items now.steps now.number →
-        IfOk result (IsOutcome R limit start into.new work.new (repository_of work.old now.book)) }
-    ensures passed { (R : Repository) (start : Interned) → SoundRepository R → IsMidway R limit start into.old work.old now.book now.class_of.items now.steps now.number →
-        IfErr result (OnRoundLimit (λ passed. limit_at R limit ≡ Some passed)) }
+    ensures made { (R : Repository) (start : Interned) → SoundRepository R → IsMidway R limit hold start into.old work.old now.book now.class_of.items now.steps now.number →
+        IfOk result (IsOutcome R limit hold start into.new work.new (repository_of work.old now.book)) }
+    ensures passed { (R : Repository) (start : Interned) → SoundRepository R → IsMidway R limit hold start into.old work.old now.book now.class_of.items now.steps now.number →
+        IfErr result (OnRoundLimit (λ passed. limit_at limit hold R ≡ Some passed)) }
     ensures kept { Kept into.old into.new }
 {
     // What holds of every pool is told by this call alone.
@@ -143,22 +158,23 @@ fn advance(
         number,
     } = now;
     let past = no_steps(alloc);
-    let made = match one_round(alloc, work, before, past, limit) {
+    let made = match one_round(alloc, work, before, past, limit, hold) {
         Ok(made) => made,
         Err(fault) => return Err(round_error(fault, number, so_far.as_slice())),
     };
     let Rounded {
         book,
         class_of,
+        held,
         trail,
         changed,
     } = made;
     if !changed {
-        return Ok(Outcome::Done(Progress {
+        return Ok(Outcome::Done(FixedPoint {
             book,
             class_of: so_far,
+            held,
             steps,
-            number,
         }));
     }
     let next = compose(alloc, so_far.as_slice(), class_of.as_slice())?;
@@ -173,8 +189,8 @@ fn advance(
 
 /// The state before any round.
 fn first_state(alloc: Global, book: Book) -> Result<Progress, AllocError>
-    ensures { (pool work : Interned) (limit : ℕ) → Sound work book →
-        IfOk result (λ made. IsMidway (repository_of work book) limit pool pool work made.book made.class_of.items made.steps made.number) }
+    ensures { (pool work : Interned) (limit : ℕ) (hold : Bool) → Sound work book →
+        IfOk result (λ made. IsMidway (repository_of work book) limit hold pool pool work made.book made.class_of.items made.steps made.number) }
 {
     let class_of = own_classes(alloc, book.size())?;
     Ok(Progress {
@@ -192,19 +208,20 @@ fn all_rounds(
     work: &mut Pool,
     book: Book,
     limit: u32,
+    hold: bool,
     into: &mut Pool,
-) -> Result<Progress, RoundError>
+) -> Result<FixedPoint, RoundError>
     requires sound { Sound work.old book }
     requires limit { 0 < limit }
-    ensures reached { IfOk result (λ last. IsReached (repository_of work.old book) limit into.old into.new work.new last.book last.class_of.items last.steps) }
-    ensures passed { IfErr result (OnRoundLimit (λ passed. limit_at (repository_of work.old book) limit ≡ Some passed)) }
+    ensures reached { IfOk result (λ last. IsReached (repository_of work.old book) limit hold into.old into.new work.new last.book last.class_of.items last.held last.steps) }
+    ensures passed { IfErr result (OnRoundLimit (λ passed. limit_at limit hold (repository_of work.old book) ≡ Some passed)) }
     ensures kept { Kept into.old into.new }
 {
     // What holds of every pool is told by this call alone.
     work.clause_count();
     let mut now = first_state(alloc, book)?;
     loop {
-        match advance(alloc, work, now, limit, into)? {
+        match advance(alloc, work, now, limit, hold, into)? {
             Outcome::Done(last) => return Ok(last),
             Outcome::More(next) => now = next,
         }
@@ -214,59 +231,68 @@ fn all_rounds(
 /// The kernel with its book too in the other pool, which gains the rows of the book and their clauses alone.
 fn carry_kernel(
     alloc: Global,
-    last: Progress,
+    last: FixedPoint,
+    hold: bool,
     from: &Pool,
     into: &mut Pool,
 ) -> Result<Kernel, AllocError>
     requires { Sound from.now last.book }
-    ensures kernel { (R : Repository) (limit : ℕ) (start : Interned) → IsReached R limit start into.old from.now last.book last.class_of.items last.steps →
-        IfOk result (λ made. IsExtracted R limit start into.new made.book made.class_of made.trail.steps) }
+    ensures kernel { (R : Repository) (limit : ℕ) (start : Interned) → IsReached R limit hold start into.old from.now last.book last.class_of.items last.held last.steps →
+        IfOk result (λ made. IsExtracted R limit hold start into.new made.book made.class_of made.held made.trail.steps) }
+    ensures hold { IfOk result (λ made. made.hold ≡ hold) }
     ensures only { (start : Interned) (told : List RoundStep) → HasSteps start into.old last.steps told →
         IfOk result (λ made. AddsOnly start into.new (live_rows made.book made.trail.steps)) }
     ensures kept { Kept into.old into.new }
 {
     // What holds of every pool is told by this call alone.
     into.clause_count();
-    let Progress {
+    let FixedPoint {
         book: own,
         class_of,
+        held,
         steps,
-        ..
     } = last;
     let book = own.carry(alloc, from, into)?;
     Ok(Kernel {
         book,
         class_of: Listed::of(class_of),
+        held,
+        hold,
         trail: Trail { steps },
     })
 }
 
 /// The kernel of the book: rounds of flattening, merging, pruning and thinning go on until one changes nothing.
 ///
-/// It is refused where a row has more clauses than the limit allows at some stage of the flattening of some round, with
-/// the first such round. The rounds work in a pool of their own: what the pool held stays, and it gains the rows of the
-/// kernel's book and of the books in the trail with their clauses alone.
+/// Without hold it is refused where a row has more clauses than the limit allows at some stage of the flattening of some round,
+/// with the first such round. With hold a package stays where its elimination would make a row pass the limit, and the kernel is
+/// refused only where a row passes it before any package of the round is eliminated.
+///
+/// The rounds work in a pool of their own: what the pool held stays, and it gains the rows of the kernel's book and of the books
+/// in the trail with their clauses alone.
 pub fn extract(
     alloc: Global,
     pool: &mut Pool,
     book: &Book,
     limit: u32,
+    hold: bool,
 ) -> Result<Kernel, RoundError>
     requires sound { Sound pool.old book.now }
     requires limit { 0 < limit }
-    ensures kernel { IfOk result (λ made. IsExtracted (repository_of pool.old book.now) limit pool.old pool.new made.book made.class_of made.trail.steps) }
-    ensures keeps { IfOk result (λ made. KeepsImages (repository_of pool.old book.now) (repository_of pool.new made.book) (kernel_image (repository_of pool.old book.now))) }
-    ensures settled { IfOk result (λ made. Settled (repository_of pool.new made.book)) }
-    ensures own { IfOk result (λ made. IsOwnKernel (repository_of pool.new made.book) limit) }
+    ensures kernel { IfOk result (λ made. IsExtracted (repository_of pool.old book.now) limit hold pool.old pool.new made.book made.class_of made.held made.trail.steps) }
+    ensures hold { IfOk result (λ made. made.hold ≡ hold) }
+    ensures keeps { IfOk result (λ made. KeepsImages (repository_of pool.old book.now) (repository_of pool.new made.book) (kernel_image limit hold (repository_of pool.old book.now))) }
+    ensures settled { IfOk result (λ made. Settled limit hold (repository_of pool.new made.book)) }
+    ensures own { IfOk result (λ made. IsOwnKernel (repository_of pool.new made.book) limit hold) }
     ensures only { IfOk result (λ made. AddsOnly pool.old pool.new (live_rows made.book made.trail.steps)) }
-    ensures passed { IfErr result (OnRoundLimit (λ passed. limit_at (repository_of pool.old book.now) limit ≡ Some passed)) }
+    ensures passed { IfErr result (OnRoundLimit (λ passed. limit_at limit hold (repository_of pool.old book.now) ≡ Some passed)) }
     ensures kept { Kept pool.old pool.new }
 {
     // What holds of every pool is told by this call alone.
     pool.clause_count();
     let mut own = Pool::new(alloc)?;
     let carried = book.carry(alloc, pool, &mut own)?;
-    let last = all_rounds(alloc, &mut own, carried, limit, pool)?;
-    let made = carry_kernel(alloc, last, &own, pool)?;
+    let last = all_rounds(alloc, &mut own, carried, limit, hold, pool)?;
+    let made = carry_kernel(alloc, last, hold, &own, pool)?;
     Ok(made)
 }

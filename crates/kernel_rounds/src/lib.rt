@@ -13,7 +13,7 @@ pub use error::RoundError;
 pub use extraction::{Kernel, extract};
 pub use laws::{
     fixed_is_settled, fixed_parts, flat_plain, image_is_of_classes, kernel_is, kernel_keeps,
-    kernel_of_kernel, level_rounds, tails_end, tails_keep, three_tails,
+    kernel_of_kernel, limit_without_hold, rounds_go_down, tails_end, tails_keep, three_tails,
 };
 pub use rounding::{Rounded, one_round};
 

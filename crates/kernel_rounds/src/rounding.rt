@@ -3,7 +3,7 @@ ghost use Rattle.std.specs.Prelude.{◌≡◌, ◌<◌, ◌↔◌, ◌∷◌, �
 ghost use Rattle.clause_pool.specs.Interned.{Kept};
 ghost use Rattle.clause_flatten.specs.Refusals.{OnLimit};
 ghost use Rattle.row_book.specs.Book.{repository_of, Sound};
-ghost use Rattle.row_book.specs.Flattening.{flat, passes};
+ghost use Rattle.row_book.specs.Flattening.{flat, held_of, passes};
 ghost use Rattle.row_book.specs.Merging.{class_list, quotient};
 ghost use Rattle.row_book.specs.Pruning.{idle_steps};
 ghost use Rattle.row_book.specs.Rounds.{IdleStep, round, round_steps};
@@ -14,7 +14,7 @@ ghost use Rattle.kernel_rounds.specs.Moving.{live_rows, HasOnly};
 use crate::comparing::same_books;
 use crate::moving::keep_live;
 use class_merge::merge;
-use clause_flatten::{FlatError, flatten};
+use clause_flatten::{FlatError, Flattened, flatten};
 use clause_pool::{NumList, Pool};
 use clause_prune::prune;
 use conflict_reduce::thin;
@@ -29,39 +29,51 @@ pub struct Rounded {
     pub book: Book,
     /// For each package of the old book its class.
     pub class_of: NumList,
+    /// The held packages of the old book, ascending.
+    pub held: NumList,
     /// The steps from before, and where the round changed something, its own.
     pub trail: Trail,
     /// Whether the round changed something.
     pub changed: bool,
 }
 
-/// A book after the four reductions, with the class of each package and the idle steps of pruning.
+/// A book after the four reductions, with the class of each package, the held packages of the book before, and the idle steps of
+/// pruning.
 #[derive(Drop)]
 struct Reduced {
     book: Book,
     class_of: NumList,
+    held: NumList,
     idle: StepList,
 }
 
 /// The book after flattening, merging, pruning and thinning.
-fn reduce(alloc: Global, pool: &mut Pool, book: &Book, limit: u32) -> Result<Reduced, FlatError>
+fn reduce(
+    alloc: Global,
+    pool: &mut Pool,
+    book: &Book,
+    limit: u32,
+    hold: bool,
+) -> Result<Reduced, FlatError>
     requires sound { Sound pool.old book.now }
     requires limit { 0 < limit }
-    ensures round { IfOk result (λ made. repository_of pool.new made.book ≡ round (repository_of pool.old book.now)) }
-    ensures classes { IfOk result (λ made. made.class_of ≡ class_list (flat (repository_of pool.old book.now))) }
-    ensures idle { IfOk result (λ made. trail_meaning pool.new made.idle ≡ map IdleStep (idle_steps (quotient (flat (repository_of pool.old book.now))))) }
+    ensures round { IfOk result (λ made. repository_of pool.new made.book ≡ round limit hold (repository_of pool.old book.now)) }
+    ensures classes { IfOk result (λ made. made.class_of ≡ class_list (flat limit hold (repository_of pool.old book.now))) }
+    ensures held { IfOk result (λ made. made.held ≡ held_of limit hold (repository_of pool.old book.now)) }
+    ensures idle { IfOk result (λ made. trail_meaning pool.new made.idle ≡ map IdleStep (idle_steps (quotient (flat limit hold (repository_of pool.old book.now))))) }
     ensures sound { IfOk result (λ made. Sound pool.new made.book) }
-    ensures within { OnOk result (passes (repository_of pool.old book.now) limit ≡ None) }
-    ensures passed { IfErr result (OnLimit (λ passed. passes (repository_of pool.old book.now) limit ≡ Some passed)) }
+    ensures within { OnOk result (passes limit hold (repository_of pool.old book.now) ≡ None) }
+    ensures passed { IfErr result (OnLimit (λ passed. passes limit hold (repository_of pool.old book.now) ≡ Some passed)) }
     ensures kept { Kept pool.old pool.new }
 {
-    let flat = flatten(alloc, pool, book, limit)?;
+    let Flattened { book: flat, held } = flatten(alloc, pool, book, limit, hold)?;
     let classes = merge(alloc, pool, &flat)?;
     let pruned = prune(alloc, pool, &classes.book)?;
     let thinned = thin(alloc, pool, &pruned.book)?;
     Ok(Reduced {
         book: thinned,
         class_of: classes.class_of,
+        held,
         idle: pruned.idle,
     })
 }
@@ -92,35 +104,38 @@ fn add_round(
 /// One round: flattening, merging, pruning and thinning. At its end the pool is compacted: it has the rows of the new book
 /// and of the books in the new trail, and no others.
 ///
-/// It is refused as `flatten` is on the book. A refusal drops the book and the trail, and nothing is promised of the pool's ids
-/// afterwards.
+/// With hold a package stays where its elimination would make a row pass the limit. The round is refused as `flatten` is on the
+/// book. A refusal drops the book and the trail, and nothing is promised of the pool's ids afterwards.
 pub fn one_round(
     alloc: Global,
     pool: &mut Pool,
     book: Book,
     past: Trail,
     limit: u32,
+    hold: bool,
 ) -> Result<Rounded, FlatError>
     requires sound { Sound pool.old book }
     requires past { SoundSteps pool.old past.steps }
     requires limit { 0 < limit }
-    ensures round { IfOk result (λ made. repository_of pool.new made.book ≡ round (repository_of pool.old book)) }
-    ensures classes { IfOk result (λ made. made.class_of ≡ class_list (flat (repository_of pool.old book))) }
-    ensures changed { IfOk result (λ made. (made.changed ≡ false) ↔ (round (repository_of pool.old book) ≡ repository_of pool.old book)) }
+    ensures round { IfOk result (λ made. repository_of pool.new made.book ≡ round limit hold (repository_of pool.old book)) }
+    ensures classes { IfOk result (λ made. made.class_of ≡ class_list (flat limit hold (repository_of pool.old book))) }
+    ensures held { IfOk result (λ made. made.held ≡ held_of limit hold (repository_of pool.old book)) }
+    ensures changed { IfOk result (λ made. (made.changed ≡ false) ↔ (round limit hold (repository_of pool.old book) ≡ repository_of pool.old book)) }
     ensures trail { IfOk result (λ made. trail_meaning pool.new made.trail.steps ≡
-        trail_meaning pool.old past.steps ++ (if made.changed then round_steps (repository_of pool.old book) else [])) }
+        trail_meaning pool.old past.steps ++ (if made.changed then round_steps limit hold (repository_of pool.old book) else [])) }
     ensures sound { IfOk result (λ made. Sound pool.new made.book) }
     ensures books { IfOk result (λ made. SoundSteps pool.new made.trail.steps) }
     ensures only { IfOk result (λ made. HasOnly pool.new (live_rows made.book made.trail.steps)) }
-    ensures within { OnOk result (passes (repository_of pool.old book) limit ≡ None) }
-    ensures passed { IfErr result (OnLimit (λ passed. passes (repository_of pool.old book) limit ≡ Some passed)) }
+    ensures within { OnOk result (passes limit hold (repository_of pool.old book) ≡ None) }
+    ensures passed { IfErr result (OnLimit (λ passed. passes limit hold (repository_of pool.old book) ≡ Some passed)) }
 {
     // What holds of every pool is told by this call alone.
     pool.clause_count();
-    let made = reduce(alloc, pool, &book, limit)?;
+    let made = reduce(alloc, pool, &book, limit, hold)?;
     let Reduced {
         book: reduced,
         class_of,
+        held,
         idle,
     } = made;
     let changed = !same_books(pool, &book, &reduced);
@@ -129,6 +144,7 @@ pub fn one_round(
     Ok(Rounded {
         book: kept,
         class_of,
+        held,
         trail: Trail { steps },
         changed,
     })

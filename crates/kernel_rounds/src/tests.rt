@@ -1,5 +1,5 @@
 //! Small repositories and their kernels, and what their rounds leave in a pool.
-ghost use Rattle.std.specs.Prelude.{IfOk};
+ghost use Rattle.std.specs.Prelude.{◌<◌, IfOk};
 ghost use Rattle.clause_pool.specs.Interned.{Interned};
 ghost use Rattle.row_book.specs.Book.{Sound};
 ghost use Rattle.row_book.specs.Trail.{SoundSteps};
@@ -25,6 +25,28 @@ const DETOUR: Sample<'static> = Sample {
     pairs: &[(2, 5), (3, 5), (4, 5)],
 };
 
+/// Package 0 depends on 1, which depends on 2 and on 3, and on 4; 2, 3 and 4 conflict with 5, 6 and 7, each with its own.
+const TWO_OF_THREE: Sample<'static> = Sample {
+    clauses: &[&[&[1], &[4]], &[&[2], &[3]], &[], &[], &[], &[], &[], &[]],
+    pairs: &[(2, 5), (3, 6), (4, 7)],
+};
+
+/// Thinning frees 1 of its conflict with 5, so that the next round may take it out; 5 and 6 are alike then.
+const FREED: Sample<'static> = Sample {
+    clauses: &[
+        &[&[1], &[4]],
+        &[&[2], &[3]],
+        &[],
+        &[],
+        &[],
+        &[],
+        &[],
+        &[],
+        &[],
+    ],
+    pairs: &[(1, 5), (2, 5), (2, 6), (3, 7), (4, 8)],
+};
+
 /// A repository with its kernel: for each package its class, and the classes as a repository.
 #[derive(Clone, Copy)]
 struct Case<'a> {
@@ -33,17 +55,36 @@ struct Case<'a> {
     kernel: Sample<'a>,
 }
 
-/// Asserts that the kernel is the one that is wanted.
-fn check_kernel(rt: &(impl Abort + AllocGlobal), case: &Case<'_>) -> Result<(), Fail> {
+const FORKED: Case<'static> = Case {
+    sample: FORK,
+    class_of: &[0, 0, 0, 1, 1, 1, 2],
+    kernel: Sample {
+        clauses: &[&[&[1]], &[], &[]],
+        pairs: &[(1, 2)],
+    },
+};
+
+/// Asserts that the kernel is the one that is wanted, with these held packages.
+fn check_kernel(
+    rt: &(impl Abort + AllocGlobal),
+    case: &Case<'_>,
+    limit: u32,
+    hold: bool,
+    held: &[u32],
+) -> Result<(), Fail>
+    requires { 0 < limit }
+{
     let alloc = rt.alloc();
     let mut pool = Pool::new(alloc)?;
     let wanted = book_of(alloc, &mut pool, case.kernel)?;
     // What holds of every pool is told by this call alone.
     pool.clause_count();
     let book = book_of(alloc, &mut pool, case.sample)?;
-    match extract(alloc, &mut pool, &book, 3) {
+    match extract(alloc, &mut pool, &book, limit, hold) {
         Ok(kernel) => {
             assert_eq!(rt; kernel.class_of.as_slice(), case.class_of);
+            assert_eq!(rt; kernel.held.as_slice(), held);
+            assert_eq!(rt; kernel.hold, hold);
             assert!(rt; same_books(&pool, &kernel.book, &wanted));
         }
         Err(error) => panic!(rt; "{error}"),
@@ -51,15 +92,29 @@ fn check_kernel(rt: &(impl Abort + AllocGlobal), case: &Case<'_>) -> Result<(), 
     Ok(())
 }
 
-/// Why no kernel is extracted with limit 2, if none is.
+/// That the row of package 0 passes the limit.
+fn passed(round: u32, gone: u32, count: u64) -> Option<RoundError> {
+    Some(RoundError::Limit {
+        round,
+        gone,
+        package: 0,
+        count,
+    })
+}
+
+/// Why no kernel is extracted, if none is.
 fn refusal(
     rt: &(impl Abort + AllocGlobal),
     sample: Sample<'_>,
-) -> Result<Option<RoundError>, Fail> {
+    limit: u32,
+    hold: bool,
+) -> Result<Option<RoundError>, Fail>
+    requires { 0 < limit }
+{
     let alloc = rt.alloc();
     let mut pool = Pool::new(alloc)?;
     let book = book_of(alloc, &mut pool, sample)?;
-    Ok(extract(alloc, &mut pool, &book, 2).err())
+    Ok(extract(alloc, &mut pool, &book, limit, hold).err())
 }
 
 #[test]
@@ -172,29 +227,6 @@ fn kernels_and_refusals_are_as_worked_out(rt: HostRuntime) -> Result<(), Fail> {
             pairs: &[(1, 3), (2, 4)],
         },
     };
-    let fork = Case {
-        sample: FORK,
-        class_of: &[0, 0, 0, 1, 1, 1, 2],
-        kernel: Sample {
-            clauses: &[&[&[1]], &[], &[]],
-            pairs: &[(1, 2)],
-        },
-    };
-    // Thinning frees 1 of its conflict with 5, and the next round takes it out.
-    let freed = Sample {
-        clauses: &[
-            &[&[1], &[4]],
-            &[&[2], &[3]],
-            &[],
-            &[],
-            &[],
-            &[],
-            &[],
-            &[],
-            &[],
-        ],
-        pairs: &[(1, 5), (2, 5), (2, 6), (3, 7), (4, 8)],
-    };
     let cases = [
         &choice,
         &chain,
@@ -205,26 +237,44 @@ fn kernels_and_refusals_are_as_worked_out(rt: HostRuntime) -> Result<(), Fail> {
         &pruned_first,
         &one_of_two,
         &alike,
-        &fork,
+        &FORKED,
     ];
     for case in cases {
-        check_kernel(&rt, case)?;
+        check_kernel(&rt, case, 3, false, &[])?;
+        check_kernel(&rt, case, 3, true, &[])?;
     }
-    let in_first_round = RoundError::Limit {
-        round: 1,
-        gone: 3,
-        package: 0,
-        count: 3,
+    assert_eq!(rt; refusal(&rt, FORK, 2, false)?, passed(1, 3, 3));
+    assert_eq!(rt; refusal(&rt, FREED, 2, false)?, passed(2, 2, 3));
+    assert_eq!(rt; refusal(&rt, redundant.sample, 2, false)?, None);
+    Ok(())
+}
+
+/// Where a row would pass the limit, its package stays with hold; a row that passes it at the start is refused.
+#[test]
+fn packages_are_held(rt: HostRuntime) -> Result<(), Fail> {
+    // Package 1 stays, since 0 would depend on 2, 3 and 4 without it.
+    let held = Case {
+        sample: TWO_OF_THREE,
+        class_of: &[0, 1, 2, 3, 4, 5, 6, 7],
+        kernel: TWO_OF_THREE,
     };
-    assert_eq!(rt; refusal(&rt, fork.sample)?, Some(in_first_round));
-    let in_second_round = RoundError::Limit {
-        round: 2,
-        gone: 2,
-        package: 0,
-        count: 3,
+    check_kernel(&rt, &held, 2, true, &[1])?;
+    // Package 1 is held in the first round, where the clause of 0 on it is idle; the second merges 0, 1 and 2.
+    check_kernel(&rt, &FORKED, 2, true, &[])?;
+    // Package 1 is held from the second round on.
+    let freed = Case {
+        sample: FREED,
+        class_of: &[0, 1, 2, 3, 4, 5, 5, 6, 7],
+        kernel: TWO_OF_THREE,
     };
-    assert_eq!(rt; refusal(&rt, freed)?, Some(in_second_round));
-    assert_eq!(rt; refusal(&rt, redundant.sample)?, None);
+    check_kernel(&rt, &freed, 2, true, &[1])?;
+    assert_eq!(rt; refusal(&rt, TWO_OF_THREE, 2, false)?, passed(1, 2, 3));
+    // Package 0 depends on 1 and on 2.
+    let both = Sample {
+        clauses: &[&[&[1], &[2]], &[], &[]],
+        pairs: &[],
+    };
+    assert_eq!(rt; refusal(&rt, both, 1, true)?, passed(1, 0, 2));
     Ok(())
 }
 
@@ -257,7 +307,8 @@ fn check_round(
         class_of,
         trail,
         changed,
-    } = one_round(alloc, pool, book, past, 65_536)?;
+        ..
+    } = one_round(alloc, pool, book, past, 65_536, false)?;
     assert_eq!(rt; changed, changes);
     assert_eq!(rt; class_of.as_slice(), classes);
     assert_eq!(rt; pool.clause_count(), clauses);
@@ -286,6 +337,18 @@ fn rounds_leave_the_clauses_of_their_books(rt: HostRuntime) -> Result<(), Fail> 
     Ok(())
 }
 
+/// A round tells the held packages of the book that it is given.
+#[test]
+fn a_round_tells_its_held_packages(rt: HostRuntime) -> Result<(), Fail> {
+    let alloc = rt.alloc();
+    let mut pool = Pool::new(alloc)?;
+    let book = book_of(alloc, &mut pool, FORK)?;
+    let past = no_steps(alloc);
+    let made = one_round(alloc, &mut pool, book, past, 2, true)?;
+    assert_eq!(rt; made.held.as_slice(), [1].as_slice());
+    Ok(())
+}
+
 /// Each clause of the kernel's book and of the books of the trail was in the pool before.
 #[test]
 fn extraction_leaves_what_the_rounds_made(rt: HostRuntime) -> Result<(), Fail> {
@@ -293,7 +356,7 @@ fn extraction_leaves_what_the_rounds_made(rt: HostRuntime) -> Result<(), Fail> {
     let mut pool = Pool::new(alloc)?;
     let book = book_of(alloc, &mut pool, FORK)?;
     assert_eq!(rt; pool.clause_count(), 5);
-    extract(alloc, &mut pool, &book, 3)?;
+    extract(alloc, &mut pool, &book, 3, false)?;
     assert_eq!(rt; pool.clause_count(), 5);
     Ok(())
 }

@@ -1,18 +1,52 @@
--- A list without neighbours that are the same has the same numbers.
-use Rattle.std.proofs.Common.{◌≡◌, ℕ, ◌<◌, List, [], eqb, length, get_or, sym, subst}
-use Rattle.std.specs.List.{dedup, Contains}
+-- A list without neighbours that are the same has the same numbers, and ascends where it was sorted.
+use Rattle.std.proofs.Common.{◌≡◌, ℕ, zero, suc, ◌<◌, ◌≤◌, Bool, true, false, List, [], ◌∷◌, cond, eqb, length, get_or, inl, inr, refl, sym, subst, arith, eq-eqb}
+use Rattle.std.specs.List.{dedup, dedup_from, Contains}
 use Rattle.std.specs.List.Retain.{DiffersFromLast, IsFiltered}
+use Rattle.std.specs.List.Sorted.{IsNonDecreasing}
+use Rattle.std.proofs.lemmas.Bool.{both_ways, cases_lt}
 use Rattle.std.proofs.lemmas.List.Filters.{dedup_is}
 use Rattle.std.proofs.lemmas.List.Kept.{Contains-dedup_nat, Contains-from_dedup}
 use Rattle.clause_pool.proofs.Lists.{In_place}
 use Rattle.row_book.specs.Sets.{In}
-use Rattle.row_book.proofs.Lists.{In_at}
+use Rattle.row_book.specs.Clauses.{Ascending}
+use Rattle.row_book.proofs.Lists.{In_at, In_cases, In_none}
 
 member : (xs : List ℕ) (n : ℕ) → Contains xs n → In n xs
 member xs n h = subst (λ z. In z xs) h.2 (In_at xs h.0 n h.1)
 
 contained : (xs : List ℕ) (n : ℕ) → In n xs → Contains xs n
 contained xs n i = let w : (k : ℕ) × (k < length xs) × (get_or xs k n ≡ n) = In_place xs n n i in (w.0, w.1, w.2)
+
+-- without its second element
+skipped : (k x : ℕ) (xs : List ℕ) → IsNonDecreasing (k ∷ (x ∷ xs)) → IsNonDecreasing (k ∷ xs)
+skipped k x xs up zero zero d l u = omega arith
+skipped k x xs up zero (suc j) d l u = up zero (suc (suc j)) d (omega arith) (omega (arith, u))
+skipped k x xs up (suc i) zero d l u = absurd (omega arith)
+skipped k x xs up (suc i) (suc j) d l u = up (suc (suc i)) (suc (suc j)) d (omega (arith, l)) (omega (arith, u))
+
+-- without its first element
+behind : (k : ℕ) (xs : List ℕ) → IsNonDecreasing (k ∷ xs) → IsNonDecreasing xs
+behind k xs up i j d l u = up (suc i) (suc j) d (omega (arith, l)) (omega (arith, u))
+
+from_ascends : (k : ℕ) (xs : List ℕ) → IsNonDecreasing (k ∷ xs) → Ascending (dedup_from eqb k xs) × ((n : ℕ) → In n (dedup_from eqb k xs) → k ≤ n)
+from_ascends k [] up = ((λ y i. absurd (In_none i), tt), λ n i. elim (In_cases i) [ inl e ↦ omega (arith, e) | inr j ↦ absurd (In_none j) ])
+from_ascends k (x ∷ xs) up = pick (eqb x k) refl (from_ascends k xs (skipped k x xs up)) (from_ascends x xs (behind k (x ∷ xs) up))
+  where
+    pick : (b : Bool) → eqb x k ≡ b → Ascending (dedup_from eqb k xs) × ((n : ℕ) → In n (dedup_from eqb k xs) → k ≤ n) → Ascending (dedup_from eqb x xs) × ((n : ℕ) → In n (dedup_from eqb x xs) → x ≤ n)
+        → Ascending (cond b (dedup_from eqb k xs) (k ∷ dedup_from eqb x xs)) × ((n : ℕ) → In n (cond b (dedup_from eqb k xs) (k ∷ dedup_from eqb x xs)) → k ≤ n)
+    pick true e same other = same
+    pick false e same other =
+        let low : k ≤ x = up zero (suc zero) 0 (omega arith) (omega arith) in
+        let less : (n : ℕ) → In n (dedup_from eqb x xs) → k < n =
+        λ n i. let m : x ≤ n = other.1 n i in
+        elim (cases_lt k x) [ inl l ↦ omega (arith, l, m) | inr l ↦ absurd (both_ways (eqb x k) e (eq-eqb x k (omega (arith, l, low)))) ] in (
+          (less, other.0),
+          λ n i. elim (In_cases i) [ inl s ↦ omega (arith, s) | inr j ↦ let m : k < n = less n j in omega (arith, m) ],
+        )
+
+dedup_ascends : (xs : List ℕ) → IsNonDecreasing xs → Ascending (dedup eqb xs)
+dedup_ascends [] up = tt
+dedup_ascends (x ∷ xs) up = (from_ascends x xs up).0
 
 module _ (xs made : List ℕ) (once : IsFiltered (DiffersFromLast eqb) [] xs made) where
   is : made ≡ dedup eqb xs
@@ -23,3 +57,6 @@ module _ (xs made : List ℕ) (once : IsFiltered (DiffersFromLast eqb) [] xs mad
 
   pub distinct_has : (n : ℕ) → In n xs → In n made
   distinct_has n i = subst (λ z. In n z) (sym is) (member (dedup eqb xs) n (Contains-dedup_nat xs n (contained xs n i)))
+
+  pub distinct_ascends : IsNonDecreasing xs → Ascending made
+  distinct_ascends up = subst Ascending (sym is) (dedup_ascends xs up)

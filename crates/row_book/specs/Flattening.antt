@@ -1,10 +1,11 @@
 -- Flattening: one package without conflicts after another is taken out, and the clauses of each
 -- package are told in terms of those that are left: Vouillon and Di Cosmo, "On Software Component
--- Co-Installability", the section on flattening.
-use Rattle.std.specs.Prelude.{ℕ, zero, suc, Bool, not, ◌&&◌, ◌||◌, eqb, ltb, List, [], ◌∷◌, map, length, Option, Some, None}
-use Rattle.std.specs.List.{list_all, list_any, find}
+-- Co-Installability", the section on flattening. With hold, which is not theirs, a package whose
+-- elimination would make a row pass the clause limit stays.
+use Rattle.std.specs.Prelude.{ℕ, zero, suc, Bool, false, not, ◌&&◌, ◌||◌, eqb, ltb, cond, List, [], ◌∷◌, map, length, Option, Some, None}
+use Rattle.std.specs.List.{list_all, list_any, filter, find}
 use Rattle.std.specs.Option.{option_map}
-use Rattle.row_book.specs.Sets.{NumSet, without}
+use Rattle.row_book.specs.Sets.{NumSet, plus, without}
 use Rattle.row_book.specs.Repository.{Repository, against}
 use Rattle.row_book.specs.Clauses.{numbers}
 use Rattle.row_book.specs.Support.{row}
@@ -21,9 +22,18 @@ all_packages R n = ltb n (length R.clauses)
 abbrev pub has_conflict : Repository → ℕ → Bool
 has_conflict R q = list_any (λ n. against R q n || against R n q) (packages R)
 
--- whether the package is one of V that may be taken out: it has no conflict
-abbrev pub may_go : Repository → NumSet → ℕ → Bool
-may_go R V q = V q && not (has_conflict R q)
+-- an elimination midway: the packages that are left, and those of them that are held
+pub record Remaining : Type 0 where
+  pub left : NumSet
+  pub held : NumSet
+
+-- before any step all packages are left, and none is held
+abbrev pub none_gone : Repository → Remaining
+none_gone R = record { left = all_packages R; held = λ n. false }
+
+-- whether the package may be taken out: it is left, has no conflict, and is not held
+abbrev pub may_go : Repository → Remaining → ℕ → Bool
+may_go R s q = s.left q && (not (has_conflict R q) && not (s.held q))
 
 -- how many clauses the row of the package over V has
 abbrev pub row_length : Repository → NumSet → ℕ → ℕ
@@ -40,31 +50,51 @@ is_soonest count may ps q = may q && list_all (λ r. not (may r && sooner count 
 abbrev pub soonest : (ℕ → ℕ) → (ℕ → Bool) → List ℕ → Option ℕ
 soonest count may ps = find (is_soonest count may ps) ps
 
--- the next package to be taken out of V, if one may go
-unfoldable pub next_gone : Repository → NumSet → Option ℕ
-next_gone R V = soonest (row_length R V) (may_go R V) (packages R)
+-- the next package to be taken out, if one may go
+unfoldable pub next_gone : Repository → Remaining → Option ℕ
+next_gone R s = soonest (row_length R s.left) (may_go R s) (packages R)
 
-abbrev pub less_one : NumSet → Option ℕ → NumSet
-less_one V None = V
-less_one V (Some q) = without V q
+-- whether the row of some package over V has more clauses than the limit allows
+unfoldable pub passes_over : ℕ → Repository → NumSet → Bool
+passes_over limit R V = list_any (λ p. ltb limit (row_length R V p)) (packages R)
 
--- the packages that are left after so many steps of elimination
-unfoldable pub left_after : Repository → ℕ → NumSet
-left_after R zero = all_packages R
-left_after R (suc i) = less_one (left_after R i) (next_gone R (left_after R i))
+-- the package is taken out; with hold it is held in place of that, where some row would pass the limit without it
+abbrev pub gone_or_held : ℕ → Bool → Repository → Remaining → Option ℕ → Remaining
+gone_or_held limit hold R s None = s
+gone_or_held limit hold R s (Some q) =
+    cond (hold && passes_over limit R (without s.left q))
+    (record { left = s.left; held = plus s.held q })
+    (record { left = without s.left q; held = s.held })
 
--- the core: the packages that are left when none may go. Each step takes one package out, so this is
--- reached after as many steps as there are packages, at the latest, and then stays
-abbrev pub core_of : Repository → NumSet
-core_of R = left_after R (length R.clauses)
+-- what remains after so many steps of elimination
+unfoldable pub remaining_after : ℕ → Bool → Repository → ℕ → Remaining
+remaining_after limit hold R zero = none_gone R
+remaining_after limit hold R (suc i) =
+    gone_or_held limit hold R (remaining_after limit hold R i) (next_gone R (remaining_after limit hold R i))
+
+-- what remains when none may go. Each step takes one package out or holds one, so this is reached after
+-- as many steps as there are packages, at the latest, and then stays
+abbrev pub at_last : ℕ → Bool → Repository → Remaining
+at_last limit hold R = remaining_after limit hold R (length R.clauses)
+
+-- the core: the packages that are left then
+abbrev pub core_of : ℕ → Bool → Repository → NumSet
+core_of limit hold R = (at_last limit hold R).left
+
+-- those of them that are held, and the same as a list, ascending
+abbrev pub is_held : ℕ → Bool → Repository → NumSet
+is_held limit hold R = (at_last limit hold R).held
+
+unfoldable pub held_of : ℕ → Bool → Repository → List ℕ
+held_of limit hold R = filter (is_held limit hold R) (packages R)
 
 -- the rows of all packages over V, those outside V too
 unfoldable pub rows_over : Repository → NumSet → List (List (List ℕ))
 rows_over R V = map (row R V) (packages R)
 
 -- the flattened repository: the rows over the core as clauses, and the same conflicts
-unfoldable pub flat : Repository → Repository
-flat R = record { clauses = rows_over R (core_of R); conflicts = R.conflicts }
+unfoldable pub flat : ℕ → Bool → Repository → Repository
+flat limit hold R = record { clauses = rows_over R (core_of limit hold R); conflicts = R.conflicts }
 
 -- a row that has too many clauses: how many packages are gone, the package of the row, gone or not,
 -- and the number of its clauses
@@ -79,8 +109,8 @@ passed_by count ps limit i =
     option_map (λ p. record { gone = i; «package» = p; count = count p })
     (find (λ p. ltb limit (count p)) ps)
 
-abbrev pub passed_at : Repository → ℕ → ℕ → Option Passed
-passed_at R limit i = passed_by (row_length R (left_after R i)) (packages R) limit i
+abbrev pub passed_at : ℕ → Bool → Repository → ℕ → Option Passed
+passed_at limit hold R i = passed_by (row_length R (remaining_after limit hold R i).left) (packages R) limit i
 
 abbrev pub first_some : {A : Type 0} → List (Option A) → Option A
 first_some [] = None
@@ -88,6 +118,7 @@ first_some (None ∷ xs) = first_some xs
 first_some (Some x ∷ xs) = Some x
 
 -- the first stage of elimination, and there the least package, whose row has more clauses than the
--- limit allows; after the core is reached no stage differs from it
-unfoldable pub passes : Repository → ℕ → Option Passed
-passes R limit = first_some (map (passed_at R limit) (numbers (suc (length R.clauses)) 0))
+-- limit allows. Without hold each step takes one package out, and after the core is reached no stage
+-- differs from it. With hold no step makes a row pass the limit, so that only the rows before any step may
+unfoldable pub passes : ℕ → Bool → Repository → Option Passed
+passes limit hold R = first_some (map (passed_at limit hold R) (numbers (cond hold 1 (suc (length R.clauses))) 0))

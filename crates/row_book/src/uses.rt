@@ -118,7 +118,7 @@ fn sorted_numbers_in(alloc: Global, pool: &Pool, ids: &[ClauseId]) -> Result<Vec
     Ok(found)
 }
 
-/// The numbers that clauses hold, each once; it fails only where no memory is found.
+/// The numbers that clauses hold, each once and in their order; it fails only where no memory is found.
 pub fn distinct_numbers_in(
     alloc: Global,
     pool: &Pool,
@@ -127,6 +127,7 @@ pub fn distinct_numbers_in(
     requires { OfPool pool.now ids.now }
     ensures held { IfOk result (λ found. (n : ℕ) → In n found.items → some_holds (clauses_at pool.now ids.now) n ≡ true) }
     ensures all { IfOk result (λ found. (n : ℕ) → some_holds (clauses_at pool.now ids.now) n ≡ true → In n found.items) }
+    ensures ascending { IfOk result (λ found. Ascending found.items) }
 {
     let mut found = sorted_numbers_in(alloc, pool, ids)?;
     found.dedup();

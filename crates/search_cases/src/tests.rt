@@ -1,4 +1,4 @@
-//! Searches, checks, lifting and trimming over the kernels of three small indexes.
+//! Searches, checks, lifting and trimming over the kernels of four small indexes.
 ghost use Rattle.std.specs.Prelude.{◌≡◌, ◌<◌, true, length, IfOk, OnOk};
 ghost use Rattle.row_book.specs.Book.{Sound};
 ghost use Rattle.row_book.specs.Flags.{flag};
@@ -18,7 +18,7 @@ use std::alloc::{AllocError, Global};
 use std::process::Abort;
 use std::test::Fail;
 
-/// The clause limit of the kernels.
+/// The clause limit of the kernels that hold no package.
 const MOST_CLAUSES: u32 = 65_536;
 
 /// The budget of a search whose classes are lifted, in failed leaves.
@@ -36,8 +36,13 @@ const TANGLE: &str =
 const CHAIN: &str =
     "Package: a\nVersion: 1\nDepends: m\n\nPackage: m\nVersion: 1\nDepends: b, c | d\n\nPackage: b\nVersion: 1\nConflicts: e\n\nPackage: c\nVersion: 1\nConflicts: e\n\nPackage: d\nVersion: 1\nConflicts: f\n\nPackage: e\nVersion: 1\n\nPackage: f\nVersion: 1\n";
 
-/// The repository of an index, with its kernel.
-fn stage(alloc: Global, text: &str) -> Result<(Pool, Book, Kernel), Fail>
+/// Without package 1 a row of package 0 would have three clauses.
+const HELD: &str =
+    "Package: a\nVersion: 1\nDepends: m, g\n\nPackage: m\nVersion: 1\nDepends: b, c\n\nPackage: b\nVersion: 1\nConflicts: e\n\nPackage: c\nVersion: 1\nConflicts: f\n\nPackage: g\nVersion: 1\nConflicts: h\n\nPackage: e\nVersion: 1\n\nPackage: f\nVersion: 1\n\nPackage: h\nVersion: 1\n";
+
+/// The repository of an index, with its kernel at a clause limit, with hold or without.
+fn stage(alloc: Global, text: &str, limit: u32, hold: bool) -> Result<(Pool, Book, Kernel), Fail>
+    requires { 0 < limit }
     ensures { IfOk result (λ made. IsStage made.0 made.1 made.2) }
 {
     let bytes = text.as_bytes();
@@ -48,7 +53,7 @@ fn stage(alloc: Global, text: &str) -> Result<(Pool, Book, Kernel), Fail>
     let mut pool = Pool::new(alloc)?;
     let book = suite.book(alloc, &mut pool)?;
     pool.clause_count();
-    let kernel = extract(alloc, &mut pool, &book, MOST_CLAUSES)?;
+    let kernel = extract(alloc, &mut pool, &book, limit, hold)?;
     Ok((pool, book, kernel))
 }
 
@@ -221,7 +226,7 @@ fn check_lift(
 
 /// Classes 1 and 2 conflict, and a log needs an entry.
 fn check_three(rt: &impl Abort, alloc: Global) -> Result<(), Fail> {
-    let (pool, book, kernel) = stage(alloc, THREE)?;
+    let (pool, book, kernel) = stage(alloc, THREE, MOST_CLAUSES, false)?;
     let three = &kernel.book;
     check_search(rt, alloc, &pool, three, (&[1, 2], 1, "log ()"))?;
     check_search(rt, alloc, &pool, three, (&[0, 2], 1, "found 0 2"))?;
@@ -239,7 +244,7 @@ fn check_three(rt: &impl Abort, alloc: Global) -> Result<(), Fail> {
 
 /// A log without an entry derives nothing.
 fn check_nothing(rt: &impl Abort, alloc: Global) -> Result<(), Fail> {
-    let (pool, _book, kernel) = stage(alloc, THREE)?;
+    let (pool, _book, kernel) = stage(alloc, THREE, MOST_CLAUSES, false)?;
     let goals = single_goals(alloc, kernel.book.size(), &[1, 2])?;
     let nothing = Log {
         entries: EntryList::new(alloc),
@@ -251,7 +256,7 @@ fn check_nothing(rt: &impl Abort, alloc: Global) -> Result<(), Fail> {
 
 /// Class 0 is refuted with two failed leaves.
 fn check_tangle(rt: &impl Abort, alloc: Global) -> Result<(), Fail> {
-    let (pool, _book, kernel) = stage(alloc, TANGLE)?;
+    let (pool, _book, kernel) = stage(alloc, TANGLE, MOST_CLAUSES, false)?;
     let tangle = &kernel.book;
     let not_one = Literal {
         class: 1,
@@ -267,7 +272,7 @@ fn check_tangle(rt: &impl Abort, alloc: Global) -> Result<(), Fail> {
 
 /// Lifting puts in all that the classes and the steps ask for.
 fn check_chain(rt: &impl Abort, alloc: Global) -> Result<(), Fail> {
-    let (pool, book, kernel) = stage(alloc, CHAIN)?;
+    let (pool, book, kernel) = stage(alloc, CHAIN, MOST_CLAUSES, false)?;
     let all = "found 0 1 2 3 6";
     check_lift(
         rt,
@@ -279,11 +284,21 @@ fn check_chain(rt: &impl Abort, alloc: Global) -> Result<(), Fail> {
     )
 }
 
+/// A class that is held is lifted like any other.
+fn check_held(rt: &impl Abort, alloc: Global) -> Result<(), Fail> {
+    let (pool, book, kernel) = stage(alloc, HELD, 2, true)?;
+    let held = &kernel.book;
+    let all = "found 0 1 2 3 4";
+    check_search(rt, alloc, &pool, held, (&[0, 7], 1, "log ()"))?;
+    check_lift(rt, alloc, &pool, &book, &kernel, (&[0], all, &[0], all))
+}
+
 #[test]
 fn kernels_are_searched(rt: HostRuntime) -> Result<(), Fail> {
     let alloc = rt.alloc();
     check_three(&rt, alloc)?;
     check_nothing(&rt, alloc)?;
     check_tangle(&rt, alloc)?;
-    check_chain(&rt, alloc)
+    check_chain(&rt, alloc)?;
+    check_held(&rt, alloc)
 }

@@ -86,7 +86,7 @@ fn measure(rt: &HostRuntime, start: &Instant, suite: &Suite) -> Result<(), Alloc
         "a suite after {made:?}, all atoms looked up after {all:?}, a book after {booked:?}"
     );
     let before = since(rt, start);
-    let is_flat = flatten(alloc, &mut pool, &book, MOST_CLAUSES).is_ok();
+    let is_flat = flatten(alloc, &mut pool, &book, MOST_CLAUSES, false).is_ok();
     let flattened = since(rt, start);
     let kept = pool.clause_count();
     let _ = println!(rt; "flattened ({is_flat}) from {before:?} to {flattened:?}, {kept} clauses");
@@ -99,7 +99,7 @@ fn measure_kernel(rt: &HostRuntime, start: &Instant, suite: &Suite) -> Result<()
     let mut pool = Pool::new(alloc)?;
     let book = suite.book(alloc, &mut pool)?;
     let before = since(rt, start);
-    let found = extract(alloc, &mut pool, &book, MOST_CLAUSES);
+    let found = extract(alloc, &mut pool, &book, MOST_CLAUSES, false);
     let extracted = since(rt, start);
     let _ = println!(rt; "extracted from {before:?} to {extracted:?}");
     match found {
@@ -144,11 +144,11 @@ fn measure_round(
 {
     let alloc = rt.alloc();
     let before = since(rt, start);
-    let Ok(flat) = flatten(alloc, pool, book, MOST_CLAUSES) else {
+    let Ok(flat) = flatten(alloc, pool, book, MOST_CLAUSES, false) else {
         return Err(AllocError);
     };
     let flattened = since(rt, start);
-    let classes = merge(alloc, pool, &flat)?;
+    let classes = merge(alloc, pool, &flat.book)?;
     let merged = since(rt, start);
     let pruned = prune(alloc, pool, &classes.book)?;
     let left = since(rt, start);

@@ -1,17 +1,18 @@
-use Rattle.std.proofs.Common.{◌≡◌, ℕ, ◌<◌, ◌≤◌, ◌&&◌, ltb, List, Some, sym, ◌∙◌, ap, ap₂, arith, drop, length, map, subst}
+use Rattle.std.proofs.Common.{◌≡◌, ℕ, ◌<◌, ◌≤◌, ◌&&◌, ltb, List, Some, sym, ◌∙◌, ap, ap₂, arith, drop, filter, length, map, subst}
 use Rattle.std.specs.List.{find}
 use Rattle.std.proofs.lemmas.Result.{err_from_is_err_and}
 use Rattle.clause_pool.specs.Interned.{row_at}
 use Rattle.row_book.specs.Book.{repository_of}
 use Rattle.row_book.specs.Clauses.{numbers}
-use Rattle.row_book.specs.Flattening.{flat, passes}
+use Rattle.row_book.specs.Flags.{flag}
+use Rattle.row_book.specs.Flattening.{flat, held_of, passes}
 use Rattle.row_book.specs.Repository.{Repository}
 use Rattle.row_book.proofs.Books.{repository_kept, rows_kept, sound_kept}
 use Rattle.clause_flatten.specs.Substitution.{length_in}
 use Rattle.clause_flatten.specs.TakingOut.{is_free, is_over}
 use Rattle.clause_flatten.specs.TidyRows.{tidied_table}
 use Rattle.clause_flatten.specs.Waiting.{Filed}
-use Rattle.clause_flatten.proofs.Flattened.{first_passed, found_below, on_limit, take_whole}
+use Rattle.clause_flatten.proofs.Running.{first_passed, found_below, on_limit, take_whole}
 use Rattle.clause_flatten.proofs.Runs.{none_over}
 use Rattle.clause_flatten.proofs.flattening.flatten.Goals as goal
 
@@ -23,7 +24,7 @@ clauses_in-requires-clause-there c =
 
 pub returns-in-Some-clause-passed : goal.returns-in-Some-clause-passed
 returns-in-Some-clause-passed c =
-    first_passed c.args.pool.now c.tidy_rows.new.pool c.args.book.now c.in_ok-rows.rows.items c.args.limit c.in-Some.«package» c.clauses_in.result
+    first_passed c.args.pool.now c.tidy_rows.new.pool c.args.book.now c.in_ok-rows.rows.items c.args.limit c.args.hold c.in-Some.«package» c.clauses_in.result
     c.clause_count.ensures.sound c.requires.sound
     (c.in_ok-rows.ensures.tidied ∙ ap (λ xs. tidied_table (map (row_at c.args.pool.now) xs)) c.as_slice.ensures)
     (subst (λ xs. find (is_over (map (row_at c.tidy_rows.new.pool) xs) c.args.limit) (numbers (length xs) 0) ≡ Some c.in-Some.«package») c.as_slice-2.ensures.value (sym c.in-Some.ensures))
@@ -50,17 +51,17 @@ take_all_out-requires-clause-within c =
     (c.as_slice-2.ensures.value ∙ sym c.as_mut_slice.ensures.value)
     (none_over (map (row_at c.tidy_rows.new.pool) c.as_slice-2.result.now) c.args.limit (length c.as_slice-2.result.now) (sym c.in_default.ensures))
 
-pub returns-in_err-take_all_out-clause-passed : goal.returns-in_err-take_all_out-clause-passed
-returns-in_err-take_all_out-clause-passed c =
+pub returns-in_err-flags-clause-passed : goal.returns-in_err-flags-clause-passed
+returns-in_err-flags-clause-passed c =
     let same : repository_of c.tidy_rows.new.pool c.args.book.now ≡ repository_of c.args.pool.now c.args.book.now =
     repository_kept c.args.pool.now c.tidy_rows.new.pool c.clause_count.ensures.sound c.tidy_rows.ensures.kept c.args.book.now c.requires.sound in
-    let p = err_from_is_err_and c.from_residual-in_err-take_all_out.result c.from_residual-in_err-take_all_out.ensures.1 in
+    let p = err_from_is_err_and c.from_residual-in_err-flags.result c.from_residual-in_err-flags.ensures.1 in
     rw (p.1, p.2)
     (on_limit
-    (λ w. passes (repository_of c.tidy_rows.new.pool c.args.book.now) c.args.limit ≡ Some w)
-    (λ w. passes (repository_of c.args.pool.now c.args.book.now) c.args.limit ≡ Some w)
-    (λ w h. ap (λ R. passes R c.args.limit) (sym same) ∙ h)
-    _ c.in_err-take_all_out.ensures.passed)
+    (λ w. passes c.args.limit c.args.hold (repository_of c.tidy_rows.new.pool c.args.book.now) ≡ Some w)
+    (λ w. passes c.args.limit c.args.hold (repository_of c.args.pool.now c.args.book.now) ≡ Some w)
+    (λ w h. ap (passes c.args.limit c.args.hold) (sym same) ∙ h)
+    _ c.in_err-flags.ensures.passed)
 
 pub returns-clause-flat : goal.returns-clause-flat
 returns-clause-flat c =
@@ -71,10 +72,24 @@ returns-clause-flat c =
     let rows_are : c.in_ok-made.made.rows ≡ c.take_all_out.new.rows =
     c.in_ok-made.ensures.rows ∙ c.of-2.ensures ∙ take_whole c.in_ok-rows.rows.len c.take_all_out.new.rows (drop (length c.take_all_out.new.rows) c.in_ok-rows.rows.items) size in
     let conflicts_are : c.in_ok-made.made.conflicts ≡ c.args.book.now.conflicts = c.in_ok-made.ensures.conflicts in
-    ap₂ made rows_are conflicts_are ∙ c.in_ok-take_all_out.ensures.flat ∙ ap flat same
+    ap₂ made rows_are conflicts_are ∙ c.in_ok-flags.ensures.flat ∙ ap (flat c.args.limit c.args.hold) same
 
 pub returns-clause-within : goal.returns-clause-within
 returns-clause-within c =
     let same : repository_of c.tidy_rows.new.pool c.args.book.now ≡ repository_of c.args.pool.now c.args.book.now =
     repository_kept c.args.pool.now c.tidy_rows.new.pool c.clause_count.ensures.sound c.tidy_rows.ensures.kept c.args.book.now c.requires.sound in
-    ap (λ R. passes R c.args.limit) (sym same) ∙ c.in_ok-take_all_out.ensures.within
+    ap (passes c.args.limit c.args.hold) (sym same) ∙ c.in_ok-flags.ensures.within
+
+pub flagged-requires : goal.flagged-requires
+flagged-requires c =
+    let few : length c.as_slice-5.result.now ≡ length c.args.book.now.rows = ap length c.as_slice-5.ensures.value ∙ c.in_ok-flags.ensures.few in
+    omega (arith, c.args.book.now.few)
+
+pub returns-clause-held : goal.returns-clause-held
+returns-clause-held c =
+    let same : repository_of c.tidy_rows.new.pool c.args.book.now ≡ repository_of c.args.pool.now c.args.book.now =
+    repository_kept c.args.pool.now c.tidy_rows.new.pool c.clause_count.ensures.sound c.tidy_rows.ensures.kept c.args.book.now c.requires.sound in
+    c.in_ok-held.ensures
+    ∙ ap (λ xs. filter (flag xs) (numbers (length xs) 0)) c.as_slice-5.ensures.value
+    ∙ c.in_ok-flags.ensures.held
+    ∙ ap (held_of c.args.limit c.args.hold) same

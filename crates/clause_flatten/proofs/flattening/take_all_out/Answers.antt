@@ -1,88 +1,134 @@
-use Rattle.std.proofs.Common.{◌≡◌, ◌+◌, Some, arith, length, map}
+use Rattle.std.proofs.Common.{◌≡◌, ◌<◌, ◌+◌, false, Some, arith, length, map, replicate, ap, ◌∙◌}
 use Rattle.std.proofs.lemmas.List as lists
 use Rattle.std.proofs.lemmas.Result.{err_from_is_err_and}
 use Rattle.clause_pool.specs.Interned.{row_at}
 use Rattle.row_book.specs.Book.{repository_of}
 use Rattle.row_book.specs.Clauses.{numbers}
-use Rattle.row_book.specs.Flattening.{left_after, may_go, passed_by, passes}
+use Rattle.row_book.specs.Flattening.{may_go, passed_by, passes, remaining_after}
 use Rattle.row_book.specs.Repository.{Repository}
 use Rattle.row_book.specs.Sets.{without}
 use Rattle.clause_flatten.specs.Substitution.{table_without, length_in}
-use Rattle.clause_flatten.proofs.Flattened.{first_there, on_limit, run_empty, run_full, run_here, run_more, run_passed, run_size, run_start}
+use Rattle.clause_flatten.proofs.Running.{HasEnded, first_there, on_limit, run_empty, run_full, run_here, run_more, run_passed, run_size, run_start}
+use Rattle.clause_flatten.proofs.Tidied.{kept_kept}
 use Rattle.clause_flatten.proofs.flattening.take_all_out.Goals as goal
 
-pub loop-gone-init : goal.loop-gone-init
-loop-gone-init c =
-    run_start c.args.pool.now c.args.book.now c.args.limit c.args.rows.now c.args.uses.now c.args.waiting c.clause_count.ensures.sound c.requires.sound
-    c.requires.first c.requires.fit c.requires.tidy c.requires.table c.requires.waiting c.requires.within
+pub loop-turn-init : goal.loop-turn-init
+loop-turn-init c =
+    run_start c.args.pool.now c.args.book.now c.args.rule.limit c.args.rule.hold c.args.rows.now c.args.uses.now c.args.waiting c.in_ok-held.held.items
+    c.clause_count.ensures.sound c.requires.sound c.requires.first c.requires.fit c.requires.tidy c.requires.table c.requires.waiting c.requires.within
+    (c.in_ok-held.ensures ∙ ap (λ n. replicate n false) c.size.ensures)
 
 pub returns-in_default-clause-flat : goal.returns-in_default-clause-flat
 returns-in_default-clause-flat c =
     let R : Repository = repository_of c.args.pool.now c.args.book.now in
     let size : length (repository_of c.args.pool.now c.args.book.now).clauses ≡ length c.args.book.now.rows = lists.length-map c.args.book.now.rows (row_at c.args.pool.now) in
-    (run_empty R c.args.limit c.loop-gone.gone c.args.pool.now c.loop-gone.pool c.loop-gone.rows c.loop-gone.uses c.loop-gone.waiting c.loop-gone.invariant
-    (omega arith)
-    (c.in_default.ensures.none (may_go R (left_after R c.loop-gone.gone)) (length_in (map (row_at c.loop-gone.pool) c.loop-gone.rows)) c.loop-gone.invariant.filed)).0
+    let end : HasEnded (repository_of c.args.pool.now c.args.book.now) c.args.rule.limit c.args.rule.hold c.loop-turn.pool c.loop-turn.rows c.loop-turn.held.items =
+    run_empty R c.args.rule.limit c.args.rule.hold c.loop-turn.turn c.args.pool.now c.loop-turn.pool c.loop-turn.rows c.loop-turn.uses c.loop-turn.waiting c.loop-turn.held.items c.loop-turn.invariant (omega arith)
+    (c.in_default.ensures.none (may_go R (remaining_after c.args.rule.limit c.args.rule.hold R c.loop-turn.turn)) (length_in (map (row_at c.loop-turn.pool) c.loop-turn.rows)) c.loop-turn.invariant.filed) in
+    end.same
+
+pub returns-in_default-clause-held : goal.returns-in_default-clause-held
+returns-in_default-clause-held c =
+    let R : Repository = repository_of c.args.pool.now c.args.book.now in
+    let size : length (repository_of c.args.pool.now c.args.book.now).clauses ≡ length c.args.book.now.rows = lists.length-map c.args.book.now.rows (row_at c.args.pool.now) in
+    let end : HasEnded (repository_of c.args.pool.now c.args.book.now) c.args.rule.limit c.args.rule.hold c.loop-turn.pool c.loop-turn.rows c.loop-turn.held.items =
+    run_empty R c.args.rule.limit c.args.rule.hold c.loop-turn.turn c.args.pool.now c.loop-turn.pool c.loop-turn.rows c.loop-turn.uses c.loop-turn.waiting c.loop-turn.held.items c.loop-turn.invariant (omega arith)
+    (c.in_default.ensures.none (may_go R (remaining_after c.args.rule.limit c.args.rule.hold R c.loop-turn.turn)) (length_in (map (row_at c.loop-turn.pool) c.loop-turn.rows)) c.loop-turn.invariant.filed) in
+    end.held
 
 pub returns-in_default-clause-within : goal.returns-in_default-clause-within
 returns-in_default-clause-within c =
     let R : Repository = repository_of c.args.pool.now c.args.book.now in
     let size : length (repository_of c.args.pool.now c.args.book.now).clauses ≡ length c.args.book.now.rows = lists.length-map c.args.book.now.rows (row_at c.args.pool.now) in
-    (run_empty R c.args.limit c.loop-gone.gone c.args.pool.now c.loop-gone.pool c.loop-gone.rows c.loop-gone.uses c.loop-gone.waiting c.loop-gone.invariant
-    (omega arith)
-    (c.in_default.ensures.none (may_go R (left_after R c.loop-gone.gone)) (length_in (map (row_at c.loop-gone.pool) c.loop-gone.rows)) c.loop-gone.invariant.filed)).1
+    let end : HasEnded (repository_of c.args.pool.now c.args.book.now) c.args.rule.limit c.args.rule.hold c.loop-turn.pool c.loop-turn.rows c.loop-turn.held.items =
+    run_empty R c.args.rule.limit c.args.rule.hold c.loop-turn.turn c.args.pool.now c.loop-turn.pool c.loop-turn.rows c.loop-turn.uses c.loop-turn.waiting c.loop-turn.held.items c.loop-turn.invariant (omega arith)
+    (c.in_default.ensures.none (may_go R (remaining_after c.args.rule.limit c.args.rule.hold R c.loop-turn.turn)) (length_in (map (row_at c.loop-turn.pool) c.loop-turn.rows)) c.loop-turn.invariant.filed) in
+    end.within
 
-pub take_out-requires-clause-few : goal.take_out-requires-clause-few
-take_out-requires-clause-few c =
+pub returns-in_default-clause-few : goal.returns-in_default-clause-few
+returns-in_default-clause-few c =
+    let size : length (repository_of c.args.pool.now c.args.book.now).clauses ≡ length c.args.book.now.rows = lists.length-map c.args.book.now.rows (row_at c.args.pool.now) in
+    c.loop-turn.invariant.told.count ∙ size
+
+pub take_out_or_hold-requires-clause-few : goal.take_out_or_hold-requires-clause-few
+take_out_or_hold-requires-clause-few c =
     let R : Repository = repository_of c.args.pool.now c.args.book.now in
     let size : length (repository_of c.args.pool.now c.args.book.now).clauses ≡ length c.args.book.now.rows = lists.length-map c.args.book.now.rows (row_at c.args.pool.now) in
-    let here : length c.loop-gone.rows ≡ length (repository_of c.args.pool.now c.args.book.now).clauses =
-    run_size R c.args.limit c.loop-gone.gone c.args.pool.now c.loop-gone.pool c.loop-gone.rows c.loop-gone.uses c.loop-gone.waiting c.loop-gone.invariant in
+    let here : length c.loop-turn.rows ≡ length (repository_of c.args.pool.now c.args.book.now).clauses =
+    run_size R c.args.rule.limit c.args.rule.hold c.loop-turn.turn c.args.pool.now c.loop-turn.pool c.loop-turn.rows c.loop-turn.uses c.loop-turn.waiting c.loop-turn.held.items c.loop-turn.invariant in
     omega (arith, c.args.book.now.few)
 
-pub take_out-requires-clause-there : goal.take_out-requires-clause-there
-take_out-requires-clause-there c =
+pub take_out_or_hold-requires-clause-there : goal.take_out_or_hold-requires-clause-there
+take_out_or_hold-requires-clause-there c =
     let R : Repository = repository_of c.args.pool.now c.args.book.now in
-    first_there R c.args.limit c.loop-gone.gone c.args.pool.now c.loop-gone.pool c.loop-gone.rows c.loop-gone.uses c.loop-gone.waiting c.loop-gone.invariant c.in-Some.next
-    (c.in-Some.ensures.first (may_go R (left_after R c.loop-gone.gone)) (length_in (map (row_at c.loop-gone.pool) c.loop-gone.rows)) c.loop-gone.invariant.filed)
+    first_there R c.args.rule.limit c.args.rule.hold c.loop-turn.turn c.args.pool.now c.loop-turn.pool c.loop-turn.rows c.loop-turn.uses c.loop-turn.waiting c.loop-turn.held.items c.loop-turn.invariant c.in-Some.next
+    (c.in-Some.ensures.first (may_go R (remaining_after c.args.rule.limit c.args.rule.hold R c.loop-turn.turn)) (length_in (map (row_at c.loop-turn.pool) c.loop-turn.rows)) c.loop-turn.invariant.filed)
 
-pub take_out-requires-clause-within : goal.take_out-requires-clause-within
-take_out-requires-clause-within c =
+pub take_out_or_hold-requires-clause-within : goal.take_out_or_hold-requires-clause-within
+take_out_or_hold-requires-clause-within c =
     let R : Repository = repository_of c.args.pool.now c.args.book.now in
-    run_here R c.args.limit c.loop-gone.gone c.args.pool.now c.loop-gone.pool c.loop-gone.rows c.loop-gone.uses c.loop-gone.waiting c.loop-gone.invariant
+    run_here R c.args.rule.limit c.args.rule.hold c.loop-turn.turn c.args.pool.now c.loop-turn.pool c.loop-turn.rows c.loop-turn.uses c.loop-turn.waiting c.loop-turn.held.items c.loop-turn.invariant
 
-pub returns-in_err-take_out-clause-passed : goal.returns-in_err-take_out-clause-passed
-returns-in_err-take_out-clause-passed c =
+pub returns-in_err-stays-clause-passed : goal.returns-in_err-stays-clause-passed
+returns-in_err-stays-clause-passed c =
     let R : Repository = repository_of c.args.pool.now c.args.book.now in
     let size : length (repository_of c.args.pool.now c.args.book.now).clauses ≡ length c.args.book.now.rows = lists.length-map c.args.book.now.rows (row_at c.args.pool.now) in
-    let p = err_from_is_err_and c.from_residual.result c.from_residual.ensures.1 in
+    let p = err_from_is_err_and c.from_residual-in_err-stays.result c.from_residual-in_err-stays.ensures.1 in
     rw (p.1, p.2)
     (on_limit
-    (λ w. passed_by (length_in (table_without c.in-Some.next (map (row_at c.loop-gone.pool) c.loop-gone.rows))) (numbers (length c.loop-gone.rows) 0) c.args.limit (c.loop-gone.gone + 1) ≡ Some w)
-    (λ w. passes (repository_of c.args.pool.now c.args.book.now) c.args.limit ≡ Some w)
-    (λ w h. run_passed R c.args.limit c.loop-gone.gone c.args.pool.now c.loop-gone.pool c.loop-gone.rows c.loop-gone.uses c.loop-gone.waiting c.loop-gone.invariant c.in-Some.next
-    (c.in-Some.ensures.first (may_go R (left_after R c.loop-gone.gone)) (length_in (map (row_at c.loop-gone.pool) c.loop-gone.rows)) c.loop-gone.invariant.filed)
+    (λ w. (c.args.rule.hold ≡ false)
+    × (passed_by (length_in (table_without c.in-Some.next (map (row_at c.loop-turn.pool) c.loop-turn.rows))) (numbers (length c.loop-turn.rows) 0) c.args.rule.limit (c.loop-turn.turn + 1) ≡ Some w))
+    (λ w. passes c.args.rule.limit c.args.rule.hold (repository_of c.args.pool.now c.args.book.now) ≡ Some w)
+    (λ w h. run_passed R c.args.rule.limit c.args.rule.hold c.loop-turn.turn c.args.pool.now c.loop-turn.pool c.loop-turn.rows c.loop-turn.uses c.loop-turn.waiting c.loop-turn.held.items c.loop-turn.invariant c.in-Some.next
+    (c.in-Some.ensures.first (may_go R (remaining_after c.args.rule.limit c.args.rule.hold R c.loop-turn.turn)) (length_in (map (row_at c.loop-turn.pool) c.loop-turn.rows)) c.loop-turn.invariant.filed)
     w (omega arith) h)
-    _ c.in_err-take_out.ensures.passed)
+    _ c.in_err-stays.ensures.passed)
 
-pub loop-gone-preserved : goal.loop-gone-preserved
-loop-gone-preserved c =
+pub loop-turn-preserved : goal.loop-turn-preserved
+loop-turn-preserved c =
     let R : Repository = repository_of c.args.pool.now c.args.book.now in
-    run_more R c.args.limit c.loop-gone.gone c.args.pool.now c.loop-gone.pool c.loop-gone.rows c.loop-gone.uses c.loop-gone.waiting c.loop-gone.invariant c.in-Some.next
-    (c.in-Some.ensures.first (may_go R (left_after R c.loop-gone.gone)) (length_in (map (row_at c.loop-gone.pool) c.loop-gone.rows)) c.loop-gone.invariant.filed)
-    c.take_out.new.pool c.take_out.new.rows c.take_out.new.uses c.take_out.new.waiting
-    c.in_ok-take_out.ensures.rows c.in_ok-take_out.ensures.fit c.in_ok-take_out.ensures.tidy c.in_ok-take_out.ensures.table c.in_ok-take_out.ensures.kept c.in_ok-take_out.ensures.within
-    (c.in_ok-take_out.ensures.filed (without (may_go R (left_after R c.loop-gone.gone)) c.in-Some.next)
-    (c.in-Some.ensures.taken (may_go R (left_after R c.loop-gone.gone)) (length_in (map (row_at c.loop-gone.pool) c.loop-gone.rows)) c.loop-gone.invariant.filed))
+    run_more R c.args.rule.limit c.args.rule.hold c.loop-turn.turn c.args.pool.now c.loop-turn.pool c.loop-turn.rows c.loop-turn.uses c.loop-turn.waiting c.loop-turn.held.items c.loop-turn.invariant c.in-Some.next
+    (c.in-Some.ensures.first (may_go R (remaining_after c.args.rule.limit c.args.rule.hold R c.loop-turn.turn)) (length_in (map (row_at c.loop-turn.pool) c.loop-turn.rows)) c.loop-turn.invariant.filed)
+    c.in_ok-stays.stays c.take_out_or_hold.new.pool c.take_out_or_hold.new.rows c.take_out_or_hold.new.uses c.take_out_or_hold.new.waiting c.with_flag-held.result.items
+    c.in_ok-stays.ensures.held c.in_ok-stays.ensures.rows c.take_out_or_hold.ensures.fit c.take_out_or_hold.ensures.tidy c.take_out_or_hold.ensures.table c.take_out_or_hold.ensures.kept c.in_ok-stays.ensures.within
+    (c.in_ok-stays.ensures.filed (without (may_go R (remaining_after c.args.rule.limit c.args.rule.hold R c.loop-turn.turn)) c.in-Some.next)
+    (c.in-Some.ensures.taken (may_go R (remaining_after c.args.rule.limit c.args.rule.hold R c.loop-turn.turn)) (length_in (map (row_at c.loop-turn.pool) c.loop-turn.rows)) c.loop-turn.invariant.filed))
+    c.with_flag-held.ensures
 
 pub returns-clause-flat : goal.returns-clause-flat
 returns-clause-flat c =
     let R : Repository = repository_of c.args.pool.now c.args.book.now in
     let size : length (repository_of c.args.pool.now c.args.book.now).clauses ≡ length c.args.book.now.rows = lists.length-map c.args.book.now.rows (row_at c.args.pool.now) in
-    (run_full R c.args.limit c.loop-gone.gone c.args.pool.now c.loop-gone.pool c.loop-gone.rows c.loop-gone.uses c.loop-gone.waiting c.loop-gone.invariant (omega arith)).0
+    let end : HasEnded (repository_of c.args.pool.now c.args.book.now) c.args.rule.limit c.args.rule.hold c.loop-turn.pool c.loop-turn.rows c.loop-turn.held.items = run_full R c.args.rule.limit c.args.rule.hold c.loop-turn.turn c.args.pool.now c.loop-turn.pool c.loop-turn.rows c.loop-turn.uses c.loop-turn.waiting c.loop-turn.held.items c.loop-turn.invariant (omega arith) in
+    end.same
+
+pub returns-clause-held : goal.returns-clause-held
+returns-clause-held c =
+    let R : Repository = repository_of c.args.pool.now c.args.book.now in
+    let size : length (repository_of c.args.pool.now c.args.book.now).clauses ≡ length c.args.book.now.rows = lists.length-map c.args.book.now.rows (row_at c.args.pool.now) in
+    let end : HasEnded (repository_of c.args.pool.now c.args.book.now) c.args.rule.limit c.args.rule.hold c.loop-turn.pool c.loop-turn.rows c.loop-turn.held.items = run_full R c.args.rule.limit c.args.rule.hold c.loop-turn.turn c.args.pool.now c.loop-turn.pool c.loop-turn.rows c.loop-turn.uses c.loop-turn.waiting c.loop-turn.held.items c.loop-turn.invariant (omega arith) in
+    end.held
 
 pub returns-clause-within : goal.returns-clause-within
 returns-clause-within c =
     let R : Repository = repository_of c.args.pool.now c.args.book.now in
     let size : length (repository_of c.args.pool.now c.args.book.now).clauses ≡ length c.args.book.now.rows = lists.length-map c.args.book.now.rows (row_at c.args.pool.now) in
-    (run_full R c.args.limit c.loop-gone.gone c.args.pool.now c.loop-gone.pool c.loop-gone.rows c.loop-gone.uses c.loop-gone.waiting c.loop-gone.invariant (omega arith)).1
+    let end : HasEnded (repository_of c.args.pool.now c.args.book.now) c.args.rule.limit c.args.rule.hold c.loop-turn.pool c.loop-turn.rows c.loop-turn.held.items = run_full R c.args.rule.limit c.args.rule.hold c.loop-turn.turn c.args.pool.now c.loop-turn.pool c.loop-turn.rows c.loop-turn.uses c.loop-turn.waiting c.loop-turn.held.items c.loop-turn.invariant (omega arith) in
+    end.within
+
+pub returns-clause-few : goal.returns-clause-few
+returns-clause-few c =
+    let size : length (repository_of c.args.pool.now c.args.book.now).clauses ≡ length c.args.book.now.rows = lists.length-map c.args.book.now.rows (row_at c.args.pool.now) in
+    c.loop-turn.invariant.told.count ∙ size
+
+pub with_flag-held-requires : goal.with_flag-held-requires
+with_flag-held-requires c =
+    let R : Repository = repository_of c.args.pool.now c.args.book.now in
+    let here : length c.loop-turn.rows ≡ length (repository_of c.args.pool.now c.args.book.now).clauses = run_size R c.args.rule.limit c.args.rule.hold c.loop-turn.turn c.args.pool.now c.loop-turn.pool c.loop-turn.rows c.loop-turn.uses c.loop-turn.waiting c.loop-turn.held.items c.loop-turn.invariant in
+    let few : length c.loop-turn.held.items ≡ length (repository_of c.args.pool.now c.args.book.now).clauses = c.loop-turn.invariant.told.count in
+    let l : c.in-Some.next < length c.loop-turn.rows = first_there R c.args.rule.limit c.args.rule.hold c.loop-turn.turn c.args.pool.now c.loop-turn.pool c.loop-turn.rows c.loop-turn.uses c.loop-turn.waiting c.loop-turn.held.items c.loop-turn.invariant c.in-Some.next
+    (c.in-Some.ensures.first (may_go R (remaining_after c.args.rule.limit c.args.rule.hold R c.loop-turn.turn)) (length_in (map (row_at c.loop-turn.pool) c.loop-turn.rows)) c.loop-turn.invariant.filed) in
+    omega arith
+
+pub returns-in_err-stays-clause-kept : goal.returns-in_err-stays-clause-kept
+returns-in_err-stays-clause-kept c = kept_kept c.args.pool.now c.loop-turn.pool c.take_out_or_hold.new.pool c.loop-turn.invariant.kept c.take_out_or_hold.ensures.kept

@@ -3,7 +3,7 @@ use Rattle.clause_pool.specs.Interned.{row_at}
 use Rattle.clause_flatten.specs.Substitution.{length_in}
 use Rattle.clause_flatten.specs.TakingOut.{is_free}
 use Rattle.clause_flatten.specs.Waiting.{Filed}
-use Rattle.clause_flatten.proofs.Flattened.{waiting_more, waiting_none, waiting_same}
+use Rattle.clause_flatten.proofs.Free.{waiting_more, waiting_none, waiting_same}
 use Rattle.clause_flatten.proofs.flattening.waiting_in.Goals as goal
 use Rattle.clause_flatten.proofs.flattening.waiting_in.Goals.{then-is_empty+in_ok-put, else-is_empty}
 

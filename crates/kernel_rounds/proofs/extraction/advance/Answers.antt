@@ -13,28 +13,28 @@ use Rattle.kernel_rounds.proofs.extraction.advance.Goals as goal
 
 pub returns-in-Err-clause-passed : goal.returns-in-Err-clause-passed
 returns-in-Err-clause-passed c = λ R start s m.
-    subst (OnRoundLimit (λ passed. limit_at R c.args.limit ≡ Some passed)) (sym (c.round_error.ensures ∙ ap (λ z. refusal c.args.now.number z c.in-Err.fault) c.as_slice.ensures.value))
-    (midway_refused R c.args.limit start c.args.into.now c.args.work.now c.args.now.book c.args.now.class_of.items c.args.now.steps c.args.now.number c.in-Err.fault s m c.in-Err.ensures.passed)
+    subst (OnRoundLimit (λ passed. limit_at c.args.limit c.args.hold R ≡ Some passed)) (sym (c.round_error.ensures ∙ ap (λ z. refusal c.args.now.number z c.in-Err.fault) c.as_slice.ensures.value))
+    (midway_refused c.args.limit c.args.hold R start c.args.into.now c.args.work.now c.args.now.book c.args.now.class_of.items c.args.now.steps c.args.now.number c.in-Err.fault s m c.in-Err.ensures.passed)
 
 pub returns-then-not-changed-clause-made : goal.returns-then-not-changed-clause-made
 returns-then-not-changed-clause-made c = λ R start s m.
-    midway_end R c.args.limit start c.args.into.now c.args.work.now c.one_round.new.pool c.args.now.book c.in-Ok.made.book c.args.now.class_of.items c.args.now.steps c.args.now.number
-    s m c.in-Ok.ensures.round (c.in-Ok.ensures.changed.0 c.if-not-changed.true) c.in-Ok.ensures.sound c.in-Ok.ensures.within
+    midway_end c.args.limit c.args.hold R start c.args.into.now c.args.work.now c.one_round.new.pool c.args.now.book c.in-Ok.made.book c.args.now.class_of.items c.in-Ok.made.held c.args.now.steps c.args.now.number
+    s m c.in-Ok.ensures.round (c.in-Ok.ensures.changed.0 c.if-not-changed.true) c.in-Ok.ensures.sound c.in-Ok.ensures.within c.in-Ok.ensures.held
 
 pub returns-clause-made : goal.returns-clause-made
 returns-clause-made c = λ R start s m.
     let before = repository_of c.args.work.now c.args.now.book in
-    let told : trail_meaning c.one_round.new.pool c.as_slice-4.result.now ≡ round_steps before =
+    let told : trail_meaning c.one_round.new.pool c.as_slice-4.result.now ≡ round_steps c.args.limit c.args.hold before =
     ap (trail_meaning c.one_round.new.pool) c.as_slice-4.ensures ∙ c.in-Ok.ensures.trail
-    ∙ ap (λ xs. trail_meaning c.args.work.now xs ++ (if c.in-Ok.made.changed then round_steps before else [])) c.no_steps-past.ensures
-    ∙ ap (λ b. if b then round_steps before else []) c.if-not-changed.false in
-    let changes : round before ≡ before → ⊥ = λ e. let f = sym (c.in-Ok.ensures.changed.1 e) ∙ c.if-not-changed.false in false≢true f in (
-      midway_more R c.args.limit start c.args.into.now c.carry_round.new.into c.args.work.now c.one_round.new.pool c.args.now.book c.in-Ok.made.book
+    ∙ ap (λ xs. trail_meaning c.args.work.now xs ++ (if c.in-Ok.made.changed then round_steps c.args.limit c.args.hold before else [])) c.no_steps-past.ensures
+    ∙ ap (λ b. if b then round_steps c.args.limit c.args.hold before else []) c.if-not-changed.false in
+    let changes : round c.args.limit c.args.hold before ≡ before → ⊥ = λ e. let f = sym (c.in-Ok.ensures.changed.1 e) ∙ c.if-not-changed.false in false≢true f in (
+      midway_more c.args.limit c.args.hold R start c.args.into.now c.carry_round.new.into c.args.work.now c.one_round.new.pool c.args.now.book c.in-Ok.made.book
           c.args.now.class_of.items c.in-Ok.made.class_of c.in_ok-next.next.items c.args.now.steps c.in_ok-steps.steps c.args.now.number c.saturating_add.result
           s m c.in-Ok.ensures.round c.in-Ok.ensures.classes
-          (subst (λ t. HasSteps start c.carry_round.new.into c.in_ok-steps.steps (steps_after R m.index ++ t)) told (c.in_ok-steps.ensures.steps start (steps_after R m.index) m.steps))
+          (subst (λ t. HasSteps start c.carry_round.new.into c.in_ok-steps.steps (steps_after c.args.limit c.args.hold R m.index ++ t)) told (c.in_ok-steps.ensures.steps start (steps_after c.args.limit c.args.hold R m.index) m.steps))
           c.in-Ok.ensures.sound c.in-Ok.ensures.within changes
           (c.in_ok-next.ensures ∙ ap₂ (λ n cs. map (class_in n) cs) c.as_slice-3.ensures c.as_slice-2.ensures.value) c.saturating_add.ensures,
-      subst (λ z. round_count z < round_count before) (sym c.in-Ok.ensures.round)
-          (falls before (sound_repository c.args.work.now c.args.now.book c.clause_count.ensures.sound c.requires.sound) changes),
+      subst (λ z. round_count c.args.limit c.args.hold z < round_count c.args.limit c.args.hold before) (sym c.in-Ok.ensures.round)
+          (falls c.args.limit c.args.hold before (sound_repository c.args.work.now c.args.now.book c.clause_count.ensures.sound c.requires.sound) changes),
     )

@@ -12,7 +12,7 @@ pub advance-requires-clause-few : goal.advance-requires-clause-few
 advance-requires-clause-few c =
     let R : Repository = repository_of c.args.work.now c.args.book in
     let a : length c.loop-last.now.class_of.items ≡ length R.clauses =
-    midway_size R c.args.limit c.args.into.now c.loop-last.into c.loop-last.work c.loop-last.now.book c.loop-last.now.class_of.items c.loop-last.now.steps c.loop-last.now.number c.loop-last.invariant in
+    midway_size c.args.limit c.args.hold R c.args.into.now c.loop-last.into c.loop-last.work c.loop-last.now.book c.loop-last.now.class_of.items c.loop-last.now.steps c.loop-last.now.number c.loop-last.invariant in
     let b : length R.clauses ≡ length c.args.book.rows = book_size c.args.work.now c.args.book in
     let d : length c.args.book.rows < 4294967295 = c.args.book.few in
     omega (arith, a, b, d)
@@ -28,7 +28,7 @@ returns-in_err-last-clause-kept c = kept_kept c.args.into.now c.loop-last.into c
 
 pub returns-in-Done-clause-reached : goal.returns-in-Done-clause-reached
 returns-in-Done-clause-reached c =
-    subst (IsOutcome (repository_of c.args.work.now c.args.book) c.args.limit c.args.into.now c.advance.new.into c.advance.new.work (repository_of c.loop-last.work c.loop-last.now.book)) c.in-Done.is
+    subst (IsOutcome (repository_of c.args.work.now c.args.book) c.args.limit c.args.hold c.args.into.now c.advance.new.into c.advance.new.work (repository_of c.loop-last.work c.loop-last.now.book)) c.in-Done.is
     (c.in_ok-last.ensures.made (repository_of c.args.work.now c.args.book) c.args.into.now (sound_repository c.args.work.now c.args.book c.clause_count.ensures.sound c.requires.sound) c.loop-last.invariant)
 
 pub returns-in-Done-clause-kept : goal.returns-in-Done-clause-kept
@@ -36,12 +36,12 @@ returns-in-Done-clause-kept c = kept_kept c.args.into.now c.loop-last.into c.adv
 
 pub loop-last-smaller : goal.loop-last-smaller
 loop-last-smaller c =
-    let w = subst (IsOutcome (repository_of c.args.work.now c.args.book) c.args.limit c.args.into.now c.advance.new.into c.advance.new.work (repository_of c.loop-last.work c.loop-last.now.book)) c.in-More.is
+    let w = subst (IsOutcome (repository_of c.args.work.now c.args.book) c.args.limit c.args.hold c.args.into.now c.advance.new.into c.advance.new.work (repository_of c.loop-last.work c.loop-last.now.book)) c.in-More.is
     (c.in_ok-last.ensures.made (repository_of c.args.work.now c.args.book) c.args.into.now (sound_repository c.args.work.now c.args.book c.clause_count.ensures.sound c.requires.sound) c.loop-last.invariant) in
     w.1
 
 pub loop-last-preserved : goal.loop-last-preserved
 loop-last-preserved c =
-    let w = subst (IsOutcome (repository_of c.args.work.now c.args.book) c.args.limit c.args.into.now c.advance.new.into c.advance.new.work (repository_of c.loop-last.work c.loop-last.now.book)) c.in-More.is
+    let w = subst (IsOutcome (repository_of c.args.work.now c.args.book) c.args.limit c.args.hold c.args.into.now c.advance.new.into c.advance.new.work (repository_of c.loop-last.work c.loop-last.now.book)) c.in-More.is
     (c.in_ok-last.ensures.made (repository_of c.args.work.now c.args.book) c.args.into.now (sound_repository c.args.work.now c.args.book c.clause_count.ensures.sound c.requires.sound) c.loop-last.invariant) in
     w.0

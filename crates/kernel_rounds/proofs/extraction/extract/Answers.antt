@@ -12,31 +12,31 @@ returns-in_err-made-clause-kept c = kept_kept c.args.pool.now c.all_rounds.new.i
 
 pub returns-clause-kernel : goal.returns-clause-kernel
 returns-clause-kernel c =
-    subst (λ R. IsExtracted R c.args.limit c.args.pool.now c.carry_kernel.new.into c.in_ok-made.made.book c.in_ok-made.made.class_of c.in_ok-made.made.trail.steps)
+    subst (λ R. IsExtracted R c.args.limit c.args.hold c.args.pool.now c.carry_kernel.new.into c.in_ok-made.made.book c.in_ok-made.made.class_of c.in_ok-made.made.held c.in_ok-made.made.trail.steps)
     c.in_ok-carried.ensures.same.repository
     (c.in_ok-made.ensures.kernel (repository_of c.carry.new.into c.in_ok-carried.carried) c.args.limit c.args.pool.now c.in_ok-last.ensures.reached)
 
 pub returns-clause-keeps : goal.returns-clause-keeps
 returns-clause-keeps c =
-    extracted_keeps (repository_of c.args.pool.now c.args.book.now) _ (sound_repository c.args.pool.now c.args.book.now c.clause_count.ensures.sound c.requires.sound)
+    extracted_keeps c.args.limit c.args.hold (repository_of c.args.pool.now c.args.book.now) _ (sound_repository c.args.pool.now c.args.book.now c.clause_count.ensures.sound c.requires.sound)
     ((c.in_ok-made.ensures.kernel (repository_of c.carry.new.into c.in_ok-carried.carried) c.args.limit c.args.pool.now c.in_ok-last.ensures.reached).is
-    ∙ ap kernel c.in_ok-carried.ensures.same.repository)
+    ∙ ap (kernel c.args.limit c.args.hold) c.in_ok-carried.ensures.same.repository)
 
 pub returns-clause-settled : goal.returns-clause-settled
 returns-clause-settled c =
-    extracted_settled (repository_of c.args.pool.now c.args.book.now) _ (sound_repository c.args.pool.now c.args.book.now c.clause_count.ensures.sound c.requires.sound)
+    extracted_settled c.args.limit c.args.hold (repository_of c.args.pool.now c.args.book.now) _ (sound_repository c.args.pool.now c.args.book.now c.clause_count.ensures.sound c.requires.sound)
     ((c.in_ok-made.ensures.kernel (repository_of c.carry.new.into c.in_ok-carried.carried) c.args.limit c.args.pool.now c.in_ok-last.ensures.reached).is
-    ∙ ap kernel c.in_ok-carried.ensures.same.repository)
+    ∙ ap (kernel c.args.limit c.args.hold) c.in_ok-carried.ensures.same.repository)
 
 pub returns-clause-own : goal.returns-clause-own
 returns-clause-own c =
-    extracted_own (repository_of c.args.pool.now c.args.book.now) _ c.args.limit (sound_repository c.args.pool.now c.args.book.now c.clause_count.ensures.sound c.requires.sound)
+    extracted_own c.args.limit c.args.hold (repository_of c.args.pool.now c.args.book.now) _ (sound_repository c.args.pool.now c.args.book.now c.clause_count.ensures.sound c.requires.sound)
     ((c.in_ok-made.ensures.kernel (repository_of c.carry.new.into c.in_ok-carried.carried) c.args.limit c.args.pool.now c.in_ok-last.ensures.reached).is
-    ∙ ap kernel c.in_ok-carried.ensures.same.repository)
-    (subst (λ R. limit_at R c.args.limit ≡ None) c.in_ok-carried.ensures.same.repository c.in_ok-last.ensures.reached.within)
+    ∙ ap (kernel c.args.limit c.args.hold) c.in_ok-carried.ensures.same.repository)
+    (subst (λ R. limit_at c.args.limit c.args.hold R ≡ None) c.in_ok-carried.ensures.same.repository c.in_ok-last.ensures.reached.within)
 
 pub returns-clause-only : goal.returns-clause-only
-returns-clause-only c = c.in_ok-made.ensures.only c.args.pool.now (kernel_steps (repository_of c.carry.new.into c.in_ok-carried.carried)) c.in_ok-last.ensures.reached.steps
+returns-clause-only c = c.in_ok-made.ensures.only c.args.pool.now (kernel_steps c.args.limit c.args.hold (repository_of c.carry.new.into c.in_ok-carried.carried)) c.in_ok-last.ensures.reached.steps
 
 pub returns-clause-kept : goal.returns-clause-kept
 returns-clause-kept c = kept_kept c.args.pool.now c.all_rounds.new.into c.carry_kernel.new.into c.all_rounds.ensures.kept c.carry_kernel.ensures.kept

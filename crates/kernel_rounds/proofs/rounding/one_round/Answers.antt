@@ -5,9 +5,9 @@ use Rattle.kernel_rounds.proofs.Midways.{round_changes, round_told, IsNext}
 use Rattle.kernel_rounds.proofs.rounding.one_round.Goals as goal
 use Rattle.kernel_rounds.proofs.rounding.one_round.Goals.{After-as_slice-2}
 
-next : (c : After-as_slice-2) → IsNext c.args.pool.now c.reduce.new.pool c.args.book c.args.past.steps c.in_ok-steps.steps (not c.same_books-changed.result)
+next : (c : After-as_slice-2) → IsNext c.args.limit c.args.hold c.args.pool.now c.reduce.new.pool c.args.book c.args.past.steps c.in_ok-steps.steps (not c.same_books-changed.result)
 next c =
-    round_told c.args.pool.now c.reduce.new.pool c.args.book c.as_slice.result.now c.args.past.steps c.in_ok-made.made.idle c.in_ok-steps.steps (not c.same_books-changed.result)
+    round_told c.args.limit c.args.hold c.args.pool.now c.reduce.new.pool c.args.book c.as_slice.result.now c.args.past.steps c.in_ok-made.made.idle c.in_ok-steps.steps (not c.same_books-changed.result)
     c.clause_count.ensures.sound c.reduce.ensures.kept c.requires.sound c.requires.past (c.as_slice.ensures ∙ c.in_ok-made.ensures.classes)
     c.in_ok-made.ensures.idle c.in_ok-steps.ensures
 
@@ -19,7 +19,7 @@ keep_live-requires-clause-steps c = subst (SoundSteps c.reduce.new.pool) (sym c.
 
 pub returns-clause-changed : goal.returns-clause-changed
 returns-clause-changed c =
-    round_changes c.args.pool.now c.reduce.new.pool c.args.book c.in_ok-made.made.book c.same_books-changed.result c.clause_count.ensures.sound c.reduce.ensures.kept c.requires.sound
+    round_changes c.args.limit c.args.hold c.args.pool.now c.reduce.new.pool c.args.book c.in_ok-made.made.book c.same_books-changed.result c.clause_count.ensures.sound c.reduce.ensures.kept c.requires.sound
     c.in_ok-made.ensures.round c.same_books-changed.ensures
 
 pub returns-clause-trail : goal.returns-clause-trail

@@ -14,6 +14,10 @@ returns c =
       book_sound = sound_kept c.book.new.pool c.extract.new.pool is kept c.in_ok-book.book c.in_ok-book.ensures.sound;
       kernel_sound = made.sound;
       steps_sound = made.books;
-      is = made.is ∙ ap kernel (sym same);
-      steps = made.steps ∙ ap kernel_steps (sym same);
+      kernel = record {
+        limit = c.args.limit;
+        hold = c.args.hold;
+        is = made.is ∙ ap (kernel c.args.limit c.args.hold) (sym same);
+        steps = made.steps ∙ ap (kernel_steps c.args.limit c.args.hold) (sym same);
+      };
     }

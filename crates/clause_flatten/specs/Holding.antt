@@ -1,0 +1,13 @@
+-- How many clauses a row can have once a package is taken out.
+use Rattle.std.specs.Prelude.{ℕ, ◌+◌, ◌*◌, List, length}
+use Rattle.std.specs.List.{filter}
+use Rattle.row_book.specs.Sets.{has}
+use Rattle.row_book.specs.Clauses.{apart_from}
+
+-- the clauses that hold the number
+abbrev pub clauses_with : ℕ → List (List ℕ) → List (List ℕ)
+clauses_with q cs = filter (λ c. has c q) cs
+
+-- the clauses without the package, and one for each other clause and each of so many clauses of the package's own row
+abbrev pub most_clauses : ℕ → List (List ℕ) → ℕ → ℕ
+most_clauses q cs n = length (apart_from q cs) + length (clauses_with q cs) * n

@@ -1,0 +1,185 @@
+//! Whether a row would pass the clause limit once a package is taken out; the pool and the rows stay as they are.
+ghost use Rattle.std.specs.Prelude.{◌≡◌, ◌≢◌, ◌++◌, ℕ, ◌<◌, ◌≤◌, ltb, List, IfOk, length, map};
+ghost use Rattle.clause_pool.specs.Interned.{clauses_at, row_at, OfPool};
+ghost use Rattle.row_book.specs.Book.{RowsFit, RowsTidy};
+ghost use Rattle.row_book.specs.Clauses.{apart_from, in_row_order, minimal_of, Ascending, InOrder, Inside};
+ghost use Rattle.row_book.specs.Sets.{In};
+ghost use Rattle.row_book.specs.Uses.{uses_of, users_of};
+ghost use Rattle.clause_flatten.specs.Families.{all_unions};
+ghost use Rattle.clause_flatten.specs.Holding.{clauses_with, most_clauses};
+ghost use Rattle.clause_flatten.specs.Substitution.{length_in, substituted, table_passes, table_without};
+ghost use Rattle.clause_flatten.specs.TakingOut.{is_over};
+
+use crate::family::{add_unions, clauses_without, put_in_order, useful_of};
+use crate::inclusion::contains;
+use crate::scratch::Clause;
+use crate::shorter::has_shorter;
+use clause_pool::{ClauseId, Pool, RowId};
+use row_book::UseTable;
+use std::alloc::{AllocError, Global};
+
+/// Whether some row would have more clauses than the limit allows once the package is taken out.
+pub(crate) fn would_pass(
+    alloc: Global,
+    pool: &Pool,
+    rows: &[RowId],
+    uses: &UseTable,
+    gone: u32,
+    limit: u32,
+) -> Result<bool, AllocError>
+    requires fit { RowsFit pool.now rows.now }
+    requires tidy { RowsTidy pool.now rows.now }
+    requires table { uses.now ≡ uses_of pool.now rows.now }
+    requires gone { gone < length rows.now }
+    requires within { (p : ℕ) → p < length rows.now → length_in (map (row_at pool.now) rows.now) p ≤ limit }
+    ensures { IfOk result (λ passes. passes ≡ table_passes limit (table_without gone (map (row_at pool.now) rows.now))) }
+{
+    let users = uses.packages(gone);
+    some_would_pass(alloc, pool, rows, users, gone, limit)
+}
+
+/// The same, where the users of the package are known: the other rows stay.
+fn some_would_pass(
+    alloc: Global,
+    pool: &Pool,
+    rows: &[RowId],
+    users: &[u32],
+    gone: u32,
+    limit: u32,
+) -> Result<bool, AllocError>
+    requires fit { RowsFit pool.now rows.now }
+    requires tidy { RowsTidy pool.now rows.now }
+    requires gone { gone < length rows.now }
+    requires users { users.now ≡ users_of pool.now rows.now gone }
+    requires within { (p : ℕ) → p < length rows.now → length_in (map (row_at pool.now) rows.now) p ≤ limit }
+    ensures { IfOk result (λ passes. passes ≡ table_passes limit (table_without gone (map (row_at pool.now) rows.now))) }
+{
+    // What holds of every pool is told by this call alone.
+    pool.clause_count();
+    for user in users {
+        let passes = user_would_pass(alloc, pool, rows, *user, gone, limit)?;
+        if passes {
+            return Ok(true);
+        }
+    }
+    Ok(false)
+}
+
+/// Whether the row of a user would have more clauses than the limit allows.
+fn user_would_pass(
+    alloc: Global,
+    pool: &Pool,
+    rows: &[RowId],
+    user: u32,
+    gone: u32,
+    limit: u32,
+) -> Result<bool, AllocError>
+    requires fit { RowsFit pool.now rows.now }
+    requires tidy { RowsTidy pool.now rows.now }
+    requires user { user < length rows.now }
+    requires gone { gone < length rows.now }
+    requires other { user ≢ gone }
+    requires within { (p : ℕ) → p < length rows.now → length_in (map (row_at pool.now) rows.now) p ≤ limit }
+    ensures { IfOk result (λ passes. passes ≡ is_over (table_without gone (map (row_at pool.now) rows.now)) limit user) }
+{
+    let row = rows[user as usize];
+    let others = rows[gone as usize];
+    row_would_pass(alloc, pool, user, gone, row, others, limit)
+}
+
+/// Whether the row in place of a user's would have more clauses than the limit allows, where the spent package has the
+/// other row. The clauses are made only where they may be so many.
+fn row_would_pass(
+    alloc: Global,
+    pool: &Pool,
+    user: u32,
+    spent: u32,
+    row: RowId,
+    others: RowId,
+    limit: u32,
+) -> Result<bool, AllocError>
+    requires row { row < length pool.now.rows }
+    requires others { others < length pool.now.rows }
+    requires few { length (row_at pool.now row) ≤ limit }
+    requires few_others { length (row_at pool.now others) ≤ limit }
+    requires apart { (c : List ℕ) → In c (row_at pool.now row) → In user c → ⊥ }
+    requires minimal { (c d : List ℕ) → In c (row_at pool.now row) → In d (row_at pool.now row) → Inside c d → c ≡ d }
+    ensures { IfOk result (λ passes. passes
+        ≡ ltb limit (length (in_row_order (substituted user spent (row_at pool.now row) (row_at pool.now others))))) }
+{
+    // What holds of every pool is told by this call alone.
+    pool.clause_count();
+    let clauses = pool.row(row);
+    let own = pool.row(others);
+    let most = most_clauses(pool, spent, clauses, own);
+    if most <= u64::from(limit) {
+        return Ok(false);
+    }
+    let useful = useful_of(alloc, pool, user, spent, clauses, own)?;
+    let family = family_with_unions(alloc, pool, spent, clauses, useful.as_slice())?;
+    Ok(has_more(family.as_slice(), limit))
+}
+
+/// How many clauses the row can have at most: those without the spent package, and for each other one as many as the
+/// spent package's row has.
+fn most_clauses(pool: &Pool, spent: u32, row: &[ClauseId], others: &[ClauseId]) -> u64
+    requires row { OfPool pool.now row.now }
+    requires few { length row.now < 4294967296 }
+    requires few_others { length others.now < 4294967296 }
+    ensures { result ≡ most_clauses spent (clauses_at pool.now row.now) (length others.now) }
+{
+    let with = count_holding(pool, spent, row);
+    row.len() as u64 - with + with * others.len() as u64
+}
+
+/// How many of the clauses hold a number.
+fn count_holding(pool: &Pool, number: u32, row: &[ClauseId]) -> u64
+    requires { OfPool pool.now row.now }
+    ensures { result ≡ length (clauses_with number (clauses_at pool.now row.now)) }
+{
+    let mut count = 0;
+    for id in row {
+        if contains(pool.slice(*id), number) {
+            count += 1;
+        }
+    }
+    count
+}
+
+/// The clauses without the spent package, and the unions of each other one, without the package, with each useful
+/// clause, in order.
+fn family_with_unions(
+    alloc: Global,
+    pool: &Pool,
+    spent: u32,
+    row: &[ClauseId],
+    useful: &[ClauseId],
+) -> Result<Vec<Clause>, AllocError>
+    requires row { OfPool pool.now row.now }
+    requires useful { OfPool pool.now useful.now }
+    ensures { IfOk result (λ family. family.items ≡ in_row_order (apart_from spent (clauses_at pool.now row.now)
+        ++ all_unions spent (clauses_at pool.now row.now) (clauses_at pool.now useful.now))) }
+{
+    let mut family = clauses_without(alloc, pool, spent, row)?;
+    add_unions(alloc, pool, spent, row, useful, &mut family)?;
+    put_in_order(&mut family);
+    Ok(family)
+}
+
+/// Whether the family has more minimal clauses than the limit allows; it is looked through no further than that.
+fn has_more(family: &[Clause], limit: u32) -> bool
+    requires ascending { (c : List ℕ) → In c family.now → Ascending c }
+    requires in_order { InOrder family.now }
+    ensures { result ≡ ltb limit (length (minimal_of family.now)) }
+{
+    let mut count = 0u64;
+    for clause in family {
+        if !has_shorter(family, clause.as_slice()) {
+            count += 1;
+            if count > u64::from(limit) {
+                return true;
+            }
+        }
+    }
+    false
+}

@@ -2,16 +2,17 @@
 use Rattle.std.proofs.Common.{ℕ, Bool, true, false, List, Some, sym, ◌∙◌, subst}
 use Rattle.kernel_text.specs.declared.content.LineContent.{LineContent}
 use Rattle.kernel_text.specs.declared.reader.Reader.{Reader}
-use Rattle.kernel_text.specs.KernelLines.{KernelLine, HeadLine, ClassLine, MemberLine, NeedsLine, AgainstLine, EndLine}
+use Rattle.kernel_text.specs.KernelLines.{KernelLine, HeadLine, ClassLine, MemberLine, HeldLine, NeedsLine, AgainstLine, EndLine}
 use Rattle.kernel_text.specs.Reader.{Adds, Takes}
 use Rattle.kernel_text.specs.Reading.{Reading, IsAllowed}
 use Rattle.kernel_text.specs.Words.{IsWellFormed, LineIsRead, line_of_content}
 use Rattle.kernel_text.proofs.Spelling.{Fits, allowed_fits, same_fit}
 
 pub formed_fits : (l : KernelLine) → IsWellFormed l → Fits l
-formed_fits HeadLine w = tt
+formed_fits (HeadLine format) w = w
 formed_fits (ClassLine n) w = w
 formed_fits (MemberLine name version) w = w.0
+formed_fits HeldLine w = tt
 formed_fits (NeedsLine clause) w = w
 formed_fits (AgainstLine m) w = w
 formed_fits (EndLine classes members) w = w

@@ -1,26 +1,26 @@
 -- What the blocks of classes say, one behind the other, and that they are the lines of the kernel that they say.
-use Rattle.std.proofs.Common.{◌≡◌, ◌≢◌, ℕ, zero, suc, ◌+◌, ◌<◌, true, ◌&&◌, eqb, ltb, List, [], ◌∷◌, ◌++◌, ◌⊎◌, Option, Some, length, map, filter, get_or, inl, inr, refl, sym, ap, ap₂, ◌∙◌, subst, append_assoc, add-one, zero-add, eq-eqb, arith}
+use Rattle.std.proofs.Common.{◌≡◌, ◌≢◌, ℕ, zero, suc, ◌+◌, ◌<◌, ◌≤◌, Bool, true, false, ◌&&◌, eqb, ltb, List, [], ◌∷◌, ◌++◌, ◌⊎◌, Option, Some, length, map, filter, get_or, inl, inr, refl, sym, ap, ap₂, ◌∙◌, subst, append_assoc, add-one, zero-add, eq-eqb, arith}
 use Rattle.std.specs.List.{flat_map}
-use Rattle.std.proofs.lemmas.Bool.{and_from, or_left, lt-ltb, ltb-true}
+use Rattle.std.proofs.lemmas.Bool.{and_from, false_from_ne_true, or_left, lt-ltb, ltb-true}
 use Rattle.std.proofs.lemmas.List.{append-nil}
 use Rattle.std.proofs.lemmas.List.Elements.{filter-append}
 use Rattle.row_book.specs.Book.{are_paired, lists_of_pairs}
-use Rattle.row_book.specs.Clauses.{numbers}
+use Rattle.row_book.specs.Clauses.{Ascending, numbers}
 use Rattle.row_book.specs.Repository.{Repository, clauses_of, conflicts_of}
-use Rattle.row_book.specs.Sets.{In, here, there}
+use Rattle.row_book.specs.Sets.{In, has, here, there}
 use Rattle.row_book.specs.declared.pair.Pair.{Pair}
-use Rattle.row_book.proofs.Lists.{In_none, In_map, In_map_cases, In_append_cases, any_from, ascending_same, ascending_filter, filter_from, filter_cases}
+use Rattle.row_book.proofs.Lists.{In_cases, In_has, In_none, In_map, In_map_cases, In_append_cases, any_from, ascending_same, ascending_filter, filter_from, filter_cases, has_In}
 use Rattle.row_book.proofs.Order.{numbers_from, numbers_ascending, length_numbers, at_numbers}
 use Rattle.row_book.proofs.Pairs.{is_of, paired_cases}
 use Rattle.kernel_text.specs.declared.member.Member.{Member}
-use Rattle.kernel_text.specs.KernelLines.{KernelLine, HeadLine, ClassLine, NeedsLine, AgainstLine, EndLine}
+use Rattle.kernel_text.specs.KernelLines.{KernelLine, HeadLine, ClassLine, HeldLine, NeedsLine, AgainstLine, EndLine}
 use Rattle.kernel_text.specs.KernelReads.{clauses_of_class}
-use Rattle.kernel_text.specs.KernelText.{class_lines, greater_conflicts, kernel_lines, line_of_member}
+use Rattle.kernel_text.specs.KernelText.{class_lines, greater_conflicts, held_lines, kernel_lines, line_of_member}
 use Rattle.kernel_text.specs.Reading.{Reading, ClassClause}
 use Rattle.kernel_text.proofs.LineCuts.{with_lines}
-use Rattle.kernel_text.proofs.Printed.{reading_at, clause_entry, pair_of, last_of, with_append, members_reading, clauses_reading, conflicts_reading, clauses_last, conflicts_last}
+use Rattle.kernel_text.proofs.Printed.{reading_at, clause_entry, held_entries, pair_of, last_of, with_append, members_reading, held_reading, clauses_reading, conflicts_reading, held_last, clauses_last, conflicts_last, regrouped}
 use Rattle.kernel_text.proofs.Retold.{eqb_other}
-use Rattle.kernel_text.proofs.Shape.{Block, FitBlock, FitBlocks, block_lines, empty, over_blocks}
+use Rattle.kernel_text.proofs.Shape.{Block, FitBlock, FitBlocks, HeldInSecond, block_lines, empty, over_blocks}
 
 -- what blocks tell
 abbrev pub NotEnd : Option KernelLine → Type 0
@@ -34,6 +34,9 @@ members_kept (m ∷ ms) last h = members_kept ms (Some (line_of_member m)) tt
 abbrev pub members_in : ℕ → Block → List Member
 members_in n b = b.members
 
+abbrev pub held_in : ℕ → Block → List ℕ
+held_in n b = held_entries b.held n
+
 abbrev pub clause_entries_in : ℕ → Block → List ClassClause
 clause_entries_in n b = map (clause_entry n) b.clauses
 
@@ -41,51 +44,57 @@ abbrev pub pairs_in : ℕ → Block → List Pair
 pairs_in n b = map (pair_of n) b.conflicts
 
 abbrev pub block_end : ℕ → Block → Option KernelLine
-block_end n b = last_of (last_of (last_of (Some (ClassLine n)) (map line_of_member b.members)) (map NeedsLine b.clauses)) (map AgainstLine b.conflicts)
+block_end n b = last_of (last_of (last_of (last_of (Some (ClassLine n)) (map line_of_member b.members)) (held_lines b.held)) (map NeedsLine b.clauses)) (map AgainstLine b.conflicts)
 
-block_reading : (n : ℕ) (b : Block) (last : Option KernelLine) (ms : List Member) (ns : List ClassClause) (ps : List Pair) → FitBlock n b →
-    with_lines (reading_at last n ms ns ps) (block_lines n b) ≡ reading_at (block_end n b) (suc n) (ms ++ members_in n b) (ns ++ clause_entries_in n b) (ps ++ pairs_in n b)
-block_reading n b last ms ns ps fit =
+block_reading : (f : ℕ) (hs : List ℕ) (n : ℕ) (b : Block) (last : Option KernelLine) (ms : List Member) (ns : List ClassClause) (ps : List Pair) → FitBlock n b →
+    with_lines (reading_at f hs last n ms ns ps) (block_lines n b) ≡ reading_at f (hs ++ held_in n b) (block_end n b) (suc n) (ms ++ members_in n b) (ns ++ clause_entries_in n b) (ps ++ pairs_in n b)
+block_reading f hs n b last ms ns ps fit =
     let p : List KernelLine = map line_of_member b.members in
+    let h : List KernelLine = held_lines b.held in
     let q : List KernelLine = map NeedsLine b.clauses in
     let r : List KernelLine = map AgainstLine b.conflicts in
     let one : Option KernelLine = last_of (Some (ClassLine n)) p in
-    with_append (reading_at (Some (ClassLine n)) (n + 1) ms ns ps) p (q ++ r)
-    ∙ ap (λ t. with_lines t (q ++ r)) (members_reading n (Some (ClassLine n)) b.members ms ns ps fit.members)
-    ∙ with_append (reading_at one (n + 1) (ms ++ b.members) ns ps) q r
-    ∙ ap (λ t. with_lines t r) (clauses_reading n one b.clauses (ms ++ b.members) ns ps)
-    ∙ conflicts_reading n (last_of one q) b.conflicts (ms ++ b.members) (ns ++ clause_entries_in n b) ps
-    ∙ ap (λ k. reading_at (block_end n b) k (ms ++ members_in n b) (ns ++ clause_entries_in n b) (ps ++ pairs_in n b)) (add-one n)
+    let two : Option KernelLine = last_of one h in
+    with_append (reading_at f hs (Some (ClassLine n)) (n + 1) ms ns ps) p (h ++ (q ++ r))
+    ∙ ap (λ t. with_lines t (h ++ (q ++ r))) (members_reading f hs n (Some (ClassLine n)) b.members ms ns ps fit.members)
+    ∙ with_append (reading_at f hs one (n + 1) (ms ++ b.members) ns ps) h (q ++ r)
+    ∙ ap (λ t. with_lines t (q ++ r)) (held_reading f hs n one b.held (ms ++ b.members) ns ps)
+    ∙ with_append (reading_at f (hs ++ held_in n b) two (n + 1) (ms ++ b.members) ns ps) q r
+    ∙ ap (λ t. with_lines t r) (clauses_reading f (hs ++ held_in n b) n two b.clauses (ms ++ b.members) ns ps)
+    ∙ conflicts_reading f (hs ++ held_in n b) n (last_of two q) b.conflicts (ms ++ b.members) (ns ++ clause_entries_in n b) ps
+    ∙ ap (λ k. reading_at f (hs ++ held_in n b) (block_end n b) k (ms ++ members_in n b) (ns ++ clause_entries_in n b) (ps ++ pairs_in n b)) (add-one n)
 
-pub record BlocksRead (k : ℕ) (bs : List Block) (N : ℕ) (last : Option KernelLine) (ms : List Member) (ns : List ClassClause) (ps : List Pair) : Type 0 where
+pub record BlocksRead (f : ℕ) (hs : List ℕ) (k : ℕ) (bs : List Block) (N : ℕ) (last : Option KernelLine) (ms : List Member) (ns : List ClassClause) (ps : List Pair) : Type 0 where
   pub final : Option KernelLine
   pub goes_on : NotEnd final
-  pub reading : with_lines (reading_at last k ms ns ps) (over_blocks block_lines k bs) ≡ reading_at final N (ms ++ over_blocks members_in k bs) (ns ++ over_blocks clause_entries_in k bs) (ps ++ over_blocks pairs_in k bs)
+  pub reading : with_lines (reading_at f hs last k ms ns ps) (over_blocks block_lines k bs)
+      ≡ reading_at f (hs ++ over_blocks held_in k bs) final N (ms ++ over_blocks members_in k bs) (ns ++ over_blocks clause_entries_in k bs) (ps ++ over_blocks pairs_in k bs)
 
-pub blocks_reading : (k : ℕ) (bs : List Block) (N : ℕ) (last : Option KernelLine) (ms : List Member) (ns : List ClassClause) (ps : List Pair) → FitBlocks k bs → k + length bs ≡ N → NotEnd last →
-    BlocksRead k bs N last ms ns ps
-blocks_reading k [] N last ms ns ps fit e h =
+pub blocks_reading : (f : ℕ) (hs : List ℕ) (k : ℕ) (bs : List Block) (N : ℕ) (last : Option KernelLine) (ms : List Member) (ns : List ClassClause) (ps : List Pair) → FitBlocks k bs → k + length bs ≡ N →
+    NotEnd last → BlocksRead f hs k bs N last ms ns ps
+blocks_reading f hs k [] N last ms ns ps fit e h =
     let same : k ≡ N = omega (arith, e) in
     record {
       final = last;
       goes_on = h;
-      reading = ap (λ n. reading_at last n ms ns ps) same ∙ ap (λ xs. reading_at last N xs ns ps) (sym (append-nil ms))
-          ∙ ap (λ xs. reading_at last N (ms ++ []) xs ps) (sym (append-nil ns)) ∙ ap (λ xs. reading_at last N (ms ++ []) (ns ++ []) xs) (sym (append-nil ps));
+      reading = ap (λ n. reading_at f hs last n ms ns ps) same ∙ ap (λ xs. reading_at f hs last N xs ns ps) (sym (append-nil ms))
+          ∙ ap (λ xs. reading_at f hs last N (ms ++ []) xs ps) (sym (append-nil ns)) ∙ ap (λ xs. reading_at f hs last N (ms ++ []) (ns ++ []) xs) (sym (append-nil ps))
+          ∙ ap (λ xs. reading_at f xs last N (ms ++ []) (ns ++ []) (ps ++ [])) (sym (append-nil hs));
     }
-blocks_reading k (b ∷ bs) N last ms ns ps fit e h =
+blocks_reading f hs k (b ∷ bs) N last ms ns ps fit e h =
     let ends : NotEnd (block_end k b) =
-    conflicts_last NotEnd (λ m. tt) b.conflicts (last_of (last_of (Some (ClassLine k)) (map line_of_member b.members)) (map NeedsLine b.clauses))
-    (clauses_last NotEnd (λ c. tt) b.clauses (last_of (Some (ClassLine k)) (map line_of_member b.members)) (members_kept b.members (Some (ClassLine k)) tt)) in
-    let more : BlocksRead (suc k) bs N (block_end k b) (ms ++ members_in k b) (ns ++ clause_entries_in k b) (ps ++ pairs_in k b) =
-    blocks_reading (suc k) bs N (block_end k b) (ms ++ members_in k b) (ns ++ clause_entries_in k b) (ps ++ pairs_in k b) fit.1 (omega (arith, e)) ends in
+    conflicts_last NotEnd (λ m. tt) b.conflicts (last_of (last_of (last_of (Some (ClassLine k)) (map line_of_member b.members)) (held_lines b.held)) (map NeedsLine b.clauses))
+    (clauses_last NotEnd (λ c. tt) b.clauses (last_of (last_of (Some (ClassLine k)) (map line_of_member b.members)) (held_lines b.held))
+    (held_last NotEnd tt b.held (last_of (Some (ClassLine k)) (map line_of_member b.members)) (members_kept b.members (Some (ClassLine k)) tt))) in
+    let more : BlocksRead f (hs ++ held_in k b) (suc k) bs N (block_end k b) (ms ++ members_in k b) (ns ++ clause_entries_in k b) (ps ++ pairs_in k b) =
+    blocks_reading f (hs ++ held_in k b) (suc k) bs N (block_end k b) (ms ++ members_in k b) (ns ++ clause_entries_in k b) (ps ++ pairs_in k b) fit.1 (omega (arith, e)) ends in
     record {
       final = more.final;
       goes_on = more.goes_on;
-      reading = with_append (reading_at last k ms ns ps) (block_lines k b) (over_blocks block_lines (suc k) bs)
-          ∙ ap (λ t. with_lines t (over_blocks block_lines (suc k) bs)) (block_reading k b last ms ns ps fit.0) ∙ more.reading
-          ∙ ap (λ xs. reading_at more.final N xs (ns ++ clause_entries_in k b ++ over_blocks clause_entries_in (suc k) bs) (ps ++ pairs_in k b ++ over_blocks pairs_in (suc k) bs)) (append_assoc ms (members_in k b) (over_blocks members_in (suc k) bs))
-          ∙ ap (λ xs. reading_at more.final N (ms ++ (members_in k b ++ over_blocks members_in (suc k) bs)) xs (ps ++ pairs_in k b ++ over_blocks pairs_in (suc k) bs)) (append_assoc ns (clause_entries_in k b) (over_blocks clause_entries_in (suc k) bs))
-          ∙ ap (λ xs. reading_at more.final N (ms ++ (members_in k b ++ over_blocks members_in (suc k) bs)) (ns ++ (clause_entries_in k b ++ over_blocks clause_entries_in (suc k) bs)) xs) (append_assoc ps (pairs_in k b) (over_blocks pairs_in (suc k) bs));
+      reading = with_append (reading_at f hs last k ms ns ps) (block_lines k b) (over_blocks block_lines (suc k) bs)
+          ∙ ap (λ t. with_lines t (over_blocks block_lines (suc k) bs)) (block_reading f hs k b last ms ns ps fit.0) ∙ more.reading
+          ∙ regrouped f more.final N hs (held_in k b) (over_blocks held_in (suc k) bs) ms (members_in k b) (over_blocks members_in (suc k) bs)
+          ns (clause_entries_in k b) (over_blocks clause_entries_in (suc k) bs) ps (pairs_in k b) (over_blocks pairs_in (suc k) bs);
     }
 
 -- the items of one block among those of all, by their class
@@ -133,6 +142,45 @@ keyed_pairs k [] = tt
 keyed_pairs k (b ∷ bs) =
     ((λ x i. let w : (m : ℕ) × In m b.conflicts × (x ≡ pair_of k m) = In_map_cases (pair_of k) b.conflicts x i in ap (λ (y : Pair). y.low) w.2), keyed_pairs (suc k) bs)
 
+held_key : (h : Bool) (k n : ℕ) → In n (held_entries h k) → n ≡ k
+held_key true k n i = elim (In_cases i) [ inl e ↦ e | inr nothing ↦ absurd (In_none nothing) ]
+held_key false k n i = absurd (In_none i)
+
+keyed_held : (k : ℕ) (bs : List Block) → Keyed (λ (n : ℕ). n) held_in k bs
+keyed_held k [] = tt
+keyed_held k (b ∷ bs) = ((λ n i. held_key b.held k n i), keyed_held (suc k) bs)
+
+-- the held classes of blocks are ascending numbers of these
+pub held_bounds : (k : ℕ) (bs : List Block) (n : ℕ) → In n (over_blocks held_in k bs) → (k ≤ n) × (n < k + length bs)
+held_bounds k [] n i = absurd (In_none i)
+held_bounds k (b ∷ bs) n i =
+    elim (In_append_cases (held_in k b) (over_blocks held_in (suc k) bs) n i) [
+      | inl j ↦ let e : n ≡ k = held_key b.held k n j in (omega (arith, e), omega (arith, e))
+      | inr j ↦ let w : (suc k ≤ n) × (n < suc k + length bs) = held_bounds (suc k) bs n j in (omega arith, omega arith)
+    ]
+
+one_ahead : (h : Bool) (k : ℕ) (xs : List ℕ) → ((n : ℕ) → In n xs → k < n) → Ascending xs → Ascending (held_entries h k ++ xs)
+one_ahead true k xs above up = (above, up)
+one_ahead false k xs above up = up
+
+pub held_ascending : (k : ℕ) (bs : List Block) → Ascending (over_blocks held_in k bs)
+held_ascending k [] = tt
+held_ascending k (b ∷ bs) =
+    one_ahead b.held k (over_blocks held_in (suc k) bs) (λ n i. let w : (suc k ≤ n) × (n < suc k + length bs) = held_bounds (suc k) bs n i in omega arith) (held_ascending (suc k) bs)
+
+-- in format 1 there are none
+none_ahead : (f k : ℕ) (h : Bool) (xs : List ℕ) → f ≡ 1 → (h ≡ true → f ≡ 2) → xs ≡ [] → held_entries h k ++ xs ≡ []
+none_ahead f k true xs e second none = absurd (let g : f ≡ 2 = second refl in omega (arith, e, g))
+none_ahead f k false xs e second none = none
+
+pub none_held : (f k : ℕ) (bs : List Block) → f ≡ 1 → HeldInSecond f bs → over_blocks held_in k bs ≡ []
+none_held f k [] e held = refl
+none_held f k (b ∷ bs) e held = none_ahead f k b.held (over_blocks held_in (suc k) bs) e held.0 (none_held f (suc k) bs e held.1)
+
+has_own : (xs : List ℕ) (n : ℕ) (h : Bool) → filter (λ x. eqb x n) xs ≡ held_entries h n → has xs n ≡ h
+has_own xs n true e = In_has (filter_cases (λ x. eqb x n) xs n (subst (λ ys. In n ys) (sym e) here)).0
+has_own xs n false e = false_from_ne_true (has xs n) (λ h. In_none (subst (λ ys. In n ys) e (filter_from (λ x. eqb x n) xs n (has_In xs n h) (eq-eqb n n refl))))
+
 pub rising : (k : ℕ) (bs : List Block) → FitBlocks k bs → (pair : Pair) → In pair (over_blocks pairs_in k bs) → pair.low < pair.high
 rising k [] fit pair i = absurd (In_none i)
 rising k (b ∷ bs) fit pair i =
@@ -159,9 +207,9 @@ by_blocks g f k (b ∷ bs) h =
     ap₂ (λ xs ys. xs ++ ys) (h 0 k (omega arith) (omega arith)) (by_blocks g f (suc k) bs (λ i n l e. h (suc i) n (omega arith) (omega (arith, e))))
 
 -- what blocks and the end line say
-abbrev pub reading_of_blocks : List Block → Reading
-reading_of_blocks bs =
-    reading_at (Some (EndLine (length bs) (length (over_blocks members_in 0 bs)))) (length bs) (over_blocks members_in 0 bs) (over_blocks clause_entries_in 0 bs) (over_blocks pairs_in 0 bs)
+abbrev pub reading_of_blocks : ℕ → List Block → Reading
+reading_of_blocks f bs =
+    reading_at f (over_blocks held_in 0 bs) (Some (EndLine (length bs) (length (over_blocks members_in 0 bs)))) (length bs) (over_blocks members_in 0 bs) (over_blocks clause_entries_in 0 bs) (over_blocks pairs_in 0 bs)
 
 module _ (bs : List Block) (fit : FitBlocks 0 bs) (low : (pair : Pair) → In pair (over_blocks pairs_in 0 bs) → pair.high < length bs) where
   abbrev size : ℕ
@@ -169,6 +217,9 @@ module _ (bs : List Block) (fit : FitBlocks 0 bs) (low : (pair : Pair) → In pa
 
   abbrev member_list : List Member
   member_list = over_blocks members_in 0 bs
+
+  abbrev held_list : List ℕ
+  held_list = over_blocks held_in 0 bs
 
   abbrev clauses : List ClassClause
   clauses = over_blocks clause_entries_in 0 bs
@@ -229,21 +280,25 @@ module _ (bs : List Block) (fit : FitBlocks 0 bs) (low : (pair : Pair) → In pa
           (any_from (is_of n q) pairs (pair_of n q) j (or_left (eqb n n && eqb q q) (eqb n q && eqb q n) (and_from (eqb n n) (eqb q q) (eq-eqb n n refl) (eq-eqb q q refl)))))
           (lt-ltb n q less)
 
-  class_is : (i n : ℕ) → i < size → 0 + i ≡ n → class_lines R_read member_list n ≡ block_lines n (get_or bs i empty)
+  held_is : (n : ℕ) → n < size → has held_list n ≡ (get_or bs n empty).held
+  held_is n l = has_own held_list n (get_or bs n empty).held (picked (λ (k : ℕ). k) held_in 0 bs n n l (zero-add n) (keyed_held 0 bs))
+
+  class_is : (i n : ℕ) → i < size → 0 + i ≡ n → class_lines R_read member_list held_list n ≡ block_lines n (get_or bs i empty)
   unfolding class_lines
   class_is i n l e =
       let same : n ≡ i = omega (arith, e) in
       let inside : n < size = omega (arith, same) in
-      ap₂ (λ ms cs. ClassLine n ∷ (map line_of_member ms ++ (map NeedsLine cs ++ map AgainstLine (greater_conflicts R_read n))))
-      (picked (λ (m : Member). m.class) members_in 0 bs n n inside (zero-add n) (keyed_members 0 bs fit)) (clauses_are n inside)
-      ∙ ap (λ xs. ClassLine n ∷ (map line_of_member (get_or bs n empty).members ++ (map NeedsLine (get_or bs n empty).clauses ++ map AgainstLine xs))) (greater_are n inside)
+      let b : Block = get_or bs n empty in
+      ap₂ (λ ms h. ClassLine n ∷ (map line_of_member ms ++ (held_lines h ++ (map NeedsLine (clauses_of R_read n) ++ map AgainstLine (greater_conflicts R_read n)))))
+      (picked (λ (m : Member). m.class) members_in 0 bs n n inside (zero-add n) (keyed_members 0 bs fit)) (held_is n inside)
+      ∙ ap₂ (λ cs xs. ClassLine n ∷ (map line_of_member b.members ++ (held_lines b.held ++ (map NeedsLine cs ++ map AgainstLine xs)))) (clauses_are n inside) (greater_are n inside)
       ∙ ap (λ k. block_lines n (get_or bs k empty)) same
 
   pub size_is : length R_read.clauses ≡ size
   size_is = length_numbers (clauses_of_class clauses) size 0
 
-  pub lines_are : kernel_lines R_read member_list ≡ HeadLine ∷ (over_blocks block_lines 0 bs ++ EndLine size (length member_list) ∷ [])
+  pub lines_are : (f : ℕ) → kernel_lines f R_read member_list held_list ≡ HeadLine f ∷ (over_blocks block_lines 0 bs ++ EndLine size (length member_list) ∷ [])
   unfolding kernel_lines
-  lines_are =
-      ap (λ n. HeadLine ∷ (flat_map (class_lines R_read member_list) (numbers n 0) ++ EndLine n (length member_list) ∷ [])) size_is
-      ∙ ap (λ xs. HeadLine ∷ (xs ++ EndLine size (length member_list) ∷ [])) (by_blocks block_lines (class_lines R_read member_list) 0 bs class_is)
+  lines_are f =
+      ap (λ n. HeadLine f ∷ (flat_map (class_lines R_read member_list held_list) (numbers n 0) ++ EndLine n (length member_list) ∷ [])) size_is
+      ∙ ap (λ xs. HeadLine f ∷ (xs ++ EndLine size (length member_list) ∷ [])) (by_blocks block_lines (class_lines R_read member_list held_list) 0 bs class_is)

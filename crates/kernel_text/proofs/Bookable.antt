@@ -8,16 +8,17 @@ use Rattle.row_book.proofs.Lists.{In_append_cases, In_cases, In_none}
 use Rattle.row_book.proofs.Order.{at_numbers, length_numbers}
 use Rattle.kernel_text.specs.declared.member.Member.{Member}
 use Rattle.kernel_text.specs.Booking.{IsBookable}
-use Rattle.kernel_text.specs.KernelLines.{KernelLine, HeadLine, ClassLine, MemberLine, NeedsLine, AgainstLine, EndLine, lines_of}
+use Rattle.kernel_text.specs.KernelLines.{KernelLine, HeadLine, ClassLine, MemberLine, HeldLine, NeedsLine, AgainstLine, EndLine, lines_of}
 use Rattle.kernel_text.specs.KernelReads.{IsEnded, IsInRange, KernelReads, LinesGive, clauses_of_class, repository_of_reading}
 use Rattle.kernel_text.specs.KernelText.{IsWritable}
-use Rattle.kernel_text.specs.Reading.{ClassClause, IsAllowed, MayAddClause, MayAddConflict, MayAddMember, Reading, empty_reading, number_limit, this_class, with_line}
+use Rattle.kernel_text.specs.Reading.{ClassClause, IsAllowed, MayAddClause, MayAddConflict, MayAddHeld, MayAddMember, Reading, empty_reading, number_limit, this_class, with_line}
 use Rattle.kernel_text.proofs.ReadIsWritten.{read_is_written}
 
 -- the last line stands in the block of a class
 abbrev InBlock : Option KernelLine → Type 0
 InBlock (Some (ClassLine n)) = Unit {0}
 InBlock (Some (MemberLine name version)) = Unit {0}
+InBlock (Some HeldLine) = Unit {0}
 InBlock (Some (NeedsLine clause)) = Unit {0}
 InBlock (Some (AgainstLine m)) = Unit {0}
 InBlock last = ⊥
@@ -27,13 +28,19 @@ member_in_block (Some (ClassLine n)) a = tt
 member_in_block (Some (MemberLine name version)) a = tt
 member_in_block last a = absurd a
 
+held_in_block : (o : Option KernelLine) → MayAddHeld o → InBlock o
+held_in_block (Some (MemberLine name version)) a = tt
+held_in_block last a = absurd a
+
 clause_in_block : (o : Option KernelLine) (clause : List ℕ) → MayAddClause o clause → InBlock o
 clause_in_block (Some (MemberLine name version)) clause a = tt
+clause_in_block (Some HeldLine) clause a = tt
 clause_in_block (Some (NeedsLine c)) clause a = tt
 clause_in_block last clause a = absurd a
 
 conflict_in_block : (o : Option KernelLine) (m : ℕ) → MayAddConflict o m → InBlock o
 conflict_in_block (Some (MemberLine name version)) m a = tt
+conflict_in_block (Some HeldLine) m a = tt
 conflict_in_block (Some (NeedsLine c)) m a = tt
 conflict_in_block (Some (AgainstLine k)) m a = tt
 conflict_in_block last m a = absurd a
@@ -54,7 +61,7 @@ one_more P xs y h p x i = elim (In_append_cases xs (y ∷ []) x i) [
 ]
 
 orderly_line : (t : Reading) (l : KernelLine) → IsAllowed t l → IsOrderly t → IsOrderly (with_line t l)
-orderly_line t HeadLine a o = record { begun = λ b. absurd b; members = o.members; clauses = o.clauses; ascending = o.ascending; rising = o.rising }
+orderly_line t (HeadLine format) a o = record { begun = λ b. absurd b; members = o.members; clauses = o.clauses; ascending = o.ascending; rising = o.rising }
 orderly_line t (ClassLine n) a o = record {
   begun = λ b. omega arith;
   members = λ m i. let l : m.class < t.classes = o.members m i in omega arith;
@@ -72,6 +79,13 @@ orderly_line t (MemberLine name version) a o =
       ascending = o.ascending;
       rising = o.rising;
     }
+orderly_line t HeldLine a o = record {
+  begun = λ b. o.begun (held_in_block t.last a.0);
+  members = o.members;
+  clauses = o.clauses;
+  ascending = o.ascending;
+  rising = o.rising;
+}
 orderly_line t (NeedsLine clause) a o =
     let some : 0 < t.classes = o.begun (clause_in_block t.last clause a.0) in
     let last : this_class t < t.classes = omega arith in
@@ -106,11 +120,11 @@ orderly text t given =
     })
 
 module _ (text : List ℕ) (t : Reading) (given : LinesGive empty_reading (lines_of text) t) (ended : IsEnded t) (range : IsInRange t) where
-  pub reads : KernelReads text (repository_of_reading t) t.members
-  reads = record { reading = t; given = given; ended = ended; in_range = range; repository = refl; member_list = refl }
+  pub reads : KernelReads text t.format (repository_of_reading t) t.members t.held
+  reads = record { reading = t; given = given; ended = ended; in_range = range; of_format = refl; repository = refl; member_list = refl; held_list = refl }
 
-  writable : IsWritable (repository_of_reading t) t.members
-  writable = ((read_is_written text (repository_of_reading t) t.members).0 reads).0
+  writable : IsWritable t.format (repository_of_reading t) t.members t.held
+  writable = ((read_is_written text t.format (repository_of_reading t) t.members t.held).0 reads).0
 
   size : length (repository_of_reading t).clauses ≡ t.classes
   unfolding repository_of_reading

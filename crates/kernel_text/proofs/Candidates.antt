@@ -12,12 +12,12 @@ use Rattle.deb_version.specs.Order.{number}
 use Rattle.relation_fields.proofs.Bytes.{version_bytes}
 use Rattle.row_book.specs.Sets.{In, here, there}
 use Rattle.row_book.proofs.Lists.{Decided}
-use Rattle.kernel_text.specs.KernelLines.{KernelLine, HeadLine, ClassLine, MemberLine, NeedsLine, AgainstLine, EndLine, behind_space, line_text}
+use Rattle.kernel_text.specs.KernelLines.{KernelLine, HeadLine, ClassLine, MemberLine, HeldLine, NeedsLine, AgainstLine, EndLine, behind_space, line_text}
 use Rattle.kernel_text.specs.Reading.{number_limit}
 use Rattle.kernel_text.specs.Words.{IsWellFormed}
 use Rattle.kernel_text.proofs.Decisions.{both_decided, some_decided}
 use Rattle.kernel_text.proofs.Numerals.{value_decimal}
-use Rattle.kernel_text.proofs.Spelling.{IsPlain, Plain, decimal_plain, name_plain}
+use Rattle.kernel_text.proofs.Spelling.{IsPlain, Plain, decimal_plain, format_low, name_plain}
 
 -- the words of a line, each up to the space or the line feed behind it
 abbrev ends_word : ℕ → Bool
@@ -61,8 +61,8 @@ word_at words n = get_or words n []
 -- the lines that words may be of
 abbrev by_words : List (List ℕ) → List KernelLine
 by_words words =
-    HeadLine ∷ (ClassLine (number (word_at words 1)) ∷ (MemberLine (word_at words 1) (word_at words 2) ∷ (NeedsLine (map number (drop 1 words))
-    ∷ (AgainstLine (number (word_at words 1)) ∷ (EndLine (number (word_at words 1)) (number (word_at words 2)) ∷ [])))))
+    HeadLine (number (word_at words 1)) ∷ (ClassLine (number (word_at words 1)) ∷ (MemberLine (word_at words 1) (word_at words 2) ∷ (NeedsLine (map number (drop 1 words))
+    ∷ (AgainstLine (number (word_at words 1)) ∷ (EndLine (number (word_at words 1)) (number (word_at words 2)) ∷ (HeldLine ∷ []))))))
 
 one_number : (n : ℕ) → n < number_limit → words_of (decimal n ++ 10 ∷ []) ≡ decimal n ∷ []
 one_number n l = cut_word (decimal n) 10 [] (decimal_plain n l) refl
@@ -72,7 +72,10 @@ here_is l k ks e = subst (λ z. In l (z ∷ ks)) e here
 
 among : (l : KernelLine) → IsWellFormed l → In l (by_words (words_of (line_text l)))
 unfolding line_text
-among HeadLine w = here
+among (HeadLine f) w =
+    let low : f < number_limit = format_low f w in
+    let words : words_of (line_text (HeadLine f)) ≡ codes "coinst-kernel" ∷ (decimal f ∷ []) = ap (λ ws. codes "coinst-kernel" ∷ ws) (one_number f low) in
+    subst (λ ws. In (HeadLine f) (by_words ws)) (sym words) (here_is (HeadLine f) (HeadLine (number (decimal f))) _ (ap HeadLine (sym (value_decimal f low))))
 among (ClassLine n) w =
     let words : words_of (line_text (ClassLine n)) ≡ codes "class" ∷ (decimal n ∷ []) = ap (λ ws. codes "class" ∷ ws) (one_number n w) in
     subst (λ ws. In (ClassLine n) (by_words ws)) (sym words) (there (here_is (ClassLine n) (ClassLine (number (decimal n))) _ (ap ClassLine (sym (value_decimal n w)))))
@@ -82,6 +85,7 @@ among (MemberLine name version) w =
     (ap words_of (append_assoc name (32 ∷ version) (10 ∷ [])) ∙ cut_word name 32 (version ++ 10 ∷ []) (name_plain name w.0) refl
     ∙ ap (λ ws. name ∷ ws) (cut_word version 10 [] (version_plain version (version_bytes version w.1)) refl)) in
     subst (λ ws. In (MemberLine name version) (by_words ws)) (sym words) (there (there here))
+among HeldLine w = there (there (there (there (there (there here)))))
 among (NeedsLine clause) w =
     let words : words_of (line_text (NeedsLine clause)) ≡ codes "needs" ∷ map decimal clause = number_words clause w (codes "needs") needs_plain in
     subst (λ ws. In (NeedsLine clause) (by_words ws)) (sym words) (there (there (there (here_is (NeedsLine clause) (NeedsLine (map number (map decimal clause))) _ (ap NeedsLine (sym (values clause w)))))))

@@ -219,7 +219,7 @@ some_in : {A : Type 0} (xs : List A) (x : A) → In x xs → 0 < length xs
 some_in [] x i = absurd (In_none i)
 some_in (y ∷ ys) x i = omega arith
 
-module _ (R : Repository) (packages : List PackageFacts) (class_of : List ℕ) (kernel : IsKernelOf R packages class_of) where
+module _ (format : ℕ) (R : Repository) (packages : List PackageFacts) (class_of held : List ℕ) (kernel : IsKernelOf format R packages class_of held) where
   abbrev size : ℕ
   size = length R.clauses
 
@@ -253,7 +253,7 @@ module _ (R : Repository) (packages : List PackageFacts) (class_of : List ℕ) (
       let own = kernel.accepted.named w.facts w.inside in
       subst (λ (o : Member). IsNamed o.name o.version) (sym w.is) (own.name, own.version)
 
-  writable : IsWritable R (kernel_members packages class_of size)
+  writable : IsWritable format R (kernel_members packages class_of size) held
   unfolding kernel_members
   writable = record {
     few_classes = kernel.few_classes;
@@ -265,7 +265,8 @@ module _ (R : Repository) (packages : List PackageFacts) (class_of : List ℕ) (
     order = kernel.order;
     apart = kernel.apart;
     sound = kernel.sound;
+    fits = kernel.fits;
   }
 
 pub kernels_are_writable : KernelsAreWritable
-kernels_are_writable R packages class_of kernel = writable R packages class_of kernel
+kernels_are_writable format R packages class_of held kernel = writable format R packages class_of held kernel

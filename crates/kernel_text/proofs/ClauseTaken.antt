@@ -3,7 +3,7 @@ use Rattle.std.proofs.Common.{◌≡◌, ℕ, true, false, ◌&&◌, eqb, ltb, L
 use Rattle.std.proofs.lemmas.Bool.{and_from, both_ways, false≢true, lt-ltb, or_left, or_right}
 use Rattle.row_book.specs.Clauses.{Before, comes_before}
 use Rattle.row_book.proofs.Order.{before_test}
-use Rattle.kernel_text.specs.KernelLines.{KernelLine, HeadLine, ClassLine, MemberLine, NeedsLine, AgainstLine, EndLine}
+use Rattle.kernel_text.specs.KernelLines.{KernelLine, HeadLine, ClassLine, MemberLine, HeldLine, NeedsLine, AgainstLine, EndLine}
 use Rattle.kernel_text.specs.Reader.{kind_of_last, may_add_clause}
 use Rattle.kernel_text.specs.Reading.{MayAddClause}
 
@@ -19,18 +19,20 @@ IsPrevious o previous = (d : List ℕ) → o ≡ Some (NeedsLine d) → previous
 
 pub may_clause : (o : Option KernelLine) (previous c : List ℕ) → IsPrevious o previous → may_add_clause (kind_of_last o) previous c ≡ true → MayAddClause o c
 may_clause (Some (MemberLine a v)) previous c h e = tt
+may_clause (Some HeldLine) previous c h e = tt
 may_clause (Some (NeedsLine d)) previous c h e = subst (λ b. Before b c) (h d refl) (before_test previous c e)
 may_clause None previous c h e = absurd (false≢true e)
-may_clause (Some HeadLine) previous c h e = absurd (false≢true e)
+may_clause (Some (HeadLine f)) previous c h e = absurd (false≢true e)
 may_clause (Some (ClassLine n)) previous c h e = absurd (false≢true e)
 may_clause (Some (AgainstLine m)) previous c h e = absurd (false≢true e)
 may_clause (Some (EndLine x y)) previous c h e = absurd (false≢true e)
 
 pub may_not_clause : (o : Option KernelLine) (previous c : List ℕ) → IsPrevious o previous → may_add_clause (kind_of_last o) previous c ≡ false → MayAddClause o c → ⊥
 may_not_clause (Some (MemberLine a v)) previous c h e m = false≢true (sym e)
+may_not_clause (Some HeldLine) previous c h e m = false≢true (sym e)
 may_not_clause (Some (NeedsLine d)) previous c h e m = both_ways (comes_before previous c) e (from_before previous c (subst (λ b. Before b c) (sym (h d refl)) m))
 may_not_clause None previous c h e m = m
-may_not_clause (Some HeadLine) previous c h e m = m
+may_not_clause (Some (HeadLine f)) previous c h e m = m
 may_not_clause (Some (ClassLine n)) previous c h e m = m
 may_not_clause (Some (AgainstLine k)) previous c h e m = m
 may_not_clause (Some (EndLine x y)) previous c h e m = m

@@ -8,8 +8,8 @@ use Rattle.row_book.specs.Sets.{In, here, there}
 use Rattle.row_book.proofs.Lists.{Decided, In_cases, In_none, decided_in}
 use Rattle.row_book.proofs.Order.{before_test}
 use Rattle.kernel_text.specs.declared.member.Member.{Member}
-use Rattle.kernel_text.specs.KernelLines.{KernelLine, HeadLine, ClassLine, MemberLine, NeedsLine, AgainstLine, EndLine}
-use Rattle.kernel_text.specs.Reading.{IsAllowed, IsClauseOf, IsNamed, IsNew, MayAddClause, MayAddConflict, MayAddMember, MayBegin, Reading, is_same_member, member_of_line, number_limit, this_class}
+use Rattle.kernel_text.specs.KernelLines.{KernelLine, HeadLine, ClassLine, MemberLine, HeldLine, NeedsLine, AgainstLine, EndLine}
+use Rattle.kernel_text.specs.Reading.{IsAllowed, IsClauseOf, IsFormat, IsNamed, IsNew, MayAddClause, MayAddConflict, MayAddHeld, MayAddMember, MayBegin, Reading, is_same_member, member_of_line, number_limit, this_class}
 use Rattle.kernel_text.proofs.ClauseTaken.{from_before}
 use Rattle.kernel_text.proofs.Shape.{some_none}
 
@@ -72,8 +72,9 @@ none_decided None = inl refl
 none_decided (Some l) = inr (λ e. some_none l e)
 
 begin_decided : (o : Option KernelLine) → Decided (MayBegin o)
-begin_decided (Some HeadLine) = inl tt
+begin_decided (Some (HeadLine format)) = inl tt
 begin_decided (Some (MemberLine name version)) = inl tt
+begin_decided (Some HeldLine) = inl tt
 begin_decided (Some (NeedsLine clause)) = inl tt
 begin_decided (Some (AgainstLine m)) = inl tt
 begin_decided o = inr (λ h. h)
@@ -83,13 +84,19 @@ member_decided (Some (ClassLine n)) = inl tt
 member_decided (Some (MemberLine name version)) = inl tt
 member_decided o = inr (λ h. h)
 
+held_decided : (o : Option KernelLine) → Decided (MayAddHeld o)
+held_decided (Some (MemberLine name version)) = inl tt
+held_decided o = inr (λ h. h)
+
 clause_decided : (o : Option KernelLine) (clause : List ℕ) → Decided (MayAddClause o clause)
 clause_decided (Some (MemberLine name version)) clause = inl tt
+clause_decided (Some HeldLine) clause = inl tt
 clause_decided (Some (NeedsLine lesser)) clause = before_decided lesser clause
 clause_decided o clause = inr (λ h. h)
 
 conflict_decided : (o : Option KernelLine) (m : ℕ) → Decided (MayAddConflict o m)
 conflict_decided (Some (MemberLine name version)) m = inl tt
+conflict_decided (Some HeldLine) m = inl tt
 conflict_decided (Some (NeedsLine clause)) m = inl tt
 conflict_decided (Some (AgainstLine lesser)) m = less_decided lesser m
 conflict_decided o m = inr (λ h. h)
@@ -105,12 +112,22 @@ clause_of_decided class clause =
 same_decided : (m n : ℕ) → Decided (m ≡ n)
 same_decided m n = elim (cases_eq m n) [ inl e ↦ inl e | inr ne ↦ inr ne ]
 
+format_decided : (f : ℕ) → Decided (IsFormat f)
+format_decided f = elim (same_decided f 1) [
+  | inl e ↦ inl (inl e)
+  | inr n ↦ elim (same_decided f 2) [
+    | inl e ↦ inl (inr e)
+    | inr m ↦ inr (λ k. elim k [ inl e ↦ n e | inr e ↦ m e ])
+  ]
+]
+
 pub allowed_decided : (t : Reading) (l : KernelLine) → Decided (IsAllowed t l)
-allowed_decided t HeadLine = none_decided t.last
+allowed_decided t (HeadLine format) = both_decided (none_decided t.last) (format_decided format)
 allowed_decided t (ClassLine n) = three_decided (begin_decided t.last) (same_decided n t.classes) (less_decided n number_limit)
 allowed_decided t (MemberLine name version) =
     three_decided (member_decided t.last) (both_decided (test_decided (is_name name) true) (test_decided (is_version version) true))
     (all_decided (λ o. is_same_member (member_of_line t name version) o ≡ false) (λ o. test_decided (is_same_member (member_of_line t name version) o) false) t.members)
+allowed_decided t HeldLine = both_decided (held_decided t.last) (same_decided t.format 2)
 allowed_decided t (NeedsLine clause) = both_decided (clause_decided t.last clause) (clause_of_decided (this_class t) clause)
 allowed_decided t (AgainstLine m) = three_decided (conflict_decided t.last m) (less_decided (this_class t) m) (less_decided m number_limit)
 allowed_decided t (EndLine c d) = three_decided (begin_decided t.last) (less_decided c number_limit) (less_decided d number_limit)

@@ -9,7 +9,7 @@ use Rattle.row_book.proofs.Lists.{In_append_cases, In_append_left, In_append_rig
 use Rattle.row_book.specs.Sets.{here}
 use Rattle.kernel_text.specs.declared.reader.Clause.{Clause}
 use Rattle.kernel_text.specs.KernelFaults.{Names, Strays}
-use Rattle.kernel_text.specs.KernelLines.{KernelLine, HeadLine, ClassLine, MemberLine, NeedsLine, AgainstLine, EndLine, lines_of, line_text}
+use Rattle.kernel_text.specs.KernelLines.{KernelLine, HeadLine, ClassLine, MemberLine, HeldLine, NeedsLine, AgainstLine, EndLine, lines_of, line_text}
 use Rattle.kernel_text.specs.KernelReads.{IsInRange, LinesGive}
 use Rattle.kernel_text.specs.Reader.{RangeIsTold, entry_of}
 use Rattle.kernel_text.specs.Reading.{ClassClause, IsAllowed, Reading, empty_reading, with_line}
@@ -46,10 +46,11 @@ none_below k = record { clauses = λ entry i. absurd (In_none i); conflicts = λ
 
 -- what a line adds is below the limit, or the line strays
 line_below : (k : ℕ) (t : Reading) (l : KernelLine) → IsAllowed t l → (Strays k (line_text l) → ⊥) → AreBelow k t → AreBelow k (with_line t l)
-line_below k t HeadLine a none b = record { clauses = b.clauses; conflicts = b.conflicts }
+line_below k t (HeadLine format) a none b = record { clauses = b.clauses; conflicts = b.conflicts }
 line_below k t (ClassLine n) a none b = record { clauses = b.clauses; conflicts = b.conflicts }
 line_below k t (MemberLine name version) a none b = record { clauses = b.clauses; conflicts = b.conflicts }
 line_below k t (EndLine c d) a none b = record { clauses = b.clauses; conflicts = b.conflicts }
+line_below k t HeldLine a none b = record { clauses = b.clauses; conflicts = b.conflicts }
 line_below k t (NeedsLine clause) a none b = record {
   clauses = λ entry i l j.
       elim (In_append_cases t.clauses _ entry i) [

@@ -1,5 +1,5 @@
 -- What `serde_json` writes for a kernel.
-use Rattle.std.proofs.Common.{◌≡◌, ◌≢◌, ℕ, zero, suc, ◌+◌, ◌/◌, ◌%◌, ◌<◌, ◌≤◌, Bool, true, false, cond, ◌&&◌, ◌||◌, ◌==◌, eqb-true, List, [], ◌∷◌, ◌++◌, length, map, filter, take, get_or, ltb, inl, inr, refl, sym, ap, ap₂, ◌∙◌, subst, append_assoc, codes, arith}
+use Rattle.std.proofs.Common.{◌≡◌, ◌≢◌, ℕ, zero, suc, ◌+◌, ◌/◌, ◌%◌, ◌<◌, ◌≤◌, Bool, true, false, cond, ◌&&◌, ◌||◌, ◌==◌, eqb-true, List, [], ◌∷◌, ◌++◌, length, map, filter, Option, Some, None, take, get_or, ltb, inl, inr, refl, sym, ap, ap₂, ◌∙◌, subst, append_assoc, codes, arith}
 use Rattle.std.specs.Prelude.{nat_lt, nat_le}
 use Rattle.std.specs.Char.{digit_char, is_ascii_alphanumeric}
 use Rattle.std.specs.Int.{is_in_range}
@@ -16,6 +16,7 @@ use Rattle.relation_fields.specs.declared.packages.PackageFacts.{PackageFacts}
 use Rattle.repo_model.specs.Stanzas.{stanza_at}
 use Rattle.row_book.specs.Book.{listed_for}
 use Rattle.row_book.specs.Clauses.{numbers}
+use Rattle.row_book.specs.Flags.{flag}
 use Rattle.row_book.specs.Repository.{Repository, clauses_of}
 use Rattle.row_book.specs.Sets.{In, here, there}
 use Rattle.row_book.proofs.Order.{numbers_parts}
@@ -28,12 +29,12 @@ use Rattle.serde_json.specs.declared.value.Value.{Value}
 use Rattle.serde_json.specs.declared.value.Value.TheVariants.{Array}
 use Rattle.serde_json.proofs.Views.{view-Array}
 use Rattle.kernel_text.specs.declared.member.Member.{Member}
-use Rattle.kernel_text.specs.JsonData.{AreNamedPackages, class_data, clauses_data, data_of_class, kernel_data, list_data, number_data, numbers_data, package_data, packages_data}
-use Rattle.kernel_text.specs.KernelJson.{behind_commas, class_json, kernel_json, list_json, member_json, numbers_json, object_json, package_json, quoted_text, with_commas}
+use Rattle.kernel_text.specs.JsonData.{AreNamedPackages, class_data, clauses_data, data_of_class, kernel_data, list_data, mark_of_class, number_data, numbers_data, package_data, packages_data}
+use Rattle.kernel_text.specs.KernelJson.{behind_commas, class_json, held_mark, kernel_json, list_json, member_json, numbers_json, object_json, package_json, quoted_text, with_commas}
 use Rattle.kernel_text.specs.KernelLines.{KernelLine, MemberLine}
-use Rattle.kernel_text.specs.KernelText.{greater_conflicts, line_of_member, members_of}
+use Rattle.kernel_text.specs.KernelText.{format_of, greater_conflicts, line_of_member, members_of}
 use Rattle.kernel_text.specs.Members.{kernel_members}
-use Rattle.kernel_text.specs.Writing.{IsByClass, OfPackages, line_of_package}
+use Rattle.kernel_text.specs.Writing.{IsByClass, OfPackages, TellHeld, line_of_package}
 use Rattle.kernel_text.proofs.Written.{members_are, numbers_more}
 
 -- lists
@@ -220,10 +221,18 @@ packages_are packages members named =
     (λ i j. let w = named i j in package_is (stanza_at packages i) w.0 w.1)
     ∙ sym (map_of (λ i. line_of_package (stanza_at packages i)) of_line (λ i. of_line (line_of_package (stanza_at packages i))) members (λ i j. refl)))
 
-object_is : (conflicts : List ℕ) (packages : List PackageFacts) (members : List ℕ) (clauses : List (List ℕ)) →
-    compact_text (class_data conflicts packages members clauses) ≡ object_json (compact_text (numbers_data conflicts)) (compact_text (packages_data packages members)) (compact_text (clauses_data clauses))
+object_is : (conflicts : List ℕ) (mark : Option Bool) (packages : List PackageFacts) (members : List ℕ) (clauses : List (List ℕ)) →
+    compact_text (class_data conflicts mark packages members clauses)
+    ≡ object_json (compact_text (numbers_data conflicts)) mark (compact_text (packages_data packages members)) (compact_text (clauses_data clauses))
 unfolding escape_byte
-object_is conflicts packages members clauses = refl
+object_is conflicts None packages members clauses = refl
+object_is conflicts (Some true) packages members clauses = refl
+object_is conflicts (Some false) packages members clauses = refl
+
+-- what is told of a class, by its flag
+mark_is : (hold : Bool) (flags : List Bool) (held : List ℕ) (size n : ℕ) → TellHeld flags held size → n < size → mark_of_class hold flags n ≡ held_mark (format_of hold) held n
+mark_is true flags held size n told l = ap Some (told.each n l)
+mark_is false flags held size n told l = refl
 
 at_packages : (packages : List PackageFacts) → AreNamedPackages packages → (i : ℕ) → i < length packages → (is_name (stanza_at packages i).name ≡ true) × (is_version (stanza_at packages i).version ≡ true)
 at_packages packages named i l = named (stanza_at packages i) (in_at packages i l)
@@ -236,35 +245,45 @@ at_packages packages named i l = named (stanza_at packages i) (in_at packages i 
 module _ (R : Repository) (packages : List PackageFacts) (class_of : List ℕ) (size : ℕ) (each : length class_of ≡ length packages)
     (inside : (class : ℕ) → In class class_of → class < size) (table : List (List ℕ)) (by_class : IsByClass class_of (length class_of) size table)
     (members : OfPackages table packages) (named : AreNamedPackages packages) where
-  class_is : (n : ℕ) → n < size → compact_text (data_of_class R packages table n) ≡ class_json R (kernel_members packages class_of size) n
+  class_is : (hold : Bool) (flags : List Bool) (held : List ℕ) → TellHeld flags held size → (n : ℕ) → n < size →
+      compact_text (data_of_class R packages table (mark_of_class hold flags n) n) ≡ class_json (format_of hold) R (kernel_members packages class_of size) held n
   unfolding class_json
-  class_is n l =
-      object_is (greater_conflicts R n) packages (listed_for table n) (clauses_of R n)
-      ∙ ap₂ (λ a c. object_json a (compact_text (packages_data packages (listed_for table n))) c) (numbers_are (greater_conflicts R n)) (clauses_are (clauses_of R n))
-      ∙ ap (λ b. object_json (numbers_json (greater_conflicts R n)) b (list_json (map numbers_json (clauses_of R n))))
+  class_is hold flags held told n l =
+      let mark : Option Bool = mark_of_class hold flags n in
+      object_is (greater_conflicts R n) mark packages (listed_for table n) (clauses_of R n)
+      ∙ ap₂ (λ a c. object_json a mark (compact_text (packages_data packages (listed_for table n))) c) (numbers_are (greater_conflicts R n)) (clauses_are (clauses_of R n))
+      ∙ ap₂ (λ m b. object_json (numbers_json (greater_conflicts R n)) m b (list_json (map numbers_json (clauses_of R n)))) (mark_is hold flags held size n told l)
       (packages_are packages (listed_for table n) (λ i j. at_packages packages named i (members n i j))
       ∙ ap (λ ls. list_json (map of_line ls)) (sym (members_are R packages class_of size each inside table by_class n l))
       ∙ ap list_json (sym (by_lines (members_of (kernel_members packages class_of size) n))))
 
-  pub document_is : size ≡ length R.clauses → compact_text (kernel_data R packages table size) ++ codes "\n" ≡ kernel_json R (kernel_members packages class_of size)
-  unfolding kernel_json escape_byte digits
-  document_is count =
-      ap (λ t. (codes "{\"classes\":" ++ (t ++ codes ",\"format\":1}")) ++ codes "\n")
-      (list_is (map (data_of_class R packages table) (numbers size 0))
-      ∙ ap list_json (map_of (data_of_class R packages table) compact_text (class_json R (kernel_members packages class_of size)) (numbers size 0)
-      (λ n i. let b : (0 ≤ n) × (n < 0 + size) = numbers_parts size 0 n i in class_is n (omega arith)))
-      ∙ ap (λ k. list_json (map (class_json R (kernel_members packages class_of size)) (numbers k 0))) count)
+  pub document_is : (hold : Bool) (flags : List Bool) (held : List ℕ) → TellHeld flags held size → size ≡ length R.clauses →
+      compact_text (kernel_data hold R packages table flags size) ++ codes "\n" ≡ kernel_json (format_of hold) R (kernel_members packages class_of size) held
+  unfolding kernel_json escape_byte
+  document_is hold flags held told count =
+      let f : ℕ = format_of hold in
+      ap (λ t. (codes "{\"classes\":" ++ (t ++ (codes ",\"format\":" ++ (decimal f ++ codes "}")))) ++ codes "\n")
+      (list_is (map (λ n. data_of_class R packages table (mark_of_class hold flags n) n) (numbers size 0))
+      ∙ ap list_json (map_of (λ n. data_of_class R packages table (mark_of_class hold flags n) n) compact_text (class_json f R (kernel_members packages class_of size) held) (numbers size 0)
+      (λ n i. let b : (0 ≤ n) × (n < 0 + size) = numbers_parts size 0 n i in class_is hold flags held told n (omega arith)))
+      ∙ ap (λ k. list_json (map (class_json f R (kernel_members packages class_of size) held) (numbers k 0))) count)
 
 -- no number is a fraction
 no_floats : {X : Type 0} (f : X → Data) → ((x : X) → has_float (f x) ≡ false) → (xs : List X) → items_have_float (items_of (map f xs)) ≡ false
 no_floats f none [] = refl
 no_floats f none (x ∷ xs) = rw (none x) (no_floats f none xs)
 
-no_float_class : (conflicts : List ℕ) (packages : List PackageFacts) (members : List ℕ) (clauses : List (List ℕ)) → has_float (class_data conflicts packages members clauses) ≡ false
-no_float_class conflicts packages members clauses =
+no_float_parts : (conflicts : List ℕ) (packages : List PackageFacts) (members : List ℕ) (clauses : List (List ℕ)) →
+    (items_have_float (items_of (map number_data conflicts)) || (items_have_float (items_of (map (λ i. package_data (stanza_at packages i)) members)) || (items_have_float (items_of (map numbers_data clauses)) || false))) ≡ false
+no_float_parts conflicts packages members clauses =
     ap (λ a. a || (items_have_float (items_of (map (λ i. package_data (stanza_at packages i)) members)) || (items_have_float (items_of (map numbers_data clauses)) || false))) (no_floats number_data (λ n. refl) conflicts)
     ∙ ap₂ (λ a b. a || (b || false)) (no_floats (λ i. package_data (stanza_at packages i)) (λ i. refl) members) (no_floats numbers_data (λ d. no_floats number_data (λ n. refl) d) clauses)
 
-pub no_float : (R : Repository) (packages : List PackageFacts) (table : List (List ℕ)) (size : ℕ) → has_float (kernel_data R packages table size) ≡ false
-no_float R packages table size =
-    ap (λ a. a || false) (no_floats (data_of_class R packages table) (λ n. no_float_class (greater_conflicts R n) packages (listed_for table n) (clauses_of R n)) (numbers size 0))
+no_float_class : (conflicts : List ℕ) (mark : Option Bool) (packages : List PackageFacts) (members : List ℕ) (clauses : List (List ℕ)) → has_float (class_data conflicts mark packages members clauses) ≡ false
+no_float_class conflicts None packages members clauses = no_float_parts conflicts packages members clauses
+no_float_class conflicts (Some held) packages members clauses = no_float_parts conflicts packages members clauses
+
+pub no_float : (hold : Bool) (R : Repository) (packages : List PackageFacts) (table : List (List ℕ)) (flags : List Bool) (size : ℕ) → has_float (kernel_data hold R packages table flags size) ≡ false
+no_float hold R packages table flags size =
+    ap (λ a. a || false) (no_floats (λ n. data_of_class R packages table (mark_of_class hold flags n) n)
+    (λ n. no_float_class (greater_conflicts R n) (mark_of_class hold flags n) packages (listed_for table n) (clauses_of R n)) (numbers size 0))

@@ -10,7 +10,7 @@ use Rattle.kernel_text.specs.declared.fault.KernelFault.{KernelFault}
 use Rattle.kernel_text.specs.declared.fault.KernelFault.TheVariants.{Line, End, Range, Memory}
 use Rattle.kernel_text.specs.declared.member.Member.{Member}
 use Rattle.kernel_text.specs.KernelFaults.{IsEndFault, IsFault, IsFirstStray, IsLineFault, IsRangeFault, Names, Strays, line_at}
-use Rattle.kernel_text.specs.KernelLines.{KernelLine, HeadLine, ClassLine, MemberLine, NeedsLine, AgainstLine, EndLine, lines_of, line_text}
+use Rattle.kernel_text.specs.KernelLines.{KernelLine, HeadLine, ClassLine, MemberLine, HeldLine, NeedsLine, AgainstLine, EndLine, lines_of, line_text}
 use Rattle.kernel_text.specs.KernelReads.{IsEnded, IsInRange, KernelReads, LinesGive, repository_of_reading}
 use Rattle.kernel_text.specs.Reading.{ClassClause, IsAllowed, Reading, empty_reading, number_limit, with_line}
 use Rattle.kernel_text.specs.Words.{IsWellFormed}
@@ -23,9 +23,10 @@ use Rattle.kernel_text.proofs.Spelling.{allowed_fits, same_line, same_fit}
 use Rattle.kernel_text.proofs.StrayLines.{names_formed}
 
 allowed_formed : (t : Reading) (l : KernelLine) → IsAllowed t l → IsWellFormed l
-allowed_formed t HeadLine a = tt
+allowed_formed t (HeadLine format) a = a.1
 allowed_formed t (ClassLine n) a = a.2
 allowed_formed t (MemberLine name version) a = a.1
+allowed_formed t HeldLine a = tt
 allowed_formed t (NeedsLine clause) a = a.1.low
 allowed_formed t (AgainstLine m) a = a.2
 allowed_formed t (EndLine c d) a = (a.1, a.2)
@@ -61,9 +62,10 @@ abbrev IsFar : ℕ → KernelLine → Type 0
 IsFar classes l = ((m : ℕ) → Names l m → m < number_limit) × ((m : ℕ) × Names l m × (classes ≤ m))
 
 far_decided : (classes : ℕ) (l : KernelLine) → Decided (IsFar classes l)
-far_decided classes HeadLine = inr (λ w. w.1.1)
+far_decided classes (HeadLine format) = inr (λ w. w.1.1)
 far_decided classes (ClassLine n) = inr (λ w. w.1.1)
 far_decided classes (MemberLine name version) = inr (λ w. w.1.1)
+far_decided classes HeldLine = inr (λ w. w.1.1)
 far_decided classes (EndLine c d) = inr (λ w. w.1.1)
 far_decided classes (NeedsLine clause) =
     both_decided (all_decided (λ m. m < number_limit) (λ m. less_decided m number_limit) clause) (some_decided (λ m. classes ≤ m) (λ m. reaches m) clause)
@@ -102,15 +104,16 @@ ended_decided t = by t.last refl
         same_second : (a b c d : ℕ) → Some (EndLine a b) ≡ Some (EndLine c d) → b ≡ d
         same_second a b c d h = cc
     by None e = inr (λ h. some_none (EndLine t.classes (length t.members)) (sym h ∙ e))
-    by (Some HeadLine) e = inr (λ h. let k : Some HeadLine ≡ Some (EndLine t.classes (length t.members)) = sym e ∙ h in let f : ⊥ = cc in f)
+    by (Some (HeadLine f)) e = inr (λ h. let k : Some (HeadLine f) ≡ Some (EndLine t.classes (length t.members)) = sym e ∙ h in let f : ⊥ = cc in f)
     by (Some (ClassLine n)) e = inr (λ h. let k : Some (ClassLine n) ≡ Some (EndLine t.classes (length t.members)) = sym e ∙ h in let f : ⊥ = cc in f)
     by (Some (MemberLine a v)) e = inr (λ h. let k : Some (MemberLine a v) ≡ Some (EndLine t.classes (length t.members)) = sym e ∙ h in let f : ⊥ = cc in f)
+    by (Some HeldLine) e = inr (λ h. let k : Some HeldLine ≡ Some (EndLine t.classes (length t.members)) = sym e ∙ h in let f : ⊥ = cc in f)
     by (Some (NeedsLine c)) e = inr (λ h. let k : Some (NeedsLine c) ≡ Some (EndLine t.classes (length t.members)) = sym e ∙ h in let f : ⊥ = cc in f)
     by (Some (AgainstLine m)) e = inr (λ h. let k : Some (AgainstLine m) ≡ Some (EndLine t.classes (length t.members)) = sym e ∙ h in let f : ⊥ = cc in f)
 
 -- what a text is
 pub data Judgement (text : List ℕ) : Type 0 where
-  a_kernel : (R : Repository) (members : List Member) → KernelReads text R members → Judgement text
+  a_kernel : (format : ℕ) (R : Repository) (members : List Member) (held : List ℕ) → KernelReads text format R members held → Judgement text
   a_fault : (fault : KernelFault) → (fault ≡ Memory → ⊥) → IsFault text fault → Judgement text
 
 line_other : (n : ℕ) → Line n ≡ Memory → ⊥
@@ -130,7 +133,8 @@ judgement text = by (walked empty_reading (lines_of text))
         a_fault (Range (w.0 + 1)) (range_other (w.0 + 1))
         (w.0, refl, record { reading = t; lines_give = given; ended = ended; stray = record { inside = w.1.inside; strays = w.1.holds; first = w.1.before } })
     within t given ended (inr none) =
-        a_kernel (repository_of_reading t) t.members (record { reading = t; given = given; ended = ended; in_range = in_range text t given none; repository = refl; member_list = refl })
+        a_kernel t.format (repository_of_reading t) t.members t.held
+        (record { reading = t; given = given; ended = ended; in_range = in_range text t given none; of_format = refl; repository = refl; member_list = refl; held_list = refl })
 
     whole : (t : Reading) → LinesGive empty_reading (lines_of text) t → Decided (IsEnded t) → Judgement text
     whole t given (inl ended) = within t given ended (first_or_none (Strays t.classes) (strays_decided t.classes) (lines_of text) [])

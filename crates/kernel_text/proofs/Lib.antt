@@ -30,6 +30,7 @@ pub mod Decisions
 pub mod Candidates
 pub mod Judged
 pub mod OneFault
+pub mod Marks
 pub mod JsonTexts
 pub mod GoalImages
 pub mod ReadBack

@@ -7,10 +7,10 @@ use Rattle.std.proofs.lemmas.List.Folds.{list_all-append}
 use Rattle.deb_version.specs.Grammar.{is_upstream_byte}
 use Rattle.relation_fields.proofs.Bytes.{version_bytes}
 use Rattle.row_book.specs.Sets.{In, here, there}
-use Rattle.kernel_text.specs.KernelLines.{KernelLine, HeadLine, ClassLine, MemberLine, NeedsLine, AgainstLine, EndLine, lines_of, line_text, behind_space}
+use Rattle.kernel_text.specs.KernelLines.{KernelLine, HeadLine, ClassLine, MemberLine, HeldLine, NeedsLine, AgainstLine, EndLine, lines_of, line_text, behind_space}
 use Rattle.kernel_text.specs.KernelReads.{LinesGive}
 use Rattle.kernel_text.specs.Reading.{Reading, IsAllowed, with_line, number_limit}
-use Rattle.kernel_text.proofs.Spelling.{Plain, decimal_plain, name_plain}
+use Rattle.kernel_text.proofs.Spelling.{Plain, decimal_plain, format_low, name_plain}
 
 -- no line feed
 abbrev no_feed : List ℕ → Bool
@@ -48,27 +48,30 @@ version_fed (c ∷ cs) h =
 
 -- the bytes of a line before its line feed
 body : KernelLine → List ℕ
-body HeadLine = codes "coinst-kernel 1"
+body (HeadLine format) = codes "coinst-kernel" ++ behind_space format
 body (ClassLine n) = codes "class" ++ behind_space n
 body (MemberLine name version) = codes "member " ++ name ++ 32 ∷ version
+body HeldLine = codes "held"
 body (NeedsLine clause) = codes "needs" ++ flat_map behind_space clause
 body (AgainstLine m) = codes "against" ++ behind_space m
 body (EndLine classes members) = codes "end" ++ behind_space classes ++ behind_space members
 
 body_with_feed : (l : KernelLine) → line_text l ≡ body l ++ 10 ∷ []
 unfolding body line_text
-body_with_feed HeadLine = refl
+body_with_feed (HeadLine format) = refl
 body_with_feed (ClassLine n) = refl
 body_with_feed (MemberLine name version) = refl
+body_with_feed HeldLine = refl
 body_with_feed (NeedsLine clause) = refl
 body_with_feed (AgainstLine m) = refl
 body_with_feed (EndLine classes members) = refl
 
 body_fed : (t : Reading) (l : KernelLine) → IsAllowed t l → no_feed (body l) ≡ true
 unfolding body
-body_fed t HeadLine a = refl
+body_fed t (HeadLine format) a = number_fed format (format_low format a.1)
 body_fed t (ClassLine n) a = number_fed n a.2
 body_fed t (MemberLine name version) a = both name (32 ∷ version) (plain name (name_plain name a.1.0)) (version_fed version (version_bytes version a.1.1))
+body_fed t HeldLine a = refl
 body_fed t (NeedsLine clause) a = numbers_fed clause a.1.low
 body_fed t (AgainstLine m) a = number_fed m a.2
 body_fed t (EndLine classes members) a = both (decimal classes) (behind_space members) (number_fed classes a.1) (number_fed members a.2)

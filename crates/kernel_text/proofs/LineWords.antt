@@ -1,5 +1,5 @@
 -- The words of a line, and what they say.
-use Rattle.std.proofs.Common.{◌≡◌, ℕ, zero, suc, ◌-◌, ◌<◌, true, false, not, ◌==◌, List, [], ◌∷◌, ◌++◌, Option, Some, None, length, take, drop, get_or, refl, sym, ap, ap₂, ◌∙◌, subst, codes, eqb-true, arith}
+use Rattle.std.proofs.Common.{◌≡◌, ℕ, zero, suc, ◌-◌, ◌<◌, true, false, not, ◌==◌, List, [], ◌∷◌, ◌++◌, Option, Some, None, length, take, drop, get_or, inr, refl, sym, ap, ap₂, ◌∙◌, subst, codes, eqb-true, arith}
 use Rattle.std.specs.Fmt.{decimal}
 use Rattle.std.specs.Str.{bytes_eq}
 use Rattle.std.proofs.lemmas.Bool.{and_parts, and_from, both_ways, false_from_ne_true, not-true, not_from_false}
@@ -7,12 +7,11 @@ use Rattle.std.proofs.lemmas.List.{append-nil, append_cancel_right, length-appen
 use Rattle.std.proofs.lemmas.Slice.Eq.{bytes_eq-Decides}
 use Rattle.memchr.specs.Find.{IsFirstByte, is_byte}
 use Rattle.kernel_text.specs.declared.content.LineContent.{LineContent}
-use Rattle.kernel_text.specs.declared.content.LineContent.TheVariants.{Head, Class, Member, Needs, Against, End}
-use Rattle.kernel_text.specs.KernelLines.{KernelLine, HeadLine, ClassLine, MemberLine, NeedsLine, AgainstLine, EndLine, line_text}
-use Rattle.kernel_text.specs.Reading.{IsNamed, number_limit}
+use Rattle.kernel_text.specs.KernelLines.{KernelLine, HeadLine, ClassLine, MemberLine, HeldLine, NeedsLine, AgainstLine, EndLine, line_text}
+use Rattle.kernel_text.specs.Reading.{IsFormat, IsNamed, number_limit}
 use Rattle.kernel_text.specs.Numbers.{NumberRead}
 use Rattle.kernel_text.specs.Words.{IsCut, LineIsRead, NumbersRead, WordsAreRead, behind_word, first_word, is_word, line_of_content, other_words}
-use Rattle.kernel_text.proofs.Spelling.{Plain, decimal_plain, kind, kind_of, name_plain}
+use Rattle.kernel_text.proofs.Spelling.{Plain, decimal_plain, format_low, kind, kind_of, name_plain, number_same}
 
 -- cutting at the first space
 found_word : (text : List ℕ) (n : ℕ) → n < length text → ((k : ℕ) → k < n → (get_or text k 0 == 32) ≡ false) → (get_or text n 0 == 32) ≡ true →
@@ -67,18 +66,20 @@ same_cut (x ∷ xs) (y ∷ ys) r s p q e =
 -- a line is its words and its line feed
 line_words : (l : KernelLine) → line_text l ≡ (first_word l ++ behind_word (other_words l)) ++ 10 ∷ []
 unfolding line_text
-line_words HeadLine = refl
+line_words (HeadLine format) = refl
 line_words (ClassLine n) = refl
 line_words (MemberLine name version) = refl
+line_words HeldLine = refl
 line_words (NeedsLine []) = refl
 line_words (NeedsLine (x ∷ xs)) = refl
 line_words (AgainstLine m) = refl
 line_words (EndLine classes members) = refl
 
 first_is_word : (l : KernelLine) → is_word (first_word l) ≡ true
-first_is_word HeadLine = refl
+first_is_word (HeadLine format) = refl
 first_is_word (ClassLine n) = refl
 first_is_word (MemberLine name version) = refl
+first_is_word HeldLine = refl
 first_is_word (NeedsLine clause) = refl
 first_is_word (AgainstLine m) = refl
 first_is_word (EndLine classes members) = refl
@@ -98,28 +99,16 @@ no_feed_no_line line none l f fits = none (first_word l ++ behind_word (other_wo
 -- the kind of a line is told by its first word
 word_kind : (l : KernelLine) → kind (first_word l) ≡ kind_of l
 unfolding kind
-word_kind HeadLine = refl
+word_kind (HeadLine format) = refl
 word_kind (ClassLine n) = refl
 word_kind (MemberLine name version) = refl
+word_kind HeldLine = refl
 word_kind (NeedsLine clause) = refl
 word_kind (AgainstLine m) = refl
 word_kind (EndLine classes members) = refl
 
 pub same_kind : (k l : KernelLine) (word : List ℕ) → word ≡ first_word k → word ≡ first_word l → kind_of k ≡ kind_of l
 same_kind k l word e f = sym (word_kind k) ∙ ap kind (sym e ∙ f) ∙ word_kind l
-
--- what is none of the six first words is no line
-pub no_first_word : (word : List ℕ) (rest : Option (List ℕ)) → (word ≡ codes "coinst-kernel" → ⊥) → (word ≡ codes "class" → ⊥) → (word ≡ codes "member" → ⊥) → (word ≡ codes "needs" → ⊥) →
-    (word ≡ codes "against" → ⊥) → (word ≡ codes "end" → ⊥) → WordsAreRead word rest None
-no_first_word word rest a b c d e f HeadLine w r fits = a w
-no_first_word word rest a b c d e f (ClassLine n) w r fits = b w
-no_first_word word rest a b c d e f (MemberLine name version) w r fits = c w
-no_first_word word rest a b c d e f (NeedsLine clause) w r fits = d w
-no_first_word word rest a b c d e f (AgainstLine m) w r fits = e w
-no_first_word word rest a b c d e f (EndLine classes members) w r fits = f w
-
-none_some : {A : Type 0} (x : A) → None ≡ Some x → ⊥
-none_some x e = let f : ⊥ = cc in f
 
 plain_word : (text : List ℕ) → Plain text → is_word text ≡ true
 plain_word [] p = refl
@@ -128,53 +117,33 @@ plain_word (c ∷ cs) p = and_from (not (c == 32)) (is_word cs) (not_from_false 
 pub some_same : {A : Type 0} (x y : A) → Some x ≡ Some y → x ≡ y
 some_same x y e = cc
 
--- a first word and what it allows behind it
-pub head_read : (word rest : List ℕ) → word ≡ codes "coinst-kernel" → rest ≡ codes "1" → WordsAreRead word (Some rest) (Some Head)
-head_read word rest e h = (e, ap Some h, tt)
+-- what stands behind the first word and is none that the line allows
+pub no_head : (word rest : List ℕ) → word ≡ codes "coinst-kernel" → ((f : ℕ) → rest ≡ decimal f → IsFormat f → ⊥) → WordsAreRead word (Some rest) None
+no_head word rest e none (HeadLine format) w r fits = none format (some_same rest (decimal format) r) fits
+no_head word rest e none (ClassLine n) w r fits = absurd (omega (arith, same_kind (HeadLine 1) (ClassLine n) word e w))
+no_head word rest e none (MemberLine a v) w r fits = absurd (omega (arith, same_kind (HeadLine 1) (MemberLine a v) word e w))
+no_head word rest e none HeldLine w r fits = absurd (omega (arith, same_kind (HeadLine 1) HeldLine word e w))
+no_head word rest e none (NeedsLine c) w r fits = absurd (omega (arith, same_kind (HeadLine 1) (NeedsLine c) word e w))
+no_head word rest e none (AgainstLine m) w r fits = absurd (omega (arith, same_kind (HeadLine 1) (AgainstLine m) word e w))
+no_head word rest e none (EndLine c d) w r fits = absurd (omega (arith, same_kind (HeadLine 1) (EndLine c d) word e w))
 
-pub no_head : (word rest : List ℕ) → word ≡ codes "coinst-kernel" → (rest ≡ codes "1" → ⊥) → WordsAreRead word (Some rest) None
-no_head word rest e none HeadLine w r fits = none (some_same rest (codes "1") r)
-no_head word rest e none (ClassLine n) w r fits = absurd (omega (arith, same_kind HeadLine (ClassLine n) word e w))
-no_head word rest e none (MemberLine a v) w r fits = absurd (omega (arith, same_kind HeadLine (MemberLine a v) word e w))
-no_head word rest e none (NeedsLine c) w r fits = absurd (omega (arith, same_kind HeadLine (NeedsLine c) word e w))
-no_head word rest e none (AgainstLine m) w r fits = absurd (omega (arith, same_kind HeadLine (AgainstLine m) word e w))
-no_head word rest e none (EndLine c d) w r fits = absurd (omega (arith, same_kind HeadLine (EndLine c d) word e w))
-
-pub class_read : (word rest : List ℕ) (n : ℕ) → word ≡ codes "class" → NumberRead rest (Some n) → WordsAreRead word (Some rest) (Some (Class n))
-class_read word rest n e h = (e, ap Some h.0, h.1)
-
-pub no_class : (word rest : List ℕ) → word ≡ codes "class" → NumberRead rest None → WordsAreRead word (Some rest) None
-no_class word rest e none HeadLine w r fits = absurd (omega (arith, same_kind (ClassLine 0) HeadLine word e w))
-no_class word rest e none (ClassLine n) w r fits = none n (some_same rest (decimal n) r) fits
-no_class word rest e none (MemberLine a v) w r fits = absurd (omega (arith, same_kind (ClassLine 0) (MemberLine a v) word e w))
-no_class word rest e none (NeedsLine c) w r fits = absurd (omega (arith, same_kind (ClassLine 0) (NeedsLine c) word e w))
-no_class word rest e none (AgainstLine m) w r fits = absurd (omega (arith, same_kind (ClassLine 0) (AgainstLine m) word e w))
-no_class word rest e none (EndLine c d) w r fits = absurd (omega (arith, same_kind (ClassLine 0) (EndLine c d) word e w))
-
-pub against_read : (word rest : List ℕ) (m : ℕ) → word ≡ codes "against" → NumberRead rest (Some m) → WordsAreRead word (Some rest) (Some (Against m))
-against_read word rest m e h = (e, ap Some h.0, h.1)
-
-pub no_against : (word rest : List ℕ) → word ≡ codes "against" → NumberRead rest None → WordsAreRead word (Some rest) None
-no_against word rest e none HeadLine w r fits = absurd (omega (arith, same_kind (AgainstLine 0) HeadLine word e w))
-no_against word rest e none (ClassLine n) w r fits = absurd (omega (arith, same_kind (AgainstLine 0) (ClassLine n) word e w))
-no_against word rest e none (MemberLine a v) w r fits = absurd (omega (arith, same_kind (AgainstLine 0) (MemberLine a v) word e w))
-no_against word rest e none (NeedsLine c) w r fits = absurd (omega (arith, same_kind (AgainstLine 0) (NeedsLine c) word e w))
-no_against word rest e none (AgainstLine m) w r fits = none m (some_same rest (decimal m) r) fits
-no_against word rest e none (EndLine c d) w r fits = absurd (omega (arith, same_kind (AgainstLine 0) (EndLine c d) word e w))
+-- the number is that of no format
+pub other_format : (word rest : List ℕ) (n : ℕ) → word ≡ codes "coinst-kernel" → NumberRead rest (Some n) → (IsFormat n → ⊥) → WordsAreRead word (Some rest) None
+other_format word rest n e h none =
+    no_head word rest e (λ f same known.
+    none (subst IsFormat (number_same f n (10 ∷ []) (10 ∷ []) (format_low f known) h.1 (inr refl) (inr refl) (ap (λ t. t ++ 10 ∷ []) (sym same ∙ h.0))).0 known))
 
 -- the two numbers of the end line
 pub digits_word : (n : ℕ) → n < number_limit → is_word (decimal n) ≡ true
 digits_word n l = plain_word (decimal n) (decimal_plain n l)
 
-pub end_read : (word rest first second : List ℕ) (c d : ℕ) → word ≡ codes "end" → IsCut rest first (Some second) → NumberRead first (Some c) → NumberRead second (Some d) → WordsAreRead word (Some rest) (Some (End c d))
-end_read word rest first second c d e cut h k = (e, ap Some (cut.whole ∙ ap₂ (λ x y. x ++ 32 ∷ y) h.0 k.0), (h.1, k.1))
-
 -- where one of them is none, or there is no second
 pub no_end : (word rest first : List ℕ) (second : Option (List ℕ)) → word ≡ codes "end" → IsCut rest first second →
     ((c d : ℕ) → c < number_limit → d < number_limit → first ≡ decimal c → second ≡ Some (decimal d) → ⊥) → WordsAreRead word (Some rest) None
-no_end word rest first second e cut none HeadLine w r fits = absurd (omega (arith, same_kind (EndLine 0 0) HeadLine word e w))
+no_end word rest first second e cut none (HeadLine format) w r fits = absurd (omega (arith, same_kind (EndLine 0 0) (HeadLine format) word e w))
 no_end word rest first second e cut none (ClassLine n) w r fits = absurd (omega (arith, same_kind (EndLine 0 0) (ClassLine n) word e w))
 no_end word rest first second e cut none (MemberLine a v) w r fits = absurd (omega (arith, same_kind (EndLine 0 0) (MemberLine a v) word e w))
+no_end word rest first second e cut none HeldLine w r fits = absurd (omega (arith, same_kind (EndLine 0 0) HeldLine word e w))
 no_end word rest first second e cut none (NeedsLine c) w r fits = absurd (omega (arith, same_kind (EndLine 0 0) (NeedsLine c) word e w))
 no_end word rest first second e cut none (AgainstLine m) w r fits = absurd (omega (arith, same_kind (EndLine 0 0) (AgainstLine m) word e w))
 no_end word rest first second e cut none (EndLine c d) w r fits =
@@ -182,42 +151,18 @@ no_end word rest first second e cut none (EndLine c d) w r fits =
     same_cut first (decimal c) second (Some (decimal d)) cut.word (digits_word c fits.0) (sym cut.whole ∙ some_same rest (decimal c ++ 32 ∷ decimal d) r) in
     none c d fits.0 fits.1 same.0 same.1
 
--- a member's name and version
-pub member_read : (word rest name version : List ℕ) → word ≡ codes "member" → IsCut rest name (Some version) → IsNamed name version → WordsAreRead word (Some rest) (Some (Member name version))
-member_read word rest name version e cut named = (e, ap Some cut.whole, named)
-
 pub no_member : (word rest first : List ℕ) (second : Option (List ℕ)) → word ≡ codes "member" → IsCut rest first second →
     ((version : List ℕ) → second ≡ Some version → IsNamed first version → ⊥) → WordsAreRead word (Some rest) None
-no_member word rest first second e cut none HeadLine w r fits = absurd (omega (arith, same_kind (MemberLine [] []) HeadLine word e w))
+no_member word rest first second e cut none (HeadLine format) w r fits = absurd (omega (arith, same_kind (MemberLine [] []) (HeadLine format) word e w))
 no_member word rest first second e cut none (ClassLine n) w r fits = absurd (omega (arith, same_kind (MemberLine [] []) (ClassLine n) word e w))
 no_member word rest first second e cut none (MemberLine a v) w r fits =
     let same : (first ≡ a) × (second ≡ Some v) =
     same_cut first a second (Some v) cut.word (plain_word a (name_plain a fits.0)) (sym cut.whole ∙ some_same rest (a ++ 32 ∷ v) r) in
     none v same.1 (subst (λ t. IsNamed t v) (sym same.0) fits)
+no_member word rest first second e cut none HeldLine w r fits = absurd (omega (arith, same_kind (MemberLine [] []) HeldLine word e w))
 no_member word rest first second e cut none (NeedsLine c) w r fits = absurd (omega (arith, same_kind (MemberLine [] []) (NeedsLine c) word e w))
 no_member word rest first second e cut none (AgainstLine m) w r fits = absurd (omega (arith, same_kind (MemberLine [] []) (AgainstLine m) word e w))
 no_member word rest first second e cut none (EndLine c d) w r fits = absurd (omega (arith, same_kind (MemberLine [] []) (EndLine c d) word e w))
-
--- the numbers of a clause
-pub clause_read : (word : List ℕ) (rest : Option (List ℕ)) (clause : List ℕ) → word ≡ codes "needs" → NumbersRead rest (Some clause) → WordsAreRead word rest (Some (Needs clause))
-clause_read word rest clause e h = (e, h.0, h.1)
-
-pub no_clause : (word : List ℕ) (rest : Option (List ℕ)) → word ≡ codes "needs" → NumbersRead rest None → WordsAreRead word rest None
-no_clause word rest e none HeadLine w r fits = absurd (omega (arith, same_kind (NeedsLine []) HeadLine word e w))
-no_clause word rest e none (ClassLine n) w r fits = absurd (omega (arith, same_kind (NeedsLine []) (ClassLine n) word e w))
-no_clause word rest e none (MemberLine a v) w r fits = absurd (omega (arith, same_kind (NeedsLine []) (MemberLine a v) word e w))
-no_clause word rest e none (NeedsLine c) w r fits = none c r fits
-no_clause word rest e none (AgainstLine m) w r fits = absurd (omega (arith, same_kind (NeedsLine []) (AgainstLine m) word e w))
-no_clause word rest e none (EndLine c d) w r fits = absurd (omega (arith, same_kind (NeedsLine []) (EndLine c d) word e w))
-
--- where there is nothing behind the first word, it is a clause or no line
-pub no_rest : (word : List ℕ) → (word ≡ codes "needs" → ⊥) → WordsAreRead word None None
-no_rest word none HeadLine w r fits = absurd (none_some (codes "1") r)
-no_rest word none (ClassLine n) w r fits = absurd (none_some (decimal n) r)
-no_rest word none (MemberLine a v) w r fits = absurd (none_some (a ++ 32 ∷ v) r)
-no_rest word none (NeedsLine c) w r fits = none w
-no_rest word none (AgainstLine m) w r fits = absurd (none_some (decimal m) r)
-no_rest word none (EndLine c d) w r fits = absurd (none_some (decimal c ++ 32 ∷ decimal d) r)
 
 -- what is lent from a place to the end
 pub to_end : (n : ℕ) (xs : List ℕ) → take (length xs - n) (drop n xs) ≡ drop n xs

@@ -10,7 +10,7 @@ use Rattle.row_book.specs.Sets.{In}
 use Rattle.row_book.proofs.Lists.{In_append_cases, In_cases, In_none, any_cases, any_from}
 use Rattle.kernel_text.specs.declared.member.Member.{Member}
 use Rattle.kernel_text.specs.Reader.{AreKeysOf, kind_of_last, may_add_member, member_key}
-use Rattle.kernel_text.specs.KernelLines.{KernelLine, HeadLine, ClassLine, MemberLine, NeedsLine, AgainstLine, EndLine}
+use Rattle.kernel_text.specs.KernelLines.{KernelLine, HeadLine, ClassLine, MemberLine, HeldLine, NeedsLine, AgainstLine, EndLine}
 use Rattle.kernel_text.specs.Reading.{IsNamed, IsNew, MayAddMember, is_same_member}
 
 -- a member as the facts of a package
@@ -71,7 +71,8 @@ pub may_member : (o : Option KernelLine) → may_add_member (kind_of_last o) ≡
 may_member (Some (ClassLine n)) e = tt
 may_member (Some (MemberLine a v)) e = tt
 may_member None e = absurd (false≢true e)
-may_member (Some HeadLine) e = absurd (false≢true e)
+may_member (Some (HeadLine f)) e = absurd (false≢true e)
+may_member (Some HeldLine) e = absurd (false≢true e)
 may_member (Some (NeedsLine c)) e = absurd (false≢true e)
 may_member (Some (AgainstLine m)) e = absurd (false≢true e)
 may_member (Some (EndLine c d)) e = absurd (false≢true e)

@@ -9,7 +9,7 @@ use Rattle.kernel_text.specs.declared.fault.KernelFault.{KernelFault}
 use Rattle.kernel_text.specs.declared.fault.KernelFault.TheVariants.{Line, End, Range, Memory}
 use Rattle.kernel_text.specs.declared.member.Member.{Member}
 use Rattle.kernel_text.specs.KernelFaults.{IsEndFault, IsFault, IsLineFault, IsRangeFault, Names, Strays, line_at}
-use Rattle.kernel_text.specs.KernelLines.{KernelLine, HeadLine, ClassLine, MemberLine, NeedsLine, AgainstLine, EndLine, lines_of, line_text}
+use Rattle.kernel_text.specs.KernelLines.{KernelLine, HeadLine, ClassLine, MemberLine, HeldLine, NeedsLine, AgainstLine, EndLine, lines_of, line_text}
 use Rattle.kernel_text.specs.KernelReads.{IsEnded, IsInRange, KernelReads, LinesGive}
 use Rattle.kernel_text.specs.Reading.{ClassClause, IsAllowed, Reading, empty_reading, this_class, with_line}
 use Rattle.kernel_text.specs.Laws.{IsFaultOf, IsJudged}
@@ -35,9 +35,10 @@ given_at t (line ∷ more) u (suc n) v h l g =
 
 -- numbers of lines that were given are among those of all
 line_back : (k : ℕ) (t : Reading) (l : KernelLine) → AreBelow k (with_line t l) → AreBelow k t
-line_back k t HeadLine b = record { clauses = b.clauses; conflicts = b.conflicts }
+line_back k t (HeadLine format) b = record { clauses = b.clauses; conflicts = b.conflicts }
 line_back k t (ClassLine n) b = record { clauses = b.clauses; conflicts = b.conflicts }
 line_back k t (MemberLine name version) b = record { clauses = b.clauses; conflicts = b.conflicts }
+line_back k t HeldLine b = record { clauses = b.clauses; conflicts = b.conflicts }
 line_back k t (NeedsLine clause) b = record { clauses = λ entry i. b.clauses entry (In_append_left t.clauses _ entry i); conflicts = b.conflicts }
 line_back k t (AgainstLine m) b = record { clauses = b.clauses; conflicts = λ pair i. b.conflicts pair (In_append_left t.conflicts _ pair i) }
 line_back k t (EndLine c d) b = record { clauses = b.clauses; conflicts = b.conflicts }
@@ -47,9 +48,10 @@ lines_back k t [] u h b = subst (AreBelow k) (sym h) b
 lines_back k t (line ∷ more) u h b = line_back k t h.0 (lines_back k (with_line t h.0) more u h.3 b)
 
 named_below : (k : ℕ) (t : Reading) (l : KernelLine) → AreBelow k (with_line t l) → (m : ℕ) → Names l m → m < k
-named_below k t HeadLine b m i = absurd i
+named_below k t (HeadLine format) b m i = absurd i
 named_below k t (ClassLine n) b m i = absurd i
 named_below k t (MemberLine name version) b m i = absurd i
+named_below k t HeldLine b m i = absurd i
 named_below k t (NeedsLine clause) b m i =
     let entry : ClassClause = record { class = this_class t; clause = clause } in
     b.clauses entry (In_append_right t.clauses (entry ∷ []) entry here) m i
@@ -115,14 +117,14 @@ module _ (text : List ℕ) where
   one_reading_of : (u v : Reading) → LinesGive empty_reading cut u → LinesGive empty_reading cut v → u ≡ v
   one_reading_of u v g h = same_reading empty_reading cut u v g h
 
-  pub kernel_excludes : (R : Repository) (members : List Member) (fault : KernelFault) → KernelReads text R members → IsOther fault → IsFault text fault → ⊥
-  kernel_excludes R members (Line n) k o f = none_refused k.reading f.0 k.given f.2
-  kernel_excludes R members End k o f = f.not_ended (subst IsEnded (one_reading_of k.reading f.reading k.given f.lines_give) k.ended)
-  kernel_excludes R members (Range n) k o f =
+  pub kernel_excludes : (f : ℕ) (R : Repository) (members : List Member) (held : List ℕ) (fault : KernelFault) → KernelReads text f R members held → IsOther fault → IsFault text fault → ⊥
+  kernel_excludes format R members held (Line n) k o f = none_refused k.reading f.0 k.given f.2
+  kernel_excludes format R members held End k o f = f.not_ended (subst IsEnded (one_reading_of k.reading f.reading k.given f.lines_give) k.ended)
+  kernel_excludes format R members held (Range n) k o f =
       let same : k.reading ≡ f.2.reading = one_reading_of k.reading f.2.reading k.given f.2.lines_give in
       let range : IsInRange f.2.reading = subst IsInRange same k.in_range in
       no_stray f.2.reading.classes empty_reading cut f.2.reading f.0 f.2.lines_give (record { clauses = range.clauses; conflicts = range.conflicts }) f.2.stray.inside f.2.stray.strays
-  kernel_excludes R members Memory k o f = o refl
+  kernel_excludes format R members held Memory k o f = o refl
 
   pub one_fault : (f g : KernelFault) → IsOther f → IsOther g → IsFault text f → IsFault text g → f ≡ g
   one_fault (Line m) (Line n) a b f g =
@@ -146,13 +148,13 @@ module _ (text : List ℕ) where
   one_fault f Memory a b g h = absurd (b refl)
 
   -- what the text is
-  either : Judgement text → ((R : Repository) × (members : List Member) × KernelReads text R members) ⊎ ((fault : KernelFault) × IsFaultOf text fault)
-  either (a_kernel R members reads) = inl (R, members, reads)
+  either : Judgement text → ((f : ℕ) × (R : Repository) × (members : List Member) × (held : List ℕ) × KernelReads text f R members held) ⊎ ((fault : KernelFault) × IsFaultOf text fault)
+  either (a_kernel f R members held reads) = inl (f, R, members, held, reads)
   either (a_fault fault other is) = inr (fault, (other, is))
 
   pub is_judged : IsJudged text
   is_judged = record {
     either = either (judgement text);
-    apart = λ R members fault k f. kernel_excludes R members fault k f.0 f.1;
+    apart = λ format R members held fault k f. kernel_excludes format R members held fault k f.0 f.1;
     once = λ f g a b. one_fault f g a.0 b.0 a.1 b.1;
   }

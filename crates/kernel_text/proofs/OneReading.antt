@@ -12,6 +12,10 @@ same_reading t (line ∷ more) u v p q =
     same_reading (with_line t q.0) more u v (subst (λ l. LinesGive (with_line t l) more u) e p.3) q.3
 
 pub one_reading : (text : List ℕ) → HasOneReading text
-one_reading text R S ms ns p q =
-    let e : p.reading ≡ q.reading = same_reading empty_reading (lines_of text) p.reading q.reading p.given q.given in
-    (p.repository ∙ ap repository_of_reading e ∙ sym q.repository, p.member_list ∙ ap (λ t. t.members) e ∙ sym q.member_list)
+one_reading text f g R S ms ns hs is p q =
+    let e : p.reading ≡ q.reading = same_reading empty_reading (lines_of text) p.reading q.reading p.given q.given in (
+      p.of_format ∙ ap (λ t. t.format) e ∙ sym q.of_format,
+      p.repository ∙ ap repository_of_reading e ∙ sym q.repository,
+      p.member_list ∙ ap (λ t. t.members) e ∙ sym q.member_list,
+      p.held_list ∙ ap (λ t. t.held) e ∙ sym q.held_list,
+    )

@@ -1,22 +1,31 @@
 -- The text of a kernel is read as that kernel.
-use Rattle.std.proofs.Common.{◌≡◌, ℕ, ◌<◌, List, [], ◌∷◌, Some, length, refl, sym, ap, ap₂, ◌∙◌, subst, zero-add, eqb, eqb-true, ltb, true, arith}
+use Rattle.std.proofs.Common.{◌≡◌, ℕ, ◌<◌, Bool, List, [], ◌∷◌, ◌++◌, Some, length, filter, inl, inr, refl, sym, ap, ap₂, ◌∙◌, subst, zero-add, eqb, eqb-true, ltb, true, false, arith}
 use Rattle.std.proofs.lemmas.Bool.{ltb-true}
 use Rattle.std.specs.List.{flat_map}
 use Rattle.row_book.specs.Clauses.{numbers}
 use Rattle.row_book.specs.Repository.{Repository, clauses_of, conflicts_of}
-use Rattle.row_book.specs.Sets.{In}
+use Rattle.row_book.specs.Sets.{In, has}
 use Rattle.row_book.proofs.Books.{in_listed}
-use Rattle.row_book.proofs.Lists.{In_has, has_In, In_map_cases, ascending_filter, filter_cases}
+use Rattle.row_book.proofs.Lists.{In_has, has_In, In_map_cases, In_none, ascending_filter, ascending_same, filter_cases, filter_from}
+use Rattle.row_book.proofs.Order.{numbers_ascending, numbers_from}
 use Rattle.kernel_text.specs.declared.member.Member.{Member}
 use Rattle.kernel_text.specs.KernelLines.{KernelLine, HeadLine, EndLine, lines_of, line_text}
 use Rattle.kernel_text.specs.KernelReads.{KernelReads, LinesGive, repository_of_reading}
 use Rattle.kernel_text.specs.KernelText.{AreSingle, IsWritable, class_lines, kernel_lines, kernel_text}
 use Rattle.kernel_text.specs.Reading.{Reading, ClassClause, empty_reading, number_limit}
 use Rattle.kernel_text.proofs.LineCuts.{with_lines, AreAllowed, text_gives}
-use Rattle.kernel_text.proofs.Printed.{Blocks, IsBlock, all_blocks, allowed_append, clause_entry, clause_entries, pairs_of, reading_at, with_append}
+use Rattle.kernel_text.proofs.Printed.{Blocks, IsBlock, all_blocks, allowed_append, clause_entry, clause_entries, held_entries, held_of, pairs_of, reading_at, with_append}
 use Rattle.kernel_text.proofs.Retold.{clauses_retold, conflicts_retold, high_low, in_flat_cases}
 
-module _ (R : Repository) (members : List Member) (kernel : IsWritable R members) where
+marks_filter : (held xs : List ℕ) → flat_map (held_of held) xs ≡ filter (has held) xs
+marks_filter held [] = refl
+marks_filter held (x ∷ xs) = by (has held x) refl (marks_filter held xs)
+  where
+    by : (b : Bool) → has held x ≡ b → flat_map (held_of held) xs ≡ filter (has held) xs → flat_map (held_of held) (x ∷ xs) ≡ filter (has held) (x ∷ xs)
+    by true e more = rw e (ap (λ ys. x ∷ ys) more)
+    by false e more = rw e more
+
+module _ (f : ℕ) (R : Repository) (members : List Member) (held : List ℕ) (kernel : IsWritable f R members held) where
   abbrev size : ℕ
   size = length R.clauses
 
@@ -30,9 +39,24 @@ module _ (R : Repository) (members : List Member) (kernel : IsWritable R members
   last_line = EndLine size (length members)
 
   abbrev reading : Reading
-  reading = reading_at (Some last_line) size members (flat_map (clause_entries R) (numbers size 0)) (flat_map (pairs_of R) (numbers size 0))
+  reading = reading_at f held (Some last_line) size members (flat_map (clause_entries R) (numbers size 0)) (flat_map (pairs_of R) (numbers size 0))
 
-  blocks : (n : ℕ) → n < size → IsBlock R members n
+  -- only format 2 has held classes
+  in_second : (n : ℕ) → has held n ≡ true → f ≡ 2
+  in_second n h = elim kernel.fits.known [
+    | inl e ↦ absurd (In_none (subst (λ xs. In n xs) (kernel.fits.none_in_first e) (has_In held n h)))
+    | inr e ↦ e
+  ]
+
+  -- the held classes, one by one
+  held_again : flat_map (held_of held) (numbers size 0) ≡ held
+  held_again =
+      marks_filter held (numbers size 0)
+      ∙ ascending_same (filter (has held) (numbers size 0)) held (ascending_filter (has held) (numbers size 0) (numbers_ascending size 0)) kernel.fits.ascending
+      (λ n i. has_In held n (filter_cases (has held) (numbers size 0) n i).1)
+      (λ n i. filter_from (has held) (numbers size 0) n (let l : n < size = kernel.fits.inside n i in numbers_from size 0 n (omega arith) (omega arith)) (In_has i))
+
+  blocks : (n : ℕ) → n < size → IsBlock f R members held n
   blocks n l =
       let few : size < number_limit = kernel.few_classes in
       record {
@@ -41,6 +65,7 @@ module _ (R : Repository) (members : List Member) (kernel : IsWritable R members
         each = λ m i.
             let w : In m members × (eqb m.class n ≡ true) = filter_cases (λ (m : Member). eqb m.class n) members m i in
             (eqb-true m.class n w.1, kernel.named m w.0);
+        marked = in_second n;
         order = kernel.order n;
         clauses = λ c i. record {
           ascending = (kernel.sound.clauses n c i).0;
@@ -54,32 +79,32 @@ module _ (R : Repository) (members : List Member) (kernel : IsWritable R members
             (ltb-true n m w.1, omega arith);
       }
 
-  whole : Blocks R members size 0 size (Some HeadLine) [] [] []
-  whole = all_blocks R members size 0 size (Some HeadLine) [] [] [] (zero-add size) blocks tt (subst AreSingle kernel.by_class kernel.single)
+  whole : Blocks f [] R members held size 0 size (Some (HeadLine f)) [] [] []
+  whole = all_blocks f [] R members held size 0 size (Some (HeadLine f)) [] [] [] (zero-add size) blocks tt (subst AreSingle kernel.by_class kernel.single)
 
   abbrev inner : List KernelLine
-  inner = flat_map (class_lines R members) (numbers size 0)
+  inner = flat_map (class_lines R members held) (numbers size 0)
 
   abbrev begun : Reading
-  begun = reading_at (Some HeadLine) 0 [] [] []
+  begun = reading_at f [] (Some (HeadLine f)) 0 [] [] []
 
-  lines_allowed : AreAllowed empty_reading (kernel_lines R members)
+  lines_allowed : AreAllowed empty_reading (kernel_lines f R members held)
   unfolding kernel_lines
   lines_allowed = (
-    refl,
+    (refl, kernel.fits.known),
     allowed_append begun inner (last_line ∷ []) whole.allowed
         (subst (λ t. AreAllowed t (last_line ∷ [])) (sym whole.reading) ((whole.ends, kernel.few_classes, kernel.few_members), tt)),
   )
 
-  lines_reading : with_lines empty_reading (kernel_lines R members) ≡ reading
+  lines_reading : with_lines empty_reading (kernel_lines f R members held) ≡ reading
   unfolding kernel_lines
   lines_reading =
       with_append begun inner (last_line ∷ []) ∙ ap (λ t. with_lines t (last_line ∷ [])) whole.reading
-      ∙ ap (λ ms. reading_at (Some last_line) size ms (flat_map (clause_entries R) (numbers size 0)) (flat_map (pairs_of R) (numbers size 0))) (sym kernel.by_class)
+      ∙ ap₂ (λ hs ms. reading_at f hs (Some last_line) size ms (flat_map (clause_entries R) (numbers size 0)) (flat_map (pairs_of R) (numbers size 0))) held_again (sym kernel.by_class)
 
-  text_reading : LinesGive empty_reading (lines_of (kernel_text R members)) reading
+  text_reading : LinesGive empty_reading (lines_of (kernel_text f R members held)) reading
   unfolding kernel_text
-  text_reading = subst (λ t. LinesGive empty_reading (lines_of (flat_map line_text (kernel_lines R members))) t) lines_reading (text_gives empty_reading (kernel_lines R members) lines_allowed)
+  text_reading = subst (λ t. LinesGive empty_reading (lines_of (flat_map line_text (kernel_lines f R members held))) t) lines_reading (text_gives empty_reading (kernel_lines f R members held) lines_allowed)
 
   entry_low : (entry : ClassClause) → In entry reading.clauses → (l : ℕ) → In l entry.clause → l < size
   entry_low entry i l j =
@@ -93,12 +118,14 @@ module _ (R : Repository) (members : List Member) (kernel : IsWritable R members
       let made : List (List (List ℕ)) → List (List ℕ) → Repository = λ cs xs. record { clauses = cs; conflicts = xs } in
       ap₂ made (clauses_retold R) (conflicts_retold R size kernel.sound.count kernel.sound.conflicts conflict_low)
 
-  pub printed_reads : KernelReads (kernel_text R members) R members
+  pub printed_reads : KernelReads (kernel_text f R members held) f R members held
   printed_reads = record {
     reading = reading;
     given = text_reading;
     ended = refl;
     in_range = record { clauses = entry_low; conflicts = high_low R size kernel.sound.count kernel.sound.conflicts conflict_low };
+    of_format = refl;
     repository = repository_is;
     member_list = refl;
+    held_list = refl;
   }

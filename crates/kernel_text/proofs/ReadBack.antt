@@ -56,7 +56,7 @@ empty_or : (xs : List ℕ) → (length xs ≡ 0 → ⊥) → (n : ℕ) × In n x
 empty_or [] h = absurd (h refl)
 empty_or (x ∷ xs) h = (x, here)
 
-module _ (R : Repository) (packages : List PackageFacts) (class_of : List ℕ) (kernel : IsKernelOf R packages class_of) where
+module _ (format : ℕ) (R : Repository) (packages : List PackageFacts) (class_of held : List ℕ) (kernel : IsKernelOf format R packages class_of held) where
   abbrev size : ℕ
   size = length R.clauses
 
@@ -147,9 +147,9 @@ module _ (R : Repository) (packages : List PackageFacts) (class_of : List ℕ) (
           no_item [] i j e = In_none j
           no_item (x ∷ xs) i j e = let l : suc (length xs) ≡ 0 = eqb-true (suc (length xs)) 0 e in omega (arith, l)
 
-  pub read_back : IsReadBack R packages class_of
+  pub read_back : IsReadBack format R packages class_of held
   read_back = record {
-    reads = (read_is_written (kernel_text R K) R K).1 (kernels_are_writable R packages class_of kernel, refl);
+    reads = (read_is_written (kernel_text format R K held) format R K held).1 (kernels_are_writable format R packages class_of held kernel, refl);
     images = images;
     unknown = unknown;
   }

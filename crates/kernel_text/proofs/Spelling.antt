@@ -9,8 +9,8 @@ use Rattle.std.proofs.lemmas.List.{append_cancel_left, append_cancel_right}
 use Rattle.std.proofs.lemmas.Str.Parse.{digit_from_value}
 use Rattle.deb_version.specs.Names.{is_name, is_name_byte, has_first}
 use Rattle.row_book.specs.Sets.{In, here, there}
-use Rattle.kernel_text.specs.KernelLines.{KernelLine, HeadLine, ClassLine, MemberLine, NeedsLine, AgainstLine, EndLine, line_text, behind_space}
-use Rattle.kernel_text.specs.Reading.{Reading, IsAllowed, number_limit}
+use Rattle.kernel_text.specs.KernelLines.{KernelLine, HeadLine, ClassLine, MemberLine, HeldLine, NeedsLine, AgainstLine, EndLine, line_text, behind_space}
+use Rattle.kernel_text.specs.Reading.{Reading, IsAllowed, IsFormat, number_limit}
 
 -- neither a space nor a line feed
 abbrev pub IsPlain : ℕ → Type 0
@@ -64,6 +64,12 @@ low_enough : (n : ℕ) → n < number_limit → n < 2 ^ 64
 unfolding number_limit
 low_enough n l = omega arith
 
+-- the number of a format is below the limit
+pub format_low : (f : ℕ) → IsFormat f → f < number_limit
+unfolding number_limit
+format_low f (inl e) = omega (arith, e)
+format_low f (inr e) = omega (arith, e)
+
 pub decimal_plain : (n : ℕ) → n < number_limit → Plain (decimal n)
 decimal_plain n l = digits_plain (decimal n) (decimal_is_IsNumeral n (low_enough n l)).0.1
 
@@ -106,19 +112,21 @@ numbers_same (x ∷ xs) (y ∷ ys) a b e =
     (sym (append_assoc (decimal x) (flat_map behind_space xs) (10 ∷ [])) ∙ behind ∙ append_assoc (decimal y) (flat_map behind_space ys) (10 ∷ [])) in
     ap₂ (λ z zs. z ∷ zs) w.0 (numbers_same xs ys (λ l i. a l (there i)) (λ l i. b l (there i)) w.1)
 
--- what an allowed line says of its numbers and its name
+-- what an allowed line says of its format, its numbers and its name
 abbrev pub Fits : KernelLine → Type 0
-Fits HeadLine = Unit {0}
+Fits (HeadLine format) = IsFormat format
 Fits (ClassLine n) = n < number_limit
 Fits (MemberLine name version) = is_name name ≡ true
+Fits HeldLine = Unit {0}
 Fits (NeedsLine clause) = (l : ℕ) → In l clause → l < number_limit
 Fits (AgainstLine m) = m < number_limit
 Fits (EndLine classes members) = (classes < number_limit) × (members < number_limit)
 
 pub allowed_fits : (t : Reading) (l : KernelLine) → IsAllowed t l → Fits l
-allowed_fits t HeadLine a = tt
+allowed_fits t (HeadLine format) a = a.1
 allowed_fits t (ClassLine n) a = a.2
 allowed_fits t (MemberLine name version) a = a.1.0
+allowed_fits t HeldLine a = tt
 allowed_fits t (NeedsLine clause) a = a.1.low
 allowed_fits t (AgainstLine m) a = a.2
 allowed_fits t (EndLine classes members) a = (a.1, a.2)
@@ -129,25 +137,28 @@ kind (a ∷ b ∷ more) = 256 * a + b
 kind more = 0
 
 abbrev pub kind_of : KernelLine → ℕ
-kind_of HeadLine = 25455
+kind_of (HeadLine format) = 25455
 kind_of (ClassLine n) = 25452
 kind_of (MemberLine name version) = 28005
+kind_of HeldLine = 26725
 kind_of (NeedsLine clause) = 28261
 kind_of (AgainstLine m) = 24935
 kind_of (EndLine classes members) = 25966
 
 kind_is : (l : KernelLine) → kind (line_text l) ≡ kind_of l
 unfolding kind line_text
-kind_is HeadLine = refl
+kind_is (HeadLine format) = refl
 kind_is (ClassLine n) = refl
 kind_is (MemberLine name version) = refl
+kind_is HeldLine = refl
 kind_is (NeedsLine clause) = refl
 kind_is (AgainstLine m) = refl
 kind_is (EndLine classes members) = refl
 
 by_kind : (k l : KernelLine) → Fits k → Fits l → line_text k ≡ line_text l → kind_of k ≡ kind_of l → k ≡ l
 unfolding line_text
-by_kind HeadLine HeadLine f g e h = refl
+by_kind (HeadLine m) (HeadLine n) f g e h =
+    ap HeadLine (number_same m n (10 ∷ []) (10 ∷ []) (format_low m f) (format_low n g) (inr refl) (inr refl) (append_cancel_left (codes "coinst-kernel ") (decimal m ++ 10 ∷ []) (decimal n ++ 10 ∷ []) e)).0
 by_kind (ClassLine m) (ClassLine n) f g e h =
     ap ClassLine (number_same m n (10 ∷ []) (10 ∷ []) f g (inr refl) (inr refl) (append_cancel_left (codes "class ") (decimal m ++ 10 ∷ []) (decimal n ++ 10 ∷ []) e)).0
 by_kind (MemberLine a v) (MemberLine b w) f g e h =
@@ -156,6 +167,7 @@ by_kind (MemberLine a v) (MemberLine b w) f g e h =
     cut_same a b (32 ∷ v ++ 10 ∷ []) (32 ∷ w ++ 10 ∷ []) (name_plain a f) (name_plain b g) (inl refl) (inl refl)
     (sym (append_assoc a (32 ∷ v) (10 ∷ [])) ∙ behind ∙ append_assoc b (32 ∷ w) (10 ∷ [])) in
     ap₂ MemberLine parts.0 (append_cancel_right v w (10 ∷ []) (append_cancel_left (32 ∷ []) (v ++ 10 ∷ []) (w ++ 10 ∷ []) parts.1))
+by_kind HeldLine HeldLine f g e h = refl
 by_kind (NeedsLine c) (NeedsLine d) f g e h =
     ap NeedsLine (numbers_same c d f g (append_cancel_left (codes "needs") (flat_map behind_space c ++ 10 ∷ []) (flat_map behind_space d ++ 10 ∷ []) e))
 by_kind (AgainstLine m) (AgainstLine n) f g e h =

@@ -7,7 +7,7 @@ use Rattle.row_book.specs.Sets.{In, here, there}
 use Rattle.row_book.proofs.Lists.{all_at, all_from}
 use Rattle.kernel_text.specs.declared.content.LineContent.{LineContent}
 use Rattle.kernel_text.specs.KernelFaults.{FirstStray, Names, Strays, line_at}
-use Rattle.kernel_text.specs.KernelLines.{KernelLine, HeadLine, ClassLine, MemberLine, NeedsLine, AgainstLine, EndLine, line_text, lines_of}
+use Rattle.kernel_text.specs.KernelLines.{KernelLine, HeadLine, ClassLine, MemberLine, HeldLine, NeedsLine, AgainstLine, EndLine, line_text, lines_of}
 use Rattle.kernel_text.specs.Reading.{number_limit}
 use Rattle.kernel_text.specs.Strays.{NoStrayBefore, NoneStrayedUpTo, strays_by}
 use Rattle.kernel_text.specs.Words.{IsWellFormed, LineIsRead, line_of_content}
@@ -28,17 +28,19 @@ some_far (x ∷ xs) k e = elim (cases_lt x k) [
 
 -- what has a number that is not one of a class
 pub far_number : (classes : ℕ) (l : KernelLine) → strays_by classes l ≡ true → (n : ℕ) × Names l n × (classes ≤ n)
-far_number classes HeadLine e = absurd (false≢true e)
+far_number classes (HeadLine format) e = absurd (false≢true e)
 far_number classes (ClassLine n) e = absurd (false≢true e)
 far_number classes (MemberLine name version) e = absurd (false≢true e)
+far_number classes HeldLine e = absurd (false≢true e)
 far_number classes (NeedsLine clause) e = some_far clause classes (not-true (list_all (λ n. nat_lt n classes) clause) e)
 far_number classes (AgainstLine m) e = (m, refl, leb-true classes m e)
 far_number classes (EndLine c d) e = absurd (false≢true e)
 
 pub far_strays : (classes : ℕ) (l : KernelLine) (n : ℕ) → Names l n → classes ≤ n → strays_by classes l ≡ true
-far_strays classes HeadLine n i g = absurd i
+far_strays classes (HeadLine format) n i g = absurd i
 far_strays classes (ClassLine m) n i g = absurd i
 far_strays classes (MemberLine name version) n i g = absurd i
+far_strays classes HeldLine n i g = absurd i
 far_strays classes (NeedsLine clause) n i g =
     not_from_false (list_all (λ k. nat_lt k classes) clause) (some_false (list_all (λ k. nat_lt k classes) clause) refl)
   where
@@ -49,17 +51,19 @@ far_strays classes (AgainstLine m) n i g = le-leb classes m (subst (λ k. classe
 far_strays classes (EndLine c d) n i g = absurd i
 
 formed_names : (l : KernelLine) → IsWellFormed l → (m : ℕ) → Names l m → m < number_limit
-formed_names HeadLine w m i = absurd i
+formed_names (HeadLine format) w m i = absurd i
 formed_names (ClassLine n) w m i = absurd i
 formed_names (MemberLine name version) w m i = absurd i
+formed_names HeldLine w m i = absurd i
 formed_names (NeedsLine clause) w m i = w m i
 formed_names (AgainstLine n) w m i = subst (λ k. k < number_limit) (sym i) w
 formed_names (EndLine c d) w m i = absurd i
 
 pub names_formed : (l : KernelLine) (n : ℕ) → Names l n → ((m : ℕ) → Names l m → m < number_limit) → IsWellFormed l
-names_formed HeadLine n i low = tt
+names_formed (HeadLine format) n i low = absurd i
 names_formed (ClassLine m) n i low = absurd i
 names_formed (MemberLine name version) n i low = absurd i
+names_formed HeldLine n i low = tt
 names_formed (NeedsLine clause) n i low = low
 names_formed (AgainstLine m) n i low = low m refl
 names_formed (EndLine c d) n i low = absurd i

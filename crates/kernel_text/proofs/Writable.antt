@@ -1,5 +1,5 @@
 -- A kernel that is read is one that the format can write.
-use Rattle.std.proofs.Common.{◌≡◌, ℕ, zero, suc, ◌<◌, false, List, [], ◌∷◌, ◌++◌, length, filter, eqb, get_or, inl, inr, sym, ap, ◌∙◌, subst, zero-add, arith}
+use Rattle.std.proofs.Common.{◌≡◌, ℕ, zero, suc, ◌+◌, ◌<◌, ◌≤◌, false, List, [], ◌∷◌, ◌++◌, length, filter, eqb, get_or, inl, inr, sym, ap, ◌∙◌, subst, zero-add, arith}
 use Rattle.std.specs.List.{flat_map}
 use Rattle.std.proofs.lemmas.Bool.{cases_lt}
 use Rattle.std.proofs.lemmas.List.{get_or_past}
@@ -12,13 +12,13 @@ use Rattle.row_book.proofs.Lists.{In_none, In_cases, In_append_cases, In_map_cas
 use Rattle.row_book.proofs.Order.{at_numbers}
 use Rattle.row_book.proofs.Pairs.{length_pairs, pairs_conflict}
 use Rattle.kernel_text.specs.declared.member.Member.{Member}
-use Rattle.kernel_text.specs.KernelLines.{KernelLine, HeadLine, ClassLine, MemberLine, NeedsLine, AgainstLine, EndLine}
+use Rattle.kernel_text.specs.KernelLines.{KernelLine, HeadLine, ClassLine, MemberLine, HeldLine, NeedsLine, AgainstLine, EndLine}
 use Rattle.kernel_text.specs.KernelReads.{IsInRange, clauses_of_class, repository_of_reading}
 use Rattle.kernel_text.specs.KernelText.{AreSingle, IsWritable, members_of}
-use Rattle.kernel_text.specs.Reading.{Reading, ClassClause, IsAllowed, IsClauseOf, IsNamed, IsNew, is_same_member, member_of_line, number_limit, with_line}
+use Rattle.kernel_text.specs.Reading.{Reading, ClassClause, IsAllowed, IsClauseOf, IsFormat, IsNamed, IsNew, is_same_member, member_of_line, number_limit, with_line}
 use Rattle.kernel_text.proofs.LineCuts.{AreAllowed, with_lines}
-use Rattle.kernel_text.proofs.Blocks.{R_read, by_blocks, clause_entries_in, clauses_are, fit_at, keyed_members, members_in, picked, reading_of_blocks, rising, size_is}
-use Rattle.kernel_text.proofs.Shape.{ArePopulated, Block, FitBlocks, empty, over_blocks}
+use Rattle.kernel_text.proofs.Blocks.{R_read, by_blocks, clause_entries_in, clauses_are, fit_at, held_ascending, held_bounds, held_in, keyed_members, members_in, none_held, picked, reading_of_blocks, rising, size_is}
+use Rattle.kernel_text.proofs.Shape.{ArePopulated, Block, FitBlocks, HeldInSecond, empty, over_blocks}
 
 -- each allowed member line is of a new member, so none names the package of an earlier one
 single_more : (ms : List Member) (m : Member) → AreSingle ms → IsNew m ms → AreSingle (ms ++ m ∷ [])
@@ -36,9 +36,10 @@ single_more (x ∷ ms) m s new = (
 )
 
 single_line : (t : Reading) (l : KernelLine) → IsAllowed t l → AreSingle t.members → AreSingle (with_line t l).members
-single_line t HeadLine a s = s
+single_line t (HeadLine format) a s = s
 single_line t (ClassLine n) a s = s
 single_line t (MemberLine name version) a s = single_more t.members (member_of_line t name version) s a.2
+single_line t HeldLine a s = s
 single_line t (NeedsLine clause) a s = s
 single_line t (AgainstLine m) a s = s
 single_line t (EndLine classes members) a s = s
@@ -57,7 +58,7 @@ named_in k [] fit m i = absurd (In_none i)
 named_in k (b ∷ bs) fit m i =
     elim (In_append_cases b.members (over_blocks members_in (suc k) bs) m i) [ inl j ↦ fit.0.named m j | inr j ↦ named_in (suc k) bs fit.1 m j ]
 
-module _ (bs : List Block) (fit : FitBlocks 0 bs) (populated : ArePopulated bs) (range : IsInRange (reading_of_blocks bs)) where
+module _ (f : ℕ) (bs : List Block) (fit : FitBlocks 0 bs) (populated : ArePopulated bs) (range : IsInRange (reading_of_blocks f bs)) where
   abbrev size : ℕ
   size = length bs
 
@@ -111,9 +112,10 @@ module _ (bs : List Block) (fit : FitBlocks 0 bs) (populated : ArePopulated bs) 
       subst (λ k. members_of all_members k ≡ (get_or bs i empty).members) same (members_are i l)))
       ∙ ap (λ k. flat_map (members_of all_members) (numbers k 0)) (sym size_of)
 
-  pub writable : size < number_limit → length all_members < number_limit → AreSingle all_members → IsWritable (repository_of_reading (reading_of_blocks bs)) all_members
+  pub writable : IsFormat f → HeldInSecond f bs → size < number_limit → length all_members < number_limit → AreSingle all_members →
+      IsWritable f (repository_of_reading (reading_of_blocks f bs)) all_members (over_blocks held_in 0 bs)
   unfolding repository_of_reading
-  writable few_classes few_members single = record {
+  writable known held few_classes few_members single = record {
     few_classes = subst (λ k. k < number_limit) (sym size_of) few_classes;
     few_members = few_members;
     by_class = by_class;
@@ -126,7 +128,13 @@ module _ (bs : List Block) (fit : FitBlocks 0 bs) (populated : ArePopulated bs) 
     apart = λ n c i. (of_class n c i).apart;
     sound = record {
       clauses = sound;
-      count = length_pairs (reading_of_blocks bs).conflicts size ∙ sym size_of;
-      conflicts = pairs_conflict (reading_of_blocks bs).conflicts size (record { ordered = rising 0 bs fit; below = range.conflicts });
+      count = length_pairs (reading_of_blocks f bs).conflicts size ∙ sym size_of;
+      conflicts = pairs_conflict (reading_of_blocks f bs).conflicts size (record { ordered = rising 0 bs fit; below = range.conflicts });
+    };
+    fits = record {
+      known = known;
+      ascending = held_ascending 0 bs;
+      inside = λ n i. let w : (0 ≤ n) × (n < 0 + size) = held_bounds 0 bs n i in omega (arith, size_of);
+      none_in_first = λ e. none_held f 0 bs e held;
     };
   }

@@ -12,15 +12,16 @@ use Rattle.relation_fields.specs.declared.packages.PackageFacts.{PackageFacts}
 use Rattle.repo_model.specs.Stanzas.{stanza_at, no_stanza}
 use Rattle.row_book.specs.Book.{listed_for}
 use Rattle.row_book.specs.Clauses.{numbers}
+use Rattle.row_book.specs.Flags.{flag}
 use Rattle.row_book.specs.Repository.{Repository, clauses_of, conflicts_of}
-use Rattle.row_book.specs.Sets.{In}
+use Rattle.row_book.specs.Sets.{In, has}
 use Rattle.row_book.proofs.Lists.{In_none, filter_cases}
 use Rattle.row_book.proofs.Order.{numbers_parts}
 use Rattle.kernel_text.specs.declared.member.Member.{Member}
 use Rattle.kernel_text.specs.KernelLines.{KernelLine, HeadLine, ClassLine, NeedsLine, AgainstLine, EndLine, line_text}
-use Rattle.kernel_text.specs.KernelText.{class_lines, greater_conflicts, kernel_lines, kernel_text, line_of_member, members_of}
+use Rattle.kernel_text.specs.KernelText.{class_lines, greater_conflicts, held_lines, kernel_lines, kernel_text, line_of_member, members_of}
 use Rattle.kernel_text.specs.Members.{file_members, kernel_members}
-use Rattle.kernel_text.specs.Writing.{IsByClass, OfPackages, block_text, line_of_package, lines_text, numbers_of_class}
+use Rattle.kernel_text.specs.Writing.{IsByClass, OfPackages, TellHeld, block_text, line_of_package, lines_text, numbers_of_class}
 use Rattle.kernel_text.proofs.Classified.{all_counted, all_of_class, file_member, flat_same, length_file}
 
 -- one more number
@@ -93,22 +94,24 @@ more_blocks f n start out new sofar pushed =
     pushed ∙ ap (λ t. t ++ f n) sofar ∙ flat_map_more f start (numbers n 0) n ∙ ap (λ xs. start ++ flat_map f xs) (sym (numbers_more n))
 
 -- the parts of a block, one behind the other
-four : (s a b c d : List ℕ) → (((s ++ a) ++ b) ++ c) ++ d ≡ s ++ (a ++ (b ++ (c ++ d)))
-four s a b c d = simp append_assoc
+five : (s a b h c d : List ℕ) → ((((s ++ a) ++ b) ++ h) ++ c) ++ d ≡ s ++ (a ++ (b ++ (h ++ (c ++ d))))
+five s a b h c d = simp append_assoc
 
-pub block_parts : (R : Repository) (packages : List PackageFacts) (table : List (List ℕ)) (n : ℕ) (start first second third fourth : List ℕ) (members : List ℕ) (clauses : List (List ℕ)) (conflicts : List ℕ) →
+pub block_parts : (R : Repository) (packages : List PackageFacts) (table : List (List ℕ)) (held : Bool) (n : ℕ) (start first second marked third fourth : List ℕ) (members : List ℕ) (clauses : List (List ℕ)) (conflicts : List ℕ) →
     members ≡ listed_for table n → clauses ≡ clauses_of R n → conflicts ≡ conflicts_of R n →
-    first ≡ start ++ line_text (ClassLine n) → second ≡ first ++ lines_text (λ i. line_of_package (stanza_at packages i)) members → third ≡ second ++ lines_text NeedsLine clauses →
-    fourth ≡ third ++ lines_text AgainstLine (filter (λ m. ltb n m) conflicts) → fourth ≡ start ++ block_text R packages table n
+    first ≡ start ++ line_text (ClassLine n) → second ≡ first ++ lines_text (λ i. line_of_package (stanza_at packages i)) members → marked ≡ second ++ flat_map line_text (held_lines held) →
+    third ≡ marked ++ lines_text NeedsLine clauses → fourth ≡ third ++ lines_text AgainstLine (filter (λ m. ltb n m) conflicts) → fourth ≡ start ++ block_text R packages table held n
 unfolding block_text
-block_parts R packages table n start first second third fourth members clauses conflicts m c f e g h k =
+block_parts R packages table held n start first second marked third fourth members clauses conflicts m c f e g l h k =
     let A : List ℕ = line_text (ClassLine n) in
     let B : List ℕ = lines_text (λ i. line_of_package (stanza_at packages i)) (listed_for table n) in
+    let H : List ℕ = flat_map line_text (held_lines held) in
     let C : List ℕ = lines_text NeedsLine (clauses_of R n) in
     let D : List ℕ = lines_text AgainstLine (greater_conflicts R n) in
     let second_is : second ≡ (start ++ A) ++ B = g ∙ ap₂ (λ t is. t ++ lines_text (λ i. line_of_package (stanza_at packages i)) is) e m in
-    let third_is : third ≡ ((start ++ A) ++ B) ++ C = h ∙ ap₂ (λ t cs. t ++ lines_text NeedsLine cs) second_is c in
-    k ∙ ap₂ (λ t xs. t ++ lines_text AgainstLine (filter (λ m. ltb n m) xs)) third_is f ∙ four start A B C D
+    let marked_is : marked ≡ ((start ++ A) ++ B) ++ H = l ∙ ap (λ t. t ++ H) second_is in
+    let third_is : third ≡ (((start ++ A) ++ B) ++ H) ++ C = h ∙ ap₂ (λ t cs. t ++ lines_text NeedsLine cs) marked_is c in
+    k ∙ ap₂ (λ t xs. t ++ lines_text AgainstLine (filter (λ m. ltb n m) xs)) third_is f ∙ five start A B H C D
 
 -- the lines of the packages of a class are those of its members
 nothing_left : {A : Type 0} (xs : List A) (k : ℕ) → length xs ≤ k → drop k xs ≡ []
@@ -149,39 +152,44 @@ module _ (R : Repository) (packages : List PackageFacts) (class_of : List ℕ) (
       ∙ ap (λ count. map (λ i. line_of_package (stanza_at packages i)) (filter (λ i. eqb (get_or class_of i 0) n) (numbers count 0))) (sym each)
       ∙ ap (map (λ i. line_of_package (stanza_at packages i))) (sym (by_class.each n l))
 
-  block_is : (n : ℕ) → n < size → block_text R packages table n ≡ flat_map line_text (class_lines R K n)
+  block_is : (held : List ℕ) (h : Bool) (n : ℕ) → n < size → h ≡ has held n → block_text R packages table h n ≡ flat_map line_text (class_lines R K held n)
   unfolding block_text class_lines
-  block_is n l =
+  block_is held h n l same =
       let X : List KernelLine = map line_of_member (members_of K n) in
+      let H : List KernelLine = held_lines (has held n) in
       let Y : List KernelLine = map NeedsLine (clauses_of R n) in
       let Z : List KernelLine = map AgainstLine (greater_conflicts R n) in
       let first : flat_map line_text X ≡ lines_text (λ i. line_of_package (stanza_at packages i)) (listed_for table n) =
       ap (flat_map line_text) (members_are n l) ∙ flat_map-map line_text (λ i. line_of_package (stanza_at packages i)) (listed_for table n) in
       let second : flat_map line_text Y ≡ lines_text NeedsLine (clauses_of R n) = flat_map-map line_text NeedsLine (clauses_of R n) in
       let third : flat_map line_text Z ≡ lines_text AgainstLine (greater_conflicts R n) = flat_map-map line_text AgainstLine (greater_conflicts R n) in
+      let marks : flat_map line_text H ≡ flat_map line_text (held_lines h) = ap (λ b. flat_map line_text (held_lines b)) (sym same) in
       ap (λ t. line_text (ClassLine n) ++ t)
-      (sym (flat_map-append line_text X (Y ++ Z) ∙ ap₂ (λ x y. x ++ y) first (flat_map-append line_text Y Z ∙ ap₂ (λ x y. x ++ y) second third)))
+      (sym (flat_map-append line_text X (H ++ (Y ++ Z))
+      ∙ ap₂ (λ x y. x ++ y) first (flat_map-append line_text H (Y ++ Z) ∙ ap₂ (λ x y. x ++ y) marks (flat_map-append line_text Y Z ∙ ap₂ (λ x y. x ++ y) second third))))
 
   members_counted : length K ≡ length packages
   unfolding kernel_members
   members_counted =
       all_counted (file_members packages class_of) size (λ m i. inside m.class (file_member packages class_of m i).class) ∙ length_file packages class_of each
 
-  pub whole : (first second third fourth : List ℕ) → size ≡ length R.clauses → first ≡ [] → second ≡ first ++ line_text HeadLine →
-      third ≡ second ++ flat_map (block_text R packages table) (numbers size 0) → fourth ≡ third ++ line_text (EndLine size (length packages)) → fourth ≡ kernel_text R K
+  pub whole : (f : ℕ) (held : List ℕ) (flags : List Bool) → TellHeld flags held size → (first second third fourth : List ℕ) → size ≡ length R.clauses → first ≡ [] →
+      second ≡ first ++ line_text (HeadLine f) → third ≡ second ++ flat_map (λ n. block_text R packages table (flag flags n) n) (numbers size 0) →
+      fourth ≡ third ++ line_text (EndLine size (length packages)) → fourth ≡ kernel_text f R K held
   unfolding kernel_text kernel_lines
-  whole first second third fourth count e h c t =
-      let inner : List KernelLine = flat_map (class_lines R K) (numbers size 0) in
-      let blocks : flat_map (block_text R packages table) (numbers size 0) ≡ flat_map line_text inner =
-      flat_same (block_text R packages table) (λ n. flat_map line_text (class_lines R K n)) (numbers size 0)
-      (λ n i. let b : (0 ≤ n) × (n < 0 + size) = numbers_parts size 0 n i in block_is n (omega arith))
-      ∙ sym (flat_flat line_text (class_lines R K) (numbers size 0)) in
+  whole f held flags told first second third fourth count e h c t =
+      let head : List ℕ = line_text (HeadLine f) in
+      let inner : List KernelLine = flat_map (class_lines R K held) (numbers size 0) in
+      let blocks : flat_map (λ n. block_text R packages table (flag flags n) n) (numbers size 0) ≡ flat_map line_text inner =
+      flat_same (λ n. block_text R packages table (flag flags n) n) (λ n. flat_map line_text (class_lines R K held n)) (numbers size 0)
+      (λ n i. let b : (0 ≤ n) × (n < 0 + size) = numbers_parts size 0 n i in block_is held (flag flags n) n (omega arith) (told.each n (omega arith)))
+      ∙ sym (flat_flat line_text (class_lines R K held) (numbers size 0)) in
       let last : KernelLine = EndLine size (length packages) in
-      let so_far : third ≡ line_text HeadLine ++ flat_map line_text inner = c ∙ ap₂ (λ x y. x ++ y) (h ∙ ap (λ x. x ++ line_text HeadLine) e) blocks in
-      t ∙ ap (λ x. x ++ line_text last) so_far ∙ append_assoc (line_text HeadLine) (flat_map line_text inner) (line_text last)
-      ∙ ap (λ x. line_text HeadLine ++ x)
+      let so_far : third ≡ head ++ flat_map line_text inner = c ∙ ap₂ (λ x y. x ++ y) (h ∙ ap (λ x. x ++ head) e) blocks in
+      t ∙ ap (λ x. x ++ line_text last) so_far ∙ append_assoc head (flat_map line_text inner) (line_text last)
+      ∙ ap (λ x. head ++ x)
       (ap (λ x. flat_map line_text inner ++ x) (sym (append-nil (line_text last))) ∙ sym (flat_map-append line_text inner (last ∷ [])))
-      ∙ ap₂ (λ n m. line_text HeadLine ++ flat_map line_text (flat_map (class_lines R K) (numbers n 0) ++ EndLine n m ∷ [])) count (sym members_counted)
+      ∙ ap₂ (λ n m. head ++ flat_map line_text (flat_map (class_lines R K held) (numbers n 0) ++ EndLine n m ∷ [])) count (sym members_counted)
 
 -- an element of a table, as it is lent
 pub list_is : (table : List (List ℕ)) (n : ℕ) (xs : List ℕ) → n < length table → xs ≡ get_or table n xs → xs ≡ listed_for table n

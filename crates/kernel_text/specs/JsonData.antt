@@ -1,17 +1,18 @@
 -- The JSON of a kernel as data of `serde_json`, over the packages of an index and a table of their numbers by class.
-use Rattle.std.specs.Prelude.{◌≡◌, ℕ, true, List, [], ◌∷◌, map, codes}
+use Rattle.std.specs.Prelude.{◌≡◌, ℕ, Bool, true, List, [], ◌∷◌, map, codes, Option, Some, None, if◌then◌else◌}
 use Rattle.std.specs.Str.{IsAscii}
 use Rattle.deb_version.specs.Grammar.{is_version}
 use Rattle.deb_version.specs.Names.{is_name}
 use Rattle.relation_fields.specs.declared.packages.PackageFacts.{PackageFacts}
 use Rattle.row_book.specs.Book.{listed_for}
 use Rattle.row_book.specs.Clauses.{numbers}
+use Rattle.row_book.specs.Flags.{flag}
 use Rattle.row_book.specs.Repository.{Repository, clauses_of}
 use Rattle.row_book.specs.Sets.{In}
 use Rattle.repo_model.specs.Stanzas.{stanza_at}
-use Rattle.serde_json.specs.Data.{Data, array, member, no_members, number, object, string, unsigned}
+use Rattle.serde_json.specs.Data.{Data, Members, array, boolean, member, no_members, number, object, string, unsigned}
 use Rattle.serde_json.specs.View.{items_of}
-use Rattle.kernel_text.specs.KernelText.{greater_conflicts}
+use Rattle.kernel_text.specs.KernelText.{format_of, greater_conflicts}
 
 -- each package has a name and a version of their grammars
 abbrev pub AreNamedPackages : List PackageFacts → Type 0
@@ -35,13 +36,25 @@ packages_data packages members = list_data (map (λ i. package_data (stanza_at p
 abbrev pub clauses_data : List (List ℕ) → Data
 clauses_data clauses = list_data (map numbers_data clauses)
 
-abbrev pub class_data : List ℕ → List PackageFacts → List ℕ → List (List ℕ) → Data
-class_data conflicts packages members clauses =
-    object (member (codes "against") (numbers_data conflicts) (member (codes "members") (packages_data packages members) (member (codes "needs") (clauses_data clauses) no_members)))
+-- whether the class is held, where it is told
+abbrev pub with_mark : Option Bool → Members → Members
+with_mark None rest = rest
+with_mark (Some held) rest = member (codes "held") (boolean held) rest
 
-abbrev pub data_of_class : Repository → List PackageFacts → List (List ℕ) → ℕ → Data
-data_of_class R packages table n = class_data (greater_conflicts R n) packages (listed_for table n) (clauses_of R n)
+abbrev pub class_data : List ℕ → Option Bool → List PackageFacts → List ℕ → List (List ℕ) → Data
+class_data conflicts mark packages members clauses =
+    object
+    (member (codes "against") (numbers_data conflicts) (with_mark mark (member (codes "members") (packages_data packages members) (member (codes "needs") (clauses_data clauses) no_members))))
 
-abbrev pub kernel_data : Repository → List PackageFacts → List (List ℕ) → ℕ → Data
-kernel_data R packages table size =
-    object (member (codes "classes") (list_data (map (data_of_class R packages table) (numbers size 0))) (member (codes "format") (number (unsigned 1)) no_members))
+-- by flags, where classes may be held
+abbrev pub mark_of_class : Bool → List Bool → ℕ → Option Bool
+mark_of_class hold flags n = if hold then Some (flag flags n) else None
+
+abbrev pub data_of_class : Repository → List PackageFacts → List (List ℕ) → Option Bool → ℕ → Data
+data_of_class R packages table mark n = class_data (greater_conflicts R n) mark packages (listed_for table n) (clauses_of R n)
+
+abbrev pub kernel_data : Bool → Repository → List PackageFacts → List (List ℕ) → List Bool → ℕ → Data
+kernel_data hold R packages table flags size =
+    object
+    (member (codes "classes") (list_data (map (λ n. data_of_class R packages table (mark_of_class hold flags n) n) (numbers size 0)))
+    (member (codes "format") (number (unsigned (format_of hold))) no_members))

@@ -1,9 +1,10 @@
 -- The JSON of a kernel: an object of the classes and the number of the format. Keys stand in the order of their bytes, there is
--- no white space, and a line feed follows.
-use Rattle.std.specs.Prelude.{ℕ, List, [], ◌∷◌, ◌++◌, length, map, codes}
+-- no white space, and a line feed follows. In format 2 each class tells whether it is held.
+use Rattle.std.specs.Prelude.{ℕ, Bool, true, false, eqb, List, [], ◌∷◌, ◌++◌, length, map, codes, Option, Some, None, if◌then◌else◌}
 use Rattle.std.specs.Fmt.{decimal}
 use Rattle.row_book.specs.Clauses.{numbers}
 use Rattle.row_book.specs.Repository.{Repository, clauses_of}
+use Rattle.row_book.specs.Sets.{has}
 use Rattle.kernel_text.specs.declared.member.Member.{Member}
 use Rattle.kernel_text.specs.KernelText.{greater_conflicts, members_of}
 
@@ -35,13 +36,29 @@ package_json name version = list_json (quoted_text name ∷ (quoted_text version
 abbrev pub member_json : Member → List ℕ
 member_json m = package_json m.name m.version
 
--- an object of the three parts of a class
-abbrev pub object_json : List ℕ → List ℕ → List ℕ → List ℕ
-object_json against members needs = codes "{\"against\":" ++ (against ++ (codes ",\"members\":" ++ (members ++ (codes ",\"needs\":" ++ (needs ++ codes "}")))))
+-- in format 2 whether a class is held
+abbrev pub held_mark : ℕ → List ℕ → ℕ → Option Bool
+held_mark format held n = if eqb format 2 then Some (has held n) else None
 
--- a class: the greater classes that it conflicts with, its packages and its clauses
-unfoldable pub class_json : Repository → List Member → ℕ → List ℕ
-class_json R members n = object_json (numbers_json (greater_conflicts R n)) (list_json (map member_json (members_of members n))) (list_json (map numbers_json (clauses_of R n)))
+abbrev pub bool_json : Bool → List ℕ
+bool_json true = codes "true"
+bool_json false = codes "false"
 
-unfoldable pub kernel_json : Repository → List Member → List ℕ
-kernel_json R members = (codes "{\"classes\":" ++ (list_json (map (class_json R members) (numbers (length R.clauses) 0)) ++ codes ",\"format\":1}")) ++ codes "\n"
+-- the key that tells it, where it is told
+abbrev pub mark_json : Option Bool → List ℕ
+mark_json None = []
+mark_json (Some held) = codes ",\"held\":" ++ bool_json held
+
+-- an object of the parts of a class
+abbrev pub object_json : List ℕ → Option Bool → List ℕ → List ℕ → List ℕ
+object_json against mark members needs =
+    codes "{\"against\":" ++ (against ++ (mark_json mark ++ (codes ",\"members\":" ++ (members ++ (codes ",\"needs\":" ++ (needs ++ codes "}"))))))
+
+-- a class: the greater classes that it conflicts with, in format 2 whether it is held, its packages and its clauses
+unfoldable pub class_json : ℕ → Repository → List Member → List ℕ → ℕ → List ℕ
+class_json format R members held n =
+    object_json (numbers_json (greater_conflicts R n)) (held_mark format held n) (list_json (map member_json (members_of members n))) (list_json (map numbers_json (clauses_of R n)))
+
+unfoldable pub kernel_json : ℕ → Repository → List Member → List ℕ → List ℕ
+kernel_json format R members held =
+    (codes "{\"classes\":" ++ (list_json (map (class_json format R members held) (numbers (length R.clauses) 0)) ++ (codes ",\"format\":" ++ (decimal format ++ codes "}")))) ++ codes "\n"

@@ -1,4 +1,4 @@
--- The lines of a kernel text, format 1, and the bytes of each kind of line.
+-- The lines of a kernel text, formats 1 and 2, and the bytes of each kind of line.
 use Rattle.std.specs.Prelude.{ℕ, ◌==◌, List, [], ◌∷◌, ◌++◌, codes, if◌then◌else◌}
 use Rattle.std.specs.Fmt.{decimal}
 use Rattle.std.specs.List.{flat_map, onto_first}
@@ -8,12 +8,14 @@ abbrev pub lines_of : List ℕ → List (List ℕ)
 lines_of [] = []
 lines_of (b ∷ bs) = if b == 10 then (b ∷ []) ∷ lines_of bs else onto_first b (lines_of bs)
 
--- a line of a kernel text by what it says: the first line; the number of a class; a member by its name and version; a
--- clause of the class by its numbers; the number of a conflicting class; and the numbers of class and member lines
+-- a line of a kernel text by what it says: the first line, with the number of the format; the number of a class; a member
+-- by its name and version; that the class is held; a clause of the class by its numbers; the number of a conflicting class;
+-- and the numbers of class and member lines
 pub data KernelLine : Type 0 where
-  HeadLine : KernelLine
+  HeadLine : ℕ → KernelLine
   ClassLine : ℕ → KernelLine
   MemberLine : List ℕ → List ℕ → KernelLine
+  HeldLine : KernelLine
   NeedsLine : List ℕ → KernelLine
   AgainstLine : ℕ → KernelLine
   EndLine : ℕ → ℕ → KernelLine
@@ -28,9 +30,10 @@ behind_space n = 32 ∷ decimal n
 
 -- the bytes of a line
 unfoldable pub line_text : KernelLine → List ℕ
-line_text HeadLine = with_feed (codes "coinst-kernel 1")
+line_text (HeadLine format) = with_feed (codes "coinst-kernel" ++ behind_space format)
 line_text (ClassLine n) = with_feed (codes "class" ++ behind_space n)
 line_text (MemberLine name version) = with_feed (codes "member " ++ name ++ 32 ∷ version)
+line_text HeldLine = with_feed (codes "held")
 line_text (NeedsLine clause) = with_feed (codes "needs" ++ flat_map behind_space clause)
 line_text (AgainstLine m) = with_feed (codes "against" ++ behind_space m)
 line_text (EndLine classes members) = with_feed (codes "end" ++ behind_space classes ++ behind_space members)

@@ -1,4 +1,4 @@
--- What a kernel text is read as: the grammar of the format.
+-- What a kernel text is read as: the grammar of the formats.
 use Rattle.std.specs.Prelude.{◌≡◌, ℕ, ◌<◌, eqb, List, [], ◌∷◌, length, map, filter, Some}
 use Rattle.row_book.specs.Book.{lists_of_pairs}
 use Rattle.row_book.specs.Clauses.{numbers}
@@ -32,23 +32,28 @@ pub record IsInRange (t : Reading) : Type 0 where
   pub conflicts : (pair : Pair) → In pair t.conflicts → pair.high < t.classes
 
 -- The lines of the text are allowed, one behind the other, up to an end line with the right numbers; all numbers
--- are of classes; and the text stands for the repository and the members that its lines say.
-pub record KernelReads (text : List ℕ) (R : Repository) (members : List Member) : Type 0 where
+-- are of classes; and the text stands for the format, the repository, the members and the held classes that its lines say.
+pub record KernelReads (text : List ℕ) (format : ℕ) (R : Repository) (members : List Member) (held : List ℕ) : Type 0 where
   pub reading : Reading
   pub given : LinesGive empty_reading (lines_of text) reading
   pub ended : IsEnded reading
   pub in_range : IsInRange reading
+  pub of_format : format ≡ reading.format
   pub repository : R ≡ repository_of_reading reading
   pub member_list : members ≡ reading.members
+  pub held_list : held ≡ reading.held
 
--- the classes of a kernel and their packages
+-- the format of a text, the classes of its kernel, their packages, and the held ones
 pub record KernelContent : Type 0 where
+  pub format : ℕ
   pub repository : Repository
   pub members : List Member
+  pub held : List ℕ
 
-abbrev pub content : Repository → List Member → KernelContent
-content R members = record { repository = R; members = members }
+abbrev pub content : ℕ → Repository → List Member → List ℕ → KernelContent
+content format R members held = record { format = format; repository = R; members = members; held = held }
 
 -- two readings of the text are one
 abbrev pub HasOneReading : List ℕ → Type 0
-HasOneReading text = (R S : Repository) (ms ns : List Member) → KernelReads text R ms → KernelReads text S ns → (R ≡ S) × (ms ≡ ns)
+HasOneReading text = (f g : ℕ) (R S : Repository) (ms ns : List Member) (hs is : List ℕ) → KernelReads text f R ms hs → KernelReads text g S ns is →
+    (f ≡ g) × (R ≡ S) × (ms ≡ ns) × (hs ≡ is)

@@ -15,7 +15,7 @@ use Rattle.kernel_text.specs.declared.member.Member.{Member}
 use Rattle.kernel_text.specs.Images.{image_of, is_unknown}
 use Rattle.kernel_text.specs.KernelFaults.{IsFault}
 use Rattle.kernel_text.specs.KernelReads.{HasOneReading, KernelReads}
-use Rattle.kernel_text.specs.KernelText.{IsWritable, kernel_text}
+use Rattle.kernel_text.specs.KernelText.{FitsFormat, IsWritable, kernel_text}
 use Rattle.kernel_text.specs.Members.{kernel_members}
 use Rattle.kernel_text.specs.Reading.{number_limit}
 
@@ -25,8 +25,8 @@ TextsAreReadOnce = (text : List ℕ) → HasOneReading text
 
 -- a text is read as a kernel exactly where the format can write the kernel and the text is the one that is written for it
 abbrev pub ReadIsWritten : Type 0
-ReadIsWritten = (text : List ℕ) (R : Repository) (members : List Member) →
-    (KernelReads text R members ↔ (IsWritable R members × (text ≡ kernel_text R members)))
+ReadIsWritten = (text : List ℕ) (format : ℕ) (R : Repository) (members : List Member) (held : List ℕ) →
+    (KernelReads text format R members held ↔ (IsWritable format R members held × (text ≡ kernel_text format R members held)))
 
 -- a fault of the text itself
 abbrev pub IsFaultOf : List ℕ → KernelFault → Type 0
@@ -34,16 +34,16 @@ IsFaultOf text fault = (fault ≡ Memory → ⊥) × IsFault text fault
 
 -- the text is that of a kernel or has a fault, not both, and one fault at most
 pub record IsJudged (text : List ℕ) : Type 0 where
-  pub either : ((R : Repository) × (members : List Member) × KernelReads text R members) ⊎ ((fault : KernelFault) × IsFaultOf text fault)
-  pub apart : (R : Repository) (members : List Member) (fault : KernelFault) → KernelReads text R members → IsFaultOf text fault → ⊥
+  pub either : ((format : ℕ) × (R : Repository) × (members : List Member) × (held : List ℕ) × KernelReads text format R members held) ⊎ ((fault : KernelFault) × IsFaultOf text fault)
+  pub apart : (format : ℕ) (R : Repository) (members : List Member) (held : List ℕ) (fault : KernelFault) → KernelReads text format R members held → IsFaultOf text fault → ⊥
   pub once : (first second : KernelFault) → IsFaultOf text first → IsFaultOf text second → first ≡ second
 
 abbrev pub TextsAreJudged : Type 0
 TextsAreJudged = (text : List ℕ) → IsJudged text
 
 -- R is sound, the clauses of a class are in order and do not hold the class; the packages are those of an index without a
--- fault; each of them is in one of the classes, and each class has one
-pub record IsKernelOf (R : Repository) (packages : List PackageFacts) (class_of : List ℕ) : Type 0 where
+-- fault; each of them is in one of the classes, and each class has one; the held classes are ones that the format can tell
+pub record IsKernelOf (format : ℕ) (R : Repository) (packages : List PackageFacts) (class_of held : List ℕ) : Type 0 where
   pub sound : SoundRepository R
   pub order : (n : ℕ) → InOrder (clauses_of R n)
   pub apart : (n : ℕ) (c : List ℕ) → In c (clauses_of R n) → In n c → ⊥
@@ -52,11 +52,12 @@ pub record IsKernelOf (R : Repository) (packages : List PackageFacts) (class_of 
   pub each : length class_of ≡ length packages
   pub inside : (class : ℕ) → In class class_of → class < length R.clauses
   pub populated : (class : ℕ) → class < length R.clauses → In class class_of
+  pub fits : FitsFormat format (length R.clauses) held
 
 -- a kernel with the packages of its classes is one that the format can write
 abbrev pub KernelsAreWritable : Type 0
-KernelsAreWritable = (R : Repository) (packages : List PackageFacts) (class_of : List ℕ) → IsKernelOf R packages class_of →
-    IsWritable R (kernel_members packages class_of (length R.clauses))
+KernelsAreWritable = (format : ℕ) (R : Repository) (packages : List PackageFacts) (class_of held : List ℕ) → IsKernelOf format R packages class_of held →
+    IsWritable format R (kernel_members packages class_of (length R.clauses)) held
 
 -- of so many classes those of the packages that a goal names, ascending
 abbrev pub classes_named : List PackageFacts → List ℕ → ℕ → Goal → List ℕ
@@ -64,10 +65,11 @@ classes_named packages class_of size goal = filter (λ n. list_any (λ i. eqb n 
 
 -- The text that is written for a kernel with the packages of its classes is read as this kernel; in it a goal names the
 -- classes of the packages that it names in the index, and no package exactly where it names none in the index.
-pub record IsReadBack (R : Repository) (packages : List PackageFacts) (class_of : List ℕ) : Type 0 where
-  pub reads : KernelReads (kernel_text R (kernel_members packages class_of (length R.clauses))) R (kernel_members packages class_of (length R.clauses))
+pub record IsReadBack (format : ℕ) (R : Repository) (packages : List PackageFacts) (class_of held : List ℕ) : Type 0 where
+  pub reads : KernelReads (kernel_text format R (kernel_members packages class_of (length R.clauses)) held) format R (kernel_members packages class_of (length R.clauses)) held
   pub images : (goal : Goal) → image_of (kernel_members packages class_of (length R.clauses)) (length R.clauses) goal ≡ classes_named packages class_of (length R.clauses) goal
   pub unknown : (goal : Goal) → is_unknown (kernel_members packages class_of (length R.clauses)) goal ≡ eqb (length (packages_named packages goal)) 0
 
 abbrev pub WrittenIsReadBack : Type 0
-WrittenIsReadBack = (R : Repository) (packages : List PackageFacts) (class_of : List ℕ) → IsKernelOf R packages class_of → IsReadBack R packages class_of
+WrittenIsReadBack = (format : ℕ) (R : Repository) (packages : List PackageFacts) (class_of held : List ℕ) → IsKernelOf format R packages class_of held →
+    IsReadBack format R packages class_of held

@@ -8,16 +8,17 @@ use Rattle.kernel_text.specs.declared.reader.Clause.{Clause}
 use Rattle.kernel_text.specs.declared.reader.LastLine.{LastLine}
 use Rattle.kernel_text.specs.declared.reader.LastLine.TheVariants as last
 use Rattle.kernel_text.specs.declared.reader.Reader.{Reader}
-use Rattle.kernel_text.specs.KernelLines.{KernelLine, HeadLine, ClassLine, MemberLine, NeedsLine, AgainstLine, EndLine, lines_of, line_text}
+use Rattle.kernel_text.specs.KernelLines.{KernelLine, HeadLine, ClassLine, MemberLine, HeldLine, NeedsLine, AgainstLine, EndLine, lines_of, line_text}
 use Rattle.kernel_text.specs.KernelReads.{IsEnded, IsInRange, LinesGive}
 use Rattle.kernel_text.specs.Reading.{Reading, ClassClause, empty_reading, with_line, IsAllowed, IsNamed}
 
 -- the kind of the last line, with what of it bears on the next one
 abbrev pub kind_of_last : Option KernelLine → LastLine
 kind_of_last None = last.Nothing
-kind_of_last (Some HeadLine) = last.Head
+kind_of_last (Some (HeadLine format)) = last.Head
 kind_of_last (Some (ClassLine n)) = last.Class
 kind_of_last (Some (MemberLine name version)) = last.Member
+kind_of_last (Some HeldLine) = last.Held
 kind_of_last (Some (NeedsLine clause)) = last.Needs
 kind_of_last (Some (AgainstLine m)) = last.Against m
 kind_of_last (Some (EndLine classes members)) = last.End classes members
@@ -26,6 +27,7 @@ kind_of_last (Some (EndLine classes members)) = last.End classes members
 abbrev pub may_begin : LastLine → Bool
 may_begin last.Head = true
 may_begin last.Member = true
+may_begin last.Held = true
 may_begin last.Needs = true
 may_begin (last.Against m) = true
 may_begin line = false
@@ -36,15 +38,22 @@ may_add_member last.Class = true
 may_add_member last.Member = true
 may_add_member line = false
 
+-- whether that the class is held may
+abbrev pub may_add_held : LastLine → Bool
+may_add_held last.Member = true
+may_add_held line = false
+
 -- whether a clause may, behind the previous one
 abbrev pub may_add_clause : LastLine → List ℕ → List ℕ → Bool
 may_add_clause last.Member previous clause = true
+may_add_clause last.Held previous clause = true
 may_add_clause last.Needs previous clause = comes_before previous clause
 may_add_clause line previous clause = false
 
 -- whether a conflict with the class may
 abbrev pub may_add_conflict : LastLine → ℕ → Bool
 may_add_conflict last.Member m = true
+may_add_conflict last.Held m = true
 may_add_conflict last.Needs m = true
 may_add_conflict (last.Against lesser) m = nat_lt lesser m
 may_add_conflict line m = false
@@ -68,9 +77,11 @@ pub record AreKeysOf (members : List Member) (keys : List (List ℕ)) : Type 0 w
 pub record Holds (reader : Reader) (t : Reading) : Type 0 where
   pub last : reader.last ≡ kind_of_last t.last
   pub previous : (clause : List ℕ) → t.last ≡ Some (NeedsLine clause) → reader.previous ≡ clause
+  pub of_format : reader.format ≡ t.format
   pub classes : reader.classes ≡ t.classes
   pub members : reader.members ≡ t.members
   pub keyed : AreKeysOf reader.members reader.keys
+  pub held : reader.held ≡ t.held
   pub clauses : map entry_of reader.clauses ≡ t.clauses
   pub conflicts : reader.conflicts ≡ t.conflicts
 

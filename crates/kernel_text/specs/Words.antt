@@ -4,9 +4,9 @@ use Rattle.std.specs.Fmt.{decimal}
 use Rattle.std.specs.List.{flat_map, list_all}
 use Rattle.row_book.specs.Sets.{In}
 use Rattle.kernel_text.specs.declared.content.LineContent.{LineContent}
-use Rattle.kernel_text.specs.declared.content.LineContent.TheVariants.{Head, Class, Member, Needs, Against, End}
-use Rattle.kernel_text.specs.KernelLines.{KernelLine, HeadLine, ClassLine, MemberLine, NeedsLine, AgainstLine, EndLine, behind_space, line_text}
-use Rattle.kernel_text.specs.Reading.{IsNamed, number_limit}
+use Rattle.kernel_text.specs.declared.content.LineContent.TheVariants.{Head, Class, Member, Held, Needs, Against, End}
+use Rattle.kernel_text.specs.KernelLines.{KernelLine, HeadLine, ClassLine, MemberLine, HeldLine, NeedsLine, AgainstLine, EndLine, behind_space, line_text}
+use Rattle.kernel_text.specs.Reading.{IsFormat, IsNamed, number_limit}
 
 -- behind a word there is nothing, or a space and the rest
 abbrev pub behind_word : Option (List ℕ) → List ℕ
@@ -24,9 +24,10 @@ pub record IsCut (text first : List ℕ) (rest : Option (List ℕ)) : Type 0 whe
 
 -- the first word of a line
 abbrev pub first_word : KernelLine → List ℕ
-first_word HeadLine = codes "coinst-kernel"
+first_word (HeadLine format) = codes "coinst-kernel"
 first_word (ClassLine n) = codes "class"
 first_word (MemberLine name version) = codes "member"
+first_word HeldLine = codes "held"
 first_word (NeedsLine clause) = codes "needs"
 first_word (AgainstLine m) = codes "against"
 first_word (EndLine classes members) = codes "end"
@@ -37,27 +38,30 @@ numbers_text [] = None
 numbers_text (x ∷ xs) = Some (decimal x ++ flat_map behind_space xs)
 
 abbrev pub other_words : KernelLine → Option (List ℕ)
-other_words HeadLine = Some (codes "1")
+other_words (HeadLine format) = Some (decimal format)
 other_words (ClassLine n) = Some (decimal n)
 other_words (MemberLine name version) = Some (name ++ 32 ∷ version)
+other_words HeldLine = None
 other_words (NeedsLine clause) = numbers_text clause
 other_words (AgainstLine m) = Some (decimal m)
 other_words (EndLine classes members) = Some (decimal classes ++ 32 ∷ decimal members)
 
--- its numbers are below the limit, and its name and its version are such
+-- its format is one, its numbers are below the limit, and its name and its version are such
 abbrev pub IsWellFormed : KernelLine → Type 0
-IsWellFormed HeadLine = Unit {0}
+IsWellFormed (HeadLine format) = IsFormat format
 IsWellFormed (ClassLine n) = n < number_limit
 IsWellFormed (MemberLine name version) = IsNamed name version
+IsWellFormed HeldLine = Unit {0}
 IsWellFormed (NeedsLine clause) = (l : ℕ) → In l clause → l < number_limit
 IsWellFormed (AgainstLine m) = m < number_limit
 IsWellFormed (EndLine classes members) = (classes < number_limit) × (members < number_limit)
 
 -- what was read of a line
 abbrev pub line_of_content : LineContent → KernelLine
-line_of_content Head = HeadLine
+line_of_content (Head format) = HeadLine format
 line_of_content (Class n) = ClassLine n
 line_of_content (Member name version) = MemberLine name version
+line_of_content Held = HeldLine
 line_of_content (Needs clause) = NeedsLine clause
 line_of_content (Against m) = AgainstLine m
 line_of_content (End classes members) = EndLine classes members

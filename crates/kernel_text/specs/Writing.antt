@@ -1,14 +1,15 @@
 -- What the parts of the writer put behind a text, and the packages of each class by their numbers.
-use Rattle.std.specs.Prelude.{◌≡◌, ℕ, ◌<◌, eqb, List, ◌++◌, length, filter, slice_index}
+use Rattle.std.specs.Prelude.{◌≡◌, ℕ, ◌<◌, Bool, eqb, List, ◌++◌, length, filter, slice_index}
 use Rattle.std.specs.List.{flat_map}
 use Rattle.relation_fields.specs.declared.packages.PackageFacts.{PackageFacts}
 use Rattle.row_book.specs.Book.{listed_for}
 use Rattle.row_book.specs.Clauses.{numbers}
+use Rattle.row_book.specs.Flags.{flag}
 use Rattle.row_book.specs.Repository.{Repository, clauses_of}
-use Rattle.row_book.specs.Sets.{In}
+use Rattle.row_book.specs.Sets.{In, has}
 use Rattle.repo_model.specs.Stanzas.{stanza_at}
 use Rattle.kernel_text.specs.KernelLines.{KernelLine, ClassLine, MemberLine, NeedsLine, AgainstLine, line_text}
-use Rattle.kernel_text.specs.KernelText.{greater_conflicts}
+use Rattle.kernel_text.specs.KernelText.{greater_conflicts, held_lines}
 
 -- a line for each element
 abbrev pub lines_text : {A : Type 0} → (A → KernelLine) → List A → List ℕ
@@ -17,11 +18,16 @@ lines_text line xs = flat_map (λ x. line_text (line x)) xs
 abbrev pub line_of_package : PackageFacts → KernelLine
 line_of_package facts = MemberLine facts.name facts.version
 
--- the block of a class, of which the table has the packages by their numbers
-unfoldable pub block_text : Repository → List PackageFacts → List (List ℕ) → ℕ → List ℕ
-block_text R packages table n =
+-- the block of a class, of which the table has the packages by their numbers, and which is held or not
+unfoldable pub block_text : Repository → List PackageFacts → List (List ℕ) → Bool → ℕ → List ℕ
+block_text R packages table held n =
     line_text (ClassLine n) ++ (lines_text (λ i. line_of_package (stanza_at packages i)) (listed_for table n)
-    ++ (lines_text NeedsLine (clauses_of R n) ++ lines_text AgainstLine (greater_conflicts R n)))
+    ++ (flat_map line_text (held_lines held) ++ (lines_text NeedsLine (clauses_of R n) ++ lines_text AgainstLine (greater_conflicts R n))))
+
+-- the flags tell of each of so many classes whether it is one of the held
+pub record TellHeld (flags : List Bool) (held : List ℕ) (size : ℕ) : Type 0 where
+  pub count : length flags ≡ size
+  pub each : (n : ℕ) → n < size → flag flags n ≡ has held n
 
 -- the numbers of the table are of packages
 abbrev pub OfPackages : List (List ℕ) → List PackageFacts → Type 0

@@ -5,12 +5,14 @@ use deb_version::{Bytes, Version};
 /// A line by what it says.
 #[derive(Drop)]
 pub(crate) enum LineContent {
-    /// The first line of format 1.
-    Head,
+    /// The first line of a format.
+    Head { format: u32 },
     /// The class with the number begins.
     Class { number: u32 },
     /// A member of the class.
     Member { name: Bytes, version: Version },
+    /// The class is held.
+    Held,
     /// A clause of the class.
     Needs { clause: NumList },
     /// The class conflicts with one of a greater number.

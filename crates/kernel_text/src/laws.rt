@@ -1,7 +1,7 @@
 //! Laws over the definitions that the contracts of kernel texts cite; these functions do nothing.
 ghost use Rattle.kernel_text.specs.Laws.{KernelsAreWritable, ReadIsWritten, TextsAreJudged, TextsAreReadOnce, WrittenIsReadBack};
 
-/// A text is read as one repository and one list of members at most.
+/// A text is read as one format, one repository, one list of members and one list of held classes at most.
 pub fn texts_are_read_once()
     ensures { TextsAreReadOnce }
 {}
@@ -12,7 +12,8 @@ pub fn read_is_written()
     ensures { ReadIsWritten }
 {}
 
-/// A sound repository with the packages of its classes, as an extracted kernel has them, is one that the format can write.
+/// A sound repository with the packages of its classes and the held ones, as an extracted kernel has them, is one that the
+/// format can write.
 pub fn kernels_are_writable()
     ensures { KernelsAreWritable }
 {}

@@ -1,4 +1,4 @@
-//! The text of a kernel, format 1: how it is written, and the grammar by which it is read. The functions of `laws` do
+//! The text of a kernel, formats 1 and 2: how it is written, and the grammar by which it is read. The functions of `laws` do
 //! nothing, the contract of each is one law.
 #![tactic(auto)]
 
@@ -9,6 +9,7 @@ mod clause_shape;
 mod content;
 pub mod fault;
 mod find_stray;
+mod holding;
 pub mod images;
 mod laws;
 mod line_end;

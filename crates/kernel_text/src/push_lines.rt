@@ -5,7 +5,8 @@ ghost use Rattle.std.specs.List.{flat_map};
 ghost use Rattle.clause_pool.specs.Interned.{clauses_at, OfPool};
 ghost use Rattle.row_book.specs.Sets.{In};
 ghost use Rattle.repo_model.specs.Stanzas.{stanza_at};
-ghost use Rattle.kernel_text.specs.KernelLines.{AgainstLine, behind_space, ClassLine, EndLine, HeadLine, line_text, NeedsLine};
+ghost use Rattle.kernel_text.specs.KernelLines.{AgainstLine, behind_space, ClassLine, EndLine, HeadLine, HeldLine, line_text, NeedsLine};
+ghost use Rattle.kernel_text.specs.KernelText.{held_lines};
 ghost use Rattle.kernel_text.specs.Writing.{line_of_package, lines_text};
 
 use clause_pool::{ClauseId, Pool};
@@ -33,12 +34,14 @@ fn push_numbers(out: &mut Vec<u8>, numbers: &[u32]) -> Result<(), AllocError>
     Ok(())
 }
 
-/// Puts the first line behind the text.
-#[tactic(auto, unfolding(crate::specs::KernelLines::line_text))]
-pub(crate) fn push_head(out: &mut Vec<u8>) -> Result<(), AllocError>
-    ensures { OnOk result (out.new.items ≡ out.old.items ++ line_text HeadLine) }
+/// Puts the first line of the format behind the text.
+#[tactic(auto, using(crate::proofs::Pieces::appended), unfolding(crate::specs::KernelLines::line_text))]
+pub(crate) fn push_head(out: &mut Vec<u8>, format: u32) -> Result<(), AllocError>
+    ensures { OnOk result (out.new.items ≡ out.old.items ++ line_text (HeadLine format)) }
 {
-    out.extend_from_slice(b"coinst-kernel 1\n")
+    out.extend_from_slice(b"coinst-kernel")?;
+    push_number(out, format)?;
+    out.extend_from_slice(b"\n")
 }
 
 /// Puts the line that begins a class behind the text.
@@ -76,6 +79,18 @@ fn push_member_line(out: &mut Vec<u8>, member: &PackageFacts) -> Result<(), Allo
     out.extend_from_slice(b" ")?;
     out.extend_from_slice(member.version.text())?;
     out.extend_from_slice(b"\n")
+}
+
+/// Puts the line of a held class behind the text, where the class is held.
+#[tactic(auto, unfolding(crate::specs::KernelLines::line_text))]
+pub(crate) fn push_held_line(out: &mut Vec<u8>, held: bool) -> Result<(), AllocError>
+    ensures { OnOk result (out.new.items ≡ out.old.items ++ flat_map line_text (held_lines held)) }
+{
+    if held {
+        out.extend_from_slice(b"held\n")
+    } else {
+        Ok(())
+    }
 }
 
 /// Puts the lines of the clauses with these ids behind the text.

@@ -1,7 +1,8 @@
 //! Reading a line of a kernel text.
-ghost use Rattle.std.specs.Prelude.{◌≡◌, true, false, List, ℕ, Some, codes, IfOk, MatchOption};
+ghost use Rattle.std.specs.Prelude.{◌≡◌, ◌↔◌, true, false, List, ℕ, Some, None, codes, IfOk, IsTrue, MatchOption};
 ghost use Rattle.deb_version.specs.Grammar.{is_version};
 ghost use Rattle.std.specs.Option.{option_copied};
+ghost use Rattle.kernel_text.specs.Reading.{IsFormat};
 ghost use Rattle.kernel_text.specs.Words.{IsCut, LineIsRead, NumbersRead, WordsAreRead};
 
 use crate::content::LineContent;
@@ -44,12 +45,24 @@ fn read_words(
         return read_clause(alloc, rest);
     }
     let Some(rest) = rest else {
-        return Ok(None);
+        return Ok(read_lone(word));
     };
     if word == b"member".as_slice() {
         return read_member(alloc, rest);
     }
     Ok(read_numbered(word, rest))
+}
+
+// A line of one word that is no clause.
+fn read_lone(word: &[u8]) -> Option<LineContent>
+    requires { word.now ≡ codes "needs" → ⊥ }
+    ensures { WordsAreRead word.now None result }
+{
+    if word == b"held".as_slice() {
+        Some(LineContent::Held)
+    } else {
+        None
+    }
 }
 
 // A clause from the numbers behind its first word.
@@ -135,11 +148,21 @@ fn read_numbered(word: &[u8], rest: &[u8]) -> Option<LineContent>
 fn read_head(rest: &[u8]) -> Option<LineContent>
     ensures { (word : List ℕ) → word ≡ codes "coinst-kernel" → WordsAreRead word (Some rest.now) result }
 {
-    if rest == b"1".as_slice() {
-        Some(LineContent::Head)
+    let Some(format) = read_number(rest) else {
+        return None;
+    };
+    if is_format(format) {
+        Some(LineContent::Head { format })
     } else {
         None
     }
+}
+
+// Whether there is a format with the number.
+fn is_format(number: u32) -> bool
+    ensures { IsTrue result ↔ IsFormat number }
+{
+    number == 1 || number == 2
 }
 
 // The end line from its two numbers.

@@ -9,18 +9,73 @@ use std::test::Fail;
 const SMALL: &str =
     "coinst-kernel 1\nclass 0\nmember a 1\nneeds 1\nclass 1\nmember b 1\nagainst 2\nclass 2\nmember c 1\nmember d 1\nend 3 4\n";
 
-/// The rows: a text with the numbers of its classes and members.
-const KERNELS: [(&str, u32, usize); 3] = [
-    ("coinst-kernel 1\nend 0 0\n", 0, 0),
-    (SMALL, 3, 4),
-    (TWO_VERSIONS, 3, 3),
+/// A kernel of eight classes, of which one is held, in format 2, and the same with the first line of format 1.
+const HELD: &str =
+    "coinst-kernel 2\nclass 0\nmember a 1\nneeds 1\nneeds 4\nclass 1\nmember m 1\nheld\nneeds 2\nneeds 3\nclass 2\nmember b 1\nagainst 5\nclass 3\nmember c 1\nagainst 6\nclass 4\nmember g 1\nagainst 7\nclass 5\nmember e 1\nclass 6\nmember f 1\nclass 7\nmember h 1\nend 8 8\n";
+
+const HELD_IN_FORMAT_1: &str =
+    "coinst-kernel 1\nclass 0\nmember a 1\nneeds 1\nneeds 4\nclass 1\nmember m 1\nheld\nneeds 2\nneeds 3\nclass 2\nmember b 1\nagainst 5\nclass 3\nmember c 1\nagainst 6\nclass 4\nmember g 1\nagainst 7\nclass 5\nmember e 1\nclass 6\nmember f 1\nclass 7\nmember h 1\nend 8 8\n";
+
+/// The rows: a text with its format, the numbers of its classes and members, and its held classes.
+const KERNELS: [(&str, u32, u32, usize, &[u32]); 7] = [
+    ("coinst-kernel 1\nend 0 0\n", 1, 0, 0, &[]),
+    ("coinst-kernel 2\nend 0 0\n", 2, 0, 0, &[]),
+    (SMALL, 1, 3, 4, &[]),
+    (TWO_VERSIONS, 1, 3, 3, &[]),
+    (HELD, 2, 8, 8, &[1]),
+    (
+        "coinst-kernel 2\nclass 0\nmember a 1\nneeds\nend 1 1\n",
+        2,
+        1,
+        1,
+        &[],
+    ),
+    (
+        "coinst-kernel 2\nclass 0\nmember a 1\nmember b 1\nheld\nagainst 1\nclass 1\nmember c 1\nheld\nend 2 3\n",
+        2,
+        2,
+        3,
+        &[0, 1],
+    ),
 ];
 
 /// The rows: a text with its fault.
-const FAULTS: [(&str, KernelFault); 30] = [
+const FAULTS: [(&str, KernelFault); 41] = [
     ("", KernelFault::End),
     ("\n", KernelFault::Line { line: 1 }),
-    ("coinst-kernel 2\n", KernelFault::Line { line: 1 }),
+    ("coinst-kernel 0\n", KernelFault::Line { line: 1 }),
+    ("coinst-kernel 3\n", KernelFault::Line { line: 1 }),
+    ("coinst-kernel 02\n", KernelFault::Line { line: 1 }),
+    ("coinst-kernel 2\n", KernelFault::End),
+    (HELD_IN_FORMAT_1, KernelFault::Line { line: 8 }),
+    (
+        "coinst-kernel 2\nheld\nend 0 0\n",
+        KernelFault::Line { line: 2 },
+    ),
+    (
+        "coinst-kernel 2\nclass 0\nheld\nmember a 1\nend 1 1\n",
+        KernelFault::Line { line: 3 },
+    ),
+    (
+        "coinst-kernel 2\nclass 0\nmember a 1\nheld\nheld\nend 1 1\n",
+        KernelFault::Line { line: 5 },
+    ),
+    (
+        "coinst-kernel 2\nclass 0\nmember a 1\nheld\nmember b 1\nend 1 2\n",
+        KernelFault::Line { line: 5 },
+    ),
+    (
+        "coinst-kernel 2\nclass 0\nmember a 1\nneeds\nheld\nend 1 1\n",
+        KernelFault::Line { line: 5 },
+    ),
+    (
+        "coinst-kernel 2\nclass 0\nmember a 1\nagainst 1\nheld\nclass 1\nmember b 1\nend 2 2\n",
+        KernelFault::Line { line: 5 },
+    ),
+    (
+        "coinst-kernel 2\nclass 0\nmember a 1\nheld \nend 1 1\n",
+        KernelFault::Line { line: 4 },
+    ),
     ("coinst-kernel 1", KernelFault::Line { line: 1 }),
     ("coinst-kernel 1\n", KernelFault::End),
     ("coinst-kernel 1\nend 0 0", KernelFault::Line { line: 2 }),
@@ -133,10 +188,12 @@ fn read(alloc: Global, text: &[u8]) -> Result<StoredKernel, KernelFault> {
 
 #[test]
 fn texts_are_read(rt: HostRuntime) -> Result<(), Fail> {
-    for (text, classes, members) in KERNELS {
+    for (text, format, classes, members, held) in KERNELS {
         let stored = read(rt.alloc(), text.as_bytes())?;
+        assert_eq!(rt; stored.format, format);
         assert_eq!(rt; stored.book.size(), classes);
         assert_eq!(rt; stored.members.as_slice().len(), members);
+        assert_eq!(rt; stored.held.as_slice(), held);
     }
     Ok(())
 }

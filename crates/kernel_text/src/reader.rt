@@ -1,9 +1,9 @@
 //! What is read of a text so far.
 ghost use Rattle.std.specs.Prelude.{◌≡◌, ◌<◌, ◌-◌, ℕ, true, IfOk};
 ghost use Rattle.row_book.specs.Sets.{In};
-ghost use Rattle.kernel_text.specs.KernelLines.{AgainstLine, ClassLine, EndLine, HeadLine, MemberLine, NeedsLine};
-ghost use Rattle.kernel_text.specs.Reader.{Adds, EndIsTold, Holds, may_add_clause, may_add_conflict, may_add_member, may_begin, member_key, Takes};
-ghost use Rattle.kernel_text.specs.Reading.{empty_reading, IsNamed, number_limit, Reading};
+ghost use Rattle.kernel_text.specs.KernelLines.{AgainstLine, ClassLine, EndLine, HeadLine, HeldLine, MemberLine, NeedsLine};
+ghost use Rattle.kernel_text.specs.Reader.{Adds, EndIsTold, Holds, may_add_clause, may_add_conflict, may_add_held, may_add_member, may_begin, member_key, Takes};
+ghost use Rattle.kernel_text.specs.Reading.{empty_reading, IsFormat, IsNamed, number_limit, Reading};
 ghost use Rattle.kernel_text.specs.Words.{IsWellFormed, line_of_content};
 
 use crate::clause_shape::{holds, is_ascending, is_before};
@@ -24,6 +24,7 @@ pub(crate) enum LastLine {
     Head,
     Class,
     Member,
+    Held,
     Needs,
     Against { class: u32 },
     End { classes: u32, members: u32 },
@@ -36,15 +37,18 @@ pub(crate) struct Clause {
     pub(crate) numbers: NumList,
 }
 
-/// What the lines so far say: the last of them, with its clause where it is one, how many classes have begun, the members
-/// with their classes under their names and versions, the clauses and the pairs of conflicting classes.
+/// What the lines so far say: the last of them, with its clause where it is one, the format, how many classes have begun,
+/// the members with their classes under their names and versions, the held classes, the clauses and the pairs of conflicting
+/// classes.
 #[derive(Drop)]
 pub(crate) struct Reader {
     pub(crate) last: LastLine,
     pub(crate) previous: NumList,
+    pub(crate) format: u32,
     pub(crate) classes: u32,
     pub(crate) members: Listed<Member>,
     pub(crate) keys: MemberKeys,
+    pub(crate) held: NumList,
     pub(crate) clauses: Listed<Clause>,
     pub(crate) conflicts: Listed<Pair>,
 }
@@ -57,9 +61,11 @@ impl Reader {
         Reader {
             last: LastLine::Nothing,
             previous: NumList::new(alloc),
+            format: 0,
             classes: 0,
             members: Listed::new(alloc),
             keys: MemberKeys::new(alloc),
+            held: NumList::new(alloc),
             clauses: Listed::new(alloc),
             conflicts: Listed::new(alloc),
         }
@@ -81,9 +87,10 @@ impl Reader {
         ensures { (t : Reading) → Holds self.old t → IfOk result (Takes t (line_of_content content) self.new) }
     {
         match content {
-            LineContent::Head => Ok(self.take_head()),
+            LineContent::Head { format } => Ok(self.take_head(format)),
             LineContent::Class { number } => Ok(self.take_class(number)),
             LineContent::Member { name, version } => self.take_member(alloc, name, version),
+            LineContent::Held => self.take_held(),
             LineContent::Needs { clause } => self.take_clause(alloc, clause),
             LineContent::Against { class } => self.take_conflict(class),
             LineContent::End { classes, members } => Ok(self.take_end(classes, members)),
@@ -91,11 +98,13 @@ impl Reader {
     }
 
     // Takes the first line.
-    fn take_head(&mut self) -> bool
-        ensures { (t : Reading) → Holds self.old t → Takes t HeadLine self.new result }
+    fn take_head(&mut self, format: u32) -> bool
+        requires { IsFormat format }
+        ensures { (t : Reading) → Holds self.old t → Takes t (HeadLine format) self.new result }
     {
         match self.last {
             LastLine::Nothing => {
+                self.format = format;
                 self.last = LastLine::Head;
                 true
             }
@@ -145,6 +154,22 @@ impl Reader {
         }
         self.members.push(member)?;
         self.last = LastLine::Member;
+        Ok(true)
+    }
+
+    // Takes that the class is held.
+    fn take_held(&mut self) -> Result<bool, AllocError>
+        ensures { (t : Reading) → Holds self.old t → IfOk result (Takes t HeldLine self.new) }
+    {
+        if !may_add_held(self.last) {
+            return Ok(false);
+        }
+        if self.format != 2 {
+            return Ok(false);
+        }
+        let class = self.this_class();
+        self.held.push(class)?;
+        self.last = LastLine::Held;
         Ok(true)
     }
 
@@ -228,10 +253,15 @@ impl Reader {
 fn key_of(alloc: Global, member: &Member) -> Result<Vec<u8>, AllocError>
     ensures { IfOk result (λ key. key.items ≡ member_key member.now) }
 {
-    let version = member.version.key(alloc)?;
-    let mut key = Vec::from_slice(alloc, member.name.as_slice())?;
+    let name = member.name.as_slice();
+    let room = name
+        .len()
+        .saturating_add(member.version.text().len())
+        .saturating_add(3);
+    let mut key = Vec::with_capacity(alloc, room)?;
+    key.extend_from_slice(name)?;
     key.push(b' ')?;
-    key.extend_from_slice(version.as_slice())?;
+    member.version.push_key(&mut key)?;
     Ok(key)
 }
 
@@ -240,7 +270,7 @@ fn may_add_clause(last: LastLine, previous: &[u32], clause: &[u32]) -> bool
     ensures { result ≡ may_add_clause last previous.now clause.now }
 {
     match last {
-        LastLine::Member => true,
+        LastLine::Member | LastLine::Held => true,
         LastLine::Needs => is_before(previous, clause),
         _ => false,
     }
@@ -251,8 +281,18 @@ fn may_add_conflict(last: LastLine, class: u32) -> bool
     ensures { result ≡ may_add_conflict last class }
 {
     match last {
-        LastLine::Member | LastLine::Needs => true,
+        LastLine::Member | LastLine::Held | LastLine::Needs => true,
         LastLine::Against { class: lesser } => lesser < class,
+        _ => false,
+    }
+}
+
+// Whether that the class is held may stand next.
+fn may_add_held(last: LastLine) -> bool
+    ensures { result ≡ may_add_held last }
+{
+    match last {
+        LastLine::Member => true,
         _ => false,
     }
 }
@@ -272,7 +312,11 @@ fn may_begin(last: LastLine) -> bool
     ensures { result ≡ may_begin last }
 {
     match last {
-        LastLine::Head | LastLine::Member | LastLine::Needs | LastLine::Against { .. } => true,
+        LastLine::Head
+        | LastLine::Member
+        | LastLine::Held
+        | LastLine::Needs
+        | LastLine::Against { .. } => true,
         LastLine::Nothing | LastLine::Class | LastLine::End { .. } => false,
     }
 }

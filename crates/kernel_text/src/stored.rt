@@ -12,7 +12,7 @@ use crate::fault::KernelFault;
 use crate::member::Member;
 use crate::read::read_text;
 use crate::reader::Reader;
-use clause_pool::Pool;
+use clause_pool::{NumList, Pool};
 use listed::Listed;
 use row_book::Book;
 use std::alloc::Global;
@@ -20,32 +20,46 @@ use std::alloc::Global;
 /// Packages of classes, in the order of their classes.
 pub type MemberList = Listed<Member>;
 
-/// The classes of a kernel, as a book over a pool, and their packages.
+/// The classes of a kernel, as a book over a pool, their packages, and the held ones.
 #[derive(Drop)]
 pub struct StoredKernel {
+    /// The format of the text, 1 or 2.
+    pub format: u32,
     /// The classes.
     pub book: Book,
     /// The packages of the classes.
     pub members: MemberList,
+    /// The held classes, ascending.
+    pub held: NumList,
     ghost inside: { (m : Member) → In m members → m.class < length book.rows },
 }
 
-/// Reads the text of a kernel: its classes, over the pool, and their packages, or the first fault of the text. What the
-/// pool held stays, after a refusal too. A text has at most 1,073,741,824 bytes, the limit that the program keeps for files.
-/// Time is linear in the text; equal packages are found by a hash of the name and the version's key.
+/// Reads the text of a kernel: its format, its classes, over the pool, their packages and the held ones, or the first fault
+/// of the text. What the pool had stays, after a refusal too. A text has at most 1,073,741,824 bytes, the limit that the
+/// program keeps for files. Time is linear in the text; equal packages are found by a hash of the name and the version's key.
 pub fn read_kernel(
     alloc: Global,
     bytes: &[u8],
     pool: &mut Pool,
 ) -> Result<StoredKernel, KernelFault>
     requires { length bytes.now ≤ 1073741824 }
-    ensures read { IfOk result (λ stored. KernelReads bytes.now (repository_of pool.new stored.book) stored.members) }
+    ensures read { IfOk result (λ stored. KernelReads bytes.now stored.format (repository_of pool.new stored.book) stored.members stored.held) }
     ensures sound { IfOk result (λ stored. Sound pool.new stored.book) }
     ensures refused { IfErr result (IsFault bytes.now) }
     ensures kept { Kept pool.old pool.new }
 {
     let reader = read_text(alloc, bytes)?;
     let book = book_of(alloc, pool, &reader)?;
-    let Reader { members, .. } = reader;
-    Ok(StoredKernel { book, members })
+    let Reader {
+        format,
+        members,
+        held,
+        ..
+    } = reader;
+    Ok(StoredKernel {
+        format,
+        book,
+        members,
+        held,
+    })
 }

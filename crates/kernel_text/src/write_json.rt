@@ -9,12 +9,14 @@ ghost use Rattle.row_book.specs.Sets.{In};
 ghost use Rattle.serde_json.specs.Data.{string};
 ghost use Rattle.serde_json.specs.View.{view};
 ghost use Rattle.serde_json.specs.Written.{compact_text};
-ghost use Rattle.kernel_text.specs.JsonData.{AreNamedPackages, clauses_data, data_of_class, kernel_data, numbers_data, package_data, packages_data};
+ghost use Rattle.kernel_text.specs.JsonData.{AreNamedPackages, clauses_data, data_of_class, kernel_data, mark_of_class, numbers_data, package_data, packages_data};
 ghost use Rattle.kernel_text.specs.KernelJson.{kernel_json};
+ghost use Rattle.kernel_text.specs.KernelText.{format_of};
 ghost use Rattle.kernel_text.specs.Members.{kernel_members};
 ghost use Rattle.kernel_text.specs.Writing.{OfPackages};
 
 use crate::classify::packages_by_class;
+use crate::holding::{format_of, held_flags};
 use clause_pool::{ClauseId, NumList, Pool};
 use kernel_rounds::Kernel;
 use relation_fields::PackageFacts;
@@ -23,8 +25,9 @@ use row_book::Book;
 use serde_json::{Value, json};
 use std::alloc::{AllocError, Global};
 
-/// The JSON of a kernel of the suite's book, in which each package of the suite is a member of its class, in file order; it
-/// fails only where no memory is found. Time is linear in the packages, the classes and the text.
+/// The JSON of a kernel of the suite's book, in which each package of the suite is a member of its class, in file order. It
+/// is of format 2 where classes may be held, else of format 1. It fails only where no memory is found. Time is linear in the
+/// packages, the classes and the text.
 pub fn kernel_json(
     alloc: Global,
     pool: &Pool,
@@ -35,12 +38,21 @@ pub fn kernel_json(
     requires each { length kernel.now.class_of ≡ length suite.now.packages }
     requires inside { (class : ℕ) → In class kernel.now.class_of → class < length kernel.now.book.rows }
     requires named { AreNamedPackages suite.now.packages }
-    ensures { IfOk result (λ text. text.items ≡ kernel_json (repository_of pool.now kernel.now.book)
-        (kernel_members suite.now.packages kernel.now.class_of (length kernel.now.book.rows))) }
+    ensures { IfOk result (λ text. text.items ≡ kernel_json (format_of kernel.now.hold) (repository_of pool.now kernel.now.book)
+        (kernel_members suite.now.packages kernel.now.class_of (length kernel.now.book.rows)) kernel.now.held) }
 {
     let packages = suite.packages.as_slice();
     let by_class = packages_by_class(alloc, kernel.class_of.as_slice(), kernel.book.size())?;
-    document_text(alloc, packages, by_class.as_slice(), pool, &kernel.book)
+    let flags = held_flags(alloc, kernel.held.as_slice(), kernel.book.size())?;
+    document_text(
+        alloc,
+        packages,
+        by_class.as_slice(),
+        pool,
+        &kernel.book,
+        flags.as_slice(),
+        kernel.hold,
+    )
 }
 
 // The text of the document, and a line feed.
@@ -50,15 +62,19 @@ fn document_text(
     by_class: &[NumList],
     pool: &Pool,
     book: &Book,
+    flags: &[bool],
+    hold: bool,
 ) -> Result<Vec<u8>, AllocError>
     requires size { length by_class.now ≡ length book.now.rows }
     requires members { OfPackages by_class.now packages.now }
     requires named { AreNamedPackages packages.now }
     requires sound { Sound pool.now book.now }
+    requires flags { length flags.now ≡ length book.now.rows }
     ensures { IfOk result (λ text. text.items
-        ≡ compact_text (kernel_data (repository_of pool.now book.now) packages.now by_class.now (length book.now.rows)) ++ codes "\n") }
+        ≡ compact_text (kernel_data hold (repository_of pool.now book.now) packages.now by_class.now flags.now (length book.now.rows)) ++ codes "\n") }
 {
-    let mut text = document(alloc, packages, by_class, pool, book)?.to_vec(alloc)?;
+    let document = document(alloc, packages, by_class, pool, book, flags, hold)?;
+    let mut text = document.to_vec(alloc)?;
     text.extend_from_slice(b"\n")?;
     Ok(text)
 }
@@ -70,28 +86,45 @@ fn document(
     by_class: &[NumList],
     pool: &Pool,
     book: &Book,
+    flags: &[bool],
+    hold: bool,
 ) -> Result<Value, AllocError>
     requires size { length by_class.now ≡ length book.now.rows }
     requires members { OfPackages by_class.now packages.now }
     requires named { AreNamedPackages packages.now }
     requires sound { Sound pool.now book.now }
-    ensures { IfOk result (λ value. view value ≡ kernel_data (repository_of pool.now book.now) packages.now by_class.now (length book.now.rows)) }
+    requires flags { length flags.now ≡ length book.now.rows }
+    ensures { IfOk result (λ value. view value ≡ kernel_data hold (repository_of pool.now book.now) packages.now by_class.now flags.now (length book.now.rows)) }
 {
     let mut items = Vec::new(alloc);
     for number in 0..book.size() {
-        items.push(class_value(alloc, packages, by_class, pool, book, number)?)?;
+        let mark = mark_of(hold, flags, number);
+        items.push(class_value(alloc, packages, by_class, pool, book, mark, number)?)?;
     }
     let classes = Value::Array(items);
-    json!(in alloc; {"classes": classes, "format": 1u32})
+    json!(in alloc; {"classes": classes, "format": format_of(hold)})
 }
 
-// A class: the greater classes that it conflicts with, its packages and its clauses.
+// Whether a class is held, where classes may be.
+fn mark_of(hold: bool, flags: &[bool], number: u32) -> Option<bool>
+    requires { number < length flags.now }
+    ensures { result ≡ mark_of_class hold flags.now number }
+{
+    if hold {
+        Some(flags[number as usize])
+    } else {
+        None
+    }
+}
+
+// A class: the greater classes that it conflicts with, whether it is held, where that is told, its packages and its clauses.
 fn class_value(
     alloc: Global,
     packages: &[PackageFacts],
     by_class: &[NumList],
     pool: &Pool,
     book: &Book,
+    mark: Option<bool>,
     number: u32,
 ) -> Result<Value, AllocError>
     requires inside { number < length book.now.rows }
@@ -99,12 +132,17 @@ fn class_value(
     requires members { OfPackages by_class.now packages.now }
     requires named { AreNamedPackages packages.now }
     requires sound { Sound pool.now book.now }
-    ensures { IfOk result (λ value. view value ≡ data_of_class (repository_of pool.now book.now) packages.now by_class.now number) }
+    ensures { IfOk result (λ value. view value ≡ data_of_class (repository_of pool.now book.now) packages.now by_class.now mark number) }
 {
     let against = against_value(alloc, number, book.against(number))?;
     let members = members_value(alloc, packages, by_class[number as usize].as_slice())?;
     let needs = needs_value(alloc, pool, pool.row(book.row(number)))?;
-    json!(in alloc; {"against": against, "members": members, "needs": needs})
+    match mark {
+        Some(held) => {
+            json!(in alloc; {"against": against, "held": held, "members": members, "needs": needs})
+        }
+        None => json!(in alloc; {"against": against, "members": members, "needs": needs}),
+    }
 }
 
 // The conflicts with greater classes.

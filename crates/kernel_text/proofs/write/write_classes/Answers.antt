@@ -18,7 +18,7 @@ push_classes-requires-clause-members c =
     (subst (IsByClass c.as_slice.result.now (length c.as_slice.result.now) c.size.result) (sym c.as_slice-2.ensures.value) c.in_ok-by_class.ensures)
 
 pub returns : goal.returns
-returns c =
+returns c held told =
     let size : ℕ = length c.args.book.now.rows in
     let classes : List ℕ = c.as_slice.result.now in
     let end = λ (n m : ℕ). c.push_classes.new.out.items ++ line_text (EndLine n m) in
@@ -27,7 +27,7 @@ returns c =
     (λ class i. c.requires.inside class (subst (In class) c.as_slice.ensures i))
     c.as_slice-2.result.now
     (subst (IsByClass classes (length classes) size) (sym c.as_slice-2.ensures.value) (subst (λ n. IsByClass classes (length classes) n c.in_ok-by_class.by_class.items) c.size.ensures c.in_ok-by_class.ensures))
-    c.new-text.result.items c.push_head.new.out.items c.push_classes.new.out.items c.push_end.new.out.items
+    c.args.format held c.args.flags.now told c.new-text.result.items c.push_head.new.out.items c.push_classes.new.out.items c.push_end.new.out.items
     (sym (length-map c.args.book.now.rows (row_at c.args.pool.now))) c.new-text.ensures.items c.in_ok-push_head.ensures c.in_ok-push_classes.ensures
     (c.in_ok-push_end.ensures ∙ ap₂ end c.size-2.ensures (c.count.ensures ∙ ap length (sym c.as_slice-packages.ensures)))
-    ∙ ap₂ (λ packages class_of. kernel_text (repository_of c.args.pool.now c.args.book.now) (kernel_members packages class_of size)) c.as_slice-packages.ensures c.as_slice.ensures
+    ∙ ap₂ (λ packages class_of. kernel_text c.args.format (repository_of c.args.pool.now c.args.book.now) (kernel_members packages class_of size) held) c.as_slice-packages.ensures c.as_slice.ensures

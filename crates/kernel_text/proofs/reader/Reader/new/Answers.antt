@@ -7,9 +7,11 @@ pub returns : goal.returns
 returns c = record {
   last = refl;
   previous = λ clause e. absurd (cc e);
+  of_format = refl;
   classes = refl;
   members = c.new-2.ensures;
   keyed = no_keys c.new-2.result c.new-3.result c.new-2.ensures c.new-3.ensures;
-  clauses = ap (map entry_of) c.new-4.ensures;
-  conflicts = c.new-5.ensures;
+  held = c.new-4.ensures;
+  clauses = ap (map entry_of) c.new-5.ensures;
+  conflicts = c.new-6.ensures;
 }

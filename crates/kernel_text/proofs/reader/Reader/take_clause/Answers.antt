@@ -44,9 +44,11 @@ returns c t h =
       record {
         last = refl;
         previous = λ d e. c.of-previous.ensures ∙ c.in_ok-from_slice.ensures.items ∙ c.as_slice-numbers.ensures ∙ same_clause clause d e;
+        of_format = h.of_format;
         classes = h.classes;
         members = h.members;
         keyed = h.keyed;
+        held = h.held;
         clauses = ap (map entry_of) c.in_ok-push.ensures.ok ∙ map-append entry_of c.args.self.now.clauses (record { class = c.this_class-class.result; numbers = clause } ∷ [])
             ∙ ap₂ (λ xs k. xs ++ entry k ∷ []) h.clauses class;
         conflicts = h.conflicts;

@@ -31,10 +31,12 @@ returns c t h =
       record {
         last = refl;
         previous = λ clause e. absurd (other_line c.args.name c.args.version clause e);
+        of_format = h.of_format;
         classes = h.classes;
         members = c.in_ok-push.ensures.ok ∙ ap₂ (λ ms k. ms ++ named m k ∷ []) h.members (c.this_class-class.ensures ∙ ap (λ n. n - 1) h.classes);
         keyed = keys_more m c.args.self.now.members keys key h.keyed c.requires c.in_ok-key.ensures c.push.new.self c.insert.new.self
             (c.in_ok-is_new.ensures.keys ∙ ap (λ b. cond b (keys ++ key ∷ []) keys) c.if-not-is_new.false) c.in_ok-push.ensures.ok;
+        held = h.held;
         clauses = h.clauses;
         conflicts = h.conflicts;
       },

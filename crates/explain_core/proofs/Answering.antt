@@ -1,5 +1,5 @@
 -- An explanation, over a view of the suite.
-use Rattle.std.proofs.Common.{◌≡◌, ℕ, List, length, Option, sym, ap, ◌∙◌, subst, arith}
+use Rattle.std.proofs.Common.{Bool, ◌≡◌, ℕ, List, length, Option, sym, ap, ◌∙◌, subst, arith}
 use Rattle.std.specs.List.{range_with_len}
 use Rattle.std.specs.Option.{option_map}
 use Rattle.std.proofs.lemmas.List.{length-map}
@@ -32,28 +32,28 @@ use Rattle.explain_core.proofs.Explained.{wanted_fits}
 use Rattle.explain_core.proofs.Told.{picked_numbered}
 
 -- the marks of the core are numbers of goals
-pub core_places : (home : Home) (stanzas : List PackageFacts) (budget : ℕ) (goals : List Goal) (marks : List Mark) → marks ≡ marks_of (core_of home stanzas budget goals) → ArePlacesFrom1 (length goals) marks
-core_places home stanzas budget goals marks are m i =
-    let w = In_map_cases mark (core_of home stanzas budget goals) m (subst (λ l. In m l) are i) in
-    let inside = range_cases (length goals) 1 w.0.item (kept_all (verdict_on home stanzas budget goals) (range_with_len 1 (length goals)) w.0 w.1) in
+pub core_places : (limit : ℕ) (hold : Bool) (home : Home) (stanzas : List PackageFacts) (budget : ℕ) (goals : List Goal) (marks : List Mark) → marks ≡ marks_of (core_of limit hold home stanzas budget goals) → ArePlacesFrom1 (length goals) marks
+core_places limit hold home stanzas budget goals marks are m i =
+    let w = In_map_cases mark (core_of limit hold home stanzas budget goals) m (subst (λ l. In m l) are i) in
+    let inside = range_cases (length goals) 1 w.0.item (kept_all (verdict_on limit hold home stanzas budget goals) (range_with_len 1 (length goals)) w.0 w.1) in
     let same : m.goal ≡ w.0.item = ap (λ z. z.goal) w.2 in
     (omega (arith, inside.0, same), omega (arith, inside.1, same))
 
-module _ (pool : Interned) (home : Home) (stanzas : List PackageFacts) (book : Book) (made : Kernel) (view : IsViewOf pool home stanzas book made) (budget : ℕ) (goals : List Goal) (wanted : List (List ℕ)) (are : wanted ≡ wanted_by stanzas goals) where
+module _ (pool : Interned) (home : Home) (stanzas : List PackageFacts) (book : Book) (made : Kernel) (limit : ℕ) (view : IsViewOf pool home stanzas book made limit) (budget : ℕ) (goals : List Goal) (wanted : List (List ℕ)) (are : wanted ≡ wanted_by stanzas goals) where
   pub wanted_long : length wanted ≡ length goals
   wanted_long = ap length are ∙ length-map goals (packages_named stanzas)
 
-  module _ (marks : List Mark) (marked : marks ≡ marks_of (core_of home stanzas budget goals)) (lent : List Mark) (is : lent ≡ marks) (core : List (List ℕ)) (picks : core ≡ picked wanted lent) where
+  module _ (marks : List Mark) (marked : marks ≡ marks_of (core_of limit made.hold home stanzas budget goals)) (lent : List Mark) (is : lent ≡ marks) (core : List (List ℕ)) (picks : core ≡ picked wanted lent) where
     -- the packages of the marked goals
     core_is : core ≡ wanted_by stanzas (marked_goals goals marks)
-    core_is = picks ∙ ap (picked wanted) is ∙ ap (λ w. picked w marks) are ∙ picked_numbered (packages_named stanzas) goals marks (core_places home stanzas budget goals marks marked)
+    core_is = picks ∙ ap (picked wanted) is ∙ ap (λ w. picked w marks) are ∙ picked_numbered (packages_named stanzas) goals marks (core_places limit made.hold home stanzas budget goals marks marked)
 
     pub core_fits : NeedsFit (length book.rows) core
     core_fits = subst (λ n. NeedsFit n core) (ap (λ S. length S.clauses) (sym view.book_is.repository) ∙ book_size pool book) (subst (NeedsFit (length (suite_repository home stanzas).clauses)) (sym core_is) (wanted_fits home stanzas (marked_goals goals marks)))
 
-    pub core_told : (clashes : Option (List Clash)) → clashes ≡ option_map clashes_of (reasons_of (repository_of pool book) budget core) → verdict.No ≡ verdict_in home stanzas budget goals →
-        Core marks clashes ≡ explanation_of home stanzas budget goals
+    pub core_told : (clashes : Option (List Clash)) → clashes ≡ option_map clashes_of (reasons_of (repository_of pool book) budget core) → verdict.No ≡ verdict_in limit made.hold home stanzas budget goals →
+        Core marks clashes ≡ explanation_of limit made.hold home stanzas budget goals
     core_told clashes told refused =
         let reasons : clashes ≡ clashes_for home stanzas budget goals marks =
         told ∙ ap (λ S. option_map clashes_of (reasons_of S budget core)) view.book_is.repository ∙ ap (λ w. option_map clashes_of (reasons_of (suite_repository home stanzas) budget w)) core_is in
-        ap (Core marks) reasons ∙ ap (core_explained home stanzas budget goals) marked ∙ ap (explained_by home stanzas budget goals) refused
+        ap (Core marks) reasons ∙ ap (core_explained home stanzas budget goals) marked ∙ ap (explained_by limit made.hold home stanzas budget goals) refused

@@ -1,5 +1,5 @@
 -- What goals name, and its classes.
-use Rattle.std.proofs.Common.{◌≡◌, ℕ, ◌<◌, ◌≤◌, List, [], ◌∷◌, length, get_or, map, take, refl, ap, ◌∙◌, subst}
+use Rattle.std.proofs.Common.{Bool, ◌≡◌, ℕ, ◌<◌, ◌≤◌, List, [], ◌∷◌, length, get_or, map, take, refl, ap, ◌∙◌, subst}
 use Rattle.std.proofs.lemmas.List.{take_all}
 use Rattle.relation_fields.specs.declared.packages.Home.{Home}
 use Rattle.relation_fields.specs.declared.packages.PackageFacts.{PackageFacts}
@@ -17,11 +17,11 @@ wanted_inside stanzas goals wanted lent place are l is n i =
     let w = In_map_cases (packages_named stanzas) goals (get_or wanted place []) (subst (λ ws. In (get_or wanted place []) ws) are (In_at wanted place [] l)) in
     named_inside stanzas w.0 n (subst (λ ns. In n ns) (is ∙ w.2) i)
 
-images_from : (home : Home) (stanzas : List PackageFacts) (goals : List Goal) → map (goal_classes (suite_repository home stanzas)) (wanted_by stanzas goals) ≡ images_of home stanzas goals
-images_from home stanzas [] = refl
-images_from home stanzas (goal ∷ goals) = ap (λ l. image_of home stanzas goal ∷ l) (images_from home stanzas goals)
+images_from : (limit : ℕ) (hold : Bool) (home : Home) (stanzas : List PackageFacts) (goals : List Goal) → map (goal_classes limit hold (suite_repository home stanzas)) (wanted_by stanzas goals) ≡ images_of limit hold home stanzas goals
+images_from limit hold home stanzas [] = refl
+images_from limit hold home stanzas (goal ∷ goals) = ap (λ l. image_of limit hold home stanzas goal ∷ l) (images_from limit hold home stanzas goals)
 
-pub classes_all : (home : Home) (stanzas : List PackageFacts) (goals : List Goal) (wanted classes : List (List ℕ)) (place : ℕ) → wanted ≡ wanted_by stanzas goals → length wanted ≤ place →
-    classes ≡ map (goal_classes (suite_repository home stanzas)) (take place wanted) → classes ≡ images_of home stanzas goals
-classes_all home stanzas goals wanted classes place are l sofar =
-    sofar ∙ ap (map (goal_classes (suite_repository home stanzas))) (take_all place wanted l ∙ are) ∙ images_from home stanzas goals
+pub classes_all : (limit : ℕ) (hold : Bool) (home : Home) (stanzas : List PackageFacts) (goals : List Goal) (wanted classes : List (List ℕ)) (place : ℕ) → wanted ≡ wanted_by stanzas goals → length wanted ≤ place →
+    classes ≡ map (goal_classes limit hold (suite_repository home stanzas)) (take place wanted) → classes ≡ images_of limit hold home stanzas goals
+classes_all limit hold home stanzas goals wanted classes place are l sofar =
+    sofar ∙ ap (map (goal_classes limit hold (suite_repository home stanzas))) (take_all place wanted l ∙ are) ∙ images_from limit hold home stanzas goals

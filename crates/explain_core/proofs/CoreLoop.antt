@@ -65,56 +65,56 @@ places_more marks new place v e places m i = elim (In_append_cases marks (marks_
 pub places_wider : (marks : List Mark) (place size : ℕ) → place ≤ size → ArePlacesFrom1 place marks → ArePlacesFrom1 size marks
 places_wider marks place size l places m i = let w = places m i in (w.0, omega (arith, w.1))
 
-module _ (pool : Interned) (home : Home) (stanzas : List PackageFacts) (book : Book) (made : Kernel) (view : IsViewOf pool home stanzas book made) (goals : List Goal) (classes : List (List ℕ)) (are : classes ≡ images_of home stanzas goals) where
+module _ (pool : Interned) (home : Home) (stanzas : List PackageFacts) (book : Book) (made : Kernel) (limit : ℕ) (view : IsViewOf pool home stanzas book made limit) (goals : List Goal) (classes : List (List ℕ)) (are : classes ≡ images_of limit made.hold home stanzas goals) where
   abbrev K : Repository
   K = repository_of pool made.book
 
-  k_is : K ≡ kernel (suite_repository home stanzas)
+  k_is : K ≡ kernel limit made.hold (suite_repository home stanzas)
   k_is = view.kernel_is.book.repository
 
   pub classes_long : length classes ≡ length goals
-  classes_long = ap length are ∙ length-map goals (image_of home stanzas)
+  classes_long = ap length are ∙ length-map goals (image_of limit made.hold home stanzas)
 
   -- classes of some goals are classes of the kernel
-  pub images_are_fit : (some : List Goal) (images : List (List ℕ)) → images ≡ images_of home stanzas some → NeedsFit (length made.book.rows) images
+  pub images_are_fit : (some : List Goal) (images : List (List ℕ)) → images ≡ images_of limit made.hold home stanzas some → NeedsFit (length made.book.rows) images
   images_are_fit some images e =
-      subst (λ n. NeedsFit n images) (ap (λ S. length S.clauses) (sym k_is) ∙ book_size pool made.book) (subst (NeedsFit (length (kernel (suite_repository home stanzas)).clauses)) (sym e) (images_fit home stanzas some))
+      subst (λ n. NeedsFit n images) (ap (λ S. length S.clauses) (sym k_is) ∙ book_size pool made.book) (subst (NeedsFit (length (kernel limit made.hold (suite_repository home stanzas)).clauses)) (sym e) (images_fit home stanzas limit made.hold some))
 
   -- a search of the kernel for classes of some goals has the verdict on these
-  pub verdict_found : (budget : ℕ) (some : List Goal) (images : List (List ℕ)) (v : Verdict) → images ≡ images_of home stanzas some → IsSearchVerdict K images budget v → v ≡ verdict_in home stanzas budget some
+  pub verdict_found : (budget : ℕ) (some : List Goal) (images : List (List ℕ)) (v : Verdict) → images ≡ images_of limit made.hold home stanzas some → IsSearchVerdict K images budget v → v ≡ verdict_in limit made.hold home stanzas budget some
   verdict_found budget some images v e w =
       verdict_is pool made.book images budget v view.kernel_is.book.sound (images_are_fit some images e) w
-      ∙ ap (λ S. verdict_of budget (tree_of S images)) k_is ∙ ap (λ cs. verdict_of budget (tree_of (kernel (suite_repository home stanzas)) cs)) e
+      ∙ ap (λ S. verdict_of budget (tree_of S images)) k_is ∙ ap (λ cs. verdict_of budget (tree_of (kernel limit made.hold (suite_repository home stanzas)) cs)) e
 
   -- the others of the goal at a place
   abbrev numbers_behind : ℕ → List ℕ
   numbers_behind place = range_with_len (place + 1 + 1) (length goals - (place + 1))
 
   pub others_are : (marks : List Mark) (place : ℕ) (others : List (List ℕ)) → place < length goals → ArePlacesFrom1 place marks → others ≡ picked classes marks ++ drop (place + 1) classes →
-      others ≡ images_of home stanzas (goals_numbered goals (items_of (kept_marks marks) ++ numbers_behind place))
+      others ≡ images_of limit made.hold home stanzas (goals_numbered goals (items_of (kept_marks marks) ++ numbers_behind place))
   others_are marks place others l places e =
       let sum : place + 1 + (length goals - (place + 1)) ≡ length goals = omega arith in
       e ∙ ap (λ cs. picked cs marks ++ drop (place + 1) cs) are
-      ∙ ap (λ front. front ++ drop (place + 1) (images_of home stanzas goals)) (picked_numbered (image_of home stanzas) goals marks (places_wider marks place (length goals) (omega arith) places))
-      ∙ ap (λ back. map (image_of home stanzas) (goals_numbered goals (map (λ m. m.goal) marks)) ++ back) (drop-map (image_of home stanzas) (place + 1) goals ∙ ap (map (image_of home stanzas)) (rest_numbered goals (place + 1) (length goals - (place + 1)) sum))
-      ∙ sym (map-append (image_of home stanzas) (goals_numbered goals (map (λ m. m.goal) marks)) (goals_numbered goals (numbers_behind place)))
-      ∙ ap (map (image_of home stanzas)) (sym (map-append (goal_numbered goals) (map (λ m. m.goal) marks) (numbers_behind place)))
-      ∙ ap (λ ns. images_of home stanzas (goals_numbered goals (ns ++ numbers_behind place))) (sym (marks_items marks))
+      ∙ ap (λ front. front ++ drop (place + 1) (images_of limit made.hold home stanzas goals)) (picked_numbered (image_of limit made.hold home stanzas) goals marks (places_wider marks place (length goals) (omega arith) places))
+      ∙ ap (λ back. map (image_of limit made.hold home stanzas) (goals_numbered goals (map (λ m. m.goal) marks)) ++ back) (drop-map (image_of limit made.hold home stanzas) (place + 1) goals ∙ ap (map (image_of limit made.hold home stanzas)) (rest_numbered goals (place + 1) (length goals - (place + 1)) sum))
+      ∙ sym (map-append (image_of limit made.hold home stanzas) (goals_numbered goals (map (λ m. m.goal) marks)) (goals_numbered goals (numbers_behind place)))
+      ∙ ap (map (image_of limit made.hold home stanzas)) (sym (map-append (goal_numbered goals) (map (λ m. m.goal) marks) (numbers_behind place)))
+      ∙ ap (λ ns. images_of limit made.hold home stanzas (goals_numbered goals (ns ++ numbers_behind place))) (sym (marks_items marks))
 
   pub core_step : (budget : ℕ) (marks new : List Mark) (place : ℕ) (others : List (List ℕ)) (v : Verdict) → place < length goals → ArePlacesFrom1 place marks → others ≡ picked classes marks ++ drop (place + 1) classes →
       IsSearchVerdict K others budget v → new ≡ marks ++ marks_of (kept_by (place + 1) v) →
-      core_of home stanzas budget goals ≡ kept_behind (verdict_on home stanzas budget goals) (kept_marks marks) (range_with_len (place + 1) (length goals - place)) →
-      core_of home stanzas budget goals ≡ kept_behind (verdict_on home stanzas budget goals) (kept_marks new) (range_with_len (place + 1 + 1) (length goals - (place + 1)))
+      core_of limit made.hold home stanzas budget goals ≡ kept_behind (verdict_on limit made.hold home stanzas budget goals) (kept_marks marks) (range_with_len (place + 1) (length goals - place)) →
+      core_of limit made.hold home stanzas budget goals ≡ kept_behind (verdict_on limit made.hold home stanzas budget goals) (kept_marks new) (range_with_len (place + 1 + 1) (length goals - (place + 1)))
   core_step budget marks new place others v l places made_of searched pushed e =
       let size : length goals - place ≡ suc (length goals - (place + 1)) = omega arith in
-      behind_step (verdict_on home stanzas budget goals) (core_of home stanzas budget goals) (kept_marks marks) (kept_marks new) (place + 1) (range_with_len (place + 1) (length goals - place)) (numbers_behind place) v
+      behind_step (verdict_on limit made.hold home stanzas budget goals) (core_of limit made.hold home stanzas budget goals) (kept_marks marks) (kept_marks new) (place + 1) (range_with_len (place + 1) (length goals - place)) (numbers_behind place) v
       (verdict_found budget (goals_numbered goals (items_of (kept_marks marks) ++ numbers_behind place)) others v (others_are marks place others l places made_of) searched)
       (ap (range_with_len (place + 1)) size)
       (marks_more marks new (kept_by (place + 1) v) pushed) e
 
   pub core_done : (budget : ℕ) (marks : List Mark) (place : ℕ) → length goals ≤ place →
-      core_of home stanzas budget goals ≡ kept_behind (verdict_on home stanzas budget goals) (kept_marks marks) (range_with_len (place + 1) (length goals - place)) →
-      marks ≡ marks_of (core_of home stanzas budget goals)
+      core_of limit made.hold home stanzas budget goals ≡ kept_behind (verdict_on limit made.hold home stanzas budget goals) (kept_marks marks) (range_with_len (place + 1) (length goals - place)) →
+      marks ≡ marks_of (core_of limit made.hold home stanzas budget goals)
   core_done budget marks place l e =
       let none : length goals - place ≡ 0 = omega arith in
-      sym (ap marks_of (e ∙ behind_none (verdict_on home stanzas budget goals) (kept_marks marks) (range_with_len (place + 1) (length goals - place)) (ap (range_with_len (place + 1)) none)) ∙ marks_there marks)
+      sym (ap marks_of (e ∙ behind_none (verdict_on limit made.hold home stanzas budget goals) (kept_marks marks) (range_with_len (place + 1) (length goals - place)) (ap (range_with_len (place + 1)) none)) ∙ marks_there marks)

@@ -1,5 +1,5 @@
 -- What the core tells, judged on the stanzas.
-use Rattle.std.proofs.Common.{◌≡◌, ℕ, List, ◌∷◌, ◌++◌, length, map, sym, ap, ◌∙◌, subst}
+use Rattle.std.proofs.Common.{Bool, ◌≡◌, ℕ, List, ◌∷◌, ◌++◌, length, map, sym, ap, ◌∙◌, subst}
 use Rattle.std.specs.List.{range_with_len}
 use Rattle.std.proofs.lemmas.List.{map-append}
 use Rattle.clause_solver.specs.declared.outcomes.Verdict.{Verdict}
@@ -18,10 +18,10 @@ use Rattle.explain_core.specs.Meaning.{IsCoreOf}
 use Rattle.explain_core.proofs.Deleted.{Suffice, kept_needed, kept_no}
 use Rattle.explain_core.proofs.Told.{all_numbered, kept_mark, kept_marks, marks_back, marks_items}
 
-module _ (home : Home) (stanzas : List PackageFacts) (budget : ℕ) where
+module _ (limit : ℕ) (hold : Bool) (home : Home) (stanzas : List PackageFacts) (budget : ℕ) where
   -- a verdict, judged
-  pub judged : (goals : List Goal) (v : Verdict) → verdict_in home stanzas budget goals ≡ v → HasVerdict home stanzas budget goals v
-  judged goals v e = subst (HasVerdict home stanzas budget goals) e (verdict_is_judged home stanzas budget goals)
+  pub judged : (goals : List Goal) (v : Verdict) → verdict_in limit hold home stanzas budget goals ≡ v → HasVerdict limit hold home stanzas budget goals v
+  judged goals v e = subst (HasVerdict limit hold home stanzas budget goals) e (verdict_is_judged limit hold home stanzas budget goals)
 
   -- fewer goals
   coinst_fewer : (more less : List Goal) → ((g : Goal) → In g less → In g more) → CoinstGoals home stanzas more → CoinstGoals home stanzas less
@@ -29,7 +29,7 @@ module _ (home : Home) (stanzas : List PackageFacts) (budget : ℕ) where
 
   module _ (goals : List Goal) where
     abbrev f : List ℕ → Verdict
-    f = verdict_on home stanzas budget goals
+    f = verdict_on limit hold home stanzas budget goals
 
     abbrev all : List ℕ
     all = range_with_len 1 (length goals)
@@ -44,10 +44,10 @@ module _ (home : Home) (stanzas : List PackageFacts) (budget : ℕ) where
     goals_kept core = ap (goals_numbered goals) (sym (marks_items (marks_of core)) ∙ ap items_of (marks_back core))
 
     -- of a no
-    pub core_is : verdict_in home stanzas budget goals ≡ No → IsCoreOf home stanzas goals (marks_of (core_of home stanzas budget goals))
+    pub core_is : verdict_in limit hold home stanzas budget goals ≡ No → IsCoreOf home stanzas goals (marks_of (core_of limit hold home stanzas budget goals))
     core_is refused = record {
       impossible = subst (λ gs. ¬ (CoinstGoals home stanzas gs)) (sym (goals_kept (kept_of f all)))
-          (judged (goals_numbered goals (items_of (kept_of f all))) No (kept_no f all (ap (verdict_in home stanzas budget) (all_numbered goals) ∙ refused))).1;
+          (judged (goals_numbered goals (items_of (kept_of f all))) No (kept_no f all (ap (verdict_in limit hold home stanzas budget) (all_numbered goals) ∙ refused))).1;
       needed = λ before after m d u.
           let cut : kept_of f all ≡ kept_marks before ++ kept_mark m ∷ kept_marks after = sym (marks_back (kept_of f all)) ∙ ap kept_marks d ∙ map-append kept_mark before (m ∷ after) in
           let w : Suffice (λ n. Unit {0}) f (items_of (kept_marks before ++ kept_marks after)) = kept_needed (λ n. Unit {0}) f all (kept_marks before) (kept_marks after) (kept_mark m) (λ n i. tt) cut u in

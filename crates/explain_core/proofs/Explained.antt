@@ -1,5 +1,5 @@
 -- What an explanation tells.
-use Rattle.std.proofs.Common.{◌≡◌, ℕ, ◌<◌, false, List, ◌∷◌, ◌++◌, length, refl, sym, ap, ◌∙◌, subst, inl, inr}
+use Rattle.std.proofs.Common.{Bool, ◌≡◌, ℕ, ◌<◌, false, List, ◌∷◌, ◌++◌, length, refl, sym, ap, ◌∙◌, subst, inl, inr}
 use Rattle.std.specs.Prelude.{ltb, IfSome}
 use Rattle.std.specs.Option.{option_map}
 use Rattle.std.proofs.lemmas.Bool.{cases_Bool}
@@ -107,17 +107,17 @@ module _ (home : Home) (stanzas : List PackageFacts) where
       let w = In_map_cases (packages_named stanzas) goals c i in
       named_within home stanzas w.0 n (subst (λ ns. In n ns) w.2 j)
 
-  means_by : (budget : ℕ) (goals : List Goal) (v : Verdict) → verdict_in home stanzas budget goals ≡ v → MeansExplanation home stanzas goals (explained_by home stanzas budget goals v)
-  means_by budget goals verdict.Yes e = (judged home stanzas budget goals verdict.Yes e).1
-  means_by budget goals verdict.Spent e = tt
-  means_by budget goals verdict.No e =
-      let marks : List Mark = marks_of (core_of home stanzas budget goals) in
-      let core : IsCoreOf home stanzas goals marks = core_is home stanzas budget goals e in (
+  means_by : (limit : ℕ) (hold : Bool) (budget : ℕ) (goals : List Goal) (v : Verdict) → verdict_in limit hold home stanzas budget goals ≡ v → MeansExplanation home stanzas goals (explained_by limit hold home stanzas budget goals v)
+  means_by limit hold budget goals verdict.Yes e = (judged limit hold home stanzas budget goals verdict.Yes e).1
+  means_by limit hold budget goals verdict.Spent e = tt
+  means_by limit hold budget goals verdict.No e =
+      let marks : List Mark = marks_of (core_of limit hold home stanzas budget goals) in
+      let core : IsCoreOf home stanzas goals marks = core_is limit hold home stanzas budget goals e in (
         core,
-        reasons_mean (suite_repository home stanzas) (suite_sound home stanzas) budget (wanted_by stanzas (marked_goals goals (marks_of (core_of home stanzas budget goals))))
-            (wanted_fits (marked_goals goals (marks_of (core_of home stanzas budget goals))))
-            (λ I healthy hits. core.impossible (solved_coinst (marked_goals goals (marks_of (core_of home stanzas budget goals))) I (healthy, hits))),
+        reasons_mean (suite_repository home stanzas) (suite_sound home stanzas) budget (wanted_by stanzas (marked_goals goals (marks_of (core_of limit hold home stanzas budget goals))))
+            (wanted_fits (marked_goals goals (marks_of (core_of limit hold home stanzas budget goals))))
+            (λ I healthy hits. core.impossible (solved_coinst (marked_goals goals (marks_of (core_of limit hold home stanzas budget goals))) I (healthy, hits))),
       )
 
-  pub explanation_means : (budget : ℕ) (goals : List Goal) → MeansExplanation home stanzas goals (explanation_of home stanzas budget goals)
-  explanation_means budget goals = means_by budget goals (verdict_in home stanzas budget goals) refl
+  pub explanation_means : (limit : ℕ) (hold : Bool) (budget : ℕ) (goals : List Goal) → MeansExplanation home stanzas goals (explanation_of limit hold home stanzas budget goals)
+  explanation_means limit hold budget goals = means_by limit hold budget goals (verdict_in limit hold home stanzas budget goals) refl

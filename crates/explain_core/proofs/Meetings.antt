@@ -1,17 +1,14 @@
 -- Packages that are met one after another, and what is within reach by them.
-use Rattle.std.proofs.Common.{◌≡◌, ℕ, zero, suc, ◌+◌, ◌<◌, ◌≤◌, Bool, true, false, ◌||◌, eqb, List, [], ◌∷◌, ◌++◌, ◌⊎◌, inl, inr, length, get_or, set, take, map, refl, sym, ap, ◌∙◌, subst, arith, append_assoc}
+use Rattle.std.proofs.Common.{◌≡◌, ℕ, zero, suc, ◌+◌, ◌<◌, ◌≤◌, Bool, true, false, List, [], ◌∷◌, ◌++◌, ◌⊎◌, inl, inr, length, get_or, take, map, refl, sym, ap, ◌∙◌, subst, arith, append_assoc}
 use Rattle.std.specs.List.{concat}
-use Rattle.std.proofs.lemmas.Bool.{cases_lt, or_cases, or_left, or_right, eqb-true, eq-eqb}
-use Rattle.std.proofs.Math.ListN.{length-set}
+use Rattle.std.proofs.lemmas.Bool.{cases_lt}
 use Rattle.std.proofs.lemmas.List.{append-nil, length-append, map-append, take_more}
 use Rattle.std.proofs.lemmas.List.Folds.{concat-append}
-use Rattle.install_lift.proofs.Steps.{flag_plus}
 use Rattle.row_book.specs.Flags.{flag}
 use Rattle.row_book.specs.Needs.{NeedsFit}
 use Rattle.row_book.specs.Repository.{Repository, clauses_of}
 use Rattle.row_book.specs.Sets.{In, has, here, there}
 use Rattle.row_book.proofs.Lists.{In_append_cases, In_append_left, In_append_right, In_cases, In_has, In_none, In_at, has_In}
-use Rattle.row_book.proofs.Repositories.{same_test}
 use Rattle.clause_pool.specs.Interned.{Interned}
 use Rattle.clause_pool.proofs.Lists.{In_place}
 use Rattle.repo_model.proofs.Numbers.{same_at}
@@ -20,7 +17,6 @@ use Rattle.row_book.specs.Uses.{row_id}
 use Rattle.row_book.specs.declared.book.Book.{Book}
 use Rattle.row_book.proofs.BookRepositories.{book_size}
 use Rattle.row_book.proofs.Books.{clauses_row, in_listed}
-use Rattle.search_terms.proofs.Sets.{fewer_unmarked}
 use Rattle.explain_core.specs.Meeting.{IsMetList, IsReachedTo, Meets}
 use Rattle.explain_core.specs.Reach.{IsReach}
 
@@ -62,31 +58,6 @@ pub meets_list : (old mid new : List ℕ) (lists : List (List ℕ)) (i : ℕ) (d
 meets_list old mid new lists i d l a b =
     subst (λ m. Meets old new m) (sym (ap concat (take_more lists i d l) ∙ concat-append (take i lists) (get_or lists i d ∷ []) ∙ ap (λ m. concat (take i lists) ++ m) (append-nil (get_or lists i d))))
     (meets_both old mid new (concat (take i lists)) (get_or lists i d) a b)
-
--- one more package is met
-pub metlist_more : (flags : List Bool) (order : List ℕ) (n : ℕ) → n < length flags → get_or flags n false ≡ false → IsMetList flags order → IsMetList (set flags n true) (order ++ n ∷ [])
-metlist_more flags order n l f w = record {
-  each = λ m. ap (λ s. s m) (flag_plus flags n l) ∙ same_test (flag flags m || eqb m n) (has (order ++ n ∷ []) m)
-      (λ t. elim (or_cases (flag flags m) (eqb m n) t) [
-        | inl a ↦ In_has (In_append_left order (n ∷ []) m (has_In order m (sym (w.each m) ∙ a)))
-        | inr b ↦ In_has (subst (λ k. In k (order ++ n ∷ [])) (sym (eqb-true m n b)) (In_append_right order (n ∷ []) n here))
-      ])
-      (λ t. elim (In_append_cases order (n ∷ []) m (has_In (order ++ n ∷ []) m t)) [
-        | inl a ↦ or_left (flag flags m) (eqb m n) (w.each m ∙ In_has a)
-        | inr b ↦ elim (In_cases b) [
-          | inl e ↦ or_right (flag flags m) (eqb m n) (subst (λ k. eqb m k ≡ true) e (same m))
-          | inr k ↦ absurd (In_none k)
-        ]
-      ]);
-  few =
-      let less = fewer_unmarked flags n l f in
-      let long : length (set flags n true) ≡ length flags = length-set flags n true in
-      let more : length (order ++ n ∷ []) ≡ length order + 1 = length-append order (n ∷ []) in
-      omega (arith, w.few, less, long, more);
-}
-  where
-    same : (m : ℕ) → eqb m m ≡ true
-    same m = eq-eqb m m refl
 
 in_concat : (lists : List (List ℕ)) (c : List ℕ) (n : ℕ) → In c lists → In n c → In n (concat lists)
 in_concat [] c n i j = absurd (In_none i)

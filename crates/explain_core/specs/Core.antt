@@ -1,5 +1,5 @@
 -- The core of goals that cannot be installed together: those of them that matter for it.
-use Rattle.std.specs.Prelude.{ℕ, ◌-◌, List, [], length, map, slice_index_or}
+use Rattle.std.specs.Prelude.{ℕ, Bool, ◌-◌, List, [], length, map, slice_index_or}
 use Rattle.std.specs.List.{range_with_len}
 use Rattle.clause_solver.specs.declared.outcomes.Verdict.{Verdict}
 use Rattle.relation_fields.specs.declared.packages.Home.{Home}
@@ -18,12 +18,12 @@ abbrev pub goals_numbered : List Goal → List ℕ → List Goal
 goals_numbered goals numbers = map (goal_numbered goals) numbers
 
 -- the verdict on the goals of these numbers
-abbrev pub verdict_on : Home → List PackageFacts → ℕ → List Goal → List ℕ → Verdict
-verdict_on home stanzas budget goals numbers = verdict_in home stanzas budget (goals_numbered goals numbers)
+abbrev pub verdict_on : ℕ → Bool → Home → List PackageFacts → ℕ → List Goal → List ℕ → Verdict
+verdict_on limit hold home stanzas budget goals numbers = verdict_in limit hold home stanzas budget (goals_numbered goals numbers)
 
 -- the core: one goal after another is left out, as long as the verdict on the others is no
-abbrev pub core_of : Home → List PackageFacts → ℕ → List Goal → List (Kept ℕ)
-core_of home stanzas budget goals = kept_of (verdict_on home stanzas budget goals) (range_with_len 1 (length goals))
+abbrev pub core_of : ℕ → Bool → Home → List PackageFacts → ℕ → List Goal → List (Kept ℕ)
+core_of limit hold home stanzas budget goals = kept_of (verdict_on limit hold home stanzas budget goals) (range_with_len 1 (length goals))
 
 -- the core as it is told
 abbrev pub mark : Kept ℕ → Mark

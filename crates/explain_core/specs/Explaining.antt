@@ -1,5 +1,5 @@
 -- Why goals cannot be installed together.
-use Rattle.std.specs.Prelude.{⊤, ℕ, ◌+◌, List, Option}
+use Rattle.std.specs.Prelude.{⊤, ℕ, Bool, ◌+◌, List, Option}
 use Rattle.std.specs.Option.{option_map}
 use Rattle.clause_solver.specs.declared.outcomes.Verdict.{Verdict}
 use Rattle.clause_solver.specs.declared.outcomes.Verdict.TheVariants as verdict
@@ -27,13 +27,13 @@ abbrev pub core_explained : Home → List PackageFacts → ℕ → List Goal →
 core_explained home stanzas budget goals marks = Core marks (clashes_for home stanzas budget goals marks)
 
 -- by the verdict on all goals
-abbrev pub explained_by : Home → List PackageFacts → ℕ → List Goal → Verdict → Explanation
-explained_by home stanzas budget goals verdict.Yes = Yes
-explained_by home stanzas budget goals verdict.Spent = Spent (budget + 1)
-explained_by home stanzas budget goals verdict.No = core_explained home stanzas budget goals (marks_of (core_of home stanzas budget goals))
+abbrev pub explained_by : ℕ → Bool → Home → List PackageFacts → ℕ → List Goal → Verdict → Explanation
+explained_by limit hold home stanzas budget goals verdict.Yes = Yes
+explained_by limit hold home stanzas budget goals verdict.Spent = Spent (budget + 1)
+explained_by limit hold home stanzas budget goals verdict.No = core_explained home stanzas budget goals (marks_of (core_of limit hold home stanzas budget goals))
 
-abbrev pub explanation_of : Home → List PackageFacts → ℕ → List Goal → Explanation
-explanation_of home stanzas budget goals = explained_by home stanzas budget goals (verdict_in home stanzas budget goals)
+abbrev pub explanation_of : ℕ → Bool → Home → List PackageFacts → ℕ → List Goal → Explanation
+explanation_of limit hold home stanzas budget goals = explained_by limit hold home stanzas budget goals (verdict_in limit hold home stanzas budget goals)
 
 -- the fact, where a goal is unknown, and nothing for want of memory
 abbrev pub OnUnknown : (ℕ → Type 0) → ExplainError → Type 0

@@ -23,7 +23,7 @@ pub fn explain(
     budget: u64,
 ) -> Result<Explanation, ExplainError>
     requires { IsBudget budget }
-    ensures explanation { IfOk result (λ explanation. explanation ≡ explanation_of view.now.suite.home view.now.suite.packages budget goals.now) }
+    ensures explanation { IfOk result (λ explanation. explanation ≡ explanation_of view.now.limit view.now.kernel.hold view.now.suite.home view.now.suite.packages budget goals.now) }
     ensures meaning { IfOk result (MeansExplanation view.now.suite.home view.now.suite.packages goals.now) }
     ensures known { OnOk result (unknown_goal view.now.suite.packages goals.now ≡ None) }
     ensures unknown { IfErr result (OnUnknown (λ goal. unknown_goal view.now.suite.packages goals.now ≡ Some goal)) }

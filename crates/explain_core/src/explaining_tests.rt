@@ -111,7 +111,7 @@ fn told_of(alloc: Global, text: &str, budget: u64, words: &str) -> Result<String
     if bytes.len() > 1_073_741_824 || budget == 0 || budget > 1_000_000 {
         return Err(AllocError);
     }
-    match SuiteView::of(alloc, bytes, 65_536) {
+    match SuiteView::of(alloc, bytes, 65_536, false) {
         Ok(view) => {
             let goals = goals_of(alloc, words)?;
             show(alloc, &explain(alloc, &view, goals.as_slice(), budget))

@@ -86,9 +86,9 @@ pub(crate) fn core_of(
     budget: u64,
 ) -> Result<MarkList, AllocError>
     requires ready { IsReady (repository_of view.now.pool view.now.kernel.book) solver.now }
-    requires classes { classes.now ≡ images_of view.now.suite.home view.now.suite.packages goals.now }
+    requires classes { classes.now ≡ images_of view.now.limit view.now.kernel.hold view.now.suite.home view.now.suite.packages goals.now }
     requires budget { IsBudget budget }
-    ensures { IfOk result (λ marks. marks ≡ marks_of (core_of view.now.suite.home view.now.suite.packages budget goals.now)) }
+    ensures { IfOk result (λ marks. marks ≡ marks_of (core_of view.now.limit view.now.kernel.hold view.now.suite.home view.now.suite.packages budget goals.now)) }
 {
     let mut marks = MarkList::new(alloc);
     for place in 0..classes.count() {

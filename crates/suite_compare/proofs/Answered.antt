@@ -21,6 +21,7 @@ use Rattle.row_book.specs.Needs.{NeedsFit}
 use Rattle.row_book.specs.Repository.{Repository, Healthy}
 use Rattle.row_book.specs.Rounds.{kernel, kernel_class, kernel_steps}
 use Rattle.row_book.specs.Sets.{Hit, HitsAll, In, Is, has}
+use Rattle.row_book.specs.Trail.{trail_meaning}
 use Rattle.row_book.specs.declared.book.Book.{Book}
 use Rattle.row_book.proofs.BookRepositories.{book_size}
 use Rattle.row_book.proofs.Lists.{In_map, In_map_cases}
@@ -35,7 +36,7 @@ use Rattle.suite_compare.specs.Views.{IsViewOf}
 use Rattle.suite_compare.proofs.Deciding.{asked_is, images_fit, named_parts, named_within, sound, to_classes}
 use Rattle.suite_compare.proofs.SuiteKernels.{classes_parts}
 
-module _ (pool : Interned) (home : Home) (stanzas : List PackageFacts) (book : Book) (made : Kernel) (view : IsViewOf pool home stanzas book made) where
+module _ (pool : Interned) (home : Home) (stanzas : List PackageFacts) (book : Book) (made : Kernel) (limit : ℕ) (view : IsViewOf pool home stanzas book made limit) where
   abbrev R : Repository
   R = suite_repository home stanzas
 
@@ -45,7 +46,7 @@ module _ (pool : Interned) (home : Home) (stanzas : List PackageFacts) (book : B
   abbrev K : Repository
   K = repository_of pool made.book
 
-  k_is : K ≡ kernel R
+  k_is : K ≡ kernel limit made.hold R
   k_is = view.kernel_is.book.repository
 
   b_is : B ≡ R
@@ -55,21 +56,21 @@ module _ (pool : Interned) (home : Home) (stanzas : List PackageFacts) (book : B
   pub book_long : length book.rows ≡ length stanzas
   book_long = sym (book_size pool book) ∙ ap (λ S. length S.clauses) b_is ∙ length_clauses home stanzas
 
-  kernel_long : length (kernel R).clauses ≡ length made.book.rows
+  kernel_long : length (kernel limit made.hold R).clauses ≡ length made.book.rows
   kernel_long = ap (λ S. length S.clauses) (sym k_is) ∙ book_size pool made.book
 
   -- for goals, with their packages and their classes
-  module _ (goals : List Goal) (wanted classes : List (List ℕ)) (wanted_is : wanted ≡ wanted_by stanzas goals) (classes_are : classes ≡ images_of home stanzas goals) where
+  module _ (goals : List Goal) (wanted classes : List (List ℕ)) (wanted_is : wanted ≡ wanted_by stanzas goals) (classes_are : classes ≡ images_of limit made.hold home stanzas goals) where
     pub classes_fit : NeedsFit (length made.book.rows) classes
-    classes_fit = subst (λ n. NeedsFit n classes) kernel_long (subst (NeedsFit (length (kernel R).clauses)) (sym classes_are) (images_fit home stanzas goals))
+    classes_fit = subst (λ n. NeedsFit n classes) kernel_long (subst (NeedsFit (length (kernel limit made.hold R).clauses)) (sym classes_are) (images_fit home stanzas limit made.hold goals))
 
     -- the outcome is that of the tree of the goals
-    pub outcome_is : (budget : ℕ) (outcome : Outcome) → IsSearchOutcome K classes budget outcome → IsOutcomeOf budget (asked_tree home stanzas goals) outcome
+    pub outcome_is : (budget : ℕ) (outcome : Outcome) → IsSearchOutcome K classes budget outcome → IsOutcomeOf budget (asked_tree limit made.hold home stanzas goals) outcome
     outcome_is budget outcome o =
-        let own : IsSearchOutcome (kernel R) (images_of home stanzas goals) budget outcome =
-        subst (λ S. IsSearchOutcome S (images_of home stanzas goals) budget outcome) k_is (subst (λ cs. IsSearchOutcome K cs budget outcome) classes_are o) in
+        let own : IsSearchOutcome (kernel limit made.hold R) (images_of limit made.hold home stanzas goals) budget outcome =
+        subst (λ S. IsSearchOutcome S (images_of limit made.hold home stanzas goals) budget outcome) k_is (subst (λ cs. IsSearchOutcome K cs budget outcome) classes_are o) in
         subst (λ tree. IsOutcomeOf budget tree outcome)
-        (sym (one_tree (length (kernel R).clauses) (form (kernel R) (images_of home stanzas goals)) [] own.0 (asked_tree home stanzas goals) own.1 (asked_is home stanzas goals))) own.2
+        (sym (one_tree (length (kernel limit made.hold R).clauses) (form (kernel limit made.hold R) (images_of limit made.hold home stanzas goals)) [] own.0 (asked_tree limit made.hold home stanzas goals) own.1 (asked_is home stanzas limit made.hold goals))) own.2
 
     pub wanted_fit : NeedsFit (length book.rows) wanted
     wanted_fit c i n j =
@@ -77,20 +78,20 @@ module _ (pool : Interned) (home : Home) (stanzas : List PackageFacts) (book : B
         subst (λ size. n < size) (length_clauses home stanzas ∙ sym book_long) (named_within home stanzas g.0 n (subst (λ ns. In n ns) g.2 j))
 
     -- classes that hit each goal's classes are of packages that the goals name
-    pub wanted_hit : (chosen : List Bool) → HitsAll (flag chosen) classes → HitsAll (λ n. flag chosen (kernel_class B n)) wanted
+    pub wanted_hit : (chosen : List Bool) → HitsAll (flag chosen) classes → HitsAll (λ n. flag chosen (kernel_class limit made.hold B n)) wanted
     wanted_hit chosen hits c i =
         let g = In_map_cases (packages_named stanzas) goals c (subst (λ cs. In c cs) wanted_is i) in
-        let hit : Hit (Is (flag chosen)) (image_of home stanzas g.0) =
-        hits (image_of home stanzas g.0) (subst (λ cs. In (image_of home stanzas g.0) cs) (sym classes_are) (In_map (image_of home stanzas) goals g.0 g.1)) in
-        let one = classes_parts R (sound home stanzas) (packages_named stanzas g.0) (named_within home stanzas g.0) hit.by hit.inside in
+        let hit : Hit (Is (flag chosen)) (image_of limit made.hold home stanzas g.0) =
+        hits (image_of limit made.hold home stanzas g.0) (subst (λ cs. In (image_of limit made.hold home stanzas g.0) cs) (sym classes_are) (In_map (image_of limit made.hold home stanzas) goals g.0 g.1)) in
+        let one = classes_parts limit made.hold R (sound home stanzas) (packages_named stanzas g.0) (named_within home stanzas g.0) hit.by hit.inside in
         record {
           by = one.0;
           inside = subst (λ ns. In one.0 ns) (sym g.2) one.1;
-          alive = ap (flag chosen) (ap (λ S. kernel_class S one.0) b_is ∙ one.2) ∙ hit.alive;
+          alive = ap (flag chosen) (ap (λ S. kernel_class limit made.hold S one.0) b_is ∙ one.2) ∙ hit.alive;
         }
 
     pub yes_is : (budget : ℕ) (chosen : List Bool) (install numbers : List ℕ) → IsSearchOutcome K classes budget (Found chosen) → numbers ≡ true_numbers chosen →
-        install ≡ filter (trim_of B wanted (lift_of (kernel_steps B) (flag chosen))) (range_with_len 0 (length book.rows)) → IsYes home stanzas goals budget install numbers
+        install ≡ filter (trim_of B wanted (lift_of (trail_meaning pool made.trail.steps) (flag chosen))) (range_with_len 0 (length book.rows)) → IsYes limit made.hold home stanzas goals budget install numbers
     unfolding installation
     yes_is budget chosen install numbers o classed installed =
         let own = outcome_is budget (Found chosen) o in
@@ -100,9 +101,10 @@ module _ (pool : Interned) (home : Home) (stanzas : List PackageFacts) (book : B
           within = own.1;
           true_classes = classed;
           installed = installed
-              ∙ ap (λ S. filter (trim_of S wanted (lift_of (kernel_steps S) (flag chosen))) (range_with_len 0 (length book.rows))) b_is
-              ∙ ap (λ w. filter (trim_of R w (lift_of (kernel_steps R) (flag chosen))) (range_with_len 0 (length book.rows))) wanted_is
-              ∙ ap (λ n. filter (trim_of R (wanted_by stanzas goals) (lift_of (kernel_steps R) (flag chosen))) (range_with_len 0 n)) book_long;
+              ∙ ap (λ steps. filter (trim_of B wanted (lift_of steps (flag chosen))) (range_with_len 0 (length book.rows))) view.kernel_is.steps
+              ∙ ap (λ S. filter (trim_of S wanted (lift_of (kernel_steps limit made.hold R) (flag chosen))) (range_with_len 0 (length book.rows))) b_is
+              ∙ ap (λ w. filter (trim_of R w (lift_of (kernel_steps limit made.hold R) (flag chosen))) (range_with_len 0 (length book.rows))) wanted_is
+              ∙ ap (λ n. filter (trim_of R (wanted_by stanzas goals) (lift_of (kernel_steps limit made.hold R) (flag chosen))) (range_with_len 0 n)) book_long;
         }
 
     pub yes_serves : (install : List ℕ) → Healthy B (has install) → HitsAll (has install) wanted → Serves home stanzas goals (has install)
@@ -114,10 +116,10 @@ module _ (pool : Interned) (home : Home) (stanzas : List PackageFacts) (book : B
           record { by = hit.by; member = hit.alive; named = named_parts home stanzas goal hit.by hit.inside };
     }
 
-    pub no_derives : (entries : List (List Literal)) → Derives (form K classes) entries → Derives (form (kernel R) (images_of home stanzas goals)) entries
-    no_derives entries d = subst (λ S. Derives (form S (images_of home stanzas goals)) entries) k_is (subst (λ cs. Derives (form K cs) entries) classes_are d)
+    pub no_derives : (entries : List (List Literal)) → Derives (form K classes) entries → Derives (form (kernel limit made.hold R) (images_of limit made.hold home stanzas goals)) entries
+    no_derives entries d = subst (λ S. Derives (form S (images_of limit made.hold home stanzas goals)) entries) k_is (subst (λ cs. Derives (form K cs) entries) classes_are d)
 
     pub no_coinst : HasNoSolution K classes → ¬ (CoinstGoals home stanzas goals)
     no_coinst none w =
-        let own = to_classes home stanzas goals w in
+        let own = to_classes home stanzas limit made.hold goals w in
         none own.0 (subst (λ S. Healthy S own.0) (sym k_is) own.1) (subst (HitsAll own.0) (sym classes_are) own.2)

@@ -153,16 +153,25 @@ told_within O N budget old_kinds new_kinds new_lists old_of new_of olds news joi
     (partners_at table a) (tabled.each a m) j i)
 
 -- the verdicts on names are those of their classes
-pub verdicts_are : (pool : Interned) (book : Book) (home : Home) (stanzas : List PackageFacts) (budget : ℕ) (names lists : List (List ℕ)) → repository_of pool book ≡ kernel (suite_repository home stanzas)
-    → lists ≡ map (λ name. image_of home stanzas (any_version name)) names → AreVerdicts (repository_of pool book) budget names lists (λ ns. verdict_in home stanzas budget (map any_version ns))
-verdicts_are pool book home stanzas budget names lists same made = record {
-  single = λ i l. ap (λ z. verdict_of budget (tree_of (kernel (suite_repository home stanzas)) (z ∷ []))) (sym (at i l)) ∙ ap (λ z. verdict_of budget (tree_of z (listed_for lists i ∷ []))) (sym same);
-  pair = λ i j l m. ap₂ (λ y z. verdict_of budget (tree_of (kernel (suite_repository home stanzas)) (y ∷ (z ∷ [])))) (sym (at i l)) (sym (at j m))
+pub verdicts_are : (limit : ℕ) (hold : Bool) → (pool : Interned) (book : Book) (home : Home) (stanzas : List PackageFacts) (budget : ℕ) (names lists : List (List ℕ)) → repository_of pool book ≡ kernel limit hold (suite_repository home stanzas)
+    → lists ≡ map (λ name. image_of limit hold home stanzas (any_version name)) names → AreVerdicts (repository_of pool book) budget names lists (λ ns. verdict_in limit hold home stanzas budget (map any_version ns))
+verdicts_are limit hold pool book home stanzas budget names lists same made = record {
+  single = λ i l. ap (λ z. verdict_of budget (tree_of (kernel limit hold (suite_repository home stanzas)) (z ∷ []))) (sym (at i l)) ∙ ap (λ z. verdict_of budget (tree_of z (listed_for lists i ∷ []))) (sym same);
+  pair = λ i j l m. ap₂ (λ y z. verdict_of budget (tree_of (kernel limit hold (suite_repository home stanzas)) (y ∷ (z ∷ [])))) (sym (at i l)) (sym (at j m))
       ∙ ap (λ z. verdict_of budget (tree_of z (listed_for lists i ∷ (listed_for lists j ∷ [])))) (sym same);
 }
   where
-    at : (i : ℕ) → i < length names → listed_for lists i ≡ image_of home stanzas (any_version (listed_for names i))
-    at i l = ap (λ z. get_or z i []) made ∙ get_or-map (λ name. image_of home stanzas (any_version name)) names i [] [] l
+    at : (i : ℕ) → i < length names → listed_for lists i ≡ image_of limit hold home stanzas (any_version (listed_for names i))
+    at i l = ap (λ z. get_or z i []) made ∙ get_or-map (λ name. image_of limit hold home stanzas (any_version name)) names i [] [] l
+
+-- and at a limit and hold that are the same
+pub verdicts_at : (limit : ℕ) (hold : Bool) (own_limit : ℕ) (own_hold : Bool) → own_limit ≡ limit → own_hold ≡ hold → (pool : Interned) (book : Book) (home : Home) (stanzas : List PackageFacts) (budget : ℕ) (names lists : List (List ℕ))
+    → repository_of pool book ≡ kernel own_limit own_hold (suite_repository home stanzas) → lists ≡ map (λ name. image_of own_limit own_hold home stanzas (any_version name)) names
+    → AreVerdicts (repository_of pool book) budget names lists (λ ns. verdict_in limit hold home stanzas budget (map any_version ns))
+verdicts_at limit hold own_limit own_hold l h pool book home stanzas budget names lists same made =
+    subst (λ n. AreVerdicts (repository_of pool book) budget names lists (λ ns. verdict_in n hold home stanzas budget (map any_version ns))) l
+    (subst (λ b. AreVerdicts (repository_of pool book) budget names lists (λ ns. verdict_in own_limit b home stanzas budget (map any_version ns))) h
+    (verdicts_are own_limit own_hold pool book home stanzas budget names lists same made))
 
 -- what a side asks for
 pub judge_of : (pool : Interned) (book : Book) (solver : Solver) (lists kinds : List (List ℕ)) (of : List ℕ) (budget : ℕ) → Sound pool book → IsReady (repository_of pool book) solver → AreNeeds lists → NeedsFit (length book.rows) lists

@@ -84,13 +84,13 @@ pub named_below : (packages : List PackageFacts) (name lent : List ℕ) → lent
 named_below packages name lent is n i = (number_cases (λ facts. bytes_eq name facts.name) packages n (subst (λ z. In n z) is i)).0
 
 -- the image of a name that some package has is a need of the kernel
-pub image_need : (home : Home) (stanzas : List PackageFacts) (name : List ℕ) → stands_in stanzas name ≡ true → IsNeed (image_of home stanzas (any_version name))
-image_need home stanzas name h =
+pub image_need : (limit : ℕ) (hold : Bool) → (home : Home) (stanzas : List PackageFacts) (name : List ℕ) → stands_in stanzas name ≡ true → IsNeed (image_of limit hold home stanzas (any_version name))
+image_need limit hold home stanzas name h =
     let w : (n : ℕ) × In n (numbers_where (λ facts. bytes_eq name facts.name) stanzas) = stands_filled stanzas name h in
     let i : In w.0 (packages_named stanzas (any_version name)) = subst (λ z. In w.0 z) (named_is stanzas name) w.1 in
     record {
-      ascending = classes_ascending (suite_repository home stanzas) (packages_named stanzas (any_version name));
-      filled = filled_by _ _ (classes_from (suite_repository home stanzas) (suite_sound home stanzas) (packages_named stanzas (any_version name)) (chosen_below home stanzas name) w.0 i);
+      ascending = classes_ascending limit hold (suite_repository home stanzas) (packages_named stanzas (any_version name));
+      filled = filled_by _ _ (classes_from limit hold (suite_repository home stanzas) (suite_sound home stanzas) (packages_named stanzas (any_version name)) (chosen_below home stanzas name) w.0 i);
     }
   where
     filled_by : (list : List ℕ) (n : ℕ) → In n list → 0 < length list
@@ -107,15 +107,15 @@ own_names packages name i =
     any_from (λ facts. bytes_eq name facts.name) packages w.0 w.1 (ap (λ z. bytes_eq z w.0.name) w.2 ∙ (bytes_eq-Decides w.0.name w.0.name).1 refl)
 
 -- the lists of classes of names that some package has
-pub lists_need : (home : Home) (stanzas : List PackageFacts) (names lists : List (List ℕ)) → lists ≡ map (λ name. image_of home stanzas (any_version name)) names → ((name : List ℕ) → In name names → stands_in stanzas name ≡ true) → AreNeeds lists
-lists_need home stanzas names lists made stand c i =
-    let w = In_map_cases (λ name. image_of home stanzas (any_version name)) names c (subst (λ z. In c z) made i) in
-    subst IsNeed (sym w.2) (image_need home stanzas w.0 (stand w.0 w.1))
+pub lists_need : (limit : ℕ) (hold : Bool) → (home : Home) (stanzas : List PackageFacts) (names lists : List (List ℕ)) → lists ≡ map (λ name. image_of limit hold home stanzas (any_version name)) names → ((name : List ℕ) → In name names → stands_in stanzas name ≡ true) → AreNeeds lists
+lists_need limit hold home stanzas names lists made stand c i =
+    let w = In_map_cases (λ name. image_of limit hold home stanzas (any_version name)) names c (subst (λ z. In c z) made i) in
+    subst IsNeed (sym w.2) (image_need limit hold home stanzas w.0 (stand w.0 w.1))
 
-pub lists_fit : (home : Home) (stanzas : List PackageFacts) (names lists : List (List ℕ)) (size : ℕ) → lists ≡ map (λ name. image_of home stanzas (any_version name)) names → length (kernel (suite_repository home stanzas)).clauses ≡ size → NeedsFit size lists
-lists_fit home stanzas names lists size made e c i n j =
-    let w = In_map_cases (λ name. image_of home stanzas (any_version name)) names c (subst (λ z. In c z) made i) in
-    subst (λ z. n < z) e (classes_fit (suite_repository home stanzas) (packages_named stanzas (any_version w.0)) n (subst (λ z. In n z) w.2 j))
+pub lists_fit : (limit : ℕ) (hold : Bool) → (home : Home) (stanzas : List PackageFacts) (names lists : List (List ℕ)) (size : ℕ) → lists ≡ map (λ name. image_of limit hold home stanzas (any_version name)) names → length (kernel limit hold (suite_repository home stanzas)).clauses ≡ size → NeedsFit size lists
+lists_fit limit hold home stanzas names lists size made e c i n j =
+    let w = In_map_cases (λ name. image_of limit hold home stanzas (any_version name)) names c (subst (λ z. In c z) made i) in
+    subst (λ z. n < z) e (classes_fit limit hold (suite_repository home stanzas) (packages_named stanzas (any_version w.0)) n (subst (λ z. In n z) w.2 j))
 
 -- one name more that passes, or does not
 pub named_kept : (p : List ℕ → Bool) (names : List (List ℕ)) (i : ℕ) (item copy : List ℕ) (made new : List (List ℕ)) → i < length names → item ≡ get_or names i item → copy ≡ item → p item ≡ true → new ≡ made ++ copy ∷ []

@@ -1,5 +1,5 @@
 -- The repository of an index and its kernel: both are sound, and the classes of packages are classes of the kernel.
-use Rattle.std.proofs.Common.{◌≡◌, ℕ, ◌<◌, List, true, length, refl, arith}
+use Rattle.std.proofs.Common.{◌≡◌, ℕ, ◌<◌, Bool, List, true, length, refl, arith}
 use Rattle.row_book.specs.Flattening.{packages}
 use Rattle.row_book.specs.Repository.{Repository}
 use Rattle.row_book.specs.Rounds.{kernel, kernel_class, kernel_image, round_count}
@@ -15,34 +15,34 @@ pub use Rattle.repo_model.proofs.SoundSuite.{suite_sound}
 use Rattle.suite_compare.specs.Asking.{goal_classes}
 
 -- the kernel of a sound repository is sound
-pub kernel_sound : (R : Repository) → SoundRepository R → SoundRepository (kernel R)
-kernel_sound R s = (kernel_is_lem R s).sound
+pub kernel_sound : (limit : ℕ) (hold : Bool) → (R : Repository) → SoundRepository R → SoundRepository (kernel limit hold R)
+kernel_sound limit hold R s = (kernel_is_lem limit hold R s).sound
 
 -- the class of a package is a class of the kernel
-pub kernel_class_within : (R : Repository) → SoundRepository R → (p : ℕ) → p < length R.clauses → kernel_class R p < length (kernel R).clauses
-kernel_class_within R s p l = class_within (round_count R) R s p l
+pub kernel_class_within : (limit : ℕ) (hold : Bool) → (R : Repository) → SoundRepository R → (p : ℕ) → p < length R.clauses → kernel_class limit hold R p < length (kernel limit hold R).clauses
+kernel_class_within limit hold R s p l = class_within limit hold (round_count limit hold R) R s p l
 
 -- a set of packages
 pub of_packages : (R : Repository) (chosen : List ℕ) → ((n : ℕ) → In n chosen → n < length R.clauses) → (n : ℕ) → has chosen n ≡ true → n < length R.clauses
 of_packages R chosen within n t = within n (has_In chosen n t)
 
 -- its classes are those of its members, ascending
-pub classes_parts : (R : Repository) → SoundRepository R → (chosen : List ℕ) → ((n : ℕ) → In n chosen → n < length R.clauses) → (k : ℕ) → In k (goal_classes R chosen) →
-    (p : ℕ) × In p chosen × (kernel_class R p ≡ k)
-classes_parts R s chosen within k i =
-    let w : HasImage R (has chosen) k = (image_is_of_classes_lem R s (has chosen) (of_packages R chosen within) k).0 (filter_cases (kernel_image R (has chosen)) (packages (kernel R)) k i).1 in
+pub classes_parts : (limit : ℕ) (hold : Bool) → (R : Repository) → SoundRepository R → (chosen : List ℕ) → ((n : ℕ) → In n chosen → n < length R.clauses) → (k : ℕ) → In k (goal_classes limit hold R chosen) →
+    (p : ℕ) × In p chosen × (kernel_class limit hold R p ≡ k)
+classes_parts limit hold R s chosen within k i =
+    let w : HasImage limit hold R (has chosen) k = (image_is_of_classes_lem limit hold R s (has chosen) (of_packages R chosen within) k).0 (filter_cases (kernel_image limit hold R (has chosen)) (packages (kernel limit hold R)) k i).1 in
     (w.by, has_In chosen w.by w.inside, w.class)
 
-pub classes_from : (R : Repository) → SoundRepository R → (chosen : List ℕ) → ((n : ℕ) → In n chosen → n < length R.clauses) → (p : ℕ) → In p chosen →
-    In (kernel_class R p) (goal_classes R chosen)
-classes_from R s chosen within p i =
-    filter_from (kernel_image R (has chosen)) (packages (kernel R)) (kernel_class R p)
-    (numbers_from (length (kernel R).clauses) 0 (kernel_class R p) (omega arith) (let l = kernel_class_within R s p (within p i) in omega arith))
-    ((image_is_of_classes_lem R s (has chosen) (of_packages R chosen within) (kernel_class R p)).1 record { by = p; within = within p i; inside = In_has i; class = refl })
+pub classes_from : (limit : ℕ) (hold : Bool) → (R : Repository) → SoundRepository R → (chosen : List ℕ) → ((n : ℕ) → In n chosen → n < length R.clauses) → (p : ℕ) → In p chosen →
+    In (kernel_class limit hold R p) (goal_classes limit hold R chosen)
+classes_from limit hold R s chosen within p i =
+    filter_from (kernel_image limit hold R (has chosen)) (packages (kernel limit hold R)) (kernel_class limit hold R p)
+    (numbers_from (length (kernel limit hold R).clauses) 0 (kernel_class limit hold R p) (omega arith) (let l = kernel_class_within limit hold R s p (within p i) in omega arith))
+    ((image_is_of_classes_lem limit hold R s (has chosen) (of_packages R chosen within) (kernel_class limit hold R p)).1 record { by = p; within = within p i; inside = In_has i; class = refl })
 
-pub classes_ascending : (R : Repository) (chosen : List ℕ) → Ascending (goal_classes R chosen)
-classes_ascending R chosen = ascending_filter (kernel_image R (has chosen)) (packages (kernel R)) (numbers_ascending (length (kernel R).clauses) 0)
+pub classes_ascending : (limit : ℕ) (hold : Bool) → (R : Repository) (chosen : List ℕ) → Ascending (goal_classes limit hold R chosen)
+classes_ascending limit hold R chosen = ascending_filter (kernel_image limit hold R (has chosen)) (packages (kernel limit hold R)) (numbers_ascending (length (kernel limit hold R).clauses) 0)
 
-pub classes_fit : (R : Repository) (chosen : List ℕ) (k : ℕ) → In k (goal_classes R chosen) → k < length (kernel R).clauses
-classes_fit R chosen k i =
-    let w = numbers_parts (length (kernel R).clauses) 0 k (filter_cases (kernel_image R (has chosen)) (packages (kernel R)) k i).0 in omega (arith, w.1)
+pub classes_fit : (limit : ℕ) (hold : Bool) → (R : Repository) (chosen : List ℕ) (k : ℕ) → In k (goal_classes limit hold R chosen) → k < length (kernel limit hold R).clauses
+classes_fit limit hold R chosen k i =
+    let w = numbers_parts (length (kernel limit hold R).clauses) 0 k (filter_cases (kernel_image limit hold R (has chosen)) (packages (kernel limit hold R)) k i).0 in omega (arith, w.1)

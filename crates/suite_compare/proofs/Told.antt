@@ -21,6 +21,6 @@ tells_spent : (budget : ℕ) (tree : Tree) → budget < failed_leaves tree → v
 tells_spent budget tree many = let past : ltb budget (failed_leaves tree) ≡ true = lt-ltb budget (failed_leaves tree) many in rw past refl
 
 pub answer_is_verdict : AnswerIsVerdict
-answer_is_verdict home stanzas goals budget (Yes install classes) w = tells_yes budget (asked_tree home stanzas goals) w.chosen w.found w.within
-answer_is_verdict home stanzas goals budget (No log) w = tells_no budget (asked_tree home stanzas goals) w.0 w.1
-answer_is_verdict home stanzas goals budget (Spent failed) w = tells_spent budget (asked_tree home stanzas goals) w.0
+answer_is_verdict limit hold home stanzas goals budget (Yes install classes) w = tells_yes budget (asked_tree limit hold home stanzas goals) w.chosen w.found w.within
+answer_is_verdict limit hold home stanzas goals budget (No log) w = tells_no budget (asked_tree limit hold home stanzas goals) w.0 w.1
+answer_is_verdict limit hold home stanzas goals budget (Spent failed) w = tells_spent budget (asked_tree limit hold home stanzas goals) w.0

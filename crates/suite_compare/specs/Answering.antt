@@ -1,4 +1,4 @@
--- The answer on goals: what their search tree tells, with the certificate of a yes or a no.
+-- The answer on goals: what their search tree tells, with the certificate of a yes or a no, at a clause limit, with hold or without.
 use Rattle.std.specs.Prelude.{◌≡◌, ⊤, ℕ, ◌+◌, ◌<◌, ◌≤◌, Bool, ◌==◌, if◌then◌else◌, List, [], ◌∷◌, filter, length, Option, Some, None}
 use Rattle.std.specs.List.{range_with_len}
 use Rattle.row_book.specs.Flags.{flag}
@@ -44,19 +44,19 @@ abbrev pub true_numbers : List Bool → List ℕ
 true_numbers flags = filter (flag flags) (range_with_len 0 (length flags))
 
 -- a yes: the tree finds these classes within the budget, and this is their installation
-pub record IsYes (home : Home) (stanzas : List PackageFacts) (goals : List Goal) (budget : ℕ) (install classes : List ℕ) : Type 0 where
+pub record IsYes (limit : ℕ) (hold : Bool) (home : Home) (stanzas : List PackageFacts) (goals : List Goal) (budget : ℕ) (install classes : List ℕ) : Type 0 where
   pub chosen : List Bool
-  pub found : found_of (asked_tree home stanzas goals) ≡ Some chosen
-  pub within : failed_leaves (asked_tree home stanzas goals) ≤ budget
+  pub found : found_of (asked_tree limit hold home stanzas goals) ≡ Some chosen
+  pub within : failed_leaves (asked_tree limit hold home stanzas goals) ≤ budget
   pub true_classes : classes ≡ true_numbers chosen
-  pub installed : install ≡ installation home stanzas goals chosen
+  pub installed : install ≡ installation limit hold home stanzas goals chosen
 
 -- a yes; or the tree finds nothing within the budget, and this is its log; or it has more failed leaves
-abbrev pub IsAnswerOf : Home → List PackageFacts → List Goal → ℕ → Answer → Type 0
-IsAnswerOf home stanzas goals budget (Yes install classes) = IsYes home stanzas goals budget install classes
-IsAnswerOf home stanzas goals budget (No log) =
-    (found_of (asked_tree home stanzas goals) ≡ None) × (failed_leaves (asked_tree home stanzas goals) ≤ budget) × (log.entries ≡ log_of [] (asked_tree home stanzas goals))
-IsAnswerOf home stanzas goals budget (Spent failed) = (budget < failed_leaves (asked_tree home stanzas goals)) × (failed ≡ budget + 1)
+abbrev pub IsAnswerOf : ℕ → Bool → Home → List PackageFacts → List Goal → ℕ → Answer → Type 0
+IsAnswerOf limit hold home stanzas goals budget (Yes install classes) = IsYes limit hold home stanzas goals budget install classes
+IsAnswerOf limit hold home stanzas goals budget (No log) =
+    (found_of (asked_tree limit hold home stanzas goals) ≡ None) × (failed_leaves (asked_tree limit hold home stanzas goals) ≤ budget) × (log.entries ≡ log_of [] (asked_tree limit hold home stanzas goals))
+IsAnswerOf limit hold home stanzas goals budget (Spent failed) = (budget < failed_leaves (asked_tree limit hold home stanzas goals)) × (failed ≡ budget + 1)
 
 -- what an answer says of the verdict
 abbrev pub verdict_told : Answer → Verdict
@@ -71,7 +71,7 @@ pub record Serves (home : Home) (stanzas : List PackageFacts) (goals : List Goal
 
 -- what an answer tells by itself: a yes has such an installation; the log of a no derives the empty entry from the kernel
 -- and the goals' classes, and the goals are not co-installable
-abbrev pub IsCertified : Home → List PackageFacts → List Goal → Answer → Type 0
-IsCertified home stanzas goals (Yes install classes) = Serves home stanzas goals (has install)
-IsCertified home stanzas goals (No log) = Derives (form (kernel (suite_repository home stanzas)) (images_of home stanzas goals)) log.entries × (¬ (CoinstGoals home stanzas goals))
-IsCertified home stanzas goals (Spent failed) = Unit {0}
+abbrev pub IsCertified : ℕ → Bool → Home → List PackageFacts → List Goal → Answer → Type 0
+IsCertified limit hold home stanzas goals (Yes install classes) = Serves home stanzas goals (has install)
+IsCertified limit hold home stanzas goals (No log) = Derives (form (kernel limit hold (suite_repository home stanzas)) (images_of limit hold home stanzas goals)) log.entries × (¬ (CoinstGoals home stanzas goals))
+IsCertified limit hold home stanzas goals (Spent failed) = Unit {0}

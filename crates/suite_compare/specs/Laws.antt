@@ -1,5 +1,5 @@
--- What the kernel of an index decides for goals.
-use Rattle.std.specs.Prelude.{◌≡◌, ◌↔◌, ℕ, List}
+-- What the kernel of an index decides for goals, at every clause limit, with hold and without.
+use Rattle.std.specs.Prelude.{◌≡◌, ◌↔◌, ℕ, Bool, List}
 use Rattle.row_book.specs.Repository.{Healthy}
 use Rattle.row_book.specs.Rounds.{kernel}
 use Rattle.row_book.specs.Sets.{NumSet, HitsAll}
@@ -13,18 +13,18 @@ use Rattle.suite_compare.specs.Answering.{verdict_told, IsAnswerOf}
 use Rattle.suite_compare.specs.declared.answers.Answer.{Answer}
 
 -- some healthy set of classes has a class of each goal
-abbrev pub CoinstImages : Home → List PackageFacts → List Goal → Type 0
-CoinstImages home stanzas goals = (I : NumSet) × Healthy (kernel (suite_repository home stanzas)) I × HitsAll I (images_of home stanzas goals)
+abbrev pub CoinstImages : ℕ → Bool → Home → List PackageFacts → List Goal → Type 0
+CoinstImages limit hold home stanzas goals = (I : NumSet) × Healthy (kernel limit hold (suite_repository home stanzas)) I × HitsAll I (images_of limit hold home stanzas goals)
 
 -- goals are co-installable, judged on the stanzas, exactly where their classes are in the kernel
 abbrev pub KernelDecides : Type 0
-KernelDecides = (home : Home) (stanzas : List PackageFacts) (goals : List Goal) → (CoinstGoals home stanzas goals ↔ CoinstImages home stanzas goals)
+KernelDecides = (limit : ℕ) (hold : Bool) (home : Home) (stanzas : List PackageFacts) (goals : List Goal) → (CoinstGoals home stanzas goals ↔ CoinstImages limit hold home stanzas goals)
 
 -- the verdict of the kernel is the one that is judged on the stanzas
 abbrev pub VerdictIsJudged : Type 0
-VerdictIsJudged = (home : Home) (stanzas : List PackageFacts) (budget : ℕ) (goals : List Goal) → HasVerdict home stanzas budget goals (verdict_in home stanzas budget goals)
+VerdictIsJudged = (limit : ℕ) (hold : Bool) (home : Home) (stanzas : List PackageFacts) (budget : ℕ) (goals : List Goal) → HasVerdict limit hold home stanzas budget goals (verdict_in limit hold home stanzas budget goals)
 
 -- an answer tells the verdict of the kernel, and so the one that is judged
 abbrev pub AnswerIsVerdict : Type 0
-AnswerIsVerdict = (home : Home) (stanzas : List PackageFacts) (goals : List Goal) (budget : ℕ) (answer : Answer) →
-    IsAnswerOf home stanzas goals budget answer → verdict_told answer ≡ verdict_in home stanzas budget goals
+AnswerIsVerdict = (limit : ℕ) (hold : Bool) (home : Home) (stanzas : List PackageFacts) (goals : List Goal) (budget : ℕ) (answer : Answer) →
+    IsAnswerOf limit hold home stanzas goals budget answer → verdict_told answer ≡ verdict_in limit hold home stanzas budget goals

@@ -1,4 +1,5 @@
--- A view of a suite: the repository of its packages as a book over a pool, and the kernel of that with its classes and steps.
+-- A view of a suite: the repository of its packages as a book over a pool, and the kernel of that at a clause limit, with hold or
+-- without, with its classes, its held classes and its steps.
 use Rattle.std.specs.Prelude.{◌≡◌, ◌⊎◌, ℕ, Bool, List, [], ◌∷◌, map, refl}
 use Rattle.std.proofs.Common.{inl, inr}
 use Rattle.std.specs.Coded.{Coded, Coded-set, code_by, coded×, coded⊎, coded_list, coded_ℕ, coded_bool, ×_prop, Unit-prop, le_prop}
@@ -8,7 +9,7 @@ use Rattle.row_book.specs.Clauses.{Ascending}
 use Rattle.row_book.specs.Flattening.{packages}
 use Rattle.row_book.specs.Pruning.{IdleClause}
 use Rattle.row_book.specs.Repository.{Repository}
-use Rattle.row_book.specs.Rounds.{RoundStep, FlatStep, MergeStep, IdleStep, kernel, kernel_class, kernel_steps}
+use Rattle.row_book.specs.Rounds.{RoundStep, FlatStep, MergeStep, IdleStep, kernel, kernel_class, kernel_held, kernel_steps}
 use Rattle.row_book.specs.Trail.{SoundStep, SoundSteps, trail_meaning}
 use Rattle.row_book.specs.declared.book.Book.{Book}
 use Rattle.row_book.specs.declared.trail.Step.{Step}
@@ -23,17 +24,19 @@ pub record IsBookOf (pool : Interned) (book : Book) (R : Repository) : Type 0 wh
   pub repository : repository_of pool book ≡ R
   pub sound : Sound pool book
 
--- a kernel is that of a repository, with the class of each package and the steps by which it came
-pub record IsKernelOf (pool : Interned) (made : Kernel) (R : Repository) : Type 0 where
-  pub book : IsBookOf pool made.book (kernel R)
-  pub class_of : made.class_of ≡ map (kernel_class R) (packages R)
-  pub steps : trail_meaning pool made.trail.steps ≡ kernel_steps R
+-- a kernel is that of a repository at this limit, with hold or without as it tells itself, with the class of each package, the
+-- held classes and the steps by which it came
+pub record IsKernelOf (pool : Interned) (made : Kernel) (limit : ℕ) (R : Repository) : Type 0 where
+  pub book : IsBookOf pool made.book (kernel limit made.hold R)
+  pub class_of : made.class_of ≡ map (kernel_class limit made.hold R) (packages R)
+  pub held : made.held ≡ kernel_held limit made.hold R
+  pub steps : trail_meaning pool made.trail.steps ≡ kernel_steps limit made.hold R
   pub books : SoundSteps pool made.trail.steps
 
--- the book is the repository of the packages, and the kernel is its kernel
-pub record IsViewOf (pool : Interned) (home : Home) (stanzas : List PackageFacts) (book : Book) (made : Kernel) : Type 0 where
+-- the book is the repository of the packages, and the kernel is its kernel at this limit
+pub record IsViewOf (pool : Interned) (home : Home) (stanzas : List PackageFacts) (book : Book) (made : Kernel) (limit : ℕ) : Type 0 where
   pub book_is : IsBookOf pool book (suite_repository home stanzas)
-  pub kernel_is : IsKernelOf pool made (suite_repository home stanzas)
+  pub kernel_is : IsKernelOf pool made limit (suite_repository home stanzas)
 
 -- These facts have one proof at most, so that a view may keep them.
 abbrev repository_code : Coded Repository
@@ -74,11 +77,12 @@ SoundStep-prop pool (Merge class_of) = Unit-prop
 book-prop : (pool : Interned) (book : Book) (R : Repository) → IsProp (IsBookOf pool book R)
 book-prop pool book R = let e : IsProp (repository_of pool book ≡ R) = Coded-set repository_code (repository_of pool book) R in hlevel (e, Sound-prop)
 
-kernel-prop : (pool : Interned) (made : Kernel) (R : Repository) → IsProp (IsKernelOf pool made R)
-kernel-prop pool made R =
-    let classes : IsProp (made.class_of ≡ map (kernel_class R) (packages R)) = Coded-set (coded_list coded_ℕ) made.class_of (map (kernel_class R) (packages R)) in
-    let steps : IsProp (trail_meaning pool made.trail.steps ≡ kernel_steps R) = Coded-set (coded_list step_code) (trail_meaning pool made.trail.steps) (kernel_steps R) in
-    hlevel (book-prop, classes, steps, SoundStep-prop)
+kernel-prop : (pool : Interned) (made : Kernel) (limit : ℕ) (R : Repository) → IsProp (IsKernelOf pool made limit R)
+kernel-prop pool made limit R =
+    let classes : IsProp (made.class_of ≡ map (kernel_class limit made.hold R) (packages R)) = Coded-set (coded_list coded_ℕ) made.class_of (map (kernel_class limit made.hold R) (packages R)) in
+    let held : IsProp (made.held ≡ kernel_held limit made.hold R) = Coded-set (coded_list coded_ℕ) made.held (kernel_held limit made.hold R) in
+    let steps : IsProp (trail_meaning pool made.trail.steps ≡ kernel_steps limit made.hold R) = Coded-set (coded_list step_code) (trail_meaning pool made.trail.steps) (kernel_steps limit made.hold R) in
+    hlevel (book-prop, classes, held, steps, SoundStep-prop)
 
-pub IsViewOf-prop : (pool : Interned) (home : Home) (stanzas : List PackageFacts) (book : Book) (made : Kernel) → IsProp (IsViewOf pool home stanzas book made)
-IsViewOf-prop pool home stanzas book made = hlevel (book-prop, kernel-prop)
+pub IsViewOf-prop : (pool : Interned) (home : Home) (stanzas : List PackageFacts) (book : Book) (made : Kernel) (limit : ℕ) → IsProp (IsViewOf pool home stanzas book made limit)
+IsViewOf-prop pool home stanzas book made limit = hlevel (book-prop, kernel-prop)

@@ -22,7 +22,7 @@ pub(crate) struct Asked {
 /// What the goals ask for, or the first of them that names no package.
 pub(crate) fn ask(alloc: Global, view: &SuiteView, goals: &[Goal]) -> Result<Asked, DecideError>
     ensures packages { IfOk result (λ asked. asked.packages ≡ wanted_by view.now.suite.packages goals.now) }
-    ensures classes { IfOk result (λ asked. asked.classes ≡ images_of view.now.suite.home view.now.suite.packages goals.now) }
+    ensures classes { IfOk result (λ asked. asked.classes ≡ images_of view.now.limit view.now.kernel.hold view.now.suite.home view.now.suite.packages goals.now) }
     ensures known { OnOk result (unknown_goal view.now.suite.packages goals.now ≡ None) }
     ensures unknown { IfErr result (OnUnknown (λ goal. unknown_goal view.now.suite.packages goals.now ≡ Some goal)) }
 {
@@ -43,13 +43,9 @@ pub(crate) fn ask(alloc: Global, view: &SuiteView, goals: &[Goal]) -> Result<Ask
 }
 
 /// The classes of some packages, ascending.
-pub(crate) fn image_of(
-    alloc: Global,
-    view: &SuiteView,
-    chosen: &[u32],
-) -> Result<Vec<u32>, AllocError>
+pub fn image_of(alloc: Global, view: &SuiteView, chosen: &[u32]) -> Result<Vec<u32>, AllocError>
     requires { (n : ℕ) → In n chosen.now → n < length view.now.suite.packages }
-    ensures { IfOk result (λ image. image.items ≡ goal_classes (suite_repository view.now.suite.home view.now.suite.packages) chosen.now) }
+    ensures { IfOk result (λ image. image.items ≡ goal_classes view.now.limit view.now.kernel.hold (suite_repository view.now.suite.home view.now.suite.packages) chosen.now) }
 {
     let mut classes = each_class(alloc, view.kernel.class_of.as_slice(), chosen)?;
     sort_once(&mut classes);

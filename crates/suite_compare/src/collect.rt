@@ -57,7 +57,7 @@ pub(crate) fn classes_of_names(
     names: &[Bytes],
 ) -> Result<Vec<NumList>, AllocError>
     requires { HasNames view.now.suite.packages table.now }
-    ensures { IfOk result (λ lists. lists.items ≡ map (λ name. image_of view.now.suite.home view.now.suite.packages (any_version name)) names.now) }
+    ensures { IfOk result (λ lists. lists.items ≡ map (λ name. image_of view.now.limit view.now.kernel.hold view.now.suite.home view.now.suite.packages (any_version name)) names.now) }
 {
     let mut lists = Vec::new(alloc);
     for name in names {

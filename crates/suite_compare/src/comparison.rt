@@ -167,15 +167,18 @@ fn lines_of(
 
 /// What the new suite has broken of the old one, within a budget of failed leaves a search, from 1 to 1,000,000: the names
 /// that both have and that are not installable any more, and of those that each are installable in the new suite the pairs
-/// that are not installable together any more; open where a search spent the budget. It fails only where no memory is found.
+/// that are not installable together any more; open where a search spent the budget. Both views were made at one and the same
+/// clause limit, and both with hold or both without. It fails only where no memory is found.
 pub fn compare(
     alloc: Global,
     old: &SuiteView,
     new: &SuiteView,
     budget: u64,
 ) -> Result<Report, AllocError>
-    requires { IsBudget budget }
-    ensures { IfOk result (λ made. made.lines ≡ report (verdict_in old.now.suite.home old.now.suite.packages budget) (verdict_in new.now.suite.home new.now.suite.packages budget)
+    requires budget { IsBudget budget }
+    requires limit { new.now.limit ≡ old.now.limit }
+    requires hold { new.now.kernel.hold ≡ old.now.kernel.hold }
+    ensures { IfOk result (λ made. made.lines ≡ report (verdict_in old.now.limit old.now.kernel.hold old.now.suite.home old.now.suite.packages budget) (verdict_in old.now.limit old.now.kernel.hold new.now.suite.home new.now.suite.packages budget)
         (names_of_both old.now.suite.packages new.now.suite.packages)) }
 {
     let old_packages = old.suite.packages.as_slice();

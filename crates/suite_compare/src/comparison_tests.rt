@@ -81,7 +81,7 @@ fn view_of(alloc: Global, head: &str, tail: &str) -> Result<SuiteView, AllocErro
     if bytes.len() > 1_073_741_824 {
         return Err(AllocError);
     }
-    match SuiteView::of(alloc, bytes, 65_536) {
+    match SuiteView::of(alloc, bytes, 65_536, false) {
         Ok(view) => Ok(view),
         Err(_) => Err(AllocError),
     }
@@ -94,6 +94,9 @@ fn told(
     budget: u64,
 ) -> Result<String, AllocError> {
     if budget == 0 || budget > 1_000_000 {
+        return Err(AllocError);
+    }
+    if old.limit != new.limit || old.kernel.hold != new.kernel.hold {
         return Err(AllocError);
     }
     let report = compare(alloc, old, new, budget)?;

@@ -20,8 +20,8 @@ pub fn decide(
     budget: u64,
 ) -> Result<Answer, DecideError>
     requires { IsBudget budget }
-    ensures answer { IfOk result (IsAnswerOf view.now.suite.home view.now.suite.packages goals.now budget) }
-    ensures certified { IfOk result (IsCertified view.now.suite.home view.now.suite.packages goals.now) }
+    ensures answer { IfOk result (IsAnswerOf view.now.limit view.now.kernel.hold view.now.suite.home view.now.suite.packages goals.now budget) }
+    ensures certified { IfOk result (IsCertified view.now.limit view.now.kernel.hold view.now.suite.home view.now.suite.packages goals.now) }
     ensures known { OnOk result (unknown_goal view.now.suite.packages goals.now ≡ None) }
     ensures unknown { IfErr result (OnUnknown (λ goal. unknown_goal view.now.suite.packages goals.now ≡ Some goal)) }
 {

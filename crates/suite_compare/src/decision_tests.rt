@@ -18,25 +18,54 @@ const TANGLE: &str =
 const TWO_NEEDS: &str =
     "Package: a\nVersion: 1\nDepends: b, c\n\nPackage: b\nVersion: 1\n\nPackage: c\nVersion: 1\n";
 
+/// A row of the first package would have three clauses without the second one.
+const THREE_DEEP: &str =
+    "Package: a\nVersion: 1\nDepends: m, g\n\nPackage: m\nVersion: 1\nDepends: b, c\n\nPackage: b\nVersion: 1\nConflicts: e\n\nPackage: c\nVersion: 1\nConflicts: f\n\nPackage: g\nVersion: 1\nConflicts: h\n\nPackage: e\nVersion: 1\n\nPackage: f\nVersion: 1\n\nPackage: h\nVersion: 1\n";
+
 /// An element without a package name.
 const BAD: &str = "Package: a\nVersion: 1\nDepends: b (>= 1), c |\n";
 
-const CASES: [(&str, u32, u64, &str, &str); 9] = [
-    (THREE, 65_536, 10, "b c", "no 0"),
-    (THREE, 65_536, 10, "a c", "yes 0 2 by 0 2"),
-    (THREE, 65_536, 10, "a", "yes 0 1 by 0"),
-    (THREE, 65_536, 10, "a zz", "unknown 2"),
-    (TANGLE, 65_536, 1, "p", "spent 2"),
-    (TANGLE, 65_536, 2, "p", "no 1 1 0"),
+const CASES: [(&str, u32, bool, u64, &str, &str); 12] = [
+    (THREE, 65_536, false, 10, "b c", "no 0"),
+    (THREE, 65_536, false, 10, "a c", "yes 0 2 by 0 2"),
+    (THREE, 65_536, false, 10, "a", "yes 0 1 by 0"),
+    (THREE, 65_536, false, 10, "a zz", "unknown 2"),
+    (TANGLE, 65_536, false, 1, "p", "spent 2"),
+    (TANGLE, 65_536, false, 2, "p", "no 1 1 0"),
     (
         TWO_NEEDS,
         1,
+        false,
         10,
         "a",
         "limit 1: round 1, gone 0, package 0 a 1, clauses 2",
     ),
-    (TWO_NEEDS, 2, 10, "c=1-0 a", "yes 0 1 2 by 0"),
-    (BAD, 65_536, 10, "a zz", "line 3: bad relation, element 2"),
+    (TWO_NEEDS, 2, false, 10, "c=1-0 a", "yes 0 1 2 by 0"),
+    (
+        BAD,
+        65_536,
+        false,
+        10,
+        "a zz",
+        "line 3: bad relation, element 2",
+    ),
+    (
+        THREE_DEEP,
+        2,
+        false,
+        10,
+        "a",
+        "limit 2: round 1, gone 2, package 0 a 1, clauses 3",
+    ),
+    (THREE_DEEP, 2, true, 10, "a", "yes 0 1 2 3 4 by 0 1 2 3 4"),
+    (
+        TWO_NEEDS,
+        1,
+        true,
+        10,
+        "a",
+        "limit 1: round 1, gone 0, package 0 a 1, clauses 2",
+    ),
 ];
 
 fn push_numbers(alloc: Global, numbers: &NumList, out: &mut String) -> Result<(), AllocError> {
@@ -120,6 +149,7 @@ fn answer_to(
     alloc: Global,
     text: &str,
     limit: u32,
+    hold: bool,
     budget: u64,
     words: &str,
 ) -> Result<String, AllocError> {
@@ -127,7 +157,7 @@ fn answer_to(
     if bytes.len() > 1_073_741_824 || limit == 0 || budget == 0 || budget > 1_000_000 {
         return Err(AllocError);
     }
-    match SuiteView::of(alloc, bytes, limit) {
+    match SuiteView::of(alloc, bytes, limit, hold) {
         Ok(view) => {
             let goals = goals_of(alloc, words)?;
             show_answer(alloc, &decide(alloc, &view, goals.as_slice(), budget))
@@ -138,8 +168,8 @@ fn answer_to(
 
 #[test]
 fn answers(rt: HostRuntime) -> Result<(), Fail> {
-    for (text, limit, budget, words, shown) in CASES {
-        let answer = answer_to(rt.alloc(), text, limit, budget, words)?;
+    for (text, limit, hold, budget, words, shown) in CASES {
+        let answer = answer_to(rt.alloc(), text, limit, hold, budget, words)?;
         assert_eq!(rt; answer.as_str(), shown);
     }
     Ok(())

@@ -21,6 +21,7 @@ mod tell;
 pub mod view;
 
 pub use answers::{Answer, DecideError};
+pub use ask::image_of;
 pub use comparison::compare;
 pub use decision::decide;
 pub use laws::{answer_is_verdict, kernel_decides, verdict_is_judged};

@@ -1,5 +1,5 @@
 //! How views are made.
-ghost use Rattle.std.specs.Prelude.{◌≡◌, ◌<◌, ◌≤◌, length, List, ℕ, None, Some, IfOk, IfErr, OnOk};
+ghost use Rattle.std.specs.Prelude.{◌≡◌, ◌<◌, ◌≤◌, length, Bool, List, ℕ, None, Some, IfOk, IfErr, OnOk};
 ghost use Rattle.repo_model.specs.FirstFault.{first_fault};
 ghost use Rattle.repo_model.specs.Repository.{suite_repository};
 ghost use Rattle.row_book.specs.Rounds.{limit_at};
@@ -16,45 +16,56 @@ use std::alloc::{AllocError, Global};
 
 impl SuiteView {
     /// The view of an index, with at most so many clauses in any row on the way to its kernel: the index is read, and then
-    /// its kernel is extracted.
-    pub fn of(alloc: Global, bytes: &[u8], limit: u32) -> Result<SuiteView, ViewError>
+    /// its kernel is extracted. With `hold` a package stays in the kernel where its elimination would make a row pass the limit.
+    pub fn of(alloc: Global, bytes: &[u8], limit: u32, hold: bool) -> Result<SuiteView, ViewError>
         requires short { length bytes.now ≤ 1073741824 }
         requires limit { 0 < limit }
-        ensures refused { IfErr result (RefusesIndex bytes.now limit) }
+        ensures refused { IfErr result (RefusesIndex bytes.now limit hold) }
         ensures accepted { OnOk result (first_fault bytes.now ≡ None) }
-        ensures within { OnOk result (limit_at (suite_repository (home_in bytes.now) (packages_in bytes.now)) limit ≡ None) }
+        ensures within { OnOk result (limit_at limit hold (suite_repository (home_in bytes.now) (packages_in bytes.now)) ≡ None) }
         ensures packages { IfOk result (λ view. view.suite.packages ≡ packages_in bytes.now) }
         ensures home { IfOk result (λ view. view.suite.home ≡ home_in bytes.now) }
+        ensures limit { IfOk result (λ view. view.limit ≡ limit) }
+        ensures hold { IfOk result (λ view. view.kernel.hold ≡ hold) }
     {
         let suite = match read_suite(alloc, bytes) {
             Ok(suite) => suite,
             Err(IndexFault::Memory) => return Err(ViewError::Memory),
             Err(fault) => return Err(ViewError::Index(fault)),
         };
-        match SuiteView::of_suite(alloc, suite, limit) {
+        match SuiteView::of_suite(alloc, suite, limit, hold) {
             Ok(view) => Ok(view),
             Err(error) => Err(of_index(error)),
         }
     }
 
-    /// The view of a suite, with at most so many clauses in any row on the way to its kernel; a refusal drops the suite.
-    pub fn of_suite(alloc: Global, suite: Suite, limit: u32) -> Result<SuiteView, LimitError>
+    /// The view of a suite, with at most so many clauses in any row on the way to its kernel; a refusal drops the suite. With
+    /// `hold` a package stays in the kernel where its elimination would make a row pass the limit.
+    pub fn of_suite(
+        alloc: Global,
+        suite: Suite,
+        limit: u32,
+        hold: bool,
+    ) -> Result<SuiteView, LimitError>
         requires { 0 < limit }
-        ensures refused { IfErr result (RefusesSuite suite.home suite.packages limit) }
-        ensures within { OnOk result (limit_at (suite_repository suite.home suite.packages) limit ≡ None) }
+        ensures refused { IfErr result (RefusesSuite suite.home suite.packages limit hold) }
+        ensures within { OnOk result (limit_at limit hold (suite_repository suite.home suite.packages) ≡ None) }
         ensures packages { IfOk result (λ view. view.suite.packages ≡ suite.packages) }
         ensures home { IfOk result (λ view. view.suite.home ≡ suite.home) }
+        ensures limit { IfOk result (λ view. view.limit ≡ limit) }
+        ensures hold { IfOk result (λ view. view.kernel.hold ≡ hold) }
     {
         let mut pool = Pool::new(alloc)?;
         let book = suite.book(alloc, &mut pool)?;
         // What holds of every pool is told by this call alone.
         pool.clause_count();
-        match extract(alloc, &mut pool, &book, limit) {
+        match extract(alloc, &mut pool, &book, limit, hold) {
             Ok(kernel) => Ok(SuiteView {
                 pool,
                 suite,
                 book,
                 kernel,
+                limit,
             }),
             Err(
                 RoundError::Limit {
@@ -79,8 +90,8 @@ fn limit_of(
     count: u64,
 ) -> LimitError
     requires { «package» < length suite.now.packages }
-    ensures { (limit : ℕ) → limit_at (suite_repository suite.now.home suite.now.packages) limit ≡ Some (record { number = round; gone = gone; «package» = «package»; count = count }) →
-        RefusesSuite suite.now.home suite.now.packages limit result }
+    ensures { (limit : ℕ) (hold : Bool) → limit_at limit hold (suite_repository suite.now.home suite.now.packages) ≡ Some (record { number = round; gone = gone; «package» = «package»; count = count }) →
+        RefusesSuite suite.now.home suite.now.packages limit hold result }
 {
     match texts_of(alloc, &suite.packages.as_slice()[package as usize]) {
         Ok((name, version)) => LimitError::Limit {
@@ -107,7 +118,7 @@ fn texts_of(alloc: Global, facts: &PackageFacts) -> Result<(Bytes, Bytes), Alloc
 
 // The same refusal, of the index that the suite was read from.
 fn of_index(error: LimitError) -> ViewError
-    ensures { (text : List ℕ) (limit : ℕ) → first_fault text ≡ None → RefusesSuite (home_in text) (packages_in text) limit error → RefusesIndex text limit result }
+    ensures { (text : List ℕ) (limit : ℕ) (hold : Bool) → first_fault text ≡ None → RefusesSuite (home_in text) (packages_in text) limit hold error → RefusesIndex text limit hold result }
 {
     match error {
         LimitError::Limit {

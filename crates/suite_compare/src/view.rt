@@ -1,4 +1,4 @@
-//! Views of suites: a suite with its repository and the kernel of that.
+//! Views of suites: a suite with its repository and the kernel of that, at a clause limit, with hold or without.
 ghost use Rattle.suite_compare.specs.Views.{IsViewOf, IsViewOf-prop};
 
 use clause_pool::Pool;
@@ -6,7 +6,7 @@ use kernel_rounds::Kernel;
 use repo_model::Suite;
 use row_book::Book;
 
-/// A suite with its repository, as a book over a pool, and the kernel of that.
+/// A suite with its repository, as a book over a pool, and the kernel of that, which tells whether it was made with hold.
 #[derive(Drop)]
 pub struct SuiteView {
     /// The pool of the rows of the book, of the kernel and of its steps.
@@ -17,5 +17,7 @@ pub struct SuiteView {
     pub book: Book,
     /// The kernel of the book.
     pub kernel: Kernel,
-    ghost of_suite: { IsViewOf pool suite.home suite.packages book kernel } by { IsViewOf-prop pool suite.home suite.packages book kernel },
+    /// The clause limit at which the kernel was made.
+    pub limit: u32,
+    ghost of_suite: { IsViewOf pool suite.home suite.packages book kernel limit } by { IsViewOf-prop pool suite.home suite.packages book kernel limit },
 }

@@ -8,7 +8,7 @@ use Rattle.explain_core.proofs.goals.core_of.Given as goal
 
 abbrev pub invariant-loop-place : goal.invariant-loop-place
 invariant-loop-place l = record {
-  left : core_of l.view.suite.home l.view.suite.packages l.budget l.goals
-      ≡ kept_behind (verdict_on l.view.suite.home l.view.suite.packages l.budget l.goals) (kept_marks l.marks) (range_with_len (l.place + 1) (length l.goals - l.place));
+  left : core_of l.view.limit l.view.kernel.hold l.view.suite.home l.view.suite.packages l.budget l.goals
+      ≡ kept_behind (verdict_on l.view.limit l.view.kernel.hold l.view.suite.home l.view.suite.packages l.budget l.goals) (kept_marks l.marks) (range_with_len (l.place + 1) (length l.goals - l.place));
   places : ArePlacesFrom1 l.place l.marks;
 }

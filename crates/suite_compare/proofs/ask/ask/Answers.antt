@@ -17,11 +17,11 @@ push-requires-clause-ascending c =
 pub push-requires-in-loop-place-clause-ascending : goal.push-requires-in-loop-place-clause-ascending
 push-requires-in-loop-place-clause-ascending c =
     subst Ascending (sym (c.deref-in-loop-place-2.ensures.value ∙ c.in_ok-image.ensures))
-    (classes_ascending (suite_repository c.args.view.now.suite.home c.args.view.now.suite.packages) c.deref.result.now)
+    (classes_ascending c.args.view.now.limit c.args.view.now.kernel.hold (suite_repository c.args.view.now.suite.home c.args.view.now.suite.packages) c.deref.result.now)
 
 pub push-requires-in-loop-place-clause-filled : goal.push-requires-in-loop-place-clause-filled
 push-requires-in-loop-place-clause-filled c =
     let some : 0 < length c.deref.result.now = grind (arith, common_steps) in
     subst (λ ns. 0 < length ns) (sym (c.deref-in-loop-place-2.ensures.value ∙ c.in_ok-image.ensures))
-    (image_filled c.args.view.now.suite.home c.args.view.now.suite.packages c.deref.result.now
+    (image_filled c.args.view.now.limit c.args.view.now.kernel.hold c.args.view.now.suite.home c.args.view.now.suite.packages c.deref.result.now
     (λ n i. named_inside c.args.view.now.suite.packages c.index-goals-place.result n (subst (λ ns. In n ns) (c.deref.ensures.value ∙ c.in_ok-chosen.ensures) i)) some)

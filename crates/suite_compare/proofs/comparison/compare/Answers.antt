@@ -1,10 +1,11 @@
-use Rattle.std.proofs.Common.{◌≤◌, ◌∙◌, ap, filter, length, map, subst, sym}
+use Rattle.std.proofs.Common.{◌≤◌, ◌∙◌, ℕ, List, ap, filter, length, map, subst, sym}
+use Rattle.clause_solver.specs.declared.outcomes.Verdict.{Verdict}
 use Rattle.repo_model.specs.Goals.{any_version}
 use Rattle.search_terms.proofs.Ranges.{rows_long}
 use Rattle.suite_compare.specs.Asking.{verdict_in}
 use Rattle.suite_compare.specs.Comparing.{told_report}
 use Rattle.suite_compare.specs.Names.{stands_in, HasNames}
-use Rattle.suite_compare.proofs.Compared.{verdicts_are}
+use Rattle.suite_compare.proofs.Compared.{verdicts_are, verdicts_at}
 use Rattle.suite_compare.proofs.Named.{both_new, both_old, lists_fit, lists_need}
 use Rattle.suite_compare.proofs.comparison.compare.Goals as goal
 
@@ -21,16 +22,29 @@ pub classes_of_names-requires-2 : goal.classes_of_names-requires-2
 classes_of_names-requires-2 c = subst (λ z. HasNames z c.in_ok-new_table.new_table) c.as_slice-new_packages.ensures c.in_ok-new_table.ensures
 
 pub lines_of-requires-clause-old_needs : goal.lines_of-requires-clause-old_needs
-lines_of-requires-clause-old_needs c = lists_need c.args.old.now.suite.home c.args.old.now.suite.packages c.as_slice-names.result.now c.as_slice-2.result.now (c.as_slice-2.ensures.value ∙ c.in_ok-old_lists.ensures) (both_old c.args.old.now.suite.packages c.args.new.now.suite.packages c.as_slice-names.result.now (c.as_slice-names.ensures.value ∙ c.in_ok-found.ensures c.args.new.now.suite.packages (subst (λ z. HasNames z c.in_ok-new_table.new_table) c.as_slice-new_packages.ensures c.in_ok-new_table.ensures) ∙ ap (filter (stands_in c.args.new.now.suite.packages)) (c.as_slice.ensures ∙ c.in_ok-all.ensures)))
+lines_of-requires-clause-old_needs c = lists_need c.args.old.now.limit c.args.old.now.kernel.hold c.args.old.now.suite.home c.args.old.now.suite.packages c.as_slice-names.result.now c.as_slice-2.result.now (c.as_slice-2.ensures.value ∙ c.in_ok-old_lists.ensures) (both_old c.args.old.now.suite.packages c.args.new.now.suite.packages c.as_slice-names.result.now (c.as_slice-names.ensures.value ∙ c.in_ok-found.ensures c.args.new.now.suite.packages (subst (λ z. HasNames z c.in_ok-new_table.new_table) c.as_slice-new_packages.ensures c.in_ok-new_table.ensures) ∙ ap (filter (stands_in c.args.new.now.suite.packages)) (c.as_slice.ensures ∙ c.in_ok-all.ensures)))
 
 pub lines_of-requires-clause-new_needs : goal.lines_of-requires-clause-new_needs
-lines_of-requires-clause-new_needs c = lists_need c.args.new.now.suite.home c.args.new.now.suite.packages c.as_slice-names.result.now c.as_slice-3.result.now (c.as_slice-3.ensures.value ∙ c.in_ok-new_lists.ensures) (both_new c.args.old.now.suite.packages c.args.new.now.suite.packages c.as_slice-names.result.now (c.as_slice-names.ensures.value ∙ c.in_ok-found.ensures c.args.new.now.suite.packages (subst (λ z. HasNames z c.in_ok-new_table.new_table) c.as_slice-new_packages.ensures c.in_ok-new_table.ensures) ∙ ap (filter (stands_in c.args.new.now.suite.packages)) (c.as_slice.ensures ∙ c.in_ok-all.ensures)))
+lines_of-requires-clause-new_needs c = lists_need c.args.new.now.limit c.args.new.now.kernel.hold c.args.new.now.suite.home c.args.new.now.suite.packages c.as_slice-names.result.now c.as_slice-3.result.now (c.as_slice-3.ensures.value ∙ c.in_ok-new_lists.ensures) (both_new c.args.old.now.suite.packages c.args.new.now.suite.packages c.as_slice-names.result.now (c.as_slice-names.ensures.value ∙ c.in_ok-found.ensures c.args.new.now.suite.packages (subst (λ z. HasNames z c.in_ok-new_table.new_table) c.as_slice-new_packages.ensures c.in_ok-new_table.ensures) ∙ ap (filter (stands_in c.args.new.now.suite.packages)) (c.as_slice.ensures ∙ c.in_ok-all.ensures)))
 
 pub lines_of-requires-clause-old_fit : goal.lines_of-requires-clause-old_fit
-lines_of-requires-clause-old_fit c = lists_fit c.args.old.now.suite.home c.args.old.now.suite.packages c.as_slice-names.result.now c.as_slice-2.result.now (length c.args.old.now.kernel.book.rows) (c.as_slice-2.ensures.value ∙ c.in_ok-old_lists.ensures) (sym (ap (λ K. length K.clauses) c.args.old.now.of_suite.kernel_is.book.repository) ∙ rows_long c.args.old.now.pool c.args.old.now.kernel.book.rows)
+lines_of-requires-clause-old_fit c = lists_fit c.args.old.now.limit c.args.old.now.kernel.hold c.args.old.now.suite.home c.args.old.now.suite.packages c.as_slice-names.result.now c.as_slice-2.result.now (length c.args.old.now.kernel.book.rows) (c.as_slice-2.ensures.value ∙ c.in_ok-old_lists.ensures) (sym (ap (λ K. length K.clauses) c.args.old.now.of_suite.kernel_is.book.repository) ∙ rows_long c.args.old.now.pool c.args.old.now.kernel.book.rows)
 
 pub lines_of-requires-clause-new_fit : goal.lines_of-requires-clause-new_fit
-lines_of-requires-clause-new_fit c = lists_fit c.args.new.now.suite.home c.args.new.now.suite.packages c.as_slice-names.result.now c.as_slice-3.result.now (length c.args.new.now.kernel.book.rows) (c.as_slice-3.ensures.value ∙ c.in_ok-new_lists.ensures) (sym (ap (λ K. length K.clauses) c.args.new.now.of_suite.kernel_is.book.repository) ∙ rows_long c.args.new.now.pool c.args.new.now.kernel.book.rows)
+lines_of-requires-clause-new_fit c = lists_fit c.args.new.now.limit c.args.new.now.kernel.hold c.args.new.now.suite.home c.args.new.now.suite.packages c.as_slice-names.result.now c.as_slice-3.result.now (length c.args.new.now.kernel.book.rows) (c.as_slice-3.ensures.value ∙ c.in_ok-new_lists.ensures) (sym (ap (λ K. length K.clauses) c.args.new.now.of_suite.kernel_is.book.repository) ∙ rows_long c.args.new.now.pool c.args.new.now.kernel.book.rows)
 
 pub returns : goal.returns
-returns c = c.in_ok-lines.ensures (λ ns. verdict_in c.args.old.now.suite.home c.args.old.now.suite.packages c.args.budget (map any_version ns)) (λ ns. verdict_in c.args.new.now.suite.home c.args.new.now.suite.packages c.args.budget (map any_version ns)) (verdicts_are c.args.old.now.pool c.args.old.now.kernel.book c.args.old.now.suite.home c.args.old.now.suite.packages c.args.budget c.as_slice-names.result.now c.as_slice-2.result.now c.args.old.now.of_suite.kernel_is.book.repository (c.as_slice-2.ensures.value ∙ c.in_ok-old_lists.ensures)) (verdicts_are c.args.new.now.pool c.args.new.now.kernel.book c.args.new.now.suite.home c.args.new.now.suite.packages c.args.budget c.as_slice-names.result.now c.as_slice-3.result.now c.args.new.now.of_suite.kernel_is.book.repository (c.as_slice-3.ensures.value ∙ c.in_ok-new_lists.ensures)) ∙ ap (told_report (λ ns. verdict_in c.args.old.now.suite.home c.args.old.now.suite.packages c.args.budget (map any_version ns)) (λ ns. verdict_in c.args.new.now.suite.home c.args.new.now.suite.packages c.args.budget (map any_version ns))) (c.as_slice-names.ensures.value ∙ c.in_ok-found.ensures c.args.new.now.suite.packages (subst (λ z. HasNames z c.in_ok-new_table.new_table) c.as_slice-new_packages.ensures c.in_ok-new_table.ensures) ∙ ap (filter (stands_in c.args.new.now.suite.packages)) (c.as_slice.ensures ∙ c.in_ok-all.ensures))
+returns c =
+    let limit = c.args.old.now.limit in
+    let hold = c.args.old.now.kernel.hold in
+    let old = c.args.old.now in
+    let new = c.args.new.now in
+    let names = c.as_slice-names.result.now in
+    let was : List (List ℕ) → Verdict = λ ns. verdict_in limit hold old.suite.home old.suite.packages c.args.budget (map any_version ns) in
+    let is : List (List ℕ) → Verdict = λ ns. verdict_in limit hold new.suite.home new.suite.packages c.args.budget (map any_version ns) in
+    c.in_ok-lines.ensures was is
+    (verdicts_are limit hold old.pool old.kernel.book old.suite.home old.suite.packages c.args.budget names c.as_slice-2.result.now old.of_suite.kernel_is.book.repository (c.as_slice-2.ensures.value ∙ c.in_ok-old_lists.ensures))
+    (verdicts_at limit hold new.limit new.kernel.hold c.requires.limit c.requires.hold new.pool new.kernel.book new.suite.home new.suite.packages c.args.budget names c.as_slice-3.result.now new.of_suite.kernel_is.book.repository
+    (c.as_slice-3.ensures.value ∙ c.in_ok-new_lists.ensures))
+    ∙ ap (told_report was is) (c.as_slice-names.ensures.value ∙ c.in_ok-found.ensures new.suite.packages (subst (λ z. HasNames z c.in_ok-new_table.new_table) c.as_slice-new_packages.ensures c.in_ok-new_table.ensures)
+    ∙ ap (filter (stands_in new.suite.packages)) (c.as_slice.ensures ∙ c.in_ok-all.ensures))

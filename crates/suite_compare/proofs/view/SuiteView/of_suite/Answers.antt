@@ -5,19 +5,19 @@ use Rattle.suite_compare.proofs.view.SuiteView.of_suite.Goals as goal
 
 pub invariant_of-result : goal.invariant_of-result
 invariant_of-result c = record {
-  of_suite = view_made c.book.new.pool c.extract.new.pool c.args.suite.home c.args.suite.packages c.in_ok-book.book c.in-Ok.kernel c.args.limit c.clause_count.ensures.sound
-      c.in_ok-book.ensures.repository c.in_ok-book.ensures.sound c.in-Ok.ensures.kernel;
+  of_suite = view_made c.book.new.pool c.extract.new.pool c.args.suite.home c.args.suite.packages c.in_ok-book.book c.in-Ok.kernel c.args.limit c.args.hold c.clause_count.ensures.sound
+      c.in_ok-book.ensures.repository c.in_ok-book.ensures.sound c.in-Ok.ensures.hold c.in-Ok.ensures.kernel;
 }
 
 pub limit_of-requires : goal.limit_of-requires
 limit_of-requires c =
     let passes_it = rw c.in-Err-Limit.field-0-is at c.in-Err-Limit.ensures.passed in
     let inside : c.in-Err-Limit.package < length c.args.suite.packages =
-    passed_inside c.book.new.pool c.args.suite.home c.args.suite.packages c.in_ok-book.book c.args.limit _ c.in_ok-book.ensures.repository passes_it in
+    passed_inside c.book.new.pool c.args.suite.home c.args.suite.packages c.in_ok-book.book c.args.limit c.args.hold _ c.in_ok-book.ensures.repository passes_it in
     omega (arith, inside)
 
 pub returns-in-Err-Limit-clause-refused : goal.returns-in-Err-Limit-clause-refused
 returns-in-Err-Limit-clause-refused c =
     let passes_it = rw c.in-Err-Limit.field-0-is at c.in-Err-Limit.ensures.passed in
-    c.limit_of.ensures c.args.limit (sym (ap (λ R. limit_at R c.args.limit) c.in_ok-book.ensures.repository)
+    c.limit_of.ensures c.args.limit c.args.hold (sym (ap (limit_at c.args.limit c.args.hold) c.in_ok-book.ensures.repository)
     ∙ limit_told _ c.in-Err-Limit.round c.in-Err-Limit.gone c.in-Err-Limit.package c.in-Err-Limit.count _ _ _ _ passes_it (omega arith) (omega arith) (omega arith) (omega arith))

@@ -1,0 +1,7 @@
+pub mod Words
+pub mod OwnTexts
+pub mod Versions
+pub mod HadGoals
+pub mod Judging
+pub mod NamedHomes
+pub mod Architectures

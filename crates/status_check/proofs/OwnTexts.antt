@@ -1,0 +1,37 @@
+-- The text of the own packages of a status file, and the fault of the file.
+use Rattle.std.proofs.Common.{◌≡◌, ℕ, Bool, List, [], ◌∷◌, length, map, Some, None, Ok, Err, refl, ap, sym, ◌∙◌}
+use Rattle.std.specs.Option.{option_map}
+use Rattle.std.specs.Result.{result_err}
+use Rattle.std.proofs.lemmas.List.{length-map}
+use Rattle.stanza_reader.specs.Blanking.{blanked, HasFlags}
+use Rattle.stanza_reader.specs.Stanzas.{readings, stanzas}
+use Rattle.stanza_reader.specs.declared.fault.StanzaFault.{StanzaFault}
+use Rattle.stanza_reader.specs.declared.stanza.RawStanza.{RawStanza}
+use Rattle.stanza_reader.proofs.BlankLemmas.{good, good_readings}
+use Rattle.relation_fields.specs.declared.packages.Home.{Home}
+use Rattle.repo_model.specs.FirstFault.{stanzas_in, stanzas_of}
+use Rattle.repo_model.specs.declared.fault.IndexFault.TheVariants.{Stanza}
+use Rattle.status_check.specs.Installed.{is_own}
+use Rattle.status_check.specs.Own.{lines_fault, own_text}
+
+pub stanzas_good : (all : List RawStanza) → stanzas_in (map good all) ≡ all
+stanzas_good [] = refl
+stanzas_good (stanza ∷ more) = ap (λ rest. stanza ∷ rest) (stanzas_good more)
+
+-- where the lines have no fault, these are the stanzas
+pub all_stanzas : (file : List ℕ) (all : List RawStanza) → stanzas file ≡ Ok all → stanzas_of file ≡ all
+unfolding stanzas_of
+all_stanzas file all e = ap stanzas_in (good_readings (readings file) all e) ∙ stanzas_good all
+
+pub lines_fine : (file : List ℕ) (all : List RawStanza) → stanzas file ≡ Ok all → lines_fault file ≡ None
+lines_fine file all e = ap (λ read. option_map Stanza (result_err read)) e
+
+pub lines_faulty : (file : List ℕ) (fault : StanzaFault) → stanzas file ≡ Err fault → lines_fault file ≡ Some (Stanza fault)
+lines_faulty file fault e = ap (λ read. option_map Stanza (result_err read)) e
+
+pub flags_fit : (home : Home) (file : List ℕ) (all : List RawStanza) (flags : List Bool) → stanzas file ≡ Ok all → flags ≡ map (is_own home) all → HasFlags file flags
+flags_fit home file all flags e is = record { all = all; fine = e; many = ap length is ∙ length-map all (is_own home) }
+
+pub own_text_is : (home : Home) (file : List ℕ) (all : List RawStanza) (flags : List Bool) (made : List ℕ) → stanzas file ≡ Ok all → flags ≡ map (is_own home) all → made ≡ blanked flags file → made ≡ own_text home file
+unfolding own_text
+own_text_is home file all flags made e is blank = blank ∙ ap (λ fs. blanked fs file) (is ∙ ap (map (is_own home)) (sym (all_stanzas file all e)))

@@ -1,0 +1,5 @@
+pub mod Installed
+pub mod Own
+pub mod Report
+pub mod Lookup
+pub mod Laws

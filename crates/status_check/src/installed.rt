@@ -1,0 +1,179 @@
+//! Which stanzas of a status file are installed, and which of them are foreign.
+ghost use Rattle.std.specs.Prelude.{◌≡◌, ◌∷◌, ◌||◌, ◌≤◌, [], codes, length, map, count_by, IfOk, MatchOption};
+ghost use Rattle.std.specs.List.{position, position_or_len};
+ghost use Rattle.std.specs.Option.{option_copied};
+ghost use Rattle.std.specs.Str.{bytes_eq};
+ghost use Rattle.stanza_reader.specs.Fields.{is_edge, trimmed_start};
+ghost use Rattle.repo_model.specs.Facts.{is_all};
+ghost use Rattle.repo_model.specs.Fields.{field_among, is_kind};
+ghost use Rattle.status_check.specs.Installed.{is_elsewhere, is_foreign, is_installed, is_of_home, is_own, says_installed, words};
+
+use relation_fields::Home;
+use stanza_reader::{FieldKind, RawField, RawStanza};
+use std::alloc::{AllocError, Global};
+
+/// For each stanza whether it is installed and not foreign to the home.
+pub(crate) fn own_flags(
+    alloc: Global,
+    home: &Home,
+    stanzas: &[RawStanza],
+) -> Result<Vec<bool>, AllocError>
+    ensures { IfOk result (λ flags. flags.items ≡ map (is_own home.now) stanzas.now) }
+{
+    stanzas
+        .iter()
+        .map(|stanza| is_own(home, stanza))
+        .collect(alloc)
+}
+
+/// How many of the stanzas are installed and foreign to the home.
+pub(crate) fn foreign_among(home: &Home, stanzas: &[RawStanza]) -> u64
+    ensures { result ≡ count_by (is_foreign home.now) stanzas.now }
+{
+    stanzas
+        .iter()
+        .filter(|stanza| is_foreign(home, stanza))
+        .count() as u64
+}
+
+fn is_own(home: &Home, stanza: &RawStanza) -> bool
+    ensures { result ≡ is_own home.now stanza.now }
+{
+    is_installed(stanza) && !is_elsewhere(home, stanza)
+}
+
+fn is_foreign(home: &Home, stanza: &RawStanza) -> bool
+    ensures { result ≡ is_foreign home.now stanza.now }
+{
+    is_installed(stanza) && is_elsewhere(home, stanza)
+}
+
+// Whether the stanza has an architecture that is neither `all` nor the home.
+fn is_elsewhere(home: &Home, stanza: &RawStanza) -> bool
+    ensures { result ≡ is_elsewhere home.now stanza.now }
+{
+    match find_field(stanza.fields.as_slice(), FieldKind::Architecture) {
+        Some(field) => !is_known(home, field.value.as_slice()),
+        None => false,
+    }
+}
+
+// Whether the architecture is `all` or the home.
+fn is_known(home: &Home, architecture: &[u8]) -> bool
+    ensures { result ≡ (is_all architecture.now || is_of_home home.now architecture.now) }
+{
+    is_all(architecture) || is_of_home(home, architecture)
+}
+
+fn is_all(architecture: &[u8]) -> bool
+    ensures { result ≡ is_all architecture.now }
+{
+    architecture == b"all".as_slice()
+}
+
+fn is_of_home(home: &Home, architecture: &[u8]) -> bool
+    ensures { result ≡ is_of_home home.now architecture.now }
+{
+    match &home.name {
+        Some(name) => architecture == name.as_slice(),
+        None => false,
+    }
+}
+
+#[tactic(auto, unfolding(crate::specs::Installed::words))]
+fn is_installed(stanza: &RawStanza) -> bool
+    ensures { result ≡ is_installed stanza.now }
+{
+    match find_field(stanza.fields.as_slice(), FieldKind::Status) {
+        Some(field) => says_installed(field.value.as_slice()),
+        None => false,
+    }
+}
+
+// Whether the value has exactly three words, of which the third is `installed`.
+fn says_installed(value: &[u8]) -> bool
+    ensures { result ≡ says_installed (words value.now) }
+{
+    let Some((_, behind)) = next_word(value) else {
+        return false;
+    };
+    let Some((_, behind)) = next_word(behind) else {
+        return false;
+    };
+    let Some((third, behind)) = next_word(behind) else {
+        return false;
+    };
+    match next_word(behind) {
+        Some(_) => false,
+        None => is_word_installed(third),
+    }
+}
+
+fn is_word_installed(word: &[u8]) -> bool
+    ensures { result ≡ bytes_eq word.now (codes "installed") }
+{
+    word == b"installed".as_slice()
+}
+
+// The first word of a text, and what is behind it; or none, where the text has no word.
+fn next_word(text: &[u8]) -> Option<(&[u8], &[u8])>
+    ensures { MatchOption result (words text.now ≡ []) (λ next. words text.now ≡ next.0.now ∷ words next.1.now) }
+{
+    let start = skip_white(text);
+    if start.is_empty() {
+        return None;
+    }
+    let size = word_size(start);
+    Some((&start[..size], &start[size..]))
+}
+
+// The text without the white space at its start.
+fn skip_white(text: &[u8]) -> &[u8]
+    ensures { result.now ≡ trimmed_start text.now }
+{
+    let mut rest = text;
+    while let [first, more @ ..] = rest {
+        if !is_white(*first) {
+            return rest;
+        }
+        rest = more;
+    }
+    rest
+}
+
+// How many bytes stand before the first white space.
+fn word_size(text: &[u8]) -> usize
+    ensures place { result ≡ position_or_len is_edge text.now }
+    ensures within { result ≤ length text.now }
+{
+    match white_place(text) {
+        Some(place) => place,
+        None => text.len(),
+    }
+}
+
+fn white_place(text: &[u8]) -> Option<usize>
+    ensures { result ≡ position is_edge text.now }
+{
+    text.iter().position(|byte| is_white(*byte))
+}
+
+// Whether the byte is a space, a tab or a line feed.
+fn is_white(byte: u8) -> bool
+    ensures { result ≡ is_edge byte }
+{
+    byte == b' ' || byte == b'\t' || byte == b'\n'
+}
+
+// The field of a kind, where there is one.
+fn find_field(fields: &[RawField], kind: FieldKind) -> Option<&RawField>
+    ensures { option_copied result ≡ field_among kind fields.now }
+{
+    fields.iter().find(|field| has_kind(field, kind))
+}
+
+fn has_kind(field: &RawField, kind: FieldKind) -> bool
+    ensures { result ≡ is_kind kind field.now.kind }
+{
+    field.kind == kind
+}

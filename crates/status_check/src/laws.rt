@@ -1,0 +1,7 @@
+//! The laws of status files: the functions do nothing, the contract of each is one law.
+ghost use Rattle.status_check.specs.Laws.{NoArchitectureFault};
+
+/// No architecture of a status file is a fault, against whatever index without a fault.
+pub fn no_architecture_fault()
+    ensures { NoArchitectureFault }
+{}

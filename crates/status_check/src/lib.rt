@@ -1,0 +1,17 @@
+//! What an index has of the packages that a dpkg status file says are installed, and whether these can stand together.
+#![tactic(auto)]
+
+mod classes;
+mod installed;
+mod laws;
+mod lookup;
+mod own;
+mod report;
+mod state;
+mod status;
+#[cfg(test)]
+mod tests;
+
+pub use laws::no_architecture_fault;
+pub use report::{HaveLine, HaveList, OwnState, StatusReport, SuiteState};
+pub use status::status_report;

@@ -1,0 +1,96 @@
+//! What the index has of the own packages.
+ghost use Rattle.std.specs.Prelude.{◌≡◌, ◌≤◌, List, true, length, map, IfOk};
+ghost use Rattle.deb_version.specs.Grammar.{is_version};
+ghost use Rattle.relation_fields.specs.declared.packages.PackageFacts.{PackageFacts};
+ghost use Rattle.repo_model.specs.Goals.{packages_named};
+ghost use Rattle.virtual_provides.specs.Exact.{exact_key};
+ghost use Rattle.status_check.specs.Lookup.{HasVersions};
+ghost use Rattle.status_check.specs.Report.{goal_for, line_for};
+
+use crate::report::{HaveLine, HaveList};
+use deb_version::Bytes;
+use relation_fields::PackageFacts;
+use std::alloc::{AllocError, Global};
+use virtual_provides::NumbersByName;
+
+/// The packages under their names and versions.
+pub(crate) fn packages_by_version(
+    alloc: Global,
+    packages: &[PackageFacts],
+) -> Result<NumbersByName, AllocError>
+    requires { length packages.now ≤ 200000 }
+    ensures { IfOk result (HasVersions packages.now) }
+{
+    let mut table = NumbersByName::new(alloc);
+    for (number, package) in packages.iter().enumerate() {
+        let key = key_of(alloc, package)?;
+        table.put(&key, number as u32)?;
+    }
+    Ok(table)
+}
+
+/// The numbers of the packages of a table that have the name of a package and an equal version, ascending.
+pub(crate) fn numbers_of<'a>(
+    alloc: Global,
+    table: &'a NumbersByName,
+    package: &PackageFacts,
+) -> Result<&'a [u32], AllocError>
+    ensures { (index : List PackageFacts) → HasVersions index table.now → IfOk result (λ numbers. numbers.now ≡ packages_named index (goal_for «package».now)) }
+{
+    let key = key_of(alloc, package)?;
+    Ok(table.numbers(&key))
+}
+
+/// The line of each own package.
+pub(crate) fn have_lines(
+    alloc: Global,
+    table: &NumbersByName,
+    packages: &[PackageFacts],
+) -> Result<HaveList, AllocError>
+    ensures { (index : List PackageFacts) → HasVersions index table.now → IfOk result (λ lines. lines ≡ map (line_for index) packages.now) }
+{
+    let mut lines = HaveList::new(alloc);
+    for package in packages {
+        let line = line_for(alloc, table, package)?;
+        lines.push(line)?;
+    }
+    Ok(lines)
+}
+
+// The line of an own package.
+fn line_for(
+    alloc: Global,
+    table: &NumbersByName,
+    package: &PackageFacts,
+) -> Result<HaveLine, AllocError>
+    ensures { (index : List PackageFacts) → HasVersions index table.now → IfOk result (λ line. line ≡ line_for index «package».now) }
+{
+    let numbers = numbers_of(alloc, table, package)?;
+    let name = Bytes::copy(alloc, package.name.as_slice())?;
+    let version = Bytes::copy(alloc, package.version.text())?;
+    Ok(HaveLine {
+        name,
+        version,
+        had: !numbers.is_empty(),
+    })
+}
+
+// The key of a package, which those with its name and an equal version share.
+#[tactic(auto, unfolding(virtual_provides::specs::Exact::exact_key))]
+fn key_of(alloc: Global, package: &PackageFacts) -> Result<Vec<u8>, AllocError>
+    ensures key { IfOk result (λ key. key.items ≡ exact_key «package».now.name «package».now.version) }
+    ensures version { is_version «package».now.version ≡ true }
+{
+    let name = package.name.as_slice();
+    let room = package
+        .version
+        .text()
+        .len()
+        .saturating_add(name.len())
+        .saturating_add(3);
+    let mut key = Vec::with_capacity(alloc, room)?;
+    package.version.push_key(&mut key)?;
+    key.push(b' ')?;
+    key.extend_from_slice(name)?;
+    Ok(key)
+}

@@ -1,0 +1,63 @@
+//! The own packages of a status file.
+ghost use Rattle.std.specs.Prelude.{◌≡◌, ◌≤◌, length, None, Ok, IfOk, IfErr, OnOk};
+ghost use Rattle.stanza_reader.specs.Stanzas.{stanzas};
+ghost use Rattle.repo_model.specs.Refusals.{Refuses};
+ghost use Rattle.status_check.specs.Own.{foreign_count, lines_fault, own_home, own_packages, own_text, status_fault};
+
+use crate::installed::{foreign_among, own_flags};
+use relation_fields::Home;
+use repo_model::{IndexFault, Suite, read_suite};
+use stanza_reader::{RawStanza, StanzaFault, StanzaList, blank_lines, read_stanzas};
+use std::alloc::{AllocError, Global};
+
+/// The own packages of a status file as a suite, and how many of its installed stanzas are foreign.
+#[derive(Drop)]
+pub(crate) struct Own {
+    pub(crate) suite: Suite,
+    pub(crate) foreign: u64,
+}
+
+/// The own packages of a status file, or its first fault; `home` is that of the index.
+pub(crate) fn read_own(alloc: Global, home: &Home, bytes: &[u8]) -> Result<Own, IndexFault>
+    requires { length bytes.now ≤ 1073741824 }
+    ensures refused { IfErr result (λ fault. Refuses fault (status_fault home.now bytes.now)) }
+    ensures accepted { OnOk result (status_fault home.now bytes.now ≡ None) }
+    ensures packages { IfOk result (λ own. own.suite.packages ≡ own_packages home.now bytes.now) }
+    ensures home { IfOk result (λ own. own.suite.home ≡ own_home home.now bytes.now) }
+    ensures foreign { IfOk result (λ own. own.foreign ≡ foreign_count home.now bytes.now) }
+{
+    let all = all_stanzas(alloc, bytes)?;
+    let stanzas = all.as_slice();
+    let foreign = foreign_among(home, stanzas);
+    let text = own_text(alloc, home, bytes, stanzas)?;
+    let suite = read_suite(alloc, &text)?;
+    Ok(Own { suite, foreign })
+}
+
+// The stanzas of the whole file, or the first fault of its lines.
+fn all_stanzas(alloc: Global, bytes: &[u8]) -> Result<StanzaList, IndexFault>
+    ensures stanzas { IfOk result (λ all. stanzas bytes.now ≡ Ok all) }
+    ensures refused { IfErr result (λ fault. Refuses fault (lines_fault bytes.now)) }
+{
+    match read_stanzas(alloc, bytes) {
+        Ok(all) => Ok(all),
+        Err(StanzaFault::Memory) => Err(IndexFault::Memory),
+        Err(fault) => Err(IndexFault::Stanza(fault)),
+    }
+}
+
+// The file without the lines of the stanzas that are not installed, or are foreign.
+fn own_text(
+    alloc: Global,
+    home: &Home,
+    bytes: &[u8],
+    all: &[RawStanza],
+) -> Result<Vec<u8>, AllocError>
+    requires { stanzas bytes.now ≡ Ok all.now }
+    ensures text { IfOk result (λ made. made.items ≡ own_text home.now bytes.now) }
+    ensures short { IfOk result (λ made. length made.items ≤ length bytes.now) }
+{
+    let keep = own_flags(alloc, home, all)?;
+    let made = blank_lines(alloc, bytes, &keep)?;
+    Ok(made)
+}

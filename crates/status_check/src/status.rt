@@ -1,0 +1,60 @@
+//! An installed system against an index.
+ghost use Rattle.std.specs.Prelude.{◌≡◌, ◌≤◌, ◌↔◌, None, length, map, IfOk, IfErr, OnOk};
+ghost use Rattle.clause_solver.specs.Outcomes.{IsBudget};
+ghost use Rattle.repo_model.specs.Refusals.{Refuses};
+ghost use Rattle.repo_model.specs.Repository.{suite_repository};
+ghost use Rattle.repo_model.specs.Stanzas.{HealthyStanzas};
+ghost use Rattle.suite_compare.specs.Asking.{verdict_in};
+ghost use Rattle.status_check.specs.Own.{foreign_count, own_home, own_packages, status_fault};
+ghost use Rattle.status_check.specs.declared.report.OwnState.TheVariants.{Healthy};
+ghost use Rattle.status_check.specs.Report.{all_of, had_goals, line_for, state_of, IsJudged, IsStateOf};
+
+use crate::classes::{had_classes, suite_state};
+use crate::lookup::{have_lines, packages_by_version};
+use crate::own::read_own;
+use crate::report::StatusReport;
+use crate::state::own_state;
+use repo_model::IndexFault;
+use std::alloc::Global;
+use suite_compare::SuiteView;
+
+/// What an index has of the packages that a dpkg status file says are installed: which of them it has, whether they stand
+/// together by themselves, and whether those that it has can be installed from it together, within a budget of failed
+/// leaves, from 1 to 1,000,000. Stanzas that are not installed are passed over, and those of another architecture than `all`
+/// and the home of the index are counted alone. The file has at most 1,073,741,824 bytes; the error is its first fault, or
+/// want of memory.
+pub fn status_report(
+    alloc: Global,
+    view: &SuiteView,
+    bytes: &[u8],
+    budget: u64,
+) -> Result<StatusReport, IndexFault>
+    requires budget { IsBudget budget }
+    requires size { length bytes.now ≤ 1073741824 }
+    ensures refused { IfErr result (λ fault. Refuses fault (status_fault view.now.suite.home bytes.now)) }
+    ensures accepted { OnOk result (status_fault view.now.suite.home bytes.now ≡ None) }
+    ensures lines { IfOk result (λ report. report.lines ≡ map (line_for view.now.suite.packages) (own_packages view.now.suite.home bytes.now)) }
+    ensures foreign { IfOk result (λ report. report.foreign ≡ foreign_count view.now.suite.home bytes.now) }
+    ensures own { IfOk result (λ report. IsStateOf (suite_repository (own_home view.now.suite.home bytes.now) (own_packages view.now.suite.home bytes.now)) (all_of (own_packages view.now.suite.home bytes.now)) report.own) }
+    ensures verdict { IfOk result (λ report. report.verdict
+        ≡ state_of budget (verdict_in view.now.limit view.now.kernel.hold view.now.suite.home view.now.suite.packages budget (had_goals view.now.suite.packages (own_packages view.now.suite.home bytes.now)))) }
+    // All own packages are healthy, judged on the stanzas, exactly where it is told.
+    ensures healthy { IfOk result (λ report. (report.own ≡ Healthy) ↔ HealthyStanzas (own_home view.now.suite.home bytes.now) (own_packages view.now.suite.home bytes.now) (all_of (own_packages view.now.suite.home bytes.now))) }
+    // A yes and a no are true on the stanzas of the index.
+    ensures judged { IfOk result (λ report. IsJudged view.now.suite.home view.now.suite.packages (had_goals view.now.suite.packages (own_packages view.now.suite.home bytes.now)) report.verdict) }
+{
+    let read = read_own(alloc, &view.suite.home, bytes)?;
+    let packages = read.suite.packages.as_slice();
+    let index = view.suite.packages.as_slice();
+    let table = packages_by_version(alloc, index)?;
+    let lines = have_lines(alloc, &table, packages)?;
+    let classes = had_classes(alloc, view, &table, packages)?;
+    let own = own_state(alloc, &read.suite)?;
+    let verdict = suite_state(alloc, view, &classes, budget)?;
+    Ok(StatusReport {
+        lines,
+        foreign: read.foreign,
+        own,
+        verdict,
+    })
+}

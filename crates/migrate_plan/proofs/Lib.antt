@@ -1,0 +1,15 @@
+pub mod Shifted
+pub mod LaterFields
+pub mod Faultless
+pub mod Joined
+pub mod Mixed
+pub mod Told
+pub mod Planned
+pub mod Made
+pub mod Refusing
+pub mod Checked
+pub mod Pairwise
+pub mod Deciding
+pub mod Named
+pub mod Taken
+pub mod Entering

@@ -1,0 +1,40 @@
+-- The packages of a name, by their numbers.
+use Rattle.std.proofs.Common.{◌≡◌, ℕ, ◌+◌, ◌<◌, Bool, true, false, cond, List, [], ◌∷◌, ◌++◌, length, map, filter, refl, sym, ap, ◌∙◌, subst, append_assoc, length-append}
+use Rattle.std.specs.Str.{bytes_eq}
+use Rattle.std.proofs.Math.Seq.{get_or-append_seam}
+use Rattle.std.proofs.lemmas.List.{map-append}
+use Rattle.relation_fields.specs.declared.packages.PackageFacts.{PackageFacts}
+use Rattle.row_book.specs.Sets.{In}
+use Rattle.repo_model.specs.Stanzas.{no_stanza, stanza_at}
+use Rattle.repo_model.proofs.Chosen.{number_cases}
+use Rattle.virtual_provides.specs.Bearers.{if_so}
+use Rattle.virtual_provides.specs.Numbers.{numbers_from, numbers_under, numbers_where}
+use Rattle.virtual_provides.specs.declared.numbers.NumbersByName.{NumbersByName}
+use Rattle.virtual_provides.proofs.Numbered.{numbers_from-cons}
+use Rattle.suite_compare.specs.Names.{HasNames}
+use Rattle.migrate_plan.specs.Differing.{packages_of_name}
+
+-- the packages of the numbers are those that pass the test, behind a front
+numbered : (test : PackageFacts → Bool) (all front items : List PackageFacts) → all ≡ front ++ items → map (stanza_at all) (numbers_from (length front) test items) ≡ filter test items
+numbered test all front [] whole = refl
+numbered test all front (x ∷ items) whole =
+    let rest : List ℕ = numbers_from (length front + 1) test items in
+    let is : stanza_at all (length front) ≡ x = ap (λ xs. stanza_at xs (length front)) whole ∙ get_or-append_seam front x items no_stanza in
+    let size : length (front ++ x ∷ []) ≡ length front + 1 = length-append front (x ∷ []) in
+    let later : map (stanza_at all) rest ≡ filter test items =
+    ap (λ n. map (stanza_at all) (numbers_from n test items)) (sym size) ∙ numbered test all (front ++ x ∷ []) items (whole ∙ sym (append_assoc front (x ∷ []) items)) in
+    ap (map (stanza_at all)) (numbers_from-cons test (length front) x items) ∙ by (test x) rest is later
+  where
+    by : (b : Bool) (rest : List ℕ) → stanza_at all (length front) ≡ x → map (stanza_at all) rest ≡ filter test items → map (stanza_at all) (if_so b (length front) ++ rest) ≡ cond b (x ∷ filter test items) (filter test items)
+    by true rest is later = ap (λ y. y ∷ map (stanza_at all) rest) is ∙ ap (λ ys. x ∷ ys) later
+    by false rest is later = later
+
+-- those of a name
+pub under_name : (packages : List PackageFacts) (table : NumbersByName) (name lent : List ℕ) → HasNames packages table → lent ≡ numbers_under table name → map (stanza_at packages) lent ≡ packages_of_name packages name
+under_name packages table name lent has is =
+    ap (map (stanza_at packages)) (is ∙ has.each name) ∙ numbered (λ facts. bytes_eq name facts.name) packages [] packages refl
+
+-- and they are numbers of packages
+pub under_below : (packages : List PackageFacts) (table : NumbersByName) (name lent : List ℕ) → HasNames packages table → lent ≡ numbers_under table name → (n : ℕ) → In n lent → n < length packages
+under_below packages table name lent has is n i =
+    (number_cases (λ facts. bytes_eq name facts.name) packages n (subst (In n) (is ∙ has.each name) i)).0

@@ -1,0 +1,207 @@
+-- What holds of a plan: its names, the reason of each line, and that the names taken break nothing.
+use Rattle.std.proofs.Common.{◌≡◌, ◌≢◌, ℕ, ◌+◌, ◌<◌, ◌≤◌, Bool, true, false, List, [], ◌∷◌, ◌++◌, length, get_or, drop, map, Some, None, Option, refl, sym, ap, ◌∙◌, subst, ◌⊎◌, inl, inr, append_assoc, arith}
+use Rattle.std.proofs.lemmas.List.{append-nil, drop_all, drop_more, map-append}
+use Rattle.row_book.specs.Clauses.{Before, InOrder}
+use Rattle.row_book.specs.Rounds.{PassedRound, limit_at}
+use Rattle.row_book.specs.Sets.{In, here}
+use Rattle.row_book.proofs.Lists.{In_append_cases, In_at, In_cases, In_none}
+use Rattle.row_book.proofs.Order.{order_filter, ordered_order}
+use Rattle.clause_solver.specs.declared.outcomes.Verdict.{Verdict}
+use Rattle.clause_solver.specs.declared.outcomes.Verdict.TheVariants.{Yes, No}
+use Rattle.stanza_reader.specs.declared.stanza.RawStanza.{RawStanza}
+use Rattle.repo_model.specs.Facts.{facts_of}
+use Rattle.repo_model.specs.FirstFault.{first_fault, home_of, stanzas_of}
+use Rattle.repo_model.specs.Goals.{any_version, CoinstGoals}
+use Rattle.repo_model.specs.declared.goals.Goal.{Goal}
+use Rattle.suite_compare.specs.Asking.{HasVerdict, verdict_in}
+use Rattle.suite_compare.specs.Names.{names_of_both, stands_in}
+use Rattle.suite_compare.specs.Refusals.{home_in, packages_in}
+use Rattle.suite_compare.specs.Report.{report}
+use Rattle.suite_compare.specs.declared.report.ReportLine.{ReportLine}
+use Rattle.suite_compare.proofs.Deciding.{verdict_is_judged}
+use Rattle.migrate_plan.specs.Differing.{differing}
+use Rattle.migrate_plan.specs.Mix.{mix}
+use Rattle.migrate_plan.specs.Plan.{Settings, line_behind, lines_behind, lines_between, outcome_of, passed_in, plan, settings_of, taken_in, tried_mix}
+use Rattle.migrate_plan.specs.Promises.{AreRight, CanInstall, IsFound, IsRight, Keeps, TakesSafely, is_broken, name_of}
+use Rattle.migrate_plan.specs.Trying.{LeadsTo}
+use Rattle.migrate_plan.specs.declared.plan.PlanLine.{PlanLine}
+use Rattle.migrate_plan.specs.declared.plan.PlanLine.TheVariants.{Take, LeftLimit, LeftLine}
+use Rattle.migrate_plan.proofs.Mixed.{mix_of_none}
+use Rattle.migrate_plan.proofs.Told.{alone_quiet, together_quiet, unbroken_same}
+
+outcome_name : (name : List ℕ) (passed : Option PassedRound) (told : List ReportLine) → name_of (outcome_of name passed told) ≡ name
+outcome_name name (Some passed) told = refl
+outcome_name name None [] = refl
+outcome_name name None (line ∷ more) = refl
+
+line_name : (settings : Settings) (old new : List ℕ) (lines : List PlanLine) (name : List ℕ) → name_of (line_behind settings old new lines name) ≡ name
+unfolding line_behind
+line_name settings old new lines name = outcome_name name (passed_in settings (tried_mix old new lines name)) (lines_between settings old (tried_mix old new lines name))
+
+-- a line for each name, in their order
+names_behind : (line : List PlanLine → List ℕ → PlanLine) → ((lines : List PlanLine) (name : List ℕ) → name_of (line lines name) ≡ name)
+    → (lines : List PlanLine) (names : List (List ℕ)) → map name_of (lines_behind line lines names) ≡ map name_of lines ++ names
+names_behind line own lines [] = sym (append-nil (map name_of lines))
+names_behind line own lines (name ∷ more) =
+    names_behind line own (lines ++ line lines name ∷ []) more
+    ∙ ap (λ front. front ++ more) (map-append name_of lines (line lines name ∷ []) ∙ ap (λ n. map name_of lines ++ n ∷ []) (own lines name))
+    ∙ append_assoc (map name_of lines) (name ∷ []) more
+
+pub plan_names : (settings : Settings) (old new : List ℕ) → map name_of (plan settings old new) ≡ differing (packages_in old) (packages_in new)
+unfolding plan
+plan_names settings old new = names_behind (line_behind settings old new) (line_name settings old new) [] (differing (packages_in old) (packages_in new))
+
+-- an outcome is right by what it comes from
+outcome_right : (settings : Settings) (old tried name : List ℕ) (passed : Option PassedRound) (told : List ReportLine) → passed_in settings tried ≡ passed → lines_between settings old tried ≡ told
+    → IsRight settings old tried (outcome_of name passed told)
+outcome_right settings old tried name (Some passed) told p t = (passed, p)
+outcome_right settings old tried name None [] p t = (p, t)
+outcome_right settings old tried name None (line ∷ more) p t = (more, p, t)
+
+line_right : (settings : Settings) (old new : List ℕ) (lines : List PlanLine) (name : List ℕ)
+    → IsRight settings old (tried_mix old new lines (name_of (line_behind settings old new lines name))) (line_behind settings old new lines name)
+unfolding line_behind
+line_right settings old new lines name =
+    let tried : List ℕ = tried_mix old new lines name in
+    let line : PlanLine = outcome_of name (passed_in settings tried) (lines_between settings old tried) in
+    subst (λ n. IsRight settings old (tried_mix old new lines n) line) (sym (outcome_name name (passed_in settings tried) (lines_between settings old tried)))
+    (outcome_right settings old tried name (passed_in settings tried) (lines_between settings old tried) refl refl)
+
+-- where names are taken nothing is told of their mix
+abbrev IsQuiet : Settings → List ℕ → List ℕ → List PlanLine → Type 0
+IsQuiet settings old new lines = (taken_in lines ≡ []) ⊎ (lines_between settings old (mix old new (taken_in lines)) ≡ [])
+
+-- the lines of names behind others
+record Behind (settings : Settings) (old new : List ℕ) (lines : List PlanLine) (names : List (List ℕ)) : Type 0 where
+  rest : List PlanLine
+  are : lines_behind (line_behind settings old new) lines names ≡ lines ++ rest
+  right : AreRight settings old new lines rest
+
+behind : (settings : Settings) (old new : List ℕ) (lines : List PlanLine) (names : List (List ℕ)) → Behind settings old new lines names
+behind settings old new lines [] = record { rest = []; are = sym (append-nil lines); right = tt }
+behind settings old new lines (name ∷ more) =
+    let line : PlanLine = line_behind settings old new lines name in
+    let next = behind settings old new (lines ++ line ∷ []) more in
+    record { rest = line ∷ next.rest; are = next.are ∙ append_assoc lines (line ∷ []) next.rest; right = (line_right settings old new lines name, next.right) }
+
+pub plan_right : (settings : Settings) (old new : List ℕ) → AreRight settings old new [] (plan settings old new)
+unfolding plan
+plan_right settings old new =
+    let b = behind settings old new [] (differing (packages_in old) (packages_in new)) in
+    subst (AreRight settings old new []) (sym b.are) b.right
+
+taken_join : (xs ys : List PlanLine) → taken_in (xs ++ ys) ≡ taken_in xs ++ taken_in ys
+taken_join [] ys = refl
+taken_join (Take name ∷ xs) ys = ap (λ more. name ∷ more) (taken_join xs ys)
+taken_join (LeftLimit name ∷ xs) ys = taken_join xs ys
+taken_join (LeftLine name line ∷ xs) ys = taken_join xs ys
+
+quiet_push : (settings : Settings) (old new : List ℕ) (lines : List PlanLine) (line : PlanLine) → IsRight settings old (tried_mix old new lines (name_of line)) line
+    → IsQuiet settings old new lines → IsQuiet settings old new (lines ++ line ∷ [])
+quiet_push settings old new lines (Take name) right quiet =
+    inr (ap (λ taken. lines_between settings old (mix old new taken)) (taken_join lines (Take name ∷ [])) ∙ right.1)
+quiet_push settings old new lines (LeftLimit name) right quiet =
+    let same : taken_in (lines ++ LeftLimit name ∷ []) ≡ taken_in lines = taken_join lines (LeftLimit name ∷ []) ∙ append-nil (taken_in lines) in
+    subst (λ taken. (taken ≡ []) ⊎ (lines_between settings old (mix old new taken) ≡ [])) (sym same) quiet
+quiet_push settings old new lines (LeftLine name told) right quiet =
+    let same : taken_in (lines ++ LeftLine name told ∷ []) ≡ taken_in lines = taken_join lines (LeftLine name told ∷ []) ∙ append-nil (taken_in lines) in
+    subst (λ taken. (taken ≡ []) ⊎ (lines_between settings old (mix old new taken) ≡ [])) (sym same) quiet
+
+quiet_walk : (settings : Settings) (old new : List ℕ) (lines rest : List PlanLine) → AreRight settings old new lines rest → IsQuiet settings old new lines → IsQuiet settings old new (lines ++ rest)
+quiet_walk settings old new lines [] right quiet = subst (IsQuiet settings old new) (sym (append-nil lines)) quiet
+quiet_walk settings old new lines (line ∷ more) right quiet =
+    subst (IsQuiet settings old new) (append_assoc lines (line ∷ []) more) (quiet_walk settings old new (lines ++ line ∷ []) more right.1 (quiet_push settings old new lines line right.0 quiet))
+
+-- an index is compared with a mix of no name as with itself
+none_taken : (settings : Settings) (old new : List ℕ) → first_fault old ≡ None → first_fault new ≡ None → (line : ReportLine) → In line (lines_between settings old (mix old new [])) → is_broken line ≡ false
+unfolding lines_between
+none_taken settings old new old_fine new_fine line i =
+    let same = mix_of_none old new old_fine new_fine in
+    let told = λ (stanzas : List RawStanza). report
+    (verdict_in settings.limit settings.hold (home_in old) (packages_in old) settings.budget)
+    (verdict_in settings.limit settings.hold (record { name = home_of stanzas }) (map facts_of stanzas) settings.budget)
+    (names_of_both (packages_in old) (map facts_of stanzas)) in
+    unbroken_same (verdict_in settings.limit settings.hold (home_in old) (packages_in old) settings.budget) (names_of_both (packages_in old) (packages_in old)) line
+    (subst (λ stanzas. In line (told stanzas)) same i)
+
+names_order : (old new : List ℕ) → InOrder (names_of_both (packages_in old) (packages_in new))
+names_order old new = order_filter (stands_in (packages_in new)) _ (ordered_order (map (λ facts. facts.name) (packages_in old)))
+
+-- goals that the old index can install, where a verdict of the new one is yes or both are no
+kept_by : (settings : Settings) (old new : List ℕ) (goals : List Goal)
+    → (verdict_in settings.limit settings.hold (home_in new) (packages_in new) settings.budget goals ≡ Yes)
+    ⊎ ((verdict_in settings.limit settings.hold (home_in old) (packages_in old) settings.budget goals ≡ No) × (verdict_in settings.limit settings.hold (home_in new) (packages_in new) settings.budget goals ≡ No))
+    → CoinstGoals (home_in old) (packages_in old) goals → CoinstGoals (home_in new) (packages_in new) goals
+kept_by settings old new goals found can = elim found [
+  | inl yes_is ↦ (subst (HasVerdict settings.limit settings.hold (home_in new) (packages_in new) settings.budget goals) yes_is (verdict_is_judged settings.limit settings.hold (home_in new) (packages_in new) settings.budget goals)).1
+  | inr both ↦ absurd ((subst (HasVerdict settings.limit settings.hold (home_in old) (packages_in old) settings.budget goals) both.0 (verdict_is_judged settings.limit settings.hold (home_in old) (packages_in old) settings.budget goals)).1 can)
+]
+
+pub keeps_quiet : (settings : Settings) (old new : List ℕ) → lines_between settings old new ≡ [] → Keeps settings old new
+unfolding lines_between
+keeps_quiet settings old new silent =
+    let v = verdict_in settings.limit settings.hold (home_in old) (packages_in old) settings.budget in
+    let w = verdict_in settings.limit settings.hold (home_in new) (packages_in new) settings.budget in
+    let names = names_of_both (packages_in old) (packages_in new) in
+    record {
+      alone = λ name i can. kept_by settings old new (any_version name ∷ []) (alone_quiet v w names silent name i) can;
+      together = λ first second i j before one other can.
+          kept_by settings old new (any_version first ∷ (any_version second ∷ [])) (together_quiet v w names silent (names_order old new) first second i j before one other) can;
+    }
+
+pub plan_safe : (settings : Settings) (old new : List ℕ) → first_fault old ≡ None → first_fault new ≡ None → TakesSafely settings old new (plan settings old new)
+plan_safe settings old new old_fine new_fine =
+    let lines : List PlanLine = plan settings old new in
+    let quiet : IsQuiet settings old new lines = quiet_walk settings old new [] lines (plan_right settings old new) (inl refl) in
+    let silent : taken_in lines ≢ [] → lines_between settings old (mix old new (taken_in lines)) ≡ [] = λ some. elim quiet [ inl none ↦ absurd (some none) | inr e ↦ e ] in
+    record {
+      unbroken = λ line i. elim quiet [
+        | inl none ↦ none_taken settings old new old_fine new_fine line (subst (λ taken. In line (lines_between settings old (mix old new taken))) none i)
+        | inr e ↦ absurd (In_none (subst (In line) e i))
+      ];
+      silent = silent;
+      keeps = λ some. keeps_quiet settings old (mix old new (taken_in lines)) (silent some);
+    }
+
+-- the loop of the plan: at its start, one name more, and at its end
+pub leads_first : (line : List PlanLine → List ℕ → PlanLine) (names : List (List ℕ)) (lines : List PlanLine) (taken : List (List ℕ)) → lines ≡ [] → taken ≡ [] → LeadsTo line names 0 lines taken
+leads_first line names lines taken none empty = record {
+  whole = ap (λ front. lines_behind line front names) none;
+  taken_is = empty ∙ ap taken_in (sym none);
+  among = λ name i. absurd (In_none (subst (In name) empty i));
+}
+
+pub leads_more : (line : List PlanLine → List ℕ → PlanLine) (names : List (List ℕ)) (place : ℕ) (lines more : List PlanLine) (taken new : List (List ℕ)) (name : List ℕ) (next : PlanLine)
+    → place < length names → name ≡ get_or names place name → next ≡ line lines name → name_of next ≡ name → more ≡ lines ++ next ∷ [] → new ≡ taken ++ taken_in (next ∷ [])
+    → LeadsTo line names place lines taken → LeadsTo line names (place + 1) more new
+leads_more line names place lines more taken new name next within is made own pushed put h =
+    let behind : drop place names ≡ name ∷ drop (place + 1) names = drop_more names place name within ∙ ap (λ n. n ∷ drop (place + 1) names) (sym is) in
+    let inside : In name names = subst (λ n. In n names) (sym is) (In_at names place name within) in
+    record {
+      whole = ap (λ front. lines_behind line front (drop (place + 1) names)) (pushed ∙ ap (λ l. lines ++ l ∷ []) made) ∙ ap (lines_behind line lines) (sym behind) ∙ h.whole;
+      taken_is = put ∙ ap (λ front. front ++ taken_in (next ∷ [])) h.taken_is ∙ sym (taken_join lines (next ∷ [])) ∙ ap taken_in (sym pushed);
+      among = λ other i. elim (In_append_cases taken (taken_in (next ∷ [])) other (subst (In other) put i)) [
+        | inl j ↦ h.among other j
+        | inr j ↦ subst (λ n. In n names) (sym (only next other j ∙ own)) inside
+      ];
+    }
+  where
+    only : (one : PlanLine) (other : List ℕ) → In other (taken_in (one ∷ [])) → other ≡ name_of one
+    only (Take n) other i = elim (In_cases i) [ inl e ↦ e | inr none ↦ absurd (In_none none) ]
+    only (LeftLimit n) other i = absurd (In_none i)
+    only (LeftLine n told) other i = absurd (In_none i)
+
+pub leads_all : (line : List PlanLine → List ℕ → PlanLine) (names : List (List ℕ)) (place : ℕ) (lines : List PlanLine) (taken : List (List ℕ)) → length names ≤ place
+    → LeadsTo line names place lines taken → lines ≡ lines_behind line [] names
+leads_all line names place lines taken end h = sym (ap (lines_behind line lines) (drop_all place names end)) ∙ h.whole
+
+pub line_named : (settings : Settings) (old new : List ℕ) (lines : List PlanLine) (name : List ℕ) (line : PlanLine) → line ≡ line_behind settings old new lines name → name_of line ≡ name
+line_named settings old new lines name line e = ap name_of e ∙ line_name settings old new lines name
+
+-- the lines that are made are the plan
+pub plan_is : (budget limit made_at : ℕ) (hold made_with : Bool) (old new : List ℕ) (names : List (List ℕ)) (lines : List PlanLine) → made_at ≡ limit → made_with ≡ hold → names ≡ differing (packages_in old) (packages_in new)
+    → lines ≡ lines_behind (line_behind (settings_of budget made_at made_with) old new) [] names → lines ≡ plan (settings_of budget limit hold) old new
+unfolding plan
+plan_is budget limit made_at hold made_with old new names lines limit_is hold_is are made =
+    made ∙ ap (λ l. lines_behind (line_behind (settings_of budget l made_with) old new) [] names) limit_is ∙ ap (λ h. lines_behind (line_behind (settings_of budget limit h) old new) [] names) hold_is
+    ∙ ap (lines_behind (line_behind (settings_of budget limit hold) old new) []) are

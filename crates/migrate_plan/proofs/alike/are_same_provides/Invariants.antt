@@ -1,0 +1,7 @@
+use Rattle.std.proofs.Common.{◌≡◌, true, take}
+use Rattle.std.specs.Cmp.Lexicographic.{pointwise}
+use Rattle.migrate_plan.specs.Differing.{is_same_provide}
+use Rattle.migrate_plan.proofs.alike.are_same_provides.Given as goal
+
+abbrev pub invariant-loop-place : goal.invariant-loop-place
+invariant-loop-place l = pointwise is_same_provide (take l.place l.one) (take l.place l.other) ≡ true

@@ -1,0 +1,20 @@
+-- A mix of two indexes: the stanzas of some names are those of the new index, all others are those of the old one.
+use Rattle.std.specs.Prelude.{ℕ, Bool, not, List, [], ◌∷◌, ◌++◌, map}
+use Rattle.std.specs.List.{list_any}
+use Rattle.std.specs.Str.{bytes_eq}
+use Rattle.stanza_reader.specs.Blanking.{blanked}
+use Rattle.suite_compare.specs.Refusals.{packages_in}
+
+abbrev pub is_taken : List (List ℕ) → List ℕ → Bool
+is_taken taken name = list_any (bytes_eq name) taken
+
+abbrev pub is_left : List (List ℕ) → List ℕ → Bool
+is_left taken name = not (is_taken taken name)
+
+-- the text of an index in which the lines of each stanza are made empty whose name fails the test
+abbrev pub only_names : (List ℕ → Bool) → List ℕ → List ℕ
+only_names test text = blanked (map (λ facts. test facts.name) (packages_in text)) text
+
+-- the old text without the stanzas of the names that are taken, two line feeds, and the new text with these alone
+unfoldable pub mix : List ℕ → List ℕ → List (List ℕ) → List ℕ
+mix old new taken = (only_names (is_left taken) old ++ (10 ∷ (10 ∷ []))) ++ only_names (is_taken taken) new

@@ -1,0 +1,104 @@
+//! When no plan is made.
+ghost use Rattle.std.specs.Prelude.{◌≡◌, ◌≤◌, None, IfErr, IfOk, OnOk, length};
+ghost use Rattle.migrate_plan.specs.Refusals.{above, are_apart, bytes_with, homes_refusal, packages_with, Refuses};
+ghost use Rattle.migrate_plan.specs.declared.refusals.PlanError.TheVariants.{Names, Packages, TooLong};
+
+use crate::flags::{count_among, table_of};
+use crate::refusals::PlanError;
+use deb_version::Bytes;
+use relation_fields::{Home, PackageFacts};
+use std::alloc::{AllocError, Global};
+
+/// The most names that may differ.
+const MOST_NAMES: u64 = 256;
+
+/// The most packages of the old index and of the names that differ.
+const MOST_PACKAGES: u64 = 200_000;
+
+/// The most bytes of both texts and two line feeds.
+const MOST_BYTES: u64 = 1_073_741_824;
+
+/// Checks that the two do not have different common architectures.
+pub(crate) fn check_homes(old: &Home, new: &Home) -> Result<(), PlanError>
+    ensures refused { IfErr result (λ error. Refuses error (homes_refusal old.now new.now)) }
+    ensures fine { OnOk result (homes_refusal old.now new.now ≡ None) }
+{
+    if are_apart(old, new) {
+        return Err(PlanError::Homes);
+    }
+    Ok(())
+}
+
+// Whether both have a common architecture, and these differ.
+fn are_apart(old: &Home, new: &Home) -> bool
+    ensures { result ≡ are_apart old.now.name new.now.name }
+{
+    match &old.name {
+        Some(one) => match &new.name {
+            Some(other) => one.as_slice() != other.as_slice(),
+            None => false,
+        },
+        None => false,
+    }
+}
+
+/// Checks that not too many names differ.
+pub(crate) fn check_names(names: &[Bytes]) -> Result<(), PlanError>
+    ensures refused { IfErr result (λ error. Refuses error (above 256 Names (length names.now))) }
+    ensures fine { OnOk result (above 256 Names (length names.now) ≡ None) }
+{
+    let count = names.len() as u64;
+    if count > MOST_NAMES {
+        return Err(PlanError::Names { count });
+    }
+    Ok(())
+}
+
+/// Checks that the packages of the old index, and those of the new one that have one of the names, are not too many.
+pub(crate) fn check_packages(
+    alloc: Global,
+    old: &[PackageFacts],
+    new: &[PackageFacts],
+    names: &[Bytes],
+) -> Result<(), PlanError>
+    requires old { length old.now ≤ 200000 }
+    requires new { length new.now ≤ 200000 }
+    ensures refused { IfErr result (λ error. Refuses error (above 200000 Packages (packages_with old.now new.now names.now))) }
+    ensures fine { OnOk result (above 200000 Packages (packages_with old.now new.now names.now) ≡ None) }
+{
+    let count = packages_with(alloc, old, new, names)?;
+    if count > MOST_PACKAGES {
+        return Err(PlanError::Packages { count });
+    }
+    Ok(())
+}
+
+// How many packages the old index has, and the new one of these names.
+fn packages_with(
+    alloc: Global,
+    old: &[PackageFacts],
+    new: &[PackageFacts],
+    names: &[Bytes],
+) -> Result<u64, AllocError>
+    requires old { length old.now ≤ 200000 }
+    requires new { length new.now ≤ 200000 }
+    ensures { IfOk result (λ count. count ≡ packages_with old.now new.now names.now) }
+{
+    let table = table_of(alloc, names)?;
+    let count = old.len() as u64 + count_among(new, &table) as u64;
+    Ok(count)
+}
+
+/// Checks that both texts and two line feeds are not too long.
+pub(crate) fn check_length(old: &[u8], new: &[u8]) -> Result<(), PlanError>
+    requires old { length old.now ≤ 1073741824 }
+    requires new { length new.now ≤ 1073741824 }
+    ensures refused { IfErr result (λ error. Refuses error (above 1073741824 TooLong (bytes_with old.now new.now))) }
+    ensures fine { OnOk result (above 1073741824 TooLong (bytes_with old.now new.now) ≡ None) }
+{
+    let count = old.len() as u64 + new.len() as u64 + 2;
+    if count > MOST_BYTES {
+        return Err(PlanError::TooLong { count });
+    }
+    Ok(())
+}

@@ -1,0 +1,7 @@
+//! The law of the test of packages: the function does nothing, its contract is the law.
+ghost use Rattle.migrate_plan.specs.Laws.{TestIsEquality};
+
+/// Two packages pass the test exactly where their versions are the same text and their relations say the same.
+pub fn test_is_equality()
+    ensures { TestIsEquality }
+{}

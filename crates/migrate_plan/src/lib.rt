@@ -1,0 +1,19 @@
+//! Which names can be taken over from a newer index into an older one, one after the other, without breaking any.
+#![tactic(auto)]
+
+mod alike;
+mod checks;
+mod differing;
+mod flags;
+mod laws;
+pub mod making;
+mod mixing;
+mod names;
+pub mod plan;
+mod refusals;
+mod trying;
+
+pub use laws::test_is_equality;
+pub use making::make_plan;
+pub use plan::{Plan, PlanLine, PlanList};
+pub use refusals::PlanError;

@@ -1,0 +1,141 @@
+//! Makes a plan: which names of a newer index can be taken over into an older one.
+ghost use Rattle.std.specs.Prelude.{◌≡◌, ◌<◌, ◌≤◌, ◌++◌, ◌∷◌, ℕ, List, [], None, length, map, IfOk, IfErr, OnOk};
+ghost use Rattle.clause_solver.specs.Outcomes.{IsBudget};
+ghost use Rattle.repo_model.specs.Feeding.{IsSuiteOf};
+ghost use Rattle.row_book.specs.Sets.{In};
+ghost use Rattle.migrate_plan.specs.Differing.{differing};
+ghost use Rattle.migrate_plan.specs.Plan.{line_behind, lines_behind, plan, settings_of, taken_in};
+ghost use Rattle.migrate_plan.specs.Promises.{AreRight, MixesAreIndexes, TakesSafely, name_of};
+ghost use Rattle.migrate_plan.specs.Refusals.{Refuses, plan_refusal};
+ghost use Rattle.migrate_plan.specs.declared.plan.PlanLine.{PlanLine};
+ghost use Rattle.suite_compare.specs.Refusals.{packages_in};
+
+use crate::checks::{check_homes, check_length, check_names, check_packages};
+use crate::differing::differing_names;
+use crate::mixing::mix_with;
+use crate::plan::{Plan, PlanLine, PlanList};
+use crate::refusals::PlanError;
+use crate::trying::line_of;
+use deb_version::Bytes;
+use repo_model::Suite;
+use std::alloc::{AllocError, Global};
+use suite_compare::SuiteView;
+
+/// Which of the names that differ can be taken over from a new index into an old one: each in turn, ascending by bytes, where
+/// the mix of the two with it and the names taken before breaks nothing of the old index, within a budget of failed leaves a
+/// search, from 1 to 1,000,000. The old view is that of the old bytes at the clause limit, with hold or without; the new
+/// suite is that of the new bytes. At most 256 names may differ; for each of them a mix is read, reduced and compared.
+#[tactic(auto, unfolding(crate::specs::Plan::plan, crate::specs::Refusals::plan_refusal))]
+pub fn make_plan(
+    alloc: Global,
+    old_bytes: &[u8],
+    old: &SuiteView,
+    new_bytes: &[u8],
+    new: &Suite,
+    limit: u32,
+    hold: bool,
+    budget: u64,
+) -> Result<Plan, PlanError>
+    requires old_short { length old_bytes.now ≤ 1073741824 }
+    requires old { IsSuiteOf old_bytes.now old.now.suite.packages old.now.suite.home.name }
+    requires old_limit { old.now.limit ≡ limit }
+    requires old_hold { old.now.kernel.hold ≡ hold }
+    requires new_short { length new_bytes.now ≤ 1073741824 }
+    requires new { IsSuiteOf new_bytes.now new.now.packages new.now.home.name }
+    requires limit { 0 < limit }
+    requires budget { IsBudget budget }
+    ensures refused { IfErr result (λ error. Refuses error (plan_refusal old_bytes.now new_bytes.now)) }
+    ensures accepted { OnOk result (plan_refusal old_bytes.now new_bytes.now ≡ None) }
+    ensures plan { IfOk result (λ made. made.lines ≡ plan (settings_of budget limit hold) old_bytes.now new_bytes.now) }
+    ensures mixes { OnOk result (MixesAreIndexes old_bytes.now new_bytes.now) }
+    ensures names { IfOk result (λ made. map name_of made.lines ≡ differing (packages_in old_bytes.now) (packages_in new_bytes.now)) }
+    ensures each { IfOk result (λ made. AreRight (settings_of budget limit hold) old_bytes.now new_bytes.now [] made.lines) }
+    ensures safely { IfOk result (λ made. TakesSafely (settings_of budget limit hold) old_bytes.now new_bytes.now made.lines) }
+{
+    let before = old.suite.packages.as_slice();
+    let after = new.packages.as_slice();
+    check_homes(&old.suite.home, &new.home)?;
+    let found = differing_names(alloc, before, after)?;
+    let names = found.as_slice();
+    check_names(names)?;
+    check_packages(alloc, before, after, names)?;
+    check_length(old_bytes, new_bytes)?;
+    let lines = lines_of(alloc, old_bytes, old, new_bytes, new, names, budget)?;
+    Ok(Plan { lines })
+}
+
+// The lines of the names that differ, one after the other.
+fn lines_of(
+    alloc: Global,
+    old_bytes: &[u8],
+    old: &SuiteView,
+    new_bytes: &[u8],
+    new: &Suite,
+    names: &[Bytes],
+    budget: u64,
+) -> Result<PlanList, AllocError>
+    requires old { IsSuiteOf old_bytes.now old.now.suite.packages old.now.suite.home.name }
+    requires new { IsSuiteOf new_bytes.now new.now.packages new.now.home.name }
+    requires names { names.now ≡ differing (packages_in old_bytes.now) (packages_in new_bytes.now) }
+    requires within { plan_refusal old_bytes.now new_bytes.now ≡ None }
+    requires limit { 0 < old.now.limit }
+    requires budget { IsBudget budget }
+    ensures { IfOk result (λ lines. lines ≡ lines_behind (line_behind (settings_of budget old.now.limit old.now.kernel.hold) old_bytes.now new_bytes.now) [] names.now) }
+{
+    let mut lines = PlanList::new(alloc);
+    let mut taken = Vec::new(alloc);
+    for name in names {
+        let line = try_name(
+            alloc,
+            old_bytes,
+            old,
+            new_bytes,
+            new,
+            taken.as_slice(),
+            name.as_slice(),
+            budget,
+        )?;
+        put_taken(alloc, &mut taken, &line)?;
+        lines.push(line)?;
+    }
+    Ok(lines)
+}
+
+// The line of a name behind others that take these names.
+fn try_name(
+    alloc: Global,
+    old_bytes: &[u8],
+    old: &SuiteView,
+    new_bytes: &[u8],
+    new: &Suite,
+    taken: &[Bytes],
+    name: &[u8],
+    budget: u64,
+) -> Result<PlanLine, AllocError>
+    requires old { IsSuiteOf old_bytes.now old.now.suite.packages old.now.suite.home.name }
+    requires new { IsSuiteOf new_bytes.now new.now.packages new.now.home.name }
+    requires taken { (other : List ℕ) → In other taken.now → In other (differing (packages_in old_bytes.now) (packages_in new_bytes.now)) }
+    requires name { In name.now (differing (packages_in old_bytes.now) (packages_in new_bytes.now)) }
+    requires within { plan_refusal old_bytes.now new_bytes.now ≡ None }
+    requires limit { 0 < old.now.limit }
+    requires budget { IsBudget budget }
+    ensures { IfOk result (λ line. (lines : List PlanLine) → taken.now ≡ taken_in lines → line ≡ line_behind (settings_of budget old.now.limit old.now.kernel.hold) old_bytes.now new_bytes.now lines name.now) }
+{
+    let mix = mix_with(alloc, old_bytes, &old.suite, new_bytes, new, taken, name)?;
+    let line = line_of(alloc, old_bytes, old, mix.as_slice(), name, budget)?;
+    Ok(line)
+}
+
+// Puts the name of a line behind those that are taken, where the line takes it.
+fn put_taken(alloc: Global, taken: &mut Vec<Bytes>, line: &PlanLine) -> Result<(), AllocError>
+    ensures { OnOk result (taken.new.items ≡ taken.old.items ++ taken_in (line.now ∷ [])) }
+{
+    match line {
+        PlanLine::Take { name } => {
+            taken.push(Bytes::copy(alloc, name.as_slice())?)?;
+            Ok(())
+        }
+        PlanLine::LeftLimit { name: _ } => Ok(()),
+        PlanLine::LeftLine { name: _, line: _ } => Ok(()),
+    }
+}

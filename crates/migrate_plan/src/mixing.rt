@@ -1,0 +1,36 @@
+//! Mixes of two indexes.
+ghost use Rattle.std.specs.Prelude.{◌≡◌, ◌++◌, ◌∷◌, [], IfOk};
+ghost use Rattle.repo_model.specs.Feeding.{IsSuiteOf};
+ghost use Rattle.migrate_plan.specs.Mix.{mix};
+
+use crate::flags::{left_flags, table_with, taken_flags};
+use deb_version::Bytes;
+use repo_model::Suite;
+use stanza_reader::blank_lines;
+use std::alloc::{AllocError, Global};
+
+/// The mix of an old and a new index, each with its suite, where the packages of some names, and of one that is tried with
+/// them, are those of the new one.
+#[tactic(auto, unfolding(crate::specs::Mix::mix))]
+pub(crate) fn mix_with(
+    alloc: Global,
+    old_bytes: &[u8],
+    old: &Suite,
+    new_bytes: &[u8],
+    new: &Suite,
+    taken: &[Bytes],
+    tried: &[u8],
+) -> Result<Vec<u8>, AllocError>
+    requires old { IsSuiteOf old_bytes.now old.now.packages old.now.home.name }
+    requires new { IsSuiteOf new_bytes.now new.now.packages new.now.home.name }
+    ensures { IfOk result (λ text. text.items ≡ mix old_bytes.now new_bytes.now (taken.now ++ tried.now ∷ [])) }
+{
+    let table = table_with(alloc, taken, tried)?;
+    let left = left_flags(alloc, old.packages.as_slice(), &table)?;
+    let mut text = blank_lines(alloc, old_bytes, left.as_slice())?;
+    let kept = taken_flags(alloc, new.packages.as_slice(), &table)?;
+    let behind = blank_lines(alloc, new_bytes, kept.as_slice())?;
+    text.extend_from_slice(b"\n\n")?;
+    text.extend_from_slice(behind.as_slice())?;
+    Ok(text)
+}

@@ -1,0 +1,36 @@
+//! Plans, line by line.
+use deb_version::Bytes;
+use listed::Listed;
+use suite_compare::ReportLine;
+
+/// What becomes of a name that differs.
+#[derive(Drop)]
+pub enum PlanLine {
+    /// It is taken: its packages are those of the new index.
+    Take {
+        /// The name.
+        name: Bytes,
+    },
+    /// It is left, since the mix with it passes the clause limit.
+    LeftLimit {
+        /// The name.
+        name: Bytes,
+    },
+    /// It is left, since the mix with it breaks something of the old index, or may.
+    LeftLine {
+        /// The name.
+        name: Bytes,
+        /// What is told first of the mix with it.
+        line: ReportLine,
+    },
+}
+
+/// The lines of a plan, in their order.
+pub type PlanList = Listed<PlanLine>;
+
+/// Which names are taken over, and which are left.
+#[derive(Drop)]
+pub struct Plan {
+    /// A line for each name that differs, ascending by bytes.
+    pub lines: PlanList,
+}

@@ -3,7 +3,7 @@ use Rattle.std.proofs.Common.{◌≡◌, ◌∙◌, ℕ, ◌<◌, ◌+◌, ◌||
 use Rattle.std.specs.Borrow.{Bor}
 use Rattle.clap.specs.Walk.{Rule, rule_of}
 use Rattle.clap.specs.Built.{AddsArg}
-use Rattle.clap.specs.Simple.{App, app_of, new_shape, with_rule}
+use Rattle.clap.specs.Simple.{App, Shape, app_of, new_shape, with_rule, with_subcommand}
 use Rattle.clap.specs.declared.builder.arg.Arg.{Arg}
 use Rattle.clap.specs.declared.builder.command.Command.{Command}
 use Rattle.clap.specs.declared.builder.command.Command.TheViews.{out-Command}
@@ -50,3 +50,7 @@ finished name flags valued old a new adds rule local is =
 
 pub flags_all : (name : Text) (flags : List (Bor Text)) (i : ℕ) (c : Command) → length flags ≤ i → IsBuilt name (map flag_rule (map now (take i flags))) c → IsBuilt name (map flag_rule (map now flags) ++ []) c
 flags_all name flags i c past is = subst (λ (rs : List Rule). IsBuilt name rs c) (ap (λ fs. map flag_rule (map now fs)) (take_all i flags past) ∙ sym (append-nil (map flag_rule (map now flags)))) is
+
+-- a program with one more command
+pub one_more : (s : Shape) (new old a : App) → old ≡ a → new ≡ with_subcommand old s → new ≡ with_subcommand a s
+one_more s new old a is adds = adds ∙ ap (λ (b : App). with_subcommand b s) is

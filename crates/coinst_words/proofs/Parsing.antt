@@ -11,13 +11,34 @@ use Rattle.coinst_words.specs.declared.error.WordError.{WordError}
 use Rattle.coinst_words.specs.declared.error.WordError.TheVariants as words
 use Rattle.coinst_words.specs.Refusals.{OnNotACommand}
 use Rattle.coinst_words.specs.Parsed.{Enters}
-use Rattle.coinst_words.specs.Usage.{Said, Text, Usage, said_of, usages}
+use Rattle.coinst_words.specs.Usage.{Said, Text, Usage, compare_usage, explain_usage, kernel_usage, migrate_usage, query_usage, said_of, sample_usage, status_usage, usages}
 use Rattle.coinst_words.specs.Program.{app_of_usages}
-use Rattle.coinst_words.proofs.Reading.{AllSpell}
+use Rattle.coinst_words.proofs.Reading.{AllSpell, IsGood}
 use Rattle.coinst_words.proofs.Apps.{AllGood, TopAgrees, top_agrees}
 
+kernel_good : IsGood kernel_usage
+kernel_good = record { flags = refl; valued = refl }
+
+query_good : IsGood query_usage
+query_good = record { flags = refl; valued = refl }
+
+compare_good : IsGood compare_usage
+compare_good = record { flags = refl; valued = refl }
+
+explain_good : IsGood explain_usage
+explain_good = record { flags = refl; valued = refl }
+
+status_good : IsGood status_usage
+status_good = record { flags = refl; valued = refl }
+
+migrate_good : IsGood migrate_usage
+migrate_good = record { flags = refl; valued = refl }
+
+sample_good : IsGood sample_usage
+sample_good = record { flags = refl; valued = refl }
+
 good_usages : AllGood usages
-good_usages = (record { flags = refl; valued = refl }, (record { flags = refl; valued = refl }, (record { flags = refl; valued = refl }, (record { flags = refl; valued = refl }, tt))))
+good_usages = (kernel_good, (query_good, (compare_good, (explain_good, (status_good, (migrate_good, (sample_good, tt)))))))
 
 simple_usages : is_simple (app_of_usages usages) ≡ true
 simple_usages = refl

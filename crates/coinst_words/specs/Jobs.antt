@@ -1,11 +1,11 @@
 -- The job that words ask for.
-use Rattle.std.specs.Prelude.{◌≤◌, ℕ, Bool, false, not, ◌&&◌, nat_le, List, [], ◌∷◌, length, Option, Some, None, codes, if◌then◌else◌, option_and_then, option_map}
+use Rattle.std.specs.Prelude.{◌≤◌, ℕ, Bool, false, not, ◌&&◌, nat_le, List, [], ◌∷◌, length, true, Option, Some, None, codes, if◌then◌else◌, option_and_then, option_map}
 use Rattle.std.specs.Char.{is_ascii_digit}
 use Rattle.std.specs.List.{list_all}
 use Rattle.std.specs.Str.{bytes_eq}
 use Rattle.std.specs.Str.Parse.{digits_value}
 use Rattle.coinst_words.specs.declared.job.Job.{Job}
-use Rattle.coinst_words.specs.declared.job.Job.TheVariants.{Kernel, Query, StoredQuery, Compare, Sample}
+use Rattle.coinst_words.specs.declared.job.Job.TheVariants.{Kernel, Query, StoredQuery, Compare, Explain, Status, Migrate, Sample}
 use Rattle.coinst_words.specs.Usage.{Said, Text, Usage, said_of, usages, value_of}
 use Rattle.repo_model.specs.declared.goals.Goal.{Goal}
 use Rattle.repo_model.specs.Goals.{goal_of}
@@ -58,42 +58,66 @@ abbrev pub is_on : Option Text → Bool
 is_on None = false
 is_on (Some word) = bytes_eq word (codes "true")
 
--- the job of each command, by the values of its options and by the ordinary words
-abbrev pub kernel_job : Option Text → Option Text → List Text → Option Job
-kernel_job json limit (index ∷ []) = if is_path index then option_map (λ n. Kernel index (is_on json) n) (clause_limit_of limit) else None
-kernel_job json limit _ = None
+-- the job of each command, by its flags, by the values of its options and by the ordinary words
+abbrev pub kernel_job : Bool → Option Text → Bool → List Text → Option Job
+kernel_job json limit hold (index ∷ []) = if is_path index then option_map (λ n. Kernel index json n hold) (clause_limit_of limit) else None
+kernel_job json limit hold _ = None
 
-abbrev pub compare_job : Option Text → Option Text → List Text → Option Job
-compare_job budget limit (old ∷ new ∷ []) =
-    if is_path old && is_path new then option_and_then (λ b. option_map (λ n. Compare old new b n) (clause_limit_of limit)) (budget_of budget) else None
-compare_job budget limit _ = None
+-- two paths
+abbrev pub two_paths : List Text → Option (Text × Text)
+two_paths (first ∷ second ∷ []) = if is_path first && is_path second then Some (first, second) else None
+two_paths _ = None
+
+abbrev pub compare_job : Option Text → Option Text → Bool → List Text → Option Job
+compare_job budget limit hold words =
+    option_and_then (λ p. option_and_then (λ b. option_map (λ n. Compare p.0 p.1 b n hold) (clause_limit_of limit)) (budget_of budget)) (two_paths words)
+
+abbrev pub status_job : Option Text → Option Text → Bool → List Text → Option Job
+status_job budget limit hold words =
+    option_and_then (λ p. option_and_then (λ b. option_map (λ n. Status p.0 p.1 b n hold) (clause_limit_of limit)) (budget_of budget)) (two_paths words)
+
+abbrev pub migrate_job : Option Text → Option Text → Bool → List Text → Option Job
+migrate_job budget limit hold words =
+    option_and_then (λ p. option_and_then (λ b. option_map (λ n. Migrate p.0 p.1 b n hold) (clause_limit_of limit)) (budget_of budget)) (two_paths words)
 
 abbrev pub sample_job : List Text → Option Job
 sample_job (seed ∷ count ∷ []) = option_and_then (λ s. option_map (λ n. Sample s n) (count_of count)) (seed_of seed)
 sample_job _ = None
 
--- a query with an index: the first ordinary word is its path, and the others are goals
-abbrev pub index_query : Option Text → Option Text → List Text → Option Job
-index_query budget limit [] = None
-index_query budget limit (index ∷ words) =
-    if is_path index then option_and_then (λ b. option_and_then (λ n. option_map (λ goals. Query index goals b n) (some_goals_of words)) (clause_limit_of limit)) (budget_of budget) else None
+-- the path of an index, and goals behind it
+abbrev pub index_and_goals : List Text → Option (Text × List Goal)
+index_and_goals [] = None
+index_and_goals (index ∷ words) = if is_path index then option_map (λ goals. (index, goals)) (some_goals_of words) else None
 
--- a query with a stored kernel takes no clause limit, and all ordinary words are goals
-abbrev pub stored_query : Text → Option Text → Option Text → List Text → Option Job
-stored_query kernel budget (Some limit) words = None
-stored_query kernel budget None words = if is_path kernel then option_and_then (λ b. option_map (λ goals. StoredQuery kernel goals b) (some_goals_of words)) (budget_of budget) else None
+abbrev pub explain_job : Option Text → Option Text → Bool → List Text → Option Job
+explain_job budget limit hold words =
+    option_and_then (λ p. option_and_then (λ b. option_map (λ n. Explain p.0 p.1 b n hold) (clause_limit_of limit)) (budget_of budget)) (index_and_goals words)
 
-abbrev pub query_job : Option Text → Option Text → Option Text → List Text → Option Job
-query_job None budget limit words = index_query budget limit words
-query_job (Some kernel) budget limit words = stored_query kernel budget limit words
+-- a query with an index
+abbrev pub index_query : Option Text → Option Text → Bool → List Text → Option Job
+index_query budget limit hold words =
+    option_and_then (λ p. option_and_then (λ b. option_map (λ n. Query p.0 p.1 b n hold) (clause_limit_of limit)) (budget_of budget)) (index_and_goals words)
+
+-- a query with a stored kernel takes no clause limit and no `--hold`, and all ordinary words are goals
+abbrev pub stored_query : Text → Option Text → Option Text → Bool → List Text → Option Job
+stored_query kernel budget (Some limit) hold words = None
+stored_query kernel budget None true words = None
+stored_query kernel budget None false words = if is_path kernel then option_and_then (λ b. option_map (λ goals. StoredQuery kernel goals b) (some_goals_of words)) (budget_of budget) else None
+
+abbrev pub query_job : Option Text → Option Text → Option Text → Bool → List Text → Option Job
+query_job None budget limit hold words = index_query budget limit hold words
+query_job (Some kernel) budget limit hold words = stored_query kernel budget limit hold words
 
 -- the job of the command of a name
 abbrev pub job_named : Text → (Text → Option Text) → List Text → Option Job
 job_named name value words =
-    if bytes_eq name (codes "kernel") then kernel_job (value (codes "json")) (value (codes "clause-limit")) words
-    else (if bytes_eq name (codes "query") then query_job (value (codes "kernel")) (value (codes "budget")) (value (codes "clause-limit")) words
-    else (if bytes_eq name (codes "compare") then compare_job (value (codes "budget")) (value (codes "clause-limit")) words
-    else (if bytes_eq name (codes "sample") then sample_job words else None)))
+    if bytes_eq name (codes "kernel") then kernel_job (is_on (value (codes "json"))) (value (codes "clause-limit")) (is_on (value (codes "hold"))) words
+    else (if bytes_eq name (codes "query") then query_job (value (codes "kernel")) (value (codes "budget")) (value (codes "clause-limit")) (is_on (value (codes "hold"))) words
+    else (if bytes_eq name (codes "compare") then compare_job (value (codes "budget")) (value (codes "clause-limit")) (is_on (value (codes "hold"))) words
+    else (if bytes_eq name (codes "explain") then explain_job (value (codes "budget")) (value (codes "clause-limit")) (is_on (value (codes "hold"))) words
+    else (if bytes_eq name (codes "status") then status_job (value (codes "budget")) (value (codes "clause-limit")) (is_on (value (codes "hold"))) words
+    else (if bytes_eq name (codes "migrate") then migrate_job (value (codes "budget")) (value (codes "clause-limit")) (is_on (value (codes "hold"))) words
+    else (if bytes_eq name (codes "sample") then sample_job words else None))))))
 
 abbrev pub job_of_said : Usage × Said → Option Job
 job_of_said p = job_named p.0.name (λ name. value_of name p.1.given) p.1.ordinary
@@ -113,8 +137,11 @@ abbrev pub IsBudget : ℕ → Type 0
 IsBudget = IsBetween 1 1000000
 
 abbrev pub IsInLimits : Job → Type 0
-IsInLimits (Kernel index json limit) = IsClauseLimit limit
-IsInLimits (Query index goals budget limit) = IsBudget budget × IsClauseLimit limit
+IsInLimits (Kernel index json limit hold) = IsClauseLimit limit
+IsInLimits (Query index goals budget limit hold) = IsBudget budget × IsClauseLimit limit
 IsInLimits (StoredQuery kernel goals budget) = IsBudget budget
-IsInLimits (Compare old new budget limit) = IsBudget budget × IsClauseLimit limit
+IsInLimits (Compare old new budget limit hold) = IsBudget budget × IsClauseLimit limit
+IsInLimits (Explain index goals budget limit hold) = IsBudget budget × IsClauseLimit limit
+IsInLimits (Status file index budget limit hold) = IsBudget budget × IsClauseLimit limit
+IsInLimits (Migrate old new budget limit hold) = IsBudget budget × IsClauseLimit limit
 IsInLimits (Sample seed count) = IsBetween 1 200000 count

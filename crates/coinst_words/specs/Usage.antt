@@ -13,24 +13,36 @@ pub record Usage : Type 0 where
   pub flags : List Text
   pub valued : List Text
 
--- `kernel [--json] [--clause-limit N] INDEX`
+-- `kernel [--json] [--clause-limit N] [--hold] INDEX`
 abbrev pub kernel_usage : Usage
-kernel_usage = record { name = codes "kernel"; flags = codes "json" ∷ []; valued = codes "clause-limit" ∷ [] }
+kernel_usage = record { name = codes "kernel"; flags = codes "json" ∷ codes "hold" ∷ []; valued = codes "clause-limit" ∷ [] }
 
--- `query [--budget N] [--clause-limit N] INDEX GOAL..`, or `query --kernel FILE [--budget N] GOAL..`
+-- `query [--budget N] [--clause-limit N] [--hold] INDEX GOAL..`, or `query --kernel FILE [--budget N] GOAL..`
 abbrev pub query_usage : Usage
-query_usage = record { name = codes "query"; flags = []; valued = codes "budget" ∷ codes "clause-limit" ∷ codes "kernel" ∷ [] }
+query_usage = record { name = codes "query"; flags = codes "hold" ∷ []; valued = codes "budget" ∷ codes "clause-limit" ∷ codes "kernel" ∷ [] }
 
--- `compare [--budget N] [--clause-limit N] OLD NEW`
+-- `compare [--budget N] [--clause-limit N] [--hold] OLD NEW`
 abbrev pub compare_usage : Usage
-compare_usage = record { name = codes "compare"; flags = []; valued = codes "budget" ∷ codes "clause-limit" ∷ [] }
+compare_usage = record { name = codes "compare"; flags = codes "hold" ∷ []; valued = codes "budget" ∷ codes "clause-limit" ∷ [] }
+
+-- `explain [--budget N] [--clause-limit N] [--hold] INDEX GOAL..`
+abbrev pub explain_usage : Usage
+explain_usage = record { name = codes "explain"; flags = codes "hold" ∷ []; valued = codes "budget" ∷ codes "clause-limit" ∷ [] }
+
+-- `status [--budget N] [--clause-limit N] [--hold] FILE INDEX`
+abbrev pub status_usage : Usage
+status_usage = record { name = codes "status"; flags = codes "hold" ∷ []; valued = codes "budget" ∷ codes "clause-limit" ∷ [] }
+
+-- `migrate [--budget N] [--clause-limit N] [--hold] OLD NEW`
+abbrev pub migrate_usage : Usage
+migrate_usage = record { name = codes "migrate"; flags = codes "hold" ∷ []; valued = codes "budget" ∷ codes "clause-limit" ∷ [] }
 
 -- `sample SEED COUNT`
 abbrev pub sample_usage : Usage
 sample_usage = record { name = codes "sample"; flags = []; valued = [] }
 
 abbrev pub usages : List Usage
-usages = kernel_usage ∷ query_usage ∷ compare_usage ∷ sample_usage ∷ []
+usages = kernel_usage ∷ query_usage ∷ compare_usage ∷ explain_usage ∷ status_usage ∷ migrate_usage ∷ sample_usage ∷ []
 
 -- what the words behind a command's name say: the options with their values, and the ordinary words, each in order
 pub record Said : Type 0 where

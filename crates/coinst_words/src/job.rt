@@ -13,6 +13,8 @@ pub enum Job {
         json: bool,
         /// The most clauses that a row may have, from 1 to 1,000,000.
         clause_limit: u32,
+        /// Whether a package stays in the kernel where its elimination would make a row pass the clause limit.
+        hold: bool,
     },
     /// Say whether one package for each goal can be installed together.
     Query {
@@ -24,6 +26,8 @@ pub enum Job {
         budget: u64,
         /// The most clauses that a row may have, from 1 to 1,000,000.
         clause_limit: u32,
+        /// Whether a package stays in the kernel where its elimination would make a row pass the clause limit.
+        hold: bool,
     },
     /// Say the same on a stored kernel.
     StoredQuery {
@@ -44,6 +48,47 @@ pub enum Job {
         budget: u64,
         /// The most clauses that a row may have, from 1 to 1,000,000.
         clause_limit: u32,
+        /// Whether a package stays in the kernel where its elimination would make a row pass the clause limit.
+        hold: bool,
+    },
+    /// Find the goals and the conflicts for which no installation has a package for each goal.
+    Explain {
+        /// The path of the index.
+        index: PathText,
+        /// The goals, at least one.
+        goals: GoalList,
+        /// The most failed leaves of each search, from 1 to 1,000,000.
+        budget: u64,
+        /// The most clauses that a row may have, from 1 to 1,000,000.
+        clause_limit: u32,
+        /// Whether a package stays in the kernel where its elimination would make a row pass the clause limit.
+        hold: bool,
+    },
+    /// Compare an installed system with an index.
+    Status {
+        /// The path of the status file.
+        file: PathText,
+        /// The path of the index.
+        index: PathText,
+        /// The most failed leaves of each search, from 1 to 1,000,000.
+        budget: u64,
+        /// The most clauses that a row may have, from 1 to 1,000,000.
+        clause_limit: u32,
+        /// Whether a package stays in the kernel where its elimination would make a row pass the clause limit.
+        hold: bool,
+    },
+    /// Say which names of a newer index an older one can take over with nothing broken.
+    Migrate {
+        /// The path of the older index.
+        old: PathText,
+        /// The path of the newer index.
+        new: PathText,
+        /// The most failed leaves of each search, from 1 to 1,000,000.
+        budget: u64,
+        /// The most clauses that a row may have, from 1 to 1,000,000.
+        clause_limit: u32,
+        /// Whether a package stays in the kernel where its elimination would make a row pass the clause limit.
+        hold: bool,
     },
     /// Extract the kernel of a suite made from a number, and print its measures.
     Sample {

@@ -1,6 +1,6 @@
-//! The job of each command, by the values of its options and by its ordinary words.
+//! The job of each command, by its flags, by the values of its options and by its ordinary words.
 ghost use Rattle.std.specs.Prelude.{◌≡◌, false, true, IfOk, IfErr, None, Some, map, option_map};
-ghost use Rattle.coinst_words.specs.Jobs.{compare_job, index_query, is_on, is_path, kernel_job, query_job, sample_job, stored_query, IsInLimits};
+ghost use Rattle.coinst_words.specs.Jobs.{compare_job, explain_job, index_and_goals, index_query, is_on, is_path, kernel_job, migrate_job, query_job, sample_job, status_job, stored_query, two_paths, IsInLimits};
 ghost use Rattle.coinst_words.specs.Refusals.{OnNotACommand};
 
 use crate::error::WordError;
@@ -8,10 +8,11 @@ use crate::goals::goals_in;
 use crate::job::Job;
 use crate::numbers::{budget_of, clause_limit_of, count_of, seed_of};
 use crate::path::PathText;
+use repo_model::GoalList;
 use std::alloc::Global;
 
-// Whether a flag was given.
-fn is_on(value: Option<&str>) -> bool
+/// Whether a flag was given, by the value that stands for it.
+pub(crate) fn is_on(value: Option<&str>) -> bool
     ensures { result ≡ is_on (option_map (λ s. s.now) value.entry) }
 {
     match value {
@@ -38,15 +39,38 @@ fn path_in(alloc: Global, word: &str) -> Result<PathText, WordError>
     Ok(PathText::copy(alloc, word)?)
 }
 
+// The paths that two words are.
+fn two_paths(alloc: Global, words: &[&str]) -> Result<(PathText, PathText), WordError>
+    ensures paths { IfOk result (λ paths. two_paths (map (λ s. s.now) words.now) ≡ Some paths) }
+    ensures refusal { IfErr result (OnNotACommand (two_paths (map (λ s. s.now) words.now) ≡ None)) }
+{
+    let [first, second] = words else {
+        return Err(WordError::NotACommand);
+    };
+    Ok((path_in(alloc, first)?, path_in(alloc, second)?))
+}
+
+// The path that the first word is, and the goals that the others name.
+fn index_and_goals(alloc: Global, words: &[&str]) -> Result<(PathText, GoalList), WordError>
+    ensures both { IfOk result (λ both. index_and_goals (map (λ s. s.now) words.now) ≡ Some both) }
+    ensures refusal { IfErr result (OnNotACommand (index_and_goals (map (λ s. s.now) words.now) ≡ None)) }
+{
+    let [index, goals @ ..] = words else {
+        return Err(WordError::NotACommand);
+    };
+    Ok((path_in(alloc, index)?, goals_in(alloc, goals)?))
+}
+
 /// The job of `kernel`.
 pub(crate) fn kernel_job(
     alloc: Global,
-    json: Option<&str>,
+    json: bool,
     limit: Option<&str>,
+    hold: bool,
     words: &[&str],
 ) -> Result<Job, WordError>
-    ensures job { IfOk result (λ job. kernel_job (option_map (λ s. s.now) json.entry) (option_map (λ s. s.now) limit.entry) (map (λ s. s.now) words.now) ≡ Some job) }
-    ensures refusal { IfErr result (OnNotACommand (kernel_job (option_map (λ s. s.now) json.entry) (option_map (λ s. s.now) limit.entry) (map (λ s. s.now) words.now) ≡ None)) }
+    ensures job { IfOk result (λ job. kernel_job json (option_map (λ s. s.now) limit.entry) hold (map (λ s. s.now) words.now) ≡ Some job) }
+    ensures refusal { IfErr result (OnNotACommand (kernel_job json (option_map (λ s. s.now) limit.entry) hold (map (λ s. s.now) words.now) ≡ None)) }
     ensures limited { IfOk result IsInLimits }
 {
     let [index] = words else {
@@ -56,8 +80,9 @@ pub(crate) fn kernel_job(
     let clause_limit = clause_limit_of(limit)?;
     Ok(Job::Kernel {
         index,
-        json: is_on(json),
+        json,
         clause_limit,
+        hold,
     })
 }
 
@@ -66,17 +91,14 @@ pub(crate) fn compare_job(
     alloc: Global,
     budget: Option<&str>,
     limit: Option<&str>,
+    hold: bool,
     words: &[&str],
 ) -> Result<Job, WordError>
-    ensures job { IfOk result (λ job. compare_job (option_map (λ s. s.now) budget.entry) (option_map (λ s. s.now) limit.entry) (map (λ s. s.now) words.now) ≡ Some job) }
-    ensures refusal { IfErr result (OnNotACommand (compare_job (option_map (λ s. s.now) budget.entry) (option_map (λ s. s.now) limit.entry) (map (λ s. s.now) words.now) ≡ None)) }
+    ensures job { IfOk result (λ job. compare_job (option_map (λ s. s.now) budget.entry) (option_map (λ s. s.now) limit.entry) hold (map (λ s. s.now) words.now) ≡ Some job) }
+    ensures refusal { IfErr result (OnNotACommand (compare_job (option_map (λ s. s.now) budget.entry) (option_map (λ s. s.now) limit.entry) hold (map (λ s. s.now) words.now) ≡ None)) }
     ensures limited { IfOk result IsInLimits }
 {
-    let [old, new] = words else {
-        return Err(WordError::NotACommand);
-    };
-    let old = path_in(alloc, old)?;
-    let new = path_in(alloc, new)?;
+    let (old, new) = two_paths(alloc, words)?;
     let budget = budget_of(budget)?;
     let clause_limit = clause_limit_of(limit)?;
     Ok(Job::Compare {
@@ -84,6 +106,79 @@ pub(crate) fn compare_job(
         new,
         budget,
         clause_limit,
+        hold,
+    })
+}
+
+/// The job of `explain`.
+pub(crate) fn explain_job(
+    alloc: Global,
+    budget: Option<&str>,
+    limit: Option<&str>,
+    hold: bool,
+    words: &[&str],
+) -> Result<Job, WordError>
+    ensures job { IfOk result (λ job. explain_job (option_map (λ s. s.now) budget.entry) (option_map (λ s. s.now) limit.entry) hold (map (λ s. s.now) words.now) ≡ Some job) }
+    ensures refusal { IfErr result (OnNotACommand (explain_job (option_map (λ s. s.now) budget.entry) (option_map (λ s. s.now) limit.entry) hold (map (λ s. s.now) words.now) ≡ None)) }
+    ensures limited { IfOk result IsInLimits }
+{
+    let (index, goals) = index_and_goals(alloc, words)?;
+    let budget = budget_of(budget)?;
+    let clause_limit = clause_limit_of(limit)?;
+    Ok(Job::Explain {
+        index,
+        goals,
+        budget,
+        clause_limit,
+        hold,
+    })
+}
+
+/// The job of `status`.
+pub(crate) fn status_job(
+    alloc: Global,
+    budget: Option<&str>,
+    limit: Option<&str>,
+    hold: bool,
+    words: &[&str],
+) -> Result<Job, WordError>
+    ensures job { IfOk result (λ job. status_job (option_map (λ s. s.now) budget.entry) (option_map (λ s. s.now) limit.entry) hold (map (λ s. s.now) words.now) ≡ Some job) }
+    ensures refusal { IfErr result (OnNotACommand (status_job (option_map (λ s. s.now) budget.entry) (option_map (λ s. s.now) limit.entry) hold (map (λ s. s.now) words.now) ≡ None)) }
+    ensures limited { IfOk result IsInLimits }
+{
+    let (file, index) = two_paths(alloc, words)?;
+    let budget = budget_of(budget)?;
+    let clause_limit = clause_limit_of(limit)?;
+    Ok(Job::Status {
+        file,
+        index,
+        budget,
+        clause_limit,
+        hold,
+    })
+}
+
+/// The job of `migrate`.
+pub(crate) fn migrate_job(
+    alloc: Global,
+    budget: Option<&str>,
+    limit: Option<&str>,
+    hold: bool,
+    words: &[&str],
+) -> Result<Job, WordError>
+    ensures job { IfOk result (λ job. migrate_job (option_map (λ s. s.now) budget.entry) (option_map (λ s. s.now) limit.entry) hold (map (λ s. s.now) words.now) ≡ Some job) }
+    ensures refusal { IfErr result (OnNotACommand (migrate_job (option_map (λ s. s.now) budget.entry) (option_map (λ s. s.now) limit.entry) hold (map (λ s. s.now) words.now) ≡ None)) }
+    ensures limited { IfOk result IsInLimits }
+{
+    let (old, new) = two_paths(alloc, words)?;
+    let budget = budget_of(budget)?;
+    let clause_limit = clause_limit_of(limit)?;
+    Ok(Job::Migrate {
+        old,
+        new,
+        budget,
+        clause_limit,
+        hold,
     })
 }
 
@@ -107,15 +202,16 @@ pub(crate) fn query_job(
     kernel: Option<&str>,
     budget: Option<&str>,
     limit: Option<&str>,
+    hold: bool,
     words: &[&str],
 ) -> Result<Job, WordError>
-    ensures job { IfOk result (λ job. query_job (option_map (λ s. s.now) kernel.entry) (option_map (λ s. s.now) budget.entry) (option_map (λ s. s.now) limit.entry) (map (λ s. s.now) words.now) ≡ Some job) }
-    ensures refusal { IfErr result (OnNotACommand (query_job (option_map (λ s. s.now) kernel.entry) (option_map (λ s. s.now) budget.entry) (option_map (λ s. s.now) limit.entry) (map (λ s. s.now) words.now) ≡ None)) }
+    ensures job { IfOk result (λ job. query_job (option_map (λ s. s.now) kernel.entry) (option_map (λ s. s.now) budget.entry) (option_map (λ s. s.now) limit.entry) hold (map (λ s. s.now) words.now) ≡ Some job) }
+    ensures refusal { IfErr result (OnNotACommand (query_job (option_map (λ s. s.now) kernel.entry) (option_map (λ s. s.now) budget.entry) (option_map (λ s. s.now) limit.entry) hold (map (λ s. s.now) words.now) ≡ None)) }
     ensures limited { IfOk result IsInLimits }
 {
     match kernel {
-        Some(kernel) => stored_query(alloc, kernel, budget, limit, words),
-        None => index_query(alloc, budget, limit, words),
+        Some(kernel) => stored_query(alloc, kernel, budget, limit, hold, words),
+        None => index_query(alloc, budget, limit, hold, words),
     }
 }
 
@@ -124,40 +220,39 @@ fn index_query(
     alloc: Global,
     budget: Option<&str>,
     limit: Option<&str>,
+    hold: bool,
     words: &[&str],
 ) -> Result<Job, WordError>
-    ensures job { IfOk result (λ job. index_query (option_map (λ s. s.now) budget.entry) (option_map (λ s. s.now) limit.entry) (map (λ s. s.now) words.now) ≡ Some job) }
-    ensures refusal { IfErr result (OnNotACommand (index_query (option_map (λ s. s.now) budget.entry) (option_map (λ s. s.now) limit.entry) (map (λ s. s.now) words.now) ≡ None)) }
+    ensures job { IfOk result (λ job. index_query (option_map (λ s. s.now) budget.entry) (option_map (λ s. s.now) limit.entry) hold (map (λ s. s.now) words.now) ≡ Some job) }
+    ensures refusal { IfErr result (OnNotACommand (index_query (option_map (λ s. s.now) budget.entry) (option_map (λ s. s.now) limit.entry) hold (map (λ s. s.now) words.now) ≡ None)) }
     ensures limited { IfOk result IsInLimits }
 {
-    let [index, goals @ ..] = words else {
-        return Err(WordError::NotACommand);
-    };
-    let index = path_in(alloc, index)?;
+    let (index, goals) = index_and_goals(alloc, words)?;
     let budget = budget_of(budget)?;
     let clause_limit = clause_limit_of(limit)?;
-    let goals = goals_in(alloc, goals)?;
     Ok(Job::Query {
         index,
         goals,
         budget,
         clause_limit,
+        hold,
     })
 }
 
-// A query on a stored kernel; a clause limit has no meaning there.
+// A query on a stored kernel; neither a clause limit nor `--hold` has a meaning there.
 fn stored_query(
     alloc: Global,
     kernel: &str,
     budget: Option<&str>,
     limit: Option<&str>,
+    hold: bool,
     words: &[&str],
 ) -> Result<Job, WordError>
-    ensures job { IfOk result (λ job. stored_query kernel.now (option_map (λ s. s.now) budget.entry) (option_map (λ s. s.now) limit.entry) (map (λ s. s.now) words.now) ≡ Some job) }
-    ensures refusal { IfErr result (OnNotACommand (stored_query kernel.now (option_map (λ s. s.now) budget.entry) (option_map (λ s. s.now) limit.entry) (map (λ s. s.now) words.now) ≡ None)) }
+    ensures job { IfOk result (λ job. stored_query kernel.now (option_map (λ s. s.now) budget.entry) (option_map (λ s. s.now) limit.entry) hold (map (λ s. s.now) words.now) ≡ Some job) }
+    ensures refusal { IfErr result (OnNotACommand (stored_query kernel.now (option_map (λ s. s.now) budget.entry) (option_map (λ s. s.now) limit.entry) hold (map (λ s. s.now) words.now) ≡ None)) }
     ensures limited { IfOk result IsInLimits }
 {
-    if limit.is_some() {
+    if limit.is_some() || hold {
         return Err(WordError::NotACommand);
     }
     let kernel = path_in(alloc, kernel)?;

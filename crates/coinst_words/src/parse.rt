@@ -1,7 +1,7 @@
 //! The program's commands for `clap`, and its parse of the words.
 ghost use Rattle.std.specs.Prelude.{◌≡◌, Some, codes, false, true, IfOk, IfErr, ◌++◌, map, None, string_bytes, []};
-ghost use Rattle.clap.specs.Words.{app_of, kind_of, rule_of, shape_of};
-ghost use Rattle.coinst_words.specs.Program.{app_of_usages, bare_app, flag_rule, valued_rule, words_rule, IsCommand};
+ghost use Rattle.clap.specs.Words.{app_of, kind_of, rule_of, with_subcommand};
+ghost use Rattle.coinst_words.specs.Program.{app_of_usages, bare_app, flag_rule, shape_of_usage, valued_rule, words_rule, IsCommand};
 ghost use Rattle.coinst_words.specs.Usage.{said_of, usages};
 ghost use Rattle.coinst_words.specs.Parsed.{Enters};
 ghost use Rattle.coinst_words.specs.Refusals.{OnNotACommand};
@@ -54,6 +54,19 @@ fn command<'a>(
     command.arg(ordinary(alloc))
 }
 
+// The program with one more command, which has these options.
+fn add_command<'a>(
+    alloc: Global,
+    program: Command<'a>,
+    name: &'a str,
+    flags: &[&'a str],
+    with_value: &[&'a str],
+) -> Result<Command<'a>, AllocError>
+    ensures { IfOk result (λ c. app_of c ≡ with_subcommand (app_of program.entry) (shape_of_usage (record { name = name.entry.now; flags = map (λ s. s.now) flags.now; valued = map (λ s. s.now) with_value.now }))) }
+{
+    program.subcommand(command(alloc, name, flags, with_value)?)
+}
+
 // The program, without its commands; help and version forms are off.
 fn bare_program<'a>(alloc: Global) -> Command<'a>
     ensures app { app_of result ≡ bare_app [] }
@@ -70,15 +83,44 @@ fn bare_program<'a>(alloc: Global) -> Command<'a>
 fn program<'a>(alloc: Global) -> Result<Command<'a>, AllocError>
     ensures { IfOk result (λ c. app_of c ≡ app_of_usages usages) }
 {
-    let kernel = command(alloc, "kernel", &["json"], &["clause-limit"])?;
-    let query = command(alloc, "query", &[], &["budget", "clause-limit", "kernel"])?;
-    let compare = command(alloc, "compare", &[], &["budget", "clause-limit"])?;
-    let sample = command(alloc, "sample", &[], &[])?;
-    bare_program(alloc)
-        .subcommand(kernel)?
-        .subcommand(query)?
-        .subcommand(compare)?
-        .subcommand(sample)
+    let bare = bare_program(alloc);
+    let with_kernel = add_command(alloc, bare, "kernel", &["json", "hold"], &["clause-limit"])?;
+    let with_query = add_command(
+        alloc,
+        with_kernel,
+        "query",
+        &["hold"],
+        &["budget", "clause-limit", "kernel"],
+    )?;
+    let with_compare = add_command(
+        alloc,
+        with_query,
+        "compare",
+        &["hold"],
+        &["budget", "clause-limit"],
+    )?;
+    let with_explain = add_command(
+        alloc,
+        with_compare,
+        "explain",
+        &["hold"],
+        &["budget", "clause-limit"],
+    )?;
+    let with_status = add_command(
+        alloc,
+        with_explain,
+        "status",
+        &["hold"],
+        &["budget", "clause-limit"],
+    )?;
+    let with_migrate = add_command(
+        alloc,
+        with_status,
+        "migrate",
+        &["hold"],
+        &["budget", "clause-limit"],
+    )?;
+    add_command(alloc, with_migrate, "sample", &[], &[])
 }
 
 // Want of memory is told apart from words that are refused.

@@ -7,7 +7,9 @@ ghost use Rattle.coinst_words.specs.Refusals.{OnNotACommand};
 
 use crate::error::WordError;
 use crate::job::Job;
-use crate::jobs::{compare_job, kernel_job, query_job, sample_job};
+use crate::jobs::{
+    compare_job, explain_job, is_on, kernel_job, migrate_job, query_job, sample_job, status_job,
+};
 use crate::parse::parse;
 use clap::ArgMatches;
 use std::alloc::Global;
@@ -39,8 +41,9 @@ fn job_named<'a>(alloc: Global, name: &str, given: &ArgMatches<'a>) -> Result<Jo
     match name {
         "kernel" => kernel_job(
             alloc,
-            given.get_str("json"),
+            is_on(given.get_str("json")),
             given.get_str("clause-limit"),
+            is_on(given.get_str("hold")),
             words,
         ),
         "query" => query_job(
@@ -48,12 +51,35 @@ fn job_named<'a>(alloc: Global, name: &str, given: &ArgMatches<'a>) -> Result<Jo
             given.get_str("kernel"),
             given.get_str("budget"),
             given.get_str("clause-limit"),
+            is_on(given.get_str("hold")),
             words,
         ),
         "compare" => compare_job(
             alloc,
             given.get_str("budget"),
             given.get_str("clause-limit"),
+            is_on(given.get_str("hold")),
+            words,
+        ),
+        "explain" => explain_job(
+            alloc,
+            given.get_str("budget"),
+            given.get_str("clause-limit"),
+            is_on(given.get_str("hold")),
+            words,
+        ),
+        "status" => status_job(
+            alloc,
+            given.get_str("budget"),
+            given.get_str("clause-limit"),
+            is_on(given.get_str("hold")),
+            words,
+        ),
+        "migrate" => migrate_job(
+            alloc,
+            given.get_str("budget"),
+            given.get_str("clause-limit"),
+            is_on(given.get_str("hold")),
             words,
         ),
         "sample" => sample_job(words),

@@ -1,104 +1,11 @@
-//! Lists of words, parted by spaces here, and the jobs that they give.
+//! Lists of words, and the jobs that they give.
+mod tables;
+
 use crate::{Job, WordError, read_words};
 use repo_model::GoalList;
 use std::alloc::{AllocError, Global};
+use std::process::Abort;
 use std::test::Fail;
-
-/// Words, and their job: its name, then its paths, its numbers and how many goals it has.
-const JOBS: [(&str, &str); 20] = [
-    ("kernel I", "kernel I false 65536"),
-    ("kernel --json I", "kernel I true 65536"),
-    ("kernel I --json --clause-limit=007", "kernel I true 7"),
-    ("kernel --clause-limit 5 --json I", "kernel I true 5"),
-    ("kernel --clause-limit 1000000 I", "kernel I false 1000000"),
-    ("kernel -- I", "kernel I false 65536"),
-    ("kernel -- -x", "kernel -x false 65536"),
-    ("kernel --json -- --json", "kernel --json true 65536"),
-    ("kernel -- --", "kernel -- false 65536"),
-    ("query I a", "query I 10000 65536 1"),
-    ("query I a --budget=7", "query I 7 65536 1"),
-    (
-        "query I a --budget 9 b=1:2-3 --clause-limit=6",
-        "query I 9 6 2",
-    ),
-    ("query --kernel K a b", "stored K 10000 2"),
-    ("query a --kernel=-x --budget 4", "stored -x 4 1"),
-    ("compare O N", "compare O N 10000 65536"),
-    ("compare N --budget=5 -- N", "compare N N 5 65536"),
-    ("compare --clause-limit=1 -- -O -N", "compare -O -N 10000 1"),
-    ("sample 7 1", "sample 7 1"),
-    ("sample 00 00000000000000000001", "sample 0 1"),
-    (
-        "sample 18446744073709551615 200000",
-        "sample 18446744073709551615 200000",
-    ),
-];
-
-/// Words that give no job.
-const REFUSED: [&str; 62] = [
-    "",
-    "help",
-    "--help",
-    "-h",
-    "--version",
-    "kernel --help",
-    "kernel -h",
-    "help kernel",
-    "kernel",
-    "Kernel I",
-    "kern I",
-    " kernel I",
-    "-- kernel I",
-    "--json kernel I",
-    "kernel I J",
-    "kernel --js I",
-    "kernel --json= I",
-    "kernel --json=true I",
-    "kernel --json --json I",
-    "kernel -json I",
-    "kernel -",
-    "kernel -- -",
-    "kernel ",
-    "kernel -x",
-    "kernel -x I",
-    "kernel -\u{e9}",
-    "kernel --\u{e9} I",
-    "kernel --clause-limit - I",
-    "kernel --clause-limit= I",
-    "kernel --clause-limit=0 I",
-    "kernel --clause-limit=1000001 I",
-    "kernel --clause-limit -- 5 I",
-    "kernel --clause-limit --json I",
-    "kernel I --clause-limit",
-    "kernel --clause-limit 5 --clause-limit=5 I",
-    "kernel --budget 5 I",
-    "query I",
-    "query a --kernel",
-    "query --kernel K",
-    "query --kernel= a",
-    "query --kernel=- a",
-    "query --kernel - a",
-    "query --kernel K --kernel K a",
-    "query --kernel K --clause-limit 5 a",
-    "query --json I a",
-    "query I a=",
-    "query I a=1=2",
-    "query I a ",
-    "query I +a",
-    "query -- - a",
-    "query --budget 0 I a",
-    "query --budget=1000001 I a",
-    "query --budget=-5 I a",
-    "query --budget=+5 I a",
-    "query --budget=0x5 I a",
-    "compare O",
-    "compare O N M",
-    "compare --kernel K O N",
-    "sample 7 0",
-    "sample 7 200001",
-    "sample 18446744073709551616 1",
-    "sample 000000000000000000007 1",
-];
 
 fn copies(alloc: Global, text: &str) -> Result<Vec<String>, AllocError> {
     let mut words = Vec::new(alloc);
@@ -122,19 +29,21 @@ fn told(alloc: Global, job: &Job) -> Result<String, AllocError> {
             index,
             json,
             clause_limit,
+            hold,
         } => {
             let path = index.as_str();
-            format!(in alloc; "kernel {path} {json} {clause_limit}")
+            format!(in alloc; "kernel {path} {json} {clause_limit} {hold}")
         }
         Job::Query {
             index,
             goals,
             budget,
             clause_limit,
+            hold,
         } => {
             let path = index.as_str();
             let goals = count(goals);
-            format!(in alloc; "query {path} {budget} {clause_limit} {goals}")
+            format!(in alloc; "query {path} {budget} {clause_limit} {hold} {goals}")
         }
         Job::StoredQuery {
             kernel,
@@ -150,10 +59,44 @@ fn told(alloc: Global, job: &Job) -> Result<String, AllocError> {
             new,
             budget,
             clause_limit,
+            hold,
         } => {
             let old = old.as_str();
             let new = new.as_str();
-            format!(in alloc; "compare {old} {new} {budget} {clause_limit}")
+            format!(in alloc; "compare {old} {new} {budget} {clause_limit} {hold}")
+        }
+        Job::Explain {
+            index,
+            goals,
+            budget,
+            clause_limit,
+            hold,
+        } => {
+            let path = index.as_str();
+            let goals = count(goals);
+            format!(in alloc; "explain {path} {budget} {clause_limit} {hold} {goals}")
+        }
+        Job::Status {
+            file,
+            index,
+            budget,
+            clause_limit,
+            hold,
+        } => {
+            let file = file.as_str();
+            let index = index.as_str();
+            format!(in alloc; "status {file} {index} {budget} {clause_limit} {hold}")
+        }
+        Job::Migrate {
+            old,
+            new,
+            budget,
+            clause_limit,
+            hold,
+        } => {
+            let old = old.as_str();
+            let new = new.as_str();
+            format!(in alloc; "migrate {old} {new} {budget} {clause_limit} {hold}")
         }
         Job::Sample { seed, count } => format!(in alloc; "sample {seed} {count}"),
     }
@@ -165,16 +108,59 @@ fn answer_to(alloc: Global, text: &str) -> Result<String, WordError> {
     Ok(told(alloc, &job)?)
 }
 
-#[test]
-fn words_give_jobs(rt: HostRuntime) -> Result<(), Fail> {
-    let alloc = rt.alloc();
-    for (text, job) in JOBS {
-        let answer = answer_to(alloc, text)?;
-        assert_eq!(rt; answer.as_str(), job, "{text}");
-    }
-    for text in REFUSED {
-        let refusal = answer_to(alloc, text).err();
-        assert_eq!(rt; refusal, Some(WordError::NotACommand), "{text}");
+fn try_line(rt: &(impl Abort + AllocGlobal), line: &str) -> Result<(), Fail> {
+    let (text, job) = line.split_once(" => ").ok_or("no job")?;
+    match answer_to(rt.alloc(), text) {
+        Ok(answer) => assert_eq!(rt; answer.as_str(), job, "{text}"),
+        Err(WordError::NotACommand) => assert_eq!(rt; "none", job, "{text}"),
+        Err(WordError::Memory) => return Err(Fail::from(AllocError)),
     }
     Ok(())
+}
+
+fn try_lines(rt: &(impl Abort + AllocGlobal), table: &str) -> Result<(), Fail> {
+    for line in table.lines() {
+        try_line(rt, line)?;
+    }
+    Ok(())
+}
+
+#[test]
+fn words_of_kernel(rt: HostRuntime) -> Result<(), Fail> {
+    try_lines(&rt, tables::KERNEL)
+}
+
+#[test]
+fn words_of_query(rt: HostRuntime) -> Result<(), Fail> {
+    try_lines(&rt, tables::QUERY)
+}
+
+#[test]
+fn words_of_compare(rt: HostRuntime) -> Result<(), Fail> {
+    try_lines(&rt, tables::COMPARE)
+}
+
+#[test]
+fn words_of_explain(rt: HostRuntime) -> Result<(), Fail> {
+    try_lines(&rt, tables::EXPLAIN)
+}
+
+#[test]
+fn words_of_status(rt: HostRuntime) -> Result<(), Fail> {
+    try_lines(&rt, tables::STATUS)
+}
+
+#[test]
+fn words_of_migrate(rt: HostRuntime) -> Result<(), Fail> {
+    try_lines(&rt, tables::MIGRATE)
+}
+
+#[test]
+fn words_of_sample(rt: HostRuntime) -> Result<(), Fail> {
+    try_lines(&rt, tables::SAMPLE)
+}
+
+#[test]
+fn words_of_no_command(rt: HostRuntime) -> Result<(), Fail> {
+    try_lines(&rt, tables::OTHERS)
 }

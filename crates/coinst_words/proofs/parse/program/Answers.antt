@@ -1,17 +1,15 @@
-use Rattle.std.proofs.Common.{◌≡◌, ◌∙◌, ap₂, []}
 use Rattle.std.proofs.lemmas.Result.{IfOk-weaker}
-use Rattle.clap.specs.Simple.{app_of, with_subcommand}
-use Rattle.coinst_words.specs.Usage.{compare_usage, kernel_usage, query_usage}
-use Rattle.coinst_words.specs.Program.{bare_app, shape_of_usage}
+use Rattle.coinst_words.specs.Program.{shape_of_usage}
+use Rattle.coinst_words.specs.Usage.{compare_usage, explain_usage, kernel_usage, migrate_usage, query_usage, sample_usage, status_usage}
+use Rattle.coinst_words.proofs.Commands.{one_more}
 use Rattle.coinst_words.proofs.parse.program.Goals as goal
 
 pub returns : goal.returns
 returns c =
-    let one : app_of c.in_ok-subcommand.field-0 ≡ with_subcommand (bare_app []) (shape_of_usage kernel_usage) =
-    c.in_ok-subcommand.ensures.shape c.in_ok-kernel.ensures.1 ∙ ap₂ with_subcommand c.bare_program.ensures.app c.in_ok-kernel.ensures.0 in
-    let two : app_of c.in_ok-subcommand-2.field-0 ≡ with_subcommand (with_subcommand (bare_app []) (shape_of_usage kernel_usage)) (shape_of_usage query_usage) =
-    c.in_ok-subcommand-2.ensures.shape c.in_ok-query.ensures.1 ∙ ap₂ with_subcommand one c.in_ok-query.ensures.0 in
-    let three : app_of c.in_ok-subcommand-3.field-0
-    ≡ with_subcommand (with_subcommand (with_subcommand (bare_app []) (shape_of_usage kernel_usage)) (shape_of_usage query_usage)) (shape_of_usage compare_usage) =
-    c.in_ok-subcommand-3.ensures.shape c.in_ok-compare.ensures.1 ∙ ap₂ with_subcommand two c.in_ok-compare.ensures.0 in
-    IfOk-weaker c.subcommand-4.result _ _ (λ r adds. adds.shape c.in_ok-sample.ensures.1 ∙ ap₂ with_subcommand three c.in_ok-sample.ensures.0) c.subcommand-4.ensures
+    let kernel = one_more (shape_of_usage kernel_usage) _ _ _ c.bare_program-bare.ensures.app c.in_ok-with_kernel.ensures in
+    let query = one_more (shape_of_usage query_usage) _ _ _ kernel c.in_ok-with_query.ensures in
+    let compare = one_more (shape_of_usage compare_usage) _ _ _ query c.in_ok-with_compare.ensures in
+    let explain = one_more (shape_of_usage explain_usage) _ _ _ compare c.in_ok-with_explain.ensures in
+    let status = one_more (shape_of_usage status_usage) _ _ _ explain c.in_ok-with_status.ensures in
+    let migrate = one_more (shape_of_usage migrate_usage) _ _ _ status c.in_ok-with_migrate.ensures in
+    IfOk-weaker c.add_command-7.result _ _ (λ r adds. one_more (shape_of_usage sample_usage) _ _ _ migrate adds) c.add_command-7.ensures

@@ -1,13 +1,12 @@
 -- What the report of a comparison means.
-use Rattle.std.proofs.Common.{◌≡◌, ℕ, List, refl, sym}
-use Rattle.byte_flow.specs.Flow.{Files}
+use Rattle.std.proofs.Common.{◌≡◌, ℕ, List, refl}
 use Rattle.suite_compare.specs.Asking.{verdict_in}
 use Rattle.suite_compare.proofs.Deciding.{verdict_is_judged}
 use Rattle.suite_compare.specs.declared.report.ReportLine.{ReportLine}
 use Rattle.coinst_run.specs.declared.answer.Verdict.{Verdict}
 use Rattle.coinst_run.specs.Answer.{reported}
 use Rattle.coinst_run.specs.Compare.{broken_lines, compare_answer, lines_answer, new_answer, new_course, old_answer}
-use Rattle.coinst_run.specs.CompareMeaning.{CompareIsMeant, CompareMeans}
+use Rattle.coinst_run.specs.CompareMeaning.{CompareIsMeant}
 use Rattle.coinst_run.specs.CompareText.{comparison_text, comparison_verdict}
 use Rattle.coinst_run.specs.Index.{home_in, index_in, packages_in}
 use Rattle.coinst_run.specs.Outcome.{answered}
@@ -22,12 +21,12 @@ lines_text lines verdict printed e = cc
 
 pub compare_is_meant : CompareIsMeant
 unfolding broken_lines
-compare_is_meant old new budget limit files verdict printed e =
-    let first = index_used old (old_answer old new budget limit) files verdict printed e in
-    let on = kernel_used old limit (index_in first.0) (λ made. new_course new budget limit (index_in first.0)) files verdict printed first.2.1 in
-    let second = index_used new (new_answer new budget limit (index_in first.0)) files verdict printed on in
-    let end = kernel_used new limit (index_in second.0) (λ made. compare_answer budget (index_in first.0) (index_in second.0)) files verdict printed second.2.1 in
-    let lines : List ReportLine = broken_lines budget (index_in first.0) (index_in second.0) in (
+compare_is_meant old new budget limit hold files verdict printed e =
+    let first = index_used old (old_answer old new budget limit hold) files verdict printed e in
+    let on = kernel_used old limit hold (index_in first.0) (λ made. new_course new budget limit hold (index_in first.0)) files verdict printed first.2.1 in
+    let second = index_used new (new_answer new budget limit hold (index_in first.0)) files verdict printed on in
+    let end = kernel_used new limit hold (index_in second.0) (λ made. compare_answer budget limit hold (index_in first.0) (index_in second.0)) files verdict printed second.2.1 in
+    let lines : List ReportLine = broken_lines budget limit hold (index_in first.0) (index_in second.0) in (
       first.0,
       second.0,
       first.1,
@@ -35,10 +34,10 @@ compare_is_meant old new budget limit files verdict printed e =
       record {
         old_accepted = first.2.0;
         new_accepted = second.2.0;
-        in_old = verdict_in (home_in first.0) (packages_in first.0) budget;
-        in_new = verdict_in (home_in second.0) (packages_in second.0) budget;
-        old_judged = λ goals. verdict_is_judged (home_in first.0) (packages_in first.0) budget goals;
-        new_judged = λ goals. verdict_is_judged (home_in second.0) (packages_in second.0) budget goals;
+        in_old = verdict_in limit hold (home_in first.0) (packages_in first.0) budget;
+        in_new = verdict_in limit hold (home_in second.0) (packages_in second.0) budget;
+        old_judged = λ goals. verdict_is_judged limit hold (home_in first.0) (packages_in first.0) budget goals;
+        new_judged = λ goals. verdict_is_judged limit hold (home_in second.0) (packages_in second.0) budget goals;
         lines = lines;
         tells = refl;
         reads = lines_text lines verdict printed end;

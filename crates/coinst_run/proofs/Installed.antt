@@ -1,9 +1,9 @@
 -- What is installed for goals is healthy, and has a package for each of them.
-use Rattle.std.proofs.Common.{◌≡◌, ℕ, ◌+◌, ◌<◌, Bool, true, false, List, [], length, map, filter, refl, sym, ap, subst, arith, Option, Some, None}
+use Rattle.std.proofs.Common.{◌≡◌, ℕ, ◌<◌, Bool, true, false, List, length, filter, refl, sym, subst, arith, Some}
 use Rattle.std.proofs.Math.Path.{fun_ext}
-use Rattle.install_lift.specs.Lifting.{lift_of, IsLift}
+use Rattle.install_lift.specs.Lifting.{lift_of}
 use Rattle.install_lift.specs.Laws.{HoldsMembers}
-use Rattle.install_lift.specs.Trimming.{IsHealthyPart, IsTrim, trim_of}
+use Rattle.install_lift.specs.Trimming.{IsHealthyPart}
 use Rattle.install_lift.proofs.Computed.{lift_is_of, trim_is_of}
 use Rattle.install_lift.proofs.Lifted.{lift_is_healthy}
 use Rattle.install_lift.proofs.Trimmed.{trim_is_healthy}
@@ -18,7 +18,7 @@ use Rattle.repo_model.proofs.Healthy.{healthy_same}
 use Rattle.row_book.specs.Clauses.{Ascending}
 use Rattle.row_book.specs.Flags.{flag}
 use Rattle.row_book.specs.Repository.{Repository, Healthy}
-use Rattle.row_book.specs.Rounds.{kernel, kernel_class, kernel_steps}
+use Rattle.row_book.specs.Rounds.{kernel, kernel_steps}
 use Rattle.row_book.specs.Sets.{Hit, HitsAll, In, Is, NumSet, has}
 use Rattle.row_book.proofs.Lists.{In_has, In_map, In_map_cases, ascending_filter, filter_cases, filter_from, has_In}
 use Rattle.search_terms.specs.Laws.{Solves}
@@ -37,25 +37,25 @@ kept n I xs all = same (has (filter I xs) n) (I n) (λ h. (filter_cases I xs n (
     same false true f g = g refl
     same false false f g = refl
 
-module _ (home : Home) (stanzas : List PackageFacts) (goals : List Goal) (chosen : List Bool) (found : found_of (asked_tree home stanzas goals) ≡ Some chosen) where
+module _ (limit : ℕ) (hold : Bool) (home : Home) (stanzas : List PackageFacts) (goals : List Goal) (chosen : List Bool) (found : found_of (asked_tree limit hold home stanzas goals) ≡ Some chosen) where
   abbrev R : Repository
   R = suite_repository home stanzas
 
-  solves : Solves (kernel R) (images_of home stanzas goals) (flag chosen)
-  solves = (finds_healthy (kernel R) (images_of home stanzas goals) (asked_tree home stanzas goals) (asked_range home stanzas goals) (asked_is home stanzas goals)).1 chosen found
+  solves : Solves (kernel limit hold R) (images_of limit hold home stanzas goals) (flag chosen)
+  solves = (finds_healthy (kernel limit hold R) (images_of limit hold home stanzas goals) (asked_tree limit hold home stanzas goals) (asked_range home stanzas limit hold goals) (asked_is home stanzas limit hold goals)).1 chosen found
 
   abbrev lifted : NumSet
-  lifted = lift_of (kernel_steps R) (flag chosen)
+  lifted = lift_of (kernel_steps limit hold R) (flag chosen)
 
-  lifts : Healthy R lifted × HoldsMembers R (flag chosen) lifted
-  lifts = lift_is_healthy R (flag chosen) lifted (sound home stanzas) solves.0 ((lift_is_of (kernel_steps R) (flag chosen) lifted).1 refl)
+  lifts : Healthy R lifted × HoldsMembers limit hold R (flag chosen) lifted
+  lifts = lift_is_healthy limit hold R (flag chosen) lifted (sound home stanzas) solves.0 ((lift_is_of (kernel_steps limit hold R) (flag chosen) lifted).1 refl)
 
   -- the lifted set has a package for each goal
   lift_hits : HitsAll lifted (wanted_by stanzas goals)
   lift_hits c i =
       let g = In_map_cases (packages_named stanzas) goals c i in
-      let hit : Hit (Is (flag chosen)) (image_of home stanzas g.0) = solves.1 (image_of home stanzas g.0) (In_map (image_of home stanzas) goals g.0 g.1) in
-      let one = classes_parts R (sound home stanzas) (packages_named stanzas g.0) (named_within home stanzas g.0) hit.by hit.inside in
+      let hit : Hit (Is (flag chosen)) (image_of limit hold home stanzas g.0) = solves.1 (image_of limit hold home stanzas g.0) (In_map (image_of limit hold home stanzas) goals g.0 g.1) in
+      let one = classes_parts limit hold R (sound home stanzas) (packages_named stanzas g.0) (named_within home stanzas g.0) hit.by hit.inside in
       record {
         by = one.0;
         inside = subst (λ d. In one.0 d) (sym g.2) one.1;
@@ -63,7 +63,7 @@ module _ (home : Home) (stanzas : List PackageFacts) (goals : List Goal) (chosen
       }
 
   abbrev I : NumSet
-  I = installed home stanzas goals chosen
+  I = installed limit hold home stanzas goals chosen
 
   part : IsHealthyPart R (wanted_by stanzas goals) lifted I
   part = trim_is_healthy R (wanted_by stanzas goals) lifted I lifts.0 lift_hits ((trim_is_of R (wanted_by stanzas goals) lifted I lifts.0 lift_hits).1 refl)
@@ -76,20 +76,20 @@ module _ (home : Home) (stanzas : List PackageFacts) (goals : List Goal) (chosen
       let hit : Hit (Is I) (packages_named stanzas goal) = part.hits (packages_named stanzas goal) (In_map (packages_named stanzas) goals goal i) in
       record { by = hit.by; member = hit.alive; named = named_parts home stanzas goal hit.by hit.inside }
 
-  numbers_same : has (installation home stanzas goals chosen) ≡ I
+  numbers_same : has (installation limit hold home stanzas goals chosen) ≡ I
   unfolding installation
   numbers_same = fun_ext (λ n. kept n I (packages_of stanzas) (λ m h. range_from (length stanzas) 0 m (omega arith) (let l = set_healthy.numbers m h in omega (arith, l))))
 
-  pub installs_ascending : Ascending (installation home stanzas goals chosen)
+  pub installs_ascending : Ascending (installation limit hold home stanzas goals chosen)
   unfolding installation
   installs_ascending = ascending_filter I (packages_of stanzas) (range_ascending (length stanzas) 0)
 
-  pub installs_healthy : HealthyStanzas home stanzas (has (installation home stanzas goals chosen))
+  pub installs_healthy : HealthyStanzas home stanzas (has (installation limit hold home stanzas goals chosen))
   installs_healthy = subst (HealthyStanzas home stanzas) (sym numbers_same) set_healthy
 
-  pub installs_for : (goal : Goal) → In goal goals → HasOneFor stanzas (has (installation home stanzas goals chosen)) goal
+  pub installs_for : (goal : Goal) → In goal goals → HasOneFor stanzas (has (installation limit hold home stanzas goals chosen)) goal
   installs_for goal i = subst (λ J. HasOneFor stanzas J goal) (sym numbers_same) (set_serves goal i)
 
   -- each number is of a package
-  pub installs_within : (n : ℕ) → In n (installation home stanzas goals chosen) → n < length stanzas
+  pub installs_within : (n : ℕ) → In n (installation limit hold home stanzas goals chosen) → n < length stanzas
   installs_within n i = installs_healthy.numbers n (In_has i)

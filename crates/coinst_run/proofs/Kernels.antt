@@ -1,5 +1,5 @@
 -- The stages of the kernel of an index, by what the calls below answer.
-use Rattle.std.proofs.Common.{◌≡◌, ℕ, ◌+◌, ◌<◌, ◌≤◌, false, List, length, map, Some, None, Ok, Err, refl, sym, ap, ap₂, subst, ◌∙◌, arith}
+use Rattle.std.proofs.Common.{◌≡◌, ℕ, ◌+◌, ◌<◌, ◌≤◌, Bool, true, false, inl, inr, cond, List, [], ◌∷◌, length, map, filter, Option, Some, None, Ok, Err, refl, sym, ap, ap₂, subst, ◌∙◌, arith}
 use Rattle.std.proofs.lemmas.List.{length-map}
 use Rattle.clause_pool.specs.Interned.{Interned, row_at}
 use Rattle.kernel_rounds.specs.Extracting.{IsExtracted}
@@ -12,7 +12,6 @@ use Rattle.repo_model.proofs.Accepted as accepting
 use Rattle.repo_model.proofs.Packages.{length_clauses}
 use Rattle.repo_model.proofs.Standing.{not_memory}
 pub use Rattle.repo_model.proofs.SoundSuite.{suite_sound}
-use Rattle.repo_model.proofs.Form.{clause_form, conflict_two, conflict_turned, conflicts_order, form_lists}
 use Rattle.repo_model.specs.Facts.{facts_of}
 use Rattle.repo_model.specs.FirstFault.{first_fault, home_of, stanzas_of}
 use Rattle.repo_model.specs.Refusals.{Refuses, is_memory}
@@ -20,19 +19,21 @@ use Rattle.repo_model.specs.Repository.{suite_repository}
 use Rattle.repo_model.specs.Stanzas.{stanza_at}
 use Rattle.repo_model.specs.declared.fault.IndexFault.{IndexFault}
 use Rattle.row_book.specs.Clauses.{InOrder}
-use Rattle.row_book.specs.Flattening.{flat, packages}
-use Rattle.row_book.specs.Repository.{Repository, clauses_of, conflicts_of}
-use Rattle.row_book.specs.Rounds.{PassedRound, kernel, kernel_class, limit_at, round_count}
+use Rattle.row_book.specs.Flattening.{flat, held_of, is_held, packages}
+use Rattle.row_book.specs.Repository.{Repository, clauses_of}
+use Rattle.row_book.specs.Rounds.{PassedRound, kernel, kernel_class, kernel_held, limit_at, round_count}
 use Rattle.row_book.specs.Sets.{In}
 use Rattle.row_book.specs.Sound.{SoundRepository, TidyRepository}
-use Rattle.row_book.proofs.Lists.{In_has, In_map, In_map_cases, has_not}
-use Rattle.row_book.proofs.Order.{length_numbers, numbers_from, numbers_parts}
+use Rattle.row_book.proofs.Lists.{In_map, In_map_cases, ascending_filter, filter_cases}
+use Rattle.row_book.proofs.Order.{length_numbers, numbers_ascending, numbers_from, numbers_parts}
+use Rattle.clause_flatten.proofs.Stages.{without_hold_lem}
 use Rattle.kernel_rounds.specs.Laws.{IsKernel}
 use Rattle.kernel_rounds.proofs.Flattened.{flat_order, flat_tidy}
 use Rattle.kernel_rounds.proofs.Reached.{kernel_is_lem}
 use Rattle.kernel_rounds.proofs.Settling.{fixed_parts_lem}
+use Rattle.kernel_text.specs.KernelText.{FitsFormat, format_of}
 use Rattle.kernel_text.specs.Laws.{IsKernelOf}
-use Rattle.kernel_text.specs.Reading.{number_limit}
+use Rattle.kernel_text.specs.Reading.{number_limit, IsFormat}
 use Rattle.coinst_run.specs.declared.answer.Cause.{Cause}
 use Rattle.coinst_run.specs.declared.answer.Cause.TheVariants.{ClauseLimit}
 use Rattle.coinst_run.specs.Answer.{refused}
@@ -60,63 +61,90 @@ index_named text packages none said =
     subst AreNamedPackages (sym said) (λ facts i. let named = accepted.named facts i in (named.name, named.version))
 
 -- a fault of the text is the answer
-pub index_faulty : (fault : IndexFault) (path text : List ℕ) (cause : Cause) (line : List ℕ) → Refuses fault (first_fault text) → is_memory fault ≡ false → cause ≡ fault_cause fault →
-    line ≡ fault_line path fault → checked_index path text ≡ Err (refused cause line)
-index_faulty fault path text cause line refuses known is told =
-    let found : first_fault text ≡ Some fault = not_memory fault refuses known in
+pub index_faulty : (fault : IndexFault) (path text : List ℕ) (there : Option IndexFault) (cause : Cause) (line : List ℕ) → Refuses fault there → is_memory fault ≡ false → cause ≡ fault_cause fault →
+    line ≡ fault_line path fault → by_fault path text there ≡ Err (refused cause line)
+index_faulty fault path text there cause line refuses known is told =
+    let found : there ≡ Some fault = not_memory fault refuses known in
     ap (by_fault path text) found ∙ ap (λ c. Err (refused c (fault_line path fault))) (sym is) ∙ ap (λ l. Err (refused cause l)) (sym told)
 
 -- the kernel that was extracted is that of the index, where no round passes the limit
-pub kernel_made : (path : List ℕ) (limit : ℕ) (index : Index) (R : Repository) (made : ClassedKernel) → R ≡ suite_repository index.home index.packages → limit_at R limit ≡ None →
-    made.repository ≡ kernel R → made.class_of ≡ map (kernel_class R) (packages R) → kernel_of path limit index ≡ Ok made
+pub kernel_made : (path : List ℕ) (limit : ℕ) (hold : Bool) (index : Index) (R : Repository) (made : ClassedKernel) → R ≡ suite_repository index.home index.packages → limit_at limit hold R ≡ None →
+    made.repository ≡ kernel limit hold R → made.class_of ≡ map (kernel_class limit hold R) (packages R) → made.hold ≡ hold → made.held ≡ kernel_held limit hold R → kernel_of path limit hold index ≡ Ok made
 unfolding index_kernel classed_kernel
-kernel_made path limit index R made is within book classes =
-    let both : Repository → List ℕ → ClassedKernel = λ r c. record { repository = r; class_of = c } in
-    ap (by_limit path limit index) (ap (λ S. limit_at S limit) (sym is) ∙ within) ∙ ap (λ S. Ok (classed_kernel S)) (sym is) ∙ ap₂ (λ r c. Ok (both r c)) (sym book) (sym classes)
+kernel_made path limit hold index R made is within book classes kind stay =
+    let all : Repository → List ℕ → Bool → List ℕ → ClassedKernel = λ r c h ns. record { repository = r; class_of = c; hold = h; held = ns } in
+    ap (by_limit path limit hold index) (ap (limit_at limit hold) (sym is) ∙ within) ∙ ap (λ S. Ok (classed_kernel limit hold S)) (sym is)
+    ∙ ap₂ (λ r c. Ok (all r c hold (kernel_held limit hold R))) (sym book) (sym classes) ∙ ap₂ (λ h ns. Ok (all made.repository made.class_of h ns)) (sym kind) (sym stay)
 
 -- and a round that passes the limit is told
-pub limit_told : (path : List ℕ) (limit : ℕ) (index : Index) (R : Repository) (passed : PassedRound) (facts : PackageFacts) (line : List ℕ) → R ≡ suite_repository index.home index.packages →
-    limit_at R limit ≡ Some passed → facts ≡ stanza_at index.packages passed.«package» → line ≡ limit_line path limit passed.number passed.gone facts passed.count →
-    kernel_of path limit index ≡ Err (refused ClauseLimit line)
-limit_told path limit index R passed facts line is passes_it said made =
-    ap (by_limit path limit index) (ap (λ S. limit_at S limit) (sym is) ∙ passes_it)
+pub limit_told : (path : List ℕ) (limit : ℕ) (hold : Bool) (index : Index) (R : Repository) (passed : PassedRound) (facts : PackageFacts) (line : List ℕ) → R ≡ suite_repository index.home index.packages →
+    limit_at limit hold R ≡ Some passed → facts ≡ stanza_at index.packages passed.«package» → line ≡ limit_line path limit passed.number passed.gone facts passed.count →
+    kernel_of path limit hold index ≡ Err (refused ClauseLimit line)
+limit_told path limit hold index R passed facts line is passes_it said made =
+    ap (by_limit path limit hold index) (ap (limit_at limit hold) (sym is) ∙ passes_it)
     ∙ ap (λ x. Err (refused ClauseLimit x)) (ap (λ p. limit_line path limit passed.number passed.gone p passed.count) (sym said) ∙ sym made)
 
+-- the format of a kernel is one of the two
+known_format : (hold : Bool) → IsFormat (format_of hold)
+known_format true = inr refl
+known_format false = inl refl
+
+-- without hold no package is held
+first_holds_none : (limit : ℕ) (hold : Bool) (K : Repository) → format_of hold ≡ 1 → held_of limit hold K ≡ []
+unfolding held_of
+first_holds_none limit true K e = absurd (omega (arith, e))
+first_holds_none limit false K e = kept_none (packages K)
+  where
+    kept_none : (xs : List ℕ) → filter (is_held limit false K) xs ≡ []
+    kept_none [] = refl
+    kept_none (x ∷ xs) = ap (λ b. cond b (x ∷ filter (is_held limit false K) xs) (filter (is_held limit false K) xs)) (ap (λ s. s.held x) (without_hold_lem limit K (length K.clauses))) ∙ kept_none xs
+
+-- the held packages of a repository are those that its format can tell
+held_fit : (limit : ℕ) (hold : Bool) (K : Repository) → FitsFormat (format_of hold) (length K.clauses) (held_of limit hold K)
+unfolding held_of
+held_fit limit hold K = record {
+  known = known_format hold;
+  ascending = ascending_filter (is_held limit hold K) (packages K) (numbers_ascending (length K.clauses) 0);
+  inside = λ n i. let w = numbers_parts (length K.clauses) 0 n (filter_cases (is_held limit hold K) (packages K) n i).0 in omega (arith, w.1);
+  none_in_first = first_holds_none limit hold K;
+}
+
 -- the kernel of a sound repository, with the class of each of its packages, is one that can be written
-pub kernel_fits : (R : Repository) (stanzas : List PackageFacts) → SoundRepository R → length R.clauses ≡ length stanzas → Accepted stanzas → IsKernelOf (kernel R) stanzas (map (kernel_class R) (packages R))
+pub kernel_fits : (limit : ℕ) (hold : Bool) (R : Repository) (stanzas : List PackageFacts) → SoundRepository R → length R.clauses ≡ length stanzas → Accepted stanzas → IsKernelOf (format_of hold) (kernel limit hold R) stanzas (map (kernel_class limit hold R) (packages R)) (kernel_held limit hold R)
 unfolding number_limit
-kernel_fits R stanzas s count accepted =
-    let k : IsKernel R = kernel_is_lem R s in
-    let fixed : flat (kernel R) ≡ kernel R = (fixed_parts_lem (kernel R) k.sound k.fixed).flattening in
-    let tidy : TidyRepository (kernel R) = subst TidyRepository fixed (flat_tidy (kernel R) k.sound) in
+kernel_fits limit hold R stanzas s count accepted =
+    let k : IsKernel limit hold R = kernel_is_lem limit hold R s in
+    let fixed : flat limit hold (kernel limit hold R) ≡ kernel limit hold R = (fixed_parts_lem limit hold (kernel limit hold R) k.sound k.fixed).flattening in
+    let tidy : TidyRepository (kernel limit hold R) = subst TidyRepository fixed (flat_tidy limit hold (kernel limit hold R) k.sound) in
     record {
       sound = k.sound;
-      order = λ n. subst (λ F. InOrder (clauses_of F n)) fixed (flat_order (kernel R) n);
+      order = λ n. subst (λ F. InOrder (clauses_of F n)) fixed (flat_order limit hold (kernel limit hold R) n);
       apart = tidy.apart;
-      few_classes = let few : length stanzas ≤ 200000 = accepted.few in let less : length (kernel R).clauses ≤ length R.clauses = classes_few (round_count R) R s in omega arith;
+      few_classes = let few : length stanzas ≤ 200000 = accepted.few in let less : length (kernel limit hold R).clauses ≤ length R.clauses = classes_few limit hold (round_count limit hold R) R s in omega arith;
       accepted = accepted;
-      each = length_numbers (kernel_class R) (length R.clauses) 0 ∙ count;
+      each = length_numbers (kernel_class limit hold R) (length R.clauses) 0 ∙ count;
       inside = λ class i.
-          let w : (p : ℕ) × In p (packages R) × (class ≡ kernel_class R p) = In_map_cases (kernel_class R) (packages R) class i in
+          let w : (p : ℕ) × In p (packages R) × (class ≡ kernel_class limit hold R p) = In_map_cases (kernel_class limit hold R) (packages R) class i in
           let p : (0 ≤ w.0) × (w.0 < 0 + length R.clauses) = numbers_parts (length R.clauses) 0 w.0 w.1 in
-          subst (λ k. k < length (kernel R).clauses) (sym w.2) (class_within (round_count R) R s w.0 (omega (arith, p.1)));
+          subst (λ k. k < length (kernel limit hold R).clauses) (sym w.2) (class_within limit hold (round_count limit hold R) R s w.0 (omega (arith, p.1)));
       populated = λ class l.
-          let w : HasPackage R (round_count R) class = class_met (round_count R) R s class l in
+          let w : HasPackage limit hold R (round_count limit hold R) class = class_met limit hold (round_count limit hold R) R s class l in
           let within : w.by < length R.clauses = w.within in
-          subst (λ k. In k (map (kernel_class R) (packages R))) w.class (In_map (kernel_class R) (packages R) w.by (numbers_from (length R.clauses) 0 w.by (omega arith) (omega arith)));
+          subst (λ k. In k (map (kernel_class limit hold R) (packages R))) w.class (In_map (kernel_class limit hold R) (packages R) w.by (numbers_from (length R.clauses) 0 w.by (omega arith) (omega arith)));
+      fits = held_fit limit hold (kernel limit hold R);
     }
 
 -- the kernel that was extracted has a class for each package
-pub extracted_fits : (home : Home) (stanzas : List PackageFacts) (R : Repository) (limit : ℕ) (old pool : Interned) (made : Kernel) → R ≡ suite_repository home stanzas →
-    IsExtracted R limit old pool made.book made.class_of made.trail.steps → FitsSuite pool stanzas made
-extracted_fits home stanzas R limit old pool made is w =
+pub extracted_fits : (home : Home) (stanzas : List PackageFacts) (R : Repository) (limit : ℕ) (hold : Bool) (old pool : Interned) (made : Kernel) → R ≡ suite_repository home stanzas →
+    IsExtracted R limit hold old pool made.book made.class_of made.held made.trail.steps → FitsSuite pool stanzas made
+extracted_fits home stanzas R limit hold old pool made is w =
     let s : SoundRepository R = subst SoundRepository (sym is) (suite_sound home stanzas) in
     record {
       sound = w.sound;
-      each = ap length w.class_of ∙ length_numbers (kernel_class R) (length R.clauses) 0 ∙ ap (λ S. length S.clauses) is ∙ length_clauses home stanzas;
+      each = ap length w.class_of ∙ length_numbers (kernel_class limit hold R) (length R.clauses) 0 ∙ ap (λ S. length S.clauses) is ∙ length_clauses home stanzas;
       inside = λ class i.
-          let v : (p : ℕ) × In p (packages R) × (class ≡ kernel_class R p) = In_map_cases (kernel_class R) (packages R) class (subst (λ cs. In class cs) w.class_of i) in
+          let v : (p : ℕ) × In p (packages R) × (class ≡ kernel_class limit hold R p) = In_map_cases (kernel_class limit hold R) (packages R) class (subst (λ cs. In class cs) w.class_of i) in
           let p : (0 ≤ v.0) × (v.0 < 0 + length R.clauses) = numbers_parts (length R.clauses) 0 v.0 v.1 in
-          let l : kernel_class R v.0 < length (kernel R).clauses = class_within (round_count R) R s v.0 (omega (arith, p.1)) in
-          subst (λ n. class < n) (ap (λ S. length S.clauses) (sym w.is) ∙ length-map made.book.rows (row_at pool)) (subst (λ k. k < length (kernel R).clauses) (sym v.2) l);
+          let l : kernel_class limit hold R v.0 < length (kernel limit hold R).clauses = class_within limit hold (round_count limit hold R) R s v.0 (omega (arith, p.1)) in
+          subst (λ n. class < n) (ap (λ S. length S.clauses) (sym w.is) ∙ length-map made.book.rows (row_at pool)) (subst (λ k. k < length (kernel limit hold R).clauses) (sym v.2) l);
     }

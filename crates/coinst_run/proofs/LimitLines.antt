@@ -1,5 +1,5 @@
 -- The line of a clause limit that was passed, by its pieces.
-use Rattle.std.proofs.Common.{◌≡◌, ℕ, List, [], ◌∷◌, ◌++◌, Err, refl, sym, ap, ap₂, ◌∙◌, append_assoc}
+use Rattle.std.proofs.Common.{◌≡◌, ℕ, Bool, List, [], ◌∷◌, ◌++◌, Err, refl, sym, ap, ap₂, ◌∙◌, append_assoc}
 use Rattle.std.specs.Prelude.{codes}
 use Rattle.relation_fields.specs.declared.packages.PackageFacts.{PackageFacts}
 use Rattle.repo_model.specs.Repository.{suite_repository}
@@ -24,8 +24,8 @@ limit_pieces path limit round gone facts count name version front line named at 
     ∙ sym (append_assoc (path ++ codes ": " ++ stage) row (10 ∷ [])) ∙ ap (λ t. t ++ 10 ∷ []) (append_assoc (path ++ codes ": ") stage row)
 
 -- a suite that passed the limit
-pub passed_told : (path : List ℕ) (limit : ℕ) (index : Index) (passed : PassedRound) (name version front line : List ℕ) → PassesLimit index.home index.packages limit passed name version →
-    front ≡ path ++ codes ": " ++ stage_text limit passed.number passed.gone → line ≡ front ++ line_of_text (row_text name version passed.count) → kernel_of path limit index ≡ Err (refused ClauseLimit line)
-passed_told path limit index passed name version front line w begun ended =
-    limit_told path limit index (suite_repository index.home index.packages) passed (stanza_at index.packages passed.«package») line refl w.there refl
+pub passed_told : (path : List ℕ) (limit : ℕ) (hold : Bool) (index : Index) (passed : PassedRound) (name version front line : List ℕ) → PassesLimit index.home index.packages limit hold passed name version →
+    front ≡ path ++ codes ": " ++ stage_text limit passed.number passed.gone → line ≡ front ++ line_of_text (row_text name version passed.count) → kernel_of path limit hold index ≡ Err (refused ClauseLimit line)
+passed_told path limit hold index passed name version front line w begun ended =
+    limit_told path limit hold index (suite_repository index.home index.packages) passed (stanza_at index.packages passed.«package») line refl w.there refl
     (limit_pieces path limit passed.number passed.gone (stanza_at index.packages passed.«package») passed.count name version front line w.name_is w.version_is begun ended)

@@ -14,14 +14,14 @@ use Rattle.repo_model.proofs.Healthy.{coinst_same}
 use Rattle.repo_model.proofs.Packages.{length_clauses}
 use Rattle.row_book.specs.Flattening.{packages}
 use Rattle.row_book.specs.Repository.{Repository, Coinst}
-use Rattle.row_book.specs.Rounds.{PassedRound, kernel, kernel_class, kernel_image, limit_at, round_count}
+use Rattle.row_book.specs.Rounds.{PassedRound, kernel, kernel_class, kernel_held, kernel_image, limit_at, round_count}
 use Rattle.row_book.specs.Sets.{Is, NumSet}
 use Rattle.row_book.proofs.Order.{at_numbers}
 use Rattle.kernel_rounds.specs.Laws.{HasImage}
 use Rattle.kernel_rounds.proofs.Reached.{image_is_of_classes_lem, kernel_keeps_lem}
 use Rattle.kernel_text.specs.KernelJson.{kernel_json}
 use Rattle.kernel_text.specs.KernelReads.{KernelReads}
-use Rattle.kernel_text.specs.KernelText.{kernel_text}
+use Rattle.kernel_text.specs.KernelText.{format_of, kernel_text}
 use Rattle.kernel_text.specs.Laws.{IsKernelOf}
 use Rattle.kernel_text.specs.Members.{kernel_members}
 use Rattle.kernel_text.proofs.Classified.{kernels_are_writable}
@@ -30,7 +30,7 @@ use Rattle.kernel_text.proofs.ReadIsWritten.{read_is_written}
 use Rattle.coinst_run.specs.declared.answer.Verdict.{Verdict}
 use Rattle.coinst_run.specs.declared.answer.Verdict.TheVariants.{Done}
 use Rattle.coinst_words.specs.declared.job.Job.{Job}
-use Rattle.coinst_words.specs.declared.job.Job.TheVariants.{Kernel, Query, StoredQuery, Compare, Sample}
+use Rattle.coinst_words.specs.declared.job.Job.TheVariants.{Kernel, Query, StoredQuery, Compare, Explain, Status, Migrate, Sample}
 use Rattle.coinst_run.specs.Answer.{reported}
 use Rattle.coinst_run.specs.Course.{answers, then_on}
 use Rattle.coinst_run.specs.Index.{by_fault, home_in, index_in, packages_in}
@@ -41,45 +41,53 @@ use Rattle.coinst_run.specs.Outcome.{answered, course_of, file_limit, outcome_ov
 use Rattle.coinst_run.proofs.Classes.{class_within}
 use Rattle.coinst_run.proofs.Kernels.{kernel_fits, suite_sound}
 use Rattle.coinst_run.proofs.CompareMeant.{compare_is_meant}
+use Rattle.coinst_run.proofs.ExplainMeant.{explain_is_meant}
+use Rattle.coinst_run.proofs.MigrateMeant.{migrate_is_meant}
 use Rattle.coinst_run.proofs.QueryMeant.{query_is_meant}
 use Rattle.coinst_run.proofs.Reported.{index_used, kernel_used}
 use Rattle.coinst_run.proofs.SampleMeaning.{sample_report_means}
 use Rattle.coinst_run.proofs.StoredMeant.{stored_query_is_meant}
+use Rattle.coinst_run.proofs.SystemMeant.{system_is_meant}
 use Rattle.coinst_run.proofs.Members.{class_from, class_parts, stands_once}
 
 pub formed : (text : List ℕ) → first_fault text ≡ None → Accepted (packages_in text)
 unfolding packages_in
 formed text e = accepted.accepted text e
 
--- the kernel of an accepted index, with its members
-module _ (home : Home) (stanzas : List PackageFacts) (accepted : Accepted stanzas) where
+-- the kernel of an accepted index at a limit, with hold or without, with its members
+module _ (limit : ℕ) (hold : Bool) (home : Home) (stanzas : List PackageFacts) (accepted : Accepted stanzas) where
   abbrev classes : List ℕ
-  classes = map (kernel_class (suite_repository home stanzas)) (packages (suite_repository home stanzas))
+  classes = map (kernel_class limit hold (suite_repository home stanzas)) (packages (suite_repository home stanzas))
 
   abbrev size : ℕ
-  size = length (kernel (suite_repository home stanzas)).clauses
+  size = length (kernel limit hold (suite_repository home stanzas)).clauses
+
+  abbrev held : List ℕ
+  held = kernel_held limit hold (suite_repository home stanzas)
 
   abbrev K : Repository
-  K = kernel (suite_repository home stanzas)
+  K = kernel limit hold (suite_repository home stanzas)
 
-  pub fits : IsKernelOf K stanzas classes
-  fits = kernel_fits (suite_repository home stanzas) stanzas (suite_sound home stanzas) (length_clauses home stanzas) accepted
+  pub fits : IsKernelOf (format_of hold) K stanzas classes held
+  fits = kernel_fits limit hold (suite_repository home stanzas) stanzas (suite_sound home stanzas) (length_clauses home stanzas) accepted
 
-  pub class_is : (i : ℕ) → i < length stanzas → slice_index_or classes i 0 ≡ kernel_class (suite_repository home stanzas) i
+  pub class_is : (i : ℕ) → i < length stanzas → slice_index_or classes i 0 ≡ kernel_class limit hold (suite_repository home stanzas) i
   class_is i l =
       let k : i < length (suite_repository home stanzas).clauses = omega (arith, length_clauses home stanzas) in
-      at_numbers (kernel_class (suite_repository home stanzas)) 0 (length (suite_repository home stanzas).clauses) 0 i k ∙ ap (kernel_class (suite_repository home stanzas)) (zero-add i)
+      at_numbers (kernel_class limit hold (suite_repository home stanzas)) 0 (length (suite_repository home stanzas).clauses) 0 i k ∙ ap (kernel_class limit hold (suite_repository home stanzas)) (zero-add i)
 
   within : (i : ℕ) → i < length stanzas → slice_index_or classes i 0 < size
   within i l =
       let k : i < length (suite_repository home stanzas).clauses = omega (arith, length_clauses home stanzas) in
-      subst (λ n. n < size) (sym (class_is i l)) (class_within (round_count (suite_repository home stanzas)) (suite_repository home stanzas) (suite_sound home stanzas) i k)
+      subst (λ n. n < size) (sym (class_is i l)) (class_within limit hold (round_count limit hold (suite_repository home stanzas)) (suite_repository home stanzas) (suite_sound home stanzas) i k)
 
   pub stands : (i : ℕ) → i < length stanzas → StandsOnce size (kernel_members stanzas classes size) (stanza_at stanzas i)
   stands i l = stands_once stanzas accepted.single classes fits.each size within i l
 
-  pub reads : KernelReads (kernel_text K (kernel_members stanzas classes size)) K (kernel_members stanzas classes size)
-  reads = (read_is_written (kernel_text K (kernel_members stanzas classes size)) K (kernel_members stanzas classes size)).1 (kernels_are_writable K stanzas classes fits, refl)
+  pub reads : KernelReads (kernel_text (format_of hold) K (kernel_members stanzas classes size) held) (format_of hold) K (kernel_members stanzas classes size) held
+  reads =
+      (read_is_written (kernel_text (format_of hold) K (kernel_members stanzas classes size) held) (format_of hold) K (kernel_members stanzas classes size) held).1
+      (kernels_are_writable (format_of hold) K stanzas classes held fits, refl)
 
   -- a set of stanzas is co-installable exactly when its classes are
   pub keeps : (S : NumSet) → ((n : ℕ) → Is S n → n < length stanzas) →
@@ -87,87 +95,98 @@ module _ (home : Home) (stanzas : List PackageFacts) (accepted : Accepted stanza
   keeps S small =
       let few : (n : ℕ) → S n ≡ true → n < length (suite_repository home stanzas).clauses = λ n h. (let l : n < length stanzas = small n h in omega (arith, length_clauses home stanzas)) in (
         (λ c.
-            let k : Coinst K (kernel_image (suite_repository home stanzas) S) = (kernel_keeps_lem (suite_repository home stanzas) (suite_sound home stanzas) S few).0 ((coinst_same home stanzas S).0 c) in
+            let k : Coinst K (kernel_image limit hold (suite_repository home stanzas) S) = (kernel_keeps_lem limit hold (suite_repository home stanzas) (suite_sound home stanzas) S few).0 ((coinst_same home stanzas S).0 c) in
             record {
               whole = k.whole;
               healthy = k.healthy;
               contains = λ n h.
                   let w : (i : ℕ) × (i < length stanzas) × Is S i × (slice_index_or classes i 0 ≡ n) = class_parts stanzas accepted.single classes fits.each size within S n h in
-                  k.contains n ((image_is_of_classes_lem (suite_repository home stanzas) (suite_sound home stanzas) S few n).1
+                  k.contains n ((image_is_of_classes_lem limit hold (suite_repository home stanzas) (suite_sound home stanzas) S few n).1
                   (record { by = w.0; within = few w.0 w.2; inside = w.2; class = sym (class_is w.0 w.1) ∙ w.3 }));
             }),
         (λ c.
-            let k : Coinst K (kernel_image (suite_repository home stanzas) S) = record {
+            let k : Coinst K (kernel_image limit hold (suite_repository home stanzas) S) = record {
               whole = c.whole;
               healthy = c.healthy;
               contains = λ n h.
-                  let w : HasImage (suite_repository home stanzas) S n = (image_is_of_classes_lem (suite_repository home stanzas) (suite_sound home stanzas) S few n).0 h in
+                  let w : HasImage limit hold (suite_repository home stanzas) S n = (image_is_of_classes_lem limit hold (suite_repository home stanzas) (suite_sound home stanzas) S few n).0 h in
                   let l : w.by < length stanzas = small w.by w.inside in
                   c.contains n (subst (λ z. Is (classes_of stanzas (kernel_members stanzas classes size) S) z) (class_is w.by l ∙ w.class) (class_from stanzas accepted.single classes fits.each size within S w.by l w.inside));
             } in
-            (coinst_same home stanzas S).1 ((kernel_keeps_lem (suite_repository home stanzas) (suite_sound home stanzas) S few).1 k)),
+            (coinst_same home stanzas S).1 ((kernel_keeps_lem limit hold (suite_repository home stanzas) (suite_sound home stanzas) S few).1 k)),
       )
 
-pub index_kernel_means : (text : List ℕ) → first_fault text ≡ None → KernelMeans text (text_for (packages_in text) (index_kernel (home_in text) (packages_in text)))
+pub index_kernel_means : (limit : ℕ) (hold : Bool) (text : List ℕ) → first_fault text ≡ None → KernelMeans text limit hold (text_for (packages_in text) (index_kernel limit hold (home_in text) (packages_in text)))
 unfolding index_kernel classed_kernel
-index_kernel_means text e =
+index_kernel_means limit hold text e =
     let f : Accepted (packages_in text) = formed text e in
     let R : Repository = suite_repository (home_in text) (packages_in text) in
     record {
       accepted = e;
-      repository = kernel R;
-      members = members_for (packages_in text) (index_kernel (home_in text) (packages_in text));
-      reads = reads (home_in text) (packages_in text) f;
-      once = one_reading (text_for (packages_in text) (index_kernel (home_in text) (packages_in text)));
+      repository = kernel limit hold R;
+      members = members_for (packages_in text) (index_kernel limit hold (home_in text) (packages_in text));
+      held = kernel_held limit hold R;
+      reads = reads limit hold (home_in text) (packages_in text) f;
+      once = one_reading (text_for (packages_in text) (index_kernel limit hold (home_in text) (packages_in text)));
       kernel = refl;
       people = refl;
-      stands = stands (home_in text) (packages_in text) f;
-      keeps = keeps (home_in text) (packages_in text) f;
+      stay = refl;
+      stands = stands limit hold (home_in text) (packages_in text) f;
+      keeps = keeps limit hold (home_in text) (packages_in text) f;
     }
 
 -- the report of the command is the kernel text of the file's index, which is accepted
-module _ (path : List ℕ) (limit : ℕ) (files : Files) (verdict : Verdict) (report : List ℕ) where
+module _ (path : List ℕ) (limit : ℕ) (hold : Bool) (files : Files) (verdict : Verdict) (report : List ℕ) where
   kernel_limited : (text : List ℕ) (passed : Option PassedRound) → first_fault text ≡ None →
-      outcome_over files (then_on (by_limit path limit (index_in text) passed) (λ made. answers (reported Done (text_for (packages_in text) made)))) ≡ answered (reported verdict report) → KernelMeans text report
+      outcome_over files (then_on (by_limit path limit hold (index_in text) passed) (λ made. answers (reported Done (text_for (packages_in text) made)))) ≡ answered (reported verdict report) → KernelMeans text limit hold report
   kernel_limited text (Some passed) accepted e = absurd cc
   kernel_limited text None accepted e =
-      let same : text_for (packages_in text) (index_kernel (home_in text) (packages_in text)) ≡ report = cc in subst (KernelMeans text) same (index_kernel_means text accepted)
+      let same : text_for (packages_in text) (index_kernel limit hold (home_in text) (packages_in text)) ≡ report = cc in subst (KernelMeans text limit hold) same (index_kernel_means limit hold text accepted)
 
-  kernel_checked : (text : List ℕ) (there : Option IndexFault) → first_fault text ≡ there → outcome_over files (then_on (by_fault path text there) (kernel_answer path false limit)) ≡ answered (reported verdict report) →
-      KernelMeans text report
+  kernel_checked : (text : List ℕ) (there : Option IndexFault) → first_fault text ≡ there → outcome_over files (then_on (by_fault path text there) (kernel_answer path false limit hold)) ≡ answered (reported verdict report) →
+      KernelMeans text limit hold report
   kernel_checked text (Some fault) is e = absurd cc
-  kernel_checked text None is e = kernel_limited text (limit_at (suite_repository (home_in text) (packages_in text)) limit) is e
+  kernel_checked text None is e = kernel_limited text (limit_at limit hold (suite_repository (home_in text) (packages_in text))) is e
 
-  kernel_fitting : (text : List ℕ) (b : Bool) → cond b (answered (too_long path)) (outcome_over files (then_on (by_fault path text (first_fault text)) (kernel_answer path false limit))) ≡ answered (reported verdict report) →
-      KernelMeans text report
+  kernel_fitting : (text : List ℕ) (b : Bool) → cond b (answered (too_long path)) (outcome_over files (then_on (by_fault path text (first_fault text)) (kernel_answer path false limit hold))) ≡ answered (reported verdict report) →
+      KernelMeans text limit hold report
   kernel_fitting text true e = absurd cc
   kernel_fitting text false e = kernel_checked text (first_fault text) refl e
 
   kernel_report_means : (file : Option (List ℕ)) → files path ≡ file →
-      over_file path file (λ text. outcome_over files (then_on (by_fault path text (first_fault text)) (kernel_answer path false limit))) ≡ answered (reported verdict report) → MeansJob (Kernel path false limit) files verdict report
+      over_file path file (λ text. outcome_over files (then_on (by_fault path text (first_fault text)) (kernel_answer path false limit hold))) ≡ answered (reported verdict report) → MeansJob (Kernel path false limit hold) files verdict report
   kernel_report_means None is e = absurd cc
   kernel_report_means (Some text) is e = (text, is, kernel_fitting text (nat_lt file_limit (length text)) e)
 
 -- as JSON it is that of the kernel for which the text stands
-index_json_means : (text : List ℕ) → first_fault text ≡ None → JsonMeans text (json_for (packages_in text) (index_kernel (home_in text) (packages_in text)))
+index_json_means : (limit : ℕ) (hold : Bool) (text : List ℕ) → first_fault text ≡ None → JsonMeans text limit hold (json_for (packages_in text) (index_kernel limit hold (home_in text) (packages_in text)))
 unfolding index_kernel classed_kernel
-index_json_means text e =
-    let means : KernelMeans text (text_for (packages_in text) (index_kernel (home_in text) (packages_in text))) = index_kernel_means text e in
-    record { kernel_text = text_for (packages_in text) (index_kernel (home_in text) (packages_in text)); means = means; json = ap₂ kernel_json (sym means.kernel) (sym means.people) }
+index_json_means limit hold text e =
+    let means : KernelMeans text limit hold (text_for (packages_in text) (index_kernel limit hold (home_in text) (packages_in text))) = index_kernel_means limit hold text e in
+    record {
+      kernel_text = text_for (packages_in text) (index_kernel limit hold (home_in text) (packages_in text));
+      means = means;
+      json =
+          ap₂ (λ K ms. kernel_json (format_of hold) K ms (kernel_held limit hold (suite_repository (home_in text) (packages_in text)))) (sym means.kernel) (sym means.people)
+          ∙ ap (kernel_json (format_of hold) means.repository means.members) (sym means.stay);
+    }
 
-json_report_means : (path : List ℕ) (limit : ℕ) (files : Files) (verdict : Verdict) (report : List ℕ) → outcome_over files (course_of (Kernel path true limit)) ≡ answered (reported verdict report) →
-    MeansJob (Kernel path true limit) files verdict report
-json_report_means path limit files verdict report e =
-    let first = index_used path (kernel_answer path true limit) files verdict report e in
-    let end = kernel_used path limit (index_in first.0) (λ made. answers (reported Done (json_for (packages_in first.0) made))) files verdict report first.2.1 in
-    let same : json_for (packages_in first.0) (index_kernel (home_in first.0) (packages_in first.0)) ≡ report = cc in
-    (first.0, first.1, subst (JsonMeans first.0) same (index_json_means first.0 first.2.0))
+json_report_means : (path : List ℕ) (limit : ℕ) (hold : Bool) (files : Files) (verdict : Verdict) (report : List ℕ) → outcome_over files (course_of (Kernel path true limit hold)) ≡ answered (reported verdict report) →
+    MeansJob (Kernel path true limit hold) files verdict report
+json_report_means path limit hold files verdict report e =
+    let first = index_used path (kernel_answer path true limit hold) files verdict report e in
+    let end = kernel_used path limit hold (index_in first.0) (λ made. answers (reported Done (json_for (packages_in first.0) made))) files verdict report first.2.1 in
+    let same : json_for (packages_in first.0) (index_kernel limit hold (home_in first.0) (packages_in first.0)) ≡ report = cc in
+    (first.0, first.1, subst (JsonMeans first.0 limit hold) same (index_json_means limit hold first.0 first.2.0))
 
 -- what the report on a job means
 pub report_means : (job : Job) (files : Files) (verdict : Verdict) (report : List ℕ) → outcome_over files (course_of job) ≡ answered (reported verdict report) → MeansJob job files verdict report
-report_means (Kernel path false limit) files verdict report e = kernel_report_means path limit files verdict report (files path) refl e
-report_means (Kernel path true limit) files verdict report e = json_report_means path limit files verdict report e
-report_means (Query path goals budget limit) files verdict report e = query_is_meant path goals budget limit files verdict report e
+report_means (Kernel path false limit hold) files verdict report e = kernel_report_means path limit hold files verdict report (files path) refl e
+report_means (Kernel path true limit hold) files verdict report e = json_report_means path limit hold files verdict report e
+report_means (Query path goals budget limit hold) files verdict report e = query_is_meant path goals budget limit hold files verdict report e
 report_means (StoredQuery path goals budget) files verdict report e = stored_query_is_meant path goals budget files verdict report e
-report_means (Compare old new budget limit) files verdict report e = compare_is_meant old new budget limit files verdict report e
+report_means (Compare old new budget limit hold) files verdict report e = compare_is_meant old new budget limit hold files verdict report e
+report_means (Explain path goals budget limit hold) files verdict report e = explain_is_meant path goals budget limit hold files verdict report e
+report_means (Status file index budget limit hold) files verdict report e = system_is_meant file index budget limit hold files verdict report e
+report_means (Migrate old new budget limit hold) files verdict report e = migrate_is_meant old new budget limit hold files verdict report e
 report_means (Sample seed count) files verdict report e = sample_report_means files verdict report seed count e

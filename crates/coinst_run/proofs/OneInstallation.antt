@@ -11,7 +11,7 @@ use Rattle.repo_model.specs.Stanzas.{no_stanza, stanza_at}
 use Rattle.repo_model.proofs.Accepted.{Accepted}
 use Rattle.repo_model.proofs.Elements.{at_place}
 use Rattle.row_book.specs.Sets.{In, here, there}
-use Rattle.kernel_text.proofs.Spelling.{Ends, Plain, cut_same, name_plain}
+use Rattle.kernel_text.proofs.Spelling.{Plain, cut_same, name_plain}
 use Rattle.coinst_run.specs.Lines.{line_of_text}
 use Rattle.coinst_run.specs.QueryText.{install_line, yes_text}
 use Rattle.coinst_run.proofs.Members.{place_of_package}
@@ -49,7 +49,7 @@ same_line s t R S p q e =
     record { name = names.0; version = versions.0; behind = append_cancel_left F R S versions.1 }
 
 module _ (packages : List PackageFacts) (accepted : Accepted packages) where
-  plain_at : (n : ℕ) → n < length packages → IsPlainPackage (stanza_at packages n)
+  pub plain_at : (n : ℕ) → n < length packages → IsPlainPackage (stanza_at packages n)
   plain_at n l =
       let w = accepted.named (stanza_at packages n) (at_place packages n no_stanza l) in
       record { name = name_plain (stanza_at packages n).name w.name; version = version_plain (stanza_at packages n).version (version_bytes (stanza_at packages n).version w.version) }

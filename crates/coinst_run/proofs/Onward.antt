@@ -4,7 +4,6 @@ use Rattle.byte_flow.specs.Flow.{Files}
 use Rattle.coinst_run.specs.Answer.{Stage}
 use Rattle.coinst_run.specs.Course.{Course, then_on}
 use Rattle.coinst_run.specs.Follows.{Follows}
-use Rattle.coinst_run.specs.Index.{Index}
 use Rattle.coinst_run.specs.Outcome.{Outcome}
 
 module _ {S : Type 0} {contents : S → Option Files} {faults moved : S → ℕ} {is_quiet : S → Type 0}
@@ -13,6 +12,6 @@ module _ {S : Type 0} {contents : S → Option Files} {faults moved : S → ℕ}
       Follows contents faults moved is_quiet start read (next x) s ending u → Follows contents faults moved is_quiet start read (then_on stage next) s ending u
   behind_stage stage x next s u ending e f = subst (λ z. Follows contents faults moved is_quiet start read (then_on z next) s ending u) (sym e) f
 
-  pub same_index : (next : Index → Course) (first second : Index) (s u : S) (ending : Option Outcome) → first ≡ second →
-      Follows contents faults moved is_quiet start read (next first) s ending u → Follows contents faults moved is_quiet start read (next second) s ending u
-  same_index next first second s u ending e f = subst (λ i. Follows contents faults moved is_quiet start read (next i) s ending u) e f
+  pub same_course : (first second : Course) (s u : S) (ending : Option Outcome) → first ≡ second →
+      Follows contents faults moved is_quiet start read first s ending u → Follows contents faults moved is_quiet start read second s ending u
+  same_course first second s u ending e f = subst (λ course. Follows contents faults moved is_quiet start read course s ending u) e f

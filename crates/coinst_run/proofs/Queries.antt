@@ -1,5 +1,5 @@
 -- What a query answers where a goal is unknown.
-use Rattle.std.proofs.Common.{◌≡◌, ℕ, ◌+◌, ◌<◌, ◌≤◌, List, [], ◌∷◌, length, Some, inl, inr, sym, ap, ◌∙◌, arith}
+use Rattle.std.proofs.Common.{◌≡◌, ℕ, ◌+◌, ◌<◌, ◌≤◌, Bool, List, [], ◌∷◌, length, Some, inl, inr, sym, ap, ◌∙◌, arith}
 use Rattle.std.proofs.lemmas.Bool.{cases_Bool}
 use Rattle.relation_fields.specs.declared.packages.PackageFacts.{PackageFacts}
 use Rattle.repo_model.specs.declared.goals.Goal.{Goal}
@@ -20,7 +20,7 @@ unknown_within packages n k (g ∷ gs) e = elim (cases_Bool (names_none packages
 ]
 
 -- an unknown goal is refused
-pub unknown_told : (index : Index) (goals : List Goal) (budget number : ℕ) (goal : Goal) (line : List ℕ) → unknown_goal index.packages goals ≡ Some number → goal ≡ goal_of_number goals number → line ≡ unknown_line number goal →
-    answers (goals_answer goals budget index) ≡ answers (refused UnknownGoal line)
-unknown_told index goals budget number goal line unknown is made =
-    ap answers (ap (by_unknown index goals budget) unknown ∙ ap (λ g. refused UnknownGoal (unknown_line number g)) (sym is) ∙ ap (refused UnknownGoal) (sym made))
+pub unknown_told : (index : Index) (goals : List Goal) (budget limit : ℕ) (hold : Bool) (number : ℕ) (goal : Goal) (line : List ℕ) → unknown_goal index.packages goals ≡ Some number → goal ≡ goal_of_number goals number → line ≡ unknown_line number goal →
+    answers (goals_answer goals budget limit hold index) ≡ answers (refused UnknownGoal line)
+unknown_told index goals budget limit hold number goal line unknown is made =
+    ap answers (ap (by_unknown limit hold index goals budget) unknown ∙ ap (λ g. refused UnknownGoal (unknown_line number g)) (sym is) ∙ ap (refused UnknownGoal) (sym made))

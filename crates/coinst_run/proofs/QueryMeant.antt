@@ -1,6 +1,6 @@
 -- What the report of a query means.
-use Rattle.std.proofs.Common.{◌≡◌, ℕ, ◌+◌, ◌<◌, ◌≤◌, Bool, true, false, cond, eqb, ltb, nat_lt, List, [], ◌∷◌, length, Option, Some, None, inl, inr, refl, sym, ap, subst, ◌∙◌, arith}
-use Rattle.std.proofs.lemmas.Bool.{cases_Bool, ltb-true, ltb-false}
+use Rattle.std.proofs.Common.{◌≡◌, ℕ, ◌+◌, Bool, true, false, cond, eqb, nat_lt, List, [], ◌∷◌, length, Option, Some, None, inl, inr, refl, sym, ap, subst, ◌∙◌}
+use Rattle.std.proofs.lemmas.Bool.{cases_Bool, ltb-true}
 use Rattle.byte_flow.specs.Flow.{Files}
 use Rattle.relation_fields.specs.declared.packages.PackageFacts.{PackageFacts}
 use Rattle.repo_model.specs.declared.fault.IndexFault.{IndexFault}
@@ -22,13 +22,13 @@ use Rattle.suite_compare.specs.Asking.{asked_tree, images_of, installation}
 use Rattle.suite_compare.proofs.Deciding.{asked_is, found_there}
 use Rattle.coinst_run.specs.declared.answer.Verdict.{Verdict}
 use Rattle.coinst_run.specs.declared.answer.Verdict.TheVariants.{Done, Negative, Undecided}
-use Rattle.coinst_run.specs.Answer.{Answer, reported}
+use Rattle.coinst_run.specs.Answer.{reported}
 use Rattle.coinst_run.specs.Course.{answers, then_on}
 use Rattle.coinst_run.specs.Index.{by_fault, home_in, index_in, packages_in}
 use Rattle.coinst_run.specs.Kernel.{by_limit}
 use Rattle.coinst_run.specs.Outcome.{answered, file_limit, outcome_over, over_file, too_long}
-use Rattle.coinst_run.specs.Query.{by_found, by_tree, by_unknown, goals_answer, query_answer, query_course}
-use Rattle.coinst_run.specs.QueryMeaning.{MeansVerdict, NoMeans, QueryIsMeant, QueryMeans, UndecidedMeans, YesMeans}
+use Rattle.coinst_run.specs.Query.{by_found, by_tree, by_unknown, goals_answer, query_answer}
+use Rattle.coinst_run.specs.QueryMeaning.{MeansVerdict, QueryIsMeant, QueryMeans}
 use Rattle.coinst_run.specs.QueryText.{no_text, undecided_text, yes_text}
 use Rattle.coinst_run.proofs.Installed.{installs_ascending, installs_for, installs_healthy, installs_within}
 use Rattle.coinst_run.proofs.OneInstallation.{one_installation}
@@ -39,7 +39,7 @@ some_item [] h = absurd (cc h)
 some_item (x ∷ xs) h = (x, here)
 
 -- where no goal is unknown, each names a package
-all_known : (packages : List PackageFacts) (number : ℕ) (goals : List Goal) → unknown_from number packages goals ≡ None → (goal : Goal) → In goal goals → (n : ℕ) × In n (packages_named packages goal)
+pub all_known : (packages : List PackageFacts) (number : ℕ) (goals : List Goal) → unknown_from number packages goals ≡ None → (goal : Goal) → In goal goals → (n : ℕ) × In n (packages_named packages goal)
 all_known packages number [] e goal i = absurd (In_none i)
 all_known packages number (g ∷ gs) e goal i = elim (cases_Bool (names_none packages g)) [
   | inl t ↦ absurd (cc (rw t at e))
@@ -49,80 +49,80 @@ all_known packages number (g ∷ gs) e goal i = elim (cases_Bool (names_none pac
   ]
 ]
 
-formed : (text : List ℕ) → first_fault text ≡ None → Accepted (packages_in text)
+pub formed : (text : List ℕ) → first_fault text ≡ None → Accepted (packages_in text)
 unfolding packages_in
 formed text e = accepted.accepted text e
 
-module _ (text : List ℕ) (goals : List Goal) (budget : ℕ) (verdict : Verdict) (report : List ℕ) where
+module _ (text : List ℕ) (goals : List Goal) (budget limit : ℕ) (hold : Bool) (verdict : Verdict) (report : List ℕ) where
   abbrev tree : Tree
-  tree = asked_tree (home_in text) (packages_in text) goals
+  tree = asked_tree limit hold (home_in text) (packages_in text) goals
 
-  means_as : (told : Verdict) (bytes : List ℕ) → reported told bytes ≡ reported verdict report → MeansVerdict text goals budget told bytes → MeansVerdict text goals budget verdict report
+  means_as : (told : Verdict) (bytes : List ℕ) → reported told bytes ≡ reported verdict report → MeansVerdict text goals budget limit hold told bytes → MeansVerdict text goals budget limit hold verdict report
   means_as told bytes e m =
       let v : told ≡ verdict = cc in
       let b : bytes ≡ report = cc in
-      subst (λ w. MeansVerdict text goals budget w report) v (subst (MeansVerdict text goals budget told) b m)
+      subst (λ w. MeansVerdict text goals budget limit hold w report) v (subst (MeansVerdict text goals budget limit hold told) b m)
 
-  found_means : Accepted (packages_in text) → by_found (index_in text) goals tree (found_of tree) ≡ reported verdict report → MeansVerdict text goals budget verdict report
+  found_means : Accepted (packages_in text) → by_found limit hold (index_in text) goals tree (found_of tree) ≡ reported verdict report → MeansVerdict text goals budget limit hold verdict report
   found_means accepted e = elim (cases_Option (found_of tree)) [
-    | inr some ↦ means_as Done (yes_text (packages_in text) (installation (home_in text) (packages_in text) goals some.0)) (sym (ap (by_found (index_in text) goals tree) some.1) ∙ e) record {
-      numbers = installation (home_in text) (packages_in text) goals some.0;
+    | inr some ↦ means_as Done (yes_text (packages_in text) (installation limit hold (home_in text) (packages_in text) goals some.0)) (sym (ap (by_found limit hold (index_in text) goals tree) some.1) ∙ e) record {
+      numbers = installation limit hold (home_in text) (packages_in text) goals some.0;
       reads = refl;
-      once = λ other within same. sym (one_installation (packages_in text) accepted (installation (home_in text) (packages_in text) goals some.0) other
-          (installs_within (home_in text) (packages_in text) goals some.0 some.1) within same);
-      order = installs_ascending (home_in text) (packages_in text) goals some.0 some.1;
+      once = λ other within same. sym (one_installation (packages_in text) accepted (installation limit hold (home_in text) (packages_in text) goals some.0) other
+          (installs_within limit hold (home_in text) (packages_in text) goals some.0 some.1) within same);
+      order = installs_ascending limit hold (home_in text) (packages_in text) goals some.0 some.1;
       serves = record {
-        healthy = installs_healthy (home_in text) (packages_in text) goals some.0 some.1;
-        each = installs_for (home_in text) (packages_in text) goals some.0 some.1;
+        healthy = installs_healthy limit hold (home_in text) (packages_in text) goals some.0 some.1;
+        each = installs_for limit hold (home_in text) (packages_in text) goals some.0 some.1;
       };
     }
-    | inl none ↦ means_as Negative (no_text (log_of [] tree)) (sym (ap (by_found (index_in text) goals tree) none) ∙ e) record {
-      refuted = λ w. let found = found_there (home_in text) (packages_in text) goals w in let there_it_is = found.1 in cc (none, there_it_is);
+    | inl none ↦ means_as Negative (no_text (log_of [] tree)) (sym (ap (by_found limit hold (index_in text) goals tree) none) ∙ e) record {
+      refuted = λ w. let found = found_there (home_in text) (packages_in text) limit hold goals w in let there_it_is = found.1 in cc (none, there_it_is);
       log = log_of [] tree;
       reads = refl;
       derives =
-          let K = kernel (suite_repository (home_in text) (packages_in text)) in
-          tree_derives (length K.clauses) (form K (images_of (home_in text) (packages_in text) goals)) tree (asked_is (home_in text) (packages_in text) goals) none;
+          let K = kernel limit hold (suite_repository (home_in text) (packages_in text)) in
+          tree_derives (length K.clauses) (form K (images_of limit hold (home_in text) (packages_in text) goals)) tree (asked_is (home_in text) (packages_in text) limit hold goals) none;
     }
   ]
 
-  tree_means : Accepted (packages_in text) → by_tree (index_in text) goals budget tree ≡ reported verdict report → MeansVerdict text goals budget verdict report
+  tree_means : Accepted (packages_in text) → by_tree limit hold (index_in text) goals budget tree ≡ reported verdict report → MeansVerdict text goals budget limit hold verdict report
   tree_means accepted e = elim (cases_Bool (nat_lt budget (failed_leaves tree))) [
     | inl t ↦
         means_as Undecided (undecided_text budget)
-        (sym (ap (λ b. cond b (reported Undecided (undecided_text budget)) (by_found (index_in text) goals tree (found_of tree))) t) ∙ e)
+        (sym (ap (λ b. cond b (reported Undecided (undecided_text budget)) (by_found limit hold (index_in text) goals tree (found_of tree))) t) ∙ e)
         record { reads = refl; spent = ltb-true budget (failed_leaves tree) t }
-    | inr f ↦ found_means accepted (sym (ap (λ b. cond b (reported Undecided (undecided_text budget)) (by_found (index_in text) goals tree (found_of tree))) f) ∙ e)
+    | inr f ↦ found_means accepted (sym (ap (λ b. cond b (reported Undecided (undecided_text budget)) (by_found limit hold (index_in text) goals tree (found_of tree))) f) ∙ e)
   ]
 
-  goals_mean : (first : Option ℕ) → first_fault text ≡ None → unknown_goal (packages_in text) goals ≡ first → by_unknown (index_in text) goals budget first ≡ reported verdict report → QueryMeans text goals budget verdict report
+  goals_mean : (first : Option ℕ) → first_fault text ≡ None → unknown_goal (packages_in text) goals ≡ first → by_unknown limit hold (index_in text) goals budget first ≡ reported verdict report → QueryMeans text goals budget limit hold verdict report
   goals_mean (Some unknown) accepted is e = absurd (cc e)
   goals_mean None accepted is e = record { accepted = accepted; known = all_known (packages_in text) 1 goals is; means = tree_means (formed text accepted) e }
 
 -- the report of a query of the file at the path
-module _ (path : List ℕ) (goals : List Goal) (budget limit : ℕ) (files : Files) (verdict : Verdict) (report : List ℕ) where
+module _ (path : List ℕ) (goals : List Goal) (budget limit : ℕ) (hold : Bool) (files : Files) (verdict : Verdict) (report : List ℕ) where
   limited : (text : List ℕ) (passed : Option PassedRound) → first_fault text ≡ None →
-      outcome_over files (then_on (by_limit path limit (index_in text) passed) (λ made. answers (goals_answer goals budget (index_in text)))) ≡ answered (reported verdict report) → QueryMeans text goals budget verdict report
+      outcome_over files (then_on (by_limit path limit hold (index_in text) passed) (λ made. answers (goals_answer goals budget limit hold (index_in text)))) ≡ answered (reported verdict report) → QueryMeans text goals budget limit hold verdict report
   limited text (Some passed) accepted e = absurd cc
   limited text None accepted e =
-      let same : goals_answer goals budget (index_in text) ≡ reported verdict report = cc in
-      goals_mean text goals budget verdict report (unknown_goal (packages_in text) goals) accepted refl same
+      let same : goals_answer goals budget limit hold (index_in text) ≡ reported verdict report = cc in
+      goals_mean text goals budget limit hold verdict report (unknown_goal (packages_in text) goals) accepted refl same
 
-  checked : (text : List ℕ) (fault : Option IndexFault) → first_fault text ≡ fault → outcome_over files (then_on (by_fault path text fault) (query_answer path goals budget limit)) ≡ answered (reported verdict report) →
-      QueryMeans text goals budget verdict report
+  checked : (text : List ℕ) (fault : Option IndexFault) → first_fault text ≡ fault → outcome_over files (then_on (by_fault path text fault) (query_answer path goals budget limit hold)) ≡ answered (reported verdict report) →
+      QueryMeans text goals budget limit hold verdict report
   checked text (Some fault) is e = absurd cc
-  checked text None is e = limited text (limit_at (suite_repository (home_in text) (packages_in text)) limit) is e
+  checked text None is e = limited text (limit_at limit hold (suite_repository (home_in text) (packages_in text))) is e
 
-  fitting : (text : List ℕ) (b : Bool) → cond b (answered (too_long path)) (outcome_over files (then_on (by_fault path text (first_fault text)) (query_answer path goals budget limit))) ≡ answered (reported verdict report) →
-      QueryMeans text goals budget verdict report
+  fitting : (text : List ℕ) (b : Bool) → cond b (answered (too_long path)) (outcome_over files (then_on (by_fault path text (first_fault text)) (query_answer path goals budget limit hold))) ≡ answered (reported verdict report) →
+      QueryMeans text goals budget limit hold verdict report
   fitting text true e = absurd cc
   fitting text false e = checked text (first_fault text) refl e
 
   of_file : (file : Option (List ℕ)) → files path ≡ file →
-      over_file path file (λ text. outcome_over files (then_on (by_fault path text (first_fault text)) (query_answer path goals budget limit))) ≡ answered (reported verdict report) →
-      (text : List ℕ) × (files path ≡ Some text) × QueryMeans text goals budget verdict report
+      over_file path file (λ text. outcome_over files (then_on (by_fault path text (first_fault text)) (query_answer path goals budget limit hold))) ≡ answered (reported verdict report) →
+      (text : List ℕ) × (files path ≡ Some text) × QueryMeans text goals budget limit hold verdict report
   of_file None is e = absurd cc
   of_file (Some text) is e = (text, is, fitting text (nat_lt file_limit (length text)) e)
 
 pub query_is_meant : QueryIsMeant
-query_is_meant path goals budget limit files verdict report e = of_file path goals budget limit files verdict report (files path) refl e
+query_is_meant path goals budget limit hold files verdict report e = of_file path goals budget limit hold files verdict report (files path) refl e

@@ -36,11 +36,11 @@ module _ (path : List ℕ) (next : Index → Course) (files : Files) (verdict : 
   index_used e = of_file (files path) refl e
 
 -- a kernel that is made
-module _ (path : List ℕ) (limit : ℕ) (index : Index) (next : ClassedKernel → Course) (files : Files) (verdict : Verdict) (report : List ℕ) where
-  limited : (passed : Option PassedRound) → outcome_over files (then_on (by_limit path limit index passed) next) ≡ answered (reported verdict report) →
-      outcome_over files (next (index_kernel index.home index.packages)) ≡ answered (reported verdict report)
+module _ (path : List ℕ) (limit : ℕ) (hold : Bool) (index : Index) (next : ClassedKernel → Course) (files : Files) (verdict : Verdict) (report : List ℕ) where
+  limited : (passed : Option PassedRound) → outcome_over files (then_on (by_limit path limit hold index passed) next) ≡ answered (reported verdict report) →
+      outcome_over files (next (index_kernel limit hold index.home index.packages)) ≡ answered (reported verdict report)
   limited (Some passed) e = absurd cc
   limited None e = e
 
-  pub kernel_used : outcome_over files (then_on (kernel_of path limit index) next) ≡ answered (reported verdict report) → outcome_over files (next (index_kernel index.home index.packages)) ≡ answered (reported verdict report)
-  kernel_used e = limited (limit_at (suite_repository index.home index.packages) limit) e
+  pub kernel_used : outcome_over files (then_on (kernel_of path limit hold index) next) ≡ answered (reported verdict report) → outcome_over files (next (index_kernel limit hold index.home index.packages)) ≡ answered (reported verdict report)
+  kernel_used e = limited (limit_at limit hold (suite_repository index.home index.packages)) e

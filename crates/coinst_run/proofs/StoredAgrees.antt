@@ -9,7 +9,8 @@ use Rattle.kernel_rounds.specs.Laws.{HasImage}
 use Rattle.kernel_rounds.proofs.Reached.{image_is_of_classes_lem}
 use Rattle.kernel_text.specs.declared.member.Member.{Member}
 use Rattle.kernel_text.specs.Images.{image_of, is_unknown}
-use Rattle.kernel_text.specs.KernelReads.{KernelReads, content}
+use Rattle.kernel_text.specs.KernelReads.{KernelContent, KernelReads, content}
+use Rattle.kernel_text.specs.KernelText.{format_of}
 use Rattle.kernel_text.specs.Laws.{IsReadBack}
 use Rattle.kernel_text.specs.Members.{kernel_members}
 use Rattle.kernel_text.proofs.OneReading.{one_reading}
@@ -23,7 +24,7 @@ use Rattle.repo_model.proofs.Accepted.{Accepted}
 use Rattle.repo_model.proofs.Packages.{length_clauses}
 use Rattle.row_book.specs.Clauses.{numbers}
 use Rattle.row_book.specs.Repository.{Repository}
-use Rattle.row_book.specs.Rounds.{PassedRound, kernel, kernel_class, kernel_image, limit_at}
+use Rattle.row_book.specs.Rounds.{PassedRound, kernel, kernel_class, kernel_held, kernel_image, limit_at}
 use Rattle.row_book.specs.Sets.{In, has}
 use Rattle.row_book.proofs.Lists.{In_has, any_cases, any_from, filter_same, has_In}
 use Rattle.search_terms.specs.Tree.{Tree, failed_leaves, found_of, log_of}
@@ -63,15 +64,18 @@ unknown_same stanzas members n [] e = refl
 unknown_same stanzas members n (g ∷ gs) e = ap₂ (λ b rest. cond b (Some n) rest) (e g) (unknown_same stanzas members (n + 1) gs e)
 
 -- the kernel of an accepted index, with its members
-module _ (home : Home) (stanzas : List PackageFacts) (accepted : Accepted stanzas) where
+module _ (limit : ℕ) (hold : Bool) (home : Home) (stanzas : List PackageFacts) (accepted : Accepted stanzas) where
   abbrev R : Repository
   R = suite_repository home stanzas
 
   abbrev K : Repository
-  K = kernel R
+  K = kernel limit hold R
 
   abbrev classes : List ℕ
-  classes = map (kernel_class R) (numbers (length R.clauses) 0)
+  classes = map (kernel_class limit hold R) (numbers (length R.clauses) 0)
+
+  abbrev held : List ℕ
+  held = kernel_held limit hold R
 
   abbrev size : ℕ
   size = length K.clauses
@@ -79,8 +83,8 @@ module _ (home : Home) (stanzas : List PackageFacts) (accepted : Accepted stanza
   abbrev members : List Member
   members = kernel_members stanzas classes size
 
-  back : IsReadBack K stanzas classes
-  back = read_back K stanzas classes (fits home stanzas accepted)
+  back : IsReadBack (format_of hold) K stanzas classes held
+  back = read_back (format_of hold) K stanzas classes held (fits limit hold home stanzas accepted)
 
   -- a class has a package that the goal names where it is the class of one
   module _ (goal : Goal) (n : ℕ) where
@@ -93,136 +97,149 @@ module _ (home : Home) (stanzas : List PackageFacts) (accepted : Accepted stanza
     small : (p : ℕ) → has wanted p ≡ true → p < length R.clauses
     small = of_packages R wanted (named_within home stanzas goal)
 
-    class_at : (p : ℕ) → p < length R.clauses → slice_index_or classes p 0 ≡ kernel_class R p
-    class_at p l = class_is home stanzas accepted p (subst (λ k. p < k) (length_clauses home stanzas) l)
+    class_at : (p : ℕ) → p < length R.clauses → slice_index_or classes p 0 ≡ kernel_class limit hold R p
+    class_at p l = class_is limit hold home stanzas accepted p (subst (λ k. p < k) (length_clauses home stanzas) l)
 
-    into : list_any is_class_of wanted ≡ true → kernel_image R (has wanted) n ≡ true
+    into : list_any is_class_of wanted ≡ true → kernel_image limit hold R (has wanted) n ≡ true
     into h =
         let w : (i : ℕ) × In i wanted × (is_class_of i ≡ true) = any_cases is_class_of wanted h in
         let l : w.0 < length R.clauses = named_within home stanzas goal w.0 w.1 in
-        (image_is_of_classes_lem R (suite_sound home stanzas) (has wanted) small n).1
+        (image_is_of_classes_lem limit hold R (suite_sound home stanzas) (has wanted) small n).1
         record { by = w.0; within = l; inside = In_has w.1; class = sym (class_at w.0 l) ∙ sym (eqb-true n (slice_index_or classes w.0 0) w.2) }
 
-    from : kernel_image R (has wanted) n ≡ true → list_any is_class_of wanted ≡ true
+    from : kernel_image limit hold R (has wanted) n ≡ true → list_any is_class_of wanted ≡ true
     from h =
-        let w : HasImage R (has wanted) n = (image_is_of_classes_lem R (suite_sound home stanzas) (has wanted) small n).0 h in
+        let w : HasImage limit hold R (has wanted) n = (image_is_of_classes_lem limit hold R (suite_sound home stanzas) (has wanted) small n).0 h in
         any_from is_class_of wanted w.by (has_In wanted w.by w.inside) (eq-eqb n (slice_index_or classes w.by 0) (sym w.class ∙ sym (class_at w.by w.within)))
 
-    class_same : list_any is_class_of wanted ≡ kernel_image R (has wanted) n
-    class_same = bool_same (list_any is_class_of wanted) (kernel_image R (has wanted) n) into from
+    class_same : list_any is_class_of wanted ≡ kernel_image limit hold R (has wanted) n
+    class_same = bool_same (list_any is_class_of wanted) (kernel_image limit hold R (has wanted) n) into from
 
-  image_same : (goal : Goal) → image_of members size goal ≡ asking.image_of home stanzas goal
+  image_same : (goal : Goal) → image_of members size goal ≡ asking.image_of limit hold home stanzas goal
   image_same goal =
       back.images goal
-      ∙ filter_same (λ n. list_any (λ i. eqb n (slice_index_or classes i 0)) (packages_named stanzas goal)) (kernel_image R (has (packages_named stanzas goal))) (numbers size 0) (λ n i. class_same goal n)
+      ∙ filter_same (λ n. list_any (λ i. eqb n (slice_index_or classes i 0)) (packages_named stanzas goal)) (kernel_image limit hold R (has (packages_named stanzas goal))) (numbers size 0) (λ n i. class_same goal n)
 
-  images_same : (goals : List Goal) → images_in (content K members) goals ≡ images_of home stanzas goals
-  images_same goals = map_same (image_of members size) (asking.image_of home stanzas) goals image_same
+  images_same : (goals : List Goal) → images_in (content (format_of hold) K members held) goals ≡ images_of limit hold home stanzas goals
+  images_same goals = map_same (image_of members size) (asking.image_of limit hold home stanzas) goals image_same
 
-  tree_same : (goals : List Goal) → tree_of K (images_in (content K members) goals) ≡ asked_tree home stanzas goals
+  tree_same : (goals : List Goal) → tree_of K (images_in (content (format_of hold) K members held) goals) ≡ asked_tree limit hold home stanzas goals
   tree_same goals = ap (tree_of K) (images_same goals)
 
 -- what is answered to goals over an index and over its kernel text
-module _ (text : List ℕ) (accepted : first_fault text ≡ None) (goals : List Goal) (budget : ℕ) where
+module _ (text : List ℕ) (accepted : first_fault text ≡ None) (goals : List Goal) (budget limit : ℕ) (hold : Bool) where
   abbrev stanzas : List PackageFacts
   stanzas = packages_in text
 
   abbrev the_kernel : Repository
-  the_kernel = kernel (suite_repository (home_in text) stanzas)
+  the_kernel = kernel limit hold (suite_repository (home_in text) stanzas)
 
   abbrev the_members : List Member
-  the_members = members (home_in text) stanzas (formed text accepted)
+  the_members = members limit hold (home_in text) stanzas (formed text accepted)
 
-  by_both : (tree : Tree) → AreOneAnswer (index_in text) goals budget (by_tree (index_in text) goals budget tree) (classes_by_tree budget tree)
+  abbrev the_content : KernelContent
+  the_content = content (format_of hold) the_kernel the_members (kernel_held limit hold (suite_repository (home_in text) stanzas))
+
+  by_both : (tree : Tree) → AreOneAnswer (index_in text) goals budget limit hold (by_tree limit hold (index_in text) goals budget tree) (classes_by_tree budget tree)
   by_both tree = told (nat_lt budget (failed_leaves tree)) (found_of tree)
     where
-      told : (spent : Bool) (found : Option (List Bool)) → AreOneAnswer (index_in text) goals budget
-          (cond spent (reported Undecided (undecided_text budget)) (by_found (index_in text) goals tree found)) (cond spent (reported Undecided (undecided_text budget)) (classes_found tree found))
+      told : (spent : Bool) (found : Option (List Bool)) → AreOneAnswer (index_in text) goals budget limit hold
+          (cond spent (reported Undecided (undecided_text budget)) (by_found limit hold (index_in text) goals tree found)) (cond spent (reported Undecided (undecided_text budget)) (classes_found tree found))
       told true found = undecided
       told false (Some chosen) = yes chosen
       told false None = no (log_of [] tree)
 
   by_first : (first : Option ℕ) →
-      AreOneAnswer (index_in text) goals budget (by_unknown (index_in text) goals budget first) (stored_by_unknown (content the_kernel the_members) goals budget first)
+      AreOneAnswer (index_in text) goals budget limit hold (by_unknown limit hold (index_in text) goals budget first) (stored_by_unknown the_content goals budget first)
   by_first (Some number) = unknown (unknown_line number (goal_of_number goals number))
   by_first None =
-      subst (λ tree. AreOneAnswer (index_in text) goals budget (by_tree (index_in text) goals budget (asked_tree (home_in text) stanzas goals)) (classes_by_tree budget tree))
-      (sym (tree_same (home_in text) stanzas (formed text accepted) goals)) (by_both (asked_tree (home_in text) stanzas goals))
+      subst (λ tree. AreOneAnswer (index_in text) goals budget limit hold (by_tree limit hold (index_in text) goals budget (asked_tree limit hold (home_in text) stanzas goals)) (classes_by_tree budget tree))
+      (sym (tree_same limit hold (home_in text) stanzas (formed text accepted) goals)) (by_both (asked_tree limit hold (home_in text) stanzas goals))
 
-  one_answer : AreOneAnswer (index_in text) goals budget (goals_answer goals budget (index_in text)) (stored_answer goals budget (content the_kernel the_members))
+  one_answer : AreOneAnswer (index_in text) goals budget limit hold (goals_answer goals budget limit hold (index_in text)) (stored_answer goals budget the_content)
   one_answer =
       let first : Option ℕ = unknown_from 1 stanzas goals in
-      subst (λ other. AreOneAnswer (index_in text) goals budget (by_unknown (index_in text) goals budget first) (stored_by_unknown (content the_kernel the_members) goals budget other))
-      (sym (unknown_same stanzas the_members 1 goals (back (home_in text) stanzas (formed text accepted)).unknown)) (by_first first)
+      subst (λ other. AreOneAnswer (index_in text) goals budget limit hold (by_unknown limit hold (index_in text) goals budget first) (stored_by_unknown the_content goals budget other))
+      (sym (unknown_same stanzas the_members 1 goals (back limit hold (home_in text) stanzas (formed text accepted)).unknown)) (by_first first)
 
 -- what is known where the kernel of the index at the path is printed
-record IsPrinted (text : List ℕ) (limit : ℕ) (printed : List ℕ) : Type 0 where
+record IsPrinted (text : List ℕ) (limit : ℕ) (hold : Bool) (printed : List ℕ) : Type 0 where
   short : nat_lt file_limit (length text) ≡ false
   accepted : first_fault text ≡ None
-  within : limit_at (suite_repository (home_in text) (packages_in text)) limit ≡ None
-  is : printed ≡ text_for (packages_in text) (index_kernel (home_in text) (packages_in text))
+  within : limit_at limit hold (suite_repository (home_in text) (packages_in text)) ≡ None
+  is : printed ≡ text_for (packages_in text) (index_kernel limit hold (home_in text) (packages_in text))
 
-module _ (files : Files) (index text printed : List ℕ) (limit : ℕ) (verdict : Verdict) where
-  by_rounds : (passed : Option PassedRound) → nat_lt file_limit (length text) ≡ false → first_fault text ≡ None → limit_at (suite_repository (home_in text) (packages_in text)) limit ≡ passed →
-      outcome_over files (then_on (by_limit index limit (index_in text) passed) (λ made. answers (reported Done (text_for (packages_in text) made)))) ≡ answered (reported verdict printed) → IsPrinted text limit printed
+module _ (files : Files) (index text printed : List ℕ) (limit : ℕ) (hold : Bool) (verdict : Verdict) where
+  by_rounds : (passed : Option PassedRound) → nat_lt file_limit (length text) ≡ false → first_fault text ≡ None → limit_at limit hold (suite_repository (home_in text) (packages_in text)) ≡ passed →
+      outcome_over files (then_on (by_limit index limit hold (index_in text) passed) (λ made. answers (reported Done (text_for (packages_in text) made)))) ≡ answered (reported verdict printed) → IsPrinted text limit hold printed
   by_rounds (Some passed) short accepted is e = absurd cc
   by_rounds None short accepted is e =
-      let same : printed ≡ text_for (packages_in text) (index_kernel (home_in text) (packages_in text)) = cc in
+      let same : printed ≡ text_for (packages_in text) (index_kernel limit hold (home_in text) (packages_in text)) = cc in
       record { short = short; accepted = accepted; within = is; is = same }
 
   by_faults : (fault : Option IndexFault) → nat_lt file_limit (length text) ≡ false → first_fault text ≡ fault →
-      outcome_over files (then_on (by_fault index text fault) (kernel_answer index false limit)) ≡ answered (reported verdict printed) → IsPrinted text limit printed
+      outcome_over files (then_on (by_fault index text fault) (kernel_answer index false limit hold)) ≡ answered (reported verdict printed) → IsPrinted text limit hold printed
   by_faults (Some fault) short is e = absurd cc
-  by_faults None short is e = by_rounds (limit_at (suite_repository (home_in text) (packages_in text)) limit) short is refl e
+  by_faults None short is e = by_rounds (limit_at limit hold (suite_repository (home_in text) (packages_in text))) short is refl e
 
   by_length : (long : Bool) → nat_lt file_limit (length text) ≡ long →
-      cond long (answered (too_long index)) (outcome_over files (then_on (by_fault index text (first_fault text)) (kernel_answer index false limit))) ≡ answered (reported verdict printed) → IsPrinted text limit printed
+      cond long (answered (too_long index)) (outcome_over files (then_on (by_fault index text (first_fault text)) (kernel_answer index false limit hold))) ≡ answered (reported verdict printed) → IsPrinted text limit hold printed
   by_length true is e = absurd cc
   by_length false is e = by_faults (first_fault text) is refl e
 
   of_file : files index ≡ Some text →
-      over_file index (files index) (λ bytes. outcome_over files (then_on (by_fault index bytes (first_fault bytes)) (kernel_answer index false limit))) ≡ answered (reported verdict printed) → IsPrinted text limit printed
+      over_file index (files index) (λ bytes. outcome_over files (then_on (by_fault index bytes (first_fault bytes)) (kernel_answer index false limit hold))) ≡ answered (reported verdict printed) → IsPrinted text limit hold printed
   of_file there e =
       by_length (nat_lt file_limit (length text)) refl
-      (sym (ap (λ file. over_file index file (λ bytes. outcome_over files (then_on (by_fault index bytes (first_fault bytes)) (kernel_answer index false limit)))) there) ∙ e)
+      (sym (ap (λ file. over_file index file (λ bytes. outcome_over files (then_on (by_fault index bytes (first_fault bytes)) (kernel_answer index false limit hold)))) there) ∙ e)
 
 -- the query of the index, and that of the text
-module _ (files : Files) (index stored text printed : List ℕ) (goals : List Goal) (budget limit : ℕ) (there : files index ≡ Some text) (kept : files stored ≡ Some printed) (is : IsPrinted text limit printed) where
-  asked : over_file index (files index) (λ bytes. outcome_over files (then_on (by_fault index bytes (first_fault bytes)) (query_answer index goals budget limit))) ≡ answered (goals_answer goals budget (index_in text))
+module _ (files : Files) (index stored text printed : List ℕ) (goals : List Goal) (budget limit : ℕ) (hold : Bool) (there : files index ≡ Some text) (kept : files stored ≡ Some printed) (is : IsPrinted text limit hold printed) where
+  asked : over_file index (files index) (λ bytes. outcome_over files (then_on (by_fault index bytes (first_fault bytes)) (query_answer index goals budget limit hold))) ≡ answered (goals_answer goals budget limit hold (index_in text))
   asked =
-      ap (λ file. over_file index file (λ bytes. outcome_over files (then_on (by_fault index bytes (first_fault bytes)) (query_answer index goals budget limit)))) there
-      ∙ ap (λ long. cond long (answered (too_long index)) (outcome_over files (then_on (by_fault index text (first_fault text)) (query_answer index goals budget limit)))) is.short
-      ∙ ap (λ fault. outcome_over files (then_on (by_fault index text fault) (query_answer index goals budget limit))) is.accepted
-      ∙ ap (λ passed. outcome_over files (then_on (by_limit index limit (index_in text) passed) (λ made. answers (goals_answer goals budget (index_in text))))) is.within
+      ap (λ file. over_file index file (λ bytes. outcome_over files (then_on (by_fault index bytes (first_fault bytes)) (query_answer index goals budget limit hold)))) there
+      ∙ ap (λ long. cond long (answered (too_long index)) (outcome_over files (then_on (by_fault index text (first_fault text)) (query_answer index goals budget limit hold)))) is.short
+      ∙ ap (λ fault. outcome_over files (then_on (by_fault index text fault) (query_answer index goals budget limit hold))) is.accepted
+      ∙ ap (λ passed. outcome_over files (then_on (by_limit index limit hold (index_in text) passed) (λ made. answers (goals_answer goals budget limit hold (index_in text))))) is.within
 
-  reads : KernelReads printed (the_kernel text is.accepted goals budget) (the_members text is.accepted goals budget)
+  abbrev stays : List ℕ
+  stays = kernel_held limit hold (suite_repository (home_in text) (packages_in text))
+
+  reads : KernelReads printed (format_of hold) (the_kernel text is.accepted goals budget limit hold) (the_members text is.accepted goals budget limit hold) stays
   unfolding index_kernel classed_kernel
-  reads = subst (λ t. KernelReads t (the_kernel text is.accepted goals budget) (the_members text is.accepted goals budget)) (sym is.is) (back (home_in text) (packages_in text) (formed text is.accepted)).reads
+  reads =
+      subst (λ t. KernelReads t (format_of hold) (the_kernel text is.accepted goals budget limit hold) (the_members text is.accepted goals budget limit hold) stays) (sym is.is)
+      (back limit hold (home_in text) (packages_in text) (formed text is.accepted)).reads
 
   asked_stored : length printed ≤ file_limit →
-      over_file stored (files stored) (λ bytes. outcome_over files (stored_query_answer stored goals budget bytes)) ≡ answered (stored_answer goals budget (content (the_kernel text is.accepted goals budget) (the_members text is.accepted goals budget)))
+      over_file stored (files stored) (λ bytes. outcome_over files (stored_query_answer stored goals budget bytes)) ≡ answered (stored_answer goals budget (the_content text is.accepted goals budget limit hold))
   asked_stored short =
       ap (λ file. over_file stored file (λ bytes. outcome_over files (stored_query_answer stored goals budget bytes))) kept
       ∙ ap (λ long. cond long (answered (too_long stored)) (outcome_over files (stored_query_answer stored goals budget printed))) (le-ltb file_limit (length printed) short)
-      ∙ ap (λ stage. outcome_over files (then_on stage (λ found. answers (stored_answer goals budget found)))) (kernel_checked stored printed (the_kernel text is.accepted goals budget) (the_members text is.accepted goals budget) reads)
+      ∙ ap (λ stage. outcome_over files (then_on stage (λ found. answers (stored_answer goals budget found))))
+      (kernel_checked stored printed (format_of hold) (the_kernel text is.accepted goals budget limit hold) (the_members text is.accepted goals budget limit hold) stays reads)
 
 pub stored_answers_as_index : StoredAnswersAsIndex
-stored_answers_as_index files index stored text printed goals budget limit verdict there made kept short =
-    let is : IsPrinted text limit printed = of_file files index text printed limit verdict there made in
+stored_answers_as_index files index stored text printed goals budget limit hold verdict there made kept short =
+    let is : IsPrinted text limit hold printed = of_file files index text printed limit hold verdict there made in
     record {
-      of_index = goals_answer goals budget (index_in text);
-      of_stored = stored_answer goals budget (content (the_kernel text is.accepted goals budget) (the_members text is.accepted goals budget));
-      asked = asked files index stored text printed goals budget limit there kept is;
-      asked_stored = asked_stored files index stored text printed goals budget limit there kept is short;
-      same = one_answer text is.accepted goals budget;
+      of_index = goals_answer goals budget limit hold (index_in text);
+      of_stored = stored_answer goals budget (the_content text is.accepted goals budget limit hold);
+      asked = asked files index stored text printed goals budget limit hold there kept is;
+      asked_stored = asked_stored files index stored text printed goals budget limit hold there kept is short;
+      same = one_answer text is.accepted goals budget limit hold;
     }
 
 pub stored_images_are_of_index : StoredImagesAreOfIndex
 unfolding index_kernel classed_kernel
-stored_images_are_of_index text S others accepted k goals =
+stored_images_are_of_index text limit hold format S others stay accepted k goals =
     let home : Home = home_in text in
     let stanzas : List PackageFacts = packages_in text in
     let f : Accepted stanzas = formed text accepted in
-    let same : (S ≡ kernel (suite_repository home stanzas)) × (others ≡ members home stanzas f) =
-    one_reading (text_for stanzas (index_kernel home stanzas)) S (kernel (suite_repository home stanzas)) others (members home stanzas f) k (back home stanzas f).reads in
-    ap₂ (λ T ms. images_in (content T ms) goals) same.0 same.1 ∙ images_same home stanzas f goals
+    let own : ℕ = format_of hold in
+    let T : Repository = kernel limit hold (suite_repository home stanzas) in
+    let ms : List Member = members limit hold home stanzas f in
+    let hs : List ℕ = kernel_held limit hold (suite_repository home stanzas) in
+    let same : (format ≡ own) × (S ≡ T) × (others ≡ ms) × (stay ≡ hs) =
+    one_reading (text_for stanzas (index_kernel limit hold home stanzas)) format own S T others ms stay hs k (back limit hold home stanzas f).reads in
+    ap₂ (λ g U. images_in (content g U others stay) goals) same.0 same.1 ∙ ap₂ (λ os ns. images_in (content own T os ns) goals) same.2 same.3 ∙ images_same limit hold home stanzas f goals

@@ -1,17 +1,16 @@
 -- What is answered to goals that are asked of a stored kernel.
-use Rattle.std.proofs.Common.{◌≡◌, ℕ, ◌+◌, ◌<◌, ◌≤◌, Bool, true, false, cond, ltb, List, [], ◌∷◌, ◌++◌, length, map, filter, Option, Some, None, Result, Ok, Err, inl, inr, refl, sym, ap, ap₂, ◌∙◌, subst, lt-ltb, arith}
-use Rattle.std.specs.Prelude.{IfSome, nat_lt}
+use Rattle.std.proofs.Common.{◌≡◌, ℕ, ◌+◌, ◌<◌, ◌≤◌, Bool, true, false, cond, List, [], ◌∷◌, ◌++◌, length, map, filter, Option, Some, None, Ok, Err, inl, inr, sym, ap, ◌∙◌, subst, lt-ltb, arith}
+use Rattle.std.specs.Prelude.{IfSome}
 use Rattle.std.specs.List.{flat_map, position_from}
 use Rattle.std.proofs.lemmas.Bool.{cases_Bool, le-ltb}
 use Rattle.std.proofs.lemmas.List.{append-nil, flat_map_more}
 use Rattle.std.proofs.lemmas.List.Elements.{filter-append}
 use Rattle.clause_solver.specs.Outcomes.{IsSearchOutcome}
-use Rattle.clause_solver.specs.declared.outcomes.Outcome.{Outcome}
 use Rattle.clause_solver.specs.declared.outcomes.Outcome.TheVariants.{Found, Refuted, Spent}
 use Rattle.kernel_text.specs.declared.fault.KernelFault.{KernelFault}
 use Rattle.kernel_text.specs.declared.fault.KernelFault.TheVariants.{Line, End, Range, Memory}
 use Rattle.kernel_text.specs.declared.member.Member.{Member}
-use Rattle.kernel_text.specs.Images.{image_of, is_unknown, names_in_class, unknown_goal}
+use Rattle.kernel_text.specs.Images.{image_of, names_in_class, unknown_goal}
 use Rattle.kernel_text.specs.KernelFaults.{IsFault}
 use Rattle.kernel_text.specs.KernelReads.{KernelReads, content}
 use Rattle.kernel_text.proofs.ReadIsWritten.{read_is_written}
@@ -27,7 +26,7 @@ use Rattle.row_book.proofs.Lists.{In_map_cases, filter_cases}
 use Rattle.row_book.proofs.Order.{numbers_parts}
 use Rattle.search_terms.specs.Form.{form}
 use Rattle.search_terms.specs.declared.literals.Log.{Log}
-use Rattle.search_terms.specs.Tree.{IsTree, Tree, failed_leaves, found_of, log_of}
+use Rattle.search_terms.specs.Tree.{IsTree, Tree, failed_leaves, found_of}
 use Rattle.search_terms.proofs.Computed.{search_tree_is}
 use Rattle.search_terms.proofs.Found.{one_tree}
 use Rattle.suite_compare.specs.Asking.{tree_of}
@@ -45,11 +44,11 @@ use Rattle.coinst_run.proofs.StoredReading.{reading_is}
 use Rattle.coinst_run.specs.StoredQuery.{by_reading, checked_kernel, class_line, classes_by_tree, classes_found, classes_text, kernel_fault_line, stored_answer, stored_by_unknown}
 
 -- a text that was read, and one that was refused
-pub kernel_checked : (path text : List ℕ) (R : Repository) (members : List Member) → KernelReads text R members → checked_kernel path text ≡ Ok (content R members)
-kernel_checked path text R members k = ap (by_reading path) (((reading_is text).kernels R members).0 k)
+pub kernel_checked : (path text : List ℕ) (format : ℕ) (R : Repository) (members : List Member) (held : List ℕ) → KernelReads text format R members held → checked_kernel path text ≡ Ok (content format R members held)
+kernel_checked path text format R members held k = ap (by_reading path) (((reading_is text).kernels format R members held).0 k)
 
-pub kernel_sound : (text : List ℕ) (R : Repository) (members : List Member) → KernelReads text R members → SoundRepository R
-kernel_sound text R members k = (((read_is_written text R members).0 k).0).sound
+pub kernel_sound : (text : List ℕ) (format : ℕ) (R : Repository) (members : List Member) (held : List ℕ) → KernelReads text format R members held → SoundRepository R
+kernel_sound text format R members held k = (((read_is_written text format R members held).0 k).0).sound
 
 pub kernel_refused : (path text : List ℕ) (fault : KernelFault) → (fault ≡ Memory → ⊥) → IsFault text fault → checked_kernel path text ≡ Err (refused Content (kernel_fault_line path fault))
 kernel_refused path text fault other is = ap (by_reading path) (((reading_is text).faults fault).0 (other, is))
@@ -86,16 +85,16 @@ unknown_within p n k (g ∷ gs) e = elim (cases_Bool (p g)) [
   | inr f ↦ let w : (n + 1 ≤ k) × (k < n + 1 + length gs) = unknown_within p (n + 1) k gs (rw f at e) in (omega (arith, w.0), omega (arith, w.1))
 ]
 
-pub unknown_told : (R : Repository) (members : List Member) (goals : List Goal) (budget number : ℕ) (goal : Goal) (line : List ℕ) → unknown_goal members goals ≡ Some number → goal ≡ goal_of_number goals number →
-    line ≡ unknown_line number goal → answers (stored_answer goals budget (content R members)) ≡ answers (refused UnknownGoal line)
-unknown_told R members goals budget number goal line unknown is made =
-    ap answers (ap (stored_by_unknown (content R members) goals budget) unknown ∙ ap (λ g. refused UnknownGoal (unknown_line number g)) (sym is) ∙ ap (refused UnknownGoal) (sym made))
+pub unknown_told : (format : ℕ) (R : Repository) (members : List Member) (held : List ℕ) (goals : List Goal) (budget number : ℕ) (goal : Goal) (line : List ℕ) → unknown_goal members goals ≡ Some number → goal ≡ goal_of_number goals number →
+    line ≡ unknown_line number goal → answers (stored_answer goals budget (content format R members held)) ≡ answers (refused UnknownGoal line)
+unknown_told format R members held goals budget number goal line unknown is made =
+    ap answers (ap (stored_by_unknown (content format R members held) goals budget) unknown ∙ ap (λ g. refused UnknownGoal (unknown_line number g)) (sym is) ∙ ap (refused UnknownGoal) (sym made))
 
 -- goals that are known are answered by the tree
-pub known_told : (R : Repository) (members : List Member) (goals : List Goal) (budget size : ℕ) (needs : List (List ℕ)) → unknown_goal members goals ≡ None → size ≡ length R.clauses →
-    needs ≡ map (image_of members size) goals → answers (classes_by_tree budget (tree_of R needs)) ≡ answers (stored_answer goals budget (content R members))
-known_told R members goals budget size needs known count made =
-    ap answers (ap (λ xs. classes_by_tree budget (tree_of R xs)) (made ∙ ap (λ n. map (image_of members n) goals) count) ∙ sym (ap (stored_by_unknown (content R members) goals budget) known))
+pub known_told : (format : ℕ) (R : Repository) (members : List Member) (held : List ℕ) (goals : List Goal) (budget size : ℕ) (needs : List (List ℕ)) → unknown_goal members goals ≡ None → size ≡ length R.clauses →
+    needs ≡ map (image_of members size) goals → answers (classes_by_tree budget (tree_of R needs)) ≡ answers (stored_answer goals budget (content format R members held))
+known_told format R members held goals budget size needs known count made =
+    ap answers (ap (λ xs. classes_by_tree budget (tree_of R xs)) (made ∙ ap (λ n. map (image_of members n) goals) count) ∙ sym (ap (stored_by_unknown (content format R members held) goals budget) known))
 
 -- the tree of a search is the one of the definition
 module _ (R : Repository) (goals : List (List ℕ)) (sound : SoundRepository R) (fit : NeedsFit (length R.clauses) goals) (budget : ℕ) where

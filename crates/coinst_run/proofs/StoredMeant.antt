@@ -94,7 +94,7 @@ raised_same : (chosen : List Bool) → has (raised chosen) ≡ flag chosen
 raised_same chosen = fun_ext (λ n. kept n (flag chosen) (numbers (length chosen) 0) (λ m h. let l = flag_inside chosen m h in numbers_from (length chosen) 0 m (omega arith) (omega arith)))
 
 -- a kernel that the format can write
-module _ (kernel : KernelContent) (writable : IsWritable kernel.repository kernel.members) (goals : List Goal) where
+module _ (kernel : KernelContent) (writable : IsWritable kernel.format kernel.repository kernel.members kernel.held) (goals : List Goal) where
   abbrev size : ℕ
   size = length kernel.repository.clauses
 
@@ -200,7 +200,7 @@ module _ (kernel : KernelContent) (writable : IsWritable kernel.repository kerne
 
 -- the report of a query of the stored kernel at the path
 module _ (path : List ℕ) (goals : List Goal) (budget : ℕ) (files : Files) (verdict : Verdict) (report : List ℕ) where
-  goals_mean : (text : List ℕ) (kernel : KernelContent) (first : Option ℕ) → KernelReads text kernel.repository kernel.members → unknown_goal kernel.members goals ≡ first →
+  goals_mean : (text : List ℕ) (kernel : KernelContent) (first : Option ℕ) → KernelReads text kernel.format kernel.repository kernel.members kernel.held → unknown_goal kernel.members goals ≡ first →
       stored_by_unknown kernel goals budget first ≡ reported verdict report → StoredMeans text goals budget verdict report
   goals_mean text kernel (Some number) reads is e = absurd (cc e)
   goals_mean text kernel None reads is e = record {
@@ -208,7 +208,7 @@ module _ (path : List ℕ) (goals : List Goal) (budget : ℕ) (files : Files) (v
     reads = reads;
     once = one_reading text;
     known = all_known kernel.members 1 goals is;
-    means = tree_means kernel ((read_is_written text kernel.repository kernel.members).0 reads).0 goals budget verdict report e;
+    means = tree_means kernel ((read_is_written text kernel.format kernel.repository kernel.members kernel.held).0 reads).0 goals budget verdict report e;
   }
 
   by_text : (text : List ℕ) (found : Result KernelContent KernelFault) → stored_reading text ≡ found →
@@ -216,7 +216,7 @@ module _ (path : List ℕ) (goals : List Goal) (budget : ℕ) (files : Files) (v
   by_text text (Err fault) is e = absurd cc
   by_text text (Ok kernel) is e =
       let same : stored_answer goals budget kernel ≡ reported verdict report = cc in
-      goals_mean text kernel (unknown_goal kernel.members goals) (((reading_is text).kernels kernel.repository kernel.members).1 is) refl same
+      goals_mean text kernel (unknown_goal kernel.members goals) (((reading_is text).kernels kernel.format kernel.repository kernel.members kernel.held).1 is) refl same
 
   fitting : (text : List ℕ) (b : Bool) → cond b (answered (too_long path)) (outcome_over files (stored_query_answer path goals budget text)) ≡ answered (reported verdict report) → StoredMeans text goals budget verdict report
   fitting text true e = absurd cc

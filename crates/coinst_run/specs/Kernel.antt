@@ -16,29 +16,29 @@ use Rattle.repo_model.specs.Repository.{suite_repository}
 use Rattle.repo_model.specs.Stanzas.{stanza_at}
 use Rattle.row_book.specs.Rounds.{PassedRound, limit_at}
 
--- the kernel of an index, by the round that passes the clause limit, where there is one
-abbrev pub by_limit : List ℕ → ℕ → Index → Option PassedRound → Stage ClassedKernel
-by_limit path limit index None = Ok (index_kernel index.home index.packages)
-by_limit path limit index (Some passed) =
+-- the kernel of an index at a limit, with hold or without, by the round that passes the clause limit, where there is one
+abbrev pub by_limit : List ℕ → ℕ → Bool → Index → Option PassedRound → Stage ClassedKernel
+by_limit path limit hold index None = Ok (index_kernel limit hold index.home index.packages)
+by_limit path limit hold index (Some passed) =
     Err (refused ClauseLimit (limit_line path limit passed.number passed.gone (stanza_at index.packages passed.«package») passed.count))
 
-abbrev pub kernel_of : List ℕ → ℕ → Index → Stage ClassedKernel
-kernel_of path limit index = by_limit path limit index (limit_at (suite_repository index.home index.packages) limit)
+abbrev pub kernel_of : List ℕ → ℕ → Bool → Index → Stage ClassedKernel
+kernel_of path limit hold index = by_limit path limit hold index (limit_at limit hold (suite_repository index.home index.packages))
 
 -- a kernel as text, or as JSON where that is asked for
 abbrev pub printed_kernel : Bool → List PackageFacts → ClassedKernel → List ℕ
 printed_kernel false packages kernel = text_for packages kernel
 printed_kernel true packages kernel = json_for packages kernel
 
-abbrev pub kernel_answer : List ℕ → Bool → ℕ → Index → Course
-kernel_answer path json limit index = then_on (kernel_of path limit index) (λ kernel. answers (reported Done (printed_kernel json index.packages kernel)))
+abbrev pub kernel_answer : List ℕ → Bool → ℕ → Bool → Index → Course
+kernel_answer path json limit hold index = then_on (kernel_of path limit hold index) (λ kernel. answers (reported Done (printed_kernel json index.packages kernel)))
 
-abbrev pub kernel_course : List ℕ → Bool → ℕ → Course
-kernel_course path json limit = reads_index path (kernel_answer path json limit)
+abbrev pub kernel_course : List ℕ → Bool → ℕ → Bool → Course
+kernel_course path json limit hold = reads_index path (kernel_answer path json limit hold)
 
 -- what a kernel over a pool says
 abbrev pub kernel_in : Interned → Kernel → ClassedKernel
-kernel_in pool made = record { repository = repository_of pool made.book; class_of = made.class_of }
+kernel_in pool made = record { repository = repository_of pool made.book; class_of = made.class_of; hold = made.hold; held = made.held }
 
 -- a kernel of the packages over a pool: a sound book, and for each package one of its classes
 pub record FitsSuite (pool : Interned) (packages : List PackageFacts) (made : Kernel) : Type 0 where

@@ -24,7 +24,16 @@ pub mod QueryMeaning
 pub mod CompareText
 pub mod Compare
 pub mod CompareMeaning
+pub mod ExplainText
+pub mod Explain
+pub mod ExplainMeaning
+pub mod MigrateText
+pub mod Migrate
+pub mod MigrateMeaning
 pub mod StoredReading
 pub mod StoredQuery
 pub mod StoredMeaning
 pub mod StoredAgrees
+pub mod SystemText
+pub mod SystemStatus
+pub mod SystemMeaning

@@ -6,16 +6,19 @@ use Rattle.coinst_run.specs.declared.answer.Cause.TheVariants.{TooLarge as TooLa
 use Rattle.coinst_run.specs.declared.status.Status.{Status}
 use Rattle.coinst_run.specs.declared.status.Status.TheVariants.{Words, ReadFault}
 use Rattle.coinst_words.specs.declared.job.Job.{Job}
-use Rattle.coinst_words.specs.declared.job.Job.TheVariants.{Kernel, Query, StoredQuery, Compare, Sample}
+use Rattle.coinst_words.specs.declared.job.Job.TheVariants.{Kernel, Query, StoredQuery, Compare, Explain, Status as StatusJob, Migrate, Sample}
 use Rattle.coinst_run.specs.Answer.{Answer, reported, refused}
 use Rattle.coinst_run.specs.Course.{Course, answers, reads}
 use Rattle.coinst_run.specs.Compare.{compare_course}
+use Rattle.coinst_run.specs.Explain.{explain_course}
 use Rattle.coinst_run.specs.Kernel.{kernel_course}
 use Rattle.coinst_run.specs.Query.{query_course}
+use Rattle.coinst_run.specs.Migrate.{migrate_course}
 use Rattle.coinst_run.specs.Lines.{too_long_line, unread_line, words_line}
 use Rattle.coinst_run.specs.Sample.{sample_course}
 use Rattle.coinst_run.specs.Status.{cause_status, verdict_status}
 use Rattle.coinst_run.specs.StoredQuery.{stored_query_course}
+use Rattle.coinst_run.specs.SystemStatus.{status_course}
 use Rattle.coinst_words.specs.Jobs.{job_of}
 
 -- a command answered, or the file at a path could not be read, or the words are no command
@@ -44,10 +47,13 @@ outcome_over files (reads path next) = over_file path (files path) (λ text. out
 
 -- the course of each command
 abbrev pub course_of : Job → Course
-course_of (Kernel index json limit) = kernel_course index json limit
-course_of (Query index goals budget limit) = query_course index goals budget limit
+course_of (Kernel index json limit hold) = kernel_course index json limit hold
+course_of (Query index goals budget limit hold) = query_course index goals budget limit hold
 course_of (StoredQuery kernel goals budget) = stored_query_course kernel goals budget
-course_of (Compare old new budget limit) = compare_course old new budget limit
+course_of (Compare old new budget limit hold) = compare_course old new budget limit hold
+course_of (Explain index goals budget limit hold) = explain_course index goals budget limit hold
+course_of (StatusJob file index budget limit hold) = status_course file index budget limit hold
+course_of (Migrate old new budget limit hold) = migrate_course old new budget limit hold
 course_of (Sample seed count) = sample_course seed count
 
 abbrev pub of_job : Option Job → Files → Outcome

@@ -18,26 +18,26 @@ abbrev pub goal_of_number : List Goal → ℕ → Goal
 goal_of_number goals number = slice_index_or goals (number - 1) (any_version [])
 
 -- yes and what is installed, where the tree finds classes, and otherwise no and the log of the tree
-abbrev pub by_found : Index → List Goal → Tree → Option (List Bool) → Answer
-by_found index goals tree (Some chosen) = reported Done (yes_text index.packages (installation index.home index.packages goals chosen))
-by_found index goals tree None = reported Negative (no_text (log_of [] tree))
+abbrev pub by_found : ℕ → Bool → Index → List Goal → Tree → Option (List Bool) → Answer
+by_found limit hold index goals tree (Some chosen) = reported Done (yes_text index.packages (installation limit hold index.home index.packages goals chosen))
+by_found limit hold index goals tree None = reported Negative (no_text (log_of [] tree))
 
 -- undecided where the tree has more failed leaves than the budget
-abbrev pub by_tree : Index → List Goal → ℕ → Tree → Answer
-by_tree index goals budget tree =
-    if nat_lt budget (failed_leaves tree) then reported Undecided (undecided_text budget) else by_found index goals tree (found_of tree)
+abbrev pub by_tree : ℕ → Bool → Index → List Goal → ℕ → Tree → Answer
+by_tree limit hold index goals budget tree =
+    if nat_lt budget (failed_leaves tree) then reported Undecided (undecided_text budget) else by_found limit hold index goals tree (found_of tree)
 
 -- goals by the first that names no package, where there is one
-abbrev pub by_unknown : Index → List Goal → ℕ → Option ℕ → Answer
-by_unknown index goals budget (Some number) = refused UnknownGoal (unknown_line number (goal_of_number goals number))
-by_unknown index goals budget None = by_tree index goals budget (asked_tree index.home index.packages goals)
+abbrev pub by_unknown : ℕ → Bool → Index → List Goal → ℕ → Option ℕ → Answer
+by_unknown limit hold index goals budget (Some number) = refused UnknownGoal (unknown_line number (goal_of_number goals number))
+by_unknown limit hold index goals budget None = by_tree limit hold index goals budget (asked_tree limit hold index.home index.packages goals)
 
--- what is answered to goals
-abbrev pub goals_answer : List Goal → ℕ → Index → Answer
-goals_answer goals budget index = by_unknown index goals budget (unknown_goal index.packages goals)
+-- what is answered to goals, at a clause limit, with hold or without
+abbrev pub goals_answer : List Goal → ℕ → ℕ → Bool → Index → Answer
+goals_answer goals budget limit hold index = by_unknown limit hold index goals budget (unknown_goal index.packages goals)
 
-abbrev pub query_answer : List ℕ → List Goal → ℕ → ℕ → Index → Course
-query_answer path goals budget limit index = then_on (kernel_of path limit index) (λ kernel. answers (goals_answer goals budget index))
+abbrev pub query_answer : List ℕ → List Goal → ℕ → ℕ → Bool → Index → Course
+query_answer path goals budget limit hold index = then_on (kernel_of path limit hold index) (λ kernel. answers (goals_answer goals budget limit hold index))
 
-abbrev pub query_course : List ℕ → List Goal → ℕ → ℕ → Course
-query_course path goals budget limit = reads_index path (query_answer path goals budget limit)
+abbrev pub query_course : List ℕ → List Goal → ℕ → ℕ → Bool → Course
+query_course path goals budget limit hold = reads_index path (query_answer path goals budget limit hold)

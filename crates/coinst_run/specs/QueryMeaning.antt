@@ -1,5 +1,5 @@
 -- What the report of a query means for the index that was asked.
-use Rattle.std.specs.Prelude.{◌≡◌, ℕ, ◌<◌, List, [], length, Some, None}
+use Rattle.std.specs.Prelude.{◌≡◌, ℕ, ◌<◌, Bool, List, length, Some, None}
 use Rattle.byte_flow.specs.Flow.{Files}
 use Rattle.repo_model.specs.FirstFault.{first_fault}
 use Rattle.repo_model.specs.Goals.{CoinstGoals, packages_named}
@@ -32,30 +32,30 @@ pub record YesMeans (text : List ℕ) (goals : List Goal) (printed : List ℕ) :
   pub serves : Serves (home_in text) (packages_in text) goals (has numbers)
 
 -- The goals are not co-installable, judged on the stanzas, and the printed log shows it: it derives the empty entry over the
--- formula of the kernel and the classes of the goals.
-pub record NoMeans (text : List ℕ) (goals : List Goal) (printed : List ℕ) : Type 0 where
+-- formula of the kernel, at this clause limit and with hold or without, and the classes of the goals.
+pub record NoMeans (text : List ℕ) (goals : List Goal) (limit : ℕ) (hold : Bool) (printed : List ℕ) : Type 0 where
   pub refuted : ¬ (CoinstGoals (home_in text) (packages_in text) goals)
   pub log : List (List Literal)
   pub reads : printed ≡ no_text log
-  pub derives : Derives (form (kernel (suite_repository (home_in text) (packages_in text))) (images_of (home_in text) (packages_in text) goals)) log
+  pub derives : Derives (form (kernel limit hold (suite_repository (home_in text) (packages_in text))) (images_of limit hold (home_in text) (packages_in text) goals)) log
 
 -- The search tree has more failed leaves than the budget that is printed.
-pub record UndecidedMeans (text : List ℕ) (goals : List Goal) (budget : ℕ) (printed : List ℕ) : Type 0 where
+pub record UndecidedMeans (text : List ℕ) (goals : List Goal) (budget limit : ℕ) (hold : Bool) (printed : List ℕ) : Type 0 where
   pub reads : printed ≡ undecided_text budget
-  pub spent : budget < failed_leaves (asked_tree (home_in text) (packages_in text) goals)
+  pub spent : budget < failed_leaves (asked_tree limit hold (home_in text) (packages_in text) goals)
 
-abbrev pub MeansVerdict : List ℕ → List Goal → ℕ → Verdict → List ℕ → Type 0
-MeansVerdict text goals budget Done printed = YesMeans text goals printed
-MeansVerdict text goals budget Negative printed = NoMeans text goals printed
-MeansVerdict text goals budget Undecided printed = UndecidedMeans text goals budget printed
+abbrev pub MeansVerdict : List ℕ → List Goal → ℕ → ℕ → Bool → Verdict → List ℕ → Type 0
+MeansVerdict text goals budget limit hold Done printed = YesMeans text goals printed
+MeansVerdict text goals budget limit hold Negative printed = NoMeans text goals limit hold printed
+MeansVerdict text goals budget limit hold Undecided printed = UndecidedMeans text goals budget limit hold printed
 
 -- The text is an index without a fault, each goal names a package of it, and the printed bytes mean what their verdict says.
-pub record QueryMeans (text : List ℕ) (goals : List Goal) (budget : ℕ) (verdict : Verdict) (printed : List ℕ) : Type 0 where
+pub record QueryMeans (text : List ℕ) (goals : List Goal) (budget limit : ℕ) (hold : Bool) (verdict : Verdict) (printed : List ℕ) : Type 0 where
   pub accepted : first_fault text ≡ None
   pub known : (goal : Goal) → In goal goals → (n : ℕ) × In n (packages_named (packages_in text) goal)
-  pub means : MeansVerdict text goals budget verdict printed
+  pub means : MeansVerdict text goals budget limit hold verdict printed
 
 -- what is reported over files means this for the file at the path
 abbrev pub QueryIsMeant : Type 0
-QueryIsMeant = (path : List ℕ) (goals : List Goal) (budget limit : ℕ) (files : Files) (verdict : Verdict) (printed : List ℕ) → outcome_over files (query_course path goals budget limit) ≡ answered (reported verdict printed) →
-    (text : List ℕ) × (files path ≡ Some text) × QueryMeans text goals budget verdict printed
+QueryIsMeant = (path : List ℕ) (goals : List Goal) (budget limit : ℕ) (hold : Bool) (files : Files) (verdict : Verdict) (printed : List ℕ) → outcome_over files (query_course path goals budget limit hold) ≡ answered (reported verdict printed) →
+    (text : List ℕ) × (files path ≡ Some text) × QueryMeans text goals budget limit hold verdict printed

@@ -1,8 +1,7 @@
 -- The command that extracts the kernel of a sample suite, and tells its size.
-use Rattle.std.specs.Prelude.{ℕ, Bool, true, false, List, ◌++◌, length, count_by, codes}
-use Rattle.std.specs.Fmt.{decimal}
-use Rattle.kernel_text.specs.KernelLines.{KernelLine, HeadLine, ClassLine, MemberLine, NeedsLine, AgainstLine, EndLine}
-use Rattle.kernel_text.specs.KernelText.{kernel_lines}
+use Rattle.std.specs.Prelude.{ℕ, Bool, true, false, List, length, count_by, codes}
+use Rattle.kernel_text.specs.KernelLines.{KernelLine, HeadLine, ClassLine, MemberLine, HeldLine, NeedsLine, AgainstLine, EndLine}
+use Rattle.kernel_text.specs.KernelText.{format_of, kernel_lines}
 use Rattle.relation_fields.specs.declared.packages.PackageFacts.{PackageFacts}
 use Rattle.sample_suite.specs.SampleText.{sample_text}
 use Rattle.coinst_run.specs.declared.answer.Verdict.TheVariants.{Done}
@@ -13,7 +12,7 @@ use Rattle.coinst_run.specs.IndexKernel.{ClassedKernel, members_for}
 use Rattle.coinst_run.specs.Kernel.{kernel_of}
 use Rattle.coinst_run.specs.Lines.{size_line}
 
--- what stands for the path of the index, which is no file
+-- what stands for the path of the index, which is no file; its kernel is made without hold
 abbrev pub sample_path : List ℕ
 sample_path = codes "sample"
 
@@ -22,24 +21,26 @@ sample_limit = 65536
 
 -- a line with a clause, and one with a conflict
 abbrev pub is_needs_line : KernelLine → Bool
-is_needs_line HeadLine = false
+is_needs_line (HeadLine format) = false
 is_needs_line (ClassLine class) = false
 is_needs_line (MemberLine name version) = false
+is_needs_line HeldLine = false
 is_needs_line (NeedsLine clause) = true
 is_needs_line (AgainstLine class) = false
 is_needs_line (EndLine classes members) = false
 
 abbrev pub is_against_line : KernelLine → Bool
-is_against_line HeadLine = false
+is_against_line (HeadLine format) = false
 is_against_line (ClassLine class) = false
 is_against_line (MemberLine name version) = false
+is_against_line HeldLine = false
 is_against_line (NeedsLine clause) = false
 is_against_line (AgainstLine class) = true
 is_against_line (EndLine classes members) = false
 
 -- the lines of the kernel's text
 abbrev pub lines_for : List PackageFacts → ClassedKernel → List KernelLine
-lines_for packages made = kernel_lines made.repository (members_for packages made)
+lines_for packages made = kernel_lines (format_of made.hold) made.repository (members_for packages made) made.held
 
 -- the numbers of packages, of classes, and of the lines with a clause and with a conflict
 unfoldable pub size_report : List PackageFacts → ClassedKernel → List ℕ
@@ -47,7 +48,7 @@ size_report packages made =
     size_line (length packages) (length made.repository.clauses) (count_by is_needs_line (lines_for packages made)) (count_by is_against_line (lines_for packages made))
 
 abbrev pub sample_answer : Index → Course
-sample_answer index = then_on (kernel_of sample_path sample_limit index) (λ kernel. answers (reported Done (size_report index.packages kernel)))
+sample_answer index = then_on (kernel_of sample_path sample_limit false index) (λ kernel. answers (reported Done (size_report index.packages kernel)))
 
 abbrev pub sample_course : ℕ → ℕ → Course
 sample_course seed count = then_on (checked_index sample_path (sample_text seed count)) sample_answer

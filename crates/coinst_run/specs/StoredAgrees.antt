@@ -23,30 +23,30 @@ use Rattle.coinst_run.specs.StoredQuery.{classes_text, images_in, stored_query_c
 -- Two answers to goals, the first over an index and the second over a stored kernel, are one: both are no with the same log, or
 -- undecided, or refuse the same goal with the same line, or both are yes, the first with the packages that are installed where
 -- the second's classes are found.
-pub data AreOneAnswer (index : Index) (goals : List Goal) (budget : ℕ) : Answer → Answer → Type 0 where
+pub data AreOneAnswer (index : Index) (goals : List Goal) (budget limit : ℕ) (hold : Bool) : Answer → Answer → Type 0 where
   yes : (chosen : List Bool) →
-      AreOneAnswer index goals budget (reported Done (yes_text index.packages (installation index.home index.packages goals chosen))) (reported Done (classes_text chosen))
-  no : (log : List (List Literal)) → AreOneAnswer index goals budget (reported Negative (no_text log)) (reported Negative (no_text log))
-  undecided : AreOneAnswer index goals budget (reported Undecided (undecided_text budget)) (reported Undecided (undecided_text budget))
-  unknown : (line : List ℕ) → AreOneAnswer index goals budget (refused UnknownGoal line) (refused UnknownGoal line)
+      AreOneAnswer index goals budget limit hold (reported Done (yes_text index.packages (installation limit hold index.home index.packages goals chosen))) (reported Done (classes_text chosen))
+  no : (log : List (List Literal)) → AreOneAnswer index goals budget limit hold (reported Negative (no_text log)) (reported Negative (no_text log))
+  undecided : AreOneAnswer index goals budget limit hold (reported Undecided (undecided_text budget)) (reported Undecided (undecided_text budget))
+  unknown : (line : List ℕ) → AreOneAnswer index goals budget limit hold (refused UnknownGoal line) (refused UnknownGoal line)
 
--- the answers over an index with a clause limit, and over a stored kernel, are one
-pub record AnswersAsIndex (files : Files) (index stored text : List ℕ) (goals : List Goal) (budget limit : ℕ) : Type 0 where
+-- the answers over an index at a clause limit, with hold or without, and over a stored kernel, are one
+pub record AnswersAsIndex (files : Files) (index stored text : List ℕ) (goals : List Goal) (budget limit : ℕ) (hold : Bool) : Type 0 where
   pub of_index : Answer
   pub of_stored : Answer
-  pub asked : outcome_over files (query_course index goals budget limit) ≡ answered of_index
+  pub asked : outcome_over files (query_course index goals budget limit hold) ≡ answered of_index
   pub asked_stored : outcome_over files (stored_query_course stored goals budget) ≡ answered of_stored
-  pub same : AreOneAnswer (index_in text) goals budget of_index of_stored
+  pub same : AreOneAnswer (index_in text) goals budget limit hold of_index of_stored
 
--- What the command `kernel` prints of an index with a clause limit, stored in a file that is not too long, answers goals as the
--- index does with that limit and the same budget.
+-- What the command `kernel` prints of an index at a clause limit, with hold or without, stored in a file that is not too long,
+-- answers goals as the index does at that limit and hold and with the same budget.
 abbrev pub StoredAnswersAsIndex : Type 0
-StoredAnswersAsIndex = (files : Files) (index stored text printed : List ℕ) (goals : List Goal) (budget limit : ℕ) (verdict : Verdict) →
-    files index ≡ Some text → outcome_over files (kernel_course index false limit) ≡ answered (reported verdict printed) → files stored ≡ Some printed → length printed ≤ file_limit →
-    AnswersAsIndex files index stored text goals budget limit
+StoredAnswersAsIndex = (files : Files) (index stored text printed : List ℕ) (goals : List Goal) (budget limit : ℕ) (hold : Bool) (verdict : Verdict) →
+    files index ≡ Some text → outcome_over files (kernel_course index false limit hold) ≡ answered (reported verdict printed) → files stored ≡ Some printed → length printed ≤ file_limit →
+    AnswersAsIndex files index stored text goals budget limit hold
 
 -- In the kernel text of an index, goals name the classes of the packages that they name in the index.
 abbrev pub StoredImagesAreOfIndex : Type 0
-StoredImagesAreOfIndex = (text : List ℕ) (R : Repository) (members : List Member) → first_fault text ≡ None →
-    KernelReads (text_for (packages_in text) (index_kernel (home_in text) (packages_in text))) R members →
-    (goals : List Goal) → images_in (content R members) goals ≡ images_of (home_in text) (packages_in text) goals
+StoredImagesAreOfIndex = (text : List ℕ) (limit : ℕ) (hold : Bool) (format : ℕ) (R : Repository) (members : List Member) (held : List ℕ) → first_fault text ≡ None →
+    KernelReads (text_for (packages_in text) (index_kernel limit hold (home_in text) (packages_in text))) format R members held →
+    (goals : List Goal) → images_in (content format R members held) goals ≡ images_of limit hold (home_in text) (packages_in text) goals

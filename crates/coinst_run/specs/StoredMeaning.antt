@@ -63,11 +63,11 @@ MeansStored kernel goals budget Done printed = StoredYes kernel goals printed
 MeansStored kernel goals budget Negative printed = StoredNo kernel goals printed
 MeansStored kernel goals budget Undecided printed = StoredUndecided kernel goals budget printed
 
--- The text stands for one kernel, by the grammar of the format, each goal names a package of it, and the printed bytes mean what
+-- The text stands for one kernel, by the grammar of the formats, each goal names a package of it, and the printed bytes mean what
 -- their verdict says.
 pub record StoredMeans (text : List ℕ) (goals : List Goal) (budget : ℕ) (verdict : Verdict) (printed : List ℕ) : Type 0 where
   pub kernel : KernelContent
-  pub reads : KernelReads text kernel.repository kernel.members
+  pub reads : KernelReads text kernel.format kernel.repository kernel.members kernel.held
   pub once : HasOneReading text
   pub known : (goal : Goal) → In goal goals → (m : Member) × In m kernel.members × (is_named_by goal m ≡ true)
   pub means : MeansStored kernel goals budget verdict printed

@@ -10,7 +10,7 @@ use Rattle.kernel_text.proofs.Judged.{Judgement, a_fault, a_kernel, judgement}
 
 -- what was found of a text
 abbrev pub told_by : (text : List ℕ) → Judgement text → Result KernelContent KernelFault
-told_by text (a_kernel R members reads) = Ok (content R members)
+told_by text (a_kernel format R members held reads) = Ok (content format R members held)
 told_by text (a_fault fault other is) = Err fault
 
 unfoldable pub stored_reading : List ℕ → Result KernelContent KernelFault
@@ -18,7 +18,8 @@ stored_reading text = told_by text (judgement text)
 
 -- the text is read as a kernel exactly where the grammar reads it so, and has exactly the fault of the grammar
 pub record ReadingIs (text : List ℕ) : Type 0 where
-  pub kernels : (R : Repository) (members : List Member) → (KernelReads text R members ↔ (stored_reading text ≡ Ok (content R members)))
+  pub kernels : (format : ℕ) (R : Repository) (members : List Member) (held : List ℕ) →
+      (KernelReads text format R members held ↔ (stored_reading text ≡ Ok (content format R members held)))
   pub faults : (fault : KernelFault) → (IsFaultOf text fault ↔ (stored_reading text ≡ Err fault))
 
 abbrev pub TextsAreTold : Type 0

@@ -16,7 +16,7 @@ use std::alloc::Global;
 use suite_compare::SuiteView;
 
 /// The report on what the index at the newer path has broken of that at the older one, within a budget of failed leaves a
-/// search.
+/// search, at a clause limit, both with hold or both without.
 pub fn compare<F: Shelf>(
     alloc: Global,
     shelf: &mut F,
@@ -24,13 +24,14 @@ pub fn compare<F: Shelf>(
     new: &str,
     budget: u64,
     limit: u32,
+    hold: bool,
 ) -> Result<Report, Stop>
     requires budget { IsBudget budget }
     requires limit { 0 < limit }
-    ensures { Follows F.contents F.faults F.moved F.is_quiet F.start_gives F.read_gives (compare_course old.now new.now budget limit) shelf.old (ending_of result) shelf.new }
+    ensures { Follows F.contents F.faults F.moved F.is_quiet F.start_gives F.read_gives (compare_course old.now new.now budget limit hold) shelf.old (ending_of result) shelf.new }
 {
     let suite = suite_at(alloc, shelf, old)?;
-    compare_from(alloc, shelf, suite, old, new, budget, limit)
+    compare_from(alloc, shelf, suite, old, new, budget, limit, hold)
 }
 
 // The report on what the index at the newer path has broken of the suite of the older one.
@@ -42,56 +43,57 @@ fn compare_from<F: Shelf>(
     new: &str,
     budget: u64,
     limit: u32,
+    hold: bool,
 ) -> Result<Report, Stop>
     requires budget { IsBudget budget }
     requires limit { 0 < limit }
-    ensures { Follows F.contents F.faults F.moved F.is_quiet F.start_gives F.read_gives (old_answer old.now new.now budget limit (index_of suite)) shelf.old (ending_of result) shelf.new }
+    ensures { Follows F.contents F.faults F.moved F.is_quiet F.start_gives F.read_gives (old_answer old.now new.now budget limit hold (index_of suite)) shelf.old (ending_of result) shelf.new }
 {
-    match view_of(alloc, suite, old, limit) {
-        Ok(view) => compare_with(alloc, shelf, &view, new, budget, limit),
+    match view_of(alloc, suite, old, limit, hold) {
+        Ok(view) => compare_with(alloc, shelf, &view, new, budget),
         Err(stop) => Err(stop),
     }
 }
 
-// The report on what the index at a path has broken of the suite of a view.
+// The report on what the index at a path has broken of the suite of a view, at the limit and hold of the view.
 fn compare_with<F: Shelf>(
     alloc: Global,
     shelf: &mut F,
     old: &SuiteView,
     path: &str,
     budget: u64,
-    limit: u32,
 ) -> Result<Report, Stop>
     requires budget { IsBudget budget }
-    requires limit { 0 < limit }
-    ensures { Follows F.contents F.faults F.moved F.is_quiet F.start_gives F.read_gives (new_course path.now budget limit (index_of old.now.suite)) shelf.old (ending_of result) shelf.new }
+    requires limit { 0 < old.now.limit }
+    ensures { Follows F.contents F.faults F.moved F.is_quiet F.start_gives F.read_gives (new_course path.now budget old.now.limit old.now.kernel.hold (index_of old.now.suite)) shelf.old (ending_of result) shelf.new }
 {
     let suite = suite_at(alloc, shelf, path)?;
-    compare_suite(alloc, old, suite, path, budget, limit)
+    compare_suite(alloc, old, suite, path, budget)
 }
 
-// The report on what a suite has broken of that of a view.
+// The report on what a suite has broken of that of a view, at the limit and hold of the view.
 fn compare_suite(
     alloc: Global,
     old: &SuiteView,
     suite: Suite,
     path: &str,
     budget: u64,
-    limit: u32,
 ) -> Result<Report, Stop>
     requires budget { IsBudget budget }
-    requires limit { 0 < limit }
-    ensures { Settles (new_answer path.now budget limit (index_of old.now.suite) (index_of suite)) (ending_of result) }
+    requires limit { 0 < old.now.limit }
+    ensures { Settles (new_answer path.now budget old.now.limit old.now.kernel.hold (index_of old.now.suite) (index_of suite)) (ending_of result) }
 {
-    let view = view_of(alloc, suite, path, limit)?;
+    let view = view_of(alloc, suite, path, old.limit, old.kernel.hold)?;
     comparison(alloc, old, &view, budget)
 }
 
-// The report on two views.
+// The report on two views of one limit and hold.
 #[tactic(auto, unfolding(crate::specs::Compare::broken_lines))]
 fn comparison(alloc: Global, old: &SuiteView, new: &SuiteView, budget: u64) -> Result<Report, Stop>
-    requires { IsBudget budget }
-    ensures { Settles (compare_answer budget (index_of old.now.suite) (index_of new.now.suite)) (ending_of result) }
+    requires budget { IsBudget budget }
+    requires limit { new.now.limit ≡ old.now.limit }
+    requires hold { new.now.kernel.hold ≡ old.now.kernel.hold }
+    ensures { Settles (compare_answer budget old.now.limit old.now.kernel.hold (index_of old.now.suite) (index_of new.now.suite)) (ending_of result) }
 {
     let report = suite_compare::compare(alloc, old, new, budget)?;
     let lines = report.lines.as_slice();

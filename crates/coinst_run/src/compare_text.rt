@@ -8,9 +8,9 @@ use crate::lines::push_number;
 use std::alloc::{AllocError, Global};
 use suite_compare::ReportLine;
 
-// Puts what is told of a name behind the text.
+/// Puts what is told of a name behind the text; it fails only where no memory is found.
 #[tactic(auto, using(crate::proofs::Texts::appended))]
-fn push_single(out: &mut Vec<u8>, word: &[u8], name: &[u8]) -> Result<(), AllocError>
+pub(crate) fn push_single(out: &mut Vec<u8>, word: &[u8], name: &[u8]) -> Result<(), AllocError>
     ensures { OnOk result (out.new.items ≡ out.old.items ++ single_text word.now name.now) }
 {
     out.extend_from_slice(word)?;
@@ -19,9 +19,14 @@ fn push_single(out: &mut Vec<u8>, word: &[u8], name: &[u8]) -> Result<(), AllocE
     out.extend_from_slice(b"\n")
 }
 
-// Puts what is told of two names behind the text.
+/// Puts what is told of two names behind the text; it fails only where no memory is found.
 #[tactic(auto, using(crate::proofs::Texts::appended))]
-fn push_pair(out: &mut Vec<u8>, word: &[u8], first: &[u8], second: &[u8]) -> Result<(), AllocError>
+pub(crate) fn push_pair(
+    out: &mut Vec<u8>,
+    word: &[u8],
+    first: &[u8],
+    second: &[u8],
+) -> Result<(), AllocError>
     ensures { OnOk result (out.new.items ≡ out.old.items ++ pair_text word.now first.now second.now) }
 {
     out.extend_from_slice(word)?;
@@ -32,8 +37,8 @@ fn push_pair(out: &mut Vec<u8>, word: &[u8], first: &[u8], second: &[u8]) -> Res
     out.extend_from_slice(b"\n")
 }
 
-// Puts a line behind the text.
-fn push_line(out: &mut Vec<u8>, line: &ReportLine) -> Result<(), AllocError>
+/// Puts a line behind the text; it fails only where no memory is found.
+pub(crate) fn push_line(out: &mut Vec<u8>, line: &ReportLine) -> Result<(), AllocError>
     ensures { OnOk result (out.new.items ≡ out.old.items ++ comparison_line line.now) }
 {
     match line {
@@ -58,8 +63,8 @@ fn push_lines(out: &mut Vec<u8>, lines: &[ReportLine]) -> Result<(), AllocError>
     Ok(())
 }
 
-// Whether the line tells of something broken.
-fn is_broken(line: &ReportLine) -> bool
+/// Whether the line tells of something broken; it takes no memory.
+pub(crate) fn is_broken(line: &ReportLine) -> bool
     ensures { result ≡ is_broken line.now }
 {
     match line {

@@ -15,19 +15,20 @@ use kernel_text::{kernel_json, write_kernel};
 use repo_model::Suite;
 use std::alloc::{AllocError, Global};
 
-/// The report on the kernel of the index at a path, as text or as JSON.
+/// The report on the kernel of the index at a path, as text or as JSON, at a clause limit, with hold or without.
 pub fn kernel<F: Shelf>(
     alloc: Global,
     shelf: &mut F,
     path: &str,
     json: bool,
     limit: u32,
+    hold: bool,
 ) -> Result<Report, Stop>
     requires { 0 < limit }
-    ensures { Follows F.contents F.faults F.moved F.is_quiet F.start_gives F.read_gives (kernel_course path.now json limit) shelf.old (ending_of result) shelf.new }
+    ensures { Follows F.contents F.faults F.moved F.is_quiet F.start_gives F.read_gives (kernel_course path.now json limit hold) shelf.old (ending_of result) shelf.new }
 {
     let suite = suite_at(alloc, shelf, path)?;
-    kernel_report(alloc, &suite, path, json, limit)
+    kernel_report(alloc, &suite, path, json, limit, hold)
 }
 
 // The report on the kernel of the index of a suite.
@@ -37,13 +38,14 @@ fn kernel_report(
     path: &str,
     json: bool,
     limit: u32,
+    hold: bool,
 ) -> Result<Report, Stop>
     requires limit { 0 < limit }
     requires named { AreNamedPackages suite.now.packages }
-    ensures { Settles (kernel_answer path.now json limit (index_of suite.now)) (ending_of result) }
+    ensures { Settles (kernel_answer path.now json limit hold (index_of suite.now)) (ending_of result) }
 {
     let mut pool = Pool::new(alloc)?;
-    let kernel = kernel_of(alloc, &mut pool, suite, path, limit)?;
+    let kernel = kernel_of(alloc, &mut pool, suite, path, limit, hold)?;
     Ok(Report {
         verdict: Verdict::Done,
         text: printed_kernel(alloc, &pool, suite, &kernel, json)?,

@@ -1,9 +1,12 @@
 //! The laws of reports: the functions do nothing, the contract of each is one law.
 ghost use Rattle.coinst_run.specs.CompareMeaning.{CompareIsMeant};
+ghost use Rattle.coinst_run.specs.ExplainMeaning.{ExplainIsMeant};
+ghost use Rattle.coinst_run.specs.MigrateMeaning.{MigrateIsMeant};
 ghost use Rattle.coinst_run.specs.QueryMeaning.{QueryIsMeant};
 ghost use Rattle.coinst_run.specs.StoredAgrees.{StoredAnswersAsIndex, StoredImagesAreOfIndex};
 ghost use Rattle.coinst_run.specs.StoredMeaning.{StoredQueryIsMeant};
 ghost use Rattle.coinst_run.specs.StoredReading.{TextsAreTold};
+ghost use Rattle.coinst_run.specs.SystemMeaning.{SystemIsMeant};
 
 /// What the report of a query of an index means.
 pub fn query_is_meant()
@@ -23,6 +26,21 @@ pub fn stored_query_is_meant()
 /// What the report of a comparison means.
 pub fn comparison_is_meant()
     ensures { CompareIsMeant }
+{}
+
+/// What the report on a plan means.
+pub fn plan_is_meant()
+    ensures { MigrateIsMeant }
+{}
+
+/// What the report of an explanation means.
+pub fn explanation_is_meant()
+    ensures { ExplainIsMeant }
+{}
+
+/// What the report on an installed system means.
+pub fn system_is_meant()
+    ensures { SystemIsMeant }
 {}
 
 /// In the kernel text of an index, goals name the classes of the packages that they name in the index.

@@ -5,15 +5,27 @@ mod answer;
 mod compare;
 mod compare_text;
 mod deliver;
+mod explain;
+#[cfg(test)]
+mod explain_tests;
+mod explain_text;
 mod kernel;
 mod laws;
 mod lines;
+mod migrate;
+#[cfg(test)]
+mod migrate_tests;
+mod migrate_text;
 mod query;
 mod query_text;
 mod sample;
 mod stages;
 mod status;
 mod stored_query;
+mod system_status;
+#[cfg(test)]
+mod system_tests;
+mod system_text;
 #[cfg(test)]
 mod tests;
 mod top;
@@ -21,8 +33,9 @@ mod views;
 
 pub use coinst_words::{Job, PathText, WordError, read_words};
 pub use laws::{
-    comparison_is_meant, query_is_meant, stored_answers_as_index, stored_images_are_of_index,
-    stored_query_is_meant, texts_are_told,
+    comparison_is_meant, explanation_is_meant, plan_is_meant, query_is_meant,
+    stored_answers_as_index, stored_images_are_of_index, stored_query_is_meant, system_is_meant,
+    texts_are_told,
 };
 pub use status::Status;
 pub use top::run;

@@ -16,7 +16,8 @@ use repo_model::{Goal, Suite};
 use std::alloc::Global;
 use suite_compare::{Answer, DecideError, SuiteView, decide};
 
-/// The report on goals that are asked of the index at a path, within a budget of failed leaves.
+/// The report on goals that are asked of the index at a path, within a budget of failed leaves, at a clause limit, with hold or
+/// without.
 pub fn query<F: Shelf>(
     alloc: Global,
     shelf: &mut F,
@@ -24,13 +25,14 @@ pub fn query<F: Shelf>(
     goals: &[Goal],
     budget: u64,
     limit: u32,
+    hold: bool,
 ) -> Result<Report, Stop>
     requires budget { IsBudget budget }
     requires limit { 0 < limit }
-    ensures { Follows F.contents F.faults F.moved F.is_quiet F.start_gives F.read_gives (query_course path.now goals.now budget limit) shelf.old (ending_of result) shelf.new }
+    ensures { Follows F.contents F.faults F.moved F.is_quiet F.start_gives F.read_gives (query_course path.now goals.now budget limit hold) shelf.old (ending_of result) shelf.new }
 {
     let suite = suite_at(alloc, shelf, path)?;
-    query_report(alloc, suite, path, goals, budget, limit)
+    query_report(alloc, suite, path, goals, budget, limit, hold)
 }
 
 // The report on goals that are asked of a suite.
@@ -41,12 +43,13 @@ fn query_report(
     goals: &[Goal],
     budget: u64,
     limit: u32,
+    hold: bool,
 ) -> Result<Report, Stop>
     requires budget { IsBudget budget }
     requires limit { 0 < limit }
-    ensures { Settles (query_answer path.now goals.now budget limit (index_of suite)) (ending_of result) }
+    ensures { Settles (query_answer path.now goals.now budget limit hold (index_of suite)) (ending_of result) }
 {
-    let view = view_of(alloc, suite, path, limit)?;
+    let view = view_of(alloc, suite, path, limit, hold)?;
     goals_report(alloc, &view, goals, budget)
 }
 
@@ -67,7 +70,7 @@ fn goals_report(
     budget: u64,
 ) -> Result<Report, Stop>
     requires { IsBudget budget }
-    ensures { Settles (answers (goals_answer goals.now budget (index_of view.now.suite))) (ending_of result) }
+    ensures { Settles (answers (goals_answer goals.now budget view.now.limit view.now.kernel.hold (index_of view.now.suite))) (ending_of result) }
 {
     match decide(alloc, view, goals, budget) {
         Ok(

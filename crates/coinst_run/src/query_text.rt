@@ -132,6 +132,15 @@ fn push_version(out: &mut Vec<u8>, version: &Option<Version>) -> Result<(), Allo
     }
 }
 
+/// Puts the word of a goal behind the text; it fails only where no memory is found.
+#[tactic(auto, using(crate::proofs::Texts::appended))]
+pub(crate) fn push_goal_word(out: &mut Vec<u8>, goal: &Goal) -> Result<(), AllocError>
+    ensures { OnOk result (out.new.items ≡ out.old.items ++ goal_word goal.now) }
+{
+    out.extend_from_slice(goal.name.as_slice())?;
+    push_version(out, &goal.version)
+}
+
 /// The line of the goal of a number, counted from 1, that names no package; it fails only where no memory is found.
 #[tactic(auto, using(crate::proofs::Texts::appended), unfolding(crate::specs::QueryText::unknown_line))]
 pub(crate) fn unknown_line(alloc: Global, number: u64, goal: &Goal) -> Result<Vec<u8>, AllocError>
@@ -140,8 +149,7 @@ pub(crate) fn unknown_line(alloc: Global, number: u64, goal: &Goal) -> Result<Ve
     let mut line = Vec::from_slice(alloc, b"goal ")?;
     push_number(&mut line, number)?;
     line.extend_from_slice(b" is unknown: ")?;
-    line.extend_from_slice(goal.name.as_slice())?;
-    push_version(&mut line, &goal.version)?;
+    push_goal_word(&mut line, goal)?;
     line.extend_from_slice(b"\n")?;
     Ok(line)
 }

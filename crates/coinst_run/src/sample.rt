@@ -20,7 +20,7 @@ use row_book::Book;
 use sample_suite::sample_text;
 use std::alloc::Global;
 
-/// The clause limit of the command.
+/// The clause limit of the command, which works without hold.
 const CLAUSE_LIMIT: u32 = 65_536;
 
 /// The report on the size of the kernel of a suite of so many packages; it reads no file.
@@ -47,7 +47,7 @@ fn sample_report(alloc: Global, suite: &Suite) -> Result<Report, Stop>
     ensures { Settles (sample_answer (index_of suite.now)) (ending_of result) }
 {
     let mut pool = Pool::new(alloc)?;
-    let kernel = kernel_of(alloc, &mut pool, suite, "sample", CLAUSE_LIMIT)?;
+    let kernel = kernel_of(alloc, &mut pool, suite, "sample", CLAUSE_LIMIT, false)?;
     Ok(Report {
         verdict: Verdict::Done,
         text: size_report(alloc, &pool, suite, &kernel)?,

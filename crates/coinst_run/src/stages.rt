@@ -1,15 +1,15 @@
 //! The parts of commands: a file read whole, an index checked as it is read, its kernel.
-ghost use Rattle.std.specs.Prelude.{◌≡◌, ◌<◌, ◌≤◌, ℕ, List, length, Ok, IfOk, IfErr, IfSome};
+ghost use Rattle.std.specs.Prelude.{◌≡◌, ◌<◌, ◌≤◌, ℕ, List, length, Option, Ok, IfOk, IfErr, IfSome};
 ghost use Rattle.kernel_text.specs.JsonData.{AreNamedPackages};
 ghost use Rattle.repo_model.specs.Feed.{FeedStandsFor};
-ghost use Rattle.repo_model.specs.FirstFault.{first_fault};
+ghost use Rattle.repo_model.specs.declared.fault.IndexFault.{IndexFault};
 ghost use Rattle.repo_model.specs.Refusals.{is_memory, Refuses};
 ghost use Rattle.coinst_run.specs.Ending.{StopsAt, stop_ending};
 ghost use Rattle.coinst_run.specs.Course.{Course, reads};
 ghost use Rattle.coinst_run.specs.Faults.{fault_cause};
 ghost use Rattle.coinst_run.specs.Feeding.{WasFed};
 ghost use Rattle.coinst_run.specs.Follows.{Follows, ReachesIndex, WasRead};
-ghost use Rattle.coinst_run.specs.Index.{Index, checked_index, index_of, reads_index};
+ghost use Rattle.coinst_run.specs.Index.{Index, by_fault, checked_index, index_of, reads_index};
 ghost use Rattle.coinst_run.specs.Kernel.{FitsSuite, kernel_in, kernel_of};
 ghost use Rattle.coinst_run.specs.Outcome.{answered, too_long, unread};
 
@@ -93,9 +93,9 @@ fn is_memory(fault: IndexFault) -> bool
     matches!(fault, IndexFault::Memory)
 }
 
-// The stop of an index with this fault.
-fn faulty(alloc: Global, path: &str, fault: IndexFault) -> Stop
-    ensures { (text : List ℕ) → Refuses fault (first_fault text) → StopsAt (checked_index path.now text) (stop_ending result) }
+/// The stop of the file at a path with this fault.
+pub(crate) fn faulty(alloc: Global, path: &str, fault: IndexFault) -> Stop
+    ensures { (text : List ℕ) (there : Option IndexFault) → Refuses fault there → StopsAt (by_fault path.now text there) (stop_ending result) }
 {
     if is_memory(fault) {
         return Stop::Memory;
@@ -159,21 +159,22 @@ pub fn suite_at<F: Shelf>(alloc: Global, shelf: &mut F, path: &str) -> Result<Su
     finished_index(alloc, path, feed)
 }
 
-/// The kernel of an index over the pool, or the package that passed the clause limit.
+/// The kernel of an index over the pool at a clause limit, with hold or without, or the package that passed the limit.
 pub fn kernel_of(
     alloc: Global,
     pool: &mut Pool,
     suite: &Suite,
     path: &str,
     limit: u32,
+    hold: bool,
 ) -> Result<Kernel, Stop>
     requires { 0 < limit }
-    ensures kernel { IfOk result (λ kernel. kernel_of path.now limit (index_of suite.now) ≡ Ok (kernel_in pool.new kernel)) }
+    ensures kernel { IfOk result (λ kernel. kernel_of path.now limit hold (index_of suite.now) ≡ Ok (kernel_in pool.new kernel)) }
     ensures fits { IfOk result (FitsSuite pool.new suite.now.packages) }
-    ensures stop { IfErr result (λ stop. StopsAt (kernel_of path.now limit (index_of suite.now)) (stop_ending stop)) }
+    ensures stop { IfErr result (λ stop. StopsAt (kernel_of path.now limit hold (index_of suite.now)) (stop_ending stop)) }
 {
     let book = suite.book(alloc, pool)?;
-    match extract(alloc, pool, &book, limit) {
+    match extract(alloc, pool, &book, limit, hold) {
         Ok(kernel) => Ok(kernel),
         Err(
             RoundError::Limit {

@@ -70,7 +70,7 @@ fn checked_kernel(
     text: &[u8],
 ) -> Result<StoredKernel, Stop>
     requires { length text.now ≤ 1073741824 }
-    ensures kernel { IfOk result (λ stored. checked_kernel path.now text.now ≡ Ok (content (repository_of pool.new stored.book) stored.members)) }
+    ensures kernel { IfOk result (λ stored. checked_kernel path.now text.now ≡ Ok (content stored.format (repository_of pool.new stored.book) stored.members stored.held)) }
     ensures sound { IfOk result (λ stored. Sound pool.new stored.book) }
     ensures repository { IfOk result (λ stored. SoundRepository (repository_of pool.new stored.book)) }
     ensures stop { IfErr result (λ stop. StopsAt (checked_kernel path.now text.now) (stop_ending stop)) }
@@ -108,7 +108,7 @@ fn goals_report(
     requires sound { Sound pool.now stored.now.book }
     requires repository { SoundRepository (repository_of pool.now stored.now.book) }
     requires budget { IsBudget budget }
-    ensures { Settles (answers (stored_answer goals.now budget (content (repository_of pool.now stored.now.book) stored.now.members))) (ending_of result) }
+    ensures { Settles (answers (stored_answer goals.now budget (content stored.now.format (repository_of pool.now stored.now.book) stored.now.members stored.now.held))) (ending_of result) }
 {
     match stored.images(alloc, goals) {
         Ok(needs) => tree_report(alloc, pool, &stored.book, &needs, budget),

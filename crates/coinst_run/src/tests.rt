@@ -16,7 +16,7 @@ const NOWHERE: &str = "kernel J";
 const EMPTY_KERNEL: &str = "coinst-kernel 1\nend 0 0\n";
 
 /// An index in which a package depends on one of two that conflict.
-const CHOICE: &str =
+pub(crate) const CHOICE: &str =
     "Package: a\nVersion: 1\nDepends: b | c\n\nPackage: b\nVersion: 1\nConflicts: c\n\nPackage: c\nVersion: 1\n\n";
 
 /// An index whose first package has two clauses.
@@ -24,8 +24,12 @@ const TWO_CLAUSES: &str =
     "Package: a\nVersion: 1\nDepends: b, c\n\nPackage: b\nVersion: 1\n\nPackage: c\nVersion: 1\n\n";
 
 /// An index whose first package has three clauses once three packages are gone.
-const THREE_CLAUSES: &str =
+pub(crate) const THREE_CLAUSES: &str =
     "Package: a\nVersion: 1\nDepends: m, n\n\nPackage: m\nVersion: 1\nDepends: b, c\n\nPackage: n\nVersion: 1\nDepends: d\n\nPackage: b\nVersion: 1\nConflicts: e\n\nPackage: c\nVersion: 1\nConflicts: e\n\nPackage: d\nVersion: 1\nConflicts: e\n\nPackage: e\nVersion: 1\n\n";
+
+/// The kernel of that index with hold, where no row may have more than two clauses.
+const HELD_KERNEL: &str =
+    "coinst-kernel 2\nclass 0\nmember a 1\nmember m 1\nmember n 1\nneeds 1\nclass 1\nmember b 1\nmember c 1\nmember d 1\nagainst 2\nclass 2\nmember e 1\nend 3 7\n";
 
 /// An index with a provide that is outside the grammar.
 const OUTSIDE: &str = "Package: a\nVersion: 1\nProvides: x (>> 1)\n";
@@ -167,7 +171,7 @@ const FAULTS: [(&str, &str); 20] = [
 
 /// The text of the file `I`, the words, the calls that fail as `Given` has them, and then the status, the report and the
 /// line.
-const ANSWERS: [(&str, &str, (u64, u64, u64), u8, &str, &str); 22] = [
+const ANSWERS: [(&str, &str, (u64, u64, u64), u8, &str, &str); 23] = [
     ("", "", (0, 0, 0), 2, "", NOT_A_COMMAND),
     ("", "kernel", (0, 0, 0), 2, "", NOT_A_COMMAND),
     (
@@ -185,6 +189,14 @@ const ANSWERS: [(&str, &str, (u64, u64, u64), u8, &str, &str); 22] = [
         4,
         "",
         "I: clause limit 2 passed: round 1, gone 3, package a 1, clauses 3\n",
+    ),
+    (
+        THREE_CLAUSES,
+        "kernel --hold --clause-limit 2 I",
+        (0, 0, 0),
+        0,
+        HELD_KERNEL,
+        "",
     ),
     (
         OUTSIDE,
@@ -295,18 +307,18 @@ const BROKEN: [(&str, &[u32]); 4] = [
 /// What one run is given: the text of the file `I`, the words, and the calls of the shelf, of standard
 /// output and of standard error that fail, 0 for none.
 #[derive(Clone, Copy)]
-struct Given<'a> {
-    text: &'a str,
-    words: &'a str,
-    failing: (u64, u64, u64),
+pub(crate) struct Given<'a> {
+    pub(crate) text: &'a str,
+    pub(crate) words: &'a str,
+    pub(crate) failing: (u64, u64, u64),
 }
 
 /// What one run left: the status, and what the two streams took.
 #[derive(Drop)]
-struct Left {
-    code: u8,
-    out: MemSink,
-    err: MemSink,
+pub(crate) struct Left {
+    pub(crate) code: u8,
+    pub(crate) out: MemSink,
+    pub(crate) err: MemSink,
 }
 
 fn strings(alloc: Global, words: &str) -> Result<Vec<String>, AllocError> {
@@ -326,7 +338,7 @@ fn stream(alloc: Global, failing: u64) -> Result<MemSink, AllocError> {
 }
 
 /// What a run over the shelf left, where the numbered writes of standard output and of standard error fail.
-fn left_on(
+pub(crate) fn left_on(
     alloc: Global,
     shelf: &mut MemShelf,
     words: &str,
@@ -367,7 +379,7 @@ fn left_by_comparison(alloc: Global, failing: u64) -> Result<Left, AllocError> {
 
 /// Holds the status, the report and the line of a run against those that are wanted, in small pieces too where no call of the
 /// shelf is to fail by its number.
-fn expect(
+pub(crate) fn expect(
     rt: &(impl Abort + AllocGlobal),
     given: &Given,
     code: u8,

@@ -14,11 +14,14 @@ ghost use Rattle.coinst_words.specs.Jobs.{IsInLimits, job_of};
 use crate::answer::{Report, Stop};
 use crate::compare::compare;
 use crate::deliver::deliver;
+use crate::explain::explain;
 use crate::kernel::kernel;
+use crate::migrate::migrate;
 use crate::query::query;
 use crate::sample::sample;
 use crate::status::Status;
 use crate::stored_query::stored_query;
+use crate::system_status::system_status;
 use byte_flow::{Shelf, Sink};
 use coinst_words::{Job, read_words};
 use std::alloc::Global;
@@ -33,12 +36,14 @@ fn answer_job<F: Shelf>(alloc: Global, shelf: &mut F, job: &Job) -> Result<Repor
             index,
             json,
             clause_limit,
-        } => kernel(alloc, shelf, index.as_str(), *json, *clause_limit),
+            hold,
+        } => kernel(alloc, shelf, index.as_str(), *json, *clause_limit, *hold),
         Job::Query {
             index,
             goals,
             budget,
             clause_limit,
+            hold,
         } => query(
             alloc,
             shelf,
@@ -46,6 +51,7 @@ fn answer_job<F: Shelf>(alloc: Global, shelf: &mut F, job: &Job) -> Result<Repor
             goals.as_slice(),
             *budget,
             *clause_limit,
+            *hold,
         ),
         Job::StoredQuery {
             kernel,
@@ -57,6 +63,7 @@ fn answer_job<F: Shelf>(alloc: Global, shelf: &mut F, job: &Job) -> Result<Repor
             new,
             budget,
             clause_limit,
+            hold,
         } => compare(
             alloc,
             shelf,
@@ -64,6 +71,52 @@ fn answer_job<F: Shelf>(alloc: Global, shelf: &mut F, job: &Job) -> Result<Repor
             new.as_str(),
             *budget,
             *clause_limit,
+            *hold,
+        ),
+        Job::Explain {
+            index,
+            goals,
+            budget,
+            clause_limit,
+            hold,
+        } => explain(
+            alloc,
+            shelf,
+            index.as_str(),
+            goals.as_slice(),
+            *budget,
+            *clause_limit,
+            *hold,
+        ),
+        Job::Status {
+            file,
+            index,
+            budget,
+            clause_limit,
+            hold,
+        } => system_status(
+            alloc,
+            shelf,
+            file.as_str(),
+            index.as_str(),
+            *budget,
+            *clause_limit,
+            *hold,
+        ),
+        Job::Migrate {
+            old,
+            new,
+            budget,
+            clause_limit,
+            hold,
+        } => migrate(
+            alloc,
+            shelf,
+            old.as_str(),
+            new.as_str(),
+            *budget,
+            *clause_limit,
+            *hold,
         ),
         Job::Sample { seed, count } => sample(alloc, *seed, *count),
     }

@@ -1,9 +1,8 @@
-use Rattle.std.proofs.Common.{◌≡◌, ◌+◌, ◌<◌, ◌≤◌, length, Some, sym, ap, subst, ◌∙◌, arith}
+use Rattle.std.proofs.Common.{◌≡◌, Some, subst, arith}
 use Rattle.row_book.specs.Sets.{In, has}
 use Rattle.row_book.proofs.Lists.{In_has}
 use Rattle.suite_compare.specs.Answering.{Serves, unknown_goal}
 use Rattle.coinst_run.specs.Index.{index_of}
-use Rattle.coinst_run.specs.QueryText.{unknown_line}
 use Rattle.coinst_run.proofs.Queries.{unknown_told, unknown_within}
 use Rattle.coinst_run.proofs.query.goals_report.Goals as goal
 
@@ -30,4 +29,4 @@ goal_of_number-requires-clause-within c =
 pub returns-in-Err-Unknown : goal.returns-in-Err-Unknown
 returns-in-Err-Unknown c =
     let told : unknown_goal c.args.view.now.suite.packages c.args.goals.now ≡ Some c.in-Err-Unknown.goal = rw c.in-Err-Unknown.field-0-is at c.in-Err-Unknown.ensures.unknown in
-    unknown_told (index_of c.args.view.now.suite) c.args.goals.now c.args.budget c.in-Err-Unknown.goal c.goal_of_number.result.now c.in_ok-line-in-Err-Unknown.line.items told c.goal_of_number.ensures c.in_ok-line-in-Err-Unknown.ensures
+    unknown_told (index_of c.args.view.now.suite) c.args.goals.now c.args.budget c.args.view.now.limit c.args.view.now.kernel.hold c.in-Err-Unknown.goal c.goal_of_number.result.now c.in_ok-line-in-Err-Unknown.line.items told c.goal_of_number.ensures c.in_ok-line-in-Err-Unknown.ensures

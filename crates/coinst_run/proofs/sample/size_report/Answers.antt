@@ -1,4 +1,4 @@
-use Rattle.std.proofs.Common.{◌∙◌, length}
+use Rattle.std.proofs.Common.{◌∙◌}
 use Rattle.coinst_run.proofs.Sizes.{size_told}
 use Rattle.coinst_run.proofs.sample.size_report.Goals as goal
 

@@ -1,3 +1,4 @@
+use Rattle.repo_model.specs.FirstFault.{first_fault}
 use Rattle.coinst_run.proofs.Kernels.{index_accepted, index_named}
 use Rattle.coinst_run.proofs.stages.checked_index.Goals as goal
 
@@ -7,3 +8,6 @@ returns-in-Ok-clause-suite c =
 
 pub returns-in-Ok-clause-named : goal.returns-in-Ok-clause-named
 returns-in-Ok-clause-named c = index_named c.args.text.now c.in-Ok.suite.packages c.in-Ok.ensures.accepted c.in-Ok.ensures.packages
+
+pub returns-in-Err-clause-stop : goal.returns-in-Err-clause-stop
+returns-in-Err-clause-stop c = c.faulty.ensures c.args.text.now (first_fault c.args.text.now) c.in-Err.ensures.refused

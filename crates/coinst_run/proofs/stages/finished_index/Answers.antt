@@ -1,3 +1,4 @@
+use Rattle.repo_model.specs.FirstFault.{first_fault}
 use Rattle.coinst_run.proofs.Kernels.{index_accepted, index_named}
 use Rattle.coinst_run.proofs.stages.finished_index.Goals as goal
 
@@ -9,4 +10,4 @@ pub returns-in-Ok-clause-named : goal.returns-in-Ok-clause-named
 returns-in-Ok-clause-named c = λ text stands. index_named text c.in-Ok.suite.packages (c.in-Ok.ensures.accepted text stands) (c.in-Ok.ensures.packages text stands)
 
 pub returns-in-Err-clause-stop : goal.returns-in-Err-clause-stop
-returns-in-Err-clause-stop c = λ text stands. c.faulty.ensures text (c.in-Err.ensures.refused text stands)
+returns-in-Err-clause-stop c = λ text stands. c.faulty.ensures text (first_fault text) (c.in-Err.ensures.refused text stands)

@@ -5,10 +5,10 @@ use Rattle.coinst_run.proofs.StoredKernels.{end_other, fault_stops, kernel_check
 use Rattle.coinst_run.proofs.stored_query.checked_kernel.Goals as goal
 
 pub returns-in-Ok-clause-kernel : goal.returns-in-Ok-clause-kernel
-returns-in-Ok-clause-kernel c = kernel_checked c.args.path.now c.args.text.now (repository_of c.read_kernel.new.pool c.in-Ok.stored.book) c.in-Ok.stored.members c.in-Ok.ensures.read
+returns-in-Ok-clause-kernel c = kernel_checked c.args.path.now c.args.text.now c.in-Ok.stored.format (repository_of c.read_kernel.new.pool c.in-Ok.stored.book) c.in-Ok.stored.members c.in-Ok.stored.held c.in-Ok.ensures.read
 
 pub returns-in-Ok-clause-repository : goal.returns-in-Ok-clause-repository
-returns-in-Ok-clause-repository c = kernel_sound c.args.text.now (repository_of c.read_kernel.new.pool c.in-Ok.stored.book) c.in-Ok.stored.members c.in-Ok.ensures.read
+returns-in-Ok-clause-repository c = kernel_sound c.args.text.now c.in-Ok.stored.format (repository_of c.read_kernel.new.pool c.in-Ok.stored.book) c.in-Ok.stored.members c.in-Ok.stored.held c.in-Ok.ensures.read
 
 pub returns-in-Err-Line-clause-stop : goal.returns-in-Err-Line-clause-stop
 returns-in-Err-Line-clause-stop c =

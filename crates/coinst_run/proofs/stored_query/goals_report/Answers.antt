@@ -1,4 +1,4 @@
-use Rattle.std.proofs.Common.{◌≡◌, ◌+◌, ◌<◌, ◌≤◌, length, Some, sym, subst, ◌∙◌, arith}
+use Rattle.std.proofs.Common.{◌≡◌, length, Some, sym, subst, arith}
 use Rattle.std.proofs.lemmas.List.{length-map}
 use Rattle.clause_pool.specs.Interned.{row_at}
 use Rattle.kernel_text.specs.Images.{is_unknown, unknown_goal}
@@ -17,7 +17,7 @@ pub returns-in-Ok : goal.returns-in-Ok
 returns-in-Ok c =
     let R = repository_of c.args.pool.now c.args.stored.now.book in
     subst (λ course. Settles course (ending_of c.tree_report.result))
-    (known_told R c.args.stored.now.members c.args.goals.now c.args.budget (length c.args.stored.now.book.rows) c.in-Ok.needs c.in-Ok.ensures.known
+    (known_told c.args.stored.now.format R c.args.stored.now.members c.args.stored.now.held c.args.goals.now c.args.budget (length c.args.stored.now.book.rows) c.in-Ok.needs c.in-Ok.ensures.known
     (sym (length-map c.args.stored.now.book.rows (row_at c.args.pool.now))) c.in-Ok.ensures.images) c.tree_report.ensures
 
 -- the number of the first unknown goal is that of a goal
@@ -36,5 +36,5 @@ goal_of_number-requires-clause-within c =
 pub returns-in_ok-line-in-Err-Unknown : goal.returns-in_ok-line-in-Err-Unknown
 returns-in_ok-line-in-Err-Unknown c =
     let told : unknown_goal c.args.stored.now.members c.args.goals.now ≡ Some c.in-Err-Unknown.goal = rw c.in-Err-Unknown.field-0-is at c.in-Err-Unknown.ensures.unknown in
-    unknown_told (repository_of c.args.pool.now c.args.stored.now.book) c.args.stored.now.members c.args.goals.now c.args.budget c.in-Err-Unknown.goal c.goal_of_number.result.now c.in_ok-line-in-Err-Unknown.line.items told
+    unknown_told c.args.stored.now.format (repository_of c.args.pool.now c.args.stored.now.book) c.args.stored.now.members c.args.stored.now.held c.args.goals.now c.args.budget c.in-Err-Unknown.goal c.goal_of_number.result.now c.in_ok-line-in-Err-Unknown.line.items told
     c.goal_of_number.ensures c.in_ok-line-in-Err-Unknown.ensures

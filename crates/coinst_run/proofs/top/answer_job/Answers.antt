@@ -1,6 +1,4 @@
-use Rattle.coinst_run.specs.Follows.{without_memory}
 use Rattle.coinst_run.specs.Ending.{ending_of}
-use Rattle.coinst_run.specs.Outcome.{course_of}
 use Rattle.coinst_run.specs.Sample.{sample_course}
 use Rattle.coinst_run.proofs.Follows.{settled_follows}
 use Rattle.coinst_run.proofs.top.answer_job.Goals as goal

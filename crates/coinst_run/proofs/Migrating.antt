@@ -1,0 +1,61 @@
+-- From what the calls of a plan answer to its course.
+use Rattle.std.proofs.Common.{◌≡◌, ℕ, Bool, List, Option, Some, None, Result, Ok, Err, refl, sym, ap, ap₂, ◌∙◌}
+use Rattle.migrate_plan.specs.Plan.{Settings, plan}
+use Rattle.migrate_plan.specs.Refusals.{plan_refusal}
+use Rattle.migrate_plan.specs.declared.plan.PlanLine.{PlanLine}
+use Rattle.migrate_plan.specs.declared.refusals.PlanError.{PlanError}
+use Rattle.relation_fields.specs.declared.packages.Home.{Home}
+use Rattle.relation_fields.specs.declared.packages.PackageFacts.{PackageFacts}
+use Rattle.repo_model.specs.Feeding.{IsSuiteOf}
+use Rattle.repo_model.specs.FirstFault.{first_fault}
+use Rattle.repo_model.specs.declared.fault.IndexFault.{IndexFault}
+use Rattle.coinst_run.specs.declared.answer.Verdict.{Verdict}
+use Rattle.coinst_run.specs.Answer.{Answer, reported}
+use Rattle.coinst_run.specs.Course.{answers, then_on}
+use Rattle.coinst_run.specs.Ending.{StopsAt}
+use Rattle.coinst_run.specs.Index.{Index, by_fault, checked_index, home_in, index_in, packages_in}
+use Rattle.coinst_run.specs.IndexKernel.{ClassedKernel, index_kernel}
+use Rattle.coinst_run.specs.Kernel.{kernel_of}
+use Rattle.coinst_run.specs.Migrate.{by_refusal, kernel_at, kernel_behind, lines_answer, plan_answer, refusal_of}
+use Rattle.coinst_run.specs.MigrateText.{plan_text, plan_verdict}
+use Rattle.coinst_run.specs.Outcome.{Outcome, answered, not_a_command, unread}
+
+-- an index that was checked is the index of its text, which has no fault
+checked_by : (path text : List ℕ) (index : Index) (fault : Option IndexFault) → first_fault text ≡ fault → by_fault path text fault ≡ Ok index → (first_fault text ≡ None) × (index_in text ≡ index)
+checked_by path text index (Some fault) is e = absurd cc
+checked_by path text index None is e = (is, cc)
+
+pub index_checked : (path text : List ℕ) (index : Index) → checked_index path text ≡ Ok index → (first_fault text ≡ None) × (index_in text ≡ index)
+index_checked path text index e = checked_by path text index (first_fault text) refl e
+
+pub suite_checked : (path text : List ℕ) (home : Home) (packages : List PackageFacts) → (let index : Index = record { home = home; packages = packages } in checked_index path text ≡ Ok index) →
+    IsSuiteOf text packages home.name
+unfolding home_in packages_in
+suite_checked path text home packages e =
+    let w = index_checked path text (record { home = home; packages = packages }) e in
+    record { fine = w.0; facts = sym (ap (λ (i : Index). i.packages) w.1); common = sym (ap (λ (i : Index). i.home.name) w.1) }
+
+-- and its kernel is that of its text
+pub kernel_checked : (path text : List ℕ) (limit : ℕ) (hold : Bool) (index : Index) → checked_index path text ≡ Ok index → kernel_of path limit hold index ≡ Ok (index_kernel limit hold index.home index.packages) →
+    kernel_at path limit hold text ≡ Ok (index_kernel limit hold (home_in text) (packages_in text))
+kernel_checked path text limit hold index e k =
+    ap (kernel_behind path limit hold) e ∙ k
+    ∙ ap (λ (i : Index). let made : Result ClassedKernel Answer = Ok (index_kernel limit hold i.home i.packages) in made) (sym (index_checked path text index e).1)
+
+-- where it has a fault no kernel is asked for
+pub stops_before : (path text : List ℕ) (limit : ℕ) (hold : Bool) (ending : Option Outcome) → StopsAt (checked_index path text) ending → StopsAt (kernel_at path limit hold text) ending
+stops_before path text limit hold None h = tt
+stops_before path text limit hold (Some (answered answer)) h = ap (kernel_behind path limit hold) h
+stops_before path text limit hold (Some (unread file)) h = absurd h
+stops_before path text limit hold (Some not_a_command) h = absurd h
+
+-- a plan that is told
+pub plan_told : (old new : List ℕ) (settings : Settings) (first second : List ℕ) (lines : List PlanLine) (verdict : Verdict) (text : List ℕ) → plan_refusal first second ≡ None → lines ≡ plan settings first second
+    → verdict ≡ plan_verdict lines → text ≡ plan_text lines → plan_answer old new settings first second ≡ answers (reported verdict text)
+plan_told old new settings first second lines verdict text free are whole reads =
+    ap (λ there. then_on (by_refusal old new (plan settings first second) there) (λ shown. answers (lines_answer shown))) free
+    ∙ ap (λ shown. answers (lines_answer shown)) (sym are) ∙ ap₂ (λ v t. answers (reported v t)) (sym whole) (sym reads)
+
+-- and one that is refused
+pub plan_refused : (old new : List ℕ) (lines : List PlanLine) (there : Option PlanError) (error : PlanError) (answer : Answer) → there ≡ Some error → refusal_of old new error ≡ answer → by_refusal old new lines there ≡ Err answer
+plan_refused old new lines there error answer is said = ap (by_refusal old new lines) is ∙ ap Err said

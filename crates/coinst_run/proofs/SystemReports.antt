@@ -1,0 +1,96 @@
+-- The report on an installed system, by what the call below answers.
+use Rattle.std.proofs.Common.{◌≡◌, ℕ, ◌<◌, Bool, true, false, List, length, map, Option, Some, None, inl, inr, sym, ap, ap₂, ◌∙◌, arith}
+use Rattle.std.proofs.Math.ListN.{get_or-eq_default}
+use Rattle.std.proofs.lemmas.Bool.{both_ways, cases_lt}
+use Rattle.std.proofs.lemmas.List.{length-map}
+use Rattle.relation_fields.specs.declared.packages.Home.{Home}
+use Rattle.relation_fields.specs.declared.packages.PackageFacts.{PackageFacts}
+use Rattle.repo_model.proofs.Packages.{length_clauses}
+use Rattle.repo_model.specs.Repository.{suite_repository}
+use Rattle.repo_model.specs.declared.fault.IndexFault.{IndexFault}
+use Rattle.row_book.specs.Sets.{Is}
+use Rattle.row_book.specs.Sound.{OfPackages}
+use Rattle.suite_compare.specs.Asking.{verdict_in}
+use Rattle.status_check.specs.Own.{foreign_count, own_home, own_packages, status_fault}
+use Rattle.status_check.specs.Report.{all_of, had_goals, line_for, state_of, IsStateOf}
+use Rattle.status_check.specs.declared.report.HaveLine.{HaveLine}
+use Rattle.status_check.specs.declared.report.OwnState.{OwnState}
+use Rattle.status_check.specs.declared.report.OwnState.TheVariants.{Healthy, Unhit, Clash}
+use Rattle.status_check.specs.declared.report.StatusReport.{StatusReport}
+use Rattle.status_check.specs.declared.report.SuiteState.{SuiteState}
+use Rattle.coinst_run.specs.declared.answer.Verdict.{Verdict}
+use Rattle.coinst_run.specs.Answer.{reported}
+use Rattle.coinst_run.specs.Course.{answers, then_on}
+use Rattle.coinst_run.specs.Ending.{StopsAt}
+use Rattle.coinst_run.specs.Index.{Index, by_fault}
+use Rattle.coinst_run.specs.Outcome.{Outcome, answered, unread, not_a_command}
+use Rattle.coinst_run.specs.SystemStatus.{set_state, system_answer, system_by_fault, system_in, system_report, told_answer}
+use Rattle.coinst_run.specs.SystemText.{system_text, system_verdict, AreOfLines}
+use Rattle.coinst_run.proofs.Kernels.{suite_sound}
+use Rattle.coinst_run.proofs.SystemStates.{one_state, state_there}
+
+-- all packages are packages
+among_all : (packages : List PackageFacts) (n : ℕ) → Is (all_of packages) n → n < length packages
+among_all packages n i = elim (cases_lt n (length packages)) [
+  | inl l ↦ l
+  | inr past ↦
+      let long : length (map (λ facts. true) packages) ≡ length packages = length-map packages (λ facts. true) in
+      absurd (both_ways (all_of packages n) (get_or-eq_default (map (λ facts. true) packages) false (omega (arith, long, past))) i)
+]
+
+all_within : (home : Home) (packages : List PackageFacts) → OfPackages (suite_repository home packages) (all_of packages)
+all_within home packages n i = let l = among_all packages n i in omega (arith, l, length_clauses home packages)
+
+-- the state of all packages of a suite, as a function
+pub own_there : (home : Home) (packages : List PackageFacts) → IsStateOf (suite_repository home packages) (all_of packages) (set_state (suite_repository home packages) (all_of packages))
+own_there home packages = state_there (suite_repository home packages) (all_of packages) (suite_sound home packages) (all_within home packages)
+
+own_is : (home : Home) (packages : List PackageFacts) (state : OwnState) → IsStateOf (suite_repository home packages) (all_of packages) state → state ≡ set_state (suite_repository home packages) (all_of packages)
+own_is home packages state is = one_state (suite_repository home packages) (all_of packages) state (set_state (suite_repository home packages) (all_of packages)) is (own_there home packages)
+
+-- the packages that a state names have lines
+pub own_of_lines : (home : Home) (index packages : List PackageFacts) (lines : List HaveLine) (state : OwnState) → lines ≡ map (line_for index) packages → IsStateOf (suite_repository home packages) (all_of packages) state → AreOfLines lines state
+own_of_lines home index packages lines state are is = by state is
+  where
+    inside : (n : ℕ) → Is (all_of packages) n → n < length lines
+    inside n i =
+        let l = among_all packages n i in
+        let long : length lines ≡ length packages = ap length are ∙ length-map packages (line_for index) in
+        omega (arith, l, long)
+
+    by : (state : OwnState) → IsStateOf (suite_repository home packages) (all_of packages) state → AreOfLines lines state
+    by Healthy is = tt
+    by (Unhit n) is = inside n is.1.chosen
+    by (Clash m n) is = (inside m is.clash.clash.first, inside n is.clash.clash.second)
+
+-- a report from its parts
+report_made : (report : StatusReport) (lines : List HaveLine) (foreign : ℕ) (own : OwnState) (verdict : SuiteState) → report.lines ≡ lines → report.foreign ≡ foreign → report.own ≡ own → report.verdict ≡ verdict
+    → report ≡ (let made : StatusReport = record { lines = lines; foreign = foreign; own = own; verdict = verdict } in made)
+report_made report lines foreign own verdict a b c d =
+    let made : List HaveLine → ℕ → OwnState → SuiteState → StatusReport = λ l f o v. record { lines = l; foreign = f; own = o; verdict = v } in
+    ap₂ (λ l f. made l f report.own report.verdict) a b ∙ ap₂ (made lines foreign) c d
+
+-- what the call answers is told
+pub system_told : (path : List ℕ) (budget limit : ℕ) (hold : Bool) (index : Index) (text : List ℕ) (report : StatusReport) (verdict : Verdict) (printed : List ℕ) → status_fault index.home text ≡ None
+    → report.lines ≡ map (line_for index.packages) (own_packages index.home text) → report.foreign ≡ foreign_count index.home text
+    → IsStateOf (suite_repository (own_home index.home text) (own_packages index.home text)) (all_of (own_packages index.home text)) report.own
+    → report.verdict ≡ state_of budget (verdict_in limit hold index.home index.packages budget (had_goals index.packages (own_packages index.home text)))
+    → verdict ≡ system_verdict report.own report.verdict → printed ≡ system_text budget report
+    → system_answer path budget limit hold index text ≡ answers (reported verdict printed)
+unfolding system_report
+system_told path budget limit hold index text report verdict printed accepted lines foreign own state whole made =
+    let home = own_home index.home text in
+    let packages = own_packages index.home text in
+    let same : report ≡ system_report budget limit hold index (system_in index.home text) =
+    report_made report (map (line_for index.packages) packages) (foreign_count index.home text) (set_state (suite_repository home packages) (all_of packages))
+    (state_of budget (verdict_in limit hold index.home index.packages budget (had_goals index.packages packages))) lines foreign (own_is home packages report.own own) state in
+    ap (λ fault. then_on (system_by_fault path index.home text fault) (λ system. answers (told_answer budget (system_report budget limit hold index system)))) accepted
+    ∙ ap (λ r. answers (told_answer budget r)) (sym same) ∙ ap₂ (λ v p. answers (reported v p)) (sym whole) (sym made)
+
+-- a fault that is refused for an index is refused for a status file
+pub system_refused : (path : List ℕ) (home : Home) (text : List ℕ) (there : Option IndexFault) (ending : Option Outcome) → StopsAt (by_fault path text there) ending → StopsAt (system_by_fault path home text there) ending
+system_refused path home text there None h = tt
+system_refused path home text None (Some (answered answer)) h = absurd cc
+system_refused path home text (Some fault) (Some (answered answer)) h = cc
+system_refused path home text there (Some (unread file)) h = absurd h
+system_refused path home text there (Some not_a_command) h = absurd h

@@ -1,0 +1,51 @@
+-- The command that tells why one package for each goal cannot be installed together.
+use Rattle.std.specs.Prelude.{⊤, ℕ, ◌<◌, Bool, List, Option, Some, None, IfSome}
+use Rattle.explain_core.specs.Explaining.{explanation_of}
+use Rattle.explain_core.specs.Picking.{ArePlacesFrom1}
+use Rattle.explain_core.specs.declared.explanation.Clash.{Clash}
+use Rattle.explain_core.specs.declared.explanation.Explanation.{Explanation}
+use Rattle.explain_core.specs.declared.explanation.Explanation.TheVariants.{Yes, Spent, Core}
+use Rattle.relation_fields.specs.declared.packages.PackageFacts.{PackageFacts}
+use Rattle.repo_model.specs.declared.goals.Goal.{Goal}
+use Rattle.row_book.specs.Sets.{In}
+use Rattle.suite_compare.specs.Answering.{unknown_goal}
+use Rattle.coinst_run.specs.declared.answer.Cause.TheVariants.{UnknownGoal}
+use Rattle.coinst_run.specs.declared.answer.Verdict.TheVariants.{Done, Negative, Undecided}
+use Rattle.coinst_run.specs.Answer.{Answer, reported, refused}
+use Rattle.coinst_run.specs.Course.{Course, answers, then_on}
+use Rattle.coinst_run.specs.ExplainText.{core_text, yes_line}
+use Rattle.coinst_run.specs.Index.{Index, reads_index}
+use Rattle.coinst_run.specs.Kernel.{kernel_of}
+use Rattle.coinst_run.specs.Query.{goal_of_number}
+use Rattle.coinst_run.specs.QueryText.{undecided_text, unknown_line}
+
+-- the report on an explanation
+abbrev pub explanation_answer : List PackageFacts → List Goal → ℕ → Explanation → Answer
+explanation_answer packages goals budget Yes = reported Done yes_line
+explanation_answer packages goals budget (Spent failed) = reported Undecided (undecided_text budget)
+explanation_answer packages goals budget (Core marks clashes) = reported Negative (core_text packages goals marks clashes)
+
+-- goals by the first that names no package, where there is one
+abbrev pub explained_by_unknown : List Goal → ℕ → ℕ → Bool → Index → Option ℕ → Answer
+explained_by_unknown goals budget limit hold index (Some number) = refused UnknownGoal (unknown_line number (goal_of_number goals number))
+explained_by_unknown goals budget limit hold index None = explanation_answer index.packages goals budget (explanation_of limit hold index.home index.packages budget goals)
+
+-- what is told of goals, at a clause limit, with hold or without
+abbrev pub goals_explained : List Goal → ℕ → ℕ → Bool → Index → Answer
+goals_explained goals budget limit hold index = explained_by_unknown goals budget limit hold index (unknown_goal index.packages goals)
+
+abbrev pub explain_answer : List ℕ → List Goal → ℕ → ℕ → Bool → Index → Course
+explain_answer path goals budget limit hold index = then_on (kernel_of path limit hold index) (λ kernel. answers (goals_explained goals budget limit hold index))
+
+abbrev pub explain_course : List ℕ → List Goal → ℕ → ℕ → Bool → Course
+explain_course path goals budget limit hold = reads_index path (explain_answer path goals budget limit hold)
+
+-- the conflicts are of two of so many packages
+abbrev pub AreClashesOf : ℕ → List Clash → Type 0
+AreClashesOf packages clashes = (c : Clash) → In c clashes → (c.first < packages) × (c.second < packages)
+
+-- an explanation names goals and packages of so many
+abbrev pub IsTellable : ℕ → ℕ → Explanation → Type 0
+IsTellable packages goals Yes = ⊤
+IsTellable packages goals (Spent failed) = ⊤
+IsTellable packages goals (Core marks clashes) = ArePlacesFrom1 goals marks × IfSome clashes (AreClashesOf packages)

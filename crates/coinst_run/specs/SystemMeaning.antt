@@ -1,0 +1,39 @@
+-- What the report on an installed system means for the status file and the index.
+use Rattle.std.specs.Prelude.{◌≡◌, ◌↔◌, ℕ, Bool, List, map, Some, None}
+use Rattle.byte_flow.specs.Flow.{Files}
+use Rattle.repo_model.specs.FirstFault.{first_fault}
+use Rattle.repo_model.specs.Repository.{suite_repository}
+use Rattle.repo_model.specs.Stanzas.{HealthyStanzas}
+use Rattle.suite_compare.specs.Asking.{verdict_in}
+use Rattle.status_check.specs.Own.{foreign_count, own_home, own_packages, status_fault}
+use Rattle.status_check.specs.Report.{all_of, had_goals, line_for, state_of, IsJudged, IsStateOf}
+use Rattle.status_check.specs.declared.report.OwnState.TheVariants.{Healthy}
+use Rattle.status_check.specs.declared.report.StatusReport.{StatusReport}
+use Rattle.coinst_run.specs.declared.answer.Verdict.{Verdict}
+use Rattle.coinst_run.specs.Answer.{reported}
+use Rattle.coinst_run.specs.Index.{home_in, packages_in}
+use Rattle.coinst_run.specs.Outcome.{answered, outcome_over}
+use Rattle.coinst_run.specs.SystemStatus.{status_course}
+use Rattle.coinst_run.specs.SystemText.{system_text, system_verdict}
+
+-- The suite is an index without a fault, and the status file has none against its home. The printed bytes tell a report: for
+-- each own package whether the index has it, how many packages are foreign, whether the own packages stand together, and whether
+-- those that the index has can be installed from it together. The own packages are told to be healthy exactly where they are,
+-- judged on their stanzas. After a yes some healthy set of the index has all that it has, and after a no none does.
+pub record SystemMeans (suite file : List ℕ) (budget limit : ℕ) (hold : Bool) (verdict : Verdict) (printed : List ℕ) : Type 0 where
+  pub accepted : first_fault suite ≡ None
+  pub faultless : status_fault (home_in suite) file ≡ None
+  pub report : StatusReport
+  pub has : report.lines ≡ map (line_for (packages_in suite)) (own_packages (home_in suite) file)
+  pub foreign : report.foreign ≡ foreign_count (home_in suite) file
+  pub own : IsStateOf (suite_repository (own_home (home_in suite) file) (own_packages (home_in suite) file)) (all_of (own_packages (home_in suite) file)) report.own
+  pub healthy : (report.own ≡ Healthy) ↔ HealthyStanzas (own_home (home_in suite) file) (own_packages (home_in suite) file) (all_of (own_packages (home_in suite) file))
+  pub decided : report.verdict ≡ state_of budget (verdict_in limit hold (home_in suite) (packages_in suite) budget (had_goals (packages_in suite) (own_packages (home_in suite) file)))
+  pub judged : IsJudged (home_in suite) (packages_in suite) (had_goals (packages_in suite) (own_packages (home_in suite) file)) report.verdict
+  pub reads : printed ≡ system_text budget report
+  pub whole : verdict ≡ system_verdict report.own report.verdict
+
+-- what is reported over files means this for the files at the two paths
+abbrev pub SystemIsMeant : Type 0
+SystemIsMeant = (file index : List ℕ) (budget limit : ℕ) (hold : Bool) (files : Files) (verdict : Verdict) (printed : List ℕ) → outcome_over files (status_course file index budget limit hold) ≡ answered (reported verdict printed) →
+    (suite text : List ℕ) × (files index ≡ Some suite) × (files file ≡ Some text) × SystemMeans suite text budget limit hold verdict printed

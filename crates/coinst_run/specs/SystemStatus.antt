@@ -1,0 +1,90 @@
+-- The command that holds an installed system against an index.
+use Rattle.std.specs.Prelude.{ℕ, Bool, not, ◌&&◌, List, find, map, Option, Some, None, Ok, Err}
+use Rattle.std.specs.List.{list_all, list_any}
+use Rattle.relation_fields.specs.declared.packages.Home.{Home}
+use Rattle.relation_fields.specs.declared.packages.PackageFacts.{PackageFacts}
+use Rattle.repo_model.specs.declared.fault.IndexFault.{IndexFault}
+use Rattle.repo_model.specs.Repository.{suite_repository}
+use Rattle.row_book.specs.Flattening.{packages}
+use Rattle.row_book.specs.Repository.{Repository, clauses_of}
+use Rattle.row_book.specs.Sets.{NumSet}
+use Rattle.row_book.specs.Thinning.{conflicting_pairs}
+use Rattle.suite_compare.specs.Asking.{verdict_in}
+use Rattle.status_check.specs.Own.{foreign_count, own_home, own_packages, status_fault}
+use Rattle.status_check.specs.Report.{all_of, had_goals, line_for, state_of}
+use Rattle.status_check.specs.declared.report.OwnState.{OwnState}
+use Rattle.status_check.specs.declared.report.OwnState.TheVariants.{Healthy, Unhit, Clash}
+use Rattle.status_check.specs.declared.report.StatusReport.{StatusReport}
+use Rattle.coinst_run.specs.Answer.{Answer, Stage, reported, refused}
+use Rattle.coinst_run.specs.Course.{Course, answers, reads, then_on}
+use Rattle.coinst_run.specs.Faults.{fault_cause}
+use Rattle.coinst_run.specs.Index.{Index, reads_index}
+use Rattle.coinst_run.specs.Kernel.{kernel_of}
+use Rattle.coinst_run.specs.Lines.{fault_line}
+use Rattle.coinst_run.specs.SystemText.{system_text, system_verdict}
+
+-- the package is in the set, and has a clause that the set does not hit
+abbrev pub is_unserved : Repository → NumSet → ℕ → Bool
+is_unserved R I n = I n && not (list_all (list_any I) (clauses_of R n))
+
+-- both are in the set
+abbrev pub are_both : NumSet → ℕ × ℕ → Bool
+are_both I pair = I pair.0 && I pair.1
+
+abbrev pub by_clash : Option (ℕ × ℕ) → OwnState
+by_clash None = Healthy
+by_clash (Some pair) = Clash pair.0 pair.1
+
+abbrev pub by_unserved : Repository → NumSet → Option ℕ → OwnState
+by_unserved R I (Some n) = Unhit n
+by_unserved R I None = by_clash (find (are_both I) (conflicting_pairs R))
+
+-- the state of a set: its least package with a clause that it does not hit; where there is none, its first two packages that
+-- conflict; and where there are none either, it is healthy
+unfoldable pub set_state : Repository → NumSet → OwnState
+set_state R I = by_unserved R I (find (is_unserved R I) (packages R))
+
+-- an installed system: its own packages, those of no other architecture than `all` and the home of the index, with their home,
+-- and how many others there are
+pub record System : Type 0 where
+  pub home : Home
+  pub packages : List PackageFacts
+  pub foreign : ℕ
+
+-- what a status file says of it
+abbrev pub system_in : Home → List ℕ → System
+system_in home text = record { home = own_home home text; packages = own_packages home text; foreign = foreign_count home text }
+
+-- a status file by its first fault, where there is one
+abbrev pub system_by_fault : List ℕ → Home → List ℕ → Option IndexFault → Stage System
+system_by_fault path home text None = Ok (system_in home text)
+system_by_fault path home text (Some fault) = Err (refused (fault_cause fault) (fault_line path fault))
+
+abbrev pub checked_system : List ℕ → Home → List ℕ → Stage System
+checked_system path home text = system_by_fault path home text (status_fault home text)
+
+-- what is told of a system against an index, at a clause limit, with hold or without
+unfoldable pub system_report : ℕ → ℕ → Bool → Index → System → StatusReport
+system_report budget limit hold index system = record {
+  lines = map (line_for index.packages) system.packages;
+  foreign = system.foreign;
+  own = set_state (suite_repository system.home system.packages) (all_of system.packages);
+  verdict = state_of budget (verdict_in limit hold index.home index.packages budget (had_goals index.packages system.packages));
+}
+
+abbrev pub told_answer : ℕ → StatusReport → Answer
+told_answer budget report = reported (system_verdict report.own report.verdict) (system_text budget report)
+
+-- what is answered to the text of a status file
+abbrev pub system_answer : List ℕ → ℕ → ℕ → Bool → Index → List ℕ → Course
+system_answer path budget limit hold index text = then_on (checked_system path index.home text) (λ system. answers (told_answer budget (system_report budget limit hold index system)))
+
+abbrev pub system_course : List ℕ → ℕ → ℕ → Bool → Index → Course
+system_course path budget limit hold index = reads path (system_answer path budget limit hold index)
+
+-- behind the index and its kernel, the status file
+abbrev pub behind_index : List ℕ → List ℕ → ℕ → ℕ → Bool → Index → Course
+behind_index path index_path budget limit hold index = then_on (kernel_of index_path limit hold index) (λ kernel. system_course path budget limit hold index)
+
+abbrev pub status_course : List ℕ → List ℕ → ℕ → ℕ → Bool → Course
+status_course file index budget limit hold = reads_index index (behind_index file index budget limit hold)

@@ -1,0 +1,155 @@
+//! The report of an explanation, made whole in memory.
+ghost use Rattle.std.specs.Prelude.{◌≡◌, ◌++◌, IfOk, IfSome, OnOk, length};
+ghost use Rattle.std.specs.List.{flat_map};
+ghost use Rattle.explain_core.specs.Picking.{ArePlacesFrom1};
+ghost use Rattle.coinst_run.specs.Explain.{AreClashesOf};
+ghost use Rattle.coinst_run.specs.ExplainText.{clash_count, clash_line, clash_text, clashes_text, core_text, end_text, goal_line, goal_text, package_text, yes_line};
+
+use crate::lines::push_number;
+use crate::query::goal_of_number;
+use crate::query_text::push_goal_word;
+use explain_core::{Clash, ClashList, Mark};
+use relation_fields::PackageFacts;
+use repo_model::Goal;
+use std::alloc::{AllocError, Global};
+
+/// Yes; it fails only where no memory is found.
+#[tactic(auto, unfolding(crate::specs::ExplainText::yes_line))]
+pub(crate) fn yes_line(alloc: Global) -> Result<Vec<u8>, AllocError>
+    ensures { IfOk result (λ text. text.items ≡ yes_line) }
+{
+    Vec::from_slice(alloc, b"yes\n")
+}
+
+// Puts the line of a goal that matters, or may matter, behind the text.
+#[tactic(auto, using(crate::proofs::Texts::appended))]
+fn push_goal(out: &mut Vec<u8>, goal: &Goal, unsettled: bool) -> Result<(), AllocError>
+    ensures { OnOk result (out.new.items ≡ out.old.items ++ goal_text unsettled goal.now) }
+{
+    if unsettled {
+        out.extend_from_slice(b"goal-open ")?;
+    } else {
+        out.extend_from_slice(b"goal ")?;
+    }
+    push_goal_word(out, goal)?;
+    out.extend_from_slice(b"\n")
+}
+
+// Puts the lines of the goals that are marked behind the text.
+fn push_goals(out: &mut Vec<u8>, goals: &[Goal], marks: &[Mark]) -> Result<(), AllocError>
+    requires { ArePlacesFrom1 (length goals.now) marks.now }
+    ensures { OnOk result (out.new.items ≡ out.old.items ++ flat_map (goal_line goals.now) marks.now) }
+{
+    for mark in marks {
+        push_goal(out, goal_of_number(goals, mark.goal), mark.unsettled)?;
+    }
+    Ok(())
+}
+
+// Puts the name and the version of a package behind the text.
+#[tactic(auto, using(crate::proofs::Texts::appended))]
+fn push_package(out: &mut Vec<u8>, facts: &PackageFacts) -> Result<(), AllocError>
+    ensures { OnOk result (out.new.items ≡ out.old.items ++ package_text facts.now) }
+{
+    out.extend_from_slice(facts.name.as_slice())?;
+    out.extend_from_slice(b" ")?;
+    out.extend_from_slice(facts.version.text())
+}
+
+// Puts the line of two packages whose conflict matters, or may matter, behind the text.
+#[tactic(auto, using(crate::proofs::Texts::appended))]
+fn push_clash(
+    out: &mut Vec<u8>,
+    first: &PackageFacts,
+    second: &PackageFacts,
+    unsettled: bool,
+) -> Result<(), AllocError>
+    ensures { OnOk result (out.new.items ≡ out.old.items ++ clash_text unsettled first.now second.now) }
+{
+    if unsettled {
+        out.extend_from_slice(b"clash-open ")?;
+    } else {
+        out.extend_from_slice(b"clash ")?;
+    }
+    push_package(out, first)?;
+    out.extend_from_slice(b" ")?;
+    push_package(out, second)?;
+    out.extend_from_slice(b"\n")
+}
+
+// Puts the lines of conflicts behind the text.
+fn push_clashes(
+    out: &mut Vec<u8>,
+    packages: &[PackageFacts],
+    clashes: &[Clash],
+) -> Result<(), AllocError>
+    requires { AreClashesOf (length packages.now) clashes.now }
+    ensures { OnOk result (out.new.items ≡ out.old.items ++ flat_map (clash_line packages.now) clashes.now) }
+{
+    for clash in clashes {
+        push_clash(
+            out,
+            &packages[clash.first as usize],
+            &packages[clash.second as usize],
+            clash.unsettled,
+        )?;
+    }
+    Ok(())
+}
+
+// Puts the lines of conflicts behind the text, or the line that they are open as a whole.
+fn push_reasons(
+    out: &mut Vec<u8>,
+    packages: &[PackageFacts],
+    clashes: &Option<ClashList>,
+) -> Result<(), AllocError>
+    requires { IfSome clashes.now (AreClashesOf (length packages.now)) }
+    ensures { OnOk result (out.new.items ≡ out.old.items ++ clashes_text packages.now clashes.now) }
+{
+    match clashes {
+        None => out.extend_from_slice(b"clashes-open\n"),
+        Some(clashes) => push_clashes(out, packages, clashes.as_slice()),
+    }
+}
+
+// How many conflicts are told; none where they are open as a whole.
+fn clash_count(clashes: &Option<ClashList>) -> usize
+    ensures { result ≡ clash_count clashes.now }
+{
+    match clashes {
+        None => 0,
+        Some(clashes) => clashes.as_slice().len(),
+    }
+}
+
+// Puts the last line, with the numbers of goals and of conflicts, behind the text.
+#[tactic(auto, using(crate::proofs::Texts::appended))]
+fn push_end(out: &mut Vec<u8>, goals: u64, clashes: u64) -> Result<(), AllocError>
+    ensures { OnOk result (out.new.items ≡ out.old.items ++ end_text goals clashes) }
+{
+    out.extend_from_slice(b"end ")?;
+    push_number(out, goals)?;
+    out.extend_from_slice(b" ")?;
+    push_number(out, clashes)?;
+    out.extend_from_slice(b"\n")
+}
+
+/// The goals that matter and the conflicts that do; it fails only where no memory is found.
+#[tactic(auto, using(crate::proofs::Texts::appended), unfolding(crate::specs::ExplainText::core_text))]
+pub(crate) fn core_text(
+    alloc: Global,
+    packages: &[PackageFacts],
+    goals: &[Goal],
+    marks: &[Mark],
+    clashes: &Option<ClashList>,
+) -> Result<Vec<u8>, AllocError>
+    requires marks { ArePlacesFrom1 (length goals.now) marks.now }
+    requires clashes { IfSome clashes.now (AreClashesOf (length packages.now)) }
+    ensures { IfOk result (λ text. text.items ≡ core_text packages.now goals.now marks.now clashes.now) }
+{
+    let mut text = Vec::new(alloc);
+    push_goals(&mut text, goals, marks)?;
+    push_reasons(&mut text, packages, clashes)?;
+    push_end(&mut text, marks.len() as u64, clash_count(clashes) as u64)?;
+    Ok(text)
+}

@@ -1,0 +1,125 @@
+//! The report on a plan, made whole in memory.
+ghost use Rattle.std.specs.Prelude.{◌≡◌, ◌++◌, IfOk, OnOk, codes, filter, length};
+ghost use Rattle.std.specs.List.{flat_map, list_any};
+ghost use Rattle.coinst_run.specs.CompareText.{comparison_line};
+ghost use Rattle.coinst_run.specs.MigrateText.{is_left, is_take, plan_end, plan_line, plan_text, plan_verdict, would_break};
+
+use crate::answer::Verdict;
+use crate::compare_text::{is_broken, push_line, push_pair, push_single};
+use crate::lines::push_number;
+use migrate_plan::PlanLine;
+use std::alloc::{AllocError, Global};
+use suite_compare::ReportLine;
+
+// Puts a name that is left, with a line of a comparison, behind the text.
+#[tactic(auto, using(crate::proofs::Texts::appended))]
+fn push_left(out: &mut Vec<u8>, name: &[u8], line: &ReportLine) -> Result<(), AllocError>
+    ensures { OnOk result (out.new.items ≡ out.old.items ++ (codes "left " ++ name.now ++ codes " " ++ comparison_line line.now)) }
+{
+    out.extend_from_slice(b"left ")?;
+    out.extend_from_slice(name)?;
+    out.extend_from_slice(b" ")?;
+    push_line(out, line)
+}
+
+// Puts what becomes of a name behind the text.
+fn push_plan_line(out: &mut Vec<u8>, line: &PlanLine) -> Result<(), AllocError>
+    ensures { OnOk result (out.new.items ≡ out.old.items ++ plan_line line.now) }
+{
+    match line {
+        PlanLine::Take { name } => push_single(out, b"take", name.as_slice()),
+        PlanLine::LeftLimit { name } => push_pair(out, b"left", name.as_slice(), b"limit"),
+        PlanLine::LeftLine { name, line } => push_left(out, name.as_slice(), line),
+    }
+}
+
+// Puts the lines of a plan behind the text.
+fn push_plan_lines(out: &mut Vec<u8>, lines: &[PlanLine]) -> Result<(), AllocError>
+    ensures { OnOk result (out.new.items ≡ out.old.items ++ flat_map plan_line lines.now) }
+{
+    for line in lines {
+        push_plan_line(out, line)?;
+    }
+    Ok(())
+}
+
+// Whether the line takes its name.
+fn is_take(line: &PlanLine) -> bool
+    ensures { result ≡ is_take line.now }
+{
+    matches!(line, PlanLine::Take { name: _ })
+}
+
+// Whether the name is left since something would be broken.
+fn would_break(line: &PlanLine) -> bool
+    ensures { result ≡ would_break line.now }
+{
+    match line {
+        PlanLine::Take { name: _ } | PlanLine::LeftLimit { name: _ } => false,
+        PlanLine::LeftLine { name: _, line } => is_broken(line),
+    }
+}
+
+// How many names are taken.
+fn count_taken(lines: &[PlanLine]) -> usize
+    ensures { result ≡ length (filter is_take lines.now) }
+{
+    lines.iter().filter(|line| is_take(line)).count()
+}
+
+// How many names are left.
+fn count_left(lines: &[PlanLine]) -> usize
+    ensures { result ≡ length (filter is_left lines.now) }
+{
+    lines.iter().filter(|line| !is_take(line)).count()
+}
+
+// Puts the last line behind the text.
+#[tactic(auto, using(crate::proofs::Texts::appended), unfolding(crate::specs::MigrateText::plan_end))]
+fn push_plan_end(out: &mut Vec<u8>, lines: &[PlanLine]) -> Result<(), AllocError>
+    ensures { OnOk result (out.new.items ≡ out.old.items ++ plan_end lines.now) }
+{
+    out.extend_from_slice(b"end ")?;
+    push_number(out, count_taken(lines) as u64)?;
+    out.extend_from_slice(b" ")?;
+    push_number(out, count_left(lines) as u64)?;
+    out.extend_from_slice(b"\n")
+}
+
+/// The text of the lines of a plan; it fails only where no memory is found.
+#[tactic(auto, using(crate::proofs::Texts::appended), unfolding(crate::specs::MigrateText::plan_text))]
+pub(crate) fn plan_text(alloc: Global, lines: &[PlanLine]) -> Result<Vec<u8>, AllocError>
+    ensures { IfOk result (λ text. text.items ≡ plan_text lines.now) }
+{
+    let mut text = Vec::new(alloc);
+    push_plan_lines(&mut text, lines)?;
+    push_plan_end(&mut text, lines)?;
+    Ok(text)
+}
+
+// Whether some name is left since something would be broken.
+fn has_break(lines: &[PlanLine]) -> bool
+    ensures { result ≡ list_any would_break lines.now }
+{
+    lines.iter().any(|line| would_break(line))
+}
+
+// Whether some name is left.
+fn has_left(lines: &[PlanLine]) -> bool
+    ensures { result ≡ list_any is_left lines.now }
+{
+    lines.iter().any(|line| !is_take(line))
+}
+
+/// What the lines of a plan say as a whole; it takes no memory.
+pub(crate) fn plan_verdict(lines: &[PlanLine]) -> Verdict
+    ensures { result ≡ plan_verdict lines.now }
+{
+    if has_break(lines) {
+        return Verdict::Negative;
+    }
+    if has_left(lines) {
+        return Verdict::Undecided;
+    }
+    Verdict::Done
+}

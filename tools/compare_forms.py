@@ -1,7 +1,7 @@
 #!/usr/bin/env python3
 """Checks that the two forms of a kernel say the same.
 
-    tools/compare_forms.py INDEX [--clause-limit N]
+    tools/compare_forms.py [--clause-limit N] [--hold] INDEX
 
 Runs `coinst kernel` on the index with and without `--json`, reads both forms with programs that share no code with it, and
 compares the classes one by one. The last line tells how many there are; status 1 where two differ.
@@ -22,15 +22,20 @@ def run(words):
 
 
 def classes_of_text(text):
-    """The classes of the text form: its first line, the lines of each class, and its last line."""
+    """The format and the classes of the text form: its first line, the lines of each class, and its last line."""
     lines = text.split("\n")
-    if lines[0] != "coinst-kernel 1" or lines[-1] != "" or not lines[-2].startswith("end "):
+    if lines[0] not in ("coinst-kernel 1", "coinst-kernel 2") or lines[-1] != "" or not lines[-2].startswith("end "):
         raise SystemExit("the text has not the form of a kernel")
+    format_number = int(lines[0].split(" ")[1])
     classes = []
     for line in lines[1:-2]:
         word, *rest = line.split(" ")
         if word == "class":
             classes.append({"against": [], "members": [], "needs": []})
+            if format_number == 2:
+                classes[-1]["held"] = False
+        elif line == "held" and format_number == 2:
+            classes[-1]["held"] = True
         elif word == "member":
             classes[-1]["members"].append(rest)
         elif word == "needs":
@@ -39,15 +44,15 @@ def classes_of_text(text):
             classes[-1]["against"].extend(int(number) for number in rest)
         else:
             raise SystemExit("a line that no kernel has: " + line)
-    return classes
+    return format_number, classes
 
 
 def main():
     words = ["kernel"] + sys.argv[1:]
-    told = classes_of_text(run(words))
+    format_number, told = classes_of_text(run(words))
     text = run(words + ["--json"])
     form = json.loads(text)
-    if list(form) != ["classes", "format"] or form["format"] != 1 or not text.endswith("}\n"):
+    if list(form) != ["classes", "format"] or form["format"] != format_number or not text.endswith("}\n"):
         raise SystemExit("the object has not the form of a kernel")
     for number, (ours, theirs) in enumerate(zip(told, form["classes"])):
         if ours != theirs:

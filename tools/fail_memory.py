@@ -54,15 +54,29 @@ MIDDLE = (
     "Package: a\nVersion: 1\nDepends: m\n\nPackage: m\nVersion: 1\nDepends: b, c | d\n\nPackage: b\nVersion: 1\nConflicts: e\n\n"
     "Package: c\nVersion: 1\nConflicts: e\n\nPackage: d\nVersion: 1\nConflicts: f\n\nPackage: e\nVersion: 1\n\nPackage: f\nVersion: 1\n\n"
 )
+SYSTEM = (
+    "Package: a\nStatus: install ok installed\nVersion: 1\nDepends: b | c\n\nPackage: b\nStatus: install ok installed\nVersion: 1\nConflicts: c\n\n"
+    "Package: z\nStatus: deinstall ok config-files\nVersion: 4\n\nPackage: q\nStatus: install ok installed\nVersion: 2\nArchitecture: i386\n\n"
+)
+THREE = (
+    "Package: a\nVersion: 1\nDepends: m, g\n\nPackage: m\nVersion: 1\nDepends: b, c\n\nPackage: b\nVersion: 1\nConflicts: e\n\n"
+    "Package: c\nVersion: 1\nConflicts: f\n\nPackage: g\nVersion: 1\nConflicts: h\n\nPackage: e\nVersion: 1\n\nPackage: f\nVersion: 1\n\n"
+    "Package: h\nVersion: 1\n\n"
+)
 FILES = {
-    "choice": CHOICE, "alone": ALONE, "stored": STORED, "tree": TREE, "middle": MIDDLE,
+    "choice": CHOICE, "alone": ALONE, "stored": STORED, "tree": TREE, "middle": MIDDLE, "three": THREE,
+    "system": SYSTEM, "loner": "Package: a\nStatus: install ok installed\nVersion: 1\nDepends: b | c\n\n",
     "fault": "Package: a\nVersion: 1\nDepends: b (>= 1), c |\n", "loose": "coinst-kernel 1\nclass 0\nmember a 1\n",
 }
 CASES = [
     "kernel choice", "kernel middle", "kernel --json choice", "kernel --json middle", "kernel --clause-limit 1 tree", "kernel fault", "kernel nowhere",
     "query choice b c", "query choice a c", "query choice a", "query choice a zz", "query middle a f", "query tree p", "query --budget 1 tree p",
     "query --kernel stored b c", "query --kernel stored a", "query --kernel stored a=2", "query --kernel loose a",
+    "kernel --clause-limit 2 three", "kernel --hold --clause-limit 2 three", "query --hold --clause-limit 2 three a", "query --hold --clause-limit 2 three a h",
     "compare alone choice", "compare choice choice", "compare --budget 1 tree tree", "compare alone fault",
+    "migrate alone choice", "migrate choice choice", "migrate --clause-limit 1 alone middle", "migrate alone fault",
+    "explain choice a b c", "explain choice a c", "explain choice a zz", "explain tree p", "explain --budget 1 tree p",
+    "status system choice", "status loner choice", "status stored choice",
     "sample 7 1", "sample 7 12", "kernel",
 ]
 

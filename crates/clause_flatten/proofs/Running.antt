@@ -9,7 +9,7 @@ use Rattle.row_book.specs.declared.book.Book.{Book}
 use Rattle.row_book.specs.Sets.{NumSet, without}
 use Rattle.row_book.specs.Repository.{Repository}
 use Rattle.row_book.specs.Clauses.{numbers}
-use Rattle.row_book.specs.Uses.{uses_of}
+use Rattle.row_book.specs.Holders.{Holders, TellsRows}
 use Rattle.row_book.specs.Book.{RowsFit, RowsTidy, Sound, repository_of}
 use Rattle.row_book.specs.Flags.{flag}
 use Rattle.row_book.specs.Flattening.{Passed, Remaining, at_last, flat, gone_or_held, has_conflict, held_of, may_go, next_gone, none_gone, packages, passed_by, passes, remaining_after, row_length, rows_over}
@@ -40,11 +40,11 @@ pub record FlagsTell (n : ℕ) (held : NumSet) (flags : List Bool) : Type 0 wher
   pub same : (q : ℕ) → q < n → flag flags q ≡ held q
 
 -- where a run stands after so many steps
-pub record RunAt (R : Repository) (limit : ℕ) (hold : Bool) (i : ℕ) (start now : Interned) (rows : List ℕ) (used : List (List ℕ)) (waiting : Waiting) (flags : List Bool) : Type 0 where
+pub record RunAt (R : Repository) (limit : ℕ) (hold : Bool) (i : ℕ) (start now : Interned) (rows : List ℕ) (used : Holders) (waiting : Waiting) (flags : List Bool) : Type 0 where
   pub table : map (row_at now) rows ≡ rows_over R (remaining_after limit hold R i).left
   pub fit : RowsFit now rows
   pub tidy : RowsTidy now rows
-  pub uses : used ≡ uses_of now rows
+  pub uses : TellsRows now rows used
   pub filed : Filed waiting (may_go R (remaining_after limit hold R i)) (length_in (map (row_at now) rows))
   pub told : FlagsTell (length R.clauses) (remaining_after limit hold R i).held flags
   pub within : (j : ℕ) → j ≤ i → IsWithin R limit hold j
@@ -62,8 +62,8 @@ no_flags zero q = refl
 no_flags (suc n) zero = refl
 no_flags (suc n) (suc q) = no_flags n q
 
-pub run_start : (pool : Interned) (book : Book) (limit : ℕ) (hold : Bool) (rows : List ℕ) (used : List (List ℕ)) (waiting : Waiting) (flags : List Bool) → IsPool pool → Sound pool book →
-    map (row_at pool) rows ≡ tidied_table (map (row_at pool) book.rows) → RowsFit pool rows → RowsTidy pool rows → used ≡ uses_of pool rows →
+pub run_start : (pool : Interned) (book : Book) (limit : ℕ) (hold : Bool) (rows : List ℕ) (used : Holders) (waiting : Waiting) (flags : List Bool) → IsPool pool → Sound pool book →
+    map (row_at pool) rows ≡ tidied_table (map (row_at pool) book.rows) → RowsFit pool rows → RowsTidy pool rows → TellsRows pool rows used →
     Filed waiting (λ q. ltb q (length book.rows) && is_free book.conflicts q) (length_in (map (row_at pool) rows)) →
     ((p : ℕ) → p < length rows → length_in (map (row_at pool) rows) p ≤ limit) →
     flags ≡ replicate (length book.rows) false →
@@ -160,7 +160,7 @@ pub record HasEnded (R : Repository) (limit : ℕ) (hold : Bool) (now : Interned
   pub held : filter (flag flags) (numbers (length flags) 0) ≡ held_of limit hold R
   pub within : passes limit hold R ≡ None
 
-module _ (R : Repository) (limit : ℕ) (hold : Bool) (i : ℕ) (start now : Interned) (rows : List ℕ) (used : List (List ℕ)) (waiting : Waiting) (flags : List Bool)
+module _ (R : Repository) (limit : ℕ) (hold : Bool) (i : ℕ) (start now : Interned) (rows : List ℕ) (used : Holders) (waiting : Waiting) (flags : List Bool)
     (run : RunAt R limit hold i start now rows used waiting flags) where
   abbrev s : Remaining
   s = remaining_after limit hold R i
@@ -207,9 +207,9 @@ module _ (R : Repository) (limit : ℕ) (hold : Bool) (i : ℕ) (start now : Int
     next_within true f p l = run.within i (omega arith) p l
     next_within false f p l = within_of R limit (without s.left q) (length rows) (table_without q t) gone_table run_size (f refl) p l
 
-    pub run_more : (b : Bool) (new : Interned) (after : List ℕ) (used_after : List (List ℕ)) (waiting_after : Waiting) (flags_after : List Bool) →
+    pub run_more : (b : Bool) (new : Interned) (after : List ℕ) (used_after : Holders) (waiting_after : Waiting) (flags_after : List Bool) →
         b ≡ (hold && table_passes limit (table_without q (map (row_at now) rows))) →
-        map (row_at new) after ≡ cond b (map (row_at now) rows) (table_without q (map (row_at now) rows)) → RowsFit new after → RowsTidy new after → used_after ≡ uses_of new after → Kept now new →
+        map (row_at new) after ≡ cond b (map (row_at now) rows) (table_without q (map (row_at now) rows)) → RowsFit new after → RowsTidy new after → TellsRows new after used_after → Kept now new →
         (b ≡ false → (p : ℕ) → p < length rows → length_in (table_without q (map (row_at now) rows)) p ≤ limit) →
         Filed waiting_after (without (may_go R (remaining_after limit hold R i)) q) (length_in (cond b (map (row_at now) rows) (table_without q (map (row_at now) rows)))) →
         flags_after ≡ slice_set flags q b →

@@ -7,8 +7,8 @@ use Rattle.std.proofs.lemmas.List as lists
 use Rattle.clause_pool.specs.Interned.{Interned, IsPool, row_at}
 use Rattle.row_book.specs.Sets.{In, has, here, there}
 use Rattle.row_book.specs.Clauses.{Ascending, InOrder, Inside, apart_from, numbers, in_row_order}
-use Rattle.row_book.specs.Uses.{row_holds, row_id, users_of, uses_of}
-use Rattle.row_book.specs.Book.{RowsFit, RowsTidy, listed_for}
+use Rattle.row_book.specs.Uses.{row_holds, row_id, users_of}
+use Rattle.row_book.specs.Book.{RowsFit, RowsTidy}
 use Rattle.row_book.specs.Flattening.{Passed, passed_by}
 use Rattle.row_book.proofs.Lists.{In_cases, In_has, In_none, any_cases, any_from, any_none, ascending_filter, filter_cases, filter_from, find_not, find_none, has_not, In_at}
 use Rattle.row_book.proofs.Clauses.{apart_cases, apart_in, minimal_of_from, minimal_of_parts}
@@ -47,15 +47,7 @@ pub eliminated_count : (q : ℕ) (t : List (List (List ℕ))) → length (table_
 unfolding table_without
 eliminated_count q t = length_numbers (λ p. cond (eqb p q) (table_row t q) (in_row_order (substituted p q (table_row t p) (table_row t q)))) (length t) 0
 
--- the users of a package
-pub users_are : (pool : Interned) (rows : List ℕ) (q : ℕ) → q < length rows → listed_for (uses_of pool rows) q ≡ users_of pool rows q
-unfolding uses_of
-users_are pool rows q l = at_numbers (users_of pool rows) [] (length rows) 0 q l ∙ ap (users_of pool rows) (omega arith)
-
-module _ (pool : Interned) (rows : List ℕ) (q : ℕ) (l : q < length rows) (users : List ℕ) (e : users ≡ listed_for (uses_of pool rows) q) where
-  same : users ≡ users_of pool rows q
-  same = e ∙ users_are pool rows q l
-
+module _ (pool : Interned) (rows : List ℕ) (q : ℕ) (l : q < length rows) (users : List ℕ) (same : users ≡ users_of pool rows q) where
   pub users_below : (p : ℕ) → In p users → p < length rows
   users_below p i =
       let j : In p (numbers (length rows) 0) = (filter_cases (λ p. row_holds pool (row_id rows p) q) (numbers (length rows) 0) p (subst (λ xs. In p xs) same i)).0 in
@@ -166,10 +158,6 @@ module _ (pool : Interned) (rows : List ℕ) (q : ℕ) (l : q < length rows) (us
         | inl u ↦ cond-true (has users p) (length_in new p) (length_in t p) u ∙ ap (λ x. length_in x p) d
         | inr u ↦ cond-false (has users p) (length_in new p) (length_in t p) u ∙ sym (counts_stay is fit tidy p u)
       ])
-
-pub uses_count : (pool : Interned) (rows : List ℕ) → length (uses_of pool rows) ≡ length rows
-unfolding uses_of
-uses_count pool rows = length_numbers (users_of pool rows) (length rows) 0
 
 -- the first of a list that passes, by places
 pub find_at : (p : ℕ → Bool) (xs : List ℕ) (i x : ℕ) → i < length xs → x ≡ get_or xs i x → ((k : ℕ) → k < i → p (get_or xs k 0) ≡ false) → p x ≡ true → find p xs ≡ Some x

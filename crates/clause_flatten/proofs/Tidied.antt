@@ -1,8 +1,9 @@
 -- The first rows: the clauses that stay are the minimal ones that do not hold the package.
-use Rattle.std.proofs.Common.{◌≡◌, ℕ, zero, suc, ◌<◌, ◌≤◌, ◌+◌, Bool, true, false, not, ltb, cond, List, [], ◌∷◌, ◌++◌, length, get_or, inl, inr, refl, sym, ◌∙◌, ap, ap₂, subst, arith, filter, map, Result, Ok, Err}
+use Rattle.std.proofs.Common.{◌≡◌, ℕ, zero, suc, ◌<◌, ◌≤◌, ◌+◌, Bool, true, false, not, eqb, ltb, cond, List, [], ◌∷◌, ◌++◌, length, get_or, inl, inr, refl, sym, ◌∙◌, ap, ap₂, subst, arith, filter, map, Result, Ok, Err, Some}
 use Rattle.std.specs.List.{list_any}
 use Rattle.std.specs.Result.{IfOk}
-use Rattle.std.proofs.lemmas.Bool.{both_ways, cases_lt, and_parts, and_from, or_from, not_from_false, not-true, false_from_ne_true, ltb-true, lt-ltb}
+use Rattle.std.specs.Cmp.Lexicographic.{pointwise}
+use Rattle.std.proofs.lemmas.Bool.{both_ways, cases_Bool, cases_lt, true_from_ne_false, and_parts, and_from, or_from, not_from_false, not-true, false_from_ne_true, ltb-true, lt-ltb}
 use Rattle.std.proofs.lemmas.List as lists
 use Rattle.clause_pool.specs.Interned.{Interned, IsIdOf, IsPool, Kept, clause_at, clauses_at, ids_at, row_at}
 use Rattle.clause_pool.proofs.Lists.{In_place}
@@ -11,11 +12,15 @@ use Rattle.row_book.specs.Clauses.{Ascending, InOrder, Inside, apart_from, is_in
 use Rattle.row_book.specs.Uses.{row_id}
 use Rattle.row_book.specs.Book.{RowsFit, RowsTidy}
 use Rattle.row_book.proofs.Books.{row_ascending}
-use Rattle.row_book.proofs.Lists.{In_append_cases, In_cases, In_has, In_map, In_none, any_cases, any_from, ascending_same, filter_cases, filter_from, has_not, In_at}
+use Rattle.row_book.proofs.Lists.{In_append_cases, In_cases, In_has, In_map, In_none, any_cases, any_from, any_none, ascending_same, filter_cases, filter_from, has_not, In_at}
 use Rattle.row_book.proofs.Clauses.{apart_cases, apart_in, inside_at, inside_from, minimal_of_from, minimal_of_parts}
 use Rattle.row_book.proofs.Order.{at_numbers, length_numbers, map_same, numbers_parts, order_filter, order_same, ordered_has, ordered_order, ordered_parts}
 use Rattle.clause_flatten.specs.Substitution.{table_row}
-use Rattle.clause_flatten.specs.Inclusion.{is_strictly_inside}
+use Rattle.row_book.specs.Within.{is_within, some_within}
+use Rattle.row_book.proofs.Holders.{same_truth}
+use Rattle.row_book.proofs.Repositories.{numbers_test, same_numbers}
+use Rattle.clause_flatten.specs.Inclusion.{has_shorter, is_strictly_inside}
+use Rattle.clause_flatten.proofs.Families.{not_shorter, some_shorter}
 use Rattle.clause_flatten.specs.TidyRows.{RowsStay, stays, first_row, tidied_table}
 
 -- elements by their places
@@ -30,6 +35,26 @@ any_at p f xs x i h = any_from p (map f xs) (f x) (In_map f xs x i) h
 pub none_at : (p : List ℕ → Bool) (f : ℕ → List ℕ) (xs : List ℕ) → ((k : ℕ) → k < length xs → p (f (get_or xs k 0)) ≡ false) → list_any p (map f xs) ≡ false
 none_at p f [] g = refl
 none_at p f (x ∷ xs) g = or_from (p (f x)) (list_any p (map f xs)) (g 0 (omega arith)) (none_at p f xs (λ k l. g (suc k) (omega arith)))
+
+-- another clause within a clause is a shorter one
+pub shorter_is_other : (cs : List (List ℕ)) → ((c : List ℕ) → In c cs → Ascending c) → (d : List ℕ) → Ascending d → some_within (Some d) d cs ≡ has_shorter cs d
+shorter_is_other cs up d a =
+    same_truth (some_within (Some d) d cs) (has_shorter cs d)
+    (λ h.
+    let w : (e : List ℕ) × In e cs × (is_within (Some d) d e ≡ true) = any_cases (is_within (Some d) d) cs h in
+    let parts : (not (pointwise eqb w.0 d) ≡ true) × (is_inside w.0 d ≡ true) = and_parts (not (pointwise eqb w.0 d)) (is_inside w.0 d) w.2 in
+    let inside : Inside w.0 d = inside_at w.0 d parts.1 in
+    true_from_ne_false (has_shorter cs d) (λ f.
+    let same : w.0 ≡ d = ascending_same w.0 d (up w.0 w.1) a inside (not_shorter cs up d a f w.0 w.1 inside) in
+    both_ways (pointwise eqb w.0 d) (not-true (pointwise eqb w.0 d) parts.0) (numbers_test w.0 d same)))
+    (λ h. true_from_ne_false (some_within (Some d) d cs) (λ f.
+    some_shorter cs up d a h (λ S i inside.
+    elim (cases_Bool (pointwise eqb S d)) [
+      | inl y ↦ subst (λ z. Inside d z) (sym (same_numbers S d y)) (λ n k. k)
+      | inr g ↦
+          absurd (both_ways (is_within (Some d) d S) (any_none (is_within (Some d) d) cs f S i)
+          (and_from (not (pointwise eqb S d)) (is_inside S d) (not_from_false (pointwise eqb S d) g) (inside_from S d inside)))
+    ])))
 
 pub map_filter : {A B : Type 0} (f : A → B) (p : B → Bool) (xs : List A) → map f (filter (λ x. p (f x)) xs) ≡ filter p (map f xs)
 map_filter f p [] = refl

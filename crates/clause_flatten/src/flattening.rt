@@ -7,7 +7,7 @@ ghost use Rattle.row_book.specs.Clauses.{numbers};
 ghost use Rattle.row_book.specs.Flags.{flag};
 ghost use Rattle.row_book.specs.Flattening.{flat, held_of, passes};
 ghost use Rattle.row_book.specs.Repository.{Repository};
-ghost use Rattle.row_book.specs.Uses.{uses_of};
+ghost use Rattle.row_book.specs.Holders.{TellsRows};
 ghost use Rattle.clause_flatten.specs.Refusals.{OnLimit};
 ghost use Rattle.clause_flatten.specs.Substitution.{length_in};
 ghost use Rattle.clause_flatten.specs.TakingOut.{is_free};
@@ -20,7 +20,7 @@ use crate::tidy_rows::tidy_rows;
 use crate::waiting::Waiting;
 use clause_pool::{Pool, RowId};
 use listed::Listed;
-use row_book::{Book, NumList, UseTable};
+use row_book::{Book, ClauseTable, NumList};
 use std::alloc::{AllocError, Global};
 
 /// The packages without conflicts, each filed under the number of clauses of its row.
@@ -57,7 +57,7 @@ fn take_all_out(
     alloc: Global,
     pool: &mut Pool,
     rows: &mut [RowId],
-    uses: &mut UseTable,
+    uses: &mut ClauseTable,
     mut waiting: Waiting,
     book: &Book,
     rule: Rule,
@@ -66,7 +66,7 @@ fn take_all_out(
     requires first { map (row_at pool.old) rows.old ≡ tidied_table (map (row_at pool.old) book.now.rows) }
     requires fit { RowsFit pool.old rows.old }
     requires tidy { RowsTidy pool.old rows.old }
-    requires table { uses.old ≡ uses_of pool.old rows.old }
+    requires table { TellsRows pool.old rows.old uses.old }
     requires waiting { Filed waiting (λ q. ltb q (length book.now.rows) && is_free book.now.conflicts q)
         (length_in (map (row_at pool.old) rows.old)) }
     requires within { (p : ℕ) → p < length rows.old → length_in (map (row_at pool.old) rows.old) p ≤ rule.limit }
@@ -170,7 +170,7 @@ pub fn flatten(
             count: clauses_in(pool, rows.as_slice(), package),
         });
     }
-    let mut uses = UseTable::of(alloc, pool, rows.as_slice())?;
+    let mut uses = ClauseTable::of(alloc, pool, rows.as_slice())?;
     let waiting = waiting_in(alloc, pool, rows.as_slice(), book)?;
     let rule = Rule { limit, hold };
     let flags = take_all_out(

@@ -4,7 +4,8 @@ ghost use Rattle.clause_pool.specs.Interned.{clauses_at, row_at, OfPool};
 ghost use Rattle.row_book.specs.Book.{RowsFit, RowsTidy};
 ghost use Rattle.row_book.specs.Clauses.{apart_from, in_row_order, minimal_of, Ascending, InOrder, Inside};
 ghost use Rattle.row_book.specs.Sets.{In};
-ghost use Rattle.row_book.specs.Uses.{uses_of, users_of};
+ghost use Rattle.row_book.specs.Holders.{TellsRows};
+ghost use Rattle.row_book.specs.Uses.{users_of};
 ghost use Rattle.clause_flatten.specs.Families.{all_unions};
 ghost use Rattle.clause_flatten.specs.Holding.{clauses_with, most_clauses};
 ghost use Rattle.clause_flatten.specs.Substitution.{length_in, substituted, table_passes, table_without};
@@ -15,7 +16,7 @@ use crate::inclusion::contains;
 use crate::scratch::Clause;
 use crate::shorter::has_shorter;
 use clause_pool::{ClauseId, Pool, RowId};
-use row_book::UseTable;
+use row_book::ClauseTable;
 use std::alloc::{AllocError, Global};
 
 /// Whether some row would have more clauses than the limit allows once the package is taken out.
@@ -23,19 +24,19 @@ pub(crate) fn would_pass(
     alloc: Global,
     pool: &Pool,
     rows: &[RowId],
-    uses: &UseTable,
+    uses: &ClauseTable,
     gone: u32,
     limit: u32,
 ) -> Result<bool, AllocError>
     requires fit { RowsFit pool.now rows.now }
     requires tidy { RowsTidy pool.now rows.now }
-    requires table { uses.now ≡ uses_of pool.now rows.now }
+    requires table { TellsRows pool.now rows.now uses.now }
     requires gone { gone < length rows.now }
     requires within { (p : ℕ) → p < length rows.now → length_in (map (row_at pool.now) rows.now) p ≤ limit }
     ensures { IfOk result (λ passes. passes ≡ table_passes limit (table_without gone (map (row_at pool.now) rows.now))) }
 {
-    let users = uses.packages(gone);
-    some_would_pass(alloc, pool, rows, users, gone, limit)
+    let users = uses.users(alloc, gone)?;
+    some_would_pass(alloc, pool, rows, users.as_slice(), gone, limit)
 }
 
 /// The same, where the users of the package are known: the other rows stay.

@@ -4,6 +4,7 @@
 //! `elimination` and `support` do nothing, the contract of each is one law.
 #![tactic(auto)]
 
+mod changing;
 mod elimination;
 pub mod error;
 mod family;

@@ -1,7 +1,8 @@
 //! One elimination: a package is taken out of all rows.
-ghost use Rattle.std.specs.Prelude.{◌≡◌, ◌≢◌, ◌<◌, ◌⊎◌, ℕ, OnErr, OnOk, length, map};
+ghost use Rattle.std.specs.Prelude.{◌≡◌, ◌≢◌, ◌<◌, ◌⊎◌, ℕ, List, IfOk, OnErr, OnOk, length, map, slice_set};
 ghost use Rattle.clause_pool.specs.Interned.{row_at, Kept};
 ghost use Rattle.row_book.specs.Book.{RowsFit, RowsTidy};
+ghost use Rattle.row_book.specs.Sets.{In};
 ghost use Rattle.row_book.specs.Clauses.{in_row_order};
 ghost use Rattle.row_book.specs.Uses.{row_id, users_of, uses_of};
 ghost use Rattle.clause_flatten.specs.Substitution.{table_without, substituted, table_row};
@@ -71,6 +72,37 @@ pub(crate) fn eliminate_for(
     Ok(())
 }
 
+/// The row of another package once a package is taken out, in the pool, whose rows stay; it fails only where no memory is
+/// found.
+pub(crate) fn new_row(
+    alloc: Global,
+    pool: &mut Pool,
+    rows: &[RowId],
+    user: u32,
+    gone: u32,
+) -> Result<RowId, AllocError>
+    requires fit { RowsFit pool.old rows.now }
+    requires tidy { RowsTidy pool.old rows.now }
+    requires user { user < length rows.now }
+    requires gone { gone < length rows.now }
+    ensures ok { IfOk result (λ id. row_at pool.new id
+        ≡ in_row_order (substituted user gone (row_at pool.old (row_id rows.now user)) (row_at pool.old (row_id rows.now gone)))) }
+    ensures of_pool { IfOk result (λ id. id < length pool.new.rows) }
+    ensures numbers { IfOk result (λ id. (c : List ℕ) → In c (row_at pool.new id) → (n : ℕ) → In n c → n < length rows.now) }
+    ensures stay { (p : ℕ) → p < length rows.now → row_at pool.new (row_id rows.now p) ≡ row_at pool.old (row_id rows.now p) }
+    ensures fit { RowsFit pool.new rows.now }
+    ensures tidy { RowsTidy pool.new rows.now }
+    ensures fits { IfOk result (λ id. RowsFit pool.new (slice_set rows.now user id)) }
+    ensures tidies { IfOk result (λ id. RowsTidy pool.new (slice_set rows.now user id)) }
+    ensures kept { Kept pool.old pool.new }
+{
+    // What holds of every pool is told by this call alone.
+    pool.clause_count();
+    let old = rows[user as usize];
+    let new = rewrite(alloc, pool, user, gone, old, rows[gone as usize])?;
+    Ok(new)
+}
+
 /// Takes a package out of the row of another one; where no memory is found, the rows stay as they were.
 fn replace_row(
     alloc: Global,
@@ -98,7 +130,7 @@ fn replace_row(
     // What holds of every pool is told by this call alone.
     pool.clause_count();
     let old = rows[user as usize];
-    let new = rewrite(alloc, pool, user, gone, old, rows[gone as usize])?;
+    let new = new_row(alloc, pool, rows, user, gone)?;
     uses.replace(alloc, pool, user, old, new)?;
     rows[user as usize] = new;
     Ok(())

@@ -5,19 +5,19 @@ ghost use Rattle.clause_pool.specs.Interned.{row_at, Kept};
 ghost use Rattle.row_book.specs.Sets.{In};
 ghost use Rattle.row_book.specs.Clauses.{numbers, Ascending};
 ghost use Rattle.row_book.specs.Book.{RowsFit, RowsTidy};
-ghost use Rattle.row_book.specs.Uses.{uses_of};
+ghost use Rattle.row_book.specs.Holders.{TellsRows};
 ghost use Rattle.row_book.specs.Flattening.{passed_by};
 ghost use Rattle.clause_flatten.specs.Substitution.{table_without, table_passes, length_in};
 ghost use Rattle.clause_flatten.specs.Refusals.{OnLimit};
 ghost use Rattle.clause_flatten.specs.Waiting.{Filed};
 ghost use Rattle.clause_flatten.specs.TakingOut.{counted_anew, is_over};
 
+use crate::changing::change_rows;
 use crate::error::FlatError;
 use crate::holding::would_pass;
-use crate::substitution::eliminate_for;
 use crate::waiting::Waiting;
 use clause_pool::{Pool, RowId};
-use row_book::UseTable;
+use row_book::ClauseTable;
 use std::alloc::{AllocError, Global};
 
 /// The number of clauses in the row of a package.
@@ -125,14 +125,14 @@ pub(crate) fn take_out_or_hold(
     alloc: Global,
     pool: &mut Pool,
     rows: &mut [RowId],
-    uses: &mut UseTable,
+    uses: &mut ClauseTable,
     waiting: &mut Waiting,
     step: Elimination,
 ) -> Result<bool, FlatError>
     requires few { length rows.old < 4294967295 }
     requires fit { RowsFit pool.old rows.old }
     requires tidy { RowsTidy pool.old rows.old }
-    requires table { uses.old ≡ uses_of pool.old rows.old }
+    requires table { TellsRows pool.old rows.old uses.old }
     requires there { step.«package» < length rows.old }
     requires within { (p : ℕ) → p < length rows.old → length_in (map (row_at pool.old) rows.old) p ≤ step.limit }
     ensures held { IfOk result (λ held. held ≡ (step.hold && table_passes step.limit (table_without step.«package» (map (row_at pool.old) rows.old)))) }
@@ -140,7 +140,7 @@ pub(crate) fn take_out_or_hold(
         ≡ cond held (map (row_at pool.old) rows.old) (table_without step.«package» (map (row_at pool.old) rows.old))) }
     ensures fit { RowsFit pool.new rows.new }
     ensures tidy { RowsTidy pool.new rows.new }
-    ensures table { uses.new ≡ uses_of pool.new rows.new }
+    ensures table { TellsRows pool.new rows.new uses.new }
     ensures kept { Kept pool.old pool.new }
     ensures within { IfOk result (λ held. held ≡ false → (p : ℕ) → p < length rows.old →
         length_in (table_without step.«package» (map (row_at pool.old) rows.old)) p ≤ step.limit) }
@@ -164,12 +164,12 @@ fn is_to_stay(
     alloc: Global,
     pool: &Pool,
     rows: &[RowId],
-    uses: &UseTable,
+    uses: &ClauseTable,
     step: Elimination,
 ) -> Result<bool, AllocError>
     requires fit { RowsFit pool.now rows.now }
     requires tidy { RowsTidy pool.now rows.now }
-    requires table { uses.now ≡ uses_of pool.now rows.now }
+    requires table { TellsRows pool.now rows.now uses.now }
     requires there { step.«package» < length rows.now }
     requires within { (p : ℕ) → p < length rows.now → length_in (map (row_at pool.now) rows.now) p ≤ step.limit }
     ensures { IfOk result (λ stays. stays ≡ (step.hold && table_passes step.limit (table_without step.«package» (map (row_at pool.now) rows.now)))) }
@@ -186,20 +186,20 @@ pub(crate) fn take_out(
     alloc: Global,
     pool: &mut Pool,
     rows: &mut [RowId],
-    uses: &mut UseTable,
+    uses: &mut ClauseTable,
     waiting: &mut Waiting,
     step: Elimination,
 ) -> Result<(), FlatError>
     requires few { length rows.old < 4294967295 }
     requires fit { RowsFit pool.old rows.old }
     requires tidy { RowsTidy pool.old rows.old }
-    requires table { uses.old ≡ uses_of pool.old rows.old }
+    requires table { TellsRows pool.old rows.old uses.old }
     requires there { step.«package» < length rows.old }
     requires within { (p : ℕ) → p < length rows.old → length_in (map (row_at pool.old) rows.old) p ≤ step.limit }
     ensures rows { OnOk result (map (row_at pool.new) rows.new ≡ table_without step.«package» (map (row_at pool.old) rows.old)) }
     ensures fit { RowsFit pool.new rows.new }
     ensures tidy { RowsTidy pool.new rows.new }
-    ensures table { uses.new ≡ uses_of pool.new rows.new }
+    ensures table { TellsRows pool.new rows.new uses.new }
     ensures kept { Kept pool.old pool.new }
     ensures within { OnOk result ((p : ℕ) → p < length rows.old →
         length_in (table_without step.«package» (map (row_at pool.old) rows.old)) p ≤ step.limit) }
@@ -210,9 +210,9 @@ pub(crate) fn take_out(
 {
     // What holds of every pool is told by this call alone.
     pool.clause_count();
-    let users = Vec::from_slice(alloc, uses.packages(step.package))?;
+    let users = uses.users(alloc, step.package)?;
     let counts = counts_of(alloc, pool, rows, users.as_slice())?;
-    eliminate_for(alloc, pool, rows, uses, users.as_slice(), step.package)?;
+    change_rows(alloc, pool, rows, uses, users.as_slice(), step.package)?;
     if let Some(over) = first_over(pool, rows, users.as_slice(), step.limit) {
         return Err(FlatError::Limit {
             gone: step.gone,

@@ -7,21 +7,24 @@ ghost use Rattle.row_book.specs.Clauses.{Ascending, InOrder};
 ghost use Rattle.row_book.specs.Sets.{In};
 ghost use Rattle.clause_flatten.specs.TidyRows.{stays, first_row, tidied_table, RowsStay};
 
-use crate::scratch::Clause;
-use crate::shorter::stays;
+use crate::inclusion::contains;
 use clause_pool::{ClauseId, Pool, RowId};
+use row_book::has_within;
 use std::alloc::{AllocError, Global};
 
-/// The clauses of the row, in scratch space.
-fn family_of(alloc: Global, pool: &Pool, row: &[ClauseId]) -> Result<Vec<Clause>, AllocError>
-    requires { OfPool pool.now row.now }
-    ensures { IfOk result (λ family. family.items ≡ clauses_at pool.now row.now) }
+/// Whether the clause of the row stays: it does not hold the package, and no other one lies within it.
+fn stays_in(pool: &Pool, package: u32, row: &[ClauseId], id: ClauseId) -> bool
+    requires of_pool { OfPool pool.now row.now }
+    requires in_order { InOrder (clauses_at pool.now row.now) }
+    requires rising { (c : List ℕ) → In c (clauses_at pool.now row.now) → Ascending c }
+    requires id { id < length pool.now.clauses }
+    ensures { result ≡ stays «package» (clauses_at pool.now row.now) (clause_at pool.now id) }
 {
-    let mut family = Vec::new(alloc);
-    for id in row {
-        family.push(Clause::copy(alloc, pool.slice(*id))?)?;
+    let clause = pool.slice(id);
+    if contains(clause, package) {
+        return false;
     }
-    Ok(family)
+    !has_within(pool, row, &Some(id), clause)
 }
 
 /// The clauses that stay.
@@ -36,10 +39,9 @@ fn kept_clauses(
     requires rising { (c : List ℕ) → In c (clauses_at pool.now row.now) → Ascending c }
     ensures { IfOk result (λ kept. kept.items ≡ filter (λ id. stays «package» (clauses_at pool.now row.now) (clause_at pool.now id)) row.now) }
 {
-    let family = family_of(alloc, pool, row)?;
     let mut kept = Vec::new(alloc);
     for id in row {
-        if stays(package, family.as_slice(), pool.slice(*id)) {
+        if stays_in(pool, package, row, *id) {
             kept.push(*id)?;
         }
     }

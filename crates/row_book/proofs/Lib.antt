@@ -12,6 +12,7 @@ pub mod Inserts
 pub mod Tables
 pub mod Differences
 pub mod Users
+pub mod Holders
 pub mod Moved
 pub mod Samples
 pub mod Repositories
@@ -19,4 +20,4 @@ pub mod Facing
 pub mod BookRepositories
 pub mod Leads
 pub mod Groups
-mod Distinct
+pub mod Distinct

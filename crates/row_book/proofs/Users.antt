@@ -41,9 +41,13 @@ held_by pool id n h =
 pub users_ascend : (pool : Interned) (rows : List ℕ) (n : ℕ) → Ascending (users_of pool rows n)
 users_ascend pool rows n = ascending_filter (λ q. row_holds pool (row_id rows q) n) (numbers (length rows) 0) (numbers_ascending (length rows) 0)
 
+-- the packages below k of whose row something is true with a number
+abbrev pub below_with : (ℕ → ℕ → Bool) → List ℕ → ℕ → ℕ → NumSet
+below_with H rows k n m = ltb m k && H (row_id rows m) n
+
 -- the packages below k whose row holds the number
 abbrev pub uses_number : Interned → List ℕ → ℕ → ℕ → NumSet
-uses_number pool rows k n m = ltb m k && row_holds pool (row_id rows m) n
+uses_number pool rows k n m = below_with (row_holds pool) rows k n m
 
 pub users_listed : (pool : Interned) (rows : List ℕ) (n : ℕ) → IsListOf (uses_number pool rows (length rows) n) (users_of pool rows n)
 users_listed pool rows n = record {
@@ -106,21 +110,27 @@ more_other true false false = refl
 more_other false x true = refl
 more_other false x false = refl
 
-pub uses_more : (pool : Interned) (rows : List ℕ) (k row n : ℕ) → row ≡ row_id rows k → (before after held : List ℕ) → has held n ≡ row_holds pool row n
-    → IsListOf (uses_number pool rows k n) before
+pub below_more : (H : ℕ → ℕ → Bool) (rows : List ℕ) (k row n : ℕ) → row ≡ row_id rows k → (before after held : List ℕ) → has held n ≡ H row n
+    → IsListOf (below_with H rows k n) before
     → (Ascending before → IsListOf (λ m. has before m || (has held n && eqb m k)) after)
-    → IsListOf (uses_number pool rows (k + 1) n) after
-uses_more pool rows k row n e before after held h b f =
-    listed_as (λ m. has before m || (has held n && eqb m k)) (uses_number pool rows (k + 1) n) after
+    → IsListOf (below_with H rows (k + 1) n) after
+below_more H rows k row n e before after held h b f =
+    listed_as (λ m. has before m || (has held n && eqb m k)) (below_with H rows (k + 1) n) after
     (λ m.
-    let holds = λ (q : ℕ). row_holds pool (row_id rows q) n in
-    ap₂ (λ x y. x || (y && eqb m k)) (b.members m) (h ∙ ap (λ r. row_holds pool r n) e)
+    let holds = λ (q : ℕ). H (row_id rows q) n in
+    ap₂ (λ x y. x || (y && eqb m k)) (b.members m) (h ∙ ap (λ r. H r n) e)
     ∙ elim (cases_eq m k) [
       | inl s ↦ ap₂ (λ x y. (ltb m k && holds m) || (x && y)) (sym (ap holds s)) (eq-eqb m k s) ∙ more_here (ltb m k) (holds m) ∙ ap (λ x. (ltb m k || x) && holds m) (sym (eq-eqb m k s))
       | inr ne ↦ ap (λ y. (ltb m k && holds m) || (holds k && y)) (ne_eqb m k ne) ∙ more_other (ltb m k) (holds m) (holds k) ∙ ap (λ x. (ltb m k || x) && holds m) (sym (ne_eqb m k ne))
     ]
     ∙ ap (λ x. x && holds m) (sym (below_next m k)))
     (f b.ascending)
+
+pub uses_more : (pool : Interned) (rows : List ℕ) (k row n : ℕ) → row ≡ row_id rows k → (before after held : List ℕ) → has held n ≡ row_holds pool row n
+    → IsListOf (uses_number pool rows k n) before
+    → (Ascending before → IsListOf (λ m. has before m || (has held n && eqb m k)) after)
+    → IsListOf (uses_number pool rows (k + 1) n) after
+uses_more pool rows k row n e before after held h b f = below_more (row_holds pool) rows k row n e before after held h b f
 
 -- a slice that was lent whole, put back
 pub lent_whole : {A : Type 0} (size : ℕ) (xs ys : List A) → length xs ≡ length ys → size ≡ length ys → take size (xs ++ drop (length xs) ys) ≡ xs
@@ -154,6 +164,35 @@ changed_here false false lost false s = refl
 changed_other : (x came lost kept : Bool) → ((x || (came && false)) && not (lost && not kept && false)) ≡ x
 changed_other x came lost kept = ap₂ (λ a b. (x || a) && not b) (and-false came) (and-false (lost && not kept)) ∙ and-true (x || false) ∙ or-false x
 
+pub below_changed : (H : ℕ → ℕ → Bool) (rows : List ℕ) (p old new n : ℕ) → p < length rows → row_id rows p ≡ old
+    → (xs ys zs before after kept : List ℕ) → Shifts (H old n) (H new n) (has before n) (has after n)
+    → has kept n ≡ (H new n && has before n) → IsListOf (below_with H rows (length rows) n) xs
+    → (Ascending xs → IsListOf (λ m. has xs m || (has after n && eqb m p)) ys)
+    → (Ascending ys → IsListOf (λ m. has ys m && not (has before n && not (has kept n) && eqb m p)) zs)
+    → IsListOf (below_with H (slice_set rows p new) (length (slice_set rows p new)) n) zs
+below_changed H rows p old new n l o xs ys zs before after kept shifts hk first f g =
+    let second : IsListOf (λ m. has xs m || (has after n && eqb m p)) ys = f first.ascending in
+    let A = H new n in
+    let B = H old n in
+    let size : length (slice_set rows p new) ≡ length rows = length-set rows p new in
+    listed_as (λ m. has ys m && not (has before n && not (has kept n) && eqb m p)) (below_with H (slice_set rows p new) (length (slice_set rows p new)) n) zs
+    (λ m.
+    ap (λ x. x && not (has before n && not (has kept n) && eqb m p)) (second.members m ∙ ap (λ x. x || (has after n && eqb m p)) (first.members m))
+    ∙ elim (cases_eq m p) [
+      | inl s ↦
+          let own : below_with H rows (length rows) n m ≡ B = ap (below_with H rows (length rows) n) s ∙ ap₂ (λ x r. x && H r n) (lt-ltb p (length rows) l) o in
+          let now : row_id (slice_set rows p new) m ≡ new = ap (row_id (slice_set rows p new)) s ∙ get_or-set_same rows p new 0 l in
+          ap₂ (λ x y. (x || (has after n && y)) && not (has before n && not (has kept n) && y)) own (eq-eqb m p s)
+          ∙ ap (λ k. (B || (has after n && true)) && not (has before n && not k && true)) hk
+          ∙ changed_here B A (has before n) (has after n) shifts
+          ∙ sym (ap₂ (λ x r. x && H r n) (lt-ltb m (length (slice_set rows p new)) (omega (arith, s, size))) now)
+      | inr ne ↦
+          ap (λ y. (below_with H rows (length rows) n m || (has after n && y)) && not (has before n && not (has kept n) && y)) (ne_eqb m p ne)
+          ∙ changed_other (below_with H rows (length rows) n m) (has after n) (has before n) (has kept n)
+          ∙ sym (ap₂ (λ k r. ltb m k && H r n) size (get_or-set_other rows p m new 0 ne))
+    ])
+    (g second.ascending)
+
 pub uses_changed : (pool : Interned) (rows : List ℕ) (p old new n : ℕ) → p < length rows → row_id rows p ≡ old
     → (xs ys zs before after kept : List ℕ) → Shifts (row_holds pool old n) (row_holds pool new n) (has before n) (has after n)
     → has kept n ≡ (row_holds pool new n && has before n) → xs ≡ users_of pool rows n
@@ -161,28 +200,8 @@ pub uses_changed : (pool : Interned) (rows : List ℕ) (p old new n : ℕ) → p
     → (Ascending ys → IsListOf (λ m. has ys m && not (has before n && not (has kept n) && eqb m p)) zs)
     → IsListOf (uses_number pool (slice_set rows p new) (length (slice_set rows p new)) n) zs
 uses_changed pool rows p old new n l o xs ys zs before after kept shifts hk e f g =
-    let first : IsListOf (uses_number pool rows (length rows) n) xs = subst (IsListOf (uses_number pool rows (length rows) n)) (sym e) (users_listed pool rows n) in
-    let second : IsListOf (λ m. has xs m || (has after n && eqb m p)) ys = f first.ascending in
-    let A = row_holds pool new n in
-    let B = row_holds pool old n in
-    let size : length (slice_set rows p new) ≡ length rows = length-set rows p new in
-    listed_as (λ m. has ys m && not (has before n && not (has kept n) && eqb m p)) (uses_number pool (slice_set rows p new) (length (slice_set rows p new)) n) zs
-    (λ m.
-    ap (λ x. x && not (has before n && not (has kept n) && eqb m p)) (second.members m ∙ ap (λ x. x || (has after n && eqb m p)) (first.members m))
-    ∙ elim (cases_eq m p) [
-      | inl s ↦
-          let own : uses_number pool rows (length rows) n m ≡ B = ap (uses_number pool rows (length rows) n) s ∙ ap₂ (λ x r. x && row_holds pool r n) (lt-ltb p (length rows) l) o in
-          let now : row_id (slice_set rows p new) m ≡ new = ap (row_id (slice_set rows p new)) s ∙ get_or-set_same rows p new 0 l in
-          ap₂ (λ x y. (x || (has after n && y)) && not (has before n && not (has kept n) && y)) own (eq-eqb m p s)
-          ∙ ap (λ k. (B || (has after n && true)) && not (has before n && not k && true)) hk
-          ∙ changed_here B A (has before n) (has after n) shifts
-          ∙ sym (ap₂ (λ x r. x && row_holds pool r n) (lt-ltb m (length (slice_set rows p new)) (omega (arith, s, size))) now)
-      | inr ne ↦
-          ap (λ y. (uses_number pool rows (length rows) n m || (has after n && y)) && not (has before n && not (has kept n) && y)) (ne_eqb m p ne)
-          ∙ changed_other (uses_number pool rows (length rows) n m) (has after n) (has before n) (has kept n)
-          ∙ sym (ap₂ (λ k r. ltb m k && row_holds pool r n) size (get_or-set_other rows p m new 0 ne))
-    ])
-    (g second.ascending)
+    below_changed (row_holds pool) rows p old new n l o xs ys zs before after kept shifts hk
+    (subst (IsListOf (uses_number pool rows (length rows) n)) (sym e) (users_listed pool rows n)) f g
 
 -- the numbers of what a row lost and gained
 pub shifts_of : (pool : Interned) (old new : ℕ) (lost gained before after : List ℕ) (n : ℕ)

@@ -5,6 +5,7 @@ pub mod Repository
 pub mod Book
 pub mod Pairs
 pub mod Uses
+pub mod Holders
 pub mod Flags
 pub mod Health
 pub mod Clauses

@@ -3,6 +3,7 @@
 
 pub mod book;
 mod changes;
+mod clause_table;
 mod conflicting;
 pub mod health;
 mod moving;
@@ -16,6 +17,7 @@ mod within;
 
 pub use book::{Book, ConflictTable, RowList};
 pub use clause_pool::NumList;
+pub use clause_table::ClauseTable;
 pub use conflicting::{are_against, common_conflicts, conflicts_of, holds, is_inside};
 pub use health::Unhealthy;
 use listed::Listed;

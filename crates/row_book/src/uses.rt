@@ -84,7 +84,7 @@ impl UseTable {
 }
 
 /// So many empty lists.
-fn empty_lists(alloc: Global, size: usize) -> Result<Vec<Vec<u32>>, AllocError>
+pub(crate) fn empty_lists(alloc: Global, size: usize) -> Result<Vec<Vec<u32>>, AllocError>
     ensures size { IfOk result (λ made. length made.items ≡ size) }
     ensures empty { IfOk result (λ made. (n : ℕ) → list_in made.items n ≡ []) }
 {
@@ -155,7 +155,11 @@ fn numbers_among(
 }
 
 /// Puts the wanted numbers, which are sorted, of a clause behind the others.
-fn add_wanted(clause: &[u32], wanted: &[u32], found: &mut Vec<u32>) -> Result<(), AllocError>
+pub(crate) fn add_wanted(
+    clause: &[u32],
+    wanted: &[u32],
+    found: &mut Vec<u32>,
+) -> Result<(), AllocError>
     requires { IsNonDecreasing wanted.now }
     ensures { OnOk result ((n : ℕ) → has found.new.items n ≡ (has found.old.items n || (has clause.now n && has wanted.now n))) }
 {
@@ -169,7 +173,11 @@ fn add_wanted(clause: &[u32], wanted: &[u32], found: &mut Vec<u32>) -> Result<()
 
 /// Puts the package into the list of each of the numbers, where it is not there yet; where no memory is found, the lists
 /// stay as they were.
-fn add_to_each(table: &mut [Vec<u32>], numbers: &[u32], package: u32) -> Result<(), AllocError>
+pub(crate) fn add_to_each(
+    table: &mut [Vec<u32>],
+    numbers: &[u32],
+    package: u32,
+) -> Result<(), AllocError>
     requires { (n : ℕ) → has numbers.now n ≡ true → n < length table.old }
     ensures ok { OnOk result ((n : ℕ) → Ascending (list_in table.old n) →
         IsListOf (λ m. has (list_in table.old n) m || (has numbers.now n && eqb m «package»)) (list_in table.new n)) }
@@ -205,7 +213,7 @@ fn put_into_each(table: &mut [Vec<u32>], numbers: &[u32], package: u32)
 }
 
 /// Takes the package out of the list of each of the numbers that is not among those kept.
-fn take_from_each(table: &mut [Vec<u32>], numbers: &[u32], kept: &[u32], package: u32)
+pub(crate) fn take_from_each(table: &mut [Vec<u32>], numbers: &[u32], kept: &[u32], package: u32)
     requires sorted { IsNonDecreasing kept.now }
     requires within { (n : ℕ) → has numbers.now n ≡ true → n < length table.old }
     ensures { (n : ℕ) → Ascending (list_in table.old n) →

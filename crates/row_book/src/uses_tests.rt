@@ -3,7 +3,7 @@ ghost use Rattle.std.specs.Prelude.{◌≡◌, ◌∷◌, ◌<◌, [], length, I
 ghost use Rattle.clause_pool.specs.Interned.{clause_at, row_at, OfPool};
 ghost use Rattle.row_book.specs.Book.{RowsFit};
 
-use crate::UseTable;
+use crate::{ClauseTable, UseTable};
 use clause_pool::{ClauseId, Pool, RowId};
 use std::alloc::{AllocError, Global};
 use std::test::Fail;
@@ -47,5 +47,18 @@ fn users_follow_the_rows(rt: HostRuntime) -> Result<(), Fail> {
     table.replace(alloc, &pool, 0, first, second)?;
     assert!(rt; table.packages(1).is_empty());
     assert_eq!(rt; table.packages(3), [0, 1].as_slice());
+    Ok(())
+}
+
+#[test]
+fn users_of_clauses_follow_the_rows(rt: HostRuntime) -> Result<(), Fail> {
+    let alloc = rt.alloc();
+    let (pool, first, second, none) = three_rows(alloc)?;
+    let mut table = ClauseTable::of(alloc, &pool, &[first, second, none, none, none])?;
+    assert_eq!(rt; table.users(alloc, 1)?.as_slice(), [0].as_slice());
+    assert_eq!(rt; table.users(alloc, 3)?.as_slice(), [1].as_slice());
+    table.replace(alloc, &pool, 0, first, second)?;
+    assert!(rt; table.users(alloc, 1)?.is_empty());
+    assert_eq!(rt; table.users(alloc, 3)?.as_slice(), [0, 1].as_slice());
     Ok(())
 }

@@ -6,6 +6,7 @@ use Rattle.row_book.specs.Book.{repository_of}
 use Rattle.row_book.specs.Clauses.{numbers}
 use Rattle.row_book.specs.Flags.{flag}
 use Rattle.row_book.specs.Flattening.{flat, held_of, passes}
+use Rattle.row_book.specs.Holders.{TellsRows}
 use Rattle.row_book.specs.Repository.{Repository}
 use Rattle.row_book.proofs.Books.{repository_kept, rows_kept, sound_kept}
 use Rattle.clause_flatten.specs.Substitution.{length_in}
@@ -39,6 +40,10 @@ take_all_out-requires-clause-first c =
     ∙ c.in_ok-rows.ensures.tidied
     ∙ ap (λ xs. tidied_table (map (row_at c.args.pool.now) xs)) c.as_slice.ensures
     ∙ ap tidied_table (sym (rows_kept c.args.pool.now c.tidy_rows.new.pool c.clause_count.ensures.sound c.tidy_rows.ensures.kept c.args.book.now.rows c.requires.sound.rows))
+
+pub take_all_out-requires-clause-table : goal.take_all_out-requires-clause-table
+take_all_out-requires-clause-table c =
+    subst (λ xs. TellsRows c.tidy_rows.new.pool xs c.in_ok-uses.uses) (c.as_slice-3.ensures.value ∙ sym c.as_mut_slice.ensures.value) c.in_ok-uses.ensures
 
 pub take_all_out-requires-clause-waiting : goal.take_all_out-requires-clause-waiting
 take_all_out-requires-clause-waiting c =

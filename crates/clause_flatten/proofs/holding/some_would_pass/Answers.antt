@@ -2,7 +2,7 @@ use Rattle.std.proofs.Common.{◌∙◌, arith, get_or, subst, sym}
 use Rattle.row_book.proofs.Lists.{In_at}
 use Rattle.row_book.specs.Uses.{users_of}
 use Rattle.row_book.specs.Sets.{In}
-use Rattle.clause_flatten.proofs.Replacing.{own_user, user_in, users_at}
+use Rattle.clause_flatten.proofs.Replacing.{own_user, user_in}
 use Rattle.clause_flatten.proofs.Runs.{table_over, table_within}
 use Rattle.clause_flatten.proofs.holding.some_would_pass.Goals as goal
 
@@ -20,13 +20,13 @@ user_would_pass-requires-clause-other c e =
 pub returns-then-passes : goal.returns-then-passes
 returns-then-passes c =
     sym (table_over c.args.pool.now c.args.rows.now c.args.gone c.requires.gone c.args.users.now
-    (c.requires.users ∙ sym (users_at c.args.pool.now c.args.rows.now c.args.gone c.requires.gone)) c.args.limit
+    c.requires.users c.args.limit
     (get_or c.args.users.now c.loop-user.user-index 0) (In_at c.args.users.now c.loop-user.user-index 0 (omega arith))
     (sym c.in_ok-passes.ensures ∙ c.if-passes.true))
 
 pub returns : goal.returns
 returns c =
     sym (table_within c.args.pool.now c.args.rows.now c.args.gone c.requires.gone c.args.users.now
-    (c.requires.users ∙ sym (users_at c.args.pool.now c.args.rows.now c.args.gone c.requires.gone))
+    c.requires.users
     c.clause_count.ensures.sound c.requires.fit c.requires.tidy c.args.limit c.requires.within
     (λ k l. c.loop-user.invariant k (omega arith)))

@@ -1,94 +1,40 @@
-use Rattle.std.proofs.Common.{◌≡◌, ℕ, ◌<◌, List, length, ap, sym, ◌∙◌, subst}
+use Rattle.std.proofs.Common.{◌<◌, length, ap, sym, ◌∙◌, subst}
 use Rattle.clause_pool.specs.Interned.{row_at}
-use Rattle.row_book.specs.Sets.{In}
-use Rattle.row_book.specs.Uses.{row_id}
 use Rattle.row_book.proofs.Lists.{item_in}
 use Rattle.clause_flatten.proofs.Families.{item_zero}
-use Rattle.clause_flatten.proofs.Replacing.{at_same, fit_kept, fit_set, id_other, new_apart, new_numbers, new_thin, pool_up, tidy_kept, tidy_set, uses_kept, uses_length}
+use Rattle.clause_flatten.proofs.Replacing.{id_other, uses_kept, uses_length}
 use Rattle.clause_flatten.proofs.substitution.replace_row.Goals as goal
 
-pub rewrite-requires-clause-row : goal.rewrite-requires-clause-row
-rewrite-requires-clause-row c = c.requires.fit.of_pool c.index-rows-user.result (item_in c.args.rows.now c.args.user c.index-rows-user.result c.requires.user c.index-rows-user.is)
-
-pub rewrite-requires-clause-others : goal.rewrite-requires-clause-others
-rewrite-requires-clause-others c = c.requires.fit.of_pool c.index-rows-gone.result (item_in c.args.rows.now c.args.gone c.index-rows-gone.result c.requires.gone c.index-rows-gone.is)
-
-pub rewrite-requires-clause-minimal : goal.rewrite-requires-clause-minimal
-rewrite-requires-clause-minimal c a b i j f =
-    let at : row_id c.args.rows.now c.args.user ≡ c.index-rows-user.result = item_zero c.args.rows.now c.args.user c.index-rows-user.result c.requires.user c.index-rows-user.is in
-    c.requires.tidy.minimal c.args.user c.requires.user a b (subst (λ z. In a (row_at c.args.pool.now z)) (sym at) i) (subst (λ z. In b (row_at c.args.pool.now z)) (sym at) j) f
-
-pub returns-in_err-new-clause-stay : goal.returns-in_err-new-clause-stay
-returns-in_err-new-clause-stay c p l ne = at_same c.args.pool.now c.rewrite.new.pool c.args.rows.now c.clause_count.ensures.sound c.rewrite.ensures.kept c.requires.fit p l
-
-pub returns-in_err-new-clause-fit : goal.returns-in_err-new-clause-fit
-returns-in_err-new-clause-fit c = fit_kept c.args.pool.now c.rewrite.new.pool c.args.rows.now c.clause_count.ensures.sound c.rewrite.ensures.kept c.requires.fit
-
-pub returns-in_err-new-clause-tidy : goal.returns-in_err-new-clause-tidy
-returns-in_err-new-clause-tidy c = tidy_kept c.args.pool.now c.rewrite.new.pool c.args.rows.now c.clause_count.ensures.sound c.rewrite.ensures.kept c.requires.fit c.requires.tidy
-
 pub returns-in_err-new-clause-table : goal.returns-in_err-new-clause-table
-returns-in_err-new-clause-table c = c.requires.table ∙ uses_kept c.args.pool.now c.rewrite.new.pool c.args.rows.now c.clause_count.ensures.sound c.rewrite.ensures.kept c.requires.fit
+returns-in_err-new-clause-table c = c.requires.table ∙ uses_kept c.args.pool.now c.new_row.new.pool c.args.rows.now c.clause_count.ensures.sound c.new_row.ensures.kept c.requires.fit
 
 pub replace-requires-clause-old : goal.replace-requires-clause-old
 replace-requires-clause-old c =
-    (c.rewrite.ensures.kept.rows c.index-rows-user.result (c.requires.fit.of_pool c.index-rows-user.result (item_in c.args.rows.now c.args.user c.index-rows-user.result c.requires.user c.index-rows-user.is))).0
+    (c.new_row.ensures.kept.rows c.index-rows-user.result (c.requires.fit.of_pool c.index-rows-user.result (item_in c.args.rows.now c.args.user c.index-rows-user.result c.requires.user c.index-rows-user.is))).0
 
 pub replace-requires-clause-old_numbers : goal.replace-requires-clause-old_numbers
 replace-requires-clause-old_numbers c d i n j =
     subst (λ z. n < z) (sym (ap length c.requires.table ∙ uses_length c.args.pool.now c.args.rows.now))
-    ((fit_kept c.args.pool.now c.rewrite.new.pool c.args.rows.now c.clause_count.ensures.sound c.rewrite.ensures.kept c.requires.fit).numbers
-    c.index-rows-user.result (item_in c.args.rows.now c.args.user c.index-rows-user.result c.requires.user c.index-rows-user.is) d i n j)
+    (c.new_row.ensures.fit.numbers c.index-rows-user.result (item_in c.args.rows.now c.args.user c.index-rows-user.result c.requires.user c.index-rows-user.is) d i n j)
 
 pub replace-requires-clause-numbers : goal.replace-requires-clause-numbers
 replace-requires-clause-numbers c d i n j =
-    subst (λ z. n < z) (sym (ap length c.requires.table ∙ uses_length c.args.pool.now c.args.rows.now))
-    (new_numbers c.args.user c.args.gone (row_at c.args.pool.now c.index-rows-user.result) (row_at c.args.pool.now c.index-rows-gone.result) (length c.args.rows.now)
-    (c.requires.fit.numbers c.index-rows-user.result (item_in c.args.rows.now c.args.user c.index-rows-user.result c.requires.user c.index-rows-user.is))
-    (c.requires.fit.numbers c.index-rows-gone.result (item_in c.args.rows.now c.args.gone c.index-rows-gone.result c.requires.gone c.index-rows-gone.is))
-    d (subst (λ z. In d z) c.in_ok-new.ensures.ok i) n j)
-
-pub returns-in_err-replace-clause-stay : goal.returns-in_err-replace-clause-stay
-returns-in_err-replace-clause-stay c p l ne = at_same c.args.pool.now c.rewrite.new.pool c.args.rows.now c.clause_count.ensures.sound c.rewrite.ensures.kept c.requires.fit p l
-
-pub returns-in_err-replace-clause-fit : goal.returns-in_err-replace-clause-fit
-returns-in_err-replace-clause-fit c = fit_kept c.args.pool.now c.rewrite.new.pool c.args.rows.now c.clause_count.ensures.sound c.rewrite.ensures.kept c.requires.fit
-
-pub returns-in_err-replace-clause-tidy : goal.returns-in_err-replace-clause-tidy
-returns-in_err-replace-clause-tidy c = tidy_kept c.args.pool.now c.rewrite.new.pool c.args.rows.now c.clause_count.ensures.sound c.rewrite.ensures.kept c.requires.fit c.requires.tidy
+    subst (λ z. n < z) (sym (ap length c.requires.table ∙ uses_length c.args.pool.now c.args.rows.now)) (c.in_ok-new.ensures.numbers d i n j)
 
 pub returns-in_err-replace-clause-table : goal.returns-in_err-replace-clause-table
-returns-in_err-replace-clause-table c =
-    c.in_err-replace.ensures.err ∙ c.requires.table ∙ uses_kept c.args.pool.now c.rewrite.new.pool c.args.rows.now c.clause_count.ensures.sound c.rewrite.ensures.kept c.requires.fit
+returns-in_err-replace-clause-table c = c.in_err-replace.ensures.err ∙ c.requires.table ∙ uses_kept c.args.pool.now c.new_row.new.pool c.args.rows.now c.clause_count.ensures.sound c.new_row.ensures.kept c.requires.fit
 
 pub returns-clause-stay : goal.returns-clause-stay
 returns-clause-stay c p l ne =
-    ap (row_at c.rewrite.new.pool) (id_other c.rewrite.new.pool c.args.rows.now c.args.user c.in_ok-new.new c.requires.user p ne)
-    ∙ at_same c.args.pool.now c.rewrite.new.pool c.args.rows.now c.clause_count.ensures.sound c.rewrite.ensures.kept c.requires.fit p l
+    ap (row_at c.new_row.new.pool) (id_other c.new_row.new.pool c.args.rows.now c.args.user c.in_ok-new.new c.requires.user p ne) ∙ c.new_row.ensures.stay p l
 
 pub returns-clause-fit : goal.returns-clause-fit
-returns-clause-fit c =
-    fit_set c.rewrite.new.pool c.args.rows.now c.args.user c.in_ok-new.new c.requires.user
-    (fit_kept c.args.pool.now c.rewrite.new.pool c.args.rows.now c.clause_count.ensures.sound c.rewrite.ensures.kept c.requires.fit) c.in_ok-new.ensures.of_pool
-    (λ d i n j.
-    new_numbers c.args.user c.args.gone (row_at c.args.pool.now c.index-rows-user.result) (row_at c.args.pool.now c.index-rows-gone.result) (length c.args.rows.now)
-    (c.requires.fit.numbers c.index-rows-user.result (item_in c.args.rows.now c.args.user c.index-rows-user.result c.requires.user c.index-rows-user.is))
-    (c.requires.fit.numbers c.index-rows-gone.result (item_in c.args.rows.now c.args.gone c.index-rows-gone.result c.requires.gone c.index-rows-gone.is))
-    d (subst (λ z. In d z) c.in_ok-new.ensures.ok i) n j)
+returns-clause-fit c = c.in_ok-new.ensures.fits
 
 pub returns-clause-tidy : goal.returns-clause-tidy
-returns-clause-tidy c =
-    let A : List (List ℕ) = row_at c.args.pool.now c.index-rows-user.result in
-    let B : List (List ℕ) = row_at c.args.pool.now c.index-rows-gone.result in
-    tidy_set c.rewrite.new.pool c.args.rows.now c.args.user c.in_ok-new.new c.requires.user
-    (tidy_kept c.args.pool.now c.rewrite.new.pool c.args.rows.now c.clause_count.ensures.sound c.rewrite.ensures.kept c.requires.fit c.requires.tidy)
-    (λ d i. new_apart c.args.user c.args.gone A B d (subst (λ z. In d z) c.in_ok-new.ensures.ok i))
-    (λ d e i j. new_thin c.args.user c.args.gone A B
-    (pool_up c.args.pool.now c.clause_count.ensures.sound c.index-rows-user.result (c.requires.fit.of_pool c.index-rows-user.result (item_in c.args.rows.now c.args.user c.index-rows-user.result c.requires.user c.index-rows-user.is)))
-    (pool_up c.args.pool.now c.clause_count.ensures.sound c.index-rows-gone.result (c.requires.fit.of_pool c.index-rows-gone.result (item_in c.args.rows.now c.args.gone c.index-rows-gone.result c.requires.gone c.index-rows-gone.is)))
-    d e (subst (λ z. In d z) c.in_ok-new.ensures.ok i) (subst (λ z. In e z) c.in_ok-new.ensures.ok j))
+returns-clause-tidy c = c.in_ok-new.ensures.tidies
 
 pub returns-clause-table : goal.returns-clause-table
 returns-clause-table c =
     c.in_ok-replace.ensures.ok c.args.rows.now c.requires.user (item_zero c.args.rows.now c.args.user c.index-rows-user.result c.requires.user c.index-rows-user.is)
-    (c.requires.table ∙ uses_kept c.args.pool.now c.rewrite.new.pool c.args.rows.now c.clause_count.ensures.sound c.rewrite.ensures.kept c.requires.fit)
+    (c.requires.table ∙ uses_kept c.args.pool.now c.new_row.new.pool c.args.rows.now c.clause_count.ensures.sound c.new_row.ensures.kept c.requires.fit)

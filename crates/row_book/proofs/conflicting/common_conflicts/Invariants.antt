@@ -1,4 +1,4 @@
-use Rattle.std.proofs.Common.{◌≡◌, ℕ, filter, take}
+use Rattle.std.proofs.Common.{◌≡◌, filter, take}
 use Rattle.std.specs.List.{list_all}
 use Rattle.row_book.specs.Book.{listed_for}
 use Rattle.row_book.specs.Facing.{against_in}

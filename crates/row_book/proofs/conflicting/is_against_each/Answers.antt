@@ -1,4 +1,4 @@
-use Rattle.std.proofs.Common.{sym, arith, ℕ}
+use Rattle.std.proofs.Common.{sym, arith}
 use Rattle.row_book.specs.Facing.{against_in}
 use Rattle.row_book.proofs.Leads.{all_pass}
 use Rattle.row_book.proofs.conflicting.is_against_each.Goals as goal

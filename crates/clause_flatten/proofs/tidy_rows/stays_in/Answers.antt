@@ -1,0 +1,27 @@
+use Rattle.std.proofs.Common.{◌≡◌, ◌∙◌, ◌&&◌, false, not, true, ap, subst, sym, Some}
+use Rattle.clause_pool.specs.Interned.{clause_at, clauses_at}
+use Rattle.row_book.specs.Clauses.{Ascending}
+use Rattle.row_book.specs.Sets.{has}
+use Rattle.row_book.specs.Within.{some_within}
+use Rattle.clause_flatten.specs.Inclusion.{has_shorter}
+use Rattle.clause_flatten.proofs.Tidied.{shorter_is_other}
+use Rattle.clause_flatten.proofs.tidy_rows.stays_in.Goals as goal
+
+pub returns-then-contains : goal.returns-then-contains
+returns-then-contains c =
+    let held : has (clause_at c.args.pool.now c.args.id) c.args.«package» ≡ true =
+    sym (c.contains.ensures ∙ ap (λ z. has z c.args.«package») c.slice-clause.ensures.lent) ∙ c.if-contains.true in
+    sym (ap (λ b. not b && not (has_shorter (clauses_at c.args.pool.now c.args.row.now) (clause_at c.args.pool.now c.args.id))) held)
+
+pub has_within-requires-clause-numbers : goal.has_within-requires-clause-numbers
+has_within-requires-clause-numbers c = c.slice-clause.ensures.ascending
+
+pub returns : goal.returns
+returns c =
+    let cs = clauses_at c.args.pool.now c.args.row.now in
+    let d = clause_at c.args.pool.now c.args.id in
+    let lent : c.slice-clause.result.now ≡ clause_at c.args.pool.now c.args.id = c.slice-clause.ensures.lent in
+    let apart : has (clause_at c.args.pool.now c.args.id) c.args.«package» ≡ false = sym (c.contains.ensures ∙ ap (λ z. has z c.args.«package») lent) ∙ c.if-contains.false in
+    ap not (c.has_within.ensures ∙ ap (λ z. some_within (Some (clause_at c.args.pool.now c.args.id)) z (clauses_at c.args.pool.now c.args.row.now)) lent
+    ∙ shorter_is_other cs c.requires.rising d (subst Ascending lent c.slice-clause.ensures.ascending))
+    ∙ sym (ap (λ b. not b && not (has_shorter (clauses_at c.args.pool.now c.args.row.now) (clause_at c.args.pool.now c.args.id))) apart)

@@ -1,12 +1,12 @@
 -- The tests of pruning over a pool, a table of conflicts, and the rows as they are left.
-use Rattle.std.specs.Prelude.{ℕ, Bool, not, ◌&&◌, ◌||◌, eqb, List, [], filter, map, slice_set}
+use Rattle.std.specs.Prelude.{ℕ, Bool, not, ◌&&◌, ◌||◌, eqb, List, [], filter, length, map, slice_set}
 use Rattle.std.specs.List.{list_all, list_any}
 use Rattle.std.specs.Cmp.Lexicographic.{pointwise}
 use Rattle.row_book.specs.Clauses.{is_inside}
 use Rattle.row_book.specs.Pruning.{serves}
 use Rattle.clause_pool.specs.Interned.{Interned, clauses_at, row_at}
 use Rattle.row_book.specs.Sets.{has}
-use Rattle.row_book.specs.Repository.{Repository}
+use Rattle.row_book.specs.Repository.{Repository, clauses_of}
 use Rattle.row_book.specs.Facing.{against_in}
 
 -- the rows with the clauses of these ids for a package
@@ -40,3 +40,7 @@ ids_without ids id = filter (λ other. not (eqb other id)) ids
 -- rows of a pool with a table of conflicts
 abbrev pub repository_in : Interned → List ℕ → List (List ℕ) → Repository
 repository_in pool rows table = record { clauses = map (row_at pool) rows; conflicts = table }
+
+-- whether the package has a clause
+abbrev pub has_clause : Repository → ℕ → Bool
+has_clause R m = not (eqb (length (clauses_of R m)) 0)

@@ -1,5 +1,5 @@
 //! Pruning of the clauses of one package.
-ghost use Rattle.std.specs.Prelude.{◌≡◌, ◌<◌, ◌≤◌, ◌++◌, [], ℕ, IfOk, List, OnOk, length, map, slice_index_or};
+ghost use Rattle.std.specs.Prelude.{◌≡◌, ◌<◌, ◌≤◌, ◌++◌, [], ℕ, IfOk, List, OnOk, length, map, slice_index_or, true};
 ghost use Rattle.clause_pool.specs.Interned.{clause_at, clauses_at, OfPool};
 ghost use Rattle.row_book.specs.Sets.{In};
 ghost use Rattle.row_book.specs.Clauses.{Ascending, InOrder};
@@ -8,9 +8,9 @@ ghost use Rattle.row_book.specs.Repository.{Repository};
 ghost use Rattle.row_book.specs.Pruning.{clause_steps, clauses_steps, prune_clause, prune_clauses};
 ghost use Rattle.row_book.specs.Rounds.{IdleStep, RoundStep};
 ghost use Rattle.row_book.specs.Trail.{trail_meaning};
-ghost use Rattle.clause_prune.specs.Tests.{ids_without, with_ids};
+ghost use Rattle.clause_prune.specs.Tests.{has_clause, ids_without, with_ids};
 
-use crate::forced::is_forced;
+use crate::forced::{is_forced, with_clauses};
 use crate::idle::idle_by;
 use clause_pool::{ClauseId, NumList, Pool, RowId};
 use listed::Listed;
@@ -43,7 +43,7 @@ fn drop_id(left: &mut Vec<ClauseId>, clause: ClauseId)
 }
 
 /// Drops the clause of the package where it is forced or idle among those that are left; where it is idle and not forced,
-/// the step is put behind the others. The packages, in their order, are all members of clauses that are left.
+/// the step is put behind the others. The others are all members of clauses that are left which have clauses.
 fn prune_one(
     alloc: Global,
     pool: &Pool,
@@ -51,7 +51,7 @@ fn prune_one(
     table: &[NumList],
     package: u32,
     left: &mut Vec<ClauseId>,
-    packages: &[u32],
+    others: &[u32],
     clause: ClauseId,
     idle: &mut StepList,
 ) -> Result<(), AllocError>
@@ -63,9 +63,9 @@ fn prune_one(
     requires table { (p : ℕ) → Ascending (listed_for table.now p) }
     requires clause { clause < length pool.now.clauses }
     requires own { (n : ℕ) → In n (clause_at pool.now clause) → n < length rows.now }
-    requires packages { (n : ℕ) → In n packages.now → n < length rows.now }
-    requires ascending { Ascending packages.now }
-    requires all { (c : List ℕ) → In c (clauses_at pool.now left.old.items) → (n : ℕ) → In n c → In n packages.now }
+    requires others { (n : ℕ) → In n others.now → n < length rows.now }
+    requires all { (c : List ℕ) → In c (clauses_at pool.now left.old.items) → (n : ℕ) → In n c →
+        has_clause (with_ids pool.now rows.now «package» left.old.items []) n ≡ true → In n others.now }
     ensures left { OnOk result (◌≡◌ {A = Repository} (with_ids pool.now rows.now «package» left.new.items table.now)
         (prune_clause (with_ids pool.now rows.now «package» left.old.items table.now) «package» (clause_at pool.now clause))) }
     ensures part { OnOk result ((id : ℕ) → In id left.new.items → In id left.old.items) }
@@ -75,15 +75,7 @@ fn prune_one(
 {
     // What holds of every pool is told by this call alone.
     pool.clause_count();
-    let forced = is_forced(
-        alloc,
-        pool,
-        rows,
-        package,
-        left.as_slice(),
-        packages,
-        clause,
-    )?;
+    let forced = is_forced(alloc, pool, rows, package, left.as_slice(), others, clause)?;
     if forced {
         drop_id(left, clause);
         return Ok(());
@@ -125,11 +117,12 @@ pub(crate) fn prune_each(
         ++ map IdleStep (clauses_steps (with_ids pool.now rows.now «package» ids.now table.now) «package» (clauses_at pool.now ids.now))) }
 {
     let packages = distinct_numbers_in(alloc, pool, ids)?;
-    let members = packages.as_slice();
+    let some = with_clauses(alloc, pool, rows, package, ids, packages.as_slice())?;
+    let others = some.as_slice();
     let mut left = Vec::from_slice(alloc, ids)?;
     for id in ids {
         prune_one(
-            alloc, pool, rows, table, package, &mut left, members, *id, idle,
+            alloc, pool, rows, table, package, &mut left, others, *id, idle,
         )?;
     }
     Ok(left)

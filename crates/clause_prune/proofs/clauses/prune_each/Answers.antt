@@ -6,9 +6,9 @@ use Rattle.row_book.specs.Uses.{some_holds}
 use Rattle.row_book.specs.Pruning.{clauses_steps, prune_clauses}
 use Rattle.row_book.specs.Rounds.{IdleStep}
 use Rattle.row_book.specs.Trail.{trail_meaning}
-use Rattle.row_book.proofs.Lists.{In_has, In_map, In_map_cases, any_cases, any_from, has_In, item_in}
-use Rattle.row_book.specs.Clauses.{Ascending}
-use Rattle.clause_prune.specs.Tests.{with_ids}
+use Rattle.row_book.proofs.Lists.{In_has, In_map, In_map_cases, any_cases, any_from, filter_cases, filter_from, has_In, item_in}
+use Rattle.clause_prune.specs.Tests.{has_clause, with_ids}
+use Rattle.clause_prune.proofs.Forcing.{had_clause}
 use Rattle.clause_prune.proofs.Left.{Pruning, pruning_more}
 use Rattle.clause_prune.proofs.clauses.prune_each.Goals as goal
 
@@ -31,21 +31,31 @@ prune_one-requires-clause-own c =
     c.requires.members (clause_at c.args.pool.now c.id-item.result) (In_map (clause_at c.args.pool.now) c.args.ids.now c.id-item.result (item_in c.args.ids.now c.loop-id.id-index c.id-item.result (omega arith) c.id-item.is))
 
 -- the numbers that the clauses hold are packages, and those that are left hold no others
-pub prune_one-requires-clause-packages : goal.prune_one-requires-clause-packages
-prune_one-requires-clause-packages c = λ n i.
-    let t : some_holds (clauses_at c.args.pool.now c.args.ids.now) n ≡ true = c.in_ok-packages.ensures.held n (subst (λ z. In n z) c.as_slice-members.ensures.value i) in
+pub with_clauses-requires-clause-packages : goal.with_clauses-requires-clause-packages
+with_clauses-requires-clause-packages c = λ n i.
+    let t : some_holds (clauses_at c.args.pool.now c.args.ids.now) n ≡ true = c.in_ok-packages.ensures.held n (subst (λ z. In n z) c.as_slice.ensures.value i) in
     let w : (d : List ℕ) × In d (clauses_at c.args.pool.now c.args.ids.now) × (has d n ≡ true) = any_cases (λ d. has d n) (clauses_at c.args.pool.now c.args.ids.now) t in
     c.requires.members w.0 w.1 n (has_In w.0 n w.2)
 
-pub prune_one-requires-clause-ascending : goal.prune_one-requires-clause-ascending
-prune_one-requires-clause-ascending c = subst Ascending (sym c.as_slice-members.ensures.value) c.in_ok-packages.ensures.ascending
+pub prune_one-requires-clause-others : goal.prune_one-requires-clause-others
+prune_one-requires-clause-others c = λ n i.
+    let j : In n c.as_slice.result.now =
+    (filter_cases (has_clause (with_ids c.args.pool.now c.args.rows.now c.args.«package» c.args.ids.now [])) c.as_slice.result.now n
+    (subst (λ z. In n z) (c.as_slice-others.ensures.value ∙ c.in_ok-some.ensures) i)).0 in
+    let t : some_holds (clauses_at c.args.pool.now c.args.ids.now) n ≡ true = c.in_ok-packages.ensures.held n (subst (λ z. In n z) c.as_slice.ensures.value j) in
+    let w : (d : List ℕ) × In d (clauses_at c.args.pool.now c.args.ids.now) × (has d n ≡ true) = any_cases (λ d. has d n) (clauses_at c.args.pool.now c.args.ids.now) t in
+    c.requires.members w.0 w.1 n (has_In w.0 n w.2)
 
 pub prune_one-requires-clause-all : goal.prune_one-requires-clause-all
-prune_one-requires-clause-all c = λ d i n j.
+prune_one-requires-clause-all c = λ d i n j h.
     let w : (id : ℕ) × In id c.loop-id.left.items × (d ≡ clause_at c.args.pool.now id) = In_map_cases (clause_at c.args.pool.now) c.loop-id.left.items d i in
     let k : In d (clauses_at c.args.pool.now c.args.ids.now) =
     subst (λ z. In z (clauses_at c.args.pool.now c.args.ids.now)) (sym w.2) (In_map (clause_at c.args.pool.now) c.args.ids.now w.0 (c.loop-id.invariant.part w.0 w.1)) in
-    subst (λ z. In n z) (sym c.as_slice-members.ensures.value) (c.in_ok-packages.ensures.all n (any_from (λ e. has e n) (clauses_at c.args.pool.now c.args.ids.now) d k (In_has j)))
+    let member : In n c.as_slice.result.now =
+    subst (λ z. In n z) (sym c.as_slice.ensures.value) (c.in_ok-packages.ensures.all n (any_from (λ e. has e n) (clauses_at c.args.pool.now c.args.ids.now) d k (In_has j))) in
+    subst (λ z. In n z) (sym (c.as_slice-others.ensures.value ∙ c.in_ok-some.ensures))
+    (filter_from (has_clause (with_ids c.args.pool.now c.args.rows.now c.args.«package» c.args.ids.now [])) c.as_slice.result.now n member
+    (had_clause c.args.pool.now c.args.rows.now c.args.«package» c.args.ids.now c.loop-id.left.items c.requires.inside c.loop-id.invariant.part n h))
 
 pub loop-id-preserved : goal.loop-id-preserved
 loop-id-preserved c =

@@ -142,3 +142,8 @@ blank_stops text whole n some within feed blank same = sym (last_blank-at text n
 pub blank_goes : (text whole : List ℕ) (n : ℕ) → 0 < n → n ≤ length text → is_line_feed (get_or text (n - 1) 0) ≡ false → is_blank_byte (get_or text (n - 1) 0) ≡ true
     → is_last_blank (take n text) ≡ is_last_blank whole → is_last_blank (take (n - 1) text) ≡ is_last_blank whole
 blank_goes text whole n some within feed blank same = sym (last_blank-at text n some within ∙ rw (feed, blank) refl) ∙ same
+
+-- whether a front closes, by its last byte
+pub closes_at : (text : List ℕ) (n : ℕ) → 0 < n → n ≤ length text → closes (take n text) ≡ (is_line_feed (get_or text (n - 1) 0) && is_last_blank (take (n - 1) text))
+closes_at text n some within =
+    ap closes (front_push text n some within) ∙ ap is_closing (reverse-append (take (n - 1) text) (get_or text (n - 1) 0 ∷ []))

@@ -3,6 +3,7 @@ pub mod WellFormed
 pub mod Indexed
 pub mod PackageKeys
 pub mod Closing
+pub mod Feeds
 pub mod Opening
 pub mod Steps
 pub mod Standing

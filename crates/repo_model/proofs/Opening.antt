@@ -1,13 +1,14 @@
 -- Texts of which no front is closed.
-use Rattle.std.proofs.Common.{◌≡◌, ℕ, ◌+◌, ◌-◌, ◌<◌, ◌≤◌, true, false, ◌⊎◌, inl, inr, List, [], ◌∷◌, ◌++◌, length, take, drop, refl, sym, ap, subst, ◌∙◌, append_assoc, take-append-drop, length-append, arith}
+use Rattle.std.proofs.Common.{◌≡◌, ℕ, ◌+◌, ◌-◌, ◌<◌, ◌≤◌, true, false, ◌&&◌, ◌⊎◌, inl, inr, List, [], ◌∷◌, ◌++◌, length, take, drop, get_or, refl, sym, ap, ap₂, subst, ◌∙◌, append_assoc, take-append-drop, length-append, arith}
 use Rattle.std.proofs.Math.Seq.{take-append-add}
 use Rattle.std.proofs.lemmas.Bool.{cases_lt}
 use Rattle.std.proofs.lemmas.List.{take_at, length-take-le}
 use Rattle.stanza_reader.specs.Close.{IsClosed}
 use Rattle.stanza_reader.proofs.PartLemmas.{closed_texts_join}
-use Rattle.repo_model.specs.Backward.{closes}
+use Rattle.stanza_reader.specs.Lines.{is_line_feed}
+use Rattle.repo_model.specs.Backward.{closes, is_last_blank, IsLastFeed, NoFeed}
 use Rattle.repo_model.specs.Feeding.{IsOpen}
-use Rattle.repo_model.proofs.Closing.{closed_closes}
+use Rattle.repo_model.proofs.Closing.{closed_closes, closes_at}
 
 -- no front that is longer than this closes
 abbrev pub NoneCloses : List ℕ → ℕ → Type 0
@@ -16,13 +17,32 @@ NoneCloses text end = (n : ℕ) → end < n → n ≤ length text → closes (ta
 pub none_longer : (text : List ℕ) (end : ℕ) → length text ≤ end → NoneCloses text end
 none_longer text end whole = λ n behind within. absurd (omega (arith, whole, behind, within))
 
--- nor one that is longer than one byte less
-pub none_shorter : (text : List ℕ) (end : ℕ) → NoneCloses text end → closes (take end text) ≡ false → NoneCloses text (end - 1)
-none_shorter text end none this = λ n behind within. by n behind within (cases_lt end n)
+-- nor one that is longer than a place behind which no line feed stands
+pub none_before : (text : List ℕ) (place end : ℕ) → end ≤ length text → NoFeed text place end → NoneCloses text end → NoneCloses text place
+none_before text place end whole bare none = λ n behind within. by n behind within (cases_lt end n)
   where
-    by : (n : ℕ) → end - 1 < n → n ≤ length text → (end < n) ⊎ (n ≤ end) → closes (take n text) ≡ false
+    by : (n : ℕ) → place < n → n ≤ length text → (end < n) ⊎ (n ≤ end) → closes (take n text) ≡ false
     by n behind within (inl longer) = none n longer within
-    by n behind within (inr short) = let same : n ≡ end = omega (arith, behind, short) in ap (λ m. closes (take m text)) same ∙ this
+    by n behind within (inr short) =
+        closes_at text n (omega (arith, behind)) within
+        ∙ ap (λ b. b && is_last_blank (take (n - 1) text)) (bare (n - 1) (omega (arith, behind)) (omega (arith, behind, short)))
+
+-- nor one that is longer than the place of the last line feed, where the line before it is not blank
+pub none_at : (text : List ℕ) (from place end : ℕ) → end ≤ length text → IsLastFeed text from end place → is_last_blank (take place text) ≡ false → NoneCloses text end → NoneCloses text place
+none_at text from place end whole feed mute none = λ n behind within. by n behind within (cases_lt (place + 1) n)
+  where
+    by : (n : ℕ) → place < n → n ≤ length text → (place + 1 < n) ⊎ (n ≤ place + 1) → closes (take n text) ≡ false
+    by n behind within (inl longer) = none_before text (place + 1) end whole feed.last none n longer within
+    by n behind within (inr short) =
+        let back : n - 1 ≡ place = omega (arith, behind, short) in
+        closes_at text n (omega (arith, behind)) within ∙ ap₂ (λ b t. b && is_last_blank (take t text)) (ap (λ k. is_line_feed (get_or text k 0)) back ∙ feed.feed) back ∙ mute
+
+-- the front up to the last line feed closes, where the line before it is blank
+pub feed_closes : (text : List ℕ) (from place end : ℕ) → end ≤ length text → IsLastFeed text from end place → is_last_blank (take place text) ≡ true → closes (take (place + 1) text) ≡ true
+feed_closes text from place end whole feed blank =
+    let back : place + 1 - 1 ≡ place = omega arith in
+    closes_at text (place + 1) (omega arith) (omega (arith, whole, feed.high))
+    ∙ ap₂ (λ b t. b && is_last_blank (take t text)) (ap (λ k. is_line_feed (get_or text k 0)) back ∙ feed.feed) back ∙ blank
 
 never : true ≡ false → ⊥
 never e = cc

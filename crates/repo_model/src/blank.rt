@@ -1,12 +1,14 @@
 //! Blank lines, seen from the end of a text.
-ghost use Rattle.std.specs.Prelude.{◌≡◌, ◌<◌, ◌≤◌, length, take, drop, count_by};
+ghost use Rattle.std.specs.Prelude.{◌≡◌, ◌<◌, ◌≤◌, length, take, drop, count_by, IfNone, IfSome};
 ghost use Rattle.stanza_reader.specs.Close.{IsClosed};
 ghost use Rattle.stanza_reader.specs.Lines.{is_blank_byte, is_line_feed};
-ghost use Rattle.repo_model.specs.Backward.{closes, is_last_blank};
+ghost use Rattle.repo_model.specs.Backward.{is_last_blank, IsLastFeed, NoFeed};
 ghost use Rattle.repo_model.specs.Feeding.{IsOpen};
 
+use memchr::memrchr;
+
 /// How many bytes end with the last blank line that ends with a line feed; 0 where there is none. Of the first `from` bytes
-/// it is known that there is none among them.
+/// it is known that there is none among them. Only line feeds are looked at, from the last one on.
 pub(crate) fn closed_length(text: &[u8], from: usize) -> usize
     requires { IsOpen (take from text.now) }
     ensures within { result ≤ length text.now }
@@ -15,21 +17,29 @@ pub(crate) fn closed_length(text: &[u8], from: usize) -> usize
 {
     let mut end = text.len();
     while from < end {
-        if closes(text, end) {
-            return end;
+        let Some(feed) = last_feed(text, from, end) else {
+            return 0;
+        };
+        if is_last_blank(text, feed) {
+            return feed + 1;
         }
-        end -= 1;
+        end = feed;
     }
     0
 }
 
-/// Whether the first bytes, at least one, end with a blank line and a line feed.
-fn closes(text: &[u8], end: usize) -> bool
-    requires some { 0 < end }
+/// The place of the last line feed from one place to before another.
+fn last_feed(text: &[u8], from: usize, end: usize) -> Option<usize>
+    requires order { from ≤ end }
     requires within { end ≤ length text.now }
-    ensures { result ≡ closes (take end text.now) }
+    ensures some { IfSome result (IsLastFeed text.now from end) }
+    ensures below { IfSome result (λ place. place < end) }
+    ensures none { IfNone result (NoFeed text.now from end) }
 {
-    is_feed(text[end - 1]) && is_last_blank(text, end - 1)
+    match memrchr(b'\n', &text[from..end]) {
+        Some(place) => Some(from + place),
+        None => None,
+    }
 }
 
 /// Whether what stands behind the last line feed of the first bytes is blank.

@@ -26,6 +26,7 @@ use Rattle.row_book.specs.declared.book.Book.{Book}
 use Rattle.row_book.proofs.BookRepositories.{book_size}
 use Rattle.row_book.proofs.Lists.{In_map, In_map_cases}
 use Rattle.search_terms.specs.declared.literals.Literal.{Literal}
+use Rattle.search_terms.specs.Closure.{InRange}
 use Rattle.search_terms.specs.Derives.{Derives}
 use Rattle.search_terms.specs.Form.{form}
 use Rattle.search_terms.specs.Laws.{HasNoSolution}
@@ -118,6 +119,9 @@ module _ (pool : Interned) (home : Home) (stanzas : List PackageFacts) (book : B
 
     pub no_derives : (entries : List (List Literal)) → Derives (form K classes) entries → Derives (form (kernel limit made.hold R) (images_of limit made.hold home stanzas goals)) entries
     no_derives entries d = subst (λ S. Derives (form S (images_of limit made.hold home stanzas goals)) entries) k_is (subst (λ cs. Derives (form K cs) entries) classes_are d)
+
+    pub no_in_range : (entries : List (List Literal)) → InRange (length K.clauses) entries → InRange (length (kernel limit made.hold R).clauses) entries
+    no_in_range entries inside = subst (λ S. InRange (length S.clauses) entries) k_is inside
 
     pub no_coinst : HasNoSolution K classes → ¬ (CoinstGoals home stanzas goals)
     no_coinst none w =

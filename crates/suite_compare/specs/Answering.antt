@@ -10,6 +10,7 @@ use Rattle.repo_model.specs.Goals.{packages_named, CoinstGoals, HasOneFor}
 use Rattle.repo_model.specs.Repository.{suite_repository}
 use Rattle.repo_model.specs.Stanzas.{HealthyStanzas}
 use Rattle.repo_model.specs.declared.goals.Goal.{Goal}
+use Rattle.search_terms.specs.Closure.{InRange}
 use Rattle.search_terms.specs.Derives.{Derives}
 use Rattle.search_terms.specs.Form.{form}
 use Rattle.search_terms.specs.Tree.{failed_leaves, found_of, log_of}
@@ -69,9 +70,11 @@ pub record Serves (home : Home) (stanzas : List PackageFacts) (goals : List Goal
   pub healthy : HealthyStanzas home stanzas I
   pub each : (goal : Goal) → In goal goals → HasOneFor stanzas I goal
 
--- what an answer tells by itself: a yes has such an installation; the log of a no derives the empty entry from the kernel
--- and the goals' classes, and the goals are not co-installable
+-- what an answer tells by itself: a yes has such an installation; the log of a no is of classes of the kernel and derives the empty
+-- entry from the kernel and the goals' classes, so that the checker of logs accepts it, and the goals are not co-installable
 abbrev pub IsCertified : ℕ → Bool → Home → List PackageFacts → List Goal → Answer → Type 0
 IsCertified limit hold home stanzas goals (Yes install classes) = Serves home stanzas goals (has install)
-IsCertified limit hold home stanzas goals (No log) = Derives (form (kernel limit hold (suite_repository home stanzas)) (images_of limit hold home stanzas goals)) log.entries × (¬ (CoinstGoals home stanzas goals))
+IsCertified limit hold home stanzas goals (No log) =
+    InRange (length (kernel limit hold (suite_repository home stanzas)).clauses) log.entries
+    × Derives (form (kernel limit hold (suite_repository home stanzas)) (images_of limit hold home stanzas goals)) log.entries × (¬ (CoinstGoals home stanzas goals))
 IsCertified limit hold home stanzas goals (Spent failed) = Unit {0}

@@ -10,7 +10,7 @@ use Rattle.row_book.specs.Rounds.{kernel_class}
 use Rattle.row_book.specs.Sets.{HitsAll}
 use Rattle.row_book.specs.Trail.{trail_meaning}
 use Rattle.suite_compare.specs.Answering.{true_numbers}
-use Rattle.suite_compare.proofs.Answered.{classes_fit, no_coinst, no_derives, outcome_is, wanted_fit, wanted_hit, yes_is, yes_serves}
+use Rattle.suite_compare.proofs.Answered.{classes_fit, no_coinst, no_derives, no_in_range, outcome_is, wanted_fit, wanted_hit, yes_is, yes_serves}
 use Rattle.suite_compare.proofs.decision.decide.Goals as goal
 
 pub search-requires-clause-goals : goal.search-requires-clause-goals
@@ -62,6 +62,8 @@ pub returns-in-Refuted-clause-certified : goal.returns-in-Refuted-clause-certifi
 returns-in-Refuted-clause-certified c =
     let view = c.args.view.now in
     let own = subst (IsCertifiedOutcome (repository_of view.pool view.kernel.book) c.in_ok-asked.asked.classes) c.in-Refuted.is c.in_ok-outcome.ensures.certified in (
+      no_in_range view.pool view.suite.home view.suite.packages view.book view.kernel view.limit view.of_suite c.args.goals.now c.in_ok-asked.asked.packages c.in_ok-asked.asked.classes
+          c.in_ok-asked.ensures.packages c.in_ok-asked.ensures.classes c.in-Refuted.log.entries own.0,
       no_derives view.pool view.suite.home view.suite.packages view.book view.kernel view.limit view.of_suite c.args.goals.now c.in_ok-asked.asked.packages c.in_ok-asked.asked.classes
           c.in_ok-asked.ensures.packages c.in_ok-asked.ensures.classes c.in-Refuted.log.entries own.1,
       no_coinst view.pool view.suite.home view.suite.packages view.book view.kernel view.limit view.of_suite c.args.goals.now c.in_ok-asked.asked.packages c.in_ok-asked.asked.classes

@@ -20,7 +20,7 @@ use Rattle.kernel_text.specs.Reading.{Reading, ClassClause}
 use Rattle.kernel_text.proofs.LineCuts.{with_lines}
 use Rattle.kernel_text.proofs.Printed.{reading_at, clause_entry, held_entries, pair_of, last_of, with_append, members_reading, held_reading, clauses_reading, conflicts_reading, held_last, clauses_last, conflicts_last, regrouped}
 use Rattle.kernel_text.proofs.Retold.{eqb_other}
-use Rattle.kernel_text.proofs.Shape.{Block, FitBlock, FitBlocks, HeldInSecond, block_lines, empty, over_blocks}
+use Rattle.kernel_text.proofs.ClassLines.{Block, FitBlock, FitBlocks, HeldInSecond, block_lines, empty, over_blocks}
 
 -- what blocks tell
 abbrev pub NotEnd : Option KernelLine → Type 0

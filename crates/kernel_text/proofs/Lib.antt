@@ -6,6 +6,7 @@ pub mod Printed
 pub mod Retold
 pub mod PrintedReads
 mod Samples
+pub mod ClassLines
 pub mod Shape
 pub mod Blocks
 pub mod Writable

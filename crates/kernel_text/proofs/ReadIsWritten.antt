@@ -12,7 +12,8 @@ use Rattle.kernel_text.proofs.Blocks.{BlocksRead, NotEnd, blocks_reading, clause
 use Rattle.kernel_text.proofs.LineCuts.{with_lines, AreAllowed}
 use Rattle.kernel_text.proofs.Printed.{reading_at, with_append}
 use Rattle.kernel_text.proofs.PrintedReads.{printed_reads}
-use Rattle.kernel_text.proofs.Shape.{ArePopulated, Block, FitBlocks, HeldInSecond, IsOfEnd, IsTail, Shaped, block_lines, over_blocks, shape, some_none}
+use Rattle.kernel_text.proofs.ClassLines.{ArePopulated, Block, FitBlocks, HeldInSecond, block_lines, over_blocks}
+use Rattle.kernel_text.proofs.Shape.{IsOfEnd, IsTail, Shaped, shape, some_none}
 use Rattle.kernel_text.proofs.Writable.{single_lines, writable}
 
 -- a text is its lines

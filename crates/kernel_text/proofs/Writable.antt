@@ -18,7 +18,7 @@ use Rattle.kernel_text.specs.KernelText.{AreSingle, IsWritable, members_of}
 use Rattle.kernel_text.specs.Reading.{Reading, ClassClause, IsAllowed, IsClauseOf, IsFormat, IsNamed, IsNew, is_same_member, member_of_line, number_limit, with_line}
 use Rattle.kernel_text.proofs.LineCuts.{AreAllowed, with_lines}
 use Rattle.kernel_text.proofs.Blocks.{R_read, by_blocks, clause_entries_in, clauses_are, fit_at, held_ascending, held_bounds, held_in, keyed_members, members_in, none_held, picked, reading_of_blocks, rising, size_is}
-use Rattle.kernel_text.proofs.Shape.{ArePopulated, Block, FitBlocks, HeldInSecond, empty, over_blocks}
+use Rattle.kernel_text.proofs.ClassLines.{ArePopulated, Block, FitBlocks, HeldInSecond, empty, over_blocks}
 
 -- each allowed member line is of a new member, so none names the package of an earlier one
 single_more : (ms : List Member) (m : Member) → AreSingle ms → IsNew m ms → AreSingle (ms ++ m ∷ [])

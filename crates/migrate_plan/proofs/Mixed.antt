@@ -15,7 +15,8 @@ use Rattle.stanza_reader.specs.Lines.{is_line_feed}
 use Rattle.stanza_reader.specs.Stanzas.{readings}
 use Rattle.stanza_reader.specs.declared.stanza.RawStanza.{RawStanza}
 use Rattle.stanza_reader.specs.declared.fault.StanzaFault.{StanzaFault}
-use Rattle.stanza_reader.proofs.BlankLemmas.{blanked_short, map_picked, readings_picked}
+use Rattle.stanza_reader.proofs.BlankLemmas.{map_picked, readings_picked}
+use Rattle.stanza_reader.proofs.LeftLemmas.{blanked_short}
 use Rattle.stanza_reader.proofs.PartLemmas.{reads_in_parts, readings-from}
 use Rattle.relation_fields.specs.declared.packages.PackageFacts.{PackageFacts}
 use Rattle.row_book.specs.Sets.{In, here, there}

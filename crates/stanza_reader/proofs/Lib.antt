@@ -3,6 +3,7 @@ pub mod CloseLemmas
 pub mod Examples
 pub mod FieldLemmas
 pub mod GroupLemmas
+pub mod LeftLemmas
 pub mod LineLemmas
 pub mod NoteLemmas
 pub mod PartLemmas

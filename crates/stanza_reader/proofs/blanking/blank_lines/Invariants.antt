@@ -1,5 +1,5 @@
 use Rattle.std.proofs.Common.{length}
-use Rattle.stanza_reader.proofs.BlankLemmas.{IsLeft}
+use Rattle.stanza_reader.proofs.LeftLemmas.{IsLeft}
 use Rattle.stanza_reader.proofs.blanking.blank_lines.Given as goal
 
 abbrev pub invariant-loop-flags : goal.invariant-loop-flags

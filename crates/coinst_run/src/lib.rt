@@ -6,15 +6,11 @@ mod compare;
 mod compare_text;
 mod deliver;
 mod explain;
-#[cfg(test)]
-mod explain_tests;
 mod explain_text;
 mod kernel;
 mod laws;
 mod lines;
 mod migrate;
-#[cfg(test)]
-mod migrate_tests;
 mod migrate_text;
 mod query;
 mod query_text;
@@ -23,11 +19,7 @@ mod stages;
 mod status;
 mod stored_query;
 mod system_status;
-#[cfg(test)]
-mod system_tests;
 mod system_text;
-#[cfg(test)]
-mod tests;
 mod top;
 mod views;
 

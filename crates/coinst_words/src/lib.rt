@@ -9,8 +9,6 @@ mod numbers;
 mod parse;
 mod path;
 mod read;
-#[cfg(test)]
-mod tests;
 
 pub use error::WordError;
 pub use job::Job;

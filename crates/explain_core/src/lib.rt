@@ -14,6 +14,3 @@ mod reach;
 pub use explaining::explain;
 pub use explanation::{Clash, ClashList, ExplainError, Explanation, Mark, MarkList};
 pub use laws::reach_is_least;
-
-#[cfg(test)]
-mod explaining_tests;

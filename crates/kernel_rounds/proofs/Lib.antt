@@ -9,7 +9,6 @@ pub mod Midways
 pub mod MovedSteps
 pub mod Compared
 mod Again
-mod SampleRows
 mod Descent
 mod Limits
 pub mod Classes

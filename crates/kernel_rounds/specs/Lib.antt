@@ -2,4 +2,3 @@ pub mod Tails
 pub mod Laws
 pub mod Extracting
 pub mod Moving
-pub mod Samples

@@ -16,8 +16,3 @@ pub use laws::{
     kernel_of_kernel, limit_without_hold, rounds_go_down, tails_end, tails_keep, three_tails,
 };
 pub use rounding::{Rounded, one_round};
-
-#[cfg(test)]
-mod samples;
-#[cfg(test)]
-mod tests;

@@ -34,8 +34,3 @@ pub use member::Member;
 pub use stored::{MemberList, StoredKernel, read_kernel};
 pub use write::write_kernel;
 pub use write_json::kernel_json;
-
-#[cfg(test)]
-mod read_tests;
-#[cfg(test)]
-mod tests;

@@ -31,10 +31,3 @@ pub use laws::{health_is_kept, repository_is_of_packages};
 pub use names::NameList;
 pub use plain::{PlainRepository, are_coinstallable, plain_repository};
 pub use suite::{PackageList, Suite, read_suite};
-
-#[cfg(test)]
-mod goal_tests;
-#[cfg(test)]
-mod repository_tests;
-#[cfg(test)]
-mod tests;

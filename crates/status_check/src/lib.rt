@@ -9,8 +9,6 @@ mod own;
 mod report;
 mod state;
 mod status;
-#[cfg(test)]
-mod tests;
 
 pub use laws::no_architecture_fault;
 pub use report::{HaveLine, HaveList, OwnState, StatusReport, SuiteState};

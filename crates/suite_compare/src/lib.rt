@@ -28,8 +28,3 @@ pub use laws::{answer_is_verdict, kernel_decides, verdict_is_judged};
 pub use refusals::{LimitError, ViewError};
 pub use report::{Finding, LineList, Report, ReportLine};
 pub use view::SuiteView;
-
-#[cfg(test)]
-mod comparison_tests;
-#[cfg(test)]
-mod decision_tests;

@@ -1,0 +1,240 @@
+//! Runs over files and streams in memory, of which chosen calls fail, against answers that were worked out by hand. Whole commands
+//! on files that can be read stand in `conformance/cases`.
+use byte_flow::{MemShelf, MemSink};
+use coinst_run::run;
+use std::alloc::{AllocError, Global};
+use std::process::Abort;
+use std::test::Fail;
+
+/// The kernel of the empty index, and that of one package.
+const EMPTY_KERNEL: &str = "coinst-kernel 1\nend 0 0\n";
+
+const ONE_KERNEL: &str = "coinst-kernel 1\nclass 0\nmember a 1\nend 1 1\n";
+
+/// The files of each shelf: an empty one, one with a fault of its lines and one of a relation, one of a row with two clauses, one of
+/// three packages that stand alone and one in which the first of them needs one of the two others and these conflict, a status
+/// file and a stored kernel. `N` is not there.
+const FILES: [(&str, &str); 8] = [
+    ("E", ""),
+    ("X", "x"),
+    ("R", "Package: a\nVersion: 1\nProvides: x (>> 1)\n"),
+    (
+        "T",
+        "Package: a\nVersion: 1\nDepends: b, c\n\nPackage: b\nVersion: 1\n\nPackage: c\nVersion: 1\n\n",
+    ),
+    (
+        "O",
+        "Package: a\nVersion: 1\n\nPackage: b\nVersion: 1\n\nPackage: c\nVersion: 1\n\n",
+    ),
+    (
+        "I",
+        "Package: a\nVersion: 1\nDepends: b | c\n\nPackage: b\nVersion: 1\nConflicts: c\n\nPackage: c\nVersion: 1\n\n",
+    ),
+    (
+        "S",
+        "Package: p\nStatus: install ok installed\nVersion: 1\n\n",
+    ),
+    ("K", ONE_KERNEL),
+];
+
+/// The words, and then the status, the report and the line, where no call fails.
+const ANSWERS: [(&str, u8, &str, &str); 12] = [
+    (
+        "kernel I",
+        0,
+        "coinst-kernel 1\nclass 0\nmember a 1\nclass 1\nmember b 1\nagainst 2\nclass 2\nmember c 1\nend 3 3\n",
+        "",
+    ),
+    ("query I b c", 1, "no\nlog\n", ""),
+    ("query --kernel K a", 0, "yes\nclass 0\n", ""),
+    ("compare O I", 1, "broken b c\nend 1 0\n", ""),
+    (
+        "explain I a b c",
+        1,
+        "goal b\ngoal c\nclash b 1 c 1\nend 2 1\n",
+        "",
+    ),
+    (
+        "status S I",
+        0,
+        "lack p 1\nforeign 0\nself healthy\nsuite yes\nend 0 1\n",
+        "",
+    ),
+    ("migrate O I", 1, "take a\nleft b broken b c\nend 1 1\n", ""),
+    ("kernel", 2, "", "words: not a command of coinst\n"),
+    ("kernel R", 3, "", "R: line 3: bad relation, element 1\n"),
+    (
+        "kernel --clause-limit 1 T",
+        4,
+        "",
+        "T: clause limit 1 passed: round 1, gone 0, package a 1, clauses 2\n",
+    ),
+    ("kernel N", 5, "", "N: read failed\n"),
+    ("query I a zz", 9, "", "goal 2 is unknown: zz\n"),
+];
+
+/// The words, the call of the shelf that fails, and then the status, the report and the line. Each of these files takes three calls
+/// when all is read at once.
+const READS: [(&str, u64, u8, &str, &str); 17] = [
+    (
+        "sample 7 1",
+        1,
+        0,
+        "packages 1 classes 1 clauses 0 conflicts 0\n",
+        "",
+    ),
+    ("kernel I", 1, 5, "", "I: read failed\n"),
+    ("kernel I", 2, 5, "", "I: read failed\n"),
+    ("kernel X", 3, 5, "", "X: read failed\n"),
+    ("compare O I", 1, 5, "", "O: read failed\n"),
+    ("compare O I", 2, 5, "", "O: read failed\n"),
+    ("compare O I", 3, 5, "", "O: read failed\n"),
+    ("compare O I", 4, 5, "", "I: read failed\n"),
+    ("compare O I", 5, 5, "", "I: read failed\n"),
+    ("compare O I", 6, 5, "", "I: read failed\n"),
+    ("compare O I", 7, 1, "broken b c\nend 1 0\n", ""),
+    ("migrate O I", 2, 5, "", "O: read failed\n"),
+    ("migrate O I", 5, 5, "", "I: read failed\n"),
+    ("status S I", 3, 5, "", "I: read failed\n"),
+    ("status S I", 4, 5, "", "S: read failed\n"),
+    ("status S I", 6, 5, "", "S: read failed\n"),
+    (
+        "status S I",
+        7,
+        0,
+        "lack p 1\nforeign 0\nself healthy\nsuite yes\nend 0 1\n",
+        "",
+    ),
+];
+
+/// The words, the writes of standard output and of standard error that fail, 0 for none, and then the status, the report and the
+/// line.
+const WRITES: [(&str, u64, u64, u8, &str, &str); 9] = [
+    ("kernel E", 1, 0, 6, "", "write failed after 0 bytes\n"),
+    (
+        "kernel E",
+        2,
+        0,
+        6,
+        "coinst-ker",
+        "write failed after 10 bytes\n",
+    ),
+    (
+        "kernel E",
+        3,
+        0,
+        6,
+        "coinst-kernel 1\nend ",
+        "write failed after 20 bytes\n",
+    ),
+    ("kernel E", 2, 1, 6, "coinst-ker", ""),
+    ("kernel E", 0, 1, 0, EMPTY_KERNEL, ""),
+    ("kernel", 0, 1, 2, "", ""),
+    ("kernel R", 0, 1, 3, "", ""),
+    ("kernel --clause-limit 1 T", 0, 1, 4, "", ""),
+    ("kernel N", 0, 1, 5, "", ""),
+];
+
+/// The calls of the shelf, of standard output and of standard error that fail, 0 for none, and the bytes that the shelf gives at a
+/// time.
+#[derive(Clone, Copy)]
+struct Given {
+    read: u64,
+    write: u64,
+    tell: u64,
+    step: u32,
+}
+
+fn strings(alloc: Global, words: &str) -> Result<Vec<String>, AllocError> {
+    let mut made = Vec::new(alloc);
+    for word in words.split_whitespace() {
+        made.push(String::from_str(alloc, word)?)?;
+    }
+    Ok(made)
+}
+
+fn shelf(alloc: Global, given: Given) -> Result<MemShelf, AllocError> {
+    let mut shelf = MemShelf::new(alloc, given.step.max(1));
+    for (path, text) in FILES {
+        shelf.add(path, text.as_bytes())?;
+    }
+    shelf.fail_at(given.read)?;
+    Ok(shelf)
+}
+
+/// A stream with room enough that takes ten bytes at a time.
+fn stream(alloc: Global, failing: u64) -> Result<MemSink, AllocError> {
+    let mut stream = MemSink::new(alloc, 10);
+    stream.make_room(1_000)?;
+    stream.fail_at(failing)?;
+    Ok(stream)
+}
+
+/// Holds the status, the report and the line of a run against those that are wanted.
+fn expect(
+    rt: &(impl Abort + AllocGlobal),
+    words: &str,
+    given: Given,
+    code: u8,
+    report: &str,
+    line: &str,
+) -> Result<(), Fail> {
+    let alloc = rt.alloc();
+    let made = strings(alloc, words)?;
+    let mut shelf = shelf(alloc, given)?;
+    let mut out = stream(alloc, given.write)?;
+    let mut err = stream(alloc, given.tell)?;
+    let status = run(alloc, made.as_slice(), &mut shelf, &mut out, &mut err);
+    let told = format!(in alloc;
+        "{words}, read {}, write {}, tell {}, step {}",
+        given.read, given.write, given.tell, given.step
+    )?;
+    assert_eq!(rt; status.code(), code, "{told}");
+    assert_eq!(rt; out.taken(), report.as_bytes(), "{told}");
+    assert_eq!(rt; err.taken(), line.as_bytes(), "{told}");
+    Ok(())
+}
+
+#[test]
+fn answers_have_their_causes(rt: HostRuntime) -> Result<(), Fail> {
+    for (words, code, report, line) in ANSWERS {
+        for step in [65_536, 7, 1] {
+            let given = Given {
+                read: 0,
+                write: 0,
+                tell: 0,
+                step,
+            };
+            expect(&rt, words, given, code, report, line)?;
+        }
+    }
+    Ok(())
+}
+
+#[test]
+fn failed_reads_end_the_work(rt: HostRuntime) -> Result<(), Fail> {
+    for (words, read, code, report, line) in READS {
+        let given = Given {
+            read,
+            write: 0,
+            tell: 0,
+            step: 65_536,
+        };
+        expect(&rt, words, given, code, report, line)?;
+    }
+    Ok(())
+}
+
+#[test]
+fn failed_writes_keep_the_status(rt: HostRuntime) -> Result<(), Fail> {
+    for (words, write, tell, code, report, line) in WRITES {
+        let given = Given {
+            read: 0,
+            write,
+            tell,
+            step: 65_536,
+        };
+        expect(&rt, words, given, code, report, line)?;
+    }
+    Ok(())
+}

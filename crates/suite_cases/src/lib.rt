@@ -1,18 +1,14 @@
-//! Suites, their repositories, decisions, comparisons, explanations and systems: a crate of tests alone, so that what it goes
-//! through is not proved once more for them.
+//! Suites, goals, repositories and logs: a crate of tests alone, so that what it goes through is not proved once more for them.
+//! Whole commands are cases of `conformance/cases`.
 #![tactic(auto)]
 
-#[cfg(test)]
-mod comparisons;
-#[cfg(test)]
-mod decisions;
-#[cfg(test)]
-mod explanations;
 #[cfg(test)]
 mod goals;
 #[cfg(test)]
 mod indexes;
 #[cfg(test)]
-mod repositories;
+mod lines;
 #[cfg(test)]
-mod systems;
+mod logs;
+#[cfg(test)]
+mod repositories;

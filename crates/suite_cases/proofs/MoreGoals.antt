@@ -1,17 +1,8 @@
 -- One more goal of one number.
-use Rattle.std.proofs.Common.{◌≡◌, ℕ, true, List, [], ◌∷◌, ◌++◌, ◌<◌, inl, inr, sym, subst}
-use Rattle.row_book.specs.Sets.{NumSet, Is, In, here, Hit, HitsAll}
+use Rattle.std.proofs.Common.{◌≡◌, ℕ, List, [], ◌∷◌, ◌++◌, ◌<◌, inl, inr, sym, subst}
 use Rattle.row_book.specs.Needs.{NeedsFit}
+use Rattle.row_book.specs.Sets.{In}
 use Rattle.row_book.proofs.Lists.{In_append_cases, In_cases, In_none}
-
-pub hits_push : (X : NumSet) (goals : List (List ℕ)) (n : ℕ) → HitsAll X goals → Is X n → HitsAll X (goals ++ (n ∷ []) ∷ [])
-hits_push X goals n hits up c i = elim (In_append_cases goals ((n ∷ []) ∷ []) c i) [
-  | inl was ↦ hits c was
-  | inr last ↦ elim (In_cases last) [
-    | inl is ↦ subst (λ g. Hit (Is X) g) (sym is) (record { by = n; inside = here; alive = up })
-    | inr none ↦ absurd (In_none none)
-  ]
-]
 
 -- its number is below the size
 pub fits_push : (size : ℕ) (goals new : List (List ℕ)) (n : ℕ) → new ≡ goals ++ (n ∷ []) ∷ [] → NeedsFit size goals → n < size → NeedsFit size new

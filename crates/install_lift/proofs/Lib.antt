@@ -1,6 +1,9 @@
+pub mod Chained
+pub mod Naming
 pub mod Lowering
 pub mod Trimmed
 pub mod Steps
+pub mod Waits
 pub mod Lifted
 pub mod Through
 pub mod Computed

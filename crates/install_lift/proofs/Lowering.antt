@@ -1,25 +1,22 @@
 -- Taking out what is not served.
-use Rattle.std.proofs.Common.{◌≡◌, ◌≢◌, ℕ, zero, suc, ◌+◌, ◌*◌, ◌<◌, ◌≤◌, Bool, true, false, ◌||◌, eqb, cond, List, [], ◌∷◌, ◌++◌, ◌⊎◌, length, get_or, set, refl, ap, sym, ◌∙◌, arith, inl, inr, subst, eqb-true, filter, map}
-use Rattle.std.specs.Prelude.{All, count_by}
-use Rattle.std.specs.List.{list_any}
-use Rattle.std.proofs.lemmas.Bool.{cases_Bool, cases_eq, or_cases, or_left, or_right, both_ways, false_from_ne_true}
-use Rattle.std.proofs.lemmas.List.{length_push, get_or-set_same, get_or-set_other}
-use Rattle.std.proofs.lemmas.List.Sums.{sum_by-set}
-use Rattle.std.proofs.lemmas.List.Elements.{All-nil, All-push, All-contains, Contains-append_left, Contains-get_or, Contains-push}
+use Rattle.std.proofs.Common.{◌≡◌, ◌≢◌, ℕ, zero, suc, ◌+◌, ◌*◌, ◌<◌, ◌≤◌, Bool, true, false, ◌||◌, eqb, cond, List, [], ◌∷◌, ◌++◌, ◌⊎◌, length, get_or, set, refl, ap, sym, ◌∙◌, arith, inl, inr, subst, eqb-true, map, replicate}
+use Rattle.std.specs.Prelude.{count_by}
+use Rattle.std.specs.List.{list_any, sum_by}
+use Rattle.std.proofs.lemmas.Bool.{cases_Bool, cases_eq, cases_lt, or_cases, or_left, or_right, both_ways, false_from_ne_true}
+use Rattle.std.proofs.lemmas.List.{length-map, length-replicate, get_or-replicate, get_or_past, get_or-set_same, get_or-set_other}
+use Rattle.std.proofs.lemmas.List.Sums.{sum_by-set, sum_by-cons}
 use Rattle.clause_pool.specs.Interned.{Interned, row_at, clause_at, clauses_at, ids_at}
 use Rattle.row_book.specs.Sets.{NumSet, Is, In, here, there, Within, Hit, has}
-use Rattle.row_book.specs.Clauses.{numbers}
 use Rattle.row_book.specs.Repository.{Repository, clauses_of, against}
 use Rattle.row_book.specs.Book.{listed_for, repository_of, Sound}
 use Rattle.row_book.specs.declared.book.Book.{Book}
 use Rattle.row_book.specs.Flags.{flag}
-use Rattle.row_book.specs.Uses.{uses_of, users_of, row_holds, row_id}
-use Rattle.row_book.proofs.Lists.{In_cases, In_none, In_at, In_has, item_in, any_from, any_cases, all_from, all_at}
+use Rattle.row_book.specs.Uses.{row_id, some_holds}
+use Rattle.row_book.proofs.Lists.{In_cases, In_none, In_has, has_In, In_append_cases, item_in, any_from, any_cases, all_from, all_at}
 use Rattle.row_book.proofs.Books.{clauses_row}
 use Rattle.row_book.proofs.Flags.{flag_in}
-use Rattle.row_book.proofs.Users.{user_within, user_from, list_of_uses}
 use Rattle.clause_flatten.specs.Laws.{Lifts}
-use Rattle.install_lift.specs.Raising.{is_served, IsLowering}
+use Rattle.install_lift.specs.Raising.{is_served, IsLowering, PutsUser}
 
 in_push : (xs : List ℕ) (x n : ℕ) → In n (xs ++ x ∷ []) → In n xs ⊎ (n ≡ x)
 in_push [] x n i = elim (In_cases i) [ inl e ↦ inr e | inr j ↦ absurd (In_none j) ]
@@ -54,82 +51,135 @@ pub hit_more : (I J K : NumSet) (c : List ℕ) → Within J K → Hit (λ m. Is 
 hit_more I J K c w h = record { by = h.by; inside = h.inside; alive = elim h.alive [ inl a ↦ inl a | inr b ↦ inr (w h.by b) ] }
 
 -- all that wait were looked at
-pub lowered : (R : Repository) (I J : NumSet) → IsLowering R I J [] → Lifts R I J
-lowered R I J low = record {
+pub lowered : (R : Repository) (I J : NumSet) (place : ℕ) (table : List (List ℕ)) (work : List ℕ) → place ≡ length R.clauses → work ≡ [] → IsLowering R I J place table work → Lifts R I J
+lowered R I J place table work all none low = record {
   served = record {
     packages = low.packages;
     free = low.free;
-    abundance = λ n j c i. elim (low.settled n j) [ inl s ↦ served_row I J (clauses_of R n) s c i | inr w ↦ absurd (In_none w) ];
+    abundance = λ n j c i.
+        let lt = low.packages n j in
+        elim (low.settled n (omega (arith, all, lt)) j) [ inl s ↦ served_row I J (clauses_of R n) s c i | inr w ↦ absurd (In_none (rw none at w)) ];
   };
   greatest = low.greatest;
 }
 
 -- one that is out, or served, need not wait
-pub pop_out : (R : Repository) (I J : NumSet) (work rest : List ℕ) (p : ℕ) → work ≡ rest ++ p ∷ [] → J p ≡ false → IsLowering R I J work → IsLowering R I J rest
-pop_out R I J work rest p e out low = record {
+pub pop_out : (R : Repository) (I J : NumSet) (place : ℕ) (table : List (List ℕ)) (work rest : List ℕ) (p : ℕ) → work ≡ rest ++ p ∷ [] → J p ≡ false → IsLowering R I J place table work → IsLowering R I J place table rest
+pop_out R I J place table work rest p e out low = record {
   packages = low.packages;
   free = low.free;
   greatest = low.greatest;
-  settled = λ n j. elim (low.settled n j) [
+  settled = λ n lt j. elim (low.settled n lt j) [
     | inl s ↦ inl s
     | inr w ↦ elim (in_push rest p n (rw e at w)) [ inl a ↦ inr a | inr b ↦ absurd (both_ways (J p) out (subst (λ z. J z ≡ true) b j)) ]
   ];
+  waiting = λ n i. low.waiting n (rw e (in_front rest (p ∷ []) n i));
+  users = low.users;
 }
 
-pub pop_served : (R : Repository) (I J : NumSet) (work rest : List ℕ) (p : ℕ) → work ≡ rest ++ p ∷ [] → is_served I J (clauses_of R p) ≡ true → IsLowering R I J work → IsLowering R I J rest
-pop_served R I J work rest p e served low = record {
+pub pop_served : (R : Repository) (I J : NumSet) (place : ℕ) (table : List (List ℕ)) (work rest : List ℕ) (p : ℕ) → work ≡ rest ++ p ∷ [] → is_served I J (clauses_of R p) ≡ true → IsLowering R I J place table work → IsLowering R I J place table rest
+pop_served R I J place table work rest p e served low = record {
   packages = low.packages;
   free = low.free;
   greatest = low.greatest;
-  settled = λ n j. elim (low.settled n j) [
+  settled = λ n lt j. elim (low.settled n lt j) [
     | inl s ↦ inl s
     | inr w ↦ elim (in_push rest p n (rw e at w)) [ inl a ↦ inr a | inr b ↦ inl (subst (λ z. is_served I J (clauses_of R z) ≡ true) (sym b) served) ]
   ];
+  waiting = λ n i. low.waiting n (rw e (in_front rest (p ∷ []) n i));
+  users = low.users;
+}
+
+-- one more may wait
+wait_more : (R : Repository) (I J : NumSet) (place : ℕ) (table : List (List ℕ)) (work : List ℕ) (p : ℕ) → p < length R.clauses → IsLowering R I J place table work → IsLowering R I J place table (work ++ p ∷ [])
+wait_more R I J place table work p lt low = record {
+  packages = low.packages;
+  free = low.free;
+  greatest = low.greatest;
+  settled = λ n below j. elim (low.settled n below j) [ inl s ↦ inl s | inr w ↦ inr (in_front work (p ∷ []) n w) ];
+  waiting = λ n i. elim (in_push work p n i) [ inl a ↦ low.waiting n a | inr b ↦ rw b lt ];
+  users = low.users;
 }
 
 -- one that is not served is taken out, and those that name it wait
-pub pop_taken : (R : Repository) (I J new : NumSet) (work rest users : List ℕ) (p : ℕ) → work ≡ rest ++ p ∷ [] → is_served I J (clauses_of R p) ≡ false
+taken_set : (R : Repository) (I J new : NumSet) (place : ℕ) (table : List (List ℕ)) (work rest : List ℕ) (p : ℕ) → work ≡ rest ++ p ∷ [] → is_served I J (clauses_of R p) ≡ false → Is J p
     → ((n : ℕ) → Is new n → Is J n × (n ≢ p)) → ((n : ℕ) → Is J n → n ≢ p → Is new n)
-    → ((n : ℕ) → n < length R.clauses → (In n users) ⊎ ((c : List ℕ) → In c (clauses_of R n) → In p c → ⊥))
-    → IsLowering R I J work → IsLowering R I new (rest ++ users)
-pop_taken R I J new work rest users p e unserved less more named low = record {
+    → IsLowering R I J place table work → IsLowering R I new place table (rest ++ listed_for table p)
+taken_set R I J new place table work rest p e unserved up less more low = record {
   packages = λ n j. low.packages n (less n j).0;
   free = λ n m j. low.free n m (less n j).0;
   greatest = λ K served n k. more n (low.greatest K served n k) (λ same_one. both_ways (is_served I J (clauses_of R p)) unserved
       (row_served I J (clauses_of R p) (λ c i. hit_more I K J c (low.greatest K served) (served.abundance p (subst (λ z. K z ≡ true) same_one k) c i))));
-  settled = λ n j.
+  settled = λ n lt j.
       let was = less n j in
-      elim (low.settled n was.0) [
-        | inr w ↦ elim (in_push rest p n (rw e at w)) [ inl a ↦ inr (in_front rest users n a) | inr b ↦ absurd (was.1 b) ]
-        | inl s ↦ elim (named n (low.packages n was.0)) [
-          | inl u ↦ inr (in_back rest users n u)
-          | inr none ↦ inl (row_served I new (clauses_of R n) (λ c i.
+      elim (low.settled n lt was.0) [
+        | inr w ↦ elim (in_push rest p n (rw e at w)) [ inl a ↦ inr (in_front rest (listed_for table p) n a) | inr b ↦ absurd (was.1 b) ]
+        | inl s ↦ elim (cases_Bool (some_holds (clauses_of R n) p)) [
+          | inl t ↦
+              let w = any_cases (λ c. has c p) (clauses_of R n) t in
+              inr (in_back rest (listed_for table p) n (low.users.listed n lt was.0 w.0 w.1 p (has_In w.0 p w.2) up))
+          | inr f ↦ inl (row_served I new (clauses_of R n) (λ c i.
               let h = served_row I J (clauses_of R n) s c i in
               record {
                 by = h.by;
                 inside = h.inside;
                 alive = elim h.alive [
                   | inl a ↦ inl a
-                  | inr b ↦ inr (more h.by b (λ same_one. none c i (subst (λ z. In z c) same_one h.inside)))
+                  | inr b ↦ inr (more h.by b (λ same_one. both_ways (some_holds (clauses_of R n) p) f (any_from (λ d. has d p) (clauses_of R n) c i (In_has (subst (λ z. In z c) same_one h.inside)))))
                 ];
               }))
         ]
       ];
+  waiting = λ n i. elim (In_append_cases rest (listed_for table p) n i) [
+    | inl a ↦ low.waiting n (rw e (in_front rest (p ∷ []) n a))
+    | inr b ↦ low.users.packages p n b
+  ];
+  users = record {
+    size = low.users.size;
+    packages = low.users.packages;
+    listed = λ q lt j c i n k now. low.users.listed q lt (less q j).0 c i n k (less n now).0;
+  };
 }
 
--- the packages that name another one
-pub users_name : (pool : Interned) (book : Book) (p n : ℕ) → n < length (repository_of pool book).clauses → (In n (users_of pool book.rows p)) ⊎ ((c : List ℕ) → In c (clauses_of (repository_of pool book) n) → In p c → ⊥)
-users_name pool book p n lt =
-    let below : n < length book.rows = subst (λ k. n < k) (length_map (row_at pool) book.rows) lt in
-    elim (cases_Bool (row_holds pool (row_id book.rows n) p)) [
-      | inl t ↦ inl (user_from pool book.rows p n below t)
-      | inr f ↦ inr (λ c i k. both_ways (row_holds pool (row_id book.rows n) p) f
-          (any_from (λ d. has d p) (row_at pool (row_id book.rows n)) c (subst (λ z. In c z) (clauses_row pool book n below) i) (In_has k)))
-    ]
+-- the next package has no flag
+pub next_out : (R : Repository) (I J : NumSet) (place : ℕ) (table : List (List ℕ)) (work : List ℕ) → J place ≡ false → IsLowering R I J place table work → IsLowering R I J (place + 1) table work
+next_out R I J place table work out low = record {
+  packages = low.packages;
+  free = low.free;
+  greatest = low.greatest;
+  settled = λ n lt j. low.settled n (below n lt j) j;
+  waiting = low.waiting;
+  users = record {
+    size = low.users.size;
+    packages = low.users.packages;
+    listed = λ p lt j. low.users.listed p (below p lt j) j;
+  };
+}
   where
-    length_map : {X Y : Type 0} (f : X → Y) (xs : List X) → length (map f xs) ≡ length xs
-    length_map f [] = refl
-    length_map f (x ∷ xs) = let e = length_map f xs in omega (arith, e)
+    below : (n : ℕ) → n < place + 1 → Is J n → n < place
+    below n lt j = elim (cases_eq n place) [ inl e ↦ absurd (both_ways (J place) out (subst (λ z. J z ≡ true) e j)) | inr ne ↦ omega (arith, lt, ne) ]
+
+-- the next package is served, and is put to the users of what it names
+pub next_served : (R : Repository) (I J : NumSet) (place : ℕ) (table new : List (List ℕ)) (work : List ℕ) → place < length R.clauses → is_served I J (clauses_of R place) ≡ true → PutsUser J (clauses_of R place) place table new
+    → IsLowering R I J place table work → IsLowering R I J (place + 1) new work
+next_served R I J place table new work within served puts low = record {
+  packages = low.packages;
+  free = low.free;
+  greatest = low.greatest;
+  settled = λ n lt j. elim (cases_eq n place) [
+    | inl e ↦ inl (subst (λ z. is_served I J (clauses_of R z) ≡ true) (sym e) served)
+    | inr ne ↦ low.settled n (omega (arith, lt, ne)) j
+  ];
+  waiting = low.waiting;
+  users = record {
+    size = puts.size ∙ low.users.size;
+    packages = λ n p i. elim (puts.only n p i) [ inl a ↦ low.users.packages n p a | inr b ↦ rw b within ];
+    listed = λ p lt j c i n k now. elim (cases_eq p place) [
+      | inl e ↦ subst (λ z. In z (listed_for new n)) (sym e) (puts.listed c (subst (λ z. In c (clauses_of R z)) e i) n k now)
+      | inr ne ↦ puts.kept n p (low.users.listed p (omega (arith, lt, ne)) j c i n k now)
+    ];
+  };
+}
 
 pub flag_less : (flags : List Bool) (p n : ℕ) → p < length flags → Is (flag (set flags p false)) n → Is (flag flags) n × (n ≢ p)
 flag_less flags p n lt h = elim (cases_eq n p) [
@@ -145,71 +195,13 @@ fewer_up flags p lt t =
     let e : count_by (λ b. b) (set flags p false) + cond (get_or flags p false) 1 0 ≡ count_by (λ b. b) flags + 0 = sum_by-set (λ b. cond b 1 0) flags p false false lt in
     omega (arith, rw t at e)
 
-filter_short : (p : ℕ → Bool) (xs : List ℕ) → length (filter p xs) ≤ length xs
-filter_short p [] = omega arith
-filter_short p (x ∷ xs) = elim (cases_Bool (p x)) [
-  | inl t ↦ rw t (let h = filter_short p xs in omega (arith, h))
-  | inr f ↦ rw f (let h = filter_short p xs in omega (arith, h))
-]
-
-numbers_long : (n k : ℕ) → length (numbers n k) ≡ n
-unfolding numbers
-numbers_long zero k = refl
-numbers_long (suc n) k = let e = numbers_long n (suc k) in omega (arith, e)
-
-pub users_few : (pool : Interned) (rows : List ℕ) (p : ℕ) → length (users_of pool rows p) ≤ length rows
-users_few pool rows p = let h = filter_short (λ q. row_holds pool (row_id rows q) p) (numbers (length rows) 0) in let e = numbers_long (length rows) 0 in omega (arith, h, e)
-
 pub less_work : (c d n a b u : ℕ) → d + 1 ≡ c → a ≡ b + 1 → u ≤ n → d * (n + 1) + (b + u) < c * (n + 1) + a
 less_work c d n a b u e f le = let g : c ≡ d + 1 = sym e in rw (g, f) (omega (arith, le))
 
-pub users_below : (pool : Interned) (rows : List ℕ) (p : ℕ) → All (λ q. q < length rows) (users_of pool rows p)
-users_below pool rows p = λ k d lt. (user_within pool rows p (get_or (users_of pool rows p) k d) (In_at (users_of pool rows p) k d lt)).0
-
-pub work_front : (n : ℕ) (work rest : List ℕ) (p : ℕ) → work ≡ rest ++ p ∷ [] → All (λ q. q < n) work → All (λ q. q < n) rest × (p < n)
-work_front n work rest p e range = (
-  (λ k d lt. All-contains (λ q. q < n) work (get_or rest k d) range (rw e (Contains-append_left rest (p ∷ []) (get_or rest k d) (Contains-get_or rest k d lt)))),
-  All-contains (λ q. q < n) work p range (rw e (Contains-push rest p)),
-)
-
--- the flags and the list so far
-pub record IsBegun (conflicts : List (List ℕ)) (size k : ℕ) (flags : List Bool) (work : List ℕ) : Type 0 where
+-- the flags so far
+pub record AreFree (conflicts : List (List ℕ)) (k : ℕ) (flags : List Bool) : Type 0 where
   pub long : length flags ≡ k
   pub each : (n : ℕ) → n < k → flag flags n ≡ eqb (length (listed_for conflicts n)) 0
-  pub waits : (n : ℕ) → n < k → In n work
-  pub range : All (λ p. p < size) work
-
-push_here : (flags : List Bool) (b : Bool) → flag (flags ++ b ∷ []) (length flags) ≡ b
-push_here [] b = refl
-push_here (f ∷ flags) b = push_here flags b
-
-push_before : (flags : List Bool) (b : Bool) (n : ℕ) → n < length flags → flag (flags ++ b ∷ []) n ≡ flag flags n
-push_before [] b n lt = absurd (omega arith)
-push_before (f ∷ flags) b zero lt = refl
-push_before (f ∷ flags) b (suc n) lt = push_before flags b n (omega arith)
-
-pub begun_none : (conflicts : List (List ℕ)) (size : ℕ) (flags : List Bool) (work : List ℕ) → flags ≡ [] → work ≡ [] → IsBegun conflicts size 0 flags work
-begun_none conflicts size flags work e f = record {
-  long = rw e refl;
-  each = λ n lt. absurd (omega (arith, lt));
-  waits = λ n lt. absurd (omega (arith, lt));
-  range = rw f (All-nil (λ p. p < size));
-}
-
-pub begun_more : (conflicts : List (List ℕ)) (size k : ℕ) (flags new : List Bool) (work now : List ℕ) (b : Bool) → k < size → b ≡ eqb (length (listed_for conflicts k)) 0 → new ≡ flags ++ b ∷ [] → now ≡ work ++ k ∷ []
-    → IsBegun conflicts size k flags work → IsBegun conflicts size (k + 1) new now
-begun_more conflicts size k flags new work now b lt is e f inv = rw (e, f) (record {
-  long = length_push flags b ∙ ap (λ z. z + 1) inv.long;
-  each = λ n nlt. elim (cases_eq n k) [
-    | inl same_one ↦ subst (λ z. flag (flags ++ b ∷ []) z ≡ eqb (length (listed_for conflicts z)) 0) (sym same_one) (subst (λ z. flag (flags ++ b ∷ []) z ≡ eqb (length (listed_for conflicts k)) 0) inv.long (push_here flags b ∙ is))
-    | inr ne ↦ let below : n < k = omega (arith, nlt, ne) in push_before flags b n (rw inv.long below) ∙ inv.each n below
-  ];
-  waits = λ n nlt. elim (cases_eq n k) [
-    | inl same_one ↦ in_back work (k ∷ []) n (subst (λ z. In z (k ∷ [])) (sym same_one) here)
-    | inr ne ↦ in_front work (k ∷ []) n (inv.waits n (omega (arith, nlt, ne)))
-  ];
-  range = All-push (λ p. p < size) work k inv.range lt;
-})
 
 none_listed : (xs : List ℕ) (n : ℕ) → eqb (length xs) 0 ≡ true → has xs n ≡ false
 none_listed [] n h = refl
@@ -219,9 +211,9 @@ listed_none : (xs : List ℕ) → ((n : ℕ) → has xs n ≡ false) → eqb (le
 listed_none [] h = refl
 listed_none (x ∷ xs) h = absurd (both_ways (has (x ∷ xs) x) (h x) (In_has {n = x} {T = x ∷ xs} here))
 
-pub begun_all : (pool : Interned) (book : Book) (k : ℕ) (I : NumSet) (flags : List Bool) (work : List ℕ) → Sound pool book → k ≡ length book.rows → IsBegun book.conflicts (length book.rows) k flags work
-    → IsLowering (repository_of pool book) I (flag flags) work
-begun_all pool book k I flags work sound e inv = record {
+pub free_all : (pool : Interned) (book : Book) (k : ℕ) (I : NumSet) (flags : List Bool) (table : List (List ℕ)) (work : List ℕ) → Sound pool book → k ≡ length book.rows → AreFree book.conflicts k flags → table ≡ replicate (length book.rows) [] → work ≡ []
+    → IsLowering (repository_of pool book) I (flag flags) 0 table work
+free_all pool book k I flags table work sound e inv f g = record {
   packages = λ n j. rw (length_map (row_at pool) book.rows, ← e, ← inv.long) (flag_in flags n j);
   free = λ n m j.
       let empty = free_at n j in (
@@ -231,12 +223,21 @@ begun_all pool book k I flags work sound e inv = record {
   greatest = λ K served n i.
       let lt : n < k = subst (λ z. n < z) (length_map (row_at pool) book.rows ∙ sym e) (served.packages n i) in
       inv.each n lt ∙ listed_none (listed_for book.conflicts n) (λ m. (served.free n m i).0);
-  settled = λ n j. inr (inv.waits n (rw inv.long at (flag_in flags n j)));
+  settled = λ n lt j. absurd (omega (arith, lt));
+  waiting = λ n i. absurd (In_none (rw g at i));
+  users = record {
+    size = ap length f ∙ length-replicate (length book.rows) [] ∙ sym (length_map (row_at pool) book.rows);
+    packages = λ n p i. absurd (In_none (subst (λ xs. In p xs) (ap (λ t. listed_for t n) f ∙ all_empty (length book.rows) n) i));
+    listed = λ p lt j. absurd (omega (arith, lt));
+  };
 }
   where
     length_map : {X Y : Type 0} (f : X → Y) (xs : List X) → length (map f xs) ≡ length xs
     length_map f [] = refl
     length_map f (x ∷ xs) = let e = length_map f xs in omega (arith, e)
+
+    all_empty : (k n : ℕ) → listed_for (replicate k []) n ≡ []
+    all_empty k n = elim (cases_lt n k) [ inl lt ↦ get_or-replicate k n [] [] lt | inr ge ↦ get_or_past (replicate k []) n [] (rw length-replicate ge) ]
 
     free_at : (n : ℕ) → flag flags n ≡ true → eqb (length (listed_for book.conflicts n)) 0 ≡ true
     free_at n j = sym (inv.each n (rw inv.long at (flag_in flags n j))) ∙ j
@@ -254,20 +255,30 @@ pub none_left : (work : List ℕ) → length work ≡ 0 → work ≡ []
 none_left [] e = refl
 none_left (x ∷ xs) e = absurd (omega arith)
 
--- the row of a package, and whether it is served
+-- the clauses of a package, and whether it is served
+pub clauses_are : (pool : Interned) (book : Book) (p row : ℕ) (ids : List ℕ) → p < length book.rows → row ≡ row_id book.rows p → ids ≡ ids_at pool row → clauses_of (repository_of pool book) p ≡ clauses_at pool ids
+clauses_are pool book p row ids lt e lent = clauses_row pool book p lt ∙ ap (row_at pool) (sym e) ∙ ap (clauses_at pool) (sym lent)
+
 pub served_at : (pool : Interned) (book : Book) (I J : NumSet) (p row : ℕ) (ids : List ℕ) (b : Bool) → p < length book.rows → row ≡ row_id book.rows p → ids ≡ ids_at pool row → b ≡ is_served I J (clauses_at pool ids)
-    → is_served I J (clauses_of (repository_of pool book) p) ≡ b
-served_at pool book I J p row ids b lt e lent h =
-    ap (is_served I J) (clauses_row pool book p lt ∙ ap (row_at pool) (sym e) ∙ ap (clauses_at pool) (sym lent)) ∙ sym h
+    → b ≡ is_served I J (clauses_of (repository_of pool book) p)
+served_at pool book I J p row ids b lt e lent h = h ∙ ap (is_served I J) (sym (clauses_are pool book p row ids lt e lent))
 
-pub taken_out : (pool : Interned) (book : Book) (I : NumSet) (flags : List Bool) (work rest now users : List ℕ) (p : ℕ) (table : List (List ℕ)) → length flags ≡ length book.rows → work ≡ rest ++ p ∷ [] → p < length book.rows
-    → is_served I (flag flags) (clauses_of (repository_of pool book) p) ≡ false → table ≡ uses_of pool book.rows → users ≡ listed_for table p → now ≡ rest ++ users
-    → IsLowering (repository_of pool book) I (flag flags) work → IsLowering (repository_of pool book) I (flag (set flags p false)) now
-taken_out pool book I flags work rest now users p table long cut lt unserved e lent f low =
-    let in_range : p < length flags = rw long lt in
-    let u : users ≡ users_of pool book.rows p = lent ∙ ap (λ t. listed_for t p) e ∙ list_of_uses pool book.rows p lt in
-    rw (f, u) (pop_taken (repository_of pool book) I (flag flags) (flag (set flags p false)) work rest (users_of pool book.rows p) p cut unserved
-    (λ n j. flag_less flags p n in_range j) (λ n j ne. flag_more flags p n j ne) (λ n nlt. users_name pool book p n nlt) low)
+-- the flag of one that is not served is put down
+pub taken_out : (pool : Interned) (book : Book) (I : NumSet) (place : ℕ) (table : List (List ℕ)) (flags new : List Bool) (work rest now : List ℕ) (p : ℕ) → work ≡ rest ++ p ∷ [] → is_served I (flag flags) (clauses_of (repository_of pool book) p) ≡ false
+    → flag flags p ≡ true → new ≡ set flags p false → now ≡ rest ++ listed_for table p → IsLowering (repository_of pool book) I (flag flags) place table work → IsLowering (repository_of pool book) I (flag new) place table now
+taken_out pool book I place table flags new work rest now p cut unserved up e f low =
+    let lt : p < length flags = flag_in flags p up in
+    rw (e, f) (taken_set (repository_of pool book) I (flag flags) (flag (set flags p false)) place table work rest p cut unserved up (λ n j. flag_less flags p n lt j) (λ n j ne. flag_more flags p n j ne) low)
 
-pub users_are : (pool : Interned) (rows : List ℕ) (p : ℕ) (table : List (List ℕ)) (users : List ℕ) → p < length rows → table ≡ uses_of pool rows → users ≡ listed_for table p → users ≡ users_of pool rows p
-users_are pool rows p table users lt e lent = lent ∙ ap (λ t. listed_for t p) e ∙ list_of_uses pool rows p lt
+-- and it is the next one
+pub next_taken : (pool : Interned) (book : Book) (I : NumSet) (place : ℕ) (table : List (List ℕ)) (flags new : List Bool) (work now : List ℕ) → place < length book.rows → is_served I (flag flags) (clauses_of (repository_of pool book) place) ≡ false
+    → flag flags place ≡ true → new ≡ set flags place false → now ≡ work ++ listed_for table place → IsLowering (repository_of pool book) I (flag flags) place table work → IsLowering (repository_of pool book) I (flag new) (place + 1) table now
+next_taken pool book I place table flags new work now lt unserved up e f low =
+    let below : place < length (repository_of pool book).clauses = rw length-map lt in
+    next_out (repository_of pool book) I (flag new) place table now (rw e (get_or-set_same flags place false false (flag_in flags place up)))
+    (taken_out pool book I place table flags new (work ++ place ∷ []) work now place refl unserved up e f (wait_more (repository_of pool book) I (flag flags) place table work place below low))
+
+pub list_few : (table : List (List ℕ)) (n : ℕ) → length (listed_for table n) ≤ sum_by length table
+list_few [] n = omega arith
+list_few (xs ∷ table) zero = rw (sum_by-cons {X = List ℕ} length xs table) (omega arith)
+list_few (xs ∷ table) (suc n) = let h = list_few table n in rw (sum_by-cons {X = List ℕ} length xs table) (omega (arith, h))

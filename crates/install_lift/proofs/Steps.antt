@@ -1,5 +1,5 @@
 -- Steps of trimming.
-use Rattle.std.proofs.Common.{◌≡◌, ℕ, zero, suc, ◌+◌, ◌*◌, ◌-◌, ◌<◌, ◌≤◌, Bool, true, false, not, ◌||◌, eqb, cond, List, [], ◌∷◌, ◌++◌, length, get_or, set, take, replicate, refl, ap, sym, ◌∙◌, arith, inl, inr, subst, Option, Some, None, map}
+use Rattle.std.proofs.Common.{◌≡◌, ℕ, zero, suc, ◌+◌, ◌<◌, ◌≤◌, Bool, true, false, not, ◌||◌, eqb, cond, List, [], ◌∷◌, ◌++◌, length, get_or, set, take, replicate, refl, ap, sym, ◌∙◌, arith, inl, inr, subst, Option, Some, None, map}
 use Rattle.std.specs.Prelude.{All, count_by}
 use Rattle.std.specs.List.{list_any, find, flat_map}
 use Rattle.std.proofs.Math.Path.{fun_ext}
@@ -130,22 +130,6 @@ met_more S n (c ∷ cs) h = elim (cases_Bool (list_any S c)) [
   | inr f ↦ absurd (cc (rw (not_from_false (list_any S c) f) at h))
 ]
 
-pub place_more : (R : Repository) (S : NumSet) (place : ℕ) → AreMet R S place → (S place ≡ true → find (is_unhit S) (clauses_of R place) ≡ None) → AreMet R S (place + 1)
-place_more R S place met now p lt up = elim (cases_eq p place) [
-  | inl e ↦ rw e (now (rw e at up))
-  | inr ne ↦ met p (omega arith) up
-]
-
-pub place_back : (R : Repository) (flags new : List Bool) (n place back : ℕ) → n < length flags → new ≡ set flags n true → back ≤ place → back ≤ n → AreMet R (flag flags) place → AreMet R (flag new) back
-place_back R flags new n place back lt e a b met p plt up =
-    let now : flag new ≡ plus (flag flags) n = ap flag e ∙ flag_plus flags n lt in
-    let either_up : (flag flags p || eqb p n) ≡ true = sym (ap (λ S. S p) now) ∙ up in
-    let was : flag flags p ≡ true = elim (or_cases (flag flags p) (eqb p n) either_up) [
-      | inl t ↦ t
-      | inr same_one ↦ absurd (let q = eqb-true p n same_one in omega (arith, q, plt, b))
-    ] in
-    subst (λ S. find (is_unhit S) (clauses_of R p) ≡ None) (sym now) (met_more (flag flags) n (clauses_of R p) (met p (omega (arith, plt, a)) was))
-
 pub goals_more : (flags new : List Bool) (n : ℕ) (goals : List (List ℕ)) → n < length flags → new ≡ set flags n true → All (λ g. list_any (flag flags) g ≡ true) goals → All (λ g. list_any (flag new) g ≡ true) goals
 goals_more flags new n goals lt e hit = rw (e, flag_plus flags n lt) (All-weaker (λ g. list_any (flag flags) g ≡ true) (λ g. list_any (plus (flag flags) n) g ≡ true) (λ g t. any_plus (flag flags) n g t) goals hit)
 
@@ -163,9 +147,6 @@ fewer_down flags new c chosen n lt e first opened =
     let out : flag flags n ≡ false = false_from_ne_true (flag flags n) (λ t. both_ways (list_any (flag flags) c) (not-true (list_any (flag flags) c) opened) (any_from (flag flags) c n (find_num chosen c n first).0 t)) in
     let s : count_by not (set flags n true) + cond (not (get_or flags n false)) 1 0 ≡ count_by not flags + 0 = sum_by-set (λ b. cond (not b) 1 0) flags n true false lt in
     rw e (omega (arith, rw out at s))
-
-pub less_left : (c d n p q : ℕ) → d + 1 ≡ c → d * (n + 1) + (n - q) < c * (n + 1) + (n - p)
-less_left c d n p q e = let g : c ≡ d + 1 = sym e in rw g (omega arith)
 
 pub any_find : (p : ℕ → Bool) (c : List ℕ) → list_any p c ≡ true → find p c ≡ None → ⊥
 any_find p [] h e = cc

@@ -1,3 +1,5 @@
+pub mod Chains
+pub mod Waiting
 pub mod Raising
 pub mod Trimming
 pub mod Lifting

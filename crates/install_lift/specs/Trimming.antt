@@ -70,3 +70,7 @@ pub record IsTrimming (R : Repository) (goals : List (List ℕ)) (chosen S : Num
 -- the set hits each clause of each member below the place
 abbrev pub AreMet : Repository → NumSet → ℕ → Type 0
 AreMet R S place = (p : ℕ) → p < place → S p ≡ true → find (is_unhit S) (clauses_of R p) ≡ None
+
+-- the set hits each clause of each member that is not of the other set
+abbrev pub AreMetOutside : Repository → NumSet → NumSet → Type 0
+AreMetOutside R S W = (p : ℕ) → S p ≡ true → W p ≡ false → find (is_unhit S) (clauses_of R p) ≡ None

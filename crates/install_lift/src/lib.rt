@@ -6,6 +6,8 @@ pub mod laws;
 pub mod lifting;
 mod raising;
 pub mod trimming;
+mod user_table;
+mod waiting;
 
 pub use lifting::lift;
 pub use trimming::trim;

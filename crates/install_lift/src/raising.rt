@@ -1,16 +1,16 @@
 //! The greatest set of packages without conflicts that a set serves.
-ghost use Rattle.std.specs.Prelude.{◌≡◌, ◌<◌, ◌≤◌, ◌||◌, ◌++◌, eqb, ℕ, Bool, true, false, List, [], IfOk, OnOk, All, length, slice_set, count_by};
+ghost use Rattle.std.specs.Prelude.{◌≡◌, ◌∷◌, ◌++◌, ◌<◌, ◌||◌, eqb, true, false, [], IfOk, OnOk, length, replicate, slice_set};
 ghost use Rattle.std.specs.List.{list_any};
-ghost use Rattle.clause_pool.specs.Interned.{clauses_at, row_at, OfPool};
-ghost use Rattle.row_book.specs.Sets.{NumSet, In};
+ghost use Rattle.clause_pool.specs.Interned.{clauses_at, OfPool};
+ghost use Rattle.row_book.specs.Repository.{clauses_of};
 ghost use Rattle.row_book.specs.Book.{listed_for, repository_of, Sound};
 ghost use Rattle.row_book.specs.Flags.{flag};
-ghost use Rattle.row_book.specs.Uses.{uses_of, users_of};
 ghost use Rattle.clause_flatten.specs.Laws.{Lifts};
-ghost use Rattle.install_lift.specs.Raising.{is_served, IsLowering};
+ghost use Rattle.install_lift.specs.Raising.{is_served, IsLowering, PutsUser};
 
+use crate::user_table::UserTable;
 use clause_pool::{ClauseId, Pool};
-use row_book::{Book, UseTable};
+use row_book::Book;
 use std::alloc::{AllocError, Global};
 
 /// Whether the flag of a number is up.
@@ -48,53 +48,150 @@ fn is_free(book: &Book, package: u32) -> bool
     book.against(package).len() == 0
 }
 
-/// A flag for each package, up where it has no conflict, and the list of these packages.
-fn begin(
+/// A flag for each package, up where it has no conflict.
+fn free_packages(
     alloc: Global,
     pool: &Pool,
     book: &Book,
     set: &[bool],
-    work: &mut Vec<u32>,
 ) -> Result<Vec<bool>, AllocError>
     requires sound { Sound pool.now book.now }
-    requires none { work.old.items ≡ [] }
     ensures long { IfOk result (λ more. length more.items ≡ length book.now.rows) }
-    ensures work { OnOk result (All (λ p. p < length book.now.rows) work.new.items) }
-    ensures lowering { IfOk result (λ more. IsLowering (repository_of pool.now book.now) (flag set.now) (flag more.items) work.new.items) }
+    ensures lowering { IfOk result (λ more. IsLowering (repository_of pool.now book.now) (flag set.now) (flag more.items) 0 (replicate (length book.now.rows) []) []) }
 {
     let mut more = Vec::new(alloc);
     for package in 0..book.size() {
         more.push(is_free(book, package))?;
-        work.push(package)?;
     }
     Ok(more)
+}
+
+/// Whether each clause of the package is hit by the two sets together.
+fn is_served(pool: &Pool, book: &Book, set: &[bool], more: &[bool], package: u32) -> bool
+    requires sound { Sound pool.now book.now }
+    requires package { «package» < length book.now.rows }
+    ensures { result ≡ is_served (flag set.now) (flag more.now) (clauses_of (repository_of pool.now book.now) «package») }
+{
+    serves(pool, set, more, pool.row(book.row(package)))
+}
+
+/// Puts a package to the users of each number of a clause that is up.
+fn put_to_clause(
+    more: &[bool],
+    clause: &[u32],
+    package: u32,
+    table: &mut UserTable,
+) -> Result<(), AllocError>
+    requires { length more.now ≡ length table.old }
+    ensures { OnOk result (PutsUser (flag more.now) (clause.now ∷ []) «package» table.old table.new) }
+{
+    for n in clause {
+        if is_up(more, *n) {
+            table.put(*n, package)?;
+        }
+    }
+    Ok(())
+}
+
+/// Puts a package to the users of each number of its clauses that is up.
+fn put_to_row(
+    pool: &Pool,
+    more: &[bool],
+    ids: &[ClauseId],
+    package: u32,
+    table: &mut UserTable,
+) -> Result<(), AllocError>
+    requires of_pool { OfPool pool.now ids.now }
+    requires long { length more.now ≡ length table.old }
+    ensures { OnOk result (PutsUser (flag more.now) (clauses_at pool.now ids.now) «package» table.old table.new) }
+{
+    for id in ids {
+        put_to_clause(more, pool.slice(*id), package, table)?;
+    }
+    Ok(())
+}
+
+/// Puts a package to the users of each package that it names and that is up.
+fn put_user(
+    pool: &Pool,
+    book: &Book,
+    more: &[bool],
+    package: u32,
+    table: &mut UserTable,
+) -> Result<(), AllocError>
+    requires sound { Sound pool.now book.now }
+    requires package { «package» < length book.now.rows }
+    requires long { length more.now ≡ length table.old }
+    ensures { OnOk result (PutsUser (flag more.now) (clauses_of (repository_of pool.now book.now) «package») «package» table.old table.new) }
+{
+    put_to_row(pool, more, pool.row(book.row(package)), package, table)
+}
+
+/// Takes out a package that is not served, and puts its users to the work.
+fn take_out(
+    more: &mut [bool],
+    table: &UserTable,
+    package: u32,
+    work: &mut Vec<u32>,
+) -> Result<(), AllocError>
+    requires up { flag more.old «package» ≡ true }
+    requires long { length more.old ≡ length table.now }
+    ensures more { more.new ≡ slice_set more.old «package» false }
+    ensures work { OnOk result (work.new.items ≡ work.old.items ++ listed_for table.now «package») }
+{
+    more[package as usize] = false;
+    table.add_users(package, work)
+}
+
+/// Looks at each package once, and takes out those that are not served; puts the others to the users of what they name.
+fn sweep(
+    pool: &Pool,
+    book: &Book,
+    set: &[bool],
+    more: &mut [bool],
+    table: &mut UserTable,
+    work: &mut Vec<u32>,
+) -> Result<(), AllocError>
+    requires sound { Sound pool.now book.now }
+    requires long { length more.old ≡ length book.now.rows }
+    requires lowering { IsLowering (repository_of pool.now book.now) (flag set.now) (flag more.old) 0 table.old work.old.items }
+    ensures lowering { OnOk result (IsLowering (repository_of pool.now book.now) (flag set.now) (flag more.new) (length book.now.rows) table.new work.new.items) }
+{
+    for package in 0..book.size() {
+        if !is_up(more, package) {
+            continue;
+        }
+        if is_served(pool, book, set, more, package) {
+            put_user(pool, book, more, package, table)?;
+            continue;
+        }
+        take_out(more, table, package, work)?;
+    }
+    Ok(())
 }
 
 /// Takes out what is not served, until all that is left is.
 fn lower(
     pool: &Pool,
     book: &Book,
-    table: &UseTable,
+    table: &UserTable,
     set: &[bool],
     more: &mut [bool],
     work: &mut Vec<u32>,
 ) -> Result<(), AllocError>
     requires sound { Sound pool.now book.now }
-    requires table { table.now ≡ uses_of pool.now book.now.rows }
     requires long { length more.old ≡ length book.now.rows }
-    requires work { All (λ p. p < length book.now.rows) work.old.items }
-    requires lowering { IsLowering (repository_of pool.now book.now) (flag set.now) (flag more.old) work.old.items }
+    requires lowering { IsLowering (repository_of pool.now book.now) (flag set.now) (flag more.old) (length book.now.rows) table.now work.old.items }
     ensures { OnOk result (Lifts (repository_of pool.now book.now) (flag set.now) (flag more.new)) }
 {
-    while let Some(p) = work.pop() {
-        if !is_up(more, p) {
+    while let Some(package) = work.pop() {
+        if !is_up(more, package) {
             continue;
         }
-        if serves(pool, set, more, pool.row(book.row(p))) {
+        if is_served(pool, book, set, more, package) {
             continue;
         }
-        more[p as usize] = false;
-        work.extend_from_slice(table.packages(p))?;
+        take_out(more, table, package, work)?;
     }
     Ok(())
 }
@@ -109,9 +206,10 @@ pub(crate) fn greatest_support(
     requires sound { Sound pool.now book.now }
     ensures { IfOk result (λ more. Lifts (repository_of pool.now book.now) (flag set.now) (flag more.items)) }
 {
-    let table = UseTable::of(alloc, pool, book.rows.as_slice())?;
+    let mut more = free_packages(alloc, pool, book, set)?;
+    let mut table = UserTable::new(alloc, book.size())?;
     let mut work = Vec::new(alloc);
-    let mut more = begin(alloc, pool, book, set, &mut work)?;
+    sweep(pool, book, set, &mut more, &mut table, &mut work)?;
     lower(pool, book, &table, set, &mut more, &mut work)?;
     Ok(more)
 }

@@ -1,5 +1,5 @@
 //! Trimming: as few of the chosen packages as the open needs ask for.
-ghost use Rattle.std.specs.Prelude.{◌≡◌, ◌<◌, ◌≤◌, ℕ, Bool, true, false, List, [], Some, None, IfOk, IfSome, IfNone, All, replicate, length, slice_set};
+ghost use Rattle.std.specs.Prelude.{◌≡◌, ◌<◌, ℕ, Bool, true, false, List, [], Some, None, IfOk, OnOk, IfSome, IfNone, All, replicate, length, slice_set};
 ghost use Rattle.std.specs.List.{list_any, find};
 ghost use Rattle.clause_pool.specs.Interned.{clause_at, clauses_at, OfPool};
 ghost use Rattle.row_book.specs.Sets.{HitsAll};
@@ -7,9 +7,11 @@ ghost use Rattle.row_book.specs.Repository.{Healthy};
 ghost use Rattle.row_book.specs.Book.{repository_of, Sound};
 ghost use Rattle.row_book.specs.Flags.{flag};
 ghost use Rattle.row_book.specs.Needs.{NeedsFit};
-ghost use Rattle.install_lift.specs.Trimming.{is_unhit, AreMet, IsHealthyPart, IsTrim, IsTrimming, trim_of};
+ghost use Rattle.install_lift.specs.Waiting.{is_waiting};
+ghost use Rattle.install_lift.specs.Trimming.{is_unhit, IsHealthyPart, IsTrim, IsTrimming, trim_of};
 
 use crate::raising::is_up;
+use crate::waiting::Waiting;
 use clause_pool::{ClauseId, FlagList, Pool};
 use listed::Listed;
 use row_book::{Book, Needs};
@@ -60,53 +62,62 @@ fn put_first(chosen: &[bool], set: &mut [bool], clause: &[u32]) -> u32
     }
 }
 
-/// Puts in what the goals ask for.
-fn trim_goals(pool: &Pool, book: &Book, goals: &Needs, chosen: &[bool], set: &mut [bool])
+/// Puts in what the goals ask for, and puts it to those that wait.
+fn trim_goals(
+    pool: &Pool,
+    book: &Book,
+    goals: &Needs,
+    chosen: &[bool],
+    set: &mut [bool],
+    waiting: &mut Waiting,
+) -> Result<(), AllocError>
     requires hits { HitsAll (flag chosen.now) goals.now }
     requires long { length set.old ≡ length chosen.now }
+    requires waits { (q : ℕ) → is_waiting waiting.old q ≡ flag set.old q }
     requires trimming { IsTrimming (repository_of pool.now book.now) goals.now (flag chosen.now) (flag set.old) }
     ensures long { length set.new ≡ length set.old }
-    ensures trimming { IsTrimming (repository_of pool.now book.now) goals.now (flag chosen.now) (flag set.new) }
-    ensures hit { All (λ g. list_any (flag set.new) g ≡ true) goals.now }
+    ensures waits { OnOk result ((q : ℕ) → is_waiting waiting.new q ≡ flag set.new q) }
+    ensures trimming { OnOk result (IsTrimming (repository_of pool.now book.now) goals.now (flag chosen.now) (flag set.new)) }
+    ensures hit { OnOk result (All (λ g. list_any (flag set.new) g ≡ true) goals.now) }
 {
     for place in 0..goals.count() {
         let goal = goals.at(place);
         if hits_one(set, goal) {
             continue;
         }
-        put_first(chosen, set, goal);
+        let n = put_first(chosen, set, goal);
+        waiting.put(n)?;
     }
+    Ok(())
 }
 
-/// The lesser of two numbers.
-fn lesser(a: u32, b: u32) -> u32
-    ensures { (result ≤ a) × (result ≤ b) }
-{
-    if a < b { a } else { b }
-}
-
-/// Puts in what the clauses of members ask for.
-fn trim_clauses(pool: &Pool, book: &Book, goals: &Needs, chosen: &[bool], set: &mut [bool])
+/// Puts in what the clauses of those that wait ask for, and of what is put in, until none waits: the least package is looked at
+/// first.
+fn trim_clauses(
+    pool: &Pool,
+    book: &Book,
+    goals: &Needs,
+    chosen: &[bool],
+    set: &mut [bool],
+    waiting: &mut Waiting,
+) -> Result<(), AllocError>
     requires sound { Sound pool.now book.now }
     requires healthy { Healthy (repository_of pool.now book.now) (flag chosen.now) }
     requires long { length set.old ≡ length chosen.now }
+    requires waits { (q : ℕ) → is_waiting waiting.old q ≡ flag set.old q }
     requires hit { All (λ g. list_any (flag set.old) g ≡ true) goals.now }
     requires trimming { IsTrimming (repository_of pool.now book.now) goals.now (flag chosen.now) (flag set.old) }
-    ensures { IsTrim (repository_of pool.now book.now) goals.now (flag chosen.now) (flag set.new) }
+    ensures { OnOk result (IsTrim (repository_of pool.now book.now) goals.now (flag chosen.now) (flag set.new)) }
 {
-    let mut place = 0u32;
-    while place < book.size() {
-        if !is_up(set, place) {
-            place += 1;
-            continue;
-        }
-        let Some(id) = first_unhit(pool, set, pool.row(book.row(place))) else {
-            place += 1;
+    while let Some(package) = waiting.take_first() {
+        let Some(id) = first_unhit(pool, set, pool.row(book.row(package))) else {
             continue;
         };
         let n = put_first(chosen, set, pool.slice(id));
-        place = lesser(place, n);
+        waiting.put(package)?;
+        waiting.put(n)?;
     }
+    Ok(())
 }
 
 /// A healthy part of the chosen packages that hits every goal: from no package on, the first chosen member of the first open
@@ -128,20 +139,29 @@ pub fn trim(
     ensures long { IfOk result (λ set. length set ≡ length chosen.now) }
 {
     let mut set = vec![in alloc; false; chosen.len()]?;
-    trim_set(pool, book, goals, chosen, &mut set);
+    trim_set(alloc, pool, book, goals, chosen, &mut set)?;
     Ok(Listed::of(set))
 }
 
 /// Puts in what goals and clauses ask for.
-fn trim_set(pool: &Pool, book: &Book, goals: &Needs, chosen: &[bool], set: &mut [bool])
+fn trim_set(
+    alloc: Global,
+    pool: &Pool,
+    book: &Book,
+    goals: &Needs,
+    chosen: &[bool],
+    set: &mut [bool],
+) -> Result<(), AllocError>
     requires sound { Sound pool.now book.now }
     requires healthy { Healthy (repository_of pool.now book.now) (flag chosen.now) }
     requires hits { HitsAll (flag chosen.now) goals.now }
     requires none { set.old ≡ replicate (length chosen.now) false }
-    ensures trim { IsTrim (repository_of pool.now book.now) goals.now (flag chosen.now) (flag set.new) }
-    ensures is { flag set.new ≡ trim_of (repository_of pool.now book.now) goals.now (flag chosen.now) }
-    ensures part { IsHealthyPart (repository_of pool.now book.now) goals.now (flag chosen.now) (flag set.new) }
+    ensures trim { OnOk result (IsTrim (repository_of pool.now book.now) goals.now (flag chosen.now) (flag set.new)) }
+    ensures is { OnOk result (flag set.new ≡ trim_of (repository_of pool.now book.now) goals.now (flag chosen.now)) }
+    ensures part { OnOk result (IsHealthyPart (repository_of pool.now book.now) goals.now (flag chosen.now) (flag set.new)) }
 {
-    trim_goals(pool, book, goals, chosen, set);
-    trim_clauses(pool, book, goals, chosen, set);
+    let mut waiting = Waiting::new(alloc);
+    trim_goals(pool, book, goals, chosen, set, &mut waiting)?;
+    trim_clauses(pool, book, goals, chosen, set, &mut waiting)?;
+    Ok(())
 }

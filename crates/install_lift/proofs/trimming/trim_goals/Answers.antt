@@ -4,6 +4,8 @@ use Rattle.row_book.specs.Book.{repository_of}
 use Rattle.row_book.specs.Flags.{flag}
 use Rattle.row_book.proofs.Lists.{item_in}
 use Rattle.install_lift.proofs.Steps.{trimming_more, chosen_below, goals_more, goal_now, goals_next, goal_open, hit_any', at_place}
+use Rattle.install_lift.specs.Waiting.{is_waiting}
+use Rattle.install_lift.proofs.Waits.{waits_more}
 use Rattle.install_lift.proofs.trimming.trim_goals.Goals as goal
 
 pub loop-place-preserved-then-hits_one : goal.loop-place-preserved-then-hits_one
@@ -13,11 +15,12 @@ loop-place-preserved-then-hits_one c =
     record {
       long = c.loop-place.invariant.long;
       trimming = c.loop-place.invariant.trimming;
+      waits = c.loop-place.invariant.waits;
       hit = goals_next (flag c.loop-place.set) c.args.goals.now c.loop-place.place c.at-goal.result.now lt is (sym c.hits_one.ensures ∙ c.if-hits_one.true) c.loop-place.invariant.hit;
     }
 
-pub put_first-requires-clause-hit : goal.put_first-requires-clause-hit
-put_first-requires-clause-hit c =
+pub put_first-n-requires-clause-hit : goal.put_first-n-requires-clause-hit
+put_first-n-requires-clause-hit c =
     let lt : c.loop-place.place < length c.args.goals.now = omega (arith, c.loop-place-test.true, c.count-place-end.ensures.count) in
     let is = at_place c.args.goals.now c.loop-place.place c.at-goal.result.now lt c.at-goal.ensures.clause in
     hit_any' (flag c.args.chosen.now) c.at-goal.result.now (c.requires.hits c.at-goal.result.now (item_in c.args.goals.now c.loop-place.place c.at-goal.result.now lt is))
@@ -28,15 +31,16 @@ loop-place-preserved c =
     let g = c.at-goal.result.now in
     let upto : c.loop-place.place < length c.args.goals.now = omega (arith, c.loop-place-test.true, c.count-place-end.ensures.count) in
     let is = at_place c.args.goals.now c.loop-place.place g upto c.at-goal.ensures.clause in
-    let first = c.put_first.ensures.first in
-    let lt = chosen_below c.args.chosen.now c.loop-place.set g c.put_first.result c.loop-place.invariant.long first in
+    let first = c.put_first-n.ensures.first in
+    let lt = chosen_below c.args.chosen.now c.loop-place.set g c.put_first-n.result c.loop-place.invariant.long first in
     let opened = goal_open R c.args.goals.now (flag c.loop-place.set) c.loop-place.place g upto is (sym c.hits_one.ensures ∙ c.if-hits_one.false) c.loop-place.invariant.hit in
     record {
-      long = rw c.put_first.ensures.put (length-set c.loop-place.set c.put_first.result true ∙ c.loop-place.invariant.long);
-      trimming = trimming_more R c.args.goals.now (flag c.args.chosen.now) c.loop-place.set c.put_first.new.set g c.put_first.result lt c.put_first.ensures.put opened first c.loop-place.invariant.trimming;
-      hit = goals_next (flag c.put_first.new.set) c.args.goals.now c.loop-place.place g upto is
-          (goal_now c.loop-place.set c.put_first.new.set (flag c.args.chosen.now) c.put_first.result g lt c.put_first.ensures.put first)
-          (goals_more c.loop-place.set c.put_first.new.set c.put_first.result _ lt c.put_first.ensures.put c.loop-place.invariant.hit);
+      long = rw c.put_first-n.ensures.put (length-set c.loop-place.set c.put_first-n.result true ∙ c.loop-place.invariant.long);
+      trimming = trimming_more R c.args.goals.now (flag c.args.chosen.now) c.loop-place.set c.put_first-n.new.set g c.put_first-n.result lt c.put_first-n.ensures.put opened first c.loop-place.invariant.trimming;
+      waits = waits_more c.loop-place.set c.put_first-n.new.set (is_waiting c.loop-place.waiting) (is_waiting c.put.new.self) c.put_first-n.result lt c.put_first-n.ensures.put c.loop-place.invariant.waits c.in_ok-put.ensures.put;
+      hit = goals_next (flag c.put_first-n.new.set) c.args.goals.now c.loop-place.place g upto is
+          (goal_now c.loop-place.set c.put_first-n.new.set (flag c.args.chosen.now) c.put_first-n.result g lt c.put_first-n.ensures.put first)
+          (goals_more c.loop-place.set c.put_first-n.new.set c.put_first-n.result _ lt c.put_first-n.ensures.put c.loop-place.invariant.hit);
     }
 
 pub returns-clause-hit : goal.returns-clause-hit

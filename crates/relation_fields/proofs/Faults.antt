@@ -48,7 +48,7 @@ module _ {X : Type 0} (one : List ℕ → Option X) (Spells : List ℕ → X →
       let parts = and_parts (not (is_outside one element)) (list_all (λ element. not (is_outside one element)) es) inside in
       next_said element es (is_white element) (one element) refl refl parts.0 (all_said es parts.1)
 
-  field_said : (value : List ℕ) → first_outside one value ≡ None → SpellsEach Spells value (said_in one value)
+  pub field_said : (value : List ℕ) → first_outside one value ≡ None → SpellsEach Spells value (said_in one value)
   unfolding first_outside said_in
   field_said value none = all_said (elements value) (nowhere (is_outside one) (elements value) none)
 
@@ -80,7 +80,10 @@ module _ {X : Type 0} (one : List ℕ → Option X) (Spells : List ℕ → X →
   spelled_from value (Ok said) is none = subst (SpellsEach Spells value) (sym is) (field_said value none)
   spelled_from value (Err e) is none = tt
 
+  pub fault_from : (value : List ℕ) (fault : RelationError) → OnFaultyElement (λ element. first_outside one value ≡ Some element) fault → OnFaultyElement (IsFirstFaultyElement Spells value) fault
+  fault_from value (Shape element) fault = field_fault value element fault
+  fault_from value Memory fault = tt
+
   pub refused_from : (value : List ℕ) (result : Result (List X) RelationError) → IfErr result (OnFaultyElement (λ element. first_outside one value ≡ Some element)) → IfErr result (OnFaultyElement (IsFirstFaultyElement Spells value))
   refused_from value (Ok said) fault = tt
-  refused_from value (Err (Shape element)) fault = field_fault value element fault
-  refused_from value (Err Memory) fault = tt
+  refused_from value (Err e) fault = fault_from value e fault

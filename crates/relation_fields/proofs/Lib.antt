@@ -5,3 +5,4 @@ pub mod Ends
 pub mod Bounds
 pub mod Readings
 pub mod Faults
+pub mod Trimmed

@@ -2,52 +2,75 @@
 ghost use Rattle.std.specs.Prelude.{◌≡◌, IfOk, List, ℕ, Option};
 ghost use Rattle.relation_fields.specs.Grammar.{atom_of, alternatives_of, provide_at, provide_of};
 
+use crate::atom_lists::AtomList;
 use crate::atoms::read_atom;
-use crate::relations::{Atom, AtomList, Bound, Op, Provide};
+use crate::relations::{Atom, Bound, Op, Provide};
 use crate::texts::cut;
+use listed::Listed;
 use std::alloc::{AllocError, Global};
 
-/// What an element of a relation field says.
-pub(crate) trait Element: Drop {
+/// A way to read the elements of a relation field.
+pub trait ElementReader {
+    /// What an element says.
+    type Said: Drop;
+
     /// What a text says, or nothing where it is outside the grammar.
-    ghost reading: { List ℕ → Option Self };
+    ghost reading: { List ℕ → Option Self.Said };
 
     /// Reads the text of an element; it fails only where no memory is found.
-    fn read(alloc: Global, element: &[u8]) -> Result<Option<Self>, AllocError>
+    fn read(&mut self, alloc: Global, element: &[u8]) -> Result<Option<Self::Said>, AllocError>
         ensures { IfOk result (λ said. said ≡ reading element.now) };
 }
 
-impl Element for Atom {
+/// Each element is an atom, as in `Conflicts` and `Breaks`.
+#[derive(Drop)]
+pub struct AtomReader;
+
+impl ElementReader for AtomReader {
+    type Said = Atom;
+
     ghost reading = { atom_of };
 
-    fn read(alloc: Global, element: &[u8]) -> Result<Option<Self>, AllocError> {
+    fn read(&mut self, alloc: Global, element: &[u8]) -> Result<Option<Atom>, AllocError> {
         read_atom(alloc, element)
     }
 }
 
-impl Element for AtomList {
+/// Each element is a list of alternatives, as in `Pre-Depends` and `Depends`.
+#[derive(Drop)]
+pub struct NeedReader;
+
+impl ElementReader for NeedReader {
+    type Said = AtomList;
+
     ghost reading = { alternatives_of };
 
-    fn read(alloc: Global, element: &[u8]) -> Result<Option<Self>, AllocError> {
+    fn read(&mut self, alloc: Global, element: &[u8]) -> Result<Option<AtomList>, AllocError> {
         read_alternatives(alloc, element)
     }
 }
 
-impl Element for Provide {
+/// Each element is a provide, as in `Provides`.
+#[derive(Drop)]
+pub struct ProvideReader;
+
+impl ElementReader for ProvideReader {
+    type Said = Provide;
+
     ghost reading = { provide_of };
 
-    fn read(alloc: Global, element: &[u8]) -> Result<Option<Self>, AllocError> {
+    fn read(&mut self, alloc: Global, element: &[u8]) -> Result<Option<Provide>, AllocError> {
         read_provide(alloc, element)
     }
 }
 
-// The alternatives between the bars.
+/// The alternatives between the bars.
 #[tactic(auto, unfolding(crate::specs::Grammar::alternatives_of))]
-fn read_alternatives(alloc: Global, text: &[u8]) -> Result<Option<AtomList>, AllocError>
+pub(crate) fn read_alternatives(alloc: Global, text: &[u8]) -> Result<Option<AtomList>, AllocError>
     ensures { IfOk result (λ atoms. atoms ≡ alternatives_of text.now) }
 {
     // Most elements have one alternative, so the list begins with room for one.
-    let mut atoms = AtomList::of(Vec::with_capacity(alloc, 1)?);
+    let mut atoms = Listed::of(Vec::with_capacity(alloc, 1)?);
     let mut left = Some(text);
     while let Some(rest) = left {
         let (piece, behind) = cut(rest, b'|');
@@ -57,7 +80,7 @@ fn read_alternatives(alloc: Global, text: &[u8]) -> Result<Option<AtomList>, All
         atoms.push(atom)?;
         left = behind;
     }
-    Ok(Some(atoms))
+    Ok(Some(AtomList::of(alloc, atoms)?))
 }
 
 // An atom whose operator, if it has one, is `=`.

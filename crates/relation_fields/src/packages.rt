@@ -1,5 +1,6 @@
 //! What a package's stanza says of it.
-use crate::relations::{AtomList, ElementList, ProvideList};
+use crate::atom_lists::AtomList;
+use crate::relations::{ElementList, ProvideList};
 use deb_version::{Bytes, Version};
 
 /// The common architecture of the packages of an index; an index of `all` alone has none.

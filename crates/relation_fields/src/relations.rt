@@ -1,4 +1,5 @@
 //! What the elements of relation fields say.
+use crate::atom_lists::AtomList;
 use deb_version::{Bytes, Version};
 use listed::Listed;
 
@@ -47,9 +48,6 @@ pub struct Provide {
     /// The version that is provided, if one is written.
     pub version: Option<Version>,
 }
-
-/// Atoms in their order: the alternatives of an element, or the elements of `Conflicts` and `Breaks`.
-pub type AtomList = Listed<Atom>;
 
 /// The elements of `Pre-Depends` and `Depends` in their order, each with its alternatives.
 pub type ElementList = Listed<AtomList>;

@@ -206,7 +206,7 @@ fn meets_all(
         name: Bytes::copy(alloc, name.as_bytes())?,
         version: Version::parse(alloc, version.as_bytes())?,
         needs: ElementList::new(alloc),
-        against: AtomList::new(alloc),
+        against: AtomList::new(),
         provides: parse_provides(alloc, provided.as_bytes())?,
     };
     let home = Home {

@@ -13,7 +13,7 @@ use crate::fault::IndexFault;
 use crate::fields::find_field;
 use crate::suite::PackageList;
 use deb_version::Bytes;
-use relation_fields::{Home, PackageFacts};
+use relation_fields::{ElementTable, Home, PackageFacts};
 use stanza_reader::{FieldKind, RawStanza};
 use std::alloc::{AllocError, Global};
 use virtual_provides::NumbersByName;
@@ -25,6 +25,8 @@ pub(crate) struct Building {
     pub(crate) packages: PackageList,
     pub(crate) home: Home,
     pub(crate) keys: NumbersByName,
+    // The elements of needs that were read, of which packages share equal ones.
+    pub(crate) elements: ElementTable,
 }
 
 impl Building {
@@ -38,6 +40,7 @@ impl Building {
             packages: PackageList::new(alloc),
             home: Home { name: None },
             keys: NumbersByName::new(alloc),
+            elements: ElementTable::new(alloc),
         }
     }
 
@@ -51,7 +54,7 @@ impl Building {
         ensures home { OnOk result (self.new.home.name ≡ option_or self.old.home.name (architecture_of stanza.now)) }
         ensures indexed { OnOk result (IsIndexOf self.new.packages self.new.keys) }
     {
-        let facts = read_facts(alloc, stanza)?;
+        let facts = read_facts(alloc, &mut self.elements, stanza)?;
         let key = key_of(alloc, &facts)?;
         check_new(self.packages.as_slice(), &self.keys, &key, &facts)?;
         check_home(&self.home, stanza)?;

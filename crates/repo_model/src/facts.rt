@@ -1,26 +1,34 @@
 //! The package that a stanza describes, or the fault of its fields.
-ghost use Rattle.std.specs.Prelude.{◌≡◌, None, Some};
-ghost use Rattle.std.specs.Option.{option_and_then};
+ghost use Rattle.std.specs.Prelude.{◌≡◌, ◌++◌, None, Some};
+ghost use Rattle.std.specs.List.{AllByRecursion};
+ghost use Rattle.std.specs.Option.{option_and_then, option_or};
 ghost use Rattle.deb_version.specs.Names.{is_name};
 ghost use Rattle.deb_version.specs.Grammar.{is_version};
-ghost use Rattle.relation_fields.specs.Grammar.{is_architecture};
+ghost use Rattle.relation_fields.specs.Grammar.{is_architecture, atom_of};
+ghost use Rattle.relation_fields.specs.Fields.{said_in};
 ghost use Rattle.repo_model.specs.declared.fault.IndexFault.TheVariants.{BadPackage, BadVersion, BadArchitecture};
-ghost use Rattle.repo_model.specs.Fields.{field_among, HasShortValues};
+ghost use Rattle.repo_model.specs.Fields.{field_among, value_among, IsShort, HasShortValues};
 ghost use Rattle.repo_model.specs.Facts.{facts_of};
-ghost use Rattle.repo_model.specs.FirstFault.{own_fault, unless_good};
+ghost use Rattle.repo_model.specs.FirstFault.{own_fault, unless_good, unless_said};
 ghost use Rattle.repo_model.specs.Refusals.{Answers};
 
 use crate::fault::IndexFault;
 use crate::fields::find_field;
 use crate::relations::{read_both, read_field};
 use deb_version::{Bytes, Version, VersionError, is_package_name};
-use relation_fields::{PackageFacts, is_architecture};
+use relation_fields::{
+    AtomList, AtomReader, ElementTable, PackageFacts, ProvideReader, is_architecture,
+};
 use stanza_reader::{FieldKind, RawField, RawStanza};
 use std::alloc::Global;
 
 /// The package that a stanza describes, or the first fault of its fields.
 #[tactic(auto, unfolding(crate::specs::Facts::facts_of, crate::specs::FirstFault::presence_fault, crate::specs::FirstFault::value_fault))]
-pub(crate) fn read_facts(alloc: Global, stanza: &RawStanza) -> Result<PackageFacts, IndexFault>
+pub(crate) fn read_facts(
+    alloc: Global,
+    elements: &mut ElementTable,
+    stanza: &RawStanza,
+) -> Result<PackageFacts, IndexFault>
     requires { HasShortValues stanza.now }
     ensures { Answers result (own_fault stanza.now) (facts_of stanza.now) }
 {
@@ -35,9 +43,15 @@ pub(crate) fn read_facts(alloc: Global, stanza: &RawStanza) -> Result<PackageFac
     let name = read_name(alloc, name)?;
     let version = read_version(alloc, version)?;
     check_architecture(fields)?;
-    let needs = read_both(alloc, fields, FieldKind::PreDepends, FieldKind::Depends)?;
-    let against = read_both(alloc, fields, FieldKind::Conflicts, FieldKind::Breaks)?;
-    let provides = read_field(alloc, fields, FieldKind::Provides)?;
+    let needs = read_both(
+        alloc,
+        elements,
+        fields,
+        FieldKind::PreDepends,
+        FieldKind::Depends,
+    )?;
+    let against = read_against(alloc, fields)?;
+    let provides = read_field(alloc, &mut ProvideReader, fields, FieldKind::Provides)?;
     Ok(PackageFacts {
         line,
         name,
@@ -46,6 +60,21 @@ pub(crate) fn read_facts(alloc: Global, stanza: &RawStanza) -> Result<PackageFac
         against,
         provides,
     })
+}
+
+// The atoms of `Conflicts`, and then those of `Breaks`.
+fn read_against(alloc: Global, fields: &[RawField]) -> Result<AtomList, IndexFault>
+    requires { AllByRecursion IsShort fields.now }
+    ensures { Answers result (option_or (option_and_then (unless_said atom_of) (field_among FieldKind.Conflicts fields.now)) (option_and_then (unless_said atom_of) (field_among FieldKind.Breaks fields.now))) (said_in atom_of (value_among FieldKind.Conflicts fields.now) ++ said_in atom_of (value_among FieldKind.Breaks fields.now)) }
+{
+    let atoms = read_both(
+        alloc,
+        &mut AtomReader,
+        fields,
+        FieldKind::Conflicts,
+        FieldKind::Breaks,
+    )?;
+    Ok(AtomList::of(alloc, atoms)?)
 }
 
 // The value of `Package`, where it is a package name.

@@ -4,6 +4,8 @@ use Rattle.std.specs.List.{enumerate_from}
 use Rattle.std.specs.Option.{option_map_or}
 use Rattle.std.specs.Str.{bytes_eq}
 use Rattle.indexmap.specs.IndexMap.{get_by}
+use Rattle.virtual_provides.specs.declared.numbers.NumberList.{NumberList}
+use Rattle.virtual_provides.specs.declared.numbers.NumberList.TheVariants.{One, Many}
 use Rattle.virtual_provides.specs.declared.numbers.NumbersByName.{NumbersByName}
 
 -- the numbers of the items that pass the test, ascending, where the items are numbered from n in their order
@@ -26,9 +28,14 @@ ends_in n numbers = option_map_or (λ last. last == n) (slice_get numbers (lengt
 abbrev pub with_number : ℕ → List ℕ → List ℕ
 with_number n numbers = if ends_in n numbers then numbers else numbers ++ n ∷ []
 
+-- the numbers of a list
+abbrev pub numbers_of : NumberList → List ℕ
+numbers_of (One number) = number ∷ []
+numbers_of (Many numbers) = numbers.items
+
 -- the numbers of a name
 unfoldable pub numbers_under : NumbersByName → List ℕ → List ℕ
-numbers_under table name = option_map_or (λ numbers. numbers.items) (get_by (λ key. bytes_eq name key.items) table.lists) []
+numbers_under table name = option_map_or numbers_of (get_by (λ key. bytes_eq name key.items) table.lists) []
 
 -- no name has a number
 abbrev pub HasNone : NumbersByName → Type 0

@@ -1,14 +1,34 @@
 //! Lists of numbers by names.
-ghost use Rattle.std.specs.Prelude.{◌≡◌, OnOk, OnErr};
-ghost use Rattle.virtual_provides.specs.Numbers.{numbers_under, with_number, HasNone, Puts, Same};
+ghost use Rattle.std.specs.Prelude.{◌≡◌, ◌∷◌, ◌++◌, [], IfOk, OnOk, OnErr};
+ghost use Rattle.virtual_provides.specs.Numbers.{numbers_of, numbers_under, with_number, HasNone, Puts, Same};
 
 use indexmap::IndexMap;
 use std::alloc::{AllocError, Global};
+use std::slice;
+
+/// The numbers of a name. Most names have one, which takes no memory.
+#[derive(Drop)]
+pub(crate) enum NumberList {
+    One(u32),
+    Many(Vec<u32>),
+}
+
+impl NumberList {
+    // Lends the numbers; it takes no memory.
+    fn as_slice(&self) -> &[u32]
+        ensures { result.now ≡ numbers_of self.now }
+    {
+        match self {
+            NumberList::One(number) => slice::from_ref(number),
+            NumberList::Many(numbers) => numbers.as_slice(),
+        }
+    }
+}
 
 /// For each name a list of numbers, which is empty for a name that has none. A name is looked up by its hash.
 #[derive(Drop)]
 pub struct NumbersByName {
-    lists: IndexMap<Vec<u8>, Vec<u32>>,
+    lists: IndexMap<Vec<u8>, NumberList>,
 }
 
 #[tactic(auto, unfolding(crate::specs::Numbers::numbers_under))]
@@ -28,12 +48,12 @@ impl NumbersByName {
         ensures ok { OnOk result (Puts self.old self.new name.now number) }
         ensures err { OnErr result (Same self.old self.new) }
     {
+        let alloc = *self.lists.allocator();
         match self.lists.get_mut(name) {
-            Some(numbers) => put_last(numbers, number),
+            Some(numbers) => put_last(alloc, numbers, number),
             None => {
-                let alloc = *self.lists.allocator();
                 let key = Vec::from_slice(alloc, name)?;
-                let numbers = vec![in alloc; number]?;
+                let numbers = NumberList::One(number);
                 self.lists.insert(key, numbers)?;
                 Ok(())
             }
@@ -52,13 +72,28 @@ impl NumbersByName {
 }
 
 // Puts the number behind the others, unless it is the last already.
-fn put_last(numbers: &mut Vec<u32>, number: u32) -> Result<(), AllocError>
-    ensures ok { OnOk result (numbers.new.items ≡ with_number number numbers.old.items) }
-    ensures err { OnErr result (numbers.new.items ≡ numbers.old.items) }
+fn put_last(alloc: Global, numbers: &mut NumberList, number: u32) -> Result<(), AllocError>
+    ensures ok { OnOk result (numbers_of numbers.new ≡ with_number number (numbers_of numbers.old)) }
+    ensures err { OnErr result (numbers_of numbers.new ≡ numbers_of numbers.old) }
 {
-    if numbers.last() == Some(&number) {
+    if numbers.as_slice().last() == Some(&number) {
         return Ok(());
     }
-    numbers.push(number)?;
+    if let NumberList::Many(many) = numbers {
+        many.push(number)?;
+        return Ok(());
+    }
+    let both = with_one_more(alloc, numbers.as_slice(), number)?;
+    *numbers = NumberList::Many(both);
     Ok(())
+}
+
+// The numbers with one behind them.
+fn with_one_more(alloc: Global, numbers: &[u32], number: u32) -> Result<Vec<u32>, AllocError>
+    ensures { IfOk result (λ more. more.items ≡ numbers.now ++ number ∷ []) }
+{
+    let mut more = Vec::with_capacity(alloc, 4)?;
+    more.extend_from_slice(numbers)?;
+    more.push(number)?;
+    Ok(more)
 }

@@ -94,7 +94,7 @@ fn package_of(
             .ok()
             .ok_or("no version")?,
         needs: ElementList::new(alloc),
-        against: AtomList::new(alloc),
+        against: AtomList::new(),
         provides: provides_of(alloc, provides)?,
     })
 }

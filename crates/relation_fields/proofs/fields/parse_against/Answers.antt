@@ -1,11 +1,17 @@
+use Rattle.std.proofs.Common.{◌∙◌, sym, subst}
+use Rattle.std.proofs.lemmas.Result.{err_from_is_err_and}
 use Rattle.relation_fields.specs.Grammar.{atom_of}
-use Rattle.relation_fields.specs.Spelling.{SpellsAtom}
+use Rattle.relation_fields.specs.Spelling.{SpellsEach, SpellsAtom}
 use Rattle.relation_fields.proofs.Readings.{atoms_read}
-use Rattle.relation_fields.proofs.Faults.{spelled_from, refused_from}
+use Rattle.relation_fields.proofs.Faults.{field_said, fault_from}
 use Rattle.relation_fields.proofs.fields.parse_against.Goals as goal
 
-pub returns-clause-spelled : goal.returns-clause-spelled
-returns-clause-spelled c = spelled_from atom_of SpellsAtom atoms_read c.args.value.now c.parse_elements.result c.parse_elements.ensures.said c.parse_elements.ensures.accepted
+pub returns-in_err-atoms-clause-fault : goal.returns-in_err-atoms-clause-fault
+returns-in_err-atoms-clause-fault c =
+    let p = err_from_is_err_and c.from_residual.result c.from_residual.ensures.1 in
+    rw (p.1, p.2) (fault_from atom_of SpellsAtom atoms_read c.args.value.now _ c.in_err-atoms.ensures.shape)
 
-pub returns-clause-fault : goal.returns-clause-fault
-returns-clause-fault c = refused_from atom_of SpellsAtom atoms_read c.args.value.now c.parse_elements.result c.parse_elements.ensures.shape
+pub returns-clause-spelled : goal.returns-clause-spelled
+returns-clause-spelled c =
+    let value = c.args.value.now in
+    subst (SpellsEach SpellsAtom value) (sym (c.in_ok-of.ensures ∙ c.in_ok-atoms.ensures.said)) (field_said atom_of SpellsAtom atoms_read value c.in_ok-atoms.ensures.accepted)

@@ -5,7 +5,7 @@ use Rattle.relation_fields.proofs.Faults.{spelled_from, refused_from}
 use Rattle.relation_fields.proofs.fields.parse_needs.Goals as goal
 
 pub returns-clause-spelled : goal.returns-clause-spelled
-returns-clause-spelled c = spelled_from alternatives_of SpellsAlternatives alternatives_read c.args.value.now c.parse_elements.result c.parse_elements.ensures.said c.parse_elements.ensures.accepted
+returns-clause-spelled c = spelled_from alternatives_of SpellsAlternatives alternatives_read c.args.value.now c.read_elements.result c.read_elements.ensures.said c.read_elements.ensures.accepted
 
 pub returns-clause-fault : goal.returns-clause-fault
-returns-clause-fault c = refused_from alternatives_of SpellsAlternatives alternatives_read c.args.value.now c.parse_elements.result c.parse_elements.ensures.shape
+returns-clause-fault c = refused_from alternatives_of SpellsAlternatives alternatives_read c.args.value.now c.read_elements.result c.read_elements.ensures.shape

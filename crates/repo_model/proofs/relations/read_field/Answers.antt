@@ -10,4 +10,4 @@ said_in-none one = refl
 pub returns-in_default : goal.returns-in_default
 returns-in_default g c =
     let none = sym c.find_field.ensures.value ∙ ap option_copied c.in_default.is in
-    (rw none refl, c.new.ensures ∙ sym (rw none (said_in-none g.T.Relation.reading)))
+    (rw none refl, c.new.ensures ∙ sym (rw none (said_in-none g.T.ElementReader.reading)))

@@ -3,12 +3,12 @@ use Rattle.std.specs.List.{prefix_len, filter, filter_map}
 use Rattle.std.specs.Option.{option_copied}
 use Rattle.relation_fields.specs.Texts.{is_white, pieces_left}
 use Rattle.relation_fields.specs.Fields.{elements, is_outside}
-use Rattle.relation_fields.proofs.fields.parse_elements.Given as goal
+use Rattle.relation_fields.proofs.fields.read_elements.Given as goal
 
 -- the elements so far are white or in the grammar, and what these and the elements left say is what all say
 abbrev pub invariant-loop-left : goal.invariant-loop-left
 invariant-loop-left g l =
-    let reading = g.T.Element.reading in
+    let reading = g.T.ElementReader.reading in
     let left = pieces_left 44 (option_copied l.left) in
     record {
       counted : l.element + length left ≡ length (elements l.value);

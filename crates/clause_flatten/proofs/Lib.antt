@@ -28,6 +28,4 @@ pub mod Runs
 pub mod Free
 pub mod Passing
 pub mod Running
-pub mod SmallBooks
-mod Examples
-mod Refuted
+pub mod RowsKept

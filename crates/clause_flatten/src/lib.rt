@@ -34,6 +34,3 @@ pub use support::{
     first_rows, keeps_every_set, lift_is_healthy, one_step, own_row_stays, row_computes,
     row_is_one, row_tells, substitutes, support_grows, union_merges, untouched_stays,
 };
-
-#[cfg(test)]
-mod tests;

@@ -7,14 +7,12 @@ pub mod Order
 pub mod Books
 pub mod Pairs
 pub mod Faults
-mod Examples
 pub mod Inserts
 pub mod Tables
 pub mod Differences
 pub mod Users
 pub mod Holders
 pub mod Moved
-pub mod Samples
 pub mod Repositories
 pub mod Facing
 pub mod BookRepositories

@@ -1,14 +1,17 @@
 -- Books whose rows come into another pool.
-use Rattle.std.proofs.Common.{◌≡◌, ℕ, ◌<◌, ◌≤◌, ◌+◌, List, [], ◌∷◌, ◌++◌, inl, inr, refl, sym, ◌∙◌, ap, ap₂, subst, length, get_or, take, map, arith, length-append}
-use Rattle.std.specs.Prelude.{Result, Ok, Err, IfOk}
-use Rattle.std.proofs.lemmas.Bool.{cases_lt}
-use Rattle.std.proofs.lemmas.List.{length-map, map-append, take_more}
+use Rattle.std.proofs.Common.{◌≡◌, ℕ, zero, suc, ◌<◌, ◌≤◌, ◌+◌, List, [], ◌∷◌, ◌++◌, inl, inr, refl, sym, ◌∙◌, ap, ap₂, subst, length, get_or, take, map, arith, length-append}
+use Rattle.std.specs.Prelude.{Result, Ok, Err, IfOk, Option, Some, None}
+use Rattle.std.specs.List.{slice_set}
+use Rattle.std.proofs.lemmas.Bool.{cases_eq, cases_lt}
+use Rattle.std.proofs.lemmas.List.{get_or_default, get_or-set_other, get_or-set_same, length-map, map-append, take_more}
+use Rattle.std.proofs.lemmas.Option.{none-some, same_Some}
 use Rattle.clause_pool.specs.Interned.{Interned, IsPool, Kept, Gains, clause_at, ids_at, row_at}
 use Rattle.clause_pool.specs.Compacting.{Adds, Compacts, Renames, StandsFor}
 use Rattle.clause_pool.proofs.Lists.{In_place}
 use Rattle.row_book.specs.declared.book.Book.{Book}
 use Rattle.row_book.specs.Sets.{In, here, there}
 use Rattle.row_book.specs.Book.{AddsOnly, IsSameBook, RowsFit}
+use Rattle.row_book.specs.Carrying.{AreCarried}
 use Rattle.row_book.specs.Repository.{Repository}
 use Rattle.row_book.proofs.Books.{row_kept}
 use Rattle.row_book.proofs.Lists.{In_append_cases, In_append_left, In_append_right, In_at, In_cases, In_map, In_map_cases, In_none}
@@ -79,6 +82,34 @@ renamed_more remap rows made more i row new_row l e r is done = record {
         subst (λ z. (id : ℕ) → In id z → id < length new.rows) (sym is) (one_more made new_row (length new.rows) d.1 s.within),
       );
 }
+
+-- the id that is read at the place of a row
+pub known_id : (known : List (Option ℕ)) (place row : ℕ) (x : Option ℕ) (id : ℕ) → place ≡ row → row < length known → x ≡ get_or known place x → x ≡ Some id → get_or known row None ≡ Some id
+known_id known place row x id e l is f = get_or_default known row None x l ∙ ap (λ z. get_or known z x) (sym e) ∙ sym is ∙ f
+
+-- one more row of which no id is known
+pub one_unknown : (known : List (Option ℕ)) → ((row : ℕ) → get_or known row None ≡ None) → (row : ℕ) → get_or (known ++ None ∷ []) row None ≡ None
+one_unknown [] f zero = refl
+one_unknown [] f (suc row) = refl
+one_unknown (x ∷ xs) f zero = f 0
+one_unknown (x ∷ xs) f (suc row) = one_unknown xs (λ r. f (suc r)) row
+
+-- no id is known to begin with
+pub none_known : (known : List (Option ℕ)) (from pool : Interned) → ((i : ℕ) → get_or known i None ≡ None) → AreCarried from pool known
+none_known known from pool f row id e = absurd (none-some id (sym (f row) ∙ e))
+
+-- a known id stands for its row also when the pool has grown, and one more is known
+pub known_more : (from pool next : Interned) (known : List (Option ℕ)) (place row id : ℕ) → IsPool pool → Kept pool next → place ≡ row → row < length known → StandsFor from row next id →
+    AreCarried from pool known → AreCarried from next (slice_set known place (Some id))
+known_more from pool next known place row id is kept e l stands before r i read =
+    elim (cases_eq r place) [
+      | inl same_place ↦
+          let same : id ≡ i = same_Some id i (sym (get_or-set_same known place (Some id) None (subst (λ z. z < length known) (sym e) l)) ∙ ap (λ z. get_or (slice_set known place (Some id)) z None) (sym same_place) ∙ read) in
+          subst (λ z. StandsFor from z next i) (sym (same_place ∙ e)) (subst (λ z. StandsFor from row next z) same stands)
+      | inr other ↦
+          let old : StandsFor from r pool i = before r i (sym (get_or-set_other known place r (Some id) None other) ∙ read) in
+          record { within = (kept.rows i old.within).0; same = row_kept pool next is kept i old.within ∙ old.same }
+    ]
 
 -- each of these rows was carried, and nothing else came into the pool
 pub record CarriedTo (from start pool : Interned) (rows made : List ℕ) (i : ℕ) : Type 0 where
@@ -175,3 +206,9 @@ module _ (from start pool : Interned) (rows made : List ℕ) (i : ℕ) (done : C
         ∙ sym (next_rows from rows i row l row_is);
     only = record { rows = rows_only; clauses = clauses_only };
   }
+
+-- the same, and what is known of the rows of the first pool
+pub record CarriedOnce (from start pool : Interned) (rows made : List ℕ) (ids : List (Option ℕ)) (i : ℕ) : Type 0 where
+  pub carried : CarriedTo from start pool rows made i
+  pub size : length ids ≡ length from.rows
+  pub known : AreCarried from pool ids

@@ -30,8 +30,3 @@ pub use within::{has_side_within, has_within};
 
 /// The clauses of one package.
 pub type ClauseList = Listed<NumList>;
-
-#[cfg(test)]
-mod book_tests;
-#[cfg(test)]
-mod uses_tests;

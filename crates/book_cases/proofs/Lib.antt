@@ -1,0 +1,4 @@
+pub mod Rows
+mod Plainly
+mod ByStages
+mod Refuted

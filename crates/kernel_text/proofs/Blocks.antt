@@ -1,5 +1,5 @@
 -- What the blocks of classes say, one behind the other, and that they are the lines of the kernel that they say.
-use Rattle.std.proofs.Common.{◌≡◌, ◌≢◌, ℕ, zero, suc, ◌+◌, ◌<◌, ◌≤◌, Bool, true, false, ◌&&◌, eqb, ltb, List, [], ◌∷◌, ◌++◌, ◌⊎◌, Option, Some, length, map, filter, get_or, inl, inr, refl, sym, ap, ap₂, ◌∙◌, subst, append_assoc, add-one, zero-add, eq-eqb, arith}
+use Rattle.std.proofs.Common.{◌≡◌, ◌≢◌, ℕ, zero, suc, ◌+◌, ◌<◌, ◌≤◌, Bool, true, false, ◌&&◌, eqb, ltb, List, [], ◌∷◌, ◌++◌, ◌⊎◌, Option, Some, length, map, filter, get_or, inl, inr, refl, sym, ap, ap₂, ◌∙◌, subst, add-one, zero-add, eq-eqb, arith}
 use Rattle.std.specs.List.{flat_map}
 use Rattle.std.proofs.lemmas.Bool.{and_from, false_from_ne_true, or_left, lt-ltb, ltb-true}
 use Rattle.std.proofs.lemmas.List.{append-nil}
@@ -13,7 +13,7 @@ use Rattle.row_book.proofs.Lists.{In_cases, In_has, In_none, In_map, In_map_case
 use Rattle.row_book.proofs.Order.{numbers_from, numbers_ascending, length_numbers, at_numbers}
 use Rattle.row_book.proofs.Pairs.{is_of, paired_cases}
 use Rattle.kernel_text.specs.declared.member.Member.{Member}
-use Rattle.kernel_text.specs.KernelLines.{KernelLine, HeadLine, ClassLine, HeldLine, NeedsLine, AgainstLine, EndLine}
+use Rattle.kernel_text.specs.KernelLines.{KernelLine, HeadLine, ClassLine, NeedsLine, AgainstLine, EndLine}
 use Rattle.kernel_text.specs.KernelReads.{clauses_of_class}
 use Rattle.kernel_text.specs.KernelText.{class_lines, greater_conflicts, held_lines, kernel_lines, line_of_member}
 use Rattle.kernel_text.specs.Reading.{Reading, ClassClause}

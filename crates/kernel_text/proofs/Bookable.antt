@@ -1,5 +1,5 @@
 -- What a text of a kernel says can be booked.
-use Rattle.std.proofs.Common.{◌≡◌, ℕ, ◌+◌, ◌-◌, ◌<◌, List, [], ◌∷◌, ◌++◌, Option, Some, length, map, inl, inr, refl, sym, ap, ◌∙◌, subst, zero-add, arith}
+use Rattle.std.proofs.Common.{◌≡◌, ℕ, ◌+◌, ◌-◌, ◌<◌, List, [], ◌∷◌, ◌++◌, Option, Some, length, inl, inr, refl, sym, ap, ◌∙◌, subst, zero-add, arith}
 use Rattle.row_book.specs.Clauses.{Ascending, InOrder, numbers}
 use Rattle.row_book.specs.Repository.{clauses_of}
 use Rattle.row_book.specs.Sets.{In}

@@ -1,13 +1,13 @@
 -- A text spells one of a few lines that its words tell, or none.
-use Rattle.std.proofs.Common.{◌≡◌, ℕ, ◌<◌, ◌==◌, ◌||◌, Bool, true, false, List, [], ◌∷◌, ◌++◌, length, drop, get_or, map, inl, inr, refl, sym, ap, ap₂, ◌∙◌, subst, append_assoc, codes, eq-eqb, eqb-true, arith}
+use Rattle.std.proofs.Common.{◌≡◌, ℕ, ◌<◌, ◌==◌, ◌||◌, Bool, true, false, List, [], ◌∷◌, ◌++◌, drop, get_or, map, inl, inr, refl, sym, ap, ap₂, ◌∙◌, subst, append_assoc, codes, eqb-true, arith}
 use Rattle.std.specs.Prelude.{if◌then◌else◌}
 use Rattle.std.specs.Fmt.{decimal}
 use Rattle.std.specs.List.{flat_map, list_all, onto_first}
 use Rattle.std.specs.Str.{bytes_eq}
-use Rattle.std.proofs.lemmas.Bool.{and_parts, both_ways, false_from_ne_true, false≢true, or_cases, or_left, or_right}
+use Rattle.std.proofs.lemmas.Bool.{and_parts, both_ways, false_from_ne_true, false≢true, or_cases}
 use Rattle.std.proofs.lemmas.List.{append-nil}
 use Rattle.std.proofs.lemmas.Slice.Eq.{bytes_eq-Decides}
-use Rattle.deb_version.specs.Grammar.{is_upstream_byte, is_version}
+use Rattle.deb_version.specs.Grammar.{is_upstream_byte}
 use Rattle.deb_version.specs.Order.{number}
 use Rattle.relation_fields.proofs.Bytes.{version_bytes}
 use Rattle.row_book.specs.Sets.{In, here, there}

@@ -12,7 +12,6 @@ use Rattle.std.proofs.lemmas.Slice.Eq.{bytes_eq-Decides}
 use Rattle.deb_version.specs.Order.{version_order}
 use Rattle.deb_version.proofs.TotalOrder.{version_total}
 use Rattle.relation_fields.specs.declared.packages.PackageFacts.{PackageFacts}
-use Rattle.repo_model.proofs.Accepted.{Accepted}
 use Rattle.repo_model.proofs.Accepted as index
 use Rattle.row_book.specs.Clauses.{numbers}
 use Rattle.row_book.specs.Repository.{Repository}

@@ -1,13 +1,13 @@
 -- What `serde_json` writes for a kernel.
-use Rattle.std.proofs.Common.{◌≡◌, ◌≢◌, ℕ, zero, suc, ◌+◌, ◌/◌, ◌%◌, ◌<◌, ◌≤◌, Bool, true, false, cond, ◌&&◌, ◌||◌, ◌==◌, eqb-true, List, [], ◌∷◌, ◌++◌, length, map, filter, Option, Some, None, take, get_or, ltb, inl, inr, refl, sym, ap, ap₂, ◌∙◌, subst, append_assoc, codes, arith}
+use Rattle.std.proofs.Common.{◌≡◌, ◌≢◌, ℕ, zero, suc, ◌+◌, ◌/◌, ◌%◌, ◌<◌, ◌≤◌, Bool, true, false, cond, ◌||◌, ◌==◌, eqb-true, List, [], ◌∷◌, ◌++◌, length, map, Option, Some, None, take, get_or, inl, inr, refl, sym, ap, ap₂, ◌∙◌, subst, append_assoc, codes, arith}
 use Rattle.std.specs.Prelude.{nat_lt, nat_le}
 use Rattle.std.specs.Char.{digit_char, is_ascii_alphanumeric}
 use Rattle.std.specs.Int.{is_in_range}
-use Rattle.std.specs.Fmt.{decimal, digits}
-use Rattle.std.specs.List.{flat_map, list_all}
+use Rattle.std.specs.Fmt.{decimal}
+use Rattle.std.specs.List.{list_all}
 use Rattle.std.specs.Str.{IsAscii}
-use Rattle.std.proofs.lemmas.Bool.{and_parts, cases_lt, false_from_ne_true, false≢true, leb-true, ltb-true, or_cases}
-use Rattle.std.proofs.lemmas.List.{get_or_past, map-append, take_all, take_more}
+use Rattle.std.proofs.lemmas.Bool.{and_parts, false_from_ne_true, false≢true, leb-true, ltb-true, or_cases}
+use Rattle.std.proofs.lemmas.List.{map-append, take_more}
 use Rattle.deb_version.specs.Grammar.{is_upstream_byte, is_version}
 use Rattle.deb_version.specs.Names.{has_first, is_name, is_name_byte}
 use Rattle.json.specs.Print.{escape, escape_byte, escape_letter, quoted}
@@ -16,7 +16,6 @@ use Rattle.relation_fields.specs.declared.packages.PackageFacts.{PackageFacts}
 use Rattle.repo_model.specs.Stanzas.{stanza_at}
 use Rattle.row_book.specs.Book.{listed_for}
 use Rattle.row_book.specs.Clauses.{numbers}
-use Rattle.row_book.specs.Flags.{flag}
 use Rattle.row_book.specs.Repository.{Repository, clauses_of}
 use Rattle.row_book.specs.Sets.{In, here, there}
 use Rattle.row_book.proofs.Order.{numbers_parts}
@@ -30,7 +29,7 @@ use Rattle.serde_json.specs.declared.value.Value.TheVariants.{Array}
 use Rattle.serde_json.proofs.Views.{view-Array}
 use Rattle.kernel_text.specs.declared.member.Member.{Member}
 use Rattle.kernel_text.specs.JsonData.{AreNamedPackages, class_data, clauses_data, data_of_class, kernel_data, list_data, mark_of_class, number_data, numbers_data, package_data, packages_data}
-use Rattle.kernel_text.specs.KernelJson.{behind_commas, class_json, held_mark, kernel_json, list_json, member_json, numbers_json, object_json, package_json, quoted_text, with_commas}
+use Rattle.kernel_text.specs.KernelJson.{behind_commas, class_json, held_mark, kernel_json, list_json, member_json, numbers_json, object_json, package_json, quoted_text}
 use Rattle.kernel_text.specs.KernelLines.{KernelLine, MemberLine}
 use Rattle.kernel_text.specs.KernelText.{format_of, greater_conflicts, line_of_member, members_of}
 use Rattle.kernel_text.specs.Members.{kernel_members}

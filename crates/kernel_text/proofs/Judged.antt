@@ -1,25 +1,20 @@
 -- Each text is one of a kernel, or has a first fault.
-use Rattle.std.proofs.Common.{◌≡◌, ℕ, zero, suc, ◌+◌, ◌<◌, ◌≤◌, List, [], ◌∷◌, length, take, get_or, Option, Some, None, Result, Ok, Err, inl, inr, ◌⊎◌, ◌↔◌, refl, sym, ap, ap₂, ◌∙◌, subst, eqb-true, arith}
+use Rattle.std.proofs.Common.{◌≡◌, ℕ, suc, ◌+◌, ◌<◌, ◌≤◌, List, [], ◌∷◌, length, take, get_or, Option, Some, None, inl, inr, ◌⊎◌, refl, sym, ap₂, ◌∙◌, subst, arith}
 use Rattle.std.proofs.lemmas.Bool.{cases_eq, cases_lt}
 use Rattle.row_book.specs.Repository.{Repository}
-use Rattle.row_book.specs.Sets.{In}
-use Rattle.row_book.specs.declared.pair.Pair.{Pair}
-use Rattle.row_book.proofs.Lists.{Decided, In_append_left, In_append_right}
-use Rattle.row_book.specs.Sets.{here}
+use Rattle.row_book.proofs.Lists.{Decided}
 use Rattle.kernel_text.specs.declared.fault.KernelFault.{KernelFault}
 use Rattle.kernel_text.specs.declared.fault.KernelFault.TheVariants.{Line, End, Range, Memory}
 use Rattle.kernel_text.specs.declared.member.Member.{Member}
-use Rattle.kernel_text.specs.KernelFaults.{IsEndFault, IsFault, IsFirstStray, IsLineFault, IsRangeFault, Names, Strays, line_at}
+use Rattle.kernel_text.specs.KernelFaults.{IsFault, Names, Strays}
 use Rattle.kernel_text.specs.KernelLines.{KernelLine, HeadLine, ClassLine, MemberLine, HeldLine, NeedsLine, AgainstLine, EndLine, lines_of, line_text}
-use Rattle.kernel_text.specs.KernelReads.{IsEnded, IsInRange, KernelReads, LinesGive, repository_of_reading}
-use Rattle.kernel_text.specs.Reading.{ClassClause, IsAllowed, Reading, empty_reading, number_limit, with_line}
+use Rattle.kernel_text.specs.KernelReads.{IsEnded, KernelReads, LinesGive, repository_of_reading}
+use Rattle.kernel_text.specs.Reading.{IsAllowed, Reading, empty_reading, number_limit, with_line}
 use Rattle.kernel_text.specs.Words.{IsWellFormed}
 use Rattle.kernel_text.proofs.Candidates.{Spells, spelled_decided}
-use Rattle.kernel_text.proofs.Decisions.{FirstOrNone, IsFirst, all_decided, allowed_decided, both_decided, first_or_none, less_decided, some_decided, three_decided}
+use Rattle.kernel_text.proofs.Decisions.{FirstOrNone, all_decided, allowed_decided, both_decided, first_or_none, less_decided, some_decided}
 use Rattle.kernel_text.proofs.InRange.{in_range}
-use Rattle.kernel_text.proofs.OneReading.{same_reading}
 use Rattle.kernel_text.proofs.Shape.{some_none}
-use Rattle.kernel_text.proofs.Spelling.{allowed_fits, same_line, same_fit}
 use Rattle.kernel_text.proofs.StrayLines.{names_formed}
 
 allowed_formed : (t : Reading) (l : KernelLine) → IsAllowed t l → IsWellFormed l

@@ -27,6 +27,7 @@ pub mod StrayLines
 pub mod InRange
 pub mod Bookable
 pub mod IdTables
+pub mod Gained
 pub mod Decisions
 pub mod Candidates
 pub mod Judged

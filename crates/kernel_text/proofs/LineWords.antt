@@ -1,16 +1,18 @@
 -- The words of a line, and what they say.
-use Rattle.std.proofs.Common.{◌≡◌, ℕ, zero, suc, ◌-◌, ◌<◌, true, false, not, ◌==◌, List, [], ◌∷◌, ◌++◌, Option, Some, None, length, take, drop, get_or, inr, refl, sym, ap, ap₂, ◌∙◌, subst, codes, eqb-true, arith}
+use Rattle.std.proofs.Common.{◌≡◌, ℕ, zero, suc, ◌-◌, ◌<◌, Bool, true, false, eqb, not, ◌==◌, List, [], ◌∷◌, ◌++◌, Option, Some, None, length, take, drop, get_or, inr, refl, sym, ap, ap₂, ◌∙◌, subst, codes, eqb-true, arith}
 use Rattle.std.specs.Fmt.{decimal}
 use Rattle.std.specs.Str.{bytes_eq}
 use Rattle.std.proofs.lemmas.Bool.{and_parts, and_from, both_ways, false_from_ne_true, not-true, not_from_false}
 use Rattle.std.proofs.lemmas.List.{append-nil, append_cancel_right, length-append, length-drop, take_all, take-append-drop}
-use Rattle.std.proofs.lemmas.Slice.Eq.{bytes_eq-Decides}
+use Rattle.std.proofs.lemmas.Slice.Eq.{bytes_eq-Decides, starts_is}
+use Rattle.std.proofs.lemmas.Bool.Decides.{Decides-eqb}
+use Rattle.std.specs.List.{starts_with}
 use Rattle.memchr.specs.Find.{IsFirstByte, is_byte}
 use Rattle.kernel_text.specs.declared.content.LineContent.{LineContent}
 use Rattle.kernel_text.specs.KernelLines.{KernelLine, HeadLine, ClassLine, MemberLine, HeldLine, NeedsLine, AgainstLine, EndLine, line_text}
 use Rattle.kernel_text.specs.Reading.{IsFormat, IsNamed, number_limit}
 use Rattle.kernel_text.specs.Numbers.{NumberRead}
-use Rattle.kernel_text.specs.Words.{IsCut, LineIsRead, NumbersRead, WordsAreRead, behind_word, first_word, is_word, line_of_content, other_words}
+use Rattle.kernel_text.specs.Words.{IsCut, LineIsRead, WordsAreRead, behind_word, first_word, is_word, line_of_content, other_words}
 use Rattle.kernel_text.proofs.Spelling.{Plain, decimal_plain, format_low, kind, kind_of, name_plain, number_same}
 
 -- cutting at the first space
@@ -32,6 +34,13 @@ cut_found text n h = found_word text n h.0.high (λ k l. false_from_ne_true (get
 
 pub cut_missed : (text : List ℕ) → IsFirstByte (is_byte 32) text None → IsCut text text None
 cut_missed text h = record { whole = sym (append-nil text); word = one_word text (λ k l. false_from_ne_true (get_or text k 0 == 32) (h k (omega arith) l)) }
+
+-- a text that begins with a word and a space is cut there
+pub member_cut : (text : List ℕ) (begins : Bool) → begins ≡ starts_with eqb text (codes "member ") → begins ≡ true → IsCut text (take 6 text) (Some (drop 7 text))
+member_cut text begins e is =
+    let whole : text ≡ codes "member " ++ drop 7 text = (starts_is Decides-eqb text (codes "member ") begins e).0 is in
+    let word : take 6 text ≡ codes "member" = ap (take 6) whole in
+    record { whole = whole ∙ sym (ap (λ first. first ++ 32 ∷ drop 7 text) word); word = ap is_word word }
 
 -- a text is cut in one way
 no_space : (y : ℕ) (ys : List ℕ) → is_word (y ∷ ys) ≡ true → (y == 32) ≡ true → ⊥

@@ -1,6 +1,6 @@
 -- A text of a kernel has no fault, and a text has one fault at most.
-use Rattle.std.proofs.Common.{◌≡◌, ℕ, zero, suc, ◌+◌, ◌<◌, ◌≤◌, List, [], ◌∷◌, length, take, get_or, Result, Ok, Err, inl, inr, ◌⊎◌, ◌↔◌, refl, sym, ap, ap₂, ◌∙◌, subst, arith}
-use Rattle.std.proofs.lemmas.Bool.{cases_eq, cases_lt}
+use Rattle.std.proofs.Common.{◌≡◌, ℕ, zero, suc, ◌+◌, ◌<◌, ◌≤◌, List, [], ◌∷◌, length, take, get_or, inl, inr, ◌⊎◌, refl, sym, ap, ◌∙◌, subst, arith}
+use Rattle.std.proofs.lemmas.Bool.{cases_lt}
 use Rattle.row_book.specs.Repository.{Repository}
 use Rattle.row_book.specs.Sets.{here}
 use Rattle.row_book.specs.declared.pair.Pair.{Pair}
@@ -8,7 +8,7 @@ use Rattle.row_book.proofs.Lists.{In_append_left, In_append_right}
 use Rattle.kernel_text.specs.declared.fault.KernelFault.{KernelFault}
 use Rattle.kernel_text.specs.declared.fault.KernelFault.TheVariants.{Line, End, Range, Memory}
 use Rattle.kernel_text.specs.declared.member.Member.{Member}
-use Rattle.kernel_text.specs.KernelFaults.{IsEndFault, IsFault, IsLineFault, IsRangeFault, Names, Strays, line_at}
+use Rattle.kernel_text.specs.KernelFaults.{IsFault, IsLineFault, Names, Strays, line_at}
 use Rattle.kernel_text.specs.KernelLines.{KernelLine, HeadLine, ClassLine, MemberLine, HeldLine, NeedsLine, AgainstLine, EndLine, lines_of, line_text}
 use Rattle.kernel_text.specs.KernelReads.{IsEnded, IsInRange, KernelReads, LinesGive}
 use Rattle.kernel_text.specs.Reading.{ClassClause, IsAllowed, Reading, empty_reading, this_class, with_line}

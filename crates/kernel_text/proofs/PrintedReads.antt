@@ -1,5 +1,5 @@
 -- The text of a kernel is read as that kernel.
-use Rattle.std.proofs.Common.{◌≡◌, ℕ, ◌<◌, Bool, List, [], ◌∷◌, ◌++◌, Some, length, filter, inl, inr, refl, sym, ap, ap₂, ◌∙◌, subst, zero-add, eqb, eqb-true, ltb, true, false, arith}
+use Rattle.std.proofs.Common.{◌≡◌, ℕ, ◌<◌, Bool, List, [], ◌∷◌, Some, length, filter, inl, inr, refl, sym, ap, ap₂, ◌∙◌, subst, zero-add, eqb, eqb-true, ltb, true, false, arith}
 use Rattle.std.proofs.lemmas.Bool.{ltb-true}
 use Rattle.std.specs.List.{flat_map}
 use Rattle.row_book.specs.Clauses.{numbers}
@@ -14,7 +14,7 @@ use Rattle.kernel_text.specs.KernelReads.{KernelReads, LinesGive, repository_of_
 use Rattle.kernel_text.specs.KernelText.{AreSingle, IsWritable, class_lines, kernel_lines, kernel_text}
 use Rattle.kernel_text.specs.Reading.{Reading, ClassClause, empty_reading, number_limit}
 use Rattle.kernel_text.proofs.LineCuts.{with_lines, AreAllowed, text_gives}
-use Rattle.kernel_text.proofs.Printed.{Blocks, IsBlock, all_blocks, allowed_append, clause_entry, clause_entries, held_entries, held_of, pairs_of, reading_at, with_append}
+use Rattle.kernel_text.proofs.Printed.{Blocks, IsBlock, all_blocks, allowed_append, clause_entry, clause_entries, held_of, pairs_of, reading_at, with_append}
 use Rattle.kernel_text.proofs.Retold.{clauses_retold, conflicts_retold, high_low, in_flat_cases}
 
 marks_filter : (held xs : List ℕ) → flat_map (held_of held) xs ≡ filter (has held) xs

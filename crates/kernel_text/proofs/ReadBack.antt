@@ -1,7 +1,7 @@
 -- The text of an index's kernel is read as that kernel, and goals name in it the classes of the packages that they name in the
 -- index.
-use Rattle.std.proofs.Common.{◌≡◌, ℕ, zero, suc, ◌+◌, ◌<◌, ◌≤◌, Bool, true, false, not, ◌&&◌, eqb, eq-eqb, eqb-true, List, [], ◌∷◌, length, filter, get_or, inl, inr, refl, sym, ap, ◌∙◌, subst, arith}
-use Rattle.std.specs.List.{flat_map, list_any, range_with_len}
+use Rattle.std.proofs.Common.{◌≡◌, ℕ, zero, suc, ◌+◌, ◌<◌, ◌≤◌, Bool, true, false, not, ◌&&◌, eqb, eq-eqb, eqb-true, List, [], ◌∷◌, length, get_or, inl, inr, refl, sym, ap, ◌∙◌, arith}
+use Rattle.std.specs.List.{list_any}
 use Rattle.std.proofs.lemmas.Bool.{and_from, and_parts, both_ways, false_from_ne_true}
 use Rattle.relation_fields.specs.declared.packages.PackageFacts.{PackageFacts}
 use Rattle.repo_model.specs.declared.goals.Goal.{Goal}
@@ -20,7 +20,7 @@ use Rattle.kernel_text.specs.Images.{image_of, is_named_by, is_unknown, names_in
 use Rattle.kernel_text.specs.KernelText.{kernel_text, members_of}
 use Rattle.kernel_text.specs.Laws.{IsKernelOf, IsReadBack, classes_named}
 use Rattle.kernel_text.specs.Members.{file_members, kernel_members, member_in}
-use Rattle.kernel_text.proofs.Classified.{by_classes, kernels_are_writable, member_from}
+use Rattle.kernel_text.proofs.Classified.{kernels_are_writable, member_from}
 use Rattle.kernel_text.proofs.ReadIsWritten.{read_is_written}
 use Rattle.kernel_text.proofs.Retold.{in_flat}
 

@@ -1,7 +1,7 @@
 -- Lines that are allowed one behind the other, up to an end line, are the blocks of classes and that end line.
-use Rattle.std.proofs.Common.{◌≡◌, ℕ, suc, ◌+◌, ◌-◌, ◌<◌, Bool, true, false, List, [], ◌∷◌, ◌++◌, Option, Some, None, length, map, inl, inr, refl, sym, ap, ap₂, ◌∙◌, subst, append_assoc, add-one, arith}
+use Rattle.std.proofs.Common.{◌≡◌, ℕ, ◌+◌, ◌-◌, ◌<◌, true, false, List, [], ◌∷◌, ◌++◌, Option, Some, None, length, map, inl, inr, refl, sym, ap, ap₂, ◌∙◌, subst, append_assoc, add-one, arith}
 use Rattle.std.proofs.lemmas.Bool.{false≢true}
-use Rattle.row_book.specs.Clauses.{Ascending, Before, InOrder}
+use Rattle.row_book.specs.Clauses.{Before}
 use Rattle.row_book.specs.Sets.{In}
 use Rattle.row_book.proofs.Lists.{In_cases, In_none}
 use Rattle.row_book.proofs.Order.{before_trans}

@@ -1,5 +1,5 @@
 -- What was read as a book over a pool.
-use Rattle.std.specs.Prelude.{◌≡◌, ℕ, ◌<◌, List, length, map}
+use Rattle.std.specs.Prelude.{◌≡◌, ℕ, ◌<◌, ◌≤◌, List, length, map}
 use Rattle.clause_pool.specs.Interned.{Interned, clauses_at, ids_at, row_at, OfPool}
 use Rattle.row_book.specs.Book.{PairsFit, listed_for}
 use Rattle.row_book.specs.Clauses.{Ascending, InOrder}
@@ -27,3 +27,14 @@ pub record AreRows (pool : Interned) (clauses : List (List (List ℕ))) (rows : 
   pub within : (row : ℕ) → In row rows → row < length pool.rows
   pub of_pool : (row : ℕ) → In row rows → OfPool pool (ids_at pool row)
   pub same : map (row_at pool) rows ≡ clauses
+
+-- the pool has gained no row, and some clauses of the table alone
+pub record GainsClauses (old new : Interned) (table : List (List ℕ)) : Type 0 where
+  pub rows : new.rows ≡ old.rows
+  pub only : (id : ℕ) → length old.clauses ≤ id → id < length new.clauses → (n : ℕ) × In id (listed_for table n)
+
+-- the pool has gained no clause, and some of these rows alone, which have these ids
+pub record GainsRows (old new : Interned) (lists : List (List ℕ)) (rows : List ℕ) : Type 0 where
+  pub clauses : new.clauses ≡ old.clauses
+  pub only : (row : ℕ) → length old.rows ≤ row → row < length new.rows → In row rows
+  pub each : (ids : List ℕ) → In ids lists → (row : ℕ) × In row rows × (ids_at new row ≡ ids)

@@ -1,6 +1,5 @@
 -- The JSON of a kernel as data of `serde_json`, over the packages of an index and a table of their numbers by class.
 use Rattle.std.specs.Prelude.{◌≡◌, ℕ, Bool, true, List, [], ◌∷◌, map, codes, Option, Some, None, if◌then◌else◌}
-use Rattle.std.specs.Str.{IsAscii}
 use Rattle.deb_version.specs.Grammar.{is_version}
 use Rattle.deb_version.specs.Names.{is_name}
 use Rattle.relation_fields.specs.declared.packages.PackageFacts.{PackageFacts}

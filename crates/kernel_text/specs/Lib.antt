@@ -9,6 +9,7 @@ pub mod Writing
 pub mod Numbers
 pub mod Words
 pub mod KernelFaults
+pub mod MemberTables
 pub mod Reader
 pub mod Strays
 pub mod Booking

@@ -1,8 +1,6 @@
 -- What a reader of kernel texts holds of the lines so far.
-use Rattle.std.specs.Prelude.{◌≡◌, ℕ, ◌≤◌, Bool, true, false, nat_lt, List, ◌∷◌, ◌++◌, length, take, drop, map, Option, Some, None}
-use Rattle.deb_version.specs.Keys.{version_key}
+use Rattle.std.specs.Prelude.{◌≡◌, ℕ, ◌≤◌, Bool, true, false, nat_lt, List, length, take, drop, map, Option, Some, None}
 use Rattle.row_book.specs.Clauses.{comes_before}
-use Rattle.row_book.specs.Sets.{In}
 use Rattle.kernel_text.specs.declared.member.Member.{Member}
 use Rattle.kernel_text.specs.declared.reader.Clause.{Clause}
 use Rattle.kernel_text.specs.declared.reader.LastLine.{LastLine}
@@ -10,7 +8,8 @@ use Rattle.kernel_text.specs.declared.reader.LastLine.TheVariants as last
 use Rattle.kernel_text.specs.declared.reader.Reader.{Reader}
 use Rattle.kernel_text.specs.KernelLines.{KernelLine, HeadLine, ClassLine, MemberLine, HeldLine, NeedsLine, AgainstLine, EndLine, lines_of, line_text}
 use Rattle.kernel_text.specs.KernelReads.{IsEnded, IsInRange, LinesGive}
-use Rattle.kernel_text.specs.Reading.{Reading, ClassClause, empty_reading, with_line, IsAllowed, IsNamed}
+use Rattle.kernel_text.specs.MemberTables.{IsTableOf}
+use Rattle.kernel_text.specs.Reading.{Reading, ClassClause, empty_reading, with_line, IsAllowed}
 
 -- the kind of the last line, with what of it bears on the next one
 abbrev pub kind_of_last : Option KernelLine → LastLine
@@ -61,18 +60,6 @@ may_add_conflict line m = false
 abbrev pub entry_of : Clause → ClassClause
 entry_of c = record { class = c.class; clause = c.numbers }
 
--- the name of a member and the key of its version, with a space between them, which stands in no name
-abbrev pub member_key : Member → List ℕ
-member_key m = m.name ++ 32 ∷ version_key m.version
-
-abbrev pub AreNamed : List Member → Type 0
-AreNamed members = (m : Member) → In m members → IsNamed m.name m.version
-
--- the members are named, and these are their keys
-pub record AreKeysOf (members : List Member) (keys : List (List ℕ)) : Type 0 where
-  pub named : AreNamed members
-  pub each : keys ≡ map member_key members
-
 -- the reader holds what the lines so far say
 pub record Holds (reader : Reader) (t : Reading) : Type 0 where
   pub last : reader.last ≡ kind_of_last t.last
@@ -80,7 +67,7 @@ pub record Holds (reader : Reader) (t : Reading) : Type 0 where
   pub of_format : reader.format ≡ t.format
   pub classes : reader.classes ≡ t.classes
   pub members : reader.members ≡ t.members
-  pub keyed : AreKeysOf reader.members reader.keys
+  pub known : IsTableOf reader.members reader.table
   pub held : reader.held ≡ t.held
   pub clauses : map entry_of reader.clauses ≡ t.clauses
   pub conflicts : reader.conflicts ≡ t.conflicts

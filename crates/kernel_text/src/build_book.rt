@@ -1,10 +1,10 @@
 //! The book of the classes that were read.
 ghost use Rattle.std.specs.Prelude.{◌≡◌, ◌∷◌, ◌++◌, ◌<◌, ℕ, List, [], IfOk, OnOk, length, map, slice_set};
 ghost use Rattle.clause_pool.specs.Interned.{clauses_at, Kept, OfPool};
-ghost use Rattle.row_book.specs.Book.{listed_for, repository_of, Sound};
+ghost use Rattle.row_book.specs.Book.{AddsOnly, listed_for, repository_of, Sound};
 ghost use Rattle.row_book.specs.Clauses.{Ascending, InOrder};
 ghost use Rattle.row_book.specs.Sets.{In};
-ghost use Rattle.kernel_text.specs.Booking.{AreRows, HasIdsByClass, IsBookable};
+ghost use Rattle.kernel_text.specs.Booking.{AreRows, GainsClauses, GainsRows, HasIdsByClass, IsBookable};
 ghost use Rattle.kernel_text.specs.KernelReads.{repository_of_reading};
 ghost use Rattle.kernel_text.specs.Reader.{entry_of, Holds};
 ghost use Rattle.kernel_text.specs.Reading.{Reading};
@@ -16,12 +16,14 @@ use listed::Listed;
 use row_book::Book;
 use std::alloc::{AllocError, Global};
 
-/// The classes that were read, as a book over the pool: what the pool held stays, also where no memory is found.
+/// The classes that were read, as a book over the pool: what the pool held stays, also where no memory is found, and it
+/// gains the rows of the book and their clauses alone.
 pub(crate) fn book_of(alloc: Global, pool: &mut Pool, reader: &Reader) -> Result<Book, AllocError>
     requires { (t : Reading) × Holds reader.now t × IsBookable t }
     ensures repository { IfOk result (λ book. (t : Reading) → Holds reader.now t → repository_of pool.new book ≡ repository_of_reading t) }
     ensures sound { IfOk result (Sound pool.new) }
     ensures size { IfOk result (λ book. length book.rows ≡ reader.now.classes) }
+    ensures only { IfOk result (λ book. AddsOnly pool.old pool.new book.rows) }
     ensures kept { Kept pool.old pool.new }
 {
     let ids = intern_clauses(alloc, pool, reader.clauses.as_slice(), reader.classes)?;
@@ -39,6 +41,7 @@ fn intern_clauses(
     requires inside { (c : Clause) → In c clauses.now → c.class < classes }
     requires ascending { (c : Clause) → In c clauses.now → Ascending c.numbers }
     ensures ids { IfOk result (λ table. HasIdsByClass pool.new (map entry_of clauses.now) classes table.items) }
+    ensures gains { IfOk result (λ table. GainsClauses pool.old pool.new table.items) }
     ensures kept { Kept pool.old pool.new }
 {
     let mut table = no_ids(alloc, classes)?;
@@ -79,6 +82,7 @@ fn intern_rows(
     requires of_pool { (ids : List ℕ) → In ids table.now → OfPool pool.old ids }
     requires in_order { (ids : List ℕ) → In ids table.now → InOrder (clauses_at pool.old ids) }
     ensures rows { IfOk result (λ rows. AreRows pool.new (map (clauses_at pool.old) table.now) rows.items) }
+    ensures gains { IfOk result (λ rows. GainsRows pool.old pool.new table.now rows.items) }
     ensures kept { Kept pool.old pool.new }
 {
     let mut rows = Vec::new(alloc);

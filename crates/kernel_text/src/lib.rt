@@ -15,6 +15,7 @@ mod laws;
 mod line_end;
 pub mod member;
 mod member_keys;
+mod member_table;
 mod push_lines;
 mod read;
 mod read_line;

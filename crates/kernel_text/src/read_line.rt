@@ -19,8 +19,19 @@ pub(crate) fn read_line(alloc: Global, line: &[u8]) -> Result<Option<LineContent
     let Some(body) = line.strip_suffix(b"\n") else {
         return Ok(None);
     };
-    let (word, rest) = cut_at_space(body);
+    let (word, rest) = cut_line(body);
     read_words(alloc, word, rest)
+}
+
+// The first word of a line, and what stands behind it. Most lines are of members, of which no space is looked for.
+fn cut_line(body: &[u8]) -> (&[u8], Option<&[u8]>)
+    ensures { IsCut body.now result.0.now (option_copied result.1) }
+{
+    if body.starts_with(b"member ") {
+        (&body[..6], Some(&body[7..]))
+    } else {
+        cut_at_space(body)
+    }
 }
 
 // The first word of a text, and what stands behind the space that follows it.

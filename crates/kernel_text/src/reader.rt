@@ -2,14 +2,14 @@
 ghost use Rattle.std.specs.Prelude.{◌≡◌, ◌<◌, ◌-◌, ℕ, true, IfOk};
 ghost use Rattle.row_book.specs.Sets.{In};
 ghost use Rattle.kernel_text.specs.KernelLines.{AgainstLine, ClassLine, EndLine, HeadLine, HeldLine, MemberLine, NeedsLine};
-ghost use Rattle.kernel_text.specs.Reader.{Adds, EndIsTold, Holds, may_add_clause, may_add_conflict, may_add_held, may_add_member, may_begin, member_key, Takes};
+ghost use Rattle.kernel_text.specs.Reader.{Adds, EndIsTold, Holds, may_add_clause, may_add_conflict, may_add_held, may_add_member, may_begin, Takes};
 ghost use Rattle.kernel_text.specs.Reading.{empty_reading, IsFormat, IsNamed, number_limit, Reading};
 ghost use Rattle.kernel_text.specs.Words.{IsWellFormed, line_of_content};
 
 use crate::clause_shape::{holds, is_ascending, is_before};
 use crate::content::LineContent;
 use crate::member::Member;
-use crate::member_keys::MemberKeys;
+use crate::member_table::MemberTable;
 use crate::read_line::read_line;
 use clause_pool::NumList;
 use deb_version::{Bytes, Version};
@@ -38,8 +38,7 @@ pub(crate) struct Clause {
 }
 
 /// What the lines so far say: the last of them, with its clause where it is one, the format, how many classes have begun,
-/// the members with their classes under their names and versions, the held classes, the clauses and the pairs of conflicting
-/// classes.
+/// the members with their classes and a table of them, the held classes, the clauses and the pairs of conflicting classes.
 #[derive(Drop)]
 pub(crate) struct Reader {
     pub(crate) last: LastLine,
@@ -47,7 +46,7 @@ pub(crate) struct Reader {
     pub(crate) format: u32,
     pub(crate) classes: u32,
     pub(crate) members: Listed<Member>,
-    pub(crate) keys: MemberKeys,
+    pub(crate) table: MemberTable,
     pub(crate) held: NumList,
     pub(crate) clauses: Listed<Clause>,
     pub(crate) conflicts: Listed<Pair>,
@@ -64,7 +63,7 @@ impl Reader {
             format: 0,
             classes: 0,
             members: Listed::new(alloc),
-            keys: MemberKeys::new(alloc),
+            table: MemberTable::new(alloc),
             held: NumList::new(alloc),
             clauses: Listed::new(alloc),
             conflicts: Listed::new(alloc),
@@ -73,6 +72,7 @@ impl Reader {
 
     /// Takes a line where it is allowed behind those before it.
     pub(crate) fn add(&mut self, alloc: Global, line: &[u8]) -> Result<bool, AllocError>
+        requires { (t : Reading) × Holds self.old t }
         ensures { (t : Reading) → Holds self.old t → IfOk result (Adds t line.now self.new) }
     {
         match read_line(alloc, line)? {
@@ -83,7 +83,8 @@ impl Reader {
 
     // Takes a line by what it says.
     fn take(&mut self, alloc: Global, content: LineContent) -> Result<bool, AllocError>
-        requires { IsWellFormed (line_of_content content) }
+        requires well_formed { IsWellFormed (line_of_content content) }
+        requires holds { (t : Reading) × Holds self.old t }
         ensures { (t : Reading) → Holds self.old t → IfOk result (Takes t (line_of_content content) self.new) }
     {
         match content {
@@ -135,7 +136,8 @@ impl Reader {
         name: Bytes,
         version: Version,
     ) -> Result<bool, AllocError>
-        requires { IsNamed name version }
+        requires named { IsNamed name version }
+        requires holds { (t : Reading) × Holds self.old t }
         ensures { (t : Reading) → Holds self.old t → IfOk result (Takes t (MemberLine name version) self.new) }
     {
         if !may_add_member(self.last) {
@@ -147,8 +149,7 @@ impl Reader {
             name,
             version,
         };
-        let key = key_of(alloc, &member)?;
-        let is_new = self.keys.insert(key)?;
+        let is_new = self.table.enter(alloc, self.members.as_slice(), &member)?;
         if !is_new {
             return Ok(false);
         }
@@ -247,22 +248,6 @@ impl Reader {
             _ => false,
         }
     }
-}
-
-// The key of a member, which those with its name and an equal version share.
-fn key_of(alloc: Global, member: &Member) -> Result<Vec<u8>, AllocError>
-    ensures { IfOk result (λ key. key.items ≡ member_key member.now) }
-{
-    let name = member.name.as_slice();
-    let room = name
-        .len()
-        .saturating_add(member.version.text().len())
-        .saturating_add(3);
-    let mut key = Vec::with_capacity(alloc, room)?;
-    key.extend_from_slice(name)?;
-    key.push(b' ')?;
-    member.version.push_key(&mut key)?;
-    Ok(key)
 }
 
 // Whether the clause may stand next, where the previous one is given.

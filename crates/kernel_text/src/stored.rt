@@ -1,8 +1,9 @@
 //! Stored kernels.
 ghost use Rattle.std.specs.Prelude.{◌≡◌, ◌≤◌, ◌<◌, IfOk, IfErr, length};
 ghost use Rattle.clause_pool.specs.Interned.{Kept};
-ghost use Rattle.row_book.specs.Book.{repository_of, Sound};
+ghost use Rattle.row_book.specs.Book.{repository_of, AddsOnly, Sound};
 ghost use Rattle.row_book.specs.Sets.{In};
+ghost use Rattle.kernel_text.specs.declared.fault.KernelFault.TheVariants.{Memory};
 ghost use Rattle.kernel_text.specs.declared.member.Member.{Member};
 ghost use Rattle.kernel_text.specs.KernelFaults.{IsFault};
 ghost use Rattle.kernel_text.specs.KernelReads.{KernelReads};
@@ -35,8 +36,10 @@ pub struct StoredKernel {
 }
 
 /// Reads the text of a kernel: its format, its classes, over the pool, their packages and the held ones, or the first fault
-/// of the text. What the pool had stays, after a refusal too. A text has at most 1,073,741,824 bytes, the limit that the
-/// program keeps for files. Time is linear in the text; equal packages are found by a hash of the name and the version's key.
+/// of the text. The pool gains the rows of the classes and their clauses alone, and by a fault of the text nothing; what it had
+/// stays, also where no memory is found. A text has at most 1,073,741,824 bytes, the limit that the program keeps for files. Time
+/// is linear in the text; equal packages are found by a hash of the name, and where several members share it by the name and the
+/// version's key.
 pub fn read_kernel(
     alloc: Global,
     bytes: &[u8],
@@ -45,8 +48,10 @@ pub fn read_kernel(
     requires { length bytes.now ≤ 1073741824 }
     ensures read { IfOk result (λ stored. KernelReads bytes.now stored.format (repository_of pool.new stored.book) stored.members stored.held) }
     ensures sound { IfOk result (λ stored. Sound pool.new stored.book) }
+    ensures only { IfOk result (λ stored. AddsOnly pool.old pool.new stored.book.rows) }
     ensures refused { IfErr result (IsFault bytes.now) }
     ensures kept { Kept pool.old pool.new }
+    ensures unchanged { IfErr result (λ fault. (fault ≡ Memory → ⊥) → pool.new ≡ pool.old) }
 {
     let reader = read_text(alloc, bytes)?;
     let book = book_of(alloc, pool, &reader)?;

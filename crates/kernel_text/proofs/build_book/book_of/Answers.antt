@@ -1,12 +1,13 @@
 use Rattle.std.proofs.Common.{◌≡◌, ◌<◌, length, map, ap, sym, subst, ◌∙◌, arith}
-use Rattle.clause_pool.specs.Interned.{OfPool, clauses_at}
-use Rattle.row_book.specs.Book.{PairsFit, RowsFit}
-use Rattle.row_book.specs.Clauses.{Ascending}
+use Rattle.clause_pool.specs.Interned.{clauses_at}
+use Rattle.row_book.specs.Book.{AddsOnly, PairsFit, RowsFit}
 use Rattle.row_book.specs.Sets.{In}
 use Rattle.row_book.proofs.Lists.{In_map}
-use Rattle.kernel_text.specs.Booking.{AreRows, HasIdsByClass}
+use Rattle.kernel_text.specs.Booking.{AreRows, GainsRows, HasIdsByClass}
 use Rattle.kernel_text.specs.Reader.{entry_of}
-use Rattle.kernel_text.specs.Reading.{ClassClause, number_limit}
+use Rattle.kernel_text.specs.Reading.{number_limit}
+use Rattle.std.proofs.lemmas.Result.{IfOk-weaker}
+use Rattle.kernel_text.proofs.Gained.{rows_alone}
 use Rattle.kernel_text.proofs.IdTables.{book_is, rows_count, rows_fit, table_in_order, table_of_pool}
 use Rattle.kernel_text.proofs.build_book.book_of.Goals as goal
 
@@ -80,3 +81,15 @@ returns-clause-repository c =
     book_is pool c.requires.0 entries table (ap (map entry_of) c.as_slice.ensures ∙ h.clauses) (subst (λ n. HasIdsByClass pool entries n table) h.classes c.in_ok-ids.ensures.ids) c.requires.2
     c.intern_rows.new.pool rows (subst (λ xs. AreRows c.intern_rows.new.pool (map (clauses_at pool) xs) rows) c.as_slice-2.ensures.value c.in_ok-rows.ensures.rows)
     c.args.reader.now h c.as_slice-3.result.now (c.as_slice-3.ensures ∙ h.conflicts) c.deref.result.now c.deref.ensures.value c.build.result c.build.ensures.rows c.build.ensures.conflicts
+
+-- the clauses that were gained are those of the rows
+pub returns-clause-only : goal.returns-clause-only
+returns-clause-only c =
+    let pool = c.args.pool.now in
+    let new = c.intern_rows.new.pool in
+    let rows = c.in_ok-rows.rows.items in
+    let gained : AddsOnly pool new rows =
+    rows_alone pool c.intern_clauses.new.pool new c.in_ok-ids.ids.items rows c.in_ok-ids.ensures.gains
+    (subst (λ table. GainsRows c.intern_clauses.new.pool new table rows) c.as_slice-2.ensures.value c.in_ok-rows.ensures.gains) in
+    IfOk-weaker c.build.result (λ book. book.rows ≡ c.deref.result.now) (λ book. AddsOnly pool new book.rows)
+    (λ book e. subst (AddsOnly pool new) (sym (e ∙ c.deref.ensures.value)) gained) c.build.ensures.rows

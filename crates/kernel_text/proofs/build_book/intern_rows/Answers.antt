@@ -1,8 +1,9 @@
-use Rattle.std.proofs.Common.{◌≡◌, ◌<◌, [], length, get_or, ap, sym, subst, ◌∙◌, arith}
-use Rattle.clause_pool.specs.Interned.{IsIdOf, OfPool, clauses_at}
+use Rattle.std.proofs.Common.{ap, sym, subst, ◌∙◌, arith}
+use Rattle.clause_pool.specs.Interned.{Gains, IsIdOf, OfPool, clauses_at}
 use Rattle.row_book.specs.Clauses.{InOrder}
 use Rattle.row_book.proofs.Lists.{item_in}
 use Rattle.repo_model.proofs.Interning.{clauses_kept, kept_on}
+use Rattle.kernel_text.proofs.Gained.{row_gained}
 use Rattle.kernel_text.proofs.IdTables.{list_at, of_kept, row_more}
 use Rattle.kernel_text.proofs.build_book.intern_rows.Goals as goal
 
@@ -31,4 +32,8 @@ loop-ids-preserved c =
           (list_at c.args.table.now c.loop-ids.ids-index ids (omega arith) c.ids-item.is) c.loop-ids.invariant.rows c.loop-ids.invariant.kept c.intern_row.ensures.kept
           (subst (λ xs. IsIdOf c.intern_row.new.self.rows xs c.in_ok-row.row) c.as_slice.ensures c.in_ok-row.ensures.ok) (c.requires.of_pool ids inside) c.in_ok-push.ensures.items;
       kept = kept_on c.args.pool.now c.loop-ids.pool c.intern_row.new.self c.loop-ids.invariant.kept c.intern_row.ensures.kept;
+      gains = row_gained c.args.pool.now c.loop-ids.pool c.intern_row.new.self c.args.table.now c.loop-ids.ids-index ids c.loop-ids.rows.items c.push.new.self.items c.in_ok-row.row (omega arith)
+          (list_at c.args.table.now c.loop-ids.ids-index ids (omega arith) c.ids-item.is) c.loop-ids.invariant.gains c.loop-ids.invariant.rows.within c.intern_row.ensures.kept
+          (subst (λ xs. Gains c.loop-ids.pool.rows xs c.intern_row.new.self.rows) c.as_slice.ensures c.in_ok-row.ensures.gains) c.intern_row.ensures.clauses
+          (subst (λ xs. IsIdOf c.intern_row.new.self.rows xs c.in_ok-row.row) c.as_slice.ensures c.in_ok-row.ensures.ok) c.in_ok-push.ensures.items;
     }

@@ -1,4 +1,4 @@
-use Rattle.std.proofs.Common.{Some, None, subst}
+use Rattle.std.proofs.Common.{subst}
 use Rattle.kernel_text.specs.Words.{LineIsRead}
 use Rattle.kernel_text.proofs.StrayLines.{no_line_strays, stray_told}
 use Rattle.kernel_text.proofs.find_stray.is_stray.Goals as goal

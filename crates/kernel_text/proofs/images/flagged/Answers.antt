@@ -1,4 +1,4 @@
-use Rattle.std.proofs.Common.{◌∙◌, [], ap, sym}
+use Rattle.std.proofs.Common.{◌∙◌, [], ap}
 use Rattle.row_book.specs.Flags.{flag}
 use Rattle.kernel_text.proofs.GoalImages.{class_left, class_put, no_classes}
 use Rattle.kernel_text.proofs.images.flagged.Goals as goal

@@ -3,6 +3,9 @@ use Rattle.kernel_text.specs.Reader.{Adds}
 use Rattle.kernel_text.proofs.Steps.{line_taken, line_refused, all_taken}
 use Rattle.kernel_text.proofs.read.read_lines.Goals as goal
 
+pub add-requires : goal.add-requires
+add-requires c = (c.loop-place.invariant.reading, c.loop-place.invariant.holds)
+
 pub loop-place-preserved : goal.loop-place-preserved
 loop-place-preserved c =
     let e = c.line_end-end.ensures in

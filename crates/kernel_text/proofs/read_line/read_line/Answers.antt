@@ -11,8 +11,8 @@ pub returns : goal.returns
 returns c =
     let line = c.args.line.now in
     let body = c.in-Some.body.now in
-    let word = c.cut_at_space.result.0.now in
-    let rest = option_copied c.cut_at_space.result.1 in
+    let word = c.cut_line.result.0.now in
+    let rest = option_copied c.cut_line.result.1 in
     IfOk-weaker c.read_words.result (WordsAreRead word rest) (LineIsRead line)
-    (λ read w. read_words_are_line line body word rest read (feed_found line body c.in-Some.ensures.cases.0 c.in-Some.ensures.cases.1) c.cut_at_space.ensures w)
+    (λ read w. read_words_are_line line body word rest read (feed_found line body c.in-Some.ensures.cases.0 c.in-Some.ensures.cases.1) c.cut_line.ensures w)
     c.read_words.ensures

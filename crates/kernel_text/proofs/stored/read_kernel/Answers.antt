@@ -1,4 +1,4 @@
-use Rattle.std.proofs.Common.{◌≡◌, ◌<◌, length, sym, subst, ◌∙◌}
+use Rattle.std.proofs.Common.{◌<◌, sym, subst, ◌∙◌}
 use Rattle.row_book.specs.Sets.{In}
 use Rattle.kernel_text.proofs.Bookable.{bookable, orderly}
 use Rattle.kernel_text.proofs.stored.read_kernel.Goals as goal

@@ -1,4 +1,4 @@
-use Rattle.std.proofs.Common.{◌≡◌, List, ℕ, length, subst}
+use Rattle.std.proofs.Common.{◌≡◌, length, subst}
 use Rattle.std.specs.Prelude.{IfOk}
 use Rattle.row_book.specs.Book.{repository_of}
 use Rattle.kernel_text.specs.KernelText.{kernel_text}

@@ -1,7 +1,5 @@
-use Rattle.std.proofs.Common.{◌≡◌, ◌∙◌, ap, map, sym, subst, take}
+use Rattle.std.proofs.Common.{◌∙◌, ap, map, take}
 use Rattle.std.proofs.lemmas.List.{take_all}
-use Rattle.deb_version.specs.Grammar.{is_version}
-use Rattle.deb_version.specs.Names.{is_name}
 use Rattle.repo_model.proofs.Elements.{at_place}
 use Rattle.repo_model.proofs.Numbers.{same_stanza}
 use Rattle.repo_model.specs.Stanzas.{stanza_at}

@@ -1,4 +1,4 @@
-use Rattle.std.proofs.Common.{◌≡◌, ◌∙◌, ap, map, sym, subst, take}
+use Rattle.std.proofs.Common.{◌∙◌, ap, map, sym, subst, take}
 use Rattle.std.proofs.lemmas.List.{take_all}
 use Rattle.clause_pool.specs.Interned.{clauses_at}
 use Rattle.row_book.specs.Sets.{In}

@@ -47,7 +47,7 @@ returns c t h =
         of_format = h.of_format;
         classes = h.classes;
         members = h.members;
-        keyed = h.keyed;
+        known = h.known;
         held = h.held;
         clauses = ap (map entry_of) c.in_ok-push.ensures.ok ∙ map-append entry_of c.args.self.now.clauses (record { class = c.this_class-class.result; numbers = clause } ∷ [])
             ∙ ap₂ (λ xs k. xs ++ entry k ∷ []) h.clauses class;

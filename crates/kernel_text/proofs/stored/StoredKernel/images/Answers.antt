@@ -1,4 +1,4 @@
-use Rattle.std.proofs.Common.{◌≡◌, ◌<◌, ◌+◌, ◌∙◌, [], ℕ, List, Some, length, ap, sym, subst, arith}
+use Rattle.std.proofs.Common.{◌≡◌, ◌<◌, ◌+◌, ◌∙◌, [], List, Some, length, sym, subst, arith}
 use Rattle.row_book.specs.Clauses.{Ascending}
 use Rattle.row_book.specs.Sets.{In}
 use Rattle.kernel_text.specs.declared.member.Member.{Member}

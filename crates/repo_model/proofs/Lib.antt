@@ -26,3 +26,4 @@ pub mod Places
 pub mod Naming
 pub mod NameSteps
 pub mod SoundSuite
+pub mod LineCounts

@@ -2,10 +2,10 @@
 ghost use Rattle.std.specs.Prelude.{◌≤◌, length};
 ghost use Rattle.repo_model.specs.Building.{IsIndexOf, IsIndexOf-prop};
 
-use crate::blank::{closed_length, count_feeds};
+use crate::blank::closed_length;
 use crate::building::Building;
 use crate::fault::IndexFault;
-use crate::reading::read_behind;
+use crate::reading::{ReadPart, read_behind};
 use crate::suite::Suite;
 use std::alloc::Global;
 
@@ -84,8 +84,8 @@ impl Progress {
             pending,
         } = self;
         let (part, rest) = pending.split_at(closed);
-        let building = read_behind(alloc, building, part, line)?;
-        let line = line + count_feeds(part);
+        let read = read_behind(alloc, building, part, line)?;
+        let ReadPart { building, line } = read;
         let pending = Vec::from_slice(alloc, rest)?;
         Ok(Progress {
             building,
@@ -106,7 +106,7 @@ impl Progress {
             pending,
         } = self;
         let read = read_behind(alloc, building, &pending, line)?;
-        let Building { packages, home, .. } = read;
+        let Building { packages, home, .. } = read.building;
         Ok(Suite { packages, home })
     }
 }

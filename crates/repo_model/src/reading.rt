@@ -1,6 +1,7 @@
 //! Stanzas that are read one after the other.
-ghost use Rattle.std.specs.Prelude.{◌≡◌, ◌≤◌, ◌++◌, List, ℕ, length, nat_le, IfOk, IfErr};
+ghost use Rattle.std.specs.Prelude.{◌≡◌, ◌≤◌, ◌+◌, ◌++◌, List, ℕ, length, drop, count_by, nat_le, IfOk, IfErr};
 ghost use Rattle.std.specs.Option.{option_and_then};
+ghost use Rattle.stanza_reader.specs.Lines.{is_line_feed};
 ghost use Rattle.stanza_reader.specs.Places.{IsPlace};
 ghost use Rattle.stanza_reader.specs.Reading.{first_reading, readings_at};
 ghost use Rattle.repo_model.specs.Building.{IsIndexOf};
@@ -10,10 +11,18 @@ ghost use Rattle.repo_model.specs.Refusals.{Refuses};
 ghost use Rattle.repo_model.specs.Reading.{shape_fault, Goes};
 ghost use Rattle.stanza_reader.specs.declared.place.Place.{Place};
 
+use crate::blank::count_feeds;
 use crate::building::Building;
 use crate::fault::IndexFault;
 use stanza_reader::{Next, Place, StanzaFault, next_stanza};
 use std::alloc::Global;
+
+/// What was read with a part of an index, and the number of the line behind this part.
+#[derive(Drop)]
+pub(crate) struct ReadPart {
+    pub(crate) building: Building,
+    pub(crate) line: u64,
+}
 
 /// Reads the stanzas of a part of an index, whose first line has the number, behind the front that was read.
 pub(crate) fn read_behind(
@@ -21,28 +30,40 @@ pub(crate) fn read_behind(
     front: Building,
     part: &[u8],
     line: u64,
-) -> Result<Building, IndexFault>
+) -> Result<ReadPart, IndexFault>
     requires short { length part.now ≤ 1073741824 }
     requires place { IsPlace part.now (record { offset = 0; line = line }) }
     requires few { length front.packages ≤ 200000 }
     requires indexed { IsIndexOf front.packages front.keys }
     ensures refused { IfErr result (λ fault. (text : List ℕ) → IsFront front line text → Refuses fault (first_fault (text ++ part.now))) }
-    ensures suite { IfOk result (λ read. (text : List ℕ) → IsFront front line text → IsSuiteOf (text ++ part.now) read.packages read.home.name) }
-    ensures few { IfOk result (λ read. length read.packages ≤ 200000) }
-    ensures indexed { IfOk result (λ read. IsIndexOf read.packages read.keys) }
+    ensures suite { IfOk result (λ read. (text : List ℕ) → IsFront front line text → IsSuiteOf (text ++ part.now) read.building.packages read.building.home.name) }
+    ensures few { IfOk result (λ read. length read.building.packages ≤ 200000) }
+    ensures indexed { IfOk result (λ read. IsIndexOf read.building.packages read.building.keys) }
+    ensures counted { IfOk result (λ read. read.line ≡ line + count_by is_line_feed part.now) }
 {
     let mut building = front;
     let mut at = Place { offset: 0, line };
     loop {
         let before = building.packages.as_slice().len();
         match read_next(alloc, part, at, before)? {
-            Next::End => return Ok(building),
+            Next::End => {
+                let line = line_behind(part, at);
+                return Ok(ReadPart { building, line });
+            }
             Next::Stanza { stanza, after } => {
                 building.add(alloc, &stanza)?;
                 at = after;
             }
         }
     }
+}
+
+// The number of the line behind a text, by a place in it; only what stands behind the place is looked at.
+fn line_behind(bytes: &[u8], at: Place) -> u64
+    requires { IsPlace bytes.now at }
+    ensures { result ≡ at.line + count_by is_line_feed (drop at.offset bytes.now) }
+{
+    at.line + count_feeds(&bytes[at.offset as usize..])
 }
 
 // The stanza at a place behind so many others, or its fault in checks 1 to 3.

@@ -61,6 +61,6 @@ pub fn read_suite(alloc: Global, bytes: &[u8]) -> Result<Suite, IndexFault>
     ensures home { IfOk result (λ suite. suite.home.name ≡ home_of (stanzas_of bytes.now)) }
 {
     let read = read_behind(alloc, Building::new(alloc), bytes, 1)?;
-    let Building { packages, home, .. } = read;
+    let Building { packages, home, .. } = read.building;
     Ok(Suite { packages, home })
 }

@@ -1,5 +1,6 @@
-use Rattle.std.proofs.Common.{length, ap}
+use Rattle.std.proofs.Common.{length, ap, arith}
 use Rattle.std.proofs.lemmas.Result.{err_from_is_err_and}
+use Rattle.repo_model.proofs.LineCounts.{line_onward}
 use Rattle.repo_model.proofs.Short.{values_short}
 use Rattle.repo_model.proofs.Steps.{few_more, read_first, shape_refused, stanza_refused, read_more, read_all}
 use Rattle.repo_model.proofs.reading.read_behind.Goals as goal
@@ -7,6 +8,7 @@ use Rattle.repo_model.proofs.reading.read_behind.Goals as goal
 pub loop-building-init : goal.loop-building-init
 loop-building-init c = record {
   place = c.requires.place;
+  counted = omega arith;
   few = c.requires.few;
   indexed = c.requires.indexed;
   read = λ text front. read_first text c.args.part.now _ _ _ front.closed front.suite front.counted;
@@ -38,6 +40,7 @@ loop-building-preserved c =
     let counted = ap length c.as_slice-before.ensures in
     record {
       place = on.behind.place;
+      counted = omega (arith, c.loop-building.invariant.counted, on.behind.counted);
       few = few_more _ _ _ (length c.as_slice-before.result.now) counted on.room added.packages;
       indexed = added.indexed;
       read = λ text front. read_more _ _ (length c.as_slice-before.result.now) c.in-Stanza.stanza c.in-Stanza.after _ _ (c.loop-building.invariant.read text front) counted on
@@ -47,3 +50,6 @@ loop-building-preserved c =
 pub returns-in-End-clause-suite : goal.returns-in-End-clause-suite
 returns-in-End-clause-suite c =
     let none = rw c.in-End.is at c.in_ok-read_next.ensures.next in λ text front. read_all _ _ _ (c.loop-building.invariant.read text front) none
+
+pub returns-in-End-clause-counted : goal.returns-in-End-clause-counted
+returns-in-End-clause-counted c = line_onward c.args.part.now c.loop-building.at.offset c.args.line _ _ c.loop-building.invariant.counted c.line_behind-line.ensures

@@ -1,4 +1,6 @@
-use Rattle.std.proofs.Common.{ℕ, ◌≤◌, ◌-◌, List, ◌++◌, length}
+use Rattle.std.proofs.Common.{◌≡◌, ℕ, ◌+◌, ◌≤◌, ◌-◌, List, ◌++◌, length, take}
+use Rattle.std.specs.Prelude.{count_by}
+use Rattle.stanza_reader.specs.Lines.{is_line_feed}
 use Rattle.stanza_reader.specs.Places.{IsPlace}
 use Rattle.stanza_reader.specs.Reading.{readings_at}
 use Rattle.stanza_reader.specs.Stanzas.{readings}
@@ -10,6 +12,7 @@ use Rattle.repo_model.proofs.reading.read_behind.Given as goal
 abbrev pub invariant-loop-building : goal.invariant-loop-building
 invariant-loop-building l = record {
   place : IsPlace l.part l.at;
+  counted : l.at.line ≡ l.fn.line + count_by is_line_feed (take l.at.offset l.part);
   few : length l.building.packages ≤ 200000;
   indexed : IsIndexOf l.building.packages l.building.keys;
   read : (text : List ℕ) → IsFront l.fn.front l.fn.line text → IsRead (readings (text ++ l.part)) (readings_at l.part l.at) l.building.packages l.building.home.name;

@@ -10,14 +10,25 @@ use Rattle.row_book.specs.declared.book.Book.{Book}
 use Rattle.row_book.specs.declared.trail.Step.{Step}
 use Rattle.row_book.specs.declared.trail.Step.TheVariants.{Flat, Idle, Merge}
 use Rattle.row_book.specs.Sets.{In, here, there}
-use Rattle.row_book.specs.Book.{repository_of, AddsOnly, IsSameBook, Sound}
+use Rattle.row_book.specs.Book.{repository_of, AddsOnly, AreConflicts, IsSameBook, RowsFit, Sound}
 use Rattle.row_book.specs.Repository.{Repository}
 use Rattle.row_book.specs.Rounds.{RoundStep, FlatStep, IdleStep, MergeStep}
 use Rattle.row_book.specs.Trail.{SoundStep, SoundSteps, step_meaning, trail_meaning}
+use Rattle.row_book.proofs.Repositories.{repository_same}
 use Rattle.row_book.proofs.Lists.{In_append_cases, In_append_left, In_append_right, In_at, In_cases, In_map, In_map_cases, In_none}
 use Rattle.kernel_rounds.specs.Extracting.{IsExtracted, IsReached}
 use Rattle.kernel_rounds.specs.Moving.{live_rows, step_rows, trail_rows, AreSameSteps, HasOnly, HasSteps, IsSameStep}
 use Rattle.kernel_rounds.proofs.Midways.{sound_step, told_kept}
+
+-- a copy of a book is the same book in a copy of its pool
+pub same_copy : (pool own : Interned) (book copied : Book) → own ≡ pool → copied.rows ≡ book.rows → copied.conflicts ≡ book.conflicts → IsSameBook pool book own copied
+same_copy pool own book copied e r k = record {
+  repository = repository_same (repository_of own copied) (repository_of pool book) (ap₂ (λ p rows. map (row_at p) rows) e r) k;
+  sound = λ s. record {
+    rows = subst (λ p. RowsFit p copied.rows) (sym e) (subst (RowsFit pool) (sym r) s.rows);
+    conflicts = subst AreConflicts (sym k) s.conflicts;
+  };
+}
 
 -- the rows of sound books are of the pool
 step_within : (pool : Interned) (step : Step) → SoundStep pool step → (id : ℕ) → In id (step_rows step) → id < length pool.rows

@@ -290,9 +290,9 @@ pub fn extract(
 {
     // What holds of every pool is told by this call alone.
     pool.clause_count();
-    let mut own = Pool::new(alloc)?;
-    let carried = book.carry(alloc, pool, &mut own)?;
-    let last = all_rounds(alloc, &mut own, carried, limit, hold, pool)?;
+    let mut own = pool.copy(alloc)?;
+    let copied = book.copy(alloc)?;
+    let last = all_rounds(alloc, &mut own, copied, limit, hold, pool)?;
     let made = carry_kernel(alloc, last, hold, &own, pool)?;
     Ok(made)
 }

@@ -4,6 +4,7 @@ use Rattle.row_book.specs.Book.{repository_of}
 use Rattle.row_book.specs.Rounds.{kernel, kernel_steps, limit_at}
 use Rattle.row_book.proofs.BookRepositories.{sound_repository}
 use Rattle.kernel_rounds.specs.Extracting.{IsExtracted}
+use Rattle.kernel_rounds.proofs.MovedSteps.{same_copy}
 use Rattle.kernel_rounds.proofs.Again.{extracted_keeps, extracted_own, extracted_settled}
 use Rattle.kernel_rounds.proofs.extraction.extract.Goals as goal
 
@@ -12,31 +13,35 @@ returns-in_err-made-clause-kept c = kept_kept c.args.pool.now c.all_rounds.new.i
 
 pub returns-clause-kernel : goal.returns-clause-kernel
 returns-clause-kernel c =
+    let same = same_copy c.args.pool.now c.in_ok-own.own c.args.book.now c.in_ok-copied.copied c.in_ok-own.ensures c.in_ok-copied.ensures.rows c.in_ok-copied.ensures.conflicts in
     subst (λ R. IsExtracted R c.args.limit c.args.hold c.args.pool.now c.carry_kernel.new.into c.in_ok-made.made.book c.in_ok-made.made.class_of c.in_ok-made.made.held c.in_ok-made.made.trail.steps)
-    c.in_ok-carried.ensures.same.repository
-    (c.in_ok-made.ensures.kernel (repository_of c.carry.new.into c.in_ok-carried.carried) c.args.limit c.args.pool.now c.in_ok-last.ensures.reached)
+    same.repository
+    (c.in_ok-made.ensures.kernel (repository_of c.in_ok-own.own c.in_ok-copied.copied) c.args.limit c.args.pool.now c.in_ok-last.ensures.reached)
 
 pub returns-clause-keeps : goal.returns-clause-keeps
 returns-clause-keeps c =
+    let same = same_copy c.args.pool.now c.in_ok-own.own c.args.book.now c.in_ok-copied.copied c.in_ok-own.ensures c.in_ok-copied.ensures.rows c.in_ok-copied.ensures.conflicts in
     extracted_keeps c.args.limit c.args.hold (repository_of c.args.pool.now c.args.book.now) _ (sound_repository c.args.pool.now c.args.book.now c.clause_count.ensures.sound c.requires.sound)
-    ((c.in_ok-made.ensures.kernel (repository_of c.carry.new.into c.in_ok-carried.carried) c.args.limit c.args.pool.now c.in_ok-last.ensures.reached).is
-    ∙ ap (kernel c.args.limit c.args.hold) c.in_ok-carried.ensures.same.repository)
+    ((c.in_ok-made.ensures.kernel (repository_of c.in_ok-own.own c.in_ok-copied.copied) c.args.limit c.args.pool.now c.in_ok-last.ensures.reached).is
+    ∙ ap (kernel c.args.limit c.args.hold) same.repository)
 
 pub returns-clause-settled : goal.returns-clause-settled
 returns-clause-settled c =
+    let same = same_copy c.args.pool.now c.in_ok-own.own c.args.book.now c.in_ok-copied.copied c.in_ok-own.ensures c.in_ok-copied.ensures.rows c.in_ok-copied.ensures.conflicts in
     extracted_settled c.args.limit c.args.hold (repository_of c.args.pool.now c.args.book.now) _ (sound_repository c.args.pool.now c.args.book.now c.clause_count.ensures.sound c.requires.sound)
-    ((c.in_ok-made.ensures.kernel (repository_of c.carry.new.into c.in_ok-carried.carried) c.args.limit c.args.pool.now c.in_ok-last.ensures.reached).is
-    ∙ ap (kernel c.args.limit c.args.hold) c.in_ok-carried.ensures.same.repository)
+    ((c.in_ok-made.ensures.kernel (repository_of c.in_ok-own.own c.in_ok-copied.copied) c.args.limit c.args.pool.now c.in_ok-last.ensures.reached).is
+    ∙ ap (kernel c.args.limit c.args.hold) same.repository)
 
 pub returns-clause-own : goal.returns-clause-own
 returns-clause-own c =
+    let same = same_copy c.args.pool.now c.in_ok-own.own c.args.book.now c.in_ok-copied.copied c.in_ok-own.ensures c.in_ok-copied.ensures.rows c.in_ok-copied.ensures.conflicts in
     extracted_own c.args.limit c.args.hold (repository_of c.args.pool.now c.args.book.now) _ (sound_repository c.args.pool.now c.args.book.now c.clause_count.ensures.sound c.requires.sound)
-    ((c.in_ok-made.ensures.kernel (repository_of c.carry.new.into c.in_ok-carried.carried) c.args.limit c.args.pool.now c.in_ok-last.ensures.reached).is
-    ∙ ap (kernel c.args.limit c.args.hold) c.in_ok-carried.ensures.same.repository)
-    (subst (λ R. limit_at c.args.limit c.args.hold R ≡ None) c.in_ok-carried.ensures.same.repository c.in_ok-last.ensures.reached.within)
+    ((c.in_ok-made.ensures.kernel (repository_of c.in_ok-own.own c.in_ok-copied.copied) c.args.limit c.args.pool.now c.in_ok-last.ensures.reached).is
+    ∙ ap (kernel c.args.limit c.args.hold) same.repository)
+    (subst (λ R. limit_at c.args.limit c.args.hold R ≡ None) same.repository c.in_ok-last.ensures.reached.within)
 
 pub returns-clause-only : goal.returns-clause-only
-returns-clause-only c = c.in_ok-made.ensures.only c.args.pool.now (kernel_steps c.args.limit c.args.hold (repository_of c.carry.new.into c.in_ok-carried.carried)) c.in_ok-last.ensures.reached.steps
+returns-clause-only c = c.in_ok-made.ensures.only c.args.pool.now (kernel_steps c.args.limit c.args.hold (repository_of c.in_ok-own.own c.in_ok-copied.copied)) c.in_ok-last.ensures.reached.steps
 
 pub returns-clause-kept : goal.returns-clause-kept
 returns-clause-kept c = kept_kept c.args.pool.now c.all_rounds.new.into c.carry_kernel.new.into c.all_rounds.ensures.kept c.carry_kernel.ensures.kept

@@ -1,10 +1,10 @@
 //! Books of small indexes: their faults, what they lend, and who names whom before and after a row is replaced.
-ghost use Rattle.std.specs.Prelude.{◌≡◌, ◌<◌, OnOk, length};
-ghost use Rattle.row_book.specs.Book.{Sound};
+ghost use Rattle.std.specs.Prelude.{◌≡◌, ◌<◌, IfOk, OnOk, length};
+ghost use Rattle.row_book.specs.Book.{RowsFit, Sound};
 ghost use Rattle.row_book.specs.Uses.{uses_of};
 
 use crate::samples::{book_of, row_of, suite_of};
-use clause_pool::Pool;
+use clause_pool::{Pool, RowId};
 use repo_model::plain_repository;
 use row_book::{Book, ClauseTable, Unhealthy, UseTable, is_coinst};
 use std::alloc::{AllocError, Global};
@@ -112,13 +112,33 @@ pub(crate) fn told_uses(
     Ok(users)
 }
 
-/// Who has a clause that holds each of the packages.
-fn told_users(alloc: Global, table: &ClauseTable, size: u32) -> Result<Vec<Vec<u32>>, AllocError> {
+/// Who has a clause that holds each of the packages, where they have these rows.
+fn told_users(
+    alloc: Global,
+    table: &ClauseTable,
+    pool: &Pool,
+    rows: &[RowId],
+    size: u32,
+) -> Result<Vec<Vec<u32>>, AllocError>
+    requires { RowsFit pool.now rows.now }
+{
     let mut users = Vec::new(alloc);
     for package in 0..size {
-        users.push(table.users(alloc, package)?)?;
+        users.push(table.users(alloc, pool, rows, package)?)?;
     }
     Ok(users)
+}
+
+/// The rows of the book, where package 0 has that of package 1.
+fn rows_after(alloc: Global, pool: &Pool, book: &Book) -> Result<Vec<RowId>, AllocError>
+    requires sound { Sound pool.now book.now }
+    requires two { 1 < length book.now.rows }
+    ensures { IfOk result (λ rows. RowsFit pool.now rows.items) }
+{
+    let new = row_of(pool, book, 1);
+    let mut rows = Vec::from_slice(alloc, book.rows.as_slice())?;
+    rows[0] = new;
+    Ok(rows)
 }
 
 /// Gives package 0 the row of package 1.
@@ -167,15 +187,18 @@ fn told_by_uses(alloc: Global, pool: &Pool, book: &Book) -> Result<String, Alloc
     format!(in alloc; "{before:?} then {after:?}")
 }
 
-/// The same by the clauses of rows.
+/// The same by the clauses of rows; nobody names package 1 any more when it is forgotten.
 fn told_by_table(alloc: Global, pool: &Pool, book: &Book) -> Result<String, AllocError>
     requires sound { Sound pool.now book.now }
     requires two { 1 < length book.now.rows }
 {
-    let mut table = ClauseTable::of(alloc, pool, book.rows.as_slice())?;
-    let before = told_users(alloc, &table, book.size())?;
+    let rows = book.rows.as_slice();
+    let mut table = ClauseTable::of(alloc, pool, rows)?;
+    let before = told_users(alloc, &table, pool, rows, book.size())?;
     replace_in_table(alloc, pool, book, &mut table)?;
-    let after = told_users(alloc, &table, book.size())?;
+    table.forget(1);
+    let changed = rows_after(alloc, pool, book)?;
+    let after = told_users(alloc, &table, pool, changed.as_slice(), book.size())?;
     format!(in alloc; "{before:?} then {after:?}")
 }
 

@@ -122,6 +122,18 @@ module _ (p q : ℕ) (A B : List (List ℕ)) where
       let c_in : In c (apart_from p (all_unions_for q A B)) = (minimal_of_parts (apart_from p (all_unions_for q A B)) c (ordered_parts (substituted p q A B) c i)).0 in
       ascending_same c d (new_up f g c i) (new_up f g d j) inside (w.1 c c_in inside)
 
+  -- nor does it hold the package that is taken out, where that one's own row does not
+  pub new_spent : ((c : List ℕ) → In c B → In q c → ⊥) → (c : List ℕ) → In c (in_row_order (substituted p q A B)) → In q c → ⊥
+  new_spent f c i j =
+      let from : (T : List ℕ) × In T A × Comes q B T c = replaced_cases q A B c (came c i).0 in
+      elim from.2.how [
+        | inl kept ↦ kept.0 (subst (λ z. In q z) kept.1 j)
+        | inr made ↦ elim (joined_cases (clause_without q from.0) made.0 q (subst (λ z. In q z) made.3 j)) [
+          | inl a ↦ (dropped_parts q from.0 q a).1 refl
+          | inr b ↦ f made.0 made.1 b
+        ]
+      ]
+
   -- a row whose clauses do not hold the package stays
   pub tidy_untouched : InOrder A → ((c : List ℕ) → In c A → In p c → ⊥) → ((c d : List ℕ) → In c A → In d A → Inside c d → c ≡ d) →
       ((c : List ℕ) → In c A → In q c → ⊥) → in_row_order (substituted p q A B) ≡ A
@@ -239,3 +251,22 @@ module _ (start : Interned) (first : List ℕ) (q : ℕ) (q_in : q < length firs
       let long : length (map (row_at pool) rows) ≡ length rows = length-map rows (row_at pool) in
       same_items (map (row_at pool) rows) (table_without q table) [] (long ∙ size ∙ sym (eliminated_length q table ∙ table_size))
       (λ p l. get_or-map (row_at pool) rows p 0 [] (subst (λ z. p < z) long l) ∙ f p (subst (λ z. p < z) (long ∙ size) l))
+
+  -- no row of it holds the package
+  pub none_left : RowsTidy start first → (pool : Interned) (rows : List ℕ) → map (row_at pool) rows ≡ table_without q (map (row_at start) first) → users_of pool rows q ≡ []
+  none_left tidy pool rows made = no_items (users_of pool rows q) (λ p i.
+      let k : p < length rows = user_in pool rows q p i in
+      let size : length rows ≡ length first = sym (length-map rows (row_at pool)) ∙ ap length made ∙ eliminated_length q table ∙ table_size in
+      let l : p < length first = subst (λ z. p < z) size k in
+      let reads : row_at pool (row_id rows p) ≡ table_row (table_without q (map (row_at start) first)) p = sym (get_or-map (row_at pool) rows p 0 [] k) ∙ ap (λ t. table_row t p) made in
+      let w : (c : List ℕ) × In c (row_at pool (row_id rows p)) × (has c q ≡ true) =
+      any_cases (λ d. has d q) (row_at pool (row_id rows p)) (filter_cases (λ m. row_holds pool (row_id rows m) q) (numbers (length rows) 0) p i).1 in
+      elim (cases_eq p q) [
+        | inl e ↦ tidy.apart q q_in w.0 (subst (λ z. In w.0 z) (reads ∙ ap (table_row (table_without q (map (row_at start) first))) e ∙ own_eliminated) w.1) (has_In w.0 q w.2)
+        | inr ne ↦
+            new_spent p q (row_at start (row_id first p)) (row_at start (row_id first q)) (tidy.apart q q_in) w.0 (subst (λ z. In w.0 z) (reads ∙ other_eliminated p l ne) w.1) (has_In w.0 q w.2)
+      ])
+    where
+      no_items : (xs : List ℕ) → ((x : ℕ) → In x xs → ⊥) → xs ≡ []
+      no_items [] f = refl
+      no_items (x ∷ xs) f = absurd (f x here)

@@ -37,7 +37,7 @@ pub(crate) fn change_rows(
 {
     // What holds of every pool is told by this call alone.
     pool.clause_count();
-    // The last user comes first: what each leaves in the table then stands at the ends of its lists.
+    // The last user comes first, as in `eliminate`, so that the rows in between are told in the same way.
     for place in (0..users.len()).rev() {
         change_row(alloc, pool, rows, uses, users[place], gone)?;
     }

@@ -35,7 +35,7 @@ pub(crate) fn would_pass(
     requires within { (p : ℕ) → p < length rows.now → length_in (map (row_at pool.now) rows.now) p ≤ limit }
     ensures { IfOk result (λ passes. passes ≡ table_passes limit (table_without gone (map (row_at pool.now) rows.now))) }
 {
-    let users = uses.users(alloc, gone)?;
+    let users = uses.users(alloc, pool, rows, gone)?;
     some_would_pass(alloc, pool, rows, users.as_slice(), gone, limit)
 }
 

@@ -210,7 +210,7 @@ pub(crate) fn take_out(
 {
     // What holds of every pool is told by this call alone.
     pool.clause_count();
-    let users = uses.users(alloc, step.package)?;
+    let users = uses.users(alloc, pool, rows, step.package)?;
     let counts = counts_of(alloc, pool, rows, users.as_slice())?;
     change_rows(alloc, pool, rows, uses, users.as_slice(), step.package)?;
     if let Some(over) = first_over(pool, rows, users.as_slice(), step.limit) {
@@ -221,5 +221,7 @@ pub(crate) fn take_out(
         });
     }
     file_users(pool, rows, users.as_slice(), counts.as_slice(), waiting)?;
+    // No row holds the package any more. Else each other member of its clauses would go through all their users again.
+    uses.forget(step.package);
     Ok(())
 }

@@ -14,12 +14,12 @@ use Rattle.row_book.specs.Uses.{IsListOf, lists_in, list_in, room_in}
 use Rattle.row_book.proofs.Lists.{In_at, In_has}
 use Rattle.row_book.proofs.Inserts.{listed_as}
 
-list_set_same : (table : List (Vec ℕ)) (i : ℕ) (v : Vec ℕ) → i < length table → list_in (slice_set table i v) i ≡ v.items
+pub list_set_same : (table : List (Vec ℕ)) (i : ℕ) (v : Vec ℕ) → i < length table → list_in (slice_set table i v) i ≡ v.items
 list_set_same table i v l =
     ap (λ xs. get_or xs i []) (map-set (λ u. u.items) table i v)
     ∙ get_or-set_same (lists_in table) i v.items [] (subst (λ n. i < n) (sym (length-map table (λ u. u.items))) l)
 
-list_set_other : (table : List (Vec ℕ)) (i : ℕ) (v : Vec ℕ) (n : ℕ) → n ≢ i → list_in (slice_set table i v) n ≡ list_in table n
+pub list_set_other : (table : List (Vec ℕ)) (i : ℕ) (v : Vec ℕ) (n : ℕ) → n ≢ i → list_in (slice_set table i v) n ≡ list_in table n
 list_set_other table i v n ne =
     ap (λ xs. get_or xs n []) (map-set (λ u. u.items) table i v)
     ∙ get_or-set_other (lists_in table) i n v.items [] ne
@@ -34,8 +34,8 @@ room_set_other table i v n ne =
     ap (λ xs. get_or xs n 0) (map-set (λ u. vec_capacity u - vec_len u) table i v)
     ∙ get_or-set_other (map (λ u. vec_capacity u - vec_len u) table) i n (vec_capacity v - vec_len v) 0 ne
 
-list_at : (table : List (Vec ℕ)) (i : ℕ) (v d : Vec ℕ) → i < length table → v ≡ get_or table i d → list_in table i ≡ v.items
-list_at table i v d l e = get_or-map (λ u. u.items) table i d [] l ∙ ap (λ u. u.items) (sym e)
+pub list_held : (table : List (Vec ℕ)) (i : ℕ) (v d : Vec ℕ) → i < length table → v ≡ get_or table i d → list_in table i ≡ v.items
+list_held table i v d l e = get_or-map (λ u. u.items) table i d [] l ∙ ap (λ u. u.items) (sym e)
 
 room_at : (table : List (Vec ℕ)) (i : ℕ) (v d : Vec ℕ) → i < length table → v ≡ get_or table i d → room_in table i ≡ vec_capacity v - vec_len v
 room_at table i v d l e = get_or-map (λ u. vec_capacity u - vec_len u) table i d 0 l ∙ ap (λ u. vec_capacity u - vec_len u) (sym e)
@@ -60,7 +60,7 @@ has_more_same numbers k x n l e f = has_more numbers k x n l e ∙ or_right (has
 pub place_within : {A : Type 0} (table : List A) (numbers : List ℕ) (k size : ℕ) → length table ≡ size → k < length numbers → ((n : ℕ) → has numbers n ≡ true → n < size) → get_or numbers k 0 < length table
 place_within table numbers k size e l f = let h : get_or numbers k 0 < size = f (get_or numbers k 0) (In_has (In_at numbers k 0 l)) in omega arith
 
-any_map : {A B : Type 0} (p : B → Bool) (f : A → B) (xs : List A) → list_any p (map f xs) ≡ list_any (λ x. p (f x)) xs
+pub any_map : {A B : Type 0} (p : B → Bool) (f : A → B) (xs : List A) → list_any p (map f xs) ≡ list_any (λ x. p (f x)) xs
 any_map p f [] = refl
 any_map p f (x ∷ xs) = ap (λ b. p (f x) || b) (any_map p f xs)
 
@@ -103,7 +103,7 @@ pub put_more : (before table : List (Vec ℕ)) (numbers : List ℕ) (k x p : ℕ
 put_more before table numbers k x p v w d l e u i r f so = record {
   listed = λ n a. elim (cases_eq n x) [
     | inl s ↦
-        let now : list_in table n ≡ v.items = ap (list_in table) s ∙ list_at table x v d u i in
+        let now : list_in table n ≡ v.items = ap (list_in table) s ∙ list_held table x v d u i in
         let old : IsListOf (λ m. has (list_in before n) m || (has (take k numbers) n && eqb m p)) v.items = subst (IsListOf (λ m. has (list_in before n) m || (has (take k numbers) n && eqb m p))) now (so.listed n a) in
         let ready : (has v.items p ≡ true) ⊎ (0 < vec_capacity v - vec_len v) = elim (so.room n) [
           | inl o ↦ inl (old.members p ∙ or_right (has (list_in before n) p) (has (take k numbers) n && eqb p p) (and_from (has (take k numbers) n) (eqb p p) o (eq-eqb p p refl)))
@@ -148,7 +148,7 @@ pub take_more_out : (before table : List (Vec ℕ)) (numbers kept : List ℕ) (k
 take_more_out before table numbers kept k x p v w d l e u i r f so = λ n a.
     elim (cases_eq n x) [
       | inl s ↦
-          let now : list_in table n ≡ v.items = ap (list_in table) s ∙ list_at table x v d u i in
+          let now : list_in table n ≡ v.items = ap (list_in table) s ∙ list_held table x v d u i in
           let old : IsListOf (λ m. has (list_in before n) m && not (has (take k numbers) n && not (has kept n) && eqb m p)) v.items = subst (IsListOf (λ m. has (list_in before n) m && not (has (take k numbers) n && not (has kept n) && eqb m p))) now (so n a) in
           subst (IsListOf (λ m. has (list_in before n) m && not (has (take (k + 1) numbers) n && not (has kept n) && eqb m p))) (sym (ap (list_in (slice_set table x w)) s ∙ list_set_same table x w u))
           (listed_as (without (has v.items) p) (λ m. has (list_in before n) m && not (has (take (k + 1) numbers) n && not (has kept n) && eqb m p)) w.items

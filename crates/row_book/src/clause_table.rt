@@ -1,22 +1,24 @@
 //! Which rows have which clauses, and which clauses hold which packages.
-ghost use Rattle.std.specs.Prelude.{◌≡◌, ◌∷◌, ◌<◌, ◌≤◌, ◌&&◌, ◌||◌, ℕ, List, [], IfOk, OnOk, OnErr, eqb, length, slice_set};
-ghost use Rattle.std.specs.List.{list_any};
-ghost use Rattle.std.specs.List.Sorted.{IsNonDecreasing};
+ghost use Rattle.std.specs.Prelude.{◌≡◌, ◌≢◌, ◌∷◌, ◌<◌, ◌≤◌, ◌&&◌, ℕ, List, [], IfOk, OnOk, OnErr, length, ltb, slice_set};
+ghost use Rattle.std.specs.List.{filter, list_any};
 ghost use Rattle.clause_pool.specs.Interned.{clause_at, row_at, Interned, OfPool};
 ghost use Rattle.row_book.specs.Sets.{In, has};
-ghost use Rattle.row_book.specs.Clauses.{Ascending};
 ghost use Rattle.row_book.specs.Book.{RowsFit};
-ghost use Rattle.row_book.specs.Uses.{row_id, users_of, lists_in, list_in, IsListOf};
-ghost use Rattle.row_book.specs.Holders.{Files, TellsRows};
+ghost use Rattle.row_book.specs.Uses.{row_holds, row_id, users_of, lists_in, list_in, IsListOf};
+ghost use Rattle.row_book.specs.Holders.{holders_in, GainsOnly, HasAll, ListsClauses, TellsRows};
 
 use crate::changes::changes_between;
-use crate::uses::{add_to_each, add_wanted, empty_lists, take_from_each};
+use crate::uses::empty_lists;
+use crate::within::holds_ascending;
 use clause_pool::{ClauseId, Pool, RowId};
 use std::alloc::{AllocError, Global};
 use std::marker::Model;
 
 /// For each clause of a pool the packages whose rows have it, and for each package the clauses that hold it. A clause that
-/// many rows share stands here once, so the table is no larger than what the rows and their clauses hold.
+/// many rows share stands here once, so the table is no larger than what the rows and their clauses hold, or held.
+///
+/// Nothing is searched in a list or moved up in it: a package is put behind the others, and stays there when its row loses
+/// the clause. Whether it still has it is looked up in its row, when users are asked for.
 #[derive(Drop)]
 pub struct ClauseTable {
     users: Vec<Vec<u32>>,
@@ -24,12 +26,11 @@ pub struct ClauseTable {
 }
 
 impl Model for ClauseTable {
-    ghost use Rattle.row_book.specs.Holders.{Holders};
-    ghost use Rattle.row_book.specs.Uses.{lists_in};
+    ghost use Rattle.row_book.specs.Holders.{Holders, holders_in};
 
     ghost Value = { Holders };
 
-    ghost view = { λ s. record { users = lists_in s.users.items; clauses = lists_in s.clauses.items } };
+    ghost view = { λ s. holders_in s.users.items s.clauses.items };
 }
 
 impl ClauseTable {
@@ -40,28 +41,27 @@ impl ClauseTable {
         ensures { IfOk result (TellsRows pool.now rows.now) }
     {
         let mut users = Vec::new(alloc);
+        make_lists(&mut users, pool.clause_count())?;
         let mut clauses = empty_lists(alloc, rows.len())?;
-        for (package, row) in rows.iter().enumerate() {
-            let filed = clauses.as_mut_slice();
-            enter(
-                alloc,
-                pool,
-                &mut users,
-                filed,
-                pool.row(*row),
-                package as u32,
-            )?;
-        }
+        enter_rows(pool, users.as_mut_slice(), clauses.as_mut_slice(), rows)?;
         Ok(ClauseTable { users, clauses })
     }
 
-    /// The packages whose row has a clause that holds the given one, ascending, in a table of rows; it fails only where no
-    /// memory is found.
-    pub fn users(&self, alloc: Global, package: u32) -> Result<Vec<u32>, AllocError>
-        ensures { IfOk result (λ found. (pool : Interned) (rows : List ℕ) → TellsRows pool rows self.now → found.items ≡ users_of pool rows «package») }
+    /// The packages whose row has a clause that holds the given one, ascending, in a table of the rows; it fails only where
+    /// no memory is found.
+    pub fn users(
+        &self,
+        alloc: Global,
+        pool: &Pool,
+        rows: &[RowId],
+        package: u32,
+    ) -> Result<Vec<u32>, AllocError>
+        requires { RowsFit pool.now rows.now }
+        ensures { IfOk result (λ found. TellsRows pool.now rows.now self.now → found.items ≡ users_of pool.now rows.now «package») }
     {
         let clauses = list_at(self.clauses.as_slice(), package);
-        users_among(alloc, self.users.as_slice(), clauses)
+        let had = users_among(alloc, self.users.as_slice(), clauses)?;
+        users_still(alloc, pool, rows, had.as_slice(), package)
     }
 
     /// Puts a new row in the place of the old one of a package: a table of rows in which the package has the old row is
@@ -82,15 +82,109 @@ impl ClauseTable {
         ensures err { OnErr result ((rows : List ℕ) → TellsRows pool.now rows self.old → TellsRows pool.now rows self.new) }
     {
         let changes = changes_between(alloc, pool, pool.row(old), pool.row(new))?;
-        let lost = sorted_places(alloc, changes.lost.as_slice())?;
-        let kept = kept_places(alloc, pool.row(new), lost.as_slice())?;
-        let clauses = self.clauses.as_mut_slice();
+        make_lists(&mut self.users, pool.clause_count())?;
         let gained = changes.gained.as_slice();
-        enter(alloc, pool, &mut self.users, clauses, gained, package)?;
         let users = self.users.as_mut_slice();
-        take_from_each(users, lost.as_slice(), kept.as_slice(), package);
+        let clauses = self.clauses.as_mut_slice();
+        enter_all(pool, users, clauses, gained, package)?;
         Ok(())
     }
+
+    /// Gives back the lists of a package and of the users of its clauses: a table of rows none of which has a clause that
+    /// holds it stays that of these rows.
+    pub fn forget(&mut self, package: u32)
+        ensures { (pool : Interned) (rows : List ℕ) → users_of pool rows «package» ≡ [] →
+            TellsRows pool rows self.old → TellsRows pool rows self.new }
+    {
+        let alloc = *self.users.allocator();
+        let clauses = list_at(self.clauses.as_slice(), package);
+        empty_each(alloc, self.users.as_mut_slice(), clauses);
+        empty_one(alloc, self.clauses.as_mut_slice(), package);
+    }
+}
+
+/// Enters the packages for the clauses of their rows.
+fn enter_rows(
+    pool: &Pool,
+    users: &mut [Vec<u32>],
+    clauses: &mut [Vec<u32>],
+    rows: &[RowId],
+) -> Result<(), AllocError>
+    requires few { length rows.now < 4294967295 }
+    requires fit { RowsFit pool.now rows.now }
+    requires there { length pool.now.clauses ≤ length users.old }
+    requires size { length clauses.old ≡ length rows.now }
+    requires none { (c : ℕ) → list_in users.old c ≡ [] }
+    requires empty { (n : ℕ) → list_in clauses.old n ≡ [] }
+    ensures { OnOk result (TellsRows pool.now rows.now (holders_in users.new clauses.new)) }
+{
+    for (package, row) in rows.iter().enumerate() {
+        enter_all(pool, users, clauses, pool.row(*row), package as u32)?;
+    }
+    Ok(())
+}
+
+/// Puts a package to the users of clauses, each of which is listed for its numbers where it had no user. Where no memory is
+/// found, it has been put to some of them.
+fn enter_all(
+    pool: &Pool,
+    users: &mut [Vec<u32>],
+    clauses: &mut [Vec<u32>],
+    ids: &[ClauseId],
+    package: u32,
+) -> Result<(), AllocError>
+    requires of_pool { OfPool pool.now ids.now }
+    requires there { length pool.now.clauses ≤ length users.old }
+    requires numbers { (c : ℕ) → In c ids.now → (n : ℕ) → In n (clause_at pool.now c) → n < length clauses.old }
+    ensures entered { OnOk result ((c : ℕ) → In c ids.now → In «package» (list_in users.new c)) }
+    ensures users { HasAll (lists_in users.old) (lists_in users.new) }
+    ensures lists { ListsClauses pool.now (holders_in users.old clauses.old) → ListsClauses pool.now (holders_in users.new clauses.new) }
+{
+    for id in ids {
+        enter(pool, users, clauses, *id, package)?;
+    }
+    Ok(())
+}
+
+/// Puts a package to the users of a clause, which is listed for its numbers where it had no user.
+fn enter(
+    pool: &Pool,
+    users: &mut [Vec<u32>],
+    clauses: &mut [Vec<u32>],
+    id: ClauseId,
+    package: u32,
+) -> Result<(), AllocError>
+    requires id { id < length pool.now.clauses }
+    requires there { length pool.now.clauses ≤ length users.old }
+    requires numbers { (n : ℕ) → In n (clause_at pool.now id) → n < length clauses.old }
+    ensures entered { OnOk result (In «package» (list_in users.new id)) }
+    ensures users { HasAll (lists_in users.old) (lists_in users.new) }
+    ensures lists { ListsClauses pool.now (holders_in users.old clauses.old) → ListsClauses pool.now (holders_in users.new clauses.new) }
+{
+    let place = small_place(id)?;
+    list_unused(pool, users, clauses, id, place)?;
+    push_to(users, place, package)
+}
+
+/// Lists a clause for each of its numbers, if it has no user; where no memory is found, for some of them.
+fn list_unused(
+    pool: &Pool,
+    users: &[Vec<u32>],
+    clauses: &mut [Vec<u32>],
+    id: ClauseId,
+    place: u32,
+) -> Result<(), AllocError>
+    requires id { id < length pool.now.clauses }
+    requires place { place ≡ id }
+    requires numbers { (n : ℕ) → In n (clause_at pool.now id) → n < length clauses.old }
+    ensures there { OnOk result (list_in users.now id ≡ [] → (n : ℕ) → In n (clause_at pool.now id) → In id (list_in clauses.new n)) }
+    ensures stays { HasAll (lists_in clauses.old) (lists_in clauses.new) }
+    ensures came { GainsOnly (clause_at pool.now id) id (lists_in clauses.old) (lists_in clauses.new) }
+{
+    if !list_at(users, place).is_empty() {
+        return Ok(());
+    }
+    push_to_each(clauses, pool.slice(id), place)
 }
 
 /// The place of a clause in its pool. One that a `u32` does not hold counts as want of memory.
@@ -104,66 +198,27 @@ fn small_place(id: ClauseId) -> Result<u32, AllocError>
     Ok(place as u32)
 }
 
-/// The places of clauses.
-fn places_of(alloc: Global, ids: &[ClauseId]) -> Result<Vec<u32>, AllocError>
-    ensures { IfOk result (λ places. places.items ≡ ids.now) }
+/// Puts an item behind the others in the list of each of the numbers; where no memory is found, it was put into some.
+fn push_to_each(lists: &mut [Vec<u32>], numbers: &[u32], item: u32) -> Result<(), AllocError>
+    requires { (n : ℕ) → In n numbers.now → n < length lists.old }
+    ensures there { OnOk result ((n : ℕ) → In n numbers.now → In item (list_in lists.new n)) }
+    ensures stays { HasAll (lists_in lists.old) (lists_in lists.new) }
+    ensures came { GainsOnly numbers.now item (lists_in lists.old) (lists_in lists.new) }
 {
-    let mut places = Vec::new(alloc);
-    for id in ids {
-        let place = small_place(*id)?;
-        places.push(place)?;
+    for number in numbers {
+        push_to(lists, *number, item)?;
     }
-    Ok(places)
+    Ok(())
 }
 
-/// The places of clauses, in their order.
-fn sorted_places(alloc: Global, ids: &[ClauseId]) -> Result<Vec<u32>, AllocError>
-    ensures members { IfOk result (λ places. (c : ℕ) → has places.items c ≡ has ids.now c) }
-    ensures sorted { IfOk result (λ places. IsNonDecreasing places.items) }
+/// Puts an item behind the others in the list of a number; where no memory is found, the list stays.
+fn push_to(lists: &mut [Vec<u32>], number: u32, item: u32) -> Result<(), AllocError>
+    requires { number < length lists.old }
+    ensures there { OnOk result (In item (list_in lists.new number)) }
+    ensures stays { HasAll (lists_in lists.old) (lists_in lists.new) }
+    ensures came { GainsOnly (number ∷ []) item (lists_in lists.old) (lists_in lists.new) }
 {
-    let mut places = places_of(alloc, ids)?;
-    places.sort_unstable();
-    Ok(places)
-}
-
-/// Those of the wanted places, which are sorted, that clauses have, in their order.
-fn kept_places(alloc: Global, ids: &[ClauseId], wanted: &[u32]) -> Result<Vec<u32>, AllocError>
-    requires { IsNonDecreasing wanted.now }
-    ensures members { IfOk result (λ kept. (c : ℕ) → has kept.items c ≡ (has ids.now c && has wanted.now c)) }
-    ensures sorted { IfOk result (λ kept. IsNonDecreasing kept.items) }
-{
-    let places = places_of(alloc, ids)?;
-    let mut kept = Vec::new(alloc);
-    add_wanted(places.as_slice(), wanted, &mut kept)?;
-    kept.sort_unstable();
-    Ok(kept)
-}
-
-/// Puts a package to the users of clauses, each of which is listed for its numbers where it had no user. Where no memory is
-/// found, the users stay.
-fn enter(
-    alloc: Global,
-    pool: &Pool,
-    users: &mut Vec<Vec<u32>>,
-    clauses: &mut [Vec<u32>],
-    ids: &[ClauseId],
-    package: u32,
-) -> Result<(), AllocError>
-    requires of_pool { OfPool pool.now ids.now }
-    requires numbers { (c : ℕ) → In c ids.now → (n : ℕ) → In n (clause_at pool.now c) → n < length clauses.old }
-    ensures there { OnOk result (length pool.now.clauses ≤ length users.new.items) }
-    ensures entered { OnOk result ((c : ℕ) → Ascending (list_in users.old.items c) →
-        IsListOf (λ m. has (list_in users.old.items c) m || (has ids.now c && eqb m «package»)) (list_in users.new.items c)) }
-    ensures filed { OnOk result (((n : ℕ) → Ascending (list_in clauses.old n)) →
-        Files pool.now (lists_in users.old.items) ids.now (lists_in clauses.old) (lists_in clauses.new)) }
-    ensures users { OnErr result ((c : ℕ) → list_in users.new.items c ≡ list_in users.old.items c) }
-    ensures stays { OnErr result (((n : ℕ) → Ascending (list_in clauses.old n)) →
-        Files pool.now (lists_in users.old.items) [] (lists_in clauses.old) (lists_in clauses.new)) }
-{
-    make_lists(users, pool.clause_count())?;
-    file_unused(pool, users.as_slice(), clauses, ids)?;
-    let places = places_of(alloc, ids)?;
-    add_to_each(users.as_mut_slice(), places.as_slice(), package)?;
+    lists[number as usize].push(item)?;
     Ok(())
 }
 
@@ -180,45 +235,24 @@ fn make_lists(lists: &mut Vec<Vec<u32>>, count: u64) -> Result<(), AllocError>
     Ok(())
 }
 
-/// Lists each of the clauses that has no user for each of its numbers.
-fn file_unused(
-    pool: &Pool,
-    users: &[Vec<u32>],
-    clauses: &mut [Vec<u32>],
-    ids: &[ClauseId],
-) -> Result<(), AllocError>
-    requires of_pool { OfPool pool.now ids.now }
-    requires numbers { (c : ℕ) → In c ids.now → (n : ℕ) → In n (clause_at pool.now c) → n < length clauses.old }
-    ensures ok { OnOk result (((n : ℕ) → Ascending (list_in clauses.old n)) →
-        Files pool.now (lists_in users.now) ids.now (lists_in clauses.old) (lists_in clauses.new)) }
-    ensures err { OnErr result (((n : ℕ) → Ascending (list_in clauses.old n)) →
-        Files pool.now (lists_in users.now) [] (lists_in clauses.old) (lists_in clauses.new)) }
+/// Gives back the lists of the numbers.
+fn empty_each(alloc: Global, lists: &mut [Vec<u32>], numbers: &[u32])
+    ensures empty { (n : ℕ) → In n numbers.now → list_in lists.new n ≡ [] }
+    ensures others { (n : ℕ) → (In n numbers.now → ⊥) → list_in lists.new n ≡ list_in lists.old n }
 {
-    for id in ids {
-        file_one(pool, users, clauses, *id)?;
+    for number in numbers {
+        empty_one(alloc, lists, *number);
     }
-    Ok(())
 }
 
-/// Lists a clause for each of its numbers, if it has no user; where no memory is found, the lists stay as they were.
-fn file_one(
-    pool: &Pool,
-    users: &[Vec<u32>],
-    clauses: &mut [Vec<u32>],
-    id: ClauseId,
-) -> Result<(), AllocError>
-    requires id { id < length pool.now.clauses }
-    requires numbers { (n : ℕ) → In n (clause_at pool.now id) → n < length clauses.old }
-    ensures ok { OnOk result (((n : ℕ) → Ascending (list_in clauses.old n)) →
-        Files pool.now (lists_in users.now) (id ∷ []) (lists_in clauses.old) (lists_in clauses.new)) }
-    ensures err { OnErr result (lists_in clauses.new ≡ lists_in clauses.old) }
+/// Gives back the list of a number, where there is one.
+fn empty_one(alloc: Global, lists: &mut [Vec<u32>], number: u32)
+    ensures empty { list_in lists.new number ≡ [] }
+    ensures others { (n : ℕ) → n ≢ number → list_in lists.new n ≡ list_in lists.old n }
 {
-    let place = small_place(id)?;
-    if !list_at(users, place).is_empty() {
-        return Ok(());
+    if (number as usize) < lists.len() {
+        lists[number as usize] = Vec::new(alloc);
     }
-    add_to_each(clauses, pool.slice(id), place)?;
-    Ok(())
 }
 
 /// The users of clauses, each once and ascending.
@@ -232,6 +266,48 @@ fn users_among(alloc: Global, users: &[Vec<u32>], places: &[u32]) -> Result<Vec<
     found.sort_unstable();
     found.dedup();
     Ok(found)
+}
+
+/// Those of the packages whose row has a clause that holds the number.
+fn users_still(
+    alloc: Global,
+    pool: &Pool,
+    rows: &[RowId],
+    packages: &[u32],
+    number: u32,
+) -> Result<Vec<u32>, AllocError>
+    requires { RowsFit pool.now rows.now }
+    ensures { IfOk result (λ found. found.items
+        ≡ filter (λ p. ltb p (length rows.now) && row_holds pool.now (row_id rows.now p) number) packages.now) }
+{
+    let mut found = Vec::new(alloc);
+    for package in packages {
+        if is_user(pool, rows, *package, number) {
+            found.push(*package)?;
+        }
+    }
+    Ok(found)
+}
+
+/// Whether the package is one of the rows' and its row has a clause that holds the number.
+fn is_user(pool: &Pool, rows: &[RowId], package: u32, number: u32) -> bool
+    requires { RowsFit pool.now rows.now }
+    ensures { result ≡ (ltb «package» (length rows.now) && row_holds pool.now (row_id rows.now «package») number) }
+{
+    (package as usize) < rows.len() && some_holds(pool, pool.row(rows[package as usize]), number)
+}
+
+/// Whether one of the clauses holds the number.
+fn some_holds(pool: &Pool, ids: &[ClauseId], number: u32) -> bool
+    requires { OfPool pool.now ids.now }
+    ensures { result ≡ list_any (λ id. has (clause_at pool.now id) number) ids.now }
+{
+    for id in ids {
+        if holds_ascending(pool.slice(*id), number) {
+            return true;
+        }
+    }
+    false
 }
 
 /// Lends the list at a place, which is empty where there is none.

@@ -155,11 +155,7 @@ fn numbers_among(
 }
 
 /// Puts the wanted numbers, which are sorted, of a clause behind the others.
-pub(crate) fn add_wanted(
-    clause: &[u32],
-    wanted: &[u32],
-    found: &mut Vec<u32>,
-) -> Result<(), AllocError>
+fn add_wanted(clause: &[u32], wanted: &[u32], found: &mut Vec<u32>) -> Result<(), AllocError>
     requires { IsNonDecreasing wanted.now }
     ensures { OnOk result ((n : ℕ) → has found.new.items n ≡ (has found.old.items n || (has clause.now n && has wanted.now n))) }
 {
@@ -173,11 +169,7 @@ pub(crate) fn add_wanted(
 
 /// Puts the package into the list of each of the numbers, where it is not there yet; where no memory is found, the lists
 /// stay as they were.
-pub(crate) fn add_to_each(
-    table: &mut [Vec<u32>],
-    numbers: &[u32],
-    package: u32,
-) -> Result<(), AllocError>
+fn add_to_each(table: &mut [Vec<u32>], numbers: &[u32], package: u32) -> Result<(), AllocError>
     requires { (n : ℕ) → has numbers.now n ≡ true → n < length table.old }
     ensures ok { OnOk result ((n : ℕ) → Ascending (list_in table.old n) →
         IsListOf (λ m. has (list_in table.old n) m || (has numbers.now n && eqb m «package»)) (list_in table.new n)) }
@@ -213,7 +205,7 @@ fn put_into_each(table: &mut [Vec<u32>], numbers: &[u32], package: u32)
 }
 
 /// Takes the package out of the list of each of the numbers that is not among those kept.
-pub(crate) fn take_from_each(table: &mut [Vec<u32>], numbers: &[u32], kept: &[u32], package: u32)
+fn take_from_each(table: &mut [Vec<u32>], numbers: &[u32], kept: &[u32], package: u32)
     requires sorted { IsNonDecreasing kept.now }
     requires within { (n : ℕ) → has numbers.now n ≡ true → n < length table.old }
     ensures { (n : ℕ) → Ascending (list_in table.old n) →

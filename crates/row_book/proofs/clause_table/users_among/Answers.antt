@@ -4,14 +4,14 @@ use Rattle.std.proofs.lemmas.List.{get_or_default, take_all}
 use Rattle.std.proofs.lemmas.List.Sorted.{IsNonDecreasingBy-from_sort, list_any-IsPermutation}
 use Rattle.row_book.specs.Sets.{has}
 use Rattle.row_book.specs.Uses.{list_in}
-use Rattle.row_book.proofs.Holders.{gathered, users_more}
+use Rattle.row_book.proofs.Holders.{gathered, gathered_more}
 use Rattle.row_book.proofs.clause_table.users_among.Goals as goal
 
 pub loop-place-preserved : goal.loop-place-preserved
 loop-place-preserved c = λ m.
     let k = c.loop-place.place-index in
     let place = get_or c.args.places.now k 0 in
-    users_more c.args.users.now c.args.places.now k place c.loop-place.found.items c.list_at.result.now c.extend_from_slice.new.self.items
+    gathered_more c.args.users.now c.args.places.now k place c.loop-place.found.items c.list_at.result.now c.extend_from_slice.new.self.items
     c.loop-place-test.true (get_or_default c.args.places.now k 0 place c.loop-place-test.true) c.list_at.ensures c.in_ok-extend_from_slice.ensures.items m (c.loop-place.invariant m)
 
 pub returns : goal.returns

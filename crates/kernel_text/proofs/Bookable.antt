@@ -1,6 +1,6 @@
 -- What a text of a kernel says can be booked.
-use Rattle.std.proofs.Common.{◌≡◌, ℕ, ◌+◌, ◌-◌, ◌<◌, List, [], ◌∷◌, ◌++◌, Option, Some, length, inl, inr, refl, sym, ap, ◌∙◌, subst, zero-add, arith}
-use Rattle.row_book.specs.Clauses.{Ascending, InOrder, numbers}
+use Rattle.std.proofs.Common.{◌≡◌, ℕ, ◌<◌, List, [], ◌∷◌, ◌++◌, Option, Some, length, inl, inr, refl, sym, ap, ◌∙◌, subst, zero-add, arith}
+use Rattle.row_book.specs.Clauses.{Ascending, InOrder}
 use Rattle.row_book.specs.Repository.{clauses_of}
 use Rattle.row_book.specs.Sets.{In}
 use Rattle.row_book.specs.declared.pair.Pair.{Pair}

@@ -1,88 +1,68 @@
 -- The classes that goals name, goal by goal.
-use Rattle.std.proofs.Common.{◌≡◌, ℕ, zero, suc, ◌+◌, ◌<◌, ◌≤◌, Bool, true, false, not, ◌&&◌, ◌||◌, ◌==◌, eqb, eqb-true, eq-eqb, List, [], ◌∷◌, ◌++◌, length, map, filter, take, drop, get_or, set, Some, None, inl, inr, refl, sym, ap, ap₂, ◌∙◌, subst, cond, replicate, arith}
+use Rattle.std.proofs.Common.{◌≡◌, ℕ, zero, suc, ◌+◌, ◌<◌, ◌≤◌, Bool, true, false, not, ◌&&◌, ◌||◌, ◌==◌, eqb, eqb-true, eq-eqb, List, [], ◌∷◌, ◌++◌, length, map, filter, take, drop, get_or, Some, None, refl, sym, ap, ap₂, ◌∙◌, subst, cond, add-zero, zero-add, arith}
+use Rattle.std.specs.Prelude.{◌↔◌}
 use Rattle.std.specs.List.{list_any, position_from}
+use Rattle.std.specs.Str.{bytes_eq}
 use Rattle.std.proofs.Math.Seq.{drop-cons}
-use Rattle.std.proofs.lemmas.Bool.{and_from, and_parts, cases_eq, cases_lt, false≢true, false_from_ne_true, not_from_false}
-use Rattle.std.proofs.lemmas.List.{append-nil, get_or-replicate, get_or-set_other, get_or-set_same, get_or_past, map-append, take_more}
-use Rattle.std.proofs.lemmas.List.Elements.{filter-append}
-use Rattle.std.proofs.lemmas.List.Folds.{list_any-append}
-use Rattle.row_book.specs.Clauses.{Ascending, numbers}
-use Rattle.row_book.specs.Flags.{flag}
-use Rattle.row_book.specs.Sets.{In, here}
-use Rattle.row_book.proofs.Lists.{In_none, any_cases, any_from, ascending_filter, filter_cases, filter_from, filter_same}
-use Rattle.row_book.proofs.Order.{numbers_ascending, numbers_from}
+use Rattle.std.proofs.lemmas.Bool.{and_from, and_parts, false≢true, false_from_ne_true, not_from_false}
+use Rattle.std.proofs.lemmas.List.{map-append, take_more}
+use Rattle.std.proofs.lemmas.List.Folds.{list_any_more}
+use Rattle.row_book.specs.Clauses.{Ascending, Inside, numbers}
+use Rattle.row_book.specs.Sets.{In, has, here}
+use Rattle.row_book.proofs.Lists.{In_has, In_none, any_cases, any_from, ascending_filter, ascending_same, filter_cases, filter_from, has_In}
+use Rattle.row_book.proofs.Order.{numbers_ascending, numbers_from as number_in}
 use Rattle.repo_model.specs.declared.goals.Goal.{Goal}
+use Rattle.virtual_provides.specs.Bearers.{if_so}
+use Rattle.virtual_provides.specs.Numbers.{numbers_from, numbers_where, passes_at}
+use Rattle.virtual_provides.proofs.Numbered.{numbers_from-cons}
 use Rattle.kernel_text.specs.declared.member.Member.{Member}
-use Rattle.kernel_text.specs.Images.{image_of, is_named_by, is_unknown, names_in_class, unknown_goal}
-use Rattle.kernel_text.proofs.Retold.{eqb_other}
-use Rattle.kernel_text.proofs.Written.{numbers_more}
+use Rattle.kernel_text.specs.Images.{image_of, is_named_by, is_named_in, is_unknown, names_in_class, unknown_goal}
+use Rattle.kernel_text.specs.Named.{AreClasses}
 
-abbrev Flagged : List Bool → List Member → Goal → Type 0
-Flagged flags members goal = (n : ℕ) → flag flags n ≡ names_in_class members goal n
+-- one more item that is asked
+pub any_asked : {X : Type 0} (test : X → Bool) (items : List X) (i : ℕ) (x : X) (before after : Bool) → i < length items → x ≡ get_or items i x → before ≡ list_any test (take i items) →
+    after ≡ (before || test x) → after ≡ list_any test (take (i + 1) items)
+any_asked test items i x before after l is sofar step =
+    step ∙ ap (λ b. b || test x) sofar ∙ ap (λ y. list_any test (take i items) || test y) is ∙ sym (list_any_more test items i x l)
 
-pub none_flagged : (flags : List Bool) (goal : Goal) → flags ≡ replicate (length flags) false → Flagged flags [] goal
-none_flagged flags goal none n =
-    elim (cases_lt n (length flags)) [
-      | inl l ↦ ap (λ fs. get_or fs n false) none ∙ get_or-replicate (length flags) n false false l
-      | inr g ↦ get_or_past flags n false g
-    ]
+-- an item passes a test where one of those does that pass a broader one
+any_behind : (passes : ℕ → Bool) (n : ℕ) (all : List ℕ) (rest : Bool) → list_any passes all ≡ rest → (b t : Bool) → (t ≡ true → b ≡ true) → passes n ≡ t → list_any passes (if_so b n ++ all) ≡ (t || rest)
+any_behind passes n all rest e true t h at = ap₂ (λ a b. a || b) at e
+any_behind passes n all rest e false true h at = absurd (false≢true (h refl))
+any_behind passes n all rest e false false h at = e
 
--- one more member
-any_more : (p : Member → Bool) (members : List Member) (i : ℕ) (m : Member) → i < length members → m ≡ get_or members i m → list_any p (take (i + 1) members) ≡ (list_any p (take i members) || (p m || false))
-any_more p members i m l is =
-    ap (list_any p) (take_more members i m l) ∙ list_any-append p (take i members) (get_or members i m ∷ []) ∙ ap (λ x. list_any p (take i members) || (p x || false)) (sym is)
+module _ {X : Type 0} (test broad : X → Bool) (broader : (x : X) → test x ≡ true → broad x ≡ true) where
+  any_numbers : (all items : List X) (n : ℕ) → ((k : ℕ) → passes_at test all (n + k) ≡ passes_at test items k) → list_any (passes_at test all) (numbers_from n broad items) ≡ list_any test items
+  any_numbers all [] n same = refl
+  any_numbers all (x ∷ items) n same =
+      let onward : (k : ℕ) → passes_at test all (n + 1 + k) ≡ passes_at test items k = λ k. let place : n + 1 + k ≡ n + suc k = omega arith in ap (passes_at test all) place ∙ same (suc k) in
+      rw (numbers_from-cons broad n x items)
+      (any_behind (passes_at test all) n (numbers_from (n + 1) broad items) (list_any test items) (any_numbers all items (n + 1) onward) (broad x) (test x) (broader x) (ap (passes_at test all) (sym (add-zero n)) ∙ same 0))
 
-or_false : (a : Bool) → (a || (false || false)) ≡ a
-or_false true = refl
-or_false false = refl
+  pub any_numbered : (items : List X) → list_any (passes_at test items) (numbers_where broad items) ≡ list_any test items
+  any_numbered items = any_numbers items items 0 (λ k. ap (passes_at test items) (zero-add k))
 
-or_true : (a : Bool) → (a || (true || false)) ≡ true
-or_true true = refl
-or_true false = refl
+-- the classes of the members of a goal's name that it names are all that it names
+pub classes_named : (members : List Member) (goal : Goal) (numbers classes : List ℕ) → numbers ≡ numbers_where (λ m. bytes_eq goal.name m.name) members →
+    ((n : ℕ) → has classes n ≡ list_any (passes_at (is_named_in goal n) members) numbers) → AreClasses members goal classes
+classes_named members goal numbers classes are asked n =
+    asked n ∙ ap (list_any (passes_at (is_named_in goal n) members)) are
+    ∙ any_numbered (is_named_in goal n) (λ m. bytes_eq goal.name m.name) (λ m h. (and_parts _ _ (and_parts _ _ h).1).0) members
 
-module _ (flags new : List Bool) (members : List Member) (goal : Goal) (i : ℕ) (m : Member) (l : i < length members) (is : m ≡ get_or members i m) (sofar : Flagged flags (take i members) goal) where
-  more : (n : ℕ) → names_in_class (take (i + 1) members) goal n ≡ (names_in_class (take i members) goal n || ((eqb n m.class && is_named_by goal m) || false))
-  more n = any_more (λ (x : Member). eqb n x.class && is_named_by goal x) members i m l is
-
-  none_more : (n : ℕ) → (eqb n m.class && is_named_by goal m) ≡ false → flag flags n ≡ names_in_class (take (i + 1) members) goal n
-  none_more n e = sofar n ∙ sym (more n ∙ ap (λ b. names_in_class (take i members) goal n || (b || false)) e ∙ or_false (names_in_class (take i members) goal n))
-
-  pub passed_over : is_named_by goal m ≡ false → Flagged flags (take (i + 1) members) goal
-  passed_over e n = none_more n (ap (λ b. eqb n m.class && b) e ∙ and_false (eqb n m.class))
-    where
-      and_false : (a : Bool) → (a && false) ≡ false
-      and_false true = refl
-      and_false false = refl
-
-  pub marked : is_named_by goal m ≡ true → m.class < length flags → new ≡ set flags m.class true → Flagged new (take (i + 1) members) goal
-  marked e inside made n =
-      ap (λ fs. flag fs n) made ∙ elim (cases_eq n m.class) [
-        | inl same ↦
-            ap (λ k. flag (set flags m.class true) k) same ∙ get_or-set_same flags m.class true false inside
-            ∙ sym (more n ∙ ap (λ b. names_in_class (take i members) goal n || (b || false)) (and_from (eqb n m.class) (is_named_by goal m) (eq-eqb n m.class same) e) ∙ or_true (names_in_class (take i members) goal n))
-        | inr ne ↦ get_or-set_other flags m.class n true false ne ∙ none_more n (ap (λ b. b && is_named_by goal m) (eqb_other n m.class ne))
-      ]
-
--- one more class
-pub no_classes : (p : ℕ → Bool) → [] ≡ filter p (numbers 0 0)
-unfolding numbers
-no_classes p = refl
-
-module _ (p : ℕ → Bool) (n : ℕ) (image new : List ℕ) (sofar : image ≡ filter p (numbers n 0)) where
-  one_class : filter p (numbers (n + 1) 0) ≡ filter p (numbers n 0) ++ cond (p n) (n ∷ []) []
-  one_class = ap (filter p) (numbers_more n) ∙ filter-append p (numbers n 0) (n ∷ [])
-
-  pub class_put : p n ≡ true → new ≡ image ++ n ∷ [] → new ≡ filter p (numbers (n + 1) 0)
-  class_put e pushed = pushed ∙ ap (λ xs. xs ++ n ∷ []) sofar ∙ sym (one_class ∙ ap (λ b. filter p (numbers n 0) ++ cond b (n ∷ []) []) e)
-
-  pub class_left : p n ≡ false → image ≡ filter p (numbers (n + 1) 0)
-  class_left e = sofar ∙ sym (one_class ∙ ap (λ b. filter p (numbers n 0) ++ cond b (n ∷ []) []) e ∙ append-nil (filter p (numbers n 0)))
-
-pub image_is : (members : List Member) (size : ℕ) (goal : Goal) (flags : List Bool) (image : List ℕ) → length flags ≡ size → Flagged flags members goal →
-    image ≡ filter (flag flags) (numbers (length flags) 0) → image ≡ image_of members size goal
+-- in their order, each once, they are the image
+pub image_is : (members : List Member) (size : ℕ) (goal : Goal) (classes image : List ℕ) → ((m : Member) → In m members → m.class < size) → AreClasses members goal classes → Ascending image →
+    ((n : ℕ) → In n image ↔ In n classes) → image ≡ image_of members size goal
 unfolding image_of
-image_is members size goal flags image count flagged made =
-    made ∙ ap (λ n. filter (flag flags) (numbers n 0)) count ∙ filter_same (flag flags) (names_in_class members goal) (numbers size 0) (λ n i. flagged n)
+image_is members size goal classes image inside are ascending same =
+    let all = filter (names_in_class members goal) (numbers size 0) in
+    let to : Inside image all = λ n i.
+    let h : names_in_class members goal n ≡ true = sym (are n) ∙ In_has ((same n).0 i) in
+    let w : (m : Member) × In m members × (is_named_in goal n m ≡ true) = any_cases (is_named_in goal n) members h in
+    let e : n ≡ w.0.class = eqb-true n w.0.class (and_parts _ _ w.2).0 in
+    let l : w.0.class < size = inside w.0 w.1 in
+    filter_from (names_in_class members goal) (numbers size 0) n (number_in size 0 n (omega arith) (omega (arith, e, l))) h in
+    let back : Inside all image = λ n i. (same n).1 (has_In classes n (are n ∙ (filter_cases (names_in_class members goal) (numbers size 0) n i).1)) in
+    ascending_same image all ascending (ascending_filter (names_in_class members goal) (numbers size 0) (numbers_ascending size 0)) to back
 
 pub none_there : (xs : List ℕ) → (length xs == 0) ≡ true → xs ≡ []
 none_there [] e = refl
@@ -106,7 +86,7 @@ module _ (members : List Member) (size : ℕ) (inside : (m : Member) → In m me
       let l : w.0.class < size = inside w.0 w.1 in
       let has : names_in_class members goal w.0.class ≡ true =
       any_from (λ (x : Member). eqb w.0.class x.class && is_named_by goal x) members w.0 w.1 (and_from (eqb w.0.class w.0.class) (is_named_by goal w.0) (eq-eqb w.0.class w.0.class refl) w.2) in
-      let i : In w.0.class (image_of members size goal) = filter_from (names_in_class members goal) (numbers size 0) w.0.class (numbers_from size 0 w.0.class (omega arith) (omega arith)) has in
+      let i : In w.0.class (image_of members size goal) = filter_from (names_in_class members goal) (numbers size 0) w.0.class (number_in size 0 w.0.class (omega arith) (omega arith)) has in
       In_none (subst (λ xs. In w.0.class xs) none i)
 
   pub no_image : (goal : Goal) → image_of members size goal ≡ [] → is_unknown members goal ≡ true

@@ -15,9 +15,13 @@ use Rattle.kernel_text.specs.declared.member.Member.{Member}
 abbrev pub is_named_by : Goal → Member → Bool
 is_named_by goal m = bytes_eq goal.name m.name && option_map_or (λ version. is_eq (version_order m.version version)) goal.version true
 
+-- the package is of the class, and the goal names it
+abbrev pub is_named_in : Goal → ℕ → Member → Bool
+is_named_in goal n m = eqb n m.class && is_named_by goal m
+
 -- the goal names a package of the class
 abbrev pub names_in_class : List Member → Goal → ℕ → Bool
-names_in_class members goal n = list_any (λ m. eqb n m.class && is_named_by goal m) members
+names_in_class members goal n = list_any (is_named_in goal n) members
 
 -- of so many classes those with a package that the goal names, ascending
 unfoldable pub image_of : List Member → ℕ → Goal → List ℕ

@@ -14,5 +14,6 @@ pub mod Reader
 pub mod Strays
 pub mod Booking
 pub mod Images
+pub mod Named
 pub mod KernelJson
 pub mod JsonData

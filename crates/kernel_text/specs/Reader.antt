@@ -1,7 +1,6 @@
 -- What a reader of kernel texts holds of the lines so far.
 use Rattle.std.specs.Prelude.{◌≡◌, ℕ, ◌≤◌, Bool, true, false, nat_lt, List, length, take, drop, map, Option, Some, None}
 use Rattle.row_book.specs.Clauses.{comes_before}
-use Rattle.kernel_text.specs.declared.member.Member.{Member}
 use Rattle.kernel_text.specs.declared.reader.Clause.{Clause}
 use Rattle.kernel_text.specs.declared.reader.LastLine.{LastLine}
 use Rattle.kernel_text.specs.declared.reader.LastLine.TheVariants as last

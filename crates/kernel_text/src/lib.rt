@@ -16,6 +16,7 @@ mod line_end;
 pub mod member;
 mod member_keys;
 mod member_table;
+mod named;
 mod push_lines;
 mod read;
 mod read_line;

@@ -4,6 +4,7 @@ use Rattle.std.specs.List.{flat_map, range_with_len, Contains, AllPairs, dedup}
 use Rattle.std.specs.List.Sorted.{IsPermutation, IsSorted}
 use Rattle.std.specs.Ordering.{nat_cmp}
 use Rattle.std.proofs.Math.Bool.{or-false}
+use Rattle.std.proofs.lemmas.Bool.{and_parts}
 use Rattle.std.proofs.lemmas.List.Kept.{AllPairs-from_increasing, Contains-dedup_nat, Contains-from_dedup}
 use Rattle.std.proofs.lemmas.List.Sorted.{Contains-permutation, IsPermutation-sym}
 use Rattle.std.proofs.lemmas.Map.Keys.{IsStrictlyIncreasing-dedup}
@@ -15,8 +16,11 @@ use Rattle.row_book.specs.Clauses.{Ascending, Inside}
 use Rattle.row_book.specs.Sets.{In, here, there}
 use Rattle.row_book.proofs.Lists.{In_cases, In_none, In_append_cases, In_append_left, In_append_right, any_from, any_cases, ascending_filter, ascending_same, filter_same}
 use Rattle.virtual_provides.specs.Bearers.{if_so}
-use Rattle.virtual_provides.specs.Numbers.{numbers_from, numbers_where}
-use Rattle.virtual_provides.proofs.Numbered.{numbers_from-cons}
+use Rattle.virtual_provides.specs.Numbers.{numbers_from, numbers_where, passes_at}
+use Rattle.virtual_provides.proofs.Numbered.{filter-numbers_where, numbers_from-cons}
+use Rattle.repo_model.specs.declared.goals.Goal.{Goal}
+use Rattle.repo_model.specs.Goals.{is_named_by, packages_named}
+use Rattle.repo_model.specs.Pairs.{is_named}
 use Rattle.repo_model.specs.Meeting.{meeting}
 use Rattle.repo_model.specs.Repository.{clause_of, meets_any, packages_of}
 use Rattle.repo_model.specs.Stanzas.{no_stanza, stanza_at}
@@ -114,3 +118,8 @@ once_same old sorted new moved is n = (
   (λ i. In_contained old n (Contains-permutation sorted old n (IsPermutation-sym old sorted moved) (Contains-from_dedup eqb sorted n (contained_In (dedup eqb sorted) n (subst (λ ns. In n ns) is i))))),
   (λ i. subst (λ ns. In n ns) (sym is) (In_contained (dedup eqb sorted) n (Contains-dedup_nat sorted n (Contains-permutation old sorted n moved (contained_In old n i))))),
 )
+
+-- of the packages of a goal's name, those that it names are all that it names
+pub named_chosen : (packages : List PackageFacts) (goal : Goal) → filter (passes_at (is_named_by goal) packages) (numbers_where (is_named goal.name) packages) ≡ packages_named packages goal
+named_chosen packages goal =
+    filter-numbers_where (is_named_by goal) (is_named goal.name) packages (λ facts h. (and_parts _ _ h).0) ∙ numbers_chosen (is_named_by goal) packages

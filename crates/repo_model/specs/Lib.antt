@@ -17,3 +17,4 @@ pub mod Pairs
 pub mod Goals
 pub mod GoalRefusals
 pub mod NameOrder
+pub mod Named

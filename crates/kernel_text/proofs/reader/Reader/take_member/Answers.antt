@@ -1,4 +1,4 @@
-use Rattle.std.proofs.Common.{ℕ, true, false, [], ◌∷◌, ◌++◌, ◌-◌, refl, sym, ap, ap₂, ◌∙◌, subst}
+use Rattle.std.proofs.Common.{ℕ, [], ◌∷◌, ◌++◌, ◌-◌, refl, sym, ap, ap₂, ◌∙◌, subst}
 use Rattle.kernel_text.specs.declared.member.Member.{Member}
 use Rattle.kernel_text.specs.MemberTables.{Enters, IsTableOf}
 use Rattle.kernel_text.specs.Reader.{may_add_member}

@@ -31,7 +31,9 @@ use Rattle.clause_flatten.proofs.Tidied.{kept_same}
 use Rattle.class_merge.specs.Classes.{class_in}
 use Rattle.class_merge.proofs.Classes.{has_class_lem}
 use Rattle.class_merge.proofs.MergedRows.{class_at}
-use Rattle.kernel_rounds.specs.Extracting.{IsMidway, IsReached, OnRoundLimit, refusal}
+use Rattle.kernel_rounds.specs.declared.error.RoundError.{RoundError}
+use Rattle.kernel_rounds.specs.declared.error.RoundError.TheVariants.{Limit, Memory}
+use Rattle.kernel_rounds.specs.Extracting.{AddsSteps, IsMidway, IsReached, OnRoundLimit, refusal}
 use Rattle.kernel_rounds.specs.Moving.{HasSteps}
 use Rattle.kernel_rounds.proofs.Flattened.{flat_size}
 use Rattle.kernel_rounds.proofs.Reached.{kernel_is_lem, repository_test, rounds_sound, same_from}
@@ -246,6 +248,11 @@ midway_refused limit hold R start pool work book classes steps number (faults.Li
     ∙ ap Some (ap₂ (λ (n q : ℕ). record { number = n; gone = gone; «package» = q; count = count }) (sym m.counted)
     (sym (place_map (class_after limit hold R m.index) (λ k. eqb k p) (packages R)) ∙ ap (place_of (λ k. eqb k p)) (sym m.class_of)))
 midway_refused limit hold R start pool work book classes steps number faults.Memory s m e = tt
+
+-- a round that is refused leaves the pool as the rounds before it have
+pub gained_before : (start pool new : Interned) (error : RoundError) → AddsSteps start pool → OnRoundLimit (λ _. new ≡ pool) error → OnRoundLimit (λ _. AddsSteps start new) error
+gained_before start pool new (Limit round gone p count) a e = subst (AddsSteps start) (sym e) a
+gained_before start pool new Memory a e = tt
 
 -- before any round
 steps_none_yet : (pool : Interned) (steps : List Step) → steps ≡ [] → HasSteps pool pool steps []

@@ -5,7 +5,7 @@ use Rattle.clause_flatten.specs.declared.error.FlatError.{FlatError}
 use Rattle.clause_flatten.specs.declared.error.FlatError.TheVariants as faults
 use Rattle.row_book.specs.declared.book.Book.{Book}
 use Rattle.row_book.specs.declared.trail.Step.{Step}
-use Rattle.row_book.specs.Book.{repository_of, Sound}
+use Rattle.row_book.specs.Book.{repository_of, AddsOnly, Sound}
 use Rattle.row_book.specs.Repository.{Repository}
 use Rattle.row_book.specs.Flattening.{held_of, packages, passes}
 use Rattle.row_book.specs.Merging.{place_of}
@@ -15,7 +15,7 @@ use Rattle.kernel_rounds.specs.declared.extraction.Outcome.{Outcome}
 use Rattle.kernel_rounds.specs.declared.extraction.Outcome.TheVariants.{Done, More}
 use Rattle.kernel_rounds.specs.declared.error.RoundError.{RoundError}
 use Rattle.kernel_rounds.specs.declared.error.RoundError.TheVariants.{Limit, Memory}
-use Rattle.kernel_rounds.specs.Moving.{HasSteps}
+use Rattle.kernel_rounds.specs.Moving.{trail_rows, HasSteps}
 
 -- after some rounds, each of which changed something and passed no limit: the book is of the pool that the rounds work in, and
 -- the steps are of another
@@ -62,6 +62,10 @@ pub record IsOwnKernel (K : Repository) (limit : ℕ) (hold : Bool) : Type 0 whe
 abbrev pub OnRoundLimit : (PassedRound → Type 0) → RoundError → Type 0
 OnRoundLimit P (Limit round gone «package» count) = P (record { number = round; gone = gone; «package» = «package»; count = count })
 OnRoundLimit P Memory = ⊤
+
+-- the pool has gained the rows of the books of some steps and their clauses alone
+abbrev pub AddsSteps : Interned → Interned → Type 0
+AddsSteps old new = (steps : List Step) × AddsOnly old new (trail_rows steps)
 
 -- why no kernel is extracted where a round is refused
 abbrev pub refusal : ℕ → List ℕ → FlatError → RoundError

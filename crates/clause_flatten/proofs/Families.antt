@@ -12,7 +12,7 @@ use Rattle.std.proofs.lemmas.Bool.{OnTrue_from, false≢true, both_ways, cases_B
 use Rattle.std.proofs.lemmas.List.{take_more, map-append}
 use Rattle.std.proofs.lemmas.List.Elements.{filter_more}
 use Rattle.std.proofs.lemmas.Grind.{flat_map-append}
-use Rattle.clause_pool.specs.Interned.{Interned, clause_at, clauses_at, ids_at, row_at, Kept, OfPool, IsIdOf}
+use Rattle.clause_pool.specs.Interned.{Interned, clause_at, clauses_at, ids_at, row_at, IsPool, Kept, OfPool, IsIdOf}
 use Rattle.clause_pool.proofs.Lists.{In_at}
 use Rattle.row_book.specs.Sets.{In, here, there}
 use Rattle.row_book.specs.Clauses.{Ascending, Inside, apart_from, is_inside, minimal_of}
@@ -128,6 +128,10 @@ kept_same a b k (id ∷ ids) f = ap₂ (λ x xs. x ∷ xs) (k.clauses id (f id h
 
 pub kept_of_pool : (a b : Interned) → Kept a b → (ids : List ℕ) → OfPool a ids → OfPool b ids
 kept_of_pool a b k ids f id i = (k.clauses id (f id i)).0
+
+-- a row stays
+pub kept_row : (a b : Interned) → IsPool a → Kept a b → (row : ℕ) → row < length a.rows → row_at b row ≡ row_at a row
+kept_row a b is k row l = ap (clauses_at b) (k.rows row l).1 ∙ kept_same a b k (ids_at a row) (is.of_pool row l)
 
 -- the row of an id that was just made
 pub row_interned : (old new : Interned) (ids : List ℕ) (id : ℕ) → Kept old new → OfPool old ids → IsIdOf new.rows ids id → row_at new id ≡ clauses_at old ids

@@ -16,7 +16,6 @@ use Rattle.row_book.proofs.Lists.{In_none, any_cases, any_from, has_In, In_has}
 use Rattle.row_book.proofs.Order.{numbers_from}
 use Rattle.clause_flatten.specs.TakingOut.{is_free}
 use Rattle.clause_flatten.specs.Waiting.{Filed}
-use Rattle.clause_flatten.specs.declared.waiting.Waiting.{Waiting}
 use Rattle.clause_flatten.proofs.Turns.{filed_as}
 
 -- packages without conflicts
@@ -50,7 +49,7 @@ start_may pool book s q =
     and_whole false = refl
 
 -- the packages without conflicts, up to one of them
-pub waiting_none : (w : Waiting) (conflicts : List (List ℕ)) (count : ℕ → ℕ) → Filed w (λ q. false) count → Filed w (λ q. ltb q 0 && is_free conflicts q) count
+pub waiting_none : (w : List ℕ) (conflicts : List (List ℕ)) (count : ℕ → ℕ) → Filed w (λ q. false) count → Filed w (λ q. ltb q 0 && is_free conflicts q) count
 waiting_none w conflicts count f = filed_as w (λ q. false) (λ q. ltb q 0 && is_free conflicts q) count count f (λ q. sym (and_left (ltb q 0) (is_free conflicts q) (le-ltb q 0 (omega arith)))) (λ q h. refl)
 
 below_more : (conflicts : List (List ℕ)) (p q : ℕ) → (ltb q p && is_free conflicts q) ≡ true → (ltb q (p + 1) && is_free conflicts q) ≡ true
@@ -58,7 +57,7 @@ below_more conflicts p q h =
     let w : (ltb q p ≡ true) × (is_free conflicts q ≡ true) = and_parts (ltb q p) (is_free conflicts q) h in
     and_from (ltb q (p + 1)) (is_free conflicts q) (lt-ltb q (p + 1) (let l : q < p = ltb-true q p w.0 in omega arith)) w.1
 
-pub waiting_more : (w : Waiting) (conflicts : List (List ℕ)) (count : ℕ → ℕ) (p : ℕ) → is_free conflicts p ≡ true →
+pub waiting_more : (w : List ℕ) (conflicts : List (List ℕ)) (count : ℕ → ℕ) (p : ℕ) → is_free conflicts p ≡ true →
     Filed w (plus (λ q. ltb q p && is_free conflicts q) p) count → Filed w (λ q. ltb q (p + 1) && is_free conflicts q) count
 waiting_more w conflicts count p e f =
     filed_as w (plus (λ q. ltb q p && is_free conflicts q) p) (λ q. ltb q (p + 1) && is_free conflicts q) count count f
@@ -75,7 +74,7 @@ waiting_more w conflicts count p e f =
     ]))
     (λ q h. refl)
 
-pub waiting_same : (w : Waiting) (conflicts : List (List ℕ)) (count : ℕ → ℕ) (p : ℕ) → is_free conflicts p ≡ false →
+pub waiting_same : (w : List ℕ) (conflicts : List (List ℕ)) (count : ℕ → ℕ) (p : ℕ) → is_free conflicts p ≡ false →
     Filed w (λ q. ltb q p && is_free conflicts q) count → Filed w (λ q. ltb q (p + 1) && is_free conflicts q) count
 waiting_same w conflicts count p e f =
     filed_as w (λ q. ltb q p && is_free conflicts q) (λ q. ltb q (p + 1) && is_free conflicts q) count count f

@@ -16,12 +16,17 @@ pub mod Members
 pub mod Counts
 pub mod Families
 pub mod Beginnings
+pub mod Walked
+pub mod Grown
+pub mod Built
 pub mod Gainings
 pub mod Merged
 pub mod UnionRows
+pub mod Sifted
 pub mod Rewritten
 pub mod Replacing
 pub mod Midway
+pub mod Leaves
 pub mod Turns
 pub mod Tidied
 pub mod Runs

@@ -52,6 +52,15 @@ unions_up spent A U up c i =
     let w : Union spent A U c = unions_cases spent A U c i in
     subst Ascending (sym w.is) (joined_ascending (clause_without spent w.from) w.other (up w.other w.with))
 
+-- and do not hold the number where the other clauses do not
+pub unions_apart : (spent : ℕ) (A U : List (List ℕ)) → ((c : List ℕ) → In c U → In spent c → ⊥) → (c : List ℕ) → In c (all_unions spent A U) → In spent c → ⊥
+unions_apart spent A U own c i j =
+    let w : Union spent A U c = unions_cases spent A U c i in
+    elim (joined_cases (clause_without spent w.from) w.other spent (subst (λ z. In spent z) w.is j)) [
+      | inl k ↦ (dropped_parts spent w.from spent k).1 refl
+      | inr k ↦ own w.other w.with k
+    ]
+
 module _ (pool : Interned) (user spent : ℕ) (row others useful : List ℕ)
     (apart : (c : List ℕ) → In c (clauses_at pool row) → In user c → ⊥)
     (u : Useful pool user (IncludesOneOf (apart_from spent (clauses_at pool row))) others useful) where
@@ -190,6 +199,13 @@ module _ (pool : Interned) (user spent row others : ℕ) (is : IsPool pool) (of_
       ap (λ ids. minimal_of (in_row_order (both ids))) is_slice
       ∙ family_minimal pool user spent (ids_at pool row) (ids_at pool others) useful apart (useful_at r o useful e f u) is (is.of_pool row of_row) (is.of_pool others of_others)
       (in_row_order (both useful)) same (ordered_order (both useful))
+
+  -- the useful clauses are among the others
+  pub useful_there : (o useful slice : List ℕ) (Needless : List ℕ → Type 0) → o ≡ ids_at pool others → slice ≡ useful → Useful pool user Needless o useful →
+      (c : List ℕ) → In c (clauses_at pool slice) → In c (row_at pool others)
+  useful_there o useful slice Needless f is_slice u c i =
+      let w : (id : ℕ) × In id slice × (c ≡ clause_at pool id) = In_map_cases (clause_at pool) slice c i in
+      subst (λ z. In z (row_at pool others)) (sym w.2) (In_map (clause_at pool) (ids_at pool others) w.0 (subst (λ z. In w.0 z) f (u.part w.0 (subst (λ z. In w.0 z) is_slice w.1))))
 
   -- the ids of the useful clauses are of the pool
   pub useful_of_pool : (o useful slice : List ℕ) (Needless : List ℕ → Type 0) → o ≡ ids_at pool others → slice ≡ useful → Useful pool user Needless o useful → OfPool pool slice

@@ -24,7 +24,6 @@ use Rattle.clause_flatten.specs.declared.error.FlatError.TheVariants.{Limit, Mem
 use Rattle.clause_flatten.specs.TakingOut.{is_free, is_over}
 use Rattle.clause_flatten.specs.TidyRows.{tidied_table}
 use Rattle.clause_flatten.specs.Waiting.{Filed, IsFirst}
-use Rattle.clause_flatten.specs.declared.waiting.Waiting.{Waiting}
 use Rattle.clause_flatten.proofs.Flat.{goes, next_gone_is, stays_held}
 use Rattle.clause_flatten.proofs.Stages.{core_is_reached_lem, left_bound, same_passing, stays_more}
 use Rattle.clause_flatten.proofs.Tables.{table_length, table_step_lem}
@@ -40,7 +39,7 @@ pub record FlagsTell (n : ℕ) (held : NumSet) (flags : List Bool) : Type 0 wher
   pub same : (q : ℕ) → q < n → flag flags q ≡ held q
 
 -- where a run stands after so many steps
-pub record RunAt (R : Repository) (limit : ℕ) (hold : Bool) (i : ℕ) (start now : Interned) (rows : List ℕ) (used : Holders) (waiting : Waiting) (flags : List Bool) : Type 0 where
+pub record RunAt (R : Repository) (limit : ℕ) (hold : Bool) (i : ℕ) (start now : Interned) (rows : List ℕ) (used : Holders) (waiting : List ℕ) (flags : List Bool) : Type 0 where
   pub table : map (row_at now) rows ≡ rows_over R (remaining_after limit hold R i).left
   pub fit : RowsFit now rows
   pub tidy : RowsTidy now rows
@@ -62,7 +61,7 @@ no_flags zero q = refl
 no_flags (suc n) zero = refl
 no_flags (suc n) (suc q) = no_flags n q
 
-pub run_start : (pool : Interned) (book : Book) (limit : ℕ) (hold : Bool) (rows : List ℕ) (used : Holders) (waiting : Waiting) (flags : List Bool) → IsPool pool → Sound pool book →
+pub run_start : (pool : Interned) (book : Book) (limit : ℕ) (hold : Bool) (rows : List ℕ) (used : Holders) (waiting : List ℕ) (flags : List Bool) → IsPool pool → Sound pool book →
     map (row_at pool) rows ≡ tidied_table (map (row_at pool) book.rows) → RowsFit pool rows → RowsTidy pool rows → TellsRows pool rows used →
     Filed waiting (λ q. ltb q (length book.rows) && is_free book.conflicts q) (length_in (map (row_at pool) rows)) →
     ((p : ℕ) → p < length rows → length_in (map (row_at pool) rows) p ≤ limit) →
@@ -160,7 +159,7 @@ pub record HasEnded (R : Repository) (limit : ℕ) (hold : Bool) (now : Interned
   pub held : filter (flag flags) (numbers (length flags) 0) ≡ held_of limit hold R
   pub within : passes limit hold R ≡ None
 
-module _ (R : Repository) (limit : ℕ) (hold : Bool) (i : ℕ) (start now : Interned) (rows : List ℕ) (used : Holders) (waiting : Waiting) (flags : List Bool)
+module _ (R : Repository) (limit : ℕ) (hold : Bool) (i : ℕ) (start now : Interned) (rows : List ℕ) (used : Holders) (waiting : List ℕ) (flags : List Bool)
     (run : RunAt R limit hold i start now rows used waiting flags) where
   abbrev s : Remaining
   s = remaining_after limit hold R i
@@ -207,7 +206,7 @@ module _ (R : Repository) (limit : ℕ) (hold : Bool) (i : ℕ) (start now : Int
     next_within true f p l = run.within i (omega arith) p l
     next_within false f p l = within_of R limit (without s.left q) (length rows) (table_without q t) gone_table run_size (f refl) p l
 
-    pub run_more : (b : Bool) (new : Interned) (after : List ℕ) (used_after : Holders) (waiting_after : Waiting) (flags_after : List Bool) →
+    pub run_more : (b : Bool) (new : Interned) (after : List ℕ) (used_after : Holders) (waiting_after : List ℕ) (flags_after : List Bool) →
         b ≡ (hold && table_passes limit (table_without q (map (row_at now) rows))) →
         map (row_at new) after ≡ cond b (map (row_at now) rows) (table_without q (map (row_at now) rows)) → RowsFit new after → RowsTidy new after → TellsRows new after used_after → Kept now new →
         (b ≡ false → (p : ℕ) → p < length rows → length_in (table_without q (map (row_at now) rows)) p ≤ limit) →

@@ -6,19 +6,17 @@ use Rattle.std.proofs.lemmas.Bool.{both_ways, cases_Bool, cases_eq, cases_lt, co
 use Rattle.std.proofs.lemmas.List as lists
 use Rattle.clause_pool.specs.Interned.{Interned, IsPool, row_at}
 use Rattle.row_book.specs.Sets.{In, has, here, there}
-use Rattle.row_book.specs.Clauses.{Ascending, InOrder, Inside, apart_from, numbers, in_row_order}
+use Rattle.row_book.specs.Clauses.{InOrder, Inside, apart_from, numbers, in_row_order}
 use Rattle.row_book.specs.Uses.{row_holds, row_id, users_of}
 use Rattle.row_book.specs.Book.{RowsFit, RowsTidy}
 use Rattle.row_book.specs.Flattening.{Passed, passed_by}
-use Rattle.row_book.proofs.Lists.{In_cases, In_has, In_none, any_cases, any_from, any_none, ascending_filter, filter_cases, filter_from, find_not, find_none, has_not, In_at}
+use Rattle.row_book.proofs.Lists.{In_has, any_cases, any_from, any_none, filter_cases, filter_from, find_not, find_none, has_not, In_at}
 use Rattle.row_book.proofs.Clauses.{apart_cases, apart_in, minimal_of_from, minimal_of_parts}
-use Rattle.row_book.proofs.Order.{at_numbers, length_numbers, numbers_from, numbers_parts, order_same, ordered_has, ordered_order, ordered_parts, numbers_ascending}
+use Rattle.row_book.proofs.Order.{at_numbers, length_numbers, numbers_from, numbers_parts, order_same, ordered_has, ordered_order, ordered_parts}
 use Rattle.clause_flatten.specs.Substitution.{table_without, table_passes, length_in, all_unions_for, substituted, table_row}
 use Rattle.clause_flatten.specs.TakingOut.{counted_anew, is_over}
 use Rattle.clause_flatten.specs.Waiting.{Filed, recounted}
-use Rattle.clause_flatten.specs.declared.waiting.Waiting.{Waiting}
 use Rattle.clause_flatten.proofs.Unions.{Comes, replaced_cases, replaced_kept}
-use Rattle.clause_flatten.proofs.Tidied.{same_read}
 use Rattle.clause_flatten.proofs.Turns.{filed_as}
 
 -- a tidy row that does not hold q stays as it is
@@ -53,10 +51,6 @@ module _ (pool : Interned) (rows : List ℕ) (q : ℕ) (l : q < length rows) (us
       let j : In p (numbers (length rows) 0) = (filter_cases (λ p. row_holds pool (row_id rows p) q) (numbers (length rows) 0) p (subst (λ xs. In p xs) same i)).0 in
       let w : (0 ≤ p) × (p < 0 + length rows) = numbers_parts (length rows) 0 p j in
       omega arith
-
-  pub users_ascending : Ascending users
-  users_ascending =
-      subst Ascending (sym same) (ascending_filter (λ p. row_holds pool (row_id rows p) q) (numbers (length rows) 0) (numbers_ascending (length rows) 0))
 
   -- a package that is no user names q in no clause
   not_named : (p : ℕ) → p < length rows → (In p users → ⊥) → (c : List ℕ) → In c (row_at pool (row_id rows p)) → In q c → ⊥
@@ -149,7 +143,7 @@ module _ (pool : Interned) (rows : List ℕ) (q : ℕ) (l : q < length rows) (us
       nowhere p [] g = refl
       nowhere p (x ∷ xs) g = cond-false (p x) (Some x) (find p xs) (g 0 (omega arith)) ∙ nowhere p xs (λ k l. g (suc k) (omega arith))
 
-  pub filed_after : IsPool pool → RowsFit pool rows → RowsTidy pool rows → (w : Waiting) (may : ℕ → Bool) (new : List (List (List ℕ))) → new ≡ table_without q (map (row_at pool) rows) →
+  pub filed_after : IsPool pool → RowsFit pool rows → RowsTidy pool rows → (w : List ℕ) (may : ℕ → Bool) (new : List (List (List ℕ))) → new ≡ table_without q (map (row_at pool) rows) →
       Filed w may (counted_anew (length_in (map (row_at pool) rows)) new users) → Filed w may (length_in (table_without q (map (row_at pool) rows)))
   filed_after is fit tidy w may new d f =
       let t : List (List (List ℕ)) = map (row_at pool) rows in
@@ -201,15 +195,6 @@ none_over t limit n e p l =
     ltb-false limit (length_in t p) (find_none (is_over t limit) (numbers n 0) e p (numbers_from n 0 p zero-le (omega arith)))
 
 -- one more user filed
-before_place : (xs : List ℕ) (i y : ℕ) → Ascending xs → i < length xs → In y (take i xs) → y < get_or xs i 0
-before_place [] i y a l j = absurd (omega arith)
-before_place (x ∷ xs) zero y a l j = absurd (In_none j)
-before_place (x ∷ xs) (suc i) y a l j =
-    elim (In_cases j) [
-      | inl e ↦ let u : x < get_or xs i 0 = a.0 (get_or xs i 0) (In_at xs i 0 (omega arith)) in omega (arith, e)
-      | inr k ↦ before_place xs i y a.1 (omega arith) k
-    ]
-
 or_cond : (a b c : Bool) → (a || cond b true c) ≡ cond b true (a || c)
 or_cond true true c = refl
 or_cond true false c = refl
@@ -227,30 +212,19 @@ has_push (z ∷ zs) y n = ap (λ b. eqb n z || b) (has_push zs y n) ∙ or_cond 
 has_more : (xs : List ℕ) (i n : ℕ) → i < length xs → has (take (i + 1) xs) n ≡ cond (eqb n (get_or xs i 0)) true (has (take i xs) n)
 has_more xs i n l = ap (λ ys. has ys n) (lists.take_more xs i 0 l) ∙ has_push (take i xs) (get_or xs i 0) n
 
-pub file_more : (old new : Waiting) (may : ℕ → Bool) (count : ℕ → ℕ) (t : List (List (List ℕ))) (users counts : List ℕ) (i user was : ℕ) →
-    Ascending users → i < length users → user ≡ get_or users i user → counts ≡ map count users → was ≡ get_or counts i was →
+pub file_more : (old new : List ℕ) (may : ℕ → Bool) (count : ℕ → ℕ) (t : List (List (List ℕ))) (users : List ℕ) (i : ℕ) → i < length users →
     Filed old may (counted_anew count t (take i users)) →
-    ((may : ℕ → Bool) (count : ℕ → ℕ) → Filed old may count → count user ≡ was → Filed new may (recounted count user (length_in t user))) →
+    ((may : ℕ → Bool) (count : ℕ → ℕ) → Filed old may count → Filed new may (recounted count (get_or users i 0) (length_in t (get_or users i 0)))) →
     Filed new may (counted_anew count t (take (i + 1) users))
-file_more old new may count t users counts i user was a l e c w d f =
-    let at : user ≡ get_or users i 0 = e ∙ same_read users i user 0 l in
-    let size : length counts ≡ length users = ap length c ∙ lists.length-map users count in
-    let told : count user ≡ was =
-    ap count at
-    ∙ sym (lists.get_or-map count users i 0 0 l)
-    ∙ ap (λ xs. get_or xs i 0) (sym c)
-    ∙ same_read counts i 0 was (omega (arith, size))
-    ∙ sym w in
-    let new_one : has (take i users) user ≡ false = has_not (take i users) user (λ j. let k : user < get_or users i 0 = before_place users i user a l j in omega (arith, at)) in
-    let before : counted_anew count t (take i users) user ≡ was = cond-false (has (take i users) user) (length_in t user) (count user) new_one ∙ told in
-    filed_as new may may (recounted (counted_anew count t (take i users)) user (length_in t user)) (counted_anew count t (take (i + 1) users))
-    (f may (counted_anew count t (take i users)) d before)
+file_more old new may count t users i l d f =
+    filed_as new may may (recounted (counted_anew count t (take i users)) (get_or users i 0) (length_in t (get_or users i 0))) (counted_anew count t (take (i + 1) users))
+    (f may (counted_anew count t (take i users)) d)
     (λ q. refl)
-    (λ q h. pick q (eqb q user) refl ∙ ap (λ b. cond b (length_in t q) (count q)) (sym (has_more users i q l ∙ ap (λ z. cond (eqb q z) true (has (take i users) q)) (sym at))))
+    (λ q h. pick q (eqb q (get_or users i 0)) refl ∙ ap (λ b. cond b (length_in t q) (count q)) (sym (has_more users i q l)))
   where
-    pick : (q : ℕ) (b : Bool) → eqb q user ≡ b →
-        cond b (length_in t user) (cond (has (take i users) q) (length_in t q) (count q)) ≡ cond (cond b true (has (take i users) q)) (length_in t q) (count q)
-    pick q true u = ap (length_in t) (sym (eqb-true q user u))
+    pick : (q : ℕ) (b : Bool) → eqb q (get_or users i 0) ≡ b →
+        cond b (length_in t (get_or users i 0)) (cond (has (take i users) q) (length_in t q) (count q)) ≡ cond (cond b true (has (take i users) q)) (length_in t q) (count q)
+    pick q true u = ap (length_in t) (sym (eqb-true q (get_or users i 0) u))
     pick q false u = refl
 
 -- a limit that is passed when a package is taken out, where it is held if some row would pass it

@@ -6,21 +6,21 @@ use Rattle.clause_pool.specs.Interned.{Interned, IsIdOf, IsPool, Kept, OfPool, c
 use Rattle.row_book.specs.Sets.{In, has, here}
 use Rattle.row_book.specs.Clauses.{Ascending, InOrder, Inside, apart_from, is_inside, minimal_of, in_row_order}
 use Rattle.row_book.proofs.Books.{row_ascending}
-use Rattle.row_book.proofs.Lists.{In_append_cases, In_append_left, In_append_right, In_cases, In_map, In_map_cases, In_none, filter_cases, filter_from, has_not}
+use Rattle.row_book.proofs.Lists.{In_append_cases, In_append_left, In_append_right, In_cases, In_map, In_map_cases, In_none, ascending_same, filter_cases, filter_from, has_not}
 use Rattle.row_book.proofs.Clauses.{apart_cases, minimal_of_from, minimal_of_parts}
 use Rattle.row_book.proofs.Order.{order_filter, order_same, ordered_has, ordered_order, ordered_parts}
 use Rattle.clause_flatten.specs.Inclusion.{has_shorter}
 use Rattle.clause_flatten.specs.TidyRows.{stays}
-use Rattle.clause_flatten.specs.Families.{HasGained, HasUnions, IsShortest, SameClauses, all_unions}
+use Rattle.clause_flatten.specs.Families.{HasGained, HasUnions, IsNeedless, IsShortest, SameClauses, all_unions}
 use Rattle.clause_flatten.proofs.Families.{At, kept_same, not_shorter, some_shorter, taken_at}
-use Rattle.clause_flatten.proofs.Rewritten.{unions_up}
+use Rattle.clause_flatten.proofs.Rewritten.{unions_apart, unions_up}
 
 -- no union was looked at yet
 pub unions_none : (old kept unions : List (List ℕ)) → InOrder old → HasUnions old kept unions (take 0 unions) old
 unions_none old kept unions o = record {
   order = o;
   stay = λ c i. i;
-  put = λ c i s. absurd (In_none (subst (λ z. In c z) (take_none unions) i));
+  put = λ c i. absurd (In_none (subst (λ z. In c z) (take_none unions) i));
   back = λ c i. inl i;
 }
   where
@@ -42,30 +42,24 @@ module _ (old kept unions : List (List ℕ)) (i : ℕ) (clause : List ℕ) (at :
     | inr e ↦ In_append_right (take i unions) (clause ∷ []) c (subst (λ z. In c (z ∷ [])) e here)
   ])
 
-  -- a union that has a shorter clause within it is left out
-  pub unions_less : (new : List (List ℕ)) → (not (has_shorter kept clause) && not (has_shorter unions clause)) ≡ false
+  -- a union that is not needed is left out
+  pub unions_less : (new : List (List ℕ)) → IsNeedless kept unions clause
       → HasUnions old kept unions (take i unions) new → HasUnions old kept unions (take (i + 1) unions) new
   unions_less new h u = record {
     order = u.order;
     stay = u.stay;
-    put = λ c j s. elim (next_cases c j) [
-      | inl a ↦ u.put c a s
-      | inr e ↦ absurd (both_ways (not (has_shorter kept clause) && not (has_shorter unions clause)) h
-          (and_from (not (has_shorter kept clause)) (not (has_shorter unions clause))
-          (not_from_false (has_shorter kept clause) (subst (λ z. has_shorter kept z ≡ false) e s.by_kept))
-          (not_from_false (has_shorter unions clause) (subst (λ z. has_shorter unions z ≡ false) e s.by_unions))))
+    put = λ c j. elim (next_cases c j) [
+      | inl a ↦ u.put c a
+      | inr e ↦ inr (subst (λ z. IsNeedless kept unions z) (sym e) h)
     ];
     back = λ c j. elim (u.back c j) [ inl a ↦ inl a | inr b ↦ inr (next_in c (inl b.0), b.1) ];
   }
 
   -- and the others are put in
   pub unions_more : (pool next : Interned) (ids more : List ℕ) (id : ℕ) → OfPool pool ids → Kept pool next → IsIdOf next.clauses clause id
-      → HasGained ids more id → InOrder (clauses_at next more) → (not (has_shorter kept clause) && not (has_shorter unions clause)) ≡ true
+      → HasGained ids more id → InOrder (clauses_at next more) → IsShortest kept unions clause
       → HasUnions old kept unions (take i unions) (clauses_at pool ids) → HasUnions old kept unions (take (i + 1) unions) (clauses_at next more)
   unions_more pool next ids more id of_pool k there_is g order h u =
-      let w : (not (has_shorter kept clause) ≡ true) × (not (has_shorter unions clause) ≡ true) = and_parts (not (has_shorter kept clause)) (not (has_shorter unions clause)) h in
-      let a : has_shorter kept clause ≡ false = not-true (has_shorter kept clause) w.0 in
-      let b : has_shorter unions clause ≡ false = not-true (has_shorter unions clause) w.1 in
       let same : clauses_at next ids ≡ clauses_at pool ids = kept_same pool next k ids of_pool in
       let grown : (c : List ℕ) → In c (clauses_at pool ids) → In c (clauses_at next more) = λ c j.
       let w : (x : ℕ) × In x ids × (c ≡ clause_at next x) = In_map_cases (clause_at next) ids c (subst (λ z. In c z) (sym same) j) in
@@ -73,9 +67,9 @@ module _ (old kept unions : List (List ℕ)) (i : ℕ) (clause : List ℕ) (at :
       record {
         order = order;
         stay = λ c j. grown c (u.stay c j);
-        put = λ c j s. elim (next_cases c j) [
-          | inl o ↦ grown c (u.put c o s)
-          | inr e ↦ subst (λ z. In z (clauses_at next more)) (there_is.holds ∙ sym e) (In_map (clause_at next) more id g.one)
+        put = λ c j. elim (next_cases c j) [
+          | inl o ↦ elim (u.put c o) [ inl p ↦ inl (grown c p) | inr n ↦ inr n ]
+          | inr e ↦ inl (subst (λ z. In z (clauses_at next more)) (there_is.holds ∙ sym e) (In_map (clause_at next) more id g.one))
         ];
         back = λ c j.
             let w : (x : ℕ) × In x more × (c ≡ clause_at next x) = In_map_cases (clause_at next) more c j in
@@ -86,7 +80,7 @@ module _ (old kept unions : List (List ℕ)) (i : ℕ) (clause : List ℕ) (at :
               ]
               | inr e ↦
                   let is : c ≡ clause = w.2 ∙ ap (clause_at next) e ∙ there_is.holds in
-                  inr (next_in c (inr is), record { by_kept = subst (λ z. has_shorter kept z ≡ false) (sym is) a; by_unions = subst (λ z. has_shorter unions z ≡ false) (sym is) b })
+                  inr (next_in c (inr is), subst (λ z. IsShortest kept unions z) (sym is) h)
             ];
       }
 
@@ -139,18 +133,24 @@ module _ (spent : ℕ) (A U unions new : List (List ℕ)) (up : (c : List ℕ) �
         let tight : (S : List ℕ) → In S all → Inside S c → Inside c S = λ S j. m.1 S (ordered_has all S j) in
         let no_union : Ascending c → has_shorter unions c ≡ false = λ a. false_from_ne_true (has_shorter unions c) (λ h.
         some_shorter unions unions_rise c a h (λ S j. tight S (In_append_right others (all_unions spent A U) S (same.back S j)))) in
+        let kept_there : In c others → In c new = λ k.
+        let w : In c A × (In spent c → ⊥) = apart_cases spent A c k in
+        made.stay c (filter_from (stays spent unions) A c w.0
+        (and_from (not (has c spent)) (not (has_shorter unions c))
+        (not_from_false (has c spent) (has_not c spent w.1)) (not_from_false (has_shorter unions c) (no_union (up c w.0))))) in
         elim (In_append_cases others (all_unions spent A U) c (ordered_parts all c m.0)) [
-          | inl k ↦
-              let w : In c A × (In spent c → ⊥) = apart_cases spent A c k in
-              made.stay c (filter_from (stays spent unions) A c w.0
-              (and_from (not (has c spent)) (not (has_shorter unions c))
-              (not_from_false (has c spent) (has_not c spent w.1)) (not_from_false (has_shorter unions c) (no_union (up c w.0)))))
+          | inl k ↦ kept_there k
           | inr k ↦
               let j : In c unions = same.there c k in
-              made.put c j (record {
-                by_kept = false_from_ne_true (has_shorter others c) (λ h. some_shorter others others_up c (unions_rise c j) h (λ S n. tight S (In_append_left others (all_unions spent A U) S n)));
-                by_unions = no_union (unions_rise c j);
-              })
+              elim (made.put c j) [
+                | inl p ↦ p
+                | inr n ↦ elim n [
+                  | inl h ↦ absurd (both_ways (has_shorter unions c) (no_union (unions_rise c j)) h)
+                  | inr s ↦
+                      let equal : s.0 ≡ c = ascending_same s.0 c (others_up s.0 s.1) (unions_rise c j) s.2 (tight s.0 (In_append_left others (all_unions spent A U) s.0 s.1) s.2) in
+                      kept_there (subst (λ z. In z others) equal s.1)
+                ]
+              ]
         ]
 
     pub unions_are_minimal : new ≡ minimal_of (in_row_order all)
@@ -177,9 +177,6 @@ module _ (pool : Interned) (spent row : ℕ) (useful : List ℕ) (is : IsPool po
   same_lent made unions ids e s f =
       subst (λ z. SameClauses (all_unions spent clauses usable) z) (sym f) (subst (λ r. SameClauses (all_unions spent (clauses_at pool r) usable) made) e s)
 
-  pub kept_lent : (made kept : List (List ℕ)) (ids : List ℕ) → ids ≡ ids_at pool row → made ≡ apart_from spent (clauses_at pool ids) → kept ≡ made → kept ≡ apart_from spent clauses
-  kept_lent made kept ids e s f = f ∙ s ∙ ap (λ r. apart_from spent (clauses_at pool r)) e
-
   pub beside_lent : (lent made unions : List (List ℕ)) (left ids : List ℕ) → ids ≡ ids_at pool row → clauses_at pool left ≡ filter (stays spent lent) (clauses_at pool ids) → lent ≡ made → unions ≡ made →
       clauses_at pool left ≡ filter (stays spent unions) clauses
   beside_lent lent made unions left ids e s f g = s ∙ ap₂ (λ r u. filter (stays spent u) (clauses_at pool r)) e (f ∙ sym g)
@@ -192,6 +189,9 @@ module _ (pool : Interned) (spent row : ℕ) (useful : List ℕ) (is : IsPool po
 
   pub beside_in_order : (unions left : List (List ℕ)) → left ≡ filter (stays spent unions) clauses → InOrder left
   beside_in_order unions left e = subst InOrder (sym e) (order_filter (stays spent unions) clauses (is.in_order row of_row))
+
+  pub unions_apart_from : ((c : List ℕ) → In c usable → In spent c → ⊥) → (unions : List (List ℕ)) → SameClauses (all_unions spent clauses usable) unions → (c : List ℕ) → In c unions → In spent c → ⊥
+  unions_apart_from own unions same c i = unions_apart spent clauses usable own c (same.back c i)
 
   pub unions_ascend : (unions : List (List ℕ)) → SameClauses (all_unions spent clauses usable) unions → (c : List ℕ) → In c unions → Ascending c
   unions_ascend unions same c i = unions_up spent clauses usable usable_up c (same.back c i)

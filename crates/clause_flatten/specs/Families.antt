@@ -1,5 +1,5 @@
 -- Families of clauses that are built before they are put into the pool.
-use Rattle.std.specs.Prelude.{◌≡◌, ℕ, false, not, cond, List, [], map, ◌⊎◌}
+use Rattle.std.specs.Prelude.{◌≡◌, ℕ, true, false, not, cond, List, [], map, ◌⊎◌}
 use Rattle.std.specs.List.{filter, flat_map}
 use Rattle.clause_pool.specs.Interned.{Interned, clause_at, clauses_at, Kept, OfPool}
 use Rattle.row_book.specs.Sets.{In, has}
@@ -40,11 +40,15 @@ pub record IsShortest (kept unions : List (List ℕ)) (clause : List ℕ) : Type
   pub by_kept : has_shorter kept clause ≡ false
   pub by_unions : has_shorter unions clause ≡ false
 
--- in order the old clauses, and of the unions that were looked at those that have no shorter clause of either family within them
+-- a shorter union or a kept clause is within it
+abbrev pub IsNeedless : List (List ℕ) → List (List ℕ) → List ℕ → Type 0
+IsNeedless kept unions clause = (has_shorter unions clause ≡ true) ⊎ IncludesOneOf kept clause
+
+-- in order the old clauses, and of the unions that were looked at those that are needed: no shorter clause of either family is within them
 pub record HasUnions (old kept unions done new : List (List ℕ)) : Type 0 where
   pub order : InOrder new
   pub stay : (c : List ℕ) → In c old → In c new
-  pub put : (c : List ℕ) → In c done → IsShortest kept unions c → In c new
+  pub put : (c : List ℕ) → In c done → In c new ⊎ IsNeedless kept unions c
   pub back : (c : List ℕ) → In c new → In c old ⊎ (In c done × IsShortest kept unions c)
 
 -- the same clauses in another list

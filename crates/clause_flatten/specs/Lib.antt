@@ -6,10 +6,12 @@ pub use Rattle.row_book.specs.Sound
 pub use Rattle.row_book.specs.Flattening
 pub mod Substitution
 pub mod Inclusion
+pub mod Branches
 pub mod Families
 pub mod Laws
 pub mod FlatLaws
 pub mod Refusals
+pub mod LeastTree
 pub mod Waiting
 pub mod TidyRows
 pub mod TakingOut

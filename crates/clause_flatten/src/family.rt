@@ -2,16 +2,19 @@
 ghost use Rattle.std.specs.Prelude.{◌≡◌, ℕ, ◌<◌, ◌++◌, ◌∷◌, [], List, IfOk, IfSome, OnOk, length};
 ghost use Rattle.std.specs.Bool.{OnTrue};
 ghost use Rattle.std.specs.List.{filter};
+ghost use Rattle.std.specs.Option.{ForSome};
 ghost use Rattle.clause_pool.specs.Interned.{clauses_at, row_at, Kept, OfPool};
 ghost use Rattle.row_book.specs.Sets.{In};
 ghost use Rattle.row_book.specs.Clauses.{apart_from, minimal_of, in_row_order, Ascending, InOrder, Inside};
 ghost use Rattle.clause_flatten.specs.TidyRows.{stays};
+ghost use Rattle.clause_flatten.specs.Branches.{TreeOf};
 ghost use Rattle.clause_flatten.specs.Families.{all_unions, unions_of, HasUnions, HoldsOneOf, IncludesOneOf, SameClauses, Useful};
 
+use crate::family_tree::FamilyTree;
 use crate::inclusion::contains;
+use crate::needed::{is_longer, is_needed, stays, tree_beside, tree_of_many};
 use crate::placing::put_in_place;
 use crate::scratch::Clause;
-use crate::shorter::{has_shorter, is_shortest, stays};
 use clause_pool::{ClauseId, Pool, RowId};
 use std::alloc::{AllocError, Global};
 
@@ -33,8 +36,26 @@ pub(crate) fn useful_of(
     if others.is_empty() {
         return Ok(Vec::new(alloc));
     }
-    let singles = singles_of(alloc, pool, spent, row)?;
+    let singles = singles_for(alloc, pool, spent, row, others.len())?;
     useful_beside(alloc, pool, user, singles.as_slice(), others)
+}
+
+/// The numbers, other than the spent one, that are clauses by themselves; none where there is one other clause, whose
+/// unions are tested anyway.
+fn singles_for(
+    alloc: Global,
+    pool: &Pool,
+    spent: u32,
+    row: &[ClauseId],
+    others: usize,
+) -> Result<Vec<u32>, AllocError>
+    requires { OfPool pool.now row.now }
+    ensures { IfOk result (λ singles. (n : ℕ) → In n singles.items → In (n ∷ []) (apart_from spent (clauses_at pool.now row.now))) }
+{
+    if others == 1 {
+        return Ok(Vec::new(alloc));
+    }
+    singles_of(alloc, pool, spent, row)
 }
 
 /// The numbers, other than the spent one, that are clauses by themselves; they ascend as the row is in order.
@@ -120,6 +141,7 @@ pub(crate) fn intern_with_unions(
 ) -> Result<RowId, AllocError>
     requires row { row < length pool.old.rows }
     requires useful { OfPool pool.old useful.now }
+    requires own { (c : List ℕ) → In c (clauses_at pool.old useful.now) → In spent c → ⊥ }
     requires minimal { (c d : List ℕ) → In c (row_at pool.old row) → In d (row_at pool.old row) → Inside c d → c ≡ d }
     ensures ok { IfOk result (λ id. row_at pool.new id ≡ minimal_of (in_row_order (apart_from spent (row_at pool.old row)
         ++ all_unions spent (row_at pool.old row) (clauses_at pool.old useful.now)))) }
@@ -128,9 +150,10 @@ pub(crate) fn intern_with_unions(
 {
     pool.clause_count();
     let unions = unions_in_order(alloc, pool, spent, pool.row(row), useful)?;
-    let kept = clauses_without(alloc, pool, spent, pool.row(row))?;
-    let mut ids = ids_beside(alloc, pool, spent, pool.row(row), unions.as_slice())?;
-    put_unions(pool, kept.as_slice(), unions.as_slice(), &mut ids)?;
+    let tree = tree_of_many(alloc, unions.as_slice())?;
+    let kept = tree_beside(alloc, pool, spent, pool.row(row), unions.as_slice())?;
+    let mut ids = ids_beside(alloc, pool, spent, pool.row(row), unions.as_slice(), &tree)?;
+    put_unions(pool, spent, row, &kept, unions.as_slice(), &tree, &mut ids)?;
     pool.intern_row(ids.as_slice())
 }
 
@@ -161,42 +184,48 @@ fn ids_beside(
     number: u32,
     row: &[ClauseId],
     unions: &[Clause],
+    tree: &Option<FamilyTree>,
 ) -> Result<Vec<ClauseId>, AllocError>
     requires row { OfPool pool.now row.now }
-    requires in_order { InOrder unions.now }
-    requires ascending { (c : List ℕ) → In c unions.now → Ascending c }
+    requires tree { ForSome tree.now (λ t. TreeOf t unions.now) }
     ensures ok { IfOk result (λ ids. clauses_at pool.now ids.items
         ≡ filter (stays number unions.now) (clauses_at pool.now row.now)) }
     ensures of_pool { IfOk result (λ ids. OfPool pool.now ids.items) }
 {
     let mut ids = Vec::new(alloc);
     for id in row {
-        if stays(number, unions, pool.slice(*id)) {
+        if stays(number, unions, tree, pool.slice(*id)) {
             ids.push(*id)?;
         }
     }
     Ok(ids)
 }
 
-/// Puts the unions that have no shorter one of the kept clauses or of the unions within them into their places.
+/// Puts the unions that are needed beside the clauses of the row without the spent package into their places.
 fn put_unions(
     pool: &mut Pool,
-    kept: &[Clause],
+    spent: u32,
+    row: RowId,
+    kept: &Option<FamilyTree>,
     unions: &[Clause],
+    tree: &Option<FamilyTree>,
     ids: &mut Vec<ClauseId>,
 ) -> Result<(), AllocError>
-    requires kept_in_order { InOrder kept.now }
-    requires kept_ascending { (c : List ℕ) → In c kept.now → Ascending c }
-    requires unions_in_order { InOrder unions.now }
-    requires ascending { (c : List ℕ) → In c unions.now → Ascending c }
+    requires row { row < length pool.old.rows }
+    requires kept { ForSome kept.now (λ t. TreeOf t (apart_from spent (row_at pool.old row))) }
+    requires tree { ForSome tree.now (λ t. TreeOf t unions.now) }
+    requires rising { (c : List ℕ) → In c unions.now → Ascending c }
+    requires apart { (c : List ℕ) → In c unions.now → In spent c → ⊥ }
     requires of_pool { OfPool pool.old ids.old.items }
     requires in_order { InOrder (clauses_at pool.old ids.old.items) }
-    ensures ok { OnOk result (HasUnions (clauses_at pool.old ids.old.items) kept.now unions.now unions.now (clauses_at pool.new ids.new.items)) }
+    ensures ok { OnOk result (HasUnions (clauses_at pool.old ids.old.items) (apart_from spent (row_at pool.old row)) unions.now unions.now (clauses_at pool.new ids.new.items)) }
     ensures of_pool { OnOk result (OfPool pool.new ids.new.items) }
     ensures kept { Kept pool.old pool.new }
 {
+    // What holds of every pool is told by this call alone.
+    pool.clause_count();
     for union in unions {
-        if is_shortest(kept, unions, union.as_slice()) {
+        if is_needed(pool, spent, row, kept, unions, tree, union.as_slice()) {
             let id = pool.intern(union.as_slice())?;
             put_in_place(pool, ids, id)?;
         }
@@ -289,7 +318,8 @@ pub fn intern_minimal(
     ensures of_pool { IfOk result (λ id. id < length pool.new.rows) }
     ensures kept { Kept pool.old pool.new }
 {
-    let ids = minimal_ids(alloc, pool, family)?;
+    let tree = tree_of_many(alloc, family)?;
+    let ids = minimal_ids(alloc, pool, family, &tree)?;
     pool.intern_row(ids.as_slice())
 }
 
@@ -298,16 +328,17 @@ fn minimal_ids(
     alloc: Global,
     pool: &mut Pool,
     family: &[Clause],
+    tree: &Option<FamilyTree>,
 ) -> Result<Vec<ClauseId>, AllocError>
     requires ascending { (c : List ℕ) → In c family.now → Ascending c }
-    requires in_order { InOrder family.now }
+    requires tree { ForSome tree.now (λ t. TreeOf t family.now) }
     ensures ok { IfOk result (λ ids. clauses_at pool.new ids.items ≡ minimal_of family.now) }
     ensures of_pool { IfOk result (λ ids. OfPool pool.new ids.items) }
     ensures kept { Kept pool.old pool.new }
 {
     let mut ids = Vec::new(alloc);
     for clause in family {
-        if !has_shorter(family, clause.as_slice()) {
+        if !is_longer(family, tree, clause.as_slice()) {
             let id = pool.intern(clause.as_slice())?;
             ids.push(id)?;
         }

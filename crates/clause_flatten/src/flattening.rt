@@ -35,10 +35,10 @@ fn waiting_in(
     ensures { IfOk result (λ waiting. Filed waiting (λ q. ltb q (length book.now.rows) && is_free book.now.conflicts q)
         (length_in (map (row_at pool.now) rows.now))) }
 {
-    let mut waiting = Waiting::new(alloc);
+    let mut waiting = Waiting::with_room(alloc, book.size())?;
     for package in 0..book.size() {
         if book.against(package).is_empty() {
-            waiting.put(package, clauses_in(pool, rows, package))?;
+            waiting.put(package, clauses_in(pool, rows, package));
         }
     }
     Ok(waiting)

@@ -6,15 +6,18 @@ ghost use Rattle.row_book.specs.Clauses.{apart_from, in_row_order, minimal_of, A
 ghost use Rattle.row_book.specs.Sets.{In};
 ghost use Rattle.row_book.specs.Holders.{TellsRows};
 ghost use Rattle.row_book.specs.Uses.{users_of};
+ghost use Rattle.std.specs.Option.{ForSome};
+ghost use Rattle.clause_flatten.specs.Branches.{TreeOf};
 ghost use Rattle.clause_flatten.specs.Families.{all_unions};
 ghost use Rattle.clause_flatten.specs.Holding.{clauses_with, most_clauses};
 ghost use Rattle.clause_flatten.specs.Substitution.{length_in, substituted, table_passes, table_without};
 ghost use Rattle.clause_flatten.specs.TakingOut.{is_over};
 
 use crate::family::{add_unions, clauses_without, put_in_order, useful_of};
+use crate::family_tree::FamilyTree;
 use crate::inclusion::contains;
+use crate::needed::{is_longer, tree_of_many};
 use crate::scratch::Clause;
-use crate::shorter::has_shorter;
 use clause_pool::{ClauseId, Pool, RowId};
 use row_book::ClauseTable;
 use std::alloc::{AllocError, Global};
@@ -118,7 +121,7 @@ fn row_would_pass(
     }
     let useful = useful_of(alloc, pool, user, spent, clauses, own)?;
     let family = family_with_unions(alloc, pool, spent, clauses, useful.as_slice())?;
-    Ok(has_more(family.as_slice(), limit))
+    has_more(alloc, family.as_slice(), limit)
 }
 
 /// How many clauses the row can have at most: those without the spent package, and for each other one as many as the
@@ -168,14 +171,24 @@ fn family_with_unions(
 }
 
 /// Whether the family has more minimal clauses than the limit allows; it is looked through no further than that.
-fn has_more(family: &[Clause], limit: u32) -> bool
+fn has_more(alloc: Global, family: &[Clause], limit: u32) -> Result<bool, AllocError>
     requires ascending { (c : List ℕ) → In c family.now → Ascending c }
     requires in_order { InOrder family.now }
+    ensures { IfOk result (λ more. more ≡ ltb limit (length (minimal_of family.now))) }
+{
+    let tree = tree_of_many(alloc, family)?;
+    Ok(has_more_by(family, &tree, limit))
+}
+
+/// The same, where the family's tree is made, if it needs one.
+fn has_more_by(family: &[Clause], tree: &Option<FamilyTree>, limit: u32) -> bool
+    requires ascending { (c : List ℕ) → In c family.now → Ascending c }
+    requires tree { ForSome tree.now (λ t. TreeOf t family.now) }
     ensures { result ≡ ltb limit (length (minimal_of family.now)) }
 {
     let mut count = 0u64;
     for clause in family {
-        if !has_shorter(family, clause.as_slice()) {
+        if !is_longer(family, tree, clause.as_slice()) {
             count += 1;
             if count > u64::from(limit) {
                 return true;

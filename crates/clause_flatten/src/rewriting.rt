@@ -23,6 +23,7 @@ pub(crate) fn rewrite(
     requires row { row < length pool.old.rows }
     requires others { others < length pool.old.rows }
     requires apart { (c : List ℕ) → In c (row_at pool.old row) → In user c → ⊥ }
+    requires own { (c : List ℕ) → In c (row_at pool.old others) → In spent c → ⊥ }
     requires minimal { (c d : List ℕ) → In c (row_at pool.old row) → In d (row_at pool.old row) → Inside c d → c ≡ d }
     ensures ok { IfOk result (λ id. row_at pool.new id
         ≡ in_row_order (substituted user spent (row_at pool.old row) (row_at pool.old others))) }

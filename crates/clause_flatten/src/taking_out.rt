@@ -9,7 +9,7 @@ ghost use Rattle.row_book.specs.Holders.{TellsRows};
 ghost use Rattle.row_book.specs.Flattening.{passed_by};
 ghost use Rattle.clause_flatten.specs.Substitution.{table_without, table_passes, length_in};
 ghost use Rattle.clause_flatten.specs.Refusals.{OnLimit};
-ghost use Rattle.clause_flatten.specs.Waiting.{Filed};
+ghost use Rattle.clause_flatten.specs.Waiting.{never, Filed};
 ghost use Rattle.clause_flatten.specs.TakingOut.{counted_anew, is_over};
 
 use crate::changing::change_rows;
@@ -24,7 +24,8 @@ use std::alloc::{AllocError, Global};
 pub(crate) fn clauses_in(pool: &Pool, rows: &[RowId], package: u32) -> u64
     requires fit { RowsFit pool.now rows.now }
     requires there { «package» < length rows.now }
-    ensures { result ≡ length_in (map (row_at pool.now) rows.now) «package» }
+    ensures count { result ≡ length_in (map (row_at pool.now) rows.now) «package» }
+    ensures few { result < never }
 {
     pool.row(rows[package as usize]).len() as u64
 }
@@ -36,24 +37,6 @@ fn is_over(pool: &Pool, rows: &[RowId], package: u32, limit: u32) -> bool
     ensures { result ≡ is_over (map (row_at pool.now) rows.now) limit «package» }
 {
     u64::from(limit) < clauses_in(pool, rows, package)
-}
-
-/// The numbers of clauses in the rows of the packages.
-fn counts_of(
-    alloc: Global,
-    pool: &Pool,
-    rows: &[RowId],
-    packages: &[u32],
-) -> Result<Vec<u64>, AllocError>
-    requires fit { RowsFit pool.now rows.now }
-    requires packages { (q : ℕ) → In q packages.now → q < length rows.now }
-    ensures { IfOk result (λ counts. counts.items ≡ map (length_in (map (row_at pool.now) rows.now)) packages.now) }
-{
-    let mut counts = Vec::new(alloc);
-    for package in packages {
-        counts.push(clauses_in(pool, rows, *package))?;
-    }
-    Ok(counts)
 }
 
 /// The first of the packages whose row has more clauses than the limit allows.
@@ -84,26 +67,16 @@ pub(crate) fn least_over(pool: &Pool, rows: &[RowId], limit: u32) -> Option<u32>
     None
 }
 
-/// Files the packages, with the numbers of clauses that they had, under those of their rows.
-fn file_users(
-    pool: &Pool,
-    rows: &[RowId],
-    users: &[u32],
-    counts: &[u64],
-    waiting: &mut Waiting,
-) -> Result<(), AllocError>
+/// Files the packages that wait under the numbers of clauses of their rows.
+fn file_users(pool: &Pool, rows: &[RowId], users: &[u32], waiting: &mut Waiting)
     requires fit { RowsFit pool.now rows.now }
     requires users { (q : ℕ) → In q users.now → q < length rows.now }
-    requires ascending { Ascending users.now }
-    requires counts { length counts.now ≡ length users.now }
-    ensures { OnOk result ((may : ℕ → Bool) (count : ℕ → ℕ) → Filed waiting.old may count → counts.now ≡ map count users.now →
-        Filed waiting.new may (counted_anew count (map (row_at pool.now) rows.now) users.now)) }
+    ensures { (may : ℕ → Bool) (count : ℕ → ℕ) → Filed waiting.old may count →
+        Filed waiting.new may (counted_anew count (map (row_at pool.now) rows.now) users.now) }
 {
-    for (place, user) in users.iter().enumerate() {
-        let count = clauses_in(pool, rows, *user);
-        waiting.file_again(*user, counts[place], count)?;
+    for user in users {
+        waiting.file_again(*user, clauses_in(pool, rows, *user));
     }
-    Ok(())
 }
 
 /// The elimination of one package.
@@ -211,7 +184,6 @@ pub(crate) fn take_out(
     // What holds of every pool is told by this call alone.
     pool.clause_count();
     let users = uses.users(alloc, pool, rows, step.package)?;
-    let counts = counts_of(alloc, pool, rows, users.as_slice())?;
     change_rows(alloc, pool, rows, uses, users.as_slice(), step.package)?;
     if let Some(over) = first_over(pool, rows, users.as_slice(), step.limit) {
         return Err(FlatError::Limit {
@@ -220,7 +192,7 @@ pub(crate) fn take_out(
             count: clauses_in(pool, rows, over),
         });
     }
-    file_users(pool, rows, users.as_slice(), counts.as_slice(), waiting)?;
+    file_users(pool, rows, users.as_slice(), waiting);
     // No row holds the package any more. Else each other member of its clauses would go through all their users again.
     uses.forget(step.package);
     Ok(())

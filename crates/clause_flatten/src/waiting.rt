@@ -1,57 +1,109 @@
 //! The packages that wait to be taken out.
-ghost use Rattle.std.specs.Prelude.{◌≡◌, ℕ, Bool, false, IfNone, IfSome, OnOk};
+ghost use Rattle.std.specs.Prelude.{◌≡◌, ◌≢◌, ◌<◌, ◌≤◌, ℕ, Bool, false, IfNone, IfOk, IfSome, length, replicate};
 ghost use Rattle.row_book.specs.Sets.{plus, without};
-ghost use Rattle.clause_flatten.specs.Waiting.{Filed, IsFirst, recounted};
+ghost use Rattle.clause_flatten.specs.Waiting.{never, turn, Filed, IsFirst, recounted};
 
+use crate::least_tree::{depth_for, first_least, put_leaf};
 use std::alloc::{AllocError, Global};
-use std::collections::BTreeSet;
+use std::marker::Model;
 
-/// The packages that wait to be taken out, in their order: the fewest clauses first, and of as many the least package.
+/// What stands at a package that does not wait.
+const NEVER: u64 = u64::MAX;
+
+/// The packages that wait to be taken out, in their order: the fewest clauses first, and of as many the least package. The leaf of
+/// a package has the number of its clauses while it waits.
 #[derive(Drop)]
 pub(crate) struct Waiting {
-    turns: BTreeSet<(u64, u32)>,
+    depth: u32,
+    nodes: Vec<u64>,
+}
+
+impl Model for Waiting {
+    ghost use Rattle.std.specs.Prelude.{List, ℕ, ◌^◌, ◌≤◌, drop};
+    ghost use Rattle.std.specs.Coded.{coded_list, coded_ℕ};
+    ghost use Rattle.clause_flatten.specs.LeastTree.{IsTree};
+
+    ghost Value = { List ℕ };
+
+    ghost coded = { coded_list coded_ℕ };
+
+    ghost view = { λ s. drop (2 ^ s.depth) s.nodes.items };
+
+    ghost invariant = { λ s. IsTree s.nodes.items (2 ^ s.depth) × (s.depth ≤ 32) };
 }
 
 impl Waiting {
-    /// No packages; it takes no memory.
-    pub(crate) fn new(alloc: Global) -> Waiting
-        ensures { (count : ℕ → ℕ) → Filed result (λ q. false) count }
+    /// None of the packages, with room for so many of them.
+    pub(crate) fn with_room(alloc: Global, packages: u32) -> Result<Waiting, AllocError>
+        ensures none { IfOk result (λ waiting. (count : ℕ → ℕ) → Filed waiting (λ q. false) count) }
+        ensures room { IfOk result (λ waiting. packages ≤ length waiting) }
     {
-        Waiting {
-            turns: BTreeSet::new(alloc),
-        }
+        let depth = depth_for(packages);
+        let nodes = none_filed(alloc, 2usize << depth)?;
+        Ok(Waiting { depth, nodes })
     }
 
     /// Puts a package with the number of its clauses to those that wait.
-    pub(crate) fn put(&mut self, package: u32, clauses: u64) -> Result<(), AllocError>
-        ensures { OnOk result ((may : ℕ → Bool) (count : ℕ → ℕ) → Filed self.old may count → count «package» ≡ clauses →
-            Filed self.new (plus may «package») count) }
+    pub(crate) fn put(&mut self, package: u32, clauses: u64)
+        requires room { «package» < length self.old }
+        requires few { clauses < never }
+        ensures filed { (may : ℕ → Bool) (count : ℕ → ℕ) → Filed self.old may count → count «package» ≡ clauses →
+            Filed self.new (plus may «package») count }
+        ensures room { length self.new ≡ length self.old }
     {
-        self.turns.insert((clauses, package))?;
-        Ok(())
+        self.file(package as usize, clauses);
     }
 
-    /// Takes the package whose turn is first from those that wait; it takes no memory.
+    /// Takes the package whose turn is first from those that wait.
     pub(crate) fn take_first(&mut self) -> Option<u32>
         ensures none { IfNone result ((may : ℕ → Bool) (count : ℕ → ℕ) → Filed self.old may count → (q : ℕ) → may q ≡ false) }
         ensures first { IfSome result (λ q. (may : ℕ → Bool) (count : ℕ → ℕ) → Filed self.old may count → IsFirst may count q) }
         ensures taken { IfSome result (λ q. (may : ℕ → Bool) (count : ℕ → ℕ) → Filed self.old may count → Filed self.new (without may q) count) }
     {
-        let (_, package) = self.turns.pop_first()?;
+        let package = first_least(self.nodes.as_slice(), self.depth) as u32;
+        if self.turn(package) == NEVER {
+            return None;
+        }
+        self.file(package as usize, NEVER);
         Some(package)
     }
 
     /// Files a package, if it waits, under another number of clauses.
-    pub(crate) fn file_again(&mut self, package: u32, old: u64, new: u64) -> Result<(), AllocError>
-        ensures { OnOk result ((may : ℕ → Bool) (count : ℕ → ℕ) → Filed self.old may count → count «package» ≡ old →
-            Filed self.new may (recounted count «package» new)) }
+    pub(crate) fn file_again(&mut self, package: u32, clauses: u64)
+        requires few { clauses < never }
+        ensures { (may : ℕ → Bool) (count : ℕ → ℕ) → Filed self.old may count → Filed self.new may (recounted count «package» clauses) }
     {
-        if old == new {
-            return Ok(());
+        if self.turn(package) == NEVER {
+            return;
         }
-        if self.turns.remove(&(old, package)) {
-            self.turns.insert((new, package))?;
-        }
-        Ok(())
+        self.file(package as usize, clauses);
     }
+
+    /// The number under which a package is filed.
+    fn turn(&self, package: u32) -> u64
+        ensures { result ≡ turn self.now «package» }
+    {
+        match self.nodes.get(self.nodes.len() / 2 + package as usize) {
+            Some(clauses) => *clauses,
+            None => NEVER,
+        }
+    }
+
+    /// Files a package under a number.
+    fn file(&mut self, package: usize, clauses: u64)
+        requires { «package» < length self.old }
+        ensures room { length self.new ≡ length self.old }
+        ensures here { turn self.new «package» ≡ clauses }
+        ensures others { (q : ℕ) → q ≢ «package» → turn self.new q ≡ turn self.old q }
+    {
+        let leaves = self.nodes.len() / 2;
+        put_leaf(self.nodes.as_mut_slice(), leaves, leaves + package, clauses);
+    }
+}
+
+/// So many nodes of a tree in which no package waits.
+fn none_filed(alloc: Global, count: usize) -> Result<Vec<u64>, AllocError>
+    ensures { IfOk result (λ nodes. nodes.items ≡ replicate count never) }
+{
+    vec![in alloc; NEVER; count]
 }

@@ -15,6 +15,7 @@ use Rattle.clause_flatten.specs.TidyRows.{tidied_table}
 use Rattle.clause_flatten.specs.Waiting.{Filed}
 use Rattle.clause_flatten.proofs.Running.{first_passed, found_below, on_limit, take_whole}
 use Rattle.clause_flatten.proofs.Runs.{none_over}
+use Rattle.clause_flatten.proofs.Tidied.{kept_kept}
 use Rattle.clause_flatten.proofs.flattening.flatten.Goals as goal
 
 pub clauses_in-requires-clause-there : goal.clauses_in-requires-clause-there
@@ -29,7 +30,7 @@ returns-in-Some-clause-passed c =
     c.clause_count.ensures.sound c.requires.sound
     (c.in_ok-rows.ensures.tidied ∙ ap (λ xs. tidied_table (map (row_at c.args.pool.now) xs)) c.as_slice.ensures)
     (subst (λ xs. find (is_over (map (row_at c.tidy_rows.new.pool) xs) c.args.limit) (numbers (length xs) 0) ≡ Some c.in-Some.«package») c.as_slice-2.ensures.value (sym c.in-Some.ensures))
-    (c.clauses_in.ensures ∙ ap (λ xs. length_in (map (row_at c.tidy_rows.new.pool) xs) c.in-Some.«package») c.as_slice-in-Some.ensures.value)
+    (c.clauses_in.ensures.count ∙ ap (λ xs. length_in (map (row_at c.tidy_rows.new.pool) xs) c.in-Some.«package») c.as_slice-in-Some.ensures.value)
 
 pub take_all_out-requires-clause-sound : goal.take_all_out-requires-clause-sound
 take_all_out-requires-clause-sound c = sound_kept c.args.pool.now c.tidy_rows.new.pool c.clause_count.ensures.sound c.tidy_rows.ensures.kept c.args.book.now c.requires.sound
@@ -98,3 +99,6 @@ returns-clause-held c =
     ∙ ap (λ xs. filter (flag xs) (numbers (length xs) 0)) c.as_slice-5.ensures.value
     ∙ c.in_ok-flags.ensures.held
     ∙ ap (held_of c.args.limit c.args.hold) same
+
+pub returns-clause-kept : goal.returns-clause-kept
+returns-clause-kept c = kept_kept c.args.pool.now c.tidy_rows.new.pool c.take_all_out.new.pool c.tidy_rows.ensures.kept c.take_all_out.ensures.kept

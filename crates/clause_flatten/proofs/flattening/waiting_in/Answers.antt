@@ -1,30 +1,44 @@
-use Rattle.std.proofs.Common.{◌≡◌, ◌&&◌, ◌+◌, true, false, eqb, ltb, sym, ◌∙◌, ap, length, map, subst}
+use Rattle.std.proofs.Common.{◌≡◌, ◌≤◌, ◌&&◌, ◌+◌, true, false, eqb, ltb, sym, ◌∙◌, ap, arith, length, map, subst}
 use Rattle.clause_pool.specs.Interned.{row_at}
 use Rattle.clause_flatten.specs.Substitution.{length_in}
 use Rattle.clause_flatten.specs.TakingOut.{is_free}
 use Rattle.clause_flatten.specs.Waiting.{Filed}
 use Rattle.clause_flatten.proofs.Free.{waiting_more, waiting_none, waiting_same}
 use Rattle.clause_flatten.proofs.flattening.waiting_in.Goals as goal
-use Rattle.clause_flatten.proofs.flattening.waiting_in.Goals.{then-is_empty+in_ok-put, else-is_empty}
+use Rattle.clause_flatten.proofs.flattening.waiting_in.Goals.{then-is_empty, else-is_empty}
 
 pub loop-package-init : goal.loop-package-init
-loop-package-init c =
-    waiting_none c.new-waiting.result c.args.book.now.conflicts (length_in (map (row_at c.args.pool.now) c.args.rows.now))
-    (c.new-waiting.ensures (length_in (map (row_at c.args.pool.now) c.args.rows.now)))
+loop-package-init c = record {
+  room = omega (arith, c.in_ok-waiting.ensures.room);
+  filed =
+      waiting_none c.in_ok-waiting.waiting c.args.book.now.conflicts (length_in (map (row_at c.args.pool.now) c.args.rows.now))
+      (c.in_ok-waiting.ensures.none (length_in (map (row_at c.args.pool.now) c.args.rows.now)));
+}
+
+pub put-requires-clause-room : goal.put-requires-clause-room
+put-requires-clause-room c = omega (arith, c.loop-package.invariant.room)
 
 pub loop-package-preserved : goal.loop-package-preserved
 loop-package-preserved c =
     elim c.if-is_empty.branch [
-      | then-is_empty+in_ok-put w ↦
+      | then-is_empty w ↦
           let free : is_free c.args.book.now.conflicts c.loop-package.«package» ≡ true =
           ap (λ xs. eqb (length xs) 0) (sym c.against.ensures) ∙ sym c.is_empty.ensures ∙ w.if-is_empty.true in
-          subst (λ x. Filed x (λ q. ltb q (c.loop-package.«package» + 1) && is_free c.args.book.now.conflicts q) (length_in (map (row_at c.args.pool.now) c.args.rows.now))) (sym w.waiting-is)
-          (waiting_more w.put.new.self c.args.book.now.conflicts (length_in (map (row_at c.args.pool.now) c.args.rows.now)) c.loop-package.«package» free
-          (w.in_ok-put.ensures (λ q. ltb q c.loop-package.«package» && is_free c.args.book.now.conflicts q) (length_in (map (row_at c.args.pool.now) c.args.rows.now))
-          c.loop-package.invariant (sym w.clauses_in.ensures)))
+          record {
+            room = subst (λ x. length c.args.book.now.rows ≤ length x) (sym w.waiting-is) (subst (λ n. length c.args.book.now.rows ≤ n) (sym w.put.ensures.room) c.loop-package.invariant.room);
+            filed =
+                subst (λ x. Filed x (λ q. ltb q (c.loop-package.«package» + 1) && is_free c.args.book.now.conflicts q) (length_in (map (row_at c.args.pool.now) c.args.rows.now))) (sym w.waiting-is)
+                (waiting_more w.put.new.self c.args.book.now.conflicts (length_in (map (row_at c.args.pool.now) c.args.rows.now)) c.loop-package.«package» free
+                (w.put.ensures.filed (λ q. ltb q c.loop-package.«package» && is_free c.args.book.now.conflicts q) (length_in (map (row_at c.args.pool.now) c.args.rows.now))
+                c.loop-package.invariant.filed (sym w.clauses_in.ensures.count)));
+          }
       | else-is_empty w ↦
           let free : is_free c.args.book.now.conflicts c.loop-package.«package» ≡ false =
           ap (λ xs. eqb (length xs) 0) (sym c.against.ensures) ∙ sym c.is_empty.ensures ∙ w.if-is_empty.false in
-          subst (λ x. Filed x (λ q. ltb q (c.loop-package.«package» + 1) && is_free c.args.book.now.conflicts q) (length_in (map (row_at c.args.pool.now) c.args.rows.now))) (sym w.waiting-is)
-          (waiting_same c.loop-package.waiting c.args.book.now.conflicts (length_in (map (row_at c.args.pool.now) c.args.rows.now)) c.loop-package.«package» free c.loop-package.invariant)
+          record {
+            room = subst (λ x. length c.args.book.now.rows ≤ length x) (sym w.waiting-is) c.loop-package.invariant.room;
+            filed =
+                subst (λ x. Filed x (λ q. ltb q (c.loop-package.«package» + 1) && is_free c.args.book.now.conflicts q) (length_in (map (row_at c.args.pool.now) c.args.rows.now))) (sym w.waiting-is)
+                (waiting_same c.loop-package.waiting c.args.book.now.conflicts (length_in (map (row_at c.args.pool.now) c.args.rows.now)) c.loop-package.«package» free c.loop-package.invariant.filed);
+          }
     ]

@@ -1,4 +1,4 @@
-use Rattle.std.proofs.Common.{◌&&◌, ltb, map}
+use Rattle.std.proofs.Common.{◌≤◌, ◌&&◌, ltb, length, map}
 use Rattle.clause_pool.specs.Interned.{row_at}
 use Rattle.clause_flatten.specs.Substitution.{length_in}
 use Rattle.clause_flatten.specs.TakingOut.{is_free}
@@ -6,4 +6,7 @@ use Rattle.clause_flatten.specs.Waiting.{Filed}
 use Rattle.clause_flatten.proofs.flattening.waiting_in.Given as goal
 
 abbrev pub invariant-loop-package : goal.invariant-loop-package
-invariant-loop-package l = Filed l.waiting (λ q. ltb q l.«package» && is_free l.book.conflicts q) (length_in (map (row_at l.pool) l.rows))
+invariant-loop-package l = record {
+  room : length l.book.rows ≤ length l.waiting;
+  filed : Filed l.waiting (λ q. ltb q l.«package» && is_free l.book.conflicts q) (length_in (map (row_at l.pool) l.rows));
+}

@@ -1,5 +1,6 @@
 use Rattle.std.proofs.Common.{◌≡◌, ◌≤◌, ◌++◌, ◌∙◌, arith, ap, length, ltb, sym, subst}
 use Rattle.std.proofs.lemmas.Bool.{le-ltb}
+use Rattle.std.proofs.lemmas.Result.{IfOk-weaker}
 use Rattle.clause_pool.specs.Interned.{clauses_at, row_at}
 use Rattle.row_book.specs.Clauses.{apart_from, in_row_order, minimal_of, InOrder}
 use Rattle.row_book.proofs.Order.{ordered_order}
@@ -60,9 +61,12 @@ has_more-requires-clause-in_order c =
 
 pub returns : goal.returns
 returns c =
-    c.has_more.ensures
+    IfOk-weaker c.has_more.result (λ more. more ≡ ltb c.args.limit (length (minimal_of c.as_slice-2.result.now)))
+    (λ more. more ≡ ltb c.args.limit (length (in_row_order (substituted c.args.user c.args.spent (row_at c.args.pool.now c.args.row) (row_at c.args.pool.now c.args.others)))))
+    (λ more e. e
     ∙ ap (λ z. ltb c.args.limit (length z))
     (ap minimal_of (c.as_slice-2.ensures.value ∙ c.in_ok-family.ensures
     ∙ ap (λ ids. in_row_order (apart_from c.args.spent (clauses_at c.args.pool.now ids) ++ all_unions c.args.spent (clauses_at c.args.pool.now ids) (clauses_at c.args.pool.now c.as_slice.result.now))) c.row-clauses.ensures.lent)
     ∙ unions_minimal c.args.pool.now c.args.user c.args.spent c.args.row c.args.others c.clause_count.ensures.sound c.requires.row c.requires.others c.requires.apart
-    c.row-clauses.result.now c.row-own.result.now c.in_ok-useful.useful.items c.as_slice.result.now c.row-clauses.ensures.lent c.row-own.ensures.lent c.as_slice.ensures.value c.in_ok-useful.ensures)
+    c.row-clauses.result.now c.row-own.result.now c.in_ok-useful.useful.items c.as_slice.result.now c.row-clauses.ensures.lent c.row-own.ensures.lent c.as_slice.ensures.value c.in_ok-useful.ensures))
+    c.has_more.ensures

@@ -5,7 +5,7 @@ use Rattle.row_book.specs.Clauses.{apart_from, minimal_of, in_row_order}
 use Rattle.clause_flatten.specs.Families.{IncludesOneOf, all_unions}
 use Rattle.clause_flatten.specs.Substitution.{substituted}
 use Rattle.clause_flatten.proofs.Families.{empty_items}
-use Rattle.clause_flatten.proofs.Rewritten.{row_shortened, unions_minimal, useful_of_pool}
+use Rattle.clause_flatten.proofs.Rewritten.{row_shortened, unions_minimal, useful_of_pool, useful_there}
 use Rattle.clause_flatten.proofs.rewriting.rewrite.Goals as goal
 
 pub returns-then-is_empty-clause-ok : goal.returns-then-is_empty-clause-ok
@@ -23,6 +23,13 @@ intern_with_unions-requires-clause-useful c =
     useful_of_pool c.args.pool.now c.args.user c.args.spent c.args.row c.args.others c.clause_count.ensures.sound c.requires.row c.requires.others c.requires.apart
     c.row-2.result.now c.in_ok-useful.useful.items c.as_slice.result.now (IncludesOneOf (apart_from c.args.spent (clauses_at c.args.pool.now c.row.result.now)))
     c.row-2.ensures.lent c.as_slice.ensures.value c.in_ok-useful.ensures
+
+pub intern_with_unions-requires-clause-own : goal.intern_with_unions-requires-clause-own
+intern_with_unions-requires-clause-own c d i =
+    c.requires.own d
+    (useful_there c.args.pool.now c.args.user c.args.spent c.args.row c.args.others c.clause_count.ensures.sound c.requires.row c.requires.others c.requires.apart
+    c.row-2.result.now c.in_ok-useful.useful.items c.as_slice.result.now (IncludesOneOf (apart_from c.args.spent (clauses_at c.args.pool.now c.row.result.now)))
+    c.row-2.ensures.lent c.as_slice.ensures.value c.in_ok-useful.ensures d i)
 
 pub returns-clause-ok : goal.returns-clause-ok
 returns-clause-ok c =

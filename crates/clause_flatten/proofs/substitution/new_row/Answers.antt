@@ -18,6 +18,11 @@ rewrite-requires-clause-minimal c a b i j f =
     let at : row_id c.args.rows.now c.args.user ≡ c.index-rows-user.result = item_zero c.args.rows.now c.args.user c.index-rows-user.result c.requires.user c.index-rows-user.is in
     c.requires.tidy.minimal c.args.user c.requires.user a b (subst (λ z. In a (row_at c.args.pool.now z)) (sym at) i) (subst (λ z. In b (row_at c.args.pool.now z)) (sym at) j) f
 
+pub rewrite-requires-clause-own : goal.rewrite-requires-clause-own
+rewrite-requires-clause-own c d i =
+    let at : row_id c.args.rows.now c.args.gone ≡ c.index-rows-gone.result = item_zero c.args.rows.now c.args.gone c.index-rows-gone.result c.requires.gone c.index-rows-gone.is in
+    c.requires.tidy.apart c.args.gone c.requires.gone d (subst (λ z. In d (row_at c.args.pool.now z)) (sym at) i)
+
 pub returns-in_err-new-clause-stay : goal.returns-in_err-new-clause-stay
 returns-in_err-new-clause-stay c p l = at_same c.args.pool.now c.rewrite.new.pool c.args.rows.now c.clause_count.ensures.sound c.rewrite.ensures.kept c.requires.fit p l
 

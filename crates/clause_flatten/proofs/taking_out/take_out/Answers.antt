@@ -6,27 +6,22 @@ use Rattle.row_book.proofs.Lists.{find_some}
 use Rattle.clause_flatten.specs.Substitution.{table_without, length_in}
 use Rattle.clause_flatten.specs.TakingOut.{is_over}
 use Rattle.clause_flatten.proofs.Replacing.{none_left}
-use Rattle.clause_flatten.proofs.Runs.{filed_after, none_over, over_all, passed_some, users_ascending, users_below}
+use Rattle.clause_flatten.proofs.Runs.{filed_after, none_over, over_all, passed_some, users_below}
 use Rattle.clause_flatten.proofs.taking_out.take_out.Goals as goal
-
-pub counts_of-requires-clause-packages : goal.counts_of-requires-clause-packages
-counts_of-requires-clause-packages c q i =
-    users_below c.args.pool.now c.args.rows.now c.args.step.«package» c.requires.there c.as_slice.result.now
-    (c.as_slice.ensures.value ∙ c.in_ok-users.ensures c.requires.table) q i
 
 pub first_over-requires-clause-packages : goal.first_over-requires-clause-packages
 first_over-requires-clause-packages c q i =
     let l : q < length c.args.rows.now =
-    users_below c.args.pool.now c.args.rows.now c.args.step.«package» c.requires.there c.as_slice-3.result.now
-    (c.as_slice-3.ensures.value ∙ c.in_ok-users.ensures c.requires.table) q i in
+    users_below c.args.pool.now c.args.rows.now c.args.step.«package» c.requires.there c.as_slice-2.result.now
+    (c.as_slice-2.ensures.value ∙ c.in_ok-users.ensures c.requires.table) q i in
     omega arith
 
 pub clauses_in-requires-clause-there : goal.clauses_in-requires-clause-there
 clauses_in-requires-clause-there c =
     let l : c.in-Some.over < length c.args.rows.now =
-    users_below c.args.pool.now c.args.rows.now c.args.step.«package» c.requires.there c.as_slice-3.result.now
-    (c.as_slice-3.ensures.value ∙ c.in_ok-users.ensures c.requires.table) c.in-Some.over
-    (find_some (is_over (map (row_at c.change_rows.new.pool) c.change_rows.new.rows) c.args.step.limit) c.as_slice-3.result.now c.in-Some.over (sym c.in-Some.ensures)).0 in
+    users_below c.args.pool.now c.args.rows.now c.args.step.«package» c.requires.there c.as_slice-2.result.now
+    (c.as_slice-2.ensures.value ∙ c.in_ok-users.ensures c.requires.table) c.in-Some.over
+    (find_some (is_over (map (row_at c.change_rows.new.pool) c.change_rows.new.rows) c.args.step.limit) c.as_slice-2.result.now c.in-Some.over (sym c.in-Some.ensures)).0 in
     omega arith
 
 pub returns-in-Some-clause-passed : goal.returns-in-Some-clause-passed
@@ -34,49 +29,40 @@ returns-in-Some-clause-passed c =
     let new : List (List (List ℕ)) = table_without c.args.step.«package» (map (row_at c.args.pool.now) c.args.rows.now) in
     let made : map (row_at c.change_rows.new.pool) c.change_rows.new.rows ≡ table_without c.args.step.«package» (map (row_at c.args.pool.now) c.args.rows.now) = c.in_ok-change_rows.ensures.ok in
     passed_some new c.args.step.limit c.args.step.gone c.in-Some.over c.clauses_in.result (numbers (length c.args.rows.now) 0)
-    (over_all c.args.pool.now c.args.rows.now c.args.step.«package» c.requires.there c.as_slice-3.result.now
-    (c.as_slice-3.ensures.value ∙ c.in_ok-users.ensures c.requires.table)
+    (over_all c.args.pool.now c.args.rows.now c.args.step.«package» c.requires.there c.as_slice-2.result.now
+    (c.as_slice-2.ensures.value ∙ c.in_ok-users.ensures c.requires.table)
     c.clause_count.ensures.sound c.requires.fit c.requires.tidy c.args.step.limit c.requires.within
-    ∙ ap (λ t. find (is_over t c.args.step.limit) c.as_slice-3.result.now) (sym made)
+    ∙ ap (λ t. find (is_over t c.args.step.limit) c.as_slice-2.result.now) (sym made)
     ∙ sym c.in-Some.ensures)
-    (c.clauses_in.ensures ∙ ap (λ t. length_in t c.in-Some.over) made)
+    (c.clauses_in.ensures.count ∙ ap (λ t. length_in t c.in-Some.over) made)
 
 pub file_users-requires-clause-users : goal.file_users-requires-clause-users
 file_users-requires-clause-users c q i =
     let l : q < length c.args.rows.now =
-    users_below c.args.pool.now c.args.rows.now c.args.step.«package» c.requires.there c.as_slice-4.result.now
-    (c.as_slice-4.ensures.value ∙ c.in_ok-users.ensures c.requires.table) q i in
+    users_below c.args.pool.now c.args.rows.now c.args.step.«package» c.requires.there c.as_slice-3.result.now
+    (c.as_slice-3.ensures.value ∙ c.in_ok-users.ensures c.requires.table) q i in
     omega arith
-
-pub file_users-requires-clause-ascending : goal.file_users-requires-clause-ascending
-file_users-requires-clause-ascending c =
-    users_ascending c.args.pool.now c.args.rows.now c.args.step.«package» c.requires.there c.as_slice-4.result.now
-    (c.as_slice-4.ensures.value ∙ c.in_ok-users.ensures c.requires.table)
 
 pub returns-clause-within : goal.returns-clause-within
 returns-clause-within c =
     let new : List (List (List ℕ)) = table_without c.args.step.«package» (map (row_at c.args.pool.now) c.args.rows.now) in
     let made : map (row_at c.change_rows.new.pool) c.change_rows.new.rows ≡ table_without c.args.step.«package» (map (row_at c.args.pool.now) c.args.rows.now) = c.in_ok-change_rows.ensures.ok in
     none_over new c.args.step.limit (length c.args.rows.now)
-    (over_all c.args.pool.now c.args.rows.now c.args.step.«package» c.requires.there c.as_slice-3.result.now
-    (c.as_slice-3.ensures.value ∙ c.in_ok-users.ensures c.requires.table)
+    (over_all c.args.pool.now c.args.rows.now c.args.step.«package» c.requires.there c.as_slice-2.result.now
+    (c.as_slice-2.ensures.value ∙ c.in_ok-users.ensures c.requires.table)
     c.clause_count.ensures.sound c.requires.fit c.requires.tidy c.args.step.limit c.requires.within
-    ∙ ap (λ t. find (is_over t c.args.step.limit) c.as_slice-3.result.now) (sym made)
+    ∙ ap (λ t. find (is_over t c.args.step.limit) c.as_slice-2.result.now) (sym made)
     ∙ sym c.in_default.ensures)
 
 pub returns-clause-filed : goal.returns-clause-filed
 returns-clause-filed c may d =
-    let t : List (List (List ℕ)) = map (row_at c.args.pool.now) c.args.rows.now in
-    let counts : c.as_slice-5.result.now ≡ map (length_in (map (row_at c.args.pool.now) c.args.rows.now)) c.as_slice-4.result.now =
-    c.as_slice-5.ensures.value ∙ c.in_ok-counts.ensures
-    ∙ ap (map (length_in (map (row_at c.args.pool.now) c.args.rows.now))) (c.as_slice.ensures.value ∙ sym c.as_slice-4.ensures.value) in
-    filed_after c.args.pool.now c.args.rows.now c.args.step.«package» c.requires.there c.as_slice-4.result.now
-    (c.as_slice-4.ensures.value ∙ c.in_ok-users.ensures c.requires.table)
+    filed_after c.args.pool.now c.args.rows.now c.args.step.«package» c.requires.there c.as_slice-3.result.now
+    (c.as_slice-3.ensures.value ∙ c.in_ok-users.ensures c.requires.table)
     c.clause_count.ensures.sound c.requires.fit c.requires.tidy c.file_users.new.waiting may (map (row_at c.change_rows.new.pool) c.change_rows.new.rows) c.in_ok-change_rows.ensures.ok
-    (c.in_ok-file_users.ensures may (length_in (map (row_at c.args.pool.now) c.args.rows.now)) d counts)
+    (c.file_users.ensures may (length_in (map (row_at c.args.pool.now) c.args.rows.now)) d)
 
 pub change_rows-requires-clause-users : goal.change_rows-requires-clause-users
-change_rows-requires-clause-users c = c.as_slice-2.ensures.value ∙ c.in_ok-users.ensures c.requires.table
+change_rows-requires-clause-users c = c.as_slice.ensures.value ∙ c.in_ok-users.ensures c.requires.table
 
 pub returns-clause-table : goal.returns-clause-table
 returns-clause-table c =

@@ -1,16 +1,17 @@
-use Rattle.std.proofs.Common.{sym}
-use Rattle.clause_flatten.proofs.Turns.{filed_less, first_of_turns}
+use Rattle.std.proofs.Common.{◌^◌, sym, ◌∙◌, subst, arith}
+use Rattle.clause_flatten.specs.LeastTree.{IsFirstLeast}
+use Rattle.clause_flatten.proofs.Turns.{none_waits, first_turn}
 use Rattle.clause_flatten.proofs.waiting.Waiting.take_first.Goals as goal
 
-pub returns-clause-first : goal.returns-clause-first
-returns-clause-first c may count d =
-    first_of_turns c.args.self.now may count c.in_ok-package.package c.in_ok-package.field-0-0
-    c.in_ok-package.ensures.member
-    (λ n q h. c.in_ok-package.ensures.least (n, q) h)
-    d
+pub returns-then-turn-clause-none : goal.returns-then-turn-clause-none
+returns-then-turn-clause-none c =
+    none_waits c.self.inside.nodes.items c.args.self.now (2 ^ c.self.inside.depth) c.first_least-package.result (sym c.self.view_is) c.self.invariant.0
+    (subst (λ xs. IsFirstLeast xs (2 ^ c.self.inside.depth) c.first_least-package.result) c.as_slice.ensures.value c.first_least-package.ensures)
+    (sym c.turn.ensures ∙ c.if-turn.true)
 
-pub returns-clause-taken : goal.returns-clause-taken
-returns-clause-taken c may count d =
-    filed_less c.args.self.now (record { turns = c.pop_first.new.self }) may count c.in_ok-package.package c.in_ok-package.field-0-0
-    (λ n q. c.in_ok-package.ensures.updates.0 (n, q)) d
-    (sym (d.only c.in_ok-package.field-0-0 c.in_ok-package.package c.in_ok-package.ensures.member).1)
+pub returns-clause-first : goal.returns-clause-first
+returns-clause-first c =
+    first_turn c.self.inside.nodes.items c.args.self.now (2 ^ c.self.inside.depth) c.first_least-package.result (sym c.self.view_is) c.self.invariant.0
+    (subst (λ xs. IsFirstLeast xs (2 ^ c.self.inside.depth) c.first_least-package.result) c.as_slice.ensures.value c.first_least-package.ensures)
+    (λ e. c.if-turn.false (c.turn.ensures ∙ e))
+    (omega arith)

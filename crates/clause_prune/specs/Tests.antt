@@ -40,7 +40,3 @@ ids_without ids id = filter (λ other. not (eqb other id)) ids
 -- rows of a pool with a table of conflicts
 abbrev pub repository_in : Interned → List ℕ → List (List ℕ) → Repository
 repository_in pool rows table = record { clauses = map (row_at pool) rows; conflicts = table }
-
--- whether the package has a clause
-abbrev pub has_clause : Repository → ℕ → Bool
-has_clause R m = not (eqb (length (clauses_of R m)) 0)

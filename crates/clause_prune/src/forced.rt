@@ -1,13 +1,16 @@
 //! Whether a clause is hit as soon as the others are.
-ghost use Rattle.std.specs.Prelude.{◌≡◌, ◌<◌, [], ℕ, IfOk, List, filter, length, true};
+ghost use Rattle.std.specs.Prelude.{◌≡◌, ◌<◌, ◌||◌, [], ℕ, IfOk, filter, length, true};
 ghost use Rattle.clause_pool.specs.Interned.{clause_at, clauses_at, OfPool};
-ghost use Rattle.row_book.specs.Sets.{In};
+ghost use Rattle.row_book.specs.Sets.{has, In};
 ghost use Rattle.row_book.specs.Clauses.{Ascending, InOrder};
 ghost use Rattle.row_book.specs.Book.{RowsFit};
 ghost use Rattle.row_book.specs.Repository.{clauses_of};
+ghost use Rattle.row_book.specs.Uses.{IsListOf};
 ghost use Rattle.row_book.specs.Pruning.{is_forced, serves};
-ghost use Rattle.clause_prune.specs.Tests.{has_clause, with_ids};
+ghost use Rattle.clause_prune.specs.Filing.{AsksServing, FiledBelow};
+ghost use Rattle.clause_prune.specs.Tests.{with_ids};
 
+use crate::filing::Filed;
 use clause_pool::{ClauseId, Pool, RowId};
 use row_book::{has_side_within, has_within};
 use std::alloc::{AllocError, Global};
@@ -59,69 +62,27 @@ fn serves(
     has_side_within(pool, other, row, clause)
 }
 
-/// Those of the packages that have a clause; the others see to nothing but what they are members of.
-pub(crate) fn with_clauses(
-    alloc: Global,
-    pool: &Pool,
-    rows: &[RowId],
-    package: u32,
-    left: &[ClauseId],
-    packages: &[u32],
-) -> Result<Vec<u32>, AllocError>
-    requires fit { RowsFit pool.now rows.now }
-    requires inside { «package» < length rows.now }
-    requires packages { (n : ℕ) → In n packages.now → n < length rows.now }
-    requires left { OfPool pool.now left.now }
-    requires order { InOrder (clauses_at pool.now left.now) }
-    ensures { IfOk result (λ some. some.items ≡ filter (has_clause (with_ids pool.now rows.now «package» left.now [])) packages.now) }
-{
-    let mut some = Vec::new(alloc);
-    for other in packages {
-        if has_clause(pool, rows, package, left, *other) {
-            some.push(*other)?;
-        }
-    }
-    Ok(some)
-}
-
-/// Whether the other package has a clause.
-fn has_clause(pool: &Pool, rows: &[RowId], package: u32, left: &[ClauseId], other: u32) -> bool
-    requires fit { RowsFit pool.now rows.now }
-    requires inside { «package» < length rows.now }
-    requires other { other < length rows.now }
-    requires left { OfPool pool.now left.now }
-    requires order { InOrder (clauses_at pool.now left.now) }
-    ensures { result ≡ has_clause (with_ids pool.now rows.now «package» left.now []) other }
-{
-    let row = clauses_of(pool, rows, package, left, other);
-    !row.is_empty()
-}
-
-/// The members of the clause, and those of the other packages that see to it that it is hit, in their order. A package without
-/// clauses need not be asked.
+/// The members of the clause, and those of the packages asked about it that see to it that it is hit, in their order.
 fn serving(
     alloc: Global,
     pool: &Pool,
     rows: &[RowId],
     package: u32,
     left: &[ClauseId],
-    others: &[u32],
+    asked: &[u32],
     clause: &[u32],
 ) -> Result<Vec<u32>, AllocError>
     requires fit { RowsFit pool.now rows.now }
     requires inside { «package» < length rows.now }
-    requires others { (n : ℕ) → In n others.now → n < length rows.now }
+    requires asked { (n : ℕ) → In n asked.now → n < length rows.now }
     requires left { OfPool pool.now left.now }
     requires order { InOrder (clauses_at pool.now left.now) }
     requires clause { Ascending clause.now }
-    ensures ascending { IfOk result (λ serving. Ascending serving.items) }
-    ensures serve { IfOk result (λ serving. (n : ℕ) → In n serving.items → serves (with_ids pool.now rows.now «package» left.now []) clause.now n ≡ true) }
-    ensures own { IfOk result (λ serving. (n : ℕ) → In n clause.now → In n serving.items) }
-    ensures all { IfOk result (λ serving. (n : ℕ) → In n others.now →
-        serves (with_ids pool.now rows.now «package» left.now []) clause.now n ≡ true → In n serving.items) }
+    ensures { IfOk result (λ serving. IsListOf (λ n. has clause.now n
+        || has (filter (serves (with_ids pool.now rows.now «package» left.now []) clause.now) asked.now) n) serving.items) }
 {
     let mut serving = Vec::from_slice(alloc, clause)?;
-    for other in others {
+    for other in asked {
         if serves(pool, rows, package, left, clause, *other) {
             serving.push(*other)?;
         }
@@ -131,30 +92,31 @@ fn serving(
     Ok(serving)
 }
 
-/// Whether the clause is forced among the clauses that are left, where the others are all their members that have clauses: it
-/// is where another one lies within the packages that see to it that the clause is hit.
+/// Whether the clause is forced among the clauses that are left, where each member of these is filed for its clauses: it is
+/// where another one lies within the packages that see to it that the clause is hit.
 pub(crate) fn is_forced(
     alloc: Global,
     pool: &Pool,
     rows: &[RowId],
     package: u32,
     left: &[ClauseId],
-    others: &[u32],
+    filed: &Filed,
     clause: ClauseId,
 ) -> Result<bool, AllocError>
     requires fit { RowsFit pool.now rows.now }
     requires inside { «package» < length rows.now }
     requires left { OfPool pool.now left.now }
     requires order { InOrder (clauses_at pool.now left.now) }
-    requires others { (n : ℕ) → In n others.now → n < length rows.now }
-    requires all { (c : List ℕ) → In c (clauses_at pool.now left.now) → (n : ℕ) → In n c →
-        has_clause (with_ids pool.now rows.now «package» left.now []) n ≡ true → In n others.now }
+    requires below { FiledBelow (length rows.now) filed.now }
+    requires asks { AsksServing (with_ids pool.now rows.now «package» left.now []) (clauses_at pool.now left.now) filed.now (clause_at pool.now clause) }
     requires clause { clause < length pool.now.clauses }
     ensures { IfOk result (λ forced. forced ≡ is_forced (with_ids pool.now rows.now «package» left.now []) «package» (clause_at pool.now clause)) }
 {
     // What holds of every pool is told by this call alone.
     pool.clause_count();
     let numbers = pool.slice(clause);
+    let asked = filed.asked(alloc, numbers)?;
+    let others = asked.as_slice();
     let found = serving(alloc, pool, rows, package, left, others, numbers)?;
     Ok(has_within(pool, left, &Some(clause), found.as_slice()))
 }

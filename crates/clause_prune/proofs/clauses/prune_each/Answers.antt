@@ -7,15 +7,15 @@ use Rattle.row_book.specs.Pruning.{clauses_steps, prune_clauses}
 use Rattle.row_book.specs.Rounds.{IdleStep}
 use Rattle.row_book.specs.Trail.{trail_meaning}
 use Rattle.row_book.proofs.Lists.{In_has, In_map, In_map_cases, any_cases, any_from, filter_cases, filter_from, has_In, item_in}
-use Rattle.clause_prune.specs.Tests.{has_clause, with_ids}
-use Rattle.clause_prune.proofs.Forcing.{had_clause}
+use Rattle.clause_prune.specs.Tests.{with_ids}
+use Rattle.clause_prune.proofs.Files.{asks_left}
 use Rattle.clause_prune.proofs.Left.{Pruning, pruning_more}
 use Rattle.clause_prune.proofs.clauses.prune_each.Goals as goal
 
 pub loop-id-init : goal.loop-id-init
 loop-id-init c =
     subst (λ z. Pruning c.args.pool.now c.args.rows.now c.args.«package» c.args.ids.now z c.args.table.now (trail_meaning c.args.pool.now c.args.idle.now) (trail_meaning c.args.pool.now c.args.idle.now) c.args.ids.now)
-    (sym c.in_ok-left.ensures.items) (record { clauses = refl; part = λ x i. i; order = λ o. o; idle = refl })
+    (sym c.in_ok-left.ensures) (record { clauses = refl; part = λ x i. i; order = λ o. o; idle = refl })
 
 pub prune_one-requires-clause-clause : goal.prune_one-requires-clause-clause
 prune_one-requires-clause-clause c = c.requires.ids c.id-item.result (item_in c.args.ids.now c.loop-id.id-index c.id-item.result (omega arith) c.id-item.is)
@@ -30,32 +30,12 @@ pub prune_one-requires-clause-own : goal.prune_one-requires-clause-own
 prune_one-requires-clause-own c =
     c.requires.members (clause_at c.args.pool.now c.id-item.result) (In_map (clause_at c.args.pool.now) c.args.ids.now c.id-item.result (item_in c.args.ids.now c.loop-id.id-index c.id-item.result (omega arith) c.id-item.is))
 
--- the numbers that the clauses hold are packages, and those that are left hold no others
-pub with_clauses-requires-clause-packages : goal.with_clauses-requires-clause-packages
-with_clauses-requires-clause-packages c = λ n i.
-    let t : some_holds (clauses_at c.args.pool.now c.args.ids.now) n ≡ true = c.in_ok-packages.ensures.held n (subst (λ z. In n z) c.as_slice.ensures.value i) in
-    let w : (d : List ℕ) × In d (clauses_at c.args.pool.now c.args.ids.now) × (has d n ≡ true) = any_cases (λ d. has d n) (clauses_at c.args.pool.now c.args.ids.now) t in
-    c.requires.members w.0 w.1 n (has_In w.0 n w.2)
-
-pub prune_one-requires-clause-others : goal.prune_one-requires-clause-others
-prune_one-requires-clause-others c = λ n i.
-    let j : In n c.as_slice.result.now =
-    (filter_cases (has_clause (with_ids c.args.pool.now c.args.rows.now c.args.«package» c.args.ids.now [])) c.as_slice.result.now n
-    (subst (λ z. In n z) (c.as_slice-others.ensures.value ∙ c.in_ok-some.ensures) i)).0 in
-    let t : some_holds (clauses_at c.args.pool.now c.args.ids.now) n ≡ true = c.in_ok-packages.ensures.held n (subst (λ z. In n z) c.as_slice.ensures.value j) in
-    let w : (d : List ℕ) × In d (clauses_at c.args.pool.now c.args.ids.now) × (has d n ≡ true) = any_cases (λ d. has d n) (clauses_at c.args.pool.now c.args.ids.now) t in
-    c.requires.members w.0 w.1 n (has_In w.0 n w.2)
-
-pub prune_one-requires-clause-all : goal.prune_one-requires-clause-all
-prune_one-requires-clause-all c = λ d i n j h.
-    let w : (id : ℕ) × In id c.loop-id.left.items × (d ≡ clause_at c.args.pool.now id) = In_map_cases (clause_at c.args.pool.now) c.loop-id.left.items d i in
-    let k : In d (clauses_at c.args.pool.now c.args.ids.now) =
-    subst (λ z. In z (clauses_at c.args.pool.now c.args.ids.now)) (sym w.2) (In_map (clause_at c.args.pool.now) c.args.ids.now w.0 (c.loop-id.invariant.part w.0 w.1)) in
-    let member : In n c.as_slice.result.now =
-    subst (λ z. In n z) (sym c.as_slice.ensures.value) (c.in_ok-packages.ensures.all n (any_from (λ e. has e n) (clauses_at c.args.pool.now c.args.ids.now) d k (In_has j))) in
-    subst (λ z. In n z) (sym (c.as_slice-others.ensures.value ∙ c.in_ok-some.ensures))
-    (filter_from (has_clause (with_ids c.args.pool.now c.args.rows.now c.args.«package» c.args.ids.now [])) c.as_slice.result.now n member
-    (had_clause c.args.pool.now c.args.rows.now c.args.«package» c.args.ids.now c.loop-id.left.items c.requires.inside c.loop-id.invariant.part n h))
+-- whoever serves in what is left did so before, and is asked
+pub prune_one-requires-clause-asks : goal.prune_one-requires-clause-asks
+prune_one-requires-clause-asks c =
+    asks_left c.args.pool.now c.args.rows.now c.args.«package» c.args.ids.now c.loop-id.left c.in_ok-filed.filed (clause_at c.args.pool.now c.id-item.result) c.requires.inside c.loop-id.invariant.part
+    (c.in_ok-filed.ensures.asks (clause_at c.args.pool.now c.id-item.result)
+    (In_map (clause_at c.args.pool.now) c.args.ids.now c.id-item.result (item_in c.args.ids.now c.loop-id.id-index c.id-item.result (omega arith) c.id-item.is)))
 
 pub loop-id-preserved : goal.loop-id-preserved
 loop-id-preserved c =
@@ -64,15 +44,15 @@ loop-id-preserved c =
     let l : i < length c.args.ids.now = omega arith in
     let d : drop i c.args.ids.now ≡ id ∷ drop (i + 1) c.args.ids.now =
     drop-cons c.args.ids.now i id l ∙ ap₂ (λ (x : ℕ) (k : ℕ). x ∷ drop k c.args.ids.now) (sym c.id-item.is) (let z : suc i ≡ i + 1 = omega arith in z) in
-    pruning_more c.args.pool.now c.args.rows.now c.args.«package» c.args.ids.now c.loop-id.left.items c.prune_one.new.left.items c.args.table.now (trail_meaning c.args.pool.now c.args.idle.now) (trail_meaning c.args.pool.now c.loop-id.idle) (trail_meaning c.args.pool.now c.prune_one.new.idle)
+    pruning_more c.args.pool.now c.args.rows.now c.args.«package» c.args.ids.now c.loop-id.left c.prune_one.new.left c.args.table.now (trail_meaning c.args.pool.now c.args.idle.now) (trail_meaning c.args.pool.now c.loop-id.idle) (trail_meaning c.args.pool.now c.prune_one.new.idle)
     id (drop (i + 1) c.args.ids.now)
-    (subst (λ z. Pruning c.args.pool.now c.args.rows.now c.args.«package» c.args.ids.now c.loop-id.left.items c.args.table.now (trail_meaning c.args.pool.now c.args.idle.now) (trail_meaning c.args.pool.now c.loop-id.idle) z) d c.loop-id.invariant)
+    (subst (λ z. Pruning c.args.pool.now c.args.rows.now c.args.«package» c.args.ids.now c.loop-id.left c.args.table.now (trail_meaning c.args.pool.now c.args.idle.now) (trail_meaning c.args.pool.now c.loop-id.idle) z) d c.loop-id.invariant)
     c.in_ok-prune_one.ensures.left c.in_ok-prune_one.ensures.part (λ _. c.in_ok-prune_one.ensures.order) c.in_ok-prune_one.ensures.idle
 
 pub returns-clause-left : goal.returns-clause-left
 returns-clause-left c =
     let e : drop c.loop-id.id-index c.args.ids.now ≡ [] = drop_all c.loop-id.id-index c.args.ids.now (let z : length c.args.ids.now ≤ c.loop-id.id-index = omega arith in z) in
-    ap (λ z. prune_clauses (with_ids c.args.pool.now c.args.rows.now c.args.«package» c.loop-id.left.items c.args.table.now) c.args.«package» (clauses_at c.args.pool.now z)) (sym e) ∙ c.loop-id.invariant.clauses
+    ap (λ z. prune_clauses (with_ids c.args.pool.now c.args.rows.now c.args.«package» c.loop-id.left c.args.table.now) c.args.«package» (clauses_at c.args.pool.now z)) (sym e) ∙ c.loop-id.invariant.clauses
 
 pub returns-clause-part : goal.returns-clause-part
 returns-clause-part c = c.loop-id.invariant.part
@@ -84,5 +64,5 @@ pub returns-clause-idle : goal.returns-clause-idle
 returns-clause-idle c =
     let e : drop c.loop-id.id-index c.args.ids.now ≡ [] = drop_all c.loop-id.id-index c.args.ids.now (let z : length c.args.ids.now ≤ c.loop-id.id-index = omega arith in z) in
     sym (append-nil (trail_meaning c.args.pool.now c.loop-id.idle))
-    ∙ ap (λ z. trail_meaning c.args.pool.now c.loop-id.idle ++ map IdleStep (clauses_steps (with_ids c.args.pool.now c.args.rows.now c.args.«package» c.loop-id.left.items c.args.table.now) c.args.«package» (clauses_at c.args.pool.now z))) (sym e)
+    ∙ ap (λ z. trail_meaning c.args.pool.now c.loop-id.idle ++ map IdleStep (clauses_steps (with_ids c.args.pool.now c.args.rows.now c.args.«package» c.loop-id.left c.args.table.now) c.args.«package» (clauses_at c.args.pool.now z))) (sym e)
     ∙ c.loop-id.invariant.idle

@@ -38,8 +38,8 @@ returns-clause-row c =
     let same : c.as_slice-2.result.now ≡ ids_at c.args.pool.now (row_id c.args.rows.now c.args.«package») = (c.as_slice-2.ensures.value ∙ c.in_ok-ids.ensures.items ∙ c.row.ensures.lent ∙ ap (ids_at c.args.pool.now) (c.index-rows-package.is ∙ read_zero c.args.rows.now c.args.«package» c.index-rows-package.result c.requires.inside)) in
     let first : c.as_slice.result.now ≡ ids_at c.args.pool.now (row_id c.args.rows.now c.args.«package») = (c.as_slice.ensures.value ∙ c.in_ok-ids.ensures.items ∙ c.row.ensures.lent ∙ ap (ids_at c.args.pool.now) (c.index-rows-package.is ∙ read_zero c.args.rows.now c.args.«package» c.index-rows-package.result c.requires.inside)) in
     let e : is_dead (repository_in c.args.pool.now c.args.rows.now c.args.table.now) c.args.«package» ≡ false = sym (c.in_ok-dead.ensures ∙ dead_is c.args.pool.now c.args.rows.now c.args.«package» c.as_slice.result.now c.args.table.now c.requires.inside first) ∙ c.if-dead.false in
-    IfOk-weaker c.intern_row.result _ _ (λ id at. live_package c.args.pool.now c.args.rows.now c.args.«package» c.as_slice-2.result.now c.args.table.now c.requires.inside same c.in_ok-left.left.items (row_at c.intern_row.new.self id) e c.in_ok-left.ensures.left
-    (interned_row c.args.pool.now c.intern_row.new.self c.as_slice-3.result.now id c.intern_row.ensures.clauses at ∙ ap (clauses_at c.args.pool.now) c.as_slice-3.ensures.value)) c.intern_row.ensures.ok
+    IfOk-weaker c.intern_row.result _ _ (λ id at. live_package c.args.pool.now c.args.rows.now c.args.«package» c.as_slice-2.result.now c.args.table.now c.requires.inside same c.in_ok-left.left (row_at c.intern_row.new.self id) e c.in_ok-left.ensures.left
+    (interned_row c.args.pool.now c.intern_row.new.self c.as_slice-3.result.now id c.intern_row.ensures.clauses at ∙ ap (clauses_at c.args.pool.now) c.as_slice-3.ensures)) c.intern_row.ensures.ok
 
 pub returns-clause-idle : goal.returns-clause-idle
 returns-clause-idle c =

@@ -1,5 +1,5 @@
 use Rattle.std.proofs.Common.{◌≡◌, ℕ, ◌<◌, get_or}
-use Rattle.clause_prune.proofs.clauses.place_of.Given as goal
+use Rattle.clause_prune.proofs.remaining.place_of.Given as goal
 
 abbrev pub invariant-loop-place : goal.invariant-loop-place
 invariant-loop-place l = (k : ℕ) → k < l.place → get_or l.left k 0 ≡ l.clause → ⊥

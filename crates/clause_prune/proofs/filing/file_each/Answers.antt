@@ -1,0 +1,27 @@
+use Rattle.std.proofs.Common.{ℕ, List, [], ◌<◌, get_or, length, subst, sym, arith}
+use Rattle.std.proofs.lemmas.List.{get_or_default, take_all}
+use Rattle.row_book.specs.Sets.{In}
+use Rattle.row_book.specs.Repository.{clauses_of}
+use Rattle.row_book.proofs.Lists.{In_at}
+use Rattle.clause_prune.specs.Filing.{Filed, IsFiled, Takes, filed_in}
+use Rattle.clause_prune.specs.Tests.{with_ids}
+use Rattle.clause_prune.proofs.Files.{below_still, filed_still, more_items}
+use Rattle.clause_prune.proofs.filing.file_each.Goals as goal
+
+pub clauses_of-row-requires-clause-other : goal.clauses_of-row-requires-clause-other
+clauses_of-row-requires-clause-other c = c.requires.members _ (In_at c.args.members.now c.loop-member.member-index 0 (omega arith))
+
+pub loop-member-preserved : goal.loop-member-preserved
+loop-member-preserved c =
+    let k = c.loop-member.member-index in
+    let x = get_or c.args.members.now k 0 in
+    let mid : Filed = filed_in c.loop-member.always.items c.loop-member.lists in
+    let new : Filed = filed_in c.file_row.new.always.items c.file_row.new.lists in
+    let t : Takes x mid new = c.in_ok-file_row.ensures.takes in
+    record {
+      filed = more_items (λ n. (e : List ℕ) → In e (clauses_of (with_ids c.args.pool.now c.args.rows.now c.args.«package» c.args.left.now []) n) → IsFiled c.args.members.now new e n)
+          c.args.members.now k x c.loop-member-test.true (get_or_default c.args.members.now k 0 x c.loop-member-test.true)
+          (λ n i e j. filed_still c.args.members.now x mid new t e n (c.loop-member.invariant.filed n i e j))
+          (λ e j. c.in_ok-file_row.ensures.filed e (subst (λ cs. In e cs) (sym c.clauses_of-row.ensures.is) j));
+      below = λ b. below_still (length c.args.rows.now) x mid new (c.requires.members x (In_at c.args.members.now k 0 c.loop-member-test.true)) t (c.loop-member.invariant.below b);
+    }

@@ -1,0 +1,11 @@
+use Rattle.std.proofs.Common.{ℕ, take}
+use Rattle.clause_pool.specs.Interned.{clause_at}
+use Rattle.row_book.specs.Sets.{In}
+use Rattle.clause_prune.specs.Filing.{IsFiled, Takes, filed_in}
+use Rattle.clause_prune.proofs.filing.file_row.Given as goal
+
+abbrev pub invariant-loop-id : goal.invariant-loop-id
+invariant-loop-id l = record {
+  filed : (id : ℕ) → In id (take l.id-index l.row) → IsFiled l.members (filed_in l.always.items l.lists) (clause_at l.pool id) l.«package»;
+  takes : Takes l.«package» (filed_in l.fn.always.items l.fn.lists) (filed_in l.always.items l.lists);
+}

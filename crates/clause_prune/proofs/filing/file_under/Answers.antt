@@ -1,0 +1,9 @@
+use Rattle.std.proofs.Common.{◌∙◌, sym}
+use Rattle.std.proofs.lemmas.Bool.{both_ways}
+use Rattle.row_book.specs.Sets.{has}
+use Rattle.row_book.proofs.Lists.{In_has}
+use Rattle.clause_prune.proofs.filing.file_under.Goals as goal
+
+pub returns-then-not-holds_number-clause-filed : goal.returns-then-not-holds_number-clause-filed
+returns-then-not-holds_number-clause-filed c = λ i.
+    absurd (both_ways (has c.args.members.now c.args.number) (sym c.holds_number.ensures ∙ c.if-not-holds_number.true) (In_has i))

@@ -46,7 +46,7 @@ impl ElementReader for NeedReader {
     ghost reading = { alternatives_of };
 
     fn read(&mut self, alloc: Global, element: &[u8]) -> Result<Option<AtomList>, AllocError> {
-        read_alternatives(alloc, element)
+        read_alternatives(alloc, element, 0)
     }
 }
 
@@ -64,9 +64,13 @@ impl ElementReader for ProvideReader {
     }
 }
 
-/// The alternatives between the bars.
+/// The alternatives between the bars, as a list with the mark.
 #[tactic(auto, unfolding(crate::specs::Grammar::alternatives_of))]
-pub(crate) fn read_alternatives(alloc: Global, text: &[u8]) -> Result<Option<AtomList>, AllocError>
+pub(crate) fn read_alternatives(
+    alloc: Global,
+    text: &[u8],
+    mark: usize,
+) -> Result<Option<AtomList>, AllocError>
     ensures { IfOk result (λ atoms. atoms ≡ alternatives_of text.now) }
 {
     // Most elements have one alternative, so the list begins with room for one.
@@ -80,7 +84,7 @@ pub(crate) fn read_alternatives(alloc: Global, text: &[u8]) -> Result<Option<Ato
         atoms.push(atom)?;
         left = behind;
     }
-    Ok(Some(AtomList::of(alloc, atoms)?))
+    Ok(Some(AtomList::marked(alloc, atoms, mark)?))
 }
 
 // An atom whose operator, if it has one, is `=`.

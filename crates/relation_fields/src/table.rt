@@ -81,7 +81,8 @@ impl ElementReader for ElementTable {
         if let Some(said) = self.find(hash, text) {
             return Ok(Some(said.share()?));
         }
-        let Some(said) = read_alternatives(alloc, text)? else {
+        let mark = self.elements.len();
+        let Some(said) = read_alternatives(alloc, text, mark)? else {
             return Ok(None);
         };
         self.put(alloc, hash, text, &said)?;

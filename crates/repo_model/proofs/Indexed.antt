@@ -1,7 +1,6 @@
 -- Items by their numbers: the first of those that pass a test, and one more item.
 use Rattle.std.proofs.Common.{◌≡◌, ℕ, suc, ◌+◌, Bool, true, false, cond, List, [], ◌∷◌, ◌++◌, length, Option, Some, find, not, refl, sym, ap, ◌∙◌, add-zero, zero-add, arith}
 use Rattle.std.specs.Prelude.{◌==◌, slice_get, if◌then◌else◌}
-use Rattle.std.specs.List.{AllByRecursion}
 use Rattle.std.specs.Option.{option_and_then}
 use Rattle.std.specs.Str.{bytes_eq}
 use Rattle.std.proofs.lemmas.Bool.{false≢true, false_from_ne_true}
@@ -30,17 +29,6 @@ module _ {X : Type 0} (test : X → Bool) where
   -- the item of the first number is the first item that passes
   pub first_where : (all : List X) → option_and_then (slice_get all) (slice_get (numbers_where test all) 0) ≡ find test all
   first_where all = first_from all all 0 (λ k. ap (slice_get all) (zero-add k))
-
-  -- two tests that are alike on each item find the same item
-  pub find_alike : (P : X → Type 0) (other : X → Bool) → ((x : X) → P x → test x ≡ other x) → (items : List X) → AllByRecursion P items → find test items ≡ find other items
-  find_alike P other alike [] all = refl
-  find_alike P other alike (x ∷ items) all =
-      ap (λ b. cond b (Some x) (find test items)) (alike x all.0) ∙ ap (λ found. cond (other x) (Some x) found) (find_alike P other alike items all.1)
-
--- one more item
-pub all_push : {X : Type 0} (P : X → Type 0) (items : List X) (x : X) → AllByRecursion P items → P x → AllByRecursion P (items ++ x ∷ [])
-all_push P [] x all own = (own, tt)
-all_push P (y ∷ items) x all own = (all.0, all_push P items x all.1 own)
 
 module _ {X : Type 0} (named : X → Bool) where
   push_step : (items : List X) (b : Bool) → (if b then with_number (length items) (numbers_where named items) else numbers_where named items) ≡ numbers_where named items ++ if_so b (length items)

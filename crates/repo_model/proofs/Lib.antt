@@ -27,3 +27,5 @@ pub mod Naming
 pub mod NameSteps
 pub mod SoundSuite
 pub mod LineCounts
+pub mod IndexSteps
+pub mod Namesakes

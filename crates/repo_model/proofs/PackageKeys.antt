@@ -1,9 +1,7 @@
 -- Packages have one key where they have one name and equal versions.
-use Rattle.std.proofs.Common.{◌≡◌, ℕ, true, List, ◌∷◌, ◌++◌, find, ap, ◌∙◌, arith}
-use Rattle.std.specs.Prelude.{slice_get}
+use Rattle.std.proofs.Common.{◌≡◌, ℕ, true, List, ◌∷◌, ◌++◌, ap, ◌∙◌, arith}
 use Rattle.std.specs.Cmp.{Equal-is}
 use Rattle.std.specs.List.{list_all}
-use Rattle.std.specs.Option.{option_and_then}
 use Rattle.std.proofs.lemmas.Bool.{and_parts, and_from}
 use Rattle.std.proofs.lemmas.Bool.Decides.{nat_tests, same_from_decides}
 use Rattle.std.proofs.lemmas.Slice.Eq.{bytes_eq-Decides}
@@ -13,11 +11,8 @@ use Rattle.deb_version.specs.Order.{version_order}
 use Rattle.deb_version.proofs.EqualKeys.{equal_keys}
 use Rattle.deb_version.proofs.TellingKeys.{no_space, all_weaker, cut_alike, keys_tell}
 use Rattle.relation_fields.specs.declared.packages.PackageFacts.{PackageFacts}
-use Rattle.virtual_provides.specs.declared.numbers.NumbersByName.{NumbersByName}
-use Rattle.virtual_provides.specs.Numbers.{numbers_under}
-use Rattle.repo_model.specs.Building.{package_key, has_key, IsWellFormed, IsIndexOf}
+use Rattle.repo_model.specs.Building.{package_key, has_key, IsWellFormed}
 use Rattle.repo_model.specs.Facts.{is_same_package}
-use Rattle.repo_model.proofs.Indexed.{first_where, find_alike}
 
 name_no_space : (c : ℕ) → is_name_byte c ≡ true → no_space c ≡ true
 name_no_space c h = grind (arith, nat_tests)
@@ -41,11 +36,3 @@ one_package facts other own its e =
 pub has_key-same : (facts other : PackageFacts) → IsWellFormed facts → IsWellFormed other → has_key (package_key facts) other ≡ is_same_package facts other
 has_key-same facts other own its =
     same_from_decides _ _ (bytes_eq-Decides (package_key facts) (package_key other)) (one_key facts other own its, one_package facts other own its)
-
--- the package of the first number under the key of a package is the first that is the same
-pub found_same : (packages : List PackageFacts) (table : NumbersByName) (key : List ℕ) (facts : PackageFacts) → IsIndexOf packages table → IsWellFormed facts → key ≡ package_key facts
-    → option_and_then (slice_get packages) (slice_get (numbers_under table key) 0) ≡ find (is_same_package facts) packages
-found_same packages table key facts index own e =
-    ap (λ numbers. option_and_then (slice_get packages) (slice_get numbers 0)) (index.numbers key) ∙ first_where (has_key key) packages
-    ∙ ap (λ text. find (has_key text) packages) e
-    ∙ find_alike (has_key (package_key facts)) IsWellFormed (is_same_package facts) (λ other its. has_key-same facts other own its) packages index.well_formed

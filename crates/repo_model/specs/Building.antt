@@ -1,14 +1,17 @@
 -- A suite that is being read, stanza by stanza.
-use Rattle.std.specs.Prelude.{◌≡◌, ℕ, Bool, true, List, ◌∷◌, ◌++◌}
-use Rattle.std.specs.Coded.{Coded-set, coded_bool, coded_list, coded_ℕ, ×_prop}
-use Rattle.std.specs.List.{AllByRecursion, AllByRecursion-prop}
+use Rattle.std.specs.Prelude.{◌≡◌, ℕ, ◌<◌, Bool, true, nat_eq, List, [], ◌∷◌, ◌++◌, length, Option, None, Some}
+use Rattle.std.specs.Coded.{Coded-set, coded_list, coded_ℕ, le_prop, ×_prop}
+use Rattle.std.specs.Hash.FoldHasher as folding
+use Rattle.std.specs.HashMap.{get}
 use Rattle.std.specs.Str.{bytes_eq}
 use Rattle.deb_version.specs.Grammar.{is_version}
 use Rattle.deb_version.specs.Keys.{version_key}
 use Rattle.deb_version.specs.Names.{is_name}
 use Rattle.relation_fields.specs.declared.packages.PackageFacts.{PackageFacts}
-use Rattle.virtual_provides.specs.declared.numbers.NumbersByName.{NumbersByName}
-use Rattle.virtual_provides.specs.Numbers.{numbers_under, numbers_where}
+use Rattle.virtual_provides.specs.Bearers.{if_so}
+use Rattle.virtual_provides.specs.Numbers.{numbers_under, numbers_where, passes_at}
+use Rattle.repo_model.specs.Facts.{is_same_package}
+use Rattle.repo_model.specs.declared.index.PackageIndex.{PackageIndex}
 
 -- the name of a package and the key of its version, with a space between them, which stands in no name
 abbrev pub package_key : PackageFacts → List ℕ
@@ -21,18 +24,33 @@ has_key key facts = bytes_eq key (package_key facts)
 abbrev pub IsWellFormed : PackageFacts → Type 0
 IsWellFormed facts = (is_name facts.name ≡ true) × (is_version facts.version ≡ true)
 
--- The packages are well formed, and the table has under each key the numbers of those that have it.
-pub record IsIndexOf (packages : List PackageFacts) (table : NumbersByName) : Type 0 where
-  pub well_formed : AllByRecursion IsWellFormed packages
-  pub numbers : (key : List ℕ) → numbers_under table key ≡ numbers_where (has_key key) packages
+-- a number that is the same for equal names
+unfoldable pub name_hash : List ℕ → ℕ
+name_hash name = folding.finish (folding.write folding.initial name)
+
+-- the first package with a hash, where it is the same as this one, and those that are found under the key of this one
+abbrev pub numbers_same : List PackageFacts → PackageIndex → PackageFacts → ℕ → List ℕ
+numbers_same packages index facts first = if_so (passes_at (is_same_package facts) packages first) first ++ numbers_under index.keys (package_key facts)
+
+-- the packages that are the same as this one are found, by the first package that has the hash of its name
+abbrev pub FindsSame : List PackageFacts → PackageIndex → PackageFacts → Option ℕ → Type 0
+FindsSame packages index facts None = (numbers_where (is_same_package facts) packages ≡ []) × (numbers_under index.keys (package_key facts) ≡ [])
+FindsSame packages index facts (Some first) = (first < length packages) × (numbers_where (is_same_package facts) packages ≡ numbers_same packages index facts first)
+
+-- Of each well-formed package those that are the same are found.
+pub record IsIndexOf (packages : List PackageFacts) (index : PackageIndex) : Type 0 where
+  pub finds : (facts : PackageFacts) → IsWellFormed facts → FindsSame packages index facts (get nat_eq index.firsts (name_hash facts.name))
 
 -- This fact has one proof at most, so that a value may keep it.
-IsWellFormed-prop : (facts : PackageFacts) → IsProp (IsWellFormed facts)
-IsWellFormed-prop facts = ×_prop (Coded-set coded_bool (is_name facts.name) true) (Coded-set coded_bool (is_version facts.version) true)
+numbers-prop : (numbers more : List ℕ) → IsProp (numbers ≡ more)
+numbers-prop numbers more = Coded-set (coded_list coded_ℕ) numbers more
 
-pub IsIndexOf-prop : (packages : List PackageFacts) (table : NumbersByName) → IsProp (IsIndexOf packages table)
-IsIndexOf-prop packages table =
-    let each : IsProp (AllByRecursion IsWellFormed packages) = AllByRecursion-prop IsWellFormed IsWellFormed-prop packages in
-    let numbers : (key : List ℕ) → IsProp (numbers_under table key ≡ numbers_where (has_key key) packages) =
-    λ key. Coded-set (coded_list coded_ℕ) (numbers_under table key) (numbers_where (has_key key) packages) in
-    hlevel (each, numbers)
+FindsSame-prop : (packages : List PackageFacts) (index : PackageIndex) (facts : PackageFacts) (first : Option ℕ) → IsProp (FindsSame packages index facts first)
+FindsSame-prop packages index facts None = ×_prop (numbers-prop _ _) (numbers-prop _ _)
+FindsSame-prop packages index facts (Some first) = ×_prop le_prop (numbers-prop _ _)
+
+pub IsIndexOf-prop : (packages : List PackageFacts) (index : PackageIndex) → IsProp (IsIndexOf packages index)
+IsIndexOf-prop packages index =
+    let finds : (facts : PackageFacts) → IsWellFormed facts → IsProp (FindsSame packages index facts (get nat_eq index.firsts (name_hash facts.name))) =
+    λ facts own. FindsSame-prop packages index facts _ in
+    hlevel finds

@@ -7,17 +7,12 @@ use Rattle.relation_fields.specs.declared.packages.PackageFacts.{PackageFacts}
 use Rattle.relation_fields.specs.declared.relations.Atom.{Atom}
 use Rattle.row_book.specs.Sets.{In}
 use Rattle.row_book.specs.declared.pair.Pair.{Pair}
-use Rattle.virtual_provides.specs.declared.numbers.NumbersByName.{NumbersByName}
-use Rattle.virtual_provides.specs.Numbers.{numbers_under, numbers_where}
+use Rattle.virtual_provides.specs.Numbers.{numbers_where}
 use Rattle.repo_model.specs.Meeting.{meeting}
 use Rattle.repo_model.specs.Stanzas.{stanza_at}
 
 abbrev pub is_named : List ℕ → PackageFacts → Bool
 is_named name facts = bytes_eq name facts.name
-
--- the table has under each name the numbers of the packages of that name
-abbrev pub HasNames : List PackageFacts → NumbersByName → Type 0
-HasNames packages table = (name : List ℕ) → numbers_under table name ≡ numbers_where (is_named name) packages
 
 -- the pair of two packages
 abbrev pub pair_of : ℕ → ℕ → Pair

@@ -11,8 +11,6 @@ use crate::clauses::element_clause;
 use clause_pool::{ClauseId, Pool};
 use relation_fields::{Atom, Home, PackageFacts};
 use std::alloc::{AllocError, Global};
-use std::collections::HashMap;
-use std::hash::{FoldHasher, Hasher};
 use virtual_provides::NameTable;
 
 /// Where an element stands: the number of its package, and its place among the needs of this package.
@@ -29,12 +27,12 @@ pub(crate) struct KnownClause {
     pub(crate) id: ClauseId,
 }
 
-/// Elements whose clauses were made. Under the hash of an element is the last one that has this hash, and what is found
-/// there is compared.
+/// Elements whose clauses were made. Under the mark of an element is the place of the last one that has this mark, and what
+/// is found there is compared.
 #[derive(Drop)]
 pub(crate) struct KnownClauses {
     pub(crate) entries: Vec<KnownClause>,
-    pub(crate) places: HashMap<u64, usize>,
+    pub(crate) places: Vec<usize>,
 }
 
 impl KnownClauses {
@@ -44,21 +42,21 @@ impl KnownClauses {
     {
         KnownClauses {
             entries: Vec::new(alloc),
-            places: HashMap::new(alloc),
+            places: Vec::new(alloc),
         }
     }
 
-    /// The id of the clause of an element with this hash, where it is known.
+    /// The id of the clause of an element with this mark, where it is known.
     #[tactic(auto, using(crate::proofs::KnownIds::known_at))]
     pub(crate) fn find(
         &self,
         packages: &[PackageFacts],
-        hash: u64,
+        mark: usize,
         element: &[Atom],
     ) -> Option<ClauseId>
         ensures { IfSome result (IsKnown packages.now self.now element.now) }
     {
-        let place = *self.places.get(&hash)?;
+        let place = *self.places.get(mark)?;
         if place >= self.entries.len() {
             return None;
         }
@@ -71,15 +69,25 @@ impl KnownClauses {
         }
     }
 
-    /// Puts in the id of the clause of an element with this hash.
-    pub(crate) fn put(&mut self, hash: u64, at: NeedPlace, id: ClauseId) -> Result<(), AllocError>
+    /// Puts in the id of the clause of an element with this mark.
+    pub(crate) fn put(&mut self, mark: usize, at: NeedPlace, id: ClauseId) -> Result<(), AllocError>
         ensures { OnOk result (self.new.entries.items ≡ self.old.entries.items ++ entry_of at id ∷ []) }
     {
         let place = self.entries.len();
         self.entries.push(KnownClause { at, id })?;
-        self.places.insert(hash, place)?;
-        Ok(())
+        put_place(&mut self.places, mark, place)
     }
+}
+
+// Puts a place under the mark. A mark that has none has one behind all places.
+fn put_place(places: &mut Vec<usize>, mark: usize, place: usize) -> Result<(), AllocError> {
+    for _ in places.len()..=mark {
+        places.push(usize::MAX)?;
+    }
+    if let Some(under) = places.get_mut(mark) {
+        *under = place;
+    }
+    Ok(())
 }
 
 // The element at a place, where there is one.
@@ -91,7 +99,8 @@ fn element_at(packages: &[PackageFacts], at: NeedPlace) -> Option<&[Atom]>
     Some(element.as_slice())
 }
 
-/// The id of the clause of an element. The clause is made and put into the pool where the element is not known yet.
+/// The id of the clause of an element with this mark. The clause is made and put into the pool where the element is not
+/// known yet.
 pub(crate) fn clause_id(
     alloc: Global,
     pool: &mut Pool,
@@ -100,6 +109,7 @@ pub(crate) fn clause_id(
     packages: &[PackageFacts],
     home: &Home,
     at: NeedPlace,
+    mark: usize,
     element: &[Atom],
 ) -> Result<ClauseId, AllocError>
     requires built { IsBuiltFrom packages.now names.now }
@@ -111,24 +121,11 @@ pub(crate) fn clause_id(
     ensures kept { Kept pool.old pool.new }
     ensures known { OnOk result (AreKnown home.now packages.now pool.new.clauses known.new) }
 {
-    let hash = hash_of(element);
-    if let Some(id) = known.find(packages, hash, element) {
+    if let Some(id) = known.find(packages, mark, element) {
         return Ok(id);
     }
     let clause = element_clause(alloc, names, packages, home, element)?;
     let id = pool.intern(&clause)?;
-    known.put(hash, at, id)?;
+    known.put(mark, at, id)?;
     Ok(id)
-}
-
-// A hash of the names and versions of an element; what is found by it is compared, so no clause tells it.
-fn hash_of(element: &[Atom]) -> u64 {
-    let mut hasher = FoldHasher::default();
-    for atom in element {
-        hasher.write(atom.name.as_slice());
-        if let Some(bound) = &atom.bound {
-            hasher.write(bound.version.text());
-        }
-    }
-    hasher.finish()
 }

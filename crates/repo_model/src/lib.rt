@@ -11,6 +11,7 @@ pub mod fault;
 pub mod feed;
 mod fields;
 pub mod goals;
+mod index;
 mod known;
 mod laws;
 pub mod named;

@@ -1,14 +1,15 @@
 //! The pairs of packages that conflict.
-ghost use Rattle.std.specs.Prelude.{◌≡◌, ◌≤◌, ◌<◌, ℕ, IfOk, OnOk, length};
+ghost use Rattle.std.specs.Prelude.{◌≡◌, ◌≤◌, ◌<◌, ℕ, IfOk, OnOk, filter, length, take};
 ghost use Rattle.row_book.specs.Book.{are_paired, PairsFit};
 ghost use Rattle.virtual_provides.specs.Bearers.{IsBuiltFrom};
-ghost use Rattle.repo_model.specs.Pairs.{pair_of, Adds, IsAgainst, IsPairWith};
+ghost use Rattle.virtual_provides.specs.Numbers.{numbers_where, passes_at};
+ghost use Rattle.repo_model.specs.Pairs.{is_named, pair_of, Adds, IsAgainst, IsPairWith};
 ghost use Rattle.repo_model.specs.Repository.{in_conflict};
 
 use relation_fields::{Atom, Home, PackageFacts};
 use row_book::Pair;
 use std::alloc::{AllocError, Global};
-use virtual_provides::{NameTable, NumbersByName};
+use virtual_provides::NameTable;
 
 /// The pairs of packages that conflict; a pair may stand twice. Only packages under one name are put together, and a
 /// package with those that meet one of its conflicts.
@@ -25,15 +26,57 @@ pub(crate) fn conflict_pairs(
         are_paired pairs.items p q ≡ in_conflict home.now packages.now p q) }
 {
     let mut pairs = Vec::new(alloc);
-    let mut namesakes = NumbersByName::new(alloc);
     for (place, facts) in packages.iter().enumerate() {
         let number = place as u32;
-        push_pairs(&mut pairs, number, namesakes.numbers(facts.name.as_slice()))?;
-        namesakes.put(facts.name.as_slice(), number)?;
+        let namesakes = earlier_named(alloc, names, packages, place, facts.name.as_slice())?;
+        push_pairs(&mut pairs, number, &namesakes)?;
         let against = facts.against.as_slice();
         push_against(alloc, &mut pairs, names, packages, home, number, against)?;
     }
     Ok(pairs)
+}
+
+// The numbers of the packages of a name among the first ones.
+fn earlier_named(
+    alloc: Global,
+    names: &NameTable,
+    packages: &[PackageFacts],
+    count: usize,
+    name: &[u8],
+) -> Result<Vec<u32>, AllocError>
+    requires built { IsBuiltFrom packages.now names.now }
+    requires count { count ≤ length packages.now }
+    ensures { IfOk result (λ found. found.items ≡ numbers_where (is_named name.now) (take count packages.now)) }
+{
+    named_among(alloc, &packages[..count], names.bearers(name), name)
+}
+
+// Those of the numbers whose packages have the name.
+fn named_among(
+    alloc: Global,
+    packages: &[PackageFacts],
+    numbers: &[u32],
+    name: &[u8],
+) -> Result<Vec<u32>, AllocError>
+    ensures { IfOk result (λ found. found.items ≡ filter (passes_at (is_named name.now) packages.now) numbers.now) }
+{
+    let mut found = Vec::new(alloc);
+    for number in numbers {
+        if is_named_at(packages, *number, name) {
+            found.push(*number)?;
+        }
+    }
+    Ok(found)
+}
+
+// Whether there is a package of that number, and it has the name.
+fn is_named_at(packages: &[PackageFacts], number: u32, name: &[u8]) -> bool
+    ensures { result ≡ passes_at (is_named name.now) packages.now number }
+{
+    match packages.get(number as usize) {
+        Some(facts) => name == facts.name.as_slice(),
+        None => false,
+    }
 }
 
 // Puts in the pairs of the package and those that meet one of the atoms.

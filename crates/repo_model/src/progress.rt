@@ -17,7 +17,7 @@ pub(crate) struct Progress {
     pub(crate) pending: Vec<u8>,
     ghost counted: { 1 ≤ line },
     ghost few: { length building.packages ≤ 200000 },
-    ghost indexed: { IsIndexOf building.packages building.keys } by { IsIndexOf-prop building.packages building.keys },
+    ghost indexed: { IsIndexOf building.packages building.index } by { IsIndexOf-prop building.packages building.index },
 }
 
 impl Progress {

@@ -34,11 +34,11 @@ pub(crate) fn read_behind(
     requires short { length part.now ≤ 1073741824 }
     requires place { IsPlace part.now (record { offset = 0; line = line }) }
     requires few { length front.packages ≤ 200000 }
-    requires indexed { IsIndexOf front.packages front.keys }
+    requires indexed { IsIndexOf front.packages front.index }
     ensures refused { IfErr result (λ fault. (text : List ℕ) → IsFront front line text → Refuses fault (first_fault (text ++ part.now))) }
     ensures suite { IfOk result (λ read. (text : List ℕ) → IsFront front line text → IsSuiteOf (text ++ part.now) read.building.packages read.building.home.name) }
     ensures few { IfOk result (λ read. length read.building.packages ≤ 200000) }
-    ensures indexed { IfOk result (λ read. IsIndexOf read.building.packages read.building.keys) }
+    ensures indexed { IfOk result (λ read. IsIndexOf read.building.packages read.building.index) }
     ensures counted { IfOk result (λ read. read.line ≡ line + count_by is_line_feed part.now) }
 {
     let mut building = front;

@@ -91,7 +91,8 @@ fn intern_clauses(
             number,
             place: left,
         };
-        let id = clause_id(alloc, pool, known, names, packages, home, at, element)?;
+        let mark = elements[left].mark();
+        let id = clause_id(alloc, pool, known, names, packages, home, at, mark, element)?;
         place(pool, &mut ids, id, pool.slice(id))?;
     }
     Ok(ids)

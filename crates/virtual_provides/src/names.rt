@@ -2,6 +2,7 @@
 ghost use Rattle.std.specs.Prelude.{◌≡◌, ◌<◌, ◌++◌, List, ℕ, true, false, filter, length, IfOk, OnOk};
 ghost use Rattle.deb_version.specs.Grammar.{is_version};
 ghost use Rattle.relation_fields.specs.Meeting.{meets};
+ghost use Rattle.relation_fields.specs.declared.packages.PackageFacts.{PackageFacts};
 ghost use Rattle.virtual_provides.specs.Numbers.{ends_in, numbers_under, numbers_where, passes_at};
 ghost use Rattle.virtual_provides.specs.Bearers.{bears, if_so, HasBearers, IsBuiltFrom};
 ghost use Rattle.virtual_provides.specs.Exact.{exact_key};
@@ -29,6 +30,13 @@ impl NameTable {
         let bearers = all_bearers(alloc, packages)?;
         let exact = exact_bearers(alloc, &bearers, packages)?;
         Ok(NameTable { bearers, exact })
+    }
+
+    /// Lends the numbers of the packages that have or provide a name, ascending, each once; it takes no memory.
+    pub fn bearers(&self, name: &[u8]) -> &[u32]
+        ensures { (packages : List PackageFacts) → IsBuiltFrom packages self.now → result.now ≡ numbers_where (bears name.now) packages }
+    {
+        self.bearers.numbers(name)
     }
 
     /// The numbers of the packages that meet the atom, ascending, each once; it fails only where no memory is found.
@@ -77,7 +85,7 @@ fn all_bearers(alloc: Global, packages: &[PackageFacts]) -> Result<NumbersByName
     requires { length packages.now < 4294967295 }
     ensures { IfOk result (HasBearers packages.now) }
 {
-    let mut bearers = NumbersByName::new(alloc);
+    let mut bearers = NumbersByName::with_capacity(alloc, packages.len())?;
     for (number, package) in packages.iter().enumerate() {
         put_package(&mut bearers, number as u32, package)?;
     }

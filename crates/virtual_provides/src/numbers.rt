@@ -42,6 +42,14 @@ impl NumbersByName {
         }
     }
 
+    /// No name has a number, and there is room for so many names.
+    pub fn with_capacity(alloc: Global, names: usize) -> Result<Self, AllocError>
+        ensures { IfOk result HasNone }
+    {
+        let lists = IndexMap::with_capacity(alloc, names)?;
+        Ok(NumbersByName { lists })
+    }
+
     /// Puts a number behind those of a name, unless it is the last of these already; where no memory is found, each name
     /// has the numbers that it had.
     pub fn put(&mut self, name: &[u8], number: u32) -> Result<(), AllocError>

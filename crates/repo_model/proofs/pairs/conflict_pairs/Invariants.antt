@@ -1,9 +1,6 @@
-use Rattle.std.proofs.Common.{[], take}
-use Rattle.repo_model.specs.Pairs.{Adds, HasNames, IsFound}
+use Rattle.std.proofs.Common.{[]}
+use Rattle.repo_model.specs.Pairs.{Adds, IsFound}
 use Rattle.repo_model.proofs.pairs.conflict_pairs.Given as goal
 
 abbrev pub invariant-loop-place : goal.invariant-loop-place
-invariant-loop-place l = record {
-  pairs : Adds (IsFound l.home l.packages l.place) [] l.pairs.items;
-  namesakes : HasNames (take l.place l.packages) l.namesakes;
-}
+invariant-loop-place l = Adds (IsFound l.home l.packages l.place) [] l.pairs.items

@@ -14,7 +14,7 @@ invariant-loop-building l = record {
   place : IsPlace l.part l.at;
   counted : l.at.line ≡ l.fn.line + count_by is_line_feed (take l.at.offset l.part);
   few : length l.building.packages ≤ 200000;
-  indexed : IsIndexOf l.building.packages l.building.keys;
+  indexed : IsIndexOf l.building.packages l.building.index;
   read : (text : List ℕ) → IsFront l.fn.front l.fn.line text → IsRead (readings (text ++ l.part)) (readings_at l.part l.at) l.building.packages l.building.home.name;
 }
 

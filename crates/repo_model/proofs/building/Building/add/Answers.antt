@@ -1,47 +1,35 @@
 use Rattle.std.proofs.Common.{◌∙◌, length, sym, ap, subst, refl}
-use Rattle.std.specs.Prelude.{if◌then◌else◌}
-use Rattle.std.specs.List.{AllByRecursion}
-use Rattle.std.specs.Str.{bytes_eq}
 use Rattle.std.proofs.lemmas.Result.{err_from_is_err_and}
-use Rattle.virtual_provides.specs.Numbers.{numbers_under, with_number}
-use Rattle.repo_model.specs.Building.{has_key, IsWellFormed}
+use Rattle.repo_model.specs.Building.{IsIndexOf}
 use Rattle.repo_model.specs.Refusals.{Refuses}
 use Rattle.repo_model.proofs.Refusing.{refuses_first, refuses_behind, none_behind, duplicate_is}
-use Rattle.repo_model.proofs.Indexed.{all_push, numbers_where-push}
 use Rattle.repo_model.proofs.WellFormed.{facts_well_formed}
 use Rattle.repo_model.proofs.building.Building.add.Goals as goal
 
 pub returns-in_err-check_new-clause-fault : goal.returns-in_err-check_new-clause-fault
 returns-in_err-check_new-clause-fault c =
     let p = err_from_is_err_and c.from_residual-in_err-check_new.result c.from_residual-in_err-check_new.ensures.1 in
-    let same = duplicate_is c.args.self.now.packages c.as_slice.result.now c.args.stanza.now c.in_ok-facts.facts c.as_slice.ensures c.in_ok-facts.ensures.1 in
+    let same = duplicate_is c.args.self.now.packages c.as_slice-2.result.now c.args.stanza.now c.in_ok-facts.facts c.as_slice-2.ensures c.in_ok-facts.ensures.1 in
     rw (p.1, p.2) (refuses_behind _ _ _ c.in_ok-facts.ensures.0 (refuses_first _ _ _ (subst (Refuses c.in_err-check_new.field-0.0) same c.in_err-check_new.ensures)))
 
 pub returns-in_err-check_home-clause-fault : goal.returns-in_err-check_home-clause-fault
 returns-in_err-check_home-clause-fault c =
     let p = err_from_is_err_and c.from_residual-in_err-check_home.result c.from_residual-in_err-check_home.ensures.1 in
-    let new = sym (duplicate_is c.args.self.now.packages c.as_slice.result.now c.args.stanza.now c.in_ok-facts.facts c.as_slice.ensures c.in_ok-facts.ensures.1) ∙ c.in_ok-check_new.ensures.0 in
+    let new = sym (duplicate_is c.args.self.now.packages c.as_slice-2.result.now c.args.stanza.now c.in_ok-facts.facts c.as_slice-2.ensures c.in_ok-facts.ensures.1) ∙ c.in_ok-check_new.ensures.0 in
     rw (p.1, p.2) (refuses_behind _ _ _ c.in_ok-facts.ensures.0 (refuses_behind _ _ _ new (refuses_first _ _ _ c.in_err-check_home.ensures)))
 
 pub returns-clause-fault : goal.returns-clause-fault
 returns-clause-fault c =
-    let new = sym (duplicate_is c.args.self.now.packages c.as_slice.result.now c.args.stanza.now c.in_ok-facts.facts c.as_slice.ensures c.in_ok-facts.ensures.1) ∙ c.in_ok-check_new.ensures.0 in
+    let new = sym (duplicate_is c.args.self.now.packages c.as_slice-2.result.now c.args.stanza.now c.in_ok-facts.facts c.as_slice-2.ensures c.in_ok-facts.ensures.1) ∙ c.in_ok-check_new.ensures.0 in
     (none_behind _ _ c.in_ok-facts.ensures.0 (none_behind _ _ new (none_behind _ _ c.in_ok-check_home.ensures.0 refl)), refl)
 
 pub check_new-requires-clause-well_formed : goal.check_new-requires-clause-well_formed
 check_new-requires-clause-well_formed c = facts_well_formed c.args.stanza.now c.in_ok-facts.facts c.in_ok-facts.ensures.0 c.in_ok-facts.ensures.1
 
+pub put-requires-clause-well_formed : goal.put-requires-clause-well_formed
+put-requires-clause-well_formed c = facts_well_formed c.args.stanza.now c.in_ok-facts.facts c.in_ok-facts.ensures.0 c.in_ok-facts.ensures.1
+
 pub returns-clause-indexed : goal.returns-clause-indexed
 returns-clause-indexed c =
-    let facts = c.in_ok-facts.facts in
-    let packages = c.args.self.now.packages in
-    let own = facts_well_formed c.args.stanza.now facts c.in_ok-facts.ensures.0 c.in_ok-facts.ensures.1 in
-    record {
-      well_formed = subst (AllByRecursion IsWellFormed) (sym c.in_ok-push.ensures.ok) (all_push IsWellFormed packages facts c.requires.indexed.well_formed own);
-      numbers = λ key.
-          let had = numbers_under c.args.self.now.keys key in
-          let n = length c.as_slice-2.result.now in
-          numbers_where-push (has_key key) packages c.push.new.self facts n had (numbers_under c.put.new.self key)
-          c.in_ok-push.ensures.ok (ap length c.as_slice-2.ensures) (c.requires.indexed.numbers key)
-          (c.in_ok-put.ensures.ok key ∙ ap (λ bytes. if bytes_eq key bytes then with_number n had else had) (c.deref-2.ensures.value ∙ c.in_ok-key.ensures));
-    }
+    subst (λ packages. IsIndexOf packages c.put.new.self) (sym c.in_ok-push.ensures.ok)
+    (c.in_ok-put.ensures c.args.self.now.packages c.requires.indexed (ap length c.as_slice-3.ensures))

@@ -23,6 +23,3 @@ pub use sink::Sink;
 pub use std_sink::StdSink;
 pub use taker::Taker;
 pub use transfer::{ReadError, WriteError, read_file, write_all};
-
-#[cfg(test)]
-mod tests;

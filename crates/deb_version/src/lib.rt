@@ -12,6 +12,3 @@ pub mod versions;
 pub use names::is_package_name;
 pub use texts::Bytes;
 pub use versions::{Version, VersionError, keys_are_shared, order_is_total};
-
-#[cfg(test)]
-mod tests;

@@ -19,6 +19,3 @@ pub use grammar::{is_architecture, readings_are_spellings};
 pub use packages::{Home, PackageFacts};
 pub use relations::{Atom, Bound, ElementList, Op, Provide, ProvideList};
 pub use table::ElementTable;
-
-#[cfg(test)]
-mod tests;

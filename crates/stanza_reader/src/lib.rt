@@ -27,6 +27,3 @@ pub use laws::{
 pub use place::Place;
 pub use reading::{Next, next_stanza, read_stanzas};
 pub use stanza::{FieldKind, FieldList, RawField, RawStanza, StanzaList};
-
-#[cfg(test)]
-mod tests;

@@ -7,6 +7,3 @@ pub mod numbers;
 
 pub use names::NameTable;
 pub use numbers::NumbersByName;
-
-#[cfg(test)]
-mod tests;

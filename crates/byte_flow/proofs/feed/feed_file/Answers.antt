@@ -1,4 +1,4 @@
-use Rattle.std.proofs.Common.{◌≡◌, ◌+◌, ℕ, List, [], ◌++◌, length, take, Option, Ok, refl, arith, rules}
+use Rattle.std.proofs.Common.{◌≡◌, ◌+◌, ℕ, List, [], ◌++◌, length, take, Option, Ok, refl, sym, ap, arith, rules}
 use Rattle.std.specs.Io.KnownBytes.{Consumes}
 use Rattle.std.proofs.lemmas.Grind.{common_steps}
 use Rattle.byte_flow.specs.Flow.{Files}
@@ -41,18 +41,24 @@ returns-then-count-limit-clause-calls g c =
     passes _ _ _ _ _ _ _ _ _ _ c.loop-piece.invariant.reached c.loop-piece.invariant.within c.in_ok-count.ensures.gives (grind (arith, common_steps)) (grind (arith, common_steps))
 
 pub loop-piece-preserved : goal.loop-piece-preserved
-loop-piece-preserved g c = record {
-  fed = fed_more _ _ _ _ _ _ _ _ _ _ _ c.loop-piece.invariant.fed c.in_ok-count.ensures.bytes.0 (let e : take c.in_ok-count.count c.deref.result.now ≡ take c.in_ok-count.count c.read.new.into = grind (arith, common_steps) in rw e at c.in_ok-take.ensures.stands) (grind (arith, common_steps));
-  taken = grind (arith, common_steps);
-  keeps_limit = search rules;
-  contents = search rules;
-  moved = grind (arith, common_steps);
-  within = grind (arith, common_steps);
-  later = grind (arith, common_steps);
-  piece = grind (arith, common_steps);
-  quiet = search rules;
-  reached = one_more _ _ _ _ _ _ _ _ _ _ c.loop-piece.invariant.reached c.in_ok-count.ensures.gives (grind (arith, common_steps)) (grind (arith, common_steps)) refl;
-}
+loop-piece-preserved g c =
+    let given : take c.in_ok-count.count c.deref.result.now ≡ take c.in_ok-count.count c.read.new.into = grind (arith, common_steps) in
+    let counted : length (take c.in_ok-count.count c.read.new.into) ≡ c.in_ok-count.count = sym c.in_ok-count.ensures.bound.1 in
+    let some = c.if-count-eq0.false in
+    let past = c.if-count-limit.false in
+    let within = c.loop-piece.invariant.within in
+    record {
+      fed = fed_more _ _ _ _ _ _ _ _ _ _ _ c.loop-piece.invariant.fed c.in_ok-count.ensures.bytes.0 (rw given at c.in_ok-take.ensures.stands) (ap (λ n. c.loop-piece.total + n) counted);
+      taken = (let grows = (rw given at c.in_ok-take.ensures.grows) in let before = c.loop-piece.invariant.taken in omega arith);
+      keeps_limit = search rules;
+      contents = search rules;
+      moved = (let read = c.in_ok-count.ensures.moved in let before = c.loop-piece.invariant.moved in let bound = c.requires.counted in omega arith);
+      within = omega arith;
+      later = (let now = c.in_ok-count.ensures.cause.later in let before = c.loop-piece.invariant.later in omega arith);
+      piece = grind (arith, common_steps);
+      quiet = search rules;
+      reached = one_more _ _ _ _ _ _ _ _ _ _ c.loop-piece.invariant.reached c.in_ok-count.ensures.gives (grind (arith, common_steps)) (omega arith) refl;
+    }
 
 pub returns-in_err-take-clause-calls : goal.returns-in_err-take-clause-calls
 returns-in_err-take-clause-calls g c =

@@ -1,5 +1,6 @@
-use Rattle.std.proofs.Common.{◌≡◌, ◌+◌, ◌++◌, length, take, Ok, refl, arith, rules}
+use Rattle.std.proofs.Common.{◌≡◌, ◌+◌, ◌++◌, length, take, Ok, refl, sym, ap, ◌∙◌, arith, rules}
 use Rattle.std.proofs.lemmas.Grind.{common_steps}
+use Rattle.std.proofs.lemmas.List.{length-append}
 use Rattle.byte_flow.specs.Transfer.{started}
 use Rattle.byte_flow.proofs.ReadingSteps.{memory_ends, one_more, passes, told_at_start, told_after}
 use Rattle.byte_flow.proofs.transfer.read_file.Goals as goal
@@ -25,16 +26,24 @@ returns-then-count-limit-clause-calls g c =
     passes _ _ _ _ _ _ _ _ _ _ c.loop-bytes.invariant.reached c.loop-bytes.invariant.within c.in_ok-count.ensures.gives (grind (arith, common_steps)) (grind (arith, common_steps))
 
 pub loop-bytes-preserved : goal.loop-bytes-preserved
-loop-bytes-preserved g c = record {
-  told = (let e : c.extend_from_slice.new.self.items ≡ c.loop-bytes.bytes.items ++ take c.in_ok-count.count c.read.new.into = grind (arith, common_steps) in rw e (told_after _ _ _ _ _ _ c.loop-bytes.invariant.told c.in_ok-count.ensures.bytes.0));
-  contents = search rules;
-  moved = grind (arith, common_steps);
-  within = grind (arith, common_steps);
-  later = grind (arith, common_steps);
-  piece = grind (arith, common_steps);
-  quiet = search rules;
-  reached = one_more _ _ _ _ _ _ _ _ _ _ c.loop-bytes.invariant.reached c.in_ok-count.ensures.gives (grind (arith, common_steps)) (grind (arith, common_steps)) (grind (arith, common_steps));
-}
+loop-bytes-preserved g c =
+    let given : c.extend_from_slice.new.self.items ≡ c.loop-bytes.bytes.items ++ take c.in_ok-count.count c.read.new.into = grind (arith, common_steps) in
+    let counted : length (take c.in_ok-count.count c.read.new.into) ≡ c.in_ok-count.count = sym c.in_ok-count.ensures.bound.1 in
+    let size : length c.extend_from_slice.new.self.items ≡ length c.loop-bytes.bytes.items + c.in_ok-count.count =
+    ap length given ∙ length-append c.loop-bytes.bytes.items (take c.in_ok-count.count c.read.new.into) ∙ ap (λ n. length c.loop-bytes.bytes.items + n) counted in
+    let some = c.if-count-eq0.false in
+    let past = c.if-count-limit.false in
+    let within = c.loop-bytes.invariant.within in
+    record {
+      told = rw given (told_after _ _ _ _ _ _ c.loop-bytes.invariant.told c.in_ok-count.ensures.bytes.0);
+      contents = search rules;
+      moved = (let read = c.in_ok-count.ensures.moved in let before = c.loop-bytes.invariant.moved in let bound = c.ranges.limit.fits in omega arith);
+      within = omega arith;
+      later = (let now = c.in_ok-count.ensures.cause.later in let before = c.loop-bytes.invariant.later in omega arith);
+      piece = grind (arith, common_steps);
+      quiet = search rules;
+      reached = one_more _ _ _ _ _ _ _ _ _ _ c.loop-bytes.invariant.reached c.in_ok-count.ensures.gives (grind (arith, common_steps)) (omega arith) (sym size);
+    }
 
 pub returns-in_err-extend_from_slice-clause-calls :
     goal.returns-in_err-extend_from_slice-clause-calls

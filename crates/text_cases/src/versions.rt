@@ -1,7 +1,7 @@
 //! Names, the grammar and the order against tables from outside.
 mod pairs;
 
-use super::*;
+use deb_version::{Bytes, Version, VersionError, is_package_name, keys_are_shared, order_is_total};
 use std::cmp::Ordering;
 use std::process::Abort;
 use std::test::Fail;

@@ -1,5 +1,9 @@
-use super::*;
+//! Relation fields as they are read or refused, and packages that meet their atoms.
 use deb_version::{Bytes, Version};
+use relation_fields::{
+    Atom, AtomList, ElementList, Home, Op, PackageFacts, RelationError, parse_against, parse_needs,
+    parse_provides,
+};
 use std::alloc::{AllocError, Global};
 use std::test::*;
 

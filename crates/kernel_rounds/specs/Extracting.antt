@@ -1,11 +1,11 @@
 -- The extraction of a kernel: midway, after some rounds each of which changed something, and at its end.
-use Rattle.std.specs.Prelude.{◌≡◌, ℕ, suc, ◌<◌, Bool, min, eqb, List, [], map, None, ⊤}
+use Rattle.std.specs.Prelude.{◌≡◌, ◌≢◌, ℕ, suc, ◌<◌, Bool, min, eqb, List, [], map, None, ⊤}
 use Rattle.clause_pool.specs.Interned.{Interned, Kept}
 use Rattle.clause_flatten.specs.declared.error.FlatError.{FlatError}
 use Rattle.clause_flatten.specs.declared.error.FlatError.TheVariants as faults
 use Rattle.row_book.specs.declared.book.Book.{Book}
 use Rattle.row_book.specs.declared.trail.Step.{Step}
-use Rattle.row_book.specs.Book.{repository_of, AddsOnly, Sound}
+use Rattle.row_book.specs.Book.{repository_of, Sound}
 use Rattle.row_book.specs.Repository.{Repository}
 use Rattle.row_book.specs.Flattening.{held_of, packages, passes}
 use Rattle.row_book.specs.Merging.{place_of}
@@ -15,7 +15,7 @@ use Rattle.kernel_rounds.specs.declared.extraction.Outcome.{Outcome}
 use Rattle.kernel_rounds.specs.declared.extraction.Outcome.TheVariants.{Done, More}
 use Rattle.kernel_rounds.specs.declared.error.RoundError.{RoundError}
 use Rattle.kernel_rounds.specs.declared.error.RoundError.TheVariants.{Limit, Memory}
-use Rattle.kernel_rounds.specs.Moving.{trail_rows, HasSteps}
+use Rattle.kernel_rounds.specs.Moving.{HasSteps}
 
 -- after some rounds, each of which changed something and passed no limit: the book is of the pool that the rounds work in, and
 -- the steps are of another
@@ -63,9 +63,13 @@ abbrev pub OnRoundLimit : (PassedRound → Type 0) → RoundError → Type 0
 OnRoundLimit P (Limit round gone «package» count) = P (record { number = round; gone = gone; «package» = «package»; count = count })
 OnRoundLimit P Memory = ⊤
 
--- the pool has gained the rows of the books of some steps and their clauses alone
-abbrev pub AddsSteps : Interned → Interned → Type 0
-AddsSteps old new = (steps : List Step) × AddsOnly old new (trail_rows steps)
+-- the pool has gained the steps of the rounds before the first one that passes the clause limit, and no others
+pub record HasStepsBefore (R : Repository) (limit : ℕ) (hold : Bool) (start pool : Interned) : Type 0 where
+  pub index : ℕ
+  pub within : (j : ℕ) → j < index → passes limit hold (rounds limit hold R j) ≡ None
+  pub over : passes limit hold (rounds limit hold R index) ≢ None
+  pub steps : List Step
+  pub gained : HasSteps start pool steps (steps_after limit hold R index)
 
 -- why no kernel is extracted where a round is refused
 abbrev pub refusal : ℕ → List ℕ → FlatError → RoundError

@@ -9,7 +9,7 @@ ghost use Rattle.row_book.specs.Keeping.{KeepsImages};
 ghost use Rattle.row_book.specs.Rounds.{kernel_image, limit_at, RoundStep, Settled};
 ghost use Rattle.row_book.specs.Sound.{SoundRepository};
 ghost use Rattle.class_merge.specs.Classes.{class_in};
-ghost use Rattle.kernel_rounds.specs.Extracting.{refusal, AddsSteps, IsOwnKernel, IsOutcome, IsExtracted, IsMidway, IsReached, OnRoundLimit};
+ghost use Rattle.kernel_rounds.specs.Extracting.{refusal, HasStepsBefore, IsOwnKernel, IsOutcome, IsExtracted, IsMidway, IsReached, OnRoundLimit};
 ghost use Rattle.kernel_rounds.specs.Moving.{live_rows, HasSteps};
 
 use crate::error::RoundError;
@@ -147,7 +147,8 @@ fn advance(
         IfOk result (IsOutcome R limit hold start into.new work.new (repository_of work.old now.book)) }
     ensures passed { (R : Repository) (start : Interned) → SoundRepository R → IsMidway R limit hold start into.old work.old now.book now.class_of.items now.steps now.number →
         IfErr result (OnRoundLimit (λ passed. limit_at limit hold R ≡ Some passed)) }
-    ensures unmoved { IfErr result (OnRoundLimit (λ _. into.new ≡ into.old)) }
+    ensures refused_only { (R : Repository) (start : Interned) → IsMidway R limit hold start into.old work.old now.book now.class_of.items now.steps now.number →
+        IfErr result (OnRoundLimit (λ _. HasStepsBefore R limit hold start into.new)) }
     ensures kept { Kept into.old into.new }
 {
     // What holds of every pool is told by this call alone.
@@ -216,7 +217,7 @@ fn all_rounds(
     requires limit { 0 < limit }
     ensures reached { IfOk result (λ last. IsReached (repository_of work.old book) limit hold into.old into.new work.new last.book last.class_of.items last.held last.steps) }
     ensures passed { IfErr result (OnRoundLimit (λ passed. limit_at limit hold (repository_of work.old book) ≡ Some passed)) }
-    ensures refused_only { IfErr result (OnRoundLimit (λ _. AddsSteps into.old into.new)) }
+    ensures refused_only { IfErr result (OnRoundLimit (λ _. HasStepsBefore (repository_of work.old book) limit hold into.old into.new)) }
     ensures kept { Kept into.old into.new }
 {
     // What holds of every pool is told by this call alone.
@@ -271,7 +272,7 @@ fn carry_kernel(
 /// refused only where a row passes it before any package of the round is eliminated.
 ///
 /// The rounds work in a pool of their own: what the pool held stays, and it gains the rows of the kernel's book and of the books
-/// in the trail with their clauses alone; by a refusal those of the books of the rounds before it.
+/// in the trail with their clauses alone; by a refusal for the limit those of the books in the steps of all rounds before it.
 pub fn extract(
     alloc: Global,
     pool: &mut Pool,
@@ -288,7 +289,7 @@ pub fn extract(
     ensures own { IfOk result (λ made. IsOwnKernel (repository_of pool.new made.book) limit hold) }
     ensures only { IfOk result (λ made. AddsOnly pool.old pool.new (live_rows made.book made.trail.steps)) }
     ensures passed { IfErr result (OnRoundLimit (λ passed. limit_at limit hold (repository_of pool.old book.now) ≡ Some passed)) }
-    ensures refused_only { IfErr result (OnRoundLimit (λ _. AddsSteps pool.old pool.new)) }
+    ensures refused_only { IfErr result (OnRoundLimit (λ _. HasStepsBefore (repository_of pool.old book.now) limit hold pool.old pool.new)) }
     ensures kept { Kept pool.old pool.new }
 {
     // What holds of every pool is told by this call alone.

@@ -6,15 +6,20 @@ use Rattle.row_book.specs.Rounds.{limit_at, round, round_count, round_steps, ste
 use Rattle.row_book.specs.Trail.{trail_meaning}
 use Rattle.row_book.proofs.BookRepositories.{sound_repository}
 use Rattle.class_merge.specs.Classes.{class_in}
-use Rattle.kernel_rounds.specs.Extracting.{OnRoundLimit, refusal}
+use Rattle.kernel_rounds.specs.Extracting.{HasStepsBefore, OnRoundLimit, refusal}
 use Rattle.kernel_rounds.specs.Moving.{HasSteps}
-use Rattle.kernel_rounds.proofs.Midways.{falls, midway_end, midway_more, midway_refused}
+use Rattle.kernel_rounds.proofs.Midways.{falls, midway_end, midway_gained, midway_more, midway_refused}
 use Rattle.kernel_rounds.proofs.extraction.advance.Goals as goal
 
 pub returns-in-Err-clause-passed : goal.returns-in-Err-clause-passed
 returns-in-Err-clause-passed c = λ R start s m.
     subst (OnRoundLimit (λ passed. limit_at c.args.limit c.args.hold R ≡ Some passed)) (sym (c.round_error.ensures ∙ ap (λ z. refusal c.args.now.number z c.in-Err.fault) c.as_slice.ensures.value))
     (midway_refused c.args.limit c.args.hold R start c.args.into.now c.args.work.now c.args.now.book c.args.now.class_of.items c.args.now.steps c.args.now.number c.in-Err.fault s m c.in-Err.ensures.passed)
+
+pub returns-in-Err-clause-refused_only : goal.returns-in-Err-clause-refused_only
+returns-in-Err-clause-refused_only c = λ R start m.
+    subst (OnRoundLimit (λ _. HasStepsBefore R c.args.limit c.args.hold start c.args.into.now)) (sym (c.round_error.ensures ∙ ap (λ z. refusal c.args.now.number z c.in-Err.fault) c.as_slice.ensures.value))
+    (midway_gained c.args.limit c.args.hold R start c.args.into.now c.args.work.now c.args.now.book c.args.now.class_of.items c.args.now.steps c.args.now.number c.in-Err.fault m c.in-Err.ensures.passed)
 
 pub returns-then-not-changed-clause-made : goal.returns-then-not-changed-clause-made
 returns-then-not-changed-clause-made c = λ R start s m.

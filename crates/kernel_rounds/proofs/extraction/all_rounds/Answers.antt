@@ -5,7 +5,7 @@ use Rattle.row_book.specs.Book.{repository_of}
 use Rattle.row_book.specs.Repository.{Repository}
 use Rattle.row_book.proofs.BookRepositories.{book_size, sound_repository}
 use Rattle.kernel_rounds.specs.Extracting.{IsOutcome}
-use Rattle.kernel_rounds.proofs.Midways.{gained_before, midway_size}
+use Rattle.kernel_rounds.proofs.Midways.{midway_size}
 use Rattle.kernel_rounds.proofs.extraction.all_rounds.Goals as goal
 
 pub advance-requires-clause-few : goal.advance-requires-clause-few
@@ -26,7 +26,7 @@ returns-in_err-last-clause-passed c =
 pub returns-in_err-last-clause-refused_only : goal.returns-in_err-last-clause-refused_only
 returns-in_err-last-clause-refused_only c =
     let p = err_from_is_err_and c.from_residual-in_err-last.result c.from_residual-in_err-last.ensures.1 in
-    rw (p.1, p.2) (gained_before c.args.into.now c.loop-last.into c.advance.new.into _ (c.loop-last.now.steps, c.loop-last.invariant.steps.only) c.in_err-last.ensures.unmoved)
+    rw (p.1, p.2) (c.in_err-last.ensures.refused_only (repository_of c.args.work.now c.args.book) c.args.into.now c.loop-last.invariant)
 
 pub returns-in_err-last-clause-kept : goal.returns-in_err-last-clause-kept
 returns-in_err-last-clause-kept c = kept_kept c.args.into.now c.loop-last.into c.advance.new.into c.loop-last.invariant.steps.kept c.advance.ensures.kept

@@ -1,12 +1,21 @@
 use Rattle.std.proofs.Common.{◌≡◌, ◌∙◌, ap, subst, None}
+use Rattle.std.proofs.lemmas.Result.{err_from_is_err_and}
 use Rattle.clause_flatten.proofs.Tidied.{kept_kept}
 use Rattle.row_book.specs.Book.{repository_of}
 use Rattle.row_book.specs.Rounds.{kernel, kernel_steps, limit_at}
 use Rattle.row_book.proofs.BookRepositories.{sound_repository}
 use Rattle.kernel_rounds.specs.Extracting.{IsExtracted}
+use Rattle.kernel_rounds.proofs.Midways.{gained_of_same}
 use Rattle.kernel_rounds.proofs.MovedSteps.{same_copy}
 use Rattle.kernel_rounds.proofs.Again.{extracted_keeps, extracted_own, extracted_settled}
 use Rattle.kernel_rounds.proofs.extraction.extract.Goals as goal
+
+pub returns-in_err-last-clause-refused_only : goal.returns-in_err-last-clause-refused_only
+returns-in_err-last-clause-refused_only c =
+    let same = same_copy c.args.pool.now c.in_ok-own.own c.args.book.now c.in_ok-copied.copied c.in_ok-own.ensures c.in_ok-copied.ensures.rows c.in_ok-copied.ensures.conflicts in
+    let p = err_from_is_err_and c.from_residual-in_err-last.result c.from_residual-in_err-last.ensures.1 in
+    rw (p.1, p.2)
+    (gained_of_same _ _ c.args.limit c.args.hold c.args.pool.now c.all_rounds.new.into _ same.repository c.in_err-last.ensures.refused_only)
 
 pub returns-in_err-made-clause-kept : goal.returns-in_err-made-clause-kept
 returns-in_err-made-clause-kept c = kept_kept c.args.pool.now c.all_rounds.new.into c.carry_kernel.new.into c.all_rounds.ensures.kept c.carry_kernel.ensures.kept

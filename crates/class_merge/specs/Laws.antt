@@ -18,7 +18,7 @@ MergeLifts = (R : Repository) (K : NumSet) → SoundRepository R → Healthy (qu
 abbrev pub MergeIsTidy : Type 0
 MergeIsTidy = (R : Repository) → SoundRepository R → TidyRepository (quotient R)
 
--- the class of a package: one of the classes, and the package is like the least one of it, which is no greater
+-- the class of a package: one of the classes, and the package is like the least one of it
 pub record HasClass (R : Repository) (p : ℕ) : Type 0 where
   pub within : class_of R p < length (firsts R)
   pub first : first_of R (class_of R p) < length R.clauses

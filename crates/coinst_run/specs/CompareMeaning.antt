@@ -20,8 +20,8 @@ abbrev pub AreJudged : List ℕ → ℕ → ℕ → Bool → (List Goal → Sear
 AreJudged text budget limit hold verdict = (goals : List Goal) → HasVerdict limit hold (home_in text) (packages_in text) budget goals (verdict goals)
 
 -- Both texts are indexes without a fault, and the printed lines are the list of what is broken and what is open, by the
--- verdicts in the two indexes, of the names that stand in both, ascending, and then of the pairs of those that each can be
--- installed in the new one.
+-- verdicts in the two indexes, of the names that stand in both, ascending, and then of the pairs of those whose verdict alone
+-- in the new one is yes.
 pub record CompareMeans (old new : List ℕ) (budget limit : ℕ) (hold : Bool) (verdict : Verdict) (printed : List ℕ) : Type 0 where
   pub old_accepted : first_fault old ≡ None
   pub new_accepted : first_fault new ≡ None

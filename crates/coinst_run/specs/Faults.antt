@@ -1,4 +1,4 @@
--- What a fault of an index is refused as.
+-- What a fault of an index is refused as; want of memory is no fault of a text, and this row is never asked for.
 use Rattle.coinst_run.specs.declared.answer.Cause.{Cause}
 use Rattle.coinst_run.specs.declared.answer.Cause.TheVariants.{Content, TooLarge}
 use Rattle.repo_model.specs.declared.fault.IndexFault.{IndexFault}

@@ -30,7 +30,8 @@ mix_path = codes "mix"
 unfoldable pub packages_line : List ℕ
 packages_line = about mix_path (codes "more than 200000 packages")
 
--- what is refused where no plan is made of the indexes at two paths, with the line that says so
+-- what is refused where no plan is made of the indexes at two paths, with the line that says so; want of memory is no refusal of
+-- a plan, and this row is never asked for
 abbrev pub refusal_of : List ℕ → List ℕ → PlanError → Answer
 refusal_of old new Homes = refused Content (homes_line old new)
 refusal_of old new (Names count) = refused TooLarge (names_line new)

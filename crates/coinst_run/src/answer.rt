@@ -6,11 +6,11 @@ use std::alloc::AllocError;
 /// What a report says as a whole.
 #[derive(Clone, Copy, Debug, PartialEq, Eq)]
 pub enum Verdict {
-    /// Done; yes; nothing broken and nothing open.
+    /// Done; yes; nothing broken and nothing open; a system that stands; every name taken.
     Done,
-    /// No; something broken.
+    /// No; a core; something broken; a system that does not stand; a name left since something would be broken.
     Negative,
-    /// A search spent its budget.
+    /// A search spent its budget; names left, and none for something broken.
     Undecided,
 }
 
@@ -33,13 +33,13 @@ impl Verdict {
 /// What was refused.
 #[derive(Clone, Copy, Debug, PartialEq, Eq)]
 pub enum Cause {
-    /// The content of a file.
+    /// The content of a file, or two indexes of different architectures.
     Content,
     /// A package with more clauses than the limit allows.
     ClauseLimit,
-    /// A goal that names no package.
+    /// A goal that names no package, or no member of a stored kernel.
     UnknownGoal,
-    /// A file that is too long, or has too many packages.
+    /// A file that is too long or has too many packages, or a plan that is too large.
     TooLarge,
 }
 

@@ -3,13 +3,13 @@
 /// How a run ended; its code is the exit status of the program.
 #[derive(Clone, Copy, Debug, PartialEq, Eq)]
 pub enum Status {
-    /// 0: done; yes; nothing broken and nothing open.
+    /// 0: done; yes; nothing broken and nothing open; a system that stands, by itself and from the index; every name taken.
     Done,
-    /// 1: no; something broken.
+    /// 1: no; a core; something broken; a system that does not stand; a name left since something would be broken.
     Negative,
     /// 2: the words are no command of the program.
     Words,
-    /// 3: a fault in the content of a file.
+    /// 3: a fault in the content of a file, or two indexes of different architectures.
     Content,
     /// 4: the clause limit was passed.
     ClauseLimit,
@@ -19,11 +19,11 @@ pub enum Status {
     WriteFault,
     /// 7: no memory was found.
     Memory,
-    /// 8: a search spent its budget.
+    /// 8: a search spent its budget; names left, and none for something broken.
     Undecided,
-    /// 9: a goal names no package.
+    /// 9: a goal names no package, or no member of a stored kernel.
     UnknownGoal,
-    /// 10: a file is too long, or has too many packages.
+    /// 10: a file is too long or has too many packages, or a plan is too large.
     TooLarge,
 }
 

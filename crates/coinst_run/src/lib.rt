@@ -29,5 +29,6 @@ pub use laws::{
     stored_answers_as_index, stored_images_are_of_index, stored_query_is_meant, system_is_meant,
     texts_are_told,
 };
+pub use sample_suite::sample_text;
 pub use status::Status;
 pub use top::run;

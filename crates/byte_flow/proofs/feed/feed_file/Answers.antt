@@ -1,6 +1,7 @@
 use Rattle.std.proofs.Common.{◌≡◌, ◌+◌, ℕ, List, [], ◌++◌, length, take, Option, Ok, refl, sym, ap, arith, rules}
 use Rattle.std.specs.Io.KnownBytes.{Consumes}
 use Rattle.std.proofs.lemmas.Grind.{common_steps}
+use Rattle.std.proofs.lemmas.List.{length-take}
 use Rattle.byte_flow.specs.Flow.{Files}
 use Rattle.byte_flow.specs.Transfer.{started}
 use Rattle.byte_flow.proofs.ReadingSteps.{memory_ends, one_more, passes, told_at_start, told_after}
@@ -62,8 +63,21 @@ loop-piece-preserved g c =
 
 pub returns-in_err-take-clause-calls : goal.returns-in_err-take-clause-calls
 returns-in_err-take-clause-calls g c =
+    let some = c.if-count-eq0.false in
+    let past = c.if-count-limit.false in
+    let before = c.loop-piece.invariant.within in
     memory_ends _ _ _ _ _ _ _ c.from_residual-in_err-take.ensures.1 (record {
       total = c.loop-piece.total + c.in_ok-count.count;
-      within = grind (arith, common_steps);
-      reached = one_more _ _ _ _ _ _ _ _ _ _ c.loop-piece.invariant.reached c.in_ok-count.ensures.gives (grind (arith, common_steps)) (grind (arith, common_steps)) refl;
+      within = omega arith;
+      reached = one_more _ _ _ _ _ _ _ _ _ _ c.loop-piece.invariant.reached c.in_ok-count.ensures.gives (grind (arith, common_steps)) (omega arith) refl;
     })
+
+pub take-requires : goal.take-requires
+take-requires g c =
+    let cut = length-take c.in_ok-count.count c.deref.result.now in
+    let taken = c.loop-piece.invariant.taken in
+    let keeps = c.loop-piece.invariant.keeps_limit in
+    let past = c.if-count-limit.false in
+    let within = c.loop-piece.invariant.within in
+    let fits = c.requires.fits in
+    omega arith

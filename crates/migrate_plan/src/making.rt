@@ -22,8 +22,8 @@ use std::alloc::{AllocError, Global};
 use suite_compare::SuiteView;
 
 /// Which of the names that differ can be taken over from a new index into an old one: each in turn, ascending by bytes, where
-/// the mix of the two with it and the names taken before breaks nothing of the old index, within a budget of failed leaves a
-/// search, from 1 to 1,000,000. The old view is that of the old bytes at the clause limit, with hold or without; the new
+/// the mix of the two with it and the names taken before is within the clause limit, and breaks nothing of the old index and
+/// leaves nothing open, within a budget of failed leaves a search, from 1 to 1,000,000. The old view is that of the old bytes at the clause limit, with hold or without; the new
 /// suite is that of the new bytes. At most 256 names may differ; for each of them a mix is read, reduced and compared.
 #[tactic(auto, unfolding(crate::specs::Plan::plan, crate::specs::Refusals::plan_refusal))]
 pub fn make_plan(

@@ -164,7 +164,7 @@ no_duplicate before stanza e t i =
     none None h = refl
     none (Some first) h = absurd (let never : ⊥ = cc in never)
 
--- by check 7 the stanza is at the home with it
+-- where it is not of another architecture, the stanza is at the home with it
 at_with : (home : Option (List ℕ)) (stanza : RawStanza) → mixed_fault home stanza ≡ None → IsAt (option_or home (architecture_of stanza)) stanza
 unfolding mixed_fault architecture_of
 at_with None stanza e = inr refl
@@ -234,7 +234,7 @@ home_by home (stanza ∷ more) at = elim (at stanza here) [
     twice None = refl
     twice (Some h) = refl
 
--- a stanza that is at the home passes check 7
+-- a stanza that is at the home is not of another architecture
 not_mixed : (home before : Option (List ℕ)) (stanza : RawStanza) → (before ≡ None) ⊎ (before ≡ home) → IsAt home stanza → mixed_fault before stanza ≡ None
 unfolding mixed_fault architecture_of
 not_mixed home None stanza h at = by (field_of Architecture stanza)

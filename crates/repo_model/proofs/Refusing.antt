@@ -34,7 +34,7 @@ refuses_behind fault there more none = for_same fault (λ h. ap (λ found. optio
 pub none_behind : (there more : Option IndexFault) → there ≡ None → more ≡ None → option_or there more ≡ None
 none_behind there more none h = ap (λ found. option_or found more) none ∙ h
 
--- check 6 by the package that the stanza describes
+-- an earlier stanza is the same package, told by the package that the stanza describes
 pub duplicate_is : (before slice : List PackageFacts) (stanza : RawStanza) (facts : PackageFacts) → slice ≡ before → facts ≡ facts_of stanza
     → option_map (λ (first : PackageFacts). Duplicate first.line facts.line) (find (is_same_package facts) slice) ≡ duplicate_fault before stanza
 unfolding duplicate_fault facts_of

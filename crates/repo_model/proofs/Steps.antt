@@ -72,7 +72,7 @@ lines_first before reading fault true e = e
 lines_first before (Ok stanza) fault false e = cc
 lines_first before (Err shape) fault false e = e
 
--- a fault in the checks 1 to 3
+-- a stanza too many, or a fault of its lines
 next_refused : (all : List Reading) (before : List RawStanza) (more : List Reading) (fault : IndexFault) → all ≡ map ok_of before ++ more
     → option_and_then (shape_fault (length before)) (first_reading more) ≡ Some fault → fault_from all (length before) more ≡ Some fault
 next_refused all before [] fault read e = cc
@@ -82,7 +82,7 @@ next_refused all before (reading ∷ more) fault read e =
 room_is : (n : ℕ) → n < 200000 → nat_le 200000 n ≡ false
 room_is n h = grind (arith, nat_tests)
 
--- the checks 4 to 7 of the stanza that is next
+-- the fault of the stanza that is next, where its lines have none and it is not one too many
 stanza_is : (all : List Reading) (before : List RawStanza) (stanza : RawStanza) (more : List Reading) → all ≡ map ok_of before ++ more → length before < 200000
     → fault_behind (take (length before) all) (Ok stanza) ≡ stanza_fault (map facts_of before) (home_of before) stanza
 stanza_is all before stanza more read room =
@@ -178,7 +178,7 @@ fault_stays front fault closed e = λ rest.
     ap (λ all. fault_from all 0 all) (cut_read front rest closed) ∙ fault_behind_front (readings front) left
     ∙ ap (λ found. option_or found (fault_from (readings front ++ left) (length (readings front)) left)) e
 
--- a refusal in the checks 1 to 3 is that of the index
+-- a refusal of a stanza too many, or of its lines, is that of the index
 pub shape_refused : (text : List ℕ) {more : List Reading} {packages : List PackageFacts} {home : Option (List ℕ)} (fault : IndexFault) (count : ℕ)
     → IsRead (readings text) more packages home → count ≡ length packages → Refuses fault (option_and_then (shape_fault count) (first_reading more)) → Refuses fault (first_fault text)
 unfolding first_fault
@@ -186,7 +186,7 @@ shape_refused text {more} {packages} fault count r counted = for_same fault (λ 
     let n : count ≡ length r.before = counted ∙ ap length r.facts ∙ length-map r.before facts_of in
     r.left ∙ next_refused (readings text) r.before more fault r.read (ap (λ m. option_and_then (shape_fault m) (first_reading more)) (sym n) ∙ h))
 
--- a refusal in the checks 4 to 7 is that of the index
+-- a refusal of a stanza that was read is that of the index
 pub stanza_refused : (text part : List ℕ) (at : Place) {packages : List PackageFacts} {home : Option (List ℕ)} (fault : IndexFault) (count : ℕ) (stanza : RawStanza) (after : Place)
     → IsRead (readings text) (readings_at part at) packages home → count ≡ length packages → GoesOn part at count stanza after → Refuses fault (stanza_fault packages home stanza) → Refuses fault (first_fault text)
 unfolding first_fault

@@ -1,14 +1,14 @@
 -- The first fault of an index. Each stanza is checked in this order, and each of these is a fault of it:
---   1. 200,000 stanzas or more stand before it;
---   2. a line has a bad shape, the first of which is named;
---   3. a field line has the name of an earlier one, the first of which is named;
---   4. there is no field `Package`, and then no field `Version`;
---   5. a value is bad: that of `Package`, of `Version`, of `Architecture`, and then an element of `Pre-Depends`, of
---      `Depends`, of `Conflicts`, of `Breaks`, of `Provides`; a field that is not there has no bad value;
---   6. an earlier stanza has the same name and an equal version, the first of which is named;
---   7. it has a field `Architecture` whose value is not `all`, and differs from that of the first earlier stanza that has
---      such a field, where there is one.
--- The first stanza with a fault decides. Checks 2 and 3 are those of the stanza's reading.
+--   - 200,000 stanzas or more stand before it;
+--   - a line has a bad shape, the first of which is named;
+--   - a field line has the name of an earlier one, the first of which is named;
+--   - there is no field `Package`, and then no field `Version`;
+--   - a value is bad: that of `Package`, of `Version`, of `Architecture`, and then an element of `Pre-Depends`, of
+--     `Depends`, of `Conflicts`, of `Breaks`, of `Provides`; a field that is not there has no bad value;
+--   - an earlier stanza has the same name and an equal version, the first of which is named;
+--   - it has a field `Architecture` whose value is not `all`, and differs from that of the first earlier stanza that has
+--     such a field, where there is one.
+-- The first stanza with a fault decides. Bad shapes and repeated names are told where the stanza is read.
 use Rattle.std.specs.Prelude.{ℕ, Bool, true, nat_le, ◌||◌, if◌then◌else◌, List, [], ◌∷◌, Option, Some, None, Result, Ok, Err, map, find, take, is_some, length}
 use Rattle.std.specs.List.{enumerate_from, filter_map}
 use Rattle.std.specs.Option.{option_map, option_map_or, option_and_then, option_or}
@@ -55,13 +55,13 @@ unless_said one field = option_map (BadRelation field.line) (first_outside one f
 abbrev pub bad_relation : {X : Type 0} → FieldKind → (List ℕ → Option X) → RawStanza → Option IndexFault
 bad_relation kind one stanza = option_and_then (unless_said one) (field_of kind stanza)
 
--- check 4
+-- a field is missing
 unfoldable pub presence_fault : RawStanza → Option IndexFault
 presence_fault stanza = first_some (
     missing Package (MissingPackage stanza.line) stanza
     ∷ missing Version (MissingVersion stanza.line) stanza ∷ [])
 
--- check 5
+-- a value is bad
 unfoldable pub value_fault : RawStanza → Option IndexFault
 value_fault stanza = first_some (
     bad_value Package is_name BadPackage stanza
@@ -73,11 +73,11 @@ value_fault stanza = first_some (
     ∷ bad_relation Breaks atom_of stanza
     ∷ bad_relation Provides provide_of stanza ∷ [])
 
--- checks 4 and 5
+-- a field is missing, or else a value is bad
 abbrev pub own_fault : RawStanza → Option IndexFault
 own_fault stanza = option_or (presence_fault stanza) (value_fault stanza)
 
--- check 6, among the packages of the stanzas before this one
+-- an earlier stanza is the same package, among the packages of the stanzas before this one
 unfoldable pub duplicate_fault : List PackageFacts → RawStanza → Option IndexFault
 duplicate_fault before stanza = option_map (λ first. Duplicate first.line stanza.line) (find (is_same_package (facts_of stanza)) before)
 
@@ -89,15 +89,15 @@ home_of stanzas = first_some (map architecture_of stanzas)
 abbrev pub is_at_home : Option (List ℕ) → List ℕ → Bool
 is_at_home home architecture = option_map_or (bytes_eq architecture) home true
 
--- check 7, with the common architecture of the stanzas before this one
+-- another architecture, with the common one of the stanzas before this one
 unfoldable pub mixed_fault : Option (List ℕ) → RawStanza → Option IndexFault
 mixed_fault home stanza = option_and_then (λ field. if is_all field.value || is_at_home home field.value then None else Some (Mixed field.line)) (field_of Architecture stanza)
 
--- checks 4 to 7, with the packages and the common architecture of the stanzas before this one
+-- the fault of a stanza that was read, with the packages and the common architecture of the stanzas before this one
 abbrev pub stanza_fault : List PackageFacts → Option (List ℕ) → RawStanza → Option IndexFault
 stanza_fault before home stanza = first_some (own_fault stanza ∷ duplicate_fault before stanza ∷ mixed_fault home stanza ∷ [])
 
--- checks 2 to 7 of what is read of a stanza, with the stanzas before it
+-- the fault of what is read of a stanza, in its lines or else in the stanza, with the stanzas before it
 abbrev pub reading_fault : List RawStanza → Result RawStanza StanzaFault → Option IndexFault
 reading_fault before (Ok stanza) = stanza_fault (map facts_of before) (home_of before) stanza
 reading_fault before (Err fault) = Some (Stanza fault)
@@ -106,7 +106,7 @@ reading_fault before (Err fault) = Some (Stanza fault)
 abbrev pub stanzas_in : List (Result RawStanza StanzaFault) → List RawStanza
 stanzas_in all = filter_map result_ok all
 
--- all checks, with what is read of the stanzas before this one
+-- a stanza too many, or else the fault of what is read of it, with what is read of the stanzas before this one
 abbrev pub fault_behind : List (Result RawStanza StanzaFault) → Result RawStanza StanzaFault → Option IndexFault
 fault_behind before reading = if nat_le 200000 (length before) then Some TooMany else reading_fault (stanzas_in before) reading
 

@@ -13,7 +13,7 @@ abbrev pub lines_fault : Result RawStanza StanzaFault → Option IndexFault
 lines_fault (Ok stanza) = None
 lines_fault (Err fault) = Some (Stanza fault)
 
--- the fault of a stanza behind so many others, in the checks 1 to 3
+-- a stanza behind so many others is one too many, or else its lines have a fault
 abbrev pub shape_fault : ℕ → Result RawStanza StanzaFault → Option IndexFault
 shape_fault before reading = if nat_le 200000 before then Some TooMany else lines_fault reading
 

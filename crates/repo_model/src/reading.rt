@@ -66,7 +66,7 @@ fn line_behind(bytes: &[u8], at: Place) -> u64
     at.line + count_feeds(&bytes[at.offset as usize..])
 }
 
-// The stanza at a place behind so many others, or its fault in checks 1 to 3.
+// The stanza at a place behind so many others, or that it is one too many, or the fault of its lines.
 fn read_next(alloc: Global, bytes: &[u8], at: Place, before: usize) -> Result<Next, IndexFault>
     requires { IsPlace bytes.now at }
     ensures next { IfOk result (Goes bytes.now at before) }

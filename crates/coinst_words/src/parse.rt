@@ -134,7 +134,7 @@ fn refusal(error: &Error) -> WordError
     }
 }
 
-// The command that the words name, with what they say.
+/// The command that the words name, with what they say.
 pub(crate) fn parse<'a>(alloc: Global, words: &'a [String]) -> Result<ArgMatches<'a>, WordError>
     ensures said { IfOk result (Enters (said_of usages (map string_bytes words.entry.now))) }
     ensures refusal { IfErr result (OnNotACommand (said_of usages (map string_bytes words.entry.now) ≡ None)) }

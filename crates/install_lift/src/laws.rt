@@ -12,7 +12,7 @@ pub fn lift_is_one()
     ensures { LiftIsOne }
 {}
 
-/// It is the set that is computed.
+/// The lifted set is the one that is computed.
 pub fn lift_is_of()
     ensures { LiftIsOf }
 {}
@@ -22,12 +22,12 @@ pub fn trim_is_healthy()
     ensures { TrimIsHealthy }
 {}
 
-/// There is no other trim.
+/// A healthy set has one trim at most.
 pub fn trim_is_one()
     ensures { TrimIsOne }
 {}
 
-/// It is the trim that is computed.
+/// The trim is the one that is computed.
 pub fn trim_is_of()
     ensures { TrimIsOf }
 {}

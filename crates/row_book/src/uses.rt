@@ -233,7 +233,7 @@ fn put(list: &mut Vec<u32>, number: u32)
         IsListOf (plus (has list.old.items) number) list.new.items }
 {
     if let Err(place) = place_of(list.as_slice(), number) {
-        // with room left it is always put in
+        // With room left it is always put in.
         let _ = list.insert(place, number);
     }
 }

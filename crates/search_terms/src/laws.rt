@@ -7,12 +7,12 @@ pub fn tree_is_there()
     ensures { TreeIsThere }
 {}
 
-/// It has no other one.
+/// A formula has one tree at most.
 pub fn tree_is_one()
     ensures { TreeIsOne }
 {}
 
-/// It is the search tree that is computed.
+/// The tree of a formula is the one that is computed.
 pub fn search_tree_is()
     ensures { SearchTreeIs }
 {}

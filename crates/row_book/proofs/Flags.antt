@@ -83,14 +83,14 @@ module _ (clauses : List (List (List ℕ))) (conflicts : List (List ℕ)) (wante
               let l : n < length flags = flag_in flags n y in
               hit_any (flag flags) c (all_at (λ c. list_any (flag flags) c) (get_or clauses n [])
               (zip_at (hits_row flags) clauses flags n [] both.0 (omega arith) y) c i);
-          peace = λ m n y z. false_from_ne_true (has (get_or conflicts m []) n) (λ foe.
+          peace = λ m n y z. false_from_ne_true (has (get_or conflicts m []) n) (λ inside.
               elim (cases_lt m (length conflicts)) [
                 | inl l ↦
                     let quiet : not (list_any (flag flags) (get_or conflicts m [])) ≡ true =
                     zip_at (λ c. not (list_any (flag flags) c)) conflicts flags m [] both.1 l y in
                     both_ways (list_any (flag flags) (get_or conflicts m [])) (not-true (list_any (flag flags) (get_or conflicts m [])) quiet)
-                    (any_from (flag flags) (get_or conflicts m []) n (has_In (get_or conflicts m []) n foe) z)
-                | inr g ↦ In_none (subst (λ c. In n c) (get_or_past conflicts m [] g) (has_In (get_or conflicts m []) n foe))
+                    (any_from (flag flags) (get_or conflicts m []) n (has_In (get_or conflicts m []) n inside) z)
+                | inr g ↦ In_none (subst (λ c. In n c) (get_or_past conflicts m [] g) (has_In (get_or conflicts m []) n inside))
               ]);
         };
         contains = λ n w. all_at (flag flags) wanted parts.1 n (has_In wanted n w);

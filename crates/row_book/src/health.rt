@@ -78,7 +78,7 @@ impl Book {
     {
         for low in 0..self.size() {
             if is_member(chosen, low) {
-                if let Some(high) = first_foe(self.against(low), low, chosen) {
+                if let Some(high) = first_conflicting(self.against(low), low, chosen) {
                     return Some(Pair { low, high });
                 }
             }
@@ -101,11 +101,12 @@ fn first_unhit(pool: &Pool, ids: &[ClauseId], chosen: &[bool]) -> Option<u64>
     None
 }
 
-/// The first of the packages that is chosen and greater than the given one.
-fn first_foe(foes: &[u32], low: u32, chosen: &[bool]) -> Option<u32>
-    ensures { result ≡ find (λ n. ltb low n && flag chosen.now n) foes.now }
+/// The first of the conflicts that is chosen and greater than the given package.
+fn first_conflicting(conflicts: &[u32], low: u32, chosen: &[bool]) -> Option<u32>
+    ensures { result ≡ find (λ n. ltb low n && flag chosen.now n) conflicts.now }
 {
-    foes.iter()
+    conflicts
+        .iter()
         .copied()
-        .find(|&foe| low < foe && is_member(chosen, foe))
+        .find(|&other| low < other && is_member(chosen, other))
 }

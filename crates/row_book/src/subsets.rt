@@ -90,8 +90,8 @@ fn is_abundant(clauses: &[ClauseList], flags: &[bool]) -> bool
 fn is_peaceful(conflicts: &[NumList], flags: &[bool]) -> bool
     ensures { result ≡ is_peaceful conflicts.now flags.now }
 {
-    conflicts.iter().zip(flags.iter()).all(|(foes, is_member)| !*is_member
-        || !hits_clause(flags, foes.as_slice()))
+    conflicts.iter().zip(flags.iter()).all(|(others, is_member)| !*is_member
+        || !hits_clause(flags, others.as_slice()))
 }
 
 fn hits_row(flags: &[bool], row: &[NumList]) -> bool

@@ -1,6 +1,7 @@
 -- A walk through a tree of clauses in search of one within wanted numbers.
 use Rattle.std.proofs.Common.{◌≡◌, ℕ, zero, suc, ◌<◌, ◌≤◌, ◌+◌, ◌-◌, ◌⊎◌, Bool, true, false, ◌&&◌, ◌||◌, ltb, List, [], ◌∷◌, ◌++◌, inl, inr, refl, sym, ◌∙◌, ap, ap₂, subst, length, get_or, take, append_assoc, length-append, arith, lt-ltb, ne_eqb}
-use Rattle.std.proofs.lemmas.Bool.{cases_lt, le-ltb}
+use Rattle.std.proofs.Math.Bool.{and-true, or-false}
+use Rattle.std.proofs.lemmas.Bool.{and_right, cases_lt, le-ltb}
 use Rattle.std.proofs.lemmas.List.{append-nil}
 use Rattle.row_book.specs.Sets.{In, has, here}
 use Rattle.row_book.specs.Clauses.{Ascending, is_inside}
@@ -9,19 +10,11 @@ use Rattle.clause_flatten.specs.Branches.{any_of, bare, branch, nodes_of, past, 
 use Rattle.clause_flatten.specs.Inclusion.{is_within}
 use Rattle.clause_flatten.specs.declared.family_tree.Node.{Node}
 
-and_false : (a b : Bool) → b ≡ false → (a && b) ≡ false
-and_false true b e = e
-and_false false b e = refl
-
-and_true : (a : Bool) → (a && true) ≡ a
-and_true true = refl
-and_true false = refl
-
 -- a tree of which each clause fails the test
 pub none_of : (test : List ℕ → Bool) (tree : Tree) → ((n : ℕ) (c : List ℕ) → test (n ∷ c) ≡ false) → any_of test tree ≡ false
 none_of test bare f = refl
 none_of test (branch n leap ends below beside) f =
-    ap₂ (λ x y. x || y) (and_false ends (test (n ∷ [])) (f n []))
+    ap₂ (λ x y. x || y) (and_right ends (test (n ∷ [])) (f n []))
     (ap₂ (λ x y. x || y) (none_of (λ c. test (n ∷ c)) below (λ m c. f n (m ∷ c))) (none_of test beside f))
 
 -- two tests that agree on clauses of greater numbers
@@ -92,9 +85,9 @@ module _ (w : ℕ) (ws : List ℕ) (size : ℕ) where
       let none : has (w ∷ ws) n ≡ false =
       has_not (w ∷ ws) n (λ i. elim (In_cases i) [ inl e ↦ absurd (omega arith) | inr j ↦ let m : w < n = rises.0 n j in absurd (omega arith) ]) in
       let fails : (c : List ℕ) → is_within (w ∷ ws) size (n ∷ c) ≡ false =
-      λ c. and_false (ltb (length (n ∷ c)) size) (has (w ∷ ws) n && is_inside c (w ∷ ws)) (ap (λ b. b && is_inside c (w ∷ ws)) none) in
+      λ c. and_right (ltb (length (n ∷ c)) size) (has (w ∷ ws) n && is_inside c (w ∷ ws)) (ap (λ b. b && is_inside c (w ∷ ws)) none) in
       ap (any_of (is_within (w ∷ ws) size)) is
-      ∙ ap₂ (λ x y. x || (y || any_of (is_within (w ∷ ws) size) beside)) (and_false ends (is_within (w ∷ ws) size (n ∷ [])) (fails []))
+      ∙ ap₂ (λ x y. x || (y || any_of (is_within (w ∷ ws) size) beside)) (and_right ends (is_within (w ∷ ws) size (n ∷ [])) (fails []))
       (none_of (λ c. is_within (w ∷ ws) size (n ∷ c)) below (λ m c. fails (m ∷ c)))
 
   -- nor do those that are leapt over, as the number behind them is no greater than the wanted one
@@ -119,7 +112,7 @@ module _ (w : ℕ) (ws : List ℕ) (size : ℕ) where
       any_of (is_within (w ∷ ws) size) tree ≡ ((ends && ltb 1 size) || (any_of (is_within ws (size - 1)) below || any_of (is_within ws size) beside))
   met tree n leap ends below beside is up e =
       let held : has (w ∷ ws) n ≡ true = In_has (subst (λ z. In z (w ∷ ws)) e here) in
-      let one : is_within (w ∷ ws) size (n ∷ []) ≡ ltb 1 size = ap (λ b. ltb 1 size && (b && true)) held ∙ and_true (ltb 1 size) in
+      let one : is_within (w ∷ ws) size (n ∷ []) ≡ ltb 1 size = ap (λ b. ltb 1 size && (b && true)) held ∙ and-true (ltb 1 size) in
       let more : (c : List ℕ) → ((k : ℕ) → In k c → n < k) → is_within (w ∷ ws) size (n ∷ c) ≡ is_within ws (size - 1) c =
       λ c u. ap₂ (λ x y. x && y) (one_less (length c)) (ap (λ b. b && is_inside c (w ∷ ws)) held ∙ unneeded c (λ k i. subst (λ z. z < k) (sym e) (u k i))) in
       ap (any_of (is_within (w ∷ ws) size)) is
@@ -354,7 +347,7 @@ module _ (from : ℕ) (answer : Bool) (nodes others : List Node) (node : Node) (
       let same : answer ≡ any_of (is_within ws (size - 1)) parts.below =
       met_at e ∙ ap (λ b. b || (any_of (is_within ws (size - 1)) parts.below || any_of (is_within ws size) parts.beside)) h
       ∙ ap (λ t. any_of (is_within ws (size - 1)) parts.below || any_of (is_within ws size) t) none
-      ∙ or_false (any_of (is_within ws (size - 1)) parts.below) in
+      ∙ or-false (any_of (is_within ws (size - 1)) parts.below) in
       record {
         now = record {
           tree = parts.below;
@@ -365,10 +358,6 @@ module _ (from : ℕ) (answer : Bool) (nodes others : List Node) (node : Node) (
         };
         same = same;
       }
-    where
-      or_false : (b : Bool) → (b || false) ≡ b
-      or_false true = refl
-      or_false false = refl
 
   pub found_below : w ≡ node.number → (node.ends && ltb 1 size) ≡ false → any_of (is_within ws (size - 1)) behind_is.tree ≡ true → answer ≡ true
   found_below e h t =
@@ -399,4 +388,4 @@ no_nodes from answer nodes wanted size l few = l.same ∙ ap (any_of (is_within 
 
 pub none_wanted : (from : ℕ) (answer : Bool) (nodes : List Node) (wanted : List ℕ) (size : ℕ) → Left from answer nodes wanted size → length wanted ≡ 0 → answer ≡ false
 none_wanted from answer nodes (w ∷ ws) size l e = absurd (omega arith)
-none_wanted from answer nodes [] size l e = l.same ∙ none_of (is_within [] size) l.now.tree (λ n c. and_false (ltb (length (n ∷ c)) size) false refl)
+none_wanted from answer nodes [] size l e = l.same ∙ none_of (is_within [] size) l.now.tree (λ n c. and_right (ltb (length (n ∷ c)) size) false refl)

@@ -13,15 +13,8 @@ ghost use Rattle.class_merge.specs.Grouping.{AreClasses};
 use crate::images::{image, image_list};
 use clause_flatten::{Clause, intern_minimal, put_in_order};
 use clause_pool::{ClauseId, NumList, Pool, RowId};
-use row_book::Book;
+use row_book::{Book, holds};
 use std::alloc::{AllocError, Global};
-
-/// Whether the clause holds the number.
-fn holds(clause: &[u32], number: u32) -> bool
-    ensures { result ≡ has clause.now number }
-{
-    clause.iter().any(|literal| number == *literal)
-}
 
 /// Puts the image behind the others, unless it holds the class.
 fn push_apart(family: &mut Vec<Clause>, image: Clause, class: u32) -> Result<(), AllocError>

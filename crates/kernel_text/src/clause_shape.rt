@@ -1,7 +1,6 @@
-//! The shape of clauses: ascending, in order, and apart from their class.
+//! The shape of clauses: ascending, and in order.
 ghost use Rattle.std.specs.Prelude.{◌≡◌, ◌↔◌, IsTrue};
 ghost use Rattle.row_book.specs.Clauses.{Ascending, comes_before};
-ghost use Rattle.row_book.specs.Sets.{has};
 
 /// Whether the first clause comes before the second in lexicographic order.
 #[tactic(auto, using(repo_model::proofs::Compared::before_compared))]
@@ -21,11 +20,4 @@ pub(crate) fn is_ascending(numbers: &[u32]) -> bool
         }
     }
     true
-}
-
-/// Whether the number is one of the clause.
-pub(crate) fn holds(clause: &[u32], number: u32) -> bool
-    ensures { result ≡ has clause.now number }
-{
-    clause.iter().any(|&other| number == other)
 }

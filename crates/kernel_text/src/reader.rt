@@ -6,7 +6,7 @@ ghost use Rattle.kernel_text.specs.Reader.{Adds, EndIsTold, Holds, may_add_claus
 ghost use Rattle.kernel_text.specs.Reading.{empty_reading, IsFormat, IsNamed, number_limit, Reading};
 ghost use Rattle.kernel_text.specs.Words.{IsWellFormed, line_of_content};
 
-use crate::clause_shape::{holds, is_ascending, is_before};
+use crate::clause_shape::{is_ascending, is_before};
 use crate::content::LineContent;
 use crate::member::Member;
 use crate::member_table::MemberTable;
@@ -14,7 +14,7 @@ use crate::read_line::read_line;
 use clause_pool::NumList;
 use deb_version::{Bytes, Version};
 use listed::Listed;
-use row_book::Pair;
+use row_book::{Pair, holds};
 use std::alloc::{AllocError, Global};
 
 /// What the last line says of which line may stand next.

@@ -11,18 +11,11 @@ ghost use Rattle.suite_compare.specs.Choices.{AreBelow, ArePeaceful, ArePut, Hav
 use crate::group::class_at;
 use clause_pool::{ClauseId, NumList, Pool};
 use listed::Listed;
-use row_book::Book;
+use row_book::{Book, holds};
 use std::alloc::{AllocError, Global};
 
 /// The most members up to which a first choice is followed: those of real suites have two or three.
 const MOST_MEMBERS: usize = 64;
-
-/// Whether the list has the number.
-fn holds(list: &[u32], number: u32) -> bool
-    ensures { result ≡ has list.now number }
-{
-    list.iter().any(|other| number == *other)
-}
 
 /// Puts the number behind the others, where it is not there yet.
 fn put(chosen: &mut Vec<u32>, number: u32) -> Result<(), AllocError>

@@ -7,11 +7,12 @@ ghost use Rattle.suite_compare.specs.Names.{HasNames};
 ghost use Rattle.migrate_plan.specs.Differing.{differing, differs, says_same};
 
 use crate::alike::says_same;
-use crate::names::{names_of_either, packages_by_name};
+use crate::names::names_of_either;
 use deb_version::Bytes;
 use relation_fields::PackageFacts;
 use repo_model::NameList;
 use std::alloc::{AllocError, Global};
+use suite_compare::packages_by_name;
 use virtual_provides::NumbersByName;
 
 /// The names of which the packages of two indexes do not say the same, ascending by bytes.

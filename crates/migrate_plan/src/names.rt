@@ -1,15 +1,13 @@
-//! The names of two indexes, each once, and the numbers of the packages of each name.
-ghost use Rattle.std.specs.Prelude.{◌≡◌, ◌<◌, ◌≤◌, ◌++◌, length, map, IfOk};
+//! The names of two indexes, each once.
+ghost use Rattle.std.specs.Prelude.{◌≡◌, ◌<◌, ◌++◌, length, map, IfOk};
 ghost use Rattle.row_book.specs.Clauses.{in_row_order};
 ghost use Rattle.repo_model.specs.Goals.{names_in};
 ghost use Rattle.repo_model.specs.NameOrder.{is_repeated, name_at, Rising};
-ghost use Rattle.suite_compare.specs.Names.{HasNames};
 
 use deb_version::Bytes;
 use relation_fields::PackageFacts;
 use repo_model::NameList;
 use std::alloc::{AllocError, Global};
-use virtual_provides::NumbersByName;
 
 /// The distinct names of the packages of two indexes, ascending by bytes.
 pub(crate) fn names_of_either(
@@ -83,19 +81,4 @@ fn name_at<'a>(sorted: &[&'a [u8]], place: usize) -> &'a [u8]
     ensures { result.now ≡ name_at (map (λ name. name.now) sorted.now) place }
 {
     sorted[place]
-}
-
-/// The numbers of the packages of each name.
-pub(crate) fn packages_by_name(
-    alloc: Global,
-    packages: &[PackageFacts],
-) -> Result<NumbersByName, AllocError>
-    requires { length packages.now ≤ 200000 }
-    ensures { IfOk result (HasNames packages.now) }
-{
-    let mut table = NumbersByName::new(alloc);
-    for (number, package) in packages.iter().enumerate() {
-        table.put(package.name.as_slice(), number as u32)?;
-    }
-    Ok(table)
 }

@@ -16,7 +16,7 @@ use std::alloc::{AllocError, Global};
 use virtual_provides::NumbersByName;
 
 /// The numbers of the packages of each name.
-pub(crate) fn packages_by_name(
+pub fn packages_by_name(
     alloc: Global,
     packages: &[PackageFacts],
 ) -> Result<NumbersByName, AllocError>

@@ -22,6 +22,7 @@ pub mod view;
 
 pub use answers::{Answer, DecideError};
 pub use ask::image_of;
+pub use collect::packages_by_name;
 pub use comparison::compare;
 pub use decision::decide;
 pub use laws::{answer_is_verdict, kernel_decides, verdict_is_judged};

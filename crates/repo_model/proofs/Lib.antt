@@ -28,4 +28,4 @@ pub mod NameSteps
 pub mod SoundSuite
 pub mod LineCounts
 pub mod IndexSteps
-pub mod Namesakes
+pub mod Earlier

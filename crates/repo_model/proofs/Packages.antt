@@ -4,7 +4,7 @@ use Rattle.std.specs.Str.{bytes_eq}
 use Rattle.std.proofs.lemmas.Bool.{cases_lt, and_parts, and_from, or_cases, or_left, or_right, not-true, not_from_false, eqb-false, ne_eqb}
 use Rattle.std.proofs.lemmas.List.{get_or_past}
 use Rattle.std.proofs.lemmas.List.FromFn.{length-map-range_with_len, get_or-map-range_with_len}
-use Rattle.repo_model.specs.Repository.{packages_of, meets_any, clause_of, row_of, stands_against, in_conflict, rivals_of, suite_repository}
+use Rattle.repo_model.specs.Repository.{packages_of, meets_any, clause_of, row_of, stands_against, in_conflict, conflicting_with, suite_repository}
 use Rattle.relation_fields.specs.declared.packages.Home.{Home}
 use Rattle.relation_fields.specs.declared.packages.PackageFacts.{PackageFacts}
 use Rattle.relation_fields.specs.declared.relations.Atom.{Atom}
@@ -33,7 +33,7 @@ module _ (home : Home) (stanzas : List PackageFacts) where
 
   pub length_conflicts : length (suite_repository home stanzas).conflicts ≡ length stanzas
   unfolding suite_repository
-  length_conflicts = length-map-range_with_len (rivals_of home stanzas) 0 (length stanzas)
+  length_conflicts = length-map-range_with_len (conflicting_with home stanzas) 0 (length stanzas)
 
   pub clauses_at : (n : ℕ) → n < length stanzas → clauses_of (suite_repository home stanzas) n ≡ row_of home stanzas (stanza_at stanzas n)
   unfolding suite_repository
@@ -42,9 +42,9 @@ module _ (home : Home) (stanzas : List PackageFacts) where
   pub clauses_past : (n : ℕ) → length stanzas ≤ n → clauses_of (suite_repository home stanzas) n ≡ []
   clauses_past n l = get_or_past (suite_repository home stanzas).clauses n [] (omega (arith, length_clauses))
 
-  pub conflicts_at : (n : ℕ) → n < length stanzas → conflicts_of (suite_repository home stanzas) n ≡ rivals_of home stanzas n
+  pub conflicts_at : (n : ℕ) → n < length stanzas → conflicts_of (suite_repository home stanzas) n ≡ conflicting_with home stanzas n
   unfolding suite_repository
-  conflicts_at n l = get_or-map-range_with_len (rivals_of home stanzas) 0 (length stanzas) n n [] l (omega arith)
+  conflicts_at n l = get_or-map-range_with_len (conflicting_with home stanzas) 0 (length stanzas) n n [] l (omega arith)
 
   pub conflicts_past : (n : ℕ) → length stanzas ≤ n → conflicts_of (suite_repository home stanzas) n ≡ []
   conflicts_past n l = get_or_past (suite_repository home stanzas).conflicts n [] (omega (arith, length_conflicts))
@@ -73,7 +73,7 @@ module _ (home : Home) (stanzas : List PackageFacts) where
       (ordered_has (map (clause_of home stanzas) (stanza_at stanzas n).needs) (clause_of home stanzas element)
       (In_map (clause_of home stanzas) (stanza_at stanzas n).needs element i))
 
-  -- the conflicts of a package are its rivals
+  -- the conflicts of a package are the packages that conflict with it
   pub against_cases : (m n : ℕ) → against (suite_repository home stanzas) m n ≡ true →
       (m < length stanzas) × (n < length stanzas) × (in_conflict home stanzas m n ≡ true)
   against_cases m n h =

@@ -19,8 +19,8 @@ use Rattle.row_book.proofs.Lists.{any_cases, any_from, In_append_cases, In_appen
 use Rattle.row_book.proofs.Order.{map_same}
 use Rattle.row_book.proofs.Pairs.{is_of}
 use Rattle.repo_model.specs.Meeting.{meeting}
-use Rattle.repo_model.specs.Pairs.{is_named, pair_of, Adds, IsAgainst, IsFound, IsNamesake, IsPairWith}
-use Rattle.repo_model.specs.Repository.{in_conflict, packages_of, rivals_of, stands_against}
+use Rattle.repo_model.specs.Pairs.{is_named, pair_of, Adds, IsAgainst, IsFound, IsPairWithEarlier, IsPairWith}
+use Rattle.repo_model.specs.Repository.{in_conflict, packages_of, conflicting_with, stands_against}
 use Rattle.repo_model.specs.Stanzas.{no_stanza, stanza_at}
 use Rattle.repo_model.proofs.Chosen.{number_cases, number_from}
 use Rattle.repo_model.proofs.Elements.{range_cases}
@@ -174,20 +174,20 @@ module _ (home : Home) (packages : List PackageFacts) where
   pub found_none : (pair : Pair) → IsFound home packages 0 pair → ⊥
   found_none pair p = let l : p.number < 0 = p.below in omega arith
 
-  pub found_more : (n : ℕ) (old mid named new : List Pair) → Adds (IsFound home packages n) old mid → Adds (IsNamesake packages n (stanza_at packages n).name) mid named →
+  pub found_more : (n : ℕ) (old mid named new : List Pair) → Adds (IsFound home packages n) old mid → Adds (IsPairWithEarlier packages n (stanza_at packages n).name) mid named →
       Adds (IsAgainst home packages n (stanza_at packages n).against) named new → Adds (IsFound home packages (n + 1)) old new
   found_more n old mid named new had by_name by_conflict =
-      let here : Pair → Type 0 = λ pair. IsNamesake packages n (stanza_at packages n).name pair ⊎ IsAgainst home packages n (stanza_at packages n).against pair in
+      let here : Pair → Type 0 = λ pair. IsPairWithEarlier packages n (stanza_at packages n).name pair ⊎ IsAgainst home packages n (stanza_at packages n).against pair in
       adds_more (IsFound home packages n) here (IsFound home packages (n + 1)) old mid new
       (λ pair p. elim (cases_lt p.number n) [
         | inl l ↦ inl (record { number = p.number; below = l; found = p.found })
         | inr g ↦ let l : p.number < n + 1 = p.below in let e : p.number ≡ n = omega arith in
-            inr (subst (λ m. IsNamesake packages m (stanza_at packages m).name pair ⊎ IsAgainst home packages m (stanza_at packages m).against pair) e p.found)
+            inr (subst (λ m. IsPairWithEarlier packages m (stanza_at packages m).name pair ⊎ IsAgainst home packages m (stanza_at packages m).against pair) e p.found)
       ])
       (λ pair p. record { number = p.number; below = (let l : p.number < n = p.below in omega arith); found = p.found })
       (λ pair p. record { number = n; below = omega arith; found = p })
       had
-      (adds_more (IsNamesake packages n (stanza_at packages n).name) (IsAgainst home packages n (stanza_at packages n).against) here mid named new
+      (adds_more (IsPairWithEarlier packages n (stanza_at packages n).name) (IsAgainst home packages n (stanza_at packages n).against) here mid named new
       (λ pair p. p) (λ pair p. inl p) (λ pair p. inr p) by_name by_conflict)
 
   -- a package before another one, among the first
@@ -195,7 +195,7 @@ module _ (home : Home) (packages : List PackageFacts) where
   earlier_at n m l = get_or-take n packages m no_stanza l
 
   -- a pair that is found is of two packages that conflict
-  record Rivals (pair : Pair) : Type 0 where
+  record Conflicting (pair : Pair) : Type 0 where
     first : ℕ
     second : ℕ
     first_below : first < length packages
@@ -204,8 +204,8 @@ module _ (home : Home) (packages : List PackageFacts) where
     is : pair ≡ pair_of first second
     conflict : in_conflict home packages first second ≡ true
 
-  rivals_found : (pair : Pair) → IsFound home packages (length packages) pair → Rivals pair
-  rivals_found pair p =
+  conflicting_found : (pair : Pair) → IsFound home packages (length packages) pair → Conflicting pair
+  conflicting_found pair p =
       elim p.found [
         | inl named ↦
             let w : (named.other < length (take p.number packages)) × (is_named (stanza_at packages p.number).name (stanza_at (take p.number packages) named.other) ≡ true) =
@@ -240,22 +240,22 @@ module _ (home : Home) (packages : List PackageFacts) where
       ]
 
   module _ (pairs : List Pair) (all : Adds (IsFound home packages (length packages)) [] pairs) where
-    of_rivals : (pair : Pair) → In pair pairs → Rivals pair
-    of_rivals pair i = elim ((all pair).0 i) [ inl j ↦ absurd (In_none j) | inr p ↦ rivals_found pair p ]
+    conflicting_of : (pair : Pair) → In pair pairs → Conflicting pair
+    conflicting_of pair i = elim ((all pair).0 i) [ inl j ↦ absurd (In_none j) | inr p ↦ conflicting_found pair p ]
 
     pub pairs_fit : PairsFit pairs (length packages)
     pairs_fit = record {
-      ordered = λ pair i. let r : Rivals pair = of_rivals pair i in
+      ordered = λ pair i. let r : Conflicting pair = conflicting_of pair i in
           let apart : r.second ≢ r.first = r.apart in
           subst (λ p. p.low < p.high) (sym r.is) (two_apart r.first r.second apart);
-      below = λ pair i. let r : Rivals pair = of_rivals pair i in
+      below = λ pair i. let r : Conflicting pair = conflicting_of pair i in
           subst (λ p. p.high < length packages) (sym r.is) (two_below r.first r.second (length packages) r.first_below r.second_below);
     }
 
     paired_conflict : (p q : ℕ) → are_paired pairs p q ≡ true → in_conflict home packages p q ≡ true
     paired_conflict p q h =
         let w : (pair : Pair) × In pair pairs × (is_of p q pair ≡ true) = any_cases (is_of p q) pairs h in
-        let r : Rivals w.0 = of_rivals w.0 w.1 in
+        let r : Conflicting w.0 = conflicting_of w.0 w.1 in
         elim (two_of r.first r.second p q (ap (is_of p q) (sym r.is) ∙ w.2)) [
           | inl e ↦ ap₂ (in_conflict home packages) (sym e.0) (sym e.1) ∙ r.conflict
           | inr e ↦ conflict_back home packages q p (ap₂ (in_conflict home packages) (sym e.0) (sym e.1) ∙ r.conflict)
@@ -315,11 +315,11 @@ module _ (home : Home) (packages : List PackageFacts) where
 
   -- the lists of such pairs are the conflicts of the packages
   pub lists_conflict : (pairs : List Pair) → ((p q : ℕ) → p < length packages → q < length packages → are_paired pairs p q ≡ in_conflict home packages p q) →
-      lists_of_pairs pairs (length packages) ≡ map (rivals_of home packages) (packages_of packages)
+      lists_of_pairs pairs (length packages) ≡ map (conflicting_with home packages) (packages_of packages)
   unfolding lists_of_pairs
   lists_conflict pairs same =
       let range : numbers (length packages) 0 ≡ packages_of packages = numbers_range (length packages) 0 in
       let below : (p : ℕ) → In p (packages_of packages) → p < length packages = λ p i. let w : (0 ≤ p) × (p < 0 + length packages) = range_cases (length packages) 0 p i in omega arith in
       ap (λ ns. map (λ p. filter (are_paired pairs p) ns) ns) range
-      ∙ map_same (λ p. filter (are_paired pairs p) (packages_of packages)) (rivals_of home packages) (packages_of packages)
+      ∙ map_same (λ p. filter (are_paired pairs p) (packages_of packages)) (conflicting_with home packages) (packages_of packages)
       (λ p i. filter_same (are_paired pairs p) (in_conflict home packages p) (packages_of packages) (λ q j. same p q (below p i) (below q j)))

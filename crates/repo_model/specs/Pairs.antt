@@ -32,14 +32,14 @@ pub record IsAgainst (home : Home) (packages : List PackageFacts) (number : ℕ)
   pub found : IsPairWith number (meeting home packages atom) pair
 
 -- the pair of the package and an earlier one of the name
-abbrev pub IsNamesake : List PackageFacts → ℕ → List ℕ → Pair → Type 0
-IsNamesake packages number name = IsPairWith number (numbers_where (is_named name) (take number packages))
+abbrev pub IsPairWithEarlier : List PackageFacts → ℕ → List ℕ → Pair → Type 0
+IsPairWithEarlier packages number name = IsPairWith number (numbers_where (is_named name) (take number packages))
 
 -- the pair is found from one of the first packages
 pub record IsFound (home : Home) (packages : List PackageFacts) (count : ℕ) (pair : Pair) : Type 0 where
   pub number : ℕ
   pub below : number < count
-  pub found : IsNamesake packages number (stanza_at packages number).name pair ⊎ IsAgainst home packages number (stanza_at packages number).against pair
+  pub found : IsPairWithEarlier packages number (stanza_at packages number).name pair ⊎ IsAgainst home packages number (stanza_at packages number).against pair
 
 -- the new pairs are the old ones and those of the kind
 abbrev pub Adds : (Pair → Type 0) → List Pair → List Pair → Type 0

@@ -40,11 +40,11 @@ in_conflict home stanzas m n =
     (stands_against home (stanza_at stanzas m) (stanza_at stanzas n) || stands_against home (stanza_at stanzas n) (stanza_at stanzas m)))
 
 -- the packages that conflict with the package, ascending
-abbrev pub rivals_of : Home → List PackageFacts → ℕ → List ℕ
-rivals_of home stanzas m = filter (in_conflict home stanzas m) (packages_of stanzas)
+abbrev pub conflicting_with : Home → List PackageFacts → ℕ → List ℕ
+conflicting_with home stanzas m = filter (in_conflict home stanzas m) (packages_of stanzas)
 
 unfoldable pub suite_repository : Home → List PackageFacts → Repository
 suite_repository home stanzas = record {
   clauses = map (λ n. row_of home stanzas (stanza_at stanzas n)) (packages_of stanzas);
-  conflicts = map (rivals_of home stanzas) (packages_of stanzas);
+  conflicts = map (conflicting_with home stanzas) (packages_of stanzas);
 }

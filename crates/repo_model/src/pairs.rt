@@ -28,8 +28,8 @@ pub(crate) fn conflict_pairs(
     let mut pairs = Vec::new(alloc);
     for (place, facts) in packages.iter().enumerate() {
         let number = place as u32;
-        let namesakes = earlier_named(alloc, names, packages, place, facts.name.as_slice())?;
-        push_pairs(&mut pairs, number, &namesakes)?;
+        let earlier = earlier_named(alloc, names, packages, place, facts.name.as_slice())?;
+        push_pairs(&mut pairs, number, &earlier)?;
         let against = facts.against.as_slice();
         push_against(alloc, &mut pairs, names, packages, home, number, against)?;
     }

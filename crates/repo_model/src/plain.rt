@@ -4,7 +4,7 @@ ghost use Rattle.std.specs.Str.{bytes_eq};
 ghost use Rattle.relation_fields.specs.Meeting.{meets};
 ghost use Rattle.row_book.specs.Clauses.{comes_before, in_row_order, insert_clause};
 ghost use Rattle.row_book.specs.Sets.{has};
-ghost use Rattle.repo_model.specs.Repository.{clause_of, in_conflict, meets_any, packages_of, rivals_of, row_of, stands_against, suite_repository};
+ghost use Rattle.repo_model.specs.Repository.{clause_of, conflicting_with, in_conflict, meets_any, packages_of, row_of, stands_against, suite_repository};
 ghost use Rattle.repo_model.specs.Stanzas.{stanza_at, CoinstStanzas};
 
 use crate::clauses::is_before;
@@ -219,7 +219,7 @@ fn conflict(home: &Home, stanzas: &[PackageFacts], first: u32, second: u32) -> b
 }
 
 // The packages that conflict with the package.
-fn rivals(
+fn conflicting_with(
     alloc: Global,
     home: &Home,
     stanzas: &[PackageFacts],
@@ -227,15 +227,15 @@ fn rivals(
 ) -> Result<NumList, AllocError>
     requires few { length stanzas.now ≤ 200000 }
     requires inside { of < length stanzas.now }
-    ensures { IfOk result (λ r. r ≡ rivals_of home.now stanzas.now of) }
+    ensures { IfOk result (λ r. r ≡ conflicting_with home.now stanzas.now of) }
 {
-    let mut rivals = NumList::new(alloc);
+    let mut others = NumList::new(alloc);
     for number in 0..count(stanzas) {
         if conflict(home, stanzas, of, number) {
-            rivals.push(number)?;
+            others.push(number)?;
         }
     }
-    Ok(rivals)
+    Ok(others)
 }
 
 // The conflicts of each package.
@@ -245,11 +245,11 @@ fn conflicts(
     stanzas: &[PackageFacts],
 ) -> Result<Listed<NumList>, AllocError>
     requires { length stanzas.now ≤ 200000 }
-    ensures { IfOk result (λ r. r ≡ map (rivals_of home.now stanzas.now) (packages_of stanzas.now)) }
+    ensures { IfOk result (λ r. r ≡ map (conflicting_with home.now stanzas.now) (packages_of stanzas.now)) }
 {
     let mut conflicts = Listed::new(alloc);
     for number in 0..count(stanzas) {
-        conflicts.push(rivals(alloc, home, stanzas, number)?)?;
+        conflicts.push(conflicting_with(alloc, home, stanzas, number)?)?;
     }
     Ok(conflicts)
 }

@@ -1,7 +1,7 @@
 use Rattle.std.proofs.Common.{◌≡◌, ◌∙◌, filter, take, IfOk, ap, subst}
 use Rattle.virtual_provides.specs.Numbers.{passes_at}
 use Rattle.repo_model.specs.Pairs.{is_named}
-use Rattle.repo_model.proofs.Namesakes.{named_earlier}
+use Rattle.repo_model.proofs.Earlier.{named_earlier}
 use Rattle.repo_model.proofs.pairs.earlier_named.Goals as goal
 
 pub returns : goal.returns

@@ -24,35 +24,35 @@ unfolding is_version epoch_of behind_epoch upstream_in revision_in
 one_is_version = refl
 
 abbrev stanza_with : ℕ → ℕ → List (List ℕ) → Option ℕ → RawStanza
-stanza_with line n needs rival = record { line = line; fields = fields_at line n needs rival }
+stanza_with line n needs conflict = record { line = line; fields = fields_at line n needs conflict }
 
-present : (line n : ℕ) (needs : List (List ℕ)) (rival : Option ℕ) → presence_fault (stanza_with line n needs rival) ≡ None
+present : (line n : ℕ) (needs : List (List ℕ)) (conflict : Option ℕ) → presence_fault (stanza_with line n needs conflict) ≡ None
 unfolding presence_fault
 present line n [] None = refl
-present line n [] (Some rival) = refl
+present line n [] (Some conflict) = refl
 present line n (element ∷ more) None = refl
-present line n (element ∷ more) (Some rival) = refl
+present line n (element ∷ more) (Some conflict) = refl
 
-good : (line n : ℕ) (needs : List (List ℕ)) (rival : Option ℕ) → IsSmall n → IsFit (record { needs = needs; rival = rival }) → value_fault (stanza_with line n needs rival) ≡ None
+good : (line n : ℕ) (needs : List (List ℕ)) (conflict : Option ℕ) → IsSmall n → IsFit (record { needs = needs; conflict = conflict }) → value_fault (stanza_with line n needs conflict) ≡ None
 unfolding value_fault
 good line n [] None small fit = rw (name_named n small, one_is_version) refl
-good line n [] (Some rival) small fit = rw (name_named n small, one_is_version, name_said rival fit.rival) refl
+good line n [] (Some conflict) small fit = rw (name_named n small, one_is_version, name_said conflict fit.conflict) refl
 good line n (element ∷ more) None small fit = rw (name_named n small, one_is_version, needs_said element more fit.needs fit.filled) refl
-good line n (element ∷ more) (Some rival) small fit = rw (name_named n small, one_is_version, needs_said element more fit.needs fit.filled, name_said rival fit.rival) refl
+good line n (element ∷ more) (Some conflict) small fit = rw (name_named n small, one_is_version, needs_said element more fit.needs fit.filled, name_said conflict fit.conflict) refl
 
-unmixed : (home : Option (List ℕ)) (line n : ℕ) (needs : List (List ℕ)) (rival : Option ℕ) → mixed_fault home (stanza_with line n needs rival) ≡ None
+unmixed : (home : Option (List ℕ)) (line n : ℕ) (needs : List (List ℕ)) (conflict : Option ℕ) → mixed_fault home (stanza_with line n needs conflict) ≡ None
 unfolding mixed_fault
 unmixed home line n [] None = refl
-unmixed home line n [] (Some rival) = refl
+unmixed home line n [] (Some conflict) = refl
 unmixed home line n (element ∷ more) None = refl
-unmixed home line n (element ∷ more) (Some rival) = refl
+unmixed home line n (element ∷ more) (Some conflict) = refl
 
-name_in : (line n : ℕ) (needs : List (List ℕ)) (rival : Option ℕ) → (facts_of (stanza_with line n needs rival)).name ≡ package_name n
+name_in : (line n : ℕ) (needs : List (List ℕ)) (conflict : Option ℕ) → (facts_of (stanza_with line n needs conflict)).name ≡ package_name n
 unfolding facts_of
 name_in line n [] None = refl
-name_in line n [] (Some rival) = refl
+name_in line n [] (Some conflict) = refl
 name_in line n (element ∷ more) None = refl
-name_in line n (element ∷ more) (Some rival) = refl
+name_in line n (element ∷ more) (Some conflict) = refl
 
 -- ---- a stanza behind others
 
@@ -74,11 +74,11 @@ not_found n facts small is (stanza ∷ before) h = rw (other_package n facts sta
 
 alone : (line n : ℕ) (p : SamplePackage) → IsSmall n → (before : List RawStanza) → AllByRecursion (IsBelow n) before → duplicate_fault (map facts_of before) (stanza_at_line line n p) ≡ None
 unfolding duplicate_fault
-alone line n p small before h = rw (not_found n (facts_of (stanza_at_line line n p)) small (name_in line n p.needs p.rival) before h) refl
+alone line n p small before h = rw (not_found n (facts_of (stanza_at_line line n p)) small (name_in line n p.needs p.conflict) before h) refl
 
 clean_stanza : (line n : ℕ) (p : SamplePackage) → IsSmall n → IsFit p → (before : List RawStanza) → AllByRecursion (IsBelow n) before → reading_fault before (Ok (stanza_at_line line n p)) ≡ None
 clean_stanza line n p small fit before h =
-    rw (present line n p.needs p.rival, good line n p.needs p.rival small fit, alone line n p small before h, unmixed (home_of before) line n p.needs p.rival) refl
+    rw (present line n p.needs p.conflict, good line n p.needs p.conflict small fit, alone line n p small before h, unmixed (home_of before) line n p.needs p.conflict) refl
 
 -- ---- all stanzas
 
@@ -92,8 +92,8 @@ unfolding stanzas_from
 front_below zero line n bound all h = tt
 front_below (suc j) line n bound [] h = tt
 front_below (suc j) line n bound (p ∷ more) h = (
-  record { number = n; below = omega (arith, h); name = name_in line n p.needs p.rival },
-  front_below j (line_behind line p.needs p.rival) (n + 1) bound more (omega (arith, h)),
+  record { number = n; below = omega (arith, h); name = name_in line n p.needs p.conflict },
+  front_below j (line_behind line p.needs p.conflict) (n + 1) bound more (omega (arith, h)),
 )
 
 front_few : {X : Type 0} (j : ℕ) (all : List X) → length (take j all) ≤ j
@@ -116,7 +116,7 @@ unfolding stanzas_from
 clean_from all front line n [] room fit = refl
 clean_from all front line n (p ∷ more) room fit =
     rw (clean_behind line n p (take n all) (omega (arith, room)) fit.0 (front n))
-    (clean_from all front (line_behind line p.needs p.rival) (n + 1) more (omega (arith, room)) fit.1)
+    (clean_from all front (line_behind line p.needs p.conflict) (n + 1) more (omega (arith, room)) fit.1)
 
 -- the stanzas of packages that fit have no fault
 pub stanzas_accepted : (all : List SamplePackage) → length all ≤ 200000 → AllByRecursion IsFit all → first_fault (stanzas_text 0 all) ≡ None

@@ -3,7 +3,7 @@ use Rattle.std.proofs.Common.{◌≡◌, ◌<◌, ◌≤◌, ◌+◌, ◌/◌, �
 use Rattle.std.specs.Prelude.{⊤}
 use Rattle.std.specs.List.{AllByRecursion}
 use Rattle.sample_suite.specs.declared.package.SamplePackage.{SamplePackage}
-use Rattle.sample_suite.specs.Drawing.{draw, draw_element, draw_needs, draw_package, draw_rival, no_rival, sample_packages, some_rival}
+use Rattle.sample_suite.specs.Drawing.{draw, draw_element, draw_needs, draw_package, draw_conflict, no_conflict, sample_packages, some_conflict}
 use Rattle.sample_suite.proofs.DrawSteps.{draw_below, draws_all, length-draws}
 
 -- one or two alternatives, each a package of the suite
@@ -12,15 +12,15 @@ pub record IsElement (count : ℕ) (alternatives : List ℕ) : Type 0 where
   pub some : 1 ≤ length alternatives
   pub few : length alternatives ≤ 2
 
-abbrev pub IsRival : ℕ → Option ℕ → Type 0
-IsRival count None = ⊤
-IsRival count (Some rival) = rival < count
+abbrev pub IsConflict : ℕ → Option ℕ → Type 0
+IsConflict count None = ⊤
+IsConflict count (Some conflict) = conflict < count
 
 -- at most two elements, and a conflict with a package of the suite
 pub record IsPackage (count : ℕ) (p : SamplePackage) : Type 0 where
   pub elements : AllByRecursion (IsElement count) p.needs
   pub few : length p.needs ≤ 2
-  pub rival : IsRival count p.rival
+  pub conflict : IsConflict count p.conflict
 
 element_drawn : (count s : ℕ) → 0 < count → IsElement count (draw_element count s).value
 element_drawn count s some =
@@ -33,10 +33,10 @@ element_drawn count s some =
       few = omega (arith, long, low);
     }
 
-rival_drawn : (count s : ℕ) → 0 < count → IsRival count (draw_rival count s).value
-rival_drawn count s some = go ((draw 4 s).value == 0)
+conflict_drawn : (count s : ℕ) → 0 < count → IsConflict count (draw_conflict count s).value
+conflict_drawn count s some = go ((draw 4 s).value == 0)
   where
-    go : (b : Bool) → IsRival count (cond b (some_rival (draw count (draw 4 s).state)) (no_rival (draw 4 s).state)).value
+    go : (b : Bool) → IsConflict count (cond b (some_conflict (draw count (draw 4 s).state)) (no_conflict (draw 4 s).state)).value
     go true = draw_below count (draw 4 s).state some
     go false = tt
 
@@ -48,7 +48,7 @@ package_drawn count s some =
     record {
       elements = draws_all (IsElement count) (draw_element count) (λ t. element_drawn count t some) (chance.value / 2) chance.state;
       few = omega (arith, long, low);
-      rival = rival_drawn count (draw_needs count s).state some;
+      conflict = conflict_drawn count (draw_needs count s).state some;
     }
 
 -- all packages of a sample suite are so

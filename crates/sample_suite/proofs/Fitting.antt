@@ -8,9 +8,9 @@ use Rattle.sample_suite.specs.declared.package.SamplePackage.{SamplePackage}
 use Rattle.sample_suite.specs.Drawing.{IsCount, sample_packages}
 use Rattle.sample_suite.specs.SampleText.{conflicts_lines, depends_lines, element_text, lines_text, needs_text, package_name, sample_text, stanza_lines, stanza_text, stanzas_text}
 use Rattle.sample_suite.proofs.Accepting.{stanzas_accepted}
-use Rattle.sample_suite.proofs.DrawnPackages.{IsElement, IsPackage, IsRival, length-sample_packages, packages_drawn}
+use Rattle.sample_suite.proofs.DrawnPackages.{IsElement, IsPackage, IsConflict, length-sample_packages, packages_drawn}
 use Rattle.sample_suite.proofs.Names.{IsSmall}
-use Rattle.sample_suite.proofs.SampleLines.{AreSmall, IsSmallRival}
+use Rattle.sample_suite.proofs.SampleLines.{AreSmall, IsSmallConflict}
 use Rattle.sample_suite.proofs.SampleStanzas.{IsFit}
 use Rattle.sample_suite.proofs.Values.{AreFilled}
 
@@ -27,14 +27,14 @@ module _ (count : ℕ) (low : count ≤ 200000) where
   elements_filled [] h = tt
   elements_filled (element ∷ more) h = (h.0.some, elements_filled more h.1)
 
-  rival_small : (rival : Option ℕ) → IsRival count rival → IsSmallRival rival
-  rival_small None h = tt
-  rival_small (Some rival) h = omega (arith, h, low)
+  conflict_small : (conflict : Option ℕ) → IsConflict count conflict → IsSmallConflict conflict
+  conflict_small None h = tt
+  conflict_small (Some conflict) h = omega (arith, h, low)
 
   fit_drawn : (all : List SamplePackage) → AllByRecursion (IsPackage count) all → AllByRecursion IsFit all
   fit_drawn [] h = tt
   fit_drawn (p ∷ more) h = (
-    record { needs = elements_small p.needs h.0.elements; filled = elements_filled p.needs h.0.elements; rival = rival_small p.rival h.0.rival },
+    record { needs = elements_small p.needs h.0.elements; filled = elements_filled p.needs h.0.elements; conflict = conflict_small p.conflict h.0.conflict },
     fit_drawn more h.1,
   )
 
@@ -87,12 +87,12 @@ module _ (count : ℕ) (low : count ≤ 200000) where
       omega (arith, x, y, h, i, j, k)
   short_needs (d ∷ e ∷ f ∷ more) all few = absurd (omega (arith, few))
 
-  short_rival : (rival : Option ℕ) → IsRival count rival → length (lines_text (conflicts_lines rival)) ≤ 19
-  short_rival None h = omega arith
-  short_rival (Some rival) h =
-      let x = short_name rival h in
-      let j = length-append (codes "Conflicts: " ++ package_name rival) (10 ∷ []) in
-      let k = length-append ((codes "Conflicts: " ++ package_name rival) ++ 10 ∷ []) [] in
+  short_conflict : (conflict : Option ℕ) → IsConflict count conflict → length (lines_text (conflicts_lines conflict)) ≤ 19
+  short_conflict None h = omega arith
+  short_conflict (Some conflict) h =
+      let x = short_name conflict h in
+      let j = length-append (codes "Conflicts: " ++ package_name conflict) (10 ∷ []) in
+      let k = length-append ((codes "Conflicts: " ++ package_name conflict) ++ 10 ∷ []) [] in
       omega (arith, x, j, k)
 
   lines_append : (xs ys : List (List ℕ)) → length (lines_text (xs ++ ys)) ≡ length (lines_text xs) + length (lines_text ys)
@@ -107,11 +107,11 @@ module _ (count : ℕ) (low : count ≤ 200000) where
   short_stanza n p l is =
       let x = short_name n l in
       let y = short_needs p.needs is.elements is.few in
-      let z = short_rival p.rival is.rival in
-      let both = lines_append (depends_lines p.needs) (conflicts_lines p.rival) in
+      let z = short_conflict p.conflict is.conflict in
+      let both = lines_append (depends_lines p.needs) (conflicts_lines p.conflict) in
       let i = length-append (codes "Package: " ++ package_name n) (10 ∷ []) in
-      let j = length-append ((codes "Package: " ++ package_name n) ++ 10 ∷ []) (lines_text (codes "Version: 1" ∷ (depends_lines p.needs ++ conflicts_lines p.rival))) in
-      let k = length-append (codes "Version: 1" ++ 10 ∷ []) (lines_text (depends_lines p.needs ++ conflicts_lines p.rival)) in
+      let j = length-append ((codes "Package: " ++ package_name n) ++ 10 ∷ []) (lines_text (codes "Version: 1" ∷ (depends_lines p.needs ++ conflicts_lines p.conflict))) in
+      let k = length-append (codes "Version: 1" ++ 10 ∷ []) (lines_text (depends_lines p.needs ++ conflicts_lines p.conflict)) in
       let m = length-append (lines_text (stanza_lines n p)) (10 ∷ []) in
       omega (arith, x, y, z, both, i, j, k, m)
 

@@ -60,24 +60,24 @@ clean_depends [] h = tt
 clean_depends (element ∷ more) h =
     (free_both is_line_feed (codes "Depends: ") (needs_text (element ∷ more)) refl (joined_free is_line_feed (codes ", ") refl (map element_text (element ∷ more)) (clean_elements (element ∷ more) h)), tt)
 
--- a rival's number is small
-abbrev pub IsSmallRival : Option ℕ → Type 0
-IsSmallRival None = ⊤
-IsSmallRival (Some rival) = IsSmall rival
+-- the number of a conflict is small
+abbrev pub IsSmallConflict : Option ℕ → Type 0
+IsSmallConflict None = ⊤
+IsSmallConflict (Some conflict) = IsSmall conflict
 
-clean_conflicts : (rival : Option ℕ) → IsSmallRival rival → AllClean (conflicts_lines rival)
+clean_conflicts : (conflict : Option ℕ) → IsSmallConflict conflict → AllClean (conflicts_lines conflict)
 clean_conflicts None h = tt
-clean_conflicts (Some rival) h = (free_both is_line_feed (codes "Conflicts: ") (package_name rival) refl (clean_name rival h), tt)
+clean_conflicts (Some conflict) h = (free_both is_line_feed (codes "Conflicts: ") (package_name conflict) refl (clean_name conflict h), tt)
 
 all_append : {X : Type 0} (P : X → Type 0) (xs ys : List X) → AllByRecursion P xs → AllByRecursion P ys → AllByRecursion P (xs ++ ys)
 all_append P [] ys h k = k
 all_append P (x ∷ xs) ys h k = (h.0, all_append P xs ys h.1 k)
 
 -- the lines of a text that begins with a stanza
-pub stanza_cut : (n : ℕ) (p : SamplePackage) (rest : List ℕ) → IsSmall n → AreSmall p.needs → IsSmallRival p.rival → lines (stanza_text n p ++ rest) ≡ stanza_lines n p ++ ([] ∷ lines rest)
-stanza_cut n p rest small needs rival =
+pub stanza_cut : (n : ℕ) (p : SamplePackage) (rest : List ℕ) → IsSmall n → AreSmall p.needs → IsSmallConflict p.conflict → lines (stanza_text n p ++ rest) ≡ stanza_lines n p ++ ([] ∷ lines rest)
+stanza_cut n p rest small needs conflict =
     ap lines (append_assoc (lines_text (stanza_lines n p)) (10 ∷ []) rest)
     ∙ some_lines (stanza_lines n p) (10 ∷ rest) (
       free_both is_line_feed (codes "Package: ") (package_name n) refl (clean_name n small),
-      (refl, all_append (λ line. is_clean line ≡ true) (depends_lines p.needs) (conflicts_lines p.rival) (clean_depends p.needs needs) (clean_conflicts p.rival rival)),
+      (refl, all_append (λ line. is_clean line ≡ true) (depends_lines p.needs) (conflicts_lines p.conflict) (clean_depends p.needs needs) (clean_conflicts p.conflict conflict)),
     )

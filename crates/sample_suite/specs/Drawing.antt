@@ -33,21 +33,21 @@ abbrev pub draw_needs : ℕ → ℕ → Drawn (List (List ℕ))
 draw_needs count state = let chance = draw 5 state in draws (draw_element count) (chance.value / 2) chance.state
 
 -- the package that it conflicts with
-abbrev pub some_rival : Drawn ℕ → Drawn (Option ℕ)
-some_rival rival = record { value = Some rival.value; state = rival.state }
+abbrev pub some_conflict : Drawn ℕ → Drawn (Option ℕ)
+some_conflict conflict = record { value = Some conflict.value; state = conflict.state }
 
-abbrev pub no_rival : ℕ → Drawn (Option ℕ)
-no_rival state = record { value = None; state = state }
+abbrev pub no_conflict : ℕ → Drawn (Option ℕ)
+no_conflict state = record { value = None; state = state }
 
 -- one package in four conflicts with one
-abbrev pub draw_rival : ℕ → ℕ → Drawn (Option ℕ)
-draw_rival count state = let chance = draw 4 state in if chance.value == 0 then some_rival (draw count chance.state) else no_rival chance.state
+abbrev pub draw_conflict : ℕ → ℕ → Drawn (Option ℕ)
+draw_conflict count state = let chance = draw 4 state in if chance.value == 0 then some_conflict (draw count chance.state) else no_conflict chance.state
 
 abbrev pub draw_package : ℕ → ℕ → Drawn SamplePackage
 draw_package count state =
     let needs = draw_needs count state in
-    let rival = draw_rival count needs.state in
-    record { value = record { needs = needs.value; rival = rival.value }; state = rival.state }
+    let conflict = draw_conflict count needs.state in
+    record { value = record { needs = needs.value; conflict = conflict.value }; state = conflict.state }
 
 -- the packages of a suite of so many
 abbrev pub sample_packages : ℕ → ℕ → List SamplePackage

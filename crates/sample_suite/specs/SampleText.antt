@@ -27,11 +27,11 @@ depends_lines (element ∷ more) = (codes "Depends: " ++ needs_text (element ∷
 
 abbrev pub conflicts_lines : Option ℕ → List (List ℕ)
 conflicts_lines None = []
-conflicts_lines (Some rival) = (codes "Conflicts: " ++ package_name rival) ∷ []
+conflicts_lines (Some conflict) = (codes "Conflicts: " ++ package_name conflict) ∷ []
 
 -- the lines of a stanza, without the empty one behind them
 abbrev pub stanza_lines : ℕ → SamplePackage → List (List ℕ)
-stanza_lines number p = (codes "Package: " ++ package_name number) ∷ codes "Version: 1" ∷ (depends_lines p.needs ++ conflicts_lines p.rival)
+stanza_lines number p = (codes "Package: " ++ package_name number) ∷ codes "Version: 1" ∷ (depends_lines p.needs ++ conflicts_lines p.conflict)
 
 -- lines, each with its line feed
 abbrev pub lines_text : List (List ℕ) → List ℕ

@@ -1,6 +1,6 @@
 //! Draws of a linear congruential generator.
 ghost use Rattle.std.specs.Prelude.{◌≡◌, ◌<◌, IfOk, OnOk};
-ghost use Rattle.sample_suite.specs.Drawing.{draw, draws, draw_element, draw_needs, draw_package, draw_rival};
+ghost use Rattle.sample_suite.specs.Drawing.{draw, draws, draw_element, draw_needs, draw_package, draw_conflict};
 
 use crate::package::SamplePackage;
 use clause_pool::NumList;
@@ -76,10 +76,10 @@ impl Draws {
     }
 
     // Draws the package that another conflicts with, where it does.
-    fn rival(&mut self, count: u32) -> Option<u32>
+    fn conflict(&mut self, count: u32) -> Option<u32>
         requires { 0 < count }
-        ensures value { result ≡ (draw_rival count self.old.state).value }
-        ensures state { self.new.state ≡ (draw_rival count self.old.state).state }
+        ensures value { result ≡ (draw_conflict count self.old.state).value }
+        ensures state { self.new.state ≡ (draw_conflict count self.old.state).state }
     {
         if self.below(4) == 0 {
             Some(self.below(count))
@@ -97,7 +97,7 @@ impl Draws {
         let needs = self.needs(alloc, count)?;
         Ok(SamplePackage {
             needs,
-            rival: self.rival(count),
+            conflict: self.conflict(count),
         })
     }
 }

@@ -7,5 +7,5 @@ pub(crate) struct SamplePackage {
     /// Elements, each a list of alternatives.
     pub(crate) needs: ClauseList,
     /// The package that it conflicts with, where it does.
-    pub(crate) rival: Option<u32>,
+    pub(crate) conflict: Option<u32>,
 }

@@ -91,14 +91,14 @@ fn push_next_element(out: &mut Vec<u8>, alternatives: &[u32]) -> Result<(), Allo
 }
 
 // Puts the line of a conflict behind the text, where there is one.
-fn push_conflicts(out: &mut Vec<u8>, rival: Option<u32>) -> Result<(), AllocError>
-    ensures { OnOk result (out.new.items ≡ out.old.items ++ lines_text (conflicts_lines rival)) }
+fn push_conflicts(out: &mut Vec<u8>, conflict: Option<u32>) -> Result<(), AllocError>
+    ensures { OnOk result (out.new.items ≡ out.old.items ++ lines_text (conflicts_lines conflict)) }
 {
-    let Some(rival) = rival else {
+    let Some(conflict) = conflict else {
         return Ok(());
     };
     out.extend_from_slice(b"Conflicts: ")?;
-    push_name(out, rival)?;
+    push_name(out, conflict)?;
     out.extend_from_slice(b"\n")
 }
 
@@ -115,6 +115,6 @@ pub(crate) fn push_stanza(
     push_name(out, number)?;
     out.extend_from_slice(b"\nVersion: 1\n")?;
     push_depends(out, made.needs.as_slice())?;
-    push_conflicts(out, made.rival)?;
+    push_conflicts(out, made.conflict)?;
     out.extend_from_slice(b"\n")
 }

@@ -163,12 +163,12 @@ pub record HaveMarkedTo (conflicts : List (List ℕ)) (classes : List ℕ) (tabl
   pub all : (c q k : ℕ) → In c classes → In q (listed_for conflicts c) → In k (listed_for table q) → In k found
   pub only : (k : ℕ) → In k found → In k without ⊎ ((q : ℕ) × In k (listed_for table q))
 
-pub rivals_none : (conflicts table : List (List ℕ)) (without found : List ℕ) → found ≡ without → HaveMarkedTo conflicts [] table without found
-rivals_none conflicts table without found e = record { kept = λ k i. subst (λ z. In k z) (sym e) i; all = λ c q k i. absurd (In_none i); only = λ k i. inl (subst (λ z. In k z) e i) }
+pub marked_to_none : (conflicts table : List (List ℕ)) (without found : List ℕ) → found ≡ without → HaveMarkedTo conflicts [] table without found
+marked_to_none conflicts table without found e = record { kept = λ k i. subst (λ z. In k z) (sym e) i; all = λ c q k i. absurd (In_none i); only = λ k i. inl (subst (λ z. In k z) e i) }
 
-pub rivals_more : (conflicts : List (List ℕ)) (classes : List ℕ) (i : ℕ) (table : List (List ℕ)) (without found new lent : List ℕ) → i < length classes → lent ≡ listed_for conflicts (get_or classes i 0)
+pub marked_to_more : (conflicts : List (List ℕ)) (classes : List ℕ) (i : ℕ) (table : List (List ℕ)) (without found new lent : List ℕ) → i < length classes → lent ≡ listed_for conflicts (get_or classes i 0)
     → HaveMarked lent table found new → HaveMarkedTo conflicts (take i classes) table without found → HaveMarkedTo conflicts (take (i + 1) classes) table without new
-rivals_more conflicts classes i table without found new lent l is marked so = record {
+marked_to_more conflicts classes i table without found new lent l is marked so = record {
   kept = λ k j. marked.kept k (so.kept k j);
   all = λ c q k j h m. elim (In_last (take i classes) (take (i + 1) classes) (get_or classes i 0) c (take_more classes i 0 l) j) [
     | inl o ↦ marked.kept k (so.all c q k o h m)
@@ -221,8 +221,8 @@ choice_within pool book kinds choices kind i choice so l is m =
     subst (λ z. get_or choice i 0 < z) (rows_long pool book.rows)
     (so.below (listed_for choices kind) (In_at choices kind [] (subst (λ z. kind < z) (sym so.long) l)) (get_or choice i 0) (subst (λ z. In (get_or choice i 0) z) is (In_at choice i 0 m)))
 
-pub rivals_within : (pool : Interned) (book : Book) (class : ℕ) (lent : List ℕ) (table : List (List ℕ)) → Sound pool book → lent ≡ listed_for book.conflicts class → length table ≡ length (repository_of pool book).clauses → AreBelow (length table) lent
-rivals_within pool book class lent table sound is size q i =
+pub conflicts_within : (pool : Interned) (book : Book) (class : ℕ) (lent : List ℕ) (table : List (List ℕ)) → Sound pool book → lent ≡ listed_for book.conflicts class → length table ≡ length (repository_of pool book).clauses → AreBelow (length table) lent
+conflicts_within pool book class lent table sound is size q i =
     let j : In class (listed_for book.conflicts q) = other_way book.conflicts sound.conflicts class q (subst (λ z. In q z) is i) in
     let b : q < length book.conflicts = listed_in book.conflicts q class j in
     let e : length book.conflicts ≡ length book.rows = book.paired in

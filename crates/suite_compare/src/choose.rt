@@ -49,7 +49,7 @@ fn put_firsts(pool: &Pool, row: &[ClauseId], chosen: &mut Vec<u32>) -> Result<bo
 }
 
 /// Whether the class conflicts with one of the others.
-fn fights(book: &Book, class: u32, others: &[u32]) -> bool
+fn conflicts_with_one(book: &Book, class: u32, others: &[u32]) -> bool
     requires class { class < length book.now.rows }
     requires others { AreBelow (length book.now.rows) others.now }
     ensures { result ≡ list_any (has (listed_for book.now.conflicts class)) others.now }
@@ -68,7 +68,7 @@ fn are_at_peace(book: &Book, classes: &[u32]) -> bool
     ensures { result ≡ true → ArePeaceful book.now.conflicts classes.now classes.now }
 {
     for class in classes {
-        if fights(book, *class, classes) {
+        if conflicts_with_one(book, *class, classes) {
             return false;
         }
     }

@@ -125,8 +125,8 @@ impl Choices {
         let holders = self.holders.as_slice();
         let mut found = Vec::from_slice(alloc, free)?;
         for class in choice {
-            let rivals = book.against(*class);
-            add_rivals(rivals, holders, &mut found)?;
+            let conflicts = book.against(*class);
+            add_holders(conflicts, holders, &mut found)?;
         }
         sort_once(&mut found);
         Ok(found)
@@ -145,7 +145,7 @@ fn all_places(alloc: Global, count: usize) -> Result<Vec<usize>, AllocError>
 }
 
 /// Puts the kinds whose first choice has one of the classes behind the others.
-fn add_rivals(
+fn add_holders(
     classes: &[u32],
     holders: &[PlaceList],
     found: &mut Vec<usize>,

@@ -1,6 +1,6 @@
 use Rattle.row_book.proofs.Lists.{In_at}
 use Rattle.suite_compare.proofs.Suspected.{marked_none, marked_more, marked_all}
-use Rattle.suite_compare.proofs.suspect.add_rivals.Goals as goal
+use Rattle.suite_compare.proofs.suspect.add_holders.Goals as goal
 
 pub loop-class-init : goal.loop-class-init
 loop-class-init c = marked_none c.args.holders.now c.args.found.now.items

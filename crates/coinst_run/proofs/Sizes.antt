@@ -137,6 +137,6 @@ size_told stanzas pool made packages classes clauses conflicts line a b c d e =
     let size : length R.clauses ≡ length made.book.rows = length-map made.book.rows (row_at pool) in
     let needs : clauses ≡ count_by is_needs_line (kernel_lines format R members made.held) =
     c ∙ ap (λ n. sum_by (λ n. length (clauses_of R n)) (numbers n 0)) (sym size) ∙ sym (needs_counted format R members made.held) in
-    let rivals : conflicts ≡ count_by is_against_line (kernel_lines format R members made.held) =
+    let against : conflicts ≡ count_by is_against_line (kernel_lines format R members made.held) =
     d ∙ ap (λ n. sum_by (λ n. length (greater_conflicts R n)) (numbers n 0)) (sym size) ∙ sym (against_counted format R members made.held) in
-    e ∙ ap₂ (λ p q. size_line p q clauses conflicts) a (b ∙ sym size) ∙ ap₂ (λ p q. size_line (length stanzas) (length R.clauses) p q) needs rivals
+    e ∙ ap₂ (λ p q. size_line p q clauses conflicts) a (b ∙ sym size) ∙ ap₂ (λ p q. size_line (length stanzas) (length R.clauses) p q) needs against

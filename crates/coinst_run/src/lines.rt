@@ -30,7 +30,7 @@ pub(crate) fn push_at_line(line: &mut Vec<u8>, number: u64, words: &[u8]) -> Res
 
 // Puts the same behind the line, with a number behind it.
 #[tactic(auto, using(crate::proofs::Texts::appended))]
-pub(crate) fn push_numbered(
+fn push_numbered(
     line: &mut Vec<u8>,
     number: u64,
     words: &[u8],

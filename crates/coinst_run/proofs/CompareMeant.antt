@@ -3,12 +3,13 @@ use Rattle.std.proofs.Common.{◌≡◌, ℕ, List, refl}
 use Rattle.suite_compare.specs.Asking.{verdict_in}
 use Rattle.suite_compare.proofs.Deciding.{verdict_is_judged}
 use Rattle.suite_compare.specs.declared.report.ReportLine.{ReportLine}
+use Rattle.suite_compare.specs.Refusals.{home_in, packages_in}
 use Rattle.coinst_run.specs.declared.answer.Verdict.{Verdict}
 use Rattle.coinst_run.specs.Answer.{reported}
 use Rattle.coinst_run.specs.Compare.{broken_lines, compare_answer, lines_answer, new_answer, new_course, old_answer}
 use Rattle.coinst_run.specs.CompareMeaning.{CompareIsMeant}
 use Rattle.coinst_run.specs.CompareText.{comparison_text, comparison_verdict}
-use Rattle.coinst_run.specs.Index.{home_in, index_in, packages_in}
+use Rattle.coinst_run.specs.Index.{index_in}
 use Rattle.coinst_run.specs.Outcome.{answered}
 use Rattle.coinst_run.proofs.Reported.{index_used, kernel_used}
 

@@ -35,6 +35,7 @@ use Rattle.search_terms.specs.Tree.{failed_leaves}
 use Rattle.suite_compare.specs.Answering.{unknown_goal}
 use Rattle.suite_compare.specs.Asking.{HasVerdict, asked_tree, verdict_in, wanted_by}
 use Rattle.suite_compare.proofs.Deciding.{named_from, named_parts, verdict_is_judged}
+use Rattle.suite_compare.specs.Refusals.{home_in, packages_in}
 use Rattle.coinst_run.specs.declared.answer.Verdict.{Verdict}
 use Rattle.coinst_run.specs.declared.answer.Verdict.TheVariants.{Done, Negative, Undecided}
 use Rattle.coinst_run.specs.Answer.{reported}
@@ -42,7 +43,7 @@ use Rattle.coinst_run.specs.Course.{answers}
 use Rattle.coinst_run.specs.Explain.{explain_answer, explained_by_unknown, explanation_answer, goals_explained}
 use Rattle.coinst_run.specs.ExplainMeaning.{AreEnough, CoinstButFor, ExplainIsMeant, ExplainMeans, HealthyButFor, MeansExplained}
 use Rattle.coinst_run.specs.ExplainText.{core_text, yes_line}
-use Rattle.coinst_run.specs.Index.{home_in, index_in, packages_in}
+use Rattle.coinst_run.specs.Index.{index_in}
 use Rattle.coinst_run.specs.QueryText.{undecided_text}
 use Rattle.coinst_run.proofs.Explanations.{AreInConflict, reasons_in_conflict, some_told}
 use Rattle.coinst_run.proofs.OneCore.{one_core}

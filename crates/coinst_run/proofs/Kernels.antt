@@ -34,11 +34,12 @@ use Rattle.kernel_rounds.proofs.Settling.{fixed_parts_lem}
 use Rattle.kernel_text.specs.KernelText.{FitsFormat, format_of}
 use Rattle.kernel_text.specs.Laws.{IsKernelOf}
 use Rattle.kernel_text.specs.Reading.{number_limit, IsFormat}
+use Rattle.suite_compare.specs.Refusals.{home_in, packages_in}
 use Rattle.coinst_run.specs.declared.answer.Cause.{Cause}
 use Rattle.coinst_run.specs.declared.answer.Cause.TheVariants.{ClauseLimit}
 use Rattle.coinst_run.specs.Answer.{refused}
 use Rattle.coinst_run.specs.Faults.{fault_cause}
-use Rattle.coinst_run.specs.Index.{Index, by_fault, checked_index, home_in, packages_in}
+use Rattle.coinst_run.specs.Index.{Index, by_fault, checked_index}
 use Rattle.coinst_run.specs.IndexKernel.{ClassedKernel, classed_kernel, index_kernel}
 use Rattle.coinst_run.specs.Kernel.{FitsSuite, by_limit, kernel_of}
 use Rattle.coinst_run.specs.Lines.{fault_line, limit_line}
@@ -47,7 +48,6 @@ use Rattle.coinst_run.proofs.Classes.{HasPackage, class_met, class_within, class
 -- the packages that were read are those of the text
 pub index_accepted : (path text : List ℕ) (home : Home) (packages : List PackageFacts) → first_fault text ≡ None → packages ≡ map facts_of (stanzas_of text) → home.name ≡ home_of (stanzas_of text) →
     let index : Index = record { home = home; packages = packages } in checked_index path text ≡ Ok index
-unfolding home_in packages_in
 index_accepted path text home packages accepted said at =
     let index : Home → List PackageFacts → Index = λ h ps. record { home = h; packages = ps } in
     ap (by_fault path text) accepted

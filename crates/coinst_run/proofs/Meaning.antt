@@ -27,13 +27,14 @@ use Rattle.kernel_text.specs.Members.{kernel_members}
 use Rattle.kernel_text.proofs.Classified.{kernels_are_writable}
 use Rattle.kernel_text.proofs.OneReading.{one_reading}
 use Rattle.kernel_text.proofs.ReadIsWritten.{read_is_written}
+use Rattle.suite_compare.specs.Refusals.{home_in, packages_in}
 use Rattle.coinst_run.specs.declared.answer.Verdict.{Verdict}
 use Rattle.coinst_run.specs.declared.answer.Verdict.TheVariants.{Done}
 use Rattle.coinst_words.specs.declared.job.Job.{Job}
 use Rattle.coinst_words.specs.declared.job.Job.TheVariants.{Kernel, Query, StoredQuery, Compare, Explain, Status, Migrate, Sample}
 use Rattle.coinst_run.specs.Answer.{reported}
 use Rattle.coinst_run.specs.Course.{answers, then_on}
-use Rattle.coinst_run.specs.Index.{by_fault, home_in, index_in, packages_in}
+use Rattle.coinst_run.specs.Index.{by_fault, index_in}
 use Rattle.coinst_run.specs.IndexKernel.{classed_kernel, index_kernel, json_for, members_for, text_for}
 use Rattle.coinst_run.specs.Kernel.{by_limit, kernel_answer}
 use Rattle.coinst_run.specs.Meaning.{JsonMeans, KernelMeans, MeansJob, StandsOnce, classes_of}
@@ -51,7 +52,6 @@ use Rattle.coinst_run.proofs.SystemMeant.{system_is_meant}
 use Rattle.coinst_run.proofs.Members.{class_from, class_parts, stands_once}
 
 pub formed : (text : List ℕ) → first_fault text ≡ None → Accepted (packages_in text)
-unfolding packages_in
 formed text e = accepted.accepted text e
 
 -- the kernel of an accepted index at a limit, with hold or without, with its members

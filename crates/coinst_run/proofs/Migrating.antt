@@ -9,11 +9,12 @@ use Rattle.relation_fields.specs.declared.packages.PackageFacts.{PackageFacts}
 use Rattle.repo_model.specs.Feeding.{IsSuiteOf}
 use Rattle.repo_model.specs.FirstFault.{first_fault}
 use Rattle.repo_model.specs.declared.fault.IndexFault.{IndexFault}
+use Rattle.suite_compare.specs.Refusals.{home_in, packages_in}
 use Rattle.coinst_run.specs.declared.answer.Verdict.{Verdict}
 use Rattle.coinst_run.specs.Answer.{Answer, reported}
 use Rattle.coinst_run.specs.Course.{answers, then_on}
 use Rattle.coinst_run.specs.Ending.{StopsAt}
-use Rattle.coinst_run.specs.Index.{Index, by_fault, checked_index, home_in, index_in, packages_in}
+use Rattle.coinst_run.specs.Index.{Index, by_fault, checked_index, index_in}
 use Rattle.coinst_run.specs.IndexKernel.{ClassedKernel, index_kernel}
 use Rattle.coinst_run.specs.Kernel.{kernel_of}
 use Rattle.coinst_run.specs.Migrate.{by_refusal, kernel_at, kernel_behind, lines_answer, plan_answer, refusal_of}
@@ -30,7 +31,6 @@ index_checked path text index e = checked_by path text index (first_fault text) 
 
 pub suite_checked : (path text : List ℕ) (home : Home) (packages : List PackageFacts) → (let index : Index = record { home = home; packages = packages } in checked_index path text ≡ Ok index) →
     IsSuiteOf text packages home.name
-unfolding home_in packages_in
 suite_checked path text home packages e =
     let w = index_checked path text (record { home = home; packages = packages }) e in
     record { fine = w.0; facts = sym (ap (λ (i : Index). i.packages) w.1); common = sym (ap (λ (i : Index). i.home.name) w.1) }

@@ -20,11 +20,12 @@ use Rattle.search_terms.proofs.Exists.{cases_Option}
 use Rattle.suite_compare.specs.Answering.{names_none, unknown_from, unknown_goal}
 use Rattle.suite_compare.specs.Asking.{asked_tree, images_of, installation}
 use Rattle.suite_compare.proofs.Deciding.{asked_is, found_there}
+use Rattle.suite_compare.specs.Refusals.{home_in, packages_in}
 use Rattle.coinst_run.specs.declared.answer.Verdict.{Verdict}
 use Rattle.coinst_run.specs.declared.answer.Verdict.TheVariants.{Done, Negative, Undecided}
 use Rattle.coinst_run.specs.Answer.{reported}
 use Rattle.coinst_run.specs.Course.{answers, then_on}
-use Rattle.coinst_run.specs.Index.{by_fault, home_in, index_in, packages_in}
+use Rattle.coinst_run.specs.Index.{by_fault, index_in}
 use Rattle.coinst_run.specs.Kernel.{by_limit}
 use Rattle.coinst_run.specs.Outcome.{answered, file_limit, outcome_over, over_file, too_long}
 use Rattle.coinst_run.specs.Query.{by_found, by_tree, by_unknown, goals_answer, query_answer}
@@ -50,7 +51,6 @@ all_known packages number (g ∷ gs) e goal i = elim (cases_Bool (names_none pac
 ]
 
 pub formed : (text : List ℕ) → first_fault text ≡ None → Accepted (packages_in text)
-unfolding packages_in
 formed text e = accepted.accepted text e
 
 module _ (text : List ℕ) (goals : List Goal) (budget limit : ℕ) (hold : Bool) (verdict : Verdict) (report : List ℕ) where

@@ -6,11 +6,12 @@ use Rattle.repo_model.specs.FirstFault.{first_fault}
 use Rattle.repo_model.specs.Repository.{suite_repository}
 use Rattle.row_book.specs.Rounds.{PassedRound, limit_at}
 use Rattle.sample_suite.specs.SampleText.{sample_text}
+use Rattle.suite_compare.specs.Refusals.{home_in, packages_in}
 use Rattle.coinst_run.specs.declared.answer.Verdict.{Verdict}
 use Rattle.coinst_run.specs.declared.answer.Verdict.TheVariants.{Done}
 use Rattle.coinst_run.specs.Answer.{reported}
 use Rattle.coinst_run.specs.Course.{answers, then_on}
-use Rattle.coinst_run.specs.Index.{by_fault, home_in, index_in, packages_in}
+use Rattle.coinst_run.specs.Index.{by_fault, index_in}
 use Rattle.coinst_run.specs.IndexKernel.{index_kernel}
 use Rattle.coinst_run.specs.Kernel.{by_limit}
 use Rattle.coinst_run.specs.Meaning.{SizeMeans}

@@ -33,11 +33,12 @@ use Rattle.suite_compare.specs.Asking.{asked_tree, images_of, tree_of}
 use Rattle.suite_compare.specs.Asking as asking
 use Rattle.suite_compare.proofs.Deciding.{named_within}
 use Rattle.suite_compare.proofs.SuiteKernels.{of_packages, suite_sound}
+use Rattle.suite_compare.specs.Refusals.{home_in, packages_in}
 use Rattle.coinst_run.specs.declared.answer.Verdict.{Verdict}
 use Rattle.coinst_run.specs.declared.answer.Verdict.TheVariants.{Done, Undecided}
 use Rattle.coinst_run.specs.Answer.{reported}
 use Rattle.coinst_run.specs.Course.{answers, then_on}
-use Rattle.coinst_run.specs.Index.{by_fault, home_in, index_in, packages_in}
+use Rattle.coinst_run.specs.Index.{by_fault, index_in}
 use Rattle.coinst_run.specs.IndexKernel.{classed_kernel, index_kernel, text_for}
 use Rattle.coinst_run.specs.Kernel.{by_limit, kernel_answer}
 use Rattle.coinst_run.specs.Outcome.{answered, file_limit, outcome_over, over_file, too_long}

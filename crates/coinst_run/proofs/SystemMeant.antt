@@ -6,10 +6,11 @@ use Rattle.status_check.specs.Own.{own_home, own_packages, status_fault}
 use Rattle.status_check.specs.Report.{had_goals}
 use Rattle.status_check.specs.declared.report.StatusReport.{StatusReport}
 use Rattle.status_check.proofs.Judging.{judged, told_healthy}
+use Rattle.suite_compare.specs.Refusals.{home_in, packages_in}
 use Rattle.coinst_run.specs.declared.answer.Verdict.{Verdict}
 use Rattle.coinst_run.specs.Answer.{reported}
 use Rattle.coinst_run.specs.Course.{answers, then_on}
-use Rattle.coinst_run.specs.Index.{Index, home_in, index_in, packages_in}
+use Rattle.coinst_run.specs.Index.{Index, index_in}
 use Rattle.coinst_run.specs.Outcome.{answered, file_limit, outcome_over, over_file, too_long}
 use Rattle.coinst_run.specs.SystemMeaning.{SystemIsMeant}
 use Rattle.coinst_run.specs.SystemStatus.{behind_index, system_answer, system_by_fault, system_course, system_in, system_report, told_answer}

@@ -8,11 +8,11 @@ use Rattle.suite_compare.specs.Asking.{HasVerdict}
 use Rattle.suite_compare.specs.Names.{names_of_both}
 use Rattle.suite_compare.specs.Report.{report}
 use Rattle.suite_compare.specs.declared.report.ReportLine.{ReportLine}
+use Rattle.suite_compare.specs.Refusals.{home_in, packages_in}
 use Rattle.coinst_run.specs.declared.answer.Verdict.{Verdict}
 use Rattle.coinst_run.specs.Answer.{reported}
 use Rattle.coinst_run.specs.Compare.{compare_course}
 use Rattle.coinst_run.specs.CompareText.{comparison_text, comparison_verdict}
-use Rattle.coinst_run.specs.Index.{home_in, packages_in}
 use Rattle.coinst_run.specs.Outcome.{answered, outcome_over}
 
 -- the verdicts on goals in an index at a clause limit, with hold or without, a yes and a no of them judged on the stanzas

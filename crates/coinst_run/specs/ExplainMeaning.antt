@@ -16,12 +16,12 @@ use Rattle.repo_model.specs.Repository.{in_conflict}
 use Rattle.repo_model.specs.Stanzas.{Met, stanza_at}
 use Rattle.repo_model.specs.declared.goals.Goal.{Goal}
 use Rattle.row_book.specs.Sets.{In, Is, NumSet}
+use Rattle.suite_compare.specs.Refusals.{home_in, packages_in}
 use Rattle.coinst_run.specs.declared.answer.Verdict.{Verdict}
 use Rattle.coinst_run.specs.declared.answer.Verdict.TheVariants.{Done, Negative, Undecided}
 use Rattle.coinst_run.specs.Answer.{reported}
 use Rattle.coinst_run.specs.Explain.{AreClashesOf, explain_course}
 use Rattle.coinst_run.specs.ExplainText.{core_text, yes_line}
-use Rattle.coinst_run.specs.Index.{home_in, packages_in}
 use Rattle.coinst_run.specs.Outcome.{answered, outcome_over}
 use Rattle.coinst_run.specs.QueryMeaning.{UndecidedMeans}
 

@@ -1,22 +1,16 @@
 -- What an index without a fault says: its packages in file order, and its home, the common architecture of those that
 -- are not of `all`.
-use Rattle.std.specs.Prelude.{ℕ, List, map, Option, Some, None, Ok, Err}
+use Rattle.std.specs.Prelude.{ℕ, List, Option, Some, None, Ok, Err}
 use Rattle.relation_fields.specs.declared.packages.Home.{Home}
 use Rattle.relation_fields.specs.declared.packages.PackageFacts.{PackageFacts}
 use Rattle.repo_model.specs.declared.fault.IndexFault.{IndexFault}
 use Rattle.repo_model.specs.declared.suite.Suite.{Suite}
-use Rattle.repo_model.specs.Facts.{facts_of}
-use Rattle.repo_model.specs.FirstFault.{first_fault, home_of, stanzas_of}
+use Rattle.repo_model.specs.FirstFault.{first_fault}
+use Rattle.suite_compare.specs.Refusals.{home_in, packages_in}
 use Rattle.coinst_run.specs.Answer.{Stage, refused}
 use Rattle.coinst_run.specs.Course.{Course, reads, then_on}
 use Rattle.coinst_run.specs.Faults.{fault_cause}
 use Rattle.coinst_run.specs.Lines.{fault_line}
-
-unfoldable pub packages_in : List ℕ → List PackageFacts
-packages_in text = map facts_of (stanzas_of text)
-
-unfoldable pub home_in : List ℕ → Home
-home_in text = record { name = home_of (stanzas_of text) }
 
 pub record Index : Type 0 where
   pub home : Home

@@ -2,7 +2,7 @@
 use Rattle.std.specs.Prelude.{◌≡◌, ℕ, ◌<◌, Bool, true, false, ◌&&◌, ◌↔◌, List, length, Some, None}
 use Rattle.std.specs.List.{list_any}
 use Rattle.std.specs.Str.{bytes_eq}
-use Rattle.coinst_run.specs.Index.{home_in, packages_in}
+use Rattle.suite_compare.specs.Refusals.{home_in, packages_in}
 use Rattle.coinst_run.specs.IndexKernel.{index_kernel, members_for}
 use Rattle.coinst_run.specs.Sample.{sample_limit, size_report}
 use Rattle.sample_suite.specs.SampleText.{sample_text}

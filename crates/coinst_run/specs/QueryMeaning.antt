@@ -14,9 +14,9 @@ use Rattle.search_terms.specs.Form.{form}
 use Rattle.search_terms.specs.Tree.{failed_leaves}
 use Rattle.suite_compare.specs.Answering.{Serves}
 use Rattle.suite_compare.specs.Asking.{asked_tree, images_of}
+use Rattle.suite_compare.specs.Refusals.{home_in, packages_in}
 use Rattle.coinst_run.specs.declared.answer.Verdict.{Verdict}
 use Rattle.coinst_run.specs.declared.answer.Verdict.TheVariants.{Done, Negative, Undecided}
-use Rattle.coinst_run.specs.Index.{home_in, packages_in}
 use Rattle.coinst_run.specs.Answer.{reported}
 use Rattle.coinst_run.specs.Outcome.{answered, outcome_over}
 use Rattle.coinst_run.specs.Query.{query_course}

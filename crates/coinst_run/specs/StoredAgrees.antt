@@ -8,11 +8,12 @@ use Rattle.repo_model.specs.declared.goals.Goal.{Goal}
 use Rattle.row_book.specs.Repository.{Repository}
 use Rattle.search_terms.specs.declared.literals.Literal.{Literal}
 use Rattle.suite_compare.specs.Asking.{images_of, installation}
+use Rattle.suite_compare.specs.Refusals.{home_in, packages_in}
 use Rattle.coinst_run.specs.declared.answer.Cause.TheVariants.{UnknownGoal}
 use Rattle.coinst_run.specs.declared.answer.Verdict.{Verdict}
 use Rattle.coinst_run.specs.declared.answer.Verdict.TheVariants.{Done, Negative, Undecided}
 use Rattle.coinst_run.specs.Answer.{Answer, refused, reported}
-use Rattle.coinst_run.specs.Index.{Index, home_in, index_in, packages_in}
+use Rattle.coinst_run.specs.Index.{Index, index_in}
 use Rattle.coinst_run.specs.IndexKernel.{index_kernel, text_for}
 use Rattle.coinst_run.specs.Kernel.{kernel_course}
 use Rattle.coinst_run.specs.Outcome.{answered, file_limit, outcome_over}

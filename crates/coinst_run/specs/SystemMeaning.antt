@@ -5,13 +5,13 @@ use Rattle.repo_model.specs.FirstFault.{first_fault}
 use Rattle.repo_model.specs.Repository.{suite_repository}
 use Rattle.repo_model.specs.Stanzas.{HealthyStanzas}
 use Rattle.suite_compare.specs.Asking.{verdict_in}
+use Rattle.suite_compare.specs.Refusals.{home_in, packages_in}
 use Rattle.status_check.specs.Own.{foreign_count, own_home, own_packages, status_fault}
 use Rattle.status_check.specs.Report.{all_of, had_goals, line_for, state_of, IsJudged, IsStateOf}
 use Rattle.status_check.specs.declared.report.OwnState.TheVariants.{Healthy}
 use Rattle.status_check.specs.declared.report.StatusReport.{StatusReport}
 use Rattle.coinst_run.specs.declared.answer.Verdict.{Verdict}
 use Rattle.coinst_run.specs.Answer.{reported}
-use Rattle.coinst_run.specs.Index.{home_in, packages_in}
 use Rattle.coinst_run.specs.Outcome.{answered, outcome_over}
 use Rattle.coinst_run.specs.SystemStatus.{status_course}
 use Rattle.coinst_run.specs.SystemText.{system_text, system_verdict}

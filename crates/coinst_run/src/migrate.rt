@@ -6,9 +6,9 @@ ghost use Rattle.migrate_plan.specs.Refusals.{Refuses};
 ghost use Rattle.migrate_plan.specs.declared.plan.PlanLine.{PlanLine};
 ghost use Rattle.migrate_plan.specs.declared.refusals.PlanError.{PlanError};
 ghost use Rattle.repo_model.specs.Feeding.{IsSuiteOf};
+ghost use Rattle.suite_compare.specs.Refusals.{home_in, packages_in};
 ghost use Rattle.coinst_run.specs.Ending.{Settles, StopsAt, ending_of, stop_ending};
 ghost use Rattle.coinst_run.specs.Follows.{Follows};
-ghost use Rattle.coinst_run.specs.Index.{home_in, packages_in};
 ghost use Rattle.coinst_run.specs.IndexKernel.{index_kernel};
 ghost use Rattle.coinst_run.specs.Migrate.{by_refusal, homes_line, kernel_at, migrate_course, names_line, new_answer, new_course, old_answer, packages_line, plan_answer};
 

@@ -1,8 +1,8 @@
 use Rattle.std.proofs.Common.{ℕ, Bool, ap₂}
 use Rattle.migrate_plan.specs.Plan.{settings_of}
+use Rattle.suite_compare.specs.Refusals.{home_in, packages_in}
 use Rattle.coinst_run.specs.Course.{Course}
 use Rattle.coinst_run.specs.Ending.{ending_of, stop_ending}
-use Rattle.coinst_run.specs.Index.{home_in, packages_in}
 use Rattle.coinst_run.specs.IndexKernel.{index_kernel}
 use Rattle.coinst_run.specs.Migrate.{kernel_at, new_course, old_answer}
 use Rattle.coinst_run.proofs.Follows.{settled_follows, stopped}

@@ -57,23 +57,23 @@ abbrev KeepsWithoutConflicts : Type 0
 KeepsWithoutConflicts = (R : Repository) (V : NumSet) (F : Repository) → OfPackages R V → FlattenedBy R V F → (S : NumSet) → (Coinst R S ↔ Coinst F S)
 
 -- `a: Depends b; Conflicts b`, `b`
-rivals : Repository
-rivals = record { clauses = ((1 ∷ []) ∷ []) ∷ [] ∷ []; conflicts = (1 ∷ []) ∷ (0 ∷ []) ∷ [] }
+in_conflict : Repository
+in_conflict = record { clauses = ((1 ∷ []) ∷ []) ∷ [] ∷ []; conflicts = (1 ∷ []) ∷ (0 ∷ []) ∷ [] }
 
 -- with both taken out
 bare : Repository
 bare = record { clauses = [] ∷ [] ∷ []; conflicts = (1 ∷ []) ∷ (0 ∷ []) ∷ [] }
 
-none_bound : OfPackages rivals none
+none_bound : OfPackages in_conflict none
 unfolding none
 none_bound n h = absurd (false≢true h)
 
-bare_rows : (p : ℕ) → p < 2 → IsRow rivals none p (clauses_of bare p)
-unfolding rivals bare none row is_minimal_block blocks is_supported supports subsets nonempty_from
+bare_rows : (p : ℕ) → p < 2 → IsRow in_conflict none p (clauses_of bare p)
+unfolding in_conflict bare none row is_minimal_block blocks is_supported supports subsets nonempty_from
 bare_rows p l =
     elim (cases_eq p 0) [
-      | inl e ↦ subst (λ z. IsRow rivals none z (clauses_of bare z)) (sym e) (row_is rivals none 0 none_bound)
-      | inr ne ↦ let e : p ≡ 1 = omega (arith, ne) in subst (λ z. IsRow rivals none z (clauses_of bare z)) (sym e) (row_is rivals none 1 none_bound)
+      | inl e ↦ subst (λ z. IsRow in_conflict none z (clauses_of bare z)) (sym e) (row_is in_conflict none 0 none_bound)
+      | inr ne ↦ let e : p ≡ 1 = omega (arith, ne) in subst (λ z. IsRow in_conflict none z (clauses_of bare z)) (sym e) (row_is in_conflict none 1 none_bound)
     ]
 
 first_alone : (n : ℕ) → Is (has (0 ∷ [])) n → n ≡ 0
@@ -91,15 +91,15 @@ bare_first = record {
   contains = λ n h. h;
 }
 
-rivals_first : Coinst rivals (has (0 ∷ [])) → ⊥
-unfolding rivals
-rivals_first s =
+in_conflict_first : Coinst in_conflict (has (0 ∷ [])) → ⊥
+unfolding in_conflict
+in_conflict_first s =
     let i : Is s.whole 0 = s.contains 0 refl in
     let hit : Hit (Is s.whole) (1 ∷ []) = s.healthy.abundance 0 i (1 ∷ []) here in
     let j : Is s.whole 1 = elim (In_cases hit.inside) [ inl e ↦ subst (Is s.whole) e hit.alive | inr k ↦ absurd (In_none k) ] in
-    both_ways (against rivals 0 1) (s.healthy.peace 0 1 i j) refl
+    both_ways (against in_conflict 0 1) (s.healthy.peace 0 1 i j) refl
 
 pub keeping_wants_the_conflicts : KeepsWithoutConflicts → ⊥
-unfolding rivals bare
+unfolding in_conflict bare
 keeping_wants_the_conflicts law =
-    rivals_first ((law rivals none bare none_bound (record { size = refl; rows = bare_rows; conflicts = refl }) (has (0 ∷ []))).1 bare_first)
+    in_conflict_first ((law in_conflict none bare none_bound (record { size = refl; rows = bare_rows; conflicts = refl }) (has (0 ∷ []))).1 bare_first)

@@ -34,7 +34,6 @@ use Rattle.kernel_rounds.proofs.Settling.{fixed_parts_lem}
 use Rattle.kernel_text.specs.KernelText.{FitsFormat, format_of}
 use Rattle.kernel_text.specs.Laws.{IsKernelOf}
 use Rattle.kernel_text.specs.Reading.{number_limit, IsFormat}
-use Rattle.suite_compare.specs.Refusals.{home_in, packages_in}
 use Rattle.coinst_run.specs.declared.answer.Cause.{Cause}
 use Rattle.coinst_run.specs.declared.answer.Cause.TheVariants.{ClauseLimit}
 use Rattle.coinst_run.specs.Answer.{refused}

@@ -1,0 +1,93 @@
+"""What the scripts of this folder share: how they ask the program, what they say, and how they end.
+
+A script that ends by BadWords or BadIndex says so in one line, with status 2; a pipe that is closed ends it in silence; any
+other fault of a script ends it with status 70.
+"""
+
+import argparse
+import os
+import signal
+import subprocess
+import sys
+import traceback
+
+from debian_index import TEXT, BadIndex
+
+HERE = os.path.dirname(os.path.realpath(__file__))
+TOP = os.path.dirname(HERE)
+BUILT = os.path.join(TOP, "crates", "coinst_cli", "out", "coinst_cli")
+NOT_BUILT = 70
+
+
+class BadWords(Exception):
+    """Words that a script cannot do anything with."""
+
+
+def say(text):
+    print("%s: %s" % (os.path.basename(sys.argv[0]), text), file=sys.stderr, flush=True)
+
+
+def parser_of(text):
+    """A reader of words whose help is the head of the script."""
+    return argparse.ArgumentParser(description=text, formatter_class=argparse.RawDescriptionHelpFormatter)
+
+
+def add_program(parser):
+    parser.add_argument("--program", metavar="COINST", default=BUILT, help="the program (default: the one that ./coinst builds)")
+
+
+def add_limits(parser):
+    """The options of the program that bear on its answers."""
+    parser.add_argument("--budget", metavar="N", help="as the program takes it")
+    parser.add_argument("--clause-limit", metavar="N", help="as the program takes it")
+    parser.add_argument("--hold", action="store_true", help="as the program takes it")
+
+
+def limits_of(words):
+    named = [("--budget", words.budget), ("--clause-limit", words.clause_limit)]
+    return [word for name, value in named if value is not None for word in (name, value)] + ["--hold"] * words.hold
+
+
+def require(program=BUILT):
+    """Ends the script where the program is not there; it never starts a build."""
+    if not os.path.isfile(program) or not os.access(program, os.X_OK):
+        say("%s is not there: build it first (./coinst, with all its proofs), or name a program" % os.path.relpath(program))
+        sys.exit(NOT_BUILT)
+
+
+class Program:
+    """coinst, asked with the same options again and again."""
+
+    def __init__(self, path, options=()):
+        require(path)
+        self.path, self.options = os.path.abspath(path), list(options)
+
+    def ask(self, what, *words):
+        """The status, 0, 1 or 8, and the lines of the report in words; at any other status the script ends as the program did."""
+        done = subprocess.run([self.path, what, *self.options, "--", *words], stdin=subprocess.DEVNULL, capture_output=True, **TEXT)
+        if done.returncode not in (0, 1, 8):
+            sys.stderr.write(done.stderr)
+            sys.exit(done.returncode if done.returncode > 0 else NOT_BUILT)
+        return done.returncode, [line.split() for line in done.stdout.splitlines()]
+
+
+def write_out(text):
+    """Writes to standard output, bytes that are no UTF-8 as they came."""
+    sys.stdout.buffer.write(text.encode(**TEXT))
+
+
+def run(main):
+    """Runs a script's main, and ends with what it returns, or with the status of its fault."""
+    signal.signal(signal.SIGPIPE, signal.SIG_DFL)
+    sys.stdout.reconfigure(errors="surrogateescape")
+    sys.stderr.reconfigure(errors="surrogateescape")
+    try:
+        sys.exit(main())
+    except (BadWords, BadIndex) as fault:
+        say(fault)
+        sys.exit(2)
+    except KeyboardInterrupt:
+        sys.exit(130)
+    except Exception:
+        traceback.print_exc()
+        sys.exit(NOT_BUILT)

@@ -8,7 +8,7 @@ import itertools
 import os
 
 from broken_changes import Change, Changes, Reason, merged, pair_text
-from command import say
+from command import progress
 from debian_index import TEXT, Index
 from needs import Needs, chain_lines
 
@@ -117,9 +117,9 @@ class Study:
 
     def put(self, line, reasons):
         """The line under the cause of these reasons' changes."""
-        changes = tuple({reason.change.key: reason.change for reason in reasons}.values())
-        key = frozenset(change.key for change in changes)
-        cause = self.causes.setdefault(key, Cause(changes))
+        changes = {reason.change.key: reason.change for reason in reasons}
+        key = tuple(sorted(changes))
+        cause = self.causes.setdefault(key, Cause([changes[part] for part in key]))
         cause.lines[line] = reasons
         return cause
 
@@ -145,7 +145,7 @@ class Study:
         for place, line in enumerate(lines):
             if line in seen:
                 continue
-            say("explaining, line %d of %d: %s" % (place + 1, len(lines), " ".join(line)))
+            progress("explaining, line %d of %d: %s" % (place + 1, len(lines), " ".join(line)))
             clashes = self.asking.explain(self.new, line)
             covered = self.covered(clashes[0], lines) if len(clashes) == 1 else set()
             if line in covered:
@@ -161,18 +161,19 @@ class Study:
         while rest:
             clash = max(under, key=lambda clash: len(under[clash] & rest))
             for line in sorted(under[clash] & rest):
-                self.put(line, [self.changes.conflict(line, (clash,), self.needs) or self.no_change((clash,))])
+                self.put(line, [self.changes.conflict(line, (clash,), self.needs) or self.no_change(line, (clash,))])
             rest -= under[clash]
         for line, clashes in several.items():
-            self.put(line, [self.changes.conflict(line, clashes, self.needs) or self.no_change(clashes)])
+            self.put(line, [self.changes.conflict(line, clashes, self.needs) or self.no_change(line, clashes)])
 
-    def no_change(self, clashes):
+    def no_change(self, line, clashes):
         """The reason where conflicts hold a line and no change was seen, or where the program left it open."""
-        key = "several:" + "+".join(sorted({package.name for clash in clashes for package in clash}))
-        change = self.changes.keep(Change(key, "several conflicts", "conflicts that work together, and no single change found"))
-        change.things.setdefault("", True)
-        notes = [" and ".join(map(pair_text, clashes)) + (", together" if len(clashes) > 1 else "")]
-        return Reason(change, (), (), notes if clashes else ["the program leaves the conflicts open within its budget"])
+        key = "held:" + "+".join(sorted({package.name for clash in clashes for package in clash}))
+        pairs = " and ".join(map(pair_text, clashes))
+        told = "no change was found that brought " if clashes else "the program leaves the conflicts open within its budget"
+        change = self.changes.keep(Change(key, "no change found", told))
+        change.things.setdefault(pairs, True)
+        return Reason(change, self.changes.chains(line, clashes, self.needs) if clashes else ())
 
     # Trying
 
@@ -180,7 +181,7 @@ class Study:
         """Has each cause tried; lines that it does not mend go to a cause of all the changes that they need."""
         todo = list(self.causes.values())
         for place, cause in enumerate(todo, 1):
-            say("trying cause %d of %d" % (place, len(todo)))
+            progress("trying cause %d of %d" % (place, len(todo)))
             self.try_cause(cause)
 
     def try_cause(self, cause):
@@ -212,7 +213,8 @@ class Study:
         while len(reasons) < MOST_CHANGES:
             reason, held = self.next_reason(line, strike)
             if not reason or all(elements <= strike.get(p, set()) for p, elements in reason.change.strike.items()):
-                cause.held["%s: still held, by %s" % (" with ".join(line), held)] = 0
+                if cause.strike():
+                    cause.held["%s: still held, by %s" % (" with ".join(line), held)] = 0
                 return []
             reasons.append(reason)
             strike = merged([strike, reason.change.strike])
@@ -241,12 +243,13 @@ class Study:
 
 def study(old_path, new_path, asking, allowed):
     """What NEW breaks of OLD, by cause, less what is allowed; all in plain lists and texts."""
-    say("comparing %s and %s" % (old_path, new_path))
+    progress("comparing %s and %s" % (old_path, new_path))
     status, broken, open_lines = asking.compare(old_path, new_path)
     lines = [line for line in broken if not allowed.has_line(line)]
-    say("reading the indexes, for %d broken lines" % len(lines))
+    progress("reading the indexes, for %d broken lines" % len(lines))
     old, new = Index(old_path), Index(new_path)
     causes = [cause.report() for cause in (Study(old, new, lines, asking).run() if lines else ())]
+    progress("")
     kept = [cause for cause in causes if not allowed.has_cause(cause["key"])]
     return {
         "old": old.label, "new": new.label, "architecture": new.home or "all", "status": status,

@@ -138,8 +138,9 @@ class Changes:
         return Change(key, "never offered", "neither suite offers ", [owner.source], note), name
 
     def missing(self, name, needs):
-        """The reason of a name that needs leave dead."""
-        chain = needs.chain(name, needs.dead)
+        """The reason of a name that needs leave dead: that of its newest version."""
+        newest = max(self.new.named[name], key=lambda package: version_key(package.version))
+        chain = needs.chain_from(newest, needs.dead)
         owner, element, _ = chain[-1]
         change, thing = self.fate(owner, element)
         change = self.keep(change)
@@ -195,7 +196,8 @@ class Changes:
     @staticmethod
     def needs_change(links):
         targets = dict.fromkeys(target.name for _, _, target in links)
-        return Change("need:" + "+".join(sorted(targets)), "new need", "%s is now what is needed by " % " and ".join(targets))
+        lead = "%s %s now what is needed by " % (" and ".join(targets), "is" if len(targets) == 1 else "are")
+        return Change("need:" + "+".join(sorted(targets)), "new need", lead)
 
     def new_needs(self, links):
         """The change of needs that lead to their targets since OLD, and who is in need; all new needs of a target go."""
@@ -209,6 +211,8 @@ class Changes:
         change.strike_need(package, element)
         for lost in self.lost(element) if asked else ():
             change.notes["in %s %s met %s too; now: %s" % (self.old.label, lost, element, self.move(lost.name))] = True
+        for dead in [p for p in self.new.meeting(element) if p in self.needs.dead][:3]:
+            change.notes["%s meets %s too, and can never be installed" % (dead, element)] = True
         if target not in change.struck:
             change.struck.add(target)
             self.strike_new_needs_of(change, target)
@@ -239,16 +243,24 @@ class Changes:
         return self.first_new_need(line, clashes, needs, strike or {}) if clashes else None
 
     def first_new_need(self, line, clashes, needs, strike):
-        """The first new need on the ways to the conflicts without which the line is mended."""
-        ways = self.chains(line, clashes, needs)
-        links = [(p, e, t) for way in ways for (p, e, _), (t, _, _) in itertools.pairwise(way) if not self.asked_before(p, e)]
-        for link in dict.fromkeys(links):
-            tried = self.needs_change([link])
-            self.add_link(tried, *link)
+        """The first need on the ways to the conflicts that is new, or met by fewer, and without which the line is mended."""
+        ways, links = self.chains(line, clashes, needs), collections.defaultdict(list)
+        for way in ways:
+            for (package, element, _), (target, _, _) in itertools.pairwise(way):
+                links[package, element].append((package, element, target))
+        for asked in sorted(filter(self.has_changed, links), key=lambda asked: self.asked_before(*asked)):
+            tried = self.needs_change(links[asked])
+            self.add_link(tried, *links[asked][0])
             if self.asking.mends([line], self.new, merged([strike, tried.strike]), strike):
-                change, in_need = self.new_needs([link])
-                return Reason(change, ways, in_need, self.conflict_notes(clashes))
+                change, in_need = self.new_needs(links[asked])
+                return Reason(change, ways, in_need[:1], self.conflict_notes(clashes))
         return None
+
+    def has_changed(self, asked):
+        """Whether a need (package, element) is new, or met by fewer than in OLD."""
+        package, element = asked
+        is_old = any(element in p.needs for p in self.old.named.get(package.name, ()))
+        return not is_old or self.lost(element) or any(p in self.needs.dead for p in self.new.meeting(element))
 
     def conflict_notes(self, clashes):
         if len(clashes) == 1:

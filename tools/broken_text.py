@@ -11,7 +11,7 @@ from command import HERE
 from debian_index import TEXT
 
 SHARED = ("key", "kind", "title", "behind")
-KINDS = (("names", "names can no longer be installed"), ("pairs", "pairs can no longer be installed together"))
+KINDS = (("names", "can no longer be installed"), ("pairs", "can no longer be installed together"))
 
 
 def label_of(study, studies):
@@ -31,6 +31,10 @@ def joined(studies):
             mine["on"][label] = {key: cause[key] for key in cause if key not in SHARED}
     ranked = sorted(causes.values(), key=lambda c: (-size(c, "names"), -size(c, "pairs"), c["title"]))
     return {"suites": suites, "causes": [{"rank": rank, **cause} for rank, cause in enumerate(ranked, 1)]}
+
+
+def counted(number, word):
+    return "%d %s%s" % (number, word, "" if number == 1 else "s")
 
 
 def count(part, what):
@@ -63,8 +67,8 @@ class Text:
         self.print_rest([cause for cause in self.causes if cause["rank"] not in widest])
 
     def print_suite(self, suite):
-        told = "%d lines, %d undecided" % (suite["broken"], len(suite["open"]))
-        told += ", %d of the lines allowed" % suite["allowed"] if suite["allowed"] else ""
+        told = "%s broken, %d undecided" % (counted(suite["broken"], "line"), len(suite["open"]))
+        told += ", %d of the broken allowed" % suite["allowed"] if suite["allowed"] else ""
         print("What %s breaks of %s%s: %s" % (suite["new"], suite["old"], " (%s)" % suite["label"] if len(self.suites) > 1 else "", told))
 
     def columns(self, texts):
@@ -77,8 +81,9 @@ class Text:
             return []
         sums = [sum(count(c["on"][label], what) for c in mine if label in c["on"]) for label in self.labels]
         first = [sum(count(c["on"][label], what) for c in mine[:5] if label in c["on"]) for label in self.labels]
-        number, best = (" and ".join(map(str, numbers)) for numbers in (sums, first))
-        print("\n%s %s: %d causes, of which the first five have %s\n" % (number, words, len(mine), best))
+        number = " and ".join(counted(number, what[:-1]) for number in sums)
+        best = ", of which the first five have %s" % " and ".join(map(str, first)) if len(mine) > 5 else ""
+        print("\n%s %s: %s%s\n" % (number, words, counted(len(mine), "cause"), best))
         if len(self.labels) > 1:
             print(self.columns(self.labels))
         for cause in mine[:8]:
@@ -93,7 +98,8 @@ class Text:
     def print_footing(self):
         if self.causes:
             print("\nPercentages: lines of the cause that are well again, by the program, where the change is struck out of the newer suite.")
-            print("%d causes are not confirmed by the program." % sum(not is_confirmed(cause) for cause in self.causes))
+            unconfirmed = sum(not is_confirmed(cause) for cause in self.causes)
+            print("Not confirmed by the program: %s." % (counted(unconfirmed, "cause") if unconfirmed else "none"))
             print("=" * 100)
 
     def print_cause(self, cause):
@@ -107,7 +113,7 @@ class Text:
                 self.print_part(cause["on"][label])
 
     def print_part(self, part):
-        mended = "%(mended)d of %(lines)d lines are mended where this is struck out" % part
+        mended = "%d of %s mended where this is struck out" % (part["mended"], counted(part["lines"], "line"))
         self.tell("checked", [mended if part["confirmed"] else "NOT CONFIRMED by the program"])
         self.tell("note", [text + (" (%d)" % number if number else "") for text, number in part["notes"][: self.examples]])
         self.tell("in need", ["%s (%d)" % (text, number) for text, number in part["in_need"][: self.examples]])
@@ -124,7 +130,7 @@ class Text:
     def print_rest(self, rest):
         if rest:
             lines = sum(part["lines"] for cause in rest for part in cause["on"].values())
-            print("\n%d more causes, with %d lines" % (len(rest), lines))
+            print("\n%s more, with %s" % (counted(len(rest), "cause"), counted(lines, "line")))
         for suite in self.suites:
             for line in suite["open"]:
                 print("undecided " + " ".join(line))

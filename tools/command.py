@@ -6,25 +6,28 @@ other fault of a script ends it with status 70.
 
 import argparse
 import os
+import shutil
 import signal
 import subprocess
 import sys
 import traceback
 
+from built import BUILT, NOT_BUILT, require, say
 from debian_index import TEXT, BadIndex
 
 HERE = os.path.dirname(os.path.realpath(__file__))
-TOP = os.path.dirname(HERE)
-BUILT = os.path.join(TOP, "crates", "coinst_cli", "out", "coinst_cli")
-NOT_BUILT = 70
 
 
 class BadWords(Exception):
     """Words that a script cannot do anything with."""
 
 
-def say(text):
-    print("%s: %s" % (os.path.basename(sys.argv[0]), text), file=sys.stderr, flush=True)
+def progress(text):
+    """One line that is written over, on a terminal alone; without a text it is wiped."""
+    if sys.stderr.isatty():
+        width = shutil.get_terminal_size().columns - 1
+        sys.stderr.write("\r" + text[:width].ljust(width) + "\r" * (not text))
+        sys.stderr.flush()
 
 
 def parser_of(text):
@@ -33,7 +36,7 @@ def parser_of(text):
 
 
 def add_program(parser):
-    parser.add_argument("--program", metavar="COINST", default=BUILT, help="the program (default: the one that ./coinst builds)")
+    parser.add_argument("--program", metavar="COINST", default=BUILT, help="the program (without this, the one that ./coinst builds)")
 
 
 def add_limits(parser):
@@ -46,13 +49,6 @@ def add_limits(parser):
 def limits_of(words):
     named = [("--budget", words.budget), ("--clause-limit", words.clause_limit)]
     return [word for name, value in named if value is not None for word in (name, value)] + ["--hold"] * words.hold
-
-
-def require(program=BUILT):
-    """Ends the script where the program is not there; it never starts a build."""
-    if not os.path.isfile(program) or not os.access(program, os.X_OK):
-        say("%s is not there: build it first (./coinst, with all its proofs), or name a program" % os.path.relpath(program))
-        sys.exit(NOT_BUILT)
 
 
 class Program:

@@ -1,0 +1,33 @@
+"""Where the program is that ./coinst builds, and how scripts of tools/, bench/ and conformance/ end where it, or a name, is not there."""
+
+import difflib
+import os
+import sys
+
+TOP = os.path.dirname(os.path.dirname(os.path.realpath(__file__)))
+BUILT = os.path.join(TOP, "crates", "coinst_cli", "out", "coinst_cli")
+NOT_BUILT = 70
+
+
+def say(text):
+    print("%s: %s" % (os.path.basename(sys.argv[0]), text), file=sys.stderr, flush=True)
+
+
+def leave(status, text):
+    say(text)
+    sys.exit(status)
+
+
+def require(program=BUILT, how="./coinst builds it, with all its proofs"):
+    """Ends the script where the program is not there; it never starts a build."""
+    if not os.path.isfile(program) or not os.access(program, os.X_OK):
+        leave(NOT_BUILT, "no program at %s: %s" % (os.path.relpath(program), how))
+
+
+def chosen(names, there, what):
+    """The names, or all where none is given; ends the script with status 2 where one is not there."""
+    for name in names:
+        if name not in there:
+            near = there if len(there) <= 50 else difflib.get_close_matches(name, there, 9, 0.4)
+            leave(2, "no %s is called %s; %s: %s" % (what, name, "there are" if near is there else "near to it", " ".join(near)))
+    return names or list(there)

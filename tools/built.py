@@ -28,6 +28,6 @@ def chosen(names, there, what):
     """The names, or all where none is given; ends the script with status 2 where one is not there."""
     for name in names:
         if name not in there:
-            near = there if len(there) <= 50 else difflib.get_close_matches(name, there, 9, 0.4)
-            leave(2, "no %s is called %s; %s: %s" % (what, name, "there are" if near is there else "near to it", " ".join(near)))
+            near = [] if len(there) <= 50 else difflib.get_close_matches(name, there, 9, 0.4)
+            leave(2, "no %s is called %s; %s: %s" % (what, name, "near to it" if near else "there are", " ".join(near or there)))
     return names or list(there)

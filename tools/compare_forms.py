@@ -7,15 +7,15 @@ Runs `coinst kernel` on the index with and without `--json`, reads both forms wi
 compares the classes one by one. The last line tells how many there are; status 1 where two differ.
 """
 import json
-import os
 import subprocess
 import sys
 
-PROGRAM = os.path.join(os.path.dirname(os.path.abspath(__file__)), "..", "crates", "coinst_cli", "out", "coinst_cli")
+sys.dont_write_bytecode = True
+from built import BUILT, require
 
 
 def run(words):
-    done = subprocess.run([PROGRAM] + words, stdout=subprocess.PIPE, check=False)
+    done = subprocess.run([BUILT] + words, stdout=subprocess.PIPE, check=False)
     if done.returncode != 0:
         raise SystemExit("%s: status %d" % (" ".join(words), done.returncode))
     return done.stdout.decode("utf-8")
@@ -48,6 +48,10 @@ def classes_of_text(text):
 
 
 def main():
+    if not sys.argv[1:] or "--help" in sys.argv:
+        print(__doc__.strip(), file=sys.stdout if sys.argv[1:] else sys.stderr)
+        return 0 if sys.argv[1:] else 2
+    require()
     words = ["kernel"] + sys.argv[1:]
     format_number, told = classes_of_text(run(words))
     text = run(words + ["--json"])
@@ -60,7 +64,8 @@ def main():
     if len(told) != len(form["classes"]):
         raise SystemExit("%d classes and %d" % (len(told), len(form["classes"])))
     print("%d classes, alike in both forms" % len(told))
+    return 0
 
 
 if __name__ == "__main__":
-    main()
+    sys.exit(main())

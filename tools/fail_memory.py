@@ -15,8 +15,8 @@ import subprocess
 import sys
 import tempfile
 
-HERE = os.path.dirname(os.path.abspath(__file__))
-PROGRAM = os.path.join(HERE, "..", "crates", "coinst_cli", "out", "coinst_cli")
+sys.dont_write_bytecode = True
+from built import BUILT, require
 
 # Stands before the allocator of glibc, counts the calls into the file COUNT, and lets some fail.
 SHIM = r"""
@@ -82,7 +82,7 @@ CASES = [
 
 
 def answer(words, where=None, **settings):
-    run = subprocess.run([PROGRAM] + words, cwd=where, stdin=subprocess.DEVNULL, capture_output=True, env={**os.environ, **settings})
+    run = subprocess.run([BUILT] + words, cwd=where, stdin=subprocess.DEVNULL, capture_output=True, env={**os.environ, **settings})
     return run.returncode, run.stdout, run.stderr
 
 
@@ -119,6 +119,7 @@ def fail_each(shim, words, where=None):
 
 
 def main(words):
+    require()
     print(f"{'words':<32} {'status':>6} {'allocations':>11} {'kept':>6} {'7':>6} {'11':>6} {'wrong':>6}")
     with tempfile.TemporaryDirectory(prefix="coinst-") as folder:
         shim = build_shim(folder)

@@ -18,7 +18,8 @@ import os
 import sys
 
 sys.dont_write_bytecode = True
-import dpkg
+from command import parser_of, run
+from debian_index import version_key
 
 
 def read_kernel(path):
@@ -41,7 +42,7 @@ def clause_of(goal, members):
     """The classes of the packages that the goal names."""
     name, equals, version = goal.partition("=")
     named = [(at, text) for at, own, text in members if own == name]
-    return sorted({at + 1 for at, text in named if not equals or dpkg.sign(text, version) == "="})
+    return sorted({at + 1 for at, text in named if not equals or version_key(text) == version_key(version)})
 
 
 def read_log(path):
@@ -64,11 +65,18 @@ def write_formula(path, variables, clauses):
             out.write(" ".join(map(str, clause + [0])) + "\n")
 
 
+def words_of():
+    parser = parser_of(__doc__)
+    for name in ("kernel", "report", "folder"):
+        parser.add_argument(name)
+    parser.add_argument("goals", metavar="GOAL", nargs="+")
+    return parser.parse_args()
+
+
 def main():
-    if len(sys.argv) < 5:
-        sys.exit(__doc__)
-    kernel, report, folder, goals = sys.argv[1], sys.argv[2], sys.argv[3], sys.argv[4:]
-    classes, members, formula = read_kernel(kernel)
+    words = words_of()
+    report, folder, goals = words.report, words.folder, words.goals
+    classes, members, formula = read_kernel(words.kernel)
     formula = [clause_of(goal, members) for goal in goals] + formula
     entries = read_log(report)
     if entries is None:
@@ -87,4 +95,4 @@ def main():
 
 
 if __name__ == "__main__":
-    sys.exit(main())
+    run(main)

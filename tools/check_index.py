@@ -16,6 +16,9 @@ import sys
 
 sys.dont_write_bytecode = True
 import dpkg
+from built import require
+from command import HERE, parser_of, run
+from debian_index import FIELD, fields_of, stanzas
 
 RELATIONS = {"pre-depends", "depends", "conflicts", "breaks", "provides", "recommends", "suggests", "enhances", "replaces"}
 RESTRICTION = re.compile(r"\(\s*(?:<<|<=|=|>=|>>|<|>)\s*([^\s)]+)\s*\)")
@@ -23,16 +26,9 @@ RESTRICTION = re.compile(r"\(\s*(?:<<|<=|=|>=|>>|<|>)\s*([^\s)]+)\s*\)")
 
 def versions_of(path):
     found = set()
-    field = ""
-    with open(path, encoding="utf-8", errors="surrogateescape") as index:
-        for line in index:
-            if line[:1] not in (" ", "\t"):
-                field = line.partition(":")[0].lower()
-            text = line.partition(":")[2] if line[:1] not in (" ", "\t") else line
-            if field == "version":
-                found.add(text.strip())
-            elif field in RELATIONS:
-                found.update(RESTRICTION.findall(text))
+    for _, stanza in stanzas(path):
+        for field, value in fields_of(stanza, FIELD).items():
+            found.update([value] if field == "version" else RESTRICTION.findall(value) if field in RELATIONS else ())
     return sorted(found)
 
 
@@ -45,14 +41,15 @@ def pairs_of(versions):
 
 
 def main():
-    if len(sys.argv) not in (2, 3):
-        sys.exit(__doc__)
-    here = os.path.dirname(os.path.abspath(__file__))
-    program = sys.argv[2] if len(sys.argv) == 3 else os.path.join(here, "../crates/compare_versions/out/compare_versions")
-    versions = versions_of(sys.argv[1])
+    parser = parser_of(__doc__)
+    parser.add_argument("index")
+    parser.add_argument("program", nargs="?", default=os.path.join(HERE, "..", "crates", "compare_versions", "out", "compare_versions"))
+    words = parser.parse_args()
+    require(words.program, "`rt run` in its crate's folder builds it")
+    versions = versions_of(words.index)
     pairs = list(pairs_of(versions))
     lines = "".join(f"{left} {right}\n" for left, right in pairs)
-    ours = subprocess.run([program], input=lines, capture_output=True, text=True, errors="surrogateescape", check=True).stdout.split()
+    ours = subprocess.run([words.program], input=lines, capture_output=True, text=True, errors="surrogateescape", check=True).stdout.split()
     if len(ours) != len(pairs):
         sys.exit(f"{len(pairs)} pairs and {len(ours)} answers")
     differences = 0
@@ -65,8 +62,8 @@ def main():
             differences += 1
             print(f"{left} {sign} {right}, and dpkg: {theirs}")
     print(f"{len(versions)} versions, {len(pairs)} pairs, {differences} differences")
-    sys.exit(1 if differences else 0)
+    return 1 if differences else 0
 
 
 if __name__ == "__main__":
-    main()
+    run(main)

@@ -1,7 +1,7 @@
 """What the scripts of this folder share: how they ask the program, what they say, and how they end.
 
-A script that ends by BadWords or BadIndex says so in one line, with status 2; a pipe that is closed ends it in silence; any
-other fault of a script ends it with status 70.
+A script that ends by BadWords, BadIndex or a file that it cannot open says so in one line, with status 2; a pipe that is closed ends it
+in silence; any other fault of a script ends it with status 70.
 """
 
 import argparse
@@ -82,6 +82,9 @@ def run(main):
     except (BadWords, BadIndex) as fault:
         say(fault)
         sys.exit(2)
+    except OSError as fault:
+        say("%s: %s" % (fault.filename, fault.strerror) if fault.filename else fault.strerror)
+        sys.exit(2 if fault.filename else NOT_BUILT)
     except KeyboardInterrupt:
         sys.exit(130)
     except Exception:

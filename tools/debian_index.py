@@ -161,14 +161,11 @@ class Index:
     """The packages of an index in file order, who offers a name, and who meets an element."""
 
     def __init__(self, path):
-        self.label = re.sub(r"\.Packages$", "", os.path.basename(path))
+        self.path, self.label = path, re.sub(r"\.Packages$", "", os.path.basename(path))
         self.packages = [Package(place, fields) for place, (fields, _) in enumerate(stanzas(path))]
         self.home = next((p.architecture for p in self.packages if p.architecture != "all"), None)
         self.named, self.offers, self.built_from = (collections.defaultdict(list) for _ in range(3))
-        try:
-            self.fill_tables()
-        except BadIndex as fault:
-            raise BadIndex("%s: %s" % (path, fault)) from None
+        self.fill_tables()
         self.sorted_offers = sorted(self.offers)
         self.meeting, self.reach = functools.lru_cache(None)(self.meeting), functools.lru_cache(None)(self.reach)
 
@@ -177,9 +174,15 @@ class Index:
             self.named[package.name].append(package)
             self.built_from[package.source].append(package)
             self.offers[package.name].append((package, package.version))
-            for atom in map(parse_atom, package.relations.get("provides", ())):
-                if self.is_of_home(atom):
+            for element in package.relations.get("provides", ()):
+                if self.is_of_home(atom := self.atoms(element)[0]):
                     self.offers[atom.name].append((package, atom.version))
+
+    def atoms(self, element):
+        try:
+            return atoms_of(element)
+        except BadIndex as fault:
+            raise BadIndex("%s: %s" % (self.path, fault)) from None
 
     def is_of_home(self, atom):
         return atom.qualifier in (None, "any", "native", "all", self.home)
@@ -193,7 +196,7 @@ class Index:
 
     def meeting(self, element):
         """The packages that meet an element, each once."""
-        return list(dict.fromkeys(package for atom in atoms_of(element) for package in self.meeting_atom(atom)))
+        return list(dict.fromkeys(package for atom in self.atoms(element) for package in self.meeting_atom(atom)))
 
     def goal(self, word):
         """The packages that a goal names, `name` or `name=version`."""

@@ -210,7 +210,8 @@ class Changes:
         change.things[moved] = change.behind[package.source] = True
         change.strike_need(package, element)
         for lost in self.lost(element) if asked else ():
-            change.notes["in %s %s met %s too; now: %s" % (self.old.label, lost, element, self.move(lost.name))] = True
+            now = "now " + self.move(lost.name) if lost.name in self.new.named else "it is gone"
+            change.notes["in %s %s met %s too; %s" % (self.old.label, lost, element, now)] = True
         for dead in [p for p in self.new.meeting(element) if p in self.needs.dead][:3]:
             change.notes["%s meets %s too, and can never be installed" % (dead, element)] = True
         if target not in change.struck:

@@ -136,15 +136,19 @@ class Text:
                 print("undecided " + " ".join(line))
 
 
+def as_json(report, **how):
+    """The report as JSON; bytes that are no UTF-8 become the sign for that."""
+    return json.dumps(report, ensure_ascii=False, **how).encode(**TEXT).decode("utf-8", "replace")
+
+
 def write_json(path, report):
     with open(path, "w", encoding="utf-8") as file:
-        json.dump(report, file, indent=1)
-        file.write("\n")
+        file.write(as_json(report, indent=1) + "\n")
 
 
 def write_page(path, report):
     """The viewer that stands beside this script, with the report in it."""
     with open(os.path.join(HERE, "broken_report.html"), encoding="utf-8") as file:
         page = file.read()
-    with open(path, "w", **TEXT) as file:
-        file.write(page.replace("@REPORT@", json.dumps(report).replace("<", "\\u003c")))
+    with open(path, "w", encoding="utf-8") as file:
+        file.write(page.replace("@REPORT@", as_json(report).replace("<", "\\u003c")))

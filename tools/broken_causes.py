@@ -112,7 +112,8 @@ class Study:
         self.new, self.lines, self.asking = new, lines, asking
         names = sorted({name for line in lines for name in line})
         self.needs = Needs(new, names)
-        self.changes = Changes(old, new, self.needs, Needs(old, names), asking)
+        reached = {package.name for package in new.reach(tuple(names))}
+        self.changes = Changes(old, new, self.needs, Needs(old, sorted(reached.union(names))), asking)
         self.causes = {}
 
     def put(self, line, reasons):

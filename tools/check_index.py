@@ -3,7 +3,7 @@
 
     tools/check_index.py INDEX [PROGRAM]
 
-PROGRAM is the built program `compare_versions` (run `rt run` in crates/compare_versions once). The versions are those of
+PROGRAM is the built program `tool_versions` (run `rt run` in crates/tool_versions once). The versions are those of
 the Version fields and those in relation fields. Each is compared with itself, with its two neighbours in the order of
 plain text, which begin alike, and with two others drawn by a fixed seed. Ends with status 1 where an answer differs.
 """
@@ -43,7 +43,7 @@ def pairs_of(versions):
 def main():
     parser = parser_of(__doc__)
     parser.add_argument("index")
-    parser.add_argument("program", nargs="?", default=os.path.join(HERE, "..", "crates", "compare_versions", "out", "compare_versions"))
+    parser.add_argument("program", nargs="?", default=os.path.join(HERE, "..", "crates", "tool_versions", "out", "tool_versions"))
     words = parser.parse_args()
     require(words.program, "`rt run` in its crate's folder builds it")
     versions = versions_of(words.index)

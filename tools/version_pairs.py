@@ -1,5 +1,5 @@
 #!/usr/bin/env python3
-"""Writes the table of compared versions into the tests of crates/text_cases, by asking dpkg.
+"""Writes the table of compared versions into the tests of crates/cases_texts, by asking dpkg.
 
     tools/version_pairs.py
 
@@ -13,7 +13,7 @@ import sys
 sys.dont_write_bytecode = True
 import dpkg
 
-TARGET = os.path.join(os.path.dirname(os.path.abspath(__file__)), "../crates/text_cases/src/versions/pairs.rt")
+TARGET = os.path.join(os.path.dirname(os.path.abspath(__file__)), "../crates/cases_texts/src/versions/pairs.rt")
 
 # Groups within which each two versions are compared.
 GROUPS = {

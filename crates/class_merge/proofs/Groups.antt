@@ -1,9 +1,9 @@
 -- A grouping of packages by their rows and conflicts gives the classes.
-use Rattle.std.proofs.Common.{◌≡◌, ℕ, zero, suc, ◌<◌, ◌≤◌, ◌+◌, Bool, true, false, cond, List, [], ◌∷◌, ◌++◌, length, get_or, drop, ◌⊎◌, inl, inr, refl, sym, ◌∙◌, ap, ap₂, subst, arith, map, filter, zero-le, nat_eq, position, Some, None, Result, Ok, Err, IfOk, append-nil, length-append}
+use Rattle.std.proofs.Common.{◌≡◌, ℕ, zero, suc, ◌<◌, ◌≤◌, ◌+◌, Bool, true, false, cond, List, [], ◌∷◌, ◌++◌, length, get_or, drop, ◌⊎◌, inl, inr, refl, sym, ◌∙◌, ap, ap₂, subst, arith, map, filter, nat_eq, position, Some, None, Result, Ok, Err, IfOk, append-nil, length-append}
 use Rattle.std.specs.List.{list_any}
 use Rattle.std.specs.Cmp.Lexicographic.{pointwise}
 use Rattle.class_merge.proofs.Places.{place_in, place_none, place_some}
-use Rattle.std.proofs.lemmas.Bool.{both_ways, cases_eq, cases_lt, false_from_ne_true, not_from_false, not-true}
+use Rattle.std.proofs.lemmas.Bool.{cases_eq, cases_lt, false_from_ne_true, not_from_false}
 use Rattle.std.proofs.lemmas.List.Elements.{filter-append}
 use Rattle.std.proofs.lemmas.List.{get_or-map, get_or_append_left, length-map, map-append}
 use Rattle.clause_pool.specs.Interned.{Interned, IsPool, EachOnce, clauses_at, ids_at, row_at, OfPool}
@@ -16,13 +16,12 @@ use Rattle.row_book.specs.Repository.{Repository}
 use Rattle.row_book.specs.Flattening.{packages}
 use Rattle.row_book.specs.Merging.{are_alike, class_list, class_of as class_of_, firsts, first_of, is_first}
 use Rattle.row_book.proofs.Books.{clauses_row}
-use Rattle.row_book.proofs.Lists.{In_append_cases, In_at, In_cases, In_map, In_none, any_cases, any_from, ascending_filter, filter_cases}
-use Rattle.row_book.proofs.Order.{at_numbers, length_numbers, numbers_ascending, numbers_from, numbers_parts}
-use Rattle.clause_flatten.proofs.Tidied.{numbers_more}
+use Rattle.row_book.proofs.Lists.{In_append_cases, In_at, In_cases, In_map, In_none, any_cases, ascending_filter, filter_cases}
+use Rattle.row_book.proofs.Order.{at_numbers, length_numbers, numbers_ascending, numbers_parts, numbers_more, numbers_count}
 use Rattle.class_merge.specs.Classes.{key_of}
 use Rattle.class_merge.specs.Grouping.{AreClasses, IsPlaceAmong}
-use Rattle.class_merge.proofs.Plain.{filter_less, number_count}
-use Rattle.class_merge.proofs.Classes.{Alike, alike_from, alike_sym, alike_test, alike_trans, class_alike, first_in, has_class_lem}
+use Rattle.class_merge.proofs.Plain.{filter_less, none_before}
+use Rattle.class_merge.proofs.Classes.{Alike, alike_from, alike_sym, alike_trans, class_alike, first_in, has_class_lem}
 
 -- rows of a pool are kept once
 ids_once : (pool : Interned) → EachOnce pool.clauses → (xs ys : List ℕ) → OfPool pool xs → OfPool pool ys → clauses_at pool xs ≡ clauses_at pool ys → xs ≡ ys
@@ -55,17 +54,11 @@ place_once xs a i j l m e =
       ]
     ]
 
--- the first of a class is like no lesser package
-first_not : (R : Repository) (p q : ℕ) → is_first R p ≡ true → q < p → Alike R p q → ⊥
-first_not R p q f l a =
-    both_ways (list_any (are_alike R p) (numbers p 0)) (not-true (list_any (are_alike R p) (numbers p 0)) f)
-    (any_from (are_alike R p) (numbers p 0) q (numbers_from p 0 q zero-le (omega arith)) (alike_test R p q a))
-
 firsts_once : (R : Repository) (p q : ℕ) → is_first R p ≡ true → is_first R q ≡ true → Alike R p q → p ≡ q
 firsts_once R p q f g a =
     elim (cases_lt p q) [
-      | inl u ↦ absurd (first_not R q p g u (alike_sym R p q a))
-      | inr v ↦ elim (cases_lt q p) [ inl u ↦ absurd (first_not R p q f u a) | inr u ↦ omega arith ]
+      | inl u ↦ absurd (none_before R q p g u (alike_sym R p q a))
+      | inr v ↦ elim (cases_lt q p) [ inl u ↦ absurd (none_before R p q f u a) | inr u ↦ omega arith ]
     ]
 
 firsts_is : (R : Repository) → filter (is_first R) (packages R) ≡ firsts R
@@ -214,7 +207,7 @@ module _ (pool : Interned) (book : Book) (is : IsPool pool) (sound : Sound pool 
     firsts_are = elim placed.gains [
       | inl w ↦
           let i : In (get_or least2 place 0) least = subst (λ z. In (get_or z place 0) least) (sym w.2) (In_at least place 0 (subst (λ z. place < length z) w.2 place_within)) in
-          let no : is_first R n ≡ false = false_from_ne_true (is_first R n) (λ t. first_not R n (get_or least2 place 0) t (least_below (get_or least2 place 0) i) its_alike) in
+          let no : is_first R n ≡ false = false_from_ne_true (is_first R n) (λ t. none_before R n (get_or least2 place 0) t (least_below (get_or least2 place 0) i) its_alike) in
           w.2 ∙ g.firsts ∙ sym (filter_last (is_first R) n ∙ ap (λ b. filter (is_first R) (numbers n 0) ++ cond b (n ∷ []) []) no ∙ append-nil (filter (is_first R) (numbers n 0)))
       | inr w ↦
           let none : (q : ℕ) → q < n → Alike R n q → ⊥ = λ q m a.
@@ -273,5 +266,5 @@ module _ (pool : Interned) (book : Book) (is : IsPool pool) (sound : Sound pool 
   group_short seen least class_of n g =
       let e : length least ≡ length (filter (is_first R) (numbers n 0)) = ap length g.firsts in
       let l : length (filter (is_first R) (numbers n 0)) ≤ length (numbers n 0) = filter_less (is_first R) (numbers n 0) in
-      let m : length (numbers n 0) ≡ n = number_count n 0 in
+      let m : length (numbers n 0) ≡ n = numbers_count n 0 in
       omega (arith, e, l, m)

@@ -3,6 +3,7 @@ use Rattle.std.proofs.Common.{◌≡◌, ℕ, ◌<◌, ◌≤◌, ◌+◌, Bool,
 use Rattle.std.specs.List.{list_all, list_any}
 use Rattle.std.proofs.lemmas.List.{get_or-map, length-map, map-append}
 use Rattle.std.proofs.lemmas.List.Elements.{filter-append}
+use Rattle.listed.proofs.Bools.{same_bool}
 use Rattle.clause_pool.specs.Interned.{Interned, IsPool, row_at}
 use Rattle.row_book.specs.declared.book.Book.{Book}
 use Rattle.row_book.specs.Sets.{In, here, there, has}
@@ -19,13 +20,12 @@ use Rattle.row_book.proofs.BookRepositories.{book_size, sound_book, sound_reposi
 use Rattle.row_book.proofs.Clauses.{minimal_of_from, minimal_of_parts}
 use Rattle.row_book.proofs.Lists.{In_has, In_map_cases, any_cases, any_from, filter_same, has_In}
 use Rattle.row_book.proofs.Order.{at_numbers, length_numbers, numbers_parts, order_filter, order_same, ordered_has, ordered_order, ordered_parts}
-use Rattle.row_book.proofs.Repositories.{between, ranged, repository_same, same_test, symmetric}
+use Rattle.row_book.proofs.Repositories.{between, ranged, repository_same, symmetric}
 use Rattle.clause_flatten.specs.Families.{SameClauses}
 use Rattle.class_merge.specs.Classes.{class_in, clauses_in, image_in, ClassesWithin, HasClasses}
 use Rattle.class_merge.specs.Grouping.{AreClasses}
 use Rattle.class_merge.proofs.Classes.{alike_self, class_alike, first_within, has_class_lem, image_from, image_parts, of_classes}
 use Rattle.class_merge.proofs.Groups.{class_unique}
-use Rattle.clause_flatten.proofs.Tidied.{numbers_more}
 use Rattle.class_merge.proofs.Kept.{merge_is_tidy_lem, merge_keeps_lem, merged_size}
 use Rattle.class_merge.proofs.Plain.{firsts_le}
 
@@ -47,7 +47,7 @@ pub image_at : (R : Repository) (c : List ℕ) → ((n : ℕ) → In n c → n <
 unfolding image_in
 image_at R c range =
     filter_same (λ k. list_any (λ n. eqb (class_in (class_list R) n) k) c) (image R (has c)) (classes R) (λ k i.
-    same_test (list_any (λ n. eqb (class_in (class_list R) n) k) c) (image R (has c) k)
+    same_bool (list_any (λ n. eqb (class_in (class_list R) n) k) c) (image R (has c) k)
     (λ t.
     let w : (n : ℕ) × In n c × (eqb (class_in (class_list R) n) k ≡ true) = any_cases (λ n. eqb (class_in (class_list R) n) k) c t in
     subst (λ z. image R (has c) z ≡ true) (sym (class_at R w.0 (range w.0 w.1)) ∙ eqb-true (class_in (class_list R) w.0) k w.2)
@@ -69,7 +69,7 @@ conflicts_at R s k l =
     let range : (n : ℕ) → In n (conflicts_of R f) → n < length R.clauses = λ n i. (between R s f n (In_has i)).1 in
     filter_same (λ m. list_any (λ n. eqb (class_in (class_list R) n) m) (conflicts_of R f)) (λ m. against R f (first_of R m)) (classes R) (λ m i.
     let small : m < length (firsts R) = of_classes R m i in
-    same_test (list_any (λ n. eqb (class_in (class_list R) n) m) (conflicts_of R f)) (against R f (first_of R m))
+    same_bool (list_any (λ n. eqb (class_in (class_list R) n) m) (conflicts_of R f)) (against R f (first_of R m))
     (λ t.
     let w : (n : ℕ) × In n (conflicts_of R f) × (eqb (class_in (class_list R) n) m ≡ true) = any_cases (λ n. eqb (class_in (class_list R) n) m) (conflicts_of R f) t in
     let b : w.0 < length R.clauses = range w.0 w.1 in
@@ -147,10 +147,6 @@ pub merged_lists : (R : Repository) (n : ℕ) → n ≡ length (firsts R) → ma
 unfolding quotient
 merged_lists R n e = ap (λ z. map (class_conflicts R) (numbers z 0)) e
 
--- a list of lists that grows
-pub lists_more : (f : ℕ → List ℕ) (n : ℕ) (old new : List (List ℕ)) (list : List ℕ) → old ≡ map f (numbers n 0) → list ≡ f n → new ≡ old ++ list ∷ [] → new ≡ map f (numbers (n + 1) 0)
-lists_more f n old new list e h g = g ∙ ap₂ (λ xs x. xs ++ x ∷ []) e h ∙ sym (ap (map f) (numbers_more n) ∙ map-append f (numbers n 0) (n ∷ []))
-
 -- the repository of a book
 pub made_repository : (pool : Interned) (rows : List ℕ) (book : Book) (R : Repository) → map (row_at pool) book.rows ≡ R.clauses → book.conflicts ≡ R.conflicts → repository_of pool book ≡ R
 made_repository pool rows book R e f = repository_same (repository_of pool book) R e f
@@ -175,12 +171,12 @@ merged_paired start new book rows given lists told is s e g f h =
     ap length h ∙ ap length f ∙ (merge_is_tidy_lem (repository_of start book) (sound_repository start book is s)).sound.count
     ∙ sym (ap length g ∙ rows_size new rows (quotient (repository_of start book)) e)
 
-pub merged_sound : (start new : Interned) (book made : Book) (rows : List ℕ) (lists : List (List ℕ)) → IsPool start → Sound start book → map (row_at new) rows ≡ (quotient (repository_of start book)).clauses → made.rows ≡ rows →
+pub merged_sound : (start new : Interned) (book made : Book) (rows : List ℕ) (lists : List (List ℕ)) → IsPool start → IsPool new → Sound start book → map (row_at new) rows ≡ (quotient (repository_of start book)).clauses → made.rows ≡ rows →
     lists ≡ (quotient (repository_of start book)).conflicts → made.conflicts ≡ lists → ((id : ℕ) → In id rows → id < length new.rows) → Sound new made
-merged_sound start new book made rows lists is s e g f h of =
+merged_sound start new book made rows lists is now s e g f h of =
     let M : Repository = quotient (repository_of start book) in
     let same : repository_of new made ≡ M = repository_same (repository_of new made) M (ap (map (row_at new)) g ∙ e) (h ∙ f) in
-    sound_book new made (λ id i. of id (subst (λ z. In id z) g i))
+    sound_book new made now (λ id i. of id (subst (λ z. In id z) g i))
     (subst SoundRepository (sym same) (merge_is_tidy_lem (repository_of start book) (sound_repository start book is s)).sound)
 
 pub rows_tidy : (new : Interned) (R : Repository) (rows given : List ℕ) → TidyRepository R → map (row_at new) rows ≡ R.clauses → given ≡ rows → RowsTidy new given

@@ -2,6 +2,7 @@
 use Rattle.std.proofs.Common.{◌≡◌, ◌≢◌, ℕ, zero, suc, ◌<◌, ◌≤◌, ◌+◌, Bool, true, false, cond, List, [], ◌∷◌, length, inl, inr, refl, sym, ◌∙◌, ap, ap₂, subst, arith, map, filter, zero-le, slice_index_or}
 use Rattle.std.specs.List.{list_any}
 use Rattle.std.proofs.lemmas.Bool.{both_ways, cases_eq, not-true}
+use Rattle.listed.proofs.Bools.{same_bool}
 use Rattle.row_book.specs.Sets.{In, here, there}
 use Rattle.row_book.specs.Clauses.{Ascending, apart_from, minimal_of, numbers, in_row_order}
 use Rattle.row_book.specs.Repository.{Repository, against, clauses_of}
@@ -9,8 +10,8 @@ use Rattle.row_book.specs.Flattening.{packages}
 use Rattle.row_book.specs.Sound.{SoundRepository}
 use Rattle.row_book.specs.Merging.{are_alike, is_first, firsts, first_of, class_of, clause_image, quotient}
 use Rattle.row_book.proofs.Lists.{any_from, ascending_same, filter_cases}
-use Rattle.row_book.proofs.Order.{numbers_from}
-use Rattle.row_book.proofs.Repositories.{conflicts_same, in_packages, between, same_test}
+use Rattle.row_book.proofs.Order.{numbers_from, numbers_count}
+use Rattle.row_book.proofs.Repositories.{conflicts_same, in_packages, between}
 use Rattle.class_merge.specs.Laws.{MergePlain}
 use Rattle.class_merge.proofs.Classes.{Alike, alike_sym, alike_test, class_alike, clause_image_ascending, clause_image_cases, clause_image_in, has_class_lem}
 use Rattle.class_merge.proofs.Kept.{merge_is_tidy_lem, merged_against, merged_clauses, merged_size}
@@ -39,19 +40,14 @@ number_at zero k i d l = absurd (omega arith)
 number_at (suc n) k zero d l = omega arith
 number_at (suc n) k (suc i) d l = number_at n (suc k) i d (omega arith) ∙ omega arith
 
-pub number_count : (n k : ℕ) → length (numbers n k) ≡ n
-unfolding numbers
-number_count zero k = refl
-number_count (suc n) k = ap suc (number_count n (suc k))
-
 pub firsts_le : (R : Repository) → length (firsts R) ≤ length R.clauses
 unfolding firsts
-firsts_le R = subst (λ n. length (filter (is_first R) (packages R)) ≤ n) (number_count (length R.clauses) 0) (filter_less (is_first R) (packages R))
+firsts_le R = subst (λ n. length (filter (is_first R) (packages R)) ≤ n) (numbers_count (length R.clauses) 0) (filter_less (is_first R) (packages R))
 
 -- where each package is the first of its class
 firsts_all : (R : Repository) → length (firsts R) ≡ length R.clauses → firsts R ≡ packages R
 unfolding firsts
-firsts_all R e = filter_full (is_first R) (packages R) (let c : length (packages R) ≡ length R.clauses = number_count (length R.clauses) 0 in omega (arith, e, c))
+firsts_all R e = filter_full (is_first R) (packages R) (let c : length (packages R) ≡ length R.clauses = numbers_count (length R.clauses) 0 in omega (arith, e, c))
 
 all_first : (R : Repository) → length (firsts R) ≡ length R.clauses → (p : ℕ) → p < length R.clauses → is_first R p ≡ true
 unfolding firsts
@@ -60,7 +56,7 @@ all_first R e p l = (filter_cases (is_first R) (packages R) p (subst (λ xs. In 
 pub first_same : (R : Repository) → length (firsts R) ≡ length R.clauses → (k : ℕ) → k < length R.clauses → first_of R k ≡ k
 first_same R e k l = ap (λ xs. slice_index_or xs k 0) (firsts_all R e) ∙ (number_at (length R.clauses) 0 k 0 l ∙ omega arith)
 
-none_before : (R : Repository) (p q : ℕ) → is_first R p ≡ true → q < p → Alike R p q → ⊥
+pub none_before : (R : Repository) (p q : ℕ) → is_first R p ≡ true → q < p → Alike R p q → ⊥
 none_before R p q f l a =
     both_ways (list_any (are_alike R p) (numbers p 0)) (not-true (list_any (are_alike R p) (numbers p 0)) f)
     (any_from (are_alike R p) (numbers p 0) q (numbers_from p 0 q zero-le (omega arith)) (alike_test R p q a))
@@ -111,7 +107,7 @@ plain_conflicts R s e =
     let same : k < length R.clauses → l < length R.clauses → against (quotient R) k l ≡ against R k l =
     λ a b. merged_against R k l (subst (λ n. k < n) (sym e) a) (subst (λ n. l < n) (sym e) b)
     ∙ ap₂ (λ x y. against R x y) (first_same R e k a) (first_same R e l b) in
-    same_test (against (quotient R) k l) (against R k l)
+    same_bool (against (quotient R) k l) (against R k l)
     (λ t. let w : (k < length (quotient R).clauses) × (l < length (quotient R).clauses) = between (quotient R) m k l t in
     sym (same (subst (λ n. k < n) size w.0) (subst (λ n. l < n) size w.1)) ∙ t)
     (λ t. let w : (k < length R.clauses) × (l < length R.clauses) = between R s k l t in same w.0 w.1 ∙ t))

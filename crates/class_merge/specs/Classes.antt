@@ -1,3 +1,4 @@
+-- for bodies alone, those of other crates too
 -- Merging from a list of the least packages and a list of the classes.
 use Rattle.std.specs.Prelude.{ℕ, ◌<◌, eqb, List, ◌∷◌, map, filter, length, slice_index_or}
 use Rattle.std.specs.List.{list_any}

@@ -1,3 +1,4 @@
+-- for the bodies of this crate alone
 -- What a grouping of packages by their rows and conflicts answers.
 use Rattle.std.specs.Prelude.{◌≡◌, ℕ, ◌<◌, ◌⊎◌, List, [], ◌∷◌, ◌++◌, length, slice_index_or}
 use Rattle.clause_pool.specs.Interned.{Interned}

@@ -1,6 +1,6 @@
 //! The rows of classes and their conflicts.
 ghost use Rattle.std.specs.Prelude.{◌≡◌, ◌<◌, ◌∷◌, ◌++◌, [], ℕ, List, IfOk, OnOk, cond, length, map};
-ghost use Rattle.clause_pool.specs.Interned.{clauses_at, row_at, Kept, OfPool};
+ghost use Rattle.clause_pool.specs.Interned.{clauses_at, row_at, Kept, OfPool, IsPool};
 ghost use Rattle.row_book.specs.Book.{listed_for, repository_of, Sound};
 ghost use Rattle.row_book.specs.Clauses.{apart_from};
 ghost use Rattle.row_book.specs.Sets.{has, In};
@@ -57,6 +57,7 @@ fn class_row(
     class: u32,
     row: RowId,
 ) -> Result<RowId, AllocError>
+    requires pool { IsPool pool.old }
     requires row { row < length pool.old.rows }
     requires classes { ClassesWithin count class_of.now }
     requires has { (c : List ℕ) → In c (row_at pool.old row) → HasClasses class_of.now c }
@@ -65,8 +66,6 @@ fn class_row(
     ensures stay { RowsStay pool.old pool.new }
     ensures kept { Kept pool.old pool.new }
 {
-    // What holds of every pool is told by this call alone.
-    pool.clause_count();
     let mut family = images_apart(alloc, pool, count, class_of, class, pool.row(row))?;
     put_in_order(&mut family);
     intern_minimal(alloc, pool, family.as_slice())
@@ -86,8 +85,6 @@ pub(crate) fn class_rows(
     ensures of_pool { IfOk result (λ rows. (id : ℕ) → In id rows.items → id < length pool.new.rows) }
     ensures kept { Kept pool.old pool.new }
 {
-    // What holds of every pool is told by this call alone.
-    pool.clause_count();
     let mut rows = Vec::new(alloc);
     for (class, first) in firsts.iter().enumerate() {
         let row = class_row(
@@ -115,8 +112,6 @@ pub(crate) fn class_conflicts(
     requires classes { AreClasses pool.now book.now firsts.now class_of.now }
     ensures { IfOk result (λ lists. lists.items ≡ (quotient (repository_of pool.now book.now)).conflicts) }
 {
-    // What holds of every pool is told by this call alone.
-    pool.clause_count();
     let mut lists = Vec::new(alloc);
     for first in firsts {
         lists.push(image_list(alloc, firsts.len() as u32, class_of, book.against(*first))?)?;

@@ -19,13 +19,13 @@ pub(crate) struct Classes {
 }
 
 /// The row of a package and its conflicts.
-fn key_of(alloc: Global, book: &Book, package: u32) -> Result<Vec<u64>, AllocError>
-    requires { «package» < length book.now.rows }
-    ensures { IfOk result (λ key. key.items ≡ key_of book.now «package») }
+fn key_of(alloc: Global, book: &Book, number: u32) -> Result<Vec<u64>, AllocError>
+    requires { number < length book.now.rows }
+    ensures { IfOk result (λ key. key.items ≡ key_of book.now number) }
 {
     let mut key = Vec::new(alloc);
-    key.push(book.row(package).place() as u64)?;
-    for other in book.against(package) {
+    key.push(book.row(number).place() as u64)?;
+    for other in book.against(number) {
         key.push(u64::from(*other))?;
     }
     Ok(key)
@@ -36,15 +36,15 @@ fn key_of(alloc: Global, book: &Book, package: u32) -> Result<Vec<u64>, AllocErr
 fn place_among(
     seen: &mut KeyTable,
     firsts: &mut Vec<u32>,
-    package: u32,
+    number: u32,
     key: &[u64],
 ) -> Result<usize, AllocError>
-    ensures { IfOk result (IsPlaceAmong seen.old seen.new firsts.old.items firsts.new.items «package» key.now) }
+    ensures { IfOk result (IsPlaceAmong seen.old seen.new firsts.old.items firsts.new.items number key.now) }
 {
     if let Some(place) = seen.find(key) {
         return Ok(place);
     }
-    firsts.push(package)?;
+    firsts.push(number)?;
     seen.push(key)
 }
 
@@ -53,14 +53,12 @@ pub(crate) fn classes_of(alloc: Global, pool: &Pool, book: &Book) -> Result<Clas
     requires { Sound pool.now book.now }
     ensures { IfOk result (λ made. AreClasses pool.now book.now made.firsts.items made.class_of.items) }
 {
-    // What holds of every pool is told by this call alone.
-    pool.clause_count();
     let mut seen = KeyTable::new(alloc);
     let mut firsts = Vec::new(alloc);
     let mut class_of = Vec::new(alloc);
-    for package in 0..book.size() {
-        let key = key_of(alloc, book, package)?;
-        let class = place_among(&mut seen, &mut firsts, package, key.as_slice())?;
+    for number in 0..book.size() {
+        let key = key_of(alloc, book, number)?;
+        let class = place_among(&mut seen, &mut firsts, number, key.as_slice())?;
         class_of.push(class as u32)?;
     }
     Ok(Classes { firsts, class_of })

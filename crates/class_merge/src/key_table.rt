@@ -8,7 +8,7 @@ use std::marker::Model;
 
 /// Keys in the order in which they came, with a table that finds each by its numbers.
 #[derive(Drop)]
-pub(crate) struct KeyTable {
+pub struct KeyTable {
     keys: IndexSet<Vec<u64>>,
 }
 
@@ -25,7 +25,7 @@ impl Model for KeyTable {
 
 impl KeyTable {
     /// No keys; it takes no memory.
-    pub(crate) fn new(alloc: Global) -> Self
+    pub fn new(alloc: Global) -> Self
         ensures { result ≡ [] }
     {
         KeyTable {
@@ -34,14 +34,14 @@ impl KeyTable {
     }
 
     /// The place of the key.
-    pub(crate) fn find(&self, key: &[u64]) -> Option<usize>
+    pub fn find(&self, key: &[u64]) -> Option<usize>
         ensures { result ≡ position (pointwise nat_eq key.now) self.now }
     {
         self.keys.get_index_of(key)
     }
 
     /// Puts a key behind the others, and answers its place.
-    pub(crate) fn push(&mut self, key: &[u64]) -> Result<usize, AllocError>
+    pub fn push(&mut self, key: &[u64]) -> Result<usize, AllocError>
         requires { position (pointwise nat_eq key.now) self.old ≡ None }
         ensures place { IfOk result (λ place. place ≡ length self.old) }
         ensures ok { IfOk result (λ place. self.new ≡ self.old ++ key.now ∷ []) }

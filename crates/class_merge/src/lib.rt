@@ -7,7 +7,13 @@ mod grouping;
 mod images;
 mod key_table;
 mod laws;
-pub mod merging;
+mod merging;
 
-pub use laws::{has_class, merge_is_tidy, merge_keeps, merge_lifts, merge_plain};
+// A book is merged.
 pub use merging::{Merged, merge};
+
+// Keys that are numbered as they come.
+pub use key_table::KeyTable;
+
+// Laws.
+pub use laws::{has_class, merge_is_tidy, merge_keeps, merge_lifts, merge_plain};

@@ -32,8 +32,6 @@ pub fn merge(alloc: Global, pool: &mut Pool, book: &Book) -> Result<Merged, Allo
     ensures tidy { IfOk result (λ made. RowsTidy pool.new made.book.rows) }
     ensures kept { Kept pool.old pool.new }
 {
-    // What holds of every pool is told by this call alone.
-    pool.clause_count();
     let classes = classes_of(alloc, pool, book)?;
     let conflicts = class_conflicts(
         alloc,

@@ -1,18 +1,9 @@
 -- Numbers that ascend and clauses in order, by their places.
-use Rattle.std.proofs.Common.{◌≡◌, ℕ, zero, suc, ◌<◌, Bool, false, refl, List, [], ◌∷◌, length, get_or, drop, arith}
+use Rattle.std.proofs.Common.{◌≡◌, ℕ, zero, suc, ◌<◌, Bool, false, refl, List, [], ◌∷◌, length, get_or, arith}
 use Rattle.std.specs.List.{list_any}
-use Rattle.std.specs.List.Sorted.{IsNonDecreasing}
 use Rattle.std.proofs.lemmas.Bool.{or_from}
 use Rattle.clause_pool.proofs.Lists.{In_at}
-use Rattle.row_book.specs.Clauses.{Ascending, Before, InOrder}
-
--- an ascending clause never falls from place to place
-pub ascending_rises : (xs : List ℕ) → Ascending xs → IsNonDecreasing xs
-ascending_rises [] a i j d l u = absurd (omega arith)
-ascending_rises (x ∷ xs) a zero zero d l u = omega arith
-ascending_rises (x ∷ xs) a zero (suc j) d l u = let h : x < get_or xs j d = a.0 (get_or xs j d) (In_at xs j d (omega arith)) in omega arith
-ascending_rises (x ∷ xs) a (suc i) zero d l u = absurd (omega arith)
-ascending_rises (x ∷ xs) a (suc i) (suc j) d l u = ascending_rises xs a.1 i j d (omega arith) (omega arith)
+use Rattle.row_book.specs.Clauses.{Before, InOrder}
 
 -- each clause of a family in order comes before those behind it
 pub order_places : (cs : List (List ℕ)) → InOrder cs → (i j : ℕ) → i < j → j < length cs → (d : List ℕ) → Before (get_or cs i d) (get_or cs j d)
@@ -21,12 +12,6 @@ order_places (c ∷ cs) a zero zero l u d = absurd (omega arith)
 order_places (c ∷ cs) a zero (suc j) l u d = a.0 (get_or cs j d) (In_at cs j d (omega arith))
 order_places (c ∷ cs) a (suc i) zero l u d = absurd (omega arith)
 order_places (c ∷ cs) a (suc i) (suc j) l u d = order_places cs a.1 i j (omega arith) (omega arith) d
-
--- the rest of an ascending clause ascends
-pub rest_ascends : (i : ℕ) (xs : List ℕ) → Ascending xs → Ascending (drop i xs)
-rest_ascends zero xs a = a
-rest_ascends (suc i) [] a = tt
-rest_ascends (suc i) (x ∷ xs) a = rest_ascends i xs a.1
 
 -- no element passes a test that fails at each place
 pub none_places : (test : List ℕ → Bool) (cs : List (List ℕ)) → ((k : ℕ) → k < length cs → test (get_or cs k []) ≡ false) → list_any test cs ≡ false

@@ -5,20 +5,12 @@ use Rattle.std.proofs.lemmas.List.{length-append, length-map}
 use Rattle.std.proofs.lemmas.List.Filters.{length-filter_both}
 use Rattle.std.proofs.lemmas.Nat.{mul-le}
 use Rattle.std.proofs.Math.Nat.{suc-mul}
+use Rattle.listed.proofs.Lists.{filter_short}
 use Rattle.row_book.specs.Sets.{has}
 use Rattle.row_book.specs.Clauses.{apart_from, comes_before, insert_clause, in_row_order, is_inside, minimal_of}
 use Rattle.clause_flatten.specs.Holding.{clauses_with, most_clauses}
 use Rattle.clause_flatten.specs.Substitution.{all_unions_for, clause_without, substituted, union_of, unions_for}
 use Rattle.clause_flatten.proofs.Families.{At, filter_kept, filter_left}
-
--- a part of a list has no more items
-fewer : {A : Type 0} (p : A → Bool) (xs : List A) → length (filter p xs) ≤ length xs
-fewer p [] = omega arith
-fewer p (x ∷ xs) = pick (p x) (fewer p xs)
-  where
-    pick : (b : Bool) → length (filter p xs) ≤ length xs → length (cond b (x ∷ filter p xs) (filter p xs)) ≤ suc (length xs)
-    pick true l = omega arith
-    pick false l = omega arith
 
 inserted_count : (c : List ℕ) (cs : List (List ℕ)) → length (insert_clause c cs) ≤ suc (length cs)
 inserted_count c [] = omega arith
@@ -51,14 +43,14 @@ unions_count q (T ∷ A) B = length-append (unions_for q B T) (all_unions_for q 
     pick false = omega arith
 
 fewer_minimal : (cs : List (List ℕ)) → length (minimal_of cs) ≤ length cs
-fewer_minimal cs = fewer (λ T. list_all (λ S. not (is_inside S T) || is_inside T S) cs) cs
+fewer_minimal cs = filter_short (λ T. list_all (λ S. not (is_inside S T) || is_inside T S) cs) cs
 
 -- so the row has no more
 pub row_count : (p q : ℕ) (A B : List (List ℕ)) → length (in_row_order (substituted p q A B)) ≤ most_clauses q A (length B)
 row_count p q A B =
     let a : length (in_row_order (substituted p q A B)) ≤ length (substituted p q A B) = ordered_count (substituted p q A B) in
     let b : length (substituted p q A B) ≤ length (apart_from p (all_unions_for q A B)) = fewer_minimal (apart_from p (all_unions_for q A B)) in
-    let c : length (apart_from p (all_unions_for q A B)) ≤ length (all_unions_for q A B) = fewer (λ c. not (has c p)) (all_unions_for q A B) in
+    let c : length (apart_from p (all_unions_for q A B)) ≤ length (all_unions_for q A B) = filter_short (λ c. not (has c p)) (all_unions_for q A B) in
     let d : length (all_unions_for q A B) ≡ most_clauses q A (length B) = unions_count q A B in
     omega arith
 
@@ -67,7 +59,7 @@ pub parts_count : (q : ℕ) (cs : List (List ℕ)) → length (clauses_with q cs
 parts_count q cs = length-filter_both (λ c. has c q) (λ c. not (has c q)) (λ c. refl) cs
 
 pub with_few : (q : ℕ) (cs : List (List ℕ)) → length (clauses_with q cs) ≤ length cs
-with_few q cs = fewer (λ c. has c q) cs
+with_few q cs = filter_short (λ c. has c q) cs
 
 -- within the numbers of 64 bits
 pub product_small : (m n : ℕ) → m < 4294967296 → n < 4294967296 → m * n ≤ 18446744065119617025

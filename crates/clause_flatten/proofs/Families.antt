@@ -12,8 +12,10 @@ use Rattle.std.proofs.lemmas.Bool.{OnTrue_from, false≢true, both_ways, cases_B
 use Rattle.std.proofs.lemmas.List.{take_more, map-append}
 use Rattle.std.proofs.lemmas.List.Elements.{filter_more}
 use Rattle.std.proofs.lemmas.Grind.{flat_map-append}
-use Rattle.clause_pool.specs.Interned.{Interned, clause_at, clauses_at, ids_at, row_at, IsPool, Kept, OfPool, IsIdOf}
+use Rattle.listed.proofs.Lists.{item_nil}
+use Rattle.clause_pool.specs.Interned.{Interned, clause_at, clauses_at, row_at, Kept, OfPool, IsIdOf}
 use Rattle.clause_pool.proofs.Lists.{In_at}
+use Rattle.clause_pool.proofs.Interned.{kept_along, clauses_kept, kept_of_pool}
 use Rattle.row_book.specs.Sets.{In, here, there}
 use Rattle.row_book.specs.Clauses.{Ascending, Inside, apart_from, is_inside, minimal_of}
 use Rattle.row_book.proofs.Lists.{In_append_cases, In_append_left, In_append_right, In_cases, In_map, In_none, any_from, any_cases, filter_cases, filter_from, filter_same, item_in}
@@ -27,11 +29,6 @@ pub item_zero : (xs : List ℕ) (i x : ℕ) → i < length xs → x ≡ get_or x
 item_zero [] i x l e = absurd (omega arith)
 item_zero (y ∷ ys) zero x l e = sym e
 item_zero (y ∷ ys) (suc i) x l e = item_zero ys i x (omega arith) e
-
-item_nil : (xs : List (List ℕ)) (i : ℕ) (x : List ℕ) → i < length xs → x ≡ get_or xs i x → get_or xs i [] ≡ x
-item_nil [] i x l e = absurd (omega arith)
-item_nil (y ∷ ys) zero x l e = sym e
-item_nil (y ∷ ys) (suc i) x l e = item_nil ys i x (omega arith) e
 
 pub clauses_length : (pool : Interned) (ids : List ℕ) → length (clauses_at pool ids) ≡ length ids
 clauses_length pool [] = refl
@@ -114,28 +111,9 @@ of_pool_push pool ids new id f l e k i =
       | inr b ↦ elim (In_cases b) [ inl s ↦ subst (λ z. z < length pool.clauses) (sym s) l | inr j ↦ absurd (In_none j) ]
     ]
 
-pub kept_trans : (a b c : Interned) → Kept a b → Kept b c → Kept a c
-kept_trans a b c f g = record {
-  clauses = λ id l. let u : (id < length b.clauses) × (clause_at b id ≡ clause_at a id) = f.clauses id l in
-      let v : (id < length c.clauses) × (clause_at c id ≡ clause_at b id) = g.clauses id u.0 in (v.0, v.1 ∙ u.1);
-  rows = λ id l. let u : (id < length b.rows) × (ids_at b id ≡ ids_at a id) = f.rows id l in
-      let v : (id < length c.rows) × (ids_at c id ≡ ids_at b id) = g.rows id u.0 in (v.0, v.1 ∙ u.1);
-}
-
-pub kept_same : (a b : Interned) → Kept a b → (ids : List ℕ) → OfPool a ids → clauses_at b ids ≡ clauses_at a ids
-kept_same a b k [] f = refl
-kept_same a b k (id ∷ ids) f = ap₂ (λ x xs. x ∷ xs) (k.clauses id (f id here)).1 (kept_same a b k ids (λ n i. f n (there i)))
-
-pub kept_of_pool : (a b : Interned) → Kept a b → (ids : List ℕ) → OfPool a ids → OfPool b ids
-kept_of_pool a b k ids f id i = (k.clauses id (f id i)).0
-
--- a row stays
-pub kept_row : (a b : Interned) → IsPool a → Kept a b → (row : ℕ) → row < length a.rows → row_at b row ≡ row_at a row
-kept_row a b is k row l = ap (clauses_at b) (k.rows row l).1 ∙ kept_same a b k (ids_at a row) (is.of_pool row l)
-
 -- the row of an id that was just made
 pub row_interned : (old new : Interned) (ids : List ℕ) (id : ℕ) → Kept old new → OfPool old ids → IsIdOf new.rows ids id → row_at new id ≡ clauses_at old ids
-row_interned old new ids id k f at = ap (clauses_at new) at.holds ∙ kept_same old new k ids f
+row_interned old new ids id k f at = ap (clauses_at new) at.holds ∙ clauses_kept old new k ids f
 
 pub empty_items : (xs : List ℕ) (n : ℕ) (b : Bool) → n ≡ length xs → b ≡ eqb n 0 → b ≡ true → xs ≡ []
 empty_items [] n b l e t = refl
@@ -301,10 +279,10 @@ module _ (family : List (List ℕ)) (up : (c : List ℕ) → In c family → Asc
 pub interned_more : (start old new : Interned) (family : List (List ℕ)) (i : ℕ) (clause : List ℕ) (ids more : List ℕ) (id : ℕ) → At family i clause → has_shorter family clause ≡ false →
     InternedSoFar start old family (take i family) ids → Kept old new → IsIdOf new.clauses clause id → more ≡ ids ++ id ∷ [] → InternedSoFar start new family (take (i + 1) family) more
 interned_more start old new family i clause ids more id a h s k at is = record {
-  made = ap (clauses_at new) is ∙ map-append (clause_at new) ids (id ∷ []) ∙ ap₂ (λ z y. z ++ y ∷ []) (kept_same old new k ids s.of_pool ∙ s.made) at.holds
+  made = ap (clauses_at new) is ∙ map-append (clause_at new) ids (id ∷ []) ∙ ap₂ (λ z y. z ++ y ∷ []) (clauses_kept old new k ids s.of_pool ∙ s.made) at.holds
       ∙ sym (filter_kept (λ c. not (has_shorter family c)) family i clause a (not_from_false (has_shorter family clause) h));
   of_pool = of_pool_push new ids more id (kept_of_pool old new k ids s.of_pool) at.within is;
-  kept = kept_trans start old new s.kept k;
+  kept = kept_along start old new s.kept k;
 }
 
 pub interned_less : (start old : Interned) (family : List (List ℕ)) (i : ℕ) (clause : List ℕ) (ids : List ℕ) → At family i clause → has_shorter family clause ≡ true →

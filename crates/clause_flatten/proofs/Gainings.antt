@@ -1,11 +1,11 @@
 -- Ids in the order of their clauses, and one more of them put into its place.
-use Rattle.std.proofs.Common.{◌≡◌, ◌≢◌, ℕ, zero, suc, ◌<◌, ◌≤◌, ◌+◌, true, false, ◌&&◌, eqb, ltb, List, [], ◌∷◌, ◌++◌, ◌⊎◌, inl, inr, refl, sym, ◌∙◌, ap, subst, length, get_or, map, take, drop, arith, lt-ltb, eq-eqb}
+use Rattle.std.proofs.Common.{◌≡◌, ◌≢◌, ℕ, zero, suc, ◌<◌, ◌≤◌, ◌+◌, true, false, List, [], ◌∷◌, ◌++◌, ◌⊎◌, inl, inr, refl, sym, ◌∙◌, ap, subst, length, get_or, map, take, drop, arith}
 use Rattle.std.specs.List.{insert}
 use Rattle.std.specs.Cmp.Lexicographic.{slice_cmp}
 use Rattle.std.specs.Ordering.{MatchOrdering, nat_cmp, ordering_then}
 use Rattle.std.specs.declared.cmp.Ordering.{Ordering}
 use Rattle.std.specs.declared.cmp.Ordering.TheVariants.{Less, Equal, Greater}
-use Rattle.std.proofs.lemmas.Bool.{and_from, both_ways, cases_Bool, cases_eq, false_from_ne_true, or_left, or_right}
+use Rattle.std.proofs.lemmas.Bool.{both_ways, cases_Bool, cases_eq, false_from_ne_true}
 use Rattle.std.proofs.lemmas.Cmp.{ranked}
 use Rattle.std.proofs.lemmas.List.{map-append, take-append-drop}
 use Rattle.clause_pool.specs.Interned.{Interned, IsPool, OfPool, clause_at, clauses_at}
@@ -13,19 +13,11 @@ use Rattle.clause_pool.proofs.Lists.{In_at}
 use Rattle.row_book.specs.Sets.{In, here, there}
 use Rattle.row_book.specs.Clauses.{Before, InOrder, comes_before}
 use Rattle.row_book.proofs.Lists.{In_append_cases, In_append_left, In_append_right, In_cases, In_map_cases, In_none}
-use Rattle.row_book.proofs.Order.{before_test, before_trans, neither_before, order_append}
+use Rattle.row_book.proofs.Order.{before_test, before_trans, neither_before, order_append, before_is}
 use Rattle.clause_flatten.specs.Families.{HasGained}
 use Rattle.clause_flatten.proofs.Beginnings.{order_places}
 use Rattle.clause_flatten.proofs.Families.{clauses_item, clauses_length}
 use Rattle.clause_flatten.proofs.Members.{before_less}
-
--- the order as the test tells it
-pub before_is : (a b : List ℕ) → Before a b → comes_before a b ≡ true
-before_is [] [] f = absurd f
-before_is [] (y ∷ ys) f = refl
-before_is (x ∷ xs) [] f = absurd f
-before_is (x ∷ xs) (y ∷ ys) (inl l) = or_left (ltb x y) (eqb x y && comes_before xs ys) (lt-ltb x y l)
-before_is (x ∷ xs) (y ∷ ys) (inr e) = or_right (ltb x y) (eqb x y && comes_before xs ys) (and_from (eqb x y) (comes_before xs ys) (eq-eqb x y e.0) (before_is xs ys e.1))
 
 -- and as the comparison of slices tells it
 less_before : (c d : List ℕ) → Before c d → slice_cmp nat_cmp c d ≡ Less

@@ -2,7 +2,7 @@
 use Rattle.std.proofs.Common.{◌≡◌, ℕ, zero, suc, ◌<◌, ◌≤◌, ◌+◌, ◌-◌, Bool, true, false, ◌||◌, eqb, cond, List, [], ◌∷◌, ◌++◌, refl, sym, ◌∙◌, ap, ap₂, subst, length, get_or, set, take, drop, drop-cons, add-one, eq-eqb, ne_eqb, append_assoc, length-append, length-drop, arith}
 use Rattle.std.proofs.lemmas.Bool.{cond-true, cond-false}
 use Rattle.std.proofs.Math.Seq.{drop-append_seam}
-use Rattle.std.proofs.lemmas.List.{append-nil, drop-append-le, take-append-le}
+use Rattle.std.proofs.lemmas.List.{append-nil, drop-append-le, take-append-le, length-take-le}
 use Rattle.clause_flatten.specs.Branches.{bare, begin_of, branch, chain, is_empty, no_leap, nodes_of, past, shared, size_of, with_clause, Grows, Leap, Leaps, Tree}
 use Rattle.clause_flatten.specs.declared.family_tree.Node.{Node}
 use Rattle.clause_flatten.proofs.Walked.{first_leaps, front_again, is_bare, parted, past_front, past_more, size_is, take_front, Front, Parts}
@@ -228,11 +228,6 @@ drop_front [] ys (suc k) e = absurd (omega arith)
 drop_front (x ∷ xs) ys zero e = absurd (omega arith)
 drop_front (x ∷ xs) ys (suc k) e = drop_front xs ys k (omega arith)
 
-taken : (k : ℕ) (nodes : List Node) → k ≤ length nodes → length (take k nodes) ≡ k
-taken zero nodes l = refl
-taken (suc k) [] l = absurd (omega arith)
-taken (suc k) (x ∷ xs) l = ap suc (taken k xs (omega arith))
-
 -- the nodes that were put behind the others, turned to their place
 pub turned : (old chained : List Node) (place moved : ℕ) → place ≤ length old → moved ≡ length old - place →
     take place (old ++ chained) ++ (drop moved (drop place (old ++ chained)) ++ take moved (drop place (old ++ chained))) ≡ take place old ++ (chained ++ drop place old)
@@ -351,4 +346,4 @@ module _ (c : List ℕ) (tree : Tree) (nodes : List Node) (place : ℕ) (count :
 pub longer : (old items : List Node) (place far rank : ℕ) (ns : List ℕ) → items ≡ take place old ++ (chain place far rank ns ++ drop place old) → place ≤ length old → length items ≡ length old + length ns
 longer old items place far rank ns is within =
     ap length is ∙ length-append (take place old) (chain place far rank ns ++ drop place old)
-    ∙ omega (arith, taken place old within, length-append (chain place far rank ns) (drop place old), chain_length place far rank ns, length-drop place old)
+    ∙ omega (arith, length-take-le place old within, length-append (chain place far rank ns) (drop place old), chain_length place far rank ns, length-drop place old)

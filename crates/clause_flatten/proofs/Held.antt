@@ -70,7 +70,7 @@ first_within limit R e p l =
     outer None h = refl
     outer (Some w) h = h
 
-    inner : (o : Option ℕ) → option_map {U = Passed} (λ p. record { gone = 0; «package» = p; count = row_length R (remaining_after limit true R 0).left p }) o ≡ None → o ≡ None
+    inner : (o : Option ℕ) → option_map {U = Passed} (λ p. record { gone = 0; over = p; count = row_length R (remaining_after limit true R 0).left p }) o ≡ None → o ≡ None
     inner None h = refl
     inner (Some q) h = absurd (let f : ⊥ = cc in f)
 

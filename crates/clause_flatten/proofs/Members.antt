@@ -1,6 +1,6 @@
 -- Members of lists in the words of the standard library, and lists that were sorted and rid of doubles.
-use Rattle.std.proofs.Common.{◌≡◌, ℕ, suc, ◌<◌, eqb, nat_eq, List, [], ◌∷◌, ◌++◌, length, get_or, inl, inr, refl, sym, ◌∙◌, ap, subst, arith}
-use Rattle.std.specs.List.{Contains, AllPairs, AllByRecursion, dedup}
+use Rattle.std.proofs.Common.{◌≡◌, ℕ, ◌<◌, eqb, nat_eq, List, [], ◌∷◌, ◌++◌, inl, inr, refl, sym, ◌∙◌, ap, subst}
+use Rattle.std.specs.List.{AllByRecursion, dedup}
 use Rattle.std.specs.List.Retain.{DiffersFromLast, IsFiltered}
 use Rattle.std.specs.List.Sorted.{IsPermutation, IsSorted, IsStrictlyIncreasing, IsStrictlySortedBy}
 use Rattle.std.specs.Cmp.Lexicographic.{pointwise, slice_cmp, nat_list_cmp_total, nat_list_eq_equiv, texts_ties, same_text}
@@ -12,26 +12,14 @@ use Rattle.std.proofs.lemmas.List.Filters.{dedup_is}
 use Rattle.std.proofs.lemmas.List.Kept.{AllPairs-from_increasing, Contains-dedup, Contains-dedup_nat, Contains-from_dedup, IsStrictlySortedBy-dedup}
 use Rattle.std.proofs.lemmas.List.Sorted.{Contains-permutation, IsPermutation-sym}
 use Rattle.std.proofs.lemmas.Map.Keys.{IsStrictlyIncreasing-dedup}
-use Rattle.clause_pool.proofs.Lists.{In_place, In_at}
+use Rattle.listed.proofs.Lists.{contains_in, in_contains}
+use Rattle.listed.proofs.Orders.{ascending_pairs}
 use Rattle.row_book.specs.Sets.{In}
 use Rattle.row_book.specs.Clauses.{Ascending, Before, InOrder}
 use Rattle.row_book.proofs.Lists.{In_append_cases, In_append_left, In_append_right, In_cases, In_none, ascending_same}
 use Rattle.clause_flatten.specs.Substitution.{union_of}
 use Rattle.clause_flatten.specs.Families.{SameClauses}
 use Rattle.clause_flatten.proofs.Unions.{joined_ascending, joined_cases, joined_left, joined_right}
-
-pub contains_in : {A : Type 0} (xs : List A) (x : A) → Contains xs x → In x xs
-contains_in xs x h = subst (λ z. In z xs) h.2 (In_at xs h.0 x h.1)
-
-pub in_contains : {A : Type 0} (xs : List A) (x : A) → In x xs → Contains xs x
-in_contains xs x i = let w : (k : ℕ) × (k < length xs) × (get_or xs k x ≡ x) = In_place xs x x i in (w.0, w.1, w.2)
-
-pub ascending_pairs : (xs : List ℕ) → AllPairs (λ x y. x < y) xs → Ascending xs
-ascending_pairs [] f = tt
-ascending_pairs (x ∷ xs) f = (
-  (λ y i. let w : (k : ℕ) × (k < length xs) × (get_or xs k 0 ≡ y) = In_place xs y 0 i in subst (λ z. x < z) w.2 (f 0 (suc w.0) 0 (omega arith) (let l : w.0 < length xs = w.1 in omega arith))),
-  ascending_pairs xs (λ i j d l m. f (suc i) (suc j) d (omega arith) (omega arith)),
-)
 
 pub increasing_ascending : (xs : List ℕ) → IsStrictlyIncreasing xs → Ascending xs
 increasing_ascending xs f = ascending_pairs xs (AllPairs-from_increasing xs f)

@@ -1,18 +1,19 @@
 -- The rows in the middle of an elimination: those of some users are replaced.
 use Rattle.std.proofs.Common.{◌≡◌, ◌≢◌, ℕ, ◌<◌, ◌+◌, List, [], ◌∷◌, length, get_or, drop, drop-cons, add-one, map, ◌⊎◌, inl, inr, refl, sym, ◌∙◌, ap, ap₂, subst}
 use Rattle.std.proofs.lemmas.Bool.{cases_eq}
+use Rattle.listed.proofs.Lists.{In_drop}
 use Rattle.clause_pool.specs.Interned.{Interned, IsPool, Kept, row_at}
 use Rattle.clause_pool.proofs.Lists.{In_at}
+use Rattle.clause_pool.proofs.Interned.{kept_along, kept_same}
 use Rattle.row_book.specs.Sets.{In, here, there}
 use Rattle.row_book.specs.Clauses.{Ascending, in_row_order}
 use Rattle.row_book.specs.Book.{RowsFit, RowsTidy}
 use Rattle.row_book.specs.Uses.{row_id, users_of}
 use Rattle.row_book.proofs.Books.{row_kept}
 use Rattle.row_book.proofs.Lists.{In_cases, In_none, decided_in}
-use Rattle.row_book.proofs.Inserts.{In_drop}
+use Rattle.row_book.proofs.Users.{users_ascend}
 use Rattle.clause_flatten.specs.Substitution.{table_without, substituted, table_row}
-use Rattle.clause_flatten.proofs.Families.{kept_trans}
-use Rattle.clause_flatten.proofs.Replacing.{id_in, not_behind, not_user, other_eliminated, own_eliminated, own_user, table_same, tidy_untouched, user_in, users_up}
+use Rattle.clause_flatten.proofs.Replacing.{id_in, not_behind, not_user, other_eliminated, own_eliminated, own_user, table_same, tidy_untouched, user_in}
 
 pub record Midway (start : Interned) (first : List ℕ) (q : ℕ) (pool : Interned) (rows : List ℕ) (done : List ℕ) : Type 0 where
   pub size : length rows ≡ length first
@@ -26,7 +27,7 @@ pub record Midway (start : Interned) (first : List ℕ) (q : ℕ) (pool : Intern
 pub midway_none : (start : Interned) (first : List ℕ) (q : ℕ) (done : List ℕ) → done ≡ [] → RowsFit start first → RowsTidy start first → Midway start first q start first done
 midway_none start first q done none fit tidy = record {
   size = refl;
-  kept = record { clauses = λ id l. (l, refl); rows = λ id l. (l, refl) };
+  kept = kept_same start;
   fit = fit;
   tidy = tidy;
   changed = λ p i. absurd (In_none (subst (λ z. In p z) none i));
@@ -52,7 +53,7 @@ module _ (start : Interned) (first : List ℕ) (q : ℕ) (is : IsPool start) (fi
 
   -- a user stands once
   fresh : (i : ℕ) → i < length users → In (get_or users i 0) (drop (i + 1) users) → ⊥
-  fresh i l = not_behind users i (subst (λ z. Ascending z) (sym users_is) (users_up start first q)) l
+  fresh i l = not_behind users i (subst (λ z. Ascending z) (sym users_is) (users_ascend start first q)) l
 
   -- a row that is not done reads as it did at the start
   reads : (pool : Interned) (rows : List ℕ) (done : List ℕ) → Midway start first q pool rows done → (p : ℕ) → p < length first → (In p done → ⊥) →
@@ -68,7 +69,7 @@ module _ (start : Interned) (first : List ℕ) (q : ℕ) (is : IsPool start) (fi
     pub midway_refused : after ≡ rows → Midway start first q next after (drop (i + 1) users)
     midway_refused e = record {
       size = a.size ∙ m.size;
-      kept = kept_trans start pool next m.kept a.kept;
+      kept = kept_along start pool next m.kept a.kept;
       fit = a.fit;
       tidy = a.tidy;
       changed = still_changed;
@@ -83,7 +84,7 @@ module _ (start : Interned) (first : List ℕ) (q : ℕ) (is : IsPool start) (fi
         let user_there : In user users = In_at users i 0 l in
         record {
           size = a.size ∙ m.size;
-          kept = kept_trans start pool next m.kept a.kept;
+          kept = kept_along start pool next m.kept a.kept;
           fit = a.fit;
           tidy = a.tidy;
           changed = λ p j. elim (In_cases (subst (λ z. In p z) grown j)) [

@@ -70,7 +70,7 @@ IsWithin R limit hold j = (p : ℕ) → p < length R.clauses → row_length R (r
 not_passed : (R : Repository) (limit : ℕ) (hold : Bool) (j : ℕ) → IsWithin R limit hold j → passed_at limit hold R j ≡ None
 not_passed R limit hold j f =
     let V : NumSet = (remaining_after limit hold R j).left in
-    ap (option_map (λ p. record { gone = j; «package» = p; count = row_length R V p }))
+    ap (option_map (λ p. record { gone = j; over = p; count = row_length R V p }))
     (find_not (λ p. ltb limit (row_length R (remaining_after limit hold R j).left p)) (packages R)
     (λ p i. let w : (0 ≤ p) × (p < 0 + length R.clauses) = numbers_parts (length R.clauses) 0 p i in
     le-ltb limit (row_length R (remaining_after limit hold R j).left p) (f p (omega arith))))

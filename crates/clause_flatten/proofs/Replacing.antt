@@ -1,20 +1,21 @@
 -- Rows of a pool of which one after another is replaced, and what a package's elimination comes to.
-use Rattle.std.proofs.Common.{◌≡◌, ◌≢◌, ℕ, zero, suc, ◌<◌, ◌≤◌, ◌+◌, true, eqb, cond, List, [], ◌∷◌, length, get_or, drop, map, slice_set, ◌⊎◌, inl, inr, refl, sym, ◌∙◌, ap, ap₂, subst, arith, eq-eqb, ne_eqb}
+use Rattle.std.proofs.Common.{◌≡◌, ◌≢◌, ℕ, zero, suc, ◌<◌, ◌≤◌, ◌+◌, true, eqb, List, [], ◌∷◌, length, get_or, drop, map, slice_set, ◌⊎◌, inl, inr, refl, sym, ◌∙◌, ap, ap₂, subst, arith, eq-eqb, ne_eqb}
 use Rattle.std.specs.List.{list_any}
 use Rattle.std.proofs.lemmas.Bool.{cases_eq, cond-true, cond-false}
 use Rattle.std.proofs.lemmas.List.{get_or-set_same, get_or-set_other, get_or-map, length-set, length-map}
-use Rattle.clause_pool.specs.Interned.{Interned, IsPool, Kept, clause_at, ids_at, row_at}
+use Rattle.clause_pool.specs.Interned.{Interned, IsPool, Kept, row_at}
 use Rattle.clause_pool.proofs.Lists.{In_at}
 use Rattle.row_book.specs.Sets.{In, here, there, has}
 use Rattle.row_book.specs.Clauses.{Ascending, InOrder, Inside, apart_from, numbers, in_row_order}
 use Rattle.row_book.specs.Book.{RowsFit, RowsTidy, listed_for}
 use Rattle.row_book.specs.Uses.{row_holds, row_id, users_of, uses_of}
-use Rattle.row_book.proofs.Lists.{In_cases, In_has, In_map_cases, In_none, any_cases, any_from, ascending_filter, ascending_same, filter_cases, filter_from, has_In, filter_same}
+use Rattle.row_book.proofs.Lists.{In_cases, In_has, In_none, any_cases, any_from, ascending_same, filter_cases, filter_from, has_In, filter_same}
 use Rattle.row_book.proofs.Books.{row_kept}
 use Rattle.row_book.proofs.Clauses.{apart_cases, apart_in, minimal_of_from, minimal_of_parts}
-use Rattle.row_book.proofs.Order.{at_numbers, length_numbers, map_same, numbers_from, numbers_parts, order_same, ordered_has, ordered_order, ordered_parts}
+use Rattle.row_book.proofs.Order.{at_numbers, map_same, numbers_from, numbers_parts, order_same, ordered_has, ordered_order, ordered_parts}
 use Rattle.clause_flatten.specs.Substitution.{clause_without, table_without, all_unions_for, substituted, table_row}
 use Rattle.clause_flatten.proofs.Unions.{Comes, dropped_parts, joined_ascending, joined_cases, replaced_cases, replaced_kept}
+use Rattle.clause_flatten.proofs.Runs.{eliminated_at, eliminated_count}
 
 -- Rows in a pool that grows.
 
@@ -34,6 +35,7 @@ module _ (old new : Interned) (rows : List ℕ) (is : IsPool old) (k : Kept old 
 
   pub fit_kept : RowsFit new rows
   fit_kept = record {
+    is_pool = k.sound fit.is_pool;
     of_pool = λ id i. (k.rows id (fit.of_pool id i)).0;
     numbers = λ id i c j. fit.numbers id i c (subst (λ z. In c z) (row_kept old new is k id (fit.of_pool id i)) j);
   }
@@ -67,6 +69,7 @@ module _ (pool : Interned) (rows : List ℕ) (user id : ℕ) (user_in : user < l
 
   pub fit_set : RowsFit pool rows → id < length pool.rows → ((c : List ℕ) → In c (row_at pool id) → (n : ℕ) → In n c → n < length rows) → RowsFit pool (slice_set rows user id)
   fit_set fit l f = record {
+    is_pool = fit.is_pool;
     of_pool = λ k i. elim (set_cases rows user id k i) [ inl e ↦ subst (λ z. z < length pool.rows) (sym e) l | inr j ↦ fit.of_pool k j ];
     numbers = λ k i c m n o. subst (λ z. n < z) (sym size_set)
         (elim (set_cases rows user id k i) [ inl e ↦ f c (subst (λ z. In c (row_at pool z)) e m) n o | inr j ↦ fit.numbers k j c m n o ]);
@@ -149,16 +152,7 @@ module _ (p q : ℕ) (A B : List (List ℕ)) where
       (apart_in p (all_unions_for q A B) c (replaced_kept q A B c i (f c i)) (apart c i))
       (λ S j g. subst (λ z. Inside c z) (sym (thin S c (back S j) i g)) (λ n k. k))))
 
-pub pool_up : (pool : Interned) → IsPool pool → (id : ℕ) → id < length pool.rows → (c : List ℕ) → In c (row_at pool id) → Ascending c
-pool_up pool is id l c i =
-    let w : (k : ℕ) × In k (ids_at pool id) × (c ≡ clause_at pool k) = In_map_cases (clause_at pool) (ids_at pool id) c i in
-    subst (λ z. Ascending z) (sym w.2) (is.ascending w.0 (is.of_pool id l w.0 w.1))
-
 -- Who names a package.
-
-pub uses_length : (pool : Interned) (rows : List ℕ) → length (uses_of pool rows) ≡ length rows
-unfolding uses_of
-uses_length pool rows = length_numbers (users_of pool rows) (length rows) 0
 
 pub users_at : (pool : Interned) (rows : List ℕ) (n : ℕ) → n < length rows → listed_for (uses_of pool rows) n ≡ users_of pool rows n
 unfolding uses_of
@@ -185,14 +179,6 @@ own_user pool rows n tidy l i =
     any_cases (λ d. has d n) (row_at pool (row_id rows n)) (filter_cases (λ k. row_holds pool (row_id rows k) n) (numbers (length rows) 0) n i).1 in
     tidy.apart n l w.0 w.1 (has_In w.0 n w.2)
 
-numbers_up : (n k : ℕ) → Ascending (numbers n k)
-unfolding numbers
-numbers_up zero k = tt
-numbers_up (suc n) k = ((λ m i. let w : (suc k ≤ m) × (m < suc k + n) = numbers_parts n (suc k) m i in omega arith), numbers_up n (suc k))
-
-pub users_up : (pool : Interned) (rows : List ℕ) (n : ℕ) → Ascending (users_of pool rows n)
-users_up pool rows n = ascending_filter (λ p. row_holds pool (row_id rows p) n) (numbers (length rows) 0) (numbers_up (length rows) 0)
-
 pub not_behind : (xs : List ℕ) (i : ℕ) → Ascending xs → i < length xs → In (get_or xs i 0) (drop (i + 1) xs) → ⊥
 not_behind [] i a l j = absurd (omega arith)
 not_behind (x ∷ xs) zero a l j = let h : x < x = a.0 x j in omega arith
@@ -209,17 +195,6 @@ same_items (x ∷ xs) [] d e f = absurd (let k : suc (length xs) ≡ 0 = e in om
 same_items (x ∷ xs) (y ∷ ys) d e f =
     let k : suc (length xs) ≡ suc (length ys) = e in
     ap₂ (λ z zs. z ∷ zs) (f 0 (omega arith)) (same_items xs ys d (omega arith) (λ i l. f (suc i) (omega arith)))
-
-pub eliminated_length : (q : ℕ) (t : List (List (List ℕ))) → length (table_without q t) ≡ length t
-unfolding table_without
-eliminated_length q t = length_numbers (λ p. cond (eqb p q) (table_row t q) (in_row_order (substituted p q (table_row t p) (table_row t q)))) (length t) 0
-
-eliminated_at : (q : ℕ) (t : List (List (List ℕ))) (p : ℕ) → p < length t →
-    table_row (table_without q t) p ≡ cond (eqb p q) (table_row t q) (in_row_order (substituted p q (table_row t p) (table_row t q)))
-unfolding table_without
-eliminated_at q t p l =
-    let new : ℕ → List (List ℕ) = λ k. cond (eqb k q) (table_row t q) (in_row_order (substituted k q (table_row t k) (table_row t q))) in
-    at_numbers new [] (length t) 0 p l ∙ ap new (let e : 0 + p ≡ p = omega arith in e)
 
 module _ (start : Interned) (first : List ℕ) (q : ℕ) (q_in : q < length first) where
   abbrev table : List (List (List ℕ))
@@ -249,14 +224,14 @@ module _ (start : Interned) (first : List ℕ) (q : ℕ) (q_in : q < length firs
       map (row_at pool) rows ≡ table_without q (map (row_at start) first)
   table_same pool rows size f =
       let long : length (map (row_at pool) rows) ≡ length rows = length-map rows (row_at pool) in
-      same_items (map (row_at pool) rows) (table_without q table) [] (long ∙ size ∙ sym (eliminated_length q table ∙ table_size))
+      same_items (map (row_at pool) rows) (table_without q table) [] (long ∙ size ∙ sym (eliminated_count q table ∙ table_size))
       (λ p l. get_or-map (row_at pool) rows p 0 [] (subst (λ z. p < z) long l) ∙ f p (subst (λ z. p < z) (long ∙ size) l))
 
   -- no row of it holds the package
   pub none_left : RowsTidy start first → (pool : Interned) (rows : List ℕ) → map (row_at pool) rows ≡ table_without q (map (row_at start) first) → users_of pool rows q ≡ []
   none_left tidy pool rows made = no_items (users_of pool rows q) (λ p i.
       let k : p < length rows = user_in pool rows q p i in
-      let size : length rows ≡ length first = sym (length-map rows (row_at pool)) ∙ ap length made ∙ eliminated_length q table ∙ table_size in
+      let size : length rows ≡ length first = sym (length-map rows (row_at pool)) ∙ ap length made ∙ eliminated_count q table ∙ table_size in
       let l : p < length first = subst (λ z. p < z) size k in
       let reads : row_at pool (row_id rows p) ≡ table_row (table_without q (map (row_at start) first)) p = sym (get_or-map (row_at pool) rows p 0 [] k) ∙ ap (λ t. table_row t p) made in
       let w : (c : List ℕ) × In c (row_at pool (row_id rows p)) × (has c q ≡ true) =

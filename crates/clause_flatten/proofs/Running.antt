@@ -1,22 +1,23 @@
 -- The run of flattening over rows in a pool: where it stands after so many steps.
-use Rattle.std.proofs.Common.{◌≡◌, ℕ, zero, suc, ◌<◌, ◌≤◌, ◌+◌, ◌-◌, Bool, true, false, not, ◌&&◌, ◌||◌, eqb, ltb, cond, List, [], ◌∷◌, ◌++◌, length, filter, replicate, slice_set, ◌≢◌, inl, inr, refl, sym, ◌∙◌, ap, subst, arith, map, take, Option, Some, None, ne_eqb, append-nil}
+use Rattle.std.proofs.Common.{◌≡◌, ℕ, zero, suc, ◌<◌, ◌≤◌, ◌+◌, ◌-◌, Bool, true, false, not, ◌&&◌, ◌||◌, eqb, ltb, cond, List, [], ◌∷◌, ◌++◌, length, filter, replicate, slice_set, ◌≢◌, inl, inr, refl, sym, ◌∙◌, ap, subst, arith, map, take, Option, Some, None, ne_eqb}
 use Rattle.std.specs.List.{find}
 use Rattle.std.proofs.lemmas.Bool.{cases_eq, cases_lt}
 use Rattle.std.proofs.lemmas.List as lists
-use Rattle.std.proofs.lemmas.List.Elements.{filter-append}
 use Rattle.clause_pool.specs.Interned.{Interned, IsPool, Kept, row_at}
+use Rattle.clause_pool.proofs.Interned.{kept_along, kept_same}
 use Rattle.row_book.specs.declared.book.Book.{Book}
 use Rattle.row_book.specs.Sets.{NumSet, without}
 use Rattle.row_book.specs.Repository.{Repository}
 use Rattle.row_book.specs.Clauses.{numbers}
-use Rattle.row_book.specs.Holders.{Holders, TellsRows}
-use Rattle.row_book.specs.Book.{RowsFit, RowsTidy, Sound, repository_of}
+use Rattle.row_book.specs.Holders.{Holders}
+use Rattle.row_book.specs.Book.{Sound, repository_of}
 use Rattle.row_book.specs.Flags.{flag}
 use Rattle.row_book.specs.Flattening.{Passed, Remaining, at_last, flat, gone_or_held, has_conflict, held_of, may_go, next_gone, none_gone, packages, passed_by, passes, remaining_after, row_length, rows_over}
 use Rattle.row_book.proofs.Sets.{plus_new}
 use Rattle.row_book.proofs.Books.{sound_clauses}
 use Rattle.row_book.proofs.Lists.{filter_same, find_some}
 use Rattle.row_book.proofs.Order.{numbers_parts}
+use Rattle.clause_flatten.specs.Ready.{AreReady}
 use Rattle.clause_flatten.specs.Substitution.{table_without, table_passes, length_in}
 use Rattle.clause_flatten.specs.Refusals.{OnLimit}
 use Rattle.clause_flatten.specs.declared.error.FlatError.{FlatError}
@@ -27,7 +28,6 @@ use Rattle.clause_flatten.specs.Waiting.{Filed, IsFirst}
 use Rattle.clause_flatten.proofs.Flat.{goes, next_gone_is, stays_held}
 use Rattle.clause_flatten.proofs.Stages.{core_is_reached_lem, left_bound, same_passing, stays_more}
 use Rattle.clause_flatten.proofs.Tables.{table_length, table_step_lem}
-use Rattle.clause_flatten.proofs.Tidied.{kept_kept, kept_same, numbers_more}
 use Rattle.clause_flatten.proofs.Turns.{filed_as}
 use Rattle.clause_flatten.proofs.Runs.{passed_some}
 use Rattle.clause_flatten.proofs.Free.{start_may}
@@ -41,9 +41,7 @@ pub record FlagsTell (n : ℕ) (held : NumSet) (flags : List Bool) : Type 0 wher
 -- where a run stands after so many steps
 pub record RunAt (R : Repository) (limit : ℕ) (hold : Bool) (i : ℕ) (start now : Interned) (rows : List ℕ) (used : Holders) (waiting : List ℕ) (flags : List Bool) : Type 0 where
   pub table : map (row_at now) rows ≡ rows_over R (remaining_after limit hold R i).left
-  pub fit : RowsFit now rows
-  pub tidy : RowsTidy now rows
-  pub uses : TellsRows now rows used
+  pub ready : AreReady now rows used
   pub filed : Filed waiting (may_go R (remaining_after limit hold R i)) (length_in (map (row_at now) rows))
   pub told : FlagsTell (length R.clauses) (remaining_after limit hold R i).held flags
   pub within : (j : ℕ) → j ≤ i → IsWithin R limit hold j
@@ -62,13 +60,13 @@ no_flags (suc n) zero = refl
 no_flags (suc n) (suc q) = no_flags n q
 
 pub run_start : (pool : Interned) (book : Book) (limit : ℕ) (hold : Bool) (rows : List ℕ) (used : Holders) (waiting : List ℕ) (flags : List Bool) → IsPool pool → Sound pool book →
-    map (row_at pool) rows ≡ tidied_table (map (row_at pool) book.rows) → RowsFit pool rows → RowsTidy pool rows → TellsRows pool rows used →
+    map (row_at pool) rows ≡ tidied_table (map (row_at pool) book.rows) → AreReady pool rows used →
     Filed waiting (λ q. ltb q (length book.rows) && is_free book.conflicts q) (length_in (map (row_at pool) rows)) →
     ((p : ℕ) → p < length rows → length_in (map (row_at pool) rows) p ≤ limit) →
     flags ≡ replicate (length book.rows) false →
     RunAt (repository_of pool book) limit hold 0 pool pool rows used waiting flags
 unfolding remaining_after
-run_start pool book limit hold rows used waiting flags is s first fit tidy uses filed within none =
+run_start pool book limit hold rows used waiting flags is s first ready filed within none =
     let R : Repository = repository_of pool book in
     let V : NumSet = (remaining_after limit hold (repository_of pool book) 0).left in
     let table : map (row_at pool) rows ≡ rows_over (repository_of pool book) (remaining_after limit hold (repository_of pool book) 0).left =
@@ -77,9 +75,7 @@ run_start pool book limit hold rows used waiting flags is s first fit tidy uses 
     sym (lists.length-map rows (row_at pool)) ∙ ap length table ∙ table_length R V in
     record {
       table = table;
-      fit = fit;
-      tidy = tidy;
-      uses = uses;
+      ready = ready;
       filed = filed_as waiting (λ q. ltb q (length book.rows) && is_free book.conflicts q) (may_go R (none_gone R))
           (length_in (map (row_at pool) rows)) (length_in (map (row_at pool) rows)) filed (start_may pool book s) (λ q h. refl);
       told = record {
@@ -208,19 +204,17 @@ module _ (R : Repository) (limit : ℕ) (hold : Bool) (i : ℕ) (start now : Int
 
     pub run_more : (b : Bool) (new : Interned) (after : List ℕ) (used_after : Holders) (waiting_after : List ℕ) (flags_after : List Bool) →
         b ≡ (hold && table_passes limit (table_without q (map (row_at now) rows))) →
-        map (row_at new) after ≡ cond b (map (row_at now) rows) (table_without q (map (row_at now) rows)) → RowsFit new after → RowsTidy new after → TellsRows new after used_after → Kept now new →
+        map (row_at new) after ≡ cond b (map (row_at now) rows) (table_without q (map (row_at now) rows)) → AreReady new after used_after → Kept now new →
         (b ≡ false → (p : ℕ) → p < length rows → length_in (table_without q (map (row_at now) rows)) p ≤ limit) →
         Filed waiting_after (without (may_go R (remaining_after limit hold R i)) q) (length_in (cond b (map (row_at now) rows) (table_without q (map (row_at now) rows)))) →
         flags_after ≡ slice_set flags q b →
         RunAt R limit hold (i + 1) start new after used_after waiting_after flags_after
-    run_more b new after used_after waiting_after flags_after e made fit tidy uses kept within filed set =
+    run_more b new after used_after waiting_after flags_after e made ready kept within filed set =
         let next : Remaining = cond b (stays_held s q) (goes s q) in
         let is : remaining_after limit hold R (i + 1) ≡ cond b (stays_held (remaining_after limit hold R i) q) (goes (remaining_after limit hold R i) q) = answer b e in
         record {
           table = made ∙ next_table b ∙ ap (λ z. rows_over R z.left) (sym is);
-          fit = fit;
-          tidy = tidy;
-          uses = uses;
+          ready = ready;
           filed = filed_as waiting_after (without (may_go R s) q) (may_go R (remaining_after limit hold R (i + 1)))
               (length_in (cond b t (table_without q t))) (length_in (map (row_at new) after)) filed
               (λ x. may_go_less R s q b x ∙ ap (λ z. may_go R z x) (sym is))
@@ -234,7 +228,7 @@ module _ (R : Repository) (limit : ℕ) (hold : Bool) (i : ℕ) (start now : Int
                 let k : i + 1 ≡ j = omega arith in
                 subst (IsWithin R limit hold) k (λ p n. subst (λ z. row_length R z.left p ≤ limit) (sym is) (next_within b within p n))
           ];
-          kept = kept_kept start now new run.kept kept;
+          kept = kept_along start now new run.kept kept;
         }
 
     pub run_passed : (w : Passed) → i < length R.clauses →
@@ -282,7 +276,7 @@ module _ (R : Repository) (limit : ℕ) (hold : Bool) (i : ℕ) (start now : Int
 
 -- what is told of a refusal
 pub on_limit : (P Q : Passed → Type 0) → ((w : Passed) → P w → Q w) → (e : FlatError) → OnLimit P e → OnLimit Q e
-on_limit P Q f (Limit gone «package» count) h = f (record { gone = gone; «package» = «package»; count = count }) h
+on_limit P Q f (Limit gone over count) h = f (record { gone = gone; over = over; count = count }) h
 on_limit P Q f Memory h = tt
 
 -- a refusal before any package is taken out
@@ -291,7 +285,7 @@ found_below p n q e = let w : (0 ≤ q) × (q < 0 + n) = numbers_parts n 0 q (fi
 
 pub first_passed : (pool new : Interned) (book : Book) (rows : List ℕ) (limit : ℕ) (hold : Bool) (q count : ℕ) → IsPool pool → Sound pool book →
     map (row_at new) rows ≡ tidied_table (map (row_at pool) book.rows) → find (is_over (map (row_at new) rows) limit) (numbers (length rows) 0) ≡ Some q →
-    count ≡ length_in (map (row_at new) rows) q → passes limit hold (repository_of pool book) ≡ Some (record { gone = 0; «package» = q; count = count })
+    count ≡ length_in (map (row_at new) rows) q → passes limit hold (repository_of pool book) ≡ Some (record { gone = 0; over = q; count = count })
 first_passed pool new book rows limit hold q count is s first found told =
     let R : Repository = repository_of pool book in
     let V : NumSet = (remaining_after limit hold R 0).left in
@@ -299,7 +293,7 @@ first_passed pool new book rows limit hold q count is s first found told =
     first ∙ first_stage_is limit hold R (sound_clauses pool book s is) in
     let size : length rows ≡ length (repository_of pool book).clauses =
     sym (lists.length-map rows (row_at new)) ∙ ap length table ∙ table_length R V in
-    passes_at R limit hold 0 (length rows) (map (row_at new) rows) (record { gone = 0; «package» = q; count = count }) (some_seen hold) table size
+    passes_at R limit hold 0 (length rows) (map (row_at new) rows) (record { gone = 0; over = q; count = count }) (some_seen hold) table size
     (λ j l. absurd (omega arith))
     (passed_some (map (row_at new) rows) limit 0 q count (numbers (length rows) 0) found told)
   where
@@ -318,18 +312,3 @@ take_whole n xs zs e = ap (λ k. take k (xs ++ zs)) e ∙ front xs
         take_zero [] = refl
         take_zero (w ∷ ws) = refl
     front (y ∷ ys) = ap (λ ws. y ∷ ws) (front ys)
-
--- the numbers whose flags are up
-pub no_numbers : (p : ℕ → Bool) → [] ≡ filter p (numbers 0 0)
-unfolding numbers
-no_numbers p = refl
-
-module _ (p : ℕ → Bool) (n : ℕ) (set : List ℕ) (sofar : set ≡ filter p (numbers n 0)) where
-  one_number : filter p (numbers (n + 1) 0) ≡ filter p (numbers n 0) ++ cond (p n) (n ∷ []) []
-  one_number = ap (filter p) (numbers_more n) ∙ filter-append p (numbers n 0) (n ∷ [])
-
-  pub flag_up : p n ≡ true → set ++ n ∷ [] ≡ filter p (numbers (n + 1) 0)
-  flag_up e = ap (λ xs. xs ++ n ∷ []) sofar ∙ sym (one_number ∙ ap (λ b. filter p (numbers n 0) ++ cond b (n ∷ []) []) e)
-
-  pub flag_down : p n ≡ false → set ≡ filter p (numbers (n + 1) 0)
-  flag_down e = sofar ∙ sym (one_number ∙ ap (λ b. filter p (numbers n 0) ++ cond b (n ∷ []) []) e ∙ append-nil (filter p (numbers n 0)))

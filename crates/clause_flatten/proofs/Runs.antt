@@ -12,7 +12,7 @@ use Rattle.row_book.specs.Book.{RowsFit, RowsTidy}
 use Rattle.row_book.specs.Flattening.{Passed, passed_by}
 use Rattle.row_book.proofs.Lists.{In_has, any_cases, any_from, any_none, filter_cases, filter_from, find_not, find_none, has_not, In_at}
 use Rattle.row_book.proofs.Clauses.{apart_cases, apart_in, minimal_of_from, minimal_of_parts}
-use Rattle.row_book.proofs.Order.{at_numbers, length_numbers, numbers_from, numbers_parts, order_same, ordered_has, ordered_order, ordered_parts}
+use Rattle.row_book.proofs.Order.{at_numbers, length_numbers, numbers_from, numbers_parts, order_same, ordered_has, ordered_order, ordered_parts, numbers_count}
 use Rattle.clause_flatten.specs.Substitution.{table_without, table_passes, length_in, all_unions_for, substituted, table_row}
 use Rattle.clause_flatten.specs.TakingOut.{counted_anew, is_over}
 use Rattle.clause_flatten.specs.Waiting.{Filed, recounted}
@@ -170,11 +170,6 @@ number_at zero s k d l = absurd (omega arith)
 number_at (suc n) s zero d l = omega arith
 number_at (suc n) s (suc k) d l = number_at n (suc s) k d (omega arith) ∙ omega arith
 
-numbers_count : (n s : ℕ) → length (numbers n s) ≡ n
-unfolding numbers
-numbers_count zero s = refl
-numbers_count (suc n) s = ap suc (numbers_count n (suc s))
-
 -- the least number that passes
 pub least_passing : (p : ℕ → Bool) (n x : ℕ) → x < n → ((k : ℕ) → k < x → p k ≡ false) → p x ≡ true → find p (numbers n 0) ≡ Some x
 least_passing p n x l f h =
@@ -186,9 +181,9 @@ none_passing p n f = find_not p (numbers n 0) (λ k i. let w : (0 ≤ k) × (k <
 
 -- what is told of the first one
 pub passed_some : (t : List (List (List ℕ))) (limit i q n : ℕ) (ps : List ℕ) → find (is_over t limit) ps ≡ Some q → n ≡ length_in t q →
-    passed_by (length_in t) ps limit i ≡ Some (record { gone = i; «package» = q; count = n })
+    passed_by (length_in t) ps limit i ≡ Some (record { gone = i; over = q; count = n })
 passed_some t limit i q n ps e d =
-    ap (option_map (λ p. record { gone = i; «package» = p; count = length_in t p })) e ∙ ap (λ k. Some (record { gone = i; «package» = q; count = k })) (sym d)
+    ap (option_map (λ p. record { gone = i; over = p; count = length_in t p })) e ∙ ap (λ k. Some (record { gone = i; over = q; count = k })) (sym d)
 
 pub none_over : (t : List (List (List ℕ))) (limit : ℕ) (n : ℕ) → find (is_over t limit) (numbers n 0) ≡ None → (p : ℕ) → p < n → length_in t p ≤ limit
 none_over t limit n e p l =
@@ -236,7 +231,7 @@ holds_none true t limit i n w size e h =
     let none : find (is_over t limit) (numbers n 0) ≡ None =
     find_not (is_over t limit) (numbers n 0) (λ p j.
     any_none (λ p. ltb limit (length_in t p)) (numbers (length t) 0) (sym e) p (subst (λ m. In p (numbers m 0)) size j)) in
-    let made : ℕ → Passed = λ p. record { gone = i; «package» = p; count = length_in t p } in
+    let made : ℕ → Passed = λ p. record { gone = i; over = p; count = length_in t p } in
     absurd (none_some (sym (ap (option_map made) none) ∙ h))
   where
     none_some : None ≡ Some w → ⊥

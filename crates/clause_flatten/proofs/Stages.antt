@@ -107,10 +107,10 @@ passed_same f g limit i (p ∷ ps) e =
     pick (ltb limit (f p)) (passed_same f g limit i ps (λ q j. e q (there j))) ∙ ap (λ b. option_map (made g) (cond b (Some p) (find (λ p. ltb limit (g p)) ps))) (ap (ltb limit) (e p here))
   where
     made : (ℕ → ℕ) → ℕ → Passed
-    made h q = record { gone = i; «package» = q; count = h q }
+    made h q = record { gone = i; over = q; count = h q }
 
     pick : (b : Bool) → passed_by f ps limit i ≡ passed_by g ps limit i → option_map (made f) (cond b (Some p) (find (λ p. ltb limit (f p)) ps)) ≡ option_map (made g) (cond b (Some p) (find (λ p. ltb limit (g p)) ps))
-    pick true h = ap (λ n. Some (record { gone = i; «package» = p; count = n })) (e p here)
+    pick true h = ap (λ n. Some (record { gone = i; over = p; count = n })) (e p here)
     pick false h = h
 
 pub passes_by_stages_lem : PassesByStages

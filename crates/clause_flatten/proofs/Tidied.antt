@@ -1,45 +1,34 @@
 -- The first rows: the clauses that stay are the minimal ones that do not hold the package.
-use Rattle.std.proofs.Common.{◌≡◌, ℕ, zero, suc, ◌<◌, ◌≤◌, ◌+◌, Bool, true, false, not, eqb, ltb, cond, List, [], ◌∷◌, ◌++◌, length, get_or, inl, inr, refl, sym, ◌∙◌, ap, ap₂, subst, arith, filter, map, Result, Ok, Err, Some}
+use Rattle.std.proofs.Common.{◌≡◌, ℕ, ◌<◌, ◌≤◌, ◌+◌, Bool, true, false, not, ◌&&◌, ◌||◌, eqb, ltb, cond, List, [], ◌∷◌, ◌++◌, length, get_or, inl, inr, refl, sym, ◌∙◌, ap, ap₂, subst, arith, filter, map, Result, Ok, Err, Some}
 use Rattle.std.specs.List.{list_any}
 use Rattle.std.specs.Result.{IfOk}
 use Rattle.std.specs.Cmp.Lexicographic.{pointwise}
-use Rattle.std.proofs.lemmas.Bool.{both_ways, cases_Bool, cases_lt, true_from_ne_false, and_parts, and_from, or_from, not_from_false, not-true, false_from_ne_true, ltb-true, lt-ltb}
+use Rattle.std.proofs.lemmas.Bool.{both_ways, cases_Bool, cases_lt, true_from_ne_false, and_parts, and_from, not_from_false, not-true, false_from_ne_true, ltb-true, lt-ltb}
 use Rattle.std.proofs.lemmas.List as lists
+use Rattle.std.proofs.lemmas.List.{get_or_default}
+use Rattle.listed.proofs.Bools.{same_bool}
 use Rattle.clause_pool.specs.Interned.{Interned, IsIdOf, IsPool, Kept, clause_at, clauses_at, ids_at, row_at}
 use Rattle.clause_pool.proofs.Lists.{In_place}
+use Rattle.clause_pool.proofs.Interned.{kept_along, kept_same}
 use Rattle.row_book.specs.Sets.{In, has, here, there}
 use Rattle.row_book.specs.Clauses.{Ascending, InOrder, Inside, apart_from, is_inside, minimal_of, numbers}
 use Rattle.row_book.specs.Uses.{row_id}
 use Rattle.row_book.specs.Book.{RowsFit, RowsTidy}
 use Rattle.row_book.proofs.Books.{row_ascending}
-use Rattle.row_book.proofs.Lists.{In_append_cases, In_cases, In_has, In_map, In_none, any_cases, any_from, any_none, ascending_same, filter_cases, filter_from, has_not, In_at}
+use Rattle.row_book.proofs.Lists.{In_append_cases, In_cases, In_has, In_none, any_cases, any_from, any_none, ascending_same, filter_cases, filter_from, has_not, In_at}
 use Rattle.row_book.proofs.Clauses.{apart_cases, apart_in, inside_at, inside_from, minimal_of_from, minimal_of_parts}
-use Rattle.row_book.proofs.Order.{at_numbers, length_numbers, map_same, numbers_parts, order_filter, order_same, ordered_has, ordered_order, ordered_parts}
+use Rattle.row_book.proofs.Order.{at_numbers, length_numbers, map_same, numbers_parts, order_filter, order_same, ordered_has, ordered_order, ordered_parts, numbers_more}
 use Rattle.clause_flatten.specs.Substitution.{table_row}
 use Rattle.row_book.specs.Within.{is_within, some_within}
-use Rattle.row_book.proofs.Holders.{same_truth}
 use Rattle.row_book.proofs.Repositories.{numbers_test, same_numbers}
-use Rattle.clause_flatten.specs.Inclusion.{has_shorter, is_strictly_inside}
+use Rattle.clause_flatten.specs.Inclusion.{begins_empty, has_shorter, is_strictly_inside}
 use Rattle.clause_flatten.proofs.Families.{not_shorter, some_shorter}
 use Rattle.clause_flatten.specs.TidyRows.{RowsStay, stays, first_row, tidied_table}
-
--- elements by their places
-pub same_read : (xs : List ℕ) (i d e : ℕ) → i < length xs → get_or xs i d ≡ get_or xs i e
-same_read [] i d e l = absurd (omega arith)
-same_read (x ∷ xs) zero d e l = refl
-same_read (x ∷ xs) (suc i) d e l = same_read xs i d e (omega arith)
-
-pub any_at : (p : List ℕ → Bool) (f : ℕ → List ℕ) (xs : List ℕ) (x : ℕ) → In x xs → p (f x) ≡ true → list_any p (map f xs) ≡ true
-any_at p f xs x i h = any_from p (map f xs) (f x) (In_map f xs x i) h
-
-pub none_at : (p : List ℕ → Bool) (f : ℕ → List ℕ) (xs : List ℕ) → ((k : ℕ) → k < length xs → p (f (get_or xs k 0)) ≡ false) → list_any p (map f xs) ≡ false
-none_at p f [] g = refl
-none_at p f (x ∷ xs) g = or_from (p (f x)) (list_any p (map f xs)) (g 0 (omega arith)) (none_at p f xs (λ k l. g (suc k) (omega arith)))
 
 -- another clause within a clause is a shorter one
 pub shorter_is_other : (cs : List (List ℕ)) → ((c : List ℕ) → In c cs → Ascending c) → (d : List ℕ) → Ascending d → some_within (Some d) d cs ≡ has_shorter cs d
 shorter_is_other cs up d a =
-    same_truth (some_within (Some d) d cs) (has_shorter cs d)
+    same_bool (some_within (Some d) d cs) (has_shorter cs d)
     (λ h.
     let w : (e : List ℕ) × In e cs × (is_within (Some d) d e ≡ true) = any_cases (is_within (Some d) d) cs h in
     let parts : (not (pointwise eqb w.0 d) ≡ true) × (is_inside w.0 d ≡ true) = and_parts (not (pointwise eqb w.0 d)) (is_inside w.0 d) w.2 in
@@ -55,6 +44,21 @@ shorter_is_other cs up d a =
           absurd (both_ways (is_within (Some d) d S) (any_none (is_within (Some d) d) cs f S i)
           (and_from (not (pointwise eqb S d)) (is_inside S d) (not_from_false (pointwise eqb S d) g) (inside_from S d inside)))
     ])))
+
+-- no clause in order behind one that is not empty is empty
+none_empty : (n : ℕ) (ns : List ℕ) (cs : List (List ℕ)) → InOrder ((n ∷ ns) ∷ cs) → (c : List ℕ) → In c ((n ∷ ns) ∷ cs) → length c < 1 → ⊥
+none_empty n ns cs o [] i l = elim (In_cases i) [ inl e ↦ cc | inr j ↦ o.0 [] j ]
+none_empty n ns cs o (m ∷ ms) i l = omega arith
+
+-- within a clause of one number only the empty one is shorter, and it comes first
+pub shorter_than_one : (cs : List (List ℕ)) → InOrder cs → (d : List ℕ) → length d ≡ 1 → has_shorter cs d ≡ begins_empty cs
+shorter_than_one [] o d e = refl
+shorter_than_one ([] ∷ cs) o d e = ap (λ n. (ltb 0 n && true) || has_shorter cs d) e
+shorter_than_one ((n ∷ ns) ∷ cs) o d e =
+    false_from_ne_true (has_shorter ((n ∷ ns) ∷ cs) d) (λ h.
+    let w : (c : List ℕ) × In c ((n ∷ ns) ∷ cs) × (is_strictly_inside c d ≡ true) = any_cases (λ c. is_strictly_inside c d) ((n ∷ ns) ∷ cs) h in
+    let short : length w.0 < length d = ltb-true (length w.0) (length d) (and_parts (ltb (length w.0) (length d)) (is_inside w.0 d) w.2).0 in
+    none_empty n ns cs o w.0 w.1 (omega arith))
 
 pub map_filter : {A B : Type 0} (f : A → B) (p : B → Bool) (xs : List A) → map f (filter (λ x. p (f x)) xs) ≡ filter p (map f xs)
 map_filter f p [] = refl
@@ -161,27 +165,9 @@ pub kept_within : (old : Interned) (p : ℕ) (ids kept : List ℕ) → kept ≡ 
 kept_within old p ids kept stay id i =
     (filter_cases (λ id. stays p (clauses_at old ids) (clause_at old id)) ids id (subst (λ xs. In id xs) stay i)).0
 
--- one pool after another
-pub kept_same : (pool : Interned) → Kept pool pool
-kept_same pool = record { clauses = λ id l. (l, refl); rows = λ id l. (l, refl) }
-
-pub kept_kept : (a b c : Interned) → Kept a b → Kept b c → Kept a c
-kept_kept a b c k h = record {
-  clauses = λ id l. let u : (id < length b.clauses) × (clause_at b id ≡ clause_at a id) = k.clauses id l in let v : (id < length c.clauses) × (clause_at c id ≡ clause_at b id) = h.clauses id u.0 in (v.0, v.1 ∙ u.1);
-  rows = λ id l. let u : (id < length b.rows) × (ids_at b id ≡ ids_at a id) = k.rows id l in let v : (id < length c.rows) × (ids_at c id ≡ ids_at b id) = h.rows id u.0 in (v.0, v.1 ∙ u.1);
-}
-
 pub rows_stay_map : (old new : Interned) → RowsStay old new → (rows : List ℕ) → ((id : ℕ) → In id rows → id < length old.rows) → map (row_at new) rows ≡ map (row_at old) rows
 rows_stay_map old new s [] f = refl
 rows_stay_map old new s (id ∷ ids) f = ap₂ (λ x xs. x ∷ xs) (s.same id (f id here)) (rows_stay_map old new s ids (λ i j. f i (there j)))
-
-numbers_end : (n k : ℕ) → numbers (suc n) k ≡ numbers n k ++ (k + n) ∷ []
-unfolding numbers
-numbers_end zero k = ap (λ x. x ∷ []) (omega arith)
-numbers_end (suc n) k = ap (λ xs. k ∷ xs) (numbers_end n (suc k) ∙ ap (λ x. numbers n (suc k) ++ x ∷ []) (omega arith))
-
-pub numbers_more : (n : ℕ) → numbers (n + 1) 0 ≡ numbers n 0 ++ n ∷ []
-numbers_more n = ap (λ m. numbers m 0) (omega arith) ∙ numbers_end n 0 ∙ ap (λ x. numbers n 0 ++ x ∷ []) (omega arith)
 
 -- the first rows of so many packages are made
 pub record TidiedTo (start now : Interned) (rows made : List ℕ) (n : ℕ) : Type 0 where
@@ -205,7 +191,7 @@ pub tidied_more : (start old new : Interned) (rows made after : List ℕ) (n row
 tidied_more start old new rows made after n row first t s k l e l_row l_first d a =
     let T : ℕ → List (List ℕ) = λ p. first_row p (row_at start (row_id rows p)) in
     let here_too : row_at new first ≡ first_row n (row_at start (row_id rows n)) =
-    d ∙ ap (first_row n) (t.stay.same row l_row ∙ ap (row_at start) (e ∙ same_read rows n row 0 l)) in
+    d ∙ ap (first_row n) (t.stay.same row l_row ∙ ap (row_at start) (e ∙ get_or_default rows n row 0 l)) in
     record {
       table =
           ap (map (row_at new)) a
@@ -217,7 +203,7 @@ tidied_more start old new rows made after n row first t s k l e l_row l_first d 
         | inr j ↦ elim (In_cases j) [ inl h ↦ subst (λ z. z < length new.rows) (sym h) l_first | inr h ↦ absurd (In_none h) ]
       ];
       stay = record { within = λ id m. s.within id (t.stay.within id m); same = λ id m. s.same id (t.stay.within id m) ∙ t.stay.same id m };
-      kept = kept_kept start old new t.kept k;
+      kept = kept_along start old new t.kept k;
     }
 
 module _ (start now : Interned) (rows made : List ℕ) (t : TidiedTo start now rows made (length rows)) where
@@ -243,6 +229,7 @@ module _ (start now : Interned) (rows made : List ℕ) (t : TidiedTo start now r
 
   pub tidied_fit : RowsFit start rows → RowsFit now made
   tidied_fit fit = record {
+    is_pool = t.kept.sound fit.is_pool;
     of_pool = t.within;
     numbers = λ id i c j n m.
         let w : (p : ℕ) × (p < length made) × (row_id made p ≡ id) = In_place made id 0 i in

@@ -2,6 +2,7 @@
 use Rattle.std.proofs.Common.{◌≡◌, ℕ, ◌<◌, ◌+◌, true, false, not, ◌&&◌, ◌||◌, List, [], ◌∷◌, ◌++◌, ◌⊎◌, inl, inr, refl, sym, ◌∙◌, ap, ap₂, subst, length, take, filter}
 use Rattle.std.specs.List.{list_all}
 use Rattle.std.proofs.lemmas.Bool.{and_from, and_parts, both_ways, false_from_ne_true, not-true, not_from_false}
+use Rattle.clause_pool.proofs.Interned.{clauses_kept}
 use Rattle.clause_pool.specs.Interned.{Interned, IsIdOf, IsPool, Kept, OfPool, clause_at, clauses_at, ids_at, row_at}
 use Rattle.row_book.specs.Sets.{In, has, here}
 use Rattle.row_book.specs.Clauses.{Ascending, InOrder, Inside, apart_from, is_inside, minimal_of, in_row_order}
@@ -12,7 +13,7 @@ use Rattle.row_book.proofs.Order.{order_filter, order_same, ordered_has, ordered
 use Rattle.clause_flatten.specs.Inclusion.{has_shorter}
 use Rattle.clause_flatten.specs.TidyRows.{stays}
 use Rattle.clause_flatten.specs.Families.{HasGained, HasUnions, IsNeedless, IsShortest, SameClauses, all_unions}
-use Rattle.clause_flatten.proofs.Families.{At, kept_same, not_shorter, some_shorter, taken_at}
+use Rattle.clause_flatten.proofs.Families.{At, not_shorter, some_shorter, taken_at}
 use Rattle.clause_flatten.proofs.Rewritten.{unions_apart, unions_up}
 
 -- no union was looked at yet
@@ -60,7 +61,7 @@ module _ (old kept unions : List (List ℕ)) (i : ℕ) (clause : List ℕ) (at :
       → HasGained ids more id → InOrder (clauses_at next more) → IsShortest kept unions clause
       → HasUnions old kept unions (take i unions) (clauses_at pool ids) → HasUnions old kept unions (take (i + 1) unions) (clauses_at next more)
   unions_more pool next ids more id of_pool k there_is g order h u =
-      let same : clauses_at next ids ≡ clauses_at pool ids = kept_same pool next k ids of_pool in
+      let same : clauses_at next ids ≡ clauses_at pool ids = clauses_kept pool next k ids of_pool in
       let grown : (c : List ℕ) → In c (clauses_at pool ids) → In c (clauses_at next more) = λ c j.
       let w : (x : ℕ) × In x ids × (c ≡ clause_at next x) = In_map_cases (clause_at next) ids c (subst (λ z. In c z) (sym same) j) in
       subst (λ z. In z (clauses_at next more)) (sym w.2) (In_map (clause_at next) more w.0 (g.stay w.0 w.1)) in

@@ -377,11 +377,6 @@ module _ (from : ℕ) (answer : Bool) (nodes others : List Node) (node : Node) (
 pub fewer_others : (nodes others : List Node) (node : Node) → nodes ≡ others ++ (node ∷ []) → length nodes ≡ length others + 1
 fewer_others nodes others node split = ap length split ∙ length-append others (node ∷ [])
 
-pub taken : (k : ℕ) (nodes : List Node) → k ≤ length nodes → length (take k nodes) ≡ k
-taken zero nodes l = refl
-taken (suc k) [] l = absurd (omega arith)
-taken (suc k) (x ∷ xs) l = ap suc (taken k xs (omega arith))
-
 -- where no node is left, or no number is wanted any more
 pub no_nodes : (from : ℕ) (answer : Bool) (nodes : List Node) (wanted : List ℕ) (size : ℕ) → Left from answer nodes wanted size → length nodes ≤ from → answer ≡ false
 no_nodes from answer nodes wanted size l few = l.same ∙ ap (any_of (is_within wanted size)) (bare_there from nodes l.now few)

@@ -1,3 +1,4 @@
+-- for the bodies of this crate alone
 -- How many clauses a row can have once a package is taken out.
 use Rattle.std.specs.Prelude.{ℕ, ◌+◌, ◌*◌, List, length}
 use Rattle.std.specs.List.{filter}

@@ -1,5 +1,6 @@
+-- for the bodies of this crate alone
 -- Clauses that lie within other ones.
-use Rattle.std.specs.Prelude.{ℕ, Bool, ◌&&◌, ltb, List, length}
+use Rattle.std.specs.Prelude.{ℕ, Bool, true, false, ◌&&◌, ltb, List, [], ◌∷◌, length}
 use Rattle.std.specs.List.{list_any}
 use Rattle.row_book.specs.Clauses.{is_inside}
 
@@ -10,6 +11,12 @@ is_strictly_inside S T = ltb (length S) (length T) && is_inside S T
 -- whether a shorter clause of the family is within the clause
 abbrev pub has_shorter : List (List ℕ) → List ℕ → Bool
 has_shorter family clause = list_any (λ other. is_strictly_inside other clause) family
+
+-- whether the first clause of the family is empty
+abbrev pub begins_empty : List (List ℕ) → Bool
+begins_empty [] = false
+begins_empty ([] ∷ family) = true
+begins_empty ((n ∷ ns) ∷ family) = false
 
 -- whether the clause has fewer numbers than the size, all of them wanted
 abbrev pub is_within : List ℕ → ℕ → List ℕ → Bool

@@ -1,3 +1,4 @@
+-- for the bodies of this crate alone
 -- Numbers as the leaves of a tree that stands in one list: below the node at a place are those at twice the place and behind
 -- that, and each node has the lesser of the two below it. At the place 0 is nothing.
 use Rattle.std.specs.Prelude.{◌≡◌, ℕ, ◌+◌, ◌*◌, ◌<◌, ◌≤◌, min, List, length, slice_index}

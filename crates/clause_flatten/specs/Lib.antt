@@ -16,3 +16,4 @@ pub mod Waiting
 pub mod TidyRows
 pub mod TakingOut
 pub mod Holding
+pub mod Ready

@@ -6,5 +6,5 @@ use Rattle.clause_flatten.specs.declared.error.FlatError.TheVariants.{Limit, Mem
 
 -- the fact of the row that has too many clauses, where there is one, and nothing for want of memory
 abbrev pub OnLimit : (Passed → Type 0) → FlatError → Type 0
-OnLimit P (Limit gone «package» count) = P (record { gone = gone; «package» = «package»; count = count })
+OnLimit P (Limit gone over count) = P (record { gone = gone; over = over; count = count })
 OnLimit P Memory = ⊤

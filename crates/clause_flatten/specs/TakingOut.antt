@@ -1,3 +1,4 @@
+-- for the bodies of this crate alone
 -- What is looked at when a package is taken out of a table of rows.
 use Rattle.std.specs.Prelude.{ℕ, Bool, ltb, eqb, cond, List, length}
 use Rattle.row_book.specs.Sets.{has}

@@ -1,3 +1,4 @@
+-- for bodies alone, those of other crates too
 -- Rows before any package is taken out: of the clauses of a package those that do not hold it, and of these the minimal ones.
 use Rattle.std.specs.Prelude.{◌≡◌, ℕ, ◌<◌, Bool, not, ◌&&◌, List, length, map}
 use Rattle.clause_pool.specs.Interned.{Interned, row_at}

@@ -1,3 +1,4 @@
+-- for the bodies of this crate alone
 -- The packages that wait to be taken out, each filed under the number of clauses of its row.
 use Rattle.std.specs.Prelude.{◌≡◌, ℕ, ◌<◌, ◌≤◌, ◌⊎◌, true, false, eqb, cond, List, slice_index_or}
 use Rattle.row_book.specs.Sets.{NumSet}

@@ -1,10 +1,9 @@
 //! The rows of a package's users, once it is taken out.
 ghost use Rattle.std.specs.Prelude.{◌≡◌, ◌≢◌, ◌<◌, ◌⊎◌, ℕ, OnErr, OnOk, length, map};
 ghost use Rattle.clause_pool.specs.Interned.{row_at, Kept};
-ghost use Rattle.row_book.specs.Book.{RowsFit, RowsTidy};
 ghost use Rattle.row_book.specs.Clauses.{in_row_order};
-ghost use Rattle.row_book.specs.Holders.{TellsRows};
 ghost use Rattle.row_book.specs.Uses.{row_id, users_of};
+ghost use Rattle.clause_flatten.specs.Ready.{AreReady};
 ghost use Rattle.clause_flatten.specs.Substitution.{table_without, substituted, table_row};
 
 use crate::substitution::new_row;
@@ -23,20 +22,14 @@ pub(crate) fn change_rows(
     users: &[u32],
     gone: u32,
 ) -> Result<(), AllocError>
-    requires few { length rows.old < 4294967295 }
-    requires fit { RowsFit pool.old rows.old }
-    requires tidy { RowsTidy pool.old rows.old }
-    requires table { TellsRows pool.old rows.old uses.old }
+    requires few { length rows.old < u32.MAX }
+    requires ready { AreReady pool.old rows.old uses.old }
     requires gone { gone < length rows.old }
     requires users { users.now ≡ users_of pool.old rows.old gone }
     ensures ok { OnOk result (map (row_at pool.new) rows.new ≡ table_without gone (map (row_at pool.old) rows.old)) }
-    ensures fit { RowsFit pool.new rows.new }
-    ensures tidy { RowsTidy pool.new rows.new }
-    ensures table { TellsRows pool.new rows.new uses.new }
+    ensures ready { AreReady pool.new rows.new uses.new }
     ensures kept { Kept pool.old pool.new }
 {
-    // What holds of every pool is told by this call alone.
-    pool.clause_count();
     // The last user comes first, as in `eliminate`, so that the rows in between are told in the same way.
     for place in (0..users.len()).rev() {
         change_row(alloc, pool, rows, uses, users[place], gone)?;
@@ -53,9 +46,7 @@ fn change_row(
     user: u32,
     gone: u32,
 ) -> Result<(), AllocError>
-    requires fit { RowsFit pool.old rows.old }
-    requires tidy { RowsTidy pool.old rows.old }
-    requires table { TellsRows pool.old rows.old uses.old }
+    requires ready { AreReady pool.old rows.old uses.old }
     requires user { user < length rows.old }
     requires gone { gone < length rows.old }
     ensures ok { OnOk result (row_at pool.new (row_id rows.new user)
@@ -63,13 +54,9 @@ fn change_row(
     ensures err { OnErr result (rows.new ≡ rows.old) }
     ensures others { (p : ℕ) → p ≢ user → row_id rows.new p ≡ row_id rows.old p }
     ensures stay { (p : ℕ) → p < length rows.old → p ≢ user → row_at pool.new (row_id rows.new p) ≡ row_at pool.old (row_id rows.old p) }
-    ensures fit { RowsFit pool.new rows.new }
-    ensures tidy { RowsTidy pool.new rows.new }
-    ensures table { TellsRows pool.new rows.new uses.new }
+    ensures ready { AreReady pool.new rows.new uses.new }
     ensures kept { Kept pool.old pool.new }
 {
-    // What holds of every pool is told by this call alone.
-    pool.clause_count();
     let old = rows[user as usize];
     let new = new_row(alloc, pool, rows, user, gone)?;
     uses.replace(alloc, pool, user, old, new)?;

@@ -3,7 +3,7 @@ ghost use Rattle.std.specs.Prelude.{◌≡◌, ℕ, ◌<◌, ◌++◌, ◌∷◌
 ghost use Rattle.std.specs.Bool.{OnTrue};
 ghost use Rattle.std.specs.List.{filter};
 ghost use Rattle.std.specs.Option.{ForSome};
-ghost use Rattle.clause_pool.specs.Interned.{clauses_at, row_at, Kept, OfPool};
+ghost use Rattle.clause_pool.specs.Interned.{clauses_at, row_at, Kept, OfPool, IsPool};
 ghost use Rattle.row_book.specs.Sets.{In};
 ghost use Rattle.row_book.specs.Clauses.{apart_from, minimal_of, in_row_order, Ascending, InOrder, Inside};
 ghost use Rattle.clause_flatten.specs.TidyRows.{stays};
@@ -11,11 +11,11 @@ ghost use Rattle.clause_flatten.specs.Branches.{TreeOf};
 ghost use Rattle.clause_flatten.specs.Families.{all_unions, unions_of, HasUnions, HoldsOneOf, IncludesOneOf, SameClauses, Useful};
 
 use crate::family_tree::FamilyTree;
-use crate::inclusion::contains;
 use crate::needed::{is_longer, is_needed, stays, tree_beside, tree_of_many};
 use crate::placing::put_in_place;
 use crate::scratch::Clause;
 use clause_pool::{ClauseId, Pool, RowId};
+use listed::holds_ascending;
 use std::alloc::{AllocError, Global};
 
 /// The clauses of the spent package's row whose unions may be wanted in the row of a user: they do not hold the user,
@@ -100,10 +100,10 @@ fn useful_beside(
     requires { OfPool pool.now others.now }
     ensures { IfOk result (λ useful. Useful pool.now user (HoldsOneOf singles.now) others.now useful.items) }
 {
-    let mut useful = Vec::new(alloc);
+    let mut useful = Vec::with_capacity(alloc, others.len())?;
     for id in others {
         let clause = pool.slice(*id);
-        if !contains(clause, user) && !holds_one_of(singles, clause) {
+        if !holds_ascending(clause, user) && !holds_one_of(singles, clause) {
             useful.push(*id)?;
         }
     }
@@ -139,6 +139,7 @@ pub(crate) fn intern_with_unions(
     row: RowId,
     useful: &[ClauseId],
 ) -> Result<RowId, AllocError>
+    requires pool { IsPool pool.old }
     requires row { row < length pool.old.rows }
     requires useful { OfPool pool.old useful.now }
     requires own { (c : List ℕ) → In c (clauses_at pool.old useful.now) → In spent c → ⊥ }
@@ -148,7 +149,6 @@ pub(crate) fn intern_with_unions(
     ensures of_pool { IfOk result (λ id. id < length pool.new.rows) }
     ensures kept { Kept pool.old pool.new }
 {
-    pool.clause_count();
     let unions = unions_in_order(alloc, pool, spent, pool.row(row), useful)?;
     let tree = tree_of_many(alloc, unions.as_slice())?;
     let kept = tree_beside(alloc, pool, spent, pool.row(row), unions.as_slice())?;
@@ -171,7 +171,7 @@ fn unions_in_order(
     ensures same { IfOk result (λ unions.
         SameClauses (all_unions spent (clauses_at pool.now row.now) (clauses_at pool.now useful.now)) unions.items) }
 {
-    let mut unions = Vec::new(alloc);
+    let mut unions = Vec::with_capacity(alloc, useful.len())?;
     add_unions(alloc, pool, spent, row, useful, &mut unions)?;
     put_in_order(&mut unions);
     Ok(unions)
@@ -192,7 +192,7 @@ fn ids_beside(
         ≡ filter (stays number unions.now) (clauses_at pool.now row.now)) }
     ensures of_pool { IfOk result (λ ids. OfPool pool.now ids.items) }
 {
-    let mut ids = Vec::new(alloc);
+    let mut ids = Vec::with_capacity(alloc, row.len().saturating_add(unions.len()))?;
     for id in row {
         if stays(number, unions, tree, pool.slice(*id)) {
             ids.push(*id)?;
@@ -211,6 +211,7 @@ fn put_unions(
     tree: &Option<FamilyTree>,
     ids: &mut Vec<ClauseId>,
 ) -> Result<(), AllocError>
+    requires pool { IsPool pool.old }
     requires row { row < length pool.old.rows }
     requires kept { ForSome kept.now (λ t. TreeOf t (apart_from spent (row_at pool.old row))) }
     requires tree { ForSome tree.now (λ t. TreeOf t unions.now) }
@@ -222,8 +223,6 @@ fn put_unions(
     ensures of_pool { OnOk result (OfPool pool.new ids.new.items) }
     ensures kept { Kept pool.old pool.new }
 {
-    // What holds of every pool is told by this call alone.
-    pool.clause_count();
     for union in unions {
         if is_needed(pool, spent, row, kept, unions, tree, union.as_slice()) {
             let id = pool.intern(union.as_slice())?;
@@ -246,7 +245,7 @@ pub(crate) fn clauses_without(
     let mut family = Vec::new(alloc);
     for id in row {
         let clause = pool.slice(*id);
-        if !contains(clause, number) {
+        if !holds_ascending(clause, number) {
             family.push(Clause::copy(alloc, clause)?)?;
         }
     }
@@ -269,7 +268,7 @@ pub(crate) fn add_unions(
 {
     for id in row {
         let clause = pool.slice(*id);
-        if contains(clause, spent) {
+        if holds_ascending(clause, spent) {
             add_unions_of(alloc, pool, spent, clause, others, family)?;
         }
     }

@@ -2,12 +2,12 @@
 ghost use Rattle.std.specs.Prelude.{◌≡◌, ◌<◌, ◌≤◌, ℕ, ◌&&◌, ltb, false, None, Some, IfOk, IfErr, OnOk, length, map, replicate, slice_set};
 ghost use Rattle.std.specs.List.{filter};
 ghost use Rattle.clause_pool.specs.Interned.{row_at, Kept};
-ghost use Rattle.row_book.specs.Book.{repository_of, AreConflicts, RowsFit, RowsTidy, Sound};
+ghost use Rattle.row_book.specs.Book.{repository_of, AreConflicts, RowsFit, Sound};
 ghost use Rattle.row_book.specs.Clauses.{numbers};
 ghost use Rattle.row_book.specs.Flags.{flag};
 ghost use Rattle.row_book.specs.Flattening.{flat, held_of, passes};
 ghost use Rattle.row_book.specs.Repository.{Repository};
-ghost use Rattle.row_book.specs.Holders.{TellsRows};
+ghost use Rattle.clause_flatten.specs.Ready.{AreReady};
 ghost use Rattle.clause_flatten.specs.Refusals.{OnLimit};
 ghost use Rattle.clause_flatten.specs.Substitution.{length_in};
 ghost use Rattle.clause_flatten.specs.TakingOut.{is_free};
@@ -19,7 +19,7 @@ use crate::taking_out::{Elimination, clauses_in, least_over, take_out_or_hold};
 use crate::tidy_rows::tidy_rows;
 use crate::waiting::Waiting;
 use clause_pool::{Pool, RowId};
-use listed::Listed;
+use listed::{Listed, true_numbers};
 use row_book::{Book, ClauseTable, NumList};
 use std::alloc::{AllocError, Global};
 
@@ -36,9 +36,9 @@ fn waiting_in(
         (length_in (map (row_at pool.now) rows.now))) }
 {
     let mut waiting = Waiting::with_room(alloc, book.size())?;
-    for package in 0..book.size() {
-        if book.against(package).is_empty() {
-            waiting.put(package, clauses_in(pool, rows, package));
+    for number in 0..book.size() {
+        if book.against(number).is_empty() {
+            waiting.put(number, clauses_in(pool, rows, number));
         }
     }
     Ok(waiting)
@@ -64,9 +64,7 @@ fn take_all_out(
 ) -> Result<Vec<bool>, FlatError>
     requires sound { Sound pool.old book.now }
     requires first { map (row_at pool.old) rows.old ≡ tidied_table (map (row_at pool.old) book.now.rows) }
-    requires fit { RowsFit pool.old rows.old }
-    requires tidy { RowsTidy pool.old rows.old }
-    requires table { TellsRows pool.old rows.old uses.old }
+    requires ready { AreReady pool.old rows.old uses.old }
     requires waiting { Filed waiting (λ q. ltb q (length book.now.rows) && is_free book.now.conflicts q)
         (length_in (map (row_at pool.old) rows.old)) }
     requires within { (p : ℕ) → p < length rows.old → length_in (map (row_at pool.old) rows.old) p ≤ rule.limit }
@@ -80,15 +78,13 @@ fn take_all_out(
     ensures passed { IfErr result (OnLimit (λ passed. passes rule.limit rule.hold (repository_of pool.old book.now) ≡ Some passed)) }
     ensures kept { Kept pool.old pool.new }
 {
-    // What holds of every pool is told by this call alone.
-    pool.clause_count();
     let mut held = none_held(alloc, book.size())?;
     for turn in 0..book.size() {
         let Some(next) = waiting.take_first() else {
             return Ok(held);
         };
         let step = Elimination {
-            package: next,
+            next,
             gone: turn + 1,
             limit: rule.limit,
             hold: rule.hold,
@@ -114,20 +110,6 @@ fn with_flag(flags: Vec<bool>, number: u32, is_up: bool) -> Vec<bool>
     let mut flags = flags;
     flags[number as usize] = is_up;
     flags
-}
-
-/// The numbers of the flags that are up, ascending.
-fn flagged(alloc: Global, flags: &[bool]) -> Result<NumList, AllocError>
-    requires { length flags.now < 4294967296 }
-    ensures { IfOk result (λ set. set ≡ filter (flag flags.now) (numbers (length flags.now) 0)) }
-{
-    let mut set = NumList::new(alloc);
-    for number in 0..flags.len() as u32 {
-        if flags[number as usize] {
-            set.push(number)?;
-        }
-    }
-    Ok(set)
 }
 
 /// A flattened book, and the packages that were held.
@@ -160,14 +142,12 @@ pub fn flatten(
     ensures passed { IfErr result (OnLimit (λ passed. passes limit hold (repository_of pool.old book.now) ≡ Some passed)) }
     ensures kept { Kept pool.old pool.new }
 {
-    // What holds of every pool is told by this call alone.
-    pool.clause_count();
     let mut rows = tidy_rows(alloc, pool, book.rows.as_slice())?;
-    if let Some(package) = least_over(pool, rows.as_slice(), limit) {
+    if let Some(number) = least_over(pool, rows.as_slice(), limit) {
         return Err(FlatError::Limit {
             gone: 0,
-            package,
-            count: clauses_in(pool, rows.as_slice(), package),
+            package: number,
+            count: clauses_in(pool, rows.as_slice(), number),
         });
     }
     let mut uses = ClauseTable::of(alloc, pool, rows.as_slice())?;
@@ -182,7 +162,7 @@ pub fn flatten(
         book,
         rule,
     )?;
-    let held = flagged(alloc, flags.as_slice())?;
+    let held = true_numbers(alloc, flags.as_slice())?;
     let made = book.with_rows(alloc, Listed::of(rows))?;
     Ok(Flattened { book: made, held })
 }

@@ -1,12 +1,15 @@
 //! Whether a row would pass the clause limit once a package is taken out; the pool and the rows stay as they are.
+//!
+//! A bound is tried first. Only if it passes the limit are the clauses made, in scratch space, and counted up to the first past
+//! the limit, so asking interns nothing.
 ghost use Rattle.std.specs.Prelude.{◌≡◌, ◌≢◌, ◌++◌, ℕ, ◌<◌, ◌≤◌, ltb, List, IfOk, length, map};
-ghost use Rattle.clause_pool.specs.Interned.{clauses_at, row_at, OfPool};
+ghost use Rattle.clause_pool.specs.Interned.{clauses_at, row_at, OfPool, IsPool};
 ghost use Rattle.row_book.specs.Book.{RowsFit, RowsTidy};
 ghost use Rattle.row_book.specs.Clauses.{apart_from, in_row_order, minimal_of, Ascending, InOrder, Inside};
 ghost use Rattle.row_book.specs.Sets.{In};
-ghost use Rattle.row_book.specs.Holders.{TellsRows};
 ghost use Rattle.row_book.specs.Uses.{users_of};
 ghost use Rattle.std.specs.Option.{ForSome};
+ghost use Rattle.clause_flatten.specs.Ready.{AreReady};
 ghost use Rattle.clause_flatten.specs.Branches.{TreeOf};
 ghost use Rattle.clause_flatten.specs.Families.{all_unions};
 ghost use Rattle.clause_flatten.specs.Holding.{clauses_with, most_clauses};
@@ -15,10 +18,10 @@ ghost use Rattle.clause_flatten.specs.TakingOut.{is_over};
 
 use crate::family::{add_unions, clauses_without, put_in_order, useful_of};
 use crate::family_tree::FamilyTree;
-use crate::inclusion::contains;
 use crate::needed::{is_longer, tree_of_many};
 use crate::scratch::Clause;
 use clause_pool::{ClauseId, Pool, RowId};
+use listed::holds_ascending;
 use row_book::ClauseTable;
 use std::alloc::{AllocError, Global};
 
@@ -31,9 +34,7 @@ pub(crate) fn would_pass(
     gone: u32,
     limit: u32,
 ) -> Result<bool, AllocError>
-    requires fit { RowsFit pool.now rows.now }
-    requires tidy { RowsTidy pool.now rows.now }
-    requires table { TellsRows pool.now rows.now uses.now }
+    requires ready { AreReady pool.now rows.now uses.now }
     requires gone { gone < length rows.now }
     requires within { (p : ℕ) → p < length rows.now → length_in (map (row_at pool.now) rows.now) p ≤ limit }
     ensures { IfOk result (λ passes. passes ≡ table_passes limit (table_without gone (map (row_at pool.now) rows.now))) }
@@ -58,8 +59,6 @@ fn some_would_pass(
     requires within { (p : ℕ) → p < length rows.now → length_in (map (row_at pool.now) rows.now) p ≤ limit }
     ensures { IfOk result (λ passes. passes ≡ table_passes limit (table_without gone (map (row_at pool.now) rows.now))) }
 {
-    // What holds of every pool is told by this call alone.
-    pool.clause_count();
     for user in users {
         let passes = user_would_pass(alloc, pool, rows, *user, gone, limit)?;
         if passes {
@@ -102,6 +101,7 @@ fn row_would_pass(
     others: RowId,
     limit: u32,
 ) -> Result<bool, AllocError>
+    requires pool { IsPool pool.now }
     requires row { row < length pool.now.rows }
     requires others { others < length pool.now.rows }
     requires few { length (row_at pool.now row) ≤ limit }
@@ -111,8 +111,6 @@ fn row_would_pass(
     ensures { IfOk result (λ passes. passes
         ≡ ltb limit (length (in_row_order (substituted user spent (row_at pool.now row) (row_at pool.now others))))) }
 {
-    // What holds of every pool is told by this call alone.
-    pool.clause_count();
     let clauses = pool.row(row);
     let own = pool.row(others);
     let most = most_clauses(pool, spent, clauses, own);
@@ -143,7 +141,7 @@ fn count_holding(pool: &Pool, number: u32, row: &[ClauseId]) -> u64
 {
     let mut count = 0;
     for id in row {
-        if contains(pool.slice(*id), number) {
+        if holds_ascending(pool.slice(*id), number) {
             count += 1;
         }
     }

@@ -1,4 +1,8 @@
 //! Numbers as the leaves of a tree, so that the first of the least of them is soon found.
+//!
+//! A count changes far more often than a package is taken, and most changes end a step or two above the leaf; sets by count
+//! would need a second structure for high counts. Of equal children the left one is tried first: that is the rule 'the least
+//! number first'.
 ghost use Rattle.std.specs.Prelude.{◌≡◌, ◌≢◌, ◌<◌, ◌≤◌, ◌^◌, ℕ, length};
 ghost use Rattle.clause_flatten.specs.LeastTree.{node, IsTree, IsFirstLeast};
 

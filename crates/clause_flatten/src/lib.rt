@@ -6,12 +6,11 @@
 
 mod changing;
 mod elimination;
-pub mod error;
+mod error;
 mod family;
 mod family_tree;
 mod flattening;
 mod holding;
-mod inclusion;
 mod least_tree;
 mod needed;
 mod placing;
@@ -23,15 +22,20 @@ mod taking_out;
 mod tidy_rows;
 mod waiting;
 
+// A book is flattened.
+pub use error::FlatError;
+pub use flattening::{Flattened, flatten};
+
+// Clauses and families on the way, and one elimination.
+pub use family::{intern_minimal, put_in_order};
+pub use scratch::Clause;
+pub use substitution::eliminate;
+
+// Laws of eliminations, and of sets that are kept.
 pub use elimination::{
     core_is_reached, core_stays, flat_by_stages, flat_keeps, held_is_used, hold_stays_within,
     next_is_least, one_row, passes_by_stages, stages_run, table_step, without_hold,
 };
-pub use error::FlatError;
-pub use family::{intern_minimal, put_in_order};
-pub use flattening::{Flattened, flatten};
-pub use scratch::Clause;
-pub use substitution::eliminate;
 pub use support::{
     first_rows, keeps_every_set, lift_is_healthy, one_step, own_row_stays, row_computes,
     row_is_one, row_tells, substitutes, support_grows, union_merges, untouched_stays,

@@ -1,8 +1,11 @@
 //! Which clauses of a row and which unions are needed: few are looked at one by one, and many are put into trees.
+//!
+//! A union that equals a kept clause may be called needless, as that clause stays. A union holds no spent package, so no clause
+//! that holds one is within it.
 ghost use Rattle.std.specs.Prelude.{◌≡◌, ℕ, ◌<◌, List, IfOk, length, false, None};
 ghost use Rattle.std.specs.Bool.{OnFalse, OnTrue};
 ghost use Rattle.std.specs.Option.{ForSome};
-ghost use Rattle.clause_pool.specs.Interned.{clauses_at, row_at, OfPool};
+ghost use Rattle.clause_pool.specs.Interned.{clauses_at, row_at, OfPool, IsPool};
 ghost use Rattle.row_book.specs.Sets.{In};
 ghost use Rattle.row_book.specs.Clauses.{apart_from, Ascending, InOrder};
 ghost use Rattle.row_book.specs.Within.{some_within};
@@ -12,9 +15,9 @@ ghost use Rattle.clause_flatten.specs.Families.{IncludesOneOf, IsNeedless, IsSho
 ghost use Rattle.clause_flatten.specs.TidyRows.{stays};
 
 use crate::family_tree::FamilyTree;
-use crate::inclusion::{contains, is_inside};
 use crate::scratch::Clause;
 use clause_pool::{ClauseId, Pool, RowId};
+use listed::{holds_ascending, is_inside_ascending};
 use row_book::has_within;
 use std::alloc::{AllocError, Global};
 
@@ -82,7 +85,7 @@ pub(crate) fn stays(
     requires ascending { Ascending clause.now }
     ensures { result ≡ stays number unions.now clause.now }
 {
-    !contains(clause, number) && !is_longer(unions, tree, clause)
+    !holds_ascending(clause, number) && !is_longer(unions, tree, clause)
 }
 
 /// Whether a union is needed beside the clauses of a row that do not hold the spent package: not where a shorter union or
@@ -96,6 +99,7 @@ pub(crate) fn is_needed(
     tree: &Option<FamilyTree>,
     union: &[u32],
 ) -> bool
+    requires pool { IsPool pool.now }
     requires row { row < length pool.now.rows }
     requires kept { ForSome kept.now (λ t. TreeOf t (apart_from spent (row_at pool.now row))) }
     requires tree { ForSome tree.now (λ t. TreeOf t unions.now) }
@@ -143,7 +147,7 @@ fn is_strictly_inside(small: &[u32], large: &[u32]) -> bool
     requires { Ascending large.now }
     ensures { result ≡ is_strictly_inside small.now large.now }
 {
-    small.len() < large.len() && is_inside(small, large)
+    small.len() < large.len() && is_inside_ascending(small, large)
 }
 
 /// Whether one of the clauses of the row that do not hold a number is within a clause that does not hold it either. One that
@@ -155,6 +159,7 @@ fn includes_one(
     kept: &Option<FamilyTree>,
     clause: &[u32],
 ) -> bool
+    requires pool { IsPool pool.now }
     requires row { row < length pool.now.rows }
     requires kept { ForSome kept.now (λ t. TreeOf t (apart_from number (row_at pool.now row))) }
     requires ascending { Ascending clause.now }
@@ -170,6 +175,7 @@ fn includes_one(
 
 /// Whether a clause of the row is within the clause. None that holds a number can be, where the clause does not hold it.
 fn row_includes_one(pool: &Pool, row: RowId, clause: &[u32]) -> bool
+    requires pool { IsPool pool.now }
     requires row { row < length pool.now.rows }
     requires ascending { Ascending clause.now }
     ensures { result ≡ some_within None clause.now (row_at pool.now row) }

@@ -1,6 +1,6 @@
 //! Rows of ids that grow, in the order of their clauses.
 ghost use Rattle.std.specs.Prelude.{◌≡◌, ◌≤◌, ◌<◌, ℕ, length, true, false, slice_index_or, OnOk};
-ghost use Rattle.clause_pool.specs.Interned.{clause_at, clauses_at, OfPool};
+ghost use Rattle.clause_pool.specs.Interned.{clause_at, clauses_at, OfPool, IsPool};
 ghost use Rattle.row_book.specs.Clauses.{comes_before, InOrder};
 ghost use Rattle.clause_flatten.specs.Families.{HasGained};
 
@@ -14,13 +14,13 @@ pub(crate) fn put_in_place(
     ids: &mut Vec<ClauseId>,
     id: ClauseId,
 ) -> Result<(), AllocError>
+    requires pool { IsPool pool.now }
     requires of_pool { OfPool pool.now ids.old.items }
     requires there { id < length pool.now.clauses }
     requires in_order { InOrder (clauses_at pool.now ids.old.items) }
     ensures gained { OnOk result (HasGained ids.old.items ids.new.items id) }
     ensures in_order { OnOk result (InOrder (clauses_at pool.now ids.new.items)) }
 {
-    pool.clause_count();
     let place = place_of(pool, ids.as_slice(), pool.slice(id));
     if place < ids.len() && ids[place] == id {
         return Ok(());

@@ -6,8 +6,8 @@ ghost use Rattle.row_book.specs.Clauses.{apart_from, in_row_order, Inside};
 ghost use Rattle.clause_flatten.specs.Substitution.{substituted};
 
 use crate::family::{intern_with_unions, useful_of};
-use crate::inclusion::contains;
 use clause_pool::{ClauseId, Pool, RowId};
+use listed::holds_ascending;
 use std::alloc::{AllocError, Global};
 
 /// The row of a user once the spent package is taken out, whose own row is the other one; it fails only where no memory
@@ -20,6 +20,7 @@ pub(crate) fn rewrite(
     row: RowId,
     others: RowId,
 ) -> Result<RowId, AllocError>
+    requires pool { IsPool pool.old }
     requires row { row < length pool.old.rows }
     requires others { others < length pool.old.rows }
     requires apart { (c : List ℕ) → In c (row_at pool.old row) → In user c → ⊥ }
@@ -30,8 +31,6 @@ pub(crate) fn rewrite(
     ensures of_pool { IfOk result (λ id. id < length pool.new.rows) }
     ensures kept { Kept pool.old pool.new }
 {
-    // What holds of every pool is told by this call alone.
-    pool.clause_count();
     let useful = useful_of(alloc, pool, user, spent, pool.row(row), pool.row(others))?;
     if useful.is_empty() {
         return shorten(alloc, pool, spent, row);
@@ -61,9 +60,9 @@ fn ids_without(
     ensures ok { IfOk result (λ ids. clauses_at pool.now ids.items ≡ apart_from number (clauses_at pool.now row.now)) }
     ensures of_pool { IfOk result (λ ids. OfPool pool.now ids.items) }
 {
-    let mut ids = Vec::new(alloc);
+    let mut ids = Vec::with_capacity(alloc, row.len())?;
     for id in row {
-        if !contains(pool.slice(*id), number) {
+        if !holds_ascending(pool.slice(*id), number) {
             ids.push(*id)?;
         }
     }

@@ -23,7 +23,7 @@ pub fn eliminate(
     uses: &mut UseTable,
     gone: u32,
 ) -> Result<(), AllocError>
-    requires few { length rows.old < 4294967295 }
+    requires few { length rows.old < u32.MAX }
     requires fit { RowsFit pool.old rows.old }
     requires tidy { RowsTidy pool.old rows.old }
     requires table { uses.old ≡ uses_of pool.old rows.old }
@@ -49,7 +49,7 @@ pub(crate) fn eliminate_for(
     users: &[u32],
     gone: u32,
 ) -> Result<(), AllocError>
-    requires few { length rows.old < 4294967295 }
+    requires few { length rows.old < u32.MAX }
     requires fit { RowsFit pool.old rows.old }
     requires tidy { RowsTidy pool.old rows.old }
     requires table { uses.old ≡ uses_of pool.old rows.old }
@@ -63,8 +63,6 @@ pub(crate) fn eliminate_for(
     ensures table { uses.new ≡ uses_of pool.new rows.new }
     ensures kept { Kept pool.old pool.new }
 {
-    // What holds of every pool is told by this call alone.
-    pool.clause_count();
     // The last user comes first: what each leaves in the table then stands at the ends of its lists.
     for place in (0..users.len()).rev() {
         replace_row(alloc, pool, rows, uses, users[place], gone)?;
@@ -96,8 +94,6 @@ pub(crate) fn new_row(
     ensures tidies { IfOk result (λ id. RowsTidy pool.new (slice_set rows.now user id)) }
     ensures kept { Kept pool.old pool.new }
 {
-    // What holds of every pool is told by this call alone.
-    pool.clause_count();
     let old = rows[user as usize];
     let new = rewrite(alloc, pool, user, gone, old, rows[gone as usize])?;
     Ok(new)
@@ -127,8 +123,6 @@ fn replace_row(
     ensures table { uses.new ≡ uses_of pool.new rows.new }
     ensures kept { Kept pool.old pool.new }
 {
-    // What holds of every pool is told by this call alone.
-    pool.clause_count();
     let old = rows[user as usize];
     let new = new_row(alloc, pool, rows, user, gone)?;
     uses.replace(alloc, pool, user, old, new)?;

@@ -1,12 +1,15 @@
 //! One step of flattening: a package is taken out.
+//!
+//! The limit is tried on the rows after the whole step, also on those of packages that are gone. Only rows that changed are
+//! looked at, ascending, so the first over the limit is the least.
 ghost use Rattle.std.specs.Prelude.{◌≡◌, ◌<◌, ◌≤◌, ◌&&◌, ℕ, Bool, false, cond, Some, IfOk, IfErr, OnOk, length, map};
 ghost use Rattle.std.specs.List.{find};
 ghost use Rattle.clause_pool.specs.Interned.{row_at, Kept};
 ghost use Rattle.row_book.specs.Sets.{In};
 ghost use Rattle.row_book.specs.Clauses.{numbers, Ascending};
-ghost use Rattle.row_book.specs.Book.{RowsFit, RowsTidy};
-ghost use Rattle.row_book.specs.Holders.{TellsRows};
+ghost use Rattle.row_book.specs.Book.{RowsFit};
 ghost use Rattle.row_book.specs.Flattening.{passed_by};
+ghost use Rattle.clause_flatten.specs.Ready.{AreReady};
 ghost use Rattle.clause_flatten.specs.Substitution.{table_without, table_passes, length_in};
 ghost use Rattle.clause_flatten.specs.Refusals.{OnLimit};
 ghost use Rattle.clause_flatten.specs.Waiting.{never, Filed};
@@ -21,22 +24,22 @@ use row_book::ClauseTable;
 use std::alloc::{AllocError, Global};
 
 /// The number of clauses in the row of a package.
-pub(crate) fn clauses_in(pool: &Pool, rows: &[RowId], package: u32) -> u64
+pub(crate) fn clauses_in(pool: &Pool, rows: &[RowId], number: u32) -> u64
     requires fit { RowsFit pool.now rows.now }
-    requires there { «package» < length rows.now }
-    ensures count { result ≡ length_in (map (row_at pool.now) rows.now) «package» }
+    requires there { number < length rows.now }
+    ensures count { result ≡ length_in (map (row_at pool.now) rows.now) number }
     ensures few { result < never }
 {
-    pool.row(rows[package as usize]).len() as u64
+    pool.row(rows[number as usize]).len() as u64
 }
 
 /// Whether the row of a package has more clauses than the limit allows.
-fn is_over(pool: &Pool, rows: &[RowId], package: u32, limit: u32) -> bool
+fn is_over(pool: &Pool, rows: &[RowId], number: u32, limit: u32) -> bool
     requires fit { RowsFit pool.now rows.now }
-    requires there { «package» < length rows.now }
-    ensures { result ≡ is_over (map (row_at pool.now) rows.now) limit «package» }
+    requires there { number < length rows.now }
+    ensures { result ≡ is_over (map (row_at pool.now) rows.now) limit number }
 {
-    u64::from(limit) < clauses_in(pool, rows, package)
+    u64::from(limit) < clauses_in(pool, rows, number)
 }
 
 /// The first of the packages whose row has more clauses than the limit allows.
@@ -45,9 +48,9 @@ fn first_over(pool: &Pool, rows: &[RowId], packages: &[u32], limit: u32) -> Opti
     requires packages { (q : ℕ) → In q packages.now → q < length rows.now }
     ensures { result ≡ find (is_over (map (row_at pool.now) rows.now) limit) packages.now }
 {
-    for package in packages {
-        if is_over(pool, rows, *package, limit) {
-            return Some(*package);
+    for number in packages {
+        if is_over(pool, rows, *number, limit) {
+            return Some(*number);
         }
     }
     None
@@ -55,13 +58,13 @@ fn first_over(pool: &Pool, rows: &[RowId], packages: &[u32], limit: u32) -> Opti
 
 /// The least package whose row has more clauses than the limit allows.
 pub(crate) fn least_over(pool: &Pool, rows: &[RowId], limit: u32) -> Option<u32>
-    requires few { length rows.now < 4294967295 }
+    requires few { length rows.now < u32.MAX }
     requires fit { RowsFit pool.now rows.now }
     ensures { result ≡ find (is_over (map (row_at pool.now) rows.now) limit) (numbers (length rows.now) 0) }
 {
-    for package in 0..rows.len() as u32 {
-        if is_over(pool, rows, package, limit) {
-            return Some(package);
+    for number in 0..rows.len() as u32 {
+        if is_over(pool, rows, number, limit) {
+            return Some(number);
         }
     }
     None
@@ -83,7 +86,7 @@ fn file_users(pool: &Pool, rows: &[RowId], users: &[u32], waiting: &mut Waiting)
 #[derive(Clone, Copy)]
 pub(crate) struct Elimination {
     /// The package that is taken out.
-    pub(crate) package: u32,
+    pub(crate) next: u32,
     /// How many packages are gone with this one.
     pub(crate) gone: u32,
     /// How many clauses a row may have.
@@ -92,8 +95,8 @@ pub(crate) struct Elimination {
     pub(crate) hold: bool,
 }
 
-/// Takes a package that waits no longer out of the rows, or holds it where a row would pass the limit, and answers
-/// whether it is held. Then the rows stay.
+/// Takes a package that waits no longer out of the rows. With hold, if a row would then pass the limit, the package is held and the
+/// rows stay. Answers whether it is held.
 pub(crate) fn take_out_or_hold(
     alloc: Global,
     pool: &mut Pool,
@@ -102,28 +105,22 @@ pub(crate) fn take_out_or_hold(
     waiting: &mut Waiting,
     step: Elimination,
 ) -> Result<bool, FlatError>
-    requires few { length rows.old < 4294967295 }
-    requires fit { RowsFit pool.old rows.old }
-    requires tidy { RowsTidy pool.old rows.old }
-    requires table { TellsRows pool.old rows.old uses.old }
-    requires there { step.«package» < length rows.old }
+    requires few { length rows.old < u32.MAX }
+    requires ready { AreReady pool.old rows.old uses.old }
+    requires there { step.next < length rows.old }
     requires within { (p : ℕ) → p < length rows.old → length_in (map (row_at pool.old) rows.old) p ≤ step.limit }
-    ensures held { IfOk result (λ held. held ≡ (step.hold && table_passes step.limit (table_without step.«package» (map (row_at pool.old) rows.old)))) }
+    ensures held { IfOk result (λ held. held ≡ (step.hold && table_passes step.limit (table_without step.next (map (row_at pool.old) rows.old)))) }
     ensures rows { IfOk result (λ held. map (row_at pool.new) rows.new
-        ≡ cond held (map (row_at pool.old) rows.old) (table_without step.«package» (map (row_at pool.old) rows.old))) }
-    ensures fit { RowsFit pool.new rows.new }
-    ensures tidy { RowsTidy pool.new rows.new }
-    ensures table { TellsRows pool.new rows.new uses.new }
+        ≡ cond held (map (row_at pool.old) rows.old) (table_without step.next (map (row_at pool.old) rows.old))) }
+    ensures ready { AreReady pool.new rows.new uses.new }
     ensures kept { Kept pool.old pool.new }
     ensures within { IfOk result (λ held. held ≡ false → (p : ℕ) → p < length rows.old →
-        length_in (table_without step.«package» (map (row_at pool.old) rows.old)) p ≤ step.limit) }
+        length_in (table_without step.next (map (row_at pool.old) rows.old)) p ≤ step.limit) }
     ensures passed { IfErr result (OnLimit (λ passed. (step.hold ≡ false)
-        × (passed_by (length_in (table_without step.«package» (map (row_at pool.old) rows.old))) (numbers (length rows.old) 0) step.limit step.gone ≡ Some passed))) }
+        × (passed_by (length_in (table_without step.next (map (row_at pool.old) rows.old))) (numbers (length rows.old) 0) step.limit step.gone ≡ Some passed))) }
     ensures filed { IfOk result (λ held. (may : ℕ → Bool) → Filed waiting.old may (length_in (map (row_at pool.old) rows.old)) →
-        Filed waiting.new may (length_in (cond held (map (row_at pool.old) rows.old) (table_without step.«package» (map (row_at pool.old) rows.old))))) }
+        Filed waiting.new may (length_in (cond held (map (row_at pool.old) rows.old) (table_without step.next (map (row_at pool.old) rows.old))))) }
 {
-    // What holds of every pool is told by this call alone.
-    pool.clause_count();
     let stays = is_to_stay(alloc, pool, rows, uses, step)?;
     if stays {
         return Ok(true);
@@ -140,17 +137,15 @@ fn is_to_stay(
     uses: &ClauseTable,
     step: Elimination,
 ) -> Result<bool, AllocError>
-    requires fit { RowsFit pool.now rows.now }
-    requires tidy { RowsTidy pool.now rows.now }
-    requires table { TellsRows pool.now rows.now uses.now }
-    requires there { step.«package» < length rows.now }
+    requires ready { AreReady pool.now rows.now uses.now }
+    requires there { step.next < length rows.now }
     requires within { (p : ℕ) → p < length rows.now → length_in (map (row_at pool.now) rows.now) p ≤ step.limit }
-    ensures { IfOk result (λ stays. stays ≡ (step.hold && table_passes step.limit (table_without step.«package» (map (row_at pool.now) rows.now)))) }
+    ensures { IfOk result (λ stays. stays ≡ (step.hold && table_passes step.limit (table_without step.next (map (row_at pool.now) rows.now)))) }
 {
     if !step.hold {
         return Ok(false);
     }
-    would_pass(alloc, pool, rows, uses, step.package, step.limit)
+    would_pass(alloc, pool, rows, uses, step.next, step.limit)
 }
 
 /// Takes a package that waits no longer out of the rows, tests the rows of its users against the limit, and files those
@@ -163,28 +158,22 @@ pub(crate) fn take_out(
     waiting: &mut Waiting,
     step: Elimination,
 ) -> Result<(), FlatError>
-    requires few { length rows.old < 4294967295 }
-    requires fit { RowsFit pool.old rows.old }
-    requires tidy { RowsTidy pool.old rows.old }
-    requires table { TellsRows pool.old rows.old uses.old }
-    requires there { step.«package» < length rows.old }
+    requires few { length rows.old < u32.MAX }
+    requires ready { AreReady pool.old rows.old uses.old }
+    requires there { step.next < length rows.old }
     requires within { (p : ℕ) → p < length rows.old → length_in (map (row_at pool.old) rows.old) p ≤ step.limit }
-    ensures rows { OnOk result (map (row_at pool.new) rows.new ≡ table_without step.«package» (map (row_at pool.old) rows.old)) }
-    ensures fit { RowsFit pool.new rows.new }
-    ensures tidy { RowsTidy pool.new rows.new }
-    ensures table { TellsRows pool.new rows.new uses.new }
+    ensures rows { OnOk result (map (row_at pool.new) rows.new ≡ table_without step.next (map (row_at pool.old) rows.old)) }
+    ensures ready { AreReady pool.new rows.new uses.new }
     ensures kept { Kept pool.old pool.new }
     ensures within { OnOk result ((p : ℕ) → p < length rows.old →
-        length_in (table_without step.«package» (map (row_at pool.old) rows.old)) p ≤ step.limit) }
+        length_in (table_without step.next (map (row_at pool.old) rows.old)) p ≤ step.limit) }
     ensures passed { IfErr result (OnLimit (λ passed.
-        passed_by (length_in (table_without step.«package» (map (row_at pool.old) rows.old))) (numbers (length rows.old) 0) step.limit step.gone ≡ Some passed)) }
+        passed_by (length_in (table_without step.next (map (row_at pool.old) rows.old))) (numbers (length rows.old) 0) step.limit step.gone ≡ Some passed)) }
     ensures filed { OnOk result ((may : ℕ → Bool) → Filed waiting.old may (length_in (map (row_at pool.old) rows.old)) →
-        Filed waiting.new may (length_in (table_without step.«package» (map (row_at pool.old) rows.old)))) }
+        Filed waiting.new may (length_in (table_without step.next (map (row_at pool.old) rows.old)))) }
 {
-    // What holds of every pool is told by this call alone.
-    pool.clause_count();
-    let users = uses.users(alloc, pool, rows, step.package)?;
-    change_rows(alloc, pool, rows, uses, users.as_slice(), step.package)?;
+    let users = uses.users(alloc, pool, rows, step.next)?;
+    change_rows(alloc, pool, rows, uses, users.as_slice(), step.next)?;
     if let Some(over) = first_over(pool, rows, users.as_slice(), step.limit) {
         return Err(FlatError::Limit {
             gone: step.gone,
@@ -194,6 +183,6 @@ pub(crate) fn take_out(
     }
     file_users(pool, rows, users.as_slice(), waiting);
     // No row holds the package any more. Else each other member of its clauses would go through all their users again.
-    uses.forget(step.package);
+    uses.forget(step.next);
     Ok(())
 }

@@ -1,47 +1,65 @@
 //! The rows before any package is taken out.
 ghost use Rattle.std.specs.Prelude.{◌≡◌, ◌<◌, ℕ, List, IfOk, length, map};
 ghost use Rattle.std.specs.List.{filter};
-ghost use Rattle.clause_pool.specs.Interned.{clause_at, clauses_at, row_at, Kept, OfPool};
+ghost use Rattle.clause_pool.specs.Interned.{clause_at, clauses_at, row_at, Kept, OfPool, IsPool};
 ghost use Rattle.row_book.specs.Book.{RowsFit, RowsTidy};
 ghost use Rattle.row_book.specs.Clauses.{Ascending, InOrder};
 ghost use Rattle.row_book.specs.Sets.{In};
+ghost use Rattle.clause_flatten.specs.Inclusion.{begins_empty};
 ghost use Rattle.clause_flatten.specs.TidyRows.{stays, first_row, tidied_table, RowsStay};
 
-use crate::inclusion::contains;
 use clause_pool::{ClauseId, Pool, RowId};
+use listed::holds_ascending;
 use row_book::has_within;
 use std::alloc::{AllocError, Global};
 
 /// Whether the clause of the row stays: it does not hold the package, and no other one lies within it.
-fn stays_in(pool: &Pool, package: u32, row: &[ClauseId], id: ClauseId) -> bool
+fn stays_in(pool: &Pool, number: u32, row: &[ClauseId], id: ClauseId) -> bool
+    requires pool { IsPool pool.now }
     requires of_pool { OfPool pool.now row.now }
     requires in_order { InOrder (clauses_at pool.now row.now) }
     requires rising { (c : List ℕ) → In c (clauses_at pool.now row.now) → Ascending c }
     requires id { id < length pool.now.clauses }
-    ensures { result ≡ stays «package» (clauses_at pool.now row.now) (clause_at pool.now id) }
+    ensures { result ≡ stays number (clauses_at pool.now row.now) (clause_at pool.now id) }
 {
     let clause = pool.slice(id);
-    if contains(clause, package) {
+    if holds_ascending(clause, number) {
         return false;
     }
+    // Within a clause of one number lies no other one but the empty one, which comes first in its row.
+    if clause.len() == 1 {
+        return !begins_empty(pool, row);
+    }
     !has_within(pool, row, &Some(id), clause)
+}
+
+/// Whether the first clause of the row is empty.
+fn begins_empty(pool: &Pool, row: &[ClauseId]) -> bool
+    requires { OfPool pool.now row.now }
+    ensures { result ≡ begins_empty (clauses_at pool.now row.now) }
+{
+    match row.first() {
+        Some(id) => pool.slice(*id).is_empty(),
+        None => false,
+    }
 }
 
 /// The clauses that stay.
 fn kept_clauses(
     alloc: Global,
     pool: &Pool,
-    package: u32,
+    number: u32,
     row: &[ClauseId],
 ) -> Result<Vec<ClauseId>, AllocError>
+    requires pool { IsPool pool.now }
     requires of_pool { OfPool pool.now row.now }
     requires in_order { InOrder (clauses_at pool.now row.now) }
     requires rising { (c : List ℕ) → In c (clauses_at pool.now row.now) → Ascending c }
-    ensures { IfOk result (λ kept. kept.items ≡ filter (λ id. stays «package» (clauses_at pool.now row.now) (clause_at pool.now id)) row.now) }
+    ensures { IfOk result (λ kept. kept.items ≡ filter (λ id. stays number (clauses_at pool.now row.now) (clause_at pool.now id)) row.now) }
 {
-    let mut kept = Vec::new(alloc);
+    let mut kept = Vec::with_capacity(alloc, row.len())?;
     for id in row {
-        if stays_in(pool, package, row, *id) {
+        if stays_in(pool, number, row, *id) {
             kept.push(*id)?;
         }
     }
@@ -49,16 +67,15 @@ fn kept_clauses(
 }
 
 /// The first row of a package from the row of its clauses.
-fn tidy_row(alloc: Global, pool: &mut Pool, package: u32, row: RowId) -> Result<RowId, AllocError>
-    requires { row < length pool.old.rows }
+fn tidy_row(alloc: Global, pool: &mut Pool, number: u32, row: RowId) -> Result<RowId, AllocError>
+    requires pool { IsPool pool.old }
+    requires row { row < length pool.old.rows }
     ensures within { IfOk result (λ id. id < length pool.new.rows) }
-    ensures tidied { IfOk result (λ id. row_at pool.new id ≡ first_row «package» (row_at pool.old row)) }
+    ensures tidied { IfOk result (λ id. row_at pool.new id ≡ first_row number (row_at pool.old row)) }
     ensures stay { RowsStay pool.old pool.new }
     ensures kept { Kept pool.old pool.new }
 {
-    // What holds of every pool is told by this call alone.
-    pool.clause_count();
-    let kept = kept_clauses(alloc, pool, package, pool.row(row))?;
+    let kept = kept_clauses(alloc, pool, number, pool.row(row))?;
     pool.intern_row(kept.as_slice())
 }
 
@@ -68,7 +85,7 @@ pub(crate) fn tidy_rows(
     pool: &mut Pool,
     rows: &[RowId],
 ) -> Result<Vec<RowId>, AllocError>
-    requires few { length rows.now < 4294967295 }
+    requires few { length rows.now < u32.MAX }
     requires fit { RowsFit pool.old rows.now }
     ensures tidied { IfOk result (λ made. map (row_at pool.new) made.items ≡ tidied_table (map (row_at pool.old) rows.now)) }
     ensures count { IfOk result (λ made. length made.items ≡ length rows.now) }
@@ -76,11 +93,9 @@ pub(crate) fn tidy_rows(
     ensures tidy { IfOk result (λ made. RowsTidy pool.new made.items) }
     ensures kept { Kept pool.old pool.new }
 {
-    // What holds of every pool is told by this call alone.
-    pool.clause_count();
-    let mut made = Vec::new(alloc);
-    for (package, row) in rows.iter().enumerate() {
-        let first = tidy_row(alloc, pool, package as u32, *row)?;
+    let mut made = Vec::with_capacity(alloc, rows.len())?;
+    for (number, row) in rows.iter().enumerate() {
+        let first = tidy_row(alloc, pool, number as u32, *row)?;
         made.push(first)?;
     }
     Ok(made)

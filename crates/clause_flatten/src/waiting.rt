@@ -44,14 +44,14 @@ impl Waiting {
     }
 
     /// Puts a package with the number of its clauses to those that wait.
-    pub(crate) fn put(&mut self, package: u32, clauses: u64)
-        requires room { «package» < length self.old }
+    pub(crate) fn put(&mut self, number: u32, clauses: u64)
+        requires room { number < length self.old }
         requires few { clauses < never }
-        ensures filed { (may : ℕ → Bool) (count : ℕ → ℕ) → Filed self.old may count → count «package» ≡ clauses →
-            Filed self.new (plus may «package») count }
+        ensures filed { (may : ℕ → Bool) (count : ℕ → ℕ) → Filed self.old may count → count number ≡ clauses →
+            Filed self.new (plus may number) count }
         ensures room { length self.new ≡ length self.old }
     {
-        self.file(package as usize, clauses);
+        self.file(number as usize, clauses);
     }
 
     /// Takes the package whose turn is first from those that wait.
@@ -60,44 +60,44 @@ impl Waiting {
         ensures first { IfSome result (λ q. (may : ℕ → Bool) (count : ℕ → ℕ) → Filed self.old may count → IsFirst may count q) }
         ensures taken { IfSome result (λ q. (may : ℕ → Bool) (count : ℕ → ℕ) → Filed self.old may count → Filed self.new (without may q) count) }
     {
-        let package = first_least(self.nodes.as_slice(), self.depth) as u32;
-        if self.turn(package) == NEVER {
+        let number = first_least(self.nodes.as_slice(), self.depth) as u32;
+        if self.turn(number) == NEVER {
             return None;
         }
-        self.file(package as usize, NEVER);
-        Some(package)
+        self.file(number as usize, NEVER);
+        Some(number)
     }
 
     /// Files a package, if it waits, under another number of clauses.
-    pub(crate) fn file_again(&mut self, package: u32, clauses: u64)
+    pub(crate) fn file_again(&mut self, number: u32, clauses: u64)
         requires few { clauses < never }
-        ensures { (may : ℕ → Bool) (count : ℕ → ℕ) → Filed self.old may count → Filed self.new may (recounted count «package» clauses) }
+        ensures { (may : ℕ → Bool) (count : ℕ → ℕ) → Filed self.old may count → Filed self.new may (recounted count number clauses) }
     {
-        if self.turn(package) == NEVER {
+        if self.turn(number) == NEVER {
             return;
         }
-        self.file(package as usize, clauses);
+        self.file(number as usize, clauses);
     }
 
     /// The number under which a package is filed.
-    fn turn(&self, package: u32) -> u64
-        ensures { result ≡ turn self.now «package» }
+    fn turn(&self, number: u32) -> u64
+        ensures { result ≡ turn self.now number }
     {
-        match self.nodes.get(self.nodes.len() / 2 + package as usize) {
+        match self.nodes.get(self.nodes.len() / 2 + number as usize) {
             Some(clauses) => *clauses,
             None => NEVER,
         }
     }
 
     /// Files a package under a number.
-    fn file(&mut self, package: usize, clauses: u64)
-        requires { «package» < length self.old }
+    fn file(&mut self, number: usize, clauses: u64)
+        requires { number < length self.old }
         ensures room { length self.new ≡ length self.old }
-        ensures here { turn self.new «package» ≡ clauses }
-        ensures others { (q : ℕ) → q ≢ «package» → turn self.new q ≡ turn self.old q }
+        ensures here { turn self.new number ≡ clauses }
+        ensures others { (q : ℕ) → q ≢ number → turn self.new q ≡ turn self.old q }
     {
         let leaves = self.nodes.len() / 2;
-        put_leaf(self.nodes.as_mut_slice(), leaves, leaves + package, clauses);
+        put_leaf(self.nodes.as_mut_slice(), leaves, leaves + number, clauses);
     }
 }
 

@@ -1,26 +1,19 @@
 -- A clause is forced where another one lies within those that see to it that it is hit.
-use Rattle.std.proofs.Common.{◌≡◌, ℕ, suc, ◌<◌, ◌+◌, Bool, true, false, not, ◌&&◌, ◌||◌, cond, eq-eqb, eqb, List, [], ◌∷◌, ◌++◌, append-nil, append_assoc, arith, refl, sym, ◌∙◌, inl, inr, ap, ap₂, subst, filter, length, get_or, map, ne_eqb, take, Some}
-use Rattle.std.specs.List.{AllPairs, Contains, dedup, list_any}
-use Rattle.std.specs.List.Retain.{DiffersFromLast, IsFiltered}
-use Rattle.std.specs.List.Sorted.{IsSorted}
+use Rattle.std.proofs.Common.{◌≡◌, ℕ, ◌<◌, ◌+◌, Bool, true, false, not, ◌&&◌, ◌||◌, cond, eqb, List, [], ◌∷◌, ◌++◌, append-nil, append_assoc, refl, sym, ◌∙◌, inl, inr, ap, ap₂, filter, length, get_or, take, Some}
+use Rattle.std.specs.List.{list_any}
 use Rattle.std.specs.Cmp.Lexicographic.{pointwise}
-use Rattle.std.specs.Ordering.{nat_cmp}
 use Rattle.std.proofs.lemmas.Bool.{or_cases, or_left, or_right}
-use Rattle.std.proofs.lemmas.List.{get_or-set_other, take_more}
+use Rattle.std.proofs.lemmas.List.{take_more}
 use Rattle.std.proofs.lemmas.List.Elements.{filter-append}
-use Rattle.std.proofs.lemmas.List.Filters.{dedup_is}
-use Rattle.std.proofs.lemmas.List.Kept.{AllPairs-from_increasing, Contains-dedup_nat, Contains-from_dedup}
-use Rattle.std.proofs.lemmas.Map.Keys.{IsStrictlyIncreasing-dedup}
-use Rattle.clause_pool.specs.Interned.{Interned, clause_at, clauses_at, row_at}
-use Rattle.clause_pool.proofs.Lists.{In_place}
+use Rattle.listed.proofs.Bools.{same_bool}
+use Rattle.clause_pool.specs.Interned.{Interned}
 use Rattle.row_book.specs.Sets.{In, has, here, there}
-use Rattle.row_book.specs.Clauses.{Ascending, is_inside}
+use Rattle.row_book.specs.Clauses.{is_inside}
 use Rattle.row_book.specs.Repository.{clauses_of}
 use Rattle.row_book.specs.Uses.{IsListOf}
 use Rattle.row_book.specs.Within.{is_within}
 use Rattle.row_book.specs.Pruning.{serves}
-use Rattle.row_book.proofs.Lists.{In_append_cases, In_append_left, In_append_right, In_at, In_has, In_map, In_map_cases, In_none, all_same, any_cases, filter_cases, filter_from, has_In}
-use Rattle.row_book.proofs.Repositories.{same_test}
+use Rattle.row_book.proofs.Lists.{In_has, all_same, filter_cases, filter_from, has_In}
 use Rattle.clause_prune.specs.Filing.{AsksServing, Filed, asks}
 use Rattle.clause_prune.specs.Tests.{forces_in, with_ids}
 
@@ -53,7 +46,7 @@ module _ (pool : Interned) (rows : List ℕ) (p : ℕ) (left d : List ℕ) (f : 
   served_is : (n : ℕ) → (test n ≡ true → (has d n || asks f d n) ≡ true) → has found n ≡ test n
   served_is n reached =
       all_found.members n
-      ∙ same_test (has d n || has (filter test asked) n) (test n)
+      ∙ same_bool (has d n || has (filter test asked) n) (test n)
       (λ h. elim (or_cases (has d n) (has (filter test asked) n) h) [
         | inl a ↦ or_left (has d n) (list_any (λ c. is_inside c d) (clauses_of (with_ids pool rows p left []) n)) a
         | inr a ↦ (filter_cases test asked n (has_In (filter test asked) n a)).1

@@ -1,7 +1,8 @@
 -- One package after another is pruned.
 use Rattle.std.proofs.Common.{◌≡◌, ℕ, zero, suc, ◌<◌, ◌+◌, List, [], ◌∷◌, ◌++◌, length, ◌⊎◌, inl, inr, refl, sym, ◌∙◌, ap, ap₂, subst, arith, map, slice_set, append_assoc, append-nil, length-set}
 use Rattle.std.proofs.lemmas.List.{length-map, map-append}
-use Rattle.clause_pool.specs.Interned.{Interned, IsPool, Kept, clause_at, ids_at, row_at}
+use Rattle.clause_pool.specs.Interned.{Interned, IsPool, Kept, row_at}
+use Rattle.clause_pool.proofs.Interned.{kept_same}
 use Rattle.row_book.specs.declared.book.Book.{Book}
 use Rattle.row_book.specs.declared.trail.Step.{Step}
 use Rattle.row_book.specs.declared.trail.Step.TheVariants.{Flat, Idle, Merge}
@@ -18,8 +19,8 @@ use Rattle.row_book.specs.Trail.{trail_meaning, step_meaning}
 use Rattle.row_book.proofs.Lists.{In_cases, In_has}
 use Rattle.row_book.proofs.Repositories.{between, repository_same}
 use Rattle.clause_pool.proofs.Lists.{In_place}
+use Rattle.clause_pool.proofs.Carried.{rows_stay}
 use Rattle.std.proofs.lemmas.List.{get_or-map}
-use Rattle.row_book.proofs.Books.{row_kept}
 use Rattle.clause_prune.specs.Tests.{repository_in}
 use Rattle.clause_prune.proofs.Dropping.{package_step, prune_is_tidy_lem}
 
@@ -35,10 +36,6 @@ In_set (y ∷ ys) (suc i) a x j = elim (In_cases j) [
   | inl e ↦ inr (subst (λ z. In z (y ∷ ys)) (sym e) here)
   | inr k ↦ elim (In_set ys i a x k) [ inl e ↦ inl e | inr m ↦ inr (there m) ]
 ]
-
-rows_same : (old new : Interned) → IsPool old → Kept old new → (rows : List ℕ) → ((id : ℕ) → In id rows → id < length old.rows) → map (row_at new) rows ≡ map (row_at old) rows
-rows_same old new is k [] f = refl
-rows_same old new is k (id ∷ ids) f = ap₂ (λ x xs. x ∷ xs) (row_kept old new is k id (f id here)) (rows_same old new is k ids (λ i j. f i (there j)))
 
 -- idle steps tell the same in each pool
 pub meaning_any : (old new : Interned) (xs : List Step) (idles : List IdleClause) → trail_meaning old xs ≡ map IdleStep idles → trail_meaning new xs ≡ map IdleStep idles
@@ -63,8 +60,9 @@ pub record PassedSoFar (R : Repository) (start now : Interned) (rows : List ℕ)
   pub sound : IsPool now
   pub kept : Kept start now
 
-pub rows_fit : (now : Interned) (rows : List ℕ) (table : List (List ℕ)) → TidyRepository (repository_in now rows table) → ((id : ℕ) → In id rows → id < length now.rows) → RowsFit now rows
-rows_fit now rows table t of = record {
+pub rows_fit : (now : Interned) (rows : List ℕ) (table : List (List ℕ)) → IsPool now → TidyRepository (repository_in now rows table) → ((id : ℕ) → In id rows → id < length now.rows) → RowsFit now rows
+rows_fit now rows table is t of = record {
+  is_pool = is;
   of_pool = of;
   numbers = λ id i c j n k.
       let w : (p : ℕ) × (p < length rows) × (row_id rows p ≡ id) = In_place rows id 0 i in
@@ -84,7 +82,7 @@ passed_more R start old new rows table idle more n id s l is k m e t whole =
     let F : Repository = repository_in old rows table in
     let same : repository_in new (slice_set rows n id) table ≡ prune_package F n =
     repository_same (repository_in new (slice_set rows n id) table) (with_clauses F n (row_at new id))
-    (map_set (row_at new) rows n id ∙ ap (λ z. slice_set z n (row_at new id)) (rows_same old new s.sound k rows s.of_pool)) refl ∙ sym e in
+    (map_set (row_at new) rows n id ∙ ap (λ z. slice_set z n (row_at new id)) (rows_stay old new s.sound k rows s.of_pool)) refl ∙ sym e in
     let now : List IdleClause = package_steps F n in
     record {
       rest = λ left f.
@@ -120,20 +118,14 @@ passed_none start rows table idle is t of e =
       tidy = t;
       of_pool = of;
       sound = is;
-      kept = record { clauses = λ id l. (l, refl); rows = λ id l. (l, refl) };
+      kept = kept_same start;
     }
-
-pub kept_more : (a b c : Interned) → Kept a b → Kept b c → Kept a c
-kept_more a b c k h = record {
-  clauses = λ id l. let u : (id < length b.clauses) × (clause_at b id ≡ clause_at a id) = k.clauses id l in let v : (id < length c.clauses) × (clause_at c id ≡ clause_at b id) = h.clauses id u.0 in (v.0, v.1 ∙ u.1);
-  rows = λ id l. let u : (id < length b.rows) × (ids_at b id ≡ ids_at a id) = k.rows id l in let v : (id < length c.rows) × (ids_at c id ≡ ids_at b id) = h.rows id u.0 in (v.0, v.1 ∙ u.1);
-}
 
 -- the book of the rows
 pub start_tidy : (pool : Interned) (book : Book) (rows : List ℕ) (table : List (List ℕ)) → IsPool pool → Sound pool book → RowsTidy pool book.rows → rows ≡ book.rows → table ≡ book.conflicts → TidyRepository (repository_in pool rows table)
 start_tidy pool book rows table is s t e f = subst (λ z. TidyRepository (repository_in pool z table)) (sym e) (subst (λ z. TidyRepository (repository_in pool book.rows z)) (sym f) (tidy_repository pool book is s t))
 
-pub pruned_sound : (old new : Interned) (book made : Book) (rows : List ℕ) → IsPool old → Sound old book → RowsTidy old book.rows → made.rows ≡ rows → ((id : ℕ) → In id rows → id < length new.rows) →
+pub pruned_sound : (old new : Interned) (book made : Book) (rows : List ℕ) → IsPool old → IsPool new → Sound old book → RowsTidy old book.rows → made.rows ≡ rows → ((id : ℕ) → In id rows → id < length new.rows) →
     repository_of new made ≡ prune (repository_of old book) → Sound new made
-pruned_sound old new book made rows is s t g of p =
-    sound_book new made (λ id i. of id (subst (λ z. In id z) g i)) (subst SoundRepository (sym p) (prune_is_tidy_lem (repository_of old book) (tidy_repository old book is s t)).tidy.sound)
+pruned_sound old new book made rows is now s t g of p =
+    sound_book new made now (λ id i. of id (subst (λ z. In id z) g i)) (subst SoundRepository (sym p) (prune_is_tidy_lem (repository_of old book) (tidy_repository old book is s t)).tidy.sound)

@@ -4,6 +4,7 @@ use Rattle.std.specs.List.{find, list_all, list_any, filter}
 use Rattle.std.specs.Cmp.Lexicographic.{pointwise}
 use Rattle.std.proofs.lemmas.Bool.{and_from, both_ways, cases_Bool, false_from_ne_true, not_from_false, not_from_true, not-true, or_cases, or_left, or_right}
 use Rattle.std.proofs.lemmas.List.{get_or-set_same, length-map}
+use Rattle.listed.proofs.Bools.{same_bool}
 use Rattle.clause_pool.specs.Interned.{Interned, IsPool, clause_at, clauses_at, row_at}
 use Rattle.row_book.specs.Sets.{In, has}
 use Rattle.row_book.specs.Clauses.{is_inside}
@@ -11,7 +12,7 @@ use Rattle.row_book.specs.Book.{listed_for}
 use Rattle.row_book.specs.Flattening.{packages}
 use Rattle.row_book.specs.Repository.{Repository, against, clauses_of}
 use Rattle.row_book.proofs.Lists.{In_has, In_map, all_at, all_from, all_same, has_In}
-use Rattle.row_book.proofs.Repositories.{in_packages, numbers_test, same_numbers, same_test}
+use Rattle.row_book.proofs.Repositories.{in_packages, numbers_test, same_numbers}
 use Rattle.row_book.specs.Pruning.{is_forced, is_harmless, is_idle, is_met, serves}
 use Rattle.row_book.specs.Facing.{against_in}
 use Rattle.clause_prune.specs.Tests.{forces_in, harmless_in, with_ids, met_in}
@@ -78,7 +79,7 @@ module _ (pool : Interned) (rows : List ℕ) (p : ℕ) (left : List ℕ) (table 
   conflicting_are : (d : List ℕ) (x : ℕ) → ((n : ℕ) → In n (listed_for table x) → n < length rows) →
       list_all (λ y. not (against R x y) || is_harmless R p d y) (packages R) ≡ list_all (harmless_in pool table p left d) (listed_for table x)
   conflicting_are d x range =
-      same_test (list_all (λ y. not (against R x y) || is_harmless R p d y) (packages R)) (list_all (harmless_in pool table p left d) (listed_for table x))
+      same_bool (list_all (λ y. not (against R x y) || is_harmless R p d y) (packages R)) (list_all (harmless_in pool table p left d) (listed_for table x))
       (λ t. all_from (harmless_in pool table p left d) (listed_for table x) (λ y i.
       elim (or_cases (not (against R x y)) (is_harmless R p d y) (all_at (λ y. not (against R x y) || is_harmless R p d y) (packages R) t y (in_packages R y (subst (λ z. y < z) (sym size) (range y i))))) [
         | inl f ↦ absurd (both_ways (against R x y) (not-true (against R x y) f) (In_has i))

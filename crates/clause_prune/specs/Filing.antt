@@ -1,3 +1,4 @@
+-- for the bodies of this crate alone
 -- Which packages are asked whether they see to it that a clause is hit: those that are filed under one of its members. A
 -- package that does so without being a member has a clause within the one at hand, whose first number is a member.
 use Rattle.std.specs.Prelude.{◌≡◌, ◌<◌, ◌%◌, ◌⊎◌, ◌||◌, ℕ, Bool, true, List, [], ◌∷◌, length}

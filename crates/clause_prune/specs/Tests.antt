@@ -1,12 +1,13 @@
+-- for the bodies of this crate alone
 -- The tests of pruning over a pool, a table of conflicts, and the rows as they are left.
-use Rattle.std.specs.Prelude.{ℕ, Bool, not, ◌&&◌, ◌||◌, eqb, List, [], filter, length, map, slice_set}
+use Rattle.std.specs.Prelude.{ℕ, Bool, not, ◌&&◌, ◌||◌, eqb, List, [], filter, map, slice_set}
 use Rattle.std.specs.List.{list_all, list_any}
 use Rattle.std.specs.Cmp.Lexicographic.{pointwise}
 use Rattle.row_book.specs.Clauses.{is_inside}
 use Rattle.row_book.specs.Pruning.{serves}
 use Rattle.clause_pool.specs.Interned.{Interned, clauses_at, row_at}
 use Rattle.row_book.specs.Sets.{has}
-use Rattle.row_book.specs.Repository.{Repository, clauses_of}
+use Rattle.row_book.specs.Repository.{Repository}
 use Rattle.row_book.specs.Facing.{against_in}
 
 -- the rows with the clauses of these ids for a package

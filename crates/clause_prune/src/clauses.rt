@@ -27,7 +27,7 @@ fn prune_one(
     pool: &Pool,
     rows: &[RowId],
     table: &[NumList],
-    package: u32,
+    number: u32,
     left: &mut Left,
     filed: &Filed,
     clause: ClauseId,
@@ -35,32 +35,30 @@ fn prune_one(
 ) -> Result<(), AllocError>
     requires fit { RowsFit pool.now rows.now }
     requires conflicts { (p n : ℕ) → In n (listed_for table.now p) → n < length rows.now }
-    requires inside { «package» < length rows.now }
+    requires inside { number < length rows.now }
     requires left { OfPool pool.now left.old }
     requires order { InOrder (clauses_at pool.now left.old) }
     requires table { (p : ℕ) → Ascending (listed_for table.now p) }
     requires clause { clause < length pool.now.clauses }
     requires own { (n : ℕ) → In n (clause_at pool.now clause) → n < length rows.now }
     requires below { FiledBelow (length rows.now) filed.now }
-    requires asks { AsksServing (with_ids pool.now rows.now «package» left.old []) (clauses_at pool.now left.old) filed.now (clause_at pool.now clause) }
-    ensures left { OnOk result (◌≡◌ {A = Repository} (with_ids pool.now rows.now «package» left.new table.now)
-        (prune_clause (with_ids pool.now rows.now «package» left.old table.now) «package» (clause_at pool.now clause))) }
+    requires asks { AsksServing (with_ids pool.now rows.now number left.old []) (clauses_at pool.now left.old) filed.now (clause_at pool.now clause) }
+    ensures left { OnOk result (◌≡◌ {A = Repository} (with_ids pool.now rows.now number left.new table.now)
+        (prune_clause (with_ids pool.now rows.now number left.old table.now) number (clause_at pool.now clause))) }
     ensures part { OnOk result ((id : ℕ) → In id left.new → In id left.old) }
     ensures order { OnOk result (InOrder (clauses_at pool.now left.new)) }
     ensures idle { OnOk result (trail_meaning pool.now idle.new ≡ trail_meaning pool.now idle.old
-        ++ map IdleStep (clause_steps (with_ids pool.now rows.now «package» left.old table.now) «package» (clause_at pool.now clause))) }
+        ++ map IdleStep (clause_steps (with_ids pool.now rows.now number left.old table.now) number (clause_at pool.now clause))) }
 {
-    // What holds of every pool is told by this call alone.
-    pool.clause_count();
-    let forced = is_forced(alloc, pool, rows, package, left.as_slice(), filed, clause)?;
+    let forced = is_forced(alloc, pool, rows, number, left.as_slice(), filed, clause)?;
     if forced {
         left.drop_id(clause);
         return Ok(());
     }
-    if let Some(added) = idle_by(pool, rows, table, package, left.as_slice(), clause) {
+    if let Some(added) = idle_by(pool, rows, table, number, left.as_slice(), clause) {
         let copy = Vec::from_slice(alloc, pool.slice(clause))?;
         idle.push(Step::Idle {
-            package,
+            package: number,
             clause: Listed::of(copy),
             added,
         })?;
@@ -75,29 +73,29 @@ pub(crate) fn prune_each(
     pool: &Pool,
     rows: &[RowId],
     table: &[NumList],
-    package: u32,
+    number: u32,
     ids: &[ClauseId],
     idle: &mut StepList,
 ) -> Result<Left, AllocError>
     requires fit { RowsFit pool.now rows.now }
     requires conflicts { (p n : ℕ) → In n (listed_for table.now p) → n < length rows.now }
-    requires inside { «package» < length rows.now }
+    requires inside { number < length rows.now }
     requires ids { OfPool pool.now ids.now }
     requires order { InOrder (clauses_at pool.now ids.now) }
     requires table { (p : ℕ) → Ascending (listed_for table.now p) }
     requires members { (c : List ℕ) → In c (clauses_at pool.now ids.now) → (n : ℕ) → In n c → n < length rows.now }
-    ensures left { IfOk result (λ left. ◌≡◌ {A = Repository} (with_ids pool.now rows.now «package» left table.now)
-        (prune_clauses (with_ids pool.now rows.now «package» ids.now table.now) «package» (clauses_at pool.now ids.now))) }
+    ensures left { IfOk result (λ left. ◌≡◌ {A = Repository} (with_ids pool.now rows.now number left table.now)
+        (prune_clauses (with_ids pool.now rows.now number ids.now table.now) number (clauses_at pool.now ids.now))) }
     ensures part { IfOk result (λ left. (id : ℕ) → In id left → In id ids.now) }
     ensures order { IfOk result (λ left. InOrder (clauses_at pool.now left)) }
     ensures idle { OnOk result (trail_meaning pool.now idle.new ≡ trail_meaning pool.now idle.old
-        ++ map IdleStep (clauses_steps (with_ids pool.now rows.now «package» ids.now table.now) «package» (clauses_at pool.now ids.now))) }
+        ++ map IdleStep (clauses_steps (with_ids pool.now rows.now number ids.now table.now) number (clauses_at pool.now ids.now))) }
 {
-    let filed = Filed::of(alloc, pool, rows, package, ids)?;
+    let filed = Filed::of(alloc, pool, rows, number, ids)?;
     let mut left = Left::all_of(alloc, ids)?;
     for id in ids {
         prune_one(
-            alloc, pool, rows, table, package, &mut left, &filed, *id, idle,
+            alloc, pool, rows, table, number, &mut left, &filed, *id, idle,
         )?;
     }
     Ok(left)

@@ -1,7 +1,10 @@
 //! Whether a package can never be installed.
+//!
+//! A dead package gets the empty clause, which conflicts as a whole with everything. So thinning drops its conflicts, and all
+//! dead packages become one class.
 ghost use Rattle.std.specs.Prelude.{◌≡◌, ◌∷◌, [], ℕ, IfOk};
 ghost use Rattle.std.specs.List.{list_any};
-ghost use Rattle.clause_pool.specs.Interned.{clauses_at, OfPool};
+ghost use Rattle.clause_pool.specs.Interned.{clauses_at, IsPool, OfPool};
 ghost use Rattle.row_book.specs.Book.{listed_for};
 ghost use Rattle.row_book.specs.Clauses.{Ascending, InOrder};
 ghost use Rattle.row_book.specs.Facing.{against_in, all_against, face};
@@ -16,20 +19,21 @@ fn faces_side(
     alloc: Global,
     pool: &Pool,
     table: &[NumList],
-    package: u32,
+    number: u32,
     list: &[u32],
     row: &[ClauseId],
 ) -> Result<bool, AllocError>
+    requires pool { IsPool pool.now }
     requires row { OfPool pool.now row.now }
     requires order { InOrder (clauses_at pool.now row.now) }
     requires table { (p : ℕ) → Ascending (listed_for table.now p) }
-    ensures { IfOk result (λ faces. faces ≡ list_any (all_against (against_in table.now) list.now) ((«package» ∷ []) ∷ clauses_at pool.now row.now)) }
+    ensures { IfOk result (λ faces. faces ≡ list_any (all_against (against_in table.now) list.now) ((number ∷ []) ∷ clauses_at pool.now row.now)) }
 {
     match list.split_first() {
         None => Ok(true),
         Some((first, others)) => {
             let common = common_conflicts(alloc, table, *first, others)?;
-            let faces = has_side_within(pool, package, row, common.as_slice());
+            let faces = has_side_within(pool, number, row, common.as_slice());
             Ok(faces)
         }
     }
@@ -40,16 +44,17 @@ fn rows_face(
     alloc: Global,
     pool: &Pool,
     table: &[NumList],
-    package: u32,
+    number: u32,
     row: &[ClauseId],
 ) -> Result<bool, AllocError>
+    requires pool { IsPool pool.now }
     requires row { OfPool pool.now row.now }
     requires order { InOrder (clauses_at pool.now row.now) }
     requires table { (p : ℕ) → Ascending (listed_for table.now p) }
-    ensures { IfOk result (λ faces. faces ≡ face (against_in table.now) (clauses_at pool.now row.now) ((«package» ∷ []) ∷ clauses_at pool.now row.now)) }
+    ensures { IfOk result (λ faces. faces ≡ face (against_in table.now) (clauses_at pool.now row.now) ((number ∷ []) ∷ clauses_at pool.now row.now)) }
 {
     for id in row {
-        let faces = faces_side(alloc, pool, table, package, pool.slice(*id), row)?;
+        let faces = faces_side(alloc, pool, table, number, pool.slice(*id), row)?;
         if faces {
             return Ok(true);
         }
@@ -62,17 +67,18 @@ pub(crate) fn is_dead(
     alloc: Global,
     pool: &Pool,
     table: &[NumList],
-    package: u32,
+    number: u32,
     row: &[ClauseId],
 ) -> Result<bool, AllocError>
+    requires pool { IsPool pool.now }
     requires row { OfPool pool.now row.now }
     requires order { InOrder (clauses_at pool.now row.now) }
     requires table { (p : ℕ) → Ascending (listed_for table.now p) }
-    ensures { IfOk result (λ dead. dead ≡ face (against_in table.now) ((«package» ∷ []) ∷ clauses_at pool.now row.now) ((«package» ∷ []) ∷ clauses_at pool.now row.now)) }
+    ensures { IfOk result (λ dead. dead ≡ face (against_in table.now) ((number ∷ []) ∷ clauses_at pool.now row.now) ((number ∷ []) ∷ clauses_at pool.now row.now)) }
 {
-    let faces = faces_side(alloc, pool, table, package, &[package], row)?;
+    let faces = faces_side(alloc, pool, table, number, &[number], row)?;
     if faces {
         return Ok(true);
     }
-    rows_face(alloc, pool, table, package, row)
+    rows_face(alloc, pool, table, number, row)
 }

@@ -13,6 +13,7 @@ ghost use Rattle.clause_prune.specs.Tests.{with_ids};
 
 use crate::forced::clauses_of;
 use clause_pool::{ClauseId, Pool, RowId};
+use listed::{empty_vectors, holds_ascending};
 use row_book::distinct_numbers_in;
 use std::alloc::{AllocError, Global};
 use std::marker::Model;
@@ -47,22 +48,22 @@ impl Filed {
         alloc: Global,
         pool: &Pool,
         rows: &[RowId],
-        package: u32,
+        number: u32,
         ids: &[ClauseId],
     ) -> Result<Filed, AllocError>
         requires fit { RowsFit pool.now rows.now }
-        requires inside { «package» < length rows.now }
+        requires inside { number < length rows.now }
         requires ids { OfPool pool.now ids.now }
         requires order { InOrder (clauses_at pool.now ids.now) }
         requires members { (c : List ℕ) → In c (clauses_at pool.now ids.now) → (n : ℕ) → In n c → n < length rows.now }
         ensures asks { IfOk result (λ filed. (d : List ℕ) → In d (clauses_at pool.now ids.now) →
-            AsksServing (with_ids pool.now rows.now «package» ids.now []) (clauses_at pool.now ids.now) filed d) }
+            AsksServing (with_ids pool.now rows.now number ids.now []) (clauses_at pool.now ids.now) filed d) }
         ensures below { IfOk result (FiledBelow (length rows.now)) }
     {
         let mut always = Vec::new(alloc);
-        let mut lists = empty_lists(alloc, list_count(ids.len()))?;
+        let mut lists = empty_vectors(alloc, list_count(ids.len()))?;
         let table = lists.as_mut_slice();
-        file_members(alloc, pool, rows, package, ids, &mut always, table)?;
+        file_members(alloc, pool, rows, number, ids, &mut always, table)?;
         Ok(Filed { always, lists })
     }
 
@@ -80,24 +81,24 @@ fn file_members(
     alloc: Global,
     pool: &Pool,
     rows: &[RowId],
-    package: u32,
+    number: u32,
     ids: &[ClauseId],
     always: &mut Vec<u32>,
     lists: &mut [Vec<u32>],
 ) -> Result<(), AllocError>
     requires fit { RowsFit pool.now rows.now }
-    requires inside { «package» < length rows.now }
+    requires inside { number < length rows.now }
     requires ids { OfPool pool.now ids.now }
     requires order { InOrder (clauses_at pool.now ids.now) }
     requires members { (c : List ℕ) → In c (clauses_at pool.now ids.now) → (n : ℕ) → In n c → n < length rows.now }
     requires none { always.old.items ≡ [] }
     requires empty { (n : ℕ) → list_in lists.old n ≡ [] }
     ensures asks { OnOk result ((d : List ℕ) → In d (clauses_at pool.now ids.now) →
-        AsksServing (with_ids pool.now rows.now «package» ids.now []) (clauses_at pool.now ids.now) (filed_in always.new.items lists.new) d) }
+        AsksServing (with_ids pool.now rows.now number ids.now []) (clauses_at pool.now ids.now) (filed_in always.new.items lists.new) d) }
     ensures below { OnOk result (FiledBelow (length rows.now) (filed_in always.new.items lists.new)) }
 {
     let members = distinct_numbers_in(alloc, pool, ids)?;
-    file_each(pool, rows, package, ids, members.as_slice(), always, lists)?;
+    file_each(pool, rows, number, ids, members.as_slice(), always, lists)?;
     Ok(())
 }
 
@@ -106,39 +107,28 @@ fn list_count(clauses: usize) -> usize {
     if clauses > SHORT { clauses } else { 0 }
 }
 
-/// So many empty lists.
-fn empty_lists(alloc: Global, size: usize) -> Result<Vec<Vec<u32>>, AllocError>
-    ensures { IfOk result (λ made. (n : ℕ) → list_in made.items n ≡ []) }
-{
-    let mut made = Vec::new(alloc);
-    for _i in 0..size {
-        made.push(Vec::new(alloc))?;
-    }
-    Ok(made)
-}
-
 /// Files each of the packages for its clauses: of the one that is pruned those that are left.
 fn file_each(
     pool: &Pool,
     rows: &[RowId],
-    package: u32,
+    number: u32,
     left: &[ClauseId],
     members: &[u32],
     always: &mut Vec<u32>,
     lists: &mut [Vec<u32>],
 ) -> Result<(), AllocError>
     requires fit { RowsFit pool.now rows.now }
-    requires inside { «package» < length rows.now }
+    requires inside { number < length rows.now }
     requires left { OfPool pool.now left.now }
     requires order { InOrder (clauses_at pool.now left.now) }
     requires members { (n : ℕ) → In n members.now → n < length rows.now }
     requires ascending { Ascending members.now }
-    ensures filed { OnOk result ((n : ℕ) → In n members.now → (e : List ℕ) → In e (clauses_of (with_ids pool.now rows.now «package» left.now []) n) →
+    ensures filed { OnOk result ((n : ℕ) → In n members.now → (e : List ℕ) → In e (clauses_of (with_ids pool.now rows.now number left.now []) n) →
         IsFiled members.now (filed_in always.new.items lists.new) e n) }
     ensures below { OnOk result (FiledBelow (length rows.now) (filed_in always.old.items lists.old) → FiledBelow (length rows.now) (filed_in always.new.items lists.new)) }
 {
     for member in members {
-        let row = clauses_of(pool, rows, package, left, *member);
+        let row = clauses_of(pool, rows, number, left, *member);
         file_row(pool, row, members, always, lists, *member)?;
     }
     Ok(())
@@ -151,19 +141,19 @@ fn file_row(
     members: &[u32],
     always: &mut Vec<u32>,
     lists: &mut [Vec<u32>],
-    package: u32,
+    number: u32,
 ) -> Result<(), AllocError>
     requires row { OfPool pool.now row.now }
     requires ascending { Ascending members.now }
-    ensures filed { OnOk result ((e : List ℕ) → In e (clauses_at pool.now row.now) → IsFiled members.now (filed_in always.new.items lists.new) e «package») }
-    ensures takes { OnOk result (Takes «package» (filed_in always.old.items lists.old) (filed_in always.new.items lists.new)) }
+    ensures filed { OnOk result ((e : List ℕ) → In e (clauses_at pool.now row.now) → IsFiled members.now (filed_in always.new.items lists.new) e number) }
+    ensures takes { OnOk result (Takes number (filed_in always.old.items lists.old) (filed_in always.new.items lists.new)) }
 {
     if row.len() > lists.len() / LONGER {
-        always.push(package)?;
+        always.push(number)?;
         return Ok(());
     }
     for id in row {
-        file_clause(pool.slice(*id), members, always, lists, package)?;
+        file_clause(pool.slice(*id), members, always, lists, number)?;
     }
     Ok(())
 }
@@ -174,19 +164,19 @@ fn file_clause(
     members: &[u32],
     always: &mut Vec<u32>,
     lists: &mut [Vec<u32>],
-    package: u32,
+    number: u32,
 ) -> Result<(), AllocError>
     requires some { 0 < length lists.old }
     requires ascending { Ascending members.now }
-    ensures filed { OnOk result (IsFiled members.now (filed_in always.new.items lists.new) clause.now «package») }
-    ensures takes { OnOk result (Takes «package» (filed_in always.old.items lists.old) (filed_in always.new.items lists.new)) }
+    ensures filed { OnOk result (IsFiled members.now (filed_in always.new.items lists.new) clause.now number) }
+    ensures takes { OnOk result (Takes number (filed_in always.old.items lists.old) (filed_in always.new.items lists.new)) }
 {
     match clause.split_first() {
         None => {
-            always.push(package)?;
+            always.push(number)?;
             Ok(())
         }
-        Some((first, _)) => file_under(*first, members, lists, package),
+        Some((first, _)) => file_under(*first, members, lists, number),
     }
 }
 
@@ -195,29 +185,18 @@ fn file_under(
     number: u32,
     members: &[u32],
     lists: &mut [Vec<u32>],
-    package: u32,
+    member: u32,
 ) -> Result<(), AllocError>
     requires some { 0 < length lists.old }
     requires ascending { Ascending members.now }
-    ensures filed { OnOk result (In number members.now → In «package» (under (lists_in lists.new) number)) }
+    ensures filed { OnOk result (In number members.now → In member (under (lists_in lists.new) number)) }
     ensures stays { HasAll (lists_in lists.old) (lists_in lists.new) }
-    ensures came { (place n : ℕ) → In n (list_in lists.new place) → In n (list_in lists.old place) ⊎ (n ≡ «package») }
+    ensures came { (place n : ℕ) → In n (list_in lists.new place) → In n (list_in lists.old place) ⊎ (n ≡ member) }
 {
-    if !holds_number(members, number) {
+    if !holds_ascending(members, number) {
         return Ok(());
     }
-    push_once(lists, place_in(number, lists.len()), package)
-}
-
-/// Whether the ascending list holds the number.
-fn holds_number(list: &[u32], number: u32) -> bool
-    requires { Ascending list.now }
-    ensures { result ≡ has list.now number }
-{
-    match list.binary_search(&number) {
-        Ok(_) => true,
-        Err(_) => false,
-    }
+    push_once(lists, place_in(number, lists.len()), member)
 }
 
 /// The place of the list that a number has among so many.

@@ -19,22 +19,20 @@ use std::alloc::{AllocError, Global};
 pub(crate) fn clauses_of<'a>(
     pool: &'a Pool,
     rows: &[RowId],
-    package: u32,
+    number: u32,
     left: &'a [ClauseId],
     other: u32,
 ) -> &'a [ClauseId]
     requires fit { RowsFit pool.now rows.now }
-    requires inside { «package» < length rows.now }
+    requires inside { number < length rows.now }
     requires other { other < length rows.now }
     requires left { OfPool pool.now left.now }
     requires order { InOrder (clauses_at pool.now left.now) }
-    ensures is { clauses_at pool.now result.now ≡ clauses_of (with_ids pool.now rows.now «package» left.now []) other }
+    ensures is { clauses_at pool.now result.now ≡ clauses_of (with_ids pool.now rows.now number left.now []) other }
     ensures of_pool { OfPool pool.now result.now }
     ensures order { InOrder (clauses_at pool.now result.now) }
 {
-    // What holds of every pool is told by this call alone.
-    pool.clause_count();
-    if other == package {
+    if other == number {
         left
     } else {
         pool.row(rows[other as usize])
@@ -45,20 +43,20 @@ pub(crate) fn clauses_of<'a>(
 fn serves(
     pool: &Pool,
     rows: &[RowId],
-    package: u32,
+    number: u32,
     left: &[ClauseId],
     clause: &[u32],
     other: u32,
 ) -> bool
     requires fit { RowsFit pool.now rows.now }
-    requires inside { «package» < length rows.now }
+    requires inside { number < length rows.now }
     requires other { other < length rows.now }
     requires left { OfPool pool.now left.now }
     requires order { InOrder (clauses_at pool.now left.now) }
     requires clause { Ascending clause.now }
-    ensures { result ≡ serves (with_ids pool.now rows.now «package» left.now []) clause.now other }
+    ensures { result ≡ serves (with_ids pool.now rows.now number left.now []) clause.now other }
 {
-    let row = clauses_of(pool, rows, package, left, other);
+    let row = clauses_of(pool, rows, number, left, other);
     has_side_within(pool, other, row, clause)
 }
 
@@ -67,23 +65,23 @@ fn serving(
     alloc: Global,
     pool: &Pool,
     rows: &[RowId],
-    package: u32,
+    number: u32,
     left: &[ClauseId],
     asked: &[u32],
     clause: &[u32],
 ) -> Result<Vec<u32>, AllocError>
     requires fit { RowsFit pool.now rows.now }
-    requires inside { «package» < length rows.now }
+    requires inside { number < length rows.now }
     requires asked { (n : ℕ) → In n asked.now → n < length rows.now }
     requires left { OfPool pool.now left.now }
     requires order { InOrder (clauses_at pool.now left.now) }
     requires clause { Ascending clause.now }
     ensures { IfOk result (λ serving. IsListOf (λ n. has clause.now n
-        || has (filter (serves (with_ids pool.now rows.now «package» left.now []) clause.now) asked.now) n) serving.items) }
+        || has (filter (serves (with_ids pool.now rows.now number left.now []) clause.now) asked.now) n) serving.items) }
 {
     let mut serving = Vec::from_slice(alloc, clause)?;
     for other in asked {
-        if serves(pool, rows, package, left, clause, *other) {
+        if serves(pool, rows, number, left, clause, *other) {
             serving.push(*other)?;
         }
     }
@@ -98,25 +96,23 @@ pub(crate) fn is_forced(
     alloc: Global,
     pool: &Pool,
     rows: &[RowId],
-    package: u32,
+    number: u32,
     left: &[ClauseId],
     filed: &Filed,
     clause: ClauseId,
 ) -> Result<bool, AllocError>
     requires fit { RowsFit pool.now rows.now }
-    requires inside { «package» < length rows.now }
+    requires inside { number < length rows.now }
     requires left { OfPool pool.now left.now }
     requires order { InOrder (clauses_at pool.now left.now) }
     requires below { FiledBelow (length rows.now) filed.now }
-    requires asks { AsksServing (with_ids pool.now rows.now «package» left.now []) (clauses_at pool.now left.now) filed.now (clause_at pool.now clause) }
+    requires asks { AsksServing (with_ids pool.now rows.now number left.now []) (clauses_at pool.now left.now) filed.now (clause_at pool.now clause) }
     requires clause { clause < length pool.now.clauses }
-    ensures { IfOk result (λ forced. forced ≡ is_forced (with_ids pool.now rows.now «package» left.now []) «package» (clause_at pool.now clause)) }
+    ensures { IfOk result (λ forced. forced ≡ is_forced (with_ids pool.now rows.now number left.now []) number (clause_at pool.now clause)) }
 {
-    // What holds of every pool is told by this call alone.
-    pool.clause_count();
     let numbers = pool.slice(clause);
     let asked = filed.asked(alloc, numbers)?;
     let others = asked.as_slice();
-    let found = serving(alloc, pool, rows, package, left, others, numbers)?;
+    let found = serving(alloc, pool, rows, number, left, others, numbers)?;
     Ok(has_within(pool, left, &Some(clause), found.as_slice()))
 }

@@ -1,8 +1,11 @@
 //! Whether a clause may be hit at no cost.
+//!
+//! A clause is idle by a member if that member can be put in wherever the package is: what conflicts with it is out anyway, and
+//! its clauses are hit anyway. So the clause decides nothing.
 ghost use Rattle.std.specs.Prelude.{◌≡◌, ◌<◌, ◌&&◌, ◌||◌, [], ℕ, List, eqb, filter, length, not};
 ghost use Rattle.std.specs.Cmp.Lexicographic.{pointwise};
 ghost use Rattle.std.specs.List.{find, list_all, list_any};
-ghost use Rattle.clause_pool.specs.Interned.{clause_at, clauses_at, OfPool};
+ghost use Rattle.clause_pool.specs.Interned.{clause_at, clauses_at, OfPool, IsPool};
 ghost use Rattle.row_book.specs.Sets.{has, In};
 ghost use Rattle.row_book.specs.Clauses.{Ascending, InOrder};
 ghost use Rattle.row_book.specs.Book.{listed_for, RowsFit};
@@ -20,15 +23,16 @@ fn excludes_one(
     table: &[NumList],
     left: &[ClauseId],
     clause: ClauseId,
-    package: u32,
+    number: u32,
 ) -> bool
+    requires pool { IsPool pool.now }
     requires left { OfPool pool.now left.now }
     requires order { InOrder (clauses_at pool.now left.now) }
     requires table { (p : ℕ) → Ascending (listed_for table.now p) }
     requires clause { clause < length pool.now.clauses }
-    ensures { result ≡ list_any (excludes_in pool.now table.now «package» (clause_at pool.now clause)) (clauses_at pool.now left.now) }
+    ensures { result ≡ list_any (excludes_in pool.now table.now number (clause_at pool.now clause)) (clauses_at pool.now left.now) }
 {
-    has_within(pool, left, &Some(clause), conflicts_of(table, package))
+    has_within(pool, left, &Some(clause), conflicts_of(table, number))
 }
 
 /// Whether the other package, which conflicts with a member of the clause, is out anyway where the package is in and the
@@ -36,25 +40,27 @@ fn excludes_one(
 fn is_harmless(
     pool: &Pool,
     table: &[NumList],
-    package: u32,
+    number: u32,
     left: &[ClauseId],
     clause: ClauseId,
     other: u32,
 ) -> bool
+    requires pool { IsPool pool.now }
     requires left { OfPool pool.now left.now }
     requires order { InOrder (clauses_at pool.now left.now) }
     requires table { (p : ℕ) → Ascending (listed_for table.now p) }
     requires clause { clause < length pool.now.clauses }
-    ensures { result ≡ harmless_in pool.now table.now «package» left.now (clause_at pool.now clause) other }
+    ensures { result ≡ harmless_in pool.now table.now number left.now (clause_at pool.now clause) other }
 {
-    other != package
+    other != number
         && (holds(pool.slice(clause), other)
-            || (are_against(table, package, other)
+            || (are_against(table, number, other)
                 || excludes_one(pool, table, left, clause, other)))
 }
 
-/// Whether some clause that is left, other than the given one, lies within the third.
+/// Whether some clause of `left`, other than `clause`, lies within `whole`.
 fn includes_one(pool: &Pool, left: &[ClauseId], clause: ClauseId, whole: &[u32]) -> bool
+    requires pool { IsPool pool.now }
     requires left { OfPool pool.now left.now }
     requires order { InOrder (clauses_at pool.now left.now) }
     requires clause { clause < length pool.now.clauses }
@@ -64,34 +70,36 @@ fn includes_one(pool: &Pool, left: &[ClauseId], clause: ClauseId, whole: &[u32])
     has_within(pool, left, &Some(clause), whole)
 }
 
-/// Whether the third clause is hit wherever the package is in and its other clauses are hit.
-fn is_met(pool: &Pool, package: u32, left: &[ClauseId], clause: ClauseId, whole: &[u32]) -> bool
+/// Whether `whole` is hit wherever the package is in and its clauses other than `clause` are hit.
+fn is_met(pool: &Pool, number: u32, left: &[ClauseId], clause: ClauseId, whole: &[u32]) -> bool
+    requires pool { IsPool pool.now }
     requires left { OfPool pool.now left.now }
     requires order { InOrder (clauses_at pool.now left.now) }
     requires whole { Ascending whole.now }
     requires clause { clause < length pool.now.clauses }
-    ensures { result ≡ met_in pool.now «package» left.now (clause_at pool.now clause) whole.now }
+    ensures { result ≡ met_in pool.now number left.now (clause_at pool.now clause) whole.now }
 {
-    holds(whole, package) || includes_one(pool, left, clause, whole)
+    holds(whole, number) || includes_one(pool, left, clause, whole)
 }
 
 /// Whether each of the packages that conflict with a member is out anyway.
 fn all_harmless(
     pool: &Pool,
     table: &[NumList],
-    package: u32,
+    number: u32,
     left: &[ClauseId],
     clause: ClauseId,
     conflicting: &[u32],
 ) -> bool
+    requires pool { IsPool pool.now }
     requires left { OfPool pool.now left.now }
     requires order { InOrder (clauses_at pool.now left.now) }
     requires table { (p : ℕ) → Ascending (listed_for table.now p) }
     requires clause { clause < length pool.now.clauses }
-    ensures { result ≡ list_all (harmless_in pool.now table.now «package» left.now (clause_at pool.now clause)) conflicting.now }
+    ensures { result ≡ list_all (harmless_in pool.now table.now number left.now (clause_at pool.now clause)) conflicting.now }
 {
     for other in conflicting {
-        if !is_harmless(pool, table, package, left, clause, *other) {
+        if !is_harmless(pool, table, number, left, clause, *other) {
             return false;
         }
     }
@@ -99,17 +107,16 @@ fn all_harmless(
 }
 
 /// Whether each clause of the row is hit wherever the package is in and its other clauses are hit.
-fn all_met(pool: &Pool, package: u32, left: &[ClauseId], clause: ClauseId, row: &[ClauseId]) -> bool
+fn all_met(pool: &Pool, number: u32, left: &[ClauseId], clause: ClauseId, row: &[ClauseId]) -> bool
+    requires pool { IsPool pool.now }
     requires left { OfPool pool.now left.now }
     requires order { InOrder (clauses_at pool.now left.now) }
     requires clause { clause < length pool.now.clauses }
     requires row { OfPool pool.now row.now }
-    ensures { result ≡ list_all (met_in pool.now «package» left.now (clause_at pool.now clause)) (clauses_at pool.now row.now) }
+    ensures { result ≡ list_all (met_in pool.now number left.now (clause_at pool.now clause)) (clauses_at pool.now row.now) }
 {
-    // What holds of every pool is told by this call alone.
-    pool.clause_count();
     for id in row {
-        if !is_met(pool, package, left, clause, pool.slice(*id)) {
+        if !is_met(pool, number, left, clause, pool.slice(*id)) {
             return false;
         }
     }
@@ -121,35 +128,35 @@ fn is_idle(
     pool: &Pool,
     rows: &[RowId],
     table: &[NumList],
-    package: u32,
+    number: u32,
     left: &[ClauseId],
     clause: ClauseId,
     member: u32,
 ) -> bool
     requires fit { RowsFit pool.now rows.now }
     requires conflicts { (p n : ℕ) → In n (listed_for table.now p) → n < length rows.now }
-    requires inside { «package» < length rows.now }
+    requires inside { number < length rows.now }
     requires left { OfPool pool.now left.now }
     requires order { InOrder (clauses_at pool.now left.now) }
     requires table { (p : ℕ) → Ascending (listed_for table.now p) }
     requires clause { clause < length pool.now.clauses }
     requires member { In member (clause_at pool.now clause) }
     requires below { member < length rows.now }
-    ensures { result ≡ is_idle (with_ids pool.now rows.now «package» left.now table.now) «package» (clause_at pool.now clause) member }
+    ensures { result ≡ is_idle (with_ids pool.now rows.now number left.now table.now) number (clause_at pool.now clause) member }
 {
     all_harmless(
         pool,
         table,
-        package,
+        number,
         left,
         clause,
         conflicts_of(table, member),
     ) && all_met(
         pool,
-        package,
+        number,
         left,
         clause,
-        clauses_of(pool, rows, package, left, member),
+        clauses_of(pool, rows, number, left, member),
     )
 }
 
@@ -158,22 +165,22 @@ pub(crate) fn idle_by(
     pool: &Pool,
     rows: &[RowId],
     table: &[NumList],
-    package: u32,
+    number: u32,
     left: &[ClauseId],
     clause: ClauseId,
 ) -> Option<u32>
     requires fit { RowsFit pool.now rows.now }
     requires conflicts { (p n : ℕ) → In n (listed_for table.now p) → n < length rows.now }
-    requires inside { «package» < length rows.now }
+    requires inside { number < length rows.now }
     requires left { OfPool pool.now left.now }
     requires order { InOrder (clauses_at pool.now left.now) }
     requires table { (p : ℕ) → Ascending (listed_for table.now p) }
     requires clause { clause < length pool.now.clauses }
     requires members { (n : ℕ) → In n (clause_at pool.now clause) → n < length rows.now }
-    ensures { result ≡ find (is_idle (with_ids pool.now rows.now «package» left.now table.now) «package» (clause_at pool.now clause)) (clause_at pool.now clause) }
+    ensures { result ≡ find (is_idle (with_ids pool.now rows.now number left.now table.now) number (clause_at pool.now clause)) (clause_at pool.now clause) }
 {
     for member in pool.slice(clause) {
-        if is_idle(pool, rows, table, package, left, clause, *member) {
+        if is_idle(pool, rows, table, number, left, clause, *member) {
             return Some(*member);
         }
     }

@@ -1,6 +1,6 @@
 //! Pruning of a book.
 ghost use Rattle.std.specs.Prelude.{◌≡◌, ◌<◌, ◌++◌, ◌∷◌, [], ℕ, List, IfOk, OnOk, length, map};
-ghost use Rattle.clause_pool.specs.Interned.{row_at, Kept};
+ghost use Rattle.clause_pool.specs.Interned.{row_at, Kept, IsPool};
 ghost use Rattle.row_book.specs.Sets.{In};
 ghost use Rattle.row_book.specs.Clauses.{Ascending};
 ghost use Rattle.row_book.specs.Book.{listed_for, repository_of, RowsFit, RowsTidy, Sound};
@@ -34,7 +34,6 @@ fn empty_row(pool: &mut Pool) -> Result<RowId, AllocError>
     ensures of_pool { IfOk result (λ id. id < length pool.new.rows) }
     ensures kept { Kept pool.old pool.new }
 {
-    pool.clause_count();
     let empty = pool.intern(&[])?;
     pool.intern_row(&[empty])
 }
@@ -45,26 +44,24 @@ fn pruned_row(
     pool: &mut Pool,
     rows: &[RowId],
     table: &[NumList],
-    package: u32,
+    number: u32,
     idle: &mut StepList,
 ) -> Result<RowId, AllocError>
     requires fit { RowsFit pool.old rows.now }
     requires conflicts { (p n : ℕ) → In n (listed_for table.now p) → n < length rows.now }
     requires table { (p : ℕ) → Ascending (listed_for table.now p) }
-    requires inside { «package» < length rows.now }
-    ensures row { IfOk result (λ id. ◌≡◌ {A = Repository} (prune_package (repository_in pool.old rows.now table.now) «package») (with_clauses (repository_in pool.old rows.now table.now) «package» (row_at pool.new id))) }
+    requires inside { number < length rows.now }
+    ensures row { IfOk result (λ id. ◌≡◌ {A = Repository} (prune_package (repository_in pool.old rows.now table.now) number) (with_clauses (repository_in pool.old rows.now table.now) number (row_at pool.new id))) }
     ensures of_pool { IfOk result (λ id. id < length pool.new.rows) }
-    ensures idle { OnOk result (trail_meaning pool.old idle.new ≡ trail_meaning pool.old idle.old ++ map IdleStep (package_steps (repository_in pool.old rows.now table.now) «package»)) }
+    ensures idle { OnOk result (trail_meaning pool.old idle.new ≡ trail_meaning pool.old idle.old ++ map IdleStep (package_steps (repository_in pool.old rows.now table.now) number)) }
     ensures kept { Kept pool.old pool.new }
 {
-    // What holds of every pool is told by this call alone.
-    pool.clause_count();
-    let ids = Vec::from_slice(alloc, pool.row(rows[package as usize]))?;
-    let dead = is_dead(alloc, pool, table, package, ids.as_slice())?;
+    let ids = Vec::from_slice(alloc, pool.row(rows[number as usize]))?;
+    let dead = is_dead(alloc, pool, table, number, ids.as_slice())?;
     if dead {
         return empty_row(pool);
     }
-    let left = prune_each(alloc, pool, rows, table, package, ids.as_slice(), idle)?;
+    let left = prune_each(alloc, pool, rows, table, number, ids.as_slice(), idle)?;
     pool.intern_row(left.as_slice())
 }
 
@@ -76,7 +73,8 @@ fn prune_rows(
     table: &[NumList],
     idle: &mut StepList,
 ) -> Result<(), AllocError>
-    requires few { length rows.old < 4294967295 }
+    requires pool { IsPool pool.old }
+    requires few { length rows.old < u32.MAX }
     requires tidy { TidyRepository (repository_in pool.old rows.old table.now) }
     requires of_pool { (id : ℕ) → In id rows.old → id < length pool.old.rows }
     requires none { trail_meaning pool.old idle.old ≡ [] }
@@ -85,13 +83,9 @@ fn prune_rows(
     ensures idle { OnOk result (trail_meaning pool.new idle.new ≡ map IdleStep (idle_steps (repository_in pool.old rows.old table.now))) }
     ensures kept { Kept pool.old pool.new }
 {
-    // What holds of every pool is told by this call alone.
-    pool.clause_count();
-    for package in 0..rows.len() {
-        let row = pruned_row(alloc, pool, rows, table, package as u32, idle)?;
-        // What holds of every pool is told by this call alone.
-        pool.clause_count();
-        rows[package] = row;
+    for number in 0..rows.len() {
+        let row = pruned_row(alloc, pool, rows, table, number as u32, idle)?;
+        rows[number] = row;
     }
     Ok(())
 }
@@ -107,8 +101,6 @@ pub fn prune(alloc: Global, pool: &mut Pool, book: &Book) -> Result<Pruned, Allo
     ensures sound { IfOk result (λ made. Sound pool.new made.book) }
     ensures kept { Kept pool.old pool.new }
 {
-    // What holds of every pool is told by this call alone.
-    pool.clause_count();
     let mut rows = Vec::from_slice(alloc, book.rows.as_slice())?;
     let mut idle = StepList::new(alloc);
     let table = book.conflicts.as_slice();

@@ -11,6 +11,7 @@ use Rattle.std.proofs.lemmas.List.Elements.{All-contains, All-nil, All-cons, All
 use Rattle.std.proofs.lemmas.List.Folds.{Any-from_list_any, list_any-from_Any}
 use Rattle.std.proofs.lemmas.List.{take_at, length-append}
 use Rattle.std.proofs.lemmas.List.FromFn.{get_or-map-range_with_len, length-map-range_with_len}
+use Rattle.listed.proofs.Lists.{contains_in, in_contains}
 use Rattle.row_book.proofs.Lists.{all_at}
 use Rattle.search_terms.specs.declared.literals.Literal.{Literal}
 use Rattle.search_terms.specs.Closure.{literal, negation, is_same, forces, is_refuted, IsMet, IsClosed, IsClosure, InClosure, Clashes, InRange}
@@ -18,7 +19,6 @@ use Rattle.search_terms.specs.Marks.{IsConsistent, HasClash}
 use Rattle.search_terms.specs.Form.{owned_sentences, conflict_sentence}
 use Rattle.search_terms.specs.Tree.{is_open_need, is_undecided, IsFoundLeaf, IsSplit}
 use Rattle.search_terms.specs.Marks.{classes_left, true_classes}
-use Rattle.search_terms.proofs.Lists.{contains_in, in_contains}
 use Rattle.search_terms.proofs.Forms.{from_owned_sentences}
 use Rattle.search_terms.proofs.Sets.{forces_mono, Contains-head, Contains-tail}
 use Rattle.search_terms.proofs.Trees.{open_has_member, found_leaf_of, split_of}
@@ -27,6 +27,7 @@ use Rattle.search_terms.proofs.Models.{same-true}
 use Rattle.clause_solver.specs.Solvers.{AreApart}
 use Rattle.clause_solver.specs.Marking.{among}
 use Rattle.clause_solver.specs.Running.{HasRefuted, Runs, Waits}
+use Rattle.clause_solver.specs.declared.table.Use.{Use}
 use Rattle.clause_solver.specs.Engine.{whole_form, IsEngine}
 use Rattle.clause_solver.specs.Levels.{CalmAt, IsLayered, IsFallen, IsToAssume}
 use Rattle.clause_solver.specs.Levels.IsLayered.{at_root, level}
@@ -76,7 +77,7 @@ full_whole goals own conflicts full negative = λ k d lt. one (get_or (whole_for
     one s (inr (inl o)) = let w = All-contains (λ x. (p : ℕ) × Contains x (literal p false)) own s negative o in (literal w.0 false, w.1)
     one s (inr (inr pair)) = (literal pair.p false, rw pair.is (Contains-head (literal pair.p false) (literal pair.q false ∷ [])))
 
-pub range_whole : (n : ℕ) (goals own : List (List Literal)) (uses conflicts : List (List ℕ)) → IsEngine n goals own uses conflicts → InRange n (whole_form goals own conflicts)
+pub range_whole : (n : ℕ) (goals own : List (List Literal)) (uses : List (List Use)) (conflicts : List (List ℕ)) → IsEngine n goals own uses conflicts → InRange n (whole_form goals own conflicts)
 range_whole n goals own uses conflicts engine = λ k d lt. one (get_or (whole_form goals own conflicts) k d) (whole_cases goals own conflicts (get_or (whole_form goals own conflicts) k d) (Contains-get_or (whole_form goals own conflicts) k d lt))
   where
     listed_below : (p q : ℕ) → In q (listed_for conflicts p) → q < n
@@ -113,7 +114,7 @@ open_whole goals own conflicts set (Some x) calm e =
     ap (find (is_open_need set)) (sym (append_assoc goals own (owned_sentences conflict_sentence 0 conflicts)))
     ∙ find_front (is_open_need set) (goals ++ own) (owned_sentences conflict_sentence 0 conflicts) x (sym e)
 
-module _ (n : ℕ) (goals own : List (List Literal)) (uses conflicts : List (List ℕ)) (engine : IsEngine n goals own uses conflicts) (negative : HaveNegative own) (full : AreFull goals) where
+module _ (n : ℕ) (goals own : List (List Literal)) (uses : List (List Use)) (conflicts : List (List ℕ)) (engine : IsEngine n goals own uses conflicts) (negative : HaveNegative own) (full : AreFull goals) where
   pub no_clash : (decisions trail : List Literal) → CalmAt (whole_form goals own conflicts) decisions trail → ¬ (HasClash (whole_form goals own conflicts) (among trail))
   no_clash decisions trail calm = calm_is (whole_form goals own conflicts) (among trail) (full_whole goals own conflicts full negative) (closure_closed (whole_form goals own conflicts) decisions (among trail) calm.closure) calm.consistent
 

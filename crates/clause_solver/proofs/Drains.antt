@@ -1,11 +1,12 @@
 -- Looking at all that a mark contradicts, and at all marks.
-use Rattle.std.proofs.Common.{◌≡◌, ℕ, zero, suc, ◌+◌, ◌<◌, ◌≤◌, Bool, true, false, not, List, [], ◌∷◌, ◌++◌, ◌⊎◌, length, get_or, drop, refl, ap, sym, ◌∙◌, arith, inl, inr, subst}
+use Rattle.std.proofs.Common.{◌≡◌, ℕ, zero, suc, ◌+◌, ◌<◌, ◌≤◌, Bool, true, false, not, List, [], ◌∷◌, ◌++◌, ◌⊎◌, length, get_or, drop, ap, sym, ◌∙◌, arith, inl, inr, subst}
 use Rattle.std.specs.Prelude.{All, Contains, map}
 use Rattle.std.proofs.lemmas.Bool.{false_from_ne_true}
 use Rattle.std.proofs.lemmas.List.{get_or_default}
 use Rattle.std.proofs.lemmas.List.Elements.{All-contains, Contains-append_left, Contains-append_right, Contains-append_cases, Contains-get_or}
 use Rattle.std.proofs.Math.Seq.{drop-cons}
 use Rattle.std.proofs.Math.Numerals.{add-one}
+use Rattle.listed.proofs.Lists.{contains_in, in_contains}
 use Rattle.row_book.specs.Sets.{In}
 use Rattle.row_book.specs.Book.{listed_for}
 use Rattle.row_book.proofs.Lists.{In_cases, In_none}
@@ -13,12 +14,14 @@ use Rattle.search_terms.specs.declared.literals.Literal.{Literal}
 use Rattle.search_terms.specs.Closure.{literal, negation, IsMet, IsClosed}
 use Rattle.search_terms.specs.Marks.{flag_place, IsConsistent}
 use Rattle.search_terms.specs.Form.{owned_sentences, conflict_sentence}
-use Rattle.search_terms.proofs.Lists.{contains_in, in_contains}
 use Rattle.search_terms.proofs.Sets.{Contains-head, Contains-tail}
 use Rattle.search_terms.proofs.Forms.{from_map, in_owned_sentences, from_owned_sentences}
+use Rattle.search_terms.proofs.Certificates.{negation_twice}
 use Rattle.clause_solver.specs.Marking.{among}
 use Rattle.clause_solver.specs.Running.{HasRefuted, Runs, Waits}
-use Rattle.clause_solver.specs.Engine.{whole_form, IsTable, IsEngine}
+use Rattle.clause_solver.specs.Engine.{whole_form, Names, IsTable, IsEngine}
+use Rattle.clause_solver.specs.declared.table.Use.{Use}
+use Rattle.clause_solver.specs.Nodes.{ArePositive}
 use Rattle.clause_solver.proofs.Running.{met_by, runs_longer, waits_grow, waits_after}
 
 pub whole_goals : (goals own : List (List Literal)) (conflicts : List (List ℕ)) (s : List Literal) → Contains goals s → Contains (whole_form goals own conflicts) s
@@ -70,24 +73,31 @@ pub waits_later : (h k : ℕ) (trail s : List Literal) → h ≤ k → Waits k t
 waits_later h k trail s le (inl met) = inl met
 waits_later h k trail s le (inr p) = inr (p.0, p.1, contains_later h k trail (negation p.0) le p.2)
 
-negation_twice : (l : Literal) → negation (negation l) ≡ l
-negation_twice l = ap (λ s. literal l.class s) (not_not l.positive)
-  where
-    not_not : (b : Bool) → not (not b) ≡ b
-    not_not true = refl
-    not_not false = refl
+-- goals that hold the other sign of a mark were looked at
+abbrev GoalsWait : List (List Literal) → Literal → List Literal → List Literal → Type 0
+GoalsWait goals l old g = (s : List Literal) → Contains goals s → Contains s (negation l) → Waits (length old) g s
+
+-- a positive mark is on no goal
+pub no_goal_waits : (goals : List (List Literal)) (l : Literal) (old g : List Literal) → ArePositive goals → l.positive ≡ true → GoalsWait goals l old g
+no_goal_waits goals l old g positive sign s c m =
+    let other : not l.positive ≡ true = All-contains (λ k. k.positive ≡ true) s (negation l) (All-contains (λ s. All (λ k. k.positive ≡ true) s) goals s positive c) m in
+    absurd (cc (other, sign))
+
+pub each_goal_waits : (goals : List (List Literal)) (l : Literal) (old g : List Literal) → All (Waits (length old) g) goals → GoalsWait goals l old g
+each_goal_waits goals l old g waits s c m = All-contains (Waits (length old) g) goals s waits c
 
 -- the sentences that hold the other sign of a mark, when goals and clauses were looked at
-goals_wait : (goals own : List (List Literal)) (old g b s : List Literal) → Runs goals old g → All (Waits (length old) g) goals → Runs own g b → Contains goals s → Waits (length old) b s
-goals_wait goals own old g b s r waits r' c = waits_after goals old g b s own r r' (All-contains (Waits (length old) g) goals s waits c)
+goals_wait : (goals own : List (List Literal)) (l : Literal) (old g b s : List Literal) → Runs goals old g → GoalsWait goals l old g → Runs own g b → Contains goals s → Contains s (negation l) → Waits (length old) b s
+goals_wait goals own l old g b s r waits r' c m = waits_after goals old g b s own r r' (waits s c m)
 
-own_wait : (n : ℕ) (goals own : List (List Literal)) (uses : List (List ℕ)) (l : Literal) (old g b s : List Literal) (row : List ℕ) → IsTable n uses own → row ≡ get_or uses (flag_place l) [] → Runs goals old g
-    → All (λ k. Waits (length g) b (get_or own k [])) row → Contains own s → Contains s (negation l) → Waits (length old) b s
+own_wait : (n : ℕ) (goals own : List (List Literal)) (uses : List (List Use)) (l : Literal) (old g b s : List Literal) (row : List Use) → IsTable n uses own → row ≡ get_or uses (flag_place l) [] → Runs goals old g
+    → All (λ u. Waits (length g) b (get_or own u.sentence [])) row → Contains own s → Contains s (negation l) → Waits (length old) b s
 own_wait n goals own uses l old g b s row table e r waits c m =
     let is : get_or own c.0 [] ≡ s = sym (get_or_default own c.0 s [] c.1) ∙ c.2 in
-    let listed : Contains (get_or uses (flag_place (negation (negation l))) []) c.0 = table.listed c.0 (negation l) c.1 (subst (λ z. Contains z (negation l)) (sym is) m) in
-    let in_row : Contains row c.0 = rw e (subst (λ z. Contains (get_or uses (flag_place z) []) c.0) (negation_twice l) listed) in
-    waits_later (length old) (length g) b s (runs_longer goals old g r) (subst (λ z. Waits (length g) b z) is (All-contains (λ k. Waits (length g) b (get_or own k [])) row c.0 waits in_row))
+    let listed : Names (get_or uses (flag_place (negation (negation l))) []) c.0 = table.listed c.0 (negation l) c.1 (subst (λ z. Contains z (negation l)) (sym is) m) in
+    let in_row : Contains row listed.0 = rw e (subst (λ z. Contains (get_or uses (flag_place z) []) listed.0) (negation_twice l) listed.1) in
+    let at : get_or own listed.0.sentence [] ≡ s = ap (λ k. get_or own k []) listed.2 ∙ is in
+    waits_later (length old) (length g) b s (runs_longer goals old g r) (subst (λ z. Waits (length g) b z) at (All-contains (λ u. Waits (length g) b (get_or own u.sentence [])) row listed.0 waits in_row))
 
 pair_holds : (p q : ℕ) (m : Literal) → Contains (conflict_sentence p q) m → (m ≡ literal p false) ⊎ (m ≡ literal q false)
 pair_holds p q m c = elim (In_cases (contains_in (conflict_sentence p q) m c)) [
@@ -95,11 +105,11 @@ pair_holds p q m c = elim (In_cases (contains_in (conflict_sentence p q) m c)) [
   | inr i ↦ elim (In_cases i) [ inl e ↦ inr e | inr none ↦ absurd (In_none none) ]
 ]
 
-pub mark_negative : (n : ℕ) (goals own : List (List Literal)) (uses conflicts : List (List ℕ)) (l : Literal) (old g b : List Literal) (row : List ℕ) → IsEngine n goals own uses conflicts → l.positive ≡ false
-    → row ≡ get_or uses (flag_place l) [] → Runs goals old g → All (Waits (length old) g) goals → Runs own g b → All (λ k. Waits (length g) b (get_or own k [])) row
+pub mark_negative : (n : ℕ) (goals own : List (List Literal)) (uses : List (List Use)) (conflicts : List (List ℕ)) (l : Literal) (old g b : List Literal) (row : List Use) → IsEngine n goals own uses conflicts → l.positive ≡ false
+    → row ≡ get_or uses (flag_place l) [] → Runs goals old g → GoalsWait goals l old g → Runs own g b → All (λ u. Waits (length g) b (get_or own u.sentence [])) row
     → (s : List Literal) → Contains (whole_form goals own conflicts) s → Contains s (negation l) → Waits (length old) b s
 mark_negative n goals own uses conflicts l old g b row engine sign e r waits r' waits' s c m = elim (whole_cases goals own conflicts s c) [
-  | inl here ↦ goals_wait goals own old g b s r waits r' here
+  | inl here ↦ goals_wait goals own l old g b s r waits r' here m
   | inr rest ↦ elim rest [
     | inl here ↦ own_wait n goals own uses l old g b s row engine.table e r waits' here m
     | inr pair ↦ absurd (elim (pair_holds pair.p pair.q (negation l) (subst (λ z. Contains z (negation l)) pair.is m)) [
@@ -115,12 +125,12 @@ mark_negative n goals own uses conflicts l old g b row engine sign e r waits r' 
 not_true : (d : List Literal) (q : ℕ) → IsConsistent (among d) → among d (literal q false) ≡ true → among d (negation (literal q false)) ≡ false
 not_true d q consistent h = false_from_ne_true (among d (literal q true)) (λ t. consistent (literal q true) t h)
 
-pub mark_positive : (n : ℕ) (goals own : List (List Literal)) (uses conflicts : List (List ℕ)) (l : Literal) (old g b d : List Literal) (row others : List ℕ) → IsEngine n goals own uses conflicts
-    → row ≡ get_or uses (flag_place l) [] → others ≡ get_or conflicts l.class [] → Runs goals old g → All (Waits (length old) g) goals → Runs own g b → All (λ k. Waits (length g) b (get_or own k [])) row
+pub mark_positive : (n : ℕ) (goals own : List (List Literal)) (uses : List (List Use)) (conflicts : List (List ℕ)) (l : Literal) (old g b d : List Literal) (row : List Use) (others : List ℕ) → IsEngine n goals own uses conflicts
+    → row ≡ get_or uses (flag_place l) [] → others ≡ get_or conflicts l.class [] → Runs goals old g → GoalsWait goals l old g → Runs own g b → All (λ u. Waits (length g) b (get_or own u.sentence [])) row
     → Runs (map (conflict_sentence l.class) others) b d → All (λ q. among d (literal q false) ≡ true) others
     → (s : List Literal) → Contains (whole_form goals own conflicts) s → Contains s (negation l) → Waits (length old) d s
 mark_positive n goals own uses conflicts l old g b d row others engine e f r waits r' waits' r'' excluded s c m = elim (whole_cases goals own conflicts s c) [
-  | inl here ↦ grow (goals_wait goals own old g b s r waits r' here)
+  | inl here ↦ grow (goals_wait goals own l old g b s r waits r' here m)
   | inr rest ↦ elim rest [
     | inl here ↦ grow (own_wait n goals own uses l old g b s row engine.table e r waits' here m)
     | inr pair ↦ inl (elim (pair_holds pair.p pair.q (negation l) (subst (λ z. Contains z (negation l)) pair.is m)) [

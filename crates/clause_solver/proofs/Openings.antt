@@ -5,85 +5,88 @@ use Rattle.std.specs.List.{find}
 use Rattle.std.proofs.lemmas.Bool.{cases_Bool, both_ways, false_from_ne_true}
 use Rattle.std.proofs.lemmas.List.{take_all}
 use Rattle.std.proofs.lemmas.List.Elements.{All-contains, All-more, Contains-get_or}
+use Rattle.listed.proofs.Lists.{contains_in}
 use Rattle.search_terms.specs.declared.literals.Literal.{Literal}
 use Rattle.search_terms.specs.Closure.{literal, negation}
 use Rattle.search_terms.specs.Marks.{flag_place}
 use Rattle.search_terms.specs.Tree.{is_open_need}
-use Rattle.search_terms.proofs.Lists.{contains_in}
 use Rattle.row_book.proofs.Lists.{all_at}
 use Rattle.clause_solver.specs.Marking.{among}
 use Rattle.clause_solver.specs.Engine.{IsTable}
 use Rattle.clause_solver.specs.Nodes.{HaveNegative, IsLeastOpen}
+use Rattle.clause_solver.specs.declared.table.Use.{Use}
 use Rattle.clause_solver.proofs.Running.{among_contains}
 
 abbrev pub at : List (List Literal) → ℕ → List Literal
 at own k = get_or own k []
 
 -- what holds of all elements of a front and of the next one
-contains_take : (row : List ℕ) (i k : ℕ) → i < length row → Contains (take (i + 1) row) k → Contains (take i row) k ⊎ (k ≡ get_or row i 0)
-contains_take row i k lt c = All-contains (λ x. Contains (take i row) x ⊎ (x ≡ get_or row i 0)) (take (i + 1) row) k
-    (All-more (λ x. Contains (take i row) x ⊎ (x ≡ get_or row i 0)) row i 0 lt (λ j d jlt. inl (Contains-get_or (take i row) j d jlt)) (inr refl)) c
+contains_take : (row : List Use) (i : ℕ) (d u : Use) → i < length row → Contains (take (i + 1) row) u → Contains (take i row) u ⊎ (u ≡ get_or row i d)
+contains_take row i d u lt c = All-contains (λ x. Contains (take i row) x ⊎ (x ≡ get_or row i d)) (take (i + 1) row) u
+    (All-more (λ x. Contains (take i row) x ⊎ (x ≡ get_or row i d)) row i d lt (λ j e jlt. inl (Contains-get_or (take i row) j e jlt)) (inr refl)) c
 
-pub least_begin : (set : Literal → Bool) (own : List (List Literal)) (row : List ℕ) (before : ℕ) → IsLeastOpen set own (take 0 row) before before
-least_begin set own row before = record { lower = omega arith; opens = inl refl; none = λ k c lt. absurd (omega (arith, c.1)) }
+pub least_begin : (set : Literal → Bool) (own : List (List Literal)) (row : List Use) (before : ℕ) → IsLeastOpen set own (take 0 row) before before
+least_begin set own row before = record { lower = omega arith; opens = inl refl; none = λ u c lt. absurd (omega (arith, c.1)) }
 
-pub least_skip : (set : Literal → Bool) (own : List (List Literal)) (row : List ℕ) (before least i : ℕ) → i < length row
-    → ((get_or row i 0 < least) → is_open_need set (at own (get_or row i 0)) ≡ false) → IsLeastOpen set own (take i row) before least → IsLeastOpen set own (take (i + 1) row) before least
-least_skip set own row before least i lt closed inv = record {
+pub least_skip : (set : Literal → Bool) (own : List (List Literal)) (row : List Use) (before least i : ℕ) (d u : Use) → i < length row → u ≡ get_or row i d
+    → (u.sentence < least → is_open_need set (at own u.sentence) ≡ false) → IsLeastOpen set own (take i row) before least → IsLeastOpen set own (take (i + 1) row) before least
+least_skip set own row before least i d u lt is closed inv = record {
   lower = inv.lower;
   opens = inv.opens;
-  none = λ k c klt. elim (contains_take row i k lt c) [
-    | inl old ↦ inv.none k old klt
-    | inr e ↦ rw e (closed (rw e at klt))
+  none = λ v c vlt. elim (contains_take row i d v lt c) [
+    | inl old ↦ inv.none v old vlt
+    | inr e ↦
+        let same_one : v ≡ u = e ∙ sym is in
+        subst (λ z. is_open_need set (at own z.sentence) ≡ false) (sym same_one) (closed (subst (λ z. z.sentence < least) same_one vlt))
   ];
 }
 
-pub least_take : (set : Literal → Bool) (own : List (List Literal)) (row : List ℕ) (before least i : ℕ) → i < length row
-    → get_or row i 0 < least → is_open_need set (at own (get_or row i 0)) ≡ true → IsLeastOpen set own (take i row) before least → IsLeastOpen set own (take (i + 1) row) before (get_or row i 0)
-least_take set own row before least i lt less opens inv = record {
+pub least_take : (set : Literal → Bool) (own : List (List Literal)) (row : List Use) (before least i : ℕ) (d u : Use) → i < length row → u ≡ get_or row i d
+    → u.sentence < least → is_open_need set (at own u.sentence) ≡ true → IsLeastOpen set own (take i row) before least → IsLeastOpen set own (take (i + 1) row) before u.sentence
+least_take set own row before least i d u lt is less opens inv = record {
   lower = let x = inv.lower in omega (arith, x, less);
   opens = inr opens;
-  none = λ k c klt. elim (contains_take row i k lt c) [
-    | inl old ↦ inv.none k old (omega (arith, klt, less))
-    | inr e ↦ absurd (omega (arith, klt, e))
+  none = λ v c vlt. elim (contains_take row i d v lt c) [
+    | inl old ↦ inv.none v old (omega (arith, vlt, less))
+    | inr e ↦ absurd (let same_one : v.sentence ≡ u.sentence = ap (λ z. z.sentence) (e ∙ sym is) in omega (arith, vlt, same_one))
   ];
 }
 
-pub least_end : (set : Literal → Bool) (own : List (List Literal)) (row : List ℕ) (before least i : ℕ) → length row ≤ i → IsLeastOpen set own (take i row) before least → IsLeastOpen set own row before least
+pub least_end : (set : Literal → Bool) (own : List (List Literal)) (row : List Use) (before least i : ℕ) → length row ≤ i → IsLeastOpen set own (take i row) before least → IsLeastOpen set own row before least
 least_end set own row before least i le inv = subst (λ r. IsLeastOpen set own r before least) (take_all i row le) inv
 
 -- the rows of the true literals so far have no open sentence below the least
-pub record IsSwept (set : Literal → Bool) (own : List (List Literal)) (uses : List (List ℕ)) (seen : List Literal) (least : ℕ) : Type 0 where
+pub record IsSwept (set : Literal → Bool) (own : List (List Literal)) (uses : List (List Use)) (seen : List Literal) (least : ℕ) : Type 0 where
   pub within : least ≤ length own
   pub opens : (least ≡ length own) ⊎ (is_open_need set (at own least) ≡ true)
-  pub none : All (λ l. l.positive ≡ true → (k : ℕ) → Contains (get_or uses (flag_place l) []) k → k < least → is_open_need set (at own k) ≡ false) seen
+  pub none : All (λ l. l.positive ≡ true → (u : Use) → Contains (get_or uses (flag_place l) []) u → u.sentence < least → is_open_need set (at own u.sentence) ≡ false) seen
 
-pub swept_begin : (set : Literal → Bool) (own : List (List Literal)) (uses : List (List ℕ)) (trail : List Literal) → IsSwept set own uses (take 0 trail) (length own)
+pub swept_begin : (set : Literal → Bool) (own : List (List Literal)) (uses : List (List Use)) (trail : List Literal) → IsSwept set own uses (take 0 trail) (length own)
 swept_begin set own uses trail = record { within = omega arith; opens = inl refl; none = λ j d lt. absurd (omega arith) }
 
-pub swept_skip : (set : Literal → Bool) (own : List (List Literal)) (uses : List (List ℕ)) (trail : List Literal) (least i : ℕ) (l : Literal) → i < length trail → l ≡ get_or trail i l → l.positive ≡ false
+pub swept_skip : (set : Literal → Bool) (own : List (List Literal)) (uses : List (List Use)) (trail : List Literal) (least i : ℕ) (l : Literal) → i < length trail → l ≡ get_or trail i l → l.positive ≡ false
     → IsSwept set own uses (take i trail) least → IsSwept set own uses (take (i + 1) trail) least
 swept_skip set own uses trail least i l lt e sign inv = record {
   within = inv.within;
   opens = inv.opens;
-  none = All-more (λ m. m.positive ≡ true → (k : ℕ) → Contains (get_or uses (flag_place m) []) k → k < least → is_open_need set (at own k) ≡ false) trail i l lt inv.none (rw (← e) (λ t. absurd (cc (t, sign))));
+  none = All-more (λ m. m.positive ≡ true → (u : Use) → Contains (get_or uses (flag_place m) []) u → u.sentence < least → is_open_need set (at own u.sentence) ≡ false) trail i l lt inv.none (rw (← e) (λ t. absurd (cc (t, sign))));
 }
 
-pub swept_more : (set : Literal → Bool) (own : List (List Literal)) (uses : List (List ℕ)) (trail : List Literal) (least less i : ℕ) (l : Literal) (row : List ℕ) → i < length trail → l ≡ get_or trail i l
+pub swept_more : (set : Literal → Bool) (own : List (List Literal)) (uses : List (List Use)) (trail : List Literal) (least less i : ℕ) (l : Literal) (row : List Use) → i < length trail → l ≡ get_or trail i l
     → row ≡ get_or uses (flag_place l) [] → IsLeastOpen set own row least less → IsSwept set own uses (take i trail) least → IsSwept set own uses (take (i + 1) trail) less
 swept_more set own uses trail least less i l row lt e r found inv = record {
   within = let x = inv.within in let y = found.lower in omega (arith, x, y);
   opens = elim found.opens [ inl same_one ↦ rw same_one inv.opens | inr o ↦ inr o ];
-  none = All-more (λ m. m.positive ≡ true → (k : ℕ) → Contains (get_or uses (flag_place m) []) k → k < less → is_open_need set (at own k) ≡ false) trail i l lt
-      (λ j d jlt t k c klt. inv.none j d jlt t k c (let y = found.lower in omega (arith, klt, y)))
-      (rw (← e) (λ t k c klt. found.none k (rw r c) klt));
+  none = All-more (λ m. m.positive ≡ true → (u : Use) → Contains (get_or uses (flag_place m) []) u → u.sentence < less → is_open_need set (at own u.sentence) ≡ false) trail i l lt
+      (λ j d jlt t u c ult. inv.none j d jlt t u c (let y = found.lower in omega (arith, ult, y)))
+      (rw (← e) (λ t u c ult. found.none u (rw r c) ult));
 }
 
 -- an open sentence has a true class
 open_true : (set : Literal → Bool) (s : List Literal) (p : ℕ) → is_open_need set s ≡ true → Contains s (literal p false) → set (literal p true) ≡ true
 open_true set s p o c = all_at (λ l. cond l.positive (not (set l)) (set (negation l))) s o (literal p false) (contains_in s (literal p false) c)
 
-pub swept_end : (n : ℕ) (own : List (List Literal)) (uses : List (List ℕ)) (trail seen : List Literal) (least i : ℕ) → IsTable n uses own → HaveNegative own → seen ≡ trail → length seen ≤ i
+pub swept_end : (n : ℕ) (own : List (List Literal)) (uses : List (List Use)) (trail seen : List Literal) (least i : ℕ) → IsTable n uses own → HaveNegative own → seen ≡ trail → length seen ≤ i
     → IsSwept (among trail) own uses (take i seen) least → (k : ℕ) → k < least → is_open_need (among trail) (at own k) ≡ false
 swept_end n own uses trail seen least i table negative e le inv k klt = false_from_ne_true (is_open_need (among trail) (at own k)) (λ o.
     let in_own : k < length own = (let x = inv.within in omega (arith, klt, x)) in
@@ -91,9 +94,10 @@ swept_end n own uses trail seen least i table negative e le inv k klt = false_fr
     let t = open_true (among trail) (at own k) neg.0 o neg.1 in
     let there_it_is : Contains trail (literal neg.0 true) = among_contains trail (literal neg.0 true) t in
     let all = rw (take_all i seen le, e) at inv.none in
-    let f = All-contains (λ l. l.positive ≡ true → (j : ℕ) → Contains (get_or uses (flag_place l) []) j → j < least → is_open_need (among trail) (at own j) ≡ false) trail (literal neg.0 true) all there_it_is refl k
-    (table.listed k (literal neg.0 false) in_own neg.1) klt in
-    both_ways (is_open_need (among trail) (at own k)) f o)
+    let w = table.listed k (literal neg.0 false) in_own neg.1 in
+    let f = All-contains (λ l. l.positive ≡ true → (u : Use) → Contains (get_or uses (flag_place l) []) u → u.sentence < least → is_open_need (among trail) (at own u.sentence) ≡ false) trail (literal neg.0 true) all there_it_is refl w.0
+    w.1 (rw w.2 klt) in
+    both_ways (is_open_need (among trail) (at own k)) (subst (λ j. is_open_need (among trail) (at own j) ≡ false) w.2 f) o)
 
 pub find_at : (p : List Literal → Bool) (xs : List (List Literal)) (k : ℕ) → ((j : ℕ) → j < k → p (at xs j) ≡ false) → (k < length xs → p (at xs k) ≡ true) → k ≤ length xs → find p xs ≡ slice_get xs k
 find_at p [] k none some le = refl

@@ -4,6 +4,7 @@ use Rattle.std.specs.Prelude.{All, Contains, map}
 use Rattle.std.proofs.lemmas.Bool.{both_ways}
 use Rattle.std.proofs.lemmas.List.{get_or_default}
 use Rattle.std.proofs.lemmas.List.Elements.{All-nil, All-weaker, Contains-get_or}
+use Rattle.listed.proofs.Lists.{contains_in}
 use Rattle.clause_pool.specs.Interned.{Interned, row_at}
 use Rattle.row_book.specs.Sets.{In, has}
 use Rattle.row_book.specs.Repository.{Repository}
@@ -16,7 +17,6 @@ use Rattle.search_terms.specs.Closure.{literal, negation, InRange, Clashes, InCl
 use Rattle.search_terms.specs.Form.{goal_sentence, clause_sentence, owned_sentences, form}
 use Rattle.search_terms.specs.Tree.{Tree, IsTree, failed_leaves, log_of}
 use Rattle.search_terms.specs.Marks.{true_classes}
-use Rattle.search_terms.proofs.Lists.{contains_in}
 use Rattle.search_terms.proofs.Sets.{Contains-head}
 use Rattle.search_terms.proofs.Exists.{tree_exists, fails_whole, log_ranged}
 use Rattle.search_terms.proofs.Certificates.{tree_derives}
@@ -29,7 +29,8 @@ use Rattle.clause_solver.specs.declared.outcomes.Verdict.TheVariants.{Yes, No}
 use Rattle.clause_solver.specs.declared.outcomes.Outcome.{Outcome}
 use Rattle.clause_solver.specs.declared.outcomes.Outcome.TheVariants.{Found, Refuted, Spent}
 use Rattle.clause_solver.specs.Engine.{whole_form, IsTable, ConflictsFit, IsEngine}
-use Rattle.clause_solver.specs.Nodes.{AreFull, HaveNegative}
+use Rattle.clause_solver.specs.declared.table.Use.{Use}
+use Rattle.clause_solver.specs.Nodes.{AreFull, ArePositive, HaveNegative}
 use Rattle.clause_solver.specs.Solvers.{AreApart}
 use Rattle.clause_solver.specs.Marking.{among}
 use Rattle.clause_solver.specs.Verdicts.{IsSearchVerdict, Ends, EndsSearch}
@@ -62,7 +63,7 @@ conflicts_fit n conflicts sound long = record {
 pub apart_of : (conflicts : List (List ℕ)) → AreConflicts conflicts → AreApart conflicts
 apart_of conflicts sound p i = both_ways (has (listed_for conflicts p) p) (sound.apart p) (In_has i)
 
-pub engine_of : (pool : Interned) (rows : List ℕ) (conflicts : List (List ℕ)) (n : ℕ) (own : List (List Literal)) (uses : List (List ℕ)) → RowsFit pool rows → AreConflicts conflicts → length conflicts ≡ length rows → n ≡ length rows
+pub engine_of : (pool : Interned) (rows : List ℕ) (conflicts : List (List ℕ)) (n : ℕ) (own : List (List Literal)) (uses : List (List Use)) → RowsFit pool rows → AreConflicts conflicts → length conflicts ≡ length rows → n ≡ length rows
     → own ≡ owned_sentences clause_sentence 0 (map (row_at pool) rows) → IsTable n uses own → IsEngine n [] own uses conflicts
 engine_of pool rows conflicts n own uses fit sound paired size e table = record {
   goals_ranged = All-nil (λ s. All (λ l. l.class < n) s);
@@ -81,7 +82,18 @@ goals_full goals needs = λ k d lt.
     first_member [] lt = absurd (omega arith)
     first_member (c ∷ g) lt = (literal c true, Contains-head (literal c true) (goal_sentence g))
 
-pub engine_goals : (n m : ℕ) (goals : List (List ℕ)) (wanted own : List (List Literal)) (uses conflicts : List (List ℕ)) → wanted ≡ map goal_sentence goals → n ≡ m → NeedsFit m goals → IsEngine n [] own uses conflicts → IsEngine n wanted own uses conflicts
+-- and no negative literal
+pub goals_positive : (goals : List (List ℕ)) → ArePositive (map goal_sentence goals)
+goals_positive goals = λ k d lt.
+    let w = from_map goal_sentence goals (get_or (map goal_sentence goals) k d) (contains_in (map goal_sentence goals) (get_or (map goal_sentence goals) k d) (Contains-get_or (map goal_sentence goals) k d lt)) in
+    rw w.2 (members_positive w.0)
+  where
+    members_positive : (g : List ℕ) → All (λ l. l.positive ≡ true) (goal_sentence g)
+    members_positive g = λ k d lt.
+        let w = from_map (λ c. literal c true) g (get_or (goal_sentence g) k d) (contains_in (goal_sentence g) (get_or (goal_sentence g) k d) (Contains-get_or (goal_sentence g) k d lt)) in
+        ap (λ l. l.positive) w.2
+
+pub engine_goals : (n m : ℕ) (goals : List (List ℕ)) (wanted own : List (List Literal)) (uses : List (List Use)) (conflicts : List (List ℕ)) → wanted ≡ map goal_sentence goals → n ≡ m → NeedsFit m goals → IsEngine n [] own uses conflicts → IsEngine n wanted own uses conflicts
 engine_goals n m goals wanted own uses conflicts e size are engine = record {
   goals_ranged = rw (e, size) (goals_ranged m goals are);
   own_ranged = engine.own_ranged;

@@ -3,22 +3,24 @@ use Rattle.std.proofs.Common.{◌≡◌, ℕ, zero, suc, ◌+◌, ◌<◌, ◌�
 use Rattle.std.specs.Prelude.{All, Contains, map}
 use Rattle.std.specs.List.{find}
 use Rattle.std.proofs.lemmas.Bool.{or_cases, or_left, or_right, and_from, and_parts, both_ways, not-true, not-false, false_from_ne_true}
-use Rattle.std.proofs.lemmas.List.{length-append, take_all, get_or_default}
+use Rattle.std.proofs.lemmas.List.{length-append, take_all}
 use Rattle.std.proofs.lemmas.List.Elements.{All-contains, All-more, All-weaker, All-head, All-tail, Contains-append_left, Contains-append_right, Contains-append_cases, Contains-get_or}
+use Rattle.listed.proofs.Lists.{contains_in, in_contains}
+use Rattle.listed.proofs.Bools.{cases_Option}
 use Rattle.row_book.proofs.Lists.{any_cases, any_from, In_at}
 use Rattle.search_terms.specs.Form.{conflict_sentence}
 use Rattle.search_terms.proofs.Forms.{in_map}
 use Rattle.search_terms.specs.declared.literals.Literal.{Literal}
 use Rattle.search_terms.specs.Closure.{literal, negation, is_same, forces, is_refuted, IsMet, IsClosed}
-use Rattle.search_terms.specs.Marks.{IsConsistent}
-use Rattle.search_terms.proofs.Lists.{contains_in, in_contains}
+use Rattle.search_terms.specs.Marks.{flag_place, IsConsistent}
 pub use Rattle.search_terms.proofs.Lists.{item_at}
 use Rattle.search_terms.proofs.Sets.{find_some, find_none, forces_mono, Contains-head}
 use Rattle.search_terms.proofs.Models.{same-true}
 use Rattle.search_terms.proofs.Certificates.{same_refl}
-use Rattle.search_terms.proofs.Exists.{cases_Option}
 use Rattle.clause_solver.specs.Marking.{among}
 use Rattle.clause_solver.specs.Running.{Runs, Waits}
+use Rattle.clause_solver.specs.Engine.{HasTwoFree, IsUse}
+use Rattle.clause_solver.specs.declared.table.Use.{Use}
 use Rattle.clause_solver.proofs.Trails.{among_last, among_cases}
 
 pub among_contains : (trail : List Literal) (l : Literal) → among trail l ≡ true → Contains trail l
@@ -217,12 +219,29 @@ sweep_waits P old cur new s i lt e a b met before =
 pub sweep_end : {X : Type 0} (Q : X → Type 0) (xs : List X) (i : ℕ) → length xs ≤ i → All Q (take i xs) → All Q xs
 sweep_end Q xs i le h = rw (take_all i xs le) at h
 
-pub row_waits : (P : List (List Literal)) (row : List ℕ) (old cur new s : List Literal) (i : ℕ) → i < length row → get_or row i 0 < length P → s ≡ get_or P (get_or row i 0) s → Runs P old cur → Runs (s ∷ []) cur new → IsMet (among new) s
-    → All (λ k. Waits (length old) cur (get_or P k [])) (take i row) → All (λ k. Waits (length old) new (get_or P k [])) (take (i + 1) row)
-row_waits P row old cur new s i lt klt e a b met before =
-    All-more (λ k. Waits (length old) new (get_or P k [])) row i 0 lt
-    (All-weaker (λ k. Waits (length old) cur (get_or P k [])) (λ k. Waits (length old) new (get_or P k [])) (λ k w. waits_after P old cur new (get_or P k []) (s ∷ []) a b w) (take i row) before)
-    (subst (λ z. Waits (length old) new z) (e ∙ get_or_default P (get_or row i 0) s [] klt) (inl met))
+-- what stands where there is no use
+abbrev pub no_use : Use
+no_use = record { sentence = 0; one = 0; other = 0 }
+
+-- one use of those looked at in turn
+pub row_waits : (P : List (List Literal)) (row : List Use) (old cur new : List Literal) (i : ℕ) (d : Use) → i < length row → Runs P old cur
+    → Runs (get_or P (get_or row i d).sentence [] ∷ []) cur new → IsMet (among new) (get_or P (get_or row i d).sentence [])
+    → All (λ u. Waits (length old) cur (get_or P u.sentence [])) (take i row) → All (λ u. Waits (length old) new (get_or P u.sentence [])) (take (i + 1) row)
+row_waits P row old cur new i d lt a b met before =
+    All-more (λ u. Waits (length old) new (get_or P u.sentence [])) row i d lt
+    (All-weaker (λ u. Waits (length old) cur (get_or P u.sentence [])) (λ u. Waits (length old) new (get_or P u.sentence []))
+    (λ u w. waits_after P old cur new (get_or P u.sentence []) (get_or P (get_or row i d).sentence [] ∷ []) a b w) (take i row) before)
+    (inl met)
+
+-- a sentence with two literals that are not contradicted is met
+pub met_two_free : (set : Literal → Bool) (own : List (List Literal)) (u : Use) → IsUse own u → HasTwoFree set u → IsMet set (get_or own u.sentence [])
+met_two_free set own u of idle = λ i d lt h.
+    let k = get_or (get_or own u.sentence []) i d in
+    let is_k : (m : Literal) → Contains (get_or own u.sentence []) m → set (negation m) ≡ false → m ≡ k =
+    λ m here f. elim (forces_at set k (get_or own u.sentence []) m h here) [ inl e ↦ e | inr c ↦ absurd (both_ways (set (negation m)) f c) ] in
+    let first = is_k of.one.0 of.one.1 (idle.one (negation of.one.0) of.one.2) in
+    let second = is_k of.other.0 of.other.1 (idle.other (negation of.other.0) of.other.2) in
+    absurd (idle.apart (of.one.2 ∙ ap (λ m. flag_place (negation m)) (first ∙ sym second) ∙ sym of.other.2))
 
 -- the pair of a class and one that conflicts with it
 pub pair_in : (p : ℕ) (others : List ℕ) (i : ℕ) → i < length others → Contains (map (conflict_sentence p) others) (conflict_sentence p (get_or others i 0))

@@ -1,14 +1,15 @@
-use Rattle.std.proofs.Common.{◌≡◌, ℕ, zero, suc, ◌+◌, ◌*◌, ◌-◌, ◌<◌, ◌≤◌, Bool, true, false, cond, List, [], ◌∷◌, ◌++◌, refl, ap, sym, ◌∙◌, arith, Some, None, subst, append_assoc, zero-add}
+use Rattle.std.proofs.Common.{◌≡◌, ℕ, ◌+◌, ◌*◌, ◌-◌, ◌<◌, ◌≤◌, Bool, true, false, List, [], ◌∷◌, ◌++◌, refl, ap, sym, ◌∙◌, arith, Some, None, subst, append_assoc, zero-add}
 use Rattle.std.specs.Prelude.{map, All}
 use Rattle.std.specs.Prelude.{get_or}
 use Rattle.std.proofs.lemmas.List.Elements.{All-contains, Contains-append_left, Contains-get_or}
 use Rattle.search_terms.specs.declared.literals.Literal.{Literal}
 use Rattle.search_terms.specs.Closure.{literal, negation, Clashes}
 use Rattle.search_terms.specs.Tree.{Tree, IsTree, IsFoundLeaf, IsSplit, found_of, failed_leaves, log_of}
-use Rattle.search_terms.specs.Marks.{classes_left, is_decided}
+use Rattle.search_terms.specs.Marks.{classes_left}
 use Rattle.search_terms.specs.Tree.Tree.{failed_leaf, split}
 use Rattle.clause_solver.specs.Standing.{Stands, signs, StandsIn, StandsPast}
 use Rattle.search_terms.proofs.Shapes.{fails_shape, meets_shape, splits_shape}
+use Rattle.search_terms.proofs.Computed.{left_most}
 use Rattle.clause_solver.proofs.Standing.{stands_found, stands_fails, stands_down, stands_across, stands_is, stands_up_true, stands_up_false}
 
 pub snoc_same : {X : Type 0} (xs ys : List X) (x y : X) → xs ++ x ∷ [] ≡ ys ++ y ∷ [] → (xs ≡ ys) × (x ≡ y)
@@ -106,17 +107,9 @@ stack_refuted n budget failed formula log tree le past is =
     let entries : log ≡ log_of [] tree = p.entries ∙ ap (λ x. x ++ log_of [] p.sub) p.stands.3 ∙ ap (log_of []) p.stands.0 in
     (none, omega arith, entries)
 
-pub free_within : (n : ℕ) (decisions : List Literal) → classes_left n decisions ≤ n
-free_within zero decisions = omega arith
-free_within (suc n) decisions = let h = free_within n decisions in one (is_decided n decisions) (classes_left n decisions) n h
-  where
-    one : (b : Bool) (x n : ℕ) → x ≤ n → cond b 0 1 + x ≤ suc n
-    one true x n h = omega arith
-    one false x n h = omega arith
-
 pub fewer_left : (budget failed n : ℕ) (old new : List Literal) → failed < budget + 1 → (budget + 1 - (failed + 1)) * (n + 1) + classes_left n new < (budget + 1 - failed) * (n + 1) + classes_left n old
 fewer_left budget failed n old new lt =
-    let f = free_within n new in
+    let f = left_most n new in
     let e : budget + 1 - failed ≡ (budget + 1 - (failed + 1)) + 1 = omega arith in
     rw e (omega arith)
 

@@ -7,12 +7,14 @@ use Rattle.std.proofs.lemmas.List.Folds.{list_any-append}
 use Rattle.std.proofs.lemmas.List.Sums.{sum_by-set}
 use Rattle.std.proofs.lemmas.List.Elements.{All-contains, All-push, Contains-append_left, Contains-get_or, Contains-push}
 use Rattle.std.proofs.lemmas.Option.{slice_get_within}
+use Rattle.listed.proofs.Bools.{same_bool}
+use Rattle.listed.proofs.Lists.{at_end}
 use Rattle.search_terms.specs.declared.literals.Literal.{Literal}
 use Rattle.search_terms.specs.Closure.{is_same}
 use Rattle.search_terms.specs.Marks.{flag_place, is_marked}
 use Rattle.search_terms.proofs.Sets.{place_fits, marked_set, marked_more, place_injective}
 use Rattle.search_terms.proofs.Models.{same-true}
-use Rattle.search_terms.proofs.Certificates.{same_refl, at_end}
+use Rattle.search_terms.proofs.Certificates.{same_refl}
 use Rattle.clause_solver.specs.Marking.{among, EachOnce, IsMarked}
 
 pub among_push : (trail : List Literal) (l m : Literal) → among (trail ++ l ∷ []) m ≡ (among trail m || (is_same l m || false))
@@ -29,11 +31,6 @@ among_cases trail l m h = elim (or_cases (among trail m) (is_same l m || false) 
   | inl a ↦ inr a
   | inr b ↦ elim (or_cases (is_same l m) false b) [ inl e ↦ inl (sym (same-true l m e)) | inr n ↦ absurd (cc n) ]
 ]
-
-same_bool : (a b : Bool) → (a ≡ true → b ≡ true) → (b ≡ true → a ≡ true) → a ≡ b
-same_bool true b f g = sym (f refl)
-same_bool false true f g = g refl
-same_bool false false f g = refl
 
 get_left : (xs ys : List Literal) (k : ℕ) (l : Literal) → slice_get xs k ≡ Some l → slice_get (xs ++ ys) k ≡ Some l
 get_left [] ys k l h = absurd (cc h)

@@ -1,3 +1,4 @@
+-- for bodies alone, those of other crates too
 -- What a node is whose closure does not clash.
 use Rattle.std.specs.Prelude.{◌≡◌, ℕ, ◌<◌, ◌≤◌, Bool, true, false, List, [], ◌∷◌, ◌++◌, All, Contains, slice_index_or, ◌⊎◌}
 use Rattle.search_terms.specs.declared.literals.Literal.{Literal}
@@ -6,6 +7,7 @@ use Rattle.search_terms.specs.Tree.{IsFoundLeaf, IsSplit, is_open_need, is_undec
 use Rattle.search_terms.specs.Marks.{classes_left, true_classes}
 use Rattle.clause_solver.specs.Marking.{among}
 use Rattle.clause_solver.specs.declared.nodes.Node.{Node}
+use Rattle.clause_solver.specs.declared.table.Use.{Use}
 use Rattle.clause_solver.specs.declared.nodes.Node.TheVariants.{Met, Splits}
 
 -- the marks leave no need open, and so are those of a found leaf; or the node splits on a class, and each branch leaves fewer
@@ -22,15 +24,19 @@ IsNode classes formula decisions trail (Splits c) =
 abbrev pub HaveNegative : List (List Literal) → Type 0
 HaveNegative own = All (λ s. (p : ℕ) × Contains s (literal p false)) own
 
+-- no sentence has a negative literal
+abbrev pub ArePositive : List (List Literal) → Type 0
+ArePositive goals = All (λ s. All (λ l. l.positive ≡ true) s) goals
+
 -- no sentence is empty
 abbrev pub AreFull : List (List Literal) → Type 0
 AreFull formula = All (λ s. (l : Literal) × Contains s l) formula
 
--- of the sentences at the places of a row none below the least is open, and the least is, unless it is the one before
-pub record IsLeastOpen (set : Literal → Bool) (own : List (List Literal)) (row : List ℕ) (before least : ℕ) : Type 0 where
+-- of the sentences of a row none below the least is open, and the least is, unless it is the one before
+pub record IsLeastOpen (set : Literal → Bool) (own : List (List Literal)) (row : List Use) (before least : ℕ) : Type 0 where
   pub lower : least ≤ before
   pub opens : (least ≡ before) ⊎ (is_open_need set (slice_index_or own least []) ≡ true)
-  pub none : (k : ℕ) → Contains row k → k < least → is_open_need set (slice_index_or own k []) ≡ false
+  pub none : (u : Use) → Contains row u → u.sentence < least → is_open_need set (slice_index_or own u.sentence []) ≡ false
 
 -- a class on which a node splits is undecided
 abbrev pub IsUndecidedAt : List Literal → Node → Type 0

@@ -1,3 +1,4 @@
+-- for the bodies of this crate alone
 -- Propagation: sentences that are met, that wait for a mark to be looked at, or that are refuted.
 use Rattle.std.specs.Prelude.{◌≡◌, ℕ, Bool, true, List, ◌++◌, ◌⊎◌, drop, Contains}
 use Rattle.search_terms.specs.declared.literals.Literal.{Literal}

@@ -1,3 +1,4 @@
+-- for the bodies of this crate alone
 -- Where a walk of the tree stands that goes without recursion.
 use Rattle.std.specs.Prelude.{◌≡◌, ℕ, ◌+◌, Bool, true, false, List, [], ◌∷◌, ◌++◌, None, map}
 use Rattle.search_terms.specs.declared.literals.Literal.{Literal}

@@ -7,9 +7,11 @@ ghost use Rattle.search_terms.specs.Tree.{is_undecided};
 ghost use Rattle.clause_solver.specs.Marking.{among};
 ghost use Rattle.clause_solver.specs.Engine.{whole_form, IsEngine};
 ghost use Rattle.clause_solver.specs.Levels.{CalmAt};
+ghost use Rattle.clause_solver.specs.Nodes.{ArePositive};
 
 use crate::draining::drain;
 use crate::marks::Marks;
+use crate::table::Use;
 use clause_pool::NumList;
 use listed::Listed;
 use search_terms::{Literal, LiteralList};
@@ -21,10 +23,11 @@ pub(crate) fn assume(
     l: Literal,
     goals: &[LiteralList],
     own: &[LiteralList],
-    uses: &[Listed<usize>],
+    uses: &[Listed<Use>],
     conflicts: &[NumList],
 ) -> Result<bool, AllocError>
     requires engine { IsEngine marks.old.0 goals.now own.now uses.now conflicts.now }
+    requires positive { ArePositive goals.now }
     requires class { l.class < marks.old.0 }
     requires undecided { is_undecided (among marks.old.1) l ≡ true }
     requires calm { (decisions : List Literal) × CalmAt (whole_form goals.now own.now conflicts.now) decisions marks.old.1 }

@@ -6,13 +6,16 @@ mod draining;
 mod levels;
 mod marks;
 mod nodes;
-pub mod outcomes;
+mod outcomes;
 mod reading;
 mod settling;
-pub mod solver;
+mod solver;
 mod stack;
 mod table;
 
+// A search, or a solver that is asked many times.
 pub use outcomes::{Outcome, Verdict};
-pub use search_terms::{EntryList, Literal, LiteralList, Log};
 pub use solver::{Solver, search};
+
+// What a log is made of.
+pub use search_terms::{EntryList, Literal, LiteralList, Log};

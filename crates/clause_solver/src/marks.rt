@@ -1,5 +1,7 @@
 //! Marks that can be taken back.
 ghost use Rattle.std.specs.Prelude.{◌≡◌, ◌<◌, ◌≤◌, ◌+◌, ◌*◌, ◌∷◌, ◌++◌, [], length, take, false, IfOk, OnOk, OnErr, All};
+ghost use Rattle.search_terms.specs.declared.literals.Literal.{Literal};
+ghost use Rattle.search_terms.specs.Marks.{flag_place};
 ghost use Rattle.clause_solver.specs.Marking.{among, EachOnce};
 
 use search_terms::Literal;
@@ -43,6 +45,13 @@ impl Marks {
         ensures { result ≡ among self.now.1 l }
     {
         self.flags.get(l.place()).copied().unwrap_or(false)
+    }
+
+    /// Whether the flag is up.
+    pub(crate) fn is_up(&self, flag: usize) -> bool
+        ensures { (l : Literal) → flag ≡ flag_place l → result ≡ among self.now.1 l }
+    {
+        self.flags.get(flag).copied().unwrap_or(false)
     }
 
     /// The marked literals, in their order.

@@ -6,12 +6,13 @@ ghost use Rattle.search_terms.specs.declared.literals.Literal.{Literal};
 ghost use Rattle.search_terms.specs.Tree.{is_open_need};
 ghost use Rattle.search_terms.specs.Marks.{true_classes};
 ghost use Rattle.clause_solver.specs.Marking.{among};
-ghost use Rattle.clause_solver.specs.Engine.{whole_form, IsEngine, IsTable};
+ghost use Rattle.clause_solver.specs.Engine.{whole_form, IsEngine, IsTable, IsUse};
 ghost use Rattle.clause_solver.specs.Levels.{CalmAt};
 ghost use Rattle.clause_solver.specs.Nodes.{AreFull, HaveNegative, IsLeastOpen, IsNode, IsUndecidedAt};
 
 use crate::marks::Marks;
 use crate::reading::{is_open_need, undecided};
+use crate::table::Use;
 use clause_pool::NumList;
 use listed::Listed;
 use search_terms::{Literal, LiteralList};
@@ -26,26 +27,27 @@ pub(crate) enum Node {
     Splits(u32),
 }
 
-/// The least place of the row below another one at which a sentence is open, or else the other one.
-fn lesser_open(marks: &Marks, own: &[LiteralList], row: &[usize], before: usize) -> usize
-    requires { All (λ k. k < length own.now) row.now }
+/// The least place below another one of a sentence of the row that is open, or else the other one.
+fn lesser_open(marks: &Marks, own: &[LiteralList], row: &[Use], before: usize) -> usize
+    requires { All (IsUse own.now) row.now }
     ensures { IsLeastOpen (among marks.now.1) own.now row.now before result }
 {
     let mut least = before;
-    for k in row {
-        if *k >= least {
+    for entry in row {
+        let k = entry.sentence;
+        if k >= least {
             continue;
         }
-        if !is_open_need(marks, own[*k].as_slice()) {
+        if !is_open_need(marks, own[k].as_slice()) {
             continue;
         }
-        least = *k;
+        least = k;
     }
     least
 }
 
 /// The place of the first open sentence, or the number of sentences.
-fn first_open(marks: &Marks, own: &[LiteralList], uses: &[Listed<usize>]) -> usize
+fn first_open(marks: &Marks, own: &[LiteralList], uses: &[Listed<Use>]) -> usize
     requires table { IsTable marks.now.0 uses.now own.now }
     requires negative { HaveNegative own.now }
     ensures within { result ≤ length own.now }
@@ -75,7 +77,7 @@ fn open_goal<'a>(marks: &Marks, goals: &'a [LiteralList]) -> Option<&'a LiteralL
 fn open_own<'a>(
     marks: &Marks,
     own: &'a [LiteralList],
-    uses: &[Listed<usize>],
+    uses: &[Listed<Use>],
 ) -> Option<&'a LiteralList>
     requires table { IsTable marks.now.0 uses.now own.now }
     requires negative { HaveNegative own.now }
@@ -93,7 +95,7 @@ fn open_need<'a>(
     marks: &Marks,
     goals: &'a [LiteralList],
     own: &'a [LiteralList],
-    uses: &[Listed<usize>],
+    uses: &[Listed<Use>],
 ) -> Option<&'a LiteralList>
     requires table { IsTable marks.now.0 uses.now own.now }
     requires negative { HaveNegative own.now }
@@ -125,7 +127,7 @@ pub(crate) fn look(
     marks: &Marks,
     goals: &[LiteralList],
     own: &[LiteralList],
-    uses: &[Listed<usize>],
+    uses: &[Listed<Use>],
     conflicts: &[NumList],
 ) -> Node
     requires classes { marks.now.0 ≡ classes }

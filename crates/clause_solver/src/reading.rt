@@ -1,11 +1,13 @@
 //! What marks say of sentences.
-ghost use Rattle.std.specs.Prelude.{◌≡◌, not};
+ghost use Rattle.std.specs.Prelude.{◌≡◌, true, not};
 ghost use Rattle.std.specs.List.{find};
 ghost use Rattle.search_terms.specs.Closure.{negation, forces};
 ghost use Rattle.search_terms.specs.Tree.{is_open_need, is_undecided};
 ghost use Rattle.clause_solver.specs.Marking.{among};
+ghost use Rattle.clause_solver.specs.Engine.{HasTwoFree};
 
 use crate::marks::Marks;
+use crate::table::Use;
 use search_terms::Literal;
 
 /// The first literal that is not contradicted.
@@ -22,6 +24,13 @@ pub(crate) fn is_forced(marks: &Marks, l: Literal, sentence: &[Literal]) -> bool
     sentence
         .iter()
         .all(|m| m.is_same(l) || marks.has(m.negation()))
+}
+
+/// Whether the use keeps two flags and neither is up: the sentence has two literals then that are not contradicted.
+pub(crate) fn has_two_free(marks: &Marks, entry: Use) -> bool
+    ensures { result ≡ true → HasTwoFree (among marks.now.1) entry }
+{
+    entry.one != entry.other && !marks.is_up(entry.one) && !marks.is_up(entry.other)
 }
 
 pub(crate) fn is_open_need(marks: &Marks, sentence: &[Literal]) -> bool

@@ -5,10 +5,12 @@ ghost use Rattle.search_terms.specs.Closure.{literal, InRange, IsMet, is_refuted
 ghost use Rattle.search_terms.specs.Marks.{IsConsistent};
 ghost use Rattle.search_terms.specs.Form.{conflict_sentence};
 ghost use Rattle.clause_solver.specs.Marking.{among};
+ghost use Rattle.clause_solver.specs.Engine.{IsUse};
 ghost use Rattle.clause_solver.specs.Running.{HasRefuted, Runs, Waits};
 
 use crate::marks::Marks;
-use crate::reading::{first_free, is_forced};
+use crate::reading::{first_free, has_two_free, is_forced};
+use crate::table::Use;
 use search_terms::{Literal, LiteralList};
 use std::alloc::AllocError;
 
@@ -51,22 +53,39 @@ pub(crate) fn settle_all(marks: &mut Marks, sentences: &[LiteralList]) -> Result
     Ok(false)
 }
 
-/// Settles the sentences that the row names.
+/// Settles the sentence of a use; it is not read where two of its literals are not contradicted.
+fn settle_use(marks: &mut Marks, sentences: &[LiteralList], entry: Use) -> Result<bool, AllocError>
+    requires ranged { InRange marks.old.0 sentences.now }
+    requires consistent { IsConsistent (among marks.old.1) }
+    requires used { IsUse sentences.now entry }
+    ensures classes { OnOk result (marks.new.0 ≡ marks.old.0) }
+    ensures runs { OnOk result (Runs (slice_index_or sentences.now entry.sentence [] ∷ []) marks.old.1 marks.new.1) }
+    ensures met { IfOk result (λ clash. OnFalse clash (IsMet (among marks.new.1) (slice_index_or sentences.now entry.sentence []))) }
+    ensures refuted { IfOk result (λ clash. OnTrue clash (is_refuted (among marks.new.1) (slice_index_or sentences.now entry.sentence []) ≡ true)) }
+{
+    if has_two_free(marks, entry) {
+        return Ok(false);
+    }
+    let clash = settle(marks, sentences[entry.sentence].as_slice())?;
+    Ok(clash)
+}
+
+/// Settles the sentences of the row's uses.
 pub(crate) fn settle_row(
     marks: &mut Marks,
     sentences: &[LiteralList],
-    row: &[usize],
+    row: &[Use],
 ) -> Result<bool, AllocError>
     requires ranged { InRange marks.old.0 sentences.now }
     requires consistent { IsConsistent (among marks.old.1) }
-    requires row { All (λ k. k < length sentences.now) row.now }
+    requires row { All (IsUse sentences.now) row.now }
     ensures classes { OnOk result (marks.new.0 ≡ marks.old.0) }
     ensures runs { OnOk result (Runs sentences.now marks.old.1 marks.new.1) }
-    ensures waits { IfOk result (λ clash. OnFalse clash (All (λ k. Waits (length marks.old.1) marks.new.1 (slice_index_or sentences.now k [])) row.now)) }
+    ensures waits { IfOk result (λ clash. OnFalse clash (All (λ u. Waits (length marks.old.1) marks.new.1 (slice_index_or sentences.now u.sentence [])) row.now)) }
     ensures refuted { IfOk result (λ clash. OnTrue clash (HasRefuted sentences.now (among marks.new.1))) }
 {
-    for k in row {
-        if settle(marks, sentences[*k].as_slice())? {
+    for entry in row {
+        if settle_use(marks, sentences, *entry)? {
             return Ok(true);
         }
     }

@@ -5,7 +5,7 @@ ghost use Rattle.row_book.specs.Needs.{NeedsFit};
 ghost use Rattle.search_terms.specs.Closure.{InRange};
 ghost use Rattle.clause_solver.specs.Engine.{whole_form, IsEngine};
 ghost use Rattle.clause_solver.specs.Levels.{CalmAt, IsAt};
-ghost use Rattle.clause_solver.specs.Nodes.{AreFull, HaveNegative};
+ghost use Rattle.clause_solver.specs.Nodes.{AreFull, ArePositive, HaveNegative};
 ghost use Rattle.clause_solver.specs.Solvers.{AreApart};
 ghost use Rattle.clause_solver.specs.Outcomes.{IsBudget, IsCertified, IsDecided, IsSearchOutcome};
 
@@ -15,7 +15,7 @@ use crate::nodes::chosen;
 use crate::outcomes::{Outcome, Verdict};
 use crate::settling::settle_all;
 use crate::stack::walk;
-use crate::table::table_of;
+use crate::table::{Use, table_of};
 use clause_pool::{NumList, Pool};
 use listed::Listed;
 use row_book::{Book, Needs};
@@ -28,7 +28,7 @@ use std::alloc::{AllocError, Global};
 pub struct Solver {
     classes: u32,
     own: Vec<LiteralList>,
-    uses: Vec<Listed<usize>>,
+    uses: Vec<Listed<Use>>,
     base: Marks,
     dead: bool,
 }
@@ -37,7 +37,7 @@ pub struct Solver {
 fn first_pass(
     marks: &mut Marks,
     own: &[LiteralList],
-    uses: &[Listed<usize>],
+    uses: &[Listed<Use>],
     conflicts: &[NumList],
 ) -> Result<bool, AllocError>
     requires engine { IsEngine marks.old.0 [] own.now uses.now conflicts.now }
@@ -61,10 +61,11 @@ fn root(
     marks: &mut Marks,
     goals: &[LiteralList],
     own: &[LiteralList],
-    uses: &[Listed<usize>],
+    uses: &[Listed<Use>],
     conflicts: &[NumList],
 ) -> Result<bool, AllocError>
     requires engine { IsEngine marks.old.0 goals.now own.now uses.now conflicts.now }
+    requires positive { ArePositive goals.now }
     requires base { CalmAt (whole_form [] own.now conflicts.now) [] marks.old.1 }
     ensures classes { OnOk result (marks.new.0 ≡ marks.old.0) }
     ensures at { IfOk result (λ clash. IsAt clash (whole_form goals.now own.now conflicts.now) [] [] marks.new.1) }
@@ -208,10 +209,11 @@ fn start(
     marks: &mut Marks,
     goals: &[LiteralList],
     own: &[LiteralList],
-    uses: &[Listed<usize>],
+    uses: &[Listed<Use>],
     conflicts: &[NumList],
 ) -> Result<bool, AllocError>
     requires engine { IsEngine marks.old.0 goals.now own.now uses.now conflicts.now }
+    requires positive { ArePositive goals.now }
     requires base { IsAt dead (whole_form [] own.now conflicts.now) [] [] marks.old.1 }
     ensures classes { OnOk result (marks.new.0 ≡ marks.old.0) }
     ensures at { IfOk result (λ clash. IsAt clash (whole_form goals.now own.now conflicts.now) [] [] marks.new.1) }

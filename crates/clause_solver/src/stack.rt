@@ -1,11 +1,14 @@
 //! The walk of the tree, by a stack of decisions with their heights.
+//!
+//! Depth first, true before false, and nothing is learnt: the tree is specified, and its failed leaves are the budget, so no
+//! other order may be taken.
 ghost use Rattle.std.specs.Prelude.{◌≡◌, ◌+◌, ◌-◌, ◌<◌, ◌≤◌, ◌^◌, ◌∷◌, ◌++◌, [], ℕ, true, false, List, All, OnOk, IfOk, IfSome, IfNone, length, map};
 ghost use Rattle.search_terms.specs.declared.literals.Literal.{Literal};
 ghost use Rattle.search_terms.specs.Closure.{negation};
 ghost use Rattle.search_terms.specs.Tree.{Tree, IsTree};
 ghost use Rattle.clause_solver.specs.Engine.{whole_form, IsEngine};
 ghost use Rattle.clause_solver.specs.Levels.{IsFallen, IsAt, IsToAssume};
-ghost use Rattle.clause_solver.specs.Nodes.{AreFull, HaveNegative};
+ghost use Rattle.clause_solver.specs.Nodes.{AreFull, ArePositive, HaveNegative};
 ghost use Rattle.clause_solver.specs.Standing.{WalksIn, WalksPast};
 ghost use Rattle.clause_solver.specs.Verdicts.{Ends};
 
@@ -13,17 +16,11 @@ use crate::levels::assume;
 use crate::marks::Marks;
 use crate::nodes::{Node, look};
 use crate::outcomes::Verdict;
+use crate::table::Use;
 use clause_pool::NumList;
 use listed::Listed;
-use search_terms::{EntryList, Literal, LiteralList};
+use search_terms::{EntryList, Literal, LiteralList, negated};
 use std::alloc::{AllocError, Global};
-
-/// The negations of literals.
-fn negated(alloc: Global, literals: &[Literal]) -> Result<Vec<Literal>, AllocError>
-    ensures { IfOk result (λ v. v.items ≡ map negation literals.now) }
-{
-    literals.iter().map(|l| l.negation()).collect(alloc)
-}
 
 /// Adds the entry of a node to the log, where one is kept.
 fn add_entry(
@@ -96,11 +93,12 @@ pub(crate) fn walk(
     log: &mut EntryList,
     goals: &[LiteralList],
     own: &[LiteralList],
-    uses: &[Listed<usize>],
+    uses: &[Listed<Use>],
     conflicts: &[NumList],
 ) -> Result<Verdict, AllocError>
     requires classes { marks.old.0 ≡ classes }
     requires engine { IsEngine classes goals.now own.now uses.now conflicts.now }
+    requires positive { ArePositive goals.now }
     requires negative { HaveNegative own.now }
     requires full { AreFull goals.now }
     requires room { budget < 2 ^ 64 - 1 }

@@ -1,38 +1,40 @@
-//! The program `coinst`: the words, the files and the streams of the process, handed to the top call.
+//! The program `coinst`: the words of the process, handed to the top call with its files and its streams.
 #![tactic(auto)]
 
-ghost use Rattle.std.specs.Prelude.{◌≡◌};
-ghost use Rattle.std.specs.Process.{exit_status};
-ghost use Rattle.coinst_run.specs.Status.{code_of};
-
-use byte_flow::{FileShelf, StdSink};
-use coinst_run::{Status, run};
+use coinst_run::run_streams;
+use std::env::{self, Env, FillError};
+use std::io;
 use std::process::ExitCode;
-use std::{env, io};
 
 /// The status where the process does not tell its words.
 const NO_WORDS: u8 = 11;
 
-// The words behind the program's name.
-fn words_of(rt: &HostRuntime) -> io::Result<Vec<String>> {
-    let words = env::args(rt)?;
-    Ok(words.skip(1).collect(rt.alloc())?)
+// The arguments of a process but the first, the program's name, which is no word and may be no text.
+#[derive(Drop)]
+struct Words<'a, R: Env>(&'a R);
+
+impl<R: Env> Env for Words<'_, R> {
+    fn arg(&self, i: usize, buf: &mut [u8]) -> Result<usize, FillError> {
+        self.0.arg(i.saturating_add(1), buf)
+    }
+
+    fn var(&self, name: &str, buf: &mut [u8]) -> Result<usize, FillError> {
+        self.0.var(name, buf)
+    }
+
+    fn var_at(&self, i: usize, buf: &mut [u8]) -> Result<usize, FillError> {
+        self.0.var_at(i, buf)
+    }
 }
 
-// How the process ends after a run with the status.
-fn exit_code(status: Status) -> ExitCode
-    ensures { exit_status result ≡ code_of status }
-{
-    ExitCode::from(status.code())
+// The words behind the program's name.
+fn words_of(rt: &HostRuntime) -> io::Result<Vec<String>> {
+    Ok(env::args(&(Words(rt), rt.alloc()))?.collect(rt.alloc())?)
 }
 
 fn main(rt: HostRuntime) -> ExitCode {
-    let Ok(words) = words_of(&rt) else {
-        return ExitCode::from(NO_WORDS);
-    };
-    let mut shelf = FileShelf::new(&rt);
-    let mut out = StdSink::over(rt.stdout());
-    let mut err = StdSink::over(rt.stderr());
-    let status = run(rt.alloc(), words.as_slice(), &mut shelf, &mut out, &mut err);
-    exit_code(status)
+    match words_of(&rt) {
+        Ok(words) => run_streams(rt.alloc(), words.as_slice(), &rt, rt.stdout(), rt.stderr()),
+        Err(_) => ExitCode::from(NO_WORDS),
+    }
 }

@@ -1,17 +1,30 @@
 -- What the report of a comparison means.
-use Rattle.std.proofs.Common.{◌≡◌, ℕ, List, refl}
+use Rattle.std.proofs.Common.{◌≡◌, ℕ, Bool, true, false, List, [], ◌∷◌, refl, sym, ◌∙◌, ap, subst}
+use Rattle.std.specs.Prelude.{if◌then◌else◌, filter, length}
+use Rattle.std.specs.List.{list_any}
 use Rattle.suite_compare.specs.Asking.{verdict_in}
 use Rattle.suite_compare.proofs.Deciding.{verdict_is_judged}
 use Rattle.suite_compare.specs.declared.report.ReportLine.{ReportLine}
+use Rattle.suite_compare.specs.declared.report.ReportLine.TheVariants.{Broken1, Broken2, Open1, Open2}
+use Rattle.headline.specs.Indexes.{SearchedIndex, searched}
+use Rattle.headline.specs.Listing.{HasNoOpenLine, ListsExactly, is_broken}
+use Rattle.headline.proofs.Exact.{report_lists_exactly}
+use Rattle.headline.proofs.Lost.{empty_list_loses_nothing, without_open_lines}
+use Rattle.coinst_run.proofs.Prints.{exact_lists_print_exactly, lines_are_cut}
+use Rattle.coinst_run.specs.Printing.{PrintsExactly}
+use Rattle.kernel_text.specs.KernelLines.{lines_of}
+use Rattle.row_book.specs.Sets.{In}
+use Rattle.row_book.proofs.Lists.{In_none, filter_from}
 use Rattle.suite_compare.specs.Refusals.{home_in, packages_in}
 use Rattle.coinst_run.specs.declared.answer.Verdict.{Verdict}
+use Rattle.coinst_run.specs.declared.answer.Verdict.TheVariants.{Done, Negative, Undecided}
 use Rattle.coinst_run.specs.Answer.{reported}
-use Rattle.coinst_run.specs.Compare.{broken_lines, compare_answer, lines_answer, new_answer, new_course, old_answer}
+use Rattle.coinst_run.specs.Compare.{broken_lines, compare_answer, lines_answer, newer_course}
 use Rattle.coinst_run.specs.CompareMeaning.{CompareIsMeant}
-use Rattle.coinst_run.specs.CompareText.{comparison_text, comparison_verdict}
+use Rattle.coinst_run.specs.CompareText.{comparison_text, comparison_verdict, is_open}
 use Rattle.coinst_run.specs.Index.{index_in}
 use Rattle.coinst_run.specs.Outcome.{answered}
-use Rattle.coinst_run.proofs.Reported.{index_used, kernel_used}
+use Rattle.coinst_run.proofs.GoingOn.{GivesThis, kernel_used, this_alone}
 
 -- a report on a list
 lines_verdict : (lines : List ReportLine) (verdict : Verdict) (printed : List ℕ) → answered (lines_answer lines) ≡ answered (reported verdict printed) → verdict ≡ comparison_verdict lines
@@ -20,28 +33,57 @@ lines_verdict lines verdict printed e = cc
 lines_text : (lines : List ReportLine) (verdict : Verdict) (printed : List ℕ) → answered (lines_answer lines) ≡ answered (reported verdict printed) → printed ≡ comparison_text lines
 lines_text lines verdict printed e = cc
 
+-- nothing is told where the run is done
+open_not_done : (b : Bool) → (if b then Negative else (if true then Undecided else Done)) ≡ Done → ⊥
+open_not_done true e = let k : ⊥ = cc in k
+open_not_done false e = let k : ⊥ = cc in k
+
+done_is_empty : (lines : List ReportLine) → comparison_verdict lines ≡ Done → lines ≡ []
+done_is_empty [] e = refl
+done_is_empty (Broken1 name ∷ rest) e = absurd (let k : ⊥ = cc in k)
+done_is_empty (Broken2 first second ∷ rest) e = absurd (let k : ⊥ = cc in k)
+done_is_empty (Open1 name ∷ rest) e = absurd (open_not_done (list_any is_broken rest) e)
+done_is_empty (Open2 first second ∷ rest) e = absurd (open_not_done (list_any is_broken rest) e)
+
+-- where no line is counted as open, none is open
+none_open : (lines : List ReportLine) → length (filter is_open lines) ≡ 0 → HasNoOpenLine lines
+none_open lines zero =
+    let none : (line : ReportLine) → In line lines → is_open line ≡ true → ⊥ = λ line i open_is. none_among lines zero line i open_is in
+    record { names = λ name i. none (Open1 name) i refl; pairs = λ first second i. none (Open2 first second) i refl }
+  where
+    no_items : (xs : List ReportLine) → length xs ≡ 0 → xs ≡ []
+    no_items [] e = refl
+    no_items (x ∷ xs) e = absurd (let k : ⊥ = cc in k)
+
+    none_among : (lines : List ReportLine) → length (filter is_open lines) ≡ 0 → (line : ReportLine) → In line lines → is_open line ≡ true → ⊥
+    none_among lines zero line i up = In_none (subst (In line) (no_items (filter is_open lines) zero) (filter_from is_open lines line i up))
+
 pub compare_is_meant : CompareIsMeant
 unfolding broken_lines
 compare_is_meant old new budget limit hold files verdict printed e =
-    let first = index_used old (old_answer old new budget limit hold) files verdict printed e in
-    let on = kernel_used old limit hold (index_in first.0) (λ made. new_course new budget limit hold (index_in first.0)) files verdict printed first.2.1 in
-    let second = index_used new (new_answer new budget limit hold (index_in first.0)) files verdict printed on in
-    let end = kernel_used new limit hold (index_in second.0) (λ made. compare_answer budget limit hold (index_in first.0) (index_in second.0)) files verdict printed second.2.1 in
-    let lines : List ReportLine = broken_lines budget limit hold (index_in first.0) (index_in second.0) in (
+    let first = kernel_used (GivesThis verdict printed) (this_alone verdict printed) files old limit hold (newer_course new budget limit hold) e in
+    let second = kernel_used (GivesThis verdict printed) (this_alone verdict printed) files new limit hold (compare_answer budget limit hold (index_in first.0)) first.2 in
+    let lines : List ReportLine = broken_lines budget limit hold (index_in first.0) (index_in second.0) in
+    let older : SearchedIndex = searched first.0 budget limit hold in
+    let newer : SearchedIndex = searched second.0 budget limit hold in
+    let exact : ListsExactly older newer lines = report_lists_exactly older newer (verdict_in limit hold (home_in first.0) (packages_in first.0) budget) (verdict_in limit hold (home_in second.0) (packages_in second.0) budget)
+    (λ goals. verdict_is_judged limit hold (home_in first.0) (packages_in first.0) budget goals) (λ goals. verdict_is_judged limit hold (home_in second.0) (packages_in second.0) budget goals) in
+    let reads : printed ≡ comparison_text lines = lines_text lines verdict printed second.2 in
+    let whole : verdict ≡ comparison_verdict lines = lines_verdict lines verdict printed second.2 in (
       first.0,
       second.0,
-      first.1,
-      second.1,
+      (first.1).0.file.is,
+      (second.1).0.file.is,
       record {
-        old_accepted = first.2.0;
-        new_accepted = second.2.0;
-        in_old = verdict_in limit hold (home_in first.0) (packages_in first.0) budget;
-        in_new = verdict_in limit hold (home_in second.0) (packages_in second.0) budget;
-        old_judged = λ goals. verdict_is_judged limit hold (home_in first.0) (packages_in first.0) budget goals;
-        new_judged = λ goals. verdict_is_judged limit hold (home_in second.0) (packages_in second.0) budget goals;
+        old_accepted = (first.1).0.accepted;
+        new_accepted = (second.1).0.accepted;
+        prints = subst (PrintsExactly older newer) (sym reads) (exact_lists_print_exactly older newer lines (first.1).0.accepted exact);
         lines = lines;
-        tells = refl;
-        reads = lines_text lines verdict printed end;
-        whole = lines_verdict lines verdict printed end;
+        exact = exact;
+        cut = ap lines_of reads ∙ lines_are_cut older newer lines (first.1).0.accepted exact;
+        losses = λ zero. without_open_lines older newer lines exact (none_open lines zero);
+        nothing_lost = λ done. empty_list_loses_nothing older newer (subst (ListsExactly older newer) (done_is_empty lines (sym whole ∙ done)) exact);
+        reads = reads;
+        whole = whole;
       },
     )

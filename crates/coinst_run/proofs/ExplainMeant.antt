@@ -39,16 +39,16 @@ use Rattle.suite_compare.specs.Refusals.{home_in, packages_in}
 use Rattle.coinst_run.specs.declared.answer.Verdict.{Verdict}
 use Rattle.coinst_run.specs.declared.answer.Verdict.TheVariants.{Done, Negative, Undecided}
 use Rattle.coinst_run.specs.Answer.{reported}
-use Rattle.coinst_run.specs.Course.{answers}
 use Rattle.coinst_run.specs.Explain.{explain_answer, explained_by_unknown, explanation_answer, goals_explained}
 use Rattle.coinst_run.specs.ExplainMeaning.{AreEnough, CoinstButFor, ExplainIsMeant, ExplainMeans, HealthyButFor, MeansExplained}
 use Rattle.coinst_run.specs.ExplainText.{core_text, yes_line}
 use Rattle.coinst_run.specs.Index.{index_in}
+use Rattle.coinst_run.specs.Outcome.{answered}
 use Rattle.coinst_run.specs.QueryText.{undecided_text}
 use Rattle.coinst_run.proofs.Explanations.{AreInConflict, reasons_in_conflict, some_told}
 use Rattle.coinst_run.proofs.OneCore.{one_core}
 use Rattle.coinst_run.proofs.QueryMeant.{all_known, formed}
-use Rattle.coinst_run.proofs.Reported.{index_used, kernel_used}
+use Rattle.coinst_run.proofs.GoingOn.{GivesThis, kernel_used, this_alone}
 
 module _ (home : Home) (stanzas : List PackageFacts) where
   abbrev R : Repository
@@ -197,7 +197,7 @@ module _ (text : List ℕ) (goals : List Goal) (budget limit : ℕ) (hold : Bool
 
 pub explain_is_meant : ExplainIsMeant
 explain_is_meant path goals budget limit hold files verdict printed e =
-    let first = index_used path (explain_answer path goals budget limit hold) files verdict printed e in
-    let end = kernel_used path limit hold (index_in first.0) (λ made. answers (goals_explained goals budget limit hold (index_in first.0))) files verdict printed first.2.1 in
+    let first = kernel_used (GivesThis verdict printed) (this_alone verdict printed) files path limit hold (explain_answer goals budget limit hold) e in
+    let end : answered (goals_explained goals budget limit hold (index_in first.0)) ≡ answered (reported verdict printed) = first.2 in
     let same : goals_explained goals budget limit hold (index_in first.0) ≡ reported verdict printed = cc in
-    (first.0, first.1, goals_mean first.0 goals budget limit hold verdict printed (unknown_goal (packages_in first.0) goals) first.2.0 refl same)
+    (first.0, (first.1).0.file.is, goals_mean first.0 goals budget limit hold verdict printed (unknown_goal (packages_in first.0) goals) (first.1).0.accepted refl same)

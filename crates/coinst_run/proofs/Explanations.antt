@@ -4,6 +4,7 @@ use Rattle.std.specs.Prelude.{◌&&◌, ltb, IfSome}
 use Rattle.std.specs.List.{range_with_len}
 use Rattle.std.specs.Option.{option_map}
 use Rattle.std.proofs.lemmas.Bool.{and_parts, cases_Bool, ltb-true}
+use Rattle.listed.proofs.Lists.{In_flat_cases}
 use Rattle.clause_solver.specs.declared.outcomes.Verdict.{Verdict}
 use Rattle.clause_solver.specs.declared.outcomes.Verdict.TheVariants as verdict
 use Rattle.explain_core.specs.Core.{core_of, marked_goals, marks_of}
@@ -15,7 +16,6 @@ use Rattle.explain_core.specs.Reasons.{clash, clashes_of, conflicts_reached, rea
 use Rattle.explain_core.specs.declared.explanation.Clash.{Clash}
 use Rattle.explain_core.proofs.Answering.{core_places}
 use Rattle.explain_core.proofs.Deleted.{kept_all}
-use Rattle.kernel_text.proofs.Retold.{in_flat_cases}
 use Rattle.relation_fields.specs.declared.packages.Home.{Home}
 use Rattle.relation_fields.specs.declared.packages.PackageFacts.{PackageFacts}
 use Rattle.repo_model.specs.Repository.{in_conflict, suite_repository}
@@ -57,7 +57,7 @@ module _ (home : Home) (stanzas : List PackageFacts) where
 
   within_conflict : (S : NumSet) (x : Pair) → In x (conflicts_within R S) → AreInConflict x.low x.high
   within_conflict S x i =
-      let a = in_flat_cases (conflicts_above R S) (filter S (range_with_len 0 (length R.clauses))) x i in
+      let a = In_flat_cases (conflicts_above R S) (filter S (range_with_len 0 (length R.clauses))) x i in
       let b = In_map_cases (pair a.0) (filter (λ high. ltb a.0 high && S high) (conflicts_of R a.0)) x a.2 in
       let c = filter_cases (λ high. ltb a.0 high && S high) (conflicts_of R a.0) b.0 b.1 in
       let less : a.0 < b.0 = ltb-true a.0 b.0 (and_parts (ltb a.0 b.0) (S b.0) c.1).0 in

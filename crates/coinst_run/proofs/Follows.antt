@@ -1,15 +1,17 @@
 -- What follows from the course of a command on a shelf, by the way it went.
-use Rattle.std.proofs.Common.{◌≡◌, ℕ, ◌<◌, ◌≤◌, Bool, List, length, cond, Option, Some, None, Ok, inl, inr, refl, sym, ap, subst, ◌∙◌, arith, lt-ltb, le-ltb}
-use Rattle.std.specs.Prelude.{IfSome, IsNone, IsSomeAnd}
+use Rattle.std.proofs.Common.{◌≡◌, ℕ, ◌<◌, ◌≤◌, Bool, List, length, cond, Option, Some, None, Result, Ok, Err, inl, inr, refl, sym, ap, subst, ◌∙◌, arith, lt-ltb, le-ltb}
+use Rattle.std.specs.Prelude.{IfOk, IfSome, IsNone, IsSomeAnd, OnOk}
 use Rattle.byte_flow.specs.Flow.{FileIs, FileIsLonger, Files, LacksFile, Rose}
 use Rattle.coinst_run.specs.Answer.{Stage}
 use Rattle.coinst_run.specs.Course.{Course, reads, then_on}
 use Rattle.coinst_run.specs.Ending.{Settles, StopsAt}
-use Rattle.coinst_run.specs.Follows.{Follows, ReachesIndex, WasRead, WasTooLong, WasUnread, at_its_end, behind_a_text, at_an_unread_file, at_a_long_file, without_memory, without_memory_for_a_file}
+use Rattle.coinst_run.specs.Follows.{Follows, LeadsTo, ReachesIndex, ReachesKernel, WasRead, WasTooLong, WasUnread, at_its_end, behind_a_text, at_an_unread_file, at_a_long_file, without_memory, without_memory_for_a_file}
 use Rattle.coinst_run.specs.Index.{Index, checked_index, reads_index}
+use Rattle.coinst_run.specs.IndexKernel.{ClassedKernel, index_kernel}
+use Rattle.coinst_run.specs.Kernel.{kernel_of, reads_kernel}
 use Rattle.coinst_run.specs.Outcome.{Outcome, answered, unread, not_a_command, file_limit, outcome_over, over_file, too_long}
-use Rattle.coinst_run.specs.Run.{EndsAs}
-use Rattle.coinst_run.specs.Run as run
+use Rattle.coinst_run.proofs.Ends.{EndsAs}
+use Rattle.coinst_run.proofs.Ends as ends
 
 -- a text that was read is the file's, and no longer than the limit
 over_text : (files : Files) (path text : List ℕ) (next : List ℕ → Outcome) → files path ≡ Some text → length text ≤ file_limit → over_file path (files path) next ≡ next text
@@ -43,12 +45,16 @@ stopped stage next (Some (answered answer)) h = ap (λ x. then_on x next) h
 stopped stage next (Some (unread path)) h = absurd h
 stopped stage next (Some not_a_command) h = absurd h
 
+-- a part that gave a value, and how what is done with it ends
+pub settled_on : {A : Type 0} (stage : Stage A) (x : A) (next : A → Course) (ending : Option Outcome) → stage ≡ Ok x → Settles (next x) ending → Settles (then_on stage next) ending
+settled_on stage x next ending e h = subst (λ z. Settles (then_on z next) ending) (sym e) h
+
 module _ {S : Type 0} {contents : S → Option Files} {faults moved : S → ℕ} {is_quiet : S → Type 0}
     {start : S → List ℕ → Bool → S → Type 0} {read : S → ℕ → Option ℕ → S → Type 0} where
   -- where the files are told the course ends as over them
   pub ends_as : (files : Files) {course : Course} {s u : S} {ending : Option Outcome} → Follows contents faults moved is_quiet start read course s ending u → contents s ≡ Some files →
       EndsAs (is_quiet s) (outcome_over files course) ending
-  ends_as files (at_its_end answer s) is = run.as_told
+  ends_as files (at_its_end answer s) is = ends.as_told
   ends_as files (behind_a_text path text next s t u ending w f) is =
       quieter ending w.stays_quiet
       (subst (λ o. EndsAs (is_quiet t) o ending)
@@ -56,16 +62,16 @@ module _ {S : Type 0} {contents : S → Option Files} {faults moved : S → ℕ}
       (ends_as files f (w.same ∙ is)))
     where
       quieter : {P Q : Type 0} {o : Outcome} (ending : Option Outcome) → (P → Q) → EndsAs Q o ending → EndsAs P o ending
-      quieter ending f run.as_told = run.as_told
-      quieter ending f (run.at_an_unread_file path h) = run.at_an_unread_file path (λ p. h (f p))
-      quieter ending f run.without_memory = run.without_memory
+      quieter ending f ends.as_told = ends.as_told
+      quieter ending f (ends.at_an_unread_file path h) = ends.at_an_unread_file path (λ p. h (f p))
+      quieter ending f ends.without_memory = ends.without_memory
   ends_as files (at_an_unread_file path next s t w) is =
-      run.at_an_unread_file path (λ q. over_none path (files path) (λ x. outcome_over files (next x)) (lacking (contents s) files path is (w.lacks q)))
+      ends.at_an_unread_file path (λ q. over_none path (files path) (λ x. outcome_over files (next x)) (lacking (contents s) files path is (w.lacks q)))
   ends_as files (at_a_long_file path next s t w) is =
       subst (λ o. EndsAs (is_quiet s) o (Some (answered (too_long path))))
-      (sym (over_long path (files path) (λ x. outcome_over files (next x)) (told_longer (contents s) files path is w.told))) run.as_told
-  ends_as files (without_memory course s) is = run.without_memory
-  ends_as files (without_memory_for_a_file path next s t w) is = run.without_memory
+      (sym (over_long path (files path) (λ x. outcome_over files (next x)) (told_longer (contents s) files path is w.told))) ends.as_told
+  ends_as files (without_memory course s) is = ends.without_memory
+  ends_as files (without_memory_for_a_file path next s t w) is = ends.without_memory
 
   -- a file is unread only where the count of faults rose
   pub unread_rose : {course : Course} {s u : S} {ending : Option Outcome} {path : List ℕ} → Follows contents faults moved is_quiet start read course s ending u → ending ≡ Some (unread path) →
@@ -117,3 +123,30 @@ module _ {S : Type 0} {contents : S → Option Files} {faults moved : S → ℕ}
   index_refused path text next ending s t w h =
       behind_a_text path text (λ x. then_on (checked_index path x) next) s t t ending w
       (settled_follows (then_on (checked_index path text) next) ending t (stopped (checked_index path text) next ending h))
+
+  -- a text that was read, and the course goes on
+  pub text_passed : (path text : List ℕ) (next : List ℕ → Course) (s t : S) → WasRead contents faults moved is_quiet start read s path text t → LeadsTo contents faults moved is_quiet start read (reads path next) s (next text) t
+  text_passed path text next s t w ending u f = behind_a_text path text next s t u ending w f
+
+  -- a part that gave a value, and the course goes on
+  pub stage_passed : {A : Type 0} (stage : Stage A) (x : A) (next : A → Course) (s : S) → stage ≡ Ok x → LeadsTo contents faults moved is_quiet start read (then_on stage next) s (next x) s
+  stage_passed stage x next s e ending u f = subst (λ z. Follows contents faults moved is_quiet start read (then_on z next) s ending u) (sym e) f
+
+  -- an index and its kernel, and an index of which there is none
+  pub kernel_reached : (path : List ℕ) (limit : ℕ) (hold : Bool) (found index : Index) (s t : S) → ReachesIndex contents faults moved is_quiet start read s path found t →
+      kernel_of path limit hold found ≡ Ok (index_kernel limit hold found.home found.packages) → index ≡ found → ReachesKernel contents faults moved is_quiet start read s path limit hold index t
+  kernel_reached path limit hold found index s t reaches made same =
+      subst (λ i. ReachesKernel contents faults moved is_quiet start read s path limit hold i t) (sym same) (λ next ending u f.
+      reaches (λ i. then_on (kernel_of path limit hold i) (next i)) ending u
+      (stage_passed (kernel_of path limit hold found) (index_kernel limit hold found.home found.packages) (next found) t made ending u f))
+
+  pub kernel_refused : (path : List ℕ) (limit : ℕ) (hold : Bool) (found : Index) (next : Index → ClassedKernel → Course) (ending : Option Outcome) (s t : S) →
+      ReachesIndex contents faults moved is_quiet start read s path found t → StopsAt (kernel_of path limit hold found) ending → Follows contents faults moved is_quiet start read (reads_kernel path limit hold next) s ending t
+  kernel_refused path limit hold found next ending s t reaches h =
+      reaches (λ i. then_on (kernel_of path limit hold i) (next i)) ending t
+      (settled_follows (then_on (kernel_of path limit hold found) (next found)) ending t (stopped (kernel_of path limit hold found) (next found) ending h))
+
+-- what a part promises of its value in two clauses
+pub if_ok_both : {T E : Type 0} (result : Result T E) {A : Type 0} {P Q : T → Type 0} → ((x : T) → A → P x → Q x) → OnOk result A → IfOk result P → IfOk result Q
+if_ok_both (Ok x) f a p = f x a p
+if_ok_both (Err e) f a p = tt

@@ -2,7 +2,6 @@
 use Rattle.std.proofs.Common.{◌≡◌, ℕ, ◌+◌, ◌<◌, ◌≤◌, Bool, true, false, inl, inr, cond, List, [], ◌∷◌, length, map, filter, Option, Some, None, Ok, Err, refl, sym, ap, ap₂, subst, ◌∙◌, arith}
 use Rattle.std.proofs.lemmas.List.{length-map}
 use Rattle.clause_pool.specs.Interned.{Interned, row_at}
-use Rattle.kernel_rounds.specs.Extracting.{IsExtracted}
 use Rattle.kernel_rounds.specs.declared.extraction.Kernel.{Kernel}
 use Rattle.relation_fields.specs.declared.packages.Home.{Home}
 use Rattle.relation_fields.specs.declared.packages.PackageFacts.{PackageFacts}
@@ -18,7 +17,10 @@ use Rattle.repo_model.specs.Refusals.{Refuses, is_memory}
 use Rattle.repo_model.specs.Repository.{suite_repository}
 use Rattle.repo_model.specs.Stanzas.{stanza_at}
 use Rattle.repo_model.specs.declared.fault.IndexFault.{IndexFault}
+use Rattle.repo_model.specs.Limits.{most_packages}
 use Rattle.row_book.specs.Clauses.{InOrder}
+use Rattle.row_book.specs.declared.book.Book.{Book}
+use Rattle.suite_compare.specs.Views.{IsViewOf}
 use Rattle.row_book.specs.Flattening.{flat, held_of, is_held, packages}
 use Rattle.row_book.specs.Repository.{Repository, clauses_of}
 use Rattle.row_book.specs.Rounds.{PassedRound, kernel, kernel_class, kernel_held, limit_at, round_count}
@@ -31,7 +33,10 @@ use Rattle.kernel_rounds.specs.Laws.{IsKernel}
 use Rattle.kernel_rounds.proofs.Flattened.{flat_order, flat_tidy}
 use Rattle.kernel_rounds.proofs.Reached.{kernel_is_lem}
 use Rattle.kernel_rounds.proofs.Settling.{fixed_parts_lem}
-use Rattle.kernel_text.specs.KernelText.{FitsFormat, format_of}
+use Rattle.kernel_text.specs.KernelJson.{kernel_json}
+use Rattle.kernel_text.specs.KernelText.{FitsFormat, format_of, kernel_text}
+use Rattle.kernel_text.specs.Members.{kernel_members}
+use Rattle.row_book.specs.Book.{repository_of}
 use Rattle.kernel_text.specs.Laws.{IsKernelOf}
 use Rattle.kernel_text.specs.Reading.{number_limit, IsFormat}
 use Rattle.coinst_run.specs.declared.answer.Cause.{Cause}
@@ -39,8 +44,8 @@ use Rattle.coinst_run.specs.declared.answer.Cause.TheVariants.{ClauseLimit}
 use Rattle.coinst_run.specs.Answer.{refused}
 use Rattle.coinst_run.specs.Faults.{fault_cause}
 use Rattle.coinst_run.specs.Index.{Index, by_fault, checked_index}
-use Rattle.coinst_run.specs.IndexKernel.{ClassedKernel, classed_kernel, index_kernel}
-use Rattle.coinst_run.specs.Kernel.{FitsSuite, by_limit, kernel_of}
+use Rattle.coinst_run.specs.IndexKernel.{ClassedKernel, classed_kernel, index_kernel, json_for, text_for}
+use Rattle.coinst_run.specs.Kernel.{FitsSuite, by_limit, kernel_in, kernel_of}
 use Rattle.coinst_run.specs.Lines.{fault_line, limit_line}
 use Rattle.coinst_run.proofs.Classes.{HasPackage, class_met, class_within, classes_few}
 
@@ -66,18 +71,9 @@ index_faulty fault path text there cause line refuses known is told =
     let found : there ≡ Some fault = not_memory fault refuses known in
     ap (by_fault path text) found ∙ ap (λ c. Err (refused c (fault_line path fault))) (sym is) ∙ ap (λ l. Err (refused cause l)) (sym told)
 
--- the kernel that was extracted is that of the index, where no round passes the limit
-pub kernel_made : (path : List ℕ) (limit : ℕ) (hold : Bool) (index : Index) (R : Repository) (made : ClassedKernel) → R ≡ suite_repository index.home index.packages → limit_at limit hold R ≡ None →
-    made.repository ≡ kernel limit hold R → made.class_of ≡ map (kernel_class limit hold R) (packages R) → made.hold ≡ hold → made.held ≡ kernel_held limit hold R → kernel_of path limit hold index ≡ Ok made
-unfolding index_kernel classed_kernel
-kernel_made path limit hold index R made is within book classes kind stay =
-    let all : Repository → List ℕ → Bool → List ℕ → ClassedKernel = λ r c h ns. record { repository = r; class_of = c; hold = h; held = ns } in
-    ap (by_limit path limit hold index) (ap (limit_at limit hold) (sym is) ∙ within) ∙ ap (λ S. Ok (classed_kernel limit hold S)) (sym is)
-    ∙ ap₂ (λ r c. Ok (all r c hold (kernel_held limit hold R))) (sym book) (sym classes) ∙ ap₂ (λ h ns. Ok (all made.repository made.class_of h ns)) (sym kind) (sym stay)
-
--- and a round that passes the limit is told
+-- a round that passes the limit is told
 pub limit_told : (path : List ℕ) (limit : ℕ) (hold : Bool) (index : Index) (R : Repository) (passed : PassedRound) (facts : PackageFacts) (line : List ℕ) → R ≡ suite_repository index.home index.packages →
-    limit_at limit hold R ≡ Some passed → facts ≡ stanza_at index.packages passed.«package» → line ≡ limit_line path limit passed.number passed.gone facts passed.count →
+    limit_at limit hold R ≡ Some passed → facts ≡ stanza_at index.packages passed.over → line ≡ limit_line path limit passed.number passed.gone facts passed.count →
     kernel_of path limit hold index ≡ Err (refused ClauseLimit line)
 limit_told path limit hold index R passed facts line is passes_it said made =
     ap (by_limit path limit hold index) (ap (limit_at limit hold) (sym is) ∙ passes_it)
@@ -119,7 +115,7 @@ kernel_fits limit hold R stanzas s count accepted =
       sound = k.sound;
       order = λ n. subst (λ F. InOrder (clauses_of F n)) fixed (flat_order limit hold (kernel limit hold R) n);
       apart = tidy.apart;
-      few_classes = let few : length stanzas ≤ 200000 = accepted.few in let less : length (kernel limit hold R).clauses ≤ length R.clauses = classes_few limit hold (round_count limit hold R) R s in omega arith;
+      few_classes = let few : length stanzas ≤ most_packages = accepted.few in let less : length (kernel limit hold R).clauses ≤ length R.clauses = classes_few limit hold (round_count limit hold R) R s in omega arith;
       accepted = accepted;
       each = length_numbers (kernel_class limit hold R) (length R.clauses) 0 ∙ count;
       inside = λ class i.
@@ -133,17 +129,38 @@ kernel_fits limit hold R stanzas s count accepted =
       fits = held_fit limit hold (kernel limit hold R);
     }
 
--- the kernel that was extracted has a class for each package
-pub extracted_fits : (home : Home) (stanzas : List PackageFacts) (R : Repository) (limit : ℕ) (hold : Bool) (old pool : Interned) (made : Kernel) → R ≡ suite_repository home stanzas →
-    IsExtracted R limit hold old pool made.book made.class_of made.held made.trail.steps → FitsSuite pool stanzas made
-extracted_fits home stanzas R limit hold old pool made is w =
-    let s : SoundRepository R = subst SoundRepository (sym is) (suite_sound home stanzas) in
-    record {
-      sound = w.sound;
-      each = ap length w.class_of ∙ length_numbers (kernel_class limit hold R) (length R.clauses) 0 ∙ ap (λ S. length S.clauses) is ∙ length_clauses home stanzas;
-      inside = λ class i.
-          let v : (p : ℕ) × In p (packages R) × (class ≡ kernel_class limit hold R p) = In_map_cases (kernel_class limit hold R) (packages R) class (subst (λ cs. In class cs) w.class_of i) in
-          let p : (0 ≤ v.0) × (v.0 < 0 + length R.clauses) = numbers_parts (length R.clauses) 0 v.0 v.1 in
-          let l : kernel_class limit hold R v.0 < length (kernel limit hold R).clauses = class_within limit hold (round_count limit hold R) R s v.0 (omega (arith, p.1)) in
-          subst (λ n. class < n) (ap (λ S. length S.clauses) (sym w.is) ∙ length-map made.book.rows (row_at pool)) (subst (λ k. k < length (kernel limit hold R).clauses) (sym v.2) l);
-    }
+-- the kernel of a view is that of its index, and has a class for each package
+module _ (pool : Interned) (home : Home) (stanzas : List PackageFacts) (book : Book) (made : Kernel) (limit : ℕ) (of_suite : IsViewOf pool home stanzas book made limit) where
+  abbrev R : Repository
+  R = suite_repository home stanzas
+
+  pub view_kernel : kernel_in pool made ≡ index_kernel limit made.hold home stanzas
+  unfolding index_kernel classed_kernel
+  view_kernel =
+      let all : Repository → List ℕ → List ℕ → ClassedKernel = λ r c ns. record { repository = r; class_of = c; hold = made.hold; held = ns } in
+      let is = of_suite.kernel_is in
+      ap₂ (λ r c. all r c made.held) is.book.repository is.class_of ∙ ap (all (kernel limit made.hold R) (map (kernel_class limit made.hold R) (packages R))) is.held
+
+  pub view_fits : FitsSuite pool stanzas made
+  view_fits =
+      let is = of_suite.kernel_is in
+      record {
+        sound = is.book.sound;
+        each = ap length is.class_of ∙ length_numbers (kernel_class limit made.hold R) (length R.clauses) 0 ∙ length_clauses home stanzas;
+        inside = λ class i.
+            let v : (p : ℕ) × In p (packages R) × (class ≡ kernel_class limit made.hold R p) = In_map_cases (kernel_class limit made.hold R) (packages R) class (subst (λ cs. In class cs) is.class_of i) in
+            let p : (0 ≤ v.0) × (v.0 < 0 + length R.clauses) = numbers_parts (length R.clauses) 0 v.0 v.1 in
+            let l : kernel_class limit made.hold R v.0 < length (kernel limit made.hold R).clauses = class_within limit made.hold (round_count limit made.hold R) R (suite_sound home stanzas) v.0 (omega (arith, p.1)) in
+            subst (λ n. class < n) (ap (λ S. length S.clauses) (sym is.book.repository) ∙ length-map made.book.rows (row_at pool)) (subst (λ k. k < length (kernel limit made.hold R).clauses) (sym v.2) l);
+      }
+
+  -- what is written of it is what is printed of the index
+  pub view_text : kernel_text (format_of made.hold) (repository_of pool made.book) (kernel_members stanzas made.class_of (length made.book.rows)) made.held ≡ text_for stanzas (index_kernel limit made.hold home stanzas)
+  view_text =
+      ap (λ n. kernel_text (format_of made.hold) (repository_of pool made.book) (kernel_members stanzas made.class_of n) made.held) (sym (length-map made.book.rows (row_at pool)))
+      ∙ ap (text_for stanzas) view_kernel
+
+  pub view_json : kernel_json (format_of made.hold) (repository_of pool made.book) (kernel_members stanzas made.class_of (length made.book.rows)) made.held ≡ json_for stanzas (index_kernel limit made.hold home stanzas)
+  view_json =
+      ap (λ n. kernel_json (format_of made.hold) (repository_of pool made.book) (kernel_members stanzas made.class_of n) made.held) (sym (length-map made.book.rows (row_at pool)))
+      ∙ ap (json_for stanzas) view_kernel

@@ -1,11 +1,11 @@
 pub mod Classes
+pub mod Ends
 pub mod Follows
 pub mod Kernels
 pub mod Meaning
 pub mod Members
 pub mod Runs
 pub mod Telling
-pub mod Texts
 pub mod Installed
 pub mod QueryMeant
 pub mod LimitLines
@@ -17,9 +17,11 @@ pub mod Sizes
 pub mod Explanations
 pub mod OneCore
 pub mod ExplainMeant
-pub mod Onward
-pub mod Reported
+mod LineWords
+mod Prints
 pub mod CompareMeant
+pub mod GoingOn
+mod CompleteJobs
 pub mod Migrating
 pub mod MigrateMeant
 pub mod OneInstallation
@@ -29,3 +31,4 @@ pub mod SystemStates
 pub mod SystemReports
 pub mod SystemLines
 pub mod SystemMeant
+pub mod Sentences

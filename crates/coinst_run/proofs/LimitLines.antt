@@ -27,5 +27,5 @@ limit_pieces path limit round gone facts count name version front line named at 
 pub passed_told : (path : List ℕ) (limit : ℕ) (hold : Bool) (index : Index) (passed : PassedRound) (name version front line : List ℕ) → PassesLimit index.home index.packages limit hold passed name version →
     front ≡ path ++ codes ": " ++ stage_text limit passed.number passed.gone → line ≡ front ++ line_of_text (row_text name version passed.count) → kernel_of path limit hold index ≡ Err (refused ClauseLimit line)
 passed_told path limit hold index passed name version front line w begun ended =
-    limit_told path limit hold index (suite_repository index.home index.packages) passed (stanza_at index.packages passed.«package») line refl w.there refl
-    (limit_pieces path limit passed.number passed.gone (stanza_at index.packages passed.«package») passed.count name version front line w.name_is w.version_is begun ended)
+    limit_told path limit hold index (suite_repository index.home index.packages) passed (stanza_at index.packages passed.over) line refl w.there refl
+    (limit_pieces path limit passed.number passed.gone (stanza_at index.packages passed.over) passed.count name version front line w.name_is w.version_is begun ended)

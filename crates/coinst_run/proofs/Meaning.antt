@@ -1,10 +1,9 @@
 -- What the kernel text of an index means.
-use Rattle.std.proofs.Common.{◌≡◌, ℕ, ◌<◌, Bool, true, false, cond, nat_lt, List, length, map, slice_index_or, Option, Some, None, refl, sym, ap, ap₂, subst, ◌∙◌, arith, zero-add}
+use Rattle.std.proofs.Common.{◌≡◌, ℕ, ◌<◌, Bool, true, false, List, length, map, slice_index_or, None, refl, sym, ap, ap₂, subst, ◌∙◌, arith, zero-add}
 use Rattle.std.specs.Prelude.{◌↔◌}
 use Rattle.byte_flow.specs.Flow.{Files}
 use Rattle.relation_fields.specs.declared.packages.Home.{Home}
 use Rattle.relation_fields.specs.declared.packages.PackageFacts.{PackageFacts}
-use Rattle.repo_model.specs.declared.fault.IndexFault.{IndexFault}
 use Rattle.repo_model.specs.FirstFault.{first_fault}
 use Rattle.repo_model.specs.Repository.{suite_repository}
 use Rattle.repo_model.specs.Stanzas.{CoinstStanzas, stanza_at}
@@ -14,7 +13,7 @@ use Rattle.repo_model.proofs.Healthy.{coinst_same}
 use Rattle.repo_model.proofs.Packages.{length_clauses}
 use Rattle.row_book.specs.Flattening.{packages}
 use Rattle.row_book.specs.Repository.{Repository, Coinst}
-use Rattle.row_book.specs.Rounds.{PassedRound, kernel, kernel_class, kernel_held, kernel_image, limit_at, round_count}
+use Rattle.row_book.specs.Rounds.{kernel, kernel_class, kernel_held, kernel_image, round_count}
 use Rattle.row_book.specs.Sets.{Is, NumSet}
 use Rattle.row_book.proofs.Order.{at_numbers}
 use Rattle.kernel_rounds.specs.Laws.{HasImage}
@@ -33,26 +32,22 @@ use Rattle.coinst_run.specs.declared.answer.Verdict.TheVariants.{Done}
 use Rattle.coinst_words.specs.declared.job.Job.{Job}
 use Rattle.coinst_words.specs.declared.job.Job.TheVariants.{Kernel, Query, StoredQuery, Compare, Explain, Status, Migrate, Sample}
 use Rattle.coinst_run.specs.Answer.{reported}
-use Rattle.coinst_run.specs.Course.{answers, then_on}
-use Rattle.coinst_run.specs.Index.{by_fault, index_in}
 use Rattle.coinst_run.specs.IndexKernel.{classed_kernel, index_kernel, json_for, members_for, text_for}
-use Rattle.coinst_run.specs.Kernel.{by_limit, kernel_answer}
-use Rattle.coinst_run.specs.Meaning.{JsonMeans, KernelMeans, MeansJob, StandsOnce, classes_of}
-use Rattle.coinst_run.specs.Outcome.{answered, course_of, file_limit, outcome_over, over_file, too_long}
+use Rattle.coinst_run.specs.Kernel.{kernel_answer}
+use Rattle.coinst_run.specs.Headline.{KernelMeans, StandsOnce, classes_of}
+use Rattle.coinst_run.specs.Meaning.{JsonMeans, MeansJob}
+use Rattle.coinst_run.specs.Outcome.{answered, course_of, outcome_over}
 use Rattle.coinst_run.proofs.Classes.{class_within}
 use Rattle.coinst_run.proofs.Kernels.{kernel_fits, suite_sound}
 use Rattle.coinst_run.proofs.CompareMeant.{compare_is_meant}
 use Rattle.coinst_run.proofs.ExplainMeant.{explain_is_meant}
 use Rattle.coinst_run.proofs.MigrateMeant.{migrate_is_meant}
-use Rattle.coinst_run.proofs.QueryMeant.{query_is_meant}
-use Rattle.coinst_run.proofs.Reported.{index_used, kernel_used}
+use Rattle.coinst_run.proofs.QueryMeant.{query_is_meant, formed}
+use Rattle.coinst_run.proofs.GoingOn.{GivesThis, kernel_used, this_alone}
 use Rattle.coinst_run.proofs.SampleMeaning.{sample_report_means}
 use Rattle.coinst_run.proofs.StoredMeant.{stored_query_is_meant}
 use Rattle.coinst_run.proofs.SystemMeant.{system_is_meant}
 use Rattle.coinst_run.proofs.Members.{class_from, class_parts, stands_once}
-
-pub formed : (text : List ℕ) → first_fault text ≡ None → Accepted (packages_in text)
-formed text e = accepted.accepted text e
 
 -- the kernel of an accepted index at a limit, with hold or without, with its members
 module _ (limit : ℕ) (hold : Bool) (home : Home) (stanzas : List PackageFacts) (accepted : Accepted stanzas) where
@@ -135,29 +130,6 @@ index_kernel_means limit hold text e =
       keeps = keeps limit hold (home_in text) (packages_in text) f;
     }
 
--- the report of the command is the kernel text of the file's index, which is accepted
-module _ (path : List ℕ) (limit : ℕ) (hold : Bool) (files : Files) (verdict : Verdict) (report : List ℕ) where
-  kernel_limited : (text : List ℕ) (passed : Option PassedRound) → first_fault text ≡ None →
-      outcome_over files (then_on (by_limit path limit hold (index_in text) passed) (λ made. answers (reported Done (text_for (packages_in text) made)))) ≡ answered (reported verdict report) → KernelMeans text limit hold report
-  kernel_limited text (Some passed) accepted e = absurd cc
-  kernel_limited text None accepted e =
-      let same : text_for (packages_in text) (index_kernel limit hold (home_in text) (packages_in text)) ≡ report = cc in subst (KernelMeans text limit hold) same (index_kernel_means limit hold text accepted)
-
-  kernel_checked : (text : List ℕ) (there : Option IndexFault) → first_fault text ≡ there → outcome_over files (then_on (by_fault path text there) (kernel_answer path false limit hold)) ≡ answered (reported verdict report) →
-      KernelMeans text limit hold report
-  kernel_checked text (Some fault) is e = absurd cc
-  kernel_checked text None is e = kernel_limited text (limit_at limit hold (suite_repository (home_in text) (packages_in text))) is e
-
-  kernel_fitting : (text : List ℕ) (b : Bool) → cond b (answered (too_long path)) (outcome_over files (then_on (by_fault path text (first_fault text)) (kernel_answer path false limit hold))) ≡ answered (reported verdict report) →
-      KernelMeans text limit hold report
-  kernel_fitting text true e = absurd cc
-  kernel_fitting text false e = kernel_checked text (first_fault text) refl e
-
-  kernel_report_means : (file : Option (List ℕ)) → files path ≡ file →
-      over_file path file (λ text. outcome_over files (then_on (by_fault path text (first_fault text)) (kernel_answer path false limit hold))) ≡ answered (reported verdict report) → MeansJob (Kernel path false limit hold) files verdict report
-  kernel_report_means None is e = absurd cc
-  kernel_report_means (Some text) is e = (text, is, kernel_fitting text (nat_lt file_limit (length text)) e)
-
 -- as JSON it is that of the kernel for which the text stands
 index_json_means : (limit : ℕ) (hold : Bool) (text : List ℕ) → first_fault text ≡ None → JsonMeans text limit hold (json_for (packages_in text) (index_kernel limit hold (home_in text) (packages_in text)))
 unfolding index_kernel classed_kernel
@@ -171,18 +143,23 @@ index_json_means limit hold text e =
           ∙ ap (kernel_json (format_of hold) means.repository means.members) (sym means.stay);
     }
 
-json_report_means : (path : List ℕ) (limit : ℕ) (hold : Bool) (files : Files) (verdict : Verdict) (report : List ℕ) → outcome_over files (course_of (Kernel path true limit hold)) ≡ answered (reported verdict report) →
-    MeansJob (Kernel path true limit hold) files verdict report
-json_report_means path limit hold files verdict report e =
-    let first = index_used path (kernel_answer path true limit hold) files verdict report e in
-    let end = kernel_used path limit hold (index_in first.0) (λ made. answers (reported Done (json_for (packages_in first.0) made))) files verdict report first.2.1 in
+-- the report of the command, as text and as JSON
+kernel_report_means : (path : List ℕ) (json : Bool) (limit : ℕ) (hold : Bool) (files : Files) (verdict : Verdict) (report : List ℕ) →
+    outcome_over files (course_of (Kernel path json limit hold)) ≡ answered (reported verdict report) → MeansJob (Kernel path json limit hold) files verdict report
+kernel_report_means path false limit hold files verdict report e =
+    let first = kernel_used (GivesThis verdict report) (this_alone verdict report) files path limit hold (kernel_answer false) e in
+    let end : answered (reported Done (text_for (packages_in first.0) (index_kernel limit hold (home_in first.0) (packages_in first.0)))) ≡ answered (reported verdict report) = first.2 in
+    let same : text_for (packages_in first.0) (index_kernel limit hold (home_in first.0) (packages_in first.0)) ≡ report = cc in
+    (first.0, (first.1).0.file.is, subst (KernelMeans first.0 limit hold) same (index_kernel_means limit hold first.0 (first.1).0.accepted))
+kernel_report_means path true limit hold files verdict report e =
+    let first = kernel_used (GivesThis verdict report) (this_alone verdict report) files path limit hold (kernel_answer true) e in
+    let end : answered (reported Done (json_for (packages_in first.0) (index_kernel limit hold (home_in first.0) (packages_in first.0)))) ≡ answered (reported verdict report) = first.2 in
     let same : json_for (packages_in first.0) (index_kernel limit hold (home_in first.0) (packages_in first.0)) ≡ report = cc in
-    (first.0, first.1, subst (JsonMeans first.0 limit hold) same (index_json_means limit hold first.0 first.2.0))
+    (first.0, (first.1).0.file.is, subst (JsonMeans first.0 limit hold) same (index_json_means limit hold first.0 (first.1).0.accepted))
 
 -- what the report on a job means
 pub report_means : (job : Job) (files : Files) (verdict : Verdict) (report : List ℕ) → outcome_over files (course_of job) ≡ answered (reported verdict report) → MeansJob job files verdict report
-report_means (Kernel path false limit hold) files verdict report e = kernel_report_means path limit hold files verdict report (files path) refl e
-report_means (Kernel path true limit hold) files verdict report e = json_report_means path limit hold files verdict report e
+report_means (Kernel path json limit hold) files verdict report e = kernel_report_means path json limit hold files verdict report e
 report_means (Query path goals budget limit hold) files verdict report e = query_is_meant path goals budget limit hold files verdict report e
 report_means (StoredQuery path goals budget) files verdict report e = stored_query_is_meant path goals budget files verdict report e
 report_means (Compare old new budget limit hold) files verdict report e = compare_is_meant old new budget limit hold files verdict report e

@@ -5,13 +5,14 @@ use Rattle.std.specs.Ordering.{is_eq}
 use Rattle.std.specs.Str.{bytes_eq}
 use Rattle.std.proofs.lemmas.Bool.{and_parts, and_from, both_ways}
 use Rattle.std.proofs.lemmas.Slice.Eq.{bytes_eq-Decides}
+use Rattle.listed.proofs.Lists.{same_bytes, In_flat_cases, In_flat}
 use Rattle.kernel_text.specs.KernelText.{members_of}
 use Rattle.kernel_text.specs.Members.{file_members, kernel_members, member_in}
 use Rattle.kernel_text.specs.declared.member.Member.{Member}
 use Rattle.repo_model.proofs.Accepted.{AreSingle}
 use Rattle.repo_model.specs.Facts.{is_same_package}
 use Rattle.repo_model.specs.Repository.{packages_of}
-use Rattle.coinst_run.specs.Meaning.{is_line_of, is_in_class, classes_of, StandsOnce}
+use Rattle.coinst_run.specs.Headline.{is_line_of, is_in_class, classes_of, StandsOnce}
 use Rattle.relation_fields.specs.declared.packages.PackageFacts.{PackageFacts}
 use Rattle.repo_model.specs.Stanzas.{stanza_at, no_stanza}
 use Rattle.deb_version.specs.Order.{version_order}
@@ -21,9 +22,6 @@ use Rattle.row_book.proofs.Lists.{In_append_cases, In_append_left, In_append_rig
 use Rattle.row_book.proofs.Order.{numbers_from}
 use Rattle.repo_model.proofs.Elements.{at_place, range_from, range_cases}
 use Rattle.deb_version.proofs.TotalOrder.{version_total_up_to_ties}
-
-pub same_text : (a b : List ℕ) → bytes_eq a b ≡ true → a ≡ b
-same_text a b h = (bytes_eq-Decides a b).0 h
 
 pub text_same : (a b : List ℕ) → a ≡ b → bytes_eq a b ≡ true
 text_same a b e = (bytes_eq-Decides a b).1 e
@@ -44,23 +42,6 @@ place_of_package (s ∷ stanzas) d zero (suc j) l m e f =
 place_of_package (s ∷ stanzas) d (suc i) zero l m e f =
     absurd (both_ways (is_same_package (stanza_at stanzas i) s) (d.0 (stanza_at stanzas i) (at_place stanzas i no_stanza (omega arith))) (same_package (stanza_at stanzas i) s e f))
 place_of_package (s ∷ stanzas) d (suc i) (suc j) l m e f = ap suc (place_of_package stanzas d.1 i j (omega arith) (omega arith) e f)
-
--- an element of one of the lists, and so of all together
-flat_cases : {X A : Type 0} (f : X → List A) (xs : List X) (y : A) → In y (flat_map f xs) → (x : X) × In x xs × In y (f x)
-flat_cases f [] y i = absurd (In_none i)
-flat_cases f (x ∷ xs) y i =
-    elim (In_append_cases (f x) (flat_map f xs) y i) [
-      | inl j ↦ (x, here, j)
-      | inr j ↦ let w = flat_cases f xs y j in (w.0, there w.1, w.2)
-    ]
-
-flat_from : {X A : Type 0} (f : X → List A) (xs : List X) (x : X) (y : A) → In x xs → In y (f x) → In y (flat_map f xs)
-flat_from f [] x y i j = absurd (In_none i)
-flat_from f (z ∷ xs) x y i j =
-    elim (In_cases i) [
-      | inl e ↦ In_append_left (f z) (flat_map f xs) y (subst (λ w. In y (f w)) e j)
-      | inr k ↦ In_append_right (f z) (flat_map f xs) y (flat_from f xs x y k j)
-    ]
 
 -- the members of the file, by their places
 file_at : (stanzas : List PackageFacts) (class_of : List ℕ) → length class_of ≡ length stanzas → (m : Member) → In m (file_members stanzas class_of) →
@@ -97,7 +78,7 @@ module _ (stanzas : List PackageFacts) (single : AreSingle stanzas) (class_of : 
       let m : Member = member_in (class_at i) s in
       let of_class : In m (members_of (file_members stanzas class_of) (class_at i)) =
       filter_from (λ (o : Member). eqb o.class (class_at i)) (file_members stanzas class_of) m (file_from stanzas class_of each i l) (eq-eqb (class_at i) (class_at i) refl) in
-      let listed : In m all = flat_from (members_of (file_members stanzas class_of)) (numbers size 0) (class_at i) m (numbers_from size 0 (class_at i) (omega arith) (let k : class_at i < size = inside i l in omega arith)) of_class in
+      let listed : In m all = In_flat (members_of (file_members stanzas class_of)) (numbers size 0) (class_at i) m (numbers_from size 0 (class_at i) (omega arith) (let k : class_at i < size = inside i l in omega arith)) of_class in
       any_from (is_line_of s) (members_of all (class_at i)) m
       (filter_from (λ (o : Member). eqb o.class (class_at i)) all m listed (eq-eqb (class_at i) (class_at i) refl))
       (and_from (bytes_eq s.name s.name) (bytes_eq s.version s.version) (text_same s.name s.name refl) (text_same s.version s.version refl))
@@ -109,12 +90,12 @@ module _ (stanzas : List PackageFacts) (single : AreSingle stanzas) (class_of : 
       let s : PackageFacts = stanza_at stanzas i in
       let w : (m : Member) × In m (members_of all n) × (is_line_of s m ≡ true) = any_cases (is_line_of s) (members_of all n) h in
       let of_class : In w.0 all × (eqb w.0.class n ≡ true) = filter_cases (λ (o : Member). eqb o.class n) all w.0 w.1 in
-      let block : (k : ℕ) × In k (numbers size 0) × In w.0 (members_of (file_members stanzas class_of) k) = flat_cases (members_of (file_members stanzas class_of)) (numbers size 0) w.0 of_class.0 in
+      let block : (k : ℕ) × In k (numbers size 0) × In w.0 (members_of (file_members stanzas class_of) k) = In_flat_cases (members_of (file_members stanzas class_of)) (numbers size 0) w.0 of_class.0 in
       let filed : In w.0 (file_members stanzas class_of) = (filter_cases (λ (o : Member). eqb o.class block.0) (file_members stanzas class_of) w.0 block.2).0 in
       let at : (j : ℕ) × (j < length stanzas) × (w.0 ≡ member_in (class_at j) (stanza_at stanzas j)) = file_at stanzas class_of each w.0 filed in
       let p : (bytes_eq w.0.name s.name ≡ true) × (bytes_eq w.0.version s.version ≡ true) = and_parts (bytes_eq w.0.name s.name) (bytes_eq w.0.version s.version) w.2 in
       let same : at.0 ≡ i =
-      place_of_package stanzas single at.0 i at.1 l (ap (λ (m : Member). m.name) (sym at.2) ∙ same_text w.0.name s.name p.0) (ap (λ (m : Member). m.version) (sym at.2) ∙ same_text w.0.version s.version p.1) in
+      place_of_package stanzas single at.0 i at.1 l (ap (λ (m : Member). m.name) (sym at.2) ∙ same_bytes w.0.name s.name p.0) (ap (λ (m : Member). m.version) (sym at.2) ∙ same_bytes w.0.version s.version p.1) in
       sym (eqb-true w.0.class n of_class.1) ∙ ap (λ (m : Member). m.class) at.2 ∙ ap class_at same
 
   -- each stanza stands once

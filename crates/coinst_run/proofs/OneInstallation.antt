@@ -12,16 +12,10 @@ use Rattle.repo_model.proofs.Accepted.{Accepted}
 use Rattle.repo_model.proofs.Elements.{at_place}
 use Rattle.row_book.specs.Sets.{In, here, there}
 use Rattle.kernel_text.proofs.Spelling.{Plain, cut_same, name_plain}
+use Rattle.kernel_text.proofs.Candidates.{version_plain}
 use Rattle.coinst_run.specs.Lines.{line_of_text}
 use Rattle.coinst_run.specs.QueryText.{install_line, yes_text}
 use Rattle.coinst_run.proofs.Members.{place_of_package}
-
--- a version has neither a space nor a line feed
-version_plain : (text : List ℕ) → list_all is_upstream_byte text ≡ true → Plain text
-version_plain [] h = tt
-version_plain (c ∷ cs) h =
-    let w = and_parts (is_upstream_byte c) (list_all is_upstream_byte cs) h in
-    (((λ e. false≢true (subst (λ z. is_upstream_byte z ≡ true) e w.0)), (λ e. false≢true (subst (λ z. is_upstream_byte z ≡ true) e w.0))), version_plain cs w.1)
 
 pub record IsPlainPackage (s : PackageFacts) : Type 0 where
   pub name : Plain s.name

@@ -1,22 +1,21 @@
 -- What the report of a query means.
-use Rattle.std.proofs.Common.{◌≡◌, ℕ, ◌+◌, Bool, true, false, cond, eqb, nat_lt, List, [], ◌∷◌, length, Option, Some, None, inl, inr, refl, sym, ap, subst, ◌∙◌}
+use Rattle.std.proofs.Common.{◌≡◌, ℕ, ◌+◌, Bool, false, cond, nat_lt, List, [], ◌∷◌, length, Option, Some, None, inl, inr, refl, sym, ap, subst, ◌∙◌}
 use Rattle.std.proofs.lemmas.Bool.{cases_Bool, ltb-true}
-use Rattle.byte_flow.specs.Flow.{Files}
+use Rattle.listed.proofs.Bools.{cases_Option}
+use Rattle.listed.proofs.Lists.{some_item}
 use Rattle.relation_fields.specs.declared.packages.PackageFacts.{PackageFacts}
-use Rattle.repo_model.specs.declared.fault.IndexFault.{IndexFault}
 use Rattle.repo_model.specs.declared.goals.Goal.{Goal}
 use Rattle.repo_model.proofs.Accepted.{Accepted}
 use Rattle.repo_model.proofs.Accepted as accepted
 use Rattle.repo_model.specs.FirstFault.{first_fault}
 use Rattle.repo_model.specs.Goals.{packages_named}
 use Rattle.repo_model.specs.Repository.{suite_repository}
-use Rattle.row_book.specs.Rounds.{PassedRound, kernel, limit_at}
-use Rattle.row_book.specs.Sets.{In, here}
+use Rattle.row_book.specs.Rounds.{kernel}
+use Rattle.row_book.specs.Sets.{In}
 use Rattle.row_book.proofs.Lists.{In_cases, In_none}
 use Rattle.search_terms.specs.Form.{form}
 use Rattle.search_terms.specs.Tree.{Tree, failed_leaves, found_of, log_of}
 use Rattle.search_terms.proofs.Certificates.{tree_derives}
-use Rattle.search_terms.proofs.Exists.{cases_Option}
 use Rattle.suite_compare.specs.Answering.{names_none, unknown_from, unknown_goal}
 use Rattle.suite_compare.specs.Asking.{asked_tree, images_of, installation}
 use Rattle.suite_compare.proofs.Deciding.{asked_is, found_there}
@@ -24,20 +23,17 @@ use Rattle.suite_compare.specs.Refusals.{home_in, packages_in}
 use Rattle.coinst_run.specs.declared.answer.Verdict.{Verdict}
 use Rattle.coinst_run.specs.declared.answer.Verdict.TheVariants.{Done, Negative, Undecided}
 use Rattle.coinst_run.specs.Answer.{reported}
-use Rattle.coinst_run.specs.Course.{answers, then_on}
-use Rattle.coinst_run.specs.Index.{by_fault, index_in}
-use Rattle.coinst_run.specs.Kernel.{by_limit}
-use Rattle.coinst_run.specs.Outcome.{answered, file_limit, outcome_over, over_file, too_long}
+use Rattle.coinst_run.specs.Index.{index_in}
+use Rattle.coinst_run.specs.Outcome.{answered}
 use Rattle.coinst_run.specs.Query.{by_found, by_tree, by_unknown, goals_answer, query_answer}
 use Rattle.coinst_run.specs.QueryMeaning.{MeansVerdict, QueryIsMeant, QueryMeans}
 use Rattle.coinst_run.specs.QueryText.{no_text, undecided_text, yes_text}
 use Rattle.coinst_run.proofs.Installed.{installs_ascending, installs_for, installs_healthy, installs_within}
 use Rattle.coinst_run.proofs.OneInstallation.{one_installation}
+use Rattle.coinst_run.proofs.GoingOn.{GivesThis, kernel_used, this_alone}
 
--- a list that is not empty has an item
-some_item : (xs : List ℕ) → eqb (length xs) 0 ≡ false → (n : ℕ) × In n xs
-some_item [] h = absurd (cc h)
-some_item (x ∷ xs) h = (x, here)
+pub formed : (text : List ℕ) → first_fault text ≡ None → Accepted (packages_in text)
+formed text e = accepted.accepted text e
 
 -- where no goal is unknown, each names a package
 pub all_known : (packages : List PackageFacts) (number : ℕ) (goals : List Goal) → unknown_from number packages goals ≡ None → (goal : Goal) → In goal goals → (n : ℕ) × In n (packages_named packages goal)
@@ -49,9 +45,6 @@ all_known packages number (g ∷ gs) e goal i = elim (cases_Bool (names_none pac
     | inr later ↦ all_known packages (number + 1) gs (rw f at e) goal later
   ]
 ]
-
-pub formed : (text : List ℕ) → first_fault text ≡ None → Accepted (packages_in text)
-formed text e = accepted.accepted text e
 
 module _ (text : List ℕ) (goals : List Goal) (budget limit : ℕ) (hold : Bool) (verdict : Verdict) (report : List ℕ) where
   abbrev tree : Tree
@@ -100,29 +93,9 @@ module _ (text : List ℕ) (goals : List Goal) (budget limit : ℕ) (hold : Bool
   goals_mean None accepted is e = record { accepted = accepted; known = all_known (packages_in text) 1 goals is; means = tree_means (formed text accepted) e }
 
 -- the report of a query of the file at the path
-module _ (path : List ℕ) (goals : List Goal) (budget limit : ℕ) (hold : Bool) (files : Files) (verdict : Verdict) (report : List ℕ) where
-  limited : (text : List ℕ) (passed : Option PassedRound) → first_fault text ≡ None →
-      outcome_over files (then_on (by_limit path limit hold (index_in text) passed) (λ made. answers (goals_answer goals budget limit hold (index_in text)))) ≡ answered (reported verdict report) → QueryMeans text goals budget limit hold verdict report
-  limited text (Some passed) accepted e = absurd cc
-  limited text None accepted e =
-      let same : goals_answer goals budget limit hold (index_in text) ≡ reported verdict report = cc in
-      goals_mean text goals budget limit hold verdict report (unknown_goal (packages_in text) goals) accepted refl same
-
-  checked : (text : List ℕ) (fault : Option IndexFault) → first_fault text ≡ fault → outcome_over files (then_on (by_fault path text fault) (query_answer path goals budget limit hold)) ≡ answered (reported verdict report) →
-      QueryMeans text goals budget limit hold verdict report
-  checked text (Some fault) is e = absurd cc
-  checked text None is e = limited text (limit_at limit hold (suite_repository (home_in text) (packages_in text))) is e
-
-  fitting : (text : List ℕ) (b : Bool) → cond b (answered (too_long path)) (outcome_over files (then_on (by_fault path text (first_fault text)) (query_answer path goals budget limit hold))) ≡ answered (reported verdict report) →
-      QueryMeans text goals budget limit hold verdict report
-  fitting text true e = absurd cc
-  fitting text false e = checked text (first_fault text) refl e
-
-  of_file : (file : Option (List ℕ)) → files path ≡ file →
-      over_file path file (λ text. outcome_over files (then_on (by_fault path text (first_fault text)) (query_answer path goals budget limit hold))) ≡ answered (reported verdict report) →
-      (text : List ℕ) × (files path ≡ Some text) × QueryMeans text goals budget limit hold verdict report
-  of_file None is e = absurd cc
-  of_file (Some text) is e = (text, is, fitting text (nat_lt file_limit (length text)) e)
-
 pub query_is_meant : QueryIsMeant
-query_is_meant path goals budget limit hold files verdict report e = of_file path goals budget limit hold files verdict report (files path) refl e
+query_is_meant path goals budget limit hold files verdict report e =
+    let first = kernel_used (GivesThis verdict report) (this_alone verdict report) files path limit hold (query_answer goals budget limit hold) e in
+    let end : answered (goals_answer goals budget limit hold (index_in first.0)) ≡ answered (reported verdict report) = first.2 in
+    let same : goals_answer goals budget limit hold (index_in first.0) ≡ reported verdict report = cc in
+    (first.0, (first.1).0.file.is, goals_mean first.0 goals budget limit hold verdict report (unknown_goal (packages_in first.0) goals) (first.1).0.accepted refl same)

@@ -18,11 +18,16 @@ use Rattle.coinst_run.specs.Ending.{stop_ending, word_stop}
 use Rattle.coinst_run.specs.Follows.{FollowsJob, of_a_job, of_no_job, without_memory, without_memory_for_words}
 use Rattle.coinst_run.specs.Meaning.{IsMeant, MeansJob}
 use Rattle.coinst_run.specs.Outcome.{Outcome, answered, unread, not_a_command, course_of, of_job, outcome_of, report_of, status_of}
-use Rattle.coinst_run.specs.Run.{Answers, Completes, EndsAs, Took}
+use Rattle.claims.specs.CompareSentence.{CompareIsTrue}
+use Rattle.claims.specs.KernelSentence.{KernelIsTrue}
+use Rattle.coinst_run.proofs.Sentences.{compare_is_true, kernel_is_true, took_so}
+use Rattle.coinst_run.specs.Run.{Answers, Completes, Took}
 use Rattle.coinst_run.specs.Run as run
 use Rattle.coinst_run.specs.Status.{cause_status, verdict_status}
 use Rattle.coinst_words.specs.Jobs.{job_of}
 use Rattle.coinst_words.specs.Refusals.{OnNotACommand}
+use Rattle.coinst_run.proofs.Ends.{EndsAs}
+use Rattle.coinst_run.proofs.Ends as ends
 use Rattle.coinst_run.proofs.Follows.{ends_as, no_words, unread_rose}
 use Rattle.coinst_run.proofs.Meaning.{report_means}
 use Rattle.coinst_run.proofs.Telling.{appends_none}
@@ -113,27 +118,27 @@ module _ {Quiet RoseIn RoseOut : Type 0} {room : ℕ} {Line : List ℕ → Type 
 nothing : {O : Type 0} (taken : O → Option (List ℕ)) (out out_after : O) → out_after ≡ out → Appends (taken out) (taken out_after) []
 nothing taken out out_after same = subst (λ x. Appends (taken out) (taken x) []) (sym same) (appends_none (taken out))
 
-module _ {O E : Type 0} {taken : O → Option (List ℕ)} {faults room : O → ℕ} {write : O → List ℕ → Option ℕ → O → Type 0} {told : E → Option (List ℕ)} {told_faults : E → ℕ}
+module _ {O E : Type 0} {taken : O → Option (List ℕ)} {faults room : O → ℕ} {write : O → List ℕ → Option ℕ → O → Type 0} {told : E → Option (List ℕ)} {told_faults : E → ℕ} {told_write : E → List ℕ → Option ℕ → E → Type 0}
     {out out_after : O} {err err_after : E} {result : Status} where
   -- a run whose outcome is told
   pub answers_told : {Quiet RoseIn : Type 0} (o : Outcome) {ending : Option Outcome} → EndsAs Quiet o ending → ((path : List ℕ) → ending ≡ Some (unread path) → RoseIn) →
-      Delivers taken faults room write told told_faults out err result out_after err_after ending →
-      Answers Quiet RoseIn (Rose (faults out) (faults out_after)) (room out) (Tells told told_faults err err_after) o (taken out) (taken out_after) result
-  answers_told o run.as_told rose (a_report verdict report w) = run.as_told w.status w.took (λ stop. absurd stop)
-  answers_told o run.as_told rose (a_cut_report verdict report k) = run.cut_report k.status k.rose k.roomless (λ stop. stop) (k.written, k.short, k.took)
-  answers_told o run.as_told rose (a_refusal ending same d) = as_refused o same d
+      Delivers taken faults room write told told_faults told_write out err result out_after err_after ending →
+      Answers Quiet RoseIn (Rose (faults out) (faults out_after)) (room out) (Tells told told_faults told_write err err_after) o (taken out) (taken out_after) result
+  answers_told o ends.as_told rose (a_report verdict report w) = run.as_told w.status w.took (λ stop. absurd stop)
+  answers_told o ends.as_told rose (a_cut_report verdict report k) = run.cut_report k.status k.rose k.roomless (λ stop. stop) (k.written, k.short, k.took)
+  answers_told o ends.as_told rose (a_refusal ending same d) = as_refused o same d
     where
-      as_refused : {Quiet RoseIn : Type 0} (o : Outcome) → out_after ≡ out → IsRefused told told_faults err (Some o) result err_after →
-          Answers Quiet RoseIn (Rose (faults out) (faults out_after)) (room out) (Tells told told_faults err err_after) o (taken out) (taken out_after) result
+      as_refused : {Quiet RoseIn : Type 0} (o : Outcome) → out_after ≡ out → IsRefused told told_faults told_write err (Some o) result err_after →
+          Answers Quiet RoseIn (Rose (faults out) (faults out_after)) (room out) (Tells told told_faults told_write err err_after) o (taken out) (taken out_after) result
       as_refused (answered (reported verdict report)) same d = absurd d.0
       as_refused (answered (refused cause line)) same d = run.as_told d.1 (nothing taken out out_after same) (λ stop. d.2)
       as_refused (unread path) same d = run.as_told d.1 (nothing taken out out_after same) (λ stop. d.2)
       as_refused not_a_command same d = run.as_told d.1 (nothing taken out out_after same) (λ stop. d.2)
-  answers_told o (run.at_an_unread_file path quiet) rose (a_refusal ending same d) = run.unread_file path d.1 (rose path refl) quiet (nothing taken out out_after same) d.2
-  answers_told o run.without_memory rose (a_refusal ending same d) = run.want_of_memory d.0 (nothing taken out out_after same)
+  answers_told o (ends.at_an_unread_file path quiet) rose (a_refusal ending same d) = run.unread_file path d.1 (rose path refl) quiet (nothing taken out out_after same) d.2
+  answers_told o ends.without_memory rose (a_refusal ending same d) = run.want_of_memory d.0 (nothing taken out out_after same)
 
   -- a write fault comes of a failed write
-  pub cut_rose : (ending : Option Outcome) → Delivers taken faults room write told told_faults out err result out_after err_after ending → result ≡ status.WriteFault → Rose (faults out) (faults out_after)
+  pub cut_rose : (ending : Option Outcome) → Delivers taken faults room write told told_faults told_write out err result out_after err_after ending → result ≡ status.WriteFault → Rose (faults out) (faults out_after)
   cut_rose ending (a_report verdict report w) e = absurd ((of_verdict verdict).not_cut (sym w.status ∙ e))
   cut_rose ending (a_cut_report verdict report k) e = k.rose
   cut_rose (Some (answered (reported verdict report))) (a_refusal ending same d) e = absurd d.0
@@ -143,7 +148,7 @@ module _ {O E : Type 0} {taken : O → Option (List ℕ)} {faults room : O → �
   cut_rose None (a_refusal ending same d) e = absurd (let k : status.Memory ≡ status.WriteFault = sym d.0 ∙ e in cc)
 
   -- a read fault is told of an unread file
-  unread_at : (ending : Option Outcome) → Delivers taken faults room write told told_faults out err result out_after err_after ending → result ≡ status.ReadFault → (path : List ℕ) × (ending ≡ Some (unread path))
+  unread_at : (ending : Option Outcome) → Delivers taken faults room write told told_faults told_write out err result out_after err_after ending → result ≡ status.ReadFault → (path : List ℕ) × (ending ≡ Some (unread path))
   unread_at ending (a_report verdict report w) e = absurd ((of_verdict verdict).not_unread (sym w.status ∙ e))
   unread_at ending (a_cut_report verdict report k) e = absurd (let l : status.WriteFault ≡ status.ReadFault = sym k.status ∙ e in cc)
   unread_at (Some (answered (reported verdict report))) (a_refusal ending same d) e = absurd d.0
@@ -153,7 +158,7 @@ module _ {O E : Type 0} {taken : O → Option (List ℕ)} {faults room : O → �
   unread_at None (a_refusal ending same d) e = absurd (let k : status.Memory ≡ status.ReadFault = sym d.0 ∙ e in cc)
 
   -- the words are refused of no command
-  words_at : (ending : Option Outcome) → Delivers taken faults room write told told_faults out err result out_after err_after ending → result ≡ status.Words → ending ≡ Some not_a_command
+  words_at : (ending : Option Outcome) → Delivers taken faults room write told told_faults told_write out err result out_after err_after ending → result ≡ status.Words → ending ≡ Some not_a_command
   words_at ending (a_report verdict report w) e = absurd ((of_verdict verdict).not_words (sym w.status ∙ e))
   words_at ending (a_cut_report verdict report k) e = absurd (let l : status.WriteFault ≡ status.Words = sym k.status ∙ e in cc)
   words_at (Some (answered (reported verdict report))) (a_refusal ending same d) e = absurd d.0
@@ -162,10 +167,10 @@ module _ {O E : Type 0} {taken : O → Option (List ℕ)} {faults room : O → �
   words_at (Some not_a_command) (a_refusal ending same d) e = refl
   words_at None (a_refusal ending same d) e = absurd (let k : status.Memory ≡ status.Words = sym d.0 ∙ e in cc)
 
-  words_from : Delivers taken faults room write told told_faults out err result out_after err_after (Some not_a_command) → result ≡ status.Words
+  words_from : Delivers taken faults room write told told_faults told_write out err result out_after err_after (Some not_a_command) → result ≡ status.Words
   words_from (a_refusal ending same d) = d.1
 
-  memory_from : Delivers taken faults room write told told_faults out err result out_after err_after None → result ≡ status.Memory
+  memory_from : Delivers taken faults room write told told_faults told_write out err result out_after err_after None → result ≡ status.Memory
   memory_from (a_refusal ending same d) = d.0
 
 module _ {F : Type 0} {contents : F → Option Files} {shelf_faults moved : F → ℕ} {is_quiet : F → Type 0}
@@ -178,8 +183,8 @@ module _ {F : Type 0} {contents : F → Option Files} {shelf_faults moved : F �
 
   job_ends : {job : Option Job} {shelf after : F} {ending : Option Outcome} (files : Files) → FollowsJob contents shelf_faults moved is_quiet start read job shelf ending after → contents shelf ≡ Some files →
       EndsAs (is_quiet shelf) (of_job job files) ending
-  job_ends files (of_no_job s) is = run.as_told
-  job_ends files (without_memory_for_words s) is = run.without_memory
+  job_ends files (of_no_job s) is = ends.as_told
+  job_ends files (without_memory_for_words s) is = ends.without_memory
   job_ends files (of_a_job job s t x f) is = ends_as files f is
 
   -- words that give no job are refused, or no memory is found
@@ -189,36 +194,47 @@ module _ {F : Type 0} {contents : F → Option Files} {shelf_faults moved : F �
   words_refused (Some job) words.NotACommand h s = absurd cc
   words_refused (Some job) words.Memory h s = of_a_job job s s None (without_memory (course_of job) s)
 
-  module _ {O E : Type 0} {taken : O → Option (List ℕ)} {faults room : O → ℕ} {write : O → List ℕ → Option ℕ → O → Type 0} {told : E → Option (List ℕ)} {told_faults : E → ℕ} where
+  module _ {O E : Type 0} {taken : O → Option (List ℕ)} {faults room : O → ℕ} {write : O → List ℕ → Option ℕ → O → Type 0} {told : E → Option (List ℕ)} {told_faults : E → ℕ} {told_write : E → List ℕ → Option ℕ → E → Type 0} where
     -- the clauses of a run, from what was done to the shelf and what the sinks took
     pub answers_run : {shelf after : F} {ending : Option Outcome} {out out_after : O} {err err_after : E} {result : Status} (words : List (List ℕ)) → FollowsJob contents shelf_faults moved is_quiet start read (job_of words) shelf ending after →
-        Delivers taken faults room write told told_faults out err result out_after err_after ending →
-        IfSome (contents shelf) (λ files. Answers (is_quiet shelf) (Rose (shelf_faults shelf) (shelf_faults after)) (Rose (faults out) (faults out_after)) (room out) (Tells told told_faults err err_after)
+        Delivers taken faults room write told told_faults told_write out err result out_after err_after ending →
+        IfSome (contents shelf) (λ files. Answers (is_quiet shelf) (Rose (shelf_faults shelf) (shelf_faults after)) (Rose (faults out) (faults out_after)) (room out) (Tells told told_faults told_write err err_after)
         (outcome_of words files) (taken out) (taken out_after) result)
     unfolding outcome_of
     answers_run {shelf = shelf} words f d = each_told (contents shelf) (λ files is. answers_told (of_job (job_of words) files) (job_ends files f is) (λ path e. job_rose f e) d)
 
     pub meaning_run : {shelf after : F} {ending : Option Outcome} {out out_after : O} {err err_after : E} {result : Status} (words : List (List ℕ)) (verdict : Verdict) → FollowsJob contents shelf_faults moved is_quiet start read (job_of words) shelf ending after →
-        Delivers taken faults room write told told_faults out err result out_after err_after ending → result ≡ verdict_status verdict → IfSome (contents shelf) (λ files. Took (taken out) (taken out_after) (IsMeant words files verdict))
+        Delivers taken faults room write told told_faults told_write out err result out_after err_after ending → result ≡ verdict_status verdict → IfSome (contents shelf) (λ files. Took (taken out) (taken out_after) (IsMeant words files verdict))
     meaning_run {shelf = shelf} words verdict f d e = if_told (contents shelf) (λ files h. meaning_told words files verdict h e) (answers_run words f d)
 
+    -- the two sentences follow from the meaning
+    pub kernel_run : {shelf after : F} {ending : Option Outcome} {out out_after : O} {err err_after : E} {result : Status} (words : List (List ℕ)) (verdict : Verdict) → FollowsJob contents shelf_faults moved is_quiet start read (job_of words) shelf ending after →
+        Delivers taken faults room write told told_faults told_write out err result out_after err_after ending → result ≡ verdict_status verdict → IfSome (contents shelf) (λ files. Took (taken out) (taken out_after) (KernelIsTrue words files))
+    kernel_run {shelf = shelf} {out = out} {out_after = out_after} words verdict f d e =
+        if_told (contents shelf) (λ files t. took_so (taken out) (taken out_after) (kernel_is_true words files verdict) t) (meaning_run words verdict f d e)
+
+    pub compare_run : {shelf after : F} {ending : Option Outcome} {out out_after : O} {err err_after : E} {result : Status} (words : List (List ℕ)) (verdict : Verdict) → FollowsJob contents shelf_faults moved is_quiet start read (job_of words) shelf ending after →
+        Delivers taken faults room write told told_faults told_write out err result out_after err_after ending → result ≡ verdict_status verdict → IfSome (contents shelf) (λ files. Took (taken out) (taken out_after) (CompareIsTrue words files))
+    compare_run {shelf = shelf} {out = out} {out_after = out_after} words verdict f d e =
+        if_told (contents shelf) (λ files t. took_so (taken out) (taken out_after) (compare_is_true words files verdict) t) (meaning_run words verdict f d e)
+
     pub completes_run : {shelf after : F} {ending : Option Outcome} {out out_after : O} {err err_after : E} {result : Status} (words : List (List ℕ)) → FollowsJob contents shelf_faults moved is_quiet start read (job_of words) shelf ending after →
-        Delivers taken faults room write told told_faults out err result out_after err_after ending →
+        Delivers taken faults room write told told_faults told_write out err result out_after err_after ending →
         IfSome (contents shelf) (λ files. (Rose (shelf_faults shelf) (shelf_faults after) → ⊥) → (Rose (faults out) (faults out_after) → ⊥) → Completes result (outcome_of words files))
     completes_run {shelf = shelf} words f d = if_told (contents shelf) (λ files h. completes_told (outcome_of words files) h) (answers_run words f d)
 
     pub read_fault_run : {shelf after : F} {ending : Option Outcome} {out out_after : O} {err err_after : E} {result : Status} {job : Option Job} → FollowsJob contents shelf_faults moved is_quiet start read job shelf ending after →
-        Delivers taken faults room write told told_faults out err result out_after err_after ending → result ≡ status.ReadFault → Rose (shelf_faults shelf) (shelf_faults after)
+        Delivers taken faults room write told told_faults told_write out err result out_after err_after ending → result ≡ status.ReadFault → Rose (shelf_faults shelf) (shelf_faults after)
     read_fault_run {ending = ending} f d e = let at : (path : List ℕ) × (ending ≡ Some (unread path)) = unread_at ending d e in job_rose f at.1
 
     pub words_run : {shelf after : F} {ending : Option Outcome} {out out_after : O} {err err_after : E} {result : Status} {job : Option Job} → FollowsJob contents shelf_faults moved is_quiet start read job shelf ending after →
-        Delivers taken faults room write told told_faults out err result out_after err_after ending → result ≡ status.Words → job ≡ None
+        Delivers taken faults room write told told_faults told_write out err result out_after err_after ending → result ≡ status.Words → job ≡ None
     words_run (of_no_job s) d e = refl
     words_run (without_memory_for_words s) d e = refl
     words_run (of_a_job job s t x f) d e = absurd (no_words f (words_at x d e))
 
     pub no_job_run : {shelf after : F} {ending : Option Outcome} {out out_after : O} {err err_after : E} {result : Status} {job : Option Job} → FollowsJob contents shelf_faults moved is_quiet start read job shelf ending after →
-        Delivers taken faults room write told told_faults out err result out_after err_after ending → job ≡ None → (result ≡ status.Words) ⊎ (result ≡ status.Memory)
+        Delivers taken faults room write told told_faults told_write out err result out_after err_after ending → job ≡ None → (result ≡ status.Words) ⊎ (result ≡ status.Memory)
     no_job_run (of_no_job s) d e = inl (words_from d)
     no_job_run (without_memory_for_words s) d e = inr (memory_from d)
     no_job_run (of_a_job job s t x f) d e = absurd cc

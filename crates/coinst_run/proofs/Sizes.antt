@@ -3,6 +3,7 @@ use Rattle.std.proofs.Common.{◌≡◌, ◌∙◌, ◌+◌, ℕ, Bool, true, fa
 use Rattle.std.specs.List.{count_by, flat_map, sum_by}
 use Rattle.std.proofs.lemmas.List.Sums.{sum_by-append}
 use Rattle.std.proofs.lemmas.List.{length-map}
+use Rattle.row_book.proofs.Order.{numbers_end, numbers_more}
 use Rattle.clause_pool.specs.Interned.{Interned, row_at}
 use Rattle.kernel_rounds.specs.declared.extraction.Kernel.{Kernel}
 use Rattle.relation_fields.specs.declared.packages.PackageFacts.{PackageFacts}
@@ -106,14 +107,6 @@ no_numbers = refl
 
 pub sum_none : (f : ℕ → ℕ) → 0 ≡ sum_by f (numbers 0 0)
 sum_none f = ap (sum_by f) (sym no_numbers)
-
-numbers_end : (n k : ℕ) → numbers (suc n) k ≡ numbers n k ++ (k + n) ∷ []
-unfolding numbers
-numbers_end zero k = ap (λ m. m ∷ []) (omega arith)
-numbers_end (suc n) k = ap (λ xs. k ∷ xs) (numbers_end n (suc k) ∙ ap (λ m. numbers n (suc k) ++ m ∷ []) (omega arith))
-
-numbers_more : (n : ℕ) → numbers (n + 1) 0 ≡ numbers n 0 ++ n ∷ []
-numbers_more n = ap (λ m. numbers m 0) (add-one n) ∙ numbers_end n 0 ∙ ap (λ m. numbers n 0 ++ m ∷ []) (zero-add n)
 
 -- one more class
 pub sum_more : (f : ℕ → ℕ) (n before one new : ℕ) → before ≡ sum_by f (numbers n 0) → one ≡ f n → new ≡ one + before → new ≡ sum_by f (numbers (n + 1) 0)

@@ -1,7 +1,7 @@
 -- The kernel text of an index answers goals as the index does.
 use Rattle.std.proofs.Common.{◌≡◌, ℕ, ◌+◌, ◌<◌, ◌≤◌, Bool, true, false, cond, eqb, eqb-true, eq-eqb, nat_lt, List, [], ◌∷◌, length, map, slice_index_or, Option, Some, None, refl, sym, ap, ap₂, subst, ◌∙◌}
 use Rattle.std.specs.List.{list_any, position_from}
-use Rattle.std.proofs.lemmas.Bool.{le-ltb}
+use Rattle.listed.proofs.Bools.{same_bool}
 use Rattle.byte_flow.specs.Flow.{Files}
 use Rattle.relation_fields.specs.declared.packages.Home.{Home}
 use Rattle.relation_fields.specs.declared.packages.PackageFacts.{PackageFacts}
@@ -15,7 +15,6 @@ use Rattle.kernel_text.specs.Laws.{IsReadBack}
 use Rattle.kernel_text.specs.Members.{kernel_members}
 use Rattle.kernel_text.proofs.OneReading.{one_reading}
 use Rattle.kernel_text.proofs.ReadBack.{read_back}
-use Rattle.repo_model.specs.declared.fault.IndexFault.{IndexFault}
 use Rattle.repo_model.specs.declared.goals.Goal.{Goal}
 use Rattle.repo_model.specs.FirstFault.{first_fault}
 use Rattle.repo_model.specs.Goals.{packages_named}
@@ -24,7 +23,7 @@ use Rattle.repo_model.proofs.Accepted.{Accepted}
 use Rattle.repo_model.proofs.Packages.{length_clauses}
 use Rattle.row_book.specs.Clauses.{numbers}
 use Rattle.row_book.specs.Repository.{Repository}
-use Rattle.row_book.specs.Rounds.{PassedRound, kernel, kernel_class, kernel_held, kernel_image, limit_at}
+use Rattle.row_book.specs.Rounds.{kernel, kernel_class, kernel_held, kernel_image}
 use Rattle.row_book.specs.Sets.{In, has}
 use Rattle.row_book.proofs.Lists.{In_has, any_cases, any_from, filter_same, has_In}
 use Rattle.search_terms.specs.Tree.{Tree, failed_leaves, found_of, log_of}
@@ -38,21 +37,19 @@ use Rattle.coinst_run.specs.declared.answer.Verdict.{Verdict}
 use Rattle.coinst_run.specs.declared.answer.Verdict.TheVariants.{Done, Undecided}
 use Rattle.coinst_run.specs.Answer.{reported}
 use Rattle.coinst_run.specs.Course.{answers, then_on}
-use Rattle.coinst_run.specs.Index.{by_fault, index_in}
+use Rattle.coinst_run.specs.Index.{index_in}
 use Rattle.coinst_run.specs.IndexKernel.{classed_kernel, index_kernel, text_for}
-use Rattle.coinst_run.specs.Kernel.{by_limit, kernel_answer}
-use Rattle.coinst_run.specs.Outcome.{answered, file_limit, outcome_over, over_file, too_long}
-use Rattle.coinst_run.specs.Query.{by_found, by_tree, by_unknown, goal_of_number, goals_answer, query_answer}
+use Rattle.coinst_run.specs.Kernel.{kernel_answer, kernel_course}
+use Rattle.coinst_run.specs.Outcome.{answered, file_limit, outcome_over}
+use Rattle.coinst_run.specs.Query.{by_found, by_tree, by_unknown, goal_of_number, goals_answer, query_answer, query_course}
 use Rattle.coinst_run.specs.QueryText.{undecided_text, unknown_line}
 use Rattle.coinst_run.specs.StoredAgrees.{AreOneAnswer, StoredAnswersAsIndex, StoredImagesAreOfIndex, no, undecided, unknown, yes}
-use Rattle.coinst_run.specs.StoredQuery.{classes_by_tree, classes_found, images_in, stored_answer, stored_by_unknown, stored_query_answer}
-use Rattle.coinst_run.proofs.Meaning.{class_is, fits, formed}
+use Rattle.coinst_run.specs.StoredQuery.{classes_by_tree, classes_found, images_in, stored_answer, stored_by_unknown, stored_query_answer, stored_query_course}
+use Rattle.coinst_run.proofs.Meaning.{class_is, fits}
 use Rattle.coinst_run.proofs.StoredKernels.{kernel_checked}
-
-bool_same : (a b : Bool) → (a ≡ true → b ≡ true) → (b ≡ true → a ≡ true) → a ≡ b
-bool_same true b f g = sym (f refl)
-bool_same false true f g = g refl
-bool_same false false f g = refl
+use Rattle.coinst_run.proofs.QueryMeant.{formed}
+use Rattle.coinst_run.specs.Complete.{HasKernel}
+use Rattle.coinst_run.proofs.GoingOn.{GivesThis, file_step, kernel_step, kernel_used, this_alone}
 
 map_same : {A B : Type 0} (f g : A → B) (xs : List A) → ((x : A) → f x ≡ g x) → map f xs ≡ map g xs
 map_same f g [] e = refl
@@ -114,7 +111,7 @@ module _ (limit : ℕ) (hold : Bool) (home : Home) (stanzas : List PackageFacts)
         any_from is_class_of wanted w.by (has_In wanted w.by w.inside) (eq-eqb n (slice_index_or classes w.by 0) (sym w.class ∙ sym (class_at w.by w.within)))
 
     class_same : list_any is_class_of wanted ≡ kernel_image limit hold R (has wanted) n
-    class_same = bool_same (list_any is_class_of wanted) (kernel_image limit hold R (has wanted) n) into from
+    class_same = same_bool (list_any is_class_of wanted) (kernel_image limit hold R (has wanted) n) into from
 
   image_same : (goal : Goal) → image_of members size goal ≡ asking.image_of limit hold home stanzas goal
   image_same goal =
@@ -164,71 +161,49 @@ module _ (text : List ℕ) (accepted : first_fault text ≡ None) (goals : List 
       (sym (unknown_same stanzas the_members 1 goals (back limit hold (home_in text) stanzas (formed text accepted)).unknown)) (by_first first)
 
 -- what is known where the kernel of the index at the path is printed
-record IsPrinted (text : List ℕ) (limit : ℕ) (hold : Bool) (printed : List ℕ) : Type 0 where
-  short : nat_lt file_limit (length text) ≡ false
-  accepted : first_fault text ≡ None
-  within : limit_at limit hold (suite_repository (home_in text) (packages_in text)) ≡ None
+record IsPrinted (files : Files) (index text : List ℕ) (limit : ℕ) (hold : Bool) (printed : List ℕ) : Type 0 where
+  has : HasKernel files index limit hold text
   is : printed ≡ text_for (packages_in text) (index_kernel limit hold (home_in text) (packages_in text))
 
-module _ (files : Files) (index text printed : List ℕ) (limit : ℕ) (hold : Bool) (verdict : Verdict) where
-  by_rounds : (passed : Option PassedRound) → nat_lt file_limit (length text) ≡ false → first_fault text ≡ None → limit_at limit hold (suite_repository (home_in text) (packages_in text)) ≡ passed →
-      outcome_over files (then_on (by_limit index limit hold (index_in text) passed) (λ made. answers (reported Done (text_for (packages_in text) made)))) ≡ answered (reported verdict printed) → IsPrinted text limit hold printed
-  by_rounds (Some passed) short accepted is e = absurd cc
-  by_rounds None short accepted is e =
-      let same : printed ≡ text_for (packages_in text) (index_kernel limit hold (home_in text) (packages_in text)) = cc in
-      record { short = short; accepted = accepted; within = is; is = same }
-
-  by_faults : (fault : Option IndexFault) → nat_lt file_limit (length text) ≡ false → first_fault text ≡ fault →
-      outcome_over files (then_on (by_fault index text fault) (kernel_answer index false limit hold)) ≡ answered (reported verdict printed) → IsPrinted text limit hold printed
-  by_faults (Some fault) short is e = absurd cc
-  by_faults None short is e = by_rounds (limit_at limit hold (suite_repository (home_in text) (packages_in text))) short is refl e
-
-  by_length : (long : Bool) → nat_lt file_limit (length text) ≡ long →
-      cond long (answered (too_long index)) (outcome_over files (then_on (by_fault index text (first_fault text)) (kernel_answer index false limit hold))) ≡ answered (reported verdict printed) → IsPrinted text limit hold printed
-  by_length true is e = absurd cc
-  by_length false is e = by_faults (first_fault text) is refl e
-
-  of_file : files index ≡ Some text →
-      over_file index (files index) (λ bytes. outcome_over files (then_on (by_fault index bytes (first_fault bytes)) (kernel_answer index false limit hold))) ≡ answered (reported verdict printed) → IsPrinted text limit hold printed
-  of_file there e =
-      by_length (nat_lt file_limit (length text)) refl
-      (sym (ap (λ file. over_file index file (λ bytes. outcome_over files (then_on (by_fault index bytes (first_fault bytes)) (kernel_answer index false limit hold)))) there) ∙ e)
+printed_from : (files : Files) (index text printed : List ℕ) (limit : ℕ) (hold : Bool) (verdict : Verdict) → files index ≡ Some text →
+    outcome_over files (kernel_course index false limit hold) ≡ answered (reported verdict printed) → IsPrinted files index text limit hold printed
+printed_from files index text printed limit hold verdict there e =
+    let made = kernel_used (GivesThis verdict printed) (this_alone verdict printed) files index limit hold (kernel_answer false) e in
+    let found : files index ≡ Some made.0 = (made.1).0.file.is in
+    let same : made.0 ≡ text = cc in
+    let end : answered (reported Done (text_for (packages_in made.0) (index_kernel limit hold (home_in made.0) (packages_in made.0)))) ≡ answered (reported verdict printed) = made.2 in
+    let is : printed ≡ text_for (packages_in made.0) (index_kernel limit hold (home_in made.0) (packages_in made.0)) = cc in
+    subst (λ (t : List ℕ). IsPrinted files index t limit hold printed) same record { has = made.1; is = is }
 
 -- the query of the index, and that of the text
-module _ (files : Files) (index stored text printed : List ℕ) (goals : List Goal) (budget limit : ℕ) (hold : Bool) (there : files index ≡ Some text) (kept : files stored ≡ Some printed) (is : IsPrinted text limit hold printed) where
-  asked : over_file index (files index) (λ bytes. outcome_over files (then_on (by_fault index bytes (first_fault bytes)) (query_answer index goals budget limit hold))) ≡ answered (goals_answer goals budget limit hold (index_in text))
-  asked =
-      ap (λ file. over_file index file (λ bytes. outcome_over files (then_on (by_fault index bytes (first_fault bytes)) (query_answer index goals budget limit hold)))) there
-      ∙ ap (λ long. cond long (answered (too_long index)) (outcome_over files (then_on (by_fault index text (first_fault text)) (query_answer index goals budget limit hold)))) is.short
-      ∙ ap (λ fault. outcome_over files (then_on (by_fault index text fault) (query_answer index goals budget limit hold))) is.accepted
-      ∙ ap (λ passed. outcome_over files (then_on (by_limit index limit hold (index_in text) passed) (λ made. answers (goals_answer goals budget limit hold (index_in text))))) is.within
+module _ (files : Files) (index stored text printed : List ℕ) (goals : List Goal) (budget limit : ℕ) (hold : Bool) (kept : files stored ≡ Some printed) (is : IsPrinted files index text limit hold printed) where
+  asked : outcome_over files (query_course index goals budget limit hold) ≡ answered (goals_answer goals budget limit hold (index_in text))
+  asked = kernel_step files index limit hold (query_answer goals budget limit hold) text is.has
 
   abbrev stays : List ℕ
   stays = kernel_held limit hold (suite_repository (home_in text) (packages_in text))
 
-  reads : KernelReads printed (format_of hold) (the_kernel text is.accepted goals budget limit hold) (the_members text is.accepted goals budget limit hold) stays
+  reads : KernelReads printed (format_of hold) (the_kernel text is.has.0.accepted goals budget limit hold) (the_members text is.has.0.accepted goals budget limit hold) stays
   unfolding index_kernel classed_kernel
   reads =
-      subst (λ t. KernelReads t (format_of hold) (the_kernel text is.accepted goals budget limit hold) (the_members text is.accepted goals budget limit hold) stays) (sym is.is)
-      (back limit hold (home_in text) (packages_in text) (formed text is.accepted)).reads
+      subst (λ t. KernelReads t (format_of hold) (the_kernel text is.has.0.accepted goals budget limit hold) (the_members text is.has.0.accepted goals budget limit hold) stays) (sym is.is)
+      (back limit hold (home_in text) (packages_in text) (formed text is.has.0.accepted)).reads
 
-  asked_stored : length printed ≤ file_limit →
-      over_file stored (files stored) (λ bytes. outcome_over files (stored_query_answer stored goals budget bytes)) ≡ answered (stored_answer goals budget (the_content text is.accepted goals budget limit hold))
+  asked_stored : length printed ≤ file_limit → outcome_over files (stored_query_course stored goals budget) ≡ answered (stored_answer goals budget (the_content text is.has.0.accepted goals budget limit hold))
   asked_stored short =
-      ap (λ file. over_file stored file (λ bytes. outcome_over files (stored_query_answer stored goals budget bytes))) kept
-      ∙ ap (λ long. cond long (answered (too_long stored)) (outcome_over files (stored_query_answer stored goals budget printed))) (le-ltb file_limit (length printed) short)
+      file_step files stored (stored_query_answer stored goals budget) printed record { is = kept; short = short }
       ∙ ap (λ stage. outcome_over files (then_on stage (λ found. answers (stored_answer goals budget found))))
-      (kernel_checked stored printed (format_of hold) (the_kernel text is.accepted goals budget limit hold) (the_members text is.accepted goals budget limit hold) stays reads)
+      (kernel_checked stored printed (format_of hold) (the_kernel text is.has.0.accepted goals budget limit hold) (the_members text is.has.0.accepted goals budget limit hold) stays reads)
 
 pub stored_answers_as_index : StoredAnswersAsIndex
 stored_answers_as_index files index stored text printed goals budget limit hold verdict there made kept short =
-    let is : IsPrinted text limit hold printed = of_file files index text printed limit hold verdict there made in
+    let is : IsPrinted files index text limit hold printed = printed_from files index text printed limit hold verdict there made in
     record {
       of_index = goals_answer goals budget limit hold (index_in text);
-      of_stored = stored_answer goals budget (the_content text is.accepted goals budget limit hold);
-      asked = asked files index stored text printed goals budget limit hold there kept is;
-      asked_stored = asked_stored files index stored text printed goals budget limit hold there kept is short;
-      same = one_answer text is.accepted goals budget limit hold;
+      of_stored = stored_answer goals budget (the_content text is.has.0.accepted goals budget limit hold);
+      asked = asked files index stored text printed goals budget limit hold kept is;
+      asked_stored = asked_stored files index stored text printed goals budget limit hold kept is short;
+      same = one_answer text is.has.0.accepted goals budget limit hold;
     }
 
 pub stored_images_are_of_index : StoredImagesAreOfIndex

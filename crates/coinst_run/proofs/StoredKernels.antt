@@ -14,7 +14,6 @@ use Rattle.kernel_text.specs.Images.{image_of, names_in_class, unknown_goal}
 use Rattle.kernel_text.specs.KernelFaults.{IsFault}
 use Rattle.kernel_text.specs.KernelReads.{KernelReads, content}
 use Rattle.kernel_text.proofs.ReadIsWritten.{read_is_written}
-use Rattle.kernel_text.proofs.Written.{numbers_more}
 use Rattle.repo_model.specs.declared.goals.Goal.{Goal}
 use Rattle.row_book.specs.Clauses.{numbers}
 use Rattle.row_book.specs.Flags.{flag}
@@ -23,7 +22,7 @@ use Rattle.row_book.specs.Repository.{Repository}
 use Rattle.row_book.specs.Sets.{In}
 use Rattle.row_book.specs.Sound.{SoundRepository}
 use Rattle.row_book.proofs.Lists.{In_map_cases, filter_cases}
-use Rattle.row_book.proofs.Order.{numbers_parts}
+use Rattle.row_book.proofs.Order.{numbers_parts, numbers_more}
 use Rattle.search_terms.specs.Form.{form}
 use Rattle.search_terms.specs.declared.literals.Log.{Log}
 use Rattle.search_terms.specs.Tree.{IsTree, Tree, failed_leaves, found_of}
@@ -59,14 +58,8 @@ pub fault_stops : (path text : List ℕ) (fault : KernelFault) (ending : Option 
 fault_stops path text fault None other is h = tt
 fault_stops path text fault (Some o) other is h = subst (λ x. StopsAt (checked_kernel path text) (Some x)) (sym h) (kernel_refused path text fault other is)
 
-pub line_other : (n : ℕ) → Line n ≡ Memory → ⊥
-line_other n e = let f : ⊥ = cc in f
-
 pub end_other : End ≡ Memory → ⊥
 end_other e = let f : ⊥ = cc in f
-
-pub range_other : (n : ℕ) → Range n ≡ Memory → ⊥
-range_other n e = let f : ⊥ = cc in f
 
 -- the classes that goals name are classes
 pub images_fit : (members : List Member) (size : ℕ) (goals : List Goal) → NeedsFit size (map (image_of members size) goals)

@@ -4,8 +4,10 @@ use Rattle.std.specs.Prelude.{codes}
 use Rattle.std.specs.Fmt.{decimal}
 use Rattle.std.specs.List.{flat_map, list_any, position_from}
 use Rattle.std.proofs.Math.Path.{fun_ext}
-use Rattle.std.proofs.lemmas.Bool.{and_from, and_parts, both_ways, cases_Bool, cases_lt, ltb-true}
-use Rattle.std.proofs.lemmas.List.{append_cancel_left, get_or_past}
+use Rattle.std.proofs.lemmas.Bool.{and_from, and_parts, both_ways, cases_Bool, ltb-true}
+use Rattle.std.proofs.lemmas.List.{append_cancel_left}
+use Rattle.listed.proofs.Bools.{cases_Option}
+use Rattle.listed.proofs.Lists.{In_flat_cases}
 use Rattle.byte_flow.specs.Flow.{Files}
 use Rattle.kernel_text.specs.declared.fault.KernelFault.{KernelFault}
 use Rattle.kernel_text.specs.declared.member.Member.{Member}
@@ -15,7 +17,6 @@ use Rattle.kernel_text.specs.KernelText.{IsWritable, members_of}
 use Rattle.kernel_text.specs.Reading.{number_limit}
 use Rattle.kernel_text.proofs.OneReading.{one_reading}
 use Rattle.kernel_text.proofs.ReadIsWritten.{read_is_written}
-use Rattle.kernel_text.proofs.Retold.{in_flat_cases}
 use Rattle.kernel_text.proofs.Spelling.{number_same}
 use Rattle.repo_model.specs.declared.goals.Goal.{Goal}
 use Rattle.row_book.specs.Clauses.{numbers}
@@ -24,13 +25,13 @@ use Rattle.row_book.specs.Repository.{Healthy}
 use Rattle.row_book.specs.Sets.{Hit, HitsAll, In, Is, NumSet, has, here, there}
 use Rattle.row_book.proofs.Lists.{In_cases, In_has, In_map, In_map_cases, In_none, any_cases, any_from, ascending_filter, filter_cases, filter_from}
 use Rattle.row_book.proofs.Order.{numbers_ascending, numbers_from, numbers_parts}
+use Rattle.row_book.proofs.Flags.{flag_in}
 use Rattle.search_terms.specs.Closure.{InRange}
 use Rattle.search_terms.specs.Form.{form}
 use Rattle.search_terms.specs.Laws.{Solves}
 use Rattle.search_terms.specs.Tree.{IsTree, Tree, failed_leaves, found_of, log_of}
 use Rattle.search_terms.proofs.Certificates.{tree_derives}
 use Rattle.search_terms.proofs.Computed.{search_tree_is}
-use Rattle.search_terms.proofs.Exists.{cases_Option}
 use Rattle.search_terms.proofs.Found.{finds_healthy}
 use Rattle.suite_compare.specs.Asking.{tree_of}
 use Rattle.suite_compare.proofs.Ranged.{formula_ranged}
@@ -39,7 +40,7 @@ use Rattle.coinst_run.specs.declared.answer.Verdict.TheVariants.{Done, Negative,
 use Rattle.coinst_run.specs.Answer.{reported}
 use Rattle.coinst_run.specs.Course.{answers, then_on}
 use Rattle.coinst_run.specs.Lines.{line_of_text}
-use Rattle.coinst_run.specs.Outcome.{answered, file_limit, outcome_over, over_file, too_long}
+use Rattle.coinst_run.specs.Outcome.{answered, outcome_over}
 use Rattle.coinst_run.specs.QueryText.{no_text, undecided_text}
 use Rattle.coinst_run.specs.StoredMeaning.{HasClassFor, MeansStored, ServesStored, StoredMeans, StoredQueryIsMeant}
 use Rattle.coinst_run.specs.StoredReading.{stored_reading}
@@ -47,6 +48,7 @@ use Rattle.coinst_run.specs.StoredQuery.{by_reading, class_line, classes_by_tree
 use Rattle.coinst_run.proofs.Installed.{kept}
 use Rattle.coinst_run.proofs.StoredReading.{reading_is}
 use Rattle.coinst_run.proofs.StoredKernels.{images_fit}
+use Rattle.coinst_run.proofs.GoingOn.{GivesThis, file_used, this_alone}
 
 -- where no goal is unknown, each names a package
 named_one : (members : List Member) (goal : Goal) → is_unknown members goal ≡ false → (m : Member) × In m members × (is_named_by goal m ≡ true)
@@ -82,16 +84,12 @@ one_list (x ∷ xs) (y ∷ ys) f g e =
     let w = one_line x y (flat_map class_line xs) (flat_map class_line ys) (f x here) (g y here) e in
     ap₂ (λ z zs. z ∷ zs) w.0 (one_list xs ys (λ n i. f n (there i)) (λ n i. g n (there i)) w.1)
 
--- a flag that is up is one of the flags
-flag_inside : (flags : List Bool) (n : ℕ) → flag flags n ≡ true → n < length flags
-flag_inside flags n h = elim (cases_lt n (length flags)) [ inl l ↦ l | inr g ↦ absurd (both_ways (flag flags n) (get_or_past flags n false g) h) ]
-
 -- the classes whose flags are up
 abbrev raised : List Bool → List ℕ
 raised chosen = filter (flag chosen) (numbers (length chosen) 0)
 
 raised_same : (chosen : List Bool) → has (raised chosen) ≡ flag chosen
-raised_same chosen = fun_ext (λ n. kept n (flag chosen) (numbers (length chosen) 0) (λ m h. let l = flag_inside chosen m h in numbers_from (length chosen) 0 m (omega arith) (omega arith)))
+raised_same chosen = fun_ext (λ n. kept n (flag chosen) (numbers (length chosen) 0) (λ m h. let l = flag_in chosen m h in numbers_from (length chosen) 0 m (omega arith) (omega arith)))
 
 -- a kernel that the format can write
 module _ (kernel : KernelContent) (writable : IsWritable kernel.format kernel.repository kernel.members kernel.held) (goals : List Goal) where
@@ -106,7 +104,7 @@ module _ (kernel : KernelContent) (writable : IsWritable kernel.format kernel.re
 
   member_inside : (m : Member) → In m kernel.members → m.class < size
   member_inside m i =
-      let w : (k : ℕ) × In k (numbers size 0) × In m (members_of kernel.members k) = in_flat_cases (members_of kernel.members) (numbers size 0) m (subst (λ ms. In m ms) writable.by_class i) in
+      let w : (k : ℕ) × In k (numbers size 0) × In m (members_of kernel.members k) = In_flat_cases (members_of kernel.members) (numbers size 0) m (subst (λ ms. In m ms) writable.by_class i) in
       let same : m.class ≡ w.0 = eqb-true m.class w.0 (filter_cases (λ (o : Member). eqb o.class w.0) kernel.members m w.2).1 in
       let p : (0 ≤ w.0) × (w.0 < 0 + size) = numbers_parts size 0 w.0 w.1 in
       omega (arith, same, p.1)
@@ -218,14 +216,7 @@ module _ (path : List ℕ) (goals : List Goal) (budget : ℕ) (files : Files) (v
       let same : stored_answer goals budget kernel ≡ reported verdict report = cc in
       goals_mean text kernel (unknown_goal kernel.members goals) (((reading_is text).kernels kernel.format kernel.repository kernel.members kernel.held).1 is) refl same
 
-  fitting : (text : List ℕ) (b : Bool) → cond b (answered (too_long path)) (outcome_over files (stored_query_answer path goals budget text)) ≡ answered (reported verdict report) → StoredMeans text goals budget verdict report
-  fitting text true e = absurd cc
-  fitting text false e = by_text text (stored_reading text) refl e
-
-  of_file : (file : Option (List ℕ)) → files path ≡ file → over_file path file (λ text. outcome_over files (stored_query_answer path goals budget text)) ≡ answered (reported verdict report) →
-      (text : List ℕ) × (files path ≡ Some text) × StoredMeans text goals budget verdict report
-  of_file None is e = absurd cc
-  of_file (Some text) is e = (text, is, fitting text (nat_lt file_limit (length text)) e)
-
 pub stored_query_is_meant : StoredQueryIsMeant
-stored_query_is_meant path goals budget files verdict report e = of_file path goals budget files verdict report (files path) refl e
+stored_query_is_meant path goals budget files verdict report e =
+    let read = file_used (GivesThis verdict report) (this_alone verdict report) files path (stored_query_answer path goals budget) e in
+    (read.0, (read.1).is, by_text path goals budget files verdict report read.0 (stored_reading read.0) refl read.2)

@@ -3,7 +3,8 @@ use Rattle.std.proofs.Common.{◌≡◌, ℕ, zero, suc, ◌<◌, ◌≤◌, ◌
 use Rattle.std.specs.Prelude.{⊤, find, slice_index_or}
 use Rattle.std.specs.List.{list_all, list_any}
 use Rattle.std.proofs.Math.Nat.{eq-or-lt_of_le}
-use Rattle.std.proofs.lemmas.Bool.{both_ways, cases_Bool, cases_lt}
+use Rattle.std.proofs.lemmas.Bool.{both_ways, cases_Bool, cases_lt, not-true, and_from, and_parts}
+use Rattle.listed.proofs.Bools.{cases_Option}
 use Rattle.row_book.specs.Clauses.{numbers}
 use Rattle.row_book.specs.Flattening.{packages}
 use Rattle.row_book.specs.Health.{AllSatisfied, IsClash, IsFirstUnhit, UnhitFirst}
@@ -13,28 +14,11 @@ use Rattle.row_book.specs.Sound.{OfPackages, SoundRepository}
 use Rattle.row_book.specs.Thinning.{all_pairs, conflicting_pairs}
 use Rattle.row_book.proofs.Lists.{In_append_cases, In_at, In_cases, In_map_cases, In_none, all_at, any_hit, filter_cases, filter_from, find_none, find_some, hit_any}
 use Rattle.row_book.proofs.Order.{numbers_from, numbers_parts}
-use Rattle.search_terms.proofs.Exists.{cases_Option}
 use Rattle.kernel_rounds.proofs.Thins.{pairs_has}
 use Rattle.status_check.specs.Report.{IsStateOf}
 use Rattle.status_check.specs.declared.report.OwnState.{OwnState}
 use Rattle.status_check.specs.declared.report.OwnState.TheVariants as own
 use Rattle.coinst_run.specs.SystemStatus.{are_both, by_clash, by_unserved, is_unserved, set_state}
-
-both : (a b : Bool) → a ≡ true → b ≡ true → (a && b) ≡ true
-both true b h k = k
-both false b h k = h
-
-first_of : (a b : Bool) → (a && b) ≡ true → a ≡ true
-first_of true b h = refl
-first_of false b h = h
-
-second_of : (a b : Bool) → (a && b) ≡ true → b ≡ true
-second_of true b h = h
-second_of false b h = absurd cc
-
-not_down : (b : Bool) → not b ≡ true → b ≡ false
-not_down true h = absurd cc
-not_down false h = refl
 
 -- the first of numbers that passes is the least one
 least_found : (p : ℕ → Bool) (n k x y : ℕ) → find p (numbers n k) ≡ Some x → k ≤ y → y < x → p y ≡ false
@@ -162,8 +146,8 @@ module _ (R : Repository) (I : NumSet) where
       unhit : (n : ℕ) → find (is_unserved R I) (packages R) ≡ Some n → IsStateOf R I (own.Unhit n)
       unhit n e =
           let found = (find_some (is_unserved R I) (packages R) n e).1 in
-          let chosen : Is I n = first_of (I n) (not (list_all (list_any I) (clauses_of R n))) found in
-          let w = first_unhit I (clauses_of R n) (not_down (list_all (list_any I) (clauses_of R n)) (second_of (I n) (not (list_all (list_any I) (clauses_of R n))) found)) in
+          let chosen : Is I n = (and_parts (I n) (not (list_all (list_any I) (clauses_of R n))) found).0 in
+          let w = first_unhit I (clauses_of R n) (not-true (list_all (list_any I) (clauses_of R n)) ((and_parts (I n) (not (list_all (list_any I) (clauses_of R n))) found).1)) in
           (w.0, record { chosen = chosen; clause = w.1; lesser = λ q l i. served q i (least_found (is_unserved R I) (length R.clauses) 0 n q e zero-le l) })
 
       all_served : find (is_unserved R I) (packages R) ≡ None → AllSatisfied R I
@@ -182,18 +166,18 @@ module _ (R : Repository) (I : NumSet) where
             clash = record {
               clash = record {
                 ordered = pairs_apart (length R.clauses) 0 w pair.0;
-                first = first_of (I w.0) (I w.1) found.1;
-                second = second_of (I w.0) (I w.1) found.1;
+                first = (and_parts (I w.0) (I w.1) found.1).0;
+                second = (and_parts (I w.0) (I w.1) found.1).1;
                 conflict = pair.1;
               };
               least = λ a b c.
                   first_found (are_both I) (conflicting_pairs R) w (a, b) (order_filter (λ v. against R v.0 v.1) (all_pairs (packages R)) (order_pairs (length R.clauses) 0)) e (listed a b c)
-                  (both (I a) (I b) c.first c.second);
+                  (and_from (I a) (I b) c.first c.second);
             };
           }
 
       no_clash : find (are_both I) (conflicting_pairs R) ≡ None → (m n : ℕ) → IsClash R.conflicts I m n → ⊥
-      no_clash e m n c = both_ways (are_both I (m, n)) (find_none (are_both I) (conflicting_pairs R) e (m, n) (listed m n c)) (both (I m) (I n) c.first c.second)
+      no_clash e m n c = both_ways (are_both I (m, n)) (find_none (are_both I) (conflicting_pairs R) e (m, n) (listed m n c)) (and_from (I m) (I n) c.first c.second)
 
       peace : find (are_both I) (conflicting_pairs R) ≡ None → (m n : ℕ) → Is I m → Is I n → against R m n ≡ false
       peace e m n i j = elim (cases_Bool (against R m n)) [

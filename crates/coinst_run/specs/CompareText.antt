@@ -1,7 +1,8 @@
 -- The text of a comparison.
-use Rattle.std.specs.Prelude.{ℕ, Bool, true, false, not, List, ◌++◌, codes, filter, length, if◌then◌else◌}
+use Rattle.std.specs.Prelude.{ℕ, Bool, not, List, ◌++◌, codes, filter, length, if◌then◌else◌}
 use Rattle.std.specs.Fmt.{decimal}
 use Rattle.std.specs.List.{flat_map, list_any}
+use Rattle.headline.specs.Listing.{is_broken}
 use Rattle.suite_compare.specs.declared.report.ReportLine.{ReportLine}
 use Rattle.suite_compare.specs.declared.report.ReportLine.TheVariants.{Broken1, Broken2, Open1, Open2}
 use Rattle.coinst_run.specs.declared.answer.Verdict.{Verdict}
@@ -21,12 +22,6 @@ comparison_line (Broken1 name) = single_text (codes "broken") name
 comparison_line (Broken2 first second) = pair_text (codes "broken") first second
 comparison_line (Open1 name) = single_text (codes "open") name
 comparison_line (Open2 first second) = pair_text (codes "open") first second
-
-abbrev pub is_broken : ReportLine → Bool
-is_broken (Broken1 name) = true
-is_broken (Broken2 first second) = true
-is_broken (Open1 name) = false
-is_broken (Open2 first second) = false
 
 abbrev pub is_open : ReportLine → Bool
 is_open line = not (is_broken line)

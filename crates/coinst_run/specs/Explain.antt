@@ -12,10 +12,11 @@ use Rattle.suite_compare.specs.Answering.{unknown_goal}
 use Rattle.coinst_run.specs.declared.answer.Cause.TheVariants.{UnknownGoal}
 use Rattle.coinst_run.specs.declared.answer.Verdict.TheVariants.{Done, Negative, Undecided}
 use Rattle.coinst_run.specs.Answer.{Answer, reported, refused}
-use Rattle.coinst_run.specs.Course.{Course, answers, then_on}
+use Rattle.coinst_run.specs.Course.{Course, answers}
 use Rattle.coinst_run.specs.ExplainText.{core_text, yes_line}
-use Rattle.coinst_run.specs.Index.{Index, reads_index}
-use Rattle.coinst_run.specs.Kernel.{kernel_of}
+use Rattle.coinst_run.specs.Index.{Index}
+use Rattle.coinst_run.specs.IndexKernel.{ClassedKernel}
+use Rattle.coinst_run.specs.Kernel.{reads_kernel}
 use Rattle.coinst_run.specs.Query.{goal_of_number}
 use Rattle.coinst_run.specs.QueryText.{undecided_text, unknown_line}
 
@@ -34,11 +35,11 @@ explained_by_unknown goals budget limit hold index None = explanation_answer ind
 abbrev pub goals_explained : List Goal → ℕ → ℕ → Bool → Index → Answer
 goals_explained goals budget limit hold index = explained_by_unknown goals budget limit hold index (unknown_goal index.packages goals)
 
-abbrev pub explain_answer : List ℕ → List Goal → ℕ → ℕ → Bool → Index → Course
-explain_answer path goals budget limit hold index = then_on (kernel_of path limit hold index) (λ kernel. answers (goals_explained goals budget limit hold index))
+abbrev pub explain_answer : List Goal → ℕ → ℕ → Bool → Index → ClassedKernel → Course
+explain_answer goals budget limit hold index kernel = answers (goals_explained goals budget limit hold index)
 
 abbrev pub explain_course : List ℕ → List Goal → ℕ → ℕ → Bool → Course
-explain_course path goals budget limit hold = reads_index path (explain_answer path goals budget limit hold)
+explain_course path goals budget limit hold = reads_kernel path limit hold (explain_answer goals budget limit hold)
 
 -- the conflicts are of two of so many packages
 abbrev pub AreClashesOf : ℕ → List Clash → Type 0

@@ -1,3 +1,4 @@
+-- for the bodies of this crate alone
 -- An index that was read into a feed.
 use Rattle.std.specs.Prelude.{ℕ, Bool, List, Option}
 use Rattle.byte_flow.specs.Flow.{Files}

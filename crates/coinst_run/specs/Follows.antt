@@ -6,6 +6,8 @@ use Rattle.coinst_words.specs.declared.job.Job.{Job}
 use Rattle.coinst_run.specs.Answer.{Answer}
 use Rattle.coinst_run.specs.Course.{Course, answers, reads}
 use Rattle.coinst_run.specs.Index.{Index, reads_index}
+use Rattle.coinst_run.specs.IndexKernel.{ClassedKernel, index_kernel}
+use Rattle.coinst_run.specs.Kernel.{reads_kernel}
 use Rattle.coinst_run.specs.Outcome.{Outcome, answered, unread, not_a_command, course_of, file_limit, too_long}
 
 -- The file at the path was read whole, by the calls of one reading and no others, and this is its text.
@@ -61,9 +63,21 @@ pub data FollowsJob {S : Type 0} (contents : S → Option Files) (faults moved :
   of_a_job : (job : Job) (s t : S) (ending : Option Outcome) → Follows contents faults moved is_quiet start read (course_of job) s ending t →
       FollowsJob contents faults moved is_quiet start read (Some job) s ending t
 
+-- The course leads to the rest of it, and from one shelf to another: however the rest ends, the course ends so.
+abbrev pub LeadsTo : {S : Type 0} → (S → Option Files) → (S → ℕ) → (S → ℕ) → (S → Type 0) → (S → List ℕ → Bool → S → Type 0) → (S → ℕ → Option ℕ → S → Type 0) →
+    Course → S → Course → S → Type 0
+LeadsTo {S} contents faults moved is_quiet start read course old rest mid =
+    (ending : Option Outcome) (new : S) → Follows contents faults moved is_quiet start read rest mid ending new → Follows contents faults moved is_quiet start read course old ending new
+
 -- The index at the path was read, and the course goes on by it.
 abbrev pub ReachesIndex : {S : Type 0} → (S → Option Files) → (S → ℕ) → (S → ℕ) → (S → Type 0) → (S → List ℕ → Bool → S → Type 0) → (S → ℕ → Option ℕ → S → Type 0) →
     S → List ℕ → Index → S → Type 0
 ReachesIndex {S} contents faults moved is_quiet start read old path index mid =
-    (next : Index → Course) (ending : Option Outcome) (new : S) → Follows contents faults moved is_quiet start read (next index) mid ending new →
-    Follows contents faults moved is_quiet start read (reads_index path next) old ending new
+    (next : Index → Course) → LeadsTo contents faults moved is_quiet start read (reads_index path next) old (next index) mid
+
+-- The same of the index and its kernel.
+abbrev pub ReachesKernel : {S : Type 0} → (S → Option Files) → (S → ℕ) → (S → ℕ) → (S → Type 0) → (S → List ℕ → Bool → S → Type 0) → (S → ℕ → Option ℕ → S → Type 0) →
+    S → List ℕ → ℕ → Bool → Index → S → Type 0
+ReachesKernel {S} contents faults moved is_quiet start read old path limit hold index mid =
+    (next : Index → ClassedKernel → Course) →
+    LeadsTo contents faults moved is_quiet start read (reads_kernel path limit hold next) old (next index (index_kernel limit hold index.home index.packages)) mid

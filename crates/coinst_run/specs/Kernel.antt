@@ -20,21 +20,25 @@ use Rattle.row_book.specs.Rounds.{PassedRound, limit_at}
 abbrev pub by_limit : List ℕ → ℕ → Bool → Index → Option PassedRound → Stage ClassedKernel
 by_limit path limit hold index None = Ok (index_kernel limit hold index.home index.packages)
 by_limit path limit hold index (Some passed) =
-    Err (refused ClauseLimit (limit_line path limit passed.number passed.gone (stanza_at index.packages passed.«package») passed.count))
+    Err (refused ClauseLimit (limit_line path limit passed.number passed.gone (stanza_at index.packages passed.over) passed.count))
 
 abbrev pub kernel_of : List ℕ → ℕ → Bool → Index → Stage ClassedKernel
 kernel_of path limit hold index = by_limit path limit hold index (limit_at limit hold (suite_repository index.home index.packages))
+
+-- the index at a path, and its kernel
+abbrev pub reads_kernel : List ℕ → ℕ → Bool → (Index → ClassedKernel → Course) → Course
+reads_kernel path limit hold next = reads_index path (λ index. then_on (kernel_of path limit hold index) (next index))
 
 -- a kernel as text, or as JSON where that is asked for
 abbrev pub printed_kernel : Bool → List PackageFacts → ClassedKernel → List ℕ
 printed_kernel false packages kernel = text_for packages kernel
 printed_kernel true packages kernel = json_for packages kernel
 
-abbrev pub kernel_answer : List ℕ → Bool → ℕ → Bool → Index → Course
-kernel_answer path json limit hold index = then_on (kernel_of path limit hold index) (λ kernel. answers (reported Done (printed_kernel json index.packages kernel)))
+abbrev pub kernel_answer : Bool → Index → ClassedKernel → Course
+kernel_answer json index kernel = answers (reported Done (printed_kernel json index.packages kernel))
 
 abbrev pub kernel_course : List ℕ → Bool → ℕ → Bool → Course
-kernel_course path json limit hold = reads_index path (kernel_answer path json limit hold)
+kernel_course path json limit hold = reads_kernel path limit hold (kernel_answer json)
 
 -- what a kernel over a pool says
 abbrev pub kernel_in : Interned → Kernel → ClassedKernel

@@ -6,7 +6,8 @@ use Rattle.migrate_plan.specs.declared.plan.PlanLine.{PlanLine}
 use Rattle.migrate_plan.specs.declared.plan.PlanLine.TheVariants.{Take, LeftLimit, LeftLine}
 use Rattle.coinst_run.specs.declared.answer.Verdict.{Verdict}
 use Rattle.coinst_run.specs.declared.answer.Verdict.TheVariants.{Done, Negative, Undecided}
-use Rattle.coinst_run.specs.CompareText.{comparison_line, is_broken, pair_text, single_text}
+use Rattle.coinst_run.specs.CompareText.{comparison_line, pair_text, single_text}
+use Rattle.headline.specs.Listing.{is_broken}
 use Rattle.coinst_run.specs.Lines.{line_of_text}
 
 -- a name that is taken; one that is left since the limit is passed; and one that is left with a line of a comparison

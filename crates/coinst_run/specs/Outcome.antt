@@ -1,6 +1,7 @@
 -- What the program answers where memory is found and no read or write fails, as a function of its words and of the files:
 -- the status, the report on standard output and the line on standard error.
 use Rattle.std.specs.Prelude.{ℕ, nat_lt, cond, List, [], length, Option, Some, None}
+use Rattle.repo_model.specs.Limits.{most_bytes}
 use Rattle.byte_flow.specs.Flow.{Files}
 use Rattle.coinst_run.specs.declared.answer.Cause.TheVariants.{TooLarge as TooLargeFile}
 use Rattle.coinst_run.specs.declared.status.Status.{Status}
@@ -29,7 +30,7 @@ pub data Outcome : Type 0 where
 
 -- the most bytes that a file may have
 abbrev pub file_limit : ℕ
-file_limit = 1073741824
+file_limit = most_bytes
 
 -- a file that is longer
 abbrev pub too_long : List ℕ → Answer

@@ -8,9 +8,10 @@ use Rattle.suite_compare.specs.Asking.{asked_tree, installation}
 use Rattle.coinst_run.specs.declared.answer.Cause.TheVariants.{UnknownGoal}
 use Rattle.coinst_run.specs.declared.answer.Verdict.TheVariants.{Done, Negative, Undecided}
 use Rattle.coinst_run.specs.Answer.{Answer, reported, refused}
-use Rattle.coinst_run.specs.Course.{Course, answers, then_on}
-use Rattle.coinst_run.specs.Index.{Index, reads_index}
-use Rattle.coinst_run.specs.Kernel.{kernel_of}
+use Rattle.coinst_run.specs.Course.{Course, answers}
+use Rattle.coinst_run.specs.Index.{Index}
+use Rattle.coinst_run.specs.IndexKernel.{ClassedKernel}
+use Rattle.coinst_run.specs.Kernel.{reads_kernel}
 use Rattle.coinst_run.specs.QueryText.{no_text, undecided_text, unknown_line, yes_text}
 
 -- the goal of a number, counted from 1
@@ -36,8 +37,8 @@ by_unknown limit hold index goals budget None = by_tree limit hold index goals b
 abbrev pub goals_answer : List Goal → ℕ → ℕ → Bool → Index → Answer
 goals_answer goals budget limit hold index = by_unknown limit hold index goals budget (unknown_goal index.packages goals)
 
-abbrev pub query_answer : List ℕ → List Goal → ℕ → ℕ → Bool → Index → Course
-query_answer path goals budget limit hold index = then_on (kernel_of path limit hold index) (λ kernel. answers (goals_answer goals budget limit hold index))
+abbrev pub query_answer : List Goal → ℕ → ℕ → Bool → Index → ClassedKernel → Course
+query_answer goals budget limit hold index kernel = answers (goals_answer goals budget limit hold index)
 
 abbrev pub query_course : List ℕ → List Goal → ℕ → ℕ → Bool → Course
-query_course path goals budget limit hold = reads_index path (query_answer path goals budget limit hold)
+query_course path goals budget limit hold = reads_kernel path limit hold (query_answer goals budget limit hold)

@@ -7,13 +7,6 @@ use Rattle.coinst_run.specs.Delivers.{IsStop}
 use Rattle.coinst_run.specs.Lines.{unread_line}
 use Rattle.coinst_run.specs.Outcome.{Outcome, unread, line_of, report_of, status_of}
 
--- How a course ended where its outcome is told: so, or at a file that could not be read, or without memory. On a quiet
--- shelf only a file that is not there can't be read, and so says the outcome.
-pub data EndsAs (Quiet : Type 0) (o : Outcome) : Option Outcome → Type 0 where
-  as_told : EndsAs Quiet o (Some o)
-  at_an_unread_file : (path : List ℕ) → (Quiet → o ≡ unread path) → EndsAs Quiet o (Some (unread path))
-  without_memory : EndsAs Quiet o None
-
 -- a report
 abbrev pub IsReport : Outcome → Type 0
 IsReport o = IsStop o → ⊥

@@ -18,8 +18,9 @@ use Rattle.status_check.specs.declared.report.StatusReport.{StatusReport}
 use Rattle.coinst_run.specs.Answer.{Answer, Stage, reported, refused}
 use Rattle.coinst_run.specs.Course.{Course, answers, reads, then_on}
 use Rattle.coinst_run.specs.Faults.{fault_cause}
-use Rattle.coinst_run.specs.Index.{Index, reads_index}
-use Rattle.coinst_run.specs.Kernel.{kernel_of}
+use Rattle.coinst_run.specs.Index.{Index}
+use Rattle.coinst_run.specs.IndexKernel.{ClassedKernel}
+use Rattle.coinst_run.specs.Kernel.{reads_kernel}
 use Rattle.coinst_run.specs.Lines.{fault_line}
 use Rattle.coinst_run.specs.SystemText.{system_text, system_verdict}
 
@@ -79,12 +80,9 @@ told_answer budget report = reported (system_verdict report.own report.verdict) 
 abbrev pub system_answer : List ℕ → ℕ → ℕ → Bool → Index → List ℕ → Course
 system_answer path budget limit hold index text = then_on (checked_system path index.home text) (λ system. answers (told_answer budget (system_report budget limit hold index system)))
 
-abbrev pub system_course : List ℕ → ℕ → ℕ → Bool → Index → Course
-system_course path budget limit hold index = reads path (system_answer path budget limit hold index)
-
--- behind the index and its kernel, the status file
-abbrev pub behind_index : List ℕ → List ℕ → ℕ → ℕ → Bool → Index → Course
-behind_index path index_path budget limit hold index = then_on (kernel_of index_path limit hold index) (λ kernel. system_course path budget limit hold index)
+-- after the index and its kernel, the status file
+abbrev pub system_course : List ℕ → ℕ → ℕ → Bool → Index → ClassedKernel → Course
+system_course path budget limit hold index kernel = reads path (system_answer path budget limit hold index)
 
 abbrev pub status_course : List ℕ → List ℕ → ℕ → ℕ → Bool → Course
-status_course file index budget limit hold = reads_index index (behind_index file index budget limit hold)
+status_course file index budget limit hold = reads_kernel index limit hold (system_course file budget limit hold)

@@ -1,7 +1,8 @@
 //! The report of a comparison, made whole in memory.
 ghost use Rattle.std.specs.Prelude.{◌≡◌, ◌++◌, IfOk, OnOk, filter, length};
 ghost use Rattle.std.specs.List.{flat_map, list_any};
-ghost use Rattle.coinst_run.specs.CompareText.{comparison_line, comparison_text, comparison_verdict, end_text, is_broken, is_open, pair_text, single_text};
+ghost use Rattle.coinst_run.specs.CompareText.{comparison_line, comparison_text, comparison_verdict, end_text, is_open, pair_text, single_text};
+ghost use Rattle.headline.specs.Listing.{is_broken};
 
 use crate::answer::Verdict;
 use crate::lines::push_number;
@@ -9,7 +10,7 @@ use std::alloc::{AllocError, Global};
 use suite_compare::ReportLine;
 
 /// Puts what is told of a name behind the text; it fails only where no memory is found.
-#[tactic(auto, using(crate::proofs::Texts::appended))]
+#[tactic(auto, using(std::proofs::Common::append_assoc))]
 pub(crate) fn push_single(out: &mut Vec<u8>, word: &[u8], name: &[u8]) -> Result<(), AllocError>
     ensures { OnOk result (out.new.items ≡ out.old.items ++ single_text word.now name.now) }
 {
@@ -20,7 +21,7 @@ pub(crate) fn push_single(out: &mut Vec<u8>, word: &[u8], name: &[u8]) -> Result
 }
 
 /// Puts what is told of two names behind the text; it fails only where no memory is found.
-#[tactic(auto, using(crate::proofs::Texts::appended))]
+#[tactic(auto, using(std::proofs::Common::append_assoc))]
 pub(crate) fn push_pair(
     out: &mut Vec<u8>,
     word: &[u8],
@@ -85,18 +86,30 @@ pub(crate) fn is_broken(line: &ReportLine) -> bool
 fn count_broken(lines: &[ReportLine]) -> usize
     ensures { result ≡ length (filter is_broken lines.now) }
 {
-    lines.iter().filter(|line| is_broken(line)).count()
+    let mut count = 0;
+    for line in lines {
+        if is_broken(line) {
+            count += 1;
+        }
+    }
+    count
 }
 
 // How many lines tell of something open.
 fn count_open(lines: &[ReportLine]) -> usize
     ensures { result ≡ length (filter is_open lines.now) }
 {
-    lines.iter().filter(|line| !is_broken(line)).count()
+    let mut count = 0;
+    for line in lines {
+        if !is_broken(line) {
+            count += 1;
+        }
+    }
+    count
 }
 
 // Puts the last line behind the text.
-#[tactic(auto, using(crate::proofs::Texts::appended), unfolding(crate::specs::CompareText::end_text))]
+#[tactic(auto, using(std::proofs::Common::append_assoc), unfolding(crate::specs::CompareText::end_text))]
 fn push_end(out: &mut Vec<u8>, lines: &[ReportLine]) -> Result<(), AllocError>
     ensures { OnOk result (out.new.items ≡ out.old.items ++ end_text lines.now) }
 {
@@ -108,7 +121,7 @@ fn push_end(out: &mut Vec<u8>, lines: &[ReportLine]) -> Result<(), AllocError>
 }
 
 /// The text of the lines of a comparison; it fails only where no memory is found.
-#[tactic(auto, using(crate::proofs::Texts::appended), unfolding(crate::specs::CompareText::comparison_text))]
+#[tactic(auto, using(std::proofs::Common::append_assoc), unfolding(crate::specs::CompareText::comparison_text))]
 pub(crate) fn comparison_text(alloc: Global, lines: &[ReportLine]) -> Result<Vec<u8>, AllocError>
     ensures { IfOk result (λ text. text.items ≡ comparison_text lines.now) }
 {

@@ -1,9 +1,10 @@
 //! The command that tells why one package for each goal cannot be installed together.
-ghost use Rattle.std.specs.Prelude.{◌<◌, length};
+ghost use Rattle.std.specs.Prelude.{length};
 ghost use Rattle.clause_solver.specs.Outcomes.{IsBudget};
+ghost use Rattle.coinst_run.specs.Settings.{AreInLimits};
 ghost use Rattle.coinst_run.specs.Course.{answers};
 ghost use Rattle.coinst_run.specs.Ending.{Settles, ending_of};
-ghost use Rattle.coinst_run.specs.Explain.{IsTellable, explain_answer, explain_course, explanation_answer, goals_explained};
+ghost use Rattle.coinst_run.specs.Explain.{IsTellable, explain_course, explanation_answer, goals_explained};
 ghost use Rattle.coinst_run.specs.Follows.{Follows};
 ghost use Rattle.coinst_run.specs.Index.{index_of};
 
@@ -11,50 +12,28 @@ use crate::answer::{Cause, Report, Stop, Verdict};
 use crate::explain_text::{core_text, yes_line};
 use crate::query::goal_of_number;
 use crate::query_text::{undecided_text, unknown_line};
-use crate::stages::suite_at;
-use crate::views::view_of;
+use crate::settings::Settings;
+use crate::views::view_at;
 use byte_flow::Shelf;
 use explain_core::{ExplainError, Explanation};
 use relation_fields::PackageFacts;
-use repo_model::{Goal, Suite};
+use repo_model::Goal;
 use std::alloc::Global;
 use suite_compare::SuiteView;
 
-/// The report on why goals cannot be met together in the index at a path, where they cannot, within a budget of failed leaves a
-/// search, at a clause limit, with hold or without.
+/// The report on why goals cannot be met together in the index at a path, where they cannot.
 pub fn explain<F: Shelf>(
     alloc: Global,
     shelf: &mut F,
     path: &str,
     goals: &[Goal],
-    budget: u64,
-    limit: u32,
-    hold: bool,
+    with: Settings,
 ) -> Result<Report, Stop>
-    requires budget { IsBudget budget }
-    requires limit { 0 < limit }
-    ensures { Follows F.contents F.faults F.moved F.is_quiet F.start_gives F.read_gives (explain_course path.now goals.now budget limit hold) shelf.old (ending_of result) shelf.new }
+    requires { AreInLimits with }
+    ensures { Follows F.contents F.faults F.moved F.is_quiet F.start_gives F.read_gives (explain_course path.now goals.now with.budget with.clause_limit with.hold) shelf.old (ending_of result) shelf.new }
 {
-    let suite = suite_at(alloc, shelf, path)?;
-    explain_suite(alloc, suite, path, goals, budget, limit, hold)
-}
-
-// The report on goals in a suite.
-fn explain_suite(
-    alloc: Global,
-    suite: Suite,
-    path: &str,
-    goals: &[Goal],
-    budget: u64,
-    limit: u32,
-    hold: bool,
-) -> Result<Report, Stop>
-    requires budget { IsBudget budget }
-    requires limit { 0 < limit }
-    ensures { Settles (explain_answer path.now goals.now budget limit hold (index_of suite)) (ending_of result) }
-{
-    let view = view_of(alloc, suite, path, limit, hold)?;
-    explain_goals(alloc, &view, goals, budget)
+    let view = view_at(alloc, shelf, path, with.clause_limit, with.hold)?;
+    explain_goals(alloc, &view, goals, with.budget)
 }
 
 // The report on goals in a view.

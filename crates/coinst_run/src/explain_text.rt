@@ -22,7 +22,7 @@ pub(crate) fn yes_line(alloc: Global) -> Result<Vec<u8>, AllocError>
 }
 
 // Puts the line of a goal that matters, or may matter, behind the text.
-#[tactic(auto, using(crate::proofs::Texts::appended))]
+#[tactic(auto, using(std::proofs::Common::append_assoc))]
 fn push_goal(out: &mut Vec<u8>, goal: &Goal, unsettled: bool) -> Result<(), AllocError>
     ensures { OnOk result (out.new.items ≡ out.old.items ++ goal_text unsettled goal.now) }
 {
@@ -47,7 +47,7 @@ fn push_goals(out: &mut Vec<u8>, goals: &[Goal], marks: &[Mark]) -> Result<(), A
 }
 
 // Puts the name and the version of a package behind the text.
-#[tactic(auto, using(crate::proofs::Texts::appended))]
+#[tactic(auto, using(std::proofs::Common::append_assoc))]
 fn push_package(out: &mut Vec<u8>, facts: &PackageFacts) -> Result<(), AllocError>
     ensures { OnOk result (out.new.items ≡ out.old.items ++ package_text facts.now) }
 {
@@ -57,7 +57,7 @@ fn push_package(out: &mut Vec<u8>, facts: &PackageFacts) -> Result<(), AllocErro
 }
 
 // Puts the line of two packages whose conflict matters, or may matter, behind the text.
-#[tactic(auto, using(crate::proofs::Texts::appended))]
+#[tactic(auto, using(std::proofs::Common::append_assoc))]
 fn push_clash(
     out: &mut Vec<u8>,
     first: &PackageFacts,
@@ -123,7 +123,7 @@ fn clash_count(clashes: &Option<ClashList>) -> usize
 }
 
 // Puts the last line, with the numbers of goals and of conflicts, behind the text.
-#[tactic(auto, using(crate::proofs::Texts::appended))]
+#[tactic(auto, using(std::proofs::Common::append_assoc))]
 fn push_end(out: &mut Vec<u8>, goals: u64, clashes: u64) -> Result<(), AllocError>
     ensures { OnOk result (out.new.items ≡ out.old.items ++ end_text goals clashes) }
 {
@@ -135,7 +135,7 @@ fn push_end(out: &mut Vec<u8>, goals: u64, clashes: u64) -> Result<(), AllocErro
 }
 
 /// The goals that matter and the conflicts that do; it fails only where no memory is found.
-#[tactic(auto, using(crate::proofs::Texts::appended), unfolding(crate::specs::ExplainText::core_text))]
+#[tactic(auto, using(std::proofs::Common::append_assoc), unfolding(crate::specs::ExplainText::core_text))]
 pub(crate) fn core_text(
     alloc: Global,
     packages: &[PackageFacts],

@@ -1,71 +1,54 @@
 //! The command that prints the kernel of an index.
-ghost use Rattle.std.specs.Prelude.{◌≡◌, ◌<◌, IfOk};
+ghost use Rattle.std.specs.Prelude.{◌≡◌, IfOk};
+ghost use Rattle.coinst_run.specs.Settings.{AreInLimits};
 ghost use Rattle.kernel_text.specs.JsonData.{AreNamedPackages};
 ghost use Rattle.coinst_run.specs.Ending.{Settles, ending_of};
 ghost use Rattle.coinst_run.specs.Follows.{Follows};
 ghost use Rattle.coinst_run.specs.Index.{index_of};
-ghost use Rattle.coinst_run.specs.Kernel.{FitsSuite, kernel_answer, kernel_course, kernel_in, printed_kernel};
+ghost use Rattle.coinst_run.specs.IndexKernel.{index_kernel};
+ghost use Rattle.coinst_run.specs.Kernel.{kernel_answer, kernel_course, printed_kernel};
 
 use crate::answer::{Report, Stop, Verdict};
-use crate::stages::{kernel_of, suite_at};
+use crate::settings::Settings;
+use crate::views::view_at;
 use byte_flow::Shelf;
-use clause_pool::Pool;
-use kernel_rounds::Kernel;
 use kernel_text::{kernel_json, write_kernel};
-use repo_model::Suite;
 use std::alloc::{AllocError, Global};
+use suite_compare::SuiteView;
 
-/// The report on the kernel of the index at a path, as text or as JSON, at a clause limit, with hold or without.
+/// The report on the kernel of the index at a path, as text or as JSON.
 pub fn kernel<F: Shelf>(
     alloc: Global,
     shelf: &mut F,
     path: &str,
     json: bool,
-    limit: u32,
-    hold: bool,
+    with: Settings,
 ) -> Result<Report, Stop>
-    requires { 0 < limit }
-    ensures { Follows F.contents F.faults F.moved F.is_quiet F.start_gives F.read_gives (kernel_course path.now json limit hold) shelf.old (ending_of result) shelf.new }
+    requires { AreInLimits with }
+    ensures { Follows F.contents F.faults F.moved F.is_quiet F.start_gives F.read_gives (kernel_course path.now json with.clause_limit with.hold) shelf.old (ending_of result) shelf.new }
 {
-    let suite = suite_at(alloc, shelf, path)?;
-    kernel_report(alloc, &suite, path, json, limit, hold)
+    let view = view_at(alloc, shelf, path, with.clause_limit, with.hold)?;
+    kernel_report(alloc, &view, json)
 }
 
-// The report on the kernel of the index of a suite.
-fn kernel_report(
-    alloc: Global,
-    suite: &Suite,
-    path: &str,
-    json: bool,
-    limit: u32,
-    hold: bool,
-) -> Result<Report, Stop>
-    requires limit { 0 < limit }
-    requires named { AreNamedPackages suite.now.packages }
-    ensures { Settles (kernel_answer path.now json limit hold (index_of suite.now)) (ending_of result) }
+// The report on the kernel of a view, as text or as JSON.
+fn kernel_report(alloc: Global, view: &SuiteView, json: bool) -> Result<Report, Stop>
+    requires { AreNamedPackages view.now.suite.packages }
+    ensures { Settles (kernel_answer json (index_of view.now.suite) (index_kernel view.now.limit view.now.kernel.hold view.now.suite.home view.now.suite.packages)) (ending_of result) }
 {
-    let mut pool = Pool::new(alloc)?;
-    let kernel = kernel_of(alloc, &mut pool, suite, path, limit, hold)?;
     Ok(Report {
         verdict: Verdict::Done,
-        text: printed_kernel(alloc, &pool, suite, &kernel, json)?,
+        text: printed_kernel(alloc, view, json)?,
     })
 }
 
-// The text of a kernel, or its JSON.
-fn printed_kernel(
-    alloc: Global,
-    pool: &Pool,
-    suite: &Suite,
-    kernel: &Kernel,
-    json: bool,
-) -> Result<Vec<u8>, AllocError>
-    requires fits { FitsSuite pool.now suite.now.packages kernel.now }
-    requires named { AreNamedPackages suite.now.packages }
-    ensures { IfOk result (λ text. text.items ≡ printed_kernel json suite.now.packages (kernel_in pool.now kernel.now)) }
+// The kernel of a view as text, or as JSON.
+fn printed_kernel(alloc: Global, view: &SuiteView, json: bool) -> Result<Vec<u8>, AllocError>
+    requires { AreNamedPackages view.now.suite.packages }
+    ensures { IfOk result (λ text. text.items ≡ printed_kernel json view.now.suite.packages (index_kernel view.now.limit view.now.kernel.hold view.now.suite.home view.now.suite.packages)) }
 {
     if json {
-        return kernel_json(alloc, pool, suite, kernel);
+        return kernel_json(alloc, &view.pool, &view.suite, &view.kernel);
     }
-    write_kernel(alloc, pool, suite, kernel)
+    write_kernel(alloc, &view.pool, &view.suite, &view.kernel)
 }

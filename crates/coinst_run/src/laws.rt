@@ -1,5 +1,6 @@
 //! The laws of reports: the functions do nothing, the contract of each is one law.
 ghost use Rattle.coinst_run.specs.CompareMeaning.{CompareIsMeant};
+ghost use Rattle.coinst_run.specs.Complete.{CompleteJobsReport};
 ghost use Rattle.coinst_run.specs.ExplainMeaning.{ExplainIsMeant};
 ghost use Rattle.coinst_run.specs.MigrateMeaning.{MigrateIsMeant};
 ghost use Rattle.coinst_run.specs.QueryMeaning.{QueryIsMeant};
@@ -7,6 +8,12 @@ ghost use Rattle.coinst_run.specs.StoredAgrees.{StoredAnswersAsIndex, StoredImag
 ghost use Rattle.coinst_run.specs.StoredMeaning.{StoredQueryIsMeant};
 ghost use Rattle.coinst_run.specs.StoredReading.{TextsAreTold};
 ghost use Rattle.coinst_run.specs.SystemMeaning.{SystemIsMeant};
+
+/// Words that ask for a job are answered by a report exactly if its files are there, accepted and within the limits, and its goals
+/// are known.
+pub fn complete_jobs_report()
+    ensures { CompleteJobsReport }
+{}
 
 /// What the report of a query of an index means.
 pub fn query_is_meant()

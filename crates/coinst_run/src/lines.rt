@@ -1,10 +1,9 @@
 //! The lines about a file, each made whole in memory.
 ghost use Rattle.std.specs.Prelude.{◌≡◌, ◌++◌, IfOk, OnOk, codes};
 ghost use Rattle.std.specs.Fmt.{decimal};
-ghost use Rattle.coinst_run.specs.Lines.{at_line, fault_line, fault_text, limit_line, line_of_text, row_text, shape_text, size_line, stage_text, too_long_line};
+ghost use Rattle.coinst_run.specs.Lines.{at_line, fault_line, fault_text, line_of_text, row_text, shape_text, size_line, stage_text, too_long_line};
 
 use itoa::Buffer;
-use relation_fields::PackageFacts;
 use repo_model::IndexFault;
 use stanza_reader::StanzaFault;
 use std::alloc::{AllocError, Global};
@@ -18,7 +17,7 @@ pub(crate) fn push_number(line: &mut Vec<u8>, number: u64) -> Result<(), AllocEr
 }
 
 /// Puts what is wrong at a line of a file behind the line.
-#[tactic(auto, using(crate::proofs::Texts::appended))]
+#[tactic(auto, using(std::proofs::Common::append_assoc))]
 pub(crate) fn push_at_line(line: &mut Vec<u8>, number: u64, words: &[u8]) -> Result<(), AllocError>
     ensures { OnOk result (line.new.items ≡ line.old.items ++ at_line number words.now) }
 {
@@ -29,7 +28,7 @@ pub(crate) fn push_at_line(line: &mut Vec<u8>, number: u64, words: &[u8]) -> Res
 }
 
 // Puts the same behind the line, with a number behind it.
-#[tactic(auto, using(crate::proofs::Texts::appended))]
+#[tactic(auto, using(std::proofs::Common::append_assoc))]
 fn push_numbered(
     line: &mut Vec<u8>,
     number: u64,
@@ -84,7 +83,7 @@ fn push_fault(line: &mut Vec<u8>, fault: IndexFault) -> Result<(), AllocError>
 }
 
 /// The line of the first fault of the file at a path; it fails only where no memory is found.
-#[tactic(auto, using(crate::proofs::Texts::appended), unfolding(crate::specs::Lines::fault_line))]
+#[tactic(auto, using(std::proofs::Common::append_assoc), unfolding(crate::specs::Lines::fault_line))]
 pub fn fault_line(alloc: Global, path: &str, fault: IndexFault) -> Result<Vec<u8>, AllocError>
     ensures { IfOk result (λ line. line.items ≡ fault_line path.now fault) }
 {
@@ -96,7 +95,7 @@ pub fn fault_line(alloc: Global, path: &str, fault: IndexFault) -> Result<Vec<u8
 }
 
 /// The line of a file that is longer than the limit; it fails only where no memory is found.
-#[tactic(auto, using(crate::proofs::Texts::appended), unfolding(crate::specs::Lines::too_long_line))]
+#[tactic(auto, using(std::proofs::Common::append_assoc), unfolding(crate::specs::Lines::too_long_line))]
 pub fn too_long_line(alloc: Global, path: &str) -> Result<Vec<u8>, AllocError>
     ensures { IfOk result (λ line. line.items ≡ too_long_line path.now) }
 {
@@ -108,7 +107,7 @@ pub fn too_long_line(alloc: Global, path: &str) -> Result<Vec<u8>, AllocError>
 }
 
 // Puts which limit was passed, and when, behind the line.
-#[tactic(auto, using(crate::proofs::Texts::appended))]
+#[tactic(auto, using(std::proofs::Common::append_assoc))]
 fn push_stage(line: &mut Vec<u8>, limit: u64, round: u64, gone: u64) -> Result<(), AllocError>
     ensures { OnOk result (line.new.items ≡ line.old.items ++ stage_text limit round gone) }
 {
@@ -121,7 +120,7 @@ fn push_stage(line: &mut Vec<u8>, limit: u64, round: u64, gone: u64) -> Result<(
 }
 
 // Puts which package passed it, and by how many clauses, behind the line.
-#[tactic(auto, using(crate::proofs::Texts::appended))]
+#[tactic(auto, using(std::proofs::Common::append_assoc))]
 fn push_row(line: &mut Vec<u8>, name: &[u8], version: &[u8], count: u64) -> Result<(), AllocError>
     ensures { OnOk result (line.new.items ≡ line.old.items ++ row_text name.now version.now count) }
 {
@@ -135,7 +134,7 @@ fn push_row(line: &mut Vec<u8>, name: &[u8], version: &[u8], count: u64) -> Resu
 
 /// The front of the line of a clause limit that was passed in a round, when so many packages were gone in it; it fails only
 /// where no memory is found.
-#[tactic(auto, using(crate::proofs::Texts::appended))]
+#[tactic(auto, using(std::proofs::Common::append_assoc))]
 pub fn limit_front(
     alloc: Global,
     path: &str,
@@ -153,7 +152,7 @@ pub fn limit_front(
 
 /// Puts the package that passed the limit, by its name and version, the number of its clauses, and the line feed behind the
 /// front; it fails only where no memory is found.
-#[tactic(auto, using(crate::proofs::Texts::appended))]
+#[tactic(auto, using(std::proofs::Common::append_assoc))]
 pub fn end_limit(
     line: &mut Vec<u8>,
     name: &[u8],
@@ -166,32 +165,8 @@ pub fn end_limit(
     line.extend_from_slice(b"\n")
 }
 
-/// The line of a package that has more clauses than the limit allows, when so many packages are gone in a round; it fails
-/// only where no memory is found.
-#[tactic(auto, using(crate::proofs::Texts::appended), unfolding(crate::specs::Lines::limit_line))]
-pub fn limit_line(
-    alloc: Global,
-    path: &str,
-    limit: u64,
-    round: u64,
-    gone: u64,
-    facts: &PackageFacts,
-    count: u64,
-) -> Result<Vec<u8>, AllocError>
-    ensures { IfOk result (λ line. line.items ≡ limit_line path.now limit round gone facts.now count) }
-{
-    let mut line = limit_front(alloc, path, limit, round, gone)?;
-    end_limit(
-        &mut line,
-        facts.name.as_slice(),
-        facts.version.text(),
-        count,
-    )?;
-    Ok(line)
-}
-
 /// The line on the size of a kernel; it fails only where no memory is found.
-#[tactic(auto, using(crate::proofs::Texts::appended), unfolding(crate::specs::Lines::size_line))]
+#[tactic(auto, using(std::proofs::Common::append_assoc), unfolding(crate::specs::Lines::size_line))]
 pub fn size_line(
     alloc: Global,
     packages: u64,

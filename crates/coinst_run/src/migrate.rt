@@ -1,6 +1,7 @@
 //! The command that takes names over from a newer index into an older one, without breaking any.
 ghost use Rattle.std.specs.Prelude.{◌≡◌, ◌<◌, ◌≤◌, ◌++◌, List, Ok, Option, IfErr, IfOk, OnOk, length};
 ghost use Rattle.clause_solver.specs.Outcomes.{IsBudget};
+ghost use Rattle.coinst_run.specs.Settings.{AreInLimits};
 ghost use Rattle.migrate_plan.specs.Plan.{settings_of};
 ghost use Rattle.migrate_plan.specs.Refusals.{Refuses};
 ghost use Rattle.migrate_plan.specs.declared.plan.PlanLine.{PlanLine};
@@ -10,11 +11,13 @@ ghost use Rattle.suite_compare.specs.Refusals.{home_in, packages_in};
 ghost use Rattle.coinst_run.specs.Ending.{Settles, StopsAt, ending_of, stop_ending};
 ghost use Rattle.coinst_run.specs.Follows.{Follows};
 ghost use Rattle.coinst_run.specs.IndexKernel.{index_kernel};
-ghost use Rattle.coinst_run.specs.Migrate.{by_refusal, homes_line, kernel_at, migrate_course, names_line, new_answer, new_course, old_answer, packages_line, plan_answer};
+ghost use Rattle.coinst_run.specs.Migrate.{by_refusal, homes_line, kernel_at, migrate_course, names_line, packages_line, plan_answer};
+ghost use Rattle.repo_model.specs.Limits.{most_bytes};
 
 use crate::answer::{Cause, Report, Stop};
 use crate::lines::too_long_line;
 use crate::migrate_text::{plan_text, plan_verdict};
+use crate::settings::Settings;
 use crate::stages::{checked_index, text_at};
 use crate::views::view_of;
 use byte_flow::Shelf;
@@ -23,57 +26,37 @@ use repo_model::Suite;
 use std::alloc::{AllocError, Global};
 use suite_compare::SuiteView;
 
-/// The report on which names that differ can be taken over from the index at the newer path into that at the older one,
-/// within a budget of failed leaves a search, at a clause limit, with hold or without. Both texts are held whole.
+/// The report on which names that differ can be taken over from the index at the newer path into that at the older one. Both
+/// texts are held whole.
 pub fn migrate<F: Shelf>(
     alloc: Global,
     shelf: &mut F,
     old: &str,
     new: &str,
-    budget: u64,
-    limit: u32,
-    hold: bool,
+    with: Settings,
 ) -> Result<Report, Stop>
-    requires budget { IsBudget budget }
-    requires limit { 0 < limit }
-    ensures { Follows F.contents F.faults F.moved F.is_quiet F.start_gives F.read_gives (migrate_course old.now new.now budget limit hold) shelf.old (ending_of result) shelf.new }
+    requires { AreInLimits with }
+    ensures { Follows F.contents F.faults F.moved F.is_quiet F.start_gives F.read_gives (migrate_course old.now new.now with.budget with.clause_limit with.hold) shelf.old (ending_of result) shelf.new }
 {
     let text = text_at(alloc, shelf, old)?;
-    migrate_from(alloc, shelf, text.as_slice(), old, new, budget, limit, hold)
-}
-
-// The report on the older text and the index at the newer path.
-fn migrate_from<F: Shelf>(
-    alloc: Global,
-    shelf: &mut F,
-    text: &[u8],
-    old: &str,
-    new: &str,
-    budget: u64,
-    limit: u32,
-    hold: bool,
-) -> Result<Report, Stop>
-    requires short { length text.now ≤ 1073741824 }
-    requires budget { IsBudget budget }
-    requires limit { 0 < limit }
-    ensures { Follows F.contents F.faults F.moved F.is_quiet F.start_gives F.read_gives (old_answer old.now new.now (settings_of budget limit hold) text.now) shelf.old (ending_of result) shelf.new }
-{
-    match view_at(alloc, text, old, limit, hold) {
-        Ok(view) => migrate_with(alloc, shelf, text, &view, old, new, budget),
-        Err(stop) => Err(stop),
-    }
+    let first = text.as_slice();
+    let view = view_in(alloc, first, old, with.clause_limit, with.hold)?;
+    let newer = text_at(alloc, shelf, new)?;
+    let second = newer.as_slice();
+    let suite = checked_index(alloc, new, second)?;
+    plan_report(alloc, first, &view, second, &suite, old, new, with.budget)
 }
 
 // The view of the index of a text at a clause limit, with hold or without.
 #[tactic(auto, using(crate::proofs::Migrating::stops_before))]
-fn view_at(
+fn view_in(
     alloc: Global,
     text: &[u8],
     path: &str,
     limit: u32,
     hold: bool,
 ) -> Result<SuiteView, Stop>
-    requires short { length text.now ≤ 1073741824 }
+    requires short { length text.now ≤ most_bytes }
     requires limit { 0 < limit }
     ensures kernel { OnOk result (kernel_at path.now limit hold text.now ≡ Ok (index_kernel limit hold (home_in text.now) (packages_in text.now))) }
     ensures suite { IfOk result (λ view. IsSuiteOf text.now view.suite.packages view.suite.home.name) }
@@ -83,47 +66,6 @@ fn view_at(
 {
     let suite = checked_index(alloc, path, text)?;
     view_of(alloc, suite, path, limit, hold)
-}
-
-// The report on the older text with its view and the index at the newer path, at the limit and hold of the view.
-fn migrate_with<F: Shelf>(
-    alloc: Global,
-    shelf: &mut F,
-    text: &[u8],
-    view: &SuiteView,
-    old: &str,
-    new: &str,
-    budget: u64,
-) -> Result<Report, Stop>
-    requires short { length text.now ≤ 1073741824 }
-    requires suite { IsSuiteOf text.now view.now.suite.packages view.now.suite.home.name }
-    requires budget { IsBudget budget }
-    requires limit { 0 < view.now.limit }
-    ensures { Follows F.contents F.faults F.moved F.is_quiet F.start_gives F.read_gives (new_course old.now new.now (settings_of budget view.now.limit view.now.kernel.hold) text.now) shelf.old (ending_of result) shelf.new }
-{
-    let newer = text_at(alloc, shelf, new)?;
-    migrate_texts(alloc, text, view, newer.as_slice(), old, new, budget)
-}
-
-// The report on the older text with its view and the newer text.
-fn migrate_texts(
-    alloc: Global,
-    text: &[u8],
-    view: &SuiteView,
-    newer: &[u8],
-    old: &str,
-    new: &str,
-    budget: u64,
-) -> Result<Report, Stop>
-    requires short { length text.now ≤ 1073741824 }
-    requires suite { IsSuiteOf text.now view.now.suite.packages view.now.suite.home.name }
-    requires newer_short { length newer.now ≤ 1073741824 }
-    requires budget { IsBudget budget }
-    requires limit { 0 < view.now.limit }
-    ensures { Settles (new_answer old.now new.now (settings_of budget view.now.limit view.now.kernel.hold) text.now newer.now) (ending_of result) }
-{
-    let suite = checked_index(alloc, new, newer)?;
-    plan_report(alloc, text, view, newer, &suite, old, new, budget)
 }
 
 // The report on the plan of two texts.
@@ -138,9 +80,9 @@ fn plan_report(
     new: &str,
     budget: u64,
 ) -> Result<Report, Stop>
-    requires short { length text.now ≤ 1073741824 }
+    requires short { length text.now ≤ most_bytes }
     requires suite { IsSuiteOf text.now view.now.suite.packages view.now.suite.home.name }
-    requires newer_short { length newer.now ≤ 1073741824 }
+    requires newer_short { length newer.now ≤ most_bytes }
     requires newer { IsSuiteOf newer.now suite.now.packages suite.now.home.name }
     requires budget { IsBudget budget }
     requires limit { 0 < view.now.limit }
@@ -205,7 +147,7 @@ fn refusal(alloc: Global, old: &str, new: &str, error: PlanError) -> Result<Stop
 }
 
 // Puts words and a path behind the line.
-#[tactic(auto, using(crate::proofs::Texts::appended))]
+#[tactic(auto, using(std::proofs::Common::append_assoc))]
 fn push_words(line: &mut Vec<u8>, words: &[u8], path: &str) -> Result<(), AllocError>
     ensures { OnOk result (line.new.items ≡ line.old.items ++ (words.now ++ path.now)) }
 {
@@ -214,7 +156,7 @@ fn push_words(line: &mut Vec<u8>, words: &[u8], path: &str) -> Result<(), AllocE
 }
 
 // The line of two indexes with different architectures; it fails only where no memory is found.
-#[tactic(auto, using(crate::proofs::Texts::appended), unfolding(crate::specs::Migrate::homes_line))]
+#[tactic(auto, using(std::proofs::Common::append_assoc), unfolding(crate::specs::Migrate::homes_line))]
 fn homes_line(alloc: Global, old: &str, new: &str) -> Result<Vec<u8>, AllocError>
     ensures { IfOk result (λ line. line.items ≡ homes_line old.now new.now) }
 {
@@ -226,7 +168,7 @@ fn homes_line(alloc: Global, old: &str, new: &str) -> Result<Vec<u8>, AllocError
 }
 
 // The line of two indexes in which too many names differ; it fails only where no memory is found.
-#[tactic(auto, using(crate::proofs::Texts::appended), unfolding(crate::specs::Migrate::names_line))]
+#[tactic(auto, using(std::proofs::Common::append_assoc), unfolding(crate::specs::Migrate::names_line))]
 fn names_line(alloc: Global, new: &str) -> Result<Vec<u8>, AllocError>
     ensures { IfOk result (λ line. line.items ≡ names_line new.now) }
 {

@@ -12,7 +12,7 @@ use std::alloc::{AllocError, Global};
 use suite_compare::ReportLine;
 
 // Puts a name that is left, with a line of a comparison, behind the text.
-#[tactic(auto, using(crate::proofs::Texts::appended))]
+#[tactic(auto, using(std::proofs::Common::append_assoc))]
 fn push_left(out: &mut Vec<u8>, name: &[u8], line: &ReportLine) -> Result<(), AllocError>
     ensures { OnOk result (out.new.items ≡ out.old.items ++ (codes "left " ++ name.now ++ codes " " ++ comparison_line line.now)) }
 {
@@ -64,18 +64,30 @@ fn would_break(line: &PlanLine) -> bool
 fn count_taken(lines: &[PlanLine]) -> usize
     ensures { result ≡ length (filter is_take lines.now) }
 {
-    lines.iter().filter(|line| is_take(line)).count()
+    let mut count = 0;
+    for line in lines {
+        if is_take(line) {
+            count += 1;
+        }
+    }
+    count
 }
 
 // How many names are left.
 fn count_left(lines: &[PlanLine]) -> usize
     ensures { result ≡ length (filter is_left lines.now) }
 {
-    lines.iter().filter(|line| !is_take(line)).count()
+    let mut count = 0;
+    for line in lines {
+        if !is_take(line) {
+            count += 1;
+        }
+    }
+    count
 }
 
 // Puts the last line behind the text.
-#[tactic(auto, using(crate::proofs::Texts::appended), unfolding(crate::specs::MigrateText::plan_end))]
+#[tactic(auto, using(std::proofs::Common::append_assoc), unfolding(crate::specs::MigrateText::plan_end))]
 fn push_plan_end(out: &mut Vec<u8>, lines: &[PlanLine]) -> Result<(), AllocError>
     ensures { OnOk result (out.new.items ≡ out.old.items ++ plan_end lines.now) }
 {
@@ -87,7 +99,7 @@ fn push_plan_end(out: &mut Vec<u8>, lines: &[PlanLine]) -> Result<(), AllocError
 }
 
 /// The text of the lines of a plan; it fails only where no memory is found.
-#[tactic(auto, using(crate::proofs::Texts::appended), unfolding(crate::specs::MigrateText::plan_text))]
+#[tactic(auto, using(std::proofs::Common::append_assoc), unfolding(crate::specs::MigrateText::plan_text))]
 pub(crate) fn plan_text(alloc: Global, lines: &[PlanLine]) -> Result<Vec<u8>, AllocError>
     ensures { IfOk result (λ text. text.items ≡ plan_text lines.now) }
 {

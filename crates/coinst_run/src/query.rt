@@ -1,56 +1,35 @@
 //! The command that asks whether one package for each goal can be installed together.
 ghost use Rattle.std.specs.Prelude.{◌≡◌, ◌<◌, ◌≤◌, length};
 ghost use Rattle.clause_solver.specs.Outcomes.{IsBudget};
+ghost use Rattle.coinst_run.specs.Settings.{AreInLimits};
 ghost use Rattle.coinst_run.specs.Course.{answers};
 ghost use Rattle.coinst_run.specs.Ending.{Settles, ending_of};
 ghost use Rattle.coinst_run.specs.Follows.{Follows};
 ghost use Rattle.coinst_run.specs.Index.{index_of};
-ghost use Rattle.coinst_run.specs.Query.{goal_of_number, goals_answer, query_answer, query_course};
+ghost use Rattle.coinst_run.specs.Query.{goal_of_number, goals_answer, query_course};
 
 use crate::answer::{Cause, Report, Stop, Verdict};
 use crate::query_text::{no_text, undecided_text, unknown_line, yes_text};
-use crate::stages::suite_at;
-use crate::views::view_of;
+use crate::settings::Settings;
+use crate::views::view_at;
 use byte_flow::Shelf;
-use repo_model::{Goal, Suite};
+use repo_model::Goal;
 use std::alloc::Global;
 use suite_compare::{Answer, DecideError, SuiteView, decide};
 
-/// The report on goals that are asked of the index at a path, within a budget of failed leaves, at a clause limit, with hold or
-/// without.
+/// The report on goals that are asked of the index at a path.
 pub fn query<F: Shelf>(
     alloc: Global,
     shelf: &mut F,
     path: &str,
     goals: &[Goal],
-    budget: u64,
-    limit: u32,
-    hold: bool,
+    with: Settings,
 ) -> Result<Report, Stop>
-    requires budget { IsBudget budget }
-    requires limit { 0 < limit }
-    ensures { Follows F.contents F.faults F.moved F.is_quiet F.start_gives F.read_gives (query_course path.now goals.now budget limit hold) shelf.old (ending_of result) shelf.new }
+    requires { AreInLimits with }
+    ensures { Follows F.contents F.faults F.moved F.is_quiet F.start_gives F.read_gives (query_course path.now goals.now with.budget with.clause_limit with.hold) shelf.old (ending_of result) shelf.new }
 {
-    let suite = suite_at(alloc, shelf, path)?;
-    query_report(alloc, suite, path, goals, budget, limit, hold)
-}
-
-// The report on goals that are asked of a suite.
-fn query_report(
-    alloc: Global,
-    suite: Suite,
-    path: &str,
-    goals: &[Goal],
-    budget: u64,
-    limit: u32,
-    hold: bool,
-) -> Result<Report, Stop>
-    requires budget { IsBudget budget }
-    requires limit { 0 < limit }
-    ensures { Settles (query_answer path.now goals.now budget limit hold (index_of suite)) (ending_of result) }
-{
-    let view = view_of(alloc, suite, path, limit, hold)?;
-    goals_report(alloc, &view, goals, budget)
+    let view = view_at(alloc, shelf, path, with.clause_limit, with.hold)?;
+    goals_report(alloc, &view, goals, with.budget)
 }
 
 /// The goal of a number, counted from 1.

@@ -14,7 +14,7 @@ use search_terms::{Literal, LiteralList, Log};
 use std::alloc::{AllocError, Global};
 
 // Puts the line of a package that is installed behind the text.
-#[tactic(auto, using(crate::proofs::Texts::appended))]
+#[tactic(auto, using(std::proofs::Common::append_assoc))]
 fn push_install(out: &mut Vec<u8>, facts: &PackageFacts) -> Result<(), AllocError>
     ensures { OnOk result (out.new.items ≡ out.old.items ++ install_line facts.now) }
 {
@@ -41,7 +41,7 @@ fn push_installs(
 }
 
 /// Yes, and the packages with these numbers; it fails only where no memory is found.
-#[tactic(auto, using(crate::proofs::Texts::appended), unfolding(crate::specs::QueryText::yes_text))]
+#[tactic(auto, using(std::proofs::Common::append_assoc), unfolding(crate::specs::QueryText::yes_text))]
 pub(crate) fn yes_text(
     alloc: Global,
     packages: &[PackageFacts],
@@ -56,7 +56,7 @@ pub(crate) fn yes_text(
 }
 
 // Puts a class that holds, or does not, behind the text.
-#[tactic(auto, using(crate::proofs::Texts::appended))]
+#[tactic(auto, using(std::proofs::Common::append_assoc))]
 fn push_literal(out: &mut Vec<u8>, literal: Literal) -> Result<(), AllocError>
     ensures { OnOk result (out.new.items ≡ out.old.items ++ literal_text literal) }
 {
@@ -79,7 +79,7 @@ fn push_literals(out: &mut Vec<u8>, entry: &[Literal]) -> Result<(), AllocError>
 }
 
 // Puts the line of an entry behind the text.
-#[tactic(auto, using(crate::proofs::Texts::appended))]
+#[tactic(auto, using(std::proofs::Common::append_assoc))]
 fn push_log_line(out: &mut Vec<u8>, entry: &[Literal]) -> Result<(), AllocError>
     ensures { OnOk result (out.new.items ≡ out.old.items ++ log_line entry.now) }
 {
@@ -99,7 +99,7 @@ fn push_log(out: &mut Vec<u8>, entries: &[LiteralList]) -> Result<(), AllocError
 }
 
 /// No, and the log that shows it; it fails only where no memory is found.
-#[tactic(auto, using(crate::proofs::Texts::appended), unfolding(crate::specs::QueryText::no_text))]
+#[tactic(auto, using(std::proofs::Common::append_assoc), unfolding(crate::specs::QueryText::no_text))]
 pub(crate) fn no_text(alloc: Global, log: &Log) -> Result<Vec<u8>, AllocError>
     ensures { IfOk result (λ text. text.items ≡ no_text log.now.entries) }
 {
@@ -109,7 +109,7 @@ pub(crate) fn no_text(alloc: Global, log: &Log) -> Result<Vec<u8>, AllocError>
 }
 
 /// Undecided within the budget; it fails only where no memory is found.
-#[tactic(auto, using(crate::proofs::Texts::appended), unfolding(crate::specs::QueryText::undecided_text))]
+#[tactic(auto, using(std::proofs::Common::append_assoc), unfolding(crate::specs::QueryText::undecided_text))]
 pub(crate) fn undecided_text(alloc: Global, budget: u64) -> Result<Vec<u8>, AllocError>
     ensures { IfOk result (λ text. text.items ≡ undecided_text budget) }
 {
@@ -133,7 +133,7 @@ fn push_version(out: &mut Vec<u8>, version: &Option<Version>) -> Result<(), Allo
 }
 
 /// Puts the word of a goal behind the text; it fails only where no memory is found.
-#[tactic(auto, using(crate::proofs::Texts::appended))]
+#[tactic(auto, using(std::proofs::Common::append_assoc))]
 pub(crate) fn push_goal_word(out: &mut Vec<u8>, goal: &Goal) -> Result<(), AllocError>
     ensures { OnOk result (out.new.items ≡ out.old.items ++ goal_word goal.now) }
 {
@@ -142,7 +142,7 @@ pub(crate) fn push_goal_word(out: &mut Vec<u8>, goal: &Goal) -> Result<(), Alloc
 }
 
 /// The line of the goal of a number, counted from 1, that names no package; it fails only where no memory is found.
-#[tactic(auto, using(crate::proofs::Texts::appended), unfolding(crate::specs::QueryText::unknown_line))]
+#[tactic(auto, using(std::proofs::Common::append_assoc), unfolding(crate::specs::QueryText::unknown_line))]
 pub(crate) fn unknown_line(alloc: Global, number: u64, goal: &Goal) -> Result<Vec<u8>, AllocError>
     ensures { IfOk result (λ line. line.items ≡ unknown_line number goal.now) }
 {

@@ -1,4 +1,6 @@
 //! The command that extracts the kernel of a suite made from a number, and tells its size.
+//!
+//! It searches nothing, so it takes no budget.
 ghost use Rattle.std.specs.Prelude.{◌≡◌, ◌<◌, ℕ, Ok, IfOk, IfErr, IfSome, filter, length, ltb, sum_by};
 ghost use Rattle.row_book.specs.Book.{listed_for, repository_of, Sound};
 ghost use Rattle.row_book.specs.Clauses.{numbers};
@@ -7,18 +9,19 @@ ghost use Rattle.sample_suite.specs.Drawing.{IsCount};
 ghost use Rattle.sample_suite.specs.SampleText.{sample_text};
 ghost use Rattle.coinst_run.specs.Ending.{Settles, StopsAt, ending_of, stop_ending};
 ghost use Rattle.coinst_run.specs.Index.{checked_index, index_of};
-ghost use Rattle.coinst_run.specs.Kernel.{FitsSuite, kernel_in};
-ghost use Rattle.coinst_run.specs.Sample.{sample_answer, sample_course, sample_path, size_report};
+ghost use Rattle.coinst_run.specs.IndexKernel.{index_kernel};
+ghost use Rattle.coinst_run.specs.Sample.{sample_course, sample_path, size_report};
 
 use crate::answer::{Report, Stop, Verdict};
 use crate::lines::size_line;
-use crate::stages::{checked_index, kernel_of};
+use crate::stages::checked_index;
+use crate::views::view_of;
 use clause_pool::Pool;
-use kernel_rounds::Kernel;
 use repo_model::Suite;
 use row_book::Book;
 use sample_suite::sample_text;
 use std::alloc::Global;
+use suite_compare::SuiteView;
 
 /// The clause limit of the command, which works without hold.
 const CLAUSE_LIMIT: u32 = 65_536;
@@ -29,7 +32,11 @@ pub fn sample(alloc: Global, seed: u64, count: u32) -> Result<Report, Stop>
     ensures { Settles (sample_course seed count) (ending_of result) }
 {
     let suite = suite_of(alloc, seed, count)?;
-    sample_report(alloc, &suite)
+    let view = view_of(alloc, suite, "sample", CLAUSE_LIMIT, false)?;
+    Ok(Report {
+        verdict: Verdict::Done,
+        text: size_report(alloc, &view)?,
+    })
 }
 
 // The suite of so many packages; its text is dropped.
@@ -42,35 +49,22 @@ fn suite_of(alloc: Global, seed: u64, count: u32) -> Result<Suite, Stop>
     checked_index(alloc, "sample", text.as_slice())
 }
 
-// The report on the kernel of the index of a suite.
-fn sample_report(alloc: Global, suite: &Suite) -> Result<Report, Stop>
-    ensures { Settles (sample_answer (index_of suite.now)) (ending_of result) }
-{
-    let mut pool = Pool::new(alloc)?;
-    let kernel = kernel_of(alloc, &mut pool, suite, "sample", CLAUSE_LIMIT, false)?;
-    Ok(Report {
-        verdict: Verdict::Done,
-        text: size_report(alloc, &pool, suite, &kernel)?,
-    })
-}
-
-// The line on the size of a kernel.
-fn size_report(alloc: Global, pool: &Pool, suite: &Suite, kernel: &Kernel) -> Result<Vec<u8>, Stop>
-    requires { FitsSuite pool.now suite.now.packages kernel.now }
-    ensures line { IfOk result (λ line. line.items ≡ size_report suite.now.packages (kernel_in pool.now kernel.now)) }
+// The line on the size of the kernel of a view.
+fn size_report(alloc: Global, view: &SuiteView) -> Result<Vec<u8>, Stop>
+    ensures line { IfOk result (λ line. line.items ≡ size_report view.now.suite.packages (index_kernel view.now.limit view.now.kernel.hold view.now.suite.home view.now.suite.packages)) }
     ensures stop { IfErr result (λ stop. stop ≡ Stop.Memory) }
 {
     // A kernel of more lines than 64 bits count finds no memory.
-    let Some(clauses) = clause_count(pool, &kernel.book) else {
+    let Some(clauses) = clause_count(&view.pool, &view.kernel.book) else {
         return Err(Stop::Memory);
     };
-    let Some(conflicts) = conflict_count(&kernel.book) else {
+    let Some(conflicts) = conflict_count(&view.kernel.book) else {
         return Err(Stop::Memory);
     };
     Ok(size_line(
         alloc,
-        u64::from(suite.count()),
-        u64::from(kernel.book.size()),
+        u64::from(view.suite.count()),
+        u64::from(view.kernel.book.size()),
         clauses,
         conflicts,
     )?)

@@ -1,5 +1,5 @@
-//! The parts of commands: a file read whole, an index checked as it is read, its kernel.
-ghost use Rattle.std.specs.Prelude.{◌≡◌, ◌<◌, ◌≤◌, ℕ, List, length, Option, Ok, IfOk, IfErr, IfSome};
+//! The parts of commands: a file read whole, an index checked as it is read.
+ghost use Rattle.std.specs.Prelude.{◌≡◌, ◌≤◌, ℕ, List, length, Option, Ok, IfOk, IfErr, IfSome};
 ghost use Rattle.kernel_text.specs.JsonData.{AreNamedPackages};
 ghost use Rattle.repo_model.specs.Feed.{FeedStandsFor};
 ghost use Rattle.repo_model.specs.declared.fault.IndexFault.{IndexFault};
@@ -10,15 +10,13 @@ ghost use Rattle.coinst_run.specs.Faults.{fault_cause};
 ghost use Rattle.coinst_run.specs.Feeding.{WasFed};
 ghost use Rattle.coinst_run.specs.Follows.{Follows, ReachesIndex, WasRead};
 ghost use Rattle.coinst_run.specs.Index.{Index, by_fault, checked_index, index_of, reads_index};
-ghost use Rattle.coinst_run.specs.Kernel.{FitsSuite, kernel_in, kernel_of};
 ghost use Rattle.coinst_run.specs.Outcome.{answered, too_long, unread};
+ghost use Rattle.repo_model.specs.Limits.{most_bytes};
 
 use crate::answer::{Cause, Stop};
-use crate::lines::{fault_line, limit_line, too_long_line};
+use crate::lines::{fault_line, too_long_line};
 use byte_flow::{ReadError, Shelf, feed_file, read_file};
-use clause_pool::Pool;
 use coinst_words::PathText;
-use kernel_rounds::{Kernel, RoundError, extract};
 use repo_model::{IndexFault, Suite, SuiteFeed, read_suite};
 use std::alloc::Global;
 
@@ -111,7 +109,7 @@ pub(crate) fn faulty(alloc: Global, path: &str, fault: IndexFault) -> Stop
 
 /// Reads the packages of an index, or refuses its first fault.
 pub fn checked_index(alloc: Global, path: &str, text: &[u8]) -> Result<Suite, Stop>
-    requires { length text.now ≤ 1073741824 }
+    requires { length text.now ≤ most_bytes }
     ensures suite { IfOk result (λ suite. checked_index path.now text.now ≡ Ok (index_of suite)) }
     ensures named { IfOk result (λ suite. AreNamedPackages suite.packages) }
     ensures stop { IfErr result (λ stop. StopsAt (checked_index path.now text.now) (stop_ending stop)) }
@@ -157,48 +155,4 @@ pub fn suite_at<F: Shelf>(alloc: Global, shelf: &mut F, path: &str) -> Result<Su
 {
     let feed = feed_at(alloc, shelf, path)?;
     finished_index(alloc, path, feed)
-}
-
-/// The kernel of an index over the pool at a clause limit, with hold or without, or the package that passed the limit.
-pub fn kernel_of(
-    alloc: Global,
-    pool: &mut Pool,
-    suite: &Suite,
-    path: &str,
-    limit: u32,
-    hold: bool,
-) -> Result<Kernel, Stop>
-    requires { 0 < limit }
-    ensures kernel { IfOk result (λ kernel. kernel_of path.now limit hold (index_of suite.now) ≡ Ok (kernel_in pool.new kernel)) }
-    ensures fits { IfOk result (FitsSuite pool.new suite.now.packages) }
-    ensures stop { IfErr result (λ stop. StopsAt (kernel_of path.now limit hold (index_of suite.now)) (stop_ending stop)) }
-{
-    let book = suite.book(alloc, pool)?;
-    match extract(alloc, pool, &book, limit, hold) {
-        Ok(kernel) => Ok(kernel),
-        Err(
-            RoundError::Limit {
-                round,
-                gone,
-                package,
-                count,
-            },
-        ) => {
-            let facts = &suite.packages.as_slice()[package as usize];
-            let line = limit_line(
-                alloc,
-                path,
-                u64::from(limit),
-                u64::from(round),
-                u64::from(gone),
-                facts,
-                count,
-            )?;
-            Err(Stop::Refused {
-                cause: Cause::ClauseLimit,
-                line,
-            })
-        }
-        Err(RoundError::Memory) => Err(Stop::Memory),
-    }
 }

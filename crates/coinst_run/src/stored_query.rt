@@ -2,6 +2,7 @@
 ghost use Rattle.std.specs.Prelude.{◌≡◌, ◌++◌, ◌<◌, ◌≤◌, Ok, OnOk, IfOk, IfErr, IfSome, filter, length};
 ghost use Rattle.std.specs.List.{flat_map};
 ghost use Rattle.clause_solver.specs.Outcomes.{IsBudget};
+ghost use Rattle.coinst_run.specs.Settings.{AreInLimits};
 ghost use Rattle.kernel_text.specs.KernelReads.{content};
 ghost use Rattle.row_book.specs.Book.{repository_of, Sound};
 ghost use Rattle.row_book.specs.Clauses.{numbers};
@@ -16,11 +17,13 @@ ghost use Rattle.coinst_run.specs.Follows.{Follows};
 ghost use Rattle.coinst_run.specs.Outcome.{answered};
 ghost use Rattle.coinst_run.specs.declared.answer.Cause.TheVariants.{Content};
 ghost use Rattle.coinst_run.specs.StoredQuery.{checked_kernel, class_line, classes_by_tree, classes_text, kernel_fault_line, kernel_fault_text, stored_answer, stored_query_answer, stored_query_course};
+ghost use Rattle.repo_model.specs.Limits.{most_bytes};
 
 use crate::answer::{Cause, Report, Stop, Verdict};
 use crate::lines::{push_at_line, push_number};
 use crate::query::goal_of_number;
 use crate::query_text::{no_text, undecided_text, unknown_line};
+use crate::settings::Settings;
 use crate::stages::text_at;
 use byte_flow::Shelf;
 use clause_pool::Pool;
@@ -30,19 +33,19 @@ use repo_model::Goal;
 use row_book::{Book, Needs};
 use std::alloc::{AllocError, Global};
 
-/// The report on goals that are asked of the stored kernel at a path, within a budget of failed leaves.
+/// The report on goals that are asked of the stored kernel at a path.
 pub fn stored_query<F: Shelf>(
     alloc: Global,
     shelf: &mut F,
     path: &str,
     goals: &[Goal],
-    budget: u64,
+    with: Settings,
 ) -> Result<Report, Stop>
-    requires { IsBudget budget }
-    ensures { Follows F.contents F.faults F.moved F.is_quiet F.start_gives F.read_gives (stored_query_course path.now goals.now budget) shelf.old (ending_of result) shelf.new }
+    requires { AreInLimits with }
+    ensures { Follows F.contents F.faults F.moved F.is_quiet F.start_gives F.read_gives (stored_query_course path.now goals.now with.budget) shelf.old (ending_of result) shelf.new }
 {
     let text = text_at(alloc, shelf, path)?;
-    stored_report(alloc, text.as_slice(), path, goals, budget)
+    stored_report(alloc, text.as_slice(), path, goals, with.budget)
 }
 
 // The report on goals that are asked of the kernel of a text.
@@ -54,7 +57,7 @@ fn stored_report(
     budget: u64,
 ) -> Result<Report, Stop>
     requires budget { IsBudget budget }
-    requires short { length text.now ≤ 1073741824 }
+    requires short { length text.now ≤ most_bytes }
     ensures { Settles (stored_query_answer path.now goals.now budget text.now) (ending_of result) }
 {
     let mut pool = Pool::new(alloc)?;
@@ -69,7 +72,7 @@ fn checked_kernel(
     path: &str,
     text: &[u8],
 ) -> Result<StoredKernel, Stop>
-    requires { length text.now ≤ 1073741824 }
+    requires { length text.now ≤ most_bytes }
     ensures kernel { IfOk result (λ stored. checked_kernel path.now text.now ≡ Ok (content stored.format (repository_of pool.new stored.book) stored.members stored.held)) }
     ensures sound { IfOk result (λ stored. Sound pool.new stored.book) }
     ensures repository { IfOk result (λ stored. SoundRepository (repository_of pool.new stored.book)) }
@@ -154,7 +157,7 @@ fn tree_report(
 }
 
 // Puts the line of a true class behind the text.
-#[tactic(auto, using(crate::proofs::Texts::appended))]
+#[tactic(auto, using(std::proofs::Common::append_assoc))]
 fn push_class(out: &mut Vec<u8>, number: u64) -> Result<(), AllocError>
     ensures { OnOk result (out.new.items ≡ out.old.items ++ class_line number) }
 {
@@ -176,7 +179,7 @@ fn push_classes(out: &mut Vec<u8>, chosen: &[bool]) -> Result<(), AllocError>
 }
 
 // Yes, and the classes whose flags are up; it fails only where no memory is found.
-#[tactic(auto, using(crate::proofs::Texts::appended), unfolding(crate::specs::StoredQuery::classes_text))]
+#[tactic(auto, using(std::proofs::Common::append_assoc), unfolding(crate::specs::StoredQuery::classes_text))]
 fn classes_text(alloc: Global, chosen: &[bool]) -> Result<Vec<u8>, AllocError>
     ensures { IfOk result (λ text. text.items ≡ classes_text chosen.now) }
 {
@@ -198,7 +201,7 @@ fn push_kernel_fault(line: &mut Vec<u8>, fault: KernelFault) -> Result<(), Alloc
 }
 
 // The line of the fault of the stored kernel at a path; it fails only where no memory is found.
-#[tactic(auto, using(crate::proofs::Texts::appended), unfolding(crate::specs::StoredQuery::kernel_fault_line))]
+#[tactic(auto, using(std::proofs::Common::append_assoc), unfolding(crate::specs::StoredQuery::kernel_fault_line))]
 fn kernel_fault_line(alloc: Global, path: &str, fault: KernelFault) -> Result<Vec<u8>, AllocError>
     ensures { IfOk result (λ line. line.items ≡ kernel_fault_line path.now fault) }
 {

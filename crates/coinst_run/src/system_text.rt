@@ -9,7 +9,7 @@ use status_check::{HaveLine, OwnState, StatusReport, SuiteState};
 use std::alloc::{AllocError, Global};
 
 // Puts the name and the version of an own package behind the text.
-#[tactic(auto, using(crate::proofs::Texts::appended))]
+#[tactic(auto, using(std::proofs::Common::append_assoc))]
 fn push_named(out: &mut Vec<u8>, line: &HaveLine) -> Result<(), AllocError>
     ensures { OnOk result (out.new.items ≡ out.old.items ++ named_text line.now) }
 {
@@ -20,7 +20,7 @@ fn push_named(out: &mut Vec<u8>, line: &HaveLine) -> Result<(), AllocError>
 }
 
 // Puts the line of an own package behind the text.
-#[tactic(auto, using(crate::proofs::Texts::appended))]
+#[tactic(auto, using(std::proofs::Common::append_assoc))]
 fn push_have(out: &mut Vec<u8>, line: &HaveLine) -> Result<(), AllocError>
     ensures { OnOk result (out.new.items ≡ out.old.items ++ have_text line.now) }
 {
@@ -44,7 +44,7 @@ fn push_lines(out: &mut Vec<u8>, lines: &[HaveLine]) -> Result<(), AllocError>
 }
 
 // Puts how many installed packages are foreign behind the text.
-#[tactic(auto, using(crate::proofs::Texts::appended))]
+#[tactic(auto, using(std::proofs::Common::append_assoc))]
 fn push_foreign(out: &mut Vec<u8>, count: u64) -> Result<(), AllocError>
     ensures { OnOk result (out.new.items ≡ out.old.items ++ foreign_text count) }
 {
@@ -54,7 +54,7 @@ fn push_foreign(out: &mut Vec<u8>, count: u64) -> Result<(), AllocError>
 }
 
 // Puts the own package with a need that none of them meets behind the text.
-#[tactic(auto, using(crate::proofs::Texts::appended))]
+#[tactic(auto, using(std::proofs::Common::append_assoc))]
 fn push_unhit(out: &mut Vec<u8>, line: &HaveLine) -> Result<(), AllocError>
     ensures { OnOk result (out.new.items ≡ out.old.items ++ unhit_text line.now) }
 {
@@ -64,7 +64,7 @@ fn push_unhit(out: &mut Vec<u8>, line: &HaveLine) -> Result<(), AllocError>
 }
 
 // Puts the two own packages that conflict behind the text.
-#[tactic(auto, using(crate::proofs::Texts::appended))]
+#[tactic(auto, using(std::proofs::Common::append_assoc))]
 fn push_clash(out: &mut Vec<u8>, first: &HaveLine, second: &HaveLine) -> Result<(), AllocError>
     ensures { OnOk result (out.new.items ≡ out.old.items ++ clash_text first.now second.now) }
 {
@@ -97,7 +97,7 @@ fn push_undecided(out: &mut Vec<u8>) -> Result<(), AllocError>
 }
 
 // Puts that a search was spent behind the text.
-#[tactic(auto, using(crate::proofs::Texts::appended))]
+#[tactic(auto, using(std::proofs::Common::append_assoc))]
 fn push_spent(out: &mut Vec<u8>, budget: u64) -> Result<(), AllocError>
     ensures { OnOk result (out.new.items ≡ out.old.items ++ spent_text budget) }
 {
@@ -132,7 +132,7 @@ fn count_lacking(lines: &[HaveLine]) -> usize
 }
 
 // Puts the last line behind the text.
-#[tactic(auto, using(crate::proofs::Texts::appended), unfolding(crate::specs::SystemText::counts_text))]
+#[tactic(auto, using(std::proofs::Common::append_assoc), unfolding(crate::specs::SystemText::counts_text))]
 fn push_counts(out: &mut Vec<u8>, lines: &[HaveLine]) -> Result<(), AllocError>
     ensures { OnOk result (out.new.items ≡ out.old.items ++ counts_text lines.now) }
 {
@@ -144,7 +144,7 @@ fn push_counts(out: &mut Vec<u8>, lines: &[HaveLine]) -> Result<(), AllocError>
 }
 
 /// The text of a report within a budget; it fails only where no memory is found.
-#[tactic(auto, using(crate::proofs::Texts::appended), unfolding(crate::specs::SystemText::system_text))]
+#[tactic(auto, using(std::proofs::Common::append_assoc), unfolding(crate::specs::SystemText::system_text))]
 pub(crate) fn system_text(
     alloc: Global,
     report: &StatusReport,

@@ -1,6 +1,8 @@
 //! The top call: all that the program does, over any shelf and any two sinks.
 ghost use Rattle.std.specs.Prelude.{◌≡◌, ◌⊎◌, IfSome, None, Option, map, string_bytes};
 ghost use Rattle.byte_flow.specs.Flow.{Rose};
+ghost use Rattle.claims.specs.CompareSentence.{CompareIsTrue};
+ghost use Rattle.claims.specs.KernelSentence.{KernelIsTrue};
 ghost use Rattle.coinst_run.specs.Delivers.{Delivers, Tells};
 ghost use Rattle.coinst_run.specs.Ending.{ending_of};
 ghost use Rattle.coinst_run.specs.Follows.{Follows, FollowsJob};
@@ -19,6 +21,7 @@ use crate::kernel::kernel;
 use crate::migrate::migrate;
 use crate::query::query;
 use crate::sample::sample;
+use crate::settings::settings_of;
 use crate::status::Status;
 use crate::stored_query::stored_query;
 use crate::system_status::system_status;
@@ -31,93 +34,23 @@ fn answer_job<F: Shelf>(alloc: Global, shelf: &mut F, job: &Job) -> Result<Repor
     requires { IsInLimits job.now }
     ensures { Follows F.contents F.faults F.moved F.is_quiet F.start_gives F.read_gives (course_of job.now) shelf.old (ending_of result) shelf.new }
 {
+    let with = settings_of(job);
     match job {
-        Job::Kernel {
-            index,
-            json,
-            clause_limit,
-            hold,
-        } => kernel(alloc, shelf, index.as_str(), *json, *clause_limit, *hold),
-        Job::Query {
-            index,
-            goals,
-            budget,
-            clause_limit,
-            hold,
-        } => query(
-            alloc,
-            shelf,
-            index.as_str(),
-            goals.as_slice(),
-            *budget,
-            *clause_limit,
-            *hold,
-        ),
-        Job::StoredQuery {
-            kernel,
-            goals,
-            budget,
-        } => stored_query(alloc, shelf, kernel.as_str(), goals.as_slice(), *budget),
-        Job::Compare {
-            old,
-            new,
-            budget,
-            clause_limit,
-            hold,
-        } => compare(
-            alloc,
-            shelf,
-            old.as_str(),
-            new.as_str(),
-            *budget,
-            *clause_limit,
-            *hold,
-        ),
-        Job::Explain {
-            index,
-            goals,
-            budget,
-            clause_limit,
-            hold,
-        } => explain(
-            alloc,
-            shelf,
-            index.as_str(),
-            goals.as_slice(),
-            *budget,
-            *clause_limit,
-            *hold,
-        ),
-        Job::Status {
-            file,
-            index,
-            budget,
-            clause_limit,
-            hold,
-        } => system_status(
-            alloc,
-            shelf,
-            file.as_str(),
-            index.as_str(),
-            *budget,
-            *clause_limit,
-            *hold,
-        ),
-        Job::Migrate {
-            old,
-            new,
-            budget,
-            clause_limit,
-            hold,
-        } => migrate(
-            alloc,
-            shelf,
-            old.as_str(),
-            new.as_str(),
-            *budget,
-            *clause_limit,
-            *hold,
-        ),
+        Job::Kernel { index, json, .. } => kernel(alloc, shelf, index.as_str(), *json, with),
+        Job::Query { index, goals, .. } => {
+            query(alloc, shelf, index.as_str(), goals.as_slice(), with)
+        }
+        Job::StoredQuery { kernel, goals, .. } => {
+            stored_query(alloc, shelf, kernel.as_str(), goals.as_slice(), with)
+        }
+        Job::Compare { old, new, .. } => compare(alloc, shelf, old.as_str(), new.as_str(), with),
+        Job::Explain { index, goals, .. } => {
+            explain(alloc, shelf, index.as_str(), goals.as_slice(), with)
+        }
+        Job::Status { file, index, .. } => {
+            system_status(alloc, shelf, file.as_str(), index.as_str(), with)
+        }
+        Job::Migrate { old, new, .. } => migrate(alloc, shelf, old.as_str(), new.as_str(), with),
         Job::Sample { seed, count } => sample(alloc, *seed, *count),
     }
 }
@@ -143,18 +76,24 @@ pub fn run<F: Shelf, O: Sink, E: Sink>(
 ) -> Status
     // Where the shelf tells its contents, the status and the bytes are those of the outcome, or of one of three causes.
     ensures answers { IfSome (F.contents shelf.old) (λ files. Answers (F.is_quiet shelf.old) (Rose (F.faults shelf.old) (F.faults shelf.new)) (Rose (O.faults out.old) (O.faults out.new)) (O.room out.old)
-        (Tells E.taken E.faults err.old err.new) (outcome_of (map string_bytes words.now) files) (O.taken out.old) (O.taken out.new) result) }
+        (Tells E.taken E.faults E.write_gives err.old err.new) (outcome_of (map string_bytes words.now) files) (O.taken out.old) (O.taken out.new) result) }
 
     // What was printed means what the stanzas of the indexes say.
     ensures meaning { (verdict : Verdict) → result ≡ verdict_status verdict → IfSome (F.contents shelf.old) (λ files. Took (O.taken out.old) (O.taken out.new) (IsMeant (map string_bytes words.now) files verdict)) }
 
+    // The two sentences: what was printed for `kernel`, and for `compare`, with the options in one order, is a faithful kernel and a
+    // faithful comparison of the files.
+    ensures kernel_is_true { (verdict : Verdict) → result ≡ verdict_status verdict → IfSome (F.contents shelf.old) (λ files. Took (O.taken out.old) (O.taken out.new) (KernelIsTrue (map string_bytes words.now) files)) }
+    ensures compare_is_true { (verdict : Verdict) → result ≡ verdict_status verdict → IfSome (F.contents shelf.old) (λ files. Took (O.taken out.old) (O.taken out.new) (CompareIsTrue (map string_bytes words.now) files)) }
+
     // Where no call failed, a report is written whole unless no memory is found.
     ensures completes { IfSome (F.contents shelf.old) (λ files. (Rose (F.faults shelf.old) (F.faults shelf.new) → ⊥) → (Rose (O.faults out.old) (O.faults out.new) → ⊥) → Completes result (outcome_of (map string_bytes words.now) files)) }
 
-    // On any shelf and any sinks: what the run did, by how it ended.
+    // On any shelf and any sinks: what the run did, by how it ended. How it ended decides the status and which line standard error
+    // is given, so a fault of standard error changes neither the status nor the report.
     ensures runs { (ending : Option Outcome)
         × FollowsJob F.contents F.faults F.moved F.is_quiet F.start_gives F.read_gives (job_of (map string_bytes words.now)) shelf.old ending shelf.new
-        × Delivers O.taken O.faults O.room O.write_gives E.taken E.faults out.old err.old result out.new err.new ending }
+        × Delivers O.taken O.faults O.room O.write_gives E.taken E.faults E.write_gives out.old err.old result out.new err.new ending }
 
     // Why the statuses of the words, of a failed read and of a failed write come.
     ensures words { result ≡ Status.Words → job_of (map string_bytes words.now) ≡ None }

@@ -1,13 +1,18 @@
-//! The view of a suite, as a part of commands.
+//! The view of an index, as a part of commands: its packages, and its kernel at a clause limit.
 ghost use Rattle.std.specs.Prelude.{◌≡◌, ◌<◌, Bool, Ok, IfOk, IfErr, OnOk};
 ghost use Rattle.suite_compare.specs.Refusals.{RefusesSuite};
+ghost use Rattle.kernel_text.specs.JsonData.{AreNamedPackages};
+ghost use Rattle.coinst_run.specs.Course.{Course};
 ghost use Rattle.coinst_run.specs.Ending.{StopsAt, stop_ending};
+ghost use Rattle.coinst_run.specs.Follows.{Follows, ReachesKernel};
 ghost use Rattle.coinst_run.specs.Index.{Index, index_of};
-ghost use Rattle.coinst_run.specs.IndexKernel.{index_kernel};
-ghost use Rattle.coinst_run.specs.Kernel.{kernel_of};
+ghost use Rattle.coinst_run.specs.IndexKernel.{ClassedKernel, index_kernel};
+ghost use Rattle.coinst_run.specs.Kernel.{kernel_of, reads_kernel};
 
 use crate::answer::{Cause, Stop};
 use crate::lines::{end_limit, limit_front};
+use crate::stages::suite_at;
+use byte_flow::Shelf;
 use repo_model::Suite;
 use std::alloc::{AllocError, Global};
 use suite_compare::{LimitError, SuiteView};
@@ -61,4 +66,24 @@ pub fn view_of(
         Ok(view) => Ok(view),
         Err(error) => Err(limit_stop(alloc, path, limit, error)?),
     }
+}
+
+/// The view of the index at a path at a clause limit, with hold or without: the file is read whole, and its kernel is extracted, or
+/// it is said why there is none.
+pub fn view_at<F: Shelf>(
+    alloc: Global,
+    shelf: &mut F,
+    path: &str,
+    limit: u32,
+    hold: bool,
+) -> Result<SuiteView, Stop>
+    requires { 0 < limit }
+    ensures view { IfOk result (λ view. ReachesKernel F.contents F.faults F.moved F.is_quiet F.start_gives F.read_gives shelf.old path.now limit hold (index_of view.suite) shelf.new) }
+    ensures named { IfOk result (λ view. AreNamedPackages view.suite.packages) }
+    ensures limit { IfOk result (λ view. view.limit ≡ limit) }
+    ensures hold { IfOk result (λ view. view.kernel.hold ≡ hold) }
+    ensures stop { IfErr result (λ stop. (next : Index → ClassedKernel → Course) → Follows F.contents F.faults F.moved F.is_quiet F.start_gives F.read_gives (reads_kernel path.now limit hold next) shelf.old (stop_ending stop) shelf.new) }
+{
+    let suite = suite_at(alloc, shelf, path)?;
+    view_of(alloc, suite, path, limit, hold)
 }

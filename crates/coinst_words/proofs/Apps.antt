@@ -4,6 +4,7 @@ use Rattle.std.specs.List.{find, fold}
 use Rattle.std.specs.Option.{option_map, option_map_or}
 use Rattle.std.specs.Prelude.{slice_get}
 use Rattle.std.specs.Str.{bytes_eq, chars}
+use Rattle.listed.proofs.Lists.{same_bytes}
 use Rattle.clap.specs.Lexer.{long_of, short_of}
 use Rattle.clap.specs.Kinds.{Kinds, or_else}
 use Rattle.clap.specs.Faults.{built_fault, bundle_fault, bundle_step_fault, check_fault, defaults_fault, entered_fault, fault_of, flag_word_fault, flags_fault, level_fault, other_fault, settle_fault, step_fault, turn_fault, walk_fault}
@@ -15,7 +16,6 @@ use Rattle.clap.proofs.WalkLemmas.{walk_stopped}
 use Rattle.coinst_words.specs.Usage.{Said, Text, Usage, nothing_said, read, said_by, said_of}
 use Rattle.coinst_words.specs.Program.{app_of_usages}
 use Rattle.coinst_words.proofs.Rules.{rules_built}
-use Rattle.coinst_words.proofs.RowsSaid.{same_text}
 use Rattle.coinst_words.proofs.Walks.{Spells, leaf, leaf_is}
 use Rattle.coinst_words.proofs.Reading.{Agrees, AllSpell, IsGood, end_rows, goes, left_none, total}
 use Rattle.coinst_words.specs.Parsed.{HoldSaid}
@@ -90,10 +90,6 @@ built_is us = ap (λ s. record { top = top_built; subs = s }) (go us)
     go [] = refl
     go (u ∷ vs) = ap₂ (λ s rest. s ∷ rest) (leaf_is u) (go vs)
 
-or_false : (b : Bool) → (b || false) ≡ b
-or_false true = refl
-or_false false = refl
-
 label_found : (us : List Usage) (x : Text) → find (answers_to x) (map label_of (map leaf us)) ≡ option_map (λ u. (u.name, [])) (find (λ u. bytes_eq u.name x) us)
 label_found [] x = refl
 label_found (u ∷ us) x = go (bytes_eq u.name x) (label_found us x)
@@ -125,7 +121,7 @@ found_good (v ∷ us) all x u e = go (bytes_eq v.name x) refl (found_good us all
     go true d rest =
         let same : Some v ≡ Some u = rw d at e in
         let is : v ≡ u = cc in
-        (subst (λ (w : Usage). IsGood w) is all.0, ap (λ (w : Usage). w.name) (sym is) ∙ same_text v.name x d)
+        (subst (λ (w : Usage). IsGood w) is all.0, ap (λ (w : Usage). w.name) (sym is) ∙ same_bytes v.name x d)
     go false d rest = let later : find (λ w. bytes_eq w.name x) us ≡ Some u = rw d at e in rest later
 
 -- ---- the first word

@@ -3,6 +3,7 @@ use Rattle.std.proofs.Common.{◌≡◌, ◌∙◌, ◌&&◌, ◌||◌, Bool, co
 use Rattle.std.specs.List.{list_any, fold}
 use Rattle.std.specs.Option.{option_map, unwrap_or}
 use Rattle.std.specs.Str.{bytes_eq}
+use Rattle.listed.proofs.Lists.{same_bytes}
 use Rattle.clap.specs.Kinds.{Kinds, or_else}
 use Rattle.clap.specs.Faults.{default_fault, defaults_fault, check_fault}
 use Rattle.clap.specs.Takes.{is_given}
@@ -10,7 +11,7 @@ use Rattle.clap.specs.Walk.{Row, Rule, all_of, has_row, more_values, reading_by,
 use Rattle.clap.specs.declared.parser.matches.ValueSource.TheVariants.{DefaultValue}
 use Rattle.coinst_words.specs.Usage.{Said, Text, Usage, is_among, value_of}
 use Rattle.coinst_words.proofs.Rules.{flag_built, rules_built, valued_built, words_built}
-use Rattle.coinst_words.proofs.RowsSaid.{Looks, alone, all_of-end, at_missing, has_row-values, same_text}
+use Rattle.coinst_words.proofs.RowsSaid.{Looks, alone, all_of-end, at_missing, has_row-values}
 use Rattle.coinst_words.proofs.Walks.{leaf}
 use Rattle.coinst_words.specs.Parsed.{HoldSaid}
 
@@ -47,7 +48,7 @@ default_row f name rows = go (has_row f rows) refl (bytes_eq f name) refl
 
     go : (b : Bool) → has_row f rows ≡ b → (d : Bool) → bytes_eq f name ≡ d → all_of name (with_default rows (flag_built f)) ≡ cond (bytes_eq f name) (Some (or_no (all_of name rows))) (all_of name rows)
     go true e true d =
-        let same : f ≡ name = same_text f name d in
+        let same : f ≡ name = same_bytes f name d in
         let some : is_some (all_of name rows) ≡ true = sym (has_row-values name rows) ∙ ap (λ n. has_row n rows) (sym same) ∙ e in
         rw (e, d) (had (all_of name rows) some)
     go true e false d = rw (e, d) refl

@@ -3,12 +3,13 @@ use Rattle.std.proofs.Common.{◌≡◌, ◌⊎◌, inl, inr, ◌∙◌, ◌&&�
 use Rattle.std.specs.Option.{option_map, option_map_or}
 use Rattle.std.specs.Prelude.{option_and_then, nat_lt}
 use Rattle.std.specs.Str.{bytes_eq}
+use Rattle.listed.proofs.Lists.{same_bytes}
 use Rattle.clap.specs.Kinds.{Kinds, or_else}
 use Rattle.clap.specs.Faults.{positional_fault, react_fault, settle_fault, step_fault, turn_fault, use_fault, word_fault}
 use Rattle.clap.specs.Walk.{Held, Row, Rule, Step, Waiting, Walk, after_step, arg_by_id, idle, is_pending, next, option, option_word, plain_word, positional, reacted, settled, settled_rows, to_positional, trailing, value, walked, word_met, used, used_by_id, has_row, pushed}
 use Rattle.coinst_words.specs.Usage.{Meaning, Said, Text, Usage, asks, dashed_or_plain, ends, flag, give, gives, is_among, long_or_other, meaning_of, option_meaning, plain, read, read_word, refused, say, value_of}
 use Rattle.coinst_words.proofs.Rules.{flag_built, found_by_id, found_by_index, rules_built, valued_built, words_built}
-use Rattle.coinst_words.proofs.RowsSaid.{Looks, eq_self, gave, has_row-values, same_text, said_word, set_appends}
+use Rattle.coinst_words.proofs.RowsSaid.{Looks, eq_self, gave, has_row-values, said_word, set_appends}
 use Rattle.coinst_words.proofs.Walks.{Spells, held, leaf, walk_at, IsMet, met}
 
 -- no option is called as the other words are
@@ -51,7 +52,7 @@ module _ (u : Usage) (good : IsGood u) where
   not_words names n none has = go (bytes_eq n (codes "words")) refl
     where
       go : (b : Bool) → bytes_eq n (codes "words") ≡ b → bytes_eq n (codes "words") ≡ false
-      go true e = let bad : true ≡ false = sym has ∙ ap (is_among names) (same_text n (codes "words") e) ∙ none in cc
+      go true e = let bad : true ≡ false = sym has ∙ ap (is_among names) (same_bytes n (codes "words") e) ∙ none in cc
       go false e = e
 
   abbrev IsValued : Text → Type 0

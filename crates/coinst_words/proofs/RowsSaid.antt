@@ -4,6 +4,7 @@ use Rattle.std.specs.List.{find}
 use Rattle.std.specs.Option.{option_map, unwrap_or}
 use Rattle.std.specs.Str.{bytes_eq}
 use Rattle.std.proofs.lemmas.Slice.Eq.{bytes_eq-Decides}
+use Rattle.listed.proofs.Lists.{same_bytes}
 use Rattle.clap.specs.Walk.{Row, all_of, at_row, has_row, more_values, with_values, without}
 use Rattle.clap.specs.declared.builder.value_parser.Reading.{Reading}
 use Rattle.clap.specs.declared.parser.matches.ValueSource.TheVariants.{CommandLine}
@@ -19,9 +20,6 @@ pub record Looks (rows : List Row) (said : Said) : Type 0 where
   pub ordinary : all_of (codes "words") rows ≡ row_values said.ordinary
 
 -- ---- rows
-
-pub same_text : (x y : Text) → bytes_eq x y ≡ true → x ≡ y
-same_text x y e = (bytes_eq-Decides x y).0 e
 
 pub eq_self : (x : Text) → bytes_eq x x ≡ true
 eq_self x = (bytes_eq-Decides x x).1 refl
@@ -119,7 +117,7 @@ ne_sym : (x y : Text) → bytes_eq x y ≡ false → bytes_eq y x ≡ false
 ne_sym x y ne = go (bytes_eq y x) refl
   where
     go : (b : Bool) → bytes_eq y x ≡ b → bytes_eq y x ≡ false
-    go true e = let bad : true ≡ false = sym (subst (λ z. bytes_eq x z ≡ true) (sym (same_text y x e)) (eq_self x)) ∙ ne in cc
+    go true e = let bad : true ≡ false = sym (subst (λ z. bytes_eq x z ≡ true) (sym (same_bytes y x e)) (eq_self x)) ∙ ne in cc
     go false e = e
 
 module _ (w : Text) (how : Reading) where
@@ -133,7 +131,7 @@ module _ (w : Text) (how : Reading) where
   more_other name other (r ∷ rows) = go (bytes_eq r.id (codes "words")) refl (bytes_eq r.id name) refl (more_other name other rows)
     where
       go : (b : Bool) → bytes_eq r.id (codes "words") ≡ b → (d : Bool) → bytes_eq r.id name ≡ d → all_of name (more rows) ≡ all_of name rows → all_of name (more (r ∷ rows)) ≡ all_of name (r ∷ rows)
-      go true e true f rest = let bad : true ≡ false = sym e ∙ ap (λ x. bytes_eq x (codes "words")) (same_text r.id name f) ∙ other in cc
+      go true e true f rest = let bad : true ≡ false = sym e ∙ ap (λ x. bytes_eq x (codes "words")) (same_bytes r.id name f) ∙ other in cc
       go true e false f rest = rw (e, f) refl
       go false e true f rest = rw (e, f) refl
       go false e false f rest = rw (e, f) rest

@@ -3,6 +3,8 @@ use Rattle.std.proofs.Common.{◌≡◌, ◌∙◌, ◌&&◌, ◌||◌, ℕ, Boo
 use Rattle.std.specs.List.{find}
 use Rattle.std.specs.Str.{bytes_eq}
 use Rattle.std.proofs.lemmas.Slice.Eq.{bytes_eq-Decides}
+use Rattle.std.proofs.Math.Bool.{or-false}
+use Rattle.listed.proofs.Lists.{same_bytes}
 use Rattle.clap.specs.Walk.{Rule, arg_by_id, arg_by_index, arg_by_long, arg_by_short, has_long}
 use Rattle.clap.specs.Simple.{filled, filled_from, with_index}
 use Rattle.coinst_words.specs.Usage.{Text, Usage, is_among}
@@ -35,9 +37,6 @@ rules_filled u = flags_filled u.flags (map valued_rule u.valued ++ words_rule �
 
 -- ---- finding by the long name
 
-same_text : (x y : Text) → bytes_eq x y ≡ true → x ≡ y
-same_text x y e = (bytes_eq-Decides x y).0 e
-
 -- a list of options with these names
 pub record Makes (make : Text → Rule) : Type 0 where
   pub id : (n : Text) → (make n).id ≡ n
@@ -63,17 +62,13 @@ find_among make test name same (x ∷ names) more = go (bytes_eq x name) refl (f
         → find test (map make (x ∷ names) ++ more) ≡ cond (is_among (x ∷ names) name) (Some (make name)) (find test more)
     go true e rest =
         let hit : test (make x) ≡ true = same x ∙ e in
-        rw (hit, e) (ap (λ n. Some (make n)) (same_text x name e))
+        rw (hit, e) (ap (λ n. Some (make n)) (same_bytes x name e))
     go false e rest =
         let miss : test (make x) ≡ false = same x ∙ e in
         rw (miss, e) rest
 
-or_false : (b : Bool) → (b || false) ≡ b
-or_false true = refl
-or_false false = refl
-
 long_is : (make : Text → Rule) (m : Makes make) (name n : Text) → (not (is_some (make n).index) && has_long (make n) name) ≡ bytes_eq n name
-long_is make m name n = rw (m.index n, m.long n, m.aliases n) (or_false (bytes_eq n name))
+long_is make m name n = rw (m.index n, m.long n, m.aliases n) (or-false (bytes_eq n name))
 
 long_among : (make : Text → Rule) (m : Makes make) (names : List Text) (more : List Rule) (name : Text)
     → arg_by_long (map make names ++ more) name ≡ cond (is_among names name) (Some (make name)) (arg_by_long more name)

@@ -9,6 +9,7 @@ use Rattle.coinst_words.specs.declared.job.Job.TheVariants.{Kernel, Query, Store
 use Rattle.coinst_words.specs.Usage.{Said, Text, Usage, said_of, usages, value_of}
 use Rattle.repo_model.specs.declared.goals.Goal.{Goal}
 use Rattle.repo_model.specs.Goals.{goal_of}
+use Rattle.repo_model.specs.Limits.{most_packages}
 
 -- a path is not empty and not `-`
 abbrev pub is_path : Text → Bool
@@ -41,7 +42,7 @@ abbrev pub seed_of : Text → Option ℕ
 seed_of = number_in 0 18446744073709551615
 
 abbrev pub count_of : Text → Option ℕ
-count_of = number_in 1 200000
+count_of = number_in 1 most_packages
 
 -- the goals that words name, where each names one
 unfoldable pub goals_of : List Text → Option (List Goal)
@@ -144,4 +145,4 @@ IsInLimits (Compare old new budget limit hold) = IsBudget budget × IsClauseLimi
 IsInLimits (Explain index goals budget limit hold) = IsBudget budget × IsClauseLimit limit
 IsInLimits (Status file index budget limit hold) = IsBudget budget × IsClauseLimit limit
 IsInLimits (Migrate old new budget limit hold) = IsBudget budget × IsClauseLimit limit
-IsInLimits (Sample seed count) = IsBetween 1 200000 count
+IsInLimits (Sample seed count) = IsBetween 1 most_packages count

@@ -1,3 +1,4 @@
+-- for the bodies of this crate alone
 -- What the matches of a parse hold of what the words say.
 use Rattle.std.specs.Prelude.{◌≡◌, true, false, List, [], ◌∷◌, Option, Some, None, codes, option_map, unwrap_or}
 use Rattle.std.specs.Str.{bytes_eq}

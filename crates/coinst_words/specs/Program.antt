@@ -1,3 +1,4 @@
+-- for the bodies of this crate alone
 -- The commands as `clap` is told of them.
 use Rattle.std.specs.Prelude.{◌≡◌, true, false, List, [], ◌∷◌, ◌++◌, map, Some, codes}
 use Rattle.clap.specs.Walk.{Rule}

@@ -10,6 +10,7 @@ mod parse;
 mod path;
 mod read;
 
+// Words are read as a job, or refused.
 pub use error::WordError;
 pub use job::Job;
 pub use path::PathText;

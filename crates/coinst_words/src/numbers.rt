@@ -4,8 +4,10 @@ ghost use Rattle.std.specs.Char.{is_ascii_digit};
 ghost use Rattle.std.specs.List.{list_all};
 ghost use Rattle.coinst_words.specs.Jobs.{budget_of, clause_limit_of, count_of, is_number, number_in, number_or, seed_of, IsBetween};
 ghost use Rattle.coinst_words.specs.Refusals.{OnNotACommand};
+ghost use Rattle.repo_model.specs.Limits.{most_packages};
 
 use crate::error::WordError;
+use listed::has_digits_alone;
 
 /// The clause limit of an option.
 pub(crate) fn clause_limit_of(value: Option<&str>) -> Result<u32, WordError>
@@ -40,7 +42,7 @@ pub(crate) fn seed_of(word: &str) -> Result<u64, WordError>
 pub(crate) fn count_of(word: &str) -> Result<u32, WordError>
     ensures number { IfOk result (λ n. count_of word.now ≡ Some n) }
     ensures refusal { IfErr result (OnNotACommand (count_of word.now ≡ None)) }
-    ensures range { IfOk result (IsBetween 1 200000) }
+    ensures range { IfOk result (IsBetween 1 most_packages) }
 {
     match number_in(word, 1, 200_000) {
         Some(count) => Ok(count as u32),
@@ -83,10 +85,4 @@ fn is_number(word: &[u8]) -> bool
     ensures { result ≡ is_number word.now }
 {
     !word.is_empty() && word.len() <= 20 && has_digits_alone(word)
-}
-
-fn has_digits_alone(word: &[u8]) -> bool
-    ensures { result ≡ list_all is_ascii_digit word.now }
-{
-    word.iter().all(|byte| byte.is_ascii_digit())
 }

@@ -1,16 +1,17 @@
 -- What is left of a table of conflicts when some are gone.
-use Rattle.std.proofs.Common.{◌≡◌, ◌≢◌, ℕ, zero, suc, ◌<◌, ◌+◌, Bool, true, false, not, ◌&&◌, ◌||◌, cond, eqb, List, [], ◌∷◌, ◌++◌, ◌⊎◌, length, inl, inr, refl, sym, ◌∙◌, ap, ap₂, subst, arith, filter, map, eq-eqb, eqb-true, ne_eqb, length-set}
+use Rattle.std.proofs.Common.{◌≡◌, ◌≢◌, ℕ, ◌<◌, Bool, true, false, not, ◌&&◌, ◌||◌, cond, eqb, List, [], ◌∷◌, ◌++◌, ◌⊎◌, length, inl, inr, refl, sym, ◌∙◌, ap, ap₂, subst, arith, filter, map, eq-eqb, eqb-true, ne_eqb, length-set}
 use Rattle.std.proofs.lemmas.Bool.{and_parts, cases_eq, cases_lt, or_cases}
-use Rattle.std.proofs.lemmas.List.{get_or_past, get_or-set_other, get_or-set_same, length-map, map-append}
+use Rattle.std.proofs.lemmas.List.{get_or_past, get_or-set_other, get_or-set_same, length-map}
+use Rattle.listed.proofs.Orders.{ascending_push}
 use Rattle.clause_pool.specs.Interned.{Interned, row_at}
 use Rattle.row_book.specs.declared.book.Book.{Book}
 use Rattle.row_book.specs.declared.pair.Pair.{Pair}
-use Rattle.row_book.specs.Sets.{In, here, there, has}
-use Rattle.row_book.specs.Clauses.{Ascending, numbers}
+use Rattle.row_book.specs.Sets.{In, has}
+use Rattle.row_book.specs.Clauses.{Ascending}
 use Rattle.row_book.specs.Facing.{against_in}
 use Rattle.row_book.specs.Book.{listed_for}
 use Rattle.row_book.specs.Thinning.{is_pair, without_pair}
-use Rattle.row_book.proofs.Lists.{In_append_cases, In_cases, In_has, In_none, filter_same, has_In}
+use Rattle.row_book.proofs.Lists.{In_has, filter_same, has_In}
 use Rattle.row_book.proofs.Order.{at_numbers, length_numbers}
 use Rattle.row_book.proofs.Repositories.{has_filter, repository_same, table_same}
 use Rattle.conflict_reduce.specs.Tests.{book_left, conflict_but, left_for, left_of, with_behind, with_gone}
@@ -47,28 +48,6 @@ has_behind : (xs : List ℕ) (y q : ℕ) → has (xs ++ y ∷ []) q ≡ (has xs 
 has_behind [] y q = sym (or_false (eqb q y))
 has_behind (x ∷ xs) y q = ap (λ z. eqb q x || z) (has_behind xs y q) ∙ or_or (eqb q x) (has xs q) (eqb q y)
 
-pub ascending_behind : (xs : List ℕ) (y : ℕ) → Ascending xs → ((q : ℕ) → In q xs → q < y) → Ascending (xs ++ y ∷ [])
-ascending_behind [] y a f = ((λ q i. absurd (In_none i)), tt)
-ascending_behind (x ∷ xs) y a f = (
-  (λ q i. elim (In_append_cases xs (y ∷ []) q i) [
-    | inl j ↦ a.0 q j
-    | inr j ↦ elim (In_cases j) [ inl e ↦ (let l : x < y = f x here in omega (arith, l, e)) | inr k ↦ absurd (In_none k) ]
-  ]),
-  ascending_behind xs y a.1 (λ q i. f q (there i)),
-)
-
--- a list for each number
-numbers_end : (n k : ℕ) → numbers (suc n) k ≡ numbers n k ++ (k + n) ∷ []
-unfolding numbers
-numbers_end zero k = ap (λ x. x ∷ []) (let e : k ≡ k + 0 = omega arith in e)
-numbers_end (suc n) k = ap (λ xs. k ∷ xs) (numbers_end n (suc k) ∙ ap (λ x. numbers n (suc k) ++ x ∷ []) (let e : suc k + n ≡ k + suc n = omega arith in e))
-
-pub lists_more : (f : ℕ → List ℕ) (n : ℕ) (old new : List (List ℕ)) (list : List ℕ) → old ≡ map f (numbers n 0) → list ≡ f n → new ≡ old ++ list ∷ [] → new ≡ map f (numbers (n + 1) 0)
-lists_more f n old new list e g h =
-    h ∙ ap₂ (λ xs x. xs ++ x ∷ []) e g ∙ sym (map-append f (numbers n 0) (n ∷ []))
-    ∙ ap (λ x. map f (numbers n 0 ++ x ∷ [])) (let k : n ≡ 0 + n = omega arith in k)
-    ∙ ap (map f) (sym (numbers_end n 0)) ∙ ap (λ k. map f (numbers k 0)) (let k : suc n ≡ n + 1 = omega arith in k)
-
 -- what is left of the conflicts of a package
 pub left_size : (table gone : List (List ℕ)) → length (left_of table gone) ≡ length table
 unfolding left_of
@@ -92,10 +71,6 @@ left_own table gone pair m n t =
     let w : (against_in (left_of table gone) m n ≡ true) × (not (is_pair pair.low pair.high m n) ≡ true) =
     and_parts (against_in (left_of table gone) m n) (not (is_pair pair.low pair.high m n)) t in
     (and_parts (against_in table m n) (not (against_in gone m n)) (sym (left_test table gone m n) ∙ w.0)).0
-
-pub none_listed : (xs : List ℕ) → eqb (length xs) 0 ≡ true → xs ≡ []
-none_listed [] e = refl
-none_listed (x ∷ xs) e = absurd (let f : length (x ∷ xs) ≡ 0 = eqb-true (length (x ∷ xs)) 0 e in omega (arith, f))
 
 -- nothing goes of a list of which nothing is gone
 pub none_go : (gone : List (List ℕ)) (p : ℕ) (list : List ℕ) → listed_for gone p ≡ [] → filter (λ q. not (against_in gone p q)) list ≡ list
@@ -168,9 +143,9 @@ module _ (gone : List (List ℕ)) (a b : ℕ) (up : a < b) (inside : b < length 
       (p : ℕ) → Ascending (listed_for (with_gone gone a b) p)
   gone_ascending f low high p =
       elim (cases_eq p b) [
-        | inl e ↦ subst (λ z. Ascending (listed_for (with_gone gone a b) z)) (sym e) (subst Ascending (sym gone_high) (ascending_behind (listed_for gone b) a (f b) high))
+        | inl e ↦ subst (λ z. Ascending (listed_for (with_gone gone a b) z)) (sym e) (subst Ascending (sym gone_high) (ascending_push (listed_for gone b) a (f b) high))
         | inr g ↦ elim (cases_eq p a) [
-          | inl e ↦ subst (λ z. Ascending (listed_for (with_gone gone a b) z)) (sym e) (subst Ascending (sym gone_low) (ascending_behind (listed_for gone a) b (f a) low))
+          | inl e ↦ subst (λ z. Ascending (listed_for (with_gone gone a b) z)) (sym e) (subst Ascending (sym gone_low) (ascending_push (listed_for gone a) b (f a) low))
           | inr h ↦ subst Ascending (sym (gone_other p g h)) (f p)
         ]
       ]

@@ -2,6 +2,8 @@
 use Rattle.std.proofs.Common.{◌≡◌, ℕ, ◌<◌, ◌+◌, Bool, true, false, not, cond, eqb, List, [], ◌∷◌, length, inl, inr, refl, sym, ◌∙◌, ap, subst, arith, map, filter}
 use Rattle.std.specs.List.{list_all, list_any}
 use Rattle.std.proofs.lemmas.Bool.{false_from_ne_true, not_from_false}
+use Rattle.listed.proofs.Lists.{none_listed}
+use Rattle.listed.proofs.Bools.{same_bool}
 use Rattle.clause_pool.specs.Interned.{Interned, IsPool, OfPool, clause_at, clauses_at, ids_at, row_at}
 use Rattle.row_book.specs.declared.book.Book.{Book}
 use Rattle.row_book.specs.Sets.{In, here, there}
@@ -12,9 +14,7 @@ use Rattle.row_book.specs.Uses.{row_id}
 use Rattle.row_book.proofs.Facing.{all_against_at, all_against_from, face_parts}
 use Rattle.row_book.proofs.Lists.{In_at, In_cases, In_none, all_from, any_from, filter_cases, filter_from, has_In}
 use Rattle.row_book.proofs.Order.{at_numbers, order_filter}
-use Rattle.row_book.proofs.Repositories.{same_test}
 use Rattle.conflict_reduce.specs.Live.{live_ids, live_of, may_face}
-use Rattle.conflict_reduce.proofs.Left.{none_listed}
 
 -- the clauses of an id's row that pass a test
 pub mapped : (f : ℕ → List ℕ) (p : List ℕ → Bool) (xs : List ℕ) → map f (filter (λ x. p (f x)) xs) ≡ filter p (map f xs)
@@ -73,7 +73,7 @@ module _ (table : List (List ℕ)) (f : ℕ → ℕ → Bool) (either : (p q : �
 
   pub live_same : (a b : ℕ) (cs ds : List (List ℕ)) → face f ((a ∷ []) ∷ filter (may_face table) cs) ((b ∷ []) ∷ filter (may_face table) ds) ≡ face f ((a ∷ []) ∷ cs) ((b ∷ []) ∷ ds)
   live_same a b cs ds =
-      same_test (face f ((a ∷ []) ∷ filter (may_face table) cs) ((b ∷ []) ∷ filter (may_face table) ds)) (face f ((a ∷ []) ∷ cs) ((b ∷ []) ∷ ds))
+      same_bool (face f ((a ∷ []) ∷ filter (may_face table) cs) ((b ∷ []) ∷ filter (may_face table) ds)) (face f ((a ∷ []) ∷ cs) ((b ∷ []) ∷ ds))
       (λ h.
       let w : (d : List ℕ) × (e : List ℕ) × In d ((a ∷ []) ∷ filter (may_face table) cs) × In e ((b ∷ []) ∷ filter (may_face table) ds) × ((m n : ℕ) → In m d → In n e → f m n ≡ true) =
       face_parts f ((a ∷ []) ∷ filter (may_face table) cs) ((b ∷ []) ∷ filter (may_face table) ds) h in

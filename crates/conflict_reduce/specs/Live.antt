@@ -1,3 +1,4 @@
+-- for the bodies of this crate alone
 -- The clauses that can take part in thinning.
 use Rattle.std.specs.Prelude.{ℕ, Bool, true, not, eqb, List, [], ◌∷◌, length, map, filter}
 use Rattle.clause_pool.specs.Interned.{Interned, clause_at, ids_at}

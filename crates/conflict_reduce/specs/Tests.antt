@@ -1,3 +1,4 @@
+-- for the bodies of this crate alone
 -- Thinning by a list of what is gone: the conflicts that are left of a table, and the pairs of one package.
 use Rattle.std.specs.Prelude.{◌≡◌, ℕ, ◌<◌, Bool, not, ◌&&◌, ltb, List, [], ◌∷◌, ◌++◌, ◌⊎◌, length, map, filter, cond, slice_set}
 use Rattle.std.specs.List.{list_all}

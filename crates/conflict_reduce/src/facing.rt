@@ -2,7 +2,7 @@
 //! look at the members of a clause will do.
 ghost use Rattle.std.specs.Prelude.{◌≡◌, ◌<◌, ◌∷◌, [], ℕ, List, IfOk, length};
 ghost use Rattle.std.specs.List.{list_all, list_any};
-ghost use Rattle.clause_pool.specs.Interned.{clauses_at, OfPool};
+ghost use Rattle.clause_pool.specs.Interned.{clauses_at, OfPool, IsPool};
 ghost use Rattle.row_book.specs.Book.{listed_for, Sound};
 ghost use Rattle.row_book.specs.Clauses.{Ascending, InOrder};
 ghost use Rattle.row_book.specs.Facing.{against_in, all_against, face};
@@ -46,14 +46,14 @@ fn each_conflicts_but(
     gone: &[NumList],
     pair: Pair,
     list: &[u32],
-    package: u32,
+    number: u32,
 ) -> bool
     requires table { (p : ℕ) → Ascending (listed_for table.now p) }
     requires gone { (p : ℕ) → Ascending (listed_for gone.now p) }
-    ensures { result ≡ list_all (λ m. conflict_but (left_of table.now gone.now) pair m «package») list.now }
+    ensures { result ≡ list_all (λ m. conflict_but (left_of table.now gone.now) pair m number) list.now }
 {
     for member in list {
-        if !conflict_but(table, gone, pair, *member, package) {
+        if !conflict_but(table, gone, pair, *member, number) {
             return false;
         }
     }
@@ -74,9 +74,9 @@ fn common_but(
     ensures { IfOk result (λ common. common.items ≡ common_but table.now gone.now pair first list.now) }
 {
     let mut common = Vec::new(alloc);
-    for package in conflicts_of(table, first) {
-        if each_conflicts_but(table, gone, pair, list, *package) {
-            common.push(*package)?;
+    for number in conflicts_of(table, first) {
+        if each_conflicts_but(table, gone, pair, list, *number) {
+            common.push(*number)?;
         }
     }
     Ok(common)
@@ -87,15 +87,15 @@ fn conflicts_with_each(
     table: &[NumList],
     gone: &[NumList],
     pair: Pair,
-    package: u32,
+    number: u32,
     list: &[u32],
 ) -> bool
-    requires table { Ascending (listed_for table.now «package») }
-    requires gone { Ascending (listed_for gone.now «package») }
-    ensures { result ≡ list_all (conflict_but (left_of table.now gone.now) pair «package») list.now }
+    requires table { Ascending (listed_for table.now number) }
+    requires gone { Ascending (listed_for gone.now number) }
+    ensures { result ≡ list_all (conflict_but (left_of table.now gone.now) pair number) list.now }
 {
     for member in list {
-        if !conflict_but(table, gone, pair, package, *member) {
+        if !conflict_but(table, gone, pair, number, *member) {
             return false;
         }
     }
@@ -114,8 +114,8 @@ fn all_conflict_but(
     requires gone { (p : ℕ) → Ascending (listed_for gone.now p) }
     ensures { result ≡ all_against (conflict_but (left_of table.now gone.now) pair) list.now other.now }
 {
-    for package in list {
-        if !conflicts_with_each(table, gone, pair, *package, other) {
+    for number in list {
+        if !conflicts_with_each(table, gone, pair, *number, other) {
             return false;
         }
     }
@@ -136,8 +136,6 @@ fn faces_clause(
     requires gone { (p : ℕ) → Ascending (listed_for gone.now p) }
     ensures { result ≡ list_any (all_against (conflict_but (left_of table.now gone.now) pair) list.now) (clauses_at pool.now row.now) }
 {
-    // What holds of every pool is told by this call alone.
-    pool.clause_count();
     for id in row {
         if all_conflict_but(table, gone, pair, list, pool.slice(*id)) {
             return true;
@@ -158,6 +156,7 @@ fn faces_common(
     list: &[u32],
     row: &[ClauseId],
 ) -> Result<bool, AllocError>
+    requires pool { IsPool pool.now }
     requires first { (others : List ℕ) × (list.now ≡ first ∷ others) }
     requires row { OfPool pool.now row.now }
     requires order { InOrder (clauses_at pool.now row.now) }
@@ -181,6 +180,7 @@ fn faces_greater(
     list: &[u32],
     row: &[ClauseId],
 ) -> Result<bool, AllocError>
+    requires pool { IsPool pool.now }
     requires row { OfPool pool.now row.now }
     requires order { InOrder (clauses_at pool.now row.now) }
     requires table { (p : ℕ) → Ascending (listed_for table.now p) }
@@ -211,6 +211,7 @@ fn rows_face(
     first: &[ClauseId],
     second: &[ClauseId],
 ) -> Result<bool, AllocError>
+    requires pool { IsPool pool.now }
     requires first { OfPool pool.now first.now }
     requires second { OfPool pool.now second.now }
     requires order { InOrder (clauses_at pool.now second.now) }
@@ -237,6 +238,7 @@ fn sides_face(
     first: &[ClauseId],
     second: &[ClauseId],
 ) -> Result<bool, AllocError>
+    requires pool { IsPool pool.now }
     requires first { OfPool pool.now first.now }
     requires second { OfPool pool.now second.now }
     requires order { InOrder (clauses_at pool.now second.now) }
@@ -252,10 +254,10 @@ fn sides_face(
 }
 
 /// The ids that the list has for a package.
-fn live_for(live: &[IdList], package: u32) -> &[ClauseId]
-    ensures { result.now ≡ listed_for live.now «package» }
+fn live_for(live: &[IdList], number: u32) -> &[ClauseId]
+    ensures { result.now ≡ listed_for live.now number }
 {
-    match live.get(package as usize) {
+    match live.get(number as usize) {
         Some(list) => list.as_slice(),
         None => &[],
     }
@@ -280,8 +282,6 @@ pub(crate) fn is_redundant(
     requires gone { (p : ℕ) → Ascending (listed_for gone.now p) }
     ensures { IfOk result (λ redundant. redundant ≡ is_redundant (book_left pool.now book.now gone.now) pair.low pair.high) }
 {
-    // What holds of every pool is told by this call alone.
-    pool.clause_count();
     let first = live_for(live, pair.low);
     let second = live_for(live, pair.high);
     let faces = sides_face(alloc, pool, table, gone, pair, first, second)?;

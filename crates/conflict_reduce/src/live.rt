@@ -39,8 +39,6 @@ fn live_row(
     requires table { (p : ℕ) → Ascending (listed_for table.now p) }
     ensures { IfOk result (λ made. made ≡ filter (λ id. may_face table.now (clause_at pool.now id)) row.now) }
 {
-    // What holds of every pool is told by this call alone.
-    pool.clause_count();
     let mut made = IdList::new(alloc);
     for id in row {
         let may = may_face(alloc, table, pool.slice(*id))?;
@@ -62,11 +60,9 @@ pub(crate) fn live_rows(
     requires table { table.now ≡ book.now.conflicts }
     ensures { IfOk result (λ made. made.items ≡ live_of pool.now book.now) }
 {
-    // What holds of every pool is told by this call alone.
-    pool.clause_count();
     let mut made = Vec::new(alloc);
-    for package in 0..book.size() {
-        let clauses = pool.row(book.row(package));
+    for number in 0..book.size() {
+        let clauses = pool.row(book.row(number));
         let live = live_row(alloc, pool, table, clauses)?;
         made.push(live)?;
     }

@@ -13,16 +13,16 @@ ghost use Rattle.conflict_reduce.specs.Tests.{book_left, gone_after, left_of, pa
 use crate::facing::is_redundant;
 use crate::live::{IdList, live_rows};
 use clause_pool::{NumList, Pool};
-use listed::Listed;
+use listed::{Listed, empty_lists};
 use row_book::{Book, Pair, are_against, conflicts_of};
 use std::alloc::{AllocError, Global};
 
 /// Puts the number behind the list of a package.
-fn put_behind(table: &mut Vec<NumList>, package: u32, number: u32) -> Result<(), AllocError>
-    requires { «package» < length table.old.items }
-    ensures { OnOk result (table.new.items ≡ with_behind table.old.items «package» number) }
+fn put_behind(table: &mut Vec<NumList>, holder: u32, number: u32) -> Result<(), AllocError>
+    requires { holder < length table.old.items }
+    ensures { OnOk result (table.new.items ≡ with_behind table.old.items holder number) }
 {
-    let list = &mut table[package as usize];
+    let list = &mut table[holder as usize];
     list.push(number)?;
     Ok(())
 }
@@ -77,35 +77,22 @@ fn thin_package(
     table: &[NumList],
     live: &[IdList],
     gone: &mut Vec<NumList>,
-    package: u32,
+    number: u32,
     list: &[u32],
 ) -> Result<(), AllocError>
     requires sound { Sound pool.now book.now }
     requires table { table.now ≡ book.now.conflicts }
     requires live { live.now ≡ live_of pool.now book.now }
-    requires inside { «package» < length book.now.rows }
-    requires list { list.now ≡ listed_for book.now.conflicts «package» }
-    requires passed { PassedBelow gone.old.items (length book.now.rows) «package» }
-    ensures left { OnOk result (◌≡◌ {A = Repository} (book_left pool.now book.now gone.new.items) (thin_over (book_left pool.now book.now gone.old.items) (pairs_with «package» list.now))) }
-    ensures passed { OnOk result (PassedBelow gone.new.items (length book.now.rows) («package» + 1)) }
+    requires inside { number < length book.now.rows }
+    requires list { list.now ≡ listed_for book.now.conflicts number }
+    requires passed { PassedBelow gone.old.items (length book.now.rows) number }
+    ensures left { OnOk result (◌≡◌ {A = Repository} (book_left pool.now book.now gone.new.items) (thin_over (book_left pool.now book.now gone.old.items) (pairs_with number list.now))) }
+    ensures passed { OnOk result (PassedBelow gone.new.items (length book.now.rows) (number + 1)) }
 {
-    // What holds of every pool is told by this call alone.
-    pool.clause_count();
     for other in list {
-        thin_pair(alloc, pool, book, table, live, gone, package, *other)?;
+        thin_pair(alloc, pool, book, table, live, gone, number, *other)?;
     }
     Ok(())
-}
-
-/// So many empty lists.
-fn empty_lists(alloc: Global, size: u32) -> Result<Vec<NumList>, AllocError>
-    ensures { IfOk result (λ made. PassedBelow made.items size 0) }
-{
-    let mut made = Vec::new(alloc);
-    for _ in 0..size {
-        made.push(NumList::new(alloc))?;
-    }
-    Ok(made)
 }
 
 /// The conflicts that go when the book is thinned.
@@ -114,15 +101,13 @@ fn gone_of(alloc: Global, pool: &Pool, book: &Book) -> Result<Vec<NumList>, Allo
     ensures thinned { IfOk result (λ gone. ◌≡◌ {A = Repository} (book_left pool.now book.now gone.items) (thin (repository_of pool.now book.now))) }
     ensures ascending { IfOk result (λ gone. (p : ℕ) → Ascending (listed_for gone.items p)) }
 {
-    // What holds of every pool is told by this call alone.
-    pool.clause_count();
     let table = book.conflicts.as_slice();
     let live = live_rows(alloc, pool, book, table)?;
     let ids = live.as_slice();
-    let mut gone = empty_lists(alloc, book.size())?;
-    for package in 0..book.size() {
-        let list = book.against(package);
-        thin_package(alloc, pool, book, table, ids, &mut gone, package, list)?;
+    let mut gone = empty_lists(alloc, book.size() as usize)?;
+    for number in 0..book.size() {
+        let list = book.against(number);
+        thin_package(alloc, pool, book, table, ids, &mut gone, number, list)?;
     }
     Ok(gone)
 }
@@ -131,18 +116,18 @@ fn gone_of(alloc: Global, pool: &Pool, book: &Book) -> Result<Vec<NumList>, Allo
 fn left_list(
     alloc: Global,
     gone: &[NumList],
-    package: u32,
+    number: u32,
     list: &[u32],
 ) -> Result<NumList, AllocError>
-    requires { Ascending (listed_for gone.now «package») }
-    ensures { IfOk result (λ made. made ≡ filter (λ q. not (against_in gone.now «package» q)) list.now) }
+    requires { Ascending (listed_for gone.now number) }
+    ensures { IfOk result (λ made. made ≡ filter (λ q. not (against_in gone.now number q)) list.now) }
 {
-    if conflicts_of(gone, package).is_empty() {
+    if conflicts_of(gone, number).is_empty() {
         return Ok(Listed::of(Vec::from_slice(alloc, list)?));
     }
     let mut made = NumList::new(alloc);
     for other in list {
-        if !are_against(gone, package, *other) {
+        if !are_against(gone, number, *other) {
             made.push(*other)?;
         }
     }
@@ -162,8 +147,8 @@ fn left_lists(
     ensures count { IfOk result (λ made. length made.items ≡ size) }
 {
     let mut made = Vec::new(alloc);
-    for package in 0..size {
-        let list = left_list(alloc, gone, package, conflicts_of(table, package))?;
+    for number in 0..size {
+        let list = left_list(alloc, gone, number, conflicts_of(table, number))?;
         made.push(list)?;
     }
     Ok(made)
@@ -178,8 +163,6 @@ pub fn thin(alloc: Global, pool: &Pool, book: &Book) -> Result<Book, AllocError>
     ensures rows { IfOk result (λ made. made.rows ≡ book.now.rows) }
     ensures sound { IfOk result (Sound pool.now) }
 {
-    // What holds of every pool is told by this call alone.
-    pool.clause_count();
     let gone = gone_of(alloc, pool, book)?;
     let conflicts = left_lists(
         alloc,

@@ -6,13 +6,11 @@ use Rattle.std.specs.List.{list_all, list_any, position, position_or_len, suffix
 use Rattle.std.proofs.lemmas.Grind.{common_steps}
 use Rattle.std.proofs.lemmas.List.Folds.{list_any-append}
 use Rattle.std.proofs.lemmas.Bool.{lt-ltb, le-ltb, and_parts}
+use Rattle.std.proofs.lemmas.Option.{cond_some}
+use Rattle.listed.proofs.Lists.{any_by_first}
+use Rattle.listed.proofs.Bools.{left_out}
 use Rattle.deb_version.specs.Grammar.{is_colon, is_hyphen, epoch_of, behind_epoch, upstream_in, revision_in, upstream_of, revision_of, are_parts, is_version}
 use Rattle.deb_version.specs.Order.{or_zero}
-
--- some element passes where the first that does stands within the list
-list_any-by_first : (p : ℕ → Bool) → (xs : List ℕ) → list_any p xs ≡ nat_lt (position_or_len p xs) (length xs)
-list_any-by_first p [] = refl
-list_any-by_first p (x ∷ xs) = grind (arith, common_steps, list_any-by_first p xs)
 
 list_any-reverse : (p : ℕ → Bool) → (xs : List ℕ) → list_any p (reverse xs) ≡ list_any p xs
 list_any-reverse p [] = refl
@@ -20,44 +18,32 @@ list_any-reverse p (x ∷ xs) = grind (arith, common_steps, list_any-append, lis
 
 -- and where the last that does
 list_any-by_last : (p : ℕ → Bool) → (xs : List ℕ) → list_any p xs ≡ nat_lt (suffix_len (λ x. not (p x)) xs) (length xs)
-list_any-by_last p xs = grind (arith, common_steps, list_any-by_first p (reverse xs), list_any-reverse p xs)
-
-picked : (b : Bool) (n place : ℕ) → Some place ≡ cond b (Some n) None → (b ≡ true) × (n ≡ place)
-picked true n place h = (refl, cc)
-picked false n place h = cc
-
-left_out : (b : Bool) (n : ℕ) → cond b (Some n) None ≡ None → b ≡ false
-left_out true n h = cc
-left_out false n h = refl
-
--- what is left from a place on
-pub whole_back : (xs : List ℕ) (n : ℕ) → take (length xs - n) (drop n xs) ≡ drop n xs
-whole_back xs n = grind (arith, common_steps)
+list_any-by_last p xs = grind (arith, common_steps, any_by_first p (reverse xs), list_any-reverse p xs)
 
 pub epoch_found : (text : List ℕ) (place : ℕ) → Some place ≡ position is_colon text → Some (take place text) ≡ epoch_of text
 unfolding epoch_of
 epoch_found text place h =
-    let e = picked _ _ place h in
-    let any : list_any is_colon text ≡ true = list_any-by_first is_colon text ∙ e.0 in
+    let e = cond_some _ _ place (sym h) in
+    let any : list_any is_colon text ≡ true = any_by_first is_colon text ∙ e.0 in
     rw any (ap (λ n. Some (take n text)) (sym e.1))
 
 pub rest_found : (text : List ℕ) (place : ℕ) → Some place ≡ position is_colon text → drop (place + 1) text ≡ behind_epoch text
 unfolding behind_epoch
 rest_found text place h =
-    let e = picked _ _ place h in
-    let any : list_any is_colon text ≡ true = list_any-by_first is_colon text ∙ e.0 in
+    let e = cond_some _ _ place (sym h) in
+    let any : list_any is_colon text ≡ true = any_by_first is_colon text ∙ e.0 in
     rw any (ap (λ n. drop (n + 1) text) (sym e.1))
 
 pub epoch_missing : (text : List ℕ) → position is_colon text ≡ None → None ≡ epoch_of text
 unfolding epoch_of
 epoch_missing text h =
-    let any : list_any is_colon text ≡ false = list_any-by_first is_colon text ∙ left_out _ _ h in
+    let any : list_any is_colon text ≡ false = any_by_first is_colon text ∙ left_out _ _ h in
     rw any
 
 pub rest_whole : (text : List ℕ) → position is_colon text ≡ None → text ≡ behind_epoch text
 unfolding behind_epoch
 rest_whole text h =
-    let any : list_any is_colon text ≡ false = list_any-by_first is_colon text ∙ left_out _ _ h in
+    let any : list_any is_colon text ≡ false = any_by_first is_colon text ∙ left_out _ _ h in
     rw any
 
 -- `tail` bytes stand behind the last hyphen

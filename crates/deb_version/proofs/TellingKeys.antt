@@ -6,11 +6,12 @@ use Rattle.std.specs.Char.{is_ascii_digit}
 use Rattle.std.specs.Cmp.Lexicographic.{slice_cmp}
 use Rattle.std.specs.List.{list_all, prefix_len, take_while}
 use Rattle.std.specs.Ordering.{ordering_then, nat_cmp, int_cmp}
-use Rattle.std.proofs.lemmas.Bool.{and_parts, and_from, false≢true}
+use Rattle.std.proofs.lemmas.Bool.{and_parts, and_from, false≢true, not-true}
 use Rattle.std.proofs.lemmas.Bool.Decides.{nat_tests}
 use Rattle.std.proofs.lemmas.Cmp.{tied_itself, tied_back, nat_cmp_total, int_cmp_total, lists_total}
 use Rattle.std.proofs.lemmas.List.Folds.{list_all-append}
 use Rattle.std.proofs.lemmas.List.Sums.{take_while-cons}
+use Rattle.listed.proofs.Lists.{all_weaker}
 use Rattle.deb_version.specs.Grammar.{epoch_of, upstream_of, revision_of, is_upstream_byte, is_revision_byte, are_parts, is_version}
 use Rattle.deb_version.specs.Keys.{without_zeros, number_before, number_key, front_key, fronts_key, part_key, epoch_key, version_key}
 use Rattle.deb_version.specs.Order.{number, is_plain, weights, behind_plain, behind_digits, part_order, or_zero, epoch_number, full_revision, version_order}
@@ -21,22 +22,18 @@ use Rattle.deb_version.proofs.Numbers.{number-without_zeros, list_all-drop}
 use Rattle.deb_version.proofs.PieceSteps.{behind_front, shorter-behind_front, part_order-step, part_order-empty, take_while-all}
 use Rattle.deb_version.proofs.TotalOrder.{part_total}
 
-fails : (b : Bool) → not b ≡ true → b ≡ false
-fails true h = sym h
-fails false h = refl
-
 -- the longest front of characters that pass is found again where it is followed by one that fails
 module _ (p : ℕ → Bool) where
   take_front : (xs ys : List ℕ) → list_all p xs ≡ true → stops p ys ≡ true → take_while p (xs ++ ys) ≡ xs
   take_front [] [] h s = refl
-  take_front [] (y ∷ ys) h s = take_while-cons p y ys ∙ ap (λ b. cond b (y ∷ take_while p ys) []) (fails (p y) s)
+  take_front [] (y ∷ ys) h s = take_while-cons p y ys ∙ ap (λ b. cond b (y ∷ take_while p ys) []) (not-true (p y) s)
   take_front (x ∷ xs) ys h s =
       let both = and_parts _ _ h in
       take_while-cons p x (xs ++ ys) ∙ ap (λ b. cond b (x ∷ take_while p (xs ++ ys)) []) both.0 ∙ ap (λ rest. x ∷ rest) (take_front xs ys both.1 s)
 
   drop_front : (xs ys : List ℕ) → list_all p xs ≡ true → stops p ys ≡ true → drop (prefix_len p (xs ++ ys)) (xs ++ ys) ≡ ys
   drop_front [] [] h s = refl
-  drop_front [] (y ∷ ys) h s = ap (λ b. drop (cond b (1 + prefix_len p ys) 0) (y ∷ ys)) (fails (p y) s)
+  drop_front [] (y ∷ ys) h s = ap (λ b. drop (cond b (1 + prefix_len p ys) 0) (y ∷ ys)) (not-true (p y) s)
   drop_front (x ∷ xs) ys h s =
       let more : 1 + prefix_len p (xs ++ ys) ≡ suc (prefix_len p (xs ++ ys)) = omega arith in
       let both = and_parts _ _ h in
@@ -125,10 +122,6 @@ digit_no_space c h = grind (arith, nat_tests)
 
 upstream_no_space : (c : ℕ) → is_upstream_byte c ≡ true → no_space c ≡ true
 upstream_no_space c h = grind (arith, nat_tests)
-
-pub all_weaker : (p q : ℕ → Bool) → ((c : ℕ) → p c ≡ true → q c ≡ true) → (xs : List ℕ) → list_all p xs ≡ true → list_all q xs ≡ true
-all_weaker p q weaker [] h = refl
-all_weaker p q weaker (x ∷ xs) h = let both = and_parts _ _ h in and_from _ _ (weaker x both.0) (all_weaker p q weaker xs both.1)
 
 number_no_space : (digits more : List ℕ) → list_all no_space digits ≡ true → list_all no_space (number_before digits more) ≡ true
 number_no_space [] [] h = refl

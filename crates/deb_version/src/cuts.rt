@@ -1,9 +1,10 @@
 //! Where the parts of a version stand, and what may stand in them.
 ghost use Rattle.std.specs.Prelude.{◌≡◌, ◌≤◌, true, not, length, IsTrue};
-ghost use Rattle.std.specs.Char.{is_ascii_digit};
 ghost use Rattle.std.specs.List.{position, suffix_len, list_all};
 ghost use Rattle.std.specs.Option.{option_copied, option_map_or};
 ghost use Rattle.deb_version.specs.Grammar.{is_colon, is_hyphen, epoch_of, behind_epoch, upstream_in, revision_in, upstream_of, revision_of, is_epoch, is_revision_byte, is_upstream_byte, is_upstream, is_revision, are_parts, is_version};
+
+use listed::has_digits_alone;
 
 /// The text of a version cut into its parts; an epoch or a revision that is not written is missing.
 #[derive(Clone, Copy)]
@@ -111,12 +112,6 @@ fn fits_revision(revision: Option<&[u8]>) -> bool
         Some(bytes) => !bytes.is_empty() && has_revision_bytes(bytes),
         None => true,
     }
-}
-
-fn has_digits_alone(text: &[u8]) -> bool
-    ensures { result ≡ list_all is_ascii_digit text.now }
-{
-    text.iter().all(|byte| byte.is_ascii_digit())
 }
 
 fn has_upstream_bytes(text: &[u8]) -> bool

@@ -4,11 +4,14 @@
 mod cuts;
 mod digits;
 mod keys;
-pub mod names;
+mod names;
 mod parts;
-pub mod texts;
-pub mod versions;
+mod texts;
+mod versions;
 
+// Texts and names.
 pub use names::is_package_name;
 pub use texts::Bytes;
+
+// Versions and their order.
 pub use versions::{Version, VersionError, keys_are_shared, order_is_total};

@@ -1,13 +1,15 @@
 //! A text of bytes that its holder owns.
 ghost use Rattle.std.specs.Prelude.{◌≡◌, IfOk};
 
+use smallvec::SmallVec;
 use std::alloc::{AllocError, Global};
 use std::marker::Model;
 
 /// An owned text, byte for byte.
 #[derive(Drop)]
 pub struct Bytes {
-    bytes: Vec<u8>,
+    // Most texts are short, and then take no memory of their own.
+    bytes: SmallVec<u8, 16>,
 }
 
 impl Model for Bytes {
@@ -27,7 +29,7 @@ impl Bytes {
         ensures { IfOk result (λ t. t ≡ text.now) }
     {
         Ok(Bytes {
-            bytes: Vec::from_slice(alloc, text)?,
+            bytes: SmallVec::from_slice(alloc, text)?,
         })
     }
 
@@ -35,7 +37,9 @@ impl Bytes {
     pub fn of(bytes: Vec<u8>) -> Self
         ensures { result ≡ bytes.items }
     {
-        Bytes { bytes }
+        Bytes {
+            bytes: SmallVec::from_vec(bytes),
+        }
     }
 
     /// Lends the text; it takes no memory.

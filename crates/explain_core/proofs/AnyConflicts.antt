@@ -4,6 +4,7 @@ use Rattle.std.proofs.Common.{◌≡◌, ℕ, ◌+◌, Bool, true, false, not, �
 use Rattle.std.specs.Prelude.{Contains}
 use Rattle.std.proofs.lemmas.Bool.{and_parts, and_from, or_cases}
 use Rattle.std.proofs.lemmas.List.Elements.{All-contains, All-append, All-nil, Contains-get_or}
+use Rattle.listed.proofs.Lists.{contains_in, in_contains}
 use Rattle.clause_pool.specs.Interned.{Interned, row_at}
 use Rattle.row_book.specs.Book.{listed_for, lists_of_pairs, repository_of, AreConflicts, PairsFit, Sound}
 use Rattle.row_book.specs.Sets.{In, here, there}
@@ -15,7 +16,6 @@ use Rattle.search_terms.specs.Closure.{literal, negation, is_same, forces, Clash
 use Rattle.search_terms.specs.Marks.{IsWithin}
 use Rattle.search_terms.specs.Form.{conflict_sentence, owned_sentences}
 use Rattle.search_terms.proofs.Forms.{from_owned_sentences}
-use Rattle.search_terms.proofs.Lists.{contains_in, in_contains}
 use Rattle.search_terms.proofs.Models.{same-true}
 use Rattle.search_terms.proofs.Ranges.{rows_long}
 use Rattle.search_terms.proofs.Sets.{closed_append, forces_mono}

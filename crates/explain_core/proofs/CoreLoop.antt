@@ -1,5 +1,5 @@
 -- The core, goal by goal, over a view of the suite.
-use Rattle.std.proofs.Common.{◌≡◌, ℕ, suc, ◌+◌, ◌-◌, ◌<◌, ◌≤◌, true, false, List, [], ◌∷◌, ◌++◌, length, drop, map, inl, inr, refl, sym, ap, ◌∙◌, subst, arith}
+use Rattle.std.proofs.Common.{◌≡◌, ℕ, zero, suc, ◌+◌, ◌-◌, ◌<◌, ◌≤◌, true, false, List, [], ◌∷◌, ◌++◌, length, drop, map, inl, inr, refl, sym, ap, ◌∙◌, subst, arith}
 use Rattle.std.specs.List.{range_with_len}
 use Rattle.std.proofs.lemmas.List.{drop-map, map-append, length-map}
 use Rattle.clause_pool.specs.Interned.{Interned}
@@ -18,15 +18,17 @@ use Rattle.row_book.specs.Rounds.{kernel}
 use Rattle.row_book.specs.Sets.{In}
 use Rattle.row_book.specs.declared.book.Book.{Book}
 use Rattle.row_book.proofs.BookRepositories.{book_size}
-use Rattle.row_book.proofs.Lists.{In_append_cases, In_cases, In_none}
+use Rattle.row_book.proofs.Lists.{In_append_cases, In_append_left, In_append_right, In_cases, In_none}
 use Rattle.suite_compare.specs.Asking.{image_of, images_of, tree_of, verdict_in, verdict_of}
 use Rattle.suite_compare.specs.Views.{IsViewOf}
 use Rattle.suite_compare.proofs.Deciding.{images_fit}
 use Rattle.suite_compare.proofs.Judged.{verdict_is}
 use Rattle.explain_core.specs.Core.{core_of, goal_numbered, goals_numbered, marks_of, verdict_on}
-use Rattle.explain_core.specs.Deletion.{Kept, items_of, kept_behind, kept_by}
+use Rattle.explain_core.specs.Deletion.{Kept, is_no, items_of, kept_behind, kept_by}
 use Rattle.explain_core.specs.Picking.{picked, ArePlacesFrom1}
 use Rattle.explain_core.specs.declared.explanation.Mark.{Mark}
+use Rattle.explain_core.proofs.AtOnce.{goals_at_once, In_map_more}
+use Rattle.explain_core.proofs.Deleted.{block_left_out, no_is}
 use Rattle.explain_core.proofs.Told.{kept_mark, kept_marks, marks_back, marks_items, marks_there, picked_numbered, rest_numbered}
 
 -- one item more
@@ -43,6 +45,14 @@ pub behind_step : {X : Type 0} (f : List X → Verdict) (all : List (Kept X)) (b
     left ≡ x ∷ after → new ≡ before ++ kept_by x v → all ≡ kept_behind f before left → all ≡ kept_behind f new after
 behind_step f all before new x left after v told cut more e =
     e ∙ ap (kept_behind f before) cut ∙ behind_more f before x after v told ∙ ap (λ b. kept_behind f b after) (sym more)
+
+-- numbers in two parts
+range_cut : (a n m : ℕ) → range_with_len a (n + m) ≡ range_with_len a n ++ range_with_len (a + n) m
+range_cut a zero m = let e : a ≡ a + 0 = omega arith in let z : 0 + m ≡ m = omega arith in ap (range_with_len a) z ∙ ap (λ k. range_with_len k m) e
+range_cut a (suc n) m =
+    let e : suc n + m ≡ suc (n + m) = omega arith in
+    let at : a + 1 + n ≡ a + suc n = omega arith in
+    ap (range_with_len a) e ∙ ap (λ l. a ∷ l) (range_cut (a + 1) n m ∙ ap (λ k. range_with_len (a + 1) n ++ range_with_len k m) at)
 
 -- marks of what one verdict keeps
 pub marks_more : (marks new : List Mark) (kept : List (Kept ℕ)) → new ≡ marks ++ marks_of kept → kept_marks new ≡ kept_marks marks ++ kept
@@ -86,31 +96,74 @@ module _ (pool : Interned) (home : Home) (stanzas : List PackageFacts) (book : B
       verdict_is pool made.book images budget v view.kernel_is.book.sound (images_are_fit some images e) w
       ∙ ap (λ S. verdict_of budget (tree_of S images)) k_is ∙ ap (λ cs. verdict_of budget (tree_of (kernel limit made.hold (suite_repository home stanzas)) cs)) e
 
-  -- the others of the goal at a place
-  abbrev numbers_behind : ℕ → List ℕ
-  numbers_behind place = range_with_len (place + 1 + 1) (length goals - (place + 1))
+  -- of classes of some goals, as the search tree of the kernel tells it
+  tree_told : (budget : ℕ) (some : List Goal) (images : List (List ℕ)) → images ≡ images_of limit made.hold home stanzas some → verdict_of budget (tree_of K images) ≡ verdict_in limit made.hold home stanzas budget some
+  tree_told budget some images e = ap (λ S. verdict_of budget (tree_of S images)) k_is ∙ ap (λ cs. verdict_of budget (tree_of (kernel limit made.hold (suite_repository home stanzas)) cs)) e
 
-  pub others_are : (marks : List Mark) (place : ℕ) (others : List (List ℕ)) → place < length goals → ArePlacesFrom1 place marks → others ≡ picked classes marks ++ drop (place + 1) classes →
-      others ≡ images_of limit made.hold home stanzas (goals_numbered goals (items_of (kept_marks marks) ++ numbers_behind place))
-  others_are marks place others l places e =
-      let sum : place + 1 + (length goals - (place + 1)) ≡ length goals = omega arith in
-      e ∙ ap (λ cs. picked cs marks ++ drop (place + 1) cs) are
-      ∙ ap (λ front. front ++ drop (place + 1) (images_of limit made.hold home stanzas goals)) (picked_numbered (image_of limit made.hold home stanzas) goals marks (places_wider marks place (length goals) (omega arith) places))
-      ∙ ap (λ back. map (image_of limit made.hold home stanzas) (goals_numbered goals (map (λ m. m.goal) marks)) ++ back) (drop-map (image_of limit made.hold home stanzas) (place + 1) goals ∙ ap (map (image_of limit made.hold home stanzas)) (rest_numbered goals (place + 1) (length goals - (place + 1)) sum))
-      ∙ sym (map-append (image_of limit made.hold home stanzas) (goals_numbered goals (map (λ m. m.goal) marks)) (goals_numbered goals (numbers_behind place)))
-      ∙ ap (map (image_of limit made.hold home stanzas)) (sym (map-append (goal_numbered goals) (map (λ m. m.goal) marks) (numbers_behind place)))
-      ∙ ap (λ ns. images_of limit made.hold home stanzas (goals_numbered goals (ns ++ numbers_behind place))) (sym (marks_items marks))
+  -- the numbers of the goals from a place on
+  abbrev numbers_from : ℕ → List ℕ
+  numbers_from place = range_with_len (place + 1) (length goals - place)
 
-  pub core_step : (budget : ℕ) (marks new : List Mark) (place : ℕ) (others : List (List ℕ)) (v : Verdict) → place < length goals → ArePlacesFrom1 place marks → others ≡ picked classes marks ++ drop (place + 1) classes →
-      IsSearchVerdict K others budget v → new ≡ marks ++ marks_of (kept_by (place + 1) v) →
-      core_of limit made.hold home stanzas budget goals ≡ kept_behind (verdict_on limit made.hold home stanzas budget goals) (kept_marks marks) (range_with_len (place + 1) (length goals - place)) →
-      core_of limit made.hold home stanzas budget goals ≡ kept_behind (verdict_on limit made.hold home stanzas budget goals) (kept_marks new) (range_with_len (place + 1 + 1) (length goals - (place + 1)))
-  core_step budget marks new place others v l places made_of searched pushed e =
+  pub others_are : (marks : List Mark) (place from : ℕ) (others : List (List ℕ)) → place ≤ length goals → from ≤ length goals → ArePlacesFrom1 place marks → others ≡ picked classes marks ++ drop from classes →
+      others ≡ images_of limit made.hold home stanzas (goals_numbered goals (items_of (kept_marks marks) ++ numbers_from from))
+  others_are marks place from others l within places e =
+      let sum : from + (length goals - from) ≡ length goals = omega arith in
+      e ∙ ap (λ cs. picked cs marks ++ drop from cs) are
+      ∙ ap (λ front. front ++ drop from (images_of limit made.hold home stanzas goals)) (picked_numbered (image_of limit made.hold home stanzas) goals marks (places_wider marks place (length goals) l places))
+      ∙ ap (λ back. map (image_of limit made.hold home stanzas) (goals_numbered goals (map (λ m. m.goal) marks)) ++ back) (drop-map (image_of limit made.hold home stanzas) from goals ∙ ap (map (image_of limit made.hold home stanzas)) (rest_numbered goals from (length goals - from) sum))
+      ∙ sym (map-append (image_of limit made.hold home stanzas) (goals_numbered goals (map (λ m. m.goal) marks)) (goals_numbered goals (numbers_from from)))
+      ∙ ap (map (image_of limit made.hold home stanzas)) (sym (map-append (goal_numbered goals) (map (λ m. m.goal) marks) (numbers_from from)))
+      ∙ ap (λ ns. images_of limit made.hold home stanzas (goals_numbered goals (ns ++ numbers_from from))) (sym (marks_items marks))
+
+  -- the others of a block fit
+  pub others_fit : (marks : List Mark) (place from : ℕ) (others : List (List ℕ)) → place ≤ length goals → from ≤ length goals → ArePlacesFrom1 place marks → others ≡ picked classes marks ++ drop from classes → NeedsFit (length made.book.rows) others
+  others_fit marks place from others l within places e =
+      images_are_fit (goals_numbered goals (items_of (kept_marks marks) ++ numbers_from from)) others (others_are marks place from others l within places e)
+
+  pub core_step : (budget : ℕ) (marks new : List Mark) (place from : ℕ) (others : List (List ℕ)) (v : Verdict) → place < length goals → from ≡ place + 1 → ArePlacesFrom1 place marks →
+      others ≡ picked classes marks ++ drop from classes → IsSearchVerdict K others budget v → new ≡ marks ++ marks_of (kept_by (place + 1) v) →
+      core_of limit made.hold home stanzas budget goals ≡ kept_behind (verdict_on limit made.hold home stanzas budget goals) (kept_marks marks) (numbers_from place) →
+      core_of limit made.hold home stanzas budget goals ≡ kept_behind (verdict_on limit made.hold home stanzas budget goals) (kept_marks new) (numbers_from (place + 1))
+  core_step budget marks new place from others v l next places made_of searched pushed e =
       let size : length goals - place ≡ suc (length goals - (place + 1)) = omega arith in
-      behind_step (verdict_on limit made.hold home stanzas budget goals) (core_of limit made.hold home stanzas budget goals) (kept_marks marks) (kept_marks new) (place + 1) (range_with_len (place + 1) (length goals - place)) (numbers_behind place) v
-      (verdict_found budget (goals_numbered goals (items_of (kept_marks marks) ++ numbers_behind place)) others v (others_are marks place others l places made_of) searched)
+      behind_step (verdict_on limit made.hold home stanzas budget goals) (core_of limit made.hold home stanzas budget goals) (kept_marks marks) (kept_marks new) (place + 1) (numbers_from place) (numbers_from (place + 1)) v
+      (verdict_found budget (goals_numbered goals (items_of (kept_marks marks) ++ numbers_from (place + 1))) others v
+      (others_are marks place (place + 1) others (omega arith) (omega arith) places (made_of ∙ ap (λ k. picked classes marks ++ drop k classes) next)) searched)
       (ap (range_with_len (place + 1)) size)
       (marks_more marks new (kept_by (place + 1) v) pushed) e
+
+  -- the numbers of the goals that are left where those of a block before the place are left out
+  abbrev left_at : List Mark → ℕ → List ℕ
+  left_at marks place = items_of (kept_marks marks) ++ numbers_from place
+
+  -- a block of goals, where the others of the whole block clash at once
+  pub core_skip : (budget : ℕ) (marks : List Mark) (place count : ℕ) (others : List (List ℕ)) → 0 < budget → place + count ≤ length goals → ArePlacesFrom1 place marks →
+      others ≡ picked classes marks ++ drop (place + count) classes → is_no (verdict_of 1 (tree_of K others)) ≡ true →
+      core_of limit made.hold home stanzas budget goals ≡ kept_behind (verdict_on limit made.hold home stanzas budget goals) (kept_marks marks) (numbers_from place) →
+      core_of limit made.hold home stanzas budget goals ≡ kept_behind (verdict_on limit made.hold home stanzas budget goals) (kept_marks marks) (numbers_from (place + count))
+  core_skip budget marks place count others some within places made_of clash e =
+      e ∙ ap (kept_behind (verdict_on limit made.hold home stanzas budget goals) (kept_marks marks)) cut
+      ∙ block_left_out (verdict_on limit made.hold home stanzas budget goals) (kept_marks marks) (range_with_len (place + 1) count) (numbers_from (place + count)) each
+    where
+      cut : numbers_from place ≡ range_with_len (place + 1) count ++ numbers_from (place + count)
+      cut =
+          let sum : length goals - place ≡ count + (length goals - (place + count)) = omega arith in
+          let at : place + 1 + count ≡ place + count + 1 = omega arith in
+          ap (range_with_len (place + 1)) sum ∙ range_cut (place + 1) count (length goals - (place + count)) ∙ ap (λ k. range_with_len (place + 1) count ++ range_with_len k (length goals - (place + count))) at
+
+      told : verdict_in limit made.hold home stanzas 1 (goals_numbered goals (left_at marks (place + count))) ≡ No
+      told = sym (tree_told 1 (goals_numbered goals (left_at marks (place + count))) others (others_are marks place (place + count) others (omega arith) within places made_of)) ∙ no_is (verdict_of 1 (tree_of K others)) clash
+
+      wider : (front : List ℕ) (n : ℕ) → In n (left_at marks (place + count)) → In n (items_of (kept_marks marks) ++ (front ++ numbers_from (place + count)))
+      wider front n i = elim (In_append_cases (items_of (kept_marks marks)) (numbers_from (place + count)) n i) [
+        | inl a ↦ In_append_left (items_of (kept_marks marks)) (front ++ numbers_from (place + count)) n a
+        | inr b ↦ In_append_right (items_of (kept_marks marks)) (front ++ numbers_from (place + count)) n (In_append_right front (numbers_from (place + count)) n b)
+      ]
+
+      each : (front : List ℕ) → ((n : ℕ) → In n front → In n (range_with_len (place + 1) count)) → verdict_on limit made.hold home stanzas budget goals (items_of (kept_marks marks) ++ (front ++ numbers_from (place + count))) ≡ No
+      each front h =
+          goals_at_once home stanzas limit made.hold budget (goals_numbered goals (left_at marks (place + count))) (goals_numbered goals (items_of (kept_marks marks) ++ (front ++ numbers_from (place + count))))
+          (In_map_more (goal_numbered goals) (left_at marks (place + count)) (items_of (kept_marks marks) ++ (front ++ numbers_from (place + count))) (wider front)) told some
 
   pub core_done : (budget : ℕ) (marks : List Mark) (place : ℕ) → length goals ≤ place →
       core_of limit made.hold home stanzas budget goals ≡ kept_behind (verdict_on limit made.hold home stanzas budget goals) (kept_marks marks) (range_with_len (place + 1) (length goals - place)) →

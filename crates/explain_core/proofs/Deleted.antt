@@ -5,11 +5,25 @@ use Rattle.row_book.specs.Sets.{In, here, there}
 use Rattle.row_book.proofs.Lists.{In_cases, In_none, In_append_cases, In_append_left, In_append_right}
 use Rattle.clause_solver.specs.declared.outcomes.Verdict.{Verdict}
 use Rattle.clause_solver.specs.declared.outcomes.Verdict.TheVariants.{Yes, No, Spent}
-use Rattle.explain_core.specs.Deletion.{Kept, kept, items_of, kept_by, kept_behind, kept_of}
+use Rattle.explain_core.specs.Deletion.{Kept, kept, is_no, items_of, kept_by, kept_behind, kept_of}
 
 -- the items that stay with one more
 items_more : {X : Type 0} (before : List (Kept X)) (x : X) (b : Bool) (after : List X) → items_of (before ++ kept x b ∷ []) ++ after ≡ items_of before ++ x ∷ after
 items_more before x b after = ap (λ l. l ++ after) (map-append (λ k. k.item) before (kept x b ∷ [])) ∙ append_assoc (items_of before) (x ∷ []) after
+
+-- a block each item of which has the verdict no, whatever of the block is still behind it, is left out
+pub block_left_out : {X : Type 0} (f : List X → Verdict) (before : List (Kept X)) (block after : List X) → ((front : List X) → ((x : X) → In x front → In x block) → f (items_of before ++ (front ++ after)) ≡ No)
+    → kept_behind f before (block ++ after) ≡ kept_behind f before after
+unfolding kept_behind
+block_left_out f before [] after h = refl
+block_left_out f before (x ∷ block) after h =
+    ap (λ v. kept_behind f (before ++ kept_by x v) (block ++ after)) (h block (λ y i. there i)) ∙ ap (λ b. kept_behind f b (block ++ after)) (append-nil before)
+    ∙ block_left_out f before block after (λ front within. h front (λ y i. there (within y i)))
+
+pub no_is : (v : Verdict) → is_no v ≡ true → v ≡ No
+no_is No e = refl
+no_is Yes e = absurd (cc e)
+no_is Spent e = absurd (cc e)
 
 -- where all have the verdict no, what is left has it
 pub left_no : {X : Type 0} (f : List X → Verdict) (before : List (Kept X)) (after : List X) → f (items_of before ++ after) ≡ No → f (items_of (kept_behind f before after)) ≡ No

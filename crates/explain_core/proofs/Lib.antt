@@ -4,6 +4,7 @@ pub mod AnyConflicts
 pub mod Told
 pub mod Cores
 pub mod Overs
+pub mod AtOnce
 pub mod Withins
 pub mod Explained
 pub mod Meetings

@@ -2,7 +2,7 @@
 use Rattle.std.proofs.Common.{◌≡◌, ℕ, zero, suc, ◌+◌, ◌<◌, ◌≤◌, Bool, true, false, List, [], ◌∷◌, ◌++◌, ◌⊎◌, inl, inr, length, get_or, take, map, refl, sym, ap, ◌∙◌, subst, arith, append_assoc}
 use Rattle.std.specs.List.{concat}
 use Rattle.std.proofs.lemmas.Bool.{cases_lt}
-use Rattle.std.proofs.lemmas.List.{append-nil, length-append, map-append, take_more}
+use Rattle.std.proofs.lemmas.List.{append-nil, length-append, map-append, take_more, get_or_default}
 use Rattle.std.proofs.lemmas.List.Folds.{concat-append}
 use Rattle.row_book.specs.Flags.{flag}
 use Rattle.row_book.specs.Needs.{NeedsFit}
@@ -11,7 +11,6 @@ use Rattle.row_book.specs.Sets.{In, has, here, there}
 use Rattle.row_book.proofs.Lists.{In_append_cases, In_append_left, In_append_right, In_cases, In_has, In_none, In_at, has_In}
 use Rattle.clause_pool.specs.Interned.{Interned}
 use Rattle.clause_pool.proofs.Lists.{In_place}
-use Rattle.repo_model.proofs.Numbers.{same_at}
 use Rattle.row_book.specs.Book.{repository_of, Sound}
 use Rattle.row_book.specs.Uses.{row_id}
 use Rattle.row_book.specs.declared.book.Book.{Book}
@@ -146,7 +145,7 @@ meets_row old mid new f row i id l is a b =
 
 -- a package whose flag is up was met
 pub met_there : (flags : List Bool) (order : List ℕ) (p : ℕ) (r : Bool) → IsMetList flags order → p < length flags → r ≡ get_or flags p r → r ≡ true → In p order
-met_there flags order p r w l is up = has_In order p (sym (w.each p) ∙ same_at flags p false r l ∙ sym is ∙ up)
+met_there flags order p r w l is up = has_In order p (sym (w.each p) ∙ get_or_default flags p false r l ∙ sym is ∙ up)
 
 -- what the rows of a book name is below its size
 pub ranged : (pool : Interned) (book : Book) → Sound pool book → (q : ℕ) (c : List ℕ) → In c (clauses_of (repository_of pool book) q) → (n : ℕ) → In n c → n < length (repository_of pool book).clauses

@@ -2,8 +2,9 @@
 use Rattle.std.proofs.Common.{◌≡◌, ℕ, ◌<◌, Bool, true, false, ◌&&◌, ◌||◌, eqb, List, [], inl, inr, length, filter, refl, ap, ◌∙◌, arith, Some, None, zero-add}
 use Rattle.std.specs.Prelude.{ltb}
 use Rattle.std.proofs.lemmas.Bool.{cases_Bool, both_ways, false_from_ne_true}
+use Rattle.listed.proofs.Bools.{cases_Option}
 use Rattle.clause_solver.specs.declared.outcomes.Verdict.TheVariants.{Yes, No, Spent}
-use Rattle.row_book.specs.Book.{are_paired, lists_of_pairs, PairsFit}
+use Rattle.row_book.specs.Book.{are_paired, listed_for, lists_of_pairs, PairsFit}
 use Rattle.row_book.specs.Clauses.{numbers}
 use Rattle.row_book.specs.Flags.{flag}
 use Rattle.row_book.specs.Needs.{NeedsFit}
@@ -13,14 +14,13 @@ use Rattle.row_book.specs.Sound.{SoundRepository}
 use Rattle.row_book.specs.declared.pair.Pair.{Pair}
 use Rattle.row_book.proofs.Lists.{In_has, any_cases, any_from}
 use Rattle.row_book.proofs.Order.{at_numbers, numbers_from}
-use Rattle.row_book.proofs.Pairs.{length_pairs, pairs_conflict}
+use Rattle.row_book.proofs.Pairs.{length_pairs, pairs_conflict, at_pairs}
 use Rattle.row_book.proofs.Repositories.{has_filter}
 use Rattle.search_terms.specs.Closure.{InRange}
 use Rattle.search_terms.specs.Form.{form}
 use Rattle.search_terms.specs.Laws.{HasNoSolution, Solves}
 use Rattle.search_terms.specs.Tree.{Tree, IsTree, failed_leaves, found_of}
 use Rattle.search_terms.proofs.Computed.{search_tree_is}
-use Rattle.search_terms.proofs.Exists.{cases_Option}
 use Rattle.search_terms.proofs.Found.{finds_healthy}
 use Rattle.suite_compare.specs.Asking.{tree_of, verdict_of}
 use Rattle.suite_compare.proofs.Ranged.{formula_ranged}
@@ -37,7 +37,7 @@ yes_found budget tree e = elim (cases_Bool (ltb budget (failed_leaves tree))) [
   ]
 ]
 
-no_none : (budget : ℕ) (tree : Tree) → verdict_of budget tree ≡ No → found_of tree ≡ None
+pub no_none : (budget : ℕ) (tree : Tree) → verdict_of budget tree ≡ No → found_of tree ≡ None
 no_none budget tree e = elim (cases_Bool (ltb budget (failed_leaves tree))) [
   | inl t ↦ absurd (let s : Spent ≡ No = rw t at e in cc s)
   | inr n ↦ elim (cases_Option (found_of tree)) [
@@ -85,13 +85,18 @@ module _ (R : Repository) (sound : SoundRepository R) (pairs : List Pair) (fit :
       | inr some ↦ absurd (let w = (finds_healthy (only R pairs) goals (tree_over R goals pairs) range tree_is).1 some.0 some.1 in none (flag some.0) w.0 w.1)
     ]
 
+-- more pairs pair what fewer do
+pub paired_more : (fewer more : List Pair) → ((x : Pair) → In x fewer → In x more) → (m n : ℕ) → are_paired fewer m n ≡ true → are_paired more m n ≡ true
+paired_more fewer more h m n t =
+    let test = λ (x : Pair). (eqb x.low m && eqb x.high n) || (eqb x.low n && eqb x.high m) in
+    let w = any_cases test fewer t in any_from test more w.0 (h w.0 w.1) w.2
+
 -- of two packages one of the pairs tells whether they conflict
 pub only_against : (R : Repository) (pairs : List Pair) (m n : ℕ) → m < length R.clauses → n < length R.clauses → against (only R pairs) m n ≡ are_paired pairs m n
-unfolding lists_of_pairs
 only_against R pairs m n lm ln =
     let size : ℕ = length R.clauses in
     let inside : has (numbers size 0) n ≡ true = In_has (numbers_from size 0 n (omega arith) (omega arith)) in
-    ap (λ xs. has xs n) (at_numbers (λ p. filter (are_paired pairs p) (numbers size 0)) [] size 0 m lm ∙ ap (λ k. filter (are_paired pairs k) (numbers size 0)) (zero-add m))
+    ap (λ xs. has xs n) (at_pairs pairs (length R.clauses) m lm)
     ∙ has_filter (are_paired pairs m) (numbers size 0) n ∙ ap (λ b. b && are_paired pairs m n) inside
 
 -- where fewer pairs conflict, what was healthy is
@@ -104,12 +109,7 @@ fewer_pairs R more fewer goals I h s = (
         let lm : m < length R.clauses = s.0.packages m i in
         let ln : n < length R.clauses = s.0.packages n j in
         only_against R fewer m n lm ln ∙ false_from_ne_true (are_paired fewer m n) (λ t.
-        both_ways (against (only R more) m n) (s.0.peace m n i j) (only_against R more m n lm ln ∙ still m n t));
+        both_ways (against (only R more) m n) (s.0.peace m n i j) (only_against R more m n lm ln ∙ paired_more fewer more h m n t));
   },
   s.1,
 )
-  where
-    still : (m n : ℕ) → are_paired fewer m n ≡ true → are_paired more m n ≡ true
-    still m n t =
-        let test = λ (x : Pair). (eqb x.low m && eqb x.high n) || (eqb x.low n && eqb x.high m) in
-        let w = any_cases test fewer t in any_from test more w.0 (h w.0 w.1) w.2

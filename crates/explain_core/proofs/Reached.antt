@@ -3,6 +3,7 @@ use Rattle.std.proofs.Common.{◌≡◌, ℕ, ◌<◌, Bool, true, not, ◌||◌
 use Rattle.std.proofs.Math.Path.{fun_ext}
 use Rattle.std.proofs.lemmas.Bool.{cases_Bool, and_parts, and_from, or_cases, or_left, or_right, both_ways, not-true, not_from_false}
 use Rattle.std.specs.List.{list_all}
+use Rattle.listed.proofs.Bools.{same_bool}
 use Rattle.row_book.specs.Clauses.{is_inside, numbers, subsets}
 use Rattle.row_book.specs.Needs.{NeedsFit}
 use Rattle.row_book.specs.Repository.{Repository, clauses_of}
@@ -11,7 +12,6 @@ use Rattle.row_book.specs.Sound.{SoundRepository}
 use Rattle.row_book.proofs.Clauses.{inside_from, inside_at}
 use Rattle.row_book.proofs.Lists.{In_has, has_In, all_from, all_at, filter_from, filter_cases, ascending_filter}
 use Rattle.row_book.proofs.Order.{numbers_from, numbers_parts, numbers_ascending, subsets_has}
-use Rattle.row_book.proofs.Repositories.{same_test}
 use Rattle.explain_core.specs.Reach.{HoldsNeeds, IsReach, holds_needs, reach_of}
 use Rattle.explain_core.specs.Laws.{ReachIsLeast}
 
@@ -87,7 +87,7 @@ module _ (R : Repository) (goals : List (List ℕ)) where
 
     -- there is one least set
     pub reach_one : (S : NumSet) → IsReach R goals S → S ≡ reach_of R goals
-    reach_one S w = fun_ext (λ n. same_test (S n) (reach_of R goals n) (w.least (reach_of R goals) reach_is.holds n) (reach_is.least S w.holds n))
+    reach_one S w = fun_ext (λ n. same_bool (S n) (reach_of R goals n) (w.least (reach_of R goals) reach_is.holds n) (reach_is.least S w.holds n))
 
 pub reach_is_least : ReachIsLeast
 reach_is_least R goals sound fit = reach_is R goals sound fit

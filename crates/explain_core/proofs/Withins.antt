@@ -5,6 +5,8 @@ use Rattle.std.specs.List.{flat_map, range_with_len}
 use Rattle.std.proofs.lemmas.Bool.{cases_lt, and_parts, and_from, or_left, or_right, both_ways, ltb-true, lt-ltb, eq-eqb, false_from_ne_true}
 use Rattle.std.proofs.lemmas.List.{append-nil}
 use Rattle.std.proofs.lemmas.List.Concat.{flat_map-append}
+use Rattle.listed.proofs.Lists.{In_flat_cases, In_flat}
+use Rattle.listed.proofs.Numbers.{number_kept, number_left}
 use Rattle.row_book.specs.Book.{are_paired, PairsFit}
 use Rattle.row_book.specs.Repository.{Repository, against, conflicts_of}
 use Rattle.row_book.specs.Sets.{Hit, In, Is, NumSet, here, there}
@@ -13,25 +15,10 @@ use Rattle.row_book.specs.declared.pair.Pair.{Pair}
 use Rattle.row_book.proofs.Lists.{In_append_cases, In_append_left, In_append_right, In_cases, In_has, In_map, In_map_cases, In_none, any_from, filter_cases, filter_from, has_In}
 use Rattle.row_book.proofs.Repositories.{between}
 use Rattle.repo_model.proofs.Elements.{range_from}
-use Rattle.repo_model.proofs.Numbers.{number_kept, number_left}
 use Rattle.search_terms.specs.Laws.{HasNoSolution, Solves}
 use Rattle.explain_core.specs.Only.{conflicts_above, conflicts_within, only, pair}
 use Rattle.explain_core.specs.Reach.{HoldsNeeds}
 use Rattle.explain_core.proofs.Overs.{only_against}
-
-in_flat : {X Y : Type 0} (f : X → List Y) (xs : List X) (x : X) (y : Y) → In x xs → In y (f x) → In y (flat_map f xs)
-in_flat f [] x y i j = absurd (In_none i)
-in_flat f (z ∷ xs) x y i j = elim (In_cases i) [
-  | inl e ↦ In_append_left (f z) (flat_map f xs) y (subst (λ w. In y (f w)) e j)
-  | inr r ↦ In_append_right (f z) (flat_map f xs) y (in_flat f xs x y r j)
-]
-
-from_flat : {X Y : Type 0} (f : X → List Y) (xs : List X) (y : Y) → In y (flat_map f xs) → (x : X) × In x xs × In y (f x)
-from_flat f [] y i = absurd (In_none i)
-from_flat f (x ∷ xs) y i = elim (In_append_cases (f x) (flat_map f xs) y i) [
-  | inl o ↦ (x, here, o)
-  | inr r ↦ let w = from_flat f xs y r in (w.0, there w.1, w.2)
-]
 
 module _ (R : Repository) (sound : SoundRepository R) (S : NumSet) where
   abbrev is_above : ℕ → ℕ → Bool
@@ -42,7 +29,7 @@ module _ (R : Repository) (sound : SoundRepository R) (S : NumSet) where
   above_in m n lt s t a =
       let w = between R sound m n a in
       let lm : m < length R.clauses = w.0 in
-      in_flat (conflicts_above R S) (filter S (range_with_len 0 (length R.clauses))) m (pair m n)
+      In_flat (conflicts_above R S) (filter S (range_with_len 0 (length R.clauses))) m (pair m n)
       (filter_from S (range_with_len 0 (length R.clauses)) m (range_from (length R.clauses) 0 m (omega arith) (omega arith)) s)
       (In_map (pair m) (filter (is_above m) (conflicts_of R m)) n (filter_from (is_above m) (conflicts_of R m) n (has_In (conflicts_of R m) n a) (and_from (ltb m n) (S n) (lt-ltb m n lt) t)))
 
@@ -68,7 +55,7 @@ module _ (R : Repository) (sound : SoundRepository R) (S : NumSet) where
 
   one_fits : (x : Pair) → In x (conflicts_within R S) → (x.low < x.high) × (x.high < length R.clauses)
   one_fits x i =
-      let a = from_flat (conflicts_above R S) (filter S (range_with_len 0 (length R.clauses))) x i in
+      let a = In_flat_cases (conflicts_above R S) (filter S (range_with_len 0 (length R.clauses))) x i in
       let b = In_map_cases (pair a.0) (filter (is_above a.0) (conflicts_of R a.0)) x a.2 in
       let c = filter_cases (is_above a.0) (conflicts_of R a.0) b.0 b.1 in
       let lt : a.0 < b.0 = ltb-true a.0 b.0 (and_parts (ltb a.0 b.0) (S b.0) c.1).0 in

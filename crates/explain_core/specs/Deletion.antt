@@ -22,6 +22,12 @@ kept_by x No = []
 kept_by x Yes = kept x false ∷ []
 kept_by x Spent = kept x true ∷ []
 
+-- whether a search finds nothing
+abbrev pub is_no : Verdict → Bool
+is_no No = true
+is_no Yes = false
+is_no Spent = false
+
 -- the items are taken in order: the others of an item are those before it that stay and all those behind it
 unfoldable pub kept_behind : {X : Type 0} → (List X → Verdict) → List (Kept X) → List X → List (Kept X)
 kept_behind verdict before [] = before

@@ -1,3 +1,4 @@
+-- for the bodies of this crate alone
 -- Packages that were met, in their order, with a flag for each package.
 use Rattle.std.specs.Prelude.{◌≡◌, ℕ, ◌+◌, ◌<◌, ◌≤◌, Bool, not, List, ◌++◌, count_by, length, slice_index_or}
 use Rattle.row_book.specs.Flags.{flag}

@@ -1,3 +1,4 @@
+-- for bodies alone, those of other crates too
 -- Goals picked by marks.
 use Rattle.std.specs.Prelude.{ℕ, ◌-◌, ◌<◌, ◌≤◌, List, map}
 use Rattle.row_book.specs.Book.{listed_for}

@@ -1,3 +1,4 @@
+-- for the bodies of this crate alone
 -- A solver for any choice of conflicts.
 use Rattle.std.specs.Prelude.{List, length}
 use Rattle.clause_pool.specs.Interned.{Interned}

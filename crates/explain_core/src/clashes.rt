@@ -5,10 +5,11 @@ ghost use Rattle.clause_solver.specs.Outcomes.{IsBudget};
 ghost use Rattle.row_book.specs.Book.{repository_of, PairsFit};
 ghost use Rattle.row_book.specs.Needs.{NeedsFit};
 ghost use Rattle.row_book.specs.declared.pair.Pair.{Pair};
-ghost use Rattle.explain_core.specs.Deletion.{kept_by, kept_of};
+ghost use Rattle.explain_core.specs.Deletion.{is_no, kept_by, kept_of};
 ghost use Rattle.explain_core.specs.Reasons.{clashes_of, is_spent, reasons_of, told_pairs, verdict_over};
 ghost use Rattle.explain_core.specs.Solving.{SolvesAny};
 
+use crate::blocks::{block_behind, count_of, half, is_no, twice};
 use crate::conflicts::conflicts_within;
 use crate::explanation::{Clash, ClashList};
 use crate::reach::reach_of;
@@ -49,6 +50,24 @@ fn verdict_over(
     let chosen = Book::build(alloc, pool, book.rows.as_slice(), pairs)?;
     let verdict = solver.verdict(alloc, pool, &chosen, goals, budget)?;
     Ok(verdict)
+}
+
+/// Whether the goals clash at once where these pairs alone conflict: the whole tree is one failed leaf.
+fn clash_at_once(
+    alloc: Global,
+    pool: &Pool,
+    book: &Book,
+    solver: &Solver,
+    goals: &Needs,
+    pairs: &[Pair],
+) -> Result<bool, AllocError>
+    requires solver { SolvesAny pool.now book.now solver.now }
+    requires goals { NeedsFit (length book.now.rows) goals.now }
+    requires pairs { PairsFit pairs.now (length book.now.rows) }
+    ensures { IfOk result (λ clash. clash ≡ is_no (verdict_over (repository_of pool.now book.now) 1 goals.now pairs.now)) }
+{
+    let verdict = verdict_over(alloc, pool, book, solver, goals, pairs, 1)?;
+    Ok(is_no(verdict))
 }
 
 /// The others of a conflict: those before it that were kept, and all behind it.
@@ -102,10 +121,30 @@ fn reasons_among(
     ensures { IfOk result (λ clashes. clashes ≡ clashes_of (kept_of (verdict_over (repository_of pool.now book.now) budget goals.now) pairs.now)) }
 {
     let mut clashes = ClashList::new(alloc);
-    for place in 0..pairs.len() {
-        let rest = others(alloc, clashes.as_slice(), &pairs[place + 1..])?;
-        let verdict = verdict_over(alloc, pool, book, solver, goals, rest.as_slice(), budget)?;
+    let mut at_once = clash_at_once(alloc, pool, book, solver, goals, pairs)?;
+    let mut block: u64 = 1;
+    let mut place: usize = 0;
+    while place < pairs.len() {
+        let count = count_of(block, (pairs.len() - place) as u64) as usize;
+        let made = others(alloc, clashes.as_slice(), &pairs[place + count..])?;
+        let rest = made.as_slice();
+        if count > 1 {
+            // Where the goals clash at once by the others of the whole block, so they do by more, and no pair of the block matters.
+            if clash_at_once(alloc, pool, book, solver, goals, rest)? {
+                place += count;
+                block = twice(count as u64);
+                continue;
+            }
+            block = half(count as u64);
+            continue;
+        }
+        let verdict = verdict_over(alloc, pool, book, solver, goals, rest, budget)?;
+        if at_once && is_no(verdict) {
+            at_once = clash_at_once(alloc, pool, book, solver, goals, rest)?;
+        }
+        block = block_behind(at_once, verdict);
         tell_by(&mut clashes, pairs[place], verdict)?;
+        place += 1;
     }
     Ok(clashes)
 }

@@ -9,10 +9,10 @@ use row_book::{Book, Pair};
 use std::alloc::{AllocError, Global};
 
 /// Whether the flag of a package is up.
-fn is_up(flags: &[bool], package: u32) -> bool
-    ensures { result ≡ flag flags.now «package» }
+fn is_up(flags: &[bool], number: u32) -> bool
+    ensures { result ≡ flag flags.now number }
 {
-    flags.get(package as usize).copied().unwrap_or(false)
+    flags.get(number as usize).copied().unwrap_or(false)
 }
 
 /// Puts the conflicts of a package with greater ones of the set behind the others.

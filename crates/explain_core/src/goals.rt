@@ -3,11 +3,13 @@ ghost use Rattle.std.specs.Prelude.{◌≡◌, ◌-◌, ◌≤◌, ◌<◌, ◌+
 ghost use Rattle.clause_solver.specs.Outcomes.{IsBudget};
 ghost use Rattle.clause_solver.specs.Solvers.{IsReady};
 ghost use Rattle.row_book.specs.Book.{repository_of};
-ghost use Rattle.suite_compare.specs.Asking.{images_of};
+ghost use Rattle.row_book.specs.Needs.{NeedsFit};
+ghost use Rattle.suite_compare.specs.Asking.{images_of, tree_of, verdict_of};
 ghost use Rattle.explain_core.specs.Core.{core_of, marks_of};
-ghost use Rattle.explain_core.specs.Deletion.{kept_by};
+ghost use Rattle.explain_core.specs.Deletion.{is_no, kept_by};
 ghost use Rattle.explain_core.specs.Picking.{picked, ArePlacesFrom1};
 
+use crate::blocks::{block_behind, count_of, half, is_no, twice};
 use crate::explanation::{Mark, MarkList};
 use clause_solver::{Solver, Verdict};
 use repo_model::Goal;
@@ -76,6 +78,21 @@ fn mark_by(marks: &mut MarkList, goal: u64, verdict: Verdict) -> Result<(), Allo
     }
 }
 
+/// Whether these classes clash at once: the whole tree is one failed leaf.
+fn clash_at_once(
+    alloc: Global,
+    view: &SuiteView,
+    solver: &Solver,
+    classes: &Needs,
+) -> Result<bool, AllocError>
+    requires ready { IsReady (repository_of view.now.pool view.now.kernel.book) solver.now }
+    requires fit { NeedsFit (length view.now.kernel.book.rows) classes.now }
+    ensures { IfOk result (λ clash. clash ≡ is_no (verdict_of 1 (tree_of (repository_of view.now.pool view.now.kernel.book) classes.now))) }
+{
+    let verdict = solver.verdict(alloc, &view.pool, &view.kernel.book, classes, 1)?;
+    Ok(is_no(verdict))
+}
+
 /// The core of the goals, whose classes are given with a solver of the kernel.
 pub(crate) fn core_of(
     alloc: Global,
@@ -91,10 +108,30 @@ pub(crate) fn core_of(
     ensures { IfOk result (λ marks. marks ≡ marks_of (core_of view.now.limit view.now.kernel.hold view.now.suite.home view.now.suite.packages budget goals.now)) }
 {
     let mut marks = MarkList::new(alloc);
-    for place in 0..classes.count() {
-        let rest = others(alloc, classes, marks.as_slice(), place + 1)?;
+    let all = classes.count();
+    let mut at_once = clash_at_once(alloc, view, solver, classes)?;
+    let mut block: u64 = 1;
+    let mut place: u64 = 0;
+    while place < all {
+        let count = count_of(block, all - place);
+        let rest = others(alloc, classes, marks.as_slice(), place + count)?;
+        if count > 1 {
+            // Where the others of the whole block clash at once, so do more goals, and no goal of the block matters.
+            if clash_at_once(alloc, view, solver, &rest)? {
+                place += count;
+                block = twice(count);
+                continue;
+            }
+            block = half(count);
+            continue;
+        }
         let verdict = solver.verdict(alloc, &view.pool, &view.kernel.book, &rest, budget)?;
+        if at_once && is_no(verdict) {
+            at_once = clash_at_once(alloc, view, solver, &rest)?;
+        }
+        block = block_behind(at_once, verdict);
         mark_by(&mut marks, place + 1, verdict)?;
+        place += 1;
     }
     Ok(marks)
 }

@@ -2,15 +2,19 @@
 #![tactic(auto)]
 
 mod asking;
+mod blocks;
 mod clashes;
 mod conflicts;
-pub mod explaining;
-pub mod explanation;
+mod explaining;
+mod explanation;
 mod goals;
 mod laws;
 mod met;
 mod reach;
 
+// Goals are explained.
 pub use explaining::explain;
 pub use explanation::{Clash, ClashList, ExplainError, Explanation, Mark, MarkList};
+
+// Laws.
 pub use laws::reach_is_least;

@@ -58,16 +58,16 @@ impl Met {
     }
 
     /// Meets a package, unless it was met before.
-    fn meet(&mut self, package: u32) -> Result<(), AllocError>
-        requires { «package» < self.old.0 }
+    fn meet(&mut self, number: u32) -> Result<(), AllocError>
+        requires { number < self.old.0 }
         ensures size { OnOk result (self.new.0 ≡ self.old.0) }
-        ensures put { OnOk result (Meets self.old.1 self.new.1 («package» ∷ [])) }
+        ensures put { OnOk result (Meets self.old.1 self.new.1 (number ∷ [])) }
     {
-        if self.flags[package as usize] {
+        if self.flags[number as usize] {
             return Ok(());
         }
-        self.order.push(package)?;
-        self.flags[package as usize] = true;
+        self.order.push(number)?;
+        self.flags[number as usize] = true;
         Ok(())
     }
 
@@ -77,8 +77,8 @@ impl Met {
         ensures size { OnOk result (self.new.0 ≡ self.old.0) }
         ensures put { OnOk result (Meets self.old.1 self.new.1 clause.now) }
     {
-        for package in clause {
-            self.meet(*package)?;
+        for number in clause {
+            self.meet(*number)?;
         }
         Ok(())
     }

@@ -39,8 +39,8 @@ pub(crate) fn reach_of(
     met.meet_goals(goals)?;
     let mut place = 0;
     while place < met.as_slice().len() {
-        let package = met.as_slice()[place];
-        meet_needs(pool, book, package, &mut met)?;
+        let number = met.as_slice()[place];
+        meet_needs(pool, book, number, &mut met)?;
         place += 1;
     }
     Ok(met.into_flags())

@@ -4,6 +4,8 @@ use Rattle.std.specs.List.{list_any, find, flat_map}
 use Rattle.std.specs.Option.{option_and_then}
 use Rattle.std.proofs.Math.ListN.{get_or-eq_default}
 use Rattle.std.proofs.lemmas.Bool.{cases_Bool, cases_eq, cases_lt, and_parts, and_from, or_right, both_ways, false_from_ne_true, not-true, not_from_false, eqb-true, eq-eqb}
+use Rattle.listed.proofs.Lists.{none_in}
+use Rattle.listed.proofs.Bools.{cases_Option, lighter}
 use Rattle.row_book.specs.Sets.{NumSet, Is, In, here, Within, HitsAll, has, plus, union}
 use Rattle.row_book.specs.Clauses.{subsets}
 use Rattle.row_book.specs.Repository.{Repository, Healthy, clauses_of, conflicts_of, against}
@@ -21,15 +23,6 @@ use Rattle.install_lift.specs.Trimming.Trims.{ends, puts}
 use Rattle.install_lift.proofs.Lowering.{served_row, row_served, hit_more}
 use Rattle.install_lift.proofs.Lifted.{lifts_one}
 use Rattle.install_lift.proofs.Trimmed.{find_in, find_num, plus_part}
-
-cases_Option : {X : Type 0} (o : Option X) → (o ≡ None) ⊎ ((x : X) × (o ≡ Some x))
-cases_Option None = inl refl
-cases_Option (Some x) = inr (x, refl)
-
--- an empty list, as a test
-none_in : (xs : List ℕ) → ((m : ℕ) → has xs m ≡ false) → eqb (length xs) 0 ≡ true
-none_in [] h = refl
-none_in (x ∷ xs) h = let at : In x (x ∷ xs) = here in absurd (both_ways (has (x ∷ xs) x) (h x) (In_has at))
 
 empty_has : (xs : List ℕ) → eqb (length xs) 0 ≡ true → (m : ℕ) → has xs m ≡ false
 empty_has [] h m = refl
@@ -142,14 +135,9 @@ outside_most (suc n) S = let a = one (S n) in let b = outside_most n S in omega 
     one true = omega arith
     one false = omega arith
 
-outside_one : (a b : Bool) → cond (a || b) 0 1 ≤ cond a 0 1
-outside_one true b = omega arith
-outside_one false true = omega arith
-outside_one false false = omega arith
-
 outside_grows : (n : ℕ) (S : NumSet) (p : ℕ) → outside n (plus S p) ≤ outside n S
 outside_grows zero S p = omega arith
-outside_grows (suc n) S p = let a = outside_one (S n) (eqb n p) in let b = outside_grows n S p in omega (arith, a, b)
+outside_grows (suc n) S p = let a = lighter (S n) (eqb n p) in let b = outside_grows n S p in omega (arith, a, b)
 
 outside_less : (n : ℕ) (S : NumSet) (p : ℕ) → p < n → S p ≡ false → outside n (plus S p) < outside n S
 outside_less zero S p lt e = absurd (omega arith)
@@ -159,7 +147,7 @@ outside_less (suc n) S p lt e = elim (cases_eq n p) [
       let now : (S n || eqb n p) ≡ true = or_right (S n) (eqb n p) (eq-eqb n p same) in
       let was : S n ≡ false = ap S same ∙ e in
       rw (now, was) (omega (arith, rest))
-  | inr ne ↦ let a = outside_one (S n) (eqb n p) in let b = outside_less n S p (omega arith) e in omega (arith, a, b)
+  | inr ne ↦ let a = lighter (S n) (eqb n p) in let b = outside_less n S p (omega arith) e in omega (arith, a, b)
 ]
 
 after_stays : (k : ℕ) (R : Repository) (goals : List (List ℕ)) (chosen S : NumSet) → next_put R goals chosen S ≡ None → trim_after k R goals chosen S ≡ S

@@ -5,6 +5,7 @@ use Rattle.std.specs.List.{list_any, sum_by}
 use Rattle.std.proofs.lemmas.Bool.{cases_Bool, cases_eq, cases_lt, or_cases, or_left, or_right, both_ways, false_from_ne_true}
 use Rattle.std.proofs.lemmas.List.{length-map, length-replicate, get_or-replicate, get_or_past, get_or-set_same, get_or-set_other}
 use Rattle.std.proofs.lemmas.List.Sums.{sum_by-set, sum_by-cons}
+use Rattle.listed.proofs.Lists.{none_in}
 use Rattle.clause_pool.specs.Interned.{Interned, row_at, clause_at, clauses_at, ids_at}
 use Rattle.row_book.specs.Sets.{NumSet, Is, In, here, there, Within, Hit, has}
 use Rattle.row_book.specs.Repository.{Repository, clauses_of, against}
@@ -207,10 +208,6 @@ none_listed : (xs : List ℕ) (n : ℕ) → eqb (length xs) 0 ≡ true → has x
 none_listed [] n h = refl
 none_listed (x ∷ xs) n h = absurd (let e = eqb-true (length (x ∷ xs)) 0 h in omega (arith, e))
 
-listed_none : (xs : List ℕ) → ((n : ℕ) → has xs n ≡ false) → eqb (length xs) 0 ≡ true
-listed_none [] h = refl
-listed_none (x ∷ xs) h = absurd (both_ways (has (x ∷ xs) x) (h x) (In_has {n = x} {T = x ∷ xs} here))
-
 pub free_all : (pool : Interned) (book : Book) (k : ℕ) (I : NumSet) (flags : List Bool) (table : List (List ℕ)) (work : List ℕ) → Sound pool book → k ≡ length book.rows → AreFree book.conflicts k flags → table ≡ replicate (length book.rows) [] → work ≡ []
     → IsLowering (repository_of pool book) I (flag flags) 0 table work
 free_all pool book k I flags table work sound e inv f g = record {
@@ -222,7 +219,7 @@ free_all pool book k I flags table work sound e inv f g = record {
       );
   greatest = λ K served n i.
       let lt : n < k = subst (λ z. n < z) (length_map (row_at pool) book.rows ∙ sym e) (served.packages n i) in
-      inv.each n lt ∙ listed_none (listed_for book.conflicts n) (λ m. (served.free n m i).0);
+      inv.each n lt ∙ none_in (listed_for book.conflicts n) (λ m. (served.free n m i).0);
   settled = λ n lt j. absurd (omega (arith, lt));
   waiting = λ n i. absurd (In_none (rw g at i));
   users = record {

@@ -18,7 +18,7 @@ use Rattle.row_book.specs.Clauses.{numbers}
 use Rattle.row_book.specs.Flags.{flag}
 use Rattle.row_book.specs.Repository.{Repository, Healthy, clauses_of}
 use Rattle.row_book.specs.Flattening.{packages}
-use Rattle.row_book.proofs.Lists.{any_from, any_cases}
+use Rattle.row_book.proofs.Lists.{any_from, any_cases, any_hit}
 use Rattle.row_book.proofs.Flags.{flag_in}
 use Rattle.install_lift.specs.Trimming.{member_clauses, is_unhit, first_need, IsTrim, IsTrimming, AreMet}
 use Rattle.install_lift.specs.Trimming.Trims.{ends, puts}
@@ -139,9 +139,6 @@ goal_now flags new chosen n g lt e first = rw (e, flag_plus flags n lt) (any_wit
 pub chosen_below : (chosen flags : List Bool) (c : List ℕ) (n : ℕ) → length flags ≡ length chosen → find (flag chosen) c ≡ Some n → n < length flags
 chosen_below chosen flags c n long first = rw long (flag_in chosen n (find_num (flag chosen) c n first).1)
 
-pub hit_any' : (S : NumSet) (c : List ℕ) → Hit (Is S) c → list_any S c ≡ true
-hit_any' S c h = any_from S c h.by h.inside h.alive
-
 pub fewer_down : (flags new : List Bool) (c : List ℕ) (chosen : NumSet) (n : ℕ) → n < length flags → new ≡ set flags n true → find chosen c ≡ Some n → is_unhit (flag flags) c ≡ true → count_by not new + 1 ≡ count_by not flags
 fewer_down flags new c chosen n lt e first opened =
     let out : flag flags n ≡ false = false_from_ne_true (flag flags n) (λ t. both_ways (list_any (flag flags) c) (not-true (list_any (flag flags) c) opened) (any_from (flag flags) c n (find_num chosen c n first).0 t)) in
@@ -204,7 +201,7 @@ size_of pool book = length_map (row_at pool) book.rows
 pub chosen_hits : (R : Repository) (chosen S : NumSet) (place : ℕ) (c : List ℕ) → Healthy R chosen → Within S chosen → S place ≡ true → find (is_unhit S) (clauses_of R place) ≡ Some c → list_any chosen c ≡ true
 chosen_hits R chosen S place c healthy part up h =
     let w = find_in (is_unhit S) (clauses_of R place) c h in
-    hit_any' chosen c (healthy.abundance place (part place up) c w.0)
+    any_hit chosen c (healthy.abundance place (part place up) c w.0)
 
 pub opened : (R : Repository) (S : NumSet) (place : ℕ) (c : List ℕ) → find (is_unhit S) (clauses_of R place) ≡ Some c → is_unhit S c ≡ true
 opened R S place c h = (find_in (is_unhit S) (clauses_of R place) c h).1

@@ -2,6 +2,7 @@
 use Rattle.std.proofs.Common.{◌≡◌, ℕ, Bool, true, false, eqb, List, [], ◌∷◌, ◌++◌, length, refl, ap, sym, ◌∙◌, arith, inl, inr, subst, Some, None}
 use Rattle.std.specs.List.{list_any, find, flat_map}
 use Rattle.std.proofs.lemmas.Bool.{cases_Bool, or_cases, not-false, eqb-true}
+use Rattle.std.proofs.lemmas.Option.{same_Some}
 use Rattle.row_book.specs.Sets.{NumSet, In, here, there, Within, plus}
 use Rattle.row_book.specs.Repository.{Repository, Healthy}
 use Rattle.row_book.specs.Flattening.{packages}
@@ -72,16 +73,13 @@ trims_part R goals chosen S T healthy part (puts c n first least rest) = trims_p
 pub trim_is_healthy : TrimIsHealthy
 trim_is_healthy R goals chosen T healthy hits is = trims_part R goals chosen (λ n. false) T healthy (λ n h. absurd (cc h)) is
 
-some_same : {X : Type 0} (x y : X) → Some x ≡ Some y → x ≡ y
-some_same x y e = cc
-
 trims_one : (R : Repository) (goals : List (List ℕ)) (chosen A S T : NumSet) → Trims R goals chosen A S → Trims R goals chosen A T → T ≡ S
 trims_one R goals chosen A S T (ends none) (ends other) = refl
 trims_one R goals chosen A S T (ends none) (puts c n first least rest) = absurd (cc (none, first))
 trims_one R goals chosen A S T (puts c n first least rest) (ends none) = absurd (cc (none, first))
 trims_one R goals chosen A S T (puts c n first least rest) (puts d m second other more) =
-    let e : c ≡ d = some_same c d (sym first ∙ second) in
-    let f : n ≡ m = some_same n m (sym least ∙ ap (find chosen) e ∙ other) in
+    let e : c ≡ d = same_Some c d (sym first ∙ second) in
+    let f : n ≡ m = same_Some n m (sym least ∙ ap (find chosen) e ∙ other) in
     trims_one R goals chosen (plus A n) S T rest (subst (λ k. Trims R goals chosen (plus A k) T) (sym f) more)
 
 pub trim_is_one : TrimIsOne

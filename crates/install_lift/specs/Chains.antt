@@ -1,3 +1,4 @@
+-- for the bodies of this crate alone
 -- Chains of entries in one list: each entry leads to one before it.
 use Rattle.std.specs.Prelude.{ℕ, zero, suc, ◌<◌, ◌≤◌, List, [], ◌∷◌, length, map, slice_index_or}
 use Rattle.install_lift.specs.declared.user_table.Entry.{Entry}

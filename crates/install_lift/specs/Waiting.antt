@@ -1,3 +1,4 @@
+-- for the bodies of this crate alone
 -- The packages that wait to be looked at.
 use Rattle.std.specs.Prelude.{◌≡◌, ℕ, ◌≤◌, true}
 use Rattle.std.specs.Ordering.{nat_cmp}

@@ -2,10 +2,10 @@
 //! kernel came from, and trimming leaves as few packages as the open needs ask for.
 #![tactic(auto)]
 
-pub mod laws;
-pub mod lifting;
+mod laws;
+mod lifting;
 mod raising;
-pub mod trimming;
+mod trimming;
 mod user_table;
 mod waiting;
 

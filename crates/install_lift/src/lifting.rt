@@ -41,8 +41,8 @@ fn front_of(alloc: Global, flags: &[bool], size: u32) -> Result<Vec<bool>, Alloc
     ensures same { IfOk result (λ made. (n : ℕ) → n < size → flag made.items n ≡ flag flags.now n) }
 {
     let mut made = Vec::new(alloc);
-    for package in 0..size {
-        made.push(is_up(flags, package))?;
+    for number in 0..size {
+        made.push(is_up(flags, number))?;
     }
     Ok(made)
 }
@@ -93,13 +93,13 @@ fn members_of(alloc: Global, class_of: &[u32], set: &[bool]) -> Result<Vec<bool>
 fn mend(
     alloc: Global,
     set: Vec<bool>,
-    package: u32,
+    number: u32,
     clause: &[u32],
     added: u32,
 ) -> Result<Vec<bool>, AllocError>
-    ensures { IfOk result (λ made. flag made.items ≡ lift_idle (flag set.items) «package» clause.now added) }
+    ensures { IfOk result (λ made. flag made.items ≡ lift_idle (flag set.items) number clause.now added) }
 {
-    if !is_up(&set, package) {
+    if !is_up(&set, number) {
         return Ok(set);
     }
     if hits_one(&set, clause) {
@@ -181,8 +181,6 @@ pub fn lift(
         IfOk result (λ set. HoldsMembers by.limit by.hold (repository_of pool.now from.now) (flag classes.now) (flag set)) }
     ensures long { IfOk result (λ set. length set ≡ length from.now.rows) }
 {
-    // What holds of every pool is told by this call alone.
-    pool.clause_count();
     let set = take_all_back(alloc, pool, trail.steps.as_slice(), classes)?;
     let flags = front_of(alloc, &set, from.size())?;
     Ok(Listed::of(flags))

@@ -1,4 +1,7 @@
 //! The greatest set of packages without conflicts that a set serves.
+//!
+//! The greatest served set is found by taking out what is not served. Each package is looked at once, and again only if
+//! something that it names was taken out.
 ghost use Rattle.std.specs.Prelude.{◌≡◌, ◌∷◌, ◌++◌, ◌<◌, ◌||◌, eqb, true, false, [], IfOk, OnOk, length, replicate, slice_set};
 ghost use Rattle.std.specs.List.{list_any};
 ghost use Rattle.clause_pool.specs.Interned.{clauses_at, OfPool};
@@ -41,11 +44,11 @@ fn serves(pool: &Pool, set: &[bool], more: &[bool], ids: &[ClauseId]) -> bool
 }
 
 /// Whether the package has no conflict.
-fn is_free(book: &Book, package: u32) -> bool
-    requires { «package» < length book.now.rows }
-    ensures { result ≡ eqb (length (listed_for book.now.conflicts «package»)) 0 }
+fn is_free(book: &Book, number: u32) -> bool
+    requires { number < length book.now.rows }
+    ensures { result ≡ eqb (length (listed_for book.now.conflicts number)) 0 }
 {
-    book.against(package).len() == 0
+    book.against(number).len() == 0
 }
 
 /// A flag for each package, up where it has no conflict.
@@ -60,34 +63,34 @@ fn free_packages(
     ensures lowering { IfOk result (λ more. IsLowering (repository_of pool.now book.now) (flag set.now) (flag more.items) 0 (replicate (length book.now.rows) []) []) }
 {
     let mut more = Vec::new(alloc);
-    for package in 0..book.size() {
-        more.push(is_free(book, package))?;
+    for number in 0..book.size() {
+        more.push(is_free(book, number))?;
     }
     Ok(more)
 }
 
 /// Whether each clause of the package is hit by the two sets together.
-fn is_served(pool: &Pool, book: &Book, set: &[bool], more: &[bool], package: u32) -> bool
+fn is_served(pool: &Pool, book: &Book, set: &[bool], more: &[bool], number: u32) -> bool
     requires sound { Sound pool.now book.now }
-    requires package { «package» < length book.now.rows }
-    ensures { result ≡ is_served (flag set.now) (flag more.now) (clauses_of (repository_of pool.now book.now) «package») }
+    requires number { number < length book.now.rows }
+    ensures { result ≡ is_served (flag set.now) (flag more.now) (clauses_of (repository_of pool.now book.now) number) }
 {
-    serves(pool, set, more, pool.row(book.row(package)))
+    serves(pool, set, more, pool.row(book.row(number)))
 }
 
 /// Puts a package to the users of each number of a clause that is up.
 fn put_to_clause(
     more: &[bool],
     clause: &[u32],
-    package: u32,
+    number: u32,
     table: &mut UserTable,
 ) -> Result<(), AllocError>
     requires { length more.now ≡ length table.old }
-    ensures { OnOk result (PutsUser (flag more.now) (clause.now ∷ []) «package» table.old table.new) }
+    ensures { OnOk result (PutsUser (flag more.now) (clause.now ∷ []) number table.old table.new) }
 {
     for n in clause {
         if is_up(more, *n) {
-            table.put(*n, package)?;
+            table.put(*n, number)?;
         }
     }
     Ok(())
@@ -98,15 +101,15 @@ fn put_to_row(
     pool: &Pool,
     more: &[bool],
     ids: &[ClauseId],
-    package: u32,
+    number: u32,
     table: &mut UserTable,
 ) -> Result<(), AllocError>
     requires of_pool { OfPool pool.now ids.now }
     requires long { length more.now ≡ length table.old }
-    ensures { OnOk result (PutsUser (flag more.now) (clauses_at pool.now ids.now) «package» table.old table.new) }
+    ensures { OnOk result (PutsUser (flag more.now) (clauses_at pool.now ids.now) number table.old table.new) }
 {
     for id in ids {
-        put_to_clause(more, pool.slice(*id), package, table)?;
+        put_to_clause(more, pool.slice(*id), number, table)?;
     }
     Ok(())
 }
@@ -116,31 +119,31 @@ fn put_user(
     pool: &Pool,
     book: &Book,
     more: &[bool],
-    package: u32,
+    number: u32,
     table: &mut UserTable,
 ) -> Result<(), AllocError>
     requires sound { Sound pool.now book.now }
-    requires package { «package» < length book.now.rows }
+    requires number { number < length book.now.rows }
     requires long { length more.now ≡ length table.old }
-    ensures { OnOk result (PutsUser (flag more.now) (clauses_of (repository_of pool.now book.now) «package») «package» table.old table.new) }
+    ensures { OnOk result (PutsUser (flag more.now) (clauses_of (repository_of pool.now book.now) number) number table.old table.new) }
 {
-    put_to_row(pool, more, pool.row(book.row(package)), package, table)
+    put_to_row(pool, more, pool.row(book.row(number)), number, table)
 }
 
 /// Takes out a package that is not served, and puts its users to the work.
 fn take_out(
     more: &mut [bool],
     table: &UserTable,
-    package: u32,
+    number: u32,
     work: &mut Vec<u32>,
 ) -> Result<(), AllocError>
-    requires up { flag more.old «package» ≡ true }
+    requires up { flag more.old number ≡ true }
     requires long { length more.old ≡ length table.now }
-    ensures more { more.new ≡ slice_set more.old «package» false }
-    ensures work { OnOk result (work.new.items ≡ work.old.items ++ listed_for table.now «package») }
+    ensures more { more.new ≡ slice_set more.old number false }
+    ensures work { OnOk result (work.new.items ≡ work.old.items ++ listed_for table.now number) }
 {
-    more[package as usize] = false;
-    table.add_users(package, work)
+    more[number as usize] = false;
+    table.add_users(number, work)
 }
 
 /// Looks at each package once, and takes out those that are not served; puts the others to the users of what they name.
@@ -157,15 +160,15 @@ fn sweep(
     requires lowering { IsLowering (repository_of pool.now book.now) (flag set.now) (flag more.old) 0 table.old work.old.items }
     ensures lowering { OnOk result (IsLowering (repository_of pool.now book.now) (flag set.now) (flag more.new) (length book.now.rows) table.new work.new.items) }
 {
-    for package in 0..book.size() {
-        if !is_up(more, package) {
+    for number in 0..book.size() {
+        if !is_up(more, number) {
             continue;
         }
-        if is_served(pool, book, set, more, package) {
-            put_user(pool, book, more, package, table)?;
+        if is_served(pool, book, set, more, number) {
+            put_user(pool, book, more, number, table)?;
             continue;
         }
-        take_out(more, table, package, work)?;
+        take_out(more, table, number, work)?;
     }
     Ok(())
 }
@@ -184,14 +187,14 @@ fn lower(
     requires lowering { IsLowering (repository_of pool.now book.now) (flag set.now) (flag more.old) (length book.now.rows) table.now work.old.items }
     ensures { OnOk result (Lifts (repository_of pool.now book.now) (flag set.now) (flag more.new)) }
 {
-    while let Some(package) = work.pop() {
-        if !is_up(more, package) {
+    while let Some(number) = work.pop() {
+        if !is_up(more, number) {
             continue;
         }
-        if is_served(pool, book, set, more, package) {
+        if is_served(pool, book, set, more, number) {
             continue;
         }
-        take_out(more, table, package, work)?;
+        take_out(more, table, number, work)?;
     }
     Ok(())
 }

@@ -109,12 +109,12 @@ fn trim_clauses(
     requires trimming { IsTrimming (repository_of pool.now book.now) goals.now (flag chosen.now) (flag set.old) }
     ensures { OnOk result (IsTrim (repository_of pool.now book.now) goals.now (flag chosen.now) (flag set.new)) }
 {
-    while let Some(package) = waiting.take_first() {
-        let Some(id) = first_unhit(pool, set, pool.row(book.row(package))) else {
+    while let Some(number) = waiting.take_first() {
+        let Some(id) = first_unhit(pool, set, pool.row(book.row(number))) else {
             continue;
         };
         let n = put_first(chosen, set, pool.slice(id));
-        waiting.put(package)?;
+        waiting.put(number)?;
         waiting.put(n)?;
     }
     Ok(())

@@ -1,4 +1,6 @@
 //! For each package its users: entries in one vector, in which those of a package are a chain, the newest first.
+//!
+//! The table is made once and then only read, so one vector with chains does, and a package without a user takes no block.
 ghost use Rattle.std.specs.Prelude.{◌≡◌, ◌<◌, ◌≤◌, ◌∷◌, ◌++◌, [], IfOk, OnOk, length, replicate, slice_set};
 ghost use Rattle.row_book.specs.Book.{listed_for};
 ghost use Rattle.install_lift.specs.Chains.{chain, Falls};
@@ -45,22 +47,22 @@ impl UserTable {
     }
 
     /// Puts a user in front of those of a package.
-    pub(crate) fn put(&mut self, package: u32, user: u32) -> Result<(), AllocError>
-        requires { «package» < length self.old }
-        ensures { OnOk result (self.new ≡ slice_set self.old «package» (user ∷ listed_for self.old «package»)) }
+    pub(crate) fn put(&mut self, number: u32, user: u32) -> Result<(), AllocError>
+        requires { number < length self.old }
+        ensures { OnOk result (self.new ≡ slice_set self.old number (user ∷ listed_for self.old number)) }
     {
-        let before = self.heads[package as usize];
+        let before = self.heads[number as usize];
         self.entries.push(Entry { user, before })?;
-        self.heads[package as usize] = self.entries.len();
+        self.heads[number as usize] = self.entries.len();
         Ok(())
     }
 
     /// Puts the users of a package behind a list.
-    pub(crate) fn add_users(&self, package: u32, list: &mut Vec<u32>) -> Result<(), AllocError>
-        requires { «package» < length self.now }
-        ensures { OnOk result (list.new.items ≡ list.old.items ++ listed_for self.now «package») }
+    pub(crate) fn add_users(&self, number: u32, list: &mut Vec<u32>) -> Result<(), AllocError>
+        requires { number < length self.now }
+        ensures { OnOk result (list.new.items ≡ list.old.items ++ listed_for self.now number) }
     {
-        let head = self.heads[package as usize];
+        let head = self.heads[number as usize];
         add_chain(self.entries.as_slice(), head, list)
     }
 }

@@ -1,4 +1,6 @@
 //! The packages that wait to be looked at.
+//!
+//! They stand in an ordered set, the least first, so none is looked at again once its clauses are hit.
 ghost use Rattle.std.specs.Prelude.{◌≡◌, ◌+◌, ◌≤◌, ℕ, false, IfNone, IfSome, OnOk};
 ghost use Rattle.row_book.specs.Sets.{plus, without};
 ghost use Rattle.install_lift.specs.Waiting.{is_waiting, waiting_count, IsLeast};
@@ -23,11 +25,11 @@ impl Waiting {
     }
 
     /// Puts a package to those that wait.
-    pub(crate) fn put(&mut self, package: u32) -> Result<(), AllocError>
-        ensures put { OnOk result ((q : ℕ) → is_waiting self.new q ≡ plus (is_waiting self.old) «package» q) }
+    pub(crate) fn put(&mut self, number: u32) -> Result<(), AllocError>
+        ensures put { OnOk result ((q : ℕ) → is_waiting self.new q ≡ plus (is_waiting self.old) number q) }
         ensures count { OnOk result (waiting_count self.new ≤ waiting_count self.old + 1) }
     {
-        self.packages.insert(package)?;
+        self.packages.insert(number)?;
         Ok(())
     }
 

@@ -5,6 +5,7 @@ use Rattle.std.specs.Prelude.{ltb}
 use Rattle.std.specs.List.{find}
 use Rattle.std.specs.Option.{option_map}
 use Rattle.std.proofs.lemmas.List.{length-map}
+use Rattle.listed.proofs.Lists.{filter_short}
 use Rattle.row_book.specs.Clauses.{numbers}
 use Rattle.row_book.specs.Flattening.{Passed, first_some, flat, packages, passed_at, passes, remaining_after, row_length}
 use Rattle.row_book.specs.Merging.{class_of, first_of, firsts, is_first, place_of}
@@ -18,9 +19,9 @@ use Rattle.row_book.proofs.Lists.{In_cases, In_none, In_map_cases, find_some}
 use Rattle.row_book.proofs.Order.{length_numbers, numbers_from, numbers_parts}
 use Rattle.class_merge.proofs.Classes.{alike_self, first_within, has_class_lem}
 use Rattle.class_merge.proofs.Groups.{class_unique}
+use Rattle.class_merge.proofs.Plain.{firsts_le}
 use Rattle.kernel_rounds.proofs.Flattened.{flat_size}
 use Rattle.kernel_rounds.proofs.Tails.{round_size, round_sound, thin_tail}
-use Rattle.kernel_rounds.proofs.Thins.{filter_short}
 
 -- a round has a package for each class of the flattened repository, and stays sound
 sized : (limit : ℕ) (hold : Bool) → (R : Repository) → SoundRepository R → length (round limit hold R).clauses ≡ length (firsts (flat limit hold R))
@@ -57,19 +58,12 @@ class_met limit hold (suc n) R s k l =
       class = ap (class_after limit hold (round limit hold R) n) (sym (class_unique (flat limit hold R) (first_of (flat limit hold R) w.by) w.by least named (alike_self (flat limit hold R) (first_of (flat limit hold R) w.by)))) ∙ w.class;
     }
 
-firsts_few : (R : Repository) → length (firsts R) ≤ length R.clauses
-unfolding firsts
-firsts_few R =
-    let l : length (filter (is_first R) (packages R)) ≤ length (packages R) = filter_short (is_first R) (packages R) in
-    let same : length (packages R) ≡ length R.clauses = sym (length-map (packages R) (λ p. p)) ∙ length_numbers (λ p. p) (length R.clauses) 0 in
-    omega arith
-
 -- there are no more classes than packages
 pub classes_few : (limit : ℕ) (hold : Bool) → (n : ℕ) (R : Repository) → SoundRepository R → length (rounds limit hold R n).clauses ≤ length R.clauses
 classes_few limit hold zero R s = omega arith
 classes_few limit hold (suc n) R s =
     let later : length (rounds limit hold (round limit hold R) n).clauses ≤ length (round limit hold R).clauses = classes_few limit hold n (round limit hold R) (stays_sound limit hold R s) in
-    let few : length (firsts (flat limit hold R)) ≤ length (flat limit hold R).clauses = firsts_few (flat limit hold R) in
+    let few : length (firsts (flat limit hold R)) ≤ length (flat limit hold R).clauses = firsts_le (flat limit hold R) in
     omega (arith, sized limit hold R s, flat_size limit hold R)
 
 -- the first of some options is one of them
@@ -80,15 +74,15 @@ first_in (Some y ∷ xs) x e = subst (λ o. In o (Some y ∷ xs)) e here
 
 -- the row that passes a limit is that of a package
 passed_row : (R : Repository) (count : ℕ → ℕ) (limit i : ℕ) (p : Passed) (found : Option ℕ) → find (λ q. ltb limit (count q)) (packages R) ≡ found →
-    option_map (λ q. record { gone = i; «package» = q; count = count q }) found ≡ Some p → p.«package» < length R.clauses
+    option_map (λ q. record { gone = i; over = q; count = count q }) found ≡ Some p → p.over < length R.clauses
 passed_row R count limit i p None is e = absurd (let k : ⊥ = cc in k)
 passed_row R count limit i p (Some q) is e =
     let inside : In q (packages R) = (find_some (λ q. ltb limit (count q)) (packages R) q is).0 in
-    let same : q ≡ p.«package» = let made : record { gone = i; «package» = q; count = count q } ≡ p = cc in ap (λ (x : Passed). x.«package») made in
+    let same : q ≡ p.over = let made : record { gone = i; over = q; count = count q } ≡ p = cc in ap (λ (x : Passed). x.over) made in
     let low : (0 ≤ q) × (q < 0 + length R.clauses) = numbers_parts (length R.clauses) 0 q inside in
     omega arith
 
-passed_inside : (limit : ℕ) (hold : Bool) (R : Repository) (p : Passed) → passes limit hold R ≡ Some p → p.«package» < length R.clauses
+passed_inside : (limit : ℕ) (hold : Bool) (R : Repository) (p : Passed) → passes limit hold R ≡ Some p → p.over < length R.clauses
 unfolding passes
 passed_inside limit hold R p e =
     let stages : List ℕ = numbers (cond hold 1 (suc (length R.clauses))) 0 in
@@ -117,15 +111,15 @@ least_inside limit hold R s n k l =
     omega arith
 
 -- the package that is named where a round passes the limit is one of the repository's
-pub limit_inside : (limit : ℕ) (hold : Bool) (R : Repository) → SoundRepository R → (w : PassedRound) → limit_at limit hold R ≡ Some w → w.«package» < length R.clauses
+pub limit_inside : (limit : ℕ) (hold : Bool) (R : Repository) → SoundRepository R → (w : PassedRound) → limit_at limit hold R ≡ Some w → w.over < length R.clauses
 unfolding limit_at
 limit_inside limit hold R s w e =
     let stage : (i : ℕ) × In i (numbers (suc (round_count limit hold R)) 0) × (Some w ≡ passed_in_round limit hold R i) =
     In_map_cases (passed_in_round limit hold R) (numbers (suc (round_count limit hold R)) 0) (Some w) (first_in (map (passed_in_round limit hold R) (numbers (suc (round_count limit hold R)) 0)) w e) in
     by_round stage.0 (passes limit hold (rounds limit hold R stage.0)) refl (sym stage.2)
   where
-    by_round : (i : ℕ) (found : Option Passed) → passes limit hold (rounds limit hold R i) ≡ found → option_map (in_round limit hold R i) found ≡ Some w → w.«package» < length R.clauses
+    by_round : (i : ℕ) (found : Option Passed) → passes limit hold (rounds limit hold R i) ≡ found → option_map (in_round limit hold R i) found ≡ Some w → w.over < length R.clauses
     by_round i None is e = absurd (let k : ⊥ = cc in k)
     by_round i (Some p) is e =
         let made : in_round limit hold R i p ≡ w = cc in
-        subst (λ (v : PassedRound). v.«package» < length R.clauses) made (least_inside limit hold R s i p.«package» (passed_inside limit hold (rounds limit hold R i) p is))
+        subst (λ (v : PassedRound). v.over < length R.clauses) made (least_inside limit hold R s i p.over (passed_inside limit hold (rounds limit hold R i) p is))

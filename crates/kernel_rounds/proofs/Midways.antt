@@ -5,6 +5,7 @@ use Rattle.std.specs.Option.{option_map}
 use Rattle.std.proofs.lemmas.Bool.{cases_eq, cases_lt, both_ways}
 use Rattle.std.proofs.lemmas.List.{map-append}
 use Rattle.clause_pool.specs.Interned.{Interned, IsPool, Kept}
+use Rattle.clause_pool.proofs.Interned.{kept_same}
 use Rattle.clause_flatten.specs.declared.error.FlatError.{FlatError}
 use Rattle.clause_flatten.specs.declared.error.FlatError.TheVariants as faults
 use Rattle.clause_flatten.specs.Refusals.{OnLimit}
@@ -14,7 +15,7 @@ use Rattle.row_book.specs.declared.trail.Step.TheVariants.{Flat, Idle, Merge}
 use Rattle.row_book.specs.Sets.{In, here, there}
 use Rattle.row_book.specs.Clauses.{numbers}
 use Rattle.row_book.specs.Repository.{Repository}
-use Rattle.row_book.specs.Book.{repository_of, Sound}
+use Rattle.row_book.specs.Book.{repository_of, IsSameBook, Sound}
 use Rattle.row_book.specs.Sound.{SoundRepository}
 use Rattle.row_book.specs.Flattening.{flat, first_some, held_of, packages, Passed, passes}
 use Rattle.row_book.specs.Merging.{class_list, class_of, quotient, place_of}
@@ -27,7 +28,6 @@ use Rattle.row_book.proofs.Books.{repository_kept, sound_kept}
 use Rattle.row_book.proofs.Lists.{In_append_cases, In_cases, In_none}
 use Rattle.row_book.proofs.Order.{length_numbers, map_same, numbers_parts}
 use Rattle.row_book.proofs.Repositories.{of_packages}
-use Rattle.clause_flatten.proofs.Tidied.{kept_same}
 use Rattle.class_merge.specs.Classes.{class_in}
 use Rattle.class_merge.proofs.Classes.{has_class_lem}
 use Rattle.class_merge.proofs.MergedRows.{class_at}
@@ -38,6 +38,7 @@ use Rattle.kernel_rounds.specs.Moving.{HasSteps}
 use Rattle.kernel_rounds.proofs.Flattened.{flat_size}
 use Rattle.kernel_rounds.proofs.Reached.{kernel_is_lem, repository_test, rounds_sound, same_from}
 use Rattle.kernel_rounds.proofs.Tails.{round_size, thin_tail}
+use Rattle.kernel_rounds.proofs.Classes.{class_within}
 
 -- the last of some rounds
 rounds_last : (limit : ℕ) (hold : Bool) → (n : ℕ) (R : Repository) → rounds limit hold R (suc n) ≡ round limit hold (rounds limit hold R n)
@@ -51,14 +52,6 @@ class_last limit hold (suc n) R p = class_last limit hold n (round limit hold R)
 steps_last : (limit : ℕ) (hold : Bool) → (n : ℕ) (R : Repository) → steps_after limit hold R (suc n) ≡ steps_after limit hold R n ++ round_steps limit hold (rounds limit hold R n)
 steps_last limit hold zero R = append-nil (round_steps limit hold R)
 steps_last limit hold (suc n) R = ap (λ z. round_steps limit hold R ++ z) (steps_last limit hold n (round limit hold R)) ∙ sym (append_assoc (round_steps limit hold R) (steps_after limit hold (round limit hold R) n) (round_steps limit hold (rounds limit hold (round limit hold R) n)))
-
-class_within : (limit : ℕ) (hold : Bool) → (n : ℕ) (R : Repository) → SoundRepository R → (p : ℕ) → p < length R.clauses → class_after limit hold R n p < length (rounds limit hold R n).clauses
-unfolding round
-class_within limit hold zero R s p l = l
-class_within limit hold (suc n) R s p l =
-    let m : p < length (flat limit hold R).clauses = subst (λ z. p < z) (sym (flat_size limit hold R)) l in
-    let k : class_of (flat limit hold R) p < length (round limit hold R).clauses = subst (λ z. class_of (flat limit hold R) p < z) (sym (round_size limit hold (λ R. thin (prune R)) thin_tail R s)) (has_class_lem (flat limit hold R) p m).within in
-    class_within limit hold n (round limit hold R) (rounds_sound limit hold R s 1) (class_of (flat limit hold R) p) k
 
 -- the limit
 first_none : {A : Type 0} (f : ℕ → Option A) (xs : List ℕ) → ((x : ℕ) → In x xs → f x ≡ None) → first_some (map f xs) ≡ None
@@ -140,6 +133,19 @@ idles_sound pool (x ∷ xs) (y ∷ ys) e step i =
       | inr j ↦ idles_sound pool xs ys (let f : trail_meaning pool xs ≡ map IdleStep ys = cc in f) step j
     ]
 
+-- and tell the same in any pool
+idle_told : (old new : Interned) (step : Step) (idle : IdleClause) → step_meaning new step ≡ IdleStep idle → step_meaning old step ≡ IdleStep idle
+idle_told old new (Flat before) idle e = absurd (let f : ⊥ = cc in f)
+idle_told old new (Idle p clause added) idle e = e
+idle_told old new (Merge class_of) idle e = absurd (let f : ⊥ = cc in f)
+
+idles_told : (old new : Interned) (steps : List Step) (idles : List IdleClause) → trail_meaning new steps ≡ map IdleStep idles → trail_meaning old steps ≡ map IdleStep idles
+idles_told old new [] idles e = e
+idles_told old new (x ∷ xs) [] e = absurd (let f : ⊥ = cc in f)
+idles_told old new (x ∷ xs) (y ∷ ys) e =
+    ap₂ (λ (a : RoundStep) (b : List RoundStep). a ∷ b) (idle_told old new x y (let f : step_meaning new x ≡ IdleStep y = cc in f))
+    (idles_told old new xs ys (let f : trail_meaning new xs ≡ map IdleStep ys = cc in f))
+
 -- what a trail tells after one more round
 pub record IsNext (limit : ℕ) (hold : Bool) (old new : Interned) (book : Book) (past steps : List Step) (changed : Bool) : Type 0 where
   pub meaning : trail_meaning new steps ≡ trail_meaning old past ++ (if changed then round_steps limit hold (repository_of old book) else [])
@@ -174,6 +180,21 @@ round_told limit hold old new book next past idle steps false is k s f c d h = r
   meaning = ap (trail_meaning new) h ∙ told_kept old new is k past f ∙ sym (append-nil (trail_meaning old past));
   sound = λ step j. sound_step old new is k step (f step (subst (λ z. In step z) h j));
 }
+
+-- what the steps of the first round tell of the pool as it was before the round
+pub first_told : (limit : ℕ) (hold : Bool) → (old new : Interned) (book before : Book) (next : List ℕ) (past idle steps : List Step) (changed : Bool) → IsPool old → IsSameBook old book old before → Sound old book → past ≡ [] →
+    next ≡ class_list (flat limit hold (repository_of old book)) → trail_meaning new idle ≡ map IdleStep (idle_steps (quotient (flat limit hold (repository_of old book)))) →
+    steps ≡ (if changed then (past ++ (Flat before ∷ (Merge next ∷ []))) ++ idle else past) → IsNext limit hold old old book [] steps changed
+first_told limit hold old new book before next past idle steps changed is same s none c d h =
+    let R : Repository = repository_of old book in
+    let w : IsNext limit hold old old before past steps changed =
+    round_told limit hold old old before next past idle steps changed is (kept_same old) (same.sound s) (λ step i. absurd (In_none (subst (λ z. In step z) none i)))
+    (c ∙ ap (λ F. class_list (flat limit hold F)) (sym same.repository))
+    (idles_told old new idle (idle_steps (quotient (flat limit hold R))) d ∙ ap (λ F. map IdleStep (idle_steps (quotient (flat limit hold F)))) (sym same.repository)) h in
+    record {
+      meaning = w.meaning ∙ ap₂ (λ xs F. trail_meaning old xs ++ (if changed then round_steps limit hold F else [])) none same.repository;
+      sound = w.sound;
+    }
 
 -- the classes of a list of classes
 classes_next : (limit : ℕ) (hold : Bool) → (R : Repository) → SoundRepository R → (i : ℕ) (classes next made : List ℕ) → classes ≡ map (class_after limit hold R i) (packages R) → next ≡ class_list (flat limit hold (rounds limit hold R i)) →
@@ -243,9 +264,9 @@ pub midway_refused : (limit : ℕ) (hold : Bool) (R : Repository) (start pool wo
     SoundRepository R → IsMidway R limit hold start pool work book classes steps number → OnLimit (λ passed. passes limit hold (repository_of work book) ≡ Some passed) fault →
     OnRoundLimit (λ passed. limit_at limit hold R ≡ Some passed) (refusal number classes fault)
 midway_refused limit hold R start pool work book classes steps number (faults.Limit gone p count) s m e =
-    let w : Passed = record { gone = gone; «package» = p; count = count } in
+    let w : Passed = record { gone = gone; over = p; count = count } in
     one_passed limit hold R s m.index w (changing limit hold R s m.index m.changed) m.passed (ap (λ z. passes limit hold z) (sym m.is) ∙ e)
-    ∙ ap Some (ap₂ (λ (n q : ℕ). record { number = n; gone = gone; «package» = q; count = count }) (sym m.counted)
+    ∙ ap Some (ap₂ (λ (n q : ℕ). record { number = n; gone = gone; over = q; count = count }) (sym m.counted)
     (sym (place_map (class_after limit hold R m.index) (λ k. eqb k p) (packages R)) ∙ ap (place_of (λ k. eqb k p)) (sym m.class_of)))
 midway_refused limit hold R start pool work book classes steps number faults.Memory s m e = tt
 
@@ -271,23 +292,29 @@ pub gained_of_same : (R S : Repository) (limit : ℕ) (hold : Bool) (start pool 
 gained_of_same R S limit hold start pool (Limit round gone p count) e h = subst (λ T. HasStepsBefore T limit hold start pool) e h
 gained_of_same R S limit hold start pool Memory e h = tt
 
--- before any round
-steps_none_yet : (pool : Interned) (steps : List Step) → steps ≡ [] → HasSteps pool pool steps []
-steps_none_yet pool steps e = record {
-  meaning = ap (trail_meaning pool) e;
-  books = λ step i. absurd (In_none (subst (λ z. In step z) e i));
+-- steps whose books are already of the pool
+pub steps_of_start : (pool : Interned) (steps : List Step) (told : List RoundStep) → trail_meaning pool steps ≡ told → SoundSteps pool steps → HasSteps pool pool steps told
+steps_of_start pool steps told e s = record {
+  meaning = e;
+  books = s;
   only = record { rows = λ id low high. absurd (omega arith); clauses = λ id low high. absurd (omega arith) };
   kept = kept_same pool;
 }
 
-pub midway_none : (limit : ℕ) (hold : Bool) (pool work : Interned) (book : Book) (classes : List ℕ) (steps : List Step) (size : ℕ) → Sound work book →
-    size ≡ length book.rows → classes ≡ numbers size 0 → steps ≡ [] → IsMidway (repository_of work book) limit hold pool pool work book classes steps 1
-midway_none limit hold pool work book classes steps size s g h t = record {
+-- the same where two pools hold the same
+pub gained_of_start : (R : Repository) (limit : ℕ) (hold : Bool) (work into : Interned) (error : RoundError) → work ≡ into → OnRoundLimit (λ _. HasStepsBefore R limit hold work work) error →
+    OnRoundLimit (λ _. HasStepsBefore R limit hold into into) error
+gained_of_start R limit hold work into error e h = subst (λ p. OnRoundLimit (λ _. HasStepsBefore R limit hold p p) error) e h
+
+-- before any round
+unfoldable pub midway_none : (limit : ℕ) (hold : Bool) (pool : Interned) (book : Book) (classes : List ℕ) (size : ℕ) → Sound pool book → size ≡ length book.rows → classes ≡ numbers size 0 →
+    IsMidway (repository_of pool book) limit hold pool pool pool book classes [] 1
+midway_none limit hold pool book classes size s g h = record {
   index = 0;
   is = refl;
   sound = s;
-  class_of = h ∙ ap (λ n. numbers n 0) (g ∙ sym (book_size work book)) ∙ sym (same_list (packages (repository_of work book)));
-  steps = steps_none_yet pool steps t;
+  class_of = h ∙ ap (λ n. numbers n 0) (g ∙ sym (book_size pool book)) ∙ sym (same_list (packages (repository_of pool book)));
+  steps = steps_of_start pool [] [] refl (λ step i. absurd (In_none i));
   counted = refl;
   passed = λ j l. absurd (omega arith);
   changed = λ j l. absurd (omega arith);

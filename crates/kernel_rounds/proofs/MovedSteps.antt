@@ -4,8 +4,8 @@ use Rattle.std.proofs.lemmas.Bool.{cases_lt}
 use Rattle.std.proofs.lemmas.List.{map-append, take_more, take-append-drop}
 use Rattle.clause_pool.specs.Interned.{Interned, IsPool, Kept, clause_at, ids_at, row_at}
 use Rattle.clause_pool.specs.Compacting.{Compacts, Renames, RowsOf}
+use Rattle.clause_pool.proofs.Interned.{kept_along}
 use Rattle.class_merge.proofs.Groups.{row_once}
-use Rattle.clause_flatten.proofs.Tidied.{kept_kept}
 use Rattle.row_book.specs.declared.book.Book.{Book}
 use Rattle.row_book.specs.declared.trail.Step.{Step}
 use Rattle.row_book.specs.declared.trail.Step.TheVariants.{Flat, Idle, Merge}
@@ -53,9 +53,6 @@ item_rows (x ∷ xs) step i id j =
       | inr k ↦ In_append_right (step_rows x) (trail_rows xs) id (item_rows xs step k id j)
     ]
 
-pub In_take : {A : Type 0} (n : ℕ) (xs : List A) (x : A) → In x (take n xs) → In x xs
-In_take n xs x i = subst (λ z. In x z) (take-append-drop n xs) (In_append_left (take n xs) (drop n xs) x i)
-
 pub next_steps : (steps : List Step) (i : ℕ) (step : Step) → i < length steps → step ≡ get_or steps i step → take (i + 1) steps ≡ take i steps ++ step ∷ []
 next_steps steps i step l e = take_more steps i step l ∙ ap (λ z. take i steps ++ z ∷ []) (sym e)
 
@@ -83,6 +80,15 @@ trail_told : (pool : Interned) (steps : List Step) → map (row_at pool) (trail_
 unfolding trail_clauses
 trail_told pool [] = refl
 trail_told pool (x ∷ xs) = map-append (row_at pool) (step_rows x) (trail_rows xs) ∙ ap₂ (λ y ys. y ++ ys) (step_told pool x) (trail_told pool xs)
+
+-- no step tells nothing
+none_told : (pool : Interned) (steps : List Step) → trail_meaning pool steps ≡ [] → steps ≡ []
+none_told pool [] e = refl
+none_told pool (x ∷ xs) e = absurd (let f : ⊥ = cc in f)
+
+-- the rows of a book alone, where no step came with it
+pub only_book : (old new : Interned) (book : Book) (steps : List Step) → HasOnly new (live_rows book steps) → AreSameSteps old [] new steps → HasOnly new book.rows
+only_book old new book steps only same = subst (HasOnly new) (ap (live_rows book) (none_told new steps same.meaning) ∙ append-nil book.rows) only
 
 pub live_same : (old new : Interned) (book moved : Book) (steps more : List Step) → repository_of new moved ≡ repository_of old book → trail_meaning new more ≡ trail_meaning old steps →
     map (row_at new) (live_rows moved more) ≡ map (row_at old) (live_rows book steps)
@@ -173,7 +179,7 @@ pub carried_steps : (from start pool next : Interned) (steps all : List Step) (s
 carried_steps from start pool next steps all step moved made more is s done one adds k a e =
     let books : SoundSteps pool made = done.same.sound s in
     record {
-      kept = kept_kept start pool next done.kept k;
+      kept = kept_along start pool next done.kept k;
       same =
           steps_more from next steps all step moved made more
           (record { meaning = told_kept pool next is k made books ∙ done.same.meaning; sound = λ f x i. sound_step pool next is k x (done.same.sound f x i) })
@@ -197,7 +203,7 @@ steps_behind start old new from steps round moved all told is h s same adds k e 
   only =
       adds_both start old new (trail_rows steps) (trail_rows moved) (trail_rows all) h.only adds k (steps_within old steps h.books)
       (ap trail_rows e ∙ rows_append steps moved);
-  kept = kept_kept start old new h.kept k;
+  kept = kept_along start old new h.kept k;
 }
 
 -- the kernel's book behind the steps
@@ -211,7 +217,7 @@ extracted_behind limit hold R start old new work book made classes held steps is
   sound = same.sound r.sound;
   books = λ step i. sound_step old new is k step (r.steps.books step i);
   within = r.within;
-  kept = kept_kept start old new r.steps.kept k;
+  kept = kept_along start old new r.steps.kept k;
 }
 
 pub live_behind : (start old new : Interned) (made : Book) (steps : List Step) (told : List RoundStep) → HasSteps start old steps told → AddsOnly old new made.rows → Kept old new →

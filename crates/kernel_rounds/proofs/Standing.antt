@@ -12,9 +12,10 @@ use Rattle.row_book.proofs.Books.{in_listed}
 use Rattle.row_book.proofs.Lists.{In_has, any_cases, any_from, any_none, filter_same, has_In}
 use Rattle.row_book.proofs.Order.{length_numbers, numbers_from}
 use Rattle.std.proofs.lemmas.List.{length-map}
+use Rattle.listed.proofs.Lists.{filter_short}
 use Rattle.clause_flatten.proofs.Rows.{member_stands}
 use Rattle.kernel_rounds.specs.Laws.{standing_count, stands}
-use Rattle.kernel_rounds.proofs.Thins.{filter_lt, filter_short}
+use Rattle.kernel_rounds.proofs.Thins.{filter_lt}
 
 pub stands_from : (R : Repository) (p : ℕ) (c : List ℕ) (q : ℕ) → In c (clauses_of R p) → In q c → stands R q ≡ true
 stands_from R p c q i j =

@@ -1,6 +1,7 @@
 -- Thinning drops a conflict or nothing; filters that keep fewer.
 use Rattle.std.proofs.Common.{◌≡◌, ℕ, zero, suc, ◌<◌, ◌≤◌, ◌+◌, ◌*◌, Bool, true, false, not, ◌&&◌, eqb, cond, List, [], ◌∷◌, ◌++◌, length, ◌⊎◌, inl, inr, refl, sym, ◌∙◌, ap, ap₂, subst, arith, map, filter, slice_index_or, eq-eqb, zero-le, length-append}
 use Rattle.std.proofs.lemmas.Bool.{and_from, and_right, both_ways, cases_Bool, cases_eq, false≢true, not_from_true, or_left}
+use Rattle.listed.proofs.Lists.{filter_short, filter_le}
 use Rattle.row_book.specs.Sets.{In, here, there, has}
 use Rattle.row_book.specs.Clauses.{numbers}
 use Rattle.row_book.specs.Repository.{Repository, against}
@@ -11,26 +12,6 @@ use Rattle.row_book.proofs.Lists.{In_append_left, In_append_right, In_cases, In_
 use Rattle.row_book.proofs.Order.{length_numbers, numbers_from}
 use Rattle.conflict_reduce.proofs.Thinned.{less_sound, less_test, thin_is_sound_lem}
 use Rattle.kernel_rounds.specs.Tails.{conflict_count}
-
--- filters with fewer
-filter_le : {A : Type 0} (f g : A → Bool) (xs : List A) → ((x : A) → f x ≡ true → g x ≡ true) → length (filter f xs) ≤ length (filter g xs)
-filter_le f g [] h = zero-le
-filter_le f g (x ∷ xs) h = pick (f x) (g x) (h x) (filter_le f g xs h)
-  where
-    pick : (a b : Bool) → (a ≡ true → b ≡ true) → length (filter f xs) ≤ length (filter g xs) →
-        length (cond a (x ∷ filter f xs) (filter f xs)) ≤ length (cond b (x ∷ filter g xs) (filter g xs))
-    pick true true m l = omega arith
-    pick true false m l = absurd (false≢true (m refl))
-    pick false true m l = omega arith
-    pick false false m l = l
-
-pub filter_short : {A : Type 0} (f : A → Bool) (xs : List A) → length (filter f xs) ≤ length xs
-filter_short f [] = zero-le
-filter_short f (x ∷ xs) = pick (f x) (filter_short f xs)
-  where
-    pick : (b : Bool) → length (filter f xs) ≤ length xs → length (cond b (x ∷ filter f xs) (filter f xs)) ≤ length (x ∷ xs)
-    pick true l = omega arith
-    pick false l = omega arith
 
 pub filter_lt : {A : Type 0} (f g : A → Bool) (xs : List A) → ((x : A) → f x ≡ true → g x ≡ true) → (w : A) → In w xs → g w ≡ true → f w ≡ false →
     length (filter f xs) < length (filter g xs)

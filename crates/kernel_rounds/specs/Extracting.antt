@@ -60,7 +60,7 @@ pub record IsOwnKernel (K : Repository) (limit : ℕ) (hold : Bool) : Type 0 whe
 
 -- the fact of the limit that is passed, where there is one, and nothing for want of memory
 abbrev pub OnRoundLimit : (PassedRound → Type 0) → RoundError → Type 0
-OnRoundLimit P (Limit round gone «package» count) = P (record { number = round; gone = gone; «package» = «package»; count = count })
+OnRoundLimit P (Limit round gone over count) = P (record { number = round; gone = gone; over = over; count = count })
 OnRoundLimit P Memory = ⊤
 
 -- the pool has gained the steps of the rounds before the first one that passes the clause limit, and no others
@@ -73,7 +73,7 @@ pub record HasStepsBefore (R : Repository) (limit : ℕ) (hold : Bool) (start po
 
 -- why no kernel is extracted where a round is refused
 abbrev pub refusal : ℕ → List ℕ → FlatError → RoundError
-refusal number class_of (faults.Limit gone «package» count) = Limit number gone (place_of (λ k. eqb k «package») class_of) count
+refusal number class_of (faults.Limit gone over count) = Limit number gone (place_of (λ k. eqb k over) class_of) count
 refusal number class_of faults.Memory = Memory
 
 -- what a round comes to

@@ -1,6 +1,9 @@
 //! Extraction of a kernel.
+//!
+//! Rounds work in a copy of the caller's pool, which is compacted each round, so no later round carries the first repository
+//! on. The first book has the same ids in both pools.
 ghost use Rattle.std.specs.Prelude.{Bool, Some, ◌≡◌, ◌<◌, ◌+◌, ◌∷◌, ◌++◌, [], IfErr, IfOk, OnOk, List, eqb, length, map, min, slice_index_or, ℕ};
-ghost use Rattle.clause_pool.specs.Interned.{Interned, Kept};
+ghost use Rattle.clause_pool.specs.Interned.{Interned, IsPool, Kept};
 ghost use Rattle.row_book.specs.Book.{repository_of, AddsOnly, Sound};
 ghost use Rattle.row_book.specs.Clauses.{numbers};
 ghost use Rattle.row_book.specs.Merging.{place_of};
@@ -14,7 +17,7 @@ ghost use Rattle.kernel_rounds.specs.Moving.{live_rows, HasSteps};
 
 use crate::error::RoundError;
 use crate::moving::{carry_round, no_steps};
-use crate::rounding::{Rounded, one_round};
+use crate::rounding::{Rounded, first_round, one_round};
 use clause_flatten::FlatError;
 use clause_pool::{NumList, Pool};
 use listed::Listed;
@@ -77,10 +80,10 @@ fn own_classes(alloc: Global, size: u32) -> Result<Vec<u32>, AllocError>
 }
 
 /// The class of a package in a list.
-fn class_in(class_of: &[u32], package: u32) -> u32
-    ensures { result ≡ class_in class_of.now «package» }
+fn class_in(class_of: &[u32], number: u32) -> u32
+    ensures { result ≡ class_in class_of.now number }
 {
-    match class_of.get(package as usize) {
+    match class_of.get(number as usize) {
         Some(class) => *class,
         None => 0,
     }
@@ -102,9 +105,9 @@ fn least_member(class_of: &[u32], class: u32) -> u32
     requires { length class_of.now < 4294967296 }
     ensures { result ≡ place_of (λ k. eqb k class) class_of.now }
 {
-    for (package, own) in class_of.iter().enumerate() {
+    for (number, own) in class_of.iter().enumerate() {
         if *own == class {
-            return package as u32;
+            return number as u32;
         }
     }
     class_of.len() as u32
@@ -143,6 +146,7 @@ fn advance(
     requires sound { Sound work.old now.book }
     requires limit { 0 < limit }
     requires few { length now.class_of.items < 4294967296 }
+    requires into { IsPool into.old }
     ensures made { (R : Repository) (start : Interned) → SoundRepository R → IsMidway R limit hold start into.old work.old now.book now.class_of.items now.steps now.number →
         IfOk result (IsOutcome R limit hold start into.new work.new (repository_of work.old now.book)) }
     ensures passed { (R : Repository) (start : Interned) → SoundRepository R → IsMidway R limit hold start into.old work.old now.book now.class_of.items now.steps now.number →
@@ -151,8 +155,6 @@ fn advance(
         IfErr result (OnRoundLimit (λ _. HasStepsBefore R limit hold start into.new)) }
     ensures kept { Kept into.old into.new }
 {
-    // What holds of every pool is told by this call alone.
-    work.clause_count();
     let Progress {
         book: before,
         class_of: so_far,
@@ -189,40 +191,73 @@ fn advance(
     }))
 }
 
-/// The state before any round.
-fn first_state(alloc: Global, book: Book) -> Result<Progress, AllocError>
-    ensures { (pool work : Interned) (limit : ℕ) (hold : Bool) → Sound work book →
-        IfOk result (λ made. IsMidway (repository_of work book) limit hold pool pool work made.book made.class_of.items made.steps made.number) }
+/// The first round: the pool that the kernel is for still holds what the other one does, so that the steps have the book as it
+/// stands, and nothing comes into that pool.
+fn first_advance(
+    alloc: Global,
+    work: &mut Pool,
+    book: &Book,
+    limit: u32,
+    hold: bool,
+) -> Result<Outcome, RoundError>
+    requires sound { Sound work.old book.now }
+    requires limit { 0 < limit }
+    ensures made { IfOk result (IsOutcome (repository_of work.old book.now) limit hold work.old work.old work.new (repository_of work.old book.now)) }
+    ensures passed { IfErr result (OnRoundLimit (λ passed. limit_at limit hold (repository_of work.old book.now) ≡ Some passed)) }
+    ensures refused_only { IfErr result (OnRoundLimit (λ _. HasStepsBefore (repository_of work.old book.now) limit hold work.old work.old)) }
 {
-    let class_of = own_classes(alloc, book.size())?;
-    Ok(Progress {
-        book,
+    let so_far = own_classes(alloc, book.size())?;
+    let made = match first_round(alloc, work, book, limit, hold) {
+        Ok(made) => made,
+        Err(fault) => return Err(round_error(fault, 1, so_far.as_slice())),
+    };
+    let Rounded {
+        book: after,
         class_of,
-        steps: StepList::new(alloc),
-        number: 1,
-    })
+        held,
+        trail,
+        changed,
+    } = made;
+    if !changed {
+        return Ok(Outcome::Done(FixedPoint {
+            book: after,
+            class_of: so_far,
+            held,
+            steps: StepList::new(alloc),
+        }));
+    }
+    let classes = compose(alloc, so_far.as_slice(), class_of.as_slice())?;
+    Ok(Outcome::More(Progress {
+        book: after,
+        class_of: classes,
+        steps: trail.steps,
+        number: 2,
+    }))
 }
 
 /// The kernel of a book in a pool that each round compacts: rounds go on until one changes nothing, and their steps come into
-/// the other pool, which gains the rows of their books and their clauses alone.
+/// the other pool, which holds the same before, and gains the rows of their books and their clauses alone.
 fn all_rounds(
     alloc: Global,
     work: &mut Pool,
-    book: Book,
+    book: &Book,
     limit: u32,
     hold: bool,
     into: &mut Pool,
 ) -> Result<FixedPoint, RoundError>
-    requires sound { Sound work.old book }
+    requires sound { Sound work.old book.now }
+    requires same { work.old ≡ into.old }
     requires limit { 0 < limit }
-    ensures reached { IfOk result (λ last. IsReached (repository_of work.old book) limit hold into.old into.new work.new last.book last.class_of.items last.held last.steps) }
-    ensures passed { IfErr result (OnRoundLimit (λ passed. limit_at limit hold (repository_of work.old book) ≡ Some passed)) }
-    ensures refused_only { IfErr result (OnRoundLimit (λ _. HasStepsBefore (repository_of work.old book) limit hold into.old into.new)) }
+    ensures reached { IfOk result (λ last. IsReached (repository_of work.old book.now) limit hold into.old into.new work.new last.book last.class_of.items last.held last.steps) }
+    ensures passed { IfErr result (OnRoundLimit (λ passed. limit_at limit hold (repository_of work.old book.now) ≡ Some passed)) }
+    ensures refused_only { IfErr result (OnRoundLimit (λ _. HasStepsBefore (repository_of work.old book.now) limit hold into.old into.new)) }
     ensures kept { Kept into.old into.new }
 {
-    // What holds of every pool is told by this call alone.
-    work.clause_count();
-    let mut now = first_state(alloc, book)?;
+    let first = first_advance(alloc, work, book, limit, hold)?;
+    let mut now = match first {
+        Outcome::Done(last) => return Ok(last),
+        Outcome::More(next) => next,
+    };
     loop {
         match advance(alloc, work, now, limit, hold, into)? {
             Outcome::Done(last) => return Ok(last),
@@ -239,7 +274,8 @@ fn carry_kernel(
     from: &Pool,
     into: &mut Pool,
 ) -> Result<Kernel, AllocError>
-    requires { Sound from.now last.book }
+    requires sound { Sound from.now last.book }
+    requires into { IsPool into.old }
     ensures kernel { (R : Repository) (limit : ℕ) (start : Interned) → IsReached R limit hold start into.old from.now last.book last.class_of.items last.held last.steps →
         IfOk result (λ made. IsExtracted R limit hold start into.new made.book made.class_of made.held made.trail.steps) }
     ensures hold { IfOk result (λ made. made.hold ≡ hold) }
@@ -247,8 +283,6 @@ fn carry_kernel(
         IfOk result (λ made. AddsOnly start into.new (live_rows made.book made.trail.steps)) }
     ensures kept { Kept into.old into.new }
 {
-    // What holds of every pool is told by this call alone.
-    into.clause_count();
     let FixedPoint {
         book: own,
         class_of,
@@ -292,11 +326,8 @@ pub fn extract(
     ensures refused_only { IfErr result (OnRoundLimit (λ _. HasStepsBefore (repository_of pool.old book.now) limit hold pool.old pool.new)) }
     ensures kept { Kept pool.old pool.new }
 {
-    // What holds of every pool is told by this call alone.
-    pool.clause_count();
     let mut own = pool.copy(alloc)?;
-    let copied = book.copy(alloc)?;
-    let last = all_rounds(alloc, &mut own, copied, limit, hold, pool)?;
+    let last = all_rounds(alloc, &mut own, book, limit, hold, pool)?;
     let made = carry_kernel(alloc, last, hold, &own, pool)?;
     Ok(made)
 }

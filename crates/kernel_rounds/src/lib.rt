@@ -3,16 +3,19 @@
 #![tactic(auto)]
 
 mod comparing;
-pub mod error;
-pub mod extraction;
+mod error;
+mod extraction;
 mod laws;
 mod moving;
-pub mod rounding;
+mod rounding;
 
+// The kernel of a book, or one round of it.
 pub use error::RoundError;
 pub use extraction::{Kernel, extract};
+pub use rounding::{Rounded, one_round};
+
+// Laws.
 pub use laws::{
     fixed_is_settled, fixed_parts, flat_plain, image_is_of_classes, kernel_is, kernel_keeps,
     kernel_of_kernel, limit_without_hold, rounds_go_down, tails_end, tails_keep, three_tails,
 };
-pub use rounding::{Rounded, one_round};

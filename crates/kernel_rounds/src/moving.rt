@@ -1,6 +1,6 @@
 //! Books and trails that come into another pool, and pools with their live rows alone.
 ghost use Rattle.std.specs.Prelude.{◌≡◌, ◌++◌, [], ℕ, List, IfOk};
-ghost use Rattle.clause_pool.specs.Interned.{Interned, Kept};
+ghost use Rattle.clause_pool.specs.Interned.{Interned, IsPool, Kept};
 ghost use Rattle.clause_pool.specs.Compacting.{Compacts, Knows};
 ghost use Rattle.row_book.specs.Sets.{In};
 ghost use Rattle.row_book.specs.Book.{AddsOnly, IsSameBook, Sound};
@@ -100,8 +100,6 @@ pub(crate) fn keep_live(
 {
     let live = live_rows(alloc, book, steps)?;
     let remap = pool.compact(alloc, live.as_slice())?;
-    // What holds of every pool is told by this call alone.
-    pool.clause_count();
     let moved = book.rename(alloc, &remap)?;
     let renamed = rename_steps(alloc, steps, &remap)?;
     Ok((moved, renamed))
@@ -145,15 +143,14 @@ fn carry_steps(
     from: &Pool,
     into: &mut Pool,
 ) -> Result<StepList, AllocError>
-    requires { SoundSteps from.now steps.now }
+    requires into { IsPool into.old }
+    requires steps { SoundSteps from.now steps.now }
     ensures same { IfOk result (λ made. AreSameSteps from.now steps.now into.new made) }
     ensures only { IfOk result (λ made. AddsOnly into.old into.new (trail_rows made)) }
     ensures kept { Kept into.old into.new }
 {
     let mut made = StepList::new(alloc);
     for step in steps {
-        // What holds of every pool is told by this call alone.
-        into.clause_count();
         let moved = carry_step(alloc, step, from, into)?;
         made.push(moved)?;
     }
@@ -169,13 +166,12 @@ pub(crate) fn carry_round(
     from: &Pool,
     into: &mut Pool,
 ) -> Result<StepList, AllocError>
-    requires { SoundSteps from.now round.now }
+    requires into { IsPool into.old }
+    requires round { SoundSteps from.now round.now }
     ensures steps { (start : Interned) (told : List RoundStep) → HasSteps start into.old steps told →
         IfOk result (λ made. HasSteps start into.new made (told ++ trail_meaning from.now round.now)) }
     ensures kept { Kept into.old into.new }
 {
-    // What holds of every pool is told by this call alone.
-    into.clause_count();
     let moved = carry_steps(alloc, round, from, into)?;
     steps.append(moved)?;
     Ok(steps)

@@ -12,7 +12,7 @@ ghost use Rattle.row_book.specs.declared.trail.Step.TheVariants.{Flat, Merge};
 ghost use Rattle.kernel_rounds.specs.Moving.{live_rows, HasOnly};
 
 use crate::comparing::same_books;
-use crate::moving::keep_live;
+use crate::moving::{keep_live, no_steps};
 use class_merge::merge;
 use clause_flatten::{FlatError, Flattened, flatten};
 use clause_pool::{NumList, Pool};
@@ -129,8 +129,6 @@ pub fn one_round(
     ensures within { OnOk result (passes limit hold (repository_of pool.old book) ≡ None) }
     ensures passed { IfErr result (OnLimit (λ passed. passes limit hold (repository_of pool.old book) ≡ Some passed)) }
 {
-    // What holds of every pool is told by this call alone.
-    pool.clause_count();
     let made = reduce(alloc, pool, &book, limit, hold)?;
     let Reduced {
         book: reduced,
@@ -141,6 +139,56 @@ pub fn one_round(
     let changed = !same_books(pool, &book, &reduced);
     let steps = add_round(alloc, past.steps, book, class_of.as_slice(), idle, changed)?;
     let (kept, steps) = keep_live(alloc, pool, &reduced, steps.as_slice())?;
+    Ok(Rounded {
+        book: kept,
+        class_of,
+        held,
+        trail: Trail { steps },
+        changed,
+    })
+}
+
+/// The first round, on a book whose rows have the same ids in another pool: its steps are for that pool, as it was before the
+/// round, and have the book as it stands there. At its end the pool is compacted: it has the rows of the new book, and no others.
+pub(crate) fn first_round(
+    alloc: Global,
+    pool: &mut Pool,
+    book: &Book,
+    limit: u32,
+    hold: bool,
+) -> Result<Rounded, FlatError>
+    requires sound { Sound pool.old book.now }
+    requires limit { 0 < limit }
+    ensures round { IfOk result (λ made. repository_of pool.new made.book ≡ round limit hold (repository_of pool.old book.now)) }
+    ensures classes { IfOk result (λ made. made.class_of ≡ class_list (flat limit hold (repository_of pool.old book.now))) }
+    ensures held { IfOk result (λ made. made.held ≡ held_of limit hold (repository_of pool.old book.now)) }
+    ensures changed { IfOk result (λ made. (made.changed ≡ false) ↔ (round limit hold (repository_of pool.old book.now) ≡ repository_of pool.old book.now)) }
+    ensures trail { IfOk result (λ made. trail_meaning pool.old made.trail.steps ≡ (if made.changed then round_steps limit hold (repository_of pool.old book.now) else [])) }
+    ensures sound { IfOk result (λ made. Sound pool.new made.book) }
+    ensures books { IfOk result (λ made. SoundSteps pool.old made.trail.steps) }
+    ensures only { IfOk result (λ made. HasOnly pool.new made.book.rows) }
+    ensures within { OnOk result (passes limit hold (repository_of pool.old book.now) ≡ None) }
+    ensures passed { IfErr result (OnLimit (λ passed. passes limit hold (repository_of pool.old book.now) ≡ Some passed)) }
+{
+    let made = reduce(alloc, pool, book, limit, hold)?;
+    let Reduced {
+        book: reduced,
+        class_of,
+        held,
+        idle,
+    } = made;
+    let changed = !same_books(pool, book, &reduced);
+    let before = book.copy(alloc)?;
+    let past = no_steps(alloc);
+    let steps = add_round(
+        alloc,
+        past.steps,
+        before,
+        class_of.as_slice(),
+        idle,
+        changed,
+    )?;
+    let (kept, _) = keep_live(alloc, pool, &reduced, &[])?;
     Ok(Rounded {
         book: kept,
         class_of,

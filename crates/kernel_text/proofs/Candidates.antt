@@ -7,6 +7,7 @@ use Rattle.std.specs.Str.{bytes_eq}
 use Rattle.std.proofs.lemmas.Bool.{and_parts, both_ways, false_from_ne_true, false≢true, or_cases}
 use Rattle.std.proofs.lemmas.List.{append-nil}
 use Rattle.std.proofs.lemmas.Slice.Eq.{bytes_eq-Decides}
+use Rattle.listed.proofs.Lists.{decided_and}
 use Rattle.deb_version.specs.Grammar.{is_upstream_byte}
 use Rattle.deb_version.specs.Order.{number}
 use Rattle.relation_fields.proofs.Bytes.{version_bytes}
@@ -15,7 +16,7 @@ use Rattle.row_book.proofs.Lists.{Decided}
 use Rattle.kernel_text.specs.KernelLines.{KernelLine, HeadLine, ClassLine, MemberLine, HeldLine, NeedsLine, AgainstLine, EndLine, behind_space, line_text}
 use Rattle.kernel_text.specs.Reading.{number_limit}
 use Rattle.kernel_text.specs.Words.{IsWellFormed}
-use Rattle.kernel_text.proofs.Decisions.{both_decided, some_decided}
+use Rattle.kernel_text.proofs.Decisions.{some_decided}
 use Rattle.kernel_text.proofs.Numerals.{value_decimal}
 use Rattle.kernel_text.proofs.Spelling.{IsPlain, Plain, decimal_plain, format_low, name_plain}
 
@@ -36,7 +37,7 @@ cut_word : (word : List ℕ) (b : ℕ) (rest : List ℕ) → Plain word → ends
 cut_word [] b rest p e = rw e refl
 cut_word (c ∷ cs) b rest p e = rw (goes_on c p.0, cut_word cs b rest p.1 e) refl
 
-version_plain : (text : List ℕ) → list_all is_upstream_byte text ≡ true → Plain text
+pub version_plain : (text : List ℕ) → list_all is_upstream_byte text ≡ true → Plain text
 version_plain [] h = tt
 version_plain (c ∷ cs) h =
     let w : (is_upstream_byte c ≡ true) × (list_all is_upstream_byte cs ≡ true) = and_parts (is_upstream_byte c) (list_all is_upstream_byte cs) h in
@@ -116,7 +117,7 @@ Spells text P = (l : KernelLine) × (text ≡ line_text l) × P l
 
 pub spelled_decided : (P : KernelLine → Type 0) → ((l : KernelLine) → P l → IsWellFormed l) → ((l : KernelLine) → Decided (P l)) → (text : List ℕ) → Decided (Spells text P)
 spelled_decided P formed decide text =
-    by (some_decided (λ l. (text ≡ line_text l) × P l) (λ l. both_decided (text_decided text (line_text l)) (decide l)) (by_words (words_of text)))
+    by (some_decided (λ l. (text ≡ line_text l) × P l) (λ l. decided_and (text_decided text (line_text l)) (decide l)) (by_words (words_of text)))
   where
     by : Decided ((l : KernelLine) × In l (by_words (words_of text)) × ((text ≡ line_text l) × P l)) → Decided (Spells text P)
     by (inl w) = inl (w.0, w.2.0, w.2.1)

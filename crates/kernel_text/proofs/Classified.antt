@@ -9,6 +9,8 @@ use Rattle.std.proofs.lemmas.Bool.{cases_eq}
 use Rattle.std.proofs.lemmas.List.{append-nil}
 use Rattle.std.proofs.lemmas.List.Elements.{filter-append}
 use Rattle.std.proofs.lemmas.Slice.Eq.{bytes_eq-Decides}
+use Rattle.repo_model.specs.Limits.{most_packages}
+use Rattle.listed.proofs.Lists.{In_flat_cases, flat_same, filled}
 use Rattle.deb_version.specs.Order.{version_order}
 use Rattle.deb_version.proofs.TotalOrder.{version_total}
 use Rattle.relation_fields.specs.declared.packages.PackageFacts.{PackageFacts}
@@ -24,12 +26,7 @@ use Rattle.kernel_text.specs.Laws.{IsKernelOf, KernelsAreWritable}
 use Rattle.kernel_text.specs.Members.{file_members, kernel_members, member_in}
 use Rattle.kernel_text.specs.Reading.{IsNamed, is_same_member, number_limit}
 use Rattle.kernel_text.proofs.Blocks.{filter_all, filter_none}
-use Rattle.kernel_text.proofs.Retold.{eqb_other, in_flat_cases}
-
--- the same function at each element
-pub flat_same : {X A : Type 0} (f g : X → List A) (xs : List X) → ((x : X) → In x xs → f x ≡ g x) → flat_map f xs ≡ flat_map g xs
-flat_same f g [] h = refl
-flat_same f g (x ∷ xs) h = ap₂ (λ ys zs. ys ++ zs) (h x here) (flat_same f g xs (λ y i. h y (there i)))
+use Rattle.kernel_text.proofs.Retold.{eqb_other}
 
 -- of the members of a class those of one class: all or none
 own_members : (ms : List Member) (n : ℕ) → members_of (members_of ms n) n ≡ members_of ms n
@@ -151,7 +148,7 @@ pub record IsFrom (ms : List Member) (k : ℕ) (m : Member) : Type 0 where
 
 pub member_from : (ms : List Member) (j k : ℕ) (m : Member) → In m (by_classes ms j k) → IsFrom ms k m
 member_from ms j k m i =
-    let w : (n : ℕ) × In n (numbers j k) × In m (members_of ms n) = in_flat_cases (members_of ms) (numbers j k) m i in
+    let w : (n : ℕ) × In n (numbers j k) × In m (members_of ms n) = In_flat_cases (members_of ms) (numbers j k) m i in
     let v : In m ms × (eqb m.class w.0 ≡ true) = filter_cases (λ (o : Member). eqb o.class w.0) ms m w.2 in
     let e : m.class ≡ w.0 = eqb-true m.class w.0 v.1 in
     let b : k ≤ w.0 = (numbers_parts j k w.0 w.1).0 in
@@ -214,10 +211,6 @@ file_single (facts ∷ packages) (c ∷ class_of) s = (
   file_single packages class_of s.1,
 )
 
-some_in : {A : Type 0} (xs : List A) (x : A) → In x xs → 0 < length xs
-some_in [] x i = absurd (In_none i)
-some_in (y ∷ ys) x i = omega arith
-
 module _ (format : ℕ) (R : Repository) (packages : List PackageFacts) (class_of held : List ℕ) (kernel : IsKernelOf format R packages class_of held) where
   abbrev size : ℕ
   size = length R.clauses
@@ -236,12 +229,12 @@ module _ (format : ℕ) (R : Repository) (packages : List PackageFacts) (class_o
   populated : (n : ℕ) → n < size → 0 < length (members_of (by_classes ms size 0) n)
   populated n l =
       let w : (m : Member) × In m ms × (m.class ≡ n) = class_member packages class_of kernel.each n (kernel.populated n l) in
-      subst (λ xs. 0 < length xs) (sym (members_are n l)) (some_in (members_of ms n) w.0 (filter_from (λ (m : Member). eqb m.class n) ms w.0 w.1 (eq-eqb w.0.class n w.2)))
+      subst (λ xs. 0 < length xs) (sym (members_are n l)) (filled (members_of ms n) w.0 (filter_from (λ (m : Member). eqb m.class n) ms w.0 w.1 (eq-eqb w.0.class n w.2)))
 
   few_members : length (by_classes ms size 0) < number_limit
   unfolding number_limit
   few_members =
-      let few : length packages ≤ 200000 = kernel.accepted.few in
+      let few : length packages ≤ most_packages = kernel.accepted.few in
       let counted : length (by_classes ms size 0) ≡ length ms = all_counted ms size (λ m i. kernel.inside m.class (file_member packages class_of m i).class) in
       let read : length ms ≡ length packages = length_file packages class_of kernel.each in
       omega arith

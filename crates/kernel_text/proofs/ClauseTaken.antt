@@ -2,17 +2,10 @@
 use Rattle.std.proofs.Common.{◌≡◌, ℕ, true, false, ◌&&◌, eqb, ltb, List, [], ◌∷◌, Option, Some, None, inl, inr, refl, sym, subst, eq-eqb}
 use Rattle.std.proofs.lemmas.Bool.{and_from, both_ways, false≢true, lt-ltb, or_left, or_right}
 use Rattle.row_book.specs.Clauses.{Before, comes_before}
-use Rattle.row_book.proofs.Order.{before_test}
+use Rattle.row_book.proofs.Order.{before_test, before_is}
 use Rattle.kernel_text.specs.KernelLines.{KernelLine, HeadLine, ClassLine, MemberLine, HeldLine, NeedsLine, AgainstLine, EndLine}
 use Rattle.kernel_text.specs.Reader.{kind_of_last, may_add_clause}
 use Rattle.kernel_text.specs.Reading.{MayAddClause}
-
-pub from_before : (a b : List ℕ) → Before a b → comes_before a b ≡ true
-from_before [] [] h = absurd h
-from_before [] (y ∷ ys) h = refl
-from_before (x ∷ xs) [] h = absurd h
-from_before (x ∷ xs) (y ∷ ys) (inl l) = or_left (ltb x y) (eqb x y && comes_before xs ys) (lt-ltb x y l)
-from_before (x ∷ xs) (y ∷ ys) (inr h) = or_right (ltb x y) (eqb x y && comes_before xs ys) (and_from (eqb x y) (comes_before xs ys) (eq-eqb x y h.0) (from_before xs ys h.1))
 
 abbrev IsPrevious : Option KernelLine → List ℕ → Type 0
 IsPrevious o previous = (d : List ℕ) → o ≡ Some (NeedsLine d) → previous ≡ d
@@ -30,7 +23,7 @@ may_clause (Some (EndLine x y)) previous c h e = absurd (false≢true e)
 pub may_not_clause : (o : Option KernelLine) (previous c : List ℕ) → IsPrevious o previous → may_add_clause (kind_of_last o) previous c ≡ false → MayAddClause o c → ⊥
 may_not_clause (Some (MemberLine a v)) previous c h e m = false≢true (sym e)
 may_not_clause (Some HeldLine) previous c h e m = false≢true (sym e)
-may_not_clause (Some (NeedsLine d)) previous c h e m = both_ways (comes_before previous c) e (from_before previous c (subst (λ b. Before b c) (sym (h d refl)) m))
+may_not_clause (Some (NeedsLine d)) previous c h e m = both_ways (comes_before previous c) e (before_is previous c (subst (λ b. Before b c) (sym (h d refl)) m))
 may_not_clause None previous c h e m = m
 may_not_clause (Some (HeadLine f)) previous c h e m = m
 may_not_clause (Some (ClassLine n)) previous c h e m = m

@@ -2,6 +2,7 @@
 use Rattle.std.proofs.Common.{◌≡◌, ℕ, zero, suc, ◌+◌, ◌-◌, ◌==◌, ◌<◌, true, false, List, [], ◌∷◌, Some, None, length, take, drop, get_or, refl, sym, ap, ap₂, ◌∙◌, subst, arith}
 use Rattle.std.proofs.lemmas.Bool.{false_from_ne_true}
 use Rattle.std.proofs.lemmas.List.{take_all, length-drop, drop-drop}
+use Rattle.listed.proofs.Lists.{to_end}
 use Rattle.memchr.specs.Find.{IsFirstByte, is_byte}
 use Rattle.kernel_text.specs.KernelLines.{lines_of}
 
@@ -27,10 +28,6 @@ cut_found text n h = found_cut text n h.0.high (λ k l. false_from_ne_true (get_
 
 pub cut_missed : (text : List ℕ) → 0 < length text → IsFirstByte (is_byte 10) text None → lines_of text ≡ text ∷ []
 cut_missed text l h = no_cut text l (λ k m. false_from_ne_true (get_or text k 0 == 10) (h k (omega arith) m))
-
--- what is lent from a place to the end
-to_end : (n : ℕ) (xs : List ℕ) → take (length xs - n) (drop n xs) ≡ drop n xs
-to_end n xs = take_all (length xs - n) (drop n xs) (rw (length-drop n xs) (omega arith))
 
 pub end_found : (bytes : List ℕ) (from n : ℕ) → IsFirstByte (is_byte 10) (take (length bytes - from) (drop from bytes)) (Some n) →
     lines_of (drop from bytes) ≡ take (from + n + 1 - from) (drop from bytes) ∷ lines_of (drop (from + n + 1) bytes)

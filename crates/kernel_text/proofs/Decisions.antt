@@ -1,21 +1,16 @@
 -- Which line is allowed behind others is decided.
 use Rattle.std.proofs.Common.{◌≡◌, ℕ, zero, suc, ◌<◌, Bool, true, false, List, [], ◌∷◌, length, get_or, Option, Some, None, ◌⊎◌, inl, inr, refl, sym, subst, arith}
 use Rattle.std.proofs.lemmas.Bool.{both_ways, cases_eq, cases_lt, false≢true}
+use Rattle.listed.proofs.Lists.{decided_and}
 use Rattle.deb_version.specs.Grammar.{is_version}
 use Rattle.deb_version.specs.Names.{is_name}
 use Rattle.row_book.specs.Clauses.{Ascending, Before, comes_before}
 use Rattle.row_book.specs.Sets.{In, here, there}
 use Rattle.row_book.proofs.Lists.{Decided, In_cases, In_none, decided_in}
-use Rattle.row_book.proofs.Order.{before_test}
+use Rattle.row_book.proofs.Order.{before_test, before_is}
 use Rattle.kernel_text.specs.KernelLines.{KernelLine, HeadLine, ClassLine, MemberLine, HeldLine, NeedsLine, AgainstLine, EndLine}
 use Rattle.kernel_text.specs.Reading.{IsAllowed, IsClauseOf, IsFormat, MayAddClause, MayAddConflict, MayAddHeld, MayAddMember, MayBegin, Reading, is_same_member, member_of_line, number_limit, this_class}
-use Rattle.kernel_text.proofs.ClauseTaken.{from_before}
 use Rattle.kernel_text.proofs.Shape.{some_none}
-
-pub both_decided : {A B : Type 0} → Decided A → Decided B → Decided (A × B)
-both_decided (inl a) (inl b) = inl (a, b)
-both_decided (inl a) (inr n) = inr (λ p. n p.1)
-both_decided (inr n) d = inr (λ p. n p.0)
 
 pub three_decided : {A B C : Type 0} → Decided A → Decided B → Decided C → Decided (A × B × C)
 three_decided (inl a) (inl b) (inl c) = inl (a, b, c)
@@ -57,14 +52,14 @@ some_decided {A} P d (y ∷ ys) = by (d y) (some_decided P d ys)
 
 ascending_decided : (xs : List ℕ) → Decided (Ascending xs)
 ascending_decided [] = inl tt
-ascending_decided (x ∷ xs) = both_decided (all_decided (λ y. x < y) (λ y. less_decided x y) xs) (ascending_decided xs)
+ascending_decided (x ∷ xs) = decided_and (all_decided (λ y. x < y) (λ y. less_decided x y) xs) (ascending_decided xs)
 
 before_decided : (c d : List ℕ) → Decided (Before c d)
 before_decided c d = by (comes_before c d) refl
   where
     by : (b : Bool) → comes_before c d ≡ b → Decided (Before c d)
     by true e = inl (before_test c d e)
-    by false e = inr (λ h. both_ways (comes_before c d) e (from_before c d h))
+    by false e = inr (λ h. both_ways (comes_before c d) e (before_is c d h))
 
 none_decided : (o : Option KernelLine) → Decided (o ≡ None)
 none_decided None = inl refl
@@ -121,13 +116,13 @@ format_decided f = elim (same_decided f 1) [
 ]
 
 pub allowed_decided : (t : Reading) (l : KernelLine) → Decided (IsAllowed t l)
-allowed_decided t (HeadLine format) = both_decided (none_decided t.last) (format_decided format)
+allowed_decided t (HeadLine format) = decided_and (none_decided t.last) (format_decided format)
 allowed_decided t (ClassLine n) = three_decided (begin_decided t.last) (same_decided n t.classes) (less_decided n number_limit)
 allowed_decided t (MemberLine name version) =
-    three_decided (member_decided t.last) (both_decided (test_decided (is_name name) true) (test_decided (is_version version) true))
+    three_decided (member_decided t.last) (decided_and (test_decided (is_name name) true) (test_decided (is_version version) true))
     (all_decided (λ o. is_same_member (member_of_line t name version) o ≡ false) (λ o. test_decided (is_same_member (member_of_line t name version) o) false) t.members)
-allowed_decided t HeldLine = both_decided (held_decided t.last) (same_decided t.format 2)
-allowed_decided t (NeedsLine clause) = both_decided (clause_decided t.last clause) (clause_of_decided (this_class t) clause)
+allowed_decided t HeldLine = decided_and (held_decided t.last) (same_decided t.format 2)
+allowed_decided t (NeedsLine clause) = decided_and (clause_decided t.last clause) (clause_of_decided (this_class t) clause)
 allowed_decided t (AgainstLine m) = three_decided (conflict_decided t.last m) (less_decided (this_class t) m) (less_decided m number_limit)
 allowed_decided t (EndLine c d) = three_decided (begin_decided t.last) (less_decided c number_limit) (less_decided d number_limit)
 

@@ -6,7 +6,8 @@ use Rattle.std.proofs.lemmas.Bool.{cases_eq}
 use Rattle.std.proofs.lemmas.List.{append-nil, ext_get_or, get_or-map, get_or-set_same, get_or-set_other, length-map, map-append, take_more}
 use Rattle.std.proofs.lemmas.List.Elements.{filter-append}
 use Rattle.clause_pool.specs.Interned.{Interned, IsIdOf, Kept, OfPool, clauses_at, ids_at, row_at}
-use Rattle.row_book.specs.Book.{RowsFit, listed_for, lists_of_pairs, repository_of}
+use Rattle.clause_pool.proofs.Interned.{kept_along, clauses_kept, kept_of_pool}
+use Rattle.row_book.specs.Book.{NumbersFit, listed_for, lists_of_pairs, repository_of}
 use Rattle.row_book.specs.Clauses.{InOrder, numbers}
 use Rattle.row_book.specs.Repository.{Repository}
 use Rattle.row_book.specs.Sets.{In, here, there}
@@ -14,7 +15,6 @@ use Rattle.row_book.specs.declared.book.Book.{Book}
 use Rattle.row_book.specs.declared.pair.Pair.{Pair}
 use Rattle.row_book.proofs.Lists.{In_append_cases, In_cases, In_map, In_map_cases, In_none, filter_cases}
 use Rattle.row_book.proofs.Order.{at_numbers, length_numbers}
-use Rattle.repo_model.proofs.Interning.{clauses_kept, kept_on}
 use Rattle.kernel_text.specs.declared.reader.Clause.{Clause}
 use Rattle.kernel_text.specs.Booking.{AreRows, HasIdsByClass, IsBookable}
 use Rattle.kernel_text.specs.KernelReads.{clauses_of_class, repository_of_reading}
@@ -34,9 +34,6 @@ no_ids pool classes table count empty = record {
 pub entries_more : (clauses : List Clause) (i : ℕ) (item : Clause) → i < length clauses → item ≡ get_or clauses i item → map entry_of (take (i + 1) clauses) ≡ map entry_of (take i clauses) ++ entry_of item ∷ []
 entries_more clauses i item l is =
     ap (map entry_of) (take_more clauses i item l) ∙ map-append entry_of (take i clauses) (get_or clauses i item ∷ []) ∙ ap (λ x. map entry_of (take i clauses) ++ entry_of x ∷ []) (sym is)
-
-pub of_kept : (a b : Interned) → Kept a b → (ids : List ℕ) → OfPool a ids → OfPool b ids
-of_kept a b k ids within id i = (k.clauses id (within id i)).0
 
 -- one more clause
 module _ (old new : Interned) (entries : List ClassClause) (entry : ClassClause) (classes : ℕ) (table more : List (List ℕ)) (id : ℕ) (has : HasIdsByClass old entries classes table) (kept : Kept old new)
@@ -66,7 +63,7 @@ module _ (old new : Interned) (entries : List ClassClause) (entry : ClassClause)
 
   of_pool_own : OfPool new (ids ++ id ∷ [])
   of_pool_own other i = elim (In_append_cases ids (id ∷ []) other i) [
-    | inl j ↦ of_kept old new kept ids (has.of_pool entry.class) other j
+    | inl j ↦ kept_of_pool old new kept ids (has.of_pool entry.class) other j
     | inr j ↦ elim (In_cases j) [ inl e ↦ subst (λ k. k < length new.clauses) (sym e) is.within | inr k ↦ absurd (In_none k) ]
   ]
 
@@ -81,7 +78,7 @@ module _ (old new : Interned) (entries : List ClassClause) (entry : ClassClause)
     count = ap length made ∙ length-set table entry.class (ids ++ id ∷ []) ∙ has.count;
     of_pool = λ n. elim (cases_eq n entry.class) [
       | inl e ↦ subst (OfPool new) (sym (ap (listed_for more) e ∙ own)) of_pool_own
-      | inr ne ↦ subst (OfPool new) (sym (others n ne)) (of_kept old new kept (listed_for table n) (has.of_pool n))
+      | inr ne ↦ subst (OfPool new) (sym (others n ne)) (kept_of_pool old new kept (listed_for table n) (has.of_pool n))
     ];
     each = λ n l. elim (cases_eq n entry.class) [
       | inl e ↦ subst (λ k. clauses_at new (listed_for more k) ≡ clauses_of_class (entries ++ entry ∷ []) k) (sym e) at_own
@@ -90,12 +87,6 @@ module _ (old new : Interned) (entries : List ClassClause) (entry : ClassClause)
           ∙ sym (clauses_more n ∙ ap (λ cs. clauses_of_class entries n ++ cs) (not_mine n (λ e. ne (sym e))) ∙ append-nil (clauses_of_class entries n))
     ];
   }
-
--- a list at a place, as it is lent
-pub list_at : (xs : List (List ℕ)) (i : ℕ) (x : List ℕ) → i < length xs → x ≡ get_or xs i x → get_or xs i [] ≡ x
-list_at [] i x l e = absurd (omega arith)
-list_at (y ∷ ys) zero x l e = sym e
-list_at (y ∷ ys) (suc i) x l e = list_at ys i x (omega arith) e
 
 -- rows of lists of ids
 pub no_rows : (pool : Interned) → AreRows pool [] []
@@ -119,9 +110,9 @@ row_more start old new lists i ids rows more row l at are first kept is of_start
     | inr k ↦ elim (In_cases k) [ inl e ↦ subst (λ z. z < length new.rows) (sym e) is.within | inr nothing ↦ absurd (In_none nothing) ]
   ];
   of_pool = λ other j. elim (In_append_cases rows (row ∷ []) other (subst (λ xs. In other xs) pushed j)) [
-    | inl k ↦ subst (OfPool new) (sym (kept.rows other (are.within other k)).1) (of_kept old new kept (ids_at old other) (are.of_pool other k))
+    | inl k ↦ subst (OfPool new) (sym (kept.rows other (are.within other k)).1) (kept_of_pool old new kept (ids_at old other) (are.of_pool other k))
     | inr k ↦ elim (In_cases k) [
-      | inl e ↦ subst (OfPool new) (sym (ap (ids_at new) e ∙ is.holds)) (of_kept start new both ids of_start)
+      | inl e ↦ subst (OfPool new) (sym (ap (ids_at new) e ∙ is.holds)) (kept_of_pool start new both ids of_start)
       | inr nothing ↦ absurd (In_none nothing)
     ]
   ];
@@ -132,7 +123,7 @@ row_more start old new lists i ids rows more row l at are first kept is of_start
 }
   where
     both : Kept start new
-    both = kept_on start old new first kept
+    both = kept_along start old new first kept
 
 -- a reader holds one reading
 pub held_reading : (reader : Reader) (t u : Reading) → Holds reader t → Holds reader u → (t.clauses ≡ u.clauses) × (t.classes ≡ u.classes) × (t.conflicts ≡ u.conflicts)
@@ -180,16 +171,13 @@ module _ (pool : Interned) (t : Reading) (entries : List ClassClause) (table : L
     pub rows_count : length rows ≡ t.classes
     rows_count = sym (length-map rows (row_at new)) ∙ ap length rows_say ∙ length_numbers (clauses_of_class t.clauses) t.classes 0
 
-    pub rows_fit : RowsFit new rows
-    rows_fit = record {
-      of_pool = are.within;
-      numbers = λ id i c j n k.
-          let row : In (row_at new id) (map (clauses_of_class t.clauses) (numbers t.classes 0)) = subst (λ rs. In (row_at new id) rs) rows_say (In_map (row_at new) rows id i) in
-          let w : (m : ℕ) × In m (numbers t.classes 0) × (row_at new id ≡ clauses_of_class t.clauses m) = In_map_cases (clauses_of_class t.clauses) (numbers t.classes 0) (row_at new id) row in
-          let v : (entry : ClassClause) × In entry (filter (λ (e : ClassClause). eqb e.class w.0) t.clauses) × (c ≡ entry.clause) =
-          In_map_cases (λ (e : ClassClause). e.clause) (filter (λ (e : ClassClause). eqb e.class w.0) t.clauses) c (subst (λ cs. In c cs) w.2 j) in
-          subst (λ m. n < m) (sym rows_count) (b.numbers v.0 (filter_cases (λ (e : ClassClause). eqb e.class w.0) t.clauses v.0 v.1).0 n (subst (λ d. In n d) v.2 k));
-    }
+    pub numbers_fit : NumbersFit new rows
+    numbers_fit id i c j n k =
+        let row : In (row_at new id) (map (clauses_of_class t.clauses) (numbers t.classes 0)) = subst (λ rs. In (row_at new id) rs) rows_say (In_map (row_at new) rows id i) in
+        let w : (m : ℕ) × In m (numbers t.classes 0) × (row_at new id ≡ clauses_of_class t.clauses m) = In_map_cases (clauses_of_class t.clauses) (numbers t.classes 0) (row_at new id) row in
+        let v : (entry : ClassClause) × In entry (filter (λ (e : ClassClause). eqb e.class w.0) t.clauses) × (c ≡ entry.clause) =
+        In_map_cases (λ (e : ClassClause). e.clause) (filter (λ (e : ClassClause). eqb e.class w.0) t.clauses) c (subst (λ cs. In c cs) w.2 j) in
+        subst (λ m. n < m) (sym rows_count) (b.numbers v.0 (filter_cases (λ (e : ClassClause). eqb e.class w.0) t.clauses v.0 v.1).0 n (subst (λ d. In n d) v.2 k))
 
     pub booked : (book : Book) → book.rows ≡ rows → book.conflicts ≡ lists_of_pairs t.conflicts (length rows) → repository_of new book ≡ repository_of_reading t
     unfolding repository_of_reading

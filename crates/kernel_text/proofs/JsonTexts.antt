@@ -18,7 +18,7 @@ use Rattle.row_book.specs.Book.{listed_for}
 use Rattle.row_book.specs.Clauses.{numbers}
 use Rattle.row_book.specs.Repository.{Repository, clauses_of}
 use Rattle.row_book.specs.Sets.{In, here, there}
-use Rattle.row_book.proofs.Order.{numbers_parts}
+use Rattle.row_book.proofs.Order.{numbers_parts, numbers_more}
 use Rattle.serde_json.specs.Data.{Data, array, string}
 use Rattle.serde_json.specs.View.{items_of, view}
 use Rattle.serde_json.specs.Written.{compact_text, has_float, items_have_float, items_text}
@@ -34,7 +34,7 @@ use Rattle.kernel_text.specs.KernelLines.{KernelLine, MemberLine}
 use Rattle.kernel_text.specs.KernelText.{format_of, greater_conflicts, line_of_member, members_of}
 use Rattle.kernel_text.specs.Members.{kernel_members}
 use Rattle.kernel_text.specs.Writing.{IsByClass, OfPackages, TellHeld, line_of_package}
-use Rattle.kernel_text.proofs.Written.{members_are, numbers_more}
+use Rattle.kernel_text.proofs.Written.{members_are}
 
 -- lists
 behind : (ds : List Data) → items_text true (items_of ds) ≡ behind_commas (map compact_text ds) ++ codes "]"

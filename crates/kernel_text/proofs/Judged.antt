@@ -1,6 +1,7 @@
 -- Each text is one of a kernel, or has a first fault.
 use Rattle.std.proofs.Common.{◌≡◌, ℕ, suc, ◌+◌, ◌<◌, ◌≤◌, List, [], ◌∷◌, length, take, get_or, Option, Some, None, inl, inr, ◌⊎◌, refl, sym, ap₂, ◌∙◌, subst, arith}
 use Rattle.std.proofs.lemmas.Bool.{cases_eq, cases_lt}
+use Rattle.listed.proofs.Lists.{decided_and}
 use Rattle.row_book.specs.Repository.{Repository}
 use Rattle.row_book.proofs.Lists.{Decided}
 use Rattle.kernel_text.specs.declared.fault.KernelFault.{KernelFault}
@@ -12,7 +13,7 @@ use Rattle.kernel_text.specs.KernelReads.{IsEnded, KernelReads, LinesGive, repos
 use Rattle.kernel_text.specs.Reading.{IsAllowed, Reading, empty_reading, number_limit, with_line}
 use Rattle.kernel_text.specs.Words.{IsWellFormed}
 use Rattle.kernel_text.proofs.Candidates.{Spells, spelled_decided}
-use Rattle.kernel_text.proofs.Decisions.{FirstOrNone, all_decided, allowed_decided, both_decided, first_or_none, less_decided, some_decided}
+use Rattle.kernel_text.proofs.Decisions.{FirstOrNone, all_decided, allowed_decided, first_or_none, less_decided, some_decided}
 use Rattle.kernel_text.proofs.InRange.{in_range}
 use Rattle.kernel_text.proofs.Shape.{some_none}
 use Rattle.kernel_text.proofs.StrayLines.{names_formed}
@@ -63,7 +64,7 @@ far_decided classes (MemberLine name version) = inr (λ w. w.1.1)
 far_decided classes HeldLine = inr (λ w. w.1.1)
 far_decided classes (EndLine c d) = inr (λ w. w.1.1)
 far_decided classes (NeedsLine clause) =
-    both_decided (all_decided (λ m. m < number_limit) (λ m. less_decided m number_limit) clause) (some_decided (λ m. classes ≤ m) (λ m. reaches m) clause)
+    decided_and (all_decided (λ m. m < number_limit) (λ m. less_decided m number_limit) clause) (some_decided (λ m. classes ≤ m) (λ m. reaches m) clause)
   where
     reaches : (m : ℕ) → Decided (classes ≤ m)
     reaches m = elim (cases_lt m classes) [ inl l ↦ inr (λ g. omega arith) | inr g ↦ inl g ]
@@ -111,13 +112,13 @@ pub data Judgement (text : List ℕ) : Type 0 where
   a_kernel : (format : ℕ) (R : Repository) (members : List Member) (held : List ℕ) → KernelReads text format R members held → Judgement text
   a_fault : (fault : KernelFault) → (fault ≡ Memory → ⊥) → IsFault text fault → Judgement text
 
-line_other : (n : ℕ) → Line n ≡ Memory → ⊥
+pub line_other : (n : ℕ) → Line n ≡ Memory → ⊥
 line_other n e = let f : ⊥ = cc in f
 
 end_other : End ≡ Memory → ⊥
 end_other e = let f : ⊥ = cc in f
 
-range_other : (n : ℕ) → Range n ≡ Memory → ⊥
+pub range_other : (n : ℕ) → Range n ≡ Memory → ⊥
 range_other n e = let f : ⊥ = cc in f
 
 pub judgement : (text : List ℕ) → Judgement text

@@ -1,4 +1,3 @@
-pub mod Pieces
 pub mod Spelling
 pub mod OneReading
 pub mod LineCuts

@@ -6,6 +6,7 @@ use Rattle.std.proofs.lemmas.Bool.{and_parts, and_from, both_ways, false_from_ne
 use Rattle.std.proofs.lemmas.List.{append-nil, append_cancel_right, length-append, length-drop, take_all, take-append-drop}
 use Rattle.std.proofs.lemmas.Slice.Eq.{bytes_eq-Decides, starts_is}
 use Rattle.std.proofs.lemmas.Bool.Decides.{Decides-eqb}
+use Rattle.std.proofs.lemmas.Option.{same_Some}
 use Rattle.std.specs.List.{starts_with}
 use Rattle.memchr.specs.Find.{IsFirstByte, is_byte}
 use Rattle.kernel_text.specs.declared.content.LineContent.{LineContent}
@@ -123,12 +124,9 @@ plain_word : (text : List ℕ) → Plain text → is_word text ≡ true
 plain_word [] p = refl
 plain_word (c ∷ cs) p = and_from (not (c == 32)) (is_word cs) (not_from_false (c == 32) (false_from_ne_true (c == 32) (λ e. p.0.0 (eqb-true c 32 e)))) (plain_word cs p.1)
 
-pub some_same : {A : Type 0} (x y : A) → Some x ≡ Some y → x ≡ y
-some_same x y e = cc
-
 -- what stands behind the first word and is none that the line allows
 pub no_head : (word rest : List ℕ) → word ≡ codes "coinst-kernel" → ((f : ℕ) → rest ≡ decimal f → IsFormat f → ⊥) → WordsAreRead word (Some rest) None
-no_head word rest e none (HeadLine format) w r fits = none format (some_same rest (decimal format) r) fits
+no_head word rest e none (HeadLine format) w r fits = none format (same_Some rest (decimal format) r) fits
 no_head word rest e none (ClassLine n) w r fits = absurd (omega (arith, same_kind (HeadLine 1) (ClassLine n) word e w))
 no_head word rest e none (MemberLine a v) w r fits = absurd (omega (arith, same_kind (HeadLine 1) (MemberLine a v) word e w))
 no_head word rest e none HeldLine w r fits = absurd (omega (arith, same_kind (HeadLine 1) HeldLine word e w))
@@ -157,7 +155,7 @@ no_end word rest first second e cut none (NeedsLine c) w r fits = absurd (omega 
 no_end word rest first second e cut none (AgainstLine m) w r fits = absurd (omega (arith, same_kind (EndLine 0 0) (AgainstLine m) word e w))
 no_end word rest first second e cut none (EndLine c d) w r fits =
     let same : (first ≡ decimal c) × (second ≡ Some (decimal d)) =
-    same_cut first (decimal c) second (Some (decimal d)) cut.word (digits_word c fits.0) (sym cut.whole ∙ some_same rest (decimal c ++ 32 ∷ decimal d) r) in
+    same_cut first (decimal c) second (Some (decimal d)) cut.word (digits_word c fits.0) (sym cut.whole ∙ same_Some rest (decimal c ++ 32 ∷ decimal d) r) in
     none c d fits.0 fits.1 same.0 same.1
 
 pub no_member : (word rest first : List ℕ) (second : Option (List ℕ)) → word ≡ codes "member" → IsCut rest first second →
@@ -166,16 +164,12 @@ no_member word rest first second e cut none (HeadLine format) w r fits = absurd 
 no_member word rest first second e cut none (ClassLine n) w r fits = absurd (omega (arith, same_kind (MemberLine [] []) (ClassLine n) word e w))
 no_member word rest first second e cut none (MemberLine a v) w r fits =
     let same : (first ≡ a) × (second ≡ Some v) =
-    same_cut first a second (Some v) cut.word (plain_word a (name_plain a fits.0)) (sym cut.whole ∙ some_same rest (a ++ 32 ∷ v) r) in
+    same_cut first a second (Some v) cut.word (plain_word a (name_plain a fits.0)) (sym cut.whole ∙ same_Some rest (a ++ 32 ∷ v) r) in
     none v same.1 (subst (λ t. IsNamed t v) (sym same.0) fits)
 no_member word rest first second e cut none HeldLine w r fits = absurd (omega (arith, same_kind (MemberLine [] []) HeldLine word e w))
 no_member word rest first second e cut none (NeedsLine c) w r fits = absurd (omega (arith, same_kind (MemberLine [] []) (NeedsLine c) word e w))
 no_member word rest first second e cut none (AgainstLine m) w r fits = absurd (omega (arith, same_kind (MemberLine [] []) (AgainstLine m) word e w))
 no_member word rest first second e cut none (EndLine c d) w r fits = absurd (omega (arith, same_kind (MemberLine [] []) (EndLine c d) word e w))
-
--- what is lent from a place to the end
-pub to_end : (n : ℕ) (xs : List ℕ) → take (length xs - n) (drop n xs) ≡ drop n xs
-to_end n xs = take_all (length xs - n) (drop n xs) (rw (length-drop n xs) (omega arith))
 
 -- the line feed at the end of a line
 last_byte : (body : List ℕ) → drop (length (body ++ 10 ∷ []) - 1) (body ++ 10 ∷ []) ≡ 10 ∷ []

@@ -7,6 +7,7 @@ use Rattle.std.specs.Map.{lookup}
 use Rattle.std.specs.Str.{bytes_eq}
 use Rattle.std.proofs.lemmas.Bool.{and_parts, both_ways, false≢true, false_from_ne_true}
 use Rattle.std.proofs.lemmas.Slice.Eq.{bytes_eq-Decides}
+use Rattle.listed.proofs.Lists.{at_end}
 use Rattle.relation_fields.specs.declared.packages.PackageFacts.{PackageFacts}
 use Rattle.repo_model.proofs.PackageKeys.{has_key-same}
 use Rattle.row_book.specs.Sets.{In, here, there}
@@ -43,10 +44,6 @@ not_seen false told e f = refl
 -- a key is one of those of members where a member has it
 same_name : (m o : Member) → is_same_member m o ≡ true → name_hash m.name ≡ name_hash o.name
 same_name m o same = ap name_hash ((bytes_eq-Decides m.name o.name).0 (and_parts _ _ same).0)
-
-at_end : {X : Type 0} (xs : List X) (x : X) → slice_get (xs ++ x ∷ []) (length xs) ≡ Some x
-at_end [] x = refl
-at_end (y ∷ ys) x = at_end ys x
 
 at_front : {X : Type 0} (xs : List X) (x : X) (n : ℕ) (y : X) → slice_get xs n ≡ Some y → slice_get (xs ++ x ∷ []) n ≡ Some y
 at_front [] x n y e = absurd (cc e)

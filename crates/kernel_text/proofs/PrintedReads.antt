@@ -2,6 +2,7 @@
 use Rattle.std.proofs.Common.{◌≡◌, ℕ, ◌<◌, Bool, List, [], ◌∷◌, Some, length, filter, inl, inr, refl, sym, ap, ap₂, ◌∙◌, subst, zero-add, eqb, eqb-true, ltb, true, false, arith}
 use Rattle.std.proofs.lemmas.Bool.{ltb-true}
 use Rattle.std.specs.List.{flat_map}
+use Rattle.listed.proofs.Lists.{In_flat_cases}
 use Rattle.row_book.specs.Clauses.{numbers}
 use Rattle.row_book.specs.Repository.{Repository, clauses_of, conflicts_of}
 use Rattle.row_book.specs.Sets.{In, has}
@@ -15,7 +16,7 @@ use Rattle.kernel_text.specs.KernelText.{AreSingle, IsWritable, class_lines, ker
 use Rattle.kernel_text.specs.Reading.{Reading, ClassClause, empty_reading, number_limit}
 use Rattle.kernel_text.proofs.LineCuts.{with_lines, AreAllowed, text_gives}
 use Rattle.kernel_text.proofs.Printed.{Blocks, IsBlock, all_blocks, allowed_append, clause_entry, clause_entries, held_of, pairs_of, reading_at, with_append}
-use Rattle.kernel_text.proofs.Retold.{clauses_retold, conflicts_retold, high_low, in_flat_cases}
+use Rattle.kernel_text.proofs.Retold.{clauses_retold, conflicts_retold, high_low}
 
 marks_filter : (held xs : List ℕ) → flat_map (held_of held) xs ≡ filter (has held) xs
 marks_filter held [] = refl
@@ -108,7 +109,7 @@ module _ (f : ℕ) (R : Repository) (members : List Member) (held : List ℕ) (k
 
   entry_low : (entry : ClassClause) → In entry reading.clauses → (l : ℕ) → In l entry.clause → l < size
   entry_low entry i l j =
-      let w : (n : ℕ) × In n (numbers size 0) × In entry (clause_entries R n) = in_flat_cases (clause_entries R) (numbers size 0) entry i in
+      let w : (n : ℕ) × In n (numbers size 0) × In entry (clause_entries R n) = In_flat_cases (clause_entries R) (numbers size 0) entry i in
       let v : (c : List ℕ) × In c (clauses_of R w.0) × (entry ≡ clause_entry w.0 c) = In_map_cases (clause_entry w.0) (clauses_of R w.0) entry w.2 in
       (kernel.sound.clauses w.0 v.0 v.1).1 l (subst (λ (x : ClassClause). In l x.clause) v.2 j)
 

@@ -3,6 +3,8 @@
 use Rattle.std.proofs.Common.{◌≡◌, ℕ, zero, suc, ◌+◌, ◌<◌, ◌≤◌, Bool, true, false, not, ◌&&◌, eqb, eq-eqb, eqb-true, List, [], ◌∷◌, length, get_or, inl, inr, refl, sym, ap, ◌∙◌, arith}
 use Rattle.std.specs.List.{list_any}
 use Rattle.std.proofs.lemmas.Bool.{and_from, and_parts, both_ways, false_from_ne_true}
+use Rattle.listed.proofs.Bools.{same_bool}
+use Rattle.listed.proofs.Lists.{In_flat}
 use Rattle.relation_fields.specs.declared.packages.PackageFacts.{PackageFacts}
 use Rattle.repo_model.specs.declared.goals.Goal.{Goal}
 use Rattle.repo_model.specs.Goals.{packages_named}
@@ -22,13 +24,6 @@ use Rattle.kernel_text.specs.Laws.{IsKernelOf, IsReadBack, classes_named}
 use Rattle.kernel_text.specs.Members.{file_members, kernel_members, member_in}
 use Rattle.kernel_text.proofs.Classified.{kernels_are_writable, member_from}
 use Rattle.kernel_text.proofs.ReadIsWritten.{read_is_written}
-use Rattle.kernel_text.proofs.Retold.{in_flat}
-
-bool_same : (a b : Bool) → (a ≡ true → b ≡ true) → (b ≡ true → a ≡ true) → a ≡ b
-bool_same true true f g = refl
-bool_same true false f g = sym (f refl)
-bool_same false true f g = g refl
-bool_same false false f g = refl
 
 -- the member at a place of the file
 record IsFileMember (packages : List PackageFacts) (class_of : List ℕ) (m : Member) : Type 0 where
@@ -77,7 +72,7 @@ module _ (format : ℕ) (R : Repository) (packages : List PackageFacts) (class_o
   place_member i l =
       let m : Member = member_in (get_or class_of i 0) (stanza_at packages i) in
       let inside : get_or class_of i 0 < size = class_inside i l in
-      in_flat (members_of (file_members packages class_of)) (numbers size 0) (get_or class_of i 0) m (numbers_from size 0 (get_or class_of i 0) (omega arith) (omega arith))
+      In_flat (members_of (file_members packages class_of)) (numbers size 0) (get_or class_of i 0) m (numbers_from size 0 (get_or class_of i 0) (omega arith) (omega arith))
       (filter_from (λ (o : Member). eqb o.class (get_or class_of i 0)) (file_members packages class_of) m (at_file packages class_of i kernel.each l) (eq-eqb (get_or class_of i 0) (get_or class_of i 0) refl))
 
   -- a goal names a member as it names its package
@@ -92,7 +87,7 @@ module _ (format : ℕ) (R : Repository) (packages : List PackageFacts) (class_o
 
   -- in a class
   class_same : (goal : Goal) (n : ℕ) → names_in_class K goal n ≡ list_any (λ i. eqb n (get_or class_of i 0)) (packages_named packages goal)
-  class_same goal n = bool_same (names_in_class K goal n) (list_any (λ i. eqb n (get_or class_of i 0)) (packages_named packages goal)) there_too back
+  class_same goal n = same_bool (names_in_class K goal n) (list_any (λ i. eqb n (get_or class_of i 0)) (packages_named packages goal)) there_too back
     where
       there_too : names_in_class K goal n ≡ true → list_any (λ i. eqb n (get_or class_of i 0)) (packages_named packages goal) ≡ true
       there_too h =
@@ -115,7 +110,7 @@ module _ (format : ℕ) (R : Repository) (packages : List PackageFacts) (class_o
 
   -- at all
   unknown : (goal : Goal) → is_unknown K goal ≡ eqb (length (packages_named packages goal)) 0
-  unknown goal = bool_same (is_unknown K goal) (eqb (length (packages_named packages goal)) 0) none_there none_here
+  unknown goal = same_bool (is_unknown K goal) (eqb (length (packages_named packages goal)) 0) none_there none_here
     where
       some_there : list_any (is_named_by goal) K ≡ true → (i : ℕ) × In i (packages_named packages goal)
       some_there h =

@@ -4,6 +4,7 @@ use Rattle.std.specs.List.{flat_map}
 use Rattle.std.proofs.lemmas.Bool.{cases_lt, cases_eq, and_from, or_left, or_right, lt-ltb, both_ways}
 use Rattle.std.proofs.lemmas.List.{append-nil, map-append, ext_get_or}
 use Rattle.std.proofs.lemmas.List.Elements.{filter-append}
+use Rattle.listed.proofs.Lists.{In_flat_cases, In_flat}
 use Rattle.row_book.specs.Book.{are_paired, lists_of_pairs, AreConflicts}
 use Rattle.row_book.specs.Clauses.{numbers}
 use Rattle.row_book.specs.Repository.{Repository, clauses_of, conflicts_of}
@@ -16,22 +17,6 @@ use Rattle.kernel_text.specs.KernelReads.{clauses_of_class}
 use Rattle.kernel_text.specs.KernelText.{greater_conflicts}
 use Rattle.kernel_text.specs.Reading.{ClassClause}
 use Rattle.kernel_text.proofs.Printed.{clause_entry, clause_entries, pair_of, pairs_of}
-
-pub in_flat_cases : {X A : Type 0} (f : X → List A) (xs : List X) (y : A) → In y (flat_map f xs) → (x : X) × In x xs × In y (f x)
-in_flat_cases f [] y i = absurd (In_none i)
-in_flat_cases f (x ∷ xs) y i =
-    elim (In_append_cases (f x) (flat_map f xs) y i) [
-      | inl j ↦ (x, here, j)
-      | inr j ↦ let w : (z : _) × In z xs × In y (f z) = in_flat_cases f xs y j in (w.0, there w.1, w.2)
-    ]
-
-pub in_flat : {X A : Type 0} (f : X → List A) (xs : List X) (x : X) (y : A) → In x xs → In y (f x) → In y (flat_map f xs)
-in_flat f [] x y i j = absurd (In_none i)
-in_flat f (z ∷ xs) x y i j =
-    elim (In_cases i) [
-      | inl e ↦ In_append_left (f z) (flat_map f xs) y (subst (λ k. In y (f k)) e j)
-      | inr k ↦ In_append_right (f z) (flat_map f xs) y (in_flat f xs x y k j)
-    ]
 
 -- the clauses of one class among those of all
 clauses_append : (xs ys : List ClassClause) (n : ℕ) → clauses_of_class (xs ++ ys) n ≡ clauses_of_class xs n ++ clauses_of_class ys n
@@ -84,7 +69,7 @@ module _ (R : Repository) (N : ℕ) (size : length R.conflicts ≡ N) (conflicts
   -- a conflict of a class with a greater one
   found : (p q : ℕ) → p < N → p < q → In q (conflicts_of R p) → In (pair_of p q) pairs
   found p q l g i =
-      in_flat (pairs_of R) (numbers N 0) p (pair_of p q) (numbers_from N 0 p (omega arith) (omega arith))
+      In_flat (pairs_of R) (numbers N 0) p (pair_of p q) (numbers_from N 0 p (omega arith) (omega arith))
       (In_map (pair_of p) (greater_conflicts R p) q (filter_from (λ m. ltb p m) (conflicts_of R p) q i (lt-ltb p q g)))
 
   test : (p q a b : ℕ) → ((a ≡ p) × (b ≡ q)) ⊎ ((a ≡ q) × (b ≡ p)) → is_of p q (pair_of a b) ≡ true
@@ -107,7 +92,7 @@ module _ (R : Repository) (N : ℕ) (size : length R.conflicts ≡ N) (conflicts
   -- each pair is of a class and one of its conflicts
   of_pair : (pair : Pair) → In pair pairs → In pair.high (conflicts_of R pair.low)
   of_pair pair i =
-      let w : (n : ℕ) × In n (numbers N 0) × In pair (pairs_of R n) = in_flat_cases (pairs_of R) (numbers N 0) pair i in
+      let w : (n : ℕ) × In n (numbers N 0) × In pair (pairs_of R n) = In_flat_cases (pairs_of R) (numbers N 0) pair i in
       let v : (m : ℕ) × In m (greater_conflicts R w.0) × (pair ≡ pair_of w.0 m) = In_map_cases (pair_of w.0) (greater_conflicts R w.0) pair w.2 in
       subst (λ (x : Pair). In x.high (conflicts_of R x.low)) (sym v.2) (filter_cases (λ m. ltb w.0 m) (conflicts_of R w.0) v.0 v.1).0
 

@@ -8,6 +8,7 @@ use Rattle.std.proofs.lemmas.Grind.{flat_map-append}
 use Rattle.std.proofs.lemmas.List.{append-nil, flat_map_more, get_or_past, get_or-set_same, get_or-set_other, take_more}
 use Rattle.std.proofs.lemmas.List.Elements.{filter-append}
 use Rattle.std.proofs.lemmas.List.Folds.{flat_map-map}
+use Rattle.listed.proofs.Lists.{flat_same}
 use Rattle.relation_fields.specs.declared.packages.PackageFacts.{PackageFacts}
 use Rattle.repo_model.specs.Stanzas.{stanza_at, no_stanza}
 use Rattle.row_book.specs.Book.{listed_for}
@@ -16,22 +17,13 @@ use Rattle.row_book.specs.Flags.{flag}
 use Rattle.row_book.specs.Repository.{Repository, clauses_of, conflicts_of}
 use Rattle.row_book.specs.Sets.{In, has}
 use Rattle.row_book.proofs.Lists.{In_none, filter_cases}
-use Rattle.row_book.proofs.Order.{numbers_parts}
+use Rattle.row_book.proofs.Order.{numbers_parts, numbers_end, numbers_more}
 use Rattle.kernel_text.specs.declared.member.Member.{Member}
 use Rattle.kernel_text.specs.KernelLines.{KernelLine, HeadLine, ClassLine, NeedsLine, AgainstLine, EndLine, line_text}
 use Rattle.kernel_text.specs.KernelText.{class_lines, greater_conflicts, held_lines, kernel_lines, kernel_text, line_of_member, members_of}
 use Rattle.kernel_text.specs.Members.{file_members, kernel_members}
 use Rattle.kernel_text.specs.Writing.{IsByClass, OfPackages, TellHeld, block_text, line_of_package, lines_text, numbers_of_class}
-use Rattle.kernel_text.proofs.Classified.{all_counted, all_of_class, file_member, flat_same, length_file}
-
--- one more number
-numbers_end : (n k : ℕ) → numbers (suc n) k ≡ numbers n k ++ (k + n) ∷ []
-unfolding numbers
-numbers_end zero k = ap (λ m. m ∷ []) (omega arith)
-numbers_end (suc n) k = ap (λ xs. k ∷ xs) (numbers_end n (suc k) ∙ ap (λ m. numbers n (suc k) ++ m ∷ []) (omega arith))
-
-pub numbers_more : (n : ℕ) → numbers (n + 1) 0 ≡ numbers n 0 ++ n ∷ []
-numbers_more n = ap (λ m. numbers m 0) (add-one n) ∙ numbers_end n 0 ∙ ap (λ m. numbers n 0 ++ m ∷ []) (zero-add n)
+use Rattle.kernel_text.proofs.Classified.{all_counted, all_of_class, file_member, length_file}
 
 -- lists of classes: at first empty, and then with one more package
 pub none_taken : (class_of : List ℕ) (size : ℕ) (table : List (List ℕ)) → length table ≡ size → ((n : ℕ) → listed_for table n ≡ []) → IsByClass class_of 0 size table

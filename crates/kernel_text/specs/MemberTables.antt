@@ -1,3 +1,4 @@
+-- for the bodies of this crate alone
 -- The members that are known by hashes of their names.
 use Rattle.std.specs.Prelude.{◌≡◌, ℕ, ◌<◌, Bool, true, false, cond, nat_eq, List, [], ◌∷◌, ◌++◌, length, slice_get, Option, Some, None}
 use Rattle.std.specs.Hash.FoldHasher as folding

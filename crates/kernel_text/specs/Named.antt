@@ -1,3 +1,4 @@
+-- for the bodies of this crate alone
 -- Members under the names of many goals.
 use Rattle.std.specs.Prelude.{◌≡◌, ℕ, true, List}
 use Rattle.std.specs.Str.{bytes_eq}

@@ -1,3 +1,4 @@
+-- for the bodies of this crate alone
 -- What a reader of kernel texts holds of the lines so far.
 use Rattle.std.specs.Prelude.{◌≡◌, ℕ, ◌≤◌, Bool, true, false, nat_lt, List, length, take, drop, map, Option, Some, None}
 use Rattle.row_book.specs.Clauses.{comes_before}

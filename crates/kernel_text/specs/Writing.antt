@@ -1,3 +1,4 @@
+-- for the bodies of this crate alone
 -- What the parts of the writer put behind a text, and the packages of each class by their numbers.
 use Rattle.std.specs.Prelude.{◌≡◌, ℕ, ◌<◌, Bool, eqb, List, ◌++◌, length, filter, slice_index}
 use Rattle.std.specs.List.{flat_map}

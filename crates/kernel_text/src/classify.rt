@@ -3,8 +3,10 @@ ghost use Rattle.std.specs.Prelude.{◌≡◌, ◌∷◌, ◌++◌, [], ◌≤�
 ghost use Rattle.row_book.specs.Book.{listed_for};
 ghost use Rattle.row_book.specs.Sets.{In};
 ghost use Rattle.kernel_text.specs.Writing.{IsByClass};
+ghost use Rattle.repo_model.specs.Limits.{most_packages};
 
 use clause_pool::NumList;
+use listed::empty_lists;
 use std::alloc::{AllocError, Global};
 
 /// For each of so many classes the numbers of its packages, ascending: each package is looked at once.
@@ -13,25 +15,13 @@ pub(crate) fn packages_by_class(
     class_of: &[u32],
     size: u32,
 ) -> Result<Vec<NumList>, AllocError>
-    requires few { length class_of.now ≤ 200000 }
+    requires few { length class_of.now ≤ most_packages }
     requires inside { (class : ℕ) → In class class_of.now → class < size }
     ensures { IfOk result (λ table. IsByClass class_of.now (length class_of.now) size table.items) }
 {
-    let mut table = empty_lists(alloc, size)?;
+    let mut table = empty_lists(alloc, size as usize)?;
     for number in 0..class_of.len() as u32 {
         enter(&mut table, class_of[number as usize], number)?;
-    }
-    Ok(table)
-}
-
-/// So many empty lists.
-fn empty_lists(alloc: Global, size: u32) -> Result<Vec<NumList>, AllocError>
-    ensures count { IfOk result (λ table. length table.items ≡ size) }
-    ensures empty { IfOk result (λ table. (n : ℕ) → listed_for table.items n ≡ []) }
-{
-    let mut table = Vec::new(alloc);
-    for _ in 0..size {
-        table.push(NumList::new(alloc))?;
     }
     Ok(table)
 }

@@ -3,6 +3,7 @@ ghost use Rattle.std.specs.Prelude.{◌≡◌, ◌≤◌, ◌↔◌, IsTrue, IfO
 ghost use Rattle.kernel_text.specs.KernelFaults.{Strays};
 ghost use Rattle.kernel_text.specs.Strays.{StrayIsTold, strays_by};
 ghost use Rattle.kernel_text.specs.Words.{line_of_content};
+ghost use Rattle.repo_model.specs.Limits.{most_bytes};
 
 use crate::check_range::is_below;
 use crate::content::LineContent;
@@ -17,7 +18,7 @@ pub(crate) fn first_stray(
     bytes: &[u8],
     classes: u32,
 ) -> Result<Option<u64>, AllocError>
-    requires { length bytes.now ≤ 1073741824 }
+    requires { length bytes.now ≤ most_bytes }
     ensures { IfOk result (StrayIsTold bytes.now classes) }
 {
     let mut place = 0;

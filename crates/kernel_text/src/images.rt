@@ -9,6 +9,7 @@ ghost use Rattle.kernel_text.specs.Named.{AreNamed};
 use crate::member::Member;
 use crate::named::NamedMembers;
 use crate::stored::StoredKernel;
+use listed::sort_once;
 use repo_model::Goal;
 use row_book::Needs;
 use std::alloc::{AllocError, Global};
@@ -71,13 +72,4 @@ fn image_of(
     let mut classes = named.classes(alloc, members, goal)?;
     sort_once(&mut classes);
     Ok(classes)
-}
-
-// Puts the numbers in their order, each once.
-fn sort_once(numbers: &mut Vec<u32>)
-    ensures ascending { Ascending numbers.new.items }
-    ensures same { (n : ℕ) → In n numbers.new.items ↔ In n numbers.old.items }
-{
-    numbers.sort_unstable();
-    numbers.dedup();
 }

@@ -7,13 +7,13 @@ mod check_range;
 mod classify;
 mod clause_shape;
 mod content;
-pub mod fault;
+mod fault;
 mod find_stray;
 mod holding;
-pub mod images;
+mod images;
 mod laws;
 mod line_end;
-pub mod member;
+mod member;
 mod member_keys;
 mod member_table;
 mod named;
@@ -22,17 +22,22 @@ mod read;
 mod read_line;
 mod read_number;
 mod reader;
-pub mod stored;
+mod stored;
 mod write;
 mod write_json;
 
+// A kernel is written, as text or as JSON.
+pub use write::write_kernel;
+pub use write_json::kernel_json;
+
+// A text is read as a kernel, and asked for the classes of goals.
 pub use fault::KernelFault;
 pub use images::ImageError;
+pub use member::Member;
+pub use stored::{MemberList, StoredKernel, read_kernel};
+
+// Laws.
 pub use laws::{
     kernels_are_writable, read_is_written, texts_are_judged, texts_are_read_once,
     written_is_read_back,
 };
-pub use member::Member;
-pub use stored::{MemberList, StoredKernel, read_kernel};
-pub use write::write_kernel;
-pub use write_json::kernel_json;

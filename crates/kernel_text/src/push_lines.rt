@@ -15,7 +15,7 @@ use relation_fields::PackageFacts;
 use std::alloc::AllocError;
 
 // Puts a number behind the text, in decimal digits, behind a space.
-#[tactic(auto, using(crate::proofs::Pieces::appended))]
+#[tactic(auto, using(std::proofs::Common::append_assoc))]
 fn push_number(out: &mut Vec<u8>, number: u32) -> Result<(), AllocError>
     ensures { OnOk result (out.new.items ≡ out.old.items ++ behind_space number) }
 {
@@ -35,7 +35,7 @@ fn push_numbers(out: &mut Vec<u8>, numbers: &[u32]) -> Result<(), AllocError>
 }
 
 /// Puts the first line of the format behind the text.
-#[tactic(auto, using(crate::proofs::Pieces::appended), unfolding(crate::specs::KernelLines::line_text))]
+#[tactic(auto, using(std::proofs::Common::append_assoc), unfolding(crate::specs::KernelLines::line_text))]
 pub(crate) fn push_head(out: &mut Vec<u8>, format: u32) -> Result<(), AllocError>
     ensures { OnOk result (out.new.items ≡ out.old.items ++ line_text (HeadLine format)) }
 {
@@ -45,7 +45,7 @@ pub(crate) fn push_head(out: &mut Vec<u8>, format: u32) -> Result<(), AllocError
 }
 
 /// Puts the line that begins a class behind the text.
-#[tactic(auto, using(crate::proofs::Pieces::appended), unfolding(crate::specs::KernelLines::line_text))]
+#[tactic(auto, using(std::proofs::Common::append_assoc), unfolding(crate::specs::KernelLines::line_text))]
 pub(crate) fn push_class_line(out: &mut Vec<u8>, number: u32) -> Result<(), AllocError>
     ensures { OnOk result (out.new.items ≡ out.old.items ++ line_text (ClassLine number)) }
 {
@@ -70,7 +70,7 @@ pub(crate) fn push_member_lines(
 }
 
 // Puts the line of a member behind the text.
-#[tactic(auto, using(crate::proofs::Pieces::appended), unfolding(crate::specs::KernelLines::line_text))]
+#[tactic(auto, using(std::proofs::Common::append_assoc), unfolding(crate::specs::KernelLines::line_text))]
 fn push_member_line(out: &mut Vec<u8>, member: &PackageFacts) -> Result<(), AllocError>
     ensures { OnOk result (out.new.items ≡ out.old.items ++ line_text (line_of_package member.now)) }
 {
@@ -109,7 +109,7 @@ pub(crate) fn push_needs_lines(
 }
 
 // Puts the line of a clause behind the text.
-#[tactic(auto, using(crate::proofs::Pieces::appended), unfolding(crate::specs::KernelLines::line_text))]
+#[tactic(auto, using(std::proofs::Common::append_assoc), unfolding(crate::specs::KernelLines::line_text))]
 fn push_needs_line(out: &mut Vec<u8>, clause: &[u32]) -> Result<(), AllocError>
     ensures { OnOk result (out.new.items ≡ out.old.items ++ line_text (NeedsLine clause.now)) }
 {
@@ -135,7 +135,7 @@ pub(crate) fn push_against_lines(
 }
 
 // Puts the line of a conflict behind the text.
-#[tactic(auto, using(crate::proofs::Pieces::appended), unfolding(crate::specs::KernelLines::line_text))]
+#[tactic(auto, using(std::proofs::Common::append_assoc), unfolding(crate::specs::KernelLines::line_text))]
 fn push_against_line(out: &mut Vec<u8>, class: u32) -> Result<(), AllocError>
     ensures { OnOk result (out.new.items ≡ out.old.items ++ line_text (AgainstLine class)) }
 {
@@ -145,7 +145,7 @@ fn push_against_line(out: &mut Vec<u8>, class: u32) -> Result<(), AllocError>
 }
 
 /// Puts the end line behind the text.
-#[tactic(auto, using(crate::proofs::Pieces::appended), unfolding(crate::specs::KernelLines::line_text))]
+#[tactic(auto, using(std::proofs::Common::append_assoc), unfolding(crate::specs::KernelLines::line_text))]
 pub(crate) fn push_end(out: &mut Vec<u8>, classes: u32, members: u32) -> Result<(), AllocError>
     ensures { OnOk result (out.new.items ≡ out.old.items ++ line_text (EndLine classes members)) }
 {

@@ -2,6 +2,7 @@
 ghost use Rattle.std.specs.Prelude.{◌≡◌, ℕ, ◌≤◌, IfOk, IfErr, length};
 ghost use Rattle.kernel_text.specs.KernelFaults.{IsFault};
 ghost use Rattle.kernel_text.specs.Reader.{HoldsAll, HoldsKernel};
+ghost use Rattle.repo_model.specs.Limits.{most_bytes};
 
 use crate::check_range::is_in_range;
 use crate::fault::KernelFault;
@@ -12,7 +13,7 @@ use std::alloc::Global;
 
 /// Reads a whole text: what its lines say, or its first fault.
 pub(crate) fn read_text(alloc: Global, bytes: &[u8]) -> Result<Reader, KernelFault>
-    requires { length bytes.now ≤ 1073741824 }
+    requires { length bytes.now ≤ most_bytes }
     ensures read { IfOk result (HoldsKernel bytes.now) }
     ensures refused { IfErr result (IsFault bytes.now) }
 {
@@ -35,7 +36,7 @@ pub(crate) fn read_text(alloc: Global, bytes: &[u8]) -> Result<Reader, KernelFau
 
 // Takes all lines, or finds the first that is not allowed behind those before it.
 fn read_lines(alloc: Global, bytes: &[u8]) -> Result<Reader, KernelFault>
-    requires { length bytes.now ≤ 1073741824 }
+    requires { length bytes.now ≤ most_bytes }
     ensures read { IfOk result (HoldsAll bytes.now) }
     ensures refused { IfErr result (IsFault bytes.now) }
 {

@@ -7,6 +7,7 @@ ghost use Rattle.kernel_text.specs.declared.fault.KernelFault.TheVariants.{Memor
 ghost use Rattle.kernel_text.specs.declared.member.Member.{Member};
 ghost use Rattle.kernel_text.specs.KernelFaults.{IsFault};
 ghost use Rattle.kernel_text.specs.KernelReads.{KernelReads};
+ghost use Rattle.repo_model.specs.Limits.{most_bytes};
 
 use crate::build_book::book_of;
 use crate::fault::KernelFault;
@@ -45,7 +46,7 @@ pub fn read_kernel(
     bytes: &[u8],
     pool: &mut Pool,
 ) -> Result<StoredKernel, KernelFault>
-    requires { length bytes.now ≤ 1073741824 }
+    requires { length bytes.now ≤ most_bytes }
     ensures read { IfOk result (λ stored. KernelReads bytes.now stored.format (repository_of pool.new stored.book) stored.members stored.held) }
     ensures sound { IfOk result (λ stored. Sound pool.new stored.book) }
     ensures only { IfOk result (λ stored. AddsOnly pool.old pool.new stored.book.rows) }

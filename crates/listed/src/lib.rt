@@ -1,70 +1,28 @@
-//! A vector that contracts see as the list of its items.
+//! The shelf that every crate reaches: vectors that contracts see as lists, and small functions on lists, flags and digits.
 #![tactic(auto)]
 
-ghost use Rattle.std.specs.Prelude.{◌≡◌, ◌∷◌, ◌++◌, [], OnOk, OnErr};
+mod ascending;
+mod digits;
+mod flags;
+mod list;
+mod tables;
+mod white;
 
-use std::alloc::{AllocError, Global};
-use std::marker::Model;
+// A vector that contracts see as the list of its items.
+pub use list::Listed;
 
-/// A growing list of items, lent as a slice.
-#[derive(Drop)]
-pub struct Listed<T> {
-    items: Vec<T>,
-}
+// Ascending lists of numbers.
+pub use ascending::{
+    holds, holds_ascending, holds_sorted, is_inside, is_inside_ascending, sort_once,
+};
 
-impl<T> Model for Listed<T> {
-    ghost use Rattle.std.specs.Prelude.{List};
-    ghost use Rattle.std.specs.Coded.{coded_list};
+// Lists of lists, and flags as numbers.
+pub use flags::true_numbers;
+pub use tables::{empty_lists, empty_vectors};
 
-    ghost Value = { List T };
-
-    ghost coded = { coded_list T.code };
-
-    ghost view = { λ s. s.items.items };
-}
-
-impl<T: Drop> Listed<T> {
-    /// The empty list; it takes no memory.
-    pub fn new(alloc: Global) -> Self
-        ensures { result ≡ [] }
-    {
-        Listed {
-            items: Vec::new(alloc),
-        }
-    }
-
-    /// The list of a vector's items; it takes no memory.
-    pub fn of(items: Vec<T>) -> Self
-        ensures { result ≡ items.items }
-    {
-        Listed { items }
-    }
-
-    /// Puts an item behind the others; where no memory is found, the list stays as it was.
-    pub fn push(&mut self, item: T) -> Result<(), AllocError>
-        ensures ok { OnOk result (self.new ≡ self.old ++ item ∷ []) }
-        ensures err { OnErr result (self.new ≡ self.old) }
-    {
-        self.items.push(item)?;
-        Ok(())
-    }
-
-    /// Puts the items of another list behind the others; where no memory is found, the list stays as it was.
-    pub fn append(&mut self, other: Listed<T>) -> Result<(), AllocError>
-        ensures ok { OnOk result (self.new ≡ self.old ++ other) }
-        ensures err { OnErr result (self.new ≡ self.old) }
-    {
-        let Listed { mut items } = other;
-        self.items.append(&mut items)
-    }
-
-    /// Lends the items in their order; it takes no memory.
-    pub fn as_slice(&self) -> &[T]
-        ensures { result.now ≡ self.now }
-    {
-        self.items.as_slice()
-    }
-}
+// Texts.
+pub use digits::has_digits_alone;
+pub use white::{is_white_byte, trim, trim_back, trim_front};
 
 #[cfg(test)]
 mod tests {
@@ -72,12 +30,32 @@ mod tests {
     use std::test::Fail;
 
     #[test]
-    fn keeps_items_in_order(rt: HostRuntime) -> Result<(), Fail> {
-        let mut list = Listed::of(vec![in rt.alloc(); 1u32]?);
-        list.push(2)?;
-        list.append(Listed::of(vec![in rt.alloc(); 3u32, 4]?))?;
-        assert_eq!(rt; list.as_slice(), [1, 2, 3, 4].as_slice());
-        assert!(rt; Listed::<u32>::new(rt.alloc()).as_slice().is_empty());
+    fn sorts_and_finds(rt: HostRuntime) -> Result<(), Fail> {
+        let mut numbers = vec![in rt.alloc(); 9u32, 4, 12, 4, 1, 30, 7, 25, 18, 2, 40]?;
+        sort_once(&mut numbers);
+        assert_eq!(rt;
+            numbers.as_slice(),
+            [1, 2, 4, 7, 9, 12, 18, 25, 30, 40].as_slice()
+        );
+        assert!(rt; holds(numbers.as_slice(), 30) && !holds(numbers.as_slice(), 31));
+        Ok(())
+    }
+
+    #[test]
+    fn makes_tables(rt: HostRuntime) -> Result<(), Fail> {
+        let flags = true_numbers(rt.alloc(), &[true, false, true])?;
+        assert_eq!(rt; flags.as_slice(), [0, 2].as_slice());
+        assert_eq!(rt; empty_lists::<u32>(rt.alloc(), 3)?.len(), 3);
+        assert_eq!(rt; empty_vectors::<u32>(rt.alloc(), 2)?.len(), 2);
+        Ok(())
+    }
+
+    #[test]
+    fn trims_texts(rt: HostRuntime) -> Result<(), Fail> {
+        assert_eq!(rt; trim(b" \ta b\n"), b"a b".as_slice());
+        assert!(rt;
+            trim(b" \n").is_empty() && has_digits_alone(b"0129") && !has_digits_alone(b"1a")
+        );
         Ok(())
     }
 }

@@ -4,6 +4,7 @@ use Rattle.std.specs.Option.{option_or}
 use Rattle.relation_fields.specs.declared.packages.Home.{Home}
 use Rattle.relation_fields.specs.declared.packages.PackageFacts.{PackageFacts}
 use Rattle.repo_model.specs.Feeding.{IsSuiteOf}
+use Rattle.repo_model.specs.Limits.{most_bytes, most_packages}
 use Rattle.suite_compare.specs.Refusals.{home_in, packages_in}
 use Rattle.migrate_plan.specs.Differing.{differing}
 use Rattle.migrate_plan.specs.Refusals.{above, bytes_with, homes_refusal, packages_with, plan_refusal, Refuses}
@@ -35,7 +36,7 @@ are_read old new home other some more olds news names one two first second made 
 
 abbrev refusal_by : List ℕ → List ℕ → Home → Home → List PackageFacts → List PackageFacts → List (List ℕ) → Option PlanError
 refusal_by old new home other olds news names =
-    option_or (homes_refusal home other) (option_or (above 256 Names (length names)) (option_or (above 200000 Packages (packages_with olds news names)) (above 1073741824 TooLong (bytes_with old new))))
+    option_or (homes_refusal home other) (option_or (above 256 Names (length names)) (option_or (above most_packages Packages (packages_with olds news names)) (above most_bytes TooLong (bytes_with old new))))
 
 module _ (old new : List ℕ) (home other : Home) (olds news : List PackageFacts) (names : List (List ℕ)) (read : AreRead old new home other olds news names) where
   refusal_is : refusal_by old new home other olds news names ≡ plan_refusal old new
@@ -49,10 +50,10 @@ module _ (old new : List ℕ) (home other : Home) (olds news : List PackageFacts
   many = above 256 Names (length names)
 
   abbrev large : Option PlanError
-  large = above 200000 Packages (packages_with olds news names)
+  large = above most_packages Packages (packages_with olds news names)
 
   abbrev long : Option PlanError
-  long = above 1073741824 TooLong (bytes_with old new)
+  long = above most_bytes TooLong (bytes_with old new)
 
   -- each refusal comes where those before it are not there
   pub by_homes : (error : PlanError) → Refuses error (homes_refusal home other) → Refuses error (plan_refusal old new)

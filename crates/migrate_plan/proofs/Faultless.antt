@@ -23,23 +23,15 @@ use Rattle.repo_model.specs.Fields.{field_of}
 use Rattle.repo_model.specs.FirstFault.{duplicate_fault, fault_behind, faults_from, first_fault, first_some, home_of, is_at_home, mixed_fault, own_fault, reading_fault, stanza_fault, stanzas_in, stanzas_of}
 use Rattle.repo_model.specs.declared.fault.IndexFault.{IndexFault}
 use Rattle.repo_model.specs.declared.fault.IndexFault.TheVariants.{Duplicate, Mixed, Stanza, TooMany}
+use Rattle.repo_model.specs.Limits.{most_packages}
 use Rattle.repo_model.proofs.Refusing.{none_behind}
 use Rattle.repo_model.proofs.WellFormed.{none_of}
+use Rattle.repo_model.proofs.Steps.{first_some-push, home_of-push, stanzas_in-ok}
 use Rattle.migrate_plan.proofs.Shifted.{ok_of}
-
-some_push : {X : Type 0} (xs : List (Option X)) (x : Option X) → first_some (xs ++ x ∷ []) ≡ option_or (first_some xs) x
-some_push [] None = refl
-some_push [] (Some x) = refl
-some_push (None ∷ xs) x = some_push xs x
-some_push (Some y ∷ xs) x = refl
-
-home_push : (before : List RawStanza) (stanza : RawStanza) → home_of (before ++ stanza ∷ []) ≡ option_or (home_of before) (architecture_of stanza)
-unfolding home_of
-home_push before stanza = ap first_some (map-append architecture_of before (stanza ∷ [])) ∙ some_push (map architecture_of before) (architecture_of stanza)
 
 -- a stanza has no fault behind these
 pub record Fits (before : List RawStanza) (stanza : RawStanza) : Type 0 where
-  pub room : length before + 1 ≤ 200000
+  pub room : length before + 1 ≤ most_packages
   pub fine : stanza_fault (map facts_of before) (home_of before) stanza ≡ None
 
 -- each of some stanzas behind these and those before it
@@ -47,18 +39,14 @@ abbrev pub AllFit : List RawStanza → List RawStanza → Type 0
 AllFit before [] = Unit {0}
 AllFit before (stanza ∷ more) = Fits before stanza × AllFit (before ++ stanza ∷ []) more
 
-pub in_ok : (stanzas : List RawStanza) → stanzas_in (map ok_of stanzas) ≡ stanzas
-in_ok [] = refl
-in_ok (stanza ∷ more) = ap (λ rest. stanza ∷ rest) (in_ok more)
-
-early : (n : ℕ) (x : Option IndexFault) → (if nat_le 200000 n then Some TooMany else x) ≡ None → (n + 1 ≤ 200000) × (x ≡ None)
-early n x e = go (nat_le 200000 n) refl e
+early : (n : ℕ) (x : Option IndexFault) → (if nat_le most_packages n then Some TooMany else x) ≡ None → (n + 1 ≤ most_packages) × (x ≡ None)
+early n x e = go (nat_le most_packages n) refl e
   where
-    go : (b : Bool) → nat_le 200000 n ≡ b → (if b then Some TooMany else x) ≡ None → (n + 1 ≤ 200000) × (x ≡ None)
+    go : (b : Bool) → nat_le most_packages n ≡ b → (if b then Some TooMany else x) ≡ None → (n + 1 ≤ most_packages) × (x ≡ None)
     go true is h = absurd (let never : ⊥ = cc in never)
     go false is h = (grind (arith, nat_tests, is), h)
 
-not_early : (n : ℕ) → n + 1 ≤ 200000 → nat_le 200000 n ≡ false
+not_early : (n : ℕ) → n + 1 ≤ most_packages → nat_le most_packages n ≡ false
 not_early n h = grind (arith, nat_tests)
 
 -- what stands behind a front of stanzas, where nothing has a fault, are stanzas that fit
@@ -67,7 +55,7 @@ record Walked (before : List RawStanza) (more : List (Result RawStanza StanzaFau
   are : more ≡ map ok_of stanzas
   fit : AllFit before stanzas
 
-walk_step : (before : List RawStanza) (reading : Result RawStanza StanzaFault) (more : List (Result RawStanza StanzaFault)) → length before + 1 ≤ 200000 → reading_fault before reading ≡ None
+walk_step : (before : List RawStanza) (reading : Result RawStanza StanzaFault) (more : List (Result RawStanza StanzaFault)) → length before + 1 ≤ most_packages → reading_fault before reading ≡ None
     → ((stanza : RawStanza) → reading ≡ ok_of stanza → Walked (before ++ stanza ∷ []) more) → Walked before (reading ∷ more)
 walk_step before (Err fault) more room fine later = absurd (let never : ⊥ = cc in never)
 walk_step before (Ok stanza) more room fine later =
@@ -83,8 +71,8 @@ walk all before (reading ∷ more) whole none =
     ap (take (length before)) whole ∙ ap (λ n. take n (map ok_of before ++ reading ∷ more)) (sym (length-map before ok_of)) ∙ take-append_seam (map ok_of before) (reading ∷ more) in
     let own : fault_behind (map ok_of before) reading ≡ None = subst (λ xs. fault_behind xs reading ≡ None) front both.0 in
     let now = early (length (map ok_of before)) (reading_fault (stanzas_in (map ok_of before)) reading) own in
-    let fine : reading_fault before reading ≡ None = subst (λ xs. reading_fault xs reading ≡ None) (in_ok before) now.1 in
-    let room : length before + 1 ≤ 200000 = subst (λ n. n + 1 ≤ 200000) (length-map before ok_of) now.0 in
+    let fine : reading_fault before reading ≡ None = subst (λ xs. reading_fault xs reading ≡ None) (stanzas_in-ok before) now.1 in
+    let room : length before + 1 ≤ most_packages = subst (λ n. n + 1 ≤ most_packages) (length-map before ok_of) now.0 in
     walk_step before reading more room fine (λ stanza is.
     let longer : length (before ++ stanza ∷ []) ≡ length before + 1 = length-append before (stanza ∷ []) in
     walk all (before ++ stanza ∷ []) more
@@ -100,7 +88,7 @@ pub reads_fine : (text : List ℕ) → first_fault text ≡ None → ReadsFine t
 unfolding first_fault stanzas_of
 reads_fine text none =
     let w = walk (readings text) [] (readings text) refl none in
-    let same : stanzas_in (readings text) ≡ w.stanzas = ap stanzas_in w.are ∙ in_ok w.stanzas in
+    let same : stanzas_in (readings text) ≡ w.stanzas = ap stanzas_in w.are ∙ stanzas_in-ok w.stanzas in
     record { are = w.are ∙ ap (map ok_of) (sym same); fit = subst (AllFit []) (sym same) w.fit }
 
 -- stanzas that fit have no fault among all of them
@@ -112,9 +100,9 @@ no_faults before (stanza ∷ more) fit =
     ap (take (length before)) (map-append ok_of before (stanza ∷ more)) ∙ ap (λ n. take n (map ok_of before ++ map ok_of (stanza ∷ more))) (sym (length-map before ok_of)) ∙ take-append_seam (map ok_of before) (map ok_of (stanza ∷ more)) in
     let first : fault_behind (take (length before) all) (Ok stanza) ≡ None =
     ap (λ xs. fault_behind xs (Ok stanza)) front
-    ∙ ap (λ n. if nat_le 200000 n then Some TooMany else reading_fault (stanzas_in (map ok_of before)) (Ok stanza)) (length-map before ok_of)
+    ∙ ap (λ n. if nat_le most_packages n then Some TooMany else reading_fault (stanzas_in (map ok_of before)) (Ok stanza)) (length-map before ok_of)
     ∙ ap (λ b. if b then Some TooMany else reading_fault (stanzas_in (map ok_of before)) (Ok stanza)) (not_early (length before) fit.0.room)
-    ∙ ap (λ xs. reading_fault xs (Ok stanza)) (in_ok before) ∙ fit.0.fine in
+    ∙ ap (λ xs. reading_fault xs (Ok stanza)) (stanzas_in-ok before) ∙ fit.0.fine in
     let longer : length (before ++ stanza ∷ []) ≡ length before + 1 = length-append before (stanza ∷ []) in
     let rest : first_some (faults_from (map ok_of ((before ++ stanza ∷ []) ++ more)) (length (before ++ stanza ∷ [])) (map ok_of more)) ≡ None = no_faults (before ++ stanza ∷ []) more fit.1 in
     let same : first_some (faults_from all (length before + 1) (map ok_of more)) ≡ None =
@@ -196,7 +184,7 @@ sound_push before stanza fits s =
         | inr j ↦ elim (In_cases j) [ inl is ↦ subst (λ u. own_fault u ≡ None) (sym is) own.0 | inr k ↦ absurd (In_none k) ]
       ];
       apart = apart_push before stanza s.apart (no_duplicate before stanza rest.0);
-      at = λ t i. subst (λ h. IsAt h t) (sym (home_push before stanza)) (elim (In_append_cases before (stanza ∷ []) t i) [
+      at = λ t i. subst (λ h. IsAt h t) (sym (home_of-push before stanza)) (elim (In_append_cases before (stanza ∷ []) t i) [
         | inl j ↦ at_longer (home_of before) (architecture_of stanza) t (s.at t j)
         | inr j ↦ elim (In_cases j) [ inl is ↦ subst (λ u. IsAt (option_or (home_of before) (architecture_of stanza)) u) (sym is) (at_with (home_of before) stanza home.0) | inr k ↦ absurd (In_none k) ]
       ]);
@@ -281,11 +269,11 @@ new_package before stanza others =
     (λ y i. let w = In_map_cases facts_of before y i in subst (λ u. is_same_package (facts_of stanza) u ≡ false) (sym w.2) (others w.0 w.1)))
 
 -- sound stanzas that are few fit
-fit_walk : (home : Option (List ℕ)) (before stanzas : List RawStanza) → length (before ++ stanzas) ≤ 200000 → Sound home (before ++ stanzas) → AllFit before stanzas
+fit_walk : (home : Option (List ℕ)) (before stanzas : List RawStanza) → length (before ++ stanzas) ≤ most_packages → Sound home (before ++ stanzas) → AllFit before stanzas
 fit_walk home before [] few s = tt
 fit_walk home before (stanza ∷ more) few s =
     let inside : In stanza (before ++ stanza ∷ more) = at_end before in
-    let room : length before + 1 ≤ 200000 = omega (arith, length-append before (stanza ∷ more)) in
+    let room : length before + 1 ≤ most_packages = omega (arith, length-append before (stanza ∷ more)) in
     let front = home_by home before (λ t i. s.at t (In_append_left before (stanza ∷ more) t i)) in
     let own : own_fault stanza ≡ None = s.own stanza inside in
     let new : duplicate_fault (map facts_of before) stanza ≡ None = new_package before stanza (apart_at before stanza more s.apart) in
@@ -293,11 +281,11 @@ fit_walk home before (stanza ∷ more) few s =
     let fine : stanza_fault (map facts_of before) (home_of before) stanza ≡ None =
     none_behind (own_fault stanza) _ own (none_behind (duplicate_fault (map facts_of before) stanza) _ new (none_behind (mixed_fault (home_of before) stanza) None same refl)) in
     let shape : before ++ stanza ∷ more ≡ (before ++ stanza ∷ []) ++ more = sym (append_assoc before (stanza ∷ []) more) in
-    (record { room = room; fine = fine }, fit_walk home (before ++ stanza ∷ []) more (subst (λ xs. length xs ≤ 200000) shape few) (subst (Sound home) shape s))
+    (record { room = room; fine = fine }, fit_walk home (before ++ stanza ∷ []) more (subst (λ xs. length xs ≤ most_packages) shape few) (subst (Sound home) shape s))
   where
     at_end : (zs : List RawStanza) → In stanza (zs ++ stanza ∷ more)
     at_end [] = here
     at_end (z ∷ zs) = there (at_end zs)
 
-pub fit_of : (home : Option (List ℕ)) (stanzas : List RawStanza) → length stanzas ≤ 200000 → Sound home stanzas → AllFit [] stanzas
+pub fit_of : (home : Option (List ℕ)) (stanzas : List RawStanza) → length stanzas ≤ most_packages → Sound home stanzas → AllFit [] stanzas
 fit_of home stanzas few s = fit_walk home [] stanzas few s

@@ -88,7 +88,7 @@ all_inside taken all name inside own other i = elim (In_append_cases taken (name
 
 -- a refusal of a mix that has no fault is the limit
 pub limit_there : (text : List ℕ) (limit : ℕ) (hold : Bool) (round gone number count : ℕ) (name version : List ℕ) → RefusesIndex text limit hold (Limit round gone number count name version) → IsViewAt text limit hold None
-limit_there text limit hold round gone number count name version h = (record { number = round; gone = gone; «package» = number; count = count }, h.1.there)
+limit_there text limit hold round gone number count name version h = (record { number = round; gone = gone; over = number; count = count }, h.1.there)
 
 -- the line of a name by a list that was lent: it is taken where the list is empty, and else it is left with the first line
 pub taken_by_none : (name made : List ℕ) (told lent : List ReportLine) → made ≡ name → lent ≡ told → length lent < 1 → Take made ≡ outcome_of name None told

@@ -8,6 +8,8 @@ use Rattle.std.specs.Str.{bytes_eq}
 use Rattle.std.proofs.lemmas.Bool.{cases_Bool, false≢true}
 use Rattle.std.proofs.lemmas.List.{append-nil, length-map, map-append}
 use Rattle.std.proofs.lemmas.Slice.Eq.{bytes_eq-Decides}
+use Rattle.repo_model.proofs.Steps.{stanzas_in-ok}
+use Rattle.listed.proofs.Lists.{filter_short, filter_le}
 use Rattle.deb_version.specs.Order.{version_order}
 use Rattle.stanza_reader.specs.Blanking.{blanked, picked}
 use Rattle.stanza_reader.specs.Close.{readings_from}
@@ -23,17 +25,17 @@ use Rattle.row_book.specs.Sets.{In, here, there}
 use Rattle.row_book.proofs.Lists.{In_append_cases, In_cases, In_map_cases, In_none, any_cases, any_from, filter_cases}
 use Rattle.repo_model.specs.Facts.{architecture_of, facts_of, is_same_package}
 use Rattle.repo_model.specs.FirstFault.{first_fault, home_of, own_fault, stanzas_in, stanzas_of}
+use Rattle.repo_model.specs.Limits.{most_bytes, most_packages}
 use Rattle.suite_compare.specs.Refusals.{packages_in}
 use Rattle.migrate_plan.specs.Differing.{differing}
 use Rattle.migrate_plan.specs.Mix.{is_left, is_taken, mix, only_names}
 use Rattle.migrate_plan.specs.Promises.{MixesAreIndexes}
 use Rattle.migrate_plan.specs.Refusals.{are_apart, plan_refusal}
-use Rattle.migrate_plan.proofs.Faultless.{Apart, AreOthers, IsAt, Sound, at_longer, faultless, fit_of, in_ok, reads_fine, sound_of}
+use Rattle.migrate_plan.proofs.Faultless.{Apart, AreOthers, IsAt, Sound, at_longer, faultless, fit_of, reads_fine, sound_of}
 use Rattle.migrate_plan.proofs.Joined.{two_feeds_close, two_feeds_read}
 use Rattle.migrate_plan.proofs.LaterFields.{architecture_later, name_later, own_later, version_later}
 use Rattle.migrate_plan.proofs.Refusing.{is_free}
 use Rattle.migrate_plan.proofs.Shifted.{later_stanza, ok_of, readings_later}
-use Rattle.migrate_plan.proofs.Taken.{filter_short}
 
 -- the stanzas whose names pass a test
 abbrev pub named : (List ℕ → Bool) → List RawStanza → List RawStanza
@@ -136,16 +138,6 @@ at_either (Some one) (Some other) stanza e h = elim h [ inl none ↦ inl none | 
     same true is f = sym ((bytes_eq-Decides one other).0 is)
     same false is f = absurd (false≢true (sym f))
 
-filter_within : {A : Type 0} (p q : A → Bool) (xs : List A) → ((x : A) → p x ≡ true → q x ≡ true) → length (filter p xs) ≤ length (filter q xs)
-filter_within p q [] step = omega arith
-filter_within p q (x ∷ xs) step = by (p x) (q x) (step x) (filter_within p q xs step)
-  where
-    by : (b c : Bool) → (b ≡ true → c ≡ true) → length (filter p xs) ≤ length (filter q xs) → length (cond b (x ∷ filter p xs) (filter p xs)) ≤ length (cond c (x ∷ filter q xs) (filter q xs))
-    by true true s h = omega arith
-    by true false s h = absurd (false≢true (s refl))
-    by false true s h = omega arith
-    by false false s h = h
-
 named_length : (test : List ℕ → Bool) (stanzas : List RawStanza) → length (filter (λ facts. test facts.name) (map facts_of stanzas)) ≡ length (named test stanzas)
 named_length test [] = refl
 named_length test (stanza ∷ more) = by (test (facts_of stanza).name) (named_length test more)
@@ -195,13 +187,13 @@ module _ (old new : List ℕ) (taken : List (List ℕ)) (old_fine : first_fault 
       }
 
   mixed_few : (all : List (List ℕ)) → ((name : List ℕ) → In name taken → In name all)
-      → length (packages_in old) + length (filter (λ facts. is_taken all facts.name) (packages_in new)) ≤ 200000 → length (mixed old new taken) ≤ 200000
+      → length (packages_in old) + length (filter (λ facts. is_taken all facts.name) (packages_in new)) ≤ most_packages → length (mixed old new taken) ≤ most_packages
   unfolding mixed
   mixed_few all inside few =
       let more : ℕ = count_by is_line_feed (front_of old taken) in
       let olds : length left ≤ length (stanzas_of old) = filter_short (λ s. is_left taken (facts_of s).name) (stanzas_of old) in
       let news : length kept ≤ length (named (is_taken all) (stanzas_of new)) =
-      filter_within (λ s. is_taken taken (facts_of s).name) (λ s. is_taken all (facts_of s).name) (stanzas_of new) (λ s h. taken_within taken all inside (facts_of s).name h) in
+      filter_le (λ s. is_taken taken (facts_of s).name) (λ s. is_taken all (facts_of s).name) (stanzas_of new) (λ s h. taken_within taken all inside (facts_of s).name h) in
       let size : length (mixed old new taken) ≡ length left + length (map (later_stanza more) kept) = length-append left (map (later_stanza more) kept) in
       let same : length (map (later_stanza more) kept) ≡ length kept = length-map kept (later_stanza more) in
       let counted : length (packages_in old) ≡ length (stanzas_of old) = length-map (stanzas_of old) facts_of in
@@ -216,7 +208,7 @@ mixes_are_indexes old new old_fine new_fine free = λ taken inside.
     (fit_of (option_or (home_of (stanzas_of old)) (home_of (stanzas_of new))) (mixed old new taken)
     (mixed_few old new taken old_fine new_fine all inside f.packages) (mixed_sound old new taken old_fine new_fine f.homes))
 
-pub mix_short : (old new : List ℕ) (taken : List (List ℕ)) → plan_refusal old new ≡ None → length (mix old new taken) ≤ 1073741824
+pub mix_short : (old new : List ℕ) (taken : List (List ℕ)) → plan_refusal old new ≡ None → length (mix old new taken) ≤ most_bytes
 unfolding mix
 mix_short old new taken free =
     let f = is_free old new free in
@@ -225,13 +217,13 @@ mix_short old new taken free =
     let front : length (only_names (is_left taken) old ++ (10 ∷ (10 ∷ []))) ≡ length (only_names (is_left taken) old) + 2 = length-append (only_names (is_left taken) old) (10 ∷ (10 ∷ [])) in
     let whole : length (mix old new taken) ≡ length (only_names (is_left taken) old ++ (10 ∷ (10 ∷ []))) + length (only_names (is_taken taken) new) =
     length-append (only_names (is_left taken) old ++ (10 ∷ (10 ∷ []))) (only_names (is_taken taken) new) in
-    let bytes : length old + length new + 2 ≤ 1073741824 = f.bytes in
+    let bytes : length old + length new + 2 ≤ most_bytes = f.bytes in
     omega arith
 
 -- the stanzas of a mix
 pub mix_stanzas : (old new : List ℕ) (taken : List (List ℕ)) → first_fault old ≡ None → first_fault new ≡ None → stanzas_of (mix old new taken) ≡ mixed old new taken
 unfolding stanzas_of
-mix_stanzas old new taken old_fine new_fine = ap stanzas_in (mix_reads old new taken old_fine new_fine) ∙ in_ok (mixed old new taken)
+mix_stanzas old new taken old_fine new_fine = ap stanzas_in (mix_reads old new taken old_fine new_fine) ∙ stanzas_in-ok (mixed old new taken)
 
 named_all : (stanzas : List RawStanza) → named (is_left []) stanzas ≡ stanzas
 named_all [] = refl

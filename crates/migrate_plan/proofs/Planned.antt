@@ -22,12 +22,15 @@ use Rattle.suite_compare.proofs.Deciding.{verdict_is_judged}
 use Rattle.migrate_plan.specs.Differing.{differing}
 use Rattle.migrate_plan.specs.Mix.{mix}
 use Rattle.migrate_plan.specs.Plan.{Settings, line_behind, lines_behind, lines_between, outcome_of, passed_in, plan, settings_of, taken_in, tried_mix}
-use Rattle.migrate_plan.specs.Promises.{AreRight, CanInstall, IsFound, IsRight, Keeps, TakesSafely, is_broken, name_of}
+use Rattle.headline.specs.Listing.{ListsExactly, LosesNothing, is_broken}
+use Rattle.headline.proofs.Exact.{report_lists_exactly}
+use Rattle.headline.proofs.Lost.{empty_list_loses_nothing}
+use Rattle.migrate_plan.specs.Promises.{AreRight, IsRight, TakesSafely, name_of, searched_by}
 use Rattle.migrate_plan.specs.Trying.{LeadsTo}
 use Rattle.migrate_plan.specs.declared.plan.PlanLine.{PlanLine}
 use Rattle.migrate_plan.specs.declared.plan.PlanLine.TheVariants.{Take, LeftLimit, LeftLine}
 use Rattle.migrate_plan.proofs.Mixed.{mix_of_none}
-use Rattle.migrate_plan.proofs.Told.{alone_quiet, together_quiet, unbroken_same}
+use Rattle.migrate_plan.proofs.Told.{unbroken_same}
 
 outcome_name : (name : List ℕ) (passed : Option PassedRound) (told : List ReportLine) → name_of (outcome_of name passed told) ≡ name
 outcome_name name (Some passed) told = refl
@@ -124,30 +127,20 @@ none_taken settings old new old_fine new_fine line i =
     unbroken_same (verdict_in settings.limit settings.hold (home_in old) (packages_in old) settings.budget) (names_of_both (packages_in old) (packages_in old)) line
     (subst (λ stanzas. In line (told stanzas)) same i)
 
-names_order : (old new : List ℕ) → InOrder (names_of_both (packages_in old) (packages_in new))
-names_order old new = order_filter (stands_in (packages_in new)) _ (ordered_order (map (λ facts. facts.name) (packages_in old)))
-
--- goals that the old index can install, where a verdict of the new one is yes or both are no
-kept_by : (settings : Settings) (old new : List ℕ) (goals : List Goal)
-    → (verdict_in settings.limit settings.hold (home_in new) (packages_in new) settings.budget goals ≡ Yes)
-    ⊎ ((verdict_in settings.limit settings.hold (home_in old) (packages_in old) settings.budget goals ≡ No) × (verdict_in settings.limit settings.hold (home_in new) (packages_in new) settings.budget goals ≡ No))
-    → CoinstGoals (home_in old) (packages_in old) goals → CoinstGoals (home_in new) (packages_in new) goals
-kept_by settings old new goals found can = elim found [
-  | inl yes_is ↦ (subst (HasVerdict settings.limit settings.hold (home_in new) (packages_in new) settings.budget goals) yes_is (verdict_is_judged settings.limit settings.hold (home_in new) (packages_in new) settings.budget goals)).1
-  | inr both ↦ absurd ((subst (HasVerdict settings.limit settings.hold (home_in old) (packages_in old) settings.budget goals) both.0 (verdict_is_judged settings.limit settings.hold (home_in old) (packages_in old) settings.budget goals)).1 can)
-]
-
-pub keeps_quiet : (settings : Settings) (old new : List ℕ) → lines_between settings old new ≡ [] → Keeps settings old new
+-- what is told of two indexes lists exactly what is broken and what is open
+lines_exact : (settings : Settings) (old new : List ℕ) → ListsExactly (searched_by settings old) (searched_by settings new) (lines_between settings old new)
 unfolding lines_between
-keeps_quiet settings old new silent =
-    let v = verdict_in settings.limit settings.hold (home_in old) (packages_in old) settings.budget in
-    let w = verdict_in settings.limit settings.hold (home_in new) (packages_in new) settings.budget in
-    let names = names_of_both (packages_in old) (packages_in new) in
-    record {
-      alone = λ name i can. kept_by settings old new (any_version name ∷ []) (alone_quiet v w names silent name i) can;
-      together = λ first second i j before one other can.
-          kept_by settings old new (any_version first ∷ (any_version second ∷ [])) (together_quiet v w names silent (names_order old new) first second i j before one other) can;
-    }
+lines_exact settings old new =
+    report_lists_exactly (searched_by settings old) (searched_by settings new)
+    (verdict_in settings.limit settings.hold (home_in old) (packages_in old) settings.budget)
+    (verdict_in settings.limit settings.hold (home_in new) (packages_in new) settings.budget)
+    (λ goals. verdict_is_judged settings.limit settings.hold (home_in old) (packages_in old) settings.budget goals)
+    (λ goals. verdict_is_judged settings.limit settings.hold (home_in new) (packages_in new) settings.budget goals)
+
+nothing_lost : (settings : Settings) (old new : List ℕ) → lines_between settings old new ≡ [] → LosesNothing (searched_by settings old) (searched_by settings new)
+nothing_lost settings old new silent =
+    empty_list_loses_nothing (searched_by settings old) (searched_by settings new)
+    (subst (ListsExactly (searched_by settings old) (searched_by settings new)) silent (lines_exact settings old new))
 
 pub plan_safe : (settings : Settings) (old new : List ℕ) → first_fault old ≡ None → first_fault new ≡ None → TakesSafely settings old new (plan settings old new)
 plan_safe settings old new old_fine new_fine =
@@ -160,7 +153,7 @@ plan_safe settings old new old_fine new_fine =
         | inr e ↦ absurd (In_none (subst (In line) e i))
       ];
       silent = silent;
-      keeps = λ some. keeps_quiet settings old (mix old new (taken_in lines)) (silent some);
+      keeps = λ some. nothing_lost settings old (mix old new (taken_in lines)) (silent some);
     }
 
 -- the loop of the plan: at its start, one name more, and at its end

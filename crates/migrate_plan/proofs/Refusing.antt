@@ -3,6 +3,7 @@ use Rattle.std.proofs.Common.{◌≡◌, ℕ, ◌≤◌, Bool, true, false, List
 use Rattle.std.specs.Prelude.{if◌then◌else◌, length, nat_lt}
 use Rattle.std.specs.Option.{option_or}
 use Rattle.std.proofs.lemmas.Bool.Decides.{nat_tests}
+use Rattle.repo_model.specs.Limits.{most_bytes, most_packages}
 use Rattle.relation_fields.specs.declared.packages.Home.{Home}
 use Rattle.suite_compare.specs.Refusals.{home_in, packages_in}
 use Rattle.migrate_plan.specs.Differing.{differing}
@@ -45,20 +46,20 @@ homes_fine old new e = by (are_apart old.name new.name) e
 -- no refusal comes
 pub record IsFree (old new : List ℕ) : Type 0 where
   pub homes : are_apart (home_in old).name (home_in new).name ≡ false
-  pub packages : packages_with (packages_in old) (packages_in new) (differing (packages_in old) (packages_in new)) ≤ 200000
-  pub bytes : bytes_with old new ≤ 1073741824
+  pub packages : packages_with (packages_in old) (packages_in new) (differing (packages_in old) (packages_in new)) ≤ most_packages
+  pub bytes : bytes_with old new ≤ most_bytes
 
 pub is_free : (old new : List ℕ) → plan_refusal old new ≡ None → IsFree old new
 unfolding plan_refusal
 is_free old new e =
     let names = differing (packages_in old) (packages_in new) in
     let count = packages_with (packages_in old) (packages_in new) names in
-    let long : Option PlanError = above 1073741824 TooLong (bytes_with old new) in
+    let long : Option PlanError = above most_bytes TooLong (bytes_with old new) in
     let one = none_parts (homes_refusal (home_in old) (home_in new)) _ e in
-    let two = none_parts (above 256 Names (length names)) (option_or (above 200000 Packages count) long) one.1 in
-    let three = none_parts (above 200000 Packages count) long two.1 in
+    let two = none_parts (above 256 Names (length names)) (option_or (above most_packages Packages count) long) one.1 in
+    let three = none_parts (above most_packages Packages count) long two.1 in
     record {
       homes = homes_fine (home_in old) (home_in new) one.0;
-      packages = within_most 200000 count Packages three.0;
-      bytes = within_most 1073741824 (bytes_with old new) TooLong three.1;
+      packages = within_most most_packages count Packages three.0;
+      bytes = within_most most_bytes (bytes_with old new) TooLong three.1;
     }

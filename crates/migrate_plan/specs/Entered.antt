@@ -1,3 +1,4 @@
+-- for the bodies of this crate alone
 -- Names in a table of numbers by names.
 use Rattle.std.specs.Prelude.{◌≡◌, ℕ, Bool, not, ◌==◌, List, [], ◌∷◌, if◌then◌else◌, length}
 use Rattle.virtual_provides.specs.Numbers.{numbers_under}

@@ -1,16 +1,12 @@
 -- What a plan means for the two indexes.
-use Rattle.std.specs.Prelude.{◌≡◌, ◌≢◌, ℕ, Bool, true, false, List, [], ◌∷◌, ◌++◌, Some, None, map}
+use Rattle.std.specs.Prelude.{◌≡◌, ◌≢◌, ℕ, false, List, [], ◌∷◌, ◌++◌, Some, None}
 use Rattle.row_book.specs.Rounds.{PassedRound}
-use Rattle.row_book.specs.Clauses.{Before}
 use Rattle.row_book.specs.Sets.{In}
-use Rattle.clause_solver.specs.declared.outcomes.Verdict.TheVariants.{Yes}
 use Rattle.repo_model.specs.FirstFault.{first_fault}
-use Rattle.repo_model.specs.Goals.{any_version, CoinstGoals}
-use Rattle.suite_compare.specs.Asking.{verdict_in}
-use Rattle.suite_compare.specs.Names.{names_of_both}
-use Rattle.suite_compare.specs.Refusals.{home_in, packages_in}
+use Rattle.suite_compare.specs.Refusals.{packages_in}
 use Rattle.suite_compare.specs.declared.report.ReportLine.{ReportLine}
-use Rattle.suite_compare.specs.declared.report.ReportLine.TheVariants.{Broken1, Broken2, Open1, Open2}
+use Rattle.headline.specs.Indexes.{SearchedIndex, searched}
+use Rattle.headline.specs.Listing.{LosesNothing, is_broken}
 use Rattle.migrate_plan.specs.Differing.{differing}
 use Rattle.migrate_plan.specs.Mix.{mix}
 use Rattle.migrate_plan.specs.Plan.{Settings, lines_between, passed_in, taken_in, tried_mix}
@@ -40,30 +36,13 @@ AreRight settings old new before [] = Unit {0}
 AreRight settings old new before (line ∷ more) =
     IsRight settings old (tried_mix old new before (name_of line)) line × AreRight settings old new (before ++ line ∷ []) more
 
-abbrev pub is_broken : ReportLine → Bool
-is_broken (Broken1 name) = true
-is_broken (Broken2 first second) = true
-is_broken (Open1 name) = false
-is_broken (Open2 first second) = false
+-- an index, and how a plan searches in it
+abbrev pub searched_by : Settings → List ℕ → SearchedIndex
+searched_by settings text = searched text settings.budget settings.limit settings.hold
 
--- one package of each name can be installed together in an index, judged on its stanzas
-abbrev pub CanInstall : List ℕ → List (List ℕ) → Type 0
-CanInstall text names = CoinstGoals (home_in text) (packages_in text) (map any_version names)
-
--- a name is found installable by itself
-abbrev pub IsFound : Settings → List ℕ → List ℕ → Type 0
-IsFound settings text name = verdict_in settings.limit settings.hold (home_in text) (packages_in text) settings.budget (any_version name ∷ []) ≡ Yes
-
--- each name of both that the old index can install, the new one can; and each pair of them that the old one can install
--- together, where each is found installable by itself in the new one
-pub record Keeps (settings : Settings) (old new : List ℕ) : Type 0 where
-  pub alone : (name : List ℕ) → In name (names_of_both (packages_in old) (packages_in new)) → CanInstall old (name ∷ []) → CanInstall new (name ∷ [])
-  pub together : (first second : List ℕ) → In first (names_of_both (packages_in old) (packages_in new)) → In second (names_of_both (packages_in old) (packages_in new))
-      → Before first second → IsFound settings new first → IsFound settings new second → CanInstall old (first ∷ (second ∷ [])) → CanInstall new (first ∷ (second ∷ []))
-
--- the mix of the names that are taken has no broken line against the old index; where a name is taken it has no line at
--- all, and keeps what the old index can install
+-- The mix of the names that are taken has no broken line against the old index. If a name is taken, it has no line at all, and
+-- it can install each name of both, and each two of them together, that the old index can.
 pub record TakesSafely (settings : Settings) (old new : List ℕ) (lines : List PlanLine) : Type 0 where
   pub unbroken : (line : ReportLine) → In line (lines_between settings old (mix old new (taken_in lines))) → is_broken line ≡ false
   pub silent : taken_in lines ≢ [] → lines_between settings old (mix old new (taken_in lines)) ≡ []
-  pub keeps : taken_in lines ≢ [] → Keeps settings old (mix old new (taken_in lines))
+  pub keeps : taken_in lines ≢ [] → LosesNothing (searched_by settings old) (searched_by settings (mix old new (taken_in lines)))

@@ -6,6 +6,7 @@
 use Rattle.std.specs.Prelude.{◌≡◌, ⊤, ℕ, ◌+◌, Bool, true, false, not, nat_lt, if◌then◌else◌, List, Option, Some, None, filter, length}
 use Rattle.std.specs.Option.{option_or}
 use Rattle.std.specs.Str.{bytes_eq}
+use Rattle.repo_model.specs.Limits.{most_bytes, most_packages}
 use Rattle.relation_fields.specs.declared.packages.Home.{Home}
 use Rattle.relation_fields.specs.declared.packages.PackageFacts.{PackageFacts}
 use Rattle.suite_compare.specs.Refusals.{home_in, packages_in}
@@ -41,8 +42,8 @@ plan_refusal old new =
     let names = differing (packages_in old) (packages_in new) in
     option_or (homes_refusal (home_in old) (home_in new))
     (option_or (above 256 Names (length names))
-    (option_or (above 200000 Packages (packages_with (packages_in old) (packages_in new) names))
-    (above 1073741824 TooLong (bytes_with old new))))
+    (option_or (above most_packages Packages (packages_with (packages_in old) (packages_in new) names))
+    (above most_bytes TooLong (bytes_with old new))))
 
 -- a fact for each refusal, and nothing for want of memory
 abbrev pub UnlessMemory : PlanError → Type 0 → Type 0

@@ -1,3 +1,4 @@
+-- for the bodies of this crate alone
 -- What is made on the way to a plan.
 use Rattle.std.specs.Prelude.{◌≡◌, ℕ, Bool, List, ◌∷◌, [], ◌++◌, drop, Option, Some, None}
 use Rattle.row_book.specs.Rounds.{PassedRound, limit_at}

@@ -2,6 +2,7 @@
 ghost use Rattle.std.specs.Prelude.{◌≡◌, ◌≤◌, None, IfErr, IfOk, OnOk, length};
 ghost use Rattle.migrate_plan.specs.Refusals.{above, are_apart, bytes_with, homes_refusal, packages_with, Refuses};
 ghost use Rattle.migrate_plan.specs.declared.refusals.PlanError.TheVariants.{Names, Packages, TooLong};
+ghost use Rattle.repo_model.specs.Limits.{most_bytes, most_packages};
 
 use crate::flags::{count_among, table_of};
 use crate::refusals::PlanError;
@@ -61,10 +62,10 @@ pub(crate) fn check_packages(
     new: &[PackageFacts],
     names: &[Bytes],
 ) -> Result<(), PlanError>
-    requires old { length old.now ≤ 200000 }
-    requires new { length new.now ≤ 200000 }
-    ensures refused { IfErr result (λ error. Refuses error (above 200000 Packages (packages_with old.now new.now names.now))) }
-    ensures fine { OnOk result (above 200000 Packages (packages_with old.now new.now names.now) ≡ None) }
+    requires old { length old.now ≤ most_packages }
+    requires new { length new.now ≤ most_packages }
+    ensures refused { IfErr result (λ error. Refuses error (above most_packages Packages (packages_with old.now new.now names.now))) }
+    ensures fine { OnOk result (above most_packages Packages (packages_with old.now new.now names.now) ≡ None) }
 {
     let count = packages_with(alloc, old, new, names)?;
     if count > MOST_PACKAGES {
@@ -80,8 +81,8 @@ fn packages_with(
     new: &[PackageFacts],
     names: &[Bytes],
 ) -> Result<u64, AllocError>
-    requires old { length old.now ≤ 200000 }
-    requires new { length new.now ≤ 200000 }
+    requires old { length old.now ≤ most_packages }
+    requires new { length new.now ≤ most_packages }
     ensures { IfOk result (λ count. count ≡ packages_with old.now new.now names.now) }
 {
     let table = table_of(alloc, names)?;
@@ -91,10 +92,10 @@ fn packages_with(
 
 /// Checks that both texts and two line feeds are not too long.
 pub(crate) fn check_length(old: &[u8], new: &[u8]) -> Result<(), PlanError>
-    requires old { length old.now ≤ 1073741824 }
-    requires new { length new.now ≤ 1073741824 }
-    ensures refused { IfErr result (λ error. Refuses error (above 1073741824 TooLong (bytes_with old.now new.now))) }
-    ensures fine { OnOk result (above 1073741824 TooLong (bytes_with old.now new.now) ≡ None) }
+    requires old { length old.now ≤ most_bytes }
+    requires new { length new.now ≤ most_bytes }
+    ensures refused { IfErr result (λ error. Refuses error (above most_bytes TooLong (bytes_with old.now new.now))) }
+    ensures fine { OnOk result (above most_bytes TooLong (bytes_with old.now new.now) ≡ None) }
 {
     let count = old.len() as u64 + new.len() as u64 + 2;
     if count > MOST_BYTES {

@@ -5,6 +5,7 @@ ghost use Rattle.row_book.specs.Sets.{In};
 ghost use Rattle.repo_model.specs.Stanzas.{stanza_at};
 ghost use Rattle.suite_compare.specs.Names.{HasNames};
 ghost use Rattle.migrate_plan.specs.Differing.{differing, differs, says_same};
+ghost use Rattle.repo_model.specs.Limits.{most_packages};
 
 use crate::alike::says_same;
 use crate::names::names_of_either;
@@ -22,8 +23,8 @@ pub(crate) fn differing_names(
     old: &[PackageFacts],
     new: &[PackageFacts],
 ) -> Result<NameList, AllocError>
-    requires old { length old.now ≤ 200000 }
-    requires new { length new.now ≤ 200000 }
+    requires old { length old.now ≤ most_packages }
+    requires new { length new.now ≤ most_packages }
     ensures { IfOk result (λ names. names ≡ differing old.now new.now) }
 {
     let names = names_of_either(alloc, old, new)?;

@@ -6,14 +6,17 @@ mod checks;
 mod differing;
 mod flags;
 mod laws;
-pub mod making;
+mod making;
 mod mixing;
 mod names;
-pub mod plan;
+mod plan;
 mod refusals;
 mod trying;
 
-pub use laws::test_is_equality;
+// A plan is made.
 pub use making::make_plan;
 pub use plan::{Plan, PlanLine, PlanList};
 pub use refusals::PlanError;
+
+// Laws.
+pub use laws::test_is_equality;

@@ -9,6 +9,7 @@ ghost use Rattle.migrate_plan.specs.Promises.{AreRight, MixesAreIndexes, TakesSa
 ghost use Rattle.migrate_plan.specs.Refusals.{Refuses, plan_refusal};
 ghost use Rattle.migrate_plan.specs.declared.plan.PlanLine.{PlanLine};
 ghost use Rattle.suite_compare.specs.Refusals.{packages_in};
+ghost use Rattle.repo_model.specs.Limits.{most_bytes};
 
 use crate::checks::{check_homes, check_length, check_names, check_packages};
 use crate::differing::differing_names;
@@ -36,11 +37,11 @@ pub fn make_plan(
     hold: bool,
     budget: u64,
 ) -> Result<Plan, PlanError>
-    requires old_short { length old_bytes.now ≤ 1073741824 }
+    requires old_short { length old_bytes.now ≤ most_bytes }
     requires old { IsSuiteOf old_bytes.now old.now.suite.packages old.now.suite.home.name }
     requires old_limit { old.now.limit ≡ limit }
     requires old_hold { old.now.kernel.hold ≡ hold }
-    requires new_short { length new_bytes.now ≤ 1073741824 }
+    requires new_short { length new_bytes.now ≤ most_bytes }
     requires new { IsSuiteOf new_bytes.now new.now.packages new.now.home.name }
     requires limit { 0 < limit }
     requires budget { IsBudget budget }

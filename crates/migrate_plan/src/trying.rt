@@ -5,6 +5,7 @@ ghost use Rattle.repo_model.specs.FirstFault.{first_fault};
 ghost use Rattle.repo_model.specs.Feeding.{IsSuiteOf};
 ghost use Rattle.migrate_plan.specs.Plan.{lines_between, outcome_of, passed_in, settings_of};
 ghost use Rattle.migrate_plan.specs.Trying.{IsViewAt};
+ghost use Rattle.repo_model.specs.Limits.{most_bytes};
 
 use crate::plan::PlanLine;
 use deb_version::Bytes;
@@ -22,7 +23,7 @@ pub(crate) fn line_of(
     budget: u64,
 ) -> Result<PlanLine, AllocError>
     requires old { IsSuiteOf old_bytes.now old.now.suite.packages old.now.suite.home.name }
-    requires short { length mix.now ≤ 1073741824 }
+    requires short { length mix.now ≤ most_bytes }
     requires accepted { first_fault mix.now ≡ None }
     requires limit { 0 < old.now.limit }
     requires budget { IsBudget budget }
@@ -49,7 +50,7 @@ fn view_of(
     limit: u32,
     hold: bool,
 ) -> Result<Option<SuiteView>, AllocError>
-    requires short { length mix.now ≤ 1073741824 }
+    requires short { length mix.now ≤ most_bytes }
     requires accepted { first_fault mix.now ≡ None }
     requires limit { 0 < limit }
     ensures { IfOk result (IsViewAt mix.now limit hold) }

@@ -1,4 +1,6 @@
 //! The checker of logs.
+//!
+//! Plain scans on purpose: no table is shared with the search, so a fault of one cannot agree with itself.
 ghost use Rattle.std.specs.Prelude.{IfOk, IsTrue, ◌↔◌, length};
 ghost use Rattle.std.specs.Bool.{OnTrue};
 ghost use Rattle.row_book.specs.Book.{repository_of, Sound};

@@ -5,7 +5,7 @@ ghost use Rattle.search_terms.specs.Closure.{negation, IsClosed, InRange, Holds,
 ghost use Rattle.search_terms.specs.Marks.{is_marked, IsWithin, HasBoth, HasClash};
 
 use crate::flags::{close, is_marked, is_some_refuted};
-use search_terms::{Literal, LiteralList};
+use search_terms::{Literal, LiteralList, negated};
 use std::alloc::{AllocError, Global};
 
 /// Marks these literals.
@@ -98,13 +98,6 @@ fn clashes(
 {
     let flags = closure(alloc, classes, first, second, given)?;
     Ok(is_clash(&flags, classes, first, second))
-}
-
-/// The negations of literals.
-fn negated(alloc: Global, literals: &[Literal]) -> Result<Vec<Literal>, AllocError>
-    ensures { IfOk result (λ v. v.items ≡ map negation literals.now) }
-{
-    literals.iter().map(|l| l.negation()).collect(alloc)
 }
 
 /// Whether the closure of an entry's negated literals clashes, over two lists of sentences.

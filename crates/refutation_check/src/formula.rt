@@ -46,7 +46,7 @@ fn add_conflicts(
     conflicts: &[NumList],
     all: &mut Vec<LiteralList>,
 ) -> Result<(), AllocError>
-    requires { length conflicts.now < 4294967295 }
+    requires { length conflicts.now < u32.MAX }
     ensures { OnOk result (all.new.items ≡ all.old.items ++ owned_sentences conflict_sentence 0 conflicts.now) }
 {
     for (p, others) in conflicts.iter().enumerate() {

@@ -3,7 +3,7 @@
 //! the search but the terms.
 #![tactic(auto)]
 
-pub mod checking;
+mod checking;
 mod closures;
 mod derivation;
 mod flags;

@@ -7,6 +7,7 @@ use Rattle.std.specs.Str.{bytes_eq}
 use Rattle.std.proofs.lemmas.Option.{none-some, same_Some, cond_some}
 use Rattle.std.proofs.lemmas.Slice.Eq.{bytes_eq-Decides}
 use Rattle.std.proofs.lemmas.List.{take-append-drop}
+use Rattle.listed.proofs.Lists.{same_bytes}
 use Rattle.deb_version.specs.Grammar.{is_version, is_upstream_byte}
 use Rattle.relation_fields.specs.declared.relations.Op.{Op}
 use Rattle.relation_fields.specs.declared.relations.Op.TheVariants.{Earlier, EarlierEqual, Exactly, LaterEqual, Later}
@@ -30,9 +31,6 @@ chosen : {A : Type 0} (b : Bool) (x y z : A) → cond b x y ≡ z → ((b ≡ tr
 chosen true x y z e = inl (refl, e)
 chosen false x y z e = inr (refl, e)
 
-same : (xs ys : List ℕ) → bytes_eq xs ys ≡ true → xs ≡ ys
-same xs ys e = (bytes_eq-Decides xs ys).0 e
-
 pub op_read : (text : List ℕ) (op : Op) → SpellsOp text op → op_of text ≡ Some op
 unfolding op_of
 op_read text Earlier e = ap op_of e
@@ -51,19 +49,19 @@ pub op_spelled : (text : List ℕ) (op : Op) → op_of text ≡ Some op → Spel
 unfolding op_of
 op_spelled text op e =
     elim (chosen (bytes_eq text (codes "<<")) _ _ _ e) [
-      | inl h ↦ written text Earlier op h.1 (same text (codes "<<") h.0)
+      | inl h ↦ written text Earlier op h.1 (same_bytes text (codes "<<") h.0)
       | inr h ↦ elim (chosen (bytes_eq text (codes "<=")) _ _ _ h.1) [
-        | inl h ↦ written text EarlierEqual op h.1 (inl (same text (codes "<=") h.0))
+        | inl h ↦ written text EarlierEqual op h.1 (inl (same_bytes text (codes "<=") h.0))
         | inr h ↦ elim (chosen (bytes_eq text (codes "=")) _ _ _ h.1) [
-          | inl h ↦ written text Exactly op h.1 (same text (codes "=") h.0)
+          | inl h ↦ written text Exactly op h.1 (same_bytes text (codes "=") h.0)
           | inr h ↦ elim (chosen (bytes_eq text (codes ">=")) _ _ _ h.1) [
-            | inl h ↦ written text LaterEqual op h.1 (inl (same text (codes ">=") h.0))
+            | inl h ↦ written text LaterEqual op h.1 (inl (same_bytes text (codes ">=") h.0))
             | inr h ↦ elim (chosen (bytes_eq text (codes ">>")) _ _ _ h.1) [
-              | inl h ↦ written text Later op h.1 (same text (codes ">>") h.0)
+              | inl h ↦ written text Later op h.1 (same_bytes text (codes ">>") h.0)
               | inr h ↦ elim (chosen (bytes_eq text (codes "<")) _ _ _ h.1) [
-                | inl h ↦ written text EarlierEqual op h.1 (inr (same text (codes "<") h.0))
+                | inl h ↦ written text EarlierEqual op h.1 (inr (same_bytes text (codes "<") h.0))
                 | inr h ↦ elim (chosen (bytes_eq text (codes ">")) _ _ _ h.1) [
-                  | inl h ↦ written text LaterEqual op h.1 (inr (same text (codes ">") h.0))
+                  | inl h ↦ written text LaterEqual op h.1 (inr (same_bytes text (codes ">") h.0))
                   | inr h ↦ absurd (none-some op h.1)
                 ]
               ]

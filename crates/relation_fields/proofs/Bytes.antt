@@ -8,6 +8,7 @@ use Rattle.std.proofs.lemmas.Bool.{and_parts, and_from, or_cases, or_left, eqb-t
 use Rattle.std.proofs.lemmas.List.{take_all}
 use Rattle.std.proofs.lemmas.List.Sums.{split_at_first, passes_at_first}
 use Rattle.std.proofs.lemmas.List.Folds.{list_all-append}
+use Rattle.listed.proofs.Lists.{all_weaker}
 use Rattle.deb_version.specs.Names.{is_name_byte}
 use Rattle.deb_version.specs.Grammar.{is_colon, is_hyphen, epoch_of, behind_epoch, upstream_in, revision_in, upstream_of, revision_of, is_filled, is_epoch, is_revision_byte, is_upstream_byte, is_upstream, is_revision, is_version}
 use Rattle.relation_fields.specs.Texts.{is_white_byte, is_operator_byte}
@@ -50,12 +51,6 @@ pub stops-append : (p : ℕ → Bool) (xs ys : List ℕ) → stops p xs ≡ true
 stops-append p [] ys a b = b
 stops-append p (x ∷ xs) ys a b = a
 
-weaker : (p q : ℕ → Bool) → ((c : ℕ) → p c ≡ true → q c ≡ true) → (xs : List ℕ) → list_all p xs ≡ true → list_all q xs ≡ true
-weaker p q h [] all = refl
-weaker p q h (x ∷ xs) all =
-    let parts = and_parts (p x) (list_all p xs) all in
-    and_from (q x) (list_all q xs) (h x parts.0) (weaker p q h xs parts.1)
-
 -- a text is filled by what stands before and behind a byte, and that byte
 around_first : (p q : ℕ → Bool) → ((c : ℕ) → p c ≡ true → q c ≡ true) → (xs : List ℕ) → list_all q (before_first p xs) ≡ true → list_all q (after_first p xs) ≡ true → list_all q xs ≡ true
 around_first p q h xs before after =
@@ -92,10 +87,10 @@ all_upstream : (text : List ℕ) → is_upstream text ≡ true → list_all is_u
 all_upstream text upstream = (and_parts (is_filled text) (list_all is_upstream_byte text) upstream).1
 
 all_revision : (text : List ℕ) → is_revision text ≡ true → list_all is_upstream_byte text ≡ true
-all_revision text revision = weaker is_revision_byte is_upstream_byte revision_is_version text ((and_parts (is_filled text) (list_all is_revision_byte text) revision).1)
+all_revision text revision = all_weaker is_revision_byte is_upstream_byte revision_is_version text ((and_parts (is_filled text) (list_all is_revision_byte text) revision).1)
 
 all_epoch : (text : List ℕ) → is_epoch text ≡ true → list_all is_upstream_byte text ≡ true
-all_epoch text epoch = weaker is_ascii_digit is_upstream_byte digit_is_version text ((and_parts (is_filled text) (list_all is_ascii_digit text) epoch).1)
+all_epoch text epoch = all_weaker is_ascii_digit is_upstream_byte digit_is_version text ((and_parts (is_filled text) (list_all is_ascii_digit text) epoch).1)
 
 behind_bytes : (rest : List ℕ) → is_upstream (upstream_in rest) ≡ true → option_map_or is_revision (revision_in rest) true ≡ true → list_all is_upstream_byte rest ≡ true
 unfolding upstream_in revision_in

@@ -3,25 +3,14 @@ use Rattle.std.specs.Prelude.{ℕ, ◌-◌, Bool, ◌&&◌, ◌||◌, ◌==◌, 
 use Rattle.std.specs.Char.{is_ascii_digit, is_ascii_lowercase}
 use Rattle.std.specs.List.{list_all, prefix_len, suffix_len, slice_index, slice_split}
 use Rattle.deb_version.specs.Names.{is_name_byte}
+pub use Rattle.listed.specs.Texts.{is_white_byte}
+unfoldable pub use Rattle.listed.specs.Texts.{trim_both, trim_end, trim_start}
 use Rattle.relation_fields.specs.declared.texts.ByteKind.{ByteKind}
 use Rattle.relation_fields.specs.declared.texts.ByteKind.TheVariants.{White, Name, Qualifier, Operator}
 
--- white space: a space, a tab or an LF
-abbrev pub is_white_byte : ℕ → Bool
-is_white_byte c = c == 32 || (c == 9 || c == 10)
-
+-- no byte but white space
 abbrev pub is_white : List ℕ → Bool
 is_white text = list_all is_white_byte text
-
--- the text without the white space at its front, and without that at both ends
-unfoldable pub trim_start : List ℕ → List ℕ
-trim_start text = drop (prefix_len is_white_byte text) text
-
-unfoldable pub trim_end : List ℕ → List ℕ
-trim_end text = take (length text - suffix_len is_white_byte text) text
-
-unfoldable pub trim_both : List ℕ → List ℕ
-trim_both text = trim_end (trim_start text)
 
 -- what stands behind the byte, where the text begins with it
 abbrev pub behind_byte : ℕ → List ℕ → Option (List ℕ)

@@ -5,8 +5,9 @@ ghost use Rattle.relation_fields.specs.Grammar.{op_of, bound_at, bound_of, in_pa
 
 use crate::grammar::is_architecture;
 use crate::relations::{Atom, Bound, Op};
-use crate::texts::{ByteKind, split_front, strip_first, strip_last, trim, trim_front};
+use crate::texts::{ByteKind, split_front, strip_first, strip_last};
 use deb_version::{Bytes, Version, VersionError, is_package_name};
+use listed::{trim, trim_front};
 use std::alloc::{AllocError, Global};
 
 /// The atom that the text says, or nothing where the text is outside the grammar.

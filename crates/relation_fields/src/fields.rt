@@ -10,7 +10,11 @@ use crate::elements::{AtomReader, ElementReader, NeedReader, ProvideReader};
 use crate::relations::{ElementList, ProvideList};
 use crate::texts::{cut, is_white};
 use listed::Listed;
+use memchr::memchr_iter;
 use std::alloc::{AllocError, Global};
+
+/// So many elements have their room at once; where a value has more, the list grows as they come.
+const MOST_AT_ONCE: usize = 1024;
 
 /// Why a relation field was not read.
 #[derive(Clone, Copy, Debug, PartialEq, Eq)]
@@ -39,7 +43,7 @@ impl From<AllocError> for RelationError {
 ///
 /// Time is linear in the value.
 pub fn parse_needs(alloc: Global, value: &[u8]) -> Result<ElementList, RelationError>
-    requires { length value.now < 4294967295 }
+    requires { length value.now < u32.MAX }
     ensures said { IfOk result (λ elements. elements ≡ said_in alternatives_of value.now) }
     ensures accepted { OnOk result (first_outside alternatives_of value.now ≡ None) }
     ensures shape { IfErr result (OnFaultyElement (λ element. first_outside alternatives_of value.now ≡ Some element)) }
@@ -55,7 +59,7 @@ pub fn parse_needs(alloc: Global, value: &[u8]) -> Result<ElementList, RelationE
 ///
 /// Time is linear in the value.
 pub fn parse_against(alloc: Global, value: &[u8]) -> Result<AtomList, RelationError>
-    requires { length value.now < 4294967295 }
+    requires { length value.now < u32.MAX }
     ensures said { IfOk result (λ atoms. atoms ≡ said_in atom_of value.now) }
     ensures accepted { OnOk result (first_outside atom_of value.now ≡ None) }
     ensures shape { IfErr result (OnFaultyElement (λ element. first_outside atom_of value.now ≡ Some element)) }
@@ -72,7 +76,7 @@ pub fn parse_against(alloc: Global, value: &[u8]) -> Result<AtomList, RelationEr
 ///
 /// Time is linear in the value.
 pub fn parse_provides(alloc: Global, value: &[u8]) -> Result<ProvideList, RelationError>
-    requires { length value.now < 4294967295 }
+    requires { length value.now < u32.MAX }
     ensures said { IfOk result (λ provides. provides ≡ said_in provide_of value.now) }
     ensures accepted { OnOk result (first_outside provide_of value.now ≡ None) }
     ensures shape { IfErr result (OnFaultyElement (λ element. first_outside provide_of value.now ≡ Some element)) }
@@ -94,12 +98,12 @@ pub fn read_elements<T: ElementReader>(
     reader: &mut T,
     value: &[u8],
 ) -> Result<Listed<T::Said>, RelationError>
-    requires { length value.now < 4294967295 }
+    requires { length value.now < u32.MAX }
     ensures said { IfOk result (λ said. said ≡ said_in T.reading value.now) }
     ensures accepted { OnOk result (first_outside T.reading value.now ≡ None) }
     ensures shape { IfErr result (OnFaultyElement (λ element. first_outside T.reading value.now ≡ Some element)) }
 {
-    let mut said = Listed::new(alloc);
+    let mut said = Listed::of(Vec::with_capacity(alloc, room_for(value))?);
     let mut element = 0u32;
     let mut left = Some(value);
     while let Some(rest) = left {
@@ -114,4 +118,9 @@ pub fn read_elements<T: ElementReader>(
         left = behind;
     }
     Ok(said)
+}
+
+// Room for the elements of a value. Commas are counted by groups of bytes, which takes less than a list that grows.
+fn room_for(value: &[u8]) -> usize {
+    memchr_iter(b',', value).count().min(MOST_AT_ONCE - 1) + 1
 }

@@ -12,10 +12,17 @@ mod relations;
 mod table;
 mod texts;
 
+// What a relation field says.
+pub use fields::{RelationError, parse_against, parse_needs, parse_provides, read_elements};
+pub use relations::{Atom, Bound, ElementList, Op, Provide, ProvideList};
+
+// Elements that are read once.
 pub use atom_lists::AtomList;
 pub use elements::{AtomReader, ElementReader, NeedReader, ProvideReader};
-pub use fields::{RelationError, parse_against, parse_needs, parse_provides, read_elements};
-pub use grammar::{is_architecture, readings_are_spellings};
-pub use packages::{Home, PackageFacts};
-pub use relations::{Atom, Bound, ElementList, Op, Provide, ProvideList};
 pub use table::ElementTable;
+
+// Packages that meet atoms.
+pub use packages::{Home, PackageFacts};
+
+// The grammar.
+pub use grammar::{is_architecture, readings_are_spellings};

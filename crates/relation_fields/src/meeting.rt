@@ -15,18 +15,18 @@ impl Atom {
     /// A provide without a version never meets an atom with a restriction (Debian Policy 7.5). The qualifiers `any`,
     /// `native`, `all` and the name of the home are ignored; what has any other matches nothing.
     #[tactic(auto, unfolding(crate::specs::Meeting::meets))]
-    pub fn met_by(&self, package: &PackageFacts, home: &Home) -> bool
-        ensures { result ≡ meets self.now «package».now home.now }
+    pub fn met_by(&self, facts: &PackageFacts, home: &Home) -> bool
+        ensures { result ≡ meets self.now facts.now home.now }
     {
         is_ignored(&self.qualifier, home)
-            && (self.is_met_by_name(package) || self.is_met_by_provide(package, home))
+            && (self.is_met_by_name(facts) || self.is_met_by_provide(facts, home))
     }
 
     // Whether the package has the atom's name, and a version that fits the restriction if there is one.
-    fn is_met_by_name(&self, package: &PackageFacts) -> bool
-        ensures { result ≡ is_met_by_name self.now «package».now }
+    fn is_met_by_name(&self, facts: &PackageFacts) -> bool
+        ensures { result ≡ is_met_by_name self.now facts.now }
     {
-        self.name.as_slice() == package.name.as_slice() && self.allows(&package.version)
+        self.name.as_slice() == facts.name.as_slice() && self.allows(&facts.version)
     }
 
     // Whether the version fits the restriction if there is one.
@@ -40,10 +40,10 @@ impl Atom {
     }
 
     // Whether one of the package's provides meets the atom.
-    fn is_met_by_provide(&self, package: &PackageFacts, home: &Home) -> bool
-        ensures { result ≡ list_any (is_provided_by self.now home.now) «package».now.provides }
+    fn is_met_by_provide(&self, facts: &PackageFacts, home: &Home) -> bool
+        ensures { result ≡ list_any (is_provided_by self.now home.now) facts.now.provides }
     {
-        let provides = package.provides.as_slice();
+        let provides = facts.provides.as_slice();
         provides
             .iter()
             .any(|provide| self.is_provided(provide, home))

@@ -1,8 +1,10 @@
 //! Cutting texts into pieces.
-ghost use Rattle.std.specs.Prelude.{◌≡◌, ◌≤◌, ◌==◌, ◌∷◌, ◌+◌, length, drop};
+ghost use Rattle.std.specs.Prelude.{◌≡◌, ◌≤◌, ◌==◌, ◌∷◌, length, drop};
 ghost use Rattle.std.specs.List.{prefix_len, position, take_while};
 ghost use Rattle.std.specs.Option.{option_copied};
-ghost use Rattle.relation_fields.specs.Texts.{is_white_byte, is_white, trim_start, trim_end, trim_both, behind_byte, before_byte, pieces, pieces_left, is_of_kind};
+ghost use Rattle.relation_fields.specs.Texts.{is_white, behind_byte, before_byte, pieces, pieces_left, is_of_kind};
+
+use listed::is_white_byte;
 
 /// The bytes that may stand in one kind of piece.
 #[derive(Clone, Copy)]
@@ -22,34 +24,6 @@ pub(crate) fn is_white(text: &[u8]) -> bool
     ensures { result ≡ is_white text.now }
 {
     text.iter().all(|byte| is_white_byte(*byte))
-}
-
-/// The text without the white space at both ends.
-#[tactic(auto, unfolding(crate::specs::Texts::trim_both))]
-pub(crate) fn trim(text: &[u8]) -> &[u8]
-    ensures { result.now ≡ trim_both text.now }
-{
-    trim_back(trim_front(text))
-}
-
-/// The text without the white space at its front.
-#[tactic(auto, unfolding(crate::specs::Texts::trim_start))]
-pub(crate) fn trim_front(text: &[u8]) -> &[u8]
-    ensures { result.now ≡ trim_start text.now }
-{
-    split_front(text, ByteKind::White).1
-}
-
-// The text without the white space at its end.
-#[tactic(auto, unfolding(crate::specs::Texts::trim_end))]
-fn trim_back(text: &[u8]) -> &[u8]
-    ensures { result.now ≡ trim_end text.now }
-{
-    let mut end = text.len();
-    while end > 0 && is_white_byte(text[end - 1]) {
-        end -= 1;
-    }
-    &text[..end]
 }
 
 /// The longest front of bytes of the kind, and what stands behind it.
@@ -83,13 +57,6 @@ pub(crate) fn has_kind(byte: u8, kind: ByteKind) -> bool
         ByteKind::Qualifier => byte.is_ascii_lowercase() || byte.is_ascii_digit() || byte == b'-',
         ByteKind::Operator => matches!(byte, b'<' | b'=' | b'>'),
     }
-}
-
-// Whether the byte is a space, a tab or an LF.
-fn is_white_byte(byte: u8) -> bool
-    ensures { result ≡ is_white_byte byte }
-{
-    matches!(byte, b' ' | b'\t' | b'\n')
 }
 
 /// What stands behind the byte, where the text begins with it.

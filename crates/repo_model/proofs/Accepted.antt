@@ -20,6 +20,7 @@ use Rattle.repo_model.specs.Facts.{facts_of, is_same_package}
 use Rattle.repo_model.specs.FirstFault.{first_some, own_fault, duplicate_fault, stanza_fault, reading_fault, stanzas_in, stanzas_of, fault_behind, faults_from, first_fault, home_of}
 use Rattle.repo_model.specs.declared.fault.IndexFault.{IndexFault}
 use Rattle.repo_model.specs.declared.fault.IndexFault.TheVariants.{Stanza, Duplicate, TooMany}
+use Rattle.repo_model.specs.Limits.{most_packages}
 use Rattle.repo_model.proofs.WellFormed.{none_of, facts_well_formed}
 
 -- none is the package of an earlier one
@@ -32,7 +33,7 @@ pub record IsNamed (s : PackageFacts) : Type 0 where
   pub version : is_version s.version ≡ true
 
 pub record Accepted (packages : List PackageFacts) : Type 0 where
-  pub few : length packages ≤ 200000
+  pub few : length packages ≤ most_packages
   pub single : AreSingle packages
   pub named : (s : PackageFacts) → In s packages → IsNamed s
 
@@ -64,7 +65,7 @@ single_more (y ∷ ys) x s f = (
 )
 
 -- one more stanza without a fault
-accepted_more : (before : List RawStanza) (stanza : RawStanza) → length before + 1 ≤ 200000 → stanza_fault (map facts_of before) (home_of before) stanza ≡ None →
+accepted_more : (before : List RawStanza) (stanza : RawStanza) → length before + 1 ≤ most_packages → stanza_fault (map facts_of before) (home_of before) stanza ≡ None →
     Accepted (map facts_of before) → Accepted (map facts_of before ++ facts_of stanza ∷ [])
 accepted_more before stanza few e a =
     let own = none_of (own_fault stanza) _ e in
@@ -83,10 +84,10 @@ accepted_more before stanza few e a =
     }
 
 -- a place that is not behind the 200,000th
-early : (n : ℕ) (x : Option IndexFault) → cond (nat_le 200000 n) (Some TooMany) x ≡ None → (n + 1 ≤ 200000) × (x ≡ None)
-early n x e = go (nat_le 200000 n) refl e
+early : (n : ℕ) (x : Option IndexFault) → cond (nat_le most_packages n) (Some TooMany) x ≡ None → (n + 1 ≤ most_packages) × (x ≡ None)
+early n x e = go (nat_le most_packages n) refl e
   where
-    go : (b : Bool) → nat_le 200000 n ≡ b → cond b (Some TooMany) x ≡ None → (n + 1 ≤ 200000) × (x ≡ None)
+    go : (b : Bool) → nat_le most_packages n ≡ b → cond b (Some TooMany) x ≡ None → (n + 1 ≤ most_packages) × (x ≡ None)
     go true is h = absurd (let k : ⊥ = cc in k)
     go false is h = (grind (arith, nat_tests, is), h)
 
@@ -94,7 +95,7 @@ early n x e = go (nat_le 200000 n) refl e
 record Read (all front more : List (Result RawStanza StanzaFault)) : Type 0 where
   whole : all ≡ front ++ more
   count : length (stanzas_in front) ≡ length front
-  few : length front ≤ 200000
+  few : length front ≤ most_packages
   accepted : Accepted (map facts_of (stanzas_in front))
   faultless : first_some (faults_from all (length front) more) ≡ None
 
@@ -107,7 +108,7 @@ read_more all front more stanza r =
     let kept : stanzas_in (front ++ Ok stanza ∷ []) ≡ stanzas_in front ++ stanza ∷ [] = filter_map-append result_ok front (Ok stanza ∷ []) in
     let longer : length (front ++ Ok stanza ∷ []) ≡ length front + 1 = length-append front (Ok stanza ∷ []) in
     let counted : length (stanzas_in front) ≡ length front = r.count in
-    let room : length front + 1 ≤ 200000 = now.0 in
+    let room : length front + 1 ≤ most_packages = now.0 in
     record {
       whole = r.whole ∙ sym (append_assoc front (Ok stanza ∷ []) more);
       count = rw (kept, length-append) (omega arith);

@@ -6,7 +6,7 @@ use Rattle.clause_pool.specs.Interned.{Interned, row_at}
 use Rattle.relation_fields.specs.declared.packages.Home.{Home}
 use Rattle.relation_fields.specs.declared.packages.PackageFacts.{PackageFacts}
 use Rattle.relation_fields.specs.declared.relations.Atom.{Atom}
-use Rattle.row_book.specs.Book.{are_paired, lists_of_pairs, repository_of, RowsFit, Sound}
+use Rattle.row_book.specs.Book.{are_paired, lists_of_pairs, repository_of, NumbersFit, Sound}
 use Rattle.row_book.specs.Repository.{Repository}
 use Rattle.row_book.specs.Sets.{In}
 use Rattle.row_book.specs.declared.book.Book.{Book}
@@ -37,16 +37,13 @@ module _ (home : Home) (packages : List PackageFacts) where
     pub row_count : length rows ≡ length packages
     row_count = sym (length-map rows (row_at new)) ∙ ap length has.clauses ∙ length-map packages (row_of home packages)
 
-    pub rows_fit : RowsFit new rows
-    rows_fit = record {
-      of_pool = has.within;
-      numbers = λ id i c j n k.
-          let row : In (row_at new id) (map (row_of home packages) packages) = subst (λ t. In (row_at new id) t) has.clauses (In_map (row_at new) rows id i) in
-          let w : (s : PackageFacts) × In s packages × (row_at new id ≡ row_of home packages s) = In_map_cases (row_of home packages) packages (row_at new id) row in
-          let inside : In c (map (clause_of home packages) w.0.needs) = ordered_parts (map (clause_of home packages) w.0.needs) c (subst (λ cs. In c cs) w.2 j) in
-          let v : (element : List Atom) × In element w.0.needs × (c ≡ clause_of home packages element) = In_map_cases (clause_of home packages) w.0.needs c inside in
-          subst (λ m. n < m) (sym row_count) (literal_cases home packages v.0 n (subst (λ ns. In n ns) v.2 k)).0;
-    }
+    pub numbers_fit : NumbersFit new rows
+    numbers_fit id i c j n k =
+        let row : In (row_at new id) (map (row_of home packages) packages) = subst (λ t. In (row_at new id) t) has.clauses (In_map (row_at new) rows id i) in
+        let w : (s : PackageFacts) × In s packages × (row_at new id ≡ row_of home packages s) = In_map_cases (row_of home packages) packages (row_at new id) row in
+        let inside : In c (map (clause_of home packages) w.0.needs) = ordered_parts (map (clause_of home packages) w.0.needs) c (subst (λ cs. In c cs) w.2 j) in
+        let v : (element : List Atom) × In element w.0.needs × (c ≡ clause_of home packages element) = In_map_cases (clause_of home packages) w.0.needs c inside in
+        subst (λ m. n < m) (sym row_count) (literal_cases home packages v.0 n (subst (λ ns. In n ns) v.2 k)).0
 
     pub booked : (book : Book) (pairs : List Pair) → book.rows ≡ rows → book.conflicts ≡ lists_of_pairs pairs (length rows) →
         ((p q : ℕ) → p < length packages → q < length packages → are_paired pairs p q ≡ in_conflict home packages p q) → repository_of new book ≡ suite_repository home packages

@@ -8,6 +8,7 @@ use Rattle.std.proofs.lemmas.Bool.{and_parts}
 use Rattle.std.proofs.lemmas.List.Kept.{AllPairs-from_increasing, Contains-dedup_nat, Contains-from_dedup}
 use Rattle.std.proofs.lemmas.List.Sorted.{Contains-permutation, IsPermutation-sym}
 use Rattle.std.proofs.lemmas.Map.Keys.{IsStrictlyIncreasing-dedup}
+use Rattle.listed.proofs.Lists.{contains_in, in_contains, In_flat_cases, In_flat}
 use Rattle.relation_fields.specs.Meeting.{meets}
 use Rattle.relation_fields.specs.declared.packages.Home.{Home}
 use Rattle.relation_fields.specs.declared.packages.PackageFacts.{PackageFacts}
@@ -61,23 +62,6 @@ clause_single home packages atom =
 pub clause_ascending : (home : Home) (packages : List PackageFacts) (element : List Atom) → Ascending (clause_of home packages element)
 clause_ascending home packages element = ascending_filter (λ n. meets_any home element (stanza_at packages n)) (packages_of packages) (range_ascending (length packages) 0)
 
--- lists put one behind the other
-pub In_flat_cases : {X A : Type 0} (f : X → List A) (xs : List X) (y : A) → In y (flat_map f xs) → (x : X) × In x xs × In y (f x)
-In_flat_cases f [] y i = absurd (In_none i)
-In_flat_cases f (x ∷ xs) y i =
-    elim (In_append_cases (f x) (flat_map f xs) y i) [
-      | inl j ↦ (x, here, j)
-      | inr j ↦ let w : (z : _) × In z xs × In y (f z) = In_flat_cases f xs y j in (w.0, there w.1, w.2)
-    ]
-
-pub In_flat : {X A : Type 0} (f : X → List A) (xs : List X) (x : X) (y : A) → In x xs → In y (f x) → In y (flat_map f xs)
-In_flat f [] x y i j = absurd (In_none i)
-In_flat f (z ∷ xs) x y i j =
-    elim (In_cases i) [
-      | inl e ↦ In_append_left (f z) (flat_map f xs) y (subst (λ k. In y (f k)) e j)
-      | inr k ↦ In_append_right (f z) (flat_map f xs) y (In_flat f xs x y k j)
-    ]
-
 -- the packages that meet the alternatives, ascending and each once, are the clause
 pub clause_gathered : (home : Home) (packages : List PackageFacts) (element : List Atom) (numbers all : List ℕ) → Ascending numbers → ((n : ℕ) → In n numbers ↔ In n all) →
     all ≡ flat_map (meeting home packages) element → numbers ≡ clause_of home packages element
@@ -93,31 +77,6 @@ clause_gathered home packages element numbers all a same gathered =
     (same n).1 (subst (λ ns. In n ns) (sym gathered)
     (In_flat (meeting home packages) element w.0 n w.1 (number_from (λ facts. meets w.0 facts home) packages n m.0 w.2))) in
     ascending_same numbers (clause_of home packages element) a (clause_ascending home packages element) to back
-
--- sorted numbers, each once
-ascending_pairs : (xs : List ℕ) → AllPairs (λ x y. x < y) xs → Ascending xs
-ascending_pairs [] pairs = tt
-ascending_pairs (x ∷ xs) pairs = (
-  (λ y i. let w : (n : ℕ) × (n < length xs) × (get_or xs n x ≡ y) = place_of xs y x i in
-      let l : w.0 < length xs = w.1 in
-      subst (λ z. x < z) w.2 (pairs 0 (suc w.0) x (omega arith) (omega arith))),
-  ascending_pairs xs (λ i j d l m. pairs (suc i) (suc j) d (omega arith) (omega arith)),
-)
-
-In_contained : (xs : List ℕ) (x : ℕ) → Contains xs x → In x xs
-In_contained xs x c = subst (λ z. In z xs) c.2 (at_place xs c.0 x c.1)
-
-contained_In : (xs : List ℕ) (x : ℕ) → In x xs → Contains xs x
-contained_In xs x i = place_of xs x x i
-
-pub once_ascending : (sorted new : List ℕ) → IsSorted nat_cmp sorted → new ≡ dedup eqb sorted → Ascending new
-once_ascending sorted new s is = subst Ascending (sym is) (ascending_pairs (dedup eqb sorted) (AllPairs-from_increasing (dedup eqb sorted) (IsStrictlyIncreasing-dedup sorted s)))
-
-pub once_same : (old sorted new : List ℕ) → IsPermutation old sorted → new ≡ dedup eqb sorted → (n : ℕ) → In n new ↔ In n old
-once_same old sorted new moved is n = (
-  (λ i. In_contained old n (Contains-permutation sorted old n (IsPermutation-sym old sorted moved) (Contains-from_dedup eqb sorted n (contained_In (dedup eqb sorted) n (subst (λ ns. In n ns) is i))))),
-  (λ i. subst (λ ns. In n ns) (sym is) (In_contained (dedup eqb sorted) n (Contains-dedup_nat sorted n (Contains-permutation old sorted n moved (contained_In old n i))))),
-)
 
 -- of the packages of a goal's name, those that it names are all that it names
 pub named_chosen : (packages : List PackageFacts) (goal : Goal) → filter (passes_at (is_named_by goal) packages) (numbers_where (is_named goal.name) packages) ≡ packages_named packages goal

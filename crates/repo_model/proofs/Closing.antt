@@ -4,28 +4,13 @@ use Rattle.std.specs.Prelude.{if◌then◌else◌}
 use Rattle.std.specs.List.{before_first, list_all}
 use Rattle.std.proofs.lemmas.Grind.{common_steps}
 use Rattle.std.proofs.lemmas.List.{reverse-append, reverse-reverse, take_more}
+use Rattle.std.proofs.lemmas.Bool.{not-true, and_from, and_parts}
 use Rattle.relation_fields.proofs.Fronts.{list_all-reverse}
 use Rattle.stanza_reader.specs.Close.{is_ended, ends_blank, IsClosed}
 use Rattle.stanza_reader.specs.Lines.{is_line_feed, is_blank_byte, is_blank, lines}
 use Rattle.stanza_reader.proofs.LineLemmas.{cut_here, cut_later}
 use Rattle.stanza_reader.proofs.PartLemmas.{blank_last, ended_last, lines_parts}
 use Rattle.repo_model.specs.Backward.{closes, is_closing, is_last_blank}
-
-and_first : (a b : Bool) → (a && b) ≡ true → a ≡ true
-and_first true b h = refl
-and_first false b h = absurd cc
-
-and_second : (a b : Bool) → (a && b) ≡ true → b ≡ true
-and_second true b h = h
-and_second false b h = absurd cc
-
-and_both : (a b : Bool) → a ≡ true → b ≡ true → (a && b) ≡ true
-and_both true b h k = k
-and_both false b h k = absurd cc
-
-off : (t : Bool) → not t ≡ true → t ≡ false
-off true h = absurd cc
-off false h = refl
 
 is_ten : (b : ℕ) → is_line_feed b ≡ true → b ≡ 10
 is_ten b e = grind (arith, common_steps)
@@ -37,14 +22,14 @@ is_plain b = not (is_line_feed b)
 one_line : (line : List ℕ) → list_all is_plain line ≡ true → lines (line ++ 10 ∷ []) ≡ line ∷ []
 one_line [] h = refl
 one_line (b ∷ bs) h =
-    let e = off (is_line_feed b) (and_first (is_plain b) (list_all is_plain bs) h) in
-    rw (e, one_line bs (and_second (is_plain b) (list_all is_plain bs) h)) refl
+    let e = not-true (is_line_feed b) ((and_parts (is_plain b) (list_all is_plain bs) h).0) in
+    rw (e, one_line bs ((and_parts (is_plain b) (list_all is_plain bs) h).1)) refl
 
 -- what stands before the first line feed has none
 plain_step : (b : ℕ) (bs : List ℕ) (t : Bool) → is_line_feed b ≡ t → list_all is_plain (before_first is_line_feed bs) ≡ true → list_all is_plain (before_first is_line_feed (b ∷ bs)) ≡ true
 plain_step b bs true e h = ap (list_all is_plain) (cut_here is_line_feed b bs e).0
 plain_step b bs false e h =
-    ap (list_all is_plain) (cut_later is_line_feed b bs e).0 ∙ and_both (is_plain b) (list_all is_plain (before_first is_line_feed bs)) (ap not e) h
+    ap (list_all is_plain) (cut_later is_line_feed b bs e).0 ∙ and_from (is_plain b) (list_all is_plain (before_first is_line_feed bs)) (ap not e) h
 
 plain_front : (bs : List ℕ) → list_all is_plain (before_first is_line_feed bs) ≡ true
 plain_front [] = refl
@@ -92,13 +77,13 @@ last_line b bs feed =
 closed_from : (b : ℕ) (bs : List ℕ) → is_closing (b ∷ bs) ≡ true → IsClosed (reverse (b ∷ bs))
 closed_from b bs h =
     let blank = is_blank (before_first is_line_feed bs) in
-    let feed : is_line_feed b ≡ true = and_first (is_line_feed b) blank h in
-    record { ended = ended_is b bs ∙ feed; blank = last_line b bs feed ∙ and_second (is_line_feed b) blank h }
+    let feed : is_line_feed b ≡ true = (and_parts (is_line_feed b) blank h).0 in
+    record { ended = ended_is b bs ∙ feed; blank = last_line b bs feed ∙ (and_parts (is_line_feed b) blank h).1 }
 
 closing_from : (b : ℕ) (bs : List ℕ) → IsClosed (reverse (b ∷ bs)) → is_closing (b ∷ bs) ≡ true
 closing_from b bs closed =
     let feed : is_line_feed b ≡ true = sym (ended_is b bs) ∙ closed.ended in
-    and_both (is_line_feed b) (is_blank (before_first is_line_feed bs)) feed (sym (last_line b bs feed) ∙ closed.blank)
+    and_from (is_line_feed b) (is_blank (before_first is_line_feed bs)) feed (sym (last_line b bs feed) ∙ closed.blank)
 
 closed_by : (back text : List ℕ) → reverse back ≡ text → is_closing back ≡ true → IsClosed text
 closed_by [] text e h = subst IsClosed e (record { ended = refl; blank = refl })

@@ -4,7 +4,7 @@ use Rattle.std.specs.Prelude.{◌||◌}
 use Rattle.std.specs.List.{list_any}
 use Rattle.std.specs.Option.{option_map_or}
 use Rattle.std.specs.Str.{bytes_eq}
-use Rattle.std.proofs.lemmas.List.{append-nil, take-append-drop}
+use Rattle.std.proofs.lemmas.List.{append-nil, length-take, take-append-drop}
 use Rattle.std.proofs.lemmas.List.Elements.{filter-append}
 use Rattle.std.proofs.lemmas.Option.{slice_get_past}
 use Rattle.relation_fields.specs.declared.packages.PackageFacts.{PackageFacts}
@@ -34,7 +34,7 @@ module _ {X : Type 0} (test : X → Bool) where
   filter_beyond broad xs n [] l = refl
   filter_beyond broad xs n (y ∷ ys) l = rw (numbers_from-cons broad n y ys) (left_out xs n (numbers_from (n + 1) broad ys) l (filter_beyond broad xs (n + 1) ys (omega (arith, l))) (broad y))
 
-bears_own : (name : List ℕ) (facts : PackageFacts) → is_named name facts ≡ true → bears name facts ≡ true
+pub bears_own : (name : List ℕ) (facts : PackageFacts) → is_named name facts ≡ true → bears name facts ≡ true
 bears_own name facts e = ap (λ b. b || list_any (λ provide. bytes_eq name provide.name) facts.provides) e
 
 -- of those that bear the name, the first ones that have it
@@ -50,3 +50,10 @@ named_earlier name count packages =
     ∙ ap₂ (λ some more. some ++ more) (filter-numbers_where (is_named name) (bears name) front (bears_own name))
     (filter_beyond (is_named name) (bears name) front (0 + length front) back (omega arith))
     ∙ append-nil (numbers_where (is_named name) front)
+
+-- none of the first ones has the name, where it has one bearer alone behind them
+pub none_earlier : (name : List ℕ) (place : ℕ) (packages : List PackageFacts) → numbers_where (bears name) packages ≡ place ∷ [] → [] ≡ numbers_where (is_named name) (take place packages)
+none_earlier name place packages only =
+    sym (left_out (is_named name) (take place packages) place [] (omega (arith, length-take place packages)) refl true)
+    ∙ sym (ap (filter (passes_at (is_named name) (take place packages))) only)
+    ∙ named_earlier name place packages

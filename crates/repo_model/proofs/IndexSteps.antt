@@ -8,6 +8,7 @@ use Rattle.std.specs.Str.{bytes_eq}
 use Rattle.std.proofs.lemmas.Bool.{and_parts, both_ways, false≢true, false_from_ne_true}
 use Rattle.std.proofs.lemmas.List.{append-nil}
 use Rattle.std.proofs.lemmas.Slice.Eq.{bytes_eq-Decides}
+use Rattle.listed.proofs.Lists.{at_end}
 use Rattle.relation_fields.specs.declared.packages.PackageFacts.{PackageFacts}
 use Rattle.virtual_provides.specs.Bearers.{if_so}
 use Rattle.virtual_provides.specs.Numbers.{ends_in, numbers_under, numbers_where, passes_at, with_number, HasNone}
@@ -84,10 +85,6 @@ got_front [] ys i l = absurd (omega (arith, l))
 got_front (x ∷ xs) ys zero l = refl
 got_front (x ∷ xs) ys (suc i) l = got_front xs ys i (omega (arith, l))
 
-got_last : {X : Type 0} (xs : List X) (x : X) → slice_get (xs ++ x ∷ []) (length xs) ≡ Some x
-got_last [] x = refl
-got_last (y ∷ xs) x = got_last xs x
-
 -- one more package
 module _ (packages : List PackageFacts) (x : PackageFacts) (n hash : ℕ) (old new : PackageIndex) (of : IsIndexOf packages old) (own : IsWellFormed x) (is : hash ≡ name_hash x.name) (count : n ≡ length packages) where
   all_more : (facts : PackageFacts) → numbers_where (is_same_package facts) (packages ++ x ∷ []) ≡ numbers_where (is_same_package facts) packages ++ if_so (is_same_package facts x) n
@@ -99,7 +96,7 @@ module _ (packages : List PackageFacts) (x : PackageFacts) (n hash : ℕ) (old n
   front_passes test i l = ap (λ found. option_map_or test found false) (got_front packages (x ∷ []) i l)
 
   last_passes : (test : PackageFacts → Bool) → passes_at test (packages ++ x ∷ []) n ≡ test x
-  last_passes test = ap (λ found. option_map_or test found false) (ap (slice_get (packages ++ x ∷ [])) count ∙ got_last packages x)
+  last_passes test = ap (λ found. option_map_or test found false) (ap (slice_get (packages ++ x ∷ [])) count ∙ at_end packages x)
 
   longer : (i : ℕ) → i < length packages → i < length (packages ++ x ∷ [])
   longer i l = omega (arith, l, length-append packages (x ∷ []))

@@ -3,47 +3,19 @@ use Rattle.std.proofs.Common.{◌≡◌, ℕ, ◌+◌, ◌-◌, ◌<◌, ◌≤�
 use Rattle.std.proofs.lemmas.Bool.{cases_lt}
 use Rattle.std.proofs.lemmas.List.{get_or_push, map-append, take_more}
 use Rattle.clause_pool.specs.Interned.{Interned, clause_at, clauses_at, ids_at, row_at, Gains, IsIdOf, Kept, OfPool}
+use Rattle.clause_pool.proofs.Interned.{kept_along, clauses_kept, kept_of_pool}
 use Rattle.row_book.specs.Clauses.{comes_before, in_row_order, insert_clause}
 use Rattle.row_book.specs.Sets.{In, here, there}
-use Rattle.row_book.proofs.Order.{neither_before}
+use Rattle.row_book.proofs.Order.{neither_before, placed_new}
 use Rattle.row_book.proofs.Lists.{In_cases, In_none, In_append_cases, In_append_left, In_append_right, In_map_cases}
 use Rattle.repo_model.specs.Interning.{HasIds, HasRows}
 use Rattle.repo_model.proofs.Places.{row_back}
-
--- what was interned stays
-pub kept_same : (pool : Interned) → Kept pool pool
-kept_same pool = record { clauses = λ id l. (l, refl); rows = λ id l. (l, refl) }
-
-pub kept_on : (a b c : Interned) → Kept a b → Kept b c → Kept a c
-kept_on a b c k m = record {
-  clauses = λ id l. let w : (id < length b.clauses) × (clause_at b id ≡ clause_at a id) = k.clauses id l in
-      let v : (id < length c.clauses) × (clause_at c id ≡ clause_at b id) = m.clauses id w.0 in (v.0, v.1 ∙ w.1);
-  rows = λ id l. let w : (id < length b.rows) × (ids_at b id ≡ ids_at a id) = k.rows id l in
-      let v : (id < length c.rows) × (ids_at c id ≡ ids_at b id) = m.rows id w.0 in (v.0, v.1 ∙ w.1);
-}
-
-pub clauses_kept : (a b : Interned) → Kept a b → (ids : List ℕ) → OfPool a ids → clauses_at b ids ≡ clauses_at a ids
-clauses_kept a b k [] within = refl
-clauses_kept a b k (id ∷ ids) within = ap₂ (λ c cs. c ∷ cs) (k.clauses id (within id here)).1 (clauses_kept a b k ids (λ i j. within i (there j)))
-
-pub of_pool_kept : (a b : Interned) → Kept a b → (ids : List ℕ) → OfPool a ids → OfPool b ids
-of_pool_kept a b k ids within id i = (k.clauses id (within id i)).0
-
--- a clause is among those into which it was put
-pub placed_holds : (c : List ℕ) (ds : List (List ℕ)) → In c (insert_clause c ds)
-placed_holds c [] = here
-placed_holds c (d ∷ ds) = pick (comes_before c d) (comes_before d c) refl refl (placed_holds c ds)
-  where
-    pick : (s t : Bool) → comes_before c d ≡ s → comes_before d c ≡ t → In c (insert_clause c ds) → In c (cond s (c ∷ (d ∷ ds)) (cond t (d ∷ insert_clause c ds) (d ∷ ds)))
-    pick true t u v f = here
-    pick false true u v f = there f
-    pick false false u v f = subst (λ z. In z (d ∷ ds)) (sym (neither_before c d u v)) here
 
 -- one more clause: where it is new, its id is among the ids with its place
 module _ (start old new : Interned) (clauses : List (List ℕ)) (ids more : List ℕ) (clause : List ℕ) (id : ℕ) where
   pub id_placed : IsIdOf new.clauses clause id → OfPool new more → clauses_at new more ≡ insert_clause clause clauses → In id more
   id_placed is within put =
-      let w : (other : ℕ) × In other more × (clause ≡ clause_at new other) = In_map_cases (clause_at new) more clause (subst (λ cs. In clause cs) (sym put) (placed_holds clause clauses)) in
+      let w : (other : ℕ) × In other more × (clause ≡ clause_at new other) = In_map_cases (clause_at new) more clause (subst (λ cs. In clause cs) (sym put) (placed_new clause clauses)) in
       subst (λ z. In z more) (is.only w.0 (within w.0 w.1) (sym w.2)) w.1
 
   pub ids_more : HasIds start old clauses ids → Kept old new → new.rows ≡ old.rows → IsIdOf new.clauses clause id → Gains old.clauses clause new.clauses →
@@ -53,7 +25,7 @@ module _ (start old new : Interned) (clauses : List (List ℕ)) (ids more : List
       let inside : In id more = id_placed is within now in
       record {
         rows = rows ∙ h.rows;
-        kept = kept_on start old new h.kept kept;
+        kept = kept_along start old new h.kept kept;
         of_pool = within;
         clauses = now;
         only = λ other l u.
@@ -79,9 +51,9 @@ row_made start old new clauses ids row h kept same is gains =
     let holds : ids_at new row ≡ ids = is.holds in
     let made : row_at new row ≡ clauses = ap (clauses_at new) holds ∙ clauses_kept old new kept ids h.of_pool ∙ h.clauses in
     record {
-      kept = kept_on start old new h.kept kept;
+      kept = kept_along start old new h.kept kept;
       within = λ other i. subst (λ z. z < length new.rows) (only_one row other i) is.within;
-      of_pool = λ other i. subst (λ z. OfPool new (ids_at new z)) (only_one row other i) (subst (OfPool new) (sym holds) (of_pool_kept old new kept ids h.of_pool));
+      of_pool = λ other i. subst (λ z. OfPool new (ids_at new z)) (only_one row other i) (subst (OfPool new) (sym holds) (kept_of_pool old new kept ids h.of_pool));
       clauses = ap (λ c. c ∷ []) made;
       only = record {
         rows = λ other l u. subst (λ z. In z (row ∷ [])) (sym (is.only other u (last other (subst (λ rs. length rs ≤ other) (sym h.rows) l) u gains))) here;
@@ -108,13 +80,13 @@ module _ (start old new : Interned) (kept : Kept old new) where
 pub rows_more : (start old new : Interned) (clauses more : List (List (List ℕ))) (rows next : List ℕ) → HasRows start old clauses rows → HasRows old new more next →
     HasRows start new (clauses ++ more) (rows ++ next)
 rows_more start old new clauses more rows next h n = record {
-  kept = kept_on start old new h.kept n.kept;
+  kept = kept_along start old new h.kept n.kept;
   within = λ row i. elim (In_append_cases rows next row i) [
     | inl j ↦ (n.kept.rows row (h.within row j)).0
     | inr j ↦ n.within row j
   ];
   of_pool = λ row i. elim (In_append_cases rows next row i) [
-    | inl j ↦ subst (OfPool new) (sym (n.kept.rows row (h.within row j)).1) (of_pool_kept old new n.kept (ids_at old row) (h.of_pool row j))
+    | inl j ↦ subst (OfPool new) (sym (n.kept.rows row (h.within row j)).1) (kept_of_pool old new n.kept (ids_at old row) (h.of_pool row j))
     | inr j ↦ n.of_pool row j
   ];
   clauses = map-append (row_at new) rows next ∙ ap₂ (λ cs ds. cs ++ ds) (rows_kept start old new n.kept rows h.within h.of_pool ∙ h.clauses) n.clauses;

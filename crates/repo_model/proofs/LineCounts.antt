@@ -2,11 +2,9 @@
 use Rattle.std.proofs.Common.{◌≡◌, ℕ, ◌+◌, cond, List, take, drop, arith}
 use Rattle.std.specs.Prelude.{count_by}
 use Rattle.std.proofs.lemmas.List.Sums.{sum_by-take-drop}
+use Rattle.stanza_reader.proofs.PlaceLemmas.{feeds}
 use Rattle.stanza_reader.specs.Lines.{is_line_feed}
-
-feeds-halves : (text : List ℕ) (n : ℕ) → count_by is_line_feed (take n text) + count_by is_line_feed (drop n text) ≡ count_by is_line_feed text
-feeds-halves text n = sum_by-take-drop (λ b. cond (is_line_feed b) 1 0) text n
 
 pub line_onward : (text : List ℕ) (n first here last : ℕ) → here ≡ first + count_by is_line_feed (take n text) → last ≡ here + count_by is_line_feed (drop n text)
     → last ≡ first + count_by is_line_feed text
-line_onward text n first here last before behind = let halves = feeds-halves text n in omega (arith, before, behind, halves)
+line_onward text n first here last before behind = let halves = feeds text n in omega (arith, before, behind, halves)

@@ -2,25 +2,15 @@
 use Rattle.std.proofs.Common.{◌≡◌, ℕ, ◌+◌, ◌-◌, Bool, true, false, cond, nat_lt, List, [], ◌∷◌, Some, None, length, take, drop, refl, sym, ap, ◌∙◌, arith}
 use Rattle.std.specs.List.{list_any, position, position_or_len}
 use Rattle.std.proofs.lemmas.Grind.{common_steps}
+use Rattle.std.proofs.lemmas.Option.{cond_some}
+use Rattle.listed.proofs.Lists.{any_by_first, to_end}
+use Rattle.listed.proofs.Bools.{left_out}
 use Rattle.repo_model.specs.Goals.{is_equals, goal_of, goal_of_name, goal_of_parts}
-
--- some element passes where the first that does stands within the list
-any_by_first : (p : ℕ → Bool) → (xs : List ℕ) → list_any p xs ≡ nat_lt (position_or_len p xs) (length xs)
-any_by_first p [] = refl
-any_by_first p (x ∷ xs) = grind (arith, common_steps, any_by_first p xs)
-
-picked : (b : Bool) (n place : ℕ) → Some place ≡ cond b (Some n) None → (b ≡ true) × (n ≡ place)
-picked true n place h = (refl, cc)
-picked false n place h = cc
-
-left_out : (b : Bool) (n : ℕ) → cond b (Some n) None ≡ None → b ≡ false
-left_out true n h = cc
-left_out false n h = refl
 
 pub goal_cut : (word : List ℕ) (place : ℕ) → Some place ≡ position is_equals word → goal_of word ≡ goal_of_parts (take place word) (drop (place + 1) word)
 unfolding goal_of
 goal_cut word place h =
-    let e = picked _ _ place h in
+    let e = cond_some _ _ place (sym h) in
     let any : list_any is_equals word ≡ true = any_by_first is_equals word ∙ e.0 in
     rw any (ap (λ n. goal_of_parts (take n word) (drop (n + 1) word)) e.1)
 
@@ -33,7 +23,4 @@ goal_whole word h =
 -- the same, with the part behind the sign as it is lent
 pub goal_slices : (word : List ℕ) (place : ℕ) → Some place ≡ position is_equals word →
     goal_of word ≡ goal_of_parts (take place word) (take (length word - (place + 1)) (drop (place + 1) word))
-goal_slices word place h = goal_cut word place h ∙ ap (goal_of_parts (take place word)) (sym (whole_back word (place + 1)))
-  where
-    whole_back : (xs : List ℕ) (n : ℕ) → take (length xs - n) (drop n xs) ≡ drop n xs
-    whole_back xs n = grind (arith, common_steps)
+goal_slices word place h = goal_cut word place h ∙ ap (goal_of_parts (take place word)) (sym (to_end (place + 1) word))

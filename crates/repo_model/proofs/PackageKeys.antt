@@ -5,11 +5,12 @@ use Rattle.std.specs.List.{list_all}
 use Rattle.std.proofs.lemmas.Bool.{and_parts, and_from}
 use Rattle.std.proofs.lemmas.Bool.Decides.{nat_tests, same_from_decides}
 use Rattle.std.proofs.lemmas.Slice.Eq.{bytes_eq-Decides}
+use Rattle.listed.proofs.Lists.{all_weaker}
 use Rattle.deb_version.specs.Keys.{version_key}
 use Rattle.deb_version.specs.Names.{is_name, is_name_byte}
 use Rattle.deb_version.specs.Order.{version_order}
 use Rattle.deb_version.proofs.EqualKeys.{equal_keys}
-use Rattle.deb_version.proofs.TellingKeys.{no_space, all_weaker, cut_alike, keys_tell}
+use Rattle.deb_version.proofs.TellingKeys.{no_space, cut_alike, keys_tell}
 use Rattle.relation_fields.specs.declared.packages.PackageFacts.{PackageFacts}
 use Rattle.repo_model.specs.Building.{package_key, has_key, IsWellFormed}
 use Rattle.repo_model.specs.Facts.{is_same_package}

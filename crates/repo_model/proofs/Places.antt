@@ -1,8 +1,8 @@
 -- A clause put into its place among clauses in order.
 use Rattle.std.proofs.Common.{◌≡◌, ℕ, zero, suc, ◌<◌, ◌≤◌, ◌-◌, true, false, cond, List, [], ◌∷◌, ◌++◌, length, get_or, take, drop, map, refl, sym, ◌∙◌, ap, arith, drop-cons}
 use Rattle.std.proofs.lemmas.Bool.{cond-true, cond-false, false_from_ne_true}
+use Rattle.std.proofs.lemmas.List.{get_or_default}
 use Rattle.row_book.specs.Clauses.{comes_before, insert_clause, in_row_order}
-use Rattle.repo_model.proofs.Numbers.{same_at}
 use Rattle.row_book.proofs.Order.{before_asym, before_test}
 
 not_before : (c d : List ℕ) → comes_before d c ≡ true → comes_before c d ≡ false
@@ -31,7 +31,7 @@ placed_new c (d ∷ ds) (suc i) l b s =
     ap (λ ys. d ∷ ys) (placed_new c ds i (omega arith) (λ k h. b (suc k) (omega arith)) (λ h. s (omega arith))) ∙ sym (placed_past c d ds (b 0 (omega arith)))
 
 pub same_clause : (row : List (List ℕ)) (n : ℕ) (c : List ℕ) → n < length row → c ≡ get_or row n c → c ≡ get_or row n []
-same_clause row n c inside is = is ∙ same_at row n c [] inside
+same_clause row n c inside is = is ∙ get_or_default row n c [] inside
 
 -- the next clause, in front of those that are in place
 pub row_back : {A : Type 0} (f : A → List ℕ) (xs : List A) (i : ℕ) (x : A) (row new : List (List ℕ)) → 0 < i → i ≤ length xs →

@@ -4,6 +4,7 @@ use Rattle.std.specs.Prelude.{if◌then◌else◌}
 use Rattle.std.specs.List.{AllByRecursion, slice_split, onto_first, after_first, position_or_len, cons_option, filter}
 use Rattle.std.specs.Option.{option_map, option_or}
 use Rattle.std.proofs.lemmas.List.{length-append, length-drop}
+use Rattle.stanza_reader.proofs.CloseLemmas.{texts_numbered}
 use Rattle.deb_version.specs.Grammar.{is_colon}
 use Rattle.stanza_reader.specs.Lines.{Line, is_line_feed, is_continuation, lines, numbered}
 use Rattle.stanza_reader.specs.Fields.{is_edge, name_of, behind_colon, kind_of, trimmed_start, trimmed_end, before_trimmed, trimmed, continued}
@@ -16,6 +17,7 @@ use Rattle.stanza_reader.specs.declared.stanza.RawField.{RawField}
 use Rattle.stanza_reader.specs.declared.stanza.RawStanza.{RawStanza}
 use Rattle.stanza_reader.specs.declared.fault.StanzaFault.{StanzaFault}
 use Rattle.repo_model.specs.Fields.{IsShort, HasShortValues}
+use Rattle.repo_model.specs.Limits.{most_bytes}
 
 -- the bytes of some texts, each with a line feed
 abbrev size : List (List ℕ) → ℕ
@@ -103,10 +105,6 @@ text_size (b ∷ bs) = by (is_line_feed b) (lines bs) (text_size bs)
     by false [] h = omega arith
     by false (line ∷ more) h = omega arith
 
-texts-numbered : (n : ℕ) (all : List (List ℕ)) → texts (numbered n all) ≡ all
-texts-numbered n [] = refl
-texts-numbered n (line ∷ more) = ap (λ rest. line ∷ rest) (texts-numbered (n + 1) more)
-
 -- a part of some lines has no more bytes
 abbrev PartsFit : ℕ → List (List Line) → Type 0
 PartsFit n parts = AllByRecursion (λ part. size_of part ≤ n) parts
@@ -159,10 +157,10 @@ shorter : (n : ℕ) (fields : List RawField) → n ≤ 1073741825 → FitEach n 
 shorter n [] h fit = tt
 shorter n (field ∷ fields) h fit = let first = fit.0 in (omega arith, shorter n fields h fit.1)
 
-pub values_short : (bytes : List ℕ) (at : Place) (stanza : RawStanza) (more : List (Result RawStanza StanzaFault)) → length bytes ≤ 1073741824
+pub values_short : (bytes : List ℕ) (at : Place) (stanza : RawStanza) (more : List (Result RawStanza StanzaFault)) → length bytes ≤ most_bytes
     → readings_at bytes at ≡ Ok stanza ∷ more → HasShortValues stanza
 unfolding readings_at
 values_short bytes at stanza more few next =
-    let size : size_of (lines_at bytes at) ≤ length (drop at.offset bytes) + 1 = rw (texts-numbered at.line (lines (drop at.offset bytes))) (text_size (drop at.offset bytes)) in
+    let size : size_of (lines_at bytes at) ≤ length (drop at.offset bytes) + 1 = rw (texts_numbered at.line (lines (drop at.offset bytes))) (text_size (drop at.offset bytes)) in
     shorter (size_of (lines_at bytes at)) stanza.fields (omega (arith, length-drop at.offset bytes))
     (first_fits (size_of (lines_at bytes at)) (groups (lines_at bytes at)) stanza more (groups_fit (lines_at bytes at)) next)

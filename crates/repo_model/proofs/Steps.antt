@@ -19,6 +19,7 @@ use Rattle.repo_model.specs.Refusals.{Refuses}
 use Rattle.repo_model.specs.Reading.{lines_fault, shape_fault, GoesOn}
 use Rattle.repo_model.specs.declared.fault.IndexFault.{IndexFault}
 use Rattle.repo_model.specs.declared.fault.IndexFault.TheVariants.{TooMany}
+use Rattle.repo_model.specs.Limits.{most_packages}
 use Rattle.stanza_reader.proofs.PartLemmas.{reads_in_parts}
 use Rattle.repo_model.proofs.Refusing.{for_same}
 
@@ -41,7 +42,7 @@ pub record IsRead (all more : List Reading) (packages : List PackageFacts) (home
   pub facts : packages ≡ map facts_of before
   pub common : home ≡ home_of before
 
-stanzas_in-ok : (before : List RawStanza) → stanzas_in (map ok_of before) ≡ before
+pub stanzas_in-ok : (before : List RawStanza) → stanzas_in (map ok_of before) ≡ before
 stanzas_in-ok [] = refl
 stanzas_in-ok (stanza ∷ before) = ap (λ more. stanza ∷ more) (stanzas_in-ok before)
 
@@ -56,11 +57,11 @@ front_is all before more read =
 
 -- the fault of a stanza behind these
 behind_is : (all : List Reading) (before : List RawStanza) (more : List Reading) (reading : Reading) → all ≡ map ok_of before ++ more
-    → fault_behind (take (length before) all) reading ≡ (if nat_le 200000 (length before) then Some TooMany else reading_fault before reading)
+    → fault_behind (take (length before) all) reading ≡ (if nat_le most_packages (length before) then Some TooMany else reading_fault before reading)
 behind_is all before more reading read =
     ap (λ front. fault_behind front reading) (front_is all before more read)
-    ∙ ap (λ n. if nat_le 200000 n then Some TooMany else reading_fault (stanzas_in (map ok_of before)) reading) (length-map before ok_of)
-    ∙ ap (λ stanzas. if nat_le 200000 (length before) then Some TooMany else reading_fault stanzas reading) (stanzas_in-ok before)
+    ∙ ap (λ n. if nat_le most_packages n then Some TooMany else reading_fault (stanzas_in (map ok_of before)) reading) (length-map before ok_of)
+    ∙ ap (λ stanzas. if nat_le most_packages (length before) then Some TooMany else reading_fault stanzas reading) (stanzas_in-ok before)
 
 -- a fault that is there is the first
 there_first : (fault : IndexFault) (all : List Reading) (n : ℕ) (reading : Reading) (more : List Reading) → fault_behind (take n all) reading ≡ Some fault → fault_from all n (reading ∷ more) ≡ Some fault
@@ -77,24 +78,24 @@ next_refused : (all : List Reading) (before : List RawStanza) (more : List Readi
     → option_and_then (shape_fault (length before)) (first_reading more) ≡ Some fault → fault_from all (length before) more ≡ Some fault
 next_refused all before [] fault read e = cc
 next_refused all before (reading ∷ more) fault read e =
-    there_first fault all (length before) reading more (behind_is all before (reading ∷ more) reading read ∙ lines_first before reading fault (nat_le 200000 (length before)) e)
+    there_first fault all (length before) reading more (behind_is all before (reading ∷ more) reading read ∙ lines_first before reading fault (nat_le most_packages (length before)) e)
 
-room_is : (n : ℕ) → n < 200000 → nat_le 200000 n ≡ false
+room_is : (n : ℕ) → n < most_packages → nat_le most_packages n ≡ false
 room_is n h = grind (arith, nat_tests)
 
 -- the fault of the stanza that is next, where its lines have none and it is not one too many
-stanza_is : (all : List Reading) (before : List RawStanza) (stanza : RawStanza) (more : List Reading) → all ≡ map ok_of before ++ more → length before < 200000
+stanza_is : (all : List Reading) (before : List RawStanza) (stanza : RawStanza) (more : List Reading) → all ≡ map ok_of before ++ more → length before < most_packages
     → fault_behind (take (length before) all) (Ok stanza) ≡ stanza_fault (map facts_of before) (home_of before) stanza
 stanza_is all before stanza more read room =
     behind_is all before more (Ok stanza) read ∙ ap (λ b. if b then Some TooMany else reading_fault before (Ok stanza)) (room_is (length before) room)
 
-first_some-push : {X : Type 0} (xs : List (Option X)) (x : Option X) → first_some (xs ++ x ∷ []) ≡ option_or (first_some xs) x
+pub first_some-push : {X : Type 0} (xs : List (Option X)) (x : Option X) → first_some (xs ++ x ∷ []) ≡ option_or (first_some xs) x
 first_some-push [] None = refl
 first_some-push [] (Some x) = refl
 first_some-push (None ∷ xs) x = first_some-push xs x
 first_some-push (Some y ∷ xs) x = refl
 
-home_of-push : (before : List RawStanza) (stanza : RawStanza) → home_of (before ++ stanza ∷ []) ≡ option_or (home_of before) (architecture_of stanza)
+pub home_of-push : (before : List RawStanza) (stanza : RawStanza) → home_of (before ++ stanza ∷ []) ≡ option_or (home_of before) (architecture_of stanza)
 unfolding home_of
 home_of-push before stanza = ap first_some (map-append architecture_of before (stanza ∷ [])) ∙ first_some-push (map architecture_of before) (architecture_of stanza)
 
@@ -144,7 +145,7 @@ ok_when false before (Ok stanza) rest more e later = ap (λ all. Ok stanza ∷ a
 all_ok : (all : List Reading) (n : ℕ) (more : List Reading) → fault_from all n more ≡ None → more ≡ map ok_of (stanzas_in more)
 all_ok all n [] e = refl
 all_ok all n (reading ∷ more) e =
-    ok_when (nat_le 200000 (length (take n all))) (stanzas_in (take n all)) reading (fault_from all (n + 1) more) more e (all_ok all (n + 1) more)
+    ok_when (nat_le most_packages (length (take n all))) (stanzas_in (take n all)) reading (fault_from all (n + 1) more) more e (all_ok all (n + 1) more)
 
 -- what follows a front that is closed is read behind it
 cut_read : (front rest : List ℕ) → IsClosed front → readings (front ++ rest) ≡ readings front ++ readings_at rest record { offset = 0; line = 1 + count_by is_line_feed front }
@@ -192,7 +193,7 @@ pub stanza_refused : (text part : List ℕ) (at : Place) {packages : List Packag
 unfolding first_fault
 stanza_refused text part at {packages} {home} fault count stanza after r counted on = for_same fault (λ h.
     let n : count ≡ length r.before = counted ∙ ap length r.facts ∙ length-map r.before facts_of in
-    let room : length r.before < 200000 = subst (λ m. m < 200000) n on.room in
+    let room : length r.before < most_packages = subst (λ m. m < most_packages) n on.room in
     let own : stanza_fault (map facts_of r.before) (home_of r.before) stanza ≡ Some fault = rw (← r.facts, ← r.common) h in
     r.left ∙ ap (fault_from (readings text) (length r.before)) on.next
     ∙ there_first fault (readings text) (length r.before) (Ok stanza) (readings_at part after) (stanza_is (readings text) r.before stanza (readings_at part at) r.read room ∙ own))
@@ -203,7 +204,7 @@ pub read_more : {all : List Reading} (part : List ℕ) (at : Place) {packages : 
     → stanza_fault packages home stanza ≡ None → more ≡ packages ++ facts_of stanza ∷ [] → settled ≡ option_or home (architecture_of stanza) → IsRead all (readings_at part after) more settled
 read_more {all} part at {packages} {home} count stanza after more settled r counted on fine pushed known =
     let n : count ≡ length r.before = counted ∙ ap length r.facts ∙ length-map r.before facts_of in
-    let room : length r.before < 200000 = subst (λ m. m < 200000) n on.room in
+    let room : length r.before < most_packages = subst (λ m. m < most_packages) n on.room in
     let own : stanza_fault (map facts_of r.before) (home_of r.before) stanza ≡ None = rw (← r.facts, ← r.common) fine in
     let longer : length r.before + 1 ≡ length (r.before ++ stanza ∷ []) = omega (arith, length-append r.before (stanza ∷ [])) in
     record {
@@ -217,7 +218,7 @@ read_more {all} part at {packages} {home} count stanza after more settled r coun
       common = known ∙ ap (λ front. option_or front (architecture_of stanza)) r.common ∙ sym (home_of-push r.before stanza);
     }
 
-pub few_more : (packages more : List PackageFacts) (facts : PackageFacts) (count : ℕ) → count ≡ length packages → count < 200000 → more ≡ packages ++ facts ∷ [] → length more ≤ 200000
+pub few_more : (packages more : List PackageFacts) (facts : PackageFacts) (count : ℕ) → count ≡ length packages → count < most_packages → more ≡ packages ++ facts ∷ [] → length more ≤ most_packages
 few_more packages more facts count counted room pushed = rw pushed (omega (arith, length-append packages (facts ∷ [])))
 
 -- all was read

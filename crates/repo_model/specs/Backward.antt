@@ -1,3 +1,4 @@
+-- for the bodies of this crate alone
 -- Blank lines, seen from the end of a text.
 use Rattle.std.specs.Prelude.{◌≡◌, ℕ, ◌+◌, ◌<◌, ◌≤◌, Bool, true, false, ◌&&◌, List, [], ◌∷◌, reverse, slice_index_or}
 use Rattle.std.specs.List.{before_first}

@@ -1,3 +1,4 @@
+-- for the bodies of this crate alone
 -- A suite that is being read, stanza by stanza.
 use Rattle.std.specs.Prelude.{◌≡◌, ℕ, ◌<◌, Bool, true, nat_eq, List, [], ◌∷◌, ◌++◌, length, Option, None, Some}
 use Rattle.std.specs.Coded.{Coded-set, coded_list, coded_ℕ, le_prop, ×_prop}

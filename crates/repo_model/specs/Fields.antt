@@ -2,6 +2,7 @@
 use Rattle.std.specs.Prelude.{ℕ, ◌≤◌, Bool, ◌==◌, List, [], Option, find, length}
 use Rattle.std.specs.List.{AllByRecursion}
 use Rattle.std.specs.Option.{option_map_or}
+use Rattle.repo_model.specs.Limits.{most_bytes}
 use Rattle.stanza_reader.specs.declared.stanza.FieldKind.{FieldKind}
 use Rattle.stanza_reader.specs.declared.stanza.FieldKind.TheVariants.{Package, Version, Architecture, PreDepends, Depends, Conflicts, Breaks, Provides, Status}
 use Rattle.stanza_reader.specs.declared.stanza.RawField.{RawField}
@@ -38,7 +39,7 @@ value_of kind stanza = value_among kind stanza.fields
 
 -- no value is longer than the greatest index
 abbrev pub IsShort : RawField → Type 0
-IsShort field = length field.value ≤ 1073741824
+IsShort field = length field.value ≤ most_bytes
 
 abbrev pub HasShortValues : RawStanza → Type 0
 HasShortValues stanza = AllByRecursion IsShort stanza.fields

@@ -29,6 +29,7 @@ use Rattle.repo_model.specs.Fields.{field_of}
 use Rattle.repo_model.specs.Facts.{facts_of, is_same_package, is_all, architecture_of}
 use Rattle.repo_model.specs.declared.fault.IndexFault.{IndexFault}
 use Rattle.repo_model.specs.declared.fault.IndexFault.TheVariants.{Stanza, MissingPackage, MissingVersion, BadPackage, BadVersion, BadArchitecture, BadRelation, Duplicate, Mixed, TooMany}
+use Rattle.repo_model.specs.Limits.{most_packages}
 
 -- the first that is there
 abbrev pub first_some : {X : Type 0} → List (Option X) → Option X
@@ -108,7 +109,7 @@ stanzas_in all = filter_map result_ok all
 
 -- a stanza too many, or else the fault of what is read of it, with what is read of the stanzas before this one
 abbrev pub fault_behind : List (Result RawStanza StanzaFault) → Result RawStanza StanzaFault → Option IndexFault
-fault_behind before reading = if nat_le 200000 (length before) then Some TooMany else reading_fault (stanzas_in before) reading
+fault_behind before reading = if nat_le most_packages (length before) then Some TooMany else reading_fault (stanzas_in before) reading
 
 -- the faults of the stanzas from the n-th on, counted from 0, each with all before it among the stanzas of the index
 abbrev pub faults_from : List (Result RawStanza StanzaFault) → ℕ → List (Result RawStanza StanzaFault) → List (Option IndexFault)

@@ -1,3 +1,4 @@
+-- for the bodies of this crate alone
 -- What a pool gains while the clauses of packages are put into it.
 use Rattle.std.specs.Prelude.{◌≡◌, ℕ, ◌<◌, ◌≤◌, List, length, map}
 use Rattle.clause_pool.specs.Interned.{Interned, clauses_at, ids_at, row_at, Kept, OfPool}

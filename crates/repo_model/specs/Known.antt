@@ -1,3 +1,4 @@
+-- for the bodies of this crate alone
 -- The clauses of elements that were made, each with the place of its element.
 use Rattle.std.specs.Prelude.{◌≡◌, ℕ, List, Option, Some, slice_get}
 use Rattle.std.specs.Option.{option_and_then}

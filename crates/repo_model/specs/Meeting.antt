@@ -1,3 +1,4 @@
+-- for the bodies of this crate alone
 -- The packages that an atom is met by.
 use Rattle.std.specs.Prelude.{ℕ, List}
 use Rattle.relation_fields.specs.Meeting.{meets}

@@ -1,4 +1,7 @@
 //! Blank lines, seen from the end of a text.
+//!
+//! Only the last blank line matters, so the search goes from the end, and over a piece's own bytes alone, however long the open
+//! stanza is.
 ghost use Rattle.std.specs.Prelude.{◌≡◌, ◌<◌, ◌≤◌, length, take, drop, count_by, IfNone, IfSome};
 ghost use Rattle.stanza_reader.specs.Close.{IsClosed};
 ghost use Rattle.stanza_reader.specs.Lines.{is_blank_byte, is_line_feed};

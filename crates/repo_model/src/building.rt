@@ -7,6 +7,7 @@ ghost use Rattle.repo_model.specs.FirstFault.{stanza_fault, duplicate_fault, mix
 ghost use Rattle.repo_model.specs.Refusals.{Answers};
 ghost use Rattle.repo_model.specs.Building.{name_hash, IsWellFormed, IsIndexOf};
 ghost use Rattle.relation_fields.specs.declared.packages.PackageFacts.{PackageFacts};
+ghost use Rattle.repo_model.specs.Limits.{most_packages};
 
 use crate::facts::read_facts;
 use crate::fault::IndexFault;
@@ -47,7 +48,7 @@ impl Building {
     /// Puts the package of a stanza behind the others, or finds the first fault of that stanza among them.
     pub(crate) fn add(&mut self, alloc: Global, stanza: &RawStanza) -> Result<(), IndexFault>
         requires short { HasShortValues stanza.now }
-        requires room { length self.old.packages < 200000 }
+        requires room { length self.old.packages < most_packages }
         requires indexed { IsIndexOf self.old.packages self.old.index }
         ensures fault { Answers result (stanza_fault self.old.packages self.old.home.name stanza.now) tt }
         ensures packages { OnOk result (self.new.packages ≡ self.old.packages ++ facts_of stanza.now ∷ []) }
@@ -104,7 +105,8 @@ fn check_home(home: &Home, stanza: &RawStanza) -> Result<(), IndexFault>
     Err(IndexFault::Mixed { line })
 }
 
-fn is_all(architecture: &[u8]) -> bool
+/// Whether the architecture is `all`.
+pub fn is_all(architecture: &[u8]) -> bool
     ensures { result ≡ is_all architecture.now }
 {
     architecture == b"all".as_slice()

@@ -1,6 +1,7 @@
 //! The packages that goals and names choose.
 ghost use Rattle.std.specs.Prelude.{◌≡◌, ◌≤◌, length, IfOk};
 ghost use Rattle.repo_model.specs.Goals.{any_version, is_named_by, is_of_version, packages_named};
+ghost use Rattle.repo_model.specs.Limits.{most_packages};
 
 use crate::goals::Goal;
 use crate::suite::Suite;
@@ -35,7 +36,7 @@ fn chosen_among(
     packages: &[PackageFacts],
     goal: &Goal,
 ) -> Result<Vec<u32>, AllocError>
-    requires { length packages.now ≤ 200000 }
+    requires { length packages.now ≤ most_packages }
     ensures { IfOk result (λ made. made.items ≡ packages_named packages.now goal.now) }
 {
     let mut made = Vec::new(alloc);

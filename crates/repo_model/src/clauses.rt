@@ -7,6 +7,7 @@ ghost use Rattle.virtual_provides.specs.Bearers.{IsBuiltFrom};
 ghost use Rattle.repo_model.specs.Meeting.{meeting};
 ghost use Rattle.repo_model.specs.Repository.{clause_of};
 
+use listed::sort_once;
 use relation_fields::{Atom, Home, PackageFacts};
 use std::alloc::{AllocError, Global};
 use virtual_provides::NameTable;
@@ -83,13 +84,4 @@ fn meeting_each(
         numbers.append(&mut found)?;
     }
     Ok(numbers)
-}
-
-// Puts the numbers in their order, each once.
-fn sort_once(numbers: &mut Vec<u32>)
-    ensures ascending { Ascending numbers.new.items }
-    ensures same { (n : ℕ) → In n numbers.new.items ↔ In n numbers.old.items }
-{
-    numbers.sort_unstable();
-    numbers.dedup();
 }

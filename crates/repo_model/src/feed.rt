@@ -1,6 +1,7 @@
 //! An index that is read piece by piece.
 ghost use Rattle.std.specs.Prelude.{◌≤◌};
 ghost use Rattle.repo_model.specs.Feeding.{FitsWithin, FitsWithin-prop, HoldsOpen, HoldsOpen-prop};
+ghost use Rattle.repo_model.specs.Limits.{most_bytes};
 
 use crate::fault::IndexFault;
 use crate::progress::Progress;
@@ -17,7 +18,7 @@ pub struct SuiteFeed {
     alloc: Global,
     taken: u64,
     reading: Result<Progress, IndexFault>,
-    ghost within: { taken ≤ 1073741824 },
+    ghost within: { taken ≤ most_bytes },
     ghost fits: { FitsWithin taken reading } by { FitsWithin-prop taken reading },
     ghost unclosed: { HoldsOpen reading } by { HoldsOpen-prop reading },
 }
@@ -67,11 +68,11 @@ impl Taker for SuiteFeed {
 
     ghost taken = { λ feed. taken_of feed };
 
-    ghost limit = { λ _. 1073741824 };
+    ghost limit = { λ _. most_bytes };
 
     /// Takes the next piece. Behind a refusal each further piece is refused too.
     fn take(&mut self, piece: &[u8]) -> Result<(), AllocError>
-        requires { taken_of self.old + length piece.now ≤ 1073741824 }
+        requires { taken_of self.old + length piece.now ≤ most_bytes }
         ensures grows { OnOk result (taken_of self.new ≡ taken_of self.old + length piece.now) }
         ensures stands { OnOk result ((text : List ℕ) → FeedStandsFor self.old text → FeedStandsFor self.new (text ++ piece.now)) }
         ensures keeps { OnErr result (taken_of self.new ≡ taken_of self.old) }

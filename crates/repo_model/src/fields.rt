@@ -7,7 +7,7 @@ ghost use Rattle.repo_model.specs.Fields.{field_among, is_kind, IsShort};
 use stanza_reader::{FieldKind, RawField};
 
 /// The field of a kind, where there is one.
-pub(crate) fn find_field(fields: &[RawField], kind: FieldKind) -> Option<&RawField>
+pub fn find_field(fields: &[RawField], kind: FieldKind) -> Option<&RawField>
     ensures value { option_copied result ≡ field_among kind fields.now }
     ensures short { AllByRecursion IsShort fields.now → IfSome result (λ field. IsShort field.now) }
 {

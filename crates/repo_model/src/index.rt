@@ -1,4 +1,7 @@
 //! The packages that were read so far, by their names and versions.
+//!
+//! Most names come once: the first of a name is found by a hash and compared, and only later ones get a key of name and
+//! version.
 ghost use Rattle.std.specs.Prelude.{◌≡◌, ◌∷◌, ◌++◌, [], List, length, find, slice_get, IfOk, OnOk};
 ghost use Rattle.std.specs.Option.{option_copied};
 ghost use Rattle.virtual_provides.specs.Numbers.{passes_at};

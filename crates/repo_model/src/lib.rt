@@ -7,30 +7,41 @@ mod building;
 mod choose;
 mod clauses;
 mod facts;
-pub mod fault;
-pub mod feed;
+mod fault;
+mod feed;
 mod fields;
-pub mod goals;
+mod goals;
 mod index;
 mod known;
 mod laws;
-pub mod named;
-pub mod names;
+mod named;
+mod names;
 mod pairs;
-pub mod plain;
+mod plain;
 mod progress;
 mod reading;
 mod relations;
 mod repository;
 mod rows;
 mod stand;
-pub mod suite;
+mod suite;
 
+// A suite: the packages of an index, read whole or piece by piece.
 pub use fault::IndexFault;
 pub use feed::SuiteFeed;
-pub use goals::{Goal, GoalError, GoalList};
-pub use laws::{health_is_kept, repository_is_of_packages};
-pub use named::NamedPackages;
-pub use names::NameList;
-pub use plain::{PlainRepository, are_coinstallable, plain_repository};
 pub use suite::{PackageList, Suite, read_suite};
+
+// Goals, and the packages that they name.
+pub use goals::{Goal, GoalError, GoalList};
+pub use named::NamedPackages;
+pub use names::{NameList, distinct_names};
+
+// The repository in plain lists, for those who check answers.
+pub use plain::{PlainRepository, are_coinstallable, plain_repository};
+
+// Fields and architectures of a stanza.
+pub use building::is_all;
+pub use fields::find_field;
+
+// Laws.
+pub use laws::{health_is_kept, repository_is_of_packages};

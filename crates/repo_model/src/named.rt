@@ -3,6 +3,7 @@ ghost use Rattle.std.specs.Prelude.{◌≡◌, ◌≤◌, filter, length, IfOk};
 ghost use Rattle.virtual_provides.specs.Numbers.{passes_at};
 ghost use Rattle.repo_model.specs.Goals.{is_named_by, packages_named};
 ghost use Rattle.repo_model.specs.Named.{AreNamed, HasWanted};
+ghost use Rattle.repo_model.specs.Limits.{most_packages};
 
 use crate::choose::is_named_by;
 use crate::goals::Goal;
@@ -66,7 +67,7 @@ fn packages_by_name(
     wanted: &NumbersByName,
     packages: &[PackageFacts],
 ) -> Result<NumbersByName, AllocError>
-    requires { length packages.now ≤ 200000 }
+    requires { length packages.now ≤ most_packages }
     ensures { IfOk result (HasWanted packages.now wanted.now) }
 {
     let mut table = NumbersByName::new(alloc);

@@ -18,22 +18,19 @@ impl Suite {
     pub fn names(&self, alloc: Global) -> Result<NameList, AllocError>
         ensures { IfOk result (λ names. names ≡ names_in self.now.packages) }
     {
-        let sorted = sorted_names(alloc, self.packages.as_slice())?;
-        each_once(alloc, &sorted)
+        let names = lent_names(alloc, self.packages.as_slice())?;
+        distinct_names(alloc, names)
     }
 }
 
-// The names of the packages in the order of their bytes.
-fn sorted_names<'a>(
-    alloc: Global,
-    packages: &'a [PackageFacts],
-) -> Result<Vec<&'a [u8]>, AllocError>
-    ensures rising { IfOk result (λ sorted. Rising (map (λ name. name.now) sorted.items)) }
-    ensures same { IfOk result (λ sorted. in_row_order (map (λ name. name.now) sorted.items) ≡ names_in packages.now) }
+/// The names, each once and ascending by bytes.
+pub fn distinct_names(alloc: Global, names: Vec<&[u8]>) -> Result<NameList, AllocError>
+    ensures { IfOk result (λ distinct. distinct ≡ in_row_order (map (λ name. name.now) names.entry.items)) }
 {
-    let mut names: Vec<&'a [u8]> = lent_names(alloc, packages)?;
+    let mut names = names;
     names.sort_unstable();
-    Ok(names)
+    let distinct = each_once(alloc, &names)?;
+    Ok(distinct)
 }
 
 // The names of the packages in the order of the packages.

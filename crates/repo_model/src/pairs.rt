@@ -5,6 +5,8 @@ ghost use Rattle.virtual_provides.specs.Bearers.{IsBuiltFrom};
 ghost use Rattle.virtual_provides.specs.Numbers.{numbers_where, passes_at};
 ghost use Rattle.repo_model.specs.Pairs.{is_named, pair_of, Adds, IsAgainst, IsPairWith};
 ghost use Rattle.repo_model.specs.Repository.{in_conflict};
+ghost use Rattle.repo_model.specs.Stanzas.{stanza_at};
+ghost use Rattle.repo_model.specs.Limits.{most_packages};
 
 use relation_fields::{Atom, Home, PackageFacts};
 use row_book::Pair;
@@ -20,7 +22,7 @@ pub(crate) fn conflict_pairs(
     home: &Home,
 ) -> Result<Vec<Pair>, AllocError>
     requires built { IsBuiltFrom packages.now names.now }
-    requires few { length packages.now ≤ 200000 }
+    requires few { length packages.now ≤ most_packages }
     ensures fit { IfOk result (λ pairs. PairsFit pairs.items (length packages.now)) }
     ensures conflicts { IfOk result (λ pairs. (p q : ℕ) → p < length packages.now → q < length packages.now →
         are_paired pairs.items p q ≡ in_conflict home.now packages.now p q) }
@@ -28,7 +30,7 @@ pub(crate) fn conflict_pairs(
     let mut pairs = Vec::new(alloc);
     for (place, facts) in packages.iter().enumerate() {
         let number = place as u32;
-        let earlier = earlier_named(alloc, names, packages, place, facts.name.as_slice())?;
+        let earlier = earlier_named(alloc, names, packages, place)?;
         push_pairs(&mut pairs, number, &earlier)?;
         let against = facts.against.as_slice();
         push_against(alloc, &mut pairs, names, packages, home, number, against)?;
@@ -36,19 +38,24 @@ pub(crate) fn conflict_pairs(
     Ok(pairs)
 }
 
-// The numbers of the packages of a name among the first ones.
+// The numbers of the packages before a package that have its name.
 fn earlier_named(
     alloc: Global,
     names: &NameTable,
     packages: &[PackageFacts],
-    count: usize,
-    name: &[u8],
+    place: usize,
 ) -> Result<Vec<u32>, AllocError>
     requires built { IsBuiltFrom packages.now names.now }
-    requires count { count ≤ length packages.now }
-    ensures { IfOk result (λ found. found.items ≡ numbers_where (is_named name.now) (take count packages.now)) }
+    requires few { length packages.now ≤ 200000 }
+    requires place { place < length packages.now }
+    ensures { IfOk result (λ found. found.items ≡ numbers_where (is_named (stanza_at packages.now place).name) (take place packages.now)) }
 {
-    named_among(alloc, &packages[..count], names.bearers(name), name)
+    // Few packages have or provide a name with another one, so that most names need not be looked up.
+    if !names.shares_names(place as u32) {
+        return Ok(Vec::new(alloc));
+    }
+    let name = packages[place].name.as_slice();
+    named_among(alloc, &packages[..place], names.bearers(name), name)
 }
 
 // Those of the numbers whose packages have the name.

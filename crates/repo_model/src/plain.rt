@@ -6,6 +6,7 @@ ghost use Rattle.row_book.specs.Clauses.{comes_before, in_row_order, insert_clau
 ghost use Rattle.row_book.specs.Sets.{has};
 ghost use Rattle.repo_model.specs.Repository.{clause_of, conflicting_with, in_conflict, meets_any, packages_of, row_of, stands_against, suite_repository};
 ghost use Rattle.repo_model.specs.Stanzas.{stanza_at, CoinstStanzas};
+ghost use Rattle.repo_model.specs.Limits.{most_packages};
 
 use crate::clauses::is_before;
 use crate::suite::Suite;
@@ -52,7 +53,7 @@ fn repository(
     home: &Home,
     stanzas: &[PackageFacts],
 ) -> Result<PlainRepository, AllocError>
-    requires { length stanzas.now ≤ 200000 }
+    requires { length stanzas.now ≤ most_packages }
     ensures clauses { IfOk result (λ plain. plain.clauses ≡ (suite_repository home.now stanzas.now).clauses) }
     ensures conflicts { IfOk result (λ plain. plain.conflicts ≡ (suite_repository home.now stanzas.now).conflicts) }
 {
@@ -64,7 +65,7 @@ fn repository(
 
 // How many stanzas there are.
 fn count(stanzas: &[PackageFacts]) -> u32
-    requires { length stanzas.now ≤ 200000 }
+    requires { length stanzas.now ≤ most_packages }
     ensures { result ≡ length stanzas.now }
 {
     stanzas.len() as u32
@@ -93,7 +94,7 @@ fn clause(
     stanzas: &[PackageFacts],
     element: &[Atom],
 ) -> Result<NumList, AllocError>
-    requires { length stanzas.now ≤ 200000 }
+    requires { length stanzas.now ≤ most_packages }
     ensures { IfOk result (λ c. c ≡ clause_of home.now stanzas.now element.now) }
 {
     let mut clause = NumList::new(alloc);
@@ -148,7 +149,7 @@ fn row(
     stanzas: &[PackageFacts],
     elements: &[AtomList],
 ) -> Result<ClauseList, AllocError>
-    requires { length stanzas.now ≤ 200000 }
+    requires { length stanzas.now ≤ most_packages }
     ensures { IfOk result (λ r. r ≡ in_row_order (map (clause_of home.now stanzas.now) elements.now)) }
 {
     let mut row = Vec::new(alloc);
@@ -171,7 +172,7 @@ fn row_at(
     stanzas: &[PackageFacts],
     number: u32,
 ) -> Result<ClauseList, AllocError>
-    requires few { length stanzas.now ≤ 200000 }
+    requires few { length stanzas.now ≤ most_packages }
     requires inside { number < length stanzas.now }
     ensures { IfOk result (λ r. r ≡ row_of home.now stanzas.now (stanza_at stanzas.now number)) }
 {
@@ -189,7 +190,7 @@ fn rows(
     home: &Home,
     stanzas: &[PackageFacts],
 ) -> Result<Listed<ClauseList>, AllocError>
-    requires { length stanzas.now ≤ 200000 }
+    requires { length stanzas.now ≤ most_packages }
     ensures { IfOk result (λ r. r ≡ map (λ n. row_of home.now stanzas.now (stanza_at stanzas.now n)) (packages_of stanzas.now)) }
 {
     let mut rows = Listed::new(alloc);
@@ -225,7 +226,7 @@ fn conflicting_with(
     stanzas: &[PackageFacts],
     of: u32,
 ) -> Result<NumList, AllocError>
-    requires few { length stanzas.now ≤ 200000 }
+    requires few { length stanzas.now ≤ most_packages }
     requires inside { of < length stanzas.now }
     ensures { IfOk result (λ r. r ≡ conflicting_with home.now stanzas.now of) }
 {
@@ -244,7 +245,7 @@ fn conflicts(
     home: &Home,
     stanzas: &[PackageFacts],
 ) -> Result<Listed<NumList>, AllocError>
-    requires { length stanzas.now ≤ 200000 }
+    requires { length stanzas.now ≤ most_packages }
     ensures { IfOk result (λ r. r ≡ map (conflicting_with home.now stanzas.now) (packages_of stanzas.now)) }
 {
     let mut conflicts = Listed::new(alloc);

@@ -1,6 +1,7 @@
 //! How far an index is read that comes in pieces.
 ghost use Rattle.std.specs.Prelude.{◌≤◌, length};
 ghost use Rattle.repo_model.specs.Building.{IsIndexOf, IsIndexOf-prop};
+ghost use Rattle.repo_model.specs.Limits.{most_packages};
 
 use crate::blank::closed_length;
 use crate::building::Building;
@@ -16,7 +17,7 @@ pub(crate) struct Progress {
     pub(crate) line: u64,
     pub(crate) pending: Vec<u8>,
     ghost counted: { 1 ≤ line },
-    ghost few: { length building.packages ≤ 200000 },
+    ghost few: { length building.packages ≤ most_packages },
     ghost indexed: { IsIndexOf building.packages building.index } by { IsIndexOf-prop building.packages building.index },
 }
 

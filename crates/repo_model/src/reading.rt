@@ -1,4 +1,6 @@
 //! Stanzas that are read one after the other.
+//!
+//! The count comes first, so one stanza too many is answered before its lines are looked at.
 ghost use Rattle.std.specs.Prelude.{◌≡◌, ◌≤◌, ◌+◌, ◌++◌, List, ℕ, length, drop, count_by, nat_le, IfOk, IfErr};
 ghost use Rattle.std.specs.Option.{option_and_then};
 ghost use Rattle.stanza_reader.specs.Lines.{is_line_feed};
@@ -10,6 +12,7 @@ ghost use Rattle.repo_model.specs.FirstFault.{first_fault};
 ghost use Rattle.repo_model.specs.Refusals.{Refuses};
 ghost use Rattle.repo_model.specs.Reading.{shape_fault, Goes};
 ghost use Rattle.stanza_reader.specs.declared.place.Place.{Place};
+ghost use Rattle.repo_model.specs.Limits.{most_bytes, most_packages};
 
 use crate::blank::count_feeds;
 use crate::building::Building;
@@ -31,13 +34,13 @@ pub(crate) fn read_behind(
     part: &[u8],
     line: u64,
 ) -> Result<ReadPart, IndexFault>
-    requires short { length part.now ≤ 1073741824 }
+    requires short { length part.now ≤ most_bytes }
     requires place { IsPlace part.now (record { offset = 0; line = line }) }
-    requires few { length front.packages ≤ 200000 }
+    requires few { length front.packages ≤ most_packages }
     requires indexed { IsIndexOf front.packages front.index }
     ensures refused { IfErr result (λ fault. (text : List ℕ) → IsFront front line text → Refuses fault (first_fault (text ++ part.now))) }
     ensures suite { IfOk result (λ read. (text : List ℕ) → IsFront front line text → IsSuiteOf (text ++ part.now) read.building.packages read.building.home.name) }
-    ensures few { IfOk result (λ read. length read.building.packages ≤ 200000) }
+    ensures few { IfOk result (λ read. length read.building.packages ≤ most_packages) }
     ensures indexed { IfOk result (λ read. IsIndexOf read.building.packages read.building.index) }
     ensures counted { IfOk result (λ read. read.line ≡ line + count_by is_line_feed part.now) }
 {
@@ -92,7 +95,7 @@ fn read_next(alloc: Global, bytes: &[u8], at: Place, before: usize) -> Result<Ne
 
 // Whether an index with so many packages has room for no more.
 fn is_full(packages: usize) -> bool
-    ensures { result ≡ nat_le 200000 packages }
+    ensures { result ≡ nat_le most_packages packages }
 {
     packages >= 200_000
 }

@@ -47,6 +47,10 @@ pub(crate) fn read_both<T: ElementReader>(
     ensures { Answers result (option_or (option_and_then (unless_said T.reading) (field_among first fields.now)) (option_and_then (unless_said T.reading) (field_among second fields.now))) (said_in T.reading (value_among first fields.now) ++ said_in T.reading (value_among second fields.now)) }
 {
     let mut said = read_field(alloc, reader, fields, first)?;
-    said.append(read_field(alloc, reader, fields, second)?)?;
+    let more = read_field(alloc, reader, fields, second)?;
+    if said.as_slice().is_empty() {
+        return Ok(more);
+    }
+    said.append(more)?;
     Ok(said)
 }

@@ -30,7 +30,7 @@ pub(crate) fn intern_rows(
     ensures kept { Kept pool.old pool.new }
 {
     let mut known = KnownClauses::new(alloc);
-    let mut rows = Vec::new(alloc);
+    let mut rows = Vec::with_capacity(alloc, packages.len())?;
     for (number, facts) in packages.iter().enumerate() {
         let needs = facts.needs.as_slice();
         rows.push(intern_row(
@@ -82,7 +82,7 @@ fn intern_clauses(
     ensures kept { Kept pool.old pool.new }
     ensures known { OnOk result (AreKnown home.now packages.now pool.new.clauses known.new) }
 {
-    let mut ids = Vec::new(alloc);
+    let mut ids = Vec::with_capacity(alloc, elements.len())?;
     let mut left = elements.len();
     while left > 0 {
         left -= 1;

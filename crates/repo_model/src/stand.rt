@@ -1,6 +1,7 @@
 //! What a feed stands for, from one piece to the next.
 ghost use Rattle.std.specs.Prelude.{◌≡◌, ◌+◌, ◌≤◌, ◌++◌, List, ℕ, true, length};
 ghost use Rattle.repo_model.specs.Feeding.{is_spent, FitsWithin, HoldsOpen, StandsFor, StandsUnlessMemory};
+ghost use Rattle.repo_model.specs.Limits.{most_bytes};
 
 use crate::fault::IndexFault;
 use crate::progress::Progress;
@@ -12,7 +13,7 @@ pub(crate) fn read_piece(
     before: Result<Progress, IndexFault>,
     piece: &[u8],
 ) -> Result<Progress, IndexFault>
-    requires room { (taken : ℕ) × FitsWithin taken before × (taken + length piece.now ≤ 1073741824) }
+    requires room { (taken : ℕ) × FitsWithin taken before × (taken + length piece.now ≤ most_bytes) }
     requires unclosed { HoldsOpen before }
     ensures stands { (text : List ℕ) → StandsFor before text → StandsUnlessMemory result (text ++ piece.now) }
     ensures fits { (taken : ℕ) → FitsWithin taken before → FitsWithin (taken + length piece.now) result }

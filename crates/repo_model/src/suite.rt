@@ -4,6 +4,7 @@ ghost use Rattle.std.specs.Option.{option_map};
 ghost use Rattle.repo_model.specs.Facts.{facts_of};
 ghost use Rattle.repo_model.specs.FirstFault.{first_fault, home_of, stanzas_of};
 ghost use Rattle.repo_model.specs.Refusals.{Refuses};
+ghost use Rattle.repo_model.specs.Limits.{most_bytes, most_packages};
 
 use crate::building::Building;
 use crate::fault::IndexFault;
@@ -22,7 +23,7 @@ pub struct Suite {
     pub packages: PackageList,
     /// The common architecture of those that are not of `all`.
     pub home: Home,
-    ghost few: { length packages ≤ 200000 },
+    ghost few: { length packages ≤ most_packages },
 }
 
 impl Suite {
@@ -54,7 +55,7 @@ impl Suite {
 /// has one. An index has at most 1,073,741,824 bytes, the limit that the program keeps for files. Time is linear in the
 /// index, but for the ordered set of a stanza's field names.
 pub fn read_suite(alloc: Global, bytes: &[u8]) -> Result<Suite, IndexFault>
-    requires { length bytes.now ≤ 1073741824 }
+    requires { length bytes.now ≤ most_bytes }
     ensures refused { IfErr result (λ fault. Refuses fault (first_fault bytes.now)) }
     ensures accepted { OnOk result (first_fault bytes.now ≡ None) }
     ensures packages { IfOk result (λ suite. suite.packages ≡ map facts_of (stanzas_of bytes.now)) }

@@ -46,9 +46,10 @@ module _ (pool : Interned) (book : Book) where
   row_clause : (p : ℕ) → p < length book.rows → (c : List ℕ) → In c (row_at pool (row_id book.rows p)) → In c (clauses_of (repository_of pool book) p)
   row_clause p l c i = subst (λ cs. In c cs) (sym (clauses_row pool book p l)) i
 
-  pub sound_book : ((id : ℕ) → In id book.rows → id < length pool.rows) → SoundRepository (repository_of pool book) → Sound pool book
-  sound_book of s = record {
+  pub sound_book : IsPool pool → ((id : ℕ) → In id book.rows → id < length pool.rows) → SoundRepository (repository_of pool book) → Sound pool book
+  sound_book is of s = record {
     rows = record {
+      is_pool = is;
       of_pool = of;
       numbers = λ id i c j n k.
           let w : (p : ℕ) × (p < length book.rows) × (row_id book.rows p ≡ id) = In_place book.rows id 0 i in

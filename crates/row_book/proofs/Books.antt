@@ -44,6 +44,7 @@ module _ (old new : Interned) (is : IsPool old) (kept : Kept old new) where
 
   pub fit_kept : (rows : List ℕ) → RowsFit old rows → RowsFit new rows
   fit_kept rows fit = record {
+    is_pool = kept.sound fit.is_pool;
     of_pool = λ id i. (kept.rows id (fit.of_pool id i)).0;
     numbers = λ id i c j. fit.numbers id i c (subst (λ cs. In c cs) (row_kept id (fit.of_pool id i)) j);
   }

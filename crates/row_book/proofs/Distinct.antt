@@ -6,16 +6,11 @@ use Rattle.std.specs.List.Sorted.{IsNonDecreasing}
 use Rattle.std.proofs.lemmas.Bool.{both_ways, cases_lt}
 use Rattle.std.proofs.lemmas.List.Filters.{dedup_is}
 use Rattle.std.proofs.lemmas.List.Kept.{Contains-dedup_nat, Contains-from_dedup}
+use Rattle.listed.proofs.Lists.{contains_in, in_contains}
 use Rattle.clause_pool.proofs.Lists.{In_place}
 use Rattle.row_book.specs.Sets.{In}
 use Rattle.row_book.specs.Clauses.{Ascending}
 use Rattle.row_book.proofs.Lists.{In_at, In_cases, In_none}
-
-member : (xs : List ℕ) (n : ℕ) → Contains xs n → In n xs
-member xs n h = subst (λ z. In z xs) h.2 (In_at xs h.0 n h.1)
-
-contained : (xs : List ℕ) (n : ℕ) → In n xs → Contains xs n
-contained xs n i = let w : (k : ℕ) × (k < length xs) × (get_or xs k n ≡ n) = In_place xs n n i in (w.0, w.1, w.2)
 
 -- without its second element
 skipped : (k x : ℕ) (xs : List ℕ) → IsNonDecreasing (k ∷ (x ∷ xs)) → IsNonDecreasing (k ∷ xs)
@@ -53,10 +48,10 @@ module _ (xs made : List ℕ) (once : IsFiltered (DiffersFromLast eqb) [] xs mad
   is = dedup_is eqb xs made once
 
   pub distinct_from : (n : ℕ) → In n made → In n xs
-  distinct_from n i = member xs n (Contains-from_dedup eqb xs n (contained (dedup eqb xs) n (subst (λ z. In n z) is i)))
+  distinct_from n i = contains_in xs n (Contains-from_dedup eqb xs n (in_contains (dedup eqb xs) n (subst (λ z. In n z) is i)))
 
   pub distinct_has : (n : ℕ) → In n xs → In n made
-  distinct_has n i = subst (λ z. In n z) (sym is) (member (dedup eqb xs) n (Contains-dedup_nat xs n (contained xs n i)))
+  distinct_has n i = subst (λ z. In n z) (sym is) (contains_in (dedup eqb xs) n (Contains-dedup_nat xs n (in_contains xs n i)))
 
   pub distinct_ascends : IsNonDecreasing xs → Ascending made
   distinct_ascends up = subst Ascending (sym is) (dedup_ascends xs up)

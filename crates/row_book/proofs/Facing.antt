@@ -1,13 +1,13 @@
 -- Sides that conflict as a whole.
 use Rattle.std.proofs.Common.{◌≡◌, ℕ, Bool, true, false, ◌&&◌, ◌||◌, List, [], ◌∷◌, inl, inr, refl, sym, ◌∙◌, ap, ap₂, subst, filter}
 use Rattle.std.specs.List.{list_all, list_any}
+use Rattle.listed.proofs.Bools.{same_bool}
 use Rattle.row_book.specs.Sets.{NumSet, In, here, there, has, Hit, Is}
 use Rattle.row_book.specs.Clauses.{Ascending, is_inside}
 use Rattle.row_book.specs.Book.{listed_for}
 use Rattle.row_book.specs.Repository.{Repository, Healthy}
 use Rattle.row_book.specs.Facing.{sides, against_in, all_against, common_to, face}
 use Rattle.row_book.proofs.Lists.{In_cases, In_has, all_at, all_from, any_cases, ascending_filter, filter_cases, filter_from, has_In}
-use Rattle.row_book.proofs.Repositories.{same_test}
 
 pub face_parts : (f : ℕ → ℕ → Bool) (ds es : List (List ℕ)) → face f ds es ≡ true →
     (d : List ℕ) × (e : List ℕ) × In d ds × In e es × ((m n : ℕ) → In m d → In n e → f m n ≡ true)
@@ -34,7 +34,7 @@ all_against_from f d e g = all_from (λ m. list_all (f m) e) d (λ m i. all_from
 -- a list conflicts as a whole with what lies within the conflicts that its members have in common
 pub common_within : (table : List (List ℕ)) (m : ℕ) (ms e : List ℕ) → all_against (against_in table) (m ∷ ms) e ≡ is_inside e (common_to table m ms)
 common_within table m ms e =
-    same_test (all_against (against_in table) (m ∷ ms) e) (is_inside e (common_to table m ms))
+    same_bool (all_against (against_in table) (m ∷ ms) e) (is_inside e (common_to table m ms))
     (λ h. all_from (has (common_to table m ms)) e (λ n i.
     In_has (filter_from (λ k. list_all (λ o. against_in table o k) ms) (listed_for table m) n
     (has_In (listed_for table m) n (all_against_at (against_in table) (m ∷ ms) e h m n here i))
@@ -69,7 +69,7 @@ faces_within table cs p m ms =
 pub filtered_within : (f : ℕ → ℕ → Bool) (listed : List ℕ) (m : ℕ) (ms e : List ℕ) → ((n : ℕ) → f m n ≡ true → has listed n ≡ true) →
     all_against f (m ∷ ms) e ≡ is_inside e (filter (λ n. list_all (λ o. f o n) (m ∷ ms)) listed)
 filtered_within f listed m ms e own =
-    same_test (all_against f (m ∷ ms) e) (is_inside e (filter (λ n. list_all (λ o. f o n) (m ∷ ms)) listed))
+    same_bool (all_against f (m ∷ ms) e) (is_inside e (filter (λ n. list_all (λ o. f o n) (m ∷ ms)) listed))
     (λ h. all_from (has (filter (λ n. list_all (λ o. f o n) (m ∷ ms)) listed)) e (λ n i.
     In_has (filter_from (λ k. list_all (λ o. f o k) (m ∷ ms)) listed n
     (has_In listed n (own n (all_against_at f (m ∷ ms) e h m n here i)))

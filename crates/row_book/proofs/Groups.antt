@@ -2,13 +2,15 @@
 use Rattle.std.proofs.Common.{◌≡◌, ℕ, zero, suc, ◌<◌, ◌≤◌, ◌+◌, ◌-◌, Bool, true, false, ◌||◌, cond, List, [], ◌∷◌, inl, inr, refl, sym, ◌∙◌, ap, subst, length, get_or, map, filter, take, drop, arith, eq-eqb, eqb-true, ne_eqb, Option}
 use Rattle.std.specs.List.{list_any}
 use Rattle.std.proofs.lemmas.Bool.{and_from, and_parts, both_ways, cases_lt, cond-false, cond-true, false_from_ne_true}
-use Rattle.std.proofs.lemmas.List.{get_or-map, length-map}
+use Rattle.std.proofs.lemmas.List.{get_or-map, length-map, get_or_default}
+use Rattle.listed.proofs.Orders.{ascending_places, rest_ascends}
+use Rattle.listed.proofs.Lists.{In_drop}
 use Rattle.clause_pool.specs.Interned.{Interned, clause_at, clauses_at}
 use Rattle.clause_pool.proofs.Lists.{In_place}
 use Rattle.row_book.specs.Sets.{In, has, there}
 use Rattle.row_book.specs.Clauses.{Ascending, Before, InOrder, is_inside}
 use Rattle.row_book.specs.Within.{goes_on, is_other, lead, rest_at, rest_within, some_within}
-use Rattle.row_book.proofs.Leads.{order_lead, read_same}
+use Rattle.row_book.proofs.Leads.{order_lead}
 use Rattle.row_book.proofs.Lists.{In_at, In_cases, In_has, In_map, In_map_cases, In_none, all_at, all_from, any_cases, any_from, filter_cases, filter_from, has_In}
 
 -- what a test keeps, where it holds of the elements of a range and of no others
@@ -61,7 +63,7 @@ module _ (pool : Interned) (depth : ℕ) (group : List ℕ) (order : InOrder (ma
   pub below_at : (number place x : ℕ) → place < length group → x ≡ get_or group place x → lead (rest_at pool depth x) ≤ number →
       (k : ℕ) → k < place + 1 → lead (rest_at pool depth (get_or group k 0)) ≤ number
   below_at number place x l e low k m =
-      let at : x ≡ get_or group place 0 = e ∙ read_same group place x 0 l in
+      let at : x ≡ get_or group place 0 = e ∙ get_or_default group place x 0 l in
       let w : lead (rest_at pool depth (get_or group k 0)) ≤ lead (rest_at pool depth (get_or group place 0)) = rising k place (omega arith) l in
       let v : lead (rest_at pool depth (get_or group place 0)) ≤ number = subst (λ z. lead (rest_at pool depth z) ≤ number) at low in
       omega (arith, w, v)
@@ -69,7 +71,7 @@ module _ (pool : Interned) (depth : ℕ) (group : List ℕ) (order : InOrder (ma
   pub above_at : (number place x : ℕ) → place < length group → x ≡ get_or group place x → number < lead (rest_at pool depth x) →
       (k : ℕ) → place ≤ k → k < length group → number < lead (rest_at pool depth (get_or group k 0))
   above_at number place x l e high k m n =
-      let at : x ≡ get_or group place 0 = e ∙ read_same group place x 0 l in
+      let at : x ≡ get_or group place 0 = e ∙ get_or_default group place x 0 l in
       let w : lead (rest_at pool depth (get_or group place 0)) ≤ lead (rest_at pool depth (get_or group k 0)) = rising place k m n in
       let v : number < lead (rest_at pool depth (get_or group place 0)) = subst (λ z. number < lead (rest_at pool depth z)) at high in
       omega (arith, w, v)
@@ -140,18 +142,6 @@ module _ (pool : Interned) (depth : ℕ) (group : List ℕ) (order : InOrder (ma
             )
             pick false e r = r
 
--- the rest of an ascending clause ascends
-pub rest_ascends : (i : ℕ) (xs : List ℕ) → Ascending xs → Ascending (drop i xs)
-rest_ascends zero xs a = a
-rest_ascends (suc i) [] a = tt
-rest_ascends (suc i) (x ∷ xs) a = rest_ascends i xs a.1
-
--- what is behind a place of a clause is in the clause
-in_rest : (i : ℕ) (xs : List ℕ) (n : ℕ) → In n (drop i xs) → In n xs
-in_rest zero xs n h = h
-in_rest (suc i) [] n h = h
-in_rest (suc i) (x ∷ xs) n h = there (in_rest i xs n h)
-
 -- a number of an ascending clause that is greater than the one at a place is behind it
 behind : (k : ℕ) (xs : List ℕ) (n : ℕ) → Ascending xs → k < length xs → get_or xs k 0 < n → In n xs → In n (drop (suc k) xs)
 behind k [] n a l g h = absurd (In_none h)
@@ -163,18 +153,11 @@ behind (suc k) (x ∷ xs) n a l g h =
     ]
 
 inside_more : (i : ℕ) (xs wanted : List ℕ) → is_inside xs (drop i wanted) ≡ true → is_inside xs wanted ≡ true
-inside_more i xs wanted h = all_from (has wanted) xs (λ n j. In_has (in_rest i wanted n (has_In (drop i wanted) n (all_at (has (drop i wanted)) xs h n j))))
+inside_more i xs wanted h = all_from (has wanted) xs (λ n j. In_has (In_drop i wanted n (has_In (drop i wanted) n (all_at (has (drop i wanted)) xs h n j))))
 
 inside_behind : (k : ℕ) (xs wanted : List ℕ) → Ascending wanted → k < length wanted → ((n : ℕ) → In n xs → get_or wanted k 0 < n) → is_inside xs wanted ≡ true → is_inside xs (drop (suc k) wanted) ≡ true
 inside_behind k xs wanted a l g h =
     all_from (has (drop (suc k) wanted)) xs (λ n j. In_has (behind k wanted n a l (g n j) (has_In wanted n (all_at (has wanted) xs h n j))))
-
-ascends : (xs : List ℕ) → Ascending xs → (i j : ℕ) → i ≤ j → j < length xs → get_or xs i 0 ≤ get_or xs j 0
-ascends [] a i j l u = absurd (omega arith)
-ascends (x ∷ xs) a zero zero l u = omega arith
-ascends (x ∷ xs) a zero (suc j) l u = let h : x < get_or xs j 0 = a.0 (get_or xs j 0) (In_at xs j 0 (omega arith)) in omega (arith, h)
-ascends (x ∷ xs) a (suc i) zero l u = absurd (omega arith)
-ascends (x ∷ xs) a (suc i) (suc j) l u = ascends xs a.1 i j (omega arith) (omega arith)
 
 -- of clauses in order only the first is empty
 empty_first : (pool : Interned) (depth : ℕ) (group : List ℕ) → InOrder (map (rest_at pool depth) group) → (id : ℕ) → In id group → rest_at pool depth id ≡ [] → id ≡ get_or group 0 0
@@ -218,7 +201,7 @@ module _ (pool : Interned) (but : Option (List ℕ)) (depth : ℕ) (group : List
       let v : In w.0 group × (goes_on pool depth number w.0 ≡ true) = filter_cases (goes_on pool depth number) group w.0 w.1 in
       let e : lead (rest_at pool depth w.0) ≡ suc number = eqb-true (lead (rest_at pool depth w.0)) (suc number) v.1 in
       let low : lead (rest_at pool depth w.0) ≤ get_or wanted k 0 = below w.0 v.0 in
-      let up : get_or wanted k 0 ≤ number = ascends wanted a k j l u in
+      let up : get_or wanted k 0 ≤ number = ascending_places wanted a k j l u in
       omega (arith, e, low, up))
 
   -- a clause within the wanted numbers is the first, or goes on with one of them

@@ -8,6 +8,8 @@ use Rattle.std.proofs.lemmas.List.{get_or-set_same, get_or-set_other, length-set
 use Rattle.std.specs.List.Retain.{DiffersFromLast, IsFiltered}
 use Rattle.std.specs.List.Sorted.{IsNonDecreasing}
 use Rattle.std.proofs.lemmas.List.Folds.{list_any_more, list_any-append}
+use Rattle.listed.proofs.Bools.{same_bool}
+use Rattle.listed.proofs.Lists.{empty_or}
 use Rattle.clause_pool.specs.Interned.{Interned, IsPool, Kept, clause_at, ids_at, row_at}
 use Rattle.row_book.specs.Sets.{In, here, has}
 use Rattle.row_book.specs.Book.{RowsFit, listed_for}
@@ -19,16 +21,6 @@ use Rattle.row_book.proofs.Inserts.{listed_once}
 use Rattle.row_book.proofs.Lists.{In_append_cases, In_append_left, In_append_right, In_at, In_cases, In_has, In_map, In_map_cases, In_none, any_from, ascending_filter, decided_in, filter_cases, filter_from, has_In}
 use Rattle.row_book.proofs.Tables.{list_held, list_set_other, list_set_same}
 use Rattle.row_book.proofs.Users.{held_by, user_from, users_listed, uses_number}
-
-pub same_truth : (a b : Bool) → (a ≡ true → b ≡ true) → (b ≡ true → a ≡ true) → a ≡ b
-same_truth true b f g = sym (f refl)
-same_truth false true f g = g refl
-same_truth false false f g = refl
-
--- what is said of a refusal, where it is true of every result
-pub on_err : {A E : Type 0} (P : Type 0) (r : Result A E) → P → OnErr r P
-on_err P (Ok x) p = tt
-on_err P (Err e) p = p
 
 -- Lists that grow.
 
@@ -107,10 +99,6 @@ module _ (numbers : List ℕ) (k x : ℕ) (old mid new : List (Vec ℕ)) (l : k 
 
 -- Clauses that are listed.
 
-some_user : (xs : List ℕ) → (xs ≡ []) ⊎ ((p : ℕ) × In p xs)
-some_user [] = inl refl
-some_user (x ∷ xs) = inr (x, here)
-
 -- a clause was listed for packages that it holds
 pub lists_listed : (pool : Interned) (id : ℕ) (users old new : List (List ℕ)) → HasAll old new → GainsOnly (clause_at pool id) id old new
     → ListsClauses pool (record { users = users; clauses = old }) → ListsClauses pool (record { users = users; clauses = new })
@@ -142,7 +130,7 @@ pub lists_entered : (pool : Interned) (id p : ℕ) (users new old clauses : List
     → ListsClauses pool (record { users = users; clauses = old }) → ListsClauses pool (record { users = new; clauses = clauses })
 lists_entered pool id p users new old clauses l stays listed unused came f =
     lists_pushed pool id p users new clauses l came
-    (λ n i. elim (some_user (listed_for users id)) [ inl none ↦ unused none n i | inr w ↦ stays n id (f.listed id w.0 n w.1 i) ])
+    (λ n i. elim (empty_or (listed_for users id)) [ inl none ↦ unused none n i | inr w ↦ stays n id (f.listed id w.0 n w.1 i) ])
     (lists_listed pool id users old clauses stays listed f)
 
 -- the same users, in more lists
@@ -239,7 +227,7 @@ users_found pool rows table n had found t f e =
     (subst (IsListOf (uses_number pool rows (length rows) n)) (sym e) (record {
       ascending = ascending_filter (uses_number pool rows (length rows) n) had f.ascending;
       members = λ m.
-          same_truth (has (filter (uses_number pool rows (length rows) n) had) m) (uses_number pool rows (length rows) n m)
+          same_bool (has (filter (uses_number pool rows (length rows) n) had) m) (uses_number pool rows (length rows) n m)
           (λ h. (filter_cases (uses_number pool rows (length rows) n) had m (has_In (filter (uses_number pool rows (length rows) n) had) m h)).1)
           (λ h. In_has (filter_from (uses_number pool rows (length rows) n) had m (listed m h) h));
     }))
@@ -269,7 +257,7 @@ pub gathered : (test : ℕ → Bool) (found sorted once : List ℕ) → ((m : �
 gathered test found sorted once p up f t = record {
   ascending = distinct_ascends sorted once f up;
   members = λ m.
-      same_truth (has once m) (has sorted m) (λ h. In_has (distinct_from sorted once f m (has_In once m h))) (λ h. In_has (distinct_has sorted once f m (has_In sorted m h)))
+      same_bool (has once m) (has sorted m) (λ h. In_has (distinct_from sorted once f m (has_In once m h))) (λ h. In_has (distinct_has sorted once f m (has_In sorted m h)))
       ∙ p m ∙ t m;
 }
 

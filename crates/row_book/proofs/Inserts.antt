@@ -7,6 +7,8 @@ use Rattle.std.specs.Result.{IsOk, is_ok}
 use Rattle.std.proofs.Math.Bool.{or_assoc, or_comm, or-false, and-true, and-false}
 use Rattle.std.proofs.lemmas.Bool.{cases_eq, false≢true}
 use Rattle.std.proofs.lemmas.List.Sorted.{searched}
+use Rattle.listed.proofs.Orders.{ascending_places, missed_not_there}
+use Rattle.listed.proofs.Lists.{In_drop}
 use Rattle.row_book.specs.Sets.{NumSet, In, here, there, has, plus, without}
 use Rattle.row_book.specs.Clauses.{Ascending}
 use Rattle.row_book.specs.Uses.{IsListOf, IsPlaceOf}
@@ -21,19 +23,6 @@ listed_once S xs ys a b =
 
 pub listed_as : (S T : NumSet) (xs : List ℕ) → ((m : ℕ) → S m ≡ T m) → IsListOf S xs → IsListOf T xs
 listed_as S T xs e l = record { ascending = l.ascending; members = λ m. l.members m ∙ e m }
-
-pub In_drop : (i : ℕ) (xs : List ℕ) (y : ℕ) → In y (drop i xs) → In y xs
-In_drop zero xs y j = j
-In_drop (suc i) [] y j = absurd (In_none j)
-In_drop (suc i) (x ∷ xs) y j = there (In_drop i xs y j)
-
--- an ascending list ascends from place to place
-ascending_places : (xs : List ℕ) → Ascending xs → (i j : ℕ) → i ≤ j → j < length xs → get_or xs i 0 ≤ get_or xs j 0
-ascending_places [] a i j l u = absurd (omega arith)
-ascending_places (x ∷ xs) a zero zero l u = omega arith
-ascending_places (x ∷ xs) a zero (suc j) l u = let h : x < get_or xs j 0 = a.0 (get_or xs j 0) (In_at xs j 0 (omega arith)) in omega arith
-ascending_places (x ∷ xs) a (suc i) zero l u = absurd (omega arith)
-ascending_places (x ∷ xs) a (suc i) (suc j) l u = ascending_places xs a.1 i j (omega arith) (omega arith)
 
 -- before a place and from it on
 front_below : (xs : List ℕ) (i p : ℕ) → ((k : ℕ) → k < i → get_or xs k 0 < p) → i ≤ length xs → (y : ℕ) → In y (take i xs) → y < p
@@ -139,20 +128,6 @@ pub inserted_list : {A E : Type 0} (xs ys : List ℕ) (p i : ℕ) (r : Result A 
 inserted_list xs ys p i (Ok u) k e a s = subst (λ zs. IsListOf (plus (has xs) p) zs) (sym e) (inserted_where_missed xs p i a s)
 inserted_list xs ys p i (Err u) k e a s = absurd (false≢true k)
 
--- a place where it was missed says that the list does not have it
-missed_not_there : (xs : List ℕ) (p i : ℕ) → i ≤ length xs → ((k : ℕ) → k < i → get_or xs k 0 < p) → ((k : ℕ) → i ≤ k → k < length xs → p < get_or xs k 0) → In p xs → ⊥
-missed_not_there [] p i l f g j = In_none j
-missed_not_there (x ∷ xs) p zero l f g j =
-    elim (In_cases j) [
-      | inl e ↦ let h : p < x = g 0 (omega arith) (omega arith) in omega (arith, e)
-      | inr r ↦ missed_not_there xs p zero (omega arith) (λ k u. absurd (omega arith)) (λ k u v. g (suc k) (omega arith) (omega arith)) r
-    ]
-missed_not_there (x ∷ xs) p (suc i) l f g j =
-    elim (In_cases j) [
-      | inl e ↦ let h : x < p = f 0 (omega arith) in omega (arith, e)
-      | inr r ↦ missed_not_there xs p i (omega arith) (λ k u. f (suc k) (omega arith)) (λ k u v. g (suc k) (omega arith) (omega arith)) r
-    ]
-
 pub missed : (xs : List ℕ) (p i : ℕ) → IsPlaceOf xs p (Err i) → has xs p ≡ false
 missed xs p i w = has_not xs p (missed_not_there xs p i w.0 w.1 w.2)
 
@@ -169,12 +144,3 @@ missed_is_gone xs p i a s =
 pub removed_where_found : (xs : List ℕ) (p i : ℕ) → Ascending xs → IsPlaceOf xs p (Ok i) → IsListOf (without (has xs) p) (remove xs i)
 removed_where_found xs p i a w =
     record { ascending = remove_ascends xs i a; members = λ m. remove_has xs i p m a w.0 w.1 }
-
--- a search in a sorted list finds the number where the list has it
-pub search_tells : (xs : List ℕ) (p : ℕ) (r : Result ℕ ℕ) → IsNonDecreasing xs → IsBinarySearchResult (λ y. nat_cmp y p) xs r → is_ok r ≡ has xs p
-search_tells xs p (Ok i) up s =
-    let w : (i < length xs) × (get_or xs i 0 ≡ p) = searched xs p (Ok i) s (λ j k l u. up j k 0 l u) in
-    sym (In_has (subst (λ q. In q xs) w.1 (In_at xs i 0 w.0)))
-search_tells xs p (Err i) up s =
-    let w : (i ≤ length xs) × ((k : ℕ) → k < i → get_or xs k 0 < p) × ((k : ℕ) → i ≤ k → k < length xs → p < get_or xs k 0) = searched xs p (Err i) s (λ j k l u. up j k 0 l u) in
-    sym (has_not xs p (missed_not_there xs p i w.0 w.1 w.2))

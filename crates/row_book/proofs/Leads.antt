@@ -5,22 +5,15 @@ use Rattle.std.specs.List.Sorted.{IsBinarySearchResult}
 use Rattle.std.specs.Ordering.{nat_cmp}
 use Rattle.std.proofs.lemmas.Bool.{cases_lt}
 use Rattle.std.proofs.lemmas.List.Sorted.{searched}
+use Rattle.listed.proofs.Orders.{ascending_places}
 use Rattle.clause_pool.proofs.Lists.{In_place}
 use Rattle.row_book.specs.Sets.{In, has}
 use Rattle.row_book.specs.Clauses.{Ascending, Before, InOrder}
 use Rattle.row_book.specs.Within.{lead}
 use Rattle.row_book.proofs.Lists.{In_at, In_map, any_from, has_not}
 
--- a test over clauses of a pool
-pub any_at : (p : List ℕ → Bool) (f : ℕ → List ℕ) (xs : List ℕ) (x : ℕ) → In x xs → p (f x) ≡ true → list_any p (map f xs) ≡ true
-any_at p f xs x i h = any_from p (map f xs) (f x) (In_map f xs x i) h
-
 or_false : (a b : Bool) → a ≡ false → b ≡ false → (a || b) ≡ false
 or_false a b e f = ap (λ z. z || b) e ∙ f
-
-pub none_at : (p : List ℕ → Bool) (f : ℕ → List ℕ) (xs : List ℕ) → ((k : ℕ) → k < length xs → p (f (get_or xs k 0)) ≡ false) → list_any p (map f xs) ≡ false
-none_at p f [] h = refl
-none_at p f (x ∷ xs) h = or_false (p (f x)) (list_any p (map f xs)) (h 0 (omega arith)) (none_at p f xs (λ k l. h (suc k) (omega arith)))
 
 -- a test over numbers
 and_false : (a b : Bool) → b ≡ false → (a && b) ≡ false
@@ -36,29 +29,15 @@ pub all_pass : (f : ℕ → Bool) (xs : List ℕ) → ((k : ℕ) → k < length 
 all_pass f [] h = refl
 all_pass f (x ∷ xs) h = ap (λ z. z && list_all f xs) (h 0 (omega arith)) ∙ all_pass f xs (λ k l. h (suc k) (omega arith))
 
--- what a binary search does not find in an ascending list is not there
-rises : (xs : List ℕ) → Ascending xs → (i j : ℕ) → i ≤ j → j < length xs → get_or xs i 0 ≤ get_or xs j 0
-rises [] a i j l m = absurd (omega arith)
-rises (x ∷ xs) a zero zero l m = omega arith
-rises (x ∷ xs) a zero (suc j) l m = let w : x < get_or xs j 0 = a.0 (get_or xs j 0) (In_at xs j 0 (omega arith)) in omega (arith, w)
-rises (x ∷ xs) a (suc i) zero l m = absurd (omega arith)
-rises (x ∷ xs) a (suc i) (suc j) l m = rises xs a.1 i j (omega arith) (omega arith)
-
 pub not_found : (xs : List ℕ) (x place : ℕ) → Ascending xs → IsBinarySearchResult (λ y. nat_cmp y x) xs (Err place) → has xs x ≡ false
 not_found xs x place a found =
-    let w : (place ≤ length xs) × ((k : ℕ) → k < place → get_or xs k 0 < x) × ((k : ℕ) → place ≤ k → k < length xs → x < get_or xs k 0) = searched xs x (Err place) found (rises xs a) in
+    let w : (place ≤ length xs) × ((k : ℕ) → k < place → get_or xs k 0 < x) × ((k : ℕ) → place ≤ k → k < length xs → x < get_or xs k 0) = searched xs x (Err place) found (ascending_places xs a) in
     has_not xs x (λ i.
     let at : (k : ℕ) × (k < length xs) × (get_or xs k 0 ≡ x) = In_place xs x 0 i in
     elim (cases_lt at.0 place) [
       | inl l ↦ let low : get_or xs at.0 0 < x = w.1 at.0 l in let e : get_or xs at.0 0 ≡ x = at.2 in omega (arith, low, e)
       | inr l ↦ let high : x < get_or xs at.0 0 = w.2 at.0 l at.1 in let e : get_or xs at.0 0 ≡ x = at.2 in omega (arith, high, e)
     ])
-
--- what is read at a place, with another default
-pub read_same : {A : Type 0} (xs : List A) (i : ℕ) (d e : A) → i < length xs → get_or xs i d ≡ get_or xs i e
-read_same [] i d e l = absurd (omega arith)
-read_same (x ∷ xs) zero d e l = refl
-read_same (x ∷ xs) (suc i) d e l = read_same xs i d e (omega arith)
 
 -- the order of clauses
 lead_before : (c d : List ℕ) → Before c d → lead c ≤ lead d

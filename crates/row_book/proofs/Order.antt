@@ -1,6 +1,8 @@
 -- The order of clauses, families in order, and the families of all sets of numbers.
 use Rattle.std.proofs.Common.{◌≡◌, ℕ, zero, suc, ◌<◌, ◌≤◌, ◌+◌, Bool, true, false, ◌&&◌, eqb, ltb, cond, List, [], ◌∷◌, ◌++◌, length, ◌⊎◌, inl, inr, refl, sym, ◌∙◌, ap, ap₂, subst, arith, map, filter, eq-eqb, eqb-true, zero-le, slice_index_or}
-use Rattle.std.proofs.lemmas.Bool.{both_ways, cases_eq, and_parts, and_from, or_cases, or_parts, false_from_ne_true, false≢true, ltb-true, ltb-false}
+use Rattle.std.proofs.lemmas.Bool.{both_ways, cases_eq, and_parts, and_from, or_cases, or_parts, false_from_ne_true, false≢true, ltb-true, ltb-false, lt-ltb, or_left, or_right}
+use Rattle.std.proofs.lemmas.List.{map-append}
+use Rattle.std.specs.List.{range_with_len}
 use Rattle.row_book.specs.Sets.{In, here, there}
 use Rattle.row_book.specs.Clauses.{Ascending, Before, InOrder, comes_before, insert_clause, in_row_order, numbers, nonempty_from, subsets}
 use Rattle.row_book.proofs.Lists.{In_cases, In_none, filter_cases, In_append_cases, In_append_left, In_append_right, In_map, In_map_cases}
@@ -147,7 +149,7 @@ placed_old c (d ∷ ds) x i = pick (comes_before c d) (comes_before d c) (placed
     pick false true f = elim (In_cases i) [ inl e ↦ subst (λ z. In x (z ∷ insert_clause c ds)) e here | inr j ↦ there (f j) ]
     pick false false f = i
 
-placed_new : (c : List ℕ) (ds : List (List ℕ)) → In c (insert_clause c ds)
+pub placed_new : (c : List ℕ) (ds : List (List ℕ)) → In c (insert_clause c ds)
 placed_new c [] = here
 placed_new c (d ∷ ds) = pick (comes_before c d) (comes_before d c) refl refl (placed_new c ds)
   where
@@ -282,3 +284,33 @@ subsets_parts n T i =
 pub subsets_has : (n : ℕ) (T : List ℕ) → Ascending T → ((m : ℕ) → In m T → m < n) → In T (subsets n)
 unfolding subsets
 subsets_has n T a f = nonempty_has n 0 T a (λ m i. (zero-le, let l : m < n = f m i in omega arith))
+
+-- the first numbers, one more of them, and lists by them
+pub numbers_ranged : (n k : ℕ) → range_with_len k n ≡ numbers n k
+unfolding numbers
+numbers_ranged zero k = refl
+numbers_ranged (suc n) k = ap (λ ns. k ∷ ns) (ap (λ s. range_with_len s n) (let e : k + 1 ≡ suc k = omega arith in e) ∙ numbers_ranged n (suc k))
+
+pub numbers_end : (n k : ℕ) → numbers (suc n) k ≡ numbers n k ++ (k + n) ∷ []
+unfolding numbers
+numbers_end zero k = ap (λ x. x ∷ []) (omega arith)
+numbers_end (suc n) k = ap (λ xs. k ∷ xs) (numbers_end n (suc k) ∙ ap (λ x. numbers n (suc k) ++ x ∷ []) (omega arith))
+
+pub numbers_more : (n : ℕ) → numbers (n + 1) 0 ≡ numbers n 0 ++ n ∷ []
+numbers_more n = ap (λ m. numbers m 0) (omega arith) ∙ numbers_end n 0 ∙ ap (λ x. numbers n 0 ++ x ∷ []) (omega arith)
+
+pub numbers_count : (n s : ℕ) → length (numbers n s) ≡ n
+unfolding numbers
+numbers_count zero s = refl
+numbers_count (suc n) s = ap suc (numbers_count n (suc s))
+
+pub lists_more : (f : ℕ → List ℕ) (n : ℕ) (old new : List (List ℕ)) (list : List ℕ) → old ≡ map f (numbers n 0) → list ≡ f n → new ≡ old ++ list ∷ [] → new ≡ map f (numbers (n + 1) 0)
+lists_more f n old new list e h g = g ∙ ap₂ (λ xs x. xs ++ x ∷ []) e h ∙ sym (ap (map f) (numbers_more n) ∙ map-append f (numbers n 0) (n ∷ []))
+
+-- the test of the order
+pub before_is : (a b : List ℕ) → Before a b → comes_before a b ≡ true
+before_is [] [] f = absurd f
+before_is [] (y ∷ ys) f = refl
+before_is (x ∷ xs) [] f = absurd f
+before_is (x ∷ xs) (y ∷ ys) (inl l) = or_left (ltb x y) (eqb x y && comes_before xs ys) (lt-ltb x y l)
+before_is (x ∷ xs) (y ∷ ys) (inr e) = or_right (ltb x y) (eqb x y && comes_before xs ys) (and_from (eqb x y) (comes_before xs ys) (eq-eqb x y e.0) (before_is xs ys e.1))

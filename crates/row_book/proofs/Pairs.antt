@@ -8,6 +8,7 @@ use Rattle.std.proofs.lemmas.Bool.{or_cases, or_left, or_right, and_parts, and_f
 use Rattle.std.proofs.lemmas.List.{ext_get_or, get_or_past, take_more}
 use Rattle.std.proofs.lemmas.List.Elements.{All-from_get_or}
 use Rattle.std.proofs.lemmas.List.Sorted.{All-permutation, list_any-IsPermutation}
+use Rattle.listed.proofs.Orders.{ascending_push}
 use Rattle.row_book.specs.declared.pair.Pair.{Pair}
 use Rattle.row_book.specs.Sets.{In, here, there}
 use Rattle.row_book.specs.Clauses.{Ascending, numbers}
@@ -89,16 +90,6 @@ last_of_all (x ∷ (y ∷ ys)) n a f i =
       | inl e ↦ let l : x < y = a.0 y here in let m : y ≤ n = f y (there here) in absurd (omega arith)
       | inr j ↦ last_of_all (y ∷ ys) n a.1 (λ q k. f q (there k)) j
     ]
-
-ascending_push : (xs : List ℕ) (n : ℕ) → Ascending xs → ((q : ℕ) → In q xs → q < n) → Ascending (xs ++ n ∷ [])
-ascending_push [] n a f = ((λ y i. absurd (In_none i)), tt)
-ascending_push (x ∷ xs) n a f = (
-  (λ y i. elim (In_append_cases xs (n ∷ []) y i) [
-    | inl j ↦ a.0 y j
-    | inr j ↦ elim (In_cases j) [ inl e ↦ let l : x < n = f x here in omega (arith, e) | inr k ↦ absurd (In_none k) ]
-  ]),
-  ascending_push xs n a.1 (λ q i. f q (there i)),
-)
 
 -- a number put behind a list
 with_cases : (xs : List ℕ) (n q : ℕ) → In q (with_last xs n) → In q xs ⊎ (q ≡ n)
@@ -305,7 +296,7 @@ pub length_pairs : (pairs : List Pair) (size : ℕ) → length (lists_of_pairs p
 unfolding lists_of_pairs
 length_pairs pairs size = length_numbers (λ p. filter (are_paired pairs p) (numbers size 0)) size 0
 
-at_pairs : (pairs : List Pair) (size p : ℕ) → p < size → listed_for (lists_of_pairs pairs size) p ≡ filter (are_paired pairs p) (numbers size 0)
+pub at_pairs : (pairs : List Pair) (size p : ℕ) → p < size → listed_for (lists_of_pairs pairs size) p ≡ filter (are_paired pairs p) (numbers size 0)
 unfolding lists_of_pairs
 at_pairs pairs size p l =
     at_numbers (λ k. filter (are_paired pairs k) (numbers size 0)) [] size 0 p l ∙ ap (λ k. filter (are_paired pairs k) (numbers size 0)) (zero-add p)

@@ -3,6 +3,7 @@ use Rattle.std.proofs.Common.{◌≡◌, ℕ, suc, ◌<◌, ◌≤◌, ◌+◌, 
 use Rattle.std.specs.Cmp.Lexicographic.{pointwise, pointwise_decides, bytes_decides}
 use Rattle.std.proofs.lemmas.Bool.{and_from, and_parts, cases_lt, false≢true}
 use Rattle.std.proofs.lemmas.List.{get_or_past}
+use Rattle.listed.proofs.Bools.{same_bool}
 use Rattle.row_book.specs.Sets.{NumSet, In, Hit, has}
 use Rattle.row_book.specs.Clauses.{Inside}
 use Rattle.row_book.specs.Repository.{Repository, Healthy, Coinst, against, clauses_of, conflicts_of}
@@ -12,14 +13,9 @@ use Rattle.row_book.proofs.Books.{in_listed}
 use Rattle.row_book.proofs.Lists.{In_has, has_In, ascending_same, filter_cases, filter_from}
 use Rattle.row_book.proofs.Order.{numbers_from, numbers_parts}
 
-pub same_test : (a b : Bool) → (a ≡ true → b ≡ true) → (b ≡ true → a ≡ true) → a ≡ b
-same_test true b f g = sym (f refl)
-same_test false true f g = absurd (false≢true (g refl))
-same_test false false f g = refl
-
 pub has_filter : (f : ℕ → Bool) (xs : List ℕ) (n : ℕ) → has (filter f xs) n ≡ (has xs n && f n)
 has_filter f xs n =
-    same_test (has (filter f xs) n) (has xs n && f n)
+    same_bool (has (filter f xs) n) (has xs n && f n)
     (λ h. let w : In n xs × (f n ≡ true) = filter_cases f xs n (has_In (filter f xs) n h) in and_from (has xs n) (f n) (In_has w.0) w.1)
     (λ h. let w : (has xs n ≡ true) × (f n ≡ true) = and_parts (has xs n) (f n) h in In_has (filter_from f xs n (has_In xs n w.0) w.1))
 
@@ -43,7 +39,7 @@ healthy_coinst R F f S = (
 
 -- the test of conflicts
 pub symmetric : (R : Repository) → SoundRepository R → (m n : ℕ) → against R m n ≡ against R n m
-symmetric R s m n = same_test (against R m n) (against R n m) (s.conflicts.either_way m n) (s.conflicts.either_way n m)
+symmetric R s m n = same_bool (against R m n) (against R n m) (s.conflicts.either_way m n) (s.conflicts.either_way n m)
 
 pub conflict_within : (R : Repository) → length R.conflicts ≡ length R.clauses → (m n : ℕ) → against R m n ≡ true → m < length R.clauses
 conflict_within R e m n h = subst (λ k. m < k) e (in_listed R.conflicts m n (has_In (conflicts_of R m) n h))

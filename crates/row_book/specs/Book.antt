@@ -1,7 +1,9 @@
 -- Books: what a book of rows means for the pool that its rows are of.
-use Rattle.std.specs.Prelude.{◌≡◌, ℕ, ◌<◌, ◌≤◌, Bool, true, false, ◌&&◌, ◌||◌, eqb, List, [], length, map, filter, slice_index_or}
+use Rattle.std.specs.Prelude.{◌≡◌, ℕ, ◌<◌, Bool, true, false, ◌&&◌, ◌||◌, eqb, List, [], length, map, filter, slice_index_or}
 use Rattle.std.specs.List.{list_any}
-use Rattle.clause_pool.specs.Interned.{Interned, ids_at, row_at}
+use Rattle.clause_pool.specs.Interned.{Interned, IsPool, row_at}
+pub use Rattle.clause_pool.specs.Compacting.{AddsOnly}
+use Rattle.clause_pool.specs.Compacting.{RowsOf}
 use Rattle.row_book.specs.Sets.{In, has}
 use Rattle.row_book.specs.Clauses.{Ascending, Inside, numbers}
 use Rattle.row_book.specs.Uses.{row_id}
@@ -13,10 +15,15 @@ use Rattle.row_book.specs.declared.pair.Pair.{Pair}
 abbrev pub repository_of : Interned → Book → Repository
 repository_of pool book = record { clauses = map (row_at pool) book.rows; conflicts = book.conflicts }
 
--- rows of the pool, of which each number is below the number of rows
+-- each number in the rows is below the number of rows
+abbrev pub NumbersFit : Interned → List ℕ → Type 0
+NumbersFit pool rows = (id : ℕ) → In id rows → (c : List ℕ) → In c (row_at pool id) → (n : ℕ) → In n c → n < length rows
+
+-- rows of a pool, of which each number is below the number of rows
 pub record RowsFit (pool : Interned) (rows : List ℕ) : Type 0 where
-  pub of_pool : (id : ℕ) → In id rows → id < length pool.rows
-  pub numbers : (id : ℕ) → In id rows → (c : List ℕ) → In c (row_at pool id) → (n : ℕ) → In n c → n < length rows
+  pub is_pool : IsPool pool
+  pub of_pool : RowsOf pool rows
+  pub numbers : NumbersFit pool rows
 
 -- the conflicts of a package, as its list in a table
 abbrev pub listed_for : List (List ℕ) → ℕ → List ℕ
@@ -46,11 +53,6 @@ lists_of_pairs pairs size = map (λ p. filter (are_paired pairs p) (numbers size
 pub record PairsFit (pairs : List Pair) (size : ℕ) : Type 0 where
   pub ordered : (pair : Pair) → In pair pairs → pair.low < pair.high
   pub below : (pair : Pair) → In pair pairs → pair.high < size
-
--- the pool has gained these rows and their clauses alone
-pub record AddsOnly (old new : Interned) (gained : List ℕ) : Type 0 where
-  pub rows : (id : ℕ) → length old.rows ≤ id → id < length new.rows → In id gained
-  pub clauses : (id : ℕ) → length old.clauses ≤ id → id < length new.clauses → (row : ℕ) × In row gained × In id (ids_at new row)
 
 -- a book in another pool: the same repository, and sound where the first is
 pub record IsSameBook (pool : Interned) (book : Book) (new : Interned) (moved : Book) : Type 0 where

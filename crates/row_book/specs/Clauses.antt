@@ -3,14 +3,8 @@
 use Rattle.std.specs.Prelude.{ℕ, zero, suc, Bool, true, false, not, ◌&&◌, ◌||◌, eqb, ltb, cond, List, [], ◌∷◌, ◌++◌, map}
 use Rattle.std.specs.List.{list_all, filter}
 use Rattle.row_book.specs.Sets.{In, has}
-pub use Rattle.clause_pool.specs.Lists.{Ascending, Before, InOrder}
-
--- each number of the first list is in the second
-abbrev pub Inside : List ℕ → List ℕ → Type 0
-Inside S T = (n : ℕ) → In n S → In n T
-
-abbrev pub is_inside : List ℕ → List ℕ → Bool
-is_inside S T = list_all (λ n. has T n) S
+pub use Rattle.clause_pool.specs.Lists.{Before, InOrder}
+pub use Rattle.listed.specs.Lists.{Ascending, Inside, is_inside}
 
 -- the clauses that do not hold the number
 abbrev pub apart_from : ℕ → List (List ℕ) → List (List ℕ)

@@ -100,13 +100,13 @@ flat limit hold R = record { clauses = rows_over R (core_of limit hold R); confl
 -- and the number of its clauses
 pub record Passed : Type 0 where
   pub gone : ℕ
-  pub «package» : ℕ
+  pub over : ℕ
   pub count : ℕ
 
 -- the first of the packages whose row has more clauses than the limit allows, with i packages gone
 abbrev pub passed_by : (ℕ → ℕ) → List ℕ → ℕ → ℕ → Option Passed
 passed_by count ps limit i =
-    option_map (λ p. record { gone = i; «package» = p; count = count p })
+    option_map (λ p. record { gone = i; over = p; count = count p })
     (find (λ p. ltb limit (count p)) ps)
 
 abbrev pub passed_at : ℕ → Bool → Repository → ℕ → Option Passed

@@ -3,7 +3,6 @@ pub use Rattle.clause_pool.specs.Lists
 pub mod Sets
 pub mod Repository
 pub mod Book
-pub mod Carrying
 pub mod Pairs
 pub mod Uses
 pub mod Holders

@@ -1,3 +1,4 @@
+-- for the bodies of this crate alone
 -- Pairs in order, and lists of conflicts while they grow.
 use Rattle.std.specs.Prelude.{◌≡◌, ◌≢◌, ℕ, ◌<◌, ◌≤◌, Bool, true, false, eqb, cond, List, [], ◌∷◌, ◌++◌, ◌⊎◌, length}
 use Rattle.row_book.specs.Sets.{In}

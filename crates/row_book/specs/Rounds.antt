@@ -94,11 +94,11 @@ least_member limit hold R n k = place_of (λ p. eqb (class_after limit hold R n 
 pub record PassedRound : Type 0 where
   pub number : ℕ
   pub gone : ℕ
-  pub «package» : ℕ
+  pub over : ℕ
   pub count : ℕ
 
 abbrev pub in_round : ℕ → Bool → Repository → ℕ → Passed → PassedRound
-in_round limit hold R i w = record { number = min (suc i) 4294967295; gone = w.gone; «package» = least_member limit hold R i w.«package»; count = w.count }
+in_round limit hold R i w = record { number = min (suc i) 4294967295; gone = w.gone; over = least_member limit hold R i w.over; count = w.count }
 
 abbrev pub passed_in_round : ℕ → Bool → Repository → ℕ → Option PassedRound
 passed_in_round limit hold R i = option_map (in_round limit hold R i) (passes limit hold (rounds limit hold R i))

@@ -1,7 +1,7 @@
 -- Sets of packages as tests, clauses as lists, and what a set hits.
 use Rattle.std.specs.Prelude.{◌≡◌, ℕ, Bool, true, not, ◌&&◌, ◌||◌, eqb, List}
 use Rattle.std.specs.List.{list_any}
-pub use Rattle.clause_pool.specs.Lists.{In, here, there}
+pub use Rattle.listed.specs.Lists.{In, here, there, has}
 
 -- a set of numbers, as the test of its members
 abbrev pub NumSet : Type 0
@@ -12,10 +12,6 @@ Is X n = X n ≡ true
 
 abbrev pub Within : NumSet → NumSet → Type 0
 Within X Y = (n : ℕ) → X n ≡ true → Y n ≡ true
-
--- whether the list has the number
-abbrev pub has : List ℕ → ℕ → Bool
-has xs n = list_any (λ m. eqb n m) xs
 
 -- the set and one more number
 abbrev pub plus : NumSet → ℕ → NumSet

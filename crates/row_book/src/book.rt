@@ -27,7 +27,8 @@ pub struct Book {
 impl Book {
     ghost use Rattle.std.specs.Prelude.{◌≡◌, ◌<◌, List, [], IfOk, length, slice_index_or};
     ghost use Rattle.row_book.specs.Sets.{has};
-    ghost use Rattle.row_book.specs.Book.{listed_for, lists_of_pairs, PairsFit, RowsFit, Sound};
+    ghost use Rattle.clause_pool.specs.Compacting.{RowsOf};
+    ghost use Rattle.row_book.specs.Book.{listed_for, lists_of_pairs, NumbersFit, PairsFit, Sound};
 
     /// The book of these rows of the pool, in which the packages of each pair conflict; it fails only where no memory is
     /// found. A pair may stand twice.
@@ -37,13 +38,16 @@ impl Book {
         rows: &[RowId],
         pairs: &[Pair],
     ) -> Result<Book, AllocError>
-        requires few { length rows.now < 4294967295 }
-        requires fit { RowsFit pool.now rows.now }
+        requires few { length rows.now < u32.MAX }
+        requires rows { RowsOf pool.now rows.now }
+        requires numbers { NumbersFit pool.now rows.now }
         requires pairs { PairsFit pairs.now (length rows.now) }
         ensures rows { IfOk result (λ book. book.rows ≡ rows.now) }
         ensures conflicts { IfOk result (λ book. book.conflicts ≡ lists_of_pairs pairs.now (length rows.now)) }
         ensures sound { IfOk result (Sound pool.now) }
     {
+        // What holds of every pool is told by this call alone; a sound book tells it on.
+        pool.clause_count();
         let conflicts = conflict_lists(alloc, pairs, rows.len())?;
         let rows = Vec::from_slice(alloc, rows)?;
         Ok(Book {
@@ -82,19 +86,19 @@ impl Book {
     }
 
     /// The row of a package below the size; it takes no memory.
-    pub fn row(&self, package: u32) -> RowId
-        requires { «package» < length self.now.rows }
-        ensures { result ≡ slice_index_or self.now.rows «package» 0 }
+    pub fn row(&self, number: u32) -> RowId
+        requires { number < length self.now.rows }
+        ensures { result ≡ slice_index_or self.now.rows number 0 }
     {
-        self.rows.as_slice()[package as usize]
+        self.rows.as_slice()[number as usize]
     }
 
     /// Lends the packages that conflict with a package below the size, in a sound book ascending; it takes no memory.
-    pub fn against(&self, package: u32) -> &[u32]
-        requires { «package» < length self.now.rows }
-        ensures { result.now ≡ listed_for self.now.conflicts «package» }
+    pub fn against(&self, number: u32) -> &[u32]
+        requires { number < length self.now.rows }
+        ensures { result.now ≡ listed_for self.now.conflicts number }
     {
-        self.conflicts.as_slice()[package as usize].as_slice()
+        self.conflicts.as_slice()[number as usize].as_slice()
     }
 
     /// Whether the second package is among the conflicts of the first, both below the size; it takes no memory.

@@ -50,3 +50,34 @@ pub(crate) fn changes_between(
     gained.extend_from_slice(&new[j..])?;
     Ok(Changes { lost, gained })
 }
+
+/// The clauses of the new row that the old one does not have, by the same walk.
+pub(crate) fn gained_between(
+    alloc: Global,
+    pool: &Pool,
+    old: &[ClauseId],
+    new: &[ClauseId],
+) -> Result<Vec<ClauseId>, AllocError>
+    requires old { OfPool pool.now old.now }
+    requires new { OfPool pool.now new.now }
+    ensures { IfOk result (λ gained. HoldsDifference new.now old.now gained.items) }
+{
+    let mut gained = Vec::new(alloc);
+    let mut i = 0;
+    let mut j = 0;
+    'walk: while i < old.len() && j < new.len() {
+        let before = old[i];
+        let after = new[j];
+        if before == after {
+            i += 1;
+            j += 1;
+        } else if pool.slice(before) < pool.slice(after) {
+            i += 1;
+        } else {
+            gained.push(after)?;
+            j += 1;
+        }
+    }
+    gained.extend_from_slice(&new[j..])?;
+    Ok(gained)
+}

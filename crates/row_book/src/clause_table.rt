@@ -7,10 +7,9 @@ ghost use Rattle.row_book.specs.Book.{RowsFit};
 ghost use Rattle.row_book.specs.Uses.{row_holds, row_id, users_of, lists_in, list_in, IsListOf};
 ghost use Rattle.row_book.specs.Holders.{holders_in, GainsOnly, HasAll, ListsClauses, TellsRows};
 
-use crate::changes::changes_between;
-use crate::uses::empty_lists;
-use crate::within::holds_ascending;
+use crate::changes::gained_between;
 use clause_pool::{ClauseId, Pool, RowId};
+use listed::{empty_vectors, holds_ascending};
 use std::alloc::{AllocError, Global};
 use std::marker::Model;
 
@@ -36,13 +35,13 @@ impl Model for ClauseTable {
 impl ClauseTable {
     /// The table of the rows; it fails only where no memory is found.
     pub fn of(alloc: Global, pool: &Pool, rows: &[RowId]) -> Result<ClauseTable, AllocError>
-        requires few { length rows.now < 4294967295 }
+        requires few { length rows.now < u32.MAX }
         requires fit { RowsFit pool.now rows.now }
         ensures { IfOk result (TellsRows pool.now rows.now) }
     {
         let mut users = Vec::new(alloc);
         make_lists(&mut users, pool.clause_count())?;
-        let mut clauses = empty_lists(alloc, rows.len())?;
+        let mut clauses = empty_vectors(alloc, rows.len())?;
         enter_rows(pool, users.as_mut_slice(), clauses.as_mut_slice(), rows)?;
         Ok(ClauseTable { users, clauses })
     }
@@ -54,14 +53,14 @@ impl ClauseTable {
         alloc: Global,
         pool: &Pool,
         rows: &[RowId],
-        package: u32,
+        number: u32,
     ) -> Result<Vec<u32>, AllocError>
         requires { RowsFit pool.now rows.now }
-        ensures { IfOk result (λ found. TellsRows pool.now rows.now self.now → found.items ≡ users_of pool.now rows.now «package») }
+        ensures { IfOk result (λ found. TellsRows pool.now rows.now self.now → found.items ≡ users_of pool.now rows.now number) }
     {
-        let clauses = list_at(self.clauses.as_slice(), package);
+        let clauses = list_at(self.clauses.as_slice(), number);
         let had = users_among(alloc, self.users.as_slice(), clauses)?;
-        users_still(alloc, pool, rows, had.as_slice(), package)
+        users_still(alloc, pool, rows, had.as_slice(), number)
     }
 
     /// Puts a new row in the place of the old one of a package: a table of rows in which the package has the old row is
@@ -70,36 +69,36 @@ impl ClauseTable {
         &mut self,
         alloc: Global,
         pool: &Pool,
-        package: u32,
+        number: u32,
         old: RowId,
         new: RowId,
     ) -> Result<(), AllocError>
         requires old { old < length pool.now.rows }
         requires new { new < length pool.now.rows }
         requires numbers { (c : List ℕ) → In c (row_at pool.now new) → (n : ℕ) → In n c → n < length self.old.clauses }
-        ensures ok { OnOk result ((rows : List ℕ) → «package» < length rows → row_id rows «package» ≡ old →
-            TellsRows pool.now rows self.old → TellsRows pool.now (slice_set rows «package» new) self.new) }
+        ensures ok { OnOk result ((rows : List ℕ) → number < length rows → row_id rows number ≡ old →
+            TellsRows pool.now rows self.old → TellsRows pool.now (slice_set rows number new) self.new) }
         ensures err { OnErr result ((rows : List ℕ) → TellsRows pool.now rows self.old → TellsRows pool.now rows self.new) }
     {
-        let changes = changes_between(alloc, pool, pool.row(old), pool.row(new))?;
+        let came = gained_between(alloc, pool, pool.row(old), pool.row(new))?;
         make_lists(&mut self.users, pool.clause_count())?;
-        let gained = changes.gained.as_slice();
+        let gained = came.as_slice();
         let users = self.users.as_mut_slice();
         let clauses = self.clauses.as_mut_slice();
-        enter_all(pool, users, clauses, gained, package)?;
+        enter_all(pool, users, clauses, gained, number)?;
         Ok(())
     }
 
     /// Gives back the lists of a package and of the users of its clauses: a table of rows none of which has a clause that
-    /// holds it stays that of these rows.
-    pub fn forget(&mut self, package: u32)
-        ensures { (pool : Interned) (rows : List ℕ) → users_of pool rows «package» ≡ [] →
+    /// holds it stays that of these rows. Otherwise each other member of a long clause would go through its users again.
+    pub fn forget(&mut self, number: u32)
+        ensures { (pool : Interned) (rows : List ℕ) → users_of pool rows number ≡ [] →
             TellsRows pool rows self.old → TellsRows pool rows self.new }
     {
         let alloc = *self.users.allocator();
-        let clauses = list_at(self.clauses.as_slice(), package);
+        let clauses = list_at(self.clauses.as_slice(), number);
         empty_each(alloc, self.users.as_mut_slice(), clauses);
-        empty_one(alloc, self.clauses.as_mut_slice(), package);
+        empty_one(alloc, self.clauses.as_mut_slice(), number);
     }
 }
 
@@ -110,7 +109,7 @@ fn enter_rows(
     clauses: &mut [Vec<u32>],
     rows: &[RowId],
 ) -> Result<(), AllocError>
-    requires few { length rows.now < 4294967295 }
+    requires few { length rows.now < u32.MAX }
     requires fit { RowsFit pool.now rows.now }
     requires there { length pool.now.clauses ≤ length users.old }
     requires size { length clauses.old ≡ length rows.now }
@@ -118,8 +117,8 @@ fn enter_rows(
     requires empty { (n : ℕ) → list_in clauses.old n ≡ [] }
     ensures { OnOk result (TellsRows pool.now rows.now (holders_in users.new clauses.new)) }
 {
-    for (package, row) in rows.iter().enumerate() {
-        enter_all(pool, users, clauses, pool.row(*row), package as u32)?;
+    for (number, row) in rows.iter().enumerate() {
+        enter_all(pool, users, clauses, pool.row(*row), number as u32)?;
     }
     Ok(())
 }
@@ -131,17 +130,17 @@ fn enter_all(
     users: &mut [Vec<u32>],
     clauses: &mut [Vec<u32>],
     ids: &[ClauseId],
-    package: u32,
+    number: u32,
 ) -> Result<(), AllocError>
     requires of_pool { OfPool pool.now ids.now }
     requires there { length pool.now.clauses ≤ length users.old }
     requires numbers { (c : ℕ) → In c ids.now → (n : ℕ) → In n (clause_at pool.now c) → n < length clauses.old }
-    ensures entered { OnOk result ((c : ℕ) → In c ids.now → In «package» (list_in users.new c)) }
+    ensures entered { OnOk result ((c : ℕ) → In c ids.now → In number (list_in users.new c)) }
     ensures users { HasAll (lists_in users.old) (lists_in users.new) }
     ensures lists { ListsClauses pool.now (holders_in users.old clauses.old) → ListsClauses pool.now (holders_in users.new clauses.new) }
 {
     for id in ids {
-        enter(pool, users, clauses, *id, package)?;
+        enter(pool, users, clauses, *id, number)?;
     }
     Ok(())
 }
@@ -152,18 +151,18 @@ fn enter(
     users: &mut [Vec<u32>],
     clauses: &mut [Vec<u32>],
     id: ClauseId,
-    package: u32,
+    number: u32,
 ) -> Result<(), AllocError>
     requires id { id < length pool.now.clauses }
     requires there { length pool.now.clauses ≤ length users.old }
     requires numbers { (n : ℕ) → In n (clause_at pool.now id) → n < length clauses.old }
-    ensures entered { OnOk result (In «package» (list_in users.new id)) }
+    ensures entered { OnOk result (In number (list_in users.new id)) }
     ensures users { HasAll (lists_in users.old) (lists_in users.new) }
     ensures lists { ListsClauses pool.now (holders_in users.old clauses.old) → ListsClauses pool.now (holders_in users.new clauses.new) }
 {
     let place = small_place(id)?;
     list_unused(pool, users, clauses, id, place)?;
-    push_to(users, place, package)
+    push_to(users, place, number)
 }
 
 /// Lists a clause for each of its numbers, if it has no user; where no memory is found, for some of them.
@@ -280,7 +279,7 @@ fn users_still(
     ensures { IfOk result (λ found. found.items
         ≡ filter (λ p. ltb p (length rows.now) && row_holds pool.now (row_id rows.now p) number) packages.now) }
 {
-    let mut found = Vec::new(alloc);
+    let mut found = Vec::with_capacity(alloc, packages.len())?;
     for package in packages {
         if is_user(pool, rows, *package, number) {
             found.push(*package)?;
@@ -290,11 +289,11 @@ fn users_still(
 }
 
 /// Whether the package is one of the rows' and its row has a clause that holds the number.
-fn is_user(pool: &Pool, rows: &[RowId], package: u32, number: u32) -> bool
+fn is_user(pool: &Pool, rows: &[RowId], user: u32, number: u32) -> bool
     requires { RowsFit pool.now rows.now }
-    ensures { result ≡ (ltb «package» (length rows.now) && row_holds pool.now (row_id rows.now «package») number) }
+    ensures { result ≡ (ltb user (length rows.now) && row_holds pool.now (row_id rows.now user) number) }
 {
-    (package as usize) < rows.len() && some_holds(pool, pool.row(rows[package as usize]), number)
+    (user as usize) < rows.len() && some_holds(pool, pool.row(rows[user as usize]), number)
 }
 
 /// Whether one of the clauses holds the number.

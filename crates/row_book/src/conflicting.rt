@@ -6,29 +6,15 @@ ghost use Rattle.row_book.specs.Book.{listed_for};
 ghost use Rattle.row_book.specs.Clauses.{is_inside, Ascending};
 ghost use Rattle.row_book.specs.Facing.{against_in, all_against, common_to};
 
-use crate::within::holds_ascending;
 use crate::{Book, NumList};
+use listed::{holds_ascending, is_inside};
 use std::alloc::{AllocError, Global};
 
-/// Whether the list holds the number.
-pub fn holds(list: &[u32], number: u32) -> bool
-    ensures { result ≡ has list.now number }
-{
-    list.iter().any(|other| number == *other)
-}
-
-/// Whether each number of the first list is in the second.
-pub fn is_inside(small: &[u32], large: &[u32]) -> bool
-    ensures { result ≡ is_inside small.now large.now }
-{
-    small.iter().all(|number| holds(large, *number))
-}
-
 /// The packages that the table has for a package.
-pub fn conflicts_of(table: &[NumList], package: u32) -> &[u32]
-    ensures { result.now ≡ listed_for table.now «package» }
+pub fn conflicts_of(table: &[NumList], number: u32) -> &[u32]
+    ensures { result.now ≡ listed_for table.now number }
 {
-    match table.get(package as usize) {
+    match table.get(number as usize) {
         Some(list) => list.as_slice(),
         None => &[],
     }
@@ -43,12 +29,12 @@ pub fn are_against(table: &[NumList], first: u32, second: u32) -> bool
 }
 
 /// Whether the table, whose lists ascend, has the package among the conflicts of each of the others.
-fn is_against_each(table: &[NumList], others: &[u32], package: u32) -> bool
+fn is_against_each(table: &[NumList], others: &[u32], number: u32) -> bool
     requires { (p : ℕ) → Ascending (listed_for table.now p) }
-    ensures { result ≡ list_all (λ other. against_in table.now other «package») others.now }
+    ensures { result ≡ list_all (λ other. against_in table.now other number) others.now }
 {
     for other in others {
-        if !are_against(table, *other, package) {
+        if !are_against(table, *other, number) {
             return false;
         }
     }
@@ -66,9 +52,9 @@ pub fn common_conflicts(
     ensures { IfOk result (λ common. common.items ≡ common_to table.now first others.now) }
 {
     let mut common = Vec::new(alloc);
-    for package in conflicts_of(table, first) {
-        if is_against_each(table, others, *package) {
-            common.push(*package)?;
+    for number in conflicts_of(table, first) {
+        if is_against_each(table, others, *number) {
+            common.push(*number)?;
         }
     }
     Ok(common)
@@ -80,7 +66,7 @@ fn all_conflict(table: &[NumList], first: &[u32], second: &[u32]) -> bool
 {
     first
         .iter()
-        .all(|package| is_inside(second, conflicts_of(table, *package)))
+        .all(|number| is_inside(second, conflicts_of(table, *number)))
 }
 
 impl Book {

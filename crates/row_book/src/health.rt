@@ -58,11 +58,14 @@ impl Book {
         ensures satisfied { OnOk result (AllSatisfied (repository_of pool.now self.now) (flag chosen.now)) }
         ensures refused { IfErr result (IsFirstFault (repository_of pool.now self.now) (flag chosen.now)) }
     {
-        for package in 0..self.size() {
-            if is_member(chosen, package) {
-                let ids = pool.row(self.row(package));
+        for number in 0..self.size() {
+            if is_member(chosen, number) {
+                let ids = pool.row(self.row(number));
                 if let Some(clause) = first_unhit(pool, ids, chosen) {
-                    return Err(Unhealthy::Unhit { package, clause });
+                    return Err(Unhealthy::Unhit {
+                        package: number,
+                        clause,
+                    });
                 }
             }
         }

@@ -1,32 +1,42 @@
 //! Repositories of numbered packages with their clauses and conflicts.
 #![tactic(auto)]
 
-pub mod book;
+mod book;
 mod changes;
 mod clause_table;
 mod conflicting;
-pub mod health;
+mod health;
 mod moving;
-pub mod needs;
-pub mod pair;
+mod needs;
+mod pair;
 mod pairing;
 mod subsets;
-pub mod trail;
+mod trail;
 mod uses;
 mod within;
 
+// Books: the clauses and conflicts of numbered packages.
 pub use book::{Book, ConflictTable, RowList};
-pub use clause_pool::NumList;
-pub use clause_table::ClauseTable;
-pub use conflicting::{are_against, common_conflicts, conflicts_of, holds, is_inside};
-pub use health::Unhealthy;
-use listed::Listed;
 pub use needs::Needs;
 pub use pair::Pair;
+
+// Which packages are healthy or conflict, and which lists hold or hit others.
+pub use conflicting::{are_against, common_conflicts, conflicts_of};
+pub use health::Unhealthy;
+pub use listed::{holds, is_inside};
 pub use subsets::is_coinst;
-pub use trail::{Step, StepList, Trail};
-pub use uses::{UseTable, distinct_numbers_in};
 pub use within::{has_side_within, has_within};
+
+// Tables of who names whom, and of the rows that hold a clause.
+pub use clause_table::ClauseTable;
+pub use uses::{UseTable, distinct_numbers_in};
+
+// What reductions leave behind.
+pub use trail::{Step, StepList, Trail};
+
+// Lists.
+pub use clause_pool::NumList;
+use listed::Listed;
 
 /// The clauses of one package.
 pub type ClauseList = Listed<NumList>;

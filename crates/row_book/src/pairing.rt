@@ -5,6 +5,7 @@ ghost use Rattle.row_book.specs.Book.{listed_for, lists_of_pairs, PairsFit};
 ghost use Rattle.row_book.specs.Pairs.{is_last, with_last, AllEmpty, Entered, ListsPairs, Rising};
 
 use crate::{NumList, Pair};
+use listed::empty_lists;
 use std::alloc::{AllocError, Global};
 
 /// For each of so many packages, ascending, those that it is paired with.
@@ -32,18 +33,6 @@ fn in_order(alloc: Global, pairs: &[Pair]) -> Result<Vec<Pair>, AllocError>
     Ok(ordered)
 }
 
-/// So many empty lists.
-fn empty_lists(alloc: Global, size: usize) -> Result<Vec<NumList>, AllocError>
-    ensures count { IfOk result (λ table. length table.items ≡ size) }
-    ensures empty { IfOk result (λ table. AllEmpty table.items) }
-{
-    let mut table = Vec::new(alloc);
-    for _ in 0..size {
-        table.push(NumList::new(alloc))?;
-    }
-    Ok(table)
-}
-
 /// Puts into empty lists, in order, the numbers of the pairs, each into the list of the other.
 fn enter_pairs(table: &mut Vec<NumList>, pairs: &[Pair]) -> Result<(), AllocError>
     requires rising { Rising pairs.now }
@@ -68,12 +57,12 @@ fn enter_pair(table: &mut Vec<NumList>, pair: Pair) -> Result<(), AllocError>
 }
 
 /// Puts a number behind the list of a package, unless it is the last there.
-fn enter(table: &mut Vec<NumList>, package: u32, number: u32) -> Result<(), AllocError>
-    requires { «package» < length table.old.items }
-    ensures { OnOk result (table.new.items ≡ slice_set table.old.items «package»
-        (with_last (listed_for table.old.items «package») number)) }
+fn enter(table: &mut Vec<NumList>, holder: u32, number: u32) -> Result<(), AllocError>
+    requires { holder < length table.old.items }
+    ensures { OnOk result (table.new.items ≡ slice_set table.old.items holder
+        (with_last (listed_for table.old.items holder) number)) }
 {
-    let list = &mut table[package as usize];
+    let list = &mut table[holder as usize];
     if !is_last(list.as_slice(), number) {
         list.push(number)?;
     }

@@ -1,4 +1,7 @@
 //! Which packages name which.
+//!
+//! The table holds a pair for each package and each number, so a long clause that many rows share costs a square. Flattening
+//! goes by `ClauseTable`; only `eliminate` uses this table.
 ghost use Rattle.std.specs.Prelude.{◌≡◌, ◌<◌, ◌-◌, ◌⊎◌, ◌&&◌, ◌||◌, ℕ, List, [], IfOk, OnOk, OnErr, true, not, eqb, length, slice_set, vec_capacity, vec_len};
 ghost use Rattle.std.specs.List.Sorted.{IsNonDecreasing, IsSearchInRange};
 ghost use Rattle.clause_pool.specs.Interned.{clauses_at, row_at, OfPool};
@@ -9,6 +12,7 @@ ghost use Rattle.row_book.specs.Uses.{row_id, some_holds, uses_of, IsListOf, IsP
 
 use crate::changes::changes_between;
 use clause_pool::{ClauseId, Pool, RowId};
+use listed::{empty_vectors, holds_sorted};
 use std::alloc::{AllocError, Global};
 use std::marker::Model;
 
@@ -33,14 +37,14 @@ impl Model for UseTable {
 impl UseTable {
     /// The table of the rows; it fails only where no memory is found.
     pub fn of(alloc: Global, pool: &Pool, rows: &[RowId]) -> Result<UseTable, AllocError>
-        requires few { length rows.now < 4294967295 }
+        requires few { length rows.now < u32.MAX }
         requires fit { RowsFit pool.now rows.now }
         ensures { IfOk result (λ table. table ≡ uses_of pool.now rows.now) }
     {
-        let mut users = empty_lists(alloc, rows.len())?;
-        for (package, row) in rows.iter().enumerate() {
+        let mut users = empty_vectors(alloc, rows.len())?;
+        for (number, row) in rows.iter().enumerate() {
             let numbers = numbers_in(alloc, pool, pool.row(*row))?;
-            add_to_each(users.as_mut_slice(), numbers.as_slice(), package as u32)?;
+            add_to_each(users.as_mut_slice(), numbers.as_slice(), number as u32)?;
         }
         Ok(UseTable { users })
     }
@@ -60,7 +64,7 @@ impl UseTable {
         &mut self,
         alloc: Global,
         pool: &Pool,
-        package: u32,
+        number: u32,
         old: RowId,
         new: RowId,
     ) -> Result<(), AllocError>
@@ -68,8 +72,8 @@ impl UseTable {
         requires new { new < length pool.now.rows }
         requires old_numbers { (c : List ℕ) → In c (row_at pool.now old) → (n : ℕ) → In n c → n < length self.old }
         requires numbers { (c : List ℕ) → In c (row_at pool.now new) → (n : ℕ) → In n c → n < length self.old }
-        ensures ok { OnOk result ((rows : List ℕ) → «package» < length rows → row_id rows «package» ≡ old →
-            self.old ≡ uses_of pool.now rows → self.new ≡ uses_of pool.now (slice_set rows «package» new)) }
+        ensures ok { OnOk result ((rows : List ℕ) → number < length rows → row_id rows number ≡ old →
+            self.old ≡ uses_of pool.now rows → self.new ≡ uses_of pool.now (slice_set rows number new)) }
         ensures err { OnErr result (self.new ≡ self.old) }
     {
         let changes = changes_between(alloc, pool, pool.row(old), pool.row(new))?;
@@ -77,22 +81,10 @@ impl UseTable {
         let after = numbers_in(alloc, pool, changes.gained.as_slice())?;
         let kept = numbers_among(alloc, pool, pool.row(new), before.as_slice())?;
         let table = self.users.as_mut_slice();
-        add_to_each(table, after.as_slice(), package)?;
-        take_from_each(table, before.as_slice(), kept.as_slice(), package);
+        add_to_each(table, after.as_slice(), number)?;
+        take_from_each(table, before.as_slice(), kept.as_slice(), number);
         Ok(())
     }
-}
-
-/// So many empty lists.
-pub(crate) fn empty_lists(alloc: Global, size: usize) -> Result<Vec<Vec<u32>>, AllocError>
-    ensures size { IfOk result (λ made. length made.items ≡ size) }
-    ensures empty { IfOk result (λ made. (n : ℕ) → list_in made.items n ≡ []) }
-{
-    let mut made = Vec::new(alloc);
-    for _i in 0..size {
-        made.push(Vec::new(alloc))?;
-    }
-    Ok(made)
 }
 
 /// The numbers that clauses hold.
@@ -160,7 +152,7 @@ fn add_wanted(clause: &[u32], wanted: &[u32], found: &mut Vec<u32>) -> Result<()
     ensures { OnOk result ((n : ℕ) → has found.new.items n ≡ (has found.old.items n || (has clause.now n && has wanted.now n))) }
 {
     for number in clause {
-        if holds(wanted, *number) {
+        if holds_sorted(wanted, *number) {
             found.push(*number)?;
         }
     }
@@ -169,14 +161,14 @@ fn add_wanted(clause: &[u32], wanted: &[u32], found: &mut Vec<u32>) -> Result<()
 
 /// Puts the package into the list of each of the numbers, where it is not there yet; where no memory is found, the lists
 /// stay as they were.
-fn add_to_each(table: &mut [Vec<u32>], numbers: &[u32], package: u32) -> Result<(), AllocError>
+fn add_to_each(table: &mut [Vec<u32>], numbers: &[u32], number: u32) -> Result<(), AllocError>
     requires { (n : ℕ) → has numbers.now n ≡ true → n < length table.old }
     ensures ok { OnOk result ((n : ℕ) → Ascending (list_in table.old n) →
-        IsListOf (λ m. has (list_in table.old n) m || (has numbers.now n && eqb m «package»)) (list_in table.new n)) }
+        IsListOf (λ m. has (list_in table.old n) m || (has numbers.now n && eqb m number)) (list_in table.new n)) }
     ensures err { OnErr result (lists_in table.new ≡ lists_in table.old) }
 {
     make_room(table, numbers)?;
-    put_into_each(table, numbers, package);
+    put_into_each(table, numbers, number);
     Ok(())
 }
 
@@ -212,19 +204,11 @@ fn take_from_each(table: &mut [Vec<u32>], numbers: &[u32], kept: &[u32], package
         IsListOf (λ m. has (list_in table.old n) m && not (has numbers.now n && not (has kept.now n) && eqb m «package»)) (list_in table.new n) }
 {
     for number in numbers {
-        if holds(kept, *number) {
+        if holds_sorted(kept, *number) {
             continue;
         }
         take_out(&mut table[*number as usize], package);
     }
-}
-
-/// Whether the number is among those of a sorted list.
-fn holds(sorted: &[u32], number: u32) -> bool
-    requires { IsNonDecreasing sorted.now }
-    ensures { result ≡ has sorted.now number }
-{
-    sorted.binary_search(&number).is_ok()
 }
 
 /// Puts a number into its place in an ascending list with room for one more, where it is not there yet.

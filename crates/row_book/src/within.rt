@@ -4,43 +4,16 @@ ghost use Rattle.std.specs.Prelude.{◌≡◌, ◌<◌, ◌≤◌, ◌+◌, ◌|
 ghost use Rattle.std.specs.Bool.{OnFalse, OnTrue};
 ghost use Rattle.std.specs.List.{list_any};
 ghost use Rattle.std.specs.Option.{option_map, ForSome};
-ghost use Rattle.clause_pool.specs.Interned.{clause_at, clauses_at, OfPool};
+ghost use Rattle.clause_pool.specs.Interned.{clause_at, clauses_at, IsPool, OfPool};
 ghost use Rattle.row_book.specs.Sets.{has, In};
 ghost use Rattle.row_book.specs.Clauses.{is_inside, Ascending, InOrder};
 ghost use Rattle.row_book.specs.Within.{goes_on, lead, rest_at, rest_within, some_within};
 
-use crate::conflicting::holds;
 use clause_pool::{ClauseId, Pool};
+use listed::{holds_ascending, is_inside_ascending};
 
-/// A list so short that it is gone over.
+/// A group of clauses so short that it is gone over.
 const SHORT: usize = 8;
-
-/// Whether the ascending list holds the number.
-pub(crate) fn holds_ascending(list: &[u32], number: u32) -> bool
-    requires { Ascending list.now }
-    ensures { result ≡ has list.now number }
-{
-    if list.len() <= SHORT {
-        return holds(list, number);
-    }
-    match list.binary_search(&number) {
-        Ok(_) => true,
-        Err(_) => false,
-    }
-}
-
-/// Whether each number of the first list is in the second, which ascends.
-fn is_inside_ascending(small: &[u32], large: &[u32]) -> bool
-    requires { Ascending large.now }
-    ensures { result ≡ is_inside small.now large.now }
-{
-    for number in small {
-        if !holds_ascending(large, *number) {
-            return false;
-        }
-    }
-    true
-}
 
 /// Lends what the clause of the id has from the depth on.
 fn rest_of(pool: &Pool, id: ClauseId, depth: usize) -> &[u32]
@@ -60,14 +33,13 @@ fn is_within(
     wanted: &[u32],
     id: ClauseId,
 ) -> bool
+    requires pool { IsPool pool.now }
     requires but { ForSome but.now (λ other. other < length pool.now.clauses) }
     requires wanted { Ascending wanted.now }
     requires id { id < length pool.now.clauses }
     requires deep { depth ≤ length (clause_at pool.now id) }
     ensures { result ≡ rest_within pool.now (option_map (clause_at pool.now) but.now) depth wanted.now id }
 {
-    // What holds of every pool is told by this call alone.
-    pool.clause_count();
     match but {
         Some(other) => id != *other && is_inside_ascending(rest_of(pool, id, depth), wanted),
         None => is_inside_ascending(rest_of(pool, id, depth), wanted),
@@ -82,6 +54,7 @@ fn any_within(
     but: &Option<ClauseId>,
     wanted: &[u32],
 ) -> bool
+    requires pool { IsPool pool.now }
     requires group { OfPool pool.now group.now }
     requires deep { (id : ℕ) → In id group.now → depth ≤ length (clause_at pool.now id) }
     requires but { ForSome but.now (λ other. other < length pool.now.clauses) }
@@ -170,6 +143,7 @@ fn has_rest_within(
     but: &Option<ClauseId>,
     wanted: &[u32],
 ) -> bool
+    requires pool { IsPool pool.now }
     requires group { OfPool pool.now group.now }
     requires deep { (id : ℕ) → In id group.now → depth ≤ length (clause_at pool.now id) }
     requires order { InOrder (map (rest_at pool.now depth) group.now) }
@@ -181,8 +155,6 @@ fn has_rest_within(
     if group.len() <= SHORT || group.len() <= wanted.len() {
         return any_within(pool, group, depth, but, wanted);
     }
-    // What holds of every pool is told by this call alone.
-    pool.clause_count();
     if is_within(pool, but, depth, wanted, group[0]) {
         return true;
     }
@@ -201,6 +173,7 @@ fn has_rest_within(
 
 /// Whether some clause of the row, other than the given one, lies within the numbers; it takes no memory.
 pub fn has_within(pool: &Pool, row: &[ClauseId], but: &Option<ClauseId>, numbers: &[u32]) -> bool
+    requires pool { IsPool pool.now }
     requires row { OfPool pool.now row.now }
     requires order { InOrder (clauses_at pool.now row.now) }
     requires but { ForSome but.now (λ other. other < length pool.now.clauses) }
@@ -211,11 +184,12 @@ pub fn has_within(pool: &Pool, row: &[ClauseId], but: &Option<ClauseId>, numbers
 }
 
 /// Whether the package, or a clause of its row, lies within the ascending numbers; it takes no memory.
-pub fn has_side_within(pool: &Pool, package: u32, row: &[ClauseId], numbers: &[u32]) -> bool
+pub fn has_side_within(pool: &Pool, number: u32, row: &[ClauseId], numbers: &[u32]) -> bool
+    requires pool { IsPool pool.now }
     requires row { OfPool pool.now row.now }
     requires order { InOrder (clauses_at pool.now row.now) }
     requires numbers { Ascending numbers.now }
-    ensures { result ≡ (has numbers.now «package» || list_any (λ e. is_inside e numbers.now) (clauses_at pool.now row.now)) }
+    ensures { result ≡ (has numbers.now number || list_any (λ e. is_inside e numbers.now) (clauses_at pool.now row.now)) }
 {
-    holds_ascending(numbers, package) || has_within(pool, row, &None, numbers)
+    holds_ascending(numbers, number) || has_within(pool, row, &None, numbers)
 }

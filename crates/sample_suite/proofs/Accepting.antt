@@ -11,6 +11,7 @@ use Rattle.stanza_reader.specs.declared.fault.StanzaFault.{StanzaFault}
 use Rattle.stanza_reader.specs.declared.stanza.RawStanza.{RawStanza}
 use Rattle.repo_model.specs.Facts.{facts_of, is_same_package}
 use Rattle.repo_model.specs.FirstFault.{duplicate_fault, fault_behind, faults_from, first_fault, first_some, home_of, mixed_fault, presence_fault, reading_fault, stanzas_in, value_fault}
+use Rattle.repo_model.specs.Limits.{most_packages}
 use Rattle.sample_suite.specs.declared.package.SamplePackage.{SamplePackage}
 use Rattle.sample_suite.specs.SampleText.{package_name, stanzas_text}
 use Rattle.sample_suite.proofs.Names.{IsSmall, name_named, names_differ}
@@ -104,13 +105,13 @@ front_few (suc j) (x ∷ all) = let h = front_few j all in omega (arith, h)
 fronts : (all : List SamplePackage) (j : ℕ) → IsFront j (take j (map Ok (stanzas_from 1 0 all)))
 fronts all j = record { few = front_few j (map Ok (stanzas_from 1 0 all)); below = front_below j 1 0 j all (omega arith) }
 
-clean_behind : (line n : ℕ) (p : SamplePackage) (before : List (Result RawStanza StanzaFault)) → n < 200000 → IsFit p → IsFront n before → fault_behind before (Ok (stanza_at_line line n p)) ≡ None
+clean_behind : (line n : ℕ) (p : SamplePackage) (before : List (Result RawStanza StanzaFault)) → n < most_packages → IsFit p → IsFront n before → fault_behind before (Ok (stanza_at_line line n p)) ≡ None
 clean_behind line n p before low fit front =
     let few = front.few in
-    let room : nat_le 200000 (length before) ≡ false = lt-leb 200000 (length before) (omega (arith, few, low)) in
+    let room : nat_le most_packages (length before) ≡ false = lt-leb most_packages (length before) (omega (arith, few, low)) in
     rw room (clean_stanza line n p (omega (arith, low)) fit (stanzas_in before) front.below)
 
-clean_from : (all : List (Result RawStanza StanzaFault)) → ((j : ℕ) → IsFront j (take j all)) → (line n : ℕ) (more : List SamplePackage) → n + length more ≤ 200000 → AllByRecursion IsFit more →
+clean_from : (all : List (Result RawStanza StanzaFault)) → ((j : ℕ) → IsFront j (take j all)) → (line n : ℕ) (more : List SamplePackage) → n + length more ≤ most_packages → AllByRecursion IsFit more →
     first_some (faults_from all n (map Ok (stanzas_from line n more))) ≡ None
 unfolding stanzas_from
 clean_from all front line n [] room fit = refl
@@ -119,7 +120,7 @@ clean_from all front line n (p ∷ more) room fit =
     (clean_from all front (line_behind line p.needs p.conflict) (n + 1) more (omega (arith, room)) fit.1)
 
 -- the stanzas of packages that fit have no fault
-pub stanzas_accepted : (all : List SamplePackage) → length all ≤ 200000 → AllByRecursion IsFit all → first_fault (stanzas_text 0 all) ≡ None
+pub stanzas_accepted : (all : List SamplePackage) → length all ≤ most_packages → AllByRecursion IsFit all → first_fault (stanzas_text 0 all) ≡ None
 unfolding first_fault
 stanzas_accepted all room fit =
     ap (λ rs. first_some (faults_from rs 0 rs)) (sample_readings all (omega (arith, room)) fit)

@@ -5,11 +5,11 @@ use Rattle.sample_suite.specs.Drawing.{draw_package, draws}
 use Rattle.sample_suite.specs.SampleText.{sample_text, stanza_text, stanzas_text}
 use Rattle.sample_suite.proofs.DrawSteps.{draws_first, draws_none, one_left}
 
-no_stanza : (n : ℕ) → stanzas_text n [] ≡ []
+pub no_stanza : (n : ℕ) → stanzas_text n [] ≡ []
 unfolding stanzas_text
 no_stanza n = refl
 
-first_stanza : (n : ℕ) (p : SamplePackage) (more : List SamplePackage) → stanzas_text n (p ∷ more) ≡ stanza_text n p ++ stanzas_text (n + 1) more
+pub first_stanza : (n : ℕ) (p : SamplePackage) (more : List SamplePackage) → stanzas_text n (p ∷ more) ≡ stanza_text n p ++ stanzas_text (n + 1) more
 unfolding stanzas_text
 first_stanza n p more = refl
 

@@ -4,6 +4,7 @@ use Rattle.std.specs.List.{AllByRecursion}
 use Rattle.std.proofs.lemmas.Fmt.{length-decimal-le}
 use Rattle.std.proofs.lemmas.List.{length-append}
 use Rattle.repo_model.specs.FirstFault.{first_fault}
+use Rattle.repo_model.specs.Limits.{most_bytes, most_packages}
 use Rattle.sample_suite.specs.declared.package.SamplePackage.{SamplePackage}
 use Rattle.sample_suite.specs.Drawing.{IsCount, sample_packages}
 use Rattle.sample_suite.specs.SampleText.{conflicts_lines, depends_lines, element_text, lines_text, needs_text, package_name, sample_text, stanza_lines, stanza_text, stanzas_text}
@@ -14,7 +15,7 @@ use Rattle.sample_suite.proofs.SampleLines.{AreSmall, IsSmallConflict}
 use Rattle.sample_suite.proofs.SampleStanzas.{IsFit}
 use Rattle.sample_suite.proofs.Values.{AreFilled}
 
-module _ (count : ℕ) (low : count ≤ 200000) where
+module _ (count : ℕ) (low : count ≤ most_packages) where
   numbers_small : (numbers : List ℕ) → AllByRecursion (λ n. n < count) numbers → AllByRecursion IsSmall numbers
   numbers_small [] h = tt
   numbers_small (n ∷ numbers) h = (let l = h.0 in omega (arith, l, low), numbers_small numbers h.1)
@@ -49,10 +50,10 @@ sample_accepted seed count is =
 
 -- ---- how long the text is
 
-name_length : (n : ℕ) → n < 200000 → length (package_name n) ≤ 7
+name_length : (n : ℕ) → n < most_packages → length (package_name n) ≤ 7
 name_length n low = let h = length-decimal-le 6 n (omega arith) (omega (arith, low)) (omega (arith, low)) in omega (arith, h)
 
-module _ (count : ℕ) (low : count ≤ 200000) where
+module _ (count : ℕ) (low : count ≤ most_packages) where
   short_name : (n : ℕ) → n < count → length (package_name n) ≤ 7
   short_name n l = name_length n (omega (arith, l, low))
 
@@ -125,7 +126,7 @@ module _ (count : ℕ) (low : count ≤ 200000) where
       omega (arith, x, h, j)
 
 -- it is no longer than a file may be
-pub sample_short : (seed count : ℕ) → IsCount count → length (sample_text seed count) ≤ 1073741824
+pub sample_short : (seed count : ℕ) → IsCount count → length (sample_text seed count) ≤ most_bytes
 unfolding sample_text
 sample_short seed count is =
     let some = is.0 in

@@ -5,10 +5,6 @@ use Rattle.std.specs.Prelude.{if◌then◌else◌, is_ok, OnOk, Result, Ok, Err}
 use Rattle.std.proofs.lemmas.List.{map-append, take_more}
 use Rattle.sample_suite.specs.SampleText.{depends_lines, lines_text, needs_text}
 
--- pieces behind a text, one call after another
-pub appended : {A : Type 0} (xs ys zs : List A) → xs ++ ys ++ zs ≡ xs ++ (ys ++ zs)
-appended xs ys zs = append_assoc xs ys zs
-
 -- a line of two parts behind a text, with its line feed
 pub line_pushed : (words value start one two new : List ℕ) → one ≡ start ++ words → two ≡ one ++ value → new ≡ two ++ 10 ∷ [] → new ≡ start ++ lines_text ((words ++ value) ∷ [])
 line_pushed words value start one two new a b c =

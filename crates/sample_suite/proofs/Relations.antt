@@ -4,6 +4,7 @@ use Rattle.std.specs.List.{AllByRecursion, AllZip, flat_map, onto_first, positio
 use Rattle.std.specs.Option.{is_none, option_map}
 use Rattle.std.proofs.lemmas.Bool.{and_parts, not-true, ne_eqb}
 use Rattle.std.proofs.lemmas.Iterator.Adapters.{position_from-zero}
+use Rattle.std.proofs.Math.Bool.{and-false}
 use Rattle.relation_fields.specs.declared.relations.Atom.{Atom}
 use Rattle.relation_fields.specs.Fields.{elements, first_outside, is_outside}
 use Rattle.relation_fields.specs.Grammar.{alternatives_of, atom_of}
@@ -119,12 +120,8 @@ none_outside p i (x ∷ xs) h = rw h.0 (none_outside p (i + 1) xs h.1)
 nowhere : (p : List ℕ → Bool) (all : List (List ℕ)) → AllByRecursion (λ element. p element ≡ false) all → position p all ≡ None
 nowhere p all h = position_from-zero p all ∙ none_outside p 0 all h
 
-and_false : (b : Bool) → (b && false) ≡ false
-and_false true = refl
-and_false false = refl
-
 said_inside : {X : Type 0} (one : List ℕ → Option X) (element : List ℕ) (x : X) → one element ≡ Some x → is_outside one element ≡ false
-said_inside one element x e = ap (λ o. not (is_white element) && is_none o) e ∙ and_false (not (is_white element))
+said_inside one element x e = ap (λ o. not (is_white element) && is_none o) e ∙ and-false (not (is_white element))
 
 element_inside : (front : List ℕ) → is_white front ≡ true → is_free is_bar front ≡ true → (alternatives : List ℕ) → AllByRecursion IsSmall alternatives → 1 ≤ length alternatives → is_outside alternatives_of (front ++ element_text alternatives) ≡ false
 element_inside front white free [] h some = absurd (omega arith)

@@ -14,6 +14,7 @@ use Rattle.sample_suite.specs.SampleText.{needs_text, package_name, stanza_lines
 use Rattle.sample_suite.proofs.Names.{IsSmall}
 use Rattle.sample_suite.proofs.SampleLines.{AreSmall, IsSmallConflict, stanza_cut}
 use Rattle.sample_suite.proofs.Values.{AreFilled, name_tight, needs_tight, tight_value}
+use Rattle.sample_suite.proofs.Drawn.{no_stanza, first_stanza}
 
 -- the numbers of a package are small, and each of its elements has an alternative
 pub record IsFit (p : SamplePackage) : Type 0 where
@@ -125,14 +126,6 @@ stanza_read line n p small fit = raw_read line n p.needs p.conflict ∙ ap (read
 no_group : map stanza_of (groups []) ≡ []
 unfolding groups
 no_group = refl
-
-no_stanza : (n : ℕ) → stanzas_text n [] ≡ []
-unfolding stanzas_text
-no_stanza n = refl
-
-first_stanza : (n : ℕ) (p : SamplePackage) (more : List SamplePackage) → stanzas_text n (p ∷ more) ≡ stanza_text n p ++ stanzas_text (n + 1) more
-unfolding stanzas_text
-first_stanza n p more = refl
 
 read_from : (line n : ℕ) (all : List SamplePackage) → IsSmall (n + length all) → AllByRecursion IsFit all → map stanza_of (groups (numbered line (lines (stanzas_text n all)))) ≡ map Ok (stanzas_from line n all)
 unfolding stanzas_from

@@ -1,5 +1,6 @@
 -- The packages of a sample suite, drawn with a linear congruential generator (Knuth's for 64 bits).
 use Rattle.std.specs.Prelude.{ℕ, ◌+◌, ◌*◌, ◌/◌, ◌%◌, ◌≤◌, ◌==◌, zero, suc, List, [], ◌∷◌, Option, Some, None, if◌then◌else◌}
+use Rattle.repo_model.specs.Limits.{most_packages}
 use Rattle.sample_suite.specs.declared.package.SamplePackage.{SamplePackage}
 
 -- what was drawn, and the state of the generator behind that
@@ -55,4 +56,4 @@ sample_packages seed count = (draws (draw_package count) count seed).value
 
 -- how many packages a suite may have
 abbrev pub IsCount : ℕ → Type 0
-IsCount count = (1 ≤ count) × (count ≤ 200000)
+IsCount count = (1 ≤ count) × (count ≤ most_packages)

@@ -9,7 +9,7 @@ use itoa::Buffer;
 use std::alloc::AllocError;
 
 // Puts the name of a package behind the text.
-#[tactic(auto, using(crate::proofs::Pieces::appended))]
+#[tactic(auto, using(std::proofs::Common::append_assoc))]
 fn push_name(out: &mut Vec<u8>, number: u32) -> Result<(), AllocError>
     ensures { OnOk result (out.new.items ≡ out.old.items ++ package_name number) }
 {
@@ -19,7 +19,7 @@ fn push_name(out: &mut Vec<u8>, number: u32) -> Result<(), AllocError>
 }
 
 // Puts an element behind the text.
-#[tactic(auto, using(crate::proofs::Pieces::appended))]
+#[tactic(auto, using(std::proofs::Common::append_assoc))]
 fn push_element(out: &mut Vec<u8>, alternatives: &[u32]) -> Result<(), AllocError>
     ensures { OnOk result (out.new.items ≡ out.old.items ++ element_text alternatives.now) }
 {
@@ -40,7 +40,7 @@ fn push_alternatives(out: &mut Vec<u8>, more: &[u32]) -> Result<(), AllocError>
     Ok(())
 }
 
-#[tactic(auto, using(crate::proofs::Pieces::appended))]
+#[tactic(auto, using(std::proofs::Common::append_assoc))]
 fn push_alternative(out: &mut Vec<u8>, number: u32) -> Result<(), AllocError>
     ensures { OnOk result (out.new.items ≡ out.old.items ++ (codes " | " ++ package_name number)) }
 {
@@ -61,7 +61,7 @@ fn push_depends(out: &mut Vec<u8>, needs: &[NumList]) -> Result<(), AllocError>
 }
 
 // Puts what is needed behind the text.
-#[tactic(auto, using(crate::proofs::Pieces::appended))]
+#[tactic(auto, using(std::proofs::Common::append_assoc))]
 fn push_needs(out: &mut Vec<u8>, needs: &[NumList]) -> Result<(), AllocError>
     ensures { OnOk result (out.new.items ≡ out.old.items ++ needs_text needs.now) }
 {
@@ -82,7 +82,7 @@ fn push_elements(out: &mut Vec<u8>, more: &[NumList]) -> Result<(), AllocError>
     Ok(())
 }
 
-#[tactic(auto, using(crate::proofs::Pieces::appended))]
+#[tactic(auto, using(std::proofs::Common::append_assoc))]
 fn push_next_element(out: &mut Vec<u8>, alternatives: &[u32]) -> Result<(), AllocError>
     ensures { OnOk result (out.new.items ≡ out.old.items ++ (codes ", " ++ element_text alternatives.now)) }
 {
@@ -103,7 +103,7 @@ fn push_conflicts(out: &mut Vec<u8>, conflict: Option<u32>) -> Result<(), AllocE
 }
 
 /// Puts the stanza of a package behind the text.
-#[tactic(auto, using(crate::proofs::Pieces::appended, crate::proofs::Pieces::lines_joined))]
+#[tactic(auto, using(std::proofs::Common::append_assoc, crate::proofs::Pieces::lines_joined))]
 pub(crate) fn push_stanza(
     out: &mut Vec<u8>,
     number: u32,

@@ -3,6 +3,7 @@ ghost use Rattle.std.specs.Prelude.{◌≡◌, ◌≤◌, IfOk, None, length};
 ghost use Rattle.repo_model.specs.FirstFault.{first_fault};
 ghost use Rattle.sample_suite.specs.Drawing.{IsCount};
 ghost use Rattle.sample_suite.specs.SampleText.{sample_text};
+ghost use Rattle.repo_model.specs.Limits.{most_bytes};
 
 use crate::draws::Draws;
 use crate::push_stanza::push_stanza;
@@ -13,7 +14,7 @@ pub fn sample_text(alloc: Global, seed: u64, count: u32) -> Result<Vec<u8>, Allo
     requires { IsCount count }
     ensures text { IfOk result (λ text. text.items ≡ sample_text seed count) }
     ensures accepted { IfOk result (λ text. first_fault text.items ≡ None) }
-    ensures short { IfOk result (λ text. length text.items ≤ 1073741824) }
+    ensures short { IfOk result (λ text. length text.items ≤ most_bytes) }
 {
     let mut draws = Draws { state: seed };
     let mut text = Vec::new(alloc);

@@ -4,6 +4,7 @@ use Rattle.std.specs.List.{list_any}
 use Rattle.std.proofs.lemmas.List.{length_push, length-append}
 use Rattle.std.proofs.lemmas.Bool.{cases_Bool, and_from, and_cases, or_left, or_right, eq-eqb, not-false}
 use Rattle.std.proofs.lemmas.List.Elements.{All-contains, All-weaker, All-head, All-tail, Contains-append_left, Contains-append_right, Contains-push, Contains-get_or}
+use Rattle.listed.proofs.Lists.{at_end}
 use Rattle.search_terms.specs.declared.literals.Literal.{Literal}
 use Rattle.search_terms.specs.Closure.{literal, negation, is_same, same_sign, forces, IsClosed, Holds, InClosure, Clashes, InRange, Models, satisfies}
 use Rattle.search_terms.specs.Derives.{Derives}
@@ -15,7 +16,7 @@ not_not : (b : Bool) → not (not b) ≡ b
 not_not true = refl
 not_not false = refl
 
-negation_twice : (l : Literal) → negation (negation l) ≡ l
+pub negation_twice : (l : Literal) → negation (negation l) ≡ l
 negation_twice l = ap (λ s. literal l.class s) (not_not l.positive)
 
 pub negated_twice : (literals : List Literal) → map negation (map negation literals) ≡ literals
@@ -112,10 +113,6 @@ tree_follows classes formula earlier decisions (split c left right) is none =
     follow_append (formula ++ earlier) (log_of A left ++ log_of B right) (map negation decisions ∷ [])
     (follow_append (formula ++ earlier) (log_of A left) (log_of B right) first (rw append_assoc second))
     (rw negated_twice (rw (← append_assoc (formula ++ earlier) (log_of A left) (log_of B right)) parent), tt)
-
-pub at_end : {X : Type 0} (xs : List X) (x : X) → slice_get (xs ++ x ∷ []) (length xs) ≡ Some x
-at_end [] x = refl
-at_end (y ∷ ys) x = at_end ys x
 
 last_push : {X : Type 0} (xs : List X) (x : X) → slice_get (xs ++ x ∷ []) (length (xs ++ x ∷ []) - 1) ≡ Some x
 last_push xs x = let e : length (xs ++ x ∷ []) - 1 ≡ length xs = omega (arith, length_push xs x) in rw e (at_end xs x)

@@ -7,6 +7,7 @@ use Rattle.std.proofs.lemmas.Bool.{cases_Bool, cases_eq, and_parts, and_from, or
 use Rattle.std.proofs.lemmas.List.FromFn.{get_or-map-range_with_len, length-map-range_with_len}
 use Rattle.std.proofs.lemmas.List.Elements.{All-nil, All-cons, All-contains, All-push, All-weaker, Contains-get_or}
 use Rattle.std.proofs.lemmas.List.Folds.{Any-from_list_any, list_any-from_Any}
+use Rattle.listed.proofs.Bools.{cases_Option}
 use Rattle.row_book.proofs.Lists.{any_cases}
 use Rattle.search_terms.specs.declared.literals.Literal.{Literal}
 use Rattle.search_terms.specs.Closure.{literal, is_same, same_sign, forces, is_refuted, IsMet, IsClosed, Holds, IsClosure, InRange}
@@ -19,7 +20,7 @@ use Rattle.search_terms.proofs.Sets.{literal_of, forces_mono, forced_there, forc
 use Rattle.search_terms.proofs.Models.{same-true}
 use Rattle.search_terms.proofs.Least.{clash_from}
 use Rattle.search_terms.proofs.Trees.{found_leaf_of, split_of, open_has_member}
-use Rattle.search_terms.proofs.Exists.{cases_Option}
+use Rattle.search_terms.proofs.Certificates.{same_refl}
 
 -- the next unit is forced
 next_forced : (formula : List (List Literal)) (s : Literal → Bool) (l : Literal) → next_unit formula s ≡ Some l → IsForced formula s l
@@ -92,13 +93,6 @@ lack_most (suc n) s =
     let c = lack_most n s in
     omega (arith, a, b, c)
 
-same_self : (l : Literal) → is_same l l ≡ true
-same_self l = and_from (eqb l.class l.class) (same_sign l.positive l.positive) (eq-eqb l.class l.class refl) (sign l.positive)
-  where
-    sign : (b : Bool) → same_sign b b ≡ true
-    sign true = refl
-    sign false = refl
-
 grown : (s : Literal → Bool) (o : Option Literal) → IsWithin s (with_unit s o)
 grown s None m h = h
 grown s (Some l) m h = or_left (s m) (is_same m l) h
@@ -115,7 +109,7 @@ steps_stay (suc k) formula s h = ap (λ o. unit_steps k formula (with_unit s o))
 unit_less : (n : ℕ) (formula : List (List Literal)) (s : Literal → Bool) (l : Literal) → InRange n formula → next_unit formula s ≡ Some l → lacking n (with_unit s (Some l)) < lacking n s
 unit_less n formula s l range h =
     let f = next_forced formula s l h in
-    lack_less n s (with_unit s (Some l)) l (grown s (Some l)) (forced_in_range formula s l n range f) f.absent (or_right (s l) (is_same l l) (same_self l))
+    lack_less n s (with_unit s (Some l)) l (grown s (Some l)) (forced_in_range formula s l n range f) f.absent (or_right (s l) (is_same l l) (same_refl l))
 
 -- as many steps as literals are lacked close the set
 steps_closed : (k n : ℕ) (formula : List (List Literal)) (s : Literal → Bool) → InRange n formula → lacking n s ≤ k → IsClosed formula (unit_steps k formula s)
@@ -167,7 +161,7 @@ closure_is n formula given range = record {
     start_has k d lt =
         let l = get_or given k d in
         let w = Contains-get_or given k d lt in
-        list_any-from_Any (is_same l) given (w.0, l, w.1, w.2, same_self l)
+        list_any-from_Any (is_same l) given (w.0, l, w.1, w.2, same_refl l)
 
 -- it is on the classes
 closure_ranged : (n : ℕ) (formula : List (List Literal)) (given : List Literal) (s : Literal → Bool) → InRange n formula → All (λ l. l.class < n) given → IsClosure formula given s
@@ -261,7 +255,7 @@ tree_below_is (suc k) n formula decisions range within le =
       tree_below_is k n formula (B c) range (All-push (λ l. l.class < n) decisions (literal c false) within lt) (omega arith),
     ))
 
-left_most : (n : ℕ) (decisions : List Literal) → classes_left n decisions ≤ n
+pub left_most : (n : ℕ) (decisions : List Literal) → classes_left n decisions ≤ n
 left_most zero decisions = omega arith
 left_most (suc n) decisions = let a = one_most (list_any (λ l. eqb l.class n) decisions) in let b = left_most n decisions in omega (arith, a, b)
 

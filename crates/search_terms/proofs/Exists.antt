@@ -9,6 +9,7 @@ use Rattle.std.proofs.lemmas.Bool.{cases_Bool, cases_eq, cases_lt, both_ways, an
 use Rattle.std.proofs.lemmas.List.{get_or-set_same, length-set, length-replicate}
 use Rattle.std.proofs.lemmas.List.FromFn.{get_or-map-range_with_len, length-map-range_with_len}
 use Rattle.std.proofs.lemmas.List.Elements.{All-nil, All-cons, All-append, All-head, All-tail, All-weaker, All-push}
+use Rattle.listed.proofs.Bools.{cases_Option}
 use Rattle.search_terms.specs.declared.literals.Literal.{Literal}
 use Rattle.search_terms.specs.Closure.{literal, negation, forces, is_refuted, IsClosed, Holds, IsClosure, Clashes, InRange}
 use Rattle.search_terms.specs.Marks.{flag_place, is_marked, IsWithin, IsForced, HasClash}
@@ -18,10 +19,6 @@ use Rattle.search_terms.specs.Tree.Tree.{failed_leaf, found_leaf, split}
 use Rattle.search_terms.proofs.Sets.{literal_of, is_unmet, IsSoundly, marked_set, marked_more, place_fits, forced_there, forced_right, forced_place, forced_sound, sentence_met, fewer_unmarked, Contains-head}
 use Rattle.search_terms.proofs.Least.{least_closed, unmarked, clash_from, negated_range}
 use Rattle.search_terms.proofs.Trees.{found_leaf_of, split_of, open_has_member}
-
-pub cases_Option : {X : Type 0} (o : Option X) → (o ≡ None) ⊎ ((x : X) × (o ≡ Some x))
-cases_Option None = inl refl
-cases_Option (Some x) = inr (x, refl)
 
 -- either a sentence forces one more literal, or the set is closed
 pub forced_or_closed : (formula : List (List Literal)) (s : Literal → Bool) → ((l : Literal) × IsForced formula s l) ⊎ IsClosed formula s

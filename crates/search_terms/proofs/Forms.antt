@@ -4,14 +4,14 @@ use Rattle.std.specs.Prelude.{map}
 use Rattle.std.specs.List.{list_any}
 use Rattle.std.proofs.lemmas.Bool.{cases_Bool, or_cases, or_left, or_right, both_ways, not-true, not_from_false, false_from_ne_true}
 use Rattle.std.proofs.lemmas.List.Elements.{All-contains}
+use Rattle.listed.proofs.Lists.{in_contains}
 use Rattle.row_book.specs.Sets.{In, NumSet, Is, Hit, HitsAll}
 use Rattle.row_book.specs.Repository.{Repository, Healthy, clauses_of, conflicts_of, against}
-use Rattle.row_book.proofs.Lists.{In_none, In_at, any_from, hit_any, In_has, has_In}
+use Rattle.row_book.proofs.Lists.{In_none, In_at, any_from, hit_any, In_has, has_In, any_hit}
 pub use Rattle.row_book.proofs.Lists.{In_append_left as in_left, In_append_right as in_right, In_append_cases as in_either, In_map as in_map, In_map_cases as from_map}
 use Rattle.search_terms.specs.declared.literals.Literal.{Literal}
 use Rattle.search_terms.specs.Closure.{satisfies, Models}
 use Rattle.search_terms.specs.Form.{goal_sentence, clause_sentence, conflict_sentence, owned_sentences, repository_form, form}
-use Rattle.search_terms.proofs.Lists.{in_contains}
 
 -- the sentence of an item of a list
 pub in_owned_sentences : {X : Type 0} (f : ℕ → X → List Literal) (k : ℕ) (lists : List (List X)) (i : ℕ) (x : X) → In x (get_or lists i []) → In (f (k + i) x) (owned_sentences f k lists)
@@ -78,9 +78,6 @@ pub goal_is : (v : NumSet) (d : List ℕ) → list_any (satisfies v) (goal_sente
 goal_is v [] = refl
 goal_is v (c ∷ d) = ap (λ b. v c || b) (goal_is v d)
 
-pub hit_from : (v : NumSet) (d : List ℕ) → Hit (Is v) d → list_any v d ≡ true
-hit_from v d h = any_from v d h.by h.inside h.alive
-
 clause_true : (v : NumSet) (c : ℕ) (d : List ℕ) → True v (clause_sentence c d) → v c ≡ true → list_any v d ≡ true
 clause_true v c d h k = elim (or_cases (not (v c)) (list_any (satisfies v) (goal_sentence d)) h) [
   | inl f ↦ absurd (both_ways (v c) (not-true (v c) f) k)
@@ -122,8 +119,8 @@ models_to R goals I bound h = (
 )
 
 sentence_true : (R : Repository) (goals : List (List ℕ)) (I : NumSet) → Healthy R I → HitsAll I goals → (s : List Literal) → IsSentence R goals s → True I s
-sentence_true R goals I healthy hits s (of_goal g i e) = rw e (goal_is I g ∙ hit_from I g (hits g i))
-sentence_true R goals I healthy hits s (of_clause p c lt i e) = rw e (clause_from I p c (λ t. hit_from I c (healthy.abundance p t c i)))
+sentence_true R goals I healthy hits s (of_goal g i e) = rw e (goal_is I g ∙ any_hit I g (hits g i))
+sentence_true R goals I healthy hits s (of_clause p c lt i e) = rw e (clause_from I p c (λ t. any_hit I c (healthy.abundance p t c i)))
 sentence_true R goals I healthy hits s (of_conflict p q i e) = rw e (pair_from (I p) (I q) (λ a b. both_ways (against R p q) (healthy.peace p q a b) (In_has i)))
 
 pub models_from : (R : Repository) (goals : List (List ℕ)) (I : NumSet) → Healthy R I → HitsAll I goals → Models I (form R goals)

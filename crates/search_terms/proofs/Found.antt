@@ -3,6 +3,7 @@ use Rattle.std.proofs.Common.{◌≡◌, ℕ, ◌<◌, Bool, true, false, List, 
 use Rattle.std.specs.Prelude.{is_some}
 use Rattle.std.proofs.Math.ListN.{get_or-eq_default}
 use Rattle.std.proofs.lemmas.Bool.{cases_Bool, cases_lt, both_ways}
+use Rattle.listed.proofs.Bools.{cases_Option}
 use Rattle.row_book.specs.Repository.{Repository}
 use Rattle.search_terms.specs.declared.literals.Literal.{Literal}
 use Rattle.search_terms.specs.Closure.{literal}
@@ -12,7 +13,6 @@ use Rattle.search_terms.specs.Form.{form}
 use Rattle.search_terms.specs.Derives.{Derives}
 use Rattle.search_terms.specs.Laws.{FindsHealthy, HasNoSolution}
 use Rattle.search_terms.proofs.Shapes.{fails_shape, meets_shape, splits_shape}
-use Rattle.search_terms.proofs.Exists.{cases_Option}
 use Rattle.search_terms.proofs.Certificates.{tree_derives, found_model}
 use Rattle.search_terms.proofs.Models.{derives_no_model}
 use Rattle.search_terms.proofs.Forms.{models_to, models_from}

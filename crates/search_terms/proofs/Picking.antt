@@ -3,6 +3,8 @@ use Rattle.std.proofs.Common.{◌≡◌, ℕ, Bool, true, false, not, ◌&&◌, 
 use Rattle.std.specs.List.{list_any, find}
 use Rattle.std.proofs.lemmas.Bool.{cases_Bool, or_cases, or_left, or_right, both_ways, and_parts, not-true, false_from_ne_true}
 use Rattle.std.proofs.lemmas.List.Elements.{All-nil, All-push, All-contains}
+use Rattle.std.proofs.lemmas.Option.{same_Some}
+use Rattle.listed.proofs.Lists.{contains_in, in_contains}
 use Rattle.row_book.specs.Sets.{In, here, NumSet, Is, Hit, HitsAll, union}
 use Rattle.row_book.specs.Repository.{Repository, Healthy, against}
 use Rattle.row_book.proofs.Lists.{In_at, any_from, any_cases, In_has}
@@ -13,7 +15,6 @@ use Rattle.search_terms.specs.Form.{goal_sentence, clause_sentence, conflict_sen
 use Rattle.search_terms.specs.Tree.{is_open_need, is_undecided, Tree, IsTree, found_of, failed_leaves}
 use Rattle.search_terms.specs.Tree.Tree.{failed_leaf, found_leaf, split}
 use Rattle.search_terms.specs.Certificate.{first_left, is_one_of, is_picked, Certifies, CertificateTells, AreAtPeace, IsSymmetric, either, CertificatesJoin, first_of, FirstChoiceCertifies, FirstChoicesJoin}
-use Rattle.search_terms.proofs.Lists.{contains_in, in_contains}
 use Rattle.search_terms.proofs.Sets.{find_some}
 use Rattle.search_terms.proofs.Models.{model_closed, clash_no_model}
 use Rattle.search_terms.proofs.Forms.{IsSentence, sentence_cases, models_from, in_either, in_left, in_right, goal_in, clause_in, conflict_in}
@@ -46,9 +47,6 @@ decided_one : (a b : Bool) → b ≡ true → (not a && not b) ≡ false
 decided_one true b e = refl
 decided_one false b e = rw e refl
 
-some_is : {X : Type 0} (x y : X) → Some x ≡ Some y → x ≡ y
-some_is x y e = cc
-
 -- the first undecided member is the first choice
 first_is : (base set : Literal → Bool) (T : NumSet) (c : List ℕ) (m : Literal) → Lies base set T → is_open_need set (goal_sentence c) ≡ true → is_one_of T (first_left base c) ≡ true
     → find (is_undecided set) (goal_sentence c) ≡ Some m → (n : ℕ) × (m ≡ literal n true) × Is T n
@@ -63,7 +61,7 @@ first_is base set T (x ∷ xs) m lies o p f =
           let member : T x ≡ true = rw n at p in
           let other : set (literal x false) ≡ false = false_from_ne_true (set (literal x false)) (λ h. both_ways (T x) (not-true (T x) (lies.under (literal x false) h)) member) in
           let take_it : is_undecided set (literal x true) ≡ true = undecided_one (set (literal x true)) (set (literal x false)) w.0 other in
-          (x, sym (some_is (literal x true) m (rw take_it at f)), member)
+          (x, sym (same_Some (literal x true) m (rw take_it at f)), member)
     ]
 
 picked_first : (base set : Literal → Bool) (T : NumSet) (c : List ℕ) (m : Literal) → Lies base set T → is_open_need set (goal_sentence c) ≡ true → is_picked base T c ≡ true

@@ -4,6 +4,7 @@ use Rattle.std.specs.Prelude.{All, Contains, map}
 use Rattle.std.proofs.Math.ListN.{get_or-eq_default}
 use Rattle.std.proofs.lemmas.Bool.{cases_lt}
 use Rattle.std.proofs.lemmas.List.Elements.{Contains-append_right, All-nil, All-cons, Contains-get_or}
+use Rattle.listed.proofs.Lists.{contains_in, in_contains}
 use Rattle.clause_pool.specs.Interned.{Interned, row_at}
 use Rattle.row_book.specs.Sets.{In, here}
 use Rattle.row_book.specs.Book.{listed_for, Sound, AreConflicts, RowsFit, repository_of}
@@ -13,7 +14,6 @@ use Rattle.row_book.proofs.Lists.{In_none, In_has, has_In}
 use Rattle.search_terms.specs.declared.literals.Literal.{Literal}
 use Rattle.search_terms.specs.Closure.{literal, InRange}
 use Rattle.search_terms.specs.Form.{goal_sentence, clause_sentence, owned_sentences, form}
-use Rattle.search_terms.proofs.Lists.{contains_in, in_contains}
 use Rattle.search_terms.proofs.Forms.{from_map, from_owned_sentences, IsSentence, sentence_cases}
 use Rattle.search_terms.proofs.Forms.IsSentence.{of_goal, of_clause, of_conflict}
 
@@ -32,7 +32,7 @@ length_map f [] = refl
 length_map f (x ∷ xs) = let e = length_map f xs in omega (arith, e)
 
 -- the members of a clause
-members_ranged : (n : ℕ) (c : List ℕ) → ((m : ℕ) → In m c → m < n) → All (λ l. l.class < n) (goal_sentence c)
+pub members_ranged : (n : ℕ) (c : List ℕ) → ((m : ℕ) → In m c → m < n) → All (λ l. l.class < n) (goal_sentence c)
 members_ranged n c h = λ k d lt.
     let w = from_map (λ m. literal m true) c (get_or (goal_sentence c) k d) (contains_in (goal_sentence c) (get_or (goal_sentence c) k d) (Contains-get_or (goal_sentence c) k d lt)) in
     rw w.2 (h w.0 w.1)

@@ -2,15 +2,12 @@ use Rattle.std.proofs.Common.{◌≡◌, ℕ, ◌<◌, Bool, true, false, List, 
 use Rattle.std.specs.List.{find}
 use Rattle.std.proofs.Math.Path.{fun_ext}
 use Rattle.std.proofs.lemmas.List.{ext_get_or}
+use Rattle.std.proofs.lemmas.Option.{same_Some}
+use Rattle.listed.proofs.Bools.{same_bool}
 use Rattle.search_terms.specs.declared.literals.Literal.{Literal}
 use Rattle.search_terms.specs.Closure.{literal, IsClosure, Clashes}
 use Rattle.search_terms.specs.Tree.{is_open_need, is_undecided, IsFoundLeaf, IsSplit, Tree, IsTree}
 use Rattle.search_terms.specs.Tree.Tree.{failed_leaf, found_leaf, split}
-
-same_bool : (a b : Bool) → (a ≡ true → b ≡ true) → (b ≡ true → a ≡ true) → a ≡ b
-same_bool true b f g = sym (f refl)
-same_bool false true f g = g refl
-same_bool false false f g = refl
 
 pub one_closure : (formula : List (List Literal)) (given : List Literal) (s t : Literal → Bool) → IsClosure formula given s → IsClosure formula given t → s ≡ t
 one_closure formula given s t a b = fun_ext (λ l. same_bool (s l) (t l) (λ h. b.whole l (a.sound l h)) (λ h. a.whole l (b.sound l h)))
@@ -36,16 +33,13 @@ meets_shape classes formula decisions chosen (split c left right) leaf is =
     let none : find (is_open_need is.0.set) formula ≡ None = subst (λ s. find (is_open_need s) formula ≡ None) e leaf.met in
     absurd (cc (none, is.0.first))
 
-some_same : {X : Type 0} (x y : X) → Some x ≡ Some y → x ≡ y
-some_same x y e = cc
-
 same_split : (formula : List (List Literal)) (decisions : List Literal) (c d : ℕ) → IsSplit formula decisions c → IsSplit formula decisions d → c ≡ d
 same_split formula decisions c d a b =
     let e = one_closure formula decisions a.set b.set a.closure b.closure in
     let first : find (is_open_need b.set) formula ≡ Some a.need = subst (λ s. find (is_open_need s) formula ≡ Some a.need) e a.first in
-    let need : a.need ≡ b.need = some_same a.need b.need (sym first ∙ b.first) in
+    let need : a.need ≡ b.need = same_Some a.need b.need (sym first ∙ b.first) in
     let least : find (is_undecided b.set) b.need ≡ Some a.member = subst (λ n. find (is_undecided b.set) n ≡ Some a.member) need (subst (λ s. find (is_undecided s) a.need ≡ Some a.member) e a.least) in
-    let member : a.member ≡ b.member = some_same a.member b.member (sym least ∙ b.least) in
+    let member : a.member ≡ b.member = same_Some a.member b.member (sym least ∙ b.least) in
     a.named ∙ ap (λ l. l.class) member ∙ sym b.named
 
 pub record IsSplitTree (classes : ℕ) (formula : List (List Literal)) (decisions : List Literal) (c : ℕ) (tree : Tree) : Type 0 where

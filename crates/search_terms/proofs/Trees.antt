@@ -4,6 +4,7 @@ use Rattle.std.specs.List.{find}
 use Rattle.std.proofs.lemmas.Bool.{cases_eq, and_parts, and_from, both_ways, or_from, not-true, ne_eqb, eq-eqb, or_right, or_left}
 use Rattle.std.proofs.lemmas.List.Elements.{All-contains, All-tail, All-head}
 use Rattle.std.proofs.lemmas.List.Folds.{list_any-append, list_any-from_Any}
+use Rattle.listed.proofs.Bools.{lighter}
 use Rattle.search_terms.specs.declared.literals.Literal.{Literal}
 use Rattle.search_terms.specs.Closure.{literal, negation, is_refuted, Holds, IsClosure, Clashes, InRange}
 use Rattle.search_terms.specs.Marks.{HasClash}
@@ -42,11 +43,6 @@ undecided_free s (l ∷ ls) m h u =
 
 decided_more : (n c : ℕ) (b : Bool) (decisions : List Literal) → is_decided n (decisions ++ literal c b ∷ []) ≡ (is_decided n decisions || (eqb c n || false))
 decided_more n c b decisions = list_any-append (λ l. eqb l.class n) decisions (literal c b ∷ [])
-
-lighter : (d e : Bool) → cond (d || e) 0 1 ≤ cond d 0 1
-lighter true e = omega arith
-lighter false true = omega arith
-lighter false false = omega arith
 
 pub free_grows : (n c : ℕ) (b : Bool) (decisions : List Literal) → classes_left n (decisions ++ literal c b ∷ []) ≤ classes_left n decisions
 free_grows zero c b decisions = omega arith

@@ -2,9 +2,12 @@
 //! tree of a formula with its failed leaves and its log, what a log derives, and the laws of these.
 #![tactic(auto)]
 
-pub mod laws;
-pub mod literals;
-pub mod sentences;
+mod laws;
+mod literals;
+mod sentences;
 
-pub use literals::{EntryList, Literal, LiteralList, Log};
+// Signed classes, lists of them, and logs.
+pub use literals::{EntryList, Literal, LiteralList, Log, negated};
+
+// The sentences of clauses and goals.
 pub use sentences::{clause_sentences, goal_sentences};

@@ -1,5 +1,9 @@
 //! Signed classes and lists of them.
+ghost use Rattle.std.specs.Prelude.{◌≡◌, map, IfOk};
+ghost use Rattle.search_terms.specs.Closure.{negation};
+
 use listed::Listed;
+use std::alloc::{AllocError, Global};
 
 /// A class with a sign: that it is chosen, or that it is not.
 #[derive(Clone, Copy, Debug, PartialEq, Eq)]
@@ -56,4 +60,11 @@ impl Literal {
     {
         self.class as usize * 2 + if self.positive { 1 } else { 0 }
     }
+}
+
+/// The literals with their other signs; it fails only where no memory is found.
+pub fn negated(alloc: Global, literals: &[Literal]) -> Result<Vec<Literal>, AllocError>
+    ensures { IfOk result (λ v. v.items ≡ map negation literals.now) }
+{
+    literals.iter().map(|l| l.negation()).collect(alloc)
 }

@@ -73,7 +73,7 @@ pub fn clause_sentences(
     pool: &Pool,
     rows: &[RowId],
 ) -> Result<Vec<LiteralList>, AllocError>
-    requires few { length rows.now < 4294967295 }
+    requires few { length rows.now < u32.MAX }
     requires fit { RowsFit pool.now rows.now }
     ensures { IfOk result (λ v. v.items ≡ owned_sentences clause_sentence 0 (map (row_at pool.now) rows.now)) }
 {

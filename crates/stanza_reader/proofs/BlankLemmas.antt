@@ -1,7 +1,7 @@
 -- A text in which the lines of some stanzas are made empty has the other stanzas.
 use Rattle.std.proofs.Common.{◌≡◌, ℕ, ◌+◌, ◌<◌, ◌≤◌, suc, Bool, true, false, ◌||◌, ◌&&◌, ◌⊎◌, inl, inr, List, [], ◌∷◌, ◌++◌, length, take, drop, min, map, Result, Ok, Err, refl, ap, sym, ◌∙◌, subst, arith, append_assoc, length-append}
 use Rattle.std.specs.List.{concat, list_all, list_any, onto_first, position_or_len}
-use Rattle.std.proofs.lemmas.Bool.{eqb-true}
+use Rattle.std.proofs.lemmas.Bool.{eqb-true, or_parts}
 use Rattle.std.proofs.lemmas.List.{append-nil}
 use Rattle.std.proofs.lemmas.List.Folds.{list_all-append, list_any-append}
 use Rattle.std.proofs.Math.Bool.{or-false}
@@ -99,10 +99,6 @@ are_lines : (text : List ℕ) → AreLines (whole_lines text)
 are_lines [] = tt
 are_lines (b ∷ bs) = are_step b bs (is_line_feed b) refl (are_lines bs)
 
-neither : (a b : Bool) → (a || b) ≡ false → (a ≡ false) × (b ≡ false)
-neither true b h = cc
-neither false b h = (refl, h)
-
 and_true : (b : Bool) → (b && true) ≡ b
 and_true true = refl
 and_true false = refl
@@ -110,15 +106,15 @@ and_true false = refl
 lines_fed : (body rest : List ℕ) → list_any is_line_feed body ≡ false → lines (body ++ 10 ∷ rest) ≡ body ∷ lines rest
 lines_fed [] rest plain = refl
 lines_fed (b ∷ body) rest plain =
-    let h = neither (is_line_feed b) (list_any is_line_feed body) plain in
+    let h = or_parts (is_line_feed b) (list_any is_line_feed body) plain in
     let whole : lines (b ∷ (body ++ 10 ∷ rest)) ≡ onto_first b (lines (body ++ 10 ∷ rest)) = rw h.0 refl in
     whole ∙ ap (onto_first b) (lines_fed body rest h.1)
 
 lines_open : (b : ℕ) (bs : List ℕ) → list_any is_line_feed (b ∷ bs) ≡ false → lines (b ∷ bs) ≡ (b ∷ bs) ∷ []
 lines_open b [] plain =
-    let h = neither (is_line_feed b) false plain in rw h.0 refl
+    let h = or_parts (is_line_feed b) false plain in rw h.0 refl
 lines_open b (c ∷ cs) plain =
-    let h = neither (is_line_feed b) (list_any is_line_feed (c ∷ cs)) plain in
+    let h = or_parts (is_line_feed b) (list_any is_line_feed (c ∷ cs)) plain in
     let whole : lines (b ∷ c ∷ cs) ≡ onto_first b (lines (c ∷ cs)) = rw h.0 refl in
     whole ∙ ap (onto_first b) (lines_open c cs h.1)
 
@@ -126,7 +122,7 @@ lines_open b (c ∷ cs) plain =
 blank_plain : (text : List ℕ) → list_any is_line_feed text ≡ false → is_blank_whole text ≡ is_blank text
 blank_plain [] plain = refl
 blank_plain (b ∷ bs) plain =
-    let h = neither (is_line_feed b) (list_any is_line_feed bs) plain in
+    let h = or_parts (is_line_feed b) (list_any is_line_feed bs) plain in
     let edge : is_edge b ≡ is_blank_byte b = ap (λ t. is_blank_byte b || t) h.0 ∙ or-false (is_blank_byte b) in
     ap (λ t. t && is_blank_whole bs) edge ∙ ap (λ t. is_blank_byte b && t) (blank_plain bs h.1)
 

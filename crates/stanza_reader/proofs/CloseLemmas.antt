@@ -4,7 +4,7 @@ use Rattle.std.specs.List.{list_all, list_any, position_or_len, before_first, af
 use Rattle.std.proofs.lemmas.Grind.{take_at_read}
 use Rattle.std.proofs.lemmas.List.{append_cancel_right, drop_all, length-drop, length-map, take-append-drop, take_all}
 use Rattle.std.proofs.lemmas.List.Sums.{prefix_len-le-length}
-use Rattle.std.proofs.lemmas.Bool.{eqb-true}
+use Rattle.std.proofs.lemmas.Bool.{eqb-true, and_parts, or_parts}
 use Rattle.stanza_reader.specs.Lines.{Line, is_line_feed, is_blank_byte, is_blank, lines, numbered}
 use Rattle.stanza_reader.specs.Places.{lines_at}
 use Rattle.stanza_reader.specs.Stanzas.{groups, has_line, first_group, behind_blank, behind_group, stanza_of, texts}
@@ -116,18 +116,10 @@ record Numbered (all : List Line) (left : List (List ℕ)) : Type 0 where
   number : ℕ
   is : all ≡ numbered number left
 
-apart : (a b : Bool) → (a || b) ≡ false → (a ≡ false) × (b ≡ false)
-apart true b h = cc
-apart false b h = (refl, h)
-
-both : (a : Bool) (b : Bool) → (a && b) ≡ true → (a ≡ true) × (b ≡ true)
-both true b h = (refl, h)
-both false b h = cc
-
 past_blanks : (n : ℕ) (blanks : List (List ℕ)) (line : List ℕ) (more : List (List ℕ)) → list_all is_blank blanks ≡ true → is_blank line ≡ false → Numbered (behind_blank (numbered n (blanks ++ line ∷ more))) (line ∷ more)
 past_blanks n [] line more each full = record { number = n; is = rw full refl }
 past_blanks n (blank ∷ blanks) line more each full =
-    let h = both (is_blank blank) (list_all is_blank blanks) each in
+    let h = and_parts (is_blank blank) (list_all is_blank blanks) each in
     let later = past_blanks (n + 1) blanks line more h.1 full in
     let here : behind_blank (numbered n (blank ∷ (blanks ++ line ∷ more))) ≡ behind_blank (numbered (n + 1) (blanks ++ line ∷ more)) = rw h.0 refl in
     record { number = later.number; is = here ∙ later.is }
@@ -135,7 +127,7 @@ past_blanks n (blank ∷ blanks) line more each full =
 past_group : (n : ℕ) (group : List (List ℕ)) (last : List ℕ) (more : List (List ℕ)) → list_any is_blank group ≡ false → is_blank last ≡ true → Numbered (behind_group (numbered n (group ++ last ∷ more))) (last ∷ more)
 past_group n [] last more none blank = record { number = n; is = rw blank refl }
 past_group n (line ∷ group) last more none blank =
-    let h = apart (is_blank line) (list_any is_blank group) none in
+    let h = or_parts (is_blank line) (list_any is_blank group) none in
     let later = past_group (n + 1) group last more h.1 blank in
     let here : behind_group (numbered n (line ∷ (group ++ last ∷ more))) ≡ behind_group (numbered (n + 1) (group ++ last ∷ more)) = rw h.0 refl in
     record { number = later.number; is = here ∙ later.is }
@@ -163,8 +155,8 @@ feed_is_not_blank b blank = feed_or_blank b (is_line_feed b) refl blank
 
 -- a blank line with a byte does not end with a line feed
 blank_not_ended : (b : ℕ) (bs : List ℕ) → is_blank (b ∷ bs) ≡ true → is_ended (b ∷ bs) ≡ false
-blank_not_ended b [] blank = feed_is_not_blank b (both (is_blank_byte b) true blank).0
-blank_not_ended b (c ∷ more) blank = blank_not_ended c more (both (is_blank_byte b) (is_blank (c ∷ more)) blank).1
+blank_not_ended b [] blank = feed_is_not_blank b (and_parts (is_blank_byte b) true blank).0
+blank_not_ended b (c ∷ more) blank = blank_not_ended c more (and_parts (is_blank_byte b) (is_blank (c ∷ more)) blank).1
 
 -- where the last line has no line feed, it is not the blank line of a closed front
 none_tail : (front tail last rest : List ℕ) → lines tail ≡ last ∷ lines rest → position_or_len is_line_feed tail ≡ length tail → is_blank last ≡ true → (rest ≡ []) × (is_ended (front ++ tail) ≡ false)
@@ -186,7 +178,7 @@ none_closed bytes start after stop skipped behind within is most n c =
     append_assoc c.blanks (group ++ c.last ∷ []) (lines rest) ∙ ap (λ all. c.blanks ++ all) (append_assoc group (c.last ∷ []) (lines rest)) in
     let parts : lines bytes ≡ c.blanks ++ (group ++ (c.last ∷ lines rest)) =
     ap lines (sym (take-append-drop n bytes)) ∙ lines_parts (take n bytes) rest c.ended ∙ ap (λ front. front ++ lines rest) c.cut ∙ joined in
-    let b = past_blanks 1 c.blanks c.first (c.others ++ (c.last ∷ lines rest)) c.skipped (apart (is_blank c.first) (list_any is_blank c.others) c.full).0 in
+    let b = past_blanks 1 c.blanks c.first (c.others ++ (c.last ∷ lines rest)) c.skipped (or_parts (is_blank c.first) (list_any is_blank c.others) c.full).0 in
     let at_start : lines_at bytes start ≡ numbered b.number (group ++ (c.last ∷ lines rest)) = skipped ∙ ap (λ all. behind_blank (numbered 1 all)) parts ∙ b.is in
     let g = past_group b.number group c.last (lines rest) c.full c.blank in
     let at_after : lines_at bytes after ≡ numbered g.number (c.last ∷ lines rest) = behind ∙ ap behind_group at_start ∙ g.is in
@@ -218,7 +210,7 @@ has_first n first more text = rw text refl
 one_group : (n : ℕ) (blanks : List (List ℕ)) (first : List ℕ) (others : List (List ℕ)) (last : List ℕ) → list_all is_blank blanks ≡ true → list_any is_blank (first ∷ others) ≡ false → is_blank last ≡ true
     → length (groups (numbered n (blanks ++ ((first ∷ others) ++ last ∷ [])))) ≡ 1
 one_group n blanks first others last skipped full blank =
-    let text = (apart (is_blank first) (list_any is_blank others) full).0 in
+    let text = (or_parts (is_blank first) (list_any is_blank others) full).0 in
     let b = past_blanks n blanks first (others ++ last ∷ []) skipped text in
     let g = past_group b.number (first ∷ others) last [] full blank in
     let left : List Line = numbered b.number ((first ∷ others) ++ last ∷ []) in

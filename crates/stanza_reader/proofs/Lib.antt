@@ -5,6 +5,8 @@ pub mod FieldLemmas
 pub mod GroupLemmas
 pub mod LeftLemmas
 pub mod LineLemmas
+pub mod MarkLemmas
+pub mod NameLemmas
 pub mod NoteLemmas
 pub mod PartLemmas
 pub mod PlaceLemmas

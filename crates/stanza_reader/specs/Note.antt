@@ -1,5 +1,7 @@
+-- for the bodies of this crate alone
 -- The names of the field lines so far, as they are noted one by one.
-use Rattle.std.specs.Prelude.{◌≡◌, ℕ, ◌+◌, ◌*◌, ◌^◌, ◌%◌, ◌<◌, false, List, [], ◌∷◌, ◌++◌, length, map, Option, None}
+use Rattle.std.specs.Prelude.{◌≡◌, ℕ, ◌+◌, ◌-◌, ◌*◌, ◌/◌, ◌^◌, ◌%◌, ◌<◌, false, ◌||◌, ◌==◌, nat_lt, bit_and, bit_or, List, [], ◌∷◌, ◌++◌, length, slice_index, map, Option, None, if◌then◌else◌}
+use Rattle.std.specs.Int.{w32, from_be_bytes}
 use Rattle.std.specs.BTreeSet.{BTreeSet, contains}
 use Rattle.std.specs.Cmp.Lexicographic.{slice_cmp}
 use Rattle.std.specs.List.{list_any}
@@ -20,12 +22,41 @@ abbrev pub key_from : ℕ → List ℕ → ℕ
 key_from key [] = key
 key_from key (b ∷ bs) = key_from ((((key * 31) % 2 ^ 32) + b) % 2 ^ 32) bs
 
+-- the number of a long text, of all its bytes
+abbrev pub long_key : List ℕ → ℕ
+long_key text = key_from 0 text
+
+-- a byte, where a letter has one number in both cases
+abbrev pub folded : ℕ → ℕ
+folded b = bit_or b 32
+
+-- the number of a short text: its first byte, one in the middle, the last one and its length
+unfoldable pub short_key : List ℕ → ℕ
+short_key text =
+    from_be_bytes w32
+    (folded (slice_index text 0) ∷ folded (slice_index text (length text / 2)) ∷ folded (slice_index text (length text - 1)) ∷ length text ∷ [])
+
+-- the number of a text; a text of at most 16 bytes is short
+abbrev pub number_of : List ℕ → ℕ
+number_of text = if length text == 0 || nat_lt 16 (length text) then long_key text else short_key text
+
 -- the number of a name, which knows nothing of the case of letters
 abbrev pub key_of : List ℕ → ℕ
-key_of name = key_from 0 (lowered name)
+key_of name = number_of (lowered name)
 
 abbrev pub IsKeyed : KeyedName → Type 0
 IsKeyed one = one.key ≡ key_of one.name.now
+
+-- the mark of a number, one of 64 bits, and its place
+abbrev pub mark_place : ℕ → ℕ
+mark_place key = (key * 2654435769) % 2 ^ 32 / 2 ^ 26
+
+unfoldable pub mark_of : ℕ → ℕ
+mark_of key = 2 ^ mark_place key
+
+-- the mark of the name's number is up
+abbrev pub IsMarked : ℕ → KeyedName → Type 0
+IsMarked marks one = bit_and marks (mark_of one.key) ≡ mark_of one.key
 
 abbrev pub names_in : List KeyedName → List (List ℕ)
 names_in few = map (λ one. one.name.now) few

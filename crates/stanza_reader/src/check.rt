@@ -6,7 +6,9 @@ ghost use Rattle.stanza_reader.specs.Lines.{is_continuation};
 ghost use Rattle.stanza_reader.specs.Stanzas.{line_fault};
 
 use crate::fault::StanzaFault;
-use crate::names::{has_colon, is_field_name, name_of};
+use crate::names::{
+    has_colon, has_colon_behind, is_begun_well, is_field_name, name_length, name_of,
+};
 
 /// The name of the field that a line begins, or the fault in the shape of the line.
 pub(crate) fn checked_name(line: &[u8], number: u64) -> Result<&[u8], StanzaFault>
@@ -15,6 +17,12 @@ pub(crate) fn checked_name(line: &[u8], number: u64) -> Result<&[u8], StanzaFaul
     ensures fine { OnOk result (line_fault record { number = number; text = line.now } ≡ None) }
     ensures fault { IfErr result (λ fault. line_fault record { number = number; text = line.now } ≡ Some fault) }
 {
+    // Most lines begin with a good name and its colon, which one pass shows.
+    let len = name_length(line);
+    let front = &line[..len];
+    if has_colon_behind(line, len) && is_begun_well(front) {
+        return Ok(front);
+    }
     let name = name_of(line);
     if !has_colon(line, name) {
         return Err(StanzaFault::NoColon { line: number });

@@ -1,6 +1,6 @@
 //! The names of fields.
 
-ghost use Rattle.std.specs.Prelude.{◌≡◌};
+ghost use Rattle.std.specs.Prelude.{◌≡◌, ◌≤◌, true, length, take};
 ghost use Rattle.std.specs.List.{list_all, list_any};
 ghost use Rattle.deb_version.specs.Grammar.{is_colon};
 ghost use Rattle.stanza_reader.specs.Fields.{is_field_name_byte, is_field_name, kind_of, name_of};
@@ -26,21 +26,56 @@ pub(crate) fn has_colon(line: &[u8], name: &[u8]) -> bool
     name.len() < line.len()
 }
 
+/// How many bytes at the front of a line may stand in a name.
+pub(crate) fn name_length(line: &[u8]) -> usize
+    ensures within { result ≤ length line.now }
+    ensures bytes { list_all is_field_name_byte (take result line.now) ≡ true }
+{
+    for (place, byte) in line.iter().enumerate() {
+        if !is_name_byte(*byte) {
+            return place;
+        }
+    }
+    line.len()
+}
+
+/// Whether a colon stands behind so many bytes that may stand in a name: they are then the text before the first colon.
+pub(crate) fn has_colon_behind(line: &[u8], len: usize) -> bool
+    requires { list_all is_field_name_byte (take len line.now) ≡ true }
+    ensures name { result ≡ true → take len line.now ≡ name_of line.now }
+    ensures colon { result ≡ true → list_any is_colon line.now ≡ true }
+{
+    len < line.len() && line[len] == b':'
+}
+
 /// Whether the text is the name of a field.
 pub(crate) fn is_field_name(text: &[u8]) -> bool
     ensures { result ≡ is_field_name text.now }
 {
-    match text {
-        [first, ..] => *first != b'#' && *first != b'-' && has_name_bytes(text),
-        [] => false,
-    }
+    has_name_bytes(text) && is_begun_well(text)
 }
 
 fn has_name_bytes(text: &[u8]) -> bool
     ensures { result ≡ list_all is_field_name_byte text.now }
 {
-    text.iter()
-        .all(|byte| 33 <= *byte && *byte <= 126 && *byte != b':')
+    text.iter().all(|byte| is_name_byte(*byte))
+}
+
+/// Whether a text of bytes that may stand in a name is the name of a field.
+pub(crate) fn is_begun_well(text: &[u8]) -> bool
+    requires { list_all is_field_name_byte text.now ≡ true }
+    ensures { result ≡ is_field_name text.now }
+{
+    match text {
+        [first, ..] => *first != b'#' && *first != b'-',
+        [] => false,
+    }
+}
+
+fn is_name_byte(byte: u8) -> bool
+    ensures { result ≡ is_field_name_byte byte }
+{
+    33 <= byte && byte <= 126 && byte != b':'
 }
 
 /// The kind of a field by its name, for the fields that are kept.

@@ -1,8 +1,8 @@
 //! The names of a stanza's fields, noted one by one.
 
-ghost use Rattle.std.specs.Prelude.{◌≡◌, [], ◌∷◌, None, true, not, OnOk, IfOk, All, List, ℕ};
+ghost use Rattle.std.specs.Prelude.{◌≡◌, ◌<◌, ◌≤◌, [], ◌∷◌, None, true, not, length, OnOk, IfOk, All, List, ℕ};
 ghost use Rattle.stanza_reader.specs.Fields.{is_same_name, lowered};
-ghost use Rattle.stanza_reader.specs.Note.{Holds, IsKeyed, IsNoted, key_of, names_in};
+ghost use Rattle.stanza_reader.specs.Note.{Holds, IsKeyed, IsMarked, IsNoted, key_of, long_key, mark_of, names_in, short_key};
 ghost use Rattle.stanza_reader.specs.Stanzas.{has_name};
 
 use crate::fault::StanzaFault;
@@ -12,6 +12,9 @@ use std::collections::BTreeSet;
 /// So many names are compared one by one. Those behind them stand in an ordered set, so that a stanza takes not much
 /// longer than its length, whatever its names are.
 const FEW: usize = 64;
+
+/// A longer name has a number of all its bytes: to compare two of them takes long, so that few may share one.
+const SHORT: usize = 16;
 
 /// A name, with a number that it shares with each name that differs from it in the case of letters alone.
 #[derive(Clone, Copy)]
@@ -26,12 +29,15 @@ pub(crate) struct Names<'a> {
     pub(crate) few: Vec<KeyedName<'a>>,
     pub(crate) others: BTreeSet<Vec<u8>>,
     pub(crate) repeat: Option<StanzaFault>,
+    /// The marks of the numbers of those names that are compared one by one.
+    pub(crate) marks: u64,
 }
 
 impl<'a> Names<'a> {
     /// No name; there is room for those of a common stanza.
     pub(crate) fn new(alloc: Global) -> Result<Self, AllocError>
         ensures keys { IfOk result (λ names. All IsKeyed names.few.items) }
+        ensures marks { IfOk result (λ names. All (IsMarked names.marks) names.few.items) }
         ensures holds { IfOk result (λ names. Holds names []) }
         ensures repeat { IfOk result (λ names. names.repeat ≡ None) }
     {
@@ -39,6 +45,7 @@ impl<'a> Names<'a> {
             few: Vec::with_capacity(alloc, 32)?,
             others: BTreeSet::new(alloc),
             repeat: None,
+            marks: 0,
         })
     }
 
@@ -49,8 +56,10 @@ impl<'a> Names<'a> {
         name: &'a [u8],
         line: u64,
     ) -> Result<(), AllocError>
-        requires { All IsKeyed self.old.few.items }
+        requires keys { All IsKeyed self.old.few.items }
+        requires marks { All (IsMarked self.old.marks) self.old.few.items }
         ensures keys { OnOk result (All IsKeyed self.new.few.items) }
+        ensures marks { OnOk result (All (IsMarked self.new.marks) self.new.few.items) }
         ensures noted { OnOk result (IsNoted self.old self.new name.now line) }
         ensures first { OnOk result (self.new.repeat ≡ None → self.old.repeat ≡ None) }
     {
@@ -62,18 +71,21 @@ impl<'a> Names<'a> {
 
     /// Adds a name where none of the names is this one, and answers whether that is so.
     fn add(&mut self, alloc: Global, name: &'a [u8]) -> Result<bool, AllocError>
-        requires { All IsKeyed self.old.few.items }
+        requires keys { All IsKeyed self.old.few.items }
+        requires marks { All (IsMarked self.old.marks) self.old.few.items }
         ensures keys { OnOk result (All IsKeyed self.new.few.items) }
+        ensures marks { OnOk result (All (IsMarked self.new.marks) self.new.few.items) }
         ensures answer { IfOk result (λ is_new. (before : List (List ℕ)) → Holds self.old before → is_new ≡ not (has_name before name.now)) }
         ensures added { IfOk result (λ is_new. (before : List (List ℕ)) → Holds self.old before → is_new ≡ true → Holds self.new (name.now ∷ before)) }
         ensures repeat { self.new.repeat ≡ self.old.repeat }
     {
         let key = key_of(name);
-        if has_name(self.few.as_slice(), key, name) {
+        if is_among(self.few.as_slice(), self.marks, key, name) {
             return Ok(false);
         }
         if self.few.len() < FEW {
             self.few.push(KeyedName { key, name })?;
+            self.marks |= mark_of(key);
             return Ok(true);
         }
         let name = lowered(alloc, name)?;
@@ -85,6 +97,33 @@ impl<'a> Names<'a> {
 fn key_of(name: &[u8]) -> u32
     ensures { result ≡ key_of name.now }
 {
+    if name.is_empty() || name.len() > SHORT {
+        long_key(name)
+    } else {
+        short_key(name)
+    }
+}
+
+// The number of a short name: its first byte, one in the middle, the last one and its length. With the bit 32 a letter is
+// the same in both cases.
+fn short_key(name: &[u8]) -> u32
+    requires some { 0 < length name.now }
+    requires short { length name.now ≤ 16 }
+    ensures { result ≡ short_key (lowered name.now) }
+{
+    let len = name.len();
+    u32::from_be_bytes([
+        name[0] | 32,
+        name[len / 2] | 32,
+        name[len - 1] | 32,
+        len as u8,
+    ])
+}
+
+// The number of a name, of all its bytes.
+fn long_key(name: &[u8]) -> u32
+    ensures { result ≡ long_key (lowered name.now) }
+{
     let mut key: u32 = 0;
     for byte in name {
         key = key
@@ -94,7 +133,25 @@ fn key_of(name: &[u8]) -> u32
     key
 }
 
-// Whether one of the names is this one, without regard to the case of letters.
+// The mark of a number, one of 64 bits.
+fn mark_of(key: u32) -> u64
+    ensures { result ≡ mark_of key }
+{
+    1u64 << (key.wrapping_mul(2_654_435_769) >> 26)
+}
+
+// Whether one of the names is this one, without regard to the case of letters. None is where the mark of its number is
+// down, as it mostly is.
+fn is_among(few: &[KeyedName<'_>], marks: u64, key: u32, name: &[u8]) -> bool
+    requires keys { All IsKeyed few.now }
+    requires marks { All (IsMarked marks) few.now }
+    requires key { key ≡ key_of name.now }
+    ensures { result ≡ has_name (names_in few.now) name.now }
+{
+    marks & mark_of(key) != 0 && has_name(few, key, name)
+}
+
+// The same, by a comparison with each one.
 fn has_name(few: &[KeyedName<'_>], key: u32, name: &[u8]) -> bool
     requires keys { All IsKeyed few.now }
     requires key { key ≡ key_of name.now }

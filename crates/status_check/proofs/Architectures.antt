@@ -3,7 +3,7 @@ use Rattle.std.proofs.Common.{◌≡◌, ℕ, zero, suc, ◌+◌, Bool, true, fa
 use Rattle.std.specs.Prelude.{codes, nat_le, is_some}
 use Rattle.std.specs.Option.{option_and_then, option_map, option_map_or, option_or}
 use Rattle.std.specs.Str.{bytes_eq}
-use Rattle.std.proofs.lemmas.Bool.{and_parts, or_cases, or_left, or_right, both_ways}
+use Rattle.std.proofs.lemmas.Bool.{and_parts, or_cases, or_left, or_right, both_ways, not-true}
 use Rattle.std.proofs.lemmas.List.{take-map}
 use Rattle.std.proofs.lemmas.Slice.Eq.{bytes_eq-Decides}
 use Rattle.deb_version.specs.Grammar.{is_version}
@@ -25,6 +25,7 @@ use Rattle.repo_model.specs.Fields.{field_of}
 use Rattle.repo_model.specs.FirstFault.{bad_relation, bad_value, duplicate_fault, fault_behind, faults_from, first_fault, first_some, home_of, is_at_home, missing, mixed_fault, presence_fault, stanza_fault, stanzas_in, unless_good, value_fault}
 use Rattle.repo_model.specs.declared.fault.IndexFault.{IndexFault}
 use Rattle.repo_model.specs.declared.fault.IndexFault.TheVariants.{Stanza, MissingPackage, MissingVersion, BadPackage, BadVersion, BadArchitecture, BadRelation, Duplicate, Mixed, TooMany, Memory}
+use Rattle.repo_model.specs.Limits.{most_packages}
 use Rattle.suite_compare.specs.Refusals.{home_in}
 use Rattle.status_check.specs.Installed.{is_elsewhere, is_installed, is_of_home, is_own}
 use Rattle.status_check.specs.Laws.{NoArchitectureFault}
@@ -72,10 +73,6 @@ own_picked home (stanza ∷ more) = go (own_picked home more) (is_own home stanz
     go later true own = let kept : picked (map (is_own home) (stanza ∷ more)) (stanza ∷ more) ≡ stanza ∷ picked (map (is_own home) more) more = rw own refl in subst (AreOwn home) (sym kept) (own, later)
     go later false other = let kept : picked (map (is_own home) (stanza ∷ more)) (stanza ∷ more) ≡ picked (map (is_own home) more) more = rw other refl in subst (AreOwn home) (sym kept) later
 
-not_up : (b : Bool) → not b ≡ true → b ≡ false
-not_up true h = cc
-not_up false h = refl
-
 not_down : (b : Bool) → not b ≡ false → b ≡ true
 not_down true h = refl
 not_down false h = cc
@@ -84,7 +81,7 @@ not_down false h = cc
 known : (home : Home) (stanza : RawStanza) (field : RawField) → is_own home stanza ≡ true → field_of kind.Architecture stanza ≡ Some field → (is_all field.value || is_of_home home field.value) ≡ true
 known home stanza field own e =
     let here : is_elsewhere home stanza ≡ not (is_all field.value || is_of_home home field.value) = ap (λ found. option_map_or (λ (f : RawField). not (is_all f.value || is_of_home home f.value)) found false) e in
-    not_down (is_all field.value || is_of_home home field.value) (sym here ∙ not_up (is_elsewhere home stanza) (and_parts (is_installed stanza) (not (is_elsewhere home stanza)) own).1)
+    not_down (is_all field.value || is_of_home home field.value) (sym here ∙ not-true (is_elsewhere home stanza) (and_parts (is_installed stanza) (not (is_elsewhere home stanza)) own).1)
 
 named_value : (name : Option (List ℕ)) (value : List ℕ) → IsNamedHome name → option_map_or (bytes_eq value) name false ≡ true → is_architecture value ≡ true
 named_value None value named e = cc
@@ -212,7 +209,7 @@ stanza_passes home before stanza named all own =
     (first_passes _ _ (duplicate_passes (map facts_of before) stanza) (first_passes _ _ (mixed_passes home before stanza all own) tt))
 
 behind_passes : (home : Home) (before : List RawStanza) (stanza : RawStanza) → IsNamedHome home.name → AreOwn home before → is_own home stanza ≡ true → Passes (fault_behind (map good before) (Ok stanza))
-behind_passes home before stanza named all own = by (nat_le 200000 (length (map good before)))
+behind_passes home before stanza named all own = by (nat_le most_packages (length (map good before)))
   where
     passes : Passes (stanza_fault (map facts_of (stanzas_in (map good before))) (home_of (stanzas_in (map good before))) stanza)
     passes = subst (λ xs. Passes (stanza_fault (map facts_of xs) (home_of xs) stanza)) (sym (stanzas_good before)) (stanza_passes home before stanza named all own)

@@ -15,6 +15,7 @@ use Rattle.repo_model.specs.Fields.{field_of}
 use Rattle.repo_model.specs.FirstFault.{bad_value, fault_behind, faults_from, first_fault, first_some, home_of, own_fault, presence_fault, reading_fault, stanzas_in, stanzas_of, unless_good, value_fault}
 use Rattle.repo_model.specs.declared.fault.IndexFault.{IndexFault}
 use Rattle.repo_model.specs.declared.fault.IndexFault.TheVariants.{BadArchitecture, BadPackage, BadVersion, TooMany}
+use Rattle.repo_model.specs.Limits.{most_packages}
 use Rattle.repo_model.proofs.WellFormed.{none_of}
 
 abbrev pub IsNamedHome : Option (List ℕ) → Type 0
@@ -60,7 +61,7 @@ unfolding home_of
 named_from all n [] e = tt
 named_from all n (Ok stanza ∷ more) e =
     let both = none_of (fault_behind (take n all) (Ok stanza)) (first_some (faults_from all (n + 1) more)) e in
-    let fine = few (nat_le 200000 (length (take n all))) (reading_fault (stanzas_in (take n all)) (Ok stanza)) both.0 in
+    let fine = few (nat_le most_packages (length (take n all))) (reading_fault (stanzas_in (take n all)) (Ok stanza)) both.0 in
     first_named (architecture_of stanza) (first_some (map architecture_of (stanzas_in more))) (named_stanza stanza (fine_architecture stanza (none_of (own_fault stanza) _ fine).0)) (named_from all (n + 1) more both.1)
 named_from all n (Err fault ∷ more) e = named_from all (n + 1) more (none_of (fault_behind (take n all) (Err fault)) (first_some (faults_from all (n + 1) more)) e).1
 

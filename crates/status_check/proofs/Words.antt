@@ -86,10 +86,6 @@ first_word text (b ∷ bs) n is some place =
     sym (words_trimmed text) ∙ ap (λ all. filter is_filled (slice_split is_edge all)) (sym is) ∙ ap (filter is_filled) part.cut ∙ kept ∙ ap (λ rest. word ∷ rest) part.behind
     ∙ ap (λ k. take k (b ∷ bs) ∷ filter is_filled (slice_split is_edge (drop k (b ∷ bs)))) (sym place)
 
-pub no_bytes : (text : List ℕ) → eqb (length text) 0 ≡ true → text ≡ []
-no_bytes [] e = refl
-no_bytes (b ∷ bs) e = absurd (omega (arith, eqb-true (length (b ∷ bs)) 0 e))
-
 -- without white space the word is the whole text
 pub white_none : (text : List ℕ) → position is_edge text ≡ None → length text ≡ position_or_len is_edge text
 white_none text e = go (nat_lt (position_or_len is_edge text) (length text)) refl e

@@ -1,3 +1,4 @@
+-- for the bodies of this crate alone
 -- Packages under their names and versions.
 use Rattle.std.specs.Prelude.{◌≡◌, ℕ, true, List}
 use Rattle.deb_version.specs.Grammar.{is_version}

@@ -28,8 +28,8 @@ pub(crate) fn had_classes(
     ensures { IfOk result (λ classes. classes ≡ images_of view.now.limit view.now.kernel.hold view.now.suite.home view.now.suite.packages (had_goals view.now.suite.packages packages.now)) }
 {
     let mut classes = Needs::new(alloc);
-    for package in packages {
-        let numbers = numbers_of(alloc, table, package)?;
+    for number in packages {
+        let numbers = numbers_of(alloc, table, number)?;
         if numbers.is_empty() {
             continue;
         }

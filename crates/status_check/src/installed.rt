@@ -1,15 +1,15 @@
 //! Which stanzas of a status file are installed, and which of them are foreign.
 ghost use Rattle.std.specs.Prelude.{◌≡◌, ◌∷◌, ◌||◌, ◌≤◌, [], codes, length, map, count_by, IfOk, MatchOption};
 ghost use Rattle.std.specs.List.{position, position_or_len};
-ghost use Rattle.std.specs.Option.{option_copied};
 ghost use Rattle.std.specs.Str.{bytes_eq};
 ghost use Rattle.stanza_reader.specs.Fields.{is_edge, trimmed_start};
 ghost use Rattle.repo_model.specs.Facts.{is_all};
-ghost use Rattle.repo_model.specs.Fields.{field_among, is_kind};
 ghost use Rattle.status_check.specs.Installed.{is_elsewhere, is_foreign, is_installed, is_of_home, is_own, says_installed, words};
 
+use listed::{is_white_byte, trim_front};
 use relation_fields::Home;
-use stanza_reader::{FieldKind, RawField, RawStanza};
+use repo_model::{find_field, is_all};
+use stanza_reader::{FieldKind, RawStanza};
 use std::alloc::{AllocError, Global};
 
 /// For each stanza whether it is installed and not foreign to the home.
@@ -63,12 +63,6 @@ fn is_known(home: &Home, architecture: &[u8]) -> bool
     ensures { result ≡ (is_all architecture.now || is_of_home home.now architecture.now) }
 {
     is_all(architecture) || is_of_home(home, architecture)
-}
-
-fn is_all(architecture: &[u8]) -> bool
-    ensures { result ≡ is_all architecture.now }
-{
-    architecture == b"all".as_slice()
 }
 
 fn is_of_home(home: &Home, architecture: &[u8]) -> bool
@@ -131,14 +125,7 @@ fn next_word(text: &[u8]) -> Option<(&[u8], &[u8])>
 fn skip_white(text: &[u8]) -> &[u8]
     ensures { result.now ≡ trimmed_start text.now }
 {
-    let mut rest = text;
-    while let [first, more @ ..] = rest {
-        if !is_white(*first) {
-            return rest;
-        }
-        rest = more;
-    }
-    rest
+    trim_front(text)
 }
 
 // How many bytes stand before the first white space.
@@ -162,18 +149,5 @@ fn white_place(text: &[u8]) -> Option<usize>
 fn is_white(byte: u8) -> bool
     ensures { result ≡ is_edge byte }
 {
-    byte == b' ' || byte == b'\t' || byte == b'\n'
-}
-
-// The field of a kind, where there is one.
-fn find_field(fields: &[RawField], kind: FieldKind) -> Option<&RawField>
-    ensures { option_copied result ≡ field_among kind fields.now }
-{
-    fields.iter().find(|field| has_kind(field, kind))
-}
-
-fn has_kind(field: &RawField, kind: FieldKind) -> bool
-    ensures { result ≡ is_kind kind field.now.kind }
-{
-    field.kind == kind
+    is_white_byte(byte)
 }

@@ -10,6 +10,9 @@ mod report;
 mod state;
 mod status;
 
-pub use laws::no_architecture_fault;
+// A status file is checked against an index.
 pub use report::{HaveLine, HaveList, OwnState, StatusReport, SuiteState};
 pub use status::status_report;
+
+// Laws.
+pub use laws::no_architecture_fault;

@@ -6,6 +6,7 @@ ghost use Rattle.repo_model.specs.Goals.{packages_named};
 ghost use Rattle.virtual_provides.specs.Exact.{exact_key};
 ghost use Rattle.status_check.specs.Lookup.{HasVersions};
 ghost use Rattle.status_check.specs.Report.{goal_for, line_for};
+ghost use Rattle.repo_model.specs.Limits.{most_packages};
 
 use crate::report::{HaveLine, HaveList};
 use deb_version::Bytes;
@@ -18,7 +19,7 @@ pub(crate) fn packages_by_version(
     alloc: Global,
     packages: &[PackageFacts],
 ) -> Result<NumbersByName, AllocError>
-    requires { length packages.now ≤ 200000 }
+    requires { length packages.now ≤ most_packages }
     ensures { IfOk result (HasVersions packages.now) }
 {
     let mut table = NumbersByName::new(alloc);
@@ -33,11 +34,11 @@ pub(crate) fn packages_by_version(
 pub(crate) fn numbers_of<'a>(
     alloc: Global,
     table: &'a NumbersByName,
-    package: &PackageFacts,
+    facts: &PackageFacts,
 ) -> Result<&'a [u32], AllocError>
-    ensures { (index : List PackageFacts) → HasVersions index table.now → IfOk result (λ numbers. numbers.now ≡ packages_named index (goal_for «package».now)) }
+    ensures { (index : List PackageFacts) → HasVersions index table.now → IfOk result (λ numbers. numbers.now ≡ packages_named index (goal_for facts.now)) }
 {
-    let key = key_of(alloc, package)?;
+    let key = key_of(alloc, facts)?;
     Ok(table.numbers(&key))
 }
 
@@ -50,8 +51,8 @@ pub(crate) fn have_lines(
     ensures { (index : List PackageFacts) → HasVersions index table.now → IfOk result (λ lines. lines ≡ map (line_for index) packages.now) }
 {
     let mut lines = HaveList::new(alloc);
-    for package in packages {
-        let line = line_for(alloc, table, package)?;
+    for number in packages {
+        let line = line_for(alloc, table, number)?;
         lines.push(line)?;
     }
     Ok(lines)
@@ -61,13 +62,13 @@ pub(crate) fn have_lines(
 fn line_for(
     alloc: Global,
     table: &NumbersByName,
-    package: &PackageFacts,
+    facts: &PackageFacts,
 ) -> Result<HaveLine, AllocError>
-    ensures { (index : List PackageFacts) → HasVersions index table.now → IfOk result (λ line. line ≡ line_for index «package».now) }
+    ensures { (index : List PackageFacts) → HasVersions index table.now → IfOk result (λ line. line ≡ line_for index facts.now) }
 {
-    let numbers = numbers_of(alloc, table, package)?;
-    let name = Bytes::copy(alloc, package.name.as_slice())?;
-    let version = Bytes::copy(alloc, package.version.text())?;
+    let numbers = numbers_of(alloc, table, facts)?;
+    let name = Bytes::copy(alloc, facts.name.as_slice())?;
+    let version = Bytes::copy(alloc, facts.version.text())?;
     Ok(HaveLine {
         name,
         version,
@@ -77,19 +78,19 @@ fn line_for(
 
 // The key of a package, which those with its name and an equal version share.
 #[tactic(auto, unfolding(virtual_provides::specs::Exact::exact_key))]
-fn key_of(alloc: Global, package: &PackageFacts) -> Result<Vec<u8>, AllocError>
-    ensures key { IfOk result (λ key. key.items ≡ exact_key «package».now.name «package».now.version) }
-    ensures version { is_version «package».now.version ≡ true }
+fn key_of(alloc: Global, facts: &PackageFacts) -> Result<Vec<u8>, AllocError>
+    ensures key { IfOk result (λ key. key.items ≡ exact_key facts.now.name facts.now.version) }
+    ensures version { is_version facts.now.version ≡ true }
 {
-    let name = package.name.as_slice();
-    let room = package
+    let name = facts.name.as_slice();
+    let room = facts
         .version
         .text()
         .len()
         .saturating_add(name.len())
         .saturating_add(3);
     let mut key = Vec::with_capacity(alloc, room)?;
-    package.version.push_key(&mut key)?;
+    facts.version.push_key(&mut key)?;
     key.push(b' ')?;
     key.extend_from_slice(name)?;
     Ok(key)

@@ -3,6 +3,7 @@ ghost use Rattle.std.specs.Prelude.{◌≡◌, ◌≤◌, length, None, Ok, IfOk
 ghost use Rattle.stanza_reader.specs.Stanzas.{stanzas};
 ghost use Rattle.repo_model.specs.Refusals.{Refuses};
 ghost use Rattle.status_check.specs.Own.{foreign_count, lines_fault, own_home, own_packages, own_text, status_fault};
+ghost use Rattle.repo_model.specs.Limits.{most_bytes};
 
 use crate::installed::{foreign_among, own_flags};
 use relation_fields::Home;
@@ -19,7 +20,7 @@ pub(crate) struct Own {
 
 /// The own packages of a status file, or its first fault; `home` is that of the index.
 pub(crate) fn read_own(alloc: Global, home: &Home, bytes: &[u8]) -> Result<Own, IndexFault>
-    requires { length bytes.now ≤ 1073741824 }
+    requires { length bytes.now ≤ most_bytes }
     ensures refused { IfErr result (λ fault. Refuses fault (status_fault home.now bytes.now)) }
     ensures accepted { OnOk result (status_fault home.now bytes.now ≡ None) }
     ensures packages { IfOk result (λ own. own.suite.packages ≡ own_packages home.now bytes.now) }

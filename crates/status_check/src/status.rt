@@ -8,6 +8,7 @@ ghost use Rattle.suite_compare.specs.Asking.{verdict_in};
 ghost use Rattle.status_check.specs.Own.{foreign_count, own_home, own_packages, status_fault};
 ghost use Rattle.status_check.specs.declared.report.OwnState.TheVariants.{Healthy};
 ghost use Rattle.status_check.specs.Report.{all_of, had_goals, line_for, state_of, IsJudged, IsStateOf};
+ghost use Rattle.repo_model.specs.Limits.{most_bytes};
 
 use crate::classes::{had_classes, suite_state};
 use crate::lookup::{have_lines, packages_by_version};
@@ -30,7 +31,7 @@ pub fn status_report(
     budget: u64,
 ) -> Result<StatusReport, IndexFault>
     requires budget { IsBudget budget }
-    requires size { length bytes.now ≤ 1073741824 }
+    requires size { length bytes.now ≤ most_bytes }
     ensures refused { IfErr result (λ fault. Refuses fault (status_fault view.now.suite.home bytes.now)) }
     ensures accepted { OnOk result (status_fault view.now.suite.home bytes.now ≡ None) }
     ensures lines { IfOk result (λ report. report.lines ≡ map (line_for view.now.suite.packages) (own_packages view.now.suite.home bytes.now)) }

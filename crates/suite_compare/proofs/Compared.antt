@@ -208,9 +208,6 @@ bad_within N budget kinds bad k b so i = elim (cases_lt k (length bad)) [
   | inr g ↦ absurd (In_none (subst (λ z. In b z) (get_or_past bad k [] g) i))
 ]
 
-pub singles_long : (K : Repository) (budget : ℕ) (kinds : List (List ℕ)) (singles : List Verdict) → singles ≡ map (alone K budget) kinds → length singles ≡ length kinds
-singles_long K budget kinds singles e = ap length e ∙ length-map kinds (alone K budget)
-
 pub told_long : (singles told : List Verdict) (of : List ℕ) → told ≡ map (λ k. get_or singles k Spent) of → length told ≡ length of
 told_long singles told of e = ap length e ∙ length-map of (λ k. get_or singles k Spent)
 

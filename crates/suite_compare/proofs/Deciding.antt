@@ -2,6 +2,7 @@
 use Rattle.std.proofs.Common.{◌≡◌, ℕ, ◌<◌, ◌≤◌, Bool, true, ◌&&◌, List, [], length, refl, ap, sym, ◌∙◌, subst, inl, inr, Some}
 use Rattle.std.specs.Prelude.{ltb}
 use Rattle.std.proofs.lemmas.Bool.{cases_Bool, ltb-true, ltb-false, and_from, and_parts, lt-ltb}
+use Rattle.listed.proofs.Bools.{cases_Option}
 use Rattle.row_book.specs.Flags.{flag}
 use Rattle.row_book.specs.Needs.{NeedsFit}
 use Rattle.row_book.specs.Repository.{Repository, Healthy, Coinst}
@@ -23,7 +24,6 @@ use Rattle.search_terms.specs.Closure.{InRange}
 use Rattle.search_terms.specs.Form.{form}
 use Rattle.search_terms.specs.Tree.{IsTree, failed_leaves, found_of}
 use Rattle.search_terms.proofs.Computed.{search_tree_is}
-use Rattle.search_terms.proofs.Exists.{cases_Option}
 use Rattle.search_terms.proofs.Found.{finds_healthy}
 use Rattle.suite_compare.specs.Asking.{asked_tree, image_of, images_of, tree_of}
 use Rattle.suite_compare.specs.Laws.{CoinstImages, KernelDecides, VerdictIsJudged}

@@ -3,6 +3,7 @@ use Rattle.std.proofs.Common.{◌≡◌, ℕ, ◌<◌, ◌≤◌, Bool, true, fa
 use Rattle.std.specs.Prelude.{◌↔◌}
 use Rattle.std.specs.List.{flat_map}
 use Rattle.std.proofs.lemmas.Bool.{cases_Bool, both_ways}
+use Rattle.listed.proofs.Lists.{In_flat_cases, In_flat}
 use Rattle.row_book.specs.Sets.{In, has}
 use Rattle.row_book.specs.Book.{listed_for}
 use Rattle.row_book.specs.Clauses.{Ascending}
@@ -20,7 +21,6 @@ use Rattle.suite_compare.specs.declared.gather.Partners.{Partners}
 use Rattle.suite_compare.specs.declared.judge.Bad.{Bad}
 use Rattle.suite_compare.specs.declared.report.Finding.{Finding}
 use Rattle.suite_compare.specs.declared.report.Finding.TheVariants.{Broken, Open}
-use Rattle.suite_compare.proofs.Groups.{In_flat, In_flat_cases}
 
 pub finding_yes : (v : Verdict) → finding v Yes ≡ None
 finding_yes Yes = refl

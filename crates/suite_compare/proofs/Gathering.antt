@@ -1,6 +1,7 @@
 -- What goals ask for, gathered goal by goal.
 use Rattle.std.proofs.Common.{◌≡◌, ℕ, ◌<◌, Bool, List, [], ◌∷◌, length, get_or, map, sym, ap, subst, ◌∙◌, arith, zero-add}
 use Rattle.std.specs.Prelude.{◌↔◌}
+use Rattle.listed.proofs.Lists.{filled}
 use Rattle.row_book.specs.Clauses.{Ascending}
 use Rattle.row_book.specs.Flattening.{packages}
 use Rattle.row_book.specs.Repository.{Repository}
@@ -19,11 +20,6 @@ use Rattle.repo_model.proofs.Elements.{range_ascending}
 use Rattle.repo_model.proofs.Packages.{chosen_cases, length_clauses}
 use Rattle.suite_compare.specs.Asking.{goal_classes}
 use Rattle.suite_compare.proofs.SuiteKernels.{classes_ascending, classes_from, classes_parts, suite_sound}
-
--- a list of some length is not empty
-pub filled : {A : Type 0} (xs : List A) (x : A) → In x xs → 0 < length xs
-filled [] x i = absurd (In_none i)
-filled (y ∷ ys) x i = omega arith
 
 -- the classes of packages, from the table of all classes
 module _ (limit : ℕ) (hold : Bool) (R : Repository) (sound : SoundRepository R) (class_of chosen : List ℕ) (is : class_of ≡ map (kernel_class limit hold R) (packages R)) (within : (n : ℕ) → In n chosen → n < length R.clauses) where

@@ -93,17 +93,3 @@ In_last xs new x y e i = elim (In_append_cases xs (x ∷ []) y (subst (λ z. In 
   | inl o ↦ inl o
   | inr s ↦ elim (In_cases s) [ inl f ↦ inr f | inr n ↦ absurd (In_none n) ]
 ]
-
-pub In_flat_cases : {X Y : Type 0} (f : X → List Y) (xs : List X) (y : Y) → In y (flat_map f xs) → (x : X) × In x xs × In y (f x)
-In_flat_cases f [] y i = absurd (In_none i)
-In_flat_cases f (x ∷ xs) y i = elim (In_append_cases (f x) (flat_map f xs) y i) [
-  | inl o ↦ (x, here, o)
-  | inr r ↦ let w = In_flat_cases f xs y r in (w.0, there w.1, w.2)
-]
-
-pub In_flat : {X Y : Type 0} (f : X → List Y) (xs : List X) (x : X) (y : Y) → In x xs → In y (f x) → In y (flat_map f xs)
-In_flat f [] x y i j = absurd (In_none i)
-In_flat f (z ∷ xs) x y i j = elim (In_cases i) [
-  | inl e ↦ In_append_left (f z) (flat_map f xs) y (subst (λ w. In y (f w)) e j)
-  | inr r ↦ In_append_right (f z) (flat_map f xs) y (In_flat f xs x y r j)
-]

@@ -6,6 +6,7 @@ use Rattle.row_book.specs.Flags.{flag}
 use Rattle.row_book.specs.Repository.{Repository, Healthy}
 use Rattle.row_book.specs.Sets.{Hit, HitsAll, Is, NumSet, has}
 use Rattle.row_book.proofs.Lists.{In_has, has_not, filter_cases, filter_from}
+use Rattle.row_book.proofs.Flags.{flag_in}
 use Rattle.repo_model.proofs.Elements.{range_from}
 use Rattle.clause_pool.specs.Interned.{Interned}
 use Rattle.install_lift.specs.Laws.{HoldsMembers, IsKernelBy}
@@ -20,17 +21,12 @@ use Rattle.row_book.specs.declared.book.Book.{Book}
 use Rattle.suite_compare.specs.Answering.{true_numbers}
 use Rattle.suite_compare.specs.Views.{IsViewOf}
 
-in_flags : (flags : List Bool) (k : ℕ) → flag flags k ≡ true → k < length flags
-in_flags [] k h = absurd (let e : ⊥ = cc in e)
-in_flags (b ∷ flags) zero h = omega arith
-in_flags (b ∷ flags) (suc k) h = let l : k < length flags = in_flags flags k h in omega arith
-
 -- the numbers of flags are the set of the flags
 pub numbers_set : (flags : List Bool) → has (true_numbers flags) ≡ flag flags
 numbers_set flags = fun_ext (λ n. at n (flag flags n) refl)
   where
     at : (n : ℕ) (b : Bool) → flag flags n ≡ b → has (true_numbers flags) n ≡ flag flags n
-    at n true e = In_has (filter_from (flag flags) (range_with_len 0 (length flags)) n (range_from (length flags) 0 n (omega arith) (let l = in_flags flags n e in omega (arith, l))) e) ∙ sym e
+    at n true e = In_has (filter_from (flag flags) (range_with_len 0 (length flags)) n (range_from (length flags) 0 n (omega arith) (let l = flag_in flags n e in omega (arith, l))) e) ∙ sym e
     at n false e = has_not (true_numbers flags) n (λ i. let k = (filter_cases (flag flags) (range_with_len 0 (length flags)) n i).1 in absurd (cc (k, e))) ∙ sym e
 
 -- a set that is healthy, or hits goals, does so as its numbers too

@@ -2,9 +2,10 @@
 use Rattle.std.proofs.Common.{◌≡◌, ℕ, ◌<◌, ◌≤◌, ◌+◌, Bool, true, false, cond, List, [], ◌∷◌, ◌++◌, ◌⊎◌, inl, inr, length, get_or, take, map, ltb, refl, sym, ◌∙◌, ap, subst, arith, Option, Some, None}
 use Rattle.std.specs.Prelude.{is_some, IsSome, if◌then◌else◌}
 use Rattle.std.specs.List.{flat_map}
-use Rattle.std.proofs.lemmas.Bool.{cases_Bool, both_ways, false≢true, ltb-true, lt-ltb}
+use Rattle.std.proofs.lemmas.Bool.{cases_Bool, both_ways, false≢true, ltb-true, lt-ltb, le-ltb}
 use Rattle.std.proofs.lemmas.List.{length_push, append-nil, flat_map_more, get_or_read, get_or-map, map_more, take_all, take_more, length-map}
 use Rattle.std.proofs.lemmas.List.Concat.{flat_map-append}
+use Rattle.listed.proofs.Lists.{In_flat_cases, In_flat}
 use Rattle.clause_pool.specs.Interned.{Interned}
 use Rattle.row_book.specs.Sets.{In, here, there, has}
 use Rattle.row_book.specs.Book.{listed_for, repository_of, Sound, AreConflicts}
@@ -24,17 +25,20 @@ use Rattle.clause_solver.specs.Verdicts.{IsSearchVerdict, IsVerdictOf}
 use Rattle.clause_solver.specs.declared.outcomes.Verdict.{Verdict}
 use Rattle.clause_solver.specs.declared.outcomes.Verdict.TheVariants.{Yes, No, Spent}
 use Rattle.suite_compare.specs.Bad.{bad, bad_entry, AreAllBad, AreBad}
-use Rattle.suite_compare.specs.Choices.{ArePeaceful, IsChosen}
+use Rattle.suite_compare.specs.Choices.{AreBelow, ArePeaceful, IsChosen}
 use Rattle.suite_compare.specs.Kinds.{alone, kernel_verdict, together}
 use Rattle.suite_compare.specs.Asking.{tree_of, verdict_of}
 use Rattle.suite_compare.specs.Report.{is_yes}
 use Rattle.suite_compare.specs.Suspects.{AreAllChosen, AreChoices, AreJoinable, AreSuspects}
 use Rattle.suite_compare.specs.declared.judge.Bad.{Bad}
 use Rattle.suite_compare.specs.declared.suspect.Choices.{Choices}
-use Rattle.suite_compare.proofs.Groups.{pushed_at, In_flat, In_flat_cases}
+use Rattle.suite_compare.proofs.Groups.{pushed_at}
 
 pub need_lent : (kinds : List (List ℕ)) (k : ℕ) (item lent : List ℕ) → k < length kinds → lent ≡ item → item ≡ get_or kinds k item → AreNeeds kinds → IsNeed lent
 need_lent kinds k item lent l same is needs = subst IsNeed (sym same) (needs item (item_in kinds k item l is))
+
+pub lent_fits : (size : ℕ) (kinds : List (List ℕ)) (k : ℕ) (item lent : List ℕ) → k < length kinds → lent ≡ item → item ≡ get_or kinds k item → NeedsFit size kinds → AreBelow size lent
+lent_fits size kinds k item lent l same is fit = λ n j. fit item (item_in kinds k item l is) n (subst (λ z. In n z) same j)
 
 pub one_fits : (size : ℕ) (kinds : List (List ℕ)) (k : ℕ) (item lent : List ℕ) (goals : List (List ℕ)) → k < length kinds → lent ≡ item → item ≡ get_or kinds k item → goals ≡ lent ∷ [] → NeedsFit size kinds → NeedsFit size goals
 one_fits size kinds k item lent goals l same is made fit c i = elim (In_cases (subst (λ z. In c z) made i)) [
@@ -52,9 +56,6 @@ two_fit size kinds k m item lent other second goals l lm same is same_2 is_2 mad
   ]
 ]
 
-not_past : (budget n : ℕ) → n ≤ budget → ltb budget n ≡ false
-not_past budget n l = elim (cases_Bool (ltb budget n)) [ inl t ↦ absurd (let h : budget < n = ltb-true budget n t in omega arith) | inr f ↦ f ]
-
 is_past : (budget n : ℕ) → budget < n → ltb budget n ≡ true
 is_past budget n l = lt-ltb budget n l
 
@@ -64,8 +65,8 @@ some_is (Some x) s = refl
 
 -- what a tree tells is one verdict
 pub verdict_told : (budget : ℕ) (tree : Tree) (v : Verdict) → IsVerdictOf budget tree v → v ≡ verdict_of budget tree
-verdict_told budget tree Yes w = rw (not_past budget (failed_leaves tree) w.1, some_is (found_of tree) w.0) refl
-verdict_told budget tree No w = rw (not_past budget (failed_leaves tree) w.1, w.0) refl
+verdict_told budget tree Yes w = rw (le-ltb budget (failed_leaves tree) w.1, some_is (found_of tree) w.0) refl
+verdict_told budget tree No w = rw (le-ltb budget (failed_leaves tree) w.1, w.0) refl
 verdict_told budget tree Spent w = rw (is_past budget (failed_leaves tree) w) refl
 
 -- the tree of a sound book's formula is the computed one
@@ -98,7 +99,7 @@ joined_yes pool book budget A B S T sound fit first second peace =
     found_yes budget (tree_of (repository_of pool book) (A ∷ (B ∷ []))) tells.0 tells.1.0 tells.1.1
   where
     found_yes : (budget : ℕ) (tree : Tree) → failed_leaves tree ≡ 0 → (chosen : List Bool) → found_of tree ≡ Some chosen → verdict_of budget tree ≡ Yes
-    found_yes budget tree none chosen some = rw (not_past budget (failed_leaves tree) (omega arith), some) refl
+    found_yes budget tree none chosen some = rw (le-ltb budget (failed_leaves tree) (omega arith), some) refl
 
 entry_cases : (K : Repository) (budget : ℕ) (kinds : List (List ℕ)) (singles : List Verdict) (kind other : ℕ) (b : Bad) → In b (bad_entry K budget kinds singles kind other)
     → (is_yes (get_or singles other Spent) ≡ true) × (b ≡ bad other (together K budget (listed_for kinds kind) (listed_for kinds other)))

@@ -11,6 +11,7 @@ pub mod Numbered
 pub mod Chosen
 pub mod Suspected
 pub mod Judged
+pub mod Rivals
 pub mod Gathered
 pub mod Told
 pub mod Reported

@@ -2,6 +2,7 @@
 use Rattle.std.proofs.Common.{ℕ, ◌<◌, true, false, List, [], ◌∷◌, length, get_or, subst}
 use Rattle.std.specs.Prelude.{All}
 use Rattle.std.proofs.lemmas.List.Elements.{All-nil, All-cons, Contains-get_or}
+use Rattle.listed.proofs.Lists.{contains_in}
 use Rattle.row_book.specs.Needs.{NeedsFit}
 use Rattle.row_book.specs.Repository.{Repository, conflicts_of}
 use Rattle.row_book.specs.Sets.{In}
@@ -9,15 +10,9 @@ use Rattle.row_book.specs.Sound.{SoundRepository}
 use Rattle.search_terms.specs.declared.literals.Literal.{Literal}
 use Rattle.search_terms.specs.Closure.{literal, InRange}
 use Rattle.search_terms.specs.Form.{goal_sentence, form}
-use Rattle.search_terms.proofs.Lists.{contains_in}
 use Rattle.search_terms.proofs.Forms.{from_map, IsSentence, sentence_cases}
 use Rattle.search_terms.proofs.Forms.IsSentence.{of_goal, of_clause, of_conflict}
-use Rattle.search_terms.proofs.Ranges.{other_way, listed_in}
-
-members_ranged : (n : ℕ) (c : List ℕ) → ((m : ℕ) → In m c → m < n) → All (λ l. l.class < n) (goal_sentence c)
-members_ranged n c h = λ k d lt.
-    let w = from_map (λ m. literal m true) c (get_or (goal_sentence c) k d) (contains_in (goal_sentence c) (get_or (goal_sentence c) k d) (Contains-get_or (goal_sentence c) k d lt)) in
-    rw w.2 (h w.0 w.1)
+use Rattle.search_terms.proofs.Ranges.{other_way, listed_in, members_ranged}
 
 pub formula_ranged : (R : Repository) (goals : List (List ℕ)) → SoundRepository R → NeedsFit (length R.clauses) goals → InRange (length R.clauses) (form R goals)
 formula_ranged R goals sound fit = λ k d lt.

@@ -1,15 +1,15 @@
 -- The lines of a report, by the places of the names.
 use Rattle.std.proofs.Common.{◌≡◌, ℕ, zero, suc, ◌<◌, ◌≤◌, ◌+◌, Bool, true, false, cond, List, [], ◌∷◌, ◌++◌, ◌⊎◌, inl, inr, length, get_or, take, map, filter, ltb, refl, sym, ◌∙◌, ap, ap₂, subst, arith, Option, Some, None}
 use Rattle.std.specs.List.{flat_map}
-use Rattle.std.proofs.lemmas.Bool.{cases_Bool, both_ways, ltb-true, lt-ltb}
+use Rattle.std.proofs.lemmas.Bool.{cases_Bool, both_ways, ltb-true, lt-ltb, le-ltb}
 use Rattle.std.proofs.lemmas.List.{append-nil, flat_map_more, take_more}
 use Rattle.std.proofs.lemmas.List.Elements.{filter-append}
+use Rattle.listed.proofs.Lists.{flat_same}
 use Rattle.row_book.specs.Sets.{In, here, there, has}
 use Rattle.row_book.specs.Book.{listed_for}
 use Rattle.row_book.specs.Clauses.{Ascending, numbers}
 use Rattle.row_book.proofs.Lists.{In_cases, In_none, In_has, has_In, has_not, ascending_same, ascending_filter, filter_from, filter_cases, filter_same}
-use Rattle.row_book.proofs.Order.{numbers_from, numbers_parts, numbers_ascending}
-use Rattle.clause_flatten.proofs.Tidied.{numbers_more}
+use Rattle.row_book.proofs.Order.{numbers_from, numbers_parts, numbers_ascending, numbers_more}
 use Rattle.clause_solver.specs.declared.outcomes.Verdict.{Verdict}
 use Rattle.clause_solver.specs.declared.outcomes.Verdict.TheVariants.{Spent}
 use Rattle.suite_compare.specs.Report.{finding, is_yes, pair_line, single_line, with_later}
@@ -51,11 +51,6 @@ pub pair_line_is : (names : List (List ℕ)) (partners : Partners) (i j : ℕ) (
     → pair_line first second (Some f) ≡ told_pair names partners i j
 pair_line_is names partners i j first second f is is_2 e = ap₂ (λ a b. pair_line a b (Some f)) is is_2 ∙ ap (λ z. pair_line (listed_for names i) (listed_for names j) (Some z)) e
 
--- lists by places
-flat_same : {A X : Type 0} (f g : A → List X) (xs : List A) → ((x : A) → In x xs → f x ≡ g x) → flat_map f xs ≡ flat_map g xs
-flat_same f g [] h = refl
-flat_same f g (x ∷ xs) h = ap₂ (λ a b. a ++ b) (h x here) (flat_same f g xs (λ y i. h y (there i)))
-
 flat_of_map : {A B X : Type 0} (f : B → List X) (g : A → B) (xs : List A) → flat_map f (map g xs) ≡ flat_map (λ x. f (g x)) xs
 flat_of_map f g [] = refl
 flat_of_map f g (x ∷ xs) = ap (λ z. f (g x) ++ z) (flat_of_map f g xs)
@@ -84,17 +79,14 @@ all_pass : (p : ℕ → Bool) (xs : List ℕ) → ((x : ℕ) → In x xs → p x
 all_pass p [] h = refl
 all_pass p (x ∷ xs) h = rw (h x here) (ap (λ z. x ∷ z) (all_pass p xs (λ y i. h y (there i))))
 
-not_less : (a b : ℕ) → b ≤ a → ltb a b ≡ false
-not_less a b l = elim (cases_Bool (ltb a b)) [ inl t ↦ absurd (let h : a < b = ltb-true a b t in omega arith) | inr f ↦ f ]
-
 pub later_ascending : (h : ℕ → ℕ → List ReportLine) (xs : List ℕ) → Ascending xs → with_later h xs ≡ flat_map (λ i. flat_map (h i) (filter (ltb i) xs)) xs
 later_ascending h [] a = refl
 later_ascending h (x ∷ xs) a =
     ap₂ (λ s t. s ++ t)
-    (ap (flat_map (h x)) (sym (ap (λ b. cond b (x ∷ filter (ltb x) xs) (filter (ltb x) xs)) (not_less x x (omega arith)) ∙ all_pass (ltb x) xs (λ y i. lt-ltb x y (a.0 y i)))))
+    (ap (flat_map (h x)) (sym (ap (λ b. cond b (x ∷ filter (ltb x) xs) (filter (ltb x) xs)) (le-ltb x x (omega arith)) ∙ all_pass (ltb x) xs (λ y i. lt-ltb x y (a.0 y i)))))
     (later_ascending h xs a.1
     ∙ flat_same (λ i. flat_map (h i) (filter (ltb i) xs)) (λ i. flat_map (h i) (filter (ltb i) (x ∷ xs))) xs
-    (λ i j. ap (flat_map (h i)) (sym (ap (λ b. cond b (x ∷ filter (ltb i) xs) (filter (ltb i) xs)) (not_less i x (let l : x < i = a.0 i j in omega arith))))))
+    (λ i j. ap (flat_map (h i)) (sym (ap (λ b. cond b (x ∷ filter (ltb i) xs) (filter (ltb i) xs)) (le-ltb i x (let l : x < i = a.0 i j in omega arith))))))
 
 -- a list by its places
 places_of : {A : Type 0} (xs : List A) (d : A) (k : ℕ) (f : ℕ → A) → ((i : ℕ) → i < length xs → f (k + i) ≡ get_or xs i d) → xs ≡ map f (numbers (length xs) k)

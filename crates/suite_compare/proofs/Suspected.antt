@@ -3,6 +3,7 @@ use Rattle.std.proofs.Common.{◌≡◌, ℕ, ◌<◌, ◌≤◌, ◌+◌, Bool,
 use Rattle.std.specs.Prelude.{◌↔◌}
 use Rattle.std.proofs.lemmas.Bool.{cases_eq, cases_Bool, both_ways, false_from_ne_true}
 use Rattle.std.proofs.lemmas.List.{take_more, take_all, length_push, get_or_read, get_or-map}
+use Rattle.listed.proofs.Lists.{some_item, empty_or}
 use Rattle.row_book.specs.Sets.{In, here, there, has}
 use Rattle.clause_pool.specs.Interned.{Interned}
 use Rattle.row_book.specs.Book.{listed_for, repository_of, Sound}
@@ -184,14 +185,6 @@ all_suspects conflicts choices kind suspects size e so = record {
   only = λ k i. let b : k < size = (so k).0 i in omega arith;
 }
 
-some_member : (list : List ℕ) → eqb (length list) 0 ≡ false → (n : ℕ) × In n list
-some_member [] e = absurd cc
-some_member (x ∷ xs) e = (x, here)
-
-empty_or : (list : List ℕ) → (list ≡ []) ⊎ ((n : ℕ) × In n list)
-empty_or [] = inl refl
-empty_or (x ∷ xs) = inr (x, here)
-
 pub marked_suspects : (conflicts choices table : List (List ℕ)) (kind : ℕ) (choice without found sorted : List ℕ) (i : ℕ) (r : Bool) → choice ≡ listed_for choices kind → r ≡ eqb (length choice) 0 → r ≡ false
     → length choice ≤ i → AreHolders choices table → AreWithout choices without → ((k : ℕ) → In k sorted ↔ In k found) → HaveMarkedTo conflicts (take i choice) table without found
     → AreSuspects conflicts choices kind sorted
@@ -201,7 +194,7 @@ marked_suspects conflicts choices table kind choice without found sorted i r is 
     | inr w ↦ elim (cases_Bool (has sorted k)) [
       | inl t ↦ inl (has_In sorted k t)
       | inr f ↦ inr (record {
-        first = subst (λ z. (n : ℕ) × In n z) is (some_member choice (sym size ∙ some));
+        first = subst (λ z. (n : ℕ) × In n z) is (some_item choice (sym size ∙ some));
         second = w;
         peace = λ a b ia ib. false_from_ne_true (has (listed_for conflicts a) b) (λ h.
             both_ways (has sorted k) f (In_has ((same k).1 (so.all a b k (subst (λ z. In a z) (sym is) ia) (has_In (listed_for conflicts a) b h) (holders.all k b ib)))));

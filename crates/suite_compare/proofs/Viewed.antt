@@ -39,13 +39,13 @@ view_made old new home stanzas book made limit hold pool is sound told given = r
 
 -- the package that is told is one of the suite's
 pub passed_inside : (old : Interned) (home : Home) (stanzas : List PackageFacts) (book : Book) (limit : ℕ) (hold : Bool) (w : PassedRound) → repository_of old book ≡ suite_repository home stanzas →
-    limit_at limit hold (repository_of old book) ≡ Some w → w.«package» < length stanzas
+    limit_at limit hold (repository_of old book) ≡ Some w → w.over < length stanzas
 passed_inside old home stanzas book limit hold w is passes =
-    subst (λ size. w.«package» < size) (length_clauses home stanzas) (limit_inside limit hold (suite_repository home stanzas) (suite_sound home stanzas) w (sym (ap (limit_at limit hold) is) ∙ passes))
+    subst (λ size. w.over < size) (length_clauses home stanzas) (limit_inside limit hold (suite_repository home stanzas) (suite_sound home stanzas) w (sym (ap (limit_at limit hold) is) ∙ passes))
 
 -- the same limit, by equal numbers
-pub limit_told : (told : Option PassedRound) (r g p n r' g' p' n' : ℕ) → told ≡ Some (record { number = r; gone = g; «package» = p; count = n }) → r ≡ r' → g ≡ g' → p ≡ p' → n ≡ n' →
-    told ≡ Some (record { number = r'; gone = g'; «package» = p'; count = n' })
+pub limit_told : (told : Option PassedRound) (r g p n r' g' p' n' : ℕ) → told ≡ Some (record { number = r; gone = g; over = p; count = n }) → r ≡ r' → g ≡ g' → p ≡ p' → n ≡ n' →
+    told ≡ Some (record { number = r'; gone = g'; over = p'; count = n' })
 limit_told told r g p n r' g' p' n' e a b c d = cc
 
 -- a refusal of the suite is one of the index that it was read from

@@ -1,3 +1,4 @@
+-- for the bodies of this crate alone
 -- Kinds that do not go together, or are not known to.
 use Rattle.std.specs.Prelude.{◌≡◌, ℕ, ◌<◌, ◌⊎◌, true, if◌then◌else◌, List, [], ◌∷◌, length, slice_index_or}
 use Rattle.row_book.specs.Sets.{In}

@@ -1,3 +1,4 @@
+-- for the bodies of this crate alone
 -- First choices as lists of classes, and which of them are at peace.
 use Rattle.std.specs.Prelude.{◌≡◌, ℕ, ◌<◌, ◌⊎◌, true, false, List, [], ◌∷◌, ◌++◌, length}
 use Rattle.row_book.specs.Sets.{In, has}

@@ -1,3 +1,4 @@
+-- for the bodies of this crate alone
 -- A comparison over kinds of names.
 use Rattle.std.specs.Prelude.{◌≡◌, ℕ, ◌<◌, List, [], ◌∷◌, ◌++◌, filter, length, map, slice_index_or}
 use Rattle.std.specs.List.{flat_map}

@@ -1,3 +1,4 @@
+-- for the bodies of this crate alone
 -- Places under keys.
 use Rattle.std.specs.Prelude.{◌≡◌, ℕ, ◌<◌, ◌⊎◌, List, length, slice_index_or}
 use Rattle.row_book.specs.Sets.{In}

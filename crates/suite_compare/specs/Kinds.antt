@@ -1,6 +1,7 @@
+-- for bodies alone, those of other crates too
 -- Kinds: names of a kind have the same classes, and so the same verdicts.
-use Rattle.std.specs.Prelude.{◌≡◌, ℕ, ◌<◌, ◌⊎◌, List, [], ◌∷◌, ◌++◌, length, slice_index_or}
-use Rattle.row_book.specs.Sets.{In}
+use Rattle.std.specs.Prelude.{◌≡◌, ℕ, ◌<◌, ◌⊎◌, true, List, [], ◌∷◌, ◌++◌, length, slice_index_or}
+use Rattle.row_book.specs.Sets.{In, has}
 use Rattle.row_book.specs.Book.{Sound, listed_for, repository_of}
 use Rattle.row_book.specs.Needs.{AreNeeds, NeedsFit}
 use Rattle.row_book.specs.Repository.{Repository}
@@ -21,6 +22,14 @@ alone K budget goal = kernel_verdict K budget (goal ∷ [])
 
 abbrev pub together : Repository → ℕ → List ℕ → List ℕ → Verdict
 together K budget first second = kernel_verdict K budget (first ∷ (second ∷ []))
+
+-- two goals of one class each, of which the one class is against the other
+pub record AreRivals (conflicts : List (List ℕ)) (first second : List ℕ) : Type 0 where
+  pub one : ℕ
+  pub other : ℕ
+  pub first_is : first ≡ one ∷ []
+  pub second_is : second ≡ other ∷ []
+  pub against : has (listed_for conflicts one) other ≡ true
 
 -- the number of an item among others, behind which it is put where it is new
 pub record IsNumbered (old new : List (List ℕ)) (item : List ℕ) (k : ℕ) : Type 0 where

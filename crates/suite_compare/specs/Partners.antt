@@ -1,3 +1,4 @@
+-- for the bodies of this crate alone
 -- The names of which something is told beside those of a pair of kinds.
 use Rattle.std.specs.Prelude.{◌↔◌, ℕ, List, [], Option, Some, None, slice_index_or}
 use Rattle.std.specs.List.{flat_map}

@@ -1,3 +1,4 @@
+-- for the bodies of this crate alone
 -- Which kinds may not go together.
 use Rattle.std.specs.Prelude.{◌≡◌, ℕ, ◌<◌, ◌⊎◌, List, [], length}
 use Rattle.row_book.specs.Sets.{In}

@@ -1,3 +1,4 @@
+-- for the bodies of this crate alone
 -- The lines of names by their places.
 use Rattle.std.specs.Prelude.{ℕ, Bool, if◌then◌else◌, List, [], Some, filter, ltb, slice_index_or}
 use Rattle.std.specs.List.{flat_map}

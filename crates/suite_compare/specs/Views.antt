@@ -1,11 +1,13 @@
 -- A view of a suite: the repository of its packages as a book over a pool, and the kernel of that at a clause limit, with hold or
 -- without, with its classes, its held classes and its steps.
 use Rattle.std.specs.Prelude.{◌≡◌, ◌⊎◌, ℕ, Bool, List, [], ◌∷◌, map, refl}
-use Rattle.std.proofs.Common.{inl, inr}
+use Rattle.std.proofs.Common.{ap, inl, inr}
+use Rattle.std.proofs.Math.Nat.{ne_of_lt}
 use Rattle.std.specs.Coded.{Coded, Coded-set, code_by, coded×, coded⊎, coded_list, coded_ℕ, coded_bool, ×_prop, Unit-prop, le_prop}
-use Rattle.clause_pool.specs.Interned.{Interned}
+use Rattle.clause_pool.specs.Interned.{Interned, IsPool}
 use Rattle.row_book.specs.Book.{repository_of, AreConflicts, Sound}
-use Rattle.row_book.specs.Clauses.{Ascending}
+use Rattle.row_book.specs.Clauses.{Ascending, Before, InOrder}
+use Rattle.row_book.specs.Sets.{In}
 use Rattle.row_book.specs.Flattening.{packages}
 use Rattle.row_book.specs.Pruning.{IdleClause}
 use Rattle.row_book.specs.Repository.{Repository}
@@ -63,11 +65,37 @@ Ascending-prop (x ∷ xs) = ×_prop (hlevel le_prop) (Ascending-prop xs)
 bool-set : IsSet Bool
 bool-set = Coded-set coded_bool
 
+number-set : IsSet ℕ
+number-set = Coded-set coded_ℕ
+
+⊥-prop : IsProp ⊥
+⊥-prop h i = absurd h
+
+-- of two facts that exclude each other one or the other
+either-prop : {A B : Type 0} → IsProp A → IsProp B → (A → B → ⊥) → IsProp (A ⊎ B)
+either-prop a b apart (inl h) (inl i) = ap inl (a h i)
+either-prop a b apart (inl h) (inr i) = absurd (apart h i)
+either-prop a b apart (inr h) (inl i) = absurd (apart i h)
+either-prop a b apart (inr h) (inr i) = ap inr (b h i)
+
+Before-prop : (xs ys : List ℕ) → IsProp (Before xs ys)
+Before-prop [] [] = ⊥-prop
+Before-prop [] (y ∷ ys) = Unit-prop
+Before-prop (x ∷ xs) [] = ⊥-prop
+Before-prop (x ∷ xs) (y ∷ ys) = either-prop (hlevel le_prop) (×_prop (number-set x y) (Before-prop xs ys)) (λ l e. ne_of_lt l e.0)
+
+InOrder-prop : (cs : List (List ℕ)) → IsProp (InOrder cs)
+InOrder-prop [] = Unit-prop
+InOrder-prop (c ∷ cs) = let first : IsProp ((d : List ℕ) → In d cs → Before c d) = hlevel Before-prop in ×_prop first (InOrder-prop cs)
+
+pool-prop : (pool : Interned) → IsProp (IsPool pool)
+pool-prop pool = hlevel (number-set, Ascending-prop, InOrder-prop, le_prop)
+
 conflicts-prop : (table : List (List ℕ)) → IsProp (AreConflicts table)
 conflicts-prop table = hlevel (Ascending-prop, bool-set)
 
 Sound-prop : (pool : Interned) (book : Book) → IsProp (Sound pool book)
-Sound-prop pool book = hlevel (conflicts-prop, le_prop)
+Sound-prop pool book = hlevel (pool-prop, conflicts-prop, le_prop)
 
 SoundStep-prop : (pool : Interned) (step : Step) → IsProp (SoundStep pool step)
 SoundStep-prop pool (Flat before) = Sound-prop pool before

@@ -8,6 +8,7 @@ ghost use Rattle.suite_compare.specs.Answering.{unknown_goal, OnUnknown};
 
 use crate::answers::DecideError;
 use crate::view::SuiteView;
+use listed::sort_once;
 use repo_model::{Goal, NamedPackages};
 use row_book::Needs;
 use std::alloc::{AllocError, Global};
@@ -59,17 +60,8 @@ fn each_class(alloc: Global, class_of: &[u32], chosen: &[u32]) -> Result<Vec<u32
     ensures { IfOk result (λ classes. classes.items ≡ map (λ n. slice_index_or class_of.now n 0) chosen.now) }
 {
     let mut classes = Vec::new(alloc);
-    for package in chosen {
-        classes.push(class_of[*package as usize])?;
+    for number in chosen {
+        classes.push(class_of[*number as usize])?;
     }
     Ok(classes)
-}
-
-// Puts the numbers in their order, each once.
-fn sort_once(numbers: &mut Vec<u32>)
-    ensures ascending { Ascending numbers.new.items }
-    ensures same { (n : ℕ) → In n numbers.new.items ↔ In n numbers.old.items }
-{
-    numbers.sort_unstable();
-    numbers.dedup();
 }

@@ -5,6 +5,7 @@ ghost use Rattle.virtual_provides.specs.Numbers.{numbers_under, numbers_where};
 ghost use Rattle.repo_model.specs.Goals.{any_version};
 ghost use Rattle.suite_compare.specs.Asking.{image_of};
 ghost use Rattle.suite_compare.specs.Names.{stands_in, HasNames};
+ghost use Rattle.repo_model.specs.Limits.{most_packages};
 
 use crate::ask::image_of;
 use crate::view::SuiteView;
@@ -20,7 +21,7 @@ pub fn packages_by_name(
     alloc: Global,
     packages: &[PackageFacts],
 ) -> Result<NumbersByName, AllocError>
-    requires { length packages.now ≤ 200000 }
+    requires { length packages.now ≤ most_packages }
     ensures { IfOk result (HasNames packages.now) }
 {
     let mut table = NumbersByName::new(alloc);

@@ -1,4 +1,7 @@
 //! What a new suite has broken of an old one.
+//!
+//! Names with the same classes have the same verdicts, so kinds are asked. A pair is searched in the order of its names, since
+//! the number of failed leaves may depend on it.
 ghost use Rattle.std.specs.Prelude.{◌≡◌, ◌<◌, [], ℕ, List, IfOk, length, slice_index_or};
 ghost use Rattle.row_book.specs.Book.{repository_of, Sound};
 ghost use Rattle.row_book.specs.Needs.{AreNeeds, NeedsFit};
@@ -58,7 +61,7 @@ fn side_of(
     })
 }
 
-/// The partners of each pair of kinds.
+/// For each joint (a kind in the old suite with one in the new), the names that are broken or open beside its names.
 fn all_partners(
     alloc: Global,
     pool: &Pool,

@@ -5,9 +5,10 @@ ghost use Rattle.suite_compare.specs.Answering.{unknown_goal, IsAnswerOf, IsCert
 
 use crate::answers::{Answer, DecideError};
 use crate::ask::ask;
-use crate::install::{install, true_numbers};
+use crate::install::install;
 use crate::view::SuiteView;
 use clause_solver::{Outcome, search};
+use listed::true_numbers;
 use repo_model::Goal;
 use std::alloc::Global;
 

@@ -1,4 +1,7 @@
 //! The names of which something is told beside a name.
+//!
+//! A joint is a pair of kinds, old and new, of some name. A partner is a name of which a line is made beside it. A bad kind
+//! does not go together with another one, or is not known to.
 ghost use Rattle.std.specs.Prelude.{◌≡◌, ◌<◌, ◌++◌, ℕ, IfOk, OnOk, length};
 ghost use Rattle.std.specs.List.{flat_map};
 ghost use Rattle.row_book.specs.Sets.{In};

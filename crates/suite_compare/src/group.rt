@@ -9,23 +9,11 @@ ghost use Rattle.suite_compare.specs.Groups.{ArePlaces, IsEntered};
 
 use clause_pool::NumList;
 use clause_solver::Verdict;
-use listed::Listed;
+use listed::{Listed, empty_lists};
 use std::alloc::{AllocError, Global};
 
 /// Places in a list.
 pub(crate) type PlaceList = Listed<usize>;
-
-/// So many empty lists.
-pub(crate) fn empty_lists(alloc: Global, size: usize) -> Result<Vec<PlaceList>, AllocError>
-    ensures size { IfOk result (λ made. length made.items ≡ size) }
-    ensures empty { IfOk result (λ made. (k : ℕ) → listed_for made.items k ≡ []) }
-{
-    let mut made = Vec::new(alloc);
-    for _i in 0..size {
-        made.push(Listed::new(alloc))?;
-    }
-    Ok(made)
-}
 
 /// Puts a place behind the others under a key.
 pub(crate) fn enter(table: &mut [PlaceList], key: usize, place: usize) -> Result<(), AllocError>

@@ -15,6 +15,7 @@ ghost use Rattle.suite_compare.specs.Answering.{true_numbers};
 use crate::view::SuiteView;
 use clause_pool::NumList;
 use install_lift::{lift, trim};
+use listed::true_numbers;
 use row_book::Needs;
 use std::alloc::{AllocError, Global};
 
@@ -43,19 +44,5 @@ pub(crate) fn install(
     )?;
     let trimmed = trim(alloc, &view.pool, &view.book, wanted, lifted.as_slice())?;
     let numbers = true_numbers(alloc, trimmed.as_slice())?;
-    Ok(numbers)
-}
-
-/// The numbers of the flags that are up, ascending.
-pub(crate) fn true_numbers(alloc: Global, flags: &[bool]) -> Result<NumList, AllocError>
-    requires { length flags.now < 4294967296 }
-    ensures { IfOk result (λ numbers. numbers ≡ true_numbers flags.now) }
-{
-    let mut numbers = NumList::new(alloc);
-    for place in 0..flags.len() {
-        if flags[place] {
-            numbers.push(place as u32)?;
-        }
-    }
     Ok(numbers)
 }

@@ -1,12 +1,13 @@
 //! Verdicts on kinds.
-ghost use Rattle.std.specs.Prelude.{◌≡◌, ◌<◌, ◌∷◌, [], ℕ, IfOk, length, map, slice_index_or};
+ghost use Rattle.std.specs.Prelude.{◌≡◌, ◌<◌, ◌∷◌, [], ℕ, true, IfOk, length, map, slice_index_or};
 ghost use Rattle.std.specs.List.{flat_map};
 ghost use Rattle.row_book.specs.Sets.{In};
 ghost use Rattle.row_book.specs.Book.{listed_for, repository_of, Sound};
 ghost use Rattle.row_book.specs.Needs.{IsNeed, NeedsFit};
 ghost use Rattle.clause_solver.specs.Outcomes.{IsBudget};
 ghost use Rattle.clause_solver.specs.Solvers.{IsReady};
-ghost use Rattle.suite_compare.specs.Kinds.{alone, kernel_verdict, together, IsJudge};
+ghost use Rattle.suite_compare.specs.Kinds.{alone, kernel_verdict, together, AreRivals, IsJudge};
+ghost use Rattle.suite_compare.specs.Choices.{AreBelow};
 ghost use Rattle.clause_solver.specs.declared.outcomes.Verdict.TheVariants.{Spent};
 ghost use Rattle.suite_compare.specs.Bad.{bad_entry, AreAllBad, AreBad};
 ghost use Rattle.suite_compare.specs.Suspects.{AreChoices};
@@ -91,7 +92,19 @@ fn verdict_alone(
     Ok(verdict)
 }
 
-/// The verdict on two kinds together, in this order.
+/// Whether both goals are one class each, and these two conflict: then the root of their search clashes.
+fn are_rivals(book: &Book, first: &[u32], second: &[u32]) -> bool
+    requires first { AreBelow (length book.now.rows) first.now }
+    requires second { AreBelow (length book.now.rows) second.now }
+    ensures { result ≡ true → AreRivals book.now.conflicts first.now second.now }
+{
+    if first.len() != 1 || second.len() != 1 {
+        return false;
+    }
+    book.conflicts_with(first[0], second[0])
+}
+
+/// The verdict on two kinds together, in this order; no search is made where their classes conflict.
 pub(crate) fn verdict_together(
     alloc: Global,
     pool: &Pool,
@@ -107,7 +120,12 @@ pub(crate) fn verdict_together(
     requires second { second < length kinds.now }
     ensures { IfOk result (λ verdict. verdict ≡ together (repository_of pool.now book.now) budget (listed_for kinds.now first) (listed_for kinds.now second)) }
 {
-    let goals = two_goals(alloc, kinds[first].as_slice(), kinds[second].as_slice())?;
+    let one = kinds[first].as_slice();
+    let other = kinds[second].as_slice();
+    if are_rivals(book, one, other) {
+        return Ok(Verdict::No);
+    }
+    let goals = two_goals(alloc, one, other)?;
     let verdict = verdict_on(alloc, pool, book, solver, &goals, budget)?;
     Ok(verdict)
 }

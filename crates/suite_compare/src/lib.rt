@@ -1,12 +1,12 @@
 //! Views of suites, what goals ask of them, and what a new suite has broken of an old one.
 #![tactic(auto)]
 
-pub mod answers;
+mod answers;
 mod ask;
 mod choose;
 mod collect;
-pub mod comparison;
-pub mod decision;
+mod comparison;
+mod decision;
 mod gather;
 mod group;
 mod install;
@@ -14,18 +14,25 @@ mod judge;
 mod laws;
 mod look;
 mod number;
-pub mod refusals;
-pub mod report;
+mod refusals;
+mod report;
 mod suspect;
 mod tell;
-pub mod view;
+mod view;
 
+// A view: a suite with its kernel.
+pub use refusals::{LimitError, ViewError};
+pub use view::SuiteView;
+
+// What goals ask of a view, and the answer.
 pub use answers::{Answer, DecideError};
 pub use ask::image_of;
+pub use decision::decide;
+
+// What a new suite has broken of an old one.
 pub use collect::packages_by_name;
 pub use comparison::compare;
-pub use decision::decide;
-pub use laws::{answer_is_verdict, kernel_decides, verdict_is_judged};
-pub use refusals::{LimitError, ViewError};
 pub use report::{Finding, LineList, Report, ReportLine};
-pub use view::SuiteView;
+
+// Laws.
+pub use laws::{answer_is_verdict, kernel_decides, verdict_is_judged};

@@ -4,6 +4,7 @@ ghost use Rattle.repo_model.specs.FirstFault.{first_fault};
 ghost use Rattle.repo_model.specs.Repository.{suite_repository};
 ghost use Rattle.row_book.specs.Rounds.{limit_at};
 ghost use Rattle.suite_compare.specs.Refusals.{home_in, packages_in, RefusesIndex, RefusesSuite};
+ghost use Rattle.repo_model.specs.Limits.{most_bytes};
 
 use crate::refusals::{LimitError, ViewError};
 use crate::view::SuiteView;
@@ -18,7 +19,7 @@ impl SuiteView {
     /// The view of an index, with at most so many clauses in any row on the way to its kernel: the index is read, and then
     /// its kernel is extracted. With `hold` a package stays in the kernel where its elimination would make a row pass the limit.
     pub fn of(alloc: Global, bytes: &[u8], limit: u32, hold: bool) -> Result<SuiteView, ViewError>
-        requires short { length bytes.now ≤ 1073741824 }
+        requires short { length bytes.now ≤ most_bytes }
         requires limit { 0 < limit }
         ensures refused { IfErr result (RefusesIndex bytes.now limit hold) }
         ensures accepted { OnOk result (first_fault bytes.now ≡ None) }
@@ -57,8 +58,6 @@ impl SuiteView {
     {
         let mut pool = Pool::new(alloc)?;
         let book = suite.book(alloc, &mut pool)?;
-        // What holds of every pool is told by this call alone.
-        pool.clause_count();
         match extract(alloc, &mut pool, &book, limit, hold) {
             Ok(kernel) => Ok(SuiteView {
                 pool,
@@ -86,18 +85,18 @@ fn limit_of(
     suite: &Suite,
     round: u32,
     gone: u32,
-    package: u32,
+    over: u32,
     count: u64,
 ) -> LimitError
-    requires { «package» < length suite.now.packages }
-    ensures { (limit : ℕ) (hold : Bool) → limit_at limit hold (suite_repository suite.now.home suite.now.packages) ≡ Some (record { number = round; gone = gone; «package» = «package»; count = count }) →
+    requires { over < length suite.now.packages }
+    ensures { (limit : ℕ) (hold : Bool) → limit_at limit hold (suite_repository suite.now.home suite.now.packages) ≡ Some (record { number = round; gone = gone; over = over; count = count }) →
         RefusesSuite suite.now.home suite.now.packages limit hold result }
 {
-    match texts_of(alloc, &suite.packages.as_slice()[package as usize]) {
+    match texts_of(alloc, &suite.packages.as_slice()[over as usize]) {
         Ok((name, version)) => LimitError::Limit {
             round,
             gone,
-            package,
+            package: over,
             count,
             name,
             version,

@@ -1,59 +1,11 @@
 //! Kinds: lists of classes, each once, numbered as they came, and pairs of kinds likewise.
-ghost use Rattle.std.specs.Prelude.{◌≡◌, ◌<◌, ◌∷◌, ◌++◌, [], ℕ, IfOk, OnOk, OnErr, None, length, nat_eq, position};
-ghost use Rattle.std.specs.Cmp.Lexicographic.{pointwise};
+ghost use Rattle.std.specs.Prelude.{◌≡◌, IfOk, OnOk, length};
 ghost use Rattle.suite_compare.specs.Kinds.{IsNumbered, AreKinds, AreKeys, IsJoined, AreJoined};
 
+use class_merge::KeyTable;
 use clause_pool::NumList;
-use indexmap::IndexSet;
 use listed::Listed;
 use std::alloc::{AllocError, Global};
-use std::marker::Model;
-
-/// Keys in the order in which they came, with a table that finds each by its numbers.
-#[derive(Drop)]
-struct KeyTable {
-    keys: IndexSet<Vec<u64>>,
-}
-
-impl Model for KeyTable {
-    ghost use Rattle.std.specs.Prelude.{ℕ, List, map};
-    ghost use Rattle.std.specs.Coded.{coded_list, coded_ℕ};
-
-    ghost Value = { List (List ℕ) };
-
-    ghost coded = { coded_list (coded_list coded_ℕ) };
-
-    ghost view = { λ s. map (λ v. v.items) s.keys.keys };
-}
-
-impl KeyTable {
-    /// No keys.
-    fn new(alloc: Global) -> Self
-        ensures { result ≡ [] }
-    {
-        KeyTable {
-            keys: IndexSet::new(alloc),
-        }
-    }
-
-    /// The place of the key.
-    fn find(&self, key: &[u64]) -> Option<usize>
-        ensures { result ≡ position (pointwise nat_eq key.now) self.now }
-    {
-        self.keys.get_index_of(key)
-    }
-
-    /// Puts a key behind the others, and answers its place.
-    fn push(&mut self, key: &[u64]) -> Result<usize, AllocError>
-        requires { position (pointwise nat_eq key.now) self.old ≡ None }
-        ensures place { IfOk result (λ place. place ≡ length self.old) }
-        ensures ok { IfOk result (λ place. self.new ≡ self.old ++ key.now ∷ []) }
-    {
-        let key = Vec::from_slice(*self.keys.allocator(), key)?;
-        let (place, _) = self.keys.insert_full(key)?;
-        Ok(place)
-    }
-}
 
 /// Lists of classes, each once, and for each name the number of its own.
 #[derive(Drop)]

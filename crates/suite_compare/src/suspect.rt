@@ -7,8 +7,9 @@ ghost use Rattle.suite_compare.specs.Choices.{AreBelow};
 ghost use Rattle.suite_compare.specs.Suspects.{AreAllChosen, AreChoices, AreHeld, AreHolders, AreSuspects, AreWithout, HaveMarked};
 
 use crate::choose::first_choice;
-use crate::group::{PlaceList, classes_at, empty_lists, enter, places_at, sort_once};
+use crate::group::{PlaceList, classes_at, enter, places_at, sort_once};
 use clause_pool::{NumList, Pool};
+use listed::empty_lists;
 use row_book::Book;
 use std::alloc::{AllocError, Global};
 

@@ -10,6 +10,7 @@ use Rattle.std.proofs.lemmas.Bool.{and_parts, and_from, false≢true}
 use Rattle.std.proofs.lemmas.Bool.Decides.{same_from_decides}
 use Rattle.std.proofs.lemmas.List.{append-nil}
 use Rattle.std.proofs.lemmas.Slice.Eq.{bytes_eq-Decides}
+use Rattle.listed.proofs.Lists.{same_bytes}
 use Rattle.deb_version.specs.Grammar.{is_version}
 use Rattle.deb_version.specs.Keys.{version_key}
 use Rattle.deb_version.specs.Order.{version_order}
@@ -26,7 +27,6 @@ use Rattle.virtual_provides.specs.declared.numbers.NumbersByName.{NumbersByName}
 use Rattle.virtual_provides.specs.Bearers.{if_so}
 use Rattle.virtual_provides.specs.Exact.{exact_key, is_exactly, bears_exactly, is_crowded, version_asked, exact_version}
 use Rattle.virtual_provides.specs.Numbers.{ends_in, with_number}
-use Rattle.virtual_provides.proofs.Keys.{same_bytes}
 use Rattle.virtual_provides.proofs.Meeting.{either_wider, list_any-wider}
 use Rattle.virtual_provides.proofs.Numbered.{with_number-either}
 

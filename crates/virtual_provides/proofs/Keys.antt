@@ -6,10 +6,8 @@ use Rattle.std.specs.Str.{bytes_eq}
 use Rattle.std.specs.Option.{option_map_or}
 use Rattle.std.specs.Map.{KeepsOthers}
 use Rattle.std.specs.HashMap.{HashMap, get_by, UpdatesBy}
+use Rattle.listed.proofs.Lists.{same_bytes}
 use Rattle.virtual_provides.specs.Numbers.{with_number}
-
-pub same_bytes : (a b : List ℕ) → bytes_eq a b ≡ true → a ≡ b
-same_bytes a b e = (bytes_eq-Decides a b).0 e
 
 abbrev pub list_in : {X : Type 0} → (X → List ℕ) → Option X → List ℕ
 list_in list found = option_map_or list found []

@@ -1,8 +1,9 @@
 -- Numbers of the items of a list, and lists of numbers by names.
-use Rattle.std.specs.Prelude.{◌≡◌, ℕ, ◌-◌, ◌++◌, Bool, false, ◌==◌, if◌then◌else◌, List, [], ◌∷◌, length, map, filter, slice_get}
+use Rattle.std.specs.Prelude.{◌≡◌, ℕ, ◌-◌, ◌++◌, Bool, true, false, ◌<◌, ◌==◌, if◌then◌else◌, List, [], ◌∷◌, length, map, filter, slice_get, slice_index_or}
 use Rattle.std.specs.List.{enumerate_from}
 use Rattle.std.specs.Option.{option_map_or}
 use Rattle.std.specs.Str.{bytes_eq}
+use Rattle.listed.specs.Lists.{In}
 use Rattle.indexmap.specs.IndexMap.{get_by}
 use Rattle.virtual_provides.specs.declared.numbers.NumberList.{NumberList}
 use Rattle.virtual_provides.specs.declared.numbers.NumberList.TheVariants.{One, Many}
@@ -49,3 +50,7 @@ Same old new = (name : List ℕ) → numbers_under new name ≡ numbers_under ol
 abbrev pub Puts : NumbersByName → NumbersByName → List ℕ → ℕ → Type 0
 Puts old new name number = (other : List ℕ) → numbers_under new other
     ≡ (if bytes_eq other name then with_number number (numbers_under old other) else numbers_under old other)
+
+-- each number that stands under a name with another number has its mark, where there is a mark for it
+abbrev pub MarksShared : NumbersByName → List Bool → Type 0
+MarksShared table marks = (name : List ℕ) → 1 < length (numbers_under table name) → (n : ℕ) → In n (numbers_under table name) → n < length marks → slice_index_or marks n false ≡ true

@@ -2,10 +2,11 @@
 ghost use Rattle.std.specs.Prelude.{◌≡◌, ◌<◌, ◌++◌, List, ℕ, false, true, IfOk, OnOk, if◌then◌else◌, Some, nat_lt, length};
 ghost use Rattle.std.specs.Option.{option_copied};
 ghost use Rattle.deb_version.specs.Grammar.{is_version};
-ghost use Rattle.virtual_provides.specs.Bearers.{if_so, HasExactBearers};
+ghost use Rattle.virtual_provides.specs.Bearers.{if_so, HasBearers, HasExactBearers};
 ghost use Rattle.virtual_provides.specs.Exact.{exact_key, exact_version, is_crowded, is_exactly, bears_exactly, AtExactKeys};
-ghost use Rattle.virtual_provides.specs.Numbers.{ends_in, numbers_under, with_number};
+ghost use Rattle.virtual_provides.specs.Numbers.{ends_in, numbers_under, with_number, MarksShared};
 
+use crate::names::is_marked;
 use crate::numbers::NumbersByName;
 use deb_version::Version;
 use relation_fields::{Atom, Op, PackageFacts};
@@ -15,14 +16,21 @@ use std::alloc::{AllocError, Global};
 pub(crate) fn exact_bearers(
     alloc: Global,
     bearers: &NumbersByName,
+    shared: &[bool],
     packages: &[PackageFacts],
 ) -> Result<NumbersByName, AllocError>
-    requires { length packages.now < 4294967295 }
+    requires few { length packages.now < u32.MAX }
+    requires bearers { HasBearers packages.now bearers.now }
+    requires marks { length shared.now ≡ length packages.now }
+    requires shared { MarksShared bearers.now shared.now }
     ensures { IfOk result (HasExactBearers packages.now bearers.now) }
 {
     let mut exact = NumbersByName::new(alloc);
     for (number, package) in packages.iter().enumerate() {
-        put_versions(alloc, &mut exact, bearers, number as u32, package)?;
+        // A package that bears no name with another one bears no crowded name, and need not look its names up.
+        if is_marked(shared, number as u32) {
+            put_versions(alloc, &mut exact, bearers, number as u32, package)?;
+        }
     }
     Ok(exact)
 }
@@ -34,14 +42,14 @@ fn put_versions(
     exact: &mut NumbersByName,
     bearers: &NumbersByName,
     number: u32,
-    package: &PackageFacts,
+    facts: &PackageFacts,
 ) -> Result<(), AllocError>
     requires { AtExactKeys bearers.now (λ name version. ends_in number (numbers_under exact.old (exact_key name version)) ≡ false) }
-    ensures { OnOk result (AtExactKeys bearers.now (λ name version. numbers_under exact.new (exact_key name version) ≡ numbers_under exact.old (exact_key name version) ++ if_so (bears_exactly name version «package».now) number)) }
+    ensures { OnOk result (AtExactKeys bearers.now (λ name version. numbers_under exact.new (exact_key name version) ≡ numbers_under exact.old (exact_key name version) ++ if_so (bears_exactly name version facts.now) number)) }
 {
-    let own = Some(&package.version);
-    put_version(alloc, exact, bearers, number, package.name.as_slice(), own)?;
-    for provide in package.provides.as_slice() {
+    let own = Some(&facts.version);
+    put_version(alloc, exact, bearers, number, facts.name.as_slice(), own)?;
+    for provide in facts.provides.as_slice() {
         let version = provide.version.as_ref();
         put_version(
             alloc,

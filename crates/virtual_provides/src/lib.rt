@@ -2,8 +2,8 @@
 #![tactic(auto)]
 
 mod exact;
-pub mod names;
-pub mod numbers;
+mod names;
+mod numbers;
 
 pub use names::NameTable;
 pub use numbers::NumbersByName;

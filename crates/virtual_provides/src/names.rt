@@ -1,9 +1,10 @@
 //! The table of names.
-ghost use Rattle.std.specs.Prelude.{◌≡◌, ◌<◌, ◌++◌, List, ℕ, true, false, filter, length, IfOk, OnOk};
+ghost use Rattle.std.specs.Prelude.{◌≡◌, ◌<◌, ◌++◌, ◌∷◌, [], List, ℕ, true, false, filter, length, slice_index_or, IfOk, OnOk};
 ghost use Rattle.deb_version.specs.Grammar.{is_version};
+ghost use Rattle.listed.specs.Lists.{In};
 ghost use Rattle.relation_fields.specs.Meeting.{meets};
 ghost use Rattle.relation_fields.specs.declared.packages.PackageFacts.{PackageFacts};
-ghost use Rattle.virtual_provides.specs.Numbers.{ends_in, numbers_under, numbers_where, passes_at};
+ghost use Rattle.virtual_provides.specs.Numbers.{ends_in, numbers_under, numbers_where, passes_at, MarksShared};
 ghost use Rattle.virtual_provides.specs.Bearers.{bears, if_so, HasBearers, IsBuiltFrom};
 ghost use Rattle.virtual_provides.specs.Exact.{exact_key};
 
@@ -19,17 +20,24 @@ use std::alloc::{AllocError, Global};
 pub struct NameTable {
     bearers: NumbersByName,
     exact: NumbersByName,
+    // Whether a package has or provides a name that another one has or provides too.
+    shared: Vec<bool>,
 }
 
 impl NameTable {
     /// The table of the packages; it fails only where no memory is found. Time is linear in their names and provides.
     pub fn build(alloc: Global, packages: &[PackageFacts]) -> Result<NameTable, AllocError>
-        requires { length packages.now < 4294967295 }
+        requires { length packages.now < u32.MAX }
         ensures { IfOk result (IsBuiltFrom packages.now) }
     {
         let bearers = all_bearers(alloc, packages)?;
-        let exact = exact_bearers(alloc, &bearers, packages)?;
-        Ok(NameTable { bearers, exact })
+        let shared = sharing(alloc, &bearers, packages.len())?;
+        let exact = exact_bearers(alloc, &bearers, &shared, packages)?;
+        Ok(NameTable {
+            bearers,
+            exact,
+            shared,
+        })
     }
 
     /// Lends the numbers of the packages that have or provide a name, ascending, each once; it takes no memory.
@@ -37,6 +45,14 @@ impl NameTable {
         ensures { (packages : List PackageFacts) → IsBuiltFrom packages self.now → result.now ≡ numbers_where (bears name.now) packages }
     {
         self.bearers.numbers(name)
+    }
+
+    /// Whether the package of a number has or provides a name that another one has or provides too; it takes no memory.
+    pub fn shares_names(&self, number: u32) -> bool
+        ensures { (packages : List PackageFacts) → IsBuiltFrom packages self.now → result ≡ false →
+            (name : List ℕ) → In number (numbers_where (bears name) packages) → numbers_where (bears name) packages ≡ number ∷ [] }
+    {
+        is_marked(&self.shared, number)
     }
 
     /// The numbers of the packages that meet the atom, ascending, each once; it fails only where no memory is found.
@@ -82,7 +98,7 @@ impl NameTable {
 
 // The numbers of the packages under each name that they have or provide.
 fn all_bearers(alloc: Global, packages: &[PackageFacts]) -> Result<NumbersByName, AllocError>
-    requires { length packages.now < 4294967295 }
+    requires { length packages.now < u32.MAX }
     ensures { IfOk result (HasBearers packages.now) }
 {
     let mut bearers = NumbersByName::with_capacity(alloc, packages.len())?;
@@ -90,6 +106,23 @@ fn all_bearers(alloc: Global, packages: &[PackageFacts]) -> Result<NumbersByName
         put_package(&mut bearers, number as u32, package)?;
     }
     Ok(bearers)
+}
+
+// Which of so many packages have or provide a name that another one has or provides too.
+fn sharing(alloc: Global, bearers: &NumbersByName, size: usize) -> Result<Vec<bool>, AllocError>
+    ensures len { IfOk result (λ marks. length marks.items ≡ size) }
+    ensures marks { IfOk result (λ marks. MarksShared bearers.now marks.items) }
+{
+    let mut marks = vec![in alloc; false; size]?;
+    bearers.mark_shared(marks.as_mut_slice());
+    Ok(marks)
+}
+
+/// Whether the number is marked.
+pub(crate) fn is_marked(marks: &[bool], number: u32) -> bool
+    ensures { result ≡ slice_index_or marks.now number false }
+{
+    marks.get(number as usize).copied().unwrap_or(false)
 }
 
 // Those of the numbers whose packages meet the atom.
@@ -115,13 +148,13 @@ fn met_among(
 fn put_package(
     bearers: &mut NumbersByName,
     number: u32,
-    package: &PackageFacts,
+    facts: &PackageFacts,
 ) -> Result<(), AllocError>
     requires { (name : List ℕ) → ends_in number (numbers_under bearers.old name) ≡ false }
-    ensures { OnOk result ((name : List ℕ) → numbers_under bearers.new name ≡ numbers_under bearers.old name ++ if_so (bears name «package».now) number) }
+    ensures { OnOk result ((name : List ℕ) → numbers_under bearers.new name ≡ numbers_under bearers.old name ++ if_so (bears name facts.now) number) }
 {
-    bearers.put(package.name.as_slice(), number)?;
-    for provide in package.provides.as_slice() {
+    bearers.put(facts.name.as_slice(), number)?;
+    for provide in facts.provides.as_slice() {
         bearers.put(provide.name.as_slice(), number)?;
     }
     Ok(())

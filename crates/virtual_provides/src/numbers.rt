@@ -1,6 +1,7 @@
 //! Lists of numbers by names.
-ghost use Rattle.std.specs.Prelude.{◌≡◌, ◌∷◌, ◌++◌, [], IfOk, OnOk, OnErr};
-ghost use Rattle.virtual_provides.specs.Numbers.{numbers_of, numbers_under, with_number, HasNone, Puts, Same};
+ghost use Rattle.std.specs.Prelude.{◌≡◌, ◌<◌, ◌∷◌, ◌++◌, [], ℕ, true, false, length, slice_index_or, IfOk, OnOk, OnErr};
+ghost use Rattle.listed.specs.Lists.{In};
+ghost use Rattle.virtual_provides.specs.Numbers.{numbers_of, numbers_under, with_number, HasNone, MarksShared, Puts, Same};
 
 use indexmap::IndexMap;
 use std::alloc::{AllocError, Global};
@@ -75,6 +76,43 @@ impl NumbersByName {
         match self.lists.get(name) {
             Some(numbers) => numbers.as_slice(),
             None => &[],
+        }
+    }
+
+    /// Marks the numbers that stand under a name with another number. This goes over the lists, and looks no name up.
+    pub(crate) fn mark_shared(&self, marks: &mut [bool])
+        ensures len { length marks.new ≡ length marks.old }
+        ensures marks { MarksShared self.now marks.new }
+    {
+        for place in 0..self.lists.len() {
+            if let Some((_, numbers)) = self.lists.get_index(place) {
+                mark_if_shared(marks, numbers.as_slice());
+            }
+        }
+    }
+}
+
+// Marks the numbers, where there are two or more.
+fn mark_if_shared(marks: &mut [bool], numbers: &[u32])
+    ensures len { length marks.new ≡ length marks.old }
+    ensures kept { (n : ℕ) → slice_index_or marks.old n false ≡ true → slice_index_or marks.new n false ≡ true }
+    ensures marked { 1 < length numbers.now → (n : ℕ) → In n numbers.now → n < length marks.old → slice_index_or marks.new n false ≡ true }
+{
+    if numbers.len() > 1 {
+        mark_each(marks, numbers);
+    }
+}
+
+// Marks each of the numbers.
+fn mark_each(marks: &mut [bool], numbers: &[u32])
+    ensures len { length marks.new ≡ length marks.old }
+    ensures kept { (n : ℕ) → slice_index_or marks.old n false ≡ true → slice_index_or marks.new n false ≡ true }
+    ensures marked { (n : ℕ) → In n numbers.now → n < length marks.old → slice_index_or marks.new n false ≡ true }
+{
+    for number in numbers {
+        let place = *number as usize;
+        if place < marks.len() {
+            marks[place] = true;
         }
     }
 }

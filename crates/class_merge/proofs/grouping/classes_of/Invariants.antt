@@ -1,5 +1,5 @@
 use Rattle.class_merge.proofs.Groups.{GroupsSoFar}
 use Rattle.class_merge.proofs.grouping.classes_of.Given as goal
 
-abbrev pub invariant-loop-package : goal.invariant-loop-package
-invariant-loop-package l = GroupsSoFar l.pool l.book l.seen l.firsts.items l.class_of.items l.«package»
+abbrev pub invariant-loop-number : goal.invariant-loop-number
+invariant-loop-number l = GroupsSoFar l.pool l.book l.seen l.firsts.items l.class_of.items l.number

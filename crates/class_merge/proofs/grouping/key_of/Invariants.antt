@@ -4,4 +4,4 @@ use Rattle.row_book.specs.Book.{listed_for}
 use Rattle.class_merge.proofs.grouping.key_of.Given as goal
 
 abbrev pub invariant-loop-other : goal.invariant-loop-other
-invariant-loop-other l = l.key.items ≡ row_id l.book.rows l.«package» ∷ take l.other-index (listed_for l.book.conflicts l.«package»)
+invariant-loop-other l = l.key.items ≡ row_id l.book.rows l.number ∷ take l.other-index (listed_for l.book.conflicts l.number)

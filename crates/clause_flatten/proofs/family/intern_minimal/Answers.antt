@@ -2,9 +2,10 @@ use Rattle.std.proofs.Common.{◌≡◌, ap, not, ◌||◌, sym, ◌∙◌, subs
 use Rattle.std.specs.List.{list_all}
 use Rattle.std.proofs.lemmas.Result.{IfOk-weaker}
 use Rattle.clause_pool.specs.Interned.{clauses_at, row_at, IsIdOf, OfPool}
+use Rattle.clause_pool.proofs.Interned.{kept_along}
 use Rattle.row_book.specs.Clauses.{is_inside, minimal_of, InOrder}
 use Rattle.row_book.proofs.Order.{order_filter}
-use Rattle.clause_flatten.proofs.Families.{kept_trans, row_interned}
+use Rattle.clause_flatten.proofs.Families.{row_interned}
 use Rattle.clause_flatten.proofs.family.intern_minimal.Goals as goal
 
 pub intern_row-requires-clause-in_order : goal.intern_row-requires-clause-in_order
@@ -23,4 +24,4 @@ returns-clause-ok c =
     c.intern_row.ensures.ok
 
 pub returns-clause-kept : goal.returns-clause-kept
-returns-clause-kept c = kept_trans c.args.pool.now c.minimal_ids.new.pool c.intern_row.new.self c.in_ok-ids.ensures.kept c.intern_row.ensures.kept
+returns-clause-kept c = kept_along c.args.pool.now c.minimal_ids.new.pool c.intern_row.new.self c.in_ok-ids.ensures.kept c.intern_row.ensures.kept

@@ -2,10 +2,11 @@ use Rattle.std.proofs.Common.{ap, sym, ◌∙◌, subst, refl, not, filter, take
 use Rattle.std.proofs.lemmas.List.{take_all}
 use Rattle.row_book.specs.Clauses.{Ascending}
 use Rattle.clause_pool.specs.Interned.{IsIdOf}
+use Rattle.clause_pool.proofs.Interned.{kept_along}
 use Rattle.row_book.proofs.Lists.{item_in}
 use Rattle.clause_flatten.specs.Inclusion.{has_shorter}
 use Rattle.clause_flatten.specs.Families.{InternedSoFar}
-use Rattle.clause_flatten.proofs.Families.{At, at_item, interned_less, interned_more, kept_trans, lowest_minimal}
+use Rattle.clause_flatten.proofs.Families.{At, at_item, interned_less, interned_more, lowest_minimal}
 use Rattle.clause_flatten.proofs.family.minimal_ids.Goals as goal
 use Rattle.clause_flatten.proofs.family.minimal_ids.Goals.{then-not-is_longer+in_ok-id+in_ok-push, else-not-is_longer}
 
@@ -18,7 +19,7 @@ intern-requires c =
     subst (λ z. Ascending z) (sym c.as_slice-then-not-is_longer.ensures) (c.requires.ascending c.clause-item.result (item_in c.args.family.now c.loop-clause.clause-index c.clause-item.result c.loop-clause-test.true c.clause-item.is))
 
 pub returns-in_err-push-clause-kept : goal.returns-in_err-push-clause-kept
-returns-in_err-push-clause-kept c = kept_trans c.args.pool.now c.loop-clause.pool c.intern.new.self c.loop-clause.invariant.kept c.intern.ensures.kept
+returns-in_err-push-clause-kept c = kept_along c.args.pool.now c.loop-clause.pool c.intern.new.self c.loop-clause.invariant.kept c.intern.ensures.kept
 
 pub loop-clause-preserved : goal.loop-clause-preserved
 loop-clause-preserved c =

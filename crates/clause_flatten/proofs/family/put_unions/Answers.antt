@@ -1,13 +1,14 @@
-use Rattle.std.proofs.Common.{◌≡◌, ap, ◌∙◌, ◌+◌, sym, subst, refl, take, List, ℕ}
+use Rattle.std.proofs.Common.{◌≡◌, ap, ◌∙◌, ◌+◌, sym, subst, take, List, ℕ}
 use Rattle.std.specs.Option.{ForSome}
 use Rattle.std.proofs.lemmas.Bool.{OnFalse_at, OnTrue_at}
 use Rattle.clause_pool.specs.Interned.{Interned, IsIdOf, Kept, OfPool, clauses_at, row_at}
+use Rattle.clause_pool.proofs.Interned.{kept_along, kept_same as kept_none, clauses_kept, kept_of_pool, row_stays}
 use Rattle.row_book.specs.Sets.{In}
 use Rattle.row_book.specs.Clauses.{Ascending, InOrder, apart_from}
 use Rattle.row_book.proofs.Lists.{item_in}
 use Rattle.clause_flatten.specs.Branches.{TreeOf}
 use Rattle.clause_flatten.specs.Families.{HasUnions, IsNeedless, IsShortest}
-use Rattle.clause_flatten.proofs.Families.{At, at_item, kept_of_pool, kept_row, kept_same, kept_trans}
+use Rattle.clause_flatten.proofs.Families.{At, at_item}
 use Rattle.clause_flatten.proofs.UnionRows.{gained_of_pool, unions_less, unions_more, unions_none}
 use Rattle.clause_flatten.proofs.family.put_unions.Goals as goal
 use Rattle.clause_flatten.proofs.family.put_unions.Goals.{then-is_needed+in_ok-id+in_ok-put_in_place, else-is_needed}
@@ -16,7 +17,7 @@ pub loop-union-init : goal.loop-union-init
 loop-union-init c = record {
   made = unions_none (clauses_at c.args.pool.now c.args.ids.now.items) (apart_from c.args.spent (row_at c.args.pool.now c.args.row)) c.args.unions.now c.requires.in_order;
   of_pool = c.requires.of_pool;
-  stay = record { clauses = λ id l. (l, refl); rows = λ id l. (l, refl) };
+  stay = kept_none c.args.pool.now;
 }
 
 pub is_needed-requires-clause-row : goal.is_needed-requires-clause-row
@@ -25,7 +26,7 @@ is_needed-requires-clause-row c = (c.loop-union.invariant.stay.rows c.args.row c
 pub is_needed-requires-clause-kept : goal.is_needed-requires-clause-kept
 is_needed-requires-clause-kept c =
     subst (λ z. ForSome c.args.kept.now (λ t. TreeOf t (apart_from c.args.spent z)))
-    (sym (kept_row c.args.pool.now c.loop-union.pool c.clause_count.ensures.sound c.loop-union.invariant.stay c.args.row c.requires.row)) c.requires.kept
+    (sym (row_stays c.args.pool.now c.loop-union.pool c.requires.pool c.loop-union.invariant.stay c.args.row c.requires.row)) c.requires.kept
 
 pub is_needed-requires-clause-ascending : goal.is_needed-requires-clause-ascending
 is_needed-requires-clause-ascending c =
@@ -47,17 +48,17 @@ put_in_place-requires-clause-of_pool c = kept_of_pool c.loop-union.pool c.intern
 
 pub put_in_place-requires-clause-in_order : goal.put_in_place-requires-clause-in_order
 put_in_place-requires-clause-in_order c =
-    subst InOrder (sym (kept_same c.loop-union.pool c.intern.new.self c.in_ok-id.ensures.kept c.loop-union.ids.items c.loop-union.invariant.of_pool)) c.loop-union.invariant.made.order
+    subst InOrder (sym (clauses_kept c.loop-union.pool c.intern.new.self c.in_ok-id.ensures.kept c.loop-union.ids.items c.loop-union.invariant.of_pool)) c.loop-union.invariant.made.order
 
 pub returns-in_err-put_in_place-clause-kept : goal.returns-in_err-put_in_place-clause-kept
-returns-in_err-put_in_place-clause-kept c = kept_trans c.args.pool.now c.loop-union.pool c.intern.new.self c.loop-union.invariant.stay c.in_ok-id.ensures.kept
+returns-in_err-put_in_place-clause-kept c = kept_along c.args.pool.now c.loop-union.pool c.intern.new.self c.loop-union.invariant.stay c.in_ok-id.ensures.kept
 
 pub loop-union-preserved : goal.loop-union-preserved
 loop-union-preserved c =
     let old : List (List ℕ) = clauses_at c.args.pool.now c.args.ids.now.items in
     let kept : List (List ℕ) = apart_from c.args.spent (row_at c.args.pool.now c.args.row) in
     let same : row_at c.loop-union.pool c.args.row ≡ row_at c.args.pool.now c.args.row =
-    kept_row c.args.pool.now c.loop-union.pool c.clause_count.ensures.sound c.loop-union.invariant.stay c.args.row c.requires.row in
+    row_stays c.args.pool.now c.loop-union.pool c.requires.pool c.loop-union.invariant.stay c.args.row c.requires.row in
     let at : At c.args.unions.now c.loop-union.union-index c.as_slice.result.now =
     at_item c.args.unions.now c.loop-union.union-index c.union-item.result c.as_slice.result.now c.loop-union-test.true c.union-item.is c.as_slice.ensures in
     elim c.if-is_needed.branch [
@@ -82,7 +83,7 @@ loop-union-preserved c =
           }) (sym w.pool-is) (record {
             made = subst (λ z. HasUnions old kept c.args.unions.now (take (c.loop-union.union-index + 1) c.args.unions.now) (clauses_at next z)) (sym (ap (λ z. z.items) w.ids-is)) made;
             of_pool = subst (λ z. OfPool next z) (sym (ap (λ z. z.items) w.ids-is)) of_pool;
-            stay = kept_trans c.args.pool.now c.loop-union.pool next c.loop-union.invariant.stay w.in_ok-id.ensures.kept;
+            stay = kept_along c.args.pool.now c.loop-union.pool next c.loop-union.invariant.stay w.in_ok-id.ensures.kept;
           })
       | else-is_needed w ↦
           let needless : IsNeedless kept c.args.unions.now c.as_slice.result.now =

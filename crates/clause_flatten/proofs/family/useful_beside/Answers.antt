@@ -5,29 +5,29 @@ use Rattle.row_book.proofs.Lists.{In_has, has_In}
 use Rattle.clause_flatten.specs.Families.{HoldsOneOf}
 use Rattle.clause_flatten.proofs.Families.{of_pool_item, useful_less, useful_more}
 use Rattle.clause_flatten.proofs.family.useful_beside.Goals as goal
-use Rattle.clause_flatten.proofs.family.useful_beside.Goals.{then-not-contains+then-not-holds_one_of+in_ok-push, else-not-contains, else-not-contains-via-then-not-contains+else-not-holds_one_of, else-not-contains-via-else-not-contains}
+use Rattle.clause_flatten.proofs.family.useful_beside.Goals.{then-not-holds_ascending+then-not-holds_one_of+in_ok-push, else-not-holds_ascending, else-not-holds_ascending-via-then-not-holds_ascending+else-not-holds_one_of, else-not-holds_ascending-via-else-not-holds_ascending}
 
 pub slice-clause-requires : goal.slice-clause-requires
 slice-clause-requires c = of_pool_item c.args.pool.now c.args.others.now c.loop-id.id-index c.id-item.result c.requires c.loop-id-test.true c.id-item.is
 
 pub loop-id-preserved : goal.loop-id-preserved
 loop-id-preserved c =
-    elim c.if-not-contains.branch [
-      | then-not-contains+then-not-holds_one_of+in_ok-push w ↦
-          useful_more c.args.pool.now c.args.user (HoldsOneOf c.args.singles.now) c.args.others.now c.loop-id.id-index c.id-item.result c.loop-id.useful.items c.if-not-contains.useful.items
+    elim c.if-not-holds_ascending.branch [
+      | then-not-holds_ascending+then-not-holds_one_of+in_ok-push w ↦
+          useful_more c.args.pool.now c.args.user (HoldsOneOf c.args.singles.now) c.args.others.now c.loop-id.id-index c.id-item.result c.loop-id.useful.items c.if-not-holds_ascending.useful.items
           c.loop-id-test.true c.id-item.is
-          (λ j. both_ways c.contains.result w.if-not-contains.true (c.contains.ensures ∙ In_has (subst (λ z. In c.args.user z) (sym c.slice-clause.ensures.lent) j)))
+          (λ j. both_ways c.holds_ascending.result w.if-not-holds_ascending.true (c.holds_ascending.ensures ∙ In_has (subst (λ z. In c.args.user z) (sym c.slice-clause.ensures.lent) j)))
           c.loop-id.invariant (ap (λ z. z.items) w.useful-is ∙ w.in_ok-push.ensures.items)
-      | else-not-contains w ↦ elim w.else-not-contains.branch [
-        | else-not-contains-via-then-not-contains+else-not-holds_one_of v ↦
-            useful_less c.args.pool.now c.args.user (HoldsOneOf c.args.singles.now) c.args.others.now c.loop-id.id-index c.id-item.result c.loop-id.useful.items c.if-not-contains.useful.items
+      | else-not-holds_ascending w ↦ elim w.else-not-holds_ascending.branch [
+        | else-not-holds_ascending-via-then-not-holds_ascending+else-not-holds_one_of v ↦
+            useful_less c.args.pool.now c.args.user (HoldsOneOf c.args.singles.now) c.args.others.now c.loop-id.id-index c.id-item.result c.loop-id.useful.items c.if-not-holds_ascending.useful.items
             c.loop-id-test.true c.id-item.is
             (inr (subst (λ z. HoldsOneOf c.args.singles.now z) c.slice-clause.ensures.lent (OnTrue_at v.if-not-holds_one_of.false v.holds_one_of.ensures)))
             c.loop-id.invariant (ap (λ z. z.items) w.useful-is)
-        | else-not-contains-via-else-not-contains v ↦
-            useful_less c.args.pool.now c.args.user (HoldsOneOf c.args.singles.now) c.args.others.now c.loop-id.id-index c.id-item.result c.loop-id.useful.items c.if-not-contains.useful.items
+        | else-not-holds_ascending-via-else-not-holds_ascending v ↦
+            useful_less c.args.pool.now c.args.user (HoldsOneOf c.args.singles.now) c.args.others.now c.loop-id.id-index c.id-item.result c.loop-id.useful.items c.if-not-holds_ascending.useful.items
             c.loop-id-test.true c.id-item.is
-            (inl (subst (λ z. In c.args.user z) c.slice-clause.ensures.lent (has_In c.slice-clause.result.now c.args.user (sym c.contains.ensures ∙ v.if-not-contains.false))))
+            (inl (subst (λ z. In c.args.user z) c.slice-clause.ensures.lent (has_In c.slice-clause.result.now c.args.user (sym c.holds_ascending.ensures ∙ v.if-not-holds_ascending.false))))
             c.loop-id.invariant (ap (λ z. z.items) w.useful-is)
       ]
     ]

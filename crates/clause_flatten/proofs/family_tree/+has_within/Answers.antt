@@ -1,8 +1,9 @@
 use Rattle.std.proofs.Common.{◌≡◌, ◌<◌, ◌≤◌, ◌∙◌, ap, arith, length, refl, subst, sym, take, ◌+◌}
+use Rattle.std.proofs.lemmas.List.{length-take-le}
 use Rattle.row_book.specs.Clauses.{Ascending}
 use Rattle.clause_flatten.specs.Branches.{any_of}
 use Rattle.clause_flatten.specs.Inclusion.{is_within}
-use Rattle.clause_flatten.proofs.Walked.{Left, behind_fits, behind_is, ends_here, far_fits, fewer_others, found_below, no_nodes, none_wanted, start_within, step_alone, step_beside, step_behind, step_greater, taken}
+use Rattle.clause_flatten.proofs.Walked.{Left, behind_fits, behind_is, ends_here, far_fits, fewer_others, found_below, no_nodes, none_wanted, start_within, step_alone, step_beside, step_behind, step_greater}
 use Rattle.clause_flatten.proofs.family_tree.+has_within.Goals as goal
 
 pub loop-number-init : goal.loop-number-init
@@ -33,10 +34,10 @@ slice_bounds-left-end t c =
     c.place_behind.result c.place_behind.ensures in
     let g : c.in-Some-split_last.node.now.start < length c.loop-number.left.now = start_within c.args.from (any_of (is_within c.args.wanted.now c.args.size) (c.requires.tree).tree) c.loop-number.left.now c.in-Some-split_last.others.now c.in-Some-split_last.node.now c.loop-number.ahead.now c.in-Some.number.now c.in-Some.rest.now c.loop-number.room
     c.in-Some.ensures.cases.0 c.in-Some-split_last.ensures.cases.0 (omega arith) (c.loop-number.invariant.still (c.requires.tree)) in
-    sym (taken c.place_behind.result c.loop-number.left.now (omega arith))
+    sym (length-take-le c.place_behind.result c.loop-number.left.now (omega arith))
 
 pub slice_bounds-left-end-else-node-from : goal.slice_bounds-left-end-else-node-from
-slice_bounds-left-end-else-node-from t c = sym (taken c.in-Some-split_last.node.now.start c.loop-number.left.now (let f : c.in-Some-split_last.node.now.start < length c.loop-number.left.now = start_within c.args.from (any_of (is_within c.args.wanted.now c.args.size) (c.requires.tree).tree) c.loop-number.left.now c.in-Some-split_last.others.now c.in-Some-split_last.node.now c.loop-number.ahead.now c.in-Some.number.now c.in-Some.rest.now c.loop-number.room
+slice_bounds-left-end-else-node-from t c = sym (length-take-le c.in-Some-split_last.node.now.start c.loop-number.left.now (let f : c.in-Some-split_last.node.now.start < length c.loop-number.left.now = start_within c.args.from (any_of (is_within c.args.wanted.now c.args.size) (c.requires.tree).tree) c.loop-number.left.now c.in-Some-split_last.others.now c.in-Some-split_last.node.now c.loop-number.ahead.now c.in-Some.number.now c.in-Some.rest.now c.loop-number.room
     c.in-Some.ensures.cases.0 c.in-Some-split_last.ensures.cases.0 (omega arith) (c.loop-number.invariant.still (c.requires.tree)) in omega arith))
 
 pub loop-number-smaller-then-node-number : goal.loop-number-smaller-then-node-number
@@ -46,7 +47,7 @@ loop-number-smaller-then-node-number t c =
     c.place_behind.result c.place_behind.ensures in
     let g : c.in-Some-split_last.node.now.start < length c.loop-number.left.now = start_within c.args.from (any_of (is_within c.args.wanted.now c.args.size) (c.requires.tree).tree) c.loop-number.left.now c.in-Some-split_last.others.now c.in-Some-split_last.node.now c.loop-number.ahead.now c.in-Some.number.now c.in-Some.rest.now c.loop-number.room
     c.in-Some.ensures.cases.0 c.in-Some-split_last.ensures.cases.0 (omega arith) (c.loop-number.invariant.still (c.requires.tree)) in
-    let size : length (take c.place_behind.result c.loop-number.left.now) ≡ c.place_behind.result = taken c.place_behind.result c.loop-number.left.now (omega arith) in
+    let size : length (take c.place_behind.result c.loop-number.left.now) ≡ c.place_behind.result = length-take-le c.place_behind.result c.loop-number.left.now (omega arith) in
     omega arith
 
 pub loop-number-preserved-then-node-number : goal.loop-number-preserved-then-node-number
@@ -56,7 +57,7 @@ loop-number-preserved-then-node-number t c =
     c.place_behind.result c.place_behind.ensures in
     let g : c.in-Some-split_last.node.now.start < length c.loop-number.left.now = start_within c.args.from (any_of (is_within c.args.wanted.now c.args.size) (c.requires.tree).tree) c.loop-number.left.now c.in-Some-split_last.others.now c.in-Some-split_last.node.now c.loop-number.ahead.now c.in-Some.number.now c.in-Some.rest.now c.loop-number.room
     c.in-Some.ensures.cases.0 c.in-Some-split_last.ensures.cases.0 (omega arith) (c.loop-number.invariant.still (c.requires.tree)) in
-    let size : length (take c.place_behind.result c.loop-number.left.now) ≡ c.place_behind.result = taken c.place_behind.result c.loop-number.left.now (omega arith) in
+    let size : length (take c.place_behind.result c.loop-number.left.now) ≡ c.place_behind.result = length-take-le c.place_behind.result c.loop-number.left.now (omega arith) in
     record {
       fewer = omega (arith, c.loop-number.invariant.fewer);
       ascends = c.loop-number.invariant.ascends;
@@ -113,7 +114,7 @@ pub loop-number-preserved : goal.loop-number-preserved
 loop-number-preserved t c =
     let f : c.in-Some-split_last.node.now.start < length c.loop-number.left.now = start_within c.args.from (any_of (is_within c.args.wanted.now c.args.size) (c.requires.tree).tree) c.loop-number.left.now c.in-Some-split_last.others.now c.in-Some-split_last.node.now c.loop-number.ahead.now c.in-Some.number.now c.in-Some.rest.now c.loop-number.room
     c.in-Some.ensures.cases.0 c.in-Some-split_last.ensures.cases.0 (omega arith) (c.loop-number.invariant.still (c.requires.tree)) in
-    let size : length (take c.in-Some-split_last.node.now.start c.loop-number.left.now) ≡ c.in-Some-split_last.node.now.start = taken c.in-Some-split_last.node.now.start c.loop-number.left.now (omega arith) in
+    let size : length (take c.in-Some-split_last.node.now.start c.loop-number.left.now) ≡ c.in-Some-split_last.node.now.start = length-take-le c.in-Some-split_last.node.now.start c.loop-number.left.now (omega arith) in
     record {
       fewer = omega (arith, c.loop-number.invariant.fewer);
       ascends = (subst Ascending c.in-Some.ensures.cases.0 c.loop-number.invariant.ascends).1;

@@ -2,6 +2,7 @@ use Rattle.std.proofs.Common.{◌≡◌, ℕ, ◌<◌, ◌≤◌, ◌&&◌, ltb,
 use Rattle.std.specs.List.{find}
 use Rattle.std.proofs.lemmas.Result.{err_from_is_err_and}
 use Rattle.clause_pool.specs.Interned.{row_at}
+use Rattle.clause_pool.proofs.Interned.{kept_along}
 use Rattle.row_book.specs.Book.{repository_of}
 use Rattle.row_book.specs.Clauses.{numbers}
 use Rattle.row_book.specs.Flags.{flag}
@@ -9,42 +10,47 @@ use Rattle.row_book.specs.Flattening.{flat, held_of, passes}
 use Rattle.row_book.specs.Holders.{TellsRows}
 use Rattle.row_book.specs.Repository.{Repository}
 use Rattle.row_book.proofs.Books.{repository_kept, rows_kept, sound_kept}
+use Rattle.row_book.proofs.Order.{numbers_ranged}
+use Rattle.clause_flatten.specs.Ready.{AreReady}
 use Rattle.clause_flatten.specs.Substitution.{length_in}
 use Rattle.clause_flatten.specs.TakingOut.{is_free, is_over}
 use Rattle.clause_flatten.specs.TidyRows.{tidied_table}
 use Rattle.clause_flatten.specs.Waiting.{Filed}
 use Rattle.clause_flatten.proofs.Running.{first_passed, found_below, on_limit, take_whole}
 use Rattle.clause_flatten.proofs.Runs.{none_over}
-use Rattle.clause_flatten.proofs.Tidied.{kept_kept}
 use Rattle.clause_flatten.proofs.flattening.flatten.Goals as goal
 
 pub clauses_in-requires-clause-there : goal.clauses_in-requires-clause-there
 clauses_in-requires-clause-there c =
     let e : c.as_slice-2.result.now ≡ c.as_slice-in-Some.result.now = c.as_slice-2.ensures.value ∙ sym c.as_slice-in-Some.ensures.value in
-    subst (λ xs. c.in-Some.«package» < length xs) e
-    (found_below (is_over (map (row_at c.tidy_rows.new.pool) c.as_slice-2.result.now) c.args.limit) (length c.as_slice-2.result.now) c.in-Some.«package» (sym c.in-Some.ensures))
+    subst (λ xs. c.in-Some.number < length xs) e
+    (found_below (is_over (map (row_at c.tidy_rows.new.pool) c.as_slice-2.result.now) c.args.limit) (length c.as_slice-2.result.now) c.in-Some.number (sym c.in-Some.ensures))
 
 pub returns-in-Some-clause-passed : goal.returns-in-Some-clause-passed
 returns-in-Some-clause-passed c =
-    first_passed c.args.pool.now c.tidy_rows.new.pool c.args.book.now c.in_ok-rows.rows.items c.args.limit c.args.hold c.in-Some.«package» c.clauses_in.result
-    c.clause_count.ensures.sound c.requires.sound
+    first_passed c.args.pool.now c.tidy_rows.new.pool c.args.book.now c.in_ok-rows.rows.items c.args.limit c.args.hold c.in-Some.number c.clauses_in.result
+    c.requires.sound.rows.is_pool c.requires.sound
     (c.in_ok-rows.ensures.tidied ∙ ap (λ xs. tidied_table (map (row_at c.args.pool.now) xs)) c.as_slice.ensures)
-    (subst (λ xs. find (is_over (map (row_at c.tidy_rows.new.pool) xs) c.args.limit) (numbers (length xs) 0) ≡ Some c.in-Some.«package») c.as_slice-2.ensures.value (sym c.in-Some.ensures))
-    (c.clauses_in.ensures.count ∙ ap (λ xs. length_in (map (row_at c.tidy_rows.new.pool) xs) c.in-Some.«package») c.as_slice-in-Some.ensures.value)
+    (subst (λ xs. find (is_over (map (row_at c.tidy_rows.new.pool) xs) c.args.limit) (numbers (length xs) 0) ≡ Some c.in-Some.number) c.as_slice-2.ensures.value (sym c.in-Some.ensures))
+    (c.clauses_in.ensures.count ∙ ap (λ xs. length_in (map (row_at c.tidy_rows.new.pool) xs) c.in-Some.number) c.as_slice-in-Some.ensures.value)
 
 pub take_all_out-requires-clause-sound : goal.take_all_out-requires-clause-sound
-take_all_out-requires-clause-sound c = sound_kept c.args.pool.now c.tidy_rows.new.pool c.clause_count.ensures.sound c.tidy_rows.ensures.kept c.args.book.now c.requires.sound
+take_all_out-requires-clause-sound c = sound_kept c.args.pool.now c.tidy_rows.new.pool c.requires.sound.rows.is_pool c.tidy_rows.ensures.kept c.args.book.now c.requires.sound
 
 pub take_all_out-requires-clause-first : goal.take_all_out-requires-clause-first
 take_all_out-requires-clause-first c =
     ap (map (row_at c.tidy_rows.new.pool)) c.as_mut_slice.ensures.value
     ∙ c.in_ok-rows.ensures.tidied
     ∙ ap (λ xs. tidied_table (map (row_at c.args.pool.now) xs)) c.as_slice.ensures
-    ∙ ap tidied_table (sym (rows_kept c.args.pool.now c.tidy_rows.new.pool c.clause_count.ensures.sound c.tidy_rows.ensures.kept c.args.book.now.rows c.requires.sound.rows))
+    ∙ ap tidied_table (sym (rows_kept c.args.pool.now c.tidy_rows.new.pool c.requires.sound.rows.is_pool c.tidy_rows.ensures.kept c.args.book.now.rows c.requires.sound.rows))
 
-pub take_all_out-requires-clause-table : goal.take_all_out-requires-clause-table
-take_all_out-requires-clause-table c =
-    subst (λ xs. TellsRows c.tidy_rows.new.pool xs c.in_ok-uses.uses) (c.as_slice-3.ensures.value ∙ sym c.as_mut_slice.ensures.value) c.in_ok-uses.ensures
+pub take_all_out-requires-clause-ready : goal.take_all_out-requires-clause-ready
+take_all_out-requires-clause-ready c =
+    subst (λ xs. AreReady c.tidy_rows.new.pool xs c.in_ok-uses.uses) (sym c.as_mut_slice.ensures.value) (record {
+      fit = c.in_ok-rows.ensures.fit;
+      tidy = c.in_ok-rows.ensures.tidy;
+      table = subst (λ xs. TellsRows c.tidy_rows.new.pool xs c.in_ok-uses.uses) c.as_slice-3.ensures.value c.in_ok-uses.ensures;
+    })
 
 pub take_all_out-requires-clause-waiting : goal.take_all_out-requires-clause-waiting
 take_all_out-requires-clause-waiting c =
@@ -60,7 +66,7 @@ take_all_out-requires-clause-within c =
 pub returns-in_err-flags-clause-passed : goal.returns-in_err-flags-clause-passed
 returns-in_err-flags-clause-passed c =
     let same : repository_of c.tidy_rows.new.pool c.args.book.now ≡ repository_of c.args.pool.now c.args.book.now =
-    repository_kept c.args.pool.now c.tidy_rows.new.pool c.clause_count.ensures.sound c.tidy_rows.ensures.kept c.args.book.now c.requires.sound in
+    repository_kept c.args.pool.now c.tidy_rows.new.pool c.requires.sound.rows.is_pool c.tidy_rows.ensures.kept c.args.book.now c.requires.sound in
     let p = err_from_is_err_and c.from_residual-in_err-flags.result c.from_residual-in_err-flags.ensures.1 in
     rw (p.1, p.2)
     (on_limit
@@ -72,7 +78,7 @@ returns-in_err-flags-clause-passed c =
 pub returns-clause-flat : goal.returns-clause-flat
 returns-clause-flat c =
     let same : repository_of c.tidy_rows.new.pool c.args.book.now ≡ repository_of c.args.pool.now c.args.book.now =
-    repository_kept c.args.pool.now c.tidy_rows.new.pool c.clause_count.ensures.sound c.tidy_rows.ensures.kept c.args.book.now c.requires.sound in
+    repository_kept c.args.pool.now c.tidy_rows.new.pool c.requires.sound.rows.is_pool c.tidy_rows.ensures.kept c.args.book.now c.requires.sound in
     let made : List ℕ → List (List ℕ) → Repository = λ xs ys. record { clauses = map (row_at c.take_all_out.new.pool) xs; conflicts = ys } in
     let size : c.in_ok-rows.rows.len ≡ length c.take_all_out.new.rows = omega (arith, c.in_ok-rows.rows.ok.0) in
     let rows_are : c.in_ok-made.made.rows ≡ c.take_all_out.new.rows =
@@ -83,22 +89,23 @@ returns-clause-flat c =
 pub returns-clause-within : goal.returns-clause-within
 returns-clause-within c =
     let same : repository_of c.tidy_rows.new.pool c.args.book.now ≡ repository_of c.args.pool.now c.args.book.now =
-    repository_kept c.args.pool.now c.tidy_rows.new.pool c.clause_count.ensures.sound c.tidy_rows.ensures.kept c.args.book.now c.requires.sound in
+    repository_kept c.args.pool.now c.tidy_rows.new.pool c.requires.sound.rows.is_pool c.tidy_rows.ensures.kept c.args.book.now c.requires.sound in
     ap (passes c.args.limit c.args.hold) (sym same) ∙ c.in_ok-flags.ensures.within
 
-pub flagged-requires : goal.flagged-requires
-flagged-requires c =
+pub true_numbers-requires : goal.true_numbers-requires
+true_numbers-requires c =
     let few : length c.as_slice-5.result.now ≡ length c.args.book.now.rows = ap length c.as_slice-5.ensures.value ∙ c.in_ok-flags.ensures.few in
     omega (arith, c.args.book.now.few)
 
 pub returns-clause-held : goal.returns-clause-held
 returns-clause-held c =
     let same : repository_of c.tidy_rows.new.pool c.args.book.now ≡ repository_of c.args.pool.now c.args.book.now =
-    repository_kept c.args.pool.now c.tidy_rows.new.pool c.clause_count.ensures.sound c.tidy_rows.ensures.kept c.args.book.now c.requires.sound in
+    repository_kept c.args.pool.now c.tidy_rows.new.pool c.requires.sound.rows.is_pool c.tidy_rows.ensures.kept c.args.book.now c.requires.sound in
     c.in_ok-held.ensures
+    ∙ ap (filter (flag c.as_slice-5.result.now)) (numbers_ranged (length c.as_slice-5.result.now) 0)
     ∙ ap (λ xs. filter (flag xs) (numbers (length xs) 0)) c.as_slice-5.ensures.value
     ∙ c.in_ok-flags.ensures.held
     ∙ ap (held_of c.args.limit c.args.hold) same
 
 pub returns-clause-kept : goal.returns-clause-kept
-returns-clause-kept c = kept_kept c.args.pool.now c.tidy_rows.new.pool c.take_all_out.new.pool c.tidy_rows.ensures.kept c.take_all_out.ensures.kept
+returns-clause-kept c = kept_along c.args.pool.now c.tidy_rows.new.pool c.take_all_out.new.pool c.tidy_rows.ensures.kept c.take_all_out.ensures.kept

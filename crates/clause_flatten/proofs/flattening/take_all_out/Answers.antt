@@ -2,6 +2,7 @@ use Rattle.std.proofs.Common.{◌≡◌, ◌<◌, ◌+◌, false, Some, arith, l
 use Rattle.std.proofs.lemmas.List as lists
 use Rattle.std.proofs.lemmas.Result.{err_from_is_err_and}
 use Rattle.clause_pool.specs.Interned.{row_at}
+use Rattle.clause_pool.proofs.Interned.{kept_along}
 use Rattle.row_book.specs.Book.{repository_of}
 use Rattle.row_book.specs.Clauses.{numbers}
 use Rattle.row_book.specs.Flattening.{may_go, passed_by, passes, remaining_after}
@@ -9,13 +10,12 @@ use Rattle.row_book.specs.Repository.{Repository}
 use Rattle.row_book.specs.Sets.{without}
 use Rattle.clause_flatten.specs.Substitution.{table_without, length_in}
 use Rattle.clause_flatten.proofs.Running.{HasEnded, first_there, on_limit, run_empty, run_full, run_here, run_more, run_passed, run_size, run_start}
-use Rattle.clause_flatten.proofs.Tidied.{kept_kept}
 use Rattle.clause_flatten.proofs.flattening.take_all_out.Goals as goal
 
 pub loop-turn-init : goal.loop-turn-init
 loop-turn-init c =
     run_start c.args.pool.now c.args.book.now c.args.rule.limit c.args.rule.hold c.args.rows.now c.args.uses.now c.args.waiting c.in_ok-held.held.items
-    c.clause_count.ensures.sound c.requires.sound c.requires.first c.requires.fit c.requires.tidy c.requires.table c.requires.waiting c.requires.within
+    c.requires.sound.rows.is_pool c.requires.sound c.requires.first c.requires.ready c.requires.waiting c.requires.within
     (c.in_ok-held.ensures ∙ ap (λ n. replicate n false) c.size.ensures)
 
 pub returns-in_default-clause-flat : goal.returns-in_default-clause-flat
@@ -90,7 +90,7 @@ loop-turn-preserved c =
     run_more R c.args.rule.limit c.args.rule.hold c.loop-turn.turn c.args.pool.now c.loop-turn.pool c.loop-turn.rows c.loop-turn.uses c.loop-turn.waiting c.loop-turn.held.items c.loop-turn.invariant c.in-Some.next
     (c.in-Some.ensures.first (may_go R (remaining_after c.args.rule.limit c.args.rule.hold R c.loop-turn.turn)) (length_in (map (row_at c.loop-turn.pool) c.loop-turn.rows)) c.loop-turn.invariant.filed)
     c.in_ok-stays.stays c.take_out_or_hold.new.pool c.take_out_or_hold.new.rows c.take_out_or_hold.new.uses c.take_out_or_hold.new.waiting c.with_flag-held.result.items
-    c.in_ok-stays.ensures.held c.in_ok-stays.ensures.rows c.take_out_or_hold.ensures.fit c.take_out_or_hold.ensures.tidy c.take_out_or_hold.ensures.table c.take_out_or_hold.ensures.kept c.in_ok-stays.ensures.within
+    c.in_ok-stays.ensures.held c.in_ok-stays.ensures.rows c.take_out_or_hold.ensures.ready c.take_out_or_hold.ensures.kept c.in_ok-stays.ensures.within
     (c.in_ok-stays.ensures.filed (without (may_go R (remaining_after c.args.rule.limit c.args.rule.hold R c.loop-turn.turn)) c.in-Some.next)
     (c.in-Some.ensures.taken (may_go R (remaining_after c.args.rule.limit c.args.rule.hold R c.loop-turn.turn)) (length_in (map (row_at c.loop-turn.pool) c.loop-turn.rows)) c.loop-turn.invariant.filed))
     c.with_flag-held.ensures
@@ -131,4 +131,4 @@ with_flag-held-requires c =
     omega arith
 
 pub returns-in_err-stays-clause-kept : goal.returns-in_err-stays-clause-kept
-returns-in_err-stays-clause-kept c = kept_kept c.args.pool.now c.loop-turn.pool c.take_out_or_hold.new.pool c.loop-turn.invariant.kept c.take_out_or_hold.ensures.kept
+returns-in_err-stays-clause-kept c = kept_along c.args.pool.now c.loop-turn.pool c.take_out_or_hold.new.pool c.loop-turn.invariant.kept c.take_out_or_hold.ensures.kept

@@ -7,8 +7,8 @@ use Rattle.clause_flatten.proofs.Free.{waiting_more, waiting_none, waiting_same}
 use Rattle.clause_flatten.proofs.flattening.waiting_in.Goals as goal
 use Rattle.clause_flatten.proofs.flattening.waiting_in.Goals.{then-is_empty, else-is_empty}
 
-pub loop-package-init : goal.loop-package-init
-loop-package-init c = record {
+pub loop-number-init : goal.loop-number-init
+loop-number-init c = record {
   room = omega (arith, c.in_ok-waiting.ensures.room);
   filed =
       waiting_none c.in_ok-waiting.waiting c.args.book.now.conflicts (length_in (map (row_at c.args.pool.now) c.args.rows.now))
@@ -16,29 +16,29 @@ loop-package-init c = record {
 }
 
 pub put-requires-clause-room : goal.put-requires-clause-room
-put-requires-clause-room c = omega (arith, c.loop-package.invariant.room)
+put-requires-clause-room c = omega (arith, c.loop-number.invariant.room)
 
-pub loop-package-preserved : goal.loop-package-preserved
-loop-package-preserved c =
+pub loop-number-preserved : goal.loop-number-preserved
+loop-number-preserved c =
     elim c.if-is_empty.branch [
       | then-is_empty w ↦
-          let free : is_free c.args.book.now.conflicts c.loop-package.«package» ≡ true =
+          let free : is_free c.args.book.now.conflicts c.loop-number.number ≡ true =
           ap (λ xs. eqb (length xs) 0) (sym c.against.ensures) ∙ sym c.is_empty.ensures ∙ w.if-is_empty.true in
           record {
-            room = subst (λ x. length c.args.book.now.rows ≤ length x) (sym w.waiting-is) (subst (λ n. length c.args.book.now.rows ≤ n) (sym w.put.ensures.room) c.loop-package.invariant.room);
+            room = subst (λ x. length c.args.book.now.rows ≤ length x) (sym w.waiting-is) (subst (λ n. length c.args.book.now.rows ≤ n) (sym w.put.ensures.room) c.loop-number.invariant.room);
             filed =
-                subst (λ x. Filed x (λ q. ltb q (c.loop-package.«package» + 1) && is_free c.args.book.now.conflicts q) (length_in (map (row_at c.args.pool.now) c.args.rows.now))) (sym w.waiting-is)
-                (waiting_more w.put.new.self c.args.book.now.conflicts (length_in (map (row_at c.args.pool.now) c.args.rows.now)) c.loop-package.«package» free
-                (w.put.ensures.filed (λ q. ltb q c.loop-package.«package» && is_free c.args.book.now.conflicts q) (length_in (map (row_at c.args.pool.now) c.args.rows.now))
-                c.loop-package.invariant.filed (sym w.clauses_in.ensures.count)));
+                subst (λ x. Filed x (λ q. ltb q (c.loop-number.number + 1) && is_free c.args.book.now.conflicts q) (length_in (map (row_at c.args.pool.now) c.args.rows.now))) (sym w.waiting-is)
+                (waiting_more w.put.new.self c.args.book.now.conflicts (length_in (map (row_at c.args.pool.now) c.args.rows.now)) c.loop-number.number free
+                (w.put.ensures.filed (λ q. ltb q c.loop-number.number && is_free c.args.book.now.conflicts q) (length_in (map (row_at c.args.pool.now) c.args.rows.now))
+                c.loop-number.invariant.filed (sym w.clauses_in.ensures.count)));
           }
       | else-is_empty w ↦
-          let free : is_free c.args.book.now.conflicts c.loop-package.«package» ≡ false =
+          let free : is_free c.args.book.now.conflicts c.loop-number.number ≡ false =
           ap (λ xs. eqb (length xs) 0) (sym c.against.ensures) ∙ sym c.is_empty.ensures ∙ w.if-is_empty.false in
           record {
-            room = subst (λ x. length c.args.book.now.rows ≤ length x) (sym w.waiting-is) c.loop-package.invariant.room;
+            room = subst (λ x. length c.args.book.now.rows ≤ length x) (sym w.waiting-is) c.loop-number.invariant.room;
             filed =
-                subst (λ x. Filed x (λ q. ltb q (c.loop-package.«package» + 1) && is_free c.args.book.now.conflicts q) (length_in (map (row_at c.args.pool.now) c.args.rows.now))) (sym w.waiting-is)
-                (waiting_same c.loop-package.waiting c.args.book.now.conflicts (length_in (map (row_at c.args.pool.now) c.args.rows.now)) c.loop-package.«package» free c.loop-package.invariant.filed);
+                subst (λ x. Filed x (λ q. ltb q (c.loop-number.number + 1) && is_free c.args.book.now.conflicts q) (length_in (map (row_at c.args.pool.now) c.args.rows.now))) (sym w.waiting-is)
+                (waiting_same c.loop-number.waiting c.args.book.now.conflicts (length_in (map (row_at c.args.pool.now) c.args.rows.now)) c.loop-number.number free c.loop-number.invariant.filed);
           }
     ]

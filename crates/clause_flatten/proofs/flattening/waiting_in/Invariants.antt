@@ -5,8 +5,8 @@ use Rattle.clause_flatten.specs.TakingOut.{is_free}
 use Rattle.clause_flatten.specs.Waiting.{Filed}
 use Rattle.clause_flatten.proofs.flattening.waiting_in.Given as goal
 
-abbrev pub invariant-loop-package : goal.invariant-loop-package
-invariant-loop-package l = record {
+abbrev pub invariant-loop-number : goal.invariant-loop-number
+invariant-loop-number l = record {
   room : length l.book.rows ≤ length l.waiting;
-  filed : Filed l.waiting (λ q. ltb q l.«package» && is_free l.book.conflicts q) (length_in (map (row_at l.pool) l.rows));
+  filed : Filed l.waiting (λ q. ltb q l.number && is_free l.book.conflicts q) (length_in (map (row_at l.pool) l.rows));
 }

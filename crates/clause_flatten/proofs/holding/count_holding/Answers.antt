@@ -6,7 +6,7 @@ use Rattle.clause_flatten.specs.Holding.{clauses_with}
 use Rattle.clause_flatten.proofs.Counts.{none_more, one_more}
 use Rattle.clause_flatten.proofs.Families.{At, at_clause, clauses_length, of_pool_item}
 use Rattle.clause_flatten.proofs.holding.count_holding.Goals as goal
-use Rattle.clause_flatten.proofs.holding.count_holding.Goals.{then-contains, else-contains}
+use Rattle.clause_flatten.proofs.holding.count_holding.Goals.{then-holds_ascending, else-holds_ascending}
 
 pub slice-requires : goal.slice-requires
 slice-requires c = of_pool_item c.args.pool.now c.args.row.now c.loop-id.id-index c.id-item.result c.requires c.loop-id-test.true c.id-item.is
@@ -15,17 +15,17 @@ pub loop-id-preserved : goal.loop-id-preserved
 loop-id-preserved c =
     let at : At (clauses_at c.args.pool.now c.args.row.now) c.loop-id.id-index c.slice.result.now =
     at_clause c.args.pool.now c.args.row.now c.loop-id.id-index c.id-item.result c.slice.result.now c.loop-id-test.true c.id-item.is c.slice.ensures.lent in
-    elim c.if-contains.branch [
-      | then-contains w ↦
+    elim c.if-holds_ascending.branch [
+      | then-holds_ascending w ↦
           record {
             is = w.count-is ∙ ap (λ n. n + 1) c.loop-id.invariant.is
-                ∙ sym (one_more (λ d. has d c.args.number) (clauses_at c.args.pool.now c.args.row.now) c.loop-id.id-index c.slice.result.now at (sym c.contains.ensures ∙ w.if-contains.true));
+                ∙ sym (one_more (λ d. has d c.args.number) (clauses_at c.args.pool.now c.args.row.now) c.loop-id.id-index c.slice.result.now at (sym c.holds_ascending.ensures ∙ w.if-holds_ascending.true));
             few = omega (arith, w.count-is, c.loop-id.invariant.few);
           }
-      | else-contains w ↦
+      | else-holds_ascending w ↦
           record {
             is = w.count-is ∙ c.loop-id.invariant.is
-                ∙ sym (none_more (λ d. has d c.args.number) (clauses_at c.args.pool.now c.args.row.now) c.loop-id.id-index c.slice.result.now at (sym c.contains.ensures ∙ w.if-contains.false));
+                ∙ sym (none_more (λ d. has d c.args.number) (clauses_at c.args.pool.now c.args.row.now) c.loop-id.id-index c.slice.result.now at (sym c.holds_ascending.ensures ∙ w.if-holds_ascending.false));
             few = omega (arith, w.count-is, c.loop-id.invariant.few);
           }
     ]

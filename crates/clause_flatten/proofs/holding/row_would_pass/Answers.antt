@@ -39,14 +39,14 @@ returns-then-most-from c =
 
 pub family_with_unions-requires-clause-useful : goal.family_with_unions-requires-clause-useful
 family_with_unions-requires-clause-useful c =
-    useful_of_pool c.args.pool.now c.args.user c.args.spent c.args.row c.args.others c.clause_count.ensures.sound c.requires.row c.requires.others c.requires.apart
+    useful_of_pool c.args.pool.now c.args.user c.args.spent c.args.row c.args.others c.requires.pool c.requires.row c.requires.others c.requires.apart
     c.row-own.result.now c.in_ok-useful.useful.items c.as_slice.result.now (IncludesOneOf (apart_from c.args.spent (clauses_at c.args.pool.now c.row-clauses.result.now)))
     c.row-own.ensures.lent c.as_slice.ensures.value c.in_ok-useful.ensures
 
 pub has_more-requires-clause-ascending : goal.has_more-requires-clause-ascending
 has_more-requires-clause-ascending c =
-    family_ascends c.args.pool.now c.args.spent c.args.row c.as_slice.result.now c.clause_count.ensures.sound c.requires.row
-    (useful_of_pool c.args.pool.now c.args.user c.args.spent c.args.row c.args.others c.clause_count.ensures.sound c.requires.row c.requires.others c.requires.apart
+    family_ascends c.args.pool.now c.args.spent c.args.row c.as_slice.result.now c.requires.pool c.requires.row
+    (useful_of_pool c.args.pool.now c.args.user c.args.spent c.args.row c.args.others c.requires.pool c.requires.row c.requires.others c.requires.apart
     c.row-own.result.now c.in_ok-useful.useful.items c.as_slice.result.now (IncludesOneOf (apart_from c.args.spent (clauses_at c.args.pool.now c.row-clauses.result.now)))
     c.row-own.ensures.lent c.as_slice.ensures.value c.in_ok-useful.ensures)
     c.as_slice-2.result.now
@@ -67,6 +67,6 @@ returns c =
     ∙ ap (λ z. ltb c.args.limit (length z))
     (ap minimal_of (c.as_slice-2.ensures.value ∙ c.in_ok-family.ensures
     ∙ ap (λ ids. in_row_order (apart_from c.args.spent (clauses_at c.args.pool.now ids) ++ all_unions c.args.spent (clauses_at c.args.pool.now ids) (clauses_at c.args.pool.now c.as_slice.result.now))) c.row-clauses.ensures.lent)
-    ∙ unions_minimal c.args.pool.now c.args.user c.args.spent c.args.row c.args.others c.clause_count.ensures.sound c.requires.row c.requires.others c.requires.apart
+    ∙ unions_minimal c.args.pool.now c.args.user c.args.spent c.args.row c.args.others c.requires.pool c.requires.row c.requires.others c.requires.apart
     c.row-clauses.result.now c.row-own.result.now c.in_ok-useful.useful.items c.as_slice.result.now c.row-clauses.ensures.lent c.row-own.ensures.lent c.as_slice.ensures.value c.in_ok-useful.ensures))
     c.has_more.ensures

@@ -28,5 +28,5 @@ pub returns : goal.returns
 returns c =
     sym (table_within c.args.pool.now c.args.rows.now c.args.gone c.requires.gone c.args.users.now
     c.requires.users
-    c.clause_count.ensures.sound c.requires.fit c.requires.tidy c.args.limit c.requires.within
+    c.requires.fit.is_pool c.requires.fit c.requires.tidy c.args.limit c.requires.within
     (λ k l. c.loop-user.invariant k (omega arith)))

@@ -24,7 +24,7 @@ pub returns-clause-in_order : goal.returns-clause-in_order
 returns-clause-in_order c =
     let ids = c.args.ids.now.items in
     let place = c.place_of-place.result in
-    order_gained c.args.pool.now ids c.args.id place c.clause_count.ensures.sound c.requires.of_pool c.requires.there c.requires.in_order
+    order_gained c.args.pool.now ids c.args.id place c.requires.pool c.requires.of_pool c.requires.there c.requires.in_order
     (λ k l. ap₂ (λ xs z. comes_before (clause_at c.args.pool.now (get_or xs k 0)) z) (sym c.as_slice.ensures.value) (sym c.slice.ensures.lent) ∙ c.place_of-place.ensures.before k l)
     (λ k l u. ap₂ (λ xs z. comes_before (clause_at c.args.pool.now (get_or xs k 0)) z) (sym c.as_slice.ensures.value) (sym c.slice.ensures.lent)
     ∙ c.place_of-place.ensures.behind k l (subst (λ xs. k < length xs) (sym c.as_slice.ensures.value) u))

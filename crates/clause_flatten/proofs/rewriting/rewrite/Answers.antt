@@ -13,21 +13,21 @@ returns-then-is_empty-clause-ok c =
     IfOk-weaker c.shorten.result (λ id. row_at c.shorten.new.pool id ≡ apart_from c.args.spent (row_at c.args.pool.now c.args.row))
     (λ id. row_at c.shorten.new.pool id ≡ in_row_order (substituted c.args.user c.args.spent (row_at c.args.pool.now c.args.row) (row_at c.args.pool.now c.args.others)))
     (λ id e. e
-    ∙ row_shortened c.args.pool.now c.args.user c.args.spent c.args.row c.args.others c.clause_count.ensures.sound c.requires.row c.requires.others c.requires.apart c.requires.minimal
+    ∙ row_shortened c.args.pool.now c.args.user c.args.spent c.args.row c.args.others c.requires.pool c.requires.row c.requires.others c.requires.apart c.requires.minimal
     c.row.result.now c.row-2.result.now c.in_ok-useful.useful.items c.row.ensures.lent c.row-2.ensures.lent c.in_ok-useful.ensures
     (empty_items c.in_ok-useful.useful.items c.in_ok-useful.useful.len c.is_empty.result c.in_ok-useful.useful.ok.0 c.is_empty.ensures c.if-is_empty.true))
     c.shorten.ensures.ok
 
 pub intern_with_unions-requires-clause-useful : goal.intern_with_unions-requires-clause-useful
 intern_with_unions-requires-clause-useful c =
-    useful_of_pool c.args.pool.now c.args.user c.args.spent c.args.row c.args.others c.clause_count.ensures.sound c.requires.row c.requires.others c.requires.apart
+    useful_of_pool c.args.pool.now c.args.user c.args.spent c.args.row c.args.others c.requires.pool c.requires.row c.requires.others c.requires.apart
     c.row-2.result.now c.in_ok-useful.useful.items c.as_slice.result.now (IncludesOneOf (apart_from c.args.spent (clauses_at c.args.pool.now c.row.result.now)))
     c.row-2.ensures.lent c.as_slice.ensures.value c.in_ok-useful.ensures
 
 pub intern_with_unions-requires-clause-own : goal.intern_with_unions-requires-clause-own
 intern_with_unions-requires-clause-own c d i =
     c.requires.own d
-    (useful_there c.args.pool.now c.args.user c.args.spent c.args.row c.args.others c.clause_count.ensures.sound c.requires.row c.requires.others c.requires.apart
+    (useful_there c.args.pool.now c.args.user c.args.spent c.args.row c.args.others c.requires.pool c.requires.row c.requires.others c.requires.apart
     c.row-2.result.now c.in_ok-useful.useful.items c.as_slice.result.now (IncludesOneOf (apart_from c.args.spent (clauses_at c.args.pool.now c.row.result.now)))
     c.row-2.ensures.lent c.as_slice.ensures.value c.in_ok-useful.ensures d i)
 
@@ -38,6 +38,6 @@ returns-clause-ok c =
     ++ all_unions c.args.spent (row_at c.args.pool.now c.args.row) (clauses_at c.args.pool.now c.as_slice.result.now))))
     (λ id. row_at c.intern_with_unions.new.pool id ≡ in_row_order (substituted c.args.user c.args.spent (row_at c.args.pool.now c.args.row) (row_at c.args.pool.now c.args.others)))
     (λ id e. e
-    ∙ unions_minimal c.args.pool.now c.args.user c.args.spent c.args.row c.args.others c.clause_count.ensures.sound c.requires.row c.requires.others c.requires.apart
+    ∙ unions_minimal c.args.pool.now c.args.user c.args.spent c.args.row c.args.others c.requires.pool c.requires.row c.requires.others c.requires.apart
     c.row.result.now c.row-2.result.now c.in_ok-useful.useful.items c.as_slice.result.now c.row.ensures.lent c.row-2.ensures.lent c.as_slice.ensures.value c.in_ok-useful.ensures)
     c.intern_with_unions.ensures.ok

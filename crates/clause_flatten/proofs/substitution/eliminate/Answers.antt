@@ -1,9 +1,10 @@
 use Rattle.std.proofs.Common.{◌<◌, ◌∙◌, ap, length, subst, sym}
-use Rattle.clause_flatten.proofs.Replacing.{users_are, uses_length}
+use Rattle.row_book.proofs.Users.{length_uses}
+use Rattle.clause_flatten.proofs.Replacing.{users_are}
 use Rattle.clause_flatten.proofs.substitution.eliminate.Goals as goal
 
 pub packages-requires : goal.packages-requires
-packages-requires c = subst (λ z. c.args.gone < z) (sym (ap length c.requires.table ∙ uses_length c.args.pool.now c.args.rows.now)) c.requires.gone
+packages-requires c = subst (λ z. c.args.gone < z) (sym (ap length c.requires.table ∙ length_uses c.args.pool.now c.args.rows.now)) c.requires.gone
 
 pub eliminate_for-requires-clause-users : goal.eliminate_for-requires-clause-users
 eliminate_for-requires-clause-users c =

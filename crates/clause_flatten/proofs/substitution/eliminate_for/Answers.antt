@@ -1,7 +1,7 @@
 use Rattle.std.proofs.Common.{◌≡◌, ◌<◌, ◌+◌, ◌-◌, ℕ, ap, get_or, length, drop, subst, sym, arith}
 use Rattle.std.proofs.lemmas.List.{drop_all}
 use Rattle.clause_pool.proofs.Lists.{In_at}
-use Rattle.clause_flatten.proofs.Families.{kept_trans}
+use Rattle.clause_pool.proofs.Interned.{kept_along}
 use Rattle.clause_flatten.proofs.Midway.{Around, Midway, all_rows, below, each_row, midway_none, midway_refused, midway_step}
 use Rattle.clause_flatten.proofs.substitution.eliminate_for.Goals as goal
 
@@ -17,7 +17,7 @@ pub replace_row-requires-clause-user : goal.replace_row-requires-clause-user
 replace_row-requires-clause-user c =
     let l : c.loop-place.place - 1 < length c.args.users.now = omega arith in
     subst (λ z. get_or c.args.users.now (c.loop-place.place - 1) 0 < z) (sym c.loop-place.invariant.rows.size)
-    (below c.args.pool.now c.args.rows.now c.args.gone c.clause_count.ensures.sound c.requires.fit c.requires.tidy c.requires.gone c.args.users.now c.requires.users
+    (below c.args.pool.now c.args.rows.now c.args.gone c.requires.fit.is_pool c.requires.fit c.requires.tidy c.requires.gone c.args.users.now c.requires.users
     (get_or c.args.users.now (c.loop-place.place - 1) 0) (In_at c.args.users.now (c.loop-place.place - 1) 0 l))
 
 pub returns-in_err-replace_row-clause-each : goal.returns-in_err-replace_row-clause-each
@@ -35,14 +35,14 @@ returns-in_err-replace_row-clause-each c =
       others = c.replace_row.ensures.others;
       stay = c.replace_row.ensures.stay;
     } in
-    each_row c.args.pool.now c.args.rows.now c.args.gone c.clause_count.ensures.sound c.requires.fit c.requires.tidy c.requires.gone c.args.users.now c.requires.users
+    each_row c.args.pool.now c.args.rows.now c.args.gone c.requires.fit.is_pool c.requires.fit c.requires.tidy c.requires.gone c.args.users.now c.requires.users
     c.replace_row.new.pool c.replace_row.new.rows (i + 1)
-    (midway_refused c.args.pool.now c.args.rows.now c.args.gone c.clause_count.ensures.sound c.requires.fit c.requires.tidy c.requires.gone c.args.users.now c.requires.users
+    (midway_refused c.args.pool.now c.args.rows.now c.args.gone c.requires.fit.is_pool c.requires.fit c.requires.tidy c.requires.gone c.args.users.now c.requires.users
     i l c.loop-place.pool c.loop-place.rows half
     c.replace_row.new.pool c.replace_row.new.rows around c.in_err-replace_row.ensures.err)
 
 pub returns-in_err-replace_row-clause-kept : goal.returns-in_err-replace_row-clause-kept
-returns-in_err-replace_row-clause-kept c = kept_trans c.args.pool.now c.loop-place.pool c.replace_row.new.pool c.loop-place.invariant.rows.kept c.replace_row.ensures.kept
+returns-in_err-replace_row-clause-kept c = kept_along c.args.pool.now c.loop-place.pool c.replace_row.new.pool c.loop-place.invariant.rows.kept c.replace_row.ensures.kept
 
 pub loop-place-preserved : goal.loop-place-preserved
 loop-place-preserved c =
@@ -60,7 +60,7 @@ loop-place-preserved c =
       stay = c.replace_row.ensures.stay;
     } in
     record {
-      rows = midway_step c.args.pool.now c.args.rows.now c.args.gone c.clause_count.ensures.sound c.requires.fit c.requires.tidy c.requires.gone c.args.users.now c.requires.users
+      rows = midway_step c.args.pool.now c.args.rows.now c.args.gone c.requires.fit.is_pool c.requires.fit c.requires.tidy c.requires.gone c.args.users.now c.requires.users
           i l c.loop-place.pool c.loop-place.rows half
           c.replace_row.new.pool c.replace_row.new.rows around c.in_ok-replace_row.ensures.ok;
       table = c.replace_row.ensures.table;
@@ -69,10 +69,10 @@ loop-place-preserved c =
 pub returns-clause-ok : goal.returns-clause-ok
 returns-clause-ok c =
     let first : c.loop-place.place ≡ 0 = omega arith in
-    all_rows c.args.pool.now c.args.rows.now c.args.gone c.clause_count.ensures.sound c.requires.fit c.requires.tidy c.requires.gone c.args.users.now c.requires.users
+    all_rows c.args.pool.now c.args.rows.now c.args.gone c.requires.fit.is_pool c.requires.fit c.requires.tidy c.requires.gone c.args.users.now c.requires.users
     c.loop-place.pool c.loop-place.rows c.loop-place.place (ap (λ n. drop n c.args.users.now) first) c.loop-place.invariant.rows
 
 pub returns-clause-each : goal.returns-clause-each
 returns-clause-each c =
-    each_row c.args.pool.now c.args.rows.now c.args.gone c.clause_count.ensures.sound c.requires.fit c.requires.tidy c.requires.gone c.args.users.now c.requires.users
+    each_row c.args.pool.now c.args.rows.now c.args.gone c.requires.fit.is_pool c.requires.fit c.requires.tidy c.requires.gone c.args.users.now c.requires.users
     c.loop-place.pool c.loop-place.rows c.loop-place.place c.loop-place.invariant.rows

@@ -4,5 +4,5 @@ use Rattle.clause_flatten.proofs.taking_out.clauses_in.Goals as goal
 
 pub row-requires : goal.row-requires
 row-requires c =
-    c.requires.fit.of_pool c.index-rows-package.result
-    (item_in c.args.rows.now c.args.«package» c.index-rows-package.result (omega (arith, c.requires.there)) c.index-rows-package.is)
+    c.requires.fit.of_pool c.index-rows-number.result
+    (item_in c.args.rows.now c.args.number c.index-rows-number.result (omega (arith, c.requires.there)) c.index-rows-number.is)

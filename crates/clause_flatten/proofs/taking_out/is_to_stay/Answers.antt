@@ -10,7 +10,7 @@ returns c =
     let hold : c.args.step.hold ≡ true =
     true_from_ne_false c.args.step.hold (λ f. both_ways (not c.args.step.hold) c.if-not-step.false (not_from_false c.args.step.hold f)) in
     IfOk-weaker c.would_pass.result
-    (λ passes. passes ≡ table_passes c.args.step.limit (table_without c.args.step.«package» (map (row_at c.args.pool.now) c.args.rows.now)))
-    (λ stays. stays ≡ (c.args.step.hold && table_passes c.args.step.limit (table_without c.args.step.«package» (map (row_at c.args.pool.now) c.args.rows.now))))
-    (λ stays e. e ∙ ap (λ b. b && table_passes c.args.step.limit (table_without c.args.step.«package» (map (row_at c.args.pool.now) c.args.rows.now))) (sym hold))
+    (λ passes. passes ≡ table_passes c.args.step.limit (table_without c.args.step.next (map (row_at c.args.pool.now) c.args.rows.now)))
+    (λ stays. stays ≡ (c.args.step.hold && table_passes c.args.step.limit (table_without c.args.step.next (map (row_at c.args.pool.now) c.args.rows.now))))
+    (λ stays e. e ∙ ap (λ b. b && table_passes c.args.step.limit (table_without c.args.step.next (map (row_at c.args.pool.now) c.args.rows.now))) (sym hold))
     c.would_pass.ensures

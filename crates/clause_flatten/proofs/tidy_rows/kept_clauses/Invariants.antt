@@ -5,4 +5,4 @@ use Rattle.clause_flatten.specs.TidyRows.{stays}
 use Rattle.clause_flatten.proofs.tidy_rows.kept_clauses.Given as goal
 
 abbrev pub invariant-loop-id : goal.invariant-loop-id
-invariant-loop-id l = l.kept.items ≡ filter (λ id. stays l.«package» (clauses_at l.pool l.row) (clause_at l.pool id)) (take l.id-index l.row)
+invariant-loop-id l = l.kept.items ≡ filter (λ id. stays l.number (clauses_at l.pool l.row) (clause_at l.pool id)) (take l.id-index l.row)

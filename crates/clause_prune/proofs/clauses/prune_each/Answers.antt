@@ -1,12 +1,10 @@
-use Rattle.std.proofs.Common.{◌≡◌, ◌<◌, ◌≤◌, ◌+◌, ◌∷◌, ◌++◌, ◌∙◌, [], ℕ, ap, ap₂, append-nil, arith, drop, drop-cons, length, map, refl, subst, suc, sym, true, List}
+use Rattle.std.proofs.Common.{◌≡◌, ◌<◌, ◌≤◌, ◌+◌, ◌∷◌, ◌++◌, ◌∙◌, [], ℕ, ap, ap₂, append-nil, arith, drop, drop-cons, length, map, refl, subst, suc, sym}
 use Rattle.std.proofs.lemmas.List.{drop_all}
 use Rattle.clause_pool.specs.Interned.{clause_at, clauses_at}
-use Rattle.row_book.specs.Sets.{In, has}
-use Rattle.row_book.specs.Uses.{some_holds}
 use Rattle.row_book.specs.Pruning.{clauses_steps, prune_clauses}
 use Rattle.row_book.specs.Rounds.{IdleStep}
 use Rattle.row_book.specs.Trail.{trail_meaning}
-use Rattle.row_book.proofs.Lists.{In_has, In_map, In_map_cases, any_cases, any_from, filter_cases, filter_from, has_In, item_in}
+use Rattle.row_book.proofs.Lists.{In_map, item_in}
 use Rattle.clause_prune.specs.Tests.{with_ids}
 use Rattle.clause_prune.proofs.Files.{asks_left}
 use Rattle.clause_prune.proofs.Left.{Pruning, pruning_more}
@@ -14,7 +12,7 @@ use Rattle.clause_prune.proofs.clauses.prune_each.Goals as goal
 
 pub loop-id-init : goal.loop-id-init
 loop-id-init c =
-    subst (λ z. Pruning c.args.pool.now c.args.rows.now c.args.«package» c.args.ids.now z c.args.table.now (trail_meaning c.args.pool.now c.args.idle.now) (trail_meaning c.args.pool.now c.args.idle.now) c.args.ids.now)
+    subst (λ z. Pruning c.args.pool.now c.args.rows.now c.args.number c.args.ids.now z c.args.table.now (trail_meaning c.args.pool.now c.args.idle.now) (trail_meaning c.args.pool.now c.args.idle.now) c.args.ids.now)
     (sym c.in_ok-left.ensures) (record { clauses = refl; part = λ x i. i; order = λ o. o; idle = refl })
 
 pub prune_one-requires-clause-clause : goal.prune_one-requires-clause-clause
@@ -33,7 +31,7 @@ prune_one-requires-clause-own c =
 -- whoever serves in what is left did so before, and is asked
 pub prune_one-requires-clause-asks : goal.prune_one-requires-clause-asks
 prune_one-requires-clause-asks c =
-    asks_left c.args.pool.now c.args.rows.now c.args.«package» c.args.ids.now c.loop-id.left c.in_ok-filed.filed (clause_at c.args.pool.now c.id-item.result) c.requires.inside c.loop-id.invariant.part
+    asks_left c.args.pool.now c.args.rows.now c.args.number c.args.ids.now c.loop-id.left c.in_ok-filed.filed (clause_at c.args.pool.now c.id-item.result) c.requires.inside c.loop-id.invariant.part
     (c.in_ok-filed.ensures.asks (clause_at c.args.pool.now c.id-item.result)
     (In_map (clause_at c.args.pool.now) c.args.ids.now c.id-item.result (item_in c.args.ids.now c.loop-id.id-index c.id-item.result (omega arith) c.id-item.is)))
 
@@ -44,15 +42,15 @@ loop-id-preserved c =
     let l : i < length c.args.ids.now = omega arith in
     let d : drop i c.args.ids.now ≡ id ∷ drop (i + 1) c.args.ids.now =
     drop-cons c.args.ids.now i id l ∙ ap₂ (λ (x : ℕ) (k : ℕ). x ∷ drop k c.args.ids.now) (sym c.id-item.is) (let z : suc i ≡ i + 1 = omega arith in z) in
-    pruning_more c.args.pool.now c.args.rows.now c.args.«package» c.args.ids.now c.loop-id.left c.prune_one.new.left c.args.table.now (trail_meaning c.args.pool.now c.args.idle.now) (trail_meaning c.args.pool.now c.loop-id.idle) (trail_meaning c.args.pool.now c.prune_one.new.idle)
+    pruning_more c.args.pool.now c.args.rows.now c.args.number c.args.ids.now c.loop-id.left c.prune_one.new.left c.args.table.now (trail_meaning c.args.pool.now c.args.idle.now) (trail_meaning c.args.pool.now c.loop-id.idle) (trail_meaning c.args.pool.now c.prune_one.new.idle)
     id (drop (i + 1) c.args.ids.now)
-    (subst (λ z. Pruning c.args.pool.now c.args.rows.now c.args.«package» c.args.ids.now c.loop-id.left c.args.table.now (trail_meaning c.args.pool.now c.args.idle.now) (trail_meaning c.args.pool.now c.loop-id.idle) z) d c.loop-id.invariant)
+    (subst (λ z. Pruning c.args.pool.now c.args.rows.now c.args.number c.args.ids.now c.loop-id.left c.args.table.now (trail_meaning c.args.pool.now c.args.idle.now) (trail_meaning c.args.pool.now c.loop-id.idle) z) d c.loop-id.invariant)
     c.in_ok-prune_one.ensures.left c.in_ok-prune_one.ensures.part (λ _. c.in_ok-prune_one.ensures.order) c.in_ok-prune_one.ensures.idle
 
 pub returns-clause-left : goal.returns-clause-left
 returns-clause-left c =
     let e : drop c.loop-id.id-index c.args.ids.now ≡ [] = drop_all c.loop-id.id-index c.args.ids.now (let z : length c.args.ids.now ≤ c.loop-id.id-index = omega arith in z) in
-    ap (λ z. prune_clauses (with_ids c.args.pool.now c.args.rows.now c.args.«package» c.loop-id.left c.args.table.now) c.args.«package» (clauses_at c.args.pool.now z)) (sym e) ∙ c.loop-id.invariant.clauses
+    ap (λ z. prune_clauses (with_ids c.args.pool.now c.args.rows.now c.args.number c.loop-id.left c.args.table.now) c.args.number (clauses_at c.args.pool.now z)) (sym e) ∙ c.loop-id.invariant.clauses
 
 pub returns-clause-part : goal.returns-clause-part
 returns-clause-part c = c.loop-id.invariant.part
@@ -64,5 +62,5 @@ pub returns-clause-idle : goal.returns-clause-idle
 returns-clause-idle c =
     let e : drop c.loop-id.id-index c.args.ids.now ≡ [] = drop_all c.loop-id.id-index c.args.ids.now (let z : length c.args.ids.now ≤ c.loop-id.id-index = omega arith in z) in
     sym (append-nil (trail_meaning c.args.pool.now c.loop-id.idle))
-    ∙ ap (λ z. trail_meaning c.args.pool.now c.loop-id.idle ++ map IdleStep (clauses_steps (with_ids c.args.pool.now c.args.rows.now c.args.«package» c.loop-id.left c.args.table.now) c.args.«package» (clauses_at c.args.pool.now z))) (sym e)
+    ∙ ap (λ z. trail_meaning c.args.pool.now c.loop-id.idle ++ map IdleStep (clauses_steps (with_ids c.args.pool.now c.args.rows.now c.args.number c.loop-id.left c.args.table.now) c.args.number (clauses_at c.args.pool.now z))) (sym e)
     ∙ c.loop-id.invariant.idle

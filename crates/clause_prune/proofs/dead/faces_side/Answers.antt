@@ -15,7 +15,7 @@ has_side_within-faces-requires-clause-numbers c =
 -- what the list conflicts with as a whole lies within the conflicts that its members have in common
 pub returns-in_ok-common-in-Some : goal.returns-in_ok-common-in-Some
 returns-in_ok-common-in-Some c =
-    let p : ℕ = c.args.«package» in
+    let p : ℕ = c.args.number in
     let cs : List (List ℕ) = clauses_at c.args.pool.now c.args.row.now in
     let same : c.as_slice.result.now ≡ common_to c.args.table.now c.in-Some.first.now c.in-Some.others.now = c.as_slice.ensures.value ∙ c.in_ok-common-in-Some.ensures in
     c.has_side_within-faces.ensures

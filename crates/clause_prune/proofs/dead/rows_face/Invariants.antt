@@ -7,4 +7,4 @@ use Rattle.clause_prune.proofs.dead.rows_face.Given as goal
 -- no clause so far faces a side
 abbrev pub invariant-loop-id : goal.invariant-loop-id
 invariant-loop-id l = (k : ℕ) → k < l.id-index →
-    list_any (all_against (against_in l.table) (clause_at l.pool (get_or l.row k 0))) ((l.«package» ∷ []) ∷ clauses_at l.pool l.row) ≡ false
+    list_any (all_against (against_in l.table) (clause_at l.pool (get_or l.row k 0))) ((l.number ∷ []) ∷ clauses_at l.pool l.row) ≡ false

@@ -1,5 +1,5 @@
-use Rattle.std.proofs.Common.{ℕ, List, [], ◌<◌, get_or, length, subst, sym, arith}
-use Rattle.std.proofs.lemmas.List.{get_or_default, take_all}
+use Rattle.std.proofs.Common.{ℕ, List, [], get_or, length, subst, sym, arith}
+use Rattle.std.proofs.lemmas.List.{get_or_default}
 use Rattle.row_book.specs.Sets.{In}
 use Rattle.row_book.specs.Repository.{clauses_of}
 use Rattle.row_book.proofs.Lists.{In_at}
@@ -19,7 +19,7 @@ loop-member-preserved c =
     let new : Filed = filed_in c.file_row.new.always.items c.file_row.new.lists in
     let t : Takes x mid new = c.in_ok-file_row.ensures.takes in
     record {
-      filed = more_items (λ n. (e : List ℕ) → In e (clauses_of (with_ids c.args.pool.now c.args.rows.now c.args.«package» c.args.left.now []) n) → IsFiled c.args.members.now new e n)
+      filed = more_items (λ n. (e : List ℕ) → In e (clauses_of (with_ids c.args.pool.now c.args.rows.now c.args.number c.args.left.now []) n) → IsFiled c.args.members.now new e n)
           c.args.members.now k x c.loop-member-test.true (get_or_default c.args.members.now k 0 x c.loop-member-test.true)
           (λ n i e j. filed_still c.args.members.now x mid new t e n (c.loop-member.invariant.filed n i e j))
           (λ e j. c.in_ok-file_row.ensures.filed e (subst (λ cs. In e cs) (sym c.clauses_of-row.ensures.is) j));

@@ -7,6 +7,6 @@ use Rattle.clause_prune.proofs.filing.file_each.Given as goal
 
 abbrev pub invariant-loop-member : goal.invariant-loop-member
 invariant-loop-member l = record {
-  filed : (n : ℕ) → In n (take l.member-index l.members) → (e : List ℕ) → In e (clauses_of (with_ids l.pool l.rows l.«package» l.left []) n) → IsFiled l.members (filed_in l.always.items l.lists) e n;
+  filed : (n : ℕ) → In n (take l.member-index l.members) → (e : List ℕ) → In e (clauses_of (with_ids l.pool l.rows l.number l.left []) n) → IsFiled l.members (filed_in l.always.items l.lists) e n;
   below : FiledBelow (length l.rows) (filed_in l.fn.always.items l.fn.lists) → FiledBelow (length l.rows) (filed_in l.always.items l.lists);
 }

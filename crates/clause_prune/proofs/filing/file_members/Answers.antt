@@ -20,7 +20,7 @@ pub returns-clause-asks : goal.returns-clause-asks
 returns-clause-asks c = λ d i x j n k h.
     let member : (e : List ℕ) → In e (clauses_at c.args.pool.now c.args.ids.now) → (m : ℕ) → In m e → In m c.as_slice.result.now =
     (λ e a m b. subst (λ z. In m z) (sym c.as_slice.ensures.value) (c.in_ok-members.ensures.all m (any_from (λ y. has y m) (clauses_at c.args.pool.now c.args.ids.now) e a (In_has b)))) in
-    server_asked (with_ids c.args.pool.now c.args.rows.now c.args.«package» c.args.ids.now []) c.as_slice.result.now (filed_in c.file_each.new.always.items c.file_each.new.lists) d n
+    server_asked (with_ids c.args.pool.now c.args.rows.now c.args.number c.args.ids.now []) c.as_slice.result.now (filed_in c.file_each.new.always.items c.file_each.new.lists) d n
     (c.in_ok-file_each.ensures.filed n (member x j n k)) (member d i) h
 
 pub returns-clause-below : goal.returns-clause-below

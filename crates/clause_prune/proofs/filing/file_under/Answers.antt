@@ -4,6 +4,6 @@ use Rattle.row_book.specs.Sets.{has}
 use Rattle.row_book.proofs.Lists.{In_has}
 use Rattle.clause_prune.proofs.filing.file_under.Goals as goal
 
-pub returns-then-not-holds_number-clause-filed : goal.returns-then-not-holds_number-clause-filed
-returns-then-not-holds_number-clause-filed c = λ i.
-    absurd (both_ways (has c.args.members.now c.args.number) (sym c.holds_number.ensures ∙ c.if-not-holds_number.true) (In_has i))
+pub returns-then-not-holds_ascending-clause-filed : goal.returns-then-not-holds_ascending-clause-filed
+returns-then-not-holds_ascending-clause-filed c = λ i.
+    absurd (both_ways (has c.args.members.now c.args.number) (sym c.holds_ascending.ensures ∙ c.if-not-holds_ascending.true) (In_has i))

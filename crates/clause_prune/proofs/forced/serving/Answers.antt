@@ -17,7 +17,7 @@ serves-requires-clause-other c = c.requires.asked _ (In_at c.args.asked.now c.lo
 
 pub loop-other-preserved : goal.loop-other-preserved
 loop-other-preserved c =
-    let test : ℕ → Bool = serves (with_ids c.args.pool.now c.args.rows.now c.args.«package» c.args.left.now []) c.args.clause.now in
+    let test : ℕ → Bool = serves (with_ids c.args.pool.now c.args.rows.now c.args.number c.args.left.now []) c.args.clause.now in
     let k : ℕ = c.loop-other.other-index in
     let e : get_or c.args.asked.now k 0 ≡ get_or c.args.asked.now k (get_or c.args.asked.now k 0) = sym (read_zero c.args.asked.now k (get_or c.args.asked.now k 0) c.loop-other-test.true) in
     elim c.if-serves.branch [
@@ -33,7 +33,7 @@ loop-other-preserved c =
 
 pub returns : goal.returns
 returns c =
-    let test : ℕ → Bool = serves (with_ids c.args.pool.now c.args.rows.now c.args.«package» c.args.left.now []) c.args.clause.now in
+    let test : ℕ → Bool = serves (with_ids c.args.pool.now c.args.rows.now c.args.number c.args.left.now []) c.args.clause.now in
     gathered (λ n. has c.args.clause.now n || has (filter test c.args.asked.now) n) c.loop-other.serving.items c.sort_unstable.new.self.items c.dedup.new.self.items
     (λ m. sym (list_any-IsPermutation (λ k. eqb m k) c.loop-other.serving.items c.sort_unstable.new.self.items c.sort_unstable.ensures.permutation))
     (IsNonDecreasingBy-from_sort (λ x. x) c.sort_unstable.new.self.items c.sort_unstable.ensures.sorted) c.dedup.ensures.filtered

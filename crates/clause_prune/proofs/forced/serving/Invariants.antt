@@ -4,4 +4,4 @@ use Rattle.clause_prune.specs.Tests.{with_ids}
 use Rattle.clause_prune.proofs.forced.serving.Given as goal
 
 abbrev pub invariant-loop-other : goal.invariant-loop-other
-invariant-loop-other l = l.serving.items ≡ l.clause ++ filter (serves (with_ids l.pool l.rows l.«package» l.left []) l.clause) (take l.other-index l.asked)
+invariant-loop-other l = l.serving.items ≡ l.clause ++ filter (serves (with_ids l.pool l.rows l.number l.left []) l.clause) (take l.other-index l.asked)

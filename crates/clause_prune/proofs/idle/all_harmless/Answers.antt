@@ -6,9 +6,9 @@ use Rattle.clause_prune.proofs.idle.all_harmless.Goals as goal
 
 pub returns-then-not-is_harmless : goal.returns-then-not-is_harmless
 returns-then-not-is_harmless c =
-    sym (all_fails (harmless_in c.args.pool.now c.args.table.now c.args.«package» c.args.left.now (clause_at c.args.pool.now c.args.clause)) c.args.conflicting.now c.loop-other.other-index (omega arith)
+    sym (all_fails (harmless_in c.args.pool.now c.args.table.now c.args.number c.args.left.now (clause_at c.args.pool.now c.args.clause)) c.args.conflicting.now c.loop-other.other-index (omega arith)
     (sym c.is_harmless.ensures ∙ c.if-not-is_harmless.true))
 
 pub returns : goal.returns
 returns c =
-    sym (all_pass (harmless_in c.args.pool.now c.args.table.now c.args.«package» c.args.left.now (clause_at c.args.pool.now c.args.clause)) c.args.conflicting.now (λ k l. c.loop-other.invariant k (omega arith)))
+    sym (all_pass (harmless_in c.args.pool.now c.args.table.now c.args.number c.args.left.now (clause_at c.args.pool.now c.args.clause)) c.args.conflicting.now (λ k l. c.loop-other.invariant k (omega arith)))

@@ -21,7 +21,7 @@ pub returns-then-is_idle : goal.returns-then-is_idle
 returns-then-is_idle c =
     let d = clause_at c.args.pool.now c.args.clause in
     let i : ℕ = c.loop-member.member-index in
-    let test = is_idle (with_ids c.args.pool.now c.args.rows.now c.args.«package» c.args.left.now c.args.table.now) c.args.«package» d in
+    let test = is_idle (with_ids c.args.pool.now c.args.rows.now c.args.number c.args.left.now c.args.table.now) c.args.number d in
     let l : i < length c.slice-member-items.result.now = omega arith in
     ap (λ z. Some (get_or z i 0)) c.slice-member-items.ensures.lent
     ∙ find_first test d i (subst (λ z. i < length z) c.slice-member-items.ensures.lent l) c.loop-member.invariant
@@ -31,4 +31,4 @@ pub returns : goal.returns
 returns c =
     let d = clause_at c.args.pool.now c.args.clause in
     let e : length d ≡ length c.slice-member-items.result.now = ap length (sym c.slice-member-items.ensures.lent) in
-    find_nothing (is_idle (with_ids c.args.pool.now c.args.rows.now c.args.«package» c.args.left.now c.args.table.now) c.args.«package» d) d (λ k l. c.loop-member.invariant k (omega (arith, e)))
+    find_nothing (is_idle (with_ids c.args.pool.now c.args.rows.now c.args.number c.args.left.now c.args.table.now) c.args.number d) d (λ k l. c.loop-member.invariant k (omega (arith, e)))

@@ -14,7 +14,7 @@ use Rattle.clause_prune.proofs.pruning.prune.Goals as goal
 -- src/pruning.rt:110:5
 pub prune_rows-requires-clause-tidy : goal.prune_rows-requires-clause-tidy
 prune_rows-requires-clause-tidy c =
-    start_tidy c.args.pool.now c.args.book.now c.as_mut_slice.result.now c.as_slice-table.result.now c.clause_count.ensures.sound c.requires.sound c.requires.tidy
+    start_tidy c.args.pool.now c.args.book.now c.as_mut_slice.result.now c.as_slice-table.result.now c.requires.sound.rows.is_pool c.requires.sound c.requires.tidy
     (c.as_mut_slice.ensures.value ∙ c.in_ok-rows.ensures.items ∙ c.as_slice.ensures) c.as_slice-table.ensures
 
 whole : (c : goal.After-result-1) → c.of.result ≡ c.prune_rows.new.rows
@@ -32,10 +32,10 @@ returns-clause-pruned c =
 -- src/pruning.rt:97:1
 pub returns-clause-sound : goal.returns-clause-sound
 returns-clause-sound c =
-    pruned_sound c.args.pool.now c.prune_rows.new.pool c.args.book.now _ c.prune_rows.new.rows c.clause_count.ensures.sound c.requires.sound c.requires.tidy (whole c) c.in_ok-prune_rows.ensures.of_pool
+    pruned_sound c.args.pool.now c.prune_rows.new.pool c.args.book.now _ c.prune_rows.new.rows c.requires.sound.rows.is_pool (c.prune_rows.ensures.kept.sound c.requires.sound.rows.is_pool) c.requires.sound c.requires.tidy (whole c) c.in_ok-prune_rows.ensures.of_pool
     (returns-clause-pruned c)
 
 pub returns-clause-keeps : goal.returns-clause-keeps
 returns-clause-keeps c = λ S.
     subst (λ F. Coinst (repository_of c.args.pool.now c.args.book.now) S ↔ Coinst F S) (sym (returns-clause-pruned c))
-    (prune_keeps_lem (repository_of c.args.pool.now c.args.book.now) S (tidy_repository c.args.pool.now c.args.book.now c.clause_count.ensures.sound c.requires.sound c.requires.tidy))
+    (prune_keeps_lem (repository_of c.args.pool.now c.args.book.now) S (tidy_repository c.args.pool.now c.args.book.now c.requires.sound.rows.is_pool c.requires.sound c.requires.tidy))

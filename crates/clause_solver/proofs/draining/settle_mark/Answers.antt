@@ -9,16 +9,23 @@ use Rattle.clause_solver.proofs.Running.{runs_more, runs_then}
 use Rattle.clause_solver.proofs.Drains.{whole_goals, whole_own, whole_conflicts, mark_negative, mark_positive, item_from, refuted_more}
 use Rattle.clause_solver.proofs.draining.settle_mark.Goals as goal
 
+pub settle_row-requires-clause-row : goal.settle_row-requires-clause-row
+settle_row-requires-clause-row c =
+    let same_place = c.place.ensures in
+    let lt : c.place.result < length c.args.uses.now = search arith in
+    let row = item_from c.args.uses.now c.place.result c.place.result [] c.as_slice.result.now c.index-uses-place.result lt refl c.as_slice.ensures c.index-uses-place.is in
+    rw row (c.requires.engine.table.within c.place.result [] lt)
+
 pub returns-then-branch-clause-runs : goal.returns-then-branch-clause-runs
 returns-then-branch-clause-runs c =
-    runs_more c.args.goals.now (whole_form c.args.goals.now c.args.own.now c.args.conflicts.now) c.args.marks.now.1 c.settle_all.new.marks.1 (whole_goals c.args.goals.now c.args.own.now c.args.conflicts.now) c.in_ok-settle_all.ensures.runs
+    runs_more c.args.goals.now (whole_form c.args.goals.now c.args.own.now c.args.conflicts.now) c.args.marks.now.1 c.settle_goals.new.marks.1 (whole_goals c.args.goals.now c.args.own.now c.args.conflicts.now) c.in_ok-settle_goals.ensures.runs
 
 pub returns-then-branch-2-clause-runs : goal.returns-then-branch-2-clause-runs
 returns-then-branch-2-clause-runs c =
     let F = whole_form c.args.goals.now c.args.own.now c.args.conflicts.now in
-    runs_then F c.args.marks.now.1 c.settle_all.new.marks.1 c.settle_row.new.marks.1
-    (runs_more c.args.goals.now F c.args.marks.now.1 c.settle_all.new.marks.1 (whole_goals c.args.goals.now c.args.own.now c.args.conflicts.now) c.in_ok-settle_all.ensures.runs)
-    (runs_more c.args.own.now F c.settle_all.new.marks.1 c.settle_row.new.marks.1 (whole_own c.args.goals.now c.args.own.now c.args.conflicts.now) c.in_ok-settle_row.ensures.runs)
+    runs_then F c.args.marks.now.1 c.settle_goals.new.marks.1 c.settle_row.new.marks.1
+    (runs_more c.args.goals.now F c.args.marks.now.1 c.settle_goals.new.marks.1 (whole_goals c.args.goals.now c.args.own.now c.args.conflicts.now) c.in_ok-settle_goals.ensures.runs)
+    (runs_more c.args.own.now F c.settle_goals.new.marks.1 c.settle_row.new.marks.1 (whole_own c.args.goals.now c.args.own.now c.args.conflicts.now) c.in_ok-settle_row.ensures.runs)
 
 pub returns-then-branch-2-clause-refuted : goal.returns-then-branch-2-clause-refuted
 returns-then-branch-2-clause-refuted c =
@@ -27,17 +34,17 @@ returns-then-branch-2-clause-refuted c =
 pub returns-then-not-l-clause-runs : goal.returns-then-not-l-clause-runs
 returns-then-not-l-clause-runs c =
     let F = whole_form c.args.goals.now c.args.own.now c.args.conflicts.now in
-    runs_then F c.args.marks.now.1 c.settle_all.new.marks.1 c.settle_row.new.marks.1
-    (runs_more c.args.goals.now F c.args.marks.now.1 c.settle_all.new.marks.1 (whole_goals c.args.goals.now c.args.own.now c.args.conflicts.now) c.in_ok-settle_all.ensures.runs)
-    (runs_more c.args.own.now F c.settle_all.new.marks.1 c.settle_row.new.marks.1 (whole_own c.args.goals.now c.args.own.now c.args.conflicts.now) c.in_ok-settle_row.ensures.runs)
+    runs_then F c.args.marks.now.1 c.settle_goals.new.marks.1 c.settle_row.new.marks.1
+    (runs_more c.args.goals.now F c.args.marks.now.1 c.settle_goals.new.marks.1 (whole_goals c.args.goals.now c.args.own.now c.args.conflicts.now) c.in_ok-settle_goals.ensures.runs)
+    (runs_more c.args.own.now F c.settle_goals.new.marks.1 c.settle_row.new.marks.1 (whole_own c.args.goals.now c.args.own.now c.args.conflicts.now) c.in_ok-settle_row.ensures.runs)
 
 pub returns-then-not-l-clause-waits : goal.returns-then-not-l-clause-waits
 returns-then-not-l-clause-waits c =
     let same_place = c.place.ensures in
     let lt : c.place.result < length c.args.uses.now = search arith in
     let row : c.as_slice.result.now ≡ get_or c.args.uses.now (flag_place c.args.l) [] = item_from c.args.uses.now c.place.result (flag_place c.args.l) [] c.as_slice.result.now c.index-uses-place.result lt c.place.ensures c.as_slice.ensures c.index-uses-place.is in
-    mark_negative c.args.marks.now.0 c.args.goals.now c.args.own.now c.args.uses.now c.args.conflicts.now c.args.l c.args.marks.now.1 c.settle_all.new.marks.1 c.settle_row.new.marks.1 c.as_slice.result.now c.requires.engine (not-true c.args.l.positive c.if-not-l.true)
-    row c.in_ok-settle_all.ensures.runs (rw c.if-branch.false at c.in_ok-settle_all.ensures.waits) c.in_ok-settle_row.ensures.runs (rw c.if-branch-2.false at c.in_ok-settle_row.ensures.waits)
+    mark_negative c.args.marks.now.0 c.args.goals.now c.args.own.now c.args.uses.now c.args.conflicts.now c.args.l c.args.marks.now.1 c.settle_goals.new.marks.1 c.settle_row.new.marks.1 c.as_slice.result.now c.requires.engine (not-true c.args.l.positive c.if-not-l.true)
+    row c.in_ok-settle_goals.ensures.runs (rw c.if-branch.false at c.in_ok-settle_goals.ensures.waits) c.in_ok-settle_row.ensures.runs (rw c.if-branch-2.false at c.in_ok-settle_row.ensures.waits)
 
 pub returns-then-branch-3-clause-runs : goal.returns-then-branch-3-clause-runs
 returns-then-branch-3-clause-runs c =
@@ -45,9 +52,9 @@ returns-then-branch-3-clause-runs c =
     let lt : c.args.l.class < length c.args.conflicts.now = search arith in
     let others : c.as_slice-2.result.now ≡ get_or c.args.conflicts.now c.args.l.class [] = item_from c.args.conflicts.now c.args.l.class c.args.l.class [] c.as_slice-2.result.now c.index-conflicts-l.result lt refl c.as_slice-2.ensures c.index-conflicts-l.is in
     runs_then F c.args.marks.now.1 c.settle_row.new.marks.1 c.settle_conflicts.new.marks.1
-    (runs_then F c.args.marks.now.1 c.settle_all.new.marks.1 c.settle_row.new.marks.1
-    (runs_more c.args.goals.now F c.args.marks.now.1 c.settle_all.new.marks.1 (whole_goals c.args.goals.now c.args.own.now c.args.conflicts.now) c.in_ok-settle_all.ensures.runs)
-    (runs_more c.args.own.now F c.settle_all.new.marks.1 c.settle_row.new.marks.1 (whole_own c.args.goals.now c.args.own.now c.args.conflicts.now) c.in_ok-settle_row.ensures.runs))
+    (runs_then F c.args.marks.now.1 c.settle_goals.new.marks.1 c.settle_row.new.marks.1
+    (runs_more c.args.goals.now F c.args.marks.now.1 c.settle_goals.new.marks.1 (whole_goals c.args.goals.now c.args.own.now c.args.conflicts.now) c.in_ok-settle_goals.ensures.runs)
+    (runs_more c.args.own.now F c.settle_goals.new.marks.1 c.settle_row.new.marks.1 (whole_own c.args.goals.now c.args.own.now c.args.conflicts.now) c.in_ok-settle_row.ensures.runs))
     (runs_more (map (conflict_sentence c.args.l.class) (get_or c.args.conflicts.now c.args.l.class [])) F c.settle_row.new.marks.1 c.settle_conflicts.new.marks.1 (whole_conflicts c.args.goals.now c.args.own.now c.args.conflicts.now c.args.l.class) (rw others at c.in_ok-settle_conflicts.ensures.runs))
 
 pub returns-then-branch-3-clause-refuted : goal.returns-then-branch-3-clause-refuted
@@ -63,9 +70,9 @@ returns-clause-runs c =
     let lt : c.args.l.class < length c.args.conflicts.now = search arith in
     let others : c.as_slice-2.result.now ≡ get_or c.args.conflicts.now c.args.l.class [] = item_from c.args.conflicts.now c.args.l.class c.args.l.class [] c.as_slice-2.result.now c.index-conflicts-l.result lt refl c.as_slice-2.ensures c.index-conflicts-l.is in
     runs_then F c.args.marks.now.1 c.settle_row.new.marks.1 c.settle_conflicts.new.marks.1
-    (runs_then F c.args.marks.now.1 c.settle_all.new.marks.1 c.settle_row.new.marks.1
-    (runs_more c.args.goals.now F c.args.marks.now.1 c.settle_all.new.marks.1 (whole_goals c.args.goals.now c.args.own.now c.args.conflicts.now) c.in_ok-settle_all.ensures.runs)
-    (runs_more c.args.own.now F c.settle_all.new.marks.1 c.settle_row.new.marks.1 (whole_own c.args.goals.now c.args.own.now c.args.conflicts.now) c.in_ok-settle_row.ensures.runs))
+    (runs_then F c.args.marks.now.1 c.settle_goals.new.marks.1 c.settle_row.new.marks.1
+    (runs_more c.args.goals.now F c.args.marks.now.1 c.settle_goals.new.marks.1 (whole_goals c.args.goals.now c.args.own.now c.args.conflicts.now) c.in_ok-settle_goals.ensures.runs)
+    (runs_more c.args.own.now F c.settle_goals.new.marks.1 c.settle_row.new.marks.1 (whole_own c.args.goals.now c.args.own.now c.args.conflicts.now) c.in_ok-settle_row.ensures.runs))
     (runs_more (map (conflict_sentence c.args.l.class) (get_or c.args.conflicts.now c.args.l.class [])) F c.settle_row.new.marks.1 c.settle_conflicts.new.marks.1 (whole_conflicts c.args.goals.now c.args.own.now c.args.conflicts.now c.args.l.class) (rw others at c.in_ok-settle_conflicts.ensures.runs))
 
 pub returns-clause-waits : goal.returns-clause-waits
@@ -75,6 +82,6 @@ returns-clause-waits c =
     let row : c.as_slice.result.now ≡ get_or c.args.uses.now (flag_place c.args.l) [] = item_from c.args.uses.now c.place.result (flag_place c.args.l) [] c.as_slice.result.now c.index-uses-place.result lt c.place.ensures c.as_slice.ensures c.index-uses-place.is in
     let lt' : c.args.l.class < length c.args.conflicts.now = search arith in
     let others : c.as_slice-2.result.now ≡ get_or c.args.conflicts.now c.args.l.class [] = item_from c.args.conflicts.now c.args.l.class c.args.l.class [] c.as_slice-2.result.now c.index-conflicts-l.result lt' refl c.as_slice-2.ensures c.index-conflicts-l.is in
-    mark_positive c.args.marks.now.0 c.args.goals.now c.args.own.now c.args.uses.now c.args.conflicts.now c.args.l c.args.marks.now.1 c.settle_all.new.marks.1 c.settle_row.new.marks.1 c.settle_conflicts.new.marks.1 c.as_slice.result.now c.as_slice-2.result.now c.requires.engine
-    row others c.in_ok-settle_all.ensures.runs (rw c.if-branch.false at c.in_ok-settle_all.ensures.waits) c.in_ok-settle_row.ensures.runs (rw c.if-branch-2.false at c.in_ok-settle_row.ensures.waits)
+    mark_positive c.args.marks.now.0 c.args.goals.now c.args.own.now c.args.uses.now c.args.conflicts.now c.args.l c.args.marks.now.1 c.settle_goals.new.marks.1 c.settle_row.new.marks.1 c.settle_conflicts.new.marks.1 c.as_slice.result.now c.as_slice-2.result.now c.requires.engine
+    row others c.in_ok-settle_goals.ensures.runs (rw c.if-branch.false at c.in_ok-settle_goals.ensures.waits) c.in_ok-settle_row.ensures.runs (rw c.if-branch-2.false at c.in_ok-settle_row.ensures.waits)
     c.in_ok-settle_conflicts.ensures.runs (rw c.if-branch-3.false at c.in_ok-settle_conflicts.ensures.excluded)

@@ -4,6 +4,13 @@ use Rattle.clause_solver.proofs.Drains.{item_from, read_at}
 use Rattle.clause_solver.proofs.Openings.{swept_more, swept_end}
 use Rattle.clause_solver.proofs.nodes.first_open.Goals as goal
 
+pub lesser_open-least-requires : goal.lesser_open-least-requires
+lesser_open-least-requires c =
+    let same_place = c.place.ensures in
+    let lt : c.place.result < length c.args.uses.now = search arith in
+    let row = item_from c.args.uses.now c.place.result c.place.result [] c.as_slice.result.now c.index-uses-place.result lt refl c.as_slice.ensures c.index-uses-place.is in
+    rw row (c.requires.table.within c.place.result [] lt)
+
 pub loop-l-preserved : goal.loop-l-preserved
 loop-l-preserved c =
     let items = c.as_slice-l-items.result.now in

@@ -1,8 +1,9 @@
 use Rattle.row_book.specs.Book.{repository_of}
 use Rattle.kernel_text.specs.declared.fault.KernelFault.TheVariants.{Line, End, Range}
 use Rattle.coinst_run.specs.Ending.{stop_ending}
-use Rattle.coinst_run.proofs.StoredKernels.{end_other, fault_stops, kernel_checked, kernel_sound, line_other, range_other}
+use Rattle.coinst_run.proofs.StoredKernels.{end_other, fault_stops, kernel_checked, kernel_sound}
 use Rattle.coinst_run.proofs.stored_query.checked_kernel.Goals as goal
+use Rattle.kernel_text.proofs.Judged.{line_other, range_other}
 
 pub returns-in-Ok-clause-kernel : goal.returns-in-Ok-clause-kernel
 returns-in-Ok-clause-kernel c = kernel_checked c.args.path.now c.args.text.now c.in-Ok.stored.format (repository_of c.read_kernel.new.pool c.in-Ok.stored.book) c.in-Ok.stored.members c.in-Ok.stored.held c.in-Ok.ensures.read

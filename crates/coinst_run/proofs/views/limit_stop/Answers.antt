@@ -4,7 +4,7 @@ use Rattle.coinst_run.proofs.views.limit_stop.Goals as goal
 
 pub returns-in_ok-end_limit-in-Limit : goal.returns-in_ok-end_limit-in-Limit
 returns-in_ok-end_limit-in-Limit c = λ index hold w.
-    let passed : PassedRound = record { number = c.in-Limit.round; gone = c.in-Limit.gone; «package» = c.in-Limit.package; count = c.in-Limit.count } in
+    let passed : PassedRound = record { number = c.in-Limit.round; gone = c.in-Limit.gone; over = c.in-Limit.package; count = c.in-Limit.count } in
     passed_told c.args.path.now c.args.limit hold index passed c.in-Limit.name c.in-Limit.version c.in_ok-line-in-Limit.line.items c.end_limit.new.line.items
     (rw c.in-Limit.is at w)
     (rw (c.from.ensures, c.from-in-Limit.ensures, c.from-in-Limit-2.ensures) at c.in_ok-line-in-Limit.ensures)

@@ -6,9 +6,9 @@ use Rattle.conflict_reduce.proofs.facing.all_conflict_but.Goals as goal
 
 pub returns-then-not-conflicts_with_each : goal.returns-then-not-conflicts_with_each
 returns-then-not-conflicts_with_each c =
-    sym (all_fails (λ m. list_all (conflict_but (left_of c.args.table.now c.args.gone.now) c.args.pair m) c.args.other.now) c.args.list.now c.loop-package.package-index (omega arith)
+    sym (all_fails (λ m. list_all (conflict_but (left_of c.args.table.now c.args.gone.now) c.args.pair m) c.args.other.now) c.args.list.now c.loop-number.number-index (omega arith)
     (sym c.conflicts_with_each.ensures ∙ c.if-not-conflicts_with_each.true))
 
 pub returns : goal.returns
 returns c =
-    sym (all_pass (λ m. list_all (conflict_but (left_of c.args.table.now c.args.gone.now) c.args.pair m) c.args.other.now) c.args.list.now (λ k l. c.loop-package.invariant k (omega arith)))
+    sym (all_pass (λ m. list_all (conflict_but (left_of c.args.table.now c.args.gone.now) c.args.pair m) c.args.other.now) c.args.list.now (λ k l. c.loop-number.invariant k (omega arith)))

@@ -3,22 +3,22 @@ use Rattle.clause_pool.specs.Interned.{clause_at, ids_at}
 use Rattle.row_book.specs.Clauses.{numbers}
 use Rattle.row_book.specs.Uses.{row_id}
 use Rattle.row_book.proofs.Lists.{In_at}
+use Rattle.row_book.proofs.Order.{lists_more}
 use Rattle.conflict_reduce.specs.Live.{live_ids, live_of, may_face}
-use Rattle.conflict_reduce.proofs.Left.{lists_more}
 use Rattle.conflict_reduce.proofs.live.live_rows.Goals as goal
 
-pub loop-package-init : goal.loop-package-init
+pub loop-number-init : goal.loop-number-init
 unfolding numbers
-loop-package-init c = c.new-made.ensures.items
+loop-number-init c = c.new-made.ensures.items
 
 pub row-clauses-requires : goal.row-clauses-requires
 row-clauses-requires c =
     subst (λ z. z < length c.args.pool.now.rows) (sym c.row.ensures)
-    (c.requires.sound.rows.of_pool (row_id c.args.book.now.rows c.loop-package.«package») (In_at c.args.book.now.rows c.loop-package.«package» 0 (omega arith)))
+    (c.requires.sound.rows.of_pool (row_id c.args.book.now.rows c.loop-number.number) (In_at c.args.book.now.rows c.loop-number.number 0 (omega arith)))
 
-pub loop-package-preserved : goal.loop-package-preserved
-loop-package-preserved c =
-    lists_more (live_ids c.args.pool.now c.args.book.now) c.loop-package.«package» c.loop-package.made.items c.push.new.self.items c.in_ok-live.live c.loop-package.invariant
+pub loop-number-preserved : goal.loop-number-preserved
+loop-number-preserved c =
+    lists_more (live_ids c.args.pool.now c.args.book.now) c.loop-number.number c.loop-number.made.items c.push.new.self.items c.in_ok-live.live c.loop-number.invariant
     (c.in_ok-live.ensures
     ∙ ap₂ (λ t row. filter (λ id. may_face t (clause_at c.args.pool.now id)) row) c.requires.table (c.row-clauses.ensures.lent ∙ ap (ids_at c.args.pool.now) c.row.ensures))
     c.in_ok-push.ensures.items
@@ -26,5 +26,5 @@ loop-package-preserved c =
 pub returns : goal.returns
 unfolding live_of
 returns c =
-    c.loop-package.invariant
-    ∙ ap (λ n. map (live_ids c.args.pool.now c.args.book.now) (numbers n 0)) (let e : c.loop-package.«package» ≡ length c.args.book.now.rows = omega arith in e)
+    c.loop-number.invariant
+    ∙ ap (λ n. map (live_ids c.args.pool.now c.args.book.now) (numbers n 0)) (let e : c.loop-number.number ≡ length c.args.book.now.rows = omega arith in e)

@@ -3,5 +3,5 @@ use Rattle.row_book.specs.Clauses.{numbers}
 use Rattle.conflict_reduce.specs.Tests.{left_for}
 use Rattle.conflict_reduce.proofs.thinning.left_lists.Given as goal
 
-abbrev pub invariant-loop-package : goal.invariant-loop-package
-invariant-loop-package l = l.made.items ≡ map (left_for l.table l.gone) (numbers l.«package» 0)
+abbrev pub invariant-loop-number : goal.invariant-loop-number
+invariant-loop-number l = l.made.items ≡ map (left_for l.table l.gone) (numbers l.number 0)

@@ -15,7 +15,7 @@ returns-clause-thinned c =
     ∙ c.in_ok-gone.ensures.thinned
 
 pub returns-clause-sound : goal.returns-clause-sound
-returns-clause-sound c = thin_sound c.args.pool.now c.args.book.now _ c.clause_count.ensures.sound c.requires (c.of.ensures ∙ c.in_ok-rows.ensures.items ∙ c.as_slice-3.ensures) (returns-clause-thinned c)
+returns-clause-sound c = thin_sound c.args.pool.now c.args.book.now _ c.requires.rows.is_pool c.requires (c.of.ensures ∙ c.in_ok-rows.ensures.items ∙ c.as_slice-3.ensures) (returns-clause-thinned c)
 
 pub returns-clause-keeps : goal.returns-clause-keeps
 returns-clause-keeps c = λ I.

@@ -5,7 +5,7 @@ use Rattle.conflict_reduce.proofs.Passed.{next_inside, pass_end, pass_next, pass
 use Rattle.conflict_reduce.proofs.thinning.thin_package.Goals as goal
 
 pub loop-other-init : goal.loop-other-init
-loop-other-init c = pass_start c.args.pool.now c.args.book.now c.args.«package» c.args.gone.now.items c.args.list.now c.clause_count.ensures.sound c.requires.sound c.requires.list c.requires.passed
+loop-other-init c = pass_start c.args.pool.now c.args.book.now c.args.number c.args.gone.now.items c.args.list.now c.requires.sound.rows.is_pool c.requires.sound c.requires.list c.requires.passed
 
 pub thin_pair-requires-clause-count : goal.thin_pair-requires-clause-count
 thin_pair-requires-clause-count c = c.loop-other.invariant.count
@@ -15,20 +15,20 @@ thin_pair-requires-clause-gone c = c.loop-other.invariant.ascending
 
 pub thin_pair-requires-clause-b : goal.thin_pair-requires-clause-b
 thin_pair-requires-clause-b c =
-    next_inside c.args.pool.now c.args.book.now (thin_over (book_left c.args.pool.now c.args.book.now c.args.gone.now.items) (pairs_with c.args.«package» c.args.list.now)) c.args.«package»
+    next_inside c.args.pool.now c.args.book.now (thin_over (book_left c.args.pool.now c.args.book.now c.args.gone.now.items) (pairs_with c.args.number c.args.list.now)) c.args.number
     c.loop-other.gone.items c.args.list.now c.loop-other.other-index _ (omega arith) c.loop-other.invariant
 
 pub loop-other-preserved : goal.loop-other-preserved
 loop-other-preserved c =
-    pass_next c.args.pool.now c.args.book.now (thin_over (book_left c.args.pool.now c.args.book.now c.args.gone.now.items) (pairs_with c.args.«package» c.args.list.now)) c.args.«package»
+    pass_next c.args.pool.now c.args.book.now (thin_over (book_left c.args.pool.now c.args.book.now c.args.gone.now.items) (pairs_with c.args.number c.args.list.now)) c.args.number
     c.loop-other.gone.items c.thin_pair.new.gone.items c.args.list.now c.loop-other.other-index _ (omega arith) c.loop-other.invariant c.in_ok-thin_pair.ensures
 
 pub returns-clause-left : goal.returns-clause-left
 returns-clause-left c =
-    pass_end c.args.pool.now c.args.book.now (thin_over (book_left c.args.pool.now c.args.book.now c.args.gone.now.items) (pairs_with c.args.«package» c.args.list.now)) c.args.«package»
+    pass_end c.args.pool.now c.args.book.now (thin_over (book_left c.args.pool.now c.args.book.now c.args.gone.now.items) (pairs_with c.args.number c.args.list.now)) c.args.number
     c.loop-other.gone.items c.args.list.now c.loop-other.other-index (omega arith) c.loop-other.invariant
 
 pub returns-clause-passed : goal.returns-clause-passed
 returns-clause-passed c =
-    passed_more c.args.pool.now c.args.book.now (thin_over (book_left c.args.pool.now c.args.book.now c.args.gone.now.items) (pairs_with c.args.«package» c.args.list.now)) c.args.«package»
+    passed_more c.args.pool.now c.args.book.now (thin_over (book_left c.args.pool.now c.args.book.now c.args.gone.now.items) (pairs_with c.args.number c.args.list.now)) c.args.number
     c.loop-other.gone.items (drop c.loop-other.other-index c.args.list.now) c.loop-other.invariant

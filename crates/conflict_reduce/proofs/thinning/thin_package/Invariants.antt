@@ -6,4 +6,4 @@ use Rattle.conflict_reduce.proofs.thinning.thin_package.Given as goal
 
 abbrev pub invariant-loop-other : goal.invariant-loop-other
 invariant-loop-other l =
-    Passing l.pool l.book (thin_over (book_left l.pool l.book l.fn.gone.items) (pairs_with l.«package» l.list)) l.«package» l.gone.items (drop l.other-index l.list)
+    Passing l.pool l.book (thin_over (book_left l.pool l.book l.fn.gone.items) (pairs_with l.number l.list)) l.number l.gone.items (drop l.other-index l.list)

@@ -1,5 +1,6 @@
 use Rattle.std.proofs.Common.{◌∙◌, ◌+◌, ◌-◌, Some, length, ap, sym, arith}
-use Rattle.deb_version.proofs.Cutting.{whole_back, upstream_whole, revision_missing, upstream_found, revision_found}
+use Rattle.listed.proofs.Lists.{to_end}
+use Rattle.deb_version.proofs.Cutting.{upstream_whole, revision_missing, upstream_found, revision_found}
 use Rattle.deb_version.proofs.cuts.cut_revision.Goals as goal
 
 pub returns-then-tail-rest-clause-upstream : goal.returns-then-tail-rest-clause-upstream
@@ -14,4 +15,4 @@ returns-clause-upstream c = upstream_found c.args.rest.now c.tail_len-tail.resul
 pub returns-clause-revision : goal.returns-clause-revision
 returns-clause-revision c =
     let place = length c.args.rest.now - c.tail_len-tail.result - 1 + 1 in
-    ap Some (whole_back c.args.rest.now place) ∙ revision_found c.args.rest.now c.tail_len-tail.result place c.tail_len-tail.ensures.is (omega arith) (omega arith)
+    ap Some (to_end place c.args.rest.now) ∙ revision_found c.args.rest.now c.tail_len-tail.result place c.tail_len-tail.ensures.is (omega arith) (omega arith)

@@ -1,4 +1,4 @@
-use Rattle.std.proofs.Common.{◌≡◌, drop, length}
+use Rattle.std.proofs.Common.{◌≡◌, ◌+◌, ◌*◌, ◌-◌, ◌<◌, drop, length}
 use Rattle.row_book.specs.Book.{repository_of, PairsFit}
 use Rattle.explain_core.specs.Deletion.{kept_behind, kept_of}
 use Rattle.explain_core.specs.Reasons.{told_pairs, verdict_over}
@@ -10,4 +10,8 @@ invariant-loop-place l = record {
   left : kept_of (verdict_over (repository_of l.pool l.book) l.budget l.goals) l.pairs
       ≡ kept_behind (verdict_over (repository_of l.pool l.book) l.budget l.goals) (kept_clashes l.clashes) (drop l.place l.pairs);
   fit : PairsFit (told_pairs l.clashes) (length l.book.rows);
+  some : 0 < l.block;
 }
+
+abbrev pub decreases-loop-place : goal.decreases-loop-place
+decreases-loop-place l = (length l.pairs - l.place) * 3 + l.block

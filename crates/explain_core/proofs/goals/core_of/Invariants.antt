@@ -1,4 +1,4 @@
-use Rattle.std.proofs.Common.{◌≡◌, ◌+◌, ◌-◌, length}
+use Rattle.std.proofs.Common.{◌≡◌, ◌+◌, ◌*◌, ◌-◌, ◌<◌, length}
 use Rattle.std.specs.List.{range_with_len}
 use Rattle.explain_core.specs.Core.{core_of, verdict_on}
 use Rattle.explain_core.specs.Deletion.{kept_behind}
@@ -11,4 +11,8 @@ invariant-loop-place l = record {
   left : core_of l.view.limit l.view.kernel.hold l.view.suite.home l.view.suite.packages l.budget l.goals
       ≡ kept_behind (verdict_on l.view.limit l.view.kernel.hold l.view.suite.home l.view.suite.packages l.budget l.goals) (kept_marks l.marks) (range_with_len (l.place + 1) (length l.goals - l.place));
   places : ArePlacesFrom1 l.place l.marks;
+  some : 0 < l.block;
 }
+
+abbrev pub decreases-loop-place : goal.decreases-loop-place
+decreases-loop-place l = (l.all - l.place) * 3 + l.block

@@ -8,7 +8,7 @@ use Rattle.install_lift.proofs.lifting.lift.Goals.{After-of}
 
 lifted : (c : After-of) → IsLifted (repository_of c.args.pool.now c.args.from.now) (repository_of c.args.pool.now c.args.to.now) (trail_meaning c.args.pool.now c.args.trail.now.steps) (flag c.args.classes.now) c.in_ok-flags.flags.items
 lifted c =
-    lifted_flags c.args.pool.now c.args.from.now c.args.to.now c.args.trail.now.steps (flag c.args.classes.now) c.in_ok-set.set.items c.in_ok-flags.flags.items c.size.result c.clause_count.ensures.sound c.requires.from c.requires.kernel
+    lifted_flags c.args.pool.now c.args.from.now c.args.to.now c.args.trail.now.steps (flag c.args.classes.now) c.in_ok-set.set.items c.in_ok-flags.flags.items c.size.result c.requires.from.rows.is_pool c.requires.from c.requires.kernel
     c.requires.healthy (rw c.as_slice.ensures at c.in_ok-set.ensures) c.size.ensures c.in_ok-flags.ensures.long (rw c.deref.ensures.value at c.in_ok-flags.ensures.same)
 
 pub returns-clause-lift : goal.returns-clause-lift

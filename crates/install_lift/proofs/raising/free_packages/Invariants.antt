@@ -1,5 +1,5 @@
 use Rattle.install_lift.proofs.Lowering.{AreFree}
 use Rattle.install_lift.proofs.raising.free_packages.Given as goal
 
-abbrev pub invariant-loop-package : goal.invariant-loop-package
-invariant-loop-package l = AreFree l.book.conflicts l.package l.more.items
+abbrev pub invariant-loop-number : goal.invariant-loop-number
+invariant-loop-number l = AreFree l.book.conflicts l.number l.more.items

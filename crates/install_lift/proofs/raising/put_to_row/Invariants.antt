@@ -5,4 +5,4 @@ use Rattle.install_lift.specs.Raising.{PutsUser}
 use Rattle.install_lift.proofs.raising.put_to_row.Given as goal
 
 abbrev pub invariant-loop-id : goal.invariant-loop-id
-invariant-loop-id l = PutsUser (flag l.more) (clauses_at l.pool (take l.id-index l.ids)) l.package l.fn.table l.table
+invariant-loop-id l = PutsUser (flag l.more) (clauses_at l.pool (take l.id-index l.ids)) l.number l.fn.table l.table

@@ -9,8 +9,8 @@ use Rattle.install_lift.proofs.Steps.{row_first, size_of, chosen_hits, opened, o
 use Rattle.install_lift.proofs.Waits.{in_book, met_below, met_all, met_one, met_put, within_less, within_put, met_outside, less_to_do}
 use Rattle.install_lift.proofs.trimming.trim_clauses.Goals as goal
 
-pub loop-package-init : goal.loop-package-init
-loop-package-init c = record {
+pub loop-number-init : goal.loop-number-init
+loop-number-init c = record {
   long = c.requires.long;
   trimming = c.requires.trimming;
   hit = c.requires.hit;
@@ -20,69 +20,69 @@ loop-package-init c = record {
 
 pub row-requires : goal.row-requires
 row-requires c =
-    in_book c.args.pool.now c.args.book.now (flag c.args.chosen.now) (flag c.loop-package.set) (is_waiting c.loop-package.waiting) c.in-Some.package c.requires.healthy c.loop-package.invariant.trimming.part c.loop-package.invariant.part c.in-Some.ensures.least
+    in_book c.args.pool.now c.args.book.now (flag c.args.chosen.now) (flag c.loop-number.set) (is_waiting c.loop-number.waiting) c.in-Some.number c.requires.healthy c.loop-number.invariant.trimming.part c.loop-number.invariant.part c.in-Some.ensures.least
 
 pub row-requires-in-Some : goal.row-requires-in-Some
 row-requires-in-Some c =
-    let lt = in_book c.args.pool.now c.args.book.now (flag c.args.chosen.now) (flag c.loop-package.set) (is_waiting c.loop-package.waiting) c.in-Some.package c.requires.healthy c.loop-package.invariant.trimming.part c.loop-package.invariant.part c.in-Some.ensures.least in
-    c.requires.sound.rows.of_pool c.row.result (rw c.row.ensures (In_at c.args.book.now.rows c.in-Some.package 0 lt))
+    let lt = in_book c.args.pool.now c.args.book.now (flag c.args.chosen.now) (flag c.loop-number.set) (is_waiting c.loop-number.waiting) c.in-Some.number c.requires.healthy c.loop-number.invariant.trimming.part c.loop-number.invariant.part c.in-Some.ensures.least in
+    c.requires.sound.rows.of_pool c.row.result (rw c.row.ensures (In_at c.args.book.now.rows c.in-Some.number 0 lt))
 
 pub put_first-n-requires-clause-hit : goal.put_first-n-requires-clause-hit
 put_first-n-requires-clause-hit c =
-    let lt = in_book c.args.pool.now c.args.book.now (flag c.args.chosen.now) (flag c.loop-package.set) (is_waiting c.loop-package.waiting) c.in-Some.package c.requires.healthy c.loop-package.invariant.trimming.part c.loop-package.invariant.part c.in-Some.ensures.least in
+    let lt = in_book c.args.pool.now c.args.book.now (flag c.args.chosen.now) (flag c.loop-number.set) (is_waiting c.loop-number.waiting) c.in-Some.number c.requires.healthy c.loop-number.invariant.trimming.part c.loop-number.invariant.part c.in-Some.ensures.least in
     let cl = clause_at c.args.pool.now c.in-Some-first_unhit.id in
-    let first = row_first c.args.pool.now c.args.book.now (flag c.loop-package.set) c.in-Some.package c.row.result c.row-in-Some.result.now (Some cl) lt c.row.ensures c.row-in-Some.ensures.lent c.in-Some-first_unhit.ensures.some in
-    rw c.slice.ensures.lent (chosen_hits (repository_of c.args.pool.now c.args.book.now) (flag c.args.chosen.now) (flag c.loop-package.set) c.in-Some.package cl c.requires.healthy c.loop-package.invariant.trimming.part
-    (c.loop-package.invariant.part c.in-Some.package c.in-Some.ensures.least.waits) first)
+    let first = row_first c.args.pool.now c.args.book.now (flag c.loop-number.set) c.in-Some.number c.row.result c.row-in-Some.result.now (Some cl) lt c.row.ensures c.row-in-Some.ensures.lent c.in-Some-first_unhit.ensures.some in
+    rw c.slice.ensures.lent (chosen_hits (repository_of c.args.pool.now c.args.book.now) (flag c.args.chosen.now) (flag c.loop-number.set) c.in-Some.number cl c.requires.healthy c.loop-number.invariant.trimming.part
+    (c.loop-number.invariant.part c.in-Some.number c.in-Some.ensures.least.waits) first)
 
-pub loop-package-preserved-in_default-first_unhit : goal.loop-package-preserved-in_default-first_unhit
-loop-package-preserved-in_default-first_unhit c =
+pub loop-number-preserved-in_default-first_unhit : goal.loop-number-preserved-in_default-first_unhit
+loop-number-preserved-in_default-first_unhit c =
     let R = repository_of c.args.pool.now c.args.book.now in
-    let lt = in_book c.args.pool.now c.args.book.now (flag c.args.chosen.now) (flag c.loop-package.set) (is_waiting c.loop-package.waiting) c.in-Some.package c.requires.healthy c.loop-package.invariant.trimming.part c.loop-package.invariant.part c.in-Some.ensures.least in
-    let none = row_first c.args.pool.now c.args.book.now (flag c.loop-package.set) c.in-Some.package c.row.result c.row-in-Some.result.now None lt c.row.ensures c.row-in-Some.ensures.lent c.in_default-first_unhit.ensures.none in
+    let lt = in_book c.args.pool.now c.args.book.now (flag c.args.chosen.now) (flag c.loop-number.set) (is_waiting c.loop-number.waiting) c.in-Some.number c.requires.healthy c.loop-number.invariant.trimming.part c.loop-number.invariant.part c.in-Some.ensures.least in
+    let none = row_first c.args.pool.now c.args.book.now (flag c.loop-number.set) c.in-Some.number c.row.result c.row-in-Some.result.now None lt c.row.ensures c.row-in-Some.ensures.lent c.in_default-first_unhit.ensures.none in
     record {
-      long = c.loop-package.invariant.long;
-      trimming = c.loop-package.invariant.trimming;
-      hit = c.loop-package.invariant.hit;
-      part = within_less (flag c.loop-package.set) (is_waiting c.loop-package.waiting) (is_waiting c.take_first.new.self) c.in-Some.package c.loop-package.invariant.part c.in-Some.ensures.taken;
-      met = met_one R (flag c.loop-package.set) (is_waiting c.loop-package.waiting) (is_waiting c.take_first.new.self) c.in-Some.package c.loop-package.invariant.met c.in-Some.ensures.taken none;
+      long = c.loop-number.invariant.long;
+      trimming = c.loop-number.invariant.trimming;
+      hit = c.loop-number.invariant.hit;
+      part = within_less (flag c.loop-number.set) (is_waiting c.loop-number.waiting) (is_waiting c.take_first.new.self) c.in-Some.number c.loop-number.invariant.part c.in-Some.ensures.taken;
+      met = met_one R (flag c.loop-number.set) (is_waiting c.loop-number.waiting) (is_waiting c.take_first.new.self) c.in-Some.number c.loop-number.invariant.met c.in-Some.ensures.taken none;
     }
 
-pub loop-package-smaller : goal.loop-package-smaller
-loop-package-smaller c =
-    let lt = in_book c.args.pool.now c.args.book.now (flag c.args.chosen.now) (flag c.loop-package.set) (is_waiting c.loop-package.waiting) c.in-Some.package c.requires.healthy c.loop-package.invariant.trimming.part c.loop-package.invariant.part c.in-Some.ensures.least in
+pub loop-number-smaller : goal.loop-number-smaller
+loop-number-smaller c =
+    let lt = in_book c.args.pool.now c.args.book.now (flag c.args.chosen.now) (flag c.loop-number.set) (is_waiting c.loop-number.waiting) c.in-Some.number c.requires.healthy c.loop-number.invariant.trimming.part c.loop-number.invariant.part c.in-Some.ensures.least in
     let cl = clause_at c.args.pool.now c.in-Some-first_unhit.id in
-    let first = row_first c.args.pool.now c.args.book.now (flag c.loop-package.set) c.in-Some.package c.row.result c.row-in-Some.result.now (Some cl) lt c.row.ensures c.row-in-Some.ensures.lent c.in-Some-first_unhit.ensures.some in
+    let first = row_first c.args.pool.now c.args.book.now (flag c.loop-number.set) c.in-Some.number c.row.result c.row-in-Some.result.now (Some cl) lt c.row.ensures c.row-in-Some.ensures.lent c.in-Some-first_unhit.ensures.some in
     let least = rw c.slice.ensures.lent at c.put_first-n.ensures.first in
-    let below = chosen_below c.args.chosen.now c.loop-package.set cl c.put_first-n.result c.loop-package.invariant.long least in
-    let fewer = fewer_down c.loop-package.set c.put_first-n.new.set cl (flag c.args.chosen.now) c.put_first-n.result below c.put_first-n.ensures.put least (opened (repository_of c.args.pool.now c.args.book.now) (flag c.loop-package.set) c.in-Some.package cl first) in
-    less_to_do _ _ (waiting_count c.loop-package.waiting) (waiting_count c.take_first.new.self) (waiting_count c.put.new.self) (waiting_count c.put-in-Some.new.self) fewer c.in-Some.ensures.count c.in_ok-put.ensures.count c.in_ok-put-2.ensures.count
+    let below = chosen_below c.args.chosen.now c.loop-number.set cl c.put_first-n.result c.loop-number.invariant.long least in
+    let fewer = fewer_down c.loop-number.set c.put_first-n.new.set cl (flag c.args.chosen.now) c.put_first-n.result below c.put_first-n.ensures.put least (opened (repository_of c.args.pool.now c.args.book.now) (flag c.loop-number.set) c.in-Some.number cl first) in
+    less_to_do _ _ (waiting_count c.loop-number.waiting) (waiting_count c.take_first.new.self) (waiting_count c.put.new.self) (waiting_count c.put-in-Some.new.self) fewer c.in-Some.ensures.count c.in_ok-put.ensures.count c.in_ok-put-2.ensures.count
 
-pub loop-package-preserved : goal.loop-package-preserved
-loop-package-preserved c =
+pub loop-number-preserved : goal.loop-number-preserved
+loop-number-preserved c =
     let R = repository_of c.args.pool.now c.args.book.now in
-    let lt = in_book c.args.pool.now c.args.book.now (flag c.args.chosen.now) (flag c.loop-package.set) (is_waiting c.loop-package.waiting) c.in-Some.package c.requires.healthy c.loop-package.invariant.trimming.part c.loop-package.invariant.part c.in-Some.ensures.least in
+    let lt = in_book c.args.pool.now c.args.book.now (flag c.args.chosen.now) (flag c.loop-number.set) (is_waiting c.loop-number.waiting) c.in-Some.number c.requires.healthy c.loop-number.invariant.trimming.part c.loop-number.invariant.part c.in-Some.ensures.least in
     let cl = clause_at c.args.pool.now c.in-Some-first_unhit.id in
-    let first = row_first c.args.pool.now c.args.book.now (flag c.loop-package.set) c.in-Some.package c.row.result c.row-in-Some.result.now (Some cl) lt c.row.ensures c.row-in-Some.ensures.lent c.in-Some-first_unhit.ensures.some in
+    let first = row_first c.args.pool.now c.args.book.now (flag c.loop-number.set) c.in-Some.number c.row.result c.row-in-Some.result.now (Some cl) lt c.row.ensures c.row-in-Some.ensures.lent c.in-Some-first_unhit.ensures.some in
     let least = rw c.slice.ensures.lent at c.put_first-n.ensures.first in
-    let below = chosen_below c.args.chosen.now c.loop-package.set cl c.put_first-n.result c.loop-package.invariant.long least in
-    let in_R : c.in-Some.package < length R.clauses = rw size_of lt in
-    let up = c.loop-package.invariant.part c.in-Some.package c.in-Some.ensures.least.waits in
-    let met = met_below R (flag c.loop-package.set) (is_waiting c.loop-package.waiting) c.in-Some.package c.loop-package.invariant.met c.in-Some.ensures.least in
-    let need = open_at R c.args.goals.now (flag c.loop-package.set) c.in-Some.package cl in_R c.loop-package.invariant.hit met up first in
+    let below = chosen_below c.args.chosen.now c.loop-number.set cl c.put_first-n.result c.loop-number.invariant.long least in
+    let in_R : c.in-Some.number < length R.clauses = rw size_of lt in
+    let up = c.loop-number.invariant.part c.in-Some.number c.in-Some.ensures.least.waits in
+    let met = met_below R (flag c.loop-number.set) (is_waiting c.loop-number.waiting) c.in-Some.number c.loop-number.invariant.met c.in-Some.ensures.least in
+    let need = open_at R c.args.goals.now (flag c.loop-number.set) c.in-Some.number cl in_R c.loop-number.invariant.hit met up first in
     record {
-      long = rw c.put_first-n.ensures.put (length-set c.loop-package.set c.put_first-n.result true ∙ c.loop-package.invariant.long);
-      trimming = trimming_more R c.args.goals.now (flag c.args.chosen.now) c.loop-package.set c.put_first-n.new.set cl c.put_first-n.result below c.put_first-n.ensures.put need least c.loop-package.invariant.trimming;
-      hit = goals_more c.loop-package.set c.put_first-n.new.set c.put_first-n.result c.args.goals.now below c.put_first-n.ensures.put c.loop-package.invariant.hit;
-      part = within_put c.loop-package.set c.put_first-n.new.set (is_waiting c.loop-package.waiting) (is_waiting c.take_first.new.self) (is_waiting c.put.new.self) (is_waiting c.put-in-Some.new.self) c.in-Some.package c.put_first-n.result
-          below c.put_first-n.ensures.put c.loop-package.invariant.part c.in-Some.ensures.least.waits c.in-Some.ensures.taken c.in_ok-put.ensures.put c.in_ok-put-2.ensures.put;
-      met = met_put R c.loop-package.set c.put_first-n.new.set (is_waiting c.loop-package.waiting) (is_waiting c.take_first.new.self) (is_waiting c.put.new.self) (is_waiting c.put-in-Some.new.self) c.in-Some.package c.put_first-n.result
-          below c.put_first-n.ensures.put c.loop-package.invariant.met c.in-Some.ensures.taken c.in_ok-put.ensures.put c.in_ok-put-2.ensures.put;
+      long = rw c.put_first-n.ensures.put (length-set c.loop-number.set c.put_first-n.result true ∙ c.loop-number.invariant.long);
+      trimming = trimming_more R c.args.goals.now (flag c.args.chosen.now) c.loop-number.set c.put_first-n.new.set cl c.put_first-n.result below c.put_first-n.ensures.put need least c.loop-number.invariant.trimming;
+      hit = goals_more c.loop-number.set c.put_first-n.new.set c.put_first-n.result c.args.goals.now below c.put_first-n.ensures.put c.loop-number.invariant.hit;
+      part = within_put c.loop-number.set c.put_first-n.new.set (is_waiting c.loop-number.waiting) (is_waiting c.take_first.new.self) (is_waiting c.put.new.self) (is_waiting c.put-in-Some.new.self) c.in-Some.number c.put_first-n.result
+          below c.put_first-n.ensures.put c.loop-number.invariant.part c.in-Some.ensures.least.waits c.in-Some.ensures.taken c.in_ok-put.ensures.put c.in_ok-put-2.ensures.put;
+      met = met_put R c.loop-number.set c.put_first-n.new.set (is_waiting c.loop-number.waiting) (is_waiting c.take_first.new.self) (is_waiting c.put.new.self) (is_waiting c.put-in-Some.new.self) c.in-Some.number c.put_first-n.result
+          below c.put_first-n.ensures.put c.loop-number.invariant.met c.in-Some.ensures.taken c.in_ok-put.ensures.put c.in_ok-put-2.ensures.put;
     }
 
 pub returns : goal.returns
 returns c =
     let R = repository_of c.args.pool.now c.args.book.now in
-    trimming_end R c.args.goals.now (flag c.args.chosen.now) (flag c.loop-package.set)
-    (open_none R c.args.goals.now (flag c.loop-package.set) (length R.clauses) (omega arith) c.loop-package.invariant.hit
-    (met_all R (flag c.loop-package.set) (is_waiting c.loop-package.waiting) (length R.clauses) c.loop-package.invariant.met c.in_default.ensures.none)) c.loop-package.invariant.trimming
+    trimming_end R c.args.goals.now (flag c.args.chosen.now) (flag c.loop-number.set)
+    (open_none R c.args.goals.now (flag c.loop-number.set) (length R.clauses) (omega arith) c.loop-number.invariant.hit
+    (met_all R (flag c.loop-number.set) (is_waiting c.loop-number.waiting) (length R.clauses) c.loop-number.invariant.met c.in_default.ensures.none)) c.loop-number.invariant.trimming

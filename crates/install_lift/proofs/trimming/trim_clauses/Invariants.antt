@@ -8,8 +8,8 @@ use Rattle.install_lift.specs.Trimming.{AreMetOutside, IsTrimming}
 use Rattle.install_lift.specs.Waiting.{is_waiting, waiting_count}
 use Rattle.install_lift.proofs.trimming.trim_clauses.Given as goal
 
-abbrev pub invariant-loop-package : goal.invariant-loop-package
-invariant-loop-package l = record {
+abbrev pub invariant-loop-number : goal.invariant-loop-number
+invariant-loop-number l = record {
   long : length l.set ≡ length l.chosen;
   trimming : IsTrimming (repository_of l.pool l.book) l.goals (flag l.chosen) (flag l.set);
   hit : All (λ g. list_any (flag l.set) g ≡ true) l.goals;
@@ -17,5 +17,5 @@ invariant-loop-package l = record {
   met : AreMetOutside (repository_of l.pool l.book) (flag l.set) (is_waiting l.waiting);
 }
 
-abbrev pub decreases-loop-package : goal.decreases-loop-package
-decreases-loop-package l = count_by not l.set * 2 + waiting_count l.waiting
+abbrev pub decreases-loop-number : goal.decreases-loop-number
+decreases-loop-number l = count_by not l.set * 2 + waiting_count l.waiting

@@ -2,8 +2,8 @@ use Rattle.std.proofs.Common.{◌∙◌, ◌<◌, ◌≤◌, length, arith, sym,
 use Rattle.std.proofs.lemmas.List.{length-set, take_all}
 use Rattle.row_book.specs.Book.{repository_of}
 use Rattle.row_book.specs.Flags.{flag}
-use Rattle.row_book.proofs.Lists.{item_in}
-use Rattle.install_lift.proofs.Steps.{trimming_more, chosen_below, goals_more, goal_now, goals_next, goal_open, hit_any', at_place}
+use Rattle.row_book.proofs.Lists.{item_in, any_hit}
+use Rattle.install_lift.proofs.Steps.{trimming_more, chosen_below, goals_more, goal_now, goals_next, goal_open, at_place}
 use Rattle.install_lift.specs.Waiting.{is_waiting}
 use Rattle.install_lift.proofs.Waits.{waits_more}
 use Rattle.install_lift.proofs.trimming.trim_goals.Goals as goal
@@ -23,7 +23,7 @@ pub put_first-n-requires-clause-hit : goal.put_first-n-requires-clause-hit
 put_first-n-requires-clause-hit c =
     let lt : c.loop-place.place < length c.args.goals.now = omega (arith, c.loop-place-test.true, c.count-place-end.ensures.count) in
     let is = at_place c.args.goals.now c.loop-place.place c.at-goal.result.now lt c.at-goal.ensures.clause in
-    hit_any' (flag c.args.chosen.now) c.at-goal.result.now (c.requires.hits c.at-goal.result.now (item_in c.args.goals.now c.loop-place.place c.at-goal.result.now lt is))
+    any_hit (flag c.args.chosen.now) c.at-goal.result.now (c.requires.hits c.at-goal.result.now (item_in c.args.goals.now c.loop-place.place c.at-goal.result.now lt is))
 
 pub loop-place-preserved : goal.loop-place-preserved
 loop-place-preserved c =

@@ -41,5 +41,5 @@ returns-clause-made c = λ R start s m.
           c.in-Ok.ensures.sound c.in-Ok.ensures.within changes
           (c.in_ok-next.ensures ∙ ap₂ (λ n cs. map (class_in n) cs) c.as_slice-3.ensures c.as_slice-2.ensures.value) c.saturating_add.ensures,
       subst (λ z. round_count c.args.limit c.args.hold z < round_count c.args.limit c.args.hold before) (sym c.in-Ok.ensures.round)
-          (falls c.args.limit c.args.hold before (sound_repository c.args.work.now c.args.now.book c.clause_count.ensures.sound c.requires.sound) changes),
+          (falls c.args.limit c.args.hold before (sound_repository c.args.work.now c.args.now.book c.requires.sound.rows.is_pool c.requires.sound) changes),
     )

@@ -27,7 +27,7 @@ returns-clause-only c =
     let k = c.in_ok-remap.ensures.ok in
     let book = c.in_ok-moved.ensures c.args.pool.now c.compact.new.self c.as_slice.result.now k in
     let steps = c.in_ok-renamed.ensures c.args.pool.now c.compact.new.self c.as_slice.result.now k in
-    only_live c.args.pool.now c.compact.new.self c.as_slice.result.now c.in_ok-remap.remap (live_rows c.in_ok-moved.moved c.in_ok-renamed.renamed) c.clause_count.ensures.sound k
+    only_live c.args.pool.now c.compact.new.self c.as_slice.result.now c.in_ok-remap.remap (live_rows c.in_ok-moved.moved c.in_ok-renamed.renamed) c.compact.ensures.sound k
     (live_same c.args.pool.now c.compact.new.self c.args.book.now c.in_ok-moved.moved c.args.steps.now c.in_ok-renamed.renamed book.repository steps.meaning
     ∙ sym (ap (map (row_at c.args.pool.now)) (c.as_slice.ensures.value ∙ c.in_ok-live.ensures)))
     (live_within c.compact.new.self c.in_ok-moved.moved c.in_ok-renamed.renamed (book.sound c.requires.book) (steps.sound c.requires.steps))

@@ -1,6 +1,8 @@
 use Rattle.std.proofs.Common.{◌≡◌, ◌<◌, length, map, ap, sym, subst, ◌∙◌, arith}
+use Rattle.clause_pool.proofs.Interned.{kept_along}
 use Rattle.clause_pool.specs.Interned.{clauses_at}
-use Rattle.row_book.specs.Book.{AddsOnly, PairsFit, RowsFit}
+use Rattle.clause_pool.specs.Compacting.{RowsOf}
+use Rattle.row_book.specs.Book.{AddsOnly, NumbersFit, PairsFit}
 use Rattle.row_book.specs.Sets.{In}
 use Rattle.row_book.proofs.Lists.{In_map}
 use Rattle.kernel_text.specs.Booking.{AreRows, GainsRows, HasIdsByClass}
@@ -8,7 +10,7 @@ use Rattle.kernel_text.specs.Reader.{entry_of}
 use Rattle.kernel_text.specs.Reading.{number_limit}
 use Rattle.std.proofs.lemmas.Result.{IfOk-weaker}
 use Rattle.kernel_text.proofs.Gained.{rows_alone}
-use Rattle.kernel_text.proofs.IdTables.{book_is, rows_count, rows_fit, table_in_order, table_of_pool}
+use Rattle.kernel_text.proofs.IdTables.{book_is, rows_count, numbers_fit, table_in_order, table_of_pool}
 use Rattle.kernel_text.proofs.build_book.book_of.Goals as goal
 
 pub intern_clauses-requires-clause-inside : goal.intern_clauses-requires-clause-inside
@@ -47,15 +49,18 @@ build-requires-clause-few c =
     let few : c.requires.0.classes < 4294967295 = c.requires.2.few in
     subst (λ xs. length xs < 4294967295) (sym c.deref.ensures.value) (omega arith)
 
-pub build-requires-clause-fit : goal.build-requires-clause-fit
-build-requires-clause-fit c =
+pub build-requires-clause-rows : goal.build-requires-clause-rows
+build-requires-clause-rows c = subst (RowsOf c.intern_rows.new.pool) (sym c.deref.ensures.value) c.in_ok-rows.ensures.rows.within
+
+pub build-requires-clause-numbers : goal.build-requires-clause-numbers
+build-requires-clause-numbers c =
     let h = c.requires.1 in
     let pool = c.intern_clauses.new.pool in
     let entries = map entry_of c.as_slice.result.now in
     let table = c.in_ok-ids.ids.items in
     let rows = c.in_ok-rows.rows.items in
-    subst (RowsFit c.intern_rows.new.pool) (sym c.deref.ensures.value)
-    (rows_fit pool c.requires.0 entries table (ap (map entry_of) c.as_slice.ensures ∙ h.clauses) (subst (λ n. HasIdsByClass pool entries n table) h.classes c.in_ok-ids.ensures.ids) c.requires.2
+    subst (NumbersFit c.intern_rows.new.pool) (sym c.deref.ensures.value)
+    (numbers_fit pool c.requires.0 entries table (ap (map entry_of) c.as_slice.ensures ∙ h.clauses) (subst (λ n. HasIdsByClass pool entries n table) h.classes c.in_ok-ids.ensures.ids) c.requires.2
     c.intern_rows.new.pool rows (subst (λ xs. AreRows c.intern_rows.new.pool (map (clauses_at pool) xs) rows) c.as_slice-2.ensures.value c.in_ok-rows.ensures.rows))
 
 pub build-requires-clause-pairs : goal.build-requires-clause-pairs
@@ -93,3 +98,9 @@ returns-clause-only c =
     (subst (λ table. GainsRows c.intern_clauses.new.pool new table rows) c.as_slice-2.ensures.value c.in_ok-rows.ensures.gains) in
     IfOk-weaker c.build.result (λ book. book.rows ≡ c.deref.result.now) (λ book. AddsOnly pool new book.rows)
     (λ book e. subst (AddsOnly pool new) (sym (e ∙ c.deref.ensures.value)) gained) c.build.ensures.rows
+
+pub returns-in_err-rows-clause-kept : goal.returns-in_err-rows-clause-kept
+returns-in_err-rows-clause-kept c = kept_along c.args.pool.now c.intern_clauses.new.pool c.intern_rows.new.pool c.intern_clauses.ensures.kept c.intern_rows.ensures.kept
+
+pub returns-clause-kept : goal.returns-clause-kept
+returns-clause-kept c = kept_along c.args.pool.now c.intern_clauses.new.pool c.intern_rows.new.pool c.intern_clauses.ensures.kept c.intern_rows.ensures.kept

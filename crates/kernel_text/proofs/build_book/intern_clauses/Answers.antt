@@ -1,8 +1,8 @@
 use Rattle.std.proofs.Common.{◌≡◌, ◌<◌, length, map, take, sym, subst, arith}
 use Rattle.clause_pool.specs.Interned.{IsIdOf}
+use Rattle.clause_pool.proofs.Interned.{kept_along}
 use Rattle.row_book.specs.Clauses.{Ascending}
 use Rattle.row_book.proofs.Lists.{item_in}
-use Rattle.repo_model.proofs.Interning.{kept_on}
 use Rattle.kernel_text.specs.Booking.{HasIdsByClass}
 use Rattle.kernel_text.specs.Reader.{entry_of}
 use Rattle.kernel_text.proofs.Gained.{clause_gained}
@@ -20,7 +20,7 @@ enter-requires c =
     omega arith
 
 pub returns-in_err-enter-clause-kept : goal.returns-in_err-enter-clause-kept
-returns-in_err-enter-clause-kept c = kept_on c.args.pool.now c.loop-clause.pool c.intern.new.self c.loop-clause.invariant.kept c.intern.ensures.kept
+returns-in_err-enter-clause-kept c = kept_along c.args.pool.now c.loop-clause.pool c.intern.new.self c.loop-clause.invariant.kept c.intern.ensures.kept
 
 pub loop-clause-preserved : goal.loop-clause-preserved
 loop-clause-preserved c =
@@ -31,7 +31,7 @@ loop-clause-preserved c =
       ids = subst (λ entries. HasIdsByClass c.intern.new.self entries c.args.classes c.enter.new.table.items) (sym (entries_more c.args.clauses.now c.loop-clause.clause-index item (omega arith) c.clause-item.is))
           (id_more c.loop-clause.pool c.intern.new.self before (entry_of item) c.args.classes c.loop-clause.table.items c.enter.new.table.items c.in_ok-id.id c.loop-clause.invariant.ids c.intern.ensures.kept
           (subst (λ clause. IsIdOf c.intern.new.self.clauses clause c.in_ok-id.id) c.as_slice.ensures c.in_ok-id.ensures.ok) inside c.in_ok-enter.ensures);
-      kept = kept_on c.args.pool.now c.loop-clause.pool c.intern.new.self c.loop-clause.invariant.kept c.intern.ensures.kept;
+      kept = kept_along c.args.pool.now c.loop-clause.pool c.intern.new.self c.loop-clause.invariant.kept c.intern.ensures.kept;
       gains = clause_gained c.args.pool.now c.loop-clause.pool c.intern.new.self c.as_slice.result.now c.loop-clause.table.items c.enter.new.table.items item.class c.in_ok-id.id c.loop-clause.invariant.gains
           c.in_ok-id.ensures.gains c.intern.ensures.rows c.in_ok-id.ensures.ok (let count : length c.loop-clause.table.items ≡ c.args.classes = c.loop-clause.invariant.ids.count in omega arith) c.in_ok-enter.ensures;
     }

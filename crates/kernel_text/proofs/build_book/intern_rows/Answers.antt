@@ -1,17 +1,18 @@
 use Rattle.std.proofs.Common.{ap, sym, subst, ◌∙◌, arith}
+use Rattle.listed.proofs.Lists.{item_nil}
 use Rattle.clause_pool.specs.Interned.{Gains, IsIdOf, OfPool, clauses_at}
+use Rattle.clause_pool.proofs.Interned.{kept_along, clauses_kept, kept_of_pool}
 use Rattle.row_book.specs.Clauses.{InOrder}
 use Rattle.row_book.proofs.Lists.{item_in}
-use Rattle.repo_model.proofs.Interning.{clauses_kept, kept_on}
 use Rattle.kernel_text.proofs.Gained.{row_gained}
-use Rattle.kernel_text.proofs.IdTables.{list_at, of_kept, row_more}
+use Rattle.kernel_text.proofs.IdTables.{row_more}
 use Rattle.kernel_text.proofs.build_book.intern_rows.Goals as goal
 
 pub intern_row-requires-clause-of_pool : goal.intern_row-requires-clause-of_pool
 intern_row-requires-clause-of_pool c =
     let ids = c.ids-item.result in
     subst (OfPool c.loop-ids.pool) (sym c.as_slice.ensures)
-    (of_kept c.args.pool.now c.loop-ids.pool c.loop-ids.invariant.kept ids (c.requires.of_pool ids (item_in c.args.table.now c.loop-ids.ids-index ids (omega arith) c.ids-item.is)))
+    (kept_of_pool c.args.pool.now c.loop-ids.pool c.loop-ids.invariant.kept ids (c.requires.of_pool ids (item_in c.args.table.now c.loop-ids.ids-index ids (omega arith) c.ids-item.is)))
 
 pub intern_row-requires-clause-in_order : goal.intern_row-requires-clause-in_order
 intern_row-requires-clause-in_order c =
@@ -21,7 +22,7 @@ intern_row-requires-clause-in_order c =
     (c.requires.in_order ids inside)
 
 pub returns-in_err-push-clause-kept : goal.returns-in_err-push-clause-kept
-returns-in_err-push-clause-kept c = kept_on c.args.pool.now c.loop-ids.pool c.intern_row.new.self c.loop-ids.invariant.kept c.intern_row.ensures.kept
+returns-in_err-push-clause-kept c = kept_along c.args.pool.now c.loop-ids.pool c.intern_row.new.self c.loop-ids.invariant.kept c.intern_row.ensures.kept
 
 pub loop-ids-preserved : goal.loop-ids-preserved
 loop-ids-preserved c =
@@ -29,11 +30,11 @@ loop-ids-preserved c =
     let inside = item_in c.args.table.now c.loop-ids.ids-index ids (omega arith) c.ids-item.is in
     record {
       rows = row_more c.args.pool.now c.loop-ids.pool c.intern_row.new.self c.args.table.now c.loop-ids.ids-index ids c.loop-ids.rows.items c.push.new.self.items c.in_ok-row.row (omega arith)
-          (list_at c.args.table.now c.loop-ids.ids-index ids (omega arith) c.ids-item.is) c.loop-ids.invariant.rows c.loop-ids.invariant.kept c.intern_row.ensures.kept
+          (item_nil c.args.table.now c.loop-ids.ids-index ids (omega arith) c.ids-item.is) c.loop-ids.invariant.rows c.loop-ids.invariant.kept c.intern_row.ensures.kept
           (subst (λ xs. IsIdOf c.intern_row.new.self.rows xs c.in_ok-row.row) c.as_slice.ensures c.in_ok-row.ensures.ok) (c.requires.of_pool ids inside) c.in_ok-push.ensures.items;
-      kept = kept_on c.args.pool.now c.loop-ids.pool c.intern_row.new.self c.loop-ids.invariant.kept c.intern_row.ensures.kept;
+      kept = kept_along c.args.pool.now c.loop-ids.pool c.intern_row.new.self c.loop-ids.invariant.kept c.intern_row.ensures.kept;
       gains = row_gained c.args.pool.now c.loop-ids.pool c.intern_row.new.self c.args.table.now c.loop-ids.ids-index ids c.loop-ids.rows.items c.push.new.self.items c.in_ok-row.row (omega arith)
-          (list_at c.args.table.now c.loop-ids.ids-index ids (omega arith) c.ids-item.is) c.loop-ids.invariant.gains c.loop-ids.invariant.rows.within c.intern_row.ensures.kept
+          (item_nil c.args.table.now c.loop-ids.ids-index ids (omega arith) c.ids-item.is) c.loop-ids.invariant.gains c.loop-ids.invariant.rows.within c.intern_row.ensures.kept
           (subst (λ xs. Gains c.loop-ids.pool.rows xs c.intern_row.new.self.rows) c.as_slice.ensures c.in_ok-row.ensures.gains) c.intern_row.ensures.clauses
           (subst (λ xs. IsIdOf c.intern_row.new.self.rows xs c.in_ok-row.row) c.as_slice.ensures c.in_ok-row.ensures.ok) c.in_ok-push.ensures.items;
     }

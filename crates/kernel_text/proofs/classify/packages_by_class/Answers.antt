@@ -4,7 +4,7 @@ use Rattle.kernel_text.proofs.Written.{none_taken, one_taken}
 use Rattle.kernel_text.proofs.classify.packages_by_class.Goals as goal
 
 pub loop-number-init : goal.loop-number-init
-loop-number-init c = none_taken c.args.class_of.now c.args.size c.in_ok-table.table.items c.in_ok-table.ensures.count c.in_ok-table.ensures.empty
+loop-number-init c = none_taken c.args.class_of.now c.args.size c.in_ok-table.table.items c.in_ok-table.ensures.size c.in_ok-table.ensures.empty
 
 -- the class of each package is one of the classes
 pub enter-requires : goal.enter-requires

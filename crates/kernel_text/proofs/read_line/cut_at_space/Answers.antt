@@ -1,6 +1,7 @@
 use Rattle.std.proofs.Common.{◌≡◌, ◌+◌, ◌-◌, suc, length, take, drop, Some, sym, ap, ◌∙◌, subst, add-one}
+use Rattle.listed.proofs.Lists.{to_end}
 use Rattle.kernel_text.specs.Words.{IsCut}
-use Rattle.kernel_text.proofs.LineWords.{cut_found, cut_missed, to_end}
+use Rattle.kernel_text.proofs.LineWords.{cut_found, cut_missed}
 use Rattle.kernel_text.proofs.read_line.cut_at_space.Goals as goal
 
 -- the rest is lent to its end

@@ -1,6 +1,7 @@
 use Rattle.std.proofs.Common.{◌≡◌, ◌-◌, length, take, drop, Some, sym, subst}
+use Rattle.listed.proofs.Lists.{to_end}
 use Rattle.kernel_text.specs.Words.{IsCut}
-use Rattle.kernel_text.proofs.LineWords.{member_cut, to_end}
+use Rattle.kernel_text.proofs.LineWords.{member_cut}
 use Rattle.kernel_text.proofs.read_line.cut_line.Goals as goal
 
 -- the rest is lent to its end

@@ -1,7 +1,7 @@
 use Rattle.std.proofs.Common.{◌+◌, ◌∙◌, ap, arith, length}
+use Rattle.listed.proofs.Lists.{filter_short}
 use Rattle.migrate_plan.specs.Entered.{has_number}
 use Rattle.migrate_plan.proofs.Entering.{counted_by}
-use Rattle.migrate_plan.proofs.Taken.{filter_short}
 use Rattle.migrate_plan.proofs.checks.packages_with.Goals as goal
 
 pub overflow_add-count : goal.overflow_add-count

@@ -1,5 +1,6 @@
 use Rattle.std.proofs.Common.{◌≤◌, ◌∙◌, [], ap, arith, length, map, refl, subst, sym}
 use Rattle.std.proofs.lemmas.Result.{err_from_is_err_and}
+use Rattle.repo_model.specs.Limits.{most_packages}
 use Rattle.migrate_plan.specs.Differing.{differing}
 use Rattle.migrate_plan.specs.Plan.{settings_of}
 use Rattle.migrate_plan.specs.Promises.{AreRight, TakesSafely, name_of}
@@ -9,16 +10,16 @@ use Rattle.migrate_plan.proofs.Planned.{plan_is, plan_names, plan_right, plan_sa
 use Rattle.migrate_plan.proofs.making.make_plan.Goals as goal
 
 pub differing_names-requires-clause-old : goal.differing_names-requires-clause-old
-differing_names-requires-clause-old c = subst (λ xs. length xs ≤ 200000) (sym c.as_slice-before.ensures) c.args.old.now.suite.few
+differing_names-requires-clause-old c = subst (λ xs. length xs ≤ most_packages) (sym c.as_slice-before.ensures) c.args.old.now.suite.few
 
 pub differing_names-requires-clause-new : goal.differing_names-requires-clause-new
-differing_names-requires-clause-new c = subst (λ xs. length xs ≤ 200000) (sym c.as_slice-after.ensures) c.args.new.now.few
+differing_names-requires-clause-new c = subst (λ xs. length xs ≤ most_packages) (sym c.as_slice-after.ensures) c.args.new.now.few
 
 pub check_packages-requires-clause-old : goal.check_packages-requires-clause-old
-check_packages-requires-clause-old c = subst (λ xs. length xs ≤ 200000) (sym c.as_slice-before.ensures) c.args.old.now.suite.few
+check_packages-requires-clause-old c = subst (λ xs. length xs ≤ most_packages) (sym c.as_slice-before.ensures) c.args.old.now.suite.few
 
 pub check_packages-requires-clause-new : goal.check_packages-requires-clause-new
-check_packages-requires-clause-new c = subst (λ xs. length xs ≤ 200000) (sym c.as_slice-after.ensures) c.args.new.now.few
+check_packages-requires-clause-new c = subst (λ xs. length xs ≤ most_packages) (sym c.as_slice-after.ensures) c.args.new.now.few
 
 pub returns-in_err-check_homes-clause-refused : goal.returns-in_err-check_homes-clause-refused
 returns-in_err-check_homes-clause-refused c =

@@ -1,5 +1,6 @@
 use Rattle.std.proofs.Common.{◌≡◌, ◌≤◌, ◌∙◌, [], ◌∷◌, ◌++◌, None, length, subst, sym}
 use Rattle.repo_model.specs.FirstFault.{first_fault}
+use Rattle.repo_model.specs.Limits.{most_bytes}
 use Rattle.suite_compare.specs.Refusals.{packages_in}
 use Rattle.migrate_plan.specs.Differing.{differing}
 use Rattle.migrate_plan.specs.Plan.{settings_of}
@@ -9,7 +10,7 @@ use Rattle.migrate_plan.proofs.making.try_name.Goals as goal
 
 pub line_of-requires-clause-short : goal.line_of-requires-clause-short
 line_of-requires-clause-short c =
-    subst (λ text. length text ≤ 1073741824) (sym (c.as_slice.ensures.value ∙ c.in_ok-mix.ensures)) (mix_short c.args.old_bytes.now c.args.new_bytes.now (c.args.taken.now ++ c.args.name.now ∷ []) c.requires.within)
+    subst (λ text. length text ≤ most_bytes) (sym (c.as_slice.ensures.value ∙ c.in_ok-mix.ensures)) (mix_short c.args.old_bytes.now c.args.new_bytes.now (c.args.taken.now ++ c.args.name.now ∷ []) c.requires.within)
 
 pub line_of-requires-clause-accepted : goal.line_of-requires-clause-accepted
 line_of-requires-clause-accepted c =

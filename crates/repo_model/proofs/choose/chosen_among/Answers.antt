@@ -1,7 +1,8 @@
 use Rattle.std.proofs.Common.{sym, ap, ◌∙◌}
+use Rattle.listed.proofs.Numbers.{number_kept, number_left}
 use Rattle.repo_model.specs.Goals.{is_named_by}
 use Rattle.repo_model.specs.Stanzas.{stanza_at}
-use Rattle.repo_model.proofs.Numbers.{number_kept, number_left, same_stanza}
+use Rattle.repo_model.proofs.Numbers.{same_stanza}
 use Rattle.repo_model.proofs.choose.chosen_among.Goals as goal
 use Rattle.repo_model.proofs.choose.chosen_among.Goals.{then-is_named_by+in_ok-push, else-is_named_by}
 

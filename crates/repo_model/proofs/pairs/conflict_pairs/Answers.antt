@@ -14,8 +14,7 @@ loop-place-preserved c =
     let n = c.loop-place.place in
     let facts = c.index-packages-place.result in
     let same : facts ≡ stanza_at packages n = same_stanza packages n facts (omega arith) c.index-packages-place.is in
-    let named = c.as_slice.ensures ∙ ap (λ (s : PackageFacts). s.name) same in
-    let others = c.deref.ensures.value ∙ c.in_ok-earlier.ensures ∙ ap (λ text. numbers_where (is_named text) (take n packages)) named in
+    let others = c.deref.ensures.value ∙ c.in_ok-earlier.ensures in
     found_more home packages n [] c.loop-place.pairs.items c.push_pairs.new.pairs.items c.push_against.new.pairs.items c.loop-place.invariant
     (subst (λ numbers. Adds (IsPairWith n numbers) c.loop-place.pairs.items c.push_pairs.new.pairs.items) others c.in_ok-push_pairs.ensures)
     (subst (λ atoms. Adds (IsAgainst home packages n atoms) c.push_pairs.new.pairs.items c.push_against.new.pairs.items) (c.as_slice-against.ensures ∙ ap (λ (s : PackageFacts). s.against) same)

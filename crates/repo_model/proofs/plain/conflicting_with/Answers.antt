@@ -1,6 +1,6 @@
 use Rattle.std.proofs.Common.{sym, ◌∙◌}
+use Rattle.listed.proofs.Numbers.{number_kept, number_left}
 use Rattle.repo_model.specs.Repository.{in_conflict}
-use Rattle.repo_model.proofs.Numbers.{number_kept, number_left}
 use Rattle.repo_model.proofs.plain.conflicting_with.Goals as goal
 use Rattle.repo_model.proofs.plain.conflicting_with.Goals.{then-conflict+in_ok-push, else-conflict}
 

@@ -1,6 +1,6 @@
 use Rattle.repo_model.specs.Repository.{conflicting_with}
-use Rattle.repo_model.proofs.Numbers.{number_mapped}
 use Rattle.repo_model.proofs.plain.conflicts.Goals as goal
+use Rattle.listed.proofs.Numbers.{number_mapped}
 
 pub loop-number-preserved : goal.loop-number-preserved
 loop-number-preserved c =

@@ -1,7 +1,7 @@
 use Rattle.repo_model.specs.Repository.{row_of}
 use Rattle.repo_model.specs.Stanzas.{stanza_at}
-use Rattle.repo_model.proofs.Numbers.{number_mapped}
 use Rattle.repo_model.proofs.plain.rows.Goals as goal
+use Rattle.listed.proofs.Numbers.{number_mapped}
 
 pub loop-number-preserved : goal.loop-number-preserved
 loop-number-preserved c =

@@ -6,6 +6,7 @@ use Rattle.stanza_reader.specs.Reading.{readings_at}
 use Rattle.stanza_reader.specs.Stanzas.{readings}
 use Rattle.repo_model.specs.Building.{IsIndexOf}
 use Rattle.repo_model.specs.Feeding.{IsFront}
+use Rattle.repo_model.specs.Limits.{most_packages}
 use Rattle.repo_model.proofs.Steps.{IsRead}
 use Rattle.repo_model.proofs.reading.read_behind.Given as goal
 
@@ -13,7 +14,7 @@ abbrev pub invariant-loop-building : goal.invariant-loop-building
 invariant-loop-building l = record {
   place : IsPlace l.part l.at;
   counted : l.at.line ≡ l.fn.line + count_by is_line_feed (take l.at.offset l.part);
-  few : length l.building.packages ≤ 200000;
+  few : length l.building.packages ≤ most_packages;
   indexed : IsIndexOf l.building.packages l.building.index;
   read : (text : List ℕ) → IsFront l.fn.front l.fn.line text → IsRead (readings (text ++ l.part)) (readings_at l.part l.at) l.building.packages l.building.home.name;
 }

@@ -1,12 +1,17 @@
-use Rattle.std.proofs.Common.{◌≡◌, ◌∙◌, ap, drop, subst, map, arith}
-use Rattle.clause_pool.specs.Interned.{clauses_at}
+use Rattle.std.proofs.Common.{◌≡◌, ◌∙◌, ap, drop, length, refl, subst, sym, map, ◌-◌, arith}
+use Rattle.std.proofs.lemmas.List.{drop_all, get_or_default}
+use Rattle.clause_pool.proofs.Lists.{In_none}
+use Rattle.row_book.specs.Sets.{In}
+use Rattle.clause_pool.proofs.Interned.{kept_along, kept_of_pool, kept_same}
+use Rattle.clause_pool.specs.Interned.{clause_at, clauses_at}
 use Rattle.row_book.specs.Clauses.{in_row_order, insert_clause}
 use Rattle.repo_model.specs.Repository.{clause_of}
-use Rattle.repo_model.proofs.Interning.{ids_back, ids_more, of_pool_kept}
+use Rattle.repo_model.proofs.Interning.{ids_back, ids_more}
+use Rattle.repo_model.proofs.KnownIds.{element_there}
 use Rattle.repo_model.proofs.rows.intern_clauses.Goals as goal
 
 pub place-requires-clause-of_pool : goal.place-requires-clause-of_pool
-place-requires-clause-of_pool c = of_pool_kept c.loop-left.pool c.clause_id.new.pool c.clause_id.ensures.kept c.loop-left.ids.items c.loop-left.invariant.made.of_pool
+place-requires-clause-of_pool c = kept_of_pool c.loop-left.pool c.clause_id.new.pool c.clause_id.ensures.kept c.loop-left.ids.items c.loop-left.invariant.made.of_pool
 
 pub loop-left-preserved : goal.loop-left-preserved
 loop-left-preserved c =
@@ -26,3 +31,30 @@ loop-left-preserved c =
           c.in_ok-place.ensures.stays);
       known = c.in_ok-id.ensures.known;
     }
+
+pub loop-left-init : goal.loop-left-init
+loop-left-init c =
+    let f = clause_of c.args.home.now c.args.packages.now in
+    let none = c.in_ok-ids.ensures.items in record {
+      within = omega arith;
+      made = record {
+        rows = refl;
+        kept = kept_same c.args.pool.now;
+        of_pool = λ id i. absurd (In_none (subst (In id) none i));
+        clauses = ap (map (clause_at c.args.pool.now)) none ∙ ap (λ xs. in_row_order (map f xs)) (sym (drop_all (length c.args.elements.now) c.args.elements.now (omega arith)));
+        only = λ id l m. absurd (omega (arith, l, m));
+      };
+      known = c.requires.known;
+    }
+
+pub clause_id-requires-clause-at : goal.clause_id-requires-clause-at
+clause_id-requires-clause-at c =
+    element_there c.args.packages.now (record { number = c.args.number; place = c.loop-left.left - 1 }) c.args.elements.now c.as_slice-element.result.now c.requires.of (omega arith)
+    (c.as_slice-element.ensures ∙ c.index-elements-left.is
+    ∙ get_or_default c.args.elements.now (c.loop-left.left - 1) c.index-elements-left.result c.as_slice-element.result.now (omega arith))
+
+pub returns-in_err-id-clause-kept : goal.returns-in_err-id-clause-kept
+returns-in_err-id-clause-kept c = kept_along c.args.pool.now c.loop-left.pool c.clause_id.new.pool c.loop-left.invariant.made.kept c.clause_id.ensures.kept
+
+pub returns-in_err-place-clause-kept : goal.returns-in_err-place-clause-kept
+returns-in_err-place-clause-kept c = kept_along c.args.pool.now c.loop-left.pool c.clause_id.new.pool c.loop-left.invariant.made.kept c.clause_id.ensures.kept

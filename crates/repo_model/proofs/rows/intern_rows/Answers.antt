@@ -1,4 +1,5 @@
 use Rattle.std.proofs.Common.{◌∷◌, [], subst, map, arith}
+use Rattle.clause_pool.proofs.Interned.{kept_along}
 use Rattle.row_book.specs.Clauses.{in_row_order}
 use Rattle.repo_model.specs.Interning.{HasRows}
 use Rattle.repo_model.specs.Repository.{clause_of, row_of}
@@ -16,3 +17,9 @@ loop-number-preserved c =
           c.in_ok-push.ensures.items;
       known = c.in_ok-intern_row.ensures.known;
     }
+
+pub returns-in_err-intern_row-clause-kept : goal.returns-in_err-intern_row-clause-kept
+returns-in_err-intern_row-clause-kept c = kept_along c.args.pool.now c.loop-number.pool c.intern_row.new.pool c.loop-number.invariant.made.kept c.intern_row.ensures.kept
+
+pub returns-in_err-push-clause-kept : goal.returns-in_err-push-clause-kept
+returns-in_err-push-clause-kept c = kept_along c.args.pool.now c.loop-number.pool c.intern_row.new.pool c.loop-number.invariant.made.kept c.intern_row.ensures.kept

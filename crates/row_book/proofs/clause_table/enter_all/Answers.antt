@@ -14,7 +14,7 @@ enter-requires-clause-numbers c n i =
 
 pub loop-id-preserved : goal.loop-id-preserved
 loop-id-preserved c = record {
-  entered = there_more c.args.ids.now c.loop-id.id-index c.id-item.result c.args.«package» (lists_in c.loop-id.users) (lists_in c.enter.new.users) c.loop-id-test.true c.id-item.is
+  entered = there_more c.args.ids.now c.loop-id.id-index c.id-item.result c.args.number (lists_in c.loop-id.users) (lists_in c.enter.new.users) c.loop-id-test.true c.id-item.is
       c.enter.ensures.users c.in_ok-enter.ensures.entered c.loop-id.invariant.entered;
   users = λ n m i. c.enter.ensures.users n m (c.loop-id.invariant.users n m i);
   lists = λ f. c.enter.ensures.lists (c.loop-id.invariant.lists f);

@@ -4,10 +4,10 @@ use Rattle.row_book.proofs.Lists.{item_in}
 use Rattle.row_book.proofs.clause_table.enter_rows.Goals as goal
 
 pub row-requires : goal.row-requires
-row-requires c = c.requires.fit.of_pool c.index-rows-package.result (item_in c.args.rows.now c.loop-package.package c.index-rows-package.result c.loop-package-test.true c.index-rows-package.is)
+row-requires c = c.requires.fit.of_pool c.index-rows-number.result (item_in c.args.rows.now c.loop-number.number c.index-rows-number.result c.loop-number-test.true c.index-rows-number.is)
 
 pub enter_all-requires-clause-numbers : goal.enter_all-requires-clause-numbers
 enter_all-requires-clause-numbers c =
     row_numbers_fit c.args.pool.now c.args.rows.now _ c.row.result.now _ c.requires.fit
-    (item_in c.args.rows.now c.loop-package.package _ c.loop-package-test.true c.index-rows-package.is) c.row.ensures.lent
-    (c.loop-package.auto.clauses ∙ c.requires.size)
+    (item_in c.args.rows.now c.loop-number.number _ c.loop-number-test.true c.index-rows-number.is) c.row.ensures.lent
+    (c.loop-number.auto.clauses ∙ c.requires.size)

@@ -3,8 +3,8 @@ use Rattle.row_book.specs.Uses.{lists_in}
 use Rattle.row_book.proofs.Holders.{AreUsers}
 use Rattle.row_book.proofs.clause_table.enter_rows.Given as goal
 
-abbrev pub invariant-loop-package : goal.invariant-loop-package
-invariant-loop-package l = record {
-  users : AreUsers l.pool l.rows l.package (lists_in l.users);
+abbrev pub invariant-loop-number : goal.invariant-loop-number
+invariant-loop-number l = record {
+  users : AreUsers l.pool l.rows l.number (lists_in l.users);
   lists : ListsClauses l.pool (holders_in l.users l.clauses);
 }

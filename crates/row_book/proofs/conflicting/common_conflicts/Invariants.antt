@@ -4,5 +4,5 @@ use Rattle.row_book.specs.Book.{listed_for}
 use Rattle.row_book.specs.Facing.{against_in}
 use Rattle.row_book.proofs.conflicting.common_conflicts.Given as goal
 
-abbrev pub invariant-loop-package : goal.invariant-loop-package
-invariant-loop-package l = l.common.items ≡ filter (λ n. list_all (λ m. against_in l.table m n) l.others) (take l.package-index (listed_for l.table l.first))
+abbrev pub invariant-loop-number : goal.invariant-loop-number
+invariant-loop-number l = l.common.items ≡ filter (λ n. list_all (λ m. against_in l.table m n) l.others) (take l.number-index (listed_for l.table l.first))

@@ -12,6 +12,6 @@ loop-number-preserved c =
     let k = c.loop-number.number-index in
     let x = get_or c.args.numbers.now k 0 in
     let u : x < length c.loop-number.table = place_within c.loop-number.table c.args.numbers.now c.loop-number.number-index (length c.args.table.now) c.loop-number.auto.table c.loop-number-test.true c.requires.within in
-    let r : has c.args.kept.now x ≡ false = sym c.holds.ensures ∙ c.if-holds.false in
+    let r : has c.args.kept.now x ≡ false = sym c.holds_sorted.ensures ∙ c.if-holds_sorted.false in
     take_more_out c.args.table.now c.loop-number.table c.args.numbers.now c.args.kept.now k x c.args.package (get_or c.loop-number.table x c.index-table-number.result) c.take_out.new.list c.index-table-number.result c.loop-number-test.true (get_or_default c.args.numbers.now k 0 x c.loop-number-test.true) u refl
     r c.take_out.ensures c.loop-number.invariant

@@ -2,11 +2,12 @@ use Rattle.std.proofs.Common.{◌≡◌, ◌∙◌, ◌+◌, ◌-◌, List, ℕ,
 use Rattle.std.specs.List.{list_any}
 use Rattle.std.specs.Option.{option_map}
 use Rattle.std.proofs.lemmas.Bool.{OnTrue_at}
+use Rattle.std.proofs.lemmas.List.{get_or_default}
+use Rattle.listed.proofs.Orders.{rest_ascends}
 use Rattle.clause_pool.specs.Interned.{clause_at}
 use Rattle.row_book.specs.Clauses.{Ascending}
 use Rattle.row_book.specs.Within.{rest_within}
-use Rattle.row_book.proofs.Groups.{in_part, none_further, none_within, one_within, part_deep, part_in_order, rest_ascends}
-use Rattle.row_book.proofs.Leads.{read_same}
+use Rattle.row_book.proofs.Groups.{in_part, none_further, none_within, one_within, part_deep, part_in_order}
 use Rattle.row_book.proofs.Lists.{item_in}
 use Rattle.row_book.proofs.within.+has_rest_within.Goals as goal
 
@@ -20,9 +21,9 @@ pub returns-then-all_below : goal.returns-then-all_below
 returns-then-all_below t c =
     let head : rest_within c.args.pool.now (option_map (clause_at c.args.pool.now) c.args.but.now) c.args.depth c.args.wanted.now (get_or c.args.group.now 0 0) ≡ false =
     ap (rest_within c.args.pool.now (option_map (clause_at c.args.pool.now) c.args.but.now) c.args.depth c.args.wanted.now)
-    (sym (c.index-group-0.is ∙ read_same c.args.group.now 0 c.index-group-0.result 0 (omega arith))) ∙ sym c.is_within.ensures ∙ c.if-is_within.false in
+    (sym (c.index-group-0.is ∙ get_or_default c.args.group.now 0 c.index-group-0.result 0 (omega arith))) ∙ sym c.is_within.ensures ∙ c.if-is_within.false in
     sym (none_further c.args.pool.now (option_map (clause_at c.args.pool.now) c.args.but.now) c.args.depth c.args.group.now c.requires.order c.args.wanted.now
-    (λ id i. c.clause_count.ensures.sound.ascending id (c.requires.group id i)) c.requires.wanted head
+    (λ id i. c.requires.pool.ascending id (c.requires.group id i)) c.requires.wanted head
     c.loop-place.place (OnTrue_at c.if-all_below.true c.all_below.ensures) (λ k l. c.loop-place.invariant k (omega arith)))
 
 pub has_rest_within-requires : goal.has_rest_within-requires
@@ -33,16 +34,19 @@ has_rest_within-requires t c =
     ap length c.numbers_behind-rest.ensures ∙ length-drop (c.loop-place.place + 1) c.args.wanted.now in (
       omega (arith, c.decreases, size),
       (
-        λ id i. c.requires.group id (in_part c.args.pool.now c.args.depth c.args.group.now c.requires.order number part c.group_of-part.ensures id i).0,
+        c.requires.pool,
         (
-          part_deep c.args.pool.now c.args.depth c.args.group.now c.requires.order number part c.group_of-part.ensures,
+          λ id i. c.requires.group id (in_part c.args.pool.now c.args.depth c.args.group.now c.requires.order number part c.group_of-part.ensures id i).0,
           (
-            part_in_order c.args.pool.now c.args.depth c.args.group.now c.requires.order number part c.group_of-part.ensures,
+            part_deep c.args.pool.now c.args.depth c.args.group.now c.requires.order number part c.group_of-part.ensures,
             (
-              c.requires.but,
+              part_in_order c.args.pool.now c.args.depth c.args.group.now c.requires.order number part c.group_of-part.ensures,
               (
-                subst Ascending (sym c.numbers_behind-rest.ensures) (rest_ascends (c.loop-place.place + 1) c.args.wanted.now c.requires.wanted),
-                omega (arith, c.requires.fits, size),
+                c.requires.but,
+                (
+                  subst Ascending (sym c.numbers_behind-rest.ensures) (rest_ascends (c.loop-place.place + 1) c.args.wanted.now c.requires.wanted),
+                  omega (arith, c.requires.fits, size),
+                ),
               ),
             ),
           ),
@@ -62,7 +66,7 @@ pub returns : goal.returns
 returns t c =
     let head : rest_within c.args.pool.now (option_map (clause_at c.args.pool.now) c.args.but.now) c.args.depth c.args.wanted.now (get_or c.args.group.now 0 0) ≡ false =
     ap (rest_within c.args.pool.now (option_map (clause_at c.args.pool.now) c.args.but.now) c.args.depth c.args.wanted.now)
-    (sym (c.index-group-0.is ∙ read_same c.args.group.now 0 c.index-group-0.result 0 (omega arith))) ∙ sym c.is_within.ensures ∙ c.if-is_within.false in
+    (sym (c.index-group-0.is ∙ get_or_default c.args.group.now 0 c.index-group-0.result 0 (omega arith))) ∙ sym c.is_within.ensures ∙ c.if-is_within.false in
     sym (none_within c.args.pool.now (option_map (clause_at c.args.pool.now) c.args.but.now) c.args.depth c.args.group.now c.requires.order c.args.wanted.now
-    (λ id i. c.clause_count.ensures.sound.ascending id (c.requires.group id i)) c.requires.wanted head
+    (λ id i. c.requires.pool.ascending id (c.requires.group id i)) c.requires.wanted head
     (λ k l. c.loop-place.invariant k (omega arith)))

@@ -1,5 +1,6 @@
 use Rattle.std.proofs.Common.{◌≤◌, ◌++◌, length, subst, sym, ap, ◌∙◌}
 use Rattle.repo_model.specs.FirstFault.{first_fault}
+use Rattle.repo_model.specs.Limits.{most_bytes}
 use Rattle.sample_suite.specs.SampleText.{sample_text, stanza_text}
 use Rattle.sample_suite.proofs.Drawn.{text_begun, text_more, text_whole}
 use Rattle.sample_suite.proofs.Fitting.{sample_accepted, sample_short}
@@ -25,4 +26,4 @@ returns-clause-accepted c =
 pub returns-clause-short : goal.returns-clause-short
 returns-clause-short c =
     let is = text_whole c.args.count c.loop-number.number c.loop-number.draws.state (sample_text c.args.seed c.args.count) c.loop-number.text.items c.loop-number-test.false c.loop-number.invariant in
-    subst (λ text. length text ≤ 1073741824) (sym is) (sample_short c.args.seed c.args.count c.requires)
+    subst (λ text. length text ≤ most_bytes) (sym is) (sample_short c.args.seed c.args.count c.requires)

@@ -16,6 +16,7 @@ loop-at-init c = record {
   behind = refl;
   shape = refl;
   keys = c.in_ok-names.ensures.keys;
+  marks = c.in_ok-names.ensures.marks;
   repeat = repeat_first _ _ c.in_ok-names.ensures.holds c.in_ok-names.ensures.repeat;
   fields = λ _. rw c.new-fields.ensures refl;
 }
@@ -35,6 +36,7 @@ loop-at-preserved-in_default c =
       behind = behind_more _ _ _ _ next.lines full held.behind;
       shape = shape_more _ _ _ _ next.lines full c.in-Ok.ensures.fine held.shape;
       keys = c.in_ok-note.ensures.keys;
+      marks = c.in_ok-note.ensures.marks;
       repeat = repeat_more _ _ _ _ _ _ _ _ next.lines full plain (sym c.in-Ok.ensures.name) c.in_ok-note.ensures.noted held.repeat;
       fields = λ none. fields_past _ _ _ _ _ next.lines full plain (sym (sym c.in_default.is ∙ c.in_ok-field.ensures)) (held.fields (c.in_ok-note.ensures.first none));
     }
@@ -54,6 +56,7 @@ loop-at-preserved c =
       behind = behind_more _ _ _ _ next.lines full held.behind;
       shape = shape_more _ _ _ _ next.lines full c.in-Ok.ensures.fine held.shape;
       keys = c.in_ok-note.ensures.keys;
+      marks = c.in_ok-note.ensures.marks;
       repeat = repeat_more _ _ _ _ _ _ _ _ next.lines full plain (sym c.in-Ok.ensures.name) c.in_ok-note.ensures.noted held.repeat;
       fields = λ none. fields_more _ _ _ _ _ _ _ next.lines full plain (sym (sym c.in-Some.is ∙ c.in_ok-field.ensures)) c.in_ok-push.ensures.ok (held.fields (c.in_ok-note.ensures.first none));
     }

@@ -4,5 +4,5 @@ use Rattle.status_check.specs.Lookup.{HasVersions}
 use Rattle.status_check.specs.Report.{line_for}
 use Rattle.status_check.proofs.lookup.have_lines.Given as goal
 
-abbrev pub invariant-loop-package : goal.invariant-loop-package
-invariant-loop-package l = (index : List PackageFacts) → HasVersions index l.table → l.lines ≡ map (line_for index) (take l.package-index l.packages)
+abbrev pub invariant-loop-number : goal.invariant-loop-number
+invariant-loop-number l = (index : List PackageFacts) → HasVersions index l.table → l.lines ≡ map (line_for index) (take l.number-index l.packages)

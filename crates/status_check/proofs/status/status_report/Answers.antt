@@ -1,4 +1,5 @@
 use Rattle.std.proofs.Common.{◌≤◌, ◌∙◌, ap, length, map, refl, subst, sym}
+use Rattle.repo_model.specs.Limits.{most_packages}
 use Rattle.suite_compare.specs.Asking.{verdict_in, wanted_by}
 use Rattle.suite_compare.proofs.Answered.{classes_fit}
 use Rattle.status_check.specs.Lookup.{HasVersions}
@@ -8,7 +9,7 @@ use Rattle.status_check.proofs.Judging.{judged, state_moved, told_healthy, verdi
 use Rattle.status_check.proofs.status.status_report.Goals as goal
 
 pub packages_by_version-requires : goal.packages_by_version-requires
-packages_by_version-requires c = subst (λ xs. length xs ≤ 200000) (sym c.as_slice-index.ensures) c.args.view.now.suite.few
+packages_by_version-requires c = subst (λ xs. length xs ≤ most_packages) (sym c.as_slice-index.ensures) c.args.view.now.suite.few
 
 pub had_classes-requires : goal.had_classes-requires
 had_classes-requires c = subst (λ xs. HasVersions xs c.in_ok-table.table) c.as_slice-index.ensures c.in_ok-table.ensures

@@ -1,6 +1,7 @@
 use Rattle.std.proofs.Common.{◌≤◌, ◌∙◌, ℕ, List, ap, filter, length, map, subst, sym}
 use Rattle.clause_solver.specs.declared.outcomes.Verdict.{Verdict}
 use Rattle.repo_model.specs.Goals.{any_version}
+use Rattle.repo_model.specs.Limits.{most_packages}
 use Rattle.search_terms.proofs.Ranges.{rows_long}
 use Rattle.suite_compare.specs.Asking.{verdict_in}
 use Rattle.suite_compare.specs.Comparing.{told_report}
@@ -10,10 +11,10 @@ use Rattle.suite_compare.proofs.Named.{both_new, both_old, lists_fit, lists_need
 use Rattle.suite_compare.proofs.comparison.compare.Goals as goal
 
 pub packages_by_name-requires : goal.packages_by_name-requires
-packages_by_name-requires c = subst (λ z. length z ≤ 200000) (sym c.as_slice-old_packages.ensures) c.args.old.now.suite.few
+packages_by_name-requires c = subst (λ z. length z ≤ most_packages) (sym c.as_slice-old_packages.ensures) c.args.old.now.suite.few
 
 pub packages_by_name-requires-2 : goal.packages_by_name-requires-2
-packages_by_name-requires-2 c = subst (λ z. length z ≤ 200000) (sym c.as_slice-new_packages.ensures) c.args.new.now.suite.few
+packages_by_name-requires-2 c = subst (λ z. length z ≤ most_packages) (sym c.as_slice-new_packages.ensures) c.args.new.now.suite.few
 
 pub classes_of_names-requires : goal.classes_of_names-requires
 classes_of_names-requires c = subst (λ z. HasNames z c.in_ok-old_table.old_table) c.as_slice-old_packages.ensures c.in_ok-old_table.ensures

@@ -8,8 +8,9 @@ use Rattle.suite_compare.specs.Comparing.{IsSide, IsTable}
 use Rattle.suite_compare.specs.Kinds.{AreJoined}
 use Rattle.suite_compare.specs.Report.{is_yes}
 use Rattle.suite_compare.specs.Telling.{told_after, told_alone}
-use Rattle.suite_compare.proofs.Compared.{bad_within, joined_moved, joint_within, kind_within, lines_are, side_moved, singles_long, told_long, told_within, undecided_ascends}
+use Rattle.suite_compare.proofs.Compared.{bad_within, joined_moved, joint_within, kind_within, lines_are, side_moved, told_long, told_within, undecided_ascends}
 use Rattle.suite_compare.proofs.comparison.lines_of.Goals as goal
+use Rattle.suite_compare.proofs.Judged.{single_length}
 
 pub joints_of-requires : goal.joints_of-requires
 joints_of-requires c = let o : IsSide c.args.old_pool.now c.args.old_book.now c.args.old_lists.now c.args.budget c.in_ok-old.old.solver c.as_slice-old_kinds.result.now c.as_slice-old_of.result.now c.as_slice-old_singles.result.now = (side_moved c.args.old_pool.now c.args.old_book.now c.args.old_lists.now c.args.budget c.in_ok-old.old.solver c.in_ok-old.old.kinds.lists.items c.as_slice-old_kinds.result.now c.in_ok-old.old.kinds.of.items c.as_slice-old_of.result.now c.in_ok-old.old.singles.items c.as_slice-old_singles.result.now c.as_slice-old_kinds.ensures.value c.as_slice-old_of.ensures.value c.as_slice-old_singles.ensures.value c.in_ok-old.ensures) in let n : IsSide c.args.new_pool.now c.args.new_book.now c.args.new_lists.now c.args.budget c.in_ok-new.new.solver c.as_slice-new_kinds.result.now c.as_slice-new_of.result.now c.as_slice-new_singles.result.now = (side_moved c.args.new_pool.now c.args.new_book.now c.args.new_lists.now c.args.budget c.in_ok-new.new.solver c.in_ok-new.new.kinds.lists.items c.as_slice-new_kinds.result.now c.in_ok-new.new.kinds.of.items c.as_slice-new_of.result.now c.in_ok-new.new.singles.items c.as_slice-new_singles.result.now c.as_slice-new_kinds.ensures.value c.as_slice-new_of.ensures.value c.as_slice-new_singles.ensures.value c.in_ok-new.ensures) in o.sorted.long ∙ c.requires.old_long ∙ sym (n.sorted.long ∙ c.requires.new_long)
@@ -39,10 +40,10 @@ pub all_partners-requires-clause-bad : goal.all_partners-requires-clause-bad
 all_partners-requires-clause-bad c = let b : AreAllBad (repository_of c.args.new_pool.now c.args.new_book.now) c.args.budget c.as_slice-new_kinds.result.now c.as_slice-bad.result.now = (subst (AreAllBad (repository_of c.args.new_pool.now c.args.new_book.now) c.args.budget c.as_slice-new_kinds.result.now) (sym c.as_slice-bad.ensures.value) c.in_ok-lists.ensures) in λ k e i. bad_within (repository_of c.args.new_pool.now c.args.new_book.now) c.args.budget c.as_slice-new_kinds.result.now c.as_slice-bad.result.now k e b i
 
 pub verdicts_by-requires : goal.verdicts_by-requires
-verdicts_by-requires c = let o : IsSide c.args.old_pool.now c.args.old_book.now c.args.old_lists.now c.args.budget c.in_ok-old.old.solver c.as_slice-old_kinds.result.now c.as_slice-old_of.result.now c.as_slice-old_singles.result.now = (side_moved c.args.old_pool.now c.args.old_book.now c.args.old_lists.now c.args.budget c.in_ok-old.old.solver c.in_ok-old.old.kinds.lists.items c.as_slice-old_kinds.result.now c.in_ok-old.old.kinds.of.items c.as_slice-old_of.result.now c.in_ok-old.old.singles.items c.as_slice-old_singles.result.now c.as_slice-old_kinds.ensures.value c.as_slice-old_of.ensures.value c.as_slice-old_singles.ensures.value c.in_ok-old.ensures) in λ k i. subst (λ z. k < z) (sym (singles_long (repository_of c.args.old_pool.now c.args.old_book.now) c.args.budget c.as_slice-old_kinds.result.now c.as_slice-old_singles.result.now o.told)) (kind_within c.args.old_lists.now c.as_slice-old_kinds.result.now c.as_slice-old_of.result.now k o.sorted i)
+verdicts_by-requires c = let o : IsSide c.args.old_pool.now c.args.old_book.now c.args.old_lists.now c.args.budget c.in_ok-old.old.solver c.as_slice-old_kinds.result.now c.as_slice-old_of.result.now c.as_slice-old_singles.result.now = (side_moved c.args.old_pool.now c.args.old_book.now c.args.old_lists.now c.args.budget c.in_ok-old.old.solver c.in_ok-old.old.kinds.lists.items c.as_slice-old_kinds.result.now c.in_ok-old.old.kinds.of.items c.as_slice-old_of.result.now c.in_ok-old.old.singles.items c.as_slice-old_singles.result.now c.as_slice-old_kinds.ensures.value c.as_slice-old_of.ensures.value c.as_slice-old_singles.ensures.value c.in_ok-old.ensures) in λ k i. subst (λ z. k < z) (sym (single_length (repository_of c.args.old_pool.now c.args.old_book.now) c.args.budget c.as_slice-old_kinds.result.now c.as_slice-old_singles.result.now o.told)) (kind_within c.args.old_lists.now c.as_slice-old_kinds.result.now c.as_slice-old_of.result.now k o.sorted i)
 
 pub verdicts_by-requires-2 : goal.verdicts_by-requires-2
-verdicts_by-requires-2 c = let n : IsSide c.args.new_pool.now c.args.new_book.now c.args.new_lists.now c.args.budget c.in_ok-new.new.solver c.as_slice-new_kinds.result.now c.as_slice-new_of.result.now c.as_slice-new_singles.result.now = (side_moved c.args.new_pool.now c.args.new_book.now c.args.new_lists.now c.args.budget c.in_ok-new.new.solver c.in_ok-new.new.kinds.lists.items c.as_slice-new_kinds.result.now c.in_ok-new.new.kinds.of.items c.as_slice-new_of.result.now c.in_ok-new.new.singles.items c.as_slice-new_singles.result.now c.as_slice-new_kinds.ensures.value c.as_slice-new_of.ensures.value c.as_slice-new_singles.ensures.value c.in_ok-new.ensures) in λ k i. subst (λ z. k < z) (sym (singles_long (repository_of c.args.new_pool.now c.args.new_book.now) c.args.budget c.as_slice-new_kinds.result.now c.as_slice-new_singles.result.now n.told)) (kind_within c.args.new_lists.now c.as_slice-new_kinds.result.now c.as_slice-new_of.result.now k n.sorted i)
+verdicts_by-requires-2 c = let n : IsSide c.args.new_pool.now c.args.new_book.now c.args.new_lists.now c.args.budget c.in_ok-new.new.solver c.as_slice-new_kinds.result.now c.as_slice-new_of.result.now c.as_slice-new_singles.result.now = (side_moved c.args.new_pool.now c.args.new_book.now c.args.new_lists.now c.args.budget c.in_ok-new.new.solver c.in_ok-new.new.kinds.lists.items c.as_slice-new_kinds.result.now c.in_ok-new.new.kinds.of.items c.as_slice-new_of.result.now c.in_ok-new.new.singles.items c.as_slice-new_singles.result.now c.as_slice-new_kinds.ensures.value c.as_slice-new_of.ensures.value c.as_slice-new_singles.ensures.value c.in_ok-new.ensures) in λ k i. subst (λ z. k < z) (sym (single_length (repository_of c.args.new_pool.now c.args.new_book.now) c.args.budget c.as_slice-new_kinds.result.now c.as_slice-new_singles.result.now n.told)) (kind_within c.args.new_lists.now c.as_slice-new_kinds.result.now c.as_slice-new_of.result.now k n.sorted i)
 
 pub tell_singles-requires-clause-old : goal.tell_singles-requires-clause-old
 tell_singles-requires-clause-old c = let o : IsSide c.args.old_pool.now c.args.old_book.now c.args.old_lists.now c.args.budget c.in_ok-old.old.solver c.as_slice-old_kinds.result.now c.as_slice-old_of.result.now c.as_slice-old_singles.result.now = (side_moved c.args.old_pool.now c.args.old_book.now c.args.old_lists.now c.args.budget c.in_ok-old.old.solver c.in_ok-old.old.kinds.lists.items c.as_slice-old_kinds.result.now c.in_ok-old.old.kinds.of.items c.as_slice-old_of.result.now c.in_ok-old.old.singles.items c.as_slice-old_singles.result.now c.as_slice-old_kinds.ensures.value c.as_slice-old_of.ensures.value c.as_slice-old_singles.ensures.value c.in_ok-old.ensures) in told_long c.as_slice-old_singles.result.now c.as_slice-was.result.now c.as_slice-old_of.result.now (c.as_slice-was.ensures.value ∙ c.in_ok-before.ensures) ∙ o.sorted.long ∙ c.requires.old_long

@@ -1,6 +1,5 @@
 use Rattle.std.proofs.Common.{◌∙◌}
-use Rattle.row_book.proofs.Inserts.{search_tells}
-use Rattle.clause_flatten.proofs.Beginnings.{ascending_rises}
+use Rattle.listed.proofs.Orders.{ascending_rises, search_tells}
 use Rattle.suite_compare.proofs.group.holds.Goals as goal
 
 pub returns : goal.returns

@@ -1,5 +1,5 @@
 use Rattle.std.proofs.lemmas.List.Filters.{dedup_is}
-use Rattle.repo_model.proofs.Chosen.{once_ascending, once_same}
+use Rattle.listed.proofs.Orders.{once_ascending, once_same}
 use Rattle.suite_compare.proofs.group.sort_once.Goals as goal
 
 pub returns-clause-ascending : goal.returns-clause-ascending

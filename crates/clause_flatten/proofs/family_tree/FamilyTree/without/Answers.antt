@@ -20,7 +20,7 @@ loop-place-preserved-in-Continue-1 c =
     let behind : BuiltOf c.loop-place.tree (apart_from c.args.number (drop (i + 1) cs)) = subst (λ k. BuiltOf c.loop-place.tree (apart_from c.args.number (drop k cs))) (omega arith) c.loop-place.invariant in
     subst (λ z. BuiltOf c.put.new.self z)
     (ap (λ x. x ∷ apart_from c.args.number (drop (i + 1) cs)) (sym at.is)
-    ∙ sym (without_more c.args.number cs i at.below (ap (λ x. has x c.args.number) at.is ∙ sym c.contains.ensures ∙ c.if-not-contains.true)))
+    ∙ sym (without_more c.args.number cs i at.below (ap (λ x. has x c.args.number) at.is ∙ sym c.holds_ascending.ensures ∙ c.if-not-holds_ascending.true)))
     (c.in_ok-put.ensures (apart_from c.args.number (drop (i + 1) cs)) behind)
 
 pub loop-place-preserved : goal.loop-place-preserved
@@ -31,5 +31,5 @@ loop-place-preserved c =
     at_clause c.args.pool.now c.args.row.now i c.index-row-place.result c.slice-clause.result.now (omega arith) c.index-row-place.is c.slice-clause.ensures.lent in
     let behind : BuiltOf c.loop-place.tree (apart_from c.args.number (drop (i + 1) cs)) = subst (λ k. BuiltOf c.loop-place.tree (apart_from c.args.number (drop k cs))) (omega arith) c.loop-place.invariant in
     subst (λ z. BuiltOf c.loop-place.tree z)
-    (sym (without_less c.args.number cs i at.below (ap (λ x. has x c.args.number) at.is ∙ sym c.contains.ensures ∙ c.if-not-contains.false)))
+    (sym (without_less c.args.number cs i at.below (ap (λ x. has x c.args.number) at.is ∙ sym c.holds_ascending.ensures ∙ c.if-not-holds_ascending.false)))
     behind

@@ -2,7 +2,7 @@ use Rattle.std.proofs.Common.{◌≡◌, ◌∙◌, length, ap}
 use Rattle.std.specs.Prelude.{map}
 use Rattle.clause_pool.specs.Interned.{row_at}
 use Rattle.clause_solver.specs.Engine.{IsEngine}
-use Rattle.clause_solver.proofs.Preparing.{engine_goals, own_negative, goals_full, search_end}
+use Rattle.clause_solver.proofs.Preparing.{engine_goals, own_negative, goals_full, goals_positive, search_end}
 use Rattle.search_terms.proofs.Ranges.{rows_long}
 use Rattle.clause_solver.proofs.solver.Solver.run.Goals as goal
 
@@ -12,6 +12,9 @@ start-requires-clause-engine c =
     let engine : IsEngine c.args.self.now.classes c.in_ok-wanted.wanted.items c.args.self.now.own.items c.args.self.now.uses.items c.args.book.now.conflicts =
     engine_goals c.args.self.now.classes (length c.args.book.now.rows) c.args.goals.now c.in_ok-wanted.wanted.items c.args.self.now.own.items c.args.self.now.uses.items c.args.book.now.conflicts c.in_ok-wanted.ensures.sentences size c.requires.goals c.requires.ready.engine in
     rw (c.deref.ensures.value, c.deref-2.ensures.value, c.deref-3.ensures.value, c.as_slice-conflicts.ensures, ap (λ w. w.0) c.requires.base ∙ c.requires.ready.marks) engine
+
+pub start-requires-clause-positive : goal.start-requires-clause-positive
+start-requires-clause-positive c = rw (c.deref.ensures.value ∙ c.in_ok-wanted.ensures.sentences) (goals_positive c.args.goals.now)
 
 pub walk-requires-clause-engine : goal.walk-requires-clause-engine
 walk-requires-clause-engine c =
@@ -25,6 +28,9 @@ walk-requires-clause-negative c = own_negative (map (row_at c.args.pool.now) c.a
 
 pub walk-requires-clause-full : goal.walk-requires-clause-full
 walk-requires-clause-full c = rw (c.deref-4.ensures.value ∙ c.in_ok-wanted.ensures.sentences) (goals_full c.args.goals.now c.in_ok-wanted.ensures.needs)
+
+pub walk-requires-clause-positive : goal.walk-requires-clause-positive
+walk-requires-clause-positive c = rw (c.deref-4.ensures.value ∙ c.in_ok-wanted.ensures.sentences) (goals_positive c.args.goals.now)
 
 pub returns : goal.returns
 returns c =

@@ -1,14 +1,31 @@
-use Rattle.std.proofs.Common.{◌∙◌, ℕ, List, ap, ap₂, length, subst, sym}
-use Rattle.row_book.specs.Book.{lists_of_pairs, RowsFit}
+use Rattle.std.proofs.Common.{◌≡◌, ◌∙◌, ℕ, List, ap, ap₂, arith, length, subst, sym}
+use Rattle.clause_pool.specs.Compacting.{RowsOf}
+use Rattle.row_book.specs.Book.{lists_of_pairs, NumbersFit, PairsFit}
 use Rattle.row_book.specs.declared.pair.Pair.{Pair}
 use Rattle.repo_model.specs.Repository.{suite_repository}
-use Rattle.repo_model.proofs.Booked.{booked, rows_fit}
+use Rattle.repo_model.proofs.Booked.{booked, numbers_fit, row_count}
 use Rattle.repo_model.proofs.suite.Suite.book.Goals as goal
 
-pub build-requires-2-clause-fit : goal.build-requires-2-clause-fit
-build-requires-2-clause-fit c =
-    subst (RowsFit c.intern_rows.new.pool) (sym c.deref.ensures.value)
-    (rows_fit c.args.self.now.home c.as_slice-packages.result.now c.args.pool.now c.intern_rows.new.pool c.in_ok-rows.rows.items c.in_ok-rows.ensures.rows)
+pub build-requires-2-clause-rows : goal.build-requires-2-clause-rows
+build-requires-2-clause-rows c = subst (RowsOf c.intern_rows.new.pool) (sym c.deref.ensures.value) c.in_ok-rows.ensures.rows.within
+
+pub build-requires-2-clause-numbers : goal.build-requires-2-clause-numbers
+build-requires-2-clause-numbers c =
+    subst (NumbersFit c.intern_rows.new.pool) (sym c.deref.ensures.value)
+    (numbers_fit c.args.self.now.home c.as_slice-packages.result.now c.args.pool.now c.intern_rows.new.pool c.in_ok-rows.rows.items c.in_ok-rows.ensures.rows)
+
+pub build-requires-2-clause-pairs : goal.build-requires-2-clause-pairs
+build-requires-2-clause-pairs c =
+    let count = row_count c.args.self.now.home c.as_slice-packages.result.now c.args.pool.now c.intern_rows.new.pool c.in_ok-rows.rows.items c.in_ok-rows.ensures.rows in
+    subst (λ pairs. PairsFit pairs (length c.deref.result.now)) (sym c.deref-2.ensures.value)
+    (subst (PairsFit c.in_ok-pairs.pairs.items) (sym (ap length c.deref.ensures.value ∙ count)) c.in_ok-pairs.ensures.fit)
+
+pub build-requires-2-clause-few : goal.build-requires-2-clause-few
+build-requires-2-clause-few c =
+    let count = row_count c.args.self.now.home c.as_slice-packages.result.now c.args.pool.now c.intern_rows.new.pool c.in_ok-rows.rows.items c.in_ok-rows.ensures.rows in
+    let rows : length c.deref.result.now ≡ length c.as_slice-packages.result.now = ap length c.deref.ensures.value ∙ count in
+    let packages : length c.as_slice-packages.result.now ≡ length c.args.self.now.packages = ap length c.as_slice-packages.ensures in
+    omega arith
 
 pub returns-clause-repository : goal.returns-clause-repository
 returns-clause-repository c =

@@ -14,7 +14,9 @@ invariant_of-result-clause-paired c =
 
 pub returns-clause-sound : goal.returns-clause-sound
 returns-clause-sound c = record {
-  rows = subst (λ rows. RowsFit c.args.pool.now rows) (sym (c.of.ensures ∙ c.in_ok-rows.ensures.items)) c.requires.fit;
+  rows =
+      let fit : RowsFit c.args.pool.now c.args.rows.now = record { is_pool = c.clause_count.ensures.sound; of_pool = c.requires.rows; numbers = c.requires.numbers } in
+      subst (λ rows. RowsFit c.args.pool.now rows) (sym (c.of.ensures ∙ c.in_ok-rows.ensures.items)) fit;
   conflicts =
       subst (λ table. AreConflicts table) (sym (c.of-2.ensures ∙ c.in_ok-conflicts.ensures))
       (pairs_conflict c.args.pairs.now (length c.args.rows.now) c.requires.pairs);

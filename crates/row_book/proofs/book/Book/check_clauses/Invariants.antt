@@ -5,6 +5,6 @@ use Rattle.row_book.specs.Book.{repository_of}
 use Rattle.row_book.specs.Flags.{flag}
 use Rattle.row_book.proofs.book.Book.check_clauses.Given as goal
 
-abbrev pub invariant-loop-package : goal.invariant-loop-package
-invariant-loop-package l =
-    (p : ℕ) → p < l.package → Is (flag l.chosen) p → Satisfied (repository_of l.pool l.self) (Is (flag l.chosen)) p
+abbrev pub invariant-loop-number : goal.invariant-loop-number
+invariant-loop-number l =
+    (p : ℕ) → p < l.number → Is (flag l.chosen) p → Satisfied (repository_of l.pool l.self) (Is (flag l.chosen)) p

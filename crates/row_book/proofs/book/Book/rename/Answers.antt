@@ -34,7 +34,7 @@ returns c =
     let d = c.loop-row.invariant.each old new live k in
     let all : map (row_at old) c.as_slice-row-items.result.now ≡ map (row_at old) c.args.self.now.rows = ap (map (row_at old)) c.as_slice-row-items.ensures in
     let is : book.rows ≡ c.loop-row.rows.items = e ∙ c.of.ensures in
-    same_book old c.args.self.now new book
+    same_book old c.args.self.now new book k.sound
     (ap (map (row_at new)) is ∙ d.0 ∙ ap (map (row_at old)) (take_all c.loop-row.row-index c.as_slice-row-items.result.now c.loop-row-test.false) ∙ all) f
     (subst (λ z. (id : ℕ) → In id z → id < length new.rows) (sym is) d.1))
     c.with_rows.ensures.rows c.with_rows.ensures.conflicts

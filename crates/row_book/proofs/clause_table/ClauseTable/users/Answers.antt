@@ -11,17 +11,17 @@ use Rattle.row_book.proofs.clause_table.ClauseTable.users.Goals as goal
 
 pub returns : goal.returns
 returns c =
-    let n = c.args.«package» in
+    let n = c.args.number in
     let table = c.args.self.now in
     let users : lists_in c.as_slice-2.result.now ≡ c.args.self.now.users = ap lists_in c.as_slice-2.ensures.value ∙ ap (λ w. w.users) c.self.view_is in
-    let clauses : c.list_at-clauses.result.now ≡ listed_for c.args.self.now.clauses c.args.«package» =
-    c.list_at-clauses.ensures ∙ ap (λ t. list_in t c.args.«package») c.as_slice.ensures.value ∙ ap (λ w. listed_for w.clauses c.args.«package») c.self.view_is in
+    let clauses : c.list_at-clauses.result.now ≡ listed_for c.args.self.now.clauses c.args.number =
+    c.list_at-clauses.ensures ∙ ap (λ t. list_in t c.args.number) c.as_slice.ensures.value ∙ ap (λ w. listed_for w.clauses c.args.number) c.self.view_is in
     IfOk-weaker c.users_still.result
-    (λ found. found.items ≡ filter (uses_number c.args.pool.now c.args.rows.now (length c.args.rows.now) c.args.«package») c.as_slice-3.result.now)
-    (λ found. TellsRows c.args.pool.now c.args.rows.now c.args.self.now → found.items ≡ users_of c.args.pool.now c.args.rows.now c.args.«package»)
+    (λ found. found.items ≡ filter (uses_number c.args.pool.now c.args.rows.now (length c.args.rows.now) c.args.number) c.as_slice-3.result.now)
+    (λ found. TellsRows c.args.pool.now c.args.rows.now c.args.self.now → found.items ≡ users_of c.args.pool.now c.args.rows.now c.args.number)
     (λ found e t.
     users_found c.args.pool.now c.args.rows.now table n c.in_ok-had.had.items found.items t
-    (subst (λ us. IsListOf (λ m. list_any (λ d. has (listed_for us d) m) (listed_for c.args.self.now.clauses c.args.«package»)) c.in_ok-had.had.items) users
+    (subst (λ us. IsListOf (λ m. list_any (λ d. has (listed_for us d) m) (listed_for c.args.self.now.clauses c.args.number)) c.in_ok-had.had.items) users
     (subst (λ cs. IsListOf (λ m. list_any (λ d. has (list_in c.as_slice-2.result.now d) m) cs) c.in_ok-had.had.items) clauses c.in_ok-had.ensures))
-    (e ∙ ap (filter (uses_number c.args.pool.now c.args.rows.now (length c.args.rows.now) c.args.«package»)) c.as_slice-3.ensures.value))
+    (e ∙ ap (filter (uses_number c.args.pool.now c.args.rows.now (length c.args.rows.now) c.args.number)) c.as_slice-3.ensures.value))
     c.users_still.ensures

@@ -7,32 +7,32 @@ use Rattle.row_book.proofs.Users.{held_within, is_uses_of, lent_whole, row_added
 use Rattle.row_book.proofs.uses.UseTable.of.Goals as goal
 
 pub row-requires : goal.row-requires
-row-requires c = c.requires.fit.of_pool c.index-rows-package.result (item_in c.args.rows.now c.loop-package.package c.index-rows-package.result c.loop-package-test.true c.index-rows-package.is)
+row-requires c = c.requires.fit.of_pool c.index-rows-number.result (item_in c.args.rows.now c.loop-number.number c.index-rows-number.result c.loop-number-test.true c.index-rows-number.is)
 
 pub add_to_each-requires : goal.add_to_each-requires
 add_to_each-requires c = λ n h.
-    let row = c.index-rows-package.result in
-    let i : In row c.args.rows.now = item_in c.args.rows.now c.loop-package.package row c.loop-package-test.true c.index-rows-package.is in
-    subst (λ size. n < size) (sym (ap length c.as_mut_slice.ensures.value ∙ c.loop-package.invariant.size))
+    let row = c.index-rows-number.result in
+    let i : In row c.args.rows.now = item_in c.args.rows.now c.loop-number.number row c.loop-number-test.true c.index-rows-number.is in
+    subst (λ size. n < size) (sym (ap length c.as_mut_slice.ensures.value ∙ c.loop-number.invariant.size))
     (held_within c.args.pool.now c.args.rows.now row n c.requires.fit i (sym (row_numbers c.args.pool.now row c.row.result.now c.in_ok-numbers.numbers.items c.row.ensures.lent c.in_ok-numbers.ensures n) ∙ ap (λ xs. has xs n) (sym c.as_slice.ensures.value) ∙ h))
 
-pub loop-package-preserved : goal.loop-package-preserved
-loop-package-preserved c =
-    let users = c.loop-package.users in
+pub loop-number-preserved : goal.loop-number-preserved
+loop-number-preserved c =
+    let users = c.loop-number.users in
     let new = c.add_to_each.new.table in
-    let k = c.loop-package.package in
+    let k = c.loop-number.number in
     let size : length new ≡ length users.items = c.add_to_each.auto.table ∙ ap length c.as_mut_slice.ensures.value in
     let whole : take users.len (new ++ drop (length new) users.items) ≡ new = lent_whole users.len new users.items size users.ok.0 in
     record {
-      size = ap length whole ∙ size ∙ c.loop-package.invariant.size;
+      size = ap length whole ∙ size ∙ c.loop-number.invariant.size;
       listed = λ n.
           subst (λ t. IsListOf (uses_number c.args.pool.now c.args.rows.now (k + 1) n) (list_in t n)) (sym whole)
-          (row_added c.args.pool.now c.args.rows.now k c.index-rows-package.result c.index-rows-package.is c.loop-package-test.true users.items c.as_mut_slice.result.now new c.as_slice.result.now c.as_mut_slice.ensures.value
-          (λ m. ap (λ xs. has xs m) c.as_slice.ensures.value ∙ row_numbers c.args.pool.now c.index-rows-package.result c.row.result.now c.in_ok-numbers.numbers.items c.row.ensures.lent c.in_ok-numbers.ensures m) c.loop-package.invariant.listed c.in_ok-add_to_each.ensures.ok n);
+          (row_added c.args.pool.now c.args.rows.now k c.index-rows-number.result c.index-rows-number.is c.loop-number-test.true users.items c.as_mut_slice.result.now new c.as_slice.result.now c.as_mut_slice.ensures.value
+          (λ m. ap (λ xs. has xs m) c.as_slice.ensures.value ∙ row_numbers c.args.pool.now c.index-rows-number.result c.row.result.now c.in_ok-numbers.numbers.items c.row.ensures.lent c.in_ok-numbers.ensures m) c.loop-number.invariant.listed c.in_ok-add_to_each.ensures.ok n);
     }
 
 pub returns : goal.returns
 returns c =
-    let all : c.loop-package.package ≡ length c.args.rows.now = omega arith in
-    is_uses_of (lists_in c.loop-package.users.items) c.args.pool.now c.args.rows.now (length-map c.loop-package.users.items (λ v. v.items) ∙ c.loop-package.invariant.size)
-    (λ n l. subst (λ k. IsListOf (uses_number c.args.pool.now c.args.rows.now k n) (list_in c.loop-package.users.items n)) all (c.loop-package.invariant.listed n))
+    let all : c.loop-number.number ≡ length c.args.rows.now = omega arith in
+    is_uses_of (lists_in c.loop-number.users.items) c.args.pool.now c.args.rows.now (length-map c.loop-number.users.items (λ v. v.items) ∙ c.loop-number.invariant.size)
+    (λ n l. subst (λ k. IsListOf (uses_number c.args.pool.now c.args.rows.now k n) (list_in c.loop-number.users.items n)) all (c.loop-number.invariant.listed n))

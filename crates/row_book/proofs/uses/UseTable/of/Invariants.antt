@@ -3,8 +3,8 @@ use Rattle.row_book.specs.Uses.{IsListOf, list_in}
 use Rattle.row_book.proofs.Users.{uses_number}
 use Rattle.row_book.proofs.uses.UseTable.of.Given as goal
 
-abbrev pub invariant-loop-package : goal.invariant-loop-package
-invariant-loop-package l = record {
+abbrev pub invariant-loop-number : goal.invariant-loop-number
+invariant-loop-number l = record {
   size : length l.users.items ≡ length l.rows;
-  listed : (n : ℕ) → IsListOf (uses_number l.pool l.rows l.package n) (list_in l.users.items n);
+  listed : (n : ℕ) → IsListOf (uses_number l.pool l.rows l.number n) (list_in l.users.items n);
 }

@@ -47,8 +47,8 @@ returns-clause-ok c = λ rows l o e.
     let gained : HoldsDifference (ids_at c.args.pool.now c.args.new) (ids_at c.args.pool.now c.args.old) c.as_slice-2.result.now =
     difference_as c.row-2.result.now c.row.result.now c.in_ok-changes.changes.gained.items (ids_at c.args.pool.now c.args.new) (ids_at c.args.pool.now c.args.old) c.as_slice-2.result.now
     c.row-2.ensures.lent c.row.ensures.lent (sym c.as_slice-2.ensures.value) c.in_ok-changes.ensures.gained in
-    subst (λ t. lists_in t ≡ uses_of c.args.pool.now (slice_set rows c.args.package c.args.new)) (sym whole)
-    (uses_replaced c.args.pool.now rows c.args.package c.args.old c.args.new l o first second third c.as_slice-5.result.now c.as_slice-4.result.now c.as_slice-6.result.now
+    subst (λ t. lists_in t ≡ uses_of c.args.pool.now (slice_set rows c.args.number c.args.new)) (sym whole)
+    (uses_replaced c.args.pool.now rows c.args.number c.args.old c.args.new l o first second third c.as_slice-5.result.now c.as_slice-4.result.now c.as_slice-6.result.now
     (ap lists_in c.as_mut_slice-table.ensures.value ∙ c.self.view_is ∙ e) c.add_to_each.auto.table c.take_from_each.auto.table
     (λ n. shifts_of c.args.pool.now c.args.old c.args.new c.as_slice.result.now c.as_slice-2.result.now c.as_slice-5.result.now c.as_slice-4.result.now n lost gained
     (ap (λ xs. has xs n) c.as_slice-5.ensures.value ∙ c.in_ok-before.ensures.members n) (ap (λ xs. has xs n) c.as_slice-4.ensures.value ∙ c.in_ok-after.ensures n))

@@ -2,6 +2,7 @@ use Rattle.std.proofs.Common.{◌≡◌, false, not, ◌||◌, ◌∷◌, sym, �
 use Rattle.stanza_reader.specs.Fields.{is_same_name}
 use Rattle.stanza_reader.specs.Note.{names_in}
 use Rattle.stanza_reader.specs.Stanzas.{has_name}
+use Rattle.stanza_reader.proofs.MarkLemmas.{marks_more}
 use Rattle.stanza_reader.proofs.NoteLemmas.{in_front, left_to_set, name_is_there, set_more}
 use Rattle.stanza_reader.proofs.note.Names.add.Goals as goal
 
@@ -9,7 +10,7 @@ use Rattle.stanza_reader.proofs.note.Names.add.Goals as goal
 pub returns-clause-answer : goal.returns-clause-answer
 returns-clause-answer c before held =
     let name = c.args.name.now in
-    let absent : has_name (names_in c.args.self.now.few.items) name ≡ false = rw c.as_slice.ensures.value at (sym c.has_name.ensures ∙ c.if-has_name.false) in
+    let absent : has_name (names_in c.args.self.now.few.items) name ≡ false = rw c.as_slice.ensures.value at (sym c.is_among.ensures ∙ c.if-is_among.false) in
     c.in_ok-insert.ensures.added
     ∙ ap not (name_is_there c.args.self.now.others held.others c.in_ok-name.name name held.in_set c.in_ok-name.ensures ∙ sym (left_to_set c.args.self.now before name held absent))
 
@@ -23,3 +24,7 @@ returns-clause-added c before held new =
       behind = λ short. absurd (omega (arith, short, c.if-len-lt-FEW.false));
       same = λ q. in_front (names_in c.args.self.now.few.items) held.others name q ∙ ap (λ t. is_same_name name q || t) (held.same q);
     }
+
+-- a new name among those that are compared one by one
+pub returns-then-len-lt-FEW-clause-marks : goal.returns-then-len-lt-FEW-clause-marks
+returns-then-len-lt-FEW-clause-marks c = rw (c.in_ok-push.ensures.items, c.mark_of.ensures) (marks_more _ _ _ c.requires.marks)

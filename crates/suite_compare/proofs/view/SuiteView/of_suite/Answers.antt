@@ -5,7 +5,7 @@ use Rattle.suite_compare.proofs.view.SuiteView.of_suite.Goals as goal
 
 pub invariant_of-result : goal.invariant_of-result
 invariant_of-result c = record {
-  of_suite = view_made c.book.new.pool c.extract.new.pool c.args.suite.home c.args.suite.packages c.in_ok-book.book c.in-Ok.kernel c.args.limit c.args.hold c.clause_count.ensures.sound
+  of_suite = view_made c.book.new.pool c.extract.new.pool c.args.suite.home c.args.suite.packages c.in_ok-book.book c.in-Ok.kernel c.args.limit c.args.hold c.in_ok-book.ensures.sound.rows.is_pool
       c.in_ok-book.ensures.repository c.in_ok-book.ensures.sound c.in-Ok.ensures.hold c.in-Ok.ensures.kernel;
 }
 

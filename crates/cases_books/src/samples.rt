@@ -1,0 +1,72 @@
+//! Books of short indexes, and their rows as lists.
+ghost use Rattle.std.specs.Prelude.{◌≡◌, ◌<◌, IfOk, length};
+ghost use Rattle.clause_pool.specs.Interned.{OfPool};
+ghost use Rattle.row_book.specs.Book.{RowsFit, Sound};
+ghost use Rattle.row_book.specs.Uses.{row_id};
+
+use clause_pool::{ClauseId, Pool, RowId};
+use repo_model::{IndexFault, Suite, read_suite};
+use row_book::Book;
+use std::alloc::{AllocError, Global};
+
+/// The suite of a short index, with a slash for each line feed.
+pub(crate) fn suite_of(alloc: Global, text: &str) -> Result<Suite, IndexFault> {
+    let mut index = String::new(alloc);
+    for piece in text.chars() {
+        index.push(if piece == '/' { '\n' } else { piece })?;
+    }
+    let text = index.as_str();
+    if text.len() > 1000 {
+        return Err(IndexFault::TooMany);
+    }
+    read_suite(alloc, text.as_bytes())
+}
+
+/// Its book.
+pub(crate) fn book_of(alloc: Global, pool: &mut Pool, text: &str) -> Result<Book, IndexFault>
+    ensures { IfOk result (Sound pool.new) }
+{
+    let suite = suite_of(alloc, text)?;
+    Ok(suite.book(alloc, pool)?)
+}
+
+/// The row of a package of a book.
+#[tactic(auto, using(repo_model::proofs::Booked::row_within))]
+pub(crate) fn row_of(pool: &Pool, book: &Book, number: u32) -> RowId
+    requires sound { Sound pool.now book.now }
+    requires below { number < length book.now.rows }
+    ensures id { result ≡ row_id book.now.rows number }
+    ensures within { result < length pool.now.rows }
+{
+    book.row(number)
+}
+
+/// The clauses of the ids.
+pub(crate) fn clauses_in(
+    alloc: Global,
+    pool: &Pool,
+    ids: &[ClauseId],
+) -> Result<Vec<Vec<u32>>, AllocError>
+    requires { OfPool pool.now ids.now }
+{
+    let mut clauses = Vec::new(alloc);
+    for id in ids {
+        clauses.push(Vec::from_slice(alloc, pool.slice(*id))?)?;
+    }
+    Ok(clauses)
+}
+
+/// The clauses of each of the rows.
+pub(crate) fn clauses_of(
+    alloc: Global,
+    pool: &Pool,
+    rows: &[RowId],
+) -> Result<Vec<Vec<Vec<u32>>>, AllocError>
+    requires { RowsFit pool.now rows.now }
+{
+    let mut lists = Vec::new(alloc);
+    for row in rows {
+        lists.push(clauses_in(alloc, pool, pool.row(*row))?)?;
+    }
+    Ok(lists)
+}

@@ -1,0 +1,223 @@
+-- Which jobs the words of the two commands ask for.
+use Rattle.std.proofs.Common.{◌≡◌, ℕ, ◌+◌, ◌^◌, ◌<◌, ◌≤◌, Bool, true, false, cond, ◌&&◌, List, [], ◌∷◌, ◌++◌, Option, Some, None, length, refl, sym, ap, ◌∙◌, subst, inl, inr, ◌⊎◌, arith, length-append, lit<}
+use Rattle.std.specs.Prelude.{codes, is_some, unwrap_or, option_and_then, option_map}
+use Rattle.std.specs.Fmt.{decimal}
+use Rattle.std.specs.Str.Parse.{digits_value}
+use Rattle.std.proofs.lemmas.Fmt.{decimal_is_IsNumeral}
+use Rattle.coinst_words.specs.Usage.{Usage, Said, Meaning, ends, flag, gives, asks, plain, refused, kernel_usage, compare_usage, nothing_said, meaning_of, value_of, give, say, read_word, read}
+use Rattle.coinst_words.specs.Jobs.{is_path, is_number, is_within, number_or, clause_limit_of, budget_of, is_on, kernel_job, two_paths, compare_job, job_of_said}
+use Rattle.coinst_words.specs.declared.job.Job.{Job}
+use Rattle.coinst_words.specs.declared.job.Job.TheVariants.{Kernel, Compare}
+use Rattle.claims.specs.Texts.{Text}
+use Rattle.claims.specs.Laws.{KernelWordsAsk, CompareWordsAsk}
+
+-- what is read behind a word has no more ordinary words than there are
+abbrev Few : Said → List Text → (Said → Option Text → Option Said) → Type 0
+Few r rest next = (s : Said) (w : Option Text) → next s w ≡ Some r → length r.ordinary ≤ length s.ordinary + length rest
+
+given_few : (name value : Text) (said : Said) (rest : List Text) (next : Said → Option Text → Option Said) (r : Said) → Few r rest next → option_and_then (λ s. next s None) (give name value said) ≡ Some r
+    → length r.ordinary ≤ length said.ordinary + length rest
+given_few name value said rest next r few = go (is_some (value_of name said.given))
+  where
+    go : (b : Bool) → option_and_then (λ s. next s None) (cond b None (Some (record said { given = said.given ++ (name, value) ∷ [] }))) ≡ Some r → length r.ordinary ≤ length said.ordinary + length rest
+    go true e = absurd (let no : ⊥ = cc in no)
+    go false e = few (record said { given = said.given ++ (name, value) ∷ [] }) None e
+
+-- a word is an ordinary one, or the ordinary words are no more than those behind it
+step : (u : Usage) (m : Meaning) (word : Text) (said : Said) (rest : List Text) (next : Said → Option Text → Option Said) (r : Said) → Few r rest next → read_word u m word said None rest next ≡ Some r
+    → (next (say (word ∷ []) said) None ≡ Some r) ⊎ (length r.ordinary ≤ length said.ordinary + length rest)
+step u plain word said rest next r few e = inl e
+step u ends word said rest next r few e =
+    let is : say rest said ≡ r = cc in
+    let long : length (say rest said).ordinary ≡ length said.ordinary + length rest = length-append said.ordinary rest in
+    inr (subst (λ (s : Said). length s.ordinary ≤ length said.ordinary + length rest) is (omega (arith, long)))
+step u (flag name) word said rest next r few e = inr (given_few name (codes "true") said rest next r few e)
+step u (gives name value) word said rest next r few e = inr (given_few name value said rest next r few e)
+step u (asks name) word said rest next r few e = inr (few said (Some name) e)
+step u refused word said rest next r few e = absurd (let no : ⊥ = cc in no)
+
+-- the value of an option that waits is a plain word
+waits : (u : Usage) (m : Meaning) (word : Text) (said : Said) (name : Text) (rest : List Text) (next : Said → Option Text → Option Said) (r : Said) → read_word u m word said (Some name) rest next ≡ Some r
+    → option_and_then (λ s. next s None) (give name word said) ≡ Some r
+waits u plain word said name rest next r e = e
+waits u ends word said name rest next r e = absurd (let no : ⊥ = cc in no)
+waits u (flag f) word said name rest next r e = absurd (let no : ⊥ = cc in no)
+waits u (gives f value) word said name rest next r e = absurd (let no : ⊥ = cc in no)
+waits u (asks f) word said name rest next r e = absurd (let no : ⊥ = cc in no)
+waits u refused word said name rest next r e = absurd (let no : ⊥ = cc in no)
+
+few_read : (u : Usage) (words : List Text) (r : Said) → Few r words (λ s w. read u s w words)
+unfolding read
+few_read u [] r s None e = let is : s ≡ r = cc in subst (λ (t : Said). length t.ordinary ≤ length s.ordinary + 0) is (omega arith)
+few_read u [] r s (Some name) e = absurd (let no : ⊥ = cc in no)
+few_read u (word ∷ rest) r s None e =
+    elim (step u (meaning_of u word) word s rest (λ s w. read u s w rest) r (few_read u rest r) e) [
+      | inl next ↦
+          let more : length r.ordinary ≤ length (s.ordinary ++ word ∷ []) + length rest = few_read u rest r (say (word ∷ []) s) None next in
+          omega (arith, more, length-append s.ordinary (word ∷ []))
+      | inr few ↦ omega (arith, few)
+    ]
+few_read u (word ∷ rest) r s (Some name) e =
+    let less : length r.ordinary ≤ length s.ordinary + length rest = given_few name word s rest (λ s w. read u s w rest) r (few_read u rest r) (waits u (meaning_of u word) word s name rest (λ s w. read u s w rest) r e) in
+    omega (arith, less)
+
+-- an ordinary word, as `step` has it of what is read
+word_step : (u : Usage) (word : Text) (said : Said) (rest : List Text) (r : Said) → read u said None (word ∷ rest) ≡ Some r
+    → (read u (say (word ∷ []) said) None rest ≡ Some r) ⊎ (length r.ordinary ≤ length said.ordinary + length rest)
+unfolding read
+word_step u word said rest r e = step u (meaning_of u word) word said rest (λ s w. read u s w rest) r (few_read u rest r) e
+
+word_waits : (u : Usage) (word : Text) (said : Said) (name : Text) (rest : List Text) (r : Said) → read u said (Some name) (word ∷ rest) ≡ Some r → option_and_then (λ s. read u s None rest) (give name word said) ≡ Some r
+unfolding read
+word_waits u word said name rest r e = waits u (meaning_of u word) word said name rest (λ s w. read u s w rest) r e
+
+-- the words said first
+abbrev said_with : List (Text × Text) → List Text → Said
+said_with given words = record { given = given; ordinary = words }
+
+read_all : (u : Usage) (s r : Said) → read u s None [] ≡ Some r → s ≡ r
+unfolding read
+read_all u s r e = cc
+
+-- the job of what is read behind a command's name
+record Asked (u : Usage) (words : List Text) (job : Job) : Type 0 where
+  said : Said
+  read_as : read u nothing_said None words ≡ Some said
+  asks_for : job_of_said (u, said) ≡ Some job
+
+asked : (u : Usage) (words : List Text) (job : Job) → option_and_then job_of_said (option_map (λ said. (u, said)) (read u nothing_said None words)) ≡ Some job → Asked u words job
+asked u words job e = go (read u nothing_said None words) refl e
+  where
+    go : (found : Option Said) → read u nothing_said None words ≡ found → option_and_then job_of_said (option_map (λ said. (u, said)) found) ≡ Some job → Asked u words job
+    go None at h = absurd (let no : ⊥ = cc in no)
+    go (Some said) at h = record { said = said; read_as = at; asks_for = h }
+
+no_words : (json : Bool) (limit : Option Text) (hold : Bool) (words : List Text) → length words ≤ 0 → kernel_job json limit hold words ≡ None
+no_words json limit hold [] l = refl
+no_words json limit hold (w ∷ words) l = absurd (omega arith)
+
+kernel_tail : (given : List (Text × Text)) (path : Text) (r : Said) (job : Job) → read kernel_usage (said_with given []) None (path ∷ []) ≡ Some r → job_of_said (kernel_usage, r) ≡ Some job
+    → kernel_job (is_on (value_of (codes "json") given)) (value_of (codes "clause-limit") given) (is_on (value_of (codes "hold") given)) (path ∷ []) ≡ Some job
+kernel_tail given path r job e wanted =
+    elim (word_step kernel_usage path (said_with given []) [] r e) [
+      | inl last ↦
+          let is : say (path ∷ []) (said_with given []) ≡ r = read_all kernel_usage (say (path ∷ []) (said_with given [])) r last in
+          subst (λ (s : Said). kernel_job (is_on (value_of (codes "json") s.given)) (value_of (codes "clause-limit") s.given) (is_on (value_of (codes "hold") s.given)) s.ordinary ≡ Some job) (sym is) wanted
+      | inr none ↦
+          let nothing : kernel_job (is_on (value_of (codes "json") r.given)) (value_of (codes "clause-limit") r.given) (is_on (value_of (codes "hold") r.given)) r.ordinary ≡ None =
+          no_words (is_on (value_of (codes "json") r.given)) (value_of (codes "clause-limit") r.given) (is_on (value_of (codes "hold") r.given)) r.ordinary (omega (arith, none)) in
+          absurd (let no : ⊥ = cc (sym nothing ∙ wanted) in no)
+    ]
+
+-- the number of an option
+number_told : (most default : ℕ) (limit : Option ℕ) (n : ℕ) → unwrap_or limit default ≤ 1000000 → number_or 1 most default (option_map decimal limit) ≡ Some n → n ≡ unwrap_or limit default
+number_told most default None n low e = let is : default ≡ n = cc in sym is
+number_told most default (Some m) n low e =
+    let value : digits_value 10 (decimal m) ≡ m = (decimal_is_IsNumeral m (let top : 1000000 < 2 ^ 64 = lit< tt in omega (arith, top, low))).1 in
+    go (is_number (decimal m) && is_within 1 most (digits_value 10 (decimal m))) value e
+  where
+    go : (b : Bool) → digits_value 10 (decimal m) ≡ m → cond b (Some (digits_value 10 (decimal m))) None ≡ Some n → n ≡ m
+    go true value e = let is : digits_value 10 (decimal m) ≡ n = cc in sym is ∙ value
+    go false value e = absurd (let no : ⊥ = cc in no)
+
+kernel_made : (path : Text) (json hold : Bool) (found : Option ℕ) (n : ℕ) (job : Job) → ((m : ℕ) → found ≡ Some m → m ≡ n) → cond (is_path path) (option_map (λ m. Kernel path json m hold) found) None ≡ Some job → job ≡ Kernel path json n hold
+kernel_made path json hold found n job told e = go (is_path path) found refl e
+  where
+    go : (b : Bool) (it : Option ℕ) → found ≡ it → cond b (option_map (λ m. Kernel path json m hold) it) None ≡ Some job → job ≡ Kernel path json n hold
+    go false it at h = absurd (let no : ⊥ = cc in no)
+    go true None at h = absurd (let no : ⊥ = cc in no)
+    go true (Some m) at h = let is : Kernel path json m hold ≡ job = cc in sym is ∙ ap (λ k. Kernel path json k hold) (told m at)
+
+pub kernel_words_ask : KernelWordsAsk
+unfolding read
+kernel_words_ask None false path job low e =
+    let a = asked kernel_usage (path ∷ []) job e in
+    kernel_made path false false (clause_limit_of None) 65536 job (λ m h. number_told 1000000 65536 None m low h) (kernel_tail [] path a.said job a.read_as a.asks_for)
+kernel_words_ask None true path job low e =
+    let a = asked kernel_usage (codes "--hold" ∷ path ∷ []) job e in
+    kernel_made path false true (clause_limit_of None) 65536 job (λ m h. number_told 1000000 65536 None m low h) (kernel_tail ((codes "hold", codes "true") ∷ []) path a.said job a.read_as a.asks_for)
+kernel_words_ask (Some n) false path job low e =
+    let a = asked kernel_usage (codes "--clause-limit" ∷ decimal n ∷ path ∷ []) job e in
+    let w = word_waits kernel_usage (decimal n) nothing_said (codes "clause-limit") (path ∷ []) a.said a.read_as in
+    kernel_made path false false (clause_limit_of (Some (decimal n))) n job (λ m h. number_told 1000000 65536 (Some n) m low h) (kernel_tail ((codes "clause-limit", decimal n) ∷ []) path a.said job w a.asks_for)
+kernel_words_ask (Some n) true path job low e =
+    let a = asked kernel_usage (codes "--clause-limit" ∷ decimal n ∷ codes "--hold" ∷ path ∷ []) job e in
+    let w = word_waits kernel_usage (decimal n) nothing_said (codes "clause-limit") (codes "--hold" ∷ path ∷ []) a.said a.read_as in
+    kernel_made path false true (clause_limit_of (Some (decimal n))) n job (λ m h. number_told 1000000 65536 (Some n) m low h) (kernel_tail ((codes "clause-limit", decimal n) ∷ (codes "hold", codes "true") ∷ []) path a.said job w a.asks_for)
+
+short_words : (words : List Text) → length words ≤ 1 → two_paths words ≡ None
+short_words [] l = refl
+short_words (w ∷ []) l = refl
+short_words (w ∷ v ∷ words) l = absurd (omega arith)
+
+too_few : (budget limit : Option Text) (hold : Bool) (words : List Text) (job : Job) → length words ≤ 1 → compare_job budget limit hold words ≡ Some job → ⊥
+too_few budget limit hold words job l e =
+    let none : compare_job budget limit hold words ≡ None = ap (option_and_then (λ p. option_and_then (λ b. option_map (λ n. Compare p.0 p.1 b n hold) (clause_limit_of limit)) (budget_of budget))) (short_words words l) in
+    let no : ⊥ = cc (sym none ∙ e) in no
+
+compare_tail : (given : List (Text × Text)) (old new : Text) (r : Said) (job : Job) → read compare_usage (said_with given []) None (old ∷ new ∷ []) ≡ Some r → job_of_said (compare_usage, r) ≡ Some job
+    → compare_job (value_of (codes "budget") given) (value_of (codes "clause-limit") given) (is_on (value_of (codes "hold") given)) (old ∷ new ∷ []) ≡ Some job
+compare_tail given old new r job e wanted =
+    let few : length r.ordinary ≤ 1 → ⊥ = λ l. too_few (value_of (codes "budget") r.given) (value_of (codes "clause-limit") r.given) (is_on (value_of (codes "hold") r.given)) r.ordinary job l wanted in
+    elim (word_step compare_usage old (said_with given []) (new ∷ []) r e) [
+      | inl next ↦ elim (word_step compare_usage new (said_with given (old ∷ [])) [] r next) [
+        | inl last ↦
+            let is : said_with given (old ∷ new ∷ []) ≡ r = read_all compare_usage (said_with given (old ∷ new ∷ [])) r last in
+            subst (λ (s : Said). compare_job (value_of (codes "budget") s.given) (value_of (codes "clause-limit") s.given) (is_on (value_of (codes "hold") s.given)) s.ordinary ≡ Some job) (sym is) wanted
+        | inr one ↦ absurd (few (omega (arith, one)))
+      ]
+      | inr one ↦ absurd (few (omega (arith, one)))
+    ]
+
+compare_made : (old new : Text) (hold : Bool) (budget limit : Option ℕ) (b n : ℕ) (job : Job) → ((m : ℕ) → budget ≡ Some m → m ≡ b) → ((m : ℕ) → limit ≡ Some m → m ≡ n)
+    → option_and_then (λ p. option_and_then (λ k. option_map (λ m. Compare p.0 p.1 k m hold) limit) budget) (two_paths (old ∷ new ∷ [])) ≡ Some job → job ≡ Compare old new b n hold
+compare_made old new hold budget limit b n job told_budget told_limit e = go (is_path old && is_path new) budget refl limit refl e
+  where
+    go : (t : Bool) (x : Option ℕ) → budget ≡ x → (y : Option ℕ) → limit ≡ y → option_and_then (λ (p : Text × Text). option_and_then (λ k. option_map (λ m. Compare p.0 p.1 k m hold) y) x) (cond t (Some (old, new)) None) ≡ Some job → job ≡ Compare old new b n hold
+    go false x f y g h = absurd (let no : ⊥ = cc in no)
+    go true None f y g h = absurd (let no : ⊥ = cc in no)
+    go true (Some k) f None g h = absurd (let no : ⊥ = cc in no)
+    go true (Some k) f (Some m) g h = let is : Compare old new k m hold ≡ job = cc in sym is ∙ ap (λ i. Compare old new i m hold) (told_budget k f) ∙ ap (λ i. Compare old new b i hold) (told_limit m g)
+
+pub compare_words_ask : CompareWordsAsk
+unfolding read
+compare_words_ask None None false old new job low small e =
+    let a = asked compare_usage (old ∷ new ∷ []) job e in
+    compare_made old new false (budget_of None) (clause_limit_of None) 10000 65536 job (λ m h. number_told 1000000 10000 None m low h) (λ m h. number_told 1000000 65536 None m small h)
+    (compare_tail [] old new a.said job a.read_as a.asks_for)
+compare_words_ask None None true old new job low small e =
+    let a = asked compare_usage (codes "--hold" ∷ old ∷ new ∷ []) job e in
+    compare_made old new true (budget_of None) (clause_limit_of None) 10000 65536 job (λ m h. number_told 1000000 10000 None m low h) (λ m h. number_told 1000000 65536 None m small h)
+    (compare_tail ((codes "hold", codes "true") ∷ []) old new a.said job a.read_as a.asks_for)
+compare_words_ask None (Some n) false old new job low small e =
+    let a = asked compare_usage (codes "--clause-limit" ∷ decimal n ∷ old ∷ new ∷ []) job e in
+    let w = word_waits compare_usage (decimal n) nothing_said (codes "clause-limit") (old ∷ new ∷ []) a.said a.read_as in
+    compare_made old new false (budget_of None) (clause_limit_of (Some (decimal n))) 10000 n job (λ m h. number_told 1000000 10000 None m low h) (λ m h. number_told 1000000 65536 (Some n) m small h)
+    (compare_tail ((codes "clause-limit", decimal n) ∷ []) old new a.said job w a.asks_for)
+compare_words_ask None (Some n) true old new job low small e =
+    let a = asked compare_usage (codes "--clause-limit" ∷ decimal n ∷ codes "--hold" ∷ old ∷ new ∷ []) job e in
+    let w = word_waits compare_usage (decimal n) nothing_said (codes "clause-limit") (codes "--hold" ∷ old ∷ new ∷ []) a.said a.read_as in
+    compare_made old new true (budget_of None) (clause_limit_of (Some (decimal n))) 10000 n job (λ m h. number_told 1000000 10000 None m low h) (λ m h. number_told 1000000 65536 (Some n) m small h)
+    (compare_tail ((codes "clause-limit", decimal n) ∷ (codes "hold", codes "true") ∷ []) old new a.said job w a.asks_for)
+compare_words_ask (Some b) None false old new job low small e =
+    let a = asked compare_usage (codes "--budget" ∷ decimal b ∷ old ∷ new ∷ []) job e in
+    let v = word_waits compare_usage (decimal b) nothing_said (codes "budget") (old ∷ new ∷ []) a.said a.read_as in
+    compare_made old new false (budget_of (Some (decimal b))) (clause_limit_of None) b 65536 job (λ m h. number_told 1000000 10000 (Some b) m low h) (λ m h. number_told 1000000 65536 None m small h)
+    (compare_tail ((codes "budget", decimal b) ∷ []) old new a.said job v a.asks_for)
+compare_words_ask (Some b) None true old new job low small e =
+    let a = asked compare_usage (codes "--budget" ∷ decimal b ∷ codes "--hold" ∷ old ∷ new ∷ []) job e in
+    let v = word_waits compare_usage (decimal b) nothing_said (codes "budget") (codes "--hold" ∷ old ∷ new ∷ []) a.said a.read_as in
+    compare_made old new true (budget_of (Some (decimal b))) (clause_limit_of None) b 65536 job (λ m h. number_told 1000000 10000 (Some b) m low h) (λ m h. number_told 1000000 65536 None m small h)
+    (compare_tail ((codes "budget", decimal b) ∷ (codes "hold", codes "true") ∷ []) old new a.said job v a.asks_for)
+compare_words_ask (Some b) (Some n) false old new job low small e =
+    let a = asked compare_usage (codes "--budget" ∷ decimal b ∷ codes "--clause-limit" ∷ decimal n ∷ old ∷ new ∷ []) job e in
+    let v = word_waits compare_usage (decimal b) nothing_said (codes "budget") (codes "--clause-limit" ∷ decimal n ∷ old ∷ new ∷ []) a.said a.read_as in
+    let w = word_waits compare_usage (decimal n) (said_with ((codes "budget", decimal b) ∷ []) []) (codes "clause-limit") (old ∷ new ∷ []) a.said v in
+    compare_made old new false (budget_of (Some (decimal b))) (clause_limit_of (Some (decimal n))) b n job (λ m h. number_told 1000000 10000 (Some b) m low h) (λ m h. number_told 1000000 65536 (Some n) m small h)
+    (compare_tail ((codes "budget", decimal b) ∷ (codes "clause-limit", decimal n) ∷ []) old new a.said job w a.asks_for)
+compare_words_ask (Some b) (Some n) true old new job low small e =
+    let a = asked compare_usage (codes "--budget" ∷ decimal b ∷ codes "--clause-limit" ∷ decimal n ∷ codes "--hold" ∷ old ∷ new ∷ []) job e in
+    let v = word_waits compare_usage (decimal b) nothing_said (codes "budget") (codes "--clause-limit" ∷ decimal n ∷ codes "--hold" ∷ old ∷ new ∷ []) a.said a.read_as in
+    let w = word_waits compare_usage (decimal n) (said_with ((codes "budget", decimal b) ∷ []) []) (codes "clause-limit") (codes "--hold" ∷ old ∷ new ∷ []) a.said v in
+    compare_made old new true (budget_of (Some (decimal b))) (clause_limit_of (Some (decimal n))) b n job (λ m h. number_told 1000000 10000 (Some b) m low h) (λ m h. number_told 1000000 65536 (Some n) m small h)
+    (compare_tail ((codes "budget", decimal b) ∷ (codes "clause-limit", decimal n) ∷ (codes "hold", codes "true") ∷ []) old new a.said job w a.asks_for)

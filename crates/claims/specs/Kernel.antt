@@ -1,0 +1,12 @@
+-- The kernel of a repository, and the images of sets of packages in it.
+use Rattle.std.specs.Prelude.{◌≡◌, ◌≢◌, ℕ, Bool, List, map}
+use Rattle.row_book.specs.Flattening.{flat}
+use Rattle.row_book.specs.Merging.{image}
+use Rattle.row_book.specs.Repository.{Repository}
+use Rattle.row_book.specs.Rounds.{round}
+use Rattle.row_book.specs.Sets.{NumSet}
+
+-- the first of the repository, its round, the round of that, and so on, that a round leaves as it is
+pub data IsKernel (limit : ℕ) (hold : Bool) : Repository → List NumSet → Repository → List NumSet → Type 0 where
+  at_rest : {R : Repository} {sets : List NumSet} → round limit hold R ≡ R → IsKernel limit hold R sets R sets
+  after : {R K : Repository} {sets images : List NumSet} → round limit hold R ≢ R → IsKernel limit hold (round limit hold R) (map (image (flat limit hold R)) sets) K images → IsKernel limit hold R sets K images

@@ -1,0 +1,14 @@
+pub mod Texts
+pub mod Versions
+pub mod Spelling
+pub mod Control
+pub mod Index
+pub mod Written
+pub mod Search
+pub mod Health
+pub mod Repository
+pub mod Kernel
+pub mod KernelSentence
+pub mod Words
+pub mod CompareSentence
+pub mod Laws

@@ -1,0 +1,107 @@
+-- A part of a course goes on exactly where what it asks for is there.
+use Rattle.std.proofs.Common.{◌≡◌, ℕ, Bool, true, false, cond, List, length, Option, Some, None, refl, ◌∙◌, ap, subst, le-ltb}
+use Rattle.std.specs.Prelude.{nat_lt}
+use Rattle.std.proofs.lemmas.Bool.{ltb-false}
+use Rattle.byte_flow.specs.Flow.{Files}
+use Rattle.repo_model.specs.declared.fault.IndexFault.{IndexFault}
+use Rattle.repo_model.specs.FirstFault.{first_fault}
+use Rattle.repo_model.specs.Repository.{suite_repository}
+use Rattle.row_book.specs.Rounds.{PassedRound, limit_at}
+use Rattle.suite_compare.specs.Refusals.{home_in, packages_in}
+use Rattle.coinst_run.specs.declared.answer.Verdict.{Verdict}
+use Rattle.coinst_run.specs.Answer.{reported}
+use Rattle.coinst_run.specs.Complete.{GivesReport, HasFile, HasIndex, HasKernel, IsWithin}
+use Rattle.coinst_run.specs.Course.{Course, reads, then_on}
+use Rattle.coinst_run.specs.Delivers.{IsStop}
+use Rattle.coinst_run.specs.Index.{Index, by_fault, checked_index, index_in, reads_index}
+use Rattle.coinst_run.specs.IndexKernel.{ClassedKernel, index_kernel}
+use Rattle.coinst_run.specs.Kernel.{by_limit, kernel_of, reads_kernel}
+use Rattle.coinst_run.specs.Migrate.{kernel_at, kernel_behind}
+use Rattle.coinst_run.specs.Outcome.{Outcome, answered, file_limit, outcome_over, over_file, too_long, unread}
+
+-- ---- where it is there, the course goes on
+
+module _ (files : Files) where
+  pub file_step : (path : List ℕ) (next : List ℕ → Course) (text : List ℕ) → HasFile files path text → outcome_over files (reads path next) ≡ outcome_over files (next text)
+  file_step path next text h =
+      ap (λ f. over_file path f (λ t. outcome_over files (next t))) h.is
+      ∙ ap (λ b. cond b (answered (too_long path)) (outcome_over files (next text))) (le-ltb file_limit (length text) h.short)
+
+  pub index_step : (path : List ℕ) (next : Index → Course) (text : List ℕ) → HasIndex files path text → outcome_over files (reads_index path next) ≡ outcome_over files (next (index_in text))
+  index_step path next text h =
+      file_step path (λ t. then_on (checked_index path t) next) text h.file ∙ ap (λ f. outcome_over files (then_on (by_fault path text f) next)) h.accepted
+
+  -- the kernel of an index, and that of an index that is read
+  pub limit_step : (path : List ℕ) (limit : ℕ) (hold : Bool) (text : List ℕ) (next : ClassedKernel → Course) → IsWithin limit hold text →
+      outcome_over files (then_on (kernel_of path limit hold (index_in text)) next) ≡ outcome_over files (next (index_kernel limit hold (home_in text) (packages_in text)))
+  limit_step path limit hold text next h = ap (λ p. outcome_over files (then_on (by_limit path limit hold (index_in text) p) next)) h
+
+  pub kernel_step : (path : List ℕ) (limit : ℕ) (hold : Bool) (next : Index → ClassedKernel → Course) (text : List ℕ) → HasKernel files path limit hold text →
+      outcome_over files (reads_kernel path limit hold next) ≡ outcome_over files (next (index_in text) (index_kernel limit hold (home_in text) (packages_in text)))
+  kernel_step path limit hold next text h = index_step path (λ index. then_on (kernel_of path limit hold index) (next index)) text h.0 ∙ limit_step path limit hold text (next (index_in text)) h.1
+
+  pub kernel_at_step : (path : List ℕ) (limit : ℕ) (hold : Bool) (text : List ℕ) (next : ClassedKernel → Course) → first_fault text ≡ None → IsWithin limit hold text →
+      outcome_over files (then_on (kernel_at path limit hold text) next) ≡ outcome_over files (next (index_kernel limit hold (home_in text) (packages_in text)))
+  kernel_at_step path limit hold text next accepted h = ap (λ f. outcome_over files (then_on (kernel_behind path limit hold (by_fault path text f)) next)) accepted ∙ limit_step path limit hold text next h
+
+-- ---- what is said of where it leads, and of no stop, is said of where it goes on
+
+module _ (P : Outcome → Type 0) (only : (o : Outcome) → P o → IsStop o → ⊥) (files : Files) where
+  pub file_used : (path : List ℕ) (next : List ℕ → Course) → P (outcome_over files (reads path next)) → (text : List ℕ) × HasFile files path text × P (outcome_over files (next text))
+  file_used path next g = by (files path) refl g
+    where
+      fitting : (text : List ℕ) → files path ≡ Some text → (b : Bool) → nat_lt file_limit (length text) ≡ b → P (cond b (answered (too_long path)) (outcome_over files (next text))) →
+          (text : List ℕ) × HasFile files path text × P (outcome_over files (next text))
+      fitting text is true e g = absurd (only (answered (too_long path)) g tt)
+      fitting text is false e g = (text, record { is = is; short = ltb-false file_limit (length text) e }, g)
+
+      by : (file : Option (List ℕ)) → files path ≡ file → P (over_file path file (λ text. outcome_over files (next text))) → (text : List ℕ) × HasFile files path text × P (outcome_over files (next text))
+      by None is g = absurd (only (unread path) g tt)
+      by (Some text) is g = fitting text is (nat_lt file_limit (length text)) refl g
+
+  pub checked_used : (path : List ℕ) (next : Index → Course) (text : List ℕ) → P (outcome_over files (then_on (checked_index path text) next)) → (first_fault text ≡ None) × P (outcome_over files (next (index_in text)))
+  checked_used path next text g = by (first_fault text) refl g
+    where
+      by : (fault : Option IndexFault) → first_fault text ≡ fault → P (outcome_over files (then_on (by_fault path text fault) next)) → (first_fault text ≡ None) × P (outcome_over files (next (index_in text)))
+      by None is g = (is, g)
+      by (Some fault) is g = absurd (only _ g tt)
+
+  pub limit_used : (path : List ℕ) (limit : ℕ) (hold : Bool) (text : List ℕ) (next : ClassedKernel → Course) → P (outcome_over files (then_on (kernel_of path limit hold (index_in text)) next)) →
+      IsWithin limit hold text × P (outcome_over files (next (index_kernel limit hold (home_in text) (packages_in text))))
+  limit_used path limit hold text next g = by (limit_at limit hold (suite_repository (home_in text) (packages_in text))) refl g
+    where
+      by : (passed : Option PassedRound) → limit_at limit hold (suite_repository (home_in text) (packages_in text)) ≡ passed → P (outcome_over files (then_on (by_limit path limit hold (index_in text) passed) next)) →
+          IsWithin limit hold text × P (outcome_over files (next (index_kernel limit hold (home_in text) (packages_in text))))
+      by None is g = (is, g)
+      by (Some passed) is g = absurd (only _ g tt)
+
+  pub kernel_used : (path : List ℕ) (limit : ℕ) (hold : Bool) (next : Index → ClassedKernel → Course) → P (outcome_over files (reads_kernel path limit hold next)) →
+      (text : List ℕ) × HasKernel files path limit hold text × P (outcome_over files (next (index_in text) (index_kernel limit hold (home_in text) (packages_in text))))
+  kernel_used path limit hold next g =
+      let onward : Index → Course = λ index. then_on (kernel_of path limit hold index) (next index) in
+      let w : (text : List ℕ) × HasFile files path text × P (outcome_over files (then_on (checked_index path text) onward)) = file_used path (λ text. then_on (checked_index path text) onward) g in
+      let c : (first_fault w.0 ≡ None) × P (outcome_over files (onward (index_in w.0))) = checked_used path onward w.0 w.2 in
+      let k : IsWithin limit hold w.0 × P (outcome_over files (next (index_in w.0) (index_kernel limit hold (home_in w.0) (packages_in w.0)))) = limit_used path limit hold w.0 (next (index_in w.0)) c.1 in
+      (w.0, (record { file = w.1; accepted = c.0 }, k.0), k.1)
+
+  pub kernel_at_used : (path : List ℕ) (limit : ℕ) (hold : Bool) (text : List ℕ) (next : ClassedKernel → Course) → P (outcome_over files (then_on (kernel_at path limit hold text) next)) →
+      (first_fault text ≡ None) × IsWithin limit hold text × P (outcome_over files (next (index_kernel limit hold (home_in text) (packages_in text))))
+  kernel_at_used path limit hold text next g = by (first_fault text) refl g
+    where
+      by : (fault : Option IndexFault) → first_fault text ≡ fault → P (outcome_over files (then_on (kernel_behind path limit hold (by_fault path text fault)) next)) →
+          (first_fault text ≡ None) × IsWithin limit hold text × P (outcome_over files (next (index_kernel limit hold (home_in text) (packages_in text))))
+      by None is g = let k = limit_used path limit hold text next g in (is, k.0, k.1)
+      by (Some fault) is g = absurd (only _ g tt)
+
+-- so it is of this report, and of some report
+abbrev pub GivesThis : Verdict → List ℕ → Outcome → Type 0
+GivesThis verdict printed o = o ≡ answered (reported verdict printed)
+
+pub this_alone : (verdict : Verdict) (printed : List ℕ) (o : Outcome) → GivesThis verdict printed o → IsStop o → ⊥
+this_alone verdict printed o e stop = subst IsStop e stop
+
+pub some_alone : (o : Outcome) → GivesReport o → IsStop o → ⊥
+some_alone o g stop = subst IsStop g.2 stop
+
+pub told : (verdict : Verdict) (printed : List ℕ) → GivesReport (answered (reported verdict printed))
+told verdict printed = (verdict, printed, refl)

@@ -1,0 +1,57 @@
+//! How many items are left out at once: twice as many behind a block that was left out, half as many behind one that was not, and
+//! one alone where what is left does not clash at once.
+//!
+//! If the others clash at the root without a whole block, each greater set does too, so leaving out one by one would have
+//! dropped every item of it.
+ghost use Rattle.std.specs.Prelude.{◌≡◌, ◌<◌, ◌≤◌, ◌*◌};
+ghost use Rattle.explain_core.specs.Deletion.{is_no};
+
+use clause_solver::Verdict;
+
+/// Whether the search found nothing.
+pub(crate) fn is_no(verdict: Verdict) -> bool
+    ensures { result ≡ is_no verdict }
+{
+    match verdict {
+        Verdict::No => true,
+        Verdict::Yes => false,
+        Verdict::Spent => false,
+    }
+}
+
+/// The items of a block, of which so many are left.
+pub(crate) fn count_of(block: u64, left: u64) -> u64
+    requires block { 0 < block }
+    requires left { 0 < left }
+    ensures some { 0 < result }
+    ensures block { result ≤ block }
+    ensures left { result ≤ left }
+{
+    if block < left { block } else { left }
+}
+
+/// The block behind one that was left out.
+pub(crate) fn twice(count: u64) -> u64
+    requires { 0 < count }
+    ensures some { 0 < result }
+    ensures most { result ≤ count * 2 }
+{
+    count.saturating_mul(2)
+}
+
+/// The block in place of one that was not left out.
+pub(crate) fn half(count: u64) -> u64
+    requires { 1 < count }
+    ensures some { 0 < result }
+    ensures less { result < count }
+{
+    count / 2
+}
+
+/// The block behind one item alone.
+pub(crate) fn block_behind(at_once: bool, verdict: Verdict) -> u64
+    ensures some { 0 < result }
+    ensures few { result ≤ 2 }
+{
+    if at_once && is_no(verdict) { 2 } else { 1 }
+}

@@ -1,6 +1,0 @@
-use Rattle.std.proofs.Common.{ℕ, ◌≡◌, [], length}
-use Rattle.row_book.specs.Book.{listed_for}
-use Rattle.kernel_text.proofs.classify.empty_lists.Given as goal
-
-abbrev pub invariant-loop : goal.invariant-loop
-invariant-loop l = record { count : length l.table.items ≡ l.counter; empty : (n : ℕ) → listed_for l.table.items n ≡ [] }

@@ -1,0 +1,4 @@
+pub mod Lists
+pub mod Hash
+pub mod Parts
+pub mod Index

@@ -1,0 +1,149 @@
+//! A vector of places in which the numbers of entries are found by their hashes.
+//!
+//! It is linear probing (Knuth, The Art of Computer Programming, vol. 3, 6.4). A list is hashed once, and the index grows by
+//! the hashes that it keeps. The hash is fixed, so lists that collide are slow and never wrong.
+ghost use Rattle.std.specs.Prelude.{◌≡◌, ℕ, ◌<◌, ◌+◌, ◌^◌, ◌∷◌, ◌++◌, ◌*◌, ◌≤◌, [], List, length, map, vec_len, IfOk, OnOk, OnErr, IfSome, IfNone};
+ghost use Rattle.list_table.specs.Index.{home, free, IsFirstFree, IsIndex, IsSize, IsTable, Puts};
+ghost use Rattle.list_table.specs.Lists.{StandsAt};
+
+use crate::item::Item;
+use crate::spans::Spans;
+use std::alloc::{AllocError, Global};
+
+/// A hash and the number of the entry with one added, or zero where the place is empty.
+pub(crate) type Place = (u32, u32);
+
+/// The place at which the walk of a hash begins.
+pub(crate) fn home(hash: u32, size: usize) -> usize
+    requires { 0 < size }
+    ensures { result ≡ home hash size }
+{
+    hash as usize & (size - 1)
+}
+
+// The first empty place on the walk of a hash.
+fn free_place(places: &[Place], hash: u32) -> usize
+    requires { 0 < free places.now }
+    ensures { IsFirstFree places.now (home hash (length places.now)) result }
+{
+    let size = places.len();
+    let mut place = home(hash, size);
+    for _ in 0..size {
+        let (_, entry) = places[place];
+        if entry == 0 {
+            return place;
+        }
+        place += 1;
+        if place == size {
+            place = 0;
+        }
+    }
+    place
+}
+
+/// Puts the next entry in.
+pub(crate) fn put(places: &mut [Place], hash: u32, number: u32)
+    requires room { 0 < free places.old }
+    requires fits { number + 1 < 2 ^ 32 }
+    ensures len { length places.new ≡ length places.old }
+    ensures put { Puts places.old places.new hash (number + 1) }
+    ensures index { (hashes : List ℕ) → length hashes ≡ number → IsIndex places.old hashes → IsIndex places.new (hashes ++ hash ∷ []) }
+{
+    let place = free_place(places, hash);
+    places[place] = (hash, number + 1);
+}
+
+/// Puts the next entry in.
+pub(crate) fn put_in(places: &mut Vec<Place>, hash: u32, number: u32)
+    requires room { 0 < free places.old.items }
+    requires fits { number + 1 < 2 ^ 32 }
+    ensures len { vec_len places.new ≡ vec_len places.old }
+    ensures put { Puts places.old.items places.new.items hash (number + 1) }
+    ensures index { (hashes : List ℕ) → length hashes ≡ number → IsIndex places.old.items hashes → IsIndex places.new.items (hashes ++ hash ∷ []) }
+{
+    put(places, hash, number);
+}
+
+/// The place of the list with these items.
+pub(crate) fn find_in<T: Item>(
+    places: &[Place],
+    lists: &Spans<T>,
+    wanted: u32,
+    items: &[T],
+) -> Option<usize>
+    requires table { IsTable places.now (map T.hash_of lists.now) }
+    requires hash { wanted ≡ T.hash_of items.now }
+    ensures some { IfSome result (StandsAt items.now lists.now) }
+    ensures none { IfNone result ((place : ℕ) → StandsAt items.now lists.now place → ⊥) }
+{
+    let size = places.len();
+    if size == 0 {
+        return None;
+    }
+    let mut place = home(wanted, size);
+    for _ in 0..size {
+        let (kept, entry) = places[place];
+        if entry == 0 {
+            return None;
+        }
+        if kept == wanted && T::same(lists.at((entry - 1) as usize), items) {
+            return Some((entry - 1) as usize);
+        }
+        place += 1;
+        if place == size {
+            place = 0;
+        }
+    }
+    None
+}
+
+// The first places, or twice as many.
+fn next_size(size: usize) -> Result<usize, AllocError>
+    requires { IsSize size }
+    ensures power { IfOk result IsSize }
+    ensures some { IfOk result (λ next. 2 ≤ next) }
+    ensures twice { IfOk result (λ next. 2 * size ≤ next) }
+{
+    if size == 0 {
+        return Ok(8);
+    }
+    let Some(twice) = size.checked_mul(2) else {
+        return Err(AllocError);
+    };
+    Ok(twice)
+}
+
+/// Makes room for one list more. Where no memory is found, the index stays as it was.
+pub(crate) fn make_room<T: Item>(
+    places: &mut Vec<Place>,
+    lists: &Spans<T>,
+) -> Result<(), AllocError>
+    requires { IsTable places.old.items (map T.hash_of lists.now) }
+    ensures index { IsTable places.new.items (map T.hash_of lists.now) }
+    ensures room { OnOk result (2 * length lists.now + 2 ≤ vec_len places.new) }
+{
+    let number = lists.count();
+    let size = places.len();
+    if number < size / 2 {
+        return Ok(());
+    }
+    let larger = next_size(size)?;
+    *places = moved_to(*places.allocator(), places.as_slice(), larger)?;
+    Ok(())
+}
+
+/// An index of this size with the same entries. It goes by the hashes that the places keep, and looks at no list.
+pub(crate) fn moved_to(alloc: Global, from: &[Place], size: usize) -> Result<Vec<Place>, AllocError>
+    requires { length from.now < size }
+    ensures index { IfOk result (λ places. (hashes : List ℕ) → IsIndex from.now hashes → IsIndex places.items hashes) }
+    ensures len { IfOk result (λ places. vec_len places ≡ size) }
+{
+    let mut places = vec![in alloc; (0, 0); size]?;
+    for place in from {
+        let (hash, entry) = *place;
+        if entry != 0 {
+            put_in(&mut places, hash, entry - 1);
+        }
+    }
+    Ok(places)
+}

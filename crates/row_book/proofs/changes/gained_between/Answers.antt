@@ -1,0 +1,36 @@
+use Rattle.std.proofs.Common.{◌≡◌, ◌∙◌, arith, eqb-true, subst, sym}
+use Rattle.row_book.specs.Sets.{In}
+use Rattle.row_book.proofs.Lists.{item_in}
+use Rattle.row_book.proofs.Differences.{difference_more, difference_rest, difference_same}
+use Rattle.row_book.proofs.changes.gained_between.Goals as goal
+
+-- both rows have the clause
+pub walk-preserved-then-eq : goal.walk-preserved-then-eq
+walk-preserved-then-eq c =
+    let same : c.index-old-i.result ≡ c.index-new-j.result = eqb-true c.index-old-i.result c.index-new-j.result (sym c.eq.ensures ∙ c.if-eq.true) in
+    record {
+      old_in = omega arith;
+      new_in = omega arith;
+      gained = difference_same c.args.new.now c.args.old.now c.walk.gained.items c.walk.j c.index-new-j.result c.if-j-new.true c.index-new-j.is
+          (subst (λ z. In z c.args.old.now) same (item_in c.args.old.now c.walk.i c.index-old-i.result c.walk-test.true c.index-old-i.is)) c.walk.invariant.gained;
+    }
+
+pub slice-requires : goal.slice-requires
+slice-requires c = c.requires.old c.index-old-i.result (item_in c.args.old.now c.walk.i c.index-old-i.result c.walk-test.true c.index-old-i.is)
+
+pub slice-requires-else-eq : goal.slice-requires-else-eq
+slice-requires-else-eq c = c.requires.new c.index-new-j.result (item_in c.args.new.now c.walk.j c.index-new-j.result c.if-j-new.true c.index-new-j.is)
+
+-- the new row's clause is passed
+pub walk-preserved : goal.walk-preserved
+walk-preserved c = record {
+  old_in = c.walk.invariant.old_in;
+  new_in = omega arith;
+  gained = difference_more c.args.new.now c.args.old.now c.walk.gained.items c.push.new.self.items c.walk.j c.index-new-j.result c.if-j-new.true c.index-new-j.is
+      c.in_ok-push.ensures.items c.walk.invariant.gained;
+}
+
+-- what was not walked is noted
+pub returns : goal.returns
+returns c =
+    difference_rest c.args.new.now c.args.old.now c.walk.gained.items c.extend_from_slice.new.self.items c.walk.j c.in_ok-extend_from_slice.ensures.items c.walk.invariant.gained

@@ -1,5 +1,0 @@
-use Rattle.suite_cases.proofs.MoreGoals.{fits_push}
-use Rattle.suite_cases.proofs.logs.add_goal.Goals as goal
-
-pub returns : goal.returns
-returns c = fits_push c.args.size c.args.goals.now c.push.new.self c.args.number c.in_ok-push.ensures.ok c.requires.fit c.requires.below

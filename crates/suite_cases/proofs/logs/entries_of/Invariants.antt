@@ -1,5 +1,0 @@
-use Rattle.search_terms.specs.Closure.{InRange}
-use Rattle.suite_cases.proofs.logs.entries_of.Given as goal
-
-abbrev pub invariant-loop-literal : goal.invariant-loop-literal
-invariant-loop-literal l = InRange l.size l.entries

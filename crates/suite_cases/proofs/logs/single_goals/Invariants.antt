@@ -1,5 +1,0 @@
-use Rattle.row_book.specs.Needs.{NeedsFit}
-use Rattle.suite_cases.proofs.logs.single_goals.Given as goal
-
-abbrev pub invariant-loop-number : goal.invariant-loop-number
-invariant-loop-number l = NeedsFit l.size l.goals

@@ -1,0 +1,70 @@
+-- Two classes that conflict do not go together, and one failed leaf tells it.
+use Rattle.std.proofs.Common.{◌≡◌, ℕ, ◌<◌, true, false, ◌||◌, List, [], ◌∷◌, inl, inr, length, get_or, refl, sym, ◌∙◌, ap, subst, arith}
+use Rattle.std.proofs.lemmas.Bool.{and_from, or_left, le-ltb}
+use Rattle.std.proofs.lemmas.List.{get_or_default}
+use Rattle.std.proofs.lemmas.List.Elements.{All-contains, All-cons, All-nil}
+use Rattle.listed.proofs.Lists.{in_contains}
+use Rattle.clause_pool.specs.Interned.{Interned}
+use Rattle.row_book.specs.Sets.{In, here, there}
+use Rattle.row_book.specs.Book.{repository_of, listed_for, Sound}
+use Rattle.row_book.specs.Needs.{NeedsFit}
+use Rattle.row_book.specs.Repository.{Repository}
+use Rattle.row_book.specs.declared.book.Book.{Book}
+use Rattle.row_book.proofs.Lists.{has_In, In_at, In_cases, In_none}
+use Rattle.search_terms.specs.Closure.{literal, negation, is_same, Clashes, InClosure, IsMet}
+use Rattle.search_terms.specs.Form.{conflict_sentence, form, goal_sentence}
+use Rattle.search_terms.specs.Tree.Tree.{failed_leaf}
+use Rattle.search_terms.proofs.Certificates.{same_refl}
+use Rattle.search_terms.proofs.Forms.{conflict_in, goal_in}
+use Rattle.search_terms.proofs.Found.{one_tree}
+use Rattle.clause_solver.specs.Outcomes.{IsBudget}
+use Rattle.clause_solver.specs.declared.outcomes.Verdict.TheVariants.{No}
+use Rattle.suite_compare.specs.Asking.{tree_of, verdict_of}
+use Rattle.suite_compare.specs.Kinds.{together, AreRivals}
+use Rattle.suite_compare.proofs.Judged.{tree_is}
+
+-- the class of a goal of one class is true at the root
+single_true : (R : Repository) (goals : List (List ℕ)) (p : ℕ) → In (p ∷ []) goals → InClosure (form R goals) [] (literal p true)
+single_true R goals p i = λ set holds closed.
+    All-contains (IsMet set) (form R goals) (goal_sentence (p ∷ [])) closed.steps (in_contains (form R goals) (goal_sentence (p ∷ [])) (goal_in R goals (p ∷ []) i))
+    0 (literal p true) (omega arith)
+    (and_from (is_same (literal p true) (literal p true) || set (literal p false)) true (or_left (is_same (literal p true) (literal p true)) (set (literal p false)) (same_refl (literal p true))) refl)
+
+-- so the root of two that conflict clashes
+rivals_clash : (R : Repository) (p q : ℕ) → In q (listed_for R.conflicts p) → Clashes (form R ((p ∷ []) ∷ ((q ∷ []) ∷ []))) []
+rivals_clash R p q i =
+    let goals : List (List ℕ) = (p ∷ []) ∷ ((q ∷ []) ∷ []) in
+    let c = in_contains (form R goals) (conflict_sentence p q) (conflict_in R goals p q i) in
+    inr (
+      c.0,
+      conflict_sentence p q,
+      c.1,
+      c.2,
+      All-cons (λ m. InClosure (form R goals) [] (negation m)) (literal p false) (literal q false ∷ []) (single_true R goals p here)
+          (All-cons (λ m. InClosure (form R goals) [] (negation m)) (literal q false) [] (single_true R goals q (there here)) (All-nil (λ m. InClosure (form R goals) [] (negation m)))),
+    )
+
+pub rivals_no : (pool : Interned) (book : Book) (budget : ℕ) (A B : List ℕ) → Sound pool book → NeedsFit (length book.rows) (A ∷ (B ∷ [])) → 0 < budget → AreRivals book.conflicts A B
+    → together (repository_of pool book) budget A B ≡ No
+rivals_no pool book budget A B sound fit some rivals =
+    let R : Repository = repository_of pool book in
+    let goals : List (List ℕ) = (rivals.one ∷ []) ∷ ((rivals.other ∷ []) ∷ []) in
+    let same : A ∷ (B ∷ []) ≡ goals = rw (rivals.first_is, rivals.second_is) refl in
+    let clash : Clashes (form R goals) [] = rivals_clash R rivals.one rivals.other (has_In (listed_for book.conflicts rivals.one) rivals.other rivals.against) in
+    let leaf : tree_of R goals ≡ failed_leaf = one_tree (length R.clauses) (form R goals) [] failed_leaf (tree_of R goals) clash (tree_is pool book goals sound (subst (NeedsFit (length book.rows)) same fit)) in
+    ap (λ g. verdict_of budget (tree_of R g)) same ∙ ap (verdict_of budget) leaf ∙ rw (le-ltb budget 1 (omega (arith, some))) refl
+
+-- so two kinds are judged
+pub rivals_told : (pool : Interned) (book : Book) (budget : ℕ) (kinds : List (List ℕ)) (k m : ℕ) (A B : List ℕ) → Sound pool book → NeedsFit (length book.rows) kinds → IsBudget budget → k < length kinds → m < length kinds
+    → A ≡ listed_for kinds k → B ≡ listed_for kinds m → AreRivals book.conflicts A B → No ≡ together (repository_of pool book) budget (listed_for kinds k) (listed_for kinds m)
+rivals_told pool book budget kinds k m A B sound fit allowed l lm first second rivals =
+    sym (rivals_no pool book budget (listed_for kinds k) (listed_for kinds m) sound both allowed.0 (subst (λ z. AreRivals book.conflicts z (listed_for kinds m)) first (subst (λ z. AreRivals book.conflicts A z) second rivals)))
+  where
+    both : NeedsFit (length book.rows) (listed_for kinds k ∷ (listed_for kinds m ∷ []))
+    both c i = elim (In_cases i) [
+      | inl e ↦ λ n j. fit (listed_for kinds k) (In_at kinds k [] l) n (subst (λ z. In n z) e j)
+      | inr r ↦ elim (In_cases r) [ inl e ↦ λ n j. fit (listed_for kinds m) (In_at kinds m [] lm) n (subst (λ z. In n z) e j) | inr x ↦ absurd (In_none x) ]
+    ]
+
+pub lent_at : (kinds : List (List ℕ)) (k : ℕ) (item lent : List ℕ) → k < length kinds → lent ≡ item → item ≡ get_or kinds k item → lent ≡ listed_for kinds k
+lent_at kinds k item lent l same is = same ∙ is ∙ get_or_default kinds k item [] l

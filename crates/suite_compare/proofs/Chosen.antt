@@ -1,13 +1,13 @@
 -- First choices.
-use Rattle.std.proofs.Common.{eqb-true, ◌≡◌, ℕ, ◌<◌, ◌≤◌, ◌+◌, Bool, true, false, List, [], ◌∷◌, ◌++◌, ◌⊎◌, inl, inr, length, get_or, take, map, refl, sym, ◌∙◌, ap, subst, arith, Option, Some, None}
+use Rattle.std.proofs.Common.{eqb-true, ◌≡◌, ℕ, ◌<◌, ◌≤◌, ◌+◌, true, false, List, [], ◌∷◌, ◌++◌, ◌⊎◌, inl, inr, length, get_or, take, map, refl, sym, ◌∙◌, ap, subst, arith, Option, Some, None}
 use Rattle.std.specs.Prelude.{slice_get, eqb}
 use Rattle.std.specs.Option.{option_to_list}
 use Rattle.std.specs.List.{list_any}
-use Rattle.std.proofs.lemmas.Bool.{cases_eq, false≢true}
-use Rattle.std.proofs.lemmas.List.{append-nil, take_more, take_all, map_more, get_or_read, get_or_append_left, length-append, length-map}
-use Rattle.clause_pool.specs.Interned.{Interned, clause_at, clauses_at, ids_at, row_at}
+use Rattle.std.proofs.lemmas.Bool.{cases_Bool, cases_eq, both_ways, false_from_ne_true, false≢true}
+use Rattle.std.proofs.lemmas.List.{append-nil, take_more, take_all, map_more, get_or_append_left, length-append}
+use Rattle.clause_pool.specs.Interned.{Interned, clause_at, clauses_at, ids_at}
 use Rattle.clause_pool.proofs.Lists.{In_place}
-use Rattle.row_book.specs.Sets.{In, here, there, has}
+use Rattle.row_book.specs.Sets.{In, here, has}
 use Rattle.row_book.specs.Book.{listed_for, repository_of, Sound}
 use Rattle.row_book.specs.Repository.{Repository, clauses_of}
 use Rattle.row_book.specs.Uses.{row_id}
@@ -16,43 +16,43 @@ use Rattle.row_book.proofs.Lists.{In_cases, In_none, In_at, In_has, has_In, In_a
 use Rattle.row_book.proofs.Books.{clauses_row}
 use Rattle.search_terms.specs.Certificate.{first_of, is_one_of}
 use Rattle.search_terms.proofs.Ranges.{rows_long}
-use Rattle.suite_compare.specs.Choices.{AreBelow, ArePeaceful, ArePut, HaveFirsts, IsChosen, IsFollowed}
+use Rattle.suite_compare.specs.Choices.{AreBelow, ArePeaceful, ArePut, HaveFirsts, IsChosen, IsFollowed, with_class}
 
 pub peace_none : (conflicts : List (List ℕ)) (classes : List ℕ) → ArePeaceful conflicts [] classes
 peace_none conflicts classes m n i j = absurd (In_none i)
 
-pub peace_more : (conflicts : List (List ℕ)) (classes : List ℕ) (i : ℕ) → i < length classes → list_any (has (listed_for conflicts (get_or classes i 0))) classes ≡ false
-    → ArePeaceful conflicts (take i classes) classes → ArePeaceful conflicts (take (i + 1) classes) classes
-peace_more conflicts classes i l none so m n im jn =
+pub peace_more : (conflicts : List (List ℕ)) (classes others : List ℕ) (i : ℕ) → i < length classes → list_any (has others) (listed_for conflicts (get_or classes i 0)) ≡ false
+    → ArePeaceful conflicts (take i classes) others → ArePeaceful conflicts (take (i + 1) classes) others
+peace_more conflicts classes others i l none so m n im jn =
     elim (In_append_cases (take i classes) (get_or classes i 0 ∷ []) m (subst (λ z. In m z) (take_more classes i 0 l) im)) [
       | inl o ↦ so m n o jn
       | inr s ↦ elim (In_cases s) [
-        | inl e ↦ ap (λ z. has (listed_for conflicts z) n) e ∙ any_none (has (listed_for conflicts (get_or classes i 0))) classes none n jn
+        | inl e ↦ ap (λ z. has (listed_for conflicts z) n) e ∙ false_from_ne_true (has (listed_for conflicts (get_or classes i 0)) n) (λ h.
+            both_ways (has others n) (any_none (has others) (listed_for conflicts (get_or classes i 0)) none n (has_In (listed_for conflicts (get_or classes i 0)) n h)) (In_has jn))
         | inr x ↦ absurd (In_none x)
       ]
     ]
 
-pub peace_all : (conflicts : List (List ℕ)) (classes : List ℕ) (i : ℕ) → length classes ≤ i → ArePeaceful conflicts (take i classes) classes → ArePeaceful conflicts classes classes
-peace_all conflicts classes i l so = subst (λ z. ArePeaceful conflicts z classes) (take_all i classes l) so
+pub peace_all : (conflicts : List (List ℕ)) (classes others : List ℕ) (i : ℕ) → length classes ≤ i → classes ≡ others → ArePeaceful conflicts (take i classes) others → ArePeaceful conflicts others others
+peace_all conflicts classes others i l same so = subst (λ z. ArePeaceful conflicts z others) (take_all i classes l ∙ same) so
 
-pub put_old : (chosen lent : List ℕ) (n : ℕ) (r : Bool) → lent ≡ chosen → r ≡ has lent n → r ≡ true → ArePut chosen chosen (n ∷ [])
-put_old chosen lent n r same is t = record {
-  rest = [];
-  behind = sym (append-nil chosen);
-  all = λ m i. elim (In_cases i) [
-    | inl e ↦ subst (λ z. In z chosen) (sym e) (has_In chosen n (ap (λ z. has z n) (sym same) ∙ sym is ∙ t))
-    | inr x ↦ absurd (In_none x)
-  ];
-  only = λ m i. absurd (In_none i);
-}
+-- a class that is put in stands behind the others, or is there already
+pub put_with : (chosen : List ℕ) (n : ℕ) → ArePut chosen (with_class chosen n) (n ∷ [])
+put_with chosen n = elim (cases_Bool (has chosen n)) [
+  | inl t ↦ subst (λ z. ArePut chosen z (n ∷ [])) (sym (rw t refl)) (old t)
+  | inr f ↦ subst (λ z. ArePut chosen z (n ∷ [])) (sym (rw f refl)) new
+]
+  where
+    old : has chosen n ≡ true → ArePut chosen chosen (n ∷ [])
+    old t = record {
+      rest = [];
+      behind = sym (append-nil chosen);
+      all = λ m i. elim (In_cases i) [ inl e ↦ subst (λ z. In z chosen) (sym e) (has_In chosen n t) | inr x ↦ absurd (In_none x) ];
+      only = λ m i. absurd (In_none i);
+    }
 
-pub put_new : (chosen new : List ℕ) (n : ℕ) → new ≡ chosen ++ n ∷ [] → ArePut chosen new (n ∷ [])
-put_new chosen new n made = record {
-  rest = n ∷ [];
-  behind = made;
-  all = λ m i. subst (λ z. In m z) (sym made) (In_append_right chosen (n ∷ []) m i);
-  only = λ m i. i;
-}
+    new : ArePut chosen (chosen ++ n ∷ []) (n ∷ [])
+    new = record { rest = n ∷ []; behind = refl; all = λ m i. In_append_right chosen (n ∷ []) m i; only = λ m i. i }
 
 one_of_more : (S T : List ℕ) (o : Option ℕ) → ((n : ℕ) → In n S → In n T) → is_one_of (has S) o ≡ true → is_one_of (has T) o ≡ true
 one_of_more S T None f h = absurd (false≢true h)
@@ -61,6 +61,9 @@ one_of_more S T (Some n) f h = In_has (f n (has_In S n h))
 first_is : (clause : List ℕ) (n : ℕ) → Some n ≡ slice_get clause 0 → (first_of clause ≡ Some n) × In n clause
 first_is [] n e = absurd cc
 first_is (x ∷ xs) n e = (sym e, let same : n ≡ x = cc in subst (λ z. In z (x ∷ xs)) (sym same) here)
+
+pub first_within : (size : ℕ) (clause lent : List ℕ) (n : ℕ) → lent ≡ clause → Some n ≡ slice_get lent 0 → AreBelow size clause → n < size
+first_within size clause lent n same first below = below n (subst (λ z. In n z) same (first_is lent n first).1)
 
 -- the first members of some clauses are put behind what was there
 pub record FirstsTo (clauses : List (List ℕ)) (initial chosen : List ℕ) : Type 0 where
@@ -123,16 +126,6 @@ pub record FollowedTo (R : Repository) (goal chosen : List ℕ) (n : ℕ) : Type
   pub goal_first : (m : ℕ) → In m chosen → HaveFirsts (goal ∷ []) chosen
   pub clause_firsts : (j : ℕ) → j < n → HaveFirsts (clauses_of R (get_or chosen j 0)) chosen
 
-pub followed_empty : (R : Repository) (goal chosen : List ℕ) → chosen ≡ [] → IsFollowed R goal chosen
-followed_empty R goal chosen e = record {
-  below = λ n i. absurd (none n i);
-  goal_first = λ n i. absurd (none n i);
-  clause_firsts = λ p i. absurd (none p i);
-}
-  where
-    none : (n : ℕ) → In n chosen → ⊥
-    none n i = In_none (subst (λ z. In n z) e i)
-
 pub first_none : (goal : List ℕ) → eqb (length goal) 0 ≡ true → [] ≡ option_to_list (first_of goal)
 first_none [] e = refl
 first_none (x ∷ xs) e = let h : length (x ∷ xs) ≡ 0 = eqb-true (length (x ∷ xs)) 0 e in absurd (omega arith)
@@ -140,6 +133,10 @@ first_none (x ∷ xs) e = let h : length (x ∷ xs) ≡ 0 = eqb-true (length (x 
 pub first_some : (goal : List ℕ) → eqb (length goal) 0 ≡ false → get_or goal 0 0 ∷ [] ≡ option_to_list (first_of goal)
 first_some [] e = absurd (false≢true (sym e))
 first_some (x ∷ xs) e = refl
+
+pub some_first : (goal : List ℕ) → eqb (length goal) 0 ≡ false → 0 < length goal
+some_first [] e = absurd (false≢true (sym e))
+some_first (x ∷ xs) e = omega arith
 
 first_in : (goal : List ℕ) (m : ℕ) → In m (option_to_list (first_of goal)) → In m goal × (first_of goal ≡ Some m)
 first_in [] m i = absurd (In_none i)
@@ -158,6 +155,10 @@ followed_none pool book goal chosen below is = record {
   ];
   clause_firsts = λ j l. absurd (omega arith);
 }
+
+-- the numbers of a row of a sound book
+pub row_numbers : (pool : Interned) (book : Book) (p : ℕ) (row : List ℕ) → Sound pool book → p < length book.rows → row ≡ ids_at pool (row_id book.rows p) → (c : List ℕ) → In c (clauses_at pool row) → AreBelow (length book.rows) c
+row_numbers pool book p row sound inside lent c i = sound.rows.numbers (row_id book.rows p) (In_at book.rows p 0 inside) c (subst (λ z. In c (clauses_at pool z)) lent i)
 
 pub followed_more : (pool : Interned) (book : Book) (goal chosen new : List ℕ) (n p : ℕ) (row : List ℕ) → Sound pool book → n < length chosen → p ≡ get_or chosen n 0 → row ≡ ids_at pool (row_id book.rows p)
     → ((rest : List ℕ) × (new ≡ chosen ++ rest)) → HaveFirsts (clauses_at pool row) new

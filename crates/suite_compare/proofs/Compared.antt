@@ -1,5 +1,5 @@
 -- A comparison over kinds of names.
-use Rattle.std.proofs.Common.{◌≡◌, ℕ, ◌<◌, ◌≤◌, ◌+◌, Bool, true, List, [], ◌∷◌, ◌++◌, length, get_or, map, filter, refl, sym, ◌∙◌, ap, ap₂, subst, arith, inl, inr, ◌⊎◌}
+use Rattle.std.proofs.Common.{◌≡◌, ℕ, ◌<◌, ◌+◌, Bool, true, List, [], ◌∷◌, ◌++◌, length, get_or, map, filter, sym, ◌∙◌, ap, ap₂, subst, arith, inl, inr}
 use Rattle.std.specs.List.{flat_map}
 use Rattle.std.proofs.lemmas.List.{get_or-map, length-map, length_push}
 use Rattle.clause_pool.specs.Interned.{Interned}
@@ -24,7 +24,7 @@ use Rattle.clause_solver.specs.declared.outcomes.Verdict.{Verdict}
 use Rattle.clause_solver.specs.declared.solver.Solver.{Solver}
 use Rattle.clause_solver.specs.declared.outcomes.Verdict.TheVariants.{Spent}
 use Rattle.suite_compare.specs.Asking.{image_of, tree_of, verdict_in, verdict_of}
-use Rattle.suite_compare.specs.Bad.{AreAllBad, AreBad}
+use Rattle.suite_compare.specs.Bad.{AreAllBad}
 use Rattle.suite_compare.specs.Comparing.{told_report, AreVerdicts, IsSide, IsTable}
 use Rattle.suite_compare.specs.Groups.{ArePlaces}
 use Rattle.suite_compare.specs.Kinds.{alone, together, AreJoined, AreKinds, IsJudge}
@@ -33,8 +33,6 @@ use Rattle.suite_compare.specs.Report.{finding, is_yes}
 use Rattle.suite_compare.specs.Telling.{partners_at, told_after, told_alone}
 use Rattle.suite_compare.specs.declared.gather.Partners.{Partners}
 use Rattle.suite_compare.specs.declared.judge.Bad.{Bad}
-use Rattle.suite_compare.specs.declared.report.Finding.{Finding}
-use Rattle.suite_compare.specs.declared.report.ReportLine.{ReportLine}
 use Rattle.suite_compare.proofs.Gathered.{is_single, pair_finding, partners_say, partners_within, PartnersSay}
 use Rattle.suite_compare.proofs.Groups.{pushed_at}
 use Rattle.suite_compare.proofs.Reported.{report_told}

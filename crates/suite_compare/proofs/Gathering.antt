@@ -8,7 +8,7 @@ use Rattle.row_book.specs.Repository.{Repository}
 use Rattle.row_book.specs.Rounds.{kernel_class}
 use Rattle.row_book.specs.Sets.{In, here}
 use Rattle.row_book.specs.Sound.{SoundRepository}
-use Rattle.row_book.proofs.Lists.{In_map, In_map_cases, In_none, ascending_filter, ascending_same}
+use Rattle.row_book.proofs.Lists.{In_map, In_map_cases, ascending_filter, ascending_same}
 use Rattle.row_book.proofs.Order.{at_numbers, length_numbers}
 use Rattle.relation_fields.specs.declared.packages.PackageFacts.{PackageFacts}
 use Rattle.relation_fields.specs.declared.packages.Home.{Home}

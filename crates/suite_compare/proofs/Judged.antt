@@ -1,14 +1,14 @@
 -- Verdicts on kinds.
 use Rattle.std.proofs.Common.{◌≡◌, ℕ, ◌<◌, ◌≤◌, ◌+◌, Bool, true, false, cond, List, [], ◌∷◌, ◌++◌, ◌⊎◌, inl, inr, length, get_or, take, map, ltb, refl, sym, ◌∙◌, ap, subst, arith, Option, Some, None}
-use Rattle.std.specs.Prelude.{is_some, IsSome, if◌then◌else◌}
+use Rattle.std.specs.Prelude.{is_some, IsSome}
 use Rattle.std.specs.List.{flat_map}
-use Rattle.std.proofs.lemmas.Bool.{cases_Bool, both_ways, false≢true, ltb-true, lt-ltb, le-ltb}
-use Rattle.std.proofs.lemmas.List.{length_push, append-nil, flat_map_more, get_or_read, get_or-map, map_more, take_all, take_more, length-map}
+use Rattle.std.proofs.lemmas.Bool.{cases_Bool, both_ways, false≢true, lt-ltb, le-ltb}
+use Rattle.std.proofs.lemmas.List.{length_push, append-nil, flat_map_more, get_or-map, map_more, take_all, take_more, length-map}
 use Rattle.std.proofs.lemmas.List.Concat.{flat_map-append}
 use Rattle.listed.proofs.Lists.{In_flat_cases, In_flat}
 use Rattle.clause_pool.specs.Interned.{Interned}
-use Rattle.row_book.specs.Sets.{In, here, there, has}
-use Rattle.row_book.specs.Book.{listed_for, repository_of, Sound, AreConflicts}
+use Rattle.row_book.specs.Sets.{In, here, has}
+use Rattle.row_book.specs.Book.{listed_for, repository_of, Sound}
 use Rattle.row_book.specs.Needs.{AreNeeds, IsNeed, NeedsFit}
 use Rattle.row_book.specs.Repository.{Repository}
 use Rattle.row_book.specs.declared.book.Book.{Book}
@@ -25,11 +25,11 @@ use Rattle.clause_solver.specs.Verdicts.{IsSearchVerdict, IsVerdictOf}
 use Rattle.clause_solver.specs.declared.outcomes.Verdict.{Verdict}
 use Rattle.clause_solver.specs.declared.outcomes.Verdict.TheVariants.{Yes, No, Spent}
 use Rattle.suite_compare.specs.Bad.{bad, bad_entry, AreAllBad, AreBad}
-use Rattle.suite_compare.specs.Choices.{AreBelow, ArePeaceful, IsChosen}
+use Rattle.suite_compare.specs.Choices.{AreBelow, ArePeaceful}
 use Rattle.suite_compare.specs.Kinds.{alone, kernel_verdict, together}
 use Rattle.suite_compare.specs.Asking.{tree_of, verdict_of}
 use Rattle.suite_compare.specs.Report.{is_yes}
-use Rattle.suite_compare.specs.Suspects.{AreAllChosen, AreChoices, AreJoinable, AreSuspects}
+use Rattle.suite_compare.specs.Suspects.{AreChoices, AreSuspects}
 use Rattle.suite_compare.specs.declared.judge.Bad.{Bad}
 use Rattle.suite_compare.specs.declared.suspect.Choices.{Choices}
 use Rattle.suite_compare.proofs.Groups.{pushed_at}

@@ -8,6 +8,7 @@ pub mod Answered
 pub mod Named
 pub mod Groups
 pub mod Numbered
+pub mod ClassSets
 pub mod Chosen
 pub mod Suspected
 pub mod Judged

@@ -1,19 +1,14 @@
 -- The names of both suites, and their classes.
-use Rattle.std.proofs.Common.{eqb-true, ◌≡◌, ℕ, ◌<◌, ◌≤◌, ◌+◌, Bool, true, false, cond, eqb, List, [], ◌∷◌, ◌++◌, ◌⊎◌, inl, inr, length, get_or, take, map, filter, refl, sym, ◌∙◌, ap, subst, arith, ◌&&◌}
+use Rattle.std.proofs.Common.{eqb-true, ◌≡◌, ℕ, ◌<◌, ◌≤◌, ◌+◌, Bool, true, false, cond, eqb, List, [], ◌∷◌, ◌++◌, length, get_or, take, map, filter, refl, sym, ◌∙◌, ap, subst, arith}
 use Rattle.std.specs.Prelude.{if◌then◌else◌}
-use Rattle.std.specs.List.{list_any, range_with_len}
 use Rattle.std.specs.Str.{bytes_eq}
 use Rattle.std.proofs.Math.Bool.{and-true}
-use Rattle.std.proofs.lemmas.Bool.{cases_Bool, both_ways, false_from_ne_true, false≢true}
+use Rattle.std.proofs.lemmas.Bool.{false_from_ne_true, false≢true}
 use Rattle.std.proofs.lemmas.List.{append-nil, map_more, take_all, take_more}
 use Rattle.std.proofs.lemmas.List.Elements.{filter-append}
-use Rattle.clause_pool.specs.Interned.{Interned}
-use Rattle.row_book.specs.Book.{repository_of}
-use Rattle.row_book.specs.Clauses.{Ascending}
 use Rattle.row_book.specs.Needs.{AreNeeds, IsNeed, NeedsFit}
 use Rattle.row_book.specs.Rounds.{kernel}
-use Rattle.row_book.specs.Sets.{In, here, there}
-use Rattle.row_book.specs.declared.book.Book.{Book}
+use Rattle.row_book.specs.Sets.{In, here}
 use Rattle.row_book.proofs.Lists.{In_none, In_at, In_map_cases, any_cases, any_from, filter_cases, filter_same}
 use Rattle.clause_pool.proofs.Lists.{In_place}
 use Rattle.row_book.proofs.Order.{ordered_parts}
@@ -26,9 +21,9 @@ use Rattle.std.proofs.lemmas.Slice.Eq.{bytes_eq-Decides}
 use Rattle.repo_model.proofs.Packages.{length_clauses}
 use Rattle.repo_model.proofs.Chosen.{number_cases, number_from, numbers_chosen}
 use Rattle.virtual_provides.specs.Bearers.{if_so}
-use Rattle.virtual_provides.specs.Numbers.{ends_in, numbers_where, with_number}
+use Rattle.virtual_provides.specs.Numbers.{numbers_where, with_number}
 use Rattle.virtual_provides.proofs.Numbered.{numbers_where-fresh_take, numbers_where-more}
-use Rattle.suite_compare.specs.Asking.{goal_classes, image_of}
+use Rattle.suite_compare.specs.Asking.{image_of}
 use Rattle.suite_compare.specs.Names.{names_of_both, stands_in}
 use Rattle.suite_compare.proofs.SuiteKernels.{classes_ascending, classes_fit, classes_from, suite_sound}
 

@@ -1,9 +1,9 @@
 -- Kinds and pairs of kinds, numbered as they came.
-use Rattle.std.proofs.Common.{◌≡◌, ℕ, ◌<◌, ◌≤◌, ◌+◌, List, [], ◌∷◌, ◌++◌, ◌⊎◌, inl, inr, length, get_or, refl, sym, ◌∙◌, ap, subst, arith, position, nat_eq, Some, None}
+use Rattle.std.proofs.Common.{◌≡◌, ℕ, ◌<◌, ◌+◌, List, [], ◌∷◌, ◌++◌, ◌⊎◌, inl, inr, length, get_or, refl, sym, ◌∙◌, ap, subst, arith, position, nat_eq, Some}
 use Rattle.std.specs.Cmp.Lexicographic.{pointwise}
 use Rattle.std.proofs.lemmas.Bool.{cases_eq}
 use Rattle.std.proofs.lemmas.List.{length_push, get_or_push, get_or_append_left, get_or_read}
-use Rattle.row_book.specs.Sets.{In, here, there}
+use Rattle.row_book.specs.Sets.{In}
 use Rattle.row_book.specs.Book.{listed_for}
 use Rattle.row_book.proofs.Lists.{In_cases, In_none, In_at, In_append_cases}
 use Rattle.class_merge.proofs.Places.{place_some}

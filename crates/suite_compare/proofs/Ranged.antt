@@ -1,5 +1,5 @@
 -- The classes in the formula of a sound repository and goals are its packages.
-use Rattle.std.proofs.Common.{ℕ, ◌<◌, true, false, List, [], ◌∷◌, length, get_or, subst}
+use Rattle.std.proofs.Common.{ℕ, ◌<◌, false, List, [], ◌∷◌, length, get_or, subst}
 use Rattle.std.specs.Prelude.{All}
 use Rattle.std.proofs.lemmas.List.Elements.{All-nil, All-cons, Contains-get_or}
 use Rattle.listed.proofs.Lists.{contains_in}
@@ -10,7 +10,7 @@ use Rattle.row_book.specs.Sound.{SoundRepository}
 use Rattle.search_terms.specs.declared.literals.Literal.{Literal}
 use Rattle.search_terms.specs.Closure.{literal, InRange}
 use Rattle.search_terms.specs.Form.{goal_sentence, form}
-use Rattle.search_terms.proofs.Forms.{from_map, IsSentence, sentence_cases}
+use Rattle.search_terms.proofs.Forms.{IsSentence, sentence_cases}
 use Rattle.search_terms.proofs.Forms.IsSentence.{of_goal, of_clause, of_conflict}
 use Rattle.search_terms.proofs.Ranges.{other_way, listed_in, members_ranged}
 

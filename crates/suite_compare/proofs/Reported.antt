@@ -1,14 +1,14 @@
 -- The lines of a report, by the places of the names.
-use Rattle.std.proofs.Common.{◌≡◌, ℕ, zero, suc, ◌<◌, ◌≤◌, ◌+◌, Bool, true, false, cond, List, [], ◌∷◌, ◌++◌, ◌⊎◌, inl, inr, length, get_or, take, map, filter, ltb, refl, sym, ◌∙◌, ap, ap₂, subst, arith, Option, Some, None}
+use Rattle.std.proofs.Common.{◌≡◌, ℕ, suc, ◌<◌, ◌+◌, Bool, true, false, cond, List, [], ◌∷◌, ◌++◌, inl, inr, length, get_or, map, filter, ltb, refl, sym, ◌∙◌, ap, ap₂, subst, arith, Option, Some, None}
 use Rattle.std.specs.List.{flat_map}
-use Rattle.std.proofs.lemmas.Bool.{cases_Bool, both_ways, ltb-true, lt-ltb, le-ltb}
-use Rattle.std.proofs.lemmas.List.{append-nil, flat_map_more, take_more}
+use Rattle.std.proofs.lemmas.Bool.{cases_Bool, both_ways, lt-ltb, le-ltb}
+use Rattle.std.proofs.lemmas.List.{append-nil, flat_map_more}
 use Rattle.std.proofs.lemmas.List.Elements.{filter-append}
 use Rattle.listed.proofs.Lists.{flat_same}
 use Rattle.row_book.specs.Sets.{In, here, there, has}
 use Rattle.row_book.specs.Book.{listed_for}
 use Rattle.row_book.specs.Clauses.{Ascending, numbers}
-use Rattle.row_book.proofs.Lists.{In_cases, In_none, In_has, has_In, has_not, ascending_same, ascending_filter, filter_from, filter_cases, filter_same}
+use Rattle.row_book.proofs.Lists.{In_has, has_In, ascending_same, ascending_filter, filter_from, filter_cases, filter_same}
 use Rattle.row_book.proofs.Order.{numbers_from, numbers_parts, numbers_ascending, numbers_more}
 use Rattle.clause_solver.specs.declared.outcomes.Verdict.{Verdict}
 use Rattle.clause_solver.specs.declared.outcomes.Verdict.TheVariants.{Spent}

@@ -1,21 +1,21 @@
 -- Which kinds may not go together.
-use Rattle.std.proofs.Common.{◌≡◌, ℕ, ◌<◌, ◌≤◌, ◌+◌, Bool, true, false, eqb, List, [], ◌∷◌, ◌++◌, ◌⊎◌, inl, inr, length, get_or, take, refl, sym, ◌∙◌, ap, subst, arith}
+use Rattle.std.proofs.Common.{◌≡◌, ℕ, ◌<◌, ◌≤◌, ◌+◌, Bool, false, eqb, List, [], ◌∷◌, ◌++◌, ◌⊎◌, inl, inr, length, get_or, take, refl, sym, ◌∙◌, ap, subst, arith}
 use Rattle.std.specs.Prelude.{◌↔◌}
 use Rattle.std.proofs.lemmas.Bool.{cases_eq, cases_Bool, both_ways, false_from_ne_true}
-use Rattle.std.proofs.lemmas.List.{take_more, take_all, length_push, get_or_read, get_or-map}
+use Rattle.std.proofs.lemmas.List.{take_more, take_all, length_push, get_or_read}
 use Rattle.listed.proofs.Lists.{some_item, empty_or}
-use Rattle.row_book.specs.Sets.{In, here, there, has}
+use Rattle.row_book.specs.Sets.{In, here, has}
 use Rattle.clause_pool.specs.Interned.{Interned}
 use Rattle.row_book.specs.Book.{listed_for, repository_of, Sound}
 use Rattle.row_book.specs.declared.book.Book.{Book}
 use Rattle.search_terms.proofs.Ranges.{listed_in, other_way, rows_long}
 use Rattle.row_book.specs.Needs.{NeedsFit}
 use Rattle.row_book.specs.Repository.{Repository}
-use Rattle.row_book.proofs.Lists.{In_cases, In_none, In_at, In_has, has_In, In_append_cases, In_append_left, In_append_right}
+use Rattle.row_book.proofs.Lists.{In_none, In_at, In_has, has_In, In_append_cases, In_append_left, In_append_right}
 use Rattle.row_book.proofs.Books.{in_listed}
-use Rattle.suite_compare.specs.Choices.{AreBelow, ArePeaceful, IsChosen}
+use Rattle.suite_compare.specs.Choices.{AreBelow, IsChosen}
 use Rattle.suite_compare.specs.Groups.{IsEntered}
-use Rattle.suite_compare.specs.Suspects.{AreAllChosen, AreHeld, AreHolders, AreJoinable, AreSuspects, AreWithout, HaveMarked}
+use Rattle.suite_compare.specs.Suspects.{AreAllChosen, AreHeld, AreHolders, AreSuspects, AreWithout, HaveMarked}
 use Rattle.suite_compare.proofs.Groups.{pushed_at, In_last}
 
 -- the first n kinds have their choices

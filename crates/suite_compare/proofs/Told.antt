@@ -3,10 +3,8 @@ use Rattle.std.proofs.Common.{◌≡◌, ℕ, ◌<◌, ◌≤◌, Bool, true, fa
 use Rattle.std.specs.Prelude.{ltb}
 use Rattle.std.proofs.lemmas.Bool.{le-ltb, lt-ltb}
 use Rattle.search_terms.specs.Tree.{Tree, failed_leaves, found_of}
-use Rattle.clause_solver.specs.declared.outcomes.Verdict.{Verdict}
 use Rattle.clause_solver.specs.declared.outcomes.Verdict.TheVariants as verdict
 use Rattle.suite_compare.specs.Asking.{asked_tree, verdict_of}
-use Rattle.suite_compare.specs.declared.answers.Answer.{Answer}
 use Rattle.suite_compare.specs.declared.answers.Answer.TheVariants.{Yes, No, Spent}
 use Rattle.suite_compare.specs.Laws.{AnswerIsVerdict}
 

@@ -1,10 +1,10 @@
 -- for the bodies of this crate alone
 -- First choices as lists of classes, and which of them are at peace.
-use Rattle.std.specs.Prelude.{◌≡◌, ℕ, ◌<◌, ◌⊎◌, true, false, List, [], ◌∷◌, ◌++◌, length}
+use Rattle.std.specs.Prelude.{◌≡◌, ℕ, ◌<◌, Bool, true, false, if◌then◌else◌, List, [], ◌∷◌, ◌++◌, length, slice_index_or}
 use Rattle.row_book.specs.Sets.{In, has}
 use Rattle.row_book.specs.Book.{listed_for}
 use Rattle.row_book.specs.Repository.{Repository, clauses_of}
-use Rattle.search_terms.specs.Certificate.{first_of, is_one_of, AreAtPeace, IsFirstChoice}
+use Rattle.search_terms.specs.Certificate.{first_of, is_one_of, IsFirstChoice}
 
 -- each number of the list is below the size
 abbrev pub AreBelow : ℕ → List ℕ → Type 0
@@ -13,6 +13,14 @@ AreBelow size list = (n : ℕ) → In n list → n < size
 -- no member of the first list conflicts with one of the second
 abbrev pub ArePeaceful : List (List ℕ) → List ℕ → List ℕ → Type 0
 ArePeaceful conflicts S T = (m n : ℕ) → In m S → In n T → has (listed_for conflicts m) n ≡ false
+
+-- the class behind the others, where it is not there yet
+abbrev pub with_class : List ℕ → ℕ → List ℕ
+with_class members class = if has members class then members else members ++ class ∷ []
+
+-- a flag for each class, up for the members
+pub record AreFlagged (flags : List Bool) (members : List ℕ) : Type 0 where
+  pub each : (n : ℕ) → slice_index_or flags n false ≡ has members n
 
 -- the numbers of the second list are put behind the first, those that are not there yet
 pub record ArePut (old new more : List ℕ) : Type 0 where

@@ -1,6 +1,6 @@
 -- for the bodies of this crate alone
 -- The lines of names by their places.
-use Rattle.std.specs.Prelude.{ℕ, Bool, if◌then◌else◌, List, [], Some, filter, ltb, slice_index_or}
+use Rattle.std.specs.Prelude.{ℕ, if◌then◌else◌, List, [], Some, filter, ltb, slice_index_or}
 use Rattle.std.specs.List.{flat_map}
 use Rattle.row_book.specs.Sets.{has}
 use Rattle.row_book.specs.Book.{listed_for}

@@ -6,69 +6,57 @@ ghost use Rattle.row_book.specs.Sets.{In, has};
 ghost use Rattle.row_book.specs.Book.{listed_for, repository_of, Sound};
 ghost use Rattle.std.specs.Option.{option_to_list};
 ghost use Rattle.search_terms.specs.Certificate.{first_of};
-ghost use Rattle.suite_compare.specs.Choices.{AreBelow, ArePeaceful, ArePut, HaveFirsts, IsChosen, IsFollowed};
+ghost use Rattle.suite_compare.specs.Choices.{AreBelow, ArePeaceful, HaveFirsts, IsChosen, IsFollowed};
 
+use crate::class_set::ClassSet;
 use crate::group::class_at;
 use clause_pool::{ClauseId, NumList, Pool};
 use listed::Listed;
-use row_book::{Book, holds};
+use row_book::Book;
 use std::alloc::{AllocError, Global};
-
-/// The most members up to which a first choice is followed: those of real suites have two or three.
-const MOST_MEMBERS: usize = 64;
-
-/// Puts the number behind the others, where it is not there yet.
-fn put(chosen: &mut Vec<u32>, number: u32) -> Result<(), AllocError>
-    ensures { OnOk result (ArePut chosen.old.items chosen.new.items (number ∷ [])) }
-{
-    if holds(chosen.as_slice(), number) {
-        return Ok(());
-    }
-    chosen.push(number)?;
-    Ok(())
-}
 
 /// Puts the first member of each clause of a row behind the others; answers whether each clause has one, and they are not too
 /// many, as they are where a hostile index gives a class thousands of clauses.
-fn put_firsts(pool: &Pool, row: &[ClauseId], chosen: &mut Vec<u32>) -> Result<bool, AllocError>
-    requires { OfPool pool.now row.now }
-    ensures behind { OnOk result ((more : List ℕ) × (chosen.new.items ≡ chosen.old.items ++ more)) }
-    ensures firsts { IfOk result (λ whole. whole ≡ true → HaveFirsts (clauses_at pool.now row.now) chosen.new.items) }
-    ensures below { OnOk result ((size : ℕ) → AreBelow size chosen.old.items → ((c : List ℕ) → In c (clauses_at pool.now row.now) → AreBelow size c) → AreBelow size chosen.new.items) }
+fn put_firsts(
+    pool: &Pool,
+    row: &[ClauseId],
+    most: usize,
+    chosen: &mut ClassSet,
+) -> Result<bool, AllocError>
+    requires row { OfPool pool.now row.now }
+    requires numbers { (c : List ℕ) → In c (clauses_at pool.now row.now) → AreBelow chosen.old.0 c }
+    ensures size { OnOk result (chosen.new.0 ≡ chosen.old.0) }
+    ensures behind { OnOk result ((more : List ℕ) × (chosen.new.1 ≡ chosen.old.1 ++ more)) }
+    ensures firsts { IfOk result (λ whole. whole ≡ true → HaveFirsts (clauses_at pool.now row.now) chosen.new.1) }
+    ensures below { OnOk result ((size : ℕ) → AreBelow size chosen.old.1 → ((c : List ℕ) → In c (clauses_at pool.now row.now) → AreBelow size c) → AreBelow size chosen.new.1) }
 {
     for id in row {
-        if MOST_MEMBERS < chosen.as_slice().len() {
+        if most < chosen.as_slice().len() {
             return Ok(false);
         }
         match pool.slice(*id).first() {
             None => return Ok(false),
-            Some(number) => put(chosen, *number)?,
+            Some(number) => chosen.put(*number)?,
         }
     }
     Ok(true)
 }
 
-/// Whether the class conflicts with one of the others.
-fn conflicts_with_one(book: &Book, class: u32, others: &[u32]) -> bool
-    requires class { class < length book.now.rows }
-    requires others { AreBelow (length book.now.rows) others.now }
-    ensures { result ≡ list_any (has (listed_for book.now.conflicts class)) others.now }
+/// Whether the class conflicts with a member of the set.
+fn conflicts_with_one(book: &Book, class: u32, chosen: &ClassSet) -> bool
+    requires { class < length book.now.rows }
+    ensures { result ≡ list_any (has chosen.now.1) (listed_for book.now.conflicts class) }
 {
-    for other in others {
-        if book.conflicts_with(class, *other) {
-            return true;
-        }
-    }
-    false
+    book.against(class).iter().any(|other| chosen.has(*other))
 }
 
-/// Whether no two of the classes conflict.
-fn are_at_peace(book: &Book, classes: &[u32]) -> bool
-    requires { AreBelow (length book.now.rows) classes.now }
-    ensures { result ≡ true → ArePeaceful book.now.conflicts classes.now classes.now }
+/// Whether no two members of the set conflict.
+fn are_at_peace(book: &Book, chosen: &ClassSet) -> bool
+    requires { chosen.now.0 ≡ length book.now.rows }
+    ensures { result ≡ true → ArePeaceful book.now.conflicts chosen.now.1 chosen.now.1 }
 {
-    for class in classes {
-        if conflicts_with_one(book, *class, classes) {
+    for class in chosen.as_slice() {
+        if conflicts_with_one(book, *class, chosen) {
             return false;
         }
     }
@@ -76,56 +64,72 @@ fn are_at_peace(book: &Book, classes: &[u32]) -> bool
 }
 
 /// The first choice of a goal: its first member, and the first member of each clause of what is chosen, where no two of
-/// these conflict; the empty list where there is none, or none so short.
+/// these conflict; the empty list where there is none, or none so short. It is made in a set that is emptied first.
 pub(crate) fn first_choice(
     alloc: Global,
     pool: &Pool,
     book: &Book,
     goal: &[u32],
+    most: usize,
+    chosen: &mut ClassSet,
 ) -> Result<NumList, AllocError>
     requires sound { Sound pool.now book.now }
     requires goal { AreBelow (length book.now.rows) goal.now }
+    requires size { chosen.old.0 ≡ length book.now.rows }
+    ensures size { OnOk result (chosen.new.0 ≡ length book.now.rows) }
     ensures below { IfOk result (AreBelow (length book.now.rows)) }
     ensures chosen { IfOk result (IsChosen (repository_of pool.now book.now) goal.now) }
 {
-    let chosen = follow(alloc, pool, book, goal)?;
-    if are_at_peace(book, chosen.as_slice()) {
-        return Ok(Listed::of(chosen));
+    chosen.clear();
+    put_first(goal, chosen)?;
+    if !follow(pool, book, goal, most, chosen)? {
+        return Ok(Listed::new(alloc));
     }
-    Ok(Listed::new(alloc))
+    if !are_at_peace(book, chosen) {
+        return Ok(Listed::new(alloc));
+    }
+    let made = Vec::from_slice(alloc, chosen.as_slice())?;
+    Ok(Listed::of(made))
 }
 
-/// The first member of a goal, where it has one.
-fn first_member(alloc: Global, goal: &[u32]) -> Result<Vec<u32>, AllocError>
-    ensures { IfOk result (λ made. made.items ≡ option_to_list (first_of goal.now)) }
+/// Puts the first member of a goal into an empty set, where it has one.
+fn put_first(goal: &[u32], chosen: &mut ClassSet) -> Result<(), AllocError>
+    requires empty { chosen.old.1 ≡ [] }
+    requires goal { AreBelow chosen.old.0 goal.now }
+    ensures { OnOk result (chosen.new ≡ (chosen.old.0, option_to_list (first_of goal.now))) }
 {
-    let mut made = Vec::new(alloc);
     if goal.is_empty() {
-        return Ok(made);
+        return Ok(());
     }
-    made.push(goal[0])?;
-    Ok(made)
+    chosen.put(goal[0])
 }
 
-/// The first member of a goal, and that of each clause of what is chosen; the empty list where one is missing or there are
+/// Puts the first member of each clause of what is chosen behind the others; answers whether none is missing, and they are not
 /// too many.
-fn follow(alloc: Global, pool: &Pool, book: &Book, goal: &[u32]) -> Result<Vec<u32>, AllocError>
+fn follow(
+    pool: &Pool,
+    book: &Book,
+    goal: &[u32],
+    most: usize,
+    chosen: &mut ClassSet,
+) -> Result<bool, AllocError>
     requires sound { Sound pool.now book.now }
     requires goal { AreBelow (length book.now.rows) goal.now }
-    ensures { IfOk result (λ chosen. IsFollowed (repository_of pool.now book.now) goal.now chosen.items) }
+    requires first { chosen.old ≡ (length book.now.rows, option_to_list (first_of goal.now)) }
+    ensures size { OnOk result (chosen.new.0 ≡ length book.now.rows) }
+    ensures followed { IfOk result (λ whole. whole ≡ true → IsFollowed (repository_of pool.now book.now) goal.now chosen.new.1) }
 {
-    let mut chosen = first_member(alloc, goal)?;
-    for place in 0..MOST_MEMBERS {
+    for place in 0..most {
         if place == chosen.as_slice().len() {
-            return Ok(chosen);
+            return Ok(true);
         }
         let class = class_at(chosen.as_slice(), place);
         let id = book.row(class);
         let row = pool.row(id);
-        let whole = put_firsts(pool, row, &mut chosen)?;
+        let whole = put_firsts(pool, row, most, chosen)?;
         if !whole {
-            break;
+            return Ok(false);
         }
     }
-    Ok(Vec::new(alloc))
+    Ok(false)
 }

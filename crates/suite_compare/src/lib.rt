@@ -4,6 +4,7 @@
 mod answers;
 mod ask;
 mod choose;
+mod class_set;
 mod collect;
 mod comparison;
 mod decision;

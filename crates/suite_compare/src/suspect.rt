@@ -7,6 +7,7 @@ ghost use Rattle.suite_compare.specs.Choices.{AreBelow};
 ghost use Rattle.suite_compare.specs.Suspects.{AreAllChosen, AreChoices, AreHeld, AreHolders, AreSuspects, AreWithout, HaveMarked};
 
 use crate::choose::first_choice;
+use crate::class_set::ClassSet;
 use crate::group::{PlaceList, classes_at, enter, places_at, sort_once};
 use clause_pool::{NumList, Pool};
 use listed::empty_lists;
@@ -24,6 +25,25 @@ pub(crate) struct Choices {
     without: Vec<usize>,
 }
 
+/// The most members that a first choice has.
+const MOST_MEMBERS: usize = 4096;
+
+/// The most members that it has where there are many already: those of real suites have two or three.
+const FEW_MEMBERS: usize = 64;
+
+/// How many members of first choices are many.
+const MANY_IN_ALL: usize = 4000000;
+
+/// The most members up to which the next first choice is followed, so that a hostile index makes no table as large as the
+/// square of its size.
+fn most_members(in_all: usize) -> usize {
+    if in_all < MANY_IN_ALL {
+        MOST_MEMBERS
+    } else {
+        FEW_MEMBERS
+    }
+}
+
 /// The first choice of each kind.
 fn choices_of(
     alloc: Global,
@@ -35,9 +55,13 @@ fn choices_of(
     requires fit { NeedsFit (length book.now.rows) kinds.now }
     ensures { IfOk result (λ choices. AreAllChosen (repository_of pool.now book.now) kinds.now choices.items) }
 {
+    let mut chosen = ClassSet::new(alloc, book.size())?;
     let mut choices = Vec::new(alloc);
+    let mut in_all: usize = 0;
     for kind in kinds {
-        let choice = first_choice(alloc, pool, book, kind.as_slice())?;
+        let most = most_members(in_all);
+        let choice = first_choice(alloc, pool, book, kind.as_slice(), most, &mut chosen)?;
+        in_all = in_all.saturating_add(choice.as_slice().len());
         choices.push(choice)?;
     }
     Ok(choices)

@@ -1,4 +1,4 @@
-use Rattle.std.proofs.Common.{◌∙◌, ◌++◌, ◌∷◌, [], ap}
+use Rattle.std.proofs.Common.{◌∙◌, ap}
 use Rattle.repo_model.specs.Goals.{any_version, packages_named}
 use Rattle.repo_model.specs.Repository.{suite_repository}
 use Rattle.suite_compare.specs.Asking.{goal_classes, image_of}

@@ -1,4 +1,4 @@
-use Rattle.std.proofs.Common.{◌≡◌, ◌∙◌, ◌<◌, ◌++◌, ap, filter, length, slice_index_or, subst, sym}
+use Rattle.std.proofs.Common.{◌∙◌, ◌<◌, ◌++◌, ap, filter, length, slice_index_or, subst, sym}
 use Rattle.std.specs.List.{flat_map}
 use Rattle.row_book.specs.Book.{repository_of}
 use Rattle.row_book.specs.Clauses.{numbers}

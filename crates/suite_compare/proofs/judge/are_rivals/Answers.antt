@@ -1,4 +1,4 @@
-use Rattle.std.proofs.Common.{◌≡◌, ◌<◌, length, arith}
+use Rattle.std.proofs.Common.{arith}
 use Rattle.row_book.proofs.Lists.{In_at}
 use Rattle.suite_compare.proofs.judge.are_rivals.Goals as goal
 

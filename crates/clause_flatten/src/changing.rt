@@ -4,7 +4,8 @@ ghost use Rattle.clause_pool.specs.Interned.{row_at, Kept};
 ghost use Rattle.row_book.specs.Clauses.{in_row_order};
 ghost use Rattle.row_book.specs.Uses.{row_id, users_of};
 ghost use Rattle.clause_flatten.specs.Ready.{AreReady};
-ghost use Rattle.clause_flatten.specs.Substitution.{table_without, substituted, table_row};
+ghost use Rattle.clause_flatten.specs.Substitution.{table_without, table_row};
+ghost use Rattle.clause_families.specs.Unions.{substituted};
 
 use crate::substitution::new_row;
 use clause_pool::{Pool, RowId};

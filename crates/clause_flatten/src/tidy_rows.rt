@@ -5,8 +5,8 @@ ghost use Rattle.clause_pool.specs.Interned.{clause_at, clauses_at, row_at, Kept
 ghost use Rattle.row_book.specs.Book.{RowsFit, RowsTidy};
 ghost use Rattle.row_book.specs.Clauses.{Ascending, InOrder};
 ghost use Rattle.row_book.specs.Sets.{In};
-ghost use Rattle.clause_flatten.specs.Inclusion.{begins_empty};
-ghost use Rattle.clause_flatten.specs.TidyRows.{stays, first_row, tidied_table, RowsStay};
+ghost use Rattle.clause_flatten.specs.TidyRows.{begins_empty, first_row, tidied_table, RowsStay};
+ghost use Rattle.clause_families.specs.Inclusion.{stays};
 
 use clause_pool::{ClauseId, Pool, RowId};
 use listed::holds_ascending;

@@ -2,7 +2,7 @@ use Rattle.std.proofs.Common.{◌<◌, ap, sym, ◌∙◌, subst}
 use Rattle.clause_pool.specs.Interned.{row_at}
 use Rattle.row_book.proofs.Holders.{tells_kept}
 use Rattle.row_book.proofs.Lists.{item_in}
-use Rattle.clause_flatten.proofs.Families.{item_zero}
+use Rattle.clause_families.proofs.Families.{item_zero}
 use Rattle.clause_flatten.proofs.Replacing.{id_other}
 use Rattle.clause_flatten.proofs.changing.change_row.Goals as goal
 

@@ -6,9 +6,10 @@ use Rattle.row_book.specs.Sets.{In}
 use Rattle.row_book.specs.Clauses.{in_row_order}
 use Rattle.row_book.specs.Uses.{row_id}
 use Rattle.row_book.proofs.Lists.{item_in}
-use Rattle.clause_flatten.specs.Substitution.{substituted, table_without}
+use Rattle.clause_families.specs.Unions.{substituted}
+use Rattle.clause_flatten.specs.Substitution.{table_without}
 use Rattle.clause_flatten.specs.TakingOut.{is_over}
-use Rattle.clause_flatten.proofs.Families.{item_zero}
+use Rattle.clause_families.proofs.Families.{item_zero}
 use Rattle.clause_flatten.proofs.Replacing.{other_eliminated}
 use Rattle.clause_flatten.proofs.holding.user_would_pass.Goals as goal
 

@@ -4,7 +4,7 @@ use Rattle.row_book.specs.Sets.{In}
 use Rattle.row_book.specs.Uses.{row_id}
 use Rattle.row_book.proofs.Lists.{item_in}
 use Rattle.row_book.proofs.Books.{row_ascending}
-use Rattle.clause_flatten.proofs.Families.{item_zero}
+use Rattle.clause_families.proofs.Families.{item_zero}
 use Rattle.clause_flatten.proofs.Replacing.{at_same, fit_kept, fit_set, new_apart, new_numbers, new_thin, tidy_kept, tidy_set}
 use Rattle.clause_flatten.proofs.substitution.new_row.Goals as goal
 

@@ -1,0 +1,10 @@
+use Rattle.std.proofs.Common.{◌≡◌, take}
+use Rattle.clause_pool.specs.Interned.{clauses_at, OfPool}
+use Rattle.row_book.specs.Clauses.{apart_from}
+use Rattle.clause_families.proofs.rewriting.ids_without.Given as goal
+
+abbrev pub invariant-loop-id : goal.invariant-loop-id
+invariant-loop-id l = record {
+  made : clauses_at l.pool l.ids.items ≡ apart_from l.number (take l.id-index (clauses_at l.pool l.row));
+  of_pool : OfPool l.pool l.ids.items;
+}

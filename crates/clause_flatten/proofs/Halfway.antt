@@ -7,7 +7,8 @@ use Rattle.clause_pool.proofs.Lists.{In_at}
 use Rattle.row_book.specs.Sets.{In, here, there}
 use Rattle.row_book.specs.Clauses.{Ascending, InOrder, Inside, in_row_order}
 use Rattle.row_book.proofs.Lists.{In_cases, In_none, decided_in}
-use Rattle.clause_flatten.specs.Substitution.{substituted, table_row, table_turned, table_without}
+use Rattle.clause_flatten.specs.Substitution.{table_row, table_turned, table_without}
+use Rattle.clause_families.specs.Unions.{substituted}
 use Rattle.clause_flatten.proofs.Replacing.{not_behind, same_items}
 use Rattle.clause_flatten.proofs.Runs.{eliminated_count, other_without, own_without, untouched}
 

@@ -1,6 +1,5 @@
 pub mod Supports
 pub mod Decisions
-pub mod Unions
 pub mod Blocking
 pub mod Substituted
 pub mod Kept
@@ -12,18 +11,7 @@ pub mod Flat
 pub mod Stages
 pub mod Shortcuts
 pub mod Held
-pub mod Members
 pub mod Counts
-pub mod Families
-pub mod Beginnings
-pub mod Walked
-pub mod Grown
-pub mod Built
-pub mod Gainings
-pub mod Merged
-pub mod UnionRows
-pub mod Sifted
-pub mod Rewritten
 pub mod Replacing
 pub mod Midway
 pub mod NewRow

@@ -12,7 +12,8 @@ use Rattle.row_book.specs.Uses.{row_id, users_of}
 use Rattle.row_book.proofs.Books.{row_kept}
 use Rattle.row_book.proofs.Lists.{In_cases, In_none, decided_in}
 use Rattle.row_book.proofs.Users.{users_ascend}
-use Rattle.clause_flatten.specs.Substitution.{table_without, substituted, table_row}
+use Rattle.clause_flatten.specs.Substitution.{table_without, table_row}
+use Rattle.clause_families.specs.Unions.{substituted}
 use Rattle.clause_flatten.proofs.Replacing.{id_in, not_behind, not_user, other_eliminated, own_eliminated, own_user, table_same, user_in}
 use Rattle.clause_flatten.proofs.Runs.{untouched}
 

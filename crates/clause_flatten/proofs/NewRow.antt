@@ -7,8 +7,8 @@ use Rattle.row_book.specs.Clauses.{Inside, in_row_order}
 use Rattle.row_book.specs.Book.{RowsFit, RowsTidy}
 use Rattle.row_book.specs.Uses.{row_id}
 use Rattle.row_book.proofs.Books.{row_ascending}
-use Rattle.clause_flatten.specs.Substitution.{substituted}
-use Rattle.clause_flatten.proofs.Families.{item_zero, row_interned}
+use Rattle.clause_families.specs.Unions.{substituted}
+use Rattle.clause_families.proofs.Families.{item_zero, row_interned}
 use Rattle.clause_flatten.proofs.Replacing.{fit_kept, fit_set, id_in, new_apart, new_numbers, new_thin, tidy_kept, tidy_set}
 
 -- the row of a package as it is lent, copied and lent again

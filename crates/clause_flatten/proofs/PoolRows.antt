@@ -10,7 +10,7 @@ use Rattle.row_book.specs.Book.{RowsFit, listed_for}
 use Rattle.row_book.specs.Holders.{ListsFit}
 use Rattle.row_book.proofs.Lists.{In_append_cases, In_cases, In_map, In_map_cases, In_none}
 use Rattle.clause_flatten.specs.Ready.{table_of}
-use Rattle.clause_flatten.proofs.Families.{row_interned}
+use Rattle.clause_families.proofs.Families.{row_interned}
 use Rattle.clause_flatten.proofs.Turning.{lent_row}
 
 -- the row of a package is of the pool and in order, and stays so in a pool that has grown

@@ -13,8 +13,9 @@ use Rattle.row_book.proofs.Lists.{In_cases, In_has, In_none, any_cases, any_from
 use Rattle.row_book.proofs.Books.{row_kept}
 use Rattle.row_book.proofs.Clauses.{apart_cases, apart_in, minimal_of_from, minimal_of_parts}
 use Rattle.row_book.proofs.Order.{at_numbers, map_same, numbers_from, numbers_parts, order_same, ordered_has, ordered_order, ordered_parts}
-use Rattle.clause_flatten.specs.Substitution.{clause_without, table_without, all_unions_for, substituted, table_row}
-use Rattle.clause_flatten.proofs.Unions.{Comes, dropped_parts, joined_ascending, joined_cases, replaced_cases, replaced_kept}
+use Rattle.clause_flatten.specs.Substitution.{table_without, table_row}
+use Rattle.clause_families.specs.Unions.{clause_without, all_unions_for, substituted}
+use Rattle.clause_families.proofs.Unions.{Comes, dropped_parts, joined_ascending, joined_cases, replaced_cases, replaced_kept}
 use Rattle.clause_flatten.proofs.Runs.{eliminated_count, other_without, own_without}
 
 -- Rows in a pool that grows.

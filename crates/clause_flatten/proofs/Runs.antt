@@ -13,10 +13,11 @@ use Rattle.row_book.specs.Flattening.{Passed, passed_by}
 use Rattle.row_book.proofs.Lists.{In_has, any_cases, any_from, any_none, filter_cases, filter_from, find_not, find_none, has_not, In_at}
 use Rattle.row_book.proofs.Clauses.{apart_cases, apart_in, minimal_of_from, minimal_of_parts}
 use Rattle.row_book.proofs.Order.{at_numbers, length_numbers, numbers_from, numbers_parts, order_same, ordered_has, ordered_order, ordered_parts, numbers_count}
-use Rattle.clause_flatten.specs.Substitution.{table_without, table_passes, length_in, all_unions_for, substituted, table_row}
+use Rattle.clause_flatten.specs.Substitution.{table_without, table_passes, length_in, table_row}
+use Rattle.clause_families.specs.Unions.{all_unions_for, substituted}
 use Rattle.clause_flatten.specs.TakingOut.{counted_anew, is_over}
 use Rattle.clause_flatten.specs.Waiting.{Filed, recounted}
-use Rattle.clause_flatten.proofs.Unions.{Comes, replaced_cases, replaced_kept}
+use Rattle.clause_families.proofs.Unions.{Comes, replaced_cases, replaced_kept}
 use Rattle.clause_flatten.proofs.Turns.{filed_as}
 
 -- a tidy row that does not hold q stays as it is

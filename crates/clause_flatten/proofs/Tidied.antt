@@ -19,10 +19,11 @@ use Rattle.row_book.proofs.Order.{at_numbers, length_numbers, map_same, numbers_
 use Rattle.clause_flatten.specs.Substitution.{table_row}
 use Rattle.row_book.specs.Within.{is_within, some_within}
 use Rattle.row_book.proofs.Repositories.{numbers_test, same_numbers}
-use Rattle.clause_flatten.specs.Inclusion.{begins_empty, has_shorter, is_strictly_inside}
-use Rattle.clause_flatten.proofs.Families.{not_shorter, some_shorter}
+use Rattle.clause_families.specs.Inclusion.{has_shorter, is_strictly_inside}
+use Rattle.clause_families.proofs.Families.{not_shorter, some_shorter}
 use Rattle.clause_flatten.specs.Ready.{ListsTidy, table_of}
-use Rattle.clause_flatten.specs.TidyRows.{stays, first_row, tidied_table}
+use Rattle.clause_flatten.specs.TidyRows.{begins_empty, first_row, tidied_table}
+use Rattle.clause_families.specs.Inclusion.{stays}
 use Rattle.clause_flatten.proofs.WorkedRows.{lists_at}
 
 -- another clause within a clause is a shorter one

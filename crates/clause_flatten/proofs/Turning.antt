@@ -8,10 +8,11 @@ use Rattle.row_book.specs.Clauses.{InOrder, Inside, apart_from, in_row_order, mi
 use Rattle.row_book.specs.Book.{listed_for}
 use Rattle.row_book.specs.Holders.{Holders, TellsRows}
 use Rattle.row_book.proofs.Holders.{tells_part}
-use Rattle.clause_flatten.specs.Families.{IncludesOneOf, Useful, all_unions}
+use Rattle.clause_families.specs.Families.{IncludesOneOf, Useful, all_unions}
 use Rattle.clause_flatten.specs.Ready.{AreReady, table_of}
-use Rattle.clause_flatten.specs.Substitution.{substituted, table_turned}
-use Rattle.clause_flatten.proofs.Rewritten.{shortened, unions_minimal, useful_there}
+use Rattle.clause_flatten.specs.Substitution.{table_turned}
+use Rattle.clause_families.specs.Unions.{substituted}
+use Rattle.clause_families.proofs.Rewritten.{shortened, unions_minimal, useful_there}
 use Rattle.clause_flatten.proofs.WorkedRows.{lists_fit_kept, lists_tidy_kept, turned_below, turned_fit, turned_table, turned_tidy}
 
 -- the row of a package as it is lent

@@ -11,7 +11,8 @@ use Rattle.row_book.specs.Sets.{In, has, here, there}
 use Rattle.row_book.proofs.Lists.{In_has, any_cases, any_from, filter_cases, find_none, has_not}
 use Rattle.row_book.proofs.Order.{numbers_from, numbers_parts}
 use Rattle.clause_flatten.specs.Ready.{ListsTidy, table_of}
-use Rattle.clause_flatten.specs.Substitution.{substituted, table_passes, table_row, table_without, length_in}
+use Rattle.clause_flatten.specs.Substitution.{table_passes, table_row, table_without, length_in}
+use Rattle.clause_families.specs.Unions.{substituted}
 use Rattle.clause_flatten.specs.TakingOut.{counted_anew, is_over}
 use Rattle.clause_flatten.specs.Waiting.{Filed}
 use Rattle.clause_flatten.proofs.Runs.{eliminated_count, find_nowhere, other_without, own_without, untouched}

@@ -13,9 +13,10 @@ use Rattle.row_book.proofs.Holders.{is_found}
 use Rattle.row_book.proofs.Lists.{In_has, In_map, In_map_cases, any_cases, any_from, ascending_filter, filter_cases, has_In}
 use Rattle.row_book.proofs.Order.{numbers_ascending, numbers_parts, ordered_order}
 use Rattle.clause_flatten.specs.Ready.{ListsTidy, table_of}
-use Rattle.clause_flatten.specs.Substitution.{substituted, table_row, table_turned, table_without}
+use Rattle.clause_flatten.specs.Substitution.{table_row, table_turned, table_without}
+use Rattle.clause_families.specs.Unions.{substituted}
 use Rattle.clause_flatten.proofs.Replacing.{new_apart, new_numbers, new_spent, new_thin, same_items}
-use Rattle.clause_flatten.proofs.Rewritten.{ids_ascend}
+use Rattle.clause_families.proofs.Rewritten.{ids_ascend}
 use Rattle.clause_flatten.proofs.Runs.{eliminated_count, other_without, own_without}
 
 pub lists_at : (pool : Interned) (rows : List (List ℕ)) (p : ℕ) → table_row (table_of pool rows) p ≡ clauses_at pool (listed_for rows p)

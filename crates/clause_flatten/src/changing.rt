@@ -7,7 +7,7 @@ ghost use Rattle.row_book.specs.Sets.{In};
 ghost use Rattle.clause_flatten.specs.Ready.{table_of, AreReady};
 ghost use Rattle.clause_flatten.specs.Substitution.{table_turned, table_without};
 
-use crate::family::{useful_of, with_unions};
+use clause_families::{useful_of, with_unions};
 use clause_pool::{ClauseId, Pool};
 use listed::Listed;
 use row_book::{ClauseTable, IdList, clause_holds};

@@ -9,16 +9,17 @@ ghost use Rattle.row_book.specs.Sets.{In};
 ghost use Rattle.row_book.specs.Holders.{users_in, ListsFit};
 ghost use Rattle.std.specs.Option.{ForSome};
 ghost use Rattle.clause_flatten.specs.Ready.{table_of, AreReady, ListsTidy};
-ghost use Rattle.clause_flatten.specs.Branches.{TreeOf};
-ghost use Rattle.clause_flatten.specs.Families.{all_unions};
+ghost use Rattle.clause_families.specs.Branches.{TreeOf};
+ghost use Rattle.clause_families.specs.Families.{all_unions};
 ghost use Rattle.clause_flatten.specs.Holding.{clauses_with, most_clauses};
-ghost use Rattle.clause_flatten.specs.Substitution.{length_in, substituted, table_passes, table_without};
+ghost use Rattle.clause_flatten.specs.Substitution.{length_in, table_passes, table_without};
+ghost use Rattle.clause_families.specs.Unions.{substituted};
 ghost use Rattle.clause_flatten.specs.TakingOut.{is_over};
 
-use crate::family::{add_unions, clauses_without, put_in_order, useful_of};
-use crate::family_tree::FamilyTree;
-use crate::needed::{is_longer, tree_of_many};
-use crate::scratch::Clause;
+use clause_families::{
+    Clause, FamilyTree, add_unions, clauses_without, is_longer, put_in_order, tree_of_many,
+    useful_of,
+};
 use clause_pool::{ClauseId, Pool};
 use listed::holds_ascending;
 use row_book::{ClauseTable, IdList};

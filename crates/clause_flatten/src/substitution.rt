@@ -5,9 +5,10 @@ ghost use Rattle.row_book.specs.Book.{RowsFit, RowsTidy};
 ghost use Rattle.row_book.specs.Sets.{In};
 ghost use Rattle.row_book.specs.Clauses.{in_row_order};
 ghost use Rattle.row_book.specs.Uses.{row_id, users_of, uses_of};
-ghost use Rattle.clause_flatten.specs.Substitution.{table_without, substituted, table_row};
+ghost use Rattle.clause_flatten.specs.Substitution.{table_without, table_row};
+ghost use Rattle.clause_families.specs.Unions.{substituted};
 
-use crate::rewriting::rewrite;
+use clause_families::rewrite;
 use clause_pool::{Pool, RowId};
 use row_book::UseTable;
 use std::alloc::{AllocError, Global};

@@ -6,9 +6,9 @@ ghost use Rattle.row_book.specs.Book.{RowsFit};
 ghost use Rattle.row_book.specs.Clauses.{Ascending, InOrder};
 ghost use Rattle.row_book.specs.Holders.{ListsFit};
 ghost use Rattle.row_book.specs.Sets.{In};
-ghost use Rattle.clause_flatten.specs.Inclusion.{begins_empty};
 ghost use Rattle.clause_flatten.specs.Ready.{table_of, ListsTidy};
-ghost use Rattle.clause_flatten.specs.TidyRows.{stays, first_row, tidied_table};
+ghost use Rattle.clause_flatten.specs.TidyRows.{begins_empty, first_row, tidied_table};
+ghost use Rattle.clause_families.specs.Inclusion.{stays};
 
 use clause_pool::{ClauseId, Pool, RowId};
 use listed::{Listed, holds_ascending};

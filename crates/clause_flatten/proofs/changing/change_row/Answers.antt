@@ -2,7 +2,7 @@ use Rattle.std.proofs.Common.{◌≡◌, ◌<◌, ℕ, ◌∙◌, List, length, 
 use Rattle.row_book.specs.Book.{listed_for}
 use Rattle.row_book.specs.Holders.{ArePlaced, TellsRows}
 use Rattle.row_book.proofs.Holders.{are_placed, tells_kept}
-use Rattle.clause_flatten.proofs.Families.{empty_items}
+use Rattle.clause_families.proofs.Families.{empty_items}
 use Rattle.clause_flatten.proofs.Turning.{left_ready, left_table, lent_row, new_below, new_ready, new_table, ready_kept, useful_apart}
 use Rattle.clause_flatten.proofs.changing.change_row.Goals as goal
 

@@ -4,13 +4,13 @@ use Rattle.std.proofs.lemmas.Result.{IfOk-weaker}
 use Rattle.clause_pool.specs.Interned.{clauses_at, OfPool}
 use Rattle.row_book.specs.Clauses.{apart_from, in_row_order, minimal_of, InOrder}
 use Rattle.row_book.proofs.Order.{ordered_order}
-use Rattle.clause_flatten.specs.Families.{all_unions}
+use Rattle.clause_families.specs.Families.{all_unions}
 use Rattle.clause_flatten.specs.Holding.{most_clauses}
-use Rattle.clause_flatten.specs.Substitution.{substituted}
+use Rattle.clause_families.specs.Unions.{substituted}
 use Rattle.clause_flatten.proofs.Counts.{row_count}
-use Rattle.clause_flatten.proofs.Families.{clauses_length}
-use Rattle.clause_flatten.proofs.Rewritten.{unions_minimal, useful_of_pool}
-use Rattle.clause_flatten.proofs.UnionRows.{family_ascends}
+use Rattle.clause_families.proofs.Families.{clauses_length}
+use Rattle.clause_families.proofs.Rewritten.{unions_minimal, useful_of_pool}
+use Rattle.clause_families.proofs.UnionRows.{family_ascends}
 use Rattle.clause_flatten.proofs.holding.row_would_pass.Goals as goal
 
 pub returns-then-most-from : goal.returns-then-most-from

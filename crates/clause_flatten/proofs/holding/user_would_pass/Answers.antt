@@ -6,9 +6,10 @@ use Rattle.row_book.specs.Sets.{In}
 use Rattle.row_book.specs.Book.{listed_for}
 use Rattle.row_book.specs.Clauses.{in_row_order}
 use Rattle.clause_flatten.specs.Ready.{table_of}
-use Rattle.clause_flatten.specs.Substitution.{substituted, table_row, table_without}
+use Rattle.clause_flatten.specs.Substitution.{table_row, table_without}
+use Rattle.clause_families.specs.Unions.{substituted}
 use Rattle.clause_flatten.specs.TakingOut.{is_over}
-use Rattle.clause_flatten.proofs.Families.{clauses_length}
+use Rattle.clause_families.proofs.Families.{clauses_length}
 use Rattle.clause_flatten.proofs.Runs.{other_without}
 use Rattle.clause_flatten.proofs.Turning.{lent_row}
 use Rattle.clause_flatten.proofs.WorkedRows.{lists_at}

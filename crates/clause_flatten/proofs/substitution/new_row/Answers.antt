@@ -4,7 +4,7 @@ use Rattle.clause_pool.proofs.Interned.{kept_along}
 use Rattle.row_book.specs.Clauses.{InOrder, in_row_order}
 use Rattle.row_book.proofs.Lists.{item_in}
 use Rattle.row_book.proofs.Order.{ordered_order}
-use Rattle.clause_flatten.specs.Substitution.{substituted}
+use Rattle.clause_families.specs.Unions.{substituted}
 use Rattle.clause_flatten.proofs.NewRow.{copied_row, id_fits, id_is, id_numbers, id_tidies, row_minimal}
 use Rattle.clause_flatten.proofs.Replacing.{at_same, fit_kept, tidy_kept}
 use Rattle.clause_flatten.proofs.substitution.new_row.Goals as goal

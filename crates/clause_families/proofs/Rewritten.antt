@@ -1,7 +1,7 @@
 -- The row that is made from candidates is the substituted one.
 use Rattle.std.proofs.Common.{◌≡◌, ℕ, ◌<◌, length, Bool, true, false, not, ◌||◌, cond, List, [], ◌∷◌, ◌++◌, inl, inr, refl, sym, ◌∙◌, ap, subst}
 use Rattle.std.specs.List.{list_all}
-use Rattle.clause_pool.specs.Interned.{Interned, IsPool, OfPool, clause_at, clauses_at, ids_at, row_at}
+use Rattle.clause_pool.specs.Interned.{Interned, IsPool, OfPool, clause_at, clauses_at}
 use Rattle.row_book.specs.Sets.{In, here, there, has}
 use Rattle.row_book.specs.Clauses.{Ascending, InOrder, Inside, apart_from, is_inside, minimal_of, in_row_order}
 use Rattle.row_book.proofs.Lists.{In_append_cases, In_append_left, In_append_right, In_cases, In_has, In_map, In_map_cases, In_none, ascending_same, has_In}
@@ -60,6 +60,12 @@ unions_apart spent A U own c i j =
       | inl k ↦ (dropped_parts spent w.from spent k).1 refl
       | inr k ↦ own w.other w.with k
     ]
+
+-- the clauses of ids of a pool ascend
+pub ids_ascend : (pool : Interned) (ids : List ℕ) → IsPool pool → OfPool pool ids → (c : List ℕ) → In c (clauses_at pool ids) → Ascending c
+ids_ascend pool ids is f c i =
+    let w : (id : ℕ) × In id ids × (c ≡ clause_at pool id) = In_map_cases (clause_at pool) ids c i in
+    subst (λ z. Ascending z) (sym w.2) (is.ascending w.0 (f w.0 w.1))
 
 module _ (pool : Interned) (user spent : ℕ) (row others useful : List ℕ)
     (apart : (c : List ℕ) → In c (clauses_at pool row) → In user c → ⊥)
@@ -123,9 +129,7 @@ module _ (pool : Interned) (user spent : ℕ) (row others useful : List ℕ)
 
   module _ (is : IsPool pool) (of_row : OfPool pool row) (of_others : OfPool pool others) where
     up : (ids : List ℕ) → OfPool pool ids → (c : List ℕ) → In c (clauses_at pool ids) → Ascending c
-    up ids f c i =
-        let w : (id : ℕ) × In id ids × (c ≡ clause_at pool id) = In_map_cases (clause_at pool) ids c i in
-        subst (λ z. Ascending z) (sym w.2) (is.ascending w.0 (f w.0 w.1))
+    up ids f = ids_ascend pool ids is f
 
     wanted_up : (c : List ℕ) → In c wanted → Ascending c
     wanted_up c i =
@@ -174,40 +178,28 @@ module _ (pool : Interned) (user spent : ℕ) (row others useful : List ℕ)
         (λ c i. (minimal_of_parts family c i).0)
         ∙ family_minimal family same family_order
 
--- the same for the rows of two ids
-module _ (pool : Interned) (user spent row others : ℕ) (is : IsPool pool) (of_row : row < length pool.rows) (of_others : others < length pool.rows)
-    (apart : (c : List ℕ) → In c (row_at pool row) → In user c → ⊥) where
-  useful_at : (r o useful : List ℕ) → r ≡ ids_at pool row → o ≡ ids_at pool others → Useful pool user (IncludesOneOf (apart_from spent (clauses_at pool r))) o useful →
-      Useful pool user (IncludesOneOf (apart_from spent (row_at pool row))) (ids_at pool others) useful
-  useful_at r o useful e f u =
-      subst (λ z. Useful pool user (IncludesOneOf (apart_from spent (clauses_at pool z))) (ids_at pool others) useful) e
-      (subst (λ z. Useful pool user (IncludesOneOf (apart_from spent (clauses_at pool r))) z useful) f u)
-
-  pub row_shortened : ((c d : List ℕ) → In c (row_at pool row) → In d (row_at pool row) → Inside c d → c ≡ d) →
-      (r o useful : List ℕ) → r ≡ ids_at pool row → o ≡ ids_at pool others → Useful pool user (IncludesOneOf (apart_from spent (clauses_at pool r))) o useful → useful ≡ [] →
-      apart_from spent (row_at pool row) ≡ in_row_order (substituted user spent (row_at pool row) (row_at pool others))
-  row_shortened thin r o useful e f u none =
-      shortened pool user spent (ids_at pool row) (ids_at pool others) useful apart (useful_at r o useful e f u) is (is.of_pool row of_row) (is.of_pool others of_others) none
-      (is.in_order row of_row) thin
-
+-- the same for useful clauses as they are lent
+module _ (pool : Interned) (user spent : ℕ) (row others useful slice : List ℕ) (is : IsPool pool) (of_row : OfPool pool row) (of_others : OfPool pool others)
+    (apart : (c : List ℕ) → In c (clauses_at pool row) → In user c → ⊥) (is_slice : slice ≡ useful)
+    (u : Useful pool user (IncludesOneOf (apart_from spent (clauses_at pool row))) others useful) where
   -- the minimal clauses of the row and of the unions make the substituted row
-  pub unions_minimal : (r o useful slice : List ℕ) → r ≡ ids_at pool row → o ≡ ids_at pool others → slice ≡ useful → Useful pool user (IncludesOneOf (apart_from spent (clauses_at pool r))) o useful →
-      minimal_of (in_row_order (apart_from spent (row_at pool row) ++ all_unions spent (row_at pool row) (clauses_at pool slice))) ≡ in_row_order (substituted user spent (row_at pool row) (row_at pool others))
-  unions_minimal r o useful slice e f is_slice u =
-      let both : List ℕ → List (List ℕ) = λ ids. apart_from spent (row_at pool row) ++ all_unions spent (row_at pool row) (clauses_at pool ids) in
+  pub unions_minimal : minimal_of (in_row_order (apart_from spent (clauses_at pool row) ++ all_unions spent (clauses_at pool row) (clauses_at pool slice)))
+      ≡ in_row_order (substituted user spent (clauses_at pool row) (clauses_at pool others))
+  unions_minimal =
+      let both : List ℕ → List (List ℕ) = λ ids. apart_from spent (clauses_at pool row) ++ all_unions spent (clauses_at pool row) (clauses_at pool ids) in
       let same : SameClauses (both useful) (in_row_order (both useful)) = record { there = ordered_has (both useful); back = ordered_parts (both useful) } in
       ap (λ ids. minimal_of (in_row_order (both ids))) is_slice
-      ∙ family_minimal pool user spent (ids_at pool row) (ids_at pool others) useful apart (useful_at r o useful e f u) is (is.of_pool row of_row) (is.of_pool others of_others)
-      (in_row_order (both useful)) same (ordered_order (both useful))
+      ∙ family_minimal pool user spent row others useful apart u is of_row of_others (in_row_order (both useful)) same (ordered_order (both useful))
+
+  useful_part : (id : ℕ) → In id slice → In id others
+  useful_part id i = u.part id (subst (λ z. In id z) is_slice i)
 
   -- the useful clauses are among the others
-  pub useful_there : (o useful slice : List ℕ) (Needless : List ℕ → Type 0) → o ≡ ids_at pool others → slice ≡ useful → Useful pool user Needless o useful →
-      (c : List ℕ) → In c (clauses_at pool slice) → In c (row_at pool others)
-  useful_there o useful slice Needless f is_slice u c i =
+  pub useful_there : (c : List ℕ) → In c (clauses_at pool slice) → In c (clauses_at pool others)
+  useful_there c i =
       let w : (id : ℕ) × In id slice × (c ≡ clause_at pool id) = In_map_cases (clause_at pool) slice c i in
-      subst (λ z. In z (row_at pool others)) (sym w.2) (In_map (clause_at pool) (ids_at pool others) w.0 (subst (λ z. In w.0 z) f (u.part w.0 (subst (λ z. In w.0 z) is_slice w.1))))
+      subst (λ z. In z (clauses_at pool others)) (sym w.2) (In_map (clause_at pool) others w.0 (useful_part w.0 w.1))
 
   -- the ids of the useful clauses are of the pool
-  pub useful_of_pool : (o useful slice : List ℕ) (Needless : List ℕ → Type 0) → o ≡ ids_at pool others → slice ≡ useful → Useful pool user Needless o useful → OfPool pool slice
-  useful_of_pool o useful slice Needless f is_slice u id i =
-      is.of_pool others of_others id (subst (λ z. In id z) f (u.part id (subst (λ z. In id z) is_slice i)))
+  pub useful_of_pool : OfPool pool slice
+  useful_of_pool id i = of_others id (useful_part id i)

@@ -3,17 +3,17 @@ use Rattle.std.proofs.Common.{◌≡◌, ℕ, ◌<◌, ◌+◌, true, false, not
 use Rattle.std.specs.List.{list_all}
 use Rattle.std.proofs.lemmas.Bool.{and_from, and_parts, both_ways, false_from_ne_true, not-true, not_from_false}
 use Rattle.clause_pool.proofs.Interned.{clauses_kept}
-use Rattle.clause_pool.specs.Interned.{Interned, IsIdOf, IsPool, Kept, OfPool, clause_at, clauses_at, ids_at, row_at}
+use Rattle.clause_pool.specs.Interned.{Interned, IsIdOf, IsPool, Kept, OfPool, clause_at, clauses_at}
 use Rattle.row_book.specs.Sets.{In, has, here}
 use Rattle.row_book.specs.Clauses.{Ascending, InOrder, Inside, apart_from, is_inside, minimal_of, in_row_order}
-use Rattle.row_book.proofs.Books.{row_ascending}
 use Rattle.row_book.proofs.Lists.{In_append_cases, In_append_left, In_append_right, In_cases, In_map, In_map_cases, In_none, ascending_same, filter_cases, filter_from, has_not}
 use Rattle.row_book.proofs.Clauses.{apart_cases, minimal_of_from, minimal_of_parts}
 use Rattle.row_book.proofs.Order.{order_filter, order_same, ordered_has, ordered_order, ordered_parts}
-use Rattle.clause_families.specs.Inclusion.{has_shorter, stays}
+use Rattle.clause_families.specs.Inclusion.{has_shorter}
+use Rattle.clause_families.specs.Inclusion.{stays}
 use Rattle.clause_families.specs.Families.{HasGained, HasUnions, IsNeedless, IsShortest, SameClauses, all_unions}
 use Rattle.clause_families.proofs.Families.{At, not_shorter, some_shorter, taken_at}
-use Rattle.clause_families.proofs.Rewritten.{unions_apart, unions_up}
+use Rattle.clause_families.proofs.Rewritten.{ids_ascend, unions_apart, unions_up}
 
 -- no union was looked at yet
 pub unions_none : (old kept unions : List (List ℕ)) → InOrder old → HasUnions old kept unions (take 0 unions) old
@@ -160,56 +160,44 @@ module _ (spent : ℕ) (A U unions new : List (List ℕ)) (up : (c : List ℕ) �
         (λ c i. elim (made.back c i) [ inl a ↦ left_is_minimal c a | inr b ↦ put_is_minimal c b.0 b.1 ])
         minimal_is_there
 
--- The same for a row of a pool, as the calls lend and make its parts.
-module _ (pool : Interned) (spent row : ℕ) (useful : List ℕ) (is : IsPool pool) (of_row : row < length pool.rows) (of_useful : OfPool pool useful) where
+-- The same for a row of clauses of a pool, as the calls lend and make its parts.
+module _ (pool : Interned) (spent : ℕ) (row useful : List ℕ) (is : IsPool pool) (of_row : OfPool pool row) (of_useful : OfPool pool useful) where
   abbrev clauses : List (List ℕ)
-  clauses = row_at pool row
+  clauses = clauses_at pool row
 
   abbrev usable : List (List ℕ)
   usable = clauses_at pool useful
 
-  usable_up : (c : List ℕ) → In c usable → Ascending c
-  usable_up c i =
-      let w : (id : ℕ) × In id useful × (c ≡ clause_at pool id) = In_map_cases (clause_at pool) useful c i in
-      subst Ascending (sym w.2) (is.ascending w.0 (of_useful w.0 w.1))
-
-  pub same_lent : (made unions : List (List ℕ)) (ids : List ℕ) → ids ≡ ids_at pool row → SameClauses (all_unions spent (clauses_at pool ids) usable) made → unions ≡ made → SameClauses (all_unions spent clauses usable) unions
-  same_lent made unions ids e s f =
-      subst (λ z. SameClauses (all_unions spent clauses usable) z) (sym f) (subst (λ r. SameClauses (all_unions spent (clauses_at pool r) usable) made) e s)
-
-  pub beside_lent : (lent made unions : List (List ℕ)) (left ids : List ℕ) → ids ≡ ids_at pool row → clauses_at pool left ≡ filter (stays spent lent) (clauses_at pool ids) → lent ≡ made → unions ≡ made →
-      clauses_at pool left ≡ filter (stays spent unions) clauses
-  beside_lent lent made unions left ids e s f g = s ∙ ap₂ (λ r u. filter (stays spent u) (clauses_at pool r)) e (f ∙ sym g)
-
-  pub kept_in_order : (kept : List (List ℕ)) → kept ≡ apart_from spent clauses → InOrder kept
-  kept_in_order kept e = subst InOrder (sym e) (order_filter (λ c. not (has c spent)) clauses (is.in_order row of_row))
-
-  pub kept_ascend : (kept : List (List ℕ)) → kept ≡ apart_from spent clauses → (c : List ℕ) → In c kept → Ascending c
-  kept_ascend kept e c i = row_ascending pool is row of_row c (apart_cases spent clauses c (subst (λ z. In c z) e i)).0
-
-  pub beside_in_order : (unions left : List (List ℕ)) → left ≡ filter (stays spent unions) clauses → InOrder left
-  beside_in_order unions left e = subst InOrder (sym e) (order_filter (stays spent unions) clauses (is.in_order row of_row))
+  pub kept_ascend : (c : List ℕ) → In c (apart_from spent clauses) → Ascending c
+  kept_ascend c i = ids_ascend pool row is of_row c (apart_cases spent clauses c i).0
 
   pub unions_apart_from : ((c : List ℕ) → In c usable → In spent c → ⊥) → (unions : List (List ℕ)) → SameClauses (all_unions spent clauses usable) unions → (c : List ℕ) → In c unions → In spent c → ⊥
   unions_apart_from own unions same c i = unions_apart spent clauses usable own c (same.back c i)
 
   pub unions_ascend : (unions : List (List ℕ)) → SameClauses (all_unions spent clauses usable) unions → (c : List ℕ) → In c unions → Ascending c
-  unions_ascend unions same c i = unions_up spent clauses usable usable_up c (same.back c i)
+  unions_ascend unions same c i = unions_up spent clauses usable (ids_ascend pool useful is of_useful) c (same.back c i)
 
   pub family_ascends : (family : List (List ℕ)) → family ≡ in_row_order (apart_from spent clauses ++ all_unions spent clauses usable) → (c : List ℕ) → In c family → Ascending c
   family_ascends family e c i =
       elim (In_append_cases (apart_from spent clauses) (all_unions spent clauses usable) c
       (ordered_parts (apart_from spent clauses ++ all_unions spent clauses usable) c (subst (λ z. In c z) e i))) [
-        | inl a ↦ row_ascending pool is row of_row c (apart_cases spent clauses c a).0
-        | inr u ↦ unions_up spent clauses usable usable_up c u
+        | inl a ↦ kept_ascend c a
+        | inr u ↦ unions_up spent clauses usable (ids_ascend pool useful is of_useful) c u
       ]
 
-  pub row_is_minimal : ((c d : List ℕ) → In c clauses → In d clauses → Inside c d → c ≡ d) → (unions kept left new : List (List ℕ)) → SameClauses (all_unions spent clauses usable) unions →
-      kept ≡ apart_from spent clauses → left ≡ filter (stays spent unions) clauses → HasUnions left kept unions unions new →
+  module _ (order : InOrder (clauses_at pool row)) where
+    pub kept_in_order : InOrder (apart_from spent clauses)
+    kept_in_order = order_filter (λ c. not (has c spent)) clauses order
+
+    pub beside_in_order : (unions left : List (List ℕ)) → left ≡ filter (stays spent unions) clauses → InOrder left
+    beside_in_order unions left e = subst InOrder (sym e) (order_filter (stays spent unions) clauses order)
+
+  pub row_is_minimal : ((c d : List ℕ) → In c clauses → In d clauses → Inside c d → c ≡ d) → (unions left new : List (List ℕ)) → SameClauses (all_unions spent clauses usable) unions →
+      left ≡ filter (stays spent unions) clauses → HasUnions left (apart_from spent clauses) unions unions new →
       new ≡ minimal_of (in_row_order (apart_from spent clauses ++ all_unions spent clauses usable))
-  row_is_minimal minimal unions kept left new same e f made =
-      unions_are_minimal spent clauses usable unions new (row_ascending pool is row of_row) usable_up minimal same
-      (subst (λ z. HasUnions z (apart_from spent clauses) unions unions new) f (subst (λ z. HasUnions left z unions unions new) e made))
+  row_is_minimal minimal unions left new same f made =
+      unions_are_minimal spent clauses usable unions new (ids_ascend pool row is of_row) (ids_ascend pool useful is of_useful) minimal same
+      (subst (λ z. HasUnions z (apart_from spent clauses) unions unions new) f made)
 
 -- a family in order
 pub family_is : (family cs : List (List ℕ)) → InOrder family → SameClauses cs family → family ≡ in_row_order cs

@@ -129,32 +129,33 @@ fn is_one_of(numbers: &[u32], number: u32) -> bool
     numbers.binary_search(&number).is_ok()
 }
 
-/// The row with unions in the place of the clauses that hold the spent package, in the pool: those of each such clause,
-/// without the package, with each useful clause. Only the minimal clauses stay. As those of the row are minimal among
-/// themselves, the unions alone are tested against the others, and the others against the unions.
-pub(crate) fn intern_with_unions(
+/// The minimal clauses of the row with unions in the place of the clauses that hold the spent package: those of each such
+/// clause, without the package, with each useful clause.
+pub fn with_unions(
     alloc: Global,
     pool: &mut Pool,
     spent: u32,
-    row: RowId,
+    row: &[ClauseId],
     useful: &[ClauseId],
-) -> Result<RowId, AllocError>
+) -> Result<Vec<ClauseId>, AllocError>
     requires pool { IsPool pool.old }
-    requires row { row < length pool.old.rows }
+    requires row { OfPool pool.old row.now }
+    requires in_order { InOrder (clauses_at pool.old row.now) }
     requires useful { OfPool pool.old useful.now }
     requires own { (c : List ℕ) → In c (clauses_at pool.old useful.now) → In spent c → ⊥ }
-    requires minimal { (c d : List ℕ) → In c (row_at pool.old row) → In d (row_at pool.old row) → Inside c d → c ≡ d }
-    ensures ok { IfOk result (λ id. row_at pool.new id ≡ minimal_of (in_row_order (apart_from spent (row_at pool.old row)
-        ++ all_unions spent (row_at pool.old row) (clauses_at pool.old useful.now)))) }
-    ensures of_pool { IfOk result (λ id. id < length pool.new.rows) }
+    requires minimal { (c d : List ℕ) → In c (clauses_at pool.old row.now) → In d (clauses_at pool.old row.now) → Inside c d → c ≡ d }
+    ensures ok { IfOk result (λ ids. clauses_at pool.new ids.items ≡ minimal_of (in_row_order (apart_from spent (clauses_at pool.old row.now)
+        ++ all_unions spent (clauses_at pool.old row.now) (clauses_at pool.old useful.now)))) }
+    ensures of_pool { IfOk result (λ ids. OfPool pool.new ids.items) }
     ensures kept { Kept pool.old pool.new }
 {
-    let unions = unions_in_order(alloc, pool, spent, pool.row(row), useful)?;
+    // The clauses of the row are minimal among themselves, so only the unions are tested against them, and they against the unions.
+    let unions = unions_in_order(alloc, pool, spent, row, useful)?;
     let tree = tree_of_many(alloc, unions.as_slice())?;
-    let kept = tree_beside(alloc, pool, spent, pool.row(row), unions.as_slice())?;
-    let mut ids = ids_beside(alloc, pool, spent, pool.row(row), unions.as_slice(), &tree)?;
+    let kept = tree_beside(alloc, pool, spent, row, unions.as_slice())?;
+    let mut ids = ids_beside(alloc, pool, spent, row, unions.as_slice(), &tree)?;
     put_unions(pool, spent, row, &kept, unions.as_slice(), &tree, &mut ids)?;
-    pool.intern_row(ids.as_slice())
+    Ok(ids)
 }
 
 /// The unions of each clause of the row that holds the spent package, without it, with each useful clause, in order.
@@ -205,21 +206,22 @@ fn ids_beside(
 fn put_unions(
     pool: &mut Pool,
     spent: u32,
-    row: RowId,
+    row: &[ClauseId],
     kept: &Option<FamilyTree>,
     unions: &[Clause],
     tree: &Option<FamilyTree>,
     ids: &mut Vec<ClauseId>,
 ) -> Result<(), AllocError>
     requires pool { IsPool pool.old }
-    requires row { row < length pool.old.rows }
-    requires kept { ForSome kept.now (λ t. TreeOf t (apart_from spent (row_at pool.old row))) }
+    requires row { OfPool pool.old row.now }
+    requires ordered { InOrder (clauses_at pool.old row.now) }
+    requires kept { ForSome kept.now (λ t. TreeOf t (apart_from spent (clauses_at pool.old row.now))) }
     requires tree { ForSome tree.now (λ t. TreeOf t unions.now) }
     requires rising { (c : List ℕ) → In c unions.now → Ascending c }
     requires apart { (c : List ℕ) → In c unions.now → In spent c → ⊥ }
     requires of_pool { OfPool pool.old ids.old.items }
     requires in_order { InOrder (clauses_at pool.old ids.old.items) }
-    ensures ok { OnOk result (HasUnions (clauses_at pool.old ids.old.items) (apart_from spent (row_at pool.old row)) unions.now unions.now (clauses_at pool.new ids.new.items)) }
+    ensures ok { OnOk result (HasUnions (clauses_at pool.old ids.old.items) (apart_from spent (clauses_at pool.old row.now)) unions.now unions.now (clauses_at pool.new ids.new.items)) }
     ensures of_pool { OnOk result (OfPool pool.new ids.new.items) }
     ensures kept { Kept pool.old pool.new }
 {

@@ -22,7 +22,7 @@ pub use family_tree::FamilyTree;
 pub use needed::{is_longer, tree_of_many};
 
 // A row is told without a package, in a pool or in scratch space.
-pub use family::{add_unions, clauses_without, useful_of};
+pub use family::{add_unions, clauses_without, useful_of, with_unions};
 pub use rewriting::rewrite;
 
 // Laws.

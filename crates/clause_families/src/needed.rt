@@ -5,7 +5,7 @@
 ghost use Rattle.std.specs.Prelude.{◌≡◌, ℕ, ◌<◌, List, IfOk, length, false, None};
 ghost use Rattle.std.specs.Bool.{OnFalse, OnTrue};
 ghost use Rattle.std.specs.Option.{ForSome};
-ghost use Rattle.clause_pool.specs.Interned.{clauses_at, row_at, OfPool, IsPool};
+ghost use Rattle.clause_pool.specs.Interned.{clauses_at, OfPool, IsPool};
 ghost use Rattle.row_book.specs.Sets.{In};
 ghost use Rattle.row_book.specs.Clauses.{apart_from, Ascending, InOrder};
 ghost use Rattle.row_book.specs.Within.{some_within};
@@ -15,7 +15,7 @@ ghost use Rattle.clause_families.specs.Families.{IncludesOneOf, IsNeedless, IsSh
 
 use crate::family_tree::FamilyTree;
 use crate::scratch::Clause;
-use clause_pool::{ClauseId, Pool, RowId};
+use clause_pool::{ClauseId, Pool};
 use listed::{holds_ascending, is_inside_ascending};
 use row_book::has_within;
 use std::alloc::{AllocError, Global};
@@ -89,20 +89,21 @@ pub(crate) fn stays(
 pub(crate) fn is_needed(
     pool: &Pool,
     spent: u32,
-    row: RowId,
+    row: &[ClauseId],
     kept: &Option<FamilyTree>,
     unions: &[Clause],
     tree: &Option<FamilyTree>,
     union: &[u32],
 ) -> bool
     requires pool { IsPool pool.now }
-    requires row { row < length pool.now.rows }
-    requires kept { ForSome kept.now (λ t. TreeOf t (apart_from spent (row_at pool.now row))) }
+    requires row { OfPool pool.now row.now }
+    requires in_order { InOrder (clauses_at pool.now row.now) }
+    requires kept { ForSome kept.now (λ t. TreeOf t (apart_from spent (clauses_at pool.now row.now))) }
     requires tree { ForSome tree.now (λ t. TreeOf t unions.now) }
     requires ascending { Ascending union.now }
     requires apart { In spent union.now → ⊥ }
-    ensures needed { OnTrue result (IsShortest (apart_from spent (row_at pool.now row)) unions.now union.now) }
-    ensures needless { OnFalse result (IsNeedless (apart_from spent (row_at pool.now row)) unions.now union.now) }
+    ensures needed { OnTrue result (IsShortest (apart_from spent (clauses_at pool.now row.now)) unions.now union.now) }
+    ensures needless { OnFalse result (IsNeedless (apart_from spent (clauses_at pool.now row.now)) unions.now union.now) }
 {
     if is_longer(unions, tree, union) {
         return false;
@@ -151,17 +152,18 @@ fn is_strictly_inside(small: &[u32], large: &[u32]) -> bool
 fn includes_one(
     pool: &Pool,
     number: u32,
-    row: RowId,
+    row: &[ClauseId],
     kept: &Option<FamilyTree>,
     clause: &[u32],
 ) -> bool
     requires pool { IsPool pool.now }
-    requires row { row < length pool.now.rows }
-    requires kept { ForSome kept.now (λ t. TreeOf t (apart_from number (row_at pool.now row))) }
+    requires row { OfPool pool.now row.now }
+    requires in_order { InOrder (clauses_at pool.now row.now) }
+    requires kept { ForSome kept.now (λ t. TreeOf t (apart_from number (clauses_at pool.now row.now))) }
     requires ascending { Ascending clause.now }
     requires apart { In number clause.now → ⊥ }
-    ensures found { OnTrue result (IncludesOneOf (apart_from number (row_at pool.now row)) clause.now) }
-    ensures clear { OnFalse result (has_shorter (apart_from number (row_at pool.now row)) clause.now ≡ false) }
+    ensures found { OnTrue result (IncludesOneOf (apart_from number (clauses_at pool.now row.now)) clause.now) }
+    ensures clear { OnFalse result (has_shorter (apart_from number (clauses_at pool.now row.now)) clause.now ≡ false) }
 {
     match kept {
         Some(tree) => tree.has_shorter(clause),
@@ -170,11 +172,12 @@ fn includes_one(
 }
 
 /// Whether a clause of the row is within the clause. None that holds a number can be, where the clause does not hold it.
-fn row_includes_one(pool: &Pool, row: RowId, clause: &[u32]) -> bool
+fn row_includes_one(pool: &Pool, row: &[ClauseId], clause: &[u32]) -> bool
     requires pool { IsPool pool.now }
-    requires row { row < length pool.now.rows }
+    requires row { OfPool pool.now row.now }
+    requires in_order { InOrder (clauses_at pool.now row.now) }
     requires ascending { Ascending clause.now }
-    ensures { result ≡ some_within None clause.now (row_at pool.now row) }
+    ensures { result ≡ some_within None clause.now (clauses_at pool.now row.now) }
 {
-    has_within(pool, pool.row(row), &None, clause)
+    has_within(pool, row, &None, clause)
 }

@@ -14,10 +14,16 @@ pub mod Held
 pub mod Counts
 pub mod Replacing
 pub mod Midway
+pub mod NewRow
 pub mod Leaves
 pub mod Turns
 pub mod Tidied
 pub mod Runs
+pub mod WorkedRows
+pub mod UserRows
+pub mod Halfway
+pub mod Turning
+pub mod PoolRows
 pub mod Free
 pub mod Passing
 pub mod Running

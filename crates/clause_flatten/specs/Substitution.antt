@@ -1,5 +1,5 @@
 -- Tables of rows and stages: a package is taken out of all rows by substitution.
-use Rattle.std.specs.Prelude.{ℕ, zero, suc, Bool, ◌&&◌, eqb, ltb, cond, List, [], map, length, slice_index_or, Option, Some, None}
+use Rattle.std.specs.Prelude.{ℕ, zero, suc, Bool, ◌&&◌, eqb, ltb, cond, List, [], map, length, slice_index_or, slice_set, Option, Some, None}
 use Rattle.std.specs.List.{list_any}
 use Rattle.row_book.specs.Sets.{plus, without}
 use Rattle.row_book.specs.Repository.{Repository, clauses_of}
@@ -16,6 +16,10 @@ unfoldable pub table_without : ℕ → List (List (List ℕ)) → List (List (Li
 table_without q t =
     map (λ p. cond (eqb p q) (table_row t q) (in_row_order (substituted p q (table_row t p) (table_row t q))))
     (numbers (length t) 0)
+
+-- the table where the row of p alone is substituted
+abbrev pub table_turned : ℕ → ℕ → List (List (List ℕ)) → List (List (List ℕ))
+table_turned p q t = slice_set t p (in_row_order (substituted p q (table_row t p) (table_row t q)))
 
 -- A whole elimination with its table of rows.
 

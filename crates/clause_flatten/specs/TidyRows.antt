@@ -1,7 +1,6 @@
 -- for the bodies of this crate alone
 -- Rows before any package is taken out: of the clauses of a package those that do not hold it, and of these the minimal ones.
-use Rattle.std.specs.Prelude.{◌≡◌, ℕ, ◌<◌, Bool, true, false, List, [], ◌∷◌, length, map}
-use Rattle.clause_pool.specs.Interned.{Interned, row_at}
+use Rattle.std.specs.Prelude.{ℕ, Bool, true, false, List, [], ◌∷◌, length, map}
 use Rattle.row_book.specs.Clauses.{apart_from, minimal_of, numbers, in_row_order}
 use Rattle.clause_flatten.specs.Substitution.{table_row}
 
@@ -18,8 +17,3 @@ abbrev pub begins_empty : List (List ℕ) → Bool
 begins_empty [] = false
 begins_empty ([] ∷ family) = true
 begins_empty ((n ∷ ns) ∷ family) = false
-
--- each row of the old pool has the same clauses in the new one
-pub record RowsStay (old new : Interned) : Type 0 where
-  pub within : (id : ℕ) → id < length old.rows → id < length new.rows
-  pub same : (id : ℕ) → id < length old.rows → row_at new id ≡ row_at old id

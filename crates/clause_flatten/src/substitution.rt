@@ -95,8 +95,10 @@ pub(crate) fn new_row(
     ensures tidies { IfOk result (λ id. RowsTidy pool.new (slice_set rows.now user id)) }
     ensures kept { Kept pool.old pool.new }
 {
-    let old = rows[user as usize];
-    let new = rewrite(alloc, pool, user, gone, old, rows[gone as usize])?;
+    let row = Vec::from_slice(alloc, pool.row(rows[user as usize]))?;
+    let own = Vec::from_slice(alloc, pool.row(rows[gone as usize]))?;
+    let clauses = rewrite(alloc, pool, user, gone, row.as_slice(), own.as_slice())?;
+    let new = pool.intern_row(clauses.as_slice())?;
     Ok(new)
 }
 

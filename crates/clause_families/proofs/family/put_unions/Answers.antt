@@ -1,8 +1,8 @@
 use Rattle.std.proofs.Common.{◌≡◌, ap, ◌∙◌, ◌+◌, sym, subst, take, List, ℕ}
 use Rattle.std.specs.Option.{ForSome}
 use Rattle.std.proofs.lemmas.Bool.{OnFalse_at, OnTrue_at}
-use Rattle.clause_pool.specs.Interned.{Interned, IsIdOf, Kept, OfPool, clauses_at, row_at}
-use Rattle.clause_pool.proofs.Interned.{kept_along, kept_same as kept_none, clauses_kept, kept_of_pool, row_stays}
+use Rattle.clause_pool.specs.Interned.{Interned, IsIdOf, Kept, OfPool, clauses_at}
+use Rattle.clause_pool.proofs.Interned.{kept_along, kept_same as kept_none, clauses_kept, kept_of_pool}
 use Rattle.row_book.specs.Sets.{In}
 use Rattle.row_book.specs.Clauses.{Ascending, InOrder, apart_from}
 use Rattle.row_book.proofs.Lists.{item_in}
@@ -15,18 +15,22 @@ use Rattle.clause_families.proofs.family.put_unions.Goals.{then-is_needed+in_ok-
 
 pub loop-union-init : goal.loop-union-init
 loop-union-init c = record {
-  made = unions_none (clauses_at c.args.pool.now c.args.ids.now.items) (apart_from c.args.spent (row_at c.args.pool.now c.args.row)) c.args.unions.now c.requires.in_order;
+  made = unions_none (clauses_at c.args.pool.now c.args.ids.now.items) (apart_from c.args.spent (clauses_at c.args.pool.now c.args.row.now)) c.args.unions.now c.requires.in_order;
   of_pool = c.requires.of_pool;
   stay = kept_none c.args.pool.now;
 }
 
 pub is_needed-requires-clause-row : goal.is_needed-requires-clause-row
-is_needed-requires-clause-row c = (c.loop-union.invariant.stay.rows c.args.row c.requires.row).0
+is_needed-requires-clause-row c = kept_of_pool c.args.pool.now c.loop-union.pool c.loop-union.invariant.stay c.args.row.now c.requires.row
+
+pub is_needed-requires-clause-in_order : goal.is_needed-requires-clause-in_order
+is_needed-requires-clause-in_order c =
+    subst InOrder (sym (clauses_kept c.args.pool.now c.loop-union.pool c.loop-union.invariant.stay c.args.row.now c.requires.row)) c.requires.ordered
 
 pub is_needed-requires-clause-kept : goal.is_needed-requires-clause-kept
 is_needed-requires-clause-kept c =
     subst (λ z. ForSome c.args.kept.now (λ t. TreeOf t (apart_from c.args.spent z)))
-    (sym (row_stays c.args.pool.now c.loop-union.pool c.requires.pool c.loop-union.invariant.stay c.args.row c.requires.row)) c.requires.kept
+    (sym (clauses_kept c.args.pool.now c.loop-union.pool c.loop-union.invariant.stay c.args.row.now c.requires.row)) c.requires.kept
 
 pub is_needed-requires-clause-ascending : goal.is_needed-requires-clause-ascending
 is_needed-requires-clause-ascending c =
@@ -56,9 +60,9 @@ returns-in_err-put_in_place-clause-kept c = kept_along c.args.pool.now c.loop-un
 pub loop-union-preserved : goal.loop-union-preserved
 loop-union-preserved c =
     let old : List (List ℕ) = clauses_at c.args.pool.now c.args.ids.now.items in
-    let kept : List (List ℕ) = apart_from c.args.spent (row_at c.args.pool.now c.args.row) in
-    let same : row_at c.loop-union.pool c.args.row ≡ row_at c.args.pool.now c.args.row =
-    row_stays c.args.pool.now c.loop-union.pool c.requires.pool c.loop-union.invariant.stay c.args.row c.requires.row in
+    let kept : List (List ℕ) = apart_from c.args.spent (clauses_at c.args.pool.now c.args.row.now) in
+    let same : clauses_at c.loop-union.pool c.args.row.now ≡ clauses_at c.args.pool.now c.args.row.now =
+    clauses_kept c.args.pool.now c.loop-union.pool c.loop-union.invariant.stay c.args.row.now c.requires.row in
     let at : At c.args.unions.now c.loop-union.union-index c.as_slice.result.now =
     at_item c.args.unions.now c.loop-union.union-index c.union-item.result c.as_slice.result.now c.loop-union-test.true c.union-item.is c.as_slice.ensures in
     elim c.if-is_needed.branch [

@@ -1,12 +1,13 @@
 //! Books of small indexes: their faults, what they lend, and who names whom before and after a row is replaced.
 ghost use Rattle.std.specs.Prelude.{◌≡◌, ◌<◌, IfOk, OnOk, length};
 ghost use Rattle.row_book.specs.Book.{RowsFit, Sound};
+ghost use Rattle.row_book.specs.Holders.{ListsFit};
 ghost use Rattle.row_book.specs.Uses.{uses_of};
 
 use crate::samples::{book_of, row_of, suite_of};
 use clause_pool::{Pool, RowId};
 use repo_model::plain_repository;
-use row_book::{Book, ClauseTable, Unhealthy, UseTable, is_coinst};
+use row_book::{Book, ClauseTable, IdList, Unhealthy, UseTable, is_coinst};
 use std::alloc::{AllocError, Global};
 use std::process::Abort;
 use std::test::Fail;
@@ -112,15 +113,29 @@ pub(crate) fn told_uses(
     Ok(users)
 }
 
+/// The rows, each as the ids of its clauses.
+fn lists_of(alloc: Global, pool: &Pool, rows: &[RowId]) -> Result<Vec<IdList>, AllocError>
+    requires { RowsFit pool.now rows.now }
+    ensures fit { IfOk result (λ lists. ListsFit pool.now lists.items) }
+    ensures count { IfOk result (λ lists. length lists.items ≡ length rows.now) }
+{
+    let mut lists = Vec::new(alloc);
+    for row in rows {
+        let ids = Vec::from_slice(alloc, pool.row(*row))?;
+        lists.push(IdList::of(ids))?;
+    }
+    Ok(lists)
+}
+
 /// Who has a clause that holds each of the packages, where they have these rows.
 fn told_users(
     alloc: Global,
     table: &ClauseTable,
     pool: &Pool,
-    rows: &[RowId],
+    rows: &[IdList],
     size: u32,
 ) -> Result<Vec<Vec<u32>>, AllocError>
-    requires { RowsFit pool.now rows.now }
+    requires { ListsFit pool.now rows.now }
 {
     let mut users = Vec::new(alloc);
     for number in 0..size {
@@ -171,7 +186,7 @@ fn replace_in_table(
 {
     let old = row_of(pool, book, 0);
     let new = row_of(pool, book, 1);
-    table.replace(alloc, pool, 0, old, new)
+    table.replace(alloc, pool, 0, pool.row(old), pool.row(new))
 }
 
 /// Who names whom, before and after package 0 gets the row of package 1.
@@ -192,13 +207,14 @@ fn told_by_table(alloc: Global, pool: &Pool, book: &Book) -> Result<String, Allo
     requires sound { Sound pool.now book.now }
     requires two { 1 < length book.now.rows }
 {
-    let rows = book.rows.as_slice();
-    let mut table = ClauseTable::of(alloc, pool, rows)?;
-    let before = told_users(alloc, &table, pool, rows, book.size())?;
+    let rows = lists_of(alloc, pool, book.rows.as_slice())?;
+    let mut table = ClauseTable::of(alloc, pool, rows.as_slice())?;
+    let before = told_users(alloc, &table, pool, rows.as_slice(), book.size())?;
     replace_in_table(alloc, pool, book, &mut table)?;
     table.forget(1);
     let changed = rows_after(alloc, pool, book)?;
-    let after = told_users(alloc, &table, pool, changed.as_slice(), book.size())?;
+    let lists = lists_of(alloc, pool, changed.as_slice())?;
+    let after = told_users(alloc, &table, pool, lists.as_slice(), book.size())?;
     format!(in alloc; "{before:?} then {after:?}")
 }
 

@@ -1,13 +1,11 @@
 -- Unions by merging.
-use Rattle.std.proofs.Common.{◌≡◌, ℕ, ◌<◌, List, ◌∷◌, inl, inr, refl, sym, subst, arith}
+use Rattle.std.proofs.Common.{◌≡◌, ℕ, ◌<◌, List, ◌∷◌, inl, inr, sym, subst, arith}
 use Rattle.row_book.specs.Sets.{In, here, there}
-use Rattle.row_book.specs.Clauses.{Ascending, apart_from, in_row_order}
-use Rattle.clause_families.specs.Unions.{union_of, all_unions_for, substituted}
+use Rattle.row_book.specs.Clauses.{Ascending}
+use Rattle.clause_families.specs.Unions.{union_of}
 use Rattle.clause_families.specs.Laws.{UnionMerges}
 use Rattle.row_book.proofs.Lists.{In_cases, ascending_same}
-use Rattle.row_book.proofs.Clauses.{apart_cases, apart_in, minimal_of_from, minimal_of_parts}
-use Rattle.row_book.proofs.Order.{order_same, ordered_has, ordered_order, ordered_parts}
-use Rattle.clause_families.proofs.Unions.{Comes, joined_ascending, joined_cases, joined_left, joined_right, replaced_cases, replaced_kept}
+use Rattle.clause_families.proofs.Unions.{joined_ascending, joined_cases, joined_left, joined_right}
 
 first_below : (x : ℕ) (xs ys : List ℕ) → Ascending (x ∷ xs) → ((z : ℕ) → In z ys → x < z) → (z : ℕ) → In z (union_of xs ys) → x < z
 first_below x xs ys a f z i = elim (joined_cases xs ys z i) [ inl l ↦ a.0 z l | inr r ↦ f z r ]

@@ -1,5 +1,5 @@
 -- The row of a user once a package is taken out, in the pool: what its clauses, made of two rows of the pool, tell of the rows.
-use Rattle.std.proofs.Common.{◌≡◌, ℕ, ◌<◌, List, [], length, get_or, slice_set, sym, ◌∙◌, ap, ap₂, subst}
+use Rattle.std.proofs.Common.{◌≡◌, ℕ, ◌<◌, List, length, get_or, slice_set, sym, ◌∙◌, ap, ap₂, subst}
 use Rattle.clause_pool.specs.Interned.{Interned, IsIdOf, Kept, OfPool, clauses_at, ids_at, row_at}
 use Rattle.clause_pool.proofs.Interned.{kept_along}
 use Rattle.row_book.specs.Sets.{In}

@@ -1,7 +1,7 @@
 -- Rows that come into the pool.
-use Rattle.std.proofs.Common.{◌≡◌, ℕ, ◌<◌, ◌+◌, List, [], ◌∷◌, ◌++◌, length, get_or, map, inl, inr, refl, sym, ◌∙◌, ap, ap₂, subst, arith, take}
+use Rattle.std.proofs.Common.{◌≡◌, ℕ, ◌<◌, ◌+◌, List, [], ◌∷◌, ◌++◌, length, get_or, map, inl, inr, refl, sym, ◌∙◌, ap, ap₂, subst, take}
 use Rattle.std.proofs.lemmas.List.{length-map, map-append, take_more}
-use Rattle.clause_pool.specs.Interned.{Interned, IsIdOf, IsPool, Kept, OfPool, clause_at, clauses_at, row_at}
+use Rattle.clause_pool.specs.Interned.{Interned, IsPool, Kept, OfPool, clause_at, clauses_at, row_at}
 use Rattle.clause_pool.proofs.Interned.{clauses_kept, kept_along, kept_of_pool, row_stays}
 use Rattle.clause_pool.proofs.Lists.{In_place}
 use Rattle.row_book.specs.Sets.{In, here, there}
@@ -10,7 +10,6 @@ use Rattle.row_book.specs.Book.{RowsFit, listed_for}
 use Rattle.row_book.specs.Holders.{ListsFit}
 use Rattle.row_book.proofs.Lists.{In_append_cases, In_cases, In_map, In_map_cases, In_none}
 use Rattle.clause_flatten.specs.Ready.{table_of}
-use Rattle.clause_families.proofs.Families.{row_interned}
 use Rattle.clause_flatten.proofs.Turning.{lent_row}
 
 -- the row of a package is of the pool and in order, and stays so in a pool that has grown
@@ -39,9 +38,9 @@ rows_stay old new is k (id ∷ ids) f = ap₂ (λ x xs. x ∷ xs) (row_stays old
 
 -- one more is
 pub in_pool_more : (start old new : Interned) (lists : List (List ℕ)) (n : ℕ) (rows after ids : List ℕ) (id : ℕ) → IsPool old → n < length lists → ids ≡ get_or lists n ids → OfPool start ids →
-    InPoolTo start lists n old rows → Kept old new → IsIdOf new.rows ids id → after ≡ rows ++ id ∷ [] → InPoolTo start lists (n + 1) new after
-in_pool_more start old new lists n rows after ids id is l e of_start t k at a =
-    let read : row_at new id ≡ clauses_at start ids = row_interned old new ids id k (kept_of_pool start old t.kept ids of_start) at ∙ clauses_kept start old t.kept ids of_start in
+    InPoolTo start lists n old rows → Kept old new → row_at new id ≡ clauses_at old ids → id < length new.rows → after ≡ rows ++ id ∷ [] → InPoolTo start lists (n + 1) new after
+in_pool_more start old new lists n rows after ids id is l e of_start t k at within a =
+    let read : row_at new id ≡ clauses_at start ids = at ∙ clauses_kept start old t.kept ids of_start in
     record {
       table =
           ap (map (row_at new)) a
@@ -50,7 +49,7 @@ in_pool_more start old new lists n rows after ids id is l e of_start t k at a =
           ∙ sym (ap (table_of start) (take_more lists n ids l ∙ ap (λ z. take n lists ++ z ∷ []) (sym e)) ∙ map-append (clauses_at start) (take n lists) (ids ∷ []));
       of_pool = λ i j. elim (In_append_cases rows (id ∷ []) i (subst (λ xs. In i xs) a j)) [
         | inl o ↦ (k.rows i (t.of_pool i o)).0
-        | inr o ↦ elim (In_cases o) [ inl s ↦ subst (λ z. z < length new.rows) (sym s) at.within | inr none ↦ absurd (In_none none) ]
+        | inr o ↦ elim (In_cases o) [ inl s ↦ subst (λ z. z < length new.rows) (sym s) within | inr none ↦ absurd (In_none none) ]
       ];
       kept = kept_along start old new t.kept k;
     }

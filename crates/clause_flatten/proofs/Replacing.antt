@@ -1,21 +1,21 @@
 -- Rows of a pool of which one after another is replaced, and what a package's elimination comes to.
-use Rattle.std.proofs.Common.{◌≡◌, ◌≢◌, ℕ, zero, suc, ◌<◌, ◌≤◌, ◌+◌, true, eqb, List, [], ◌∷◌, length, get_or, drop, map, slice_set, ◌⊎◌, inl, inr, refl, sym, ◌∙◌, ap, ap₂, subst, arith, eq-eqb, ne_eqb}
+use Rattle.std.proofs.Common.{◌≡◌, ◌≢◌, ℕ, zero, suc, ◌<◌, ◌≤◌, ◌+◌, true, List, [], ◌∷◌, length, get_or, drop, map, slice_set, ◌⊎◌, inl, inr, refl, sym, ◌∙◌, ap, ap₂, subst, arith}
 use Rattle.std.specs.List.{list_any}
-use Rattle.std.proofs.lemmas.Bool.{cases_eq, cond-true, cond-false}
+use Rattle.std.proofs.lemmas.Bool.{cases_eq}
 use Rattle.std.proofs.lemmas.List.{get_or-set_same, get_or-set_other, get_or-map, length-set, length-map}
 use Rattle.clause_pool.specs.Interned.{Interned, IsPool, Kept, row_at}
 use Rattle.clause_pool.proofs.Lists.{In_at}
 use Rattle.row_book.specs.Sets.{In, here, there, has}
-use Rattle.row_book.specs.Clauses.{Ascending, InOrder, Inside, apart_from, numbers, in_row_order}
+use Rattle.row_book.specs.Clauses.{Ascending, Inside, apart_from, numbers, in_row_order}
 use Rattle.row_book.specs.Book.{RowsFit, RowsTidy, listed_for}
 use Rattle.row_book.specs.Uses.{row_holds, row_id, users_of, uses_of}
 use Rattle.row_book.proofs.Lists.{In_cases, In_has, In_none, any_cases, any_from, ascending_same, filter_cases, filter_from, has_In, filter_same}
 use Rattle.row_book.proofs.Books.{row_kept}
-use Rattle.row_book.proofs.Clauses.{apart_cases, apart_in, minimal_of_from, minimal_of_parts}
-use Rattle.row_book.proofs.Order.{at_numbers, map_same, numbers_from, numbers_parts, order_same, ordered_has, ordered_order, ordered_parts}
+use Rattle.row_book.proofs.Clauses.{apart_cases, minimal_of_parts}
+use Rattle.row_book.proofs.Order.{at_numbers, map_same, numbers_from, numbers_parts, ordered_parts}
 use Rattle.clause_flatten.specs.Substitution.{table_without, table_row}
 use Rattle.clause_families.specs.Unions.{clause_without, all_unions_for, substituted}
-use Rattle.clause_families.proofs.Unions.{Comes, dropped_parts, joined_ascending, joined_cases, replaced_cases, replaced_kept}
+use Rattle.clause_families.proofs.Unions.{Comes, dropped_parts, joined_ascending, joined_cases, replaced_cases}
 use Rattle.clause_flatten.proofs.Runs.{eliminated_count, other_without, own_without}
 
 -- Rows in a pool that grows.

@@ -1,5 +1,5 @@
 -- The run of flattening over rows in a pool: where it stands after so many steps.
-use Rattle.std.proofs.Common.{◌≡◌, ℕ, zero, suc, ◌<◌, ◌≤◌, ◌+◌, ◌-◌, Bool, true, false, not, ◌&&◌, ◌||◌, eqb, ltb, cond, List, [], ◌∷◌, ◌++◌, length, filter, replicate, slice_set, ◌≢◌, inl, inr, refl, sym, ◌∙◌, ap, subst, arith, map, take, Option, Some, None, ne_eqb}
+use Rattle.std.proofs.Common.{◌≡◌, ℕ, zero, suc, ◌<◌, ◌≤◌, ◌+◌, ◌-◌, Bool, true, false, not, ◌&&◌, ◌||◌, eqb, ltb, cond, List, length, filter, replicate, slice_set, ◌≢◌, inl, inr, refl, sym, ◌∙◌, ap, subst, arith, map, Option, Some, None, ne_eqb}
 use Rattle.std.specs.List.{find}
 use Rattle.std.proofs.lemmas.Bool.{cases_eq, cases_lt}
 use Rattle.std.proofs.lemmas.List as lists

@@ -1,16 +1,13 @@
 -- A package taken out of a table of rows, and what is looked at then.
-use Rattle.std.proofs.Common.{◌≡◌, ◌≢◌, ℕ, zero, suc, ◌<◌, ◌≤◌, ◌+◌, Bool, true, false, ◌&&◌, ◌||◌, eqb, ltb, cond, List, [], ◌∷◌, ◌++◌, length, get_or, inl, inr, refl, sym, ◌∙◌, ap, subst, arith, filter, map, take, Some, None, eq-eqb, eqb-true, ne_eqb, zero-le}
-use Rattle.std.specs.List.{find, list_any}
+use Rattle.std.proofs.Common.{◌≡◌, ◌≢◌, ℕ, zero, suc, ◌<◌, ◌≤◌, ◌+◌, Bool, true, false, ◌&&◌, ◌||◌, eqb, ltb, cond, List, [], ◌∷◌, ◌++◌, length, get_or, inl, inr, refl, sym, ◌∙◌, ap, subst, arith, take, Some, None, eq-eqb, eqb-true, ne_eqb, zero-le}
+use Rattle.std.specs.List.{find}
 use Rattle.std.specs.Option.{option_map}
-use Rattle.std.proofs.lemmas.Bool.{both_ways, cases_Bool, cases_eq, cases_lt, cond-true, cond-false, false_from_ne_true, ltb-false, le-ltb}
+use Rattle.std.proofs.lemmas.Bool.{cond-true, cond-false, ltb-false}
 use Rattle.std.proofs.lemmas.List as lists
-use Rattle.clause_pool.specs.Interned.{Interned, IsPool, row_at}
-use Rattle.row_book.specs.Sets.{In, has, here, there}
+use Rattle.row_book.specs.Sets.{In, has}
 use Rattle.row_book.specs.Clauses.{InOrder, Inside, apart_from, numbers, in_row_order}
-use Rattle.row_book.specs.Uses.{row_holds, row_id, users_of}
-use Rattle.row_book.specs.Book.{RowsFit, RowsTidy}
 use Rattle.row_book.specs.Flattening.{Passed, passed_by}
-use Rattle.row_book.proofs.Lists.{In_has, any_cases, any_from, any_none, filter_cases, filter_from, find_not, find_none, has_not, In_at}
+use Rattle.row_book.proofs.Lists.{any_none, find_not, find_none}
 use Rattle.row_book.proofs.Clauses.{apart_cases, apart_in, minimal_of_from, minimal_of_parts}
 use Rattle.row_book.proofs.Order.{at_numbers, length_numbers, numbers_from, numbers_parts, order_same, ordered_has, ordered_order, ordered_parts, numbers_count}
 use Rattle.clause_flatten.specs.Substitution.{table_without, table_passes, length_in, table_row}

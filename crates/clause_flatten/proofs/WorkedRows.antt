@@ -8,7 +8,6 @@ use Rattle.row_book.specs.Sets.{In, has, here}
 use Rattle.row_book.specs.Clauses.{Ascending, InOrder, Inside, in_row_order, numbers}
 use Rattle.row_book.specs.Book.{listed_for}
 use Rattle.row_book.specs.Holders.{is_user, users_in, ListsFit}
-use Rattle.row_book.proofs.Books.{in_listed}
 use Rattle.row_book.proofs.Holders.{is_found}
 use Rattle.row_book.proofs.Lists.{In_has, In_map, In_map_cases, any_cases, any_from, ascending_filter, filter_cases, has_In}
 use Rattle.row_book.proofs.Order.{numbers_ascending, numbers_parts, ordered_order}

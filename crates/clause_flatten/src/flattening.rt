@@ -1,9 +1,9 @@
 //! Flattening of a book.
 ghost use Rattle.std.specs.Prelude.{◌≡◌, ◌<◌, ◌≤◌, ℕ, ◌&&◌, ltb, false, None, Some, IfOk, IfErr, OnOk, length, map, replicate, slice_set};
 ghost use Rattle.std.specs.List.{filter};
-ghost use Rattle.clause_pool.specs.Interned.{row_at, Kept};
+ghost use Rattle.clause_pool.specs.Interned.{clauses_at, row_at, Kept, OfPool};
 ghost use Rattle.row_book.specs.Book.{repository_of, AreConflicts, RowsFit, Sound};
-ghost use Rattle.row_book.specs.Clauses.{numbers};
+ghost use Rattle.row_book.specs.Clauses.{numbers, InOrder};
 ghost use Rattle.row_book.specs.Flags.{flag};
 ghost use Rattle.row_book.specs.Flattening.{flat, held_of, passes};
 ghost use Rattle.row_book.specs.Holders.{ListsFit};
@@ -19,7 +19,7 @@ use crate::error::FlatError;
 use crate::taking_out::{Elimination, clauses_in, least_over, take_out_or_hold};
 use crate::tidy_rows::tidy_rows;
 use crate::waiting::Waiting;
-use clause_pool::{Pool, RowId};
+use clause_pool::{ClauseId, Pool, RowId};
 use listed::{Listed, true_numbers};
 use row_book::{Book, ClauseTable, IdList, NumList};
 use std::alloc::{AllocError, Global};
@@ -113,8 +113,19 @@ fn with_flag(flags: Vec<bool>, number: u32, is_up: bool) -> Vec<bool>
     flags
 }
 
+/// The row of clauses in order, in the pool.
+fn put_row(pool: &mut Pool, clauses: &[ClauseId]) -> Result<RowId, AllocError>
+    requires of_pool { OfPool pool.old clauses.now }
+    requires in_order { InOrder (clauses_at pool.old clauses.now) }
+    ensures ok { IfOk result (λ id. row_at pool.new id ≡ clauses_at pool.old clauses.now) }
+    ensures of_pool { IfOk result (λ id. id < length pool.new.rows) }
+    ensures kept { Kept pool.old pool.new }
+{
+    pool.intern_row(clauses)
+}
+
 /// The rows of these clauses, in the pool.
-fn in_pool(alloc: Global, pool: &mut Pool, lists: &[IdList]) -> Result<Vec<RowId>, AllocError>
+fn put_rows(alloc: Global, pool: &mut Pool, lists: &[IdList]) -> Result<Vec<RowId>, AllocError>
     requires { ListsFit pool.old lists.now }
     ensures rows { IfOk result (λ rows. map (row_at pool.new) rows.items ≡ table_of pool.old lists.now) }
     ensures fit { IfOk result (λ rows. RowsFit pool.new rows.items) }
@@ -122,7 +133,7 @@ fn in_pool(alloc: Global, pool: &mut Pool, lists: &[IdList]) -> Result<Vec<RowId
 {
     let mut rows = Vec::with_capacity(alloc, lists.len())?;
     for list in lists {
-        let row = pool.intern_row(list.as_slice())?;
+        let row = put_row(pool, list.as_slice())?;
         rows.push(row)?;
     }
     Ok(rows)
@@ -179,7 +190,7 @@ pub fn flatten(
         rule,
     )?;
     let held = true_numbers(alloc, flags.as_slice())?;
-    let rows = in_pool(alloc, pool, lists.as_slice())?;
+    let rows = put_rows(alloc, pool, lists.as_slice())?;
     let made = book.with_rows(alloc, Listed::of(rows))?;
     Ok(Flattened { book: made, held })
 }

@@ -1,16 +1,15 @@
 -- A list without neighbours that are the same has the same numbers, and ascends where it was sorted.
-use Rattle.std.proofs.Common.{◌≡◌, ℕ, zero, suc, ◌<◌, ◌≤◌, Bool, true, false, List, [], ◌∷◌, cond, eqb, length, get_or, inl, inr, refl, sym, subst, arith, eq-eqb}
-use Rattle.std.specs.List.{dedup, dedup_from, Contains}
+use Rattle.std.proofs.Common.{◌≡◌, ℕ, zero, suc, ◌<◌, ◌≤◌, Bool, true, false, List, [], ◌∷◌, cond, eqb, inl, inr, refl, sym, subst, arith, eq-eqb}
+use Rattle.std.specs.List.{dedup, dedup_from}
 use Rattle.std.specs.List.Retain.{DiffersFromLast, IsFiltered}
 use Rattle.std.specs.List.Sorted.{IsNonDecreasing}
 use Rattle.std.proofs.lemmas.Bool.{both_ways, cases_lt}
 use Rattle.std.proofs.lemmas.List.Filters.{dedup_is}
 use Rattle.std.proofs.lemmas.List.Kept.{Contains-dedup_nat, Contains-from_dedup}
 use Rattle.listed.proofs.Lists.{contains_in, in_contains}
-use Rattle.clause_pool.proofs.Lists.{In_place}
 use Rattle.row_book.specs.Sets.{In}
 use Rattle.row_book.specs.Clauses.{Ascending}
-use Rattle.row_book.proofs.Lists.{In_at, In_cases, In_none}
+use Rattle.row_book.proofs.Lists.{In_cases, In_none}
 
 -- without its second element
 skipped : (k x : ℕ) (xs : List ℕ) → IsNonDecreasing (k ∷ (x ∷ xs)) → IsNonDecreasing (k ∷ xs)

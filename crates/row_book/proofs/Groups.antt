@@ -7,7 +7,7 @@ use Rattle.listed.proofs.Orders.{ascending_places, rest_ascends}
 use Rattle.listed.proofs.Lists.{In_drop}
 use Rattle.clause_pool.specs.Interned.{Interned, clause_at, clauses_at}
 use Rattle.clause_pool.proofs.Lists.{In_place}
-use Rattle.row_book.specs.Sets.{In, has, there}
+use Rattle.row_book.specs.Sets.{In, has}
 use Rattle.row_book.specs.Clauses.{Ascending, Before, InOrder, is_inside}
 use Rattle.row_book.specs.Within.{goes_on, is_other, lead, rest_at, rest_within, some_within}
 use Rattle.row_book.proofs.Leads.{order_lead}

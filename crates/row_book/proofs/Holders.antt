@@ -1,6 +1,5 @@
 -- Tables of clauses: how they are made and changed, and what they tell of rows.
-use Rattle.std.proofs.Common.{◌≡◌, ◌≢◌, ℕ, zero, suc, ◌<◌, ◌≤◌, ◌+◌, Bool, true, false, List, [], ◌∷◌, ◌++◌, ◌⊎◌, inl, inr, refl, sym, ◌∙◌, ap, ap₂, subst, arith, ◌||◌, eqb, filter, length, get_or, take, zero-le}
-use Rattle.std.specs.Prelude.{Result, Ok, Err, OnErr}
+use Rattle.std.proofs.Common.{◌≡◌, ◌≢◌, ℕ, zero, suc, ◌<◌, ◌≤◌, ◌+◌, Bool, true, List, [], ◌∷◌, ◌++◌, inl, inr, refl, sym, ◌∙◌, ap, ap₂, subst, arith, ◌||◌, eqb, filter, length, get_or, take, zero-le}
 use Rattle.std.specs.Global.{Vec}
 use Rattle.std.specs.List.{slice_set, list_any}
 use Rattle.std.proofs.lemmas.Bool.{cases_eq}

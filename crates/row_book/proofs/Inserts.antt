@@ -1,7 +1,7 @@
 -- A number that is put into an ascending list or taken out of it.
 use Rattle.std.proofs.Common.{◌≡◌, ℕ, zero, suc, ◌<◌, ◌≤◌, ◌-◌, Bool, true, false, not, eqb, List, [], ◌∷◌, inl, inr, sym, ◌∙◌, ap, ap₂, subst, arith, ◌&&◌, ◌||◌, length, take, drop, get_or, ne_eqb, eq-eqb, Result, Ok, Err, if◌then◌else◌}
 use Rattle.std.specs.List.{insert, remove}
-use Rattle.std.specs.List.Sorted.{IsBinarySearchResult, IsNonDecreasing}
+use Rattle.std.specs.List.Sorted.{IsBinarySearchResult}
 use Rattle.std.specs.Ordering.{nat_cmp}
 use Rattle.std.specs.Result.{IsOk, is_ok}
 use Rattle.std.proofs.Math.Bool.{or_assoc, or_comm, or-false, and-true, and-false}

@@ -1,16 +1,16 @@
 -- Tests of lists at their places, and clauses in lexicographic order, which rise with what they begin with.
-use Rattle.std.proofs.Common.{◌≡◌, ℕ, zero, suc, ◌<◌, ◌≤◌, Bool, true, false, ◌&&◌, ◌||◌, List, [], ◌∷◌, length, get_or, inl, inr, refl, ◌∙◌, ap, arith, map, zero-le, Err}
-use Rattle.std.specs.List.{list_any, list_all}
+use Rattle.std.proofs.Common.{◌≡◌, ℕ, zero, suc, ◌<◌, ◌≤◌, Bool, true, false, ◌&&◌, ◌||◌, List, [], ◌∷◌, length, get_or, inl, inr, refl, ◌∙◌, ap, arith, zero-le, Err}
+use Rattle.std.specs.List.{list_all}
 use Rattle.std.specs.List.Sorted.{IsBinarySearchResult}
 use Rattle.std.specs.Ordering.{nat_cmp}
 use Rattle.std.proofs.lemmas.Bool.{cases_lt}
 use Rattle.std.proofs.lemmas.List.Sorted.{searched}
 use Rattle.listed.proofs.Orders.{ascending_places}
 use Rattle.clause_pool.proofs.Lists.{In_place}
-use Rattle.row_book.specs.Sets.{In, has}
+use Rattle.row_book.specs.Sets.{has}
 use Rattle.row_book.specs.Clauses.{Ascending, Before, InOrder}
 use Rattle.row_book.specs.Within.{lead}
-use Rattle.row_book.proofs.Lists.{In_at, In_map, any_from, has_not}
+use Rattle.row_book.proofs.Lists.{In_at, has_not}
 
 or_false : (a b : Bool) → a ≡ false → b ≡ false → (a || b) ≡ false
 or_false a b e f = ap (λ z. z || b) e ∙ f

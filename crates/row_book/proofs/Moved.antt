@@ -1,7 +1,7 @@
 -- Books whose rows come into another pool.
-use Rattle.std.proofs.Common.{◌≡◌, ℕ, ◌<◌, ◌+◌, List, [], ◌∷◌, ◌++◌, inl, inr, refl, sym, ◌∙◌, ap, ap₂, subst, length, get_or, take, map, length-append}
+use Rattle.std.proofs.Common.{◌≡◌, ℕ, ◌<◌, ◌+◌, List, [], ◌∷◌, ◌++◌, refl, sym, ◌∙◌, ap, ap₂, subst, length, get_or, take, map, length-append}
 use Rattle.std.specs.Prelude.{Result, Ok, Err, IfOk}
-use Rattle.std.proofs.lemmas.List.{length-map, map-append, take_more}
+use Rattle.std.proofs.lemmas.List.{length-map, map-append}
 use Rattle.clause_pool.proofs.Carried.{next_rows, one_more}
 use Rattle.clause_pool.specs.Interned.{Interned, IsPool, row_at}
 use Rattle.clause_pool.specs.Compacting.{Compacts, Renames, StandsFor}
@@ -9,7 +9,7 @@ use Rattle.row_book.specs.declared.book.Book.{Book}
 use Rattle.row_book.specs.Sets.{In}
 use Rattle.row_book.specs.Book.{IsSameBook, RowsFit}
 use Rattle.row_book.specs.Repository.{Repository}
-use Rattle.row_book.proofs.Lists.{In_append_cases, In_cases, In_map, In_map_cases, In_none}
+use Rattle.row_book.proofs.Lists.{In_map, In_map_cases, In_none}
 
 -- rows that denote the same clauses in the other pool make the same book
 module _ (pool : Interned) (book : Book) (new : Interned) (moved : Book) (is : IsPool new) (same : map (row_at new) moved.rows ≡ map (row_at pool) book.rows)

@@ -2,7 +2,7 @@
 -- sets of numbers.
 use Rattle.std.specs.Prelude.{ℕ, zero, suc, Bool, true, false, not, ◌&&◌, ◌||◌, eqb, ltb, cond, List, [], ◌∷◌, ◌++◌, map}
 use Rattle.std.specs.List.{list_all, filter}
-use Rattle.row_book.specs.Sets.{In, has}
+use Rattle.row_book.specs.Sets.{has}
 pub use Rattle.clause_pool.specs.Lists.{Before, InOrder}
 pub use Rattle.listed.specs.Lists.{Ascending, Inside, is_inside}
 

@@ -1,6 +1,5 @@
 -- Sets of packages as tests, clauses as lists, and what a set hits.
 use Rattle.std.specs.Prelude.{◌≡◌, ℕ, Bool, true, not, ◌&&◌, ◌||◌, eqb, List}
-use Rattle.std.specs.List.{list_any}
 pub use Rattle.listed.specs.Lists.{In, here, there, has}
 
 -- a set of numbers, as the test of its members

@@ -1,4 +1,4 @@
-use Rattle.std.proofs.Common.{◌≡◌, ◌<◌, ◌+◌, ◌-◌, ◌∙◌, ℕ, List, ap, get_or, length, drop, subst, sym, arith}
+use Rattle.std.proofs.Common.{◌≡◌, ◌<◌, ◌+◌, ◌-◌, ℕ, List, get_or, length, drop, subst, sym, arith}
 use Rattle.std.proofs.lemmas.List.{drop_all, length-map}
 use Rattle.clause_pool.specs.Interned.{clauses_at}
 use Rattle.clause_pool.proofs.Lists.{In_at}

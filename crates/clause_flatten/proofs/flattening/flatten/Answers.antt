@@ -3,10 +3,8 @@ use Rattle.std.specs.List.{find}
 use Rattle.std.proofs.lemmas.List.{length-map}
 use Rattle.clause_pool.specs.Interned.{clauses_at, row_at}
 use Rattle.clause_pool.proofs.Interned.{kept_along}
-use Rattle.row_book.specs.Book.{repository_of}
 use Rattle.row_book.specs.Clauses.{numbers}
 use Rattle.row_book.specs.Flags.{flag}
-use Rattle.row_book.specs.Flattening.{flat, held_of, passes}
 use Rattle.row_book.specs.Holders.{ListsFit, TellsRows}
 use Rattle.row_book.specs.Repository.{Repository}
 use Rattle.row_book.proofs.Order.{numbers_ranged}
@@ -59,8 +57,8 @@ take_all_out-requires-clause-within c =
     (c.as_slice-2.ensures.value ∙ sym c.as_mut_slice.ensures.value)
     (none_over (table_of c.args.pool.now c.as_slice-2.result.now) c.args.limit (length c.as_slice-2.result.now) (sym c.in_default.ensures))
 
-pub in_pool-requires : goal.in_pool-requires
-in_pool-requires c =
+pub put_rows-requires : goal.put_rows-requires
+put_rows-requires c =
     let whole : c.as_slice-6.result.now ≡ c.take_all_out.new.rows =
     c.as_slice-6.ensures.value
     ∙ lent_whole c.in_ok-lists.lists.len c.take_all_out.new.rows c.in_ok-lists.lists.items (c.take_all_out.auto.rows ∙ ap length c.as_mut_slice.ensures.value) c.in_ok-lists.lists.ok.0 in
@@ -72,7 +70,7 @@ true_numbers-requires c =
     omega (arith, c.args.book.now.few)
 
 pub returns-in_err-rows-clause-kept : goal.returns-in_err-rows-clause-kept
-returns-in_err-rows-clause-kept c = kept_along c.args.pool.now c.take_all_out.new.pool c.in_pool.new.pool c.take_all_out.ensures.kept c.in_pool.ensures.kept
+returns-in_err-rows-clause-kept c = kept_along c.args.pool.now c.take_all_out.new.pool c.put_rows.new.pool c.take_all_out.ensures.kept c.put_rows.ensures.kept
 
 pub with_rows-requires : goal.with_rows-requires
 with_rows-requires c =
@@ -80,12 +78,12 @@ with_rows-requires c =
     c.as_slice-6.ensures.value
     ∙ lent_whole c.in_ok-lists.lists.len c.take_all_out.new.rows c.in_ok-lists.lists.items (c.take_all_out.auto.rows ∙ ap length c.as_mut_slice.ensures.value) c.in_ok-lists.lists.ok.0 in
     ap length c.of-2.ensures
-    ∙ sym (length-map c.in_ok-rows.rows.items (row_at c.in_pool.new.pool))
+    ∙ sym (length-map c.in_ok-rows.rows.items (row_at c.put_rows.new.pool))
     ∙ ap length c.in_ok-rows.ensures.rows ∙ length-map c.as_slice-6.result.now (clauses_at c.take_all_out.new.pool)
     ∙ ap length whole ∙ c.take_all_out.auto.rows ∙ ap length c.as_mut_slice.ensures.value ∙ c.in_ok-lists.ensures.count ∙ ap length c.as_slice.ensures
 
 pub returns-in_err-made-clause-kept : goal.returns-in_err-made-clause-kept
-returns-in_err-made-clause-kept c = kept_along c.args.pool.now c.take_all_out.new.pool c.in_pool.new.pool c.take_all_out.ensures.kept c.in_pool.ensures.kept
+returns-in_err-made-clause-kept c = kept_along c.args.pool.now c.take_all_out.new.pool c.put_rows.new.pool c.take_all_out.ensures.kept c.put_rows.ensures.kept
 
 pub returns-clause-flat : goal.returns-clause-flat
 returns-clause-flat c =
@@ -93,8 +91,8 @@ returns-clause-flat c =
     let whole : c.as_slice-6.result.now ≡ c.take_all_out.new.rows =
     c.as_slice-6.ensures.value
     ∙ lent_whole c.in_ok-lists.lists.len c.take_all_out.new.rows c.in_ok-lists.lists.items (c.take_all_out.auto.rows ∙ ap length c.as_mut_slice.ensures.value) c.in_ok-lists.lists.ok.0 in
-    let rows_are : map (row_at c.in_pool.new.pool) c.in_ok-made.made.rows ≡ table_of c.take_all_out.new.pool c.take_all_out.new.rows =
-    ap (map (row_at c.in_pool.new.pool)) (c.in_ok-made.ensures.rows ∙ c.of-2.ensures) ∙ c.in_ok-rows.ensures.rows ∙ ap (table_of c.take_all_out.new.pool) whole in
+    let rows_are : map (row_at c.put_rows.new.pool) c.in_ok-made.made.rows ≡ table_of c.take_all_out.new.pool c.take_all_out.new.rows =
+    ap (map (row_at c.put_rows.new.pool)) (c.in_ok-made.ensures.rows ∙ c.of-2.ensures) ∙ c.in_ok-rows.ensures.rows ∙ ap (table_of c.take_all_out.new.pool) whole in
     let conflicts_are : c.in_ok-made.made.conflicts ≡ c.args.book.now.conflicts = c.in_ok-made.ensures.conflicts in
     ap₂ made rows_are conflicts_are ∙ c.in_ok-flags.ensures.flat
 
@@ -106,4 +104,4 @@ returns-clause-held c =
     ∙ c.in_ok-flags.ensures.held
 
 pub returns-clause-kept : goal.returns-clause-kept
-returns-clause-kept c = kept_along c.args.pool.now c.take_all_out.new.pool c.in_pool.new.pool c.take_all_out.ensures.kept c.in_pool.ensures.kept
+returns-clause-kept c = kept_along c.args.pool.now c.take_all_out.new.pool c.put_rows.new.pool c.take_all_out.ensures.kept c.put_rows.ensures.kept

@@ -1,4 +1,4 @@
-use Rattle.std.proofs.Common.{◌≡◌, ◌<◌, ◌+◌, false, Some, arith, length, map, replicate, ap, ◌∙◌}
+use Rattle.std.proofs.Common.{◌≡◌, ◌<◌, ◌+◌, false, Some, arith, length, replicate, ap, ◌∙◌}
 use Rattle.std.proofs.lemmas.List as lists
 use Rattle.std.proofs.lemmas.Result.{err_from_is_err_and}
 use Rattle.clause_pool.specs.Interned.{row_at}

@@ -1,4 +1,4 @@
-use Rattle.std.proofs.Common.{◌≡◌, ◌≤◌, ◌&&◌, ◌+◌, true, false, eqb, ltb, sym, ◌∙◌, ap, arith, length, map, subst}
+use Rattle.std.proofs.Common.{◌≡◌, ◌≤◌, ◌&&◌, ◌+◌, true, false, eqb, ltb, sym, ◌∙◌, ap, arith, length, subst}
 use Rattle.clause_flatten.specs.Ready.{table_of}
 use Rattle.clause_flatten.specs.Substitution.{length_in}
 use Rattle.clause_flatten.specs.TakingOut.{is_free}

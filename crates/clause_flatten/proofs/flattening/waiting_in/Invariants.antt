@@ -1,4 +1,4 @@
-use Rattle.std.proofs.Common.{◌≤◌, ◌&&◌, ltb, length, map}
+use Rattle.std.proofs.Common.{◌≤◌, ◌&&◌, ltb, length}
 use Rattle.clause_flatten.specs.Ready.{table_of}
 use Rattle.clause_flatten.specs.Substitution.{length_in}
 use Rattle.clause_flatten.specs.TakingOut.{is_free}

@@ -1,7 +1,7 @@
-use Rattle.std.proofs.Common.{◌≡◌, ◌∙◌, ap, subst, sym}
+use Rattle.std.proofs.Common.{◌∙◌, ap, subst, sym}
 use Rattle.clause_pool.specs.Interned.{clauses_at}
 use Rattle.clause_pool.proofs.Interned.{kept_along}
-use Rattle.row_book.specs.Clauses.{InOrder, in_row_order}
+use Rattle.row_book.specs.Clauses.{InOrder}
 use Rattle.row_book.proofs.Lists.{item_in}
 use Rattle.row_book.proofs.Order.{ordered_order}
 use Rattle.clause_families.specs.Unions.{substituted}

@@ -1,4 +1,4 @@
-use Rattle.std.proofs.Common.{arith, get_or, map, subst}
+use Rattle.std.proofs.Common.{arith, get_or, subst}
 use Rattle.clause_flatten.specs.Ready.{table_of}
 use Rattle.row_book.proofs.Lists.{In_at}
 use Rattle.clause_flatten.specs.Waiting.{Filed, recounted}

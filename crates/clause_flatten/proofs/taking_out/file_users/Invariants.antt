@@ -1,4 +1,4 @@
-use Rattle.std.proofs.Common.{ℕ, Bool, map, take}
+use Rattle.std.proofs.Common.{ℕ, Bool, take}
 use Rattle.clause_flatten.specs.Ready.{table_of}
 use Rattle.clause_flatten.specs.TakingOut.{counted_anew}
 use Rattle.clause_flatten.specs.Waiting.{Filed}

@@ -1,4 +1,4 @@
-use Rattle.std.proofs.Common.{sym, ◌∙◌, arith, get_or, map}
+use Rattle.std.proofs.Common.{sym, ◌∙◌, arith, get_or}
 use Rattle.std.proofs.lemmas.List.{get_or_default}
 use Rattle.clause_flatten.specs.Ready.{table_of}
 use Rattle.row_book.proofs.Lists.{In_at}

@@ -1,4 +1,4 @@
-use Rattle.std.proofs.Common.{◌≡◌, ◌&&◌, ◌∙◌, ap, map, not, sym, true}
+use Rattle.std.proofs.Common.{◌≡◌, ◌&&◌, ◌∙◌, ap, not, sym, true}
 use Rattle.std.proofs.lemmas.Bool.{both_ways, not_from_false, true_from_ne_false}
 use Rattle.std.proofs.lemmas.Result.{IfOk-weaker}
 use Rattle.clause_flatten.specs.Ready.{table_of}

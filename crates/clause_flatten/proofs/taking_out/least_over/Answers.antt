@@ -1,4 +1,4 @@
-use Rattle.std.proofs.Common.{sym, ◌∙◌, arith, length, map}
+use Rattle.std.proofs.Common.{sym, ◌∙◌, arith, length}
 use Rattle.clause_flatten.specs.Ready.{table_of}
 use Rattle.clause_flatten.specs.TakingOut.{is_over}
 use Rattle.clause_flatten.proofs.Runs.{least_passing, none_passing}

@@ -1,4 +1,4 @@
-use Rattle.std.proofs.Common.{◌≡◌, ◌<◌, ℕ, List, arith, ap, sym, ◌∙◌, map, length}
+use Rattle.std.proofs.Common.{◌≡◌, ◌<◌, ℕ, List, arith, ap, sym, ◌∙◌, length}
 use Rattle.std.specs.List.{find}
 use Rattle.clause_flatten.specs.Ready.{table_of}
 use Rattle.row_book.specs.Clauses.{numbers}

@@ -1,4 +1,4 @@
-use Rattle.std.proofs.Common.{◌≡◌, ◌∙◌, ℕ, List, Some, false, length, map, sym}
+use Rattle.std.proofs.Common.{◌≡◌, ◌∙◌, ℕ, List, Some, false, length, sym}
 use Rattle.std.proofs.lemmas.List as lists
 use Rattle.std.proofs.lemmas.Result.{err_from_is_err_and}
 use Rattle.clause_pool.specs.Interned.{clauses_at}

@@ -1,4 +1,4 @@
-use Rattle.std.proofs.Common.{◌≡◌, ◌++◌, ◌∙◌, ◌∷◌, [], ap, ap₂, append-nil, cond, false, get_or, sym, true}
+use Rattle.std.proofs.Common.{◌≡◌, ◌++◌, ◌∙◌, ◌∷◌, [], ap, ap₂, append-nil, cond, get_or, sym}
 use Rattle.std.proofs.lemmas.List.Elements.{filter_more}
 use Rattle.row_book.specs.Holders.{is_user}
 use Rattle.row_book.proofs.clause_table.users_still.Goals as goal

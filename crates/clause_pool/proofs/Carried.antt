@@ -11,7 +11,7 @@ use Rattle.clause_pool.specs.Interned.{Interned, IsPool, Kept, Gains, clause_at,
 use Rattle.clause_pool.specs.Compacting.{Adds, AddsOnly, AreCarried, RowsOf, StandsFor}
 use Rattle.clause_pool.proofs.Carrying.{In_either}
 use Rattle.clause_pool.proofs.Interned.{kept_along, kept_same, row_stays}
-use Rattle.clause_pool.proofs.Lists.{In_at, In_cases, In_none, In_place}
+use Rattle.clause_pool.proofs.Lists.{In_at, In_none, In_place}
 use Rattle.clause_pool.proofs.Moved.{In_map}
 
 pub next_rows : (pool : Interned) (rows : List ℕ) (i row : ℕ) → i < length rows → row ≡ get_or rows i row → map (row_at pool) (take (i + 1) rows) ≡ map (row_at pool) (take i rows) ++ row_at pool row ∷ []

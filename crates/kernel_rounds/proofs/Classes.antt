@@ -1,14 +1,13 @@
 -- The classes of a kernel: each package is of one, each has a package, and there are no more of them than packages. And the
 -- package that is named where a round passes the clause limit.
-use Rattle.std.proofs.Common.{◌≡◌, ℕ, zero, suc, ◌+◌, ◌<◌, ◌≤◌, Bool, true, false, cond, eqb, List, [], ◌∷◌, length, map, filter, Option, Some, None, refl, sym, ◌∙◌, ap, subst, arith, inl, inr, eq-eqb}
+use Rattle.std.proofs.Common.{◌≡◌, ℕ, zero, suc, ◌+◌, ◌<◌, ◌≤◌, Bool, true, false, cond, eqb, List, [], ◌∷◌, length, map, Option, Some, None, refl, sym, ◌∙◌, ap, subst, arith, inl, inr, eq-eqb}
 use Rattle.std.specs.Prelude.{ltb}
 use Rattle.std.specs.List.{find}
 use Rattle.std.specs.Option.{option_map}
 use Rattle.std.proofs.lemmas.List.{length-map}
-use Rattle.listed.proofs.Lists.{filter_short}
 use Rattle.row_book.specs.Clauses.{numbers}
 use Rattle.row_book.specs.Flattening.{Passed, first_some, flat, packages, passed_at, passes, remaining_after, row_length}
-use Rattle.row_book.specs.Merging.{class_of, first_of, firsts, is_first, place_of}
+use Rattle.row_book.specs.Merging.{class_of, first_of, firsts, place_of}
 use Rattle.row_book.specs.Pruning.{prune}
 use Rattle.row_book.specs.Repository.{Repository}
 use Rattle.row_book.specs.Rounds.{PassedRound, class_after, in_round, least_member, limit_at, passed_in_round, round, round_count, rounds}

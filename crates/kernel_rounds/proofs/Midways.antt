@@ -19,8 +19,7 @@ use Rattle.row_book.specs.Book.{repository_of, IsSameBook, Sound}
 use Rattle.row_book.specs.Sound.{SoundRepository}
 use Rattle.row_book.specs.Flattening.{flat, first_some, held_of, packages, Passed, passes}
 use Rattle.row_book.specs.Merging.{class_list, class_of, quotient, place_of}
-use Rattle.row_book.specs.Pruning.{IdleClause, idle_steps, prune}
-use Rattle.row_book.specs.Thinning.{thin}
+use Rattle.row_book.specs.Pruning.{IdleClause, idle_steps}
 use Rattle.row_book.specs.Rounds.{is_same_repository, RoundStep, FlatStep, IdleStep, MergeStep, round, rounds, round_steps, round_count, class_after, steps_after, in_round, limit_at, passed_in_round}
 use Rattle.row_book.specs.Trail.{SoundStep, SoundSteps, trail_meaning, step_meaning}
 use Rattle.row_book.proofs.BookRepositories.{book_size}
@@ -29,7 +28,6 @@ use Rattle.row_book.proofs.Lists.{In_append_cases, In_cases, In_none}
 use Rattle.row_book.proofs.Order.{length_numbers, map_same, numbers_parts}
 use Rattle.row_book.proofs.Repositories.{of_packages}
 use Rattle.class_merge.specs.Classes.{class_in}
-use Rattle.class_merge.proofs.Classes.{has_class_lem}
 use Rattle.class_merge.proofs.MergedRows.{class_at}
 use Rattle.kernel_rounds.specs.declared.error.RoundError.{RoundError}
 use Rattle.kernel_rounds.specs.declared.error.RoundError.TheVariants.{Limit, Memory}
@@ -37,7 +35,6 @@ use Rattle.kernel_rounds.specs.Extracting.{HasStepsBefore, IsMidway, IsReached, 
 use Rattle.kernel_rounds.specs.Moving.{HasSteps}
 use Rattle.kernel_rounds.proofs.Flattened.{flat_size}
 use Rattle.kernel_rounds.proofs.Reached.{kernel_is_lem, repository_test, rounds_sound, same_from}
-use Rattle.kernel_rounds.proofs.Tails.{round_size, thin_tail}
 use Rattle.kernel_rounds.proofs.Classes.{class_within}
 
 -- the last of some rounds

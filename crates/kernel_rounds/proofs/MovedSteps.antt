@@ -1,7 +1,7 @@
 -- Steps whose books come into another pool, and what is left of a pool.
-use Rattle.std.proofs.Common.{◌≡◌, ℕ, Bool, ◌<◌, ◌+◌, List, [], ◌∷◌, ◌++◌, inl, inr, refl, sym, ◌∙◌, ap, ap₂, subst, length, get_or, take, drop, map, append_assoc, append-nil}
+use Rattle.std.proofs.Common.{◌≡◌, ℕ, Bool, ◌<◌, ◌+◌, List, [], ◌∷◌, ◌++◌, inl, inr, refl, sym, ◌∙◌, ap, ap₂, subst, length, get_or, take, map, append_assoc, append-nil, Option}
 use Rattle.std.proofs.lemmas.Bool.{cases_lt}
-use Rattle.std.proofs.lemmas.List.{map-append, take_more, take-append-drop}
+use Rattle.std.proofs.lemmas.List.{map-append, take_more}
 use Rattle.clause_pool.specs.Interned.{Interned, IsPool, Kept, clause_at, ids_at, row_at}
 use Rattle.clause_pool.specs.Compacting.{Compacts, Renames, RowsOf}
 use Rattle.clause_pool.proofs.Interned.{kept_along}
@@ -98,7 +98,7 @@ live_same old new book moved steps more e f =
     ∙ sym (map-append (row_at old) book.rows (trail_rows steps))
 
 -- what a compaction leaves is the rows of whatever stands for the live ones
-pub only_live : (old new : Interned) (live remap moved : List ℕ) → IsPool new → Compacts old live remap new → map (row_at new) moved ≡ map (row_at old) live →
+pub only_live : (old new : Interned) (live : List ℕ) (remap : List (Option ℕ)) (moved : List ℕ) → IsPool new → Compacts old live remap new → map (row_at new) moved ≡ map (row_at old) live →
     ((id : ℕ) → In id moved → id < length new.rows) → HasOnly new moved
 only_live old new live remap moved is k same within =
     let twin : (row : ℕ) → In row live → (id : ℕ) × In id moved × (row_at old row ≡ row_at new id) =

@@ -1,6 +1,6 @@
 -- Books whose rows come into another pool.
 use Rattle.std.proofs.Common.{◌≡◌, ℕ, ◌<◌, ◌+◌, List, [], ◌∷◌, ◌++◌, refl, sym, ◌∙◌, ap, ap₂, subst, length, get_or, take, map, length-append}
-use Rattle.std.specs.Prelude.{Result, Ok, Err, IfOk}
+use Rattle.std.specs.Prelude.{Option, Result, Ok, Err, IfOk}
 use Rattle.std.proofs.lemmas.List.{length-map, map-append}
 use Rattle.clause_pool.proofs.Carried.{next_rows, one_more}
 use Rattle.clause_pool.specs.Interned.{Interned, IsPool, row_at}
@@ -40,12 +40,12 @@ ok_both P Q R (Ok b) f p q = f b p q
 ok_both P Q R (Err e) f p q = tt
 
 -- each of these rows was renamed
-pub record RenamedTo (remap rows made : List ℕ) (i : ℕ) : Type 0 where
+pub record RenamedTo (remap : List (Option ℕ)) (rows made : List ℕ) (i : ℕ) : Type 0 where
   pub size : length made ≡ i
   pub each : (old new : Interned) (live : List ℕ) → Compacts old live remap new →
       (map (row_at new) made ≡ map (row_at old) (take i rows)) × ((id : ℕ) → In id made → id < length new.rows)
 
-pub renamed_none : (remap rows made : List ℕ) → made ≡ [] → RenamedTo remap rows made 0
+pub renamed_none : (remap : List (Option ℕ)) (rows made : List ℕ) → made ≡ [] → RenamedTo remap rows made 0
 renamed_none remap rows made e = record {
   size = ap length e;
   each = λ old new live k. (ap (map (row_at new)) e ∙ sym (ap (map (row_at old)) (take_none rows)), λ id i. absurd (In_none (subst (λ z. In id z) e i)));
@@ -55,7 +55,7 @@ renamed_none remap rows made e = record {
     take_none [] = refl
     take_none (x ∷ xs) = refl
 
-pub renamed_more : (remap rows made more : List ℕ) (i row new_row : ℕ) → i < length rows → row ≡ get_or rows i row → Renames remap row new_row → more ≡ made ++ new_row ∷ [] →
+pub renamed_more : (remap : List (Option ℕ)) (rows made more : List ℕ) (i row new_row : ℕ) → i < length rows → row ≡ get_or rows i row → Renames remap row new_row → more ≡ made ++ new_row ∷ [] →
     RenamedTo remap rows made i → RenamedTo remap rows more (i + 1)
 renamed_more remap rows made more i row new_row l e r is done = record {
   size = ap length is ∙ length-append made (new_row ∷ []) ∙ ap (λ n. n + 1) done.size;

@@ -1,7 +1,9 @@
 //! Flattening of a book.
+//!
+//! Until the end a row is a list of the ids of its clauses, in no pool: one that is rewritten many times would leave as many rows there.
 ghost use Rattle.std.specs.Prelude.{◌≡◌, ◌<◌, ◌≤◌, ℕ, ◌&&◌, ltb, false, None, Some, IfOk, IfErr, OnOk, length, map, replicate, slice_set};
 ghost use Rattle.std.specs.List.{filter};
-ghost use Rattle.clause_pool.specs.Interned.{clauses_at, row_at, Kept, OfPool};
+ghost use Rattle.clause_pool.specs.Interned.{clauses_at, row_at, Interned, Kept, OfPool};
 ghost use Rattle.row_book.specs.Book.{repository_of, AreConflicts, RowsFit, Sound};
 ghost use Rattle.row_book.specs.Clauses.{numbers, InOrder};
 ghost use Rattle.row_book.specs.Flags.{flag};
@@ -25,21 +27,15 @@ use row_book::{Book, ClauseTable, IdList, NumList};
 use std::alloc::{AllocError, Global};
 
 /// The packages without conflicts, each filed under the number of clauses of its row.
-fn waiting_in(
-    alloc: Global,
-    pool: &Pool,
-    rows: &[IdList],
-    book: &Book,
-) -> Result<Waiting, AllocError>
-    requires fit { ListsFit pool.now rows.now }
-    requires size { length rows.now ≡ length book.now.rows }
-    ensures { IfOk result (λ waiting. Filed waiting (λ q. ltb q (length book.now.rows) && is_free book.now.conflicts q)
-        (length_in (table_of pool.now rows.now))) }
+fn waiting_in(alloc: Global, rows: &[IdList], book: &Book) -> Result<Waiting, AllocError>
+    requires { length rows.now ≡ length book.now.rows }
+    ensures { IfOk result (λ waiting. (pool : Interned) → Filed waiting (λ q. ltb q (length book.now.rows) && is_free book.now.conflicts q)
+        (length_in (table_of pool rows.now))) }
 {
     let mut waiting = Waiting::with_room(alloc, book.size())?;
     for number in 0..book.size() {
         if book.against(number).is_empty() {
-            waiting.put(number, clauses_in(pool, rows, number));
+            waiting.put(number, clauses_in(rows, number));
         }
     }
     Ok(waiting)
@@ -170,15 +166,15 @@ pub fn flatten(
     ensures kept { Kept pool.old pool.new }
 {
     let mut lists = tidy_rows(alloc, pool, book.rows.as_slice())?;
-    if let Some(number) = least_over(pool, lists.as_slice(), limit) {
+    if let Some(number) = least_over(lists.as_slice(), limit) {
         return Err(FlatError::Limit {
             gone: 0,
             package: number,
-            count: clauses_in(pool, lists.as_slice(), number),
+            count: clauses_in(lists.as_slice(), number),
         });
     }
     let mut uses = ClauseTable::of(alloc, pool, lists.as_slice())?;
-    let waiting = waiting_in(alloc, pool, lists.as_slice(), book)?;
+    let waiting = waiting_in(alloc, lists.as_slice(), book)?;
     let rule = Rule { limit, hold };
     let flags = take_all_out(
         alloc,

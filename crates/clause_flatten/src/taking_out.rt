@@ -4,10 +4,9 @@
 //! looked at, ascending, so the first over the limit is the least.
 ghost use Rattle.std.specs.Prelude.{◌≡◌, ◌<◌, ◌≤◌, ◌&&◌, ℕ, Bool, false, cond, Some, IfOk, IfErr, OnOk, length};
 ghost use Rattle.std.specs.List.{find};
-ghost use Rattle.clause_pool.specs.Interned.{Kept};
+ghost use Rattle.clause_pool.specs.Interned.{Interned, Kept};
 ghost use Rattle.row_book.specs.Sets.{In};
 ghost use Rattle.row_book.specs.Clauses.{numbers, Ascending};
-ghost use Rattle.row_book.specs.Holders.{ListsFit};
 ghost use Rattle.row_book.specs.Flattening.{passed_by};
 ghost use Rattle.clause_flatten.specs.Ready.{table_of, AreReady};
 ghost use Rattle.clause_flatten.specs.Substitution.{table_without, table_passes, length_in};
@@ -24,32 +23,29 @@ use row_book::{ClauseTable, IdList};
 use std::alloc::{AllocError, Global};
 
 /// The number of clauses in the row of a package.
-pub(crate) fn clauses_in(pool: &Pool, rows: &[IdList], number: u32) -> u64
-    requires fit { ListsFit pool.now rows.now }
-    requires there { number < length rows.now }
-    ensures count { result ≡ length_in (table_of pool.now rows.now) number }
+pub(crate) fn clauses_in(rows: &[IdList], number: u32) -> u64
+    requires { number < length rows.now }
+    ensures count { (pool : Interned) → result ≡ length_in (table_of pool rows.now) number }
     ensures few { result < never }
 {
     rows[number as usize].as_slice().len() as u64
 }
 
 /// Whether the row of a package has more clauses than the limit allows.
-fn is_over(pool: &Pool, rows: &[IdList], number: u32, limit: u32) -> bool
-    requires fit { ListsFit pool.now rows.now }
-    requires there { number < length rows.now }
-    ensures { result ≡ is_over (table_of pool.now rows.now) limit number }
+fn is_over(rows: &[IdList], number: u32, limit: u32) -> bool
+    requires { number < length rows.now }
+    ensures { (pool : Interned) → result ≡ is_over (table_of pool rows.now) limit number }
 {
-    u64::from(limit) < clauses_in(pool, rows, number)
+    u64::from(limit) < clauses_in(rows, number)
 }
 
 /// The first of the packages whose row has more clauses than the limit allows.
-fn first_over(pool: &Pool, rows: &[IdList], packages: &[u32], limit: u32) -> Option<u32>
-    requires fit { ListsFit pool.now rows.now }
-    requires packages { (q : ℕ) → In q packages.now → q < length rows.now }
-    ensures { result ≡ find (is_over (table_of pool.now rows.now) limit) packages.now }
+fn first_over(rows: &[IdList], packages: &[u32], limit: u32) -> Option<u32>
+    requires { (q : ℕ) → In q packages.now → q < length rows.now }
+    ensures { (pool : Interned) → result ≡ find (is_over (table_of pool rows.now) limit) packages.now }
 {
     for number in packages {
-        if is_over(pool, rows, *number, limit) {
+        if is_over(rows, *number, limit) {
             return Some(*number);
         }
     }
@@ -57,13 +53,12 @@ fn first_over(pool: &Pool, rows: &[IdList], packages: &[u32], limit: u32) -> Opt
 }
 
 /// The least package whose row has more clauses than the limit allows.
-pub(crate) fn least_over(pool: &Pool, rows: &[IdList], limit: u32) -> Option<u32>
-    requires few { length rows.now < u32.MAX }
-    requires fit { ListsFit pool.now rows.now }
-    ensures { result ≡ find (is_over (table_of pool.now rows.now) limit) (numbers (length rows.now) 0) }
+pub(crate) fn least_over(rows: &[IdList], limit: u32) -> Option<u32>
+    requires { length rows.now < u32.MAX }
+    ensures { (pool : Interned) → result ≡ find (is_over (table_of pool rows.now) limit) (numbers (length rows.now) 0) }
 {
     for number in 0..rows.len() as u32 {
-        if is_over(pool, rows, number, limit) {
+        if is_over(rows, number, limit) {
             return Some(number);
         }
     }
@@ -71,14 +66,13 @@ pub(crate) fn least_over(pool: &Pool, rows: &[IdList], limit: u32) -> Option<u32
 }
 
 /// Files the packages that wait under the numbers of clauses of their rows.
-fn file_users(pool: &Pool, rows: &[IdList], users: &[u32], waiting: &mut Waiting)
-    requires fit { ListsFit pool.now rows.now }
-    requires users { (q : ℕ) → In q users.now → q < length rows.now }
-    ensures { (may : ℕ → Bool) (count : ℕ → ℕ) → Filed waiting.old may count →
-        Filed waiting.new may (counted_anew count (table_of pool.now rows.now) users.now) }
+fn file_users(rows: &[IdList], users: &[u32], waiting: &mut Waiting)
+    requires { (q : ℕ) → In q users.now → q < length rows.now }
+    ensures { (pool : Interned) (may : ℕ → Bool) (count : ℕ → ℕ) → Filed waiting.old may count →
+        Filed waiting.new may (counted_anew count (table_of pool rows.now) users.now) }
 {
     for user in users {
-        waiting.file_again(*user, clauses_in(pool, rows, *user));
+        waiting.file_again(*user, clauses_in(rows, *user));
     }
 }
 
@@ -174,14 +168,14 @@ pub(crate) fn take_out(
 {
     let users = uses.users(alloc, pool, rows, step.next)?;
     change_rows(alloc, pool, rows, uses, users.as_slice(), step.next)?;
-    if let Some(over) = first_over(pool, rows, users.as_slice(), step.limit) {
+    if let Some(over) = first_over(rows, users.as_slice(), step.limit) {
         return Err(FlatError::Limit {
             gone: step.gone,
             package: over,
-            count: clauses_in(pool, rows, over),
+            count: clauses_in(rows, over),
         });
     }
-    file_users(pool, rows, users.as_slice(), waiting);
+    file_users(rows, users.as_slice(), waiting);
     // No row holds the package any more. Else each other member of its clauses would go through all their users again.
     uses.forget(step.next);
     Ok(())

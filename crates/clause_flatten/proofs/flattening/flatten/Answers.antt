@@ -18,19 +18,19 @@ use Rattle.clause_flatten.proofs.Running.{first_passed, found_below}
 use Rattle.clause_flatten.proofs.Runs.{none_over}
 use Rattle.clause_flatten.proofs.flattening.flatten.Goals as goal
 
-pub clauses_in-requires-clause-there : goal.clauses_in-requires-clause-there
-clauses_in-requires-clause-there c =
+pub clauses_in-requires : goal.clauses_in-requires
+clauses_in-requires c =
     let e : c.as_slice-2.result.now ≡ c.as_slice-in-Some.result.now = c.as_slice-2.ensures.value ∙ sym c.as_slice-in-Some.ensures.value in
     subst (λ xs. c.in-Some.number < length xs) e
-    (found_below (is_over (table_of c.args.pool.now c.as_slice-2.result.now) c.args.limit) (length c.as_slice-2.result.now) c.in-Some.number (sym c.in-Some.ensures))
+    (found_below (is_over (table_of c.args.pool.now c.as_slice-2.result.now) c.args.limit) (length c.as_slice-2.result.now) c.in-Some.number (sym (c.in-Some.ensures c.args.pool.now)))
 
 pub returns-in-Some-clause-passed : goal.returns-in-Some-clause-passed
 returns-in-Some-clause-passed c =
     first_passed c.args.pool.now c.args.book.now c.in_ok-lists.lists.items c.args.limit c.args.hold c.in-Some.number c.clauses_in.result
     c.requires.sound.rows.is_pool c.requires.sound
     (c.in_ok-lists.ensures.tidied ∙ ap (λ xs. tidied_table (map (row_at c.args.pool.now) xs)) c.as_slice.ensures)
-    (subst (λ xs. find (is_over (table_of c.args.pool.now xs) c.args.limit) (numbers (length xs) 0) ≡ Some c.in-Some.number) c.as_slice-2.ensures.value (sym c.in-Some.ensures))
-    (c.clauses_in.ensures.count ∙ ap (λ xs. length_in (table_of c.args.pool.now xs) c.in-Some.number) c.as_slice-in-Some.ensures.value)
+    (subst (λ xs. find (is_over (table_of c.args.pool.now xs) c.args.limit) (numbers (length xs) 0) ≡ Some c.in-Some.number) c.as_slice-2.ensures.value (sym (c.in-Some.ensures c.args.pool.now)))
+    (c.clauses_in.ensures.count c.args.pool.now ∙ ap (λ xs. length_in (table_of c.args.pool.now xs) c.in-Some.number) c.as_slice-in-Some.ensures.value)
 
 pub take_all_out-requires-clause-first : goal.take_all_out-requires-clause-first
 take_all_out-requires-clause-first c =
@@ -49,13 +49,13 @@ take_all_out-requires-clause-ready c =
 pub take_all_out-requires-clause-waiting : goal.take_all_out-requires-clause-waiting
 take_all_out-requires-clause-waiting c =
     subst (λ xs. Filed c.in_ok-waiting.waiting (λ q. ltb q (length c.args.book.now.rows) && is_free c.args.book.now.conflicts q) (length_in (table_of c.args.pool.now xs)))
-    (c.as_slice-4.ensures.value ∙ sym c.as_mut_slice.ensures.value) c.in_ok-waiting.ensures
+    (c.as_slice-4.ensures.value ∙ sym c.as_mut_slice.ensures.value) (c.in_ok-waiting.ensures c.args.pool.now)
 
 pub take_all_out-requires-clause-within : goal.take_all_out-requires-clause-within
 take_all_out-requires-clause-within c =
     subst (λ xs. (p : ℕ) → p < length xs → length_in (table_of c.args.pool.now xs) p ≤ c.args.limit)
     (c.as_slice-2.ensures.value ∙ sym c.as_mut_slice.ensures.value)
-    (none_over (table_of c.args.pool.now c.as_slice-2.result.now) c.args.limit (length c.as_slice-2.result.now) (sym c.in_default.ensures))
+    (none_over (table_of c.args.pool.now c.as_slice-2.result.now) c.args.limit (length c.as_slice-2.result.now) (sym (c.in_default.ensures c.args.pool.now)))
 
 pub put_rows-requires : goal.put_rows-requires
 put_rows-requires c =

@@ -10,9 +10,9 @@ use Rattle.clause_flatten.proofs.flattening.waiting_in.Goals.{then-is_empty, els
 pub loop-number-init : goal.loop-number-init
 loop-number-init c = record {
   room = omega (arith, c.in_ok-waiting.ensures.room);
-  filed =
-      waiting_none c.in_ok-waiting.waiting c.args.book.now.conflicts (length_in (table_of c.args.pool.now c.args.rows.now))
-      (c.in_ok-waiting.ensures.none (length_in (table_of c.args.pool.now c.args.rows.now)));
+  filed = λ pool.
+      waiting_none c.in_ok-waiting.waiting c.args.book.now.conflicts (length_in (table_of pool c.args.rows.now))
+      (c.in_ok-waiting.ensures.none (length_in (table_of pool c.args.rows.now)));
 }
 
 pub put-requires-clause-room : goal.put-requires-clause-room
@@ -26,19 +26,24 @@ loop-number-preserved c =
           ap (λ xs. eqb (length xs) 0) (sym c.against.ensures) ∙ sym c.is_empty.ensures ∙ w.if-is_empty.true in
           record {
             room = subst (λ x. length c.args.book.now.rows ≤ length x) (sym w.waiting-is) (subst (λ n. length c.args.book.now.rows ≤ n) (sym w.put.ensures.room) c.loop-number.invariant.room);
-            filed =
-                subst (λ x. Filed x (λ q. ltb q (c.loop-number.number + 1) && is_free c.args.book.now.conflicts q) (length_in (table_of c.args.pool.now c.args.rows.now))) (sym w.waiting-is)
-                (waiting_more w.put.new.self c.args.book.now.conflicts (length_in (table_of c.args.pool.now c.args.rows.now)) c.loop-number.number free
-                (w.put.ensures.filed (λ q. ltb q c.loop-number.number && is_free c.args.book.now.conflicts q) (length_in (table_of c.args.pool.now c.args.rows.now))
-                c.loop-number.invariant.filed (sym w.clauses_in.ensures.count)));
+            filed = λ pool.
+                subst (λ x. Filed x (λ q. ltb q (c.loop-number.number + 1) && is_free c.args.book.now.conflicts q) (length_in (table_of pool c.args.rows.now))) (sym w.waiting-is)
+                (waiting_more w.put.new.self c.args.book.now.conflicts (length_in (table_of pool c.args.rows.now)) c.loop-number.number free
+                (w.put.ensures.filed (λ q. ltb q c.loop-number.number && is_free c.args.book.now.conflicts q) (length_in (table_of pool c.args.rows.now))
+                (c.loop-number.invariant.filed pool) (sym (w.clauses_in.ensures.count pool))));
           }
       | else-is_empty w ↦
           let free : is_free c.args.book.now.conflicts c.loop-number.number ≡ false =
           ap (λ xs. eqb (length xs) 0) (sym c.against.ensures) ∙ sym c.is_empty.ensures ∙ w.if-is_empty.false in
           record {
             room = subst (λ x. length c.args.book.now.rows ≤ length x) (sym w.waiting-is) c.loop-number.invariant.room;
-            filed =
-                subst (λ x. Filed x (λ q. ltb q (c.loop-number.number + 1) && is_free c.args.book.now.conflicts q) (length_in (table_of c.args.pool.now c.args.rows.now))) (sym w.waiting-is)
-                (waiting_same c.loop-number.waiting c.args.book.now.conflicts (length_in (table_of c.args.pool.now c.args.rows.now)) c.loop-number.number free c.loop-number.invariant.filed);
+            filed = λ pool.
+                subst (λ x. Filed x (λ q. ltb q (c.loop-number.number + 1) && is_free c.args.book.now.conflicts q) (length_in (table_of pool c.args.rows.now))) (sym w.waiting-is)
+                (waiting_same c.loop-number.waiting c.args.book.now.conflicts (length_in (table_of pool c.args.rows.now)) c.loop-number.number free (c.loop-number.invariant.filed pool));
           }
     ]
+
+pub returns : goal.returns
+returns c pool =
+    let all : c.loop-number.number ≡ length c.args.book.now.rows = omega arith in
+    subst (λ n. Filed c.loop-number.waiting (λ q. ltb q n && is_free c.args.book.now.conflicts q) (length_in (table_of pool c.args.rows.now))) all (c.loop-number.invariant.filed pool)

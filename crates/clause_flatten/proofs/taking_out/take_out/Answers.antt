@@ -10,19 +10,19 @@ use Rattle.clause_flatten.proofs.UserRows.{filed_after, over_all}
 use Rattle.clause_flatten.proofs.WorkedRows.{none_left, users_below}
 use Rattle.clause_flatten.proofs.taking_out.take_out.Goals as goal
 
-pub first_over-requires-clause-packages : goal.first_over-requires-clause-packages
-first_over-requires-clause-packages c q i =
+pub first_over-requires : goal.first_over-requires
+first_over-requires c q i =
     let l : q < length c.args.rows.now =
     users_below c.args.pool.now c.args.rows.now c.args.step.next c.as_slice-2.result.now
     (c.as_slice-2.ensures.value ∙ c.in_ok-users.ensures c.requires.ready.table) q i in
     omega arith
 
-pub clauses_in-requires-clause-there : goal.clauses_in-requires-clause-there
-clauses_in-requires-clause-there c =
+pub clauses_in-requires : goal.clauses_in-requires
+clauses_in-requires c =
     let l : c.in-Some.over < length c.args.rows.now =
     users_below c.args.pool.now c.args.rows.now c.args.step.next c.as_slice-2.result.now
     (c.as_slice-2.ensures.value ∙ c.in_ok-users.ensures c.requires.ready.table) c.in-Some.over
-    (find_some (is_over (table_of c.change_rows.new.pool c.change_rows.new.rows) c.args.step.limit) c.as_slice-2.result.now c.in-Some.over (sym c.in-Some.ensures)).0 in
+    (find_some (is_over (table_of c.change_rows.new.pool c.change_rows.new.rows) c.args.step.limit) c.as_slice-2.result.now c.in-Some.over (sym (c.in-Some.ensures c.change_rows.new.pool))).0 in
     omega arith
 
 pub returns-in-Some-clause-passed : goal.returns-in-Some-clause-passed
@@ -34,11 +34,11 @@ returns-in-Some-clause-passed c =
     (c.as_slice-2.ensures.value ∙ c.in_ok-users.ensures c.requires.ready.table)
     c.requires.ready.fit c.requires.ready.tidy c.args.step.limit c.requires.within
     ∙ ap (λ t. find (is_over t c.args.step.limit) c.as_slice-2.result.now) (sym made)
-    ∙ sym c.in-Some.ensures)
-    (c.clauses_in.ensures.count ∙ ap (λ t. length_in t c.in-Some.over) made)
+    ∙ sym (c.in-Some.ensures c.change_rows.new.pool))
+    (c.clauses_in.ensures.count c.change_rows.new.pool ∙ ap (λ t. length_in t c.in-Some.over) made)
 
-pub file_users-requires-clause-users : goal.file_users-requires-clause-users
-file_users-requires-clause-users c q i =
+pub file_users-requires : goal.file_users-requires
+file_users-requires c q i =
     let l : q < length c.args.rows.now =
     users_below c.args.pool.now c.args.rows.now c.args.step.next c.as_slice-3.result.now
     (c.as_slice-3.ensures.value ∙ c.in_ok-users.ensures c.requires.ready.table) q i in
@@ -53,14 +53,14 @@ returns-clause-within c =
     (c.as_slice-2.ensures.value ∙ c.in_ok-users.ensures c.requires.ready.table)
     c.requires.ready.fit c.requires.ready.tidy c.args.step.limit c.requires.within
     ∙ ap (λ t. find (is_over t c.args.step.limit) c.as_slice-2.result.now) (sym made)
-    ∙ sym c.in_default.ensures)
+    ∙ sym (c.in_default.ensures c.change_rows.new.pool))
 
 pub returns-clause-filed : goal.returns-clause-filed
 returns-clause-filed c may d =
     filed_after c.args.pool.now c.args.rows.now c.args.step.next c.requires.there c.as_slice-3.result.now
     (c.as_slice-3.ensures.value ∙ c.in_ok-users.ensures c.requires.ready.table)
     c.requires.ready.fit c.requires.ready.tidy c.file_users.new.waiting may (table_of c.change_rows.new.pool c.change_rows.new.rows) c.in_ok-change_rows.ensures.ok
-    (c.file_users.ensures may (length_in (table_of c.args.pool.now c.args.rows.now)) d)
+    (c.file_users.ensures c.change_rows.new.pool may (length_in (table_of c.args.pool.now c.args.rows.now)) d)
 
 pub change_rows-requires-clause-users : goal.change_rows-requires-clause-users
 change_rows-requires-clause-users c = c.as_slice.ensures.value ∙ c.in_ok-users.ensures c.requires.ready.table

@@ -36,8 +36,8 @@ use Rattle.suite_compare.specs.Answering.{unknown_goal}
 use Rattle.suite_compare.specs.Asking.{HasVerdict, asked_tree, verdict_in, wanted_by}
 use Rattle.suite_compare.proofs.Deciding.{named_from, named_parts, verdict_is_judged}
 use Rattle.suite_compare.specs.Refusals.{home_in, packages_in}
-use Rattle.coinst_run.specs.declared.answer.Verdict.{Verdict}
-use Rattle.coinst_run.specs.declared.answer.Verdict.TheVariants.{Done, Negative, Undecided}
+use Rattle.coinst_run.specs.declared.answer.ReportVerdict.{ReportVerdict}
+use Rattle.coinst_run.specs.declared.answer.ReportVerdict.TheVariants.{Done, Negative, Undecided}
 use Rattle.coinst_run.specs.Answer.{reported}
 use Rattle.coinst_run.specs.Explain.{explain_answer, explained_by_unknown, explanation_answer, goals_explained}
 use Rattle.coinst_run.specs.ExplainMeaning.{AreEnough, CoinstButFor, ExplainIsMeant, ExplainMeans, HealthyButFor, MeansExplained}
@@ -138,14 +138,14 @@ module _ (home : Home) (stanzas : List PackageFacts) where
   some_enough goals (Some clashes) conflicts reasons = enough_from goals clashes conflicts reasons
 
 -- the report on goals in a text
-module _ (text : List ℕ) (goals : List Goal) (budget limit : ℕ) (hold : Bool) (verdict : Verdict) (report : List ℕ) where
+module _ (text : List ℕ) (goals : List Goal) (budget limit : ℕ) (hold : Bool) (verdict : ReportVerdict) (report : List ℕ) where
   abbrev told_home : Home
   told_home = home_in text
 
   abbrev told_stanzas : List PackageFacts
   told_stanzas = packages_in text
 
-  means_as : (told : Verdict) (bytes : List ℕ) → reported told bytes ≡ reported verdict report → MeansExplained text goals budget limit hold told bytes → MeansExplained text goals budget limit hold verdict report
+  means_as : (told : ReportVerdict) (bytes : List ℕ) → reported told bytes ≡ reported verdict report → MeansExplained text goals budget limit hold told bytes → MeansExplained text goals budget limit hold verdict report
   means_as told bytes e m =
       let v : told ≡ verdict = cc in
       let b : bytes ≡ report = cc in

@@ -1,9 +1,10 @@
 #!/usr/bin/env python3
-"""Writes the table of compared versions into the tests of crates/cases_texts, by asking dpkg.
+"""Writes what `tool_versions` is run on by the gate, and what it has to answer, by asking dpkg.
 
     tools/version_pairs.py
 
-Each line of the table is `LEFT SIGN RIGHT`. The test reads the table and needs no dpkg.
+Each two versions of a group are compared, in both orders. Where dpkg warns or refuses, the answers stand here. The gate needs no
+dpkg.
 """
 
 import itertools
@@ -13,7 +14,7 @@ import sys
 sys.dont_write_bytecode = True
 import dpkg
 
-TARGET = os.path.join(os.path.dirname(os.path.abspath(__file__)), "../crates/cases_texts/src/versions/pairs.rt")
+TARGET = os.path.join(os.path.dirname(os.path.abspath(__file__)), "../crates/tool_versions")
 
 # Groups within which each two versions are compared.
 GROUPS = {
@@ -29,24 +30,47 @@ GROUPS = {
     "long runs and long parts": "1" + "0" * 60 + " 0" + "9" * 60 + " 1" + "0" * 59 + "1 1." + "a1" * 20 + " 1." + "a1" * 19 + "a2 1." + "a01" * 20,
 }
 
+# Where the grammar is wider than dpkg's, or dpkg warns: an upstream part that begins with no digit, an epoch of any length, and a colon
+# in the upstream part after an epoch.
+WIDER = """\
+a < b
+~1 < 1
++1 > 1
+99999999999999999999:0 > 9:1
+0099999999999999999999:1 = 99999999999999999999:1-0
+1:2:3 < 1:2:4
+1:2:3-1 > 1:2:3
+"""
 
-def lines_of():
-    for title, group in GROUPS.items():
-        yield title, [f"{left} {dpkg.sign(left, right)} {right}" for left, right in itertools.combinations(group.split(), 2)]
+# Texts that are no versions; the first is empty.
+REFUSED = ["", "1.0-", "-1", "1:", "a:1", ":1", "1:-1", "1:1-", "1-1:1", "1:1-1:1", "1_0", "1-1_", "1/2"]
+
+TURNED = {"<": ">", "=": "=", ">": "<"}
+
+
+def pairs():
+    """Each LEFT, SIGN and RIGHT."""
+    for group in GROUPS.values():
+        for left, right in itertools.combinations(group.split(), 2):
+            yield left, dpkg.sign(left, right), right
+    for line in WIDER.splitlines():
+        yield tuple(line.split())
 
 
 def main():
-    count = 0
-    with open(TARGET, "w", encoding="ascii") as out:
-        out.write("//! Pairs of versions with the sign that dpkg puts between them; tools/version_pairs.py writes this file.\n\n")
-        out.write("/// A line `LEFT SIGN RIGHT` for each pair.\n")
-        out.write("pub(super) const PAIRS: &str = \"\\\n")
-        for title, lines in lines_of():
-            count += len(lines)
-            out.write(f"# {title}\n")
+    asked, signs = [], []
+    for left, sign, right in pairs():
+        asked += [f"{left} {right}", f"{right} {left}"]
+        signs += [sign, TURNED[sign]]
+    for text in REFUSED:
+        asked += [f"{text} 1", f"1 {text}"]
+        signs += ["?", "?"]
+    asked.append("1")
+    signs.append("?")
+    for name, lines in (("stdin", asked), ("stdout", signs)):
+        with open(os.path.join(TARGET, name), "w", encoding="ascii") as out:
             out.writelines(line + "\n" for line in lines)
-        out.write("\";\n")
-    print(f"{count} pairs")
+    print(f"{len(asked)} pairs")
 
 
 if __name__ == "__main__":

@@ -6,13 +6,17 @@ use crate::schedule::Schedule;
 use crate::{Failed, Sink};
 use std::alloc::{AllocError, Global};
 
-/// A sink in memory, on which chosen writes fail and take few bytes at a time.
+/// A sink in memory, whose writes take at most so many bytes each, and of which chosen ones fail.
 #[derive(Drop)]
 pub struct MemSink {
+    // What was taken.
     bytes: Vec<u8>,
+    // How many bytes it takes in all: memory for so many was found before.
     made: u64,
+    // Which of its writes fail.
     schedule: Schedule,
     faults: Count,
+    // How many bytes a write takes at most.
     step: u32,
     ghost has_step: { 0 < step },
     ghost within: { vec_len bytes ≤ made },
@@ -103,6 +107,7 @@ impl Sink for MemSink {
             self.faults.raise();
             return Err(Failed);
         }
+        // Memory for these bytes was found when room was made.
         self.bytes.extend_from_slice(&piece[..count]).unwrap();
         Ok(count)
     }

@@ -60,12 +60,12 @@ pub fn read_file<F: Shelf>(
     ensures whole { IfOk result (λ v. FileIs (F.contents shelf.old) path.now v.items) }
     ensures within { IfOk result (λ v. length v.items ≤ limit) }
 
-    // Too long exactly where the told file is longer than the limit, and only after so many bytes.
+    // `TooLong` comes only after more bytes than the limit; if the shelf tells the file, it is longer than that.
     ensures too_long { IfErr result (OnTooLong (FileIsLonger (F.contents shelf.old) path.now limit)) }
     ensures taken { IfErr result (OnTooLong (limit < F.moved shelf.new)) }
     ensures moved { IfOk result (λ v. F.moved shelf.new ≡ length v.items) }
 
-    // A failed call is told only where the count rose, and on a quiet shelf only where the path is not there.
+    // `Failed` comes only if the count of faults rose, and on a quiet shelf only if the path is not there.
     ensures failed { IfErr result (OnFailed (Rose (F.faults shelf.old) (F.faults shelf.new))) }
     ensures quiet { F.is_quiet shelf.old → IfErr result (OnFailed (LacksFile (F.contents shelf.old) path.now)) }
 

@@ -8,7 +8,7 @@ use Rattle.row_book.specs.Support.{Support, IsRow, supports, is_supported, block
 use Rattle.row_book.specs.Sound.{OfPackages}
 use Rattle.row_book.specs.Flattening.{all_packages}
 use Rattle.row_book.proofs.Lists.{In_cases, In_none, has_In}
-use Rattle.clause_flatten.specs.Substitution.{all_unions_for}
+use Rattle.clause_families.specs.Unions.{all_unions_for}
 use Rattle.clause_flatten.specs.Laws.{FlattenedBy}
 use Rattle.clause_flatten.proofs.Rows.{support_from, support_test, row_is}
 

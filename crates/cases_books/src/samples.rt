@@ -1,8 +1,7 @@
 //! Books of short indexes, and their rows as lists.
-ghost use Rattle.std.specs.Prelude.{◌≡◌, ◌<◌, IfOk, length};
+ghost use Rattle.std.specs.Prelude.{IfOk};
 ghost use Rattle.clause_pool.specs.Interned.{OfPool};
 ghost use Rattle.row_book.specs.Book.{RowsFit, Sound};
-ghost use Rattle.row_book.specs.Uses.{row_id};
 
 use clause_pool::{ClauseId, Pool, RowId};
 use repo_model::{IndexFault, Suite, read_suite};
@@ -10,7 +9,7 @@ use row_book::Book;
 use std::alloc::{AllocError, Global};
 
 /// The suite of a short index, with a slash for each line feed.
-pub(crate) fn suite_of(alloc: Global, text: &str) -> Result<Suite, IndexFault> {
+fn suite_of(alloc: Global, text: &str) -> Result<Suite, IndexFault> {
     let mut index = String::new(alloc);
     for piece in text.chars() {
         index.push(if piece == '/' { '\n' } else { piece })?;
@@ -30,23 +29,8 @@ pub(crate) fn book_of(alloc: Global, pool: &mut Pool, text: &str) -> Result<Book
     Ok(suite.book(alloc, pool)?)
 }
 
-/// The row of a package of a book.
-#[tactic(auto, using(repo_model::proofs::Booked::row_within))]
-pub(crate) fn row_of(pool: &Pool, book: &Book, number: u32) -> RowId
-    requires sound { Sound pool.now book.now }
-    requires below { number < length book.now.rows }
-    ensures id { result ≡ row_id book.now.rows number }
-    ensures within { result < length pool.now.rows }
-{
-    book.row(number)
-}
-
 /// The clauses of the ids.
-pub(crate) fn clauses_in(
-    alloc: Global,
-    pool: &Pool,
-    ids: &[ClauseId],
-) -> Result<Vec<Vec<u32>>, AllocError>
+fn clauses_in(alloc: Global, pool: &Pool, ids: &[ClauseId]) -> Result<Vec<Vec<u32>>, AllocError>
     requires { OfPool pool.now ids.now }
 {
     let mut clauses = Vec::new(alloc);

@@ -118,49 +118,24 @@ fn try_line(rt: &(impl Abort + AllocGlobal), line: &str) -> Result<(), Fail> {
     Ok(())
 }
 
-fn try_lines(rt: &(impl Abort + AllocGlobal), table: &str) -> Result<(), Fail> {
-    for line in table.lines() {
-        try_line(rt, line)?;
+/// A table for each command, and one of words that are no command.
+const TABLES: [&str; 8] = [
+    tables::KERNEL,
+    tables::QUERY,
+    tables::COMPARE,
+    tables::EXPLAIN,
+    tables::STATUS,
+    tables::MIGRATE,
+    tables::SAMPLE,
+    tables::OTHERS,
+];
+
+#[test]
+fn words_give_jobs(rt: HostRuntime) -> Result<(), Fail> {
+    for table in TABLES {
+        for line in table.lines() {
+            try_line(&rt, line)?;
+        }
     }
     Ok(())
-}
-
-#[test]
-fn words_of_kernel(rt: HostRuntime) -> Result<(), Fail> {
-    try_lines(&rt, tables::KERNEL)
-}
-
-#[test]
-fn words_of_query(rt: HostRuntime) -> Result<(), Fail> {
-    try_lines(&rt, tables::QUERY)
-}
-
-#[test]
-fn words_of_compare(rt: HostRuntime) -> Result<(), Fail> {
-    try_lines(&rt, tables::COMPARE)
-}
-
-#[test]
-fn words_of_explain(rt: HostRuntime) -> Result<(), Fail> {
-    try_lines(&rt, tables::EXPLAIN)
-}
-
-#[test]
-fn words_of_status(rt: HostRuntime) -> Result<(), Fail> {
-    try_lines(&rt, tables::STATUS)
-}
-
-#[test]
-fn words_of_migrate(rt: HostRuntime) -> Result<(), Fail> {
-    try_lines(&rt, tables::MIGRATE)
-}
-
-#[test]
-fn words_of_sample(rt: HostRuntime) -> Result<(), Fail> {
-    try_lines(&rt, tables::SAMPLE)
-}
-
-#[test]
-fn words_of_no_command(rt: HostRuntime) -> Result<(), Fail> {
-    try_lines(&rt, tables::OTHERS)
 }

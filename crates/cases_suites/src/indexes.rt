@@ -1,65 +1,34 @@
-//! Indexes with the packages that they have, or with their first faults, read at once and in pieces.
+//! Indexes with the packages that they have, or with their first faults, read at once and in pieces. All faults, of files that are
+//! read in one piece, are cases of `conformance/cases`.
 use crate::lines::unfolded;
 use byte_flow::{MemShelf, feed_file};
-use relation_fields::AtomList;
 use repo_model::{IndexFault, Suite, SuiteFeed, read_suite};
 use std::alloc::{AllocError, Global};
 use std::process::Abort;
 use std::test::Fail;
 
-/// Each line is an index and what it is read as: how many packages there are, each as `[LINE NAME VERSION needs|against|provides]`
-/// with the names of its relations alone, and the architecture; or the first fault.
+/// Each line is an index and what it is read as: how many packages there are, each as `[LINE NAME VERSION]`, and the architecture; or
+/// the first fault.
 const READINGS: &str = "\
-Package: hello/Version: 2.10-3/Architecture: amd64/Multi-Arch: foreign/Depends: libc6 (>= 2.14), python3:any (>= 3.5~)/Description: example/ ./ It is an example.//Package: libc6/Version: 2.36-9+deb12u4/Architecture: amd64//Package: python3/Version: 3.11.2-1+b1/Architecture: all => 3 [1 hello 2.10-3, libc6, python3||][10 libc6 2.36-9+deb12u4||][14 python3 3.11.2-1+b1||] amd64
+Package: hello/Version: 2.10-3/Architecture: amd64/Multi-Arch: foreign/Depends: libc6 (>= 2.14), python3:any (>= 3.5~)/Description: example/ ./ It is an example.//Package: libc6/Version: 2.36-9+deb12u4/Architecture: amd64//Package: python3/Version: 3.11.2-1+b1/Architecture: all => 3 [1 hello 2.10-3][10 libc6 2.36-9+deb12u4][14 python3 3.11.2-1+b1] amd64
  => 0
 / / => 0
-Provides: x, y/Breaks: g/Conflicts: e, f/Depends: c | d/Pre-Depends: a,, b/Version: 1/Package: p/ => 1 [1 p 1, a, b, c d| e f g| x y]
-Package: p/Version: 1/Pre-Depends: ,/Depends: c/Conflicts:/Breaks: b/ => 1 [1 p 1, c| b|]
-Package: a/Version: 1//Package: a/Version: 2/ => 2 [1 a 1||][4 a 2||]
- x/ => line 1: continuation before any field
-Package: a/package: b/ => line 2: field repeated
-Package: a/ => line 1: no Version field
-/Version: 1/Architecture: A => line 2: no Package field
-x: y => line 1: no Package field
-Package: a/Version: 1// //X: y/Version: 1/ => line 6: no Package field
-Package:/Version:/ => line 1: bad Package value
-Version: -/Package: a\r/ => line 2: bad Package value
-Package: a/Version: / => line 2: bad Version value
-Architecture:/Version: 1-/Package: a => line 2: bad Version value
-Package: a/Version: 1/Depends: (/Architecture: AMD => line 4: bad Architecture value
-Package: a/Version: 1/Architecture: => line 3: bad Architecture value
-Package: a/Version: 1/Depends: b (>= 1), c |/ => line 3: bad relation, element 2
-Package: a/Version: 1/Depends: b, , c [amd64],/Pre-Depends:/  x,/ y z/ => line 4: bad relation, element 2
-Package: a/Version: 1/Provides: b (>> 1)/Breaks: a | b/Conflicts: a, b | c => line 5: bad relation, element 2
-Package: a/Version: 1/Provides: b (>> 1)/Breaks: a | b/ => line 4: bad relation, element 1
-Package: a/Version: 1/Provides: b (>> 1)/ => line 3: bad relation, element 1
-Package: a/Version: 1.0//Package: a/Version: 1.0-0/ => line 4: same package as line 1
-Package: a/Version: 1.//Package: b/Version: 1.0//Package: a/Version: 0:01.0/Architecture: amd64//x => line 7: same package as line 1
-X: y/Package: a/Version: 1//X: y/ z/Version: 1/Package: a/ => line 5: same package as line 1
-Package: a/Version: 1/Architecture: amd64//Package: b/Version: 1/Architecture: arm64/ => line 7: second architecture
-Package: a/Version: 1/Architecture: all//Package: b/Version: 1//Package: c/Version: 1/Architecture: arm64//Package: d/Version: 1/Architecture: all/ => 4 [1 a 1||][5 b 1||][8 c 1||][12 d 1||] arm64
-Package: a/Version: 1/Architecture: amd64//Package: a/Version: 01/Architecture: arm64/ => line 5: same package as line 1
-Package: a/Version: 1/Depends: |//no colon/ => line 3: bad relation, element 1
-Package: a/Version: 1//no colon//Package: . => line 4: no colon
 / // => 0
-Package: a/Version: 1/ //Package: b/Version: 2// => 2 [1 a 1||][5 b 2||]
-Package: a/Version: 1///\t/Package: b/Version: 2/Depends: a,/ c | d/Architecture: i386 => 2 [1 a 1||][6 b 2, a, c d||] i386
+Package: a/Version: 1//Package: a/Version: 2/ => 2 [1 a 1][4 a 2]
+Package: a/Version: 1/ //Package: b/Version: 2// => 2 [1 a 1][5 b 2]
+Package: a/Version: 1///\t/Package: b/Version: 2/Depends: a,/ c | d/Architecture: i386 => 2 [1 a 1][6 b 2] i386
+ x/ => line 1: continuation before any field
 x => line 1: no colon
 x//Package: a/Version: 1//Package: a/Version: 1// => line 1: no colon
+Package: a/Version: 1//no colon//Package: . => line 4: no colon
+Package: a/ => line 1: no Version field
+Package: a/Version: 1// //X: y/Version: 1/ => line 6: no Package field
 Package: a/Version: 1///Version: 2//x// => line 5: no Package field
 Package: a/Version: 1//Package: b => line 4: no Version field
 Package: a/Version: 1//Package: b/Version: 1//Package: a/Version: 0:1// => line 7: same package as line 1
 Package: a/Version: 1/Architecture: amd64//Package: b/Version: 1/Architecture: arm64// => line 7: second architecture
 Package: a/Version: 1//Package: b/Version: 1/Depends: a, b |// / => line 6: bad relation, element 2
 ";
-
-fn push_names(out: &mut Vec<u8>, atoms: &AtomList) -> Result<(), AllocError> {
-    for atom in atoms.as_slice() {
-        out.push(b' ')?;
-        out.extend_from_slice(atom.name.as_slice())?;
-    }
-    Ok(())
-}
 
 fn show_package(alloc: Global, suite: &Suite, i: u32, out: &mut Vec<u8>) -> Result<(), AllocError> {
     if i >= suite.count() {
@@ -70,17 +39,6 @@ fn show_package(alloc: Global, suite: &Suite, i: u32, out: &mut Vec<u8>) -> Resu
     out.extend_from_slice(suite.name(i))?;
     out.push(b' ')?;
     out.extend_from_slice(suite.version_text(i))?;
-    for element in facts.needs.as_slice() {
-        out.push(b',')?;
-        push_names(out, element)?;
-    }
-    out.push(b'|')?;
-    push_names(out, &facts.against)?;
-    out.push(b'|')?;
-    for provide in facts.provides.as_slice() {
-        out.push(b' ')?;
-        out.extend_from_slice(provide.name.as_slice())?;
-    }
     out.push(b']')?;
     Ok(())
 }

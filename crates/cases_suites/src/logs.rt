@@ -3,9 +3,9 @@ ghost use Rattle.std.specs.Prelude.{◌<◌, IfOk, OnOk};
 ghost use Rattle.row_book.specs.Needs.{NeedsFit};
 ghost use Rattle.search_terms.specs.Closure.{InRange};
 
+use crate::lines::{numbers, suite_of};
 use clause_pool::Pool;
 use refutation_check::check;
-use repo_model::read_suite;
 use row_book::Needs;
 use search_terms::{EntryList, Literal, LiteralList, Log};
 use std::alloc::{AllocError, Global};
@@ -33,15 +33,6 @@ const TANGLE_LOGS: &str = "\
 0 -1. => derives
 0 . => does not
 ";
-
-/// The numbers that the digits write, each by itself.
-fn numbers(alloc: Global, digits: &str) -> Result<Vec<u32>, AllocError> {
-    let mut list = Vec::new(alloc);
-    for digit in digits.as_bytes() {
-        list.push(u32::from(digit.wrapping_sub(48)))?;
-    }
-    Ok(list)
-}
 
 /// The literals of the signed digits.
 fn literals(alloc: Global, text: &str) -> Result<Vec<Literal>, AllocError> {
@@ -112,10 +103,7 @@ fn is_derived(
     literals: &[Literal],
     ends: bool,
 ) -> Result<bool, Fail> {
-    if index.len() > 1000 {
-        return Err("a long index".into());
-    }
-    let suite = read_suite(alloc, index.as_bytes())?;
+    let suite = suite_of(alloc, index)?;
     let mut pool = Pool::new(alloc)?;
     let book = suite.book(alloc, &mut pool)?;
     let goals = single_goals(alloc, book.size(), wanted)?;

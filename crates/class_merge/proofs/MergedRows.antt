@@ -21,7 +21,7 @@ use Rattle.row_book.proofs.Clauses.{minimal_of_from, minimal_of_parts}
 use Rattle.row_book.proofs.Lists.{In_has, In_map_cases, any_cases, any_from, filter_same, has_In}
 use Rattle.row_book.proofs.Order.{at_numbers, length_numbers, numbers_parts, order_filter, order_same, ordered_has, ordered_order, ordered_parts}
 use Rattle.row_book.proofs.Repositories.{between, ranged, repository_same, symmetric}
-use Rattle.clause_flatten.specs.Families.{SameClauses}
+use Rattle.clause_families.specs.Families.{SameClauses}
 use Rattle.class_merge.specs.Classes.{class_in, clauses_in, image_in, ClassesWithin, HasClasses}
 use Rattle.class_merge.specs.Grouping.{AreClasses}
 use Rattle.class_merge.proofs.Classes.{alike_self, class_alike, first_within, has_class_lem, image_from, image_parts, of_classes}

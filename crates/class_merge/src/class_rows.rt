@@ -6,12 +6,11 @@ ghost use Rattle.row_book.specs.Clauses.{apart_from};
 ghost use Rattle.row_book.specs.Sets.{has, In};
 ghost use Rattle.row_book.specs.Repository.{Repository};
 ghost use Rattle.row_book.specs.Merging.{quotient};
-ghost use Rattle.clause_flatten.specs.TidyRows.{RowsStay};
 ghost use Rattle.class_merge.specs.Classes.{clauses_in, image_in, ClassesWithin, HasClasses};
 ghost use Rattle.class_merge.specs.Grouping.{AreClasses};
 
 use crate::images::{image, image_list};
-use clause_flatten::{Clause, intern_minimal, put_in_order};
+use clause_families::{Clause, intern_minimal, put_in_order};
 use clause_pool::{ClauseId, NumList, Pool, RowId};
 use row_book::{Book, holds};
 use std::alloc::{AllocError, Global};
@@ -63,7 +62,6 @@ fn class_row(
     requires has { (c : List ℕ) → In c (row_at pool.old row) → HasClasses class_of.now c }
     ensures is { IfOk result (λ id. row_at pool.new id ≡ clauses_in count class_of.now class (row_at pool.old row)) }
     ensures of_pool { IfOk result (λ id. id < length pool.new.rows) }
-    ensures stay { RowsStay pool.old pool.new }
     ensures kept { Kept pool.old pool.new }
 {
     let mut family = images_apart(alloc, pool, count, class_of, class, pool.row(row))?;

@@ -5,12 +5,12 @@ use Rattle.row_book.specs.Sets.{Hit, HitsAll, In, Is, NumSet, Within, minus, plu
 use Rattle.row_book.specs.Repository.{Repository}
 use Rattle.row_book.specs.Clauses.{Ascending, Inside}
 use Rattle.row_book.specs.Support.{Blocks, IsRow, MinimalBlock, Support}
-use Rattle.clause_flatten.specs.Substitution.{clause_without}
+use Rattle.clause_families.specs.Unions.{clause_without}
 use Rattle.row_book.proofs.Sets.{plus_new, plus_old, without_from, without_parts}
 use Rattle.row_book.proofs.Lists.{In_cases, In_none, ascending_filter, ascending_same, decided_hit, decided_in, hits_or, members_from, members_from_ascending, members_from_from, members_from_parts, minus_from, minus_parts}
 use Rattle.clause_flatten.proofs.Supports.{support_grows_lem}
 use Rattle.clause_flatten.proofs.Decisions.{decided_support, support_absorbs}
-use Rattle.clause_flatten.proofs.Unions.{dropped_from, dropped_parts}
+use Rattle.clause_families.proofs.Unions.{dropped_from, dropped_parts}
 
 -- a part of a set of numbers within V, not hit by X: X is within V without it
 missed_within : (V X : NumSet) (T : List ℕ) → Within X V → (Hit (Is X) T → ⊥) → Within X (minus V T)

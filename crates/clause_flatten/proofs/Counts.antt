@@ -9,8 +9,8 @@ use Rattle.listed.proofs.Lists.{filter_short}
 use Rattle.row_book.specs.Sets.{has}
 use Rattle.row_book.specs.Clauses.{apart_from, comes_before, insert_clause, in_row_order, is_inside, minimal_of}
 use Rattle.clause_flatten.specs.Holding.{clauses_with, most_clauses}
-use Rattle.clause_flatten.specs.Substitution.{all_unions_for, clause_without, substituted, union_of, unions_for}
-use Rattle.clause_flatten.proofs.Families.{At, filter_kept, filter_left}
+use Rattle.clause_families.specs.Unions.{all_unions_for, clause_without, substituted, union_of, unions_for}
+use Rattle.clause_families.proofs.Families.{At, filter_kept, filter_left}
 
 inserted_count : (c : List ℕ) (cs : List (List ℕ)) → length (insert_clause c cs) ≤ suc (length cs)
 inserted_count c [] = omega arith

@@ -12,8 +12,10 @@ use Rattle.row_book.specs.Uses.{row_id, users_of}
 use Rattle.row_book.proofs.Books.{row_kept}
 use Rattle.row_book.proofs.Lists.{In_cases, In_none, decided_in}
 use Rattle.row_book.proofs.Users.{users_ascend}
-use Rattle.clause_flatten.specs.Substitution.{table_without, substituted, table_row}
-use Rattle.clause_flatten.proofs.Replacing.{id_in, not_behind, not_user, other_eliminated, own_eliminated, own_user, table_same, tidy_untouched, user_in}
+use Rattle.clause_flatten.specs.Substitution.{table_without, table_row}
+use Rattle.clause_families.specs.Unions.{substituted}
+use Rattle.clause_flatten.proofs.Replacing.{id_in, not_behind, not_user, other_eliminated, own_eliminated, own_user, table_same, user_in}
+use Rattle.clause_flatten.proofs.Runs.{untouched}
 
 pub record Midway (start : Interned) (first : List ℕ) (q : ℕ) (pool : Interned) (rows : List ℕ) (done : List ℕ) : Type 0 where
   pub size : length rows ≡ length first
@@ -120,8 +122,8 @@ module _ (start : Interned) (first : List ℕ) (q : ℕ) (is : IsPool start) (fi
             | inl j ↦ m.changed p j ∙ sym (other_eliminated start first q q_in p l ne)
             | inr f ↦
                 reads pool rows users m p l f
-                ∙ sym (tidy_untouched p q (row_at start (row_id first p)) (row_at start (row_id first q)) (is.in_order (row_id first p) (fit.of_pool (row_id first p) (id_in first p l)))
-                (tidy.apart p l) (tidy.minimal p l) (not_user start first q p l (λ o. f (subst (λ z. In p z) (sym users_is) o))))
+                ∙ sym (untouched p q (row_at start (row_id first p)) (row_at start (row_id first q)) (is.in_order (row_id first p) (fit.of_pool (row_id first p) (id_in first p l)))
+                (not_user start first q p l (λ o. f (subst (λ z. In p z) (sym users_is) o))) (tidy.apart p l) (tidy.minimal p l))
                 ∙ sym (other_eliminated start first q q_in p l ne)
           ]
         ])

@@ -13,9 +13,10 @@ use Rattle.row_book.proofs.Lists.{In_cases, In_has, In_none, any_cases, any_from
 use Rattle.row_book.proofs.Books.{row_kept}
 use Rattle.row_book.proofs.Clauses.{apart_cases, apart_in, minimal_of_from, minimal_of_parts}
 use Rattle.row_book.proofs.Order.{at_numbers, map_same, numbers_from, numbers_parts, order_same, ordered_has, ordered_order, ordered_parts}
-use Rattle.clause_flatten.specs.Substitution.{clause_without, table_without, all_unions_for, substituted, table_row}
-use Rattle.clause_flatten.proofs.Unions.{Comes, dropped_parts, joined_ascending, joined_cases, replaced_cases, replaced_kept}
-use Rattle.clause_flatten.proofs.Runs.{eliminated_at, eliminated_count}
+use Rattle.clause_flatten.specs.Substitution.{table_without, table_row}
+use Rattle.clause_families.specs.Unions.{clause_without, all_unions_for, substituted}
+use Rattle.clause_families.proofs.Unions.{Comes, dropped_parts, joined_ascending, joined_cases, replaced_cases, replaced_kept}
+use Rattle.clause_flatten.proofs.Runs.{eliminated_count, other_without, own_without}
 
 -- Rows in a pool that grows.
 
@@ -137,21 +138,6 @@ module _ (p q : ℕ) (A B : List (List ℕ)) where
         ]
       ]
 
-  -- a row whose clauses do not hold the package stays
-  pub tidy_untouched : InOrder A → ((c : List ℕ) → In c A → In p c → ⊥) → ((c d : List ℕ) → In c A → In d A → Inside c d → c ≡ d) →
-      ((c : List ℕ) → In c A → In q c → ⊥) → in_row_order (substituted p q A B) ≡ A
-  tidy_untouched o apart thin f =
-      let back : (c : List ℕ) → In c (apart_from p (all_unions_for q A B)) → In c A =
-      λ c i.
-      let w : (T : List ℕ) × In T A × Comes q B T c = replaced_cases q A B c (apart_cases p (all_unions_for q A B) c i).0 in
-      elim w.2.how [ inl k ↦ subst (λ z. In z A) (sym k.1) w.1 | inr m ↦ absurd (f w.0 w.1 m.2) ] in
-      order_same (in_row_order (substituted p q A B)) A (ordered_order (substituted p q A B)) o
-      (λ c i. back c (minimal_of_parts (apart_from p (all_unions_for q A B)) c (ordered_parts (substituted p q A B) c i)).0)
-      (λ c i. ordered_has (substituted p q A B) c
-      (minimal_of_from (apart_from p (all_unions_for q A B)) c
-      (apart_in p (all_unions_for q A B) c (replaced_kept q A B c i (f c i)) (apart c i))
-      (λ S j g. subst (λ z. Inside c z) (sym (thin S c (back S j) i g)) (λ n k. k))))
-
 -- Who names a package.
 
 pub users_at : (pool : Interned) (rows : List ℕ) (n : ℕ) → n < length rows → listed_for (uses_of pool rows) n ≡ users_of pool rows n
@@ -188,7 +174,7 @@ not_behind (x ∷ xs) (suc i) a l j =
 
 -- The table of rows once a package is taken out.
 
-same_items : {A : Type 0} (xs ys : List A) (d : A) → length xs ≡ length ys → ((i : ℕ) → i < length xs → get_or xs i d ≡ get_or ys i d) → xs ≡ ys
+pub same_items : {A : Type 0} (xs ys : List A) (d : A) → length xs ≡ length ys → ((i : ℕ) → i < length xs → get_or xs i d ≡ get_or ys i d) → xs ≡ ys
 same_items [] [] d e f = refl
 same_items [] (y ∷ ys) d e f = absurd (let k : 0 ≡ suc (length ys) = e in omega arith)
 same_items (x ∷ xs) [] d e f = absurd (let k : suc (length xs) ≡ 0 = e in omega arith)
@@ -207,16 +193,12 @@ module _ (start : Interned) (first : List ℕ) (q : ℕ) (q_in : q < length firs
   table_at p l = get_or-map (row_at start) first p 0 [] l
 
   pub own_eliminated : table_row (table_without q (map (row_at start) first)) q ≡ row_at start (row_id first q)
-  own_eliminated =
-      eliminated_at q table q (subst (λ z. q < z) (sym table_size) q_in)
-      ∙ cond-true (eqb q q) (table_row table q) (in_row_order (substituted q q (table_row table q) (table_row table q))) (eq-eqb q q refl)
-      ∙ table_at q q_in
+  own_eliminated = own_without q table (subst (λ z. q < z) (sym table_size) q_in) ∙ table_at q q_in
 
   pub other_eliminated : (p : ℕ) → p < length first → p ≢ q →
       table_row (table_without q (map (row_at start) first)) p ≡ in_row_order (substituted p q (row_at start (row_id first p)) (row_at start (row_id first q)))
   other_eliminated p l ne =
-      eliminated_at q table p (subst (λ z. p < z) (sym table_size) l)
-      ∙ cond-false (eqb p q) (table_row table q) (in_row_order (substituted p q (table_row table p) (table_row table q))) (ne_eqb p q ne)
+      other_without q table p (subst (λ z. p < z) (sym table_size) l) ne
       ∙ ap₂ (λ a b. in_row_order (substituted p q a b)) (table_at p l) (table_at q q_in)
 
   pub table_same : (pool : Interned) (rows : List ℕ) → length rows ≡ length first →
@@ -226,22 +208,3 @@ module _ (start : Interned) (first : List ℕ) (q : ℕ) (q_in : q < length firs
       let long : length (map (row_at pool) rows) ≡ length rows = length-map rows (row_at pool) in
       same_items (map (row_at pool) rows) (table_without q table) [] (long ∙ size ∙ sym (eliminated_count q table ∙ table_size))
       (λ p l. get_or-map (row_at pool) rows p 0 [] (subst (λ z. p < z) long l) ∙ f p (subst (λ z. p < z) (long ∙ size) l))
-
-  -- no row of it holds the package
-  pub none_left : RowsTidy start first → (pool : Interned) (rows : List ℕ) → map (row_at pool) rows ≡ table_without q (map (row_at start) first) → users_of pool rows q ≡ []
-  none_left tidy pool rows made = no_items (users_of pool rows q) (λ p i.
-      let k : p < length rows = user_in pool rows q p i in
-      let size : length rows ≡ length first = sym (length-map rows (row_at pool)) ∙ ap length made ∙ eliminated_count q table ∙ table_size in
-      let l : p < length first = subst (λ z. p < z) size k in
-      let reads : row_at pool (row_id rows p) ≡ table_row (table_without q (map (row_at start) first)) p = sym (get_or-map (row_at pool) rows p 0 [] k) ∙ ap (λ t. table_row t p) made in
-      let w : (c : List ℕ) × In c (row_at pool (row_id rows p)) × (has c q ≡ true) =
-      any_cases (λ d. has d q) (row_at pool (row_id rows p)) (filter_cases (λ m. row_holds pool (row_id rows m) q) (numbers (length rows) 0) p i).1 in
-      elim (cases_eq p q) [
-        | inl e ↦ tidy.apart q q_in w.0 (subst (λ z. In w.0 z) (reads ∙ ap (table_row (table_without q (map (row_at start) first))) e ∙ own_eliminated) w.1) (has_In w.0 q w.2)
-        | inr ne ↦
-            new_spent p q (row_at start (row_id first p)) (row_at start (row_id first q)) (tidy.apart q q_in) w.0 (subst (λ z. In w.0 z) (reads ∙ other_eliminated p l ne) w.1) (has_In w.0 q w.2)
-      ])
-    where
-      no_items : (xs : List ℕ) → ((x : ℕ) → In x xs → ⊥) → xs ≡ []
-      no_items [] f = refl
-      no_items (x ∷ xs) f = absurd (f x here)

@@ -13,9 +13,9 @@ use Rattle.row_book.proofs.Sets.{Hit-mono, without_from, without_parts}
 use Rattle.row_book.proofs.Lists.{In_cases, In_has, In_none, all_at, all_from, any_cases, any_from, any_hit, any_none, filter_cases, filter_from, has_In, hit_any, members_from, members_from_ascending, members_from_from, members_from_parts, minus_from, minus_parts}
 use Rattle.row_book.proofs.Clauses.{inside_at, inside_from}
 use Rattle.row_book.proofs.Order.{numbers_from, subsets_has, subsets_parts}
-use Rattle.clause_flatten.specs.Substitution.{clause_without}
+use Rattle.clause_families.specs.Unions.{clause_without}
 use Rattle.clause_flatten.proofs.Supports.{support_grows_lem}
-use Rattle.clause_flatten.proofs.Unions.{dropped_from, dropped_parts}
+use Rattle.clause_families.proofs.Unions.{dropped_from, dropped_parts}
 
 -- the test of support
 among_alive : (X : NumSet) (J : List ℕ) (p n : ℕ) → Is (among X J p) n → Alive X (has J) p n

@@ -3,7 +3,7 @@ use Rattle.std.proofs.Common.{◌≡◌, ℕ, zero, suc, ◌<◌, ◌≤◌, ◌
 use Rattle.std.specs.List.{find}
 use Rattle.std.proofs.lemmas.Bool.{cases_eq, cases_lt}
 use Rattle.std.proofs.lemmas.List as lists
-use Rattle.clause_pool.specs.Interned.{Interned, IsPool, Kept, row_at}
+use Rattle.clause_pool.specs.Interned.{Interned, IsPool, Kept, clauses_at, row_at}
 use Rattle.clause_pool.proofs.Interned.{kept_along, kept_same}
 use Rattle.row_book.specs.declared.book.Book.{Book}
 use Rattle.row_book.specs.Sets.{NumSet, without}
@@ -17,7 +17,7 @@ use Rattle.row_book.proofs.Sets.{plus_new}
 use Rattle.row_book.proofs.Books.{sound_clauses}
 use Rattle.row_book.proofs.Lists.{filter_same, find_some}
 use Rattle.row_book.proofs.Order.{numbers_parts}
-use Rattle.clause_flatten.specs.Ready.{AreReady}
+use Rattle.clause_flatten.specs.Ready.{AreReady, table_of}
 use Rattle.clause_flatten.specs.Substitution.{table_without, table_passes, length_in}
 use Rattle.clause_flatten.specs.Refusals.{OnLimit}
 use Rattle.clause_flatten.specs.declared.error.FlatError.{FlatError}
@@ -39,10 +39,10 @@ pub record FlagsTell (n : ℕ) (held : NumSet) (flags : List Bool) : Type 0 wher
   pub same : (q : ℕ) → q < n → flag flags q ≡ held q
 
 -- where a run stands after so many steps
-pub record RunAt (R : Repository) (limit : ℕ) (hold : Bool) (i : ℕ) (start now : Interned) (rows : List ℕ) (used : Holders) (waiting : List ℕ) (flags : List Bool) : Type 0 where
-  pub table : map (row_at now) rows ≡ rows_over R (remaining_after limit hold R i).left
+pub record RunAt (R : Repository) (limit : ℕ) (hold : Bool) (i : ℕ) (start now : Interned) (rows : List (List ℕ)) (used : Holders) (waiting : List ℕ) (flags : List Bool) : Type 0 where
+  pub table : table_of now rows ≡ rows_over R (remaining_after limit hold R i).left
   pub ready : AreReady now rows used
-  pub filed : Filed waiting (may_go R (remaining_after limit hold R i)) (length_in (map (row_at now) rows))
+  pub filed : Filed waiting (may_go R (remaining_after limit hold R i)) (length_in (table_of now rows))
   pub told : FlagsTell (length R.clauses) (remaining_after limit hold R i).held flags
   pub within : (j : ℕ) → j ≤ i → IsWithin R limit hold j
   pub kept : Kept start now
@@ -59,32 +59,32 @@ no_flags zero q = refl
 no_flags (suc n) zero = refl
 no_flags (suc n) (suc q) = no_flags n q
 
-pub run_start : (pool : Interned) (book : Book) (limit : ℕ) (hold : Bool) (rows : List ℕ) (used : Holders) (waiting : List ℕ) (flags : List Bool) → IsPool pool → Sound pool book →
-    map (row_at pool) rows ≡ tidied_table (map (row_at pool) book.rows) → AreReady pool rows used →
-    Filed waiting (λ q. ltb q (length book.rows) && is_free book.conflicts q) (length_in (map (row_at pool) rows)) →
-    ((p : ℕ) → p < length rows → length_in (map (row_at pool) rows) p ≤ limit) →
+pub run_start : (pool : Interned) (book : Book) (limit : ℕ) (hold : Bool) (rows : List (List ℕ)) (used : Holders) (waiting : List ℕ) (flags : List Bool) → IsPool pool → Sound pool book →
+    table_of pool rows ≡ tidied_table (map (row_at pool) book.rows) → AreReady pool rows used →
+    Filed waiting (λ q. ltb q (length book.rows) && is_free book.conflicts q) (length_in (table_of pool rows)) →
+    ((p : ℕ) → p < length rows → length_in (table_of pool rows) p ≤ limit) →
     flags ≡ replicate (length book.rows) false →
     RunAt (repository_of pool book) limit hold 0 pool pool rows used waiting flags
 unfolding remaining_after
 run_start pool book limit hold rows used waiting flags is s first ready filed within none =
     let R : Repository = repository_of pool book in
     let V : NumSet = (remaining_after limit hold (repository_of pool book) 0).left in
-    let table : map (row_at pool) rows ≡ rows_over (repository_of pool book) (remaining_after limit hold (repository_of pool book) 0).left =
+    let table : table_of pool rows ≡ rows_over (repository_of pool book) (remaining_after limit hold (repository_of pool book) 0).left =
     first ∙ first_stage_is limit hold R (sound_clauses pool book s is) in
     let size : length rows ≡ length (repository_of pool book).clauses =
-    sym (lists.length-map rows (row_at pool)) ∙ ap length table ∙ table_length R V in
+    sym (lists.length-map rows (clauses_at pool)) ∙ ap length table ∙ table_length R V in
     record {
       table = table;
       ready = ready;
       filed = filed_as waiting (λ q. ltb q (length book.rows) && is_free book.conflicts q) (may_go R (none_gone R))
-          (length_in (map (row_at pool) rows)) (length_in (map (row_at pool) rows)) filed (start_may pool book s) (λ q h. refl);
+          (length_in (table_of pool rows)) (length_in (table_of pool rows)) filed (start_may pool book s) (λ q h. refl);
       told = record {
         count = ap length none ∙ lists.length-replicate (length book.rows) false ∙ sym (lists.length-map book.rows (row_at pool));
         same = λ q l. ap (λ z. flag z q) none ∙ no_flags (length book.rows) q;
       };
       within = λ j l.
           let e : 0 ≡ j = omega arith in
-          subst (IsWithin R limit hold) e (within_of R limit V (length rows) (map (row_at pool) rows) table size within);
+          subst (IsWithin R limit hold) e (within_of R limit V (length rows) (table_of pool rows) table size within);
       kept = kept_same pool;
     }
 
@@ -150,30 +150,30 @@ next_remains R limit hold i o e =
     ap (remaining_after limit hold R) (let k : i + 1 ≡ suc i = omega arith in k) ∙ ap (gone_or_held limit hold R (remaining_after limit hold R i)) e
 
 -- where none may go any more
-pub record HasEnded (R : Repository) (limit : ℕ) (hold : Bool) (now : Interned) (rows : List ℕ) (flags : List Bool) : Type 0 where
-  pub same : ◌≡◌ {A = Repository} (record { clauses = map (row_at now) rows; conflicts = R.conflicts }) (flat limit hold R)
+pub record HasEnded (R : Repository) (limit : ℕ) (hold : Bool) (now : Interned) (rows : List (List ℕ)) (flags : List Bool) : Type 0 where
+  pub same : ◌≡◌ {A = Repository} (record { clauses = table_of now rows; conflicts = R.conflicts }) (flat limit hold R)
   pub held : filter (flag flags) (numbers (length flags) 0) ≡ held_of limit hold R
   pub within : passes limit hold R ≡ None
 
-module _ (R : Repository) (limit : ℕ) (hold : Bool) (i : ℕ) (start now : Interned) (rows : List ℕ) (used : Holders) (waiting : List ℕ) (flags : List Bool)
+module _ (R : Repository) (limit : ℕ) (hold : Bool) (i : ℕ) (start now : Interned) (rows : List (List ℕ)) (used : Holders) (waiting : List ℕ) (flags : List Bool)
     (run : RunAt R limit hold i start now rows used waiting flags) where
   abbrev s : Remaining
   s = remaining_after limit hold R i
 
   abbrev t : List (List (List ℕ))
-  t = map (row_at now) rows
+  t = table_of now rows
 
   pub run_size : length rows ≡ length R.clauses
-  run_size = sym (lists.length-map rows (row_at now)) ∙ ap length run.table ∙ table_length R s.left
+  run_size = sym (lists.length-map rows (clauses_at now)) ∙ ap length run.table ∙ table_length R s.left
 
-  pub run_here : (p : ℕ) → p < length rows → length_in (map (row_at now) rows) p ≤ limit
+  pub run_here : (p : ℕ) → p < length rows → length_in (table_of now rows) p ≤ limit
   run_here p l =
       let m : p < length R.clauses = omega (arith, run_size) in
-      let c : length_in (map (row_at now) rows) p ≡ row_length R (remaining_after limit hold R i).left p = count_is R s.left t run.table p m in
+      let c : length_in (table_of now rows) p ≡ row_length R (remaining_after limit hold R i).left p = count_is R s.left t run.table p m in
       let k : row_length R (remaining_after limit hold R i).left p ≤ limit = run.within i (omega arith) p m in
       omega arith
 
-  module _ (q : ℕ) (first : IsFirst (may_go R (remaining_after limit hold R i)) (length_in (map (row_at now) rows)) q) where
+  module _ (q : ℕ) (first : IsFirst (may_go R (remaining_after limit hold R i)) (length_in (table_of now rows)) q) where
     gone : next_gone R s ≡ Some q
     gone = next_is R s t q (left_bound limit hold R i) run.table first
 
@@ -202,11 +202,11 @@ module _ (R : Repository) (limit : ℕ) (hold : Bool) (i : ℕ) (start now : Int
     next_within true f p l = run.within i (omega arith) p l
     next_within false f p l = within_of R limit (without s.left q) (length rows) (table_without q t) gone_table run_size (f refl) p l
 
-    pub run_more : (b : Bool) (new : Interned) (after : List ℕ) (used_after : Holders) (waiting_after : List ℕ) (flags_after : List Bool) →
-        b ≡ (hold && table_passes limit (table_without q (map (row_at now) rows))) →
-        map (row_at new) after ≡ cond b (map (row_at now) rows) (table_without q (map (row_at now) rows)) → AreReady new after used_after → Kept now new →
-        (b ≡ false → (p : ℕ) → p < length rows → length_in (table_without q (map (row_at now) rows)) p ≤ limit) →
-        Filed waiting_after (without (may_go R (remaining_after limit hold R i)) q) (length_in (cond b (map (row_at now) rows) (table_without q (map (row_at now) rows)))) →
+    pub run_more : (b : Bool) (new : Interned) (after : List (List ℕ)) (used_after : Holders) (waiting_after : List ℕ) (flags_after : List Bool) →
+        b ≡ (hold && table_passes limit (table_without q (table_of now rows))) →
+        table_of new after ≡ cond b (table_of now rows) (table_without q (table_of now rows)) → AreReady new after used_after → Kept now new →
+        (b ≡ false → (p : ℕ) → p < length rows → length_in (table_without q (table_of now rows)) p ≤ limit) →
+        Filed waiting_after (without (may_go R (remaining_after limit hold R i)) q) (length_in (cond b (table_of now rows) (table_without q (table_of now rows)))) →
         flags_after ≡ slice_set flags q b →
         RunAt R limit hold (i + 1) start new after used_after waiting_after flags_after
     run_more b new after used_after waiting_after flags_after e made ready kept within filed set =
@@ -216,7 +216,7 @@ module _ (R : Repository) (limit : ℕ) (hold : Bool) (i : ℕ) (start now : Int
           table = made ∙ next_table b ∙ ap (λ z. rows_over R z.left) (sym is);
           ready = ready;
           filed = filed_as waiting_after (without (may_go R s) q) (may_go R (remaining_after limit hold R (i + 1)))
-              (length_in (cond b t (table_without q t))) (length_in (map (row_at new) after)) filed
+              (length_in (cond b t (table_without q t))) (length_in (table_of new after)) filed
               (λ x. may_go_less R s q b x ∙ ap (λ z. may_go R z x) (sym is))
               (λ x h. ap (λ z. length_in z x) (sym made));
           told = subst (λ z. FlagsTell (length R.clauses) z flags_after) (ap (λ z. z.held) (sym is))
@@ -232,7 +232,7 @@ module _ (R : Repository) (limit : ℕ) (hold : Bool) (i : ℕ) (start now : Int
         }
 
     pub run_passed : (w : Passed) → i < length R.clauses →
-        (hold ≡ false) × (passed_by (length_in (table_without q (map (row_at now) rows))) (numbers (length rows) 0) limit (i + 1) ≡ Some w) → passes limit hold R ≡ Some w
+        (hold ≡ false) × (passed_by (length_in (table_without q (table_of now rows))) (numbers (length rows) 0) limit (i + 1) ≡ Some w) → passes limit hold R ≡ Some w
     run_passed w l h =
         let stays : false ≡ (hold && table_passes limit (table_without q t)) = ap (λ c. c && table_passes limit (table_without q t)) (sym h.0) in
         let few : i + 1 < suc (length R.clauses) = omega arith in
@@ -240,7 +240,7 @@ module _ (R : Repository) (limit : ℕ) (hold : Bool) (i : ℕ) (start now : Int
         passes_at R limit hold (i + 1) (length rows) (table_without q t) w seen (gone_table ∙ ap (λ z. rows_over R z.left) (sym (answer false stays))) run_size
         (λ j m. run.within j (omega arith)) h.1
 
-  run_flat : at_last limit hold R ≡ s → ◌≡◌ {A = Repository} (record { clauses = map (row_at now) rows; conflicts = R.conflicts }) (flat limit hold R)
+  run_flat : at_last limit hold R ≡ s → ◌≡◌ {A = Repository} (record { clauses = table_of now rows; conflicts = R.conflicts }) (flat limit hold R)
   unfolding flat
   run_flat e =
       let made : List (List (List ℕ)) → Repository = λ cs. record { clauses = cs; conflicts = R.conflicts } in
@@ -283,32 +283,20 @@ on_limit P Q f Memory h = tt
 pub found_below : (p : ℕ → Bool) (n q : ℕ) → find p (numbers n 0) ≡ Some q → q < n
 found_below p n q e = let w : (0 ≤ q) × (q < 0 + n) = numbers_parts n 0 q (find_some p (numbers n 0) q e).0 in omega arith
 
-pub first_passed : (pool new : Interned) (book : Book) (rows : List ℕ) (limit : ℕ) (hold : Bool) (q count : ℕ) → IsPool pool → Sound pool book →
-    map (row_at new) rows ≡ tidied_table (map (row_at pool) book.rows) → find (is_over (map (row_at new) rows) limit) (numbers (length rows) 0) ≡ Some q →
-    count ≡ length_in (map (row_at new) rows) q → passes limit hold (repository_of pool book) ≡ Some (record { gone = 0; over = q; count = count })
-first_passed pool new book rows limit hold q count is s first found told =
+pub first_passed : (pool : Interned) (book : Book) (rows : List (List ℕ)) (limit : ℕ) (hold : Bool) (q count : ℕ) → IsPool pool → Sound pool book →
+    table_of pool rows ≡ tidied_table (map (row_at pool) book.rows) → find (is_over (table_of pool rows) limit) (numbers (length rows) 0) ≡ Some q →
+    count ≡ length_in (table_of pool rows) q → passes limit hold (repository_of pool book) ≡ Some (record { gone = 0; over = q; count = count })
+first_passed pool book rows limit hold q count is s first found told =
     let R : Repository = repository_of pool book in
     let V : NumSet = (remaining_after limit hold R 0).left in
-    let table : map (row_at new) rows ≡ rows_over (repository_of pool book) (remaining_after limit hold (repository_of pool book) 0).left =
+    let table : table_of pool rows ≡ rows_over (repository_of pool book) (remaining_after limit hold (repository_of pool book) 0).left =
     first ∙ first_stage_is limit hold R (sound_clauses pool book s is) in
     let size : length rows ≡ length (repository_of pool book).clauses =
-    sym (lists.length-map rows (row_at new)) ∙ ap length table ∙ table_length R V in
-    passes_at R limit hold 0 (length rows) (map (row_at new) rows) (record { gone = 0; over = q; count = count }) (some_seen hold) table size
+    sym (lists.length-map rows (clauses_at pool)) ∙ ap length table ∙ table_length R V in
+    passes_at R limit hold 0 (length rows) (table_of pool rows) (record { gone = 0; over = q; count = count }) (some_seen hold) table size
     (λ j l. absurd (omega arith))
-    (passed_some (map (row_at new) rows) limit 0 q count (numbers (length rows) 0) found told)
+    (passed_some (table_of pool rows) limit 0 q count (numbers (length rows) 0) found told)
   where
     some_seen : (b : Bool) → 0 < cond b 1 (suc (length (repository_of pool book).clauses))
     some_seen true = omega arith
     some_seen false = omega arith
-
--- the whole of a list that was lent
-pub take_whole : (n : ℕ) (xs zs : List ℕ) → n ≡ length xs → take n (xs ++ zs) ≡ xs
-take_whole n xs zs e = ap (λ k. take k (xs ++ zs)) e ∙ front xs
-  where
-    front : (ys : List ℕ) → take (length ys) (ys ++ zs) ≡ ys
-    front [] = take_zero zs
-      where
-        take_zero : (ws : List ℕ) → take 0 ws ≡ []
-        take_zero [] = refl
-        take_zero (w ∷ ws) = refl
-    front (y ∷ ys) = ap (λ ws. y ∷ ws) (front ys)

@@ -1,5 +1,5 @@
--- A package taken out of rows in a pool: the rows that do not name it stay, so only those of its users are looked at.
-use Rattle.std.proofs.Common.{◌≡◌, ℕ, zero, suc, ◌<◌, ◌≤◌, ◌+◌, Bool, true, false, ◌&&◌, ◌||◌, eqb, ltb, cond, List, [], ◌∷◌, ◌++◌, length, get_or, inl, inr, refl, sym, ◌∙◌, ap, subst, arith, filter, map, take, Some, None, eq-eqb, eqb-true, ne_eqb, zero-le}
+-- A package taken out of a table of rows, and what is looked at then.
+use Rattle.std.proofs.Common.{◌≡◌, ◌≢◌, ℕ, zero, suc, ◌<◌, ◌≤◌, ◌+◌, Bool, true, false, ◌&&◌, ◌||◌, eqb, ltb, cond, List, [], ◌∷◌, ◌++◌, length, get_or, inl, inr, refl, sym, ◌∙◌, ap, subst, arith, filter, map, take, Some, None, eq-eqb, eqb-true, ne_eqb, zero-le}
 use Rattle.std.specs.List.{find, list_any}
 use Rattle.std.specs.Option.{option_map}
 use Rattle.std.proofs.lemmas.Bool.{both_ways, cases_Bool, cases_eq, cases_lt, cond-true, cond-false, false_from_ne_true, ltb-false, le-ltb}
@@ -13,14 +13,15 @@ use Rattle.row_book.specs.Flattening.{Passed, passed_by}
 use Rattle.row_book.proofs.Lists.{In_has, any_cases, any_from, any_none, filter_cases, filter_from, find_not, find_none, has_not, In_at}
 use Rattle.row_book.proofs.Clauses.{apart_cases, apart_in, minimal_of_from, minimal_of_parts}
 use Rattle.row_book.proofs.Order.{at_numbers, length_numbers, numbers_from, numbers_parts, order_same, ordered_has, ordered_order, ordered_parts, numbers_count}
-use Rattle.clause_flatten.specs.Substitution.{table_without, table_passes, length_in, all_unions_for, substituted, table_row}
+use Rattle.clause_flatten.specs.Substitution.{table_without, table_passes, length_in, table_row}
+use Rattle.clause_families.specs.Unions.{all_unions_for, substituted}
 use Rattle.clause_flatten.specs.TakingOut.{counted_anew, is_over}
 use Rattle.clause_flatten.specs.Waiting.{Filed, recounted}
-use Rattle.clause_flatten.proofs.Unions.{Comes, replaced_cases, replaced_kept}
+use Rattle.clause_families.proofs.Unions.{Comes, replaced_cases, replaced_kept}
 use Rattle.clause_flatten.proofs.Turns.{filed_as}
 
 -- a tidy row that does not hold q stays as it is
-untouched : (p q : ℕ) (A B : List (List ℕ)) → InOrder A → ((c : List ℕ) → In c A → In q c → ⊥) → ((c : List ℕ) → In c A → In p c → ⊥) →
+pub untouched : (p q : ℕ) (A B : List (List ℕ)) → InOrder A → ((c : List ℕ) → In c A → In q c → ⊥) → ((c : List ℕ) → In c A → In p c → ⊥) →
     ((c d : List ℕ) → In c A → In d A → Inside c d → c ≡ d) → in_row_order (substituted p q A B) ≡ A
 untouched p q A B o f g m =
     let back : (c : List ℕ) → In c (apart_from p (all_unions_for q A B)) → In c A =
@@ -45,113 +46,13 @@ pub eliminated_count : (q : ℕ) (t : List (List (List ℕ))) → length (table_
 unfolding table_without
 eliminated_count q t = length_numbers (λ p. cond (eqb p q) (table_row t q) (in_row_order (substituted p q (table_row t p) (table_row t q)))) (length t) 0
 
-module _ (pool : Interned) (rows : List ℕ) (q : ℕ) (l : q < length rows) (users : List ℕ) (same : users ≡ users_of pool rows q) where
-  pub users_below : (p : ℕ) → In p users → p < length rows
-  users_below p i =
-      let j : In p (numbers (length rows) 0) = (filter_cases (λ p. row_holds pool (row_id rows p) q) (numbers (length rows) 0) p (subst (λ xs. In p xs) same i)).0 in
-      let w : (0 ≤ p) × (p < 0 + length rows) = numbers_parts (length rows) 0 p j in
-      omega arith
+-- that of q, and any other
+pub own_without : (q : ℕ) (t : List (List (List ℕ))) → q < length t → table_row (table_without q t) q ≡ table_row t q
+own_without q t l = eliminated_at q t q l ∙ cond-true (eqb q q) (table_row t q) (in_row_order (substituted q q (table_row t q) (table_row t q))) (eq-eqb q q refl)
 
-  -- a package that is no user names q in no clause
-  not_named : (p : ℕ) → p < length rows → (In p users → ⊥) → (c : List ℕ) → In c (row_at pool (row_id rows p)) → In q c → ⊥
-  not_named p m f c i j =
-      let none : row_holds pool (row_id rows p) q ≡ false =
-      false_from_ne_true (row_holds pool (row_id rows p) q) (λ h. f (subst (λ xs. In p xs) (sym same)
-      (filter_from (λ p. row_holds pool (row_id rows p) q) (numbers (length rows) 0) p (numbers_from (length rows) 0 p zero-le (omega arith)) h))) in
-      both_ways (has c q) (any_none (λ c. has c q) (row_at pool (row_id rows p)) none c i) (In_has j)
-
-  -- and its row stays
-  stays_for : IsPool pool → RowsFit pool rows → RowsTidy pool rows → (p : ℕ) → p < length rows → (In p users → ⊥) →
-      table_row (table_without q (map (row_at pool) rows)) p ≡ table_row (map (row_at pool) rows) p
-  stays_for is fit tidy p m f =
-      let t : List (List (List ℕ)) = map (row_at pool) rows in
-      let count : length (map (row_at pool) rows) ≡ length rows = lists.length-map rows (row_at pool) in
-      let at : table_row (map (row_at pool) rows) p ≡ row_at pool (row_id rows p) = lists.get_or-map (row_at pool) rows p 0 [] m in
-      elim (cases_eq p q) [
-        | inl s ↦
-            eliminated_at q t p (omega (arith, count))
-            ∙ cond-true (eqb p q) (table_row t q) (in_row_order (substituted p q (table_row t p) (table_row t q))) (eq-eqb p q s)
-            ∙ ap (table_row t) (sym s)
-        | inr ne ↦
-            eliminated_at q t p (omega (arith, count))
-            ∙ cond-false (eqb p q) (table_row t q) (in_row_order (substituted p q (table_row t p) (table_row t q))) (ne_eqb p q ne)
-            ∙ ap (λ xs. in_row_order (substituted p q xs (table_row t q))) at
-            ∙ untouched p q (row_at pool (row_id rows p)) (table_row t q)
-            (is.in_order (row_id rows p) (fit.of_pool (row_id rows p) (In_at rows p 0 m)))
-            (not_named p m f) (tidy.apart p m) (tidy.minimal p m)
-            ∙ sym at
-      ]
-
-  pub counts_stay : IsPool pool → RowsFit pool rows → RowsTidy pool rows → (p : ℕ) → has users p ≡ false →
-      length_in (table_without q (map (row_at pool) rows)) p ≡ length_in (map (row_at pool) rows) p
-  counts_stay is fit tidy p h =
-      let t : List (List (List ℕ)) = map (row_at pool) rows in
-      let count : length (map (row_at pool) rows) ≡ length rows = lists.length-map rows (row_at pool) in
-      elim (cases_lt p (length rows)) [
-        | inl m ↦ ap length (stays_for is fit tidy p m (λ i. both_ways (has users p) h (In_has i)))
-        | inr m ↦
-            ap length (lists.get_or_past (table_without q t) p [] (omega (arith, eliminated_count q t, count)))
-            ∙ sym (ap length (lists.get_or_past t p [] (omega (arith, count))))
-      ]
-
-  -- the first row that is over the limit is that of a user
-  pub over_all : IsPool pool → RowsFit pool rows → RowsTidy pool rows → (limit : ℕ) → ((p : ℕ) → p < length rows → length_in (map (row_at pool) rows) p ≤ limit) →
-      find (is_over (table_without q (map (row_at pool) rows)) limit) (numbers (length rows) 0) ≡ find (is_over (table_without q (map (row_at pool) rows)) limit) users
-  over_all is fit tidy limit within =
-      let new : List (List (List ℕ)) = table_without q (map (row_at pool) rows) in
-      sym (ap (find (is_over new limit)) same
-      ∙ find_filter (is_over new limit) (λ p. row_holds pool (row_id rows p) q) (numbers (length rows) 0)
-      (λ p i h.
-      let w : (0 ≤ p) × (p < 0 + length rows) = numbers_parts (length rows) 0 p i in
-      let none : has users p ≡ false =
-      has_not users p (λ j. both_ways (row_holds pool (row_id rows p) q) h (filter_cases (λ p. row_holds pool (row_id rows p) q) (numbers (length rows) 0) p (subst (λ xs. In p xs) same j)).1) in
-      le-ltb limit (length_in new p) (let k : length_in (map (row_at pool) rows) p ≤ limit = within p (omega arith) in omega (arith, counts_stay is fit tidy p none))))
-    where
-      find_filter : (f g : ℕ → Bool) (xs : List ℕ) → ((x : ℕ) → In x xs → g x ≡ false → f x ≡ false) → find f (filter g xs) ≡ find f xs
-      find_filter f g [] k = refl
-      find_filter f g (x ∷ xs) k = pick (g x) refl (find_filter f g xs (λ y i. k y (there i)))
-        where
-          pick : (b : Bool) → g x ≡ b → find f (filter g xs) ≡ find f xs → find f (cond b (x ∷ filter g xs) (filter g xs)) ≡ cond (f x) (Some x) (find f xs)
-          pick true u h = ap (cond (f x) (Some x)) h
-          pick false u h = h ∙ sym (cond-false (f x) (Some x) (find f xs) (k x here u))
-
-  -- so that some row passes the limit where that of a user does
-  pub table_over : (limit p : ℕ) → In p users → is_over (table_without q (map (row_at pool) rows)) limit p ≡ true → table_passes limit (table_without q (map (row_at pool) rows)) ≡ true
-  unfolding table_passes
-  table_over limit p i h =
-      let new : List (List (List ℕ)) = table_without q (map (row_at pool) rows) in
-      let count : length (map (row_at pool) rows) ≡ length rows = lists.length-map rows (row_at pool) in
-      let below : p < length rows = users_below p i in
-      any_from (λ p. ltb limit (length_in new p)) (numbers (length new) 0) p
-      (numbers_from (length new) 0 p zero-le (omega (arith, eliminated_count q (map (row_at pool) rows), count))) h
-
-  pub table_within : IsPool pool → RowsFit pool rows → RowsTidy pool rows → (limit : ℕ) → ((p : ℕ) → p < length rows → length_in (map (row_at pool) rows) p ≤ limit) →
-      ((k : ℕ) → k < length users → is_over (table_without q (map (row_at pool) rows)) limit (get_or users k 0) ≡ false) →
-      table_passes limit (table_without q (map (row_at pool) rows)) ≡ false
-  unfolding table_passes
-  table_within is fit tidy limit within f =
-      let new : List (List (List ℕ)) = table_without q (map (row_at pool) rows) in
-      let size : length (table_without q (map (row_at pool) rows)) ≡ length rows = eliminated_count q (map (row_at pool) rows) ∙ lists.length-map rows (row_at pool) in
-      let none : find (is_over new limit) (numbers (length rows) 0) ≡ None =
-      over_all is fit tidy limit within ∙ nowhere (is_over new limit) users f in
-      ap (λ n. list_any (λ p. ltb limit (length_in new p)) (numbers n 0)) size
-      ∙ false_from_ne_true (list_any (λ p. ltb limit (length_in new p)) (numbers (length rows) 0)) (λ t.
-      let w : (p : ℕ) × In p (numbers (length rows) 0) × (ltb limit (length_in new p) ≡ true) = any_cases (λ p. ltb limit (length_in new p)) (numbers (length rows) 0) t in
-      both_ways (ltb limit (length_in new w.0)) (find_none (is_over new limit) (numbers (length rows) 0) none w.0 w.1) w.2)
-    where
-      nowhere : (p : ℕ → Bool) (xs : List ℕ) → ((k : ℕ) → k < length xs → p (get_or xs k 0) ≡ false) → find p xs ≡ None
-      nowhere p [] g = refl
-      nowhere p (x ∷ xs) g = cond-false (p x) (Some x) (find p xs) (g 0 (omega arith)) ∙ nowhere p xs (λ k l. g (suc k) (omega arith))
-
-  pub filed_after : IsPool pool → RowsFit pool rows → RowsTidy pool rows → (w : List ℕ) (may : ℕ → Bool) (new : List (List (List ℕ))) → new ≡ table_without q (map (row_at pool) rows) →
-      Filed w may (counted_anew (length_in (map (row_at pool) rows)) new users) → Filed w may (length_in (table_without q (map (row_at pool) rows)))
-  filed_after is fit tidy w may new d f =
-      let t : List (List (List ℕ)) = map (row_at pool) rows in
-      filed_as w may may (counted_anew (length_in t) new users) (length_in (table_without q t)) f (λ p. refl)
-      (λ p h. elim (cases_Bool (has users p)) [
-        | inl u ↦ cond-true (has users p) (length_in new p) (length_in t p) u ∙ ap (λ x. length_in x p) d
-        | inr u ↦ cond-false (has users p) (length_in new p) (length_in t p) u ∙ sym (counts_stay is fit tidy p u)
-      ])
+pub other_without : (q : ℕ) (t : List (List (List ℕ))) (p : ℕ) → p < length t → p ≢ q → table_row (table_without q t) p ≡ in_row_order (substituted p q (table_row t p) (table_row t q))
+other_without q t p l ne =
+    eliminated_at q t p l ∙ cond-false (eqb p q) (table_row t q) (in_row_order (substituted p q (table_row t p) (table_row t q))) (ne_eqb p q ne)
 
 -- the first of a list that passes, by places
 pub find_at : (p : ℕ → Bool) (xs : List ℕ) (i x : ℕ) → i < length xs → x ≡ get_or xs i x → ((k : ℕ) → k < i → p (get_or xs k 0) ≡ false) → p x ≡ true → find p xs ≡ Some x

@@ -6,13 +6,13 @@ use Rattle.row_book.specs.Repository.{Repository}
 use Rattle.row_book.specs.Clauses.{Ascending, apart_from}
 use Rattle.row_book.specs.Support.{IsRow, Support}
 use Rattle.row_book.specs.Sound.{OfPackages}
-use Rattle.clause_flatten.specs.Substitution.{clause_without, union_of, all_unions_for, substituted}
+use Rattle.clause_families.specs.Unions.{clause_without, union_of, all_unions_for, substituted}
 use Rattle.clause_flatten.specs.Laws.{RowTells, Substitutes, with_user}
 use Rattle.row_book.proofs.Sets.{Hit-mono, plus_cases, plus_new, plus_old, without_from, without_parts}
 use Rattle.row_book.proofs.Lists.{decided_in, hits_or}
 use Rattle.row_book.proofs.Clauses.{apart_cases, apart_in, hits_minimal, minimal_of_parts}
 use Rattle.clause_flatten.proofs.Supports.{one_step_lem, with_user_cases}
-use Rattle.clause_flatten.proofs.Unions.{Comes, dropped_from, dropped_parts, joined_ascending, joined_cases, joined_left, joined_right, replaced_cases, replaced_joined, replaced_kept}
+use Rattle.clause_families.proofs.Unions.{Comes, dropped_from, dropped_parts, joined_ascending, joined_cases, joined_left, joined_right, replaced_cases, replaced_joined, replaced_kept}
 use Rattle.clause_flatten.proofs.Blocking.{row_from_hits, row_says, support_from_hits}
 
 pub row_tells_lem : RowTells

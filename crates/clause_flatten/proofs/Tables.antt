@@ -7,7 +7,8 @@ use Rattle.row_book.specs.Clauses.{InOrder, numbers, in_row_order, subsets}
 use Rattle.row_book.specs.Support.{IsRow, is_minimal_block, row}
 use Rattle.row_book.specs.Sound.{OfPackages}
 use Rattle.row_book.specs.Flattening.{rows_over}
-use Rattle.clause_flatten.specs.Substitution.{table_without, substituted, table_row}
+use Rattle.clause_flatten.specs.Substitution.{table_without, table_row}
+use Rattle.clause_families.specs.Unions.{substituted}
 use Rattle.clause_flatten.specs.FlatLaws.{OneRow, RowComputes, RowIsOne, TableStep}
 use Rattle.row_book.proofs.Sets.{without_parts}
 use Rattle.row_book.proofs.Order.{at_numbers, length_numbers, map_same, numbers_parts, order_filter, order_same, ordered_has, ordered_order, ordered_parts, subsets_order}

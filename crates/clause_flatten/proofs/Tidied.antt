@@ -1,29 +1,30 @@
 -- The first rows: the clauses that stay are the minimal ones that do not hold the package.
-use Rattle.std.proofs.Common.{◌≡◌, ℕ, ◌<◌, ◌≤◌, ◌+◌, Bool, true, false, not, ◌&&◌, ◌||◌, eqb, ltb, cond, List, [], ◌∷◌, ◌++◌, length, get_or, inl, inr, refl, sym, ◌∙◌, ap, ap₂, subst, arith, filter, map, Result, Ok, Err, Some}
+use Rattle.std.proofs.Common.{◌≡◌, ℕ, ◌<◌, ◌≤◌, ◌+◌, Bool, true, false, not, ◌&&◌, ◌||◌, eqb, ltb, cond, List, [], ◌∷◌, ◌++◌, length, get_or, inl, inr, refl, sym, ◌∙◌, ap, ap₂, subst, arith, filter, map, Some}
 use Rattle.std.specs.List.{list_any}
-use Rattle.std.specs.Result.{IfOk}
 use Rattle.std.specs.Cmp.Lexicographic.{pointwise}
 use Rattle.std.proofs.lemmas.Bool.{both_ways, cases_Bool, cases_lt, true_from_ne_false, and_parts, and_from, not_from_false, not-true, false_from_ne_true, ltb-true, lt-ltb}
 use Rattle.std.proofs.lemmas.List as lists
 use Rattle.std.proofs.lemmas.List.{get_or_default}
 use Rattle.listed.proofs.Bools.{same_bool}
-use Rattle.clause_pool.specs.Interned.{Interned, IsIdOf, IsPool, Kept, clause_at, clauses_at, ids_at, row_at}
-use Rattle.clause_pool.proofs.Lists.{In_place}
-use Rattle.clause_pool.proofs.Interned.{kept_along, kept_same}
+use Rattle.clause_pool.specs.Interned.{Interned, IsPool, OfPool, clause_at, clauses_at, ids_at, row_at}
 use Rattle.row_book.specs.Sets.{In, has, here, there}
 use Rattle.row_book.specs.Clauses.{Ascending, InOrder, Inside, apart_from, is_inside, minimal_of, numbers}
 use Rattle.row_book.specs.Uses.{row_id}
-use Rattle.row_book.specs.Book.{RowsFit, RowsTidy}
-use Rattle.row_book.proofs.Books.{row_ascending}
-use Rattle.row_book.proofs.Lists.{In_append_cases, In_cases, In_has, In_none, any_cases, any_from, any_none, ascending_same, filter_cases, filter_from, has_not, In_at}
+use Rattle.row_book.specs.Book.{RowsFit, listed_for}
+use Rattle.row_book.specs.Holders.{ListsFit}
+use Rattle.row_book.proofs.Books.{in_listed, row_ascending}
+use Rattle.row_book.proofs.Lists.{In_append_cases, In_cases, In_has, In_map, In_map_cases, In_none, any_cases, any_from, any_none, ascending_same, filter_cases, filter_from, has_not, In_at}
 use Rattle.row_book.proofs.Clauses.{apart_cases, apart_in, inside_at, inside_from, minimal_of_from, minimal_of_parts}
 use Rattle.row_book.proofs.Order.{at_numbers, length_numbers, map_same, numbers_parts, order_filter, order_same, ordered_has, ordered_order, ordered_parts, numbers_more}
 use Rattle.clause_flatten.specs.Substitution.{table_row}
 use Rattle.row_book.specs.Within.{is_within, some_within}
 use Rattle.row_book.proofs.Repositories.{numbers_test, same_numbers}
-use Rattle.clause_flatten.specs.Inclusion.{begins_empty, has_shorter, is_strictly_inside}
-use Rattle.clause_flatten.proofs.Families.{not_shorter, some_shorter}
-use Rattle.clause_flatten.specs.TidyRows.{RowsStay, stays, first_row, tidied_table}
+use Rattle.clause_families.specs.Inclusion.{has_shorter, is_strictly_inside}
+use Rattle.clause_families.proofs.Families.{not_shorter, some_shorter}
+use Rattle.clause_flatten.specs.Ready.{ListsTidy, table_of}
+use Rattle.clause_flatten.specs.TidyRows.{begins_empty, first_row, tidied_table}
+use Rattle.clause_families.specs.Inclusion.{stays}
+use Rattle.clause_flatten.proofs.WorkedRows.{lists_at}
 
 -- another clause within a clause is a shorter one
 pub shorter_is_other : (cs : List (List ℕ)) → ((c : List ℕ) → In c cs → Ascending c) → (d : List ℕ) → Ascending d → some_within (Some d) d cs ≡ has_shorter cs d
@@ -142,110 +143,93 @@ tidied_minimal p cs up S T i j f =
     ascending_same S T (up S (tidied_parts p cs S i).0) (up T (tidied_parts p cs T j).0) f
     ((minimal_of_parts (apart_from p cs) T (ordered_parts (minimal_of (apart_from p cs)) T j)).1 S a f)
 
--- the row of the clauses that stay is the first row
-pub tidied_row : {E : Type 0} (old new : Interned) (p row : ℕ) (ids kept : List ℕ) (result : Result ℕ E) → IsPool old → row < length old.rows →
-    ids ≡ ids_at old row → kept ≡ filter (λ id. stays p (clauses_at old ids) (clause_at old id)) ids → new.clauses ≡ old.clauses →
-    IfOk result (IsIdOf new.rows kept) → IfOk result (λ id. row_at new id ≡ first_row p (row_at old row))
-tidied_row old new p row ids kept (Err e) is l same stay clauses made = tt
-tidied_row old new p row ids kept (Ok id) is l same stay clauses made =
-    let kept_is : kept ≡ filter (λ id. stays p (row_at old row) (clause_at old id)) (ids_at old row) =
-    stay ∙ ap (λ xs. filter (λ id. stays p (clauses_at old xs) (clause_at old id)) xs) same in
-    ap (clauses_at new) made.holds
-    ∙ ap (λ cs. map (λ i. get_or cs i []) kept) clauses
-    ∙ ap (clauses_at old) kept_is
-    ∙ map_filter (clause_at old) (stays p (row_at old row)) (ids_at old row)
-    ∙ tidied_is p (row_at old row) (row_ascending old is row l) (is.in_order row l)
+-- the clauses that stay are the first row
+pub tidied_row : (pool : Interned) (p row : ℕ) (ids kept : List ℕ) → IsPool pool → row < length pool.rows →
+    ids ≡ ids_at pool row → kept ≡ filter (λ id. stays p (clauses_at pool ids) (clause_at pool id)) ids → clauses_at pool kept ≡ first_row p (row_at pool row)
+tidied_row pool p row ids kept is l same stay =
+    ap (clauses_at pool) (stay ∙ ap (λ xs. filter (λ id. stays p (clauses_at pool xs) (clause_at pool id)) xs) same)
+    ∙ map_filter (clause_at pool) (stays p (row_at pool row)) (ids_at pool row)
+    ∙ tidied_is p (row_at pool row) (row_ascending pool is row l) (is.in_order row l)
 
-pub kept_in_order : (old : Interned) (p : ℕ) (ids kept : List ℕ) → kept ≡ filter (λ id. stays p (clauses_at old ids) (clause_at old id)) ids → InOrder (clauses_at old ids) → InOrder (clauses_at old kept)
-kept_in_order old p ids kept stay o =
-    subst InOrder (sym (ap (clauses_at old) stay ∙ map_filter (clause_at old) (stays p (clauses_at old ids)) ids))
-    (order_filter (stays p (clauses_at old ids)) (clauses_at old ids) o)
-
-pub kept_within : (old : Interned) (p : ℕ) (ids kept : List ℕ) → kept ≡ filter (λ id. stays p (clauses_at old ids) (clause_at old id)) ids → (id : ℕ) → In id kept → In id ids
-kept_within old p ids kept stay id i =
-    (filter_cases (λ id. stays p (clauses_at old ids) (clause_at old id)) ids id (subst (λ xs. In id xs) stay i)).0
-
-pub rows_stay_map : (old new : Interned) → RowsStay old new → (rows : List ℕ) → ((id : ℕ) → In id rows → id < length old.rows) → map (row_at new) rows ≡ map (row_at old) rows
-rows_stay_map old new s [] f = refl
-rows_stay_map old new s (id ∷ ids) f = ap₂ (λ x xs. x ∷ xs) (s.same id (f id here)) (rows_stay_map old new s ids (λ i j. f i (there j)))
+pub kept_within : (pool : Interned) (p : ℕ) (ids kept : List ℕ) → kept ≡ filter (λ id. stays p (clauses_at pool ids) (clause_at pool id)) ids → (id : ℕ) → In id kept → In id ids
+kept_within pool p ids kept stay id i =
+    (filter_cases (λ id. stays p (clauses_at pool ids) (clause_at pool id)) ids id (subst (λ xs. In id xs) stay i)).0
 
 -- the first rows of so many packages are made
-pub record TidiedTo (start now : Interned) (rows made : List ℕ) (n : ℕ) : Type 0 where
-  pub table : map (row_at now) made ≡ map (λ p. first_row p (row_at start (row_id rows p))) (numbers n 0)
-  pub within : (id : ℕ) → In id made → id < length now.rows
-  pub stay : RowsStay start now
-  pub kept : Kept start now
+pub record TidiedTo (pool : Interned) (rows : List ℕ) (made : List (List ℕ)) (n : ℕ) : Type 0 where
+  pub table : table_of pool made ≡ map (λ p. first_row p (row_at pool (row_id rows p))) (numbers n 0)
+  pub of_pool : (ids : List ℕ) → In ids made → OfPool pool ids
 
-pub tidied_none : (start : Interned) (rows made : List ℕ) → made ≡ [] → TidiedTo start start rows made 0
+pub tidied_none : (pool : Interned) (rows : List ℕ) (made : List (List ℕ)) → made ≡ [] → TidiedTo pool rows made 0
 unfolding numbers
-tidied_none start rows made e = record {
-  table = ap (map (row_at start)) e;
-  within = λ id i. absurd (In_none (subst (λ xs. In id xs) e i));
-  stay = record { within = λ id l. l; same = λ id l. refl };
-  kept = kept_same start;
+tidied_none pool rows made e = record {
+  table = ap (table_of pool) e;
+  of_pool = λ ids i. absurd (In_none (subst (λ xs. In ids xs) e i));
 }
 
-pub tidied_more : (start old new : Interned) (rows made after : List ℕ) (n row first : ℕ) → TidiedTo start old rows made n → RowsStay old new → Kept old new →
-    n < length rows → row ≡ get_or rows n row → row < length start.rows → first < length new.rows → row_at new first ≡ first_row n (row_at old row) →
-    after ≡ made ++ first ∷ [] → TidiedTo start new rows after (n + 1)
-tidied_more start old new rows made after n row first t s k l e l_row l_first d a =
-    let T : ℕ → List (List ℕ) = λ p. first_row p (row_at start (row_id rows p)) in
-    let here_too : row_at new first ≡ first_row n (row_at start (row_id rows n)) =
-    d ∙ ap (first_row n) (t.stay.same row l_row ∙ ap (row_at start) (e ∙ get_or_default rows n row 0 l)) in
+pub tidied_more : (pool : Interned) (rows : List ℕ) (made after : List (List ℕ)) (n row : ℕ) (first : List ℕ) → TidiedTo pool rows made n →
+    n < length rows → row ≡ get_or rows n row → OfPool pool first → clauses_at pool first ≡ first_row n (row_at pool row) → after ≡ made ++ first ∷ [] → TidiedTo pool rows after (n + 1)
+tidied_more pool rows made after n row first t l e of_pool d a =
+    let T : ℕ → List (List ℕ) = λ p. first_row p (row_at pool (row_id rows p)) in
     record {
       table =
-          ap (map (row_at new)) a
-          ∙ lists.map-append (row_at new) made (first ∷ [])
-          ∙ ap₂ (λ xs x. xs ++ x ∷ []) (rows_stay_map old new s made t.within ∙ t.table) here_too
+          ap (table_of pool) a
+          ∙ lists.map-append (clauses_at pool) made (first ∷ [])
+          ∙ ap₂ (λ xs x. xs ++ x ∷ []) t.table (d ∙ ap (λ z. first_row n (row_at pool z)) (e ∙ get_or_default rows n row 0 l))
           ∙ sym (ap (map T) (numbers_more n) ∙ lists.map-append T (numbers n 0) (n ∷ []));
-      within = λ id i. elim (In_append_cases made (first ∷ []) id (subst (λ xs. In id xs) a i)) [
-        | inl j ↦ s.within id (t.within id j)
-        | inr j ↦ elim (In_cases j) [ inl h ↦ subst (λ z. z < length new.rows) (sym h) l_first | inr h ↦ absurd (In_none h) ]
+      of_pool = λ ids i. elim (In_append_cases made (first ∷ []) ids (subst (λ xs. In ids xs) a i)) [
+        | inl j ↦ t.of_pool ids j
+        | inr j ↦ elim (In_cases j) [ inl h ↦ subst (OfPool pool) (sym h) of_pool | inr h ↦ absurd (In_none h) ]
       ];
-      stay = record { within = λ id m. s.within id (t.stay.within id m); same = λ id m. s.same id (t.stay.within id m) ∙ t.stay.same id m };
-      kept = kept_along start old new t.kept k;
     }
 
-module _ (start now : Interned) (rows made : List ℕ) (t : TidiedTo start now rows made (length rows)) where
+module _ (pool : Interned) (rows : List ℕ) (made : List (List ℕ)) (t : TidiedTo pool rows made (length rows)) where
   pub tidied_count : length made ≡ length rows
-  tidied_count = sym (lists.length-map made (row_at now)) ∙ ap length t.table ∙ length_numbers (λ p. first_row p (row_at start (row_id rows p))) (length rows) 0
+  tidied_count = sym (lists.length-map made (clauses_at pool)) ∙ ap length t.table ∙ length_numbers (λ p. first_row p (row_at pool (row_id rows p))) (length rows) 0
 
-  tidied_at : (p : ℕ) → p < length rows → row_at now (row_id made p) ≡ first_row p (row_at start (row_id rows p))
+  tidied_at : (p : ℕ) → p < length rows → clauses_at pool (listed_for made p) ≡ first_row p (row_at pool (row_id rows p))
   tidied_at p l =
-      sym (lists.get_or-map (row_at now) made p 0 [] (omega (arith, tidied_count)))
+      sym (lists_at pool made p)
       ∙ ap (λ xs. get_or xs p []) t.table
-      ∙ at_numbers (λ p. first_row p (row_at start (row_id rows p))) [] (length rows) 0 p l
-      ∙ ap (λ q. first_row q (row_at start (row_id rows q))) (omega arith)
+      ∙ at_numbers (λ p. first_row p (row_at pool (row_id rows p))) [] (length rows) 0 p l
+      ∙ ap (λ q. first_row q (row_at pool (row_id rows q))) (omega arith)
 
-  pub tidied_all : map (row_at now) made ≡ tidied_table (map (row_at start) rows)
+  pub tidied_all : table_of pool made ≡ tidied_table (map (row_at pool) rows)
   unfolding tidied_table
   tidied_all =
       t.table
-      ∙ map_same (λ p. first_row p (row_at start (row_id rows p))) (λ p. first_row p (table_row (map (row_at start) rows) p)) (numbers (length rows) 0)
+      ∙ map_same (λ p. first_row p (row_at pool (row_id rows p))) (λ p. first_row p (table_row (map (row_at pool) rows) p)) (numbers (length rows) 0)
       (λ p i.
       let w : (0 ≤ p) × (p < 0 + length rows) = numbers_parts (length rows) 0 p i in
-      ap (first_row p) (sym (lists.get_or-map (row_at start) rows p 0 [] (omega arith))))
-      ∙ ap (λ n. map (λ p. first_row p (table_row (map (row_at start) rows) p)) (numbers n 0)) (sym (lists.length-map rows (row_at start)))
+      ap (first_row p) (sym (lists.get_or-map (row_at pool) rows p 0 [] (omega arith))))
+      ∙ ap (λ n. map (λ p. first_row p (table_row (map (row_at pool) rows) p)) (numbers n 0)) (sym (lists.length-map rows (row_at pool)))
 
-  pub tidied_fit : RowsFit start rows → RowsFit now made
+  -- what a clause of a first row is
+  one_of : (p : ℕ) (c : List ℕ) → In c (clauses_at pool (listed_for made p)) → (p < length rows) × In c (first_row p (row_at pool (row_id rows p)))
+  one_of p c i =
+      let w : (id : ℕ) × In id (listed_for made p) × (c ≡ clause_at pool id) = In_map_cases (clause_at pool) (listed_for made p) c i in
+      let l : p < length made = in_listed made p w.0 w.1 in
+      let m : p < length rows = omega (arith, tidied_count) in
+      (m, subst (λ cs. In c cs) (tidied_at p m) i)
+
+  pub tidied_fit : RowsFit pool rows → ListsFit pool made
   tidied_fit fit = record {
-    is_pool = t.kept.sound fit.is_pool;
-    of_pool = t.within;
-    numbers = λ id i c j n m.
-        let w : (p : ℕ) × (p < length made) × (row_id made p ≡ id) = In_place made id 0 i in
-        let l : w.0 < length rows = omega (arith, w.1, tidied_count) in
-        let k : In c (first_row w.0 (row_at start (row_id rows w.0))) = subst (λ cs. In c cs) (ap (row_at now) (sym w.2) ∙ tidied_at w.0 l) j in
-        let b : n < length rows = fit.numbers (row_id rows w.0) (In_at rows w.0 0 l) c (tidied_parts w.0 (row_at start (row_id rows w.0)) c k).0 n m in
+    is_pool = fit.is_pool;
+    of_pool = λ p id i. t.of_pool (listed_for made p) (In_at made p [] (in_listed made p id i)) id i;
+    in_order = λ p. elim (cases_lt p (length rows)) [
+      | inl l ↦ subst InOrder (sym (tidied_at p l)) (ordered_order (minimal_of (apart_from p (row_at pool (row_id rows p)))))
+      | inr past ↦ subst (λ ids. InOrder (clauses_at pool ids)) (sym (lists.get_or_past made p [] (omega (arith, tidied_count)))) tt
+    ];
+    numbers = λ id p i n j.
+        let w : (p < length rows) × In (clause_at pool id) (first_row p (row_at pool (row_id rows p))) = one_of p (clause_at pool id) (In_map (clause_at pool) (listed_for made p) id i) in
+        let b : n < length rows = fit.numbers (row_id rows p) (In_at rows p 0 w.0) (clause_at pool id) (tidied_parts p (row_at pool (row_id rows p)) (clause_at pool id) w.1).0 n j in
         omega (arith, tidied_count);
   }
 
-  pub tidied_tidy : IsPool start → RowsFit start rows → RowsTidy now made
-  tidied_tidy is fit = record {
-    apart = λ p l c i j.
-        let m : p < length rows = omega (arith, tidied_count) in
-        (tidied_parts p (row_at start (row_id rows p)) c (subst (λ cs. In c cs) (tidied_at p m) i)).1 j;
-    minimal = λ p l c d i j f.
-        let m : p < length rows = omega (arith, tidied_count) in
-        tidied_minimal p (row_at start (row_id rows p)) (row_ascending start is (row_id rows p) (fit.of_pool (row_id rows p) (In_at rows p 0 m))) c d
-        (subst (λ cs. In c cs) (tidied_at p m) i) (subst (λ cs. In d cs) (tidied_at p m) j) f;
+  pub tidied_tidy : RowsFit pool rows → ListsTidy pool made
+  tidied_tidy fit = record {
+    apart = λ p c i j. (tidied_parts p (row_at pool (row_id rows p)) c (one_of p c i).1).1 j;
+    minimal = λ p c d i j f.
+        tidied_minimal p (row_at pool (row_id rows p)) (row_ascending pool fit.is_pool (row_id rows p) (fit.of_pool (row_id rows p) (In_at rows p 0 (one_of p c i).0))) c d
+        (one_of p c i).1 (one_of p d j).1 f;
   }

@@ -6,7 +6,8 @@ use Rattle.row_book.specs.Clauses.{Ascending, InOrder, in_row_order}
 use Rattle.row_book.specs.Support.{IsRow, row}
 use Rattle.row_book.specs.Sound.{OfPackages, SoundClauses, BetweenPackages}
 use Rattle.row_book.specs.Flattening.{all_packages, at_last, has_conflict, row_length, next_gone, remaining_after, core_of, is_held, rows_over, flat, passes, Remaining}
-use Rattle.clause_flatten.specs.Substitution.{union_of, substituted, table_without, stage_after, passes_by_stages}
+use Rattle.clause_families.specs.Unions.{union_of, substituted}
+use Rattle.clause_flatten.specs.Substitution.{table_without, stage_after, passes_by_stages}
 
 -- the computed row is the row, in order
 abbrev pub RowComputes : Type 0
@@ -106,12 +107,3 @@ abbrev pub UntouchedStays : Type 0
 UntouchedStays = (R : Repository) (V : NumSet) (p q : ℕ) (A B : List (List ℕ)) →
     IsRow R V p A → InOrder A → ((T : List ℕ) → In T A → In q T → ⊥) →
     in_row_order (substituted p q A B) ≡ A
-
--- a union by merging: of two ascending lists the lesser first number comes first
-pub record Merges (x y : ℕ) (xs ys : List ℕ) : Type 0 where
-  pub less : x < y → union_of (x ∷ xs) (y ∷ ys) ≡ x ∷ union_of xs (y ∷ ys)
-  pub same : x ≡ y → union_of (x ∷ xs) (y ∷ ys) ≡ x ∷ union_of xs ys
-  pub more : y < x → union_of (x ∷ xs) (y ∷ ys) ≡ y ∷ union_of (x ∷ xs) ys
-
-abbrev pub UnionMerges : Type 0
-UnionMerges = (x y : ℕ) (xs ys : List ℕ) → Ascending (x ∷ xs) → Ascending (y ∷ ys) → Merges x y xs ys

@@ -6,7 +6,7 @@ use Rattle.row_book.specs.Clauses.{minimal_of, apart_from}
 use Rattle.row_book.specs.Support.{Support, IsRow}
 use Rattle.row_book.specs.Sound.{OfPackages, SoundClauses}
 use Rattle.row_book.specs.Flattening.{all_packages}
-use Rattle.clause_flatten.specs.Substitution.{substituted}
+use Rattle.clause_families.specs.Unions.{substituted}
 
 -- what supports a package still does when it grows
 abbrev pub SupportGrows : Type 0

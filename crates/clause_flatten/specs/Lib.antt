@@ -5,9 +5,6 @@ pub use Rattle.row_book.specs.Support
 pub use Rattle.row_book.specs.Sound
 pub use Rattle.row_book.specs.Flattening
 pub mod Substitution
-pub mod Inclusion
-pub mod Branches
-pub mod Families
 pub mod Laws
 pub mod FlatLaws
 pub mod Refusals

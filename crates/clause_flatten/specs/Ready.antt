@@ -1,12 +1,22 @@
--- for the bodies of this crate alone
--- Rows that packages can be taken out of.
-use Rattle.std.specs.Prelude.{ℕ, List}
-use Rattle.clause_pool.specs.Interned.{Interned}
-use Rattle.row_book.specs.Book.{RowsFit, RowsTidy}
-use Rattle.row_book.specs.Holders.{Holders, TellsRows}
+-- Rows that packages can be taken out of, each as the ids of its clauses.
+use Rattle.std.specs.Prelude.{◌≡◌, ℕ, List, map}
+use Rattle.clause_pool.specs.Interned.{Interned, clauses_at}
+use Rattle.row_book.specs.Sets.{In}
+use Rattle.row_book.specs.Clauses.{Inside}
+use Rattle.row_book.specs.Book.{listed_for}
+use Rattle.row_book.specs.Holders.{Holders, ListsFit, TellsRows}
 
--- they are rows of the pool, each is tidy, and the table tells which of them have which clauses
-pub record AreReady (pool : Interned) (rows : List ℕ) (holders : Holders) : Type 0 where
-  pub fit : RowsFit pool rows
-  pub tidy : RowsTidy pool rows
+-- the clauses of each row
+abbrev pub table_of : Interned → List (List ℕ) → List (List (List ℕ))
+table_of pool rows = map (clauses_at pool) rows
+
+-- no clause of a row holds the row's own package, or includes another clause of that row
+pub record ListsTidy (pool : Interned) (rows : List (List ℕ)) : Type 0 where
+  pub apart : (p : ℕ) (c : List ℕ) → In c (clauses_at pool (listed_for rows p)) → In p c → ⊥
+  pub minimal : (p : ℕ) (c d : List ℕ) → In c (clauses_at pool (listed_for rows p)) → In d (clauses_at pool (listed_for rows p)) → Inside c d → c ≡ d
+
+-- they are of clauses of the pool, each is tidy, and the table tells which of them have which clauses
+pub record AreReady (pool : Interned) (rows : List (List ℕ)) (holders : Holders) : Type 0 where
+  pub fit : ListsFit pool rows
+  pub tidy : ListsTidy pool rows
   pub table : TellsRows pool rows holders

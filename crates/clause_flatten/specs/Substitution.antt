@@ -1,39 +1,11 @@
--- Flattening by substitution: when a package is taken out, each clause that names it is replaced by
--- its unions with the package's own clauses. Vouillon and Di Cosmo, "On Software Component
--- Co-Installability", the section on flattening.
-use Rattle.std.specs.Prelude.{ℕ, zero, suc, Bool, not, ◌&&◌, eqb, ltb, cond, List, [], ◌∷◌, ◌++◌, map, length, slice_index_or, Option, Some, None}
-use Rattle.std.specs.List.{filter, list_any}
-use Rattle.row_book.specs.Sets.{has, plus, without}
+-- Tables of rows and stages: a package is taken out of all rows by substitution.
+use Rattle.std.specs.Prelude.{ℕ, zero, suc, Bool, ◌&&◌, eqb, ltb, cond, List, [], map, length, slice_index_or, slice_set, Option, Some, None}
+use Rattle.std.specs.List.{list_any}
+use Rattle.row_book.specs.Sets.{plus, without}
 use Rattle.row_book.specs.Repository.{Repository, clauses_of}
 use Rattle.row_book.specs.Clauses.{apart_from, minimal_of, in_row_order, numbers}
-use Rattle.row_book.specs.Flattening.{packages, none_gone, may_go, soonest, Passed, passed_by, first_some, Remaining}
-
-abbrev pub inserted : ℕ → List ℕ → List ℕ
-inserted n [] = n ∷ []
-inserted n (m ∷ ms) = cond (ltb n m) (n ∷ (m ∷ ms)) (cond (eqb n m) (m ∷ ms) (m ∷ inserted n ms))
-
--- the union of two ascending lists
-abbrev pub union_of : List ℕ → List ℕ → List ℕ
-union_of [] ys = ys
-union_of (x ∷ xs) ys = inserted x (union_of xs ys)
-
--- the clause without the number
-abbrev pub clause_without : ℕ → List ℕ → List ℕ
-clause_without x T = filter (λ n. not (eqb n x)) T
-
--- what stands for a clause when q is taken out: the clause itself, or where it holds q its union,
--- without q, with each clause of q
-abbrev pub unions_for : ℕ → List (List ℕ) → List ℕ → List (List ℕ)
-unions_for q B T = cond (has T q) (map (λ U. union_of (clause_without q T) U) B) (T ∷ [])
-
-abbrev pub all_unions_for : ℕ → List (List ℕ) → List (List ℕ) → List (List ℕ)
-all_unions_for q [] B = []
-all_unions_for q (T ∷ A) B = unions_for q B T ++ all_unions_for q A B
-
--- the clauses of p when q is taken out, from those of p and of q: each is replaced, what then holds
--- p is dropped, and the minimal ones are kept
-abbrev pub substituted : ℕ → ℕ → List (List ℕ) → List (List ℕ) → List (List ℕ)
-substituted p q A B = minimal_of (apart_from p (all_unions_for q A B))
+use Rattle.clause_families.specs.Unions.{substituted}
+use Rattle.row_book.specs.Flattening.{packages, none_gone, may_go, soonest, Passed, passed_by, first_some, stages_tried, Remaining}
 
 -- the row of a package in a table of rows
 abbrev pub table_row : List (List (List ℕ)) → ℕ → List (List ℕ)
@@ -44,6 +16,10 @@ unfoldable pub table_without : ℕ → List (List (List ℕ)) → List (List (Li
 table_without q t =
     map (λ p. cond (eqb p q) (table_row t q) (in_row_order (substituted p q (table_row t p) (table_row t q))))
     (numbers (length t) 0)
+
+-- the table where the row of p alone is substituted
+abbrev pub table_turned : ℕ → ℕ → List (List (List ℕ)) → List (List (List ℕ))
+table_turned p q t = slice_set t p (in_row_order (substituted p q (table_row t p) (table_row t q)))
 
 -- A whole elimination with its table of rows.
 
@@ -92,5 +68,4 @@ stage_after limit hold R (suc i) = next_stage limit hold (stage_after limit hold
 -- where a row of some stage has more clauses than the limit allows; with hold, of the first stage alone
 unfoldable pub passes_by_stages : ℕ → Bool → Repository → Option Passed
 passes_by_stages limit hold R =
-    first_some (map (λ i. passed_by (length_in (stage_after limit hold R i).table) (packages R) limit i)
-    (numbers (cond hold 1 (suc (length R.clauses))) 0))
+    first_some (map (λ i. passed_by (length_in (stage_after limit hold R i).table) (packages R) limit i) (stages_tried hold R))

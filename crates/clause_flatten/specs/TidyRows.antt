@@ -1,10 +1,7 @@
--- for bodies alone, those of other crates too
+-- for the bodies of this crate alone
 -- Rows before any package is taken out: of the clauses of a package those that do not hold it, and of these the minimal ones.
-use Rattle.std.specs.Prelude.{◌≡◌, ℕ, ◌<◌, Bool, not, ◌&&◌, List, length, map}
-use Rattle.clause_pool.specs.Interned.{Interned, row_at}
-use Rattle.row_book.specs.Sets.{has}
+use Rattle.std.specs.Prelude.{ℕ, Bool, true, false, List, [], ◌∷◌, length, map}
 use Rattle.row_book.specs.Clauses.{apart_from, minimal_of, numbers, in_row_order}
-use Rattle.clause_flatten.specs.Inclusion.{has_shorter}
 use Rattle.clause_flatten.specs.Substitution.{table_row}
 
 -- the first row of a package from its clauses
@@ -15,11 +12,8 @@ first_row p cs = in_row_order (minimal_of (apart_from p cs))
 unfoldable pub tidied_table : List (List (List ℕ)) → List (List (List ℕ))
 tidied_table t = map (λ p. first_row p (table_row t p)) (numbers (length t) 0)
 
--- whether a clause of p stays: it does not hold p, and no shorter one is within it
-abbrev pub stays : ℕ → List (List ℕ) → List ℕ → Bool
-stays p cs T = not (has T p) && not (has_shorter cs T)
-
--- each row of the old pool has the same clauses in the new one
-pub record RowsStay (old new : Interned) : Type 0 where
-  pub within : (id : ℕ) → id < length old.rows → id < length new.rows
-  pub same : (id : ℕ) → id < length old.rows → row_at new id ≡ row_at old id
+-- whether the first clause of the family is empty
+abbrev pub begins_empty : List (List ℕ) → Bool
+begins_empty [] = false
+begins_empty ([] ∷ family) = true
+begins_empty ((n ∷ ns) ∷ family) = false

@@ -1,14 +1,16 @@
 //! The rows of a package's users, once it is taken out.
-ghost use Rattle.std.specs.Prelude.{◌≡◌, ◌≢◌, ◌<◌, ◌⊎◌, ℕ, OnErr, OnOk, length, map};
-ghost use Rattle.clause_pool.specs.Interned.{row_at, Kept};
-ghost use Rattle.row_book.specs.Clauses.{in_row_order};
-ghost use Rattle.row_book.specs.Uses.{row_id, users_of};
-ghost use Rattle.clause_flatten.specs.Ready.{AreReady};
-ghost use Rattle.clause_flatten.specs.Substitution.{table_without, substituted, table_row};
+ghost use Rattle.std.specs.Prelude.{◌≡◌, ◌<◌, ℕ, IfOk, OnErr, OnOk, length};
+ghost use Rattle.clause_pool.specs.Interned.{clauses_at, Kept, OfPool};
+ghost use Rattle.row_book.specs.Clauses.{apart_from};
+ghost use Rattle.row_book.specs.Holders.{users_in, ArePlaced};
+ghost use Rattle.row_book.specs.Sets.{In};
+ghost use Rattle.clause_flatten.specs.Ready.{table_of, AreReady};
+ghost use Rattle.clause_flatten.specs.Substitution.{table_turned, table_without};
 
-use crate::substitution::new_row;
-use clause_pool::{Pool, RowId};
-use row_book::ClauseTable;
+use clause_families::{useful_of, with_unions};
+use clause_pool::{ClauseId, Pool};
+use listed::Listed;
+use row_book::{ClauseTable, IdList, clause_holds};
 use std::alloc::{AllocError, Global};
 
 /// Takes a package out of the rows of its users, the last of them first, and so out of all rows: each clause that holds it is
@@ -17,7 +19,7 @@ use std::alloc::{AllocError, Global};
 pub(crate) fn change_rows(
     alloc: Global,
     pool: &mut Pool,
-    rows: &mut [RowId],
+    rows: &mut [IdList],
     uses: &mut ClauseTable,
     users: &[u32],
     gone: u32,
@@ -25,8 +27,8 @@ pub(crate) fn change_rows(
     requires few { length rows.old < u32.MAX }
     requires ready { AreReady pool.old rows.old uses.old }
     requires gone { gone < length rows.old }
-    requires users { users.now ≡ users_of pool.old rows.old gone }
-    ensures ok { OnOk result (map (row_at pool.new) rows.new ≡ table_without gone (map (row_at pool.old) rows.old)) }
+    requires users { users.now ≡ users_in pool.old rows.old gone }
+    ensures ok { OnOk result (table_of pool.new rows.new ≡ table_without gone (table_of pool.old rows.old)) }
     ensures ready { AreReady pool.new rows.new uses.new }
     ensures kept { Kept pool.old pool.new }
 {
@@ -41,7 +43,7 @@ pub(crate) fn change_rows(
 fn change_row(
     alloc: Global,
     pool: &mut Pool,
-    rows: &mut [RowId],
+    rows: &mut [IdList],
     uses: &mut ClauseTable,
     user: u32,
     gone: u32,
@@ -49,17 +51,43 @@ fn change_row(
     requires ready { AreReady pool.old rows.old uses.old }
     requires user { user < length rows.old }
     requires gone { gone < length rows.old }
-    ensures ok { OnOk result (row_at pool.new (row_id rows.new user)
-        ≡ in_row_order (substituted user gone (row_at pool.old (row_id rows.old user)) (row_at pool.old (row_id rows.old gone)))) }
-    ensures err { OnErr result (rows.new ≡ rows.old) }
-    ensures others { (p : ℕ) → p ≢ user → row_id rows.new p ≡ row_id rows.old p }
-    ensures stay { (p : ℕ) → p < length rows.old → p ≢ user → row_at pool.new (row_id rows.new p) ≡ row_at pool.old (row_id rows.old p) }
+    ensures ok { OnOk result (table_of pool.new rows.new ≡ table_turned user gone (table_of pool.old rows.old)) }
     ensures ready { AreReady pool.new rows.new uses.new }
     ensures kept { Kept pool.old pool.new }
 {
-    let old = rows[user as usize];
-    let new = new_row(alloc, pool, rows, user, gone)?;
-    uses.replace(alloc, pool, user, old, new)?;
-    rows[user as usize] = new;
+    let row = rows[user as usize].as_slice();
+    let others = rows[gone as usize].as_slice();
+    let useful = useful_of(alloc, pool, user, gone, row, others)?;
+    if useful.is_empty() {
+        // No clause comes, so the table tells of the shorter row as it is.
+        let left = ids_without(alloc, pool, gone, uses.clauses_with(gone), row)?;
+        rows[user as usize] = Listed::of(left);
+        return Ok(());
+    }
+    let new = with_unions(alloc, pool, gone, row, useful.as_slice())?;
+    uses.replace(alloc, pool, user, row, new.as_slice())?;
+    rows[user as usize] = Listed::of(new);
     Ok(())
+}
+
+/// The ids of the clauses that do not hold a number, where those that do stand at these places.
+fn ids_without(
+    alloc: Global,
+    pool: &Pool,
+    number: u32,
+    places: &[u32],
+    row: &[ClauseId],
+) -> Result<Vec<ClauseId>, AllocError>
+    requires row { OfPool pool.now row.now }
+    requires placed { ArePlaced pool.now number places.now row.now }
+    ensures ok { IfOk result (λ ids. clauses_at pool.now ids.items ≡ apart_from number (clauses_at pool.now row.now)) }
+    ensures part { IfOk result (λ ids. (id : ℕ) → In id ids.items → In id row.now) }
+{
+    let mut ids = Vec::with_capacity(alloc, row.len())?;
+    for id in row {
+        if !clause_holds(pool, *id, number, places) {
+            ids.push(*id)?;
+        }
+    }
+    Ok(ids)
 }

@@ -6,8 +6,9 @@ ghost use Rattle.row_book.specs.Book.{repository_of, AreConflicts, RowsFit, Soun
 ghost use Rattle.row_book.specs.Clauses.{numbers};
 ghost use Rattle.row_book.specs.Flags.{flag};
 ghost use Rattle.row_book.specs.Flattening.{flat, held_of, passes};
+ghost use Rattle.row_book.specs.Holders.{ListsFit};
 ghost use Rattle.row_book.specs.Repository.{Repository};
-ghost use Rattle.clause_flatten.specs.Ready.{AreReady};
+ghost use Rattle.clause_flatten.specs.Ready.{table_of, AreReady};
 ghost use Rattle.clause_flatten.specs.Refusals.{OnLimit};
 ghost use Rattle.clause_flatten.specs.Substitution.{length_in};
 ghost use Rattle.clause_flatten.specs.TakingOut.{is_free};
@@ -20,20 +21,20 @@ use crate::tidy_rows::tidy_rows;
 use crate::waiting::Waiting;
 use clause_pool::{Pool, RowId};
 use listed::{Listed, true_numbers};
-use row_book::{Book, ClauseTable, NumList};
+use row_book::{Book, ClauseTable, IdList, NumList};
 use std::alloc::{AllocError, Global};
 
 /// The packages without conflicts, each filed under the number of clauses of its row.
 fn waiting_in(
     alloc: Global,
     pool: &Pool,
-    rows: &[RowId],
+    rows: &[IdList],
     book: &Book,
 ) -> Result<Waiting, AllocError>
-    requires fit { RowsFit pool.now rows.now }
+    requires fit { ListsFit pool.now rows.now }
     requires size { length rows.now ≡ length book.now.rows }
     ensures { IfOk result (λ waiting. Filed waiting (λ q. ltb q (length book.now.rows) && is_free book.now.conflicts q)
-        (length_in (map (row_at pool.now) rows.now))) }
+        (length_in (table_of pool.now rows.now))) }
 {
     let mut waiting = Waiting::with_room(alloc, book.size())?;
     for number in 0..book.size() {
@@ -56,24 +57,24 @@ struct Rule {
 fn take_all_out(
     alloc: Global,
     pool: &mut Pool,
-    rows: &mut [RowId],
+    rows: &mut [IdList],
     uses: &mut ClauseTable,
     mut waiting: Waiting,
     book: &Book,
     rule: Rule,
 ) -> Result<Vec<bool>, FlatError>
     requires sound { Sound pool.old book.now }
-    requires first { map (row_at pool.old) rows.old ≡ tidied_table (map (row_at pool.old) book.now.rows) }
+    requires first { table_of pool.old rows.old ≡ tidied_table (map (row_at pool.old) book.now.rows) }
     requires ready { AreReady pool.old rows.old uses.old }
     requires waiting { Filed waiting (λ q. ltb q (length book.now.rows) && is_free book.now.conflicts q)
-        (length_in (map (row_at pool.old) rows.old)) }
-    requires within { (p : ℕ) → p < length rows.old → length_in (map (row_at pool.old) rows.old) p ≤ rule.limit }
-    ensures flat { OnOk result (◌≡◌ {A = Repository} (record { clauses = map (row_at pool.new) rows.new; conflicts = book.now.conflicts })
+        (length_in (table_of pool.old rows.old)) }
+    requires within { (p : ℕ) → p < length rows.old → length_in (table_of pool.old rows.old) p ≤ rule.limit }
+    ensures flat { OnOk result (◌≡◌ {A = Repository} (record { clauses = table_of pool.new rows.new; conflicts = book.now.conflicts })
         (flat rule.limit rule.hold (repository_of pool.old book.now))) }
     ensures held { IfOk result (λ held. filter (flag held.items) (numbers (length held.items) 0)
         ≡ held_of rule.limit rule.hold (repository_of pool.old book.now)) }
     ensures few { IfOk result (λ held. length held.items ≡ length book.now.rows) }
-    ensures fit { OnOk result (RowsFit pool.new rows.new) }
+    ensures fit { OnOk result (ListsFit pool.new rows.new) }
     ensures within { OnOk result (passes rule.limit rule.hold (repository_of pool.old book.now) ≡ None) }
     ensures passed { IfErr result (OnLimit (λ passed. passes rule.limit rule.hold (repository_of pool.old book.now) ≡ Some passed)) }
     ensures kept { Kept pool.old pool.new }
@@ -112,6 +113,21 @@ fn with_flag(flags: Vec<bool>, number: u32, is_up: bool) -> Vec<bool>
     flags
 }
 
+/// The rows of these clauses, in the pool.
+fn in_pool(alloc: Global, pool: &mut Pool, lists: &[IdList]) -> Result<Vec<RowId>, AllocError>
+    requires { ListsFit pool.old lists.now }
+    ensures rows { IfOk result (λ rows. map (row_at pool.new) rows.items ≡ table_of pool.old lists.now) }
+    ensures fit { IfOk result (λ rows. RowsFit pool.new rows.items) }
+    ensures kept { Kept pool.old pool.new }
+{
+    let mut rows = Vec::with_capacity(alloc, lists.len())?;
+    for list in lists {
+        let row = pool.intern_row(list.as_slice())?;
+        rows.push(row)?;
+    }
+    Ok(rows)
+}
+
 /// A flattened book, and the packages that were held.
 #[derive(Drop)]
 pub struct Flattened {
@@ -142,27 +158,28 @@ pub fn flatten(
     ensures passed { IfErr result (OnLimit (λ passed. passes limit hold (repository_of pool.old book.now) ≡ Some passed)) }
     ensures kept { Kept pool.old pool.new }
 {
-    let mut rows = tidy_rows(alloc, pool, book.rows.as_slice())?;
-    if let Some(number) = least_over(pool, rows.as_slice(), limit) {
+    let mut lists = tidy_rows(alloc, pool, book.rows.as_slice())?;
+    if let Some(number) = least_over(pool, lists.as_slice(), limit) {
         return Err(FlatError::Limit {
             gone: 0,
             package: number,
-            count: clauses_in(pool, rows.as_slice(), number),
+            count: clauses_in(pool, lists.as_slice(), number),
         });
     }
-    let mut uses = ClauseTable::of(alloc, pool, rows.as_slice())?;
-    let waiting = waiting_in(alloc, pool, rows.as_slice(), book)?;
+    let mut uses = ClauseTable::of(alloc, pool, lists.as_slice())?;
+    let waiting = waiting_in(alloc, pool, lists.as_slice(), book)?;
     let rule = Rule { limit, hold };
     let flags = take_all_out(
         alloc,
         pool,
-        rows.as_mut_slice(),
+        lists.as_mut_slice(),
         &mut uses,
         waiting,
         book,
         rule,
     )?;
     let held = true_numbers(alloc, flags.as_slice())?;
+    let rows = in_pool(alloc, pool, lists.as_slice())?;
     let made = book.with_rows(alloc, Listed::of(rows))?;
     Ok(Flattened { book: made, held })
 }

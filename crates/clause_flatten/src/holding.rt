@@ -2,42 +2,42 @@
 //!
 //! A bound is tried first. Only if it passes the limit are the clauses made, in scratch space, and counted up to the first past
 //! the limit, so asking interns nothing.
-ghost use Rattle.std.specs.Prelude.{◌≡◌, ◌≢◌, ◌++◌, ℕ, ◌<◌, ◌≤◌, ltb, List, IfOk, length, map};
-ghost use Rattle.clause_pool.specs.Interned.{clauses_at, row_at, OfPool, IsPool};
-ghost use Rattle.row_book.specs.Book.{RowsFit, RowsTidy};
+ghost use Rattle.std.specs.Prelude.{◌≡◌, ◌≢◌, ◌++◌, ℕ, ◌<◌, ◌≤◌, ltb, List, IfOk, length};
+ghost use Rattle.clause_pool.specs.Interned.{clauses_at, OfPool, IsPool};
 ghost use Rattle.row_book.specs.Clauses.{apart_from, in_row_order, minimal_of, Ascending, InOrder, Inside};
 ghost use Rattle.row_book.specs.Sets.{In};
-ghost use Rattle.row_book.specs.Uses.{users_of};
+ghost use Rattle.row_book.specs.Holders.{users_in, ListsFit};
 ghost use Rattle.std.specs.Option.{ForSome};
-ghost use Rattle.clause_flatten.specs.Ready.{AreReady};
-ghost use Rattle.clause_flatten.specs.Branches.{TreeOf};
-ghost use Rattle.clause_flatten.specs.Families.{all_unions};
+ghost use Rattle.clause_flatten.specs.Ready.{table_of, AreReady, ListsTidy};
+ghost use Rattle.clause_families.specs.Branches.{TreeOf};
+ghost use Rattle.clause_families.specs.Families.{all_unions};
 ghost use Rattle.clause_flatten.specs.Holding.{clauses_with, most_clauses};
-ghost use Rattle.clause_flatten.specs.Substitution.{length_in, substituted, table_passes, table_without};
+ghost use Rattle.clause_flatten.specs.Substitution.{length_in, table_passes, table_without};
+ghost use Rattle.clause_families.specs.Unions.{substituted};
 ghost use Rattle.clause_flatten.specs.TakingOut.{is_over};
 
-use crate::family::{add_unions, clauses_without, put_in_order, useful_of};
-use crate::family_tree::FamilyTree;
-use crate::needed::{is_longer, tree_of_many};
-use crate::scratch::Clause;
-use clause_pool::{ClauseId, Pool, RowId};
+use clause_families::{
+    Clause, FamilyTree, add_unions, clauses_without, is_longer, put_in_order, tree_of_many,
+    useful_of,
+};
+use clause_pool::{ClauseId, Pool};
 use listed::holds_ascending;
-use row_book::ClauseTable;
+use row_book::{ClauseTable, IdList};
 use std::alloc::{AllocError, Global};
 
 /// Whether some row would have more clauses than the limit allows once the package is taken out.
 pub(crate) fn would_pass(
     alloc: Global,
     pool: &Pool,
-    rows: &[RowId],
+    rows: &[IdList],
     uses: &ClauseTable,
     gone: u32,
     limit: u32,
 ) -> Result<bool, AllocError>
     requires ready { AreReady pool.now rows.now uses.now }
     requires gone { gone < length rows.now }
-    requires within { (p : ℕ) → p < length rows.now → length_in (map (row_at pool.now) rows.now) p ≤ limit }
-    ensures { IfOk result (λ passes. passes ≡ table_passes limit (table_without gone (map (row_at pool.now) rows.now))) }
+    requires within { (p : ℕ) → p < length rows.now → length_in (table_of pool.now rows.now) p ≤ limit }
+    ensures { IfOk result (λ passes. passes ≡ table_passes limit (table_without gone (table_of pool.now rows.now))) }
 {
     let users = uses.users(alloc, pool, rows, gone)?;
     some_would_pass(alloc, pool, rows, users.as_slice(), gone, limit)
@@ -47,17 +47,17 @@ pub(crate) fn would_pass(
 fn some_would_pass(
     alloc: Global,
     pool: &Pool,
-    rows: &[RowId],
+    rows: &[IdList],
     users: &[u32],
     gone: u32,
     limit: u32,
 ) -> Result<bool, AllocError>
-    requires fit { RowsFit pool.now rows.now }
-    requires tidy { RowsTidy pool.now rows.now }
+    requires fit { ListsFit pool.now rows.now }
+    requires tidy { ListsTidy pool.now rows.now }
     requires gone { gone < length rows.now }
-    requires users { users.now ≡ users_of pool.now rows.now gone }
-    requires within { (p : ℕ) → p < length rows.now → length_in (map (row_at pool.now) rows.now) p ≤ limit }
-    ensures { IfOk result (λ passes. passes ≡ table_passes limit (table_without gone (map (row_at pool.now) rows.now))) }
+    requires users { users.now ≡ users_in pool.now rows.now gone }
+    requires within { (p : ℕ) → p < length rows.now → length_in (table_of pool.now rows.now) p ≤ limit }
+    ensures { IfOk result (λ passes. passes ≡ table_passes limit (table_without gone (table_of pool.now rows.now))) }
 {
     for user in users {
         let passes = user_would_pass(alloc, pool, rows, *user, gone, limit)?;
@@ -72,21 +72,21 @@ fn some_would_pass(
 fn user_would_pass(
     alloc: Global,
     pool: &Pool,
-    rows: &[RowId],
+    rows: &[IdList],
     user: u32,
     gone: u32,
     limit: u32,
 ) -> Result<bool, AllocError>
-    requires fit { RowsFit pool.now rows.now }
-    requires tidy { RowsTidy pool.now rows.now }
+    requires fit { ListsFit pool.now rows.now }
+    requires tidy { ListsTidy pool.now rows.now }
     requires user { user < length rows.now }
     requires gone { gone < length rows.now }
     requires other { user ≢ gone }
-    requires within { (p : ℕ) → p < length rows.now → length_in (map (row_at pool.now) rows.now) p ≤ limit }
-    ensures { IfOk result (λ passes. passes ≡ is_over (table_without gone (map (row_at pool.now) rows.now)) limit user) }
+    requires within { (p : ℕ) → p < length rows.now → length_in (table_of pool.now rows.now) p ≤ limit }
+    ensures { IfOk result (λ passes. passes ≡ is_over (table_without gone (table_of pool.now rows.now)) limit user) }
 {
-    let row = rows[user as usize];
-    let others = rows[gone as usize];
+    let row = rows[user as usize].as_slice();
+    let others = rows[gone as usize].as_slice();
     row_would_pass(alloc, pool, user, gone, row, others, limit)
 }
 
@@ -97,28 +97,26 @@ fn row_would_pass(
     pool: &Pool,
     user: u32,
     spent: u32,
-    row: RowId,
-    others: RowId,
+    row: &[ClauseId],
+    others: &[ClauseId],
     limit: u32,
 ) -> Result<bool, AllocError>
     requires pool { IsPool pool.now }
-    requires row { row < length pool.now.rows }
-    requires others { others < length pool.now.rows }
-    requires few { length (row_at pool.now row) ≤ limit }
-    requires few_others { length (row_at pool.now others) ≤ limit }
-    requires apart { (c : List ℕ) → In c (row_at pool.now row) → In user c → ⊥ }
-    requires minimal { (c d : List ℕ) → In c (row_at pool.now row) → In d (row_at pool.now row) → Inside c d → c ≡ d }
+    requires row { OfPool pool.now row.now }
+    requires others { OfPool pool.now others.now }
+    requires few { length row.now ≤ limit }
+    requires few_others { length others.now ≤ limit }
+    requires apart { (c : List ℕ) → In c (clauses_at pool.now row.now) → In user c → ⊥ }
+    requires minimal { (c d : List ℕ) → In c (clauses_at pool.now row.now) → In d (clauses_at pool.now row.now) → Inside c d → c ≡ d }
     ensures { IfOk result (λ passes. passes
-        ≡ ltb limit (length (in_row_order (substituted user spent (row_at pool.now row) (row_at pool.now others))))) }
+        ≡ ltb limit (length (in_row_order (substituted user spent (clauses_at pool.now row.now) (clauses_at pool.now others.now))))) }
 {
-    let clauses = pool.row(row);
-    let own = pool.row(others);
-    let most = most_clauses(pool, spent, clauses, own);
+    let most = most_clauses(pool, spent, row, others);
     if most <= u64::from(limit) {
         return Ok(false);
     }
-    let useful = useful_of(alloc, pool, user, spent, clauses, own)?;
-    let family = family_with_unions(alloc, pool, spent, clauses, useful.as_slice())?;
+    let useful = useful_of(alloc, pool, user, spent, row, others)?;
+    let family = family_with_unions(alloc, pool, spent, row, useful.as_slice())?;
     has_more(alloc, family.as_slice(), limit)
 }
 

@@ -7,15 +7,9 @@
 mod changing;
 mod elimination;
 mod error;
-mod family;
-mod family_tree;
 mod flattening;
 mod holding;
 mod least_tree;
-mod needed;
-mod placing;
-mod rewriting;
-mod scratch;
 mod substitution;
 mod support;
 mod taking_out;
@@ -26,9 +20,7 @@ mod waiting;
 pub use error::FlatError;
 pub use flattening::{Flattened, flatten};
 
-// Clauses and families on the way, and one elimination.
-pub use family::{intern_minimal, put_in_order};
-pub use scratch::Clause;
+// One package is taken out.
 pub use substitution::eliminate;
 
 // Laws of eliminations, and of sets that are kept.
@@ -38,5 +30,5 @@ pub use elimination::{
 };
 pub use support::{
     first_rows, keeps_every_set, lift_is_healthy, one_step, own_row_stays, row_computes,
-    row_is_one, row_tells, substitutes, support_grows, union_merges, untouched_stays,
+    row_is_one, row_tells, substitutes, support_grows, untouched_stays,
 };

@@ -5,9 +5,10 @@ ghost use Rattle.row_book.specs.Book.{RowsFit, RowsTidy};
 ghost use Rattle.row_book.specs.Sets.{In};
 ghost use Rattle.row_book.specs.Clauses.{in_row_order};
 ghost use Rattle.row_book.specs.Uses.{row_id, users_of, uses_of};
-ghost use Rattle.clause_flatten.specs.Substitution.{table_without, substituted, table_row};
+ghost use Rattle.clause_flatten.specs.Substitution.{table_without, table_row};
+ghost use Rattle.clause_families.specs.Unions.{substituted};
 
-use crate::rewriting::rewrite;
+use clause_families::rewrite;
 use clause_pool::{Pool, RowId};
 use row_book::UseTable;
 use std::alloc::{AllocError, Global};
@@ -94,8 +95,10 @@ pub(crate) fn new_row(
     ensures tidies { IfOk result (λ id. RowsTidy pool.new (slice_set rows.now user id)) }
     ensures kept { Kept pool.old pool.new }
 {
-    let old = rows[user as usize];
-    let new = rewrite(alloc, pool, user, gone, old, rows[gone as usize])?;
+    let row = Vec::from_slice(alloc, pool.row(rows[user as usize]))?;
+    let own = Vec::from_slice(alloc, pool.row(rows[gone as usize]))?;
+    let clauses = rewrite(alloc, pool, user, gone, row.as_slice(), own.as_slice())?;
+    let new = pool.intern_row(clauses.as_slice())?;
     Ok(new)
 }
 

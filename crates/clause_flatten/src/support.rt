@@ -1,7 +1,7 @@
 //! The laws of support and of rows, over any set of packages that is left.
 
 ghost use Rattle.clause_flatten.specs.Laws.{FirstRows, KeepsEverySet, LiftIsHealthy, OneStep, OwnRowStays, RowTells, Substitutes, SupportGrows};
-ghost use Rattle.clause_flatten.specs.FlatLaws.{RowComputes, RowIsOne, UnionMerges, UntouchedStays};
+ghost use Rattle.clause_flatten.specs.FlatLaws.{RowComputes, RowIsOne, UntouchedStays};
 
 /// What supports a package still does when it grows.
 pub fn support_grows()
@@ -57,9 +57,4 @@ pub fn lift_is_healthy()
 /// A row stays as it is where none of its clauses holds the package that is taken out.
 pub fn untouched_stays()
     ensures { UntouchedStays }
-{}
-
-/// The union of two clauses can be made by merging.
-pub fn union_merges()
-    ensures { UnionMerges }
 {}

@@ -2,14 +2,14 @@
 //!
 //! The limit is tried on the rows after the whole step, also on those of packages that are gone. Only rows that changed are
 //! looked at, ascending, so the first over the limit is the least.
-ghost use Rattle.std.specs.Prelude.{◌≡◌, ◌<◌, ◌≤◌, ◌&&◌, ℕ, Bool, false, cond, Some, IfOk, IfErr, OnOk, length, map};
+ghost use Rattle.std.specs.Prelude.{◌≡◌, ◌<◌, ◌≤◌, ◌&&◌, ℕ, Bool, false, cond, Some, IfOk, IfErr, OnOk, length};
 ghost use Rattle.std.specs.List.{find};
-ghost use Rattle.clause_pool.specs.Interned.{row_at, Kept};
+ghost use Rattle.clause_pool.specs.Interned.{Kept};
 ghost use Rattle.row_book.specs.Sets.{In};
 ghost use Rattle.row_book.specs.Clauses.{numbers, Ascending};
-ghost use Rattle.row_book.specs.Book.{RowsFit};
+ghost use Rattle.row_book.specs.Holders.{ListsFit};
 ghost use Rattle.row_book.specs.Flattening.{passed_by};
-ghost use Rattle.clause_flatten.specs.Ready.{AreReady};
+ghost use Rattle.clause_flatten.specs.Ready.{table_of, AreReady};
 ghost use Rattle.clause_flatten.specs.Substitution.{table_without, table_passes, length_in};
 ghost use Rattle.clause_flatten.specs.Refusals.{OnLimit};
 ghost use Rattle.clause_flatten.specs.Waiting.{never, Filed};
@@ -19,34 +19,34 @@ use crate::changing::change_rows;
 use crate::error::FlatError;
 use crate::holding::would_pass;
 use crate::waiting::Waiting;
-use clause_pool::{Pool, RowId};
-use row_book::ClauseTable;
+use clause_pool::Pool;
+use row_book::{ClauseTable, IdList};
 use std::alloc::{AllocError, Global};
 
 /// The number of clauses in the row of a package.
-pub(crate) fn clauses_in(pool: &Pool, rows: &[RowId], number: u32) -> u64
-    requires fit { RowsFit pool.now rows.now }
+pub(crate) fn clauses_in(pool: &Pool, rows: &[IdList], number: u32) -> u64
+    requires fit { ListsFit pool.now rows.now }
     requires there { number < length rows.now }
-    ensures count { result ≡ length_in (map (row_at pool.now) rows.now) number }
+    ensures count { result ≡ length_in (table_of pool.now rows.now) number }
     ensures few { result < never }
 {
-    pool.row(rows[number as usize]).len() as u64
+    rows[number as usize].as_slice().len() as u64
 }
 
 /// Whether the row of a package has more clauses than the limit allows.
-fn is_over(pool: &Pool, rows: &[RowId], number: u32, limit: u32) -> bool
-    requires fit { RowsFit pool.now rows.now }
+fn is_over(pool: &Pool, rows: &[IdList], number: u32, limit: u32) -> bool
+    requires fit { ListsFit pool.now rows.now }
     requires there { number < length rows.now }
-    ensures { result ≡ is_over (map (row_at pool.now) rows.now) limit number }
+    ensures { result ≡ is_over (table_of pool.now rows.now) limit number }
 {
     u64::from(limit) < clauses_in(pool, rows, number)
 }
 
 /// The first of the packages whose row has more clauses than the limit allows.
-fn first_over(pool: &Pool, rows: &[RowId], packages: &[u32], limit: u32) -> Option<u32>
-    requires fit { RowsFit pool.now rows.now }
+fn first_over(pool: &Pool, rows: &[IdList], packages: &[u32], limit: u32) -> Option<u32>
+    requires fit { ListsFit pool.now rows.now }
     requires packages { (q : ℕ) → In q packages.now → q < length rows.now }
-    ensures { result ≡ find (is_over (map (row_at pool.now) rows.now) limit) packages.now }
+    ensures { result ≡ find (is_over (table_of pool.now rows.now) limit) packages.now }
 {
     for number in packages {
         if is_over(pool, rows, *number, limit) {
@@ -57,10 +57,10 @@ fn first_over(pool: &Pool, rows: &[RowId], packages: &[u32], limit: u32) -> Opti
 }
 
 /// The least package whose row has more clauses than the limit allows.
-pub(crate) fn least_over(pool: &Pool, rows: &[RowId], limit: u32) -> Option<u32>
+pub(crate) fn least_over(pool: &Pool, rows: &[IdList], limit: u32) -> Option<u32>
     requires few { length rows.now < u32.MAX }
-    requires fit { RowsFit pool.now rows.now }
-    ensures { result ≡ find (is_over (map (row_at pool.now) rows.now) limit) (numbers (length rows.now) 0) }
+    requires fit { ListsFit pool.now rows.now }
+    ensures { result ≡ find (is_over (table_of pool.now rows.now) limit) (numbers (length rows.now) 0) }
 {
     for number in 0..rows.len() as u32 {
         if is_over(pool, rows, number, limit) {
@@ -71,11 +71,11 @@ pub(crate) fn least_over(pool: &Pool, rows: &[RowId], limit: u32) -> Option<u32>
 }
 
 /// Files the packages that wait under the numbers of clauses of their rows.
-fn file_users(pool: &Pool, rows: &[RowId], users: &[u32], waiting: &mut Waiting)
-    requires fit { RowsFit pool.now rows.now }
+fn file_users(pool: &Pool, rows: &[IdList], users: &[u32], waiting: &mut Waiting)
+    requires fit { ListsFit pool.now rows.now }
     requires users { (q : ℕ) → In q users.now → q < length rows.now }
     ensures { (may : ℕ → Bool) (count : ℕ → ℕ) → Filed waiting.old may count →
-        Filed waiting.new may (counted_anew count (map (row_at pool.now) rows.now) users.now) }
+        Filed waiting.new may (counted_anew count (table_of pool.now rows.now) users.now) }
 {
     for user in users {
         waiting.file_again(*user, clauses_in(pool, rows, *user));
@@ -100,7 +100,7 @@ pub(crate) struct Elimination {
 pub(crate) fn take_out_or_hold(
     alloc: Global,
     pool: &mut Pool,
-    rows: &mut [RowId],
+    rows: &mut [IdList],
     uses: &mut ClauseTable,
     waiting: &mut Waiting,
     step: Elimination,
@@ -108,18 +108,18 @@ pub(crate) fn take_out_or_hold(
     requires few { length rows.old < u32.MAX }
     requires ready { AreReady pool.old rows.old uses.old }
     requires there { step.next < length rows.old }
-    requires within { (p : ℕ) → p < length rows.old → length_in (map (row_at pool.old) rows.old) p ≤ step.limit }
-    ensures held { IfOk result (λ held. held ≡ (step.hold && table_passes step.limit (table_without step.next (map (row_at pool.old) rows.old)))) }
-    ensures rows { IfOk result (λ held. map (row_at pool.new) rows.new
-        ≡ cond held (map (row_at pool.old) rows.old) (table_without step.next (map (row_at pool.old) rows.old))) }
+    requires within { (p : ℕ) → p < length rows.old → length_in (table_of pool.old rows.old) p ≤ step.limit }
+    ensures held { IfOk result (λ held. held ≡ (step.hold && table_passes step.limit (table_without step.next (table_of pool.old rows.old)))) }
+    ensures rows { IfOk result (λ held. table_of pool.new rows.new
+        ≡ cond held (table_of pool.old rows.old) (table_without step.next (table_of pool.old rows.old))) }
     ensures ready { AreReady pool.new rows.new uses.new }
     ensures kept { Kept pool.old pool.new }
     ensures within { IfOk result (λ held. held ≡ false → (p : ℕ) → p < length rows.old →
-        length_in (table_without step.next (map (row_at pool.old) rows.old)) p ≤ step.limit) }
+        length_in (table_without step.next (table_of pool.old rows.old)) p ≤ step.limit) }
     ensures passed { IfErr result (OnLimit (λ passed. (step.hold ≡ false)
-        × (passed_by (length_in (table_without step.next (map (row_at pool.old) rows.old))) (numbers (length rows.old) 0) step.limit step.gone ≡ Some passed))) }
-    ensures filed { IfOk result (λ held. (may : ℕ → Bool) → Filed waiting.old may (length_in (map (row_at pool.old) rows.old)) →
-        Filed waiting.new may (length_in (cond held (map (row_at pool.old) rows.old) (table_without step.next (map (row_at pool.old) rows.old))))) }
+        × (passed_by (length_in (table_without step.next (table_of pool.old rows.old))) (numbers (length rows.old) 0) step.limit step.gone ≡ Some passed))) }
+    ensures filed { IfOk result (λ held. (may : ℕ → Bool) → Filed waiting.old may (length_in (table_of pool.old rows.old)) →
+        Filed waiting.new may (length_in (cond held (table_of pool.old rows.old) (table_without step.next (table_of pool.old rows.old))))) }
 {
     let stays = is_to_stay(alloc, pool, rows, uses, step)?;
     if stays {
@@ -133,14 +133,14 @@ pub(crate) fn take_out_or_hold(
 fn is_to_stay(
     alloc: Global,
     pool: &Pool,
-    rows: &[RowId],
+    rows: &[IdList],
     uses: &ClauseTable,
     step: Elimination,
 ) -> Result<bool, AllocError>
     requires ready { AreReady pool.now rows.now uses.now }
     requires there { step.next < length rows.now }
-    requires within { (p : ℕ) → p < length rows.now → length_in (map (row_at pool.now) rows.now) p ≤ step.limit }
-    ensures { IfOk result (λ stays. stays ≡ (step.hold && table_passes step.limit (table_without step.next (map (row_at pool.now) rows.now)))) }
+    requires within { (p : ℕ) → p < length rows.now → length_in (table_of pool.now rows.now) p ≤ step.limit }
+    ensures { IfOk result (λ stays. stays ≡ (step.hold && table_passes step.limit (table_without step.next (table_of pool.now rows.now)))) }
 {
     if !step.hold {
         return Ok(false);
@@ -153,7 +153,7 @@ fn is_to_stay(
 pub(crate) fn take_out(
     alloc: Global,
     pool: &mut Pool,
-    rows: &mut [RowId],
+    rows: &mut [IdList],
     uses: &mut ClauseTable,
     waiting: &mut Waiting,
     step: Elimination,
@@ -161,16 +161,16 @@ pub(crate) fn take_out(
     requires few { length rows.old < u32.MAX }
     requires ready { AreReady pool.old rows.old uses.old }
     requires there { step.next < length rows.old }
-    requires within { (p : ℕ) → p < length rows.old → length_in (map (row_at pool.old) rows.old) p ≤ step.limit }
-    ensures rows { OnOk result (map (row_at pool.new) rows.new ≡ table_without step.next (map (row_at pool.old) rows.old)) }
+    requires within { (p : ℕ) → p < length rows.old → length_in (table_of pool.old rows.old) p ≤ step.limit }
+    ensures rows { OnOk result (table_of pool.new rows.new ≡ table_without step.next (table_of pool.old rows.old)) }
     ensures ready { AreReady pool.new rows.new uses.new }
     ensures kept { Kept pool.old pool.new }
     ensures within { OnOk result ((p : ℕ) → p < length rows.old →
-        length_in (table_without step.next (map (row_at pool.old) rows.old)) p ≤ step.limit) }
+        length_in (table_without step.next (table_of pool.old rows.old)) p ≤ step.limit) }
     ensures passed { IfErr result (OnLimit (λ passed.
-        passed_by (length_in (table_without step.next (map (row_at pool.old) rows.old))) (numbers (length rows.old) 0) step.limit step.gone ≡ Some passed)) }
-    ensures filed { OnOk result ((may : ℕ → Bool) → Filed waiting.old may (length_in (map (row_at pool.old) rows.old)) →
-        Filed waiting.new may (length_in (table_without step.next (map (row_at pool.old) rows.old)))) }
+        passed_by (length_in (table_without step.next (table_of pool.old rows.old))) (numbers (length rows.old) 0) step.limit step.gone ≡ Some passed)) }
+    ensures filed { OnOk result ((may : ℕ → Bool) → Filed waiting.old may (length_in (table_of pool.old rows.old)) →
+        Filed waiting.new may (length_in (table_without step.next (table_of pool.old rows.old)))) }
 {
     let users = uses.users(alloc, pool, rows, step.next)?;
     change_rows(alloc, pool, rows, uses, users.as_slice(), step.next)?;

@@ -1,16 +1,18 @@
 //! The rows before any package is taken out.
 ghost use Rattle.std.specs.Prelude.{◌≡◌, ◌<◌, ℕ, List, IfOk, length, map};
 ghost use Rattle.std.specs.List.{filter};
-ghost use Rattle.clause_pool.specs.Interned.{clause_at, clauses_at, row_at, Kept, OfPool, IsPool};
-ghost use Rattle.row_book.specs.Book.{RowsFit, RowsTidy};
+ghost use Rattle.clause_pool.specs.Interned.{clause_at, clauses_at, row_at, OfPool, IsPool};
+ghost use Rattle.row_book.specs.Book.{RowsFit};
 ghost use Rattle.row_book.specs.Clauses.{Ascending, InOrder};
+ghost use Rattle.row_book.specs.Holders.{ListsFit};
 ghost use Rattle.row_book.specs.Sets.{In};
-ghost use Rattle.clause_flatten.specs.Inclusion.{begins_empty};
-ghost use Rattle.clause_flatten.specs.TidyRows.{stays, first_row, tidied_table, RowsStay};
+ghost use Rattle.clause_flatten.specs.Ready.{table_of, ListsTidy};
+ghost use Rattle.clause_flatten.specs.TidyRows.{begins_empty, first_row, tidied_table};
+ghost use Rattle.clause_families.specs.Inclusion.{stays};
 
 use clause_pool::{ClauseId, Pool, RowId};
-use listed::holds_ascending;
-use row_book::has_within;
+use listed::{Listed, holds_ascending};
+use row_book::{IdList, has_within};
 use std::alloc::{AllocError, Global};
 
 /// Whether the clause of the row stays: it does not hold the package, and no other one lies within it.
@@ -67,31 +69,28 @@ fn kept_clauses(
 }
 
 /// The first row of a package from the row of its clauses.
-fn tidy_row(alloc: Global, pool: &mut Pool, number: u32, row: RowId) -> Result<RowId, AllocError>
-    requires pool { IsPool pool.old }
-    requires row { row < length pool.old.rows }
-    ensures within { IfOk result (λ id. id < length pool.new.rows) }
-    ensures tidied { IfOk result (λ id. row_at pool.new id ≡ first_row number (row_at pool.old row)) }
-    ensures stay { RowsStay pool.old pool.new }
-    ensures kept { Kept pool.old pool.new }
+fn tidy_row(alloc: Global, pool: &Pool, number: u32, row: RowId) -> Result<IdList, AllocError>
+    requires pool { IsPool pool.now }
+    requires row { row < length pool.now.rows }
+    ensures of_pool { IfOk result (OfPool pool.now) }
+    ensures tidied { IfOk result (λ ids. clauses_at pool.now ids ≡ first_row number (row_at pool.now row)) }
 {
     let kept = kept_clauses(alloc, pool, number, pool.row(row))?;
-    pool.intern_row(kept.as_slice())
+    Ok(Listed::of(kept))
 }
 
 /// The first row of each package from the rows of their clauses.
 pub(crate) fn tidy_rows(
     alloc: Global,
-    pool: &mut Pool,
+    pool: &Pool,
     rows: &[RowId],
-) -> Result<Vec<RowId>, AllocError>
+) -> Result<Vec<IdList>, AllocError>
     requires few { length rows.now < u32.MAX }
-    requires fit { RowsFit pool.old rows.now }
-    ensures tidied { IfOk result (λ made. map (row_at pool.new) made.items ≡ tidied_table (map (row_at pool.old) rows.now)) }
+    requires fit { RowsFit pool.now rows.now }
+    ensures tidied { IfOk result (λ made. table_of pool.now made.items ≡ tidied_table (map (row_at pool.now) rows.now)) }
     ensures count { IfOk result (λ made. length made.items ≡ length rows.now) }
-    ensures fit { IfOk result (λ made. RowsFit pool.new made.items) }
-    ensures tidy { IfOk result (λ made. RowsTidy pool.new made.items) }
-    ensures kept { Kept pool.old pool.new }
+    ensures fit { IfOk result (λ made. ListsFit pool.now made.items) }
+    ensures tidy { IfOk result (λ made. ListsTidy pool.now made.items) }
 {
     let mut made = Vec::with_capacity(alloc, rows.len())?;
     for (number, row) in rows.iter().enumerate() {

@@ -11,7 +11,7 @@ use Rattle.row_book.specs.Flattening.{packages}
 use Rattle.row_book.specs.Sound.{TidyRepository}
 use Rattle.row_book.specs.Facing.{sides}
 use Rattle.row_book.specs.Rounds.{weigh}
-use Rattle.row_book.specs.Pruning.{with_clauses, is_dead, with_empty_clause, others, without_clause, serves, is_forced, is_harmless, is_met, is_idle, is_dropped, prune_clause, prune_clauses, prune_package, prune_over, prune, lift_idle}
+use Rattle.row_book.specs.Pruning.{emptied, with_clauses, is_dead, with_empty_clause, others, without_clause, serves, is_forced, is_harmless, is_met, is_idle, is_dropped, prune_clause, prune_clauses, prune_package, prune_over, prune, lift_idle}
 use Rattle.row_book.proofs.Clauses.{inside_at}
 use Rattle.row_book.proofs.Lists.{In_cases, In_none, has_In, all_at, any_cases, any_hit, hit_any}
 use Rattle.row_book.proofs.Order.{order_filter}
@@ -253,24 +253,24 @@ drop_step R p d t range go = record {
   order = λ o n. with_order R p (others R p d) (order_filter (λ c. not (pointwise eqb c d)) (clauses_of R p) (o p)) o n;
 }
 
-pub clause_step : (R : Repository) (p : ℕ) (d : List ℕ) → TidyRepository R → ((n : ℕ) → In n d → n < length R.clauses) → Step R (prune_clause R p d)
+pub clause_step : (R : Repository) (p : ℕ) (d : List ℕ) → TidyRepository R → ((n : ℕ) → In n d → n < length R.clauses) → Step R (prune_clause R p d).left
 clause_step R p d t range = pick (is_dropped R p d) refl
   where
     pick : (b : Bool) → is_dropped R p d ≡ b → Step R (cond b (without_clause R p d) R)
     pick true e = drop_step R p d t range e
     pick false e = stay R t
 
-pub clauses_step : (ds : List (List ℕ)) (R : Repository) (p : ℕ) → TidyRepository R → ((d : List ℕ) → In d ds → (n : ℕ) → In n d → n < length R.clauses) → Step R (prune_clauses R p ds)
+pub clauses_step : (ds : List (List ℕ)) (R : Repository) (p : ℕ) → TidyRepository R → ((d : List ℕ) → In d ds → (n : ℕ) → In n d → n < length R.clauses) → Step R (prune_clauses R p ds).left
 clauses_step [] R p t range = stay R t
 clauses_step (d ∷ ds) R p t range =
-    let s : Step R (prune_clause R p d) = clause_step R p d t (range d here) in
-    steps R (prune_clause R p d) (prune_clauses R p (d ∷ ds)) s
-    (clauses_step ds (prune_clause R p d) p s.tidy (λ c i n j. subst (λ k. n < k) (sym s.size) (range c (there i) n j)))
+    let s : Step R (prune_clause R p d).left = clause_step R p d t (range d here) in
+    steps R (prune_clause R p d).left (prune_clauses R p (d ∷ ds)).left s
+    (clauses_step ds (prune_clause R p d).left p s.tidy (λ c i n j. subst (λ k. n < k) (sym s.size) (range c (there i) n j)))
 
-pub package_step : (R : Repository) (p : ℕ) → TidyRepository R → Step R (prune_package R p)
+pub package_step : (R : Repository) (p : ℕ) → TidyRepository R → Step R (prune_package R p).left
 package_step R p t = pick (is_dead R p) refl
   where
-    pick : (b : Bool) → is_dead R p ≡ b → Step R (cond b (with_empty_clause R p) (prune_clauses R p (clauses_of R p)))
+    pick : (b : Bool) → is_dead R p ≡ b → Step R (cond b (emptied R p) (prune_clauses R p (clauses_of R p))).left
     pick true e = record {
       keeps = healthy_coinst R (with_empty_clause R p) (λ I. dead_keeps_lem R p I e);
       tidy = tidy_row R p ([] ∷ []) t (inr (λ c i. elim (In_cases i) [ inl g ↦ g | inr j ↦ absurd (In_none j) ]));
@@ -285,11 +285,11 @@ package_step R p t = pick (is_dead R p) refl
     }
     pick false e = clauses_step (clauses_of R p) R p t (λ d i. (t.sound.clauses p d i).1)
 
-pub over_step : (ps : List ℕ) (R : Repository) → TidyRepository R → Step R (prune_over R ps)
+pub over_step : (ps : List ℕ) (R : Repository) → TidyRepository R → Step R (prune_over R ps).left
 over_step [] R t = stay R t
 over_step (p ∷ ps) R t =
-    let s : Step R (prune_package R p) = package_step R p t in
-    steps R (prune_package R p) (prune_over R (p ∷ ps)) s (over_step ps (prune_package R p) s.tidy)
+    let s : Step R (prune_package R p).left = package_step R p t in
+    steps R (prune_package R p).left (prune_over R (p ∷ ps)).left s (over_step ps (prune_package R p).left s.tidy)
 
 pub prune_step : (R : Repository) → TidyRepository R → Step R (prune R)
 unfolding prune

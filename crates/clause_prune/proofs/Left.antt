@@ -13,7 +13,7 @@ use Rattle.row_book.specs.Clauses.{InOrder}
 use Rattle.row_book.proofs.Lists.{filter_cases}
 use Rattle.row_book.proofs.Order.{order_filter}
 use Rattle.row_book.specs.Repository.{Repository, clauses_of}
-use Rattle.row_book.specs.Pruning.{IdleClause, clause_steps, clauses_steps, prune_clauses, is_forced, is_idle, others, is_dead, with_empty_clause, package_steps, prune_clause, prune_package, step_by, with_clauses, without_clause}
+use Rattle.row_book.specs.Pruning.{emptied, IdleClause, prune_clause, prune_clauses, is_forced, is_idle, others, is_dead, prune_package, step_by, with_clauses, without_clause}
 use Rattle.row_book.specs.Rounds.{IdleStep, RoundStep}
 use Rattle.row_book.proofs.Repositories.{repository_same}
 use Rattle.row_book.specs.Facing.{against_in}
@@ -56,22 +56,22 @@ module _ (pool : Interned) (is : IsPool pool) (rows : List ℕ) (p : ℕ) (left 
       refl
 
   pub went : (b : Bool) → b ≡ true → (is_forced R p (clause_at pool id) || list_any (is_idle R p (clause_at pool id)) (clause_at pool id)) ≡ b →
-      with_ids pool rows p (ids_without left id) table ≡ prune_clause R p (clause_at pool id)
+      with_ids pool rows p (ids_without left id) table ≡ (prune_clause R p (clause_at pool id)).left
   went b e f = less_left ∙ sym (ap (λ t. cond t (without_clause R p (clause_at pool id)) R) (f ∙ e))
 
-  pub forced_goes : is_forced R p (clause_at pool id) ≡ true → with_ids pool rows p (ids_without left id) table ≡ prune_clause R p (clause_at pool id)
+  pub forced_goes : is_forced R p (clause_at pool id) ≡ true → with_ids pool rows p (ids_without left id) table ≡ (prune_clause R p (clause_at pool id)).left
   forced_goes e = went true refl (ap (λ t. t || list_any (is_idle R p (clause_at pool id)) (clause_at pool id)) e)
 
-  pub idle_goes : (x : ℕ) → is_forced R p (clause_at pool id) ≡ false → Some x ≡ find (is_idle R p (clause_at pool id)) (clause_at pool id) → with_ids pool rows p (ids_without left id) table ≡ prune_clause R p (clause_at pool id)
+  pub idle_goes : (x : ℕ) → is_forced R p (clause_at pool id) ≡ false → Some x ≡ find (is_idle R p (clause_at pool id)) (clause_at pool id) → with_ids pool rows p (ids_without left id) table ≡ (prune_clause R p (clause_at pool id)).left
   idle_goes x e f =
       went true refl (ap (λ t. t || list_any (is_idle R p (clause_at pool id)) (clause_at pool id)) e ∙ any_found (is_idle R p (clause_at pool id)) (clause_at pool id) ∙ ap is_some (sym f))
 
-  pub none_goes : is_forced R p (clause_at pool id) ≡ false → None ≡ find (is_idle R p (clause_at pool id)) (clause_at pool id) → R ≡ prune_clause R p (clause_at pool id)
+  pub none_goes : is_forced R p (clause_at pool id) ≡ false → None ≡ find (is_idle R p (clause_at pool id)) (clause_at pool id) → R ≡ (prune_clause R p (clause_at pool id)).left
   none_goes e f =
       sym (ap (λ t. cond t (without_clause R p (clause_at pool id)) R)
       (ap (λ t. t || list_any (is_idle R p (clause_at pool id)) (clause_at pool id)) e ∙ any_found (is_idle R p (clause_at pool id)) (clause_at pool id) ∙ ap is_some (sym f)))
 
-  pub found_steps : (o : Option ℕ) → is_forced R p (clause_at pool id) ≡ false → o ≡ find (is_idle R p (clause_at pool id)) (clause_at pool id) → clause_steps R p (clause_at pool id) ≡ step_by p (clause_at pool id) o
+  pub found_steps : (o : Option ℕ) → is_forced R p (clause_at pool id) ≡ false → o ≡ find (is_idle R p (clause_at pool id)) (clause_at pool id) → (prune_clause R p (clause_at pool id)).steps ≡ step_by p (clause_at pool id) o
   found_steps o e f = ap₂ (λ t u. cond t [] (step_by p (clause_at pool id) u)) e (sym f)
 
 ids_part : (left : List ℕ) (clause id : ℕ) → In id (ids_without left clause) → In id left
@@ -86,24 +86,24 @@ order_less pool is left new id of l e o =
 
 -- the clauses one after another
 pub record Pruning (pool : Interned) (rows : List ℕ) (p : ℕ) (ids left : List ℕ) (table : List (List ℕ)) (first told : List RoundStep) (rest : List ℕ) : Type 0 where
-  pub clauses : prune_clauses (with_ids pool rows p left table) p (clauses_at pool rest) ≡ prune_clauses (with_ids pool rows p ids table) p (clauses_at pool ids)
+  pub clauses : (prune_clauses (with_ids pool rows p left table) p (clauses_at pool rest)).left ≡ (prune_clauses (with_ids pool rows p ids table) p (clauses_at pool ids)).left
   pub part : (id : ℕ) → In id left → In id ids
   pub order : InOrder (clauses_at pool ids) → InOrder (clauses_at pool left)
-  pub idle : told ++ map IdleStep (clauses_steps (with_ids pool rows p left table) p (clauses_at pool rest)) ≡ first ++ map IdleStep (clauses_steps (with_ids pool rows p ids table) p (clauses_at pool ids))
+  pub idle : told ++ map IdleStep (prune_clauses (with_ids pool rows p left table) p (clauses_at pool rest)).steps ≡ first ++ map IdleStep (prune_clauses (with_ids pool rows p ids table) p (clauses_at pool ids)).steps
 
 pub pruning_more : (pool : Interned) (rows : List ℕ) (p : ℕ) (ids left new : List ℕ) (table : List (List ℕ)) (first told more : List RoundStep) (id : ℕ) (rest : List ℕ) →
-    Pruning pool rows p ids left table first told (id ∷ rest) → with_ids pool rows p new table ≡ prune_clause (with_ids pool rows p left table) p (clause_at pool id) → ((x : ℕ) → In x new → In x left) →
-    (InOrder (clauses_at pool left) → InOrder (clauses_at pool new)) → more ≡ told ++ map IdleStep (clause_steps (with_ids pool rows p left table) p (clause_at pool id)) →
+    Pruning pool rows p ids left table first told (id ∷ rest) → with_ids pool rows p new table ≡ (prune_clause (with_ids pool rows p left table) p (clause_at pool id)).left → ((x : ℕ) → In x new → In x left) →
+    (InOrder (clauses_at pool left) → InOrder (clauses_at pool new)) → more ≡ told ++ map IdleStep (prune_clause (with_ids pool rows p left table) p (clause_at pool id)).steps →
     Pruning pool rows p ids new table first more rest
 pruning_more pool rows p ids left new table first told more id rest s e f g h =
     let R : Repository = with_ids pool rows p left table in
-    let now : List IdleClause = clause_steps R p (clause_at pool id) in
-    let then : List IdleClause = clauses_steps (prune_clause R p (clause_at pool id)) p (clauses_at pool rest) in
+    let now : List IdleClause = (prune_clause R p (clause_at pool id)).steps in
+    let then : List IdleClause = (prune_clauses (prune_clause R p (clause_at pool id)).left p (clauses_at pool rest)).steps in
     record {
-      clauses = ap (λ F. prune_clauses F p (clauses_at pool rest)) e ∙ s.clauses;
+      clauses = ap (λ F. (prune_clauses F p (clauses_at pool rest)).left) e ∙ s.clauses;
       part = λ x i. s.part x (f x i);
       order = λ o. g (s.order o);
-      idle = ap₂ (λ z F. z ++ map IdleStep (clauses_steps F p (clauses_at pool rest))) h e
+      idle = ap₂ (λ z F. z ++ map IdleStep (prune_clauses F p (clauses_at pool rest)).steps) h e
           ∙ append_assoc told (map IdleStep now) (map IdleStep then)
           ∙ ap (λ z. told ++ z) (sym (map-append IdleStep now then)) ∙ s.idle;
     }
@@ -124,20 +124,20 @@ module _ (pool : Interned) (rows : List ℕ) (p : ℕ) (ids : List ℕ) (table :
   pub dead_is : face (against_in table) ((p ∷ []) ∷ clauses_at pool ids) ((p ∷ []) ∷ clauses_at pool ids) ≡ is_dead R0 p
   dead_is = ap (λ cs. face (against_in table) ((p ∷ []) ∷ cs) ((p ∷ []) ∷ cs)) (sym own_clauses)
 
-  pub dead_package : (cs : List (List ℕ)) → is_dead R0 p ≡ true → cs ≡ [] ∷ [] → prune_package R0 p ≡ with_clauses R0 p cs
-  dead_package cs e f = ap (λ b. cond b (with_empty_clause R0 p) (prune_clauses R0 p (clauses_of R0 p))) e ∙ ap (with_clauses R0 p) (sym f)
+  pub dead_package : (cs : List (List ℕ)) → is_dead R0 p ≡ true → cs ≡ [] ∷ [] → (prune_package R0 p).left ≡ with_clauses R0 p cs
+  dead_package cs e f = ap (λ b. (cond b (emptied R0 p) (prune_clauses R0 p (clauses_of R0 p))).left) e ∙ ap (with_clauses R0 p) (sym f)
 
-  pub live_package : (left : List ℕ) (cs : List (List ℕ)) → is_dead R0 p ≡ false → with_ids pool rows p left table ≡ prune_clauses (with_ids pool rows p ids table) p (clauses_at pool ids) → cs ≡ clauses_at pool left →
-      prune_package R0 p ≡ with_clauses R0 p cs
+  pub live_package : (left : List ℕ) (cs : List (List ℕ)) → is_dead R0 p ≡ false → with_ids pool rows p left table ≡ (prune_clauses (with_ids pool rows p ids table) p (clauses_at pool ids)).left → cs ≡ clauses_at pool left →
+      (prune_package R0 p).left ≡ with_clauses R0 p cs
   live_package left cs e f g =
-      ap (λ b. cond b (with_empty_clause R0 p) (prune_clauses R0 p (clauses_of R0 p))) e
-      ∙ ap₂ (λ F c. prune_clauses F p c) (sym start_is) own_clauses ∙ sym f ∙ ap (with_clauses R0 p) (sym g)
+      ap (λ b. (cond b (emptied R0 p) (prune_clauses R0 p (clauses_of R0 p))).left) e
+      ∙ ap₂ (λ F c. (prune_clauses F p c).left) (sym start_is) own_clauses ∙ sym f ∙ ap (with_clauses R0 p) (sym g)
 
-  pub dead_steps : is_dead R0 p ≡ true → package_steps R0 p ≡ []
-  dead_steps e = ap (λ b. cond b [] (clauses_steps R0 p (clauses_of R0 p))) e
+  pub dead_steps : is_dead R0 p ≡ true → (prune_package R0 p).steps ≡ []
+  dead_steps e = ap (λ b. (cond b (emptied R0 p) (prune_clauses R0 p (clauses_of R0 p))).steps) e
 
-  pub live_steps : is_dead R0 p ≡ false → package_steps R0 p ≡ clauses_steps (with_ids pool rows p ids table) p (clauses_at pool ids)
-  live_steps e = ap (λ b. cond b [] (clauses_steps R0 p (clauses_of R0 p))) e ∙ ap₂ (λ F c. clauses_steps F p c) (sym start_is) own_clauses
+  pub live_steps : is_dead R0 p ≡ false → (prune_package R0 p).steps ≡ (prune_clauses (with_ids pool rows p ids table) p (clauses_at pool ids)).steps
+  live_steps e = ap (λ b. (cond b (emptied R0 p) (prune_clauses R0 p (clauses_of R0 p))).steps) e ∙ ap₂ (λ F c. (prune_clauses F p c).steps) (sym start_is) own_clauses
 
 pub on_ok : {A E : Type 0} {P : Type 0} (r : Result A E) → P → OnOk r P
 on_ok (Ok x) p = p

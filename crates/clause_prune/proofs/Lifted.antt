@@ -6,7 +6,7 @@ use Rattle.row_book.specs.Sets.{NumSet, In, here, there}
 use Rattle.row_book.specs.Repository.{Repository, Healthy, clauses_of}
 use Rattle.row_book.specs.Flattening.{packages}
 use Rattle.row_book.specs.Sound.{TidyRepository}
-use Rattle.row_book.specs.Pruning.{with_empty_clause, is_dead, is_forced, is_idle, without_clause, prune_clause, prune_clauses, prune_package, prune_over, prune, lift_idle, IdleClause, step_by, clause_steps, clauses_steps, package_steps, steps_over, idle_steps, lift_all}
+use Rattle.row_book.specs.Pruning.{emptied, is_dead, is_forced, is_idle, without_clause, prune_clause, prune_clauses, prune_package, prune_over, prune, lift_idle, IdleClause, step_by, idle_steps, lift_all}
 use Rattle.row_book.proofs.Lists.{find_some}
 use Rattle.clause_prune.specs.Laws.{PruneLifts}
 use Rattle.clause_prune.proofs.Dropping.{Step, dead_keeps_lem, forced_keeps_lem, idle_lifts_ranged, clause_step, package_step}
@@ -24,7 +24,7 @@ back_append I [] ys = refl
 back_append I (s ∷ xs) ys = ap (λ K. lift_idle K s.«package» s.clause s.added) (back_append I xs ys)
 
 clause_lift : (R : Repository) (p : ℕ) (d : List ℕ) (I : NumSet) → TidyRepository R → ((n : ℕ) → In n d → n < length R.clauses) →
-    Healthy (prune_clause R p d) I → Healthy R (lift_all I (clause_steps R p d))
+    Healthy (prune_clause R p d).left I → Healthy R (lift_all I (prune_clause R p d).steps)
 clause_lift R p d I t range h =
     pick (is_forced R p d) refl (find (is_idle R p d) d) refl
     (subst (λ b. Healthy (cond (is_forced R p d || b) (without_clause R p d) R) I) (any_found (is_idle R p d) d) h)
@@ -36,29 +36,29 @@ clause_lift R p d I t range h =
     pick false e (Some x) f g = idle_lifts_ranged R p d x I t range (find_some (is_idle R p d) d x f).1 g
 
 clauses_lift : (ds : List (List ℕ)) (R : Repository) (p : ℕ) (I : NumSet) → TidyRepository R → ((d : List ℕ) → In d ds → (n : ℕ) → In n d → n < length R.clauses) →
-    Healthy (prune_clauses R p ds) I → Healthy R (lift_all I (clauses_steps R p ds))
+    Healthy (prune_clauses R p ds).left I → Healthy R (lift_all I (prune_clauses R p ds).steps)
 clauses_lift [] R p I t range h = h
 clauses_lift (d ∷ ds) R p I t range h =
-    let s : Step R (prune_clause R p d) = clause_step R p d t (range d here) in
-    let rest : Healthy (prune_clause R p d) (lift_all I (clauses_steps (prune_clause R p d) p ds)) =
-    clauses_lift ds (prune_clause R p d) p I s.tidy (λ c i n j. subst (λ k. n < k) (sym s.size) (range c (there i) n j)) h in
-    subst (λ K. Healthy R K) (sym (back_append I (clause_steps R p d) (clauses_steps (prune_clause R p d) p ds)))
-    (clause_lift R p d (lift_all I (clauses_steps (prune_clause R p d) p ds)) t (range d here) rest)
+    let s : Step R (prune_clause R p d).left = clause_step R p d t (range d here) in
+    let rest : Healthy (prune_clause R p d).left (lift_all I (prune_clauses (prune_clause R p d).left p ds).steps) =
+    clauses_lift ds (prune_clause R p d).left p I s.tidy (λ c i n j. subst (λ k. n < k) (sym s.size) (range c (there i) n j)) h in
+    subst (λ K. Healthy R K) (sym (back_append I (prune_clause R p d).steps (prune_clauses (prune_clause R p d).left p ds).steps))
+    (clause_lift R p d (lift_all I (prune_clauses (prune_clause R p d).left p ds).steps) t (range d here) rest)
 
-package_lift : (R : Repository) (p : ℕ) (I : NumSet) → TidyRepository R → Healthy (prune_package R p) I → Healthy R (lift_all I (package_steps R p))
+package_lift : (R : Repository) (p : ℕ) (I : NumSet) → TidyRepository R → Healthy (prune_package R p).left I → Healthy R (lift_all I (prune_package R p).steps)
 package_lift R p I t h = pick (is_dead R p) refl h
   where
-    pick : (b : Bool) → is_dead R p ≡ b → Healthy (cond b (with_empty_clause R p) (prune_clauses R p (clauses_of R p))) I → Healthy R (lift_all I (cond b [] (clauses_steps R p (clauses_of R p))))
+    pick : (b : Bool) → is_dead R p ≡ b → Healthy (cond b (emptied R p) (prune_clauses R p (clauses_of R p))).left I → Healthy R (lift_all I (cond b (emptied R p) (prune_clauses R p (clauses_of R p))).steps)
     pick true e g = (dead_keeps_lem R p I e).1 g
     pick false e g = clauses_lift (clauses_of R p) R p I t (λ d i. (t.sound.clauses p d i).1) g
 
-over_lift : (ps : List ℕ) (R : Repository) (I : NumSet) → TidyRepository R → Healthy (prune_over R ps) I → Healthy R (lift_all I (steps_over R ps))
+over_lift : (ps : List ℕ) (R : Repository) (I : NumSet) → TidyRepository R → Healthy (prune_over R ps).left I → Healthy R (lift_all I (prune_over R ps).steps)
 over_lift [] R I t h = h
 over_lift (p ∷ ps) R I t h =
-    let s : Step R (prune_package R p) = package_step R p t in
-    subst (λ K. Healthy R K) (sym (back_append I (package_steps R p) (steps_over (prune_package R p) ps)))
-    (package_lift R p (lift_all I (steps_over (prune_package R p) ps)) t
-    (over_lift ps (prune_package R p) I s.tidy h))
+    let s : Step R (prune_package R p).left = package_step R p t in
+    subst (λ K. Healthy R K) (sym (back_append I (prune_package R p).steps (prune_over (prune_package R p).left ps).steps))
+    (package_lift R p (lift_all I (prune_over (prune_package R p).left ps).steps) t
+    (over_lift ps (prune_package R p).left I s.tidy h))
 
 pub prune_lifts_lem : PruneLifts
 unfolding prune idle_steps

@@ -13,7 +13,7 @@ use Rattle.row_book.proofs.BookRepositories.{sound_book, tidy_repository}
 use Rattle.row_book.specs.Repository.{Repository, clauses_of}
 use Rattle.row_book.specs.Sound.{SoundRepository, TidyRepository}
 use Rattle.row_book.specs.Uses.{row_id}
-use Rattle.row_book.specs.Pruning.{IdleClause, idle_steps, package_steps, prune, prune_over, prune_package, steps_over, with_clauses}
+use Rattle.row_book.specs.Pruning.{IdleClause, idle_steps, prune_package, prune, prune_over, with_clauses}
 use Rattle.row_book.specs.Rounds.{IdleStep, RoundStep}
 use Rattle.row_book.specs.Trail.{trail_meaning, step_meaning}
 use Rattle.row_book.proofs.Lists.{In_cases, In_has}
@@ -51,10 +51,10 @@ meaning_any old new (Idle p clause added ∷ xs) (y ∷ ys) e =
     ap₂ (λ (z : RoundStep) (zs : List RoundStep). z ∷ zs) first (meaning_any old new xs ys rest)
 
 pub record PassedSoFar (R : Repository) (start now : Interned) (rows : List ℕ) (table : List (List ℕ)) (idle : List Step) (n : ℕ) : Type 0 where
-  pub rest : (left : ℕ) → n + left ≡ length rows → prune_over (repository_in now rows table) (numbers left n) ≡ prune R
+  pub rest : (left : ℕ) → n + left ≡ length rows → (prune_over (repository_in now rows table) (numbers left n)).left ≡ prune R
   pub idles : List IdleClause
   pub told : trail_meaning now idle ≡ map IdleStep idles
-  pub steps : (left : ℕ) → n + left ≡ length rows → idles ++ steps_over (repository_in now rows table) (numbers left n) ≡ idle_steps R
+  pub steps : (left : ℕ) → n + left ≡ length rows → idles ++ (prune_over (repository_in now rows table) (numbers left n)).steps ≡ idle_steps R
   pub tidy : TidyRepository (repository_in now rows table)
   pub of_pool : (id : ℕ) → In id rows → id < length now.rows
   pub sound : IsPool now
@@ -74,25 +74,25 @@ pub conflicts_in : (now : Interned) (rows : List ℕ) (table : List (List ℕ)) 
 conflicts_in now rows table t p n i = subst (λ z. n < z) (length-map rows (row_at now)) (between (repository_in now rows table) t.sound p n (In_has i)).1
 
 pub passed_more : (R : Repository) (start old new : Interned) (rows : List ℕ) (table : List (List ℕ)) (idle more : List Step) (n id : ℕ) → PassedSoFar R start old rows table idle n → n < length rows → IsPool new → Kept old new → id < length new.rows →
-    prune_package (repository_in old rows table) n ≡ with_clauses (repository_in old rows table) n (row_at new id) → trail_meaning old more ≡ trail_meaning old idle ++ map IdleStep (package_steps (repository_in old rows table) n) →
+    (prune_package (repository_in old rows table) n).left ≡ with_clauses (repository_in old rows table) n (row_at new id) → trail_meaning old more ≡ trail_meaning old idle ++ map IdleStep (prune_package (repository_in old rows table) n).steps →
     Kept start new → PassedSoFar R start new (slice_set rows n id) table more (n + 1)
 unfolding numbers
 passed_more R start old new rows table idle more n id s l is k m e t whole =
     let size : length (slice_set rows n id) ≡ length rows = length-set rows n id in
     let F : Repository = repository_in old rows table in
-    let same : repository_in new (slice_set rows n id) table ≡ prune_package F n =
+    let same : repository_in new (slice_set rows n id) table ≡ (prune_package F n).left =
     repository_same (repository_in new (slice_set rows n id) table) (with_clauses F n (row_at new id))
     (map_set (row_at new) rows n id ∙ ap (λ z. slice_set z n (row_at new id)) (rows_stay old new s.sound k rows s.of_pool)) refl ∙ sym e in
-    let now : List IdleClause = package_steps F n in
+    let now : List IdleClause = (prune_package F n).steps in
     record {
       rest = λ left f.
-          ap₂ (λ G k. prune_over G (numbers left k)) same (let z : n + 1 ≡ suc n = omega arith in z)
+          ap₂ (λ G k. (prune_over G (numbers left k)).left) same (let z : n + 1 ≡ suc n = omega arith in z)
           ∙ s.rest (suc left) (omega (arith, f, size));
       idles = s.idles ++ now;
       told = meaning_any old new more (s.idles ++ now) (t ∙ ap (λ z. z ++ map IdleStep now) s.told ∙ sym (map-append IdleStep s.idles now));
       steps = λ left f.
-          ap₂ (λ G k. (s.idles ++ now) ++ steps_over G (numbers left k)) same (let z : n + 1 ≡ suc n = omega arith in z)
-          ∙ append_assoc s.idles now (steps_over (prune_package F n) (numbers left (suc n)))
+          ap₂ (λ G k. (s.idles ++ now) ++ (prune_over G (numbers left k)).steps) same (let z : n + 1 ≡ suc n = omega arith in z)
+          ∙ append_assoc s.idles now (prune_over (prune_package F n).left (numbers left (suc n))).steps
           ∙ s.steps (suc left) (omega (arith, f, size));
       tidy = subst TidyRepository (sym same) (package_step F n s.tidy).tidy;
       of_pool = λ x i. elim (In_set rows n id x i) [ inl g ↦ subst (λ z. z < length new.rows) (sym g) m | inr j ↦ (k.rows x (s.of_pool x j)).0 ];
@@ -111,10 +111,10 @@ unfolding prune idle_steps
 passed_none start rows table idle is t of e =
     let size : length (map (row_at start) rows) ≡ length rows = length-map rows (row_at start) in
     record {
-      rest = λ left f. ap (λ n. prune_over (repository_in start rows table) (numbers n 0)) (let z : left ≡ length (map (row_at start) rows) = omega (arith, f, size) in z);
+      rest = λ left f. ap (λ n. (prune_over (repository_in start rows table) (numbers n 0)).left) (let z : left ≡ length (map (row_at start) rows) = omega (arith, f, size) in z);
       idles = [];
       told = e;
-      steps = λ left f. ap (λ n. steps_over (repository_in start rows table) (numbers n 0)) (let z : left ≡ length (map (row_at start) rows) = omega (arith, f, size) in z);
+      steps = λ left f. ap (λ n. (prune_over (repository_in start rows table) (numbers n 0)).steps) (let z : left ≡ length (map (row_at start) rows) = omega (arith, f, size) in z);
       tidy = t;
       of_pool = of;
       sound = is;

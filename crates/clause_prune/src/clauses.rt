@@ -5,7 +5,7 @@ ghost use Rattle.row_book.specs.Sets.{In};
 ghost use Rattle.row_book.specs.Clauses.{Ascending, InOrder};
 ghost use Rattle.row_book.specs.Book.{listed_for, RowsFit};
 ghost use Rattle.row_book.specs.Repository.{Repository};
-ghost use Rattle.row_book.specs.Pruning.{clause_steps, clauses_steps, prune_clause, prune_clauses};
+ghost use Rattle.row_book.specs.Pruning.{prune_clause, prune_clauses};
 ghost use Rattle.row_book.specs.Rounds.{IdleStep, RoundStep};
 ghost use Rattle.row_book.specs.Trail.{trail_meaning};
 ghost use Rattle.clause_prune.specs.Filing.{AsksServing, FiledBelow};
@@ -44,11 +44,11 @@ fn prune_one(
     requires below { FiledBelow (length rows.now) filed.now }
     requires asks { AsksServing (with_ids pool.now rows.now number left.old []) (clauses_at pool.now left.old) filed.now (clause_at pool.now clause) }
     ensures left { OnOk result (◌≡◌ {A = Repository} (with_ids pool.now rows.now number left.new table.now)
-        (prune_clause (with_ids pool.now rows.now number left.old table.now) number (clause_at pool.now clause))) }
+        (prune_clause (with_ids pool.now rows.now number left.old table.now) number (clause_at pool.now clause)).left) }
     ensures part { OnOk result ((id : ℕ) → In id left.new → In id left.old) }
     ensures order { OnOk result (InOrder (clauses_at pool.now left.new)) }
     ensures idle { OnOk result (trail_meaning pool.now idle.new ≡ trail_meaning pool.now idle.old
-        ++ map IdleStep (clause_steps (with_ids pool.now rows.now number left.old table.now) number (clause_at pool.now clause))) }
+        ++ map IdleStep (prune_clause (with_ids pool.now rows.now number left.old table.now) number (clause_at pool.now clause)).steps) }
 {
     let forced = is_forced(alloc, pool, rows, number, left.as_slice(), filed, clause)?;
     if forced {
@@ -85,11 +85,11 @@ pub(crate) fn prune_each(
     requires table { (p : ℕ) → Ascending (listed_for table.now p) }
     requires members { (c : List ℕ) → In c (clauses_at pool.now ids.now) → (n : ℕ) → In n c → n < length rows.now }
     ensures left { IfOk result (λ left. ◌≡◌ {A = Repository} (with_ids pool.now rows.now number left table.now)
-        (prune_clauses (with_ids pool.now rows.now number ids.now table.now) number (clauses_at pool.now ids.now))) }
+        (prune_clauses (with_ids pool.now rows.now number ids.now table.now) number (clauses_at pool.now ids.now)).left) }
     ensures part { IfOk result (λ left. (id : ℕ) → In id left → In id ids.now) }
     ensures order { IfOk result (λ left. InOrder (clauses_at pool.now left)) }
     ensures idle { OnOk result (trail_meaning pool.now idle.new ≡ trail_meaning pool.now idle.old
-        ++ map IdleStep (clauses_steps (with_ids pool.now rows.now number ids.now table.now) number (clauses_at pool.now ids.now))) }
+        ++ map IdleStep (prune_clauses (with_ids pool.now rows.now number ids.now table.now) number (clauses_at pool.now ids.now)).steps) }
 {
     let filed = Filed::of(alloc, pool, rows, number, ids)?;
     let mut left = Left::all_of(alloc, ids)?;

@@ -7,7 +7,7 @@ ghost use Rattle.row_book.specs.Book.{listed_for, repository_of, RowsFit, RowsTi
 ghost use Rattle.row_book.specs.Repository.{Repository};
 ghost use Rattle.row_book.specs.Keeping.{KeepsSets};
 ghost use Rattle.row_book.specs.Sound.{TidyRepository};
-ghost use Rattle.row_book.specs.Pruning.{idle_steps, package_steps, prune, prune_package, with_clauses};
+ghost use Rattle.row_book.specs.Pruning.{idle_steps, prune_package, prune, with_clauses};
 ghost use Rattle.row_book.specs.Rounds.{IdleStep};
 ghost use Rattle.row_book.specs.Trail.{trail_meaning};
 ghost use Rattle.clause_prune.specs.Tests.{repository_in};
@@ -51,9 +51,9 @@ fn pruned_row(
     requires conflicts { (p n : ℕ) → In n (listed_for table.now p) → n < length rows.now }
     requires table { (p : ℕ) → Ascending (listed_for table.now p) }
     requires inside { number < length rows.now }
-    ensures row { IfOk result (λ id. ◌≡◌ {A = Repository} (prune_package (repository_in pool.old rows.now table.now) number) (with_clauses (repository_in pool.old rows.now table.now) number (row_at pool.new id))) }
+    ensures row { IfOk result (λ id. ◌≡◌ {A = Repository} (prune_package (repository_in pool.old rows.now table.now) number).left (with_clauses (repository_in pool.old rows.now table.now) number (row_at pool.new id))) }
     ensures of_pool { IfOk result (λ id. id < length pool.new.rows) }
-    ensures idle { OnOk result (trail_meaning pool.old idle.new ≡ trail_meaning pool.old idle.old ++ map IdleStep (package_steps (repository_in pool.old rows.now table.now) number)) }
+    ensures idle { OnOk result (trail_meaning pool.old idle.new ≡ trail_meaning pool.old idle.old ++ map IdleStep (prune_package (repository_in pool.old rows.now table.now) number).steps) }
     ensures kept { Kept pool.old pool.new }
 {
     let ids = Vec::from_slice(alloc, pool.row(rows[number as usize]))?;

@@ -6,11 +6,16 @@ use Rattle.search_terms.specs.declared.literals.Literal.{Literal}
 use Rattle.search_terms.specs.Closure.{negation, InRange}
 use Rattle.search_terms.specs.Marks.{flag_place}
 use Rattle.search_terms.specs.Form.{owned_sentences, conflict_sentence}
+use Rattle.clause_solver.specs.declared.formula.Formula.{Formula}
 use Rattle.clause_solver.specs.declared.table.Use.{Use}
 
 -- goals, then clauses, then conflicts
 abbrev pub whole_form : List (List Literal) → List (List Literal) → List (List ℕ) → List (List Literal)
 whole_form goals own conflicts = goals ++ (own ++ owned_sentences conflict_sentence 0 conflicts)
+
+-- the sentences of a formula
+abbrev pub sentences_in : Formula → List (List Literal)
+sentences_in formula = whole_form formula.goals.now formula.own.now formula.conflicts.now
 
 -- the flag contradicts a literal of the sentence
 abbrev pub Contradicts : List Literal → ℕ → Type 0
@@ -56,6 +61,10 @@ pub record IsEngine (n : ℕ) (goals own : List (List Literal)) (uses : List (Li
   pub own_ranged : InRange n own
   pub table : IsTable n uses own
   pub fit : ConflictsFit n conflicts
+
+-- so fit the parts of a formula
+abbrev pub IsFormula : ℕ → Formula → Type 0
+IsFormula n formula = IsEngine n formula.goals.now formula.own.now formula.uses.now formula.conflicts.now
 
 -- the sentence of number k is entered under the other sign of each of its literals, and what stood there stays
 pub record Enters (old new : List (List Use)) (sentence : List Literal) (k : ℕ) : Type 0 where

@@ -10,7 +10,7 @@ use Rattle.clause_solver.specs.declared.nodes.Node.{Node}
 use Rattle.clause_solver.specs.declared.table.Use.{Use}
 use Rattle.clause_solver.specs.declared.nodes.Node.TheVariants.{Met, Splits}
 
--- the marks leave no need open, and so are those of a found leaf; or the node splits on a class, and each branch leaves fewer
+-- the trail leaves no need open, and so is that of a found leaf; or the node splits on a class, and each branch leaves fewer
 -- classes
 abbrev pub IsNode : ℕ → List (List Literal) → List Literal → List Literal → Node → Type 0
 IsNode classes formula decisions trail Met = IsFoundLeaf classes formula decisions (true_classes classes (among trail))

@@ -1,5 +1,5 @@
 -- for the bodies of this crate alone
--- Propagation: sentences that are met, that wait for a mark to be looked at, or that are refuted.
+-- Propagation: sentences that are met, that wait for a literal to be looked at, or that are refuted.
 use Rattle.std.specs.Prelude.{◌≡◌, ℕ, Bool, true, List, ◌++◌, ◌⊎◌, drop, Contains}
 use Rattle.search_terms.specs.declared.literals.Literal.{Literal}
 use Rattle.search_terms.specs.Closure.{negation, is_refuted, IsMet, IsClosed}
@@ -10,17 +10,17 @@ use Rattle.clause_solver.specs.Marking.{among}
 abbrev pub HasRefuted : List (List Literal) → (Literal → Bool) → Type 0
 HasRefuted formula set = (s : List Literal) × Contains formula s × (is_refuted set s ≡ true)
 
--- new marks behind the old ones: no class has both signs, and each is in each closed set that holds the old ones
+-- new literals behind the old ones: no class has both signs, and each is in each closed set that holds the old ones
 pub record Runs (formula : List (List Literal)) (old new : List Literal) : Type 0 where
   pub more : List Literal
   pub behind : new ≡ old ++ more
   pub consistent : IsConsistent (among new)
   pub sound : (set : Literal → Bool) → IsClosed formula set → IsWithin (among old) set → IsWithin (among new) set
 
--- a mark on the sentence has not been looked at yet
+-- a literal that contradicts one of the sentence has not been looked at yet
 abbrev pub IsPending : List Literal → List Literal → Type 0
 IsPending queue sentence = (m : Literal) × Contains sentence m × Contains queue (negation m)
 
--- the marks from the height on have not been looked at: the sentence is met, or one of them is on it
+-- the literals of the trail from the height on have not been looked at: the sentence is met, or one of them is on it
 abbrev pub Waits : ℕ → List Literal → List Literal → Type 0
 Waits height trail sentence = IsMet (among trail) sentence ⊎ IsPending (drop height trail) sentence

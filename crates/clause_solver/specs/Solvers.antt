@@ -17,5 +17,5 @@ pub record IsReady (R : Repository) (solver : Solver) : Type 0 where
   pub size : solver.classes ≡ length R.clauses
   pub sentences : solver.own.items ≡ owned_sentences clause_sentence 0 R.clauses
   pub engine : IsEngine solver.classes [] solver.own.items solver.uses.items R.conflicts
-  pub marks : solver.base.0 ≡ solver.classes
+  pub trail : solver.base.0 ≡ solver.classes
   pub base : IsAt solver.dead (whole_form [] solver.own.items R.conflicts) [] [] solver.base.1

@@ -23,7 +23,7 @@ IsSearchVerdict R goals budget verdict = (tree : Tree) × IsTree (length R.claus
 abbrev pub IsKept : Bool → List (List Literal) → List (List Literal) → Type 0
 IsKept keeps log entries = keeps ≡ true → log ≡ entries
 
--- how a walk of the tree ends: with the marks of the first found leaf, or with the log of the tree, where one is kept
+-- how a walk of the tree ends: with the trail of the first found leaf, or with the log of the tree, where one is kept
 abbrev pub Ends : Bool → ℕ → ℕ → Tree → Verdict → List Literal → List (List Literal) → Type 0
 Ends keeps classes budget tree Yes trail log = (found_of tree ≡ Some (true_classes classes (among trail))) × (failed_leaves tree ≤ budget)
 Ends keeps classes budget tree No trail log = (found_of tree ≡ None) × (failed_leaves tree ≤ budget) × IsKept keeps log (log_of [] tree)

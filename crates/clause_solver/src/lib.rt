@@ -1,17 +1,18 @@
-//! The search for a healthy set that hits every goal: the tree of the formula, walked with unit steps up to the first found
-//! leaf, within a budget of failed leaves.
+//! The search for a healthy set that hits every goal: the tree of the formula, walked by unit propagation, decisions and
+//! backtracks up to the first found leaf, within a budget of failed leaves.
 #![tactic(auto)]
 
-mod draining;
-mod levels;
-mod marks;
+mod decision;
+mod formula;
 mod nodes;
 mod outcomes;
+mod propagation;
 mod reading;
-mod settling;
 mod solver;
-mod stack;
+mod steps;
 mod table;
+mod trail;
+mod tree_walk;
 
 // A search, or a solver that is asked many times.
 pub use outcomes::{Outcome, Verdict};

@@ -6,19 +6,19 @@ ghost use Rattle.search_terms.specs.declared.literals.Literal.{Literal};
 ghost use Rattle.search_terms.specs.Tree.{is_open_need};
 ghost use Rattle.search_terms.specs.Marks.{true_classes};
 ghost use Rattle.clause_solver.specs.Marking.{among};
-ghost use Rattle.clause_solver.specs.Engine.{whole_form, IsEngine, IsTable, IsUse};
+ghost use Rattle.clause_solver.specs.Engine.{sentences_in, IsFormula, IsTable, IsUse};
 ghost use Rattle.clause_solver.specs.Levels.{CalmAt};
 ghost use Rattle.clause_solver.specs.Nodes.{AreFull, HaveNegative, IsLeastOpen, IsNode, IsUndecidedAt};
 
-use crate::marks::Marks;
+use crate::formula::Formula;
 use crate::reading::{is_open_need, undecided};
 use crate::table::Use;
-use clause_pool::NumList;
+use crate::trail::Trail;
 use listed::Listed;
 use search_terms::{Literal, LiteralList};
 use std::alloc::{AllocError, Global};
 
-/// A node whose closure does not clash.
+/// A node whose closure does not contradiction.
 #[derive(Clone, Copy)]
 pub(crate) enum Node {
     /// No need is open.
@@ -28,9 +28,9 @@ pub(crate) enum Node {
 }
 
 /// The least place below another one of a sentence of the row that is open, or else the other one.
-fn lesser_open(marks: &Marks, own: &[LiteralList], row: &[Use], before: usize) -> usize
+fn lesser_open(trail: &Trail, own: &[LiteralList], row: &[Use], before: usize) -> usize
     requires { All (IsUse own.now) row.now }
-    ensures { IsLeastOpen (among marks.now.1) own.now row.now before result }
+    ensures { IsLeastOpen (among trail.now.1) own.now row.now before result }
 {
     let mut least = before;
     for entry in row {
@@ -38,7 +38,7 @@ fn lesser_open(marks: &Marks, own: &[LiteralList], row: &[Use], before: usize) -
         if k >= least {
             continue;
         }
-        if !is_open_need(marks, own[k].as_slice()) {
+        if !is_open_need(trail, own[k].as_slice()) {
             continue;
         }
         least = k;
@@ -47,43 +47,43 @@ fn lesser_open(marks: &Marks, own: &[LiteralList], row: &[Use], before: usize) -
 }
 
 /// The place of the first open sentence, or the number of sentences.
-fn first_open(marks: &Marks, own: &[LiteralList], uses: &[Listed<Use>]) -> usize
-    requires table { IsTable marks.now.0 uses.now own.now }
+fn first_open(trail: &Trail, own: &[LiteralList], uses: &[Listed<Use>]) -> usize
+    requires table { IsTable trail.now.0 uses.now own.now }
     requires negative { HaveNegative own.now }
     ensures within { result ≤ length own.now }
-    ensures opens { result < length own.now → is_open_need (among marks.now.1) (slice_index_or own.now result []) ≡ true }
-    ensures none { (k : ℕ) → k < result → is_open_need (among marks.now.1) (slice_index_or own.now k []) ≡ false }
+    ensures opens { result < length own.now → is_open_need (among trail.now.1) (slice_index_or own.now result []) ≡ true }
+    ensures none { (k : ℕ) → k < result → is_open_need (among trail.now.1) (slice_index_or own.now k []) ≡ false }
 {
     let mut least = own.len();
-    for l in marks.as_slice() {
+    for l in trail.as_slice() {
         if !l.positive {
             continue;
         }
-        least = lesser_open(marks, own, uses[l.place()].as_slice(), least);
+        least = lesser_open(trail, own, uses[l.place()].as_slice(), least);
     }
     least
 }
 
 /// The first goal that is open.
-fn open_goal<'a>(marks: &Marks, goals: &'a [LiteralList]) -> Option<&'a LiteralList>
-    ensures { option_copied result ≡ find (is_open_need (among marks.now.1)) goals.now }
+fn open_goal<'a>(trail: &Trail, goals: &'a [LiteralList]) -> Option<&'a LiteralList>
+    ensures { option_copied result ≡ find (is_open_need (among trail.now.1)) goals.now }
 {
     goals
         .iter()
-        .find(|sentence| is_open_need(marks, sentence.as_slice()))
+        .find(|sentence| is_open_need(trail, sentence.as_slice()))
 }
 
 /// The first clause that is open.
 fn open_own<'a>(
-    marks: &Marks,
+    trail: &Trail,
     own: &'a [LiteralList],
     uses: &[Listed<Use>],
 ) -> Option<&'a LiteralList>
-    requires table { IsTable marks.now.0 uses.now own.now }
+    requires table { IsTable trail.now.0 uses.now own.now }
     requires negative { HaveNegative own.now }
-    ensures { option_copied result ≡ find (is_open_need (among marks.now.1)) own.now }
+    ensures { option_copied result ≡ find (is_open_need (among trail.now.1)) own.now }
 {
-    let place = first_open(marks, own, uses);
+    let place = first_open(trail, own, uses);
     if place == own.len() {
         return None;
     }
@@ -92,28 +92,28 @@ fn open_own<'a>(
 
 /// The first open need.
 fn open_need<'a>(
-    marks: &Marks,
+    trail: &Trail,
     goals: &'a [LiteralList],
     own: &'a [LiteralList],
     uses: &[Listed<Use>],
 ) -> Option<&'a LiteralList>
-    requires table { IsTable marks.now.0 uses.now own.now }
+    requires table { IsTable trail.now.0 uses.now own.now }
     requires negative { HaveNegative own.now }
-    ensures { option_copied result ≡ find (is_open_need (among marks.now.1)) (goals.now ++ own.now) }
+    ensures { option_copied result ≡ find (is_open_need (among trail.now.1)) (goals.now ++ own.now) }
 {
-    match open_goal(marks, goals) {
+    match open_goal(trail, goals) {
         Some(goal) => Some(goal),
-        None => open_own(marks, own, uses),
+        None => open_own(trail, own, uses),
     }
 }
 
 /// A flag for each class, up where it is true.
-pub(crate) fn chosen(alloc: Global, classes: u32, marks: &Marks) -> Result<Vec<bool>, AllocError>
-    ensures { IfOk result (λ v. v.items ≡ true_classes classes (among marks.now.1)) }
+pub(crate) fn chosen(alloc: Global, classes: u32, trail: &Trail) -> Result<Vec<bool>, AllocError>
+    ensures { IfOk result (λ v. v.items ≡ true_classes classes (among trail.now.1)) }
 {
     (0..classes)
         .map(|class| {
-            marks.has(Literal {
+            trail.has(Literal {
                 class,
                 positive: true,
             })
@@ -121,26 +121,19 @@ pub(crate) fn chosen(alloc: Global, classes: u32, marks: &Marks) -> Result<Vec<b
         .collect(alloc)
 }
 
-/// What the node of these decisions is, of which the marks are the closure.
-pub(crate) fn look(
-    classes: u32,
-    marks: &Marks,
-    goals: &[LiteralList],
-    own: &[LiteralList],
-    uses: &[Listed<Use>],
-    conflicts: &[NumList],
-) -> Node
-    requires classes { marks.now.0 ≡ classes }
-    requires engine { IsEngine marks.now.0 goals.now own.now uses.now conflicts.now }
-    requires negative { HaveNegative own.now }
-    requires full { AreFull goals.now }
-    requires calm { (decisions : List Literal) × CalmAt (whole_form goals.now own.now conflicts.now) decisions marks.now.1 }
-    ensures node { (decisions : List Literal) → CalmAt (whole_form goals.now own.now conflicts.now) decisions marks.now.1 → IsNode classes (whole_form goals.now own.now conflicts.now) decisions marks.now.1 result }
-    ensures undecided { IsUndecidedAt marks.now.1 result }
+/// What the node is whose closure is the trail.
+pub(crate) fn node_at(trail: &Trail, formula: &Formula) -> Node
+    requires classes { trail.now.0 ≡ formula.now.classes }
+    requires engine { IsFormula trail.now.0 formula.now }
+    requires negative { HaveNegative formula.now.own.now }
+    requires full { AreFull formula.now.goals.now }
+    requires calm { (decisions : List Literal) × CalmAt (sentences_in formula.now) decisions trail.now.1 }
+    ensures node { (decisions : List Literal) → CalmAt (sentences_in formula.now) decisions trail.now.1 → IsNode formula.now.classes (sentences_in formula.now) decisions trail.now.1 result }
+    ensures undecided { IsUndecidedAt trail.now.1 result }
 {
-    match open_need(marks, goals, own, uses) {
+    match open_need(trail, formula.goals, formula.own, formula.uses) {
         None => Node::Met,
-        Some(need) => match undecided(marks, need.as_slice()) {
+        Some(need) => match undecided(trail, need.as_slice()) {
             Some(member) => Node::Splits(member.class),
             None => unreachable!(),
         },

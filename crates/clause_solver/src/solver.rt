@@ -1,21 +1,27 @@
 //! A solver of a book, and the search.
+//!
+//! It is the procedure of Davis, Logemann and Loveland ("A machine program for theorem-proving", Communications of the ACM 5,
+//! 1962): unit propagation, a decision where nothing is forced any more, and a backtrack where propagation comes upon a
+//! contradiction. There is no rule for literals of one sign, and nothing is learnt from a contradiction, since the tree and the
+//! number of its failed leaves are specified. What the book says by itself is propagated once, for all searches.
 ghost use Rattle.std.specs.Prelude.{◌≡◌, ◌<◌, ◌≤◌, ◌-◌, ◌^◌, [], ℕ, List, All, IfOk, OnOk, length};
 ghost use Rattle.row_book.specs.Book.{repository_of, Sound};
 ghost use Rattle.row_book.specs.Needs.{NeedsFit};
 ghost use Rattle.search_terms.specs.Closure.{InRange};
-ghost use Rattle.clause_solver.specs.Engine.{whole_form, IsEngine};
+ghost use Rattle.clause_solver.specs.Engine.{whole_form, sentences_in, IsEngine, IsFormula};
 ghost use Rattle.clause_solver.specs.Levels.{CalmAt, IsAt};
 ghost use Rattle.clause_solver.specs.Nodes.{AreFull, ArePositive, HaveNegative};
 ghost use Rattle.clause_solver.specs.Solvers.{AreApart};
 ghost use Rattle.clause_solver.specs.Outcomes.{IsBudget, IsCertified, IsDecided, IsSearchOutcome};
 
-use crate::draining::drain;
-use crate::marks::Marks;
+use crate::formula::Formula;
 use crate::nodes::chosen;
 use crate::outcomes::{Outcome, Verdict};
-use crate::settling::settle_all;
-use crate::stack::walk;
+use crate::propagation::propagate;
+use crate::steps::propagate_all;
 use crate::table::{Use, table_of};
+use crate::trail::Trail;
+use crate::tree_walk::walk;
 use clause_pool::{NumList, Pool};
 use listed::Listed;
 use row_book::{Book, Needs};
@@ -29,52 +35,62 @@ pub struct Solver {
     classes: u32,
     own: Vec<LiteralList>,
     uses: Vec<Listed<Use>>,
-    base: Marks,
+    base: Trail,
     dead: bool,
 }
 
-/// Marks what follows from the sentences alone; answers whether that clashes.
+/// How a walk of the tree ended: the verdict, with the trail of a found leaf and the log of a tree without one.
+#[derive(Drop)]
+struct Run {
+    verdict: Verdict,
+    trail: Trail,
+    log: EntryList,
+}
+
+/// Propagates over the sentences alone; answers whether it came upon a contradiction.
 fn first_pass(
-    marks: &mut Marks,
+    classes: u32,
+    trail: &mut Trail,
     own: &[LiteralList],
     uses: &[Listed<Use>],
     conflicts: &[NumList],
 ) -> Result<bool, AllocError>
-    requires engine { IsEngine marks.old.0 [] own.now uses.now conflicts.now }
+    requires engine { IsEngine trail.old.0 [] own.now uses.now conflicts.now }
     requires negative { HaveNegative own.now }
     requires apart { AreApart conflicts.now }
-    requires none { marks.old.1 ≡ [] }
-    ensures classes { OnOk result (marks.new.0 ≡ marks.old.0) }
-    ensures at { IfOk result (λ clash. IsAt clash (whole_form [] own.now conflicts.now) [] [] marks.new.1) }
+    requires none { trail.old.1 ≡ [] }
+    ensures classes { OnOk result (trail.new.0 ≡ trail.old.0) }
+    ensures at { IfOk result (λ contradiction. IsAt contradiction (whole_form [] own.now conflicts.now) [] [] trail.new.1) }
 {
-    if settle_all(marks, own)? {
+    if propagate_all(trail, own)? {
         return Ok(true);
     }
-    if drain(marks, 0, &[], own, uses, conflicts)? {
+    let formula = Formula {
+        classes,
+        goals: &[],
+        own,
+        uses,
+        conflicts,
+    };
+    if propagate(trail, 0, &formula)? {
         return Ok(true);
     }
     Ok(false)
 }
 
-/// Marks what follows from the goals besides; answers whether that clashes.
-fn root(
-    marks: &mut Marks,
-    goals: &[LiteralList],
-    own: &[LiteralList],
-    uses: &[Listed<Use>],
-    conflicts: &[NumList],
-) -> Result<bool, AllocError>
-    requires engine { IsEngine marks.old.0 goals.now own.now uses.now conflicts.now }
-    requires positive { ArePositive goals.now }
-    requires base { CalmAt (whole_form [] own.now conflicts.now) [] marks.old.1 }
-    ensures classes { OnOk result (marks.new.0 ≡ marks.old.0) }
-    ensures at { IfOk result (λ clash. IsAt clash (whole_form goals.now own.now conflicts.now) [] [] marks.new.1) }
+/// Propagates over the goals besides; answers whether it came upon a contradiction.
+fn root(trail: &mut Trail, formula: &Formula) -> Result<bool, AllocError>
+    requires engine { IsFormula trail.old.0 formula.now }
+    requires positive { ArePositive formula.now.goals.now }
+    requires base { CalmAt (whole_form [] formula.now.own.now formula.now.conflicts.now) [] trail.old.1 }
+    ensures classes { OnOk result (trail.new.0 ≡ trail.old.0) }
+    ensures at { IfOk result (λ contradiction. IsAt contradiction (sentences_in formula.now) [] [] trail.new.1) }
 {
-    let from = marks.as_slice().len();
-    if settle_all(marks, goals)? {
+    let from = trail.as_slice().len();
+    if propagate_all(trail, formula.goals)? {
         return Ok(true);
     }
-    if drain(marks, from, goals, own, uses, conflicts)? {
+    if propagate(trail, from, formula)? {
         return Ok(true);
     }
     Ok(false)
@@ -96,8 +112,8 @@ impl Solver {
         let classes = book.size();
         let own = clause_sentences(alloc, pool, book.rows.as_slice())?;
         let uses = table_of(alloc, classes, &own)?;
-        let mut base = Marks::new(alloc, classes)?;
-        let dead = first_pass(&mut base, &own, &uses, book.conflicts.as_slice())?;
+        let mut base = Trail::new(alloc, classes)?;
+        let dead = first_pass(classes, &mut base, &own, &uses, book.conflicts.as_slice())?;
         Ok(Solver {
             classes,
             own,
@@ -124,17 +140,18 @@ impl Solver {
         ensures tree { IfOk result (IsSearchOutcome (repository_of pool.now book.now) goals.now budget) }
         ensures certified { IfOk result (IsCertified (repository_of pool.now book.now) goals.now) }
     {
-        let mut marks = self.base.copy(alloc)?;
-        let mut log = Listed::new(alloc);
-        match self.run(alloc, pool, book, goals, budget, true, &mut marks, &mut log)? {
+        let walked = self.run(alloc, pool, book, goals, budget, true)?;
+        match walked.verdict {
             Verdict::Yes => {
-                let flags = chosen(alloc, self.classes, &marks)?;
+                let flags = chosen(alloc, self.classes, &walked.trail)?;
                 Ok(Outcome::Found {
                     chosen: Listed::of(flags),
                 })
             }
             Verdict::No => Ok(Outcome::Refuted {
-                log: Log { entries: log },
+                log: Log {
+                    entries: walked.log,
+                },
             }),
             Verdict::Spent => Ok(Outcome::Spent { failed: budget + 1 }),
         }
@@ -155,12 +172,8 @@ impl Solver {
         requires budget { IsBudget budget }
         ensures { IfOk result (IsSearchVerdict (repository_of pool.now book.now) goals.now budget) }
     {
-        let mut marks = self.base.copy(alloc)?;
-        let mut log = Listed::new(alloc);
-        let verdict = self.run(
-            alloc, pool, book, goals, budget, false, &mut marks, &mut log,
-        )?;
-        Ok(verdict)
+        let walked = self.run(alloc, pool, book, goals, budget, false)?;
+        Ok(walked.verdict)
     }
 
     /// Walks the tree from the closure of the book's own formula.
@@ -172,56 +185,53 @@ impl Solver {
         goals: &Needs,
         budget: u64,
         keeps: bool,
-        marks: &mut Marks,
-        log: &mut EntryList,
-    ) -> Result<Verdict, AllocError>
+    ) -> Result<Run, AllocError>
         requires ready { IsReady (repository_of pool.now book.now) self.now }
         requires sound { Sound pool.now book.now }
         requires goals { NeedsFit (length book.now.rows) goals.now }
         requires budget { IsBudget budget }
-        requires base { marks.old ≡ self.now.base }
-        requires empty { log.old ≡ [] }
-        ensures { IfOk result (λ verdict. EndsSearch keeps (repository_of pool.now book.now) goals.now budget verdict marks.new.1 log.new) }
+        ensures { IfOk result (λ run. EndsSearch keeps (repository_of pool.now book.now) goals.now budget run.verdict run.trail.1 run.log) }
     {
         let wanted = goal_sentences(alloc, goals)?;
-        let conflicts = book.conflicts.as_slice();
-        let clash = start(self.dead, marks, &wanted, &self.own, &self.uses, conflicts)?;
+        let formula = Formula {
+            classes: self.classes,
+            goals: &wanted,
+            own: &self.own,
+            uses: &self.uses,
+            conflicts: book.conflicts.as_slice(),
+        };
+        let mut trail = self.base.copy(alloc)?;
+        let mut log = Listed::new(alloc);
+        let contradicted = start(self.dead, &mut trail, &formula)?;
         let verdict = walk(
             alloc,
-            self.classes,
+            &formula,
             budget,
-            clash,
+            contradicted,
             keeps,
-            marks,
-            log,
-            &wanted,
-            &self.own,
-            &self.uses,
-            conflicts,
+            &mut trail,
+            &mut log,
         )?;
-        Ok(verdict)
+        Ok(Run {
+            verdict,
+            trail,
+            log,
+        })
     }
 }
 
-/// Marks what follows at the root, unless the book's own formula clashes already.
-fn start(
-    dead: bool,
-    marks: &mut Marks,
-    goals: &[LiteralList],
-    own: &[LiteralList],
-    uses: &[Listed<Use>],
-    conflicts: &[NumList],
-) -> Result<bool, AllocError>
-    requires engine { IsEngine marks.old.0 goals.now own.now uses.now conflicts.now }
-    requires positive { ArePositive goals.now }
-    requires base { IsAt dead (whole_form [] own.now conflicts.now) [] [] marks.old.1 }
-    ensures classes { OnOk result (marks.new.0 ≡ marks.old.0) }
-    ensures at { IfOk result (λ clash. IsAt clash (whole_form goals.now own.now conflicts.now) [] [] marks.new.1) }
+/// Propagates at the root, unless the book's own formula is contradicted already.
+fn start(dead: bool, trail: &mut Trail, formula: &Formula) -> Result<bool, AllocError>
+    requires engine { IsFormula trail.old.0 formula.now }
+    requires positive { ArePositive formula.now.goals.now }
+    requires base { IsAt dead (whole_form [] formula.now.own.now formula.now.conflicts.now) [] [] trail.old.1 }
+    ensures classes { OnOk result (trail.new.0 ≡ trail.old.0) }
+    ensures at { IfOk result (λ contradiction. IsAt contradiction (sentences_in formula.now) [] [] trail.new.1) }
 {
     if dead {
         return Ok(true);
     }
-    root(marks, goals, own, uses, conflicts)
+    root(trail, formula)
 }
 
 /// Searches for a healthy set of the book that hits every goal, within a budget of failed leaves, from 1 to 1,000,000: the

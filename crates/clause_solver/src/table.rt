@@ -1,4 +1,4 @@
-//! The table of the sentences that a mark concerns.
+//! The table of the sentences that a literal concerns.
 ghost use Rattle.std.specs.Prelude.{◌≡◌, ◌<◌, ◌+◌, ◌*◌, [], IfOk, OnOk, All, Contains, length};
 ghost use Rattle.search_terms.specs.Closure.{InRange};
 ghost use Rattle.clause_solver.specs.Engine.{Enters, IsTable, IsUseOf};
@@ -7,7 +7,7 @@ use listed::{Listed, empty_lists};
 use search_terms::{Literal, LiteralList};
 use std::alloc::{AllocError, Global};
 
-/// A sentence with a literal that a mark contradicts, and the flags that contradict two others of its literals, where it has as
+/// A sentence with a literal that another one contradicts, and the flags that contradict two others of its literals, where it has as
 /// many. While these are two flags and neither is up, the sentence forces nothing, and is not read.
 #[derive(Clone, Copy, Drop)]
 pub(crate) struct Use {
@@ -70,7 +70,7 @@ fn enter_all(uses: &mut [Listed<Use>], classes: u32, own: &[LiteralList]) -> Res
     Ok(())
 }
 
-/// The table of the sentences: for each mark the uses of those that it contradicts a literal of.
+/// The table of the sentences: for each literal the uses of those that it contradicts one of.
 pub(crate) fn table_of(
     alloc: Global,
     classes: u32,

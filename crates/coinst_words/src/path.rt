@@ -1,4 +1,4 @@
-//! Paths, as they were written.
+//! Paths, as they were written. In contracts a path is its bytes.
 ghost use Rattle.std.specs.Prelude.{◌≡◌, IfOk};
 
 use std::alloc::{AllocError, Global};

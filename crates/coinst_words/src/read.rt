@@ -14,8 +14,7 @@ use crate::parse::parse;
 use clap::ArgMatches;
 use std::alloc::Global;
 
-/// Reads the words behind the program's name; `NotACommand` comes only where they give no job, and a job exactly where they do,
-/// unless no memory is found.
+/// The job that the words after the program's name ask for, or that they ask for none.
 pub fn read_words(alloc: Global, words: &[String]) -> Result<Job, WordError>
     ensures job { IfOk result (λ job. job_of (map string_bytes words.now) ≡ Some job) }
     ensures refusal { IfErr result (OnNotACommand (job_of (map string_bytes words.now) ≡ None)) }
@@ -28,13 +27,13 @@ pub fn read_words(alloc: Global, words: &[String]) -> Result<Job, WordError>
     }
 }
 
-// The job of the command that the parse entered.
+// The job of the command of this name, by what was found after it: options with their values, and ordinary words.
 fn job_named<'a>(alloc: Global, name: &str, given: &ArgMatches<'a>) -> Result<Job, WordError>
     ensures job { IfOk result (λ job. job_named name.now (first_value (found_of given.now)) (words_in (found_of given.now)) ≡ Some job) }
     ensures refusal { IfErr result (OnNotACommand (job_named name.now (first_value (found_of given.now)) (words_in (found_of given.now)) ≡ None)) }
     ensures limited { IfOk result IsInLimits }
 {
-    // No command stands alone.
+    // Each command takes ordinary words, so without any there is no job.
     let Some(words) = given.get_raw("words") else {
         return Err(WordError::NotACommand);
     };

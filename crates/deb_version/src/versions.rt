@@ -83,14 +83,14 @@ impl Version {
     pub fn key(&self, alloc: Global) -> Result<Bytes, AllocError>
         ensures { IfOk result (λ key. key ≡ version_key self.now) }
     {
-        // At most the two spaces are more than the text has, as in the key ` 1 ` of `1`.
+        // A key is at most two bytes longer than its text, by its two spaces: that of `1` is ` 1 `.
         let mut key = Vec::with_capacity(alloc, self.text().len().saturating_add(2))?;
         self.push_key(&mut key)?;
         Ok(Bytes::of(key))
     }
 
-    /// Writes that text behind what was written, so that a longer key needs no copy of it; where no memory is found, some
-    /// of it may be written.
+    /// Writes the key after what was written, so that a longer key can hold it without a copy; where no memory is found, a
+    /// part of it may be written.
     #[tactic(auto, using(std::proofs::Common::append_assoc), unfolding(crate::specs::Keys::version_key))]
     pub fn push_key(&self, out: &mut Vec<u8>) -> Result<(), AllocError>
         ensures { OnOk result (out.new.items ≡ out.old.items ++ version_key self.now) }

@@ -6,7 +6,7 @@ use Rattle.row_book.specs.Repository.{Repository, Coinst}
 use Rattle.row_book.specs.Keeping.{KeepsImages}
 use Rattle.row_book.specs.Sound.{SoundRepository}
 use Rattle.row_book.specs.Flattening.{first_some, held_of, passes}
-use Rattle.row_book.specs.Rounds.{in_round, kernel, kernel_image, Settled, class_after, limit_at, passed_in_round, round, rounds, round_count, steps_after}
+use Rattle.row_book.specs.Rounds.{in_round, kernel, kernel_held, kernel_image, Settled, class_after, limit_at, passed_in_round, round, rounds, round_count, steps_after}
 use Rattle.row_book.proofs.Lists.{In_cases, In_none}
 use Rattle.row_book.proofs.Order.{numbers_from}
 use Rattle.row_book.specs.Clauses.{numbers}
@@ -62,7 +62,8 @@ extracted_keeps limit hold R F s e S small = subst (λ K. Coinst R S ↔ Coinst 
 pub extracted_settled : (limit : ℕ) (hold : Bool) → (R F : Repository) → SoundRepository R → F ≡ kernel limit hold R → Settled limit hold F
 extracted_settled limit hold R F s e = subst (Settled limit hold) (sym e) (kernel_is_lem limit hold R s).settled
 
-pub extracted_own : (limit : ℕ) (hold : Bool) → (R F : Repository) → SoundRepository R → F ≡ kernel limit hold R → limit_at limit hold R ≡ None → IsOwnKernel F limit hold
-extracted_own limit hold R F s e h =
+pub extracted_own : (limit : ℕ) (hold : Bool) → (R F : Repository) (held : List ℕ) → SoundRepository R → F ≡ kernel limit hold R → held ≡ kernel_held limit hold R →
+    limit_at limit hold R ≡ None → IsOwnKernel F held limit hold
+extracted_own limit hold R F held s e same h =
     let own : OwnKernel limit hold R = kernel_of_kernel_lem limit hold R s in
-    subst (λ K. IsOwnKernel K limit hold) (sym e) (record { same = own.same; held = own.held; classes = own.classes; steps = own.steps; within = own.within h })
+    subst (λ K. IsOwnKernel K held limit hold) (sym e) (record { same = own.same; held = own.held ∙ sym same; classes = own.classes; steps = own.steps; within = own.within h })

@@ -9,7 +9,7 @@ use Rattle.row_book.specs.Repository.{Repository, Coinst, clauses_of}
 use Rattle.row_book.specs.Sound.{OfPackages, SoundRepository, TidyRepository}
 use Rattle.row_book.specs.Flattening.{flat}
 use Rattle.row_book.specs.Merging.{firsts, class_of, image, quotient}
-use Rattle.row_book.specs.Pruning.{others, without_clause, with_empty_clause, is_dead, is_dropped, prune_clause, prune_clauses, prune_package, prune_over, prune, serves}
+use Rattle.row_book.specs.Pruning.{emptied, others, without_clause, is_dead, is_dropped, prune_clause, prune_clauses, prune_package, prune_over, prune, serves}
 use Rattle.row_book.specs.Thinning.{thin}
 use Rattle.row_book.specs.Rounds.{round, rounds, class_after, image_after, is_same_repository, enough_rounds, rounds_until, round_count, kernel, kernel_image}
 use Rattle.row_book.proofs.Books.{in_listed}
@@ -31,87 +31,87 @@ use Rattle.kernel_rounds.proofs.Tails.{image_within, round_sound, tails_keep_lem
 use Rattle.kernel_rounds.proofs.Thins.{thin_needed}
 
 -- pruning leaves the clauses of other packages
-clause_other : (R : Repository) (p : ℕ) (d : List ℕ) (n : ℕ) → n ≢ p → clauses_of (prune_clause R p d) n ≡ clauses_of R n
+clause_other : (R : Repository) (p : ℕ) (d : List ℕ) (n : ℕ) → n ≢ p → clauses_of (prune_clause R p d).left n ≡ clauses_of R n
 clause_other R p d n ne = pick (is_dropped R p d)
   where
     pick : (b : Bool) → clauses_of (cond b (without_clause R p d) R) n ≡ clauses_of R n
     pick true = row_other R p (others R p d) n ne
     pick false = refl
 
-clauses_other : (ds : List (List ℕ)) (R : Repository) (p n : ℕ) → n ≢ p → clauses_of (prune_clauses R p ds) n ≡ clauses_of R n
+clauses_other : (ds : List (List ℕ)) (R : Repository) (p n : ℕ) → n ≢ p → clauses_of (prune_clauses R p ds).left n ≡ clauses_of R n
 clauses_other [] R p n ne = refl
-clauses_other (d ∷ ds) R p n ne = clauses_other ds (prune_clause R p d) p n ne ∙ clause_other R p d n ne
+clauses_other (d ∷ ds) R p n ne = clauses_other ds (prune_clause R p d).left p n ne ∙ clause_other R p d n ne
 
-package_other : (R : Repository) (p n : ℕ) → n ≢ p → clauses_of (prune_package R p) n ≡ clauses_of R n
+package_other : (R : Repository) (p n : ℕ) → n ≢ p → clauses_of (prune_package R p).left n ≡ clauses_of R n
 package_other R p n ne = pick (is_dead R p)
   where
-    pick : (b : Bool) → clauses_of (cond b (with_empty_clause R p) (prune_clauses R p (clauses_of R p))) n ≡ clauses_of R n
+    pick : (b : Bool) → clauses_of (cond b (emptied R p) (prune_clauses R p (clauses_of R p))).left n ≡ clauses_of R n
     pick true = row_other R p ([] ∷ []) n ne
     pick false = clauses_other (clauses_of R p) R p n ne
 
-over_other : (ps : List ℕ) (R : Repository) (n : ℕ) → ((p : ℕ) → In p ps → n ≢ p) → clauses_of (prune_over R ps) n ≡ clauses_of R n
+over_other : (ps : List ℕ) (R : Repository) (n : ℕ) → ((p : ℕ) → In p ps → n ≢ p) → clauses_of (prune_over R ps).left n ≡ clauses_of R n
 over_other [] R n f = refl
-over_other (p ∷ ps) R n f = over_other ps (prune_package R p) n (λ q i. f q (there i)) ∙ package_other R p n (f p here)
+over_other (p ∷ ps) R n f = over_other ps (prune_package R p).left n (λ q i. f q (there i)) ∙ package_other R p n (f p here)
 
 -- its own
-clause_less : (R : Repository) (p : ℕ) (d c : List ℕ) → In c (clauses_of (prune_clause R p d) p) → In c (clauses_of R p)
+clause_less : (R : Repository) (p : ℕ) (d c : List ℕ) → In c (clauses_of (prune_clause R p d).left p) → In c (clauses_of R p)
 clause_less R p d c i = pick (is_dropped R p d) i
   where
     pick : (b : Bool) → In c (clauses_of (cond b (without_clause R p d) R) p) → In c (clauses_of R p)
     pick true j = elim (row_cases R p (others R p d) p c j) [ inl o ↦ o | inr w ↦ others_parts R p d c w.1 ]
     pick false j = j
 
-clauses_less : (ds : List (List ℕ)) (R : Repository) (p : ℕ) (c : List ℕ) → In c (clauses_of (prune_clauses R p ds) p) → In c (clauses_of R p)
+clauses_less : (ds : List (List ℕ)) (R : Repository) (p : ℕ) (c : List ℕ) → In c (clauses_of (prune_clauses R p ds).left p) → In c (clauses_of R p)
 clauses_less [] R p c i = i
-clauses_less (d ∷ ds) R p c i = clause_less R p d c (clauses_less ds (prune_clause R p d) p c i)
+clauses_less (d ∷ ds) R p c i = clause_less R p d c (clauses_less ds (prune_clause R p d).left p c i)
 
 drop_gone : (R : Repository) (p : ℕ) (d : List ℕ) → p < length R.clauses → In d (clauses_of (without_clause R p d) p) → ⊥
 drop_gone R p d l i = others_not R p d (subst (λ r. In d r) (row_new R p (others R p d) l) i)
 
-clauses_fixed : (ds : List (List ℕ)) (R : Repository) (p : ℕ) → p < length R.clauses → ((d : List ℕ) → In d ds → In d (clauses_of (prune_clauses R p ds) p)) →
+clauses_fixed : (ds : List (List ℕ)) (R : Repository) (p : ℕ) → p < length R.clauses → ((d : List ℕ) → In d ds → In d (clauses_of (prune_clauses R p ds).left p)) →
     (d : List ℕ) → In d ds → is_dropped R p d ≡ false
 clauses_fixed [] R p l f d i = absurd (In_none i)
 clauses_fixed (c ∷ ds) R p l f d i = pick (is_dropped R p c) refl (λ g. clauses_fixed ds R p l g d)
   where
-    pick : (b : Bool) → is_dropped R p c ≡ b → (((e : List ℕ) → In e ds → In e (clauses_of (prune_clauses R p ds) p)) → In d ds → is_dropped R p d ≡ false) → is_dropped R p d ≡ false
+    pick : (b : Bool) → is_dropped R p c ≡ b → (((e : List ℕ) → In e ds → In e (clauses_of (prune_clauses R p ds).left p)) → In d ds → is_dropped R p d ≡ false) → is_dropped R p d ≡ false
     pick true e g =
-        let j : In c (clauses_of (prune_clause R p c) p) = clauses_less ds (prune_clause R p c) p c (f c here) in
+        let j : In c (clauses_of (prune_clause R p c).left p) = clauses_less ds (prune_clause R p c).left p c (f c here) in
         absurd (drop_gone R p c l (subst (λ b. In c (clauses_of (cond b (without_clause R p c) R) p)) e j))
     pick false e g =
-        let same : prune_clause R p c ≡ R = ap (λ b. cond b (without_clause R p c) R) e in
+        let same : (prune_clause R p c).left ≡ R = ap (λ b. cond b (without_clause R p c) R) e in
         elim (In_cases i) [
           | inl s ↦ ap (λ u. is_dropped R p u) s ∙ e
-          | inr j ↦ g (λ u k. subst (λ F. In u (clauses_of (prune_clauses F p ds) p)) same (f u (there k))) j
+          | inr j ↦ g (λ u k. subst (λ F. In u (clauses_of (prune_clauses F p ds).left p)) same (f u (there k))) j
         ]
 
 record Fine (R : Repository) (p : ℕ) : Type 0 where
   dead : is_dead R p ≡ true → clauses_of R p ≡ [] ∷ []
   kept : (d : List ℕ) → is_dead R p ≡ false → In d (clauses_of R p) → is_dropped R p d ≡ false
 
-package_fine : (R : Repository) (p : ℕ) → p < length R.clauses → clauses_of (prune_package R p) p ≡ clauses_of R p → Fine R p
+package_fine : (R : Repository) (p : ℕ) → p < length R.clauses → clauses_of (prune_package R p).left p ≡ clauses_of R p → Fine R p
 package_fine R p l e = record {
-  dead = λ t. sym e ∙ (ap (λ b. clauses_of (cond b (with_empty_clause R p) (prune_clauses R p (clauses_of R p))) p) t ∙ row_new R p ([] ∷ []) l);
+  dead = λ t. sym e ∙ (ap (λ b. clauses_of (cond b (emptied R p) (prune_clauses R p (clauses_of R p))).left p) t ∙ row_new R p ([] ∷ []) l);
   kept = λ d t i.
-      let same : clauses_of (prune_clauses R p (clauses_of R p)) p ≡ clauses_of R p =
-      sym (ap (λ b. clauses_of (cond b (with_empty_clause R p) (prune_clauses R p (clauses_of R p))) p) t) ∙ e in
+      let same : clauses_of (prune_clauses R p (clauses_of R p)).left p ≡ clauses_of R p =
+      sym (ap (λ b. clauses_of (cond b (emptied R p) (prune_clauses R p (clauses_of R p))).left p) t) ∙ e in
       clauses_fixed (clauses_of R p) R p l (λ c j. subst (λ r. In c r) (sym same) j) d i;
 }
 
 -- the numbers of a pass are different
-over_fine : (n k : ℕ) (R : Repository) → TidyRepository R → ((q : ℕ) → clauses_of (prune_over R (numbers n k)) q ≡ clauses_of R q) → (p : ℕ) → p < length R.clauses → k ≤ p → p < k + n → Fine R p
+over_fine : (n k : ℕ) (R : Repository) → TidyRepository R → ((q : ℕ) → clauses_of (prune_over R (numbers n k)).left q ≡ clauses_of R q) → (p : ℕ) → p < length R.clauses → k ≤ p → p < k + n → Fine R p
 unfolding numbers
 over_fine zero k R tidy e p l m u = absurd (omega arith)
 over_fine (suc n) k R tidy e p l m u =
-    let own : clauses_of (prune_package R k) k ≡ clauses_of R k =
-    sym (over_other (numbers n (suc k)) (prune_package R k) k (λ q i s. let w : (suc k ≤ q) × (q < suc k + n) = numbers_parts n (suc k) q i in omega (arith, s))) ∙ e k in
+    let own : clauses_of (prune_package R k).left k ≡ clauses_of R k =
+    sym (over_other (numbers n (suc k)) (prune_package R k).left k (λ q i s. let w : (suc k ≤ q) × (q < suc k + n) = numbers_parts n (suc k) q i in omega (arith, s))) ∙ e k in
     elim (cases_eq p k) [
       | inl s ↦ subst (λ z. Fine R z) (sym s) (package_fine R k (subst (λ z. z < length R.clauses) s l) own)
       | inr ne ↦
-          let step : Step R (prune_package R k) = package_step R k tidy in
-          let rows : (q : ℕ) → clauses_of (prune_package R k) q ≡ clauses_of R q =
-          λ q. elim (cases_eq q k) [ inl s ↦ subst (λ z. clauses_of (prune_package R k) z ≡ clauses_of R z) (sym s) own | inr other ↦ package_other R k q other ] in
-          let same : prune_package R k ≡ R = repository_same (prune_package R k) R (table_same (prune_package R k).clauses R.clauses step.size (λ q v. rows q)) step.conflicts in
-          over_fine n (suc k) R tidy (subst (λ F. (q : ℕ) → clauses_of (prune_over F (numbers n (suc k))) q ≡ clauses_of R q) same e) p l (omega (arith, ne)) (omega arith)
+          let step : Step R (prune_package R k).left = package_step R k tidy in
+          let rows : (q : ℕ) → clauses_of (prune_package R k).left q ≡ clauses_of R q =
+          λ q. elim (cases_eq q k) [ inl s ↦ subst (λ z. clauses_of (prune_package R k).left z ≡ clauses_of R z) (sym s) own | inr other ↦ package_other R k q other ] in
+          let same : (prune_package R k).left ≡ R = repository_same (prune_package R k).left R (table_same (prune_package R k).left.clauses R.clauses step.size (λ q v. rows q)) step.conflicts in
+          over_fine n (suc k) R tidy (subst (λ F. (q : ℕ) → clauses_of (prune_over F (numbers n (suc k))).left q ≡ clauses_of R q) same e) p l (omega (arith, ne)) (omega arith)
     ]
 
 prune_fine : (K : Repository) → TidyRepository K → prune K ≡ K → (p : ℕ) → p < length K.clauses → Fine K p

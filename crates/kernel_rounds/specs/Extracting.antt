@@ -7,7 +7,7 @@ use Rattle.row_book.specs.declared.book.Book.{Book}
 use Rattle.row_book.specs.declared.trail.Step.{Step}
 use Rattle.row_book.specs.Book.{repository_of, Sound}
 use Rattle.row_book.specs.Repository.{Repository}
-use Rattle.row_book.specs.Flattening.{held_of, packages, passes}
+use Rattle.row_book.specs.Flattening.{packages, passes}
 use Rattle.row_book.specs.Merging.{place_of}
 use Rattle.row_book.specs.Rounds.{round, rounds, class_after, steps_after, kernel, kernel_class, kernel_held, kernel_steps, limit_at, round_count, PassedRound}
 use Rattle.row_book.specs.Trail.{SoundSteps, trail_meaning}
@@ -51,9 +51,9 @@ pub record IsExtracted (R : Repository) (limit : ℕ) (hold : Bool) (start pool 
 
 -- extraction over again, at the same limit and hold, gives the same repository with the same held packages, each package as its
 -- own class and no step
-pub record IsOwnKernel (K : Repository) (limit : ℕ) (hold : Bool) : Type 0 where
+pub record IsOwnKernel (K : Repository) (held_classes : List ℕ) (limit : ℕ) (hold : Bool) : Type 0 where
   pub same : kernel limit hold K ≡ K
-  pub held : kernel_held limit hold K ≡ held_of limit hold K
+  pub held : kernel_held limit hold K ≡ held_classes
   pub classes : (p : ℕ) → kernel_class limit hold K p ≡ p
   pub steps : kernel_steps limit hold K ≡ []
   pub within : limit_at limit hold K ≡ None

@@ -320,7 +320,7 @@ pub fn extract(
     ensures hold { IfOk result (λ made. made.hold ≡ hold) }
     ensures keeps { IfOk result (λ made. KeepsImages (repository_of pool.old book.now) (repository_of pool.new made.book) (kernel_image limit hold (repository_of pool.old book.now))) }
     ensures settled { IfOk result (λ made. Settled limit hold (repository_of pool.new made.book)) }
-    ensures own { IfOk result (λ made. IsOwnKernel (repository_of pool.new made.book) limit hold) }
+    ensures own { IfOk result (λ made. IsOwnKernel (repository_of pool.new made.book) made.held limit hold) }
     ensures only { IfOk result (λ made. AddsOnly pool.old pool.new (live_rows made.book made.trail.steps)) }
     ensures passed { IfErr result (OnRoundLimit (λ passed. limit_at limit hold (repository_of pool.old book.now) ≡ Some passed)) }
     ensures refused_only { IfErr result (OnRoundLimit (λ _. HasStepsBefore (repository_of pool.old book.now) limit hold pool.old pool.new)) }

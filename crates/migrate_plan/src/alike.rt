@@ -1,4 +1,4 @@
-//! Packages that say the same.
+//! Whether two packages say the same. A name whose packages do so is no difference of two indexes, and no mix is made for it.
 ghost use Rattle.std.specs.Prelude.{◌≡◌};
 ghost use Rattle.std.specs.Cmp.Lexicographic.{pointwise};
 ghost use Rattle.std.specs.Option.{option_eq};
@@ -119,7 +119,7 @@ fn is_same_bound(one: &Bound, other: &Bound) -> bool
     op_place(one.op) == op_place(other.op) && one.version.text() == other.version.text()
 }
 
-// The place of an operator in the list of operators.
+// The place of an operator in the list of operators, by which two operators are compared.
 fn op_place(op: Op) -> u8
     ensures { result ≡ op_place op }
 {

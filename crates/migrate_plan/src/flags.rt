@@ -1,4 +1,4 @@
-//! Which packages stay in a mix.
+//! Which packages come into a mix: those of the newer index whose names are in a set, and those of the older one whose names are not.
 ghost use Rattle.std.specs.Prelude.{◌≡◌, ◌++◌, ◌∷◌, [], filter, length, map, not, IfOk};
 ghost use Rattle.migrate_plan.specs.Entered.{has_number, AreEntered};
 
@@ -7,7 +7,7 @@ use relation_fields::PackageFacts;
 use std::alloc::{AllocError, Global};
 use virtual_provides::NumbersByName;
 
-/// A table in which these names have a number, and no others: a name is looked up by its hash, however many there are.
+/// The set of these names, as a table in which each has a number: a name is looked up by its hash, however many there are.
 pub(crate) fn table_of(alloc: Global, names: &[Bytes]) -> Result<NumbersByName, AllocError>
     ensures { IfOk result (AreEntered names.now) }
 {
@@ -18,7 +18,7 @@ pub(crate) fn table_of(alloc: Global, names: &[Bytes]) -> Result<NumbersByName, 
     Ok(table)
 }
 
-/// The same of the names that are taken, and the one that is tried with them.
+/// The set of the names that are taken, and of the one that is tried with them.
 pub(crate) fn table_with(
     alloc: Global,
     taken: &[Bytes],
@@ -31,14 +31,14 @@ pub(crate) fn table_with(
     Ok(table)
 }
 
-/// Whether the name has a number in the table.
+/// Whether the name is in the set.
 fn has_number(table: &NumbersByName, name: &[u8]) -> bool
     ensures { result ≡ has_number table.now name.now }
 {
     !table.numbers(name).is_empty()
 }
 
-/// For each package whether its name has a number.
+/// For each package whether its name is in the set.
 pub(crate) fn taken_flags(
     alloc: Global,
     packages: &[PackageFacts],
@@ -52,7 +52,7 @@ pub(crate) fn taken_flags(
         .collect(alloc)
 }
 
-/// For each package whether its name has none.
+/// For each package whether its name is not in the set.
 pub(crate) fn left_flags(
     alloc: Global,
     packages: &[PackageFacts],
@@ -66,7 +66,7 @@ pub(crate) fn left_flags(
         .collect(alloc)
 }
 
-/// How many packages have a name with a number.
+/// How many packages have a name of the set.
 pub(crate) fn count_among(packages: &[PackageFacts], table: &NumbersByName) -> usize
     ensures { result ≡ length (filter (λ facts. has_number table.now facts.name) packages.now) }
 {

@@ -9,8 +9,8 @@ use repo_model::Suite;
 use stanza_reader::blank_lines;
 use std::alloc::{AllocError, Global};
 
-/// The mix of an old and a new index, each with its suite, where the packages of some names, and of one that is tried with
-/// them, are those of the new one.
+/// The mix of an old and a new index, each given with its suite. Packages of the names that are taken, and of the one that is
+/// tried with them, come from the new index, and all others from the old one.
 #[tactic(auto, unfolding(crate::specs::Mix::mix))]
 pub(crate) fn mix_with(
     alloc: Global,
@@ -30,6 +30,7 @@ pub(crate) fn mix_with(
     let mut text = blank_lines(alloc, old_bytes, left.as_slice())?;
     let kept = taken_flags(alloc, new.packages.as_slice(), &table)?;
     let behind = blank_lines(alloc, new_bytes, kept.as_slice())?;
+    // The first line feed ends the last line, if it has none; the second one is a blank line between the two indexes.
     text.extend_from_slice(b"\n\n")?;
     text.extend_from_slice(behind.as_slice())?;
     Ok(text)

@@ -34,7 +34,7 @@ module _ (old new : Interned) (is : IsPool old) (kept : Kept old new) where
   pub row_kept : (id : ℕ) → id < length old.rows → row_at new id ≡ row_at old id
   row_kept id l = ap (clauses_at new) (kept.rows id l).1 ∙ clauses_kept (ids_at old id) (is.of_pool id l)
 
-  rows_kept_by : (rows : List ℕ) → ((id : ℕ) → In id rows → id < length old.rows) → map (row_at new) rows ≡ map (row_at old) rows
+  pub rows_kept_by : (rows : List ℕ) → ((id : ℕ) → In id rows → id < length old.rows) → map (row_at new) rows ≡ map (row_at old) rows
   rows_kept_by [] within = refl
   rows_kept_by (id ∷ ids) within =
       ap₂ (λ r rs. r ∷ rs) (row_kept id (within id here)) (rows_kept_by ids (λ i j. within i (there j)))

@@ -1,26 +1,27 @@
 -- Tables of clauses: how they are made and changed, and what they tell of rows.
-use Rattle.std.proofs.Common.{◌≡◌, ◌≢◌, ℕ, zero, suc, ◌<◌, ◌+◌, Bool, true, false, ltb, List, [], ◌∷◌, ◌++◌, ◌⊎◌, inl, inr, refl, sym, ◌∙◌, ap, ap₂, subst, ◌||◌, eqb, filter, length, get_or, take}
+use Rattle.std.proofs.Common.{◌≡◌, ◌≢◌, ℕ, zero, suc, ◌<◌, ◌≤◌, ◌+◌, Bool, true, false, List, [], ◌∷◌, ◌++◌, ◌⊎◌, inl, inr, refl, sym, ◌∙◌, ap, ap₂, subst, arith, ◌||◌, eqb, filter, length, get_or, take, zero-le}
 use Rattle.std.specs.Prelude.{Result, Ok, Err, OnErr}
 use Rattle.std.specs.Global.{Vec}
 use Rattle.std.specs.List.{slice_set, list_any}
-use Rattle.std.proofs.lemmas.Bool.{and_parts, cases_eq, ltb-true}
+use Rattle.std.proofs.lemmas.Bool.{cases_eq}
 use Rattle.std.proofs.lemmas.List.{get_or-set_same, get_or-set_other, length-set, take_more}
 use Rattle.std.specs.List.Retain.{DiffersFromLast, IsFiltered}
 use Rattle.std.specs.List.Sorted.{IsNonDecreasing}
 use Rattle.std.proofs.lemmas.List.Folds.{list_any_more, list_any-append}
 use Rattle.listed.proofs.Bools.{same_bool}
 use Rattle.listed.proofs.Lists.{empty_or}
-use Rattle.clause_pool.specs.Interned.{Interned, IsPool, Kept, clause_at, ids_at, row_at}
+use Rattle.clause_pool.specs.Interned.{Interned, Kept, clause_at}
 use Rattle.row_book.specs.Sets.{In, here, has}
-use Rattle.row_book.specs.Book.{RowsFit, listed_for}
-use Rattle.row_book.specs.Uses.{row_holds, row_id, users_of, HoldsDifference, IsListOf, lists_in, list_in}
-use Rattle.row_book.specs.Holders.{GainsOnly, HasAll, Holders, ListsClauses, TellsRows}
+use Rattle.row_book.specs.Book.{listed_for}
+use Rattle.row_book.specs.Clauses.{numbers}
+use Rattle.row_book.specs.Uses.{HoldsDifference, IsListOf, lists_in, list_in}
+use Rattle.row_book.specs.Holders.{is_user, users_in, ArePlaced, GainsOnly, HasAll, Holders, ListsClauses, TellsRows}
 use Rattle.row_book.proofs.Books.{in_listed}
 use Rattle.row_book.proofs.Distinct.{distinct_ascends, distinct_from, distinct_has}
 use Rattle.row_book.proofs.Inserts.{listed_once}
-use Rattle.row_book.proofs.Lists.{In_append_cases, In_append_left, In_append_right, In_at, In_cases, In_has, In_map, In_map_cases, In_none, any_from, ascending_filter, decided_in, filter_cases, filter_from, has_In}
+use Rattle.row_book.proofs.Lists.{In_append_cases, In_append_left, In_append_right, In_cases, In_has, In_none, any_cases, any_from, ascending_filter, decided_in, filter_cases, filter_from, has_In}
+use Rattle.row_book.proofs.Order.{numbers_ascending, numbers_from}
 use Rattle.row_book.proofs.Tables.{list_held, list_set_other, list_set_same}
-use Rattle.row_book.proofs.Users.{held_by, user_from, users_listed, uses_number}
 
 -- Lists that grow.
 
@@ -145,47 +146,81 @@ lists_same pool users others clauses e f = record {
 -- What a table tells of rows.
 
 -- the packages below k are among the users of their clauses
-abbrev pub AreUsers : Interned → List ℕ → ℕ → List (List ℕ) → Type 0
-AreUsers pool rows k users = (c p : ℕ) → p < k → In c (ids_at pool (row_id rows p)) → In p (listed_for users c)
+abbrev pub AreUsers : List (List ℕ) → ℕ → List (List ℕ) → Type 0
+AreUsers rows k users = (c p : ℕ) → p < k → In c (listed_for rows p) → In p (listed_for users c)
+
+pub all_told : (pool : Interned) (rows : List (List ℕ)) (k : ℕ) (table : Holders) → length rows ≤ k → length table.clauses ≡ length rows → AreUsers rows k table.users → ListsClauses pool table → TellsRows pool rows table
+all_told pool rows k table l size told lists = record {
+  size = size;
+  users = λ c p i. let m : p < length rows = in_listed rows p c i in told c p (omega arith) i;
+  lists = lists;
+}
 
 -- a package has another row, and is entered for what that has gained
-pub tells_replaced : (pool : Interned) (rows : List ℕ) (p old new : ℕ) (gained : List ℕ) (table after : Holders) → p < length rows → row_id rows p ≡ old
-    → HoldsDifference (ids_at pool new) (ids_at pool old) gained → length after.clauses ≡ length table.clauses → HasAll table.users after.users
+pub tells_replaced : (pool : Interned) (rows : List (List ℕ)) (p : ℕ) (old new gained : List ℕ) (table after : Holders) → p < length rows → listed_for rows p ≡ old
+    → HoldsDifference new old gained → length after.clauses ≡ length table.clauses → HasAll table.users after.users
     → ((c : ℕ) → In c gained → In p (listed_for after.users c)) → (ListsClauses pool table → ListsClauses pool after)
     → TellsRows pool rows table → TellsRows pool (slice_set rows p new) after
 tells_replaced pool rows p old new gained table after l o came size stays entered lists t = record {
   size = size ∙ t.size ∙ sym (length-set rows p new);
-  users = λ c q k i. elim (cases_eq q p) [
+  users = λ c q i. elim (cases_eq q p) [
     | inl s ↦
-        let own : In c (ids_at pool new) = subst (λ z. In c (ids_at pool z)) (ap (row_id (slice_set rows p new)) s ∙ get_or-set_same rows p new 0 l) i in
+        let own : In c new = subst (λ xs. In c xs) (ap (listed_for (slice_set rows p new)) s ∙ get_or-set_same rows p new [] l) i in
         subst (λ z. In z (listed_for after.users c)) (sym s) (elim (came.rest c own) [
           | inl j ↦ entered c j
-          | inr j ↦ stays c p (t.users c p l (subst (λ z. In c (ids_at pool z)) (sym o) j))
+          | inr j ↦ stays c p (t.users c p (subst (λ xs. In c xs) (sym o) j))
         ])
-    | inr ne ↦
-        stays c q (t.users c q (subst (λ n. q < n) (length-set rows p new) k) (subst (λ z. In c (ids_at pool z)) (get_or-set_other rows p q new 0 ne) i))
+    | inr ne ↦ stays c q (t.users c q (subst (λ xs. In c xs) (get_or-set_other rows p q new [] ne) i))
   ];
   lists = lists t.lists;
 }
 
+-- a row that only loses clauses needs no change of the table
+pub tells_part : (pool : Interned) (rows : List (List ℕ)) (p : ℕ) (new : List ℕ) (table : Holders) → p < length rows → ((c : ℕ) → In c new → In c (listed_for rows p))
+    → TellsRows pool rows table → TellsRows pool (slice_set rows p new) table
+tells_part pool rows p new table l part t = record {
+  size = t.size ∙ sym (length-set rows p new);
+  users = λ c q i. elim (cases_eq q p) [
+    | inl s ↦
+        let own : In c new = subst (λ xs. In c xs) (ap (listed_for (slice_set rows p new)) s ∙ get_or-set_same rows p new [] l) i in
+        t.users c q (subst (λ z. In c (listed_for rows z)) (sym s) (part c own))
+    | inr ne ↦ t.users c q (subst (λ xs. In c xs) (get_or-set_other rows p q new [] ne) i)
+  ];
+  lists = t.lists;
+}
+
+-- the clauses of a row that hold a package are those that are listed for it
+pub are_placed : (pool : Interned) (rows : List (List ℕ)) (table : Holders) (n p : ℕ) → TellsRows pool rows table → ArePlaced pool n (listed_for table.clauses n) (listed_for rows p)
+are_placed pool rows table n p t id i =
+    same_bool (has (listed_for table.clauses n) id) (has (clause_at pool id) n)
+    (λ h. In_has (t.lists.held n id (has_In (listed_for table.clauses n) id h)))
+    (λ h. In_has (t.lists.listed id p n (t.users id p i) (has_In (clause_at pool id) n h)))
+
 -- a table with more users still tells of the rows
-pub tells_still : (pool : Interned) (rows : List ℕ) (table after : Holders) → length after.clauses ≡ length table.clauses → HasAll table.users after.users
+pub tells_still : (pool : Interned) (rows : List (List ℕ)) (table after : Holders) → length after.clauses ≡ length table.clauses → HasAll table.users after.users
     → (ListsClauses pool table → ListsClauses pool after) → TellsRows pool rows table → TellsRows pool rows after
 tells_still pool rows table after size stays lists t = record {
   size = size ∙ t.size;
-  users = λ c p l i. stays c p (t.users c p l i);
+  users = λ c p i. stays c p (t.users c p i);
   lists = lists t.lists;
 }
 
--- and so does one that has forgotten a package without users
-pub tells_forgot : (pool : Interned) (rows : List ℕ) (p : ℕ) (table after : Holders) → users_of pool rows p ≡ [] → length after.clauses ≡ length table.clauses
+-- a package whose row has a clause that holds the number is one of the users
+pub is_found : (pool : Interned) (rows : List (List ℕ)) (n p : ℕ) → is_user pool rows n p ≡ true → In p (users_in pool rows n)
+is_found pool rows n p h =
+    let w : (c : ℕ) × In c (listed_for rows p) × (has (clause_at pool c) n ≡ true) = any_cases (λ c. has (clause_at pool c) n) (listed_for rows p) h in
+    let l : p < length rows = in_listed rows p w.0 w.1 in
+    filter_from (is_user pool rows n) (numbers (length rows) 0) p (numbers_from (length rows) 0 p zero-le (omega arith)) h
+
+-- a table still tells of the rows when it has forgotten a package without users
+pub tells_forgot : (pool : Interned) (rows : List (List ℕ)) (p : ℕ) (table after : Holders) → users_in pool rows p ≡ [] → length after.clauses ≡ length table.clauses
     → ((c : ℕ) → In c (listed_for table.clauses p) → listed_for after.users c ≡ [])
     → ((c : ℕ) → (In c (listed_for table.clauses p) → ⊥) → listed_for after.users c ≡ listed_for table.users c)
     → listed_for after.clauses p ≡ [] → ((n : ℕ) → n ≢ p → listed_for after.clauses n ≡ listed_for table.clauses n)
     → TellsRows pool rows table → TellsRows pool rows after
 tells_forgot pool rows p table after unused size gone others own rest t = record {
   size = size ∙ t.size;
-  users = λ c q l i. subst (λ xs. In q xs) (sym (others c (unlisted c q l i))) (t.users c q l i);
+  users = λ c q i. subst (λ xs. In q xs) (sym (others c (unlisted c q i))) (t.users c q i);
   lists = record {
     of_pool = λ c q i. t.lists.of_pool c q (had c q i).0;
     listed = λ c q n i j.
@@ -199,11 +234,10 @@ tells_forgot pool rows p table after unused size gone others own rest t = record
 }
   where
     -- a clause of a row does not hold the package
-    unlisted : (c q : ℕ) → q < length rows → In c (ids_at pool (row_id rows q)) → In c (listed_for table.clauses p) → ⊥
-    unlisted c q l i j =
-        let holds : row_holds pool (row_id rows q) p ≡ true =
-        any_from (λ d. has d p) (row_at pool (row_id rows q)) (clause_at pool c) (In_map (clause_at pool) (ids_at pool (row_id rows q)) c i) (In_has (t.lists.held p c j)) in
-        In_none (subst (λ xs. In q xs) unused (user_from pool rows p q l holds))
+    unlisted : (c q : ℕ) → In c (listed_for rows q) → In c (listed_for table.clauses p) → ⊥
+    unlisted c q i j =
+        let holds : is_user pool rows p q ≡ true = any_from (λ id. has (clause_at pool id) p) (listed_for rows q) c i (In_has (t.lists.held p c j)) in
+        In_none (subst (λ xs. In q xs) unused (is_found pool rows p q holds))
 
     -- a user that is left is of a clause that was not listed for the package
     had : (c q : ℕ) → In q (listed_for after.users c) → In q (listed_for table.users c) × (In c (listed_for table.clauses p) → ⊥)
@@ -212,36 +246,34 @@ tells_forgot pool rows p table after unused size gone others own rest t = record
       | inr f ↦ (subst (λ xs. In q xs) (others c f) i, f)
     ]
 
--- the numbers of a row's clauses are packages
-pub row_numbers_fit : (pool : Interned) (rows : List ℕ) (row : ℕ) (ids : List ℕ) (size : ℕ) → RowsFit pool rows → In row rows → ids ≡ ids_at pool row → size ≡ length rows
-    → (c : ℕ) → In c ids → (n : ℕ) → In n (clause_at pool c) → n < size
-row_numbers_fit pool rows row ids size fit i e s c j n o =
-    subst (λ z. n < z) (sym s) (fit.numbers row i (clause_at pool c) (In_map (clause_at pool) (ids_at pool row) c (subst (λ xs. In c xs) e j)) n o)
-
 -- Those who are listed for a package, and whose row holds it, are its users.
 
-pub users_found : (pool : Interned) (rows : List ℕ) (table : Holders) (n : ℕ) (had found : List ℕ) → TellsRows pool rows table
-    → IsListOf (λ m. list_any (λ c. has (listed_for table.users c) m) (listed_for table.clauses n)) had → found ≡ filter (uses_number pool rows (length rows) n) had → found ≡ users_of pool rows n
+pub users_found : (pool : Interned) (rows : List (List ℕ)) (table : Holders) (n : ℕ) (had found : List ℕ) → TellsRows pool rows table
+    → IsListOf (λ m. list_any (λ c. has (listed_for table.users c) m) (listed_for table.clauses n)) had → found ≡ filter (is_user pool rows n) had → found ≡ users_in pool rows n
 users_found pool rows table n had found t f e =
-    listed_once (uses_number pool rows (length rows) n) found (users_of pool rows n)
-    (subst (IsListOf (uses_number pool rows (length rows) n)) (sym e) (record {
-      ascending = ascending_filter (uses_number pool rows (length rows) n) had f.ascending;
+    listed_once (is_user pool rows n) found (users_in pool rows n)
+    (subst (IsListOf (is_user pool rows n)) (sym e) (record {
+      ascending = ascending_filter (is_user pool rows n) had f.ascending;
       members = λ m.
-          same_bool (has (filter (uses_number pool rows (length rows) n) had) m) (uses_number pool rows (length rows) n m)
-          (λ h. (filter_cases (uses_number pool rows (length rows) n) had m (has_In (filter (uses_number pool rows (length rows) n) had) m h)).1)
-          (λ h. In_has (filter_from (uses_number pool rows (length rows) n) had m (listed m h) h));
+          same_bool (has (filter (is_user pool rows n) had) m) (is_user pool rows n m)
+          (λ h. (filter_cases (is_user pool rows n) had m (has_In (filter (is_user pool rows n) had) m h)).1)
+          (λ h. In_has (filter_from (is_user pool rows n) had m (listed m h) h));
     }))
-    (users_listed pool rows n)
+    (record {
+      ascending = ascending_filter (is_user pool rows n) (numbers (length rows) 0) (numbers_ascending (length rows) 0);
+      members = λ m.
+          same_bool (has (users_in pool rows n) m) (is_user pool rows n m)
+          (λ h. (filter_cases (is_user pool rows n) (numbers (length rows) 0) m (has_In (users_in pool rows n) m h)).1)
+          (λ h. In_has (is_found pool rows n m h));
+    })
   where
-    listed : (m : ℕ) → uses_number pool rows (length rows) n m ≡ true → In m had
+    listed : (m : ℕ) → is_user pool rows n m ≡ true → In m had
     listed m h =
-        let u : (ltb m (length rows) ≡ true) × (row_holds pool (row_id rows m) n ≡ true) = and_parts (ltb m (length rows)) (row_holds pool (row_id rows m) n) h in
-        let w : (d : List ℕ) × In d (row_at pool (row_id rows m)) × In n d = held_by pool (row_id rows m) n u.1 in
-        let o : (c : ℕ) × In c (ids_at pool (row_id rows m)) × (w.0 ≡ clause_at pool c) = In_map_cases (clause_at pool) (ids_at pool (row_id rows m)) w.0 w.1 in
-        let user : In m (listed_for table.users o.0) = t.users o.0 m (ltb-true m (length rows) u.0) o.1 in
+        let w : (c : ℕ) × In c (listed_for rows m) × (has (clause_at pool c) n ≡ true) = any_cases (λ c. has (clause_at pool c) n) (listed_for rows m) h in
+        let user : In m (listed_for table.users w.0) = t.users w.0 m w.1 in
         has_In had m (f.members m
-        ∙ any_from (λ c. has (listed_for table.users c) m) (listed_for table.clauses n) o.0
-        (t.lists.listed o.0 m n user (subst (λ z. In n z) o.2 w.2)) (In_has user))
+        ∙ any_from (λ c. has (listed_for table.users c) m) (listed_for table.clauses n) w.0
+        (t.lists.listed w.0 m n user (has_In (clause_at pool w.0) n w.2)) (In_has user))
 
 -- How the users are gathered.
 
@@ -262,10 +294,10 @@ gathered test found sorted once p up f t = record {
 }
 
 -- In a pool that grows the table tells of the same rows.
-pub tells_kept : (old new : Interned) (rows : List ℕ) → IsPool old → Kept old new → RowsFit old rows → (table : Holders) → TellsRows old rows table → TellsRows new rows table
-tells_kept old new rows is k fit table t = record {
+pub tells_kept : (old new : Interned) (rows : List (List ℕ)) → Kept old new → (table : Holders) → TellsRows old rows table → TellsRows new rows table
+tells_kept old new rows k table t = record {
   size = t.size;
-  users = λ c p l i. t.users c p l (subst (λ ids. In c ids) (k.rows (row_id rows p) (fit.of_pool (row_id rows p) (In_at rows p 0 l))).1 i);
+  users = t.users;
   lists = record {
     of_pool = λ c p i. (k.clauses c (t.lists.of_pool c p i)).0;
     listed = λ c p n i j. t.lists.listed c p n i (subst (λ z. In n z) (k.clauses c (t.lists.of_pool c p i)).1 j);

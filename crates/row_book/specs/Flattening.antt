@@ -117,8 +117,12 @@ first_some [] = None
 first_some (None ∷ xs) = first_some xs
 first_some (Some x ∷ xs) = Some x
 
--- the first stage of elimination, and there the least package, whose row has more clauses than the
--- limit allows. Without hold each step takes one package out, and after the core is reached no stage
--- differs from it. With hold no step makes a row pass the limit, so that only the rows before any step may
+-- the stages of elimination whose rows may pass the limit. With hold no step makes a row pass it, so that this is the first
+-- stage alone, before any step. Without hold each step takes one package out, and after the core is reached no stage
+-- differs from it: these are the first stage and one for each package
+abbrev pub stages_tried : Bool → Repository → List ℕ
+stages_tried hold R = numbers (cond hold 1 (suc (length R.clauses))) 0
+
+-- the first of these stages, and there the least package, whose row has more clauses than the limit allows
 unfoldable pub passes : ℕ → Bool → Repository → Option Passed
-passes limit hold R = first_some (map (passed_at limit hold R) (numbers (cond hold 1 (suc (length R.clauses))) 0))
+passes limit hold R = first_some (map (passed_at limit hold R) (stages_tried hold R))

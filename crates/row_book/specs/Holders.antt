@@ -1,10 +1,31 @@
 -- Which rows have which clauses, and which clauses hold which packages. Clauses are told by their ids.
-use Rattle.std.specs.Prelude.{◌≡◌, ℕ, ◌<◌, ◌⊎◌, List, length}
+use Rattle.std.specs.Prelude.{◌≡◌, ℕ, ◌<◌, ◌⊎◌, Bool, List, filter, length}
 use Rattle.std.specs.Global.{Vec}
-use Rattle.clause_pool.specs.Interned.{Interned, clause_at, ids_at}
-use Rattle.row_book.specs.Sets.{In}
+use Rattle.std.specs.List.{list_any}
+use Rattle.clause_pool.specs.Interned.{Interned, IsPool, OfPool, clause_at, clauses_at}
+use Rattle.row_book.specs.Sets.{In, has}
+use Rattle.row_book.specs.Clauses.{InOrder, numbers}
 use Rattle.row_book.specs.Book.{listed_for}
-use Rattle.row_book.specs.Uses.{row_id, lists_in}
+use Rattle.row_book.specs.Uses.{lists_in}
+
+-- rows that are told by the ids of their clauses: clauses of the pool, in order, and each number in them is below the number of rows
+pub record ListsFit (pool : Interned) (rows : List (List ℕ)) : Type 0 where
+  pub is_pool : IsPool pool
+  pub of_pool : (p : ℕ) → OfPool pool (listed_for rows p)
+  pub in_order : (p : ℕ) → InOrder (clauses_at pool (listed_for rows p))
+  pub numbers : (c p : ℕ) → In c (listed_for rows p) → (n : ℕ) → In n (clause_at pool c) → n < length rows
+
+-- one of the clauses holds the number
+abbrev pub ids_hold : Interned → ℕ → List ℕ → Bool
+ids_hold pool n ids = list_any (λ id. has (clause_at pool id) n) ids
+
+-- the row of the package has a clause that holds the number
+abbrev pub is_user : Interned → List (List ℕ) → ℕ → ℕ → Bool
+is_user pool rows n p = ids_hold pool n (listed_for rows p)
+
+-- the packages of which that is so, ascending
+abbrev pub users_in : Interned → List (List ℕ) → ℕ → List ℕ
+users_in pool rows n = filter (is_user pool rows n) (numbers (length rows) 0)
 
 -- a list of packages for each clause, its users, and a list of clauses for each package
 pub record Holders : Type 0 where
@@ -22,10 +43,14 @@ pub record ListsClauses (pool : Interned) (table : Holders) : Type 0 where
 
 -- The table of some rows: a package whose row has a clause is among the users of the clause. It may stand there several
 -- times, and so may one whose row had the clause and has lost it.
-pub record TellsRows (pool : Interned) (rows : List ℕ) (table : Holders) : Type 0 where
+pub record TellsRows (pool : Interned) (rows : List (List ℕ)) (table : Holders) : Type 0 where
   pub size : length table.clauses ≡ length rows
-  pub users : (c p : ℕ) → p < length rows → In c (ids_at pool (row_id rows p)) → In p (listed_for table.users c)
+  pub users : (c p : ℕ) → In c (listed_for rows p) → In p (listed_for table.users c)
   pub lists : ListsClauses pool table
+
+-- those of the clauses that hold the number are those that stand at the places
+abbrev pub ArePlaced : Interned → ℕ → List ℕ → List ℕ → Type 0
+ArePlaced pool n places ids = (id : ℕ) → In id ids → has places id ≡ has (clause_at pool id) n
 
 -- no list has lost what stood there
 abbrev pub HasAll : List (List ℕ) → List (List ℕ) → Type 0

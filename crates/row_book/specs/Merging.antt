@@ -54,7 +54,8 @@ members R K p = ltb p (length R.clauses) && K (class_of R p)
 abbrev pub clause_image : Repository → List ℕ → List ℕ
 clause_image R c = filter (image R (has c)) (classes R)
 
--- the clauses of a class: the images of its packages' clauses that do not hold the class itself, and of these the minimal ones
+-- the clauses of a class: the images of the clauses of its least package, as all its packages have the same; of these those
+-- that do not hold the class itself, and of them the minimal ones
 abbrev pub class_clauses : Repository → ℕ → List (List ℕ)
 class_clauses R k = in_row_order (minimal_of (apart_from k (map (clause_image R) (clauses_of R (first_of R k)))))
 

@@ -58,27 +58,6 @@ is_idle R p d x =
 abbrev pub is_dropped : Repository → ℕ → List ℕ → Bool
 is_dropped R p d = is_forced R p d || list_any (is_idle R p d) d
 
-abbrev pub prune_clause : Repository → ℕ → List ℕ → Repository
-prune_clause R p d = cond (is_dropped R p d) (without_clause R p d) R
-
--- one clause after another, each in what is left
-abbrev pub prune_clauses : Repository → ℕ → List (List ℕ) → Repository
-prune_clauses R p [] = R
-prune_clauses R p (d ∷ ds) = prune_clauses (prune_clause R p d) p ds
-
-abbrev pub prune_package : Repository → ℕ → Repository
-prune_package R p = cond (is_dead R p) (with_empty_clause R p) (prune_clauses R p (clauses_of R p))
-
--- one package after another, each in what is left
-abbrev pub prune_over : Repository → List ℕ → Repository
-prune_over R [] = R
-prune_over R (p ∷ ps) = prune_over (prune_package R p) ps
-
-unfoldable pub prune : Repository → Repository
-prune R = prune_over R (packages R)
-
--- The steps of pruning that a healthy set of what is left has to be taken back through.
-
 -- the clause of the package was dropped as idle by the least of its members that serve
 pub record IdleClause : Type 0 where
   pub «package» : ℕ
@@ -89,23 +68,50 @@ abbrev pub step_by : ℕ → List ℕ → Option ℕ → List IdleClause
 step_by p d None = []
 step_by p d (Some x) = record { «package» = p; clause = d; added = x } ∷ []
 
-abbrev pub clause_steps : Repository → ℕ → List ℕ → List IdleClause
-clause_steps R p d = cond (is_forced R p d) [] (step_by p d (find (is_idle R p d) d))
+-- what is left of a repository, and the steps that a healthy set of it has to be taken back through: the clauses that were
+-- dropped as idle, in order
+pub record Pruned : Type 0 where
+  pub left : Repository
+  pub steps : List IdleClause
 
-abbrev pub clauses_steps : Repository → ℕ → List (List ℕ) → List IdleClause
-clauses_steps R p [] = []
-clauses_steps R p (d ∷ ds) = clause_steps R p d ++ clauses_steps (prune_clause R p d) p ds
+abbrev pub untouched : Repository → Pruned
+untouched R = record { left = R; steps = [] }
 
-abbrev pub package_steps : Repository → ℕ → List IdleClause
-package_steps R p = cond (is_dead R p) [] (clauses_steps R p (clauses_of R p))
+-- what was pruned first, and then what was pruned of what that left
+abbrev pub followed_by : Pruned → Pruned → Pruned
+followed_by first next = record { left = next.left; steps = first.steps ++ next.steps }
 
-abbrev pub steps_over : Repository → List ℕ → List IdleClause
-steps_over R [] = []
-steps_over R (p ∷ ps) = package_steps R p ++ steps_over (prune_package R p) ps
+-- the clause d of p is dropped if it is forced, and else if it is idle
+abbrev pub prune_clause : Repository → ℕ → List ℕ → Pruned
+prune_clause R p d = record {
+  left = cond (is_dropped R p d) (without_clause R p d) R;
+  steps = cond (is_forced R p d) [] (step_by p d (find (is_idle R p d) d));
+}
+
+-- one clause after another, each in what is left
+abbrev pub prune_clauses : Repository → ℕ → List (List ℕ) → Pruned
+prune_clauses R p [] = untouched R
+prune_clauses R p (d ∷ ds) = followed_by (prune_clause R p d) (prune_clauses (prune_clause R p d).left p ds)
+
+-- the package gets the empty clause alone, which is no step
+abbrev pub emptied : Repository → ℕ → Pruned
+emptied R p = untouched (with_empty_clause R p)
+
+abbrev pub prune_package : Repository → ℕ → Pruned
+prune_package R p = cond (is_dead R p) (emptied R p) (prune_clauses R p (clauses_of R p))
+
+-- one package after another, each in what is left
+abbrev pub prune_over : Repository → List ℕ → Pruned
+prune_over R [] = untouched R
+prune_over R (p ∷ ps) = followed_by (prune_package R p) (prune_over (prune_package R p).left ps)
+
+-- the pruned repository
+unfoldable pub prune : Repository → Repository
+prune R = (prune_over R (packages R)).left
 
 -- the idle steps of pruning, in order
 unfoldable pub idle_steps : Repository → List IdleClause
-idle_steps R = steps_over R (packages R)
+idle_steps R = (prune_over R (packages R)).steps
 
 -- the set with x put in, where p is there and nothing of d is
 abbrev pub lift_idle : NumSet → ℕ → List ℕ → ℕ → NumSet

@@ -1,14 +1,15 @@
 //! Which rows have which clauses, and which clauses hold which packages.
 ghost use Rattle.std.specs.Prelude.{◌≡◌, ◌≢◌, ◌∷◌, ◌<◌, ◌≤◌, ◌&&◌, ℕ, List, [], IfOk, OnOk, OnErr, length, ltb, slice_set};
 ghost use Rattle.std.specs.List.{filter, list_any};
-ghost use Rattle.clause_pool.specs.Interned.{clause_at, row_at, Interned, OfPool};
+ghost use Rattle.clause_pool.specs.Interned.{clause_at, Interned, OfPool};
 ghost use Rattle.row_book.specs.Sets.{In, has};
-ghost use Rattle.row_book.specs.Book.{RowsFit};
-ghost use Rattle.row_book.specs.Uses.{row_holds, row_id, users_of, lists_in, list_in, IsListOf};
-ghost use Rattle.row_book.specs.Holders.{holders_in, GainsOnly, HasAll, ListsClauses, TellsRows};
+ghost use Rattle.row_book.specs.Book.{listed_for};
+ghost use Rattle.row_book.specs.Uses.{lists_in, list_in, IsListOf};
+ghost use Rattle.row_book.specs.Holders.{holders_in, ids_hold, is_user, users_in, ArePlaced, GainsOnly, HasAll, ListsClauses, ListsFit, TellsRows};
 
+use crate::IdList;
 use crate::changes::gained_between;
-use clause_pool::{ClauseId, Pool, RowId};
+use clause_pool::{ClauseId, Pool};
 use listed::{empty_vectors, holds_ascending};
 use std::alloc::{AllocError, Global};
 use std::marker::Model;
@@ -34,9 +35,9 @@ impl Model for ClauseTable {
 
 impl ClauseTable {
     /// The table of the rows; it fails only where no memory is found.
-    pub fn of(alloc: Global, pool: &Pool, rows: &[RowId]) -> Result<ClauseTable, AllocError>
+    pub fn of(alloc: Global, pool: &Pool, rows: &[IdList]) -> Result<ClauseTable, AllocError>
         requires few { length rows.now < u32.MAX }
-        requires fit { RowsFit pool.now rows.now }
+        requires fit { ListsFit pool.now rows.now }
         ensures { IfOk result (TellsRows pool.now rows.now) }
     {
         let mut users = Vec::new(alloc);
@@ -52,15 +53,22 @@ impl ClauseTable {
         &self,
         alloc: Global,
         pool: &Pool,
-        rows: &[RowId],
+        rows: &[IdList],
         number: u32,
     ) -> Result<Vec<u32>, AllocError>
-        requires { RowsFit pool.now rows.now }
-        ensures { IfOk result (λ found. TellsRows pool.now rows.now self.now → found.items ≡ users_of pool.now rows.now number) }
+        requires { ListsFit pool.now rows.now }
+        ensures { IfOk result (λ found. TellsRows pool.now rows.now self.now → found.items ≡ users_in pool.now rows.now number) }
     {
         let clauses = list_at(self.clauses.as_slice(), number);
         let had = users_among(alloc, self.users.as_slice(), clauses)?;
-        users_still(alloc, pool, rows, had.as_slice(), number)
+        users_still(alloc, pool, rows, had.as_slice(), number, clauses)
+    }
+
+    /// Lends the places of clauses that hold a package: in a table of rows all of those that a row has; it takes no memory.
+    pub fn clauses_with(&self, number: u32) -> &[u32]
+        ensures { result.now ≡ listed_for self.now.clauses number }
+    {
+        list_at(self.clauses.as_slice(), number)
     }
 
     /// Puts a new row in the place of the old one of a package: a table of rows in which the package has the old row is
@@ -70,17 +78,17 @@ impl ClauseTable {
         alloc: Global,
         pool: &Pool,
         number: u32,
-        old: RowId,
-        new: RowId,
+        old: &[ClauseId],
+        new: &[ClauseId],
     ) -> Result<(), AllocError>
-        requires old { old < length pool.now.rows }
-        requires new { new < length pool.now.rows }
-        requires numbers { (c : List ℕ) → In c (row_at pool.now new) → (n : ℕ) → In n c → n < length self.old.clauses }
-        ensures ok { OnOk result ((rows : List ℕ) → number < length rows → row_id rows number ≡ old →
-            TellsRows pool.now rows self.old → TellsRows pool.now (slice_set rows number new) self.new) }
-        ensures err { OnErr result ((rows : List ℕ) → TellsRows pool.now rows self.old → TellsRows pool.now rows self.new) }
+        requires old { OfPool pool.now old.now }
+        requires new { OfPool pool.now new.now }
+        requires numbers { (c : ℕ) → In c new.now → (n : ℕ) → In n (clause_at pool.now c) → n < length self.old.clauses }
+        ensures ok { OnOk result ((rows : List (List ℕ)) → number < length rows → listed_for rows number ≡ old.now →
+            TellsRows pool.now rows self.old → TellsRows pool.now (slice_set rows number new.now) self.new) }
+        ensures err { OnErr result ((rows : List (List ℕ)) → TellsRows pool.now rows self.old → TellsRows pool.now rows self.new) }
     {
-        let came = gained_between(alloc, pool, pool.row(old), pool.row(new))?;
+        let came = gained_between(alloc, pool, old, new)?;
         make_lists(&mut self.users, pool.clause_count())?;
         let gained = came.as_slice();
         let users = self.users.as_mut_slice();
@@ -92,7 +100,7 @@ impl ClauseTable {
     /// Gives back the lists of a package and of the users of its clauses: a table of rows none of which has a clause that
     /// holds it stays that of these rows. Otherwise each other member of a long clause would go through its users again.
     pub fn forget(&mut self, number: u32)
-        ensures { (pool : Interned) (rows : List ℕ) → users_of pool rows number ≡ [] →
+        ensures { (pool : Interned) (rows : List (List ℕ)) → users_in pool rows number ≡ [] →
             TellsRows pool rows self.old → TellsRows pool rows self.new }
     {
         let alloc = *self.users.allocator();
@@ -107,10 +115,10 @@ fn enter_rows(
     pool: &Pool,
     users: &mut [Vec<u32>],
     clauses: &mut [Vec<u32>],
-    rows: &[RowId],
+    rows: &[IdList],
 ) -> Result<(), AllocError>
     requires few { length rows.now < u32.MAX }
-    requires fit { RowsFit pool.now rows.now }
+    requires fit { ListsFit pool.now rows.now }
     requires there { length pool.now.clauses ≤ length users.old }
     requires size { length clauses.old ≡ length rows.now }
     requires none { (c : ℕ) → list_in users.old c ≡ [] }
@@ -118,7 +126,7 @@ fn enter_rows(
     ensures { OnOk result (TellsRows pool.now rows.now (holders_in users.new clauses.new)) }
 {
     for (number, row) in rows.iter().enumerate() {
-        enter_all(pool, users, clauses, pool.row(*row), number as u32)?;
+        enter_all(pool, users, clauses, row.as_slice(), number as u32)?;
     }
     Ok(())
 }
@@ -267,21 +275,23 @@ fn users_among(alloc: Global, users: &[Vec<u32>], places: &[u32]) -> Result<Vec<
     Ok(found)
 }
 
-/// Those of the packages whose row has a clause that holds the number.
+/// Those of the packages whose row has a clause that holds the number. The places are those of such clauses, and none that a
+/// row has is missing.
 fn users_still(
     alloc: Global,
     pool: &Pool,
-    rows: &[RowId],
+    rows: &[IdList],
     packages: &[u32],
     number: u32,
+    places: &[u32],
 ) -> Result<Vec<u32>, AllocError>
-    requires { RowsFit pool.now rows.now }
-    ensures { IfOk result (λ found. found.items
-        ≡ filter (λ p. ltb p (length rows.now) && row_holds pool.now (row_id rows.now p) number) packages.now) }
+    requires { ListsFit pool.now rows.now }
+    ensures { IfOk result (λ found. ((p : ℕ) → ArePlaced pool.now number places.now (listed_for rows.now p)) →
+        found.items ≡ filter (is_user pool.now rows.now number) packages.now) }
 {
     let mut found = Vec::with_capacity(alloc, packages.len())?;
     for package in packages {
-        if is_user(pool, rows, *package, number) {
+        if is_user(pool, rows, *package, number, places) {
             found.push(*package)?;
         }
     }
@@ -289,20 +299,49 @@ fn users_still(
 }
 
 /// Whether the package is one of the rows' and its row has a clause that holds the number.
-fn is_user(pool: &Pool, rows: &[RowId], user: u32, number: u32) -> bool
-    requires { RowsFit pool.now rows.now }
-    ensures { result ≡ (ltb user (length rows.now) && row_holds pool.now (row_id rows.now user) number) }
+fn is_user(pool: &Pool, rows: &[IdList], user: u32, number: u32, places: &[u32]) -> bool
+    requires { ListsFit pool.now rows.now }
+    ensures { ArePlaced pool.now number places.now (listed_for rows.now user) → result ≡ is_user pool.now rows.now number user }
 {
-    (user as usize) < rows.len() && some_holds(pool, pool.row(rows[user as usize]), number)
+    match rows.get(user as usize) {
+        Some(row) => some_holds(pool, row.as_slice(), number, places),
+        None => false,
+    }
 }
 
 /// Whether one of the clauses holds the number.
-fn some_holds(pool: &Pool, ids: &[ClauseId], number: u32) -> bool
+fn some_holds(pool: &Pool, ids: &[ClauseId], number: u32, places: &[u32]) -> bool
     requires { OfPool pool.now ids.now }
-    ensures { result ≡ list_any (λ id. has (clause_at pool.now id) number) ids.now }
+    ensures { ArePlaced pool.now number places.now ids.now → result ≡ ids_hold pool.now number ids.now }
 {
     for id in ids {
-        if holds_ascending(pool.slice(*id), number) {
+        if clause_holds(pool, *id, number, places) {
+            return true;
+        }
+    }
+    false
+}
+
+/// So few places that they are looked at one by one.
+const FEW: usize = 8;
+
+/// Whether a clause holds a number, where it does exactly if its place is one of these.
+pub fn clause_holds(pool: &Pool, id: ClauseId, number: u32, places: &[u32]) -> bool
+    requires { id < length pool.now.clauses }
+    ensures { has places.now id ≡ has (clause_at pool.now id) number → result ≡ has (clause_at pool.now id) number }
+{
+    if places.len() > FEW {
+        return holds_ascending(pool.slice(id), number);
+    }
+    is_one_of(places, id)
+}
+
+/// Whether one of the places is that of the clause.
+fn is_one_of(places: &[u32], id: ClauseId) -> bool
+    ensures { result ≡ has places.now id }
+{
+    for place in places {
+        if *place as usize == id.place() {
             return true;
         }
     }

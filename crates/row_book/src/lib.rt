@@ -28,15 +28,19 @@ pub use subsets::is_coinst;
 pub use within::{has_side_within, has_within};
 
 // Tables of who names whom, and of the rows that hold a clause.
-pub use clause_table::ClauseTable;
+pub use clause_table::{ClauseTable, clause_holds};
 pub use uses::{UseTable, distinct_numbers_in};
 
 // What reductions leave behind.
 pub use trail::{Step, StepList, Trail};
 
 // Lists.
+use clause_pool::ClauseId;
 pub use clause_pool::NumList;
 use listed::Listed;
+
+/// The clauses of a row, by their ids.
+pub type IdList = Listed<ClauseId>;
 
 /// The clauses of one package.
 pub type ClauseList = Listed<NumList>;

@@ -18,7 +18,7 @@ pub(crate) fn name_of(line: &[u8]) -> &[u8]
     }
 }
 
-/// Whether the line has a colon, by the text before the first one.
+/// Whether the line has a colon. `name` is the text before the first one, and so the whole line if there is none.
 pub(crate) fn has_colon(line: &[u8], name: &[u8]) -> bool
     requires { name.now ≡ name_of line.now }
     ensures { result ≡ list_any is_colon line.now }
@@ -26,7 +26,7 @@ pub(crate) fn has_colon(line: &[u8], name: &[u8]) -> bool
     name.len() < line.len()
 }
 
-/// How many bytes at the front of a line may stand in a name.
+/// How many bytes at the front of a line may all stand in a name.
 pub(crate) fn name_length(line: &[u8]) -> usize
     ensures within { result ≤ length line.now }
     ensures bytes { list_all is_field_name_byte (take result line.now) ≡ true }
@@ -39,7 +39,8 @@ pub(crate) fn name_length(line: &[u8]) -> usize
     line.len()
 }
 
-/// Whether a colon stands behind so many bytes that may stand in a name: they are then the text before the first colon.
+/// Whether a colon follows the first `len` bytes, all of which may stand in a name. They are then the text before the first
+/// colon.
 pub(crate) fn has_colon_behind(line: &[u8], len: usize) -> bool
     requires { list_all is_field_name_byte (take len line.now) ≡ true }
     ensures name { result ≡ true → take len line.now ≡ name_of line.now }
@@ -61,7 +62,7 @@ fn has_name_bytes(text: &[u8]) -> bool
     text.iter().all(|byte| is_name_byte(*byte))
 }
 
-/// Whether a text of bytes that may stand in a name is the name of a field.
+/// Whether a text is the name of a field, if all its bytes may stand in one: its first byte decides.
 pub(crate) fn is_begun_well(text: &[u8]) -> bool
     requires { list_all is_field_name_byte text.now ≡ true }
     ensures { result ≡ is_field_name text.now }
@@ -72,13 +73,14 @@ pub(crate) fn is_begun_well(text: &[u8]) -> bool
     }
 }
 
+// A printable character of ASCII, but no space and no colon.
 fn is_name_byte(byte: u8) -> bool
     ensures { result ≡ is_field_name_byte byte }
 {
     33 <= byte && byte <= 126 && byte != b':'
 }
 
-/// The kind of a field by its name, for the fields that are kept.
+/// The kind of the field with this name, if it is one of those that are kept. Names are compared without case.
 pub(crate) fn kind_of(name: &[u8]) -> Option<FieldKind>
     ensures { result ≡ kind_of name.now }
 {

@@ -1,4 +1,4 @@
-//! Whether the own packages stand together.
+//! Whether the own packages are a healthy set.
 ghost use Rattle.std.specs.Prelude.{◌≡◌, true, map, IfOk};
 ghost use Rattle.repo_model.specs.Repository.{suite_repository};
 ghost use Rattle.status_check.specs.Report.{all_of, IsStateOf};
@@ -10,7 +10,7 @@ use repo_model::Suite;
 use row_book::Unhealthy;
 use std::alloc::{AllocError, Global};
 
-/// Whether all packages of the suite are a healthy set, or the first reason why not.
+/// Whether all packages of the suite are a healthy set; if not, the first unmet need, or else the first conflict.
 pub(crate) fn own_state(alloc: Global, suite: &Suite) -> Result<OwnState, AllocError>
     ensures { IfOk result (IsStateOf (suite_repository suite.now.home suite.now.packages) (all_of suite.now.packages)) }
 {

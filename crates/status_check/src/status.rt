@@ -19,11 +19,12 @@ use repo_model::IndexFault;
 use std::alloc::Global;
 use suite_compare::SuiteView;
 
-/// What an index has of the packages that a dpkg status file says are installed: which of them it has, whether they stand
-/// together by themselves, and whether those that it has can be installed from it together, within a budget of failed
-/// leaves, from 1 to 1,000,000. Stanzas that are not installed are passed over, and those of another architecture than `all`
-/// and the home of the index are counted alone. The file has at most 1,073,741,824 bytes; the error is its first fault, or
-/// want of memory.
+/// What an index has of the packages that a status file of dpkg says are installed, and whether these are consistent.
+///
+/// The report says which of the own packages the index has, whether all of them are a healthy set, and whether those that the
+/// index has can be installed from it together. The search for that may have from 1 to 1,000,000 failed leaves. Stanzas that
+/// are not installed are passed over. Foreign ones, whose architecture is neither `all` nor the home of the index, are only
+/// counted. The error is the first fault of the file, or want of memory.
 pub fn status_report(
     alloc: Global,
     view: &SuiteView,
@@ -39,7 +40,7 @@ pub fn status_report(
     ensures own { IfOk result (λ report. IsStateOf (suite_repository (own_home view.now.suite.home bytes.now) (own_packages view.now.suite.home bytes.now)) (all_of (own_packages view.now.suite.home bytes.now)) report.own) }
     ensures verdict { IfOk result (λ report. report.verdict
         ≡ state_of budget (verdict_in view.now.limit view.now.kernel.hold view.now.suite.home view.now.suite.packages budget (had_goals view.now.suite.packages (own_packages view.now.suite.home bytes.now)))) }
-    // All own packages are healthy, judged on the stanzas, exactly where it is told.
+    // `Healthy` is said exactly if all own packages are a healthy set, judged on their stanzas.
     ensures healthy { IfOk result (λ report. (report.own ≡ Healthy) ↔ HealthyStanzas (own_home view.now.suite.home bytes.now) (own_packages view.now.suite.home bytes.now) (all_of (own_packages view.now.suite.home bytes.now))) }
     // A yes and a no are true on the stanzas of the index.
     ensures judged { IfOk result (λ report. IsJudged view.now.suite.home view.now.suite.packages (had_goals view.now.suite.packages (own_packages view.now.suite.home bytes.now)) report.verdict) }

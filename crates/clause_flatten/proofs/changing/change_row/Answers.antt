@@ -1,41 +1,88 @@
-use Rattle.std.proofs.Common.{◌<◌, ap, sym, ◌∙◌, subst}
-use Rattle.clause_pool.specs.Interned.{row_at}
-use Rattle.row_book.proofs.Holders.{tells_kept}
-use Rattle.row_book.proofs.Lists.{item_in}
-use Rattle.clause_flatten.proofs.Families.{item_zero}
-use Rattle.clause_flatten.proofs.Replacing.{id_other}
+use Rattle.std.proofs.Common.{◌≡◌, ◌<◌, ℕ, ◌∙◌, List, length, refl, slice_set, subst, sym}
+use Rattle.row_book.specs.Book.{listed_for}
+use Rattle.row_book.specs.Holders.{ArePlaced, TellsRows}
+use Rattle.row_book.proofs.Holders.{are_placed, tells_kept}
+use Rattle.clause_families.proofs.Families.{empty_items}
+use Rattle.clause_flatten.proofs.Turning.{left_ready, left_table, lent_row, new_below, new_ready, new_table, ready_kept, useful_apart}
 use Rattle.clause_flatten.proofs.changing.change_row.Goals as goal
 
-pub returns-in_err-new-clause-ready : goal.returns-in_err-new-clause-ready
-returns-in_err-new-clause-ready c = record {
-  fit = c.new_row.ensures.fit;
-  tidy = c.new_row.ensures.tidy;
-  table = tells_kept c.args.pool.now c.new_row.new.pool c.args.rows.now c.requires.ready.fit.is_pool c.new_row.ensures.kept c.requires.ready.fit c.args.uses.now c.requires.ready.table;
-}
+pub ids_without-requires-clause-placed : goal.ids_without-requires-clause-placed
+ids_without-requires-clause-placed c =
+    let row : listed_for c.args.rows.now c.args.user ≡ c.as_slice-row.result.now =
+    sym (lent_row c.args.rows.now c.args.user c.index-rows-user.result c.as_slice-row.result.now c.requires.user c.index-rows-user.is c.as_slice-row.ensures) in
+    subst (λ ps. ArePlaced c.args.pool.now c.args.gone ps c.as_slice-row.result.now) (sym c.clauses_with.ensures)
+    (subst (ArePlaced c.args.pool.now c.args.gone (listed_for c.args.uses.now.clauses c.args.gone)) row
+    (are_placed c.args.pool.now c.args.rows.now c.args.uses.now c.args.gone c.args.user c.requires.ready.table))
 
-pub replace-requires-clause-old : goal.replace-requires-clause-old
-replace-requires-clause-old c =
-    (c.new_row.ensures.kept.rows c.index-rows-user.result (c.requires.ready.fit.of_pool c.index-rows-user.result (item_in c.args.rows.now c.args.user c.index-rows-user.result c.requires.user c.index-rows-user.is))).0
+pub returns-then-is_empty-clause-ok : goal.returns-then-is_empty-clause-ok
+returns-then-is_empty-clause-ok c =
+    left_table c.args.pool.now c.args.rows.now c.args.uses.now c.requires.ready c.args.user c.args.gone c.requires.user
+    c.as_slice-row.result.now c.as_slice-others.result.now c.in_ok-useful.useful.items c.in_ok-useful.useful.items
+    (lent_row c.args.rows.now c.args.user c.index-rows-user.result c.as_slice-row.result.now c.requires.user c.index-rows-user.is c.as_slice-row.ensures)
+    (lent_row c.args.rows.now c.args.gone c.index-rows-gone.result c.as_slice-others.result.now c.requires.gone c.index-rows-gone.is c.as_slice-others.ensures)
+    refl c.in_ok-useful.ensures
+    (empty_items c.in_ok-useful.useful.items c.in_ok-useful.useful.len c.is_empty.result c.in_ok-useful.useful.ok.0 c.is_empty.ensures c.if-is_empty.true)
+    c.of.result c.in_ok-left.left.items c.of.ensures c.in_ok-left.ensures.ok c.in_ok-left.ensures.part
+
+pub returns-then-is_empty-clause-ready : goal.returns-then-is_empty-clause-ready
+returns-then-is_empty-clause-ready c =
+    left_ready c.args.pool.now c.args.rows.now c.args.uses.now c.requires.ready c.args.user c.args.gone c.requires.user
+    c.as_slice-row.result.now c.as_slice-others.result.now c.in_ok-useful.useful.items c.in_ok-useful.useful.items
+    (lent_row c.args.rows.now c.args.user c.index-rows-user.result c.as_slice-row.result.now c.requires.user c.index-rows-user.is c.as_slice-row.ensures)
+    (lent_row c.args.rows.now c.args.gone c.index-rows-gone.result c.as_slice-others.result.now c.requires.gone c.index-rows-gone.is c.as_slice-others.ensures)
+    refl c.in_ok-useful.ensures
+    (empty_items c.in_ok-useful.useful.items c.in_ok-useful.useful.len c.is_empty.result c.in_ok-useful.useful.ok.0 c.is_empty.ensures c.if-is_empty.true)
+    c.of.result c.in_ok-left.left.items c.of.ensures c.in_ok-left.ensures.ok c.in_ok-left.ensures.part
+
+pub with_unions-requires-clause-own : goal.with_unions-requires-clause-own
+with_unions-requires-clause-own c =
+    useful_apart c.args.pool.now c.args.rows.now c.args.uses.now c.requires.ready c.args.user c.args.gone c.requires.user
+    c.as_slice-row.result.now c.as_slice-others.result.now c.in_ok-useful.useful.items c.as_slice.result.now
+    (lent_row c.args.rows.now c.args.user c.index-rows-user.result c.as_slice-row.result.now c.requires.user c.index-rows-user.is c.as_slice-row.ensures)
+    (lent_row c.args.rows.now c.args.gone c.index-rows-gone.result c.as_slice-others.result.now c.requires.gone c.index-rows-gone.is c.as_slice-others.ensures)
+    c.as_slice.ensures.value c.in_ok-useful.ensures
+
+pub returns-in_err-new-clause-ready : goal.returns-in_err-new-clause-ready
+returns-in_err-new-clause-ready c =
+    ready_kept c.args.pool.now c.args.rows.now c.args.uses.now c.requires.ready c.with_unions.new.pool c.args.uses.now c.with_unions.ensures.kept
+    (tells_kept c.args.pool.now c.with_unions.new.pool c.args.rows.now c.with_unions.ensures.kept c.args.uses.now c.requires.ready.table)
 
 pub replace-requires-clause-numbers : goal.replace-requires-clause-numbers
-replace-requires-clause-numbers c d i n j = subst (λ z. n < z) (sym c.requires.ready.table.size) (c.in_ok-new.ensures.numbers d i n j)
+replace-requires-clause-numbers c id i n j =
+    subst (λ z. n < z) (sym c.requires.ready.table.size)
+    (new_below c.args.pool.now c.args.rows.now c.args.uses.now c.requires.ready c.args.user c.args.gone c.requires.user
+    c.as_slice-row.result.now c.as_slice-others.result.now c.in_ok-useful.useful.items c.as_slice.result.now
+    (lent_row c.args.rows.now c.args.user c.index-rows-user.result c.as_slice-row.result.now c.requires.user c.index-rows-user.is c.as_slice-row.ensures)
+    (lent_row c.args.rows.now c.args.gone c.index-rows-gone.result c.as_slice-others.result.now c.requires.gone c.index-rows-gone.is c.as_slice-others.ensures)
+    c.as_slice.ensures.value c.in_ok-useful.ensures
+    c.with_unions.new.pool c.in_ok-new.ensures.kept c.as_slice-2.result.now c.in_ok-new.new.items c.as_slice-2.ensures.value c.in_ok-new.ensures.of_pool c.in_ok-new.ensures.ok id i n j)
 
 pub returns-in_err-replace-clause-ready : goal.returns-in_err-replace-clause-ready
-returns-in_err-replace-clause-ready c = record {
-  fit = c.new_row.ensures.fit;
-  tidy = c.new_row.ensures.tidy;
-  table = c.in_err-replace.ensures.err c.args.rows.now (tells_kept c.args.pool.now c.new_row.new.pool c.args.rows.now c.requires.ready.fit.is_pool c.new_row.ensures.kept c.requires.ready.fit c.args.uses.now c.requires.ready.table);
-}
+returns-in_err-replace-clause-ready c =
+    ready_kept c.args.pool.now c.args.rows.now c.args.uses.now c.requires.ready c.with_unions.new.pool c.replace.new.self c.with_unions.ensures.kept
+    (c.in_err-replace.ensures.err c.args.rows.now
+    (tells_kept c.args.pool.now c.with_unions.new.pool c.args.rows.now c.with_unions.ensures.kept c.args.uses.now c.requires.ready.table))
 
-pub returns-clause-stay : goal.returns-clause-stay
-returns-clause-stay c p l ne =
-    ap (row_at c.new_row.new.pool) (id_other c.new_row.new.pool c.args.rows.now c.args.user c.in_ok-new.new c.requires.user p ne) ∙ c.new_row.ensures.stay p l
+pub returns-clause-ok : goal.returns-clause-ok
+returns-clause-ok c =
+    new_table c.args.pool.now c.args.rows.now c.args.uses.now c.requires.ready c.args.user c.args.gone c.requires.user
+    c.as_slice-row.result.now c.as_slice-others.result.now c.in_ok-useful.useful.items c.as_slice.result.now
+    (lent_row c.args.rows.now c.args.user c.index-rows-user.result c.as_slice-row.result.now c.requires.user c.index-rows-user.is c.as_slice-row.ensures)
+    (lent_row c.args.rows.now c.args.gone c.index-rows-gone.result c.as_slice-others.result.now c.requires.gone c.index-rows-gone.is c.as_slice-others.ensures)
+    c.as_slice.ensures.value c.in_ok-useful.ensures
+    c.with_unions.new.pool c.in_ok-new.ensures.kept c.of-2.result c.in_ok-new.new.items c.of-2.ensures c.in_ok-new.ensures.of_pool c.in_ok-new.ensures.ok
 
 pub returns-clause-ready : goal.returns-clause-ready
-returns-clause-ready c = record {
-  fit = c.in_ok-new.ensures.fits;
-  tidy = c.in_ok-new.ensures.tidies;
-  table =
-      c.in_ok-replace.ensures.ok c.args.rows.now c.requires.user (item_zero c.args.rows.now c.args.user c.index-rows-user.result c.requires.user c.index-rows-user.is)
-      (tells_kept c.args.pool.now c.new_row.new.pool c.args.rows.now c.requires.ready.fit.is_pool c.new_row.ensures.kept c.requires.ready.fit c.args.uses.now c.requires.ready.table);
-}
+returns-clause-ready c =
+    let same : c.as_slice-2.result.now ≡ c.of-2.result = c.as_slice-2.ensures.value ∙ sym c.of-2.ensures in
+    new_ready c.args.pool.now c.args.rows.now c.args.uses.now c.requires.ready c.args.user c.args.gone c.requires.user
+    c.as_slice-row.result.now c.as_slice-others.result.now c.in_ok-useful.useful.items c.as_slice.result.now
+    (lent_row c.args.rows.now c.args.user c.index-rows-user.result c.as_slice-row.result.now c.requires.user c.index-rows-user.is c.as_slice-row.ensures)
+    (lent_row c.args.rows.now c.args.gone c.index-rows-gone.result c.as_slice-others.result.now c.requires.gone c.index-rows-gone.is c.as_slice-others.ensures)
+    c.as_slice.ensures.value c.in_ok-useful.ensures
+    c.with_unions.new.pool c.in_ok-new.ensures.kept c.of-2.result c.in_ok-new.new.items c.of-2.ensures c.in_ok-new.ensures.of_pool c.in_ok-new.ensures.ok
+    c.replace.new.self
+    (subst (λ z. TellsRows c.with_unions.new.pool (slice_set c.args.rows.now c.args.user z) c.replace.new.self) same
+    (c.in_ok-replace.ensures.ok c.args.rows.now c.requires.user
+    (sym (lent_row c.args.rows.now c.args.user c.index-rows-user.result c.as_slice-row.result.now c.requires.user c.index-rows-user.is c.as_slice-row.ensures))
+    (tells_kept c.args.pool.now c.with_unions.new.pool c.args.rows.now c.with_unions.ensures.kept c.args.uses.now c.requires.ready.table)))

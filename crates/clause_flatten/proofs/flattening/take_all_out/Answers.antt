@@ -2,6 +2,7 @@ use Rattle.std.proofs.Common.{◌≡◌, ◌<◌, ◌+◌, false, Some, arith, l
 use Rattle.std.proofs.lemmas.List as lists
 use Rattle.std.proofs.lemmas.Result.{err_from_is_err_and}
 use Rattle.clause_pool.specs.Interned.{row_at}
+use Rattle.clause_flatten.specs.Ready.{table_of}
 use Rattle.clause_pool.proofs.Interned.{kept_along}
 use Rattle.row_book.specs.Book.{repository_of}
 use Rattle.row_book.specs.Clauses.{numbers}
@@ -24,7 +25,7 @@ returns-in_default-clause-flat c =
     let size : length (repository_of c.args.pool.now c.args.book.now).clauses ≡ length c.args.book.now.rows = lists.length-map c.args.book.now.rows (row_at c.args.pool.now) in
     let end : HasEnded (repository_of c.args.pool.now c.args.book.now) c.args.rule.limit c.args.rule.hold c.loop-turn.pool c.loop-turn.rows c.loop-turn.held.items =
     run_empty R c.args.rule.limit c.args.rule.hold c.loop-turn.turn c.args.pool.now c.loop-turn.pool c.loop-turn.rows c.loop-turn.uses c.loop-turn.waiting c.loop-turn.held.items c.loop-turn.invariant (omega arith)
-    (c.in_default.ensures.none (may_go R (remaining_after c.args.rule.limit c.args.rule.hold R c.loop-turn.turn)) (length_in (map (row_at c.loop-turn.pool) c.loop-turn.rows)) c.loop-turn.invariant.filed) in
+    (c.in_default.ensures.none (may_go R (remaining_after c.args.rule.limit c.args.rule.hold R c.loop-turn.turn)) (length_in (table_of c.loop-turn.pool c.loop-turn.rows)) c.loop-turn.invariant.filed) in
     end.same
 
 pub returns-in_default-clause-held : goal.returns-in_default-clause-held
@@ -33,7 +34,7 @@ returns-in_default-clause-held c =
     let size : length (repository_of c.args.pool.now c.args.book.now).clauses ≡ length c.args.book.now.rows = lists.length-map c.args.book.now.rows (row_at c.args.pool.now) in
     let end : HasEnded (repository_of c.args.pool.now c.args.book.now) c.args.rule.limit c.args.rule.hold c.loop-turn.pool c.loop-turn.rows c.loop-turn.held.items =
     run_empty R c.args.rule.limit c.args.rule.hold c.loop-turn.turn c.args.pool.now c.loop-turn.pool c.loop-turn.rows c.loop-turn.uses c.loop-turn.waiting c.loop-turn.held.items c.loop-turn.invariant (omega arith)
-    (c.in_default.ensures.none (may_go R (remaining_after c.args.rule.limit c.args.rule.hold R c.loop-turn.turn)) (length_in (map (row_at c.loop-turn.pool) c.loop-turn.rows)) c.loop-turn.invariant.filed) in
+    (c.in_default.ensures.none (may_go R (remaining_after c.args.rule.limit c.args.rule.hold R c.loop-turn.turn)) (length_in (table_of c.loop-turn.pool c.loop-turn.rows)) c.loop-turn.invariant.filed) in
     end.held
 
 pub returns-in_default-clause-within : goal.returns-in_default-clause-within
@@ -42,7 +43,7 @@ returns-in_default-clause-within c =
     let size : length (repository_of c.args.pool.now c.args.book.now).clauses ≡ length c.args.book.now.rows = lists.length-map c.args.book.now.rows (row_at c.args.pool.now) in
     let end : HasEnded (repository_of c.args.pool.now c.args.book.now) c.args.rule.limit c.args.rule.hold c.loop-turn.pool c.loop-turn.rows c.loop-turn.held.items =
     run_empty R c.args.rule.limit c.args.rule.hold c.loop-turn.turn c.args.pool.now c.loop-turn.pool c.loop-turn.rows c.loop-turn.uses c.loop-turn.waiting c.loop-turn.held.items c.loop-turn.invariant (omega arith)
-    (c.in_default.ensures.none (may_go R (remaining_after c.args.rule.limit c.args.rule.hold R c.loop-turn.turn)) (length_in (map (row_at c.loop-turn.pool) c.loop-turn.rows)) c.loop-turn.invariant.filed) in
+    (c.in_default.ensures.none (may_go R (remaining_after c.args.rule.limit c.args.rule.hold R c.loop-turn.turn)) (length_in (table_of c.loop-turn.pool c.loop-turn.rows)) c.loop-turn.invariant.filed) in
     end.within
 
 pub returns-in_default-clause-few : goal.returns-in_default-clause-few
@@ -62,7 +63,7 @@ pub take_out_or_hold-requires-clause-there : goal.take_out_or_hold-requires-clau
 take_out_or_hold-requires-clause-there c =
     let R : Repository = repository_of c.args.pool.now c.args.book.now in
     first_there R c.args.rule.limit c.args.rule.hold c.loop-turn.turn c.args.pool.now c.loop-turn.pool c.loop-turn.rows c.loop-turn.uses c.loop-turn.waiting c.loop-turn.held.items c.loop-turn.invariant c.in-Some.next
-    (c.in-Some.ensures.first (may_go R (remaining_after c.args.rule.limit c.args.rule.hold R c.loop-turn.turn)) (length_in (map (row_at c.loop-turn.pool) c.loop-turn.rows)) c.loop-turn.invariant.filed)
+    (c.in-Some.ensures.first (may_go R (remaining_after c.args.rule.limit c.args.rule.hold R c.loop-turn.turn)) (length_in (table_of c.loop-turn.pool c.loop-turn.rows)) c.loop-turn.invariant.filed)
 
 pub take_out_or_hold-requires-clause-within : goal.take_out_or_hold-requires-clause-within
 take_out_or_hold-requires-clause-within c =
@@ -77,10 +78,10 @@ returns-in_err-stays-clause-passed c =
     rw (p.1, p.2)
     (on_limit
     (λ w. (c.args.rule.hold ≡ false)
-    × (passed_by (length_in (table_without c.in-Some.next (map (row_at c.loop-turn.pool) c.loop-turn.rows))) (numbers (length c.loop-turn.rows) 0) c.args.rule.limit (c.loop-turn.turn + 1) ≡ Some w))
+    × (passed_by (length_in (table_without c.in-Some.next (table_of c.loop-turn.pool c.loop-turn.rows))) (numbers (length c.loop-turn.rows) 0) c.args.rule.limit (c.loop-turn.turn + 1) ≡ Some w))
     (λ w. passes c.args.rule.limit c.args.rule.hold (repository_of c.args.pool.now c.args.book.now) ≡ Some w)
     (λ w h. run_passed R c.args.rule.limit c.args.rule.hold c.loop-turn.turn c.args.pool.now c.loop-turn.pool c.loop-turn.rows c.loop-turn.uses c.loop-turn.waiting c.loop-turn.held.items c.loop-turn.invariant c.in-Some.next
-    (c.in-Some.ensures.first (may_go R (remaining_after c.args.rule.limit c.args.rule.hold R c.loop-turn.turn)) (length_in (map (row_at c.loop-turn.pool) c.loop-turn.rows)) c.loop-turn.invariant.filed)
+    (c.in-Some.ensures.first (may_go R (remaining_after c.args.rule.limit c.args.rule.hold R c.loop-turn.turn)) (length_in (table_of c.loop-turn.pool c.loop-turn.rows)) c.loop-turn.invariant.filed)
     w (omega arith) h)
     _ c.in_err-stays.ensures.passed)
 
@@ -88,11 +89,11 @@ pub loop-turn-preserved : goal.loop-turn-preserved
 loop-turn-preserved c =
     let R : Repository = repository_of c.args.pool.now c.args.book.now in
     run_more R c.args.rule.limit c.args.rule.hold c.loop-turn.turn c.args.pool.now c.loop-turn.pool c.loop-turn.rows c.loop-turn.uses c.loop-turn.waiting c.loop-turn.held.items c.loop-turn.invariant c.in-Some.next
-    (c.in-Some.ensures.first (may_go R (remaining_after c.args.rule.limit c.args.rule.hold R c.loop-turn.turn)) (length_in (map (row_at c.loop-turn.pool) c.loop-turn.rows)) c.loop-turn.invariant.filed)
+    (c.in-Some.ensures.first (may_go R (remaining_after c.args.rule.limit c.args.rule.hold R c.loop-turn.turn)) (length_in (table_of c.loop-turn.pool c.loop-turn.rows)) c.loop-turn.invariant.filed)
     c.in_ok-stays.stays c.take_out_or_hold.new.pool c.take_out_or_hold.new.rows c.take_out_or_hold.new.uses c.take_out_or_hold.new.waiting c.with_flag-held.result.items
     c.in_ok-stays.ensures.held c.in_ok-stays.ensures.rows c.take_out_or_hold.ensures.ready c.take_out_or_hold.ensures.kept c.in_ok-stays.ensures.within
     (c.in_ok-stays.ensures.filed (without (may_go R (remaining_after c.args.rule.limit c.args.rule.hold R c.loop-turn.turn)) c.in-Some.next)
-    (c.in-Some.ensures.taken (may_go R (remaining_after c.args.rule.limit c.args.rule.hold R c.loop-turn.turn)) (length_in (map (row_at c.loop-turn.pool) c.loop-turn.rows)) c.loop-turn.invariant.filed))
+    (c.in-Some.ensures.taken (may_go R (remaining_after c.args.rule.limit c.args.rule.hold R c.loop-turn.turn)) (length_in (table_of c.loop-turn.pool c.loop-turn.rows)) c.loop-turn.invariant.filed))
     c.with_flag-held.ensures
 
 pub returns-clause-flat : goal.returns-clause-flat
@@ -127,7 +128,7 @@ with_flag-held-requires c =
     let here : length c.loop-turn.rows ≡ length (repository_of c.args.pool.now c.args.book.now).clauses = run_size R c.args.rule.limit c.args.rule.hold c.loop-turn.turn c.args.pool.now c.loop-turn.pool c.loop-turn.rows c.loop-turn.uses c.loop-turn.waiting c.loop-turn.held.items c.loop-turn.invariant in
     let few : length c.loop-turn.held.items ≡ length (repository_of c.args.pool.now c.args.book.now).clauses = c.loop-turn.invariant.told.count in
     let l : c.in-Some.next < length c.loop-turn.rows = first_there R c.args.rule.limit c.args.rule.hold c.loop-turn.turn c.args.pool.now c.loop-turn.pool c.loop-turn.rows c.loop-turn.uses c.loop-turn.waiting c.loop-turn.held.items c.loop-turn.invariant c.in-Some.next
-    (c.in-Some.ensures.first (may_go R (remaining_after c.args.rule.limit c.args.rule.hold R c.loop-turn.turn)) (length_in (map (row_at c.loop-turn.pool) c.loop-turn.rows)) c.loop-turn.invariant.filed) in
+    (c.in-Some.ensures.first (may_go R (remaining_after c.args.rule.limit c.args.rule.hold R c.loop-turn.turn)) (length_in (table_of c.loop-turn.pool c.loop-turn.rows)) c.loop-turn.invariant.filed) in
     omega arith
 
 pub returns-in_err-stays-clause-kept : goal.returns-in_err-stays-clause-kept

@@ -4,7 +4,7 @@ use Rattle.clause_pool.specs.Interned.{clauses_at}
 use Rattle.row_book.specs.Sets.{has}
 use Rattle.clause_flatten.specs.Holding.{clauses_with}
 use Rattle.clause_flatten.proofs.Counts.{none_more, one_more}
-use Rattle.clause_flatten.proofs.Families.{At, at_clause, clauses_length, of_pool_item}
+use Rattle.clause_families.proofs.Families.{At, at_clause, clauses_length, of_pool_item}
 use Rattle.clause_flatten.proofs.holding.count_holding.Goals as goal
 use Rattle.clause_flatten.proofs.holding.count_holding.Goals.{then-holds_ascending, else-holds_ascending}
 

@@ -3,9 +3,9 @@ use Rattle.std.proofs.lemmas.Bool.{le-ltb, lt-ltb}
 use Rattle.std.proofs.lemmas.List.{take_all}
 use Rattle.row_book.specs.Clauses.{Ascending, minimal_of}
 use Rattle.row_book.proofs.Lists.{item_in}
-use Rattle.clause_flatten.specs.Inclusion.{has_shorter}
+use Rattle.clause_families.specs.Inclusion.{has_shorter}
 use Rattle.clause_flatten.proofs.Counts.{front_fewer, one_more}
-use Rattle.clause_flatten.proofs.Families.{At, at_item, lowest_minimal}
+use Rattle.clause_families.proofs.Families.{At, at_item, lowest_minimal}
 use Rattle.clause_flatten.proofs.holding.has_more_by.Goals as goal
 
 pub is_longer-requires-clause-ascending : goal.is_longer-requires-clause-ascending

@@ -1,5 +1,5 @@
 use Rattle.std.proofs.Common.{◌≡◌, ◌≤◌, filter, length, not, take}
-use Rattle.clause_flatten.specs.Inclusion.{has_shorter}
+use Rattle.clause_families.specs.Inclusion.{has_shorter}
 use Rattle.clause_flatten.proofs.holding.has_more_by.Given as goal
 
 abbrev pub invariant-loop-clause : goal.invariant-loop-clause

@@ -1,5 +1,5 @@
 use Rattle.std.proofs.Common.{arith, get_or, map, subst}
-use Rattle.clause_pool.specs.Interned.{row_at}
+use Rattle.clause_flatten.specs.Ready.{table_of}
 use Rattle.row_book.proofs.Lists.{In_at}
 use Rattle.clause_flatten.specs.Waiting.{Filed, recounted}
 use Rattle.clause_flatten.proofs.Runs.{file_more}
@@ -10,7 +10,7 @@ clauses_in-requires-clause-there c = c.requires.users _ (In_at c.args.users.now 
 
 pub loop-user-preserved : goal.loop-user-preserved
 loop-user-preserved c may count d =
-    file_more c.loop-user.waiting c.file_again.new.self may count (map (row_at c.args.pool.now) c.args.rows.now) c.args.users.now c.loop-user.user-index
+    file_more c.loop-user.waiting c.file_again.new.self may count (table_of c.args.pool.now c.args.rows.now) c.args.users.now c.loop-user.user-index
     (omega arith)
     (c.loop-user.invariant may count d)
     (λ other counts f.

@@ -1,7 +1,7 @@
 use Rattle.std.proofs.Common.{◌≡◌, ◌&&◌, ◌∙◌, ap, map, not, sym, true}
 use Rattle.std.proofs.lemmas.Bool.{both_ways, not_from_false, true_from_ne_false}
 use Rattle.std.proofs.lemmas.Result.{IfOk-weaker}
-use Rattle.clause_pool.specs.Interned.{row_at}
+use Rattle.clause_flatten.specs.Ready.{table_of}
 use Rattle.clause_flatten.specs.Substitution.{table_passes, table_without}
 use Rattle.clause_flatten.proofs.taking_out.is_to_stay.Goals as goal
 
@@ -10,7 +10,7 @@ returns c =
     let hold : c.args.step.hold ≡ true =
     true_from_ne_false c.args.step.hold (λ f. both_ways (not c.args.step.hold) c.if-not-step.false (not_from_false c.args.step.hold f)) in
     IfOk-weaker c.would_pass.result
-    (λ passes. passes ≡ table_passes c.args.step.limit (table_without c.args.step.next (map (row_at c.args.pool.now) c.args.rows.now)))
-    (λ stays. stays ≡ (c.args.step.hold && table_passes c.args.step.limit (table_without c.args.step.next (map (row_at c.args.pool.now) c.args.rows.now))))
-    (λ stays e. e ∙ ap (λ b. b && table_passes c.args.step.limit (table_without c.args.step.next (map (row_at c.args.pool.now) c.args.rows.now))) (sym hold))
+    (λ passes. passes ≡ table_passes c.args.step.limit (table_without c.args.step.next (table_of c.args.pool.now c.args.rows.now)))
+    (λ stays. stays ≡ (c.args.step.hold && table_passes c.args.step.limit (table_without c.args.step.next (table_of c.args.pool.now c.args.rows.now))))
+    (λ stays e. e ∙ ap (λ b. b && table_passes c.args.step.limit (table_without c.args.step.next (table_of c.args.pool.now c.args.rows.now))) (sym hold))
     c.would_pass.ensures

@@ -1,7 +1,7 @@
 use Rattle.std.proofs.Common.{◌≡◌, ℕ, ◌<◌, false, map}
-use Rattle.clause_pool.specs.Interned.{row_at}
+use Rattle.clause_flatten.specs.Ready.{table_of}
 use Rattle.clause_flatten.specs.TakingOut.{is_over}
 use Rattle.clause_flatten.proofs.taking_out.least_over.Given as goal
 
 abbrev pub invariant-loop-number : goal.invariant-loop-number
-invariant-loop-number l = (k : ℕ) → k < l.number → is_over (map (row_at l.pool) l.rows) l.limit k ≡ false
+invariant-loop-number l = (k : ℕ) → k < l.number → is_over (table_of l.pool l.rows) l.limit k ≡ false

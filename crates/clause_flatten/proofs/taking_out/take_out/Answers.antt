@@ -1,37 +1,38 @@
 use Rattle.std.proofs.Common.{◌≡◌, ◌<◌, ℕ, List, arith, ap, sym, ◌∙◌, map, length}
 use Rattle.std.specs.List.{find}
-use Rattle.clause_pool.specs.Interned.{row_at}
+use Rattle.clause_flatten.specs.Ready.{table_of}
 use Rattle.row_book.specs.Clauses.{numbers}
 use Rattle.row_book.proofs.Lists.{find_some}
 use Rattle.clause_flatten.specs.Substitution.{table_without, length_in}
 use Rattle.clause_flatten.specs.TakingOut.{is_over}
-use Rattle.clause_flatten.proofs.Replacing.{none_left}
-use Rattle.clause_flatten.proofs.Runs.{filed_after, none_over, over_all, passed_some, users_below}
+use Rattle.clause_flatten.proofs.Runs.{none_over, passed_some}
+use Rattle.clause_flatten.proofs.UserRows.{filed_after, over_all}
+use Rattle.clause_flatten.proofs.WorkedRows.{none_left, users_below}
 use Rattle.clause_flatten.proofs.taking_out.take_out.Goals as goal
 
 pub first_over-requires-clause-packages : goal.first_over-requires-clause-packages
 first_over-requires-clause-packages c q i =
     let l : q < length c.args.rows.now =
-    users_below c.args.pool.now c.args.rows.now c.args.step.next c.requires.there c.as_slice-2.result.now
+    users_below c.args.pool.now c.args.rows.now c.args.step.next c.as_slice-2.result.now
     (c.as_slice-2.ensures.value ∙ c.in_ok-users.ensures c.requires.ready.table) q i in
     omega arith
 
 pub clauses_in-requires-clause-there : goal.clauses_in-requires-clause-there
 clauses_in-requires-clause-there c =
     let l : c.in-Some.over < length c.args.rows.now =
-    users_below c.args.pool.now c.args.rows.now c.args.step.next c.requires.there c.as_slice-2.result.now
+    users_below c.args.pool.now c.args.rows.now c.args.step.next c.as_slice-2.result.now
     (c.as_slice-2.ensures.value ∙ c.in_ok-users.ensures c.requires.ready.table) c.in-Some.over
-    (find_some (is_over (map (row_at c.change_rows.new.pool) c.change_rows.new.rows) c.args.step.limit) c.as_slice-2.result.now c.in-Some.over (sym c.in-Some.ensures)).0 in
+    (find_some (is_over (table_of c.change_rows.new.pool c.change_rows.new.rows) c.args.step.limit) c.as_slice-2.result.now c.in-Some.over (sym c.in-Some.ensures)).0 in
     omega arith
 
 pub returns-in-Some-clause-passed : goal.returns-in-Some-clause-passed
 returns-in-Some-clause-passed c =
-    let new : List (List (List ℕ)) = table_without c.args.step.next (map (row_at c.args.pool.now) c.args.rows.now) in
-    let made : map (row_at c.change_rows.new.pool) c.change_rows.new.rows ≡ table_without c.args.step.next (map (row_at c.args.pool.now) c.args.rows.now) = c.in_ok-change_rows.ensures.ok in
+    let new : List (List (List ℕ)) = table_without c.args.step.next (table_of c.args.pool.now c.args.rows.now) in
+    let made : table_of c.change_rows.new.pool c.change_rows.new.rows ≡ table_without c.args.step.next (table_of c.args.pool.now c.args.rows.now) = c.in_ok-change_rows.ensures.ok in
     passed_some new c.args.step.limit c.args.step.gone c.in-Some.over c.clauses_in.result (numbers (length c.args.rows.now) 0)
     (over_all c.args.pool.now c.args.rows.now c.args.step.next c.requires.there c.as_slice-2.result.now
     (c.as_slice-2.ensures.value ∙ c.in_ok-users.ensures c.requires.ready.table)
-    c.requires.ready.fit.is_pool c.requires.ready.fit c.requires.ready.tidy c.args.step.limit c.requires.within
+    c.requires.ready.fit c.requires.ready.tidy c.args.step.limit c.requires.within
     ∙ ap (λ t. find (is_over t c.args.step.limit) c.as_slice-2.result.now) (sym made)
     ∙ sym c.in-Some.ensures)
     (c.clauses_in.ensures.count ∙ ap (λ t. length_in t c.in-Some.over) made)
@@ -39,18 +40,18 @@ returns-in-Some-clause-passed c =
 pub file_users-requires-clause-users : goal.file_users-requires-clause-users
 file_users-requires-clause-users c q i =
     let l : q < length c.args.rows.now =
-    users_below c.args.pool.now c.args.rows.now c.args.step.next c.requires.there c.as_slice-3.result.now
+    users_below c.args.pool.now c.args.rows.now c.args.step.next c.as_slice-3.result.now
     (c.as_slice-3.ensures.value ∙ c.in_ok-users.ensures c.requires.ready.table) q i in
     omega arith
 
 pub returns-clause-within : goal.returns-clause-within
 returns-clause-within c =
-    let new : List (List (List ℕ)) = table_without c.args.step.next (map (row_at c.args.pool.now) c.args.rows.now) in
-    let made : map (row_at c.change_rows.new.pool) c.change_rows.new.rows ≡ table_without c.args.step.next (map (row_at c.args.pool.now) c.args.rows.now) = c.in_ok-change_rows.ensures.ok in
+    let new : List (List (List ℕ)) = table_without c.args.step.next (table_of c.args.pool.now c.args.rows.now) in
+    let made : table_of c.change_rows.new.pool c.change_rows.new.rows ≡ table_without c.args.step.next (table_of c.args.pool.now c.args.rows.now) = c.in_ok-change_rows.ensures.ok in
     none_over new c.args.step.limit (length c.args.rows.now)
     (over_all c.args.pool.now c.args.rows.now c.args.step.next c.requires.there c.as_slice-2.result.now
     (c.as_slice-2.ensures.value ∙ c.in_ok-users.ensures c.requires.ready.table)
-    c.requires.ready.fit.is_pool c.requires.ready.fit c.requires.ready.tidy c.args.step.limit c.requires.within
+    c.requires.ready.fit c.requires.ready.tidy c.args.step.limit c.requires.within
     ∙ ap (λ t. find (is_over t c.args.step.limit) c.as_slice-2.result.now) (sym made)
     ∙ sym c.in_default.ensures)
 
@@ -58,8 +59,8 @@ pub returns-clause-filed : goal.returns-clause-filed
 returns-clause-filed c may d =
     filed_after c.args.pool.now c.args.rows.now c.args.step.next c.requires.there c.as_slice-3.result.now
     (c.as_slice-3.ensures.value ∙ c.in_ok-users.ensures c.requires.ready.table)
-    c.requires.ready.fit.is_pool c.requires.ready.fit c.requires.ready.tidy c.file_users.new.waiting may (map (row_at c.change_rows.new.pool) c.change_rows.new.rows) c.in_ok-change_rows.ensures.ok
-    (c.file_users.ensures may (length_in (map (row_at c.args.pool.now) c.args.rows.now)) d)
+    c.requires.ready.fit c.requires.ready.tidy c.file_users.new.waiting may (table_of c.change_rows.new.pool c.change_rows.new.rows) c.in_ok-change_rows.ensures.ok
+    (c.file_users.ensures may (length_in (table_of c.args.pool.now c.args.rows.now)) d)
 
 pub change_rows-requires-clause-users : goal.change_rows-requires-clause-users
 change_rows-requires-clause-users c = c.as_slice.ensures.value ∙ c.in_ok-users.ensures c.requires.ready.table
@@ -70,6 +71,6 @@ returns-clause-ready c = record {
   tidy = c.change_rows.ensures.ready.tidy;
   table =
       c.forget.ensures c.change_rows.new.pool c.change_rows.new.rows
-      (none_left c.args.pool.now c.args.rows.now c.args.step.next c.requires.there c.requires.ready.tidy c.change_rows.new.pool c.change_rows.new.rows c.in_ok-change_rows.ensures.ok)
+      (none_left c.args.pool.now c.change_rows.new.pool c.args.rows.now c.change_rows.new.rows c.args.step.next c.requires.there c.requires.ready.tidy c.in_ok-change_rows.ensures.ok)
       c.change_rows.ensures.ready.table;
 }

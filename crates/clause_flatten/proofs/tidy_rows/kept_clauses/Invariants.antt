@@ -1,7 +1,7 @@
 use Rattle.std.proofs.Common.{◌≡◌, take}
 use Rattle.std.specs.List.{filter}
 use Rattle.clause_pool.specs.Interned.{clause_at, clauses_at}
-use Rattle.clause_flatten.specs.TidyRows.{stays}
+use Rattle.clause_families.specs.Inclusion.{stays}
 use Rattle.clause_flatten.proofs.tidy_rows.kept_clauses.Given as goal
 
 abbrev pub invariant-loop-id : goal.invariant-loop-id

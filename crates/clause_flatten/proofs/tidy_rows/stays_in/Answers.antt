@@ -3,7 +3,7 @@ use Rattle.clause_pool.specs.Interned.{clause_at, clauses_at}
 use Rattle.row_book.specs.Clauses.{Ascending}
 use Rattle.row_book.specs.Sets.{has}
 use Rattle.row_book.specs.Within.{some_within}
-use Rattle.clause_flatten.specs.Inclusion.{has_shorter}
+use Rattle.clause_families.specs.Inclusion.{has_shorter}
 use Rattle.clause_flatten.proofs.Tidied.{shorter_is_other, shorter_than_one}
 use Rattle.clause_flatten.proofs.tidy_rows.stays_in.Goals as goal
 

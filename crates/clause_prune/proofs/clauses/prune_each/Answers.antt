@@ -1,7 +1,7 @@
 use Rattle.std.proofs.Common.{◌≡◌, ◌<◌, ◌≤◌, ◌+◌, ◌∷◌, ◌++◌, ◌∙◌, [], ℕ, ap, ap₂, append-nil, arith, drop, drop-cons, length, map, refl, subst, suc, sym}
 use Rattle.std.proofs.lemmas.List.{drop_all}
 use Rattle.clause_pool.specs.Interned.{clause_at, clauses_at}
-use Rattle.row_book.specs.Pruning.{clauses_steps, prune_clauses}
+use Rattle.row_book.specs.Pruning.{prune_clauses}
 use Rattle.row_book.specs.Rounds.{IdleStep}
 use Rattle.row_book.specs.Trail.{trail_meaning}
 use Rattle.row_book.proofs.Lists.{In_map, item_in}
@@ -50,7 +50,7 @@ loop-id-preserved c =
 pub returns-clause-left : goal.returns-clause-left
 returns-clause-left c =
     let e : drop c.loop-id.id-index c.args.ids.now ≡ [] = drop_all c.loop-id.id-index c.args.ids.now (let z : length c.args.ids.now ≤ c.loop-id.id-index = omega arith in z) in
-    ap (λ z. prune_clauses (with_ids c.args.pool.now c.args.rows.now c.args.number c.loop-id.left c.args.table.now) c.args.number (clauses_at c.args.pool.now z)) (sym e) ∙ c.loop-id.invariant.clauses
+    ap (λ z. (prune_clauses (with_ids c.args.pool.now c.args.rows.now c.args.number c.loop-id.left c.args.table.now) c.args.number (clauses_at c.args.pool.now z)).left) (sym e) ∙ c.loop-id.invariant.clauses
 
 pub returns-clause-part : goal.returns-clause-part
 returns-clause-part c = c.loop-id.invariant.part
@@ -62,5 +62,5 @@ pub returns-clause-idle : goal.returns-clause-idle
 returns-clause-idle c =
     let e : drop c.loop-id.id-index c.args.ids.now ≡ [] = drop_all c.loop-id.id-index c.args.ids.now (let z : length c.args.ids.now ≤ c.loop-id.id-index = omega arith in z) in
     sym (append-nil (trail_meaning c.args.pool.now c.loop-id.idle))
-    ∙ ap (λ z. trail_meaning c.args.pool.now c.loop-id.idle ++ map IdleStep (clauses_steps (with_ids c.args.pool.now c.args.rows.now c.args.number c.loop-id.left c.args.table.now) c.args.number (clauses_at c.args.pool.now z))) (sym e)
+    ∙ ap (λ z. trail_meaning c.args.pool.now c.loop-id.idle ++ map IdleStep (prune_clauses (with_ids c.args.pool.now c.args.rows.now c.args.number c.loop-id.left c.args.table.now) c.args.number (clauses_at c.args.pool.now z)).steps) (sym e)
     ∙ c.loop-id.invariant.idle

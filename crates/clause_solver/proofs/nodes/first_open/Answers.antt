@@ -16,7 +16,7 @@ loop-l-preserved c =
     let items = c.as_slice-l-items.result.now in
     let same_place = c.place.ensures in
     let lt : c.place.result < length c.args.uses.now = search arith in
-    swept_more (among c.args.marks.now.1) c.args.own.now c.args.uses.now items c.loop-l.least c.lesser_open-least.result c.loop-l.l-index _ c.as_slice.result.now c.loop-l-test.true
+    swept_more (among c.args.trail.now.1) c.args.own.now c.args.uses.now items c.loop-l.least c.lesser_open-least.result c.loop-l.l-index _ c.as_slice.result.now c.loop-l-test.true
     (read_at items items c.loop-l.l-index _ refl c.loop-l-test.true)
     (item_from c.args.uses.now c.place.result _ [] c.as_slice.result.now c.index-uses-place.result lt c.place.ensures c.as_slice.ensures c.index-uses-place.is)
     c.lesser_open-least.ensures c.loop-l.invariant
@@ -24,4 +24,4 @@ loop-l-preserved c =
 pub returns-clause-none : goal.returns-clause-none
 returns-clause-none c =
     let le : length c.as_slice-l-items.result.now ≤ c.loop-l.l-index = omega (arith, c.loop-l-test.false) in
-    swept_end c.args.marks.now.0 c.args.own.now c.args.uses.now c.args.marks.now.1 c.as_slice-l-items.result.now c.loop-l.least c.loop-l.l-index c.requires.table c.requires.negative c.as_slice-l-items.ensures.items le c.loop-l.invariant
+    swept_end c.args.trail.now.0 c.args.own.now c.args.uses.now c.args.trail.now.1 c.as_slice-l-items.result.now c.loop-l.least c.loop-l.l-index c.requires.table c.requires.negative c.as_slice-l-items.ensures.items le c.loop-l.invariant

@@ -4,4 +4,4 @@ use Rattle.clause_solver.proofs.Openings.{IsSwept}
 use Rattle.clause_solver.proofs.nodes.first_open.Given as goal
 
 abbrev pub invariant-loop-l : goal.invariant-loop-l
-invariant-loop-l l = IsSwept (among l.marks.1) l.own l.uses (take l.l-index l.l-items) l.least
+invariant-loop-l l = IsSwept (among l.trail.1) l.own l.uses (take l.l-index l.l-items) l.least

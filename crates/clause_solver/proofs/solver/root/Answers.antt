@@ -1,5 +1,5 @@
 use Rattle.clause_solver.specs.Marking.{among}
-use Rattle.clause_solver.specs.Engine.{whole_form}
+use Rattle.clause_solver.specs.Engine.{sentences_in}
 use Rattle.clause_solver.proofs.Running.{runs_more, runs_then}
 use Rattle.clause_solver.proofs.Drains.{whole_goals, refuted_more}
 use Rattle.clause_solver.proofs.Calm.{base_waits, base_sound, sound_from, root_calm, root_clash}
@@ -7,25 +7,25 @@ use Rattle.clause_solver.proofs.solver.root.Goals as goal
 
 pub returns-then-branch-clause-at : goal.returns-then-branch-clause-at
 returns-then-branch-clause-at c =
-    let F = whole_form c.args.goals.now c.args.own.now c.args.conflicts.now in
-    let r = runs_more c.args.goals.now F c.args.marks.now.1 c.settle_all.new.marks.1 (whole_goals c.args.goals.now c.args.own.now c.args.conflicts.now) c.in_ok-settle_all.ensures.runs in
-    root_clash F c.settle_all.new.marks.1 (sound_from F c.args.marks.now.1 c.settle_all.new.marks.1 (base_sound c.args.goals.now c.args.own.now c.args.conflicts.now c.args.marks.now.1 c.requires.base) r)
-    (refuted_more c.args.goals.now F (among c.settle_all.new.marks.1) (whole_goals c.args.goals.now c.args.own.now c.args.conflicts.now) (rw c.if-branch.true at c.in_ok-settle_all.ensures.refuted))
+    let F = sentences_in c.args.formula.now in
+    let r = runs_more c.args.formula.now.goals.now F c.args.trail.now.1 c.propagate_all.new.trail.1 (whole_goals c.args.formula.now.goals.now c.args.formula.now.own.now c.args.formula.now.conflicts.now) c.in_ok-propagate_all.ensures.runs in
+    root_clash F c.propagate_all.new.trail.1 (sound_from F c.args.trail.now.1 c.propagate_all.new.trail.1 (base_sound c.args.formula.now.goals.now c.args.formula.now.own.now c.args.formula.now.conflicts.now c.args.trail.now.1 c.requires.base) r)
+    (refuted_more c.args.formula.now.goals.now F (among c.propagate_all.new.trail.1) (whole_goals c.args.formula.now.goals.now c.args.formula.now.own.now c.args.formula.now.conflicts.now) (rw c.if-branch.true at c.in_ok-propagate_all.ensures.refuted))
 
-pub drain-requires-clause-waits : goal.drain-requires-clause-waits
-drain-requires-clause-waits c =
-    rw c.as_slice-from.ensures.items (base_waits c.args.goals.now c.args.own.now c.args.conflicts.now c.args.marks.now.1 c.settle_all.new.marks.1 c.requires.base c.in_ok-settle_all.ensures.runs (rw c.if-branch.false at c.in_ok-settle_all.ensures.waits))
+pub propagate-requires-clause-waits : goal.propagate-requires-clause-waits
+propagate-requires-clause-waits c =
+    rw c.as_slice-from.ensures.items (base_waits c.args.formula.now.goals.now c.args.formula.now.own.now c.args.formula.now.conflicts.now c.args.trail.now.1 c.propagate_all.new.trail.1 c.requires.base c.in_ok-propagate_all.ensures.runs (rw c.if-branch.false at c.in_ok-propagate_all.ensures.waits))
 
 pub returns-then-branch-2-clause-at : goal.returns-then-branch-2-clause-at
 returns-then-branch-2-clause-at c =
-    let F = whole_form c.args.goals.now c.args.own.now c.args.conflicts.now in
-    let r = runs_more c.args.goals.now F c.args.marks.now.1 c.settle_all.new.marks.1 (whole_goals c.args.goals.now c.args.own.now c.args.conflicts.now) c.in_ok-settle_all.ensures.runs in
-    let s = runs_then F c.args.marks.now.1 c.settle_all.new.marks.1 c.drain.new.marks.1 r c.in_ok-drain.ensures.runs in
-    root_clash F c.drain.new.marks.1 (sound_from F c.args.marks.now.1 c.drain.new.marks.1 (base_sound c.args.goals.now c.args.own.now c.args.conflicts.now c.args.marks.now.1 c.requires.base) s) (rw c.if-branch-2.true at c.in_ok-drain.ensures.refuted)
+    let F = sentences_in c.args.formula.now in
+    let r = runs_more c.args.formula.now.goals.now F c.args.trail.now.1 c.propagate_all.new.trail.1 (whole_goals c.args.formula.now.goals.now c.args.formula.now.own.now c.args.formula.now.conflicts.now) c.in_ok-propagate_all.ensures.runs in
+    let s = runs_then F c.args.trail.now.1 c.propagate_all.new.trail.1 c.propagate.new.trail.1 r c.in_ok-propagate.ensures.runs in
+    root_clash F c.propagate.new.trail.1 (sound_from F c.args.trail.now.1 c.propagate.new.trail.1 (base_sound c.args.formula.now.goals.now c.args.formula.now.own.now c.args.formula.now.conflicts.now c.args.trail.now.1 c.requires.base) s) (rw c.if-branch-2.true at c.in_ok-propagate.ensures.refuted)
 
 pub returns-clause-at : goal.returns-clause-at
 returns-clause-at c =
-    let F = whole_form c.args.goals.now c.args.own.now c.args.conflicts.now in
-    let r = runs_more c.args.goals.now F c.args.marks.now.1 c.settle_all.new.marks.1 (whole_goals c.args.goals.now c.args.own.now c.args.conflicts.now) c.in_ok-settle_all.ensures.runs in
-    let s = runs_then F c.args.marks.now.1 c.settle_all.new.marks.1 c.drain.new.marks.1 r c.in_ok-drain.ensures.runs in
-    root_calm F c.drain.new.marks.1 (sound_from F c.args.marks.now.1 c.drain.new.marks.1 (base_sound c.args.goals.now c.args.own.now c.args.conflicts.now c.args.marks.now.1 c.requires.base) s) s.consistent (rw c.if-branch-2.false at c.in_ok-drain.ensures.closed)
+    let F = sentences_in c.args.formula.now in
+    let r = runs_more c.args.formula.now.goals.now F c.args.trail.now.1 c.propagate_all.new.trail.1 (whole_goals c.args.formula.now.goals.now c.args.formula.now.own.now c.args.formula.now.conflicts.now) c.in_ok-propagate_all.ensures.runs in
+    let s = runs_then F c.args.trail.now.1 c.propagate_all.new.trail.1 c.propagate.new.trail.1 r c.in_ok-propagate.ensures.runs in
+    root_calm F c.propagate.new.trail.1 (sound_from F c.args.trail.now.1 c.propagate.new.trail.1 (base_sound c.args.formula.now.goals.now c.args.formula.now.own.now c.args.formula.now.conflicts.now c.args.trail.now.1 c.requires.base) s) s.consistent (rw c.if-branch-2.false at c.in_ok-propagate.ensures.closed)

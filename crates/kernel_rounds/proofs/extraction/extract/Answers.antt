@@ -2,7 +2,7 @@ use Rattle.std.proofs.Common.{◌≡◌, ◌∙◌, ap, subst, None}
 use Rattle.std.proofs.lemmas.Result.{err_from_is_err_and}
 use Rattle.clause_pool.proofs.Interned.{kept_along}
 use Rattle.row_book.specs.Book.{repository_of}
-use Rattle.row_book.specs.Rounds.{kernel, kernel_steps, limit_at}
+use Rattle.row_book.specs.Rounds.{kernel, kernel_held, kernel_steps, limit_at}
 use Rattle.row_book.proofs.BookRepositories.{sound_repository}
 use Rattle.kernel_rounds.specs.Extracting.{IsExtracted}
 use Rattle.kernel_rounds.proofs.Midways.{gained_of_same}
@@ -46,9 +46,10 @@ returns-clause-settled c =
 pub returns-clause-own : goal.returns-clause-own
 returns-clause-own c =
     let same = ap (λ pool. repository_of pool c.args.book.now) c.in_ok-own.ensures.same in
-    extracted_own c.args.limit c.args.hold (repository_of c.args.pool.now c.args.book.now) _ (sound_repository c.args.pool.now c.args.book.now c.requires.sound.rows.is_pool c.requires.sound)
-    ((c.in_ok-made.ensures.kernel (repository_of c.in_ok-own.own c.args.book.now) c.args.limit c.args.pool.now c.in_ok-last.ensures.reached).is
-    ∙ ap (kernel c.args.limit c.args.hold) same)
+    let made = c.in_ok-made.ensures.kernel (repository_of c.in_ok-own.own c.args.book.now) c.args.limit c.args.pool.now c.in_ok-last.ensures.reached in
+    extracted_own c.args.limit c.args.hold (repository_of c.args.pool.now c.args.book.now) _ _ (sound_repository c.args.pool.now c.args.book.now c.requires.sound.rows.is_pool c.requires.sound)
+    (made.is ∙ ap (kernel c.args.limit c.args.hold) same)
+    (made.held ∙ ap (kernel_held c.args.limit c.args.hold) same)
     (subst (λ R. limit_at c.args.limit c.args.hold R ≡ None) same c.in_ok-last.ensures.reached.within)
 
 pub returns-clause-only : goal.returns-clause-only

@@ -5,6 +5,6 @@ use Rattle.row_book.proofs.clause_table.enter_rows.Given as goal
 
 abbrev pub invariant-loop-number : goal.invariant-loop-number
 invariant-loop-number l = record {
-  users : AreUsers l.pool l.rows l.number (lists_in l.users);
+  users : AreUsers l.rows l.number (lists_in l.users);
   lists : ListsClauses l.pool (holders_in l.users l.clauses);
 }

@@ -36,6 +36,6 @@ returns c =
       size = c.size-classes.ensures ∙ sym (rows_long c.args.pool.now c.args.book.now.rows);
       sentences = sentences;
       engine = engine_of c.args.pool.now c.args.book.now.rows c.args.book.now.conflicts c.size-classes.result c.in_ok-own.own.items c.in_ok-uses.uses.items c.requires.sound.rows c.requires.sound.conflicts c.args.book.now.paired c.size-classes.ensures sentences table;
-      marks = c.in_ok-dead.ensures.classes ∙ ap (λ w. w.0) c.in_ok-base.ensures;
+      trail = c.in_ok-dead.ensures.classes ∙ ap (λ w. w.0) c.in_ok-base.ensures;
       base = rw (c.deref-2.ensures.value, c.as_slice-2.ensures) at c.in_ok-dead.ensures.at;
     }

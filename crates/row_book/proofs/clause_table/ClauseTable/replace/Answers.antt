@@ -3,13 +3,10 @@ use Rattle.std.proofs.Common.{◌≡◌, ◌<◌, ◌++◌, ◌∙◌, ap, ap₂
 use Rattle.std.specs.List.{slice_set}
 use Rattle.std.proofs.lemmas.List.{length-map}
 use Rattle.listed.proofs.Bools.{on_err}
-use Rattle.clause_pool.specs.Interned.{clause_at, ids_at}
 use Rattle.row_book.specs.Holders.{ListsClauses, TellsRows, holders_in}
 use Rattle.row_book.specs.Sets.{In}
 use Rattle.row_book.specs.Uses.{HoldsDifference, lists_in, list_in}
-use Rattle.row_book.proofs.Differences.{difference_as}
 use Rattle.row_book.proofs.Holders.{lists_same, tells_replaced, tells_still}
-use Rattle.row_book.proofs.Lists.{In_map}
 use Rattle.row_book.proofs.Users.{lent_whole}
 use Rattle.row_book.proofs.clause_table.ClauseTable.replace.Goals as goal
 
@@ -26,9 +23,8 @@ pub enter_all-requires-clause-numbers : goal.enter_all-requires-clause-numbers
 enter_all-requires-clause-numbers c id i n j =
     let size : length c.args.self.now.clauses ≡ length c.as_mut_slice-clauses.result.now =
     ap (λ t. length t.clauses) (sym c.self.view_is) ∙ length-map c.self.inside.clauses.items (λ v. v.items) ∙ ap length (sym c.as_mut_slice-clauses.ensures.value) in
-    let came : In id (ids_at c.args.pool.now c.args.new) =
-    subst (λ xs. In id xs) c.row-2.ensures.lent (c.in_ok-came.ensures.part id (subst (λ xs. In id xs) c.as_slice-gained.ensures.value i)) in
-    subst (λ k. n < k) size (c.requires.numbers (clause_at c.args.pool.now id) (In_map (clause_at c.args.pool.now) (ids_at c.args.pool.now c.args.new) id came) n j)
+    let came : In id c.args.new.now = c.in_ok-came.ensures.part id (subst (λ xs. In id xs) c.as_slice-gained.ensures.value i) in
+    subst (λ k. n < k) size (c.requires.numbers id came n j)
 
 pub returns-in_err-enter_all-clause-err : goal.returns-in_err-enter_all-clause-err
 returns-in_err-enter_all-clause-err c = on_err _ c.from_residual-in_err-enter_all.result (λ rows t.
@@ -61,11 +57,10 @@ returns-clause-ok c rows l o t =
     let count : length lists ≡ length clauses.items = c.enter_all.auto.clauses ∙ ap length c.as_mut_slice-clauses.ensures.value in
     let whole : take made.len (new ++ drop (length new) made.items) ≡ new = lent_whole made.len new made.items size made.ok.0 in
     let all : take clauses.len (lists ++ drop (length lists) clauses.items) ≡ lists = lent_whole clauses.len lists clauses.items count clauses.ok.0 in
-    let came : HoldsDifference (ids_at c.args.pool.now c.args.new) (ids_at c.args.pool.now c.args.old) c.as_slice-gained.result.now =
-    difference_as c.row-2.result.now c.row.result.now c.in_ok-came.came.items (ids_at c.args.pool.now c.args.new) (ids_at c.args.pool.now c.args.old) c.as_slice-gained.result.now
-    c.row-2.ensures.lent c.row.ensures.lent (sym c.as_slice-gained.ensures.value) c.in_ok-came.ensures in
-    subst (TellsRows c.args.pool.now (slice_set rows c.args.number c.args.new)) (sym (ap₂ holders_in whole all))
-    (tells_replaced c.args.pool.now rows c.args.number c.args.old c.args.new c.as_slice-gained.result.now (holders_in users.items clauses.items) (holders_in new lists) l o came
+    let came : HoldsDifference c.args.new.now c.args.old.now c.as_slice-gained.result.now =
+    subst (HoldsDifference c.args.new.now c.args.old.now) (sym c.as_slice-gained.ensures.value) c.in_ok-came.ensures in
+    subst (TellsRows c.args.pool.now (slice_set rows c.args.number c.args.new.now)) (sym (ap₂ holders_in whole all))
+    (tells_replaced c.args.pool.now rows c.args.number c.args.old.now c.args.new.now c.as_slice-gained.result.now (holders_in users.items clauses.items) (holders_in new lists) l o came
     (length-map lists (λ v. v.items) ∙ count ∙ sym (length-map clauses.items (λ v. v.items)))
     (λ d m i. c.enter_all.ensures.users d m (subst (λ xs. In m xs) (sym (ap (λ z. list_in z d) c.as_mut_slice-users.ensures.value ∙ c.make_lists.ensures.same d)) i))
     c.in_ok-enter_all.ensures.entered

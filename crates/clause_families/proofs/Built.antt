@@ -1,0 +1,173 @@
+-- The tree of a family: what it tells of tests, and how its numbers rise.
+use Rattle.std.proofs.Common.{◌≡◌, ℕ, ◌<◌, ◌⊎◌, Bool, true, false, ◌&&◌, ◌||◌, eqb, ltb, cond, List, [], ◌∷◌, inl, inr, refl, sym, ◌∙◌, ap, ap₂, length, arith, eqb-true, lt-ltb, suc, ◌+◌, not, add-one, drop, drop-cons, get_or}
+use Rattle.std.specs.List.{list_any}
+use Rattle.std.proofs.lemmas.Bool.{cond-false, cond-true, eqb-false, not_from_false, not_from_true}
+use Rattle.row_book.specs.Sets.{In, has, here, there}
+use Rattle.row_book.specs.Clauses.{Ascending, Before, InOrder, apart_from}
+use Rattle.clause_families.specs.Branches.{any_of, bare, branch, first_leap, is_empty, later_leaps, no_leap, nodes_of, tree_of, with_clause, Above, BuiltOf, Climbs, Grows, Leap, Standing, Tree, TreeOf}
+use Rattle.clause_families.specs.Inclusion.{has_shorter, is_within}
+use Rattle.clause_families.specs.declared.family_tree.FamilyTree.{FamilyTree}
+use Rattle.clause_families.proofs.Walked.{above_less}
+
+once_again : (e t z : Bool) → (t || ((e && t) || z)) ≡ (t || z)
+once_again e true z = refl
+once_again true false z = refl
+once_again false false z = refl
+
+in_front : (a b x y : Bool) → (a || ((b || x) || y)) ≡ (b || (a || (x || y)))
+in_front true true x y = refl
+in_front true false x y = refl
+in_front false true x y = refl
+in_front false false x y = refl
+
+no_more : (b y : Bool) → ((b || false) || y) ≡ (b || y)
+no_more true y = refl
+no_more false y = refl
+
+two_first : (a b z : Bool) → (b || (a || z)) ≡ (a || (b || z))
+two_first true true z = refl
+two_first true false z = refl
+two_first false true z = refl
+two_first false false z = refl
+
+-- a tree with a clause more has one that passes where the clause passes or one did before
+any_with : (test : List ℕ → Bool) (given : Leap) (n : ℕ) (ns : List ℕ) (tree : Tree) → any_of test (with_clause given (n ∷ ns) tree) ≡ (test (n ∷ ns) || any_of test tree)
+any_with test given n [] bare = refl
+any_with test given n (x ∷ xs) bare = ap (λ b. b || false) (any_with (λ c. test (n ∷ c)) no_leap x xs bare) ∙ no_more (test (n ∷ (x ∷ xs))) false
+any_with test given n [] (branch m leap ends below beside) = pick (eqb n m) refl
+  where
+    pick : (b : Bool) → eqb n m ≡ b → any_of test (cond b (branch m leap true below beside) (branch n given true bare (branch m leap ends below beside))) ≡ (test (n ∷ []) || any_of test (branch m leap ends below beside))
+    pick true e =
+        ap (λ k. test (k ∷ []) || (any_of (λ c. test (m ∷ c)) below || any_of test beside)) (sym (eqb-true n m e))
+        ∙ sym (once_again ends (test (n ∷ [])) (any_of (λ c. test (m ∷ c)) below || any_of test beside))
+        ∙ ap (λ k. test (n ∷ []) || ((ends && test (k ∷ [])) || (any_of (λ c. test (m ∷ c)) below || any_of test beside))) (eqb-true n m e)
+    pick false e = refl
+any_with test given n (x ∷ xs) (branch m leap ends below beside) = pick (eqb n m) refl (any_with (λ c. test (m ∷ c)) given x xs below) (any_with (λ c. test (n ∷ c)) no_leap x xs bare)
+  where
+    pick : (b : Bool) → eqb n m ≡ b → any_of (λ c. test (m ∷ c)) (with_clause given (x ∷ xs) below) ≡ (test (m ∷ (x ∷ xs)) || any_of (λ c. test (m ∷ c)) below) →
+        any_of (λ c. test (n ∷ c)) (with_clause no_leap (x ∷ xs) bare) ≡ (test (n ∷ (x ∷ xs)) || false) →
+        any_of test (cond b (branch m leap ends (with_clause given (x ∷ xs) below) beside) (branch n given false (with_clause no_leap (x ∷ xs) bare) (branch m leap ends below beside)))
+        ≡ (test (n ∷ (x ∷ xs)) || any_of test (branch m leap ends below beside))
+    pick true e again alone =
+        ap (λ b. (ends && test (m ∷ [])) || (b || any_of test beside)) again
+        ∙ in_front (ends && test (m ∷ [])) (test (m ∷ (x ∷ xs))) (any_of (λ c. test (m ∷ c)) below) (any_of test beside)
+        ∙ ap (λ k. test (k ∷ (x ∷ xs)) || any_of test (branch m leap ends below beside)) (sym (eqb-true n m e))
+    pick false e again alone =
+        ap (λ b. b || any_of test (branch m leap ends below beside)) alone ∙ no_more (test (n ∷ (x ∷ xs))) (any_of test (branch m leap ends below beside))
+
+-- a test of the family is one of its tree, and of the empty clause where it holds that
+pub any_built : (test : List ℕ → Bool) (leaps : List Leap) (family : List (List ℕ)) → list_any test family ≡ ((list_any is_empty family && test []) || any_of test (tree_of leaps family))
+any_built test leaps [] = refl
+any_built test leaps ([] ∷ cs) =
+    ap (λ b. test [] || b) (any_built test (later_leaps leaps) cs) ∙ once_again (list_any is_empty cs) (test []) (any_of test (tree_of (later_leaps leaps) cs))
+any_built test leaps ((n ∷ ns) ∷ cs) =
+    ap (λ b. test (n ∷ ns) || b) (any_built test (later_leaps leaps) cs)
+    ∙ two_first (list_any is_empty cs && test []) (test (n ∷ ns)) (any_of test (tree_of (later_leaps leaps) cs))
+    ∙ ap (λ b. (list_any is_empty cs && test []) || b) (sym (any_with test (first_leap leaps) n ns (tree_of (later_leaps leaps) cs)))
+
+above_with : (given : Leap) (x : ℕ) (c : List ℕ) (tree : Tree) → ((k : ℕ) → In k c → x < k) → Above x tree → Above x (with_clause given c tree)
+above_with given x [] tree u a = a
+above_with given x (n ∷ ns) bare u a = (u n here, above_with no_leap x ns bare (λ k i. u k (there i)) tt, tt)
+above_with given x (n ∷ ns) (branch m leap ends below beside) u a =
+    pick (eqb n m) (above_with given x ns below (λ k i. u k (there i)) a.1) (above_with no_leap x ns bare (λ k i. u k (there i)) tt)
+  where
+    pick : (b : Bool) → Above x (with_clause given ns below) → Above x (with_clause no_leap ns bare) →
+        Above x (cond b (branch m leap (is_empty ns || ends) (with_clause given ns below) beside) (branch n given (is_empty ns) (with_clause no_leap ns bare) (branch m leap ends below beside)))
+    pick true again alone = (a.0, again, a.2)
+    pick false again alone = (u n here, alone, a)
+
+-- the clause begins no higher than the tree does
+abbrev Leads : List ℕ → Tree → Type 0
+Leads [] tree = Unit
+Leads (n ∷ ns) bare = Unit
+Leads (n ∷ ns) (branch m leap ends below beside) = (n < m) ⊎ ((n ≡ m) × Leads ns below)
+
+leads_bare : (c : List ℕ) → Leads c bare
+leads_bare [] = tt
+leads_bare (n ∷ ns) = tt
+
+leads_first : (given : Leap) (c d : List ℕ) (tree : Tree) → Before c d → Leads c (with_clause given d tree)
+leads_first given [] d tree b = tt
+leads_first given (n ∷ ns) [] tree b = absurd b
+leads_first given (n ∷ ns) (m ∷ ms) bare (inl l) = inl l
+leads_first given (n ∷ ns) (m ∷ ms) bare (inr w) = inr (w.0, leads_first no_leap ns ms bare w.1)
+leads_first given (n ∷ ns) (m ∷ ms) (branch k leap ends below beside) b = pick (eqb m k) refl (λ w. leads_first given ns ms below w) (λ w. leads_first no_leap ns ms bare w)
+  where
+    pick : (t : Bool) → eqb m k ≡ t → (Before ns ms → Leads ns (with_clause given ms below)) → (Before ns ms → Leads ns (with_clause no_leap ms bare)) →
+        Leads (n ∷ ns) (cond t (branch k leap (is_empty ms || ends) (with_clause given ms below) beside) (branch m given (is_empty ms) (with_clause no_leap ms bare) (branch k leap ends below beside)))
+    pick true e again alone = let s : m ≡ k = eqb-true m k e in elim b [ inl l ↦ inl (omega arith) | inr w ↦ inr (w.0 ∙ s, again w.1) ]
+    pick false e again alone = elim b [ inl l ↦ inl l | inr w ↦ inr (w.0, alone w.1) ]
+
+climbs_with : (given : Leap) (c : List ℕ) (tree : Tree) → Ascending c → Climbs tree → Leads c tree → Climbs (with_clause given c tree)
+climbs_with given [] tree a up l = up
+climbs_with given (n ∷ ns) bare a up l = ((above_with no_leap n ns bare a.0 tt, tt), (climbs_with no_leap ns bare a.1 tt (leads_bare ns), tt))
+climbs_with given (n ∷ ns) (branch m leap ends below beside) a up l =
+    pick (eqb n m) refl (λ w. climbs_with given ns below a.1 up.1.0 w) (climbs_with no_leap ns bare a.1 tt (leads_bare ns))
+  where
+    pick : (b : Bool) → eqb n m ≡ b → (Leads ns below → Climbs (with_clause given ns below)) → Climbs (with_clause no_leap ns bare) →
+        Climbs (cond b (branch m leap (is_empty ns || ends) (with_clause given ns below) beside) (branch n given (is_empty ns) (with_clause no_leap ns bare) (branch m leap ends below beside)))
+    pick true e again alone =
+        let s : n ≡ m = eqb-true n m e in
+        let rest : Leads ns below = elim l [ inl k ↦ absurd (omega arith) | inr w ↦ w.1 ] in
+        ((above_with given m ns below (λ k i. let h : n < k = a.0 k i in omega arith) up.0.0, up.0.1), (again rest, up.1.1))
+    pick false e again alone =
+        let less : n < m = elim l [ inl k ↦ k | inr w ↦ absurd (eqb-false n m e w.0) ] in
+        ((above_with no_leap n ns bare a.0 tt, (less, above_less n m below less up.0.0, above_less n m beside less up.0.1)), (alone, up))
+
+pub climbs_built : (leaps : List Leap) (family : List (List ℕ)) → InOrder family → ((c : List ℕ) → In c family → Ascending c) → Climbs (tree_of leaps family)
+climbs_built leaps [] o up = tt
+climbs_built leaps (c ∷ []) o up = climbs_with (first_leap leaps) c bare (up c here) tt (leads_bare c)
+climbs_built leaps (c ∷ (d ∷ ds)) o up =
+    let others : List Leap = later_leaps leaps in
+    climbs_with (first_leap leaps) c (tree_of (later_leaps leaps) (d ∷ ds)) (up c here) (climbs_built (later_leaps leaps) (d ∷ ds) o.1 (λ e i. up e (there i)))
+    (leads_first (first_leap others) c d (tree_of (later_leaps others) ds) (o.0 d here))
+
+-- one clause more
+pub built_empty : (built : FamilyTree) (family : List (List ℕ)) (clause : List ℕ) (b : Bool) → b ≡ eqb (length clause) 0 → b ≡ true → BuiltOf built family →
+    BuiltOf (record { nodes = built.nodes; holds_empty = true }) (clause ∷ family)
+built_empty built family [] b e t w = record { leaps = no_leap ∷ w.leaps; nodes = w.nodes; empty = refl }
+built_empty built family (n ∷ ns) b e t w = let z : suc (length ns) ≡ 0 = eqb-true (length (n ∷ ns)) 0 (sym e ∙ t) in absurd (omega arith)
+
+pub built_more : (built new : FamilyTree) (family : List (List ℕ)) (clause : List ℕ) (b : Bool) → b ≡ eqb (length clause) 0 → b ≡ false → new.holds_empty ≡ built.holds_empty →
+    ((tree : Tree) → built.nodes.items ≡ nodes_of 0 tree → Grows clause tree new.nodes.items) → BuiltOf built family → BuiltOf new (clause ∷ family)
+built_more built new family [] b e t same f w = absurd (let z : false ≡ true = sym t ∙ e in cc)
+built_more built new family (n ∷ ns) b e t same f w =
+    let g : Grows (n ∷ ns) (tree_of w.leaps family) new.nodes.items = f (tree_of w.leaps family) w.nodes in
+    record { leaps = g.leap ∷ w.leaps; nodes = g.is; empty = same ∙ w.empty }
+
+-- the nodes are those of a tree, from the first place on
+abbrev pub standing_built : (built : FamilyTree) (family : List (List ℕ)) → TreeOf built family → Standing 0 built.nodes.items
+standing_built built family t =
+    record { tree = tree_of t.by.leaps family; climbs = climbs_built t.by.leaps family t.in_order t.rising; front = []; at = refl; is = t.by.nodes }
+
+-- the test of the tree, and of the empty clause
+pub shorter_built : (built : FamilyTree) (family : List (List ℕ)) (clause : List ℕ) (t : TreeOf built family) →
+    has_shorter family clause ≡ ((built.holds_empty && ltb 0 (length clause)) || any_of (is_within clause (length clause)) (tree_of t.by.leaps family))
+shorter_built built family clause t =
+    any_built (is_within clause (length clause)) t.by.leaps family
+    ∙ ap (λ b. b || any_of (is_within clause (length clause)) (tree_of t.by.leaps family))
+    (ap₂ (λ x y. x && y) (sym t.by.empty) (last (ltb 0 (length clause))))
+  where
+    last : (b : Bool) → (b && true) ≡ b
+    last true = refl
+    last false = refl
+
+pub something_short : (clause : List ℕ) (b : Bool) → b ≡ eqb (length clause) 0 → b ≡ false → ltb 0 (length clause) ≡ true
+something_short [] b e f = sym f ∙ e
+something_short (n ∷ ns) b e f = lt-ltb 0 (length (n ∷ ns)) (omega arith)
+
+pub nothing_short : (a : Bool) (clause : List ℕ) (b : Bool) → b ≡ eqb (length clause) 0 → b ≡ true → (a && ltb 0 (length clause)) ≡ false
+nothing_short true [] b e t = refl
+nothing_short false [] b e t = refl
+nothing_short a (n ∷ ns) b e t = let z : suc (length ns) ≡ 0 = eqb-true (length (n ∷ ns)) 0 (sym e ∙ t) in absurd (omega arith)
+
+-- the clauses without a number, from a place on
+module _ (q : ℕ) (cs : List (List ℕ)) (i : ℕ) (below : i < length cs) where
+  one : drop i cs ≡ get_or cs i [] ∷ drop (i + 1) cs
+  one = drop-cons cs i [] below ∙ ap (λ n. get_or cs i [] ∷ drop n cs) (sym (add-one i))
+
+  pub without_less : has (get_or cs i []) q ≡ true → apart_from q (drop i cs) ≡ apart_from q (drop (i + 1) cs)
+  without_less h = ap (apart_from q) one ∙ cond-false (not (has (get_or cs i []) q)) (get_or cs i [] ∷ apart_from q (drop (i + 1) cs)) (apart_from q (drop (i + 1) cs)) (not_from_true (has (get_or cs i []) q) h)
+
+  pub without_more : has (get_or cs i []) q ≡ false → apart_from q (drop i cs) ≡ get_or cs i [] ∷ apart_from q (drop (i + 1) cs)
+  without_more h = ap (apart_from q) one ∙ cond-true (not (has (get_or cs i []) q)) (get_or cs i [] ∷ apart_from q (drop (i + 1) cs)) (apart_from q (drop (i + 1) cs)) (not_from_false (has (get_or cs i []) q) h)

@@ -1,0 +1,13 @@
+pub mod Unions
+pub mod UnionMerges
+pub mod Members
+pub mod Families
+pub mod Beginnings
+pub mod Walked
+pub mod Grown
+pub mod Built
+pub mod Gainings
+pub mod Merged
+pub mod Rewritten
+pub mod UnionRows
+pub mod Sifted

@@ -1,0 +1,30 @@
+use Rattle.std.proofs.Common.{ap, sym, ◌∙◌, cond, [], List, ℕ}
+use Rattle.std.proofs.lemmas.Bool.{cond-true, cond-false}
+use Rattle.clause_pool.specs.Interned.{clauses_at}
+use Rattle.row_book.specs.Sets.{has}
+use Rattle.clause_families.specs.Families.{unions_of}
+use Rattle.clause_families.proofs.Families.{At, at_clause, flat_push, flat_skip, of_pool_item}
+use Rattle.clause_families.proofs.family.add_unions.Goals as goal
+use Rattle.clause_families.proofs.family.add_unions.Goals.{then-holds_ascending+in_ok-add_unions_of, else-holds_ascending}
+
+pub slice-clause-requires : goal.slice-clause-requires
+slice-clause-requires c = of_pool_item c.args.pool.now c.args.row.now c.loop-id.id-index c.id-item.result c.requires.row c.loop-id-test.true c.id-item.is
+
+pub loop-id-preserved : goal.loop-id-preserved
+loop-id-preserved c =
+    let at : At (clauses_at c.args.pool.now c.args.row.now) c.loop-id.id-index c.slice-clause.result.now =
+    at_clause c.args.pool.now c.args.row.now c.loop-id.id-index c.id-item.result c.slice-clause.result.now c.loop-id-test.true c.id-item.is c.slice-clause.ensures.lent in
+    let others : List (List ℕ) = clauses_at c.args.pool.now c.args.others.now in
+    let made : List (List ℕ) = unions_of c.args.spent others c.slice-clause.result.now in
+    elim c.if-holds_ascending.branch [
+      | then-holds_ascending+in_ok-add_unions_of w ↦
+          flat_push (λ clause. cond (has clause c.args.spent) (unions_of c.args.spent others clause) []) (clauses_at c.args.pool.now c.args.row.now) c.loop-id.id-index c.slice-clause.result.now made
+          c.args.family.now.items c.loop-id.family.items c.if-holds_ascending.family.items at c.loop-id.invariant
+          (sym (cond-true (has c.slice-clause.result.now c.args.spent) made [] (sym c.holds_ascending.ensures ∙ w.if-holds_ascending.true)))
+          (ap (λ z. z.items) w.family-is ∙ w.in_ok-add_unions_of.ensures)
+      | else-holds_ascending w ↦
+          flat_skip (λ clause. cond (has clause c.args.spent) (unions_of c.args.spent others clause) []) (clauses_at c.args.pool.now c.args.row.now) c.loop-id.id-index c.slice-clause.result.now
+          c.args.family.now.items c.loop-id.family.items c.if-holds_ascending.family.items at c.loop-id.invariant
+          (cond-false (has c.slice-clause.result.now c.args.spent) made [] (sym c.holds_ascending.ensures ∙ w.if-holds_ascending.false))
+          (ap (λ z. z.items) w.family-is)
+    ]

@@ -1,0 +1,138 @@
+//! Clauses that are not in the pool.
+ghost use Rattle.std.specs.Prelude.{◌≡◌, ◌==◌, ◌++◌, IfOk, OnOk};
+ghost use Rattle.std.specs.Cmp.Lexicographic.{pointwise, slice_cmp, slice_partial_cmp, lists_equiv, lists_total, nat_list_cmp_total, nat_list_eq_equiv, texts_po, texts_ties};
+ghost use Rattle.std.specs.Cmp.{partial_equiv_from_equiv};
+ghost use Rattle.std.specs.Ordering.{nat_cmp};
+ghost use Rattle.std.specs.Prelude.{nat_eq, Some, refl};
+ghost use Rattle.row_book.specs.Clauses.{Ascending};
+ghost use Rattle.clause_families.specs.Unions.{clause_without, union_of};
+
+use smallvec::SmallVec;
+use std::alloc::{AllocError, Global};
+use std::cmp::Ordering;
+use std::marker::Model;
+
+/// A clause that is not in the pool, in lexicographic order among others. Most clauses are short, and then take no memory
+/// of their own.
+#[derive(Drop)]
+pub struct Clause {
+    literals: SmallVec<u32, 6>,
+}
+
+impl Model for Clause {
+    ghost use Rattle.std.specs.Prelude.{List, ℕ};
+    ghost use Rattle.std.specs.Coded.{coded_list, coded_ℕ};
+
+    ghost Value = { List ℕ };
+
+    ghost coded = { coded_list coded_ℕ };
+
+    ghost view = { λ s. s.literals.items };
+}
+
+impl PartialEq for Clause {
+    ghost eq = { pointwise nat_eq };
+
+    ghost laws = { partial_equiv_from_equiv nat_list_eq_equiv };
+
+    fn eq(&self, other: &Clause) -> bool {
+        self.as_slice() == other.as_slice()
+    }
+}
+
+impl Eq for Clause {
+    ghost laws = { nat_list_eq_equiv };
+}
+
+impl PartialOrd for Clause {
+    ghost partial_cmp = { λ v w. Some (slice_cmp nat_cmp v w) };
+
+    ghost laws = { texts_po };
+
+    fn partial_cmp(&self, other: &Clause) -> Option<Ordering> {
+        Some(self.cmp(other))
+    }
+}
+
+impl Ord for Clause {
+    ghost cmp = { slice_cmp nat_cmp };
+
+    ghost total = { nat_list_cmp_total };
+
+    ghost matches_partial_cmp = { λ v w. refl };
+
+    ghost matches_eq = { texts_ties };
+
+    fn cmp(&self, other: &Clause) -> Ordering {
+        self.as_slice().cmp(&other.as_slice())
+    }
+}
+
+impl Clause {
+    /// The clause with these literals.
+    pub fn copy(alloc: Global, literals: &[u32]) -> Result<Clause, AllocError>
+        ensures { IfOk result (λ clause. clause ≡ literals.now) }
+    {
+        let literals = SmallVec::from_slice(alloc, literals)?;
+        Ok(Clause { literals })
+    }
+
+    /// The union of two clauses without a number.
+    pub(crate) fn union_without(
+        alloc: Global,
+        spent: u32,
+        clause: &[u32],
+        other: &[u32],
+    ) -> Result<Clause, AllocError>
+        requires clause { Ascending clause.now }
+        requires other { Ascending other.now }
+        ensures { IfOk result (λ union. union ≡ union_of (clause_without spent clause.now) other.now) }
+    {
+        let mut literals = SmallVec::new(alloc);
+        let mut i = 0;
+        let mut j = 0;
+        'merge: while i < clause.len() && j < other.len() {
+            let own = clause[i];
+            let next = other[j];
+            if own == spent {
+                i += 1;
+            } else if own < next {
+                literals.push(own)?;
+                i += 1;
+            } else if next < own {
+                literals.push(next)?;
+                j += 1;
+            } else {
+                literals.push(own)?;
+                i += 1;
+                j += 1;
+            }
+        }
+        add_without(&mut literals, spent, &clause[i..])?;
+        literals.extend_from_slice(&other[j..])?;
+        Ok(Clause { literals })
+    }
+
+    /// Lends the literals in their order.
+    pub fn as_slice(&self) -> &[u32]
+        ensures { result.now ≡ self.now }
+    {
+        self.literals.as_slice()
+    }
+}
+
+/// Puts the literals of a clause, without a number, behind the others.
+fn add_without(
+    literals: &mut SmallVec<u32, 6>,
+    spent: u32,
+    clause: &[u32],
+) -> Result<(), AllocError>
+    ensures { OnOk result (literals.new.items ≡ literals.old.items ++ clause_without spent clause.now) }
+{
+    for literal in clause {
+        if *literal != spent {
+            literals.push(*literal)?;
+        }
+    }
+    Ok(())
+}

@@ -1,6 +1,0 @@
-use Rattle.clause_flatten.proofs.Families.{found_one}
-use Rattle.clause_flatten.proofs.family.is_one_of.Goals as goal
-
-pub returns : goal.returns
-returns c =
-    found_one c.args.numbers.now c.args.number c.binary_search.result c.is_ok.result c.binary_search.ensures.bound c.binary_search.ensures.ok c.is_ok.ensures.value

@@ -1,6 +1,0 @@
-use Rattle.std.proofs.Common.{drop}
-use Rattle.clause_flatten.specs.Branches.{BuiltOf}
-use Rattle.clause_flatten.proofs.family_tree.FamilyTree.of.Given as goal
-
-abbrev pub invariant-loop-place : goal.invariant-loop-place
-invariant-loop-place l = BuiltOf l.tree (drop l.place l.family)

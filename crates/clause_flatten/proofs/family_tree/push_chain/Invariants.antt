@@ -1,6 +1,0 @@
-use Rattle.std.proofs.Common.{◌≡◌, ◌++◌, drop}
-use Rattle.clause_flatten.specs.Branches.{chain}
-use Rattle.clause_flatten.proofs.family_tree.push_chain.Given as goal
-
-abbrev pub invariant-loop-index : goal.invariant-loop-index
-invariant-loop-index l = l.nodes.items ≡ l.fn.nodes.items ++ chain l.place l.place 0 (drop l.index l.numbers)

@@ -1,6 +1,0 @@
-use Rattle.std.proofs.Common.{◌≡◌, ◌++◌, take}
-use Rattle.clause_flatten.specs.Substitution.{clause_without}
-use Rattle.clause_flatten.proofs.scratch.add_without.Given as goal
-
-abbrev pub invariant-loop-literal : goal.invariant-loop-literal
-invariant-loop-literal l = l.literals.items ≡ l.fn.literals.items ++ clause_without l.spent (take l.literal-index l.clause)

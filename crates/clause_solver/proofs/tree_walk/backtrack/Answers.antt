@@ -1,0 +1,47 @@
+use Rattle.std.proofs.Common.{◌≡◌, ◌∙◌, ◌++◌, ◌∷◌, [], ap, take, arith, true}
+use Rattle.std.specs.Prelude.{map}
+use Rattle.search_terms.specs.Closure.{negation}
+use Rattle.clause_solver.specs.Engine.{sentences_in}
+use Rattle.clause_solver.proofs.Stacking.{range_front}
+use Rattle.clause_solver.proofs.Walking.{walk_across, walk_up}
+use Rattle.clause_solver.proofs.Calm.{fallen_of}
+use Rattle.clause_solver.proofs.Climbing.{under_of, has_height, ready_of, range_again}
+use Rattle.clause_solver.proofs.tree_walk.backtrack.Goals as goal
+
+pub unreachable-requires : goal.unreachable-requires
+unreachable-requires c =
+    let more = has_height (sentences_in c.args.formula.now) c.loop-l.decisions.literals.items c.pop.new.self.items c.in-Some.l c.loop-l.decisions.levels.items c.loop-l.trail.1 c.in-Some.ensures.items c.loop-l.invariant.fallen in
+    search (arith, more)
+
+pub undo-requires : goal.undo-requires
+undo-requires c =
+    (under_of (sentences_in c.args.formula.now) c.loop-l.decisions.literals.items c.pop.new.self.items c.in-Some.l c.loop-l.decisions.levels.items c.pop-in-Some.new.self.items c.in-Some-pop.level c.loop-l.trail.1 c.in-Some.ensures.items c.in-Some-pop.ensures.items c.loop-l.invariant.fallen).within
+
+pub returns-then-l-clause-range : goal.returns-then-l-clause-range
+returns-then-l-clause-range c = range_again c.args.formula.now.classes c.loop-l.decisions.literals.items c.pop.new.self.items c.push-then-l.new.self.items c.in-Some.l c.in-Some.ensures.items c.in_ok-push-2.ensures.items c.loop-l.invariant.range
+
+pub returns-then-l-clause-next : goal.returns-then-l-clause-next
+returns-then-l-clause-next c =
+    walk_across c.args.keeps c.args.formula.now.classes (sentences_in c.args.formula.now) c.loop-l.decisions.literals.items c.pop.new.self.items c.push-then-l.new.self.items c.in-Some.l c.args.failed c.loop-l.log
+    c.in-Some.ensures.items c.if-l.true c.in_ok-push-2.ensures.items c.loop-l.invariant.past
+
+pub returns-then-l-clause-ready : goal.returns-then-l-clause-ready
+returns-then-l-clause-ready c =
+    let F = sentences_in c.args.formula.now in
+    let under = under_of F c.loop-l.decisions.literals.items c.pop.new.self.items c.in-Some.l c.loop-l.decisions.levels.items c.pop-in-Some.new.self.items c.in-Some-pop.level c.loop-l.trail.1 c.in-Some.ensures.items c.in-Some-pop.ensures.items c.loop-l.invariant.fallen in
+    ready_of F c.pop.new.self.items c.push-then-l.new.self.items c.in-Some.l c.pop-in-Some.new.self.items c.push.new.self.items c.in-Some-pop.level c.loop-l.trail.1 c.undo.new.self.1 under c.if-l.true
+    c.in_ok-push-2.ensures.items c.in_ok-push.ensures.items (ap (λ w. w.1) c.undo.ensures)
+
+pub loop-l-preserved : goal.loop-l-preserved
+loop-l-preserved c =
+    let F = sentences_in c.args.formula.now in
+    let e : c.args.keeps ≡ true → c.add_entry.new.log ≡ c.loop-l.log ++ map negation c.pop.new.self.items ∷ [] = λ t. c.in_ok-add_entry.ensures t in
+    let under = under_of F c.loop-l.decisions.literals.items c.pop.new.self.items c.in-Some.l c.loop-l.decisions.levels.items c.pop-in-Some.new.self.items c.in-Some-pop.level c.loop-l.trail.1 c.in-Some.ensures.items c.in-Some-pop.ensures.items c.loop-l.invariant.fallen in
+    let front : c.undo.new.self.1 ≡ take c.in-Some-pop.level c.loop-l.trail.1 = ap (λ w. w.1) c.undo.ensures in
+    record {
+      classes = ap (λ w. w.0) c.undo.ensures ∙ c.loop-l.invariant.classes;
+      range = range_front c.args.formula.now.classes c.loop-l.decisions.literals.items c.pop.new.self.items c.in-Some.l c.in-Some.ensures.items c.loop-l.invariant.range;
+      past = walk_up c.args.keeps c.args.formula.now.classes F c.loop-l.decisions.literals.items c.pop.new.self.items c.in-Some.l c.args.failed c.loop-l.log c.add_entry.new.log
+          c.in-Some.ensures.items c.if-l.false e c.loop-l.invariant.past;
+      fallen = rw front (fallen_of F c.pop.new.self.items c.pop-in-Some.new.self.items (take c.in-Some-pop.level c.loop-l.trail.1) under.under);
+    }

@@ -1,0 +1,6 @@
+use Rattle.std.proofs.Common.{◌≡◌, false, take}
+use Rattle.row_book.specs.Sets.{has}
+use Rattle.row_book.proofs.clause_table.is_one_of.Given as goal
+
+abbrev pub invariant-loop-place : goal.invariant-loop-place
+invariant-loop-place l = has (take l.place-index l.places) l.id ≡ false

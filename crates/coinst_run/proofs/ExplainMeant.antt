@@ -4,7 +4,7 @@ use Rattle.std.specs.Prelude.{IfSome}
 use Rattle.std.proofs.lemmas.Bool.{and_from, and_parts, both_ways, eq-eqb, eqb-true, false_from_ne_true, or_cases, or_left}
 use Rattle.clause_solver.specs.declared.outcomes.Verdict.{Verdict as SearchVerdict}
 use Rattle.clause_solver.specs.declared.outcomes.Verdict.TheVariants as tells
-use Rattle.explain_core.specs.Core.{core_of, marked_goals, marks_of}
+use Rattle.explain_core.specs.Core.{goal_core, marked_goals, marks_of}
 use Rattle.explain_core.specs.Explaining.{clashes_for, explained_by, explanation_of}
 use Rattle.explain_core.specs.Meaning.{AreReasons, MeansExplanation}
 use Rattle.explain_core.specs.Only.{only, pair}
@@ -163,9 +163,9 @@ module _ (text : List ℕ) (goals : List Goal) (budget limit : ℕ) (hold : Bool
   core_conflicts marks clashes tells.Yes e = absurd cc
   core_conflicts marks clashes tells.Spent e = absurd cc
   core_conflicts marks clashes tells.No e =
-      let same : clashes_for told_home told_stanzas budget goals (marks_of (core_of limit hold told_home told_stanzas budget goals)) ≡ clashes = cc in
+      let same : clashes_for told_home told_stanzas budget goals (marks_of (goal_core limit hold told_home told_stanzas budget goals)) ≡ clashes = cc in
       subst (λ cs. IfSome cs (λ cs. (c : Clash) → In c cs → AreInConflict told_home told_stanzas c.first c.second)) same
-      (reasons_in_conflict told_home told_stanzas budget (wanted_by told_stanzas (marked_goals goals (marks_of (core_of limit hold told_home told_stanzas budget goals)))))
+      (reasons_in_conflict told_home told_stanzas budget (wanted_by told_stanzas (marked_goals goals (marks_of (goal_core limit hold told_home told_stanzas budget goals)))))
 
   explained : Accepted told_stanzas → (explanation : Explanation) → explanation_of limit hold told_home told_stanzas budget goals ≡ explanation → MeansExplanation told_home told_stanzas goals explanation →
       explanation_answer told_stanzas goals budget explanation ≡ reported verdict report → MeansExplained text goals budget limit hold verdict report

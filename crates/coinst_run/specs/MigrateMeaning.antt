@@ -3,7 +3,7 @@ use Rattle.std.specs.Prelude.{◌≡◌, ℕ, Bool, List, [], map, None, Some}
 use Rattle.byte_flow.specs.Flow.{Files}
 use Rattle.migrate_plan.specs.Differing.{differing}
 use Rattle.migrate_plan.specs.Plan.{settings_of}
-use Rattle.migrate_plan.specs.Promises.{AreRight, MixesAreIndexes, TakesSafely, name_of}
+use Rattle.migrate_plan.specs.Promises.{AreRight, MixesAreIndexes, TakesSafely, planned_name}
 use Rattle.migrate_plan.specs.Refusals.{plan_refusal}
 use Rattle.migrate_plan.specs.declared.plan.PlanLine.{PlanLine}
 use Rattle.repo_model.specs.FirstFault.{first_fault}
@@ -28,7 +28,7 @@ pub record MigrateMeans (old new : List ℕ) (budget limit : ℕ) (hold : Bool) 
   pub allowed : plan_refusal old new ≡ None
   pub mixes : MixesAreIndexes old new
   pub lines : List PlanLine
-  pub names : map name_of lines ≡ differing (packages_in old) (packages_in new)
+  pub names : map planned_name lines ≡ differing (packages_in old) (packages_in new)
   pub each : AreRight (settings_of budget limit hold) old new [] lines
   pub judged : (text : List ℕ) (goals : List Goal) → HasVerdict limit hold (home_in text) (packages_in text) budget goals (verdict_in limit hold (home_in text) (packages_in text) budget goals)
   pub safely : TakesSafely (settings_of budget limit hold) old new lines

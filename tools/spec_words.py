@@ -137,6 +137,14 @@ class Words:
     def sources(self, crate):
         return [self.file(path) for path in sorted((self.crates / crate / "src").glob("**/*.rt"))]
 
+    def defined(self):
+        """The definitions of specs/ and the public types of src/, crate by crate."""
+        for crate in self.order:
+            for path in sorted((self.crates / crate / "specs").glob("*.antt")):
+                yield from dict.fromkeys(self.file(path).definitions.values())
+            for source in self.sources(crate):
+                yield from source.definitions.values()
+
     def find(self, module, name):
         """The definition of a name of a module; none for a word of the kit, which is noted, and for a module."""
         crate, _, rest = module.partition(".")

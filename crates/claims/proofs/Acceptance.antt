@@ -1,8 +1,8 @@
 -- An index, as the relation has it, has no fault where its packages are no more than may be.
-use Rattle.std.proofs.Common.{◌≡◌, ◌≢◌, ℕ, zero, suc, ◌+◌, ◌<◌, ◌≤◌, Bool, true, false, not, cond, ◌&&◌, ◌||◌, List, [], ◌∷◌, ◌++◌, Option, Some, None, Result, Ok, Err, length, take, map, get_or, refl, sym, ap, ◌∙◌, subst, inl, inr, ◌⊎◌, arith, length-append, append_assoc}
-use Rattle.std.specs.Prelude.{slice_index_or, nat_le, nat_lt, codes, unwrap_or, is_some, find, ◌==◌}
+use Rattle.std.proofs.Common.{◌≡◌, ◌≢◌, ℕ, suc, ◌+◌, ◌<◌, ◌≤◌, Bool, true, false, not, cond, ◌&&◌, ◌||◌, List, [], ◌∷◌, ◌++◌, Option, Some, None, length, take, map, refl, sym, ap, ◌∙◌, subst, inl, inr, ◌⊎◌, arith, length-append, append_assoc}
+use Rattle.std.specs.Prelude.{slice_index_or, nat_le, nat_lt, codes, unwrap_or, is_some, ◌==◌}
 use Rattle.std.specs.List.{AllZip, filter, list_all, list_any, position, position_or_len, slice_split}
-use Rattle.std.specs.Option.{is_none, option_map, option_map_or, option_and_then, option_or}
+use Rattle.std.specs.Option.{is_none, option_map, option_and_then, option_or}
 use Rattle.std.specs.Ordering.{is_eq}
 use Rattle.std.specs.Str.{bytes_eq}
 use Rattle.std.proofs.Math.Seq.{take-append_seam}
@@ -10,14 +10,14 @@ use Rattle.std.proofs.lemmas.Bool.{and_parts, cases_Bool}
 use Rattle.std.proofs.lemmas.Bool.Decides.{nat_tests}
 use Rattle.std.proofs.lemmas.List.{append-nil, length-map, map-append}
 use Rattle.std.proofs.lemmas.List.Elements.{AllZip-get_or}
-use Rattle.std.proofs.lemmas.List.Folds.{list_all-append, list_any-append}
+use Rattle.std.proofs.lemmas.List.Folds.{list_all-append}
 use Rattle.std.proofs.lemmas.Slice.Eq.{bytes_eq-Decides}
 use Rattle.std.proofs.lemmas.Slice.Zip.{AllZip-long}
 use Rattle.deb_version.specs.Grammar.{is_colon, is_version}
 use Rattle.deb_version.specs.Names.{is_name}
 use Rattle.listed.specs.Lists.{In, here, there}
 use Rattle.listed.specs.Texts.{is_white_byte}
-use Rattle.listed.proofs.Lists.{In_append_left, In_append_right, In_at, In_cases, In_map, In_map_cases, In_none, In_place, filter_from, find_not, same_bytes}
+use Rattle.listed.proofs.Lists.{In_append_left, In_append_right, In_cases, In_map, In_map_cases, In_none, In_place, filter_from, find_not}
 use Rattle.relation_fields.specs.Fields as whole
 use Rattle.relation_fields.specs.Fields.{first_outside, is_outside, written}
 use Rattle.relation_fields.specs.Grammar.{atom_of, alternatives_of, provide_of, is_architecture}
@@ -25,7 +25,7 @@ use Rattle.relation_fields.specs.Spelling.{Reads}
 use Rattle.relation_fields.specs.Texts.{is_white}
 use Rattle.relation_fields.specs.declared.packages.Home.{Home}
 use Rattle.relation_fields.specs.declared.packages.PackageFacts.{PackageFacts}
-use Rattle.stanza_reader.specs.Fields.{continued, is_field_name, is_field_name_byte, is_bad_start, is_same_name, kind_of, lowered, name_of}
+use Rattle.stanza_reader.specs.Fields.{continued, is_field_name, is_field_name_byte, is_bad_start, is_same_name, lowered, name_of}
 use Rattle.stanza_reader.specs.Lines.{Line, is_continuation, lines, numbered}
 use Rattle.stanza_reader.specs.Stanzas as reader
 use Rattle.stanza_reader.specs.Stanzas.{texts, first_line_fault, first_number, group_shape_fault, has_name, kept_fields, line_fault, readings, repeat_fault, stanza_of, unless_fault}
@@ -33,30 +33,27 @@ use Rattle.stanza_reader.specs.declared.stanza.FieldKind.{FieldKind}
 use Rattle.stanza_reader.specs.declared.stanza.FieldKind.TheVariants.{Package, Version, Architecture, PreDepends, Depends, Conflicts, Breaks, Provides}
 use Rattle.stanza_reader.specs.declared.stanza.RawField.{RawField}
 use Rattle.stanza_reader.specs.declared.stanza.RawStanza.{RawStanza}
-use Rattle.stanza_reader.specs.declared.fault.StanzaFault.{StanzaFault}
-use Rattle.stanza_reader.specs.declared.fault.StanzaFault.TheVariants.{NoColon, BadName, LoneContinuation, Repeated}
+use Rattle.stanza_reader.specs.declared.fault.StanzaFault.TheVariants.{LoneContinuation, Repeated}
 use Rattle.repo_model.specs.Facts.{facts_of, is_all, is_same_package, architecture_of}
 use Rattle.repo_model.specs.Fields.{field_of}
 use Rattle.repo_model.specs.FirstFault.{first_some, missing, unless_good, bad_value, unless_said, bad_relation, presence_fault, value_fault, own_fault, duplicate_fault, mixed_fault, is_at_home, home_of, stanza_fault, reading_fault, fault_behind, faults_from, first_fault, stanzas_in}
 use Rattle.repo_model.specs.Limits.{most_packages}
 use Rattle.repo_model.specs.Stanzas.{stanza_at, no_stanza}
 use Rattle.repo_model.specs.declared.fault.IndexFault.{IndexFault}
-use Rattle.repo_model.specs.declared.fault.IndexFault.TheVariants.{Stanza, MissingPackage, MissingVersion, BadPackage, BadVersion, BadArchitecture, BadRelation, Duplicate, Mixed, TooMany}
+use Rattle.repo_model.specs.declared.fault.IndexFault.TheVariants.{MissingPackage, MissingVersion, BadPackage, BadVersion, BadArchitecture, BadRelation, Duplicate, Mixed, TooMany}
 use Rattle.repo_model.proofs.Accepted.{AreSingle}
-use Rattle.claims.specs.Texts.{Text}
-use Rattle.claims.specs.Versions.{version_order}
-use Rattle.claims.specs.Control.{groups, fields, key_of, value_of, AreDistinct, IsStanza}
-use Rattle.claims.specs.Spelling.{SpellsAlternatives, SpellsAtom, SpellsProvide}
-use Rattle.claims.specs.Index.{elements, is_one_package, FitsHome, Says, IsIndex}
+use Rattle.coinst_words.specs.Usage.{Text}
+use Rattle.claims.specs.Control.{fields, name_key, field_value, AreDistinct, IsStanza}
+use Rattle.claims.specs.Spelling.{WritesAlternatives, WritesAtom, WritesProvide}
+use Rattle.claims.specs.Index.{relation_elements, FitsHome, Says}
 use Rattle.claims.specs.Laws.{IndexesAreAccepted, SaysTheSame}
 use Rattle.stanza_reader.proofs.LineLemmas.{cut_later}
-use Rattle.deb_version.specs.Order as order
+use Rattle.deb_version.specs.Order.{version_order}
 use Rattle.repo_model.proofs.Refusing.{none_behind}
 use Rattle.claims.proofs.Control.{groups_are_theirs, group_is_read, name_whole, none_of, shaped}
-use Rattle.claims.proofs.Index.{first_there, Local, ok, own_field, says, says_one, stanzas_ok, zip_both, zip_left, zip_map}
+use Rattle.claims.proofs.Index.{first_there, Local, ok, own_field, says, says_one, stanzas_ok, zip_both, zip_left}
 use Rattle.claims.proofs.Spelling.{spellings_are_read}
 use Rattle.claims.proofs.Values.{key, kept_value, value_is}
-use Rattle.claims.proofs.Versions.{orders_are_theirs}
 
 none_any : {A : Type 0} (p : A → Bool) (xs : List A) → ((x : A) → In x xs → p x ≡ false) → list_any p xs ≡ false
 none_any p [] f = refl
@@ -135,8 +132,8 @@ shape_none (line ∷ more) named = go (is_continuation line.text) refl (shape_no
         let first : line_fault line ≡ None = rw (e, colon, name) refl in
         ap (λ f. option_or f (first_line_fault more)) first ∙ later (λ field i. named field (subst (In field) (sym all) (there i)))
 
-repeat_none : (before : List Text) (group : List Line) → first_line_fault group ≡ None → AreDistinct (map key_of (fields (texts group)))
-    → ((k : Text) → In k (map key_of (fields (texts group))) → (name : Text) → In name before → lowered name ≢ k) → repeat_fault before group ≡ None
+repeat_none : (before : List Text) (group : List Line) → first_line_fault group ≡ None → AreDistinct (map name_key (fields (texts group)))
+    → ((k : Text) → In k (map name_key (fields (texts group))) → (name : Text) → In name before → lowered name ≢ k) → repeat_fault before group ≡ None
 repeat_none before [] shape once new = refl
 repeat_none before (line ∷ more) shape once new = go (is_continuation line.text) refl (λ names. repeat_none names more)
   where
@@ -144,20 +141,20 @@ repeat_none before (line ∷ more) shape once new = go (is_continuation line.tex
     both = none_of (line_fault line) (first_line_fault more) shape
 
     go : (b : Bool) → is_continuation line.text ≡ b
-        → ((names : List Text) → first_line_fault more ≡ None → AreDistinct (map key_of (fields (texts more))) → ((k : Text) → In k (map key_of (fields (texts more))) → (name : Text) → In name names → lowered name ≢ k) → repeat_fault names more ≡ None)
+        → ((names : List Text) → first_line_fault more ≡ None → AreDistinct (map name_key (fields (texts more))) → ((k : Text) → In k (map name_key (fields (texts more))) → (name : Text) → In name names → lowered name ≢ k) → repeat_fault names more ≡ None)
         → repeat_fault before (line ∷ more) ≡ None
     go true e later =
-        let same : map key_of (fields (texts (line ∷ more))) ≡ map key_of (fields (texts more)) = rw e refl in
+        let same : map name_key (fields (texts (line ∷ more))) ≡ map name_key (fields (texts more)) = rw e refl in
         let left : repeat_fault before (line ∷ more) ≡ repeat_fault before more = rw e refl in
         left ∙ later before both.1 (subst AreDistinct same once) (λ k i. new k (subst (In k) (sym same) i))
     go false e later =
         let whole = line.text ++ continued (texts more) in
-        let keys : map key_of (fields (texts (line ∷ more))) ≡ key_of whole ∷ map key_of (fields (texts more)) = rw e refl in
-        let key : key_of whole ≡ lowered (name_of line.text) = ap lowered (name_whole line.text (continued (texts more)) (shaped line both.0 e).colon) in
-        let distinct : AreDistinct (key_of whole ∷ map key_of (fields (texts more))) = subst AreDistinct keys once in
+        let keys : map name_key (fields (texts (line ∷ more))) ≡ name_key whole ∷ map name_key (fields (texts more)) = rw e refl in
+        let key : name_key whole ≡ lowered (name_of line.text) = ap lowered (name_whole line.text (continued (texts more)) (shaped line both.0 e).colon) in
+        let distinct : AreDistinct (name_key whole ∷ map name_key (fields (texts more))) = subst AreDistinct keys once in
         let fresh : has_name before (name_of line.text) ≡ false
         = none_any (λ o. is_same_name o (name_of line.text)) before (λ o i. not_so (is_same_name o (name_of line.text)) (λ yes.
-        new (key_of whole) (subst (In (key_of whole)) (sym keys) here) o i ((bytes_eq-Decides (lowered o) (lowered (name_of line.text))).0 yes ∙ sym key))) in
+        new (name_key whole) (subst (In (name_key whole)) (sym keys) here) o i ((bytes_eq-Decides (lowered o) (lowered (name_of line.text))).0 yes ∙ sym key))) in
         let left : repeat_fault before (line ∷ more) ≡ cond (has_name before (name_of line.text)) (Some (Repeated line.number)) (repeat_fault (name_of line.text ∷ before) more) = rw e refl in
         left ∙ ap (λ b. cond b (Some (Repeated line.number)) (repeat_fault (name_of line.text ∷ before) more)) fresh
         ∙ later (name_of line.text ∷ before) both.1 distinct.1 (λ k i name j. elim (In_cases j) [
@@ -204,15 +201,15 @@ outside_none one Spells reads value f = ap (option_map (λ place. place + 1)) (n
         let x = f t (filter_from (λ u. not (is_white u)) (whole.elements value) t i (ap not e)) in
         ap (λ b. not b && is_none (one t)) e ∙ ap is_none ((reads t x.0).1 x.1)
 
-relation_none : {X : Type 0} (one : Text → Option X) (Spells : Text → X → Type 0) → Reads one Spells → (kind : FieldKind) (group : List Text) (s : RawStanza) → kept_value kind s.fields ≡ value_of (key kind) group
-    → ((t : Text) → In t (elements (key kind) group) → (x : X) × Spells t x) → bad_relation kind one s ≡ None
+relation_none : {X : Type 0} (one : Text → Option X) (Spells : Text → X → Type 0) → Reads one Spells → (kind : FieldKind) (group : List Text) (s : RawStanza) → kept_value kind s.fields ≡ field_value (key kind) group
+    → ((t : Text) → In t (relation_elements (key kind) group) → (x : X) × Spells t x) → bad_relation kind one s ≡ None
 relation_none one Spells reads kind group s e f = go (field_of kind s) refl
   where
     go : (found : Option RawField) → field_of kind s ≡ found → option_and_then (unless_said one) (field_of kind s) ≡ None
     go None at = ap (option_and_then (unless_said one)) at
     go (Some field) at =
-        let value : value_of (key kind) group ≡ Some field.value = sym e ∙ ap (option_map (λ f. f.value)) at in
-        let same : elements (key kind) group ≡ written field.value = ap (λ v. filter (λ element. not (list_all is_white_byte element)) (slice_split (λ b. b == 44) (unwrap_or v []))) value in
+        let value : field_value (key kind) group ≡ Some field.value = sym e ∙ ap (option_map (λ f. f.value)) at in
+        let same : relation_elements (key kind) group ≡ written field.value = ap (λ v. filter (λ element. not (list_all is_white_byte element)) (slice_split (λ b. b == 44) (unwrap_or v []))) value in
         ap (option_and_then (unless_said one)) at ∙ ap (option_map (BadRelation field.line)) (outside_none one Spells reads field.value (λ t i. f t (subst (In t) (sym same) i)))
 
 there_is : (kind : FieldKind) (fault : IndexFault) (s : RawStanza) (v : Text) → kept_value kind s.fields ≡ Some v → missing kind fault s ≡ None
@@ -234,7 +231,7 @@ module _ (home : Home) (group : List Line) (facts : PackageFacts) (s : Says home
   shaped_well : first_line_fault group ≡ None
   shaped_well = shape_none group s.stanza.named
 
-  value : (kind : FieldKind) → kept_value kind (kept_fields group) ≡ value_of (key kind) (texts group)
+  value : (kind : FieldKind) → kept_value kind (kept_fields group) ≡ field_value (key kind) (texts group)
   value kind = value_is kind group shaped_well
 
   fits_home : (v : Text) → kept_value Architecture (kept_fields group) ≡ Some v → FitsHome home v
@@ -252,7 +249,7 @@ module _ (home : Home) (group : List Line) (facts : PackageFacts) (s : Says home
     | inr same ↦ same.1
   ]
 
-  same_value : (test : Text → Bool) (v : Text) (kind : FieldKind) → value_of (key kind) (texts group) ≡ Some v → test v ≡ true → (w : Text) → kept_value kind (kept_fields group) ≡ Some w → test w ≡ true
+  same_value : (test : Text → Bool) (v : Text) (kind : FieldKind) → field_value (key kind) (texts group) ≡ Some v → test v ≡ true → (w : Text) → kept_value kind (kept_fields group) ≡ Some w → test w ≡ true
   same_value test v kind at good w e = let same : v ≡ w = same_text v w (sym at ∙ sym (value kind) ∙ e) in subst (λ t. test t ≡ true) same good
 
   in_zip : {X : Type 0} (Spells : Text → X → Type 0) (ts : List Text) (xs : List X) → AllZip Spells ts xs → (t : Text) → In t ts → (x : X) × Spells t x
@@ -262,19 +259,19 @@ module _ (home : Home) (group : List Line) (facts : PackageFacts) (s : Says home
   unfolding presence_fault value_fault
   own_none =
       let r = raw group in
-      let needs = in_zip SpellsAlternatives (elements (key PreDepends) (texts group) ++ elements (key Depends) (texts group)) facts.needs s.needs in
-      let against = in_zip SpellsAtom (elements (key Conflicts) (texts group) ++ elements (key Breaks) (texts group)) facts.against s.against in
+      let needs = in_zip WritesAlternatives (relation_elements (key PreDepends) (texts group) ++ relation_elements (key Depends) (texts group)) facts.needs s.needs in
+      let against = in_zip WritesAtom (relation_elements (key Conflicts) (texts group) ++ relation_elements (key Breaks) (texts group)) facts.against s.against in
       none_behind (presence_fault r) (value_fault r)
       (none_behind (missing Package (MissingPackage r.line) r) _ (there_is Package (MissingPackage r.line) r facts.name (value Package ∙ s.name.0))
       (none_behind (missing Version (MissingVersion r.line) r) _ (there_is Version (MissingVersion r.line) r facts.version (value Version ∙ s.version.0)) refl))
       (none_behind (bad_value Package is_name BadPackage r) _ (good_value Package is_name BadPackage r (same_value is_name facts.name Package s.name.0 s.name.1))
       (none_behind (bad_value Version is_version BadVersion r) _ (good_value Version is_version BadVersion r (same_value is_version facts.version Version s.version.0 s.version.1))
       (none_behind (bad_value Architecture is_architecture BadArchitecture r) _ (good_value Architecture is_architecture BadArchitecture r architecture_good)
-      (none_behind (bad_relation PreDepends alternatives_of r) _ (relation_none alternatives_of SpellsAlternatives spellings_are_read.alternatives PreDepends (texts group) r (value PreDepends) (λ t i. needs t (In_append_left (elements (key PreDepends) (texts group)) (elements (key Depends) (texts group)) t i)))
-      (none_behind (bad_relation Depends alternatives_of r) _ (relation_none alternatives_of SpellsAlternatives spellings_are_read.alternatives Depends (texts group) r (value Depends) (λ t i. needs t (In_append_right (elements (key PreDepends) (texts group)) (elements (key Depends) (texts group)) t i)))
-      (none_behind (bad_relation Conflicts atom_of r) _ (relation_none atom_of SpellsAtom spellings_are_read.atoms Conflicts (texts group) r (value Conflicts) (λ t i. against t (In_append_left (elements (key Conflicts) (texts group)) (elements (key Breaks) (texts group)) t i)))
-      (none_behind (bad_relation Breaks atom_of r) _ (relation_none atom_of SpellsAtom spellings_are_read.atoms Breaks (texts group) r (value Breaks) (λ t i. against t (In_append_right (elements (key Conflicts) (texts group)) (elements (key Breaks) (texts group)) t i)))
-      (none_behind (bad_relation Provides provide_of r) _ (relation_none provide_of SpellsProvide spellings_are_read.provides Provides (texts group) r (value Provides) (in_zip SpellsProvide (elements (key Provides) (texts group)) facts.provides s.provides)) refl))))))))
+      (none_behind (bad_relation PreDepends alternatives_of r) _ (relation_none alternatives_of WritesAlternatives spellings_are_read.alternatives PreDepends (texts group) r (value PreDepends) (λ t i. needs t (In_append_left (relation_elements (key PreDepends) (texts group)) (relation_elements (key Depends) (texts group)) t i)))
+      (none_behind (bad_relation Depends alternatives_of r) _ (relation_none alternatives_of WritesAlternatives spellings_are_read.alternatives Depends (texts group) r (value Depends) (λ t i. needs t (In_append_right (relation_elements (key PreDepends) (texts group)) (relation_elements (key Depends) (texts group)) t i)))
+      (none_behind (bad_relation Conflicts atom_of r) _ (relation_none atom_of WritesAtom spellings_are_read.atoms Conflicts (texts group) r (value Conflicts) (λ t i. against t (In_append_left (relation_elements (key Conflicts) (texts group)) (relation_elements (key Breaks) (texts group)) t i)))
+      (none_behind (bad_relation Breaks atom_of r) _ (relation_none atom_of WritesAtom spellings_are_read.atoms Breaks (texts group) r (value Breaks) (λ t i. against t (In_append_right (relation_elements (key Conflicts) (texts group)) (relation_elements (key Breaks) (texts group)) t i)))
+      (none_behind (bad_relation Provides provide_of r) _ (relation_none provide_of WritesProvide spellings_are_read.provides Provides (texts group) r (value Provides) (in_zip WritesProvide (relation_elements (key Provides) (texts group)) facts.provides s.provides)) refl))))))))
 
   pub says_own : Says home (texts group) (facts_of (raw group))
   says_own = says home group (raw group) (group_is_read group (raw group) (stanza_ok group s.stanza)) own_none is_local
@@ -381,9 +378,9 @@ indexes_are_accepted text home stanzas i few =
     let b : SaysTheSame (stanza_at (map facts_of ss) m) (stanza_at stanzas m) = AllZip-get_or SaysTheSame (map facts_of ss) stanzas m no_stanza no_stanza zip (omega arith) in
     let names : bytes_eq (stanza_at (map facts_of ss) n).name (stanza_at (map facts_of ss) m).name ≡ bytes_eq (stanza_at stanzas n).name (stanza_at stanzas m).name
     = ap (λ t. bytes_eq t (stanza_at (map facts_of ss) m).name) a.0 ∙ ap (bytes_eq (stanza_at stanzas n).name) b.0 in
-    let orders : order.version_order (stanza_at (map facts_of ss) n).version (stanza_at (map facts_of ss) m).version ≡ version_order (stanza_at stanzas n).version (stanza_at stanzas m).version
-    = ap (λ t. order.version_order t (stanza_at (map facts_of ss) m).version) a.1 ∙ ap (order.version_order (stanza_at stanzas n).version) b.1 ∙ sym (orders_are_theirs (stanza_at stanzas n).version (stanza_at stanzas m).version) in
-    ap (λ t. t && is_eq (order.version_order (stanza_at (map facts_of ss) n).version (stanza_at (map facts_of ss) m).version)) names
+    let orders : version_order (stanza_at (map facts_of ss) n).version (stanza_at (map facts_of ss) m).version ≡ version_order (stanza_at stanzas n).version (stanza_at stanzas m).version
+    = ap (λ t. version_order t (stanza_at (map facts_of ss) m).version) a.1 ∙ ap (version_order (stanza_at stanzas n).version) b.1 in
+    ap (λ t. t && is_eq (version_order (stanza_at (map facts_of ss) n).version (stanza_at (map facts_of ss) m).version)) names
     ∙ ap (λ o. bytes_eq (stanza_at stanzas n).name (stanza_at stanzas m).name && is_eq o) orders
     ∙ i.single m n less (omega (arith, long, l))) in
     ap (λ all. first_some (faults_from all 0 all)) read ∙ walk_on home.name ss (omega (arith, long, size, few)) own local single [] ss refl

@@ -9,12 +9,10 @@ use Rattle.listed.proofs.Lists.{In_at, In_map, In_map_cases, In_place, In_append
 use Rattle.headline.specs.Indexes as kept
 use Rattle.headline.specs.Indexes.{SearchedIndex, HasName, failures}
 use Rattle.headline.specs.Listing as listing
-use Rattle.headline.specs.Listing.{Subject, one, two, subject_of, is_broken, AreInOrder, ArePair, BothHave, IsToldBefore, ListsExactly}
+use Rattle.headline.specs.Listing.{subject_of, is_broken, AreInOrder, ArePair, BothHave, IsToldBefore, ListsExactly}
 use Rattle.relation_fields.specs.declared.packages.PackageFacts.{PackageFacts}
-use Rattle.repo_model.specs.Goals as goals_of
-use Rattle.repo_model.specs.Goals.{any_version, is_named_by}
-use Rattle.repo_model.specs.Repository as repository
-use Rattle.repo_model.specs.Repository.{packages_of}
+use Rattle.repo_model.specs.Goals.{any_version, is_named_by, packages_named}
+use Rattle.repo_model.specs.Repository.{packages_of, suite_repository}
 use Rattle.repo_model.specs.Stanzas.{stanza_at, no_stanza}
 use Rattle.repo_model.specs.declared.goals.Goal.{Goal}
 use Rattle.repo_model.proofs.SoundSuite.{suite_sound}
@@ -22,23 +20,21 @@ use Rattle.row_book.specs.Flattening.{packages}
 use Rattle.row_book.specs.Repository.{Repository}
 use Rattle.row_book.specs.Rounds.{kernel, kernel_image}
 use Rattle.row_book.specs.Sets.{NumSet, has}
-use Rattle.row_book.specs.Sound.{SoundRepository}
-use Rattle.search_terms.specs.Form as sentences
+use Rattle.search_terms.specs.Form.{form}
 use Rattle.search_terms.specs.Tree.{found_of, failed_leaves}
 use Rattle.suite_compare.specs.Asking.{asked_tree, goal_classes, images_of}
 use Rattle.suite_compare.specs.Refusals.{home_in, packages_in}
 use Rattle.suite_compare.specs.declared.report.ReportLine.{ReportLine}
 use Rattle.suite_compare.specs.declared.report.ReportLine.TheVariants.{Broken1, Broken2, Open1, Open2}
 use Rattle.suite_compare.proofs.Deciding.{asked_is}
-use Rattle.claims.specs.CompareSentence.{Suite, Has, Installs, packages_named, Fails, Spends, Can, Cannot, IsAsked, names_of, Precedes}
-use Rattle.claims.specs.Repository.{suite_repository}
-use Rattle.claims.specs.Search.{Searched, form}
-use Rattle.claims.specs.Texts.{Text}
+use Rattle.claims.specs.Asked.{ComparedIndex, Has, Installs, named_packages, Fails, Spends, FoundInstallable, FoundUninstallable, IsAsked}
+use Rattle.claims.specs.Printed.{names_of, Precedes}
+use Rattle.claims.specs.Search.{Searched}
+use Rattle.coinst_words.specs.Usage.{Text}
 use Rattle.claims.specs.Laws.{suite_of, ComparisonsMeanThis}
-use Rattle.claims.proofs.Health.{health_is_theirs, same_repository}
 use Rattle.claims.proofs.Index.{indexes_are_read}
 use Rattle.claims.proofs.Kernel.{kernels_are_kernels, kernels_are_one}
-use Rattle.claims.proofs.Search.{forms_are_theirs, searches_are_one, trees_are_searches}
+use Rattle.claims.proofs.Search.{searches_are_one, trees_are_searches}
 
 has_to : (index : SearchedIndex) (name : Text) → Has (suite_of index) name → HasName index name
 has_to index name h = record { by = stanza_at (packages_in index.text) h.0; stands = In_at (packages_in index.text) h.0 no_stanza h.1; named = h.2 }
@@ -59,7 +55,7 @@ named_to s name e = sym (same_bytes name s.name (sym (no_more (bytes_eq name s.n
 installs_to : (index : SearchedIndex) (names : List Text) → Installs (suite_of index) names → kept.Installable index names
 installs_to index names i = record {
   whole = i.0;
-  healthy = (health_is_theirs (home_in index.text) (packages_in index.text) i.0).0 i.1;
+  healthy = i.1;
   serves = λ goal j.
       let m = In_map_cases any_version names goal j in
       let n = i.2 m.0 m.1 in
@@ -69,55 +65,52 @@ installs_to index names i = record {
 installs_from : (index : SearchedIndex) (names : List Text) → kept.Installable index names → Installs (suite_of index) names
 installs_from index names c = (
   c.whole,
-  (health_is_theirs (home_in index.text) (packages_in index.text) c.whole).1 c.healthy,
+  c.healthy,
   (λ name i. let s = c.serves (any_version name) (In_map any_version names name i) in (s.by, s.member, named_to (stanza_at (packages_in index.text) s.by) name s.named)),
 )
 
 -- the classes of names are those that the search is asked for
 chosen_same : (index : SearchedIndex) (name : Text)
-    → goals_of.packages_named (packages_in index.text) (any_version name) ≡ filter (λ n. bytes_eq name (stanza_at (packages_in index.text) n).name) (packages_of (packages_in index.text))
+    → packages_named (packages_in index.text) (any_version name) ≡ filter (λ n. bytes_eq name (stanza_at (packages_in index.text) n).name) (packages_of (packages_in index.text))
 chosen_same index name =
     filter_same (λ n. is_named_by (any_version name) (stanza_at (packages_in index.text) n)) (λ n. bytes_eq name (stanza_at (packages_in index.text) n).name) (packages_of (packages_in index.text))
     (λ n i. no_more (bytes_eq name (stanza_at (packages_in index.text) n).name))
 
 -- in a repository
 abbrev images_in : SearchedIndex → List Text → Repository → List NumSet
-images_in index names R = map (kernel_image index.limit index.hold R) (map (λ name. has (packages_named (suite_of index) name)) names)
+images_in index names R = map (kernel_image index.limit index.hold R) (map (λ name. has (named_packages (suite_of index) name)) names)
 
 abbrev classes_in : SearchedIndex → List Text → Repository → List (List ℕ)
 classes_in index names R = map (λ image. filter image (packages (kernel index.limit index.hold R))) (images_in index names R)
 
 images_same : (index : SearchedIndex) (names : List Text)
-    → images_of index.limit index.hold (home_in index.text) (packages_in index.text) (map any_version names) ≡ classes_in index names (repository.suite_repository (home_in index.text) (packages_in index.text))
+    → images_of index.limit index.hold (home_in index.text) (packages_in index.text) (map any_version names) ≡ classes_in index names (suite_repository (home_in index.text) (packages_in index.text))
 images_same index [] = refl
 images_same index (name ∷ names) =
     let home = home_in index.text in
     let all = packages_in index.text in
-    ap (λ chosen. goal_classes index.limit index.hold (repository.suite_repository home all) chosen ∷ images_of index.limit index.hold home all (map any_version names)) (chosen_same index name)
-    ∙ ap (λ more. goal_classes index.limit index.hold (repository.suite_repository home all) (packages_named (suite_of index) name) ∷ more) (images_same index names)
+    ap (λ chosen. goal_classes index.limit index.hold (suite_repository home all) chosen ∷ images_of index.limit index.hold home all (map any_version names)) (chosen_same index name)
+    ∙ ap (λ more. goal_classes index.limit index.hold (suite_repository home all) (named_packages (suite_of index) name) ∷ more) (images_same index names)
 
 fails_so : (index : SearchedIndex) (names : List Text) → Fails (suite_of index) names (failures index names)
 fails_so index names =
     let home = home_in index.text in
     let all = packages_in index.text in
-    let K = kernel index.limit index.hold (repository.suite_repository home all) in
+    let R = suite_repository home all in
+    let K = kernel index.limit index.hold R in
     let goals : List Goal = map any_version names in
     let tree = asked_tree index.limit index.hold home all goals in
-    let R = suite_repository home all in
-    let sound : SoundRepository R = subst SoundRepository (sym (same_repository home all)) (suite_sound home all) in
-    let found : Searched (sentences.form K (images_of index.limit index.hold home all goals)) [] (is_some (found_of tree)) (failed_leaves tree)
-    = trees_are_searches (length K.clauses) (sentences.form K (images_of index.limit index.hold home all goals)) tree (asked_is home all index.limit index.hold goals) in
-    let same : sentences.form K (images_of index.limit index.hold home all goals) ≡ form (kernel index.limit index.hold R) (classes_in index names R)
-    = ap (sentences.form K) (images_same index names) ∙ ap (λ S. sentences.form (kernel index.limit index.hold S) (classes_in index names S)) (sym (same_repository home all)) ∙ sym (forms_are_theirs (kernel index.limit index.hold R) (classes_in index names R)) in (
-      kernel index.limit index.hold R,
+    let found : Searched (form K (images_of index.limit index.hold home all goals)) [] (is_some (found_of tree)) (failed_leaves tree)
+    = trees_are_searches (length K.clauses) (form K (images_of index.limit index.hold home all goals)) tree (asked_is home all index.limit index.hold goals) in (
+      K,
       images_in index names R,
-      kernels_are_kernels index.limit index.hold R (map (λ name. has (packages_named (suite_of index) name)) names) sound,
-      (is_some (found_of tree), subst (λ formula. Searched formula [] (is_some (found_of tree)) (failed_leaves tree)) same found),
+      kernels_are_kernels index.limit index.hold R (map (λ name. has (named_packages (suite_of index) name)) names) (suite_sound home all),
+      (is_some (found_of tree), subst (λ images. Searched (form K images) [] (is_some (found_of tree)) (failed_leaves tree)) (images_same index names) found),
     )
 
-fails_one : (s : Suite) (names : List Text) (m n : ℕ) → Fails s names m → Fails s names n → m ≡ n
+fails_one : (s : ComparedIndex) (names : List Text) (m n : ℕ) → Fails s names m → Fails s names n → m ≡ n
 fails_one s names m n a b =
-    let e = kernels_are_one s.limit s.hold (suite_repository s.home s.stanzas) (map (λ name. has (packages_named s name)) names) a.0 b.0 a.1 b.1 a.2 b.2 in
+    let e = kernels_are_one s.limit s.hold (suite_repository s.home s.stanzas) (map (λ name. has (named_packages s name)) names) a.0 b.0 a.1 b.1 a.2 b.2 in
     let there : Searched (form b.0 (map (λ image. filter image (packages b.0)) a.1)) [] a.3.0 m = subst (λ K. Searched (form K (map (λ image. filter image (packages K)) a.1)) [] a.3.0 m) e.0 a.3.1 in
     let here : Searched (form b.0 (map (λ image. filter image (packages b.0)) b.1)) [] a.3.0 m = subst (λ images. Searched (form b.0 (map (λ image. filter image (packages b.0)) images)) [] a.3.0 m) e.1 there in
     (searches_are_one (form b.0 (map (λ image. filter image (packages b.0)) b.1)) [] a.3.0 b.3.0 m n here b.3.1).1
@@ -135,16 +128,16 @@ within index names unspent = go (cases_lt index.budget (failures index names))
     go (inl l) = absurd (unspent (spends_from index names l))
     go (inr g) = g
 
-can_to : (index : SearchedIndex) (names : List Text) → Can (suite_of index) names → kept.Can index names
+can_to : (index : SearchedIndex) (names : List Text) → FoundInstallable (suite_of index) names → kept.Can index names
 can_to index names c = (within index names c.0, installs_to index names c.1)
 
-can_from : (index : SearchedIndex) (names : List Text) → kept.Can index names → Can (suite_of index) names
+can_from : (index : SearchedIndex) (names : List Text) → kept.Can index names → FoundInstallable (suite_of index) names
 can_from index names c = ((λ w. let past = spends_to index names w in absurd (omega (arith, past, c.0))), installs_from index names c.1)
 
-cannot_to : (index : SearchedIndex) (names : List Text) → Cannot (suite_of index) names → kept.Cannot index names
+cannot_to : (index : SearchedIndex) (names : List Text) → FoundUninstallable (suite_of index) names → kept.Cannot index names
 cannot_to index names c = (within index names c.0, (λ i. c.1 (installs_from index names i)))
 
-cannot_from : (index : SearchedIndex) (names : List Text) → kept.Cannot index names → Cannot (suite_of index) names
+cannot_from : (index : SearchedIndex) (names : List Text) → kept.Cannot index names → FoundUninstallable (suite_of index) names
 cannot_from index names c = ((λ w. let past = spends_to index names w in absurd (omega (arith, past, c.0))), (λ i. c.1 (installs_to index names i)))
 
 both_to : (old new : SearchedIndex) (name : Text) → Has (suite_of old) name × Has (suite_of new) name → BothHave old new name
@@ -165,16 +158,16 @@ pair_to old new a b p = record {
 pair_from : (old new : SearchedIndex) (a b : Text) → ArePair old new a b → IsAsked (suite_of old) (suite_of new) (a ∷ (b ∷ []))
 pair_from old new a b p = (p.ascend, both_from old new a p.first_in_both, both_from old new b p.second_in_both, can_from new (a ∷ []) p.first_alone, can_from new (b ∷ []) p.second_alone)
 
-open_to : (old new : SearchedIndex) (names : List Text) → Spends (suite_of new) names ⊎ (Cannot (suite_of new) names × Spends (suite_of old) names) → listing.IsOpen old new names
+open_to : (old new : SearchedIndex) (names : List Text) → Spends (suite_of new) names ⊎ (FoundUninstallable (suite_of new) names × Spends (suite_of old) names) → listing.IsOpen old new names
 open_to old new names (inl w) = inl (spends_to new names w)
 open_to old new names (inr b) = inr (cannot_to new names b.0, spends_to old names b.1)
 
-open_from : (old new : SearchedIndex) (names : List Text) → listing.IsOpen old new names → Spends (suite_of new) names ⊎ (Cannot (suite_of new) names × Spends (suite_of old) names)
+open_from : (old new : SearchedIndex) (names : List Text) → listing.IsOpen old new names → Spends (suite_of new) names ⊎ (FoundUninstallable (suite_of new) names × Spends (suite_of old) names)
 open_from old new names (inl w) = inl (spends_from new names w)
 open_from old new names (inr b) = inr (cannot_from new names b.0, spends_from old names b.1)
 
 module _ (old new : SearchedIndex) (lines : List ReportLine) (exact : ListsExactly old new lines) where
-  broken_same : (l : ReportLine) → is_broken l ≡ true → In l lines ↔ (IsAsked (suite_of old) (suite_of new) (names_of l) × Can (suite_of old) (names_of l) × Cannot (suite_of new) (names_of l))
+  broken_same : (l : ReportLine) → is_broken l ≡ true → In l lines ↔ (IsAsked (suite_of old) (suite_of new) (names_of l) × FoundInstallable (suite_of old) (names_of l) × FoundUninstallable (suite_of new) (names_of l))
   broken_same (Broken1 a) e = (
     (λ i. let t = (exact.broken_names a).0 i in (both_from old new a t.0, can_from old (a ∷ []) t.1.0, cannot_from new (a ∷ []) t.1.1)),
     (λ t. (exact.broken_names a).1 (both_to old new a t.0, (can_to old (a ∷ []) t.1, cannot_to new (a ∷ []) t.2))),
@@ -187,7 +180,7 @@ module _ (old new : SearchedIndex) (lines : List ReportLine) (exact : ListsExact
   broken_same (Open2 a b) e = absurd (let no : ⊥ = cc in no)
 
   open_same : (l : ReportLine) → is_broken l ≡ false →
-      In l lines ↔ (IsAsked (suite_of old) (suite_of new) (names_of l) × (Spends (suite_of new) (names_of l) ⊎ (Cannot (suite_of new) (names_of l) × Spends (suite_of old) (names_of l))))
+      In l lines ↔ (IsAsked (suite_of old) (suite_of new) (names_of l) × (Spends (suite_of new) (names_of l) ⊎ (FoundUninstallable (suite_of new) (names_of l) × Spends (suite_of old) (names_of l))))
   open_same (Open1 a) e = (
     (λ i. let t = (exact.open_names a).0 i in (both_from old new a t.0, open_from old new (a ∷ []) t.1)),
     (λ t. (exact.open_names a).1 (both_to old new a t.0, open_to old new (a ∷ []) t.1)),

@@ -21,8 +21,8 @@ use Rattle.stanza_reader.specs.declared.fault.StanzaFault.TheVariants.{NoColon, 
 use Rattle.stanza_reader.proofs.CloseLemmas.{texts_numbered}
 use Rattle.stanza_reader.proofs.LineLemmas.{cut_here, cut_later}
 use Rattle.stanza_reader.proofs.ValueLemmas.{trimmed_front, trimmed_back}
-use Rattle.claims.specs.Texts.{Text}
-use Rattle.claims.specs.Control.{groups, fields, key_of, AreDistinct, IsStanza}
+use Rattle.coinst_words.specs.Usage.{Text}
+use Rattle.claims.specs.Control.{stanza_groups, fields, name_key, AreDistinct, IsStanza}
 
 -- a list that is cut has a first piece
 first_piece : {X : Type 0} (p : X → Bool) (xs : List X) → (part : List X) × (parts : List (List X)) × (slice_split p xs ≡ part ∷ parts)
@@ -65,8 +65,8 @@ either_lines (b ∷ bs) = go (is_line_feed b) refl (either_lines bs)
     go false e (inl same) = inl (rw e (ap (onto_first b) same))
     go false e (inr more) = rw e (longer (slice_split is_line_feed bs) refl (lines bs) refl more)
 
-groups_by_lines : (text : Text) → groups text ≡ filter is_group (slice_split is_blank (lines text))
-unfolding groups
+groups_by_lines : (text : Text) → stanza_groups text ≡ filter is_group (slice_split is_blank (lines text))
+unfolding stanza_groups
 groups_by_lines text =
     elim (either_lines text) [
       | inl same ↦ ap (λ all. filter is_group (slice_split is_blank all)) same
@@ -99,7 +99,7 @@ texts_groups (part ∷ parts) = rw (← has_texts part) (go (has_line part) (tex
     go true e = ap (λ more. texts part ∷ more) e
     go false e = e
 
-pub groups_are_theirs : (text : Text) → map texts (reader.groups (numbered 1 (lines text))) ≡ groups text
+pub groups_are_theirs : (text : Text) → map texts (reader.groups (numbered 1 (lines text))) ≡ stanza_groups text
 unfolding reader.groups
 groups_are_theirs text =
     texts_groups (slice_split is_blank_line (numbered 1 (lines text)))
@@ -174,8 +174,8 @@ named_whole line more s =
 -- what is known of the fields of a group's lines behind some names
 record Walked (before : List Text) (group : List Text) : Type 0 where
   named : (field : Text) → In field (fields group) → (list_any is_colon field && is_field_name (name_of field)) ≡ true
-  once : AreDistinct (map key_of (fields group))
-  new : (key : Text) → In key (map key_of (fields group)) → (name : Text) → In name before → lowered name ≢ key
+  once : AreDistinct (map name_key (fields group))
+  new : (key : Text) → In key (map name_key (fields group)) → (name : Text) → In name before → lowered name ≢ key
 
 differs : (names : List Text) (name : Text) → has_name names name ≡ false → (other : Text) → In other names → lowered other ≢ lowered name
 differs names name e other i same =
@@ -186,9 +186,9 @@ differs names name e other i same =
 walked_field : (before : List Text) (line more : Text) (rest : List Text) → IsShaped line → has_name before (name_of line) ≡ false → Walked (name_of line ∷ before) rest
     → (all : List Text) → fields all ≡ (line ++ more) ∷ fields rest → Walked before all
 walked_field before line more rest s new w all is =
-    let key : key_of (line ++ more) ≡ lowered (name_of line) = ap lowered (name_whole line more s.colon) in
-    let first : (name : Text) → In name before → lowered name ≢ key_of (line ++ more) = λ name i same. differs before (name_of line) new name i (same ∙ key) in
-    let keys : map key_of (fields all) ≡ key_of (line ++ more) ∷ map key_of (fields rest) = ap (map key_of) is in
+    let key : name_key (line ++ more) ≡ lowered (name_of line) = ap lowered (name_whole line more s.colon) in
+    let first : (name : Text) → In name before → lowered name ≢ name_key (line ++ more) = λ name i same. differs before (name_of line) new name i (same ∙ key) in
+    let keys : map name_key (fields all) ≡ name_key (line ++ more) ∷ map name_key (fields rest) = ap (map name_key) is in
     record {
       named = λ field i. elim (In_cases (subst (In field) is i)) [
         | inl same ↦ subst (λ f. (list_any is_colon f && is_field_name (name_of f)) ≡ true) (sym same) (named_whole line more s)
@@ -204,8 +204,8 @@ walked_field before line more rest s new w all is =
 walked_on : (before : List Text) (line : Text) (rest all : List Text) → Walked before rest → fields all ≡ fields rest → Walked before all
 walked_on before line rest all w is = record {
   named = λ field i. w.named field (subst (In field) is i);
-  once = subst (λ fs. AreDistinct (map key_of fs)) (sym is) w.once;
-  new = λ k i. w.new k (subst (λ fs. In k (map key_of fs)) is i);
+  once = subst (λ fs. AreDistinct (map name_key fs)) (sym is) w.once;
+  new = λ k i. w.new k (subst (λ fs. In k (map name_key fs)) is i);
 }
 
 walk : (before : List Text) (group : List Line) → first_line_fault group ≡ None → repeat_fault before group ≡ None → Walked before (texts group)

@@ -1,10 +1,9 @@
 -- An index without a fault is an index of the packages that are read of it.
-use Rattle.std.proofs.Common.{◌≡◌, ℕ, zero, suc, ◌+◌, ◌<◌, Bool, true, false, not, cond, ◌&&◌, ◌||◌, List, [], ◌∷◌, ◌++◌, Option, Some, None, Result, Ok, Err, length, take, map, refl, sym, ap, ◌∙◌, subst, inl, inr, ◌⊎◌, arith, length-append, append_assoc}
+use Rattle.std.proofs.Common.{◌≡◌, ℕ, zero, suc, ◌+◌, ◌<◌, Bool, true, false, not, cond, ◌||◌, List, [], ◌∷◌, ◌++◌, Option, Some, None, Result, Ok, Err, length, take, map, refl, sym, ap, ◌∙◌, subst, inl, inr, ◌⊎◌, arith, length-append, append_assoc}
 use Rattle.std.specs.Prelude.{nat_le, codes, unwrap_or, is_some, ◌==◌}
 use Rattle.std.specs.List.{AllZip, filter, list_all, slice_split}
 use Rattle.std.specs.Option.{option_map, option_map_or, option_and_then, option_or}
 use Rattle.std.specs.Str.{bytes_eq}
-use Rattle.std.specs.Ordering.{is_eq}
 use Rattle.std.proofs.Math.Seq.{take-append_seam}
 use Rattle.std.proofs.lemmas.List.{append-nil, length-map, map-append}
 use Rattle.deb_version.specs.Names.{is_name}
@@ -20,7 +19,7 @@ use Rattle.relation_fields.specs.declared.packages.PackageFacts.{PackageFacts}
 use Rattle.relation_fields.proofs.Faults.{field_said}
 use Rattle.stanza_reader.specs.Lines.{Line, lines, numbered}
 use Rattle.stanza_reader.specs.Stanzas as reader
-use Rattle.stanza_reader.specs.Stanzas.{texts, kept_fields, readings, stanza_of}
+use Rattle.stanza_reader.specs.Stanzas.{texts, readings, stanza_of}
 use Rattle.stanza_reader.specs.declared.stanza.FieldKind.{FieldKind}
 use Rattle.stanza_reader.specs.declared.stanza.FieldKind.TheVariants.{Package, Version, Architecture, PreDepends, Depends, Conflicts, Breaks, Provides}
 use Rattle.stanza_reader.specs.declared.stanza.RawField.{RawField}
@@ -28,7 +27,7 @@ use Rattle.stanza_reader.specs.declared.stanza.RawStanza.{RawStanza}
 use Rattle.stanza_reader.specs.declared.fault.StanzaFault.{StanzaFault}
 use Rattle.repo_model.specs.Facts.{facts_of, is_all, is_same_package, architecture_of}
 use Rattle.repo_model.specs.Fields as kinds
-use Rattle.repo_model.specs.Fields.{field_of, field_among}
+use Rattle.repo_model.specs.Fields.{field_of}
 use Rattle.repo_model.specs.FirstFault.{first_some, missing, unless_good, bad_value, unless_said, bad_relation, presence_fault, value_fault, own_fault, duplicate_fault, mixed_fault, is_at_home, home_of, stanza_fault, fault_behind, faults_from, first_fault, stanzas_in, stanzas_of}
 use Rattle.repo_model.specs.Limits.{most_packages}
 use Rattle.repo_model.specs.Stanzas.{stanza_at, no_stanza}
@@ -38,15 +37,14 @@ use Rattle.repo_model.proofs.Accepted as accepting
 use Rattle.repo_model.proofs.Accepted.{AreSingle}
 use Rattle.repo_model.proofs.Steps.{home_of-push}
 use Rattle.repo_model.proofs.WellFormed.{none_of, facts_well_formed}
-use Rattle.claims.specs.Texts.{Text}
-use Rattle.claims.specs.Control.{groups, value_of}
-use Rattle.claims.specs.Spelling.{SpellsAlternatives, SpellsAtom, SpellsProvide}
-use Rattle.claims.specs.Index.{elements, FitsHome, Says, IsIndex}
+use Rattle.coinst_words.specs.Usage.{Text}
+use Rattle.claims.specs.Control.{stanza_groups, field_value}
+use Rattle.claims.specs.Spelling.{WritesAlternatives, WritesAtom, WritesProvide}
+use Rattle.claims.specs.Index.{relation_elements, FitsHome, Says, IndexSays}
 use Rattle.claims.specs.Laws.{IndexesAreOne, IndexesAreRead, SaysTheSame}
 use Rattle.claims.proofs.Control.{groups_are_theirs, group_is_read, IsRead}
 use Rattle.claims.proofs.Spelling.{spellings_are_read}
 use Rattle.claims.proofs.Values.{key, kept_value, value_is}
-use Rattle.claims.proofs.Versions.{orders_are_theirs}
 
 -- lists side by side
 pub zip_map : {A B C D : Type 0} (R : A → B → Type 0) (S : C → D → Type 0) (f : A → C) (g : B → D) (xs : List A) (ys : List B)
@@ -86,7 +84,7 @@ good kind is_good bad s none field at = go (is_good field.value) refl (ap (optio
     go true e h = e
     go false e h = cc (rw e at h)
 
-elements_are : (kind : FieldKind) (group : List Text) (s : RawStanza) → kept_value kind s.fields ≡ value_of (key kind) group → elements (key kind) group ≡ written (kinds.value_of kind s)
+elements_are : (kind : FieldKind) (group : List Text) (s : RawStanza) → kept_value kind s.fields ≡ field_value (key kind) group → relation_elements (key kind) group ≡ written (kinds.value_of kind s)
 elements_are kind group s e = ap (λ v. filter (λ element. not (list_all is_white_byte element)) (slice_split (λ b. b == 44) v)) (ap (λ v. unwrap_or v []) (sym e) ∙ filled (field_of kind s))
   where
     filled : (found : Option RawField) → unwrap_or (option_map (λ f. f.value) found) [] ≡ option_map_or (λ f. f.value) found []
@@ -108,15 +106,15 @@ said one Spells reads kind s = go (field_of kind s)
 
 -- the relations of a stanza
 spelled : {X : Type 0} (one : Text → Option X) (Spells : Text → X → Type 0) → Reads one Spells → (kind : FieldKind) (group : List Text) (s : RawStanza)
-    → kept_value kind s.fields ≡ value_of (key kind) group → bad_relation kind one s ≡ None → AllZip Spells (elements (key kind) group) (said_in one (kinds.value_of kind s))
+    → kept_value kind s.fields ≡ field_value (key kind) group → bad_relation kind one s ≡ None → AllZip Spells (relation_elements (key kind) group) (said_in one (kinds.value_of kind s))
 spelled one Spells reads kind group s e none = subst (λ es. AllZip Spells es (said_in one (kinds.value_of kind s))) (sym (elements_are kind group s e)) (said one Spells reads kind s none)
 
 -- the architecture of a stanza is that of the home
 abbrev pub Local : Option Text → RawStanza → Type 0
 Local home s = (field : RawField) → field_of Architecture s ≡ Some field → (is_all field.value ≡ true) ⊎ (home ≡ Some field.value)
 
-fits : (home : Home) (group : List Text) (s : RawStanza) → kept_value Architecture s.fields ≡ value_of (key Architecture) group → bad_value Architecture is_architecture BadArchitecture s ≡ None → Local home.name s
-    → FitsHome home (unwrap_or (value_of (codes "architecture") group) (codes "all"))
+fits : (home : Home) (group : List Text) (s : RawStanza) → kept_value Architecture s.fields ≡ field_value (key Architecture) group → bad_value Architecture is_architecture BadArchitecture s ≡ None → Local home.name s
+    → FitsHome home (unwrap_or (field_value (codes "architecture") group) (codes "all"))
 fits home group s e none local = subst (λ v. FitsHome home (unwrap_or v (codes "all"))) e (go (field_of Architecture s) refl)
   where
     go : (found : Option RawField) → field_of Architecture s ≡ found → FitsHome home (unwrap_or (option_map (λ f. f.value) found) (codes "all"))
@@ -129,7 +127,7 @@ fits home group s e none local = subst (λ v. FitsHome home (unwrap_or v (codes 
 pub says : (home : Home) (group : List Line) (s : RawStanza) → IsRead group s → own_fault s ≡ None → Local home.name s → Says home (texts group) (facts_of s)
 unfolding presence_fault value_fault facts_of
 says home group s r none local =
-    let value : (kind : FieldKind) → kept_value kind s.fields ≡ value_of (key kind) (texts group) = λ kind. ap (kept_value kind) r.kept ∙ value_is kind group r.shape in
+    let value : (kind : FieldKind) → kept_value kind s.fields ≡ field_value (key kind) (texts group) = λ kind. ap (kept_value kind) r.kept ∙ value_is kind group r.shape in
     let all = none_of (presence_fault s) (value_fault s) none in
     let name_there = none_of (missing Package (MissingPackage s.line) s) _ all.0 in
     let version_there = none_of (missing Version (MissingVersion s.line) s) _ name_there.1 in
@@ -147,13 +145,13 @@ says home group s r none local =
       name = (sym (value Package) ∙ present Package (MissingPackage s.line) s name_there.0, formed.0);
       version = (sym (value Version) ∙ present Version (MissingVersion s.line) s version_there.0, formed.1);
       architecture = fits home (texts group) s (value Architecture) architectures.0 local;
-      needs = zip_append SpellsAlternatives (elements (key PreDepends) (texts group)) (said_in alternatives_of (kinds.value_of PreDepends s)) (elements (key Depends) (texts group)) (said_in alternatives_of (kinds.value_of Depends s))
-          (spelled alternatives_of SpellsAlternatives spellings_are_read.alternatives PreDepends (texts group) s (value PreDepends) pre_depends.0)
-          (spelled alternatives_of SpellsAlternatives spellings_are_read.alternatives Depends (texts group) s (value Depends) depends.0);
-      against = zip_append SpellsAtom (elements (key Conflicts) (texts group)) (said_in atom_of (kinds.value_of Conflicts s)) (elements (key Breaks) (texts group)) (said_in atom_of (kinds.value_of Breaks s))
-          (spelled atom_of SpellsAtom spellings_are_read.atoms Conflicts (texts group) s (value Conflicts) conflicts.0)
-          (spelled atom_of SpellsAtom spellings_are_read.atoms Breaks (texts group) s (value Breaks) breaks.0);
-      provides = spelled provide_of SpellsProvide spellings_are_read.provides Provides (texts group) s (value Provides) provides.0;
+      needs = zip_append WritesAlternatives (relation_elements (key PreDepends) (texts group)) (said_in alternatives_of (kinds.value_of PreDepends s)) (relation_elements (key Depends) (texts group)) (said_in alternatives_of (kinds.value_of Depends s))
+          (spelled alternatives_of WritesAlternatives spellings_are_read.alternatives PreDepends (texts group) s (value PreDepends) pre_depends.0)
+          (spelled alternatives_of WritesAlternatives spellings_are_read.alternatives Depends (texts group) s (value Depends) depends.0);
+      against = zip_append WritesAtom (relation_elements (key Conflicts) (texts group)) (said_in atom_of (kinds.value_of Conflicts s)) (relation_elements (key Breaks) (texts group)) (said_in atom_of (kinds.value_of Breaks s))
+          (spelled atom_of WritesAtom spellings_are_read.atoms Conflicts (texts group) s (value Conflicts) conflicts.0)
+          (spelled atom_of WritesAtom spellings_are_read.atoms Breaks (texts group) s (value Breaks) breaks.0);
+      provides = spelled provide_of WritesProvide spellings_are_read.provides Provides (texts group) s (value Provides) provides.0;
     }
 
 -- stanzas without faults, none with another architecture than the common one
@@ -291,11 +289,10 @@ indexes_are_read text none =
     let pairs : AllZip (λ g s. stanza_of g ≡ Ok s) gs ss = zip_ok gs ss w.read in
     let single : AreSingle (map facts_of ss) = subst (λ all. AreSingle (map facts_of all)) same (accepting.accepted text none).single in
     let home : Home = record { name = home_of ss } in
-    let index : IsIndex text home (map facts_of ss) = record {
+    let index : IndexSays text home (map facts_of ss) = record {
       each = subst (λ all. AllZip (Says home) all (map facts_of ss)) (groups_are_theirs text)
           (zip_map (λ g s. stanza_of g ≡ Ok s) (Says home) texts facts_of gs ss (λ g s i e. says home g s (group_is_read g s e) (w.faultless.own s i) (w.faultless.local s i)) pairs);
-      single = λ m n less l. ap (λ o. bytes_eq (stanza_at (map facts_of ss) n).name (stanza_at (map facts_of ss) m).name && is_eq o) (orders_are_theirs (stanza_at (map facts_of ss) n).version (stanza_at (map facts_of ss) m).version)
-          ∙ single_at (map facts_of ss) single m n less l;
+      single = λ m n less l. single_at (map facts_of ss) single m n less l;
       local = λ a e.
           let it = first_there ss a e in
           let own = own_field it.0 a it.2 in
@@ -309,7 +306,7 @@ indexes_are_read text none =
             ),
           );
     } in
-    subst (λ all. IsIndex text (record { name = home_of all }) (map facts_of all)) (sym same) index
+    subst (λ all. IndexSays text (record { name = home_of all }) (map facts_of all)) (sym same) index
 
 -- what spells two values has one
 zip_one : {X : Type 0} (one : Text → Option X) (Spells : Text → X → Type 0) → Reads one Spells → (texts : List Text) (xs ys : List X) → AllZip Spells texts xs → AllZip Spells texts ys → xs ≡ ys
@@ -331,9 +328,9 @@ pub says_one : (h k : Home) (group : List Text) (s t : PackageFacts) → Says h 
 says_one h k group s t a b = (
   same_text s.name t.name (sym a.name.0 ∙ b.name.0),
   same_text s.version t.version (sym a.version.0 ∙ b.version.0),
-  zip_one alternatives_of SpellsAlternatives spellings_are_read.alternatives (elements (codes "pre-depends") group ++ elements (codes "depends") group) s.needs t.needs a.needs b.needs,
-  zip_one atom_of SpellsAtom spellings_are_read.atoms (elements (codes "conflicts") group ++ elements (codes "breaks") group) s.against t.against a.against b.against,
-  zip_one provide_of SpellsProvide spellings_are_read.provides (elements (codes "provides") group) s.provides t.provides a.provides b.provides,
+  zip_one alternatives_of WritesAlternatives spellings_are_read.alternatives (relation_elements (codes "pre-depends") group ++ relation_elements (codes "depends") group) s.needs t.needs a.needs b.needs,
+  zip_one atom_of WritesAtom spellings_are_read.atoms (relation_elements (codes "conflicts") group ++ relation_elements (codes "breaks") group) s.against t.against a.against b.against,
+  zip_one provide_of WritesProvide spellings_are_read.provides (relation_elements (codes "provides") group) s.provides t.provides a.provides b.provides,
 )
 
 pub zip_both : {A B C : Type 0} (R : A → B → Type 0) (S : A → C → Type 0) (T : B → C → Type 0) → ((x : A) (y : B) (z : C) → R x y → S x z → T y z) → (xs : List A) (ys : List B) (zs : List C) → AllZip R xs ys → AllZip S xs zs → AllZip T ys zs
@@ -353,10 +350,10 @@ zip_left R (w ∷ xs) (y ∷ ys) x z i = elim (In_cases i) [
 ]
 
 -- a home with a name is that of each reading
-home_at : (text : Text) (h k : Home) (ss ts : List PackageFacts) (a : Text) → IsIndex text h ss → IsIndex text k ts → h.name ≡ Some a → k.name ≡ Some a
+home_at : (text : Text) (h k : Home) (ss ts : List PackageFacts) (a : Text) → IndexSays text h ss → IndexSays text k ts → h.name ≡ Some a → k.name ≡ Some a
 home_at text h k ss ts a i j e =
     let it = i.local a e in
-    let s = zip_left (Says k) (groups text) ts it.1.0 j.each it.1.1 in
+    let s = zip_left (Says k) (stanza_groups text) ts it.1.0 j.each it.1.1 in
     elim (subst (λ v. FitsHome k (unwrap_or v (codes "all"))) it.1.2 s.1.architecture) [
       | inl all ↦ absurd (it.0 all)
       | inr same ↦ same.0
@@ -370,5 +367,5 @@ same_home h k f g None (Some b) d e = g b e ∙ sym e
 pub indexes_are_one : IndexesAreOne
 indexes_are_one text h k ss ts i j = (
   let named : Option Text → Home = λ n. record { name = n } in ap named (same_home h k (λ a. home_at text h k ss ts a i j) (λ a. home_at text k h ts ss a j i) h.name k.name refl refl),
-  zip_both (Says h) (Says k) SaysTheSame (λ group s t. says_one h k group s t) (groups text) ss ts i.each j.each,
+  zip_both (Says h) (Says k) SaysTheSame (λ group s t. says_one h k group s t) (stanza_groups text) ss ts i.each j.each,
 )

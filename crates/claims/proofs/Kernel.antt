@@ -1,13 +1,12 @@
 -- The kernel that is computed is the first repository that a round leaves as it is.
-use Rattle.std.proofs.Common.{◌≡◌, ◌≢◌, ℕ, zero, suc, ◌<◌, ◌≤◌, Bool, List, [], ◌∷◌, map, refl, sym, ap, ◌∙◌, subst, arith}
+use Rattle.std.proofs.Common.{◌≡◌, ◌≢◌, ℕ, zero, suc, ◌<◌, ◌≤◌, Bool, List, [], ◌∷◌, map, refl, sym, ap, subst, arith}
 use Rattle.kernel_rounds.proofs.Reached.{kernel_is_lem}
 use Rattle.row_book.specs.Flattening.{flat}
 use Rattle.row_book.specs.Merging.{image}
 use Rattle.row_book.specs.Repository.{Repository}
-use Rattle.row_book.specs.Rounds.{image_after, kernel, kernel_image, round, round_count, rounds}
+use Rattle.row_book.specs.Rounds.{image_after, round, round_count, rounds}
 use Rattle.row_book.specs.Sets.{NumSet}
-use Rattle.row_book.specs.Sound.{SoundRepository}
-use Rattle.claims.specs.Kernel.{IsKernel, at_rest, after}
+use Rattle.claims.specs.Kernel.{SettlesTo, at_rest, after}
 use Rattle.claims.specs.Laws.{KernelsAreKernels, KernelsAreOne}
 
 map_map : {A B C : Type 0} (f : B → C) (g : A → B) (xs : List A) → map f (map g xs) ≡ map (λ x. f (g x)) xs
@@ -20,10 +19,10 @@ map_same (x ∷ xs) = ap (λ more. x ∷ more) (map_same xs)
 
 -- after so many rounds, each of which changes something but for the last
 reached : (limit : ℕ) (hold : Bool) (n : ℕ) (R : Repository) (sets : List NumSet) → ((m : ℕ) → m < n → round limit hold (rounds limit hold R m) ≢ rounds limit hold R m)
-    → round limit hold (rounds limit hold R n) ≡ rounds limit hold R n → IsKernel limit hold R sets (rounds limit hold R n) (map (image_after limit hold R n) sets)
-reached limit hold zero R sets changes fixed = subst (IsKernel limit hold R sets R) (sym (map_same sets)) (at_rest fixed)
+    → round limit hold (rounds limit hold R n) ≡ rounds limit hold R n → SettlesTo limit hold R sets (rounds limit hold R n) (map (image_after limit hold R n) sets)
+reached limit hold zero R sets changes fixed = subst (SettlesTo limit hold R sets R) (sym (map_same sets)) (at_rest fixed)
 reached limit hold (suc n) R sets changes fixed =
-    subst (IsKernel limit hold R sets (rounds limit hold (round limit hold R) n)) (map_map (image_after limit hold (round limit hold R) n) (image (flat limit hold R)) sets)
+    subst (SettlesTo limit hold R sets (rounds limit hold (round limit hold R) n)) (map_map (image_after limit hold (round limit hold R) n) (image (flat limit hold R)) sets)
     (after (changes 0 (omega arith)) (reached limit hold n (round limit hold R) (map (image (flat limit hold R)) sets) (λ m l. changes (suc m) (omega arith)) fixed))
 
 pub kernels_are_kernels : KernelsAreKernels

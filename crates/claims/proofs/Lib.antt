@@ -1,14 +1,13 @@
-pub mod Versions
 pub mod Spelling
 pub mod Control
 pub mod Values
 pub mod Index
 pub mod Written
 pub mod Search
-pub mod Health
 pub mod KernelSentence
 pub mod Words
 pub mod CompareSentence
 pub mod Examples
 pub mod Kernel
 pub mod Acceptance
+pub mod Empty

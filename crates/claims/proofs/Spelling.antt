@@ -10,10 +10,11 @@ use Rattle.relation_fields.specs.declared.relations.Bound.{Bound}
 use Rattle.relation_fields.specs.declared.relations.Atom.{Atom}
 use Rattle.relation_fields.specs.Texts.{is_white}
 use Rattle.relation_fields.specs.Spelling as old
-use Rattle.relation_fields.specs.Spelling.{Reads, exactly_at}
+use Rattle.relation_fields.specs.Spelling.{Reads}
 use Rattle.relation_fields.proofs.Readings.{atoms_read, alternatives_read, provides_read}
-use Rattle.claims.specs.Texts.{Text, IsWhite}
-use Rattle.claims.specs.Spelling.{SpellsBound, SpellsAtom, SpellsAlternatives, SpellsProvide}
+use Rattle.claims.specs.Texts.{IsWhite}
+use Rattle.coinst_words.specs.Usage.{Text}
+use Rattle.claims.specs.Spelling.{WritesRestriction, WritesAtom, WritesAlternatives, WritesProvide}
 use Rattle.claims.specs.Laws.{SpellingsAreRead}
 
 -- three texts of white space, and the three joined
@@ -32,7 +33,7 @@ white_joined a b c first second third =
 joined_end : (a b c d e end : Text) → (a ++ (b ++ (c ++ (d ++ e)))) ++ end ≡ a ++ (b ++ (c ++ (d ++ (e ++ end))))
 joined_end a b c d e end = simp append_assoc
 
-bound_to : (text : Text) (bound : Option Bound) → SpellsBound text bound → old.SpellsRestriction text bound
+bound_to : (text : Text) (bound : Option Bound) → WritesRestriction text bound → old.SpellsRestriction text bound
 bound_to text None s = s
 bound_to text (Some bound) s =
     let white = white_parts s.0 s.2 s.3 s.4 in
@@ -54,7 +55,7 @@ bound_to text (Some bound) s =
       joined = s.7 ∙ ap (λ t. 40 ∷ t) (sym (joined_end s.0 s.1 s.2 bound.version s.3 (41 ∷ [])));
     }
 
-bound_from : (text : Text) (bound : Option Bound) → old.SpellsRestriction text bound → SpellsBound text bound
+bound_from : (text : Text) (bound : Option Bound) → old.SpellsRestriction text bound → WritesRestriction text bound
 bound_from text None s = s
 bound_from text (Some bound) s =
     let i = s.spelled in (
@@ -68,7 +69,7 @@ bound_from text (Some bound) s =
       s.joined ∙ ap (λ t. 40 ∷ (t ++ 41 ∷ [])) i.joined ∙ ap (λ t. 40 ∷ t) (joined_end i.front i.operator i.middle bound.version i.back (41 ∷ [])),
     )
 
-atom_to : (text : Text) (atom : Atom) → SpellsAtom text atom → old.SpellsAtom text atom
+atom_to : (text : Text) (atom : Atom) → WritesAtom text atom → old.SpellsAtom text atom
 atom_to text atom s =
     let white = white_parts s.0 s.2 s.4 s.5 in
     record {
@@ -86,7 +87,7 @@ atom_to text atom s =
       joined = s.9;
     }
 
-atom_from : (text : Text) (atom : Atom) → old.SpellsAtom text atom → SpellsAtom text atom
+atom_from : (text : Text) (atom : Atom) → old.SpellsAtom text atom → WritesAtom text atom
 atom_from text atom s = (
   s.front,
   s.qualifier,
@@ -110,19 +111,19 @@ each_zip R S f (x ∷ xs) (y ∷ ys) z = (f x y z.0, each_zip R S f xs ys z.1)
 reads_same : {X : Type 0} (one : Text → Option X) (R S : Text → X → Type 0) → ((text : Text) (x : X) → R text x → S text x) → ((text : Text) (x : X) → S text x → R text x) → Reads one S → Reads one R
 reads_same one R S to from reads text x = ((λ e. from text x ((reads text x).0 e)), (λ s. (reads text x).1 (to text x s)))
 
-provide_to : (text : Text) (name : Text) (qualifier version : Option Text) → SpellsProvide text (record { name = name; qualifier = qualifier; version = version }) → old.SpellsProvide text (record { name = name; qualifier = qualifier; version = version })
+provide_to : (text : Text) (name : Text) (qualifier version : Option Text) → WritesProvide text (record { name = name; qualifier = qualifier; version = version }) → old.SpellsProvide text (record { name = name; qualifier = qualifier; version = version })
 provide_to text name qualifier None s = atom_to text _ s
 provide_to text name qualifier (Some version) s = atom_to text _ s
 
-provide_from : (text : Text) (name : Text) (qualifier version : Option Text) → old.SpellsProvide text (record { name = name; qualifier = qualifier; version = version }) → SpellsProvide text (record { name = name; qualifier = qualifier; version = version })
+provide_from : (text : Text) (name : Text) (qualifier version : Option Text) → old.SpellsProvide text (record { name = name; qualifier = qualifier; version = version }) → WritesProvide text (record { name = name; qualifier = qualifier; version = version })
 provide_from text name qualifier None s = atom_from text _ s
 provide_from text name qualifier (Some version) s = atom_from text _ s
 
 pub spellings_are_read : SpellingsAreRead
 spellings_are_read = record {
-  atoms = reads_same _ SpellsAtom old.SpellsAtom atom_to atom_from atoms_read;
-  alternatives = reads_same _ SpellsAlternatives old.SpellsAlternatives
-      (λ text atoms. each_zip SpellsAtom old.SpellsAtom atom_to (slice_split (λ b. b == 124) text) atoms)
-      (λ text atoms. each_zip old.SpellsAtom SpellsAtom atom_from (slice_split (λ b. b == 124) text) atoms) alternatives_read;
-  provides = reads_same _ SpellsProvide old.SpellsProvide (λ text p. provide_to text p.name p.qualifier p.version) (λ text p. provide_from text p.name p.qualifier p.version) provides_read;
+  atoms = reads_same _ WritesAtom old.SpellsAtom atom_to atom_from atoms_read;
+  alternatives = reads_same _ WritesAlternatives old.SpellsAlternatives
+      (λ text atoms. each_zip WritesAtom old.SpellsAtom atom_to (slice_split (λ b. b == 124) text) atoms)
+      (λ text atoms. each_zip old.SpellsAtom WritesAtom atom_from (slice_split (λ b. b == 124) text) atoms) alternatives_read;
+  provides = reads_same _ WritesProvide old.SpellsProvide (λ text p. provide_to text p.name p.qualifier p.version) (λ text p. provide_from text p.name p.qualifier p.version) provides_read;
 }

@@ -14,8 +14,8 @@ use Rattle.stanza_reader.specs.declared.stanza.FieldKind.{FieldKind}
 use Rattle.stanza_reader.specs.declared.stanza.FieldKind.TheVariants.{Package, Version, Architecture, PreDepends, Depends, Conflicts, Breaks, Provides, Status}
 use Rattle.stanza_reader.specs.declared.stanza.RawField.{RawField}
 use Rattle.repo_model.specs.Fields.{is_kind, field_among}
-use Rattle.claims.specs.Texts.{Text}
-use Rattle.claims.specs.Control.{fields, key_of, value_of}
+use Rattle.coinst_words.specs.Usage.{Text}
+use Rattle.claims.specs.Control.{fields, name_key, field_value}
 use Rattle.claims.proofs.Control.{cut_append, trimmed_both, shaped, name_whole, none_of}
 
 -- the name of the field of a kind
@@ -93,37 +93,37 @@ kind_is kind name = ap (told kind) (kind_lowered name) ∙ kind_told kind (lower
 abbrev pub kept_value : FieldKind → List RawField → Option Text
 kept_value kind kept = option_map (λ field. field.value) (field_among kind kept)
 
-value_step : (kind : FieldKind) (line : Line) (more : List Line) → list_any is_colon line.text ≡ true → kept_value kind (kept_fields more) ≡ value_of (key kind) (texts more)
-    → (all : List Text) → fields all ≡ (line.text ++ continued (texts more)) ∷ fields (texts more) → kept_value kind (cons_option (kept_field line more) (kept_fields more)) ≡ value_of (key kind) all
+value_step : (kind : FieldKind) (line : Line) (more : List Line) → list_any is_colon line.text ≡ true → kept_value kind (kept_fields more) ≡ field_value (key kind) (texts more)
+    → (all : List Text) → fields all ≡ (line.text ++ continued (texts more)) ∷ fields (texts more) → kept_value kind (cons_option (kept_field line more) (kept_fields more)) ≡ field_value (key kind) all
 value_step kind line more colon later all is = go (kind_of (name_of line.text)) refl
   where
-    named : (found : Option FieldKind) → kind_of (name_of line.text) ≡ found → bytes_eq (key_of (line.text ++ continued (texts more))) (key kind) ≡ option_map_or (is_kind kind) found false
+    named : (found : Option FieldKind) → kind_of (name_of line.text) ≡ found → bytes_eq (name_key (line.text ++ continued (texts more))) (key kind) ≡ option_map_or (is_kind kind) found false
     named found e = ap (λ name. bytes_eq (lowered name) (key kind)) (name_whole line.text (continued (texts more)) colon) ∙ sym (kind_is kind (name_of line.text)) ∙ ap (λ f. option_map_or (is_kind kind) f false) e
 
     value : trimmed (behind_colon line.text ++ continued (texts more)) ≡ trim_both (behind_colon (line.text ++ continued (texts more)))
     value = trimmed_both (behind_colon line.text ++ continued (texts more)) ∙ ap trim_both (sym (cut_append is_colon line.text (continued (texts more)) colon).1)
 
-    first : value_of (key kind) all ≡ option_map (λ field. trim_both (behind_colon field)) (cond (bytes_eq (key_of (line.text ++ continued (texts more))) (key kind)) (Some (line.text ++ continued (texts more))) (find (λ field. bytes_eq (key_of field) (key kind)) (fields (texts more))))
-    first = ap (λ fs. option_map (λ field. trim_both (behind_colon field)) (find (λ field. bytes_eq (key_of field) (key kind)) fs)) is
+    first : field_value (key kind) all ≡ option_map (λ field. trim_both (behind_colon field)) (cond (bytes_eq (name_key (line.text ++ continued (texts more))) (key kind)) (Some (line.text ++ continued (texts more))) (find (λ field. bytes_eq (name_key field) (key kind)) (fields (texts more))))
+    first = ap (λ fs. option_map (λ field. trim_both (behind_colon field)) (find (λ field. bytes_eq (name_key field) (key kind)) fs)) is
 
-    found_field : (b : Bool) → (other : FieldKind) → is_kind kind other ≡ b → bytes_eq (key_of (line.text ++ continued (texts more))) (key kind) ≡ b
-        → kept_value kind (record { kind = other; line = line.number; value = trimmed (behind_colon line.text ++ continued (texts more)) } ∷ kept_fields more) ≡ value_of (key kind) all
-    found_field true other at same = rw at (ap Some value ∙ sym (first ∙ ap (λ b. option_map (λ field. trim_both (behind_colon field)) (cond b (Some (line.text ++ continued (texts more))) (find (λ field. bytes_eq (key_of field) (key kind)) (fields (texts more))))) same))
-    found_field false other at same = rw at (later ∙ sym (first ∙ ap (λ b. option_map (λ field. trim_both (behind_colon field)) (cond b (Some (line.text ++ continued (texts more))) (find (λ field. bytes_eq (key_of field) (key kind)) (fields (texts more))))) same))
+    found_field : (b : Bool) → (other : FieldKind) → is_kind kind other ≡ b → bytes_eq (name_key (line.text ++ continued (texts more))) (key kind) ≡ b
+        → kept_value kind (record { kind = other; line = line.number; value = trimmed (behind_colon line.text ++ continued (texts more)) } ∷ kept_fields more) ≡ field_value (key kind) all
+    found_field true other at same = rw at (ap Some value ∙ sym (first ∙ ap (λ b. option_map (λ field. trim_both (behind_colon field)) (cond b (Some (line.text ++ continued (texts more))) (find (λ field. bytes_eq (name_key field) (key kind)) (fields (texts more))))) same))
+    found_field false other at same = rw at (later ∙ sym (first ∙ ap (λ b. option_map (λ field. trim_both (behind_colon field)) (cond b (Some (line.text ++ continued (texts more))) (find (λ field. bytes_eq (name_key field) (key kind)) (fields (texts more))))) same))
 
     go : (found : Option FieldKind) → kind_of (name_of line.text) ≡ found
-        → kept_value kind (cons_option (option_map (λ other. record { kind = other; line = line.number; value = trimmed (behind_colon line.text ++ continued (texts more)) }) (kind_of (name_of line.text))) (kept_fields more)) ≡ value_of (key kind) all
-    go None e = rw e (later ∙ sym (first ∙ ap (λ b. option_map (λ field. trim_both (behind_colon field)) (cond b (Some (line.text ++ continued (texts more))) (find (λ field. bytes_eq (key_of field) (key kind)) (fields (texts more))))) (named None e)))
+        → kept_value kind (cons_option (option_map (λ other. record { kind = other; line = line.number; value = trimmed (behind_colon line.text ++ continued (texts more)) }) (kind_of (name_of line.text))) (kept_fields more)) ≡ field_value (key kind) all
+    go None e = rw e (later ∙ sym (first ∙ ap (λ b. option_map (λ field. trim_both (behind_colon field)) (cond b (Some (line.text ++ continued (texts more))) (find (λ field. bytes_eq (name_key field) (key kind)) (fields (texts more))))) (named None e)))
     go (Some other) e = rw e (found_field (is_kind kind other) other refl (named (Some other) e))
 
-pub value_is : (kind : FieldKind) (group : List Line) → first_line_fault group ≡ None → kept_value kind (kept_fields group) ≡ value_of (key kind) (texts group)
+pub value_is : (kind : FieldKind) (group : List Line) → first_line_fault group ≡ None → kept_value kind (kept_fields group) ≡ field_value (key kind) (texts group)
 value_is kind [] shape = refl
 value_is kind (line ∷ more) shape = go (is_continuation line.text) refl (value_is kind more)
   where
     both : (line_fault line ≡ None) × (first_line_fault more ≡ None)
     both = none_of (line_fault line) (first_line_fault more) shape
 
-    go : (b : Bool) → is_continuation line.text ≡ b → (first_line_fault more ≡ None → kept_value kind (kept_fields more) ≡ value_of (key kind) (texts more)) → kept_value kind (kept_fields (line ∷ more)) ≡ value_of (key kind) (texts (line ∷ more))
+    go : (b : Bool) → is_continuation line.text ≡ b → (first_line_fault more ≡ None → kept_value kind (kept_fields more) ≡ field_value (key kind) (texts more)) → kept_value kind (kept_fields (line ∷ more)) ≡ field_value (key kind) (texts (line ∷ more))
     go true e later = rw e (later both.1)
     go false e later =
         ap (kept_value kind) (let kept : kept_fields (line ∷ more) ≡ cons_option (kept_field line more) (kept_fields more) = rw e refl in kept)

@@ -1,15 +1,15 @@
 -- Which jobs the words of the two commands ask for.
 use Rattle.std.proofs.Common.{◌≡◌, ℕ, ◌+◌, ◌^◌, ◌<◌, ◌≤◌, Bool, true, false, cond, ◌&&◌, List, [], ◌∷◌, ◌++◌, Option, Some, None, length, refl, sym, ap, ◌∙◌, subst, inl, inr, ◌⊎◌, arith, length-append, lit<}
 use Rattle.std.specs.Prelude.{codes, is_some, unwrap_or, option_and_then, option_map}
-use Rattle.std.specs.Fmt.{decimal}
+use Rattle.std.specs.Fmt.{decimal, digits}
 use Rattle.std.specs.Str.Parse.{digits_value}
 use Rattle.std.proofs.lemmas.Fmt.{decimal_is_IsNumeral}
 use Rattle.coinst_words.specs.Usage.{Usage, Said, Meaning, ends, flag, gives, asks, plain, refused, kernel_usage, compare_usage, nothing_said, meaning_of, value_of, give, say, read_word, read}
 use Rattle.coinst_words.specs.Jobs.{is_path, is_number, is_within, number_or, clause_limit_of, budget_of, is_on, kernel_job, two_paths, compare_job, job_of_said}
 use Rattle.coinst_words.specs.declared.job.Job.{Job}
 use Rattle.coinst_words.specs.declared.job.Job.TheVariants.{Kernel, Compare}
-use Rattle.claims.specs.Texts.{Text}
-use Rattle.claims.specs.Laws.{KernelWordsAsk, CompareWordsAsk}
+use Rattle.coinst_words.specs.Usage.{Text}
+use Rattle.claims.specs.Laws.{KernelWordsAsk, CompareWordsAsk, WordsAreTaken}
 
 -- what is read behind a word has no more ordinary words than there are
 abbrev Few : Said → List Text → (Said → Option Text → Option Said) → Type 0
@@ -221,3 +221,7 @@ compare_words_ask (Some b) (Some n) true old new job low small e =
     let w = word_waits compare_usage (decimal n) (said_with ((codes "budget", decimal b) ∷ []) []) (codes "clause-limit") (codes "--hold" ∷ old ∷ new ∷ []) a.said v in
     compare_made old new true (budget_of (Some (decimal b))) (clause_limit_of (Some (decimal n))) b n job (λ m h. number_told 1000000 10000 (Some b) m low h) (λ m h. number_told 1000000 65536 (Some n) m small h)
     (compare_tail ((codes "budget", decimal b) ∷ (codes "clause-limit", decimal n) ∷ (codes "hold", codes "true") ∷ []) old new a.said job w a.asks_for)
+
+pub words_are_taken : WordsAreTaken
+unfolding read digits
+words_are_taken = record { kernel = refl; kernel_with_options = refl; compare = refl; compare_with_options = refl }

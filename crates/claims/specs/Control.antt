@@ -8,11 +8,11 @@ use Rattle.listed.specs.Lists.{In}
 use Rattle.listed.specs.Texts.{trim_both}
 use Rattle.stanza_reader.specs.Fields.{behind_colon, continued, is_field_name, lowered, name_of}
 use Rattle.stanza_reader.specs.Lines.{is_blank, is_continuation, is_line_feed}
-use Rattle.claims.specs.Texts.{Text}
+use Rattle.coinst_words.specs.Usage.{Text}
 
 -- the groups of lines that stand together, between the blank ones
-unfoldable pub groups : Text → List (List Text)
-groups text = filter (λ group. nat_lt 0 (length group)) (slice_split is_blank (slice_split is_line_feed text))
+unfoldable pub stanza_groups : Text → List (List Text)
+stanza_groups text = filter (λ group. nat_lt 0 (length group)) (slice_split is_blank (slice_split is_line_feed text))
 
 -- the fields of a group: each line that does not go on with another, and behind it those that go on with it
 abbrev pub fields : List Text → List Text
@@ -20,12 +20,12 @@ fields [] = []
 fields (line ∷ more) = if is_continuation line then fields more else (line ++ continued more) ∷ fields more
 
 -- the name of a field in lower case, since names are compared so
-abbrev pub key_of : Text → Text
-key_of field = lowered (name_of field)
+abbrev pub name_key : Text → Text
+name_key field = lowered (name_of field)
 
 -- the value of the field of a name, where the group has one: what stands behind the colon, without white space at its ends
-abbrev pub value_of : Text → List Text → Option Text
-value_of key group = option_map (λ field. trim_both (behind_colon field)) (find (λ field. bytes_eq (key_of field) key) (fields group))
+abbrev pub field_value : Text → List Text → Option Text
+field_value key group = option_map (λ field. trim_both (behind_colon field)) (find (λ field. bytes_eq (name_key field) key) (fields group))
 
 -- no text of the list stands in it again
 abbrev pub AreDistinct : List Text → Type 0
@@ -36,4 +36,4 @@ AreDistinct (t ∷ ts) = ((u : Text) → In u ts → t ≢ u) × AreDistinct ts
 pub record IsStanza (group : List Text) : Type 0 where
   pub first : is_continuation (slice_index_or group 0 []) ≡ false
   pub named : (field : Text) → In field (fields group) → (list_any is_colon field && is_field_name (name_of field)) ≡ true
-  pub once : AreDistinct (map key_of (fields group))
+  pub once : AreDistinct (map name_key (fields group))

@@ -5,20 +5,20 @@ use Rattle.std.specs.Ordering.{is_eq}
 use Rattle.std.specs.Str.{bytes_eq}
 use Rattle.deb_version.specs.Grammar.{is_version}
 use Rattle.deb_version.specs.Names.{is_name}
+use Rattle.deb_version.specs.Order.{version_order}
 use Rattle.listed.specs.Lists.{In}
 use Rattle.listed.specs.Texts.{is_white_byte}
 use Rattle.relation_fields.specs.Grammar.{is_architecture}
 use Rattle.relation_fields.specs.declared.packages.Home.{Home}
 use Rattle.relation_fields.specs.declared.packages.PackageFacts.{PackageFacts}
 use Rattle.repo_model.specs.Stanzas.{stanza_at}
-use Rattle.claims.specs.Control.{groups, value_of, IsStanza}
-use Rattle.claims.specs.Spelling.{SpellsAlternatives, SpellsAtom, SpellsProvide}
-use Rattle.claims.specs.Texts.{Text}
-use Rattle.claims.specs.Versions.{version_order}
+use Rattle.claims.specs.Control.{stanza_groups, field_value, IsStanza}
+use Rattle.claims.specs.Spelling.{WritesAlternatives, WritesAtom, WritesProvide}
+use Rattle.coinst_words.specs.Usage.{Text}
 
 -- the elements of a relation field: what stands between its commas, 44, but for white space alone; a missing field has none
-abbrev pub elements : Text → List Text → List Text
-elements key group = filter (λ element. not (list_all is_white_byte element)) (slice_split (λ b. b == 44) (unwrap_or (value_of key group) []))
+abbrev pub relation_elements : Text → List Text → List Text
+relation_elements key group = filter (λ element. not (list_all is_white_byte element)) (slice_split (λ b. b == 44) (unwrap_or (field_value key group) []))
 
 -- one package: the same name, and versions that compare as equal
 abbrev pub is_one_package : Text → Text → Text → Text → Bool
@@ -31,15 +31,15 @@ FitsHome home architecture = (architecture ≡ codes "all") ⊎ ((home.name ≡ 
 -- the group is a stanza that says this of its package; where it names no architecture, that is `all`
 pub record Says (home : Home) (group : List Text) (facts : PackageFacts) : Type 0 where
   pub stanza : IsStanza group
-  pub name : (value_of (codes "package") group ≡ Some facts.name) × (is_name facts.name ≡ true)
-  pub version : (value_of (codes "version") group ≡ Some facts.version) × (is_version facts.version ≡ true)
-  pub architecture : FitsHome home (unwrap_or (value_of (codes "architecture") group) (codes "all"))
-  pub needs : AllZip SpellsAlternatives (elements (codes "pre-depends") group ++ elements (codes "depends") group) facts.needs
-  pub against : AllZip SpellsAtom (elements (codes "conflicts") group ++ elements (codes "breaks") group) facts.against
-  pub provides : AllZip SpellsProvide (elements (codes "provides") group) facts.provides
+  pub name : (field_value (codes "package") group ≡ Some facts.name) × (is_name facts.name ≡ true)
+  pub version : (field_value (codes "version") group ≡ Some facts.version) × (is_version facts.version ≡ true)
+  pub architecture : FitsHome home (unwrap_or (field_value (codes "architecture") group) (codes "all"))
+  pub needs : AllZip WritesAlternatives (relation_elements (codes "pre-depends") group ++ relation_elements (codes "depends") group) facts.needs
+  pub against : AllZip WritesAtom (relation_elements (codes "conflicts") group ++ relation_elements (codes "breaks") group) facts.against
+  pub provides : AllZip WritesProvide (relation_elements (codes "provides") group) facts.provides
 
 -- the text is an index of these packages, none of which stands there twice, and the home is that of a stanza, where it has a name
-pub record IsIndex (text : Text) (home : Home) (stanzas : List PackageFacts) : Type 0 where
-  pub each : AllZip (Says home) (groups text) stanzas
+pub record IndexSays (text : Text) (home : Home) (stanzas : List PackageFacts) : Type 0 where
+  pub each : AllZip (Says home) (stanza_groups text) stanzas
   pub single : (m n : ℕ) → m < n → n < length stanzas → is_one_package (stanza_at stanzas n).name (stanza_at stanzas n).version (stanza_at stanzas m).name (stanza_at stanzas m).version ≡ false
-  pub local : (a : Text) → home.name ≡ Some a → (a ≢ codes "all") × ((group : List Text) × In group (groups text) × (value_of (codes "architecture") group ≡ Some a))
+  pub local : (a : Text) → home.name ≡ Some a → (a ≢ codes "all") × ((group : List Text) × In group (stanza_groups text) × (field_value (codes "architecture") group ≡ Some a))

@@ -9,23 +9,24 @@ use Rattle.relation_fields.specs.declared.relations.Bound.{Bound}
 use Rattle.relation_fields.specs.declared.relations.Atom.{Atom}
 use Rattle.relation_fields.specs.declared.relations.Provide.{Provide}
 use Rattle.relation_fields.specs.Spelling.{SpellsOp, SpellsQualifier}
-use Rattle.claims.specs.Texts.{Text, IsWhite}
+use Rattle.claims.specs.Texts.{IsWhite}
+use Rattle.coinst_words.specs.Usage.{Text}
 
 -- a restriction, or nothing: an operator and a version in parentheses, with white space around each
-abbrev pub SpellsBound : Text → Option Bound → Type 0
-SpellsBound text None = text ≡ []
-SpellsBound text (Some bound) = (front operator middle back : Text) × IsWhite (front ++ (middle ++ back)) × SpellsOp operator bound.op × (is_version bound.version ≡ true) ×
+abbrev pub WritesRestriction : Text → Option Bound → Type 0
+WritesRestriction text None = text ≡ []
+WritesRestriction text (Some bound) = (front operator middle back : Text) × IsWhite (front ++ (middle ++ back)) × SpellsOp operator bound.op × (is_version bound.version ≡ true) ×
     (text ≡ codes "(" ++ (front ++ (operator ++ (middle ++ (bound.version ++ (back ++ codes ")"))))))
 
 -- a package name, a qualifier right behind it, and a restriction, with white space before, between and behind
-abbrev pub SpellsAtom : Text → Atom → Type 0
-SpellsAtom text atom = (front qualifier middle restriction back : Text) × IsWhite (front ++ (middle ++ back)) × (is_name atom.name ≡ true) ×
-    SpellsQualifier qualifier atom.qualifier × SpellsBound restriction atom.bound × (text ≡ front ++ (atom.name ++ (qualifier ++ (middle ++ (restriction ++ back)))))
+abbrev pub WritesAtom : Text → Atom → Type 0
+WritesAtom text atom = (front qualifier middle restriction back : Text) × IsWhite (front ++ (middle ++ back)) × (is_name atom.name ≡ true) ×
+    SpellsQualifier qualifier atom.qualifier × WritesRestriction restriction atom.bound × (text ≡ front ++ (atom.name ++ (qualifier ++ (middle ++ (restriction ++ back)))))
 
 -- atoms with bars, 124, between them
-abbrev pub SpellsAlternatives : Text → List Atom → Type 0
-SpellsAlternatives text atoms = AllZip SpellsAtom (slice_split (λ b. b == 124) text) atoms
+abbrev pub WritesAlternatives : Text → List Atom → Type 0
+WritesAlternatives text atoms = AllZip WritesAtom (slice_split (λ b. b == 124) text) atoms
 
 -- an atom whose operator, if it has one, is `=`
-abbrev pub SpellsProvide : Text → Provide → Type 0
-SpellsProvide text provide = SpellsAtom text (record { name = provide.name; qualifier = provide.qualifier; bound = option_map (λ version. record { op = Exactly; version = version }) provide.version })
+abbrev pub WritesProvide : Text → Provide → Type 0
+WritesProvide text provide = WritesAtom text (record { name = provide.name; qualifier = provide.qualifier; bound = option_map (λ version. record { op = Exactly; version = version }) provide.version })

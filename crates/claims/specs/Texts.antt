@@ -1,10 +1,8 @@
--- Texts as bytes.
-use Rattle.std.specs.Prelude.{◌≡◌, ℕ, true, List}
+-- White space.
+use Rattle.std.specs.Prelude.{◌≡◌, true}
 use Rattle.std.specs.List.{list_all}
+use Rattle.coinst_words.specs.Usage.{Text}
 use Rattle.listed.specs.Texts.{is_white_byte}
-
-abbrev pub Text : Type 0
-Text = List ℕ
 
 -- nothing but spaces, tabs and line feeds
 abbrev pub IsWhite : Text → Type 0

@@ -2,7 +2,7 @@
 use Rattle.std.specs.Prelude.{ℕ, Bool, List, [], ◌∷◌, ◌++◌, Option, codes, if◌then◌else◌}
 use Rattle.std.specs.Fmt.{decimal}
 use Rattle.std.specs.Option.{option_map_or}
-use Rattle.claims.specs.Texts.{Text}
+use Rattle.coinst_words.specs.Usage.{Text}
 
 -- an option with a number, or nothing
 abbrev pub number_words : Text → Option ℕ → List Text

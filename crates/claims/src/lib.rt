@@ -1,22 +1,12 @@
-//! What the two sentences rest on, in definitions short enough to read aloud, each tied by a law to what the code keeps: the functions do
-//! nothing, the contract of each is one law.
+//! The two sentences, in specs/Sentences.antt. What they rest on is said here only where the code says it as a function, or at greater length,
+//! and then under a name of its own; laws tie the two. The functions do nothing, the contract of each is one law.
 #![tactic(auto)]
 
-ghost use Rattle.claims.specs.Laws.{OrdersAreTheirs, SpellingsAreRead, FormsAreTheirs, TreesAreSearches, SearchesAreOne, IndexesAreRead, IndexesAreOne, IndexesAreAccepted, KernelsAreRead, KernelsAreReadOnce, HealthIsTheirs, RepositoriesAreTheirs, KernelsAreKernels, KernelsAreOne, KernelsMeanThis, KernelWordsAsk, CompareWordsAsk, ComparisonsMeanThis};
+ghost use Rattle.claims.specs.Laws.{SpellingsAreRead, TreesAreSearches, SearchesAreOne, IndexesAreRead, IndexesAreOne, IndexesAreAccepted, KernelsAreRead, KernelsAreReadOnce, KernelsAreKernels, KernelsAreOne, KernelsMeanThis, KernelWordsAsk, CompareWordsAsk, WordsAreTaken, ComparisonsMeanThis, EmptyIndexes};
 
-/// The order that takes the fronts off compares any two versions as the order by numbered pieces does.
-pub fn orders_are_theirs()
-    ensures { OrdersAreTheirs }
-{}
-
-/// What is read of a relation is what it is one way of writing, in sums of texts in place of records.
+/// What is read of a relation is what it is one way of writing.
 pub fn spellings_are_read()
     ensures { SpellingsAreRead }
-{}
-
-/// The short form of a repository and goals has the sentences that the search is made in.
-pub fn forms_are_theirs()
-    ensures { FormsAreTheirs }
 {}
 
 /// A search tree tells whether its search finds something, and how many leaves fail before.
@@ -44,24 +34,14 @@ pub fn indexes_are_one()
     ensures { IndexesAreOne }
 {}
 
-/// A text is read as a kernel by the grammar of lines exactly where it is the text that is written for the kernel.
+/// A text stands for a kernel by its blocks of lines exactly where it is read as that kernel line by line.
 pub fn kernels_are_read()
     ensures { KernelsAreRead }
 {}
 
-/// A text is read as one kernel.
+/// A text stands for one kernel.
 pub fn kernels_are_read_once()
     ensures { KernelsAreReadOnce }
-{}
-
-/// A set of stanzas is healthy in the short words exactly where it is in those that the code keeps.
-pub fn health_is_theirs()
-    ensures { HealthIsTheirs }
-{}
-
-/// The repository of an index in the short words is the one that the code keeps.
-pub fn repositories_are_theirs()
-    ensures { RepositoriesAreTheirs }
 {}
 
 /// The kernel that is computed is the first repository that a round leaves as it is.
@@ -89,7 +69,17 @@ pub fn compare_words_ask()
     ensures { CompareWordsAsk }
 {}
 
+/// Some words of a kernel and of a comparison are taken.
+pub fn words_are_taken()
+    ensures { WordsAreTaken }
+{}
+
 /// What the code keeps of a comparison is the second sentence.
 pub fn comparisons_mean_this()
     ensures { ComparisonsMeanThis }
+{}
+
+/// The sentences are true of empty indexes, and the first is not of a kernel that lacks the package of its index.
+pub fn empty_indexes()
+    ensures { EmptyIndexes }
 {}

@@ -1,3 +1,4 @@
+-- for the bodies of this crate alone
 -- Rows that packages can be taken out of, each as the ids of its clauses.
 use Rattle.std.specs.Prelude.{◌≡◌, ℕ, List, map}
 use Rattle.clause_pool.specs.Interned.{Interned, clauses_at}

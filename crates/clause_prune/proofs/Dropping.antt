@@ -11,7 +11,7 @@ use Rattle.row_book.specs.Flattening.{packages}
 use Rattle.row_book.specs.Sound.{TidyRepository}
 use Rattle.row_book.specs.Facing.{sides}
 use Rattle.row_book.specs.Rounds.{weigh}
-use Rattle.row_book.specs.Pruning.{emptied, with_clauses, is_dead, with_empty_clause, others, without_clause, serves, is_forced, is_harmless, is_met, is_idle, is_dropped, prune_clause, prune_clauses, prune_package, prune_over, prune, lift_idle}
+use Rattle.row_book.specs.Pruning.{made_dead, with_clauses, is_dead, with_empty_clause, others, without_clause, serves, is_forced, is_harmless, is_met, is_idle, is_dropped, prune_clause, prune_clauses, prune_package, prune_over, prune, lift_idle}
 use Rattle.row_book.proofs.Clauses.{inside_at}
 use Rattle.row_book.proofs.Lists.{In_cases, In_none, has_In, all_at, any_cases, any_hit, hit_any}
 use Rattle.row_book.proofs.Order.{order_filter}
@@ -270,7 +270,7 @@ clauses_step (d ∷ ds) R p t range =
 pub package_step : (R : Repository) (p : ℕ) → TidyRepository R → Step R (prune_package R p).left
 package_step R p t = pick (is_dead R p) refl
   where
-    pick : (b : Bool) → is_dead R p ≡ b → Step R (cond b (emptied R p) (prune_clauses R p (clauses_of R p))).left
+    pick : (b : Bool) → is_dead R p ≡ b → Step R (cond b (made_dead R p) (prune_clauses R p (clauses_of R p))).left
     pick true e = record {
       keeps = healthy_coinst R (with_empty_clause R p) (λ I. dead_keeps_lem R p I e);
       tidy = tidy_row R p ([] ∷ []) t (inr (λ c i. elim (In_cases i) [ inl g ↦ g | inr j ↦ absurd (In_none j) ]));

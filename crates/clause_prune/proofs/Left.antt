@@ -13,7 +13,7 @@ use Rattle.row_book.specs.Clauses.{InOrder}
 use Rattle.row_book.proofs.Lists.{filter_cases}
 use Rattle.row_book.proofs.Order.{order_filter}
 use Rattle.row_book.specs.Repository.{Repository, clauses_of}
-use Rattle.row_book.specs.Pruning.{emptied, IdleClause, prune_clause, prune_clauses, is_forced, is_idle, others, is_dead, prune_package, step_by, with_clauses, without_clause}
+use Rattle.row_book.specs.Pruning.{made_dead, IdleClause, prune_clause, prune_clauses, is_forced, is_idle, others, is_dead, prune_package, step_by, with_clauses, without_clause}
 use Rattle.row_book.specs.Rounds.{IdleStep, RoundStep}
 use Rattle.row_book.proofs.Repositories.{repository_same}
 use Rattle.row_book.specs.Facing.{against_in}
@@ -125,19 +125,19 @@ module _ (pool : Interned) (rows : List ℕ) (p : ℕ) (ids : List ℕ) (table :
   dead_is = ap (λ cs. face (against_in table) ((p ∷ []) ∷ cs) ((p ∷ []) ∷ cs)) (sym own_clauses)
 
   pub dead_package : (cs : List (List ℕ)) → is_dead R0 p ≡ true → cs ≡ [] ∷ [] → (prune_package R0 p).left ≡ with_clauses R0 p cs
-  dead_package cs e f = ap (λ b. (cond b (emptied R0 p) (prune_clauses R0 p (clauses_of R0 p))).left) e ∙ ap (with_clauses R0 p) (sym f)
+  dead_package cs e f = ap (λ b. (cond b (made_dead R0 p) (prune_clauses R0 p (clauses_of R0 p))).left) e ∙ ap (with_clauses R0 p) (sym f)
 
   pub live_package : (left : List ℕ) (cs : List (List ℕ)) → is_dead R0 p ≡ false → with_ids pool rows p left table ≡ (prune_clauses (with_ids pool rows p ids table) p (clauses_at pool ids)).left → cs ≡ clauses_at pool left →
       (prune_package R0 p).left ≡ with_clauses R0 p cs
   live_package left cs e f g =
-      ap (λ b. (cond b (emptied R0 p) (prune_clauses R0 p (clauses_of R0 p))).left) e
+      ap (λ b. (cond b (made_dead R0 p) (prune_clauses R0 p (clauses_of R0 p))).left) e
       ∙ ap₂ (λ F c. (prune_clauses F p c).left) (sym start_is) own_clauses ∙ sym f ∙ ap (with_clauses R0 p) (sym g)
 
   pub dead_steps : is_dead R0 p ≡ true → (prune_package R0 p).steps ≡ []
-  dead_steps e = ap (λ b. (cond b (emptied R0 p) (prune_clauses R0 p (clauses_of R0 p))).steps) e
+  dead_steps e = ap (λ b. (cond b (made_dead R0 p) (prune_clauses R0 p (clauses_of R0 p))).steps) e
 
   pub live_steps : is_dead R0 p ≡ false → (prune_package R0 p).steps ≡ (prune_clauses (with_ids pool rows p ids table) p (clauses_at pool ids)).steps
-  live_steps e = ap (λ b. (cond b (emptied R0 p) (prune_clauses R0 p (clauses_of R0 p))).steps) e ∙ ap₂ (λ F c. (prune_clauses F p c).steps) (sym start_is) own_clauses
+  live_steps e = ap (λ b. (cond b (made_dead R0 p) (prune_clauses R0 p (clauses_of R0 p))).steps) e ∙ ap₂ (λ F c. (prune_clauses F p c).steps) (sym start_is) own_clauses
 
 pub on_ok : {A E : Type 0} {P : Type 0} (r : Result A E) → P → OnOk r P
 on_ok (Ok x) p = p

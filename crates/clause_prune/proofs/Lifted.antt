@@ -6,7 +6,7 @@ use Rattle.row_book.specs.Sets.{NumSet, In, here, there}
 use Rattle.row_book.specs.Repository.{Repository, Healthy, clauses_of}
 use Rattle.row_book.specs.Flattening.{packages}
 use Rattle.row_book.specs.Sound.{TidyRepository}
-use Rattle.row_book.specs.Pruning.{emptied, is_dead, is_forced, is_idle, without_clause, prune_clause, prune_clauses, prune_package, prune_over, prune, lift_idle, IdleClause, step_by, idle_steps, lift_all}
+use Rattle.row_book.specs.Pruning.{made_dead, is_dead, is_forced, is_idle, without_clause, prune_clause, prune_clauses, prune_package, prune_over, prune, lift_idle, IdleClause, step_by, idle_steps, lift_all}
 use Rattle.row_book.proofs.Lists.{find_some}
 use Rattle.clause_prune.specs.Laws.{PruneLifts}
 use Rattle.clause_prune.proofs.Dropping.{Step, dead_keeps_lem, forced_keeps_lem, idle_lifts_ranged, clause_step, package_step}
@@ -48,7 +48,7 @@ clauses_lift (d ∷ ds) R p I t range h =
 package_lift : (R : Repository) (p : ℕ) (I : NumSet) → TidyRepository R → Healthy (prune_package R p).left I → Healthy R (lift_all I (prune_package R p).steps)
 package_lift R p I t h = pick (is_dead R p) refl h
   where
-    pick : (b : Bool) → is_dead R p ≡ b → Healthy (cond b (emptied R p) (prune_clauses R p (clauses_of R p))).left I → Healthy R (lift_all I (cond b (emptied R p) (prune_clauses R p (clauses_of R p))).steps)
+    pick : (b : Bool) → is_dead R p ≡ b → Healthy (cond b (made_dead R p) (prune_clauses R p (clauses_of R p))).left I → Healthy R (lift_all I (cond b (made_dead R p) (prune_clauses R p (clauses_of R p))).steps)
     pick true e g = (dead_keeps_lem R p I e).1 g
     pick false e g = clauses_lift (clauses_of R p) R p I t (λ d i. (t.sound.clauses p d i).1) g
 

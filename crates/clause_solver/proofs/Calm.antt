@@ -14,7 +14,7 @@ use Rattle.std.proofs.lemmas.List.FromFn.{get_or-map-range_with_len, length-map-
 use Rattle.listed.proofs.Lists.{contains_in, in_contains}
 use Rattle.row_book.proofs.Lists.{all_at}
 use Rattle.search_terms.specs.declared.literals.Literal.{Literal}
-use Rattle.search_terms.specs.Closure.{literal, negation, is_same, forces, is_refuted, IsMet, IsClosed, IsClosure, InClosure, Clashes, InRange}
+use Rattle.search_terms.specs.Closure.{literal, negation, is_same, forces, is_refuted, IsMet, IsUnitClosed, IsClosure, InClosure, Clashes, InRange}
 use Rattle.search_terms.specs.Marks.{IsConsistent, HasClash}
 use Rattle.search_terms.specs.Form.{owned_sentences, conflict_sentence}
 use Rattle.search_terms.specs.Tree.{is_open_need, is_undecided, IsFoundLeaf, IsSplit}
@@ -25,7 +25,7 @@ use Rattle.search_terms.proofs.Trees.{open_has_member, found_leaf_of, split_of}
 use Rattle.search_terms.proofs.Least.{closure_more}
 use Rattle.search_terms.proofs.Models.{same-true}
 use Rattle.clause_solver.specs.Solvers.{AreApart}
-use Rattle.clause_solver.specs.Marking.{among}
+use Rattle.clause_solver.specs.Marking.{set_of_trail}
 use Rattle.clause_solver.specs.Running.{HasRefuted, Runs, Waits}
 use Rattle.clause_solver.specs.declared.table.Use.{Use}
 use Rattle.clause_solver.specs.Engine.{whole_form, IsEngine}
@@ -40,7 +40,7 @@ use Rattle.clause_solver.proofs.Openings.{find_behind, find_front}
 use Rattle.clause_solver.proofs.Stacking.{snoc_same}
 
 -- the closure is closed
-pub closure_closed : (F : List (List Literal)) (given : List Literal) (set : Literal → Bool) → IsClosure F given set → IsClosed F set
+pub closure_closed : (F : List (List Literal)) (given : List Literal) (set : Literal → Bool) → IsClosure F given set → IsUnitClosed F set
 closure_closed F given set c = record {
   steps = λ k d lt i e ilt f. c.whole (get_or (get_or F k d) i e) (λ other holds closed.
       closed.steps k d lt i e ilt (forces_mono set other (get_or (get_or F k d) i e) (get_or F k d) (λ m h. c.sound m h other holds closed) f));
@@ -57,7 +57,7 @@ refuted_forces set s l h = go s h
         and_from (is_same x l || set (negation x)) (forces set l xs) (or_right (is_same x l) (set (negation x)) w.0) (go xs w.1)
 
 -- a closed set without both signs refutes no sentence but an empty one
-pub calm_is : (F : List (List Literal)) (set : Literal → Bool) → AreFull F → IsClosed F set → IsConsistent set → ¬ (HasClash F set)
+pub calm_is : (F : List (List Literal)) (set : Literal → Bool) → AreFull F → IsUnitClosed F set → IsConsistent set → ¬ (HasClash F set)
 calm_is F set full closed consistent clash = elim clash [
   | inl both ↦ consistent both.0 both.1 both.2
   | inr some ↦
@@ -115,32 +115,32 @@ open_whole goals own conflicts set (Some x) calm e =
     ∙ find_front (is_open_need set) (goals ++ own) (owned_sentences conflict_sentence 0 conflicts) x (sym e)
 
 module _ (n : ℕ) (goals own : List (List Literal)) (uses : List (List Use)) (conflicts : List (List ℕ)) (engine : IsEngine n goals own uses conflicts) (negative : HaveNegative own) (full : AreFull goals) where
-  pub no_clash : (decisions trail : List Literal) → CalmAt (whole_form goals own conflicts) decisions trail → ¬ (HasClash (whole_form goals own conflicts) (among trail))
-  no_clash decisions trail calm = calm_is (whole_form goals own conflicts) (among trail) (full_whole goals own conflicts full negative) (closure_closed (whole_form goals own conflicts) decisions (among trail) calm.closure) calm.consistent
+  pub no_clash : (decisions trail : List Literal) → CalmAt (whole_form goals own conflicts) decisions trail → ¬ (HasClash (whole_form goals own conflicts) (set_of_trail trail))
+  no_clash decisions trail calm = calm_is (whole_form goals own conflicts) (set_of_trail trail) (full_whole goals own conflicts full negative) (closure_closed (whole_form goals own conflicts) decisions (set_of_trail trail) calm.closure) calm.consistent
 
   -- no open need: the true classes are found
-  pub look_found : (decisions trail : List Literal) → CalmAt (whole_form goals own conflicts) decisions trail → None ≡ find (is_open_need (among trail)) (goals ++ own)
-      → IsFoundLeaf n (whole_form goals own conflicts) decisions (true_classes n (among trail))
+  pub look_found : (decisions trail : List Literal) → CalmAt (whole_form goals own conflicts) decisions trail → None ≡ find (is_open_need (set_of_trail trail)) (goals ++ own)
+      → IsFoundLeaf n (whole_form goals own conflicts) decisions (true_classes n (set_of_trail trail))
   look_found decisions trail calm none =
       let quiet = no_clash decisions trail calm in
-      found_leaf_of n (whole_form goals own conflicts) decisions (among trail) (true_classes n (among trail)) calm.closure quiet (open_whole goals own conflicts (among trail) None quiet none)
-      (length-map-range_with_len (λ c. among trail (literal c true)) 0 n)
-      (λ c lt. get_or-map-range_with_len (λ k. among trail (literal k true)) 0 n c c false lt (omega arith))
+      found_leaf_of n (whole_form goals own conflicts) decisions (set_of_trail trail) (true_classes n (set_of_trail trail)) calm.closure quiet (open_whole goals own conflicts (set_of_trail trail) None quiet none)
+      (length-map-range_with_len (λ c. set_of_trail trail (literal c true)) 0 n)
+      (λ c lt. get_or-map-range_with_len (λ k. set_of_trail trail (literal k true)) 0 n c c false lt (omega arith))
 
   -- the first open need has an undecided member
-  pub look_split : (decisions trail need : List Literal) (member : Literal) → CalmAt (whole_form goals own conflicts) decisions trail → Some need ≡ find (is_open_need (among trail)) (goals ++ own)
-      → find (is_undecided (among trail)) need ≡ Some member
+  pub look_split : (decisions trail need : List Literal) (member : Literal) → CalmAt (whole_form goals own conflicts) decisions trail → Some need ≡ find (is_open_need (set_of_trail trail)) (goals ++ own)
+      → find (is_undecided (set_of_trail trail)) need ≡ Some member
       → IsSplit (whole_form goals own conflicts) decisions member.class × (member.class < n)
       × (classes_left n (decisions ++ literal member.class true ∷ []) < classes_left n decisions)
       × (classes_left n (decisions ++ literal member.class false ∷ []) < classes_left n decisions)
   look_split decisions trail need member calm first least =
       let quiet = no_clash decisions trail calm in
-      split_of n (whole_form goals own conflicts) decisions (among trail) need member (range_whole n goals own uses conflicts engine) calm.closure quiet (open_whole goals own conflicts (among trail) (Some need) quiet first) least
+      split_of n (whole_form goals own conflicts) decisions (set_of_trail trail) need member (range_whole n goals own uses conflicts engine) calm.closure quiet (open_whole goals own conflicts (set_of_trail trail) (Some need) quiet first) least
 
-  pub look_never : (decisions trail need : List Literal) → CalmAt (whole_form goals own conflicts) decisions trail → Some need ≡ find (is_open_need (among trail)) (goals ++ own) → find (is_undecided (among trail)) need ≡ None → ⊥
+  pub look_never : (decisions trail need : List Literal) → CalmAt (whole_form goals own conflicts) decisions trail → Some need ≡ find (is_open_need (set_of_trail trail)) (goals ++ own) → find (is_undecided (set_of_trail trail)) need ≡ None → ⊥
   look_never decisions trail need calm first none =
       let quiet = no_clash decisions trail calm in
-      open_has_member (whole_form goals own conflicts) (among trail) need quiet (open_whole goals own conflicts (among trail) (Some need) quiet first) none
+      open_has_member (whole_form goals own conflicts) (set_of_trail trail) need quiet (open_whole goals own conflicts (set_of_trail trail) (Some need) quiet first) none
 
 -- whichever the sign
 pub undecided_class : (set : Literal → Bool) (m : Literal) → is_undecided set m ≡ true → is_undecided set (literal m.class true) ≡ true
@@ -161,22 +161,22 @@ pub undecided_not : (set : Literal → Bool) (m : Literal) → is_undecided set 
 undecided_not set m u = let w = and_parts (not (set m)) (not (set (negation m))) u in (not-true (set m) w.0, not-true (set (negation m)) w.1)
 
 -- the marks before what is assumed is looked at
-pub assume_waits : (F : List (List Literal)) (old : List Literal) (l : Literal) → IsClosed F (among old) → All (Waits (length old) (old ++ l ∷ [])) F
+pub assume_waits : (F : List (List Literal)) (old : List Literal) (l : Literal) → IsUnitClosed F (set_of_trail old) → All (Waits (length old) (old ++ l ∷ [])) F
 assume_waits F old l closed = λ k d lt. waits_grow (length old) old (l ∷ []) (get_or F k d) (omega arith) (inl (closed.steps k d lt))
 
 -- no clash: the level above
-pub assume_calm : (F : List (List Literal)) (ds old new : List Literal) (l : Literal) → Runs F (old ++ l ∷ []) new → IsClosed F (among new) → CalmAt F ds old → CalmAt F (ds ++ l ∷ []) new
+pub assume_calm : (F : List (List Literal)) (ds old new : List Literal) (l : Literal) → Runs F (old ++ l ∷ []) new → IsUnitClosed F (set_of_trail new) → CalmAt F ds old → CalmAt F (ds ++ l ∷ []) new
 assume_calm F ds old new l r closed calm = record {
-  closure = closure_more F ds l (among old) (among (old ++ l ∷ [])) (among new) calm.closure (λ m h. among_before old l m h) (among_last old l) (λ m h. among_cases old l m h)
+  closure = closure_more F ds l (set_of_trail old) (set_of_trail (old ++ l ∷ [])) (set_of_trail new) calm.closure (λ m h. among_before old l m h) (among_last old l) (λ m h. among_cases old l m h)
       (λ m h. rw r.behind (among_more (old ++ l ∷ []) r.more m h)) (λ s c w. r.sound s c w) closed;
   consistent = r.consistent;
 }
 
 -- a refuted sentence: the decisions clash
-pub refuted_clash : (F : List (List Literal)) (given trail : List Literal) → ((l : Literal) → among trail l ≡ true → InClosure F given l) → HasRefuted F (among trail) → Clashes F given
-refuted_clash F given trail sound r = inr (r.1.0, r.0, r.1.1, r.1.2, λ k d lt. sound (negation (get_or r.0 k d)) (all_at (λ m. among trail (negation m)) r.0 r.2 (get_or r.0 k d) (contains_in r.0 (get_or r.0 k d) (Contains-get_or r.0 k d lt))))
+pub refuted_clash : (F : List (List Literal)) (given trail : List Literal) → ((l : Literal) → set_of_trail trail l ≡ true → InClosure F given l) → HasRefuted F (set_of_trail trail) → Clashes F given
+refuted_clash F given trail sound r = inr (r.1.0, r.0, r.1.1, r.1.2, λ k d lt. sound (negation (get_or r.0 k d)) (all_at (λ m. set_of_trail trail (negation m)) r.0 r.2 (get_or r.0 k d) (contains_in r.0 (get_or r.0 k d) (Contains-get_or r.0 k d lt))))
 
-pub assume_clash : (F : List (List Literal)) (ds old new : List Literal) (l : Literal) → Runs F (old ++ l ∷ []) new → HasRefuted F (among new) → CalmAt F ds old → Clashes F (ds ++ l ∷ [])
+pub assume_clash : (F : List (List Literal)) (ds old new : List Literal) (l : Literal) → Runs F (old ++ l ∷ []) new → HasRefuted F (set_of_trail new) → CalmAt F ds old → Clashes F (ds ++ l ∷ [])
 assume_clash F ds old new l r refuted calm = refuted_clash F (ds ++ l ∷ []) new (λ m h s holds closed. r.sound s closed (λ x t. elim (among_cases old l x t) [
   | inl e ↦ rw e (All-contains (λ z. s z ≡ true) (ds ++ l ∷ []) l holds (Contains-push ds l))
   | inr o ↦ calm.closure.sound x o s (λ k d lt. All-contains (λ z. s z ≡ true) (ds ++ l ∷ []) (get_or ds k d) holds (Contains-append_left ds (l ∷ []) (get_or ds k d) (Contains-get_or ds k d lt))) closed
@@ -204,7 +204,7 @@ pub record IsPopped (F : List (List Literal)) (rest : List Literal) (l : Literal
   pub h : ℕ
   pub height : hs ≡ lower ++ h ∷ []
   pub within : h ≤ length trail
-  pub undecided : is_undecided (among (take h trail)) l ≡ true
+  pub undecided : is_undecided (set_of_trail (take h trail)) l ≡ true
   pub under : IsLayered F rest lower (take h trail)
 
 snoc_some : {X : Type 0} (xs : List X) (x : X) → xs ++ x ∷ [] ≡ [] → ⊥
@@ -215,7 +215,7 @@ pub pop_of : (F : List (List Literal)) (ds rest : List Literal) (l : Literal) (h
 pop_of F ds rest l hs trail cut (nowhere e) = absurd (snoc_some rest l (sym cut ∙ e))
 pop_of F ds rest l hs trail cut (below above d lower h e f le u under) =
     let both = snoc_same above rest d l (sym e ∙ cut) in
-    record { lower = lower; h = h; height = f; within = le; undecided = subst (λ z. is_undecided (among (take h trail)) z ≡ true) both.1 u; under = subst (λ z. IsLayered F z lower (take h trail)) both.0 under }
+    record { lower = lower; h = h; height = f; within = le; undecided = subst (λ z. is_undecided (set_of_trail (take h trail)) z ≡ true) both.1 u; under = subst (λ z. IsLayered F z lower (take h trail)) both.0 under }
 
 pub ready_level : (F : List (List Literal)) (ds : List Literal) (hs : List ℕ) (old new : List Literal) (l : Literal) → IsToAssume F ds hs old l → (take (length old) new ≡ old) → length old ≤ length new
     → ((xs : List Literal) → CalmAt F xs old → CalmAt F (xs ++ l ∷ []) new) → IsLayered F ds hs new
@@ -230,9 +230,9 @@ ready_fallen F ds hs old new l r front le clash =
 same_parts : (a b : Literal) → is_same a b ≡ true → a.class ≡ b.class
 same_parts a b h = ap (λ k. k.class) (same-true a b h)
 
-forced_pair : (l : Literal) (p q : ℕ) → forces (among []) l (conflict_sentence p q) ≡ true → p ≡ q
+forced_pair : (l : Literal) (p q : ℕ) → forces (set_of_trail []) l (conflict_sentence p q) ≡ true → p ≡ q
 forced_pair l p q h =
-    let a = and_parts (is_same (literal p false) l || false) (forces (among []) l (literal q false ∷ [])) h in
+    let a = and_parts (is_same (literal p false) l || false) (forces (set_of_trail []) l (literal q false ∷ [])) h in
     let b = and_parts (is_same (literal q false) l || false) true a.1 in
     elim (or_cases (is_same (literal p false) l) false a.0) [
       | inl x ↦ elim (or_cases (is_same (literal q false) l) false b.0) [
@@ -251,35 +251,35 @@ pairs_wait conflicts more apart = λ k d lt. one (get_or (owned_sentences confli
         let w = from_owned_sentences conflict_sentence 0 conflicts s (contains_in (owned_sentences conflict_sentence 0 conflicts) s c) in
         let e : s ≡ conflict_sentence w.0 w.1 = w.4 ∙ ap (λ n. conflict_sentence n w.1) (at_zero w.0) in
         waits_grow 0 [] more s (omega arith) (inl (λ i d ilt f. absurd (
-        let same_class : w.0 ≡ w.1 = forced_pair (get_or s i d) w.0 w.1 (subst (λ z. forces (among []) (get_or s i d) z ≡ true) e f) in
+        let same_class : w.0 ≡ w.1 = forced_pair (get_or s i d) w.0 w.1 (subst (λ z. forces (set_of_trail []) (get_or s i d) z ≡ true) e f) in
         apart w.1 (subst (λ z. In w.1 (listed_for conflicts z)) same_class w.3))))
 
 pub first_waits : (own : List (List Literal)) (conflicts : List (List ℕ)) (old new : List Literal) → old ≡ [] → AreApart conflicts → All (Waits (length old) new) own → All (Waits 0 new) (whole_form [] own conflicts)
 first_waits own conflicts old new e apart waits = All-append (Waits 0 new) own (owned_sentences conflict_sentence 0 conflicts) (rw e at waits) (pairs_wait conflicts new apart)
 
 -- marks that follow from nothing
-nothing_in : (l : Literal) → among [] l ≡ true → ⊥
+nothing_in : (l : Literal) → set_of_trail [] l ≡ true → ⊥
 nothing_in l h = cc h
 
-pub sound_from : (F : List (List Literal)) (old new : List Literal) → ((l : Literal) → among old l ≡ true → InClosure F [] l) → Runs F old new → (l : Literal) → among new l ≡ true → InClosure F [] l
+pub sound_from : (F : List (List Literal)) (old new : List Literal) → ((l : Literal) → set_of_trail old l ≡ true → InClosure F [] l) → Runs F old new → (l : Literal) → set_of_trail new l ≡ true → InClosure F [] l
 sound_from F old new sound r l h = λ s holds closed. r.sound s closed (λ x t. sound x t s holds closed) l h
 
-pub sound_none : (F : List (List Literal)) (old : List Literal) → old ≡ [] → (l : Literal) → among old l ≡ true → InClosure F [] l
+pub sound_none : (F : List (List Literal)) (old : List Literal) → old ≡ [] → (l : Literal) → set_of_trail old l ≡ true → InClosure F [] l
 sound_none F old e l h = absurd (cc (rw e at h))
 
-pub root_calm : (F : List (List Literal)) (new : List Literal) → ((l : Literal) → among new l ≡ true → InClosure F [] l) → IsConsistent (among new) → IsClosed F (among new) → IsLayered F [] [] new
-root_calm F new sound consistent closed = at_root refl (record { closure = record { sound = sound; whole = λ l h. h (among new) (All-nil (λ k. among new k ≡ true)) closed }; consistent = consistent })
+pub root_calm : (F : List (List Literal)) (new : List Literal) → ((l : Literal) → set_of_trail new l ≡ true → InClosure F [] l) → IsConsistent (set_of_trail new) → IsUnitClosed F (set_of_trail new) → IsLayered F [] [] new
+root_calm F new sound consistent closed = at_root refl (record { closure = record { sound = sound; whole = λ l h. h (set_of_trail new) (All-nil (λ k. set_of_trail new k ≡ true)) closed }; consistent = consistent })
 
-pub root_clash : (F : List (List Literal)) (new : List Literal) → ((l : Literal) → among new l ≡ true → InClosure F [] l) → HasRefuted F (among new) → Clashes F [] × IsFallen F [] [] new
+pub root_clash : (F : List (List Literal)) (new : List Literal) → ((l : Literal) → set_of_trail new l ≡ true → InClosure F [] l) → HasRefuted F (set_of_trail new) → Clashes F [] × IsFallen F [] [] new
 root_clash F new sound refuted = (refuted_clash F [] new sound refuted, nowhere refl)
 
 -- what follows without goals follows with them
-pub base_sound : (goals own : List (List Literal)) (conflicts : List (List ℕ)) (old : List Literal) → CalmAt (whole_form [] own conflicts) [] old → (l : Literal) → among old l ≡ true → InClosure (whole_form goals own conflicts) [] l
+pub base_sound : (goals own : List (List Literal)) (conflicts : List (List ℕ)) (old : List Literal) → CalmAt (whole_form [] own conflicts) [] old → (l : Literal) → set_of_trail old l ≡ true → InClosure (whole_form goals own conflicts) [] l
 base_sound goals own conflicts old calm l h = λ s holds closed. calm.closure.sound l h s holds
     (closed_part (whole_form [] own conflicts) (whole_form goals own conflicts) s (λ x c. Contains-append_right goals (own ++ owned_sentences conflict_sentence 0 conflicts) x c) closed)
 
 pub base_waits : (goals own : List (List Literal)) (conflicts : List (List ℕ)) (old new : List Literal) → CalmAt (whole_form [] own conflicts) [] old → Runs goals old new → All (Waits (length old) new) goals → All (Waits (length old) new) (whole_form goals own conflicts)
 base_waits goals own conflicts old new calm r waits =
-    let closed = closure_closed (whole_form [] own conflicts) [] (among old) calm.closure in
+    let closed = closure_closed (whole_form [] own conflicts) [] (set_of_trail old) calm.closure in
     All-append (Waits (length old) new) goals (own ++ owned_sentences conflict_sentence 0 conflicts) waits
     (λ k d lt. rw r.behind (waits_grow (length old) old r.more (get_or (own ++ owned_sentences conflict_sentence 0 conflicts) k d) (omega arith) (inl (closed.steps k d lt))))

@@ -8,14 +8,14 @@ use Rattle.search_terms.specs.declared.literals.Literal.{Literal}
 use Rattle.search_terms.specs.Closure.{literal, Clashes}
 use Rattle.search_terms.specs.Tree.{is_undecided}
 use Rattle.search_terms.specs.Marks.{classes_left}
-use Rattle.clause_solver.specs.Marking.{among}
+use Rattle.clause_solver.specs.Marking.{set_of_trail}
 use Rattle.clause_solver.specs.Levels.{IsLayered, IsFallen, IsToAssume, CalmAt, IsAt}
 use Rattle.clause_solver.proofs.Stacking.{snoc_same, range_front}
 use Rattle.clause_solver.proofs.Calm.{pop_of, undecided_negation, calm_of, ready_level, ready_fallen}
 
 pub record IsUnder (F : List (List Literal)) (rest : List Literal) (l : Literal) (lower : List ℕ) (h : ℕ) (trail : List Literal) : Type 0 where
   pub within : h ≤ length trail
-  pub undecided : is_undecided (among (take h trail)) l ≡ true
+  pub undecided : is_undecided (set_of_trail (take h trail)) l ≡ true
   pub under : IsLayered F rest lower (take h trail)
 
 pub under_of : (F : List (List Literal)) (ds rest : List Literal) (l : Literal) (hs lower : List ℕ) (h : ℕ) (trail : List Literal) → ds ≡ rest ++ l ∷ [] → hs ≡ lower ++ h ∷ [] → IsFallen F ds hs trail → IsUnder F rest l lower h trail
@@ -24,7 +24,7 @@ under_of F ds rest l hs lower h trail cut e fallen =
     let both = snoc_same p.lower lower p.h h (sym p.height ∙ e) in
     record {
       within = rw both.1 at p.within;
-      undecided = subst (λ k. is_undecided (among (take k trail)) l ≡ true) both.1 p.undecided;
+      undecided = subst (λ k. is_undecided (set_of_trail (take k trail)) l ≡ true) both.1 p.undecided;
       under = subst (λ k. IsLayered F rest lower (take k trail)) both.1 (subst (λ x. IsLayered F rest x (take p.h trail)) both.0 p.under);
     }
 
@@ -50,7 +50,7 @@ ready_of F rest new l lower hs h trail now under sign e f g = record {
   lower = lower;
   last = e;
   height = f ∙ ap (λ k. lower ++ k ∷ []) (sym (length_front h trail under.within) ∙ ap length (sym g));
-  undecided = rw g (other_undecided (among (take h trail)) l.class l.positive sign under.undecided);
+  undecided = rw g (other_undecided (set_of_trail (take h trail)) l.class l.positive sign under.undecided);
   layered = rw g under.under;
 }
 
@@ -65,7 +65,7 @@ pub at_after : (clash : Bool) (F : List (List Literal)) (ds : List Literal) (hs 
 at_after true F ds hs old new l r front calm clash = ready_fallen F ds hs old new l r front.0 front.1 clash
 at_after false F ds hs old new l r front calm clash = ready_level F ds hs old new l r front.0 front.1 calm
 
-pub ready_split : (F : List (List Literal)) (ds new : List Literal) (hs now : List ℕ) (h : ℕ) (trail : List Literal) (l : Literal) → IsLayered F ds hs trail → new ≡ ds ++ l ∷ [] → now ≡ hs ++ h ∷ [] → h ≡ length trail → is_undecided (among trail) l ≡ true
+pub ready_split : (F : List (List Literal)) (ds new : List Literal) (hs now : List ℕ) (h : ℕ) (trail : List Literal) (l : Literal) → IsLayered F ds hs trail → new ≡ ds ++ l ∷ [] → now ≡ hs ++ h ∷ [] → h ≡ length trail → is_undecided (set_of_trail trail) l ≡ true
     → IsToAssume F new now trail l
 ready_split F ds new hs now h trail l layered e f g u = record { above = ds; lower = hs; last = e; height = f ∙ ap (λ k. hs ++ k ∷ []) g; undecided = u; layered = layered }
 

@@ -11,13 +11,13 @@ use Rattle.row_book.specs.Sets.{In}
 use Rattle.row_book.specs.Book.{listed_for}
 use Rattle.row_book.proofs.Lists.{In_cases, In_none}
 use Rattle.search_terms.specs.declared.literals.Literal.{Literal}
-use Rattle.search_terms.specs.Closure.{literal, negation, IsMet, IsClosed}
+use Rattle.search_terms.specs.Closure.{literal, negation, IsMet, IsUnitClosed}
 use Rattle.search_terms.specs.Marks.{flag_place, IsConsistent}
 use Rattle.search_terms.specs.Form.{owned_sentences, conflict_sentence}
 use Rattle.search_terms.proofs.Sets.{Contains-head, Contains-tail}
 use Rattle.search_terms.proofs.Forms.{from_map, in_owned_sentences, from_owned_sentences}
 use Rattle.search_terms.proofs.Certificates.{negation_twice}
-use Rattle.clause_solver.specs.Marking.{among}
+use Rattle.clause_solver.specs.Marking.{set_of_trail}
 use Rattle.clause_solver.specs.Running.{HasRefuted, Runs, Waits}
 use Rattle.clause_solver.specs.Engine.{whole_form, Names, IsTable, IsEngine}
 use Rattle.clause_solver.specs.declared.table.Use.{Use}
@@ -122,12 +122,12 @@ mark_negative n goals own uses conflicts l old g b row engine sign e r waits r' 
     no : not l.positive ≡ false → ⊥
     no h = cc (h, sign)
 
-not_true : (d : List Literal) (q : ℕ) → IsConsistent (among d) → among d (literal q false) ≡ true → among d (negation (literal q false)) ≡ false
-not_true d q consistent h = false_from_ne_true (among d (literal q true)) (λ t. consistent (literal q true) t h)
+not_true : (d : List Literal) (q : ℕ) → IsConsistent (set_of_trail d) → set_of_trail d (literal q false) ≡ true → set_of_trail d (negation (literal q false)) ≡ false
+not_true d q consistent h = false_from_ne_true (set_of_trail d (literal q true)) (λ t. consistent (literal q true) t h)
 
 pub mark_positive : (n : ℕ) (goals own : List (List Literal)) (uses : List (List Use)) (conflicts : List (List ℕ)) (l : Literal) (old g b d : List Literal) (row : List Use) (others : List ℕ) → IsEngine n goals own uses conflicts
     → row ≡ get_or uses (flag_place l) [] → others ≡ get_or conflicts l.class [] → Runs goals old g → GoalsWait goals l old g → Runs own g b → All (λ u. Waits (length g) b (get_or own u.sentence [])) row
-    → Runs (map (conflict_sentence l.class) others) b d → All (λ q. among d (literal q false) ≡ true) others
+    → Runs (map (conflict_sentence l.class) others) b d → All (λ q. set_of_trail d (literal q false) ≡ true) others
     → (s : List Literal) → Contains (whole_form goals own conflicts) s → Contains s (negation l) → Waits (length old) d s
 mark_positive n goals own uses conflicts l old g b d row others engine e f r waits r' waits' r'' excluded s c m = elim (whole_cases goals own conflicts s c) [
   | inl here ↦ grow (goals_wait goals own l old g b s r waits r' here m)
@@ -150,8 +150,8 @@ mark_positive n goals own uses conflicts l old g b d row others engine e f r wai
     grow : Waits (length old) b s → Waits (length old) d s
     grow w = rw r''.behind (waits_grow (length old) b r''.more s long w)
 
-    out : (q : ℕ) → In q (listed_for conflicts l.class) → among d (literal q false) ≡ true
-    out q i = All-contains (λ z. among d (literal z false) ≡ true) others q excluded (rw f (in_contains (listed_for conflicts l.class) q i))
+    out : (q : ℕ) → In q (listed_for conflicts l.class) → set_of_trail d (literal q false) ≡ true
+    out q i = All-contains (λ z. set_of_trail d (literal z false) ≡ true) others q excluded (rw f (in_contains (listed_for conflicts l.class) q i))
 
     first : (p q : ℕ) → Contains (conflict_sentence p q) (literal p false)
     first p q = Contains-head (literal p false) (literal q false ∷ [])
@@ -159,8 +159,8 @@ mark_positive n goals own uses conflicts l old g b d row others engine e f r wai
     second : (p q : ℕ) → Contains (conflict_sentence p q) (literal q false)
     second p q = Contains-tail (literal p false) (literal q false) (literal q false ∷ []) (Contains-head (literal q false) [])
 
-    by : (p q x : ℕ) → Contains (conflict_sentence p q) (literal x false) → among d (literal x false) ≡ true → IsMet (among d) (conflict_sentence p q)
-    by p q x here t = met_by (among d) (conflict_sentence p q) (literal x false) here t (not_true d x r''.consistent t)
+    by : (p q x : ℕ) → Contains (conflict_sentence p q) (literal x false) → set_of_trail d (literal x false) ≡ true → IsMet (set_of_trail d) (conflict_sentence p q)
+    by p q x here t = met_by (set_of_trail d) (conflict_sentence p q) (literal x false) here t (not_true d x r''.consistent t)
 
 pub item_from : {X : Type 0} (xs : List X) (i j : ℕ) (d x y : X) → i < length xs → i ≡ j → x ≡ y → y ≡ get_or xs i y → x ≡ get_or xs j d
 item_from xs i j d x y lt e f h = subst (λ k. x ≡ get_or xs k d) e (f ∙ h ∙ get_or_default xs i y d lt)
@@ -186,7 +186,7 @@ drain_step F cur new next l lt at r waits done = λ k d klt. one (get_or F k d) 
       | inr i ↦ later s (inr (p.0, p.1, in_contains (drop (next + 1) cur) (negation p.0) i))
     ]
 
-pub drained : (F : List (List Literal)) (trail : List Literal) (next : ℕ) → length trail ≤ next → All (Waits next trail) F → IsClosed F (among trail)
+pub drained : (F : List (List Literal)) (trail : List Literal) (next : ℕ) → length trail ≤ next → All (Waits next trail) F → IsUnitClosed F (set_of_trail trail)
 drained F trail next le waits = record { steps = λ k d lt. one (get_or F k d) (waits k d lt) }
   where
     nothing : (h : ℕ) (xs : List Literal) (x : Literal) → length xs ≤ h → Contains (drop h xs) x → ⊥
@@ -195,7 +195,7 @@ drained F trail next le waits = record { steps = λ k d lt. one (get_or F k d) (
     nothing (suc h) [] x l c = omega (arith, c.1)
     nothing (suc h) (y ∷ xs) x l c = nothing h xs x (omega arith) c
 
-    one : (s : List Literal) → Waits next trail s → IsMet (among trail) s
+    one : (s : List Literal) → Waits next trail s → IsMet (set_of_trail trail) s
     one s (inl met) = met
     one s (inr p) = absurd (nothing next trail (negation p.0) le p.2)
 

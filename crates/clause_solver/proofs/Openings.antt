@@ -11,7 +11,7 @@ use Rattle.search_terms.specs.Closure.{literal, negation}
 use Rattle.search_terms.specs.Marks.{flag_place}
 use Rattle.search_terms.specs.Tree.{is_open_need}
 use Rattle.row_book.proofs.Lists.{all_at}
-use Rattle.clause_solver.specs.Marking.{among}
+use Rattle.clause_solver.specs.Marking.{set_of_trail}
 use Rattle.clause_solver.specs.Engine.{IsTable}
 use Rattle.clause_solver.specs.Nodes.{HaveNegative, IsLeastOpen}
 use Rattle.clause_solver.specs.declared.table.Use.{Use}
@@ -87,17 +87,17 @@ open_true : (set : Literal → Bool) (s : List Literal) (p : ℕ) → is_open_ne
 open_true set s p o c = all_at (λ l. cond l.positive (not (set l)) (set (negation l))) s o (literal p false) (contains_in s (literal p false) c)
 
 pub swept_end : (n : ℕ) (own : List (List Literal)) (uses : List (List Use)) (trail seen : List Literal) (least i : ℕ) → IsTable n uses own → HaveNegative own → seen ≡ trail → length seen ≤ i
-    → IsSwept (among trail) own uses (take i seen) least → (k : ℕ) → k < least → is_open_need (among trail) (at own k) ≡ false
-swept_end n own uses trail seen least i table negative e le inv k klt = false_from_ne_true (is_open_need (among trail) (at own k)) (λ o.
+    → IsSwept (set_of_trail trail) own uses (take i seen) least → (k : ℕ) → k < least → is_open_need (set_of_trail trail) (at own k) ≡ false
+swept_end n own uses trail seen least i table negative e le inv k klt = false_from_ne_true (is_open_need (set_of_trail trail) (at own k)) (λ o.
     let in_own : k < length own = (let x = inv.within in omega (arith, klt, x)) in
     let neg = negative k [] in_own in
-    let t = open_true (among trail) (at own k) neg.0 o neg.1 in
+    let t = open_true (set_of_trail trail) (at own k) neg.0 o neg.1 in
     let there_it_is : Contains trail (literal neg.0 true) = among_contains trail (literal neg.0 true) t in
     let all = rw (take_all i seen le, e) at inv.none in
     let w = table.listed k (literal neg.0 false) in_own neg.1 in
-    let f = All-contains (λ l. l.positive ≡ true → (u : Use) → Contains (get_or uses (flag_place l) []) u → u.sentence < least → is_open_need (among trail) (at own u.sentence) ≡ false) trail (literal neg.0 true) all there_it_is refl w.0
+    let f = All-contains (λ l. l.positive ≡ true → (u : Use) → Contains (get_or uses (flag_place l) []) u → u.sentence < least → is_open_need (set_of_trail trail) (at own u.sentence) ≡ false) trail (literal neg.0 true) all there_it_is refl w.0
     w.1 (rw w.2 klt) in
-    both_ways (is_open_need (among trail) (at own k)) (subst (λ j. is_open_need (among trail) (at own j) ≡ false) w.2 f) o)
+    both_ways (is_open_need (set_of_trail trail) (at own k)) (subst (λ j. is_open_need (set_of_trail trail) (at own j) ≡ false) w.2 f) o)
 
 pub find_at : (p : List Literal → Bool) (xs : List (List Literal)) (k : ℕ) → ((j : ℕ) → j < k → p (at xs j) ≡ false) → (k < length xs → p (at xs k) ≡ true) → k ≤ length xs → find p xs ≡ slice_get xs k
 find_at p [] k none some le = refl

@@ -32,7 +32,7 @@ use Rattle.clause_solver.specs.Engine.{whole_form, IsTable, ConflictsFit, IsEngi
 use Rattle.clause_solver.specs.declared.table.Use.{Use}
 use Rattle.clause_solver.specs.Nodes.{AreFull, ArePositive, HaveNegative}
 use Rattle.clause_solver.specs.Solvers.{AreApart}
-use Rattle.clause_solver.specs.Marking.{among}
+use Rattle.clause_solver.specs.Marking.{set_of_trail}
 use Rattle.clause_solver.specs.Verdicts.{IsSearchVerdict, Ends, EndsSearch}
 use Rattle.clause_solver.specs.Outcomes.{IsOutcomeOf, IsSearchOutcome, IsCertified, IsDecided}
 use Rattle.clause_solver.proofs.Running.{closed_part}
@@ -150,7 +150,7 @@ module _ (pool : Interned) (book : Book) (goals : List (List ℕ)) (sound : Soun
       decided_by budget (length book.rows) a.0 outcome (rw rows_long at (fails_whole (length (repository_of pool book).clauses) (form (repository_of pool book) goals) a.0 range a.1)) enough a.2
 
 -- the flags of the true classes are those that the tree finds
-pub outcome_found : (R : Repository) (goals : List (List ℕ)) (budget n : ℕ) (trail : List Literal) (log : List (List Literal)) (flags : List Bool) → n ≡ length R.clauses → flags ≡ true_classes n (among trail)
+pub outcome_found : (R : Repository) (goals : List (List ℕ)) (budget n : ℕ) (trail : List Literal) (log : List (List Literal)) (flags : List Bool) → n ≡ length R.clauses → flags ≡ true_classes n (set_of_trail trail)
     → EndsSearch true R goals budget Yes trail log → IsSearchOutcome R goals budget (Found flags)
 outcome_found R goals budget n trail log flags size e a = (a.0, a.1, (a.2.0 ∙ ap Some (sym (rw size at e)), a.2.1))
 

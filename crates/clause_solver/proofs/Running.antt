@@ -11,27 +11,27 @@ use Rattle.row_book.proofs.Lists.{any_cases, any_from, In_at}
 use Rattle.search_terms.specs.Form.{conflict_sentence}
 use Rattle.search_terms.proofs.Forms.{in_map}
 use Rattle.search_terms.specs.declared.literals.Literal.{Literal}
-use Rattle.search_terms.specs.Closure.{literal, negation, is_same, forces, is_refuted, IsMet, IsClosed}
+use Rattle.search_terms.specs.Closure.{literal, negation, is_same, forces, is_refuted, IsMet, IsUnitClosed}
 use Rattle.search_terms.specs.Marks.{flag_place, IsConsistent}
 pub use Rattle.search_terms.proofs.Lists.{item_at}
 use Rattle.search_terms.proofs.Sets.{find_some, find_none, forces_mono, Contains-head}
 use Rattle.search_terms.proofs.Models.{same-true}
 use Rattle.search_terms.proofs.Certificates.{same_refl}
-use Rattle.clause_solver.specs.Marking.{among}
+use Rattle.clause_solver.specs.Marking.{set_of_trail}
 use Rattle.clause_solver.specs.Running.{Runs, Waits}
 use Rattle.clause_solver.specs.Engine.{HasTwoFree, IsUse}
 use Rattle.clause_solver.specs.declared.table.Use.{Use}
 use Rattle.clause_solver.proofs.Trails.{among_last, among_cases}
 
-pub among_contains : (trail : List Literal) (l : Literal) → among trail l ≡ true → Contains trail l
+pub among_contains : (trail : List Literal) (l : Literal) → set_of_trail trail l ≡ true → Contains trail l
 among_contains trail l h =
     let w = any_cases (λ m. is_same m l) trail h in
     subst (λ k. Contains trail k) (same-true w.0 l w.2) (in_contains trail w.0 w.1)
 
-pub contains_among : (trail : List Literal) (l : Literal) → Contains trail l → among trail l ≡ true
+pub contains_among : (trail : List Literal) (l : Literal) → Contains trail l → set_of_trail trail l ≡ true
 contains_among trail l c = any_from (λ m. is_same m l) trail l (contains_in trail l c) (same_refl l)
 
-pub among_more : (old more : List Literal) (l : Literal) → among old l ≡ true → among (old ++ more) l ≡ true
+pub among_more : (old more : List Literal) (l : Literal) → set_of_trail old l ≡ true → set_of_trail (old ++ more) l ≡ true
 among_more old more l h = contains_among (old ++ more) l (Contains-append_left old more l (among_contains old l h))
 
 -- of what a sentence that forces k holds, each literal is k or contradicted
@@ -74,7 +74,7 @@ met_free set s l here f n = λ i d lt h. elim (forces_at set (get_or s i d) s l 
   | inr c ↦ absurd (both_ways (set (negation l)) f c)
 ]
 
-pub runs_none : (P : List (List Literal)) (old : List Literal) → IsConsistent (among old) → Runs P old old
+pub runs_none : (P : List (List Literal)) (old : List Literal) → IsConsistent (set_of_trail old) → Runs P old old
 runs_none P old consistent = record { more = []; behind = sym (append-nil old); consistent = consistent; sound = λ set closed w. w }
 
 pub runs_then : (P : List (List Literal)) (a b c : List Literal) → Runs P a b → Runs P b c → Runs P a c
@@ -85,7 +85,7 @@ runs_then P a b c f g = record {
   sound = λ set closed w. g.sound set closed (f.sound set closed w);
 }
 
-pub closed_part : (P Q : List (List Literal)) (set : Literal → Bool) → ((s : List Literal) → Contains P s → Contains Q s) → IsClosed Q set → IsClosed P set
+pub closed_part : (P Q : List (List Literal)) (set : Literal → Bool) → ((s : List Literal) → Contains P s → Contains Q s) → IsUnitClosed Q set → IsUnitClosed P set
 closed_part P Q set sub closed = record { steps = λ k d lt. All-contains (IsMet set) Q (get_or P k d) closed.steps (sub (get_or P k d) (Contains-get_or P k d lt)) }
 
 pub runs_more : (P Q : List (List Literal)) (old new : List Literal) → ((s : List Literal) → Contains P s → Contains Q s) → Runs P old new → Runs Q old new
@@ -109,32 +109,32 @@ negation_back l m e = sym (ap negation e) ∙ twice l
     twice k = ap (λ s. literal k.class s) (not_not k.positive)
 
 -- one more mark, whose other sign is not marked
-pub consistent_push : (old : List Literal) (l : Literal) → IsConsistent (among old) → among old (negation l) ≡ false → IsConsistent (among (old ++ l ∷ []))
+pub consistent_push : (old : List Literal) (l : Literal) → IsConsistent (set_of_trail old) → set_of_trail old (negation l) ≡ false → IsConsistent (set_of_trail (old ++ l ∷ []))
 consistent_push old l consistent free m h k = elim (among_cases old l m h) [
   | inl a ↦ elim (among_cases old l (negation m) k) [
     | inl b ↦ negation_other m (b ∙ sym a)
-    | inr c ↦ both_ways (among old (negation l)) free (subst (λ z. among old (negation z) ≡ true) a c)
+    | inr c ↦ both_ways (set_of_trail old (negation l)) free (subst (λ z. set_of_trail old (negation z) ≡ true) a c)
   ]
   | inr b ↦ elim (among_cases old l (negation m) k) [
-    | inl a ↦ both_ways (among old (negation l)) free (subst (λ z. among old z ≡ true) (sym (negation_back m l a)) b)
+    | inl a ↦ both_ways (set_of_trail old (negation l)) free (subst (λ z. set_of_trail old z ≡ true) (sym (negation_back m l a)) b)
     | inr c ↦ consistent m b c
   ]
 ]
 
-still_free : (old : List Literal) (l : Literal) → among old (negation l) ≡ false → among (old ++ l ∷ []) (negation l) ≡ false
-still_free old l f = false_from_ne_true (among (old ++ l ∷ []) (negation l)) (λ h. elim (among_cases old l (negation l) h) [
+still_free : (old : List Literal) (l : Literal) → set_of_trail old (negation l) ≡ false → set_of_trail (old ++ l ∷ []) (negation l) ≡ false
+still_free old l f = false_from_ne_true (set_of_trail (old ++ l ∷ []) (negation l)) (λ h. elim (among_cases old l (negation l) h) [
   | inl e ↦ negation_other l e
-  | inr k ↦ both_ways (among old (negation l)) f k
+  | inr k ↦ both_ways (set_of_trail old (negation l)) f k
 ])
 
-pub runs_push : (P : List (List Literal)) (old new : List Literal) (l : Literal) (s : List Literal) → Contains P s → Contains s l → IsConsistent (among old) → among old (negation l) ≡ false
-    → forces (among old) l s ≡ true → new ≡ old ++ l ∷ [] → Runs P old new
+pub runs_push : (P : List (List Literal)) (old new : List Literal) (l : Literal) (s : List Literal) → Contains P s → Contains s l → IsConsistent (set_of_trail old) → set_of_trail old (negation l) ≡ false
+    → forces (set_of_trail old) l s ≡ true → new ≡ old ++ l ∷ [] → Runs P old new
 runs_push P old new l s here member consistent free forced e = rw e (record {
   more = l ∷ [];
   behind = refl;
   consistent = consistent_push old l consistent free;
   sound = λ set closed w m h. elim (among_cases old l m h) [
-    | inl same_one ↦ rw same_one (All-contains (λ k. forces set k s ≡ true → set k ≡ true) s l (All-contains (IsMet set) P s closed.steps here) member (forces_mono (among old) set l s w forced))
+    | inl same_one ↦ rw same_one (All-contains (λ k. forces set k s ≡ true → set k ≡ true) s l (All-contains (IsMet set) P s closed.steps here) member (forces_mono (set_of_trail old) set l s w forced))
     | inr k ↦ w m k
   ];
 })
@@ -142,19 +142,19 @@ runs_push P old new l s here member consistent free forced e = rw e (record {
 pub free_is : (set : Literal → Bool) (s : List Literal) (l : Literal) → find (λ m. not (set (negation m))) s ≡ Some l → Contains s l × (set (negation l) ≡ false)
 free_is set s l h = let w = find_some (λ m. not (set (negation m))) s l h in (w.0, not-true (set (negation l)) w.1)
 
-pub settle_put : (old new s : List Literal) (l : Literal) → IsConsistent (among old) → find (λ m. not (among old (negation m))) s ≡ Some l → forces (among old) l s ≡ true → new ≡ old ++ l ∷ []
-    → Runs (s ∷ []) old new × IsMet (among new) s
+pub settle_put : (old new s : List Literal) (l : Literal) → IsConsistent (set_of_trail old) → find (λ m. not (set_of_trail old (negation m))) s ≡ Some l → forces (set_of_trail old) l s ≡ true → new ≡ old ++ l ∷ []
+    → Runs (s ∷ []) old new × IsMet (set_of_trail new) s
 settle_put old new s l consistent found forced e =
-    let w = free_is (among old) s l found in (
+    let w = free_is (set_of_trail old) s l found in (
       runs_push (s ∷ []) old new l s (Contains-head s []) w.0 consistent w.1 forced e,
-      rw e (met_by (among (old ++ l ∷ [])) s l w.0 (among_last old l) (still_free old l w.1)),
+      rw e (met_by (set_of_trail (old ++ l ∷ [])) s l w.0 (among_last old l) (still_free old l w.1)),
     )
 
-pub settle_has : (old s : List Literal) (l : Literal) → find (λ m. not (among old (negation m))) s ≡ Some l → among old l ≡ true → IsMet (among old) s
-settle_has old s l found t = let w = free_is (among old) s l found in met_by (among old) s l w.0 t w.1
+pub settle_has : (old s : List Literal) (l : Literal) → find (λ m. not (set_of_trail old (negation m))) s ≡ Some l → set_of_trail old l ≡ true → IsMet (set_of_trail old) s
+settle_has old s l found t = let w = free_is (set_of_trail old) s l found in met_by (set_of_trail old) s l w.0 t w.1
 
-pub settle_not : (old s : List Literal) (l : Literal) → find (λ m. not (among old (negation m))) s ≡ Some l → forces (among old) l s ≡ false → IsMet (among old) s
-settle_not old s l found n = let w = free_is (among old) s l found in met_free (among old) s l w.0 w.1 n
+pub settle_not : (old s : List Literal) (l : Literal) → find (λ m. not (set_of_trail old (negation m))) s ≡ Some l → forces (set_of_trail old) l s ≡ false → IsMet (set_of_trail old) s
+settle_not old s l found n = let w = free_is (set_of_trail old) s l found in met_free (set_of_trail old) s l w.0 w.1 n
 
 -- where no literal's other sign is newly marked, the same is forced
 abbrev is_fresh : (Literal → Bool) → (Literal → Bool) → Literal → Bool
@@ -184,15 +184,15 @@ drop_front (suc h) (x ∷ xs) ys le = drop_front h xs ys (omega arith)
 -- what waits still does when marks are put behind
 pub waits_grow : (h : ℕ) (old more s : List Literal) → h ≤ length old → Waits h old s → Waits h (old ++ more) s
 waits_grow h old more s le (inr p) = inr (p.0, p.1, rw (drop_front h old more le) (Contains-append_left (drop h old) more (negation p.0) p.2))
-waits_grow h old more s le (inl met) = elim (cases_Option (find (is_fresh (among old) (among (old ++ more))) s)) [
+waits_grow h old more s le (inl met) = elim (cases_Option (find (is_fresh (set_of_trail old) (set_of_trail (old ++ more))) s)) [
   | inr some ↦
-      let found = find_some (is_fresh (among old) (among (old ++ more))) s some.0 some.1 in
-      let both = and_parts (among (old ++ more) (negation some.0)) (not (among old (negation some.0))) found.1 in
+      let found = find_some (is_fresh (set_of_trail old) (set_of_trail (old ++ more))) s some.0 some.1 in
+      let both = and_parts (set_of_trail (old ++ more) (negation some.0)) (not (set_of_trail old (negation some.0))) found.1 in
       elim (Contains-append_cases old more (negation some.0) (among_contains (old ++ more) (negation some.0) both.0)) [
-        | inl was ↦ absurd (both_ways (among old (negation some.0)) (not-true (among old (negation some.0)) both.1) (contains_among old (negation some.0) was))
+        | inl was ↦ absurd (both_ways (set_of_trail old (negation some.0)) (not-true (set_of_trail old (negation some.0)) both.1) (contains_among old (negation some.0) was))
         | inr now ↦ inr (some.0, found.0, rw (drop_front h old more le) (Contains-append_right (drop h old) more (negation some.0) now))
       ]
-  | inl none ↦ inl (λ k d lt f. among_more old more (get_or s k d) (met k d lt (forces_back (among old) (among (old ++ more)) (get_or s k d) s (find_none (is_fresh (among old) (among (old ++ more))) s none) f)))
+  | inl none ↦ inl (λ k d lt f. among_more old more (get_or s k d) (met k d lt (forces_back (set_of_trail old) (set_of_trail (old ++ more)) (get_or s k d) s (find_none (is_fresh (set_of_trail old) (set_of_trail (old ++ more))) s none) f)))
 ]
 
 pub runs_longer : (P : List (List Literal)) (old new : List Literal) → Runs P old new → length old ≤ length new
@@ -209,7 +209,7 @@ sweep_runs P old cur new s here a b = runs_then P old cur new a (runs_more (s �
 pub waits_after : (P : List (List Literal)) (old cur new s : List Literal) (Q : List (List Literal)) → Runs P old cur → Runs Q cur new → Waits (length old) cur s → Waits (length old) new s
 waits_after P old cur new s Q a b w = rw b.behind (waits_grow (length old) cur b.more s (runs_longer P old cur a) w)
 
-pub sweep_waits : (P : List (List Literal)) (old cur new s : List Literal) (i : ℕ) → i < length P → s ≡ get_or P i s → Runs P old cur → Runs (s ∷ []) cur new → IsMet (among new) s
+pub sweep_waits : (P : List (List Literal)) (old cur new s : List Literal) (i : ℕ) → i < length P → s ≡ get_or P i s → Runs P old cur → Runs (s ∷ []) cur new → IsMet (set_of_trail new) s
     → All (Waits (length old) cur) (take i P) → All (Waits (length old) new) (take (i + 1) P)
 sweep_waits P old cur new s i lt e a b met before =
     All-more (Waits (length old) new) P i s lt
@@ -225,7 +225,7 @@ no_use = record { sentence = 0; one = 0; other = 0 }
 
 -- one use of those looked at in turn
 pub row_waits : (P : List (List Literal)) (row : List Use) (old cur new : List Literal) (i : ℕ) (d : Use) → i < length row → Runs P old cur
-    → Runs (get_or P (get_or row i d).sentence [] ∷ []) cur new → IsMet (among new) (get_or P (get_or row i d).sentence [])
+    → Runs (get_or P (get_or row i d).sentence [] ∷ []) cur new → IsMet (set_of_trail new) (get_or P (get_or row i d).sentence [])
     → All (λ u. Waits (length old) cur (get_or P u.sentence [])) (take i row) → All (λ u. Waits (length old) new (get_or P u.sentence [])) (take (i + 1) row)
 row_waits P row old cur new i d lt a b met before =
     All-more (λ u. Waits (length old) new (get_or P u.sentence [])) row i d lt
@@ -247,7 +247,7 @@ met_two_free set own u of idle = λ i d lt h.
 pub pair_in : (p : ℕ) (others : List ℕ) (i : ℕ) → i < length others → Contains (map (conflict_sentence p) others) (conflict_sentence p (get_or others i 0))
 pair_in p others i lt = in_contains (map (conflict_sentence p) others) (conflict_sentence p (get_or others i 0)) (in_map (conflict_sentence p) others (get_or others i 0) (In_at others i 0 lt))
 
-pub old_kept : (P : List (List Literal)) (old new : List Literal) (l : Literal) → Runs P old new → among old l ≡ true → among new l ≡ true
+pub old_kept : (P : List (List Literal)) (old new : List Literal) (l : Literal) → Runs P old new → set_of_trail old l ≡ true → set_of_trail new l ≡ true
 old_kept P old new l r h = rw r.behind (among_more old r.more l h)
 
 pub pair_excludes : (set : Literal → Bool) (p q : ℕ) → set (literal p true) ≡ true → IsMet set (conflict_sentence p q) → set (literal q false) ≡ true
@@ -255,11 +255,11 @@ pair_excludes set p q t met = met 1 (literal q false) (omega arith) (and_from (i
     (or_right (is_same (literal p false) (literal q false)) (set (literal p true)) t)
     (and_from (is_same (literal q false) (literal q false) || set (literal q true)) true (or_left (is_same (literal q false) (literal q false)) (set (literal q true)) (same_refl (literal q false))) refl))
 
-pub excluded_more : (p : ℕ) (others : List ℕ) (old cur new s : List Literal) (i : ℕ) → i < length others → s ≡ conflict_sentence p (get_or others i 0) → among old (literal p true) ≡ true
-    → Runs (map (conflict_sentence p) others) old cur → Runs (s ∷ []) cur new → IsMet (among new) s
-    → All (λ q. among cur (literal q false) ≡ true) (take i others) → All (λ q. among new (literal q false) ≡ true) (take (i + 1) others)
+pub excluded_more : (p : ℕ) (others : List ℕ) (old cur new s : List Literal) (i : ℕ) → i < length others → s ≡ conflict_sentence p (get_or others i 0) → set_of_trail old (literal p true) ≡ true
+    → Runs (map (conflict_sentence p) others) old cur → Runs (s ∷ []) cur new → IsMet (set_of_trail new) s
+    → All (λ q. set_of_trail cur (literal q false) ≡ true) (take i others) → All (λ q. set_of_trail new (literal q false) ≡ true) (take (i + 1) others)
 excluded_more p others old cur new s i lt e t a b met before =
     let c : Runs (map (conflict_sentence p) others) old new = sweep_runs (map (conflict_sentence p) others) old cur new s (rw e (pair_in p others i lt)) a b in
-    All-more (λ q. among new (literal q false) ≡ true) others i 0 lt
-    (All-weaker (λ q. among cur (literal q false) ≡ true) (λ q. among new (literal q false) ≡ true) (λ q h. rw b.behind (among_more cur b.more (literal q false) h)) (take i others) before)
-    (pair_excludes (among new) p (get_or others i 0) (old_kept (map (conflict_sentence p) others) old new (literal p true) c t) (rw e at met))
+    All-more (λ q. set_of_trail new (literal q false) ≡ true) others i 0 lt
+    (All-weaker (λ q. set_of_trail cur (literal q false) ≡ true) (λ q. set_of_trail new (literal q false) ≡ true) (λ q h. rw b.behind (among_more cur b.more (literal q false) h)) (take i others) before)
+    (pair_excludes (set_of_trail new) p (get_or others i 0) (old_kept (map (conflict_sentence p) others) old new (literal p true) c t) (rw e at met))

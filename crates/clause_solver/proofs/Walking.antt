@@ -7,7 +7,7 @@ use Rattle.search_terms.specs.Tree.{Tree, IsTree, IsFoundLeaf, IsSplit}
 use Rattle.search_terms.specs.Marks.{true_classes}
 use Rattle.clause_solver.specs.declared.outcomes.Verdict.{Verdict}
 use Rattle.clause_solver.specs.declared.outcomes.Verdict.TheVariants.{Yes, No, Spent}
-use Rattle.clause_solver.specs.Marking.{among}
+use Rattle.clause_solver.specs.Marking.{set_of_trail}
 use Rattle.clause_solver.specs.Standing.{WalksIn, WalksPast}
 use Rattle.clause_solver.specs.Verdicts.{Ends, IsKept, IsVerdictOf}
 use Rattle.clause_solver.proofs.Stacking.{stands_first, go_across, go_up, stack_found, stack_spent, stack_down, stack_past, stack_refuted}
@@ -43,9 +43,9 @@ walk_past keeps n failed formula log now decisions clash more w =
     (w.0 ++ map negation decisions ∷ [], kept_more keeps log now w.0 (map negation decisions) w.1 more, stack_past n failed formula w.0 (w.0 ++ map negation decisions ∷ []) decisions clash refl w.2)
 
 -- a found leaf
-pub walk_found : (keeps : Bool) (n budget failed : ℕ) (formula log : List (List Literal)) (decisions trail : List Literal) (tree : Tree) → IsFoundLeaf n formula decisions (true_classes n (among trail)) → failed ≤ budget
+pub walk_found : (keeps : Bool) (n budget failed : ℕ) (formula log : List (List Literal)) (decisions trail : List Literal) (tree : Tree) → IsFoundLeaf n formula decisions (true_classes n (set_of_trail trail)) → failed ≤ budget
     → WalksIn keeps n formula decisions failed log → IsTree n formula [] tree → Ends keeps n budget tree Yes trail log
-walk_found keeps n budget failed formula log decisions trail tree leaf le w is = stack_found n budget failed formula w.0 decisions (true_classes n (among trail)) tree leaf le w.2 is
+walk_found keeps n budget failed formula log decisions trail tree leaf le w is = stack_found n budget failed formula w.0 decisions (true_classes n (set_of_trail trail)) tree leaf le w.2 is
 
 -- one failed leaf more than the budget
 pub walk_spent : (keeps : Bool) (n budget failed : ℕ) (formula log : List (List Literal)) (decisions trail : List Literal) (tree : Tree) → Clashes formula decisions → failed ≡ budget

@@ -5,7 +5,7 @@ use Rattle.search_terms.specs.declared.literals.Literal.{Literal}
 use Rattle.search_terms.specs.Closure.{literal}
 use Rattle.search_terms.specs.Tree.{IsFoundLeaf, IsSplit, is_open_need, is_undecided}
 use Rattle.search_terms.specs.Marks.{classes_left, true_classes}
-use Rattle.clause_solver.specs.Marking.{among}
+use Rattle.clause_solver.specs.Marking.{set_of_trail}
 use Rattle.clause_solver.specs.declared.nodes.Node.{Node}
 use Rattle.clause_solver.specs.declared.table.Use.{Use}
 use Rattle.clause_solver.specs.declared.nodes.Node.TheVariants.{Met, Splits}
@@ -13,7 +13,7 @@ use Rattle.clause_solver.specs.declared.nodes.Node.TheVariants.{Met, Splits}
 -- the trail leaves no need open, and so is that of a found leaf; or the node splits on a class, and each branch leaves fewer
 -- classes
 abbrev pub IsNode : ℕ → List (List Literal) → List Literal → List Literal → Node → Type 0
-IsNode classes formula decisions trail Met = IsFoundLeaf classes formula decisions (true_classes classes (among trail))
+IsNode classes formula decisions trail Met = IsFoundLeaf classes formula decisions (true_classes classes (set_of_trail trail))
 IsNode classes formula decisions trail (Splits c) =
     IsSplit formula decisions c
     × (c < classes)
@@ -41,4 +41,4 @@ pub record IsLeastOpen (set : Literal → Bool) (own : List (List Literal)) (row
 -- a class on which a node splits is undecided
 abbrev pub IsUndecidedAt : List Literal → Node → Type 0
 IsUndecidedAt trail Met = Unit {0}
-IsUndecidedAt trail (Splits c) = is_undecided (among trail) (literal c true) ≡ true
+IsUndecidedAt trail (Splits c) = is_undecided (set_of_trail trail) (literal c true) ≡ true

@@ -5,7 +5,7 @@ use Rattle.search_terms.specs.Form.{form}
 use Rattle.search_terms.specs.declared.literals.Literal.{Literal}
 use Rattle.search_terms.specs.Tree.{Tree, IsTree, found_of, failed_leaves, log_of}
 use Rattle.search_terms.specs.Marks.{true_classes}
-use Rattle.clause_solver.specs.Marking.{among}
+use Rattle.clause_solver.specs.Marking.{set_of_trail}
 use Rattle.clause_solver.specs.declared.outcomes.Verdict.{Verdict}
 use Rattle.clause_solver.specs.declared.outcomes.Verdict.TheVariants.{Yes, No, Spent}
 
@@ -25,7 +25,7 @@ IsKept keeps log entries = keeps ≡ true → log ≡ entries
 
 -- how a walk of the tree ends: with the trail of the first found leaf, or with the log of the tree, where one is kept
 abbrev pub Ends : Bool → ℕ → ℕ → Tree → Verdict → List Literal → List (List Literal) → Type 0
-Ends keeps classes budget tree Yes trail log = (found_of tree ≡ Some (true_classes classes (among trail))) × (failed_leaves tree ≤ budget)
+Ends keeps classes budget tree Yes trail log = (found_of tree ≡ Some (true_classes classes (set_of_trail trail))) × (failed_leaves tree ≤ budget)
 Ends keeps classes budget tree No trail log = (found_of tree ≡ None) × (failed_leaves tree ≤ budget) × IsKept keeps log (log_of [] tree)
 Ends keeps classes budget tree Spent trail log = budget < failed_leaves tree
 

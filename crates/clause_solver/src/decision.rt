@@ -4,7 +4,7 @@ ghost use Rattle.std.specs.Bool.{OnTrue, OnFalse};
 ghost use Rattle.search_terms.specs.declared.literals.Literal.{Literal};
 ghost use Rattle.search_terms.specs.Closure.{Clashes};
 ghost use Rattle.search_terms.specs.Tree.{is_undecided};
-ghost use Rattle.clause_solver.specs.Marking.{among};
+ghost use Rattle.clause_solver.specs.Marking.{set_of_trail};
 ghost use Rattle.clause_solver.specs.Engine.{sentences_in, IsFormula};
 ghost use Rattle.clause_solver.specs.Levels.{CalmAt};
 ghost use Rattle.clause_solver.specs.Nodes.{ArePositive};
@@ -20,7 +20,7 @@ pub(crate) fn decide(trail: &mut Trail, l: Literal, formula: &Formula) -> Result
     requires engine { IsFormula trail.old.0 formula.now }
     requires positive { ArePositive formula.now.goals.now }
     requires class { l.class < trail.old.0 }
-    requires undecided { is_undecided (among trail.old.1) l ≡ true }
+    requires undecided { is_undecided (set_of_trail trail.old.1) l ≡ true }
     requires calm { (decisions : List Literal) × CalmAt (sentences_in formula.now) decisions trail.old.1 }
     ensures classes { OnOk result (trail.new.0 ≡ trail.old.0) }
     ensures front { OnOk result ((take (length trail.old.1) trail.new.1 ≡ trail.old.1) × (length trail.old.1 ≤ length trail.new.1)) }

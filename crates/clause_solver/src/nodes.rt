@@ -5,7 +5,7 @@ ghost use Rattle.std.specs.List.{find};
 ghost use Rattle.search_terms.specs.declared.literals.Literal.{Literal};
 ghost use Rattle.search_terms.specs.Tree.{is_open_need};
 ghost use Rattle.search_terms.specs.Marks.{true_classes};
-ghost use Rattle.clause_solver.specs.Marking.{among};
+ghost use Rattle.clause_solver.specs.Marking.{set_of_trail};
 ghost use Rattle.clause_solver.specs.Engine.{sentences_in, IsFormula, IsTable, IsUse};
 ghost use Rattle.clause_solver.specs.Levels.{CalmAt};
 ghost use Rattle.clause_solver.specs.Nodes.{AreFull, HaveNegative, IsLeastOpen, IsNode, IsUndecidedAt};
@@ -30,7 +30,7 @@ pub(crate) enum Node {
 /// The least place below another one of a sentence of the row that is open, or else the other one.
 fn lesser_open(trail: &Trail, own: &[LiteralList], row: &[Use], before: usize) -> usize
     requires { All (IsUse own.now) row.now }
-    ensures { IsLeastOpen (among trail.now.1) own.now row.now before result }
+    ensures { IsLeastOpen (set_of_trail trail.now.1) own.now row.now before result }
 {
     let mut least = before;
     for entry in row {
@@ -51,8 +51,8 @@ fn first_open(trail: &Trail, own: &[LiteralList], uses: &[Listed<Use>]) -> usize
     requires table { IsTable trail.now.0 uses.now own.now }
     requires negative { HaveNegative own.now }
     ensures within { result ≤ length own.now }
-    ensures opens { result < length own.now → is_open_need (among trail.now.1) (slice_index_or own.now result []) ≡ true }
-    ensures none { (k : ℕ) → k < result → is_open_need (among trail.now.1) (slice_index_or own.now k []) ≡ false }
+    ensures opens { result < length own.now → is_open_need (set_of_trail trail.now.1) (slice_index_or own.now result []) ≡ true }
+    ensures none { (k : ℕ) → k < result → is_open_need (set_of_trail trail.now.1) (slice_index_or own.now k []) ≡ false }
 {
     let mut least = own.len();
     for l in trail.as_slice() {
@@ -66,7 +66,7 @@ fn first_open(trail: &Trail, own: &[LiteralList], uses: &[Listed<Use>]) -> usize
 
 /// The first goal that is open.
 fn open_goal<'a>(trail: &Trail, goals: &'a [LiteralList]) -> Option<&'a LiteralList>
-    ensures { option_copied result ≡ find (is_open_need (among trail.now.1)) goals.now }
+    ensures { option_copied result ≡ find (is_open_need (set_of_trail trail.now.1)) goals.now }
 {
     goals
         .iter()
@@ -81,7 +81,7 @@ fn open_own<'a>(
 ) -> Option<&'a LiteralList>
     requires table { IsTable trail.now.0 uses.now own.now }
     requires negative { HaveNegative own.now }
-    ensures { option_copied result ≡ find (is_open_need (among trail.now.1)) own.now }
+    ensures { option_copied result ≡ find (is_open_need (set_of_trail trail.now.1)) own.now }
 {
     let place = first_open(trail, own, uses);
     if place == own.len() {
@@ -99,7 +99,7 @@ fn open_need<'a>(
 ) -> Option<&'a LiteralList>
     requires table { IsTable trail.now.0 uses.now own.now }
     requires negative { HaveNegative own.now }
-    ensures { option_copied result ≡ find (is_open_need (among trail.now.1)) (goals.now ++ own.now) }
+    ensures { option_copied result ≡ find (is_open_need (set_of_trail trail.now.1)) (goals.now ++ own.now) }
 {
     match open_goal(trail, goals) {
         Some(goal) => Some(goal),
@@ -109,7 +109,7 @@ fn open_need<'a>(
 
 /// A flag for each class, up where it is true.
 pub(crate) fn chosen(alloc: Global, classes: u32, trail: &Trail) -> Result<Vec<bool>, AllocError>
-    ensures { IfOk result (λ v. v.items ≡ true_classes classes (among trail.now.1)) }
+    ensures { IfOk result (λ v. v.items ≡ true_classes classes (set_of_trail trail.now.1)) }
 {
     (0..classes)
         .map(|class| {

@@ -2,9 +2,9 @@
 ghost use Rattle.std.specs.Prelude.{◌≡◌, ◌<◌, ◌≤◌, true, false, List, All, Contains, OnOk, IfOk, length};
 ghost use Rattle.std.specs.Bool.{OnTrue, OnFalse};
 ghost use Rattle.search_terms.specs.declared.literals.Literal.{Literal};
-ghost use Rattle.search_terms.specs.Closure.{negation, InRange, IsClosed};
+ghost use Rattle.search_terms.specs.Closure.{negation, InRange, IsUnitClosed};
 ghost use Rattle.search_terms.specs.Marks.{IsConsistent};
-ghost use Rattle.clause_solver.specs.Marking.{among};
+ghost use Rattle.clause_solver.specs.Marking.{set_of_trail};
 ghost use Rattle.clause_solver.specs.Running.{HasRefuted, Runs, Waits};
 ghost use Rattle.clause_solver.specs.Engine.{sentences_in, IsFormula};
 ghost use Rattle.clause_solver.specs.Nodes.{ArePositive};
@@ -19,12 +19,12 @@ use std::alloc::AllocError;
 /// of these.
 fn propagate_goals(trail: &mut Trail, l: Literal, goals: &[LiteralList]) -> Result<bool, AllocError>
     requires ranged { InRange trail.old.0 goals.now }
-    requires consistent { IsConsistent (among trail.old.1) }
+    requires consistent { IsConsistent (set_of_trail trail.old.1) }
     requires positive { ArePositive goals.now }
     ensures classes { OnOk result (trail.new.0 ≡ trail.old.0) }
     ensures runs { OnOk result (Runs goals.now trail.old.1 trail.new.1) }
     ensures waits { IfOk result (λ contradiction. OnFalse contradiction ((s : List Literal) → Contains goals.now s → Contains s (negation l) → Waits (length trail.old.1) trail.new.1 s)) }
-    ensures refuted { IfOk result (λ contradiction. OnTrue contradiction (HasRefuted goals.now (among trail.new.1))) }
+    ensures refuted { IfOk result (λ contradiction. OnTrue contradiction (HasRefuted goals.now (set_of_trail trail.new.1))) }
 {
     if l.positive {
         return Ok(false);
@@ -39,13 +39,13 @@ fn propagate_goals(trail: &mut Trail, l: Literal, goals: &[LiteralList]) -> Resu
 fn propagate_literal(trail: &mut Trail, l: Literal, formula: &Formula) -> Result<bool, AllocError>
     requires engine { IsFormula trail.old.0 formula.now }
     requires positive { ArePositive formula.now.goals.now }
-    requires consistent { IsConsistent (among trail.old.1) }
+    requires consistent { IsConsistent (set_of_trail trail.old.1) }
     requires class { l.class < trail.old.0 }
-    requires there { among trail.old.1 l ≡ true }
+    requires there { set_of_trail trail.old.1 l ≡ true }
     ensures classes { OnOk result (trail.new.0 ≡ trail.old.0) }
     ensures runs { OnOk result (Runs (sentences_in formula.now) trail.old.1 trail.new.1) }
     ensures waits { IfOk result (λ contradiction. OnFalse contradiction ((s : List Literal) → Contains (sentences_in formula.now) s → Contains s (negation l) → Waits (length trail.old.1) trail.new.1 s)) }
-    ensures refuted { IfOk result (λ contradiction. OnTrue contradiction (HasRefuted (sentences_in formula.now) (among trail.new.1))) }
+    ensures refuted { IfOk result (λ contradiction. OnTrue contradiction (HasRefuted (sentences_in formula.now) (set_of_trail trail.new.1))) }
 {
     let uses = formula.uses;
     let conflicts = formula.conflicts;
@@ -73,13 +73,13 @@ pub(crate) fn propagate(
 ) -> Result<bool, AllocError>
     requires engine { IsFormula trail.old.0 formula.now }
     requires positive { ArePositive formula.now.goals.now }
-    requires consistent { IsConsistent (among trail.old.1) }
+    requires consistent { IsConsistent (set_of_trail trail.old.1) }
     requires from { from ≤ length trail.old.1 }
     requires waits { All (Waits from trail.old.1) (sentences_in formula.now) }
     ensures classes { OnOk result (trail.new.0 ≡ trail.old.0) }
     ensures runs { OnOk result (Runs (sentences_in formula.now) trail.old.1 trail.new.1) }
-    ensures closed { IfOk result (λ contradiction. OnFalse contradiction (IsClosed (sentences_in formula.now) (among trail.new.1))) }
-    ensures refuted { IfOk result (λ contradiction. OnTrue contradiction (HasRefuted (sentences_in formula.now) (among trail.new.1))) }
+    ensures closed { IfOk result (λ contradiction. OnFalse contradiction (IsUnitClosed (sentences_in formula.now) (set_of_trail trail.new.1))) }
+    ensures refuted { IfOk result (λ contradiction. OnTrue contradiction (HasRefuted (sentences_in formula.now) (set_of_trail trail.new.1))) }
 {
     let mut next = from;
     while next < trail.as_slice().len() {

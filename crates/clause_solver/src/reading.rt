@@ -3,7 +3,7 @@ ghost use Rattle.std.specs.Prelude.{◌≡◌, true, not};
 ghost use Rattle.std.specs.List.{find};
 ghost use Rattle.search_terms.specs.Closure.{negation, forces};
 ghost use Rattle.search_terms.specs.Tree.{is_open_need, is_undecided};
-ghost use Rattle.clause_solver.specs.Marking.{among};
+ghost use Rattle.clause_solver.specs.Marking.{set_of_trail};
 ghost use Rattle.clause_solver.specs.Engine.{HasTwoFree};
 
 use crate::table::Use;
@@ -12,14 +12,14 @@ use search_terms::Literal;
 
 /// The first literal that is not contradicted.
 pub(crate) fn first_free(trail: &Trail, sentence: &[Literal]) -> Option<Literal>
-    ensures { result ≡ find (λ m. not (among trail.now.1 (negation m))) sentence.now }
+    ensures { result ≡ find (λ m. not (set_of_trail trail.now.1 (negation m))) sentence.now }
 {
     sentence.iter().copied().find(|m| !trail.has(m.negation()))
 }
 
 /// Whether all the others are contradicted.
 pub(crate) fn is_forced(trail: &Trail, l: Literal, sentence: &[Literal]) -> bool
-    ensures { result ≡ forces (among trail.now.1) l sentence.now }
+    ensures { result ≡ forces (set_of_trail trail.now.1) l sentence.now }
 {
     sentence
         .iter()
@@ -28,13 +28,13 @@ pub(crate) fn is_forced(trail: &Trail, l: Literal, sentence: &[Literal]) -> bool
 
 /// Whether the use keeps two flags and neither is up: the sentence has two literals then that are not contradicted.
 pub(crate) fn has_two_free(trail: &Trail, entry: Use) -> bool
-    ensures { result ≡ true → HasTwoFree (among trail.now.1) entry }
+    ensures { result ≡ true → HasTwoFree (set_of_trail trail.now.1) entry }
 {
     entry.one != entry.other && !trail.is_up(entry.one) && !trail.is_up(entry.other)
 }
 
 pub(crate) fn is_open_need(trail: &Trail, sentence: &[Literal]) -> bool
-    ensures { result ≡ is_open_need (among trail.now.1) sentence.now }
+    ensures { result ≡ is_open_need (set_of_trail trail.now.1) sentence.now }
 {
     sentence.iter().all(|l| {
         if l.positive {
@@ -46,7 +46,7 @@ pub(crate) fn is_open_need(trail: &Trail, sentence: &[Literal]) -> bool
 }
 
 pub(crate) fn undecided(trail: &Trail, sentence: &[Literal]) -> Option<Literal>
-    ensures { result ≡ find (is_undecided (among trail.now.1)) sentence.now }
+    ensures { result ≡ find (is_undecided (set_of_trail trail.now.1)) sentence.now }
 {
     sentence
         .iter()

@@ -4,7 +4,7 @@ ghost use Rattle.std.specs.Bool.{OnTrue, OnFalse};
 ghost use Rattle.search_terms.specs.Closure.{literal, InRange, IsMet, is_refuted};
 ghost use Rattle.search_terms.specs.Marks.{IsConsistent};
 ghost use Rattle.search_terms.specs.Form.{conflict_sentence};
-ghost use Rattle.clause_solver.specs.Marking.{among};
+ghost use Rattle.clause_solver.specs.Marking.{set_of_trail};
 ghost use Rattle.clause_solver.specs.Engine.{IsUse};
 ghost use Rattle.clause_solver.specs.Running.{HasRefuted, Runs, Waits};
 
@@ -17,11 +17,11 @@ use std::alloc::AllocError;
 /// Marks the literal that the sentence forces, if there is one.
 pub(crate) fn unit_step(trail: &mut Trail, sentence: &[Literal]) -> Result<bool, AllocError>
     requires ranged { All (λ l. l.class < trail.old.0) sentence.now }
-    requires consistent { IsConsistent (among trail.old.1) }
+    requires consistent { IsConsistent (set_of_trail trail.old.1) }
     ensures classes { OnOk result (trail.new.0 ≡ trail.old.0) }
     ensures runs { OnOk result (Runs (sentence.now ∷ []) trail.old.1 trail.new.1) }
-    ensures met { IfOk result (λ contradiction. OnFalse contradiction (IsMet (among trail.new.1) sentence.now)) }
-    ensures refuted { IfOk result (λ contradiction. OnTrue contradiction (is_refuted (among trail.new.1) sentence.now ≡ true)) }
+    ensures met { IfOk result (λ contradiction. OnFalse contradiction (IsMet (set_of_trail trail.new.1) sentence.now)) }
+    ensures refuted { IfOk result (λ contradiction. OnTrue contradiction (is_refuted (set_of_trail trail.new.1) sentence.now ≡ true)) }
 {
     let Some(l) = first_free(trail, sentence) else {
         return Ok(true);
@@ -42,11 +42,11 @@ pub(crate) fn propagate_all(
     sentences: &[LiteralList],
 ) -> Result<bool, AllocError>
     requires ranged { InRange trail.old.0 sentences.now }
-    requires consistent { IsConsistent (among trail.old.1) }
+    requires consistent { IsConsistent (set_of_trail trail.old.1) }
     ensures classes { OnOk result (trail.new.0 ≡ trail.old.0) }
     ensures runs { OnOk result (Runs sentences.now trail.old.1 trail.new.1) }
     ensures waits { IfOk result (λ contradiction. OnFalse contradiction (All (Waits (length trail.old.1) trail.new.1) sentences.now)) }
-    ensures refuted { IfOk result (λ contradiction. OnTrue contradiction (HasRefuted sentences.now (among trail.new.1))) }
+    ensures refuted { IfOk result (λ contradiction. OnTrue contradiction (HasRefuted sentences.now (set_of_trail trail.new.1))) }
 {
     for sentence in sentences {
         if unit_step(trail, sentence.as_slice())? {
@@ -63,12 +63,12 @@ fn propagate_use(
     entry: Use,
 ) -> Result<bool, AllocError>
     requires ranged { InRange trail.old.0 sentences.now }
-    requires consistent { IsConsistent (among trail.old.1) }
+    requires consistent { IsConsistent (set_of_trail trail.old.1) }
     requires used { IsUse sentences.now entry }
     ensures classes { OnOk result (trail.new.0 ≡ trail.old.0) }
     ensures runs { OnOk result (Runs (slice_index_or sentences.now entry.sentence [] ∷ []) trail.old.1 trail.new.1) }
-    ensures met { IfOk result (λ contradiction. OnFalse contradiction (IsMet (among trail.new.1) (slice_index_or sentences.now entry.sentence []))) }
-    ensures refuted { IfOk result (λ contradiction. OnTrue contradiction (is_refuted (among trail.new.1) (slice_index_or sentences.now entry.sentence []) ≡ true)) }
+    ensures met { IfOk result (λ contradiction. OnFalse contradiction (IsMet (set_of_trail trail.new.1) (slice_index_or sentences.now entry.sentence []))) }
+    ensures refuted { IfOk result (λ contradiction. OnTrue contradiction (is_refuted (set_of_trail trail.new.1) (slice_index_or sentences.now entry.sentence []) ≡ true)) }
 {
     if has_two_free(trail, entry) {
         return Ok(false);
@@ -84,12 +84,12 @@ pub(crate) fn propagate_row(
     row: &[Use],
 ) -> Result<bool, AllocError>
     requires ranged { InRange trail.old.0 sentences.now }
-    requires consistent { IsConsistent (among trail.old.1) }
+    requires consistent { IsConsistent (set_of_trail trail.old.1) }
     requires row { All (IsUse sentences.now) row.now }
     ensures classes { OnOk result (trail.new.0 ≡ trail.old.0) }
     ensures runs { OnOk result (Runs sentences.now trail.old.1 trail.new.1) }
     ensures waits { IfOk result (λ contradiction. OnFalse contradiction (All (λ u. Waits (length trail.old.1) trail.new.1 (slice_index_or sentences.now u.sentence [])) row.now)) }
-    ensures refuted { IfOk result (λ contradiction. OnTrue contradiction (HasRefuted sentences.now (among trail.new.1))) }
+    ensures refuted { IfOk result (λ contradiction. OnTrue contradiction (HasRefuted sentences.now (set_of_trail trail.new.1))) }
 {
     for entry in row {
         if propagate_use(trail, sentences, *entry)? {
@@ -105,14 +105,14 @@ pub(crate) fn propagate_conflicts(
     class: u32,
     others: &[u32],
 ) -> Result<bool, AllocError>
-    requires class { among trail.old.1 (literal class true) ≡ true }
+    requires class { set_of_trail trail.old.1 (literal class true) ≡ true }
     requires own { class < trail.old.0 }
     requires others { All (λ q. q < trail.old.0) others.now }
-    requires consistent { IsConsistent (among trail.old.1) }
+    requires consistent { IsConsistent (set_of_trail trail.old.1) }
     ensures classes { OnOk result (trail.new.0 ≡ trail.old.0) }
     ensures runs { OnOk result (Runs (map (conflict_sentence class) others.now) trail.old.1 trail.new.1) }
-    ensures excluded { IfOk result (λ contradiction. OnFalse contradiction (All (λ q. among trail.new.1 (literal q false) ≡ true) others.now)) }
-    ensures refuted { IfOk result (λ contradiction. OnTrue contradiction (HasRefuted (map (conflict_sentence class) others.now) (among trail.new.1))) }
+    ensures excluded { IfOk result (λ contradiction. OnFalse contradiction (All (λ q. set_of_trail trail.new.1 (literal q false) ≡ true) others.now)) }
+    ensures refuted { IfOk result (λ contradiction. OnTrue contradiction (HasRefuted (map (conflict_sentence class) others.now) (set_of_trail trail.new.1))) }
 {
     for q in others {
         let sentence = [

@@ -2,7 +2,7 @@
 ghost use Rattle.std.specs.Prelude.{◌≡◌, ◌<◌, ◌≤◌, ◌+◌, ◌*◌, ◌∷◌, ◌++◌, [], length, take, false, IfOk, OnOk, OnErr, All};
 ghost use Rattle.search_terms.specs.declared.literals.Literal.{Literal};
 ghost use Rattle.search_terms.specs.Marks.{flag_place};
-ghost use Rattle.clause_solver.specs.Marking.{among, EachOnce};
+ghost use Rattle.clause_solver.specs.Marking.{set_of_trail, EachOnce};
 
 use search_terms::Literal;
 use std::alloc::{AllocError, Global};
@@ -42,14 +42,14 @@ impl Trail {
 
     /// Whether the literal is marked.
     pub(crate) fn has(&self, l: Literal) -> bool
-        ensures { result ≡ among self.now.1 l }
+        ensures { result ≡ set_of_trail self.now.1 l }
     {
         self.flags.get(l.place()).copied().unwrap_or(false)
     }
 
     /// Whether the flag is up.
     pub(crate) fn is_up(&self, flag: usize) -> bool
-        ensures { (l : Literal) → flag ≡ flag_place l → result ≡ among self.now.1 l }
+        ensures { (l : Literal) → flag ≡ flag_place l → result ≡ set_of_trail self.now.1 l }
     {
         self.flags.get(flag).copied().unwrap_or(false)
     }
@@ -67,7 +67,7 @@ impl Trail {
     /// Trail a literal that is not marked.
     pub(crate) fn put(&mut self, l: Literal) -> Result<(), AllocError>
         requires class { l.class < self.old.0 }
-        requires new { among self.old.1 l ≡ false }
+        requires new { set_of_trail self.old.1 l ≡ false }
         ensures ok { OnOk result (self.new ≡ (self.old.0, self.old.1 ++ l ∷ [])) }
         ensures err { OnErr result (self.new ≡ self.old) }
     {

@@ -11,13 +11,13 @@ use Rattle.headline.specs.Listing.{HasNoOpenLine, ListsExactly, is_broken}
 use Rattle.headline.proofs.Exact.{report_lists_exactly}
 use Rattle.headline.proofs.Lost.{empty_list_loses_nothing, without_open_lines}
 use Rattle.coinst_run.proofs.Prints.{exact_lists_print_exactly, lines_are_cut}
-use Rattle.coinst_run.specs.Printing.{PrintsExactly}
+use Rattle.coinst_run.specs.ComparePrints.{PrintsExactly}
 use Rattle.kernel_text.specs.KernelLines.{lines_of}
 use Rattle.row_book.specs.Sets.{In}
 use Rattle.row_book.proofs.Lists.{In_none, filter_from}
 use Rattle.suite_compare.specs.Refusals.{home_in, packages_in}
-use Rattle.coinst_run.specs.declared.answer.Verdict.{Verdict}
-use Rattle.coinst_run.specs.declared.answer.Verdict.TheVariants.{Done, Negative, Undecided}
+use Rattle.coinst_run.specs.declared.answer.ReportVerdict.{ReportVerdict}
+use Rattle.coinst_run.specs.declared.answer.ReportVerdict.TheVariants.{Done, Negative, Undecided}
 use Rattle.coinst_run.specs.Answer.{reported}
 use Rattle.coinst_run.specs.Compare.{broken_lines, compare_answer, lines_answer, newer_course}
 use Rattle.coinst_run.specs.CompareMeaning.{CompareIsMeant}
@@ -27,10 +27,10 @@ use Rattle.coinst_run.specs.Outcome.{answered}
 use Rattle.coinst_run.proofs.GoingOn.{GivesThis, kernel_used, this_alone}
 
 -- a report on a list
-lines_verdict : (lines : List ReportLine) (verdict : Verdict) (printed : List ℕ) → answered (lines_answer lines) ≡ answered (reported verdict printed) → verdict ≡ comparison_verdict lines
+lines_verdict : (lines : List ReportLine) (verdict : ReportVerdict) (printed : List ℕ) → answered (lines_answer lines) ≡ answered (reported verdict printed) → verdict ≡ comparison_verdict lines
 lines_verdict lines verdict printed e = cc
 
-lines_text : (lines : List ReportLine) (verdict : Verdict) (printed : List ℕ) → answered (lines_answer lines) ≡ answered (reported verdict printed) → printed ≡ comparison_text lines
+lines_text : (lines : List ReportLine) (verdict : ReportVerdict) (printed : List ℕ) → answered (lines_answer lines) ≡ answered (reported verdict printed) → printed ≡ comparison_text lines
 lines_text lines verdict printed e = cc
 
 -- nothing is told where the run is done

@@ -25,7 +25,7 @@ use Rattle.status_check.specs.Own.{status_fault}
 use Rattle.suite_compare.specs.Answering.{unknown_goal}
 use Rattle.suite_compare.specs.Asking.{asked_tree, tree_of}
 use Rattle.suite_compare.specs.Refusals.{packages_in}
-use Rattle.coinst_run.specs.declared.answer.Verdict.TheVariants.{Done, Negative, Undecided}
+use Rattle.coinst_run.specs.declared.answer.ReportVerdict.TheVariants.{Done, Negative, Undecided}
 use Rattle.coinst_run.specs.Answer.{reported}
 use Rattle.coinst_run.specs.Compare.{compare_answer, newer_course}
 use Rattle.coinst_run.specs.Course.{Course, answers, then_on}
@@ -43,7 +43,7 @@ use Rattle.coinst_run.specs.StoredReading.{stored_reading}
 use Rattle.coinst_run.specs.SystemStatus.{system_answer, system_by_fault, system_course, told_answer, system_report}
 use Rattle.coinst_run.proofs.StoredReading.{reading_is}
 use Rattle.coinst_run.specs.Complete.{CompleteJobsReport, GivesReport, IsComplete}
-use Rattle.coinst_run.proofs.GoingOn.{checked_used, file_step, file_used, index_step, kernel_at_step, kernel_at_used, kernel_step, kernel_used, limit_step, limit_used, some_alone, told}
+use Rattle.coinst_run.proofs.GoingOn.{checked_used, file_step, file_used, kernel_at_step, kernel_at_used, kernel_step, kernel_used, limit_step, limit_used, some_alone, told}
 
 -- goals of an index
 found_told : (limit : ℕ) (hold : Bool) (index : Index) (goals : List Goal) (tree : Tree) (chosen : Option (List Bool)) → GivesReport (answered (by_found limit hold index goals tree chosen))

@@ -4,7 +4,7 @@ use Rattle.std.specs.Prelude.{IfSome}
 use Rattle.std.proofs.lemmas.Bool.{and_from, and_parts, both_ways, eq-eqb, eqb-true, false_from_ne_true, or_cases, or_left}
 use Rattle.clause_solver.specs.declared.outcomes.Verdict.{Verdict as SearchVerdict}
 use Rattle.clause_solver.specs.declared.outcomes.Verdict.TheVariants as tells
-use Rattle.explain_core.specs.Core.{core_of, marked_goals, marks_of}
+use Rattle.explain_core.specs.Core.{goal_core, marked_goals, marks_of}
 use Rattle.explain_core.specs.Explaining.{clashes_for, explained_by, explanation_of}
 use Rattle.explain_core.specs.Meaning.{AreReasons, MeansExplanation}
 use Rattle.explain_core.specs.Only.{only, pair}
@@ -36,8 +36,8 @@ use Rattle.suite_compare.specs.Answering.{unknown_goal}
 use Rattle.suite_compare.specs.Asking.{HasVerdict, asked_tree, verdict_in, wanted_by}
 use Rattle.suite_compare.proofs.Deciding.{named_from, named_parts, verdict_is_judged}
 use Rattle.suite_compare.specs.Refusals.{home_in, packages_in}
-use Rattle.coinst_run.specs.declared.answer.Verdict.{Verdict}
-use Rattle.coinst_run.specs.declared.answer.Verdict.TheVariants.{Done, Negative, Undecided}
+use Rattle.coinst_run.specs.declared.answer.ReportVerdict.{ReportVerdict}
+use Rattle.coinst_run.specs.declared.answer.ReportVerdict.TheVariants.{Done, Negative, Undecided}
 use Rattle.coinst_run.specs.Answer.{reported}
 use Rattle.coinst_run.specs.Explain.{explain_answer, explained_by_unknown, explanation_answer, goals_explained}
 use Rattle.coinst_run.specs.ExplainMeaning.{AreEnough, CoinstButFor, ExplainIsMeant, ExplainMeans, HealthyButFor, MeansExplained}
@@ -138,14 +138,14 @@ module _ (home : Home) (stanzas : List PackageFacts) where
   some_enough goals (Some clashes) conflicts reasons = enough_from goals clashes conflicts reasons
 
 -- the report on goals in a text
-module _ (text : List ℕ) (goals : List Goal) (budget limit : ℕ) (hold : Bool) (verdict : Verdict) (report : List ℕ) where
+module _ (text : List ℕ) (goals : List Goal) (budget limit : ℕ) (hold : Bool) (verdict : ReportVerdict) (report : List ℕ) where
   abbrev told_home : Home
   told_home = home_in text
 
   abbrev told_stanzas : List PackageFacts
   told_stanzas = packages_in text
 
-  means_as : (told : Verdict) (bytes : List ℕ) → reported told bytes ≡ reported verdict report → MeansExplained text goals budget limit hold told bytes → MeansExplained text goals budget limit hold verdict report
+  means_as : (told : ReportVerdict) (bytes : List ℕ) → reported told bytes ≡ reported verdict report → MeansExplained text goals budget limit hold told bytes → MeansExplained text goals budget limit hold verdict report
   means_as told bytes e m =
       let v : told ≡ verdict = cc in
       let b : bytes ≡ report = cc in
@@ -163,9 +163,9 @@ module _ (text : List ℕ) (goals : List Goal) (budget limit : ℕ) (hold : Bool
   core_conflicts marks clashes tells.Yes e = absurd cc
   core_conflicts marks clashes tells.Spent e = absurd cc
   core_conflicts marks clashes tells.No e =
-      let same : clashes_for told_home told_stanzas budget goals (marks_of (core_of limit hold told_home told_stanzas budget goals)) ≡ clashes = cc in
+      let same : clashes_for told_home told_stanzas budget goals (marks_of (goal_core limit hold told_home told_stanzas budget goals)) ≡ clashes = cc in
       subst (λ cs. IfSome cs (λ cs. (c : Clash) → In c cs → AreInConflict told_home told_stanzas c.first c.second)) same
-      (reasons_in_conflict told_home told_stanzas budget (wanted_by told_stanzas (marked_goals goals (marks_of (core_of limit hold told_home told_stanzas budget goals)))))
+      (reasons_in_conflict told_home told_stanzas budget (wanted_by told_stanzas (marked_goals goals (marks_of (goal_core limit hold told_home told_stanzas budget goals)))))
 
   explained : Accepted told_stanzas → (explanation : Explanation) → explanation_of limit hold told_home told_stanzas budget goals ≡ explanation → MeansExplanation told_home told_stanzas goals explanation →
       explanation_answer told_stanzas goals budget explanation ≡ reported verdict report → MeansExplained text goals budget limit hold verdict report

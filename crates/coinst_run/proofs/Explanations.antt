@@ -7,7 +7,7 @@ use Rattle.std.proofs.lemmas.Bool.{and_parts, cases_Bool, ltb-true}
 use Rattle.listed.proofs.Lists.{In_flat_cases}
 use Rattle.clause_solver.specs.declared.outcomes.Verdict.{Verdict}
 use Rattle.clause_solver.specs.declared.outcomes.Verdict.TheVariants as verdict
-use Rattle.explain_core.specs.Core.{core_of, marked_goals, marks_of}
+use Rattle.explain_core.specs.Core.{goal_core, marked_goals, marks_of}
 use Rattle.explain_core.specs.Deletion.{kept_of}
 use Rattle.explain_core.specs.Explaining.{clashes_for, explained_by, explanation_of}
 use Rattle.explain_core.specs.Only.{conflicts_above, conflicts_within, pair}
@@ -95,9 +95,9 @@ module _ (home : Home) (stanzas : List PackageFacts) where
   tellable_by limit hold budget goals verdict.Yes = tt
   tellable_by limit hold budget goals verdict.Spent = tt
   tellable_by limit hold budget goals verdict.No = (
-    core_places limit hold home stanzas budget goals (marks_of (core_of limit hold home stanzas budget goals)) refl,
-    some_told (clashes_for home stanzas budget goals (marks_of (core_of limit hold home stanzas budget goals)))
-        (reasons_in_conflict budget (wanted_by stanzas (marked_goals goals (marks_of (core_of limit hold home stanzas budget goals))))),
+    core_places limit hold home stanzas budget goals (marks_of (goal_core limit hold home stanzas budget goals)) refl,
+    some_told (clashes_for home stanzas budget goals (marks_of (goal_core limit hold home stanzas budget goals)))
+        (reasons_in_conflict budget (wanted_by stanzas (marked_goals goals (marks_of (goal_core limit hold home stanzas budget goals))))),
   )
 
   -- an explanation names goals and packages that are there

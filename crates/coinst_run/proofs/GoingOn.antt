@@ -8,7 +8,7 @@ use Rattle.repo_model.specs.FirstFault.{first_fault}
 use Rattle.repo_model.specs.Repository.{suite_repository}
 use Rattle.row_book.specs.Rounds.{PassedRound, limit_at}
 use Rattle.suite_compare.specs.Refusals.{home_in, packages_in}
-use Rattle.coinst_run.specs.declared.answer.Verdict.{Verdict}
+use Rattle.coinst_run.specs.declared.answer.ReportVerdict.{ReportVerdict}
 use Rattle.coinst_run.specs.Answer.{reported}
 use Rattle.coinst_run.specs.Complete.{GivesReport, HasFile, HasIndex, HasKernel, IsWithin}
 use Rattle.coinst_run.specs.Course.{Course, reads, then_on}
@@ -94,14 +94,14 @@ module _ (P : Outcome → Type 0) (only : (o : Outcome) → P o → IsStop o →
       by (Some fault) is g = absurd (only _ g tt)
 
 -- so it is of this report, and of some report
-abbrev pub GivesThis : Verdict → List ℕ → Outcome → Type 0
+abbrev pub GivesThis : ReportVerdict → List ℕ → Outcome → Type 0
 GivesThis verdict printed o = o ≡ answered (reported verdict printed)
 
-pub this_alone : (verdict : Verdict) (printed : List ℕ) (o : Outcome) → GivesThis verdict printed o → IsStop o → ⊥
+pub this_alone : (verdict : ReportVerdict) (printed : List ℕ) (o : Outcome) → GivesThis verdict printed o → IsStop o → ⊥
 this_alone verdict printed o e stop = subst IsStop e stop
 
 pub some_alone : (o : Outcome) → GivesReport o → IsStop o → ⊥
 some_alone o g stop = subst IsStop g.2 stop
 
-pub told : (verdict : Verdict) (printed : List ℕ) → GivesReport (answered (reported verdict printed))
+pub told : (verdict : ReportVerdict) (printed : List ℕ) → GivesReport (answered (reported verdict printed))
 told verdict printed = (verdict, printed, refl)

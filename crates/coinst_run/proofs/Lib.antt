@@ -9,6 +9,7 @@ pub mod Telling
 pub mod Installed
 pub mod QueryMeant
 pub mod LimitLines
+pub mod ForwardReading
 pub mod StoredReading
 pub mod StoredKernels
 pub mod Queries

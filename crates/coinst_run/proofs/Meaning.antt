@@ -27,14 +27,15 @@ use Rattle.kernel_text.proofs.Classified.{kernels_are_writable}
 use Rattle.kernel_text.proofs.OneReading.{one_reading}
 use Rattle.kernel_text.proofs.ReadIsWritten.{read_is_written}
 use Rattle.suite_compare.specs.Refusals.{home_in, packages_in}
-use Rattle.coinst_run.specs.declared.answer.Verdict.{Verdict}
-use Rattle.coinst_run.specs.declared.answer.Verdict.TheVariants.{Done}
+use Rattle.coinst_run.specs.declared.answer.ReportVerdict.{ReportVerdict}
+use Rattle.coinst_run.specs.declared.answer.ReportVerdict.TheVariants.{Done}
 use Rattle.coinst_words.specs.declared.job.Job.{Job}
 use Rattle.coinst_words.specs.declared.job.Job.TheVariants.{Kernel, Query, StoredQuery, Compare, Explain, Status, Migrate, Sample}
 use Rattle.coinst_run.specs.Answer.{reported}
 use Rattle.coinst_run.specs.IndexKernel.{classed_kernel, index_kernel, json_for, members_for, text_for}
 use Rattle.coinst_run.specs.Kernel.{kernel_answer}
-use Rattle.coinst_run.specs.Headline.{KernelMeans, StandsOnce, classes_of}
+use Rattle.claims.specs.Classes.{classes_of, IsItsClass}
+use Rattle.coinst_run.specs.KernelMeaning.{KernelMeans}
 use Rattle.coinst_run.specs.Meaning.{JsonMeans, MeansJob}
 use Rattle.coinst_run.specs.Outcome.{answered, course_of, outcome_over}
 use Rattle.coinst_run.proofs.Classes.{class_within}
@@ -76,7 +77,7 @@ module _ (limit : ℕ) (hold : Bool) (home : Home) (stanzas : List PackageFacts)
       let k : i < length (suite_repository home stanzas).clauses = omega (arith, length_clauses home stanzas) in
       subst (λ n. n < size) (sym (class_is i l)) (class_within limit hold (round_count limit hold (suite_repository home stanzas)) (suite_repository home stanzas) (suite_sound home stanzas) i k)
 
-  pub stands : (i : ℕ) → i < length stanzas → StandsOnce size (kernel_members stanzas classes size) (stanza_at stanzas i)
+  pub stands : (i : ℕ) → i < length stanzas → (k : ℕ) × IsItsClass size (kernel_members stanzas classes size) (stanza_at stanzas i) k
   stands i l = stands_once stanzas accepted.single classes fits.each size within i l
 
   pub reads : KernelReads (kernel_text (format_of hold) K (kernel_members stanzas classes size) held) (format_of hold) K (kernel_members stanzas classes size) held
@@ -144,7 +145,7 @@ index_json_means limit hold text e =
     }
 
 -- the report of the command, as text and as JSON
-kernel_report_means : (path : List ℕ) (json : Bool) (limit : ℕ) (hold : Bool) (files : Files) (verdict : Verdict) (report : List ℕ) →
+kernel_report_means : (path : List ℕ) (json : Bool) (limit : ℕ) (hold : Bool) (files : Files) (verdict : ReportVerdict) (report : List ℕ) →
     outcome_over files (course_of (Kernel path json limit hold)) ≡ answered (reported verdict report) → MeansJob (Kernel path json limit hold) files verdict report
 kernel_report_means path false limit hold files verdict report e =
     let first = kernel_used (GivesThis verdict report) (this_alone verdict report) files path limit hold (kernel_answer false) e in
@@ -158,7 +159,7 @@ kernel_report_means path true limit hold files verdict report e =
     (first.0, (first.1).0.file.is, subst (JsonMeans first.0 limit hold) same (index_json_means limit hold first.0 (first.1).0.accepted))
 
 -- what the report on a job means
-pub report_means : (job : Job) (files : Files) (verdict : Verdict) (report : List ℕ) → outcome_over files (course_of job) ≡ answered (reported verdict report) → MeansJob job files verdict report
+pub report_means : (job : Job) (files : Files) (verdict : ReportVerdict) (report : List ℕ) → outcome_over files (course_of job) ≡ answered (reported verdict report) → MeansJob job files verdict report
 report_means (Kernel path json limit hold) files verdict report e = kernel_report_means path json limit hold files verdict report e
 report_means (Query path goals budget limit hold) files verdict report e = query_is_meant path goals budget limit hold files verdict report e
 report_means (StoredQuery path goals budget) files verdict report e = stored_query_is_meant path goals budget files verdict report e

@@ -1,6 +1,5 @@
 -- The members of the classes of an index: each stanza alone in its class.
-use Rattle.std.proofs.Common.{◌≡◌, ℕ, zero, suc, ◌+◌, ◌<◌, ◌≤◌, true, ◌&&◌, List, [], ◌∷◌, length, eqb, slice_index_or, inl, inr, refl, sym, ◌∙◌, ap, subst, arith, eq-eqb, eqb-true}
-use Rattle.std.specs.List.{flat_map}
+use Rattle.std.proofs.Common.{◌≡◌, ℕ, zero, suc, ◌+◌, ◌<◌, ◌≤◌, Bool, true, ◌&&◌, List, [], ◌∷◌, length, eqb, slice_index_or, inl, inr, refl, sym, ◌∙◌, ap, subst, arith, eq-eqb, eqb-true}
 use Rattle.std.specs.Ordering.{is_eq}
 use Rattle.std.specs.Str.{bytes_eq}
 use Rattle.std.proofs.lemmas.Bool.{and_parts, and_from, both_ways}
@@ -12,13 +11,13 @@ use Rattle.kernel_text.specs.declared.member.Member.{Member}
 use Rattle.repo_model.proofs.Accepted.{AreSingle}
 use Rattle.repo_model.specs.Facts.{is_same_package}
 use Rattle.repo_model.specs.Repository.{packages_of}
-use Rattle.coinst_run.specs.Headline.{is_line_of, is_in_class, classes_of, StandsOnce}
+use Rattle.claims.specs.Classes.{classes_of, is_in_class, IsItsClass}
 use Rattle.relation_fields.specs.declared.packages.PackageFacts.{PackageFacts}
 use Rattle.repo_model.specs.Stanzas.{stanza_at, no_stanza}
 use Rattle.deb_version.specs.Order.{version_order}
 use Rattle.row_book.specs.Clauses.{numbers}
 use Rattle.row_book.specs.Sets.{NumSet, Is, In, here, there}
-use Rattle.row_book.proofs.Lists.{In_append_cases, In_append_left, In_append_right, In_cases, In_none, any_from, any_cases, filter_cases, filter_from}
+use Rattle.row_book.proofs.Lists.{In_cases, In_none, any_from, any_cases, filter_cases, filter_from}
 use Rattle.row_book.proofs.Order.{numbers_from}
 use Rattle.repo_model.proofs.Elements.{at_place, range_from, range_cases}
 use Rattle.deb_version.proofs.TotalOrder.{version_total_up_to_ties}
@@ -61,6 +60,10 @@ file_from (s ∷ stanzas) [] e j l = absurd (omega (arith, e))
 file_from (s ∷ stanzas) (c ∷ class_of) e zero l = here
 file_from (s ∷ stanzas) (c ∷ class_of) e (suc j) l = there (file_from stanzas class_of (omega (arith, e)) j (omega arith))
 
+-- the member line has the stanza's name and version
+abbrev is_line_of : PackageFacts → Member → Bool
+is_line_of s m = bytes_eq m.name s.name && bytes_eq m.version s.version
+
 -- the stanzas of an index, of which none is the package of an earlier one, each with one of so many classes
 module _ (stanzas : List PackageFacts) (single : AreSingle stanzas) (class_of : List ℕ) (each : length class_of ≡ length stanzas)
     (size : ℕ) (inside : (i : ℕ) → i < length stanzas → slice_index_or class_of i 0 < size) where
@@ -99,8 +102,8 @@ module _ (stanzas : List PackageFacts) (single : AreSingle stanzas) (class_of : 
       sym (eqb-true w.0.class n of_class.1) ∙ ap (λ (m : Member). m.class) at.2 ∙ ap class_at same
 
   -- each stanza stands once
-  pub stands_once : (i : ℕ) → i < length stanzas → StandsOnce size all (stanza_at stanzas i)
-  stands_once i l = record { at = class_at i; inside = inside i l; found = own_class i l; only = λ n h. only_class i n l h }
+  pub stands_once : (i : ℕ) → i < length stanzas → (k : ℕ) × IsItsClass size all (stanza_at stanzas i) k
+  stands_once i l = (class_at i, (inside i l, (λ n. (only_class i n l, (λ e. subst (λ k. is_in_class all (stanza_at stanzas i) k ≡ true) (sym e) (own_class i l))))))
 
   -- a class of a set of stanzas is that of one of them
   pub class_parts : (S : NumSet) (n : ℕ) → Is (classes_of stanzas all S) n → (i : ℕ) × (i < length stanzas) × Is S i × (class_at i ≡ n)

@@ -10,7 +10,7 @@ use Rattle.migrate_plan.proofs.Mixed.{mixes_are_indexes}
 use Rattle.migrate_plan.proofs.Planned.{plan_names, plan_right, plan_safe}
 use Rattle.suite_compare.specs.Refusals.{home_in, packages_in}
 use Rattle.suite_compare.proofs.Deciding.{verdict_is_judged}
-use Rattle.coinst_run.specs.declared.answer.Verdict.{Verdict}
+use Rattle.coinst_run.specs.declared.answer.ReportVerdict.{ReportVerdict}
 use Rattle.coinst_run.specs.Answer.{reported}
 use Rattle.coinst_run.specs.Course.{Course, answers, reads, then_on}
 use Rattle.coinst_run.specs.Migrate.{by_refusal, lines_answer, new_answer, new_course, old_answer, plan_answer}
@@ -20,7 +20,7 @@ use Rattle.coinst_run.specs.Outcome.{answered, outcome_over}
 use Rattle.coinst_run.proofs.GoingOn.{GivesThis, checked_used, file_used, kernel_at_used, this_alone}
 
 -- a course that leads to a report
-module _ (files : Files) (verdict : Verdict) (report : List ℕ) where
+module _ (files : Files) (verdict : ReportVerdict) (report : List ℕ) where
   abbrev Reports : Course → Type 0
   Reports course = outcome_over files course ≡ answered (reported verdict report)
 

@@ -10,7 +10,7 @@ use Rattle.repo_model.specs.Feeding.{IsSuiteOf}
 use Rattle.repo_model.specs.FirstFault.{first_fault}
 use Rattle.repo_model.specs.declared.fault.IndexFault.{IndexFault}
 use Rattle.suite_compare.specs.Refusals.{home_in, packages_in}
-use Rattle.coinst_run.specs.declared.answer.Verdict.{Verdict}
+use Rattle.coinst_run.specs.declared.answer.ReportVerdict.{ReportVerdict}
 use Rattle.coinst_run.specs.Answer.{Answer, reported}
 use Rattle.coinst_run.specs.Course.{answers, then_on}
 use Rattle.coinst_run.specs.Ending.{StopsAt}
@@ -50,7 +50,7 @@ stops_before path text limit hold (Some (unread file)) h = absurd h
 stops_before path text limit hold (Some not_a_command) h = absurd h
 
 -- a plan that is told
-pub plan_told : (old new : List ℕ) (settings : Settings) (first second : List ℕ) (lines : List PlanLine) (verdict : Verdict) (text : List ℕ) → plan_refusal first second ≡ None → lines ≡ plan settings first second
+pub plan_told : (old new : List ℕ) (settings : Settings) (first second : List ℕ) (lines : List PlanLine) (verdict : ReportVerdict) (text : List ℕ) → plan_refusal first second ≡ None → lines ≡ plan settings first second
     → verdict ≡ plan_verdict lines → text ≡ plan_text lines → plan_answer old new settings first second ≡ answers (reported verdict text)
 plan_told old new settings first second lines verdict text free are whole reads =
     ap (λ there. then_on (by_refusal old new (plan settings first second) there) (λ shown. answers (lines_answer shown))) free

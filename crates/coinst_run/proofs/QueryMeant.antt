@@ -20,8 +20,8 @@ use Rattle.suite_compare.specs.Answering.{names_none, unknown_from, unknown_goal
 use Rattle.suite_compare.specs.Asking.{asked_tree, images_of, installation}
 use Rattle.suite_compare.proofs.Deciding.{asked_is, found_there}
 use Rattle.suite_compare.specs.Refusals.{home_in, packages_in}
-use Rattle.coinst_run.specs.declared.answer.Verdict.{Verdict}
-use Rattle.coinst_run.specs.declared.answer.Verdict.TheVariants.{Done, Negative, Undecided}
+use Rattle.coinst_run.specs.declared.answer.ReportVerdict.{ReportVerdict}
+use Rattle.coinst_run.specs.declared.answer.ReportVerdict.TheVariants.{Done, Negative, Undecided}
 use Rattle.coinst_run.specs.Answer.{reported}
 use Rattle.coinst_run.specs.Index.{index_in}
 use Rattle.coinst_run.specs.Outcome.{answered}
@@ -46,11 +46,11 @@ all_known packages number (g ∷ gs) e goal i = elim (cases_Bool (names_none pac
   ]
 ]
 
-module _ (text : List ℕ) (goals : List Goal) (budget limit : ℕ) (hold : Bool) (verdict : Verdict) (report : List ℕ) where
+module _ (text : List ℕ) (goals : List Goal) (budget limit : ℕ) (hold : Bool) (verdict : ReportVerdict) (report : List ℕ) where
   abbrev tree : Tree
   tree = asked_tree limit hold (home_in text) (packages_in text) goals
 
-  means_as : (told : Verdict) (bytes : List ℕ) → reported told bytes ≡ reported verdict report → MeansVerdict text goals budget limit hold told bytes → MeansVerdict text goals budget limit hold verdict report
+  means_as : (told : ReportVerdict) (bytes : List ℕ) → reported told bytes ≡ reported verdict report → MeansVerdict text goals budget limit hold told bytes → MeansVerdict text goals budget limit hold verdict report
   means_as told bytes e m =
       let v : told ≡ verdict = cc in
       let b : bytes ≡ report = cc in

@@ -5,8 +5,8 @@ use Rattle.std.specs.Io.KnownBytes.{Appends}
 use Rattle.byte_flow.specs.Flow.{Files, Rose}
 use Rattle.coinst_run.specs.declared.answer.Cause.{Cause}
 use Rattle.coinst_run.specs.declared.answer.Cause.TheVariants.{Content, ClauseLimit, UnknownGoal, TooLarge}
-use Rattle.coinst_run.specs.declared.answer.Verdict.{Verdict}
-use Rattle.coinst_run.specs.declared.answer.Verdict.TheVariants.{Done, Negative, Undecided}
+use Rattle.coinst_run.specs.declared.answer.ReportVerdict.{ReportVerdict}
+use Rattle.coinst_run.specs.declared.answer.ReportVerdict.TheVariants.{Done, Negative, Undecided}
 use Rattle.coinst_run.specs.declared.status.Status.{Status}
 use Rattle.coinst_run.specs.declared.status.Status.TheVariants as status
 use Rattle.coinst_words.specs.declared.job.Job.{Job}
@@ -18,8 +18,7 @@ use Rattle.coinst_run.specs.Ending.{stop_ending, word_stop}
 use Rattle.coinst_run.specs.Follows.{FollowsJob, of_a_job, of_no_job, without_memory, without_memory_for_words}
 use Rattle.coinst_run.specs.Meaning.{IsMeant, MeansJob}
 use Rattle.coinst_run.specs.Outcome.{Outcome, answered, unread, not_a_command, course_of, of_job, outcome_of, report_of, status_of}
-use Rattle.claims.specs.CompareSentence.{CompareIsTrue}
-use Rattle.claims.specs.KernelSentence.{KernelIsTrue}
+use Rattle.claims.specs.Sentences.{CompareIsTrue, KernelIsTrue}
 use Rattle.coinst_run.proofs.Sentences.{compare_is_true, kernel_is_true, took_so}
 use Rattle.coinst_run.specs.Run.{Answers, Completes, Took}
 use Rattle.coinst_run.specs.Run as run
@@ -48,7 +47,7 @@ record IsAnswered (s : Status) : Type 0 where
   not_cut : s ≡ status.WriteFault → ⊥
   not_memory : s ≡ status.Memory → ⊥
 
-of_verdict : (verdict : Verdict) → IsAnswered (verdict_status verdict)
+of_verdict : (verdict : ReportVerdict) → IsAnswered (verdict_status verdict)
 of_verdict Done = record { not_words = λ e. cc; not_unread = λ e. cc; not_cut = λ e. cc; not_memory = λ e. cc }
 of_verdict Negative = record { not_words = λ e. cc; not_unread = λ e. cc; not_cut = λ e. cc; not_memory = λ e. cc }
 of_verdict Undecided = record { not_words = λ e. cc; not_unread = λ e. cc; not_cut = λ e. cc; not_memory = λ e. cc }
@@ -60,7 +59,7 @@ of_cause UnknownGoal = record { not_words = λ e. cc; not_unread = λ e. cc; not
 of_cause TooLarge = record { not_words = λ e. cc; not_unread = λ e. cc; not_cut = λ e. cc; not_memory = λ e. cc }
 
 -- a refusal has no status of a report, and each report its own
-no_verdict : (cause : Cause) (verdict : Verdict) → cause_status cause ≡ verdict_status verdict → ⊥
+no_verdict : (cause : Cause) (verdict : ReportVerdict) → cause_status cause ≡ verdict_status verdict → ⊥
 no_verdict Content Done = λ e. cc
 no_verdict Content Negative = λ e. cc
 no_verdict Content Undecided = λ e. cc
@@ -74,7 +73,7 @@ no_verdict TooLarge Done = λ e. cc
 no_verdict TooLarge Negative = λ e. cc
 no_verdict TooLarge Undecided = λ e. cc
 
-one_verdict : (first second : Verdict) → verdict_status first ≡ verdict_status second → first ≡ second
+one_verdict : (first second : ReportVerdict) → verdict_status first ≡ verdict_status second → first ≡ second
 one_verdict Done Done e = refl
 one_verdict Done Negative e = absurd (cc e)
 one_verdict Done Undecided e = absurd (cc e)
@@ -90,7 +89,7 @@ took_report : (old new : Option (List ℕ)) (report : List ℕ) (P : List ℕ �
 took_report None new report P took h = tt
 took_report (Some xs) new report P took h = (report, took, h)
 
-taken_is_meant : (old new : Option (List ℕ)) (words : List (List ℕ)) (files : Files) (verdict : Verdict) (job : Option Job) → job_of words ≡ job → (o : Outcome) → of_job job files ≡ o → status_of o ≡ verdict_status verdict →
+taken_is_meant : (old new : Option (List ℕ)) (words : List (List ℕ)) (files : Files) (verdict : ReportVerdict) (job : Option Job) → job_of words ≡ job → (o : Outcome) → of_job job files ≡ o → status_of o ≡ verdict_status verdict →
     Appends old new (report_of o) → Took old new (IsMeant words files verdict)
 taken_is_meant old new words files verdict None asked o is e took = absurd ((of_verdict verdict).not_words (sym (ap status_of is ∙ e)))
 taken_is_meant old new words files verdict (Some job) asked (answered (reported told report)) is e took =
@@ -108,7 +107,7 @@ module _ {Quiet RoseIn RoseOut : Type 0} {room : ℕ} {Line : List ℕ → Type 
   completes_told o (run.cut_report is rose roomless report took) noread nowrite h = absurd (nowrite rose)
   completes_told o (run.want_of_memory is took) noread nowrite report = inr is
 
-  pub meaning_told : (words : List (List ℕ)) (files : Files) (verdict : Verdict) → Answers Quiet RoseIn RoseOut room Line (outcome_of words files) old new result → result ≡ verdict_status verdict → Took old new (IsMeant words files verdict)
+  pub meaning_told : (words : List (List ℕ)) (files : Files) (verdict : ReportVerdict) → Answers Quiet RoseIn RoseOut room Line (outcome_of words files) old new result → result ≡ verdict_status verdict → Took old new (IsMeant words files verdict)
   unfolding outcome_of
   meaning_told words files verdict (run.as_told is took line) e = taken_is_meant old new words files verdict (job_of words) refl (of_job (job_of words) files) refl (sym is ∙ e) took
   meaning_told words files verdict (run.unread_file path is rose quiet took line) e = absurd ((of_verdict verdict).not_unread (sym e ∙ is))
@@ -203,17 +202,17 @@ module _ {F : Type 0} {contents : F → Option Files} {shelf_faults moved : F �
     unfolding outcome_of
     answers_run {shelf = shelf} words f d = each_told (contents shelf) (λ files is. answers_told (of_job (job_of words) files) (job_ends files f is) (λ path e. job_rose f e) d)
 
-    pub meaning_run : {shelf after : F} {ending : Option Outcome} {out out_after : O} {err err_after : E} {result : Status} (words : List (List ℕ)) (verdict : Verdict) → FollowsJob contents shelf_faults moved is_quiet start read (job_of words) shelf ending after →
+    pub meaning_run : {shelf after : F} {ending : Option Outcome} {out out_after : O} {err err_after : E} {result : Status} (words : List (List ℕ)) (verdict : ReportVerdict) → FollowsJob contents shelf_faults moved is_quiet start read (job_of words) shelf ending after →
         Delivers taken faults room write told told_faults told_write out err result out_after err_after ending → result ≡ verdict_status verdict → IfSome (contents shelf) (λ files. Took (taken out) (taken out_after) (IsMeant words files verdict))
     meaning_run {shelf = shelf} words verdict f d e = if_told (contents shelf) (λ files h. meaning_told words files verdict h e) (answers_run words f d)
 
     -- the two sentences follow from the meaning
-    pub kernel_run : {shelf after : F} {ending : Option Outcome} {out out_after : O} {err err_after : E} {result : Status} (words : List (List ℕ)) (verdict : Verdict) → FollowsJob contents shelf_faults moved is_quiet start read (job_of words) shelf ending after →
+    pub kernel_run : {shelf after : F} {ending : Option Outcome} {out out_after : O} {err err_after : E} {result : Status} (words : List (List ℕ)) (verdict : ReportVerdict) → FollowsJob contents shelf_faults moved is_quiet start read (job_of words) shelf ending after →
         Delivers taken faults room write told told_faults told_write out err result out_after err_after ending → result ≡ verdict_status verdict → IfSome (contents shelf) (λ files. Took (taken out) (taken out_after) (KernelIsTrue words files))
     kernel_run {shelf = shelf} {out = out} {out_after = out_after} words verdict f d e =
         if_told (contents shelf) (λ files t. took_so (taken out) (taken out_after) (kernel_is_true words files verdict) t) (meaning_run words verdict f d e)
 
-    pub compare_run : {shelf after : F} {ending : Option Outcome} {out out_after : O} {err err_after : E} {result : Status} (words : List (List ℕ)) (verdict : Verdict) → FollowsJob contents shelf_faults moved is_quiet start read (job_of words) shelf ending after →
+    pub compare_run : {shelf after : F} {ending : Option Outcome} {out out_after : O} {err err_after : E} {result : Status} (words : List (List ℕ)) (verdict : ReportVerdict) → FollowsJob contents shelf_faults moved is_quiet start read (job_of words) shelf ending after →
         Delivers taken faults room write told told_faults told_write out err result out_after err_after ending → result ≡ verdict_status verdict → IfSome (contents shelf) (λ files. Took (taken out) (taken out_after) (CompareIsTrue words files))
     compare_run {shelf = shelf} {out = out} {out_after = out_after} words verdict f d e =
         if_told (contents shelf) (λ files t. took_so (taken out) (taken out_after) (compare_is_true words files verdict) t) (meaning_run words verdict f d e)

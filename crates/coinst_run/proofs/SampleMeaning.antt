@@ -3,8 +3,8 @@ use Rattle.std.proofs.Common.{◌≡◌, ℕ, false, List}
 use Rattle.byte_flow.specs.Flow.{Files}
 use Rattle.sample_suite.specs.SampleText.{sample_text}
 use Rattle.suite_compare.specs.Refusals.{home_in, packages_in}
-use Rattle.coinst_run.specs.declared.answer.Verdict.{Verdict}
-use Rattle.coinst_run.specs.declared.answer.Verdict.TheVariants.{Done}
+use Rattle.coinst_run.specs.declared.answer.ReportVerdict.{ReportVerdict}
+use Rattle.coinst_run.specs.declared.answer.ReportVerdict.TheVariants.{Done}
 use Rattle.coinst_run.specs.Answer.{reported}
 use Rattle.coinst_run.specs.Course.{answers}
 use Rattle.coinst_run.specs.IndexKernel.{index_kernel}
@@ -14,7 +14,7 @@ use Rattle.coinst_run.specs.Sample.{sample_answer, sample_course, sample_limit, 
 use Rattle.suite_compare.specs.Refusals.{home_in, packages_in}
 use Rattle.coinst_run.proofs.GoingOn.{GivesThis, checked_used, limit_used, this_alone}
 
-pub sample_report_means : (files : Files) (verdict : Verdict) (report : List ℕ) (seed count : ℕ) → outcome_over files (sample_course seed count) ≡ answered (reported verdict report) → SizeMeans (sample_text seed count) report
+pub sample_report_means : (files : Files) (verdict : ReportVerdict) (report : List ℕ) (seed count : ℕ) → outcome_over files (sample_course seed count) ≡ answered (reported verdict report) → SizeMeans (sample_text seed count) report
 sample_report_means files verdict report seed count e =
     let text : List ℕ = sample_text seed count in
     let checked = checked_used (GivesThis verdict report) (this_alone verdict report) files sample_path sample_answer text e in

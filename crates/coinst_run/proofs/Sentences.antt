@@ -1,12 +1,11 @@
 -- The two sentences, from what a report means.
-use Rattle.std.proofs.Common.{◌≡◌, ℕ, Bool, true, false, not, List, [], ◌∷◌, ◌++◌, Option, Some, None, filter, length, map, refl, sym, ap, subst, ◌∙◌, append_assoc}
+use Rattle.std.proofs.Common.{◌≡◌, ℕ, false, List, [], ◌++◌, Option, Some, None, filter, length, refl, sym, ap, subst, ◌∙◌, append_assoc}
 use Rattle.std.specs.Prelude.{codes, unwrap_or}
 use Rattle.std.specs.Fmt.{decimal}
 use Rattle.std.specs.List.{flat_map}
 use Rattle.std.proofs.lemmas.List.{append-nil}
 use Rattle.byte_flow.specs.Flow.{Files}
 use Rattle.coinst_words.specs.Jobs.{job_of}
-use Rattle.coinst_words.specs.declared.job.Job.{Job}
 use Rattle.coinst_words.specs.declared.job.Job.TheVariants.{Kernel, Compare}
 use Rattle.headline.specs.Indexes.{searched}
 use Rattle.headline.specs.Listing.{is_broken}
@@ -14,31 +13,31 @@ use Rattle.kernel_text.specs.KernelText.{format_of}
 use Rattle.listed.proofs.Lists.{flat_same}
 use Rattle.suite_compare.specs.declared.report.ReportLine.{ReportLine}
 use Rattle.suite_compare.specs.declared.report.ReportLine.TheVariants.{Broken1, Broken2, Open1, Open2}
-use Rattle.claims.specs.CompareSentence as sentence
-use Rattle.claims.specs.CompareSentence.{line_text, CompareIsTrue}
-use Rattle.claims.specs.KernelSentence.{KernelIsTrue}
+use Rattle.claims.specs.Printed.{printed_comparison, printed_line}
+use Rattle.claims.specs.Sentences.{CompareIsTrue, KernelIsTrue}
 use Rattle.claims.specs.Laws.{suite_of}
 use Rattle.claims.proofs.CompareSentence.{comparisons_mean_this}
 use Rattle.claims.proofs.KernelSentence.{kernels_mean_this}
 use Rattle.claims.proofs.Words.{compare_words_ask, kernel_words_ask}
 use Rattle.coinst_run.specs.CompareText.{comparison_line, comparison_text, end_text, is_open}
-use Rattle.coinst_run.specs.Headline.{CompareMeans, KernelMeans}
+use Rattle.coinst_run.specs.CompareMeaning.{CompareMeans}
+use Rattle.coinst_run.specs.KernelMeaning.{KernelMeans}
 use Rattle.coinst_run.specs.Lines.{line_of_text}
 use Rattle.coinst_run.specs.Meaning.{IsMeant, MeansJob}
 use Rattle.coinst_run.specs.Run.{Took}
-use Rattle.coinst_run.specs.declared.answer.Verdict.{Verdict}
+use Rattle.coinst_run.specs.declared.answer.ReportVerdict.{ReportVerdict}
 
 -- what the taken bytes mean, in other words
 pub took_so : (old new : Option (List ℕ)) {P Q : List ℕ → Type 0} → ((bytes : List ℕ) → P bytes → Q bytes) → Took old new P → Took old new Q
 took_so None new to t = tt
 took_so (Some xs) new to t = (t.0, t.1, to t.0 t.2)
 
-pub kernel_is_true : (words : List (List ℕ)) (files : Files) (verdict : Verdict) (printed : List ℕ) → IsMeant words files verdict printed → KernelIsTrue words files printed
+pub kernel_is_true : (words : List (List ℕ)) (files : Files) (verdict : ReportVerdict) (printed : List ℕ) → IsMeant words files verdict printed → KernelIsTrue words files printed
 kernel_is_true words files verdict printed m limit hold path low is =
     let job : m.job ≡ Kernel path false (unwrap_or limit 65536) hold = kernel_words_ask limit hold path m.job low (ap job_of (sym is) ∙ m.asked) in
     let means : MeansJob (Kernel path false (unwrap_or limit 65536) hold) files verdict printed = subst (λ j. MeansJob j files verdict printed) job m.means in
     let k : KernelMeans means.0 (unwrap_or limit 65536) hold printed = means.2 in
-    (means.0, means.1, kernels_mean_this means.0 printed (format_of hold) k.repository k.members k.held k.accepted k.reads (λ i l. let s = k.stands i l in (s.at, s.inside, s.found, s.only)) k.keeps)
+    (means.0, means.1, kernels_mean_this means.0 printed (format_of hold) k.repository k.members k.held k.accepted k.reads k.stands k.keeps)
 
 -- the lines in both spellings
 one_name : (word name : List ℕ) → word ++ (codes " " ++ name) ≡ word ++ ((codes " " ++ name) ++ [])
@@ -47,21 +46,21 @@ one_name word name = ap (λ t. word ++ t) (sym (append-nil (codes " " ++ name)))
 two_names : (word first second : List ℕ) → word ++ (codes " " ++ (first ++ (codes " " ++ second))) ≡ word ++ ((codes " " ++ first) ++ ((codes " " ++ second) ++ []))
 two_names word first second = ap (λ t. word ++ (codes " " ++ (first ++ t))) (sym (append-nil (codes " " ++ second)))
 
-same_line : (l : ReportLine) → comparison_line l ≡ line_text l
+same_line : (l : ReportLine) → comparison_line l ≡ printed_line l
 same_line (Broken1 a) = ap line_of_text (one_name (codes "broken") a)
 same_line (Broken2 a b) = ap (λ t. line_of_text (codes "broken" ++ (codes " " ++ t))) (append_assoc a (codes " ") b) ∙ ap line_of_text (two_names (codes "broken") a b)
 same_line (Open1 a) = ap line_of_text (one_name (codes "open") a)
 same_line (Open2 a b) = ap (λ t. line_of_text (codes "open" ++ (codes " " ++ t))) (append_assoc a (codes " ") b) ∙ ap line_of_text (two_names (codes "open") a b)
 
-same_text : (lines : List ReportLine) → comparison_text lines ≡ sentence.comparison_text lines
-unfolding comparison_text end_text sentence.comparison_text
+same_text : (lines : List ReportLine) → comparison_text lines ≡ printed_comparison lines
+unfolding comparison_text end_text printed_comparison
 same_text lines =
     let broken : List ℕ = decimal (length (filter is_broken lines)) in
     let undecided : List ℕ = decimal (length (filter is_open lines)) in
-    ap (λ t. t ++ end_text lines) (flat_same comparison_line line_text lines (λ l i. same_line l))
-    ∙ ap (λ t. flat_map line_text lines ++ line_of_text (codes "end " ++ t)) (append_assoc broken (codes " ") undecided)
+    ap (λ t. t ++ end_text lines) (flat_same comparison_line printed_line lines (λ l i. same_line l))
+    ∙ ap (λ t. flat_map printed_line lines ++ line_of_text (codes "end " ++ t)) (append_assoc broken (codes " ") undecided)
 
-pub compare_is_true : (words : List (List ℕ)) (files : Files) (verdict : Verdict) (printed : List ℕ) → IsMeant words files verdict printed → CompareIsTrue words files printed
+pub compare_is_true : (words : List (List ℕ)) (files : Files) (verdict : ReportVerdict) (printed : List ℕ) → IsMeant words files verdict printed → CompareIsTrue words files printed
 compare_is_true words files verdict printed m budget limit hold first second low small is =
     let b : ℕ = unwrap_or budget 10000 in
     let n : ℕ = unwrap_or limit 65536 in

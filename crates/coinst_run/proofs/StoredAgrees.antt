@@ -33,8 +33,8 @@ use Rattle.suite_compare.specs.Asking as asking
 use Rattle.suite_compare.proofs.Deciding.{named_within}
 use Rattle.suite_compare.proofs.SuiteKernels.{of_packages, suite_sound}
 use Rattle.suite_compare.specs.Refusals.{home_in, packages_in}
-use Rattle.coinst_run.specs.declared.answer.Verdict.{Verdict}
-use Rattle.coinst_run.specs.declared.answer.Verdict.TheVariants.{Done, Undecided}
+use Rattle.coinst_run.specs.declared.answer.ReportVerdict.{ReportVerdict}
+use Rattle.coinst_run.specs.declared.answer.ReportVerdict.TheVariants.{Done, Undecided}
 use Rattle.coinst_run.specs.Answer.{reported}
 use Rattle.coinst_run.specs.Course.{answers, then_on}
 use Rattle.coinst_run.specs.Index.{index_in}
@@ -165,7 +165,7 @@ record IsPrinted (files : Files) (index text : List ℕ) (limit : ℕ) (hold : B
   has : HasKernel files index limit hold text
   is : printed ≡ text_for (packages_in text) (index_kernel limit hold (home_in text) (packages_in text))
 
-printed_from : (files : Files) (index text printed : List ℕ) (limit : ℕ) (hold : Bool) (verdict : Verdict) → files index ≡ Some text →
+printed_from : (files : Files) (index text printed : List ℕ) (limit : ℕ) (hold : Bool) (verdict : ReportVerdict) → files index ≡ Some text →
     outcome_over files (kernel_course index false limit hold) ≡ answered (reported verdict printed) → IsPrinted files index text limit hold printed
 printed_from files index text printed limit hold verdict there e =
     let made = kernel_used (GivesThis verdict printed) (this_alone verdict printed) files index limit hold (kernel_answer false) e in

@@ -8,7 +8,7 @@ use Rattle.std.proofs.lemmas.List.Elements.{filter-append}
 use Rattle.clause_solver.specs.Outcomes.{IsSearchOutcome}
 use Rattle.clause_solver.specs.declared.outcomes.Outcome.TheVariants.{Found, Refuted, Spent}
 use Rattle.kernel_text.specs.declared.fault.KernelFault.{KernelFault}
-use Rattle.kernel_text.specs.declared.fault.KernelFault.TheVariants.{Line, End, Range, Memory}
+use Rattle.kernel_text.specs.declared.fault.KernelFault.TheVariants.{End, Memory}
 use Rattle.kernel_text.specs.declared.member.Member.{Member}
 use Rattle.kernel_text.specs.Images.{image_of, names_in_class, unknown_goal}
 use Rattle.kernel_text.specs.KernelFaults.{IsFault}
@@ -31,7 +31,7 @@ use Rattle.search_terms.proofs.Found.{one_tree}
 use Rattle.suite_compare.specs.Asking.{tree_of}
 use Rattle.suite_compare.proofs.Ranged.{formula_ranged}
 use Rattle.coinst_run.specs.declared.answer.Cause.TheVariants.{Content, UnknownGoal}
-use Rattle.coinst_run.specs.declared.answer.Verdict.TheVariants.{Done, Negative, Undecided}
+use Rattle.coinst_run.specs.declared.answer.ReportVerdict.TheVariants.{Done, Negative, Undecided}
 use Rattle.coinst_run.specs.Answer.{Answer, refused, reported}
 use Rattle.coinst_run.specs.Course.{answers}
 use Rattle.coinst_run.specs.Ending.{StopsAt}

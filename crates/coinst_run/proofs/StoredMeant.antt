@@ -35,8 +35,8 @@ use Rattle.search_terms.proofs.Computed.{search_tree_is}
 use Rattle.search_terms.proofs.Found.{finds_healthy}
 use Rattle.suite_compare.specs.Asking.{tree_of}
 use Rattle.suite_compare.proofs.Ranged.{formula_ranged}
-use Rattle.coinst_run.specs.declared.answer.Verdict.{Verdict}
-use Rattle.coinst_run.specs.declared.answer.Verdict.TheVariants.{Done, Negative, Undecided}
+use Rattle.coinst_run.specs.declared.answer.ReportVerdict.{ReportVerdict}
+use Rattle.coinst_run.specs.declared.answer.ReportVerdict.TheVariants.{Done, Negative, Undecided}
 use Rattle.coinst_run.specs.Answer.{reported}
 use Rattle.coinst_run.specs.Course.{answers, then_on}
 use Rattle.coinst_run.specs.Lines.{line_of_text}
@@ -148,8 +148,8 @@ module _ (kernel : KernelContent) (writable : IsWritable kernel.format kernel.re
   unfolding tree_of
   is_tree = search_tree_is size (form kernel.repository images) range
 
-  module _ (budget : ℕ) (verdict : Verdict) (report : List ℕ) where
-    means_as : (told : Verdict) (bytes : List ℕ) → reported told bytes ≡ reported verdict report → MeansStored kernel goals budget told bytes → MeansStored kernel goals budget verdict report
+  module _ (budget : ℕ) (verdict : ReportVerdict) (report : List ℕ) where
+    means_as : (told : ReportVerdict) (bytes : List ℕ) → reported told bytes ≡ reported verdict report → MeansStored kernel goals budget told bytes → MeansStored kernel goals budget verdict report
     means_as told bytes e m =
         let v : told ≡ verdict = cc in
         let b : bytes ≡ report = cc in
@@ -197,7 +197,7 @@ module _ (kernel : KernelContent) (writable : IsWritable kernel.format kernel.re
     ]
 
 -- the report of a query of the stored kernel at the path
-module _ (path : List ℕ) (goals : List Goal) (budget : ℕ) (files : Files) (verdict : Verdict) (report : List ℕ) where
+module _ (path : List ℕ) (goals : List Goal) (budget : ℕ) (files : Files) (verdict : ReportVerdict) (report : List ℕ) where
   goals_mean : (text : List ℕ) (kernel : KernelContent) (first : Option ℕ) → KernelReads text kernel.format kernel.repository kernel.members kernel.held → unknown_goal kernel.members goals ≡ first →
       stored_by_unknown kernel goals budget first ≡ reported verdict report → StoredMeans text goals budget verdict report
   goals_mean text kernel (Some number) reads is e = absurd (cc e)

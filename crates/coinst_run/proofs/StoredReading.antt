@@ -1,14 +1,15 @@
 -- What a text is read as.
-use Rattle.std.proofs.Common.{◌∙◌, ◌≡◌, ℕ, List, Result, Ok, Err, ap, ap₂, subst}
+use Rattle.std.proofs.Common.{◌∙◌, ◌≡◌, ℕ, List, Result, Ok, Err, ap, ap₂, sym, subst}
 use Rattle.row_book.specs.Repository.{Repository}
 use Rattle.kernel_text.specs.declared.fault.KernelFault.{KernelFault}
 use Rattle.kernel_text.specs.declared.member.Member.{Member}
 use Rattle.kernel_text.specs.KernelReads.{KernelContent, KernelReads, content}
 use Rattle.kernel_text.specs.Laws.{IsFaultOf}
-use Rattle.kernel_text.proofs.Judged.{Judgement, a_fault, a_kernel, judgement}
+use Rattle.kernel_text.proofs.Judged.{Judgement, a_fault, a_kernel}
 use Rattle.kernel_text.proofs.OneFault.{kernel_excludes, one_fault}
 use Rattle.kernel_text.proofs.OneReading.{one_reading}
-use Rattle.coinst_run.specs.StoredReading.{ReadingIs, stored_reading, told_by}
+use Rattle.coinst_run.specs.StoredReading.{ReadingIs}
+use Rattle.coinst_run.proofs.ForwardReading.{judged_forward, told_by}
 
 -- the content of a reading, or else the other
 content_or : Result KernelContent KernelFault → KernelContent → KernelContent
@@ -44,8 +45,10 @@ module _ (text : List ℕ) where
   fault_told (a_fault fault other is) f e = let same : fault ≡ f = cc in subst (IsFaultOf text) same (other, is)
 
   pub reading_is : ReadingIs text
-  unfolding stored_reading
-  reading_is = record {
-    kernels = λ format R members held. (told_kernel (judgement text) format R members held, kernel_told (judgement text) format R members held);
-    faults = λ f. (told_fault (judgement text) f, fault_told (judgement text) f);
-  }
+  reading_is =
+      let found = judged_forward text in
+      let j = found.0 in
+      record {
+        kernels = λ format R members held. ((λ k. sym found.1 ∙ told_kernel j format R members held k), (λ e. kernel_told j format R members held (found.1 ∙ e)));
+        faults = λ f. ((λ h. sym found.1 ∙ told_fault j f h), (λ e. fault_told j f (found.1 ∙ e)));
+      }

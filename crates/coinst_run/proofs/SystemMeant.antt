@@ -7,7 +7,7 @@ use Rattle.status_check.specs.Report.{had_goals}
 use Rattle.status_check.specs.declared.report.StatusReport.{StatusReport}
 use Rattle.status_check.proofs.Judging.{judged, told_healthy}
 use Rattle.suite_compare.specs.Refusals.{home_in, packages_in}
-use Rattle.coinst_run.specs.declared.answer.Verdict.{Verdict}
+use Rattle.coinst_run.specs.declared.answer.ReportVerdict.{ReportVerdict}
 use Rattle.coinst_run.specs.Answer.{reported}
 use Rattle.coinst_run.specs.Course.{answers, then_on}
 use Rattle.coinst_run.specs.Index.{Index, index_in}
@@ -19,7 +19,7 @@ use Rattle.coinst_run.proofs.GoingOn.{GivesThis, file_used, kernel_used, this_al
 use Rattle.coinst_run.proofs.SystemReports.{own_there}
 
 -- a status file that is read and told
-module _ (path : List ℕ) (budget limit : ℕ) (hold : Bool) (index : Index) (files : Files) (verdict : Verdict) (printed : List ℕ) where
+module _ (path : List ℕ) (budget limit : ℕ) (hold : Bool) (index : Index) (files : Files) (verdict : ReportVerdict) (printed : List ℕ) where
   abbrev told : List ℕ → StatusReport
   told text = system_report budget limit hold index (system_in index.home text)
 
@@ -32,10 +32,10 @@ module _ (path : List ℕ) (budget limit : ℕ) (hold : Bool) (index : Index) (f
   checked text None is e = (is, cc)
 
 -- a report that is told
-told_verdict : (budget : ℕ) (report : StatusReport) (verdict : Verdict) (printed : List ℕ) → told_answer budget report ≡ reported verdict printed → verdict ≡ system_verdict report.own report.verdict
+told_verdict : (budget : ℕ) (report : StatusReport) (verdict : ReportVerdict) (printed : List ℕ) → told_answer budget report ≡ reported verdict printed → verdict ≡ system_verdict report.own report.verdict
 told_verdict budget report verdict printed e = cc
 
-told_text : (budget : ℕ) (report : StatusReport) (verdict : Verdict) (printed : List ℕ) → told_answer budget report ≡ reported verdict printed → printed ≡ system_text budget report
+told_text : (budget : ℕ) (report : StatusReport) (verdict : ReportVerdict) (printed : List ℕ) → told_answer budget report ≡ reported verdict printed → printed ≡ system_text budget report
 told_text budget report verdict printed e = cc
 
 pub system_is_meant : SystemIsMeant

@@ -18,7 +18,7 @@ use Rattle.status_check.specs.declared.report.OwnState.{OwnState}
 use Rattle.status_check.specs.declared.report.OwnState.TheVariants.{Healthy, Unhit, Clash}
 use Rattle.status_check.specs.declared.report.StatusReport.{StatusReport}
 use Rattle.status_check.specs.declared.report.SuiteState.{SuiteState}
-use Rattle.coinst_run.specs.declared.answer.Verdict.{Verdict}
+use Rattle.coinst_run.specs.declared.answer.ReportVerdict.{ReportVerdict}
 use Rattle.coinst_run.specs.Answer.{reported}
 use Rattle.coinst_run.specs.Course.{answers, then_on}
 use Rattle.coinst_run.specs.Ending.{StopsAt}
@@ -71,7 +71,7 @@ report_made report lines foreign own verdict a b c d =
     ap₂ (λ l f. made l f report.own report.verdict) a b ∙ ap₂ (made lines foreign) c d
 
 -- what the call answers is told
-pub system_told : (path : List ℕ) (budget limit : ℕ) (hold : Bool) (index : Index) (text : List ℕ) (report : StatusReport) (verdict : Verdict) (printed : List ℕ) → status_fault index.home text ≡ None
+pub system_told : (path : List ℕ) (budget limit : ℕ) (hold : Bool) (index : Index) (text : List ℕ) (report : StatusReport) (verdict : ReportVerdict) (printed : List ℕ) → status_fault index.home text ≡ None
     → report.lines ≡ map (line_for index.packages) (own_packages index.home text) → report.foreign ≡ foreign_count index.home text
     → IsStateOf (suite_repository (own_home index.home text) (own_packages index.home text)) (all_of (own_packages index.home text)) report.own
     → report.verdict ≡ state_of budget (verdict_in limit hold index.home index.packages budget (had_goals index.packages (own_packages index.home text)))

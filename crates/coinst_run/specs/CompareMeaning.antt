@@ -1,13 +1,37 @@
 -- What the report of a comparison means for the two indexes.
-use Rattle.std.specs.Prelude.{◌≡◌, ℕ, Bool, List, Some}
+use Rattle.std.specs.Prelude.{◌≡◌, ℕ, Bool, List, length, None, Some, [], ◌∷◌, ◌++◌, filter, map}
 use Rattle.byte_flow.specs.Flow.{Files}
-use Rattle.coinst_run.specs.declared.answer.Verdict.{Verdict}
+use Rattle.headline.specs.Indexes.{searched}
+use Rattle.headline.specs.Listing.{ListsExactly, ListsLosses, LosesNothing}
+use Rattle.kernel_text.specs.KernelLines.{lines_of}
+use Rattle.repo_model.specs.FirstFault.{first_fault}
+use Rattle.suite_compare.specs.declared.report.ReportLine.{ReportLine}
+use Rattle.coinst_run.specs.declared.answer.ReportVerdict.{ReportVerdict}
+use Rattle.coinst_run.specs.declared.answer.ReportVerdict.TheVariants.{Done}
 use Rattle.coinst_run.specs.Answer.{reported}
 use Rattle.coinst_run.specs.Compare.{compare_course}
+use Rattle.coinst_run.specs.ComparePrints.{PrintsExactly}
+use Rattle.coinst_run.specs.CompareText.{comparison_line, comparison_text, comparison_verdict, end_text, is_open}
 use Rattle.coinst_run.specs.Outcome.{answered, outcome_over}
-use Rattle.coinst_run.specs.Headline.{CompareMeans}
+
+-- Both texts are indexes without a fault. The line `broken NAME` is printed for exactly those names of both that the older index can
+-- install and the newer one cannot, `open NAME` for exactly those at which a search that would tell went past the budget, and so
+-- for pairs of names, each once and in order; behind them stands a line with their numbers. Where the last line says that none is open, what
+-- is broken is exactly what the newer index has lost, whatever the budget was. Where the run is done with nothing broken and nothing
+-- open, the newer index can install each name of both, and each two of them together, that the older one can.
+pub record CompareMeans (old new : List ℕ) (budget limit : ℕ) (hold : Bool) (verdict : ReportVerdict) (printed : List ℕ) : Type 0 where
+  pub old_accepted : first_fault old ≡ None
+  pub new_accepted : first_fault new ≡ None
+  pub prints : PrintsExactly (searched old budget limit hold) (searched new budget limit hold) printed
+  pub lines : List ReportLine
+  pub exact : ListsExactly (searched old budget limit hold) (searched new budget limit hold) lines
+  pub cut : lines_of printed ≡ map comparison_line lines ++ end_text lines ∷ []
+  pub losses : length (filter is_open lines) ≡ 0 → ListsLosses (searched old budget limit hold) (searched new budget limit hold) lines
+  pub nothing_lost : verdict ≡ Done → LosesNothing (searched old budget limit hold) (searched new budget limit hold)
+  pub reads : printed ≡ comparison_text lines
+  pub whole : verdict ≡ comparison_verdict lines
 
 -- what is reported over files means this for the files at the two paths
 abbrev pub CompareIsMeant : Type 0
-CompareIsMeant = (old new : List ℕ) (budget limit : ℕ) (hold : Bool) (files : Files) (verdict : Verdict) (printed : List ℕ) → outcome_over files (compare_course old new budget limit hold) ≡ answered (reported verdict printed) →
+CompareIsMeant = (old new : List ℕ) (budget limit : ℕ) (hold : Bool) (files : Files) (verdict : ReportVerdict) (printed : List ℕ) → outcome_over files (compare_course old new budget limit hold) ≡ answered (reported verdict printed) →
     (first second : List ℕ) × (files old ≡ Some first) × (files new ≡ Some second) × CompareMeans first second budget limit hold verdict printed

@@ -5,8 +5,8 @@ use Rattle.std.specs.List.{flat_map, list_any}
 use Rattle.headline.specs.Listing.{is_broken}
 use Rattle.suite_compare.specs.declared.report.ReportLine.{ReportLine}
 use Rattle.suite_compare.specs.declared.report.ReportLine.TheVariants.{Broken1, Broken2, Open1, Open2}
-use Rattle.coinst_run.specs.declared.answer.Verdict.{Verdict}
-use Rattle.coinst_run.specs.declared.answer.Verdict.TheVariants.{Done, Negative, Undecided}
+use Rattle.coinst_run.specs.declared.answer.ReportVerdict.{ReportVerdict}
+use Rattle.coinst_run.specs.declared.answer.ReportVerdict.TheVariants.{Done, Negative, Undecided}
 use Rattle.coinst_run.specs.Lines.{line_of_text}
 
 -- what is told of a name
@@ -35,5 +35,5 @@ unfoldable pub comparison_text : List ReportLine → List ℕ
 comparison_text lines = flat_map comparison_line lines ++ end_text lines
 
 -- something is broken, or something is open, or neither
-abbrev pub comparison_verdict : List ReportLine → Verdict
+abbrev pub comparison_verdict : List ReportLine → ReportVerdict
 comparison_verdict lines = if list_any is_broken lines then Negative else (if list_any is_open lines then Undecided else Done)

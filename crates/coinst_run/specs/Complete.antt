@@ -15,7 +15,7 @@ use Rattle.status_check.specs.Own.{status_fault}
 use Rattle.suite_compare.specs.Answering.{unknown_goal}
 use Rattle.suite_compare.specs.Refusals.{home_in, packages_in}
 use Rattle.coinst_words.specs.Jobs.{IsInLimits, job_of}
-use Rattle.coinst_run.specs.declared.answer.Verdict.{Verdict}
+use Rattle.coinst_run.specs.declared.answer.ReportVerdict.{ReportVerdict}
 use Rattle.coinst_run.specs.Answer.{reported}
 use Rattle.coinst_run.specs.Outcome.{Outcome, answered, file_limit, outcome_of}
 use Rattle.coinst_run.specs.Sample.{sample_limit}
@@ -58,7 +58,7 @@ IsComplete files (Sample seed count) = IsWithin sample_limit false (sample_text 
 
 -- the outcome is a report
 abbrev pub GivesReport : Outcome → Type 0
-GivesReport outcome = (verdict : Verdict) × (printed : List ℕ) × (outcome ≡ answered (reported verdict printed))
+GivesReport outcome = (verdict : ReportVerdict) × (printed : List ℕ) × (outcome ≡ answered (reported verdict printed))
 
 -- words that ask for a job are answered by a report exactly where it is complete
 abbrev pub CompleteJobsReport : Type 0

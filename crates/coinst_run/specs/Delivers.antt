@@ -3,7 +3,7 @@ use Rattle.std.specs.Prelude.{◌≡◌, ℕ, ◌<◌, ◌≤◌, ◌⊎◌, Lis
 use Rattle.std.specs.Io.KnownBytes.{Appends}
 use Rattle.byte_flow.specs.Flow.{Rose}
 use Rattle.byte_flow.specs.Transfer.{LastWriteFailed, Sent}
-use Rattle.coinst_run.specs.declared.answer.Verdict.{Verdict}
+use Rattle.coinst_run.specs.declared.answer.ReportVerdict.{ReportVerdict}
 use Rattle.coinst_run.specs.declared.status.Status.{Status}
 use Rattle.coinst_run.specs.declared.status.Status.TheVariants.{Memory, WriteFault}
 use Rattle.coinst_run.specs.Answer.{reported, refused}
@@ -40,7 +40,7 @@ IsStop not_a_command = ⊤
 
 -- The report was taken whole, by the writes of it and no others, and nothing was told.
 pub record IsWritten {O E : Type 0} (taken : O → Option (List ℕ)) (write : O → List ℕ → Option ℕ → O → Type 0)
-    (out : O) (err : E) (verdict : Verdict) (report : List ℕ) (result : Status) (out_after : O) (err_after : E) : Type 0 where
+    (out : O) (err : E) (verdict : ReportVerdict) (report : List ℕ) (result : Status) (out_after : O) (err_after : E) : Type 0 where
   pub status : result ≡ verdict_status verdict
   pub calls : Sent write out report out_after []
   pub took : Appends (taken out) (taken out_after) report
@@ -68,9 +68,9 @@ IsRefused told faults write err (Some outcome) result after = IsStop outcome × 
 pub data Delivers {O E : Type 0} (taken : O → Option (List ℕ)) (faults room : O → ℕ) (write : O → List ℕ → Option ℕ → O → Type 0)
     (told : E → Option (List ℕ)) (told_faults : E → ℕ) (told_write : E → List ℕ → Option ℕ → E → Type 0)
     (out : O) (err : E) (result : Status) (out_after : O) (err_after : E) : Option Outcome → Type 0 where
-  a_report : (verdict : Verdict) (report : List ℕ) → IsWritten taken write out err verdict report result out_after err_after →
+  a_report : (verdict : ReportVerdict) (report : List ℕ) → IsWritten taken write out err verdict report result out_after err_after →
       Delivers taken faults room write told told_faults told_write out err result out_after err_after (Some (answered (reported verdict report)))
-  a_cut_report : (verdict : Verdict) (report : List ℕ) → IsCut taken faults room write told told_faults told_write out err report result out_after err_after →
+  a_cut_report : (verdict : ReportVerdict) (report : List ℕ) → IsCut taken faults room write told told_faults told_write out err report result out_after err_after →
       Delivers taken faults room write told told_faults told_write out err result out_after err_after (Some (answered (reported verdict report)))
   a_refusal : (ending : Option Outcome) → out_after ≡ out → IsRefused told told_faults told_write err ending result err_after →
       Delivers taken faults room write told told_faults told_write out err result out_after err_after ending

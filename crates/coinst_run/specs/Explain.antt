@@ -10,7 +10,7 @@ use Rattle.repo_model.specs.declared.goals.Goal.{Goal}
 use Rattle.row_book.specs.Sets.{In}
 use Rattle.suite_compare.specs.Answering.{unknown_goal}
 use Rattle.coinst_run.specs.declared.answer.Cause.TheVariants.{UnknownGoal}
-use Rattle.coinst_run.specs.declared.answer.Verdict.TheVariants.{Done, Negative, Undecided}
+use Rattle.coinst_run.specs.declared.answer.ReportVerdict.TheVariants.{Done, Negative, Undecided}
 use Rattle.coinst_run.specs.Answer.{Answer, reported, refused}
 use Rattle.coinst_run.specs.Course.{Course, answers}
 use Rattle.coinst_run.specs.ExplainText.{core_text, yes_line}

@@ -17,8 +17,8 @@ use Rattle.repo_model.specs.Stanzas.{Met, stanza_at}
 use Rattle.repo_model.specs.declared.goals.Goal.{Goal}
 use Rattle.row_book.specs.Sets.{In, Is, NumSet}
 use Rattle.suite_compare.specs.Refusals.{home_in, packages_in}
-use Rattle.coinst_run.specs.declared.answer.Verdict.{Verdict}
-use Rattle.coinst_run.specs.declared.answer.Verdict.TheVariants.{Done, Negative, Undecided}
+use Rattle.coinst_run.specs.declared.answer.ReportVerdict.{ReportVerdict}
+use Rattle.coinst_run.specs.declared.answer.ReportVerdict.TheVariants.{Done, Negative, Undecided}
 use Rattle.coinst_run.specs.Answer.{reported}
 use Rattle.coinst_run.specs.Explain.{AreClashesOf, explain_course}
 use Rattle.coinst_run.specs.ExplainText.{core_text, yes_line}
@@ -62,18 +62,18 @@ pub record ExplainedCore (text : List ℕ) (goals : List Goal) (budget limit : �
   pub core : IsCoreOf (home_in text) (packages_in text) goals marks
   pub reasons : IfSome clashes (AreEnough (home_in text) (packages_in text) (marked_goals goals marks))
 
-abbrev pub MeansExplained : List ℕ → List Goal → ℕ → ℕ → Bool → Verdict → List ℕ → Type 0
+abbrev pub MeansExplained : List ℕ → List Goal → ℕ → ℕ → Bool → ReportVerdict → List ℕ → Type 0
 MeansExplained text goals budget limit hold Done printed = ExplainedYes text goals printed
 MeansExplained text goals budget limit hold Negative printed = ExplainedCore text goals budget limit hold printed
 MeansExplained text goals budget limit hold Undecided printed = UndecidedMeans text goals budget limit hold printed
 
 -- The text is an index without a fault, each goal names a package of it, and the printed bytes mean what their verdict says.
-pub record ExplainMeans (text : List ℕ) (goals : List Goal) (budget limit : ℕ) (hold : Bool) (verdict : Verdict) (printed : List ℕ) : Type 0 where
+pub record ExplainMeans (text : List ℕ) (goals : List Goal) (budget limit : ℕ) (hold : Bool) (verdict : ReportVerdict) (printed : List ℕ) : Type 0 where
   pub accepted : first_fault text ≡ None
   pub known : (goal : Goal) → In goal goals → (n : ℕ) × In n (packages_named (packages_in text) goal)
   pub means : MeansExplained text goals budget limit hold verdict printed
 
 -- what is reported over files means this for the file at the path
 abbrev pub ExplainIsMeant : Type 0
-ExplainIsMeant = (path : List ℕ) (goals : List Goal) (budget limit : ℕ) (hold : Bool) (files : Files) (verdict : Verdict) (printed : List ℕ) → outcome_over files (explain_course path goals budget limit hold) ≡ answered (reported verdict printed) →
+ExplainIsMeant = (path : List ℕ) (goals : List Goal) (budget limit : ℕ) (hold : Bool) (files : Files) (verdict : ReportVerdict) (printed : List ℕ) → outcome_over files (explain_course path goals budget limit hold) ≡ answered (reported verdict printed) →
     (text : List ℕ) × (files path ≡ Some text) × ExplainMeans text goals budget limit hold verdict printed

@@ -6,7 +6,7 @@ use Rattle.relation_fields.specs.declared.packages.PackageFacts.{PackageFacts}
 use Rattle.row_book.specs.Book.{Sound, repository_of}
 use Rattle.row_book.specs.Sets.{In}
 use Rattle.coinst_run.specs.declared.answer.Cause.TheVariants.{ClauseLimit}
-use Rattle.coinst_run.specs.declared.answer.Verdict.TheVariants.{Done}
+use Rattle.coinst_run.specs.declared.answer.ReportVerdict.TheVariants.{Done}
 use Rattle.coinst_run.specs.Answer.{Stage, reported, refused}
 use Rattle.coinst_run.specs.Course.{Course, answers, then_on}
 use Rattle.coinst_run.specs.Index.{Index, reads_index}

@@ -11,13 +11,14 @@ use Rattle.coinst_words.specs.Jobs.{job_of}
 use Rattle.coinst_words.specs.declared.job.Job.{Job}
 use Rattle.coinst_words.specs.declared.job.Job.TheVariants.{Kernel, Query, StoredQuery, Compare, Explain, Status, Migrate, Sample}
 use Rattle.byte_flow.specs.Flow.{Files}
-use Rattle.coinst_run.specs.declared.answer.Verdict.{Verdict}
+use Rattle.coinst_run.specs.declared.answer.ReportVerdict.{ReportVerdict}
 use Rattle.coinst_run.specs.ExplainMeaning.{ExplainMeans}
 use Rattle.coinst_run.specs.MigrateMeaning.{MigrateMeans}
 use Rattle.coinst_run.specs.QueryMeaning.{QueryMeans}
 use Rattle.coinst_run.specs.StoredMeaning.{StoredMeans}
 use Rattle.coinst_run.specs.SystemMeaning.{SystemMeans}
-use Rattle.coinst_run.specs.Headline.{CompareMeans, KernelMeans}
+use Rattle.coinst_run.specs.CompareMeaning.{CompareMeans}
+use Rattle.coinst_run.specs.KernelMeaning.{KernelMeans}
 
 -- A kernel text has this meaning for the index, and the printed bytes are the JSON of the format, the repository, the members and
 -- the held classes that it reads for.
@@ -32,7 +33,7 @@ pub record SizeMeans (text printed : List ℕ) : Type 0 where
   pub line : printed ≡ size_report (packages_in text) (index_kernel sample_limit false (home_in text) (packages_in text))
 
 -- what a printed report means for the job that it was asked for, by its verdict
-abbrev pub MeansJob : Job → Files → Verdict → List ℕ → Type 0
+abbrev pub MeansJob : Job → Files → ReportVerdict → List ℕ → Type 0
 MeansJob (Kernel path false limit hold) files verdict printed = (text : List ℕ) × (files path ≡ Some text) × KernelMeans text limit hold printed
 MeansJob (Kernel path true limit hold) files verdict printed = (text : List ℕ) × (files path ≡ Some text) × JsonMeans text limit hold printed
 MeansJob (Query index goals budget limit hold) files verdict printed = (text : List ℕ) × (files index ≡ Some text) × QueryMeans text goals budget limit hold verdict printed
@@ -47,7 +48,7 @@ MeansJob (Migrate old new budget limit hold) files verdict printed =
 MeansJob (Sample seed count) files verdict printed = SizeMeans (sample_text seed count) printed
 
 -- The words ask for a job, and this is what the printed bytes mean for it.
-pub record IsMeant (words : List (List ℕ)) (files : Files) (verdict : Verdict) (printed : List ℕ) : Type 0 where
+pub record IsMeant (words : List (List ℕ)) (files : Files) (verdict : ReportVerdict) (printed : List ℕ) : Type 0 where
   pub job : Job
   pub asked : job_of words ≡ Some job
   pub means : MeansJob job files verdict printed

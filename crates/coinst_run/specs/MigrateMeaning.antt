@@ -3,14 +3,14 @@ use Rattle.std.specs.Prelude.{◌≡◌, ℕ, Bool, List, [], map, None, Some}
 use Rattle.byte_flow.specs.Flow.{Files}
 use Rattle.migrate_plan.specs.Differing.{differing}
 use Rattle.migrate_plan.specs.Plan.{settings_of}
-use Rattle.migrate_plan.specs.Promises.{AreRight, MixesAreIndexes, TakesSafely, name_of}
+use Rattle.migrate_plan.specs.Promises.{AreRight, MixesAreIndexes, TakesSafely, planned_name}
 use Rattle.migrate_plan.specs.Refusals.{plan_refusal}
 use Rattle.migrate_plan.specs.declared.plan.PlanLine.{PlanLine}
 use Rattle.repo_model.specs.FirstFault.{first_fault}
 use Rattle.repo_model.specs.declared.goals.Goal.{Goal}
 use Rattle.suite_compare.specs.Asking.{HasVerdict, verdict_in}
 use Rattle.suite_compare.specs.Refusals.{home_in, packages_in}
-use Rattle.coinst_run.specs.declared.answer.Verdict.{Verdict}
+use Rattle.coinst_run.specs.declared.answer.ReportVerdict.{ReportVerdict}
 use Rattle.coinst_run.specs.Answer.{reported}
 use Rattle.coinst_run.specs.Migrate.{migrate_course}
 use Rattle.coinst_run.specs.MigrateText.{plan_text, plan_verdict}
@@ -22,13 +22,13 @@ use Rattle.coinst_run.specs.Outcome.{answered, outcome_over}
 -- passes the limit, or else with the first thing that is broken or open in it. What is broken or open goes by verdicts of which each
 -- yes and each no is judged on the stanzas. In the mix of all names that are taken nothing of the older index is broken, and what
 -- the older one can install, alone or in pairs, it can install.
-pub record MigrateMeans (old new : List ℕ) (budget limit : ℕ) (hold : Bool) (verdict : Verdict) (printed : List ℕ) : Type 0 where
+pub record MigrateMeans (old new : List ℕ) (budget limit : ℕ) (hold : Bool) (verdict : ReportVerdict) (printed : List ℕ) : Type 0 where
   pub old_accepted : first_fault old ≡ None
   pub new_accepted : first_fault new ≡ None
   pub allowed : plan_refusal old new ≡ None
   pub mixes : MixesAreIndexes old new
   pub lines : List PlanLine
-  pub names : map name_of lines ≡ differing (packages_in old) (packages_in new)
+  pub names : map planned_name lines ≡ differing (packages_in old) (packages_in new)
   pub each : AreRight (settings_of budget limit hold) old new [] lines
   pub judged : (text : List ℕ) (goals : List Goal) → HasVerdict limit hold (home_in text) (packages_in text) budget goals (verdict_in limit hold (home_in text) (packages_in text) budget goals)
   pub safely : TakesSafely (settings_of budget limit hold) old new lines
@@ -37,5 +37,5 @@ pub record MigrateMeans (old new : List ℕ) (budget limit : ℕ) (hold : Bool) 
 
 -- what is reported over files means this for the files at the two paths
 abbrev pub MigrateIsMeant : Type 0
-MigrateIsMeant = (old new : List ℕ) (budget limit : ℕ) (hold : Bool) (files : Files) (verdict : Verdict) (printed : List ℕ) → outcome_over files (migrate_course old new budget limit hold) ≡ answered (reported verdict printed) →
+MigrateIsMeant = (old new : List ℕ) (budget limit : ℕ) (hold : Bool) (files : Files) (verdict : ReportVerdict) (printed : List ℕ) → outcome_over files (migrate_course old new budget limit hold) ≡ answered (reported verdict printed) →
     (first second : List ℕ) × (files old ≡ Some first) × (files new ≡ Some second) × MigrateMeans first second budget limit hold verdict printed

@@ -4,8 +4,8 @@ use Rattle.std.specs.Fmt.{decimal}
 use Rattle.std.specs.List.{flat_map, list_any}
 use Rattle.migrate_plan.specs.declared.plan.PlanLine.{PlanLine}
 use Rattle.migrate_plan.specs.declared.plan.PlanLine.TheVariants.{Take, LeftLimit, LeftLine}
-use Rattle.coinst_run.specs.declared.answer.Verdict.{Verdict}
-use Rattle.coinst_run.specs.declared.answer.Verdict.TheVariants.{Done, Negative, Undecided}
+use Rattle.coinst_run.specs.declared.answer.ReportVerdict.{ReportVerdict}
+use Rattle.coinst_run.specs.declared.answer.ReportVerdict.TheVariants.{Done, Negative, Undecided}
 use Rattle.coinst_run.specs.CompareText.{comparison_line, pair_text, single_text}
 use Rattle.headline.specs.Listing.{is_broken}
 use Rattle.coinst_run.specs.Lines.{line_of_text}
@@ -39,5 +39,5 @@ unfoldable pub plan_text : List PlanLine → List ℕ
 plan_text lines = flat_map plan_line lines ++ plan_end lines
 
 -- a name is left since something would be broken, or a name is left, or neither
-abbrev pub plan_verdict : List PlanLine → Verdict
+abbrev pub plan_verdict : List PlanLine → ReportVerdict
 plan_verdict lines = if list_any would_break lines then Negative else (if list_any is_left lines then Undecided else Done)

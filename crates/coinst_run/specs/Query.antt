@@ -6,7 +6,7 @@ use Rattle.search_terms.specs.Tree.{Tree, failed_leaves, found_of, log_of}
 use Rattle.suite_compare.specs.Answering.{unknown_goal}
 use Rattle.suite_compare.specs.Asking.{asked_tree, installation}
 use Rattle.coinst_run.specs.declared.answer.Cause.TheVariants.{UnknownGoal}
-use Rattle.coinst_run.specs.declared.answer.Verdict.TheVariants.{Done, Negative, Undecided}
+use Rattle.coinst_run.specs.declared.answer.ReportVerdict.TheVariants.{Done, Negative, Undecided}
 use Rattle.coinst_run.specs.Answer.{Answer, reported, refused}
 use Rattle.coinst_run.specs.Course.{Course, answers}
 use Rattle.coinst_run.specs.Index.{Index}

@@ -15,8 +15,8 @@ use Rattle.search_terms.specs.Tree.{failed_leaves}
 use Rattle.suite_compare.specs.Answering.{Serves}
 use Rattle.suite_compare.specs.Asking.{asked_tree, images_of}
 use Rattle.suite_compare.specs.Refusals.{home_in, packages_in}
-use Rattle.coinst_run.specs.declared.answer.Verdict.{Verdict}
-use Rattle.coinst_run.specs.declared.answer.Verdict.TheVariants.{Done, Negative, Undecided}
+use Rattle.coinst_run.specs.declared.answer.ReportVerdict.{ReportVerdict}
+use Rattle.coinst_run.specs.declared.answer.ReportVerdict.TheVariants.{Done, Negative, Undecided}
 use Rattle.coinst_run.specs.Answer.{reported}
 use Rattle.coinst_run.specs.Outcome.{answered, outcome_over}
 use Rattle.coinst_run.specs.Query.{query_course}
@@ -44,18 +44,18 @@ pub record UndecidedMeans (text : List ℕ) (goals : List Goal) (budget limit : 
   pub reads : printed ≡ undecided_text budget
   pub spent : budget < failed_leaves (asked_tree limit hold (home_in text) (packages_in text) goals)
 
-abbrev pub MeansVerdict : List ℕ → List Goal → ℕ → ℕ → Bool → Verdict → List ℕ → Type 0
+abbrev pub MeansVerdict : List ℕ → List Goal → ℕ → ℕ → Bool → ReportVerdict → List ℕ → Type 0
 MeansVerdict text goals budget limit hold Done printed = YesMeans text goals printed
 MeansVerdict text goals budget limit hold Negative printed = NoMeans text goals limit hold printed
 MeansVerdict text goals budget limit hold Undecided printed = UndecidedMeans text goals budget limit hold printed
 
 -- The text is an index without a fault, each goal names a package of it, and the printed bytes mean what their verdict says.
-pub record QueryMeans (text : List ℕ) (goals : List Goal) (budget limit : ℕ) (hold : Bool) (verdict : Verdict) (printed : List ℕ) : Type 0 where
+pub record QueryMeans (text : List ℕ) (goals : List Goal) (budget limit : ℕ) (hold : Bool) (verdict : ReportVerdict) (printed : List ℕ) : Type 0 where
   pub accepted : first_fault text ≡ None
   pub known : (goal : Goal) → In goal goals → (n : ℕ) × In n (packages_named (packages_in text) goal)
   pub means : MeansVerdict text goals budget limit hold verdict printed
 
 -- what is reported over files means this for the file at the path
 abbrev pub QueryIsMeant : Type 0
-QueryIsMeant = (path : List ℕ) (goals : List Goal) (budget limit : ℕ) (hold : Bool) (files : Files) (verdict : Verdict) (printed : List ℕ) → outcome_over files (query_course path goals budget limit hold) ≡ answered (reported verdict printed) →
+QueryIsMeant = (path : List ℕ) (goals : List Goal) (budget limit : ℕ) (hold : Bool) (files : Files) (verdict : ReportVerdict) (printed : List ℕ) → outcome_over files (query_course path goals budget limit hold) ≡ answered (reported verdict printed) →
     (text : List ℕ) × (files path ≡ Some text) × QueryMeans text goals budget limit hold verdict printed

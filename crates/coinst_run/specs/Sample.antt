@@ -4,7 +4,7 @@ use Rattle.kernel_text.specs.KernelLines.{KernelLine, HeadLine, ClassLine, Membe
 use Rattle.kernel_text.specs.KernelText.{format_of, kernel_lines}
 use Rattle.relation_fields.specs.declared.packages.PackageFacts.{PackageFacts}
 use Rattle.sample_suite.specs.SampleText.{sample_text}
-use Rattle.coinst_run.specs.declared.answer.Verdict.TheVariants.{Done}
+use Rattle.coinst_run.specs.declared.answer.ReportVerdict.TheVariants.{Done}
 use Rattle.coinst_run.specs.Answer.{reported}
 use Rattle.coinst_run.specs.Course.{Course, answers, then_on}
 use Rattle.coinst_run.specs.Index.{Index, checked_index}

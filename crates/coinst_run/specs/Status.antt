@@ -2,8 +2,8 @@
 use Rattle.std.specs.Prelude.{ℕ}
 use Rattle.coinst_run.specs.declared.answer.Cause.{Cause}
 use Rattle.coinst_run.specs.declared.answer.Cause.TheVariants as cause
-use Rattle.coinst_run.specs.declared.answer.Verdict.{Verdict}
-use Rattle.coinst_run.specs.declared.answer.Verdict.TheVariants as verdict
+use Rattle.coinst_run.specs.declared.answer.ReportVerdict.{ReportVerdict}
+use Rattle.coinst_run.specs.declared.answer.ReportVerdict.TheVariants as verdict
 use Rattle.coinst_run.specs.declared.status.Status.{Status}
 use Rattle.coinst_run.specs.declared.status.Status.TheVariants.{Done, Negative, Words, Content, ClauseLimit, ReadFault, WriteFault, Memory, Undecided, UnknownGoal, TooLarge}
 
@@ -20,7 +20,7 @@ code_of Undecided = 8
 code_of UnknownGoal = 9
 code_of TooLarge = 10
 
-abbrev pub verdict_status : Verdict → Status
+abbrev pub verdict_status : ReportVerdict → Status
 verdict_status verdict.Done = Done
 verdict_status verdict.Negative = Negative
 verdict_status verdict.Undecided = Undecided

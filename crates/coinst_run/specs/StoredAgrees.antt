@@ -10,8 +10,8 @@ use Rattle.search_terms.specs.declared.literals.Literal.{Literal}
 use Rattle.suite_compare.specs.Asking.{images_of, installation}
 use Rattle.suite_compare.specs.Refusals.{home_in, packages_in}
 use Rattle.coinst_run.specs.declared.answer.Cause.TheVariants.{UnknownGoal}
-use Rattle.coinst_run.specs.declared.answer.Verdict.{Verdict}
-use Rattle.coinst_run.specs.declared.answer.Verdict.TheVariants.{Done, Negative, Undecided}
+use Rattle.coinst_run.specs.declared.answer.ReportVerdict.{ReportVerdict}
+use Rattle.coinst_run.specs.declared.answer.ReportVerdict.TheVariants.{Done, Negative, Undecided}
 use Rattle.coinst_run.specs.Answer.{Answer, refused, reported}
 use Rattle.coinst_run.specs.Index.{Index, index_in}
 use Rattle.coinst_run.specs.IndexKernel.{index_kernel, text_for}
@@ -42,7 +42,7 @@ pub record AnswersAsIndex (files : Files) (index stored text : List ℕ) (goals 
 -- What the command `kernel` prints of an index at a clause limit, with hold or without, stored in a file that is not too long,
 -- answers goals as the index does at that limit and hold and with the same budget.
 abbrev pub StoredAnswersAsIndex : Type 0
-StoredAnswersAsIndex = (files : Files) (index stored text printed : List ℕ) (goals : List Goal) (budget limit : ℕ) (hold : Bool) (verdict : Verdict) →
+StoredAnswersAsIndex = (files : Files) (index stored text printed : List ℕ) (goals : List Goal) (budget limit : ℕ) (hold : Bool) (verdict : ReportVerdict) →
     files index ≡ Some text → outcome_over files (kernel_course index false limit hold) ≡ answered (reported verdict printed) → files stored ≡ Some printed → length printed ≤ file_limit →
     AnswersAsIndex files index stored text goals budget limit hold
 

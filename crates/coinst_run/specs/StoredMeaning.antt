@@ -13,8 +13,8 @@ use Rattle.search_terms.specs.Derives.{Derives}
 use Rattle.search_terms.specs.Form.{form}
 use Rattle.search_terms.specs.Tree.{failed_leaves}
 use Rattle.suite_compare.specs.Asking.{tree_of}
-use Rattle.coinst_run.specs.declared.answer.Verdict.{Verdict}
-use Rattle.coinst_run.specs.declared.answer.Verdict.TheVariants.{Done, Negative, Undecided}
+use Rattle.coinst_run.specs.declared.answer.ReportVerdict.{ReportVerdict}
+use Rattle.coinst_run.specs.declared.answer.ReportVerdict.TheVariants.{Done, Negative, Undecided}
 use Rattle.coinst_run.specs.Answer.{reported}
 use Rattle.coinst_run.specs.Outcome.{answered, outcome_over}
 use Rattle.coinst_run.specs.QueryText.{no_text, undecided_text}
@@ -58,14 +58,14 @@ pub record StoredUndecided (kernel : KernelContent) (goals : List Goal) (budget 
   pub reads : printed ≡ undecided_text budget
   pub spent : budget < failed_leaves (tree_of kernel.repository (images_in kernel goals))
 
-abbrev pub MeansStored : KernelContent → List Goal → ℕ → Verdict → List ℕ → Type 0
+abbrev pub MeansStored : KernelContent → List Goal → ℕ → ReportVerdict → List ℕ → Type 0
 MeansStored kernel goals budget Done printed = StoredYes kernel goals printed
 MeansStored kernel goals budget Negative printed = StoredNo kernel goals printed
 MeansStored kernel goals budget Undecided printed = StoredUndecided kernel goals budget printed
 
 -- The text stands for one kernel, by the grammar of the formats, each goal names a package of it, and the printed bytes mean what
 -- their verdict says.
-pub record StoredMeans (text : List ℕ) (goals : List Goal) (budget : ℕ) (verdict : Verdict) (printed : List ℕ) : Type 0 where
+pub record StoredMeans (text : List ℕ) (goals : List Goal) (budget : ℕ) (verdict : ReportVerdict) (printed : List ℕ) : Type 0 where
   pub kernel : KernelContent
   pub reads : KernelReads text kernel.format kernel.repository kernel.members kernel.held
   pub once : HasOneReading text
@@ -74,5 +74,5 @@ pub record StoredMeans (text : List ℕ) (goals : List Goal) (budget : ℕ) (ver
 
 -- what is reported over files means this for the file at the path
 abbrev pub StoredQueryIsMeant : Type 0
-StoredQueryIsMeant = (path : List ℕ) (goals : List Goal) (budget : ℕ) (files : Files) (verdict : Verdict) (printed : List ℕ) → outcome_over files (stored_query_course path goals budget) ≡ answered (reported verdict printed) →
+StoredQueryIsMeant = (path : List ℕ) (goals : List Goal) (budget : ℕ) (files : Files) (verdict : ReportVerdict) (printed : List ℕ) → outcome_over files (stored_query_course path goals budget) ≡ answered (reported verdict printed) →
     (text : List ℕ) × (files path ≡ Some text) × StoredMeans text goals budget verdict printed

@@ -12,7 +12,7 @@ use Rattle.row_book.specs.Flags.{flag}
 use Rattle.search_terms.specs.Tree.{Tree, failed_leaves, found_of, log_of}
 use Rattle.suite_compare.specs.Asking.{tree_of}
 use Rattle.coinst_run.specs.declared.answer.Cause.TheVariants.{Content, UnknownGoal}
-use Rattle.coinst_run.specs.declared.answer.Verdict.TheVariants.{Done, Negative, Undecided}
+use Rattle.coinst_run.specs.declared.answer.ReportVerdict.TheVariants.{Done, Negative, Undecided}
 use Rattle.coinst_run.specs.Answer.{Answer, Stage, reported, refused}
 use Rattle.coinst_run.specs.Course.{Course, answers, reads, then_on}
 use Rattle.coinst_run.specs.Lines.{about, at_line, line_of_text}

@@ -10,7 +10,7 @@ use Rattle.status_check.specs.Own.{foreign_count, own_home, own_packages, status
 use Rattle.status_check.specs.Report.{all_of, had_goals, line_for, state_of, IsJudged, IsStateOf}
 use Rattle.status_check.specs.declared.report.OwnState.TheVariants.{Healthy}
 use Rattle.status_check.specs.declared.report.StatusReport.{StatusReport}
-use Rattle.coinst_run.specs.declared.answer.Verdict.{Verdict}
+use Rattle.coinst_run.specs.declared.answer.ReportVerdict.{ReportVerdict}
 use Rattle.coinst_run.specs.Answer.{reported}
 use Rattle.coinst_run.specs.Outcome.{answered, outcome_over}
 use Rattle.coinst_run.specs.SystemStatus.{status_course}
@@ -20,7 +20,7 @@ use Rattle.coinst_run.specs.SystemText.{system_text, system_verdict}
 -- each own package whether the index has it, how many packages are foreign, whether the own packages stand together, and whether
 -- those that the index has can be installed from it together. The own packages are told to be healthy exactly where they are,
 -- judged on their stanzas. After a yes some healthy set of the index has all that it has, and after a no none does.
-pub record SystemMeans (suite file : List ℕ) (budget limit : ℕ) (hold : Bool) (verdict : Verdict) (printed : List ℕ) : Type 0 where
+pub record SystemMeans (suite file : List ℕ) (budget limit : ℕ) (hold : Bool) (verdict : ReportVerdict) (printed : List ℕ) : Type 0 where
   pub accepted : first_fault suite ≡ None
   pub faultless : status_fault (home_in suite) file ≡ None
   pub report : StatusReport
@@ -35,5 +35,5 @@ pub record SystemMeans (suite file : List ℕ) (budget limit : ℕ) (hold : Bool
 
 -- what is reported over files means this for the files at the two paths
 abbrev pub SystemIsMeant : Type 0
-SystemIsMeant = (file index : List ℕ) (budget limit : ℕ) (hold : Bool) (files : Files) (verdict : Verdict) (printed : List ℕ) → outcome_over files (status_course file index budget limit hold) ≡ answered (reported verdict printed) →
+SystemIsMeant = (file index : List ℕ) (budget limit : ℕ) (hold : Bool) (files : Files) (verdict : ReportVerdict) (printed : List ℕ) → outcome_over files (status_course file index budget limit hold) ≡ answered (reported verdict printed) →
     (suite text : List ℕ) × (files index ≡ Some suite) × (files file ≡ Some text) × SystemMeans suite text budget limit hold verdict printed

@@ -8,8 +8,8 @@ use Rattle.status_check.specs.declared.report.OwnState.TheVariants.{Healthy, Unh
 use Rattle.status_check.specs.declared.report.StatusReport.{StatusReport}
 use Rattle.status_check.specs.declared.report.SuiteState.{SuiteState}
 use Rattle.status_check.specs.declared.report.SuiteState.TheVariants.{Yes, No, Spent}
-use Rattle.coinst_run.specs.declared.answer.Verdict.{Verdict}
-use Rattle.coinst_run.specs.declared.answer.Verdict.TheVariants.{Done, Negative, Undecided}
+use Rattle.coinst_run.specs.declared.answer.ReportVerdict.{ReportVerdict}
+use Rattle.coinst_run.specs.declared.answer.ReportVerdict.TheVariants.{Done, Negative, Undecided}
 use Rattle.coinst_run.specs.Lines.{line_of_text}
 
 -- the name and the version of an own package, as the status file writes it, each behind a space
@@ -78,13 +78,13 @@ system_text budget report =
     flat_map have_text report.lines ++ foreign_text report.foreign ++ own_text report.lines report.own ++ suite_text budget report.verdict ++ counts_text report.lines
 
 -- what the index answers as a whole
-abbrev pub suite_verdict : SuiteState → Verdict
+abbrev pub suite_verdict : SuiteState → ReportVerdict
 suite_verdict Yes = Done
 suite_verdict No = Negative
 suite_verdict (Spent failed) = Undecided
 
 -- the own packages do not stand together, or the index says no; or it says nothing
-abbrev pub system_verdict : OwnState → SuiteState → Verdict
+abbrev pub system_verdict : OwnState → SuiteState → ReportVerdict
 system_verdict Healthy state = suite_verdict state
 system_verdict (Unhit n) state = Negative
 system_verdict (Clash first second) state = Negative

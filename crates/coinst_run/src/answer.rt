@@ -5,7 +5,7 @@ use std::alloc::AllocError;
 
 /// What a report says as a whole.
 #[derive(Clone, Copy, Debug, PartialEq, Eq)]
-pub enum Verdict {
+pub enum ReportVerdict {
     /// Done; yes; nothing broken and nothing open; a system that stands; every name taken.
     Done,
     /// No; a core; something broken; a system that does not stand; a name left since something would be broken.
@@ -14,7 +14,7 @@ pub enum Verdict {
     Undecided,
 }
 
-impl Verdict {
+impl ReportVerdict {
     ghost use Rattle.std.specs.Prelude.{◌≡◌};
     ghost use Rattle.coinst_run.specs.Status.{verdict_status};
 
@@ -23,9 +23,9 @@ impl Verdict {
         ensures { result ≡ verdict_status self.now }
     {
         match self {
-            Verdict::Done => Status::Done,
-            Verdict::Negative => Status::Negative,
-            Verdict::Undecided => Status::Undecided,
+            ReportVerdict::Done => Status::Done,
+            ReportVerdict::Negative => Status::Negative,
+            ReportVerdict::Undecided => Status::Undecided,
         }
     }
 }
@@ -64,7 +64,7 @@ impl Cause {
 #[derive(Drop)]
 pub struct Report {
     /// What it says as a whole.
-    pub verdict: Verdict,
+    pub verdict: ReportVerdict,
     /// Its bytes.
     pub text: Vec<u8>,
 }

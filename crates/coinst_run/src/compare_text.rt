@@ -4,7 +4,7 @@ ghost use Rattle.std.specs.List.{flat_map, list_any};
 ghost use Rattle.coinst_run.specs.CompareText.{comparison_line, comparison_text, comparison_verdict, end_text, is_open, pair_text, single_text};
 ghost use Rattle.headline.specs.Listing.{is_broken};
 
-use crate::answer::Verdict;
+use crate::answer::ReportVerdict;
 use crate::lines::push_number;
 use std::alloc::{AllocError, Global};
 use suite_compare::ReportLine;
@@ -146,14 +146,14 @@ fn has_open(lines: &[ReportLine]) -> bool
 }
 
 /// What the lines of a comparison say as a whole; it takes no memory.
-pub(crate) fn comparison_verdict(lines: &[ReportLine]) -> Verdict
+pub(crate) fn comparison_verdict(lines: &[ReportLine]) -> ReportVerdict
     ensures { result ≡ comparison_verdict lines.now }
 {
     if has_broken(lines) {
-        return Verdict::Negative;
+        return ReportVerdict::Negative;
     }
     if has_open(lines) {
-        return Verdict::Undecided;
+        return ReportVerdict::Undecided;
     }
-    Verdict::Done
+    ReportVerdict::Done
 }

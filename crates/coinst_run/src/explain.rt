@@ -8,7 +8,7 @@ ghost use Rattle.coinst_run.specs.Explain.{IsTellable, explain_course, explanati
 ghost use Rattle.coinst_run.specs.Follows.{Follows};
 ghost use Rattle.coinst_run.specs.Index.{index_of};
 
-use crate::answer::{Cause, Report, Stop, Verdict};
+use crate::answer::{Cause, Report, ReportVerdict, Stop};
 use crate::explain_text::{core_text, yes_line};
 use crate::query::goal_of_number;
 use crate::query_text::{undecided_text, unknown_line};
@@ -78,18 +78,18 @@ fn explanation_report(
 {
     match explanation {
         Explanation::Yes => Ok(Report {
-            verdict: Verdict::Done,
+            verdict: ReportVerdict::Done,
             text: yes_line(alloc)?,
         }),
         Explanation::Spent { failed: _ } => Ok(Report {
-            verdict: Verdict::Undecided,
+            verdict: ReportVerdict::Undecided,
             text: undecided_text(alloc, budget)?,
         }),
         Explanation::Core {
             goals: marks,
             clashes,
         } => Ok(Report {
-            verdict: Verdict::Negative,
+            verdict: ReportVerdict::Negative,
             text: core_text(alloc, packages, goals, marks.as_slice(), clashes)?,
         }),
     }

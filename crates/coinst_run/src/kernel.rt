@@ -8,7 +8,7 @@ ghost use Rattle.coinst_run.specs.Index.{index_of};
 ghost use Rattle.coinst_run.specs.IndexKernel.{index_kernel};
 ghost use Rattle.coinst_run.specs.Kernel.{kernel_answer, kernel_course, printed_kernel};
 
-use crate::answer::{Report, Stop, Verdict};
+use crate::answer::{Report, ReportVerdict, Stop};
 use crate::settings::Settings;
 use crate::views::view_at;
 use byte_flow::Shelf;
@@ -37,7 +37,7 @@ fn kernel_report(alloc: Global, view: &SuiteView, json: bool) -> Result<Report, 
     ensures { Settles (kernel_answer json (index_of view.now.suite) (index_kernel view.now.limit view.now.kernel.hold view.now.suite.home view.now.suite.packages)) (ending_of result) }
 {
     Ok(Report {
-        verdict: Verdict::Done,
+        verdict: ReportVerdict::Done,
         text: printed_kernel(alloc, view, json)?,
     })
 }

@@ -4,7 +4,7 @@ ghost use Rattle.std.specs.List.{flat_map, list_any};
 ghost use Rattle.coinst_run.specs.CompareText.{comparison_line};
 ghost use Rattle.coinst_run.specs.MigrateText.{is_left, is_take, plan_end, plan_line, plan_text, plan_verdict, would_break};
 
-use crate::answer::Verdict;
+use crate::answer::ReportVerdict;
 use crate::compare_text::{is_broken, push_line, push_pair, push_single};
 use crate::lines::push_number;
 use migrate_plan::PlanLine;
@@ -124,14 +124,14 @@ fn has_left(lines: &[PlanLine]) -> bool
 }
 
 /// What the lines of a plan say as a whole; it takes no memory.
-pub(crate) fn plan_verdict(lines: &[PlanLine]) -> Verdict
+pub(crate) fn plan_verdict(lines: &[PlanLine]) -> ReportVerdict
     ensures { result ≡ plan_verdict lines.now }
 {
     if has_break(lines) {
-        return Verdict::Negative;
+        return ReportVerdict::Negative;
     }
     if has_left(lines) {
-        return Verdict::Undecided;
+        return ReportVerdict::Undecided;
     }
-    Verdict::Done
+    ReportVerdict::Done
 }

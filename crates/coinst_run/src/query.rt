@@ -8,7 +8,7 @@ ghost use Rattle.coinst_run.specs.Follows.{Follows};
 ghost use Rattle.coinst_run.specs.Index.{index_of};
 ghost use Rattle.coinst_run.specs.Query.{goal_of_number, goals_answer, query_course};
 
-use crate::answer::{Cause, Report, Stop, Verdict};
+use crate::answer::{Cause, Report, ReportVerdict, Stop};
 use crate::query_text::{no_text, undecided_text, unknown_line, yes_text};
 use crate::settings::Settings;
 use crate::views::view_at;
@@ -58,15 +58,15 @@ fn goals_report(
                 classes: _,
             },
         ) => Ok(Report {
-            verdict: Verdict::Done,
+            verdict: ReportVerdict::Done,
             text: yes_text(alloc, view.suite.packages.as_slice(), install.as_slice())?,
         }),
         Ok(Answer::No { log }) => Ok(Report {
-            verdict: Verdict::Negative,
+            verdict: ReportVerdict::Negative,
             text: no_text(alloc, &log)?,
         }),
         Ok(Answer::Spent { failed: _ }) => Ok(Report {
-            verdict: Verdict::Undecided,
+            verdict: ReportVerdict::Undecided,
             text: undecided_text(alloc, budget)?,
         }),
         Err(DecideError::Unknown { goal }) => {

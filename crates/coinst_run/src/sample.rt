@@ -12,7 +12,7 @@ ghost use Rattle.coinst_run.specs.Index.{checked_index, index_of};
 ghost use Rattle.coinst_run.specs.IndexKernel.{index_kernel};
 ghost use Rattle.coinst_run.specs.Sample.{sample_course, sample_path, size_report};
 
-use crate::answer::{Report, Stop, Verdict};
+use crate::answer::{Report, ReportVerdict, Stop};
 use crate::lines::size_line;
 use crate::stages::checked_index;
 use crate::views::view_of;
@@ -34,7 +34,7 @@ pub fn sample(alloc: Global, seed: u64, count: u32) -> Result<Report, Stop>
     let suite = suite_of(alloc, seed, count)?;
     let view = view_of(alloc, suite, "sample", CLAUSE_LIMIT, false)?;
     Ok(Report {
-        verdict: Verdict::Done,
+        verdict: ReportVerdict::Done,
         text: size_report(alloc, &view)?,
     })
 }

@@ -19,7 +19,7 @@ ghost use Rattle.coinst_run.specs.declared.answer.Cause.TheVariants.{Content};
 ghost use Rattle.coinst_run.specs.StoredQuery.{checked_kernel, class_line, classes_by_tree, classes_text, kernel_fault_line, kernel_fault_text, stored_answer, stored_query_answer, stored_query_course};
 ghost use Rattle.repo_model.specs.Limits.{most_bytes};
 
-use crate::answer::{Cause, Report, Stop, Verdict};
+use crate::answer::{Cause, Report, ReportVerdict, Stop};
 use crate::lines::{push_at_line, push_number};
 use crate::query::goal_of_number;
 use crate::query_text::{no_text, undecided_text, unknown_line};
@@ -142,15 +142,15 @@ fn tree_report(
 {
     match search(alloc, pool, book, needs, budget)? {
         Outcome::Found { chosen } => Ok(Report {
-            verdict: Verdict::Done,
+            verdict: ReportVerdict::Done,
             text: classes_text(alloc, chosen.as_slice())?,
         }),
         Outcome::Refuted { log } => Ok(Report {
-            verdict: Verdict::Negative,
+            verdict: ReportVerdict::Negative,
             text: no_text(alloc, &log)?,
         }),
         Outcome::Spent { failed: _ } => Ok(Report {
-            verdict: Verdict::Undecided,
+            verdict: ReportVerdict::Undecided,
             text: undecided_text(alloc, budget)?,
         }),
     }

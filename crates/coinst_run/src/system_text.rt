@@ -3,7 +3,7 @@ ghost use Rattle.std.specs.Prelude.{◌≡◌, ◌++◌, ◌<◌, IfOk, OnOk, fi
 ghost use Rattle.std.specs.List.{flat_map};
 ghost use Rattle.coinst_run.specs.SystemText.{clash_text, counts_text, foreign_text, have_text, is_had, is_lacking, named_text, own_text, spent_text, suite_text, suite_verdict, system_text, system_verdict, undecided_word, unhit_text, AreOfLines};
 
-use crate::answer::Verdict;
+use crate::answer::ReportVerdict;
 use crate::lines::push_number;
 use status_check::{HaveLine, OwnState, StatusReport, SuiteState};
 use std::alloc::{AllocError, Global};
@@ -164,18 +164,18 @@ pub(crate) fn system_text(
 }
 
 // What the answer of the index says as a whole.
-fn suite_verdict(state: SuiteState) -> Verdict
+fn suite_verdict(state: SuiteState) -> ReportVerdict
     ensures { result ≡ suite_verdict state }
 {
     match state {
-        SuiteState::Yes => Verdict::Done,
-        SuiteState::No => Verdict::Negative,
-        SuiteState::Spent { failed: _ } => Verdict::Undecided,
+        SuiteState::Yes => ReportVerdict::Done,
+        SuiteState::No => ReportVerdict::Negative,
+        SuiteState::Spent { failed: _ } => ReportVerdict::Undecided,
     }
 }
 
 /// What a report says as a whole; it takes no memory.
-pub(crate) fn system_verdict(own: OwnState, state: SuiteState) -> Verdict
+pub(crate) fn system_verdict(own: OwnState, state: SuiteState) -> ReportVerdict
     ensures { result ≡ system_verdict own state }
 {
     match own {
@@ -184,6 +184,6 @@ pub(crate) fn system_verdict(own: OwnState, state: SuiteState) -> Verdict
         | OwnState::Clash {
             first: _,
             second: _,
-        } => Verdict::Negative,
+        } => ReportVerdict::Negative,
     }
 }

@@ -1,8 +1,7 @@
 //! The top call: all that the program does, over any shelf and any two sinks.
 ghost use Rattle.std.specs.Prelude.{◌≡◌, ◌⊎◌, IfSome, None, Option, map, string_bytes};
 ghost use Rattle.byte_flow.specs.Flow.{Rose};
-ghost use Rattle.claims.specs.CompareSentence.{CompareIsTrue};
-ghost use Rattle.claims.specs.KernelSentence.{KernelIsTrue};
+ghost use Rattle.claims.specs.Sentences.{CompareIsTrue, KernelIsTrue};
 ghost use Rattle.coinst_run.specs.Delivers.{Delivers, Tells};
 ghost use Rattle.coinst_run.specs.Ending.{ending_of};
 ghost use Rattle.coinst_run.specs.Follows.{Follows, FollowsJob};
@@ -10,7 +9,7 @@ ghost use Rattle.coinst_run.specs.Meaning.{IsMeant};
 ghost use Rattle.coinst_run.specs.Outcome.{Outcome, course_of, outcome_of};
 ghost use Rattle.coinst_run.specs.Run.{Answers, Completes, Took};
 ghost use Rattle.coinst_run.specs.Status.{verdict_status};
-ghost use Rattle.coinst_run.specs.declared.answer.Verdict.{Verdict};
+ghost use Rattle.coinst_run.specs.declared.answer.ReportVerdict.{ReportVerdict};
 ghost use Rattle.coinst_words.specs.Jobs.{IsInLimits, job_of};
 
 use crate::answer::{Report, Stop};
@@ -79,12 +78,12 @@ pub fn run<F: Shelf, O: Sink, E: Sink>(
         (Tells E.taken E.faults E.write_gives err.old err.new) (outcome_of (map string_bytes words.now) files) (O.taken out.old) (O.taken out.new) result) }
 
     // What was printed means what the stanzas of the indexes say.
-    ensures meaning { (verdict : Verdict) → result ≡ verdict_status verdict → IfSome (F.contents shelf.old) (λ files. Took (O.taken out.old) (O.taken out.new) (IsMeant (map string_bytes words.now) files verdict)) }
+    ensures meaning { (verdict : ReportVerdict) → result ≡ verdict_status verdict → IfSome (F.contents shelf.old) (λ files. Took (O.taken out.old) (O.taken out.new) (IsMeant (map string_bytes words.now) files verdict)) }
 
     // The two sentences: what was printed for `kernel`, and for `compare`, with the options in one order, is a faithful kernel and a
     // faithful comparison of the files.
-    ensures kernel_is_true { (verdict : Verdict) → result ≡ verdict_status verdict → IfSome (F.contents shelf.old) (λ files. Took (O.taken out.old) (O.taken out.new) (KernelIsTrue (map string_bytes words.now) files)) }
-    ensures compare_is_true { (verdict : Verdict) → result ≡ verdict_status verdict → IfSome (F.contents shelf.old) (λ files. Took (O.taken out.old) (O.taken out.new) (CompareIsTrue (map string_bytes words.now) files)) }
+    ensures kernel_is_true { (verdict : ReportVerdict) → result ≡ verdict_status verdict → IfSome (F.contents shelf.old) (λ files. Took (O.taken out.old) (O.taken out.new) (KernelIsTrue (map string_bytes words.now) files)) }
+    ensures compare_is_true { (verdict : ReportVerdict) → result ≡ verdict_status verdict → IfSome (F.contents shelf.old) (λ files. Took (O.taken out.old) (O.taken out.new) (CompareIsTrue (map string_bytes words.now) files)) }
 
     // Where no call failed, a report is written whole unless no memory is found.
     ensures completes { IfSome (F.contents shelf.old) (λ files. (Rose (F.faults shelf.old) (F.faults shelf.new) → ⊥) → (Rose (O.faults out.old) (O.faults out.new) → ⊥) → Completes result (outcome_of (map string_bytes words.now) files)) }

@@ -20,7 +20,7 @@ use Rattle.row_book.proofs.BookRepositories.{book_size}
 use Rattle.row_book.proofs.Lists.{In_map_cases}
 use Rattle.suite_compare.specs.Asking.{verdict_in, wanted_by}
 use Rattle.suite_compare.specs.Views.{IsViewOf}
-use Rattle.explain_core.specs.Core.{core_of, mark, marked_goals, marks_of, verdict_on}
+use Rattle.explain_core.specs.Core.{goal_core, mark, marked_goals, marks_of, verdict_on}
 use Rattle.explain_core.specs.Explaining.{clashes_for, core_explained, explained_by, explanation_of}
 use Rattle.explain_core.specs.Picking.{picked, ArePlacesFrom1}
 use Rattle.explain_core.specs.Reasons.{clashes_of, reasons_of}
@@ -32,9 +32,9 @@ use Rattle.explain_core.proofs.Explained.{wanted_fits}
 use Rattle.explain_core.proofs.Told.{picked_numbered}
 
 -- the marks of the core are numbers of goals
-pub core_places : (limit : ℕ) (hold : Bool) (home : Home) (stanzas : List PackageFacts) (budget : ℕ) (goals : List Goal) (marks : List Mark) → marks ≡ marks_of (core_of limit hold home stanzas budget goals) → ArePlacesFrom1 (length goals) marks
+pub core_places : (limit : ℕ) (hold : Bool) (home : Home) (stanzas : List PackageFacts) (budget : ℕ) (goals : List Goal) (marks : List Mark) → marks ≡ marks_of (goal_core limit hold home stanzas budget goals) → ArePlacesFrom1 (length goals) marks
 core_places limit hold home stanzas budget goals marks are m i =
-    let w = In_map_cases mark (core_of limit hold home stanzas budget goals) m (subst (λ l. In m l) are i) in
+    let w = In_map_cases mark (goal_core limit hold home stanzas budget goals) m (subst (λ l. In m l) are i) in
     let inside = range_cases (length goals) 1 w.0.item (kept_all (verdict_on limit hold home stanzas budget goals) (range_with_len 1 (length goals)) w.0 w.1) in
     let same : m.goal ≡ w.0.item = ap (λ z. z.goal) w.2 in
     (omega (arith, inside.0, same), omega (arith, inside.1, same))
@@ -43,7 +43,7 @@ module _ (pool : Interned) (home : Home) (stanzas : List PackageFacts) (book : B
   pub wanted_long : length wanted ≡ length goals
   wanted_long = ap length are ∙ length-map goals (packages_named stanzas)
 
-  module _ (marks : List Mark) (marked : marks ≡ marks_of (core_of limit made.hold home stanzas budget goals)) (lent : List Mark) (is : lent ≡ marks) (core : List (List ℕ)) (picks : core ≡ picked wanted lent) where
+  module _ (marks : List Mark) (marked : marks ≡ marks_of (goal_core limit made.hold home stanzas budget goals)) (lent : List Mark) (is : lent ≡ marks) (core : List (List ℕ)) (picks : core ≡ picked wanted lent) where
     -- the packages of the marked goals
     core_is : core ≡ wanted_by stanzas (marked_goals goals marks)
     core_is = picks ∙ ap (picked wanted) is ∙ ap (λ w. picked w marks) are ∙ picked_numbered (packages_named stanzas) goals marks (core_places limit made.hold home stanzas budget goals marks marked)

@@ -12,7 +12,7 @@ use Rattle.row_book.specs.declared.book.Book.{Book}
 use Rattle.row_book.proofs.Lists.{all_at, In_append_left}
 use Rattle.row_book.proofs.Pairs.{length_pairs, pairs_conflict}
 use Rattle.search_terms.specs.declared.literals.Literal.{Literal}
-use Rattle.search_terms.specs.Closure.{literal, negation, is_same, forces, Clashes, InClosure, IsClosed}
+use Rattle.search_terms.specs.Closure.{literal, negation, is_same, forces, Clashes, InClosure, IsUnitClosed}
 use Rattle.search_terms.specs.Marks.{IsWithin}
 use Rattle.search_terms.specs.Form.{conflict_sentence, owned_sentences}
 use Rattle.search_terms.proofs.Forms.{from_owned_sentences}
@@ -22,7 +22,7 @@ use Rattle.search_terms.proofs.Sets.{closed_append, forces_mono}
 use Rattle.clause_solver.specs.Engine.{whole_form}
 use Rattle.clause_solver.specs.Levels.{CalmAt, IsAt}
 use Rattle.clause_solver.specs.Levels.IsLayered.{at_root}
-use Rattle.clause_solver.specs.Marking.{among}
+use Rattle.clause_solver.specs.Marking.{set_of_trail}
 use Rattle.clause_solver.specs.Nodes.{HaveNegative}
 use Rattle.clause_solver.specs.Solvers.{AreApart, IsReady}
 use Rattle.clause_solver.specs.declared.solver.Solver.{Solver}
@@ -51,7 +51,7 @@ within_less : (S : Literal → Bool) → IsWithin (less_positive S) S
 within_less S l t = (and_parts (S l) (negatives l) t).0
 
 -- the sentences that hold a negative literal each
-clauses_closed : (own : List (List Literal)) (S : Literal → Bool) → HaveNegative own → IsClosed own S → IsClosed own (less_positive S)
+clauses_closed : (own : List (List Literal)) (S : Literal → Bool) → HaveNegative own → IsUnitClosed own S → IsUnitClosed own (less_positive S)
 clauses_closed own S negative closed = record {
   steps = λ k d lt i e ilt h.
       let s : List Literal = get_or own k d in
@@ -75,7 +75,7 @@ conflict_unforced S p q l apart h =
     second : In (literal q false) (conflict_sentence p q)
     second = there here
 
-conflicts_closed : (conflicts : List (List ℕ)) (S : Literal → Bool) → AreApart conflicts → IsClosed (owned_sentences conflict_sentence 0 conflicts) (less_positive S)
+conflicts_closed : (conflicts : List (List ℕ)) (S : Literal → Bool) → AreApart conflicts → IsUnitClosed (owned_sentences conflict_sentence 0 conflicts) (less_positive S)
 conflicts_closed conflicts S apart = record {
   steps = λ k d lt i e ilt h.
       let F : List (List Literal) = owned_sentences conflict_sentence 0 conflicts in
@@ -93,7 +93,7 @@ module _ (own : List (List Literal)) (negative : HaveNegative own) where
   own_in : (conflicts : List (List ℕ)) (s : List Literal) → Contains own s → Contains (with_conflicts conflicts) s
   own_in conflicts s c = in_contains (with_conflicts conflicts) s (In_append_left own (owned_sentences conflict_sentence 0 conflicts) s (contains_in own s c))
 
-  less_closed : (old new : List (List ℕ)) (S : Literal → Bool) → AreApart new → IsClosed (with_conflicts old) S → IsClosed (with_conflicts new) (less_positive S)
+  less_closed : (old new : List (List ℕ)) (S : Literal → Bool) → AreApart new → IsUnitClosed (with_conflicts old) S → IsUnitClosed (with_conflicts new) (less_positive S)
   less_closed old new S apart closed =
       closed_append own (owned_sentences conflict_sentence 0 new) (less_positive S)
       (clauses_closed own S negative (closed_part own (with_conflicts old) S (own_in old) closed)) (conflicts_closed new S apart)
@@ -107,7 +107,7 @@ module _ (own : List (List Literal)) (negative : HaveNegative own) where
       (0 + w.0, subst (λ s. Contains s (literal (0 + w.0) false)) (sym w.4) (in_contains (conflict_sentence (0 + w.0) w.1) (literal (0 + w.0) false) here)))
 
   module _ (old new : List (List ℕ)) (apart_old : AreApart old) (apart_new : AreApart new) where
-    all_closed : IsClosed (with_conflicts old) (λ l. true)
+    all_closed : IsUnitClosed (with_conflicts old) (λ l. true)
     all_closed = record { steps = λ k d lt i e ilt h. refl }
 
     -- what follows without goals is negative
@@ -132,8 +132,8 @@ module _ (own : List (List Literal)) (negative : HaveNegative own) where
     calm_new trail calm = record {
       closure = record {
         sound = λ l t S holds closed. within_less S l (calm.closure.sound l t (less_positive S) (All-nil (λ m. less_positive S m ≡ true)) (less_closed new old S apart_old closed));
-        whole = λ l follows. within_less (among trail) l
-            (follows (less_positive (among trail)) (All-nil (λ m. less_positive (among trail) m ≡ true)) (less_closed old new (among trail) apart_new (closure_closed (with_conflicts old) [] (among trail) calm.closure)));
+        whole = λ l follows. within_less (set_of_trail trail) l
+            (follows (less_positive (set_of_trail trail)) (All-nil (λ m. less_positive (set_of_trail trail) m ≡ true)) (less_closed old new (set_of_trail trail) apart_new (closure_closed (with_conflicts old) [] (set_of_trail trail) calm.closure)));
       };
       consistent = calm.consistent;
     }

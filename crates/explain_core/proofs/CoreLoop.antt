@@ -23,7 +23,7 @@ use Rattle.suite_compare.specs.Asking.{image_of, images_of, tree_of, verdict_in,
 use Rattle.suite_compare.specs.Views.{IsViewOf}
 use Rattle.suite_compare.proofs.Deciding.{images_fit}
 use Rattle.suite_compare.proofs.Judged.{verdict_is}
-use Rattle.explain_core.specs.Core.{core_of, goal_numbered, goals_numbered, marks_of, verdict_on}
+use Rattle.explain_core.specs.Core.{goal_core, goal_numbered, goals_numbered, marks_of, verdict_on}
 use Rattle.explain_core.specs.Deletion.{Kept, is_no, items_of, kept_behind, kept_by}
 use Rattle.explain_core.specs.Picking.{picked, ArePlacesFrom1}
 use Rattle.explain_core.specs.declared.explanation.Mark.{Mark}
@@ -122,11 +122,11 @@ module _ (pool : Interned) (home : Home) (stanzas : List PackageFacts) (book : B
 
   pub core_step : (budget : ℕ) (marks new : List Mark) (place from : ℕ) (others : List (List ℕ)) (v : Verdict) → place < length goals → from ≡ place + 1 → ArePlacesFrom1 place marks →
       others ≡ picked classes marks ++ drop from classes → IsSearchVerdict K others budget v → new ≡ marks ++ marks_of (kept_by (place + 1) v) →
-      core_of limit made.hold home stanzas budget goals ≡ kept_behind (verdict_on limit made.hold home stanzas budget goals) (kept_marks marks) (numbers_from place) →
-      core_of limit made.hold home stanzas budget goals ≡ kept_behind (verdict_on limit made.hold home stanzas budget goals) (kept_marks new) (numbers_from (place + 1))
+      goal_core limit made.hold home stanzas budget goals ≡ kept_behind (verdict_on limit made.hold home stanzas budget goals) (kept_marks marks) (numbers_from place) →
+      goal_core limit made.hold home stanzas budget goals ≡ kept_behind (verdict_on limit made.hold home stanzas budget goals) (kept_marks new) (numbers_from (place + 1))
   core_step budget marks new place from others v l next places made_of searched pushed e =
       let size : length goals - place ≡ suc (length goals - (place + 1)) = omega arith in
-      behind_step (verdict_on limit made.hold home stanzas budget goals) (core_of limit made.hold home stanzas budget goals) (kept_marks marks) (kept_marks new) (place + 1) (numbers_from place) (numbers_from (place + 1)) v
+      behind_step (verdict_on limit made.hold home stanzas budget goals) (goal_core limit made.hold home stanzas budget goals) (kept_marks marks) (kept_marks new) (place + 1) (numbers_from place) (numbers_from (place + 1)) v
       (verdict_found budget (goals_numbered goals (items_of (kept_marks marks) ++ numbers_from (place + 1))) others v
       (others_are marks place (place + 1) others (omega arith) (omega arith) places (made_of ∙ ap (λ k. picked classes marks ++ drop k classes) next)) searched)
       (ap (range_with_len (place + 1)) size)
@@ -139,8 +139,8 @@ module _ (pool : Interned) (home : Home) (stanzas : List PackageFacts) (book : B
   -- a block of goals, where the others of the whole block clash at once
   pub core_skip : (budget : ℕ) (marks : List Mark) (place count : ℕ) (others : List (List ℕ)) → 0 < budget → place + count ≤ length goals → ArePlacesFrom1 place marks →
       others ≡ picked classes marks ++ drop (place + count) classes → is_no (verdict_of 1 (tree_of K others)) ≡ true →
-      core_of limit made.hold home stanzas budget goals ≡ kept_behind (verdict_on limit made.hold home stanzas budget goals) (kept_marks marks) (numbers_from place) →
-      core_of limit made.hold home stanzas budget goals ≡ kept_behind (verdict_on limit made.hold home stanzas budget goals) (kept_marks marks) (numbers_from (place + count))
+      goal_core limit made.hold home stanzas budget goals ≡ kept_behind (verdict_on limit made.hold home stanzas budget goals) (kept_marks marks) (numbers_from place) →
+      goal_core limit made.hold home stanzas budget goals ≡ kept_behind (verdict_on limit made.hold home stanzas budget goals) (kept_marks marks) (numbers_from (place + count))
   core_skip budget marks place count others some within places made_of clash e =
       e ∙ ap (kept_behind (verdict_on limit made.hold home stanzas budget goals) (kept_marks marks)) cut
       ∙ block_left_out (verdict_on limit made.hold home stanzas budget goals) (kept_marks marks) (range_with_len (place + 1) count) (numbers_from (place + count)) each
@@ -166,8 +166,8 @@ module _ (pool : Interned) (home : Home) (stanzas : List PackageFacts) (book : B
           (In_map_more (goal_numbered goals) (left_at marks (place + count)) (items_of (kept_marks marks) ++ (front ++ numbers_from (place + count))) (wider front)) told some
 
   pub core_done : (budget : ℕ) (marks : List Mark) (place : ℕ) → length goals ≤ place →
-      core_of limit made.hold home stanzas budget goals ≡ kept_behind (verdict_on limit made.hold home stanzas budget goals) (kept_marks marks) (range_with_len (place + 1) (length goals - place)) →
-      marks ≡ marks_of (core_of limit made.hold home stanzas budget goals)
+      goal_core limit made.hold home stanzas budget goals ≡ kept_behind (verdict_on limit made.hold home stanzas budget goals) (kept_marks marks) (range_with_len (place + 1) (length goals - place)) →
+      marks ≡ marks_of (goal_core limit made.hold home stanzas budget goals)
   core_done budget marks place l e =
       let none : length goals - place ≡ 0 = omega arith in
       sym (ap marks_of (e ∙ behind_none (verdict_on limit made.hold home stanzas budget goals) (kept_marks marks) (range_with_len (place + 1) (length goals - place)) (ap (range_with_len (place + 1)) none)) ∙ marks_there marks)

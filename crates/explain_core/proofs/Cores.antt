@@ -12,7 +12,7 @@ use Rattle.row_book.specs.Sets.{In}
 use Rattle.row_book.proofs.Lists.{In_map, In_map_cases}
 use Rattle.suite_compare.specs.Asking.{verdict_in, HasVerdict}
 use Rattle.suite_compare.proofs.Deciding.{verdict_is_judged}
-use Rattle.explain_core.specs.Core.{core_of, goal_numbered, goals_numbered, marked_goals, marks_of, verdict_on}
+use Rattle.explain_core.specs.Core.{goal_core, goal_numbered, goals_numbered, marked_goals, marks_of, verdict_on}
 use Rattle.explain_core.specs.Deletion.{Kept, items_of, kept_of}
 use Rattle.explain_core.specs.Meaning.{IsCoreOf}
 use Rattle.explain_core.proofs.Deleted.{Suffice, kept_needed, kept_no}
@@ -44,7 +44,7 @@ module _ (limit : ℕ) (hold : Bool) (home : Home) (stanzas : List PackageFacts)
     goals_kept core = ap (goals_numbered goals) (sym (marks_items (marks_of core)) ∙ ap items_of (marks_back core))
 
     -- of a no
-    pub core_is : verdict_in limit hold home stanzas budget goals ≡ No → IsCoreOf home stanzas goals (marks_of (core_of limit hold home stanzas budget goals))
+    pub core_is : verdict_in limit hold home stanzas budget goals ≡ No → IsCoreOf home stanzas goals (marks_of (goal_core limit hold home stanzas budget goals))
     core_is refused = record {
       impossible = subst (λ gs. ¬ (CoinstGoals home stanzas gs)) (sym (goals_kept (kept_of f all)))
           (judged (goals_numbered goals (items_of (kept_of f all))) No (kept_no f all (ap (verdict_in limit hold home stanzas budget) (all_numbered goals) ∙ refused))).1;

@@ -24,7 +24,7 @@ use Rattle.search_terms.specs.Tree.{failed_leaves}
 use Rattle.suite_compare.specs.Asking.{verdict_in, wanted_by}
 use Rattle.suite_compare.proofs.Deciding.{named_parts, named_within}
 use Rattle.suite_compare.proofs.SuiteKernels.{suite_sound}
-use Rattle.explain_core.specs.Core.{core_of, marked_goals, marks_of}
+use Rattle.explain_core.specs.Core.{goal_core, marked_goals, marks_of}
 use Rattle.explain_core.specs.Deletion.{Kept, items_of, kept_of}
 use Rattle.explain_core.specs.Explaining.{explained_by, explanation_of}
 use Rattle.explain_core.specs.Meaning.{AreReasons, IsCoreOf, MeansExplanation}
@@ -111,12 +111,12 @@ module _ (home : Home) (stanzas : List PackageFacts) where
   means_by limit hold budget goals verdict.Yes e = (judged limit hold home stanzas budget goals verdict.Yes e).1
   means_by limit hold budget goals verdict.Spent e = tt
   means_by limit hold budget goals verdict.No e =
-      let marks : List Mark = marks_of (core_of limit hold home stanzas budget goals) in
+      let marks : List Mark = marks_of (goal_core limit hold home stanzas budget goals) in
       let core : IsCoreOf home stanzas goals marks = core_is limit hold home stanzas budget goals e in (
         core,
-        reasons_mean (suite_repository home stanzas) (suite_sound home stanzas) budget (wanted_by stanzas (marked_goals goals (marks_of (core_of limit hold home stanzas budget goals))))
-            (wanted_fits (marked_goals goals (marks_of (core_of limit hold home stanzas budget goals))))
-            (λ I healthy hits. core.impossible (solved_coinst (marked_goals goals (marks_of (core_of limit hold home stanzas budget goals))) I (healthy, hits))),
+        reasons_mean (suite_repository home stanzas) (suite_sound home stanzas) budget (wanted_by stanzas (marked_goals goals (marks_of (goal_core limit hold home stanzas budget goals))))
+            (wanted_fits (marked_goals goals (marks_of (goal_core limit hold home stanzas budget goals))))
+            (λ I healthy hits. core.impossible (solved_coinst (marked_goals goals (marks_of (goal_core limit hold home stanzas budget goals))) I (healthy, hits))),
       )
 
   pub explanation_means : (limit : ℕ) (hold : Bool) (budget : ℕ) (goals : List Goal) → MeansExplanation home stanzas goals (explanation_of limit hold home stanzas budget goals)

@@ -22,8 +22,8 @@ abbrev pub verdict_on : ℕ → Bool → Home → List PackageFacts → ℕ → 
 verdict_on limit hold home stanzas budget goals numbers = verdict_in limit hold home stanzas budget (goals_numbered goals numbers)
 
 -- the core: one goal after another is left out, as long as the verdict on the others is no
-abbrev pub core_of : ℕ → Bool → Home → List PackageFacts → ℕ → List Goal → List (Kept ℕ)
-core_of limit hold home stanzas budget goals = kept_of (verdict_on limit hold home stanzas budget goals) (range_with_len 1 (length goals))
+abbrev pub goal_core : ℕ → Bool → Home → List PackageFacts → ℕ → List Goal → List (Kept ℕ)
+goal_core limit hold home stanzas budget goals = kept_of (verdict_on limit hold home stanzas budget goals) (range_with_len 1 (length goals))
 
 -- the core as it is told
 abbrev pub mark : Kept ℕ → Mark

@@ -8,7 +8,7 @@ use Rattle.relation_fields.specs.declared.packages.PackageFacts.{PackageFacts}
 use Rattle.repo_model.specs.Repository.{suite_repository}
 use Rattle.repo_model.specs.declared.goals.Goal.{Goal}
 use Rattle.suite_compare.specs.Asking.{verdict_in, wanted_by}
-use Rattle.explain_core.specs.Core.{core_of, marked_goals, marks_of}
+use Rattle.explain_core.specs.Core.{goal_core, marked_goals, marks_of}
 use Rattle.explain_core.specs.Reasons.{clashes_of, reasons_of}
 use Rattle.explain_core.specs.declared.explanation.Clash.{Clash}
 use Rattle.explain_core.specs.declared.explanation.Mark.{Mark}
@@ -30,7 +30,7 @@ core_explained home stanzas budget goals marks = Core marks (clashes_for home st
 abbrev pub explained_by : ℕ → Bool → Home → List PackageFacts → ℕ → List Goal → Verdict → Explanation
 explained_by limit hold home stanzas budget goals verdict.Yes = Yes
 explained_by limit hold home stanzas budget goals verdict.Spent = Spent (budget + 1)
-explained_by limit hold home stanzas budget goals verdict.No = core_explained home stanzas budget goals (marks_of (core_of limit hold home stanzas budget goals))
+explained_by limit hold home stanzas budget goals verdict.No = core_explained home stanzas budget goals (marks_of (goal_core limit hold home stanzas budget goals))
 
 abbrev pub explanation_of : ℕ → Bool → Home → List PackageFacts → ℕ → List Goal → Explanation
 explanation_of limit hold home stanzas budget goals = explained_by limit hold home stanzas budget goals (verdict_in limit hold home stanzas budget goals)

@@ -5,7 +5,7 @@ ghost use Rattle.clause_solver.specs.Solvers.{IsReady};
 ghost use Rattle.row_book.specs.Book.{repository_of};
 ghost use Rattle.row_book.specs.Needs.{NeedsFit};
 ghost use Rattle.suite_compare.specs.Asking.{images_of, tree_of, verdict_of};
-ghost use Rattle.explain_core.specs.Core.{core_of, marks_of};
+ghost use Rattle.explain_core.specs.Core.{goal_core, marks_of};
 ghost use Rattle.explain_core.specs.Deletion.{is_no, kept_by};
 ghost use Rattle.explain_core.specs.Picking.{picked, ArePlacesFrom1};
 
@@ -105,7 +105,7 @@ pub(crate) fn core_of(
     requires ready { IsReady (repository_of view.now.pool view.now.kernel.book) solver.now }
     requires classes { classes.now ≡ images_of view.now.limit view.now.kernel.hold view.now.suite.home view.now.suite.packages goals.now }
     requires budget { IsBudget budget }
-    ensures { IfOk result (λ marks. marks ≡ marks_of (core_of view.now.limit view.now.kernel.hold view.now.suite.home view.now.suite.packages budget goals.now)) }
+    ensures { IfOk result (λ marks. marks ≡ marks_of (goal_core view.now.limit view.now.kernel.hold view.now.suite.home view.now.suite.packages budget goals.now)) }
 {
     let mut marks = MarkList::new(alloc);
     let all = classes.count();

@@ -9,7 +9,7 @@ use Rattle.row_book.specs.Repository.{Repository, Coinst, clauses_of}
 use Rattle.row_book.specs.Sound.{OfPackages, SoundRepository, TidyRepository}
 use Rattle.row_book.specs.Flattening.{flat}
 use Rattle.row_book.specs.Merging.{firsts, class_of, image, quotient}
-use Rattle.row_book.specs.Pruning.{emptied, others, without_clause, is_dead, is_dropped, prune_clause, prune_clauses, prune_package, prune_over, prune, serves}
+use Rattle.row_book.specs.Pruning.{made_dead, others, without_clause, is_dead, is_dropped, prune_clause, prune_clauses, prune_package, prune_over, prune, serves}
 use Rattle.row_book.specs.Thinning.{thin}
 use Rattle.row_book.specs.Rounds.{round, rounds, class_after, image_after, is_same_repository, enough_rounds, rounds_until, round_count, kernel, kernel_image}
 use Rattle.row_book.proofs.Books.{in_listed}
@@ -45,7 +45,7 @@ clauses_other (d ∷ ds) R p n ne = clauses_other ds (prune_clause R p d).left p
 package_other : (R : Repository) (p n : ℕ) → n ≢ p → clauses_of (prune_package R p).left n ≡ clauses_of R n
 package_other R p n ne = pick (is_dead R p)
   where
-    pick : (b : Bool) → clauses_of (cond b (emptied R p) (prune_clauses R p (clauses_of R p))).left n ≡ clauses_of R n
+    pick : (b : Bool) → clauses_of (cond b (made_dead R p) (prune_clauses R p (clauses_of R p))).left n ≡ clauses_of R n
     pick true = row_other R p ([] ∷ []) n ne
     pick false = clauses_other (clauses_of R p) R p n ne
 
@@ -90,10 +90,10 @@ record Fine (R : Repository) (p : ℕ) : Type 0 where
 
 package_fine : (R : Repository) (p : ℕ) → p < length R.clauses → clauses_of (prune_package R p).left p ≡ clauses_of R p → Fine R p
 package_fine R p l e = record {
-  dead = λ t. sym e ∙ (ap (λ b. clauses_of (cond b (emptied R p) (prune_clauses R p (clauses_of R p))).left p) t ∙ row_new R p ([] ∷ []) l);
+  dead = λ t. sym e ∙ (ap (λ b. clauses_of (cond b (made_dead R p) (prune_clauses R p (clauses_of R p))).left p) t ∙ row_new R p ([] ∷ []) l);
   kept = λ d t i.
       let same : clauses_of (prune_clauses R p (clauses_of R p)).left p ≡ clauses_of R p =
-      sym (ap (λ b. clauses_of (cond b (emptied R p) (prune_clauses R p (clauses_of R p))).left p) t) ∙ e in
+      sym (ap (λ b. clauses_of (cond b (made_dead R p) (prune_clauses R p (clauses_of R p))).left p) t) ∙ e in
       clauses_fixed (clauses_of R p) R p l (λ c j. subst (λ r. In c r) (sym same) j) d i;
 }
 

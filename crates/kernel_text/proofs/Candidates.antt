@@ -1,8 +1,7 @@
 -- A text spells one of a few lines that its words tell, or none.
-use Rattle.std.proofs.Common.{◌≡◌, ℕ, ◌<◌, ◌==◌, ◌||◌, Bool, true, false, List, [], ◌∷◌, ◌++◌, drop, get_or, map, inl, inr, refl, sym, ap, ap₂, ◌∙◌, subst, append_assoc, codes, eqb-true, arith}
-use Rattle.std.specs.Prelude.{if◌then◌else◌}
+use Rattle.std.proofs.Common.{◌≡◌, ℕ, ◌<◌, ◌==◌, Bool, true, false, List, [], ◌∷◌, ◌++◌, map, inl, inr, refl, sym, ap, ap₂, ◌∙◌, subst, append_assoc, codes, eqb-true, arith}
 use Rattle.std.specs.Fmt.{decimal}
-use Rattle.std.specs.List.{flat_map, list_all, onto_first}
+use Rattle.std.specs.List.{flat_map, list_all}
 use Rattle.std.specs.Str.{bytes_eq}
 use Rattle.std.proofs.lemmas.Bool.{and_parts, both_ways, false_from_ne_true, false≢true, or_cases}
 use Rattle.std.proofs.lemmas.List.{append-nil}
@@ -13,20 +12,13 @@ use Rattle.deb_version.specs.Order.{number}
 use Rattle.relation_fields.proofs.Bytes.{version_bytes}
 use Rattle.row_book.specs.Sets.{In, here, there}
 use Rattle.row_book.proofs.Lists.{Decided}
+use Rattle.kernel_text.specs.ByWords.{by_words, ends_word, words_of}
 use Rattle.kernel_text.specs.KernelLines.{KernelLine, HeadLine, ClassLine, MemberLine, HeldLine, NeedsLine, AgainstLine, EndLine, behind_space, line_text}
 use Rattle.kernel_text.specs.Reading.{number_limit}
 use Rattle.kernel_text.specs.Words.{IsWellFormed}
 use Rattle.kernel_text.proofs.Decisions.{some_decided}
 use Rattle.kernel_text.proofs.Numerals.{value_decimal}
 use Rattle.kernel_text.proofs.Spelling.{IsPlain, Plain, decimal_plain, format_low, name_plain}
-
--- the words of a line, each up to the space or the line feed behind it
-abbrev ends_word : ℕ → Bool
-ends_word b = b == 32 || b == 10
-
-abbrev words_of : List ℕ → List (List ℕ)
-words_of [] = []
-words_of (b ∷ bs) = if ends_word b then [] ∷ words_of bs else onto_first b (words_of bs)
 
 goes_on : (b : ℕ) → IsPlain b → ends_word b ≡ false
 goes_on b p =
@@ -56,22 +48,13 @@ values : (xs : List ℕ) → ((l : ℕ) → In l xs → l < number_limit) → ma
 values [] low = refl
 values (x ∷ xs) low = ap₂ (λ y ys. y ∷ ys) (value_decimal x (low x here)) (values xs (λ l i. low l (there i)))
 
-abbrev word_at : List (List ℕ) → ℕ → List ℕ
-word_at words n = get_or words n []
-
--- the lines that words may be of
-abbrev by_words : List (List ℕ) → List KernelLine
-by_words words =
-    HeadLine (number (word_at words 1)) ∷ (ClassLine (number (word_at words 1)) ∷ (MemberLine (word_at words 1) (word_at words 2) ∷ (NeedsLine (map number (drop 1 words))
-    ∷ (AgainstLine (number (word_at words 1)) ∷ (EndLine (number (word_at words 1)) (number (word_at words 2)) ∷ (HeldLine ∷ []))))))
-
 one_number : (n : ℕ) → n < number_limit → words_of (decimal n ++ 10 ∷ []) ≡ decimal n ∷ []
 one_number n l = cut_word (decimal n) 10 [] (decimal_plain n l) refl
 
 here_is : (l k : KernelLine) (ks : List KernelLine) → l ≡ k → In l (k ∷ ks)
 here_is l k ks e = subst (λ z. In l (z ∷ ks)) e here
 
-among : (l : KernelLine) → IsWellFormed l → In l (by_words (words_of (line_text l)))
+pub among : (l : KernelLine) → IsWellFormed l → In l (by_words (words_of (line_text l)))
 unfolding line_text
 among (HeadLine f) w =
     let low : f < number_limit = format_low f w in

@@ -18,7 +18,7 @@ use Rattle.kernel_text.proofs.InRange.{in_range}
 use Rattle.kernel_text.proofs.Shape.{some_none}
 use Rattle.kernel_text.proofs.StrayLines.{names_formed}
 
-allowed_formed : (t : Reading) (l : KernelLine) → IsAllowed t l → IsWellFormed l
+pub allowed_formed : (t : Reading) (l : KernelLine) → IsAllowed t l → IsWellFormed l
 allowed_formed t (HeadLine format) a = a.1
 allowed_formed t (ClassLine n) a = a.2
 allowed_formed t (MemberLine name version) a = a.1
@@ -31,11 +31,11 @@ next_decided : (t : Reading) (line : List ℕ) → Decided (Spells line (IsAllow
 next_decided t line = spelled_decided (IsAllowed t) (allowed_formed t) (allowed_decided t) line
 
 -- the first line that is not allowed behind those before it
-record IsRefused (t : Reading) (ls : List (List ℕ)) (place : ℕ) : Type 0 where
-  inside : place < length ls
-  before : Reading
-  given : LinesGive t (take place ls) before
-  none : (l : KernelLine) → get_or ls place [] ≡ line_text l → IsAllowed before l → ⊥
+pub record IsRefused (t : Reading) (ls : List (List ℕ)) (place : ℕ) : Type 0 where
+  pub inside : place < length ls
+  pub before : Reading
+  pub given : LinesGive t (take place ls) before
+  pub none : (l : KernelLine) → get_or ls place [] ≡ line_text l → IsAllowed before l → ⊥
 
 abbrev Walked : Reading → List (List ℕ) → Type 0
 Walked t ls = ((u : Reading) × LinesGive t ls u) ⊎ ((place : ℕ) × IsRefused t ls place)

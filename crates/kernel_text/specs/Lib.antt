@@ -1,5 +1,6 @@
 pub use Rattle.row_book.specs.Repository
 pub mod KernelLines
+pub mod ByWords
 pub mod Reading
 pub mod KernelReads
 pub mod KernelText

@@ -1,3 +1,4 @@
+-- for the bodies of this crate alone
 -- Lines with numbers that are not of classes, as a reader looks for them.
 use Rattle.std.specs.Prelude.{◌≡◌, ℕ, ◌<◌, ◌≤◌, Bool, false, not, nat_le, nat_lt, List, length, drop, Option, Some, None}
 use Rattle.std.specs.List.{list_all}

@@ -1,3 +1,4 @@
+-- for the bodies of this crate alone
 -- The words of a line: its first, and what stands behind the space that follows it.
 use Rattle.std.specs.Prelude.{◌≡◌, ℕ, ◌<◌, Bool, true, not, ◌==◌, List, [], ◌∷◌, ◌++◌, codes, Option, Some, None}
 use Rattle.std.specs.Fmt.{decimal}

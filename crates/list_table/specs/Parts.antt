@@ -10,6 +10,6 @@ abbrev pub parts : {A : Type 0} → List A → List (ℕ × ℕ) → List (List 
 parts items spans = map (part items) spans
 
 -- each span ends within a length, and not before its start
-abbrev pub Within : ℕ → List (ℕ × ℕ) → Type 0
-Within n [] = Unit {0}
-Within n (span ∷ spans) = (span.0 ≤ span.1) × (span.1 ≤ n) × Within n spans
+abbrev pub SpansFit : ℕ → List (ℕ × ℕ) → Type 0
+SpansFit n [] = Unit {0}
+SpansFit n (span ∷ spans) = (span.0 ≤ span.1) × (span.1 ≤ n) × SpansFit n spans

@@ -18,7 +18,7 @@ pub(crate) struct Spans<T> {
 impl<T> Model for Spans<T> {
     ghost use Rattle.std.specs.Prelude.{List, length};
     ghost use Rattle.std.specs.Coded.{coded_list};
-    ghost use Rattle.list_table.specs.Parts.{parts, Within};
+    ghost use Rattle.list_table.specs.Parts.{parts, SpansFit};
 
     ghost Value = { List (List T) };
 
@@ -26,7 +26,7 @@ impl<T> Model for Spans<T> {
 
     ghost view = { λ s. parts s.items.items s.ends.items };
 
-    ghost invariant = { λ s. Within (length s.items.items) s.ends.items };
+    ghost invariant = { λ s. SpansFit (length s.items.items) s.ends.items };
 }
 
 fn part_of<T>(items: &[T], start: usize, end: usize) -> &[T]

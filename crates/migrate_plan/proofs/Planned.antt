@@ -25,32 +25,32 @@ use Rattle.migrate_plan.specs.Plan.{Settings, line_behind, lines_behind, lines_b
 use Rattle.headline.specs.Listing.{ListsExactly, LosesNothing, is_broken}
 use Rattle.headline.proofs.Exact.{report_lists_exactly}
 use Rattle.headline.proofs.Lost.{empty_list_loses_nothing}
-use Rattle.migrate_plan.specs.Promises.{AreRight, IsRight, TakesSafely, name_of, searched_by}
+use Rattle.migrate_plan.specs.Promises.{AreRight, IsRight, TakesSafely, planned_name, searched_by}
 use Rattle.migrate_plan.specs.Trying.{LeadsTo}
 use Rattle.migrate_plan.specs.declared.plan.PlanLine.{PlanLine}
 use Rattle.migrate_plan.specs.declared.plan.PlanLine.TheVariants.{Take, LeftLimit, LeftLine}
 use Rattle.migrate_plan.proofs.Mixed.{mix_of_none}
 use Rattle.migrate_plan.proofs.Told.{unbroken_same}
 
-outcome_name : (name : List ℕ) (passed : Option PassedRound) (told : List ReportLine) → name_of (outcome_of name passed told) ≡ name
+outcome_name : (name : List ℕ) (passed : Option PassedRound) (told : List ReportLine) → planned_name (outcome_of name passed told) ≡ name
 outcome_name name (Some passed) told = refl
 outcome_name name None [] = refl
 outcome_name name None (line ∷ more) = refl
 
-line_name : (settings : Settings) (old new : List ℕ) (lines : List PlanLine) (name : List ℕ) → name_of (line_behind settings old new lines name) ≡ name
+line_name : (settings : Settings) (old new : List ℕ) (lines : List PlanLine) (name : List ℕ) → planned_name (line_behind settings old new lines name) ≡ name
 unfolding line_behind
 line_name settings old new lines name = outcome_name name (passed_in settings (tried_mix old new lines name)) (lines_between settings old (tried_mix old new lines name))
 
 -- a line for each name, in their order
-names_behind : (line : List PlanLine → List ℕ → PlanLine) → ((lines : List PlanLine) (name : List ℕ) → name_of (line lines name) ≡ name)
-    → (lines : List PlanLine) (names : List (List ℕ)) → map name_of (lines_behind line lines names) ≡ map name_of lines ++ names
-names_behind line own lines [] = sym (append-nil (map name_of lines))
+names_behind : (line : List PlanLine → List ℕ → PlanLine) → ((lines : List PlanLine) (name : List ℕ) → planned_name (line lines name) ≡ name)
+    → (lines : List PlanLine) (names : List (List ℕ)) → map planned_name (lines_behind line lines names) ≡ map planned_name lines ++ names
+names_behind line own lines [] = sym (append-nil (map planned_name lines))
 names_behind line own lines (name ∷ more) =
     names_behind line own (lines ++ line lines name ∷ []) more
-    ∙ ap (λ front. front ++ more) (map-append name_of lines (line lines name ∷ []) ∙ ap (λ n. map name_of lines ++ n ∷ []) (own lines name))
-    ∙ append_assoc (map name_of lines) (name ∷ []) more
+    ∙ ap (λ front. front ++ more) (map-append planned_name lines (line lines name ∷ []) ∙ ap (λ n. map planned_name lines ++ n ∷ []) (own lines name))
+    ∙ append_assoc (map planned_name lines) (name ∷ []) more
 
-pub plan_names : (settings : Settings) (old new : List ℕ) → map name_of (plan settings old new) ≡ differing (packages_in old) (packages_in new)
+pub plan_names : (settings : Settings) (old new : List ℕ) → map planned_name (plan settings old new) ≡ differing (packages_in old) (packages_in new)
 unfolding plan
 plan_names settings old new = names_behind (line_behind settings old new) (line_name settings old new) [] (differing (packages_in old) (packages_in new))
 
@@ -62,7 +62,7 @@ outcome_right settings old tried name None [] p t = (p, t)
 outcome_right settings old tried name None (line ∷ more) p t = (more, p, t)
 
 line_right : (settings : Settings) (old new : List ℕ) (lines : List PlanLine) (name : List ℕ)
-    → IsRight settings old (tried_mix old new lines (name_of (line_behind settings old new lines name))) (line_behind settings old new lines name)
+    → IsRight settings old (tried_mix old new lines (planned_name (line_behind settings old new lines name))) (line_behind settings old new lines name)
 unfolding line_behind
 line_right settings old new lines name =
     let tried : List ℕ = tried_mix old new lines name in
@@ -99,7 +99,7 @@ taken_join (Take name ∷ xs) ys = ap (λ more. name ∷ more) (taken_join xs ys
 taken_join (LeftLimit name ∷ xs) ys = taken_join xs ys
 taken_join (LeftLine name line ∷ xs) ys = taken_join xs ys
 
-quiet_push : (settings : Settings) (old new : List ℕ) (lines : List PlanLine) (line : PlanLine) → IsRight settings old (tried_mix old new lines (name_of line)) line
+quiet_push : (settings : Settings) (old new : List ℕ) (lines : List PlanLine) (line : PlanLine) → IsRight settings old (tried_mix old new lines (planned_name line)) line
     → IsQuiet settings old new lines → IsQuiet settings old new (lines ++ line ∷ [])
 quiet_push settings old new lines (Take name) right quiet =
     inr (ap (λ taken. lines_between settings old (mix old new taken)) (taken_join lines (Take name ∷ [])) ∙ right.1)
@@ -165,7 +165,7 @@ leads_first line names lines taken none empty = record {
 }
 
 pub leads_more : (line : List PlanLine → List ℕ → PlanLine) (names : List (List ℕ)) (place : ℕ) (lines more : List PlanLine) (taken new : List (List ℕ)) (name : List ℕ) (next : PlanLine)
-    → place < length names → name ≡ get_or names place name → next ≡ line lines name → name_of next ≡ name → more ≡ lines ++ next ∷ [] → new ≡ taken ++ taken_in (next ∷ [])
+    → place < length names → name ≡ get_or names place name → next ≡ line lines name → planned_name next ≡ name → more ≡ lines ++ next ∷ [] → new ≡ taken ++ taken_in (next ∷ [])
     → LeadsTo line names place lines taken → LeadsTo line names (place + 1) more new
 leads_more line names place lines more taken new name next within is made own pushed put h =
     let behind : drop place names ≡ name ∷ drop (place + 1) names = drop_more names place name within ∙ ap (λ n. n ∷ drop (place + 1) names) (sym is) in
@@ -179,7 +179,7 @@ leads_more line names place lines more taken new name next within is made own pu
       ];
     }
   where
-    only : (one : PlanLine) (other : List ℕ) → In other (taken_in (one ∷ [])) → other ≡ name_of one
+    only : (one : PlanLine) (other : List ℕ) → In other (taken_in (one ∷ [])) → other ≡ planned_name one
     only (Take n) other i = elim (In_cases i) [ inl e ↦ e | inr none ↦ absurd (In_none none) ]
     only (LeftLimit n) other i = absurd (In_none i)
     only (LeftLine n told) other i = absurd (In_none i)
@@ -188,8 +188,8 @@ pub leads_all : (line : List PlanLine → List ℕ → PlanLine) (names : List (
     → LeadsTo line names place lines taken → lines ≡ lines_behind line [] names
 leads_all line names place lines taken end h = sym (ap (lines_behind line lines) (drop_all place names end)) ∙ h.whole
 
-pub line_named : (settings : Settings) (old new : List ℕ) (lines : List PlanLine) (name : List ℕ) (line : PlanLine) → line ≡ line_behind settings old new lines name → name_of line ≡ name
-line_named settings old new lines name line e = ap name_of e ∙ line_name settings old new lines name
+pub line_named : (settings : Settings) (old new : List ℕ) (lines : List PlanLine) (name : List ℕ) (line : PlanLine) → line ≡ line_behind settings old new lines name → planned_name line ≡ name
+line_named settings old new lines name line e = ap planned_name e ∙ line_name settings old new lines name
 
 -- the lines that are made are the plan
 pub plan_is : (budget limit made_at : ℕ) (hold made_with : Bool) (old new : List ℕ) (names : List (List ℕ)) (lines : List PlanLine) → made_at ≡ limit → made_with ≡ hold → names ≡ differing (packages_in old) (packages_in new)

@@ -18,10 +18,10 @@ abbrev pub MixesAreIndexes : List ℕ → List ℕ → Type 0
 MixesAreIndexes old new = (taken : List (List ℕ)) → ((name : List ℕ) → In name taken → In name (differing (packages_in old) (packages_in new)))
     → first_fault (mix old new taken) ≡ None
 
-abbrev pub name_of : PlanLine → List ℕ
-name_of (Take name) = name
-name_of (LeftLimit name) = name
-name_of (LeftLine name line) = name
+abbrev pub planned_name : PlanLine → List ℕ
+planned_name (Take name) = name
+planned_name (LeftLimit name) = name
+planned_name (LeftLine name line) = name
 
 -- by the mix that was tried: a name is taken where it is within the limit and nothing is told of it against the old index;
 -- it is left where it passes the limit, or within the limit with the first thing that is told
@@ -34,7 +34,7 @@ IsRight settings old tried (LeftLine name line) = (more : List ReportLine) × (p
 abbrev pub AreRight : Settings → List ℕ → List ℕ → List PlanLine → List PlanLine → Type 0
 AreRight settings old new before [] = Unit {0}
 AreRight settings old new before (line ∷ more) =
-    IsRight settings old (tried_mix old new before (name_of line)) line × AreRight settings old new (before ++ line ∷ []) more
+    IsRight settings old (tried_mix old new before (planned_name line)) line × AreRight settings old new (before ++ line ∷ []) more
 
 -- an index, and how a plan searches in it
 abbrev pub searched_by : Settings → List ℕ → SearchedIndex

@@ -5,7 +5,7 @@ ghost use Rattle.repo_model.specs.Feeding.{IsSuiteOf};
 ghost use Rattle.row_book.specs.Sets.{In};
 ghost use Rattle.migrate_plan.specs.Differing.{differing};
 ghost use Rattle.migrate_plan.specs.Plan.{line_behind, lines_behind, plan, settings_of, taken_in};
-ghost use Rattle.migrate_plan.specs.Promises.{AreRight, MixesAreIndexes, TakesSafely, name_of};
+ghost use Rattle.migrate_plan.specs.Promises.{AreRight, MixesAreIndexes, TakesSafely, planned_name};
 ghost use Rattle.migrate_plan.specs.Refusals.{Refuses, plan_refusal};
 ghost use Rattle.migrate_plan.specs.declared.plan.PlanLine.{PlanLine};
 ghost use Rattle.suite_compare.specs.Refusals.{packages_in};
@@ -49,7 +49,7 @@ pub fn make_plan(
     ensures accepted { OnOk result (plan_refusal old_bytes.now new_bytes.now ≡ None) }
     ensures plan { IfOk result (λ made. made.lines ≡ plan (settings_of budget limit hold) old_bytes.now new_bytes.now) }
     ensures mixes { OnOk result (MixesAreIndexes old_bytes.now new_bytes.now) }
-    ensures names { IfOk result (λ made. map name_of made.lines ≡ differing (packages_in old_bytes.now) (packages_in new_bytes.now)) }
+    ensures names { IfOk result (λ made. map planned_name made.lines ≡ differing (packages_in old_bytes.now) (packages_in new_bytes.now)) }
     ensures each { IfOk result (λ made. AreRight (settings_of budget limit hold) old_bytes.now new_bytes.now [] made.lines) }
     ensures safely { IfOk result (λ made. TakesSafely (settings_of budget limit hold) old_bytes.now new_bytes.now made.lines) }
 {

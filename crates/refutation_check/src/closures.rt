@@ -1,7 +1,7 @@
 //! The closure of signed classes, and whether it clashes.
 ghost use Rattle.std.specs.Prelude.{◌≡◌, ◌+◌, ◌*◌, ◌<◌, ℕ, true, Bool, IfOk, IsTrue, ◌↔◌, All, ◌++◌, length, map};
 ghost use Rattle.search_terms.specs.declared.literals.Literal.{Literal};
-ghost use Rattle.search_terms.specs.Closure.{negation, IsClosed, InRange, Holds, IsClosure, Clashes};
+ghost use Rattle.search_terms.specs.Closure.{negation, IsUnitClosed, InRange, HasGiven, IsClosure, Clashes};
 ghost use Rattle.search_terms.specs.Marks.{is_marked, IsWithin, HasBoth, HasClash};
 
 use crate::flags::{close, is_marked, is_some_refuted};
@@ -12,8 +12,8 @@ use std::alloc::{AllocError, Global};
 fn mark_all(flags: &mut [bool], classes: u32, given: &[Literal])
     requires long { length flags.old ≡ classes * 2 }
     requires given { All (λ l. l.class < classes) given.now }
-    ensures all { Holds (is_marked flags.new) given.now }
-    ensures only { (s : Literal → Bool) → Holds s given.now → IsWithin (is_marked flags.old) s → IsWithin (is_marked flags.new) s }
+    ensures all { HasGiven (is_marked flags.new) given.now }
+    ensures only { (s : Literal → Bool) → HasGiven s given.now → IsWithin (is_marked flags.old) s → IsWithin (is_marked flags.new) s }
 {
     for l in given {
         flags[l.place()] = true;

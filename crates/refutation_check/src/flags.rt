@@ -2,7 +2,7 @@
 ghost use Rattle.std.specs.Prelude.{◌≡◌, ◌+◌, ◌*◌, ℕ, not, ◌&&◌, find, true, Bool, IfNone, IfSome, Any, Contains, All, ◌++◌, length};
 ghost use Rattle.std.specs.List.{list_any};
 ghost use Rattle.search_terms.specs.declared.literals.Literal.{Literal};
-ghost use Rattle.search_terms.specs.Closure.{negation, is_same, forces, is_refuted, IsClosed, InRange};
+ghost use Rattle.search_terms.specs.Closure.{negation, is_same, forces, is_refuted, IsUnitClosed, InRange};
 ghost use Rattle.search_terms.specs.Marks.{flag_place, is_marked, IsForced, IsWithin};
 
 use search_terms::{Literal, LiteralList};
@@ -49,7 +49,7 @@ fn forced_in(flags: &[bool], sentence: &[Literal]) -> Option<Literal>
 /// A literal that some sentence forces and that is not marked.
 fn forced(flags: &[bool], formula: &[LiteralList]) -> Option<Literal>
     ensures some { IfSome result (λ l. IsForced formula.now (is_marked flags.now) l) }
-    ensures none { IfNone result (IsClosed formula.now (is_marked flags.now)) }
+    ensures none { IfNone result (IsUnitClosed formula.now (is_marked flags.now)) }
 {
     for sentence in formula {
         if let Some(l) = forced_in(flags, sentence.as_slice()) {
@@ -66,7 +66,7 @@ fn forced_by_either(
     second: &[LiteralList],
 ) -> Option<Literal>
     ensures some { IfSome result (λ l. IsForced (first.now ++ second.now) (is_marked flags.now) l) }
-    ensures none { IfNone result (IsClosed (first.now ++ second.now) (is_marked flags.now)) }
+    ensures none { IfNone result (IsUnitClosed (first.now ++ second.now) (is_marked flags.now)) }
 {
     match forced(flags, first) {
         Some(l) => Some(l),
@@ -80,8 +80,8 @@ pub(crate) fn close(flags: &mut [bool], classes: u32, first: &[LiteralList], sec
     requires first { InRange classes first.now }
     requires second { InRange classes second.now }
     ensures kept { IsWithin (is_marked flags.old) (is_marked flags.new) }
-    ensures sound { (s : Literal → Bool) → IsWithin (is_marked flags.old) s → IsClosed (first.now ++ second.now) s → IsWithin (is_marked flags.new) s }
-    ensures closed { IsClosed (first.now ++ second.now) (is_marked flags.new) }
+    ensures sound { (s : Literal → Bool) → IsWithin (is_marked flags.old) s → IsUnitClosed (first.now ++ second.now) s → IsWithin (is_marked flags.new) s }
+    ensures closed { IsUnitClosed (first.now ++ second.now) (is_marked flags.new) }
 {
     while let Some(l) = forced_by_either(flags, first, second) {
         flags[l.place()] = true;

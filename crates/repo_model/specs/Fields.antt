@@ -9,19 +9,19 @@ use Rattle.stanza_reader.specs.declared.stanza.RawField.{RawField}
 use Rattle.stanza_reader.specs.declared.stanza.RawStanza.{RawStanza}
 
 -- the place of each kind in the list of kinds
-abbrev pub place_of : FieldKind → ℕ
-place_of Package = 0
-place_of Version = 1
-place_of Architecture = 2
-place_of PreDepends = 3
-place_of Depends = 4
-place_of Conflicts = 5
-place_of Breaks = 6
-place_of Provides = 7
-place_of Status = 8
+abbrev pub kind_place : FieldKind → ℕ
+kind_place Package = 0
+kind_place Version = 1
+kind_place Architecture = 2
+kind_place PreDepends = 3
+kind_place Depends = 4
+kind_place Conflicts = 5
+kind_place Breaks = 6
+kind_place Provides = 7
+kind_place Status = 8
 
 abbrev pub is_kind : FieldKind → FieldKind → Bool
-is_kind kind other = place_of other == place_of kind
+is_kind kind other = kind_place other == kind_place kind
 
 -- the field of the kind, where there is one
 abbrev pub field_among : FieldKind → List RawField → Option RawField

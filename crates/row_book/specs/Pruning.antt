@@ -70,40 +70,40 @@ step_by p d (Some x) = record { «package» = p; clause = d; added = x } ∷ []
 
 -- what is left of a repository, and the steps that a healthy set of it has to be taken back through: the clauses that were
 -- dropped as idle, in order
-pub record Pruned : Type 0 where
+pub record LeftByPruning : Type 0 where
   pub left : Repository
   pub steps : List IdleClause
 
-abbrev pub untouched : Repository → Pruned
+abbrev pub untouched : Repository → LeftByPruning
 untouched R = record { left = R; steps = [] }
 
 -- what was pruned first, and then what was pruned of what that left
-abbrev pub followed_by : Pruned → Pruned → Pruned
-followed_by first next = record { left = next.left; steps = first.steps ++ next.steps }
+abbrev pub then_pruned : LeftByPruning → LeftByPruning → LeftByPruning
+then_pruned first next = record { left = next.left; steps = first.steps ++ next.steps }
 
 -- the clause d of p is dropped if it is forced, and else if it is idle
-abbrev pub prune_clause : Repository → ℕ → List ℕ → Pruned
+abbrev pub prune_clause : Repository → ℕ → List ℕ → LeftByPruning
 prune_clause R p d = record {
   left = cond (is_dropped R p d) (without_clause R p d) R;
   steps = cond (is_forced R p d) [] (step_by p d (find (is_idle R p d) d));
 }
 
 -- one clause after another, each in what is left
-abbrev pub prune_clauses : Repository → ℕ → List (List ℕ) → Pruned
+abbrev pub prune_clauses : Repository → ℕ → List (List ℕ) → LeftByPruning
 prune_clauses R p [] = untouched R
-prune_clauses R p (d ∷ ds) = followed_by (prune_clause R p d) (prune_clauses (prune_clause R p d).left p ds)
+prune_clauses R p (d ∷ ds) = then_pruned (prune_clause R p d) (prune_clauses (prune_clause R p d).left p ds)
 
 -- the package gets the empty clause alone, which is no step
-abbrev pub emptied : Repository → ℕ → Pruned
-emptied R p = untouched (with_empty_clause R p)
+abbrev pub made_dead : Repository → ℕ → LeftByPruning
+made_dead R p = untouched (with_empty_clause R p)
 
-abbrev pub prune_package : Repository → ℕ → Pruned
-prune_package R p = cond (is_dead R p) (emptied R p) (prune_clauses R p (clauses_of R p))
+abbrev pub prune_package : Repository → ℕ → LeftByPruning
+prune_package R p = cond (is_dead R p) (made_dead R p) (prune_clauses R p (clauses_of R p))
 
 -- one package after another, each in what is left
-abbrev pub prune_over : Repository → List ℕ → Pruned
+abbrev pub prune_over : Repository → List ℕ → LeftByPruning
 prune_over R [] = untouched R
-prune_over R (p ∷ ps) = followed_by (prune_package R p) (prune_over (prune_package R p).left ps)
+prune_over R (p ∷ ps) = then_pruned (prune_package R p) (prune_over (prune_package R p).left ps)
 
 -- the pruned repository
 unfoldable pub prune : Repository → Repository

@@ -6,7 +6,7 @@ use Rattle.std.proofs.lemmas.Bool.{cases_Bool, and_from, and_cases, or_left, or_
 use Rattle.std.proofs.lemmas.List.Elements.{All-contains, All-weaker, All-head, All-tail, Contains-append_left, Contains-append_right, Contains-push, Contains-get_or}
 use Rattle.listed.proofs.Lists.{at_end}
 use Rattle.search_terms.specs.declared.literals.Literal.{Literal}
-use Rattle.search_terms.specs.Closure.{literal, negation, is_same, same_sign, forces, IsClosed, Holds, InClosure, Clashes, InRange, Models, satisfies}
+use Rattle.search_terms.specs.Closure.{literal, negation, is_same, same_sign, forces, IsUnitClosed, HasGiven, InClosure, Clashes, InRange, Models, satisfies}
 use Rattle.search_terms.specs.Derives.{Derives}
 use Rattle.search_terms.specs.Tree.{is_open_need, Tree, IsTree, found_of, failed_leaves, log_of}
 use Rattle.search_terms.specs.Tree.Tree.{failed_leaf, found_leaf, split}
@@ -23,7 +23,7 @@ pub negated_twice : (literals : List Literal) → map negation (map negation lit
 negated_twice [] = refl
 negated_twice (l ∷ ls) = ap (λ m. m ∷ map negation (map negation ls)) (negation_twice l) ∙ ap (λ m. l ∷ m) (negated_twice ls)
 
-closed_left : (formula more : List (List Literal)) (s : Literal → Bool) → IsClosed (formula ++ more) s → IsClosed formula s
+closed_left : (formula more : List (List Literal)) (s : Literal → Bool) → IsUnitClosed (formula ++ more) s → IsUnitClosed formula s
 closed_left formula more s closed = record {
   steps = λ k d lt.
       All-contains (λ x. All (λ l. forces s l x ≡ true → s l ≡ true) x) (formula ++ more) (get_or formula k d) closed.steps (Contains-append_left formula more (get_or formula k d) (Contains-get_or formula k d lt));
@@ -62,7 +62,7 @@ same_refl l = and_from (eqb l.class l.class) (same_sign l.positive l.positive) (
     sign_refl false = refl
 
 -- where the decisions hold, the entry of a child forces the other value
-entry_forces : (s : Literal → Bool) (decisions : List Literal) (m : Literal) → Holds s decisions → forces s (negation m) (map negation (decisions ++ m ∷ [])) ≡ true
+entry_forces : (s : Literal → Bool) (decisions : List Literal) (m : Literal) → HasGiven s decisions → forces s (negation m) (map negation (decisions ++ m ∷ [])) ≡ true
 entry_forces s [] m holds = and_from (is_same (negation m) (negation m) || s (negation (negation m))) true (or_left (is_same (negation m) (negation m)) (s (negation (negation m))) (same_refl (negation m))) refl
 entry_forces s (a ∷ decisions) m holds =
     and_from (is_same (negation a) (negation m) || s (negation (negation a))) (forces s (negation m) (map negation (decisions ++ m ∷ [])))

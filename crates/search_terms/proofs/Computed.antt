@@ -10,7 +10,7 @@ use Rattle.std.proofs.lemmas.List.Folds.{Any-from_list_any, list_any-from_Any}
 use Rattle.listed.proofs.Bools.{cases_Option}
 use Rattle.row_book.proofs.Lists.{any_cases}
 use Rattle.search_terms.specs.declared.literals.Literal.{Literal}
-use Rattle.search_terms.specs.Closure.{literal, is_same, same_sign, forces, is_refuted, IsMet, IsClosed, Holds, IsClosure, InRange}
+use Rattle.search_terms.specs.Closure.{literal, is_same, same_sign, forces, is_refuted, IsMet, IsUnitClosed, HasGiven, IsClosure, InRange}
 use Rattle.search_terms.specs.Marks.{IsWithin, IsForced, HasClash, classes_left, true_classes}
 use Rattle.search_terms.specs.Tree.{is_open_need, is_undecided, Tree, IsTree}
 use Rattle.search_terms.specs.Tree.Tree.{failed_leaf, found_leaf, split}
@@ -31,7 +31,7 @@ next_forced (x ∷ xs) s l h = elim (cases_Option (unit_in s x)) [
 ]
 
 -- where there is none, the set is closed
-none_closed : (formula : List (List Literal)) (s : Literal → Bool) → next_unit formula s ≡ None → IsClosed formula s
+none_closed : (formula : List (List Literal)) (s : Literal → Bool) → next_unit formula s ≡ None → IsUnitClosed formula s
 none_closed [] s h = record { steps = All-nil (IsMet s) }
 none_closed (x ∷ xs) s h = elim (cases_Option (unit_in s x)) [
   | inl none ↦ record { steps = All-cons (IsMet s) x xs (sentence_met s x none) (none_closed xs s (rw none at h)).steps }
@@ -112,33 +112,33 @@ unit_less n formula s l range h =
     lack_less n s (with_unit s (Some l)) l (grown s (Some l)) (forced_in_range formula s l n range f) f.absent (or_right (s l) (is_same l l) (same_refl l))
 
 -- as many steps as literals are lacked close the set
-steps_closed : (k n : ℕ) (formula : List (List Literal)) (s : Literal → Bool) → InRange n formula → lacking n s ≤ k → IsClosed formula (unit_steps k formula s)
+steps_closed : (k n : ℕ) (formula : List (List Literal)) (s : Literal → Bool) → InRange n formula → lacking n s ≤ k → IsUnitClosed formula (unit_steps k formula s)
 steps_closed zero n formula s range le = elim (cases_Option (next_unit formula s)) [
   | inl none ↦ none_closed formula s none
   | inr some ↦ let less = unit_less n formula s some.0 range some.1 in absurd (omega arith)
 ]
 steps_closed (suc k) n formula s range le = elim (cases_Option (next_unit formula s)) [
-  | inl none ↦ subst (λ t. IsClosed formula t) (sym (steps_stay (suc k) formula s none)) (none_closed formula s none)
+  | inl none ↦ subst (λ t. IsUnitClosed formula t) (sym (steps_stay (suc k) formula s none)) (none_closed formula s none)
   | inr some ↦
       let less = unit_less n formula s some.0 range some.1 in
-      subst (λ o. IsClosed formula (unit_steps k formula (with_unit s o))) (sym some.1) (steps_closed k n formula (with_unit s (Some some.0)) range (omega arith))
+      subst (λ o. IsUnitClosed formula (unit_steps k formula (with_unit s o))) (sym some.1) (steps_closed k n formula (with_unit s (Some some.0)) range (omega arith))
 ]
 
 -- what is forced is in each closed set
-forced_within : (formula : List (List Literal)) (s t : Literal → Bool) (l : Literal) → IsForced formula s l → IsWithin s t → IsClosed formula t → t l ≡ true
+forced_within : (formula : List (List Literal)) (s t : Literal → Bool) (l : Literal) → IsForced formula s l → IsWithin s t → IsUnitClosed formula t → t l ≡ true
 forced_within formula s t l forced w closed =
     All-contains (λ k. forces t k forced.sentence ≡ true → t k ≡ true) forced.sentence l
     (All-contains (IsMet t) formula forced.sentence closed.steps forced.here)
     forced.member (forces_mono s t l forced.sentence w forced.forced)
 
-unit_least : (formula : List (List Literal)) (s t : Literal → Bool) (o : Option Literal) → next_unit formula s ≡ o → IsWithin s t → IsClosed formula t → IsWithin (with_unit s o) t
+unit_least : (formula : List (List Literal)) (s t : Literal → Bool) (o : Option Literal) → next_unit formula s ≡ o → IsWithin s t → IsUnitClosed formula t → IsWithin (with_unit s o) t
 unit_least formula s t None h w closed m k = w m k
 unit_least formula s t (Some l) h w closed m k = elim (or_cases (s m) (is_same m l) k) [
   | inl a ↦ w m a
   | inr b ↦ subst (λ z. t z ≡ true) (sym (same-true m l b)) (forced_within formula s t l (next_forced formula s l h) w closed)
 ]
 
-steps_least : (k : ℕ) (formula : List (List Literal)) (s t : Literal → Bool) → IsWithin s t → IsClosed formula t → IsWithin (unit_steps k formula s) t
+steps_least : (k : ℕ) (formula : List (List Literal)) (s t : Literal → Bool) → IsWithin s t → IsUnitClosed formula t → IsWithin (unit_steps k formula s) t
 steps_least zero formula s t w closed = w
 steps_least (suc k) formula s t w closed = steps_least k formula (with_unit s (next_unit formula s)) t (unit_least formula s t (next_unit formula s) refl w closed) closed
 
@@ -152,7 +152,7 @@ closure_is n formula given range = record {
     start : Literal → Bool
     start m = list_any (is_same m) given
 
-    given_in : (m : Literal) (t : Literal → Bool) → Holds t given → list_any (is_same m) given ≡ true → t m ≡ true
+    given_in : (m : Literal) (t : Literal → Bool) → HasGiven t given → list_any (is_same m) given ≡ true → t m ≡ true
     given_in m t holds h =
         let w = Any-from_list_any (is_same m) given h in
         subst (λ z. t z ≡ true) (sym (same-true m w.1 w.4)) (All-contains (λ z. t z ≡ true) given w.1 holds (w.0, w.2, w.3))

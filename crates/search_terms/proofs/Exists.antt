@@ -11,7 +11,7 @@ use Rattle.std.proofs.lemmas.List.FromFn.{get_or-map-range_with_len, length-map-
 use Rattle.std.proofs.lemmas.List.Elements.{All-nil, All-cons, All-append, All-head, All-tail, All-weaker, All-push}
 use Rattle.listed.proofs.Bools.{cases_Option}
 use Rattle.search_terms.specs.declared.literals.Literal.{Literal}
-use Rattle.search_terms.specs.Closure.{literal, negation, forces, is_refuted, IsClosed, Holds, IsClosure, Clashes, InRange}
+use Rattle.search_terms.specs.Closure.{literal, negation, forces, is_refuted, IsUnitClosed, HasGiven, IsClosure, Clashes, InRange}
 use Rattle.search_terms.specs.Marks.{flag_place, is_marked, IsWithin, IsForced, HasClash}
 use Rattle.search_terms.specs.Tree.{is_open_need, is_undecided, IsFoundLeaf, IsSplit, Tree, IsTree, found_of, failed_leaves, log_of}
 use Rattle.search_terms.specs.Marks.{classes_left, true_classes}
@@ -21,7 +21,7 @@ use Rattle.search_terms.proofs.Least.{least_closed, unmarked, clash_from, negate
 use Rattle.search_terms.proofs.Trees.{found_leaf_of, split_of, open_has_member}
 
 -- either a sentence forces one more literal, or the set is closed
-pub forced_or_closed : (formula : List (List Literal)) (s : Literal → Bool) → ((l : Literal) × IsForced formula s l) ⊎ IsClosed formula s
+pub forced_or_closed : (formula : List (List Literal)) (s : Literal → Bool) → ((l : Literal) × IsForced formula s l) ⊎ IsUnitClosed formula s
 forced_or_closed [] s = inr (record { steps = All-nil (λ sentence. All (λ l. forces s l sentence ≡ true → s l ≡ true) sentence) })
 forced_or_closed (x ∷ xs) s = elim (cases_Option (find (is_unmet s x) x)) [
   | inr some ↦ inl (some.0, forced_there (x ∷ xs) s x some.0 (Contains-head x xs) some.1)
@@ -42,7 +42,7 @@ mark_long n flags (a ∷ given) long = length-set (mark flags given) (flag_place
 mark_place : (n : ℕ) (flags : List Bool) (a : Literal) (given : List Literal) → length flags ≡ n * 2 → a.class < n → flag_place a < length (mark flags given)
 mark_place n flags a given long lt = rw (mark_long n flags given long) (place_fits a.class n a.positive lt)
 
-mark_all : (n : ℕ) (flags : List Bool) (given : List Literal) → length flags ≡ n * 2 → All (λ l. l.class < n) given → Holds (is_marked (mark flags given)) given
+mark_all : (n : ℕ) (flags : List Bool) (given : List Literal) → length flags ≡ n * 2 → All (λ l. l.class < n) given → HasGiven (is_marked (mark flags given)) given
 mark_all n flags [] long range = All-nil (λ l. is_marked flags l ≡ true)
 mark_all n flags (a ∷ given) long range =
     let lt = mark_place n flags a given long (All-head (λ l. l.class < n) a given range) in
@@ -52,7 +52,7 @@ mark_all n flags (a ∷ given) long range =
     (mark_all n flags given long (All-tail (λ l. l.class < n) a given range)))
 
 mark_only : (n : ℕ) (flags : List Bool) (given : List Literal) → length flags ≡ n * 2 → All (λ l. l.class < n) given
-    → (s : Literal → Bool) → Holds s given → IsWithin (is_marked flags) s → IsWithin (is_marked (mark flags given)) s
+    → (s : Literal → Bool) → HasGiven s given → IsWithin (is_marked flags) s → IsWithin (is_marked (mark flags given)) s
 mark_only n flags [] long range s holds w m h = w m h
 mark_only n flags (a ∷ given) long range s holds w m h =
     let lt = mark_place n flags a given long (All-head (λ l. l.class < n) a given range) in
@@ -65,7 +65,7 @@ pub record IsClosing (n : ℕ) (formula : List (List Literal)) (old new : List B
   pub long : length new ≡ n * 2
   pub kept : IsWithin (is_marked old) (is_marked new)
   pub sound : IsSoundly formula (is_marked old) (is_marked new)
-  pub closed : IsClosed formula (is_marked new)
+  pub closed : IsUnitClosed formula (is_marked new)
 
 close_from : (fuel n : ℕ) (formula : List (List Literal)) (flags : List Bool) → InRange n formula → length flags ≡ n * 2 → count_by not flags ≤ fuel
     → (new : List Bool) × IsClosing n formula flags new

@@ -7,14 +7,14 @@ use Rattle.std.proofs.lemmas.List.Folds.{Any-from_list_any, list_any-from_Any}
 use Rattle.std.proofs.lemmas.Bool.{and_parts, and_from}
 use Rattle.std.proofs.lemmas.List.Elements.{All-push, Contains-append_left, Contains-get_or, Contains-push}
 use Rattle.search_terms.specs.declared.literals.Literal.{Literal}
-use Rattle.search_terms.specs.Closure.{negation, is_refuted, IsClosed, Holds, InClosure, IsClosure, Clashes}
+use Rattle.search_terms.specs.Closure.{negation, is_refuted, IsUnitClosed, HasGiven, InClosure, IsClosure, Clashes}
 use Rattle.search_terms.specs.Marks.{flag_place, is_marked, IsWithin, HasClash}
 use Rattle.search_terms.proofs.Sets.{marked_set, marked_more, place_fits}
 
 pub mark_step : (given : List Literal) (i : ℕ) (d : Literal) (old : Literal → Bool) (flags : List Bool) (n place : ℕ) → i < length given → place ≡ flag_place (get_or given i d)
-    → length flags ≡ n * 2 → All (λ l. l.class < n) given → Holds (is_marked flags) (take i given)
-    → ((s : Literal → Bool) → Holds s given → IsWithin old s → IsWithin (is_marked flags) s)
-    → record { all : Holds (is_marked (set flags place true)) (take (i + 1) given); only : (s : Literal → Bool) → Holds s given → IsWithin old s → IsWithin (is_marked (set flags place true)) s }
+    → length flags ≡ n * 2 → All (λ l. l.class < n) given → HasGiven (is_marked flags) (take i given)
+    → ((s : Literal → Bool) → HasGiven s given → IsWithin old s → IsWithin (is_marked flags) s)
+    → record { all : HasGiven (is_marked (set flags place true)) (take (i + 1) given); only : (s : Literal → Bool) → HasGiven s given → IsWithin old s → IsWithin (is_marked (set flags place true)) s }
 mark_step given i d old flags n place lt e long range all only =
     let l = get_or given i d in
     let inside : flag_place l < length flags = rw long (place_fits l.class n l.positive (range i d lt)) in
@@ -28,16 +28,16 @@ mark_step given i d old flags n place lt e long range all only =
       ];
     })
 
-pub holds_all : (s : Literal → Bool) (given : List Literal) (i : ℕ) → length given ≤ i → Holds s (take i given) → Holds s given
+pub holds_all : (s : Literal → Bool) (given : List Literal) (i : ℕ) → length given ≤ i → HasGiven s (take i given) → HasGiven s given
 holds_all s given i le h = rw (take_all i given le) at h
 
 pub least_closed : (formula : List (List Literal)) (given : List Literal) (old mid new : Literal → Bool)
     → ((l : Literal) → old l ≡ true → ⊥)
-    → Holds mid given
-    → ((s : Literal → Bool) → Holds s given → IsWithin old s → IsWithin mid s)
+    → HasGiven mid given
+    → ((s : Literal → Bool) → HasGiven s given → IsWithin old s → IsWithin mid s)
     → IsWithin mid new
-    → ((s : Literal → Bool) → IsWithin mid s → IsClosed formula s → IsWithin new s)
-    → IsClosed formula new → IsClosure formula given new
+    → ((s : Literal → Bool) → IsWithin mid s → IsUnitClosed formula s → IsWithin new s)
+    → IsUnitClosed formula new → IsClosure formula given new
 least_closed formula given old mid new clear all only kept sound closed = record {
   sound = λ l h s holds closed_s. sound s (only s holds (λ m k. absurd (clear m k))) closed_s l h;
   whole = λ l h. h new (All-weaker (λ m. mid m ≡ true) (λ m. new m ≡ true) kept given all) closed;
@@ -89,7 +89,7 @@ negated_range literals n range = All-map (λ l. l.class < n) negation literals r
 -- one more given literal: the old closure with it is the place to begin
 pub closure_more : (formula : List (List Literal)) (given : List Literal) (l : Literal) (old mid new : Literal → Bool) → IsClosure formula given old
     → IsWithin old mid → mid l ≡ true → ((m : Literal) → mid m ≡ true → (m ≡ l) ⊎ (old m ≡ true))
-    → IsWithin mid new → ((s : Literal → Bool) → IsClosed formula s → IsWithin mid s → IsWithin new s) → IsClosed formula new
+    → IsWithin mid new → ((s : Literal → Bool) → IsUnitClosed formula s → IsWithin mid s → IsWithin new s) → IsUnitClosed formula new
     → IsClosure formula (given ++ l ∷ []) new
 closure_more formula given l old mid new closure kept here only grown sound closed = record {
   sound = λ m h s holds closed_s. sound s closed_s (λ k t. elim (only k t) [
@@ -99,8 +99,8 @@ closure_more formula given l old mid new closure kept here only grown sound clos
   whole = λ m h. h new (All-push (λ k. new k ≡ true) given l (λ k d lt. grown (get_or given k d) (kept (get_or given k d) (closure.whole (get_or given k d) (λ s holds c. holds k d lt)))) (grown l here)) closed;
 }
   where
-    holds_front : (s : Literal → Bool) (given : List Literal) (l : Literal) → Holds s (given ++ l ∷ []) → Holds s given
+    holds_front : (s : Literal → Bool) (given : List Literal) (l : Literal) → HasGiven s (given ++ l ∷ []) → HasGiven s given
     holds_front s given l holds k d lt = All-contains (λ m. s m ≡ true) (given ++ l ∷ []) (get_or given k d) holds (Contains-append_left given (l ∷ []) (get_or given k d) (Contains-get_or given k d lt))
 
-    holds_last : (s : Literal → Bool) (given : List Literal) (l : Literal) → Holds s (given ++ l ∷ []) → s l ≡ true
+    holds_last : (s : Literal → Bool) (given : List Literal) (l : Literal) → HasGiven s (given ++ l ∷ []) → s l ≡ true
     holds_last s given l holds = All-contains (λ m. s m ≡ true) (given ++ l ∷ []) l holds (Contains-push given l)

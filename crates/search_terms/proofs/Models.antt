@@ -7,7 +7,7 @@ use Rattle.std.proofs.lemmas.List.Elements.{All-contains, All-append, All-nil, A
 use Rattle.std.proofs.Math.Numerals.{add-one}
 use Rattle.std.proofs.lemmas.List.{take_all}
 use Rattle.search_terms.specs.declared.literals.Literal.{Literal}
-use Rattle.search_terms.specs.Closure.{negation, is_same, same_sign, satisfies, forces, Models, HaveNoModel, IsClosed, Holds, Clashes}
+use Rattle.search_terms.specs.Closure.{negation, is_same, same_sign, satisfies, forces, Models, HaveNoModel, IsUnitClosed, HasGiven, Clashes}
 use Rattle.search_terms.specs.Derives.{Derives}
 use Rattle.search_terms.proofs.Sets.{literal_of}
 
@@ -50,7 +50,7 @@ unit_in_model v l (m ∷ ms) some h =
     both_negation : (v : ℕ → Bool) (m : Literal) → satisfies v m ≡ true → satisfies v (negation m) ≡ true → ⊥
     both_negation v m t f = cc (satisfies_negation v m, ap not t)
 
-pub model_closed : (v : ℕ → Bool) (formula : List (List Literal)) → Models v formula → IsClosed formula (satisfies v)
+pub model_closed : (v : ℕ → Bool) (formula : List (List Literal)) → Models v formula → IsUnitClosed formula (satisfies v)
 model_closed v formula model = record { steps = λ k d lt i e ilt h. unit_in_model v (get_or (get_or formula k d) i e) (get_or formula k d) (model k d lt) h }
 
 not_both : (v : ℕ → Bool) (m : Literal) → satisfies v m ≡ true → satisfies v (negation m) ≡ true → ⊥
@@ -64,7 +64,7 @@ not_refuted v (m ∷ ms) some all = elim (or_cases (satisfies v m) (list_any (sa
 ]
 
 -- where the closure clashes, no model holds the given literals
-pub clash_no_model : (v : ℕ → Bool) (formula : List (List Literal)) (given : List Literal) → Models v formula → Holds (satisfies v) given → Clashes formula given → ⊥
+pub clash_no_model : (v : ℕ → Bool) (formula : List (List Literal)) (given : List Literal) → Models v formula → HasGiven (satisfies v) given → Clashes formula given → ⊥
 clash_no_model v formula given model holds clash =
     let closed = model_closed v formula model in
     elim clash [
@@ -75,7 +75,7 @@ clash_no_model v formula given model holds clash =
     ]
 
 -- an entry whose negated literals the model does not all hold is true in it
-none_satisfied : (v : ℕ → Bool) (entry : List Literal) → list_any (satisfies v) entry ≡ false → Holds (satisfies v) (map negation entry)
+none_satisfied : (v : ℕ → Bool) (entry : List Literal) → list_any (satisfies v) entry ≡ false → HasGiven (satisfies v) (map negation entry)
 none_satisfied v [] h = All-nil (λ l. satisfies v l ≡ true)
 none_satisfied v (m ∷ ms) h =
     let both = or_parts (satisfies v m) (list_any (satisfies v) ms) h in

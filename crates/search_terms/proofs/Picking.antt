@@ -10,11 +10,11 @@ use Rattle.row_book.specs.Repository.{Repository, Healthy, against}
 use Rattle.row_book.proofs.Lists.{In_at, any_from, any_cases, In_has}
 use Rattle.row_book.proofs.Sets.{Hit-mono}
 use Rattle.search_terms.specs.declared.literals.Literal.{Literal}
-use Rattle.search_terms.specs.Closure.{literal, satisfies, IsMet, IsClosure, IsClosed, Holds, InClosure, Models}
+use Rattle.search_terms.specs.Closure.{literal, satisfies, IsMet, IsClosure, IsUnitClosed, HasGiven, InClosure, Models}
 use Rattle.search_terms.specs.Form.{goal_sentence, clause_sentence, conflict_sentence, form}
 use Rattle.search_terms.specs.Tree.{is_open_need, is_undecided, Tree, IsTree, found_of, failed_leaves}
 use Rattle.search_terms.specs.Tree.Tree.{failed_leaf, found_leaf, split}
-use Rattle.search_terms.specs.Certificate.{first_left, is_one_of, is_picked, Certifies, CertificateTells, AreAtPeace, IsSymmetric, either, CertificatesJoin, first_of, FirstChoiceCertifies, FirstChoicesJoin}
+use Rattle.search_terms.specs.Certificate.{first_left, is_one_of, is_picked, Certifies, CertificateTells, AreAtPeace, IsSymmetric, either, CertificatesJoin, first_member, FirstChoiceCertifies, FirstChoicesJoin}
 use Rattle.search_terms.proofs.Sets.{find_some}
 use Rattle.search_terms.proofs.Models.{model_closed, clash_no_model}
 use Rattle.search_terms.proofs.Forms.{IsSentence, sentence_cases, models_from, in_either, in_left, in_right, goal_in, clause_in, conflict_in}
@@ -75,7 +75,7 @@ module _ (R : Repository) (goals : List (List ℕ)) (base : Literal → Bool) (T
   model : Models T (form R goals)
   model = models_from R goals T certified.healthy certified.hits
 
-  lies : (decisions : List Literal) (set : Literal → Bool) → Holds (satisfies T) decisions → IsClosure (form R goals) decisions set → Lies base set T
+  lies : (decisions : List Literal) (set : Literal → Bool) → HasGiven (satisfies T) decisions → IsClosure (form R goals) decisions set → Lies base set T
   lies decisions set holds closure = record {
     over = λ l h. closure.whole l (λ s given closed. certified.sound l h s (All-nil (λ k. s k ≡ true)) closed);
     under = λ l h. closure.sound l h (satisfies T) holds (model_closed T (form R goals) model);
@@ -97,7 +97,7 @@ module _ (R : Repository) (goals : List (List ℕ)) (base : Literal → Bool) (T
       let v = and_parts (set (literal q true)) true w.1 in
       absurd (both_ways (against R p q) (certified.healthy.peace p q (l.under (literal p true) w.0) (l.under (literal q true) v.0)) (In_has i))
 
-  tells : (decisions : List Literal) (tree : Tree) → Holds (satisfies T) decisions → IsTree (length R.clauses) (form R goals) decisions tree
+  tells : (decisions : List Literal) (tree : Tree) → HasGiven (satisfies T) decisions → IsTree (length R.clauses) (form R goals) decisions tree
       → (failed_leaves tree ≡ 0) × ((chosen : List Bool) × (found_of tree ≡ Some chosen))
   tells decisions failed_leaf holds is = absurd (clash_no_model T (form R goals) decisions model holds is)
   tells decisions (found_leaf chosen) holds is = (refl, (chosen, refl))
@@ -106,7 +106,7 @@ module _ (R : Repository) (goals : List (List ℕ)) (base : Literal → Bool) (T
       let found = find_some (is_open_need here.set) (form R goals) here.need here.first in
       let w = decides here.set here.need here.member (lies decisions here.set holds here.closure) (sentence_cases R goals here.need (contains_in (form R goals) here.need found.0)) found.1 here.least in
       let e : c ≡ w.0 = here.named ∙ ap (λ l. l.class) w.1 in
-      let more : Holds (satisfies T) (decisions ++ literal c true ∷ []) = All-push (λ l. satisfies T l ≡ true) decisions (literal c true) holds (rw e w.2) in
+      let more : HasGiven (satisfies T) (decisions ++ literal c true ∷ []) = All-push (λ l. satisfies T l ≡ true) decisions (literal c true) holds (rw e w.2) in
       let rest = tells (decisions ++ literal c true ∷ []) left more is.1 in
       let some = rest.1 in
       rw some.1 (let z = rest.0 in omega arith, (some.0, refl))
@@ -141,7 +141,7 @@ fewer_sentences R A B more s (of_goal g i e) = subst (λ x. In x (form R B)) (sy
 fewer_sentences R A B more s (of_clause p c lt i e) = subst (λ x. In x (form R B)) (sym e) (clause_in R B p c i)
 fewer_sentences R A B more s (of_conflict p q i e) = subst (λ x. In x (form R B)) (sym e) (conflict_in R B p q i)
 
-pub closed_fewer : (F G : List (List Literal)) (set : Literal → Bool) → ((s : List Literal) → In s F → In s G) → IsClosed G set → IsClosed F set
+pub closed_fewer : (F G : List (List Literal)) (set : Literal → Bool) → ((s : List Literal) → In s F → In s G) → IsUnitClosed G set → IsUnitClosed F set
 closed_fewer F G set more closed = record { steps = λ k d lt. All-contains (IsMet set) G (get_or F k d) closed.steps (in_contains G (get_or F k d) (more (get_or F k d) (In_at F k d lt))) }
 
 pub follows_more : (R : Repository) (A B : List (List ℕ)) (l : Literal) → ((g : List ℕ) → In g A → In g B) → InClosure (form R A) [] l → InClosure (form R B) [] l
@@ -210,11 +210,11 @@ pub certificates_join : CertificatesJoin
 certificates_join R A B first second S T way a b peace = joined R A B first second S T way a b peace
 
 -- the first member
-one_of_head : (T : NumSet) (c : List ℕ) → is_one_of T (first_of c) ≡ true → Hit (Is T) c
+one_of_head : (T : NumSet) (c : List ℕ) → is_one_of T (first_member c) ≡ true → Hit (Is T) c
 one_of_head T [] h = absurd (cc h)
 one_of_head T (x ∷ xs) h = record { by = x; inside = here; alive = h }
 
-picked_head : (T : NumSet) (c : List ℕ) → is_one_of T (first_of c) ≡ true → is_picked (λ l. false) T c ≡ true
+picked_head : (T : NumSet) (c : List ℕ) → is_one_of T (first_member c) ≡ true → is_picked (λ l. false) T c ≡ true
 picked_head T [] h = absurd (cc h)
 picked_head T (x ∷ xs) h = or_right (list_any (λ n. false) (x ∷ xs)) (T x) h
 
@@ -245,8 +245,8 @@ first_choices_join R A B S T way a b peace = record {
   ];
 }
   where
-    left_more : (c : List ℕ) → is_one_of S (first_of c) ≡ true → is_one_of (union S T) (first_of c) ≡ true
-    left_more c h = one_of_more S (union S T) (first_of c) (λ n x. or_left (S n) (T n) x) h
+    left_more : (c : List ℕ) → is_one_of S (first_member c) ≡ true → is_one_of (union S T) (first_member c) ≡ true
+    left_more c h = one_of_more S (union S T) (first_member c) (λ n x. or_left (S n) (T n) x) h
 
-    right_more : (c : List ℕ) → is_one_of T (first_of c) ≡ true → is_one_of (union S T) (first_of c) ≡ true
-    right_more c h = one_of_more T (union S T) (first_of c) (λ n y. or_right (S n) (T n) y) h
+    right_more : (c : List ℕ) → is_one_of T (first_member c) ≡ true → is_one_of (union S T) (first_member c) ≡ true
+    right_more c h = one_of_more T (union S T) (first_member c) (λ n y. or_right (S n) (T n) y) h

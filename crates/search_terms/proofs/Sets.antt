@@ -8,7 +8,7 @@ use Rattle.std.specs.Prelude.{count_by}
 use Rattle.std.proofs.lemmas.List.Sums.{sum_by-set}
 use Rattle.std.proofs.lemmas.List.Elements.{All-more}
 use Rattle.search_terms.specs.declared.literals.Literal.{Literal}
-use Rattle.search_terms.specs.Closure.{negation, is_same, forces, is_refuted, IsClosed, InRange}
+use Rattle.search_terms.specs.Closure.{negation, is_same, forces, is_refuted, IsUnitClosed, InRange}
 use Rattle.search_terms.specs.Marks.{flag_place, is_marked, IsWithin, IsForced}
 
 or_mono : (a b c : Bool) → (b ≡ true → c ≡ true) → (a || b) ≡ true → (a || c) ≡ true
@@ -55,7 +55,7 @@ marked_more flags l m lt h = elim (cases_eq (flag_place m) (flag_place l)) [
 
 -- each closed set that holds what was marked first holds what is marked now
 abbrev pub IsSoundly : List (List Literal) → (Literal → Bool) → (Literal → Bool) → Type 0
-IsSoundly formula old new = (s : Literal → Bool) → IsWithin old s → IsClosed formula s → IsWithin new s
+IsSoundly formula old new = (s : Literal → Bool) → IsWithin old s → IsUnitClosed formula s → IsWithin new s
 
 pub forced_sound : (formula : List (List Literal)) (old : Literal → Bool) (flags : List Bool) (l : Literal) → flag_place l < length flags
     → IsForced formula (is_marked flags) l → IsSoundly formula old (is_marked flags) → IsSoundly formula old (is_marked (set flags (flag_place l) true))
@@ -109,12 +109,12 @@ pub sentence_met : (s : Literal → Bool) (sentence : List Literal) → find (is
 sentence_met s sentence e = λ k d lt h. met (s (get_or sentence k d)) (forces s (get_or sentence k d) sentence) (find_none (is_unmet s sentence) sentence e k d lt) h
 
 pub closed_more : (formula : List (List Literal)) (s : Literal → Bool) (i : ℕ) (sentence : List Literal) → i < length formula → sentence ≡ get_or formula i sentence
-    → IsClosed (take i formula) s → find (is_unmet s sentence) sentence ≡ None → IsClosed (take (i + 1) formula) s
+    → IsUnitClosed (take i formula) s → find (is_unmet s sentence) sentence ≡ None → IsUnitClosed (take (i + 1) formula) s
 closed_more formula s i sentence lt e closed none = record {
   steps = All-more (λ x. All (λ l. forces s l x ≡ true → s l ≡ true) x) formula i sentence lt closed.steps (rw (← e) (sentence_met s sentence none));
 }
 
-pub closed_append : (first second : List (List Literal)) (s : Literal → Bool) → IsClosed first s → IsClosed second s → IsClosed (first ++ second) s
+pub closed_append : (first second : List (List Literal)) (s : Literal → Bool) → IsUnitClosed first s → IsUnitClosed second s → IsUnitClosed (first ++ second) s
 closed_append first second s a b = record { steps = All-append (λ x. All (λ l. forces s l x ≡ true → s l ≡ true) x) first second a.steps b.steps }
 
 pub forced_left : (first second : List (List Literal)) (s : Literal → Bool) (l : Literal) → IsForced first s l → IsForced (first ++ second) s l

@@ -6,14 +6,14 @@ use Rattle.std.proofs.lemmas.List.Elements.{All-contains, All-tail, All-head}
 use Rattle.std.proofs.lemmas.List.Folds.{list_any-append, list_any-from_Any}
 use Rattle.listed.proofs.Bools.{lighter}
 use Rattle.search_terms.specs.declared.literals.Literal.{Literal}
-use Rattle.search_terms.specs.Closure.{literal, negation, is_refuted, Holds, IsClosure, Clashes, InRange}
+use Rattle.search_terms.specs.Closure.{literal, negation, is_refuted, HasGiven, IsClosure, Clashes, InRange}
 use Rattle.search_terms.specs.Marks.{HasClash}
 use Rattle.search_terms.specs.Tree.{is_open_need, is_undecided, IsFoundLeaf, IsSplit}
 use Rattle.search_terms.specs.Marks.{is_decided, classes_left}
 use Rattle.search_terms.proofs.Sets.{literal_of, find_some, find_none}
 use Rattle.search_terms.proofs.Least.{clash_from, clash_to}
 
-pub given_held : (formula : List (List Literal)) (given : List Literal) (s : Literal → Bool) → IsClosure formula given s → Holds s given
+pub given_held : (formula : List (List Literal)) (given : List Literal) (s : Literal → Bool) → IsClosure formula given s → HasGiven s given
 given_held formula given s c k d lt = c.whole (get_or given k d) (λ t holds closed. holds k d lt)
 
 sign_cases : (a b : Bool) → (a ≡ b) ⊎ (a ≡ not b)
@@ -36,7 +36,7 @@ differs s l m h u =
       | inr other ↦ both_ways (s (negation m)) (not-true (s (negation m)) both.1) (subst (λ k. s k ≡ true) other h)
     ])
 
-pub undecided_free : (s : Literal → Bool) (decisions : List Literal) (m : Literal) → Holds s decisions → is_undecided s m ≡ true → is_decided m.class decisions ≡ false
+pub undecided_free : (s : Literal → Bool) (decisions : List Literal) (m : Literal) → HasGiven s decisions → is_undecided s m ≡ true → is_decided m.class decisions ≡ false
 undecided_free s [] m h u = refl
 undecided_free s (l ∷ ls) m h u =
     or_from (eqb l.class m.class) (is_decided m.class ls) (differs s l m (All-head (λ k. s k ≡ true) l ls h) u) (undecided_free s ls m (All-tail (λ k. s k ≡ true) l ls h) u)

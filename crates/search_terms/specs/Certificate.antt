@@ -53,14 +53,14 @@ CertificatesJoin = (R : Repository) (A B : List (List ℕ)) (first second : Lite
 
 -- The plain certificate, over no base: a set of classes, no two of which conflict, with the first member of each goal and
 -- of each clause of a member
-abbrev pub first_of : List ℕ → Option ℕ
-first_of [] = None
-first_of (n ∷ ns) = Some n
+abbrev pub first_member : List ℕ → Option ℕ
+first_member [] = None
+first_member (n ∷ ns) = Some n
 
 pub record IsFirstChoice (R : Repository) (goals : List (List ℕ)) (T : NumSet) : Type 0 where
   pub classes : (n : ℕ) → Is T n → n < length R.clauses
-  pub of_goals : (g : List ℕ) → In g goals → is_one_of T (first_of g) ≡ true
-  pub of_clauses : (p : ℕ) → Is T p → (c : List ℕ) → In c (clauses_of R p) → is_one_of T (first_of c) ≡ true
+  pub of_goals : (g : List ℕ) → In g goals → is_one_of T (first_member g) ≡ true
+  pub of_clauses : (p : ℕ) → Is T p → (c : List ℕ) → In c (clauses_of R p) → is_one_of T (first_member c) ≡ true
   pub peace : (m n : ℕ) → Is T m → Is T n → against R m n ≡ false
 
 -- a first choice is a certificate

@@ -35,16 +35,16 @@ abbrev pub IsMet : (Literal → Bool) → List Literal → Type 0
 IsMet set sentence = All (λ l. forces set l sentence ≡ true → set l ≡ true) sentence
 
 -- closed under unit steps
-pub record IsClosed (formula : List (List Literal)) (set : Literal → Bool) : Type 0 where
+pub record IsUnitClosed (formula : List (List Literal)) (set : Literal → Bool) : Type 0 where
   pub steps : All (IsMet set) formula
 
 -- the set has each of the given literals
-abbrev pub Holds : (Literal → Bool) → List Literal → Type 0
-Holds set given = All (λ l. set l ≡ true) given
+abbrev pub HasGiven : (Literal → Bool) → List Literal → Type 0
+HasGiven set given = All (λ l. set l ≡ true) given
 
 -- the literal is in each closed set that holds the given ones
 abbrev pub InClosure : List (List Literal) → List Literal → Literal → Type 0
-InClosure formula given l = (set : Literal → Bool) → Holds set given → IsClosed formula set → set l ≡ true
+InClosure formula given l = (set : Literal → Bool) → HasGiven set given → IsUnitClosed formula set → set l ≡ true
 
 -- the set is the closure of the given literals: the least set that holds them and is closed under unit steps
 pub record IsClosure (formula : List (List Literal)) (given : List Literal) (set : Literal → Bool) : Type 0 where

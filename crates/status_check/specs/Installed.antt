@@ -11,13 +11,13 @@ use Rattle.relation_fields.specs.declared.packages.Home.{Home}
 use Rattle.repo_model.specs.Facts.{is_all}
 use Rattle.repo_model.specs.Fields.{field_of, value_of}
 
-abbrev pub is_filled : List ℕ → Bool
-is_filled [] = false
-is_filled (b ∷ bs) = true
+abbrev pub has_byte : List ℕ → Bool
+has_byte [] = false
+has_byte (b ∷ bs) = true
 
 -- the words of a text, with white space between them: spaces, tabs and line feeds
 unfoldable pub words : List ℕ → List (List ℕ)
-words text = filter is_filled (slice_split is_edge text)
+words text = filter has_byte (slice_split is_edge text)
 
 -- exactly three words, of which the third is `installed`
 abbrev pub says_installed : List (List ℕ) → Bool

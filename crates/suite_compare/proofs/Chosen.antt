@@ -14,7 +14,7 @@ use Rattle.row_book.specs.Uses.{row_id}
 use Rattle.row_book.specs.declared.book.Book.{Book}
 use Rattle.row_book.proofs.Lists.{In_cases, In_none, In_at, In_has, has_In, In_append_cases, In_append_left, In_append_right, In_map, In_map_cases, in_take, any_none}
 use Rattle.row_book.proofs.Books.{clauses_row}
-use Rattle.search_terms.specs.Certificate.{first_of, is_one_of}
+use Rattle.search_terms.specs.Certificate.{first_member, is_one_of}
 use Rattle.search_terms.proofs.Ranges.{rows_long}
 use Rattle.suite_compare.specs.Choices.{AreBelow, ArePeaceful, ArePut, HaveFirsts, IsChosen, IsFollowed, with_class}
 
@@ -58,7 +58,7 @@ one_of_more : (S T : List ℕ) (o : Option ℕ) → ((n : ℕ) → In n S → In
 one_of_more S T None f h = absurd (false≢true h)
 one_of_more S T (Some n) f h = In_has (f n (has_In S n h))
 
-first_is : (clause : List ℕ) (n : ℕ) → Some n ≡ slice_get clause 0 → (first_of clause ≡ Some n) × In n clause
+first_is : (clause : List ℕ) (n : ℕ) → Some n ≡ slice_get clause 0 → (first_member clause ≡ Some n) × In n clause
 first_is [] n e = absurd cc
 first_is (x ∷ xs) n e = (sym e, let same : n ≡ x = cc in subst (λ z. In z (x ∷ xs)) (sym same) here)
 
@@ -83,8 +83,8 @@ pub firsts_more : (pool : Interned) (row : List ℕ) (i id : ℕ) (clause : List
 firsts_more pool row i id clause n initial chosen new l is lent first put so = record {
   more = (so.more.0 ++ put.rest, put.behind ∙ ap (λ z. z ++ put.rest) so.more.1 ∙ assoc initial so.more.0 put.rest);
   firsts = λ d j. elim (was d j) [
-    | inl o ↦ one_of_more chosen new (first_of d) grows (so.firsts d o)
-    | inr e ↦ ap (λ z. is_one_of (has new) (first_of z)) e ∙ ap (λ z. is_one_of (has new) z) (first_is clause n first).0 ∙ In_has (put.all n here)
+    | inl o ↦ one_of_more chosen new (first_member d) grows (so.firsts d o)
+    | inr e ↦ ap (λ z. is_one_of (has new) (first_member z)) e ∙ ap (λ z. is_one_of (has new) z) (first_is clause n first).0 ∙ In_has (put.all n here)
   ];
   below = λ size o all m j. elim (In_append_cases chosen put.rest m (subst (λ z. In m z) put.behind j)) [
     | inl old ↦ so.below size o (λ d k. all d (subst (λ z. In d z) (sym step) (In_append_left (clauses_at pool (take i row)) (clause ∷ []) d k))) m old
@@ -126,11 +126,11 @@ pub record FollowedTo (R : Repository) (goal chosen : List ℕ) (n : ℕ) : Type
   pub goal_first : (m : ℕ) → In m chosen → HaveFirsts (goal ∷ []) chosen
   pub clause_firsts : (j : ℕ) → j < n → HaveFirsts (clauses_of R (get_or chosen j 0)) chosen
 
-pub first_none : (goal : List ℕ) → eqb (length goal) 0 ≡ true → [] ≡ option_to_list (first_of goal)
+pub first_none : (goal : List ℕ) → eqb (length goal) 0 ≡ true → [] ≡ option_to_list (first_member goal)
 first_none [] e = refl
 first_none (x ∷ xs) e = let h : length (x ∷ xs) ≡ 0 = eqb-true (length (x ∷ xs)) 0 e in absurd (omega arith)
 
-pub first_some : (goal : List ℕ) → eqb (length goal) 0 ≡ false → get_or goal 0 0 ∷ [] ≡ option_to_list (first_of goal)
+pub first_some : (goal : List ℕ) → eqb (length goal) 0 ≡ false → get_or goal 0 0 ∷ [] ≡ option_to_list (first_member goal)
 first_some [] e = absurd (false≢true (sym e))
 first_some (x ∷ xs) e = refl
 
@@ -138,19 +138,19 @@ pub some_first : (goal : List ℕ) → eqb (length goal) 0 ≡ false → 0 < len
 some_first [] e = absurd (false≢true (sym e))
 some_first (x ∷ xs) e = omega arith
 
-first_in : (goal : List ℕ) (m : ℕ) → In m (option_to_list (first_of goal)) → In m goal × (first_of goal ≡ Some m)
+first_in : (goal : List ℕ) (m : ℕ) → In m (option_to_list (first_member goal)) → In m goal × (first_member goal ≡ Some m)
 first_in [] m i = absurd (In_none i)
 first_in (x ∷ xs) m i = elim (In_cases i) [
   | inl e ↦ (subst (λ z. In z (x ∷ xs)) (sym e) here, ap (λ z. Some z) (sym e))
   | inr n ↦ absurd (In_none n)
 ]
 
-pub followed_none : (pool : Interned) (book : Book) (goal chosen : List ℕ) → AreBelow (length book.rows) goal → chosen ≡ option_to_list (first_of goal) → FollowedTo (repository_of pool book) goal chosen 0
+pub followed_none : (pool : Interned) (book : Book) (goal chosen : List ℕ) → AreBelow (length book.rows) goal → chosen ≡ option_to_list (first_member goal) → FollowedTo (repository_of pool book) goal chosen 0
 followed_none pool book goal chosen below is = record {
   place = omega arith;
   below = λ m i. subst (λ z. m < z) (sym (rows_long pool book.rows)) (below m (first_in goal m (subst (λ z. In m z) is i)).0);
   goal_first = λ m i g j. elim (In_cases j) [
-    | inl e ↦ ap (λ z. is_one_of (has chosen) (first_of z)) e ∙ ap (is_one_of (has chosen)) (first_in goal m (subst (λ z. In m z) is i)).1 ∙ In_has i
+    | inl e ↦ ap (λ z. is_one_of (has chosen) (first_member z)) e ∙ ap (is_one_of (has chosen)) (first_in goal m (subst (λ z. In m z) is i)).1 ∙ In_has i
     | inr x ↦ absurd (In_none x)
   ];
   clause_firsts = λ j l. absurd (omega arith);
@@ -168,12 +168,12 @@ followed_more pool book goal chosen new n p row sound l at lent more firsts belo
   place = let long : length new ≡ length chosen + length more.0 = ap length more.1 ∙ length-append chosen more.0 in omega arith;
   below = subst (λ z. AreBelow z new) (sym (rows_long pool book.rows)) (below (length book.rows) (subst (λ z. AreBelow z chosen) (rows_long pool book.rows) so.below)
       (λ c i. sound.rows.numbers (row_id book.rows p) (In_at book.rows p 0 inside) c (subst (λ z. In c (clauses_at pool z)) lent i)));
-  goal_first = λ m i g j. one_of_more chosen new (first_of g) grows (so.goal_first (get_or chosen n 0) (In_at chosen n 0 l) g j);
+  goal_first = λ m i g j. one_of_more chosen new (first_member g) grows (so.goal_first (get_or chosen n 0) (In_at chosen n 0 l) g j);
   clause_firsts = λ j m. elim (cases_eq j n) [
     | inl e ↦ subst (λ z. HaveFirsts (clauses_of (repository_of pool book) z) new) (sym (ap (λ z. get_or new z 0) e ∙ stays n l ∙ sym at))
         (subst (λ z. HaveFirsts z new) (ap (clauses_at pool) lent ∙ sym (clauses_row pool book p inside)) firsts)
     | inr o ↦ let below_n : j < n = omega arith in let inner : j < length chosen = omega arith in
-        λ c i. one_of_more chosen new (first_of c) grows (so.clause_firsts j below_n c (subst (λ z. In c (clauses_of (repository_of pool book) z)) (stays j inner) i))
+        λ c i. one_of_more chosen new (first_member c) grows (so.clause_firsts j below_n c (subst (λ z. In c (clauses_of (repository_of pool book) z)) (stays j inner) i))
   ];
 }
   where

@@ -4,7 +4,7 @@ use Rattle.std.specs.Prelude.{◌≡◌, ℕ, ◌<◌, Bool, true, false, if◌t
 use Rattle.row_book.specs.Sets.{In, has}
 use Rattle.row_book.specs.Book.{listed_for}
 use Rattle.row_book.specs.Repository.{Repository, clauses_of}
-use Rattle.search_terms.specs.Certificate.{first_of, is_one_of, IsFirstChoice}
+use Rattle.search_terms.specs.Certificate.{first_member, is_one_of, IsFirstChoice}
 
 -- each number of the list is below the size
 abbrev pub AreBelow : ℕ → List ℕ → Type 0
@@ -31,7 +31,7 @@ pub record ArePut (old new more : List ℕ) : Type 0 where
 
 -- the first member of each clause is among the chosen
 abbrev pub HaveFirsts : List (List ℕ) → List ℕ → Type 0
-HaveFirsts clauses chosen = (c : List ℕ) → In c clauses → is_one_of (has chosen) (first_of c) ≡ true
+HaveFirsts clauses chosen = (c : List ℕ) → In c clauses → is_one_of (has chosen) (first_member c) ≡ true
 
 -- where there is any, it is a first choice of the goal
 abbrev pub IsChosen : Repository → List ℕ → List ℕ → Type 0

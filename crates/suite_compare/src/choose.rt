@@ -5,7 +5,7 @@ ghost use Rattle.std.specs.List.{list_any};
 ghost use Rattle.row_book.specs.Sets.{In, has};
 ghost use Rattle.row_book.specs.Book.{listed_for, repository_of, Sound};
 ghost use Rattle.std.specs.Option.{option_to_list};
-ghost use Rattle.search_terms.specs.Certificate.{first_of};
+ghost use Rattle.search_terms.specs.Certificate.{first_member};
 ghost use Rattle.suite_compare.specs.Choices.{AreBelow, ArePeaceful, HaveFirsts, IsChosen, IsFollowed};
 
 use crate::class_set::ClassSet;
@@ -96,7 +96,7 @@ pub(crate) fn first_choice(
 fn put_first(goal: &[u32], chosen: &mut ClassSet) -> Result<(), AllocError>
     requires empty { chosen.old.1 ≡ [] }
     requires goal { AreBelow chosen.old.0 goal.now }
-    ensures { OnOk result (chosen.new ≡ (chosen.old.0, option_to_list (first_of goal.now))) }
+    ensures { OnOk result (chosen.new ≡ (chosen.old.0, option_to_list (first_member goal.now))) }
 {
     if goal.is_empty() {
         return Ok(());
@@ -115,7 +115,7 @@ fn follow(
 ) -> Result<bool, AllocError>
     requires sound { Sound pool.now book.now }
     requires goal { AreBelow (length book.now.rows) goal.now }
-    requires first { chosen.old ≡ (length book.now.rows, option_to_list (first_of goal.now)) }
+    requires first { chosen.old ≡ (length book.now.rows, option_to_list (first_member goal.now)) }
     ensures size { OnOk result (chosen.new.0 ≡ length book.now.rows) }
     ensures followed { IfOk result (λ whole. whole ≡ true → IsFollowed (repository_of pool.now book.now) goal.now chosen.new.1) }
 {

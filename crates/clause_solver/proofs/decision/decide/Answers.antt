@@ -1,5 +1,5 @@
 use Rattle.std.proofs.Common.{◌≡◌, ◌++◌, ◌∷◌, [], ap}
-use Rattle.clause_solver.specs.Marking.{among}
+use Rattle.clause_solver.specs.Marking.{set_of_trail}
 use Rattle.clause_solver.specs.Engine.{sentences_in}
 use Rattle.clause_solver.proofs.Running.{consistent_push}
 use Rattle.clause_solver.proofs.Calm.{closure_closed, undecided_not, assume_waits, assume_calm, assume_clash}
@@ -8,13 +8,13 @@ use Rattle.clause_solver.proofs.decision.decide.Goals as goal
 pub propagate-requires-clause-consistent : goal.propagate-requires-clause-consistent
 propagate-requires-clause-consistent c =
     let e : c.put.new.self.1 ≡ c.args.trail.now.1 ++ c.args.l ∷ [] = ap (λ w. w.1) c.in_ok-put.ensures.ok in
-    rw e (consistent_push c.args.trail.now.1 c.args.l c.requires.calm.1.consistent (undecided_not (among c.args.trail.now.1) c.args.l c.requires.undecided).1)
+    rw e (consistent_push c.args.trail.now.1 c.args.l c.requires.calm.1.consistent (undecided_not (set_of_trail c.args.trail.now.1) c.args.l c.requires.undecided).1)
 
 pub propagate-requires-clause-waits : goal.propagate-requires-clause-waits
 propagate-requires-clause-waits c =
     let F = sentences_in c.args.formula.now in
     let e : c.put.new.self.1 ≡ c.args.trail.now.1 ++ c.args.l ∷ [] = ap (λ w. w.1) c.in_ok-put.ensures.ok in
-    rw (c.as_slice-from.ensures.items, e) (assume_waits F c.args.trail.now.1 c.args.l (closure_closed F c.requires.calm.0 (among c.args.trail.now.1) c.requires.calm.1.closure))
+    rw (c.as_slice-from.ensures.items, e) (assume_waits F c.args.trail.now.1 c.args.l (closure_closed F c.requires.calm.0 (set_of_trail c.args.trail.now.1) c.requires.calm.1.closure))
 
 pub returns-then-branch-clause-contradiction : goal.returns-then-branch-clause-contradiction
 returns-then-branch-clause-contradiction c = λ decisions calm.

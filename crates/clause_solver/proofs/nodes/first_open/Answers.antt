@@ -1,5 +1,5 @@
 use Rattle.std.proofs.Common.{◌<◌, ◌≤◌, length, arith, [], refl}
-use Rattle.clause_solver.specs.Marking.{among}
+use Rattle.clause_solver.specs.Marking.{set_of_trail}
 use Rattle.clause_solver.proofs.Drains.{item_from, read_at}
 use Rattle.clause_solver.proofs.Openings.{swept_more, swept_end}
 use Rattle.clause_solver.proofs.nodes.first_open.Goals as goal
@@ -16,7 +16,7 @@ loop-l-preserved c =
     let items = c.as_slice-l-items.result.now in
     let same_place = c.place.ensures in
     let lt : c.place.result < length c.args.uses.now = search arith in
-    swept_more (among c.args.trail.now.1) c.args.own.now c.args.uses.now items c.loop-l.least c.lesser_open-least.result c.loop-l.l-index _ c.as_slice.result.now c.loop-l-test.true
+    swept_more (set_of_trail c.args.trail.now.1) c.args.own.now c.args.uses.now items c.loop-l.least c.lesser_open-least.result c.loop-l.l-index _ c.as_slice.result.now c.loop-l-test.true
     (read_at items items c.loop-l.l-index _ refl c.loop-l-test.true)
     (item_from c.args.uses.now c.place.result _ [] c.as_slice.result.now c.index-uses-place.result lt c.place.ensures c.as_slice.ensures c.index-uses-place.is)
     c.lesser_open-least.ensures c.loop-l.invariant

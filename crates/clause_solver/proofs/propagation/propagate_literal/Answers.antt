@@ -3,7 +3,7 @@ use Rattle.std.proofs.lemmas.Bool.{not-true}
 use Rattle.std.specs.Prelude.{map}
 use Rattle.search_terms.specs.Marks.{flag_place}
 use Rattle.search_terms.specs.Form.{conflict_sentence}
-use Rattle.clause_solver.specs.Marking.{among}
+use Rattle.clause_solver.specs.Marking.{set_of_trail}
 use Rattle.clause_solver.specs.Engine.{sentences_in}
 use Rattle.clause_solver.proofs.Running.{runs_more, runs_then}
 use Rattle.clause_solver.proofs.Drains.{whole_goals, whole_own, whole_conflicts, mark_negative, mark_positive, item_from, refuted_more}
@@ -29,7 +29,7 @@ returns-then-branch-2-clause-runs c =
 
 pub returns-then-branch-2-clause-refuted : goal.returns-then-branch-2-clause-refuted
 returns-then-branch-2-clause-refuted c =
-    refuted_more c.args.formula.now.own.now (sentences_in c.args.formula.now) (among c.propagate_row.new.trail.1) (whole_own c.args.formula.now.goals.now c.args.formula.now.own.now c.args.formula.now.conflicts.now) (rw c.if-branch-2.true at c.in_ok-propagate_row.ensures.refuted)
+    refuted_more c.args.formula.now.own.now (sentences_in c.args.formula.now) (set_of_trail c.propagate_row.new.trail.1) (whole_own c.args.formula.now.goals.now c.args.formula.now.own.now c.args.formula.now.conflicts.now) (rw c.if-branch-2.true at c.in_ok-propagate_row.ensures.refuted)
 
 pub returns-then-not-l-clause-runs : goal.returns-then-not-l-clause-runs
 returns-then-not-l-clause-runs c =
@@ -61,7 +61,7 @@ pub returns-then-branch-3-clause-refuted : goal.returns-then-branch-3-clause-ref
 returns-then-branch-3-clause-refuted c =
     let lt : c.args.l.class < length c.args.formula.now.conflicts.now = search arith in
     let others : c.as_slice-2.result.now ≡ get_or c.args.formula.now.conflicts.now c.args.l.class [] = item_from c.args.formula.now.conflicts.now c.args.l.class c.args.l.class [] c.as_slice-2.result.now c.index-conflicts-l.result lt refl c.as_slice-2.ensures c.index-conflicts-l.is in
-    refuted_more (map (conflict_sentence c.args.l.class) (get_or c.args.formula.now.conflicts.now c.args.l.class [])) (sentences_in c.args.formula.now) (among c.propagate_conflicts.new.trail.1) (whole_conflicts c.args.formula.now.goals.now c.args.formula.now.own.now c.args.formula.now.conflicts.now c.args.l.class)
+    refuted_more (map (conflict_sentence c.args.l.class) (get_or c.args.formula.now.conflicts.now c.args.l.class [])) (sentences_in c.args.formula.now) (set_of_trail c.propagate_conflicts.new.trail.1) (whole_conflicts c.args.formula.now.goals.now c.args.formula.now.own.now c.args.formula.now.conflicts.now c.args.l.class)
     (rw others at (rw c.if-branch-3.true at c.in_ok-propagate_conflicts.ensures.refuted))
 
 pub returns-clause-runs : goal.returns-clause-runs

@@ -1,5 +1,5 @@
 use Rattle.std.proofs.Common.{[]}
-use Rattle.clause_solver.specs.Marking.{among}
+use Rattle.clause_solver.specs.Marking.{set_of_trail}
 use Rattle.clause_solver.specs.Engine.{whole_form}
 use Rattle.clause_solver.proofs.Running.{runs_more, runs_then}
 use Rattle.clause_solver.proofs.Drains.{whole_own, refuted_more}
@@ -11,7 +11,7 @@ returns-then-branch-clause-at c =
     let F = whole_form [] c.args.own.now c.args.conflicts.now in
     let r = runs_more c.args.own.now F c.args.trail.now.1 c.propagate_all.new.trail.1 (whole_own [] c.args.own.now c.args.conflicts.now) c.in_ok-propagate_all.ensures.runs in
     root_clash F c.propagate_all.new.trail.1 (sound_from F c.args.trail.now.1 c.propagate_all.new.trail.1 (sound_none F c.args.trail.now.1 c.requires.none) r)
-    (refuted_more c.args.own.now F (among c.propagate_all.new.trail.1) (whole_own [] c.args.own.now c.args.conflicts.now) (rw c.if-branch.true at c.in_ok-propagate_all.ensures.refuted))
+    (refuted_more c.args.own.now F (set_of_trail c.propagate_all.new.trail.1) (whole_own [] c.args.own.now c.args.conflicts.now) (rw c.if-branch.true at c.in_ok-propagate_all.ensures.refuted))
 
 pub propagate-requires-clause-waits : goal.propagate-requires-clause-waits
 propagate-requires-clause-waits c = first_waits c.args.own.now c.args.conflicts.now c.args.trail.now.1 c.propagate_all.new.trail.1 c.requires.none c.requires.apart (rw c.if-branch.false at c.in_ok-propagate_all.ensures.waits)

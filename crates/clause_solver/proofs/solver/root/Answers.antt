@@ -1,4 +1,4 @@
-use Rattle.clause_solver.specs.Marking.{among}
+use Rattle.clause_solver.specs.Marking.{set_of_trail}
 use Rattle.clause_solver.specs.Engine.{sentences_in}
 use Rattle.clause_solver.proofs.Running.{runs_more, runs_then}
 use Rattle.clause_solver.proofs.Drains.{whole_goals, refuted_more}
@@ -10,7 +10,7 @@ returns-then-branch-clause-at c =
     let F = sentences_in c.args.formula.now in
     let r = runs_more c.args.formula.now.goals.now F c.args.trail.now.1 c.propagate_all.new.trail.1 (whole_goals c.args.formula.now.goals.now c.args.formula.now.own.now c.args.formula.now.conflicts.now) c.in_ok-propagate_all.ensures.runs in
     root_clash F c.propagate_all.new.trail.1 (sound_from F c.args.trail.now.1 c.propagate_all.new.trail.1 (base_sound c.args.formula.now.goals.now c.args.formula.now.own.now c.args.formula.now.conflicts.now c.args.trail.now.1 c.requires.base) r)
-    (refuted_more c.args.formula.now.goals.now F (among c.propagate_all.new.trail.1) (whole_goals c.args.formula.now.goals.now c.args.formula.now.own.now c.args.formula.now.conflicts.now) (rw c.if-branch.true at c.in_ok-propagate_all.ensures.refuted))
+    (refuted_more c.args.formula.now.goals.now F (set_of_trail c.propagate_all.new.trail.1) (whole_goals c.args.formula.now.goals.now c.args.formula.now.own.now c.args.formula.now.conflicts.now) (rw c.if-branch.true at c.in_ok-propagate_all.ensures.refuted))
 
 pub propagate-requires-clause-waits : goal.propagate-requires-clause-waits
 propagate-requires-clause-waits c =

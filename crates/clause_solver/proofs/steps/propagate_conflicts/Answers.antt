@@ -2,7 +2,7 @@ use Rattle.std.proofs.Common.{◌≡◌, ◌≤◌, ◌∙◌, length, arith, re
 use Rattle.std.specs.Prelude.{map}
 use Rattle.search_terms.specs.Closure.{literal}
 use Rattle.search_terms.specs.Form.{conflict_sentence}
-use Rattle.clause_solver.specs.Marking.{among}
+use Rattle.clause_solver.specs.Marking.{set_of_trail}
 use Rattle.clause_solver.proofs.Running.{sweep_runs, pair_in, sweep_end, excluded_more}
 use Rattle.clause_solver.proofs.steps.propagate_conflicts.Goals as goal
 
@@ -32,4 +32,4 @@ loop-q-preserved c =
 pub returns-clause-excluded : goal.returns-clause-excluded
 returns-clause-excluded c =
     let le : length c.args.others.now ≤ c.loop-q.q-index = omega (arith, c.loop-q-test.false) in
-    sweep_end (λ q. among c.loop-q.trail.1 (literal q false) ≡ true) c.args.others.now c.loop-q.q-index le c.loop-q.invariant.excluded
+    sweep_end (λ q. set_of_trail c.loop-q.trail.1 (literal q false) ≡ true) c.args.others.now c.loop-q.q-index le c.loop-q.invariant.excluded

@@ -2,7 +2,7 @@ use Rattle.std.proofs.Common.{◌≡◌, true, false, take}
 use Rattle.std.specs.Prelude.{All, map}
 use Rattle.search_terms.specs.Closure.{literal}
 use Rattle.search_terms.specs.Form.{conflict_sentence}
-use Rattle.clause_solver.specs.Marking.{among}
+use Rattle.clause_solver.specs.Marking.{set_of_trail}
 use Rattle.clause_solver.specs.Running.{Runs}
 use Rattle.clause_solver.proofs.steps.propagate_conflicts.Given as goal
 
@@ -10,5 +10,5 @@ abbrev pub invariant-loop-q : goal.invariant-loop-q
 invariant-loop-q l = record {
   classes : l.trail.0 ≡ l.initial.trail.0;
   runs : Runs (map (conflict_sentence l.class) l.others) l.initial.trail.1 l.trail.1;
-  excluded : All (λ q. among l.trail.1 (literal q false) ≡ true) (take l.q-index l.others);
+  excluded : All (λ q. set_of_trail l.trail.1 (literal q false) ≡ true) (take l.q-index l.others);
 }

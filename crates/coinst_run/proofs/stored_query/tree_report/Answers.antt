@@ -4,7 +4,7 @@ use Rattle.clause_pool.specs.Interned.{row_at}
 use Rattle.clause_solver.specs.Outcomes.{IsSearchOutcome}
 use Rattle.row_book.specs.Book.{repository_of}
 use Rattle.row_book.specs.Needs.{NeedsFit}
-use Rattle.coinst_run.specs.declared.answer.Verdict.TheVariants.{Done, Negative, Undecided}
+use Rattle.coinst_run.specs.declared.answer.ReportVerdict.TheVariants.{Done, Negative, Undecided}
 use Rattle.coinst_run.specs.Answer.{reported}
 use Rattle.coinst_run.specs.Course.{answers}
 use Rattle.coinst_run.specs.StoredQuery.{classes_text}

@@ -1,6 +1,6 @@
 use Rattle.std.proofs.Common.{◌≡◌, ◌+◌, ◌*◌, ◌-◌, ◌<◌, length}
 use Rattle.std.specs.List.{range_with_len}
-use Rattle.explain_core.specs.Core.{core_of, verdict_on}
+use Rattle.explain_core.specs.Core.{goal_core, verdict_on}
 use Rattle.explain_core.specs.Deletion.{kept_behind}
 use Rattle.explain_core.specs.Picking.{ArePlacesFrom1}
 use Rattle.explain_core.proofs.Told.{kept_marks}
@@ -8,7 +8,7 @@ use Rattle.explain_core.proofs.goals.core_of.Given as goal
 
 abbrev pub invariant-loop-place : goal.invariant-loop-place
 invariant-loop-place l = record {
-  left : core_of l.view.limit l.view.kernel.hold l.view.suite.home l.view.suite.packages l.budget l.goals
+  left : goal_core l.view.limit l.view.kernel.hold l.view.suite.home l.view.suite.packages l.budget l.goals
       ≡ kept_behind (verdict_on l.view.limit l.view.kernel.hold l.view.suite.home l.view.suite.packages l.budget l.goals) (kept_marks l.marks) (range_with_len (l.place + 1) (length l.goals - l.place));
   places : ArePlacesFrom1 l.place l.marks;
   some : 0 < l.block;

@@ -3,7 +3,7 @@ use Rattle.std.proofs.lemmas.Result.{err_from_is_err_and}
 use Rattle.repo_model.specs.Limits.{most_packages}
 use Rattle.migrate_plan.specs.Differing.{differing}
 use Rattle.migrate_plan.specs.Plan.{settings_of}
-use Rattle.migrate_plan.specs.Promises.{AreRight, TakesSafely, name_of}
+use Rattle.migrate_plan.specs.Promises.{AreRight, TakesSafely, planned_name}
 use Rattle.migrate_plan.proofs.Checked.{are_read, by_homes, by_length, by_names, by_packages, none_there}
 use Rattle.migrate_plan.proofs.Mixed.{mixes_are_indexes}
 use Rattle.migrate_plan.proofs.Planned.{plan_is, plan_names, plan_right, plan_safe}
@@ -64,7 +64,7 @@ pub returns-clause-mixes : goal.returns-clause-mixes
 returns-clause-mixes c = mixes_are_indexes c.args.old_bytes.now c.args.new_bytes.now c.requires.old.fine c.requires.new.fine (none_there c.args.old_bytes.now c.args.new_bytes.now c.args.old.now.suite.home c.args.new.now.home c.as_slice-before.result.now c.as_slice-after.result.now c.as_slice-names.result.now (are_read c.args.old_bytes.now c.args.new_bytes.now c.args.old.now.suite.home c.args.new.now.home c.args.old.now.suite.packages c.args.new.now.packages c.as_slice-before.result.now c.as_slice-after.result.now c.as_slice-names.result.now c.requires.old c.requires.new c.as_slice-before.ensures c.as_slice-after.ensures (c.as_slice-names.ensures ∙ c.in_ok-found.ensures)) c.in_ok-check_homes.ensures.fine c.in_ok-check_names.ensures.fine c.in_ok-check_packages.ensures.fine c.in_ok-check_length.ensures.fine)
 
 pub returns-clause-names : goal.returns-clause-names
-returns-clause-names c = ap (map name_of) (plan_is c.args.budget c.args.limit c.args.old.now.limit c.args.hold c.args.old.now.kernel.hold c.args.old_bytes.now c.args.new_bytes.now c.as_slice-names.result.now c.in_ok-lines.lines c.requires.old_limit c.requires.old_hold (are_read c.args.old_bytes.now c.args.new_bytes.now c.args.old.now.suite.home c.args.new.now.home c.args.old.now.suite.packages c.args.new.now.packages c.as_slice-before.result.now c.as_slice-after.result.now c.as_slice-names.result.now c.requires.old c.requires.new c.as_slice-before.ensures c.as_slice-after.ensures (c.as_slice-names.ensures ∙ c.in_ok-found.ensures)).names_are c.in_ok-lines.ensures) ∙ plan_names (settings_of c.args.budget c.args.limit c.args.hold) c.args.old_bytes.now c.args.new_bytes.now
+returns-clause-names c = ap (map planned_name) (plan_is c.args.budget c.args.limit c.args.old.now.limit c.args.hold c.args.old.now.kernel.hold c.args.old_bytes.now c.args.new_bytes.now c.as_slice-names.result.now c.in_ok-lines.lines c.requires.old_limit c.requires.old_hold (are_read c.args.old_bytes.now c.args.new_bytes.now c.args.old.now.suite.home c.args.new.now.home c.args.old.now.suite.packages c.args.new.now.packages c.as_slice-before.result.now c.as_slice-after.result.now c.as_slice-names.result.now c.requires.old c.requires.new c.as_slice-before.ensures c.as_slice-after.ensures (c.as_slice-names.ensures ∙ c.in_ok-found.ensures)).names_are c.in_ok-lines.ensures) ∙ plan_names (settings_of c.args.budget c.args.limit c.args.hold) c.args.old_bytes.now c.args.new_bytes.now
 
 pub returns-clause-each : goal.returns-clause-each
 returns-clause-each c = subst (AreRight (settings_of c.args.budget c.args.limit c.args.hold) c.args.old_bytes.now c.args.new_bytes.now []) (sym (plan_is c.args.budget c.args.limit c.args.old.now.limit c.args.hold c.args.old.now.kernel.hold c.args.old_bytes.now c.args.new_bytes.now c.as_slice-names.result.now c.in_ok-lines.lines c.requires.old_limit c.requires.old_hold (are_read c.args.old_bytes.now c.args.new_bytes.now c.args.old.now.suite.home c.args.new.now.home c.args.old.now.suite.packages c.args.new.now.packages c.as_slice-before.result.now c.as_slice-after.result.now c.as_slice-names.result.now c.requires.old c.requires.new c.as_slice-before.ensures c.as_slice-after.ensures (c.as_slice-names.ensures ∙ c.in_ok-found.ensures)).names_are c.in_ok-lines.ensures)) (plan_right (settings_of c.args.budget c.args.limit c.args.hold) c.args.old_bytes.now c.args.new_bytes.now)

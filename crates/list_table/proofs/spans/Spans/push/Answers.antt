@@ -1,7 +1,7 @@
 use Rattle.std.proofs.Common.{◌≡◌, ◌+◌, ◌++◌, ◌∷◌, [], length, subst, sym, ◌∙◌, ap, ap₂, arith, length-append}
 use Rattle.std.specs.Prelude.{Result, Ok, Err, OnErr}
 use Rattle.listed.proofs.Bools.{on_err}
-use Rattle.list_table.specs.Parts.{parts, Within}
+use Rattle.list_table.specs.Parts.{parts, SpansFit}
 use Rattle.list_table.proofs.Parts.{Within_more, Within_push, parts_grown, parts_push}
 use Rattle.list_table.proofs.spans.Spans.push.Goals as goal
 
@@ -9,7 +9,7 @@ pub invariant_of-self-in_err-push : goal.invariant_of-self-in_err-push
 invariant_of-self-in_err-push g c =
     let n : length c.extend_from_slice.new.self.items ≡ length c.self.inside.items.items + length c.args.list.now =
     ap length c.in_ok-extend_from_slice.ensures.items ∙ length-append c.self.inside.items.items c.args.list.now in
-    subst (λ e. Within (length c.extend_from_slice.new.self.items) e) (sym c.in_err-push.ensures.items)
+    subst (λ e. SpansFit (length c.extend_from_slice.new.self.items) e) (sym c.in_err-push.ensures.items)
     (Within_more (length c.self.inside.items.items) (length c.extend_from_slice.new.self.items) c.self.inside.ends.items (omega arith) c.self.invariant)
 
 pub returns-in_err-push-clause-err : goal.returns-in_err-push-clause-err
@@ -25,7 +25,7 @@ invariant_of-self-2 g c =
     ap length c.in_ok-extend_from_slice.ensures.items ∙ length-append c.self.inside.items.items c.args.list.now in
     let s : c.len-start.result ≡ length c.self.inside.items.items = omega (arith, c.len-start.ensures, c.self.inside.items.ok.0) in
     let e : c.saturating_add-end.result ≡ length c.extend_from_slice.new.self.items = omega (arith, c.if-end-gt-MOST.false) in
-    subst (λ e. Within (length c.extend_from_slice.new.self.items) e) (sym c.in_ok-push.ensures.items)
+    subst (λ e. SpansFit (length c.extend_from_slice.new.self.items) e) (sym c.in_ok-push.ensures.items)
     (Within_push (length c.extend_from_slice.new.self.items) c.self.inside.ends.items c.len-start.result c.saturating_add-end.result
     (Within_more (length c.self.inside.items.items) (length c.extend_from_slice.new.self.items) c.self.inside.ends.items (omega arith) c.self.invariant)
     (omega arith) (omega arith))

@@ -1,0 +1,121 @@
+-- The two sentences of empty indexes, and a kernel text that is not that of its index.
+use Rattle.std.proofs.Common.{◌≡◌, ℕ, ◌+◌, ◌<◌, false, List, [], ◌∷◌, ◌++◌, length, refl, ap, inl, arith, lit<}
+use Rattle.std.specs.Prelude.{codes}
+use Rattle.std.specs.Fmt.{digits}
+use Rattle.std.specs.List.{AllZip}
+use Rattle.coinst_words.specs.Usage.{Text}
+use Rattle.kernel_text.specs.Reading.{number_limit}
+use Rattle.listed.proofs.Lists.{In_none}
+use Rattle.relation_fields.specs.declared.packages.PackageFacts.{PackageFacts}
+use Rattle.repo_model.specs.Stanzas.{stanza_at, CoinstStanzas}
+use Rattle.row_book.specs.Clauses.{numbers}
+use Rattle.row_book.specs.Repository.{Coinst, Repository}
+use Rattle.row_book.specs.Sets.{Is, NumSet}
+use Rattle.suite_compare.specs.declared.report.ReportLine.{ReportLine}
+use Rattle.suite_compare.specs.declared.report.ReportLine.TheVariants.{Broken1, Broken2, Open1, Open2}
+use Rattle.claims.specs.Asked.{Has, IsAsked}
+use Rattle.claims.specs.Classes.{classes_of, IsItsClass}
+use Rattle.claims.specs.Control.{stanza_groups}
+use Rattle.claims.specs.Index.{IndexSays, Says}
+use Rattle.claims.specs.Laws.{a_package, empty_index, no_classes, no_home, no_lines, EmptyIndexes}
+use Rattle.claims.specs.Printed.{names_of, printed_comparison}
+use Rattle.claims.specs.Sentences.{IsFaithfulComparison, IsFaithfulKernel}
+use Rattle.claims.specs.Written.{StandsForKernel}
+use Rattle.claims.proofs.Written.{kernels_are_read_once}
+
+nothing_said : IndexSays [] no_home []
+unfolding stanza_groups
+nothing_said = record { each = tt; single = λ m n less l. absurd (let low : n < 0 = l in omega (arith, low)); local = λ a e. absurd (let no : ⊥ = cc in no) }
+
+abbrev no_repository : Repository
+no_repository = record { clauses = []; conflicts = [] }
+
+no_middle : {A : Type 0} (front back : List A) (x : A) → [] ≡ front ++ x ∷ back → ⊥
+no_middle [] back x e = cc
+no_middle (y ∷ front) back x e = cc
+
+it_stands : StandsForKernel no_classes 1 no_repository [] []
+unfolding digits number_limit numbers
+it_stands = record {
+  lines = record { head = codes "coinst-kernel 1"; blocks = []; end = codes "end 0 0"; cut = refl; of_format = refl; of_classes = tt; of_end = refl };
+  few = (lit< tt, lit< tt);
+  by_class = refl;
+  populated = λ n l. absurd (let low : n < 0 = l in omega (arith, low));
+  named = λ m i. absurd (In_none i);
+  single = λ before after m o e i. absurd (no_middle before after m e);
+  clauses = λ n. (tt, (λ c i. absurd (In_none i)));
+  count = refl;
+  conflicts = λ n. ((tt, (λ m i. absurd (In_none i))), (λ m i. absurd (In_none i)));
+  held_classes = (tt, (λ n i. absurd (In_none i)));
+  formats = inl (refl, refl);
+}
+
+together : (S : NumSet) → ((n : ℕ) → Is S n → n < 0) → CoinstStanzas no_home [] S
+together S inside = record {
+  whole = S;
+  healthy = record {
+    numbers = inside;
+    needs = λ n i element j. absurd (let low : n < 0 = inside n i in omega (arith, low));
+    conflicts = λ m n i j d atom k. absurd (let low : m < 0 = inside m i in omega (arith, low));
+    names = λ m n i j d. absurd (let low : m < 0 = inside m i in omega (arith, low));
+  };
+  contains = λ n i. i;
+}
+
+together_there : (S : NumSet) → Coinst no_repository (classes_of [] [] S)
+together_there S = record {
+  whole = λ n. false;
+  healthy = record { packages = λ n i. absurd (let no : ⊥ = cc in no); abundance = λ n i. absurd (let no : ⊥ = cc in no); peace = λ m n i j. absurd (let no : ⊥ = cc in no) };
+  contains = λ n i. i;
+}
+
+kernel_of_none : IsFaithfulKernel [] no_classes
+kernel_of_none = record {
+  home = no_home;
+  stanzas = [];
+  index = nothing_said;
+  format = 1;
+  repository = no_repository;
+  members = [];
+  held = [];
+  reads = it_stands;
+  once = kernels_are_read_once no_classes;
+  stands = λ i l. absurd (let low : i < 0 = l in omega (arith, low));
+  keeps = λ S inside. ((λ c. together_there S), (λ c. together S inside));
+}
+
+-- a stanza has no class in a text without one
+not_there : (k : IsFaithfulKernel a_package no_classes) (stanzas : List PackageFacts) → AllZip (Says k.home) (stanza_groups a_package) stanzas →
+    ((i : ℕ) → i < length stanzas → (c : ℕ) × IsItsClass (length k.repository.clauses) k.members (stanza_at stanzas i) c) → ⊥
+unfolding stanza_groups
+not_there k [] z s = z
+not_there k (facts ∷ more) z s =
+    let class = s 0 (omega arith) in
+    let none : k.repository ≡ no_repository = (k.once k.format 1 k.repository no_repository k.members [] k.held [] k.reads it_stands).1 in
+    let low : class.0 < length k.repository.clauses = (class.1).0 in
+    let zero : length k.repository.clauses ≡ 0 = ap (λ R. length R.clauses) none in
+    omega (arith, low, zero)
+
+has_none : (a : Text) → Has empty_index a → ⊥
+has_none a h = let low : h.0 < 0 = h.1 in omega (arith, low)
+
+none_asked : (l : ReportLine) → IsAsked empty_index empty_index (names_of l) → ⊥
+none_asked (Broken1 a) t = has_none a t.0
+none_asked (Open1 a) t = has_none a t.0
+none_asked (Broken2 a b) t = has_none a t.1.0
+none_asked (Open2 a b) t = has_none a t.1.0
+
+comparison_of_none : IsFaithfulComparison empty_index empty_index no_lines
+unfolding digits printed_comparison
+comparison_of_none = record {
+  older = nothing_said;
+  newer = nothing_said;
+  lines = [];
+  reads = refl;
+  broken = λ l e. ((λ i. absurd (In_none i)), (λ t. absurd (none_asked l t.0)));
+  undecided = λ l e. ((λ i. absurd (In_none i)), (λ t. absurd (none_asked l t.0)));
+  order = λ front middle back k l e. absurd (no_middle front (middle ++ l ∷ back) k e);
+}
+
+pub empty_indexes : EmptyIndexes
+empty_indexes = record { kernel = kernel_of_none; comparison = comparison_of_none; wrong = λ k. not_there k k.stanzas k.index.each k.stands }

@@ -14,7 +14,7 @@ use Rattle.row_book.specs.Uses.{row_id}
 use Rattle.row_book.specs.declared.book.Book.{Book}
 use Rattle.row_book.proofs.Lists.{In_cases, In_none, In_at, In_has, has_In, In_append_cases, In_append_left, In_append_right, In_map, In_map_cases, in_take, any_none}
 use Rattle.row_book.proofs.Books.{clauses_row}
-use Rattle.search_terms.specs.Certificate.{first_member, is_one_of}
+use Rattle.suite_compare.specs.FirstChoices.{first_member, is_one_of}
 use Rattle.search_terms.proofs.Ranges.{rows_long}
 use Rattle.suite_compare.specs.Choices.{AreBelow, ArePeaceful, ArePut, HaveFirsts, IsChosen, IsFollowed, with_class}
 

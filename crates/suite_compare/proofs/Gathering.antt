@@ -50,10 +50,10 @@ named_ascending stanzas goal = ascending_filter (λ n. is_named_by goal (stanza_
 -- some packages have some class
 pub image_filled : (limit : ℕ) (hold : Bool) → (home : Home) (stanzas : List PackageFacts) (chosen : List ℕ) → ((n : ℕ) → In n chosen → n < length stanzas) → 0 < length chosen → 0 < length (goal_classes limit hold (suite_repository home stanzas) chosen)
 image_filled limit hold home stanzas chosen within some =
-    let one = first_of chosen some in
+    let one = first_member chosen some in
     filled (goal_classes limit hold (suite_repository home stanzas) chosen) (kernel_class limit hold (suite_repository home stanzas) one.0)
     (classes_from limit hold (suite_repository home stanzas) (suite_sound home stanzas) chosen (λ n i. subst (λ size. n < size) (sym (length_clauses home stanzas)) (within n i)) one.0 one.1)
   where
-    first_of : (xs : List ℕ) → 0 < length xs → (x : ℕ) × In x xs
-    first_of [] l = absurd (omega arith)
-    first_of (x ∷ xs) l = (x, here)
+    first_member : (xs : List ℕ) → 0 < length xs → (x : ℕ) × In x xs
+    first_member [] l = absurd (omega arith)
+    first_member (x ∷ xs) l = (x, here)

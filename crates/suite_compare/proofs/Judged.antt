@@ -13,48 +13,39 @@ use Rattle.row_book.specs.Needs.{AreNeeds, IsNeed, NeedsFit}
 use Rattle.row_book.specs.Repository.{Repository}
 use Rattle.row_book.specs.declared.book.Book.{Book}
 use Rattle.row_book.proofs.Lists.{In_cases, In_none, In_at, item_in, has_In}
-use Rattle.search_terms.specs.Certificate.{IsFirstChoice}
+use Rattle.suite_compare.specs.FirstChoices.{IsFirstChoice}
 use Rattle.search_terms.specs.Form.{form}
 use Rattle.search_terms.specs.Tree.{Tree, IsTree, found_of, failed_leaves}
 use Rattle.search_terms.proofs.Computed.{search_tree_is}
 use Rattle.search_terms.specs.Closure.{InRange}
 use Rattle.search_terms.proofs.Found.{one_tree}
-use Rattle.search_terms.proofs.Picking.{certificate_tells, first_choice_certifies, first_choices_join}
 use Rattle.search_terms.proofs.Ranges.{form_ranged, rows_long}
 use Rattle.clause_solver.specs.Verdicts.{IsSearchVerdict, IsVerdictOf}
 use Rattle.clause_solver.specs.declared.outcomes.Verdict.{Verdict}
 use Rattle.clause_solver.specs.declared.outcomes.Verdict.TheVariants.{Yes, No, Spent}
-use Rattle.suite_compare.specs.Bad.{bad, bad_entry, AreAllBad, AreBad}
+use Rattle.suite_compare.specs.Bad.{bad, bad_entry, AreAllBadTo, AreBad, AreSingles}
 use Rattle.suite_compare.specs.Choices.{AreBelow, ArePeaceful}
-use Rattle.suite_compare.specs.Kinds.{alone, kernel_verdict, together}
+use Rattle.suite_compare.specs.Kinds.{alone, alone_in, kernel_in, kernel_verdict, together, together_in, IsJudge}
 use Rattle.suite_compare.specs.Asking.{tree_of, verdict_of}
 use Rattle.suite_compare.specs.Report.{is_yes}
 use Rattle.suite_compare.specs.Suspects.{AreChoices, AreSuspects}
-use Rattle.suite_compare.specs.declared.judge.Bad.{Bad}
+use Rattle.suite_compare.specs.declared.verdicts.Bad.{Bad}
+use Rattle.suite_compare.specs.declared.verdicts.Judge.{Judge}
 use Rattle.suite_compare.specs.declared.suspect.Choices.{Choices}
+use Rattle.suite_compare.proofs.FirstChoices.{choice_tells, choices_join}
 use Rattle.suite_compare.proofs.Groups.{pushed_at}
 
-pub need_lent : (kinds : List (List ℕ)) (k : ℕ) (item lent : List ℕ) → k < length kinds → lent ≡ item → item ≡ get_or kinds k item → AreNeeds kinds → IsNeed lent
-need_lent kinds k item lent l same is needs = subst IsNeed (sym same) (needs item (item_in kinds k item l is))
+pub need_at : (kinds : List (List ℕ)) (k : ℕ) → k < length kinds → AreNeeds kinds → IsNeed (listed_for kinds k)
+need_at kinds k l needs = needs (listed_for kinds k) (In_at kinds k [] l)
 
-pub lent_fits : (size : ℕ) (kinds : List (List ℕ)) (k : ℕ) (item lent : List ℕ) → k < length kinds → lent ≡ item → item ≡ get_or kinds k item → NeedsFit size kinds → AreBelow size lent
-lent_fits size kinds k item lent l same is fit = λ n j. fit item (item_in kinds k item l is) n (subst (λ z. In n z) same j)
+pub below_at : (size : ℕ) (kinds : List (List ℕ)) (k : ℕ) → k < length kinds → NeedsFit size kinds → AreBelow size (listed_for kinds k)
+below_at size kinds k l fit = fit (listed_for kinds k) (In_at kinds k [] l)
 
-pub one_fits : (size : ℕ) (kinds : List (List ℕ)) (k : ℕ) (item lent : List ℕ) (goals : List (List ℕ)) → k < length kinds → lent ≡ item → item ≡ get_or kinds k item → goals ≡ lent ∷ [] → NeedsFit size kinds → NeedsFit size goals
-one_fits size kinds k item lent goals l same is made fit c i = elim (In_cases (subst (λ z. In c z) made i)) [
-  | inl e ↦ λ n j. fit item (item_in kinds k item l is) n (subst (λ z. In n z) (e ∙ same) j)
-  | inr x ↦ absurd (In_none x)
-]
+pub one_fits : (size : ℕ) (kinds : List (List ℕ)) (k : ℕ) → k < length kinds → NeedsFit size kinds → NeedsFit size (listed_for kinds k ∷ [])
+one_fits size kinds k l fit c i = elim (In_cases i) [ inl e ↦ λ n j. below_at size kinds k l fit n (subst (λ z. In n z) e j) | inr x ↦ absurd (In_none x) ]
 
-pub two_fit : (size : ℕ) (kinds : List (List ℕ)) (k m : ℕ) (item lent other second : List ℕ) (goals : List (List ℕ)) → k < length kinds → m < length kinds → lent ≡ item → item ≡ get_or kinds k item
-    → second ≡ other → other ≡ get_or kinds m other → goals ≡ lent ∷ (second ∷ []) → NeedsFit size kinds → NeedsFit size goals
-two_fit size kinds k m item lent other second goals l lm same is same_2 is_2 made fit c i = elim (In_cases (subst (λ z. In c z) made i)) [
-  | inl e ↦ λ n j. fit item (item_in kinds k item l is) n (subst (λ z. In n z) (e ∙ same) j)
-  | inr r ↦ elim (In_cases r) [
-    | inl e ↦ λ n j. fit other (item_in kinds m other lm is_2) n (subst (λ z. In n z) (e ∙ same_2) j)
-    | inr x ↦ absurd (In_none x)
-  ]
-]
+pub pair_fits : (size : ℕ) (kinds : List (List ℕ)) (k m : ℕ) → k < length kinds → m < length kinds → NeedsFit size kinds → NeedsFit size (listed_for kinds k ∷ (listed_for kinds m ∷ []))
+pair_fits size kinds k m l lm fit c i = elim (In_cases i) [ inl e ↦ λ n j. below_at size kinds k l fit n (subst (λ z. In n z) e j) | inr r ↦ one_fits size kinds m lm fit c r ]
 
 is_past : (budget n : ℕ) → budget < n → ltb budget n ≡ true
 is_past budget n l = lt-ltb budget n l
@@ -93,17 +84,16 @@ yes_at Spent e = absurd (false≢true e)
 pub joined_yes : (pool : Interned) (book : Book) (budget : ℕ) (A B S T : List ℕ) → Sound pool book → NeedsFit (length book.rows) (A ∷ (B ∷ [])) → IsFirstChoice (repository_of pool book) (A ∷ []) (has S)
     → IsFirstChoice (repository_of pool book) (B ∷ []) (has T) → ArePeaceful book.conflicts S T → together (repository_of pool book) budget A B ≡ Yes
 joined_yes pool book budget A B S T sound fit first second peace =
-    let joined = first_choices_join (repository_of pool book) (A ∷ []) (B ∷ []) (has S) (has T) (λ m n h. sound.conflicts.either_way m n h) first second (λ m n i j. peace m n (has_In S m i) (has_In T n j)) in
-    let tells = certificate_tells (repository_of pool book) (A ∷ (B ∷ [])) (λ l. false) _ (tree_of (repository_of pool book) (A ∷ (B ∷ [])))
-    (first_choice_certifies (repository_of pool book) (A ∷ (B ∷ [])) _ joined) (tree_is pool book (A ∷ (B ∷ [])) sound fit) in
+    let R : Repository = repository_of pool book in
+    let joined = choices_join R (A ∷ []) (B ∷ []) (has S) (has T) (λ m n h. sound.conflicts.either_way m n h) first second (λ m n i j. peace m n (has_In S m i) (has_In T n j)) in
+    let tells = choice_tells R (A ∷ (B ∷ [])) _ joined (tree_of R (A ∷ (B ∷ []))) (tree_is pool book (A ∷ (B ∷ [])) sound fit) in
     found_yes budget (tree_of (repository_of pool book) (A ∷ (B ∷ []))) tells.0 tells.1.0 tells.1.1
   where
     found_yes : (budget : ℕ) (tree : Tree) → failed_leaves tree ≡ 0 → (chosen : List Bool) → found_of tree ≡ Some chosen → verdict_of budget tree ≡ Yes
     found_yes budget tree none chosen some = rw (le-ltb budget (failed_leaves tree) (omega arith), some) refl
 
-entry_cases : (K : Repository) (budget : ℕ) (kinds : List (List ℕ)) (singles : List Verdict) (kind other : ℕ) (b : Bad) → In b (bad_entry K budget kinds singles kind other)
-    → (is_yes (get_or singles other Spent) ≡ true) × (b ≡ bad other (together K budget (listed_for kinds kind) (listed_for kinds other)))
-entry_cases K budget kinds singles kind other b = by (is_yes (get_or singles other Spent)) (together K budget (listed_for kinds kind) (listed_for kinds other))
+entry_cases : (judge : Judge) (singles : List Verdict) (kind other : ℕ) (b : Bad) → In b (bad_entry judge singles kind other) → (is_yes (get_or singles other Spent) ≡ true) × (b ≡ bad other (together_in judge kind other))
+entry_cases judge singles kind other b = by (is_yes (get_or singles other Spent)) (together_in judge kind other)
   where
     by : (s : Bool) (v : Verdict) → In b (cond s (cond (is_yes v) [] (bad other v ∷ [])) []) → (s ≡ true) × (b ≡ bad other v)
     by false v i = absurd (In_none i)
@@ -111,9 +101,8 @@ entry_cases K budget kinds singles kind other b = by (is_yes (get_or singles oth
     by true No i = elim (In_cases i) [ inl e ↦ (refl, e) | inr x ↦ absurd (In_none x) ]
     by true Spent i = elim (In_cases i) [ inl e ↦ (refl, e) | inr x ↦ absurd (In_none x) ]
 
-entry_in : (K : Repository) (budget : ℕ) (kinds : List (List ℕ)) (singles : List Verdict) (kind other : ℕ) → is_yes (get_or singles other Spent) ≡ true
-    → In (bad other (together K budget (listed_for kinds kind) (listed_for kinds other))) (bad_entry K budget kinds singles kind other) ⊎ (together K budget (listed_for kinds kind) (listed_for kinds other) ≡ Yes)
-entry_in K budget kinds singles kind other = by (is_yes (get_or singles other Spent)) (together K budget (listed_for kinds kind) (listed_for kinds other))
+entry_in : (judge : Judge) (singles : List Verdict) (kind other : ℕ) → is_yes (get_or singles other Spent) ≡ true → In (bad other (together_in judge kind other)) (bad_entry judge singles kind other) ⊎ (together_in judge kind other ≡ Yes)
+entry_in judge singles kind other = by (is_yes (get_or singles other Spent)) (together_in judge kind other)
   where
     by : (s : Bool) (v : Verdict) → s ≡ true → In (bad other v) (cond s (cond (is_yes v) [] (bad other v ∷ [])) []) ⊎ (v ≡ Yes)
     by false v e = absurd (false≢true e)
@@ -121,104 +110,85 @@ entry_in K budget kinds singles kind other = by (is_yes (get_or singles other Sp
     by true No e = inl here
     by true Spent e = inl here
 
+-- the verdict on a kind, as it was found to say
+pub single_at : (judge : Judge) (singles : List Verdict) (k : ℕ) → k < length judge.kinds.items → AreSingles judge singles → get_or singles k Spent ≡ alone_in judge k
+single_at judge singles k l told = ap (λ z. get_or z k Spent) told ∙ get_or-map (alone (kernel_in judge) judge.budget) judge.kinds.items k [] Spent l
+
+pub single_yes : (judge : Judge) (singles : List Verdict) (k : ℕ) (v : Verdict) (r b : Bool) → k < length judge.kinds.items → AreSingles judge singles → v ≡ get_or singles k Spent → r ≡ is_yes v → r ≡ b → is_yes (alone_in judge k) ≡ b
+single_yes judge singles k v r b l told at is t = ap is_yes (sym (at ∙ single_at judge singles k l told)) ∙ sym is ∙ t
+
 -- the bad kinds of a kind that goes by itself
-pub bad_from : (pool : Interned) (book : Book) (budget : ℕ) (kinds : List (List ℕ)) (singles : List Verdict) (choices : Choices) (kind : ℕ) (suspects : List ℕ) (list : List Bad) → Sound pool book → NeedsFit (length book.rows) kinds
-    → kind < length kinds → singles ≡ map (alone (repository_of pool book) budget) kinds → AreChoices (repository_of pool book) kinds choices → AreSuspects book.conflicts choices.of.items kind suspects
-    → list ≡ flat_map (bad_entry (repository_of pool book) budget kinds singles kind) suspects → AreBad (repository_of pool book) budget kinds kind list
-bad_from pool book budget kinds singles choices kind suspects list sound fit l told chosen suspected made = record {
-  within = λ b i. let w = was b i in subst (λ z. z < length kinds) (sym (ap (λ z. z.kind) (entry b i).1)) (below w.0 w.1);
+pub bad_from : (judge : Judge) (singles : List Verdict) (choices : Choices) (kind : ℕ) (suspects : List ℕ) (list : List Bad) → IsJudge judge → kind < length judge.kinds.items → AreSingles judge singles
+    → AreChoices (kernel_in judge) judge.kinds.items choices → AreSuspects judge.book.now.conflicts choices.of.items kind suspects → list ≡ flat_map (bad_entry judge singles kind) suspects → AreBad judge kind list
+bad_from judge singles choices kind suspects list so l told chosen suspected made = record {
+  within = λ b i. let w = was b i in subst (λ z. z < length judge.kinds.items) (sym (ap (λ z. z.kind) (entry b i).1)) (below w.0 w.1);
   single = λ b i. let w = was b i in
-      subst (λ z. is_yes (alone (repository_of pool book) budget (listed_for kinds z)) ≡ true) (sym (ap (λ z. z.kind) (entry b i).1))
-      (ap is_yes (sym (single_at w.0 (below w.0 w.1))) ∙ (entry b i).0);
-  verdict = λ b i. ap (λ z. z.verdict) (entry b i).1 ∙ ap (λ z. together (repository_of pool book) budget (listed_for kinds kind) (listed_for kinds z)) (sym (ap (λ z. z.kind) (entry b i).1));
+      subst (λ z. is_yes (alone_in judge z) ≡ true) (sym (ap (λ z. z.kind) (entry b i).1)) (ap is_yes (sym (single_at judge singles w.0 (below w.0 w.1) told)) ∙ (entry b i).0);
+  verdict = λ b i. ap (λ z. z.verdict) (entry b i).1 ∙ ap (together_in judge kind) (sym (ap (λ z. z.kind) (entry b i).1));
   whole = λ first k m yes. elim (suspected.all k (subst (λ z. k < z) (sym chosen.chosen.long) m)) [
-    | inl i ↦ elim (entry_in (repository_of pool book) budget kinds singles kind k (ap is_yes (single_at k m) ∙ yes)) [
-      | inl e ↦ inl (bad k (together (repository_of pool book) budget (listed_for kinds kind) (listed_for kinds k)), subst (λ z. In (bad k (together (repository_of pool book) budget (listed_for kinds kind) (listed_for kinds k))) z) (sym made) (In_flat (bad_entry (repository_of pool book) budget kinds singles kind) suspects k (bad k (together (repository_of pool book) budget (listed_for kinds kind) (listed_for kinds k))) i e), refl)
+    | inl i ↦ elim (entry_in judge singles kind k (ap is_yes (single_at judge singles k m told) ∙ yes)) [
+      | inl e ↦ inl (bad k (together_in judge kind k), subst (λ z. In (bad k (together_in judge kind k)) z) (sym made) (In_flat (bad_entry judge singles kind) suspects k (bad k (together_in judge kind k)) i e), refl)
       | inr e ↦ inr e
     ]
-    | inr j ↦ inr (joined_yes pool book budget (listed_for kinds kind) (listed_for kinds k) (listed_for choices.of.items kind) (listed_for choices.of.items k) sound (both k m)
-        (chosen.chosen.each kind l j.first.0 j.first.1) (chosen.chosen.each k m j.second.0 j.second.1) j.peace)
+    | inr j ↦ inr (joined_yes judge.pool.now judge.book.now judge.budget (listed_for judge.kinds.items kind) (listed_for judge.kinds.items k) (listed_for choices.of.items kind) (listed_for choices.of.items k) so.sound
+        (pair_fits (length judge.book.now.rows) judge.kinds.items kind k l m so.fit) (chosen.chosen.each kind l j.first.0 j.first.1) (chosen.chosen.each k m j.second.0 j.second.1) j.peace)
   ];
 }
   where
-    was : (b : Bad) → In b list → (k : ℕ) × In k suspects × In b (bad_entry (repository_of pool book) budget kinds singles kind k)
-    was b i = In_flat_cases (bad_entry (repository_of pool book) budget kinds singles kind) suspects b (subst (λ z. In b z) made i)
+    was : (b : Bad) → In b list → (k : ℕ) × In k suspects × In b (bad_entry judge singles kind k)
+    was b i = In_flat_cases (bad_entry judge singles kind) suspects b (subst (λ z. In b z) made i)
 
-    entry : (b : Bad) (i : In b list) → (is_yes (get_or singles (was b i).0 Spent) ≡ true) × (b ≡ bad (was b i).0 (together (repository_of pool book) budget (listed_for kinds kind) (listed_for kinds (was b i).0)))
-    entry b i = entry_cases (repository_of pool book) budget kinds singles kind (was b i).0 b (was b i).2
+    entry : (b : Bad) (i : In b list) → (is_yes (get_or singles (was b i).0 Spent) ≡ true) × (b ≡ bad (was b i).0 (together_in judge kind (was b i).0))
+    entry b i = entry_cases judge singles kind (was b i).0 b (was b i).2
 
-    below : (k : ℕ) → In k suspects → k < length kinds
+    below : (k : ℕ) → In k suspects → k < length judge.kinds.items
     below k i = subst (λ z. k < z) chosen.chosen.long (suspected.only k i)
 
-    single_at : (k : ℕ) → k < length kinds → get_or singles k Spent ≡ alone (repository_of pool book) budget (listed_for kinds k)
-    single_at k m = ap (λ z. get_or z k Spent) told ∙ get_or-map (alone (repository_of pool book) budget) kinds k [] Spent m
-
-    both : (k : ℕ) → k < length kinds → NeedsFit (length book.rows) (listed_for kinds kind ∷ (listed_for kinds k ∷ []))
-    both k m c i = elim (In_cases i) [
-      | inl e ↦ λ n j. fit (listed_for kinds kind) (In_at kinds kind [] l) n (subst (λ z. In n z) e j)
-      | inr r ↦ elim (In_cases r) [ inl e ↦ λ n j. fit (listed_for kinds k) (In_at kinds k [] m) n (subst (λ z. In n z) e j) | inr x ↦ absurd (In_none x) ]
-    ]
-
 -- and of one that does not
-pub bad_none : (K : Repository) (budget : ℕ) (kinds : List (List ℕ)) (singles : List Verdict) (kind : ℕ) (v : Verdict) (r : Bool) (list : List Bad) → kind < length kinds → singles ≡ map (alone K budget) kinds
-    → v ≡ get_or singles kind Spent → r ≡ is_yes v → r ≡ false → list ≡ [] → AreBad K budget kinds kind list
-bad_none K budget kinds singles kind v r list l told at is not_yes e = record {
+pub bad_none : (judge : Judge) (kind : ℕ) (list : List Bad) → is_yes (alone_in judge kind) ≡ false → list ≡ [] → AreBad judge kind list
+bad_none judge kind list not_yes e = record {
   within = λ b i. absurd (none b i);
   single = λ b i. absurd (none b i);
   verdict = λ b i. absurd (none b i);
-  whole = λ first. absurd (both_ways (is_yes v) (sym is ∙ not_yes) (ap is_yes single ∙ first));
+  whole = λ first. absurd (both_ways (is_yes (alone_in judge kind)) not_yes first);
 }
   where
     none : (b : Bad) → In b list → ⊥
     none b i = In_none (subst (λ z. In b z) e i)
 
-    single : v ≡ alone K budget (listed_for kinds kind)
-    single = at ∙ ap (λ z. get_or z kind Spent) told ∙ get_or-map (alone K budget) kinds kind [] Spent l
+pub all_bad_none : (judge : Judge) (lists : List (List Bad)) → lists ≡ [] → AreAllBadTo judge lists 0
+all_bad_none judge lists e = record { long = ap length e; each = λ k l. absurd (omega arith) }
 
--- the lists of the first n kinds
-pub record AreAllBadTo (K : Repository) (budget : ℕ) (kinds : List (List ℕ)) (lists : List (List Bad)) (n : ℕ) : Type 0 where
-  pub long : length lists ≡ n
-  pub each : (k : ℕ) → k < n → AreBad K budget kinds k (get_or lists k [])
-
-pub all_bad_none : (K : Repository) (budget : ℕ) (kinds : List (List ℕ)) (lists : List (List Bad)) → lists ≡ [] → AreAllBadTo K budget kinds lists 0
-all_bad_none K budget kinds lists e = record { long = ap length e; each = λ k l. absurd (omega arith) }
-
-pub all_bad_more : (K : Repository) (budget : ℕ) (kinds : List (List ℕ)) (lists new : List (List Bad)) (list : List Bad) (n : ℕ) → new ≡ lists ++ list ∷ [] → AreBad K budget kinds n list
-    → AreAllBadTo K budget kinds lists n → AreAllBadTo K budget kinds new (n + 1)
-all_bad_more K budget kinds lists new list n made one so = record {
+pub all_bad_more : (judge : Judge) (lists new : List (List Bad)) (list : List Bad) (n : ℕ) → new ≡ lists ++ list ∷ [] → AreBad judge n list → AreAllBadTo judge lists n → AreAllBadTo judge new (n + 1)
+all_bad_more judge lists new list n made one so = record {
   long = ap length made ∙ length_push lists list ∙ ap (λ z. z + 1) so.long;
   each = λ k l. elim (pushed_at lists new list [] n k so.long made l) [
-    | inl w ↦ subst (λ z. AreBad K budget kinds k z) (sym w.1) (so.each k w.0)
-    | inr w ↦ subst (λ z. AreBad K budget kinds k z) (sym w.1) (subst (λ z. AreBad K budget kinds z list) (sym w.0) one)
+    | inl w ↦ subst (AreBad judge k) (sym w.1) (so.each k w.0)
+    | inr w ↦ subst (AreBad judge k) (sym w.1) (subst (λ z. AreBad judge z list) (sym w.0) one)
   ];
 }
 
-pub all_bad_all : (K : Repository) (budget : ℕ) (kinds : List (List ℕ)) (lists : List (List Bad)) (n : ℕ) → n ≡ length kinds → AreAllBadTo K budget kinds lists n → AreAllBad K budget kinds lists
-all_bad_all K budget kinds lists n e so = record { long = so.long ∙ e; each = λ k l. so.each k (omega arith) }
-
 -- one verdict more
-pub alone_more : (K : Repository) (budget : ℕ) (kinds : List (List ℕ)) (made new : List Verdict) (n : ℕ) (v : Verdict) → n < length kinds → v ≡ alone K budget (listed_for kinds n) → new ≡ made ++ v ∷ []
-    → made ≡ map (alone K budget) (take n kinds) → new ≡ map (alone K budget) (take (n + 1) kinds)
-alone_more K budget kinds made new n v l is e so = e ∙ ap (λ z. made ++ z ∷ []) is ∙ ap (λ z. z ++ alone K budget (listed_for kinds n) ∷ []) so ∙ sym (map_more (alone K budget) kinds n [] l)
+pub alone_more : (judge : Judge) (made new : List Verdict) (n : ℕ) (v : Verdict) → n < length judge.kinds.items → v ≡ alone_in judge n → new ≡ made ++ v ∷ []
+    → made ≡ map (alone (kernel_in judge) judge.budget) (take n judge.kinds.items) → new ≡ map (alone (kernel_in judge) judge.budget) (take (n + 1) judge.kinds.items)
+alone_more judge made new n v l is e so =
+    let f = alone (kernel_in judge) judge.budget in
+    e ∙ ap (λ z. made ++ z ∷ []) is ∙ ap (λ z. z ++ f (listed_for judge.kinds.items n) ∷ []) so ∙ sym (map_more f judge.kinds.items n [] l)
 
-pub alone_all : (K : Repository) (budget : ℕ) (kinds : List (List ℕ)) (made : List Verdict) (n : ℕ) → length kinds ≤ n → made ≡ map (alone K budget) (take n kinds) → made ≡ map (alone K budget) kinds
-alone_all K budget kinds made n l so = so ∙ ap (map (alone K budget)) (take_all n kinds l)
+pub alone_all : (judge : Judge) (made : List Verdict) (n : ℕ) → length judge.kinds.items ≤ n → made ≡ map (alone (kernel_in judge) judge.budget) (take n judge.kinds.items) → AreSingles judge made
+alone_all judge made n l so = so ∙ ap (map (alone (kernel_in judge) judge.budget)) (take_all n judge.kinds.items l)
 
-pub single_length : (K : Repository) (budget : ℕ) (kinds : List (List ℕ)) (singles : List Verdict) → singles ≡ map (alone K budget) kinds → length singles ≡ length kinds
-single_length K budget kinds singles e = ap length e ∙ length-map kinds (alone K budget)
+pub singles_long : (judge : Judge) (singles : List Verdict) → AreSingles judge singles → length singles ≡ length judge.kinds.items
+singles_long judge singles e = ap length e ∙ length-map judge.kinds.items (alone (kernel_in judge) judge.budget)
 
-pub single_within : (K : Repository) (budget : ℕ) (kinds : List (List ℕ)) (singles : List Verdict) (k : ℕ) → singles ≡ map (alone K budget) kinds → k < length kinds → k < length singles
-single_within K budget kinds singles k e l = subst (λ z. k < z) (sym (single_length K budget kinds singles e)) l
+pub entry_yes : (judge : Judge) (singles : List Verdict) (kind other : ℕ) → is_yes (together_in judge kind other) ≡ true → bad_entry judge singles kind other ≡ []
+entry_yes judge singles kind other both = elim (cases_Bool (is_yes (get_or singles other Spent))) [ inl t ↦ rw (t, both) refl | inr f ↦ rw f refl ]
 
-pub entry_yes : (K : Repository) (budget : ℕ) (kinds : List (List ℕ)) (singles : List Verdict) (kind other : ℕ) → is_yes (together K budget (listed_for kinds kind) (listed_for kinds other)) ≡ true → bad_entry K budget kinds singles kind other ≡ []
-entry_yes K budget kinds singles kind other yes_both = elim (cases_Bool (is_yes (get_or singles other Spent))) [ inl t ↦ rw (t, yes_both) refl | inr f ↦ rw f refl ]
+pub entry_off : (judge : Judge) (singles : List Verdict) (kind other : ℕ) → is_yes (get_or singles other Spent) ≡ false → bad_entry judge singles kind other ≡ []
+entry_off judge singles kind other off = rw off refl
 
-pub entry_off : (K : Repository) (budget : ℕ) (kinds : List (List ℕ)) (singles : List Verdict) (kind other : ℕ) → is_yes (get_or singles other Spent) ≡ false → bad_entry K budget kinds singles kind other ≡ []
-entry_off K budget kinds singles kind other off = rw off refl
-
-pub entry_bad : (K : Repository) (budget : ℕ) (kinds : List (List ℕ)) (singles : List Verdict) (kind other : ℕ) (v : Verdict) → is_yes (get_or singles other Spent) ≡ true → v ≡ together K budget (listed_for kinds kind) (listed_for kinds other)
-    → is_yes v ≡ false → bad_entry K budget kinds singles kind other ≡ bad other v ∷ []
-entry_bad K budget kinds singles kind other v single is off = rw (single, ap is_yes (sym is) ∙ off) (ap (λ z. bad other z ∷ []) (sym is))
+pub entry_bad : (judge : Judge) (singles : List Verdict) (kind other : ℕ) (v : Verdict) → is_yes (get_or singles other Spent) ≡ true → v ≡ together_in judge kind other → is_yes v ≡ false → bad_entry judge singles kind other ≡ bad other v ∷ []
+entry_bad judge singles kind other v single is off = rw (single, ap is_yes (sym is) ∙ off) (ap (λ z. bad other z ∷ []) (sym is))
 
 -- one item of a list more
 pub flat_step : {A X : Type 0} (f : A → List X) (xs : List A) (i : ℕ) (d : A) (lines : List X) → i < length xs → lines ≡ flat_map f (take i xs) → f (get_or xs i d) ≡ [] → lines ≡ flat_map f (take (i + 1) xs)

@@ -8,11 +8,13 @@ pub mod Answered
 pub mod Named
 pub mod Groups
 pub mod Numbered
+pub mod FirstChoices
 pub mod ClassSets
 pub mod Chosen
 pub mod Suspected
 pub mod Judged
 pub mod Rivals
+pub mod Swapped
 pub mod Gathered
 pub mod Told
 pub mod Reported

@@ -20,8 +20,9 @@ use Rattle.search_terms.proofs.Found.{one_tree}
 use Rattle.clause_solver.specs.Outcomes.{IsBudget}
 use Rattle.clause_solver.specs.declared.outcomes.Verdict.TheVariants.{No}
 use Rattle.suite_compare.specs.Asking.{tree_of, verdict_of}
-use Rattle.suite_compare.specs.Kinds.{together, AreRivals}
-use Rattle.suite_compare.proofs.Judged.{tree_is}
+use Rattle.suite_compare.specs.Kinds.{together, together_in, AreRivals, IsJudge}
+use Rattle.suite_compare.specs.declared.verdicts.Judge.{Judge}
+use Rattle.suite_compare.proofs.Judged.{pair_fits, tree_is}
 
 -- the class of a goal of one class is true at the root
 single_true : (R : Repository) (goals : List (List ℕ)) (p : ℕ) → In (p ∷ []) goals → InClosure (form R goals) [] (literal p true)
@@ -55,16 +56,7 @@ rivals_no pool book budget A B sound fit some rivals =
     ap (λ g. verdict_of budget (tree_of R g)) same ∙ ap (verdict_of budget) leaf ∙ rw (le-ltb budget 1 (omega (arith, some))) refl
 
 -- so two kinds are judged
-pub rivals_told : (pool : Interned) (book : Book) (budget : ℕ) (kinds : List (List ℕ)) (k m : ℕ) (A B : List ℕ) → Sound pool book → NeedsFit (length book.rows) kinds → IsBudget budget → k < length kinds → m < length kinds
-    → A ≡ listed_for kinds k → B ≡ listed_for kinds m → AreRivals book.conflicts A B → No ≡ together (repository_of pool book) budget (listed_for kinds k) (listed_for kinds m)
-rivals_told pool book budget kinds k m A B sound fit allowed l lm first second rivals =
-    sym (rivals_no pool book budget (listed_for kinds k) (listed_for kinds m) sound both allowed.0 (subst (λ z. AreRivals book.conflicts z (listed_for kinds m)) first (subst (λ z. AreRivals book.conflicts A z) second rivals)))
-  where
-    both : NeedsFit (length book.rows) (listed_for kinds k ∷ (listed_for kinds m ∷ []))
-    both c i = elim (In_cases i) [
-      | inl e ↦ λ n j. fit (listed_for kinds k) (In_at kinds k [] l) n (subst (λ z. In n z) e j)
-      | inr r ↦ elim (In_cases r) [ inl e ↦ λ n j. fit (listed_for kinds m) (In_at kinds m [] lm) n (subst (λ z. In n z) e j) | inr x ↦ absurd (In_none x) ]
-    ]
-
-pub lent_at : (kinds : List (List ℕ)) (k : ℕ) (item lent : List ℕ) → k < length kinds → lent ≡ item → item ≡ get_or kinds k item → lent ≡ listed_for kinds k
-lent_at kinds k item lent l same is = same ∙ is ∙ get_or_default kinds k item [] l
+pub rivals_told : (judge : Judge) (first second : ℕ) → IsJudge judge → first < length judge.kinds.items → second < length judge.kinds.items → AreRivals judge.book.now.conflicts (listed_for judge.kinds.items first) (listed_for judge.kinds.items second)
+    → No ≡ together_in judge first second
+rivals_told judge first second so l m rivals =
+    sym (rivals_no judge.pool.now judge.book.now judge.budget (listed_for judge.kinds.items first) (listed_for judge.kinds.items second) so.sound (pair_fits (length judge.book.now.rows) judge.kinds.items first second l m so.fit) so.allowed.0 rivals)

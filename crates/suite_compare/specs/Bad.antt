@@ -1,34 +1,45 @@
 -- for the bodies of this crate alone
 -- Kinds that do not go together, or are not known to.
-use Rattle.std.specs.Prelude.{◌≡◌, ℕ, ◌<◌, ◌⊎◌, true, if◌then◌else◌, List, [], ◌∷◌, length, slice_index_or}
+use Rattle.std.specs.Prelude.{◌≡◌, ℕ, ◌<◌, ◌==◌, ◌⊎◌, true, if◌then◌else◌, List, [], ◌∷◌, length, map, slice_index_or}
+use Rattle.std.specs.List.{find}
+use Rattle.std.specs.Option.{option_map_or}
 use Rattle.row_book.specs.Sets.{In}
-use Rattle.row_book.specs.Book.{listed_for}
-use Rattle.row_book.specs.Repository.{Repository}
 use Rattle.clause_solver.specs.declared.outcomes.Verdict.{Verdict}
 use Rattle.clause_solver.specs.declared.outcomes.Verdict.TheVariants.{Yes, Spent}
-use Rattle.suite_compare.specs.declared.judge.Bad.{Bad}
+use Rattle.suite_compare.specs.declared.verdicts.Bad.{Bad}
+use Rattle.suite_compare.specs.declared.verdicts.Judge.{Judge}
 use Rattle.suite_compare.specs.Report.{is_yes}
-use Rattle.suite_compare.specs.Kinds.{alone, together}
+use Rattle.suite_compare.specs.Kinds.{alone, alone_in, kernel_in, together_in}
+
+-- the verdict on each kind by itself
+abbrev pub AreSingles : Judge → List Verdict → Type 0
+AreSingles judge singles = singles ≡ map (alone (kernel_in judge) judge.budget) judge.kinds.items
 
 abbrev pub bad : ℕ → Verdict → Bad
 bad k verdict = record { kind = k; verdict = verdict }
 
 -- the entry of a kind that goes by itself, unless the verdict on both together is yes
-abbrev pub bad_entry : Repository → ℕ → List (List ℕ) → List Verdict → ℕ → ℕ → List Bad
-bad_entry K budget kinds singles kind other =
-    if is_yes (slice_index_or singles other Spent) then
-    (let verdict = together K budget (listed_for kinds kind) (listed_for kinds other) in if is_yes verdict then [] else bad other verdict ∷ [])
-    else []
+abbrev pub bad_entry : Judge → List Verdict → ℕ → ℕ → List Bad
+bad_entry judge singles kind other =
+    if is_yes (slice_index_or singles other Spent) then (let verdict = together_in judge kind other in if is_yes verdict then [] else bad other verdict ∷ []) else []
 
 -- kinds that go by themselves, with the verdict on both together, and each such kind unless that is yes
-pub record AreBad (K : Repository) (budget : ℕ) (kinds : List (List ℕ)) (kind : ℕ) (list : List Bad) : Type 0 where
-  pub within : (b : Bad) → In b list → b.kind < length kinds
-  pub single : (b : Bad) → In b list → is_yes (alone K budget (listed_for kinds b.kind)) ≡ true
-  pub verdict : (b : Bad) → In b list → b.verdict ≡ together K budget (listed_for kinds kind) (listed_for kinds b.kind)
-  pub whole : is_yes (alone K budget (listed_for kinds kind)) ≡ true → (k : ℕ) → k < length kinds → is_yes (alone K budget (listed_for kinds k)) ≡ true →
-      ((b : Bad) × In b list × (b.kind ≡ k)) ⊎ (together K budget (listed_for kinds kind) (listed_for kinds k) ≡ Yes)
+pub record AreBad (judge : Judge) (kind : ℕ) (list : List Bad) : Type 0 where
+  pub within : (b : Bad) → In b list → b.kind < length judge.kinds.items
+  pub single : (b : Bad) → In b list → is_yes (alone_in judge b.kind) ≡ true
+  pub verdict : (b : Bad) → In b list → b.verdict ≡ together_in judge kind b.kind
+  pub whole : is_yes (alone_in judge kind) ≡ true → (k : ℕ) → k < length judge.kinds.items → is_yes (alone_in judge k) ≡ true →
+      ((b : Bad) × In b list × (b.kind ≡ k)) ⊎ (together_in judge kind k ≡ Yes)
+
+-- the verdict with a kind that a list of bad kinds tells: that of its entry, or else yes
+abbrev pub entered_verdict : List Bad → ℕ → Verdict
+entered_verdict list kind = option_map_or (λ b. b.verdict) (find (λ b. b.kind == kind) list) Yes
+
+-- the bad kinds of each of the first n kinds
+pub record AreAllBadTo (judge : Judge) (lists : List (List Bad)) (n : ℕ) : Type 0 where
+  pub long : length lists ≡ n
+  pub each : (k : ℕ) → k < n → AreBad judge k (slice_index_or lists k [])
 
 -- the bad kinds of each kind
-pub record AreAllBad (K : Repository) (budget : ℕ) (kinds : List (List ℕ)) (lists : List (List Bad)) : Type 0 where
-  pub long : length lists ≡ length kinds
-  pub each : (k : ℕ) → k < length kinds → AreBad K budget kinds k (slice_index_or lists k [])
+abbrev pub AreAllBad : Judge → List (List Bad) → Type 0
+AreAllBad judge lists = AreAllBadTo judge lists (length judge.kinds.items)

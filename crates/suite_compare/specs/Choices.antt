@@ -4,7 +4,7 @@ use Rattle.std.specs.Prelude.{◌≡◌, ℕ, ◌<◌, Bool, true, false, if◌t
 use Rattle.row_book.specs.Sets.{In, has}
 use Rattle.row_book.specs.Book.{listed_for}
 use Rattle.row_book.specs.Repository.{Repository, clauses_of}
-use Rattle.search_terms.specs.Certificate.{first_member, is_one_of, IsFirstChoice}
+use Rattle.suite_compare.specs.FirstChoices.{first_member, is_one_of, IsFirstChoice}
 
 -- each number of the list is below the size
 abbrev pub AreBelow : ℕ → List ℕ → Type 0

@@ -5,13 +5,11 @@ use Rattle.row_book.specs.Sets.{In, has}
 use Rattle.row_book.specs.Book.{Sound, listed_for, repository_of}
 use Rattle.row_book.specs.Needs.{AreNeeds, NeedsFit}
 use Rattle.row_book.specs.Repository.{Repository}
-use Rattle.row_book.specs.declared.book.Book.{Book}
-use Rattle.clause_pool.specs.Interned.{Interned}
 use Rattle.suite_compare.specs.Asking.{tree_of, verdict_of}
 use Rattle.clause_solver.specs.Outcomes.{IsBudget}
 use Rattle.clause_solver.specs.Solvers.{IsReady}
-use Rattle.clause_solver.specs.declared.solver.Solver.{Solver}
 use Rattle.clause_solver.specs.declared.outcomes.Verdict.{Verdict}
+use Rattle.suite_compare.specs.declared.verdicts.Judge.{Judge}
 
 -- the verdict of a search in a kernel, for goals as lists of classes
 abbrev pub kernel_verdict : Repository → ℕ → List (List ℕ) → Verdict
@@ -30,6 +28,10 @@ pub record AreRivals (conflicts : List (List ℕ)) (first second : List ℕ) : T
   pub first_is : first ≡ one ∷ []
   pub second_is : second ≡ other ∷ []
   pub against : has (listed_for conflicts one) other ≡ true
+
+-- a goal of one class
+abbrev pub IsOneClass : List ℕ → Type 0
+IsOneClass goal = (c : ℕ) × (goal ≡ c ∷ [])
 
 -- the number of an item among others, behind which it is put where it is new
 pub record IsNumbered (old new : List (List ℕ)) (item : List ℕ) (k : ℕ) : Type 0 where
@@ -67,10 +69,21 @@ pub record AreJoined (old_of new_of olds news joint_of : List ℕ) : Type 0 wher
   pub only_old : (k : ℕ) → In k olds → In k old_of
   pub only_new : (k : ℕ) → In k news → In k new_of
 
+-- the kernel that a judge is asked of
+abbrev pub kernel_in : Judge → Repository
+kernel_in judge = repository_of judge.pool.now judge.book.now
+
+-- the verdict on one of its kinds by itself, and on two together
+abbrev pub alone_in : Judge → ℕ → Verdict
+alone_in judge k = alone (kernel_in judge) judge.budget (listed_for judge.kinds.items k)
+
+abbrev pub together_in : Judge → ℕ → ℕ → Verdict
+together_in judge first second = together (kernel_in judge) judge.budget (listed_for judge.kinds.items first) (listed_for judge.kinds.items second)
+
 -- what a search over kinds asks for: a sound book, a solver of it, kinds that are needs of its classes, and a budget
-pub record IsJudge (pool : Interned) (book : Book) (solver : Solver) (kinds : List (List ℕ)) (budget : ℕ) : Type 0 where
-  pub sound : Sound pool book
-  pub ready : IsReady (repository_of pool book) solver
-  pub needs : AreNeeds kinds
-  pub fit : NeedsFit (length book.rows) kinds
-  pub allowed : IsBudget budget
+pub record IsJudge (judge : Judge) : Type 0 where
+  pub sound : Sound judge.pool.now judge.book.now
+  pub ready : IsReady (kernel_in judge) judge.solver
+  pub needs : AreNeeds judge.kinds.items
+  pub fit : NeedsFit (length judge.book.now.rows) judge.kinds.items
+  pub allowed : IsBudget judge.budget

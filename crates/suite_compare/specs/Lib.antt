@@ -7,6 +7,7 @@ pub mod Answering
 pub mod Names
 pub mod Groups
 pub mod Kinds
+pub mod FirstChoices
 pub mod Choices
 pub mod Suspects
 pub mod Bad

@@ -5,11 +5,11 @@ ghost use Rattle.std.specs.List.{list_any};
 ghost use Rattle.row_book.specs.Sets.{In, has};
 ghost use Rattle.row_book.specs.Book.{listed_for, repository_of, Sound};
 ghost use Rattle.std.specs.Option.{option_to_list};
-ghost use Rattle.search_terms.specs.Certificate.{first_member};
+ghost use Rattle.suite_compare.specs.FirstChoices.{first_member};
 ghost use Rattle.suite_compare.specs.Choices.{AreBelow, ArePeaceful, HaveFirsts, IsChosen, IsFollowed};
 
 use crate::class_set::ClassSet;
-use crate::group::class_at;
+use crate::places::class_at;
 use clause_pool::{ClauseId, NumList, Pool};
 use listed::Listed;
 use row_book::Book;

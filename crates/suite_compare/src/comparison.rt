@@ -2,26 +2,27 @@
 //!
 //! Names with the same classes have the same verdicts, so kinds are asked. A pair is searched in the order of its names, since
 //! the number of failed leaves may depend on it.
-ghost use Rattle.std.specs.Prelude.{◌≡◌, ◌<◌, [], ℕ, List, IfOk, length, slice_index_or};
+ghost use Rattle.std.specs.Prelude.{◌≡◌, ◌<◌, [], ℕ, List, IfOk, length, map, slice_index_or};
 ghost use Rattle.row_book.specs.Book.{repository_of, Sound};
 ghost use Rattle.row_book.specs.Needs.{AreNeeds, NeedsFit};
 ghost use Rattle.row_book.specs.Sets.{In};
 ghost use Rattle.clause_solver.specs.Outcomes.{IsBudget};
 ghost use Rattle.clause_solver.specs.declared.outcomes.Verdict.{Verdict};
+ghost use Rattle.clause_solver.specs.declared.outcomes.Verdict.TheVariants.{Spent};
 ghost use Rattle.suite_compare.specs.Asking.{verdict_in};
-ghost use Rattle.suite_compare.specs.declared.judge.Bad.{Bad};
-ghost use Rattle.suite_compare.specs.Kinds.{IsJudge};
+ghost use Rattle.suite_compare.specs.declared.verdicts.Bad.{Bad};
+ghost use Rattle.suite_compare.specs.Kinds.{kernel_in, AreKinds, IsJudge};
 ghost use Rattle.suite_compare.specs.Names.{names_of_both};
 ghost use Rattle.suite_compare.specs.Comparing.{told_report, AreVerdicts, IsSide, IsTable};
+ghost use Rattle.suite_compare.specs.Partners.{IsJointTable};
 ghost use Rattle.suite_compare.specs.Report.{report};
 
-use crate::collect::{classes_of_names, names_among, packages_by_name};
-use crate::gather::{Partners, partners_of};
-use crate::group::{place_at, places_by};
-use crate::judge::{BadList, bad_lists, bads_at, verdicts_alone, verdicts_by};
-use crate::number::{Kinds, joints_of, kinds_of};
+use crate::gather::{JointTable, Partners, joint_table, new_kind, old_kind, partners_of};
+use crate::kinds::kinds_of;
+use crate::names::{classes_of_names, names_among, packages_by_name};
 use crate::report::{LineList, Report};
 use crate::tell::{tell_pairs, tell_singles};
+use crate::verdicts::{BadList, Judge, bad_lists, bads_at, verdicts_alone, verdicts_by};
 use crate::view::SuiteView;
 use clause_pool::{NumList, Pool};
 use clause_solver::{Solver, Verdict};
@@ -29,34 +30,44 @@ use deb_version::Bytes;
 use row_book::Book;
 use std::alloc::{AllocError, Global};
 
-/// One suite of a comparison: a solver of its kernel, the kinds of the names, and the verdict on each kind by itself.
+/// One suite of a comparison: its judge, the kind of each name, and the verdict on each kind by itself.
 #[derive(Drop)]
-struct Side {
-    solver: Solver,
-    kinds: Kinds,
+struct Side<'a> {
+    judge: Judge<'a>,
+    of: Vec<usize>,
     singles: Vec<Verdict>,
 }
 
 /// A suite of a comparison, from the classes of each name.
-fn side_of(
+fn side_of<'a>(
     alloc: Global,
-    pool: &Pool,
-    book: &Book,
+    pool: &'a Pool,
+    book: &'a Book,
     lists: &[NumList],
     budget: u64,
-) -> Result<Side, AllocError>
+) -> Result<Side<'a>, AllocError>
     requires sound { Sound pool.now book.now }
     requires needs { AreNeeds lists.now }
     requires fit { NeedsFit (length book.now.rows) lists.now }
     requires budget { IsBudget budget }
-    ensures { IfOk result (λ side. IsSide pool.now book.now lists.now budget side.solver side.kinds.lists.items side.kinds.of.items side.singles.items) }
+    ensures side { IfOk result (IsSide (length lists.now)) }
+    ensures kinds { IfOk result (λ side. AreKinds lists.now side.judge.kinds.items side.of.items) }
+    ensures kernel { IfOk result (λ side. kernel_in side.judge ≡ repository_of pool.now book.now) }
+    ensures budget { IfOk result (λ side. side.judge.budget ≡ budget) }
 {
     let solver = Solver::new(alloc, pool, book)?;
     let kinds = kinds_of(alloc, lists)?;
-    let singles = verdicts_alone(alloc, pool, book, &solver, kinds.lists.as_slice(), budget)?;
-    Ok(Side {
+    let judge = Judge {
+        pool,
+        book,
         solver,
-        kinds,
+        kinds: kinds.lists,
+        budget,
+    };
+    let singles = verdicts_alone(alloc, &judge)?;
+    Ok(Side {
+        judge,
+        of: kinds.of,
         singles,
     })
 }
@@ -64,107 +75,56 @@ fn side_of(
 /// For each joint (a kind in the old suite with one in the new), the names that are broken or open beside its names.
 fn all_partners(
     alloc: Global,
-    pool: &Pool,
-    book: &Book,
-    solver: &Solver,
-    kinds: &[NumList],
-    olds: &[usize],
-    news: &[usize],
-    joint_of: &[usize],
+    old: &Judge,
+    table: &JointTable,
     bad: &[BadList],
-    budget: u64,
 ) -> Result<Vec<Partners>, AllocError>
-    requires judge { IsJudge pool.now book.now solver.now kinds.now budget }
-    requires long { length olds.now ≡ length news.now }
-    requires olds { (k : ℕ) → In k olds.now → k < length kinds.now }
-    requires news { (k : ℕ) → In k news.now → k < length bad.now }
-    requires joints { (a : ℕ) → In a joint_of.now → a < length news.now }
+    requires judge { IsJudge old.now }
+    requires fits { IsJointTable table.now }
+    requires olds { (k : ℕ) → In k table.now.joints.old.items → k < length old.now.kinds.items }
+    requires count { length table.now.by_new.items ≡ length bad.now }
     requires bad { (k : ℕ) (b : Bad) → In b (slice_index_or bad.now k []) → b.kind < length bad.now }
-    ensures { IfOk result (λ table. IsTable (repository_of pool.now book.now) budget kinds.now olds.now news.now joint_of.now bad.now table.items) }
+    ensures { IfOk result (λ partners. IsTable old.now table.now bad.now partners.items) }
 {
-    let members = places_by(alloc, news.len(), joint_of)?;
-    let by_new = places_by(alloc, bad.len(), news)?;
-    let names = members.as_slice();
-    let joints = by_new.as_slice();
-    let mut table = Vec::new(alloc);
-    for joint in 0..news.len() {
-        let first = place_at(olds, joint);
-        let kind = place_at(news, joint);
-        let list = bads_at(bad, kind);
-        let partners = partners_of(
-            alloc, pool, book, solver, kinds, olds, names, joints, list, first, budget,
-        )?;
-        table.push(partners)?;
+    let mut made = Vec::new(alloc);
+    for joint in 0..table.joints.new.len() {
+        let first = old_kind(table, joint);
+        let kind = new_kind(table, joint);
+        let partners = partners_of(alloc, old, table, bads_at(bad, kind), first)?;
+        made.push(partners)?;
     }
-    Ok(table)
+    Ok(made)
 }
 
-/// The lines of a report on names, from their classes in both kernels.
-fn lines_of(
-    alloc: Global,
-    names: &[Bytes],
-    old_pool: &Pool,
-    old_book: &Book,
-    old_lists: &[NumList],
-    new_pool: &Pool,
-    new_book: &Book,
-    new_lists: &[NumList],
-    budget: u64,
-) -> Result<LineList, AllocError>
-    requires old_long { length old_lists.now ≡ length names.now }
-    requires new_long { length new_lists.now ≡ length names.now }
-    requires old_sound { Sound old_pool.now old_book.now }
-    requires new_sound { Sound new_pool.now new_book.now }
-    requires old_needs { AreNeeds old_lists.now }
-    requires new_needs { AreNeeds new_lists.now }
-    requires old_fit { NeedsFit (length old_book.now.rows) old_lists.now }
-    requires new_fit { NeedsFit (length new_book.now.rows) new_lists.now }
-    requires budget { IsBudget budget }
-    ensures { (v w : List (List ℕ) → Verdict) → AreVerdicts (repository_of old_pool.now old_book.now) budget names.now old_lists.now v →
-        AreVerdicts (repository_of new_pool.now new_book.now) budget names.now new_lists.now w → IfOk result (λ lines. lines ≡ told_report v w names.now) }
+/// The verdict on the kind of each name.
+fn verdicts_of(alloc: Global, side: &Side) -> Result<Vec<Verdict>, AllocError>
+    requires { IsSide (length side.now.of.items) side.now }
+    ensures { IfOk result (λ made. made.items ≡ map (λ k. slice_index_or side.now.singles.items k Spent) side.now.of.items) }
 {
-    let old = side_of(alloc, old_pool, old_book, old_lists, budget)?;
-    let old_kinds = old.kinds.lists.as_slice();
-    let old_of = old.kinds.of.as_slice();
-    let old_singles = old.singles.as_slice();
-    let new = side_of(alloc, new_pool, new_book, new_lists, budget)?;
-    let new_kinds = new.kinds.lists.as_slice();
-    let new_of = new.kinds.of.as_slice();
-    let new_singles = new.singles.as_slice();
-    let joined = joints_of(alloc, old_of, new_of)?;
-    let olds = joined.old.as_slice();
-    let news = joined.new.as_slice();
-    let joint_of = joined.of.as_slice();
-    let lists = bad_lists(
-        alloc,
-        new_pool,
-        new_book,
-        &new.solver,
-        new_kinds,
-        new_singles,
-        budget,
-    )?;
-    let bad = lists.as_slice();
-    let made = all_partners(
-        alloc,
-        old_pool,
-        old_book,
-        &old.solver,
-        old_kinds,
-        olds,
-        news,
-        joint_of,
-        bad,
-        budget,
-    )?;
-    let table = made.as_slice();
-    let before = verdicts_by(alloc, old_singles, old_of)?;
-    let after = verdicts_by(alloc, new_singles, new_of)?;
+    verdicts_by(alloc, &side.singles, &side.of)
+}
+
+/// The lines of a report on names, of which both suites have the kinds.
+fn lines_of(alloc: Global, names: &[Bytes], old: &Side, new: &Side) -> Result<LineList, AllocError>
+    requires old { IsSide (length names.now) old.now }
+    requires new { IsSide (length names.now) new.now }
+    ensures { (v w : List (List ℕ) → Verdict) → AreVerdicts old.now names.now v → AreVerdicts new.now names.now w → IfOk result (λ lines. lines ≡ told_report v w names.now) }
+{
+    let bad = bad_lists(alloc, &new.judge, &new.singles)?;
+    let table = joint_table(alloc, &old.of, &new.of, new.judge.kinds.len())?;
+    let partners = all_partners(alloc, &old.judge, &table, &bad)?;
+    let before = verdicts_of(alloc, old)?;
+    let after = verdicts_of(alloc, new)?;
     let mut lines = LineList::new(alloc);
-    let was = before.as_slice();
-    let is = after.as_slice();
-    tell_singles(alloc, names, was, is, &mut lines)?;
-    tell_pairs(alloc, names, is, joint_of, table, &mut lines)?;
+    tell_singles(alloc, names, &before, &after, &mut lines)?;
+    tell_pairs(
+        alloc,
+        names,
+        &after,
+        &table.joints.of,
+        &partners,
+        &mut lines,
+    )?;
     Ok(lines)
 }
 
@@ -193,16 +153,20 @@ pub fn compare(
     let names = found.as_slice();
     let old_lists = classes_of_names(alloc, old, &old_table, names)?;
     let new_lists = classes_of_names(alloc, new, &new_table, names)?;
-    let lines = lines_of(
+    let before = side_of(
         alloc,
-        names,
         &old.pool,
         &old.kernel.book,
         old_lists.as_slice(),
+        budget,
+    )?;
+    let after = side_of(
+        alloc,
         &new.pool,
         &new.kernel.book,
         new_lists.as_slice(),
         budget,
     )?;
+    let lines = lines_of(alloc, names, &before, &after)?;
     Ok(Report { lines })
 }

@@ -5,20 +5,30 @@
 ghost use Rattle.std.specs.Prelude.{◌≡◌, ◌<◌, ◌++◌, ℕ, IfOk, OnOk, length};
 ghost use Rattle.std.specs.List.{flat_map};
 ghost use Rattle.row_book.specs.Sets.{In};
-ghost use Rattle.row_book.specs.Book.{listed_for, repository_of};
-ghost use Rattle.suite_compare.specs.Kinds.{together, IsJudge};
+ghost use Rattle.row_book.specs.Book.{listed_for};
+ghost use Rattle.suite_compare.specs.Kinds.{together_in, AreJoined, IsJudge};
 ghost use Rattle.suite_compare.specs.Report.{finding};
-ghost use Rattle.suite_compare.specs.declared.judge.Bad.{Bad};
-ghost use Rattle.suite_compare.specs.Partners.{beside, beside_all, open_names, told_names, ArePartners};
+ghost use Rattle.suite_compare.specs.declared.verdicts.Bad.{Bad};
+ghost use Rattle.suite_compare.specs.Partners.{beside, beside_all, new_kind, old_kind, open_names, told_names, ArePartners, IsJointTable};
 
-use crate::group::{PlaceList, place_at, places_at, sort_once};
-use crate::judge::{Bad, verdict_together};
+use crate::kinds::{Joints, joints_of};
+use crate::places::{PlaceList, place_at, places_at, places_by, sort_once};
 use crate::report::{Finding, finding_of};
-use clause_pool::{NumList, Pool};
-use clause_solver::{Solver, Verdict};
+use crate::verdicts::{Bad, Judge, verdict_together};
+use clause_solver::Verdict;
 use listed::Listed;
-use row_book::Book;
 use std::alloc::{AllocError, Global};
+
+/// The pairs of kinds with what is asked of them.
+#[derive(Drop)]
+pub(crate) struct JointTable {
+    /// The pairs.
+    pub(crate) joints: Joints,
+    /// The names of each pair.
+    pub(crate) members: Vec<PlaceList>,
+    /// For each kind of the new suite the pairs that have it.
+    pub(crate) by_new: Vec<PlaceList>,
+}
 
 /// The names of which something is told beside the names of a pair of kinds, both lists ascending.
 #[derive(Drop)]
@@ -29,53 +39,106 @@ pub(crate) struct Partners {
     pub(crate) undecided: PlaceList,
 }
 
+/// Names as they are found: those of which something is told, and those that are open.
+#[derive(Drop)]
+struct Found {
+    told: Vec<usize>,
+    undecided: Vec<usize>,
+}
+
+/// The pairs of the kinds of each name in the old and in the new suite, of which the latter has so many.
+pub(crate) fn joint_table(
+    alloc: Global,
+    old_of: &[usize],
+    new_of: &[usize],
+    count: usize,
+) -> Result<JointTable, AllocError>
+    requires long { length old_of.now ≡ length new_of.now }
+    requires within { (k : ℕ) → In k new_of.now → k < count }
+    ensures joined { IfOk result (λ table. AreJoined old_of.now new_of.now table.joints.old.items table.joints.new.items table.joints.of.items) }
+    ensures fits { IfOk result IsJointTable }
+    ensures count { IfOk result (λ table. length table.by_new.items ≡ count) }
+{
+    let joints = joints_of(alloc, old_of, new_of)?;
+    let members = places_by(alloc, joints.new.len(), &joints.of)?;
+    let by_new = places_by(alloc, count, &joints.new)?;
+    Ok(JointTable {
+        joints,
+        members,
+        by_new,
+    })
+}
+
+/// The kind of a pair in the old suite.
+pub(crate) fn old_kind(table: &JointTable, joint: usize) -> usize
+    requires { joint < length table.now.joints.old.items }
+    ensures { result ≡ old_kind table.now joint }
+{
+    place_at(&table.joints.old, joint)
+}
+
+/// The kind of a pair in the new suite.
+pub(crate) fn new_kind(table: &JointTable, joint: usize) -> usize
+    requires { joint < length table.now.joints.new.items }
+    ensures { result ≡ new_kind table.now joint }
+{
+    place_at(&table.joints.new, joint)
+}
+
+/// The names of a pair.
+fn names_of(table: &JointTable, joint: usize) -> &[usize]
+    requires { joint < length table.now.members.items }
+    ensures { result.now ≡ listed_for table.now.members.items joint }
+{
+    places_at(&table.members, joint)
+}
+
+/// The pairs that have a kind in the new suite.
+fn joints_with(table: &JointTable, kind: usize) -> &[usize]
+    requires { kind < length table.now.by_new.items }
+    ensures { result.now ≡ listed_for table.now.by_new.items kind }
+{
+    places_at(&table.by_new, kind)
+}
+
 /// What is told of two kinds, by the verdict on them together in the new suite: the old suite is asked only where that is
 /// no.
 fn finding_with(
     alloc: Global,
-    pool: &Pool,
-    book: &Book,
-    solver: &Solver,
-    kinds: &[NumList],
+    old: &Judge,
     first: usize,
     second: usize,
     verdict: Verdict,
-    budget: u64,
 ) -> Result<Option<Finding>, AllocError>
-    requires judge { IsJudge pool.now book.now solver.now kinds.now budget }
-    requires first { first < length kinds.now }
-    requires second { second < length kinds.now }
-    ensures { IfOk result (λ told. told ≡ finding (together (repository_of pool.now book.now) budget (listed_for kinds.now first) (listed_for kinds.now second)) verdict) }
+    requires judge { IsJudge old.now }
+    requires first { first < length old.now.kinds.items }
+    requires second { second < length old.now.kinds.items }
+    ensures { IfOk result (λ told. told ≡ finding (together_in old.now first second) verdict) }
 {
     match verdict {
         Verdict::Yes => Ok(None),
         Verdict::Spent => Ok(Some(Finding::Open)),
         Verdict::No => {
-            let old = verdict_together(alloc, pool, book, solver, kinds, first, second, budget)?;
-            Ok(finding_of(old, Verdict::No))
+            let before = verdict_together(alloc, old, first, second)?;
+            Ok(finding_of(before, Verdict::No))
         }
     }
 }
 
 /// Puts the names behind the others, where something is told.
-fn add_names(
-    names: &[usize],
-    finding: Option<Finding>,
-    told: &mut Vec<usize>,
-    undecided: &mut Vec<usize>,
-) -> Result<(), AllocError>
-    ensures told { OnOk result (told.new.items ≡ told.old.items ++ told_names finding names.now) }
-    ensures undecided { OnOk result (undecided.new.items ≡ undecided.old.items ++ open_names finding names.now) }
+fn add_names(names: &[usize], finding: Option<Finding>, found: &mut Found) -> Result<(), AllocError>
+    ensures told { OnOk result (found.new.told.items ≡ found.old.told.items ++ told_names finding names.now) }
+    ensures undecided { OnOk result (found.new.undecided.items ≡ found.old.undecided.items ++ open_names finding names.now) }
 {
     match finding {
         None => Ok(()),
         Some(Finding::Broken) => {
-            told.extend_from_slice(names)?;
+            found.told.extend_from_slice(names)?;
             Ok(())
         }
         Some(Finding::Open) => {
-            told.extend_from_slice(names)?;
-            undecided.extend_from_slice(names)?;
+            found.told.extend_from_slice(names)?;
+            found.undecided.extend_from_slice(names)?;
             Ok(())
         }
     }
@@ -84,34 +147,26 @@ fn add_names(
 /// Puts the names of pairs of kinds that have one kind in the new suite behind the others, where something is told.
 fn add_joints(
     alloc: Global,
-    pool: &Pool,
-    book: &Book,
-    solver: &Solver,
-    kinds: &[NumList],
-    olds: &[usize],
-    members: &[PlaceList],
+    old: &Judge,
+    table: &JointTable,
     joints: &[usize],
     first: usize,
     verdict: Verdict,
-    budget: u64,
-    told: &mut Vec<usize>,
-    undecided: &mut Vec<usize>,
+    found: &mut Found,
 ) -> Result<(), AllocError>
-    requires judge { IsJudge pool.now book.now solver.now kinds.now budget }
-    requires first { first < length kinds.now }
-    requires olds { (k : ℕ) → In k olds.now → k < length kinds.now }
-    requires joints { (j : ℕ) → In j joints.now → j < length olds.now }
-    requires members { length members.now ≡ length olds.now }
-    ensures told { OnOk result (told.new.items ≡ told.old.items ++ flat_map (beside told_names (repository_of pool.now book.now) budget kinds.now olds.now members.now first verdict) joints.now) }
-    ensures undecided { OnOk result (undecided.new.items ≡ undecided.old.items ++ flat_map (beside open_names (repository_of pool.now book.now) budget kinds.now olds.now members.now first verdict) joints.now) }
+    requires judge { IsJudge old.now }
+    requires first { first < length old.now.kinds.items }
+    requires olds { (k : ℕ) → In k table.now.joints.old.items → k < length old.now.kinds.items }
+    requires fits { IsJointTable table.now }
+    requires joints { (j : ℕ) → In j joints.now → j < length table.now.joints.old.items }
+    ensures told { OnOk result (found.new.told.items ≡ found.old.told.items ++ flat_map (beside told_names old.now table.now first verdict) joints.now) }
+    ensures undecided { OnOk result (found.new.undecided.items ≡ found.old.undecided.items ++ flat_map (beside open_names old.now table.now first verdict) joints.now) }
 {
     for joint in joints {
-        let second = place_at(olds, *joint);
-        let finding = finding_with(
-            alloc, pool, book, solver, kinds, first, second, verdict, budget,
-        )?;
-        let names = places_at(members, *joint);
-        add_names(names, finding, told, undecided)?;
+        let second = old_kind(table, *joint);
+        let finding = finding_with(alloc, old, first, second, verdict)?;
+        let names = names_of(table, *joint);
+        add_names(names, finding, found)?;
     }
     Ok(())
 }
@@ -119,45 +174,23 @@ fn add_joints(
 /// Puts the names of which something is told behind the others, by the bad kinds.
 fn add_bad(
     alloc: Global,
-    pool: &Pool,
-    book: &Book,
-    solver: &Solver,
-    kinds: &[NumList],
-    olds: &[usize],
-    members: &[PlaceList],
-    by_new: &[PlaceList],
+    old: &Judge,
+    table: &JointTable,
     bad: &[Bad],
     first: usize,
-    budget: u64,
-    told: &mut Vec<usize>,
-    undecided: &mut Vec<usize>,
+    found: &mut Found,
 ) -> Result<(), AllocError>
-    requires judge { IsJudge pool.now book.now solver.now kinds.now budget }
-    requires first { first < length kinds.now }
-    requires olds { (k : ℕ) → In k olds.now → k < length kinds.now }
-    requires by_new { (k j : ℕ) → In j (listed_for by_new.now k) → j < length olds.now }
-    requires members { length members.now ≡ length olds.now }
-    requires bad { (b : Bad) → In b bad.now → b.kind < length by_new.now }
-    ensures told { OnOk result (told.new.items ≡ told.old.items ++ flat_map (beside_all told_names (repository_of pool.now book.now) budget kinds.now olds.now members.now by_new.now first) bad.now) }
-    ensures undecided { OnOk result (undecided.new.items ≡ undecided.old.items ++ flat_map (beside_all open_names (repository_of pool.now book.now) budget kinds.now olds.now members.now by_new.now first) bad.now) }
+    requires judge { IsJudge old.now }
+    requires first { first < length old.now.kinds.items }
+    requires olds { (k : ℕ) → In k table.now.joints.old.items → k < length old.now.kinds.items }
+    requires fits { IsJointTable table.now }
+    requires bad { (b : Bad) → In b bad.now → b.kind < length table.now.by_new.items }
+    ensures told { OnOk result (found.new.told.items ≡ found.old.told.items ++ flat_map (beside_all told_names old.now table.now first) bad.now) }
+    ensures undecided { OnOk result (found.new.undecided.items ≡ found.old.undecided.items ++ flat_map (beside_all open_names old.now table.now first) bad.now) }
 {
     for entry in bad {
-        let joints = places_at(by_new, entry.kind);
-        add_joints(
-            alloc,
-            pool,
-            book,
-            solver,
-            kinds,
-            olds,
-            members,
-            joints,
-            first,
-            entry.verdict,
-            budget,
-            told,
-            undecided,
-        )?;
+        let joints = joints_with(table, entry.kind);
+        add_joints(alloc, old, table, joints, first, entry.verdict, found)?;
     }
     Ok(())
 }
@@ -165,46 +198,27 @@ fn add_bad(
 /// The names of which something is told beside those of a pair of kinds, by the bad kinds.
 pub(crate) fn partners_of(
     alloc: Global,
-    pool: &Pool,
-    book: &Book,
-    solver: &Solver,
-    kinds: &[NumList],
-    olds: &[usize],
-    members: &[PlaceList],
-    by_new: &[PlaceList],
+    old: &Judge,
+    table: &JointTable,
     bad: &[Bad],
     first: usize,
-    budget: u64,
 ) -> Result<Partners, AllocError>
-    requires judge { IsJudge pool.now book.now solver.now kinds.now budget }
-    requires first { first < length kinds.now }
-    requires olds { (k : ℕ) → In k olds.now → k < length kinds.now }
-    requires by_new { (k j : ℕ) → In j (listed_for by_new.now k) → j < length olds.now }
-    requires members { length members.now ≡ length olds.now }
-    requires bad { (b : Bad) → In b bad.now → b.kind < length by_new.now }
-    ensures { IfOk result (ArePartners (repository_of pool.now book.now) budget kinds.now olds.now members.now by_new.now first bad.now) }
+    requires judge { IsJudge old.now }
+    requires first { first < length old.now.kinds.items }
+    requires olds { (k : ℕ) → In k table.now.joints.old.items → k < length old.now.kinds.items }
+    requires fits { IsJointTable table.now }
+    requires bad { (b : Bad) → In b bad.now → b.kind < length table.now.by_new.items }
+    ensures { IfOk result (ArePartners old.now table.now first bad.now) }
 {
-    let mut told = Vec::new(alloc);
-    let mut undecided = Vec::new(alloc);
-    add_bad(
-        alloc,
-        pool,
-        book,
-        solver,
-        kinds,
-        olds,
-        members,
-        by_new,
-        bad,
-        first,
-        budget,
-        &mut told,
-        &mut undecided,
-    )?;
-    sort_once(&mut told);
-    sort_once(&mut undecided);
+    let mut found = Found {
+        told: Vec::new(alloc),
+        undecided: Vec::new(alloc),
+    };
+    add_bad(alloc, old, table, bad, first, &mut found)?;
+    sort_once(&mut found.told);
+    sort_once(&mut found.undecided);
     Ok(Partners {
-        told: Listed::of(told),
-        undecided: Listed::of(undecided),
+        told: Listed::of(found.told),
+        undecided: Listed::of(found.undecided),
     })
 }

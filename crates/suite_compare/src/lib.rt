@@ -5,21 +5,21 @@ mod answers;
 mod ask;
 mod choose;
 mod class_set;
-mod collect;
 mod comparison;
 mod decision;
 mod gather;
-mod group;
 mod install;
-mod judge;
+mod kinds;
 mod laws;
-mod look;
-mod number;
+mod names;
+mod places;
 mod refusals;
 mod report;
 mod suspect;
 mod tell;
+mod verdicts;
 mod view;
+mod view_of;
 
 // A view: a suite with its kernel.
 pub use refusals::{LimitError, ViewError};
@@ -31,8 +31,8 @@ pub use ask::image_of;
 pub use decision::decide;
 
 // What a new suite has broken of an old one.
-pub use collect::packages_by_name;
 pub use comparison::compare;
+pub use names::packages_by_name;
 pub use report::{Finding, LineList, Report, ReportLine};
 
 // Laws.

@@ -8,7 +8,7 @@ ghost use Rattle.suite_compare.specs.Suspects.{AreAllChosen, AreChoices, AreHeld
 
 use crate::choose::first_choice;
 use crate::class_set::ClassSet;
-use crate::group::{PlaceList, classes_at, enter, places_at, sort_once};
+use crate::places::{PlaceList, classes_at, enter, places_at, sort_once};
 use clause_pool::{NumList, Pool};
 use listed::empty_lists;
 use row_book::Book;

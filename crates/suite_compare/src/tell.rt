@@ -9,7 +9,7 @@ ghost use Rattle.suite_compare.specs.Report.{is_yes, pair_line, single_line};
 ghost use Rattle.suite_compare.specs.Telling.{found_beside, partners_at, told_after, told_alone, told_pair};
 
 use crate::gather::Partners;
-use crate::group::{holds, place_at, verdict_at};
+use crate::places::{holds, place_at, verdict_at};
 use crate::report::{Finding, LineList, ReportLine, finding_of, is_yes};
 use clause_solver::Verdict;
 use deb_version::Bytes;

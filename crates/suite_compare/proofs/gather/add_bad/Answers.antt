@@ -1,6 +1,5 @@
-use Rattle.std.proofs.Common.{ap, get_or, subst, sym}
+use Rattle.std.proofs.Common.{◌<◌, ap, get_or, subst, sym}
 use Rattle.std.specs.List.{flat_map}
-use Rattle.row_book.specs.Book.{repository_of}
 use Rattle.row_book.specs.Sets.{In}
 use Rattle.row_book.proofs.Lists.{In_at}
 use Rattle.clause_solver.specs.declared.outcomes.Verdict.TheVariants.{Yes}
@@ -9,14 +8,16 @@ use Rattle.suite_compare.specs.Partners.{beside, beside_all, open_names, told_na
 use Rattle.suite_compare.proofs.Judged.{behind_more}
 use Rattle.suite_compare.proofs.gather.add_bad.Goals as goal
 
-pub places_at-joints-requires : goal.places_at-joints-requires
-places_at-joints-requires c = c.requires.bad _ (In_at c.args.bad.now c.loop-entry.entry-index (bad 0 Yes) c.loop-entry-test.true)
+pub joints_with-joints-requires : goal.joints_with-joints-requires
+joints_with-joints-requires c = c.requires.bad _ (In_at c.args.bad.now c.loop-entry.entry-index (bad 0 Yes) c.loop-entry-test.true)
 
 pub add_joints-requires-clause-joints : goal.add_joints-requires-clause-joints
-add_joints-requires-clause-joints c = λ j i. c.requires.by_new (get_or c.args.bad.now c.loop-entry.entry-index (bad 0 Yes)).kind j (subst (λ z. In j z) c.places_at-joints.ensures i)
+add_joints-requires-clause-joints c = λ j i. subst (λ z. j < z) (sym c.requires.fits.same) (c.requires.fits.sorted.only (get_or c.args.bad.now c.loop-entry.entry-index (bad 0 Yes)).kind j (subst (λ z. In j z) c.joints_with-joints.ensures i)).0
 
 pub loop-entry-preserved : goal.loop-entry-preserved
 loop-entry-preserved c = record {
-  told = behind_more (beside_all told_names (repository_of c.args.pool.now c.args.book.now) c.args.budget c.args.kinds.now c.args.olds.now c.args.members.now c.args.by_new.now c.args.first) c.args.bad.now c.loop-entry.entry-index (bad 0 Yes) c.args.told.now.items c.loop-entry.told.items c.add_joints.new.told.items _ c.loop-entry-test.true c.in_ok-add_joints.ensures.told c.loop-entry.invariant.told (ap (flat_map (beside told_names (repository_of c.args.pool.now c.args.book.now) c.args.budget c.args.kinds.now c.args.olds.now c.args.members.now c.args.first (get_or c.args.bad.now c.loop-entry.entry-index (bad 0 Yes)).verdict)) (sym c.places_at-joints.ensures));
-  undecided = behind_more (beside_all open_names (repository_of c.args.pool.now c.args.book.now) c.args.budget c.args.kinds.now c.args.olds.now c.args.members.now c.args.by_new.now c.args.first) c.args.bad.now c.loop-entry.entry-index (bad 0 Yes) c.args.undecided.now.items c.loop-entry.undecided.items c.add_joints.new.undecided.items _ c.loop-entry-test.true c.in_ok-add_joints.ensures.undecided c.loop-entry.invariant.undecided (ap (flat_map (beside open_names (repository_of c.args.pool.now c.args.book.now) c.args.budget c.args.kinds.now c.args.olds.now c.args.members.now c.args.first (get_or c.args.bad.now c.loop-entry.entry-index (bad 0 Yes)).verdict)) (sym c.places_at-joints.ensures));
+  told = behind_more (beside_all told_names c.args.old.now c.args.table.now c.args.first) c.args.bad.now c.loop-entry.entry-index (bad 0 Yes) c.args.found.now.told.items c.loop-entry.found.told.items c.add_joints.new.found.told.items _ c.loop-entry-test.true
+      c.in_ok-add_joints.ensures.told c.loop-entry.invariant.told (ap (flat_map (beside told_names c.args.old.now c.args.table.now c.args.first (get_or c.args.bad.now c.loop-entry.entry-index (bad 0 Yes)).verdict)) (sym c.joints_with-joints.ensures));
+  undecided = behind_more (beside_all open_names c.args.old.now c.args.table.now c.args.first) c.args.bad.now c.loop-entry.entry-index (bad 0 Yes) c.args.found.now.undecided.items c.loop-entry.found.undecided.items c.add_joints.new.found.undecided.items _ c.loop-entry-test.true
+      c.in_ok-add_joints.ensures.undecided c.loop-entry.invariant.undecided (ap (flat_map (beside open_names c.args.old.now c.args.table.now c.args.first (get_or c.args.bad.now c.loop-entry.entry-index (bad 0 Yes)).verdict)) (sym c.joints_with-joints.ensures));
 }

@@ -1,0 +1,133 @@
+-- Two goals of which one is a single class have one tree in both orders: that goal is met at the root, so it is never the
+-- open need that a node takes up.
+use Rattle.std.proofs.Common.{◌≡◌, ℕ, eqb, Option, Some, None, ◌<◌, ◌⊎◌, inl, inr, true, false, ◌||◌, List, [], ◌∷◌, ◌++◌, Bool, length, arith, slice_index_or, refl, sym, ◌∙◌, ap, subst}
+use Rattle.std.specs.Prelude.{Contains}
+use Rattle.std.specs.List.{find}
+use Rattle.std.specs.Option.{option_map_or}
+use Rattle.std.proofs.lemmas.Bool.{and_from, both_ways, eq-eqb, eqb-true, or_left}
+use Rattle.std.proofs.lemmas.List.Elements.{All-contains, All-head}
+use Rattle.listed.proofs.Lists.{contains_in, in_contains}
+use Rattle.clause_pool.specs.Interned.{Interned}
+use Rattle.row_book.specs.Sets.{In, here, there}
+use Rattle.row_book.specs.Book.{listed_for, repository_of, Sound}
+use Rattle.row_book.specs.Needs.{NeedsFit}
+use Rattle.row_book.specs.Repository.{Repository}
+use Rattle.row_book.specs.declared.book.Book.{Book}
+use Rattle.search_terms.specs.declared.literals.Literal.{Literal}
+use Rattle.search_terms.specs.Closure.{literal, negation, is_same, forces, IsMet, IsUnitClosed, IsClosure, InClosure}
+use Rattle.search_terms.specs.Form.{form, goal_sentence, repository_form}
+use Rattle.search_terms.specs.Tree.{is_open_need, Tree, IsTree}
+use Rattle.search_terms.specs.Tree.Tree.{failed_leaf, found_leaf, split}
+use Rattle.search_terms.proofs.Certificates.{same_refl}
+use Rattle.search_terms.proofs.Found.{one_tree}
+use Rattle.search_terms.proofs.Sets.{find_none, find_some}
+use Rattle.clause_solver.specs.declared.outcomes.Verdict.{Verdict}
+use Rattle.clause_solver.specs.declared.outcomes.Verdict.TheVariants.{Yes}
+use Rattle.clause_solver.proofs.Calm.{closure_closed}
+use Rattle.clause_solver.proofs.Preparing.{clash_part}
+use Rattle.clause_solver.proofs.Running.{closed_part}
+use Rattle.suite_compare.specs.Asking.{tree_of, verdict_of}
+use Rattle.suite_compare.specs.Bad.{entered_verdict, AreAllBadTo}
+use Rattle.suite_compare.specs.Kinds.{alone_in, kernel_in, together, together_in, IsJudge, IsOneClass}
+use Rattle.suite_compare.specs.Report.{is_yes}
+use Rattle.suite_compare.specs.declared.verdicts.Bad.{Bad}
+use Rattle.suite_compare.specs.declared.verdicts.Judge.{Judge}
+use Rattle.suite_compare.proofs.Judged.{pair_fits, tree_is}
+
+swap_in : {X : Type 0} {a b x : X} {rest : List X} → In x (a ∷ (b ∷ rest)) → In x (b ∷ (a ∷ rest))
+swap_in here = there here
+swap_in (there here) = here
+swap_in (there (there i)) = there (there i)
+
+swap_contains : (a b : List Literal) (rest : List (List Literal)) (s : List Literal) → Contains (a ∷ (b ∷ rest)) s → Contains (b ∷ (a ∷ rest)) s
+swap_contains a b rest s c = in_contains (b ∷ (a ∷ rest)) s (swap_in (contains_in (a ∷ (b ∷ rest)) s c))
+
+-- the closure asks for no order of the sentences
+closure_swap : (a b : List Literal) (rest : List (List Literal)) (given : List Literal) (set : Literal → Bool) → IsClosure (a ∷ (b ∷ rest)) given set → IsClosure (b ∷ (a ∷ rest)) given set
+closure_swap a b rest given set c = record {
+  sound = λ l h. λ s holds closed. c.sound l h s holds (closed_part (a ∷ (b ∷ rest)) (b ∷ (a ∷ rest)) s (swap_contains a b rest) closed);
+  whole = λ l h. c.whole l (λ s holds closed. h s holds (closed_part (b ∷ (a ∷ rest)) (a ∷ (b ∷ rest)) s (swap_contains b a rest) closed));
+}
+
+find_swap : (p : List Literal → Bool) (a b : List Literal) (rest : List (List Literal)) → p a ≡ false → find p (b ∷ (a ∷ rest)) ≡ find p (a ∷ (b ∷ rest))
+find_swap p a b rest e = rw e refl
+
+-- a goal of one class is met in each closed set
+one_is_met : (c : ℕ) (rest : List (List Literal)) (set : Literal → Bool) → IsUnitClosed (goal_sentence (c ∷ []) ∷ rest) set → is_open_need set (goal_sentence (c ∷ [])) ≡ false
+one_is_met c rest set closed =
+    let l = literal c true in
+    let forced : forces set l (l ∷ []) ≡ true = and_from (is_same l l || set (negation l)) true (or_left (is_same l l) (set (negation l)) (same_refl l)) refl in
+    let met : set l ≡ true = All-head (λ m. forces set m (l ∷ []) ≡ true → set m ≡ true) l [] (All-head (IsMet set) (goal_sentence (c ∷ [])) rest closed.steps) forced in
+    rw met refl
+
+tree_swap : (n c : ℕ) (b : List Literal) (rest : List (List Literal)) (given : List Literal) (tree : Tree) → IsTree n (goal_sentence (c ∷ []) ∷ (b ∷ rest)) given tree → IsTree n (b ∷ (goal_sentence (c ∷ []) ∷ rest)) given tree
+tree_swap n c b rest given failed_leaf is =
+    clash_part (goal_sentence (c ∷ []) ∷ (b ∷ rest)) (b ∷ (goal_sentence (c ∷ []) ∷ rest)) given (swap_contains (goal_sentence (c ∷ [])) b rest) is
+tree_swap n c b rest given (found_leaf chosen) is = record {
+  set = is.set;
+  closure = closure_swap (goal_sentence (c ∷ [])) b rest given is.set is.closure;
+  calm = λ k. is.calm (clash_part (b ∷ (goal_sentence (c ∷ []) ∷ rest)) (goal_sentence (c ∷ []) ∷ (b ∷ rest)) given (swap_contains b (goal_sentence (c ∷ [])) rest) k);
+  met = find_swap (is_open_need is.set) (goal_sentence (c ∷ [])) b rest
+      (one_is_met c (b ∷ rest) is.set (closure_closed (goal_sentence (c ∷ []) ∷ (b ∷ rest)) given is.set is.closure)) ∙ is.met;
+  long = is.long;
+  each = is.each;
+}
+tree_swap n c b rest given (split d left right) is = (
+  record {
+    set = is.0.set;
+    closure = closure_swap (goal_sentence (c ∷ [])) b rest given is.0.set is.0.closure;
+    calm = λ k. is.0.calm (clash_part (b ∷ (goal_sentence (c ∷ []) ∷ rest)) (goal_sentence (c ∷ []) ∷ (b ∷ rest)) given (swap_contains b (goal_sentence (c ∷ [])) rest) k);
+    need = is.0.need;
+    first = find_swap (is_open_need is.0.set) (goal_sentence (c ∷ [])) b rest
+        (one_is_met c (b ∷ rest) is.0.set (closure_closed (goal_sentence (c ∷ []) ∷ (b ∷ rest)) given is.0.set is.0.closure)) ∙ is.0.first;
+    member = is.0.member;
+    least = is.0.least;
+    named = is.0.named;
+  },
+  tree_swap n c b rest (given ++ literal d true ∷ []) left is.1,
+  tree_swap n c b rest (given ++ literal d false ∷ []) right is.2,
+)
+
+-- so the verdict on two kinds of which one is a single class is that in the other order
+one_swap : (pool : Interned) (book : Book) (budget c : ℕ) (B : List ℕ) → Sound pool book → NeedsFit (length book.rows) ((c ∷ []) ∷ (B ∷ [])) → NeedsFit (length book.rows) (B ∷ ((c ∷ []) ∷ []))
+    → together (repository_of pool book) budget (c ∷ []) B ≡ together (repository_of pool book) budget B (c ∷ [])
+one_swap pool book budget c B sound fit back =
+    let R : Repository = repository_of pool book in
+    ap (verdict_of budget)
+    (one_tree (length R.clauses) (form R (B ∷ ((c ∷ []) ∷ []))) [] (tree_of R (B ∷ ((c ∷ []) ∷ []))) (tree_of R ((c ∷ []) ∷ (B ∷ [])))
+    (tree_is pool book (B ∷ ((c ∷ []) ∷ [])) sound back)
+    (tree_swap (length R.clauses) c (goal_sentence B) (repository_form R) [] (tree_of R ((c ∷ []) ∷ (B ∷ []))) (tree_is pool book ((c ∷ []) ∷ (B ∷ [])) sound fit)))
+
+single_swap : (judge : Judge) (first second : ℕ) → IsJudge judge → first < length judge.kinds.items → second < length judge.kinds.items → IsOneClass (listed_for judge.kinds.items first) → together_in judge first second ≡ together_in judge second first
+single_swap judge first second so l m one =
+    subst (λ z. NeedsFit (length judge.book.now.rows) (z ∷ (listed_for judge.kinds.items second ∷ [])) → NeedsFit (length judge.book.now.rows) (listed_for judge.kinds.items second ∷ (z ∷ []))
+    → together (kernel_in judge) judge.budget z (listed_for judge.kinds.items second) ≡ together (kernel_in judge) judge.budget (listed_for judge.kinds.items second) z)
+    (sym one.1) (one_swap judge.pool.now judge.book.now judge.budget one.0 (listed_for judge.kinds.items second) so.sound)
+    (pair_fits (length judge.book.now.rows) judge.kinds.items first second l m so.fit) (pair_fits (length judge.book.now.rows) judge.kinds.items second first m l so.fit)
+
+pub one_class : (goal : List ℕ) → length goal ≡ 1 → IsOneClass goal
+one_class [] e = absurd (omega (arith, e))
+one_class (c ∷ []) e = (c, refl)
+one_class (c ∷ (d ∷ rest)) e = absurd (omega (arith, e))
+
+-- the list of an earlier kind tells the verdict
+pub entered_told : (judge : Judge) (lists : List (List Bad)) (first second : ℕ) (v : Verdict) → IsJudge judge → first < length judge.kinds.items → second < length judge.kinds.items
+    → AreAllBadTo judge lists (length lists) → second < length lists → is_yes (alone_in judge first) ≡ true → is_yes (alone_in judge second) ≡ true
+    → IsOneClass (listed_for judge.kinds.items first) ⊎ IsOneClass (listed_for judge.kinds.items second) → v ≡ entered_verdict (slice_index_or lists second []) first → v ≡ together_in judge first second
+entered_told judge lists first second v so l m earlier lt first_yes second_yes single entered = entered ∙ told (find (λ b. eqb b.kind first) list) refl ∙ swapped single
+  where
+    list : List Bad
+    list = slice_index_or lists second []
+
+    told : (o : Option Bad) → find (λ b. eqb b.kind first) list ≡ o → option_map_or (λ b. b.verdict) o Yes ≡ together_in judge second first
+    told (Some b) e =
+        let found = find_some (λ x. eqb x.kind first) list b e in
+        (earlier.each second lt).verdict b (contains_in list b found.0) ∙ ap (together_in judge second) (eqb-true b.kind first found.1)
+    told None e = elim ((earlier.each second lt).whole second_yes first l first_yes) [
+      | inl w ↦ absurd (both_ways (eqb w.0.kind first) (All-contains (λ x. eqb x.kind first ≡ false) list w.0 (find_none (λ x. eqb x.kind first) list e) (in_contains list w.0 w.1)) (eq-eqb w.0.kind first w.2))
+      | inr both ↦ sym both
+    ]
+
+    swapped : IsOneClass (listed_for judge.kinds.items first) ⊎ IsOneClass (listed_for judge.kinds.items second) → together_in judge second first ≡ together_in judge first second
+    swapped (inl one) = sym (single_swap judge first second so l m one)
+    swapped (inr one) = single_swap judge second first so m l one

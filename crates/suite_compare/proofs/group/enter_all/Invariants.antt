@@ -1,5 +1,0 @@
-use Rattle.suite_compare.proofs.Groups.{ArePlacesTo}
-use Rattle.suite_compare.proofs.group.enter_all.Given as goal
-
-abbrev pub invariant-loop-place : goal.invariant-loop-place
-invariant-loop-place l = ArePlacesTo l.place l.keys l.table

@@ -1,0 +1,5 @@
+use Rattle.suite_compare.proofs.Groups.{ArePlacesTo}
+use Rattle.suite_compare.proofs.places.enter_all.Given as goal
+
+abbrev pub invariant-loop-place : goal.invariant-loop-place
+invariant-loop-place l = ArePlacesTo l.place l.keys l.table

@@ -11,4 +11,3 @@ pub mod Certificates
 pub mod Forms
 pub mod Ranges
 pub mod Found
-pub mod Picking

@@ -4,5 +4,4 @@ pub mod Form
 pub mod Derives
 pub mod Tree
 pub mod SearchTree
-pub mod Certificate
 pub mod Laws

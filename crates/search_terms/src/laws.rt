@@ -1,6 +1,5 @@
 //! The laws of search trees and logs: the functions do nothing, the contract of each is one law.
 ghost use Rattle.search_terms.specs.Laws.{TreeIsThere, TreeIsOne, SearchTreeIs, BudgetIsEnough, SmallTreesAreWalked, LogIsShort, FoundIsModel, LogDerives, DerivesNoModel, DerivesNoSolution, ModelsAreHealthy, FindsHealthy};
-ghost use Rattle.search_terms.specs.Certificate.{CertificateTells, CertificatesJoin, FirstChoiceCertifies, FirstChoicesJoin};
 
 /// Each formula has a tree.
 pub fn tree_is_there()
@@ -60,24 +59,4 @@ pub fn models_are_healthy()
 /// A tree finds something exactly where some healthy set hits every goal.
 pub fn finds_healthy()
     ensures { FindsHealthy }
-{}
-
-/// Where there is a certificate, the tree finds something and has no failed leaf before it.
-pub fn certificate_tells()
-    ensures { CertificateTells }
-{}
-
-/// Certificates that are at peace certify both lists of goals together.
-pub fn certificates_join()
-    ensures { CertificatesJoin }
-{}
-
-/// A first choice is a certificate.
-pub fn first_choice_certifies()
-    ensures { FirstChoiceCertifies }
-{}
-
-/// Two first choices that are at peace are one for both lists of goals together.
-pub fn first_choices_join()
-    ensures { FirstChoicesJoin }
 {}

@@ -15,7 +15,8 @@ use Rattle.search_terms.specs.Form.{form}
 use Rattle.claims.specs.Kernel.{SettlesTo}
 use Rattle.claims.specs.Search.{Searched}
 
--- an index, and how a search in it is made: the clause limit of its kernel, with hold or without, and the budget of failed leaves
+-- an index, and how a search in it is made: the clause limit of its kernel, with hold or without (with it, a package whose elimination
+-- would pass the limit stays), and the budget of failed leaves
 pub record ComparedIndex : Type 0 where
   pub text : Text
   pub home : Home
@@ -24,10 +25,11 @@ pub record ComparedIndex : Type 0 where
   pub hold : Bool
   pub budget : ℕ
 
--- how an index is searched: a number that is not given is the default
+-- how an index is searched: a number that is not given is the default, 10,000 failed leaves and 65,536 clauses
 abbrev pub IsSearched : Option ℕ → Option ℕ → Bool → ComparedIndex → Type 0
 IsSearched budget limit hold s = (s.budget ≡ unwrap_or budget 10000) × (s.limit ≡ unwrap_or limit 65536) × (s.hold ≡ hold)
 
+-- some package of the index has this name
 abbrev pub Has : ComparedIndex → Text → Type 0
 Has s name = (n : ℕ) × (n < length s.stanzas) × ((stanza_at s.stanzas n).name ≡ name)
 
@@ -39,7 +41,7 @@ Installs s names = (whole : NumSet) × HealthyStanzas s.home s.stanzas whole × 
 abbrev pub named_packages : ComparedIndex → Text → List ℕ
 named_packages s name = filter (λ n. bytes_eq name (stanza_at s.stanzas n).name) (packages_of s.stanzas)
 
--- so many leaves fail in the search in the kernel for a class of each name, until it finds some or has none left
+-- so many leaves fail in the search in the kernel for a class of each of these names: before the first find, or in the whole tree
 abbrev pub Fails : ComparedIndex → List Text → ℕ → Type 0
 Fails s names leaves = (K : Repository) × (images : List NumSet) × SettlesTo s.limit s.hold (suite_repository s.home s.stanzas) (map (λ name. has (named_packages s name)) names) K images ×
     ((found : Bool) × Searched (form K (map (λ image. filter image (packages K)) images)) [] found leaves)
@@ -52,7 +54,7 @@ Spends s names = (leaves : ℕ) × Fails s names leaves × (s.budget < leaves)
 abbrev pub FoundInstallable : ComparedIndex → List Text → Type 0
 FoundInstallable s names = (¬ (Spends s names)) × Installs s names
 
--- found not to be: the search stays within the budget, and they cannot
+-- found uninstallable: the search stays within the budget, and no healthy set has a package of each of these names
 abbrev pub FoundUninstallable : ComparedIndex → List Text → Type 0
 FoundUninstallable s names = (¬ (Spends s names)) × (¬ (Installs s names))
 

@@ -17,6 +17,6 @@ is_in_class members s n = list_any (λ m. bytes_eq m.name s.name && bytes_eq m.v
 abbrev pub classes_of : List PackageFacts → List Member → NumSet → NumSet
 classes_of stanzas members S n = list_any (λ i. S i && is_in_class members (stanza_at stanzas i) n) (packages_of stanzas)
 
--- the class is the only one, of so many, that has a member line of the stanza
+-- the class is one of so many, and it and no other has a member line of the stanza
 abbrev pub IsItsClass : ℕ → List Member → PackageFacts → ℕ → Type 0
 IsItsClass classes members s k = (k < classes) × ((n : ℕ) → (is_in_class members s n ≡ true) ↔ (n ≡ k))

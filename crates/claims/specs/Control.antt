@@ -10,7 +10,7 @@ use Rattle.stanza_reader.specs.Fields.{behind_colon, continued, is_field_name, l
 use Rattle.stanza_reader.specs.Lines.{is_blank, is_continuation, is_line_feed}
 use Rattle.coinst_words.specs.Usage.{Text}
 
--- the groups of lines that stand together, between the blank ones
+-- the groups of lines that stand together, between the blank ones: those that are empty or have only spaces and tabs
 unfoldable pub stanza_groups : Text → List (List Text)
 stanza_groups text = filter (λ group. nat_lt 0 (length group)) (slice_split is_blank (slice_split is_line_feed text))
 
@@ -32,7 +32,8 @@ abbrev pub AreDistinct : List Text → Type 0
 AreDistinct [] = Unit {0}
 AreDistinct (t ∷ ts) = ((u : Text) → In u ts → t ≢ u) × AreDistinct ts
 
--- a group is a stanza: it begins with a field, each field has a name and a colon, and no two have one name
+-- a group is a stanza: it begins with a field, each field has a name and a colon behind it, and no two have one name. A colon in a
+-- continuation line does not help, since the name would have a line feed
 pub record IsStanza (group : List Text) : Type 0 where
   pub first : is_continuation (slice_index_or group 0 []) ≡ false
   pub named : (field : Text) → In field (fields group) → (list_any is_colon field && is_field_name (name_of field)) ≡ true

@@ -28,7 +28,7 @@ is_one_package name version other_name other_version = bytes_eq name other_name 
 abbrev pub FitsHome : Home → Text → Type 0
 FitsHome home architecture = (architecture ≡ codes "all") ⊎ ((home.name ≡ Some architecture) × (is_architecture architecture ≡ true))
 
--- the group is a stanza that says this of its package; where it names no architecture, that is `all`
+-- the group is a stanza that says this of its package, but for the number of its line; where it names no architecture, that is `all`
 pub record Says (home : Home) (group : List Text) (facts : PackageFacts) : Type 0 where
   pub stanza : IsStanza group
   pub name : (field_value (codes "package") group ≡ Some facts.name) × (is_name facts.name ≡ true)
@@ -38,7 +38,8 @@ pub record Says (home : Home) (group : List Text) (facts : PackageFacts) : Type 
   pub against : AllZip WritesAtom (relation_elements (codes "conflicts") group ++ relation_elements (codes "breaks") group) facts.against
   pub provides : AllZip WritesProvide (relation_elements (codes "provides") group) facts.provides
 
--- the text is an index of these packages, none of which stands there twice, and the home is that of a stanza, where it has a name
+-- the text is an index of these packages, of any number, none of them twice; the home, if it has a name, is the architecture of some stanza, and
+-- not `all`
 pub record IndexSays (text : Text) (home : Home) (stanzas : List PackageFacts) : Type 0 where
   pub each : AllZip (Says home) (stanza_groups text) stanzas
   pub single : (m n : ℕ) → m < n → n < length stanzas → is_one_package (stanza_at stanzas n).name (stanza_at stanzas n).version (stanza_at stanzas m).name (stanza_at stanzas m).version ≡ false

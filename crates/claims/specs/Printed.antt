@@ -9,13 +9,14 @@ use Rattle.kernel_text.specs.KernelLines.{with_feed}
 use Rattle.suite_compare.specs.declared.report.ReportLine.{ReportLine}
 use Rattle.suite_compare.specs.declared.report.ReportLine.TheVariants.{Broken1, Broken2, Open1, Open2}
 
--- the names of a line, and its text
+-- the names of a line
 abbrev pub names_of : ReportLine → List Text
 names_of (Broken1 a) = a ∷ []
 names_of (Broken2 a b) = a ∷ b ∷ []
 names_of (Open1 a) = a ∷ []
 names_of (Open2 a b) = a ∷ b ∷ []
 
+-- its text: `broken` or `open`, and the names, with a space before each
 abbrev pub printed_line : ReportLine → Text
 printed_line l = with_feed ((if is_broken l then codes "broken" else codes "open") ++ flat_map (λ name. codes " " ++ name) (names_of l))
 

@@ -10,7 +10,7 @@ use Rattle.search_terms.specs.declared.literals.Literal.{Literal}
 abbrev pub class_to_ask : (Literal → Bool) → List (List Literal) → Option ℕ
 class_to_ask set formula = option_and_then (λ need. option_map (λ l. l.class) (find (is_undecided set) need)) (find (is_open_need set) formula)
 
--- the closure does not clash, and the class is asked for behind it, or none is
+-- the closure of the decisions does not clash, and the search splits on this class next, or on none, since no need is open
 abbrev pub Asks : List (List Literal) → List Literal → Option ℕ → Type 0
 Asks formula decisions class = (¬ (Clashes formula decisions)) × ((set : Literal → Bool) × ((l : Literal) → (set l ≡ true) ↔ InClosure formula decisions l) × (class_to_ask set formula ≡ class))
 

@@ -19,7 +19,7 @@ use Rattle.claims.specs.Words.{compare_words, kernel_words}
 use Rattle.claims.specs.Written.{StandsForKernel, StandsForOne}
 
 -- `kernel`. The text is an index of these stanzas, and the printed bytes stand for exactly one format, repository, list of members and
--- list of held classes. Each stanza stands in one class, and a set of stanzas can be installed together exactly when its classes can in
+-- list of held classes. Each stanza stands in exactly one class, and a set of stanzas can be installed together exactly when its classes can in
 -- the repository. The clause `meaning` of `run` says besides that the repository is the kernel at the limit that was asked for, and who
 -- its members are.
 pub record IsFaithfulKernel (text printed : Text) : Type 0 where

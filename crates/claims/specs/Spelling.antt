@@ -12,7 +12,7 @@ use Rattle.relation_fields.specs.Spelling.{SpellsOp, SpellsQualifier}
 use Rattle.claims.specs.Texts.{IsWhite}
 use Rattle.coinst_words.specs.Usage.{Text}
 
--- a restriction, or nothing: an operator and a version in parentheses, with white space around each
+-- a restriction, or nothing: an operator and a version in parentheses; white space may stand around each
 abbrev pub WritesRestriction : Text → Option Bound → Type 0
 WritesRestriction text None = text ≡ []
 WritesRestriction text (Some bound) = (front operator middle back : Text) × IsWhite (front ++ (middle ++ back)) × SpellsOp operator bound.op × (is_version bound.version ≡ true) ×

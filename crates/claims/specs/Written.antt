@@ -39,7 +39,7 @@ pub record AreKernelLines (text : Text) (format : ℕ) (R : Repository) (members
   pub of_classes : AllZip (IsClassBlock R members held) (numbers (length R.clauses) 0) blocks
   pub of_end : end ≡ codes "end" ++ (behind_space (length R.clauses) ++ behind_space (length members))
 
--- a clause of a class, one of so many: ascending, of other classes
+-- the numbers of a line of class n, of so many classes: ascending, each of them a class other than n
 abbrev pub IsClause : ℕ → ℕ → List ℕ → Type 0
 IsClause size n c = Ascending c × ((m : ℕ) → In m c → (m < size) × (m ≢ n))
 
@@ -59,7 +59,7 @@ pub record StandsForKernel (text : Text) (format : ℕ) (R : Repository) (member
   pub held_classes : Ascending held × ((n : ℕ) → In n held → n < length R.clauses)
   pub formats : ((format ≡ 1) × (held ≡ [])) ⊎ (format ≡ 2)
 
--- whatever two kernels the text stands for are one
+-- the text stands for one kernel at most: whatever two it stands for are one
 abbrev pub StandsForOne : Text → Type 0
 StandsForOne text = (f g : ℕ) (R S : Repository) (ms ns : List Member) (hs is : List ℕ) → StandsForKernel text f R ms hs → StandsForKernel text g S ns is →
     (f ≡ g) × (R ≡ S) × (ms ≡ ns) × (hs ≡ is)

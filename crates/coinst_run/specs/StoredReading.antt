@@ -88,12 +88,13 @@ ends_with last classes members = false
 abbrev pub is_ended : Reading → Bool
 is_ended t = ends_with t.last t.classes (length t.members)
 
--- the text is a line with numbers, one of which is not that of a class
+-- the line has numbers below the limit, one of which is not that of a class
 abbrev pub is_far : ℕ → KernelLine → Bool
 is_far classes (NeedsLine clause) = are_low clause && list_any (λ m. not (nat_lt m classes)) clause
 is_far classes (AgainstLine m) = nat_lt m number_limit && not (nat_lt m classes)
 is_far classes line = false
 
+-- the text is such a line
 abbrev pub strays : ℕ → List ℕ → Bool
 strays classes text = list_any (λ l. bytes_eq text (line_text l) && is_far classes l) (by_words (words_of text))
 

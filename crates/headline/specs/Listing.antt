@@ -28,6 +28,7 @@ pub record ArePair (old new : SearchedIndex) (first second : Name) : Type 0 wher
   pub second_alone : Can new (second ∷ [])
   pub ascend : Before first second
 
+-- whether the line says `broken`
 abbrev pub is_broken : ReportLine → Bool
 is_broken (Broken1 name) = true
 is_broken (Broken2 first second) = true

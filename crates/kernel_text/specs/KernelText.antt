@@ -15,7 +15,7 @@ use Rattle.kernel_text.specs.Reading.{number_limit, is_same_member, IsFormat, Is
 abbrev pub members_of : List Member → ℕ → List Member
 members_of members n = filter (λ m. eqb m.class n) members
 
--- of the conflicts of a class those that are printed with it
+-- the greater classes that conflict with a class: each conflict is printed once, with its lesser class
 abbrev pub greater_conflicts : Repository → ℕ → List ℕ
 greater_conflicts R n = filter (λ m. ltb n m) (conflicts_of R n)
 

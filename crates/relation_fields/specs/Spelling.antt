@@ -13,6 +13,7 @@ use Rattle.relation_fields.specs.Texts.{is_white, pieces}
 use Rattle.relation_fields.specs.Grammar.{is_architecture}
 use Rattle.relation_fields.specs.Fields.{elements, written}
 
+-- the ways of writing an operator, with the old `<` and `>`
 abbrev pub SpellsOp : List ℕ → Op → Type 0
 SpellsOp text Earlier = text ≡ codes "<<"
 SpellsOp text EarlierEqual = (text ≡ codes "<=") ⊎ (text ≡ codes "<")

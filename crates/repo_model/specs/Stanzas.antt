@@ -25,8 +25,8 @@ pub record Met (home : Home) (stanzas : List PackageFacts) (I : NumSet) (element
   pub meeting : meets alternative (stanza_at stanzas by) home ≡ true
 
 -- A healthy set of stanzas: each element of each member's dependencies has an alternative that some
--- member meets, the member itself included; no member meets a conflict of another member; and no two
--- members have the same name, since dpkg keeps one package of a name.
+-- member meets, the member itself included; no member meets a `Conflicts` or `Breaks` atom of another
+-- member; and no two members have the same name, since dpkg keeps one package of a name.
 pub record HealthyStanzas (home : Home) (stanzas : List PackageFacts) (I : NumSet) : Type 0 where
   pub numbers : (n : ℕ) → Is I n → n < length stanzas
   pub needs : (n : ℕ) → Is I n → (element : List Atom) → In element (stanza_at stanzas n).needs → Met home stanzas I element

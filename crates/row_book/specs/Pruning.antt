@@ -13,7 +13,7 @@ use Rattle.row_book.specs.Facing.{sides, face}
 abbrev pub with_clauses : Repository → ℕ → List (List ℕ) → Repository
 with_clauses R p cs = record { clauses = slice_set R.clauses p cs; conflicts = R.conflicts }
 
--- whether no healthy set has the package, since two of its sides conflict as a whole
+-- whether two sides of the package conflict as a whole, so that no healthy set has it
 abbrev pub is_dead : Repository → ℕ → Bool
 is_dead R p = face (against R) (sides R p) (sides R p)
 
@@ -37,13 +37,13 @@ serves R d m = has d m || list_any (λ c. is_inside c d) (clauses_of R m)
 abbrev pub is_forced : Repository → ℕ → List ℕ → Bool
 is_forced R p d = list_any (λ e. list_all (serves R d) e) (others R p d)
 
--- whether y, which conflicts with a member of d, is out anyway where p is in and d is not hit: it is in d itself, or
--- conflicts with p, or with every member of another clause of p
+-- whether y, which conflicts with a member of d, is out anyway where p is in and d is not hit: it is not p, and it is in d
+-- itself, or conflicts with p, or with every member of another clause of p
 abbrev pub is_harmless : Repository → ℕ → List ℕ → ℕ → Bool
 is_harmless R p d y =
     not (eqb y p) && (has d y || (against R p y || list_any (λ e. list_all (against R y) e) (others R p d)))
 
--- whether the clause is hit wherever p is in and its clauses other than d are hit
+-- whether the clause c is hit wherever p is in and the clauses of p other than d are hit: it holds p, or includes one of these
 abbrev pub is_met : Repository → ℕ → List ℕ → List ℕ → Bool
 is_met R p d c = has c p || list_any (λ e. is_inside e c) (others R p d)
 
@@ -64,6 +64,7 @@ pub record IdleClause : Type 0 where
   pub clause : List ℕ
   pub added : ℕ
 
+-- the step of an idle clause, where one of its members serves
 abbrev pub step_by : ℕ → List ℕ → Option ℕ → List IdleClause
 step_by p d None = []
 step_by p d (Some x) = record { «package» = p; clause = d; added = x } ∷ []

@@ -45,17 +45,22 @@ pub record IsRow (R : Repository) (V : NumSet) (p : ℕ) (clauses : List (List �
 abbrev pub among : NumSet → List ℕ → ℕ → NumSet
 among X J p n = X n || (has J n || eqb n p)
 
+-- whether X supports p over V with the helpers J: they are outside V, and each clause of p and of each helper is hit by X, J
+-- and p together
 unfoldable pub supports : Repository → NumSet → ℕ → NumSet → List ℕ → Bool
 supports R V p X J =
     list_all (λ n. not (V n)) J
     && list_all (λ n. list_all (λ c. list_any (among X J p) c) (clauses_of R n)) (p ∷ J)
 
+-- whether it does with some helpers
 unfoldable pub is_supported : Repository → NumSet → ℕ → NumSet → Bool
 is_supported R V p X = list_any (supports R V p X) (subsets (length R.clauses))
 
+-- whether T has only packages of V other than p, and V without T does not support p
 unfoldable pub blocks : Repository → NumSet → ℕ → List ℕ → Bool
 blocks R V p T = list_all (without V p) T && not (is_supported R V p (minus V T))
 
+-- whether T blocks p, and no other blocking set is within it
 unfoldable pub is_minimal_block : Repository → NumSet → ℕ → List ℕ → Bool
 is_minimal_block R V p T =
     blocks R V p T

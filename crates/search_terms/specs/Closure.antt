@@ -13,7 +13,7 @@ literal c sign = record { class = c; positive = sign }
 abbrev pub negation : Literal → Literal
 negation l = record { class = l.class; positive = not l.positive }
 
--- the truth of a class under a sign
+-- whether two signs are one
 abbrev pub same_sign : Bool → Bool → Bool
 same_sign true b = b
 same_sign false b = not b

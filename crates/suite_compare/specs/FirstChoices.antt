@@ -1,3 +1,4 @@
+-- for the bodies of this crate alone
 -- First choices: sets of classes that show, without a search, that a search finds something and fails nowhere. No two of them
 -- conflict, and with the set go the first member of each goal and of each clause of a member.
 use Rattle.std.specs.Prelude.{◌≡◌, ℕ, ◌<◌, Bool, true, false, List, [], ◌∷◌, length, Option, Some, None}

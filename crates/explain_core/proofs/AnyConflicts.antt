@@ -157,7 +157,7 @@ solves_any pool book solver sound ready = record {
         size = ready.size;
         sentences = ready.sentences;
         engine = engine_of pool book.rows table solver.classes own solver.uses.items sound.rows conflicts (length_pairs pairs size ∙ long) (ready.size ∙ long) ready.sentences ready.engine.table;
-        marks = ready.marks;
+        trail = ready.trail;
         base = at_new own (own_negative (map (row_at pool) book.rows) own ready.sentences) book.conflicts table (apart_of book.conflicts sound.conflicts) (apart_of table conflicts)
             solver.dead solver.base.1 ready.base;
       };

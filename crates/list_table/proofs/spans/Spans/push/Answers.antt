@@ -1,6 +1,5 @@
 use Rattle.std.proofs.Common.{◌≡◌, ◌+◌, ◌++◌, ◌∷◌, [], length, subst, sym, ◌∙◌, ap, ap₂, arith, length-append}
-use Rattle.std.specs.Prelude.{Result, Ok, Err, OnErr}
-use Rattle.listed.proofs.Bools.{on_err}
+use Rattle.std.proofs.lemmas.Result.{err_from_is_err_and}
 use Rattle.list_table.specs.Parts.{parts, SpansFit}
 use Rattle.list_table.proofs.Parts.{Within_more, Within_push, parts_grown, parts_push}
 use Rattle.list_table.proofs.spans.Spans.push.Goals as goal
@@ -14,7 +13,8 @@ invariant_of-self-in_err-push g c =
 
 pub returns-in_err-push-clause-err : goal.returns-in_err-push-clause-err
 returns-in_err-push-clause-err g c =
-    on_err _ c.from_residual-in_err-push.result
+    let is_err = err_from_is_err_and c.from_residual-in_err-push.result c.from_residual-in_err-push.ensures.1 in
+    rw is_err.1
     (ap₂ parts c.in_ok-extend_from_slice.ensures.items c.in_err-push.ensures.items
     ∙ parts_grown c.self.inside.items.items c.args.list.now c.self.inside.ends.items c.self.invariant
     ∙ c.self.view_is)

@@ -1,8 +1,8 @@
 -- One more goal of one number.
 use Rattle.std.proofs.Common.{◌≡◌, ℕ, List, [], ◌∷◌, ◌++◌, ◌<◌, inl, inr, sym, subst}
 use Rattle.row_book.specs.Needs.{NeedsFit}
-use Rattle.row_book.specs.Sets.{In}
-use Rattle.row_book.proofs.Lists.{In_append_cases, In_cases, In_none}
+use Rattle.listed.specs.Lists.{In}
+use Rattle.listed.proofs.Lists.{In_append_cases, In_cases, In_none}
 
 -- its number is below the size
 pub fits_push : (size : ℕ) (goals new : List (List ℕ)) (n : ℕ) → new ≡ goals ++ (n ∷ []) ∷ [] → NeedsFit size goals → n < size → NeedsFit size new

@@ -4,7 +4,7 @@ use Rattle.std.specs.Prelude.{◌↔◌, is_some, filter}
 use Rattle.std.specs.Str.{bytes_eq}
 use Rattle.std.proofs.lemmas.Bool.{cases_lt}
 use Rattle.std.proofs.lemmas.Slice.Eq.{bytes_eq-Decides}
-use Rattle.listed.specs.Lists.{In, here}
+use Rattle.listed.specs.Lists.{In, here, has}
 use Rattle.listed.proofs.Lists.{In_at, In_map, In_map_cases, In_place, In_append_right, filter_same, same_bytes}
 use Rattle.headline.specs.Indexes as kept
 use Rattle.headline.specs.Indexes.{SearchedIndex, HasName, failures}
@@ -19,7 +19,7 @@ use Rattle.repo_model.proofs.SoundSuite.{suite_sound}
 use Rattle.row_book.specs.Flattening.{packages}
 use Rattle.row_book.specs.Repository.{Repository}
 use Rattle.row_book.specs.Rounds.{kernel, kernel_image}
-use Rattle.row_book.specs.Sets.{NumSet, has}
+use Rattle.row_book.specs.Sets.{NumSet}
 use Rattle.search_terms.specs.Form.{form}
 use Rattle.search_terms.specs.Tree.{found_of, failed_leaves}
 use Rattle.suite_compare.specs.Asking.{asked_tree, goal_classes, images_of}

@@ -8,7 +8,7 @@ use Rattle.kernel_text.specs.Reading.{number_limit}
 use Rattle.listed.proofs.Lists.{In_none}
 use Rattle.relation_fields.specs.declared.packages.PackageFacts.{PackageFacts}
 use Rattle.repo_model.specs.Stanzas.{stanza_at, CoinstStanzas}
-use Rattle.row_book.specs.Clauses.{numbers}
+use Rattle.row_book.specs.Numbers.{numbers}
 use Rattle.row_book.specs.Repository.{Coinst, Repository}
 use Rattle.row_book.specs.Sets.{Is, NumSet}
 use Rattle.suite_compare.specs.declared.report.ReportLine.{ReportLine}

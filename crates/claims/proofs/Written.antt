@@ -10,9 +10,9 @@ use Rattle.kernel_text.specs.Reading.{is_same_member}
 use Rattle.kernel_text.specs.declared.member.Member.{Member}
 use Rattle.kernel_text.proofs.OneReading.{one_reading}
 use Rattle.kernel_text.proofs.ReadIsWritten.{read_is_written}
-use Rattle.row_book.specs.Clauses.{numbers}
+use Rattle.row_book.specs.Numbers.{numbers}
 use Rattle.row_book.specs.Repository.{Repository, clauses_of, conflicts_of}
-use Rattle.row_book.specs.Sets.{In, has}
+use Rattle.listed.specs.Lists.{In, has}
 use Rattle.row_book.proofs.Repositories.{between}
 use Rattle.claims.specs.Written.{AreKernelLines, IsClassBlock, StandsForKernel}
 use Rattle.claims.specs.Laws.{KernelsAreRead, KernelsAreReadOnce}

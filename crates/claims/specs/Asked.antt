@@ -10,7 +10,8 @@ use Rattle.repo_model.specs.Repository.{packages_of, suite_repository}
 use Rattle.repo_model.specs.Stanzas.{stanza_at, HealthyStanzas}
 use Rattle.row_book.specs.Flattening.{packages}
 use Rattle.row_book.specs.Repository.{Repository}
-use Rattle.row_book.specs.Sets.{NumSet, Is, In, has}
+use Rattle.row_book.specs.Sets.{NumSet, Is}
+use Rattle.listed.specs.Lists.{In, has}
 use Rattle.search_terms.specs.Form.{form}
 use Rattle.claims.specs.Kernel.{SettlesTo}
 use Rattle.claims.specs.Search.{Searched}

@@ -9,7 +9,8 @@ use Rattle.relation_fields.specs.declared.packages.Home.{Home}
 use Rattle.relation_fields.specs.declared.packages.PackageFacts.{PackageFacts}
 use Rattle.repo_model.specs.Stanzas.{stanza_at, CoinstStanzas}
 use Rattle.row_book.specs.Repository.{Repository, Coinst}
-use Rattle.row_book.specs.Sets.{NumSet, Is, In}
+use Rattle.row_book.specs.Sets.{NumSet, Is}
+use Rattle.listed.specs.Lists.{In}
 use Rattle.suite_compare.specs.declared.report.ReportLine.{ReportLine}
 use Rattle.claims.specs.Asked.{ComparedIndex, FoundInstallable, FoundUninstallable, IsAsked, IsSearched, Spends}
 use Rattle.claims.specs.Classes.{classes_of, IsItsClass}

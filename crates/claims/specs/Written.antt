@@ -8,9 +8,10 @@ use Rattle.kernel_text.specs.KernelLines.{behind_space, with_feed}
 use Rattle.kernel_text.specs.KernelText.{greater_conflicts, members_of}
 use Rattle.kernel_text.specs.Reading.{number_limit}
 use Rattle.kernel_text.specs.declared.member.Member.{Member}
-use Rattle.row_book.specs.Clauses.{Ascending, InOrder, numbers}
+use Rattle.listed.specs.Lists.{Ascending, In, has}
+use Rattle.clause_pool.specs.Lists.{InOrder}
+use Rattle.row_book.specs.Numbers.{numbers}
 use Rattle.row_book.specs.Repository.{Repository, clauses_of, conflicts_of}
-use Rattle.row_book.specs.Sets.{In, has}
 use Rattle.claims.specs.Index.{is_one_package}
 
 -- The lines of a class: its number; one for each member, with its name and its version; one where the class is held; one for each clause; and one

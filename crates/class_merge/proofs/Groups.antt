@@ -8,16 +8,17 @@ use Rattle.std.proofs.lemmas.List.Elements.{filter-append}
 use Rattle.std.proofs.lemmas.List.{get_or-map, get_or_append_left, length-map, map-append}
 use Rattle.clause_pool.specs.Interned.{Interned, IsPool, EachOnce, clauses_at, ids_at, row_at, OfPool}
 use Rattle.row_book.specs.declared.book.Book.{Book}
-use Rattle.row_book.specs.Sets.{In, here, there}
-use Rattle.row_book.specs.Clauses.{Ascending, numbers}
+use Rattle.listed.specs.Lists.{In, here, there, Ascending}
+use Rattle.row_book.specs.Numbers.{numbers}
 use Rattle.row_book.specs.Uses.{row_id}
 use Rattle.row_book.specs.Book.{repository_of, Sound}
 use Rattle.row_book.specs.Repository.{Repository}
 use Rattle.row_book.specs.Flattening.{packages}
 use Rattle.row_book.specs.Merging.{are_alike, class_list, class_of as class_of_, firsts, first_of, is_first}
 use Rattle.row_book.proofs.Books.{clauses_row}
-use Rattle.row_book.proofs.Lists.{In_append_cases, In_at, In_cases, In_map, In_none, any_cases, ascending_filter, filter_cases}
-use Rattle.row_book.proofs.Order.{at_numbers, length_numbers, numbers_ascending, numbers_parts, numbers_more, numbers_count}
+use Rattle.listed.proofs.Lists.{In_append_cases, In_at, In_cases, In_map, In_none, any_cases, filter_cases}
+use Rattle.listed.proofs.Orders.{ascending_filter}
+use Rattle.row_book.proofs.Numbers.{at_numbers, length_numbers, numbers_ascending, numbers_parts, numbers_more, numbers_count}
 use Rattle.class_merge.specs.Classes.{key_of}
 use Rattle.class_merge.specs.Grouping.{AreClasses, IsPlaceAmong}
 use Rattle.class_merge.proofs.Plain.{filter_less, none_before}

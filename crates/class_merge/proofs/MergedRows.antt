@@ -6,8 +6,10 @@ use Rattle.std.proofs.lemmas.List.Elements.{filter-append}
 use Rattle.listed.proofs.Bools.{same_bool}
 use Rattle.clause_pool.specs.Interned.{Interned, IsPool, row_at}
 use Rattle.row_book.specs.declared.book.Book.{Book}
-use Rattle.row_book.specs.Sets.{In, here, there, has}
-use Rattle.row_book.specs.Clauses.{InOrder, apart_from, is_inside, minimal_of, numbers, in_row_order}
+use Rattle.listed.specs.Lists.{In, here, there, has, is_inside}
+use Rattle.clause_pool.specs.Lists.{InOrder}
+use Rattle.clause_pool.specs.Clauses.{apart_from, minimal_of, in_row_order}
+use Rattle.row_book.specs.Numbers.{numbers}
 use Rattle.row_book.specs.Uses.{row_id}
 use Rattle.row_book.specs.Repository.{Repository, Coinst, against, clauses_of, conflicts_of}
 use Rattle.row_book.specs.Flattening.{packages}
@@ -17,9 +19,10 @@ use Rattle.row_book.specs.Book.{listed_for, repository_of, RowsTidy, Sound}
 use Rattle.row_book.specs.Merging.{class_clauses, class_conflicts, class_list, class_of, classes, clause_image, firsts, first_of, image, quotient}
 use Rattle.row_book.proofs.Books.{clauses_row}
 use Rattle.row_book.proofs.BookRepositories.{book_size, sound_book, sound_repository}
-use Rattle.row_book.proofs.Clauses.{minimal_of_from, minimal_of_parts}
-use Rattle.row_book.proofs.Lists.{In_has, In_map_cases, any_cases, any_from, filter_same, has_In}
-use Rattle.row_book.proofs.Order.{at_numbers, length_numbers, numbers_parts, order_filter, order_same, ordered_has, ordered_order, ordered_parts}
+use Rattle.clause_pool.proofs.Clauses.{minimal_of_from, minimal_of_parts}
+use Rattle.listed.proofs.Lists.{In_has, In_map_cases, any_cases, any_from, filter_same, has_In}
+use Rattle.row_book.proofs.Numbers.{at_numbers, length_numbers, numbers_parts}
+use Rattle.clause_pool.proofs.Order.{order_filter, order_same, ordered_has, ordered_order, ordered_parts}
 use Rattle.row_book.proofs.Repositories.{between, ranged, repository_same, symmetric}
 use Rattle.clause_families.specs.Families.{SameClauses}
 use Rattle.class_merge.specs.Classes.{class_in, clauses_in, image_in, ClassesWithin, HasClasses}

@@ -5,8 +5,9 @@ use Rattle.std.specs.List.{list_any}
 use Rattle.row_book.specs.declared.book.Book.{Book}
 use Rattle.row_book.specs.Book.{listed_for}
 use Rattle.row_book.specs.Uses.{row_id}
-use Rattle.row_book.specs.Sets.{In}
-use Rattle.row_book.specs.Clauses.{apart_from, minimal_of, numbers, in_row_order}
+use Rattle.listed.specs.Lists.{In}
+use Rattle.clause_pool.specs.Clauses.{apart_from, minimal_of, in_row_order}
+use Rattle.row_book.specs.Numbers.{numbers}
 
 -- the class of a package in a list of classes
 abbrev pub class_in : List ℕ → ℕ → ℕ

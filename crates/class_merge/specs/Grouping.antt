@@ -4,7 +4,7 @@ use Rattle.std.specs.Prelude.{◌≡◌, ℕ, ◌<◌, ◌⊎◌, List, [], ◌�
 use Rattle.clause_pool.specs.Interned.{Interned}
 use Rattle.row_book.specs.declared.book.Book.{Book}
 use Rattle.row_book.specs.Book.{repository_of}
-use Rattle.row_book.specs.Sets.{In}
+use Rattle.listed.specs.Lists.{In}
 use Rattle.row_book.specs.Merging.{class_list, firsts}
 
 -- the least package of each class, and the class of each package, in lists

@@ -2,7 +2,7 @@
 use Rattle.std.specs.Prelude.{◌≡◌, ℕ, ◌<◌, true, List, length, ◌↔◌}
 use Rattle.row_book.specs.Sets.{NumSet}
 use Rattle.row_book.specs.Repository.{Repository, Coinst, Healthy, clauses_of}
-use Rattle.row_book.specs.Clauses.{apart_from, minimal_of, in_row_order}
+use Rattle.clause_pool.specs.Clauses.{apart_from, minimal_of, in_row_order}
 use Rattle.row_book.specs.Sound.{OfPackages, SoundRepository, TidyRepository}
 use Rattle.row_book.specs.Merging.{are_alike, class_of, firsts, first_of, image, members, quotient}
 

@@ -2,8 +2,8 @@
 ghost use Rattle.std.specs.Prelude.{◌≡◌, ◌<◌, ◌∷◌, ◌++◌, [], ℕ, List, IfOk, OnOk, cond, length, map};
 ghost use Rattle.clause_pool.specs.Interned.{clauses_at, row_at, Kept, OfPool, IsPool};
 ghost use Rattle.row_book.specs.Book.{listed_for, repository_of, Sound};
-ghost use Rattle.row_book.specs.Clauses.{apart_from};
-ghost use Rattle.row_book.specs.Sets.{has, In};
+ghost use Rattle.clause_pool.specs.Clauses.{apart_from};
+ghost use Rattle.listed.specs.Lists.{has, In};
 ghost use Rattle.row_book.specs.Repository.{Repository};
 ghost use Rattle.row_book.specs.Merging.{quotient};
 ghost use Rattle.class_merge.specs.Classes.{clauses_in, image_in, ClassesWithin, HasClasses};

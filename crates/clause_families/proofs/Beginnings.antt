@@ -3,7 +3,7 @@ use Rattle.std.proofs.Common.{◌≡◌, ℕ, zero, suc, ◌<◌, Bool, false, r
 use Rattle.std.specs.List.{list_any}
 use Rattle.std.proofs.lemmas.Bool.{or_from}
 use Rattle.clause_pool.proofs.Lists.{In_at}
-use Rattle.row_book.specs.Clauses.{Before, InOrder}
+use Rattle.clause_pool.specs.Lists.{Before, InOrder}
 
 -- each clause of a family in order comes before those behind it
 pub order_places : (cs : List (List ℕ)) → InOrder cs → (i j : ℕ) → i < j → j < length cs → (d : List ℕ) → Before (get_or cs i d) (get_or cs j d)

@@ -2,8 +2,9 @@
 use Rattle.std.proofs.Common.{◌≡◌, ℕ, ◌<◌, ◌⊎◌, Bool, true, false, ◌&&◌, ◌||◌, eqb, ltb, cond, List, [], ◌∷◌, inl, inr, refl, sym, ◌∙◌, ap, ap₂, length, arith, eqb-true, lt-ltb, suc, ◌+◌, not, add-one, drop, drop-cons, get_or}
 use Rattle.std.specs.List.{list_any}
 use Rattle.std.proofs.lemmas.Bool.{cond-false, cond-true, eqb-false, not_from_false, not_from_true}
-use Rattle.row_book.specs.Sets.{In, has, here, there}
-use Rattle.row_book.specs.Clauses.{Ascending, Before, InOrder, apart_from}
+use Rattle.listed.specs.Lists.{In, has, here, there, Ascending}
+use Rattle.clause_pool.specs.Lists.{Before, InOrder}
+use Rattle.clause_pool.specs.Clauses.{apart_from}
 use Rattle.clause_families.specs.Branches.{any_of, bare, branch, first_leap, is_empty, later_leaps, no_leap, nodes_of, tree_of, with_clause, Above, BuiltOf, Climbs, Grows, Leap, Standing, Tree, TreeOf}
 use Rattle.clause_families.specs.Inclusion.{has_shorter, is_within}
 use Rattle.clause_families.specs.declared.family_tree.FamilyTree.{FamilyTree}

@@ -12,14 +12,13 @@ use Rattle.std.proofs.lemmas.Bool.{OnTrue_from, false≢true, both_ways, cases_B
 use Rattle.std.proofs.lemmas.List.{take_more, map-append}
 use Rattle.std.proofs.lemmas.List.Elements.{filter_more}
 use Rattle.std.proofs.lemmas.Grind.{flat_map-append}
-use Rattle.listed.proofs.Lists.{item_nil}
+use Rattle.listed.proofs.Lists.{item_nil, In_append_cases, In_append_left, In_append_right, In_cases, In_map, In_none, any_from, any_cases, filter_cases, filter_from, filter_same, item_in}
 use Rattle.clause_pool.specs.Interned.{Interned, clause_at, clauses_at, row_at, Kept, OfPool, IsIdOf}
 use Rattle.clause_pool.proofs.Lists.{In_at}
 use Rattle.clause_pool.proofs.Interned.{kept_along, clauses_kept, kept_of_pool}
-use Rattle.row_book.specs.Sets.{In, here, there}
-use Rattle.row_book.specs.Clauses.{Ascending, Inside, apart_from, is_inside, minimal_of}
-use Rattle.row_book.proofs.Lists.{In_append_cases, In_append_left, In_append_right, In_cases, In_map, In_none, any_from, any_cases, filter_cases, filter_from, filter_same, item_in}
-use Rattle.row_book.proofs.Clauses.{apart_in, inside_at, inside_from, minimal_of_from, minimal_of_parts}
+use Rattle.listed.specs.Lists.{In, here, there, Ascending, Inside, is_inside}
+use Rattle.clause_pool.specs.Clauses.{apart_from, minimal_of}
+use Rattle.clause_pool.proofs.Clauses.{apart_in, inside_at, inside_from, minimal_of_from, minimal_of_parts}
 use Rattle.clause_families.specs.Inclusion.{has_shorter}
 use Rattle.clause_families.specs.Families.{HoldsOneOf, IncludesOneOf, InternedSoFar, Useful}
 

@@ -10,10 +10,11 @@ use Rattle.std.proofs.lemmas.Cmp.{ranked}
 use Rattle.std.proofs.lemmas.List.{map-append, take-append-drop}
 use Rattle.clause_pool.specs.Interned.{Interned, IsPool, OfPool, clause_at, clauses_at}
 use Rattle.clause_pool.proofs.Lists.{In_at}
-use Rattle.row_book.specs.Sets.{In, here, there}
-use Rattle.row_book.specs.Clauses.{Before, InOrder, comes_before}
-use Rattle.row_book.proofs.Lists.{In_append_cases, In_append_left, In_append_right, In_cases, In_map_cases, In_none}
-use Rattle.row_book.proofs.Order.{before_test, before_trans, neither_before, order_append, before_is}
+use Rattle.listed.specs.Lists.{In, here, there}
+use Rattle.clause_pool.specs.Lists.{Before, InOrder}
+use Rattle.clause_pool.specs.Clauses.{comes_before}
+use Rattle.listed.proofs.Lists.{In_append_cases, In_append_left, In_append_right, In_cases, In_map_cases, In_none}
+use Rattle.clause_pool.proofs.Order.{before_test, before_trans, neither_before, order_append, before_is}
 use Rattle.clause_families.specs.Families.{HasGained}
 use Rattle.clause_families.proofs.Beginnings.{order_places}
 use Rattle.clause_families.proofs.Families.{clauses_item, clauses_length}

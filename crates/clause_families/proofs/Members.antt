@@ -12,11 +12,10 @@ use Rattle.std.proofs.lemmas.List.Filters.{dedup_is}
 use Rattle.std.proofs.lemmas.List.Kept.{AllPairs-from_increasing, Contains-dedup, Contains-dedup_nat, Contains-from_dedup, IsStrictlySortedBy-dedup}
 use Rattle.std.proofs.lemmas.List.Sorted.{Contains-permutation, IsPermutation-sym}
 use Rattle.std.proofs.lemmas.Map.Keys.{IsStrictlyIncreasing-dedup}
-use Rattle.listed.proofs.Lists.{contains_in, in_contains}
-use Rattle.listed.proofs.Orders.{ascending_pairs}
-use Rattle.row_book.specs.Sets.{In}
-use Rattle.row_book.specs.Clauses.{Ascending, Before, InOrder}
-use Rattle.row_book.proofs.Lists.{In_append_cases, In_append_left, In_append_right, In_cases, In_none, ascending_same}
+use Rattle.listed.proofs.Lists.{contains_in, in_contains, In_append_cases, In_append_left, In_append_right, In_cases, In_none}
+use Rattle.listed.proofs.Orders.{ascending_pairs, ascending_same}
+use Rattle.listed.specs.Lists.{In, Ascending}
+use Rattle.clause_pool.specs.Lists.{Before, InOrder}
 use Rattle.clause_families.specs.Unions.{union_of}
 use Rattle.clause_families.specs.Families.{SameClauses}
 use Rattle.clause_families.proofs.Unions.{joined_ascending, joined_cases, joined_left, joined_right}

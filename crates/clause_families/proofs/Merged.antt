@@ -1,9 +1,9 @@
 -- The union of two ascending clauses by merging.
 use Rattle.std.proofs.Common.{◌≡◌, ◌≢◌, ℕ, ◌<◌, ◌≤◌, ◌+◌, ◌-◌, not, eqb, cond, List, [], ◌∷◌, ◌++◌, ◌⊎◌, inl, inr, sym, ◌∙◌, ap, ap₂, subst, length, get_or, take, drop, arith, add-one, append_assoc, append-nil, eq-eqb, ne_eqb, length-drop, drop-cons}
 use Rattle.std.proofs.lemmas.List.{drop_all, take_all}
-use Rattle.listed.proofs.Orders.{rest_ascends}
-use Rattle.row_book.specs.Clauses.{Ascending}
-use Rattle.row_book.proofs.Lists.{In_none, ascending_filter, ascending_same, filter_cases}
+use Rattle.listed.proofs.Orders.{rest_ascends, ascending_filter, ascending_same}
+use Rattle.listed.specs.Lists.{Ascending}
+use Rattle.listed.proofs.Lists.{In_none, filter_cases}
 use Rattle.clause_families.specs.Unions.{clause_without, union_of}
 use Rattle.clause_families.specs.Laws.{Merges}
 use Rattle.clause_families.proofs.UnionMerges.{union_merges_lem}

@@ -2,11 +2,13 @@
 use Rattle.std.proofs.Common.{◌≡◌, ℕ, Bool, true, false, not, ◌||◌, cond, List, [], ◌∷◌, ◌++◌, inl, inr, refl, sym, ◌∙◌, ap, subst}
 use Rattle.std.specs.List.{list_all}
 use Rattle.clause_pool.specs.Interned.{Interned, IsPool, OfPool, clause_at, clauses_at}
-use Rattle.row_book.specs.Sets.{In, here, there, has}
-use Rattle.row_book.specs.Clauses.{Ascending, InOrder, Inside, apart_from, is_inside, minimal_of, in_row_order}
-use Rattle.row_book.proofs.Lists.{In_append_cases, In_append_left, In_append_right, In_cases, In_has, In_map, In_map_cases, In_none, ascending_same, has_In}
-use Rattle.row_book.proofs.Clauses.{apart_cases, apart_in, minimal_of_from, minimal_of_parts}
-use Rattle.row_book.proofs.Order.{order_filter, order_same, ordered_has, ordered_order, ordered_parts}
+use Rattle.listed.specs.Lists.{In, here, there, has, Ascending, Inside, is_inside}
+use Rattle.clause_pool.specs.Lists.{InOrder}
+use Rattle.clause_pool.specs.Clauses.{apart_from, minimal_of, in_row_order}
+use Rattle.listed.proofs.Lists.{In_append_cases, In_append_left, In_append_right, In_cases, In_has, In_map, In_map_cases, In_none, has_In}
+use Rattle.listed.proofs.Orders.{ascending_same}
+use Rattle.clause_pool.proofs.Clauses.{apart_cases, apart_in, minimal_of_from, minimal_of_parts}
+use Rattle.clause_pool.proofs.Order.{order_filter, order_same, ordered_has, ordered_order, ordered_parts}
 use Rattle.clause_families.specs.Unions.{clause_without, union_of, all_unions_for, substituted}
 use Rattle.clause_families.specs.Families.{IncludesOneOf, SameClauses, Useful, all_unions, unions_of}
 use Rattle.clause_families.proofs.Unions.{Comes, dropped_parts, joined_ascending, joined_cases, joined_right, replaced_cases, replaced_joined, replaced_kept}

@@ -3,9 +3,8 @@ use Rattle.std.proofs.Common.{◌≡◌, ℕ, zero, suc, ◌<◌, ◌≤◌, ◌
 use Rattle.std.proofs.Math.Bool.{and-true, or-false}
 use Rattle.std.proofs.lemmas.Bool.{and_right, cases_lt, le-ltb}
 use Rattle.std.proofs.lemmas.List.{append-nil}
-use Rattle.row_book.specs.Sets.{In, has, here}
-use Rattle.row_book.specs.Clauses.{Ascending, is_inside}
-use Rattle.row_book.proofs.Lists.{In_cases, In_has, In_none, all_same, has_not}
+use Rattle.listed.specs.Lists.{In, has, here, Ascending, is_inside}
+use Rattle.listed.proofs.Lists.{In_cases, In_has, In_none, all_same, has_not}
 use Rattle.clause_families.specs.Branches.{any_of, bare, branch, nodes_of, past, size_of, Above, Climbs, Leap, Leapt, Leaps, Standing, Tree}
 use Rattle.clause_families.specs.Inclusion.{is_within}
 use Rattle.clause_families.specs.declared.family_tree.Node.{Node}

@@ -1,8 +1,8 @@
 -- Families of clauses as trees: clauses that begin alike share the branches up to there.
 use Rattle.std.specs.Prelude.{◌≡◌, ℕ, zero, suc, ◌<◌, ◌≤◌, ◌+◌, ◌-◌, Bool, true, false, ◌&&◌, ◌||◌, eqb, cond, List, [], ◌∷◌, ◌++◌, length, get_or}
 use Rattle.std.specs.List.{list_any}
-use Rattle.row_book.specs.Sets.{In}
-use Rattle.row_book.specs.Clauses.{Ascending, InOrder}
+use Rattle.listed.specs.Lists.{In, Ascending}
+use Rattle.clause_pool.specs.Lists.{InOrder}
 use Rattle.clause_families.specs.declared.family_tree.FamilyTree.{FamilyTree}
 use Rattle.clause_families.specs.declared.family_tree.Node.{Node}
 

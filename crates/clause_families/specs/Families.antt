@@ -2,8 +2,8 @@
 use Rattle.std.specs.Prelude.{◌≡◌, ℕ, true, false, not, cond, List, [], map, ◌⊎◌}
 use Rattle.std.specs.List.{filter, flat_map}
 use Rattle.clause_pool.specs.Interned.{Interned, clause_at, clauses_at, Kept, OfPool}
-use Rattle.row_book.specs.Sets.{In, has}
-use Rattle.row_book.specs.Clauses.{InOrder, Inside}
+use Rattle.listed.specs.Lists.{In, has, Inside}
+use Rattle.clause_pool.specs.Lists.{InOrder}
 use Rattle.clause_families.specs.Inclusion.{has_shorter}
 use Rattle.clause_families.specs.Unions.{clause_without, union_of}
 

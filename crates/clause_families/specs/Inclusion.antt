@@ -1,8 +1,7 @@
 -- Clauses that lie within other ones.
 use Rattle.std.specs.Prelude.{ℕ, Bool, not, ◌&&◌, ltb, List, length}
 use Rattle.std.specs.List.{list_any}
-use Rattle.row_book.specs.Sets.{has}
-use Rattle.row_book.specs.Clauses.{is_inside}
+use Rattle.listed.specs.Lists.{has, is_inside}
 
 -- whether the first clause is within the second, and shorter
 abbrev pub is_strictly_inside : List ℕ → List ℕ → Bool

@@ -1,6 +1,6 @@
 -- The law of unions.
 use Rattle.std.specs.Prelude.{◌≡◌, ℕ, ◌<◌, List, ◌∷◌}
-use Rattle.row_book.specs.Clauses.{Ascending}
+use Rattle.listed.specs.Lists.{Ascending}
 use Rattle.clause_families.specs.Unions.{union_of}
 
 -- a union by merging: of two ascending lists the lesser first number comes first

@@ -1,5 +1,3 @@
-pub use Rattle.row_book.specs.Sets
-pub use Rattle.row_book.specs.Clauses
 pub mod Unions
 pub mod Inclusion
 pub mod Branches

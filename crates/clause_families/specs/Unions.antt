@@ -3,8 +3,8 @@
 -- Co-Installability", the section on flattening.
 use Rattle.std.specs.Prelude.{ℕ, not, eqb, ltb, cond, List, [], ◌∷◌, ◌++◌, map}
 use Rattle.std.specs.List.{filter}
-use Rattle.row_book.specs.Sets.{has}
-use Rattle.row_book.specs.Clauses.{apart_from, minimal_of}
+use Rattle.listed.specs.Lists.{has}
+use Rattle.clause_pool.specs.Clauses.{apart_from, minimal_of}
 
 abbrev pub inserted : ℕ → List ℕ → List ℕ
 inserted n [] = n ∷ []

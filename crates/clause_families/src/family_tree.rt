@@ -4,8 +4,9 @@
 //! family gets one.
 ghost use Rattle.std.specs.Prelude.{◌≡◌, ◌<◌, ◌≤◌, ◌+◌, ◌-◌, ◌⊎◌, ◌&&◌, ◌++◌, ◌∷◌, ℕ, List, IfOk, OnOk, ltb, length, take, drop};
 ghost use Rattle.clause_pool.specs.Interned.{clauses_at, OfPool};
-ghost use Rattle.row_book.specs.Sets.{In};
-ghost use Rattle.row_book.specs.Clauses.{apart_from, Ascending, InOrder};
+ghost use Rattle.listed.specs.Lists.{In, Ascending};
+ghost use Rattle.clause_pool.specs.Clauses.{apart_from};
+ghost use Rattle.clause_pool.specs.Lists.{InOrder};
 ghost use Rattle.clause_families.specs.Inclusion.{has_shorter, is_within};
 ghost use Rattle.clause_families.specs.Branches.{any_of, begin_of, chain, nodes_of, shared, BuiltOf, Grows, HasFamily, Leaps, Leapt, Standing, Tree, TreeOf};
 

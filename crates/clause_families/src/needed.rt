@@ -6,18 +6,18 @@ ghost use Rattle.std.specs.Prelude.{◌≡◌, ℕ, ◌<◌, List, IfOk, length,
 ghost use Rattle.std.specs.Bool.{OnFalse, OnTrue};
 ghost use Rattle.std.specs.Option.{ForSome};
 ghost use Rattle.clause_pool.specs.Interned.{clauses_at, OfPool, IsPool};
-ghost use Rattle.row_book.specs.Sets.{In};
-ghost use Rattle.row_book.specs.Clauses.{apart_from, Ascending, InOrder};
-ghost use Rattle.row_book.specs.Within.{some_within};
+ghost use Rattle.listed.specs.Lists.{In, Ascending};
+ghost use Rattle.clause_pool.specs.Clauses.{apart_from};
+ghost use Rattle.clause_pool.specs.Lists.{InOrder};
+ghost use Rattle.clause_pool.specs.Within.{some_within};
 ghost use Rattle.clause_families.specs.Inclusion.{has_shorter, is_strictly_inside, stays};
 ghost use Rattle.clause_families.specs.Branches.{TreeOf};
 ghost use Rattle.clause_families.specs.Families.{IncludesOneOf, IsNeedless, IsShortest};
 
 use crate::family_tree::FamilyTree;
 use crate::scratch::Clause;
-use clause_pool::{ClauseId, Pool};
+use clause_pool::{ClauseId, Pool, has_within};
 use listed::{holds_ascending, is_inside_ascending};
-use row_book::has_within;
 use std::alloc::{AllocError, Global};
 
 /// So few clauses that each of them is looked at.

@@ -6,8 +6,8 @@ use Rattle.std.proofs.lemmas.List.Filters.{length-filter_both}
 use Rattle.std.proofs.lemmas.Nat.{mul-le}
 use Rattle.std.proofs.Math.Nat.{suc-mul}
 use Rattle.listed.proofs.Lists.{filter_short}
-use Rattle.row_book.specs.Sets.{has}
-use Rattle.row_book.specs.Clauses.{apart_from, comes_before, insert_clause, in_row_order, is_inside, minimal_of}
+use Rattle.listed.specs.Lists.{has, is_inside}
+use Rattle.clause_pool.specs.Clauses.{apart_from, comes_before, insert_clause, in_row_order, minimal_of}
 use Rattle.clause_flatten.specs.Holding.{clauses_with, most_clauses}
 use Rattle.clause_families.specs.Unions.{all_unions_for, clause_without, substituted, union_of, unions_for}
 use Rattle.clause_families.proofs.Families.{At, filter_kept, filter_left}

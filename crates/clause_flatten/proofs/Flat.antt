@@ -1,7 +1,8 @@
 -- Flattening keeps every set.
 use Rattle.std.proofs.Common.{◌≡◌, ◌≢◌, ℕ, zero, suc, ◌<◌, Bool, true, false, not, ◌&&◌, ◌||◌, cond, [], length, inl, inr, refl, sym, ◌∙◌, ap, subst, arith, Option, Some, None, zero-le}
 use Rattle.std.proofs.lemmas.Bool.{both_ways, cases_Bool, and_parts, and_from, or_parts, not-true, not_from_false, true_from_ne_false, ltb-true, lt-ltb}
-use Rattle.row_book.specs.Sets.{NumSet, In, plus, without}
+use Rattle.row_book.specs.Sets.{NumSet, plus, without}
+use Rattle.listed.specs.Lists.{In}
 use Rattle.row_book.specs.Repository.{Repository, against}
 use Rattle.row_book.specs.Support.{IsRow, row}
 use Rattle.row_book.specs.Sound.{BetweenPackages, OfPackages}
@@ -9,8 +10,8 @@ use Rattle.row_book.specs.Flattening.{core_of, flat, gone_or_held, has_conflict,
 use Rattle.clause_flatten.specs.Laws.{HoldsConflicts}
 use Rattle.clause_flatten.specs.FlatLaws.{FlatKeeps, NextIsLeast}
 use Rattle.row_book.proofs.Sets.{without_from, without_parts}
-use Rattle.row_book.proofs.Lists.{any_none}
-use Rattle.row_book.proofs.Order.{at_numbers, length_numbers, numbers_from}
+use Rattle.listed.proofs.Lists.{any_none}
+use Rattle.row_book.proofs.Numbers.{at_numbers, length_numbers, numbers_from}
 use Rattle.clause_flatten.proofs.Kept.{keeps_every_set_lem}
 use Rattle.clause_flatten.proofs.Rows.{row_is}
 use Rattle.clause_flatten.proofs.Choice.{none_soonest, soonest_from, soonest_is, soonest_least, soonest_none}

@@ -2,11 +2,11 @@
 use Rattle.std.proofs.Common.{◌≡◌, ℕ, ◌<◌, ◌+◌, List, [], ◌∷◌, length, get_or, drop, drop-cons, add-one, inl, inr, refl, sym, ◌∙◌, ap, ap₂, subst}
 use Rattle.std.proofs.lemmas.Bool.{cases_eq}
 use Rattle.std.proofs.lemmas.List.{get_or-set_same, get_or-set_other, length-set}
-use Rattle.listed.proofs.Lists.{In_drop}
+use Rattle.listed.proofs.Lists.{In_drop, In_cases, In_none, decided_in}
 use Rattle.clause_pool.proofs.Lists.{In_at}
-use Rattle.row_book.specs.Sets.{In, here, there}
-use Rattle.row_book.specs.Clauses.{Ascending, InOrder, Inside, in_row_order}
-use Rattle.row_book.proofs.Lists.{In_cases, In_none, decided_in}
+use Rattle.listed.specs.Lists.{In, here, there, Ascending, Inside}
+use Rattle.clause_pool.specs.Lists.{InOrder}
+use Rattle.clause_pool.specs.Clauses.{in_row_order}
 use Rattle.clause_flatten.specs.Substitution.{table_row, table_turned, table_without}
 use Rattle.clause_families.specs.Unions.{substituted}
 use Rattle.clause_flatten.proofs.Replacing.{not_behind, same_items}

@@ -3,15 +3,16 @@ use Rattle.std.proofs.Common.{◌≡◌, ℕ, zero, suc, ◌<◌, ◌≤◌, ◌
 use Rattle.std.specs.List.{find, list_any}
 use Rattle.std.specs.Option.{option_map}
 use Rattle.std.proofs.lemmas.Bool.{both_ways, cases_Bool, cases_eq, ltb-false, ltb-true}
-use Rattle.row_book.specs.Sets.{In, NumSet, has, without}
+use Rattle.listed.specs.Lists.{In, has}
+use Rattle.row_book.specs.Sets.{NumSet, without}
 use Rattle.row_book.specs.Repository.{Repository}
-use Rattle.row_book.specs.Clauses.{numbers}
+use Rattle.row_book.specs.Numbers.{numbers}
 use Rattle.row_book.specs.Support.{row}
 use Rattle.row_book.specs.Sound.{OfPackages}
 use Rattle.row_book.specs.Flattening.{first_some, gone_or_held, has_conflict, next_gone, packages, Passed, passed_at, passes, passes_over, remaining_after, row_length, Remaining}
 use Rattle.row_book.proofs.Sets.{plus_cases}
-use Rattle.row_book.proofs.Lists.{In_has, any_cases, any_none, find_none, has_In}
-use Rattle.row_book.proofs.Order.{numbers_from, numbers_parts}
+use Rattle.listed.proofs.Lists.{In_has, any_cases, any_none, find_none, has_In}
+use Rattle.row_book.proofs.Numbers.{numbers_from, numbers_parts}
 use Rattle.clause_flatten.specs.FlatLaws.{HeldIsUsed, HoldStaysWithin}
 use Rattle.clause_flatten.proofs.Rows.{Stands, member_stands, row_is}
 use Rattle.clause_flatten.proofs.Tables.{one_row_lem, own_row, row_order}

@@ -4,11 +4,11 @@ use Rattle.std.specs.Option.{option_map}
 use Rattle.std.proofs.lemmas.Bool.{both_ways, cases_Bool, true_from_ne_false, le-ltb}
 use Rattle.row_book.specs.Sets.{NumSet}
 use Rattle.row_book.specs.Repository.{Repository}
-use Rattle.row_book.specs.Clauses.{numbers}
+use Rattle.row_book.specs.Numbers.{numbers}
 use Rattle.row_book.specs.Sound.{OfPackages, SoundClauses}
 use Rattle.row_book.specs.Flattening.{Passed, Remaining, first_some, has_conflict, may_go, next_gone, packages, passed_at, passed_by, passes, remaining_after, row_length, rows_over}
-use Rattle.row_book.proofs.Lists.{find_not}
-use Rattle.row_book.proofs.Order.{numbers_parts}
+use Rattle.listed.proofs.Lists.{find_not}
+use Rattle.row_book.proofs.Numbers.{numbers_parts}
 use Rattle.clause_flatten.specs.Substitution.{first_table, length_in, stage_after}
 use Rattle.clause_flatten.specs.TidyRows.{tidied_table}
 use Rattle.clause_flatten.specs.Waiting.{IsFirst}

@@ -4,11 +4,11 @@ use Rattle.std.proofs.lemmas.List.{length-map, map-append, take_more}
 use Rattle.clause_pool.specs.Interned.{Interned, IsPool, Kept, OfPool, clause_at, clauses_at, row_at}
 use Rattle.clause_pool.proofs.Interned.{clauses_kept, kept_along, kept_of_pool, row_stays}
 use Rattle.clause_pool.proofs.Lists.{In_place}
-use Rattle.row_book.specs.Sets.{In, here, there}
-use Rattle.row_book.specs.Clauses.{InOrder}
+use Rattle.listed.specs.Lists.{In, here, there}
+use Rattle.clause_pool.specs.Lists.{InOrder}
 use Rattle.row_book.specs.Book.{RowsFit, listed_for}
 use Rattle.row_book.specs.Holders.{ListsFit}
-use Rattle.row_book.proofs.Lists.{In_append_cases, In_cases, In_map, In_map_cases, In_none}
+use Rattle.listed.proofs.Lists.{In_append_cases, In_cases, In_map, In_map_cases, In_none}
 use Rattle.clause_flatten.specs.Ready.{table_of}
 use Rattle.clause_flatten.proofs.Turning.{lent_row}
 

@@ -5,14 +5,17 @@ use Rattle.std.proofs.lemmas.Bool.{cases_eq}
 use Rattle.std.proofs.lemmas.List.{get_or-set_same, get_or-set_other, get_or-map, length-set, length-map}
 use Rattle.clause_pool.specs.Interned.{Interned, IsPool, Kept, row_at}
 use Rattle.clause_pool.proofs.Lists.{In_at}
-use Rattle.row_book.specs.Sets.{In, here, there, has}
-use Rattle.row_book.specs.Clauses.{Ascending, Inside, apart_from, numbers, in_row_order}
+use Rattle.listed.specs.Lists.{In, here, there, has, Ascending, Inside}
+use Rattle.clause_pool.specs.Clauses.{apart_from, in_row_order}
+use Rattle.row_book.specs.Numbers.{numbers}
 use Rattle.row_book.specs.Book.{RowsFit, RowsTidy, listed_for}
 use Rattle.row_book.specs.Uses.{row_holds, row_id, users_of, uses_of}
-use Rattle.row_book.proofs.Lists.{In_cases, In_has, In_none, any_cases, any_from, ascending_same, filter_cases, filter_from, has_In, filter_same}
+use Rattle.listed.proofs.Lists.{In_cases, In_has, In_none, any_cases, any_from, filter_cases, filter_from, has_In, filter_same}
+use Rattle.listed.proofs.Orders.{ascending_same}
 use Rattle.row_book.proofs.Books.{row_kept}
-use Rattle.row_book.proofs.Clauses.{apart_cases, minimal_of_parts}
-use Rattle.row_book.proofs.Order.{at_numbers, map_same, numbers_from, numbers_parts, ordered_parts}
+use Rattle.clause_pool.proofs.Clauses.{apart_cases, minimal_of_parts}
+use Rattle.row_book.proofs.Numbers.{at_numbers, map_same, numbers_from, numbers_parts}
+use Rattle.clause_pool.proofs.Order.{ordered_parts}
 use Rattle.clause_flatten.specs.Substitution.{table_without, table_row}
 use Rattle.clause_families.specs.Unions.{clause_without, all_unions_for, substituted}
 use Rattle.clause_families.proofs.Unions.{Comes, dropped_parts, joined_ascending, joined_cases, replaced_cases}

@@ -8,15 +8,15 @@ use Rattle.clause_pool.proofs.Interned.{kept_along, kept_same}
 use Rattle.row_book.specs.declared.book.Book.{Book}
 use Rattle.row_book.specs.Sets.{NumSet, without}
 use Rattle.row_book.specs.Repository.{Repository}
-use Rattle.row_book.specs.Clauses.{numbers}
+use Rattle.row_book.specs.Numbers.{numbers}
 use Rattle.row_book.specs.Holders.{Holders}
 use Rattle.row_book.specs.Book.{Sound, repository_of}
 use Rattle.row_book.specs.Flags.{flag}
 use Rattle.row_book.specs.Flattening.{Passed, Remaining, at_last, flat, gone_or_held, has_conflict, held_of, may_go, next_gone, none_gone, packages, passed_by, passes, remaining_after, row_length, rows_over}
 use Rattle.row_book.proofs.Sets.{plus_new}
 use Rattle.row_book.proofs.Books.{sound_clauses}
-use Rattle.row_book.proofs.Lists.{filter_same, find_some}
-use Rattle.row_book.proofs.Order.{numbers_parts}
+use Rattle.listed.proofs.Lists.{filter_same, find_some}
+use Rattle.row_book.proofs.Numbers.{numbers_parts}
 use Rattle.clause_flatten.specs.Ready.{AreReady, table_of}
 use Rattle.clause_flatten.specs.Substitution.{table_without, table_passes, length_in}
 use Rattle.clause_flatten.specs.Refusals.{OnLimit}

@@ -4,12 +4,15 @@ use Rattle.std.specs.List.{find}
 use Rattle.std.specs.Option.{option_map}
 use Rattle.std.proofs.lemmas.Bool.{cond-true, cond-false, ltb-false}
 use Rattle.std.proofs.lemmas.List as lists
-use Rattle.row_book.specs.Sets.{In, has}
-use Rattle.row_book.specs.Clauses.{InOrder, Inside, apart_from, numbers, in_row_order}
+use Rattle.listed.specs.Lists.{In, has, Inside}
+use Rattle.clause_pool.specs.Lists.{InOrder}
+use Rattle.clause_pool.specs.Clauses.{apart_from, in_row_order}
+use Rattle.row_book.specs.Numbers.{numbers}
 use Rattle.row_book.specs.Flattening.{Passed, passed_by}
-use Rattle.row_book.proofs.Lists.{any_none, find_not, find_none}
-use Rattle.row_book.proofs.Clauses.{apart_cases, apart_in, minimal_of_from, minimal_of_parts}
-use Rattle.row_book.proofs.Order.{at_numbers, length_numbers, numbers_from, numbers_parts, order_same, ordered_has, ordered_order, ordered_parts, numbers_count}
+use Rattle.listed.proofs.Lists.{any_none, find_not, find_none}
+use Rattle.clause_pool.proofs.Clauses.{apart_cases, apart_in, minimal_of_from, minimal_of_parts}
+use Rattle.row_book.proofs.Numbers.{at_numbers, length_numbers, numbers_from, numbers_parts, numbers_count}
+use Rattle.clause_pool.proofs.Order.{order_same, ordered_has, ordered_order, ordered_parts}
 use Rattle.clause_flatten.specs.Substitution.{table_without, table_passes, length_in, table_row}
 use Rattle.clause_families.specs.Unions.{all_unions_for, substituted}
 use Rattle.clause_flatten.specs.TakingOut.{counted_anew, is_over}

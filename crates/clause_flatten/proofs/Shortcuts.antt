@@ -1,11 +1,11 @@
 -- Rows that need no work.
 use Rattle.std.proofs.Common.{ℕ, List, inl, inr, refl, sym, subst}
-use Rattle.row_book.specs.Sets.{In}
-use Rattle.row_book.specs.Clauses.{apart_from, in_row_order}
+use Rattle.listed.specs.Lists.{In}
+use Rattle.clause_pool.specs.Clauses.{apart_from, in_row_order}
 use Rattle.clause_families.specs.Unions.{all_unions_for, substituted}
 use Rattle.clause_flatten.specs.FlatLaws.{UntouchedStays}
-use Rattle.row_book.proofs.Clauses.{apart_cases, apart_in, minimal_of_from, minimal_of_parts}
-use Rattle.row_book.proofs.Order.{order_same, ordered_has, ordered_order, ordered_parts}
+use Rattle.clause_pool.proofs.Clauses.{apart_cases, apart_in, minimal_of_from, minimal_of_parts}
+use Rattle.clause_pool.proofs.Order.{order_same, ordered_has, ordered_order, ordered_parts}
 use Rattle.clause_families.proofs.Unions.{Comes, replaced_cases, replaced_kept}
 
 -- a row that q does not stand in stays as it is

@@ -3,7 +3,9 @@ use Rattle.std.proofs.Common.{◌≡◌, ℕ, ◌<◌, ◌≤◌, ◌+◌, eqb, 
 use Rattle.std.proofs.lemmas.Bool.{cases_eq}
 use Rattle.row_book.specs.Sets.{NumSet, without}
 use Rattle.row_book.specs.Repository.{Repository}
-use Rattle.row_book.specs.Clauses.{InOrder, numbers, in_row_order, subsets}
+use Rattle.clause_pool.specs.Lists.{InOrder}
+use Rattle.row_book.specs.Numbers.{numbers, subsets}
+use Rattle.clause_pool.specs.Clauses.{in_row_order}
 use Rattle.row_book.specs.Support.{IsRow, is_minimal_block, row}
 use Rattle.row_book.specs.Sound.{OfPackages}
 use Rattle.row_book.specs.Flattening.{rows_over}
@@ -11,7 +13,8 @@ use Rattle.clause_flatten.specs.Substitution.{table_without, table_row}
 use Rattle.clause_families.specs.Unions.{substituted}
 use Rattle.clause_flatten.specs.FlatLaws.{OneRow, RowComputes, RowIsOne, TableStep}
 use Rattle.row_book.proofs.Sets.{without_parts}
-use Rattle.row_book.proofs.Order.{at_numbers, length_numbers, map_same, numbers_parts, order_filter, order_same, ordered_has, ordered_order, ordered_parts, subsets_order}
+use Rattle.row_book.proofs.Numbers.{at_numbers, length_numbers, map_same, numbers_parts, subsets_order}
+use Rattle.clause_pool.proofs.Order.{order_filter, order_same, ordered_has, ordered_order, ordered_parts}
 use Rattle.clause_flatten.proofs.Kept.{own_row_stays_lem}
 use Rattle.clause_flatten.proofs.Rows.{row_is}
 use Rattle.clause_flatten.proofs.Substituted.{substitutes_lem}

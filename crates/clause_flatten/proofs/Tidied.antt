@@ -7,23 +7,26 @@ use Rattle.std.proofs.lemmas.List as lists
 use Rattle.std.proofs.lemmas.List.{get_or_default}
 use Rattle.listed.proofs.Bools.{same_bool}
 use Rattle.clause_pool.specs.Interned.{Interned, IsPool, OfPool, clause_at, clauses_at, ids_at, row_at}
-use Rattle.row_book.specs.Sets.{In, has, here, there}
-use Rattle.row_book.specs.Clauses.{Ascending, InOrder, Inside, apart_from, is_inside, minimal_of, numbers}
+use Rattle.listed.specs.Lists.{In, has, here, there, Ascending, Inside, is_inside}
+use Rattle.clause_pool.specs.Lists.{InOrder}
+use Rattle.clause_pool.specs.Clauses.{apart_from, minimal_of}
+use Rattle.row_book.specs.Numbers.{numbers}
 use Rattle.row_book.specs.Uses.{row_id}
 use Rattle.row_book.specs.Book.{RowsFit, listed_for}
 use Rattle.row_book.specs.Holders.{ListsFit}
 use Rattle.row_book.proofs.Books.{in_listed, row_ascending}
-use Rattle.row_book.proofs.Lists.{In_append_cases, In_cases, In_has, In_map, In_map_cases, In_none, any_cases, any_from, any_none, ascending_same, filter_cases, filter_from, has_not, In_at}
-use Rattle.row_book.proofs.Clauses.{apart_cases, apart_in, inside_at, inside_from, minimal_of_from, minimal_of_parts}
-use Rattle.row_book.proofs.Order.{at_numbers, length_numbers, map_same, numbers_parts, order_filter, order_same, ordered_has, ordered_order, ordered_parts, numbers_more}
+use Rattle.listed.proofs.Lists.{In_append_cases, In_cases, In_has, In_map, In_map_cases, In_none, any_cases, any_from, any_none, filter_cases, filter_from, has_not, In_at}
+use Rattle.listed.proofs.Orders.{ascending_same}
+use Rattle.clause_pool.proofs.Clauses.{apart_cases, apart_in, inside_at, inside_from, minimal_of_from, minimal_of_parts}
+use Rattle.row_book.proofs.Numbers.{at_numbers, length_numbers, map_same, numbers_parts, numbers_more}
+use Rattle.clause_pool.proofs.Order.{order_filter, order_same, ordered_has, ordered_order, ordered_parts}
 use Rattle.clause_flatten.specs.Substitution.{table_row}
-use Rattle.row_book.specs.Within.{is_within, some_within}
+use Rattle.clause_pool.specs.Within.{is_within, some_within}
 use Rattle.row_book.proofs.Repositories.{numbers_test, same_numbers}
-use Rattle.clause_families.specs.Inclusion.{has_shorter, is_strictly_inside}
+use Rattle.clause_families.specs.Inclusion.{has_shorter, is_strictly_inside, stays}
 use Rattle.clause_families.proofs.Families.{not_shorter, some_shorter}
 use Rattle.clause_flatten.specs.Ready.{ListsTidy, table_of}
 use Rattle.clause_flatten.specs.TidyRows.{begins_empty, first_row, tidied_table}
-use Rattle.clause_families.specs.Inclusion.{stays}
 use Rattle.clause_flatten.proofs.WorkedRows.{lists_at}
 
 -- another clause within a clause is a shorter one

@@ -3,8 +3,9 @@ use Rattle.std.proofs.Common.{◌≡◌, ℕ, ◌<◌, List, [], ◌++◌, lengt
 use Rattle.std.proofs.lemmas.List.{get_or_default}
 use Rattle.clause_pool.specs.Interned.{Interned, Kept, OfPool, clause_at, clauses_at}
 use Rattle.clause_pool.proofs.Interned.{kept_same}
-use Rattle.row_book.specs.Sets.{In}
-use Rattle.row_book.specs.Clauses.{InOrder, apart_from, in_row_order, minimal_of}
+use Rattle.listed.specs.Lists.{In}
+use Rattle.clause_pool.specs.Lists.{InOrder}
+use Rattle.clause_pool.specs.Clauses.{apart_from, in_row_order, minimal_of}
 use Rattle.row_book.specs.Book.{listed_for}
 use Rattle.row_book.specs.Holders.{Holders, TellsRows}
 use Rattle.row_book.proofs.Holders.{tells_part}

@@ -5,11 +5,12 @@ use Rattle.std.proofs.lemmas.Bool.{both_ways, cases_Bool, cases_eq, cases_lt, co
 use Rattle.std.proofs.lemmas.List as lists
 use Rattle.clause_pool.specs.Interned.{Interned, clauses_at}
 use Rattle.row_book.specs.Book.{listed_for}
-use Rattle.row_book.specs.Clauses.{in_row_order, numbers}
+use Rattle.clause_pool.specs.Clauses.{in_row_order}
+use Rattle.row_book.specs.Numbers.{numbers}
 use Rattle.row_book.specs.Holders.{is_user, users_in, ListsFit}
-use Rattle.row_book.specs.Sets.{In, has, here, there}
-use Rattle.row_book.proofs.Lists.{In_has, any_cases, any_from, filter_cases, find_none, has_not}
-use Rattle.row_book.proofs.Order.{numbers_from, numbers_parts}
+use Rattle.listed.specs.Lists.{In, has, here, there}
+use Rattle.listed.proofs.Lists.{In_has, any_cases, any_from, filter_cases, find_none, has_not}
+use Rattle.row_book.proofs.Numbers.{numbers_from, numbers_parts}
 use Rattle.clause_flatten.specs.Ready.{ListsTidy, table_of}
 use Rattle.clause_flatten.specs.Substitution.{table_passes, table_row, table_without, length_in}
 use Rattle.clause_families.specs.Unions.{substituted}

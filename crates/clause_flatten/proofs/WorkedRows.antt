@@ -4,13 +4,17 @@ use Rattle.std.proofs.lemmas.Bool.{cases_eq}
 use Rattle.std.proofs.lemmas.List.{get_or-set_same, get_or-set_other, length-map, length-set, map-set}
 use Rattle.clause_pool.specs.Interned.{Interned, Kept, OfPool, clause_at, clauses_at}
 use Rattle.clause_pool.proofs.Interned.{clauses_kept, kept_of_pool}
-use Rattle.row_book.specs.Sets.{In, has, here}
-use Rattle.row_book.specs.Clauses.{Ascending, InOrder, Inside, in_row_order, numbers}
+use Rattle.listed.specs.Lists.{In, has, here, Ascending, Inside}
+use Rattle.clause_pool.specs.Lists.{InOrder}
+use Rattle.clause_pool.specs.Clauses.{in_row_order}
+use Rattle.row_book.specs.Numbers.{numbers}
 use Rattle.row_book.specs.Book.{listed_for}
 use Rattle.row_book.specs.Holders.{is_user, users_in, ListsFit}
 use Rattle.row_book.proofs.Holders.{is_found}
-use Rattle.row_book.proofs.Lists.{In_has, In_map, In_map_cases, any_cases, any_from, ascending_filter, filter_cases, has_In}
-use Rattle.row_book.proofs.Order.{numbers_ascending, numbers_parts, ordered_order}
+use Rattle.listed.proofs.Lists.{In_has, In_map, In_map_cases, any_cases, any_from, filter_cases, has_In}
+use Rattle.listed.proofs.Orders.{ascending_filter}
+use Rattle.row_book.proofs.Numbers.{numbers_ascending, numbers_parts}
+use Rattle.clause_pool.proofs.Order.{ordered_order}
 use Rattle.clause_flatten.specs.Ready.{ListsTidy, table_of}
 use Rattle.clause_flatten.specs.Substitution.{table_row, table_turned, table_without}
 use Rattle.clause_families.specs.Unions.{substituted}

@@ -2,8 +2,8 @@
 -- How many clauses a row can have once a package is taken out.
 use Rattle.std.specs.Prelude.{ℕ, ◌+◌, ◌*◌, List, length}
 use Rattle.std.specs.List.{filter}
-use Rattle.row_book.specs.Sets.{has}
-use Rattle.row_book.specs.Clauses.{apart_from}
+use Rattle.listed.specs.Lists.{has}
+use Rattle.clause_pool.specs.Clauses.{apart_from}
 
 -- the clauses that hold the number
 abbrev pub clauses_with : ℕ → List (List ℕ) → List (List ℕ)

@@ -2,7 +2,7 @@
 use Rattle.std.specs.Prelude.{◌≡◌, ◌≢◌, ℕ, ◌<◌, true, false, List, length, ◌⊎◌, ◌↔◌, cond}
 use Rattle.row_book.specs.Sets.{NumSet, Within, Is, HitsAll, plus, without, union}
 use Rattle.row_book.specs.Repository.{Repository, Coinst, Healthy, Satisfied, clauses_of, against}
-use Rattle.row_book.specs.Clauses.{minimal_of, apart_from}
+use Rattle.clause_pool.specs.Clauses.{minimal_of, apart_from}
 use Rattle.row_book.specs.Support.{Support, IsRow}
 use Rattle.row_book.specs.Sound.{OfPackages, SoundClauses}
 use Rattle.row_book.specs.Flattening.{all_packages}

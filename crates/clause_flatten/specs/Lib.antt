@@ -1,9 +1,3 @@
-pub use Rattle.row_book.specs.Sets
-pub use Rattle.row_book.specs.Repository
-pub use Rattle.row_book.specs.Clauses
-pub use Rattle.row_book.specs.Support
-pub use Rattle.row_book.specs.Sound
-pub use Rattle.row_book.specs.Flattening
 pub mod Substitution
 pub mod Laws
 pub mod FlatLaws

@@ -2,8 +2,7 @@
 -- Rows that packages can be taken out of, each as the ids of its clauses.
 use Rattle.std.specs.Prelude.{◌≡◌, ℕ, List, map}
 use Rattle.clause_pool.specs.Interned.{Interned, clauses_at}
-use Rattle.row_book.specs.Sets.{In}
-use Rattle.row_book.specs.Clauses.{Inside}
+use Rattle.listed.specs.Lists.{In, Inside}
 use Rattle.row_book.specs.Book.{listed_for}
 use Rattle.row_book.specs.Holders.{Holders, ListsFit, TellsRows}
 

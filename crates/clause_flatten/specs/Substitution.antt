@@ -3,7 +3,8 @@ use Rattle.std.specs.Prelude.{ℕ, zero, suc, Bool, ◌&&◌, eqb, ltb, cond, Li
 use Rattle.std.specs.List.{list_any}
 use Rattle.row_book.specs.Sets.{plus, without}
 use Rattle.row_book.specs.Repository.{Repository, clauses_of}
-use Rattle.row_book.specs.Clauses.{apart_from, minimal_of, in_row_order, numbers}
+use Rattle.clause_pool.specs.Clauses.{apart_from, minimal_of, in_row_order}
+use Rattle.row_book.specs.Numbers.{numbers}
 use Rattle.clause_families.specs.Unions.{substituted}
 use Rattle.row_book.specs.Flattening.{packages, none_gone, may_go, soonest, Passed, passed_by, first_some, stages_tried, Remaining}
 

@@ -1,7 +1,7 @@
 -- for the bodies of this crate alone
 -- What is looked at when a package is taken out of a table of rows.
 use Rattle.std.specs.Prelude.{ℕ, Bool, ltb, eqb, cond, List, length}
-use Rattle.row_book.specs.Sets.{has}
+use Rattle.listed.specs.Lists.{has}
 use Rattle.row_book.specs.Book.{listed_for}
 use Rattle.clause_flatten.specs.Substitution.{length_in}
 

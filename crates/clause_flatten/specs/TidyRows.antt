@@ -1,7 +1,8 @@
 -- for the bodies of this crate alone
 -- Rows before any package is taken out: of the clauses of a package those that do not hold it, and of these the minimal ones.
 use Rattle.std.specs.Prelude.{ℕ, Bool, true, false, List, [], ◌∷◌, length, map}
-use Rattle.row_book.specs.Clauses.{apart_from, minimal_of, numbers, in_row_order}
+use Rattle.clause_pool.specs.Clauses.{apart_from, minimal_of, in_row_order}
+use Rattle.row_book.specs.Numbers.{numbers}
 use Rattle.clause_flatten.specs.Substitution.{table_row}
 
 -- the first row of a package from its clauses

@@ -5,7 +5,8 @@ ghost use Rattle.std.specs.Prelude.{◌≡◌, ◌<◌, ◌≤◌, ℕ, ◌&&◌
 ghost use Rattle.std.specs.List.{filter};
 ghost use Rattle.clause_pool.specs.Interned.{clauses_at, row_at, Interned, Kept, OfPool};
 ghost use Rattle.row_book.specs.Book.{repository_of, AreConflicts, RowsFit, Sound};
-ghost use Rattle.row_book.specs.Clauses.{numbers, InOrder};
+ghost use Rattle.row_book.specs.Numbers.{numbers};
+ghost use Rattle.clause_pool.specs.Lists.{InOrder};
 ghost use Rattle.row_book.specs.Flags.{flag};
 ghost use Rattle.row_book.specs.Flattening.{flat, held_of, passes};
 ghost use Rattle.row_book.specs.Holders.{ListsFit};

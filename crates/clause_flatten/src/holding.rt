@@ -4,8 +4,9 @@
 //! the limit, so asking interns nothing.
 ghost use Rattle.std.specs.Prelude.{◌≡◌, ◌≢◌, ◌++◌, ℕ, ◌<◌, ◌≤◌, ltb, List, IfOk, length};
 ghost use Rattle.clause_pool.specs.Interned.{clauses_at, OfPool, IsPool};
-ghost use Rattle.row_book.specs.Clauses.{apart_from, in_row_order, minimal_of, Ascending, InOrder, Inside};
-ghost use Rattle.row_book.specs.Sets.{In};
+ghost use Rattle.clause_pool.specs.Clauses.{apart_from, in_row_order, minimal_of};
+ghost use Rattle.listed.specs.Lists.{Ascending, Inside, In};
+ghost use Rattle.clause_pool.specs.Lists.{InOrder};
 ghost use Rattle.row_book.specs.Holders.{users_in, ListsFit};
 ghost use Rattle.std.specs.Option.{ForSome};
 ghost use Rattle.clause_flatten.specs.Ready.{table_of, AreReady, ListsTidy};

@@ -2,8 +2,8 @@
 ghost use Rattle.std.specs.Prelude.{◌≡◌, ◌≢◌, ◌<◌, ◌⊎◌, ℕ, List, IfOk, OnErr, OnOk, length, map, slice_set};
 ghost use Rattle.clause_pool.specs.Interned.{row_at, Kept};
 ghost use Rattle.row_book.specs.Book.{RowsFit, RowsTidy};
-ghost use Rattle.row_book.specs.Sets.{In};
-ghost use Rattle.row_book.specs.Clauses.{in_row_order};
+ghost use Rattle.listed.specs.Lists.{In};
+ghost use Rattle.clause_pool.specs.Clauses.{in_row_order};
 ghost use Rattle.row_book.specs.Uses.{row_id, users_of, uses_of};
 ghost use Rattle.clause_flatten.specs.Substitution.{table_without, table_row};
 ghost use Rattle.clause_families.specs.Unions.{substituted};

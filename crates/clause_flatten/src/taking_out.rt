@@ -5,8 +5,8 @@
 ghost use Rattle.std.specs.Prelude.{◌≡◌, ◌<◌, ◌≤◌, ◌&&◌, ℕ, Bool, false, cond, Some, IfOk, IfErr, OnOk, length};
 ghost use Rattle.std.specs.List.{find};
 ghost use Rattle.clause_pool.specs.Interned.{Interned, Kept};
-ghost use Rattle.row_book.specs.Sets.{In};
-ghost use Rattle.row_book.specs.Clauses.{numbers, Ascending};
+ghost use Rattle.listed.specs.Lists.{In, Ascending};
+ghost use Rattle.row_book.specs.Numbers.{numbers};
 ghost use Rattle.row_book.specs.Flattening.{passed_by};
 ghost use Rattle.clause_flatten.specs.Ready.{table_of, AreReady};
 ghost use Rattle.clause_flatten.specs.Substitution.{table_without, table_passes, length_in};

@@ -3,16 +3,16 @@ ghost use Rattle.std.specs.Prelude.{◌≡◌, ◌<◌, ℕ, List, IfOk, length,
 ghost use Rattle.std.specs.List.{filter};
 ghost use Rattle.clause_pool.specs.Interned.{clause_at, clauses_at, row_at, OfPool, IsPool};
 ghost use Rattle.row_book.specs.Book.{RowsFit};
-ghost use Rattle.row_book.specs.Clauses.{Ascending, InOrder};
+ghost use Rattle.listed.specs.Lists.{Ascending, In};
+ghost use Rattle.clause_pool.specs.Lists.{InOrder};
 ghost use Rattle.row_book.specs.Holders.{ListsFit};
-ghost use Rattle.row_book.specs.Sets.{In};
 ghost use Rattle.clause_flatten.specs.Ready.{table_of, ListsTidy};
 ghost use Rattle.clause_flatten.specs.TidyRows.{begins_empty, first_row, tidied_table};
 ghost use Rattle.clause_families.specs.Inclusion.{stays};
 
-use clause_pool::{ClauseId, Pool, RowId};
+use clause_pool::{ClauseId, Pool, RowId, has_within};
 use listed::{Listed, holds_ascending};
-use row_book::{IdList, has_within};
+use row_book::IdList;
 use std::alloc::{AllocError, Global};
 
 /// Whether the clause of the row stays: it does not hold the package, and no other one lies within it.

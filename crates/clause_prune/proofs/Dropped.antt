@@ -2,8 +2,8 @@
 use Rattle.std.proofs.Common.{◌≡◌, ℕ, zero, suc, ◌<◌, not, cond, List, [], ◌∷◌, ◌++◌, length, get_or, take, drop, inl, inr, refl, sym, ◌∙◌, ap, subst, arith, eq-eqb, ne_eqb}
 use Rattle.std.proofs.lemmas.List.{get_or-map, length-map}
 use Rattle.clause_pool.specs.Interned.{Interned, clause_at, clauses_at}
-use Rattle.row_book.specs.Clauses.{Before, InOrder}
-use Rattle.row_book.proofs.Lists.{In_at}
+use Rattle.clause_pool.specs.Lists.{Before, InOrder}
+use Rattle.listed.proofs.Lists.{In_at}
 use Rattle.clause_prune.specs.Tests.{ids_without}
 
 kept_first : (x clause : ℕ) (xs ys : List ℕ) → (x ≡ clause → ⊥) → ys ≡ ids_without xs clause → x ∷ ys ≡ ids_without (x ∷ xs) clause

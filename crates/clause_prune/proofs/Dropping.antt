@@ -4,17 +4,19 @@ use Rattle.std.specs.List.{list_all, list_any}
 use Rattle.std.specs.Cmp.Lexicographic.{pointwise}
 use Rattle.std.proofs.lemmas.Bool.{both_ways, cases_eq, cases_lt, and_parts, and_cases, or_cases, not-true, not-false, false_from_ne_true}
 use Rattle.std.proofs.lemmas.List.{get_or_past}
-use Rattle.row_book.specs.Sets.{NumSet, Within, In, here, there, Hit, Is, has, plus}
-use Rattle.row_book.specs.Clauses.{Inside, InOrder, is_inside}
+use Rattle.row_book.specs.Sets.{NumSet, Within, Hit, Is, plus}
+use Rattle.listed.specs.Lists.{In, here, there, has, Inside, is_inside}
+use Rattle.clause_pool.specs.Lists.{InOrder}
 use Rattle.row_book.specs.Repository.{Repository, Healthy, Coinst, against, clauses_of}
 use Rattle.row_book.specs.Flattening.{packages}
 use Rattle.row_book.specs.Sound.{TidyRepository}
 use Rattle.row_book.specs.Facing.{sides}
 use Rattle.row_book.specs.Rounds.{weigh}
 use Rattle.row_book.specs.Pruning.{made_dead, with_clauses, is_dead, with_empty_clause, others, without_clause, serves, is_forced, is_harmless, is_met, is_idle, is_dropped, prune_clause, prune_clauses, prune_package, prune_over, prune, lift_idle}
-use Rattle.row_book.proofs.Clauses.{inside_at}
-use Rattle.row_book.proofs.Lists.{In_cases, In_none, has_In, all_at, any_cases, any_hit, hit_any}
-use Rattle.row_book.proofs.Order.{order_filter}
+use Rattle.clause_pool.proofs.Clauses.{inside_at}
+use Rattle.listed.proofs.Lists.{In_cases, In_none, has_In, all_at, any_cases}
+use Rattle.row_book.proofs.Lists.{any_hit, hit_any}
+use Rattle.clause_pool.proofs.Order.{order_filter}
 use Rattle.row_book.proofs.Sets.{Hit-mono, plus_old, plus_new, plus_cases}
 use Rattle.row_book.proofs.Repositories.{both, healthy_coinst, Hit_inside, in_packages, symmetric}
 use Rattle.row_book.proofs.Facing.{face_parts, side_hit}

@@ -5,12 +5,11 @@ use Rattle.std.proofs.lemmas.Bool.{cases_eq, or_cases, or_left, or_right}
 use Rattle.std.proofs.lemmas.List.{get_or-set_other, take_more}
 use Rattle.std.proofs.lemmas.List.Folds.{list_any-append, list_any_more}
 use Rattle.clause_pool.specs.Interned.{Interned, clause_at, clauses_at, row_at}
-use Rattle.row_book.specs.Sets.{In, has, here}
+use Rattle.listed.specs.Lists.{In, has, here, is_inside}
 use Rattle.row_book.specs.Book.{listed_for}
-use Rattle.row_book.specs.Clauses.{is_inside}
 use Rattle.row_book.specs.Repository.{Repository, clauses_of}
 use Rattle.row_book.specs.Pruning.{serves}
-use Rattle.row_book.proofs.Lists.{In_append_cases, In_append_left, In_append_right, In_cases, In_has, In_map, In_map_cases, In_none, all_at, any_cases, any_from, has_In}
+use Rattle.listed.proofs.Lists.{In_append_cases, In_append_left, In_append_right, In_cases, In_has, In_map, In_map_cases, In_none, all_at, any_cases, any_from, has_In}
 use Rattle.clause_prune.specs.Filing.{AsksServing, Filed, FiledBelow, IsFiled, Takes, asks, under}
 use Rattle.clause_prune.specs.Tests.{with_ids}
 use Rattle.clause_prune.proofs.Passing.{left_own}

@@ -7,13 +7,12 @@ use Rattle.std.proofs.lemmas.List.{take_more}
 use Rattle.std.proofs.lemmas.List.Elements.{filter-append}
 use Rattle.listed.proofs.Bools.{same_bool}
 use Rattle.clause_pool.specs.Interned.{Interned}
-use Rattle.row_book.specs.Sets.{In, has, here, there}
-use Rattle.row_book.specs.Clauses.{is_inside}
+use Rattle.listed.specs.Lists.{In, has, here, there, is_inside}
 use Rattle.row_book.specs.Repository.{clauses_of}
 use Rattle.row_book.specs.Uses.{IsListOf}
-use Rattle.row_book.specs.Within.{is_within}
+use Rattle.clause_pool.specs.Within.{is_within}
 use Rattle.row_book.specs.Pruning.{serves}
-use Rattle.row_book.proofs.Lists.{In_has, all_same, filter_cases, filter_from, has_In}
+use Rattle.listed.proofs.Lists.{In_has, all_same, filter_cases, filter_from, has_In}
 use Rattle.clause_prune.specs.Filing.{AsksServing, Filed, asks}
 use Rattle.clause_prune.specs.Tests.{forces_in, with_ids}
 

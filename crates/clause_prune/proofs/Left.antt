@@ -6,17 +6,16 @@ use Rattle.std.specs.Cmp.Lexicographic.{pointwise}
 use Rattle.std.proofs.lemmas.Bool.{cases_eq}
 use Rattle.std.proofs.lemmas.List.{get_or-map, map-append, set-get_or}
 use Rattle.clause_pool.specs.Interned.{Interned, IsIdOf, IsPool, OfPool, clause_at, clauses_at, ids_at, row_at}
-use Rattle.row_book.specs.Facing.{face}
+use Rattle.row_book.specs.Facing.{face, against_in}
 use Rattle.row_book.specs.Uses.{row_id}
-use Rattle.row_book.specs.Sets.{In, here, there}
-use Rattle.row_book.specs.Clauses.{InOrder}
-use Rattle.row_book.proofs.Lists.{filter_cases}
-use Rattle.row_book.proofs.Order.{order_filter}
+use Rattle.listed.specs.Lists.{In, here, there}
+use Rattle.clause_pool.specs.Lists.{InOrder}
+use Rattle.listed.proofs.Lists.{filter_cases}
+use Rattle.clause_pool.proofs.Order.{order_filter}
 use Rattle.row_book.specs.Repository.{Repository, clauses_of}
 use Rattle.row_book.specs.Pruning.{made_dead, IdleClause, prune_clause, prune_clauses, is_forced, is_idle, others, is_dead, prune_package, step_by, with_clauses, without_clause}
 use Rattle.row_book.specs.Rounds.{IdleStep, RoundStep}
 use Rattle.row_book.proofs.Repositories.{repository_same}
-use Rattle.row_book.specs.Facing.{against_in}
 use Rattle.clause_prune.specs.Tests.{ids_without, with_ids, repository_in}
 use Rattle.clause_prune.proofs.Lifted.{any_found}
 use Rattle.clause_prune.proofs.Passing.{left_own, other_id, same_id}

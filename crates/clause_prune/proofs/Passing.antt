@@ -6,12 +6,11 @@ use Rattle.std.proofs.lemmas.Bool.{and_from, both_ways, cases_Bool, false_from_n
 use Rattle.std.proofs.lemmas.List.{get_or-set_same, length-map}
 use Rattle.listed.proofs.Bools.{same_bool}
 use Rattle.clause_pool.specs.Interned.{Interned, IsPool, clause_at, clauses_at, row_at}
-use Rattle.row_book.specs.Sets.{In, has}
-use Rattle.row_book.specs.Clauses.{is_inside}
+use Rattle.listed.specs.Lists.{In, has, is_inside}
 use Rattle.row_book.specs.Book.{listed_for}
 use Rattle.row_book.specs.Flattening.{packages}
 use Rattle.row_book.specs.Repository.{Repository, against, clauses_of}
-use Rattle.row_book.proofs.Lists.{In_has, In_map, all_at, all_from, all_same, has_In}
+use Rattle.listed.proofs.Lists.{In_has, In_map, all_at, all_from, all_same, has_In}
 use Rattle.row_book.proofs.Repositories.{in_packages, numbers_test, same_numbers}
 use Rattle.row_book.specs.Pruning.{is_forced, is_harmless, is_idle, is_met, serves}
 use Rattle.row_book.specs.Facing.{against_in}

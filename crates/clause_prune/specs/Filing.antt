@@ -4,7 +4,7 @@
 use Rattle.std.specs.Prelude.{◌≡◌, ◌<◌, ◌%◌, ◌⊎◌, ◌||◌, ℕ, Bool, true, List, [], ◌∷◌, length}
 use Rattle.std.specs.List.{list_any}
 use Rattle.std.specs.Global.{Vec}
-use Rattle.row_book.specs.Sets.{In, has}
+use Rattle.listed.specs.Lists.{In, has}
 use Rattle.row_book.specs.Book.{listed_for}
 use Rattle.row_book.specs.Holders.{HasAll}
 use Rattle.row_book.specs.Repository.{Repository}

@@ -3,10 +3,9 @@
 use Rattle.std.specs.Prelude.{ℕ, Bool, not, ◌&&◌, ◌||◌, eqb, List, [], filter, map, slice_set}
 use Rattle.std.specs.List.{list_all, list_any}
 use Rattle.std.specs.Cmp.Lexicographic.{pointwise}
-use Rattle.row_book.specs.Clauses.{is_inside}
+use Rattle.listed.specs.Lists.{is_inside, has}
 use Rattle.row_book.specs.Pruning.{serves}
 use Rattle.clause_pool.specs.Interned.{Interned, clauses_at, row_at}
-use Rattle.row_book.specs.Sets.{has}
 use Rattle.row_book.specs.Repository.{Repository}
 use Rattle.row_book.specs.Facing.{against_in}
 

@@ -1,8 +1,8 @@
 //! Pruning of the clauses of one package.
 ghost use Rattle.std.specs.Prelude.{◌≡◌, ◌<◌, ◌≤◌, ◌++◌, [], ℕ, IfOk, List, OnOk, length, map, true};
 ghost use Rattle.clause_pool.specs.Interned.{clause_at, clauses_at, OfPool};
-ghost use Rattle.row_book.specs.Sets.{In};
-ghost use Rattle.row_book.specs.Clauses.{Ascending, InOrder};
+ghost use Rattle.listed.specs.Lists.{In, Ascending};
+ghost use Rattle.clause_pool.specs.Lists.{InOrder};
 ghost use Rattle.row_book.specs.Book.{listed_for, RowsFit};
 ghost use Rattle.row_book.specs.Repository.{Repository};
 ghost use Rattle.row_book.specs.Pruning.{prune_clause, prune_clauses};

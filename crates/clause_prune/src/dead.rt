@@ -6,11 +6,12 @@ ghost use Rattle.std.specs.Prelude.{◌≡◌, ◌∷◌, [], ℕ, IfOk};
 ghost use Rattle.std.specs.List.{list_any};
 ghost use Rattle.clause_pool.specs.Interned.{clauses_at, IsPool, OfPool};
 ghost use Rattle.row_book.specs.Book.{listed_for};
-ghost use Rattle.row_book.specs.Clauses.{Ascending, InOrder};
+ghost use Rattle.listed.specs.Lists.{Ascending};
+ghost use Rattle.clause_pool.specs.Lists.{InOrder};
 ghost use Rattle.row_book.specs.Facing.{against_in, all_against, face};
 
-use clause_pool::{ClauseId, NumList, Pool};
-use row_book::{common_conflicts, has_side_within};
+use clause_pool::{ClauseId, NumList, Pool, has_side_within};
+use row_book::common_conflicts;
 use std::alloc::{AllocError, Global};
 
 /// Whether the list conflicts as a whole with the package, or with a clause of its row: whether that is within the

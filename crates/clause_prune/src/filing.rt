@@ -2,8 +2,8 @@
 ghost use Rattle.std.specs.Prelude.{◌≡◌, ◌<◌, ◌∷◌, ◌++◌, ◌%◌, ◌⊎◌, [], ℕ, IfOk, List, OnOk, length};
 ghost use Rattle.std.specs.Bool.{OnTrue};
 ghost use Rattle.clause_pool.specs.Interned.{clauses_at, OfPool};
-ghost use Rattle.row_book.specs.Sets.{has, In};
-ghost use Rattle.row_book.specs.Clauses.{Ascending, InOrder};
+ghost use Rattle.listed.specs.Lists.{has, In, Ascending};
+ghost use Rattle.clause_pool.specs.Lists.{InOrder};
 ghost use Rattle.row_book.specs.Book.{RowsFit};
 ghost use Rattle.row_book.specs.Repository.{clauses_of};
 ghost use Rattle.row_book.specs.Uses.{list_in, lists_in};

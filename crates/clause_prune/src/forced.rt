@@ -1,8 +1,8 @@
 //! Whether a clause is hit as soon as the others are.
 ghost use Rattle.std.specs.Prelude.{◌≡◌, ◌<◌, ◌||◌, [], ℕ, IfOk, filter, length, true};
 ghost use Rattle.clause_pool.specs.Interned.{clause_at, clauses_at, OfPool};
-ghost use Rattle.row_book.specs.Sets.{has, In};
-ghost use Rattle.row_book.specs.Clauses.{Ascending, InOrder};
+ghost use Rattle.listed.specs.Lists.{has, In, Ascending};
+ghost use Rattle.clause_pool.specs.Lists.{InOrder};
 ghost use Rattle.row_book.specs.Book.{RowsFit};
 ghost use Rattle.row_book.specs.Repository.{clauses_of};
 ghost use Rattle.row_book.specs.Uses.{IsListOf};
@@ -11,8 +11,7 @@ ghost use Rattle.clause_prune.specs.Filing.{AsksServing, FiledBelow};
 ghost use Rattle.clause_prune.specs.Tests.{with_ids};
 
 use crate::filing::Filed;
-use clause_pool::{ClauseId, Pool, RowId};
-use row_book::{has_side_within, has_within};
+use clause_pool::{ClauseId, Pool, RowId, has_side_within, has_within};
 use std::alloc::{AllocError, Global};
 
 /// The clauses of a package: of the one that is pruned those that are left.

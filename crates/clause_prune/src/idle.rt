@@ -6,16 +6,16 @@ ghost use Rattle.std.specs.Prelude.{◌≡◌, ◌<◌, ◌&&◌, ◌||◌, [], 
 ghost use Rattle.std.specs.Cmp.Lexicographic.{pointwise};
 ghost use Rattle.std.specs.List.{find, list_all, list_any};
 ghost use Rattle.clause_pool.specs.Interned.{clause_at, clauses_at, OfPool, IsPool};
-ghost use Rattle.row_book.specs.Sets.{has, In};
-ghost use Rattle.row_book.specs.Clauses.{Ascending, InOrder};
+ghost use Rattle.listed.specs.Lists.{has, In, Ascending};
+ghost use Rattle.clause_pool.specs.Lists.{InOrder};
 ghost use Rattle.row_book.specs.Book.{listed_for, RowsFit};
 ghost use Rattle.row_book.specs.Pruning.{is_idle};
 ghost use Rattle.row_book.specs.Facing.{against_in};
 ghost use Rattle.clause_prune.specs.Tests.{excludes_in, harmless_in, includes_in, with_ids, met_in};
 
 use crate::forced::clauses_of;
-use clause_pool::{ClauseId, NumList, Pool, RowId};
-use row_book::{are_against, conflicts_of, has_within, holds};
+use clause_pool::{ClauseId, NumList, Pool, RowId, has_within};
+use row_book::{are_against, conflicts_of, holds};
 
 /// Whether the package conflicts with each member of some clause that is left, other than the given one.
 fn excludes_one(

@@ -1,8 +1,7 @@
 //! Pruning of a book.
 ghost use Rattle.std.specs.Prelude.{◌≡◌, ◌<◌, ◌++◌, ◌∷◌, [], ℕ, List, IfOk, OnOk, length, map};
 ghost use Rattle.clause_pool.specs.Interned.{row_at, Kept, IsPool};
-ghost use Rattle.row_book.specs.Sets.{In};
-ghost use Rattle.row_book.specs.Clauses.{Ascending};
+ghost use Rattle.listed.specs.Lists.{In, Ascending};
 ghost use Rattle.row_book.specs.Book.{listed_for, repository_of, RowsFit, RowsTidy, Sound};
 ghost use Rattle.row_book.specs.Repository.{Repository};
 ghost use Rattle.row_book.specs.Keeping.{KeepsSets};

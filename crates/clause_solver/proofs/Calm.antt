@@ -4,21 +4,18 @@ use Rattle.std.specs.Prelude.{All, Contains}
 use Rattle.std.specs.List.{find}
 use Rattle.std.proofs.lemmas.Bool.{and_parts, and_from, or_right, or_cases, not-true, false_from_ne_true, cases_lt}
 use Rattle.std.proofs.Math.ListN.{get_or-eq_default}
-use Rattle.row_book.specs.Sets.{In}
+use Rattle.listed.specs.Lists.{In}
 use Rattle.row_book.specs.Book.{listed_for}
-use Rattle.row_book.proofs.Lists.{In_none}
+use Rattle.listed.proofs.Lists.{In_none, contains_in, in_contains, all_at}
 use Rattle.std.proofs.lemmas.List.Elements.{All-contains, All-nil, All-cons, All-append, Contains-append_left, Contains-append_right, Contains-push, Contains-get_or}
 use Rattle.std.proofs.lemmas.List.Folds.{Any-from_list_any, list_any-from_Any}
 use Rattle.std.proofs.lemmas.List.{take_at, length-append}
 use Rattle.std.proofs.lemmas.List.FromFn.{get_or-map-range_with_len, length-map-range_with_len}
-use Rattle.listed.proofs.Lists.{contains_in, in_contains}
-use Rattle.row_book.proofs.Lists.{all_at}
 use Rattle.search_terms.specs.declared.literals.Literal.{Literal}
 use Rattle.search_terms.specs.Closure.{literal, negation, is_same, forces, is_refuted, IsMet, IsUnitClosed, IsClosure, InClosure, Clashes, InRange}
-use Rattle.search_terms.specs.Marks.{IsConsistent, HasClash}
+use Rattle.search_terms.specs.Marks.{IsConsistent, HasClash, classes_left, true_classes}
 use Rattle.search_terms.specs.Form.{owned_sentences, conflict_sentence}
 use Rattle.search_terms.specs.Tree.{is_open_need, is_undecided, IsFoundLeaf, IsSplit}
-use Rattle.search_terms.specs.Marks.{classes_left, true_classes}
 use Rattle.search_terms.proofs.Forms.{from_owned_sentences}
 use Rattle.search_terms.proofs.Sets.{forces_mono, Contains-head, Contains-tail}
 use Rattle.search_terms.proofs.Trees.{open_has_member, found_leaf_of, split_of}

@@ -6,10 +6,9 @@ use Rattle.std.proofs.lemmas.List.{get_or_default}
 use Rattle.std.proofs.lemmas.List.Elements.{All-contains, Contains-append_left, Contains-append_right, Contains-append_cases, Contains-get_or}
 use Rattle.std.proofs.Math.Seq.{drop-cons}
 use Rattle.std.proofs.Math.Numerals.{add-one}
-use Rattle.listed.proofs.Lists.{contains_in, in_contains}
-use Rattle.row_book.specs.Sets.{In}
+use Rattle.listed.proofs.Lists.{contains_in, in_contains, In_cases, In_none}
+use Rattle.listed.specs.Lists.{In}
 use Rattle.row_book.specs.Book.{listed_for}
-use Rattle.row_book.proofs.Lists.{In_cases, In_none}
 use Rattle.search_terms.specs.declared.literals.Literal.{Literal}
 use Rattle.search_terms.specs.Closure.{literal, negation, IsMet, IsUnitClosed}
 use Rattle.search_terms.specs.Marks.{flag_place, IsConsistent}

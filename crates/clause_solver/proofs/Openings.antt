@@ -5,12 +5,11 @@ use Rattle.std.specs.List.{find}
 use Rattle.std.proofs.lemmas.Bool.{cases_Bool, both_ways, false_from_ne_true}
 use Rattle.std.proofs.lemmas.List.{take_all}
 use Rattle.std.proofs.lemmas.List.Elements.{All-contains, All-more, Contains-get_or}
-use Rattle.listed.proofs.Lists.{contains_in}
+use Rattle.listed.proofs.Lists.{contains_in, all_at}
 use Rattle.search_terms.specs.declared.literals.Literal.{Literal}
 use Rattle.search_terms.specs.Closure.{literal, negation}
 use Rattle.search_terms.specs.Marks.{flag_place}
 use Rattle.search_terms.specs.Tree.{is_open_need}
-use Rattle.row_book.proofs.Lists.{all_at}
 use Rattle.clause_solver.specs.Marking.{set_of_trail}
 use Rattle.clause_solver.specs.Engine.{IsTable}
 use Rattle.clause_solver.specs.Nodes.{HaveNegative, IsLeastOpen}

@@ -4,14 +4,13 @@ use Rattle.std.specs.Prelude.{All, Contains, map}
 use Rattle.std.proofs.lemmas.Bool.{both_ways}
 use Rattle.std.proofs.lemmas.List.{get_or_default}
 use Rattle.std.proofs.lemmas.List.Elements.{All-nil, All-weaker, Contains-get_or}
-use Rattle.listed.proofs.Lists.{contains_in}
+use Rattle.listed.proofs.Lists.{contains_in, In_has}
 use Rattle.clause_pool.specs.Interned.{Interned, row_at}
-use Rattle.row_book.specs.Sets.{In, has}
+use Rattle.listed.specs.Lists.{In, has}
 use Rattle.row_book.specs.Repository.{Repository}
 use Rattle.row_book.specs.Book.{listed_for, Sound, AreConflicts, RowsFit, repository_of}
 use Rattle.row_book.specs.Needs.{AreNeeds, NeedsFit}
 use Rattle.row_book.specs.declared.book.Book.{Book}
-use Rattle.row_book.proofs.Lists.{In_has}
 use Rattle.search_terms.specs.declared.literals.Literal.{Literal}
 use Rattle.search_terms.specs.Closure.{literal, negation, InRange, Clashes, InClosure}
 use Rattle.search_terms.specs.Form.{goal_sentence, clause_sentence, owned_sentences, form}

@@ -5,9 +5,8 @@ use Rattle.std.specs.List.{find}
 use Rattle.std.proofs.lemmas.Bool.{or_cases, or_left, or_right, and_from, and_parts, both_ways, not-true, not-false, false_from_ne_true}
 use Rattle.std.proofs.lemmas.List.{length-append, take_all}
 use Rattle.std.proofs.lemmas.List.Elements.{All-contains, All-more, All-weaker, All-head, All-tail, Contains-append_left, Contains-append_right, Contains-append_cases, Contains-get_or}
-use Rattle.listed.proofs.Lists.{contains_in, in_contains}
+use Rattle.listed.proofs.Lists.{contains_in, in_contains, any_cases, any_from, In_at}
 use Rattle.listed.proofs.Bools.{cases_Option}
-use Rattle.row_book.proofs.Lists.{any_cases, any_from, In_at}
 use Rattle.search_terms.specs.Form.{conflict_sentence}
 use Rattle.search_terms.proofs.Forms.{in_map}
 use Rattle.search_terms.specs.declared.literals.Literal.{Literal}

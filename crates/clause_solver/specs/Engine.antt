@@ -1,6 +1,6 @@
 -- What the propagation stands on: the sentences of goals, clauses and conflicts, and the table of their uses.
 use Rattle.std.specs.Prelude.{◌≡◌, ℕ, ◌*◌, ◌<◌, Bool, false, List, [], ◌++◌, All, length, slice_index_or, Contains, ◌⊎◌}
-use Rattle.row_book.specs.Sets.{In}
+use Rattle.listed.specs.Lists.{In}
 use Rattle.row_book.specs.Book.{listed_for}
 use Rattle.search_terms.specs.declared.literals.Literal.{Literal}
 use Rattle.search_terms.specs.Closure.{negation, InRange}

@@ -1,6 +1,6 @@
 -- What a solver of a book holds.
 use Rattle.std.specs.Prelude.{◌≡◌, ℕ, List, [], length}
-use Rattle.row_book.specs.Sets.{In}
+use Rattle.listed.specs.Lists.{In}
 use Rattle.row_book.specs.Book.{listed_for}
 use Rattle.row_book.specs.Repository.{Repository}
 use Rattle.clause_solver.specs.declared.solver.Solver.{Solver}

@@ -13,8 +13,8 @@ use Rattle.headline.proofs.Lost.{empty_list_loses_nothing, without_open_lines}
 use Rattle.coinst_run.proofs.Prints.{exact_lists_print_exactly, lines_are_cut}
 use Rattle.coinst_run.specs.ComparePrints.{PrintsExactly}
 use Rattle.kernel_text.specs.KernelLines.{lines_of}
-use Rattle.row_book.specs.Sets.{In}
-use Rattle.row_book.proofs.Lists.{In_none, filter_from}
+use Rattle.listed.specs.Lists.{In}
+use Rattle.listed.proofs.Lists.{In_none, filter_from}
 use Rattle.suite_compare.specs.Refusals.{home_in, packages_in}
 use Rattle.coinst_run.specs.declared.answer.ReportVerdict.{ReportVerdict}
 use Rattle.coinst_run.specs.declared.answer.ReportVerdict.TheVariants.{Done, Negative, Undecided}

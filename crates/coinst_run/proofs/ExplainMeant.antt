@@ -27,9 +27,10 @@ use Rattle.repo_model.proofs.Packages.{clause_cases, clause_from, length_clauses
 use Rattle.repo_model.proofs.Accepted.{Accepted}
 use Rattle.row_book.specs.Book.{are_paired}
 use Rattle.row_book.specs.Repository.{Healthy, Repository, against}
-use Rattle.row_book.specs.Sets.{Hit, In, Is, NumSet}
+use Rattle.row_book.specs.Sets.{Hit, Is, NumSet}
+use Rattle.listed.specs.Lists.{In}
 use Rattle.row_book.specs.declared.pair.Pair.{Pair}
-use Rattle.row_book.proofs.Lists.{In_map, In_map_cases, any_cases, any_from}
+use Rattle.listed.proofs.Lists.{In_map, In_map_cases, any_cases, any_from}
 use Rattle.search_terms.specs.Laws.{Solves}
 use Rattle.search_terms.specs.Tree.{failed_leaves}
 use Rattle.suite_compare.specs.Answering.{unknown_goal}

@@ -4,7 +4,7 @@ use Rattle.std.specs.Prelude.{◌&&◌, ltb, IfSome}
 use Rattle.std.specs.List.{range_with_len}
 use Rattle.std.specs.Option.{option_map}
 use Rattle.std.proofs.lemmas.Bool.{and_parts, cases_Bool, ltb-true}
-use Rattle.listed.proofs.Lists.{In_flat_cases}
+use Rattle.listed.proofs.Lists.{In_flat_cases, In_has, In_map_cases, filter_cases}
 use Rattle.clause_solver.specs.declared.outcomes.Verdict.{Verdict}
 use Rattle.clause_solver.specs.declared.outcomes.Verdict.TheVariants as verdict
 use Rattle.explain_core.specs.Core.{goal_core, marked_goals, marks_of}
@@ -22,9 +22,9 @@ use Rattle.repo_model.specs.Repository.{in_conflict, suite_repository}
 use Rattle.repo_model.specs.declared.goals.Goal.{Goal}
 use Rattle.repo_model.proofs.Packages.{against_cases}
 use Rattle.row_book.specs.Repository.{Repository, conflicts_of}
-use Rattle.row_book.specs.Sets.{In, NumSet}
+use Rattle.listed.specs.Lists.{In}
+use Rattle.row_book.specs.Sets.{NumSet}
 use Rattle.row_book.specs.declared.pair.Pair.{Pair}
-use Rattle.row_book.proofs.Lists.{In_has, In_map_cases, filter_cases}
 use Rattle.search_terms.specs.Tree.{failed_leaves}
 use Rattle.suite_compare.specs.Answering.{unknown_goal}
 use Rattle.suite_compare.specs.Asking.{verdict_in, wanted_by}

@@ -9,9 +9,8 @@ use Rattle.std.proofs.lemmas.Slice.Eq.{bytes_eq-Decides}
 use Rattle.deb_version.specs.Grammar.{is_version}
 use Rattle.deb_version.specs.Names.{is_name}
 use Rattle.listed.proofs.Lists.{In_has, all_at, all_from, any_cases, any_from, find_none, find_some, has_In}
-use Rattle.row_book.specs.Clauses.{Ascending}
-use Rattle.row_book.specs.Sets.{In, has}
-use Rattle.row_book.proofs.Order.{before_is, before_test}
+use Rattle.listed.specs.Lists.{Ascending, In, has}
+use Rattle.clause_pool.proofs.Order.{before_is, before_test}
 use Rattle.kernel_text.specs.declared.fault.KernelFault.TheVariants.{End, Line, Memory, Range}
 use Rattle.kernel_text.specs.declared.fault.KernelFault.{KernelFault}
 use Rattle.kernel_text.specs.ByWords.{by_words, words_of}

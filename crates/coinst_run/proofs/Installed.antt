@@ -15,12 +15,13 @@ use Rattle.repo_model.specs.Stanzas.{HealthyStanzas}
 use Rattle.repo_model.specs.declared.goals.Goal.{Goal}
 use Rattle.repo_model.proofs.Elements.{range_ascending, range_from}
 use Rattle.repo_model.proofs.Healthy.{healthy_same}
-use Rattle.row_book.specs.Clauses.{Ascending}
+use Rattle.listed.specs.Lists.{Ascending, In, has}
 use Rattle.row_book.specs.Flags.{flag}
 use Rattle.row_book.specs.Repository.{Repository, Healthy}
 use Rattle.row_book.specs.Rounds.{kernel, kernel_steps}
-use Rattle.row_book.specs.Sets.{Hit, HitsAll, In, Is, NumSet, has}
-use Rattle.row_book.proofs.Lists.{In_has, In_map, In_map_cases, ascending_filter, filter_cases, filter_from, has_In}
+use Rattle.row_book.specs.Sets.{Hit, HitsAll, Is, NumSet}
+use Rattle.listed.proofs.Lists.{In_has, In_map, In_map_cases, filter_cases, filter_from, has_In}
+use Rattle.listed.proofs.Orders.{ascending_filter}
 use Rattle.search_terms.specs.Laws.{Solves}
 use Rattle.search_terms.specs.Tree.{found_of}
 use Rattle.search_terms.proofs.Found.{finds_healthy}

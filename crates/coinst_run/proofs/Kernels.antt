@@ -18,16 +18,17 @@ use Rattle.repo_model.specs.Repository.{suite_repository}
 use Rattle.repo_model.specs.Stanzas.{stanza_at}
 use Rattle.repo_model.specs.declared.fault.IndexFault.{IndexFault}
 use Rattle.repo_model.specs.Limits.{most_packages}
-use Rattle.row_book.specs.Clauses.{InOrder}
+use Rattle.clause_pool.specs.Lists.{InOrder}
 use Rattle.row_book.specs.declared.book.Book.{Book}
 use Rattle.suite_compare.specs.Views.{IsViewOf}
 use Rattle.row_book.specs.Flattening.{flat, held_of, is_held, packages}
 use Rattle.row_book.specs.Repository.{Repository, clauses_of}
 use Rattle.row_book.specs.Rounds.{PassedRound, kernel, kernel_class, kernel_held, limit_at, round_count}
-use Rattle.row_book.specs.Sets.{In}
+use Rattle.listed.specs.Lists.{In}
 use Rattle.row_book.specs.Sound.{SoundRepository, TidyRepository}
-use Rattle.row_book.proofs.Lists.{In_map, In_map_cases, ascending_filter, filter_cases}
-use Rattle.row_book.proofs.Order.{length_numbers, numbers_ascending, numbers_from, numbers_parts}
+use Rattle.listed.proofs.Lists.{In_map, In_map_cases, filter_cases}
+use Rattle.listed.proofs.Orders.{ascending_filter}
+use Rattle.row_book.proofs.Numbers.{length_numbers, numbers_ascending, numbers_from, numbers_parts}
 use Rattle.clause_flatten.proofs.Stages.{without_hold_lem}
 use Rattle.kernel_rounds.specs.Laws.{IsKernel}
 use Rattle.kernel_rounds.proofs.Flattened.{flat_order, flat_tidy}

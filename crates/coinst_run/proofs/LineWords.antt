@@ -13,8 +13,8 @@ use Rattle.headline.specs.Indexes.{Name}
 use Rattle.kernel_text.specs.KernelLines.{lines_of}
 use Rattle.kernel_text.proofs.Spelling.{Plain, cut_same, name_plain}
 use Rattle.kernel_text.proofs.LineCuts.{no_feed, one_line, no_feed_byte, no_feed_both, no_feed_plain}
-use Rattle.row_book.specs.Sets.{In, here, there}
-use Rattle.row_book.proofs.Lists.{In_cases, In_none, In_append_cases, In_append_left, In_map, In_map_cases}
+use Rattle.listed.specs.Lists.{In, here, there}
+use Rattle.listed.proofs.Lists.{In_cases, In_none, In_append_cases, In_append_left, In_map, In_map_cases}
 use Rattle.suite_compare.specs.declared.report.ReportLine.{ReportLine}
 use Rattle.suite_compare.specs.declared.report.ReportLine.TheVariants.{Broken1, Broken2, Open1, Open2}
 

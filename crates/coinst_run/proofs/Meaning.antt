@@ -15,7 +15,7 @@ use Rattle.row_book.specs.Flattening.{packages}
 use Rattle.row_book.specs.Repository.{Repository, Coinst}
 use Rattle.row_book.specs.Rounds.{kernel, kernel_class, kernel_held, kernel_image, round_count}
 use Rattle.row_book.specs.Sets.{Is, NumSet}
-use Rattle.row_book.proofs.Order.{at_numbers}
+use Rattle.row_book.proofs.Numbers.{at_numbers}
 use Rattle.kernel_rounds.specs.Laws.{HasImage}
 use Rattle.kernel_rounds.proofs.Reached.{image_is_of_classes_lem, kernel_keeps_lem}
 use Rattle.kernel_text.specs.KernelJson.{kernel_json}

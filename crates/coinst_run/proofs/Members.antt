@@ -4,7 +4,7 @@ use Rattle.std.specs.Ordering.{is_eq}
 use Rattle.std.specs.Str.{bytes_eq}
 use Rattle.std.proofs.lemmas.Bool.{and_parts, and_from, both_ways}
 use Rattle.std.proofs.lemmas.Slice.Eq.{bytes_eq-Decides}
-use Rattle.listed.proofs.Lists.{same_bytes, In_flat_cases, In_flat}
+use Rattle.listed.proofs.Lists.{same_bytes, In_flat_cases, In_flat, In_cases, In_none, any_from, any_cases, filter_cases, filter_from}
 use Rattle.kernel_text.specs.KernelText.{members_of}
 use Rattle.kernel_text.specs.Members.{file_members, kernel_members, member_in}
 use Rattle.kernel_text.specs.declared.member.Member.{Member}
@@ -15,10 +15,10 @@ use Rattle.claims.specs.Classes.{classes_of, is_in_class, IsItsClass}
 use Rattle.relation_fields.specs.declared.packages.PackageFacts.{PackageFacts}
 use Rattle.repo_model.specs.Stanzas.{stanza_at, no_stanza}
 use Rattle.deb_version.specs.Order.{version_order}
-use Rattle.row_book.specs.Clauses.{numbers}
-use Rattle.row_book.specs.Sets.{NumSet, Is, In, here, there}
-use Rattle.row_book.proofs.Lists.{In_cases, In_none, any_from, any_cases, filter_cases, filter_from}
-use Rattle.row_book.proofs.Order.{numbers_from}
+use Rattle.row_book.specs.Numbers.{numbers}
+use Rattle.row_book.specs.Sets.{NumSet, Is}
+use Rattle.listed.specs.Lists.{In, here, there}
+use Rattle.row_book.proofs.Numbers.{numbers_from}
 use Rattle.repo_model.proofs.Elements.{at_place, range_from, range_cases}
 use Rattle.deb_version.proofs.TotalOrder.{version_total_up_to_ties}
 

@@ -10,7 +10,7 @@ use Rattle.relation_fields.specs.declared.packages.PackageFacts.{PackageFacts}
 use Rattle.repo_model.specs.Stanzas.{stanza_at}
 use Rattle.repo_model.specs.declared.goals.Goal.{Goal}
 use Rattle.repo_model.proofs.Accepted.{Accepted}
-use Rattle.row_book.specs.Sets.{here, there}
+use Rattle.listed.specs.Lists.{here, there}
 use Rattle.coinst_run.specs.Explain.{AreClashesOf}
 use Rattle.coinst_run.specs.ExplainText.{clash_count, clash_line, clash_text, clashes_text, core_text, end_text, goal_line, package_text}
 use Rattle.coinst_run.proofs.Members.{place_of_package}

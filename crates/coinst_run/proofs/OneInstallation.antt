@@ -10,7 +10,7 @@ use Rattle.relation_fields.specs.declared.packages.PackageFacts.{PackageFacts}
 use Rattle.repo_model.specs.Stanzas.{no_stanza, stanza_at}
 use Rattle.repo_model.proofs.Accepted.{Accepted}
 use Rattle.repo_model.proofs.Elements.{at_place}
-use Rattle.row_book.specs.Sets.{In, here, there}
+use Rattle.listed.specs.Lists.{In, here, there}
 use Rattle.kernel_text.proofs.Spelling.{Plain, cut_same, name_plain}
 use Rattle.kernel_text.proofs.Candidates.{version_plain}
 use Rattle.coinst_run.specs.Lines.{line_of_text}

@@ -2,7 +2,7 @@
 use Rattle.std.proofs.Common.{◌≡◌, ℕ, ◌+◌, Bool, false, cond, nat_lt, List, [], ◌∷◌, length, Option, Some, None, inl, inr, refl, sym, ap, subst, ◌∙◌}
 use Rattle.std.proofs.lemmas.Bool.{cases_Bool, ltb-true}
 use Rattle.listed.proofs.Bools.{cases_Option}
-use Rattle.listed.proofs.Lists.{some_item}
+use Rattle.listed.proofs.Lists.{some_item, In_cases, In_none}
 use Rattle.relation_fields.specs.declared.packages.PackageFacts.{PackageFacts}
 use Rattle.repo_model.specs.declared.goals.Goal.{Goal}
 use Rattle.repo_model.proofs.Accepted.{Accepted}
@@ -11,8 +11,7 @@ use Rattle.repo_model.specs.FirstFault.{first_fault}
 use Rattle.repo_model.specs.Goals.{packages_named}
 use Rattle.repo_model.specs.Repository.{suite_repository}
 use Rattle.row_book.specs.Rounds.{kernel}
-use Rattle.row_book.specs.Sets.{In}
-use Rattle.row_book.proofs.Lists.{In_cases, In_none}
+use Rattle.listed.specs.Lists.{In}
 use Rattle.search_terms.specs.Form.{form}
 use Rattle.search_terms.specs.Tree.{Tree, failed_leaves, found_of, log_of}
 use Rattle.search_terms.proofs.Certificates.{tree_derives}

@@ -3,7 +3,7 @@ use Rattle.std.proofs.Common.{◌≡◌, ◌∙◌, ◌+◌, ℕ, Bool, true, fa
 use Rattle.std.specs.List.{count_by, flat_map, sum_by}
 use Rattle.std.proofs.lemmas.List.Sums.{sum_by-append}
 use Rattle.std.proofs.lemmas.List.{length-map}
-use Rattle.row_book.proofs.Order.{numbers_end, numbers_more}
+use Rattle.row_book.proofs.Numbers.{numbers_end, numbers_more}
 use Rattle.clause_pool.specs.Interned.{Interned, row_at}
 use Rattle.kernel_rounds.specs.declared.extraction.Kernel.{Kernel}
 use Rattle.relation_fields.specs.declared.packages.PackageFacts.{PackageFacts}
@@ -14,9 +14,9 @@ use Rattle.coinst_run.specs.Lines.{size_line}
 use Rattle.kernel_text.specs.KernelLines.{KernelLine, HeadLine, ClassLine, HeldLine, NeedsLine, AgainstLine, EndLine}
 use Rattle.kernel_text.specs.KernelText.{class_lines, format_of, greater_conflicts, held_lines, kernel_lines, line_of_member, members_of}
 use Rattle.kernel_text.specs.declared.member.Member.{Member}
-use Rattle.row_book.specs.Clauses.{numbers}
+use Rattle.row_book.specs.Numbers.{numbers}
 use Rattle.row_book.specs.Repository.{Repository, clauses_of}
-use Rattle.row_book.specs.Sets.{has}
+use Rattle.listed.specs.Lists.{has}
 use Rattle.coinst_run.specs.Sample.{is_against_line, is_needs_line, size_report}
 
 sum_first : {X : Type 0} (f : X → ℕ) (x : X) (xs : List X) → sum_by f (x ∷ xs) ≡ f x + sum_by f xs

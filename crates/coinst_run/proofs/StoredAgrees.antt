@@ -21,11 +21,11 @@ use Rattle.repo_model.specs.Goals.{packages_named}
 use Rattle.repo_model.specs.Repository.{suite_repository}
 use Rattle.repo_model.proofs.Accepted.{Accepted}
 use Rattle.repo_model.proofs.Packages.{length_clauses}
-use Rattle.row_book.specs.Clauses.{numbers}
+use Rattle.row_book.specs.Numbers.{numbers}
 use Rattle.row_book.specs.Repository.{Repository}
 use Rattle.row_book.specs.Rounds.{kernel, kernel_class, kernel_held, kernel_image}
-use Rattle.row_book.specs.Sets.{In, has}
-use Rattle.row_book.proofs.Lists.{In_has, any_cases, any_from, filter_same, has_In}
+use Rattle.listed.specs.Lists.{In, has}
+use Rattle.listed.proofs.Lists.{In_has, any_cases, any_from, filter_same, has_In}
 use Rattle.search_terms.specs.Tree.{Tree, failed_leaves, found_of, log_of}
 use Rattle.suite_compare.specs.Answering.{names_none, unknown_from}
 use Rattle.suite_compare.specs.Asking.{asked_tree, images_of, tree_of}

@@ -15,14 +15,14 @@ use Rattle.kernel_text.specs.KernelFaults.{IsFault}
 use Rattle.kernel_text.specs.KernelReads.{KernelReads, content}
 use Rattle.kernel_text.proofs.ReadIsWritten.{read_is_written}
 use Rattle.repo_model.specs.declared.goals.Goal.{Goal}
-use Rattle.row_book.specs.Clauses.{numbers}
+use Rattle.row_book.specs.Numbers.{numbers}
 use Rattle.row_book.specs.Flags.{flag}
 use Rattle.row_book.specs.Needs.{NeedsFit}
 use Rattle.row_book.specs.Repository.{Repository}
-use Rattle.row_book.specs.Sets.{In}
+use Rattle.listed.specs.Lists.{In}
 use Rattle.row_book.specs.Sound.{SoundRepository}
-use Rattle.row_book.proofs.Lists.{In_map_cases, filter_cases}
-use Rattle.row_book.proofs.Order.{numbers_parts, numbers_more}
+use Rattle.listed.proofs.Lists.{In_map_cases, filter_cases}
+use Rattle.row_book.proofs.Numbers.{numbers_parts, numbers_more}
 use Rattle.search_terms.specs.Form.{form}
 use Rattle.search_terms.specs.declared.literals.Log.{Log}
 use Rattle.search_terms.specs.Tree.{IsTree, Tree, failed_leaves, found_of}

@@ -7,7 +7,7 @@ use Rattle.std.proofs.Math.Path.{fun_ext}
 use Rattle.std.proofs.lemmas.Bool.{and_from, and_parts, both_ways, cases_Bool, ltb-true}
 use Rattle.std.proofs.lemmas.List.{append_cancel_left}
 use Rattle.listed.proofs.Bools.{cases_Option}
-use Rattle.listed.proofs.Lists.{In_flat_cases}
+use Rattle.listed.proofs.Lists.{In_flat_cases, In_cases, In_has, In_map, In_map_cases, In_none, any_cases, any_from, filter_cases, filter_from}
 use Rattle.byte_flow.specs.Flow.{Files}
 use Rattle.kernel_text.specs.declared.fault.KernelFault.{KernelFault}
 use Rattle.kernel_text.specs.declared.member.Member.{Member}
@@ -19,12 +19,13 @@ use Rattle.kernel_text.proofs.OneReading.{one_reading}
 use Rattle.kernel_text.proofs.ReadIsWritten.{read_is_written}
 use Rattle.kernel_text.proofs.Spelling.{number_same}
 use Rattle.repo_model.specs.declared.goals.Goal.{Goal}
-use Rattle.row_book.specs.Clauses.{numbers}
+use Rattle.row_book.specs.Numbers.{numbers}
 use Rattle.row_book.specs.Flags.{flag}
 use Rattle.row_book.specs.Repository.{Healthy}
-use Rattle.row_book.specs.Sets.{Hit, HitsAll, In, Is, NumSet, has, here, there}
-use Rattle.row_book.proofs.Lists.{In_cases, In_has, In_map, In_map_cases, In_none, any_cases, any_from, ascending_filter, filter_cases, filter_from}
-use Rattle.row_book.proofs.Order.{numbers_ascending, numbers_from, numbers_parts}
+use Rattle.row_book.specs.Sets.{Hit, HitsAll, Is, NumSet}
+use Rattle.listed.specs.Lists.{In, has, here, there}
+use Rattle.listed.proofs.Orders.{ascending_filter}
+use Rattle.row_book.proofs.Numbers.{numbers_ascending, numbers_from, numbers_parts}
 use Rattle.row_book.proofs.Flags.{flag_in}
 use Rattle.search_terms.specs.Closure.{InRange}
 use Rattle.search_terms.specs.Form.{form}

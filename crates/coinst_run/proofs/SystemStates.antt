@@ -5,15 +5,17 @@ use Rattle.std.specs.List.{list_all, list_any}
 use Rattle.std.proofs.Math.Nat.{eq-or-lt_of_le}
 use Rattle.std.proofs.lemmas.Bool.{both_ways, cases_Bool, cases_lt, not-true, and_from, and_parts}
 use Rattle.listed.proofs.Bools.{cases_Option}
-use Rattle.row_book.specs.Clauses.{numbers}
+use Rattle.row_book.specs.Numbers.{numbers}
 use Rattle.row_book.specs.Flattening.{packages}
 use Rattle.row_book.specs.Health.{AllSatisfied, IsClash, IsFirstUnhit, UnhitFirst}
 use Rattle.row_book.specs.Repository.{Repository, Satisfied, against, clauses_of}
-use Rattle.row_book.specs.Sets.{Hit, In, Is, NumSet, here, there}
+use Rattle.row_book.specs.Sets.{Hit, Is, NumSet}
+use Rattle.listed.specs.Lists.{In, here, there}
 use Rattle.row_book.specs.Sound.{OfPackages, SoundRepository}
 use Rattle.row_book.specs.Thinning.{all_pairs, conflicting_pairs}
-use Rattle.row_book.proofs.Lists.{In_append_cases, In_at, In_cases, In_map_cases, In_none, all_at, any_hit, filter_cases, filter_from, find_none, find_some, hit_any}
-use Rattle.row_book.proofs.Order.{numbers_from, numbers_parts}
+use Rattle.listed.proofs.Lists.{In_append_cases, In_at, In_cases, In_map_cases, In_none, all_at, filter_cases, filter_from, find_none, find_some}
+use Rattle.row_book.proofs.Lists.{any_hit, hit_any}
+use Rattle.row_book.proofs.Numbers.{numbers_from, numbers_parts}
 use Rattle.kernel_rounds.proofs.Thins.{pairs_has}
 use Rattle.status_check.specs.Report.{IsStateOf}
 use Rattle.status_check.specs.declared.report.OwnState.{OwnState}

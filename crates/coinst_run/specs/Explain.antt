@@ -7,7 +7,7 @@ use Rattle.explain_core.specs.declared.explanation.Explanation.{Explanation}
 use Rattle.explain_core.specs.declared.explanation.Explanation.TheVariants.{Yes, Spent, Core}
 use Rattle.relation_fields.specs.declared.packages.PackageFacts.{PackageFacts}
 use Rattle.repo_model.specs.declared.goals.Goal.{Goal}
-use Rattle.row_book.specs.Sets.{In}
+use Rattle.listed.specs.Lists.{In}
 use Rattle.suite_compare.specs.Answering.{unknown_goal}
 use Rattle.coinst_run.specs.declared.answer.Cause.TheVariants.{UnknownGoal}
 use Rattle.coinst_run.specs.declared.answer.ReportVerdict.TheVariants.{Done, Negative, Undecided}

@@ -15,7 +15,8 @@ use Rattle.repo_model.specs.Goals.{CoinstGoals, HasOneFor, packages_named}
 use Rattle.repo_model.specs.Repository.{in_conflict}
 use Rattle.repo_model.specs.Stanzas.{Met, stanza_at}
 use Rattle.repo_model.specs.declared.goals.Goal.{Goal}
-use Rattle.row_book.specs.Sets.{In, Is, NumSet}
+use Rattle.listed.specs.Lists.{In}
+use Rattle.row_book.specs.Sets.{Is, NumSet}
 use Rattle.suite_compare.specs.Refusals.{home_in, packages_in}
 use Rattle.coinst_run.specs.declared.answer.ReportVerdict.{ReportVerdict}
 use Rattle.coinst_run.specs.declared.answer.ReportVerdict.TheVariants.{Done, Negative, Undecided}

@@ -4,7 +4,7 @@ use Rattle.clause_pool.specs.Interned.{Interned}
 use Rattle.kernel_rounds.specs.declared.extraction.Kernel.{Kernel}
 use Rattle.relation_fields.specs.declared.packages.PackageFacts.{PackageFacts}
 use Rattle.row_book.specs.Book.{Sound, repository_of}
-use Rattle.row_book.specs.Sets.{In}
+use Rattle.listed.specs.Lists.{In}
 use Rattle.coinst_run.specs.declared.answer.Cause.TheVariants.{ClauseLimit}
 use Rattle.coinst_run.specs.declared.answer.ReportVerdict.TheVariants.{Done}
 use Rattle.coinst_run.specs.Answer.{Stage, reported, refused}

@@ -5,9 +5,8 @@ use Rattle.repo_model.specs.FirstFault.{first_fault}
 use Rattle.repo_model.specs.Goals.{CoinstGoals, packages_named}
 use Rattle.repo_model.specs.Repository.{suite_repository}
 use Rattle.repo_model.specs.declared.goals.Goal.{Goal}
-use Rattle.row_book.specs.Clauses.{Ascending}
+use Rattle.listed.specs.Lists.{Ascending, In, has}
 use Rattle.row_book.specs.Rounds.{kernel}
-use Rattle.row_book.specs.Sets.{In, has}
 use Rattle.search_terms.specs.declared.literals.Literal.{Literal}
 use Rattle.search_terms.specs.Derives.{Derives}
 use Rattle.search_terms.specs.Form.{form}

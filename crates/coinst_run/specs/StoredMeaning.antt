@@ -5,9 +5,9 @@ use Rattle.kernel_text.specs.Images.{is_named_by}
 use Rattle.kernel_text.specs.KernelReads.{HasOneReading, KernelContent, KernelReads}
 use Rattle.kernel_text.specs.declared.member.Member.{Member}
 use Rattle.repo_model.specs.declared.goals.Goal.{Goal}
-use Rattle.row_book.specs.Clauses.{Ascending}
+use Rattle.listed.specs.Lists.{Ascending, In, has}
 use Rattle.row_book.specs.Repository.{Healthy}
-use Rattle.row_book.specs.Sets.{In, Is, NumSet, has}
+use Rattle.row_book.specs.Sets.{Is, NumSet}
 use Rattle.search_terms.specs.declared.literals.Literal.{Literal}
 use Rattle.search_terms.specs.Derives.{Derives}
 use Rattle.search_terms.specs.Form.{form}

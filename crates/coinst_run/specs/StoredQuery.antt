@@ -7,7 +7,7 @@ use Rattle.kernel_text.specs.KernelReads.{KernelContent}
 use Rattle.kernel_text.specs.declared.fault.KernelFault.{KernelFault}
 use Rattle.kernel_text.specs.declared.fault.KernelFault.TheVariants.{Line, End, Range, Memory}
 use Rattle.repo_model.specs.declared.goals.Goal.{Goal}
-use Rattle.row_book.specs.Clauses.{numbers}
+use Rattle.row_book.specs.Numbers.{numbers}
 use Rattle.row_book.specs.Flags.{flag}
 use Rattle.search_terms.specs.Tree.{Tree, failed_leaves, found_of, log_of}
 use Rattle.suite_compare.specs.Asking.{tree_of}

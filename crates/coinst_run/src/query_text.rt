@@ -3,7 +3,7 @@ ghost use Rattle.std.specs.Prelude.{◌≡◌, ◌++◌, ◌<◌, ℕ, IfOk, OnO
 ghost use Rattle.std.specs.Fmt.{decimal};
 ghost use Rattle.std.specs.List.{flat_map};
 ghost use Rattle.repo_model.specs.Stanzas.{stanza_at};
-ghost use Rattle.row_book.specs.Sets.{In};
+ghost use Rattle.listed.specs.Lists.{In};
 ghost use Rattle.coinst_run.specs.QueryText.{goal_word, install_line, literal_text, log_line, no_text, undecided_text, unknown_line, version_word, yes_text};
 
 use crate::lines::push_number;

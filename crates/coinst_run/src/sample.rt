@@ -3,7 +3,7 @@
 //! It searches nothing, so it takes no budget.
 ghost use Rattle.std.specs.Prelude.{◌≡◌, ◌<◌, ℕ, Ok, IfOk, IfErr, IfSome, filter, length, ltb, sum_by};
 ghost use Rattle.row_book.specs.Book.{listed_for, repository_of, Sound};
-ghost use Rattle.row_book.specs.Clauses.{numbers};
+ghost use Rattle.row_book.specs.Numbers.{numbers};
 ghost use Rattle.row_book.specs.Repository.{clauses_of};
 ghost use Rattle.sample_suite.specs.Drawing.{IsCount};
 ghost use Rattle.sample_suite.specs.SampleText.{sample_text};

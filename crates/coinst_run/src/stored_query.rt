@@ -5,7 +5,7 @@ ghost use Rattle.clause_solver.specs.Outcomes.{IsBudget};
 ghost use Rattle.coinst_run.specs.Settings.{AreInLimits};
 ghost use Rattle.kernel_text.specs.KernelReads.{content};
 ghost use Rattle.row_book.specs.Book.{repository_of, Sound};
-ghost use Rattle.row_book.specs.Clauses.{numbers};
+ghost use Rattle.row_book.specs.Numbers.{numbers};
 ghost use Rattle.row_book.specs.Flags.{flag};
 ghost use Rattle.row_book.specs.Needs.{NeedsFit};
 ghost use Rattle.row_book.specs.Sound.{SoundRepository};

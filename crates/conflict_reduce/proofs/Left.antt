@@ -6,13 +6,12 @@ use Rattle.listed.proofs.Orders.{ascending_push}
 use Rattle.clause_pool.specs.Interned.{Interned, row_at}
 use Rattle.row_book.specs.declared.book.Book.{Book}
 use Rattle.row_book.specs.declared.pair.Pair.{Pair}
-use Rattle.row_book.specs.Sets.{In, has}
-use Rattle.row_book.specs.Clauses.{Ascending}
+use Rattle.listed.specs.Lists.{In, has, Ascending}
 use Rattle.row_book.specs.Facing.{against_in}
 use Rattle.row_book.specs.Book.{listed_for}
 use Rattle.row_book.specs.Thinning.{is_pair, without_pair}
-use Rattle.row_book.proofs.Lists.{In_has, filter_same, has_In}
-use Rattle.row_book.proofs.Order.{at_numbers, length_numbers}
+use Rattle.listed.proofs.Lists.{In_has, filter_same, has_In}
+use Rattle.row_book.proofs.Numbers.{at_numbers, length_numbers}
 use Rattle.row_book.proofs.Repositories.{has_filter, repository_same, table_same}
 use Rattle.conflict_reduce.specs.Tests.{book_left, conflict_but, left_for, left_of, with_behind, with_gone}
 use Rattle.conflict_reduce.proofs.Thinned.{less_count, less_list}

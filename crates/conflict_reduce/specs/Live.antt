@@ -3,7 +3,7 @@
 use Rattle.std.specs.Prelude.{ℕ, Bool, true, not, eqb, List, [], ◌∷◌, length, map, filter}
 use Rattle.clause_pool.specs.Interned.{Interned, clause_at, ids_at}
 use Rattle.row_book.specs.declared.book.Book.{Book}
-use Rattle.row_book.specs.Clauses.{numbers}
+use Rattle.row_book.specs.Numbers.{numbers}
 use Rattle.row_book.specs.Facing.{common_to}
 use Rattle.row_book.specs.Uses.{row_id}
 

@@ -5,8 +5,8 @@ use Rattle.std.specs.List.{list_all}
 use Rattle.clause_pool.specs.Interned.{Interned, row_at}
 use Rattle.row_book.specs.declared.book.Book.{Book}
 use Rattle.row_book.specs.declared.pair.Pair.{Pair}
-use Rattle.row_book.specs.Sets.{In}
-use Rattle.row_book.specs.Clauses.{Ascending, numbers}
+use Rattle.listed.specs.Lists.{In, Ascending}
+use Rattle.row_book.specs.Numbers.{numbers}
 use Rattle.row_book.specs.Facing.{against_in}
 use Rattle.row_book.specs.Book.{listed_for}
 use Rattle.row_book.specs.Repository.{Repository}

@@ -4,15 +4,16 @@ ghost use Rattle.std.specs.Prelude.{◌≡◌, ◌<◌, ◌∷◌, [], ℕ, List
 ghost use Rattle.std.specs.List.{list_all, list_any};
 ghost use Rattle.clause_pool.specs.Interned.{clauses_at, OfPool, IsPool};
 ghost use Rattle.row_book.specs.Book.{listed_for, Sound};
-ghost use Rattle.row_book.specs.Clauses.{Ascending, InOrder};
+ghost use Rattle.listed.specs.Lists.{Ascending};
+ghost use Rattle.clause_pool.specs.Lists.{InOrder};
 ghost use Rattle.row_book.specs.Facing.{against_in, all_against, face};
 ghost use Rattle.row_book.specs.Thinning.{is_pair, is_redundant};
 ghost use Rattle.conflict_reduce.specs.Live.{live_of};
 ghost use Rattle.conflict_reduce.specs.Tests.{book_left, common_but, conflict_but, left_of};
 
 use crate::live::IdList;
-use clause_pool::{ClauseId, NumList, Pool};
-use row_book::{Book, Pair, are_against, conflicts_of, has_side_within};
+use clause_pool::{ClauseId, NumList, Pool, has_side_within};
+use row_book::{Book, Pair, are_against, conflicts_of};
 use std::alloc::{AllocError, Global};
 
 /// Whether m and n are the two of the pair.

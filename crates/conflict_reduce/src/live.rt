@@ -3,7 +3,7 @@
 ghost use Rattle.std.specs.Prelude.{◌≡◌, ◌<◌, ℕ, IfOk, filter};
 ghost use Rattle.clause_pool.specs.Interned.{clause_at, OfPool};
 ghost use Rattle.row_book.specs.Book.{listed_for, Sound};
-ghost use Rattle.row_book.specs.Clauses.{Ascending};
+ghost use Rattle.listed.specs.Lists.{Ascending};
 ghost use Rattle.conflict_reduce.specs.Live.{live_of, may_face};
 
 use clause_pool::{ClauseId, NumList, Pool};

@@ -2,7 +2,7 @@
 //! their own: so no list is moved up for one that goes.
 ghost use Rattle.std.specs.Prelude.{◌≡◌, ◌<◌, ◌+◌, ℕ, IfOk, OnOk, filter, length, not};
 ghost use Rattle.row_book.specs.Book.{listed_for, repository_of, Sound};
-ghost use Rattle.row_book.specs.Clauses.{Ascending};
+ghost use Rattle.listed.specs.Lists.{Ascending};
 ghost use Rattle.row_book.specs.Facing.{against_in};
 ghost use Rattle.row_book.specs.Repository.{Repository};
 ghost use Rattle.row_book.specs.Keeping.{KeepsHealthySets};

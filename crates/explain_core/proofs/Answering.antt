@@ -14,10 +14,10 @@ use Rattle.repo_model.specs.declared.goals.Goal.{Goal}
 use Rattle.repo_model.proofs.Elements.{range_cases}
 use Rattle.row_book.specs.Book.{repository_of}
 use Rattle.row_book.specs.Needs.{NeedsFit}
-use Rattle.row_book.specs.Sets.{In}
+use Rattle.listed.specs.Lists.{In}
 use Rattle.row_book.specs.declared.book.Book.{Book}
 use Rattle.row_book.proofs.BookRepositories.{book_size}
-use Rattle.row_book.proofs.Lists.{In_map_cases}
+use Rattle.listed.proofs.Lists.{In_map_cases}
 use Rattle.suite_compare.specs.Asking.{verdict_in, wanted_by}
 use Rattle.suite_compare.specs.Views.{IsViewOf}
 use Rattle.explain_core.specs.Core.{goal_core, mark, marked_goals, marks_of, verdict_on}

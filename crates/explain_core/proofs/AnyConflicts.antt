@@ -4,12 +4,11 @@ use Rattle.std.proofs.Common.{◌≡◌, ℕ, ◌+◌, Bool, true, false, not, �
 use Rattle.std.specs.Prelude.{Contains}
 use Rattle.std.proofs.lemmas.Bool.{and_parts, and_from, or_cases}
 use Rattle.std.proofs.lemmas.List.Elements.{All-contains, All-append, All-nil, Contains-get_or}
-use Rattle.listed.proofs.Lists.{contains_in, in_contains}
+use Rattle.listed.proofs.Lists.{contains_in, in_contains, all_at, In_append_left}
 use Rattle.clause_pool.specs.Interned.{Interned, row_at}
 use Rattle.row_book.specs.Book.{listed_for, lists_of_pairs, repository_of, AreConflicts, PairsFit, Sound}
-use Rattle.row_book.specs.Sets.{In, here, there}
+use Rattle.listed.specs.Lists.{In, here, there}
 use Rattle.row_book.specs.declared.book.Book.{Book}
-use Rattle.row_book.proofs.Lists.{all_at, In_append_left}
 use Rattle.row_book.proofs.Pairs.{length_pairs, pairs_conflict}
 use Rattle.search_terms.specs.declared.literals.Literal.{Literal}
 use Rattle.search_terms.specs.Closure.{literal, negation, is_same, forces, Clashes, InClosure, IsUnitClosed}

@@ -6,8 +6,8 @@ use Rattle.relation_fields.specs.declared.packages.PackageFacts.{PackageFacts}
 use Rattle.repo_model.specs.Goals.{packages_named}
 use Rattle.repo_model.specs.Repository.{suite_repository}
 use Rattle.repo_model.specs.declared.goals.Goal.{Goal}
-use Rattle.row_book.specs.Sets.{In}
-use Rattle.row_book.proofs.Lists.{In_at, In_map_cases}
+use Rattle.listed.specs.Lists.{In}
+use Rattle.listed.proofs.Lists.{In_at, In_map_cases}
 use Rattle.suite_compare.specs.Asking.{goal_classes, image_of, images_of, wanted_by}
 use Rattle.suite_compare.proofs.Gathering.{named_inside}
 

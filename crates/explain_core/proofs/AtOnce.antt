@@ -3,7 +3,7 @@
 use Rattle.std.proofs.Common.{◌≡◌, ℕ, ◌+◌, ◌<◌, ◌≤◌, Bool, List, [], ◌++◌, inl, inr, length, map, refl, sym, ap, ◌∙◌, subst, arith, Some, None}
 use Rattle.std.specs.Prelude.{ltb}
 use Rattle.std.proofs.lemmas.Bool.{cases_Bool, ltb-false, ltb-true}
-use Rattle.listed.proofs.Lists.{contains_in, in_contains}
+use Rattle.listed.proofs.Lists.{contains_in, in_contains, In_append_cases, In_append_left, In_append_right, In_map, In_map_cases, filter_cases, filter_from}
 use Rattle.listed.proofs.Bools.{cases_Option}
 use Rattle.clause_pool.specs.Interned.{Interned}
 use Rattle.clause_solver.specs.declared.outcomes.Verdict.TheVariants.{No, Spent}
@@ -17,15 +17,14 @@ use Rattle.relation_fields.specs.declared.packages.PackageFacts.{PackageFacts}
 use Rattle.repo_model.specs.Repository.{suite_repository}
 use Rattle.repo_model.specs.declared.goals.Goal.{Goal}
 use Rattle.row_book.specs.Book.{are_paired, listed_for, lists_of_pairs, repository_of, PairsFit}
-use Rattle.row_book.specs.Clauses.{numbers}
+use Rattle.row_book.specs.Numbers.{numbers}
 use Rattle.row_book.specs.Needs.{NeedsFit}
 use Rattle.row_book.specs.Repository.{Repository}
 use Rattle.row_book.specs.Rounds.{kernel}
-use Rattle.row_book.specs.Sets.{In}
+use Rattle.listed.specs.Lists.{In}
 use Rattle.row_book.specs.declared.book.Book.{Book}
 use Rattle.row_book.specs.declared.pair.Pair.{Pair}
 use Rattle.row_book.proofs.BookRepositories.{book_size}
-use Rattle.row_book.proofs.Lists.{In_append_cases, In_append_left, In_append_right, In_map, In_map_cases, filter_cases, filter_from}
 use Rattle.row_book.proofs.Pairs.{length_pairs, at_pairs}
 use Rattle.search_terms.specs.declared.literals.Literal.{Literal}
 use Rattle.search_terms.specs.Closure.{Clashes, InRange}

@@ -5,7 +5,7 @@ use Rattle.std.specs.Option.{option_map}
 use Rattle.std.proofs.lemmas.Bool.{cases_Bool}
 use Rattle.std.proofs.lemmas.List.{drop-drop, drop_all, drop_more, length-drop, map-append, take-append-drop, take_all}
 use Rattle.std.proofs.Math.Seq.{drop-nil}
-use Rattle.listed.proofs.Lists.{in_take, In_drop}
+use Rattle.listed.proofs.Lists.{in_take, In_drop, In_append_cases, In_append_left, In_append_right, In_cases, In_none}
 use Rattle.clause_pool.specs.Interned.{Interned, row_at}
 use Rattle.clause_solver.specs.Verdicts.{IsSearchVerdict}
 use Rattle.clause_solver.specs.declared.solver.Solver.{Solver}
@@ -14,11 +14,11 @@ use Rattle.clause_solver.specs.declared.outcomes.Verdict.TheVariants.{Yes, No, S
 use Rattle.row_book.specs.Book.{lists_of_pairs, repository_of, PairsFit, Sound}
 use Rattle.row_book.specs.Needs.{NeedsFit}
 use Rattle.row_book.specs.Repository.{Repository}
-use Rattle.row_book.specs.Sets.{In, NumSet, here, there}
+use Rattle.listed.specs.Lists.{In, here, there}
+use Rattle.row_book.specs.Sets.{NumSet}
 use Rattle.row_book.specs.Sound.{SoundRepository}
 use Rattle.row_book.specs.declared.book.Book.{Book}
 use Rattle.row_book.specs.declared.pair.Pair.{Pair}
-use Rattle.row_book.proofs.Lists.{In_append_cases, In_append_left, In_append_right, In_cases, In_none}
 use Rattle.row_book.proofs.Repositories.{repository_same}
 use Rattle.search_terms.proofs.Ranges.{rows_long}
 use Rattle.suite_compare.specs.Asking.{tree_of, verdict_of}

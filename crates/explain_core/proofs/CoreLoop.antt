@@ -15,10 +15,10 @@ use Rattle.row_book.specs.Book.{repository_of}
 use Rattle.row_book.specs.Needs.{NeedsFit}
 use Rattle.row_book.specs.Repository.{Repository}
 use Rattle.row_book.specs.Rounds.{kernel}
-use Rattle.row_book.specs.Sets.{In}
+use Rattle.listed.specs.Lists.{In}
 use Rattle.row_book.specs.declared.book.Book.{Book}
 use Rattle.row_book.proofs.BookRepositories.{book_size}
-use Rattle.row_book.proofs.Lists.{In_append_cases, In_append_left, In_append_right, In_cases, In_none}
+use Rattle.listed.proofs.Lists.{In_append_cases, In_append_left, In_append_right, In_cases, In_none}
 use Rattle.suite_compare.specs.Asking.{image_of, images_of, tree_of, verdict_in, verdict_of}
 use Rattle.suite_compare.specs.Views.{IsViewOf}
 use Rattle.suite_compare.proofs.Deciding.{images_fit}

@@ -8,8 +8,8 @@ use Rattle.relation_fields.specs.declared.packages.Home.{Home}
 use Rattle.relation_fields.specs.declared.packages.PackageFacts.{PackageFacts}
 use Rattle.repo_model.specs.Goals.{CoinstGoals}
 use Rattle.repo_model.specs.declared.goals.Goal.{Goal}
-use Rattle.row_book.specs.Sets.{In}
-use Rattle.row_book.proofs.Lists.{In_map, In_map_cases}
+use Rattle.listed.specs.Lists.{In}
+use Rattle.listed.proofs.Lists.{In_map, In_map_cases}
 use Rattle.suite_compare.specs.Asking.{verdict_in, HasVerdict}
 use Rattle.suite_compare.proofs.Deciding.{verdict_is_judged}
 use Rattle.explain_core.specs.Core.{goal_core, goal_numbered, goals_numbered, marked_goals, marks_of, verdict_on}

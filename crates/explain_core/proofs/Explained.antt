@@ -15,10 +15,11 @@ use Rattle.repo_model.proofs.Healthy.{healthy_same}
 use Rattle.row_book.specs.Book.{PairsFit}
 use Rattle.row_book.specs.Needs.{NeedsFit}
 use Rattle.row_book.specs.Repository.{Repository}
-use Rattle.row_book.specs.Sets.{Hit, In, Is, NumSet}
+use Rattle.row_book.specs.Sets.{Hit, Is, NumSet}
+use Rattle.listed.specs.Lists.{In}
 use Rattle.row_book.specs.Sound.{SoundRepository}
 use Rattle.row_book.specs.declared.pair.Pair.{Pair}
-use Rattle.row_book.proofs.Lists.{In_map, In_map_cases}
+use Rattle.listed.proofs.Lists.{In_map, In_map_cases}
 use Rattle.search_terms.specs.Laws.{HasNoSolution, Solves}
 use Rattle.search_terms.specs.Tree.{failed_leaves}
 use Rattle.suite_compare.specs.Asking.{verdict_in, wanted_by}

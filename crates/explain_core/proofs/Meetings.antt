@@ -7,8 +7,8 @@ use Rattle.std.proofs.lemmas.List.Folds.{concat-append}
 use Rattle.row_book.specs.Flags.{flag}
 use Rattle.row_book.specs.Needs.{NeedsFit}
 use Rattle.row_book.specs.Repository.{Repository, clauses_of}
-use Rattle.row_book.specs.Sets.{In, has, here, there}
-use Rattle.row_book.proofs.Lists.{In_append_cases, In_append_left, In_append_right, In_cases, In_has, In_none, In_at, has_In}
+use Rattle.listed.specs.Lists.{In, has, here, there}
+use Rattle.listed.proofs.Lists.{In_append_cases, In_append_left, In_append_right, In_cases, In_has, In_none, In_at, has_In}
 use Rattle.clause_pool.specs.Interned.{Interned}
 use Rattle.clause_pool.proofs.Lists.{In_place}
 use Rattle.row_book.specs.Book.{repository_of, Sound}

@@ -5,15 +5,16 @@ use Rattle.std.proofs.lemmas.Bool.{cases_Bool, both_ways, false_from_ne_true}
 use Rattle.listed.proofs.Bools.{cases_Option}
 use Rattle.clause_solver.specs.declared.outcomes.Verdict.TheVariants.{Yes, No, Spent}
 use Rattle.row_book.specs.Book.{are_paired, listed_for, lists_of_pairs, PairsFit}
-use Rattle.row_book.specs.Clauses.{numbers}
+use Rattle.row_book.specs.Numbers.{numbers}
 use Rattle.row_book.specs.Flags.{flag}
 use Rattle.row_book.specs.Needs.{NeedsFit}
 use Rattle.row_book.specs.Repository.{Repository, against}
-use Rattle.row_book.specs.Sets.{In, NumSet, has}
+use Rattle.listed.specs.Lists.{In, has}
+use Rattle.row_book.specs.Sets.{NumSet}
 use Rattle.row_book.specs.Sound.{SoundRepository}
 use Rattle.row_book.specs.declared.pair.Pair.{Pair}
-use Rattle.row_book.proofs.Lists.{In_has, any_cases, any_from}
-use Rattle.row_book.proofs.Order.{at_numbers, numbers_from}
+use Rattle.listed.proofs.Lists.{In_has, any_cases, any_from}
+use Rattle.row_book.proofs.Numbers.{at_numbers, numbers_from}
 use Rattle.row_book.proofs.Pairs.{length_pairs, pairs_conflict, at_pairs}
 use Rattle.row_book.proofs.Repositories.{has_filter}
 use Rattle.search_terms.specs.Closure.{InRange}

@@ -4,14 +4,16 @@ use Rattle.std.proofs.Math.Path.{fun_ext}
 use Rattle.std.proofs.lemmas.Bool.{cases_Bool, and_parts, and_from, or_cases, or_left, or_right, both_ways, not-true, not_from_false}
 use Rattle.std.specs.List.{list_all}
 use Rattle.listed.proofs.Bools.{same_bool}
-use Rattle.row_book.specs.Clauses.{is_inside, numbers, subsets}
+use Rattle.listed.specs.Lists.{is_inside, In, has}
+use Rattle.row_book.specs.Numbers.{numbers, subsets}
 use Rattle.row_book.specs.Needs.{NeedsFit}
 use Rattle.row_book.specs.Repository.{Repository, clauses_of}
-use Rattle.row_book.specs.Sets.{NumSet, Is, In, has}
+use Rattle.row_book.specs.Sets.{NumSet, Is}
 use Rattle.row_book.specs.Sound.{SoundRepository}
-use Rattle.row_book.proofs.Clauses.{inside_from, inside_at}
-use Rattle.row_book.proofs.Lists.{In_has, has_In, all_from, all_at, filter_from, filter_cases, ascending_filter}
-use Rattle.row_book.proofs.Order.{numbers_from, numbers_parts, numbers_ascending, subsets_has}
+use Rattle.clause_pool.proofs.Clauses.{inside_from, inside_at}
+use Rattle.listed.proofs.Lists.{In_has, has_In, all_from, all_at, filter_from, filter_cases}
+use Rattle.listed.proofs.Orders.{ascending_filter}
+use Rattle.row_book.proofs.Numbers.{numbers_from, numbers_parts, numbers_ascending, subsets_has}
 use Rattle.explain_core.specs.Reach.{HoldsNeeds, IsReach, holds_needs, reach_of}
 use Rattle.explain_core.specs.Laws.{ReachIsLeast}
 

@@ -4,7 +4,7 @@ use Rattle.std.specs.List.{range_with_len}
 use Rattle.std.proofs.lemmas.List.{drop_more, drop_all, get_or-map}
 use Rattle.repo_model.specs.Goals.{any_version}
 use Rattle.repo_model.specs.declared.goals.Goal.{Goal}
-use Rattle.row_book.specs.Sets.{here, there}
+use Rattle.listed.specs.Lists.{here, there}
 use Rattle.row_book.specs.declared.pair.Pair.{Pair}
 use Rattle.explain_core.specs.Core.{goal_numbered, goals_numbered, marks_of}
 use Rattle.explain_core.specs.Deletion.{Kept, kept, items_of}

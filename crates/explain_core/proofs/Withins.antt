@@ -5,14 +5,14 @@ use Rattle.std.specs.List.{flat_map, range_with_len}
 use Rattle.std.proofs.lemmas.Bool.{cases_lt, and_parts, and_from, or_left, or_right, both_ways, ltb-true, lt-ltb, eq-eqb, false_from_ne_true}
 use Rattle.std.proofs.lemmas.List.{append-nil}
 use Rattle.std.proofs.lemmas.List.Concat.{flat_map-append}
-use Rattle.listed.proofs.Lists.{In_flat_cases, In_flat}
+use Rattle.listed.proofs.Lists.{In_flat_cases, In_flat, In_append_cases, In_append_left, In_append_right, In_cases, In_has, In_map, In_map_cases, In_none, any_from, filter_cases, filter_from, has_In}
 use Rattle.listed.proofs.Numbers.{number_kept, number_left}
 use Rattle.row_book.specs.Book.{are_paired, PairsFit}
 use Rattle.row_book.specs.Repository.{Repository, against, conflicts_of}
-use Rattle.row_book.specs.Sets.{Hit, In, Is, NumSet, here, there}
+use Rattle.row_book.specs.Sets.{Hit, Is, NumSet}
+use Rattle.listed.specs.Lists.{In, here, there}
 use Rattle.row_book.specs.Sound.{SoundRepository}
 use Rattle.row_book.specs.declared.pair.Pair.{Pair}
-use Rattle.row_book.proofs.Lists.{In_append_cases, In_append_left, In_append_right, In_cases, In_has, In_map, In_map_cases, In_none, any_from, filter_cases, filter_from, has_In}
 use Rattle.row_book.proofs.Repositories.{between}
 use Rattle.repo_model.proofs.Elements.{range_from}
 use Rattle.search_terms.specs.Laws.{HasNoSolution, Solves}

@@ -3,7 +3,8 @@
 use Rattle.std.specs.Prelude.{◌≡◌, ℕ, ◌+◌, ◌<◌, ◌≤◌, Bool, not, List, ◌++◌, count_by, length, slice_index_or}
 use Rattle.row_book.specs.Flags.{flag}
 use Rattle.row_book.specs.Repository.{Repository, clauses_of}
-use Rattle.row_book.specs.Sets.{In, Is, NumSet, has}
+use Rattle.listed.specs.Lists.{In, has}
+use Rattle.row_book.specs.Sets.{Is, NumSet}
 use Rattle.explain_core.specs.Reach.{HoldsNeeds}
 
 -- the flags that are up are those of the packages, each of which stands once

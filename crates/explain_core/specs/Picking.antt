@@ -2,7 +2,7 @@
 -- Goals picked by marks.
 use Rattle.std.specs.Prelude.{ℕ, ◌-◌, ◌<◌, ◌≤◌, List, map}
 use Rattle.row_book.specs.Book.{listed_for}
-use Rattle.row_book.specs.Sets.{In}
+use Rattle.listed.specs.Lists.{In}
 use Rattle.explain_core.specs.declared.explanation.Mark.{Mark}
 
 -- each mark has a number from 1 up to the count

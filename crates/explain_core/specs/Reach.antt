@@ -2,9 +2,10 @@
 -- package each member of its clauses.
 use Rattle.std.specs.Prelude.{ℕ, Bool, not, ◌&&◌, ◌||◌, List, length}
 use Rattle.std.specs.List.{list_all}
-use Rattle.row_book.specs.Clauses.{is_inside, subsets}
+use Rattle.listed.specs.Lists.{is_inside, In, has}
+use Rattle.row_book.specs.Numbers.{subsets}
 use Rattle.row_book.specs.Repository.{Repository, clauses_of}
-use Rattle.row_book.specs.Sets.{NumSet, Is, In, Within, has}
+use Rattle.row_book.specs.Sets.{NumSet, Is, Within}
 
 -- the set has the packages of the goals, and with a package each member of its clauses
 pub record HoldsNeeds (R : Repository) (goals : List (List ℕ)) (S : NumSet) : Type 0 where

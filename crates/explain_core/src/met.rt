@@ -4,7 +4,7 @@ ghost use Rattle.std.specs.List.{concat};
 ghost use Rattle.clause_pool.specs.Interned.{clauses_at, OfPool};
 ghost use Rattle.row_book.specs.Flags.{flag};
 ghost use Rattle.row_book.specs.Needs.{NeedsFit};
-ghost use Rattle.row_book.specs.Sets.{In, has};
+ghost use Rattle.listed.specs.Lists.{In, has};
 ghost use Rattle.explain_core.specs.Meeting.{Meets};
 
 use clause_pool::{ClauseId, Pool};

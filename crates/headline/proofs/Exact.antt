@@ -1,12 +1,11 @@
 -- The report of two indexes lists exactly what is broken and what is open.
 use Rattle.std.proofs.Common.{◌≡◌, List, [], ◌∷◌, ◌++◌, inl, inr, refl, sym, ◌∙◌, subst, filter, true, Option}
 use Rattle.std.specs.List.{flat_map}
-use Rattle.listed.proofs.Lists.{In_flat_cases, In_flat}
+use Rattle.listed.proofs.Lists.{In_flat_cases, In_flat, In_append_cases, In_append_left, In_append_right, filter_cases, filter_from}
 use Rattle.repo_model.specs.Goals.{any_version}
-use Rattle.row_book.specs.Clauses.{Before, InOrder}
-use Rattle.row_book.specs.Sets.{In, here}
-use Rattle.row_book.proofs.Lists.{In_append_cases, In_append_left, In_append_right, filter_cases, filter_from}
-use Rattle.row_book.proofs.Order.{order_filter}
+use Rattle.clause_pool.specs.Lists.{Before, InOrder}
+use Rattle.listed.specs.Lists.{In, here}
+use Rattle.clause_pool.proofs.Order.{order_filter}
 use Rattle.suite_compare.specs.Names.{names_of_both}
 use Rattle.suite_compare.specs.Refusals.{packages_in}
 use Rattle.suite_compare.specs.Report.{is_yes, pair_line, single_line, with_later}

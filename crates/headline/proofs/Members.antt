@@ -1,11 +1,10 @@
 -- Which lines stand in a report.
 use Rattle.std.proofs.Common.{◌≡◌, List, [], ◌∷◌, inl, inr, refl, ap, subst, Option, Some, None}
 use Rattle.std.specs.List.{flat_map}
-use Rattle.listed.proofs.Lists.{In_flat_cases, In_flat}
-use Rattle.row_book.specs.Clauses.{Before, InOrder}
-use Rattle.row_book.specs.Sets.{In, here, there}
-use Rattle.row_book.proofs.Lists.{In_cases, In_none, In_append_cases, In_append_left, In_append_right}
-use Rattle.row_book.proofs.Order.{before_asym}
+use Rattle.listed.proofs.Lists.{In_flat_cases, In_flat, In_cases, In_none, In_append_cases, In_append_left, In_append_right}
+use Rattle.clause_pool.specs.Lists.{Before, InOrder}
+use Rattle.listed.specs.Lists.{In, here, there}
+use Rattle.clause_pool.proofs.Order.{before_asym}
 use Rattle.suite_compare.specs.Report.{pair_line, single_line, with_later}
 use Rattle.suite_compare.specs.declared.report.Finding.{Finding}
 use Rattle.suite_compare.specs.declared.report.Finding.TheVariants.{Broken, Open}

@@ -1,7 +1,7 @@
 -- What a comparison of two indexes lists, said of the indexes alone.
 use Rattle.std.specs.Prelude.{◌≡◌, ◌↔◌, ◌⊎◌, ⊤, Bool, true, false, List, [], ◌∷◌}
-use Rattle.row_book.specs.Clauses.{Before}
-use Rattle.row_book.specs.Sets.{In}
+use Rattle.clause_pool.specs.Lists.{Before}
+use Rattle.listed.specs.Lists.{In}
 use Rattle.suite_compare.specs.declared.report.ReportLine.{ReportLine}
 use Rattle.suite_compare.specs.declared.report.ReportLine.TheVariants.{Broken1, Broken2, Open1, Open2}
 use Rattle.headline.specs.Indexes.{Name, SearchedIndex, HasName, Can, Cannot, Installable, SpentBudget}

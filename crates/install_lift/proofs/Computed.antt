@@ -4,15 +4,16 @@ use Rattle.std.specs.List.{list_any, find, flat_map}
 use Rattle.std.specs.Option.{option_and_then}
 use Rattle.std.proofs.Math.ListN.{get_or-eq_default}
 use Rattle.std.proofs.lemmas.Bool.{cases_Bool, cases_eq, cases_lt, and_parts, and_from, or_right, both_ways, false_from_ne_true, not-true, not_from_false, eqb-true, eq-eqb}
-use Rattle.listed.proofs.Lists.{none_in}
+use Rattle.listed.proofs.Lists.{none_in, In_none, In_at, In_has, In_append_cases, has_In, any_from, any_cases, any_none, all_from, all_at}
 use Rattle.listed.proofs.Bools.{cases_Option, lighter}
-use Rattle.row_book.specs.Sets.{NumSet, Is, In, here, Within, HitsAll, has, plus, union}
-use Rattle.row_book.specs.Clauses.{subsets}
+use Rattle.row_book.specs.Sets.{NumSet, Is, Within, HitsAll, plus, union}
+use Rattle.listed.specs.Lists.{In, here, has}
+use Rattle.row_book.specs.Numbers.{subsets}
 use Rattle.row_book.specs.Repository.{Repository, Healthy, clauses_of, conflicts_of, against}
 use Rattle.row_book.specs.Flattening.{packages}
 use Rattle.row_book.specs.Rounds.{RoundStep, FlatStep, MergeStep, IdleStep}
-use Rattle.row_book.proofs.Lists.{In_none, In_at, In_has, In_append_cases, has_In, any_hit, any_from, any_cases, any_none, all_from, all_at, members_from, members_from_parts, members_from_from, members_from_ascending}
-use Rattle.row_book.proofs.Order.{subsets_has, subsets_parts}
+use Rattle.row_book.proofs.Lists.{any_hit, members_from, members_from_parts, members_from_from, members_from_ascending}
+use Rattle.row_book.proofs.Numbers.{subsets_has, subsets_parts}
 use Rattle.clause_pool.proofs.Lists.{In_place}
 use Rattle.clause_flatten.specs.Laws.{Served, Lifts}
 use Rattle.install_lift.specs.Raising.{is_served}

@@ -3,9 +3,10 @@ use Rattle.std.proofs.Common.{◌≡◌, ◌≢◌, ℕ, ◌+◌, ◌<◌, true,
 use Rattle.std.proofs.lemmas.Bool.{cases_eq, both_ways}
 use Rattle.std.proofs.lemmas.List.{length-set, map_more, take_more, get_or-set_same, get_or-set_other}
 use Rattle.clause_pool.specs.Interned.{Interned, clause_at, clauses_at}
-use Rattle.row_book.specs.Sets.{NumSet, In, here, there}
+use Rattle.row_book.specs.Sets.{NumSet}
+use Rattle.listed.specs.Lists.{In, here, there}
 use Rattle.row_book.specs.Book.{listed_for}
-use Rattle.row_book.proofs.Lists.{In_cases, In_none, In_append_cases}
+use Rattle.listed.proofs.Lists.{In_cases, In_none, In_append_cases}
 use Rattle.install_lift.specs.Raising.{PutsUser}
 
 pub puts_none : (J : NumSet) (user : ℕ) (table : List (List ℕ)) → PutsUser J [] user table table

@@ -13,12 +13,14 @@ use Rattle.row_book.specs.Book.{repository_of}
 use Rattle.row_book.specs.declared.book.Book.{Book}
 use Rattle.row_book.specs.Uses.{row_id}
 use Rattle.row_book.proofs.Books.{clauses_row}
-use Rattle.row_book.specs.Sets.{NumSet, Is, In, Within, Hit, plus}
-use Rattle.row_book.specs.Clauses.{numbers}
+use Rattle.row_book.specs.Sets.{NumSet, Is, Within, Hit, plus}
+use Rattle.listed.specs.Lists.{In}
+use Rattle.row_book.specs.Numbers.{numbers}
 use Rattle.row_book.specs.Flags.{flag}
 use Rattle.row_book.specs.Repository.{Repository, Healthy, clauses_of}
 use Rattle.row_book.specs.Flattening.{packages}
-use Rattle.row_book.proofs.Lists.{any_from, any_cases, any_hit}
+use Rattle.listed.proofs.Lists.{any_from, any_cases}
+use Rattle.row_book.proofs.Lists.{any_hit}
 use Rattle.row_book.proofs.Flags.{flag_in}
 use Rattle.install_lift.specs.Trimming.{member_clauses, is_unhit, first_need, IsTrim, IsTrimming, AreMet}
 use Rattle.install_lift.specs.Trimming.Trims.{ends, puts}

@@ -3,11 +3,13 @@ use Rattle.std.proofs.Common.{◌≡◌, ℕ, Bool, true, false, eqb, List, [], 
 use Rattle.std.specs.List.{list_any, find, flat_map}
 use Rattle.std.proofs.lemmas.Bool.{cases_Bool, or_cases, not-false, eqb-true}
 use Rattle.std.proofs.lemmas.Option.{same_Some}
-use Rattle.row_book.specs.Sets.{NumSet, In, here, there, Within, plus}
+use Rattle.row_book.specs.Sets.{NumSet, Within, plus}
+use Rattle.listed.specs.Lists.{In, here, there}
 use Rattle.row_book.specs.Repository.{Repository, Healthy}
 use Rattle.row_book.specs.Flattening.{packages}
-use Rattle.row_book.proofs.Lists.{In_cases, In_none, hit_any}
-use Rattle.row_book.proofs.Order.{numbers_from}
+use Rattle.listed.proofs.Lists.{In_cases, In_none}
+use Rattle.row_book.proofs.Lists.{hit_any}
+use Rattle.row_book.proofs.Numbers.{numbers_from}
 use Rattle.install_lift.specs.Trimming.{member_clauses, is_unhit, first_need, Trims, IsHealthyPart, TrimIsHealthy, TrimIsOne}
 use Rattle.install_lift.specs.Trimming.Trims.{ends, puts}
 

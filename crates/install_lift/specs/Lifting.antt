@@ -1,9 +1,10 @@
 -- A healthy set of a kernel taken back through the steps by which the kernel came, from the last step to the first.
 use Rattle.std.specs.Prelude.{◌≡◌, ℕ, not, ◌&&◌, Bool, eqb, ltb, List, [], ◌∷◌, length, slice_index_or}
 use Rattle.std.specs.List.{list_all, list_any}
-use Rattle.row_book.specs.Sets.{NumSet, has, union}
+use Rattle.row_book.specs.Sets.{NumSet, union}
+use Rattle.listed.specs.Lists.{has}
 use Rattle.row_book.specs.Repository.{Repository, clauses_of, conflicts_of}
-use Rattle.row_book.specs.Clauses.{subsets}
+use Rattle.row_book.specs.Numbers.{subsets}
 use Rattle.row_book.specs.Pruning.{lift_idle}
 use Rattle.row_book.specs.Rounds.{RoundStep, FlatStep, MergeStep, IdleStep}
 use Rattle.clause_flatten.specs.Laws.{Lifts}

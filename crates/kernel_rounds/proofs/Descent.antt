@@ -1,6 +1,6 @@
 -- What goes down from round to round, in numbers.
 use Rattle.std.proofs.Common.{◌≡◌, ℕ, Bool, ◌<◌, ◌+◌, List, [], ◌∷◌, inl, inr, refl, ap, arith}
-use Rattle.row_book.specs.Clauses.{Before}
+use Rattle.clause_pool.specs.Lists.{Before}
 use Rattle.row_book.specs.Repository.{Repository}
 use Rattle.row_book.specs.Sound.{SoundRepository}
 use Rattle.row_book.specs.Flattening.{flat}

@@ -3,16 +3,18 @@
 use Rattle.std.proofs.Common.{◌≡◌, ℕ, Bool, zero, suc, ◌<◌, ◌≤◌, ◌+◌, ◌*◌, true, false, List, [], ◌∷◌, length, ◌⊎◌, inl, inr, refl, sym, ◌∙◌, ap, ap₂, subst, arith, slice_index_or, zero-le}
 use Rattle.std.proofs.Math.Nat.{mul-le-mul_right, mul-le-mul_left}
 use Rattle.std.proofs.lemmas.Bool.{cases_Bool, cases_lt}
-use Rattle.row_book.specs.Sets.{In, here, there}
-use Rattle.row_book.specs.Clauses.{Ascending, Before, InOrder, subsets}
+use Rattle.listed.specs.Lists.{In, here, there, Ascending}
+use Rattle.clause_pool.specs.Lists.{Before, InOrder}
+use Rattle.row_book.specs.Numbers.{subsets}
 use Rattle.row_book.specs.Repository.{Repository, clauses_of}
 use Rattle.row_book.specs.Sound.{SoundRepository, TidyRepository}
 use Rattle.row_book.specs.Flattening.{core_of, flat, has_conflict}
 use Rattle.row_book.specs.Support.{MinimalBlock}
 use Rattle.row_book.specs.Merging.{firsts, quotient}
 use Rattle.row_book.specs.Rounds.{weigh, enough_rounds}
-use Rattle.row_book.proofs.Lists.{In_cases, In_none}
-use Rattle.row_book.proofs.Order.{before_asym, subsets_has, subsets_order, subsets_parts}
+use Rattle.listed.proofs.Lists.{In_cases, In_none}
+use Rattle.clause_pool.proofs.Order.{before_asym}
+use Rattle.row_book.proofs.Numbers.{subsets_has, subsets_order, subsets_parts}
 use Rattle.row_book.proofs.Repositories.{repository_same, table_same}
 use Rattle.clause_flatten.proofs.Stages.{core_stays_lem}
 use Rattle.class_merge.specs.Laws.{plain_clauses}

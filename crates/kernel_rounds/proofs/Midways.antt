@@ -12,8 +12,8 @@ use Rattle.clause_flatten.specs.Refusals.{OnLimit}
 use Rattle.row_book.specs.declared.book.Book.{Book}
 use Rattle.row_book.specs.declared.trail.Step.{Step}
 use Rattle.row_book.specs.declared.trail.Step.TheVariants.{Flat, Idle, Merge}
-use Rattle.row_book.specs.Sets.{In, here, there}
-use Rattle.row_book.specs.Clauses.{numbers}
+use Rattle.listed.specs.Lists.{In, here, there}
+use Rattle.row_book.specs.Numbers.{numbers}
 use Rattle.row_book.specs.Repository.{Repository}
 use Rattle.row_book.specs.Book.{repository_of, IsSameBook, Sound}
 use Rattle.row_book.specs.Sound.{SoundRepository}
@@ -24,8 +24,8 @@ use Rattle.row_book.specs.Rounds.{is_same_repository, RoundStep, FlatStep, IdleS
 use Rattle.row_book.specs.Trail.{SoundStep, SoundSteps, trail_meaning, step_meaning}
 use Rattle.row_book.proofs.BookRepositories.{book_size}
 use Rattle.row_book.proofs.Books.{repository_kept, sound_kept}
-use Rattle.row_book.proofs.Lists.{In_append_cases, In_cases, In_none}
-use Rattle.row_book.proofs.Order.{length_numbers, map_same, numbers_parts}
+use Rattle.listed.proofs.Lists.{In_append_cases, In_cases, In_none}
+use Rattle.row_book.proofs.Numbers.{length_numbers, map_same, numbers_parts}
 use Rattle.row_book.proofs.Repositories.{of_packages}
 use Rattle.class_merge.specs.Classes.{class_in}
 use Rattle.class_merge.proofs.MergedRows.{class_at}

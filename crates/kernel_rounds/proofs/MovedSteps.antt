@@ -9,13 +9,13 @@ use Rattle.class_merge.proofs.Groups.{row_once}
 use Rattle.row_book.specs.declared.book.Book.{Book}
 use Rattle.row_book.specs.declared.trail.Step.{Step}
 use Rattle.row_book.specs.declared.trail.Step.TheVariants.{Flat, Idle, Merge}
-use Rattle.row_book.specs.Sets.{In, here, there}
+use Rattle.listed.specs.Lists.{In, here, there}
 use Rattle.row_book.specs.Book.{repository_of, AddsOnly, AreConflicts, IsSameBook, RowsFit, Sound}
 use Rattle.row_book.specs.Repository.{Repository}
 use Rattle.row_book.specs.Rounds.{RoundStep, FlatStep, IdleStep, MergeStep}
 use Rattle.row_book.specs.Trail.{SoundStep, SoundSteps, step_meaning, trail_meaning}
 use Rattle.row_book.proofs.Repositories.{repository_same}
-use Rattle.row_book.proofs.Lists.{In_append_cases, In_append_left, In_append_right, In_at, In_cases, In_map, In_map_cases, In_none}
+use Rattle.listed.proofs.Lists.{In_append_cases, In_append_left, In_append_right, In_at, In_cases, In_map, In_map_cases, In_none}
 use Rattle.kernel_rounds.specs.Extracting.{IsExtracted, IsReached}
 use Rattle.kernel_rounds.specs.Moving.{live_rows, step_rows, trail_rows, AreSameSteps, HasOnly, HasSteps, IsSameStep}
 use Rattle.kernel_rounds.proofs.Midways.{sound_step, told_kept}

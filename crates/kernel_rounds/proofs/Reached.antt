@@ -3,8 +3,9 @@ use Rattle.std.proofs.Common.{◌≡◌, ◌≢◌, ℕ, zero, suc, ◌<◌, ◌
 use Rattle.std.specs.Cmp.Lexicographic.{pointwise}
 use Rattle.std.specs.List.{list_all, list_any}
 use Rattle.std.proofs.lemmas.Bool.{and_from, and_parts, both_ways, cases_eq}
-use Rattle.row_book.specs.Sets.{NumSet, In, Is, here, there}
-use Rattle.row_book.specs.Clauses.{numbers}
+use Rattle.row_book.specs.Sets.{NumSet, Is}
+use Rattle.listed.specs.Lists.{In, here, there}
+use Rattle.row_book.specs.Numbers.{numbers}
 use Rattle.row_book.specs.Repository.{Repository, Coinst, clauses_of}
 use Rattle.row_book.specs.Sound.{OfPackages, SoundRepository, TidyRepository}
 use Rattle.row_book.specs.Flattening.{flat}
@@ -13,8 +14,8 @@ use Rattle.row_book.specs.Pruning.{made_dead, others, without_clause, is_dead, i
 use Rattle.row_book.specs.Thinning.{thin}
 use Rattle.row_book.specs.Rounds.{round, rounds, class_after, image_after, is_same_repository, enough_rounds, rounds_until, round_count, kernel, kernel_image}
 use Rattle.row_book.proofs.Books.{in_listed}
-use Rattle.row_book.proofs.Lists.{In_cases, In_none}
-use Rattle.row_book.proofs.Order.{numbers_parts}
+use Rattle.listed.proofs.Lists.{In_cases, In_none}
+use Rattle.row_book.proofs.Numbers.{numbers_parts}
 use Rattle.row_book.proofs.Repositories.{repository_same, same_rows, rows_test, same_tables, tables_test, table_same}
 use Rattle.clause_flatten.proofs.Stages.{core_stays_lem}
 use Rattle.class_merge.proofs.Classes.{alike_from, image_from, image_parts}

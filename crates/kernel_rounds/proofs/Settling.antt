@@ -1,7 +1,7 @@
 -- A repository that a round leaves is left by each part of the round.
 use Rattle.std.proofs.Common.{◌≡◌, ℕ, Bool, ◌<◌, true, List, [], length, ◌⊎◌, inl, inr, sym, ◌∙◌, ap, subst, slice_index_or}
-use Rattle.row_book.specs.Sets.{In}
-use Rattle.row_book.specs.Clauses.{InOrder}
+use Rattle.listed.specs.Lists.{In}
+use Rattle.clause_pool.specs.Lists.{InOrder}
 use Rattle.row_book.specs.Repository.{Repository, clauses_of}
 use Rattle.row_book.specs.Sound.{SoundRepository, TidyRepository}
 use Rattle.row_book.specs.Flattening.{core_of, flat}
@@ -9,8 +9,8 @@ use Rattle.row_book.specs.Merging.{firsts, quotient}
 use Rattle.row_book.specs.Pruning.{prune}
 use Rattle.row_book.specs.Thinning.{thin}
 use Rattle.row_book.specs.Rounds.{round}
-use Rattle.row_book.proofs.Lists.{In_none}
-use Rattle.row_book.proofs.Order.{order_same}
+use Rattle.listed.proofs.Lists.{In_none}
+use Rattle.clause_pool.proofs.Order.{order_same}
 use Rattle.row_book.proofs.Repositories.{repository_same, table_same}
 use Rattle.class_merge.specs.Laws.{plain_clauses}
 use Rattle.class_merge.proofs.Kept.{merged_order, merged_size}

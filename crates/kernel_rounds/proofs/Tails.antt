@@ -1,7 +1,8 @@
 -- Rounds keep every set, whatever comes after merging; the three choices of what comes.
 use Rattle.std.proofs.Common.{◌≡◌, ℕ, Bool, zero, suc, ◌<◌, [], length, inl, inr, refl, sym, ◌∙◌, ap, subst, slice_index_or, ◌↔◌}
-use Rattle.row_book.specs.Sets.{NumSet, In, Is}
-use Rattle.row_book.specs.Clauses.{InOrder}
+use Rattle.row_book.specs.Sets.{NumSet, Is}
+use Rattle.listed.specs.Lists.{In}
+use Rattle.clause_pool.specs.Lists.{InOrder}
 use Rattle.row_book.specs.Repository.{Repository, Coinst, clauses_of}
 use Rattle.row_book.specs.Sound.{OfPackages, SoundRepository, TidyRepository}
 use Rattle.row_book.specs.Flattening.{flat}

@@ -1,10 +1,11 @@
 -- The laws of the rounds and of the kernel.
 use Rattle.std.specs.Prelude.{◌≡◌, ℕ, ◌<◌, ◌≤◌, ◌+◌, ◌∷◌, ◌↔◌, Bool, true, false, not, ◌&&◌, List, [], length, filter, None}
 use Rattle.std.specs.List.{list_any}
-use Rattle.row_book.specs.Sets.{NumSet, In, Is, has}
+use Rattle.row_book.specs.Sets.{NumSet, Is}
+use Rattle.listed.specs.Lists.{In, has}
 use Rattle.row_book.specs.Repository.{Repository, Coinst, clauses_of}
 use Rattle.row_book.specs.Sound.{OfPackages, SoundRepository}
-use Rattle.row_book.specs.Clauses.{Before, InOrder}
+use Rattle.clause_pool.specs.Lists.{Before, InOrder}
 use Rattle.row_book.specs.Flattening.{core_of, flat, has_conflict, packages}
 use Rattle.row_book.specs.Support.{row}
 use Rattle.row_book.specs.Merging.{quotient}

@@ -1,8 +1,9 @@
 -- Rounds whatever comes after merging, so that one proof of their end serves each choice of parts.
 use Rattle.std.specs.Prelude.{◌≡◌, ℕ, zero, suc, ◌<◌, Bool, List, [], ◌⊎◌, ◌↔◌, length}
-use Rattle.row_book.specs.Sets.{NumSet, In}
+use Rattle.row_book.specs.Sets.{NumSet}
+use Rattle.listed.specs.Lists.{In}
 use Rattle.row_book.specs.Repository.{Repository, Coinst, clauses_of}
-use Rattle.row_book.specs.Clauses.{InOrder}
+use Rattle.clause_pool.specs.Lists.{InOrder}
 use Rattle.row_book.specs.Sound.{SoundRepository, TidyRepository}
 use Rattle.row_book.specs.Flattening.{flat}
 use Rattle.row_book.specs.Merging.{image, quotient}

@@ -5,7 +5,7 @@
 ghost use Rattle.std.specs.Prelude.{Bool, Some, ◌≡◌, ◌<◌, ◌+◌, ◌∷◌, ◌++◌, [], IfErr, IfOk, OnOk, List, eqb, length, map, min, slice_index_or, ℕ};
 ghost use Rattle.clause_pool.specs.Interned.{Interned, IsPool, Kept};
 ghost use Rattle.row_book.specs.Book.{repository_of, AddsOnly, Sound};
-ghost use Rattle.row_book.specs.Clauses.{numbers};
+ghost use Rattle.row_book.specs.Numbers.{numbers};
 ghost use Rattle.row_book.specs.Merging.{place_of};
 ghost use Rattle.row_book.specs.Repository.{Repository};
 ghost use Rattle.row_book.specs.Keeping.{KeepsImages};

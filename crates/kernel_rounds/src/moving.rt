@@ -2,7 +2,7 @@
 ghost use Rattle.std.specs.Prelude.{◌≡◌, ◌++◌, [], ℕ, List, IfOk};
 ghost use Rattle.clause_pool.specs.Interned.{Interned, IsPool, Kept};
 ghost use Rattle.clause_pool.specs.Compacting.{Compacts, Knows};
-ghost use Rattle.row_book.specs.Sets.{In};
+ghost use Rattle.listed.specs.Lists.{In};
 ghost use Rattle.row_book.specs.Book.{AddsOnly, IsSameBook, Sound};
 ghost use Rattle.row_book.specs.Rounds.{RoundStep};
 ghost use Rattle.row_book.specs.Trail.{trail_meaning, SoundStep, SoundSteps};

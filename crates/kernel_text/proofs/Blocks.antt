@@ -5,12 +5,13 @@ use Rattle.std.proofs.lemmas.Bool.{and_from, false_from_ne_true, or_left, lt-ltb
 use Rattle.std.proofs.lemmas.List.{append-nil}
 use Rattle.std.proofs.lemmas.List.Elements.{filter-append}
 use Rattle.row_book.specs.Book.{are_paired, lists_of_pairs}
-use Rattle.row_book.specs.Clauses.{Ascending, numbers}
+use Rattle.listed.specs.Lists.{Ascending, In, has, here, there}
+use Rattle.row_book.specs.Numbers.{numbers}
 use Rattle.row_book.specs.Repository.{Repository, clauses_of, conflicts_of}
-use Rattle.row_book.specs.Sets.{In, has, here, there}
 use Rattle.row_book.specs.declared.pair.Pair.{Pair}
-use Rattle.row_book.proofs.Lists.{In_cases, In_has, In_none, In_map, In_map_cases, In_append_cases, any_from, ascending_same, ascending_filter, filter_from, filter_cases, has_In}
-use Rattle.row_book.proofs.Order.{numbers_from, numbers_ascending, length_numbers, at_numbers}
+use Rattle.listed.proofs.Lists.{In_cases, In_has, In_none, In_map, In_map_cases, In_append_cases, any_from, filter_from, filter_cases, has_In}
+use Rattle.listed.proofs.Orders.{ascending_same, ascending_filter}
+use Rattle.row_book.proofs.Numbers.{numbers_from, numbers_ascending, length_numbers, at_numbers}
 use Rattle.row_book.proofs.Pairs.{is_of, paired_cases}
 use Rattle.kernel_text.specs.declared.member.Member.{Member}
 use Rattle.kernel_text.specs.KernelLines.{KernelLine, HeadLine, ClassLine, NeedsLine, AgainstLine, EndLine}

@@ -1,11 +1,11 @@
 -- What a text of a kernel says can be booked.
 use Rattle.std.proofs.Common.{◌≡◌, ℕ, ◌<◌, List, [], ◌∷◌, ◌++◌, Option, Some, length, inl, inr, refl, sym, ap, ◌∙◌, subst, zero-add, arith}
-use Rattle.row_book.specs.Clauses.{Ascending, InOrder}
+use Rattle.listed.specs.Lists.{Ascending, In}
+use Rattle.clause_pool.specs.Lists.{InOrder}
 use Rattle.row_book.specs.Repository.{clauses_of}
-use Rattle.row_book.specs.Sets.{In}
 use Rattle.row_book.specs.declared.pair.Pair.{Pair}
-use Rattle.row_book.proofs.Lists.{In_append_cases, In_cases, In_none}
-use Rattle.row_book.proofs.Order.{at_numbers, length_numbers}
+use Rattle.listed.proofs.Lists.{In_append_cases, In_cases, In_none}
+use Rattle.row_book.proofs.Numbers.{at_numbers, length_numbers}
 use Rattle.kernel_text.specs.declared.member.Member.{Member}
 use Rattle.kernel_text.specs.Booking.{IsBookable}
 use Rattle.kernel_text.specs.KernelLines.{KernelLine, HeadLine, ClassLine, MemberLine, HeldLine, NeedsLine, AgainstLine, EndLine, lines_of}

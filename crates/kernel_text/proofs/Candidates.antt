@@ -6,12 +6,11 @@ use Rattle.std.specs.Str.{bytes_eq}
 use Rattle.std.proofs.lemmas.Bool.{and_parts, both_ways, false_from_ne_true, false≢true, or_cases}
 use Rattle.std.proofs.lemmas.List.{append-nil}
 use Rattle.std.proofs.lemmas.Slice.Eq.{bytes_eq-Decides}
-use Rattle.listed.proofs.Lists.{decided_and}
+use Rattle.listed.proofs.Lists.{decided_and, Decided}
 use Rattle.deb_version.specs.Grammar.{is_upstream_byte}
 use Rattle.deb_version.specs.Order.{number}
 use Rattle.relation_fields.proofs.Bytes.{version_bytes}
-use Rattle.row_book.specs.Sets.{In, here, there}
-use Rattle.row_book.proofs.Lists.{Decided}
+use Rattle.listed.specs.Lists.{In, here, there}
 use Rattle.kernel_text.specs.ByWords.{by_words, ends_word, words_of}
 use Rattle.kernel_text.specs.KernelLines.{KernelLine, HeadLine, ClassLine, MemberLine, HeldLine, NeedsLine, AgainstLine, EndLine, behind_space, line_text}
 use Rattle.kernel_text.specs.Reading.{number_limit}

@@ -1,8 +1,8 @@
 -- The lines of a class: what stands in them, and what is known of it.
 use Rattle.std.proofs.Common.{◌≡◌, ℕ, suc, ◌<◌, Bool, true, false, List, [], ◌∷◌, ◌++◌, length, map}
-use Rattle.row_book.specs.Clauses.{Ascending, InOrder}
-use Rattle.row_book.specs.Sets.{In}
-use Rattle.row_book.proofs.Lists.{In_none}
+use Rattle.listed.specs.Lists.{Ascending, In}
+use Rattle.clause_pool.specs.Lists.{InOrder}
+use Rattle.listed.proofs.Lists.{In_none}
 use Rattle.kernel_text.specs.declared.member.Member.{Member}
 use Rattle.kernel_text.specs.KernelLines.{KernelLine, ClassLine, NeedsLine, AgainstLine}
 use Rattle.kernel_text.specs.KernelText.{held_lines, line_of_member}

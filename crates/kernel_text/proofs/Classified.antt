@@ -10,16 +10,15 @@ use Rattle.std.proofs.lemmas.List.{append-nil}
 use Rattle.std.proofs.lemmas.List.Elements.{filter-append}
 use Rattle.std.proofs.lemmas.Slice.Eq.{bytes_eq-Decides}
 use Rattle.repo_model.specs.Limits.{most_packages}
-use Rattle.listed.proofs.Lists.{In_flat_cases, flat_same, filled}
+use Rattle.listed.proofs.Lists.{In_flat_cases, flat_same, filled, In_cases, In_none, In_append_cases, filter_cases, filter_from}
 use Rattle.deb_version.specs.Order.{version_order}
 use Rattle.deb_version.proofs.TotalOrder.{version_total}
 use Rattle.relation_fields.specs.declared.packages.PackageFacts.{PackageFacts}
 use Rattle.repo_model.proofs.Accepted as index
-use Rattle.row_book.specs.Clauses.{numbers}
+use Rattle.row_book.specs.Numbers.{numbers}
 use Rattle.row_book.specs.Repository.{Repository}
-use Rattle.row_book.specs.Sets.{In, here, there}
-use Rattle.row_book.proofs.Lists.{In_cases, In_none, In_append_cases, filter_cases, filter_from}
-use Rattle.row_book.proofs.Order.{numbers_parts}
+use Rattle.listed.specs.Lists.{In, here, there}
+use Rattle.row_book.proofs.Numbers.{numbers_parts}
 use Rattle.kernel_text.specs.declared.member.Member.{Member}
 use Rattle.kernel_text.specs.KernelText.{AreSingle, IsWritable, members_of}
 use Rattle.kernel_text.specs.Laws.{IsKernelOf, KernelsAreWritable}

@@ -1,8 +1,9 @@
 -- Which clause may stand next, told by the kind of the last line.
 use Rattle.std.proofs.Common.{◌≡◌, ℕ, true, false, ◌&&◌, eqb, ltb, List, [], ◌∷◌, Option, Some, None, inl, inr, refl, sym, subst, eq-eqb}
 use Rattle.std.proofs.lemmas.Bool.{and_from, both_ways, false≢true, lt-ltb, or_left, or_right}
-use Rattle.row_book.specs.Clauses.{Before, comes_before}
-use Rattle.row_book.proofs.Order.{before_test, before_is}
+use Rattle.clause_pool.specs.Lists.{Before}
+use Rattle.clause_pool.specs.Clauses.{comes_before}
+use Rattle.clause_pool.proofs.Order.{before_test, before_is}
 use Rattle.kernel_text.specs.KernelLines.{KernelLine, HeadLine, ClassLine, MemberLine, HeldLine, NeedsLine, AgainstLine, EndLine}
 use Rattle.kernel_text.specs.Reader.{kind_of_last, may_add_clause}
 use Rattle.kernel_text.specs.Reading.{MayAddClause}

@@ -4,8 +4,8 @@ use Rattle.std.proofs.lemmas.Bool.{cases_eq, cases_lt}
 use Rattle.std.proofs.lemmas.List.{get_or-set_same, get_or-set_other, get_or_push, take_more}
 use Rattle.clause_pool.specs.Interned.{Gains, Interned, IsIdOf, Kept, ids_at}
 use Rattle.row_book.specs.Book.{AddsOnly, listed_for}
-use Rattle.row_book.specs.Sets.{In, here, there}
-use Rattle.row_book.proofs.Lists.{In_append_cases, In_append_left, In_append_right, In_cases, In_none}
+use Rattle.listed.specs.Lists.{In, here, there}
+use Rattle.listed.proofs.Lists.{In_append_cases, In_append_left, In_append_right, In_cases, In_none}
 use Rattle.kernel_text.specs.Booking.{GainsClauses, GainsRows}
 
 -- a list that was gained has the id that is told

@@ -7,10 +7,11 @@ use Rattle.std.proofs.Math.Seq.{drop-cons}
 use Rattle.std.proofs.lemmas.Bool.{and_from, and_parts, false≢true, false_from_ne_true, not_from_false}
 use Rattle.std.proofs.lemmas.List.{map-append, take_more}
 use Rattle.std.proofs.lemmas.List.Folds.{list_any_more}
-use Rattle.row_book.specs.Clauses.{Ascending, Inside, numbers}
-use Rattle.row_book.specs.Sets.{In, has, here}
-use Rattle.row_book.proofs.Lists.{In_has, In_none, any_cases, any_from, ascending_filter, ascending_same, filter_cases, filter_from, has_In}
-use Rattle.row_book.proofs.Order.{numbers_ascending, numbers_from as number_in}
+use Rattle.listed.specs.Lists.{Ascending, Inside, In, has, here}
+use Rattle.row_book.specs.Numbers.{numbers}
+use Rattle.listed.proofs.Lists.{In_has, In_none, any_cases, any_from, filter_cases, filter_from, has_In}
+use Rattle.listed.proofs.Orders.{ascending_filter, ascending_same}
+use Rattle.row_book.proofs.Numbers.{numbers_ascending, numbers_from as number_in}
 use Rattle.repo_model.specs.declared.goals.Goal.{Goal}
 use Rattle.virtual_provides.specs.Bearers.{if_so}
 use Rattle.virtual_provides.specs.Numbers.{numbers_from, numbers_where, passes_at}

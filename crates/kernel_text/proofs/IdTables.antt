@@ -8,13 +8,14 @@ use Rattle.std.proofs.lemmas.List.Elements.{filter-append}
 use Rattle.clause_pool.specs.Interned.{Interned, IsIdOf, Kept, OfPool, clauses_at, ids_at, row_at}
 use Rattle.clause_pool.proofs.Interned.{kept_along, clauses_kept, kept_of_pool}
 use Rattle.row_book.specs.Book.{NumbersFit, listed_for, lists_of_pairs, repository_of}
-use Rattle.row_book.specs.Clauses.{InOrder, numbers}
+use Rattle.clause_pool.specs.Lists.{InOrder}
+use Rattle.row_book.specs.Numbers.{numbers}
 use Rattle.row_book.specs.Repository.{Repository}
-use Rattle.row_book.specs.Sets.{In, here, there}
+use Rattle.listed.specs.Lists.{In, here, there}
 use Rattle.row_book.specs.declared.book.Book.{Book}
 use Rattle.row_book.specs.declared.pair.Pair.{Pair}
-use Rattle.row_book.proofs.Lists.{In_append_cases, In_cases, In_map, In_map_cases, In_none, filter_cases}
-use Rattle.row_book.proofs.Order.{at_numbers, length_numbers}
+use Rattle.listed.proofs.Lists.{In_append_cases, In_cases, In_map, In_map_cases, In_none, filter_cases}
+use Rattle.row_book.proofs.Numbers.{at_numbers, length_numbers}
 use Rattle.kernel_text.specs.declared.reader.Clause.{Clause}
 use Rattle.kernel_text.specs.Booking.{AreRows, HasIdsByClass, IsBookable}
 use Rattle.kernel_text.specs.KernelReads.{clauses_of_class, repository_of_reading}

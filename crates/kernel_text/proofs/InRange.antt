@@ -3,9 +3,9 @@ use Rattle.std.proofs.Common.{◌≡◌, ℕ, suc, ◌<◌, Bool, true, false, L
 use Rattle.std.specs.Prelude.{nat_lt}
 use Rattle.std.specs.List.{list_all}
 use Rattle.std.proofs.lemmas.Bool.{both_ways, cases_lt, lt-ltb, ltb-true}
-use Rattle.row_book.specs.Sets.{In}
+use Rattle.listed.specs.Lists.{In}
 use Rattle.row_book.specs.declared.pair.Pair.{Pair}
-use Rattle.row_book.proofs.Lists.{In_append_cases, In_cases, In_map, In_map_cases, In_none, all_at, all_from}
+use Rattle.listed.proofs.Lists.{In_append_cases, In_cases, In_map, In_map_cases, In_none, all_at, all_from}
 use Rattle.kernel_text.specs.declared.reader.Clause.{Clause}
 use Rattle.kernel_text.specs.KernelFaults.{Strays}
 use Rattle.kernel_text.specs.KernelLines.{KernelLine, HeadLine, ClassLine, MemberLine, HeldLine, NeedsLine, AgainstLine, EndLine, lines_of, line_text}

@@ -15,10 +15,10 @@ use Rattle.relation_fields.proofs.Bytes.{version_bytes}
 use Rattle.relation_fields.specs.declared.packages.PackageFacts.{PackageFacts}
 use Rattle.repo_model.specs.Stanzas.{stanza_at}
 use Rattle.row_book.specs.Book.{listed_for}
-use Rattle.row_book.specs.Clauses.{numbers}
+use Rattle.row_book.specs.Numbers.{numbers}
 use Rattle.row_book.specs.Repository.{Repository, clauses_of}
-use Rattle.row_book.specs.Sets.{In, here, there}
-use Rattle.row_book.proofs.Order.{numbers_parts, numbers_more}
+use Rattle.listed.specs.Lists.{In, here, there}
+use Rattle.row_book.proofs.Numbers.{numbers_parts, numbers_more}
 use Rattle.serde_json.specs.Data.{Data, array, string}
 use Rattle.serde_json.specs.View.{items_of, view}
 use Rattle.serde_json.specs.Written.{compact_text, has_float, items_have_float, items_text}

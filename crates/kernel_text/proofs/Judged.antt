@@ -1,9 +1,8 @@
 -- Each text is one of a kernel, or has a first fault.
 use Rattle.std.proofs.Common.{◌≡◌, ℕ, suc, ◌+◌, ◌<◌, ◌≤◌, List, [], ◌∷◌, length, take, get_or, Option, Some, None, inl, inr, ◌⊎◌, refl, sym, ap₂, ◌∙◌, subst, arith}
 use Rattle.std.proofs.lemmas.Bool.{cases_eq, cases_lt}
-use Rattle.listed.proofs.Lists.{decided_and}
+use Rattle.listed.proofs.Lists.{decided_and, Decided}
 use Rattle.row_book.specs.Repository.{Repository}
-use Rattle.row_book.proofs.Lists.{Decided}
 use Rattle.kernel_text.specs.declared.fault.KernelFault.{KernelFault}
 use Rattle.kernel_text.specs.declared.fault.KernelFault.TheVariants.{Line, End, Range, Memory}
 use Rattle.kernel_text.specs.declared.member.Member.{Member}

@@ -6,7 +6,7 @@ use Rattle.std.proofs.lemmas.Bool.{and_parts, and_from, not-true, not_from_false
 use Rattle.std.proofs.lemmas.List.Folds.{list_all-append}
 use Rattle.deb_version.specs.Grammar.{is_upstream_byte}
 use Rattle.relation_fields.proofs.Bytes.{version_bytes}
-use Rattle.row_book.specs.Sets.{In, here, there}
+use Rattle.listed.specs.Lists.{In, here, there}
 use Rattle.kernel_text.specs.KernelLines.{KernelLine, HeadLine, ClassLine, MemberLine, HeldLine, NeedsLine, AgainstLine, EndLine, lines_of, line_text, behind_space}
 use Rattle.kernel_text.specs.KernelReads.{LinesGive}
 use Rattle.kernel_text.specs.Reading.{Reading, IsAllowed, with_line, number_limit}

@@ -4,8 +4,8 @@ use Rattle.std.proofs.Math.ListN.{length-set}
 use Rattle.std.proofs.lemmas.Bool.{cases_eq}
 use Rattle.std.proofs.lemmas.List.{get_or-replicate, get_or-set_other, get_or-set_same, take_more}
 use Rattle.row_book.specs.Flags.{flag}
-use Rattle.row_book.specs.Sets.{has, here}
-use Rattle.row_book.proofs.Lists.{In_append_right, In_has}
+use Rattle.listed.specs.Lists.{has, here}
+use Rattle.listed.proofs.Lists.{In_append_right, In_has}
 use Rattle.kernel_text.specs.Writing.{TellHeld}
 use Rattle.kernel_text.proofs.Retold.{eqb_other}
 

@@ -7,11 +7,10 @@ use Rattle.std.specs.Map.{lookup}
 use Rattle.std.specs.Str.{bytes_eq}
 use Rattle.std.proofs.lemmas.Bool.{and_parts, both_ways, false≢true, false_from_ne_true}
 use Rattle.std.proofs.lemmas.Slice.Eq.{bytes_eq-Decides}
-use Rattle.listed.proofs.Lists.{at_end}
+use Rattle.listed.proofs.Lists.{at_end, In_append_cases, In_append_left, In_append_right, In_cases, In_none, any_cases, any_from}
 use Rattle.relation_fields.specs.declared.packages.PackageFacts.{PackageFacts}
 use Rattle.repo_model.proofs.PackageKeys.{has_key-same}
-use Rattle.row_book.specs.Sets.{In, here, there}
-use Rattle.row_book.proofs.Lists.{In_append_cases, In_append_left, In_append_right, In_cases, In_none, any_cases, any_from}
+use Rattle.listed.specs.Lists.{In, here, there}
 use Rattle.kernel_text.specs.declared.member.Member.{Member}
 use Rattle.kernel_text.specs.declared.member_table.MemberTable.{MemberTable}
 use Rattle.kernel_text.specs.KernelLines.{KernelLine, HeadLine, ClassLine, MemberLine, HeldLine, NeedsLine, AgainstLine, EndLine}

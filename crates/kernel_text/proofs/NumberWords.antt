@@ -5,8 +5,8 @@ use Rattle.std.specs.List.{flat_map}
 use Rattle.std.specs.Option.{option_map_or}
 use Rattle.std.proofs.lemmas.Grind.{flat_map-append}
 use Rattle.std.proofs.lemmas.List.{append-nil}
-use Rattle.row_book.specs.Sets.{In, here, there}
-use Rattle.row_book.proofs.Lists.{In_append_cases, In_cases, In_none}
+use Rattle.listed.specs.Lists.{In, here, there}
+use Rattle.listed.proofs.Lists.{In_append_cases, In_cases, In_none}
 use Rattle.kernel_text.specs.KernelLines.{behind_space}
 use Rattle.kernel_text.specs.Numbers.{NumberRead}
 use Rattle.kernel_text.specs.Reading.{number_limit}

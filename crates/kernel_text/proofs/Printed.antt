@@ -2,11 +2,12 @@
 use Rattle.std.proofs.Common.{◌≡◌, ℕ, zero, suc, ◌+◌, ◌-◌, ◌<◌, Bool, true, false, List, [], ◌∷◌, ◌++◌, Option, Some, length, map, inl, inr, refl, sym, ap, ◌∙◌, subst, append_assoc, add-one, arith}
 use Rattle.std.specs.List.{flat_map}
 use Rattle.std.proofs.lemmas.List.{append-nil}
-use Rattle.row_book.specs.Clauses.{Ascending, InOrder, numbers}
+use Rattle.listed.specs.Lists.{Ascending, In, has, here, there}
+use Rattle.clause_pool.specs.Lists.{InOrder}
+use Rattle.row_book.specs.Numbers.{numbers}
 use Rattle.row_book.specs.Repository.{Repository, clauses_of}
-use Rattle.row_book.specs.Sets.{In, has, here, there}
 use Rattle.row_book.specs.declared.pair.Pair.{Pair}
-use Rattle.row_book.proofs.Lists.{In_cases, In_append_right}
+use Rattle.listed.proofs.Lists.{In_cases, In_append_right}
 use Rattle.kernel_text.specs.declared.member.Member.{Member}
 use Rattle.kernel_text.specs.KernelLines.{KernelLine, ClassLine, MemberLine, HeldLine, NeedsLine, AgainstLine}
 use Rattle.kernel_text.specs.KernelText.{AreSingle, class_lines, greater_conflicts, held_lines, line_of_member, members_of}

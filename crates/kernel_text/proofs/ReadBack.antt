@@ -4,7 +4,7 @@ use Rattle.std.proofs.Common.{◌≡◌, ℕ, zero, suc, ◌+◌, ◌<◌, ◌�
 use Rattle.std.specs.List.{list_any}
 use Rattle.std.proofs.lemmas.Bool.{and_from, and_parts, both_ways, false_from_ne_true}
 use Rattle.listed.proofs.Bools.{same_bool}
-use Rattle.listed.proofs.Lists.{In_flat}
+use Rattle.listed.proofs.Lists.{In_flat, In_cases, In_none, any_cases, any_from, filter_cases, filter_from, filter_same}
 use Rattle.relation_fields.specs.declared.packages.PackageFacts.{PackageFacts}
 use Rattle.repo_model.specs.declared.goals.Goal.{Goal}
 use Rattle.repo_model.specs.Goals.{packages_named}
@@ -12,11 +12,10 @@ use Rattle.repo_model.specs.Goals as index
 use Rattle.repo_model.specs.Repository.{packages_of}
 use Rattle.repo_model.specs.Stanzas.{stanza_at}
 use Rattle.repo_model.proofs.Elements.{at_place, range_cases, range_from}
-use Rattle.row_book.specs.Clauses.{numbers}
+use Rattle.row_book.specs.Numbers.{numbers}
 use Rattle.row_book.specs.Repository.{Repository}
-use Rattle.row_book.specs.Sets.{In, here, there}
-use Rattle.row_book.proofs.Lists.{In_cases, In_none, any_cases, any_from, filter_cases, filter_from, filter_same}
-use Rattle.row_book.proofs.Order.{numbers_from}
+use Rattle.listed.specs.Lists.{In, here, there}
+use Rattle.row_book.proofs.Numbers.{numbers_from}
 use Rattle.kernel_text.specs.declared.member.Member.{Member}
 use Rattle.kernel_text.specs.Images.{image_of, is_named_by, is_unknown, names_in_class}
 use Rattle.kernel_text.specs.KernelText.{kernel_text, members_of}

@@ -1,8 +1,7 @@
 -- Ascending lists, by neighbours.
 use Rattle.std.proofs.Common.{ℕ, zero, suc, ◌<◌, ◌≤◌, List, [], ◌∷◌, length, get_or, inl, inr, sym, subst, arith}
-use Rattle.row_book.specs.Clauses.{Ascending}
-use Rattle.row_book.specs.Sets.{here}
-use Rattle.row_book.proofs.Lists.{In_cases, In_none}
+use Rattle.listed.specs.Lists.{Ascending, here}
+use Rattle.listed.proofs.Lists.{In_cases, In_none}
 
 pub rise : (xs : List ℕ) → ((i : ℕ) → suc i < length xs → get_or xs i 0 < get_or xs (suc i) 0) → Ascending xs
 rise [] h = tt

@@ -1,10 +1,10 @@
 -- Lines that are allowed one behind the other, up to an end line, are the blocks of classes and that end line.
 use Rattle.std.proofs.Common.{◌≡◌, ℕ, ◌+◌, ◌-◌, ◌<◌, true, false, List, [], ◌∷◌, ◌++◌, Option, Some, None, length, map, inl, inr, refl, sym, ap, ap₂, ◌∙◌, subst, append_assoc, add-one, arith}
 use Rattle.std.proofs.lemmas.Bool.{false≢true}
-use Rattle.row_book.specs.Clauses.{Before}
-use Rattle.row_book.specs.Sets.{In}
-use Rattle.row_book.proofs.Lists.{In_cases, In_none}
-use Rattle.row_book.proofs.Order.{before_trans}
+use Rattle.clause_pool.specs.Lists.{Before}
+use Rattle.listed.specs.Lists.{In}
+use Rattle.listed.proofs.Lists.{In_cases, In_none}
+use Rattle.clause_pool.proofs.Order.{before_trans}
 use Rattle.kernel_text.specs.declared.member.Member.{Member}
 use Rattle.kernel_text.specs.KernelLines.{KernelLine, HeadLine, ClassLine, MemberLine, HeldLine, NeedsLine, AgainstLine, EndLine}
 use Rattle.kernel_text.specs.KernelText.{held_lines, line_of_member}

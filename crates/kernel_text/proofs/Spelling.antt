@@ -8,7 +8,7 @@ use Rattle.std.proofs.lemmas.Fmt.{decimal_is_IsNumeral, decimal_injective}
 use Rattle.std.proofs.lemmas.List.{append_cancel_left, append_cancel_right}
 use Rattle.std.proofs.lemmas.Str.Parse.{digit_from_value}
 use Rattle.deb_version.specs.Names.{is_name, is_name_byte, has_first}
-use Rattle.row_book.specs.Sets.{In, here, there}
+use Rattle.listed.specs.Lists.{In, here, there}
 use Rattle.kernel_text.specs.KernelLines.{KernelLine, HeadLine, ClassLine, MemberLine, HeldLine, NeedsLine, AgainstLine, EndLine, line_text, behind_space}
 use Rattle.kernel_text.specs.Reading.{Reading, IsAllowed, IsFormat, number_limit}
 

@@ -3,13 +3,14 @@ use Rattle.std.proofs.Common.{◌≡◌, ℕ, zero, suc, ◌+◌, ◌<◌, ◌�
 use Rattle.std.specs.List.{flat_map}
 use Rattle.std.proofs.lemmas.Bool.{cases_lt}
 use Rattle.std.proofs.lemmas.List.{get_or_past}
-use Rattle.row_book.specs.Clauses.{InOrder, numbers}
+use Rattle.clause_pool.specs.Lists.{InOrder}
+use Rattle.row_book.specs.Numbers.{numbers}
 use Rattle.row_book.specs.Repository.{Repository, clauses_of}
-use Rattle.row_book.specs.Sets.{In, here, there}
+use Rattle.listed.specs.Lists.{In, here, there}
 use Rattle.row_book.specs.Sound.{SoundClauses}
 use Rattle.row_book.proofs.Books.{in_listed}
-use Rattle.row_book.proofs.Lists.{In_none, In_cases, In_append_cases, In_map_cases, filter_cases}
-use Rattle.row_book.proofs.Order.{at_numbers}
+use Rattle.listed.proofs.Lists.{In_none, In_cases, In_append_cases, In_map_cases, filter_cases}
+use Rattle.row_book.proofs.Numbers.{at_numbers}
 use Rattle.row_book.proofs.Pairs.{length_pairs, pairs_conflict}
 use Rattle.kernel_text.specs.declared.member.Member.{Member}
 use Rattle.kernel_text.specs.KernelLines.{KernelLine, HeadLine, ClassLine, MemberLine, HeldLine, NeedsLine, AgainstLine, EndLine}

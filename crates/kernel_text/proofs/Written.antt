@@ -8,16 +8,15 @@ use Rattle.std.proofs.lemmas.Grind.{flat_map-append}
 use Rattle.std.proofs.lemmas.List.{append-nil, flat_map_more, get_or_past, get_or-set_same, get_or-set_other, take_more}
 use Rattle.std.proofs.lemmas.List.Elements.{filter-append}
 use Rattle.std.proofs.lemmas.List.Folds.{flat_map-map}
-use Rattle.listed.proofs.Lists.{flat_same}
+use Rattle.listed.proofs.Lists.{flat_same, In_none, filter_cases}
 use Rattle.relation_fields.specs.declared.packages.PackageFacts.{PackageFacts}
 use Rattle.repo_model.specs.Stanzas.{stanza_at, no_stanza}
 use Rattle.row_book.specs.Book.{listed_for}
-use Rattle.row_book.specs.Clauses.{numbers}
+use Rattle.row_book.specs.Numbers.{numbers}
 use Rattle.row_book.specs.Flags.{flag}
 use Rattle.row_book.specs.Repository.{Repository, clauses_of, conflicts_of}
-use Rattle.row_book.specs.Sets.{In, has}
-use Rattle.row_book.proofs.Lists.{In_none, filter_cases}
-use Rattle.row_book.proofs.Order.{numbers_parts, numbers_end, numbers_more}
+use Rattle.listed.specs.Lists.{In, has}
+use Rattle.row_book.proofs.Numbers.{numbers_parts, numbers_end, numbers_more}
 use Rattle.kernel_text.specs.declared.member.Member.{Member}
 use Rattle.kernel_text.specs.KernelLines.{KernelLine, HeadLine, ClassLine, NeedsLine, AgainstLine, EndLine, line_text}
 use Rattle.kernel_text.specs.KernelText.{class_lines, greater_conflicts, held_lines, kernel_lines, kernel_text, line_of_member, members_of}

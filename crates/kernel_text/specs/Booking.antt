@@ -3,8 +3,8 @@
 use Rattle.std.specs.Prelude.{◌≡◌, ℕ, ◌<◌, ◌≤◌, List, length, map}
 use Rattle.clause_pool.specs.Interned.{Interned, clauses_at, ids_at, row_at, OfPool}
 use Rattle.row_book.specs.Book.{PairsFit, listed_for}
-use Rattle.row_book.specs.Clauses.{Ascending, InOrder}
-use Rattle.row_book.specs.Sets.{In}
+use Rattle.listed.specs.Lists.{Ascending, In}
+use Rattle.clause_pool.specs.Lists.{InOrder}
 use Rattle.kernel_text.specs.KernelReads.{clauses_of_class}
 use Rattle.kernel_text.specs.Reading.{Reading, ClassClause, number_limit}
 

@@ -5,7 +5,7 @@ use Rattle.std.specs.Option.{option_map_or}
 use Rattle.std.specs.Ordering.{is_eq}
 use Rattle.std.specs.Str.{bytes_eq}
 use Rattle.deb_version.specs.Order.{version_order}
-use Rattle.row_book.specs.Clauses.{numbers}
+use Rattle.row_book.specs.Numbers.{numbers}
 use Rattle.repo_model.specs.declared.goals.Goal.{Goal}
 use Rattle.kernel_text.specs.declared.images.ImageError.{ImageError}
 use Rattle.kernel_text.specs.declared.images.ImageError.TheVariants.{Unknown, Memory}

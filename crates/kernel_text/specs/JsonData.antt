@@ -4,10 +4,10 @@ use Rattle.deb_version.specs.Grammar.{is_version}
 use Rattle.deb_version.specs.Names.{is_name}
 use Rattle.relation_fields.specs.declared.packages.PackageFacts.{PackageFacts}
 use Rattle.row_book.specs.Book.{listed_for}
-use Rattle.row_book.specs.Clauses.{numbers}
+use Rattle.row_book.specs.Numbers.{numbers}
 use Rattle.row_book.specs.Flags.{flag}
 use Rattle.row_book.specs.Repository.{Repository, clauses_of}
-use Rattle.row_book.specs.Sets.{In}
+use Rattle.listed.specs.Lists.{In}
 use Rattle.repo_model.specs.Stanzas.{stanza_at}
 use Rattle.serde_json.specs.Data.{Data, Members, array, boolean, member, no_members, number, object, string, unsigned}
 use Rattle.serde_json.specs.View.{items_of}

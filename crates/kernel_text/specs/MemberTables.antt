@@ -7,7 +7,7 @@ use Rattle.std.specs.HashSet.{contains}
 use Rattle.std.specs.List.{list_any}
 use Rattle.std.specs.Str.{bytes_eq}
 use Rattle.deb_version.specs.Keys.{version_key}
-use Rattle.row_book.specs.Sets.{In}
+use Rattle.listed.specs.Lists.{In}
 use Rattle.kernel_text.specs.declared.member.Member.{Member}
 use Rattle.kernel_text.specs.declared.member_table.MemberTable.{MemberTable}
 use Rattle.kernel_text.specs.Reading.{IsNamed, IsNew}

@@ -2,7 +2,7 @@
 -- Members under the names of many goals.
 use Rattle.std.specs.Prelude.{◌≡◌, ℕ, true, List}
 use Rattle.std.specs.Str.{bytes_eq}
-use Rattle.row_book.specs.Sets.{has}
+use Rattle.listed.specs.Lists.{has}
 use Rattle.repo_model.specs.Named.{is_wanted}
 use Rattle.repo_model.specs.declared.goals.Goal.{Goal}
 use Rattle.virtual_provides.specs.declared.numbers.NumbersByName.{NumbersByName}

@@ -1,7 +1,7 @@
 -- for the bodies of this crate alone
 -- What a reader of kernel texts holds of the lines so far.
 use Rattle.std.specs.Prelude.{◌≡◌, ℕ, ◌≤◌, Bool, true, false, nat_lt, List, length, take, drop, map, Option, Some, None}
-use Rattle.row_book.specs.Clauses.{comes_before}
+use Rattle.clause_pool.specs.Clauses.{comes_before}
 use Rattle.kernel_text.specs.declared.reader.Clause.{Clause}
 use Rattle.kernel_text.specs.declared.reader.LastLine.{LastLine}
 use Rattle.kernel_text.specs.declared.reader.LastLine.TheVariants as last

@@ -5,8 +5,8 @@ use Rattle.std.specs.Str.{bytes_eq}
 use Rattle.deb_version.specs.Grammar.{is_version}
 use Rattle.deb_version.specs.Names.{is_name}
 use Rattle.deb_version.specs.Order.{version_order}
-use Rattle.row_book.specs.Clauses.{Ascending, Before}
-use Rattle.row_book.specs.Sets.{In}
+use Rattle.listed.specs.Lists.{Ascending, In}
+use Rattle.clause_pool.specs.Lists.{Before}
 use Rattle.row_book.specs.declared.pair.Pair.{Pair}
 use Rattle.kernel_text.specs.declared.member.Member.{Member}
 use Rattle.kernel_text.specs.KernelLines.{KernelLine, HeadLine, ClassLine, MemberLine, HeldLine, NeedsLine, AgainstLine, EndLine}

@@ -4,10 +4,10 @@ use Rattle.std.specs.Prelude.{◌≡◌, ℕ, ◌<◌, Bool, eqb, List, ◌++◌
 use Rattle.std.specs.List.{flat_map}
 use Rattle.relation_fields.specs.declared.packages.PackageFacts.{PackageFacts}
 use Rattle.row_book.specs.Book.{listed_for}
-use Rattle.row_book.specs.Clauses.{numbers}
+use Rattle.row_book.specs.Numbers.{numbers}
 use Rattle.row_book.specs.Flags.{flag}
 use Rattle.row_book.specs.Repository.{Repository, clauses_of}
-use Rattle.row_book.specs.Sets.{In, has}
+use Rattle.listed.specs.Lists.{In, has}
 use Rattle.repo_model.specs.Stanzas.{stanza_at}
 use Rattle.kernel_text.specs.KernelLines.{KernelLine, ClassLine, MemberLine, NeedsLine, AgainstLine, line_text}
 use Rattle.kernel_text.specs.KernelText.{greater_conflicts, held_lines}

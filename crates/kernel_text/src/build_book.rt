@@ -2,8 +2,8 @@
 ghost use Rattle.std.specs.Prelude.{◌≡◌, ◌∷◌, ◌++◌, ◌<◌, ℕ, List, [], IfOk, OnOk, length, map, slice_set};
 ghost use Rattle.clause_pool.specs.Interned.{clauses_at, Kept, OfPool};
 ghost use Rattle.row_book.specs.Book.{AddsOnly, listed_for, repository_of, Sound};
-ghost use Rattle.row_book.specs.Clauses.{Ascending, InOrder};
-ghost use Rattle.row_book.specs.Sets.{In};
+ghost use Rattle.listed.specs.Lists.{Ascending, In};
+ghost use Rattle.clause_pool.specs.Lists.{InOrder};
 ghost use Rattle.kernel_text.specs.Booking.{AreRows, GainsClauses, GainsRows, HasIdsByClass, IsBookable};
 ghost use Rattle.kernel_text.specs.KernelReads.{repository_of_reading};
 ghost use Rattle.kernel_text.specs.Reader.{entry_of, Holds};

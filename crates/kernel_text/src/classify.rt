@@ -1,7 +1,7 @@
 //! The packages of each class.
 ghost use Rattle.std.specs.Prelude.{◌≡◌, ◌∷◌, ◌++◌, [], ◌≤◌, ◌<◌, ℕ, IfOk, OnOk, length, slice_set};
 ghost use Rattle.row_book.specs.Book.{listed_for};
-ghost use Rattle.row_book.specs.Sets.{In};
+ghost use Rattle.listed.specs.Lists.{In};
 ghost use Rattle.kernel_text.specs.Writing.{IsByClass};
 ghost use Rattle.repo_model.specs.Limits.{most_packages};
 

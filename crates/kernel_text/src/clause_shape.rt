@@ -1,6 +1,7 @@
 //! The shape of clauses: ascending, and in order.
 ghost use Rattle.std.specs.Prelude.{◌≡◌, ◌↔◌, IsTrue};
-ghost use Rattle.row_book.specs.Clauses.{Ascending, comes_before};
+ghost use Rattle.listed.specs.Lists.{Ascending};
+ghost use Rattle.clause_pool.specs.Clauses.{comes_before};
 
 /// Whether the first clause comes before the second in lexicographic order.
 #[tactic(auto, using(repo_model::proofs::Compared::before_compared))]

@@ -1,7 +1,6 @@
 //! The classes of a stored kernel that goals name.
 ghost use Rattle.std.specs.Prelude.{◌≡◌, ◌<◌, ◌↔◌, ℕ, None, IfOk, IfErr, length, map};
-ghost use Rattle.row_book.specs.Clauses.{Ascending};
-ghost use Rattle.row_book.specs.Sets.{In};
+ghost use Rattle.listed.specs.Lists.{Ascending, In};
 ghost use Rattle.kernel_text.specs.declared.member.Member.{Member};
 ghost use Rattle.kernel_text.specs.Images.{image_of, Refuses, unknown_goal};
 ghost use Rattle.kernel_text.specs.Named.{AreNamed};

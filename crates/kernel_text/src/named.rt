@@ -4,7 +4,7 @@ ghost use Rattle.std.specs.List.{list_any};
 ghost use Rattle.std.specs.Option.{option_map_or};
 ghost use Rattle.std.specs.Ordering.{is_eq};
 ghost use Rattle.deb_version.specs.Order.{version_order};
-ghost use Rattle.row_book.specs.Sets.{has};
+ghost use Rattle.listed.specs.Lists.{has};
 ghost use Rattle.virtual_provides.specs.Numbers.{passes_at};
 ghost use Rattle.kernel_text.specs.Images.{is_named_by, is_named_in};
 ghost use Rattle.kernel_text.specs.Named.{AreClasses, AreNamed, HasWanted};

@@ -3,7 +3,7 @@ ghost use Rattle.std.specs.Prelude.{◌≡◌, ◌++◌, ◌<◌, ℕ, ltb, OnOk
 ghost use Rattle.std.specs.Fmt.{decimal};
 ghost use Rattle.std.specs.List.{flat_map};
 ghost use Rattle.clause_pool.specs.Interned.{clauses_at, OfPool};
-ghost use Rattle.row_book.specs.Sets.{In};
+ghost use Rattle.listed.specs.Lists.{In};
 ghost use Rattle.repo_model.specs.Stanzas.{stanza_at};
 ghost use Rattle.kernel_text.specs.KernelLines.{AgainstLine, behind_space, ClassLine, EndLine, HeadLine, HeldLine, line_text, NeedsLine};
 ghost use Rattle.kernel_text.specs.KernelText.{held_lines};

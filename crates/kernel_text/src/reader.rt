@@ -1,6 +1,6 @@
 //! What is read of a text so far.
 ghost use Rattle.std.specs.Prelude.{◌≡◌, ◌<◌, ◌-◌, ℕ, true, IfOk};
-ghost use Rattle.row_book.specs.Sets.{In};
+ghost use Rattle.listed.specs.Lists.{In};
 ghost use Rattle.kernel_text.specs.KernelLines.{AgainstLine, ClassLine, EndLine, HeadLine, HeldLine, MemberLine, NeedsLine};
 ghost use Rattle.kernel_text.specs.Reader.{Adds, EndIsTold, Holds, may_add_clause, may_add_conflict, may_add_held, may_add_member, may_begin, Takes};
 ghost use Rattle.kernel_text.specs.Reading.{empty_reading, IsFormat, IsNamed, number_limit, Reading};

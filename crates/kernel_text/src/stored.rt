@@ -2,7 +2,7 @@
 ghost use Rattle.std.specs.Prelude.{◌≡◌, ◌≤◌, ◌<◌, IfOk, IfErr, length};
 ghost use Rattle.clause_pool.specs.Interned.{Kept};
 ghost use Rattle.row_book.specs.Book.{repository_of, AddsOnly, Sound};
-ghost use Rattle.row_book.specs.Sets.{In};
+ghost use Rattle.listed.specs.Lists.{In};
 ghost use Rattle.kernel_text.specs.declared.fault.KernelFault.TheVariants.{Memory};
 ghost use Rattle.kernel_text.specs.declared.member.Member.{Member};
 ghost use Rattle.kernel_text.specs.KernelFaults.{IsFault};

@@ -4,7 +4,7 @@ use Rattle.std.specs.Prelude.{if◌then◌else◌, ◌||◌, not, ◌==◌, filt
 use Rattle.std.specs.Str.{bytes_eq}
 use Rattle.std.proofs.lemmas.List.{take_all, take_more}
 use Rattle.relation_fields.specs.declared.packages.PackageFacts.{PackageFacts}
-use Rattle.row_book.proofs.Lists.{filter_same}
+use Rattle.listed.proofs.Lists.{filter_same}
 use Rattle.virtual_provides.specs.Numbers.{numbers_under, with_number, HasNone, Puts}
 use Rattle.virtual_provides.specs.declared.numbers.NumbersByName.{NumbersByName}
 use Rattle.migrate_plan.specs.Entered.{has_number, AreEntered}

@@ -16,8 +16,8 @@ use Rattle.stanza_reader.specs.declared.stanza.RawField.{RawField}
 use Rattle.stanza_reader.specs.declared.stanza.RawStanza.{RawStanza}
 use Rattle.stanza_reader.specs.declared.fault.StanzaFault.{StanzaFault}
 use Rattle.relation_fields.specs.declared.packages.PackageFacts.{PackageFacts}
-use Rattle.row_book.specs.Sets.{In, here, there}
-use Rattle.row_book.proofs.Lists.{In_append_cases, In_append_left, In_cases, In_map, In_map_cases, In_none, filter_cases, find_none, find_not}
+use Rattle.listed.specs.Lists.{In, here, there}
+use Rattle.listed.proofs.Lists.{In_append_cases, In_append_left, In_cases, In_map, In_map_cases, In_none, filter_cases, find_none, find_not}
 use Rattle.repo_model.specs.Facts.{architecture_of, facts_of, is_all, is_same_package}
 use Rattle.repo_model.specs.Fields.{field_of}
 use Rattle.repo_model.specs.FirstFault.{duplicate_fault, fault_behind, faults_from, first_fault, first_some, home_of, is_at_home, mixed_fault, own_fault, reading_fault, stanza_fault, stanzas_in, stanzas_of}

@@ -7,8 +7,8 @@ use Rattle.stanza_reader.proofs.BlankLemmas.{all_good}
 use Rattle.relation_fields.specs.declared.packages.Home.{Home}
 use Rattle.relation_fields.specs.declared.packages.PackageFacts.{PackageFacts}
 use Rattle.row_book.specs.Rounds.{PassedRound, limit_at}
-use Rattle.row_book.specs.Sets.{In}
-use Rattle.row_book.proofs.Lists.{In_append_cases, In_cases, In_none}
+use Rattle.listed.specs.Lists.{In}
+use Rattle.listed.proofs.Lists.{In_append_cases, In_cases, In_none}
 use Rattle.repo_model.specs.Facts.{facts_of}
 use Rattle.repo_model.specs.Feeding.{IsSuiteOf}
 use Rattle.repo_model.specs.FirstFault.{first_fault, stanzas_of}

@@ -9,7 +9,7 @@ use Rattle.std.proofs.lemmas.Bool.{cases_Bool, false≢true}
 use Rattle.std.proofs.lemmas.List.{append-nil, length-map, map-append}
 use Rattle.std.proofs.lemmas.Slice.Eq.{bytes_eq-Decides}
 use Rattle.repo_model.proofs.Steps.{stanzas_in-ok}
-use Rattle.listed.proofs.Lists.{filter_short, filter_le}
+use Rattle.listed.proofs.Lists.{filter_short, filter_le, In_append_cases, In_cases, In_map_cases, In_none, any_cases, any_from, filter_cases}
 use Rattle.deb_version.specs.Order.{version_order}
 use Rattle.stanza_reader.specs.Blanking.{blanked, picked}
 use Rattle.stanza_reader.specs.Close.{readings_from}
@@ -21,8 +21,7 @@ use Rattle.stanza_reader.proofs.BlankLemmas.{map_picked, readings_picked}
 use Rattle.stanza_reader.proofs.LeftLemmas.{blanked_short}
 use Rattle.stanza_reader.proofs.PartLemmas.{reads_in_parts, readings-from}
 use Rattle.relation_fields.specs.declared.packages.PackageFacts.{PackageFacts}
-use Rattle.row_book.specs.Sets.{In, here, there}
-use Rattle.row_book.proofs.Lists.{In_append_cases, In_cases, In_map_cases, In_none, any_cases, any_from, filter_cases}
+use Rattle.listed.specs.Lists.{In, here, there}
 use Rattle.repo_model.specs.Facts.{architecture_of, facts_of, is_same_package}
 use Rattle.repo_model.specs.FirstFault.{first_fault, home_of, own_fault, stanzas_in, stanzas_of}
 use Rattle.repo_model.specs.Limits.{most_bytes, most_packages}

@@ -1,11 +1,11 @@
 -- What holds of a plan: its names, the reason of each line, and that the names taken break nothing.
 use Rattle.std.proofs.Common.{◌≡◌, ◌≢◌, ℕ, ◌+◌, ◌<◌, ◌≤◌, Bool, true, false, List, [], ◌∷◌, ◌++◌, length, get_or, drop, map, Some, None, Option, refl, sym, ap, ◌∙◌, subst, ◌⊎◌, inl, inr, append_assoc, arith}
 use Rattle.std.proofs.lemmas.List.{append-nil, drop_all, drop_more, map-append}
-use Rattle.row_book.specs.Clauses.{Before, InOrder}
+use Rattle.clause_pool.specs.Lists.{Before, InOrder}
 use Rattle.row_book.specs.Rounds.{PassedRound, limit_at}
-use Rattle.row_book.specs.Sets.{In, here}
-use Rattle.row_book.proofs.Lists.{In_append_cases, In_at, In_cases, In_none}
-use Rattle.row_book.proofs.Order.{order_filter, ordered_order}
+use Rattle.listed.specs.Lists.{In, here}
+use Rattle.listed.proofs.Lists.{In_append_cases, In_at, In_cases, In_none}
+use Rattle.clause_pool.proofs.Order.{order_filter, ordered_order}
 use Rattle.clause_solver.specs.declared.outcomes.Verdict.{Verdict}
 use Rattle.clause_solver.specs.declared.outcomes.Verdict.TheVariants.{Yes, No}
 use Rattle.stanza_reader.specs.declared.stanza.RawStanza.{RawStanza}

@@ -4,10 +4,10 @@ use Rattle.std.specs.Prelude.{filter}
 use Rattle.std.specs.List.{flat_map}
 use Rattle.clause_solver.specs.declared.outcomes.Verdict.{Verdict}
 use Rattle.clause_solver.specs.declared.outcomes.Verdict.TheVariants.{Yes, No, Spent}
-use Rattle.row_book.specs.Clauses.{Before, InOrder}
-use Rattle.row_book.specs.Sets.{In, here, there}
-use Rattle.row_book.proofs.Lists.{In_append_cases, In_cases, In_none, filter_from}
-use Rattle.row_book.proofs.Order.{before_asym, order_filter}
+use Rattle.clause_pool.specs.Lists.{Before, InOrder}
+use Rattle.listed.specs.Lists.{In, here, there}
+use Rattle.listed.proofs.Lists.{In_append_cases, In_cases, In_none, filter_from}
+use Rattle.clause_pool.proofs.Order.{before_asym, order_filter}
 use Rattle.repo_model.specs.Goals.{any_version}
 use Rattle.repo_model.specs.declared.goals.Goal.{Goal}
 use Rattle.suite_compare.specs.Report.{finding, is_yes, pair_line, report, single_line, with_later}

@@ -1,7 +1,7 @@
 -- What a plan means for the two indexes.
 use Rattle.std.specs.Prelude.{◌≡◌, ◌≢◌, ℕ, false, List, [], ◌∷◌, ◌++◌, Some, None}
 use Rattle.row_book.specs.Rounds.{PassedRound}
-use Rattle.row_book.specs.Sets.{In}
+use Rattle.listed.specs.Lists.{In}
 use Rattle.repo_model.specs.FirstFault.{first_fault}
 use Rattle.suite_compare.specs.Refusals.{packages_in}
 use Rattle.suite_compare.specs.declared.report.ReportLine.{ReportLine}

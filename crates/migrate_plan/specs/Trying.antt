@@ -2,7 +2,7 @@
 -- What is made on the way to a plan.
 use Rattle.std.specs.Prelude.{◌≡◌, ℕ, Bool, List, ◌∷◌, [], ◌++◌, drop, Option, Some, None}
 use Rattle.row_book.specs.Rounds.{PassedRound, limit_at}
-use Rattle.row_book.specs.Sets.{In}
+use Rattle.listed.specs.Lists.{In}
 use Rattle.repo_model.specs.Repository.{suite_repository}
 use Rattle.suite_compare.specs.Refusals.{home_in, packages_in}
 use Rattle.suite_compare.specs.declared.view.SuiteView.{SuiteView}

@@ -2,7 +2,7 @@
 ghost use Rattle.std.specs.Prelude.{◌≡◌, ◌<◌, ◌≤◌, ◌++◌, ◌∷◌, ℕ, List, [], None, length, map, IfOk, IfErr, OnOk};
 ghost use Rattle.clause_solver.specs.Outcomes.{IsBudget};
 ghost use Rattle.repo_model.specs.Feeding.{IsSuiteOf};
-ghost use Rattle.row_book.specs.Sets.{In};
+ghost use Rattle.listed.specs.Lists.{In};
 ghost use Rattle.migrate_plan.specs.Differing.{differing};
 ghost use Rattle.migrate_plan.specs.Plan.{line_behind, lines_behind, plan, settings_of, taken_in};
 ghost use Rattle.migrate_plan.specs.Promises.{AreRight, MixesAreIndexes, TakesSafely, planned_name};

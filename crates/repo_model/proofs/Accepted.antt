@@ -14,8 +14,8 @@ use Rattle.stanza_reader.specs.Stanzas.{readings}
 use Rattle.stanza_reader.specs.declared.stanza.RawStanza.{RawStanza}
 use Rattle.stanza_reader.specs.declared.fault.StanzaFault.{StanzaFault}
 use Rattle.relation_fields.specs.declared.packages.PackageFacts.{PackageFacts}
-use Rattle.row_book.specs.Sets.{In, here, there}
-use Rattle.row_book.proofs.Lists.{In_append_cases, In_cases, In_none, find_none}
+use Rattle.listed.specs.Lists.{In, here, there}
+use Rattle.listed.proofs.Lists.{In_append_cases, In_cases, In_none, find_none}
 use Rattle.repo_model.specs.Facts.{facts_of, is_same_package}
 use Rattle.repo_model.specs.FirstFault.{first_some, own_fault, duplicate_fault, stanza_fault, reading_fault, stanzas_in, stanzas_of, fault_behind, faults_from, first_fault, home_of}
 use Rattle.repo_model.specs.declared.fault.IndexFault.{IndexFault}

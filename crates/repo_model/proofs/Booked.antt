@@ -8,11 +8,11 @@ use Rattle.relation_fields.specs.declared.packages.PackageFacts.{PackageFacts}
 use Rattle.relation_fields.specs.declared.relations.Atom.{Atom}
 use Rattle.row_book.specs.Book.{are_paired, lists_of_pairs, repository_of, NumbersFit, Sound}
 use Rattle.row_book.specs.Repository.{Repository}
-use Rattle.row_book.specs.Sets.{In}
+use Rattle.listed.specs.Lists.{In}
 use Rattle.row_book.specs.declared.book.Book.{Book}
 use Rattle.row_book.specs.declared.pair.Pair.{Pair}
-use Rattle.row_book.proofs.Lists.{In_map, In_map_cases}
-use Rattle.row_book.proofs.Order.{ordered_parts}
+use Rattle.listed.proofs.Lists.{In_map, In_map_cases}
+use Rattle.clause_pool.proofs.Order.{ordered_parts}
 use Rattle.repo_model.specs.Interning.{HasRows}
 use Rattle.repo_model.specs.Repository.{clause_of, in_conflict, packages_of, row_of, suite_repository}
 use Rattle.repo_model.specs.Stanzas.{no_stanza, stanza_at}

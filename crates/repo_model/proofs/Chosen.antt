@@ -8,14 +8,13 @@ use Rattle.std.proofs.lemmas.Bool.{and_parts}
 use Rattle.std.proofs.lemmas.List.Kept.{AllPairs-from_increasing, Contains-dedup_nat, Contains-from_dedup}
 use Rattle.std.proofs.lemmas.List.Sorted.{Contains-permutation, IsPermutation-sym}
 use Rattle.std.proofs.lemmas.Map.Keys.{IsStrictlyIncreasing-dedup}
-use Rattle.listed.proofs.Lists.{contains_in, in_contains, In_flat_cases, In_flat}
+use Rattle.listed.proofs.Lists.{contains_in, in_contains, In_flat_cases, In_flat, In_cases, In_none, In_append_cases, In_append_left, In_append_right, any_from, any_cases, filter_same}
 use Rattle.relation_fields.specs.Meeting.{meets}
 use Rattle.relation_fields.specs.declared.packages.Home.{Home}
 use Rattle.relation_fields.specs.declared.packages.PackageFacts.{PackageFacts}
 use Rattle.relation_fields.specs.declared.relations.Atom.{Atom}
-use Rattle.row_book.specs.Clauses.{Ascending, Inside}
-use Rattle.row_book.specs.Sets.{In, here, there}
-use Rattle.row_book.proofs.Lists.{In_cases, In_none, In_append_cases, In_append_left, In_append_right, any_from, any_cases, ascending_filter, ascending_same, filter_same}
+use Rattle.listed.specs.Lists.{Ascending, Inside, In, here, there}
+use Rattle.listed.proofs.Orders.{ascending_filter, ascending_same}
 use Rattle.virtual_provides.specs.Bearers.{if_so}
 use Rattle.virtual_provides.specs.Numbers.{numbers_from, numbers_where, passes_at}
 use Rattle.virtual_provides.proofs.Numbered.{filter-numbers_where, numbers_from-cons}

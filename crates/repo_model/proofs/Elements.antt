@@ -3,9 +3,8 @@ use Rattle.std.proofs.Common.{ℕ, zero, suc, ◌<◌, ◌≤◌, ◌+◌, ◌�
 use Rattle.std.specs.List.{range_with_len}
 use Rattle.std.proofs.lemmas.Bool.{cases_eq}
 pub use Rattle.clause_pool.proofs.Lists.{In_at as at_place, In_place as place_of}
-use Rattle.row_book.specs.Clauses.{Ascending}
-use Rattle.row_book.specs.Sets.{In, here, there}
-use Rattle.row_book.proofs.Lists.{In_cases, In_none}
+use Rattle.listed.specs.Lists.{Ascending, In, here, there}
+use Rattle.listed.proofs.Lists.{In_cases, In_none}
 
 -- n numbers from k on
 pub range_from : (n k m : ℕ) → k ≤ m → m < k + n → In m (range_with_len k n)

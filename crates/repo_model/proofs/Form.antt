@@ -9,11 +9,11 @@ use Rattle.relation_fields.specs.declared.packages.PackageFacts.{PackageFacts}
 use Rattle.relation_fields.specs.declared.relations.Atom.{Atom}
 use Rattle.repo_model.specs.Repository.{meets_any, packages_of, clause_of, stands_against, in_conflict, suite_repository}
 use Rattle.repo_model.specs.Stanzas.{stanza_at}
-use Rattle.row_book.specs.Clauses.{Ascending, InOrder}
+use Rattle.listed.specs.Lists.{Ascending, In}
+use Rattle.clause_pool.specs.Lists.{InOrder}
 use Rattle.row_book.specs.Repository.{clauses_of, conflicts_of, against}
-use Rattle.row_book.specs.Sets.{In}
-use Rattle.row_book.proofs.Lists.{ascending_filter}
-use Rattle.row_book.proofs.Order.{ordered_order}
+use Rattle.listed.proofs.Orders.{ascending_filter}
+use Rattle.clause_pool.proofs.Order.{ordered_order}
 use Rattle.repo_model.proofs.Elements.{range_ascending}
 use Rattle.repo_model.proofs.Packages.{length_clauses, length_conflicts, clauses_at, clauses_past, conflicts_at, conflicts_past, literal_cases, clause_cases, against_cases, against_from, conflict_cases, conflict_by_name, conflict_by_first, conflict_by_second}
 

@@ -10,8 +10,9 @@ use Rattle.relation_fields.specs.declared.packages.PackageFacts.{PackageFacts}
 use Rattle.relation_fields.specs.declared.relations.Atom.{Atom}
 use Rattle.repo_model.specs.Stanzas.{Met, stanza_at, HealthyStanzas, CoinstStanzas}
 use Rattle.row_book.specs.Repository.{Healthy, Coinst, against}
-use Rattle.row_book.specs.Sets.{NumSet, In, Is, Hit}
-use Rattle.row_book.proofs.Lists.{any_from, any_cases}
+use Rattle.row_book.specs.Sets.{NumSet, Is, Hit}
+use Rattle.listed.specs.Lists.{In}
+use Rattle.listed.proofs.Lists.{any_from, any_cases}
 use Rattle.repo_model.proofs.Packages.{length_clauses, literal_cases, literal_from, clause_cases, clause_from, against_cases, against_from, conflict_cases, conflict_by_name, conflict_by_first}
 
 -- a clause is hit exactly when its element is met

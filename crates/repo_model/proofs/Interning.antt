@@ -4,10 +4,10 @@ use Rattle.std.proofs.lemmas.Bool.{cases_lt}
 use Rattle.std.proofs.lemmas.List.{get_or_push, map-append, take_more}
 use Rattle.clause_pool.specs.Interned.{Interned, clause_at, clauses_at, ids_at, row_at, Gains, IsIdOf, Kept, OfPool}
 use Rattle.clause_pool.proofs.Interned.{kept_along, clauses_kept, kept_of_pool}
-use Rattle.row_book.specs.Clauses.{comes_before, in_row_order, insert_clause}
-use Rattle.row_book.specs.Sets.{In, here, there}
-use Rattle.row_book.proofs.Order.{neither_before, placed_new}
-use Rattle.row_book.proofs.Lists.{In_cases, In_none, In_append_cases, In_append_left, In_append_right, In_map_cases}
+use Rattle.clause_pool.specs.Clauses.{comes_before, in_row_order, insert_clause}
+use Rattle.listed.specs.Lists.{In, here, there}
+use Rattle.clause_pool.proofs.Order.{neither_before, placed_new}
+use Rattle.listed.proofs.Lists.{In_cases, In_none, In_append_cases, In_append_left, In_append_right, In_map_cases}
 use Rattle.repo_model.specs.Interning.{HasIds, HasRows}
 use Rattle.repo_model.proofs.Places.{row_back}
 

@@ -9,8 +9,8 @@ use Rattle.clause_pool.specs.Interned.{Gains, IsIdOf}
 use Rattle.relation_fields.specs.declared.packages.Home.{Home}
 use Rattle.relation_fields.specs.declared.packages.PackageFacts.{PackageFacts}
 use Rattle.relation_fields.specs.declared.relations.Atom.{Atom}
-use Rattle.row_book.specs.Sets.{In}
-use Rattle.row_book.proofs.Lists.{In_cases, In_none, In_append_cases, item_in}
+use Rattle.listed.specs.Lists.{In}
+use Rattle.listed.proofs.Lists.{In_cases, In_none, In_append_cases, item_in}
 use Rattle.repo_model.specs.declared.known.KnownClause.{KnownClause}
 use Rattle.repo_model.specs.declared.known.KnownClauses.{KnownClauses}
 use Rattle.repo_model.specs.declared.known.NeedPlace.{NeedPlace}

@@ -9,10 +9,11 @@ use Rattle.std.proofs.lemmas.Slice.Eq.{bytes_eq-Decides}
 use Rattle.std.proofs.lemmas.Cmp.{nat_list_cmp_total}
 use Rattle.std.proofs.lemmas.List.{get_or-map, length-map}
 use Rattle.std.proofs.lemmas.List.Sorted.{ranks_by, sorted_far, IsPermutation-map, IsPermutation-sym, Contains-permutation}
-use Rattle.row_book.specs.Clauses.{Before, InOrder, comes_before, in_row_order}
-use Rattle.row_book.specs.Sets.{In, here}
-use Rattle.row_book.proofs.Lists.{In_cases, In_none, In_append_cases, In_append_left, In_append_right}
-use Rattle.row_book.proofs.Order.{before_test, neither_before, order_append, order_same, ordered_order, ordered_parts, ordered_has}
+use Rattle.clause_pool.specs.Lists.{Before, InOrder}
+use Rattle.clause_pool.specs.Clauses.{comes_before, in_row_order}
+use Rattle.listed.specs.Lists.{In, here}
+use Rattle.listed.proofs.Lists.{In_cases, In_none, In_append_cases, In_append_left, In_append_right}
+use Rattle.clause_pool.proofs.Order.{before_test, neither_before, order_append, order_same, ordered_order, ordered_parts, ordered_has}
 use Rattle.repo_model.specs.NameOrder.{name_at, Rising, is_repeated}
 use Rattle.repo_model.proofs.Compared.{before_compared}
 use Rattle.repo_model.proofs.Elements.{at_place, place_of}

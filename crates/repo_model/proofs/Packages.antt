@@ -10,9 +10,9 @@ use Rattle.relation_fields.specs.declared.packages.PackageFacts.{PackageFacts}
 use Rattle.relation_fields.specs.declared.relations.Atom.{Atom}
 use Rattle.repo_model.specs.Stanzas.{stanza_at}
 use Rattle.row_book.specs.Repository.{clauses_of, conflicts_of, against}
-use Rattle.row_book.specs.Sets.{In}
-use Rattle.row_book.proofs.Lists.{In_none, In_has, has_In, In_map, In_map_cases, filter_from, filter_cases}
-use Rattle.row_book.proofs.Order.{ordered_parts, ordered_has}
+use Rattle.listed.specs.Lists.{In}
+use Rattle.listed.proofs.Lists.{In_none, In_has, has_In, In_map, In_map_cases, filter_from, filter_cases}
+use Rattle.clause_pool.proofs.Order.{ordered_parts, ordered_has}
 use Rattle.repo_model.proofs.Elements.{range_from, range_cases}
 
 module _ (stanzas : List PackageFacts) where

@@ -12,11 +12,11 @@ use Rattle.relation_fields.specs.declared.packages.Home.{Home}
 use Rattle.relation_fields.specs.declared.packages.PackageFacts.{PackageFacts}
 use Rattle.relation_fields.specs.declared.relations.Atom.{Atom}
 use Rattle.row_book.specs.Book.{are_paired, lists_of_pairs, PairsFit}
-use Rattle.row_book.specs.Clauses.{numbers}
-use Rattle.row_book.specs.Sets.{In, here}
+use Rattle.row_book.specs.Numbers.{numbers}
+use Rattle.listed.specs.Lists.{In, here}
 use Rattle.row_book.specs.declared.pair.Pair.{Pair}
-use Rattle.row_book.proofs.Lists.{any_cases, any_from, In_append_cases, In_append_left, In_append_right, In_cases, In_none, filter_same}
-use Rattle.row_book.proofs.Order.{map_same}
+use Rattle.listed.proofs.Lists.{any_cases, any_from, In_append_cases, In_append_left, In_append_right, In_cases, In_none, filter_same}
+use Rattle.row_book.proofs.Numbers.{map_same}
 use Rattle.row_book.proofs.Pairs.{is_of}
 use Rattle.repo_model.specs.Meeting.{meeting}
 use Rattle.repo_model.specs.Pairs.{is_named, pair_of, Adds, IsAgainst, IsFound, IsPairWithEarlier, IsPairWith}

@@ -2,9 +2,9 @@
 use Rattle.std.proofs.Common.{◌≡◌, ℕ, ◌<◌, ◌≤◌, ◌++◌, true, false, List, [], ◌∷◌, length, get_or, take, drop, inl, inr, sym, ap, ap₂, subst, ◌∙◌}
 use Rattle.std.proofs.lemmas.List.{drop-map, get_or-map, length-map, map-append, take-append-drop, take-map}
 use Rattle.clause_pool.specs.Interned.{Interned, clause_at, clauses_at, OfPool}
-use Rattle.row_book.specs.Clauses.{comes_before, insert_clause}
-use Rattle.row_book.specs.Sets.{In, there}
-use Rattle.row_book.proofs.Lists.{In_cases, In_append_cases, In_append_left, In_append_right}
+use Rattle.clause_pool.specs.Clauses.{comes_before, insert_clause}
+use Rattle.listed.specs.Lists.{In, there}
+use Rattle.listed.proofs.Lists.{In_cases, In_append_cases, In_append_left, In_append_right}
 use Rattle.repo_model.proofs.Places.{placed_same, placed_new}
 
 -- the clause of an id at a place is the one at that place

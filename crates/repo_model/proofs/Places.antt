@@ -2,8 +2,8 @@
 use Rattle.std.proofs.Common.{◌≡◌, ℕ, zero, suc, ◌<◌, ◌≤◌, ◌-◌, true, false, cond, List, [], ◌∷◌, ◌++◌, length, get_or, take, drop, map, refl, sym, ◌∙◌, ap, arith, drop-cons}
 use Rattle.std.proofs.lemmas.Bool.{cond-true, cond-false, false_from_ne_true}
 use Rattle.std.proofs.lemmas.List.{get_or_default}
-use Rattle.row_book.specs.Clauses.{comes_before, insert_clause, in_row_order}
-use Rattle.row_book.proofs.Order.{before_asym, before_test}
+use Rattle.clause_pool.specs.Clauses.{comes_before, insert_clause, in_row_order}
+use Rattle.clause_pool.proofs.Order.{before_asym, before_test}
 
 not_before : (c d : List ℕ) → comes_before d c ≡ true → comes_before c d ≡ false
 not_before c d h = false_from_ne_true (comes_before c d) (λ t. before_asym c d (before_test c d t) (before_test d c h))

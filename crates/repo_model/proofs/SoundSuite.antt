@@ -4,7 +4,7 @@ use Rattle.relation_fields.specs.declared.packages.Home.{Home}
 use Rattle.relation_fields.specs.declared.packages.PackageFacts.{PackageFacts}
 use Rattle.row_book.specs.Repository.{conflicts_of}
 use Rattle.row_book.specs.Sound.{SoundRepository}
-use Rattle.row_book.proofs.Lists.{In_has, has_not}
+use Rattle.listed.proofs.Lists.{In_has, has_not}
 use Rattle.repo_model.specs.Repository.{suite_repository}
 use Rattle.repo_model.proofs.Form.{clause_form, conflict_two, conflict_turned, conflicts_order, form_lists}
 

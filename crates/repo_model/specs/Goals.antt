@@ -11,8 +11,9 @@ use Rattle.deb_version.specs.Names.{is_name}
 use Rattle.deb_version.specs.Order.{version_order}
 use Rattle.relation_fields.specs.declared.packages.Home.{Home}
 use Rattle.relation_fields.specs.declared.packages.PackageFacts.{PackageFacts}
-use Rattle.row_book.specs.Clauses.{in_row_order}
-use Rattle.row_book.specs.Sets.{NumSet, Is, In}
+use Rattle.clause_pool.specs.Clauses.{in_row_order}
+use Rattle.row_book.specs.Sets.{NumSet, Is}
+use Rattle.listed.specs.Lists.{In}
 use Rattle.repo_model.specs.declared.goals.Goal.{Goal}
 use Rattle.repo_model.specs.Repository.{packages_of}
 use Rattle.repo_model.specs.Stanzas.{stanza_at, HealthyStanzas}

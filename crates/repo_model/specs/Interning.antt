@@ -3,7 +3,7 @@
 use Rattle.std.specs.Prelude.{◌≡◌, ℕ, ◌<◌, ◌≤◌, List, length, map}
 use Rattle.clause_pool.specs.Interned.{Interned, clauses_at, ids_at, row_at, Kept, OfPool}
 use Rattle.row_book.specs.Book.{AddsOnly}
-use Rattle.row_book.specs.Sets.{In}
+use Rattle.listed.specs.Lists.{In}
 
 -- the ids stand for these clauses, and the pool has gained no row and some of these clauses alone
 pub record HasIds (old new : Interned) (row : List (List ℕ)) (ids : List ℕ) : Type 0 where

@@ -6,7 +6,7 @@ use Rattle.clause_pool.specs.Interned.{IsIdOf}
 use Rattle.relation_fields.specs.declared.packages.Home.{Home}
 use Rattle.relation_fields.specs.declared.packages.PackageFacts.{PackageFacts}
 use Rattle.relation_fields.specs.declared.relations.Atom.{Atom}
-use Rattle.row_book.specs.Sets.{In}
+use Rattle.listed.specs.Lists.{In}
 use Rattle.repo_model.specs.declared.known.KnownClause.{KnownClause}
 use Rattle.repo_model.specs.declared.known.KnownClauses.{KnownClauses}
 use Rattle.repo_model.specs.declared.known.NeedPlace.{NeedPlace}

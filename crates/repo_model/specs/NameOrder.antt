@@ -2,7 +2,7 @@
 -- Names in the order of their bytes.
 use Rattle.std.specs.Prelude.{◌≡◌, ℕ, ◌<◌, ◌≤◌, ◌-◌, Bool, false, ◌&&◌, nat_lt, List, [], length, slice_index_or}
 use Rattle.std.specs.Str.{bytes_eq}
-use Rattle.row_book.specs.Clauses.{comes_before}
+use Rattle.clause_pool.specs.Clauses.{comes_before}
 
 -- the name at a place
 abbrev pub name_at : List (List ℕ) → ℕ → List ℕ

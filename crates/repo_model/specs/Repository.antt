@@ -4,7 +4,7 @@
 use Rattle.std.specs.Prelude.{ℕ, Bool, not, ◌&&◌, ◌||◌, eqb, List, map, filter, length}
 use Rattle.std.specs.List.{list_any, range_with_len}
 use Rattle.std.specs.Str.{bytes_eq}
-use Rattle.row_book.specs.Clauses.{in_row_order}
+use Rattle.clause_pool.specs.Clauses.{in_row_order}
 use Rattle.relation_fields.specs.Meeting.{meets}
 use Rattle.relation_fields.specs.declared.packages.Home.{Home}
 use Rattle.relation_fields.specs.declared.packages.PackageFacts.{PackageFacts}

@@ -6,7 +6,8 @@ use Rattle.relation_fields.specs.Meeting.{meets}
 use Rattle.relation_fields.specs.declared.packages.Home.{Home}
 use Rattle.relation_fields.specs.declared.packages.PackageFacts.{PackageFacts}
 use Rattle.relation_fields.specs.declared.relations.Atom.{Atom}
-use Rattle.row_book.specs.Sets.{NumSet, Is, In, Within}
+use Rattle.row_book.specs.Sets.{NumSet, Is, Within}
+use Rattle.listed.specs.Lists.{In}
 
 -- no package: it has no name and no relations
 abbrev pub no_stanza : PackageFacts

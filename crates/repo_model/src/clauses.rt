@@ -1,8 +1,8 @@
 //! Clauses: the order in which a row has them, and the clause of an element.
 ghost use Rattle.std.specs.Prelude.{◌≡◌, ◌∷◌, ◌↔◌, [], ℕ, IfOk};
 ghost use Rattle.std.specs.List.{flat_map};
-ghost use Rattle.row_book.specs.Clauses.{comes_before, Ascending};
-ghost use Rattle.row_book.specs.Sets.{In};
+ghost use Rattle.clause_pool.specs.Clauses.{comes_before};
+ghost use Rattle.listed.specs.Lists.{Ascending, In};
 ghost use Rattle.virtual_provides.specs.Bearers.{IsBuiltFrom};
 ghost use Rattle.repo_model.specs.Meeting.{meeting};
 ghost use Rattle.repo_model.specs.Repository.{clause_of};

@@ -1,6 +1,6 @@
 //! The names of a suite's packages.
 ghost use Rattle.std.specs.Prelude.{◌≡◌, ◌<◌, length, map, IfOk};
-ghost use Rattle.row_book.specs.Clauses.{in_row_order};
+ghost use Rattle.clause_pool.specs.Clauses.{in_row_order};
 ghost use Rattle.repo_model.specs.Goals.{names_in};
 ghost use Rattle.repo_model.specs.NameOrder.{is_repeated, name_at, Rising};
 

@@ -2,8 +2,8 @@
 ghost use Rattle.std.specs.Prelude.{◌≡◌, ◌≤◌, ◌<◌, ◌∷◌, ℕ, [], Some, IfOk, OnOk, map, length, slice_get, slice_index_or, true, false};
 ghost use Rattle.std.specs.Option.{option_map};
 ghost use Rattle.clause_pool.specs.Interned.{clause_at, clauses_at, Kept, OfPool};
-ghost use Rattle.row_book.specs.Clauses.{comes_before, in_row_order, insert_clause, Ascending};
-ghost use Rattle.row_book.specs.Sets.{In};
+ghost use Rattle.clause_pool.specs.Clauses.{comes_before, in_row_order, insert_clause};
+ghost use Rattle.listed.specs.Lists.{Ascending, In};
 ghost use Rattle.virtual_provides.specs.Bearers.{IsBuiltFrom};
 ghost use Rattle.repo_model.specs.Interning.{HasIds, HasRows};
 ghost use Rattle.repo_model.specs.Known.{AreKnown};

@@ -4,13 +4,13 @@ use Rattle.std.proofs.lemmas.List.{length-map}
 use Rattle.clause_pool.specs.Interned.{Interned, IsPool, row_at}
 use Rattle.clause_pool.proofs.Lists.{In_place}
 use Rattle.row_book.specs.declared.book.Book.{Book}
-use Rattle.row_book.specs.Sets.{In}
+use Rattle.listed.specs.Lists.{In}
 use Rattle.row_book.specs.Uses.{row_id}
 use Rattle.row_book.specs.Repository.{clauses_of}
 use Rattle.row_book.specs.Sound.{SoundRepository, TidyRepository}
 use Rattle.row_book.specs.Book.{repository_of, RowsTidy, Sound}
 use Rattle.row_book.proofs.Books.{clauses_row, in_listed, row_ascending}
-use Rattle.row_book.proofs.Lists.{In_at}
+use Rattle.listed.proofs.Lists.{In_at}
 
 module _ (pool : Interned) (book : Book) where
   pub book_size : length (repository_of pool book).clauses ≡ length book.rows

@@ -6,13 +6,12 @@ use Rattle.std.proofs.lemmas.List as lists
 use Rattle.clause_pool.specs.Interned.{Interned, clause_at, ids_at, clauses_at, row_at, OfPool, IsPool, Kept}
 use Rattle.clause_pool.proofs.Interned.{clauses_at_same}
 use Rattle.row_book.specs.declared.book.Book.{Book}
-use Rattle.row_book.specs.Sets.{In, here, there, has}
-use Rattle.row_book.specs.Clauses.{Ascending}
+use Rattle.listed.specs.Lists.{In, here, there, has, Ascending}
 use Rattle.row_book.specs.Uses.{row_id}
 use Rattle.row_book.specs.Repository.{Repository, clauses_of}
 use Rattle.row_book.specs.Sound.{SoundClauses, BetweenPackages}
 use Rattle.row_book.specs.Book.{repository_of, RowsFit, listed_for, Sound}
-use Rattle.row_book.proofs.Lists.{In_none, In_at, has_In, In_map_cases}
+use Rattle.listed.proofs.Lists.{In_none, In_at, has_In, In_map_cases}
 
 -- an element of the list at a place, which then is within
 pub in_listed : {A : Type 0} (lists : List (List A)) (p : ℕ) (x : A) → In x (slice_index_or lists p []) → p < length lists

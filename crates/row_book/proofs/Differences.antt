@@ -2,9 +2,9 @@
 use Rattle.std.proofs.Common.{◌≡◌, ℕ, ◌<◌, ◌+◌, ◌-◌, true, List, [], ◌∷◌, ◌++◌, ◌⊎◌, inl, inr, refl, sym, ◌∙◌, ap, subst, length, get_or, take, drop, length-drop, arith}
 use Rattle.std.proofs.lemmas.List.{take_all, take_more, take-append-drop}
 use Rattle.clause_pool.specs.Interned.{Interned, clause_at, clauses_at}
-use Rattle.row_book.specs.Sets.{In, here, has}
+use Rattle.listed.specs.Lists.{In, here, has}
 use Rattle.row_book.specs.Uses.{HoldsDifference, some_holds}
-use Rattle.row_book.proofs.Lists.{In_append_cases, In_append_left, In_append_right, In_cases, In_map, In_map_cases, In_none, any_cases, any_from}
+use Rattle.listed.proofs.Lists.{In_append_cases, In_append_left, In_append_right, In_cases, In_map, In_map_cases, In_none, any_cases, any_from}
 
 -- nothing was walked yet
 pub difference_none : (first second found : List ℕ) → found ≡ [] → HoldsDifference (take 0 first) second found

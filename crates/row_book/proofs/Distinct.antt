@@ -6,10 +6,8 @@ use Rattle.std.specs.List.Sorted.{IsNonDecreasing}
 use Rattle.std.proofs.lemmas.Bool.{both_ways, cases_lt}
 use Rattle.std.proofs.lemmas.List.Filters.{dedup_is}
 use Rattle.std.proofs.lemmas.List.Kept.{Contains-dedup_nat, Contains-from_dedup}
-use Rattle.listed.proofs.Lists.{contains_in, in_contains}
-use Rattle.row_book.specs.Sets.{In}
-use Rattle.row_book.specs.Clauses.{Ascending}
-use Rattle.row_book.proofs.Lists.{In_cases, In_none}
+use Rattle.listed.proofs.Lists.{contains_in, in_contains, In_cases, In_none}
+use Rattle.listed.specs.Lists.{In, Ascending}
 
 -- without its second element
 skipped : (k x : ℕ) (xs : List ℕ) → IsNonDecreasing (k ∷ (x ∷ xs)) → IsNonDecreasing (k ∷ xs)

@@ -5,12 +5,13 @@ use Rattle.std.proofs.lemmas.Bool.{and_parts, and_from, both_ways, cases_lt, cas
 use Rattle.std.proofs.lemmas.List as lists
 use Rattle.std.proofs.lemmas.List.{length-map, map_more}
 use Rattle.clause_pool.specs.Interned.{Interned, clause_at, clauses_at}
-use Rattle.row_book.specs.Sets.{NumSet, Is, In, here, there, Hit, HitsAll}
-use Rattle.row_book.specs.Clauses.{Ascending}
+use Rattle.row_book.specs.Sets.{NumSet, Is, Hit, HitsAll}
+use Rattle.listed.specs.Lists.{In, here, there, Ascending}
 use Rattle.row_book.specs.Book.{listed_for, AreConflicts}
 use Rattle.row_book.specs.Flags.{flag}
 use Rattle.row_book.specs.Health.{IsFirstUnhit, IsClash, HasNoClash, IsFirstClash}
-use Rattle.row_book.proofs.Lists.{In_cases, In_none, In_has, has_In, In_append_cases, In_map, hit_any, any_hit, find_some, find_none}
+use Rattle.listed.proofs.Lists.{In_cases, In_none, In_has, has_In, In_append_cases, In_map, find_some, find_none}
+use Rattle.row_book.proofs.Lists.{hit_any, any_hit}
 use Rattle.row_book.proofs.Flags.{flag_in}
 
 -- the clauses before a place

@@ -7,12 +7,11 @@ use Rattle.std.specs.Result.{IsOk, is_ok}
 use Rattle.std.proofs.Math.Bool.{or_assoc, or_comm, or-false, and-true, and-false}
 use Rattle.std.proofs.lemmas.Bool.{cases_eq, false≢true}
 use Rattle.std.proofs.lemmas.List.Sorted.{searched}
-use Rattle.listed.proofs.Orders.{ascending_places, missed_not_there}
-use Rattle.listed.proofs.Lists.{In_drop}
-use Rattle.row_book.specs.Sets.{NumSet, In, here, there, has, plus, without}
-use Rattle.row_book.specs.Clauses.{Ascending}
+use Rattle.listed.proofs.Orders.{ascending_places, missed_not_there, ascending_same}
+use Rattle.listed.proofs.Lists.{In_drop, In_cases, In_none, In_at, In_has, has_In, has_not, in_take, In_append_cases}
+use Rattle.row_book.specs.Sets.{NumSet, plus, without}
+use Rattle.listed.specs.Lists.{In, here, there, has, Ascending}
 use Rattle.row_book.specs.Uses.{IsListOf, IsPlaceOf}
-use Rattle.row_book.proofs.Lists.{In_cases, In_none, In_at, In_has, has_In, has_not, in_take, In_append_cases, ascending_same}
 
 -- a list is the only one of its set
 pub listed_once : (S : NumSet) (xs ys : List ℕ) → IsListOf S xs → IsListOf S ys → xs ≡ ys

@@ -2,8 +2,7 @@ pub mod Lists
 pub mod Needed
 pub mod Flags
 pub mod Sets
-pub mod Clauses
-pub mod Order
+pub mod Numbers
 pub mod Books
 pub mod Pairs
 pub mod Faults
@@ -16,6 +15,4 @@ pub mod Moved
 pub mod Repositories
 pub mod Facing
 pub mod BookRepositories
-pub mod Leads
-pub mod Groups
 pub mod Distinct

@@ -1,11 +1,11 @@
--- Elements of lists, ascending lists, decisions, and what the tests of all and of some elements say.
+-- What sets hit, and the members of a set as a list.
 use Rattle.std.proofs.Common.{◌≡◌, ℕ, zero, suc, ◌<◌, ◌≤◌, ◌+◌, true, not, cond, List, [], ◌∷◌, ◌⊎◌, inl, inr, sym, ◌∙◌, ap, subst, arith}
 use Rattle.std.specs.List.{list_any}
 use Rattle.std.proofs.lemmas.Bool.{and_parts, and_from, not_from_false, not-true, both_ways, cases_Bool, cases_eq}
-pub use Rattle.listed.proofs.Lists.{In_cases, In_none, In_at, item_in, In_has, has_In, has_not, any_from, any_cases, any_none, all_from, all_at, find_some, find_none, find_not, find_only, find_same, all_same, in_take, In_append_cases, In_append_left, In_append_right, In_map, In_map_cases, Decided, decided_in, in_cond_rest, in_cond_first, in_cond_cases, filter_from, filter_cases, filter_same}
-pub use Rattle.listed.proofs.Orders.{ascending_same, ascending_cond, ascending_filter}
-use Rattle.row_book.specs.Sets.{NumSet, In, here, there, Hit, Is, has, minus}
-use Rattle.row_book.specs.Clauses.{Ascending}
+use Rattle.listed.proofs.Lists.{In_cases, In_none, In_has, has_not, any_from, any_cases, Decided, in_cond_rest, in_cond_first, in_cond_cases}
+use Rattle.listed.proofs.Orders.{ascending_cond}
+use Rattle.row_book.specs.Sets.{NumSet, Hit, Is, minus}
+use Rattle.listed.specs.Lists.{In, here, there, has, Ascending}
 
 -- what a set hits, as a test
 pub hit_any : (A : NumSet) (c : List ℕ) → list_any A c ≡ true → Hit (Is A) c

@@ -6,10 +6,10 @@ use Rattle.clause_pool.proofs.Carried.{next_rows, one_more}
 use Rattle.clause_pool.specs.Interned.{Interned, IsPool, row_at}
 use Rattle.clause_pool.specs.Compacting.{Compacts, Renames, StandsFor}
 use Rattle.row_book.specs.declared.book.Book.{Book}
-use Rattle.row_book.specs.Sets.{In}
+use Rattle.listed.specs.Lists.{In}
 use Rattle.row_book.specs.Book.{IsSameBook, RowsFit}
 use Rattle.row_book.specs.Repository.{Repository}
-use Rattle.row_book.proofs.Lists.{In_map, In_map_cases, In_none}
+use Rattle.listed.proofs.Lists.{In_map, In_map_cases, In_none}
 
 -- rows that denote the same clauses in the other pool make the same book
 module _ (pool : Interned) (book : Book) (new : Interned) (moved : Book) (is : IsPool new) (same : map (row_at new) moved.rows ≡ map (row_at pool) book.rows)

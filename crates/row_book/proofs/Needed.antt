@@ -1,9 +1,8 @@
 -- One more need.
 use Rattle.std.proofs.Common.{◌≡◌, ℕ, ◌<◌, List, [], ◌∷◌, ◌++◌, length, inl, inr, sym, subst}
-use Rattle.row_book.specs.Sets.{In}
-use Rattle.row_book.specs.Clauses.{Ascending}
+use Rattle.listed.specs.Lists.{In, Ascending}
 use Rattle.row_book.specs.Needs.{IsNeed, AreNeeds}
-use Rattle.row_book.proofs.Lists.{In_append_cases, In_cases, In_none}
+use Rattle.listed.proofs.Lists.{In_append_cases, In_cases, In_none}
 
 -- a clause of the longer list is one of the old ones or the new one
 pub needs_push : (old new : List (List ℕ)) (clause : List ℕ) → new ≡ old ++ clause ∷ [] → AreNeeds old → Ascending clause → 0 < length clause → AreNeeds new

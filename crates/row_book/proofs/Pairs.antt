@@ -8,14 +8,14 @@ use Rattle.std.proofs.lemmas.Bool.{or_cases, or_left, or_right, and_parts, and_f
 use Rattle.std.proofs.lemmas.List.{ext_get_or, get_or_past, take_more}
 use Rattle.std.proofs.lemmas.List.Elements.{All-from_get_or}
 use Rattle.std.proofs.lemmas.List.Sorted.{All-permutation, list_any-IsPermutation}
-use Rattle.listed.proofs.Orders.{ascending_push}
+use Rattle.listed.proofs.Orders.{ascending_push, ascending_same, ascending_filter}
 use Rattle.row_book.specs.declared.pair.Pair.{Pair}
-use Rattle.row_book.specs.Sets.{In, here, there}
-use Rattle.row_book.specs.Clauses.{Ascending, numbers}
+use Rattle.listed.specs.Lists.{In, here, there, Ascending}
+use Rattle.row_book.specs.Numbers.{numbers}
 use Rattle.row_book.specs.Book.{listed_for, are_paired, lists_of_pairs, AreConflicts, PairsFit}
 use Rattle.row_book.specs.Pairs.{NoLater, Rising, is_last, with_last, Entered, ListsPairs}
-use Rattle.row_book.proofs.Lists.{In_cases, In_none, In_at, In_has, has_In, has_not, any_from, any_cases, In_append_cases, In_append_left, In_append_right, ascending_same, ascending_filter, filter_from, filter_cases, in_take}
-use Rattle.row_book.proofs.Order.{numbers_from, numbers_parts, numbers_ascending, length_numbers, at_numbers}
+use Rattle.listed.proofs.Lists.{In_cases, In_none, In_at, In_has, has_In, has_not, any_from, any_cases, In_append_cases, In_append_left, In_append_right, filter_from, filter_cases, in_take}
+use Rattle.row_book.proofs.Numbers.{numbers_from, numbers_parts, numbers_ascending, length_numbers, at_numbers}
 use Rattle.row_book.proofs.Books.{in_listed}
 
 -- the order of pairs

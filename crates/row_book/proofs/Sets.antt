@@ -1,7 +1,10 @@
 -- Sets as tests.
 use Rattle.std.proofs.Common.{◌≡◌, ◌≢◌, ℕ, true, false, not, eqb, List, ◌⊎◌, inl, inr, eq-eqb, eqb-true, ne_eqb}
 use Rattle.std.proofs.lemmas.Bool.{or_cases, or_left, or_right, and_parts, and_from, and_cases, and_left, and_right, not_from_false, not_from_true, not-true, not-false, eqb-false}
-use Rattle.row_book.specs.Sets.{NumSet, Hit, Is, plus, without}
+use Rattle.listed.specs.Lists.{In, Inside}
+use Rattle.clause_pool.specs.Clauses.{minimal_of}
+use Rattle.clause_pool.proofs.Clauses.{minimal_below}
+use Rattle.row_book.specs.Sets.{NumSet, Hit, HitsAll, Is, plus, without}
 
 pub Hit-mono : {A B : ℕ → Type 0} {c : List ℕ} → ((n : ℕ) → A n → B n) → Hit A c → Hit B c
 Hit-mono f h = record { by = h.by; inside = h.inside; alive = f h.by h.alive }
@@ -32,3 +35,10 @@ outside_gone V q n e = and_right (V n) (not (eqb n q)) (not_from_true (eqb n q) 
 pub outside_less : (V : NumSet) (q n : ℕ) → without V q n ≡ false → n ≢ q → V n ≡ false
 outside_less V q n h ne =
     elim (and_cases (V n) (not (eqb n q)) h) [ inl a ↦ a | inr b ↦ absurd (ne (eqb-true n q (not-false (eqb n q) b))) ]
+
+-- what hits the minimal clauses hits all
+pub hits_minimal : (X : NumSet) (cs : List (List ℕ)) → HitsAll X (minimal_of cs) → HitsAll X cs
+hits_minimal X cs h T i =
+    let s : (S : List ℕ) × In S (minimal_of cs) × Inside S T = minimal_below cs T i in
+    let hit : Hit (Is X) s.0 = h s.0 s.1 in
+    record { by = hit.by; inside = s.2 hit.by hit.inside; alive = hit.alive }

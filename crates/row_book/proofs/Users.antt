@@ -7,12 +7,14 @@ use Rattle.std.proofs.lemmas.Bool.{false≢true, cases_Bool, cases_eq, both_ways
 use Rattle.std.proofs.lemmas.List.{get_or-set_same, get_or-set_other, length-set, length-map, drop_all, take_all}
 use Rattle.std.proofs.lemmas.Grind.{get_or_default_zero}
 use Rattle.clause_pool.specs.Interned.{Interned, clauses_at, ids_at, row_at}
-use Rattle.row_book.specs.Sets.{NumSet, In, has}
-use Rattle.row_book.specs.Clauses.{Ascending, numbers}
+use Rattle.row_book.specs.Sets.{NumSet}
+use Rattle.listed.specs.Lists.{In, has, Ascending}
+use Rattle.row_book.specs.Numbers.{numbers}
 use Rattle.row_book.specs.Book.{RowsFit}
 use Rattle.row_book.specs.Uses.{row_id, row_holds, some_holds, users_of, uses_of, HoldsDifference, IsListOf, lists_in, list_in}
-use Rattle.row_book.proofs.Lists.{In_has, has_In, has_not, any_cases, filter_from, filter_cases, ascending_filter}
-use Rattle.row_book.proofs.Order.{numbers_from, numbers_parts, numbers_ascending, length_numbers, at_numbers}
+use Rattle.listed.proofs.Lists.{In_has, has_In, has_not, any_cases, filter_from, filter_cases}
+use Rattle.listed.proofs.Orders.{ascending_filter}
+use Rattle.row_book.proofs.Numbers.{numbers_from, numbers_parts, numbers_ascending, length_numbers, at_numbers}
 use Rattle.row_book.proofs.Inserts.{listed_once, listed_as}
 use Rattle.row_book.proofs.Differences.{difference_all, difference_held}
 

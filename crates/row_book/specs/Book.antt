@@ -4,8 +4,8 @@ use Rattle.std.specs.List.{list_any}
 use Rattle.clause_pool.specs.Interned.{Interned, IsPool, row_at}
 pub use Rattle.clause_pool.specs.Compacting.{AddsOnly}
 use Rattle.clause_pool.specs.Compacting.{RowsOf}
-use Rattle.row_book.specs.Sets.{In, has}
-use Rattle.row_book.specs.Clauses.{Ascending, Inside, numbers}
+use Rattle.listed.specs.Lists.{In, has, Ascending, Inside}
+use Rattle.row_book.specs.Numbers.{numbers}
 use Rattle.row_book.specs.Uses.{row_id}
 use Rattle.row_book.specs.Repository.{Repository}
 use Rattle.row_book.specs.declared.book.Book.{Book}

@@ -2,7 +2,7 @@
 -- package's sides.
 use Rattle.std.specs.Prelude.{ℕ, Bool, List, [], ◌∷◌, filter}
 use Rattle.std.specs.List.{list_all, list_any}
-use Rattle.row_book.specs.Sets.{has}
+use Rattle.listed.specs.Lists.{has}
 use Rattle.row_book.specs.Book.{listed_for}
 use Rattle.row_book.specs.Repository.{Repository, clauses_of}
 

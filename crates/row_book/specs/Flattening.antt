@@ -7,7 +7,7 @@ use Rattle.std.specs.List.{list_all, list_any, filter, find}
 use Rattle.std.specs.Option.{option_map}
 use Rattle.row_book.specs.Sets.{NumSet, plus, without}
 use Rattle.row_book.specs.Repository.{Repository, against}
-use Rattle.row_book.specs.Clauses.{numbers}
+use Rattle.row_book.specs.Numbers.{numbers}
 use Rattle.row_book.specs.Support.{row}
 
 -- the packages in order

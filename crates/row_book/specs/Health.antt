@@ -1,7 +1,8 @@
 -- The first fault of a set of packages that is not healthy: the first clause that it does not hit, by the package's
 -- number and by the clause's place in the package's row, and where it hits them all its first conflict.
 use Rattle.std.specs.Prelude.{◌≡◌, ℕ, ◌<◌, ◌≤◌, true, List, [], ◌⊎◌, length, slice_index_or}
-use Rattle.row_book.specs.Sets.{NumSet, Is, Hit, has}
+use Rattle.row_book.specs.Sets.{NumSet, Is, Hit}
+use Rattle.listed.specs.Lists.{has}
 use Rattle.row_book.specs.Repository.{Repository, Satisfied, clauses_of}
 use Rattle.row_book.specs.Book.{listed_for}
 use Rattle.row_book.specs.declared.health.Unhealthy.{Unhealthy}

@@ -3,8 +3,9 @@ use Rattle.std.specs.Prelude.{◌≡◌, ℕ, ◌<◌, ◌⊎◌, Bool, List, fi
 use Rattle.std.specs.Global.{Vec}
 use Rattle.std.specs.List.{list_any}
 use Rattle.clause_pool.specs.Interned.{Interned, IsPool, OfPool, clause_at, clauses_at}
-use Rattle.row_book.specs.Sets.{In, has}
-use Rattle.row_book.specs.Clauses.{InOrder, numbers}
+use Rattle.listed.specs.Lists.{In, has}
+use Rattle.clause_pool.specs.Lists.{InOrder}
+use Rattle.row_book.specs.Numbers.{numbers}
 use Rattle.row_book.specs.Book.{listed_for}
 use Rattle.row_book.specs.Uses.{lists_in}
 

@@ -1,5 +1,3 @@
-pub use Rattle.clause_pool.specs.Interned
-pub use Rattle.clause_pool.specs.Lists
 pub mod Sets
 pub mod Repository
 pub mod Book
@@ -8,14 +6,13 @@ pub mod Uses
 pub mod Holders
 pub mod Flags
 pub mod Health
-pub mod Clauses
+pub mod Numbers
 pub mod Support
 pub mod Sound
 pub mod Needs
 pub mod Flattening
 pub mod Keeping
 pub mod Facing
-pub mod Within
 pub mod Merging
 pub mod Pruning
 pub mod Thinning

@@ -1,7 +1,6 @@
 -- Clauses that are wanted and that no pool holds.
 use Rattle.std.specs.Prelude.{ℕ, ◌<◌, List, length}
-use Rattle.row_book.specs.Sets.{In}
-use Rattle.row_book.specs.Clauses.{Ascending}
+use Rattle.listed.specs.Lists.{In, Ascending}
 
 -- a clause that something can hit: strictly ascending and not empty
 pub record IsNeed (clause : List ℕ) : Type 0 where

@@ -3,9 +3,9 @@
 use Rattle.std.specs.Prelude.{ℕ, Bool, not, ◌&&◌, ◌||◌, eqb, cond, List, [], ◌∷◌, ◌++◌, filter, Option, Some, None, slice_set}
 use Rattle.std.specs.List.{list_all, list_any, find}
 use Rattle.std.specs.Cmp.Lexicographic.{pointwise}
-use Rattle.row_book.specs.Sets.{NumSet, has, plus}
+use Rattle.row_book.specs.Sets.{NumSet, plus}
+use Rattle.listed.specs.Lists.{has, is_inside}
 use Rattle.row_book.specs.Repository.{Repository, against, clauses_of}
-use Rattle.row_book.specs.Clauses.{is_inside}
 use Rattle.row_book.specs.Flattening.{packages}
 use Rattle.row_book.specs.Facing.{sides, face}
 

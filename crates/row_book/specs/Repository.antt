@@ -1,7 +1,8 @@
 -- Repositories, and the sets of packages that can be installed together: Vouillon and Di Cosmo,
 -- "On Software Component Co-Installability".
 use Rattle.std.specs.Prelude.{◌≡◌, ℕ, ◌<◌, Bool, false, List, [], length, slice_index_or}
-use Rattle.row_book.specs.Sets.{NumSet, Is, In, Within, Hit, has}
+use Rattle.row_book.specs.Sets.{NumSet, Is, Within, Hit}
+use Rattle.listed.specs.Lists.{In, has}
 
 -- for each package, by its number, its clauses and the packages that conflict with it
 pub record Repository : Type 0 where

@@ -2,9 +2,10 @@
 use Rattle.std.specs.Prelude.{◌≡◌, ◌⊎◌, ℕ, zero, suc, ◌<◌, ◌+◌, ◌*◌, Bool, true, false, ◌&&◌, eqb, cond, min, List, [], ◌∷◌, ◌++◌, map, length, Option}
 use Rattle.std.specs.Option.{option_map}
 use Rattle.std.specs.Cmp.Lexicographic.{pointwise}
-use Rattle.row_book.specs.Sets.{NumSet, In}
+use Rattle.row_book.specs.Sets.{NumSet}
+use Rattle.listed.specs.Lists.{In}
 use Rattle.row_book.specs.Repository.{Repository, against, clauses_of}
-use Rattle.row_book.specs.Clauses.{numbers, subsets}
+use Rattle.row_book.specs.Numbers.{numbers, subsets}
 use Rattle.row_book.specs.Flattening.{flat, has_conflict, held_of, is_held, packages, Passed, passes, first_some}
 use Rattle.row_book.specs.Merging.{are_alike, class_of, class_list, image, quotient, place_of}
 use Rattle.row_book.specs.Pruning.{IdleClause, is_dropped, idle_steps, is_dead, prune}

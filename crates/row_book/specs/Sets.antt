@@ -1,6 +1,6 @@
 -- Sets of packages as tests, clauses as lists, and what a set hits.
 use Rattle.std.specs.Prelude.{◌≡◌, ℕ, Bool, true, not, ◌&&◌, ◌||◌, eqb, List}
-pub use Rattle.listed.specs.Lists.{In, here, there, has}
+use Rattle.listed.specs.Lists.{In, has}
 
 -- a set of numbers, as the test of its members
 abbrev pub NumSet : Type 0

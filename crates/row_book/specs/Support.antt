@@ -4,9 +4,10 @@
 -- Component Co-Installability", the section on flattening.
 use Rattle.std.specs.Prelude.{◌≡◌, ◌≢◌, ℕ, ◌<◌, Bool, false, not, ◌&&◌, ◌||◌, eqb, List, ◌∷◌, ◌⊎◌, length}
 use Rattle.std.specs.List.{list_all, list_any, filter}
-use Rattle.row_book.specs.Sets.{NumSet, In, Is, has, minus, without}
+use Rattle.row_book.specs.Sets.{NumSet, Is, minus, without}
+use Rattle.listed.specs.Lists.{In, has, Ascending, Inside, is_inside}
 use Rattle.row_book.specs.Repository.{Repository, Satisfied, clauses_of}
-use Rattle.row_book.specs.Clauses.{Ascending, Inside, is_inside, subsets}
+use Rattle.row_book.specs.Numbers.{subsets}
 
 -- the members of X, the helpers J and the package p together
 abbrev pub Alive : NumSet → NumSet → ℕ → ℕ → Type 0

@@ -1,7 +1,7 @@
 -- What a step of a trail tells of the pool that its books are of.
 use Rattle.std.specs.Prelude.{List, map}
 use Rattle.clause_pool.specs.Interned.{Interned}
-use Rattle.row_book.specs.Sets.{In}
+use Rattle.listed.specs.Lists.{In}
 use Rattle.row_book.specs.Book.{repository_of, Sound}
 use Rattle.row_book.specs.Rounds.{RoundStep, FlatStep, IdleStep, MergeStep}
 use Rattle.row_book.specs.declared.trail.Step.{Step}

@@ -4,8 +4,9 @@ use Rattle.std.specs.List.{list_any}
 use Rattle.std.specs.Global.{Vec}
 use Rattle.std.specs.Vec.{vec_capacity, vec_len}
 use Rattle.clause_pool.specs.Interned.{Interned, row_at}
-use Rattle.row_book.specs.Sets.{NumSet, In, has}
-use Rattle.row_book.specs.Clauses.{Ascending, numbers}
+use Rattle.row_book.specs.Sets.{NumSet}
+use Rattle.listed.specs.Lists.{In, has, Ascending}
+use Rattle.row_book.specs.Numbers.{numbers}
 
 -- the id of the row of a package
 abbrev pub row_id : List ℕ → ℕ → ℕ

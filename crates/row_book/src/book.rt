@@ -26,7 +26,7 @@ pub struct Book {
 
 impl Book {
     ghost use Rattle.std.specs.Prelude.{◌≡◌, ◌<◌, List, [], IfOk, length, slice_index_or};
-    ghost use Rattle.row_book.specs.Sets.{has};
+    ghost use Rattle.listed.specs.Lists.{has};
     ghost use Rattle.clause_pool.specs.Compacting.{RowsOf};
     ghost use Rattle.row_book.specs.Book.{listed_for, lists_of_pairs, NumbersFit, PairsFit, Sound};
 

@@ -1,9 +1,8 @@
 //! Which packages conflict, by a table of their conflicts.
 ghost use Rattle.std.specs.Prelude.{◌≡◌, ℕ, IfOk};
 ghost use Rattle.std.specs.List.{list_all};
-ghost use Rattle.row_book.specs.Sets.{has};
+ghost use Rattle.listed.specs.Lists.{has, is_inside, Ascending};
 ghost use Rattle.row_book.specs.Book.{listed_for};
-ghost use Rattle.row_book.specs.Clauses.{is_inside, Ascending};
 ghost use Rattle.row_book.specs.Facing.{against_in, all_against, common_to};
 
 use crate::{Book, NumList};
@@ -71,7 +70,7 @@ fn all_conflict(table: &[NumList], first: &[u32], second: &[u32]) -> bool
 
 impl Book {
     ghost use Rattle.std.specs.Prelude.{◌≡◌, ◌<◌, ◌↔◌, ℕ, IsTrue, length, true};
-    ghost use Rattle.row_book.specs.Sets.{has, In};
+    ghost use Rattle.listed.specs.Lists.{has, In};
     ghost use Rattle.row_book.specs.Book.{listed_for};
 
     /// Whether each package of the first list conflicts with each of the second, all of them below the size; it takes no

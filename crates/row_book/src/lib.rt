@@ -13,7 +13,6 @@ mod pairing;
 mod subsets;
 mod trail;
 mod uses;
-mod within;
 
 // Books: the clauses and conflicts of numbered packages.
 pub use book::{Book, ConflictTable, RowList};
@@ -25,7 +24,6 @@ pub use conflicting::{are_against, common_conflicts, conflicts_of};
 pub use health::Unhealthy;
 pub use listed::{holds, is_inside};
 pub use subsets::is_coinst;
-pub use within::{has_side_within, has_within};
 
 // Tables of who names whom, and of the rows that hold a clause.
 pub use clause_table::{ClauseTable, clause_holds};

@@ -1,6 +1,6 @@
 //! Clauses that are wanted and that no pool holds.
 ghost use Rattle.std.specs.Prelude.{◌≡◌, ◌<◌, ◌∷◌, ◌++◌, [], length, slice_index_or, OnOk, OnErr};
-ghost use Rattle.row_book.specs.Clauses.{Ascending};
+ghost use Rattle.listed.specs.Lists.{Ascending};
 ghost use Rattle.row_book.specs.Needs.{AreNeeds, IsNeed};
 
 use crate::NumList;

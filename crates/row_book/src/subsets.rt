@@ -2,7 +2,7 @@
 
 ghost use Rattle.std.specs.Prelude.{◌≡◌, ◌↔◌, ◌++◌, ◌∷◌, [], IfOk, IsTrue};
 ghost use Rattle.std.specs.List.{list_all, list_any};
-ghost use Rattle.row_book.specs.Sets.{has};
+ghost use Rattle.listed.specs.Lists.{has};
 ghost use Rattle.row_book.specs.Repository.{Coinst};
 ghost use Rattle.row_book.specs.Flags.{flag, hits_row, is_abundant, is_peaceful, is_solution, Extends};
 

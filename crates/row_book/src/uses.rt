@@ -5,8 +5,8 @@
 ghost use Rattle.std.specs.Prelude.{◌≡◌, ◌<◌, ◌-◌, ◌⊎◌, ◌&&◌, ◌||◌, ℕ, List, [], IfOk, OnOk, OnErr, true, not, eqb, length, slice_set, vec_capacity, vec_len};
 ghost use Rattle.std.specs.List.Sorted.{IsNonDecreasing, IsSearchInRange};
 ghost use Rattle.clause_pool.specs.Interned.{clauses_at, row_at, OfPool};
-ghost use Rattle.row_book.specs.Sets.{In, has, plus, without};
-ghost use Rattle.row_book.specs.Clauses.{Ascending};
+ghost use Rattle.listed.specs.Lists.{In, has, Ascending};
+ghost use Rattle.row_book.specs.Sets.{plus, without};
 ghost use Rattle.row_book.specs.Book.{listed_for, RowsFit};
 ghost use Rattle.row_book.specs.Uses.{row_id, some_holds, uses_of, IsListOf, IsPlaceOf, lists_in, list_in, room_in};
 

@@ -8,7 +8,7 @@ use Rattle.std.proofs.lemmas.List.FromFn.{get_or-map-range_with_len, length-map-
 use Rattle.std.proofs.lemmas.List.Elements.{All-nil, All-cons, All-contains, All-push, All-weaker, Contains-get_or}
 use Rattle.std.proofs.lemmas.List.Folds.{Any-from_list_any, list_any-from_Any}
 use Rattle.listed.proofs.Bools.{cases_Option}
-use Rattle.row_book.proofs.Lists.{any_cases}
+use Rattle.listed.proofs.Lists.{any_cases}
 use Rattle.search_terms.specs.declared.literals.Literal.{Literal}
 use Rattle.search_terms.specs.Closure.{literal, is_same, same_sign, forces, is_refuted, IsMet, IsUnitClosed, HasGiven, IsClosure, InRange}
 use Rattle.search_terms.specs.Marks.{IsWithin, IsForced, HasClash, classes_left, true_classes}

@@ -1,8 +1,8 @@
 -- Elements of lists, by cases on the list and by places.
 use Rattle.std.proofs.Common.{◌≡◌, ℕ, List, get_or, sym, subst}
 use Rattle.std.specs.Prelude.{Contains}
-use Rattle.row_book.specs.Sets.{In}
-use Rattle.row_book.proofs.Lists.{In_at}
+use Rattle.listed.specs.Lists.{In}
+use Rattle.listed.proofs.Lists.{In_at}
 use Rattle.clause_pool.proofs.Lists.{In_place}
 
 -- what equals the item at a place

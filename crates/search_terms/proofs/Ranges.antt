@@ -4,13 +4,12 @@ use Rattle.std.specs.Prelude.{All, Contains, map}
 use Rattle.std.proofs.Math.ListN.{get_or-eq_default}
 use Rattle.std.proofs.lemmas.Bool.{cases_lt}
 use Rattle.std.proofs.lemmas.List.Elements.{Contains-append_right, All-nil, All-cons, Contains-get_or}
-use Rattle.listed.proofs.Lists.{contains_in, in_contains}
+use Rattle.listed.proofs.Lists.{contains_in, in_contains, In_none, In_has, has_In}
 use Rattle.clause_pool.specs.Interned.{Interned, row_at}
-use Rattle.row_book.specs.Sets.{In, here}
+use Rattle.listed.specs.Lists.{In, here}
 use Rattle.row_book.specs.Book.{listed_for, Sound, AreConflicts, RowsFit, repository_of}
 use Rattle.row_book.specs.Needs.{NeedsFit}
 use Rattle.row_book.specs.declared.book.Book.{Book}
-use Rattle.row_book.proofs.Lists.{In_none, In_has, has_In}
 use Rattle.search_terms.specs.declared.literals.Literal.{Literal}
 use Rattle.search_terms.specs.Closure.{literal, InRange}
 use Rattle.search_terms.specs.Form.{goal_sentence, clause_sentence, owned_sentences, form}

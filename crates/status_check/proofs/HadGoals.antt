@@ -7,8 +7,7 @@ use Rattle.relation_fields.specs.declared.packages.PackageFacts.{PackageFacts}
 use Rattle.repo_model.specs.Goals.{packages_named}
 use Rattle.repo_model.specs.Repository.{suite_repository}
 use Rattle.repo_model.specs.declared.goals.Goal.{Goal}
-use Rattle.row_book.specs.Clauses.{Ascending}
-use Rattle.row_book.specs.Sets.{In}
+use Rattle.listed.specs.Lists.{Ascending, In}
 use Rattle.suite_compare.specs.Asking.{goal_classes, image_of, images_of}
 use Rattle.suite_compare.proofs.Gathering.{image_filled, named_inside}
 use Rattle.suite_compare.proofs.SuiteKernels.{classes_ascending}

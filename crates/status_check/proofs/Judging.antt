@@ -22,7 +22,7 @@ use Rattle.row_book.specs.Repository.{Repository, Healthy, clauses_of}
 use Rattle.row_book.specs.Rounds.{kernel}
 use Rattle.row_book.specs.Sets.{NumSet}
 use Rattle.row_book.specs.declared.book.Book.{Book}
-use Rattle.row_book.proofs.Lists.{In_at}
+use Rattle.listed.proofs.Lists.{In_at}
 use Rattle.suite_compare.specs.Asking.{images_of, verdict_in, HasVerdict}
 use Rattle.suite_compare.specs.Kinds.{kernel_verdict}
 use Rattle.suite_compare.specs.Views.{IsViewOf}

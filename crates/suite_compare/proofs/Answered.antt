@@ -20,11 +20,12 @@ use Rattle.row_book.specs.Flags.{flag}
 use Rattle.row_book.specs.Needs.{NeedsFit}
 use Rattle.row_book.specs.Repository.{Repository, Healthy}
 use Rattle.row_book.specs.Rounds.{kernel, kernel_class, kernel_steps}
-use Rattle.row_book.specs.Sets.{Hit, HitsAll, In, Is, has}
+use Rattle.row_book.specs.Sets.{Hit, HitsAll, Is}
+use Rattle.listed.specs.Lists.{In, has}
 use Rattle.row_book.specs.Trail.{trail_meaning}
 use Rattle.row_book.specs.declared.book.Book.{Book}
 use Rattle.row_book.proofs.BookRepositories.{book_size}
-use Rattle.row_book.proofs.Lists.{In_map, In_map_cases}
+use Rattle.listed.proofs.Lists.{In_map, In_map_cases}
 use Rattle.search_terms.specs.declared.literals.Literal.{Literal}
 use Rattle.search_terms.specs.Closure.{InRange}
 use Rattle.search_terms.specs.Derives.{Derives}

@@ -7,12 +7,12 @@ use Rattle.std.proofs.lemmas.Bool.{cases_Bool, cases_eq, both_ways, false_from_n
 use Rattle.std.proofs.lemmas.List.{append-nil, take_more, take_all, map_more, get_or_append_left, length-append}
 use Rattle.clause_pool.specs.Interned.{Interned, clause_at, clauses_at, ids_at}
 use Rattle.clause_pool.proofs.Lists.{In_place}
-use Rattle.row_book.specs.Sets.{In, here, has}
+use Rattle.listed.specs.Lists.{In, here, has}
 use Rattle.row_book.specs.Book.{listed_for, repository_of, Sound}
 use Rattle.row_book.specs.Repository.{Repository, clauses_of}
 use Rattle.row_book.specs.Uses.{row_id}
 use Rattle.row_book.specs.declared.book.Book.{Book}
-use Rattle.row_book.proofs.Lists.{In_cases, In_none, In_at, In_has, has_In, In_append_cases, In_append_left, In_append_right, In_map, In_map_cases, in_take, any_none}
+use Rattle.listed.proofs.Lists.{In_cases, In_none, In_at, In_has, has_In, In_append_cases, In_append_left, In_append_right, In_map, In_map_cases, in_take, any_none}
 use Rattle.row_book.proofs.Books.{clauses_row}
 use Rattle.suite_compare.specs.FirstChoices.{first_member, is_one_of}
 use Rattle.search_terms.proofs.Ranges.{rows_long}

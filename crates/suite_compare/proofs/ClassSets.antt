@@ -4,8 +4,8 @@ use Rattle.std.proofs.lemmas.Bool.{cases_eq, cases_lt, both_ways, false_from_ne_
 use Rattle.std.proofs.Math.ListN.{get_or-eq_default}
 use Rattle.std.proofs.lemmas.List.{length-set, get_or-set_same, get_or-set_other}
 use Rattle.listed.proofs.Bools.{same_bool}
-use Rattle.row_book.specs.Sets.{In, here, has}
-use Rattle.row_book.proofs.Lists.{In_cases, In_none, In_has, has_In, In_append_cases, In_append_left, In_append_right}
+use Rattle.listed.specs.Lists.{In, here, has}
+use Rattle.listed.proofs.Lists.{In_cases, In_none, In_has, has_In, In_append_cases, In_append_left, In_append_right}
 use Rattle.suite_compare.specs.Choices.{AreBelow, AreFlagged}
 
 pub flagged_below : (flags : List Bool) (members : List ℕ) → AreFlagged flags members → AreBelow (length flags) members

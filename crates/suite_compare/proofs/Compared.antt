@@ -5,12 +5,12 @@ use Rattle.std.proofs.lemmas.Bool.{cases_lt}
 use Rattle.std.proofs.lemmas.List.{get_or-map, get_or_past, length-map, length_push}
 use Rattle.clause_pool.proofs.Lists.{In_place}
 use Rattle.row_book.specs.Book.{listed_for, Sound}
-use Rattle.row_book.specs.Clauses.{Ascending, numbers}
+use Rattle.listed.specs.Lists.{Ascending, In}
+use Rattle.row_book.specs.Numbers.{numbers}
 use Rattle.row_book.specs.Needs.{AreNeeds, NeedsFit}
 use Rattle.row_book.specs.Repository.{Repository}
 use Rattle.row_book.specs.Rounds.{kernel}
-use Rattle.row_book.specs.Sets.{In}
-use Rattle.row_book.proofs.Lists.{In_at, In_none}
+use Rattle.listed.proofs.Lists.{In_at, In_none}
 use Rattle.relation_fields.specs.declared.packages.Home.{Home}
 use Rattle.relation_fields.specs.declared.packages.PackageFacts.{PackageFacts}
 use Rattle.repo_model.specs.Goals.{any_version}

@@ -7,9 +7,10 @@ use Rattle.row_book.specs.Flags.{flag}
 use Rattle.row_book.specs.Needs.{NeedsFit}
 use Rattle.row_book.specs.Repository.{Repository, Healthy, Coinst}
 use Rattle.row_book.specs.Rounds.{kernel, kernel_class, kernel_image}
-use Rattle.row_book.specs.Sets.{NumSet, Is, In, Within, Hit}
+use Rattle.row_book.specs.Sets.{NumSet, Is, Within, Hit}
+use Rattle.listed.specs.Lists.{In}
 use Rattle.row_book.specs.Sound.{OfPackages, SoundRepository}
-use Rattle.row_book.proofs.Lists.{In_map, In_map_cases}
+use Rattle.listed.proofs.Lists.{In_map, In_map_cases}
 use Rattle.kernel_rounds.specs.Laws.{HasImage}
 use Rattle.kernel_rounds.proofs.Reached.{image_is_of_classes_lem, kernel_keeps_lem}
 use Rattle.relation_fields.specs.declared.packages.Home.{Home}

@@ -4,10 +4,10 @@ use Rattle.std.specs.List.{find}
 use Rattle.std.proofs.lemmas.Bool.{or_cases, or_left, or_right, both_ways, and_parts, not-true, false_from_ne_true}
 use Rattle.std.proofs.lemmas.List.Elements.{All-nil, All-push}
 use Rattle.std.proofs.lemmas.Option.{same_Some}
-use Rattle.listed.proofs.Lists.{contains_in}
-use Rattle.row_book.specs.Sets.{In, here, NumSet, Is, Hit, union}
+use Rattle.listed.proofs.Lists.{contains_in, In_has}
+use Rattle.listed.specs.Lists.{In, here}
+use Rattle.row_book.specs.Sets.{NumSet, Is, Hit, union}
 use Rattle.row_book.specs.Repository.{Repository, against}
-use Rattle.row_book.proofs.Lists.{In_has}
 use Rattle.search_terms.specs.declared.literals.Literal.{Literal}
 use Rattle.search_terms.specs.Closure.{literal, satisfies, IsClosure, HasGiven, Models}
 use Rattle.search_terms.specs.Form.{goal_sentence, clause_sentence, conflict_sentence, form}

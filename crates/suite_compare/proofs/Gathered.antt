@@ -2,11 +2,9 @@
 use Rattle.std.proofs.Common.{◌≡◌, ℕ, ◌<◌, Bool, true, List, inl, inr, length, get_or, refl, sym, ◌∙◌, ap, subst, Option, Some, None}
 use Rattle.std.specs.List.{flat_map}
 use Rattle.std.proofs.lemmas.Bool.{cases_Bool}
-use Rattle.listed.proofs.Lists.{In_flat_cases, In_flat}
-use Rattle.row_book.specs.Sets.{In, has}
+use Rattle.listed.proofs.Lists.{In_flat_cases, In_flat, In_none, In_has, has_In}
+use Rattle.listed.specs.Lists.{In, has, Ascending}
 use Rattle.row_book.specs.Book.{listed_for}
-use Rattle.row_book.specs.Clauses.{Ascending}
-use Rattle.row_book.proofs.Lists.{In_none, In_has, has_In}
 use Rattle.clause_solver.specs.declared.outcomes.Verdict.{Verdict}
 use Rattle.clause_solver.specs.declared.outcomes.Verdict.TheVariants.{Yes, No, Spent}
 use Rattle.suite_compare.specs.Bad.{AreBad}

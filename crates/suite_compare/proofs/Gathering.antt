@@ -1,15 +1,14 @@
 -- What goals ask for, gathered goal by goal.
 use Rattle.std.proofs.Common.{◌≡◌, ℕ, ◌<◌, Bool, List, [], ◌∷◌, length, get_or, map, sym, ap, subst, ◌∙◌, arith, zero-add}
 use Rattle.std.specs.Prelude.{◌↔◌}
-use Rattle.listed.proofs.Lists.{filled}
-use Rattle.row_book.specs.Clauses.{Ascending}
+use Rattle.listed.proofs.Lists.{filled, In_map, In_map_cases}
+use Rattle.listed.specs.Lists.{Ascending, In, here}
 use Rattle.row_book.specs.Flattening.{packages}
 use Rattle.row_book.specs.Repository.{Repository}
 use Rattle.row_book.specs.Rounds.{kernel_class}
-use Rattle.row_book.specs.Sets.{In, here}
 use Rattle.row_book.specs.Sound.{SoundRepository}
-use Rattle.row_book.proofs.Lists.{In_map, In_map_cases, ascending_filter, ascending_same}
-use Rattle.row_book.proofs.Order.{at_numbers, length_numbers}
+use Rattle.listed.proofs.Orders.{ascending_filter, ascending_same}
+use Rattle.row_book.proofs.Numbers.{at_numbers, length_numbers}
 use Rattle.relation_fields.specs.declared.packages.PackageFacts.{PackageFacts}
 use Rattle.relation_fields.specs.declared.packages.Home.{Home}
 use Rattle.repo_model.specs.Goals.{is_named_by, packages_named}

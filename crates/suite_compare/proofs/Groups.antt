@@ -2,9 +2,9 @@
 use Rattle.std.proofs.Common.{◌≡◌, ℕ, ◌<◌, ◌+◌, List, [], ◌∷◌, ◌++◌, ◌⊎◌, inl, inr, length, get_or, set, refl, sym, ◌∙◌, ap, subst, arith}
 use Rattle.std.proofs.lemmas.Bool.{cases_eq, cases_lt}
 use Rattle.std.proofs.lemmas.List.{length-set, length_push, get_or-set_same, get_or-set_other, get_or_read, get_or_past, get_or_push, get_or_append_left}
-use Rattle.row_book.specs.Sets.{In, here}
+use Rattle.listed.specs.Lists.{In, here}
 use Rattle.row_book.specs.Book.{listed_for}
-use Rattle.row_book.proofs.Lists.{In_cases, In_none, In_append_cases, In_append_left, In_append_right}
+use Rattle.listed.proofs.Lists.{In_cases, In_none, In_append_cases, In_append_left, In_append_right}
 use Rattle.suite_compare.specs.Groups.{ArePlaces, IsEntered}
 
 -- a number put behind those of one list of a table

@@ -4,8 +4,9 @@ use Rattle.std.proofs.Math.Path.{fun_ext}
 use Rattle.std.specs.List.{range_with_len}
 use Rattle.row_book.specs.Flags.{flag}
 use Rattle.row_book.specs.Repository.{Repository, Healthy}
-use Rattle.row_book.specs.Sets.{Hit, HitsAll, Is, NumSet, has}
-use Rattle.row_book.proofs.Lists.{In_has, has_not, filter_cases, filter_from}
+use Rattle.row_book.specs.Sets.{Hit, HitsAll, Is, NumSet}
+use Rattle.listed.specs.Lists.{has}
+use Rattle.listed.proofs.Lists.{In_has, has_not, filter_cases, filter_from}
 use Rattle.row_book.proofs.Flags.{flag_in}
 use Rattle.repo_model.proofs.Elements.{range_from}
 use Rattle.clause_pool.specs.Interned.{Interned}

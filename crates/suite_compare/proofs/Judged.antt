@@ -5,14 +5,13 @@ use Rattle.std.specs.List.{flat_map}
 use Rattle.std.proofs.lemmas.Bool.{cases_Bool, both_ways, false≢true, lt-ltb, le-ltb}
 use Rattle.std.proofs.lemmas.List.{length_push, append-nil, flat_map_more, get_or-map, map_more, take_all, take_more, length-map}
 use Rattle.std.proofs.lemmas.List.Concat.{flat_map-append}
-use Rattle.listed.proofs.Lists.{In_flat_cases, In_flat}
+use Rattle.listed.proofs.Lists.{In_flat_cases, In_flat, In_cases, In_none, In_at, item_in, has_In}
 use Rattle.clause_pool.specs.Interned.{Interned}
-use Rattle.row_book.specs.Sets.{In, here, has}
+use Rattle.listed.specs.Lists.{In, here, has}
 use Rattle.row_book.specs.Book.{listed_for, repository_of, Sound}
 use Rattle.row_book.specs.Needs.{AreNeeds, IsNeed, NeedsFit}
 use Rattle.row_book.specs.Repository.{Repository}
 use Rattle.row_book.specs.declared.book.Book.{Book}
-use Rattle.row_book.proofs.Lists.{In_cases, In_none, In_at, item_in, has_In}
 use Rattle.suite_compare.specs.FirstChoices.{IsFirstChoice}
 use Rattle.search_terms.specs.Form.{form}
 use Rattle.search_terms.specs.Tree.{Tree, IsTree, found_of, failed_leaves}

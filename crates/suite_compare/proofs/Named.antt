@@ -8,10 +8,10 @@ use Rattle.std.proofs.lemmas.List.{append-nil, map_more, take_all, take_more}
 use Rattle.std.proofs.lemmas.List.Elements.{filter-append}
 use Rattle.row_book.specs.Needs.{AreNeeds, IsNeed, NeedsFit}
 use Rattle.row_book.specs.Rounds.{kernel}
-use Rattle.row_book.specs.Sets.{In, here}
-use Rattle.row_book.proofs.Lists.{In_none, In_at, In_map_cases, any_cases, any_from, filter_cases, filter_same}
+use Rattle.listed.specs.Lists.{In, here}
+use Rattle.listed.proofs.Lists.{In_none, In_at, In_map_cases, any_cases, any_from, filter_cases, filter_same}
 use Rattle.clause_pool.proofs.Lists.{In_place}
-use Rattle.row_book.proofs.Order.{ordered_parts}
+use Rattle.clause_pool.proofs.Order.{ordered_parts}
 use Rattle.relation_fields.specs.declared.packages.Home.{Home}
 use Rattle.relation_fields.specs.declared.packages.PackageFacts.{PackageFacts}
 use Rattle.repo_model.specs.Goals.{any_version, is_named_by, names_in, packages_named}

@@ -3,9 +3,9 @@ use Rattle.std.proofs.Common.{◌≡◌, ℕ, ◌<◌, ◌+◌, List, [], ◌∷
 use Rattle.std.specs.Cmp.Lexicographic.{pointwise}
 use Rattle.std.proofs.lemmas.Bool.{cases_eq}
 use Rattle.std.proofs.lemmas.List.{length_push, get_or_push, get_or_append_left, get_or_read}
-use Rattle.row_book.specs.Sets.{In}
+use Rattle.listed.specs.Lists.{In}
 use Rattle.row_book.specs.Book.{listed_for}
-use Rattle.row_book.proofs.Lists.{In_cases, In_none, In_at, In_append_cases}
+use Rattle.listed.proofs.Lists.{In_cases, In_none, In_at, In_append_cases}
 use Rattle.class_merge.proofs.Places.{place_some}
 use Rattle.suite_compare.proofs.Groups.{pushed_at}
 use Rattle.suite_compare.specs.Kinds.{IsNumbered, AreKinds, AreKeys, IsJoined, AreJoined}

@@ -5,7 +5,7 @@ use Rattle.std.proofs.lemmas.List.Elements.{All-nil, All-cons, Contains-get_or}
 use Rattle.listed.proofs.Lists.{contains_in}
 use Rattle.row_book.specs.Needs.{NeedsFit}
 use Rattle.row_book.specs.Repository.{Repository, conflicts_of}
-use Rattle.row_book.specs.Sets.{In}
+use Rattle.listed.specs.Lists.{In}
 use Rattle.row_book.specs.Sound.{SoundRepository}
 use Rattle.search_terms.specs.declared.literals.Literal.{Literal}
 use Rattle.search_terms.specs.Closure.{literal, InRange}

@@ -4,12 +4,12 @@ use Rattle.std.specs.List.{flat_map}
 use Rattle.std.proofs.lemmas.Bool.{cases_Bool, both_ways, lt-ltb, le-ltb}
 use Rattle.std.proofs.lemmas.List.{append-nil, flat_map_more}
 use Rattle.std.proofs.lemmas.List.Elements.{filter-append}
-use Rattle.listed.proofs.Lists.{flat_same}
-use Rattle.row_book.specs.Sets.{In, here, there, has}
+use Rattle.listed.proofs.Lists.{flat_same, In_has, has_In, filter_from, filter_cases, filter_same}
+use Rattle.listed.specs.Lists.{In, here, there, has, Ascending}
 use Rattle.row_book.specs.Book.{listed_for}
-use Rattle.row_book.specs.Clauses.{Ascending, numbers}
-use Rattle.row_book.proofs.Lists.{In_has, has_In, ascending_same, ascending_filter, filter_from, filter_cases, filter_same}
-use Rattle.row_book.proofs.Order.{numbers_from, numbers_parts, numbers_ascending, numbers_more}
+use Rattle.row_book.specs.Numbers.{numbers}
+use Rattle.listed.proofs.Orders.{ascending_same, ascending_filter}
+use Rattle.row_book.proofs.Numbers.{numbers_from, numbers_parts, numbers_ascending, numbers_more}
 use Rattle.clause_solver.specs.declared.outcomes.Verdict.{Verdict}
 use Rattle.clause_solver.specs.declared.outcomes.Verdict.TheVariants.{Spent}
 use Rattle.suite_compare.specs.Report.{finding, is_yes, pair_line, single_line, with_later}

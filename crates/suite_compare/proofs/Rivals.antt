@@ -3,14 +3,13 @@ use Rattle.std.proofs.Common.{◌≡◌, ℕ, ◌<◌, true, false, ◌||◌, Li
 use Rattle.std.proofs.lemmas.Bool.{and_from, or_left, le-ltb}
 use Rattle.std.proofs.lemmas.List.{get_or_default}
 use Rattle.std.proofs.lemmas.List.Elements.{All-contains, All-cons, All-nil}
-use Rattle.listed.proofs.Lists.{in_contains}
+use Rattle.listed.proofs.Lists.{in_contains, has_In, In_at, In_cases, In_none}
 use Rattle.clause_pool.specs.Interned.{Interned}
-use Rattle.row_book.specs.Sets.{In, here, there}
+use Rattle.listed.specs.Lists.{In, here, there}
 use Rattle.row_book.specs.Book.{repository_of, listed_for, Sound}
 use Rattle.row_book.specs.Needs.{NeedsFit}
 use Rattle.row_book.specs.Repository.{Repository}
 use Rattle.row_book.specs.declared.book.Book.{Book}
-use Rattle.row_book.proofs.Lists.{has_In, In_at, In_cases, In_none}
 use Rattle.search_terms.specs.Closure.{literal, negation, is_same, Clashes, InClosure, IsMet}
 use Rattle.search_terms.specs.Form.{conflict_sentence, form, goal_sentence}
 use Rattle.search_terms.specs.Tree.Tree.{failed_leaf}

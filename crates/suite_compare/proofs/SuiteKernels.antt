@@ -3,11 +3,11 @@ use Rattle.std.proofs.Common.{◌≡◌, ℕ, ◌<◌, Bool, List, true, length,
 use Rattle.row_book.specs.Flattening.{packages}
 use Rattle.row_book.specs.Repository.{Repository}
 use Rattle.row_book.specs.Rounds.{kernel, kernel_class, kernel_image, round_count}
-use Rattle.row_book.specs.Sets.{In, has}
+use Rattle.listed.specs.Lists.{In, has, Ascending}
 use Rattle.row_book.specs.Sound.{SoundRepository}
-use Rattle.row_book.proofs.Lists.{In_has, has_In, filter_cases, filter_from, ascending_filter}
-use Rattle.row_book.proofs.Order.{numbers_from, numbers_parts, numbers_ascending}
-use Rattle.row_book.specs.Clauses.{Ascending}
+use Rattle.listed.proofs.Lists.{In_has, has_In, filter_cases, filter_from}
+use Rattle.listed.proofs.Orders.{ascending_filter}
+use Rattle.row_book.proofs.Numbers.{numbers_from, numbers_parts, numbers_ascending}
 use Rattle.kernel_rounds.specs.Laws.{HasImage}
 use Rattle.kernel_rounds.proofs.Classes.{class_within}
 use Rattle.kernel_rounds.proofs.Reached.{image_is_of_classes_lem, kernel_is_lem}

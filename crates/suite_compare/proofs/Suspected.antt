@@ -3,15 +3,14 @@ use Rattle.std.proofs.Common.{◌≡◌, ℕ, ◌<◌, ◌≤◌, ◌+◌, Bool,
 use Rattle.std.specs.Prelude.{◌↔◌}
 use Rattle.std.proofs.lemmas.Bool.{cases_eq, cases_Bool, both_ways, false_from_ne_true}
 use Rattle.std.proofs.lemmas.List.{take_more, take_all, length_push, get_or_read}
-use Rattle.listed.proofs.Lists.{some_item, empty_or}
-use Rattle.row_book.specs.Sets.{In, here, has}
+use Rattle.listed.proofs.Lists.{some_item, empty_or, In_none, In_at, In_has, has_In, In_append_cases, In_append_left, In_append_right}
+use Rattle.listed.specs.Lists.{In, here, has}
 use Rattle.clause_pool.specs.Interned.{Interned}
 use Rattle.row_book.specs.Book.{listed_for, repository_of, Sound}
 use Rattle.row_book.specs.declared.book.Book.{Book}
 use Rattle.search_terms.proofs.Ranges.{listed_in, other_way, rows_long}
 use Rattle.row_book.specs.Needs.{NeedsFit}
 use Rattle.row_book.specs.Repository.{Repository}
-use Rattle.row_book.proofs.Lists.{In_none, In_at, In_has, has_In, In_append_cases, In_append_left, In_append_right}
 use Rattle.row_book.proofs.Books.{in_listed}
 use Rattle.suite_compare.specs.Choices.{AreBelow, IsChosen}
 use Rattle.suite_compare.specs.Groups.{IsEntered}

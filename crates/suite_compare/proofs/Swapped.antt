@@ -8,7 +8,7 @@ use Rattle.std.proofs.lemmas.Bool.{and_from, both_ways, eq-eqb, eqb-true, or_lef
 use Rattle.std.proofs.lemmas.List.Elements.{All-contains, All-head}
 use Rattle.listed.proofs.Lists.{contains_in, in_contains}
 use Rattle.clause_pool.specs.Interned.{Interned}
-use Rattle.row_book.specs.Sets.{In, here, there}
+use Rattle.listed.specs.Lists.{In, here, there}
 use Rattle.row_book.specs.Book.{listed_for, repository_of, Sound}
 use Rattle.row_book.specs.Needs.{NeedsFit}
 use Rattle.row_book.specs.Repository.{Repository}

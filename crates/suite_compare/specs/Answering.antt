@@ -3,7 +3,8 @@ use Rattle.std.specs.Prelude.{◌≡◌, ⊤, ℕ, ◌+◌, ◌<◌, ◌≤◌, 
 use Rattle.std.specs.List.{range_with_len}
 use Rattle.row_book.specs.Flags.{flag}
 use Rattle.row_book.specs.Rounds.{kernel}
-use Rattle.row_book.specs.Sets.{In, NumSet, has}
+use Rattle.listed.specs.Lists.{In, has}
+use Rattle.row_book.specs.Sets.{NumSet}
 use Rattle.relation_fields.specs.declared.packages.Home.{Home}
 use Rattle.relation_fields.specs.declared.packages.PackageFacts.{PackageFacts}
 use Rattle.repo_model.specs.Goals.{packages_named, CoinstGoals, HasOneFor}

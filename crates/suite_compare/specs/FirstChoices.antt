@@ -2,7 +2,8 @@
 -- First choices: sets of classes that show, without a search, that a search finds something and fails nowhere. No two of them
 -- conflict, and with the set go the first member of each goal and of each clause of a member.
 use Rattle.std.specs.Prelude.{◌≡◌, ℕ, ◌<◌, Bool, true, false, List, [], ◌∷◌, length, Option, Some, None}
-use Rattle.row_book.specs.Sets.{NumSet, Is, In}
+use Rattle.row_book.specs.Sets.{NumSet, Is}
+use Rattle.listed.specs.Lists.{In}
 use Rattle.row_book.specs.Repository.{Repository, clauses_of, against}
 
 abbrev pub first_member : List ℕ → Option ℕ

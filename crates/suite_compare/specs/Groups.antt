@@ -1,7 +1,7 @@
 -- for the bodies of this crate alone
 -- Places under keys.
 use Rattle.std.specs.Prelude.{◌≡◌, ℕ, ◌<◌, ◌⊎◌, List, length, slice_index_or}
-use Rattle.row_book.specs.Sets.{In}
+use Rattle.listed.specs.Lists.{In}
 use Rattle.row_book.specs.Book.{listed_for}
 
 -- the number is behind the others under the key, and nothing else is new

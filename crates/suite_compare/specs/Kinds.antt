@@ -1,7 +1,7 @@
 -- for bodies alone, those of other crates too
 -- Kinds: names of a kind have the same classes, and so the same verdicts.
 use Rattle.std.specs.Prelude.{◌≡◌, ℕ, ◌<◌, ◌⊎◌, true, List, [], ◌∷◌, ◌++◌, length, slice_index_or}
-use Rattle.row_book.specs.Sets.{In, has}
+use Rattle.listed.specs.Lists.{In, has}
 use Rattle.row_book.specs.Book.{Sound, listed_for, repository_of}
 use Rattle.row_book.specs.Needs.{AreNeeds, NeedsFit}
 use Rattle.row_book.specs.Repository.{Repository}

@@ -2,9 +2,8 @@
 -- The names of which something is told beside those of a pair of kinds.
 use Rattle.std.specs.Prelude.{◌≡◌, ◌↔◌, ℕ, ◌<◌, List, [], length, Option, Some, None, slice_index_or}
 use Rattle.std.specs.List.{flat_map}
-use Rattle.row_book.specs.Sets.{In}
+use Rattle.listed.specs.Lists.{In, Ascending}
 use Rattle.row_book.specs.Book.{listed_for}
-use Rattle.row_book.specs.Clauses.{Ascending}
 use Rattle.clause_solver.specs.declared.outcomes.Verdict.{Verdict}
 use Rattle.suite_compare.specs.declared.gather.JointTable.{JointTable}
 use Rattle.suite_compare.specs.declared.gather.Partners.{Partners}

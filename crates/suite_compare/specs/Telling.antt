@@ -2,7 +2,7 @@
 -- The lines of names by their places.
 use Rattle.std.specs.Prelude.{ℕ, if◌then◌else◌, List, [], Some, filter, ltb, slice_index_or}
 use Rattle.std.specs.List.{flat_map}
-use Rattle.row_book.specs.Sets.{has}
+use Rattle.listed.specs.Lists.{has}
 use Rattle.row_book.specs.Book.{listed_for}
 use Rattle.clause_solver.specs.declared.outcomes.Verdict.{Verdict}
 use Rattle.clause_solver.specs.declared.outcomes.Verdict.TheVariants.{Spent}

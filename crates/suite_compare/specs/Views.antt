@@ -6,8 +6,8 @@ use Rattle.std.proofs.Math.Nat.{ne_of_lt}
 use Rattle.std.specs.Coded.{Coded, Coded-set, code_by, coded×, coded⊎, coded_list, coded_ℕ, coded_bool, ×_prop, Unit-prop, le_prop}
 use Rattle.clause_pool.specs.Interned.{Interned, IsPool}
 use Rattle.row_book.specs.Book.{repository_of, AreConflicts, Sound}
-use Rattle.row_book.specs.Clauses.{Ascending, Before, InOrder}
-use Rattle.row_book.specs.Sets.{In}
+use Rattle.listed.specs.Lists.{Ascending, In}
+use Rattle.clause_pool.specs.Lists.{Before, InOrder}
 use Rattle.row_book.specs.Flattening.{packages}
 use Rattle.row_book.specs.Pruning.{IdleClause}
 use Rattle.row_book.specs.Repository.{Repository}

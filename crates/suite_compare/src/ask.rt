@@ -1,7 +1,6 @@
 //! What goals ask for: packages, and classes of the kernel.
 ghost use Rattle.std.specs.Prelude.{◌≡◌, ◌↔◌, ◌<◌, ℕ, None, Some, map, length, slice_index_or, IfOk, IfErr, OnOk};
-ghost use Rattle.row_book.specs.Clauses.{Ascending};
-ghost use Rattle.row_book.specs.Sets.{In};
+ghost use Rattle.listed.specs.Lists.{Ascending, In};
 ghost use Rattle.repo_model.specs.Repository.{suite_repository};
 ghost use Rattle.suite_compare.specs.Asking.{goal_classes, images_of, wanted_by};
 ghost use Rattle.suite_compare.specs.Answering.{unknown_goal, OnUnknown};

@@ -2,7 +2,7 @@
 ghost use Rattle.std.specs.Prelude.{◌≡◌, ◌<◌, ◌++◌, ◌∷◌, [], ℕ, List, true, false, IfOk, OnOk, length};
 ghost use Rattle.clause_pool.specs.Interned.{clauses_at, OfPool};
 ghost use Rattle.std.specs.List.{list_any};
-ghost use Rattle.row_book.specs.Sets.{In, has};
+ghost use Rattle.listed.specs.Lists.{In, has};
 ghost use Rattle.row_book.specs.Book.{listed_for, repository_of, Sound};
 ghost use Rattle.std.specs.Option.{option_to_list};
 ghost use Rattle.suite_compare.specs.FirstChoices.{first_member};

@@ -1,6 +1,6 @@
 //! Sets of classes that are filled and emptied again and again.
 ghost use Rattle.std.specs.Prelude.{◌≡◌, ◌<◌, [], IfOk, OnOk};
-ghost use Rattle.row_book.specs.Sets.{has};
+ghost use Rattle.listed.specs.Lists.{has};
 ghost use Rattle.suite_compare.specs.Choices.{with_class, AreBelow};
 
 use std::alloc::{AllocError, Global};

@@ -5,7 +5,7 @@
 ghost use Rattle.std.specs.Prelude.{◌≡◌, ◌<◌, [], ℕ, List, IfOk, length, map, slice_index_or};
 ghost use Rattle.row_book.specs.Book.{repository_of, Sound};
 ghost use Rattle.row_book.specs.Needs.{AreNeeds, NeedsFit};
-ghost use Rattle.row_book.specs.Sets.{In};
+ghost use Rattle.listed.specs.Lists.{In};
 ghost use Rattle.clause_solver.specs.Outcomes.{IsBudget};
 ghost use Rattle.clause_solver.specs.declared.outcomes.Verdict.{Verdict};
 ghost use Rattle.clause_solver.specs.declared.outcomes.Verdict.TheVariants.{Spent};

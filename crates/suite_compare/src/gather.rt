@@ -4,7 +4,7 @@
 //! does not go together with another one, or is not known to.
 ghost use Rattle.std.specs.Prelude.{◌≡◌, ◌<◌, ◌++◌, ℕ, IfOk, OnOk, length};
 ghost use Rattle.std.specs.List.{flat_map};
-ghost use Rattle.row_book.specs.Sets.{In};
+ghost use Rattle.listed.specs.Lists.{In};
 ghost use Rattle.row_book.specs.Book.{listed_for};
 ghost use Rattle.suite_compare.specs.Kinds.{together_in, AreJoined, IsJudge};
 ghost use Rattle.suite_compare.specs.Report.{finding};

@@ -8,7 +8,8 @@ ghost use Rattle.row_book.specs.Flags.{flag};
 ghost use Rattle.row_book.specs.Needs.{NeedsFit};
 ghost use Rattle.row_book.specs.Repository.{Healthy};
 ghost use Rattle.row_book.specs.Rounds.{kernel_class};
-ghost use Rattle.row_book.specs.Sets.{has, HitsAll};
+ghost use Rattle.listed.specs.Lists.{has};
+ghost use Rattle.row_book.specs.Sets.{HitsAll};
 ghost use Rattle.row_book.specs.Trail.{trail_meaning};
 ghost use Rattle.suite_compare.specs.Answering.{true_numbers};
 

@@ -1,9 +1,8 @@
 //! Places under keys, ascending lists of them, and what stands at a place.
 ghost use Rattle.std.specs.Prelude.{◌≡◌, ◌<◌, ◌↔◌, [], ℕ, IfOk, OnOk, length, slice_index_or};
 ghost use Rattle.std.specs.List.Sorted.{IsNonDecreasing};
-ghost use Rattle.row_book.specs.Sets.{In, has};
+ghost use Rattle.listed.specs.Lists.{In, has, Ascending};
 ghost use Rattle.row_book.specs.Book.{listed_for};
-ghost use Rattle.row_book.specs.Clauses.{Ascending};
 ghost use Rattle.clause_solver.specs.declared.outcomes.Verdict.TheVariants.{Spent};
 ghost use Rattle.suite_compare.specs.Groups.{ArePlaces, IsEntered};
 

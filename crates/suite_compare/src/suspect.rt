@@ -1,6 +1,6 @@
 //! Which kinds may not go together: those whose first choices are at peace do.
 ghost use Rattle.std.specs.Prelude.{◌≡◌, ◌<◌, ◌↔◌, [], ℕ, IfOk, OnOk, length};
-ghost use Rattle.row_book.specs.Sets.{In};
+ghost use Rattle.listed.specs.Lists.{In};
 ghost use Rattle.row_book.specs.Book.{listed_for, repository_of, Sound};
 ghost use Rattle.row_book.specs.Needs.{NeedsFit};
 ghost use Rattle.suite_compare.specs.Choices.{AreBelow};

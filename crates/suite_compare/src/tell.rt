@@ -1,9 +1,9 @@
 //! The lines of a report.
 ghost use Rattle.std.specs.Prelude.{◌≡◌, ◌<◌, ◌++◌, ℕ, OnOk, Some, filter, length, ltb, slice_index_or};
 ghost use Rattle.std.specs.List.{flat_map};
-ghost use Rattle.row_book.specs.Sets.{In};
+ghost use Rattle.listed.specs.Lists.{In, Ascending};
 ghost use Rattle.row_book.specs.Book.{listed_for};
-ghost use Rattle.row_book.specs.Clauses.{numbers, Ascending};
+ghost use Rattle.row_book.specs.Numbers.{numbers};
 ghost use Rattle.clause_solver.specs.declared.outcomes.Verdict.TheVariants.{Spent};
 ghost use Rattle.suite_compare.specs.Report.{is_yes, pair_line, single_line};
 ghost use Rattle.suite_compare.specs.Telling.{found_beside, partners_at, told_after, told_alone, told_pair};

@@ -5,7 +5,7 @@
 ghost use Rattle.std.specs.Prelude.{◌≡◌, ◌<◌, ◌==◌, ◌⊎◌, ◌∷◌, [], ℕ, true, IfOk, length, map, slice_index_or};
 ghost use Rattle.std.specs.List.{find, flat_map};
 ghost use Rattle.std.specs.Option.{option_copied};
-ghost use Rattle.row_book.specs.Sets.{In};
+ghost use Rattle.listed.specs.Lists.{In};
 ghost use Rattle.row_book.specs.Book.{listed_for};
 ghost use Rattle.row_book.specs.Needs.{IsNeed, NeedsFit};
 ghost use Rattle.suite_compare.specs.Kinds.{alone_in, kernel_in, kernel_verdict, together_in, AreRivals, IsJudge, IsOneClass};

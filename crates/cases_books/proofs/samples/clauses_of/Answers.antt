@@ -1,4 +1,4 @@
-use Rattle.row_book.proofs.Lists.{item_in}
+use Rattle.listed.proofs.Lists.{item_in}
 use Rattle.cases_books.proofs.samples.clauses_of.Goals as goal
 
 pub row-requires : goal.row-requires

@@ -1,7 +1,7 @@
 use Rattle.std.proofs.Common.{ap, sym, ◌∙◌, cond, [], List, ℕ}
 use Rattle.std.proofs.lemmas.Bool.{cond-true, cond-false}
 use Rattle.clause_pool.specs.Interned.{clauses_at}
-use Rattle.row_book.specs.Sets.{has}
+use Rattle.listed.specs.Lists.{has}
 use Rattle.clause_families.specs.Families.{unions_of}
 use Rattle.clause_families.proofs.Families.{At, at_clause, flat_push, flat_skip, of_pool_item}
 use Rattle.clause_families.proofs.family.add_unions.Goals as goal

@@ -1,7 +1,7 @@
 use Rattle.std.proofs.Common.{ap, sym, ◌∙◌, not}
 use Rattle.std.proofs.lemmas.Bool.{not_from_false, not_from_true}
 use Rattle.clause_pool.specs.Interned.{clauses_at}
-use Rattle.row_book.specs.Sets.{has}
+use Rattle.listed.specs.Lists.{has}
 use Rattle.clause_families.proofs.Families.{At, at_clause, filter_push, filter_skip, of_pool_item}
 use Rattle.clause_families.proofs.family.clauses_without.Goals as goal
 use Rattle.clause_families.proofs.family.clauses_without.Goals.{then-not-holds_ascending+in_ok-copy+in_ok-push, else-not-holds_ascending}

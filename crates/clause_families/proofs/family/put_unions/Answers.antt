@@ -3,9 +3,10 @@ use Rattle.std.specs.Option.{ForSome}
 use Rattle.std.proofs.lemmas.Bool.{OnFalse_at, OnTrue_at}
 use Rattle.clause_pool.specs.Interned.{Interned, IsIdOf, Kept, OfPool, clauses_at}
 use Rattle.clause_pool.proofs.Interned.{kept_along, kept_same as kept_none, clauses_kept, kept_of_pool}
-use Rattle.row_book.specs.Sets.{In}
-use Rattle.row_book.specs.Clauses.{Ascending, InOrder, apart_from}
-use Rattle.row_book.proofs.Lists.{item_in}
+use Rattle.listed.specs.Lists.{In, Ascending}
+use Rattle.clause_pool.specs.Lists.{InOrder}
+use Rattle.clause_pool.specs.Clauses.{apart_from}
+use Rattle.listed.proofs.Lists.{item_in}
 use Rattle.clause_families.specs.Branches.{TreeOf}
 use Rattle.clause_families.specs.Families.{HasUnions, IsNeedless, IsShortest}
 use Rattle.clause_families.proofs.Families.{At, at_item}

@@ -1,7 +1,7 @@
 use Rattle.std.proofs.Common.{ap, sym, ◌∙◌, subst, inl, inr}
 use Rattle.std.proofs.lemmas.Bool.{OnTrue_at, both_ways}
-use Rattle.row_book.specs.Sets.{In}
-use Rattle.row_book.proofs.Lists.{In_has, has_In}
+use Rattle.listed.specs.Lists.{In}
+use Rattle.listed.proofs.Lists.{In_has, has_In}
 use Rattle.clause_families.specs.Families.{HoldsOneOf}
 use Rattle.clause_families.proofs.Families.{of_pool_item, useful_less, useful_more}
 use Rattle.clause_families.proofs.family.useful_beside.Goals as goal

@@ -1,5 +1,5 @@
 use Rattle.std.proofs.Common.{◌≤◌, ◌+◌, length}
-use Rattle.row_book.specs.Clauses.{Ascending}
+use Rattle.listed.specs.Lists.{Ascending}
 use Rattle.clause_families.specs.Branches.{any_of, Standing}
 use Rattle.clause_families.specs.Inclusion.{is_within}
 use Rattle.clause_families.proofs.Walked.{Left}

@@ -1,8 +1,8 @@
 use Rattle.std.proofs.Common.{◌≡◌, ◌+◌, ◌-◌, ◌/◌, ◌∙◌, ap, sym, arith, get_or, ℕ}
 use Rattle.std.proofs.lemmas.List.{get_or_read}
 use Rattle.clause_pool.specs.Interned.{clause_at}
-use Rattle.row_book.specs.Clauses.{comes_before}
-use Rattle.row_book.proofs.Lists.{item_in}
+use Rattle.clause_pool.specs.Clauses.{comes_before}
+use Rattle.listed.proofs.Lists.{item_in}
 use Rattle.clause_families.proofs.Gainings.{before_up_to, behind_from}
 use Rattle.clause_families.proofs.placing.place_of.Goals as goal
 use Rattle.clause_families.proofs.placing.place_of.Goals.{After-comes_before}

@@ -2,9 +2,9 @@ use Rattle.std.proofs.Common.{◌≡◌, ◌<◌, ◌∙◌, ap₂, sym, subst, 
 use Rattle.std.proofs.lemmas.Bool.{eqb-false}
 use Rattle.std.proofs.lemmas.List.{get_or_read}
 use Rattle.clause_pool.specs.Interned.{clause_at}
-use Rattle.row_book.specs.Sets.{In}
-use Rattle.row_book.specs.Clauses.{comes_before}
-use Rattle.row_book.proofs.Lists.{item_in}
+use Rattle.listed.specs.Lists.{In}
+use Rattle.clause_pool.specs.Clauses.{comes_before}
+use Rattle.listed.proofs.Lists.{item_in}
 use Rattle.clause_families.proofs.Gainings.{gained, gained_none, order_gained}
 use Rattle.clause_families.proofs.placing.put_in_place.Goals as goal
 use Rattle.clause_families.proofs.placing.put_in_place.Goals.{else-place-len-via-then-place-len+else-eq, else-place-len-via-else-place-len}

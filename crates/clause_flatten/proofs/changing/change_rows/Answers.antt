@@ -3,9 +3,9 @@ use Rattle.std.proofs.lemmas.List.{drop_all, length-map}
 use Rattle.clause_pool.specs.Interned.{clauses_at}
 use Rattle.clause_pool.proofs.Lists.{In_at}
 use Rattle.clause_pool.proofs.Interned.{kept_along, kept_same}
-use Rattle.row_book.specs.Clauses.{InOrder}
+use Rattle.clause_pool.specs.Lists.{InOrder}
 use Rattle.row_book.specs.Book.{listed_for}
-use Rattle.row_book.specs.Sets.{In}
+use Rattle.listed.specs.Lists.{In}
 use Rattle.clause_flatten.specs.Ready.{table_of}
 use Rattle.clause_flatten.specs.Substitution.{table_row}
 use Rattle.clause_flatten.proofs.Halfway.{Halfway, halfway_all, halfway_none, halfway_step}

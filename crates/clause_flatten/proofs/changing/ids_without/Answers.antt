@@ -2,8 +2,8 @@ use Rattle.std.proofs.Common.{ap, sym, ◌∙◌, ◌∷◌, [], inl, inr, not, 
 use Rattle.std.proofs.lemmas.Bool.{not_from_false, not_from_true}
 use Rattle.std.proofs.lemmas.List.{map-append}
 use Rattle.clause_pool.specs.Interned.{clause_at, clauses_at}
-use Rattle.row_book.specs.Sets.{In, has}
-use Rattle.row_book.proofs.Lists.{In_append_cases, In_cases, In_none, item_in}
+use Rattle.listed.specs.Lists.{In, has}
+use Rattle.listed.proofs.Lists.{In_append_cases, In_cases, In_none, item_in}
 use Rattle.clause_families.proofs.Families.{At, at_clause, filter_push, filter_skip, of_pool_item}
 use Rattle.clause_flatten.proofs.changing.ids_without.Goals as goal
 use Rattle.clause_flatten.proofs.changing.ids_without.Goals.{then-not-clause_holds+in_ok-push, else-not-clause_holds}

@@ -1,7 +1,7 @@
 use Rattle.std.proofs.Common.{◌≡◌, ℕ, take}
 use Rattle.clause_pool.specs.Interned.{clauses_at}
-use Rattle.row_book.specs.Clauses.{apart_from}
-use Rattle.row_book.specs.Sets.{In}
+use Rattle.clause_pool.specs.Clauses.{apart_from}
+use Rattle.listed.specs.Lists.{In}
 use Rattle.clause_flatten.proofs.changing.ids_without.Given as goal
 
 abbrev pub invariant-loop-id : goal.invariant-loop-id

@@ -3,11 +3,11 @@ use Rattle.std.specs.List.{find}
 use Rattle.std.proofs.lemmas.List.{length-map}
 use Rattle.clause_pool.specs.Interned.{clauses_at, row_at}
 use Rattle.clause_pool.proofs.Interned.{kept_along}
-use Rattle.row_book.specs.Clauses.{numbers}
+use Rattle.row_book.specs.Numbers.{numbers}
 use Rattle.row_book.specs.Flags.{flag}
 use Rattle.row_book.specs.Holders.{ListsFit, TellsRows}
 use Rattle.row_book.specs.Repository.{Repository}
-use Rattle.row_book.proofs.Order.{numbers_ranged}
+use Rattle.row_book.proofs.Numbers.{numbers_ranged}
 use Rattle.row_book.proofs.Users.{lent_whole}
 use Rattle.clause_flatten.specs.Ready.{AreReady, table_of}
 use Rattle.clause_flatten.specs.Substitution.{length_in}

@@ -5,7 +5,7 @@ use Rattle.clause_pool.specs.Interned.{row_at}
 use Rattle.clause_flatten.specs.Ready.{table_of}
 use Rattle.clause_pool.proofs.Interned.{kept_along}
 use Rattle.row_book.specs.Book.{repository_of}
-use Rattle.row_book.specs.Clauses.{numbers}
+use Rattle.row_book.specs.Numbers.{numbers}
 use Rattle.row_book.specs.Flattening.{may_go, passed_by, passes, remaining_after}
 use Rattle.row_book.specs.Repository.{Repository}
 use Rattle.row_book.specs.Sets.{without}

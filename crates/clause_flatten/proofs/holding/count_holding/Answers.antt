@@ -1,7 +1,7 @@
 use Rattle.std.proofs.Common.{◌≡◌, ◌+◌, ◌∙◌, ap, arith, length, sym}
 use Rattle.std.proofs.lemmas.List.{take_all}
 use Rattle.clause_pool.specs.Interned.{clauses_at}
-use Rattle.row_book.specs.Sets.{has}
+use Rattle.listed.specs.Lists.{has}
 use Rattle.clause_flatten.specs.Holding.{clauses_with}
 use Rattle.clause_flatten.proofs.Counts.{none_more, one_more}
 use Rattle.clause_families.proofs.Families.{At, at_clause, clauses_length, of_pool_item}

@@ -1,8 +1,9 @@
 use Rattle.std.proofs.Common.{◌≡◌, ◌≤◌, ◌+◌, ◌∙◌, ℕ, Bool, List, arith, ap, filter, length, not, refl, subst, sym, take}
 use Rattle.std.proofs.lemmas.Bool.{le-ltb, lt-ltb}
 use Rattle.std.proofs.lemmas.List.{take_all}
-use Rattle.row_book.specs.Clauses.{Ascending, minimal_of}
-use Rattle.row_book.proofs.Lists.{item_in}
+use Rattle.listed.specs.Lists.{Ascending}
+use Rattle.clause_pool.specs.Clauses.{minimal_of}
+use Rattle.listed.proofs.Lists.{item_in}
 use Rattle.clause_families.specs.Inclusion.{has_shorter}
 use Rattle.clause_flatten.proofs.Counts.{front_fewer, one_more}
 use Rattle.clause_families.proofs.Families.{At, at_item, lowest_minimal}

@@ -2,8 +2,9 @@ use Rattle.std.proofs.Common.{◌≡◌, ◌≤◌, ◌++◌, ◌∙◌, arith, 
 use Rattle.std.proofs.lemmas.Bool.{le-ltb}
 use Rattle.std.proofs.lemmas.Result.{IfOk-weaker}
 use Rattle.clause_pool.specs.Interned.{clauses_at, OfPool}
-use Rattle.row_book.specs.Clauses.{apart_from, in_row_order, minimal_of, InOrder}
-use Rattle.row_book.proofs.Order.{ordered_order}
+use Rattle.clause_pool.specs.Clauses.{apart_from, in_row_order, minimal_of}
+use Rattle.clause_pool.specs.Lists.{InOrder}
+use Rattle.clause_pool.proofs.Order.{ordered_order}
 use Rattle.clause_families.specs.Families.{all_unions}
 use Rattle.clause_flatten.specs.Holding.{most_clauses}
 use Rattle.clause_families.specs.Unions.{substituted}

@@ -1,6 +1,6 @@
 use Rattle.std.proofs.Common.{◌∙◌, arith, get_or, subst, sym}
-use Rattle.row_book.proofs.Lists.{In_at}
-use Rattle.row_book.specs.Sets.{In}
+use Rattle.listed.proofs.Lists.{In_at}
+use Rattle.listed.specs.Lists.{In}
 use Rattle.clause_flatten.proofs.UserRows.{table_over, table_within}
 use Rattle.clause_flatten.proofs.WorkedRows.{not_own, users_below}
 use Rattle.clause_flatten.proofs.holding.some_would_pass.Goals as goal

@@ -2,9 +2,9 @@ use Rattle.std.proofs.Common.{◌≡◌, ◌<◌, ◌≤◌, ◌∙◌, ap, ap�
 use Rattle.std.proofs.lemmas.List.{length-map}
 use Rattle.std.proofs.lemmas.Result.{IfOk-weaker}
 use Rattle.clause_pool.specs.Interned.{OfPool, clauses_at}
-use Rattle.row_book.specs.Sets.{In}
+use Rattle.listed.specs.Lists.{In}
 use Rattle.row_book.specs.Book.{listed_for}
-use Rattle.row_book.specs.Clauses.{in_row_order}
+use Rattle.clause_pool.specs.Clauses.{in_row_order}
 use Rattle.clause_flatten.specs.Ready.{table_of}
 use Rattle.clause_flatten.specs.Substitution.{table_row, table_without}
 use Rattle.clause_families.specs.Unions.{substituted}

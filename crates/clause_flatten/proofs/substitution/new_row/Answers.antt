@@ -1,9 +1,9 @@
 use Rattle.std.proofs.Common.{◌∙◌, ap, subst, sym}
 use Rattle.clause_pool.specs.Interned.{clauses_at}
 use Rattle.clause_pool.proofs.Interned.{kept_along}
-use Rattle.row_book.specs.Clauses.{InOrder}
-use Rattle.row_book.proofs.Lists.{item_in}
-use Rattle.row_book.proofs.Order.{ordered_order}
+use Rattle.clause_pool.specs.Lists.{InOrder}
+use Rattle.listed.proofs.Lists.{item_in}
+use Rattle.clause_pool.proofs.Order.{ordered_order}
 use Rattle.clause_families.specs.Unions.{substituted}
 use Rattle.clause_flatten.proofs.NewRow.{copied_row, id_fits, id_is, id_numbers, id_tidies, row_minimal}
 use Rattle.clause_flatten.proofs.Replacing.{at_same, fit_kept, tidy_kept}

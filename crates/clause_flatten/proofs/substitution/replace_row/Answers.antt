@@ -1,6 +1,6 @@
 use Rattle.std.proofs.Common.{◌<◌, length, ap, sym, ◌∙◌, subst}
 use Rattle.clause_pool.specs.Interned.{row_at}
-use Rattle.row_book.proofs.Lists.{item_in}
+use Rattle.listed.proofs.Lists.{item_in}
 use Rattle.row_book.proofs.Users.{length_uses}
 use Rattle.clause_families.proofs.Families.{item_zero}
 use Rattle.clause_flatten.proofs.Replacing.{id_other, uses_kept}

@@ -1,7 +1,7 @@
 use Rattle.std.proofs.Common.{arith, get_or, subst}
 use Rattle.std.proofs.lemmas.List.{take_all}
 use Rattle.clause_flatten.specs.Ready.{table_of}
-use Rattle.row_book.proofs.Lists.{In_at}
+use Rattle.listed.proofs.Lists.{In_at}
 use Rattle.clause_flatten.specs.TakingOut.{counted_anew}
 use Rattle.clause_flatten.specs.Waiting.{Filed, recounted}
 use Rattle.clause_flatten.proofs.Runs.{file_more}

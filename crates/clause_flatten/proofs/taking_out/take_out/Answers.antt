@@ -1,8 +1,8 @@
 use Rattle.std.proofs.Common.{◌≡◌, ◌<◌, ℕ, List, arith, ap, sym, ◌∙◌, length}
 use Rattle.std.specs.List.{find}
 use Rattle.clause_flatten.specs.Ready.{table_of}
-use Rattle.row_book.specs.Clauses.{numbers}
-use Rattle.row_book.proofs.Lists.{find_some}
+use Rattle.row_book.specs.Numbers.{numbers}
+use Rattle.listed.proofs.Lists.{find_some}
 use Rattle.clause_flatten.specs.Substitution.{table_without, length_in}
 use Rattle.clause_flatten.specs.TakingOut.{is_over}
 use Rattle.clause_flatten.proofs.Runs.{none_over, passed_some}

@@ -3,7 +3,7 @@ use Rattle.std.proofs.lemmas.List as lists
 use Rattle.std.proofs.lemmas.Result.{err_from_is_err_and}
 use Rattle.clause_pool.specs.Interned.{clauses_at}
 use Rattle.clause_flatten.specs.Ready.{table_of}
-use Rattle.row_book.specs.Clauses.{numbers}
+use Rattle.row_book.specs.Numbers.{numbers}
 use Rattle.row_book.specs.Flattening.{passed_by}
 use Rattle.clause_flatten.specs.Substitution.{length_in, table_without}
 use Rattle.clause_flatten.proofs.Running.{on_limit}

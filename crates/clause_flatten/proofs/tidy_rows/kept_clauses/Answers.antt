@@ -1,5 +1,5 @@
 use Rattle.std.proofs.Common.{arith}
-use Rattle.row_book.proofs.Lists.{item_in}
+use Rattle.listed.proofs.Lists.{item_in}
 use Rattle.clause_flatten.proofs.tidy_rows.kept_clauses.Goals as goal
 
 pub stays_in-requires-clause-id : goal.stays_in-requires-clause-id

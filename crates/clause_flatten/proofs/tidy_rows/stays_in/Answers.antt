@@ -1,8 +1,7 @@
 use Rattle.std.proofs.Common.{◌≡◌, ◌∙◌, ◌&&◌, false, not, true, ap, length, subst, sym, Some}
 use Rattle.clause_pool.specs.Interned.{clause_at, clauses_at}
-use Rattle.row_book.specs.Clauses.{Ascending}
-use Rattle.row_book.specs.Sets.{has}
-use Rattle.row_book.specs.Within.{some_within}
+use Rattle.listed.specs.Lists.{Ascending, has}
+use Rattle.clause_pool.specs.Within.{some_within}
 use Rattle.clause_families.specs.Inclusion.{has_shorter}
 use Rattle.clause_flatten.proofs.Tidied.{shorter_is_other, shorter_than_one}
 use Rattle.clause_flatten.proofs.tidy_rows.stays_in.Goals as goal

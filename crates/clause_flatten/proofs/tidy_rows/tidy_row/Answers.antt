@@ -1,6 +1,6 @@
 use Rattle.std.proofs.Common.{◌∙◌, ap, subst, sym}
 use Rattle.clause_pool.specs.Interned.{clauses_at, OfPool}
-use Rattle.row_book.specs.Sets.{In}
+use Rattle.listed.specs.Lists.{In}
 use Rattle.row_book.proofs.Books.{row_ascending}
 use Rattle.clause_flatten.proofs.Tidied.{kept_within, tidied_row}
 use Rattle.clause_flatten.proofs.tidy_rows.tidy_row.Goals as goal

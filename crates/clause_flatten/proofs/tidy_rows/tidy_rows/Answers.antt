@@ -1,5 +1,5 @@
 use Rattle.std.proofs.Common.{◌≡◌, length, arith, subst}
-use Rattle.row_book.proofs.Lists.{item_in}
+use Rattle.listed.proofs.Lists.{item_in}
 use Rattle.clause_flatten.proofs.Tidied.{TidiedTo, tidied_all, tidied_count, tidied_fit, tidied_more, tidied_none, tidied_tidy}
 use Rattle.clause_flatten.proofs.tidy_rows.tidy_rows.Goals as goal
 

@@ -4,7 +4,7 @@ use Rattle.clause_pool.specs.Interned.{clause_at, clauses_at}
 use Rattle.row_book.specs.Pruning.{prune_clauses}
 use Rattle.row_book.specs.Rounds.{IdleStep}
 use Rattle.row_book.specs.Trail.{trail_meaning}
-use Rattle.row_book.proofs.Lists.{In_map, item_in}
+use Rattle.listed.proofs.Lists.{In_map, item_in}
 use Rattle.clause_prune.specs.Tests.{with_ids}
 use Rattle.clause_prune.proofs.Files.{asks_left}
 use Rattle.clause_prune.proofs.Left.{Pruning, pruning_more}

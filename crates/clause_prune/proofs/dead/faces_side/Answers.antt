@@ -1,8 +1,7 @@
 use Rattle.std.proofs.Common.{◌≡◌, ◌∷◌, ◌||◌, ◌∙◌, [], List, ℕ, ap, sym, subst}
 use Rattle.std.specs.List.{list_any}
 use Rattle.clause_pool.specs.Interned.{clauses_at}
-use Rattle.row_book.specs.Clauses.{Ascending, is_inside}
-use Rattle.row_book.specs.Sets.{has}
+use Rattle.listed.specs.Lists.{Ascending, is_inside, has}
 use Rattle.row_book.specs.Facing.{against_in, all_against, common_to}
 use Rattle.row_book.proofs.Facing.{common_ascending, faces_within}
 use Rattle.clause_prune.proofs.dead.faces_side.Goals as goal

@@ -1,9 +1,8 @@
 use Rattle.std.proofs.Common.{sym, ap, ◌∙◌, ◌∷◌, [], arith}
 use Rattle.std.specs.List.{list_any}
-use Rattle.listed.proofs.Lists.{any_at, none_at}
+use Rattle.listed.proofs.Lists.{any_at, none_at, item_in}
 use Rattle.clause_pool.specs.Interned.{clause_at, clauses_at}
 use Rattle.row_book.specs.Facing.{against_in, all_against}
-use Rattle.row_book.proofs.Lists.{item_in}
 use Rattle.clause_prune.proofs.dead.rows_face.Goals as goal
 
 pub slice-requires : goal.slice-requires

@@ -1,7 +1,7 @@
 use Rattle.std.proofs.Common.{◌∙◌, ◌++◌, ◌||◌, ap, get_or}
 use Rattle.std.specs.List.{list_any}
 use Rattle.std.proofs.lemmas.List.{get_or_default, take_all}
-use Rattle.row_book.specs.Sets.{has}
+use Rattle.listed.specs.Lists.{has}
 use Rattle.row_book.specs.Uses.{lists_in}
 use Rattle.clause_prune.specs.Filing.{under}
 use Rattle.clause_prune.proofs.Files.{listed_more}

@@ -1,6 +1,6 @@
 use Rattle.std.proofs.Common.{◌≡◌, ◌||◌, ℕ, take}
 use Rattle.std.specs.List.{list_any}
-use Rattle.row_book.specs.Sets.{has}
+use Rattle.listed.specs.Lists.{has}
 use Rattle.row_book.specs.Uses.{lists_in}
 use Rattle.clause_prune.specs.Filing.{under}
 use Rattle.clause_prune.proofs.filing.asked_among.Given as goal

@@ -1,5 +1,5 @@
 use Rattle.std.proofs.Common.{ℕ, List, [], length, take}
-use Rattle.row_book.specs.Sets.{In}
+use Rattle.listed.specs.Lists.{In}
 use Rattle.row_book.specs.Repository.{clauses_of}
 use Rattle.clause_prune.specs.Filing.{FiledBelow, IsFiled, filed_in}
 use Rattle.clause_prune.specs.Tests.{with_ids}

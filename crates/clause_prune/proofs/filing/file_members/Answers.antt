@@ -1,8 +1,8 @@
 use Rattle.std.proofs.Common.{◌≡◌, ℕ, List, [], length, subst, sym, true}
 use Rattle.clause_pool.specs.Interned.{clauses_at}
-use Rattle.row_book.specs.Sets.{In, has}
+use Rattle.listed.specs.Lists.{In, has}
 use Rattle.row_book.specs.Uses.{lists_in, some_holds}
-use Rattle.row_book.proofs.Lists.{In_has, any_cases, any_from, has_In}
+use Rattle.listed.proofs.Lists.{In_has, any_cases, any_from, has_In}
 use Rattle.clause_prune.specs.Filing.{filed_in}
 use Rattle.clause_prune.specs.Tests.{with_ids}
 use Rattle.clause_prune.proofs.Files.{below_none, server_asked}

@@ -1,9 +1,9 @@
 use Rattle.std.proofs.Common.{◌≡◌, ℕ, subst, sym, arith}
 use Rattle.std.proofs.lemmas.List.{take_all}
 use Rattle.clause_pool.specs.Interned.{clause_at}
-use Rattle.row_book.specs.Sets.{In}
+use Rattle.listed.specs.Lists.{In}
 use Rattle.row_book.specs.Uses.{lists_in}
-use Rattle.row_book.proofs.Lists.{In_map_cases, In_none, item_in}
+use Rattle.listed.proofs.Lists.{In_map_cases, In_none, item_in}
 use Rattle.clause_prune.specs.Filing.{Filed, IsFiled, Takes, filed_in}
 use Rattle.clause_prune.proofs.Files.{filed_always, filed_still, more_items, takes_always, takes_more, takes_none}
 use Rattle.clause_prune.proofs.filing.file_row.Goals as goal

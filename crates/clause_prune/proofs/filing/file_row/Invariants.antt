@@ -1,6 +1,6 @@
 use Rattle.std.proofs.Common.{ℕ, take}
 use Rattle.clause_pool.specs.Interned.{clause_at}
-use Rattle.row_book.specs.Sets.{In}
+use Rattle.listed.specs.Lists.{In}
 use Rattle.clause_prune.specs.Filing.{IsFiled, Takes, filed_in}
 use Rattle.clause_prune.proofs.filing.file_row.Given as goal
 

@@ -1,7 +1,7 @@
 use Rattle.std.proofs.Common.{◌∙◌, sym}
 use Rattle.std.proofs.lemmas.Bool.{both_ways}
-use Rattle.row_book.specs.Sets.{has}
-use Rattle.row_book.proofs.Lists.{In_has}
+use Rattle.listed.specs.Lists.{has}
+use Rattle.listed.proofs.Lists.{In_has}
 use Rattle.clause_prune.proofs.filing.file_under.Goals as goal
 
 pub returns-then-not-holds_ascending-clause-filed : goal.returns-then-not-holds_ascending-clause-filed

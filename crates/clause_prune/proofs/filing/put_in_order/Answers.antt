@@ -1,6 +1,6 @@
 use Rattle.std.proofs.Common.{eqb, refl, sym}
 use Rattle.std.proofs.lemmas.List.Sorted.{IsNonDecreasingBy-from_sort, list_any-IsPermutation}
-use Rattle.row_book.specs.Sets.{has}
+use Rattle.listed.specs.Lists.{has}
 use Rattle.row_book.proofs.Holders.{gathered}
 use Rattle.clause_prune.proofs.filing.put_in_order.Goals as goal
 

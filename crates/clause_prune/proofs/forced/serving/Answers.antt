@@ -2,10 +2,10 @@ use Rattle.std.proofs.Common.{◌≡◌, ◌++◌, ◌∙◌, ◌||◌, [], ℕ,
 use Rattle.std.proofs.lemmas.List.{take_all}
 use Rattle.std.proofs.lemmas.List.Folds.{list_any-append}
 use Rattle.std.proofs.lemmas.List.Sorted.{IsNonDecreasingBy-from_sort, list_any-IsPermutation}
-use Rattle.row_book.specs.Sets.{has}
+use Rattle.listed.specs.Lists.{has}
 use Rattle.row_book.specs.Pruning.{serves}
 use Rattle.row_book.proofs.Holders.{gathered}
-use Rattle.row_book.proofs.Lists.{In_at}
+use Rattle.listed.proofs.Lists.{In_at}
 use Rattle.clause_prune.specs.Tests.{with_ids}
 use Rattle.clause_prune.proofs.Forcing.{serves_not, serves_too}
 use Rattle.clause_prune.proofs.Passing.{read_zero}

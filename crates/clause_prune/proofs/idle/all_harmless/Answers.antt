@@ -1,7 +1,7 @@
 use Rattle.std.proofs.Common.{◌∙◌, arith, sym}
 use Rattle.clause_pool.specs.Interned.{clause_at}
 use Rattle.clause_prune.specs.Tests.{harmless_in}
-use Rattle.row_book.proofs.Leads.{all_fails, all_pass}
+use Rattle.clause_pool.proofs.Leads.{all_fails, all_pass}
 use Rattle.clause_prune.proofs.idle.all_harmless.Goals as goal
 
 pub returns-then-not-is_harmless : goal.returns-then-not-is_harmless

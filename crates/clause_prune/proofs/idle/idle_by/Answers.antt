@@ -1,8 +1,8 @@
 use Rattle.std.proofs.Common.{◌≡◌, ◌<◌, ◌∙◌, ap, arith, get_or, length, subst, sym, Some, ℕ}
 use Rattle.clause_pool.specs.Interned.{clause_at}
 use Rattle.row_book.specs.Pruning.{is_idle}
-use Rattle.row_book.specs.Sets.{In}
-use Rattle.row_book.proofs.Lists.{In_at}
+use Rattle.listed.specs.Lists.{In}
+use Rattle.listed.proofs.Lists.{In_at}
 use Rattle.clause_prune.specs.Tests.{with_ids}
 use Rattle.clause_prune.proofs.Passing.{find_first, find_nothing}
 use Rattle.clause_prune.proofs.idle.idle_by.Goals as goal

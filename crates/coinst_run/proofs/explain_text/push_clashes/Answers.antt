@@ -2,7 +2,7 @@ use Rattle.std.proofs.Common.{◌++◌, get_or, false, ap₂, ◌∙◌}
 use Rattle.explain_core.specs.declared.explanation.Clash.{Clash}
 use Rattle.kernel_text.proofs.Written.{more_text}
 use Rattle.repo_model.proofs.Numbers.{same_stanza}
-use Rattle.row_book.proofs.Lists.{In_at}
+use Rattle.listed.proofs.Lists.{In_at}
 use Rattle.coinst_run.specs.ExplainText.{clash_line, clash_text}
 use Rattle.coinst_run.proofs.explain_text.push_clashes.Goals as goal
 

@@ -1,7 +1,7 @@
 use Rattle.std.proofs.Common.{◌++◌, get_or, false, ap, ◌∙◌}
 use Rattle.explain_core.specs.declared.explanation.Mark.{Mark}
 use Rattle.kernel_text.proofs.Written.{more_text}
-use Rattle.row_book.proofs.Lists.{In_at}
+use Rattle.listed.proofs.Lists.{In_at}
 use Rattle.coinst_run.specs.ExplainText.{goal_line, goal_text}
 use Rattle.coinst_run.proofs.explain_text.push_goals.Goals as goal
 

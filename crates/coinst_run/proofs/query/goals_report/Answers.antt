@@ -1,6 +1,6 @@
 use Rattle.std.proofs.Common.{◌≡◌, Some, subst, arith}
-use Rattle.row_book.specs.Sets.{In, has}
-use Rattle.row_book.proofs.Lists.{In_has}
+use Rattle.listed.specs.Lists.{In, has}
+use Rattle.listed.proofs.Lists.{In_has}
 use Rattle.suite_compare.specs.Answering.{Serves, unknown_goal}
 use Rattle.coinst_run.specs.Index.{index_of}
 use Rattle.coinst_run.proofs.Queries.{unknown_told, unknown_within}

@@ -1,5 +1,5 @@
 use Rattle.std.proofs.Common.{subst, sym}
-use Rattle.row_book.specs.Sets.{In}
+use Rattle.listed.specs.Lists.{In}
 use Rattle.repo_model.proofs.Elements.{at_place}
 use Rattle.coinst_run.proofs.sample.row_length.Goals as goal
 

@@ -1,6 +1,6 @@
 use Rattle.std.proofs.Common.{sym, arith, ◌∙◌}
 use Rattle.std.specs.List.{list_all}
-use Rattle.row_book.proofs.Leads.{all_fails, all_pass}
+use Rattle.clause_pool.proofs.Leads.{all_fails, all_pass}
 use Rattle.conflict_reduce.specs.Tests.{conflict_but, left_of}
 use Rattle.conflict_reduce.proofs.facing.all_conflict_but.Goals as goal
 

@@ -1,5 +1,5 @@
 use Rattle.std.proofs.Common.{sym, arith, ◌∙◌}
-use Rattle.row_book.proofs.Leads.{all_fails, all_pass}
+use Rattle.clause_pool.proofs.Leads.{all_fails, all_pass}
 use Rattle.conflict_reduce.specs.Tests.{conflict_but, left_of}
 use Rattle.conflict_reduce.proofs.facing.conflicts_with_each.Goals as goal
 

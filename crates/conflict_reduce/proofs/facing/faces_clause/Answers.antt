@@ -1,8 +1,7 @@
 use Rattle.std.proofs.Common.{sym, ap, ◌∙◌, arith}
-use Rattle.listed.proofs.Lists.{any_at, none_at}
+use Rattle.listed.proofs.Lists.{any_at, none_at, item_in}
 use Rattle.clause_pool.specs.Interned.{clause_at}
 use Rattle.row_book.specs.Facing.{all_against}
-use Rattle.row_book.proofs.Lists.{item_in}
 use Rattle.conflict_reduce.specs.Tests.{conflict_but, left_of}
 use Rattle.conflict_reduce.proofs.facing.faces_clause.Goals as goal
 

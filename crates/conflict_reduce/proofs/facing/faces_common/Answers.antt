@@ -2,11 +2,10 @@ use Rattle.std.proofs.Common.{◌≡◌, ◌∷◌, ◌||◌, ◌∙◌, [], Lis
 use Rattle.std.specs.List.{list_all, list_any}
 use Rattle.clause_pool.specs.Interned.{clauses_at}
 use Rattle.row_book.specs.Book.{listed_for}
-use Rattle.row_book.specs.Clauses.{Ascending, is_inside}
+use Rattle.listed.specs.Lists.{Ascending, is_inside, has}
 use Rattle.row_book.specs.Facing.{all_against}
-use Rattle.row_book.specs.Sets.{has}
 use Rattle.row_book.proofs.Facing.{faces_filtered}
-use Rattle.row_book.proofs.Lists.{ascending_filter}
+use Rattle.listed.proofs.Orders.{ascending_filter}
 use Rattle.conflict_reduce.specs.Tests.{common_but, conflict_but, left_of}
 use Rattle.conflict_reduce.proofs.Left.{left_own}
 use Rattle.conflict_reduce.proofs.facing.faces_common.Goals as goal

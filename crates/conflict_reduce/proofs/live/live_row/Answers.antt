@@ -1,5 +1,5 @@
 use Rattle.std.proofs.Common.{arith}
-use Rattle.row_book.proofs.Lists.{item_in}
+use Rattle.listed.proofs.Lists.{item_in}
 use Rattle.conflict_reduce.proofs.live.live_row.Goals as goal
 
 pub slice-requires : goal.slice-requires

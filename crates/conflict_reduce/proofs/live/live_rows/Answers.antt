@@ -1,9 +1,9 @@
 use Rattle.std.proofs.Common.{◌≡◌, ◌<◌, ◌∙◌, ap, ap₂, arith, filter, length, map, subst, sym}
 use Rattle.clause_pool.specs.Interned.{clause_at, ids_at}
-use Rattle.row_book.specs.Clauses.{numbers}
+use Rattle.row_book.specs.Numbers.{numbers}
 use Rattle.row_book.specs.Uses.{row_id}
-use Rattle.row_book.proofs.Lists.{In_at}
-use Rattle.row_book.proofs.Order.{lists_more}
+use Rattle.listed.proofs.Lists.{In_at}
+use Rattle.row_book.proofs.Numbers.{lists_more}
 use Rattle.conflict_reduce.specs.Live.{live_ids, live_of, may_face}
 use Rattle.conflict_reduce.proofs.live.live_rows.Goals as goal
 

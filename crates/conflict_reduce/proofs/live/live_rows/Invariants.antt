@@ -1,5 +1,5 @@
 use Rattle.std.proofs.Common.{◌≡◌, map}
-use Rattle.row_book.specs.Clauses.{numbers}
+use Rattle.row_book.specs.Numbers.{numbers}
 use Rattle.conflict_reduce.specs.Live.{live_ids}
 use Rattle.conflict_reduce.proofs.live.live_rows.Given as goal
 

@@ -1,5 +1,5 @@
 use Rattle.std.proofs.Common.{◌≡◌, map}
-use Rattle.row_book.specs.Clauses.{numbers}
+use Rattle.row_book.specs.Numbers.{numbers}
 use Rattle.conflict_reduce.specs.Tests.{left_for}
 use Rattle.conflict_reduce.proofs.thinning.left_lists.Given as goal
 

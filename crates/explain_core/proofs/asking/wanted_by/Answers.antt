@@ -1,5 +1,5 @@
 use Rattle.std.proofs.Common.{sym, subst, ◌∙◌}
-use Rattle.row_book.specs.Clauses.{Ascending}
+use Rattle.listed.specs.Lists.{Ascending}
 use Rattle.suite_compare.proofs.Gathering.{named_ascending}
 use Rattle.explain_core.proofs.asking.wanted_by.Goals as goal
 

@@ -1,7 +1,7 @@
 use Rattle.std.proofs.Common.{◌≡◌, ◌+◌, ◌∙◌, ℕ, List, [], ap, get_or, refl, subst, sym, arith}
 use Rattle.std.specs.Prelude.{length}
 use Rattle.row_book.specs.Book.{repository_of, PairsFit}
-use Rattle.row_book.proofs.Lists.{In_at}
+use Rattle.listed.proofs.Lists.{In_at}
 use Rattle.explain_core.specs.Only.{pair}
 use Rattle.explain_core.specs.Deletion.{kept_behind}
 use Rattle.explain_core.specs.Reasons.{told_pairs, verdict_over}

@@ -1,5 +1,5 @@
 use Rattle.std.proofs.Common.{get_or, false, arith}
-use Rattle.row_book.proofs.Lists.{In_at}
+use Rattle.listed.proofs.Lists.{In_at}
 use Rattle.explain_core.specs.declared.explanation.Mark.{Mark}
 use Rattle.explain_core.proofs.goals.add_marked.Goals as goal
 

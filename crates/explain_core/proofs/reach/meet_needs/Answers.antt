@@ -1,7 +1,7 @@
 use Rattle.std.proofs.Common.{◌<◌, sym, subst}
 use Rattle.clause_pool.specs.Interned.{clauses_at}
-use Rattle.row_book.specs.Sets.{In}
-use Rattle.row_book.proofs.Lists.{In_at}
+use Rattle.listed.specs.Lists.{In}
+use Rattle.listed.proofs.Lists.{In_at}
 use Rattle.explain_core.proofs.reach.meet_needs.Goals as goal
 
 pub row-requires-2 : goal.row-requires-2

@@ -4,7 +4,7 @@ use Rattle.row_book.specs.Book.{repository_of}
 use Rattle.row_book.specs.Needs.{NeedsFit}
 use Rattle.row_book.proofs.BookRepositories.{book_size}
 use Rattle.row_book.proofs.Books.{clauses_row}
-use Rattle.row_book.proofs.Lists.{In_at}
+use Rattle.listed.proofs.Lists.{In_at}
 use Rattle.explain_core.specs.Meeting.{Meets}
 use Rattle.explain_core.proofs.Meetings.{ranged, reached_all, reached_more, reached_start}
 use Rattle.explain_core.proofs.reach.reach_of.Goals as goal

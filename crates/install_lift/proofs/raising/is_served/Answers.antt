@@ -1,5 +1,5 @@
 use Rattle.row_book.specs.Flags.{flag}
-use Rattle.row_book.proofs.Lists.{In_at}
+use Rattle.listed.proofs.Lists.{In_at}
 use Rattle.install_lift.proofs.Lowering.{served_at}
 use Rattle.install_lift.proofs.raising.is_served.Goals as goal
 

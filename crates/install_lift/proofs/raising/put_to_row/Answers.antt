@@ -1,5 +1,5 @@
 use Rattle.row_book.specs.Flags.{flag}
-use Rattle.row_book.proofs.Lists.{item_in}
+use Rattle.listed.proofs.Lists.{item_in}
 use Rattle.install_lift.proofs.Naming.{puts_none, puts_more}
 use Rattle.install_lift.proofs.raising.put_to_row.Goals as goal
 

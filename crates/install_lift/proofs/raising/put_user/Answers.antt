@@ -1,6 +1,6 @@
 use Rattle.std.proofs.Common.{OnOk, sym, subst}
 use Rattle.row_book.specs.Flags.{flag}
-use Rattle.row_book.proofs.Lists.{In_at}
+use Rattle.listed.proofs.Lists.{In_at}
 use Rattle.install_lift.specs.Raising.{PutsUser}
 use Rattle.install_lift.proofs.Lowering.{clauses_are}
 use Rattle.install_lift.proofs.raising.put_user.Goals as goal

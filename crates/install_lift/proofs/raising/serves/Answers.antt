@@ -1,6 +1,6 @@
 use Rattle.std.proofs.Common.{sym, ◌∙◌}
 use Rattle.row_book.specs.Flags.{flag}
-use Rattle.row_book.proofs.Lists.{item_in}
+use Rattle.listed.proofs.Lists.{item_in}
 use Rattle.install_lift.proofs.Lowering.{not_served}
 use Rattle.install_lift.proofs.raising.serves.Goals as goal
 

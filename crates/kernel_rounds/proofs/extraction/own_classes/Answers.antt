@@ -1,6 +1,6 @@
 use Rattle.std.proofs.Common.{◌∷◌, [], ◌++◌, ◌∙◌, ap, sym}
-use Rattle.row_book.proofs.Order.{numbers_more}
-use Rattle.row_book.specs.Clauses.{numbers}
+use Rattle.row_book.proofs.Numbers.{numbers_more}
+use Rattle.row_book.specs.Numbers.{numbers}
 use Rattle.kernel_rounds.proofs.extraction.own_classes.Goals as goal
 
 pub loop-number-init : goal.loop-number-init

@@ -1,5 +1,5 @@
 use Rattle.std.proofs.Common.{◌≡◌}
-use Rattle.row_book.specs.Clauses.{numbers}
+use Rattle.row_book.specs.Numbers.{numbers}
 use Rattle.kernel_rounds.proofs.extraction.own_classes.Given as goal
 
 abbrev pub invariant-loop-number : goal.invariant-loop-number

@@ -1,7 +1,6 @@
 use Rattle.std.proofs.Common.{◌+◌, take}
-use Rattle.listed.proofs.Lists.{in_take}
+use Rattle.listed.proofs.Lists.{in_take, item_in}
 use Rattle.clause_pool.proofs.Interned.{kept_along}
-use Rattle.row_book.proofs.Lists.{item_in}
 use Rattle.kernel_rounds.proofs.MovedSteps.{carried_steps, next_steps}
 use Rattle.kernel_rounds.proofs.moving.carry_steps.Goals as goal
 

@@ -1,8 +1,8 @@
 use Rattle.std.proofs.Common.{◌∙◌, ap, map, subst, sym}
 use Rattle.clause_pool.specs.Interned.{row_at}
 use Rattle.clause_pool.specs.Compacting.{RowsOf}
-use Rattle.row_book.specs.Sets.{In}
-use Rattle.row_book.proofs.Lists.{In_append_left, In_append_right}
+use Rattle.listed.specs.Lists.{In}
+use Rattle.listed.proofs.Lists.{In_append_left, In_append_right}
 use Rattle.kernel_rounds.specs.Moving.{live_rows, trail_rows}
 use Rattle.kernel_rounds.proofs.MovedSteps.{live_same, live_within, only_live}
 use Rattle.kernel_rounds.proofs.moving.keep_live.Goals as goal

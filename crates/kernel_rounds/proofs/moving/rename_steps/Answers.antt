@@ -1,6 +1,6 @@
 use Rattle.std.proofs.Common.{subst, take, ◌+◌}
 use Rattle.std.proofs.lemmas.List.{take_all}
-use Rattle.row_book.proofs.Lists.{item_in}
+use Rattle.listed.proofs.Lists.{item_in}
 use Rattle.kernel_rounds.specs.Moving.{AreSameSteps}
 use Rattle.kernel_rounds.proofs.MovedSteps.{item_rows, next_steps, steps_more}
 use Rattle.kernel_rounds.proofs.moving.rename_steps.Goals as goal

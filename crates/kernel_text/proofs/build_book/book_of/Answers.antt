@@ -3,8 +3,8 @@ use Rattle.clause_pool.proofs.Interned.{kept_along}
 use Rattle.clause_pool.specs.Interned.{clauses_at}
 use Rattle.clause_pool.specs.Compacting.{RowsOf}
 use Rattle.row_book.specs.Book.{AddsOnly, NumbersFit, PairsFit}
-use Rattle.row_book.specs.Sets.{In}
-use Rattle.row_book.proofs.Lists.{In_map}
+use Rattle.listed.specs.Lists.{In}
+use Rattle.listed.proofs.Lists.{In_map}
 use Rattle.kernel_text.specs.Booking.{AreRows, GainsRows, HasIdsByClass}
 use Rattle.kernel_text.specs.Reader.{entry_of}
 use Rattle.kernel_text.specs.Reading.{number_limit}

@@ -1,8 +1,8 @@
 use Rattle.std.proofs.Common.{◌≡◌, ◌<◌, length, map, take, sym, subst, arith}
 use Rattle.clause_pool.specs.Interned.{IsIdOf}
 use Rattle.clause_pool.proofs.Interned.{kept_along}
-use Rattle.row_book.specs.Clauses.{Ascending}
-use Rattle.row_book.proofs.Lists.{item_in}
+use Rattle.listed.specs.Lists.{Ascending}
+use Rattle.listed.proofs.Lists.{item_in}
 use Rattle.kernel_text.specs.Booking.{HasIdsByClass}
 use Rattle.kernel_text.specs.Reader.{entry_of}
 use Rattle.kernel_text.proofs.Gained.{clause_gained}

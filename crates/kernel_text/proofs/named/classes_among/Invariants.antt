@@ -1,6 +1,6 @@
 use Rattle.std.proofs.Common.{◌≡◌, ℕ, take}
 use Rattle.std.specs.List.{list_any}
-use Rattle.row_book.specs.Sets.{has}
+use Rattle.listed.specs.Lists.{has}
 use Rattle.virtual_provides.specs.Numbers.{passes_at}
 use Rattle.kernel_text.specs.Images.{is_named_in}
 use Rattle.kernel_text.proofs.named.classes_among.Given as goal

@@ -1,5 +1,5 @@
 use Rattle.std.proofs.Common.{arith}
-use Rattle.row_book.specs.Sets.{has}
+use Rattle.listed.specs.Lists.{has}
 use Rattle.kernel_text.specs.Images.{is_named_in}
 use Rattle.kernel_text.proofs.GoalImages.{any_asked}
 use Rattle.kernel_text.proofs.named.classes_of_all.Goals as goal

@@ -1,5 +1,5 @@
 use Rattle.std.proofs.Common.{sym, subst}
-use Rattle.row_book.specs.Sets.{In}
+use Rattle.listed.specs.Lists.{In}
 use Rattle.repo_model.proofs.Elements.{at_place}
 use Rattle.kernel_text.proofs.push_lines.push_needs_lines.Goals as goal
 

@@ -1,5 +1,5 @@
 use Rattle.std.proofs.Common.{◌<◌, sym, subst, ◌∙◌}
-use Rattle.row_book.specs.Sets.{In}
+use Rattle.listed.specs.Lists.{In}
 use Rattle.kernel_text.proofs.Bookable.{bookable, orderly}
 use Rattle.kernel_text.proofs.stored.read_kernel.Goals as goal
 

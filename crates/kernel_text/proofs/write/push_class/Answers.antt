@@ -2,7 +2,7 @@ use Rattle.std.proofs.Common.{sym, subst, ap, ◌∙◌, arith}
 use Rattle.std.proofs.lemmas.Result.{on_ok_weaker}
 use Rattle.clause_pool.specs.Interned.{clauses_at, row_at}
 use Rattle.row_book.specs.Book.{repository_of}
-use Rattle.row_book.specs.Sets.{In}
+use Rattle.listed.specs.Lists.{In}
 use Rattle.row_book.proofs.Books.{clauses_row}
 use Rattle.repo_model.proofs.Elements.{at_place}
 use Rattle.kernel_text.proofs.Written.{block_parts, list_is}

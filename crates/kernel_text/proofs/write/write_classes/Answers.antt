@@ -2,7 +2,7 @@ use Rattle.std.proofs.Common.{ℕ, List, ◌++◌, length, subst, sym, ap, ap₂
 use Rattle.std.proofs.lemmas.List.{length-map}
 use Rattle.clause_pool.specs.Interned.{row_at}
 use Rattle.row_book.specs.Book.{repository_of}
-use Rattle.row_book.specs.Sets.{In}
+use Rattle.listed.specs.Lists.{In}
 use Rattle.kernel_text.specs.KernelLines.{EndLine, line_text}
 use Rattle.kernel_text.specs.KernelText.{kernel_text}
 use Rattle.kernel_text.specs.Members.{kernel_members}

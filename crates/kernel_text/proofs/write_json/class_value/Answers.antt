@@ -1,5 +1,5 @@
 use Rattle.std.proofs.Common.{sym, subst, ◌∙◌, arith}
-use Rattle.row_book.specs.Sets.{In}
+use Rattle.listed.specs.Lists.{In}
 use Rattle.repo_model.proofs.Elements.{at_place}
 use Rattle.kernel_text.proofs.Written.{list_is}
 use Rattle.kernel_text.proofs.write_json.class_value.Goals as goal

@@ -3,7 +3,7 @@ use Rattle.std.proofs.lemmas.List.{take_all}
 use Rattle.repo_model.proofs.Elements.{at_place}
 use Rattle.repo_model.proofs.Numbers.{same_stanza}
 use Rattle.repo_model.specs.Stanzas.{stanza_at}
-use Rattle.row_book.proofs.Lists.{item_in}
+use Rattle.listed.proofs.Lists.{item_in}
 use Rattle.kernel_text.specs.JsonData.{list_data, package_data}
 use Rattle.kernel_text.proofs.JsonTexts.{array_is, ascii_name, ascii_version, one_value}
 use Rattle.kernel_text.proofs.write_json.members_value.Goals as goal

@@ -1,6 +1,6 @@
 use Rattle.std.proofs.Common.{◌∙◌, List, ℕ, subst, sym}
 use Rattle.clause_pool.specs.Interned.{Gains, IsIdOf}
-use Rattle.row_book.specs.Clauses.{Ascending}
+use Rattle.listed.specs.Lists.{Ascending}
 use Rattle.repo_model.specs.Known.{entry_of}
 use Rattle.repo_model.specs.Repository.{clause_of}
 use Rattle.repo_model.proofs.Chosen.{clause_ascending}

@@ -1,5 +1,5 @@
 use Rattle.std.proofs.Common.{◌∙◌, ap, map, refl, sym, subst}
-use Rattle.row_book.specs.Clauses.{in_row_order}
+use Rattle.clause_pool.specs.Clauses.{in_row_order}
 use Rattle.repo_model.specs.NameOrder.{Rising}
 use Rattle.repo_model.proofs.NameSteps.{sorted_rising, sorted_same}
 use Rattle.repo_model.proofs.names.distinct_names.Goals as goal

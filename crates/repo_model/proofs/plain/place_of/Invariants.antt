@@ -1,5 +1,5 @@
 use Rattle.std.proofs.Common.{◌≡◌, ℕ, ◌<◌, [], slice_index_or, true}
-use Rattle.row_book.specs.Clauses.{comes_before}
+use Rattle.clause_pool.specs.Clauses.{comes_before}
 use Rattle.repo_model.proofs.plain.place_of.Given as goal
 
 abbrev pub invariant-loop-place : goal.invariant-loop-place

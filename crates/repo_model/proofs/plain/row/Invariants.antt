@@ -1,6 +1,6 @@
 use Rattle.std.proofs.Common.{◌≡◌, ◌≤◌, length, drop, map}
 use Rattle.repo_model.specs.Repository.{clause_of}
-use Rattle.row_book.specs.Clauses.{in_row_order}
+use Rattle.clause_pool.specs.Clauses.{in_row_order}
 use Rattle.repo_model.proofs.plain.row.Given as goal
 
 abbrev pub invariant-loop-left : goal.invariant-loop-left

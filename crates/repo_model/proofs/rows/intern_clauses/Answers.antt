@@ -1,10 +1,10 @@
 use Rattle.std.proofs.Common.{◌≡◌, ◌∙◌, ap, drop, length, refl, subst, sym, map, ◌-◌, arith}
 use Rattle.std.proofs.lemmas.List.{drop_all, get_or_default}
 use Rattle.clause_pool.proofs.Lists.{In_none}
-use Rattle.row_book.specs.Sets.{In}
+use Rattle.listed.specs.Lists.{In}
 use Rattle.clause_pool.proofs.Interned.{kept_along, kept_of_pool, kept_same}
 use Rattle.clause_pool.specs.Interned.{clause_at, clauses_at}
-use Rattle.row_book.specs.Clauses.{in_row_order, insert_clause}
+use Rattle.clause_pool.specs.Clauses.{in_row_order, insert_clause}
 use Rattle.repo_model.specs.Repository.{clause_of}
 use Rattle.repo_model.proofs.Interning.{ids_back, ids_more}
 use Rattle.repo_model.proofs.KnownIds.{element_there}

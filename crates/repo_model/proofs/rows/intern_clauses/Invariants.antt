@@ -1,5 +1,5 @@
 use Rattle.std.proofs.Common.{◌≤◌, length, drop, map}
-use Rattle.row_book.specs.Clauses.{in_row_order}
+use Rattle.clause_pool.specs.Clauses.{in_row_order}
 use Rattle.repo_model.specs.Interning.{HasIds}
 use Rattle.repo_model.specs.Known.{AreKnown}
 use Rattle.repo_model.specs.Repository.{clause_of}

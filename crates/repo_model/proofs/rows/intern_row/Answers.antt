@@ -1,7 +1,8 @@
 use Rattle.std.proofs.Common.{◌∙◌, ap, subst, sym, map}
 use Rattle.clause_pool.specs.Interned.{clauses_at}
-use Rattle.row_book.specs.Clauses.{in_row_order, InOrder}
-use Rattle.row_book.proofs.Order.{ordered_order}
+use Rattle.clause_pool.specs.Clauses.{in_row_order}
+use Rattle.clause_pool.specs.Lists.{InOrder}
+use Rattle.clause_pool.proofs.Order.{ordered_order}
 use Rattle.repo_model.specs.Interning.{HasIds}
 use Rattle.repo_model.specs.Known.{AreKnown}
 use Rattle.repo_model.specs.Repository.{clause_of}

@@ -1,6 +1,6 @@
 use Rattle.std.proofs.Common.{◌∷◌, [], subst, map, arith}
 use Rattle.clause_pool.proofs.Interned.{kept_along}
-use Rattle.row_book.specs.Clauses.{in_row_order}
+use Rattle.clause_pool.specs.Clauses.{in_row_order}
 use Rattle.repo_model.specs.Interning.{HasRows}
 use Rattle.repo_model.specs.Repository.{clause_of, row_of}
 use Rattle.repo_model.proofs.Interning.{rows_next}

@@ -1,6 +1,6 @@
 use Rattle.std.proofs.Common.{◌∙◌, ap}
-use Rattle.row_book.specs.Clauses.{comes_before}
-use Rattle.row_book.proofs.Lists.{item_in}
+use Rattle.clause_pool.specs.Clauses.{comes_before}
+use Rattle.listed.proofs.Lists.{item_in}
 use Rattle.repo_model.proofs.Placed.{clause_there}
 use Rattle.repo_model.proofs.rows.is_before_place.Goals as goal
 

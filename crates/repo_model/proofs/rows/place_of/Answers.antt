@@ -1,8 +1,8 @@
 use Rattle.std.proofs.Common.{◌≡◌, ◌∙◌, true, [], ap, get_or, sym, arith}
 use borrow.Author.Count.{below_more}
 use Rattle.clause_pool.specs.Interned.{clauses_at}
-use Rattle.row_book.specs.Clauses.{comes_before}
-use Rattle.row_book.proofs.Lists.{item_in}
+use Rattle.clause_pool.specs.Clauses.{comes_before}
+use Rattle.listed.proofs.Lists.{item_in}
 use Rattle.repo_model.proofs.Placed.{clause_there}
 use Rattle.repo_model.proofs.rows.place_of.Goals as goal
 

@@ -1,6 +1,6 @@
 use Rattle.std.proofs.Common.{◌≡◌, ℕ, ◌<◌, [], slice_index_or, true}
 use Rattle.clause_pool.specs.Interned.{clauses_at}
-use Rattle.row_book.specs.Clauses.{comes_before}
+use Rattle.clause_pool.specs.Clauses.{comes_before}
 use Rattle.repo_model.proofs.rows.place_of.Given as goal
 
 abbrev pub invariant-loop-place : goal.invariant-loop-place

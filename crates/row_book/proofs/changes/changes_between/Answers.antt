@@ -1,6 +1,6 @@
 use Rattle.std.proofs.Common.{◌≡◌, ◌∙◌, arith, eqb-true, subst, sym}
-use Rattle.row_book.specs.Sets.{In}
-use Rattle.row_book.proofs.Lists.{item_in}
+use Rattle.listed.specs.Lists.{In}
+use Rattle.listed.proofs.Lists.{item_in}
 use Rattle.row_book.proofs.Differences.{difference_more, difference_rest, difference_same}
 use Rattle.row_book.proofs.changes.changes_between.Goals as goal
 

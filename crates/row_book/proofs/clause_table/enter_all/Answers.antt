@@ -1,7 +1,7 @@
 use Rattle.std.proofs.Common.{◌<◌, subst, sym}
 use Rattle.row_book.specs.Uses.{lists_in}
 use Rattle.row_book.proofs.Holders.{there_more}
-use Rattle.row_book.proofs.Lists.{item_in}
+use Rattle.listed.proofs.Lists.{item_in}
 use Rattle.row_book.proofs.clause_table.enter_all.Goals as goal
 
 pub enter-requires-clause-id : goal.enter-requires-clause-id

@@ -1,5 +1,5 @@
 use Rattle.std.proofs.Common.{◌≡◌, false, take}
-use Rattle.row_book.specs.Sets.{has}
+use Rattle.listed.specs.Lists.{has}
 use Rattle.row_book.proofs.clause_table.is_one_of.Given as goal
 
 abbrev pub invariant-loop-place : goal.invariant-loop-place

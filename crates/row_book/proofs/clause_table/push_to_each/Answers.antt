@@ -2,7 +2,7 @@ use Rattle.std.proofs.Common.{◌<◌, get_or, subst, sym}
 use Rattle.std.proofs.lemmas.List.{get_or_default}
 use Rattle.row_book.specs.Uses.{lists_in}
 use Rattle.row_book.proofs.Holders.{gains_more, there_more}
-use Rattle.row_book.proofs.Lists.{In_at}
+use Rattle.listed.proofs.Lists.{In_at}
 use Rattle.row_book.proofs.clause_table.push_to_each.Goals as goal
 
 pub push_to-requires : goal.push_to-requires

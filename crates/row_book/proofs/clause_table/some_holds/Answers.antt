@@ -1,8 +1,8 @@
 use Rattle.std.proofs.Common.{◌∙◌, ◌||◌, ap, ap₂, sym}
 use Rattle.std.proofs.lemmas.List.Folds.{list_any_more}
 use Rattle.clause_pool.specs.Interned.{clause_at}
-use Rattle.row_book.specs.Sets.{In, has}
-use Rattle.row_book.proofs.Lists.{any_from, item_in}
+use Rattle.listed.specs.Lists.{In, has}
+use Rattle.listed.proofs.Lists.{any_from, item_in}
 use Rattle.row_book.proofs.clause_table.some_holds.Goals as goal
 
 pub clause_holds-requires : goal.clause_holds-requires

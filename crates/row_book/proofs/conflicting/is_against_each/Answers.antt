@@ -1,6 +1,6 @@
 use Rattle.std.proofs.Common.{sym, arith}
 use Rattle.row_book.specs.Facing.{against_in}
-use Rattle.row_book.proofs.Leads.{all_pass}
+use Rattle.clause_pool.proofs.Leads.{all_pass}
 use Rattle.row_book.proofs.conflicting.is_against_each.Goals as goal
 
 pub returns : goal.returns

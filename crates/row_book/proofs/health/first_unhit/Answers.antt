@@ -2,7 +2,7 @@ use Rattle.std.proofs.Common.{◌∙◌, ap, sym}
 use Rattle.std.specs.List.{list_any}
 use Rattle.row_book.specs.Flags.{flag}
 use Rattle.row_book.proofs.Faults.{hits_more, unhit_first}
-use Rattle.row_book.proofs.Lists.{In_at}
+use Rattle.listed.proofs.Lists.{In_at}
 use Rattle.row_book.proofs.health.first_unhit.Goals as goal
 
 pub slice-requires : goal.slice-requires

@@ -1,5 +1,5 @@
 use Rattle.std.proofs.Common.{arith}
-use Rattle.row_book.proofs.Lists.{In_at}
+use Rattle.listed.proofs.Lists.{In_at}
 use Rattle.row_book.proofs.Pairs.{lists_step}
 use Rattle.row_book.proofs.pairing.enter_pairs.Goals as goal
 

@@ -1,6 +1,6 @@
 use Rattle.std.proofs.Common.{◌≡◌, ◌↔◌, IsTrue, length, subst, []}
 use Rattle.std.proofs.lemmas.Result.{IfOk-weaker}
-use Rattle.row_book.specs.Sets.{has}
+use Rattle.listed.specs.Lists.{has}
 use Rattle.row_book.specs.Repository.{Coinst}
 use Rattle.row_book.specs.Flags.{Extends}
 use Rattle.row_book.proofs.Flags.{extends_all}

@@ -1,6 +1,6 @@
 use Rattle.std.proofs.Common.{◌∙◌, sym}
 use Rattle.row_book.proofs.Distinct.{distinct_ascends, distinct_from, distinct_has}
-use Rattle.row_book.proofs.Lists.{In_has, has_In}
+use Rattle.listed.proofs.Lists.{In_has, has_In}
 use Rattle.row_book.proofs.uses.distinct_numbers_in.Goals as goal
 
 pub returns-clause-held : goal.returns-clause-held

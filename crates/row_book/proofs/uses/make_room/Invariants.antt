@@ -1,5 +1,5 @@
 use Rattle.std.proofs.Common.{◌≡◌, ◌<◌, ℕ, true, take}
-use Rattle.row_book.specs.Sets.{has}
+use Rattle.listed.specs.Lists.{has}
 use Rattle.row_book.specs.Uses.{lists_in, room_in}
 use Rattle.row_book.proofs.uses.make_room.Given as goal
 

@@ -1,4 +1,4 @@
-use Rattle.row_book.proofs.Lists.{item_in}
+use Rattle.listed.proofs.Lists.{item_in}
 use Rattle.row_book.proofs.Tables.{holds_more}
 use Rattle.row_book.proofs.uses.numbers_in.Goals as goal
 

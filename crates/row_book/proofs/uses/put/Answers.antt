@@ -1,6 +1,6 @@
 use Rattle.std.proofs.Common.{arith, inl, inr, Err}
 use Rattle.std.proofs.lemmas.Bool.{both_ways}
-use Rattle.row_book.specs.Sets.{has}
+use Rattle.listed.specs.Lists.{has}
 use Rattle.row_book.specs.Uses.{IsPlaceOf}
 use Rattle.row_book.proofs.Inserts.{found_is_there, missed, inserted_list}
 use Rattle.row_book.proofs.uses.put.Goals as goal

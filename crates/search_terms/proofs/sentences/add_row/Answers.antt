@@ -1,4 +1,4 @@
-use Rattle.row_book.proofs.Lists.{item_in}
+use Rattle.listed.proofs.Lists.{item_in}
 use Rattle.search_terms.proofs.sentences.add_row.Goals as goal
 
 pub slice-requires : goal.slice-requires

@@ -1,4 +1,4 @@
-use Rattle.row_book.proofs.Lists.{item_in}
+use Rattle.listed.proofs.Lists.{item_in}
 use Rattle.search_terms.proofs.Building.{rows_more}
 use Rattle.search_terms.proofs.sentences.clause_sentences.Goals as goal
 

@@ -1,7 +1,7 @@
 use Rattle.std.proofs.Common.{◌<◌, ◌∙◌, subst, sym, get_or}
 use Rattle.std.proofs.lemmas.Bool.{false≢true}
-use Rattle.row_book.specs.Sets.{In}
-use Rattle.row_book.proofs.Lists.{In_at}
+use Rattle.listed.specs.Lists.{In}
+use Rattle.listed.proofs.Lists.{In_at}
 use Rattle.suite_compare.proofs.Chosen.{peace_none, peace_more, peace_all}
 use Rattle.suite_compare.proofs.choose.are_at_peace.Goals as goal
 

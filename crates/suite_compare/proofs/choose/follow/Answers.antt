@@ -1,7 +1,7 @@
 use Rattle.std.proofs.Common.{◌≡◌, ℕ, List, subst, ◌≢◌, ◌<◌, ◌≤◌, ◌∙◌, ap, arith, get_or, length, sym}
 use Rattle.clause_pool.specs.Interned.{clauses_at, ids_at}
 use Rattle.row_book.specs.Book.{repository_of}
-use Rattle.row_book.specs.Sets.{In}
+use Rattle.listed.specs.Lists.{In}
 use Rattle.suite_compare.specs.Choices.{AreBelow}
 use Rattle.suite_compare.proofs.Chosen.{followed_none, followed_more, followed_all, followed_within, row_numbers, row_within}
 use Rattle.suite_compare.proofs.choose.follow.Goals as goal

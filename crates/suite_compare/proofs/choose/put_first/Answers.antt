@@ -1,5 +1,5 @@
 use Rattle.std.proofs.Common.{◌∙◌, sym}
-use Rattle.row_book.proofs.Lists.{In_at}
+use Rattle.listed.proofs.Lists.{In_at}
 use Rattle.suite_compare.proofs.Chosen.{some_first}
 use Rattle.suite_compare.proofs.choose.put_first.Goals as goal
 

@@ -1,7 +1,7 @@
 use Rattle.std.proofs.Common.{◌<◌, ◌∙◌, ◌∷◌, [], refl, ap, sym, subst}
 use Rattle.std.proofs.lemmas.Bool.{false≢true}
 use Rattle.clause_pool.specs.Interned.{clause_at}
-use Rattle.row_book.proofs.Lists.{item_in, In_map}
+use Rattle.listed.proofs.Lists.{item_in, In_map}
 use Rattle.suite_compare.specs.Choices.{ArePut}
 use Rattle.suite_compare.proofs.Chosen.{firsts_none, firsts_more, firsts_all, In_map_part, put_with, first_within}
 use Rattle.suite_compare.proofs.choose.put_firsts.Goals as goal

@@ -1,6 +1,6 @@
 use Rattle.std.proofs.Common.{◌∙◌, ◌<◌, [], ap, arith, length, slice_index_or, subst, sym}
-use Rattle.row_book.specs.Sets.{In}
-use Rattle.row_book.proofs.Lists.{In_at}
+use Rattle.listed.specs.Lists.{In}
+use Rattle.listed.proofs.Lists.{In_at}
 use Rattle.suite_compare.proofs.Compared.{table_none, table_more, table_all}
 use Rattle.suite_compare.proofs.comparison.all_partners.Goals as goal
 

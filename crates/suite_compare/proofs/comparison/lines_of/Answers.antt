@@ -1,7 +1,7 @@
 use Rattle.std.proofs.Common.{◌≡◌, ◌∙◌, ◌<◌, ◌++◌, ap, arith, filter, length, slice_index_or, subst, sym}
 use Rattle.std.specs.List.{flat_map}
-use Rattle.row_book.specs.Clauses.{numbers}
-use Rattle.row_book.specs.Sets.{In}
+use Rattle.row_book.specs.Numbers.{numbers}
+use Rattle.listed.specs.Lists.{In}
 use Rattle.clause_solver.specs.declared.outcomes.Verdict.TheVariants.{Spent}
 use Rattle.suite_compare.specs.Comparing.{IsSide, IsTable}
 use Rattle.suite_compare.specs.Report.{is_yes}

@@ -1,7 +1,7 @@
 use Rattle.std.proofs.Common.{◌<◌, ap, get_or, subst, sym}
 use Rattle.std.specs.List.{flat_map}
-use Rattle.row_book.specs.Sets.{In}
-use Rattle.row_book.proofs.Lists.{In_at}
+use Rattle.listed.specs.Lists.{In}
+use Rattle.listed.proofs.Lists.{In_at}
 use Rattle.clause_solver.specs.declared.outcomes.Verdict.TheVariants.{Yes}
 use Rattle.suite_compare.specs.Bad.{bad}
 use Rattle.suite_compare.specs.Partners.{beside, beside_all, open_names, told_names}

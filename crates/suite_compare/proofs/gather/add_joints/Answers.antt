@@ -1,5 +1,5 @@
 use Rattle.std.proofs.Common.{◌∙◌, ◌<◌, ap, ap₂, length, slice_index_or, subst, sym}
-use Rattle.row_book.proofs.Lists.{In_at}
+use Rattle.listed.proofs.Lists.{In_at}
 use Rattle.suite_compare.specs.Kinds.{together_in}
 use Rattle.suite_compare.specs.Partners.{beside, open_names, told_names}
 use Rattle.suite_compare.specs.Report.{finding}

@@ -1,5 +1,5 @@
 use Rattle.std.proofs.Common.{◌<◌, arith, subst, sym}
-use Rattle.row_book.specs.Sets.{In}
+use Rattle.listed.specs.Lists.{In}
 use Rattle.suite_compare.proofs.Compared.{joint_within}
 use Rattle.suite_compare.proofs.gather.joint_table.Goals as goal
 

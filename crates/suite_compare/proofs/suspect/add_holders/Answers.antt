@@ -1,4 +1,4 @@
-use Rattle.row_book.proofs.Lists.{In_at}
+use Rattle.listed.proofs.Lists.{In_at}
 use Rattle.suite_compare.proofs.Suspected.{marked_none, marked_more, marked_all}
 use Rattle.suite_compare.proofs.suspect.add_holders.Goals as goal
 

@@ -1,6 +1,6 @@
 use Rattle.std.proofs.Common.{◌≡◌, ◌<◌, arith, subst}
 use Rattle.std.specs.Prelude.{◌↔◌}
-use Rattle.row_book.specs.Sets.{In}
+use Rattle.listed.specs.Lists.{In}
 use Rattle.suite_compare.proofs.Suspected.{places_none, places_more}
 use Rattle.suite_compare.proofs.suspect.all_places.Goals as goal
 

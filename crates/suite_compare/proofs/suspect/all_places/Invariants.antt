@@ -1,6 +1,6 @@
 use Rattle.std.proofs.Common.{ℕ, ◌<◌}
 use Rattle.std.specs.Prelude.{◌↔◌}
-use Rattle.row_book.specs.Sets.{In}
+use Rattle.listed.specs.Lists.{In}
 use Rattle.suite_compare.proofs.suspect.all_places.Given as goal
 
 abbrev pub invariant-loop-place : goal.invariant-loop-place

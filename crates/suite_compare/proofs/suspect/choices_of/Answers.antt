@@ -1,6 +1,6 @@
 use Rattle.std.proofs.Common.{◌∙◌, ap, arith, length, subst, sym}
 use Rattle.row_book.specs.Book.{repository_of}
-use Rattle.row_book.proofs.Lists.{item_in}
+use Rattle.listed.proofs.Lists.{item_in}
 use Rattle.search_terms.proofs.Ranges.{rows_long}
 use Rattle.suite_compare.specs.Choices.{AreBelow}
 use Rattle.suite_compare.proofs.Suspected.{chosen_none, chosen_more, chosen_all}

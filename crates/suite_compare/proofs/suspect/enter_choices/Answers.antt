@@ -1,5 +1,5 @@
 use Rattle.std.proofs.Common.{arith, length, subst, sym}
-use Rattle.row_book.proofs.Lists.{item_in}
+use Rattle.listed.proofs.Lists.{item_in}
 use Rattle.suite_compare.specs.Choices.{AreBelow}
 use Rattle.suite_compare.proofs.Suspected.{holders_none, holders_more, holders_all}
 use Rattle.suite_compare.proofs.suspect.enter_choices.Goals as goal

@@ -1,5 +1,5 @@
 use Rattle.std.proofs.Common.{◌<◌, get_or, subst, sym}
-use Rattle.row_book.proofs.Lists.{In_at}
+use Rattle.listed.proofs.Lists.{In_at}
 use Rattle.suite_compare.proofs.Suspected.{held_none, held_more, held_all}
 use Rattle.suite_compare.proofs.suspect.enter_each.Goals as goal
 

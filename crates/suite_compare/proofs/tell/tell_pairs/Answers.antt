@@ -1,7 +1,7 @@
 use Rattle.std.proofs.Common.{◌∙◌, ◌+◌, ◌++◌, ap, filter, ltb, slice_index_or, sym}
 use Rattle.std.specs.List.{flat_map}
-use Rattle.row_book.proofs.Order.{numbers_more}
-use Rattle.row_book.specs.Clauses.{numbers}
+use Rattle.row_book.proofs.Numbers.{numbers_more}
+use Rattle.row_book.specs.Numbers.{numbers}
 use Rattle.clause_solver.specs.declared.outcomes.Verdict.TheVariants.{Spent}
 use Rattle.suite_compare.specs.Report.{is_yes}
 use Rattle.suite_compare.specs.Telling.{partners_at, told_after, told_pair}

@@ -1,6 +1,6 @@
 use Rattle.std.proofs.Common.{◌≡◌, ◌++◌, filter, slice_index_or}
 use Rattle.std.specs.List.{flat_map}
-use Rattle.row_book.specs.Clauses.{numbers}
+use Rattle.row_book.specs.Numbers.{numbers}
 use Rattle.clause_solver.specs.declared.outcomes.Verdict.TheVariants.{Spent}
 use Rattle.suite_compare.specs.Report.{is_yes}
 use Rattle.suite_compare.specs.Telling.{told_after}

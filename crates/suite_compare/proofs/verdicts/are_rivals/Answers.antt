@@ -1,5 +1,5 @@
 use Rattle.std.proofs.Common.{arith}
-use Rattle.row_book.proofs.Lists.{In_at}
+use Rattle.listed.proofs.Lists.{In_at}
 use Rattle.suite_compare.proofs.verdicts.are_rivals.Goals as goal
 
 pub conflicts_with-requires-clause-a : goal.conflicts_with-requires-clause-a

@@ -1,5 +1,5 @@
 use Rattle.std.proofs.Common.{◌<◌, ◌∙◌, ◌∷◌, [], ap, get_or, subst, sym}
-use Rattle.row_book.proofs.Lists.{In_at}
+use Rattle.listed.proofs.Lists.{In_at}
 use Rattle.suite_compare.specs.Report.{is_yes}
 use Rattle.suite_compare.specs.Bad.{bad, bad_entry}
 use Rattle.suite_compare.proofs.Judged.{entry_bad, entry_off, entry_yes, flat_all, flat_more, flat_step, single_yes, singles_long}

@@ -1,5 +1,5 @@
 use Rattle.std.proofs.Common.{◌∙◌, ◌<◌, ap, subst, sym}
-use Rattle.row_book.specs.Sets.{In}
+use Rattle.listed.specs.Lists.{In}
 use Rattle.std.specs.List.{flat_map}
 use Rattle.suite_compare.specs.Bad.{bad_entry}
 use Rattle.suite_compare.proofs.Judged.{bad_from, bad_none, single_yes, singles_long}

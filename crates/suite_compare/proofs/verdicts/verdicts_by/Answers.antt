@@ -1,4 +1,4 @@
-use Rattle.row_book.proofs.Lists.{In_at}
+use Rattle.listed.proofs.Lists.{In_at}
 use Rattle.suite_compare.proofs.verdicts.verdicts_by.Goals as goal
 
 pub verdict_at-requires : goal.verdict_at-requires

@@ -1,8 +1,8 @@
 use Rattle.std.proofs.Common.{◌+◌, ◌-◌, ◌∙◌, ◌∷◌, List, ℕ, ap, arith, drop, subst, sym}
 use Rattle.clause_pool.specs.Interned.{clauses_at}
-use Rattle.row_book.specs.Clauses.{apart_from}
-use Rattle.row_book.specs.Sets.{has}
-use Rattle.row_book.proofs.Lists.{item_in}
+use Rattle.clause_pool.specs.Clauses.{apart_from}
+use Rattle.listed.specs.Lists.{has}
+use Rattle.listed.proofs.Lists.{item_in}
 use Rattle.clause_families.specs.Branches.{BuiltOf}
 use Rattle.clause_families.proofs.Built.{without_less, without_more}
 use Rattle.clause_families.proofs.Families.{At, at_clause}

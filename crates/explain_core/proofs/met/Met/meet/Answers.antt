@@ -1,5 +1,5 @@
 use Rattle.std.proofs.Common.{◌≡◌, ◌<◌, ◌∷◌, ◌++◌, [], length, sym, ap, ◌∙◌, subst}
-use Rattle.row_book.specs.Sets.{In}
+use Rattle.listed.specs.Lists.{In}
 use Rattle.explain_core.proofs.Meetings.{meets_again, meets_new, met_there}
 use Rattle.explain_core.proofs.met.Met.meet.Goals as goal
 

@@ -1,5 +1,5 @@
 use Rattle.std.proofs.Common.{◌<◌, ◌∙◌, get_or, sym, subst}
-use Rattle.row_book.proofs.Lists.{In_at}
+use Rattle.listed.proofs.Lists.{In_at}
 use Rattle.explain_core.proofs.Meetings.{meets_step}
 use Rattle.explain_core.proofs.met.Met.meet_all.Goals as goal
 

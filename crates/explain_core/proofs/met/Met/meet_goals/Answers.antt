@@ -1,6 +1,6 @@
 use Rattle.std.proofs.Common.{◌<◌, ◌∙◌, [], get_or, length, sym, subst}
-use Rattle.row_book.specs.Sets.{In}
-use Rattle.row_book.proofs.Lists.{In_at}
+use Rattle.listed.specs.Lists.{In}
+use Rattle.listed.proofs.Lists.{In_at}
 use Rattle.explain_core.specs.Meeting.{Meets}
 use Rattle.explain_core.proofs.Meetings.{meets_list}
 use Rattle.explain_core.proofs.met.Met.meet_goals.Goals as goal

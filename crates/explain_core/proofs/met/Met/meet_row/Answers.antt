@@ -1,7 +1,7 @@
 use Rattle.std.proofs.Common.{◌<◌, ◌∙◌, sym, subst}
 use Rattle.clause_pool.specs.Interned.{clause_at}
-use Rattle.row_book.specs.Sets.{In}
-use Rattle.row_book.proofs.Lists.{In_map, item_in}
+use Rattle.listed.specs.Lists.{In}
+use Rattle.listed.proofs.Lists.{In_map, item_in}
 use Rattle.explain_core.specs.Meeting.{Meets}
 use Rattle.explain_core.proofs.Meetings.{meets_row}
 use Rattle.explain_core.proofs.met.Met.meet_row.Goals as goal

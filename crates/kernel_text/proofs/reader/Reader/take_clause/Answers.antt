@@ -1,9 +1,8 @@
 use Rattle.std.proofs.Common.{ℕ, [], ◌∷◌, ◌++◌, ◌-◌, map, refl, sym, ap, ap₂, ◌∙◌, subst}
 use Rattle.std.proofs.lemmas.Bool.{both_ways}
 use Rattle.std.proofs.lemmas.List.{map-append}
-use Rattle.row_book.specs.Clauses.{Ascending}
-use Rattle.row_book.specs.Sets.{In, has}
-use Rattle.row_book.proofs.Lists.{In_has, has_In}
+use Rattle.listed.specs.Lists.{Ascending, In, has}
+use Rattle.listed.proofs.Lists.{In_has, has_In}
 use Rattle.kernel_text.specs.Reader.{entry_of, may_add_clause}
 use Rattle.kernel_text.specs.Reading.{ClassClause}
 use Rattle.kernel_text.proofs.ClauseTaken.{may_clause, may_not_clause, same_clause}

@@ -1,5 +1,5 @@
 use Rattle.std.proofs.Common.{arith}
-use Rattle.row_book.proofs.Lists.{In_at}
+use Rattle.listed.proofs.Lists.{In_at}
 use Rattle.row_book.proofs.book.Book.check_clauses.Goals as goal
 
 pub row-ids-requires : goal.row-ids-requires

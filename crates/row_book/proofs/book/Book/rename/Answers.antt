@@ -2,9 +2,9 @@ use Rattle.std.proofs.Common.{◌≡◌, ◌<◌, ◌∙◌, ℕ, List, ap, sym,
 use Rattle.std.proofs.lemmas.List.{take_all}
 use Rattle.clause_pool.specs.Interned.{Interned, row_at}
 use Rattle.clause_pool.specs.Compacting.{Compacts}
-use Rattle.row_book.specs.Sets.{In}
+use Rattle.listed.specs.Lists.{In}
 use Rattle.row_book.specs.Book.{IsSameBook}
-use Rattle.row_book.proofs.Lists.{item_in}
+use Rattle.listed.proofs.Lists.{item_in}
 use Rattle.row_book.proofs.Moved.{ok_both, renamed_more, renamed_none, same_book}
 use Rattle.row_book.proofs.book.Book.rename.Goals as goal
 

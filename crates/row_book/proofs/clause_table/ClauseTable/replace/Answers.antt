@@ -4,7 +4,7 @@ use Rattle.std.specs.List.{slice_set}
 use Rattle.std.proofs.lemmas.List.{length-map}
 use Rattle.listed.proofs.Bools.{on_err}
 use Rattle.row_book.specs.Holders.{ListsClauses, TellsRows, holders_in}
-use Rattle.row_book.specs.Sets.{In}
+use Rattle.listed.specs.Lists.{In}
 use Rattle.row_book.specs.Uses.{HoldsDifference, lists_in, list_in}
 use Rattle.row_book.proofs.Holders.{lists_same, tells_replaced, tells_still}
 use Rattle.row_book.proofs.Users.{lent_whole}

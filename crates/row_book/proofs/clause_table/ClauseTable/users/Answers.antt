@@ -3,7 +3,7 @@ use Rattle.std.specs.List.{list_any}
 use Rattle.std.proofs.lemmas.Result.{IfOk-weaker}
 use Rattle.row_book.specs.Book.{listed_for}
 use Rattle.row_book.specs.Holders.{is_user, users_in, ArePlaced, TellsRows}
-use Rattle.row_book.specs.Sets.{has}
+use Rattle.listed.specs.Lists.{has}
 use Rattle.row_book.specs.Uses.{IsListOf, lists_in, list_in}
 use Rattle.row_book.proofs.Holders.{are_placed, users_found}
 use Rattle.row_book.proofs.clause_table.ClauseTable.users.Goals as goal

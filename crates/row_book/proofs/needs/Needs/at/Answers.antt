@@ -1,5 +1,5 @@
 use Rattle.std.proofs.Common.{◌<◌, length}
-use Rattle.row_book.proofs.Lists.{item_in}
+use Rattle.listed.proofs.Lists.{item_in}
 use Rattle.row_book.proofs.needs.Needs.at.Goals as goal
 
 pub returns-clause-need : goal.returns-clause-need

@@ -1,8 +1,8 @@
 use Rattle.std.proofs.Common.{◌≡◌, ◌<◌, ◌+◌, ◌++◌, ◌∙◌, ap, sym, subst, length, take, drop, arith}
 use Rattle.std.proofs.lemmas.List.{length-map}
-use Rattle.row_book.specs.Sets.{In, has}
+use Rattle.listed.specs.Lists.{In, has}
 use Rattle.row_book.specs.Uses.{IsListOf, list_in, lists_in}
-use Rattle.row_book.proofs.Lists.{item_in}
+use Rattle.listed.proofs.Lists.{item_in}
 use Rattle.row_book.proofs.Users.{held_within, is_uses_of, lent_whole, row_added, row_numbers, uses_number}
 use Rattle.row_book.proofs.uses.UseTable.of.Goals as goal
 

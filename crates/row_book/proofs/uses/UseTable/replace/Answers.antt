@@ -3,7 +3,7 @@ use Rattle.std.proofs.Common.{◌≡◌, ◌<◌, ◌++◌, ◌&&◌, ◌∙◌,
 use Rattle.std.specs.List.{slice_set}
 use Rattle.std.proofs.lemmas.List.{length-map}
 use Rattle.clause_pool.specs.Interned.{clauses_at, ids_at}
-use Rattle.row_book.specs.Sets.{has}
+use Rattle.listed.specs.Lists.{has}
 use Rattle.row_book.specs.Uses.{lists_in, some_holds, uses_of, HoldsDifference}
 use Rattle.row_book.proofs.Differences.{difference_as, difference_held}
 use Rattle.row_book.proofs.Users.{held_below, lent_whole, shifts_of, uses_replaced}

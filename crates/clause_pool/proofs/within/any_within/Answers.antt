@@ -1,10 +1,10 @@
 use Rattle.std.proofs.Common.{sym, arith}
 use Rattle.std.specs.Option.{option_map}
 use Rattle.clause_pool.specs.Interned.{clause_at}
-use Rattle.row_book.specs.Within.{rest_within}
-use Rattle.row_book.proofs.Groups.{none_places}
-use Rattle.row_book.proofs.Lists.{item_in}
-use Rattle.row_book.proofs.within.any_within.Goals as goal
+use Rattle.clause_pool.specs.Within.{rest_within}
+use Rattle.clause_pool.proofs.Groups.{none_places}
+use Rattle.listed.proofs.Lists.{item_in}
+use Rattle.clause_pool.proofs.within.any_within.Goals as goal
 
 pub is_within-requires-clause-id : goal.is_within-requires-clause-id
 is_within-requires-clause-id c = c.requires.group c.id-item.result (item_in c.args.group.now c.loop-id.id-index c.id-item.result (omega arith) c.id-item.is)

@@ -1,10 +1,10 @@
 use Rattle.std.proofs.Common.{◌≡◌, ◌<◌, ◌-◌, get_or, length, sym, subst, arith}
 use Rattle.std.proofs.lemmas.Bool.{OnTrue_at, OnTrue_from}
 use Rattle.std.proofs.lemmas.Option.{get_or_from_slice_get}
-use Rattle.row_book.specs.Sets.{In}
-use Rattle.row_book.proofs.Groups.{each_below}
-use Rattle.row_book.proofs.Lists.{In_at}
-use Rattle.row_book.proofs.within.all_below.Goals as goal
+use Rattle.listed.specs.Lists.{In}
+use Rattle.clause_pool.proofs.Groups.{each_below}
+use Rattle.listed.proofs.Lists.{In_at}
+use Rattle.clause_pool.proofs.within.all_below.Goals as goal
 
 pub goes_on_below-requires : goal.goes_on_below-requires
 goes_on_below-requires c =

@@ -1,10 +1,7 @@
--- Families of clauses: the minimal ones, the order in which they are kept, and the families of all
--- sets of numbers.
-use Rattle.std.specs.Prelude.{ℕ, zero, suc, Bool, true, false, not, ◌&&◌, ◌||◌, eqb, ltb, cond, List, [], ◌∷◌, ◌++◌, map}
+-- Families of clauses: those apart from a number, the minimal ones, and the order in which they are kept.
+use Rattle.std.specs.Prelude.{ℕ, Bool, true, false, not, ◌&&◌, ◌||◌, eqb, ltb, cond, List, [], ◌∷◌}
 use Rattle.std.specs.List.{list_all, filter}
-use Rattle.row_book.specs.Sets.{has}
-pub use Rattle.clause_pool.specs.Lists.{Before, InOrder}
-pub use Rattle.listed.specs.Lists.{Ascending, Inside, is_inside}
+use Rattle.listed.specs.Lists.{has, is_inside}
 
 -- the clauses that do not hold the number
 abbrev pub apart_from : ℕ → List (List ℕ) → List (List ℕ)
@@ -30,18 +27,3 @@ insert_clause c (d ∷ ds) =
 abbrev pub in_row_order : List (List ℕ) → List (List ℕ)
 in_row_order [] = []
 in_row_order (c ∷ cs) = insert_clause c (in_row_order cs)
-
--- so many numbers, from the given one on
-unfoldable pub numbers : ℕ → ℕ → List ℕ
-numbers zero k = []
-numbers (suc n) k = k ∷ numbers n (suc k)
-
--- all sets of such numbers but the empty one, in lexicographic order
-unfoldable pub nonempty_from : ℕ → ℕ → List (List ℕ)
-nonempty_from zero k = []
-nonempty_from (suc n) k = map (λ s. k ∷ s) ([] ∷ nonempty_from n (suc k)) ++ nonempty_from n (suc k)
-
--- all sets of numbers below n, in lexicographic order: 2 ^ n lists, so nothing but small examples
--- is computed by it
-unfoldable pub subsets : ℕ → List (List ℕ)
-subsets n = [] ∷ nonempty_from n 0

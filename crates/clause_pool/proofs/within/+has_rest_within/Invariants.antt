@@ -1,8 +1,8 @@
 use Rattle.std.proofs.Common.{◌≡◌, ℕ, ◌<◌, false, length}
 use Rattle.std.specs.Option.{option_map}
 use Rattle.clause_pool.specs.Interned.{clause_at}
-use Rattle.row_book.proofs.Groups.{part_within}
-use Rattle.row_book.proofs.within.+has_rest_within.Given as goal
+use Rattle.clause_pool.proofs.Groups.{part_within}
+use Rattle.clause_pool.proofs.within.+has_rest_within.Given as goal
 
 abbrev pub decreases-has_rest_within : goal.decreases-has_rest_within
 decreases-has_rest_within l = length l.wanted.now

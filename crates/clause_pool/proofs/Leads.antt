@@ -1,19 +1,9 @@
 -- Tests of lists at their places, and clauses in lexicographic order, which rise with what they begin with.
-use Rattle.std.proofs.Common.{◌≡◌, ℕ, zero, suc, ◌<◌, ◌≤◌, Bool, true, false, ◌&&◌, ◌||◌, List, [], ◌∷◌, length, get_or, inl, inr, refl, ◌∙◌, ap, arith, zero-le, Err}
+use Rattle.std.proofs.Common.{◌≡◌, ℕ, zero, suc, ◌<◌, ◌≤◌, Bool, true, false, ◌&&◌, List, [], ◌∷◌, length, get_or, inl, inr, refl, ◌∙◌, ap, arith, zero-le}
 use Rattle.std.specs.List.{list_all}
-use Rattle.std.specs.List.Sorted.{IsBinarySearchResult}
-use Rattle.std.specs.Ordering.{nat_cmp}
-use Rattle.std.proofs.lemmas.Bool.{cases_lt}
-use Rattle.std.proofs.lemmas.List.Sorted.{searched}
-use Rattle.listed.proofs.Orders.{ascending_places}
-use Rattle.clause_pool.proofs.Lists.{In_place}
-use Rattle.row_book.specs.Sets.{has}
-use Rattle.row_book.specs.Clauses.{Ascending, Before, InOrder}
-use Rattle.row_book.specs.Within.{lead}
-use Rattle.row_book.proofs.Lists.{In_at, has_not}
-
-or_false : (a b : Bool) → a ≡ false → b ≡ false → (a || b) ≡ false
-or_false a b e f = ap (λ z. z || b) e ∙ f
+use Rattle.clause_pool.specs.Lists.{Before, InOrder}
+use Rattle.clause_pool.specs.Within.{lead}
+use Rattle.listed.proofs.Lists.{In_at}
 
 -- a test over numbers
 and_false : (a b : Bool) → b ≡ false → (a && b) ≡ false
@@ -28,16 +18,6 @@ all_fails f (x ∷ xs) (suc i) l e = and_false (f x) (list_all f xs) (all_fails 
 pub all_pass : (f : ℕ → Bool) (xs : List ℕ) → ((k : ℕ) → k < length xs → f (get_or xs k 0) ≡ true) → list_all f xs ≡ true
 all_pass f [] h = refl
 all_pass f (x ∷ xs) h = ap (λ z. z && list_all f xs) (h 0 (omega arith)) ∙ all_pass f xs (λ k l. h (suc k) (omega arith))
-
-pub not_found : (xs : List ℕ) (x place : ℕ) → Ascending xs → IsBinarySearchResult (λ y. nat_cmp y x) xs (Err place) → has xs x ≡ false
-not_found xs x place a found =
-    let w : (place ≤ length xs) × ((k : ℕ) → k < place → get_or xs k 0 < x) × ((k : ℕ) → place ≤ k → k < length xs → x < get_or xs k 0) = searched xs x (Err place) found (ascending_places xs a) in
-    has_not xs x (λ i.
-    let at : (k : ℕ) × (k < length xs) × (get_or xs k 0 ≡ x) = In_place xs x 0 i in
-    elim (cases_lt at.0 place) [
-      | inl l ↦ let low : get_or xs at.0 0 < x = w.1 at.0 l in let e : get_or xs at.0 0 ≡ x = at.2 in omega (arith, low, e)
-      | inr l ↦ let high : x < get_or xs at.0 0 = w.2 at.0 l at.1 in let e : get_or xs at.0 0 ≡ x = at.2 in omega (arith, high, e)
-    ])
 
 -- the order of clauses
 lead_before : (c d : List ℕ) → Before c d → lead c ≤ lead d

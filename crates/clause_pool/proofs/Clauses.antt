@@ -2,9 +2,9 @@
 use Rattle.std.proofs.Common.{◌≡◌, ℕ, true, not, ◌||◌, List, [], ◌∷◌, inl, inr, sym, subst}
 use Rattle.std.specs.List.{list_all}
 use Rattle.std.proofs.lemmas.Bool.{both_ways, cases_Bool, or_cases, or_left, or_right, not_from_false, not-true}
-use Rattle.row_book.specs.Sets.{NumSet, In, here, there, Hit, Is, HitsAll, has}
-use Rattle.row_book.specs.Clauses.{Inside, apart_from, is_inside, minimal_of}
-use Rattle.row_book.proofs.Lists.{In_has, has_In, has_not, In_cases, In_none, filter_from, filter_cases, all_from, all_at}
+use Rattle.listed.specs.Lists.{In, here, there, has, Inside, is_inside}
+use Rattle.clause_pool.specs.Clauses.{apart_from, minimal_of}
+use Rattle.listed.proofs.Lists.{In_has, has_In, has_not, In_cases, In_none, filter_from, filter_cases, all_from, all_at}
 
 pub inside_from : (S T : List ℕ) → Inside S T → is_inside S T ≡ true
 inside_from S T f = all_from (λ n. has T n) S (λ n i. In_has (f n i))
@@ -79,9 +79,3 @@ pub minimal_below : (cs : List (List ℕ)) (T : List ℕ) → In T cs → (S : L
 minimal_below cs T i =
     let s : Low cs cs T = lower cs cs (λ c j. j) T i in
     (s.low, minimal_of_from cs s.low s.one s.tight, s.part)
-
-pub hits_minimal : (X : NumSet) (cs : List (List ℕ)) → HitsAll X (minimal_of cs) → HitsAll X cs
-hits_minimal X cs h T i =
-    let s : (S : List ℕ) × In S (minimal_of cs) × Inside S T = minimal_below cs T i in
-    let hit : Hit (Is X) s.0 = h s.0 s.1 in
-    record { by = hit.by; inside = s.2 hit.by hit.inside; alive = hit.alive }

@@ -5,11 +5,11 @@ ghost use Rattle.std.specs.Bool.{OnFalse, OnTrue};
 ghost use Rattle.std.specs.List.{list_any};
 ghost use Rattle.std.specs.Option.{option_map, ForSome};
 ghost use Rattle.clause_pool.specs.Interned.{clause_at, clauses_at, IsPool, OfPool};
-ghost use Rattle.row_book.specs.Sets.{has, In};
-ghost use Rattle.row_book.specs.Clauses.{is_inside, Ascending, InOrder};
-ghost use Rattle.row_book.specs.Within.{goes_on, lead, rest_at, rest_within, some_within};
+ghost use Rattle.listed.specs.Lists.{has, In, is_inside, Ascending};
+ghost use Rattle.clause_pool.specs.Lists.{InOrder};
+ghost use Rattle.clause_pool.specs.Within.{goes_on, lead, rest_at, rest_within, some_within};
 
-use clause_pool::{ClauseId, Pool};
+use crate::{ClauseId, Pool};
 use listed::{holds_ascending, is_inside_ascending};
 
 /// A group of clauses so short that it is gone over.

@@ -1,7 +1,7 @@
 use Rattle.std.proofs.Common.{◌<◌, ◌≤◌, ◌+◌, ℕ, get_or, length, arith}
-use Rattle.row_book.specs.Within.{lead, rest_at}
-use Rattle.row_book.proofs.Groups.{group_is, in_turn}
-use Rattle.row_book.proofs.within.group_of.Goals as goal
+use Rattle.clause_pool.specs.Within.{lead, rest_at}
+use Rattle.clause_pool.proofs.Groups.{group_is, in_turn}
+use Rattle.clause_pool.proofs.within.group_of.Goals as goal
 
 pub returns : goal.returns
 returns c =

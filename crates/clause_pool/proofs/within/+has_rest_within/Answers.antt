@@ -5,11 +5,11 @@ use Rattle.std.proofs.lemmas.Bool.{OnTrue_at}
 use Rattle.std.proofs.lemmas.List.{get_or_default}
 use Rattle.listed.proofs.Orders.{rest_ascends}
 use Rattle.clause_pool.specs.Interned.{clause_at}
-use Rattle.row_book.specs.Clauses.{Ascending}
-use Rattle.row_book.specs.Within.{rest_within}
-use Rattle.row_book.proofs.Groups.{in_part, none_further, none_within, one_within, part_deep, part_in_order}
-use Rattle.row_book.proofs.Lists.{item_in}
-use Rattle.row_book.proofs.within.+has_rest_within.Goals as goal
+use Rattle.listed.specs.Lists.{Ascending}
+use Rattle.clause_pool.specs.Within.{rest_within}
+use Rattle.clause_pool.proofs.Groups.{in_part, none_further, none_within, one_within, part_deep, part_in_order}
+use Rattle.listed.proofs.Lists.{item_in}
+use Rattle.clause_pool.proofs.within.+has_rest_within.Goals as goal
 
 pub is_within-requires-clause-id : goal.is_within-requires-clause-id
 is_within-requires-clause-id t c = c.requires.group c.index-group-0.result (item_in c.args.group.now 0 c.index-group-0.result (omega arith) c.index-group-0.is)

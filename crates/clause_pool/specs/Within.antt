@@ -3,7 +3,7 @@ use Rattle.std.specs.Prelude.{ℕ, zero, suc, Bool, true, not, ◌&&◌, eqb, Li
 use Rattle.std.specs.List.{list_any}
 use Rattle.std.specs.Cmp.Lexicographic.{pointwise}
 use Rattle.clause_pool.specs.Interned.{Interned, clause_at}
-use Rattle.row_book.specs.Clauses.{is_inside}
+use Rattle.listed.specs.Lists.{is_inside}
 
 -- whether the clause is another one than the given one, where one is given
 abbrev pub is_other : Option (List ℕ) → List ℕ → Bool

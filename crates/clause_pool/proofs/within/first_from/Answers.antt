@@ -1,7 +1,7 @@
 use Rattle.std.proofs.Common.{◌≤◌, ◌+◌, ◌-◌, ◌/◌, length, arith}
-use Rattle.row_book.proofs.Groups.{above_at, below_at}
-use Rattle.row_book.proofs.Lists.{item_in}
-use Rattle.row_book.proofs.within.first_from.Goals as goal
+use Rattle.clause_pool.proofs.Groups.{above_at, below_at}
+use Rattle.listed.proofs.Lists.{item_in}
+use Rattle.clause_pool.proofs.within.first_from.Goals as goal
 
 pub goes_on_below-requires : goal.goes_on_below-requires
 goes_on_below-requires c =

@@ -1,4 +1,4 @@
-pub mod Flattened
+pub mod Plain
 pub mod Tails
 pub mod Thins
 pub mod Standing

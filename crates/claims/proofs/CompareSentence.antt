@@ -27,7 +27,7 @@ use Rattle.suite_compare.specs.Refusals.{home_in, packages_in}
 use Rattle.suite_compare.specs.declared.report.ReportLine.{ReportLine}
 use Rattle.suite_compare.specs.declared.report.ReportLine.TheVariants.{Broken1, Broken2, Open1, Open2}
 use Rattle.suite_compare.proofs.Deciding.{asked_is}
-use Rattle.claims.specs.Asked.{ComparedIndex, Has, Installs, named_packages, Fails, Spends, FoundInstallable, FoundUninstallable, IsAsked}
+use Rattle.claims.specs.Asked.{ComparedIndex, HasPackageOf, Installs, named_packages, Fails, Spends, FoundInstallable, FoundUninstallable, IsAsked}
 use Rattle.claims.specs.Printed.{names_of, Precedes}
 use Rattle.claims.specs.Search.{Searched}
 use Rattle.coinst_words.specs.Usage.{Text}
@@ -36,10 +36,10 @@ use Rattle.claims.proofs.Index.{indexes_are_read}
 use Rattle.claims.proofs.Kernel.{kernels_are_kernels, kernels_are_one}
 use Rattle.claims.proofs.Search.{searches_are_one, trees_are_searches}
 
-has_to : (index : SearchedIndex) (name : Text) → Has (suite_of index) name → HasName index name
+has_to : (index : SearchedIndex) (name : Text) → HasPackageOf (suite_of index) name → HasName index name
 has_to index name h = record { by = stanza_at (packages_in index.text) h.0; stands = In_at (packages_in index.text) h.0 no_stanza h.1; named = h.2 }
 
-has_from : (index : SearchedIndex) (name : Text) → HasName index name → Has (suite_of index) name
+has_from : (index : SearchedIndex) (name : Text) → HasName index name → HasPackageOf (suite_of index) name
 has_from index name h = let at = In_place (packages_in index.text) h.by no_stanza h.stands in (at.0, at.1, ap (λ (s : PackageFacts). s.name) at.2 ∙ h.named)
 
 no_more : (b : Bool) → (b && true) ≡ b
@@ -140,10 +140,10 @@ cannot_to index names c = (within index names c.0, (λ i. c.1 (installs_from ind
 cannot_from : (index : SearchedIndex) (names : List Text) → kept.Cannot index names → FoundUninstallable (suite_of index) names
 cannot_from index names c = ((λ w. let past = spends_to index names w in absurd (omega (arith, past, c.0))), (λ i. c.1 (installs_to index names i)))
 
-both_to : (old new : SearchedIndex) (name : Text) → Has (suite_of old) name × Has (suite_of new) name → BothHave old new name
+both_to : (old new : SearchedIndex) (name : Text) → HasPackageOf (suite_of old) name × HasPackageOf (suite_of new) name → BothHave old new name
 both_to old new name b = (has_to old name b.0, has_to new name b.1)
 
-both_from : (old new : SearchedIndex) (name : Text) → BothHave old new name → Has (suite_of old) name × Has (suite_of new) name
+both_from : (old new : SearchedIndex) (name : Text) → BothHave old new name → HasPackageOf (suite_of old) name × HasPackageOf (suite_of new) name
 both_from old new name b = (has_from old name b.0, has_from new name b.1)
 
 pair_to : (old new : SearchedIndex) (a b : Text) → IsAsked (suite_of old) (suite_of new) (a ∷ (b ∷ [])) → ArePair old new a b

@@ -13,7 +13,7 @@ use Rattle.row_book.specs.Repository.{Coinst, Repository}
 use Rattle.row_book.specs.Sets.{Is, NumSet}
 use Rattle.suite_compare.specs.declared.report.ReportLine.{ReportLine}
 use Rattle.suite_compare.specs.declared.report.ReportLine.TheVariants.{Broken1, Broken2, Open1, Open2}
-use Rattle.claims.specs.Asked.{Has, IsAsked}
+use Rattle.claims.specs.Asked.{HasPackageOf, IsAsked}
 use Rattle.claims.specs.Classes.{classes_of, IsItsClass}
 use Rattle.claims.specs.Control.{stanza_groups}
 use Rattle.claims.specs.Index.{IndexSays, Says}
@@ -96,7 +96,7 @@ not_there k (facts ∷ more) z s =
     let zero : length k.repository.clauses ≡ 0 = ap (λ R. length R.clauses) none in
     omega (arith, low, zero)
 
-has_none : (a : Text) → Has empty_index a → ⊥
+has_none : (a : Text) → HasPackageOf empty_index a → ⊥
 has_none a h = let low : h.0 < 0 = h.1 in omega (arith, low)
 
 none_asked : (l : ReportLine) → IsAsked empty_index empty_index (names_of l) → ⊥

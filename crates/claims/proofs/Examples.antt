@@ -21,7 +21,7 @@ use Rattle.claims.specs.Control.{fields, stanza_groups, field_value}
 use Rattle.relation_fields.specs.Meeting.{meets}
 use Rattle.claims.specs.Index.{relation_elements, is_one_package}
 use Rattle.repo_model.specs.Repository.{suite_repository}
-use Rattle.claims.specs.Search.{class_to_ask}
+use Rattle.claims.specs.Search.{class_to_split}
 use Rattle.search_terms.specs.Form.{form}
 use Rattle.claims.specs.Spelling.{WritesAtom}
 use Rattle.deb_version.specs.Order.{behind, first_difference, number_piece, part_order, pieces_order, plain_piece, version_order}
@@ -133,17 +133,17 @@ its_lines = record {
   head = codes "coinst-kernel 2";
   blocks = (codes "class 0" ∷ codes "member a 1" ∷ []) ∷ (codes "class 1" ∷ codes "member b 2-1" ∷ codes "held" ∷ codes "needs 0 2" ∷ codes "against 2" ∷ []) ∷ (codes "class 2" ∷ codes "member c 3" ∷ []) ∷ [];
   end = codes "end 3 3";
-  cut = refl;
+  joined = refl;
   of_format = refl;
   of_classes = (
-    record { first = codes "class 0"; people = codes "member a 1" ∷ []; stay = []; needs = []; against = []; joined = refl; of_class = refl; of_members = (refl, tt); of_held = inr (refl, refl); of_clauses = tt; of_conflicts = tt },
+    record { class_line = codes "class 0"; member_lines = codes "member a 1" ∷ []; held_lines = []; needs_lines = []; against_lines = []; joined = refl; of_class = refl; of_members = (refl, tt); of_held = inr (refl, refl); of_clauses = tt; of_conflicts = tt },
     (
       record {
-        first = codes "class 1";
-        people = codes "member b 2-1" ∷ [];
-        stay = codes "held" ∷ [];
-        needs = codes "needs 0 2" ∷ [];
-        against = codes "against 2" ∷ [];
+        class_line = codes "class 1";
+        member_lines = codes "member b 2-1" ∷ [];
+        held_lines = codes "held" ∷ [];
+        needs_lines = codes "needs 0 2" ∷ [];
+        against_lines = codes "against 2" ∷ [];
         joined = refl;
         of_class = refl;
         of_members = (refl, tt);
@@ -151,7 +151,7 @@ its_lines = record {
         of_clauses = (refl, tt);
         of_conflicts = (refl, tt);
       },
-      (record { first = codes "class 2"; people = codes "member c 3" ∷ []; stay = []; needs = []; against = []; joined = refl; of_class = refl; of_members = (refl, tt); of_held = inr (refl, refl); of_clauses = tt; of_conflicts = tt }, tt),
+      (record { class_line = codes "class 2"; member_lines = codes "member c 3" ∷ []; held_lines = []; needs_lines = []; against_lines = []; joined = refl; of_class = refl; of_members = (refl, tt); of_held = inr (refl, refl); of_clauses = tt; of_conflicts = tt }, tt),
     ),
   );
   of_end = refl;
@@ -167,7 +167,7 @@ a_form : form three ((1 ∷ []) ∷ []) ≡ (yes 1 ∷ []) ∷ (not_it 1 ∷ yes
 a_form = refl
 
 -- with the second class true and the third false, the first is asked for
-a_class : class_to_ask (λ l. (l.class == 1) && l.positive || (l.class == 2) && not l.positive) (form three ((1 ∷ []) ∷ [])) ≡ Some 0
+a_class : class_to_split (λ l. (l.class == 1) && l.positive || (l.class == 2) && not l.positive) (form three ((1 ∷ []) ∷ [])) ≡ Some 0
 a_class = refl
 
 -- a broken name, an open pair, and the last line

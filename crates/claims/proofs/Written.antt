@@ -74,15 +74,15 @@ module _ (R : Repository) (members : List Member) (held : List ℕ) where
   unfolding class_lines
   block_to n block b =
       let ms = members_of members n in
-      let people : b.people ≡ map bare (map line_of_member ms) = zip_to (λ (m : Member). codes "member " ++ (m.name ++ 32 ∷ m.version)) line_of_member (λ m. refl) b.people ms b.of_members in
-      let stay : b.stay ≡ map bare (held_lines (has held n)) = held_to (has held n) b.stay b.of_held in
-      let needs : b.needs ≡ map bare (map NeedsLine (clauses_of R n)) = zip_to (λ c. codes "needs" ++ flat_map behind_space c) NeedsLine (λ c. refl) b.needs (clauses_of R n) b.of_clauses in
-      let against : b.against ≡ map bare (map AgainstLine (greater_conflicts R n)) = zip_to (λ m. codes "against" ++ behind_space m) AgainstLine (λ m. refl) b.against (greater_conflicts R n) b.of_conflicts in
-      b.joined ∙ ap (λ t. t ∷ (b.people ++ (b.stay ++ (b.needs ++ b.against)))) b.of_class
+      let people : b.member_lines ≡ map bare (map line_of_member ms) = zip_to (λ (m : Member). codes "member " ++ (m.name ++ 32 ∷ m.version)) line_of_member (λ m. refl) b.member_lines ms b.of_members in
+      let stay : b.held_lines ≡ map bare (held_lines (has held n)) = held_to (has held n) b.held_lines b.of_held in
+      let needs : b.needs_lines ≡ map bare (map NeedsLine (clauses_of R n)) = zip_to (λ c. codes "needs" ++ flat_map behind_space c) NeedsLine (λ c. refl) b.needs_lines (clauses_of R n) b.of_clauses in
+      let against : b.against_lines ≡ map bare (map AgainstLine (greater_conflicts R n)) = zip_to (λ m. codes "against" ++ behind_space m) AgainstLine (λ m. refl) b.against_lines (greater_conflicts R n) b.of_conflicts in
+      b.joined ∙ ap (λ t. t ∷ (b.member_lines ++ (b.held_lines ++ (b.needs_lines ++ b.against_lines)))) b.of_class
       ∙ ap (λ more. bare (ClassLine n) ∷ more) (
-      ap (λ t. t ++ (b.stay ++ (b.needs ++ b.against))) people
-      ∙ ap (λ t. map bare (map line_of_member ms) ++ (t ++ (b.needs ++ b.against))) stay
-      ∙ ap (λ t. map bare (map line_of_member ms) ++ (map bare (held_lines (has held n)) ++ (t ++ b.against))) needs
+      ap (λ t. t ++ (b.held_lines ++ (b.needs_lines ++ b.against_lines))) people
+      ∙ ap (λ t. map bare (map line_of_member ms) ++ (t ++ (b.needs_lines ++ b.against_lines))) stay
+      ∙ ap (λ t. map bare (map line_of_member ms) ++ (map bare (held_lines (has held n)) ++ (t ++ b.against_lines))) needs
       ∙ ap (λ t. map bare (map line_of_member ms) ++ (map bare (held_lines (has held n)) ++ (map bare (map NeedsLine (clauses_of R n)) ++ t))) against
       ∙ sym (four (map line_of_member ms) (held_lines (has held n)) (map NeedsLine (clauses_of R n)) (map AgainstLine (greater_conflicts R n)))
       )
@@ -90,11 +90,11 @@ module _ (R : Repository) (members : List Member) (held : List ℕ) where
   block_from : (n : ℕ) → IsClassBlock R members held n (map bare (class_lines R members held n))
   unfolding class_lines
   block_from n = record {
-    first = bare (ClassLine n);
-    people = map bare (map line_of_member (members_of members n));
-    stay = map bare (held_lines (has held n));
-    needs = map bare (map NeedsLine (clauses_of R n));
-    against = map bare (map AgainstLine (greater_conflicts R n));
+    class_line = bare (ClassLine n);
+    member_lines = map bare (map line_of_member (members_of members n));
+    held_lines = map bare (held_lines (has held n));
+    needs_lines = map bare (map NeedsLine (clauses_of R n));
+    against_lines = map bare (map AgainstLine (greater_conflicts R n));
     joined = ap (λ more. bare (ClassLine n) ∷ more) (four (map line_of_member (members_of members n)) (held_lines (has held n)) (map NeedsLine (clauses_of R n)) (map AgainstLine (greater_conflicts R n)));
     of_class = refl;
     of_members = zip_from (λ (m : Member). codes "member " ++ (m.name ++ 32 ∷ m.version)) line_of_member (λ m. refl) (members_of members n);
@@ -128,7 +128,7 @@ module _ (R : Repository) (members : List Member) (held : List ℕ) where
 
   lines_to : (t : Text) (format : ℕ) → AreKernelLines t format R members held → t ≡ kernel_text format R members held
   lines_to t format l =
-      l.cut ∙ ap₂ (λ h e. flat_map with_feed (h ∷ (flat_map (λ block. block) l.blocks ++ e ∷ []))) l.of_format l.of_end ∙ whole format l.blocks l.of_classes
+      l.joined ∙ ap₂ (λ h e. flat_map with_feed (h ∷ (flat_map (λ block. block) l.blocks ++ e ∷ []))) l.of_format l.of_end ∙ whole format l.blocks l.of_classes
 
   lines_from : (t : Text) (format : ℕ) → t ≡ kernel_text format R members held → AreKernelLines t format R members held
   lines_from t format e =
@@ -138,7 +138,7 @@ module _ (R : Repository) (members : List Member) (held : List ℕ) where
         head = bare (HeadLine format);
         blocks = blocks;
         end = bare (EndLine (length R.clauses) (length members));
-        cut = e ∙ sym (whole format blocks classes);
+        joined = e ∙ sym (whole format blocks classes);
         of_format = refl;
         of_classes = classes;
         of_end = refl;

@@ -31,8 +31,8 @@ abbrev pub IsSearched : Option ℕ → Option ℕ → Bool → ComparedIndex →
 IsSearched budget limit hold s = (s.budget ≡ unwrap_or budget 10000) × (s.limit ≡ unwrap_or limit 65536) × (s.hold ≡ hold)
 
 -- some package of the index has this name
-abbrev pub Has : ComparedIndex → Text → Type 0
-Has s name = (n : ℕ) × (n < length s.stanzas) × ((stanza_at s.stanzas n).name ≡ name)
+abbrev pub HasPackageOf : ComparedIndex → Text → Type 0
+HasPackageOf s name = (n : ℕ) × (n < length s.stanzas) × ((stanza_at s.stanzas n).name ≡ name)
 
 -- packages of all these names, one of each, can be installed together
 abbrev pub Installs : ComparedIndex → List Text → Type 0
@@ -62,6 +62,6 @@ FoundUninstallable s names = (¬ (Spends s names)) × (¬ (Installs s names))
 -- what is asked: each name of both, and each two such names, in the order of their bytes, each of which is found installable alone in
 -- the newer one
 abbrev pub IsAsked : ComparedIndex → ComparedIndex → List Text → Type 0
-IsAsked old new (a ∷ []) = Has old a × Has new a
-IsAsked old new (a ∷ b ∷ []) = Before a b × (Has old a × Has new a) × (Has old b × Has new b) × FoundInstallable new (a ∷ []) × FoundInstallable new (b ∷ [])
+IsAsked old new (a ∷ []) = HasPackageOf old a × HasPackageOf new a
+IsAsked old new (a ∷ b ∷ []) = Before a b × (HasPackageOf old a × HasPackageOf new a) × (HasPackageOf old b × HasPackageOf new b) × FoundInstallable new (a ∷ []) × FoundInstallable new (b ∷ [])
 IsAsked old new names = ⊥

@@ -12,7 +12,7 @@ use Rattle.row_book.specs.Flattening.{packages}
 use Rattle.row_book.specs.Sound.{TidyRepository}
 use Rattle.row_book.specs.Facing.{sides}
 use Rattle.row_book.specs.Rounds.{weigh}
-use Rattle.row_book.specs.Pruning.{made_dead, with_clauses, is_dead, with_empty_clause, others, without_clause, serves, is_forced, is_harmless, is_met, is_idle, is_dropped, prune_clause, prune_clauses, prune_package, prune_over, prune, lift_idle}
+use Rattle.row_book.specs.Pruning.{made_dead, with_clauses, is_dead, with_empty_clause, others, without_clause, serves, is_forced, is_harmless, is_hit_anyway, is_idle, is_dropped, prune_clause, prune_clauses, prune_package, prune_over, prune, lift_idle}
 use Rattle.clause_pool.proofs.Clauses.{inside_at}
 use Rattle.listed.proofs.Lists.{In_cases, In_none, has_In, all_at, any_cases}
 use Rattle.row_book.proofs.Lists.{any_hit, hit_any}
@@ -63,17 +63,17 @@ record Idle (R : Repository) (p : ℕ) (d : List ℕ) (x : ℕ) : Type 0 where
 idle_from : (R : Repository) (p : ℕ) (d : List ℕ) (x : ℕ) → is_idle R p d x ≡ true → Idle R p d x
 idle_from R p d x h =
     let other : ℕ → Bool = λ y. not (against R x y) || is_harmless R p d y in
-    let a : (has d x ≡ true) × ((list_all other (packages R) && list_all (is_met R p d) (clauses_of R x)) ≡ true) =
-    and_parts (has d x) (list_all other (packages R) && list_all (is_met R p d) (clauses_of R x)) h in
-    let b : (list_all other (packages R) ≡ true) × (list_all (is_met R p d) (clauses_of R x) ≡ true) =
-    and_parts (list_all other (packages R)) (list_all (is_met R p d) (clauses_of R x)) a.1 in
+    let a : (has d x ≡ true) × ((list_all other (packages R) && list_all (is_hit_anyway R p d) (clauses_of R x)) ≡ true) =
+    and_parts (has d x) (list_all other (packages R) && list_all (is_hit_anyway R p d) (clauses_of R x)) h in
+    let b : (list_all other (packages R) ≡ true) × (list_all (is_hit_anyway R p d) (clauses_of R x) ≡ true) =
+    and_parts (list_all other (packages R)) (list_all (is_hit_anyway R p d) (clauses_of R x)) a.1 in
     record {
       member = has_In d x a.0;
       conflicting = λ y l t. elim (or_cases (not (against R x y)) (is_harmless R p d y) (all_at other (packages R) b.0 y (in_packages R y l))) [
         | inl f ↦ absurd (both_ways (against R x y) (not-true (against R x y) f) t)
         | inr g ↦ g
       ];
-      needs = λ c i. elim (or_cases (has c p) (list_any (λ e. is_inside e c) (others R p d)) (all_at (is_met R p d) (clauses_of R x) b.1 c i)) [
+      needs = λ c i. elim (or_cases (has c p) (list_any (λ e. is_inside e c) (others R p d)) (all_at (is_hit_anyway R p d) (clauses_of R x) b.1 c i)) [
         | inl y ↦ inl (has_In c p y)
         | inr y ↦ let v : (e : List ℕ) × In e (others R p d) × (is_inside e c ≡ true) = any_cases (λ e. is_inside e c) (others R p d) y in
             inr (v.0, v.1, inside_at v.0 c v.2)

@@ -12,9 +12,9 @@ use Rattle.row_book.specs.Flattening.{packages}
 use Rattle.row_book.specs.Repository.{Repository, against, clauses_of}
 use Rattle.listed.proofs.Lists.{In_has, In_map, all_at, all_from, all_same, has_In}
 use Rattle.row_book.proofs.Repositories.{in_packages, numbers_test, same_numbers}
-use Rattle.row_book.specs.Pruning.{is_forced, is_harmless, is_idle, is_met, serves}
+use Rattle.row_book.specs.Pruning.{is_forced, is_harmless, is_idle, is_hit_anyway, serves}
 use Rattle.row_book.specs.Facing.{against_in}
-use Rattle.clause_prune.specs.Tests.{forces_in, harmless_in, with_ids, met_in}
+use Rattle.clause_prune.specs.Tests.{forces_in, harmless_in, with_ids, hit_anyway_in}
 
 -- the clauses in what is left
 module _ (pool : Interned) (rows : List ℕ) (p : ℕ) (left : List ℕ) (table : List (List ℕ)) (inside : p < length rows) where
@@ -69,8 +69,8 @@ module _ (pool : Interned) (rows : List ℕ) (p : ℕ) (left : List ℕ) (table 
       (ap (λ cs. list_any (λ e. list_all (against_in table y) e) (filter (λ c. not (pointwise eqb c d)) cs)) (left_own pool rows p left table inside)
       ∙ any_filter (λ e. list_all (against_in table y) e) (λ c. not (pointwise eqb c d)) (clauses_at pool left))
 
-  met_is : (d c : List ℕ) → is_met R p d c ≡ met_in pool p left d c
-  met_is d c =
+  hit_anyway_is : (d c : List ℕ) → is_hit_anyway R p d c ≡ hit_anyway_in pool p left d c
+  hit_anyway_is d c =
       ap (λ b. has c p || b)
       (ap (λ cs. list_any (λ e. is_inside e c) (filter (λ c. not (pointwise eqb c d)) cs)) (left_own pool rows p left table inside)
       ∙ any_filter (λ e. is_inside e c) (λ c. not (pointwise eqb c d)) (clauses_at pool left))
@@ -91,10 +91,10 @@ module _ (pool : Interned) (rows : List ℕ) (p : ℕ) (left : List ℕ) (table 
       ]))
 
   pub idle_is : (d : List ℕ) (x : ℕ) → In x d → ((n : ℕ) → In n (listed_for table x) → n < length rows) →
-      is_idle R p d x ≡ (list_all (harmless_in pool table p left d) (listed_for table x) && list_all (met_in pool p left d) (clauses_of R x))
+      is_idle R p d x ≡ (list_all (harmless_in pool table p left d) (listed_for table x) && list_all (hit_anyway_in pool p left d) (clauses_of R x))
   idle_is d x i range =
-      ap (λ b. b && (list_all (λ y. not (against R x y) || is_harmless R p d y) (packages R) && list_all (is_met R p d) (clauses_of R x))) (In_has i)
-      ∙ ap₂ (λ a b. a && b) (conflicting_are d x range) (all_same (is_met R p d) (met_in pool p left d) (clauses_of R x) (λ c j. met_is d c))
+      ap (λ b. b && (list_all (λ y. not (against R x y) || is_harmless R p d y) (packages R) && list_all (is_hit_anyway R p d) (clauses_of R x))) (In_has i)
+      ∙ ap₂ (λ a b. a && b) (conflicting_are d x range) (all_same (is_hit_anyway R p d) (hit_anyway_in pool p left d) (clauses_of R x) (λ c j. hit_anyway_is d c))
 
 -- the first that passes
 pub find_first : (test : ℕ → Bool) (xs : List ℕ) (i : ℕ) → i < length xs → ((k : ℕ) → k < i → test (get_or xs k 0) ≡ false) → test (get_or xs i 0) ≡ true → Some (get_or xs i 0) ≡ find test xs

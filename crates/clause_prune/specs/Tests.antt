@@ -30,8 +30,8 @@ abbrev pub harmless_in : Interned → List (List ℕ) → ℕ → List ℕ → L
 harmless_in pool table p left d y = not (eqb y p) && (has d y || (against_in table p y || list_any (excludes_in pool table y d) (clauses_at pool left)))
 
 -- whether the clause c is hit wherever p is in and its clauses other than d are hit
-abbrev pub met_in : Interned → ℕ → List ℕ → List ℕ → List ℕ → Bool
-met_in pool p left d c = has c p || list_any (includes_in d c) (clauses_at pool left)
+abbrev pub hit_anyway_in : Interned → ℕ → List ℕ → List ℕ → List ℕ → Bool
+hit_anyway_in pool p left d c = has c p || list_any (includes_in d c) (clauses_at pool left)
 
 -- the ids without one
 abbrev pub ids_without : List ℕ → ℕ → List ℕ

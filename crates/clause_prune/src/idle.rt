@@ -11,7 +11,7 @@ ghost use Rattle.clause_pool.specs.Lists.{InOrder};
 ghost use Rattle.row_book.specs.Book.{listed_for, RowsFit};
 ghost use Rattle.row_book.specs.Pruning.{is_idle};
 ghost use Rattle.row_book.specs.Facing.{against_in};
-ghost use Rattle.clause_prune.specs.Tests.{excludes_in, harmless_in, includes_in, with_ids, met_in};
+ghost use Rattle.clause_prune.specs.Tests.{excludes_in, harmless_in, includes_in, with_ids, hit_anyway_in};
 
 use crate::forced::clauses_of;
 use clause_pool::{ClauseId, NumList, Pool, RowId, has_within};
@@ -71,13 +71,19 @@ fn includes_one(pool: &Pool, left: &[ClauseId], clause: ClauseId, whole: &[u32])
 }
 
 /// Whether `whole` is hit wherever the package is in and its clauses other than `clause` are hit.
-fn is_met(pool: &Pool, number: u32, left: &[ClauseId], clause: ClauseId, whole: &[u32]) -> bool
+fn is_hit_anyway(
+    pool: &Pool,
+    number: u32,
+    left: &[ClauseId],
+    clause: ClauseId,
+    whole: &[u32],
+) -> bool
     requires pool { IsPool pool.now }
     requires left { OfPool pool.now left.now }
     requires order { InOrder (clauses_at pool.now left.now) }
     requires whole { Ascending whole.now }
     requires clause { clause < length pool.now.clauses }
-    ensures { result ≡ met_in pool.now number left.now (clause_at pool.now clause) whole.now }
+    ensures { result ≡ hit_anyway_in pool.now number left.now (clause_at pool.now clause) whole.now }
 {
     holds(whole, number) || includes_one(pool, left, clause, whole)
 }
@@ -107,16 +113,22 @@ fn all_harmless(
 }
 
 /// Whether each clause of the row is hit wherever the package is in and its other clauses are hit.
-fn all_met(pool: &Pool, number: u32, left: &[ClauseId], clause: ClauseId, row: &[ClauseId]) -> bool
+fn all_hit_anyway(
+    pool: &Pool,
+    number: u32,
+    left: &[ClauseId],
+    clause: ClauseId,
+    row: &[ClauseId],
+) -> bool
     requires pool { IsPool pool.now }
     requires left { OfPool pool.now left.now }
     requires order { InOrder (clauses_at pool.now left.now) }
     requires clause { clause < length pool.now.clauses }
     requires row { OfPool pool.now row.now }
-    ensures { result ≡ list_all (met_in pool.now number left.now (clause_at pool.now clause)) (clauses_at pool.now row.now) }
+    ensures { result ≡ list_all (hit_anyway_in pool.now number left.now (clause_at pool.now clause)) (clauses_at pool.now row.now) }
 {
     for id in row {
-        if !is_met(pool, number, left, clause, pool.slice(*id)) {
+        if !is_hit_anyway(pool, number, left, clause, pool.slice(*id)) {
             return false;
         }
     }
@@ -151,7 +163,7 @@ fn is_idle(
         left,
         clause,
         conflicts_of(table, member),
-    ) && all_met(
+    ) && all_hit_anyway(
         pool,
         number,
         left,

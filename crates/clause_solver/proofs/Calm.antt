@@ -12,7 +12,7 @@ use Rattle.std.proofs.lemmas.List.Folds.{Any-from_list_any, list_any-from_Any}
 use Rattle.std.proofs.lemmas.List.{take_at, length-append}
 use Rattle.std.proofs.lemmas.List.FromFn.{get_or-map-range_with_len, length-map-range_with_len}
 use Rattle.search_terms.specs.declared.literals.Literal.{Literal}
-use Rattle.search_terms.specs.Closure.{literal, negation, is_same, forces, is_refuted, IsMet, IsUnitClosed, IsClosure, InClosure, Clashes, InRange}
+use Rattle.search_terms.specs.Closure.{literal, negation, is_same, forces, is_refuted, IsClosedUnder, IsUnitClosed, IsClosure, InClosure, Clashes, InRange}
 use Rattle.search_terms.specs.Marks.{IsConsistent, HasClash, classes_left, true_classes}
 use Rattle.search_terms.specs.Form.{owned_sentences, conflict_sentence}
 use Rattle.search_terms.specs.Tree.{is_open_need, is_undecided, IsFoundLeaf, IsSplit}
@@ -62,7 +62,7 @@ calm_is F set full closed consistent clash = elim clash [
       let at : Contains F found.1 = (found.0, found.2, found.3) in
       let member = All-contains (λ s. (l : Literal) × Contains s l) F found.1 full at in
       let forced = refuted_forces set found.1 member.0 found.4 in
-      let t : set member.0 ≡ true = All-contains (λ l. forces set l found.1 ≡ true → set l ≡ true) found.1 member.0 (All-contains (IsMet set) F found.1 closed.steps at) member.1 forced in
+      let t : set member.0 ≡ true = All-contains (λ l. forces set l found.1 ≡ true → set l ≡ true) found.1 member.0 (All-contains (IsClosedUnder set) F found.1 closed.steps at) member.1 forced in
       consistent member.0 t (all_at (λ m. set (negation m)) found.1 found.4 member.0 (contains_in found.1 member.0 member.1))
 ]
 

@@ -10,7 +10,7 @@ use Rattle.listed.proofs.Lists.{contains_in, in_contains, In_cases, In_none}
 use Rattle.listed.specs.Lists.{In}
 use Rattle.row_book.specs.Book.{listed_for}
 use Rattle.search_terms.specs.declared.literals.Literal.{Literal}
-use Rattle.search_terms.specs.Closure.{literal, negation, IsMet, IsUnitClosed}
+use Rattle.search_terms.specs.Closure.{literal, negation, IsClosedUnder, IsUnitClosed}
 use Rattle.search_terms.specs.Marks.{flag_place, IsConsistent}
 use Rattle.search_terms.specs.Form.{owned_sentences, conflict_sentence}
 use Rattle.search_terms.proofs.Sets.{Contains-head, Contains-tail}
@@ -158,7 +158,7 @@ mark_positive n goals own uses conflicts l old g b d row others engine e f r wai
     second : (p q : ℕ) → Contains (conflict_sentence p q) (literal q false)
     second p q = Contains-tail (literal p false) (literal q false) (literal q false ∷ []) (Contains-head (literal q false) [])
 
-    by : (p q x : ℕ) → Contains (conflict_sentence p q) (literal x false) → set_of_trail d (literal x false) ≡ true → IsMet (set_of_trail d) (conflict_sentence p q)
+    by : (p q x : ℕ) → Contains (conflict_sentence p q) (literal x false) → set_of_trail d (literal x false) ≡ true → IsClosedUnder (set_of_trail d) (conflict_sentence p q)
     by p q x here t = met_by (set_of_trail d) (conflict_sentence p q) (literal x false) here t (not_true d x r''.consistent t)
 
 pub item_from : {X : Type 0} (xs : List X) (i j : ℕ) (d x y : X) → i < length xs → i ≡ j → x ≡ y → y ≡ get_or xs i y → x ≡ get_or xs j d
@@ -194,7 +194,7 @@ drained F trail next le waits = record { steps = λ k d lt. one (get_or F k d) (
     nothing (suc h) [] x l c = omega (arith, c.1)
     nothing (suc h) (y ∷ xs) x l c = nothing h xs x (omega arith) c
 
-    one : (s : List Literal) → Waits next trail s → IsMet (set_of_trail trail) s
+    one : (s : List Literal) → Waits next trail s → IsClosedUnder (set_of_trail trail) s
     one s (inl met) = met
     one s (inr p) = absurd (nothing next trail (negation p.0) le p.2)
 

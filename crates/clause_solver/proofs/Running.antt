@@ -10,7 +10,7 @@ use Rattle.listed.proofs.Bools.{cases_Option}
 use Rattle.search_terms.specs.Form.{conflict_sentence}
 use Rattle.search_terms.proofs.Forms.{in_map}
 use Rattle.search_terms.specs.declared.literals.Literal.{Literal}
-use Rattle.search_terms.specs.Closure.{literal, negation, is_same, forces, is_refuted, IsMet, IsUnitClosed}
+use Rattle.search_terms.specs.Closure.{literal, negation, is_same, forces, is_refuted, IsClosedUnder, IsUnitClosed}
 use Rattle.search_terms.specs.Marks.{flag_place, IsConsistent}
 pub use Rattle.search_terms.proofs.Lists.{item_at}
 use Rattle.search_terms.proofs.Sets.{find_some, find_none, forces_mono, Contains-head}
@@ -60,14 +60,14 @@ pub none_free : (set : Literal → Bool) (s : List Literal) → find (λ m. not 
 none_free set s h = refuted_all set s (find_none (λ m. not (set (negation m))) s h)
 
 -- a sentence with a literal of the set that is not contradicted is met
-pub met_by : (set : Literal → Bool) (s : List Literal) (l : Literal) → Contains s l → set l ≡ true → set (negation l) ≡ false → IsMet set s
+pub met_by : (set : Literal → Bool) (s : List Literal) (l : Literal) → Contains s l → set l ≡ true → set (negation l) ≡ false → IsClosedUnder set s
 met_by set s l here t f = λ i d lt h. elim (forces_at set (get_or s i d) s l h here) [
   | inl e ↦ subst (λ z. set z ≡ true) e t
   | inr c ↦ absurd (both_ways (set (negation l)) f c)
 ]
 
 -- a sentence that does not force its free literal is met
-pub met_free : (set : Literal → Bool) (s : List Literal) (l : Literal) → Contains s l → set (negation l) ≡ false → forces set l s ≡ false → IsMet set s
+pub met_free : (set : Literal → Bool) (s : List Literal) (l : Literal) → Contains s l → set (negation l) ≡ false → forces set l s ≡ false → IsClosedUnder set s
 met_free set s l here f n = λ i d lt h. elim (forces_at set (get_or s i d) s l h here) [
   | inl e ↦ absurd (both_ways (forces set l s) n (subst (λ z. forces set z s ≡ true) (sym e) h))
   | inr c ↦ absurd (both_ways (set (negation l)) f c)
@@ -85,7 +85,7 @@ runs_then P a b c f g = record {
 }
 
 pub closed_part : (P Q : List (List Literal)) (set : Literal → Bool) → ((s : List Literal) → Contains P s → Contains Q s) → IsUnitClosed Q set → IsUnitClosed P set
-closed_part P Q set sub closed = record { steps = λ k d lt. All-contains (IsMet set) Q (get_or P k d) closed.steps (sub (get_or P k d) (Contains-get_or P k d lt)) }
+closed_part P Q set sub closed = record { steps = λ k d lt. All-contains (IsClosedUnder set) Q (get_or P k d) closed.steps (sub (get_or P k d) (Contains-get_or P k d lt)) }
 
 pub runs_more : (P Q : List (List Literal)) (old new : List Literal) → ((s : List Literal) → Contains P s → Contains Q s) → Runs P old new → Runs Q old new
 runs_more P Q old new sub r = record { more = r.more; behind = r.behind; consistent = r.consistent; sound = λ set closed w. r.sound set (closed_part P Q set sub closed) w }
@@ -133,7 +133,7 @@ runs_push P old new l s here member consistent free forced e = rw e (record {
   behind = refl;
   consistent = consistent_push old l consistent free;
   sound = λ set closed w m h. elim (among_cases old l m h) [
-    | inl same_one ↦ rw same_one (All-contains (λ k. forces set k s ≡ true → set k ≡ true) s l (All-contains (IsMet set) P s closed.steps here) member (forces_mono (set_of_trail old) set l s w forced))
+    | inl same_one ↦ rw same_one (All-contains (λ k. forces set k s ≡ true → set k ≡ true) s l (All-contains (IsClosedUnder set) P s closed.steps here) member (forces_mono (set_of_trail old) set l s w forced))
     | inr k ↦ w m k
   ];
 })
@@ -142,17 +142,17 @@ pub free_is : (set : Literal → Bool) (s : List Literal) (l : Literal) → find
 free_is set s l h = let w = find_some (λ m. not (set (negation m))) s l h in (w.0, not-true (set (negation l)) w.1)
 
 pub settle_put : (old new s : List Literal) (l : Literal) → IsConsistent (set_of_trail old) → find (λ m. not (set_of_trail old (negation m))) s ≡ Some l → forces (set_of_trail old) l s ≡ true → new ≡ old ++ l ∷ []
-    → Runs (s ∷ []) old new × IsMet (set_of_trail new) s
+    → Runs (s ∷ []) old new × IsClosedUnder (set_of_trail new) s
 settle_put old new s l consistent found forced e =
     let w = free_is (set_of_trail old) s l found in (
       runs_push (s ∷ []) old new l s (Contains-head s []) w.0 consistent w.1 forced e,
       rw e (met_by (set_of_trail (old ++ l ∷ [])) s l w.0 (among_last old l) (still_free old l w.1)),
     )
 
-pub settle_has : (old s : List Literal) (l : Literal) → find (λ m. not (set_of_trail old (negation m))) s ≡ Some l → set_of_trail old l ≡ true → IsMet (set_of_trail old) s
+pub settle_has : (old s : List Literal) (l : Literal) → find (λ m. not (set_of_trail old (negation m))) s ≡ Some l → set_of_trail old l ≡ true → IsClosedUnder (set_of_trail old) s
 settle_has old s l found t = let w = free_is (set_of_trail old) s l found in met_by (set_of_trail old) s l w.0 t w.1
 
-pub settle_not : (old s : List Literal) (l : Literal) → find (λ m. not (set_of_trail old (negation m))) s ≡ Some l → forces (set_of_trail old) l s ≡ false → IsMet (set_of_trail old) s
+pub settle_not : (old s : List Literal) (l : Literal) → find (λ m. not (set_of_trail old (negation m))) s ≡ Some l → forces (set_of_trail old) l s ≡ false → IsClosedUnder (set_of_trail old) s
 settle_not old s l found n = let w = free_is (set_of_trail old) s l found in met_free (set_of_trail old) s l w.0 w.1 n
 
 -- where no literal's other sign is newly marked, the same is forced
@@ -208,7 +208,7 @@ sweep_runs P old cur new s here a b = runs_then P old cur new a (runs_more (s �
 pub waits_after : (P : List (List Literal)) (old cur new s : List Literal) (Q : List (List Literal)) → Runs P old cur → Runs Q cur new → Waits (length old) cur s → Waits (length old) new s
 waits_after P old cur new s Q a b w = rw b.behind (waits_grow (length old) cur b.more s (runs_longer P old cur a) w)
 
-pub sweep_waits : (P : List (List Literal)) (old cur new s : List Literal) (i : ℕ) → i < length P → s ≡ get_or P i s → Runs P old cur → Runs (s ∷ []) cur new → IsMet (set_of_trail new) s
+pub sweep_waits : (P : List (List Literal)) (old cur new s : List Literal) (i : ℕ) → i < length P → s ≡ get_or P i s → Runs P old cur → Runs (s ∷ []) cur new → IsClosedUnder (set_of_trail new) s
     → All (Waits (length old) cur) (take i P) → All (Waits (length old) new) (take (i + 1) P)
 sweep_waits P old cur new s i lt e a b met before =
     All-more (Waits (length old) new) P i s lt
@@ -224,7 +224,7 @@ no_use = record { sentence = 0; one = 0; other = 0 }
 
 -- one use of those looked at in turn
 pub row_waits : (P : List (List Literal)) (row : List Use) (old cur new : List Literal) (i : ℕ) (d : Use) → i < length row → Runs P old cur
-    → Runs (get_or P (get_or row i d).sentence [] ∷ []) cur new → IsMet (set_of_trail new) (get_or P (get_or row i d).sentence [])
+    → Runs (get_or P (get_or row i d).sentence [] ∷ []) cur new → IsClosedUnder (set_of_trail new) (get_or P (get_or row i d).sentence [])
     → All (λ u. Waits (length old) cur (get_or P u.sentence [])) (take i row) → All (λ u. Waits (length old) new (get_or P u.sentence [])) (take (i + 1) row)
 row_waits P row old cur new i d lt a b met before =
     All-more (λ u. Waits (length old) new (get_or P u.sentence [])) row i d lt
@@ -233,7 +233,7 @@ row_waits P row old cur new i d lt a b met before =
     (inl met)
 
 -- a sentence with two literals that are not contradicted is met
-pub met_two_free : (set : Literal → Bool) (own : List (List Literal)) (u : Use) → IsUse own u → HasTwoFree set u → IsMet set (get_or own u.sentence [])
+pub met_two_free : (set : Literal → Bool) (own : List (List Literal)) (u : Use) → IsUse own u → HasTwoFree set u → IsClosedUnder set (get_or own u.sentence [])
 met_two_free set own u of idle = λ i d lt h.
     let k = get_or (get_or own u.sentence []) i d in
     let is_k : (m : Literal) → Contains (get_or own u.sentence []) m → set (negation m) ≡ false → m ≡ k =
@@ -249,13 +249,13 @@ pair_in p others i lt = in_contains (map (conflict_sentence p) others) (conflict
 pub old_kept : (P : List (List Literal)) (old new : List Literal) (l : Literal) → Runs P old new → set_of_trail old l ≡ true → set_of_trail new l ≡ true
 old_kept P old new l r h = rw r.behind (among_more old r.more l h)
 
-pub pair_excludes : (set : Literal → Bool) (p q : ℕ) → set (literal p true) ≡ true → IsMet set (conflict_sentence p q) → set (literal q false) ≡ true
+pub pair_excludes : (set : Literal → Bool) (p q : ℕ) → set (literal p true) ≡ true → IsClosedUnder set (conflict_sentence p q) → set (literal q false) ≡ true
 pair_excludes set p q t met = met 1 (literal q false) (omega arith) (and_from (is_same (literal p false) (literal q false) || set (literal p true)) (forces set (literal q false) (literal q false ∷ []))
     (or_right (is_same (literal p false) (literal q false)) (set (literal p true)) t)
     (and_from (is_same (literal q false) (literal q false) || set (literal q true)) true (or_left (is_same (literal q false) (literal q false)) (set (literal q true)) (same_refl (literal q false))) refl))
 
 pub excluded_more : (p : ℕ) (others : List ℕ) (old cur new s : List Literal) (i : ℕ) → i < length others → s ≡ conflict_sentence p (get_or others i 0) → set_of_trail old (literal p true) ≡ true
-    → Runs (map (conflict_sentence p) others) old cur → Runs (s ∷ []) cur new → IsMet (set_of_trail new) s
+    → Runs (map (conflict_sentence p) others) old cur → Runs (s ∷ []) cur new → IsClosedUnder (set_of_trail new) s
     → All (λ q. set_of_trail cur (literal q false) ≡ true) (take i others) → All (λ q. set_of_trail new (literal q false) ≡ true) (take (i + 1) others)
 excluded_more p others old cur new s i lt e t a b met before =
     let c : Runs (map (conflict_sentence p) others) old new = sweep_runs (map (conflict_sentence p) others) old cur new s (rw e (pair_in p others i lt)) a b in

@@ -2,7 +2,7 @@
 -- Propagation: sentences that are met, that wait for a literal to be looked at, or that are refuted.
 use Rattle.std.specs.Prelude.{◌≡◌, ℕ, Bool, true, List, ◌++◌, ◌⊎◌, drop, Contains}
 use Rattle.search_terms.specs.declared.literals.Literal.{Literal}
-use Rattle.search_terms.specs.Closure.{negation, is_refuted, IsMet, IsUnitClosed}
+use Rattle.search_terms.specs.Closure.{negation, is_refuted, IsClosedUnder, IsUnitClosed}
 use Rattle.search_terms.specs.Marks.{IsWithin, IsConsistent}
 use Rattle.clause_solver.specs.Marking.{set_of_trail}
 
@@ -23,4 +23,4 @@ IsPending queue sentence = (m : Literal) × Contains sentence m × Contains queu
 
 -- the literals of the trail from the height on have not been looked at: the sentence is met, or one of them is on it
 abbrev pub Waits : ℕ → List Literal → List Literal → Type 0
-Waits height trail sentence = IsMet (set_of_trail trail) sentence ⊎ IsPending (drop height trail) sentence
+Waits height trail sentence = IsClosedUnder (set_of_trail trail) sentence ⊎ IsPending (drop height trail) sentence

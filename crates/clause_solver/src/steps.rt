@@ -1,7 +1,7 @@
 //! Unit steps of sentences; each call answers whether it came upon a contradiction.
 ghost use Rattle.std.specs.Prelude.{◌≡◌, ◌<◌, ◌∷◌, [], true, false, All, OnOk, IfOk, length, map, slice_index_or};
 ghost use Rattle.std.specs.Bool.{OnTrue, OnFalse};
-ghost use Rattle.search_terms.specs.Closure.{literal, InRange, IsMet, is_refuted};
+ghost use Rattle.search_terms.specs.Closure.{literal, InRange, IsClosedUnder, is_refuted};
 ghost use Rattle.search_terms.specs.Marks.{IsConsistent};
 ghost use Rattle.search_terms.specs.Form.{conflict_sentence};
 ghost use Rattle.clause_solver.specs.Marking.{set_of_trail};
@@ -20,7 +20,7 @@ pub(crate) fn unit_step(trail: &mut Trail, sentence: &[Literal]) -> Result<bool,
     requires consistent { IsConsistent (set_of_trail trail.old.1) }
     ensures classes { OnOk result (trail.new.0 ≡ trail.old.0) }
     ensures runs { OnOk result (Runs (sentence.now ∷ []) trail.old.1 trail.new.1) }
-    ensures met { IfOk result (λ contradiction. OnFalse contradiction (IsMet (set_of_trail trail.new.1) sentence.now)) }
+    ensures met { IfOk result (λ contradiction. OnFalse contradiction (IsClosedUnder (set_of_trail trail.new.1) sentence.now)) }
     ensures refuted { IfOk result (λ contradiction. OnTrue contradiction (is_refuted (set_of_trail trail.new.1) sentence.now ≡ true)) }
 {
     let Some(l) = first_free(trail, sentence) else {
@@ -67,7 +67,7 @@ fn propagate_use(
     requires used { IsUse sentences.now entry }
     ensures classes { OnOk result (trail.new.0 ≡ trail.old.0) }
     ensures runs { OnOk result (Runs (slice_index_or sentences.now entry.sentence [] ∷ []) trail.old.1 trail.new.1) }
-    ensures met { IfOk result (λ contradiction. OnFalse contradiction (IsMet (set_of_trail trail.new.1) (slice_index_or sentences.now entry.sentence []))) }
+    ensures met { IfOk result (λ contradiction. OnFalse contradiction (IsClosedUnder (set_of_trail trail.new.1) (slice_index_or sentences.now entry.sentence []))) }
     ensures refuted { IfOk result (λ contradiction. OnTrue contradiction (is_refuted (set_of_trail trail.new.1) (slice_index_or sentences.now entry.sentence []) ≡ true)) }
 {
     if has_two_free(trail, entry) {

@@ -44,15 +44,15 @@ is_harmless R p d y =
     not (eqb y p) && (has d y || (against R p y || list_any (λ e. list_all (against R y) e) (others R p d)))
 
 -- whether the clause c is hit wherever p is in and the clauses of p other than d are hit: it holds p, or includes one of these
-abbrev pub is_met : Repository → ℕ → List ℕ → List ℕ → Bool
-is_met R p d c = has c p || list_any (λ e. is_inside e c) (others R p d)
+abbrev pub is_hit_anyway : Repository → ℕ → List ℕ → List ℕ → Bool
+is_hit_anyway R p d c = has c p || list_any (λ e. is_inside e c) (others R p d)
 
 -- whether the member x of d can be put in wherever p is in and d is not hit
 abbrev pub is_idle : Repository → ℕ → List ℕ → ℕ → Bool
 is_idle R p d x =
     has d x
     && (list_all (λ y. not (against R x y) || is_harmless R p d y) (packages R)
-    && list_all (is_met R p d) (clauses_of R x))
+    && list_all (is_hit_anyway R p d) (clauses_of R x))
 
 -- whether the clause d of p is dropped: it is forced, or idle by one of its members
 abbrev pub is_dropped : Repository → ℕ → List ℕ → Bool

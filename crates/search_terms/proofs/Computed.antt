@@ -10,7 +10,7 @@ use Rattle.std.proofs.lemmas.List.Folds.{Any-from_list_any, list_any-from_Any}
 use Rattle.listed.proofs.Bools.{cases_Option}
 use Rattle.listed.proofs.Lists.{any_cases}
 use Rattle.search_terms.specs.declared.literals.Literal.{Literal}
-use Rattle.search_terms.specs.Closure.{literal, is_same, same_sign, forces, is_refuted, IsMet, IsUnitClosed, HasGiven, IsClosure, InRange}
+use Rattle.search_terms.specs.Closure.{literal, is_same, same_sign, forces, is_refuted, IsClosedUnder, IsUnitClosed, HasGiven, IsClosure, InRange}
 use Rattle.search_terms.specs.Marks.{IsWithin, IsForced, HasClash, classes_left, true_classes}
 use Rattle.search_terms.specs.Tree.{is_open_need, is_undecided, Tree, IsTree}
 use Rattle.search_terms.specs.Tree.Tree.{failed_leaf, found_leaf, split}
@@ -32,9 +32,9 @@ next_forced (x ∷ xs) s l h = elim (cases_Option (unit_in s x)) [
 
 -- where there is none, the set is closed
 none_closed : (formula : List (List Literal)) (s : Literal → Bool) → next_unit formula s ≡ None → IsUnitClosed formula s
-none_closed [] s h = record { steps = All-nil (IsMet s) }
+none_closed [] s h = record { steps = All-nil (IsClosedUnder s) }
 none_closed (x ∷ xs) s h = elim (cases_Option (unit_in s x)) [
-  | inl none ↦ record { steps = All-cons (IsMet s) x xs (sentence_met s x none) (none_closed xs s (rw none at h)).steps }
+  | inl none ↦ record { steps = All-cons (IsClosedUnder s) x xs (sentence_met s x none) (none_closed xs s (rw none at h)).steps }
   | inr some ↦ absurd (cc (rw some.1 at h))
 ]
 
@@ -128,7 +128,7 @@ steps_closed (suc k) n formula s range le = elim (cases_Option (next_unit formul
 forced_within : (formula : List (List Literal)) (s t : Literal → Bool) (l : Literal) → IsForced formula s l → IsWithin s t → IsUnitClosed formula t → t l ≡ true
 forced_within formula s t l forced w closed =
     All-contains (λ k. forces t k forced.sentence ≡ true → t k ≡ true) forced.sentence l
-    (All-contains (IsMet t) formula forced.sentence closed.steps forced.here)
+    (All-contains (IsClosedUnder t) formula forced.sentence closed.steps forced.here)
     forced.member (forces_mono s t l forced.sentence w forced.forced)
 
 unit_least : (formula : List (List Literal)) (s t : Literal → Bool) (o : Option Literal) → next_unit formula s ≡ o → IsWithin s t → IsUnitClosed formula t → IsWithin (with_unit s o) t

@@ -31,12 +31,12 @@ abbrev pub is_refuted : (Literal → Bool) → List Literal → Bool
 is_refuted set sentence = list_all (λ m. set (negation m)) sentence
 
 -- what the sentence forces is in the set
-abbrev pub IsMet : (Literal → Bool) → List Literal → Type 0
-IsMet set sentence = All (λ l. forces set l sentence ≡ true → set l ≡ true) sentence
+abbrev pub IsClosedUnder : (Literal → Bool) → List Literal → Type 0
+IsClosedUnder set sentence = All (λ l. forces set l sentence ≡ true → set l ≡ true) sentence
 
 -- closed under unit steps
 pub record IsUnitClosed (formula : List (List Literal)) (set : Literal → Bool) : Type 0 where
-  pub steps : All (IsMet set) formula
+  pub steps : All (IsClosedUnder set) formula
 
 -- the set has each of the given literals
 abbrev pub HasGiven : (Literal → Bool) → List Literal → Type 0

@@ -10,7 +10,7 @@ use Rattle.row_book.specs.Book.{repository_of, listed_for, Sound}
 use Rattle.row_book.specs.Needs.{NeedsFit}
 use Rattle.row_book.specs.Repository.{Repository}
 use Rattle.row_book.specs.declared.book.Book.{Book}
-use Rattle.search_terms.specs.Closure.{literal, negation, is_same, Clashes, InClosure, IsMet}
+use Rattle.search_terms.specs.Closure.{literal, negation, is_same, Clashes, InClosure, IsClosedUnder}
 use Rattle.search_terms.specs.Form.{conflict_sentence, form, goal_sentence}
 use Rattle.search_terms.specs.Tree.Tree.{failed_leaf}
 use Rattle.search_terms.proofs.Certificates.{same_refl}
@@ -26,7 +26,7 @@ use Rattle.suite_compare.proofs.Judged.{pair_fits, tree_is}
 -- the class of a goal of one class is true at the root
 single_true : (R : Repository) (goals : List (List ℕ)) (p : ℕ) → In (p ∷ []) goals → InClosure (form R goals) [] (literal p true)
 single_true R goals p i = λ set holds closed.
-    All-contains (IsMet set) (form R goals) (goal_sentence (p ∷ [])) closed.steps (in_contains (form R goals) (goal_sentence (p ∷ [])) (goal_in R goals (p ∷ []) i))
+    All-contains (IsClosedUnder set) (form R goals) (goal_sentence (p ∷ [])) closed.steps (in_contains (form R goals) (goal_sentence (p ∷ [])) (goal_in R goals (p ∷ []) i))
     0 (literal p true) (omega arith)
     (and_from (is_same (literal p true) (literal p true) || set (literal p false)) true (or_left (is_same (literal p true) (literal p true)) (set (literal p false)) (same_refl (literal p true))) refl)
 

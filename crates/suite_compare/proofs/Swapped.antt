@@ -14,7 +14,7 @@ use Rattle.row_book.specs.Needs.{NeedsFit}
 use Rattle.row_book.specs.Repository.{Repository}
 use Rattle.row_book.specs.declared.book.Book.{Book}
 use Rattle.search_terms.specs.declared.literals.Literal.{Literal}
-use Rattle.search_terms.specs.Closure.{literal, negation, is_same, forces, IsMet, IsUnitClosed, IsClosure, InClosure}
+use Rattle.search_terms.specs.Closure.{literal, negation, is_same, forces, IsClosedUnder, IsUnitClosed, IsClosure, InClosure}
 use Rattle.search_terms.specs.Form.{form, goal_sentence, repository_form}
 use Rattle.search_terms.specs.Tree.{is_open_need, Tree, IsTree}
 use Rattle.search_terms.specs.Tree.Tree.{failed_leaf, found_leaf, split}
@@ -57,7 +57,7 @@ one_is_met : (c : ℕ) (rest : List (List Literal)) (set : Literal → Bool) →
 one_is_met c rest set closed =
     let l = literal c true in
     let forced : forces set l (l ∷ []) ≡ true = and_from (is_same l l || set (negation l)) true (or_left (is_same l l) (set (negation l)) (same_refl l)) refl in
-    let met : set l ≡ true = All-head (λ m. forces set m (l ∷ []) ≡ true → set m ≡ true) l [] (All-head (IsMet set) (goal_sentence (c ∷ [])) rest closed.steps) forced in
+    let met : set l ≡ true = All-head (λ m. forces set m (l ∷ []) ≡ true → set m ≡ true) l [] (All-head (IsClosedUnder set) (goal_sentence (c ∷ [])) rest closed.steps) forced in
     rw met refl
 
 tree_swap : (n c : ℕ) (b : List Literal) (rest : List (List Literal)) (given : List Literal) (tree : Tree) → IsTree n (goal_sentence (c ∷ []) ∷ (b ∷ rest)) given tree → IsTree n (b ∷ (goal_sentence (c ∷ []) ∷ rest)) given tree

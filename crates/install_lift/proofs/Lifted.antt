@@ -6,7 +6,7 @@ use Rattle.std.specs.List.{list_any}
 use Rattle.row_book.specs.Sets.{NumSet, Is, plus, union}
 use Rattle.row_book.specs.Repository.{Repository, Healthy}
 use Rattle.row_book.specs.Support.{IsRow}
-use Rattle.row_book.specs.Sound.{SoundRepository, TidyRepository}
+use Rattle.row_book.specs.Sound.{SoundRepository}
 use Rattle.row_book.specs.Flattening.{core_of, flat}
 use Rattle.row_book.specs.Merging.{class_of, class_list, firsts, members, quotient}
 use Rattle.row_book.specs.Pruning.{IdleClause, lift_idle, lift_all, prune, idle_steps}
@@ -64,23 +64,18 @@ flattened_by limit hold R s = record {
   conflicts = flat_conflicts limit hold R;
 }
 
--- the repository of the classes, and what pruning and thinning leave of it
-merged_is_tidy : (limit : ℕ) (hold : Bool) → (R : Repository) → SoundRepository R → TidyRepository (quotient (flat limit hold R))
-merged_is_tidy limit hold R s = merge_is_tidy_lem (flat limit hold R) (flat_sound limit hold R s)
+-- a round leaves a sound repository of the classes
+record LeftByRound (limit : ℕ) (hold : Bool) (R : Repository) : Type 0 where
+  sound : SoundRepository (round limit hold R)
+  size : length (round limit hold R).clauses ≡ length (firsts (flat limit hold R))
 
-pruned_is_sound : (limit : ℕ) (hold : Bool) → (R : Repository) → SoundRepository R → SoundRepository (prune (quotient (flat limit hold R)))
-pruned_is_sound limit hold R s = (prune_step (quotient (flat limit hold R)) (merged_is_tidy limit hold R s)).tidy.sound
-
-round_is_sound : (limit : ℕ) (hold : Bool) → (R : Repository) → SoundRepository R → SoundRepository (round limit hold R)
+left_by_round : (limit : ℕ) (hold : Bool) → (R : Repository) → SoundRepository R → LeftByRound limit hold R
 unfolding round
-round_is_sound limit hold R s = (thin_is_sound_lem (prune (quotient (flat limit hold R))) (pruned_is_sound limit hold R s)).sound
-
-round_has_classes : (limit : ℕ) (hold : Bool) → (R : Repository) → SoundRepository R → length (round limit hold R).clauses ≡ length (firsts (flat limit hold R))
-unfolding round
-round_has_classes limit hold R s =
-    ap length (thin_is_sound_lem (prune (quotient (flat limit hold R))) (pruned_is_sound limit hold R s)).clauses
-    ∙ (prune_step (quotient (flat limit hold R)) (merged_is_tidy limit hold R s)).size
-    ∙ merged_size (flat limit hold R)
+left_by_round limit hold R s =
+    let F = flat limit hold R in
+    let pruned = prune_step (quotient F) (merge_is_tidy_lem F (flat_sound limit hold R s)) in
+    let thinned = thin_is_sound_lem (prune (quotient F)) pruned.tidy.sound in
+    record { sound = thinned.sound; size = ap (λ c. length c) thinned.clauses ∙ pruned.size ∙ merged_size F }
 
 -- what is lifted through flattening, merging and pruning, from what is healthy after a round
 pub record LiftedRound (limit : ℕ) (hold : Bool) (R : Repository) (I T : NumSet) : Type 0 where
@@ -99,7 +94,7 @@ lift_round limit hold R I T s healthy h =
     let back : pruned ≡ lift_all I idle = idle_is idle I pruned h.1.1 in
     let classes : merged ≡ members F (lift_all I idle) = h.1.2 ∙ ap (members_by (class_list F)) back ∙ members_are F (lift_all I idle) in
     let in_prune : Healthy (prune Q) I = (thin_keeps_lem (prune Q) I).1 healthy in
-    let in_quotient : Healthy Q (lift_all I idle) = prune_lifts_lem Q I (merged_is_tidy limit hold R s) in_prune in
+    let in_quotient : Healthy Q (lift_all I idle) = prune_lifts_lem Q I (merge_is_tidy_lem F (flat_sound limit hold R s)) in_prune in
     let in_flat : Healthy F merged = subst (λ K. Healthy F K) (sym classes) (merge_lifts_lem F (lift_all I idle) (flat_sound limit hold R s) in_quotient) in
     let core = kept_after limit hold R (between R s) (length R.clauses) in
     record {
@@ -114,7 +109,7 @@ lift_round limit hold R I T s healthy h =
 class_within : (limit : ℕ) (hold : Bool) → (R : Repository) (p : ℕ) → SoundRepository R → p < length R.clauses → class_of (flat limit hold R) p < length (round limit hold R).clauses
 class_within limit hold R p s lt =
     let plt : p < length (flat limit hold R).clauses = rw (flat_size limit hold) lt in
-    rw (round_has_classes limit hold R s) ((has_class_lem (flat limit hold R) p plt).within)
+    rw (left_by_round limit hold R s).size ((has_class_lem (flat limit hold R) p plt).within)
 
 -- one round after another
 lift_rounds : (limit : ℕ) (hold : Bool) → (n : ℕ) (R : Repository) (I T : NumSet) → SoundRepository R → Healthy (rounds limit hold R n) I → IsLift (steps_after limit hold R n) I T
@@ -122,7 +117,7 @@ lift_rounds : (limit : ℕ) (hold : Bool) → (n : ℕ) (R : Repository) (I T : 
 lift_rounds limit hold zero R I T s healthy h = (subst (λ K. Healthy R K) (sym h) healthy, λ p lt i. subst (λ K. Is K p) (sym h) i)
 lift_rounds limit hold (suc n) R I T s healthy h =
     let parts = lift_parts (round_steps limit hold R) (steps_after limit hold (round limit hold R) n) I T h in
-    let later = lift_rounds limit hold n (round limit hold R) I parts.0 (round_is_sound limit hold R s) healthy parts.1 in
+    let later = lift_rounds limit hold n (round limit hold R) I parts.0 (left_by_round limit hold R s).sound healthy parts.1 in
     let first = lift_round limit hold R parts.0 T s later.0 parts.2 in (
       first.healthy,
       (λ p lt i. first.holds p lt (later.1 (class_of (flat limit hold R) p) (class_within limit hold R p s lt) i)),

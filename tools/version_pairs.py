@@ -13,6 +13,7 @@ import sys
 
 sys.dont_write_bytecode = True
 import dpkg
+from command import parser_of, run
 
 TARGET = os.path.join(os.path.dirname(os.path.abspath(__file__)), "../crates/tool_versions")
 
@@ -58,6 +59,7 @@ def pairs():
 
 
 def main():
+    parser_of(__doc__).parse_args()
     asked, signs = [], []
     for left, sign, right in pairs():
         asked += [f"{left} {right}", f"{right} {left}"]
@@ -70,8 +72,9 @@ def main():
     for name, lines in (("stdin", asked), ("stdout", signs)):
         with open(os.path.join(TARGET, name), "w", encoding="ascii") as out:
             out.writelines(line + "\n" for line in lines)
-    print(f"{len(asked)} pairs")
+    print(f"{len(asked)} lines")
+    return 0
 
 
 if __name__ == "__main__":
-    main()
+    run(main)

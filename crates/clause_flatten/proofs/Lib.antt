@@ -27,4 +27,4 @@ pub mod PoolRows
 pub mod Free
 pub mod Passing
 pub mod Running
-pub mod Flattened
+pub mod TidyFlat

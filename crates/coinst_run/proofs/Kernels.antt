@@ -31,7 +31,7 @@ use Rattle.listed.proofs.Orders.{ascending_filter}
 use Rattle.row_book.proofs.Numbers.{length_numbers, numbers_ascending, numbers_from, numbers_parts}
 use Rattle.clause_flatten.proofs.Stages.{without_hold_lem}
 use Rattle.kernel_rounds.specs.Laws.{IsKernel}
-use Rattle.clause_flatten.proofs.Flattened.{flat_order, flat_tidy}
+use Rattle.clause_flatten.proofs.TidyFlat.{flat_order, flat_tidy}
 use Rattle.kernel_rounds.proofs.Reached.{kernel_is_lem}
 use Rattle.kernel_rounds.proofs.Settling.{fixed_parts_lem}
 use Rattle.kernel_text.specs.KernelJson.{kernel_json}

@@ -23,7 +23,7 @@ use Rattle.class_merge.proofs.MergedRows.{class_at, list_size}
 use Rattle.clause_prune.proofs.Dropping.{prune_step}
 use Rattle.clause_prune.proofs.Lifted.{prune_lifts_lem}
 use Rattle.conflict_reduce.proofs.Thinned.{thin_is_sound_lem, thin_keeps_lem}
-use Rattle.clause_flatten.proofs.Flattened.{flat_size, flat_row, flat_conflicts, flat_sound}
+use Rattle.clause_flatten.proofs.TidyFlat.{flat_size, flat_row, flat_conflicts, flat_sound}
 use Rattle.install_lift.specs.Lifting.{members_by, IsLiftThrough, IsLift}
 use Rattle.install_lift.specs.Laws.{LiftIsHealthy, LiftIsOne}
 

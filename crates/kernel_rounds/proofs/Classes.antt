@@ -19,7 +19,7 @@ use Rattle.row_book.proofs.Numbers.{length_numbers, numbers_from, numbers_parts}
 use Rattle.class_merge.proofs.Classes.{alike_self, first_within, has_class_lem}
 use Rattle.class_merge.proofs.Groups.{class_unique}
 use Rattle.class_merge.proofs.Plain.{firsts_le}
-use Rattle.clause_flatten.proofs.Flattened.{flat_size}
+use Rattle.clause_flatten.proofs.TidyFlat.{flat_size}
 use Rattle.kernel_rounds.proofs.Tails.{round_size, round_sound, thin_tail}
 
 -- a round has a package for each class of the flattened repository, and stays sound

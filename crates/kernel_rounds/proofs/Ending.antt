@@ -23,7 +23,7 @@ use Rattle.class_merge.proofs.Plain.{firsts_le, merge_plain_lem, plain_conflicts
 use Rattle.clause_prune.proofs.Dropping.{lighter_trans}
 use Rattle.kernel_rounds.specs.Tails.{Lighter, Tail, conflict_count, round_with, rounds_with}
 use Rattle.kernel_rounds.specs.Laws.{RowsInOrder, TailsEnd, standing_count, stands}
-use Rattle.clause_flatten.proofs.Flattened.{flat_conflicts, flat_minimal, flat_order, flat_row, flat_size, flat_sound, flat_tidy}
+use Rattle.clause_flatten.proofs.TidyFlat.{flat_conflicts, flat_minimal, flat_order, flat_row, flat_size, flat_sound, flat_tidy}
 use Rattle.kernel_rounds.proofs.Plain.{flat_is_plain, flat_plain_lem, plain_parts}
 use Rattle.kernel_rounds.proofs.Standing.{StandsAt, blocks_stand, standing_few, standing_or, stands_from, stands_parts}
 use Rattle.kernel_rounds.proofs.Tails.{merged_tidy, round_size, round_sound}

@@ -33,7 +33,7 @@ use Rattle.kernel_rounds.specs.declared.error.RoundError.{RoundError}
 use Rattle.kernel_rounds.specs.declared.error.RoundError.TheVariants.{Limit, Memory}
 use Rattle.kernel_rounds.specs.Extracting.{HasStepsBefore, IsMidway, IsReached, OnRoundLimit, refusal}
 use Rattle.kernel_rounds.specs.Moving.{HasSteps}
-use Rattle.clause_flatten.proofs.Flattened.{flat_size}
+use Rattle.clause_flatten.proofs.TidyFlat.{flat_size}
 use Rattle.kernel_rounds.proofs.Reached.{kernel_is_lem, repository_test, rounds_sound, same_from}
 use Rattle.kernel_rounds.proofs.Classes.{class_within}
 

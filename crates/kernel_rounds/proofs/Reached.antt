@@ -26,7 +26,7 @@ use Rattle.clause_prune.proofs.Dropping.{Step, package_step}
 use Rattle.kernel_rounds.specs.Tails.{rounds_with, image_with}
 use Rattle.kernel_rounds.specs.Laws.{LeftByEach, FixedIsSettled, RoundsKept, KernelIs, KernelKeeps, ImageIsOfClasses}
 use Rattle.kernel_rounds.proofs.Ending.{tails_end_lem}
-use Rattle.clause_flatten.proofs.Flattened.{flat_minimal, flat_size, flat_tidy}
+use Rattle.clause_flatten.proofs.TidyFlat.{flat_minimal, flat_size, flat_tidy}
 use Rattle.kernel_rounds.proofs.Settling.{fixed_parts_lem}
 use Rattle.kernel_rounds.proofs.Tails.{image_within, round_sound, tails_keep_lem, thin_tail}
 use Rattle.kernel_rounds.proofs.Thins.{thin_needed}

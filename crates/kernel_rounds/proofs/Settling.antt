@@ -18,7 +18,7 @@ use Rattle.clause_prune.proofs.Dropping.{Step, prune_step}
 use Rattle.conflict_reduce.proofs.Thinned.{thin_is_sound_lem}
 use Rattle.kernel_rounds.specs.Laws.{FixedParts}
 use Rattle.kernel_rounds.proofs.Ending.{merge_full}
-use Rattle.clause_flatten.proofs.Flattened.{flat_conflicts, flat_minimal, flat_order, flat_row, flat_size}
+use Rattle.clause_flatten.proofs.TidyFlat.{flat_conflicts, flat_minimal, flat_order, flat_row, flat_size}
 use Rattle.kernel_rounds.proofs.Plain.{flat_plain_lem, plain_from, plain_parts}
 use Rattle.kernel_rounds.proofs.Tails.{merged_tidy}
 

@@ -17,7 +17,7 @@ use Rattle.clause_prune.proofs.Dropping.{prune_step}
 use Rattle.conflict_reduce.proofs.Thinned.{thin_is_sound_lem, thin_keeps_lem}
 use Rattle.kernel_rounds.specs.Tails.{Lighter, Tail, conflict_count, round_with}
 use Rattle.kernel_rounds.specs.Laws.{RoundsKept, TailsKeep, ThreeTails}
-use Rattle.clause_flatten.proofs.Flattened.{flat_size, flat_sound}
+use Rattle.clause_flatten.proofs.TidyFlat.{flat_size, flat_sound}
 use Rattle.kernel_rounds.proofs.Thins.{count_same, thin_or}
 
 pub merged_tidy : (limit : ℕ) (hold : Bool) → (K : Repository) → SoundRepository K → TidyRepository (quotient (flat limit hold K))

@@ -6,3 +6,4 @@ pub mod Bounds
 pub mod Readings
 pub mod Faults
 pub mod Trimmed
+pub mod Marked

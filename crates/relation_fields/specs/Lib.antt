@@ -4,3 +4,6 @@ pub mod Fields
 pub mod Spelling
 pub mod Refusals
 pub mod Meeting
+pub mod Shared
+pub mod Elements
+pub mod Codes

@@ -8,19 +8,12 @@ use std::alloc::{AllocError, Global};
 use std::marker::Model;
 use std::rc::Rc;
 
-// Atoms that are shared, with the mark of the list.
-#[derive(Drop)]
-struct SharedAtoms {
-    atoms: Listed<Atom>,
-    mark: usize,
-}
-
 /// Atoms in their order: the alternatives of an element, or the elements of `Conflicts` and `Breaks`. Several owners may
 /// share one list, and none of them sees what another puts behind it.
 #[derive(Drop)]
 pub struct AtomList {
     // An empty list has no block.
-    shared: Option<Rc<SharedAtoms>>,
+    shared: Option<Rc<Listed<Atom>>>,
 }
 
 impl Model for AtomList {
@@ -30,7 +23,7 @@ impl Model for AtomList {
 
     ghost Value = { List Atom };
 
-    ghost view = { λ s. option_map_or (λ shared. shared.value.atoms) s.shared [] };
+    ghost view = { λ s. option_map_or (λ shared. shared.value) s.shared [] };
 }
 
 impl AtomList {
@@ -58,21 +51,10 @@ impl AtomList {
     pub fn of(alloc: Global, atoms: Listed<Atom>) -> Result<Self, AllocError>
         ensures { IfOk result (λ list. list ≡ atoms) }
     {
-        AtomList::marked(alloc, atoms, 0)
-    }
-
-    /// The list of these atoms, with a mark.
-    pub(crate) fn marked(
-        alloc: Global,
-        atoms: Listed<Atom>,
-        mark: usize,
-    ) -> Result<Self, AllocError>
-        ensures { IfOk result (λ list. list ≡ atoms) }
-    {
         if atoms.as_slice().is_empty() {
             return Ok(AtomList::new());
         }
-        let shared = Rc::new(alloc, SharedAtoms { atoms, mark })?;
+        let shared = Rc::new(alloc, atoms)?;
         Ok(AtomList {
             shared: Some(shared),
         })
@@ -95,17 +77,8 @@ impl AtomList {
         ensures { result.now ≡ self.now }
     {
         match &self.shared {
-            Some(shared) => shared.as_ref().atoms.as_slice(),
+            Some(shared) => shared.as_ref().as_slice(),
             None => &[],
-        }
-    }
-
-    /// The mark of the list. An `ElementTable` counts the elements that it reads by their marks, and a list that is shared
-    /// keeps its own; other lists have the mark 0. Lists with one mark have to be compared, so no clause tells it.
-    pub fn mark(&self) -> usize {
-        match &self.shared {
-            Some(shared) => shared.as_ref().mark,
-            None => 0,
         }
     }
 }

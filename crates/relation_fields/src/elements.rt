@@ -1,5 +1,6 @@
 //! Reading the elements of a relation field.
-ghost use Rattle.std.specs.Prelude.{◌≡◌, IfOk, List, ℕ, Option};
+ghost use Rattle.std.specs.Prelude.{◌≡◌, ◌++◌, [], IfOk, List, ℕ, Option};
+ghost use Rattle.std.specs.Option.{option_to_list};
 ghost use Rattle.relation_fields.specs.Grammar.{atom_of, alternatives_of, provide_at, provide_of};
 
 use crate::atom_lists::AtomList;
@@ -17,9 +18,17 @@ pub trait ElementReader {
     /// What a text says, or nothing where it is outside the grammar.
     ghost reading: { List ℕ → Option Self.Said };
 
+    /// From the first reader to the second, elements that say this were read.
+    ghost reads: { Self → List Self.Said → Self → Type 0 };
+
     /// Reads the text of an element; it fails only where no memory is found.
     fn read(&mut self, alloc: Global, element: &[u8]) -> Result<Option<Self::Said>, AllocError>
-        ensures { IfOk result (λ said. said ≡ reading element.now) };
+        ensures said { IfOk result (λ said. said ≡ reading element.now) }
+        ensures reads { IfOk result (λ said. reads self.old (option_to_list said) self.new) };
+
+    ghost reads_none: { (reader : Self) → reads reader [] reader };
+
+    ghost reads_on: { (first second third : Self) (said more : List Self.Said) → reads first said second → reads second more third → reads first (said ++ more) third };
 }
 
 /// Each element is an atom, as in `Conflicts` and `Breaks`.
@@ -30,6 +39,12 @@ impl ElementReader for AtomReader {
     type Said = Atom;
 
     ghost reading = { atom_of };
+
+    ghost reads = { λ before said after. Unit {0} };
+
+    ghost reads_none = { λ reader. tt };
+
+    ghost reads_on = { λ first second third said more one other. tt };
 
     fn read(&mut self, alloc: Global, element: &[u8]) -> Result<Option<Atom>, AllocError> {
         read_atom(alloc, element)
@@ -45,8 +60,14 @@ impl ElementReader for NeedReader {
 
     ghost reading = { alternatives_of };
 
+    ghost reads = { λ before said after. Unit {0} };
+
+    ghost reads_none = { λ reader. tt };
+
+    ghost reads_on = { λ first second third said more one other. tt };
+
     fn read(&mut self, alloc: Global, element: &[u8]) -> Result<Option<AtomList>, AllocError> {
-        read_alternatives(alloc, element, 0)
+        read_alternatives(alloc, element)
     }
 }
 
@@ -59,18 +80,20 @@ impl ElementReader for ProvideReader {
 
     ghost reading = { provide_of };
 
+    ghost reads = { λ before said after. Unit {0} };
+
+    ghost reads_none = { λ reader. tt };
+
+    ghost reads_on = { λ first second third said more one other. tt };
+
     fn read(&mut self, alloc: Global, element: &[u8]) -> Result<Option<Provide>, AllocError> {
         read_provide(alloc, element)
     }
 }
 
-/// The alternatives between the bars, as a list with the mark.
+/// The alternatives between the bars.
 #[tactic(auto, unfolding(crate::specs::Grammar::alternatives_of))]
-pub(crate) fn read_alternatives(
-    alloc: Global,
-    text: &[u8],
-    mark: usize,
-) -> Result<Option<AtomList>, AllocError>
+pub(crate) fn read_alternatives(alloc: Global, text: &[u8]) -> Result<Option<AtomList>, AllocError>
     ensures { IfOk result (λ atoms. atoms ≡ alternatives_of text.now) }
 {
     // Most elements have one alternative, so the list begins with room for one.
@@ -84,7 +107,7 @@ pub(crate) fn read_alternatives(
         atoms.push(atom)?;
         left = behind;
     }
-    Ok(Some(AtomList::marked(alloc, atoms, mark)?))
+    Ok(Some(AtomList::of(alloc, atoms)?))
 }
 
 // An atom whose operator, if it has one, is `=`.

@@ -102,6 +102,7 @@ pub fn read_elements<T: ElementReader>(
     ensures said { IfOk result (λ said. said ≡ said_in T.reading value.now) }
     ensures accepted { OnOk result (first_outside T.reading value.now ≡ None) }
     ensures shape { IfErr result (OnFaultyElement (λ element. first_outside T.reading value.now ≡ Some element)) }
+    ensures reads { IfOk result (λ said. T.reads reader.old said reader.new) }
 {
     let mut said = Listed::of(Vec::with_capacity(alloc, room_for(value))?);
     let mut element = 0u32;

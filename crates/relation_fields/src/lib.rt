@@ -9,6 +9,7 @@ mod grammar;
 mod meeting;
 mod packages;
 mod relations;
+mod shared;
 mod table;
 mod texts;
 
@@ -19,6 +20,7 @@ pub use relations::{Atom, Bound, ElementList, Op, Provide, ProvideList};
 // Elements that are read once.
 pub use atom_lists::AtomList;
 pub use elements::{AtomReader, ElementReader, NeedReader, ProvideReader};
+pub use shared::SharedElements;
 pub use table::ElementTable;
 
 // Packages that meet atoms.

@@ -11,17 +11,19 @@ pub mod Short
 pub mod Booked
 pub mod Chosen
 pub mod Accepted
-pub mod AlikeLists
 pub mod Compared
 pub mod Elements
 pub mod Form
 pub mod Healthy
 pub mod Interning
-pub mod KnownIds
 pub mod Numbers
 pub mod Packages
 pub mod Paired
-pub mod Placed
+pub mod Ranked
+pub mod Marked
+pub mod Noted
+pub mod Selected
+pub mod Lines
 pub mod Places
 pub mod Naming
 pub mod NameSteps
@@ -29,3 +31,4 @@ pub mod SoundSuite
 pub mod LineCounts
 pub mod IndexSteps
 pub mod Earlier
+pub mod Picks

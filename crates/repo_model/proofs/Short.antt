@@ -1,15 +1,18 @@
 -- No value of a field is longer than the text that it stands in.
-use Rattle.std.proofs.Common.{◌≡◌, ℕ, suc, ◌+◌, ◌≤◌, Bool, true, false, cond, List, [], ◌∷◌, ◌++◌, length, drop, map, Option, Some, None, Result, Ok, refl, ap, subst, arith}
+use Rattle.std.proofs.Common.{◌≡◌, ℕ, suc, ◌+◌, ◌≤◌, Bool, true, false, cond, List, [], ◌∷◌, ◌++◌, length, drop, map, Option, Some, None, Result, Ok, inl, inr, ap, sym, subst, arith}
 use Rattle.std.specs.Prelude.{if◌then◌else◌}
 use Rattle.std.specs.List.{AllByRecursion, slice_split, onto_first, after_first, position_or_len, cons_option, filter}
 use Rattle.std.specs.Option.{option_map, option_or}
 use Rattle.std.proofs.lemmas.List.{length-append, length-drop}
+use Rattle.stanza_reader.proofs.BlankLemmas.{good, good_readings}
 use Rattle.stanza_reader.proofs.CloseLemmas.{texts_numbered}
+use Rattle.listed.specs.Lists.{In}
+use Rattle.listed.proofs.Lists.{In_cases, In_none}
 use Rattle.deb_version.specs.Grammar.{is_colon}
 use Rattle.stanza_reader.specs.Lines.{Line, is_line_feed, is_continuation, lines, numbered}
 use Rattle.stanza_reader.specs.Fields.{is_edge, name_of, behind_colon, kind_of, trimmed_start, trimmed_end, before_trimmed, trimmed, continued}
 use Rattle.stanza_reader.specs.Places.{lines_at}
-use Rattle.stanza_reader.specs.Stanzas.{is_blank_line, has_line, groups, group_shape_fault, repeat_fault, first_number, texts, kept_field, kept_fields, unless_fault, stanza_of}
+use Rattle.stanza_reader.specs.Stanzas.{readings, stanzas, is_blank_line, has_line, groups, group_shape_fault, repeat_fault, first_number, texts, kept_field, kept_fields, unless_fault, stanza_of}
 use Rattle.stanza_reader.specs.Reading.{readings_at}
 use Rattle.stanza_reader.specs.declared.place.Place.{Place}
 use Rattle.stanza_reader.specs.declared.stanza.FieldKind.{FieldKind}
@@ -164,3 +167,22 @@ values_short bytes at stanza more few next =
     let size : size_of (lines_at bytes at) ≤ length (drop at.offset bytes) + 1 = rw (texts_numbered at.line (lines (drop at.offset bytes))) (text_size (drop at.offset bytes)) in
     shorter (size_of (lines_at bytes at)) stanza.fields (omega (arith, length-drop at.offset bytes))
     (first_fits (size_of (lines_at bytes at)) (groups (lines_at bytes at)) stanza more (groups_fit (lines_at bytes at)) next)
+
+-- so it is with each stanza of a text
+each_short : (n : ℕ) (parts : List (List Line)) (all : List RawStanza) → n ≤ 1073741825 → PartsFit n parts → map stanza_of parts ≡ map good all
+    → (stanza : RawStanza) → In stanza all → HasShortValues stanza
+each_short n parts [] h fit e stanza i = absurd (In_none i)
+each_short n [] (first ∷ all) h fit e stanza i = absurd (let never : ⊥ = cc in never)
+each_short n (group ∷ parts) (first ∷ all) h fit e stanza i =
+    let more : map stanza_of parts ≡ map good all = cc in
+    elim (In_cases i) [
+      | inl is ↦ subst HasShortValues (sym is) (shorter n first.fields h (first_fits n (group ∷ parts) first (map good all) fit e))
+      | inr j ↦ each_short n parts all h fit.1 more stanza j
+    ]
+
+pub stanzas_short : (text : List ℕ) (all : List RawStanza) → length text ≤ most_bytes → stanzas text ≡ Ok all → (stanza : RawStanza) → In stanza all → HasShortValues stanza
+unfolding readings
+stanzas_short text all few e =
+    let numbers : List Line = numbered 1 (lines text) in
+    let size : size_of numbers ≤ length text + 1 = rw (texts_numbered 1 (lines text)) (text_size text) in
+    each_short (size_of numbers) (groups numbers) all (omega arith) (groups_fit numbers) (good_readings (readings text) all e)

@@ -56,7 +56,7 @@ front_is all before more read =
     ap (take (length before)) read ∙ ap (λ n. take n (map ok_of before ++ more)) (sym (length-map before ok_of)) ∙ take_front (map ok_of before) more
 
 -- the fault of a stanza behind these
-behind_is : (all : List Reading) (before : List RawStanza) (more : List Reading) (reading : Reading) → all ≡ map ok_of before ++ more
+pub behind_is : (all : List Reading) (before : List RawStanza) (more : List Reading) (reading : Reading) → all ≡ map ok_of before ++ more
     → fault_behind (take (length before) all) reading ≡ (if nat_le most_packages (length before) then Some TooMany else reading_fault before reading)
 behind_is all before more reading read =
     ap (λ front. fault_behind front reading) (front_is all before more read)
@@ -64,7 +64,7 @@ behind_is all before more reading read =
     ∙ ap (λ stanzas. if nat_le most_packages (length before) then Some TooMany else reading_fault stanzas reading) (stanzas_in-ok before)
 
 -- a fault that is there is the first
-there_first : (fault : IndexFault) (all : List Reading) (n : ℕ) (reading : Reading) (more : List Reading) → fault_behind (take n all) reading ≡ Some fault → fault_from all n (reading ∷ more) ≡ Some fault
+pub there_first : (fault : IndexFault) (all : List Reading) (n : ℕ) (reading : Reading) (more : List Reading) → fault_behind (take n all) reading ≡ Some fault → fault_from all n (reading ∷ more) ≡ Some fault
 there_first fault all n reading more e = ap (λ found. option_or found (fault_from all (n + 1) more)) e
 
 lines_first : (before : List RawStanza) (reading : Reading) (fault : IndexFault) (b : Bool) → (if b then Some TooMany else lines_fault reading) ≡ Some fault

@@ -12,6 +12,8 @@ use Rattle.relation_fields.specs.declared.packages.PackageFacts.{PackageFacts}
 use Rattle.virtual_provides.specs.Bearers.{if_so}
 use Rattle.virtual_provides.specs.Numbers.{numbers_under, numbers_where, passes_at}
 use Rattle.repo_model.specs.Facts.{is_same_package}
+use Rattle.repo_model.specs.Needs.{needs-prop, needs_of_all}
+use Rattle.repo_model.specs.declared.building.Building.{Building}
 use Rattle.repo_model.specs.declared.index.PackageIndex.{PackageIndex}
 
 -- the name of a package and the key of its version, with a space between them, which stands in no name
@@ -55,3 +57,14 @@ IsIndexOf-prop packages index =
     let finds : (facts : PackageFacts) → IsWellFormed facts → IsProp (FindsSame packages index facts (get nat_eq index.firsts (name_hash facts.name))) =
     λ facts own. FindsSame-prop packages index facts _ in
     hlevel finds
+
+-- the packages are found by their names and versions, and their elements are those that were read
+pub record IsBuilt (building : Building) : Type 0 where
+  pub indexed : IsIndexOf building.packages building.index
+  pub noted : building.elements ≡ needs_of_all building.packages
+
+pub IsBuilt-prop : (building : Building) → IsProp (IsBuilt building)
+IsBuilt-prop building =
+    let indexed : IsProp (IsIndexOf building.packages building.index) = IsIndexOf-prop building.packages building.index in
+    let noted : IsProp (building.elements ≡ needs_of_all building.packages) = needs-prop building.elements building.packages in
+    hlevel (indexed, noted)

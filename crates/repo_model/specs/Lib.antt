@@ -3,6 +3,7 @@ pub mod Fields
 pub mod Facts
 pub mod FirstFault
 pub mod Refusals
+pub mod Needs
 pub mod Building
 pub mod Reading
 pub mod Backward
@@ -10,12 +11,14 @@ pub mod Feeding
 pub mod Feed
 pub mod Stanzas
 pub mod Repository
-pub mod Laws
 pub mod Meeting
 pub mod Interning
-pub mod Known
+pub mod Ranks
+pub mod Select
 pub mod Pairs
 pub mod Goals
+pub mod Laws
 pub mod GoalRefusals
 pub mod NameOrder
 pub mod Named
+pub mod Picking

@@ -5,7 +5,7 @@ ghost use Rattle.repo_model.specs.Fields.{field_of, HasShortValues};
 ghost use Rattle.repo_model.specs.Facts.{facts_of, is_all, is_same_package, architecture_of};
 ghost use Rattle.repo_model.specs.FirstFault.{stanza_fault, duplicate_fault, mixed_fault, is_at_home};
 ghost use Rattle.repo_model.specs.Refusals.{Answers};
-ghost use Rattle.repo_model.specs.Building.{name_hash, IsWellFormed, IsIndexOf};
+ghost use Rattle.repo_model.specs.Building.{name_hash, IsBuilt, IsWellFormed, IsIndexOf};
 ghost use Rattle.relation_fields.specs.declared.packages.PackageFacts.{PackageFacts};
 ghost use Rattle.repo_model.specs.Limits.{most_packages};
 
@@ -13,7 +13,7 @@ use crate::facts::read_facts;
 use crate::fault::IndexFault;
 use crate::fields::find_field;
 use crate::index::{PackageIndex, name_hash};
-use crate::suite::PackageList;
+use crate::suite::{PackageList, Suite};
 use deb_version::Bytes;
 use relation_fields::{ElementTable, Home, PackageFacts};
 use stanza_reader::{FieldKind, RawStanza};
@@ -35,7 +35,7 @@ impl Building {
     pub(crate) fn new(alloc: Global) -> Self
         ensures packages { result.packages ≡ [] }
         ensures home { result.home.name ≡ None }
-        ensures indexed { IsIndexOf result.packages result.index }
+        ensures built { IsBuilt result }
     {
         Building {
             packages: PackageList::new(alloc),
@@ -45,15 +45,35 @@ impl Building {
         }
     }
 
+    /// The suite of the packages.
+    pub(crate) fn into_suite(self) -> Suite
+        requires few { length self.packages ≤ most_packages }
+        requires built { IsBuilt self }
+        ensures packages { result.packages ≡ self.packages }
+        ensures home { result.home ≡ self.home }
+    {
+        let Building {
+            packages,
+            home,
+            elements,
+            ..
+        } = self;
+        Suite {
+            packages,
+            home,
+            elements: elements.into_elements(),
+        }
+    }
+
     /// Puts the package of a stanza behind the others, or finds the first fault of that stanza among them.
     pub(crate) fn add(&mut self, alloc: Global, stanza: &RawStanza) -> Result<(), IndexFault>
         requires short { HasShortValues stanza.now }
         requires room { length self.old.packages < most_packages }
-        requires indexed { IsIndexOf self.old.packages self.old.index }
+        requires built { IsBuilt self.old }
         ensures fault { Answers result (stanza_fault self.old.packages self.old.home.name stanza.now) tt }
         ensures packages { OnOk result (self.new.packages ≡ self.old.packages ++ facts_of stanza.now ∷ []) }
         ensures home { OnOk result (self.new.home.name ≡ option_or self.old.home.name (architecture_of stanza.now)) }
-        ensures indexed { OnOk result (IsIndexOf self.new.packages self.new.index) }
+        ensures built { OnOk result (IsBuilt self.new) }
     {
         let facts = read_facts(alloc, &mut self.elements, stanza)?;
         let hash = name_hash(facts.name.as_slice());

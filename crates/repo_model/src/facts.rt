@@ -1,5 +1,5 @@
 //! The package that a stanza describes, or the fault of its fields.
-ghost use Rattle.std.specs.Prelude.{◌≡◌, ◌++◌, None, Some};
+ghost use Rattle.std.specs.Prelude.{◌≡◌, ◌++◌, None, Some, IfOk};
 ghost use Rattle.std.specs.List.{AllByRecursion};
 ghost use Rattle.std.specs.Option.{option_and_then, option_or};
 ghost use Rattle.deb_version.specs.Names.{is_name};
@@ -30,7 +30,8 @@ pub(crate) fn read_facts(
     stanza: &RawStanza,
 ) -> Result<PackageFacts, IndexFault>
     requires { HasShortValues stanza.now }
-    ensures { Answers result (own_fault stanza.now) (facts_of stanza.now) }
+    ensures facts { Answers result (own_fault stanza.now) (facts_of stanza.now) }
+    ensures noted { IfOk result (λ facts. elements.new ≡ elements.old ++ facts.needs) }
 {
     let line = stanza.line;
     let fields = stanza.fields.as_slice();

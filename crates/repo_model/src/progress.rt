@@ -1,6 +1,6 @@
 //! How far an index is read that comes in pieces.
 ghost use Rattle.std.specs.Prelude.{◌≤◌, length};
-ghost use Rattle.repo_model.specs.Building.{IsIndexOf, IsIndexOf-prop};
+ghost use Rattle.repo_model.specs.Building.{IsBuilt, IsBuilt-prop};
 ghost use Rattle.repo_model.specs.Limits.{most_packages};
 
 use crate::blank::closed_length;
@@ -18,7 +18,7 @@ pub(crate) struct Progress {
     pub(crate) pending: Vec<u8>,
     ghost counted: { 1 ≤ line },
     ghost few: { length building.packages ≤ most_packages },
-    ghost indexed: { IsIndexOf building.packages building.index } by { IsIndexOf-prop building.packages building.index },
+    ghost built: { IsBuilt building } by { IsBuilt-prop building },
 }
 
 impl Progress {
@@ -107,7 +107,6 @@ impl Progress {
             pending,
         } = self;
         let read = read_behind(alloc, building, &pending, line)?;
-        let Building { packages, home, .. } = read.building;
-        Ok(Suite { packages, home })
+        Ok(read.building.into_suite())
     }
 }

@@ -6,7 +6,7 @@ ghost use Rattle.std.specs.Option.{option_and_then};
 ghost use Rattle.stanza_reader.specs.Lines.{is_line_feed};
 ghost use Rattle.stanza_reader.specs.Places.{IsPlace};
 ghost use Rattle.stanza_reader.specs.Reading.{first_reading, readings_at};
-ghost use Rattle.repo_model.specs.Building.{IsIndexOf};
+ghost use Rattle.repo_model.specs.Building.{IsBuilt};
 ghost use Rattle.repo_model.specs.Feeding.{IsFront, IsSuiteOf};
 ghost use Rattle.repo_model.specs.FirstFault.{first_fault};
 ghost use Rattle.repo_model.specs.Refusals.{Refuses};
@@ -37,11 +37,11 @@ pub(crate) fn read_behind(
     requires short { length part.now ≤ most_bytes }
     requires place { IsPlace part.now (record { offset = 0; line = line }) }
     requires few { length front.packages ≤ most_packages }
-    requires indexed { IsIndexOf front.packages front.index }
+    requires built { IsBuilt front }
     ensures refused { IfErr result (λ fault. (text : List ℕ) → IsFront front line text → Refuses fault (first_fault (text ++ part.now))) }
     ensures suite { IfOk result (λ read. (text : List ℕ) → IsFront front line text → IsSuiteOf (text ++ part.now) read.building.packages read.building.home.name) }
     ensures few { IfOk result (λ read. length read.building.packages ≤ most_packages) }
-    ensures indexed { IfOk result (λ read. IsIndexOf read.building.packages read.building.index) }
+    ensures built { IfOk result (λ read. IsBuilt read.building) }
     ensures counted { IfOk result (λ read. read.line ≡ line + count_by is_line_feed part.now) }
 {
     let mut building = front;
@@ -93,8 +93,8 @@ fn read_next(alloc: Global, bytes: &[u8], at: Place, before: usize) -> Result<Ne
     }
 }
 
-// Whether an index with so many packages has room for no more.
-fn is_full(packages: usize) -> bool
+/// Whether an index with so many packages has room for no more.
+pub(crate) fn is_full(packages: usize) -> bool
     ensures { result ≡ nat_le most_packages packages }
 {
     packages >= 200_000

@@ -1,5 +1,5 @@
 //! The relation fields of a stanza.
-ghost use Rattle.std.specs.Prelude.{◌++◌};
+ghost use Rattle.std.specs.Prelude.{◌++◌, IfOk};
 ghost use Rattle.std.specs.List.{AllByRecursion};
 ghost use Rattle.std.specs.Option.{option_and_then, option_or};
 ghost use Rattle.relation_fields.specs.Fields.{said_in};
@@ -22,7 +22,8 @@ pub(crate) fn read_field<T: ElementReader>(
     kind: FieldKind,
 ) -> Result<Listed<T::Said>, IndexFault>
     requires { AllByRecursion IsShort fields.now }
-    ensures { Answers result (option_and_then (unless_said T.reading) (field_among kind fields.now)) (said_in T.reading (value_among kind fields.now)) }
+    ensures said { Answers result (option_and_then (unless_said T.reading) (field_among kind fields.now)) (said_in T.reading (value_among kind fields.now)) }
+    ensures reads { IfOk result (λ said. T.reads reader.old said reader.new) }
 {
     let Some(field) = find_field(fields, kind) else {
         return Ok(Listed::new(alloc));
@@ -44,7 +45,8 @@ pub(crate) fn read_both<T: ElementReader>(
     second: FieldKind,
 ) -> Result<Listed<T::Said>, IndexFault>
     requires { AllByRecursion IsShort fields.now }
-    ensures { Answers result (option_or (option_and_then (unless_said T.reading) (field_among first fields.now)) (option_and_then (unless_said T.reading) (field_among second fields.now))) (said_in T.reading (value_among first fields.now) ++ said_in T.reading (value_among second fields.now)) }
+    ensures said { Answers result (option_or (option_and_then (unless_said T.reading) (field_among first fields.now)) (option_and_then (unless_said T.reading) (field_among second fields.now))) (said_in T.reading (value_among first fields.now) ++ said_in T.reading (value_among second fields.now)) }
+    ensures reads { IfOk result (λ said. T.reads reader.old said reader.new) }
 {
     let mut said = read_field(alloc, reader, fields, first)?;
     let more = read_field(alloc, reader, fields, second)?;

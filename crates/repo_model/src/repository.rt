@@ -23,7 +23,7 @@ impl Suite {
     {
         let packages = self.packages.as_slice();
         let names = NameTable::build(alloc, packages)?;
-        let rows = intern_rows(alloc, pool, &names, packages, &self.home)?;
+        let rows = intern_rows(alloc, pool, &names, packages, &self.home, &self.elements)?;
         let pairs = conflict_pairs(alloc, &names, packages, &self.home)?;
         let book = Book::build(alloc, pool, &rows, &pairs)?;
         Ok(book)

@@ -1,16 +1,18 @@
 //! Suites, and how they are read.
 ghost use Rattle.std.specs.Prelude.{◌≡◌, ◌≤◌, ◌<◌, length, map, None, Some, slice_get, IfOk, IfErr, OnOk};
 ghost use Rattle.std.specs.Option.{option_map};
+ghost use Rattle.relation_fields.specs.Elements.{elements_of};
 ghost use Rattle.repo_model.specs.Facts.{facts_of};
 ghost use Rattle.repo_model.specs.FirstFault.{first_fault, home_of, stanzas_of};
 ghost use Rattle.repo_model.specs.Refusals.{Refuses};
 ghost use Rattle.repo_model.specs.Limits.{most_bytes, most_packages};
+ghost use Rattle.repo_model.specs.Needs.{needs_of_all, needs-prop};
 
 use crate::building::Building;
 use crate::fault::IndexFault;
 use crate::reading::read_behind;
 use listed::Listed;
-use relation_fields::{Home, PackageFacts};
+use relation_fields::{Home, PackageFacts, SharedElements};
 use std::alloc::Global;
 
 /// Packages in the order of their stanzas.
@@ -23,7 +25,10 @@ pub struct Suite {
     pub packages: PackageList,
     /// The common architecture of those that are not of `all`.
     pub home: Home,
+    // The elements of the packages' needs, one package's behind the other's.
+    pub(crate) elements: SharedElements,
     ghost few: { length packages ≤ most_packages },
+    ghost shared: { elements_of elements ≡ needs_of_all packages } by { needs-prop (elements_of elements) packages },
 }
 
 impl Suite {
@@ -62,6 +67,5 @@ pub fn read_suite(alloc: Global, bytes: &[u8]) -> Result<Suite, IndexFault>
     ensures home { IfOk result (λ suite. suite.home.name ≡ home_of (stanzas_of bytes.now)) }
 {
     let read = read_behind(alloc, Building::new(alloc), bytes, 1)?;
-    let Building { packages, home, .. } = read.building;
-    Ok(Suite { packages, home })
+    Ok(read.building.into_suite())
 }

@@ -5,3 +5,4 @@ pub mod HadGoals
 pub mod Judging
 pub mod NamedHomes
 pub mod Architectures
+pub mod Counting

@@ -3,11 +3,11 @@ use Rattle.std.proofs.Common.{◌≡◌, ℕ, Bool, List, [], ◌∷◌, length,
 use Rattle.std.specs.Option.{option_map}
 use Rattle.std.specs.Result.{result_err}
 use Rattle.std.proofs.lemmas.List.{length-map}
-use Rattle.stanza_reader.specs.Blanking.{blanked, HasFlags}
+use Rattle.stanza_reader.specs.Blanking.{blanked, picked}
 use Rattle.stanza_reader.specs.Stanzas.{readings, stanzas}
 use Rattle.stanza_reader.specs.declared.fault.StanzaFault.{StanzaFault}
 use Rattle.stanza_reader.specs.declared.stanza.RawStanza.{RawStanza}
-use Rattle.stanza_reader.proofs.BlankLemmas.{good, good_readings}
+use Rattle.stanza_reader.proofs.BlankLemmas.{good, good_readings, stanzas_picked}
 use Rattle.relation_fields.specs.declared.packages.Home.{Home}
 use Rattle.repo_model.specs.FirstFault.{stanzas_in, stanzas_of}
 use Rattle.repo_model.specs.declared.fault.IndexFault.TheVariants.{Stanza}
@@ -29,9 +29,11 @@ lines_fine file all e = ap (λ read. option_map Stanza (result_err read)) e
 pub lines_faulty : (file : List ℕ) (fault : StanzaFault) → stanzas file ≡ Err fault → lines_fault file ≡ Some (Stanza fault)
 lines_faulty file fault e = ap (λ read. option_map Stanza (result_err read)) e
 
-pub flags_fit : (home : Home) (file : List ℕ) (all : List RawStanza) (flags : List Bool) → stanzas file ≡ Ok all → flags ≡ map (is_own home) all → HasFlags file flags
-flags_fit home file all flags e is = record { all = all; fine = e; many = ap length is ∙ length-map all (is_own home) }
+pub flags_many : (home : Home) (all : List RawStanza) (flags : List Bool) → flags ≡ map (is_own home) all → length flags ≡ length all
+flags_many home all flags is = ap length is ∙ length-map all (is_own home)
 
-pub own_text_is : (home : Home) (file : List ℕ) (all : List RawStanza) (flags : List Bool) (made : List ℕ) → stanzas file ≡ Ok all → flags ≡ map (is_own home) all → made ≡ blanked flags file → made ≡ own_text home file
+-- the text of the own packages has the stanzas whose flags are up
+pub own_stanzas : (home : Home) (file : List ℕ) (all : List RawStanza) (flags : List Bool) → stanzas file ≡ Ok all → flags ≡ map (is_own home) all → stanzas (own_text home file) ≡ Ok (picked flags all)
 unfolding own_text
-own_text_is home file all flags made e is blank = blank ∙ ap (λ fs. blanked fs file) (is ∙ ap (map (is_own home)) (sym (all_stanzas file all e)))
+own_stanzas home file all flags e is =
+    ap (λ fs. stanzas (blanked fs file)) (ap (map (is_own home)) (all_stanzas file all e) ∙ sym is) ∙ stanzas_picked file flags all e

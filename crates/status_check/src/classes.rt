@@ -1,15 +1,15 @@
-//! Whether the packages that the index has stand together in it.
-ghost use Rattle.std.specs.Prelude.{◌≡◌, length, IfOk};
+//! What the index has of the own packages, and whether these stand together in it.
+ghost use Rattle.std.specs.Prelude.{◌≡◌, length, map, IfOk};
 ghost use Rattle.row_book.specs.Book.{repository_of};
 ghost use Rattle.row_book.specs.Needs.{NeedsFit};
 ghost use Rattle.clause_solver.specs.Outcomes.{IsBudget};
 ghost use Rattle.suite_compare.specs.Asking.{images_of};
 ghost use Rattle.suite_compare.specs.Kinds.{kernel_verdict};
 ghost use Rattle.status_check.specs.Lookup.{HasVersions};
-ghost use Rattle.status_check.specs.Report.{had_goals, state_of};
+ghost use Rattle.status_check.specs.Report.{had_goals, line_for, state_of};
 
-use crate::lookup::numbers_of;
-use crate::report::SuiteState;
+use crate::lookup::{line_of, numbers_of};
+use crate::report::{HaveList, SuiteState};
 use clause_solver::{Solver, Verdict};
 use relation_fields::PackageFacts;
 use row_book::Needs;
@@ -17,26 +17,38 @@ use std::alloc::{AllocError, Global};
 use suite_compare::{SuiteView, image_of};
 use virtual_provides::NumbersByName;
 
-/// For each of the packages that the index has the classes of those of the same name and an equal version.
-pub(crate) fn had_classes(
+/// What the index has of some packages: the line of each, and for each that it has the classes of those of the same name and an
+/// equal version.
+#[derive(Drop)]
+pub(crate) struct Had {
+    pub(crate) lines: HaveList,
+    pub(crate) classes: Needs,
+}
+
+/// Looks each of the packages up, once.
+pub(crate) fn look_up(
     alloc: Global,
     view: &SuiteView,
     table: &NumbersByName,
     packages: &[PackageFacts],
-) -> Result<Needs, AllocError>
+) -> Result<Had, AllocError>
     requires { HasVersions view.now.suite.packages table.now }
-    ensures { IfOk result (λ classes. classes ≡ images_of view.now.limit view.now.kernel.hold view.now.suite.home view.now.suite.packages (had_goals view.now.suite.packages packages.now)) }
+    ensures lines { IfOk result (λ had. had.lines ≡ map (line_for view.now.suite.packages) packages.now) }
+    ensures classes { IfOk result (λ had. had.classes ≡ images_of view.now.limit view.now.kernel.hold view.now.suite.home view.now.suite.packages (had_goals view.now.suite.packages packages.now)) }
 {
+    let mut lines = HaveList::new(alloc);
     let mut classes = Needs::new(alloc);
-    for number in packages {
-        let numbers = numbers_of(alloc, table, number)?;
+    for facts in packages {
+        let numbers = numbers_of(alloc, table, facts)?;
+        let line = line_of(alloc, facts, !numbers.is_empty())?;
+        lines.push(line)?;
         if numbers.is_empty() {
             continue;
         }
         let image = image_of(alloc, view, numbers)?;
         classes.push(&image)?;
     }
-    Ok(classes)
+    Ok(Had { lines, classes })
 }
 
 /// What the search for a healthy set with one of each of these classes tells, within a budget of failed leaves.

@@ -1,5 +1,5 @@
 //! Which stanzas of a status file are installed, and which of them are foreign.
-ghost use Rattle.std.specs.Prelude.{◌≡◌, ◌∷◌, ◌||◌, ◌≤◌, [], codes, length, map, count_by, IfOk, MatchOption};
+ghost use Rattle.std.specs.Prelude.{◌≡◌, ◌∷◌, ◌||◌, ◌<◌, ◌≤◌, ◌+◌, if◌then◌else◌, [], codes, length, map, count_by, IfOk, MatchOption};
 ghost use Rattle.std.specs.List.{position, position_or_len};
 ghost use Rattle.std.specs.Str.{bytes_eq};
 ghost use Rattle.stanza_reader.specs.Fields.{is_edge, trimmed_start};
@@ -12,40 +12,62 @@ use repo_model::{find_field, is_all};
 use stanza_reader::{FieldKind, RawStanza};
 use std::alloc::{AllocError, Global};
 
-/// For each stanza whether it is installed and not foreign to the home.
-pub(crate) fn own_flags(
+/// Which stanzas are installed and not foreign to the home, and how many are installed and foreign.
+#[derive(Drop)]
+pub(crate) struct Sorted {
+    pub(crate) own: Vec<bool>,
+    pub(crate) foreign: u64,
+}
+
+/// Sorts the stanzas of a status file. Each is looked at once.
+pub(crate) fn sort_stanzas(
     alloc: Global,
     home: &Home,
     stanzas: &[RawStanza],
-) -> Result<Vec<bool>, AllocError>
-    ensures { IfOk result (λ flags. flags.items ≡ map (is_own home.now) stanzas.now) }
+) -> Result<Sorted, AllocError>
+    ensures own { IfOk result (λ sorted. sorted.own.items ≡ map (is_own home.now) stanzas.now) }
+    ensures foreign { IfOk result (λ sorted. sorted.foreign ≡ count_by (is_foreign home.now) stanzas.now) }
 {
-    stanzas
-        .iter()
-        .map(|stanza| is_own(home, stanza))
-        .collect(alloc)
+    let mut own = Vec::with_capacity(alloc, stanzas.len())?;
+    let mut foreign = 0;
+    for stanza in stanzas {
+        let standing = standing_of(home, stanza);
+        own.push(standing.own)?;
+        foreign = counted(foreign, standing.foreign);
+    }
+    Ok(Sorted { own, foreign })
 }
 
-/// How many of the stanzas are installed and foreign to the home.
-pub(crate) fn foreign_among(home: &Home, stanzas: &[RawStanza]) -> u64
-    ensures { result ≡ count_by (is_foreign home.now) stanzas.now }
+// One more, where it counts.
+fn counted(count: u64, more: bool) -> u64
+    requires { count < 9223372036854775807 }
+    ensures { result ≡ if more then count + 1 else count }
 {
-    stanzas
-        .iter()
-        .filter(|stanza| is_foreign(home, stanza))
-        .count() as u64
+    if more { count + 1 } else { count }
 }
 
-fn is_own(home: &Home, stanza: &RawStanza) -> bool
-    ensures { result ≡ is_own home.now stanza.now }
-{
-    is_installed(stanza) && !is_elsewhere(home, stanza)
+// Whether a stanza is installed, and there not foreign or foreign.
+#[derive(Clone, Copy)]
+struct Standing {
+    own: bool,
+    foreign: bool,
 }
 
-fn is_foreign(home: &Home, stanza: &RawStanza) -> bool
-    ensures { result ≡ is_foreign home.now stanza.now }
+fn standing_of(home: &Home, stanza: &RawStanza) -> Standing
+    ensures own { result.own ≡ is_own home.now stanza.now }
+    ensures foreign { result.foreign ≡ is_foreign home.now stanza.now }
 {
-    is_installed(stanza) && is_elsewhere(home, stanza)
+    if !is_installed(stanza) {
+        return Standing {
+            own: false,
+            foreign: false,
+        };
+    }
+    let elsewhere = is_elsewhere(home, stanza);
+    Standing {
+        own: !elsewhere,
+        foreign: elsewhere,
+    }
 }
 
 // Whether the stanza has an architecture that is neither `all` nor the home.

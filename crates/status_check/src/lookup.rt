@@ -1,14 +1,14 @@
-//! What the index has of the own packages.
-ghost use Rattle.std.specs.Prelude.{◌≡◌, ◌≤◌, List, true, length, map, IfOk};
+//! The packages of the index by their names and versions, and the line of an own package.
+ghost use Rattle.std.specs.Prelude.{◌≡◌, ◌≤◌, List, true, length, IfOk};
 ghost use Rattle.deb_version.specs.Grammar.{is_version};
 ghost use Rattle.relation_fields.specs.declared.packages.PackageFacts.{PackageFacts};
 ghost use Rattle.repo_model.specs.Goals.{packages_named};
 ghost use Rattle.virtual_provides.specs.Exact.{exact_key};
 ghost use Rattle.status_check.specs.Lookup.{HasVersions};
-ghost use Rattle.status_check.specs.Report.{goal_for, line_for};
+ghost use Rattle.status_check.specs.Report.{goal_for, is_had, line_for};
 ghost use Rattle.repo_model.specs.Limits.{most_packages};
 
-use crate::report::{HaveLine, HaveList};
+use crate::report::HaveLine;
 use deb_version::Bytes;
 use relation_fields::PackageFacts;
 use std::alloc::{AllocError, Global};
@@ -42,38 +42,17 @@ pub(crate) fn numbers_of<'a>(
     Ok(table.numbers(&key))
 }
 
-/// The line of each own package.
-pub(crate) fn have_lines(
+/// The line of an own package.
+pub(crate) fn line_of(
     alloc: Global,
-    table: &NumbersByName,
-    packages: &[PackageFacts],
-) -> Result<HaveList, AllocError>
-    ensures { (index : List PackageFacts) → HasVersions index table.now → IfOk result (λ lines. lines ≡ map (line_for index) packages.now) }
-{
-    let mut lines = HaveList::new(alloc);
-    for number in packages {
-        let line = line_for(alloc, table, number)?;
-        lines.push(line)?;
-    }
-    Ok(lines)
-}
-
-// The line of an own package.
-fn line_for(
-    alloc: Global,
-    table: &NumbersByName,
     facts: &PackageFacts,
+    had: bool,
 ) -> Result<HaveLine, AllocError>
-    ensures { (index : List PackageFacts) → HasVersions index table.now → IfOk result (λ line. line ≡ line_for index facts.now) }
+    ensures { (index : List PackageFacts) → had ≡ is_had index facts.now → IfOk result (λ line. line ≡ line_for index facts.now) }
 {
-    let numbers = numbers_of(alloc, table, facts)?;
     let name = Bytes::copy(alloc, facts.name.as_slice())?;
     let version = Bytes::copy(alloc, facts.version.text())?;
-    Ok(HaveLine {
-        name,
-        version,
-        had: !numbers.is_empty(),
-    })
+    Ok(HaveLine { name, version, had })
 }
 
 // The key of a package, which those with its name and an equal version share.

@@ -2,14 +2,14 @@
 ghost use Rattle.std.specs.Prelude.{◌≡◌, ◌≤◌, length, None, Ok, IfOk, IfErr, OnOk};
 ghost use Rattle.stanza_reader.specs.Stanzas.{stanzas};
 ghost use Rattle.repo_model.specs.Refusals.{Refuses};
-ghost use Rattle.status_check.specs.Own.{foreign_count, lines_fault, own_home, own_packages, own_text, status_fault};
+ghost use Rattle.status_check.specs.Own.{foreign_count, lines_fault, own_home, own_packages, status_fault};
 ghost use Rattle.repo_model.specs.Limits.{most_bytes};
 
-use crate::installed::{foreign_among, own_flags};
+use crate::installed::sort_stanzas;
 use relation_fields::Home;
-use repo_model::{IndexFault, Suite, read_suite};
-use stanza_reader::{RawStanza, StanzaFault, StanzaList, blank_lines, read_stanzas};
-use std::alloc::{AllocError, Global};
+use repo_model::{IndexFault, Suite, suite_of_picked};
+use stanza_reader::{StanzaFault, StanzaList, read_stanzas};
+use std::alloc::Global;
 
 /// The own packages of a status file as a suite, and how many of its installed stanzas are foreign.
 #[derive(Drop)]
@@ -29,9 +29,9 @@ pub(crate) fn read_own(alloc: Global, home: &Home, bytes: &[u8]) -> Result<Own, 
 {
     let all = all_stanzas(alloc, bytes)?;
     let stanzas = all.as_slice();
-    let foreign = foreign_among(home, stanzas);
-    let text = own_text(alloc, home, bytes, stanzas)?;
-    let suite = read_suite(alloc, &text)?;
+    let sorted = sort_stanzas(alloc, home, stanzas)?;
+    let suite = suite_of_picked(alloc, stanzas, &sorted.own)?;
+    let foreign = sorted.foreign;
     Ok(Own { suite, foreign })
 }
 
@@ -45,20 +45,4 @@ fn all_stanzas(alloc: Global, bytes: &[u8]) -> Result<StanzaList, IndexFault>
         Err(StanzaFault::Memory) => Err(IndexFault::Memory),
         Err(fault) => Err(IndexFault::Stanza(fault)),
     }
-}
-
-// The file without the lines of the stanzas that are not installed, or are foreign.
-fn own_text(
-    alloc: Global,
-    home: &Home,
-    bytes: &[u8],
-    all: &[RawStanza],
-) -> Result<Vec<u8>, AllocError>
-    requires { stanzas bytes.now ≡ Ok all.now }
-    ensures text { IfOk result (λ made. made.items ≡ own_text home.now bytes.now) }
-    ensures short { IfOk result (λ made. length made.items ≤ length bytes.now) }
-{
-    let keep = own_flags(alloc, home, all)?;
-    let made = blank_lines(alloc, bytes, &keep)?;
-    Ok(made)
 }

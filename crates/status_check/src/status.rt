@@ -10,8 +10,8 @@ ghost use Rattle.status_check.specs.declared.report.OwnState.TheVariants.{Health
 ghost use Rattle.status_check.specs.Report.{all_of, had_goals, line_for, state_of, IsJudged, IsStateOf};
 ghost use Rattle.repo_model.specs.Limits.{most_bytes};
 
-use crate::classes::{had_classes, suite_state};
-use crate::lookup::{have_lines, packages_by_version};
+use crate::classes::{look_up, suite_state};
+use crate::lookup::packages_by_version;
 use crate::own::read_own;
 use crate::report::StatusReport;
 use crate::state::own_state;
@@ -49,12 +49,11 @@ pub fn status_report(
     let packages = read.suite.packages.as_slice();
     let index = view.suite.packages.as_slice();
     let table = packages_by_version(alloc, index)?;
-    let lines = have_lines(alloc, &table, packages)?;
-    let classes = had_classes(alloc, view, &table, packages)?;
+    let had = look_up(alloc, view, &table, packages)?;
     let own = own_state(alloc, &read.suite)?;
-    let verdict = suite_state(alloc, view, &classes, budget)?;
+    let verdict = suite_state(alloc, view, &had.classes, budget)?;
     Ok(StatusReport {
-        lines,
+        lines: had.lines,
         foreign: read.foreign,
         own,
         verdict,

@@ -14,6 +14,7 @@ invariant-loop-left g l =
       counted : l.element + length left ≡ length (elements l.value);
       passed : l.element + prefix_len (λ element. not (is_outside reading element)) left ≡ prefix_len (λ element. not (is_outside reading element)) (elements l.value);
       said : l.said ++ filter_map reading (filter (λ element. not (is_white element)) left) ≡ filter_map reading (filter (λ element. not (is_white element)) (elements l.value));
+      read : g.T.ElementReader.reads l.initial.reader l.said l.reader;
     }
 
 abbrev pub decreases-loop-left : goal.decreases-loop-left

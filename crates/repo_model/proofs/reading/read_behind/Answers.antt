@@ -10,7 +10,7 @@ loop-building-init c = record {
   place = c.requires.place;
   counted = omega arith;
   few = c.requires.few;
-  indexed = c.requires.indexed;
+  built = c.requires.built;
   read = λ text front. read_first text c.args.part.now _ _ _ front.closed front.suite front.counted;
 }
 
@@ -42,7 +42,7 @@ loop-building-preserved c =
       place = on.behind.place;
       counted = omega (arith, c.loop-building.invariant.counted, on.behind.counted);
       few = few_more _ _ _ (length c.as_slice-before.result.now) counted on.room added.packages;
-      indexed = added.indexed;
+      built = added.built;
       read = λ text front. read_more _ _ (length c.as_slice-before.result.now) c.in-Stanza.stanza c.in-Stanza.after _ _ (c.loop-building.invariant.read text front) counted on
           added.fault.0 added.packages added.home;
     }

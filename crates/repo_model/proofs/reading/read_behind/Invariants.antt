@@ -4,7 +4,7 @@ use Rattle.stanza_reader.specs.Lines.{is_line_feed}
 use Rattle.stanza_reader.specs.Places.{IsPlace}
 use Rattle.stanza_reader.specs.Reading.{readings_at}
 use Rattle.stanza_reader.specs.Stanzas.{readings}
-use Rattle.repo_model.specs.Building.{IsIndexOf}
+use Rattle.repo_model.specs.Building.{IsBuilt}
 use Rattle.repo_model.specs.Feeding.{IsFront}
 use Rattle.repo_model.specs.Limits.{most_packages}
 use Rattle.repo_model.proofs.Steps.{IsRead}
@@ -15,7 +15,7 @@ invariant-loop-building l = record {
   place : IsPlace l.part l.at;
   counted : l.at.line ≡ l.fn.line + count_by is_line_feed (take l.at.offset l.part);
   few : length l.building.packages ≤ most_packages;
-  indexed : IsIndexOf l.building.packages l.building.index;
+  built : IsBuilt l.building;
   read : (text : List ℕ) → IsFront l.fn.front l.fn.line text → IsRead (readings (text ++ l.part)) (readings_at l.part l.at) l.building.packages l.building.home.name;
 }
 

@@ -1,11 +1,15 @@
-use Rattle.std.proofs.Common.{map, take}
+use Rattle.std.proofs.Common.{◌≡◌, ℕ, ◌<◌, drop, length, map, take}
+use Rattle.relation_fields.specs.Shared.{marked}
+use Rattle.listed.specs.Lists.{In}
 use Rattle.repo_model.specs.Interning.{HasRows}
-use Rattle.repo_model.specs.Known.{AreKnown}
+use Rattle.repo_model.specs.Needs.{needs_of_all}
 use Rattle.repo_model.specs.Repository.{row_of}
 use Rattle.repo_model.proofs.rows.intern_rows.Given as goal
 
-abbrev pub invariant-loop-number : goal.invariant-loop-number
-invariant-loop-number l = record {
-  made : HasRows l.fn.pool l.pool (map (row_of l.home l.packages) (take l.number l.packages)) l.rows.items;
-  known : AreKnown l.home l.packages l.pool.clauses l.known;
+abbrev pub invariant-loop-facts : goal.invariant-loop-facts
+invariant-loop-facts l = record {
+  made : HasRows l.initial.pool l.pool (map (row_of l.home l.packages) (take l.facts-index l.packages)) l.rows.items;
+  clauses : l.pool.clauses ≡ l.initial.pool.clauses;
+  elements : marked l.fn.elements.distinct.items l.left ≡ needs_of_all (drop l.facts-index l.packages);
+  within : (mark : ℕ) → In mark l.left → mark < length l.fn.elements.distinct.items;
 }

@@ -1,5 +1,6 @@
-use Rattle.std.proofs.Common.{[], arith}
+use Rattle.std.proofs.Common.{◌∙◌, [], ap, arith}
 use Rattle.std.proofs.lemmas.Result.{err_from_is_err_and}
+use Rattle.relation_fields.specs.declared.packages.Home.{Home}
 use Rattle.repo_model.proofs.Standing.{front_of_nothing, place_first}
 use Rattle.repo_model.proofs.suite.read_suite.Goals as goal
 
@@ -12,10 +13,10 @@ pub returns-clause-accepted : goal.returns-clause-accepted
 returns-clause-accepted c = (c.in_ok-read.ensures.suite [] (front_of_nothing _ c.new.ensures.packages c.new.ensures.home)).fine
 
 pub returns-clause-packages : goal.returns-clause-packages
-returns-clause-packages c = (c.in_ok-read.ensures.suite [] (front_of_nothing _ c.new.ensures.packages c.new.ensures.home)).facts
+returns-clause-packages c = c.into_suite.ensures.packages ∙ (c.in_ok-read.ensures.suite [] (front_of_nothing _ c.new.ensures.packages c.new.ensures.home)).facts
 
 pub returns-clause-home : goal.returns-clause-home
-returns-clause-home c = (c.in_ok-read.ensures.suite [] (front_of_nothing _ c.new.ensures.packages c.new.ensures.home)).common
+returns-clause-home c = ap (λ (home : Home). home.name) c.into_suite.ensures.home ∙ (c.in_ok-read.ensures.suite [] (front_of_nothing _ c.new.ensures.packages c.new.ensures.home)).common
 
 pub read_behind-requires-clause-place : goal.read_behind-requires-clause-place
 read_behind-requires-clause-place c = let fits = c.requires in place_first c.args.bytes.now 1 (omega arith) (omega (arith, fits))

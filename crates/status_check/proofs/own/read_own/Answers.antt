@@ -1,20 +1,19 @@
-use Rattle.std.proofs.Common.{◌∙◌, Ok, ap, arith, length, subst, sym}
+use Rattle.std.proofs.Common.{◌∙◌, Ok, ap, sym}
 use Rattle.std.specs.Prelude.{count_by}
 use Rattle.std.proofs.lemmas.Result.{err_from_is_err_and}
 use Rattle.relation_fields.specs.declared.packages.Home.{Home}
-use Rattle.repo_model.specs.FirstFault.{first_fault, home_of, stanzas_of}
-use Rattle.repo_model.specs.Refusals.{Refuses}
 use Rattle.repo_model.proofs.Refusing.{none_behind, refuses_behind, refuses_first}
-use Rattle.suite_compare.specs.Refusals.{packages_in}
+use Rattle.repo_model.proofs.Short.{stanzas_short}
 use Rattle.status_check.specs.Installed.{is_foreign}
-use Rattle.status_check.proofs.OwnTexts.{all_stanzas, lines_fine}
+use Rattle.status_check.specs.Own.{own_text}
+use Rattle.status_check.proofs.OwnTexts.{all_stanzas, flags_many, lines_fine, own_stanzas}
 use Rattle.status_check.proofs.own.read_own.Goals as goal
 
-pub own_text-requires : goal.own_text-requires
-own_text-requires c = c.in_ok-all.ensures.stanzas ∙ ap Ok (sym c.as_slice-stanzas.ensures)
+pub suite_of_picked-requires-clause-many : goal.suite_of_picked-requires-clause-many
+suite_of_picked-requires-clause-many c = flags_many c.args.home.now c.as_slice-stanzas.result.now c.deref.result.now (c.deref.ensures.value ∙ c.in_ok-sorted.ensures.own)
 
-pub read_suite-requires : goal.read_suite-requires
-read_suite-requires c = omega (arith, ap length c.deref.ensures.value, c.in_ok-text.ensures.short, c.requires)
+pub suite_of_picked-requires-clause-short : goal.suite_of_picked-requires-clause-short
+suite_of_picked-requires-clause-short c = stanzas_short c.args.bytes.now c.as_slice-stanzas.result.now c.requires (c.in_ok-all.ensures.stanzas ∙ ap Ok (sym c.as_slice-stanzas.ensures))
 
 pub returns-in_err-all-clause-refused : goal.returns-in_err-all-clause-refused
 returns-in_err-all-clause-refused c =
@@ -23,21 +22,28 @@ returns-in_err-all-clause-refused c =
 pub returns-in_err-suite-clause-refused : goal.returns-in_err-suite-clause-refused
 returns-in_err-suite-clause-refused c =
     let p = err_from_is_err_and c.from_residual-in_err-suite.result c.from_residual-in_err-suite.ensures.1 in
-    let text = c.deref.ensures.value ∙ c.in_ok-text.ensures.text in
-    rw (p.1, p.2) (refuses_behind _ _ _ (lines_fine c.args.bytes.now c.in_ok-all.all c.in_ok-all.ensures.stanzas) (subst (λ made. Refuses c.in_err-suite.field-0.0 (first_fault made)) text c.in_err-suite.ensures.refused))
+    let read = c.in_ok-all.ensures.stanzas ∙ ap Ok (sym c.as_slice-stanzas.ensures) in
+    let own = own_stanzas c.args.home.now c.args.bytes.now c.as_slice-stanzas.result.now c.deref.result.now read (c.deref.ensures.value ∙ c.in_ok-sorted.ensures.own) in
+    rw (p.1, p.2) (refuses_behind _ _ _ (lines_fine c.args.bytes.now c.as_slice-stanzas.result.now read) (c.in_err-suite.ensures.refused (own_text c.args.home.now c.args.bytes.now) own))
 
 pub returns-clause-accepted : goal.returns-clause-accepted
 returns-clause-accepted c =
-    let text = c.deref.ensures.value ∙ c.in_ok-text.ensures.text in
-    none_behind _ _ (lines_fine c.args.bytes.now c.in_ok-all.all c.in_ok-all.ensures.stanzas) (ap first_fault (sym text) ∙ c.in_ok-suite.ensures.accepted)
+    let read = c.in_ok-all.ensures.stanzas ∙ ap Ok (sym c.as_slice-stanzas.ensures) in
+    let own = own_stanzas c.args.home.now c.args.bytes.now c.as_slice-stanzas.result.now c.deref.result.now read (c.deref.ensures.value ∙ c.in_ok-sorted.ensures.own) in
+    none_behind _ _ (lines_fine c.args.bytes.now c.as_slice-stanzas.result.now read) (c.in_ok-suite.ensures.suite (own_text c.args.home.now c.args.bytes.now) own).fine
 
 pub returns-clause-packages : goal.returns-clause-packages
-returns-clause-packages c = c.in_ok-suite.ensures.packages ∙ ap packages_in (c.deref.ensures.value ∙ c.in_ok-text.ensures.text)
+returns-clause-packages c =
+    let read = c.in_ok-all.ensures.stanzas ∙ ap Ok (sym c.as_slice-stanzas.ensures) in
+    let own = own_stanzas c.args.home.now c.args.bytes.now c.as_slice-stanzas.result.now c.deref.result.now read (c.deref.ensures.value ∙ c.in_ok-sorted.ensures.own) in
+    (c.in_ok-suite.ensures.suite (own_text c.args.home.now c.args.bytes.now) own).facts
 
 pub returns-clause-home : goal.returns-clause-home
 returns-clause-home c =
-    ap (λ n. let h : Home = record { name = n } in h) (c.in_ok-suite.ensures.home ∙ ap (λ text. home_of (stanzas_of text)) (c.deref.ensures.value ∙ c.in_ok-text.ensures.text))
+    let read = c.in_ok-all.ensures.stanzas ∙ ap Ok (sym c.as_slice-stanzas.ensures) in
+    let own = own_stanzas c.args.home.now c.args.bytes.now c.as_slice-stanzas.result.now c.deref.result.now read (c.deref.ensures.value ∙ c.in_ok-sorted.ensures.own) in
+    ap (λ n. let h : Home = record { name = n } in h) (c.in_ok-suite.ensures.suite (own_text c.args.home.now c.args.bytes.now) own).common
 
 pub returns-clause-foreign : goal.returns-clause-foreign
 returns-clause-foreign c =
-    c.foreign_among-foreign.ensures ∙ ap (count_by (is_foreign c.args.home.now)) (c.as_slice-stanzas.ensures ∙ sym (all_stanzas c.args.bytes.now c.in_ok-all.all c.in_ok-all.ensures.stanzas))
+    c.in_ok-sorted.ensures.foreign ∙ ap (count_by (is_foreign c.args.home.now)) (c.as_slice-stanzas.ensures ∙ sym (all_stanzas c.args.bytes.now c.in_ok-all.all c.in_ok-all.ensures.stanzas))

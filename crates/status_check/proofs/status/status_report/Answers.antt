@@ -11,20 +11,17 @@ use Rattle.status_check.proofs.status.status_report.Goals as goal
 pub packages_by_version-requires : goal.packages_by_version-requires
 packages_by_version-requires c = subst (λ xs. length xs ≤ most_packages) (sym c.as_slice-index.ensures) c.args.view.now.suite.few
 
-pub had_classes-requires : goal.had_classes-requires
-had_classes-requires c = subst (λ xs. HasVersions xs c.in_ok-table.table) c.as_slice-index.ensures c.in_ok-table.ensures
+pub look_up-requires : goal.look_up-requires
+look_up-requires c = subst (λ xs. HasVersions xs c.in_ok-table.table) c.as_slice-index.ensures c.in_ok-table.ensures
 
 pub suite_state-requires-clause-fit : goal.suite_state-requires-clause-fit
 suite_state-requires-clause-fit c =
     let view = c.args.view.now in
     let goals = had_goals view.suite.packages c.as_slice-packages.result.now in
-    classes_fit view.pool view.suite.home view.suite.packages view.book view.kernel view.limit view.of_suite goals (wanted_by view.suite.packages goals) c.in_ok-classes.classes refl c.in_ok-classes.ensures
+    classes_fit view.pool view.suite.home view.suite.packages view.book view.kernel view.limit view.of_suite goals (wanted_by view.suite.packages goals) c.in_ok-had.had.classes refl c.in_ok-had.ensures.classes
 
 pub returns-clause-lines : goal.returns-clause-lines
-returns-clause-lines c =
-    let index = c.args.view.now.suite.packages in
-    c.in_ok-lines.ensures index (subst (λ xs. HasVersions xs c.in_ok-table.table) c.as_slice-index.ensures c.in_ok-table.ensures)
-    ∙ ap (map (line_for index)) (c.as_slice-packages.ensures ∙ c.in_ok-read.ensures.packages)
+returns-clause-lines c = c.in_ok-had.ensures.lines ∙ ap (map (line_for c.args.view.now.suite.packages)) (c.as_slice-packages.ensures ∙ c.in_ok-read.ensures.packages)
 
 pub returns-clause-own : goal.returns-clause-own
 returns-clause-own c =
@@ -43,7 +40,7 @@ returns-clause-verdict c =
     let index = view.suite.packages in
     c.in_ok-verdict.ensures
     ∙ ap (state_of c.args.budget)
-    (verdict_of_view view.pool view.suite.home index view.book view.kernel view.limit c.args.budget (had_goals index c.as_slice-packages.result.now) c.in_ok-classes.classes view.of_suite c.in_ok-classes.ensures
+    (verdict_of_view view.pool view.suite.home index view.book view.kernel view.limit c.args.budget (had_goals index c.as_slice-packages.result.now) c.in_ok-had.had.classes view.of_suite c.in_ok-had.ensures.classes
     ∙ ap (λ xs. verdict_in view.limit view.kernel.hold view.suite.home index c.args.budget (had_goals index xs)) (c.as_slice-packages.ensures ∙ c.in_ok-read.ensures.packages))
 
 pub returns-clause-judged : goal.returns-clause-judged
@@ -53,5 +50,5 @@ returns-clause-judged c =
     judged view.limit view.kernel.hold view.suite.home index c.args.budget (had_goals index (own_packages view.suite.home c.args.bytes.now)) c.in_ok-verdict.verdict
     (c.in_ok-verdict.ensures
     ∙ ap (state_of c.args.budget)
-    (verdict_of_view view.pool view.suite.home index view.book view.kernel view.limit c.args.budget (had_goals index c.as_slice-packages.result.now) c.in_ok-classes.classes view.of_suite c.in_ok-classes.ensures
+    (verdict_of_view view.pool view.suite.home index view.book view.kernel view.limit c.args.budget (had_goals index c.as_slice-packages.result.now) c.in_ok-had.had.classes view.of_suite c.in_ok-had.ensures.classes
     ∙ ap (λ xs. verdict_in view.limit view.kernel.hold view.suite.home index c.args.budget (had_goals index xs)) (c.as_slice-packages.ensures ∙ c.in_ok-read.ensures.packages)))

@@ -1,0 +1,133 @@
+//! The suite of some packages of a suite.
+ghost use Rattle.std.specs.Prelude.{◌≡◌, ◌∷◌, ◌++◌, ◌<◌, ℕ, [], None, length, slice_index_or, IfOk, OnOk};
+ghost use Rattle.std.specs.List.{items_where_true};
+ghost use Rattle.relation_fields.specs.Elements.{elements_of};
+ghost use Rattle.relation_fields.specs.Shared.{marked};
+ghost use Rattle.listed.specs.Lists.{In};
+ghost use Rattle.repo_model.specs.Needs.{needs_of_all};
+ghost use Rattle.repo_model.specs.Select.{AreRenamed};
+
+use crate::copying::{copy_of_facts, copy_of_home};
+use crate::suite::{PackageList, Suite};
+use relation_fields::{AtomList, PackageFacts, SharedElements};
+use std::alloc::{AllocError, Global};
+
+impl Suite {
+    /// The suite of the packages whose flags are up, in their order and with the same common architecture.
+    pub fn select(&self, alloc: Global, flags: &[bool]) -> Result<Suite, AllocError>
+        requires { length flags.now ≡ length self.now.packages }
+        ensures packages { IfOk result (λ suite. suite.packages ≡ items_where_true flags.now self.now.packages) }
+        ensures home { IfOk result (λ suite. suite.home ≡ self.now.home) }
+    {
+        let all = self.packages.as_slice();
+        let packages = flagged_packages(alloc, all, flags)?;
+        let elements = flagged_elements(alloc, all, &self.elements, flags)?;
+        let home = copy_of_home(alloc, &self.home)?;
+        Ok(Suite {
+            packages,
+            home,
+            elements,
+        })
+    }
+}
+
+// The packages whose flags are up.
+fn flagged_packages(
+    alloc: Global,
+    packages: &[PackageFacts],
+    flags: &[bool],
+) -> Result<PackageList, AllocError>
+    requires { length flags.now ≡ length packages.now }
+    ensures { IfOk result (λ made. made ≡ items_where_true flags.now packages.now) }
+{
+    let mut made = PackageList::new(alloc);
+    for (place, facts) in packages.iter().enumerate() {
+        let is_chosen = flags[place];
+        if !is_chosen {
+            continue;
+        }
+        made.push(copy_of_facts(alloc, facts)?)?;
+    }
+    Ok(made)
+}
+
+// The elements of the packages whose flags are up.
+fn flagged_elements(
+    alloc: Global,
+    packages: &[PackageFacts],
+    elements: &SharedElements,
+    flags: &[bool],
+) -> Result<SharedElements, AllocError>
+    requires flags { length flags.now ≡ length packages.now }
+    requires elements { elements_of elements.now ≡ needs_of_all packages.now }
+    ensures { IfOk result (λ made. elements_of made ≡ needs_of_all (items_where_true flags.now packages.now)) }
+{
+    let distinct = elements.distinct.as_slice();
+    let mut places = no_places(alloc, distinct.len())?;
+    let mut made = SharedElements::new(alloc);
+    let mut left = elements.marks.as_slice();
+    for (place, facts) in packages.iter().enumerate() {
+        let (own, behind) = left.split_at(facts.needs.as_slice().len());
+        left = behind;
+        let are_chosen = flags[place];
+        if !are_chosen {
+            continue;
+        }
+        add_elements(&mut made, &mut places, distinct, own)?;
+    }
+    Ok(made)
+}
+
+// No list has a place.
+fn no_places(alloc: Global, count: usize) -> Result<Vec<Option<u32>>, AllocError>
+    ensures size { IfOk result (λ made. length made.items ≡ count) }
+    ensures none { IfOk result (λ made. (mark : ℕ) → slice_index_or made.items mark None ≡ None) }
+{
+    let mut made = Vec::with_capacity(alloc, count)?;
+    for _i in 0..count {
+        made.push(None)?;
+    }
+    Ok(made)
+}
+
+// Puts the elements of these marks behind the others.
+fn add_elements(
+    made: &mut SharedElements,
+    places: &mut [Option<u32>],
+    distinct: &[AtomList],
+    marks: &[u32],
+) -> Result<(), AllocError>
+    requires marks { (mark : ℕ) → In mark marks.now → mark < length distinct.now }
+    requires renamed { AreRenamed distinct.now places.old made.old.distinct.items }
+    ensures elements { OnOk result (elements_of made.new ≡ elements_of made.old ++ marked distinct.now marks.now) }
+    ensures renamed { OnOk result (AreRenamed distinct.now places.new made.new.distinct.items) }
+{
+    for mark in marks {
+        add_element(made, places, distinct, *mark as usize)?;
+    }
+    Ok(())
+}
+
+// Puts the element of a mark behind the others. Its list is kept once.
+fn add_element(
+    made: &mut SharedElements,
+    places: &mut [Option<u32>],
+    distinct: &[AtomList],
+    mark: usize,
+) -> Result<(), AllocError>
+    requires mark { mark < length distinct.now }
+    requires renamed { AreRenamed distinct.now places.old made.old.distinct.items }
+    ensures elements { OnOk result (elements_of made.new ≡ elements_of made.old ++ slice_index_or distinct.now mark [] ∷ []) }
+    ensures renamed { OnOk result (AreRenamed distinct.now places.new made.new.distinct.items) }
+{
+    if let Some(place) = places[mark] {
+        made.push_again(place as usize)?;
+        return Ok(());
+    }
+    let Ok(place) = u32::try_from(made.distinct.len()) else {
+        return Err(AllocError);
+    };
+    made.push(distinct[mark].share()?)?;
+    places[mark] = Some(place);
+    Ok(())
+}

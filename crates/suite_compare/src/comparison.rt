@@ -2,17 +2,20 @@
 //!
 //! Names with the same classes have the same verdicts, so kinds are asked. A pair is searched in the order of its names, since
 //! the number of failed leaves may depend on it.
-ghost use Rattle.std.specs.Prelude.{◌≡◌, ◌<◌, [], ℕ, List, IfOk, length, map, slice_index_or};
+ghost use Rattle.std.specs.Prelude.{◌≡◌, ◌<◌, [], ℕ, true, List, IfOk, length, map, slice_index_or};
 ghost use Rattle.row_book.specs.Book.{repository_of, Sound};
 ghost use Rattle.row_book.specs.Needs.{AreNeeds, NeedsFit};
+ghost use Rattle.row_book.specs.Rounds.{kernel};
 ghost use Rattle.listed.specs.Lists.{In};
+ghost use Rattle.repo_model.specs.Goals.{any_version};
+ghost use Rattle.repo_model.specs.Repository.{suite_repository};
 ghost use Rattle.clause_solver.specs.Outcomes.{IsBudget};
 ghost use Rattle.clause_solver.specs.declared.outcomes.Verdict.{Verdict};
 ghost use Rattle.clause_solver.specs.declared.outcomes.Verdict.TheVariants.{Spent};
-ghost use Rattle.suite_compare.specs.Asking.{verdict_in};
+ghost use Rattle.suite_compare.specs.Asking.{image_of, verdict_in};
 ghost use Rattle.suite_compare.specs.declared.verdicts.Bad.{Bad};
 ghost use Rattle.suite_compare.specs.Kinds.{kernel_in, AreKinds, IsJudge};
-ghost use Rattle.suite_compare.specs.Names.{names_of_both};
+ghost use Rattle.suite_compare.specs.Names.{names_of_both, stands_in};
 ghost use Rattle.suite_compare.specs.Comparing.{told_report, AreVerdicts, IsSide, IsTable};
 ghost use Rattle.suite_compare.specs.Partners.{IsJointTable};
 ghost use Rattle.suite_compare.specs.Report.{report};
@@ -70,6 +73,42 @@ fn side_of<'a>(
         of: kinds.of,
         singles,
     })
+}
+
+/// The names of the old suite that a package of the new one has.
+fn shared_names(alloc: Global, old: &SuiteView, new: &SuiteView) -> Result<Vec<Bytes>, AllocError>
+    ensures { IfOk result (λ names. names.items ≡ names_of_both old.now.suite.packages new.now.suite.packages) }
+{
+    let table = packages_by_name(alloc, new.suite.packages.as_slice())?;
+    let all = old.suite.names(alloc)?;
+    let names = names_among(alloc, all.as_slice(), &table)?;
+    Ok(names)
+}
+
+/// A suite of a comparison, from names that packages of it have.
+fn side_by_names<'a>(
+    alloc: Global,
+    view: &'a SuiteView,
+    names: &[Bytes],
+    budget: u64,
+) -> Result<Side<'a>, AllocError>
+    requires names { (name : List ℕ) → In name names.now → stands_in view.now.suite.packages name ≡ true }
+    requires budget { IsBudget budget }
+    ensures side { IfOk result (IsSide (length names.now)) }
+    ensures kinds { IfOk result (λ side. AreKinds (map (λ name. image_of view.now.limit view.now.kernel.hold view.now.suite.home view.now.suite.packages (any_version name)) names.now) side.judge.kinds.items side.of.items) }
+    ensures kernel { IfOk result (λ side. kernel_in side.judge ≡ kernel view.now.limit view.now.kernel.hold (suite_repository view.now.suite.home view.now.suite.packages)) }
+    ensures budget { IfOk result (λ side. side.judge.budget ≡ budget) }
+{
+    let table = packages_by_name(alloc, view.suite.packages.as_slice())?;
+    let lists = classes_of_names(alloc, view, &table, names)?;
+    let side = side_of(
+        alloc,
+        &view.pool,
+        &view.kernel.book,
+        lists.as_slice(),
+        budget,
+    )?;
+    Ok(side)
 }
 
 /// For each joint (a kind in the old suite with one in the new), the names that are broken or open beside its names.
@@ -144,29 +183,10 @@ pub fn compare(
     ensures { IfOk result (λ made. made.lines ≡ report (verdict_in old.now.limit old.now.kernel.hold old.now.suite.home old.now.suite.packages budget) (verdict_in old.now.limit old.now.kernel.hold new.now.suite.home new.now.suite.packages budget)
         (names_of_both old.now.suite.packages new.now.suite.packages)) }
 {
-    let old_packages = old.suite.packages.as_slice();
-    let new_packages = new.suite.packages.as_slice();
-    let old_table = packages_by_name(alloc, old_packages)?;
-    let new_table = packages_by_name(alloc, new_packages)?;
-    let all = old.suite.names(alloc)?;
-    let found = names_among(alloc, all.as_slice(), &new_table)?;
+    let found = shared_names(alloc, old, new)?;
     let names = found.as_slice();
-    let old_lists = classes_of_names(alloc, old, &old_table, names)?;
-    let new_lists = classes_of_names(alloc, new, &new_table, names)?;
-    let before = side_of(
-        alloc,
-        &old.pool,
-        &old.kernel.book,
-        old_lists.as_slice(),
-        budget,
-    )?;
-    let after = side_of(
-        alloc,
-        &new.pool,
-        &new.kernel.book,
-        new_lists.as_slice(),
-        budget,
-    )?;
+    let before = side_by_names(alloc, old, names, budget)?;
+    let after = side_by_names(alloc, new, names, budget)?;
     let lines = lines_of(alloc, names, &before, &after)?;
     Ok(Report { lines })
 }

@@ -37,7 +37,7 @@ no_middle (y ∷ front) back x e = cc
 it_stands : StandsForKernel no_classes 1 no_repository [] []
 unfolding digits number_limit numbers
 it_stands = record {
-  lines = record { head = codes "coinst-kernel 1"; blocks = []; end = codes "end 0 0"; cut = refl; of_format = refl; of_classes = tt; of_end = refl };
+  lines = record { head = codes "coinst-kernel 1"; blocks = []; end = codes "end 0 0"; joined = refl; of_format = refl; of_classes = tt; of_end = refl };
   few = (lit< tt, lit< tt);
   by_class = refl;
   populated = λ n l. absurd (let low : n < 0 = l in omega (arith, low));

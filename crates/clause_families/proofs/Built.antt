@@ -1,8 +1,8 @@
 -- The tree of a family: what it tells of tests, and how its numbers rise.
-use Rattle.std.proofs.Common.{◌≡◌, ℕ, ◌<◌, ◌⊎◌, Bool, true, false, ◌&&◌, ◌||◌, eqb, ltb, cond, List, [], ◌∷◌, inl, inr, refl, sym, ◌∙◌, ap, ap₂, length, arith, eqb-true, lt-ltb, suc, ◌+◌, not, add-one, drop, drop-cons, get_or}
+use Rattle.std.proofs.Common.{◌≡◌, ℕ, ◌<◌, ◌≤◌, ◌⊎◌, Bool, true, false, ◌&&◌, ◌||◌, eqb, ltb, cond, List, [], ◌∷◌, inl, inr, refl, sym, ◌∙◌, ap, ap₂, length, arith, eqb-true, suc, ◌+◌, not, add-one, drop, drop-cons, get_or}
 use Rattle.std.specs.List.{list_any}
-use Rattle.std.proofs.lemmas.Bool.{cond-false, cond-true, eqb-false, not_from_false, not_from_true}
-use Rattle.listed.specs.Lists.{In, has, here, there, Ascending}
+use Rattle.std.proofs.lemmas.Bool.{cond-false, cond-true, eqb-false, le-ltb, not_from_false, not_from_true}
+use Rattle.listed.specs.Lists.{In, has, here, there, is_inside, Ascending}
 use Rattle.clause_pool.specs.Lists.{Before, InOrder}
 use Rattle.clause_pool.specs.Clauses.{apart_from}
 use Rattle.clause_families.specs.Branches.{any_of, bare, branch, first_leap, is_empty, later_leaps, no_leap, nodes_of, tree_of, with_clause, Above, BuiltOf, Climbs, Grows, Leap, Standing, Tree, TreeOf}
@@ -124,17 +124,33 @@ climbs_built leaps (c ∷ (d ∷ ds)) o up =
     (leads_first (first_leap others) c d (tree_of (later_leaps others) ds) (o.0 d here))
 
 -- one clause more
-pub built_empty : (built : FamilyTree) (family : List (List ℕ)) (clause : List ℕ) (b : Bool) → b ≡ eqb (length clause) 0 → b ≡ true → BuiltOf built family →
-    BuiltOf (record { nodes = built.nodes; holds_empty = true }) (clause ∷ family)
-built_empty built family [] b e t w = record { leaps = no_leap ∷ w.leaps; nodes = w.nodes; empty = refl }
-built_empty built family (n ∷ ns) b e t w = let z : suc (length ns) ≡ 0 = eqb-true (length (n ∷ ns)) 0 (sym e ∙ t) in absurd (omega arith)
+short_more : (family : List (List ℕ)) (clause : List ℕ) (old new : ℕ) → new ≤ old → new ≤ length clause → ((c : List ℕ) → In c family → old ≤ length c) → (c : List ℕ) → In c (clause ∷ family) → new ≤ length c
+short_more family clause old new low least h c here = least
+short_more family clause old new low least h c (there i) = let l : old ≤ length c = h c i in omega arith
+
+pub built_empty : (built new : FamilyTree) (family : List (List ℕ)) (clause : List ℕ) (b : Bool) → b ≡ eqb (length clause) 0 → b ≡ true → new.nodes.items ≡ built.nodes.items → new.holds_empty ≡ true →
+    new.shortest ≤ built.shortest → new.shortest ≤ length clause → BuiltOf built family → BuiltOf new (clause ∷ family)
+built_empty built new family [] b e t same up low least w =
+    record { leaps = no_leap ∷ w.leaps; nodes = same ∙ w.nodes; empty = up; short = short_more family [] built.shortest new.shortest low least w.short }
+built_empty built new family (n ∷ ns) b e t same up low least w = let z : suc (length ns) ≡ 0 = eqb-true (length (n ∷ ns)) 0 (sym e ∙ t) in absurd (omega arith)
 
 pub built_more : (built new : FamilyTree) (family : List (List ℕ)) (clause : List ℕ) (b : Bool) → b ≡ eqb (length clause) 0 → b ≡ false → new.holds_empty ≡ built.holds_empty →
+    new.shortest ≤ built.shortest → new.shortest ≤ length clause →
     ((tree : Tree) → built.nodes.items ≡ nodes_of 0 tree → Grows clause tree new.nodes.items) → BuiltOf built family → BuiltOf new (clause ∷ family)
-built_more built new family [] b e t same f w = absurd (let z : false ≡ true = sym t ∙ e in cc)
-built_more built new family (n ∷ ns) b e t same f w =
+built_more built new family [] b e t same low least f w = absurd (let z : false ≡ true = sym t ∙ e in cc)
+built_more built new family (n ∷ ns) b e t same low least f w =
     let g : Grows (n ∷ ns) (tree_of w.leaps family) new.nodes.items = f (tree_of w.leaps family) w.nodes in
-    record { leaps = g.leap ∷ w.leaps; nodes = g.is; empty = same ∙ w.empty }
+    record { leaps = g.leap ∷ w.leaps; nodes = g.is; empty = same ∙ w.empty; short = short_more family (n ∷ ns) built.shortest new.shortest low least w.short }
+
+-- no clause is shorter than the shortest
+none_shorter : (bound : ℕ) (family : List (List ℕ)) (clause : List ℕ) → ((c : List ℕ) → In c family → bound ≤ length c) → length clause ≤ bound → has_shorter family clause ≡ false
+none_shorter bound [] clause h low = refl
+none_shorter bound (c ∷ cs) clause h low =
+    let l : bound ≤ length c = h c here in
+    ap₂ (λ x y. (x && is_inside c clause) || y) (le-ltb (length c) (length clause) (omega arith)) (none_shorter bound cs clause (λ d i. h d (there i)) low)
+
+pub none_as_short : (built : FamilyTree) (family : List (List ℕ)) (clause : List ℕ) → TreeOf built family → length clause ≤ built.shortest → has_shorter family clause ≡ false
+none_as_short built family clause t low = none_shorter built.shortest family clause t.by.short low
 
 -- the nodes are those of a tree, from the first place on
 abbrev pub standing_built : (built : FamilyTree) (family : List (List ℕ)) → TreeOf built family → Standing 0 built.nodes.items
@@ -152,15 +168,6 @@ shorter_built built family clause t =
     last : (b : Bool) → (b && true) ≡ b
     last true = refl
     last false = refl
-
-pub something_short : (clause : List ℕ) (b : Bool) → b ≡ eqb (length clause) 0 → b ≡ false → ltb 0 (length clause) ≡ true
-something_short [] b e f = sym f ∙ e
-something_short (n ∷ ns) b e f = lt-ltb 0 (length (n ∷ ns)) (omega arith)
-
-pub nothing_short : (a : Bool) (clause : List ℕ) (b : Bool) → b ≡ eqb (length clause) 0 → b ≡ true → (a && ltb 0 (length clause)) ≡ false
-nothing_short true [] b e t = refl
-nothing_short false [] b e t = refl
-nothing_short a (n ∷ ns) b e t = let z : suc (length ns) ≡ 0 = eqb-true (length (n ∷ ns)) 0 (sym e ∙ t) in absurd (omega arith)
 
 -- the clauses without a number, from a place on
 module _ (q : ℕ) (cs : List (List ℕ)) (i : ℕ) (below : i < length cs) where

@@ -122,6 +122,7 @@ pub record BuiltOf (built : FamilyTree) (family : List (List ℕ)) : Type 0 wher
   pub leaps : List Leap
   pub nodes : built.nodes.items ≡ nodes_of 0 (tree_of leaps family)
   pub empty : built.holds_empty ≡ list_any is_empty family
+  pub short : (c : List ℕ) → In c family → built.shortest ≤ length c
 
 -- and the family is in order
 pub record TreeOf (built : FamilyTree) (family : List (List ℕ)) : Type 0 where

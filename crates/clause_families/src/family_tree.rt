@@ -36,6 +36,8 @@ pub(crate) struct Node {
 pub struct FamilyTree {
     nodes: Vec<Node>,
     holds_empty: bool,
+    /// No clause has fewer numbers.
+    shortest: usize,
 }
 
 impl FamilyTree {
@@ -48,6 +50,7 @@ impl FamilyTree {
         let mut tree = FamilyTree {
             nodes: Vec::new(alloc),
             holds_empty: false,
+            shortest: usize::MAX,
         };
         for place in (0..family.len()).rev() {
             tree.put(family[place].as_slice())?;
@@ -70,6 +73,7 @@ impl FamilyTree {
         let mut tree = FamilyTree {
             nodes: Vec::new(alloc),
             holds_empty: false,
+            shortest: usize::MAX,
         };
         for place in (0..row.len()).rev() {
             let clause = pool.slice(row[place]);
@@ -84,6 +88,7 @@ impl FamilyTree {
     fn put(&mut self, clause: &[u32]) -> Result<(), AllocError>
         ensures { OnOk result ((family : List (List ℕ)) → BuiltOf self.old family → BuiltOf self.new (clause.now ∷ family)) }
     {
+        self.shortest = least_of(self.shortest, clause.len());
         if clause.is_empty() {
             self.holds_empty = true;
             return Ok(());
@@ -97,11 +102,22 @@ impl FamilyTree {
         requires ascending { Ascending clause.now }
         ensures { (family : List (List ℕ)) → TreeOf self.now family → result ≡ has_shorter family clause.now }
     {
-        if self.holds_empty && !clause.is_empty() {
+        if clause.len() <= self.shortest {
+            return false;
+        }
+        if self.holds_empty {
             return true;
         }
         has_within(self.nodes.as_slice(), 0, clause, clause.len())
     }
+}
+
+/// The lesser number.
+fn least_of(first: usize, second: usize) -> usize
+    ensures first { result ≤ first }
+    ensures second { result ≤ second }
+{
+    if first < second { first } else { second }
 }
 
 /// Puts the nodes of a clause before those of the tree, but for those that it shares with the first clause there.

@@ -1,5 +1,5 @@
 //! How far an index is read that comes in pieces.
-ghost use Rattle.std.specs.Prelude.{◌≤◌, length};
+ghost use Rattle.std.specs.Prelude.{◌≡◌, ◌≤◌, drop, length};
 ghost use Rattle.repo_model.specs.Building.{IsBuilt, IsBuilt-prop};
 ghost use Rattle.repo_model.specs.Limits.{most_packages};
 
@@ -82,12 +82,12 @@ impl Progress {
         let Progress {
             building,
             line,
-            pending,
+            mut pending,
         } = self;
-        let (part, rest) = pending.split_at(closed);
+        let (part, _rest) = pending.split_at(closed);
         let read = read_behind(alloc, building, part, line)?;
         let ReadPart { building, line } = read;
-        let pending = Vec::from_slice(alloc, rest)?;
+        drop_front(&mut pending, closed);
         Ok(Progress {
             building,
             line,
@@ -109,4 +109,15 @@ impl Progress {
         let read = read_behind(alloc, building, &pending, line)?;
         Ok(read.building.into_suite())
     }
+}
+
+/// Takes the first bytes away. The list keeps its room: to give back a large block for each piece makes the C library join all
+/// small blocks that lie free.
+fn drop_front(bytes: &mut Vec<u8>, count: usize)
+    requires { count ≤ length bytes.old.items }
+    ensures { bytes.new.items ≡ drop count bytes.old.items }
+{
+    let len = bytes.len();
+    bytes.as_mut_slice().copy_within(count..len, 0);
+    bytes.truncate(len - count);
 }

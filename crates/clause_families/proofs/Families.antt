@@ -12,11 +12,11 @@ use Rattle.std.proofs.lemmas.Bool.{OnTrue_from, false≢true, both_ways, cases_B
 use Rattle.std.proofs.lemmas.List.{take_more, map-append}
 use Rattle.std.proofs.lemmas.List.Elements.{filter_more}
 use Rattle.std.proofs.lemmas.Grind.{flat_map-append}
-use Rattle.listed.proofs.Lists.{item_nil, In_append_cases, In_append_left, In_append_right, In_cases, In_map, In_none, any_from, any_cases, filter_cases, filter_from, filter_same, item_in}
+use Rattle.listed.proofs.Lists.{item_nil, In_append_cases, In_append_left, In_append_right, In_cases, In_has, In_map, In_none, any_from, any_cases, filter_cases, filter_from, filter_same, item_in}
 use Rattle.clause_pool.specs.Interned.{Interned, clause_at, clauses_at, row_at, Kept, OfPool, IsIdOf}
 use Rattle.clause_pool.proofs.Lists.{In_at}
 use Rattle.clause_pool.proofs.Interned.{kept_along, clauses_kept, kept_of_pool}
-use Rattle.listed.specs.Lists.{In, here, there, Ascending, Inside, is_inside}
+use Rattle.listed.specs.Lists.{In, has, here, there, Ascending, Inside, is_inside}
 use Rattle.clause_pool.specs.Clauses.{apart_from, minimal_of}
 use Rattle.clause_pool.proofs.Clauses.{apart_in, inside_at, inside_from, minimal_of_from, minimal_of_parts}
 use Rattle.clause_families.specs.Inclusion.{has_shorter}
@@ -192,6 +192,19 @@ module _ (pool : Interned) (user : ℕ) (Needless : List ℕ → Type 0) where
     apart = u.apart;
     rest = λ k j. elim (u.rest k j) [ inl a ↦ inl a | inr b ↦ elim b [ inl m ↦ inr (inl m) | inr n ↦ inr (inr (f (clause_at pool k) n)) ] ];
   }
+
+-- a clause that stands in the row and does not hold the number
+pub row_has_it : (pool : Interned) (spent : ℕ) (row : List ℕ) (id : ℕ) → In id row → has (clause_at pool id) spent ≡ false → IncludesOneOf (apart_from spent (clauses_at pool row)) (clause_at pool id)
+row_has_it pool spent row id i h =
+    (clause_at pool id, apart_in spent (clauses_at pool row) (clause_at pool id) (In_map (clause_at pool) row id i) (λ j. both_ways (has (clause_at pool id) spent) h (In_has j)), λ n j. j)
+
+-- clauses are left out of those that were left
+pub useful_of_useful : (pool : Interned) (user : ℕ) (Needless : List ℕ → Type 0) (ids fresh slice useful : List ℕ) → slice ≡ fresh → Useful pool user Needless ids fresh → Useful pool user Needless slice useful → Useful pool user Needless ids useful
+useful_of_useful pool user Needless ids fresh slice useful same a b = record {
+  part = λ k j. a.part k (subst (λ z. In k z) same (b.part k j));
+  apart = b.apart;
+  rest = λ k j. elim (a.rest k j) [ inl o ↦ b.rest k (subst (λ z. In k z) (sym same) o) | inr n ↦ inr n ];
+}
 
 pub single_inside : (others : List (List ℕ)) (numbers : List ℕ) → ((n : ℕ) → In n numbers → In (n ∷ []) others) → (c : List ℕ) → HoldsOneOf numbers c → IncludesOneOf others c
 single_inside others numbers f c h =

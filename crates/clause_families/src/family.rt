@@ -3,7 +3,7 @@ ghost use Rattle.std.specs.Prelude.{◌≡◌, ℕ, ◌<◌, ◌++◌, ◌∷◌
 ghost use Rattle.std.specs.Bool.{OnTrue};
 ghost use Rattle.std.specs.List.{filter};
 ghost use Rattle.std.specs.Option.{ForSome};
-ghost use Rattle.clause_pool.specs.Interned.{clauses_at, row_at, Kept, OfPool, IsPool};
+ghost use Rattle.clause_pool.specs.Interned.{clause_at, clauses_at, row_at, Kept, OfPool, IsPool};
 ghost use Rattle.listed.specs.Lists.{In, Ascending, Inside};
 ghost use Rattle.clause_pool.specs.Clauses.{apart_from, minimal_of, in_row_order};
 ghost use Rattle.clause_pool.specs.Lists.{InOrder};
@@ -13,14 +13,14 @@ ghost use Rattle.clause_families.specs.Families.{all_unions, unions_of, HasUnion
 
 use crate::family_tree::FamilyTree;
 use crate::needed::{is_longer, is_needed, stays, tree_beside, tree_of_many};
-use crate::placing::put_in_place;
+use crate::placing::{comes_before, put_in_place};
 use crate::scratch::Clause;
 use clause_pool::{ClauseId, Pool, RowId};
 use listed::holds_ascending;
 use std::alloc::{AllocError, Global};
 
 /// The clauses of the spent package's row whose unions may be wanted in the row of a user: they do not hold the user,
-/// and the most that include a clause of the user's row without the spent package are left out.
+/// and the most that include a clause of the user's row without the spent package are left out, first those that it has itself.
 pub fn useful_of(
     alloc: Global,
     pool: &Pool,
@@ -37,8 +37,72 @@ pub fn useful_of(
     if others.is_empty() {
         return Ok(Vec::new(alloc));
     }
-    let singles = singles_for(alloc, pool, spent, row, others.len())?;
-    useful_beside(alloc, pool, user, singles.as_slice(), others)
+    let fresh = fresh_of(alloc, pool, user, spent, row, others)?;
+    if fresh.is_empty() {
+        return Ok(fresh);
+    }
+    let singles = singles_for(alloc, pool, spent, row, fresh.len())?;
+    useful_beside(alloc, pool, user, singles.as_slice(), fresh.as_slice())
+}
+
+/// The clauses that hold neither the user nor stand in its row without the spent package. Both rows are in order, so one walk over
+/// the user's row finds the most of those that stand in it.
+fn fresh_of(
+    alloc: Global,
+    pool: &Pool,
+    user: u32,
+    spent: u32,
+    row: &[ClauseId],
+    others: &[ClauseId],
+) -> Result<Vec<ClauseId>, AllocError>
+    requires row { OfPool pool.now row.now }
+    requires others { OfPool pool.now others.now }
+    ensures { IfOk result (λ fresh.
+        Useful pool.now user (IncludesOneOf (apart_from spent (clauses_at pool.now row.now))) others.now fresh.items) }
+{
+    let mut fresh = Vec::with_capacity(alloc, others.len())?;
+    let mut place = 0;
+    for id in others {
+        let clause = pool.slice(*id);
+        place = place_from(pool, row, place, clause);
+        if !holds_ascending(clause, user) && !stands_at(pool, spent, row, place, *id) {
+            fresh.push(*id)?;
+        }
+    }
+    Ok(fresh)
+}
+
+/// The first place, from a place on, whose clause does not come before this one.
+fn place_from(pool: &Pool, row: &[ClauseId], start: usize, clause: &[u32]) -> usize
+    requires { OfPool pool.now row.now }
+{
+    for place in start..row.len() {
+        if !comes_before(pool.slice(row[place]), clause) {
+            return place;
+        }
+    }
+    row.len()
+}
+
+/// Whether the clause stands at the place of the row, and does not hold the spent package.
+fn stands_at(pool: &Pool, spent: u32, row: &[ClauseId], place: usize, id: ClauseId) -> bool
+    requires { id < length pool.now.clauses }
+    ensures { OnTrue result (IncludesOneOf (apart_from spent (clauses_at pool.now row.now)) (clause_at pool.now id)) }
+{
+    if is_at(row, place, id) {
+        return !holds_ascending(pool.slice(id), spent);
+    }
+    false
+}
+
+/// Whether the id is that at the place.
+fn is_at(row: &[ClauseId], place: usize, id: ClauseId) -> bool
+    ensures { OnTrue result (In id row.now) }
+{
+    if row.len() <= place {
+        return false;
+    }
+    row[place] == id
 }
 
 /// The numbers, other than the spent one, that are clauses by themselves; none where there is one other clause, whose

@@ -52,7 +52,7 @@ fn place_of(pool: &Pool, ids: &[ClauseId], clause: &[u32]) -> usize
 }
 
 /// Whether the first clause comes before the second in lexicographic order.
-fn comes_before(first: &[u32], second: &[u32]) -> bool
+pub(crate) fn comes_before(first: &[u32], second: &[u32]) -> bool
     ensures { result ≡ comes_before first.now second.now }
 {
     match first.cmp(&second) {

@@ -1,8 +1,9 @@
 -- The tree of a family: what it tells of tests, and how its numbers rise.
-use Rattle.std.proofs.Common.{◌≡◌, ℕ, ◌<◌, ◌≤◌, ◌⊎◌, Bool, true, false, ◌&&◌, ◌||◌, eqb, ltb, cond, List, [], ◌∷◌, inl, inr, refl, sym, ◌∙◌, ap, ap₂, length, arith, eqb-true, suc, ◌+◌, not, add-one, drop, drop-cons, get_or}
+use Rattle.std.proofs.Common.{◌≡◌, ℕ, ◌<◌, ◌≤◌, ◌⊎◌, Bool, true, false, ◌&&◌, ◌||◌, eqb, ltb, cond, List, [], ◌∷◌, inl, inr, refl, sym, ◌∙◌, ap, ap₂, subst, length, arith, eqb-true, suc, ◌+◌, not, add-one, drop, drop-cons, get_or}
 use Rattle.std.specs.List.{list_any}
 use Rattle.std.proofs.lemmas.Bool.{cond-false, cond-true, eqb-false, le-ltb, not_from_false, not_from_true}
 use Rattle.listed.specs.Lists.{In, has, here, there, is_inside, Ascending}
+use Rattle.listed.proofs.Lists.{In_none}
 use Rattle.clause_pool.specs.Lists.{Before, InOrder}
 use Rattle.clause_pool.specs.Clauses.{apart_from}
 use Rattle.clause_families.specs.Branches.{any_of, bare, branch, first_leap, is_empty, later_leaps, no_leap, nodes_of, tree_of, with_clause, Above, BuiltOf, Climbs, Grows, Leap, Standing, Tree, TreeOf}
@@ -122,6 +123,10 @@ climbs_built leaps (c ∷ (d ∷ ds)) o up =
     let others : List Leap = later_leaps leaps in
     climbs_with (first_leap leaps) c (tree_of (later_leaps leaps) (d ∷ ds)) (up c here) (climbs_built (later_leaps leaps) (d ∷ ds) o.1 (λ e i. up e (there i)))
     (leads_first (first_leap others) c d (tree_of (later_leaps others) ds) (o.0 d here))
+
+-- no clause yet
+pub built_none : (built : FamilyTree) (family : List (List ℕ)) → family ≡ [] → built.nodes.items ≡ [] → built.holds_empty ≡ false → BuiltOf built family
+built_none built family none nodes empty = subst (BuiltOf built) (sym none) (record { leaps = []; nodes = nodes; empty = empty; short = λ c i. absurd (In_none i) })
 
 -- one clause more
 short_more : (family : List (List ℕ)) (clause : List ℕ) (old new : ℕ) → new ≤ old → new ≤ length clause → ((c : List ℕ) → In c family → old ≤ length c) → (c : List ℕ) → In c (clause ∷ family) → new ≤ length c

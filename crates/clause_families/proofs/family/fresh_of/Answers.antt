@@ -12,6 +12,9 @@ use Rattle.clause_families.proofs.family.fresh_of.Goals.{then-not-holds_ascendin
 pub slice-clause-requires : goal.slice-clause-requires
 slice-clause-requires c = of_pool_item c.args.pool.now c.args.others.now c.loop-id.id-index c.id-item.result c.requires.others c.loop-id-test.true c.id-item.is
 
+pub stands_at-requires : goal.stands_at-requires
+stands_at-requires c = of_pool_item c.args.pool.now c.args.others.now c.loop-id.id-index c.id-item.result c.requires.others c.loop-id-test.true c.id-item.is
+
 pub loop-id-preserved : goal.loop-id-preserved
 loop-id-preserved c =
     elim c.if-not-holds_ascending.branch [

@@ -1,6 +1,12 @@
-use Rattle.std.proofs.Common.{◌≡◌, suc, ◌∷◌, ◌-◌, ◌∙◌, ap₂, arith, drop, drop-cons, subst, sym}
+use Rattle.std.proofs.Common.{◌≡◌, suc, ◌∷◌, ◌-◌, ◌∙◌, ap₂, arith, drop, drop-cons, length, refl, subst, sym}
+use Rattle.std.proofs.lemmas.List.{drop_all}
 use Rattle.clause_families.specs.Branches.{BuiltOf}
+use Rattle.clause_families.proofs.Built.{built_none}
 use Rattle.clause_families.proofs.family_tree.FamilyTree.of.Goals as goal
+
+pub loop-place-init : goal.loop-place-init
+loop-place-init c =
+    built_none _ (drop (length c.args.family.now) c.args.family.now) (drop_all (length c.args.family.now) c.args.family.now (omega arith)) c.new.ensures.items refl
 
 pub loop-place-preserved : goal.loop-place-preserved
 loop-place-preserved c =

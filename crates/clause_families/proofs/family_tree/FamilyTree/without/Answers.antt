@@ -1,12 +1,19 @@
-use Rattle.std.proofs.Common.{◌+◌, ◌-◌, ◌∙◌, ◌∷◌, List, ℕ, ap, arith, drop, subst, sym}
+use Rattle.std.proofs.Common.{◌≡◌, ◌+◌, ◌-◌, ◌∙◌, ◌∷◌, List, ℕ, ap, arith, drop, length, refl, subst, sym}
+use Rattle.std.proofs.lemmas.List.{drop_all}
 use Rattle.clause_pool.specs.Interned.{clauses_at}
 use Rattle.clause_pool.specs.Clauses.{apart_from}
 use Rattle.listed.specs.Lists.{has}
 use Rattle.listed.proofs.Lists.{item_in}
 use Rattle.clause_families.specs.Branches.{BuiltOf}
-use Rattle.clause_families.proofs.Built.{without_less, without_more}
-use Rattle.clause_families.proofs.Families.{At, at_clause}
+use Rattle.clause_families.proofs.Built.{built_none, without_less, without_more}
+use Rattle.clause_families.proofs.Families.{At, at_clause, clauses_length}
 use Rattle.clause_families.proofs.family_tree.FamilyTree.without.Goals as goal
+
+pub loop-place-init : goal.loop-place-init
+loop-place-init c =
+    let cs : List (List ℕ) = clauses_at c.args.pool.now c.args.row.now in
+    let size : length cs ≡ length c.args.row.now = clauses_length c.args.pool.now c.args.row.now in
+    built_none _ (apart_from c.args.number (drop (length c.args.row.now) cs)) (ap (apart_from c.args.number) (drop_all (length c.args.row.now) cs (omega arith))) c.new.ensures.items refl
 
 pub slice-clause-requires : goal.slice-clause-requires
 slice-clause-requires c = c.requires.row c.index-row-place.result (item_in c.args.row.now (c.loop-place.place - 1) c.index-row-place.result (omega arith) c.index-row-place.is)

@@ -220,6 +220,8 @@ pub fn with_unions(
     let kept = tree_beside(alloc, pool, spent, row, unions.as_slice())?;
     let mut ids = ids_beside(alloc, pool, spent, row, unions.as_slice(), &tree)?;
     put_unions(pool, spent, row, &kept, unions.as_slice(), &tree, &mut ids)?;
+    // Most unions may have been needless, and rows stay for long.
+    ids.shrink_to_fit();
     Ok(ids)
 }
 

@@ -1,7 +1,7 @@
 -- The parts of the row as the calls lend and make them.
 use Rattle.std.proofs.Common.{◌≡◌, ap, ◌∙◌, sym, subst, filter}
 use Rattle.std.specs.Option.{ForSome}
-use Rattle.clause_pool.specs.Interned.{clauses_at}
+use Rattle.clause_pool.specs.Interned.{clauses_at, OfPool}
 use Rattle.clause_families.specs.Branches.{TreeOf}
 use Rattle.clause_families.specs.Families.{SameClauses, all_unions}
 use Rattle.clause_families.specs.Inclusion.{stays}
@@ -49,6 +49,10 @@ returns-clause-ok c =
     subst (SameClauses (all_unions c.args.spent (clauses_at c.args.pool.now c.args.row.now) (clauses_at c.args.pool.now c.args.useful.now))) (sym c.as_slice-4.ensures.value) c.in_ok-unions.ensures.same in
     let beside : clauses_at c.args.pool.now c.in_ok-ids.ids.items ≡ filter (stays c.args.spent c.as_slice-4.result.now) (clauses_at c.args.pool.now c.args.row.now) =
     c.in_ok-ids.ensures.ok ∙ ap (λ u. filter (stays c.args.spent u) (clauses_at c.args.pool.now c.args.row.now)) (c.as_slice-3.ensures.value ∙ sym c.as_slice-4.ensures.value) in
-    row_is_minimal c.args.pool.now c.args.spent c.args.row.now c.args.useful.now c.requires.pool c.requires.row c.requires.useful c.requires.minimal
+    ap (clauses_at c.put_unions.new.pool) c.shrink_to_fit.ensures.items
+    ∙ row_is_minimal c.args.pool.now c.args.spent c.args.row.now c.args.useful.now c.requires.pool c.requires.row c.requires.useful c.requires.minimal
     c.as_slice-4.result.now (clauses_at c.args.pool.now c.in_ok-ids.ids.items) (clauses_at c.put_unions.new.pool c.put_unions.new.ids.items)
     same beside c.in_ok-put_unions.ensures.ok
+
+pub returns-clause-of_pool : goal.returns-clause-of_pool
+returns-clause-of_pool c = subst (OfPool c.put_unions.new.pool) (sym c.shrink_to_fit.ensures.items) c.in_ok-put_unions.ensures.of_pool

@@ -1,6 +1,6 @@
 use Rattle.std.proofs.Common.{subst, List, ℕ}
 use Rattle.std.proofs.lemmas.Result.{IfOk-weaker}
-use Rattle.clause_pool.specs.Interned.{OfPool, clauses_at}
+use Rattle.clause_pool.specs.Interned.{clauses_at}
 use Rattle.listed.specs.Lists.{In}
 use Rattle.clause_pool.specs.Clauses.{apart_from}
 use Rattle.clause_families.specs.Families.{HoldsOneOf, IncludesOneOf, Useful}

@@ -90,6 +90,34 @@ pub enum Stop {
     Memory,
 }
 
+impl Report {
+    ghost use Rattle.std.specs.Prelude.{◌≡◌};
+
+    /// A report that says this as a whole, with these bytes.
+    pub(crate) fn of(verdict: ReportVerdict, text: Vec<u8>) -> Self
+        ensures verdict { result.verdict ≡ verdict }
+        ensures text { result.text ≡ text }
+    {
+        Report { verdict, text }
+    }
+}
+
+impl Stop {
+    ghost use Rattle.std.specs.Prelude.{◌≡◌, IfErr, IfOk};
+    ghost use Rattle.coinst_run.specs.declared.answer.Stop.TheVariants.{Memory, Refused};
+
+    /// The refusal of a cause with the line that says so, unless no memory was found for the line.
+    pub(crate) fn refused(cause: Cause, line: Result<Vec<u8>, AllocError>) -> Self
+        ensures told { IfOk line (λ line. result ≡ Refused cause line) }
+        ensures untold { IfErr line (λ error. result ≡ Memory) }
+    {
+        match line {
+            Ok(line) => Stop::Refused { cause, line },
+            Err(_) => Stop::Memory,
+        }
+    }
+}
+
 impl From<AllocError> for Stop {
     ghost use Rattle.std.specs.Prelude.{◌≡◌};
     ghost use Rattle.coinst_run.specs.declared.answer.Stop.TheVariants.{Memory};

@@ -3,9 +3,9 @@ ghost use Rattle.std.specs.Prelude.{◌≡◌, ◌++◌, IfOk, IfSome, OnOk, len
 ghost use Rattle.std.specs.List.{flat_map};
 ghost use Rattle.explain_core.specs.Picking.{ArePlacesFrom1};
 ghost use Rattle.coinst_run.specs.Explain.{AreClashesOf};
-ghost use Rattle.coinst_run.specs.ExplainText.{clash_count, clash_line, clash_text, clashes_text, core_text, end_text, goal_line, goal_text, package_text, yes_line};
+ghost use Rattle.coinst_run.specs.ExplainText.{clash_count, clash_line, clash_text, clashes_text, core_text, goal_line, goal_text, package_text, yes_line};
 
-use crate::lines::push_number;
+use crate::lines::{push_end, push_versioned};
 use crate::query::goal_of_number;
 use crate::query_text::push_goal_word;
 use explain_core::{Clash, ClashList, Mark};
@@ -47,13 +47,10 @@ fn push_goals(out: &mut Vec<u8>, goals: &[Goal], marks: &[Mark]) -> Result<(), A
 }
 
 // Puts the name and the version of a package behind the text.
-#[tactic(auto, using(std::proofs::Common::append_assoc))]
 fn push_package(out: &mut Vec<u8>, facts: &PackageFacts) -> Result<(), AllocError>
     ensures { OnOk result (out.new.items ≡ out.old.items ++ package_text facts.now) }
 {
-    out.extend_from_slice(facts.name.as_slice())?;
-    out.extend_from_slice(b" ")?;
-    out.extend_from_slice(facts.version.text())
+    push_versioned(out, facts.name.as_slice(), facts.version.text())
 }
 
 // Puts the line of two packages whose conflict matters, or may matter, behind the text.
@@ -122,18 +119,6 @@ fn clash_count(clashes: &Option<ClashList>) -> usize
     }
 }
 
-// Puts the last line, with the numbers of goals and of conflicts, behind the text.
-#[tactic(auto, using(std::proofs::Common::append_assoc))]
-fn push_end(out: &mut Vec<u8>, goals: u64, clashes: u64) -> Result<(), AllocError>
-    ensures { OnOk result (out.new.items ≡ out.old.items ++ end_text goals clashes) }
-{
-    out.extend_from_slice(b"end ")?;
-    push_number(out, goals)?;
-    out.extend_from_slice(b" ")?;
-    push_number(out, clashes)?;
-    out.extend_from_slice(b"\n")
-}
-
 /// The goals that matter and the conflicts that do; it fails only where no memory is found.
 #[tactic(auto, using(std::proofs::Common::append_assoc), unfolding(crate::specs::ExplainText::core_text))]
 pub(crate) fn core_text(
@@ -150,6 +135,6 @@ pub(crate) fn core_text(
     let mut text = Vec::new(alloc);
     push_goals(&mut text, goals, marks)?;
     push_reasons(&mut text, packages, clashes)?;
-    push_end(&mut text, marks.len() as u64, clash_count(clashes) as u64)?;
+    push_end(&mut text, marks.len(), clash_count(clashes))?;
     Ok(text)
 }

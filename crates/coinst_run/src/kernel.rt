@@ -36,10 +36,7 @@ fn kernel_report(alloc: Global, view: &SuiteView, json: bool) -> Result<Report, 
     requires { AreNamedPackages view.now.suite.packages }
     ensures { Settles (kernel_answer json (index_of view.now.suite) (index_kernel view.now.limit view.now.kernel.hold view.now.suite.home view.now.suite.packages)) (ending_of result) }
 {
-    Ok(Report {
-        verdict: ReportVerdict::Done,
-        text: printed_kernel(alloc, view, json)?,
-    })
+    Ok(Report::of(ReportVerdict::Done, printed_kernel(alloc, view, json)?))
 }
 
 // The kernel of a view as text, or as JSON.

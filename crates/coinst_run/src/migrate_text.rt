@@ -1,12 +1,11 @@
 //! The report on a plan, made whole in memory.
 ghost use Rattle.std.specs.Prelude.{◌≡◌, ◌++◌, IfOk, OnOk, codes, filter, length};
-ghost use Rattle.std.specs.List.{flat_map, list_any};
 ghost use Rattle.coinst_run.specs.CompareText.{comparison_line};
-ghost use Rattle.coinst_run.specs.MigrateText.{is_left, is_take, plan_end, plan_line, plan_text, plan_verdict, would_break};
+ghost use Rattle.coinst_run.specs.MigrateText.{is_left, is_take, plan_line, plan_text, plan_verdict, would_break};
 
 use crate::answer::ReportVerdict;
-use crate::compare_text::{is_broken, push_line, push_pair, push_single};
-use crate::lines::push_number;
+use crate::compare_text::{is_broken, push_line};
+use crate::lines::{push_end, push_pair, push_single};
 use migrate_plan::PlanLine;
 use std::alloc::{AllocError, Global};
 use suite_compare::ReportLine;
@@ -33,21 +32,11 @@ fn push_plan_line(out: &mut Vec<u8>, line: &PlanLine) -> Result<(), AllocError>
     }
 }
 
-// Puts the lines of a plan behind the text.
-fn push_plan_lines(out: &mut Vec<u8>, lines: &[PlanLine]) -> Result<(), AllocError>
-    ensures { OnOk result (out.new.items ≡ out.old.items ++ flat_map plan_line lines.now) }
-{
-    for line in lines {
-        push_plan_line(out, line)?;
-    }
-    Ok(())
-}
-
 // Whether the line takes its name.
 fn is_take(line: &PlanLine) -> bool
     ensures { result ≡ is_take line.now }
 {
-    matches!(line, PlanLine::Take { name: _ })
+    matches!(line, PlanLine::Take { .. })
 }
 
 // Whether the name is left since something would be broken.
@@ -55,8 +44,8 @@ fn would_break(line: &PlanLine) -> bool
     ensures { result ≡ would_break line.now }
 {
     match line {
-        PlanLine::Take { name: _ } | PlanLine::LeftLimit { name: _ } => false,
-        PlanLine::LeftLine { name: _, line } => is_broken(line),
+        PlanLine::Take { .. } | PlanLine::LeftLimit { .. } => false,
+        PlanLine::LeftLine { line, .. } => is_broken(line),
     }
 }
 
@@ -64,73 +53,37 @@ fn would_break(line: &PlanLine) -> bool
 fn count_taken(lines: &[PlanLine]) -> usize
     ensures { result ≡ length (filter is_take lines.now) }
 {
-    let mut count = 0;
-    for line in lines {
-        if is_take(line) {
-            count += 1;
-        }
-    }
-    count
+    lines.iter().filter(|line| is_take(line)).count()
 }
 
 // How many names are left.
 fn count_left(lines: &[PlanLine]) -> usize
     ensures { result ≡ length (filter is_left lines.now) }
 {
-    let mut count = 0;
-    for line in lines {
-        if !is_take(line) {
-            count += 1;
-        }
-    }
-    count
-}
-
-// Puts the last line behind the text.
-#[tactic(auto, using(std::proofs::Common::append_assoc), unfolding(crate::specs::MigrateText::plan_end))]
-fn push_plan_end(out: &mut Vec<u8>, lines: &[PlanLine]) -> Result<(), AllocError>
-    ensures { OnOk result (out.new.items ≡ out.old.items ++ plan_end lines.now) }
-{
-    out.extend_from_slice(b"end ")?;
-    push_number(out, count_taken(lines) as u64)?;
-    out.extend_from_slice(b" ")?;
-    push_number(out, count_left(lines) as u64)?;
-    out.extend_from_slice(b"\n")
+    lines.iter().filter(|line| !is_take(line)).count()
 }
 
 /// The text of the lines of a plan; it fails only where no memory is found.
-#[tactic(auto, using(std::proofs::Common::append_assoc), unfolding(crate::specs::MigrateText::plan_text))]
+#[tactic(auto, unfolding(crate::specs::MigrateText::plan_text))]
 pub(crate) fn plan_text(alloc: Global, lines: &[PlanLine]) -> Result<Vec<u8>, AllocError>
     ensures { IfOk result (λ text. text.items ≡ plan_text lines.now) }
 {
     let mut text = Vec::new(alloc);
-    push_plan_lines(&mut text, lines)?;
-    push_plan_end(&mut text, lines)?;
+    for line in lines {
+        push_plan_line(&mut text, line)?;
+    }
+    push_end(&mut text, count_taken(lines), count_left(lines))?;
     Ok(text)
-}
-
-// Whether some name is left since something would be broken.
-fn has_break(lines: &[PlanLine]) -> bool
-    ensures { result ≡ list_any would_break lines.now }
-{
-    lines.iter().any(|line| would_break(line))
-}
-
-// Whether some name is left.
-fn has_left(lines: &[PlanLine]) -> bool
-    ensures { result ≡ list_any is_left lines.now }
-{
-    lines.iter().any(|line| !is_take(line))
 }
 
 /// What the lines of a plan say as a whole; it takes no memory.
 pub(crate) fn plan_verdict(lines: &[PlanLine]) -> ReportVerdict
     ensures { result ≡ plan_verdict lines.now }
 {
-    if has_break(lines) {
+    if lines.iter().any(|line| would_break(line)) {
         return ReportVerdict::Negative;
     }
-    if has_left(lines) {
+    if lines.iter().any(|line| !is_take(line)) {
         return ReportVerdict::Undecided;
     }
     ReportVerdict::Done

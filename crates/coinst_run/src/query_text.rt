@@ -1,28 +1,22 @@
 //! The texts of a query, each made whole in memory.
 ghost use Rattle.std.specs.Prelude.{◌≡◌, ◌++◌, ◌<◌, ℕ, IfOk, OnOk, length};
-ghost use Rattle.std.specs.Fmt.{decimal};
 ghost use Rattle.std.specs.List.{flat_map};
 ghost use Rattle.repo_model.specs.Stanzas.{stanza_at};
 ghost use Rattle.listed.specs.Lists.{In};
 ghost use Rattle.coinst_run.specs.QueryText.{goal_word, install_line, literal_text, log_line, no_text, undecided_text, unknown_line, version_word, yes_text};
 
-use crate::lines::push_number;
+use crate::lines::{push_count, push_counted, push_pair};
 use deb_version::Version;
 use relation_fields::PackageFacts;
 use repo_model::Goal;
-use search_terms::{Literal, LiteralList, Log};
+use search_terms::{Literal, Log};
 use std::alloc::{AllocError, Global};
 
 // Puts the line of a package that is installed behind the text.
-#[tactic(auto, using(std::proofs::Common::append_assoc))]
 fn push_install(out: &mut Vec<u8>, facts: &PackageFacts) -> Result<(), AllocError>
     ensures { OnOk result (out.new.items ≡ out.old.items ++ install_line facts.now) }
 {
-    out.extend_from_slice(b"install ")?;
-    out.extend_from_slice(facts.name.as_slice())?;
-    out.extend_from_slice(b" ")?;
-    out.extend_from_slice(facts.version.text())?;
-    out.extend_from_slice(b"\n")
+    push_pair(out, b"install", facts.name.as_slice(), facts.version.text())
 }
 
 // Puts the lines of the packages with these numbers behind the text.
@@ -56,16 +50,11 @@ pub(crate) fn yes_text(
 }
 
 // Puts a class that holds, or does not, behind the text.
-#[tactic(auto, using(std::proofs::Common::append_assoc))]
 fn push_literal(out: &mut Vec<u8>, literal: Literal) -> Result<(), AllocError>
     ensures { OnOk result (out.new.items ≡ out.old.items ++ literal_text literal) }
 {
-    if literal.positive {
-        out.extend_from_slice(b" +")?;
-    } else {
-        out.extend_from_slice(b" -")?;
-    }
-    push_number(out, u64::from(literal.class))
+    let sign = if literal.positive { b" +" } else { b" -" };
+    push_counted(out, sign, u64::from(literal.class))
 }
 
 // Puts the literals of an entry behind the text.
@@ -88,23 +77,15 @@ fn push_log_line(out: &mut Vec<u8>, entry: &[Literal]) -> Result<(), AllocError>
     out.extend_from_slice(b"\n")
 }
 
-// Puts the lines of entries behind the text.
-fn push_log(out: &mut Vec<u8>, entries: &[LiteralList]) -> Result<(), AllocError>
-    ensures { OnOk result (out.new.items ≡ out.old.items ++ flat_map log_line entries.now) }
-{
-    for entry in entries {
-        push_log_line(out, entry.as_slice())?;
-    }
-    Ok(())
-}
-
 /// No, and the log that shows it; it fails only where no memory is found.
 #[tactic(auto, using(std::proofs::Common::append_assoc), unfolding(crate::specs::QueryText::no_text))]
 pub(crate) fn no_text(alloc: Global, log: &Log) -> Result<Vec<u8>, AllocError>
     ensures { IfOk result (λ text. text.items ≡ no_text log.now.entries) }
 {
     let mut text = Vec::from_slice(alloc, b"no\n")?;
-    push_log(&mut text, log.entries.as_slice())?;
+    for entry in log.entries.as_slice() {
+        push_log_line(&mut text, entry.as_slice())?;
+    }
     Ok(text)
 }
 
@@ -113,9 +94,8 @@ pub(crate) fn no_text(alloc: Global, log: &Log) -> Result<Vec<u8>, AllocError>
 pub(crate) fn undecided_text(alloc: Global, budget: u64) -> Result<Vec<u8>, AllocError>
     ensures { IfOk result (λ text. text.items ≡ undecided_text budget) }
 {
-    let mut text = Vec::from_slice(alloc, b"undecided ")?;
-    push_number(&mut text, budget)?;
-    text.extend_from_slice(b"\n")?;
+    let mut text = Vec::new(alloc);
+    push_count(&mut text, b"undecided ", budget)?;
     Ok(text)
 }
 
@@ -146,8 +126,8 @@ pub(crate) fn push_goal_word(out: &mut Vec<u8>, goal: &Goal) -> Result<(), Alloc
 pub(crate) fn unknown_line(alloc: Global, number: u64, goal: &Goal) -> Result<Vec<u8>, AllocError>
     ensures { IfOk result (λ line. line.items ≡ unknown_line number goal.now) }
 {
-    let mut line = Vec::from_slice(alloc, b"goal ")?;
-    push_number(&mut line, number)?;
+    let mut line = Vec::new(alloc);
+    push_counted(&mut line, b"goal ", number)?;
     line.extend_from_slice(b" is unknown: ")?;
     push_goal_word(&mut line, goal)?;
     line.extend_from_slice(b"\n")?;

@@ -66,11 +66,11 @@ index_named text packages none said =
     subst AreNamedPackages (sym said) (λ facts i. let named = accepted.named facts i in (named.name, named.version))
 
 -- a fault of the text is the answer
-pub index_faulty : (fault : IndexFault) (path text : List ℕ) (there : Option IndexFault) (cause : Cause) (line : List ℕ) → Refuses fault there → is_memory fault ≡ false → cause ≡ fault_cause fault →
-    line ≡ fault_line path fault → by_fault path text there ≡ Err (refused cause line)
-index_faulty fault path text there cause line refuses known is told =
+pub index_faulty : (fault : IndexFault) (path text : List ℕ) (there : Option IndexFault) (cause : Cause) → Refuses fault there → is_memory fault ≡ false → cause ≡ fault_cause fault →
+    by_fault path text there ≡ Err (refused cause (fault_line path fault))
+index_faulty fault path text there cause refuses known is =
     let found : there ≡ Some fault = not_memory fault refuses known in
-    ap (by_fault path text) found ∙ ap (λ c. Err (refused c (fault_line path fault))) (sym is) ∙ ap (λ l. Err (refused cause l)) (sym told)
+    ap (by_fault path text) found ∙ ap (λ c. Err (refused c (fault_line path fault))) (sym is)
 
 -- a round that passes the limit is told
 pub limit_told : (path : List ℕ) (limit : ℕ) (hold : Bool) (index : Index) (R : Repository) (passed : PassedRound) (facts : PackageFacts) (line : List ℕ) → R ≡ suite_repository index.home index.packages →

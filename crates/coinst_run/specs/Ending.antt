@@ -1,6 +1,7 @@
 -- The outcome that an answer in memory stands for; none where no memory was found.
 use Rattle.std.specs.Prelude.{◌≡◌, ℕ, List, Option, Some, None, Result, Ok, Err, ⊤}
 use Rattle.byte_flow.specs.declared.transfer.ReadError.{ReadError}
+use Rattle.byte_flow.specs.declared.transfer.ReadError.TheVariants.{Failed, TooLong}
 use Rattle.byte_flow.specs.declared.transfer.ReadError.TheVariants as read
 use Rattle.coinst_run.specs.declared.answer.Report.{Report}
 use Rattle.coinst_run.specs.declared.answer.Stop.{Stop}
@@ -21,11 +22,11 @@ abbrev pub ending_of : Result Report Stop → Option Outcome
 ending_of (Ok report) = Some (answered (reported report.verdict report.text.items))
 ending_of (Err stop) = stop_ending stop
 
--- a file that was not read whole
-abbrev pub read_ending : List ℕ → ReadError → Option Outcome
-read_ending path read.Failed = Some (unread path)
-read_ending path read.TooLong = Some (answered (too_long path))
-read_ending path read.Memory = None
+-- the outcome of a file that was not read whole, by the error; want of memory has none
+abbrev pub IsReadEnding : List ℕ → ReadError → Outcome → Type 0
+IsReadEnding path Failed outcome = outcome ≡ unread path
+IsReadEnding path TooLong outcome = outcome ≡ answered (too_long path)
+IsReadEnding path read.Memory outcome = ⊥
 
 -- words that give no job
 abbrev pub word_stop : WordError → Stop

@@ -107,7 +107,6 @@ fn plan_report(
 }
 
 // The stop where no plan is made of the indexes at two paths.
-#[tactic(auto, unfolding(crate::specs::Migrate::names_line, crate::specs::Migrate::packages_line))]
 fn refusal(alloc: Global, old: &str, new: &str, error: PlanError) -> Stop
     ensures { (lines : List PlanLine) (there : Option PlanError) → Refuses error there → StopsAt (by_refusal old.now new.now lines there) (stop_ending result) }
 {
@@ -127,7 +126,6 @@ fn refusal(alloc: Global, old: &str, new: &str, error: PlanError) -> Stop
 }
 
 // The line of two indexes with different architectures.
-#[tactic(auto, unfolding(crate::specs::Migrate::homes_line))]
 fn homes_line(alloc: Global, old: &str, new: &str) -> Result<Vec<u8>, AllocError>
     ensures { IfOk result (λ line. line.items ≡ homes_line old.now new.now) }
 {

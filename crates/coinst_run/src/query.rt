@@ -44,8 +44,7 @@ pub(crate) fn goal_of_number(goals: &[Goal], number: u64) -> &Goal
 
 /// The stop of the goal of a number, counted from 1, that is the first to name no package.
 pub(crate) fn unknown_goal(alloc: Global, goals: &[Goal], number: u64) -> Stop
-    requires counted { 0 < number }
-    requires within { number ≤ length goals.now }
+    requires { (0 < number) × (number ≤ length goals.now) }
     ensures { IfSome (stop_ending result) (λ outcome. outcome ≡ answered (unknown_answer goals.now number)) }
 {
     let goal = goal_of_number(goals, number);

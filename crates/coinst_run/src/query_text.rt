@@ -82,8 +82,9 @@ fn push_log_line(out: &mut Vec<u8>, entry: &[Literal]) -> Result<(), AllocError>
 pub(crate) fn no_text(alloc: Global, log: &Log) -> Result<Vec<u8>, AllocError>
     ensures { IfOk result (λ text. text.items ≡ no_text log.now.entries) }
 {
+    let entries = log.entries.as_slice();
     let mut text = Vec::from_slice(alloc, b"no\n")?;
-    for entry in log.entries.as_slice() {
+    for entry in entries {
         push_log_line(&mut text, entry.as_slice())?;
     }
     Ok(text)

@@ -1,10 +1,10 @@
 //! The parts of commands: a file read whole, an index checked as it is read.
-ghost use Rattle.std.specs.Prelude.{◌≡◌, ◌≤◌, ℕ, List, length, Option, Some, Ok, IfOk, IfErr, IfSome};
+ghost use Rattle.std.specs.Prelude.{◌≡◌, ◌≤◌, ℕ, List, length, Option, Ok, IfOk, IfErr, IfSome};
 ghost use Rattle.kernel_text.specs.JsonData.{AreNamedPackages};
 ghost use Rattle.repo_model.specs.Feed.{FeedStandsFor};
 ghost use Rattle.repo_model.specs.declared.fault.IndexFault.{IndexFault};
-ghost use Rattle.repo_model.specs.Refusals.{Refuses};
-ghost use Rattle.coinst_run.specs.Ending.{StopsAt, read_ending, stop_ending};
+ghost use Rattle.repo_model.specs.Refusals.{is_memory, Refuses};
+ghost use Rattle.coinst_run.specs.Ending.{IsReadEnding, StopsAt, stop_ending};
 ghost use Rattle.coinst_run.specs.Course.{Course, reads};
 ghost use Rattle.coinst_run.specs.Faults.{fault_cause};
 ghost use Rattle.coinst_run.specs.Feeding.{WasFed};
@@ -43,7 +43,7 @@ fn fault_cause(fault: IndexFault) -> Cause
 
 // The stop of a file that was not read whole.
 fn unread(alloc: Global, path: &str, error: ReadError) -> Stop
-    ensures { IfSome (stop_ending result) (λ outcome. Some outcome ≡ read_ending path.now error) }
+    ensures { IfSome (stop_ending result) (IsReadEnding path.now error) }
 {
     match error {
         ReadError::Failed => match PathText::copy(alloc, path) {
@@ -66,11 +66,18 @@ pub(crate) fn text_at<F: Shelf>(alloc: Global, shelf: &mut F, path: &str) -> Res
     }
 }
 
+// Whether a fault is want of memory.
+fn is_memory(fault: IndexFault) -> bool
+    ensures { result ≡ is_memory fault }
+{
+    matches!(fault, IndexFault::Memory)
+}
+
 /// The stop of the file at a path with this fault.
 pub(crate) fn faulty(alloc: Global, path: &str, fault: IndexFault) -> Stop
     ensures { (text : List ℕ) (there : Option IndexFault) → Refuses fault there → StopsAt (by_fault path.now text there) (stop_ending result) }
 {
-    if matches!(fault, IndexFault::Memory) {
+    if is_memory(fault) {
         return Stop::Memory;
     }
     Stop::refused(fault_cause(fault), fault_line(alloc, path, fault))

@@ -80,8 +80,10 @@ fn checked_kernel(
 {
     match read_kernel(alloc, text, pool) {
         Ok(stored) => Ok(stored),
+        Err(KernelFault::Line { line }) => Err(faulty(alloc, path, KernelFault::Line { line })),
+        Err(KernelFault::End) => Err(faulty(alloc, path, KernelFault::End)),
+        Err(KernelFault::Range { line }) => Err(faulty(alloc, path, KernelFault::Range { line })),
         Err(KernelFault::Memory) => Err(Stop::Memory),
-        Err(fault) => Err(faulty(alloc, path, fault)),
     }
 }
 

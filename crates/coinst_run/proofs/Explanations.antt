@@ -26,15 +26,8 @@ use Rattle.listed.specs.Lists.{In}
 use Rattle.row_book.specs.Sets.{NumSet}
 use Rattle.row_book.specs.declared.pair.Pair.{Pair}
 use Rattle.search_terms.specs.Tree.{failed_leaves}
-use Rattle.suite_compare.specs.Answering.{unknown_goal}
 use Rattle.suite_compare.specs.Asking.{verdict_in, wanted_by}
-use Rattle.coinst_run.specs.Explain.{AreClashesOf, IsTellable, explained_by_unknown, explanation_answer, goals_explained}
-use Rattle.coinst_run.specs.Index.{Index}
-
--- where no goal is unknown the explanation is told
-pub explanation_told : (index : Index) (goals : List Goal) (budget limit : ℕ) (hold : Bool) → unknown_goal index.packages goals ≡ None →
-    goals_explained goals budget limit hold index ≡ explanation_answer index.packages goals budget (explanation_of limit hold index.home index.packages budget goals)
-explanation_told index goals budget limit hold known = ap (explained_by_unknown goals budget limit hold index) known
+use Rattle.coinst_run.specs.Explain.{AreClashesOf, IsTellable}
 
 module _ (home : Home) (stanzas : List PackageFacts) where
   abbrev R : Repository

@@ -6,7 +6,7 @@ use Rattle.coinst_run.specs.Explain.{IsTellable, explained_by_unknown, explanati
 use Rattle.coinst_run.specs.Index.{index_of}
 use Rattle.coinst_run.specs.Query.{unknown_answer}
 use Rattle.coinst_run.proofs.Follows.{settles_at}
-use Rattle.coinst_run.proofs.Explanations.{explanation_tellable, explanation_told}
+use Rattle.coinst_run.proofs.Explanations.{explanation_tellable}
 use Rattle.coinst_run.proofs.Queries.{unknown_counted}
 use Rattle.coinst_run.proofs.explain.explain_goals.Goals as goal
 
@@ -24,7 +24,7 @@ returns-in-Ok c =
     subst (λ answer. Settles (answers answer) (ending_of c.explanation_report.result))
     (ap (λ ps. explanation_answer ps c.args.goals.now c.args.budget c.in-Ok.explanation) c.as_slice.ensures
     ∙ ap (explanation_answer v.suite.packages c.args.goals.now c.args.budget) c.in-Ok.ensures.explanation
-    ∙ sym (explanation_told (index_of v.suite) c.args.goals.now c.args.budget v.limit v.kernel.hold c.in-Ok.ensures.known))
+    ∙ sym (ap (explained_by_unknown c.args.goals.now c.args.budget v.limit v.kernel.hold (index_of v.suite)) c.in-Ok.ensures.known))
     c.explanation_report.ensures
 
 -- the number of the first unknown goal is that of a goal

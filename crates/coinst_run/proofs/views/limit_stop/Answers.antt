@@ -6,7 +6,7 @@ use Rattle.coinst_run.specs.Ending.{stop_ending}
 use Rattle.coinst_run.specs.Kernel.{kernel_of}
 use Rattle.coinst_run.specs.Lines.{about, row_text}
 use Rattle.coinst_run.proofs.Follows.{stops_at}
-use Rattle.coinst_run.proofs.LimitLines.{passed_told}
+use Rattle.coinst_run.proofs.Kernels.{passed_told}
 use Rattle.coinst_run.proofs.views.limit_stop.Goals as goal
 
 pub returns-in_ok-push_row-in-Limit : goal.returns-in_ok-push_row-in-Limit

@@ -9,7 +9,7 @@ ghost use Rattle.coinst_run.specs.Follows.{Follows};
 ghost use Rattle.coinst_run.specs.Index.{index_of};
 
 use crate::answer::{Report, ReportVerdict, Stop};
-use crate::explain_text::{core_text, yes_line};
+use crate::explain_text::core_text;
 use crate::query::unknown_goal;
 use crate::query_text::undecided_text;
 use crate::settings::Settings;
@@ -60,6 +60,7 @@ fn explain_goals(
 }
 
 // The report on an explanation of goals over packages.
+#[tactic(auto, unfolding(crate::specs::ExplainText::yes_line))]
 fn explanation_report(
     alloc: Global,
     packages: &[PackageFacts],
@@ -71,7 +72,10 @@ fn explanation_report(
     ensures { Settles (answers (explanation_answer packages.now goals.now budget explanation.now)) (ending_of result) }
 {
     match explanation {
-        Explanation::Yes => Ok(Report::of(ReportVerdict::Done, yes_line(alloc)?)),
+        Explanation::Yes => {
+            let text = Vec::from_slice(alloc, b"yes\n")?;
+            Ok(Report::of(ReportVerdict::Done, text))
+        }
         Explanation::Spent { .. } => Ok(Report::of(
             ReportVerdict::Undecided,
             undecided_text(alloc, budget)?,

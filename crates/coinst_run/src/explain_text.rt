@@ -3,7 +3,7 @@ ghost use Rattle.std.specs.Prelude.{◌≡◌, ◌++◌, IfOk, IfSome, OnOk, len
 ghost use Rattle.std.specs.List.{flat_map};
 ghost use Rattle.explain_core.specs.Picking.{ArePlacesFrom1};
 ghost use Rattle.coinst_run.specs.Explain.{AreClashesOf};
-ghost use Rattle.coinst_run.specs.ExplainText.{clash_count, clash_line, clash_text, clashes_text, core_text, goal_line, goal_text, package_text, yes_line};
+ghost use Rattle.coinst_run.specs.ExplainText.{clash_count, clash_line, clash_text, clashes_text, core_text, goal_line, goal_text, package_text};
 
 use crate::lines::{push_end, push_versioned};
 use crate::query::goal_of_number;
@@ -12,14 +12,6 @@ use explain_core::{Clash, ClashList, Mark};
 use relation_fields::PackageFacts;
 use repo_model::Goal;
 use std::alloc::{AllocError, Global};
-
-/// Yes; it fails only where no memory is found.
-#[tactic(auto, unfolding(crate::specs::ExplainText::yes_line))]
-pub(crate) fn yes_line(alloc: Global) -> Result<Vec<u8>, AllocError>
-    ensures { IfOk result (λ text. text.items ≡ yes_line) }
-{
-    Vec::from_slice(alloc, b"yes\n")
-}
 
 // Puts the line of a goal that matters, or may matter, behind the text.
 #[tactic(auto, using(std::proofs::Common::append_assoc))]

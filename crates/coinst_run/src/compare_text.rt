@@ -1,5 +1,6 @@
 //! The report of a comparison, made whole in memory.
 ghost use Rattle.std.specs.Prelude.{◌≡◌, ◌++◌, IfOk, OnOk, filter, length};
+ghost use Rattle.std.specs.List.{list_any};
 ghost use Rattle.coinst_run.specs.CompareText.{comparison_line, comparison_text, comparison_verdict, is_open};
 ghost use Rattle.headline.specs.Listing.{is_broken};
 
@@ -38,14 +39,26 @@ pub(crate) fn is_broken(line: &ReportLine) -> bool
 fn count_broken(lines: &[ReportLine]) -> usize
     ensures { result ≡ length (filter is_broken lines.now) }
 {
-    lines.iter().filter(|line| is_broken(line)).count()
+    let mut count = 0;
+    for line in lines {
+        if is_broken(line) {
+            count += 1;
+        }
+    }
+    count
 }
 
 // How many lines tell of something open.
 fn count_open(lines: &[ReportLine]) -> usize
     ensures { result ≡ length (filter is_open lines.now) }
 {
-    lines.iter().filter(|line| !is_broken(line)).count()
+    let mut count = 0;
+    for line in lines {
+        if !is_broken(line) {
+            count += 1;
+        }
+    }
+    count
 }
 
 /// The text of the lines of a comparison; it fails only where no memory is found.
@@ -61,14 +74,28 @@ pub(crate) fn comparison_text(alloc: Global, lines: &[ReportLine]) -> Result<Vec
     Ok(text)
 }
 
+// Whether some line tells of something broken.
+fn has_broken(lines: &[ReportLine]) -> bool
+    ensures { result ≡ list_any is_broken lines.now }
+{
+    lines.iter().any(|line| is_broken(line))
+}
+
+// Whether some line tells of something open.
+fn has_open(lines: &[ReportLine]) -> bool
+    ensures { result ≡ list_any is_open lines.now }
+{
+    lines.iter().any(|line| !is_broken(line))
+}
+
 /// What the lines of a comparison say as a whole; it takes no memory.
 pub(crate) fn comparison_verdict(lines: &[ReportLine]) -> ReportVerdict
     ensures { result ≡ comparison_verdict lines.now }
 {
-    if lines.iter().any(|line| is_broken(line)) {
+    if has_broken(lines) {
         return ReportVerdict::Negative;
     }
-    if lines.iter().any(|line| !is_broken(line)) {
+    if has_open(lines) {
         return ReportVerdict::Undecided;
     }
     ReportVerdict::Done

@@ -173,15 +173,15 @@ pub(crate) fn too_long_line(alloc: Global, path: &str) -> Result<Vec<u8>, AllocE
 #[tactic(auto, using(std::proofs::Common::append_assoc))]
 pub(crate) fn push_stage(
     out: &mut Vec<u8>,
-    limit: u32,
-    round: u32,
-    gone: u32,
+    limit: u64,
+    round: u64,
+    gone: u64,
 ) -> Result<(), AllocError>
     ensures { OnOk result (out.new.items ≡ out.old.items ++ stage_text limit round gone) }
 {
-    push_counted(out, b"clause limit ", u64::from(limit))?;
-    push_counted(out, b" passed: round ", u64::from(round))?;
-    push_counted(out, b", gone ", u64::from(gone))
+    push_counted(out, b"clause limit ", limit)?;
+    push_counted(out, b" passed: round ", round)?;
+    push_counted(out, b", gone ", gone)
 }
 
 /// Puts which package passed it, and by how many clauses, behind the text; it fails only where no memory is found.

@@ -1,5 +1,6 @@
 //! The report on a plan, made whole in memory.
 ghost use Rattle.std.specs.Prelude.{◌≡◌, ◌++◌, IfOk, OnOk, codes, filter, length};
+ghost use Rattle.std.specs.List.{list_any};
 ghost use Rattle.coinst_run.specs.CompareText.{comparison_line};
 ghost use Rattle.coinst_run.specs.MigrateText.{is_left, is_take, plan_line, plan_text, plan_verdict, would_break};
 
@@ -53,14 +54,26 @@ fn would_break(line: &PlanLine) -> bool
 fn count_taken(lines: &[PlanLine]) -> usize
     ensures { result ≡ length (filter is_take lines.now) }
 {
-    lines.iter().filter(|line| is_take(line)).count()
+    let mut count = 0;
+    for line in lines {
+        if is_take(line) {
+            count += 1;
+        }
+    }
+    count
 }
 
 // How many names are left.
 fn count_left(lines: &[PlanLine]) -> usize
     ensures { result ≡ length (filter is_left lines.now) }
 {
-    lines.iter().filter(|line| !is_take(line)).count()
+    let mut count = 0;
+    for line in lines {
+        if !is_take(line) {
+            count += 1;
+        }
+    }
+    count
 }
 
 /// The text of the lines of a plan; it fails only where no memory is found.
@@ -76,14 +89,28 @@ pub(crate) fn plan_text(alloc: Global, lines: &[PlanLine]) -> Result<Vec<u8>, Al
     Ok(text)
 }
 
+// Whether some name is left since something would be broken.
+fn has_break(lines: &[PlanLine]) -> bool
+    ensures { result ≡ list_any would_break lines.now }
+{
+    lines.iter().any(|line| would_break(line))
+}
+
+// Whether some name is left.
+fn has_left(lines: &[PlanLine]) -> bool
+    ensures { result ≡ list_any is_left lines.now }
+{
+    lines.iter().any(|line| !is_take(line))
+}
+
 /// What the lines of a plan say as a whole; it takes no memory.
 pub(crate) fn plan_verdict(lines: &[PlanLine]) -> ReportVerdict
     ensures { result ≡ plan_verdict lines.now }
 {
-    if lines.iter().any(|line| would_break(line)) {
+    if has_break(lines) {
         return ReportVerdict::Negative;
     }
-    if lines.iter().any(|line| !is_take(line)) {
+    if has_left(lines) {
         return ReportVerdict::Undecided;
     }
     ReportVerdict::Done

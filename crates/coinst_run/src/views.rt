@@ -31,7 +31,12 @@ fn limit_stop(alloc: Global, path: &str, limit: u32, error: LimitError) -> Resul
             ..
         } => {
             let mut words = Vec::new(alloc);
-            push_stage(&mut words, limit, round, gone)?;
+            push_stage(
+                &mut words,
+                u64::from(limit),
+                u64::from(round),
+                u64::from(gone),
+            )?;
             push_row(&mut words, name.as_slice(), version.as_slice(), count)?;
             let line = line_about(alloc, path, words.as_slice());
             Ok(Stop::refused(Cause::ClauseLimit, line))

@@ -86,12 +86,21 @@ pub(crate) fn push_end(out: &mut Vec<u8>, first: usize, second: usize) -> Result
 
 /// Puts what is wrong at a line of a file behind the text; it fails only where no memory is found.
 #[tactic(auto, using(std::proofs::Common::append_assoc))]
-pub(crate) fn push_at_line(out: &mut Vec<u8>, number: u64, words: &[u8]) -> Result<(), AllocError>
-    ensures { OnOk result (out.new.items ≡ out.old.items ++ at_line number words.now) }
+pub(crate) fn push_at_line(out: &mut Vec<u8>, line: u64, words: &[u8]) -> Result<(), AllocError>
+    ensures { OnOk result (out.new.items ≡ out.old.items ++ at_line line words.now) }
 {
-    push_counted(out, b"line ", number)?;
+    push_counted(out, b"line ", line)?;
     out.extend_from_slice(b": ")?;
     out.extend_from_slice(words)
+}
+
+// Puts the same behind the text, with a number behind it.
+#[tactic(auto, using(std::proofs::Common::append_assoc))]
+fn push_numbered(out: &mut Vec<u8>, line: u64, words: &[u8], behind: u64) -> Result<(), AllocError>
+    ensures { OnOk result (out.new.items ≡ out.old.items ++ (at_line line words.now ++ decimal behind)) }
+{
+    push_at_line(out, line, words)?;
+    push_number(out, behind)
 }
 
 // Puts what is wrong with the lines of a stanza behind the text.
@@ -110,7 +119,6 @@ fn push_shape(out: &mut Vec<u8>, fault: StanzaFault) -> Result<(), AllocError>
 }
 
 // Puts what is wrong with an index behind the text.
-#[tactic(auto, using(std::proofs::Common::append_assoc))]
 fn push_fault(out: &mut Vec<u8>, fault: IndexFault) -> Result<(), AllocError>
     ensures { OnOk result (out.new.items ≡ out.old.items ++ fault_text fault) }
 {
@@ -122,12 +130,10 @@ fn push_fault(out: &mut Vec<u8>, fault: IndexFault) -> Result<(), AllocError>
         IndexFault::BadVersion { line } => push_at_line(out, line, b"bad Version value"),
         IndexFault::BadArchitecture { line } => push_at_line(out, line, b"bad Architecture value"),
         IndexFault::BadRelation { line, element } => {
-            push_at_line(out, line, b"bad relation, element ")?;
-            push_number(out, u64::from(element))
+            push_numbered(out, line, b"bad relation, element ", u64::from(element))
         }
         IndexFault::Duplicate { first_line, line } => {
-            push_at_line(out, line, b"same package as line ")?;
-            push_number(out, first_line)
+            push_numbered(out, line, b"same package as line ", first_line)
         }
         IndexFault::Mixed { line } => push_at_line(out, line, b"second architecture"),
         IndexFault::TooMany => out.extend_from_slice(b"more than 200000 packages"),

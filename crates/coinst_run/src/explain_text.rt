@@ -3,7 +3,7 @@ ghost use Rattle.std.specs.Prelude.{◌≡◌, ◌++◌, IfOk, IfSome, OnOk, len
 ghost use Rattle.std.specs.List.{flat_map};
 ghost use Rattle.explain_core.specs.Picking.{ArePlacesFrom1};
 ghost use Rattle.coinst_run.specs.Explain.{AreClashesOf};
-ghost use Rattle.coinst_run.specs.ExplainText.{clash_count, clash_line, clash_text, clashes_text, core_text, goal_line, goal_text, package_text};
+ghost use Rattle.coinst_run.specs.ExplainText.{clash_count, clash_line, clash_text, clashes_text, core_text, goal_line, goal_text};
 
 use crate::lines::{push_end, push_versioned};
 use crate::query::goal_of_number;
@@ -38,13 +38,6 @@ fn push_goals(out: &mut Vec<u8>, goals: &[Goal], marks: &[Mark]) -> Result<(), A
     Ok(())
 }
 
-// Puts the name and the version of a package behind the text.
-fn push_package(out: &mut Vec<u8>, facts: &PackageFacts) -> Result<(), AllocError>
-    ensures { OnOk result (out.new.items ≡ out.old.items ++ package_text facts.now) }
-{
-    push_versioned(out, facts.name.as_slice(), facts.version.text())
-}
-
 // Puts the line of two packages whose conflict matters, or may matter, behind the text.
 #[tactic(auto, using(std::proofs::Common::append_assoc))]
 fn push_clash(
@@ -60,9 +53,9 @@ fn push_clash(
     } else {
         out.extend_from_slice(b"clash ")?;
     }
-    push_package(out, first)?;
+    push_versioned(out, first.name.as_slice(), first.version.text())?;
     out.extend_from_slice(b" ")?;
-    push_package(out, second)?;
+    push_versioned(out, second.name.as_slice(), second.version.text())?;
     out.extend_from_slice(b"\n")
 }
 

@@ -57,23 +57,15 @@ fn push_literal(out: &mut Vec<u8>, literal: Literal) -> Result<(), AllocError>
     push_counted(out, sign, u64::from(literal.class))
 }
 
-// Puts the literals of an entry behind the text.
-fn push_literals(out: &mut Vec<u8>, entry: &[Literal]) -> Result<(), AllocError>
-    ensures { OnOk result (out.new.items ≡ out.old.items ++ flat_map literal_text entry.now) }
-{
-    for literal in entry {
-        push_literal(out, *literal)?;
-    }
-    Ok(())
-}
-
 // Puts the line of an entry behind the text.
 #[tactic(auto, using(std::proofs::Common::append_assoc))]
 fn push_log_line(out: &mut Vec<u8>, entry: &[Literal]) -> Result<(), AllocError>
     ensures { OnOk result (out.new.items ≡ out.old.items ++ log_line entry.now) }
 {
     out.extend_from_slice(b"log")?;
-    push_literals(out, entry)?;
+    for literal in entry {
+        push_literal(out, *literal)?;
+    }
     out.extend_from_slice(b"\n")
 }
 

@@ -1,6 +1,6 @@
 //! The report on an installed system, made whole in memory.
 ghost use Rattle.std.specs.Prelude.{◌≡◌, ◌++◌, ◌<◌, IfOk, OnOk, filter, length};
-ghost use Rattle.coinst_run.specs.SystemText.{clash_text, have_text, is_had, is_lacking, own_text, suite_text, suite_verdict, system_text, system_verdict, unhit_text, AreOfLines};
+ghost use Rattle.coinst_run.specs.SystemText.{clash_text, have_text, is_had, is_lacking, own_text, suite_text, system_text, system_verdict, unhit_text, AreOfLines};
 
 use crate::answer::ReportVerdict;
 use crate::lines::{push_count, push_end, push_pair, push_versioned};
@@ -100,23 +100,16 @@ pub(crate) fn system_text(
     Ok(text)
 }
 
-// What the answer of the index says as a whole.
-fn suite_verdict(state: SuiteState) -> ReportVerdict
-    ensures { result ≡ suite_verdict state }
-{
-    match state {
-        SuiteState::Yes => ReportVerdict::Done,
-        SuiteState::No => ReportVerdict::Negative,
-        SuiteState::Spent { .. } => ReportVerdict::Undecided,
-    }
-}
-
 /// What a report says as a whole; it takes no memory.
 pub(crate) fn system_verdict(own: OwnState, state: SuiteState) -> ReportVerdict
     ensures { result ≡ system_verdict own state }
 {
     match own {
-        OwnState::Healthy => suite_verdict(state),
+        OwnState::Healthy => match state {
+            SuiteState::Yes => ReportVerdict::Done,
+            SuiteState::No => ReportVerdict::Negative,
+            SuiteState::Spent { .. } => ReportVerdict::Undecided,
+        },
         OwnState::Unhit { .. } | OwnState::Clash { .. } => ReportVerdict::Negative,
     }
 }

@@ -5,12 +5,12 @@ ghost use Rattle.coinst_run.specs.CompareText.{comparison_line, comparison_text,
 ghost use Rattle.headline.specs.Listing.{is_broken};
 
 use crate::answer::ReportVerdict;
-use crate::lines::{push_end, push_pair, push_single};
-use std::alloc::{AllocError, Global};
+use crate::lines::{Made, Put, push_end, push_pair, push_single};
+use std::alloc::Global;
 use suite_compare::ReportLine;
 
-/// Puts a line behind the text; it fails only where no memory is found.
-pub(crate) fn push_line(out: &mut Vec<u8>, line: &ReportLine) -> Result<(), AllocError>
+/// Puts a line behind the text.
+pub(crate) fn push_line(out: &mut Vec<u8>, line: &ReportLine) -> Put
     ensures { OnOk result (out.new.items ≡ out.old.items ++ comparison_line line.now) }
 {
     match line {
@@ -61,9 +61,9 @@ fn count_open(lines: &[ReportLine]) -> usize
     count
 }
 
-/// The text of the lines of a comparison; it fails only where no memory is found.
+/// The text of the lines of a comparison.
 #[tactic(auto, unfolding(crate::specs::CompareText::comparison_text, crate::specs::CompareText::end_text))]
-pub(crate) fn comparison_text(alloc: Global, lines: &[ReportLine]) -> Result<Vec<u8>, AllocError>
+pub(crate) fn comparison_text(alloc: Global, lines: &[ReportLine]) -> Made
     ensures { IfOk result (λ text. text.items ≡ comparison_text lines.now) }
 {
     let mut text = Vec::new(alloc);

@@ -5,17 +5,17 @@ ghost use Rattle.explain_core.specs.Picking.{ArePlacesFrom1};
 ghost use Rattle.coinst_run.specs.Explain.{AreClashesOf};
 ghost use Rattle.coinst_run.specs.ExplainText.{clash_count, clash_line, clash_text, clashes_text, core_text, goal_line, goal_text};
 
-use crate::lines::{push_end, push_versioned};
+use crate::lines::{Made, Put, push_end, push_versioned};
 use crate::query::goal_of_number;
 use crate::query_text::push_goal_word;
 use explain_core::{Clash, ClashList, Mark};
 use relation_fields::PackageFacts;
 use repo_model::Goal;
-use std::alloc::{AllocError, Global};
+use std::alloc::Global;
 
 // Puts the line of a goal that matters, or may matter, behind the text.
 #[tactic(auto, using(std::proofs::Common::append_assoc))]
-fn push_goal(out: &mut Vec<u8>, goal: &Goal, unsettled: bool) -> Result<(), AllocError>
+fn push_goal(out: &mut Vec<u8>, goal: &Goal, unsettled: bool) -> Put
     ensures { OnOk result (out.new.items ≡ out.old.items ++ goal_text unsettled goal.now) }
 {
     if unsettled {
@@ -28,7 +28,7 @@ fn push_goal(out: &mut Vec<u8>, goal: &Goal, unsettled: bool) -> Result<(), Allo
 }
 
 // Puts the lines of the goals that are marked behind the text.
-fn push_goals(out: &mut Vec<u8>, goals: &[Goal], marks: &[Mark]) -> Result<(), AllocError>
+fn push_goals(out: &mut Vec<u8>, goals: &[Goal], marks: &[Mark]) -> Put
     requires { ArePlacesFrom1 (length goals.now) marks.now }
     ensures { OnOk result (out.new.items ≡ out.old.items ++ flat_map (goal_line goals.now) marks.now) }
 {
@@ -45,7 +45,7 @@ fn push_clash(
     first: &PackageFacts,
     second: &PackageFacts,
     unsettled: bool,
-) -> Result<(), AllocError>
+) -> Put
     ensures { OnOk result (out.new.items ≡ out.old.items ++ clash_text unsettled first.now second.now) }
 {
     if unsettled {
@@ -60,11 +60,7 @@ fn push_clash(
 }
 
 // Puts the lines of conflicts behind the text.
-fn push_clashes(
-    out: &mut Vec<u8>,
-    packages: &[PackageFacts],
-    clashes: &[Clash],
-) -> Result<(), AllocError>
+fn push_clashes(out: &mut Vec<u8>, packages: &[PackageFacts], clashes: &[Clash]) -> Put
     requires { AreClashesOf (length packages.now) clashes.now }
     ensures { OnOk result (out.new.items ≡ out.old.items ++ flat_map (clash_line packages.now) clashes.now) }
 {
@@ -80,11 +76,7 @@ fn push_clashes(
 }
 
 // Puts the lines of conflicts behind the text, or the line that they are open as a whole.
-fn push_reasons(
-    out: &mut Vec<u8>,
-    packages: &[PackageFacts],
-    clashes: &Option<ClashList>,
-) -> Result<(), AllocError>
+fn push_reasons(out: &mut Vec<u8>, packages: &[PackageFacts], clashes: &Option<ClashList>) -> Put
     requires { IfSome clashes.now (AreClashesOf (length packages.now)) }
     ensures { OnOk result (out.new.items ≡ out.old.items ++ clashes_text packages.now clashes.now) }
 {
@@ -104,7 +96,7 @@ fn clash_count(clashes: &Option<ClashList>) -> usize
     }
 }
 
-/// The goals that matter and the conflicts that do; it fails only where no memory is found.
+/// The goals that matter and the conflicts that do.
 #[tactic(auto, using(std::proofs::Common::append_assoc), unfolding(crate::specs::ExplainText::core_text))]
 pub(crate) fn core_text(
     alloc: Global,
@@ -112,7 +104,7 @@ pub(crate) fn core_text(
     goals: &[Goal],
     marks: &[Mark],
     clashes: &Option<ClashList>,
-) -> Result<Vec<u8>, AllocError>
+) -> Made
     requires marks { ArePlacesFrom1 (length goals.now) marks.now }
     requires clashes { IfSome clashes.now (AreClashesOf (length packages.now)) }
     ensures { IfOk result (λ text. text.items ≡ core_text packages.now goals.now marks.now clashes.now) }

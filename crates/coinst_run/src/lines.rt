@@ -8,35 +8,41 @@ use repo_model::IndexFault;
 use stanza_reader::StanzaFault;
 use std::alloc::{AllocError, Global};
 
+/// What comes of putting bytes behind a text; it fails only where no memory is found.
+pub(crate) type Put = Result<(), AllocError>;
+
+/// What comes of making a text; it fails only where no memory is found.
+pub(crate) type Made = Result<Vec<u8>, AllocError>;
+
 // Puts a number behind the text, in decimal digits.
-fn push_number(out: &mut Vec<u8>, number: u64) -> Result<(), AllocError>
+fn push_number(out: &mut Vec<u8>, number: u64) -> Put
     ensures { OnOk result (out.new.items ≡ out.old.items ++ decimal number) }
 {
     let mut buffer = Buffer::new();
     out.extend_from_slice(buffer.format(number).as_bytes())
 }
 
-/// Puts words and a number behind the text; it fails only where no memory is found.
+/// Puts words and a number behind the text.
 #[tactic(auto, using(std::proofs::Common::append_assoc))]
-pub(crate) fn push_counted(out: &mut Vec<u8>, words: &[u8], number: u64) -> Result<(), AllocError>
+pub(crate) fn push_counted(out: &mut Vec<u8>, words: &[u8], number: u64) -> Put
     ensures { OnOk result (out.new.items ≡ out.old.items ++ (words.now ++ decimal number)) }
 {
     out.extend_from_slice(words)?;
     push_number(out, number)
 }
 
-/// Puts a line of words and a number behind the text; it fails only where no memory is found.
+/// Puts a line of words and a number behind the text.
 #[tactic(auto, using(std::proofs::Common::append_assoc))]
-pub(crate) fn push_count(out: &mut Vec<u8>, words: &[u8], number: u64) -> Result<(), AllocError>
+pub(crate) fn push_count(out: &mut Vec<u8>, words: &[u8], number: u64) -> Put
     ensures { OnOk result (out.new.items ≡ out.old.items ++ counted_line words.now number) }
 {
     push_counted(out, words, number)?;
     out.extend_from_slice(b"\n")
 }
 
-/// Puts what is told of a name behind the text; it fails only where no memory is found.
+/// Puts what is told of a name behind the text.
 #[tactic(auto, using(std::proofs::Common::append_assoc))]
-pub(crate) fn push_single(out: &mut Vec<u8>, word: &[u8], name: &[u8]) -> Result<(), AllocError>
+pub(crate) fn push_single(out: &mut Vec<u8>, word: &[u8], name: &[u8]) -> Put
     ensures { OnOk result (out.new.items ≡ out.old.items ++ single_text word.now name.now) }
 {
     out.extend_from_slice(word)?;
@@ -45,14 +51,9 @@ pub(crate) fn push_single(out: &mut Vec<u8>, word: &[u8], name: &[u8]) -> Result
     out.extend_from_slice(b"\n")
 }
 
-/// Puts what is told of two names, or of a name and a version, behind the text; it fails only where no memory is found.
+/// Puts what is told of two names, or of a name and a version, behind the text.
 #[tactic(auto, using(std::proofs::Common::append_assoc))]
-pub(crate) fn push_pair(
-    out: &mut Vec<u8>,
-    word: &[u8],
-    first: &[u8],
-    second: &[u8],
-) -> Result<(), AllocError>
+pub(crate) fn push_pair(out: &mut Vec<u8>, word: &[u8], first: &[u8], second: &[u8]) -> Put
     ensures { OnOk result (out.new.items ≡ out.old.items ++ pair_text word.now first.now second.now) }
 {
     out.extend_from_slice(word)?;
@@ -61,13 +62,9 @@ pub(crate) fn push_pair(
     out.extend_from_slice(b"\n")
 }
 
-/// Puts the name and the version of a package behind the text; it fails only where no memory is found.
+/// Puts the name and the version of a package behind the text.
 #[tactic(auto, using(std::proofs::Common::append_assoc))]
-pub(crate) fn push_versioned(
-    out: &mut Vec<u8>,
-    name: &[u8],
-    version: &[u8],
-) -> Result<(), AllocError>
+pub(crate) fn push_versioned(out: &mut Vec<u8>, name: &[u8], version: &[u8]) -> Put
     ensures { OnOk result (out.new.items ≡ out.old.items ++ versioned_text name.now version.now) }
 {
     out.extend_from_slice(name)?;
@@ -75,18 +72,18 @@ pub(crate) fn push_versioned(
     out.extend_from_slice(version)
 }
 
-/// Puts the last line of a report, with two numbers, behind the text; it fails only where no memory is found.
+/// Puts the last line of a report, with two numbers, behind the text.
 #[tactic(auto, using(std::proofs::Common::append_assoc))]
-pub(crate) fn push_end(out: &mut Vec<u8>, first: usize, second: usize) -> Result<(), AllocError>
+pub(crate) fn push_end(out: &mut Vec<u8>, first: usize, second: usize) -> Put
     ensures { OnOk result (out.new.items ≡ out.old.items ++ end_text first second) }
 {
     push_counted(out, b"end ", first as u64)?;
     push_count(out, b" ", second as u64)
 }
 
-/// Puts what is wrong at a line of a file behind the text; it fails only where no memory is found.
+/// Puts what is wrong at a line of a file behind the text.
 #[tactic(auto, using(std::proofs::Common::append_assoc))]
-pub(crate) fn push_at_line(out: &mut Vec<u8>, line: u64, words: &[u8]) -> Result<(), AllocError>
+pub(crate) fn push_at_line(out: &mut Vec<u8>, line: u64, words: &[u8]) -> Put
     ensures { OnOk result (out.new.items ≡ out.old.items ++ at_line line words.now) }
 {
     push_counted(out, b"line ", line)?;
@@ -96,7 +93,7 @@ pub(crate) fn push_at_line(out: &mut Vec<u8>, line: u64, words: &[u8]) -> Result
 
 // Puts the same behind the text, with a number behind it.
 #[tactic(auto, using(std::proofs::Common::append_assoc))]
-fn push_numbered(out: &mut Vec<u8>, line: u64, words: &[u8], behind: u64) -> Result<(), AllocError>
+fn push_numbered(out: &mut Vec<u8>, line: u64, words: &[u8], behind: u64) -> Put
     ensures { OnOk result (out.new.items ≡ out.old.items ++ (at_line line words.now ++ decimal behind)) }
 {
     push_at_line(out, line, words)?;
@@ -104,7 +101,7 @@ fn push_numbered(out: &mut Vec<u8>, line: u64, words: &[u8], behind: u64) -> Res
 }
 
 // Puts what is wrong with the lines of a stanza behind the text.
-fn push_shape(out: &mut Vec<u8>, fault: StanzaFault) -> Result<(), AllocError>
+fn push_shape(out: &mut Vec<u8>, fault: StanzaFault) -> Put
     ensures { OnOk result (out.new.items ≡ out.old.items ++ shape_text fault) }
 {
     match fault {
@@ -119,7 +116,7 @@ fn push_shape(out: &mut Vec<u8>, fault: StanzaFault) -> Result<(), AllocError>
 }
 
 // Puts what is wrong with an index behind the text.
-fn push_fault(out: &mut Vec<u8>, fault: IndexFault) -> Result<(), AllocError>
+fn push_fault(out: &mut Vec<u8>, fault: IndexFault) -> Put
     ensures { OnOk result (out.new.items ≡ out.old.items ++ fault_text fault) }
 {
     match fault {
@@ -141,9 +138,9 @@ fn push_fault(out: &mut Vec<u8>, fault: IndexFault) -> Result<(), AllocError>
     }
 }
 
-/// The line of words about the file at a path; it fails only where no memory is found.
+/// The line of words about the file at a path.
 #[tactic(auto, using(std::proofs::Common::append_assoc))]
-pub(crate) fn line_about(alloc: Global, path: &str, words: &[u8]) -> Result<Vec<u8>, AllocError>
+pub(crate) fn line_about(alloc: Global, path: &str, words: &[u8]) -> Made
     ensures { IfOk result (λ line. line.items ≡ about path.now words.now) }
 {
     let mut line = Vec::from_slice(alloc, path.as_bytes())?;
@@ -153,13 +150,9 @@ pub(crate) fn line_about(alloc: Global, path: &str, words: &[u8]) -> Result<Vec<
     Ok(line)
 }
 
-/// The line of the first fault of the file at a path; it fails only where no memory is found.
+/// The line of the first fault of the file at a path.
 #[tactic(auto, unfolding(crate::specs::Lines::fault_line))]
-pub(crate) fn fault_line(
-    alloc: Global,
-    path: &str,
-    fault: IndexFault,
-) -> Result<Vec<u8>, AllocError>
+pub(crate) fn fault_line(alloc: Global, path: &str, fault: IndexFault) -> Made
     ensures { IfOk result (λ line. line.items ≡ fault_line path.now fault) }
 {
     let mut words = Vec::new(alloc);
@@ -167,22 +160,17 @@ pub(crate) fn fault_line(
     line_about(alloc, path, words.as_slice())
 }
 
-/// The line of a file that is longer than the limit; it fails only where no memory is found.
+/// The line of a file that is longer than the limit.
 #[tactic(auto, unfolding(crate::specs::Lines::too_long_line))]
-pub(crate) fn too_long_line(alloc: Global, path: &str) -> Result<Vec<u8>, AllocError>
+pub(crate) fn too_long_line(alloc: Global, path: &str) -> Made
     ensures { IfOk result (λ line. line.items ≡ too_long_line path.now) }
 {
     line_about(alloc, path, b"longer than 1073741824 bytes")
 }
 
-/// Puts which clause limit was passed, and when, behind the text; it fails only where no memory is found.
+/// Puts which clause limit was passed, and when, behind the text.
 #[tactic(auto, using(std::proofs::Common::append_assoc))]
-pub(crate) fn push_stage(
-    out: &mut Vec<u8>,
-    limit: u64,
-    round: u64,
-    gone: u64,
-) -> Result<(), AllocError>
+pub(crate) fn push_stage(out: &mut Vec<u8>, limit: u64, round: u64, gone: u64) -> Put
     ensures { OnOk result (out.new.items ≡ out.old.items ++ stage_text limit round gone) }
 {
     push_counted(out, b"clause limit ", limit)?;
@@ -190,14 +178,9 @@ pub(crate) fn push_stage(
     push_counted(out, b", gone ", gone)
 }
 
-/// Puts which package passed it, and by how many clauses, behind the text; it fails only where no memory is found.
+/// Puts which package passed it, and by how many clauses, behind the text.
 #[tactic(auto, using(std::proofs::Common::append_assoc))]
-pub(crate) fn push_row(
-    out: &mut Vec<u8>,
-    name: &[u8],
-    version: &[u8],
-    count: u64,
-) -> Result<(), AllocError>
+pub(crate) fn push_row(out: &mut Vec<u8>, name: &[u8], version: &[u8], count: u64) -> Put
     ensures { OnOk result (out.new.items ≡ out.old.items ++ row_text name.now version.now count) }
 {
     out.extend_from_slice(b", package ")?;
@@ -205,7 +188,7 @@ pub(crate) fn push_row(
     push_counted(out, b", clauses ", count)
 }
 
-/// The line on the size of a kernel; it fails only where no memory is found.
+/// The line on the size of a kernel.
 #[tactic(auto, using(std::proofs::Common::append_assoc), unfolding(crate::specs::Lines::size_line))]
 pub(crate) fn size_line(
     alloc: Global,
@@ -213,7 +196,7 @@ pub(crate) fn size_line(
     classes: u64,
     clauses: u64,
     conflicts: u64,
-) -> Result<Vec<u8>, AllocError>
+) -> Made
     ensures { IfOk result (λ line. line.items ≡ size_line packages classes clauses conflicts) }
 {
     let mut line = Vec::new(alloc);

@@ -15,7 +15,7 @@ ghost use Rattle.coinst_run.specs.Migrate.{by_refusal, homes_line, kernel_at, mi
 ghost use Rattle.repo_model.specs.Limits.{most_bytes};
 
 use crate::answer::{Cause, Report, Stop};
-use crate::lines::{line_about, too_long_line};
+use crate::lines::{Made, line_about, too_long_line};
 use crate::migrate_text::{plan_text, plan_verdict};
 use crate::settings::Settings;
 use crate::stages::{checked_index, text_at};
@@ -23,7 +23,7 @@ use crate::views::view_of;
 use byte_flow::Shelf;
 use migrate_plan::{PlanError, make_plan};
 use repo_model::Suite;
-use std::alloc::{AllocError, Global};
+use std::alloc::Global;
 use suite_compare::SuiteView;
 
 /// The report on which names that differ can be taken over from the index at the newer path into that at the older one. Both
@@ -126,7 +126,7 @@ fn refusal(alloc: Global, old: &str, new: &str, error: PlanError) -> Stop
 }
 
 // The line of two indexes with different architectures.
-fn homes_line(alloc: Global, old: &str, new: &str) -> Result<Vec<u8>, AllocError>
+fn homes_line(alloc: Global, old: &str, new: &str) -> Made
     ensures { IfOk result (λ line. line.items ≡ homes_line old.now new.now) }
 {
     let mut words = Vec::from_slice(alloc, b"another architecture than ")?;

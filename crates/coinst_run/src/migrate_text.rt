@@ -6,14 +6,14 @@ ghost use Rattle.coinst_run.specs.MigrateText.{is_left, is_take, plan_line, plan
 
 use crate::answer::ReportVerdict;
 use crate::compare_text::{is_broken, push_line};
-use crate::lines::{push_end, push_pair, push_single};
+use crate::lines::{Made, Put, push_end, push_pair, push_single};
 use migrate_plan::PlanLine;
-use std::alloc::{AllocError, Global};
+use std::alloc::Global;
 use suite_compare::ReportLine;
 
 // Puts a name that is left, with a line of a comparison, behind the text.
 #[tactic(auto, using(std::proofs::Common::append_assoc))]
-fn push_left(out: &mut Vec<u8>, name: &[u8], line: &ReportLine) -> Result<(), AllocError>
+fn push_left(out: &mut Vec<u8>, name: &[u8], line: &ReportLine) -> Put
     ensures { OnOk result (out.new.items ≡ out.old.items ++ (codes "left " ++ name.now ++ codes " " ++ comparison_line line.now)) }
 {
     out.extend_from_slice(b"left ")?;
@@ -23,7 +23,7 @@ fn push_left(out: &mut Vec<u8>, name: &[u8], line: &ReportLine) -> Result<(), Al
 }
 
 // Puts what becomes of a name behind the text.
-fn push_plan_line(out: &mut Vec<u8>, line: &PlanLine) -> Result<(), AllocError>
+fn push_plan_line(out: &mut Vec<u8>, line: &PlanLine) -> Put
     ensures { OnOk result (out.new.items ≡ out.old.items ++ plan_line line.now) }
 {
     match line {
@@ -76,9 +76,9 @@ fn count_left(lines: &[PlanLine]) -> usize
     count
 }
 
-/// The text of the lines of a plan; it fails only where no memory is found.
+/// The text of the lines of a plan.
 #[tactic(auto, unfolding(crate::specs::MigrateText::plan_text))]
-pub(crate) fn plan_text(alloc: Global, lines: &[PlanLine]) -> Result<Vec<u8>, AllocError>
+pub(crate) fn plan_text(alloc: Global, lines: &[PlanLine]) -> Made
     ensures { IfOk result (λ text. text.items ≡ plan_text lines.now) }
 {
     let mut text = Vec::new(alloc);

@@ -20,7 +20,7 @@ ghost use Rattle.coinst_run.specs.StoredQuery.{checked_kernel, class_line, class
 ghost use Rattle.repo_model.specs.Limits.{most_bytes};
 
 use crate::answer::{Cause, Report, ReportVerdict, Stop};
-use crate::lines::{line_about, push_at_line, push_count};
+use crate::lines::{Made, Put, line_about, push_at_line, push_count};
 use crate::query::unknown_goal;
 use crate::query_text::{no_text, undecided_text};
 use crate::settings::Settings;
@@ -31,7 +31,7 @@ use clause_solver::{Outcome, search};
 use kernel_text::{ImageError, KernelFault, StoredKernel, read_kernel};
 use repo_model::Goal;
 use row_book::{Book, Needs};
-use std::alloc::{AllocError, Global};
+use std::alloc::Global;
 
 /// The report on goals that are asked of the stored kernel at a path.
 pub fn stored_query<F: Shelf>(
@@ -142,7 +142,7 @@ fn tree_report(
 }
 
 // Puts the lines of the classes whose flags are up behind the text.
-fn push_classes(out: &mut Vec<u8>, chosen: &[bool]) -> Result<(), AllocError>
+fn push_classes(out: &mut Vec<u8>, chosen: &[bool]) -> Put
     ensures { OnOk result (out.new.items ≡ out.old.items ++ flat_map class_line (filter (flag chosen.now) (numbers (length chosen.now) 0))) }
 {
     for number in 0..chosen.len() {
@@ -153,9 +153,9 @@ fn push_classes(out: &mut Vec<u8>, chosen: &[bool]) -> Result<(), AllocError>
     Ok(())
 }
 
-// Yes, and the classes whose flags are up; it fails only where no memory is found.
+// Yes, and the classes whose flags are up.
 #[tactic(auto, using(std::proofs::Common::append_assoc), unfolding(crate::specs::StoredQuery::classes_text))]
-fn classes_text(alloc: Global, chosen: &[bool]) -> Result<Vec<u8>, AllocError>
+fn classes_text(alloc: Global, chosen: &[bool]) -> Made
     ensures { IfOk result (λ text. text.items ≡ classes_text chosen.now) }
 {
     let mut text = Vec::from_slice(alloc, b"yes\n")?;
@@ -164,7 +164,7 @@ fn classes_text(alloc: Global, chosen: &[bool]) -> Result<Vec<u8>, AllocError>
 }
 
 // Puts why a text is not that of a kernel behind the text.
-fn push_kernel_fault(out: &mut Vec<u8>, fault: KernelFault) -> Result<(), AllocError>
+fn push_kernel_fault(out: &mut Vec<u8>, fault: KernelFault) -> Put
     ensures { OnOk result (out.new.items ≡ out.old.items ++ kernel_fault_text fault) }
 {
     match fault {
@@ -175,9 +175,9 @@ fn push_kernel_fault(out: &mut Vec<u8>, fault: KernelFault) -> Result<(), AllocE
     }
 }
 
-// The line of the fault of the stored kernel at a path; it fails only where no memory is found.
+// The line of the fault of the stored kernel at a path.
 #[tactic(auto, unfolding(crate::specs::StoredQuery::kernel_fault_line))]
-fn kernel_fault_line(alloc: Global, path: &str, fault: KernelFault) -> Result<Vec<u8>, AllocError>
+fn kernel_fault_line(alloc: Global, path: &str, fault: KernelFault) -> Made
     ensures { IfOk result (λ line. line.items ≡ kernel_fault_line path.now fault) }
 {
     let mut words = Vec::new(alloc);

@@ -3,12 +3,12 @@ ghost use Rattle.std.specs.Prelude.{◌≡◌, ◌++◌, ◌<◌, IfOk, OnOk, fi
 ghost use Rattle.coinst_run.specs.SystemText.{clash_text, have_text, is_had, is_lacking, own_text, suite_text, system_text, system_verdict, unhit_text, AreOfLines};
 
 use crate::answer::ReportVerdict;
-use crate::lines::{push_count, push_end, push_pair, push_versioned};
+use crate::lines::{Made, Put, push_count, push_end, push_pair, push_versioned};
 use status_check::{HaveLine, OwnState, StatusReport, SuiteState};
-use std::alloc::{AllocError, Global};
+use std::alloc::Global;
 
 // Puts the line of an own package behind the text.
-fn push_have(out: &mut Vec<u8>, line: &HaveLine) -> Result<(), AllocError>
+fn push_have(out: &mut Vec<u8>, line: &HaveLine) -> Put
     ensures { OnOk result (out.new.items ≡ out.old.items ++ have_text line.now) }
 {
     let word = if line.had { b"have" } else { b"lack" };
@@ -16,7 +16,7 @@ fn push_have(out: &mut Vec<u8>, line: &HaveLine) -> Result<(), AllocError>
 }
 
 // Puts the own package with a need that none of them meets behind the text.
-fn push_unhit(out: &mut Vec<u8>, line: &HaveLine) -> Result<(), AllocError>
+fn push_unhit(out: &mut Vec<u8>, line: &HaveLine) -> Put
     ensures { OnOk result (out.new.items ≡ out.old.items ++ unhit_text line.now) }
 {
     push_pair(
@@ -29,7 +29,7 @@ fn push_unhit(out: &mut Vec<u8>, line: &HaveLine) -> Result<(), AllocError>
 
 // Puts the two own packages that conflict behind the text.
 #[tactic(auto, using(std::proofs::Common::append_assoc))]
-fn push_clash(out: &mut Vec<u8>, first: &HaveLine, second: &HaveLine) -> Result<(), AllocError>
+fn push_clash(out: &mut Vec<u8>, first: &HaveLine, second: &HaveLine) -> Put
     ensures { OnOk result (out.new.items ≡ out.old.items ++ clash_text first.now second.now) }
 {
     out.extend_from_slice(b"self clash ")?;
@@ -40,7 +40,7 @@ fn push_clash(out: &mut Vec<u8>, first: &HaveLine, second: &HaveLine) -> Result<
 }
 
 // Puts whether the own packages stand together behind the text.
-fn push_own(out: &mut Vec<u8>, lines: &[HaveLine], own: OwnState) -> Result<(), AllocError>
+fn push_own(out: &mut Vec<u8>, lines: &[HaveLine], own: OwnState) -> Put
     requires { AreOfLines lines.now own }
     ensures { OnOk result (out.new.items ≡ out.old.items ++ own_text lines.now own) }
 {
@@ -54,7 +54,7 @@ fn push_own(out: &mut Vec<u8>, lines: &[HaveLine], own: OwnState) -> Result<(), 
 }
 
 // Puts whether the index can install what it has behind the text.
-fn push_suite(out: &mut Vec<u8>, state: SuiteState, budget: u64) -> Result<(), AllocError>
+fn push_suite(out: &mut Vec<u8>, state: SuiteState, budget: u64) -> Put
     ensures { OnOk result (out.new.items ≡ out.old.items ++ suite_text budget state) }
 {
     match state {
@@ -78,13 +78,9 @@ fn count_lacking(lines: &[HaveLine]) -> usize
     lines.iter().filter(|line| !line.had).count()
 }
 
-/// The text of a report within a budget; it fails only where no memory is found.
+/// The text of a report within a budget.
 #[tactic(auto, using(std::proofs::Common::append_assoc), unfolding(crate::specs::SystemText::system_text))]
-pub(crate) fn system_text(
-    alloc: Global,
-    report: &StatusReport,
-    budget: u64,
-) -> Result<Vec<u8>, AllocError>
+pub(crate) fn system_text(alloc: Global, report: &StatusReport, budget: u64) -> Made
     requires { AreOfLines report.now.lines report.now.own }
     ensures { IfOk result (λ text. text.items ≡ system_text budget report.now) }
 {

@@ -6,7 +6,7 @@ use Rattle.std.specs.Option.{is_none, option_map, option_and_then, option_or}
 use Rattle.std.specs.Ordering.{is_eq}
 use Rattle.std.specs.Str.{bytes_eq}
 use Rattle.std.proofs.Math.Seq.{take-append_seam}
-use Rattle.std.proofs.lemmas.Bool.{and_parts, cases_Bool}
+use Rattle.std.proofs.lemmas.Bool.{and_parts, cases_Bool, false_from_ne_true}
 use Rattle.std.proofs.lemmas.Bool.Decides.{nat_tests}
 use Rattle.std.proofs.lemmas.List.{append-nil, length-map, map-append}
 use Rattle.std.proofs.lemmas.List.Elements.{AllZip-get_or}
@@ -51,7 +51,8 @@ use Rattle.stanza_reader.proofs.LineLemmas.{cut_later}
 use Rattle.deb_version.specs.Order.{version_order}
 use Rattle.repo_model.proofs.Refusing.{none_behind}
 use Rattle.claims.proofs.Control.{groups_are_theirs, group_is_read, name_whole, none_of, shaped}
-use Rattle.claims.proofs.Index.{first_there, Local, ok, own_field, says, says_one, stanzas_ok, zip_both, zip_left}
+use Rattle.claims.proofs.Index.{first_there, Local, ok, own_field, same_text, says, says_one, stanzas_ok, zip_both, zip_left}
+use Rattle.claims.proofs.Kernel.{map_map}
 use Rattle.claims.proofs.Spelling.{spellings_are_read}
 use Rattle.claims.proofs.Values.{key, kept_value, value_is}
 
@@ -65,13 +66,6 @@ or_last false b e = e
 
 not_at_most : (most n : ℕ) → n < most → nat_le most n ≡ false
 not_at_most most n l = grind (arith, nat_tests)
-
-same_text : (a b : Text) → Some a ≡ Some b → a ≡ b
-same_text a b e = cc
-
-not_so : (b : Bool) → (b ≡ true → ⊥) → b ≡ false
-not_so true f = absurd (f refl)
-not_so false f = refl
 
 -- a line without a colon, with the continuation lines behind it, is no field
 name_past : (line more : Text) → list_any is_colon line ≡ false → name_of (line ++ more) ≡ line ++ name_of more
@@ -153,7 +147,7 @@ repeat_none before (line ∷ more) shape once new = go (is_continuation line.tex
         let key : name_key whole ≡ lowered (name_of line.text) = ap lowered (name_whole line.text (continued (texts more)) (shaped line both.0 e).colon) in
         let distinct : AreDistinct (name_key whole ∷ map name_key (fields (texts more))) = subst AreDistinct keys once in
         let fresh : has_name before (name_of line.text) ≡ false
-        = none_any (λ o. is_same_name o (name_of line.text)) before (λ o i. not_so (is_same_name o (name_of line.text)) (λ yes.
+        = none_any (λ o. is_same_name o (name_of line.text)) before (λ o i. false_from_ne_true (is_same_name o (name_of line.text)) (λ yes.
         new (name_key whole) (subst (In (name_key whole)) (sym keys) here) o i ((bytes_eq-Decides (lowered o) (lowered (name_of line.text))).0 yes ∙ sym key))) in
         let left : repeat_fault before (line ∷ more) ≡ cond (has_name before (name_of line.text)) (Some (Repeated line.number)) (repeat_fault (name_of line.text ∷ before) more) = rw e refl in
         left ∙ ap (λ b. cond b (Some (Repeated line.number)) (repeat_fault (name_of line.text ∷ before) more)) fresh
@@ -347,10 +341,6 @@ module _ (home : Option Text) (ss : List RawStanza) (few : length ss ≤ most_pa
 map_in : {A B : Type 0} (f g : A → B) (xs : List A) → ((x : A) → In x xs → f x ≡ g x) → map f xs ≡ map g xs
 map_in f g [] e = refl
 map_in f g (x ∷ xs) e = ap (λ y. y ∷ map f xs) (e x here) ∙ ap (λ more. g x ∷ more) (map_in f g xs (λ y i. e y (there i)))
-
-map_map : {A B C : Type 0} (f : B → C) (g : A → B) (xs : List A) → map f (map g xs) ≡ map (λ x. f (g x)) xs
-map_map f g [] = refl
-map_map f g (x ∷ xs) = ap (λ more. f (g x) ∷ more) (map_map f g xs)
 
 each_says : (home : Home) (gs : List (List Line)) → ((g : List Line) → In g gs → Says home (texts g) (facts_of (raw g))) → AllZip (Says home) (map texts gs) (map facts_of (map raw gs))
 each_says home [] f = tt

@@ -321,7 +321,7 @@ zip_one one Spells reads (t ∷ ts) (x ∷ xs) (y ∷ ys) z w =
     let same : x ≡ y = cc in
     ap (λ a. a ∷ xs) same ∙ ap (λ more. y ∷ more) rest
 
-same_text : (a b : Text) → Some a ≡ Some b → a ≡ b
+pub same_text : (a b : Text) → Some a ≡ Some b → a ≡ b
 same_text a b e = cc
 
 pub says_one : (h k : Home) (group : List Text) (s t : PackageFacts) → Says h group s → Says k group t → SaysTheSame s t

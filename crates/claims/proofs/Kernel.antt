@@ -9,7 +9,7 @@ use Rattle.row_book.specs.Sets.{NumSet}
 use Rattle.claims.specs.Kernel.{SettlesTo, at_rest, after}
 use Rattle.claims.specs.Laws.{KernelsAreKernels, KernelsAreOne}
 
-map_map : {A B C : Type 0} (f : B → C) (g : A → B) (xs : List A) → map f (map g xs) ≡ map (λ x. f (g x)) xs
+pub map_map : {A B C : Type 0} (f : B → C) (g : A → B) (xs : List A) → map f (map g xs) ≡ map (λ x. f (g x)) xs
 map_map f g [] = refl
 map_map f g (x ∷ xs) = ap (λ more. f (g x) ∷ more) (map_map f g xs)
 

@@ -26,7 +26,7 @@ use Rattle.suite_compare.specs.Answering.{unknown_goal}
 use Rattle.suite_compare.specs.Asking.{asked_tree, tree_of}
 use Rattle.suite_compare.specs.Refusals.{packages_in}
 use Rattle.coinst_run.specs.declared.answer.ReportVerdict.TheVariants.{Done, Negative, Undecided}
-use Rattle.coinst_run.specs.Answer.{reported}
+use Rattle.coinst_run.specs.Answer.{Answer, reported}
 use Rattle.coinst_run.specs.Compare.{compare_answer, newer_course}
 use Rattle.coinst_run.specs.Course.{Course, answers, then_on}
 use Rattle.coinst_run.specs.Explain.{explain_answer, explained_by_unknown, explanation_answer, goals_explained}
@@ -35,7 +35,7 @@ use Rattle.coinst_run.specs.Kernel.{kernel_answer}
 use Rattle.coinst_run.specs.Migrate.{by_refusal, new_answer, new_course, old_answer, plan_answer, refusal_of}
 use Rattle.coinst_run.specs.MigrateText.{plan_text, plan_verdict}
 use Rattle.coinst_run.specs.Outcome.{answered, course_of, of_job, outcome_of, outcome_over}
-use Rattle.coinst_run.specs.Query.{by_found, by_tree, by_unknown, goals_answer, query_answer}
+use Rattle.coinst_run.specs.Query.{by_found, by_tree, by_unknown, goals_answer, query_answer, unknown_answer}
 use Rattle.coinst_run.specs.QueryText.{undecided_text}
 use Rattle.coinst_run.specs.Sample.{sample_answer, sample_limit, sample_path, size_report}
 use Rattle.coinst_run.specs.StoredQuery.{by_reading, classes_by_tree, classes_found, images_in, stored_answer, stored_by_unknown, stored_query_answer}
@@ -44,6 +44,11 @@ use Rattle.coinst_run.specs.SystemStatus.{system_answer, system_by_fault, system
 use Rattle.coinst_run.proofs.StoredReading.{reading_is}
 use Rattle.coinst_run.specs.Complete.{CompleteJobsReport, GivesReport, IsComplete}
 use Rattle.coinst_run.proofs.GoingOn.{checked_used, file_step, file_used, kernel_at_step, kernel_at_used, kernel_step, kernel_used, limit_step, limit_used, some_alone, told}
+
+-- goals that are answered by a report are known
+goals_known : (answer : Option ℕ → Answer) (goals : List Goal) → ((number : ℕ) → answer (Some number) ≡ unknown_answer goals number) → (u : Option ℕ) → GivesReport (answered (answer u)) → u ≡ None
+goals_known answer goals is None g = refl
+goals_known answer goals is (Some number) g = absurd (let s = ap answered (sym (is number)) ∙ g.2 in let k : ⊥ = cc in k)
 
 -- goals of an index
 found_told : (limit : ℕ) (hold : Bool) (index : Index) (goals : List Goal) (tree : Tree) (chosen : Option (List Bool)) → GivesReport (answered (by_found limit hold index goals tree chosen))
@@ -62,11 +67,7 @@ query_told goals budget limit hold index e =
     subst (λ u. GivesReport (answered (by_unknown limit hold index goals budget u))) (sym e) (tree_told limit hold index goals budget (asked_tree limit hold index.home index.packages goals))
 
 query_known : (goals : List Goal) (budget limit : ℕ) (hold : Bool) (index : Index) → GivesReport (answered (goals_answer goals budget limit hold index)) → unknown_goal index.packages goals ≡ None
-query_known goals budget limit hold index g = by (unknown_goal index.packages goals) g
-  where
-    by : (u : Option ℕ) → GivesReport (answered (by_unknown limit hold index goals budget u)) → u ≡ None
-    by None g = refl
-    by (Some number) g = absurd (let s = g.2 in let k : ⊥ = cc in k)
+query_known goals budget limit hold index g = goals_known (by_unknown limit hold index goals budget) goals (λ number. refl) (unknown_goal index.packages goals) g
 
 explanation_told : (packages : List PackageFacts) (goals : List Goal) (budget : ℕ) (e : Explanation) → GivesReport (answered (explanation_answer packages goals budget e))
 explanation_told packages goals budget Yes = told Done _
@@ -78,11 +79,7 @@ explain_told goals budget limit hold index e =
     subst (λ u. GivesReport (answered (explained_by_unknown goals budget limit hold index u))) (sym e) (explanation_told index.packages goals budget (explanation_of limit hold index.home index.packages budget goals))
 
 explain_known : (goals : List Goal) (budget limit : ℕ) (hold : Bool) (index : Index) → GivesReport (answered (goals_explained goals budget limit hold index)) → unknown_goal index.packages goals ≡ None
-explain_known goals budget limit hold index g = by (unknown_goal index.packages goals) g
-  where
-    by : (u : Option ℕ) → GivesReport (answered (explained_by_unknown goals budget limit hold index u)) → u ≡ None
-    by None g = refl
-    by (Some number) g = absurd (let s = g.2 in let k : ⊥ = cc in k)
+explain_known goals budget limit hold index g = goals_known (explained_by_unknown goals budget limit hold index) goals (λ number. refl) (unknown_goal index.packages goals) g
 
 -- a stored kernel is what the grammar reads
 stored_as : (text : List ℕ) (kernel : KernelContent) → KernelReads text kernel.format kernel.repository kernel.members kernel.held → stored_reading text ≡ Ok kernel
@@ -107,11 +104,7 @@ stored_told : (goals : List Goal) (budget : ℕ) (kernel : KernelContent) → un
 stored_told goals budget kernel e = subst (λ u. GivesReport (answered (stored_by_unknown kernel goals budget u))) (sym e) (classes_told budget (tree_of kernel.repository (images_in kernel goals)))
 
 stored_known : (goals : List Goal) (budget : ℕ) (kernel : KernelContent) → GivesReport (answered (stored_answer goals budget kernel)) → unknown_in_kernel kernel.members goals ≡ None
-stored_known goals budget kernel g = by (unknown_in_kernel kernel.members goals) g
-  where
-    by : (u : Option ℕ) → GivesReport (answered (stored_by_unknown kernel goals budget u)) → u ≡ None
-    by None g = refl
-    by (Some number) g = absurd (let s = g.2 in let k : ⊥ = cc in k)
+stored_known goals budget kernel g = goals_known (stored_by_unknown kernel goals budget) goals (λ number. refl) (unknown_in_kernel kernel.members goals) g
 
 module _ (files : Files) (path text : List ℕ) (goals : List Goal) (budget : ℕ) where
   stored_goes_on : (content : KernelContent) → stored_reading text ≡ Ok content → unknown_in_kernel content.members goals ≡ None → GivesReport (outcome_over files (stored_query_answer path goals budget text))

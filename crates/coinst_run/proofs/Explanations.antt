@@ -1,4 +1,4 @@
--- What an explanation names, and what is answered where a goal is unknown.
+-- What an explanation names.
 use Rattle.std.proofs.Common.{◌≡◌, ℕ, ◌<◌, Bool, true, List, length, filter, Option, Some, None, inl, inr, refl, sym, ap, ◌∙◌, subst, arith}
 use Rattle.std.specs.Prelude.{◌&&◌, ltb, IfSome}
 use Rattle.std.specs.List.{range_with_len}
@@ -26,26 +26,8 @@ use Rattle.listed.specs.Lists.{In}
 use Rattle.row_book.specs.Sets.{NumSet}
 use Rattle.row_book.specs.declared.pair.Pair.{Pair}
 use Rattle.search_terms.specs.Tree.{failed_leaves}
-use Rattle.suite_compare.specs.Answering.{unknown_goal}
 use Rattle.suite_compare.specs.Asking.{verdict_in, wanted_by}
-use Rattle.coinst_run.specs.declared.answer.Cause.TheVariants.{UnknownGoal}
-use Rattle.coinst_run.specs.Answer.{refused}
-use Rattle.coinst_run.specs.Course.{answers}
-use Rattle.coinst_run.specs.Explain.{AreClashesOf, IsTellable, explained_by_unknown, explanation_answer, goals_explained}
-use Rattle.coinst_run.specs.Index.{Index}
-use Rattle.coinst_run.specs.Query.{goal_of_number}
-use Rattle.coinst_run.specs.QueryText.{unknown_line}
-
--- where no goal is unknown the explanation is told
-pub explanation_told : (index : Index) (goals : List Goal) (budget limit : ℕ) (hold : Bool) → unknown_goal index.packages goals ≡ None →
-    goals_explained goals budget limit hold index ≡ explanation_answer index.packages goals budget (explanation_of limit hold index.home index.packages budget goals)
-explanation_told index goals budget limit hold known = ap (explained_by_unknown goals budget limit hold index) known
-
--- an unknown goal is refused
-pub unknown_explained : (index : Index) (goals : List Goal) (budget limit : ℕ) (hold : Bool) (number : ℕ) (goal : Goal) (line : List ℕ) → unknown_goal index.packages goals ≡ Some number → goal ≡ goal_of_number goals number → line ≡ unknown_line number goal →
-    answers (goals_explained goals budget limit hold index) ≡ answers (refused UnknownGoal line)
-unknown_explained index goals budget limit hold number goal line unknown is made =
-    ap answers (ap (explained_by_unknown goals budget limit hold index) unknown ∙ ap (λ g. refused UnknownGoal (unknown_line number g)) (sym is) ∙ ap (refused UnknownGoal) (sym made))
+use Rattle.coinst_run.specs.Explain.{AreClashesOf, IsTellable}
 
 module _ (home : Home) (stanzas : List PackageFacts) where
   abbrev R : Repository

@@ -2,9 +2,12 @@
 use Rattle.std.proofs.Common.{◌≡◌, ℕ, ◌<◌, ◌≤◌, Bool, List, length, cond, Option, Some, None, Result, Ok, Err, inl, inr, refl, sym, ap, subst, ◌∙◌, arith, lt-ltb, le-ltb}
 use Rattle.std.specs.Prelude.{IfOk, IfSome, IsNone, IsSomeAnd, OnOk}
 use Rattle.byte_flow.specs.Flow.{FileIs, FileIsLonger, Files, LacksFile, Rose}
-use Rattle.coinst_run.specs.Answer.{Stage}
-use Rattle.coinst_run.specs.Course.{Course, reads, then_on}
-use Rattle.coinst_run.specs.Ending.{Settles, StopsAt}
+use Rattle.byte_flow.specs.Transfer.{OnFailed, OnTooLong, ReadsWhole}
+use Rattle.byte_flow.specs.declared.transfer.ReadError.{ReadError}
+use Rattle.byte_flow.specs.declared.transfer.ReadError.TheVariants.{Failed, TooLong, Memory}
+use Rattle.coinst_run.specs.Answer.{Answer, Stage}
+use Rattle.coinst_run.specs.Course.{Course, answers, reads, then_on}
+use Rattle.coinst_run.specs.Ending.{IsReadEnding, Settles, StopsAt}
 use Rattle.coinst_run.specs.Follows.{Follows, LeadsTo, ReachesIndex, ReachesKernel, WasRead, WasTooLong, WasUnread, at_its_end, behind_a_text, at_an_unread_file, at_a_long_file, without_memory, without_memory_for_a_file}
 use Rattle.coinst_run.specs.Index.{Index, checked_index, reads_index}
 use Rattle.coinst_run.specs.IndexKernel.{ClassedKernel, index_kernel}
@@ -44,6 +47,15 @@ stopped stage next None h = tt
 stopped stage next (Some (answered answer)) h = ap (λ x. then_on x next) h
 stopped stage next (Some (unread path)) h = absurd h
 stopped stage next (Some not_a_command) h = absurd h
+
+-- a part, or a course, that is refused, or no memory to say so
+pub stops_at : {A : Type 0} (stage : Stage A) (answer : Answer) (ending : Option Outcome) → stage ≡ Err answer → IfSome ending (λ o. o ≡ answered answer) → StopsAt stage ending
+stops_at stage answer None is h = tt
+stops_at stage answer (Some o) is h = subst (λ x. StopsAt stage (Some x)) (sym h) is
+
+pub settles_at : (course : Course) (answer : Answer) (ending : Option Outcome) → course ≡ answers answer → IfSome ending (λ o. o ≡ answered answer) → Settles course ending
+settles_at course answer None is h = tt
+settles_at course answer (Some o) is h = subst (λ x. Settles course (Some x)) (sym h) is
 
 -- a part that gave a value, and how what is done with it ends
 pub settled_on : {A : Type 0} (stage : Stage A) (x : A) (next : A → Course) (ending : Option Outcome) → stage ≡ Ok x → Settles (next x) ending → Settles (then_on stage next) ending
@@ -93,16 +105,25 @@ module _ {S : Type 0} {contents : S → Option Files} {faults moved : S → ℕ}
   no_words (without_memory_for_a_file path next s t w) e = cc
 
   -- a file that could not be read, or no memory to say so
-  pub stops_unread : (path : List ℕ) (next : List ℕ → Course) (s t : S) (ending : Option Outcome) → WasUnread contents faults is_quiet start read s path t → IfSome ending (λ o. o ≡ unread path) →
+  stops_unread : (path : List ℕ) (next : List ℕ → Course) (s t : S) (ending : Option Outcome) → WasUnread contents faults is_quiet start read s path t → IfSome ending (λ o. o ≡ unread path) →
       Follows contents faults moved is_quiet start read (reads path next) s ending t
   stops_unread path next s t None w h = without_memory_for_a_file path next s t (inl w.calls)
   stops_unread path next s t (Some o) w h = subst (λ x. Follows contents faults moved is_quiet start read (reads path next) s (Some x) t) (sym h) (at_an_unread_file path next s t w)
 
   -- a file that is too long, or no memory to say so
-  pub stops_long : (path : List ℕ) (next : List ℕ → Course) (s t : S) (ending : Option Outcome) → WasTooLong contents moved start read s path t → IfSome ending (λ o. o ≡ answered (too_long path)) →
+  stops_long : (path : List ℕ) (next : List ℕ → Course) (s t : S) (ending : Option Outcome) → WasTooLong contents moved start read s path t → IfSome ending (λ o. o ≡ answered (too_long path)) →
       Follows contents faults moved is_quiet start read (reads path next) s ending t
   stops_long path next s t None w h = without_memory_for_a_file path next s t (inr (inl w.calls))
   stops_long path next s t (Some o) w h = subst (λ x. Follows contents faults moved is_quiet start read (reads path next) s (Some x) t) (sym h) (at_a_long_file path next s t w)
+
+  -- a file that was not read whole
+  pub stops_reading : (path : List ℕ) (next : List ℕ → Course) (s t : S) (error : ReadError) (ending : Option Outcome) → ReadsWhole {T = List ℕ} start read s path file_limit (Err error) t →
+      OnFailed (Rose (faults s) (faults t)) error → (is_quiet s → OnFailed (LacksFile (contents s) path) error) → OnTooLong (FileIsLonger (contents s) path file_limit) error → OnTooLong (file_limit < moved t) error →
+      IfSome ending (IsReadEnding path error) → Follows contents faults moved is_quiet start read (reads path next) s ending t
+  stops_reading path next s t Failed ending calls rose lacks longer past h = stops_unread path next s t ending (record { calls = calls; rose = rose; lacks = lacks }) h
+  stops_reading path next s t TooLong ending calls rose lacks longer past h = stops_long path next s t ending (record { calls = calls; told = longer; past = past }) h
+  stops_reading path next s t Memory None calls rose lacks longer past h = without_memory_for_a_file path next s t (inr (inr calls))
+  stops_reading path next s t Memory (Some o) calls rose lacks longer past h = absurd h
 
   -- a course that reads no more
   pub settled_follows : (course : Course) (ending : Option Outcome) (s : S) → Settles course ending → Follows contents faults moved is_quiet start read course s ending s

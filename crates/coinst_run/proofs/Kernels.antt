@@ -1,8 +1,7 @@
 -- The stages of the kernel of an index, by what the calls below answer.
-use Rattle.std.proofs.Common.{◌≡◌, ℕ, ◌+◌, ◌<◌, ◌≤◌, Bool, true, false, inl, inr, cond, List, [], ◌∷◌, length, map, filter, Option, Some, None, Ok, Err, refl, sym, ap, ap₂, subst, ◌∙◌, arith}
+use Rattle.std.proofs.Common.{◌≡◌, ℕ, ◌+◌, ◌<◌, ◌≤◌, Bool, true, false, inl, inr, cond, List, [], ◌∷◌, ◌++◌, length, map, filter, Option, Some, None, Ok, Err, refl, sym, ap, ap₂, subst, ◌∙◌, arith}
 use Rattle.std.proofs.lemmas.List.{length-map}
-use Rattle.clause_pool.specs.Interned.{Interned, row_at}
-use Rattle.kernel_rounds.specs.declared.extraction.Kernel.{Kernel}
+use Rattle.clause_pool.specs.Interned.{row_at}
 use Rattle.relation_fields.specs.declared.packages.Home.{Home}
 use Rattle.relation_fields.specs.declared.packages.PackageFacts.{PackageFacts}
 use Rattle.kernel_text.specs.JsonData.{AreNamedPackages}
@@ -15,15 +14,14 @@ use Rattle.repo_model.specs.Facts.{facts_of}
 use Rattle.repo_model.specs.FirstFault.{first_fault, home_of, stanzas_of}
 use Rattle.repo_model.specs.Refusals.{Refuses, is_memory}
 use Rattle.repo_model.specs.Repository.{suite_repository}
-use Rattle.repo_model.specs.Stanzas.{stanza_at}
 use Rattle.repo_model.specs.declared.fault.IndexFault.{IndexFault}
 use Rattle.repo_model.specs.Limits.{most_packages}
 use Rattle.clause_pool.specs.Lists.{InOrder}
-use Rattle.row_book.specs.declared.book.Book.{Book}
-use Rattle.suite_compare.specs.Views.{IsViewOf}
+use Rattle.suite_compare.specs.Refusals.{PassesLimit}
+use Rattle.suite_compare.specs.declared.view.SuiteView.{SuiteView}
 use Rattle.row_book.specs.Flattening.{flat, held_of, is_held, packages}
 use Rattle.row_book.specs.Repository.{Repository, clauses_of}
-use Rattle.row_book.specs.Rounds.{PassedRound, kernel, kernel_class, kernel_held, limit_at, round_count}
+use Rattle.row_book.specs.Rounds.{PassedRound, kernel, kernel_class, kernel_held, round_count}
 use Rattle.listed.specs.Lists.{In}
 use Rattle.row_book.specs.Sound.{SoundRepository, TidyRepository}
 use Rattle.listed.proofs.Lists.{In_map, In_map_cases, filter_cases}
@@ -47,7 +45,7 @@ use Rattle.coinst_run.specs.Faults.{fault_cause}
 use Rattle.coinst_run.specs.Index.{Index, by_fault, checked_index}
 use Rattle.coinst_run.specs.IndexKernel.{ClassedKernel, classed_kernel, index_kernel, json_for, text_for}
 use Rattle.coinst_run.specs.Kernel.{FitsSuite, by_limit, kernel_in, kernel_of}
-use Rattle.coinst_run.specs.Lines.{fault_line, limit_line}
+use Rattle.coinst_run.specs.Lines.{about, fault_line, limit_line, row_text, stage_text}
 use Rattle.coinst_run.proofs.Classes.{HasPackage, class_met, class_within, classes_few}
 
 -- the packages that were read are those of the text
@@ -66,19 +64,19 @@ index_named text packages none said =
     subst AreNamedPackages (sym said) (λ facts i. let named = accepted.named facts i in (named.name, named.version))
 
 -- a fault of the text is the answer
-pub index_faulty : (fault : IndexFault) (path text : List ℕ) (there : Option IndexFault) (cause : Cause) (line : List ℕ) → Refuses fault there → is_memory fault ≡ false → cause ≡ fault_cause fault →
-    line ≡ fault_line path fault → by_fault path text there ≡ Err (refused cause line)
-index_faulty fault path text there cause line refuses known is told =
+pub index_faulty : (fault : IndexFault) (path text : List ℕ) (there : Option IndexFault) (cause : Cause) → Refuses fault there → is_memory fault ≡ false → cause ≡ fault_cause fault →
+    by_fault path text there ≡ Err (refused cause (fault_line path fault))
+index_faulty fault path text there cause refuses known is =
     let found : there ≡ Some fault = not_memory fault refuses known in
-    ap (by_fault path text) found ∙ ap (λ c. Err (refused c (fault_line path fault))) (sym is) ∙ ap (λ l. Err (refused cause l)) (sym told)
+    ap (by_fault path text) found ∙ ap (λ c. Err (refused c (fault_line path fault))) (sym is)
 
--- a round that passes the limit is told
-pub limit_told : (path : List ℕ) (limit : ℕ) (hold : Bool) (index : Index) (R : Repository) (passed : PassedRound) (facts : PackageFacts) (line : List ℕ) → R ≡ suite_repository index.home index.packages →
-    limit_at limit hold R ≡ Some passed → facts ≡ stanza_at index.packages passed.over → line ≡ limit_line path limit passed.number passed.gone facts passed.count →
-    kernel_of path limit hold index ≡ Err (refused ClauseLimit line)
-limit_told path limit hold index R passed facts line is passes_it said made =
-    ap (by_limit path limit hold index) (ap (limit_at limit hold) (sym is) ∙ passes_it)
-    ∙ ap (λ x. Err (refused ClauseLimit x)) (ap (λ p. limit_line path limit passed.number passed.gone p passed.count) (sym said) ∙ sym made)
+-- a suite that passed the limit, with its line
+pub passed_told : (path : List ℕ) (limit : ℕ) (hold : Bool) (index : Index) (passed : PassedRound) (name version words : List ℕ) → PassesLimit index.home index.packages limit hold passed name version →
+    words ≡ stage_text limit passed.number passed.gone ++ row_text name version passed.count → kernel_of path limit hold index ≡ Err (refused ClauseLimit (about path words))
+unfolding limit_line
+passed_told path limit hold index passed name version words w made =
+    ap (by_limit path limit hold index) w.there
+    ∙ ap (λ x. Err (refused ClauseLimit (about path x))) (sym (made ∙ ap₂ (λ n v. stage_text limit passed.number passed.gone ++ row_text n v passed.count) w.name_is w.version_is))
 
 -- the format of a kernel is one of the two
 known_format : (hold : Bool) → IsFormat (format_of hold)
@@ -131,37 +129,40 @@ kernel_fits limit hold R stanzas s count accepted =
     }
 
 -- the kernel of a view is that of its index, and has a class for each package
-module _ (pool : Interned) (home : Home) (stanzas : List PackageFacts) (book : Book) (made : Kernel) (limit : ℕ) (of_suite : IsViewOf pool home stanzas book made limit) where
+module _ (v : SuiteView) where
   abbrev R : Repository
-  R = suite_repository home stanzas
+  R = suite_repository v.suite.home v.suite.packages
 
-  pub view_kernel : kernel_in pool made ≡ index_kernel limit made.hold home stanzas
+  pub view_kernel : kernel_in v.pool v.kernel ≡ index_kernel v.limit v.kernel.hold v.suite.home v.suite.packages
   unfolding index_kernel classed_kernel
   view_kernel =
-      let all : Repository → List ℕ → List ℕ → ClassedKernel = λ r c ns. record { repository = r; class_of = c; hold = made.hold; held = ns } in
-      let is = of_suite.kernel_is in
-      ap₂ (λ r c. all r c made.held) is.book.repository is.class_of ∙ ap (all (kernel limit made.hold R) (map (kernel_class limit made.hold R) (packages R))) is.held
+      let all : Repository → List ℕ → List ℕ → ClassedKernel = λ r c ns. record { repository = r; class_of = c; hold = v.kernel.hold; held = ns } in
+      let is = v.of_suite.kernel_is in
+      ap₂ (λ r c. all r c v.kernel.held) is.book.repository is.class_of ∙ ap (all (kernel v.limit v.kernel.hold R) (map (kernel_class v.limit v.kernel.hold R) (packages R))) is.held
 
-  pub view_fits : FitsSuite pool stanzas made
+  pub view_fits : FitsSuite v.pool v.suite.packages v.kernel
   view_fits =
-      let is = of_suite.kernel_is in
+      let is = v.of_suite.kernel_is in
       record {
         sound = is.book.sound;
-        each = ap length is.class_of ∙ length_numbers (kernel_class limit made.hold R) (length R.clauses) 0 ∙ length_clauses home stanzas;
+        each = ap length is.class_of ∙ length_numbers (kernel_class v.limit v.kernel.hold R) (length R.clauses) 0 ∙ length_clauses v.suite.home v.suite.packages;
         inside = λ class i.
-            let v : (p : ℕ) × In p (packages R) × (class ≡ kernel_class limit made.hold R p) = In_map_cases (kernel_class limit made.hold R) (packages R) class (subst (λ cs. In class cs) is.class_of i) in
-            let p : (0 ≤ v.0) × (v.0 < 0 + length R.clauses) = numbers_parts (length R.clauses) 0 v.0 v.1 in
-            let l : kernel_class limit made.hold R v.0 < length (kernel limit made.hold R).clauses = class_within limit made.hold (round_count limit made.hold R) R (suite_sound home stanzas) v.0 (omega (arith, p.1)) in
-            subst (λ n. class < n) (ap (λ S. length S.clauses) (sym is.book.repository) ∙ length-map made.book.rows (row_at pool)) (subst (λ k. k < length (kernel limit made.hold R).clauses) (sym v.2) l);
+            let w : (p : ℕ) × In p (packages R) × (class ≡ kernel_class v.limit v.kernel.hold R p) = In_map_cases (kernel_class v.limit v.kernel.hold R) (packages R) class (subst (λ cs. In class cs) is.class_of i) in
+            let p : (0 ≤ w.0) × (w.0 < 0 + length R.clauses) = numbers_parts (length R.clauses) 0 w.0 w.1 in
+            let l : kernel_class v.limit v.kernel.hold R w.0 < length (kernel v.limit v.kernel.hold R).clauses =
+            class_within v.limit v.kernel.hold (round_count v.limit v.kernel.hold R) R (suite_sound v.suite.home v.suite.packages) w.0 (omega (arith, p.1)) in
+            subst (λ n. class < n) (ap (λ S. length S.clauses) (sym is.book.repository) ∙ length-map v.kernel.book.rows (row_at v.pool)) (subst (λ k. k < length (kernel v.limit v.kernel.hold R).clauses) (sym w.2) l);
       }
 
   -- what is written of it is what is printed of the index
-  pub view_text : kernel_text (format_of made.hold) (repository_of pool made.book) (kernel_members stanzas made.class_of (length made.book.rows)) made.held ≡ text_for stanzas (index_kernel limit made.hold home stanzas)
+  pub view_text : kernel_text (format_of v.kernel.hold) (repository_of v.pool v.kernel.book) (kernel_members v.suite.packages v.kernel.class_of (length v.kernel.book.rows)) v.kernel.held
+      ≡ text_for v.suite.packages (index_kernel v.limit v.kernel.hold v.suite.home v.suite.packages)
   view_text =
-      ap (λ n. kernel_text (format_of made.hold) (repository_of pool made.book) (kernel_members stanzas made.class_of n) made.held) (sym (length-map made.book.rows (row_at pool)))
-      ∙ ap (text_for stanzas) view_kernel
+      ap (λ n. kernel_text (format_of v.kernel.hold) (repository_of v.pool v.kernel.book) (kernel_members v.suite.packages v.kernel.class_of n) v.kernel.held) (sym (length-map v.kernel.book.rows (row_at v.pool)))
+      ∙ ap (text_for v.suite.packages) view_kernel
 
-  pub view_json : kernel_json (format_of made.hold) (repository_of pool made.book) (kernel_members stanzas made.class_of (length made.book.rows)) made.held ≡ json_for stanzas (index_kernel limit made.hold home stanzas)
+  pub view_json : kernel_json (format_of v.kernel.hold) (repository_of v.pool v.kernel.book) (kernel_members v.suite.packages v.kernel.class_of (length v.kernel.book.rows)) v.kernel.held
+      ≡ json_for v.suite.packages (index_kernel v.limit v.kernel.hold v.suite.home v.suite.packages)
   view_json =
-      ap (λ n. kernel_json (format_of made.hold) (repository_of pool made.book) (kernel_members stanzas made.class_of n) made.held) (sym (length-map made.book.rows (row_at pool)))
-      ∙ ap (json_for stanzas) view_kernel
+      ap (λ n. kernel_json (format_of v.kernel.hold) (repository_of v.pool v.kernel.book) (kernel_members v.suite.packages v.kernel.class_of n) v.kernel.held) (sym (length-map v.kernel.book.rows (row_at v.pool)))
+      ∙ ap (json_for v.suite.packages) view_kernel

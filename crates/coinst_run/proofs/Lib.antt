@@ -8,7 +8,6 @@ pub mod Runs
 pub mod Telling
 pub mod Installed
 pub mod QueryMeant
-pub mod LimitLines
 pub mod ForwardReading
 pub mod StoredReading
 pub mod StoredKernels

@@ -1,5 +1,6 @@
 -- From what the calls of a plan answer to its course.
 use Rattle.std.proofs.Common.{◌≡◌, ℕ, Bool, List, Option, Some, None, Result, Ok, Err, refl, sym, ap, ap₂, ◌∙◌}
+use Rattle.std.specs.Prelude.{IfSome}
 use Rattle.migrate_plan.specs.Plan.{Settings, plan}
 use Rattle.migrate_plan.specs.Refusals.{plan_refusal}
 use Rattle.migrate_plan.specs.declared.plan.PlanLine.{PlanLine}
@@ -20,6 +21,7 @@ use Rattle.coinst_run.specs.Kernel.{kernel_of}
 use Rattle.coinst_run.specs.Migrate.{by_refusal, kernel_at, kernel_behind, lines_answer, plan_answer, refusal_of}
 use Rattle.coinst_run.specs.MigrateText.{plan_text, plan_verdict}
 use Rattle.coinst_run.specs.Outcome.{Outcome, answered, not_a_command, unread}
+use Rattle.coinst_run.proofs.Follows.{stops_at}
 
 -- an index that was checked is the index of its text, which has no fault
 checked_by : (path text : List ℕ) (index : Index) (fault : Option IndexFault) → first_fault text ≡ fault → by_fault path text fault ≡ Ok index → (first_fault text ≡ None) × (index_in text ≡ index)
@@ -57,5 +59,6 @@ plan_told old new settings first second lines verdict text free are whole reads 
     ∙ ap (λ shown. answers (lines_answer shown)) (sym are) ∙ ap₂ (λ v t. answers (reported v t)) (sym whole) (sym reads)
 
 -- and one that is refused
-pub plan_refused : (old new : List ℕ) (lines : List PlanLine) (there : Option PlanError) (error : PlanError) (answer : Answer) → there ≡ Some error → refusal_of old new error ≡ answer → by_refusal old new lines there ≡ Err answer
-plan_refused old new lines there error answer is said = ap (by_refusal old new lines) is ∙ ap Err said
+pub plan_refused : (old new : List ℕ) (lines : List PlanLine) (there : Option PlanError) (error : PlanError) (ending : Option Outcome) → there ≡ Some error → IfSome ending (λ o. o ≡ answered (refusal_of old new error)) →
+    StopsAt (by_refusal old new lines there) ending
+plan_refused old new lines there error ending is h = stops_at (by_refusal old new lines there) (refusal_of old new error) ending (ap (by_refusal old new lines) is) h

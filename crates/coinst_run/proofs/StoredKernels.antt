@@ -1,6 +1,5 @@
 -- What is answered to goals that are asked of a stored kernel.
 use Rattle.std.proofs.Common.{◌≡◌, ℕ, ◌+◌, ◌<◌, ◌≤◌, Bool, true, false, cond, List, [], ◌∷◌, ◌++◌, length, map, filter, Option, Some, None, Ok, Err, inl, inr, sym, ap, ◌∙◌, subst, lt-ltb, arith}
-use Rattle.std.specs.Prelude.{IfSome}
 use Rattle.std.specs.List.{flat_map, position_from}
 use Rattle.std.proofs.lemmas.Bool.{cases_Bool, le-ltb}
 use Rattle.std.proofs.lemmas.List.{append-nil, flat_map_more}
@@ -10,7 +9,7 @@ use Rattle.clause_solver.specs.declared.outcomes.Outcome.TheVariants.{Found, Ref
 use Rattle.kernel_text.specs.declared.fault.KernelFault.{KernelFault}
 use Rattle.kernel_text.specs.declared.fault.KernelFault.TheVariants.{End, Memory}
 use Rattle.kernel_text.specs.declared.member.Member.{Member}
-use Rattle.kernel_text.specs.Images.{image_of, names_in_class, unknown_goal}
+use Rattle.kernel_text.specs.Images.{image_of, is_unknown, names_in_class, unknown_goal}
 use Rattle.kernel_text.specs.KernelFaults.{IsFault}
 use Rattle.kernel_text.specs.KernelReads.{KernelReads, content}
 use Rattle.kernel_text.proofs.ReadIsWritten.{read_is_written}
@@ -30,15 +29,11 @@ use Rattle.search_terms.proofs.Computed.{search_tree_is}
 use Rattle.search_terms.proofs.Found.{one_tree}
 use Rattle.suite_compare.specs.Asking.{tree_of}
 use Rattle.suite_compare.proofs.Ranged.{formula_ranged}
-use Rattle.coinst_run.specs.declared.answer.Cause.TheVariants.{Content, UnknownGoal}
+use Rattle.coinst_run.specs.declared.answer.Cause.TheVariants.{Content}
 use Rattle.coinst_run.specs.declared.answer.ReportVerdict.TheVariants.{Done, Negative, Undecided}
 use Rattle.coinst_run.specs.Answer.{Answer, refused, reported}
 use Rattle.coinst_run.specs.Course.{answers}
-use Rattle.coinst_run.specs.Ending.{StopsAt}
-use Rattle.coinst_run.specs.Outcome.{answered}
-use Rattle.coinst_run.specs.Outcome as run
-use Rattle.coinst_run.specs.Query.{goal_of_number}
-use Rattle.coinst_run.specs.QueryText.{no_text, undecided_text, unknown_line}
+use Rattle.coinst_run.specs.QueryText.{no_text, undecided_text}
 use Rattle.coinst_run.proofs.StoredReading.{reading_is}
 use Rattle.coinst_run.specs.StoredQuery.{by_reading, checked_kernel, class_line, classes_by_tree, classes_found, classes_text, kernel_fault_line, stored_answer, stored_by_unknown}
 
@@ -51,12 +46,6 @@ kernel_sound text format R members held k = (((read_is_written text format R mem
 
 pub kernel_refused : (path text : List ℕ) (fault : KernelFault) → (fault ≡ Memory → ⊥) → IsFault text fault → checked_kernel path text ≡ Err (refused Content (kernel_fault_line path fault))
 kernel_refused path text fault other is = ap (by_reading path) (((reading_is text).faults fault).0 (other, is))
-
--- the stop of a text with a fault
-pub fault_stops : (path text : List ℕ) (fault : KernelFault) (ending : Option run.Outcome) → (fault ≡ Memory → ⊥) → IsFault text fault →
-    IfSome ending (λ o. o ≡ answered (refused Content (kernel_fault_line path fault))) → StopsAt (checked_kernel path text) ending
-fault_stops path text fault None other is h = tt
-fault_stops path text fault (Some o) other is h = subst (λ x. StopsAt (checked_kernel path text) (Some x)) (sym h) (kernel_refused path text fault other is)
 
 pub end_other : End ≡ Memory → ⊥
 end_other e = let f : ⊥ = cc in f
@@ -71,17 +60,15 @@ images_fit members size goals c i n j =
     omega arith
 
 -- the number of an unknown goal is one of a goal
-pub unknown_within : (p : Goal → Bool) (n k : ℕ) (goals : List Goal) → position_from p n goals ≡ Some k → (n ≤ k) × (k < n + length goals)
+unknown_within : (p : Goal → Bool) (n k : ℕ) (goals : List Goal) → position_from p n goals ≡ Some k → (n ≤ k) × (k < n + length goals)
 unknown_within p n k [] e = absurd (cc e)
 unknown_within p n k (g ∷ gs) e = elim (cases_Bool (p g)) [
   | inl t ↦ let same : n ≡ k = cc (rw t at e) in (omega (arith, same), omega (arith, same))
   | inr f ↦ let w : (n + 1 ≤ k) × (k < n + 1 + length gs) = unknown_within p (n + 1) k gs (rw f at e) in (omega (arith, w.0), omega (arith, w.1))
 ]
 
-pub unknown_told : (format : ℕ) (R : Repository) (members : List Member) (held : List ℕ) (goals : List Goal) (budget number : ℕ) (goal : Goal) (line : List ℕ) → unknown_goal members goals ≡ Some number → goal ≡ goal_of_number goals number →
-    line ≡ unknown_line number goal → answers (stored_answer goals budget (content format R members held)) ≡ answers (refused UnknownGoal line)
-unknown_told format R members held goals budget number goal line unknown is made =
-    ap answers (ap (stored_by_unknown (content format R members held) goals budget) unknown ∙ ap (λ g. refused UnknownGoal (unknown_line number g)) (sym is) ∙ ap (refused UnknownGoal) (sym made))
+pub unknown_counted : (members : List Member) (goals : List Goal) (number : ℕ) → unknown_goal members goals ≡ Some number → (0 < number) × (number ≤ length goals)
+unknown_counted members goals number e = let w = unknown_within (is_unknown members) 1 number goals e in (omega (arith, w.0), omega (arith, w.1))
 
 -- goals that are known are answered by the tree
 pub known_told : (format : ℕ) (R : Repository) (members : List Member) (held : List ℕ) (goals : List Goal) (budget size : ℕ) (needs : List (List ℕ)) → unknown_goal members goals ≡ None → size ≡ length R.clauses →

@@ -1,21 +1,12 @@
 -- The text of a comparison.
 use Rattle.std.specs.Prelude.{ℕ, Bool, not, List, ◌++◌, codes, filter, length, if◌then◌else◌}
-use Rattle.std.specs.Fmt.{decimal}
 use Rattle.std.specs.List.{flat_map, list_any}
 use Rattle.headline.specs.Listing.{is_broken}
 use Rattle.suite_compare.specs.declared.report.ReportLine.{ReportLine}
 use Rattle.suite_compare.specs.declared.report.ReportLine.TheVariants.{Broken1, Broken2, Open1, Open2}
 use Rattle.coinst_run.specs.declared.answer.ReportVerdict.{ReportVerdict}
 use Rattle.coinst_run.specs.declared.answer.ReportVerdict.TheVariants.{Done, Negative, Undecided}
-use Rattle.coinst_run.specs.Lines.{line_of_text}
-
--- what is told of a name
-abbrev pub single_text : List ℕ → List ℕ → List ℕ
-single_text word name = line_of_text (word ++ codes " " ++ name)
-
--- and of two names together
-abbrev pub pair_text : List ℕ → List ℕ → List ℕ → List ℕ
-pair_text word first second = line_of_text (word ++ codes " " ++ first ++ codes " " ++ second)
+use Rattle.coinst_run.specs.Lines.{end_text as counts_text, pair_text, single_text}
 
 abbrev pub comparison_line : ReportLine → List ℕ
 comparison_line (Broken1 name) = single_text (codes "broken") name
@@ -28,7 +19,7 @@ is_open line = not (is_broken line)
 
 -- how many lines are broken, and how many open
 unfoldable pub end_text : List ReportLine → List ℕ
-end_text lines = line_of_text (codes "end " ++ decimal (length (filter is_broken lines)) ++ codes " " ++ decimal (length (filter is_open lines)))
+end_text lines = counts_text (length (filter is_broken lines)) (length (filter is_open lines))
 
 -- the lines in their order, and the last one
 unfoldable pub comparison_text : List ReportLine → List ℕ

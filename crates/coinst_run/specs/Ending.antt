@@ -1,5 +1,8 @@
 -- The outcome that an answer in memory stands for; none where no memory was found.
-use Rattle.std.specs.Prelude.{◌≡◌, Option, Some, None, Result, Ok, Err, ⊤}
+use Rattle.std.specs.Prelude.{◌≡◌, ℕ, List, Option, Some, None, Result, Ok, Err, ⊤}
+use Rattle.byte_flow.specs.declared.transfer.ReadError.{ReadError}
+use Rattle.byte_flow.specs.declared.transfer.ReadError.TheVariants.{Failed, TooLong}
+use Rattle.byte_flow.specs.declared.transfer.ReadError.TheVariants as read
 use Rattle.coinst_run.specs.declared.answer.Report.{Report}
 use Rattle.coinst_run.specs.declared.answer.Stop.{Stop}
 use Rattle.coinst_run.specs.declared.answer.Stop.TheVariants.{NotACommand, Refused, Unread, Memory}
@@ -7,7 +10,7 @@ use Rattle.coinst_words.specs.declared.error.WordError.{WordError}
 use Rattle.coinst_words.specs.declared.error.WordError.TheVariants as words
 use Rattle.coinst_run.specs.Answer.{Stage, reported, refused}
 use Rattle.coinst_run.specs.Course.{Course, answers}
-use Rattle.coinst_run.specs.Outcome.{Outcome, answered, unread, not_a_command}
+use Rattle.coinst_run.specs.Outcome.{Outcome, answered, unread, not_a_command, too_long}
 
 abbrev pub stop_ending : Stop → Option Outcome
 stop_ending NotACommand = Some not_a_command
@@ -18,6 +21,12 @@ stop_ending Memory = None
 abbrev pub ending_of : Result Report Stop → Option Outcome
 ending_of (Ok report) = Some (answered (reported report.verdict report.text.items))
 ending_of (Err stop) = stop_ending stop
+
+-- the outcome of a file that was not read whole, by the error; want of memory has none
+abbrev pub IsReadEnding : List ℕ → ReadError → Outcome → Type 0
+IsReadEnding path Failed outcome = outcome ≡ unread path
+IsReadEnding path TooLong outcome = outcome ≡ answered (too_long path)
+IsReadEnding path read.Memory outcome = ⊥
 
 -- words that give no job
 abbrev pub word_stop : WordError → Stop

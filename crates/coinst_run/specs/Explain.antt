@@ -9,16 +9,15 @@ use Rattle.relation_fields.specs.declared.packages.PackageFacts.{PackageFacts}
 use Rattle.repo_model.specs.declared.goals.Goal.{Goal}
 use Rattle.listed.specs.Lists.{In}
 use Rattle.suite_compare.specs.Answering.{unknown_goal}
-use Rattle.coinst_run.specs.declared.answer.Cause.TheVariants.{UnknownGoal}
 use Rattle.coinst_run.specs.declared.answer.ReportVerdict.TheVariants.{Done, Negative, Undecided}
-use Rattle.coinst_run.specs.Answer.{Answer, reported, refused}
+use Rattle.coinst_run.specs.Answer.{Answer, reported}
 use Rattle.coinst_run.specs.Course.{Course, answers}
 use Rattle.coinst_run.specs.ExplainText.{core_text, yes_line}
 use Rattle.coinst_run.specs.Index.{Index}
 use Rattle.coinst_run.specs.IndexKernel.{ClassedKernel}
 use Rattle.coinst_run.specs.Kernel.{reads_kernel}
-use Rattle.coinst_run.specs.Query.{goal_of_number}
-use Rattle.coinst_run.specs.QueryText.{undecided_text, unknown_line}
+use Rattle.coinst_run.specs.Query.{unknown_answer}
+use Rattle.coinst_run.specs.QueryText.{undecided_text}
 
 -- the report on an explanation
 abbrev pub explanation_answer : List PackageFacts → List Goal → ℕ → Explanation → Answer
@@ -28,7 +27,7 @@ explanation_answer packages goals budget (Core marks clashes) = reported Negativ
 
 -- goals by the first that names no package, where there is one
 abbrev pub explained_by_unknown : List Goal → ℕ → ℕ → Bool → Index → Option ℕ → Answer
-explained_by_unknown goals budget limit hold index (Some number) = refused UnknownGoal (unknown_line number (goal_of_number goals number))
+explained_by_unknown goals budget limit hold index (Some number) = unknown_answer goals number
 explained_by_unknown goals budget limit hold index None = explanation_answer index.packages goals budget (explanation_of limit hold index.home index.packages budget goals)
 
 -- what is told of goals, at a clause limit, with hold or without

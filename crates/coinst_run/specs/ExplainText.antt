@@ -1,6 +1,5 @@
 -- The texts of an explanation.
 use Rattle.std.specs.Prelude.{ℕ, Bool, List, ◌++◌, codes, length, if◌then◌else◌, Option, Some, None}
-use Rattle.std.specs.Fmt.{decimal}
 use Rattle.std.specs.List.{flat_map}
 use Rattle.explain_core.specs.Core.{goal_numbered}
 use Rattle.explain_core.specs.declared.explanation.Clash.{Clash}
@@ -8,7 +7,7 @@ use Rattle.explain_core.specs.declared.explanation.Mark.{Mark}
 use Rattle.relation_fields.specs.declared.packages.PackageFacts.{PackageFacts}
 use Rattle.repo_model.specs.Stanzas.{stanza_at}
 use Rattle.repo_model.specs.declared.goals.Goal.{Goal}
-use Rattle.coinst_run.specs.Lines.{line_of_text}
+use Rattle.coinst_run.specs.Lines.{end_text, line_of_text, pair_text, versioned_text}
 use Rattle.coinst_run.specs.QueryText.{goal_word}
 
 -- the goals can be met together
@@ -23,12 +22,11 @@ abbrev pub goal_line : List Goal → Mark → List ℕ
 goal_line goals m = goal_text m.unsettled (goal_numbered goals m.goal)
 
 abbrev pub package_text : PackageFacts → List ℕ
-package_text facts = facts.name ++ codes " " ++ facts.version
+package_text facts = versioned_text facts.name facts.version
 
 -- two packages whose conflict matters, or of which it is open if it does
 abbrev pub clash_text : Bool → PackageFacts → PackageFacts → List ℕ
-clash_text unsettled first second =
-    line_of_text ((if unsettled then codes "clash-open " else codes "clash ") ++ package_text first ++ codes " " ++ package_text second)
+clash_text unsettled first second = pair_text (if unsettled then codes "clash-open" else codes "clash") (package_text first) (package_text second)
 
 abbrev pub clash_line : List PackageFacts → Clash → List ℕ
 clash_line packages c = clash_text c.unsettled (stanza_at packages c.first) (stanza_at packages c.second)
@@ -43,10 +41,6 @@ abbrev pub clash_count : Option (List Clash) → ℕ
 clash_count None = 0
 clash_count (Some clashes) = length clashes
 
--- how many goals and how many conflicts
-abbrev pub end_text : ℕ → ℕ → List ℕ
-end_text goals clashes = line_of_text (codes "end " ++ decimal goals ++ codes " " ++ decimal clashes)
-
--- the goals, the conflicts, and the last line
+-- the goals, the conflicts, and how many of each
 unfoldable pub core_text : List PackageFacts → List Goal → List Mark → Option (List Clash) → List ℕ
 core_text packages goals marks clashes = flat_map (goal_line goals) marks ++ clashes_text packages clashes ++ end_text (length marks) (clash_count clashes)

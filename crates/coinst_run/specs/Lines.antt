@@ -1,4 +1,4 @@
--- The lines on standard error, and the one on the size of a kernel.
+-- The lines on standard error, the one on the size of a kernel, and what the lines of several reports are made of.
 use Rattle.std.specs.Prelude.{ℕ, List, [], ◌∷◌, ◌++◌, codes}
 use Rattle.std.specs.Fmt.{decimal}
 use Rattle.relation_fields.specs.declared.packages.PackageFacts.{PackageFacts}
@@ -10,6 +10,26 @@ use Rattle.repo_model.specs.declared.fault.IndexFault.TheVariants.{Stanza, Missi
 -- a text and the line feed that ends its line
 abbrev pub line_of_text : List ℕ → List ℕ
 line_of_text text = text ++ 10 ∷ []
+
+-- words and a number
+abbrev pub counted_line : List ℕ → ℕ → List ℕ
+counted_line words number = line_of_text (words ++ decimal number)
+
+-- what is told of a name
+abbrev pub single_text : List ℕ → List ℕ → List ℕ
+single_text word name = line_of_text (word ++ codes " " ++ name)
+
+-- and of two names together, or of a name and a version
+abbrev pub pair_text : List ℕ → List ℕ → List ℕ → List ℕ
+pair_text word first second = line_of_text (word ++ codes " " ++ first ++ codes " " ++ second)
+
+-- a name and a version
+abbrev pub versioned_text : List ℕ → List ℕ → List ℕ
+versioned_text name version = name ++ codes " " ++ version
+
+-- the last line of a report, with two numbers
+abbrev pub end_text : ℕ → ℕ → List ℕ
+end_text first second = line_of_text (codes "end " ++ decimal first ++ codes " " ++ decimal second)
 
 -- a line about the file at a path
 abbrev pub about : List ℕ → List ℕ → List ℕ

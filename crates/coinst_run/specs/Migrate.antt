@@ -15,11 +15,11 @@ use Rattle.coinst_run.specs.Lines.{about, memory_line, too_long_line}
 use Rattle.coinst_run.specs.MigrateText.{plan_text, plan_verdict}
 
 -- the two have different architectures
-unfoldable pub homes_line : List ℕ → List ℕ → List ℕ
+abbrev pub homes_line : List ℕ → List ℕ → List ℕ
 homes_line old new = about new (codes "another architecture than " ++ old)
 
 -- too many names differ
-unfoldable pub names_line : List ℕ → List ℕ
+abbrev pub names_line : List ℕ → List ℕ
 names_line new = about new (codes "more than 256 names differ")
 
 -- what stands for the path of a mix of the two, which is no file
@@ -27,7 +27,7 @@ abbrev pub mix_path : List ℕ
 mix_path = codes "mix"
 
 -- a mix of the two may have too many packages
-unfoldable pub packages_line : List ℕ
+abbrev pub packages_line : List ℕ
 packages_line = about mix_path (codes "more than 200000 packages")
 
 -- what is refused where no plan is made of the indexes at two paths, with the line that says so; want of memory is no refusal of

@@ -1,14 +1,13 @@
 -- The text of a plan.
 use Rattle.std.specs.Prelude.{ℕ, Bool, true, false, not, List, ◌++◌, codes, filter, length, if◌then◌else◌}
-use Rattle.std.specs.Fmt.{decimal}
 use Rattle.std.specs.List.{flat_map, list_any}
 use Rattle.migrate_plan.specs.declared.plan.PlanLine.{PlanLine}
 use Rattle.migrate_plan.specs.declared.plan.PlanLine.TheVariants.{Take, LeftLimit, LeftLine}
 use Rattle.coinst_run.specs.declared.answer.ReportVerdict.{ReportVerdict}
 use Rattle.coinst_run.specs.declared.answer.ReportVerdict.TheVariants.{Done, Negative, Undecided}
-use Rattle.coinst_run.specs.CompareText.{comparison_line, pair_text, single_text}
+use Rattle.coinst_run.specs.CompareText.{comparison_line}
 use Rattle.headline.specs.Listing.{is_broken}
-use Rattle.coinst_run.specs.Lines.{line_of_text}
+use Rattle.coinst_run.specs.Lines.{end_text, pair_text, single_text}
 
 -- a name that is taken; one that is left since the limit is passed; and one that is left with a line of a comparison
 abbrev pub plan_line : PlanLine → List ℕ
@@ -30,13 +29,9 @@ would_break (Take name) = false
 would_break (LeftLimit name) = false
 would_break (LeftLine name line) = is_broken line
 
--- how many names are taken, and how many left
-unfoldable pub plan_end : List PlanLine → List ℕ
-plan_end lines = line_of_text (codes "end " ++ decimal (length (filter is_take lines)) ++ codes " " ++ decimal (length (filter is_left lines)))
-
--- the lines in their order, and the last one
+-- the lines in their order, and how many names are taken, and how many left
 unfoldable pub plan_text : List PlanLine → List ℕ
-plan_text lines = flat_map plan_line lines ++ plan_end lines
+plan_text lines = flat_map plan_line lines ++ end_text (length (filter is_take lines)) (length (filter is_left lines))
 
 -- a name is left since something would be broken, or a name is left, or neither
 abbrev pub plan_verdict : List PlanLine → ReportVerdict

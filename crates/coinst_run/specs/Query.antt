@@ -18,6 +18,10 @@ use Rattle.coinst_run.specs.QueryText.{no_text, undecided_text, unknown_line, ye
 abbrev pub goal_of_number : List Goal → ℕ → Goal
 goal_of_number goals number = slice_index_or goals (number - 1) (any_version [])
 
+-- the goal of this number is the first that names no package
+abbrev pub unknown_answer : List Goal → ℕ → Answer
+unknown_answer goals number = refused UnknownGoal (unknown_line number (goal_of_number goals number))
+
 -- yes and what is installed, where the tree finds classes, and otherwise no and the log of the tree
 abbrev pub by_found : ℕ → Bool → Index → List Goal → Tree → Option (List Bool) → Answer
 by_found limit hold index goals tree (Some chosen) = reported Done (yes_text index.packages (installation limit hold index.home index.packages goals chosen))
@@ -30,7 +34,7 @@ by_tree limit hold index goals budget tree =
 
 -- goals by the first that names no package, where there is one
 abbrev pub by_unknown : ℕ → Bool → Index → List Goal → ℕ → Option ℕ → Answer
-by_unknown limit hold index goals budget (Some number) = refused UnknownGoal (unknown_line number (goal_of_number goals number))
+by_unknown limit hold index goals budget (Some number) = unknown_answer goals number
 by_unknown limit hold index goals budget None = by_tree limit hold index goals budget (asked_tree limit hold index.home index.packages goals)
 
 -- what is answered to goals, at a clause limit, with hold or without

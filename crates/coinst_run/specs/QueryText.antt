@@ -6,11 +6,11 @@ use Rattle.relation_fields.specs.declared.packages.PackageFacts.{PackageFacts}
 use Rattle.repo_model.specs.declared.goals.Goal.{Goal}
 use Rattle.repo_model.specs.Stanzas.{stanza_at}
 use Rattle.search_terms.specs.declared.literals.Literal.{Literal}
-use Rattle.coinst_run.specs.Lines.{line_of_text}
+use Rattle.coinst_run.specs.Lines.{counted_line, line_of_text, pair_text}
 
 -- a package that is installed
 abbrev pub install_line : PackageFacts → List ℕ
-install_line facts = line_of_text (codes "install " ++ facts.name ++ codes " " ++ facts.version)
+install_line facts = pair_text (codes "install") facts.name facts.version
 
 -- yes, and the packages with these numbers
 unfoldable pub yes_text : List PackageFacts → List ℕ → List ℕ
@@ -30,7 +30,7 @@ no_text log = line_of_text (codes "no") ++ flat_map log_line log
 
 -- undecided within the budget
 unfoldable pub undecided_text : ℕ → List ℕ
-undecided_text budget = line_of_text (codes "undecided " ++ decimal budget)
+undecided_text budget = counted_line (codes "undecided ") budget
 
 -- behind a name, the version that a goal asks for
 abbrev pub version_word : Option (List ℕ) → List ℕ

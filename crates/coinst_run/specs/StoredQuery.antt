@@ -1,6 +1,5 @@
 -- The command that asks of a stored kernel whether one package for each goal can be installed together.
 use Rattle.std.specs.Prelude.{ℕ, nat_lt, if◌then◌else◌, List, [], ◌++◌, codes, filter, length, map, Bool, Option, Some, None, Result, Ok, Err}
-use Rattle.std.specs.Fmt.{decimal}
 use Rattle.std.specs.List.{flat_map}
 use Rattle.kernel_text.specs.Images.{image_of, unknown_goal}
 use Rattle.kernel_text.specs.KernelReads.{KernelContent}
@@ -11,13 +10,13 @@ use Rattle.row_book.specs.Numbers.{numbers}
 use Rattle.row_book.specs.Flags.{flag}
 use Rattle.search_terms.specs.Tree.{Tree, failed_leaves, found_of, log_of}
 use Rattle.suite_compare.specs.Asking.{tree_of}
-use Rattle.coinst_run.specs.declared.answer.Cause.TheVariants.{Content, UnknownGoal}
+use Rattle.coinst_run.specs.declared.answer.Cause.TheVariants.{Content}
 use Rattle.coinst_run.specs.declared.answer.ReportVerdict.TheVariants.{Done, Negative, Undecided}
 use Rattle.coinst_run.specs.Answer.{Answer, Stage, reported, refused}
 use Rattle.coinst_run.specs.Course.{Course, answers, reads, then_on}
-use Rattle.coinst_run.specs.Lines.{about, at_line, line_of_text}
-use Rattle.coinst_run.specs.Query.{goal_of_number}
-use Rattle.coinst_run.specs.QueryText.{no_text, undecided_text, unknown_line}
+use Rattle.coinst_run.specs.Lines.{about, at_line, counted_line, line_of_text}
+use Rattle.coinst_run.specs.Query.{unknown_answer}
+use Rattle.coinst_run.specs.QueryText.{no_text, undecided_text}
 use Rattle.coinst_run.specs.StoredReading.{stored_reading}
 
 -- why a text is not that of a kernel
@@ -41,7 +40,7 @@ checked_kernel path text = by_reading path (stored_reading text)
 
 -- a true class
 abbrev pub class_line : ℕ → List ℕ
-class_line n = line_of_text (codes "class " ++ decimal n)
+class_line n = counted_line (codes "class ") n
 
 -- yes, and these classes
 abbrev pub listed_classes : List ℕ → List ℕ
@@ -66,7 +65,7 @@ images_in kernel goals = map (image_of kernel.members (length kernel.repository.
 
 -- goals by the first that names no package, where there is one
 abbrev pub stored_by_unknown : KernelContent → List Goal → ℕ → Option ℕ → Answer
-stored_by_unknown kernel goals budget (Some number) = refused UnknownGoal (unknown_line number (goal_of_number goals number))
+stored_by_unknown kernel goals budget (Some number) = unknown_answer goals number
 stored_by_unknown kernel goals budget None = classes_by_tree budget (tree_of kernel.repository (images_in kernel goals))
 
 -- what is answered to goals

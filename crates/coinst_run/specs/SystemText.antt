@@ -1,6 +1,5 @@
 -- The text of the report on an installed system.
 use Rattle.std.specs.Prelude.{⊤, ℕ, ◌<◌, Bool, false, not, List, [], ◌++◌, codes, filter, length, if◌then◌else◌, slice_index_or}
-use Rattle.std.specs.Fmt.{decimal}
 use Rattle.std.specs.List.{flat_map}
 use Rattle.status_check.specs.declared.report.HaveLine.{HaveLine}
 use Rattle.status_check.specs.declared.report.OwnState.{OwnState}
@@ -10,11 +9,7 @@ use Rattle.status_check.specs.declared.report.SuiteState.{SuiteState}
 use Rattle.status_check.specs.declared.report.SuiteState.TheVariants.{Yes, No, Spent}
 use Rattle.coinst_run.specs.declared.answer.ReportVerdict.{ReportVerdict}
 use Rattle.coinst_run.specs.declared.answer.ReportVerdict.TheVariants.{Done, Negative, Undecided}
-use Rattle.coinst_run.specs.Lines.{line_of_text}
-
--- the name and the version of an own package, as the status file writes it, each behind a space
-abbrev pub named_text : HaveLine → List ℕ
-named_text line = codes " " ++ line.name ++ codes " " ++ line.version
+use Rattle.coinst_run.specs.Lines.{counted_line, end_text, line_of_text, pair_text, versioned_text}
 
 -- the index has it, or lacks it
 abbrev pub is_had : HaveLine → Bool
@@ -23,12 +18,9 @@ is_had line = line.had
 abbrev pub is_lacking : HaveLine → Bool
 is_lacking line = not line.had
 
+-- each own package is told with its version as the status file writes it
 abbrev pub have_text : HaveLine → List ℕ
-have_text line = line_of_text ((if line.had then codes "have" else codes "lack") ++ named_text line)
-
--- how many installed packages are foreign
-abbrev pub foreign_text : ℕ → List ℕ
-foreign_text count = line_of_text (codes "foreign " ++ decimal count)
+have_text line = pair_text (if line.had then codes "have" else codes "lack") line.name line.version
 
 -- the own package of a number, counted from 0
 abbrev pub no_line : HaveLine
@@ -39,10 +31,10 @@ line_at lines n = slice_index_or lines n no_line
 
 -- an own package has a need that none of them meets, or two of them conflict
 abbrev pub unhit_text : HaveLine → List ℕ
-unhit_text line = line_of_text (codes "self unhit" ++ named_text line)
+unhit_text line = pair_text (codes "self unhit") line.name line.version
 
 abbrev pub clash_text : HaveLine → HaveLine → List ℕ
-clash_text first second = line_of_text (codes "self clash" ++ named_text first ++ named_text second)
+clash_text first second = pair_text (codes "self clash") (versioned_text first.name first.version) (versioned_text second.name second.version)
 
 -- whether the own packages stand together by themselves
 abbrev pub own_text : List HaveLine → OwnState → List ℕ
@@ -56,26 +48,17 @@ AreOfLines lines Healthy = ⊤
 AreOfLines lines (Unhit n) = n < length lines
 AreOfLines lines (Clash first second) = (first < length lines) × (second < length lines)
 
--- the search was spent, within this budget
-unfoldable pub undecided_word : List ℕ
-undecided_word = codes "suite undecided "
-
-abbrev pub spent_text : ℕ → List ℕ
-spent_text budget = line_of_text (undecided_word ++ decimal budget)
-
 -- whether those that the index has can be installed from it together
 abbrev pub suite_text : ℕ → SuiteState → List ℕ
 suite_text budget Yes = line_of_text (codes "suite yes")
 suite_text budget No = line_of_text (codes "suite no")
-suite_text budget (Spent failed) = spent_text budget
+suite_text budget (Spent failed) = counted_line (codes "suite undecided ") budget
 
--- how many the index has, and how many it lacks
-unfoldable pub counts_text : List HaveLine → List ℕ
-counts_text lines = line_of_text (codes "end " ++ decimal (length (filter is_had lines)) ++ codes " " ++ decimal (length (filter is_lacking lines)))
-
+-- the own packages, how many installed ones are foreign, the two answers, and how many own packages the index has, and how many it lacks
 unfoldable pub system_text : ℕ → StatusReport → List ℕ
 system_text budget report =
-    flat_map have_text report.lines ++ foreign_text report.foreign ++ own_text report.lines report.own ++ suite_text budget report.verdict ++ counts_text report.lines
+    flat_map have_text report.lines ++ counted_line (codes "foreign ") report.foreign ++ own_text report.lines report.own ++ suite_text budget report.verdict
+    ++ end_text (length (filter is_had report.lines)) (length (filter is_lacking report.lines))
 
 -- what the index answers as a whole
 abbrev pub suite_verdict : SuiteState → ReportVerdict

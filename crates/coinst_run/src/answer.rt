@@ -90,6 +90,34 @@ pub enum Stop {
     Memory,
 }
 
+impl Report {
+    ghost use Rattle.std.specs.Prelude.{◌≡◌};
+
+    /// A report that says this as a whole, with these bytes.
+    pub(crate) fn of(verdict: ReportVerdict, text: Vec<u8>) -> Self
+        ensures { result ≡ record { verdict = verdict; text = text } }
+    {
+        Report { verdict, text }
+    }
+}
+
+impl Stop {
+    ghost use Rattle.std.specs.Prelude.{◌≡◌, ℕ, IfOk, IfSome, List};
+    ghost use Rattle.coinst_run.specs.Answer.{refused};
+    ghost use Rattle.coinst_run.specs.Ending.{stop_ending};
+    ghost use Rattle.coinst_run.specs.Outcome.{answered};
+
+    /// The refusal of a cause with the line that says so, unless no memory was found for the line.
+    pub(crate) fn refused(cause: Cause, line: Result<Vec<u8>, AllocError>) -> Self
+        ensures { (text : List ℕ) → IfOk line (λ line. line.items ≡ text) → IfSome (stop_ending result) (λ outcome. outcome ≡ answered (refused cause text)) }
+    {
+        match line {
+            Ok(line) => Stop::Refused { cause, line },
+            Err(_) => Stop::Memory,
+        }
+    }
+}
+
 impl From<AllocError> for Stop {
     ghost use Rattle.std.specs.Prelude.{◌≡◌};
     ghost use Rattle.coinst_run.specs.declared.answer.Stop.TheVariants.{Memory};

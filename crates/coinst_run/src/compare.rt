@@ -42,8 +42,5 @@ fn comparison(alloc: Global, old: &SuiteView, new: &SuiteView, budget: u64) -> R
 {
     let report = suite_compare::compare(alloc, old, new, budget)?;
     let lines = report.lines.as_slice();
-    Ok(Report {
-        verdict: comparison_verdict(lines),
-        text: comparison_text(alloc, lines)?,
-    })
+    Ok(Report::of(comparison_verdict(lines), comparison_text(alloc, lines)?))
 }

@@ -1,45 +1,16 @@
 //! The report of a comparison, made whole in memory.
 ghost use Rattle.std.specs.Prelude.{◌≡◌, ◌++◌, IfOk, OnOk, filter, length};
-ghost use Rattle.std.specs.List.{flat_map, list_any};
-ghost use Rattle.coinst_run.specs.CompareText.{comparison_line, comparison_text, comparison_verdict, end_text, is_open, pair_text, single_text};
+ghost use Rattle.std.specs.List.{list_any};
+ghost use Rattle.coinst_run.specs.CompareText.{comparison_line, comparison_text, comparison_verdict, is_open};
 ghost use Rattle.headline.specs.Listing.{is_broken};
 
 use crate::answer::ReportVerdict;
-use crate::lines::push_number;
-use std::alloc::{AllocError, Global};
+use crate::lines::{Made, Put, push_end, push_pair, push_single};
+use std::alloc::Global;
 use suite_compare::ReportLine;
 
-/// Puts what is told of a name behind the text; it fails only where no memory is found.
-#[tactic(auto, using(std::proofs::Common::append_assoc))]
-pub(crate) fn push_single(out: &mut Vec<u8>, word: &[u8], name: &[u8]) -> Result<(), AllocError>
-    ensures { OnOk result (out.new.items ≡ out.old.items ++ single_text word.now name.now) }
-{
-    out.extend_from_slice(word)?;
-    out.extend_from_slice(b" ")?;
-    out.extend_from_slice(name)?;
-    out.extend_from_slice(b"\n")
-}
-
-/// Puts what is told of two names behind the text; it fails only where no memory is found.
-#[tactic(auto, using(std::proofs::Common::append_assoc))]
-pub(crate) fn push_pair(
-    out: &mut Vec<u8>,
-    word: &[u8],
-    first: &[u8],
-    second: &[u8],
-) -> Result<(), AllocError>
-    ensures { OnOk result (out.new.items ≡ out.old.items ++ pair_text word.now first.now second.now) }
-{
-    out.extend_from_slice(word)?;
-    out.extend_from_slice(b" ")?;
-    out.extend_from_slice(first)?;
-    out.extend_from_slice(b" ")?;
-    out.extend_from_slice(second)?;
-    out.extend_from_slice(b"\n")
-}
-
-/// Puts a line behind the text; it fails only where no memory is found.
-pub(crate) fn push_line(out: &mut Vec<u8>, line: &ReportLine) -> Result<(), AllocError>
+/// Puts a line behind the text.
+pub(crate) fn push_line(out: &mut Vec<u8>, line: &ReportLine) -> Put
     ensures { OnOk result (out.new.items ≡ out.old.items ++ comparison_line line.now) }
 {
     match line {
@@ -54,31 +25,13 @@ pub(crate) fn push_line(out: &mut Vec<u8>, line: &ReportLine) -> Result<(), Allo
     }
 }
 
-// Puts lines behind the text.
-fn push_lines(out: &mut Vec<u8>, lines: &[ReportLine]) -> Result<(), AllocError>
-    ensures { OnOk result (out.new.items ≡ out.old.items ++ flat_map comparison_line lines.now) }
-{
-    for line in lines {
-        push_line(out, line)?;
-    }
-    Ok(())
-}
-
 /// Whether the line tells of something broken; it takes no memory.
 pub(crate) fn is_broken(line: &ReportLine) -> bool
     ensures { result ≡ is_broken line.now }
 {
     match line {
-        ReportLine::Broken1 { name: _ }
-        | ReportLine::Broken2 {
-            first: _,
-            second: _,
-        } => true,
-        ReportLine::Open1 { name: _ }
-        | ReportLine::Open2 {
-            first: _,
-            second: _,
-        } => false,
+        ReportLine::Broken1 { .. } | ReportLine::Broken2 { .. } => true,
+        ReportLine::Open1 { .. } | ReportLine::Open2 { .. } => false,
     }
 }
 
@@ -108,26 +61,16 @@ fn count_open(lines: &[ReportLine]) -> usize
     count
 }
 
-// Puts the last line behind the text.
-#[tactic(auto, using(std::proofs::Common::append_assoc), unfolding(crate::specs::CompareText::end_text))]
-fn push_end(out: &mut Vec<u8>, lines: &[ReportLine]) -> Result<(), AllocError>
-    ensures { OnOk result (out.new.items ≡ out.old.items ++ end_text lines.now) }
-{
-    out.extend_from_slice(b"end ")?;
-    push_number(out, count_broken(lines) as u64)?;
-    out.extend_from_slice(b" ")?;
-    push_number(out, count_open(lines) as u64)?;
-    out.extend_from_slice(b"\n")
-}
-
-/// The text of the lines of a comparison; it fails only where no memory is found.
-#[tactic(auto, using(std::proofs::Common::append_assoc), unfolding(crate::specs::CompareText::comparison_text))]
-pub(crate) fn comparison_text(alloc: Global, lines: &[ReportLine]) -> Result<Vec<u8>, AllocError>
+/// The text of the lines of a comparison.
+#[tactic(auto, unfolding(crate::specs::CompareText::comparison_text, crate::specs::CompareText::end_text))]
+pub(crate) fn comparison_text(alloc: Global, lines: &[ReportLine]) -> Made
     ensures { IfOk result (λ text. text.items ≡ comparison_text lines.now) }
 {
     let mut text = Vec::new(alloc);
-    push_lines(&mut text, lines)?;
-    push_end(&mut text, lines)?;
+    for line in lines {
+        push_line(&mut text, line)?;
+    }
+    push_end(&mut text, count_broken(lines), count_open(lines))?;
     Ok(text)
 }
 

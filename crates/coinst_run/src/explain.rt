@@ -8,10 +8,10 @@ ghost use Rattle.coinst_run.specs.Explain.{IsTellable, explain_course, explanati
 ghost use Rattle.coinst_run.specs.Follows.{Follows};
 ghost use Rattle.coinst_run.specs.Index.{index_of};
 
-use crate::answer::{Cause, Report, ReportVerdict, Stop};
-use crate::explain_text::{core_text, yes_line};
-use crate::query::goal_of_number;
-use crate::query_text::{undecided_text, unknown_line};
+use crate::answer::{Report, ReportVerdict, Stop};
+use crate::explain_text::core_text;
+use crate::query::unknown_goal;
+use crate::query_text::undecided_text;
 use crate::settings::Settings;
 use crate::views::view_at;
 use byte_flow::Shelf;
@@ -54,18 +54,13 @@ fn explain_goals(
             budget,
             &explanation,
         ),
-        Err(ExplainError::Unknown { goal }) => {
-            let line = unknown_line(alloc, goal, goal_of_number(goals, goal))?;
-            Err(Stop::Refused {
-                cause: Cause::UnknownGoal,
-                line,
-            })
-        }
+        Err(ExplainError::Unknown { goal }) => Err(unknown_goal(alloc, goals, goal)),
         Err(ExplainError::Memory) => Err(Stop::Memory),
     }
 }
 
 // The report on an explanation of goals over packages.
+#[tactic(auto, unfolding(crate::specs::ExplainText::yes_line))]
 fn explanation_report(
     alloc: Global,
     packages: &[PackageFacts],
@@ -77,20 +72,20 @@ fn explanation_report(
     ensures { Settles (answers (explanation_answer packages.now goals.now budget explanation.now)) (ending_of result) }
 {
     match explanation {
-        Explanation::Yes => Ok(Report {
-            verdict: ReportVerdict::Done,
-            text: yes_line(alloc)?,
-        }),
-        Explanation::Spent { failed: _ } => Ok(Report {
-            verdict: ReportVerdict::Undecided,
-            text: undecided_text(alloc, budget)?,
-        }),
+        Explanation::Yes => {
+            let text = Vec::from_slice(alloc, b"yes\n")?;
+            Ok(Report::of(ReportVerdict::Done, text))
+        }
+        Explanation::Spent { .. } => Ok(Report::of(
+            ReportVerdict::Undecided,
+            undecided_text(alloc, budget)?,
+        )),
         Explanation::Core {
             goals: marks,
             clashes,
-        } => Ok(Report {
-            verdict: ReportVerdict::Negative,
-            text: core_text(alloc, packages, goals, marks.as_slice(), clashes)?,
-        }),
+        } => Ok(Report::of(
+            ReportVerdict::Negative,
+            core_text(alloc, packages, goals, marks.as_slice(), clashes)?,
+        )),
     }
 }

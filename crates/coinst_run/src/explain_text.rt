@@ -3,27 +3,19 @@ ghost use Rattle.std.specs.Prelude.{◌≡◌, ◌++◌, IfOk, IfSome, OnOk, len
 ghost use Rattle.std.specs.List.{flat_map};
 ghost use Rattle.explain_core.specs.Picking.{ArePlacesFrom1};
 ghost use Rattle.coinst_run.specs.Explain.{AreClashesOf};
-ghost use Rattle.coinst_run.specs.ExplainText.{clash_count, clash_line, clash_text, clashes_text, core_text, end_text, goal_line, goal_text, package_text, yes_line};
+ghost use Rattle.coinst_run.specs.ExplainText.{clash_count, clash_line, clash_text, clashes_text, core_text, goal_line, goal_text};
 
-use crate::lines::push_number;
+use crate::lines::{Made, Put, push_end, push_versioned};
 use crate::query::goal_of_number;
 use crate::query_text::push_goal_word;
 use explain_core::{Clash, ClashList, Mark};
 use relation_fields::PackageFacts;
 use repo_model::Goal;
-use std::alloc::{AllocError, Global};
-
-/// Yes; it fails only where no memory is found.
-#[tactic(auto, unfolding(crate::specs::ExplainText::yes_line))]
-pub(crate) fn yes_line(alloc: Global) -> Result<Vec<u8>, AllocError>
-    ensures { IfOk result (λ text. text.items ≡ yes_line) }
-{
-    Vec::from_slice(alloc, b"yes\n")
-}
+use std::alloc::Global;
 
 // Puts the line of a goal that matters, or may matter, behind the text.
 #[tactic(auto, using(std::proofs::Common::append_assoc))]
-fn push_goal(out: &mut Vec<u8>, goal: &Goal, unsettled: bool) -> Result<(), AllocError>
+fn push_goal(out: &mut Vec<u8>, goal: &Goal, unsettled: bool) -> Put
     ensures { OnOk result (out.new.items ≡ out.old.items ++ goal_text unsettled goal.now) }
 {
     if unsettled {
@@ -36,7 +28,7 @@ fn push_goal(out: &mut Vec<u8>, goal: &Goal, unsettled: bool) -> Result<(), Allo
 }
 
 // Puts the lines of the goals that are marked behind the text.
-fn push_goals(out: &mut Vec<u8>, goals: &[Goal], marks: &[Mark]) -> Result<(), AllocError>
+fn push_goals(out: &mut Vec<u8>, goals: &[Goal], marks: &[Mark]) -> Put
     requires { ArePlacesFrom1 (length goals.now) marks.now }
     ensures { OnOk result (out.new.items ≡ out.old.items ++ flat_map (goal_line goals.now) marks.now) }
 {
@@ -46,16 +38,6 @@ fn push_goals(out: &mut Vec<u8>, goals: &[Goal], marks: &[Mark]) -> Result<(), A
     Ok(())
 }
 
-// Puts the name and the version of a package behind the text.
-#[tactic(auto, using(std::proofs::Common::append_assoc))]
-fn push_package(out: &mut Vec<u8>, facts: &PackageFacts) -> Result<(), AllocError>
-    ensures { OnOk result (out.new.items ≡ out.old.items ++ package_text facts.now) }
-{
-    out.extend_from_slice(facts.name.as_slice())?;
-    out.extend_from_slice(b" ")?;
-    out.extend_from_slice(facts.version.text())
-}
-
 // Puts the line of two packages whose conflict matters, or may matter, behind the text.
 #[tactic(auto, using(std::proofs::Common::append_assoc))]
 fn push_clash(
@@ -63,7 +45,7 @@ fn push_clash(
     first: &PackageFacts,
     second: &PackageFacts,
     unsettled: bool,
-) -> Result<(), AllocError>
+) -> Put
     ensures { OnOk result (out.new.items ≡ out.old.items ++ clash_text unsettled first.now second.now) }
 {
     if unsettled {
@@ -71,18 +53,14 @@ fn push_clash(
     } else {
         out.extend_from_slice(b"clash ")?;
     }
-    push_package(out, first)?;
+    push_versioned(out, first.name.as_slice(), first.version.text())?;
     out.extend_from_slice(b" ")?;
-    push_package(out, second)?;
+    push_versioned(out, second.name.as_slice(), second.version.text())?;
     out.extend_from_slice(b"\n")
 }
 
 // Puts the lines of conflicts behind the text.
-fn push_clashes(
-    out: &mut Vec<u8>,
-    packages: &[PackageFacts],
-    clashes: &[Clash],
-) -> Result<(), AllocError>
+fn push_clashes(out: &mut Vec<u8>, packages: &[PackageFacts], clashes: &[Clash]) -> Put
     requires { AreClashesOf (length packages.now) clashes.now }
     ensures { OnOk result (out.new.items ≡ out.old.items ++ flat_map (clash_line packages.now) clashes.now) }
 {
@@ -98,11 +76,7 @@ fn push_clashes(
 }
 
 // Puts the lines of conflicts behind the text, or the line that they are open as a whole.
-fn push_reasons(
-    out: &mut Vec<u8>,
-    packages: &[PackageFacts],
-    clashes: &Option<ClashList>,
-) -> Result<(), AllocError>
+fn push_reasons(out: &mut Vec<u8>, packages: &[PackageFacts], clashes: &Option<ClashList>) -> Put
     requires { IfSome clashes.now (AreClashesOf (length packages.now)) }
     ensures { OnOk result (out.new.items ≡ out.old.items ++ clashes_text packages.now clashes.now) }
 {
@@ -122,19 +96,7 @@ fn clash_count(clashes: &Option<ClashList>) -> usize
     }
 }
 
-// Puts the last line, with the numbers of goals and of conflicts, behind the text.
-#[tactic(auto, using(std::proofs::Common::append_assoc))]
-fn push_end(out: &mut Vec<u8>, goals: u64, clashes: u64) -> Result<(), AllocError>
-    ensures { OnOk result (out.new.items ≡ out.old.items ++ end_text goals clashes) }
-{
-    out.extend_from_slice(b"end ")?;
-    push_number(out, goals)?;
-    out.extend_from_slice(b" ")?;
-    push_number(out, clashes)?;
-    out.extend_from_slice(b"\n")
-}
-
-/// The goals that matter and the conflicts that do; it fails only where no memory is found.
+/// The goals that matter and the conflicts that do.
 #[tactic(auto, using(std::proofs::Common::append_assoc), unfolding(crate::specs::ExplainText::core_text))]
 pub(crate) fn core_text(
     alloc: Global,
@@ -142,7 +104,7 @@ pub(crate) fn core_text(
     goals: &[Goal],
     marks: &[Mark],
     clashes: &Option<ClashList>,
-) -> Result<Vec<u8>, AllocError>
+) -> Made
     requires marks { ArePlacesFrom1 (length goals.now) marks.now }
     requires clashes { IfSome clashes.now (AreClashesOf (length packages.now)) }
     ensures { IfOk result (λ text. text.items ≡ core_text packages.now goals.now marks.now clashes.now) }
@@ -150,6 +112,6 @@ pub(crate) fn core_text(
     let mut text = Vec::new(alloc);
     push_goals(&mut text, goals, marks)?;
     push_reasons(&mut text, packages, clashes)?;
-    push_end(&mut text, marks.len() as u64, clash_count(clashes) as u64)?;
+    push_end(&mut text, marks.len(), clash_count(clashes))?;
     Ok(text)
 }

@@ -9,11 +9,12 @@ ghost use Rattle.coinst_run.specs.IndexKernel.{index_kernel};
 ghost use Rattle.coinst_run.specs.Kernel.{kernel_answer, kernel_course, printed_kernel};
 
 use crate::answer::{Report, ReportVerdict, Stop};
+use crate::lines::Made;
 use crate::settings::Settings;
 use crate::views::view_at;
 use byte_flow::Shelf;
 use kernel_text::{kernel_json, write_kernel};
-use std::alloc::{AllocError, Global};
+use std::alloc::Global;
 use suite_compare::SuiteView;
 
 /// The report on the kernel of the index at a path, as text or as JSON.
@@ -36,14 +37,11 @@ fn kernel_report(alloc: Global, view: &SuiteView, json: bool) -> Result<Report, 
     requires { AreNamedPackages view.now.suite.packages }
     ensures { Settles (kernel_answer json (index_of view.now.suite) (index_kernel view.now.limit view.now.kernel.hold view.now.suite.home view.now.suite.packages)) (ending_of result) }
 {
-    Ok(Report {
-        verdict: ReportVerdict::Done,
-        text: printed_kernel(alloc, view, json)?,
-    })
+    Ok(Report::of(ReportVerdict::Done, printed_kernel(alloc, view, json)?))
 }
 
 // The kernel of a view as text, or as JSON.
-fn printed_kernel(alloc: Global, view: &SuiteView, json: bool) -> Result<Vec<u8>, AllocError>
+fn printed_kernel(alloc: Global, view: &SuiteView, json: bool) -> Made
     requires { AreNamedPackages view.now.suite.packages }
     ensures { IfOk result (λ text. text.items ≡ printed_kernel json view.now.suite.packages (index_kernel view.now.limit view.now.kernel.hold view.now.suite.home view.now.suite.packages)) }
 {

@@ -1,5 +1,5 @@
 //! The command that takes names over from a newer index into an older one, without breaking any.
-ghost use Rattle.std.specs.Prelude.{◌≡◌, ◌<◌, ◌≤◌, ◌++◌, List, Ok, Option, IfErr, IfOk, OnOk, length};
+ghost use Rattle.std.specs.Prelude.{◌≡◌, ◌<◌, ◌≤◌, List, Ok, Option, IfErr, IfOk, OnOk, length};
 ghost use Rattle.clause_solver.specs.Outcomes.{IsBudget};
 ghost use Rattle.coinst_run.specs.Settings.{AreInLimits};
 ghost use Rattle.migrate_plan.specs.Plan.{settings_of};
@@ -11,11 +11,11 @@ ghost use Rattle.suite_compare.specs.Refusals.{home_in, packages_in};
 ghost use Rattle.coinst_run.specs.Ending.{Settles, StopsAt, ending_of, stop_ending};
 ghost use Rattle.coinst_run.specs.Follows.{Follows};
 ghost use Rattle.coinst_run.specs.IndexKernel.{index_kernel};
-ghost use Rattle.coinst_run.specs.Migrate.{by_refusal, homes_line, kernel_at, migrate_course, names_line, packages_line, plan_answer};
+ghost use Rattle.coinst_run.specs.Migrate.{by_refusal, homes_line, kernel_at, migrate_course, plan_answer};
 ghost use Rattle.repo_model.specs.Limits.{most_bytes};
 
 use crate::answer::{Cause, Report, Stop};
-use crate::lines::too_long_line;
+use crate::lines::{Made, line_about, too_long_line};
 use crate::migrate_text::{plan_text, plan_verdict};
 use crate::settings::Settings;
 use crate::stages::{checked_index, text_at};
@@ -23,7 +23,7 @@ use crate::views::view_of;
 use byte_flow::Shelf;
 use migrate_plan::{PlanError, make_plan};
 use repo_model::Suite;
-use std::alloc::{AllocError, Global};
+use std::alloc::Global;
 use suite_compare::SuiteView;
 
 /// The report on which names that differ can be taken over from the index at the newer path into that at the older one. Both
@@ -100,89 +100,36 @@ fn plan_report(
     ) {
         Ok(plan) => {
             let lines = plan.lines.as_slice();
-            Ok(Report {
-                verdict: plan_verdict(lines),
-                text: plan_text(alloc, lines)?,
-            })
+            Ok(Report::of(plan_verdict(lines), plan_text(alloc, lines)?))
         }
-        Err(error) => Err(refusal(alloc, old, new, error)?),
+        Err(error) => Err(refusal(alloc, old, new, error)),
     }
 }
 
 // The stop where no plan is made of the indexes at two paths.
-fn refusal(alloc: Global, old: &str, new: &str, error: PlanError) -> Result<Stop, AllocError>
-    ensures { IfOk result (λ stop. (lines : List PlanLine) (there : Option PlanError) → Refuses error there → StopsAt (by_refusal old.now new.now lines there) (stop_ending stop)) }
+fn refusal(alloc: Global, old: &str, new: &str, error: PlanError) -> Stop
+    ensures { (lines : List PlanLine) (there : Option PlanError) → Refuses error there → StopsAt (by_refusal old.now new.now lines there) (stop_ending result) }
 {
     match error {
-        PlanError::Homes => {
-            let line = homes_line(alloc, old, new)?;
-            Ok(Stop::Refused {
-                cause: Cause::Content,
-                line,
-            })
+        PlanError::Homes => Stop::refused(Cause::Content, homes_line(alloc, old, new)),
+        PlanError::Names { .. } => {
+            let line = line_about(alloc, new, b"more than 256 names differ");
+            Stop::refused(Cause::TooLarge, line)
         }
-        PlanError::Names { count: _ } => {
-            let line = names_line(alloc, new)?;
-            Ok(Stop::Refused {
-                cause: Cause::TooLarge,
-                line,
-            })
+        PlanError::Packages { .. } => {
+            let line = line_about(alloc, "mix", b"more than 200000 packages");
+            Stop::refused(Cause::TooLarge, line)
         }
-        PlanError::Packages { count: _ } => {
-            let line = packages_line(alloc)?;
-            Ok(Stop::Refused {
-                cause: Cause::TooLarge,
-                line,
-            })
-        }
-        PlanError::TooLong { count: _ } => {
-            let line = too_long_line(alloc, "mix")?;
-            Ok(Stop::Refused {
-                cause: Cause::TooLarge,
-                line,
-            })
-        }
-        PlanError::Memory => Ok(Stop::Memory),
+        PlanError::TooLong { .. } => Stop::refused(Cause::TooLarge, too_long_line(alloc, "mix")),
+        PlanError::Memory => Stop::Memory,
     }
 }
 
-// Puts words and a path behind the line.
-#[tactic(auto, using(std::proofs::Common::append_assoc))]
-fn push_words(line: &mut Vec<u8>, words: &[u8], path: &str) -> Result<(), AllocError>
-    ensures { OnOk result (line.new.items ≡ line.old.items ++ (words.now ++ path.now)) }
-{
-    line.extend_from_slice(words)?;
-    line.extend_from_slice(path.as_bytes())
-}
-
-// The line of two indexes with different architectures; it fails only where no memory is found.
-#[tactic(auto, using(std::proofs::Common::append_assoc), unfolding(crate::specs::Migrate::homes_line))]
-fn homes_line(alloc: Global, old: &str, new: &str) -> Result<Vec<u8>, AllocError>
+// The line of two indexes with different architectures.
+fn homes_line(alloc: Global, old: &str, new: &str) -> Made
     ensures { IfOk result (λ line. line.items ≡ homes_line old.now new.now) }
 {
-    let mut line = Vec::from_slice(alloc, new.as_bytes())?;
-    line.extend_from_slice(b": ")?;
-    push_words(&mut line, b"another architecture than ", old)?;
-    line.extend_from_slice(b"\n")?;
-    Ok(line)
-}
-
-// The line of two indexes in which too many names differ; it fails only where no memory is found.
-#[tactic(auto, using(std::proofs::Common::append_assoc), unfolding(crate::specs::Migrate::names_line))]
-fn names_line(alloc: Global, new: &str) -> Result<Vec<u8>, AllocError>
-    ensures { IfOk result (λ line. line.items ≡ names_line new.now) }
-{
-    let mut line = Vec::from_slice(alloc, new.as_bytes())?;
-    line.extend_from_slice(b": ")?;
-    line.extend_from_slice(b"more than 256 names differ")?;
-    line.extend_from_slice(b"\n")?;
-    Ok(line)
-}
-
-// The line of two indexes of which a mix may have too many packages; it fails only where no memory is found.
-#[tactic(auto, unfolding(crate::specs::Migrate::packages_line))]
-fn packages_line(alloc: Global) -> Result<Vec<u8>, AllocError>
-    ensures { IfOk result (λ line. line.items ≡ packages_line) }
-{
-    Vec::from_slice(alloc, b"mix: more than 200000 packages\n")
+    let mut words = Vec::from_slice(alloc, b"another architecture than ")?;
+    words.extend_from_slice(old.as_bytes())?;
+    line_about(alloc, new, words.as_slice())
 }

@@ -1,19 +1,19 @@
 //! The report on a plan, made whole in memory.
 ghost use Rattle.std.specs.Prelude.{◌≡◌, ◌++◌, IfOk, OnOk, codes, filter, length};
-ghost use Rattle.std.specs.List.{flat_map, list_any};
+ghost use Rattle.std.specs.List.{list_any};
 ghost use Rattle.coinst_run.specs.CompareText.{comparison_line};
-ghost use Rattle.coinst_run.specs.MigrateText.{is_left, is_take, plan_end, plan_line, plan_text, plan_verdict, would_break};
+ghost use Rattle.coinst_run.specs.MigrateText.{is_left, is_take, plan_line, plan_text, plan_verdict, would_break};
 
 use crate::answer::ReportVerdict;
-use crate::compare_text::{is_broken, push_line, push_pair, push_single};
-use crate::lines::push_number;
+use crate::compare_text::{is_broken, push_line};
+use crate::lines::{Made, Put, push_end, push_pair, push_single};
 use migrate_plan::PlanLine;
-use std::alloc::{AllocError, Global};
+use std::alloc::Global;
 use suite_compare::ReportLine;
 
 // Puts a name that is left, with a line of a comparison, behind the text.
 #[tactic(auto, using(std::proofs::Common::append_assoc))]
-fn push_left(out: &mut Vec<u8>, name: &[u8], line: &ReportLine) -> Result<(), AllocError>
+fn push_left(out: &mut Vec<u8>, name: &[u8], line: &ReportLine) -> Put
     ensures { OnOk result (out.new.items ≡ out.old.items ++ (codes "left " ++ name.now ++ codes " " ++ comparison_line line.now)) }
 {
     out.extend_from_slice(b"left ")?;
@@ -23,7 +23,7 @@ fn push_left(out: &mut Vec<u8>, name: &[u8], line: &ReportLine) -> Result<(), Al
 }
 
 // Puts what becomes of a name behind the text.
-fn push_plan_line(out: &mut Vec<u8>, line: &PlanLine) -> Result<(), AllocError>
+fn push_plan_line(out: &mut Vec<u8>, line: &PlanLine) -> Put
     ensures { OnOk result (out.new.items ≡ out.old.items ++ plan_line line.now) }
 {
     match line {
@@ -33,21 +33,11 @@ fn push_plan_line(out: &mut Vec<u8>, line: &PlanLine) -> Result<(), AllocError>
     }
 }
 
-// Puts the lines of a plan behind the text.
-fn push_plan_lines(out: &mut Vec<u8>, lines: &[PlanLine]) -> Result<(), AllocError>
-    ensures { OnOk result (out.new.items ≡ out.old.items ++ flat_map plan_line lines.now) }
-{
-    for line in lines {
-        push_plan_line(out, line)?;
-    }
-    Ok(())
-}
-
 // Whether the line takes its name.
 fn is_take(line: &PlanLine) -> bool
     ensures { result ≡ is_take line.now }
 {
-    matches!(line, PlanLine::Take { name: _ })
+    matches!(line, PlanLine::Take { .. })
 }
 
 // Whether the name is left since something would be broken.
@@ -55,8 +45,8 @@ fn would_break(line: &PlanLine) -> bool
     ensures { result ≡ would_break line.now }
 {
     match line {
-        PlanLine::Take { name: _ } | PlanLine::LeftLimit { name: _ } => false,
-        PlanLine::LeftLine { name: _, line } => is_broken(line),
+        PlanLine::Take { .. } | PlanLine::LeftLimit { .. } => false,
+        PlanLine::LeftLine { line, .. } => is_broken(line),
     }
 }
 
@@ -86,26 +76,16 @@ fn count_left(lines: &[PlanLine]) -> usize
     count
 }
 
-// Puts the last line behind the text.
-#[tactic(auto, using(std::proofs::Common::append_assoc), unfolding(crate::specs::MigrateText::plan_end))]
-fn push_plan_end(out: &mut Vec<u8>, lines: &[PlanLine]) -> Result<(), AllocError>
-    ensures { OnOk result (out.new.items ≡ out.old.items ++ plan_end lines.now) }
-{
-    out.extend_from_slice(b"end ")?;
-    push_number(out, count_taken(lines) as u64)?;
-    out.extend_from_slice(b" ")?;
-    push_number(out, count_left(lines) as u64)?;
-    out.extend_from_slice(b"\n")
-}
-
-/// The text of the lines of a plan; it fails only where no memory is found.
-#[tactic(auto, using(std::proofs::Common::append_assoc), unfolding(crate::specs::MigrateText::plan_text))]
-pub(crate) fn plan_text(alloc: Global, lines: &[PlanLine]) -> Result<Vec<u8>, AllocError>
+/// The text of the lines of a plan.
+#[tactic(auto, unfolding(crate::specs::MigrateText::plan_text))]
+pub(crate) fn plan_text(alloc: Global, lines: &[PlanLine]) -> Made
     ensures { IfOk result (λ text. text.items ≡ plan_text lines.now) }
 {
     let mut text = Vec::new(alloc);
-    push_plan_lines(&mut text, lines)?;
-    push_plan_end(&mut text, lines)?;
+    for line in lines {
+        push_plan_line(&mut text, line)?;
+    }
+    push_end(&mut text, count_taken(lines), count_left(lines))?;
     Ok(text)
 }
 

@@ -1,12 +1,13 @@
 //! The command that asks whether one package for each goal can be installed together.
-ghost use Rattle.std.specs.Prelude.{◌≡◌, ◌<◌, ◌≤◌, length};
+ghost use Rattle.std.specs.Prelude.{◌≡◌, ◌<◌, ◌≤◌, IfSome, length};
 ghost use Rattle.clause_solver.specs.Outcomes.{IsBudget};
 ghost use Rattle.coinst_run.specs.Settings.{AreInLimits};
 ghost use Rattle.coinst_run.specs.Course.{answers};
-ghost use Rattle.coinst_run.specs.Ending.{Settles, ending_of};
+ghost use Rattle.coinst_run.specs.Ending.{Settles, ending_of, stop_ending};
 ghost use Rattle.coinst_run.specs.Follows.{Follows};
 ghost use Rattle.coinst_run.specs.Index.{index_of};
-ghost use Rattle.coinst_run.specs.Query.{goal_of_number, goals_answer, query_course};
+ghost use Rattle.coinst_run.specs.Outcome.{answered};
+ghost use Rattle.coinst_run.specs.Query.{goal_of_number, goals_answer, query_course, unknown_answer};
 
 use crate::answer::{Cause, Report, ReportVerdict, Stop};
 use crate::query_text::{no_text, undecided_text, unknown_line, yes_text};
@@ -41,6 +42,15 @@ pub(crate) fn goal_of_number(goals: &[Goal], number: u64) -> &Goal
     &goals[number as usize - 1]
 }
 
+/// The stop of the goal of a number, counted from 1, that is the first to name no package.
+pub(crate) fn unknown_goal(alloc: Global, goals: &[Goal], number: u64) -> Stop
+    requires { (0 < number) × (number ≤ length goals.now) }
+    ensures { IfSome (stop_ending result) (λ outcome. outcome ≡ answered (unknown_answer goals.now number)) }
+{
+    let goal = goal_of_number(goals, number);
+    Stop::refused(Cause::UnknownGoal, unknown_line(alloc, number, goal))
+}
+
 // The report on goals that are asked of a view.
 fn goals_report(
     alloc: Global,
@@ -52,30 +62,16 @@ fn goals_report(
     ensures { Settles (answers (goals_answer goals.now budget view.now.limit view.now.kernel.hold (index_of view.now.suite))) (ending_of result) }
 {
     match decide(alloc, view, goals, budget) {
-        Ok(
-            Answer::Yes {
-                install,
-                classes: _,
-            },
-        ) => Ok(Report {
-            verdict: ReportVerdict::Done,
-            text: yes_text(alloc, view.suite.packages.as_slice(), install.as_slice())?,
-        }),
-        Ok(Answer::No { log }) => Ok(Report {
-            verdict: ReportVerdict::Negative,
-            text: no_text(alloc, &log)?,
-        }),
-        Ok(Answer::Spent { failed: _ }) => Ok(Report {
-            verdict: ReportVerdict::Undecided,
-            text: undecided_text(alloc, budget)?,
-        }),
-        Err(DecideError::Unknown { goal }) => {
-            let line = unknown_line(alloc, goal, goal_of_number(goals, goal))?;
-            Err(Stop::Refused {
-                cause: Cause::UnknownGoal,
-                line,
-            })
-        }
+        Ok(Answer::Yes { install, .. }) => Ok(Report::of(
+            ReportVerdict::Done,
+            yes_text(alloc, view.suite.packages.as_slice(), install.as_slice())?,
+        )),
+        Ok(Answer::No { log }) => Ok(Report::of(ReportVerdict::Negative, no_text(alloc, &log)?)),
+        Ok(Answer::Spent { .. }) => Ok(Report::of(
+            ReportVerdict::Undecided,
+            undecided_text(alloc, budget)?,
+        )),
+        Err(DecideError::Unknown { goal }) => Err(unknown_goal(alloc, goals, goal)),
         Err(DecideError::Memory) => Err(Stop::Memory),
     }
 }

@@ -1,36 +1,26 @@
 //! The texts of a query, each made whole in memory.
 ghost use Rattle.std.specs.Prelude.{◌≡◌, ◌++◌, ◌<◌, ℕ, IfOk, OnOk, length};
-ghost use Rattle.std.specs.Fmt.{decimal};
 ghost use Rattle.std.specs.List.{flat_map};
 ghost use Rattle.repo_model.specs.Stanzas.{stanza_at};
 ghost use Rattle.listed.specs.Lists.{In};
 ghost use Rattle.coinst_run.specs.QueryText.{goal_word, install_line, literal_text, log_line, no_text, undecided_text, unknown_line, version_word, yes_text};
 
-use crate::lines::push_number;
+use crate::lines::{Made, Put, push_count, push_counted, push_pair};
 use deb_version::Version;
 use relation_fields::PackageFacts;
 use repo_model::Goal;
-use search_terms::{Literal, LiteralList, Log};
-use std::alloc::{AllocError, Global};
+use search_terms::{Literal, Log};
+use std::alloc::Global;
 
 // Puts the line of a package that is installed behind the text.
-#[tactic(auto, using(std::proofs::Common::append_assoc))]
-fn push_install(out: &mut Vec<u8>, facts: &PackageFacts) -> Result<(), AllocError>
+fn push_install(out: &mut Vec<u8>, facts: &PackageFacts) -> Put
     ensures { OnOk result (out.new.items ≡ out.old.items ++ install_line facts.now) }
 {
-    out.extend_from_slice(b"install ")?;
-    out.extend_from_slice(facts.name.as_slice())?;
-    out.extend_from_slice(b" ")?;
-    out.extend_from_slice(facts.version.text())?;
-    out.extend_from_slice(b"\n")
+    push_pair(out, b"install", facts.name.as_slice(), facts.version.text())
 }
 
 // Puts the lines of the packages with these numbers behind the text.
-fn push_installs(
-    out: &mut Vec<u8>,
-    packages: &[PackageFacts],
-    numbers: &[u32],
-) -> Result<(), AllocError>
+fn push_installs(out: &mut Vec<u8>, packages: &[PackageFacts], numbers: &[u32]) -> Put
     requires { (n : ℕ) → In n numbers.now → n < length packages.now }
     ensures { OnOk result (out.new.items ≡ out.old.items ++ flat_map (λ n. install_line (stanza_at packages.now n)) numbers.now) }
 {
@@ -40,13 +30,9 @@ fn push_installs(
     Ok(())
 }
 
-/// Yes, and the packages with these numbers; it fails only where no memory is found.
+/// Yes, and the packages with these numbers.
 #[tactic(auto, using(std::proofs::Common::append_assoc), unfolding(crate::specs::QueryText::yes_text))]
-pub(crate) fn yes_text(
-    alloc: Global,
-    packages: &[PackageFacts],
-    numbers: &[u32],
-) -> Result<Vec<u8>, AllocError>
+pub(crate) fn yes_text(alloc: Global, packages: &[PackageFacts], numbers: &[u32]) -> Made
     requires { (n : ℕ) → In n numbers.now → n < length packages.now }
     ensures { IfOk result (λ text. text.items ≡ yes_text packages.now numbers.now) }
 {
@@ -56,71 +42,50 @@ pub(crate) fn yes_text(
 }
 
 // Puts a class that holds, or does not, behind the text.
-#[tactic(auto, using(std::proofs::Common::append_assoc))]
-fn push_literal(out: &mut Vec<u8>, literal: Literal) -> Result<(), AllocError>
+fn push_literal(out: &mut Vec<u8>, literal: Literal) -> Put
     ensures { OnOk result (out.new.items ≡ out.old.items ++ literal_text literal) }
 {
-    if literal.positive {
-        out.extend_from_slice(b" +")?;
-    } else {
-        out.extend_from_slice(b" -")?;
-    }
-    push_number(out, u64::from(literal.class))
-}
-
-// Puts the literals of an entry behind the text.
-fn push_literals(out: &mut Vec<u8>, entry: &[Literal]) -> Result<(), AllocError>
-    ensures { OnOk result (out.new.items ≡ out.old.items ++ flat_map literal_text entry.now) }
-{
-    for literal in entry {
-        push_literal(out, *literal)?;
-    }
-    Ok(())
+    let sign = if literal.positive { b" +" } else { b" -" };
+    push_counted(out, sign, u64::from(literal.class))
 }
 
 // Puts the line of an entry behind the text.
 #[tactic(auto, using(std::proofs::Common::append_assoc))]
-fn push_log_line(out: &mut Vec<u8>, entry: &[Literal]) -> Result<(), AllocError>
+fn push_log_line(out: &mut Vec<u8>, entry: &[Literal]) -> Put
     ensures { OnOk result (out.new.items ≡ out.old.items ++ log_line entry.now) }
 {
     out.extend_from_slice(b"log")?;
-    push_literals(out, entry)?;
+    for literal in entry {
+        push_literal(out, *literal)?;
+    }
     out.extend_from_slice(b"\n")
 }
 
-// Puts the lines of entries behind the text.
-fn push_log(out: &mut Vec<u8>, entries: &[LiteralList]) -> Result<(), AllocError>
-    ensures { OnOk result (out.new.items ≡ out.old.items ++ flat_map log_line entries.now) }
-{
-    for entry in entries {
-        push_log_line(out, entry.as_slice())?;
-    }
-    Ok(())
-}
-
-/// No, and the log that shows it; it fails only where no memory is found.
+/// No, and the log that shows it.
 #[tactic(auto, using(std::proofs::Common::append_assoc), unfolding(crate::specs::QueryText::no_text))]
-pub(crate) fn no_text(alloc: Global, log: &Log) -> Result<Vec<u8>, AllocError>
+pub(crate) fn no_text(alloc: Global, log: &Log) -> Made
     ensures { IfOk result (λ text. text.items ≡ no_text log.now.entries) }
 {
+    let entries = log.entries.as_slice();
     let mut text = Vec::from_slice(alloc, b"no\n")?;
-    push_log(&mut text, log.entries.as_slice())?;
+    for entry in entries {
+        push_log_line(&mut text, entry.as_slice())?;
+    }
     Ok(text)
 }
 
-/// Undecided within the budget; it fails only where no memory is found.
+/// Undecided within the budget.
 #[tactic(auto, using(std::proofs::Common::append_assoc), unfolding(crate::specs::QueryText::undecided_text))]
-pub(crate) fn undecided_text(alloc: Global, budget: u64) -> Result<Vec<u8>, AllocError>
+pub(crate) fn undecided_text(alloc: Global, budget: u64) -> Made
     ensures { IfOk result (λ text. text.items ≡ undecided_text budget) }
 {
-    let mut text = Vec::from_slice(alloc, b"undecided ")?;
-    push_number(&mut text, budget)?;
-    text.extend_from_slice(b"\n")?;
+    let mut text = Vec::new(alloc);
+    push_count(&mut text, b"undecided ", budget)?;
     Ok(text)
 }
 
 // Puts the version that a goal asks for behind its name.
-fn push_version(out: &mut Vec<u8>, version: &Option<Version>) -> Result<(), AllocError>
+fn push_version(out: &mut Vec<u8>, version: &Option<Version>) -> Put
     ensures { OnOk result (out.new.items ≡ out.old.items ++ version_word version.now) }
 {
     match version {
@@ -132,22 +97,22 @@ fn push_version(out: &mut Vec<u8>, version: &Option<Version>) -> Result<(), Allo
     }
 }
 
-/// Puts the word of a goal behind the text; it fails only where no memory is found.
+/// Puts the word of a goal behind the text.
 #[tactic(auto, using(std::proofs::Common::append_assoc))]
-pub(crate) fn push_goal_word(out: &mut Vec<u8>, goal: &Goal) -> Result<(), AllocError>
+pub(crate) fn push_goal_word(out: &mut Vec<u8>, goal: &Goal) -> Put
     ensures { OnOk result (out.new.items ≡ out.old.items ++ goal_word goal.now) }
 {
     out.extend_from_slice(goal.name.as_slice())?;
     push_version(out, &goal.version)
 }
 
-/// The line of the goal of a number, counted from 1, that names no package; it fails only where no memory is found.
+/// The line of the goal of a number, counted from 1, that names no package.
 #[tactic(auto, using(std::proofs::Common::append_assoc), unfolding(crate::specs::QueryText::unknown_line))]
-pub(crate) fn unknown_line(alloc: Global, number: u64, goal: &Goal) -> Result<Vec<u8>, AllocError>
+pub(crate) fn unknown_line(alloc: Global, number: u64, goal: &Goal) -> Made
     ensures { IfOk result (λ line. line.items ≡ unknown_line number goal.now) }
 {
-    let mut line = Vec::from_slice(alloc, b"goal ")?;
-    push_number(&mut line, number)?;
+    let mut line = Vec::new(alloc);
+    push_counted(&mut line, b"goal ", number)?;
     line.extend_from_slice(b" is unknown: ")?;
     push_goal_word(&mut line, goal)?;
     line.extend_from_slice(b"\n")?;

@@ -33,10 +33,7 @@ pub fn sample(alloc: Global, seed: u64, count: u32) -> Result<Report, Stop>
 {
     let suite = suite_of(alloc, seed, count)?;
     let view = view_of(alloc, suite, "sample", CLAUSE_LIMIT, false)?;
-    Ok(Report {
-        verdict: ReportVerdict::Done,
-        text: size_report(alloc, &view)?,
-    })
+    Ok(Report::of(ReportVerdict::Done, size_report(alloc, &view)?))
 }
 
 // The suite of so many packages; its text is dropped.

@@ -34,14 +34,13 @@ pub fn settings_of(job: &Job) -> Settings
             hold,
             ..
         } => Settings {
-            budget: DEFAULTS.budget,
             clause_limit: *clause_limit,
             hold: *hold,
+            ..DEFAULTS
         },
         Job::StoredQuery { budget, .. } => Settings {
             budget: *budget,
-            clause_limit: DEFAULTS.clause_limit,
-            hold: DEFAULTS.hold,
+            ..DEFAULTS
         },
         Job::Sample { .. } => DEFAULTS,
         Job::Query {

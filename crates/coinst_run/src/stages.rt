@@ -4,13 +4,12 @@ ghost use Rattle.kernel_text.specs.JsonData.{AreNamedPackages};
 ghost use Rattle.repo_model.specs.Feed.{FeedStandsFor};
 ghost use Rattle.repo_model.specs.declared.fault.IndexFault.{IndexFault};
 ghost use Rattle.repo_model.specs.Refusals.{is_memory, Refuses};
-ghost use Rattle.coinst_run.specs.Ending.{StopsAt, stop_ending};
+ghost use Rattle.coinst_run.specs.Ending.{IsReadEnding, StopsAt, stop_ending};
 ghost use Rattle.coinst_run.specs.Course.{Course, reads};
 ghost use Rattle.coinst_run.specs.Faults.{fault_cause};
 ghost use Rattle.coinst_run.specs.Feeding.{WasFed};
 ghost use Rattle.coinst_run.specs.Follows.{Follows, ReachesIndex, WasRead};
 ghost use Rattle.coinst_run.specs.Index.{Index, by_fault, checked_index, index_of, reads_index};
-ghost use Rattle.coinst_run.specs.Outcome.{answered, too_long, unread};
 ghost use Rattle.repo_model.specs.Limits.{most_bytes};
 
 use crate::answer::{Cause, Stop};
@@ -30,44 +29,29 @@ fn fault_cause(fault: IndexFault) -> Cause
     match fault {
         IndexFault::TooMany => Cause::TooLarge,
         IndexFault::Stanza(_)
-        | IndexFault::MissingPackage { line: _ }
-        | IndexFault::MissingVersion { line: _ }
-        | IndexFault::BadPackage { line: _ }
-        | IndexFault::BadVersion { line: _ }
-        | IndexFault::BadArchitecture { line: _ }
-        | IndexFault::BadRelation {
-            line: _,
-            element: _,
-        }
-        | IndexFault::Duplicate {
-            first_line: _,
-            line: _,
-        }
-        | IndexFault::Mixed { line: _ }
+        | IndexFault::MissingPackage { .. }
+        | IndexFault::MissingVersion { .. }
+        | IndexFault::BadPackage { .. }
+        | IndexFault::BadVersion { .. }
+        | IndexFault::BadArchitecture { .. }
+        | IndexFault::BadRelation { .. }
+        | IndexFault::Duplicate { .. }
+        | IndexFault::Mixed { .. }
         | IndexFault::Memory => Cause::Content,
     }
 }
 
-// The stop of a file that could not be read.
-fn unread(alloc: Global, path: &str) -> Stop
-    ensures { IfSome (stop_ending result) (λ outcome. outcome ≡ unread path.now) }
+// The stop of a file that was not read whole.
+fn unread(alloc: Global, path: &str, error: ReadError) -> Stop
+    ensures { IfSome (stop_ending result) (IsReadEnding path.now error) }
 {
-    match PathText::copy(alloc, path) {
-        Ok(path) => Stop::Unread { path },
-        Err(_) => Stop::Memory,
-    }
-}
-
-// The stop of a file that is longer than the limit.
-fn too_long(alloc: Global, path: &str) -> Stop
-    ensures { IfSome (stop_ending result) (λ outcome. outcome ≡ answered (too_long path.now)) }
-{
-    match too_long_line(alloc, path) {
-        Ok(line) => Stop::Refused {
-            cause: Cause::TooLarge,
-            line,
+    match error {
+        ReadError::Failed => match PathText::copy(alloc, path) {
+            Ok(path) => Stop::Unread { path },
+            Err(_) => Stop::Memory,
         },
-        Err(_) => Stop::Memory,
+        ReadError::TooLong => Stop::refused(Cause::TooLarge, too_long_line(alloc, path)),
+        ReadError::Memory => Stop::Memory,
     }
 }
 
@@ -78,9 +62,7 @@ pub(crate) fn text_at<F: Shelf>(alloc: Global, shelf: &mut F, path: &str) -> Res
 {
     match read_file(alloc, shelf, path, FILE_LIMIT) {
         Ok(text) => Ok(text),
-        Err(ReadError::Failed) => Err(unread(alloc, path)),
-        Err(ReadError::TooLong) => Err(too_long(alloc, path)),
-        Err(ReadError::Memory) => Err(Stop::Memory),
+        Err(error) => Err(unread(alloc, path, error)),
     }
 }
 
@@ -98,13 +80,7 @@ pub(crate) fn faulty(alloc: Global, path: &str, fault: IndexFault) -> Stop
     if is_memory(fault) {
         return Stop::Memory;
     }
-    match fault_line(alloc, path, fault) {
-        Ok(line) => Stop::Refused {
-            cause: fault_cause(fault),
-            line,
-        },
-        Err(_) => Stop::Memory,
-    }
+    Stop::refused(fault_cause(fault), fault_line(alloc, path, fault))
 }
 
 /// Reads the packages of an index, or refuses its first fault.
@@ -128,9 +104,7 @@ fn feed_at<F: Shelf>(alloc: Global, shelf: &mut F, path: &str) -> Result<SuiteFe
     let mut feed = SuiteFeed::new(alloc)?;
     match feed_file(alloc, shelf, path, FILE_LIMIT, &mut feed) {
         Ok(_) => Ok(feed),
-        Err(ReadError::Failed) => Err(unread(alloc, path)),
-        Err(ReadError::TooLong) => Err(too_long(alloc, path)),
-        Err(ReadError::Memory) => Err(Stop::Memory),
+        Err(error) => Err(unread(alloc, path, error)),
     }
 }
 

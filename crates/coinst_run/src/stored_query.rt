@@ -20,9 +20,9 @@ ghost use Rattle.coinst_run.specs.StoredQuery.{checked_kernel, class_line, class
 ghost use Rattle.repo_model.specs.Limits.{most_bytes};
 
 use crate::answer::{Cause, Report, ReportVerdict, Stop};
-use crate::lines::{push_at_line, push_number};
-use crate::query::goal_of_number;
-use crate::query_text::{no_text, undecided_text, unknown_line};
+use crate::lines::{Made, Put, line_about, push_at_line, push_count};
+use crate::query::unknown_goal;
+use crate::query_text::{no_text, undecided_text};
 use crate::settings::Settings;
 use crate::stages::text_at;
 use byte_flow::Shelf;
@@ -31,7 +31,7 @@ use clause_solver::{Outcome, search};
 use kernel_text::{ImageError, KernelFault, StoredKernel, read_kernel};
 use repo_model::Goal;
 use row_book::{Book, Needs};
-use std::alloc::{AllocError, Global};
+use std::alloc::Global;
 
 /// The report on goals that are asked of the stored kernel at a path.
 pub fn stored_query<F: Shelf>(
@@ -91,13 +91,7 @@ fn checked_kernel(
 fn faulty(alloc: Global, path: &str, fault: KernelFault) -> Stop
     ensures { IfSome (stop_ending result) (λ outcome. outcome ≡ answered (refused Content (kernel_fault_line path.now fault))) }
 {
-    match kernel_fault_line(alloc, path, fault) {
-        Ok(line) => Stop::Refused {
-            cause: Cause::Content,
-            line,
-        },
-        Err(_) => Stop::Memory,
-    }
+    Stop::refused(Cause::Content, kernel_fault_line(alloc, path, fault))
 }
 
 // The report on goals that are asked of a stored kernel.
@@ -115,13 +109,7 @@ fn goals_report(
 {
     match stored.images(alloc, goals) {
         Ok(needs) => tree_report(alloc, pool, &stored.book, &needs, budget),
-        Err(ImageError::Unknown { goal }) => {
-            let line = unknown_line(alloc, goal, goal_of_number(goals, goal))?;
-            Err(Stop::Refused {
-                cause: Cause::UnknownGoal,
-                line,
-            })
-        }
+        Err(ImageError::Unknown { goal }) => Err(unknown_goal(alloc, goals, goal)),
         Err(ImageError::Memory) => Err(Stop::Memory),
     }
 }
@@ -141,46 +129,33 @@ fn tree_report(
     ensures { Settles (answers (classes_by_tree budget (tree_of (repository_of pool.now book.now) needs.now))) (ending_of result) }
 {
     match search(alloc, pool, book, needs, budget)? {
-        Outcome::Found { chosen } => Ok(Report {
-            verdict: ReportVerdict::Done,
-            text: classes_text(alloc, chosen.as_slice())?,
-        }),
-        Outcome::Refuted { log } => Ok(Report {
-            verdict: ReportVerdict::Negative,
-            text: no_text(alloc, &log)?,
-        }),
-        Outcome::Spent { failed: _ } => Ok(Report {
-            verdict: ReportVerdict::Undecided,
-            text: undecided_text(alloc, budget)?,
-        }),
+        Outcome::Found { chosen } => Ok(Report::of(
+            ReportVerdict::Done,
+            classes_text(alloc, chosen.as_slice())?,
+        )),
+        Outcome::Refuted { log } => Ok(Report::of(ReportVerdict::Negative, no_text(alloc, &log)?)),
+        Outcome::Spent { .. } => Ok(Report::of(
+            ReportVerdict::Undecided,
+            undecided_text(alloc, budget)?,
+        )),
     }
 }
 
-// Puts the line of a true class behind the text.
-#[tactic(auto, using(std::proofs::Common::append_assoc))]
-fn push_class(out: &mut Vec<u8>, number: u64) -> Result<(), AllocError>
-    ensures { OnOk result (out.new.items ≡ out.old.items ++ class_line number) }
-{
-    out.extend_from_slice(b"class ")?;
-    push_number(out, number)?;
-    out.extend_from_slice(b"\n")
-}
-
 // Puts the lines of the classes whose flags are up behind the text.
-fn push_classes(out: &mut Vec<u8>, chosen: &[bool]) -> Result<(), AllocError>
+fn push_classes(out: &mut Vec<u8>, chosen: &[bool]) -> Put
     ensures { OnOk result (out.new.items ≡ out.old.items ++ flat_map class_line (filter (flag chosen.now) (numbers (length chosen.now) 0))) }
 {
     for number in 0..chosen.len() {
         if chosen[number] {
-            push_class(out, number as u64)?;
+            push_count(out, b"class ", number as u64)?;
         }
     }
     Ok(())
 }
 
-// Yes, and the classes whose flags are up; it fails only where no memory is found.
+// Yes, and the classes whose flags are up.
 #[tactic(auto, using(std::proofs::Common::append_assoc), unfolding(crate::specs::StoredQuery::classes_text))]
-fn classes_text(alloc: Global, chosen: &[bool]) -> Result<Vec<u8>, AllocError>
+fn classes_text(alloc: Global, chosen: &[bool]) -> Made
     ensures { IfOk result (λ text. text.items ≡ classes_text chosen.now) }
 {
     let mut text = Vec::from_slice(alloc, b"yes\n")?;
@@ -188,26 +163,24 @@ fn classes_text(alloc: Global, chosen: &[bool]) -> Result<Vec<u8>, AllocError>
     Ok(text)
 }
 
-// Puts why a text is not that of a kernel behind the line.
-fn push_kernel_fault(line: &mut Vec<u8>, fault: KernelFault) -> Result<(), AllocError>
-    ensures { OnOk result (line.new.items ≡ line.old.items ++ kernel_fault_text fault) }
+// Puts why a text is not that of a kernel behind the text.
+fn push_kernel_fault(out: &mut Vec<u8>, fault: KernelFault) -> Put
+    ensures { OnOk result (out.new.items ≡ out.old.items ++ kernel_fault_text fault) }
 {
     match fault {
-        KernelFault::Line { line: at } => push_at_line(line, at, b"not a kernel line"),
-        KernelFault::End => line.extend_from_slice(b"no matching end line"),
-        KernelFault::Range { line: at } => push_at_line(line, at, b"no such class"),
-        KernelFault::Memory => line.extend_from_slice(b"out of memory"),
+        KernelFault::Line { line } => push_at_line(out, line, b"not a kernel line"),
+        KernelFault::End => out.extend_from_slice(b"no matching end line"),
+        KernelFault::Range { line } => push_at_line(out, line, b"no such class"),
+        KernelFault::Memory => out.extend_from_slice(b"out of memory"),
     }
 }
 
-// The line of the fault of the stored kernel at a path; it fails only where no memory is found.
-#[tactic(auto, using(std::proofs::Common::append_assoc), unfolding(crate::specs::StoredQuery::kernel_fault_line))]
-fn kernel_fault_line(alloc: Global, path: &str, fault: KernelFault) -> Result<Vec<u8>, AllocError>
+// The line of the fault of the stored kernel at a path.
+#[tactic(auto, unfolding(crate::specs::StoredQuery::kernel_fault_line))]
+fn kernel_fault_line(alloc: Global, path: &str, fault: KernelFault) -> Made
     ensures { IfOk result (λ line. line.items ≡ kernel_fault_line path.now fault) }
 {
-    let mut line = Vec::from_slice(alloc, path.as_bytes())?;
-    line.extend_from_slice(b": ")?;
-    push_kernel_fault(&mut line, fault)?;
-    line.extend_from_slice(b"\n")?;
-    Ok(line)
+    let mut words = Vec::new(alloc);
+    push_kernel_fault(&mut words, fault)?;
+    line_about(alloc, path, words.as_slice())
 }

@@ -47,10 +47,10 @@ fn system_report(
     ensures { Settles (system_answer path.now budget view.now.limit view.now.kernel.hold (index_of view.now.suite) text.now) (ending_of result) }
 {
     match status_report(alloc, view, text, budget) {
-        Ok(report) => Ok(Report {
-            verdict: system_verdict(report.own, report.verdict),
-            text: system_text(alloc, &report, budget)?,
-        }),
+        Ok(report) => Ok(Report::of(
+            system_verdict(report.own, report.verdict),
+            system_text(alloc, &report, budget)?,
+        )),
         Err(fault) => Err(faulty(alloc, path, fault)),
     }
 }

@@ -10,7 +10,7 @@ ghost use Rattle.coinst_run.specs.IndexKernel.{ClassedKernel, index_kernel};
 ghost use Rattle.coinst_run.specs.Kernel.{kernel_of, reads_kernel};
 
 use crate::answer::{Cause, Stop};
-use crate::lines::{end_limit, limit_front};
+use crate::lines::{line_about, push_row, push_stage};
 use crate::stages::suite_at;
 use byte_flow::Shelf;
 use repo_model::Suite;
@@ -25,23 +25,21 @@ fn limit_stop(alloc: Global, path: &str, limit: u32, error: LimitError) -> Resul
         LimitError::Limit {
             round,
             gone,
-            package: _,
             count,
             name,
             version,
+            ..
         } => {
-            let mut line = limit_front(
-                alloc,
-                path,
+            let mut words = Vec::new(alloc);
+            push_stage(
+                &mut words,
                 u64::from(limit),
                 u64::from(round),
                 u64::from(gone),
             )?;
-            end_limit(&mut line, name.as_slice(), version.as_slice(), count)?;
-            Ok(Stop::Refused {
-                cause: Cause::ClauseLimit,
-                line,
-            })
+            push_row(&mut words, name.as_slice(), version.as_slice(), count)?;
+            let line = line_about(alloc, path, words.as_slice());
+            Ok(Stop::refused(Cause::ClauseLimit, line))
         }
         LimitError::Memory => Ok(Stop::Memory),
     }

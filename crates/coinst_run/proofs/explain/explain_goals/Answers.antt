@@ -1,11 +1,13 @@
-use Rattle.std.proofs.Common.{◌≡◌, length, Some, ap, subst, sym, ◌∙◌, arith}
+use Rattle.std.proofs.Common.{◌≡◌, length, Some, ap, subst, sym, ◌∙◌}
 use Rattle.suite_compare.specs.Answering.{unknown_goal}
 use Rattle.coinst_run.specs.Course.{answers}
-use Rattle.coinst_run.specs.Ending.{Settles, ending_of}
-use Rattle.coinst_run.specs.Explain.{IsTellable, explanation_answer}
+use Rattle.coinst_run.specs.Ending.{Settles, ending_of, stop_ending}
+use Rattle.coinst_run.specs.Explain.{IsTellable, explained_by_unknown, explanation_answer, goals_explained}
 use Rattle.coinst_run.specs.Index.{index_of}
-use Rattle.coinst_run.proofs.Explanations.{explanation_tellable, explanation_told, unknown_explained}
-use Rattle.coinst_run.proofs.Queries.{unknown_within}
+use Rattle.coinst_run.specs.Query.{unknown_answer}
+use Rattle.coinst_run.proofs.Follows.{settles_at}
+use Rattle.coinst_run.proofs.Explanations.{explanation_tellable}
+use Rattle.coinst_run.proofs.Queries.{unknown_counted}
 use Rattle.coinst_run.proofs.explain.explain_goals.Goals as goal
 
 -- what is told are goals and packages
@@ -22,23 +24,16 @@ returns-in-Ok c =
     subst (λ answer. Settles (answers answer) (ending_of c.explanation_report.result))
     (ap (λ ps. explanation_answer ps c.args.goals.now c.args.budget c.in-Ok.explanation) c.as_slice.ensures
     ∙ ap (explanation_answer v.suite.packages c.args.goals.now c.args.budget) c.in-Ok.ensures.explanation
-    ∙ sym (explanation_told (index_of v.suite) c.args.goals.now c.args.budget v.limit v.kernel.hold c.in-Ok.ensures.known))
+    ∙ sym (ap (explained_by_unknown c.args.goals.now c.args.budget v.limit v.kernel.hold (index_of v.suite)) c.in-Ok.ensures.known))
     c.explanation_report.ensures
 
 -- the number of the first unknown goal is that of a goal
-pub goal_of_number-requires-clause-counted : goal.goal_of_number-requires-clause-counted
-goal_of_number-requires-clause-counted c =
-    let told : unknown_goal c.args.view.now.suite.packages c.args.goals.now ≡ Some c.in-Err-Unknown.goal = rw c.in-Err-Unknown.field-0-is at c.in-Err-Unknown.ensures.unknown in
-    let w = unknown_within c.args.view.now.suite.packages 1 c.in-Err-Unknown.goal c.args.goals.now told in
-    omega (arith, w.0)
+pub unknown_goal-requires : goal.unknown_goal-requires
+unknown_goal-requires c = unknown_counted c.args.view.now.suite.packages c.args.goals.now c.in-Err-Unknown.goal (rw c.in-Err-Unknown.field-0-is at c.in-Err-Unknown.ensures.unknown)
 
-pub goal_of_number-requires-clause-within : goal.goal_of_number-requires-clause-within
-goal_of_number-requires-clause-within c =
-    let told : unknown_goal c.args.view.now.suite.packages c.args.goals.now ≡ Some c.in-Err-Unknown.goal = rw c.in-Err-Unknown.field-0-is at c.in-Err-Unknown.ensures.unknown in
-    let w = unknown_within c.args.view.now.suite.packages 1 c.in-Err-Unknown.goal c.args.goals.now told in
-    omega (arith, w.1)
-
-pub returns-in_ok-line-in-Err-Unknown : goal.returns-in_ok-line-in-Err-Unknown
-returns-in_ok-line-in-Err-Unknown c =
-    let told : unknown_goal c.args.view.now.suite.packages c.args.goals.now ≡ Some c.in-Err-Unknown.goal = rw c.in-Err-Unknown.field-0-is at c.in-Err-Unknown.ensures.unknown in
-    unknown_explained (index_of c.args.view.now.suite) c.args.goals.now c.args.budget c.args.view.now.limit c.args.view.now.kernel.hold c.in-Err-Unknown.goal c.goal_of_number.result.now c.in_ok-line-in-Err-Unknown.line.items told c.goal_of_number.ensures c.in_ok-line-in-Err-Unknown.ensures
+pub returns-in-Err-Unknown : goal.returns-in-Err-Unknown
+returns-in-Err-Unknown c =
+    let v = c.args.view.now in
+    let told : unknown_goal v.suite.packages c.args.goals.now ≡ Some c.in-Err-Unknown.goal = rw c.in-Err-Unknown.field-0-is at c.in-Err-Unknown.ensures.unknown in
+    settles_at (answers (goals_explained c.args.goals.now c.args.budget v.limit v.kernel.hold (index_of v.suite))) (unknown_answer c.args.goals.now c.in-Err-Unknown.goal) (stop_ending c.unknown_goal.result)
+    (ap (λ there. answers (explained_by_unknown c.args.goals.now c.args.budget v.limit v.kernel.hold (index_of v.suite) there)) told) c.unknown_goal.ensures

@@ -5,8 +5,8 @@ use Rattle.coinst_run.specs.Migrate.{lines_answer, planned}
 use Rattle.coinst_run.proofs.Follows.{stopped}
 use Rattle.coinst_run.proofs.migrate.plan_report.Goals as goal
 
-pub returns-in_ok-refusal-in-Err : goal.returns-in_ok-refusal-in-Err
-returns-in_ok-refusal-in-Err c =
+pub returns-in-Err : goal.returns-in-Err
+returns-in-Err c =
     let settings = settings_of c.args.budget c.args.view.now.limit c.args.view.now.kernel.hold in
     stopped (planned c.args.old.now c.args.new.now settings c.args.text.now c.args.newer.now) (λ lines. answers (lines_answer lines)) _
-    (c.in_ok-refusal-in-Err.ensures (plan settings c.args.text.now c.args.newer.now) (plan_refusal c.args.text.now c.args.newer.now) c.in-Err.ensures.refused)
+    (c.refusal.ensures (plan settings c.args.text.now c.args.newer.now) (plan_refusal c.args.text.now c.args.newer.now) c.in-Err.ensures.refused)

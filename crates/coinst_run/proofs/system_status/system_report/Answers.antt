@@ -15,8 +15,8 @@ system_text-requires c =
 
 pub returns-in_ok-system_text-in-Ok : goal.returns-in_ok-system_text-in-Ok
 returns-in_ok-system_text-in-Ok c =
-    system_told c.args.path.now c.args.budget c.args.view.now.limit c.args.view.now.kernel.hold (index_of c.args.view.now.suite) c.args.text.now c.in-Ok.report _ _
-    c.in-Ok.ensures.accepted c.in-Ok.ensures.lines c.in-Ok.ensures.foreign c.in-Ok.ensures.own c.in-Ok.ensures.verdict c.system_verdict.ensures c.in_ok-system_text-in-Ok.ensures
+    rw c.of.ensures (system_told c.args.path.now c.args.budget c.args.view.now.limit c.args.view.now.kernel.hold (index_of c.args.view.now.suite) c.args.text.now c.in-Ok.report _ _
+    c.in-Ok.ensures.accepted c.in-Ok.ensures.lines c.in-Ok.ensures.foreign c.in-Ok.ensures.own c.in-Ok.ensures.verdict c.system_verdict.ensures c.in_ok-system_text-in-Ok.ensures)
 
 pub returns-in-Err : goal.returns-in-Err
 returns-in-Err c =

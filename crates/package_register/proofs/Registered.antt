@@ -12,10 +12,9 @@ use Rattle.deb_version.specs.Order.{version_order}
 use Rattle.deb_version.proofs.EqualKeys.{equal_keys}
 use Rattle.listed.specs.Lists.{has}
 use Rattle.listed.proofs.Lists.{same_bytes}
-use Rattle.package_register.specs.Hashed.{hash_of, numbers_under, HasNone, Puts}
+use Rattle.package_register.specs.Hashed.{hash_of, numbers_under, Puts}
 use Rattle.package_register.specs.Numbers.{passes_at}
 use Rattle.package_register.specs.Registers.{has_name, is_version_of, numbers_exact, numbers_named, package_key, AreCandidates, Grows, IsFound, IsRegisterOf}
-use Rattle.package_register.specs.declared.hashed.NumbersByHash.{NumbersByHash}
 use Rattle.package_register.specs.declared.register.Register.{Register}
 use Rattle.package_register.proofs.Numbers.{has_both, has_left, has_right, puts_front, puts_keeps, puts_there}
 

@@ -1,6 +1,6 @@
 -- Registers: what has a name and a version is found under its name, and under its name with each version that compares as
 -- equal to its own. A register may give more numbers than these, and never fewer.
-use Rattle.std.specs.Prelude.{◌≡◌, ℕ, Bool, true, ◌&&◌, ◌⊎◌, List, [], ◌∷◌, ◌++◌, take, slice_get, Option, Some}
+use Rattle.std.specs.Prelude.{◌≡◌, ℕ, Bool, true, ◌&&◌, ◌⊎◌, List, ◌∷◌, ◌++◌, take, slice_get, Option, Some}
 use Rattle.std.specs.Coded.{Coded-set, coded_bool}
 use Rattle.std.specs.Ordering.{is_eq}
 use Rattle.std.specs.Str.{bytes_eq}

@@ -1,5 +1,4 @@
-use Rattle.std.proofs.Common.{◌≡◌, List, ℕ, Some, ap, subst, ◌∙◌}
-use Rattle.std.specs.Option.{option_copied}
+use Rattle.std.proofs.Common.{Some, subst}
 use Rattle.package_register.specs.Registers.{IsFound}
 use Rattle.package_register.proofs.Registered.{one_registered}
 use Rattle.package_register.proofs.register.Register.add.Goals as goal

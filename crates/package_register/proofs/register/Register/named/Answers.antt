@@ -1,4 +1,4 @@
-use Rattle.std.proofs.Common.{◌≡◌, List, ℕ, sym, subst, ◌∙◌, ap, filter}
+use Rattle.std.proofs.Common.{List, ℕ, ◌∙◌, ap, filter}
 use Rattle.package_register.specs.Numbers.{passes_at}
 use Rattle.package_register.specs.Registers.{has_name, numbers_named}
 use Rattle.package_register.proofs.Numbered.{found_among}

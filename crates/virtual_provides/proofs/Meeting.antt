@@ -1,16 +1,15 @@
--- A package that meets an atom is found under the atom's name, and in an equal version where the atom asks for one.
-use Rattle.std.proofs.Common.{◌≡◌, ℕ, Bool, true, false, List, [], ◌∷◌, Option, Some, None, inl, inr, refl, sym, ap, subst, ◌∙◌}
-use Rattle.std.specs.Prelude.{◌&&◌, ◌||◌, slice_get}
+-- A package that meets an atom is found under the atom's name, and in an equal version where the atom asks for one exactly.
+use Rattle.std.proofs.Common.{◌≡◌, ℕ, true, false, List, Option, Some, None, Result, Ok, Err, IfOk, inl, inr, refl, sym, ap, subst, ◌∙◌}
+use Rattle.std.specs.Prelude.{slice_get}
 use Rattle.std.specs.List.{list_any}
 use Rattle.std.specs.Option.{option_and_then, option_map_or}
 use Rattle.std.specs.Ordering.{is_eq}
-use Rattle.std.specs.Str.{bytes_eq}
 use Rattle.std.proofs.lemmas.Bool.{and_parts, or_cases, false≢true}
 use Rattle.deb_version.specs.Grammar.{is_version}
 use Rattle.deb_version.specs.Order.{version_order}
 use Rattle.listed.specs.Lists.{In, has}
 use Rattle.listed.proofs.Lists.{any_cases, same_bytes}
-use Rattle.relation_fields.specs.Meeting.{wants, meets, fits, fits_provided, is_ignored, is_met_by_name, is_provided_by}
+use Rattle.relation_fields.specs.Meeting.{wants, meets, fits, fits_provided, is_met_by_name, is_provided_by}
 use Rattle.relation_fields.specs.declared.packages.Home.{Home}
 use Rattle.relation_fields.specs.declared.packages.PackageFacts.{PackageFacts}
 use Rattle.relation_fields.specs.declared.relations.Atom.{Atom}
@@ -19,7 +18,7 @@ use Rattle.relation_fields.specs.declared.relations.Op.{Op}
 use Rattle.relation_fields.specs.declared.relations.Op.TheVariants.{Earlier, EarlierEqual, Exactly, LaterEqual, Later}
 use Rattle.relation_fields.specs.declared.relations.Provide.{Provide}
 use Rattle.package_register.specs.Numbers.{passes_at}
-use Rattle.package_register.specs.Registers.{numbers_exact, numbers_named, IsFound}
+use Rattle.package_register.specs.Registers.{numbers_exact, numbers_named, AreCandidates}
 use Rattle.package_register.specs.declared.register.Register.{Register}
 use Rattle.virtual_provides.specs.Bearers.{exact_version, version_asked, AreFor, IsBuiltFrom}
 use Rattle.virtual_provides.specs.declared.names.NameTable.{NameTable}
@@ -42,34 +41,41 @@ provide_asked None given version e h = absurd (let f : ⊥ = cc in f)
 provide_asked (Some bound) None version e h = absurd (false≢true h)
 provide_asked (Some bound) (Some own) version e h = (own, refl, fits_asked bound.op bound.version version own e h)
 
+-- numbers among which are those of the version that is asked for
+pub asked_for : {X E : Type 0} (numbers : X → List ℕ) (result : Result X E) (register : Register) (atom : Atom) (name version : List ℕ) → name ≡ atom.name → exact_version atom ≡ Some version
+    → IfOk result (λ found. AreCandidates register name version (numbers found)) → IfOk result (λ found. AreFor register atom (numbers found))
+asked_for numbers (Ok found) register atom name version same asked (inl all) = inl (all ∙ ap (numbers_named register) same)
+asked_for numbers (Ok found) register atom name version same asked (inr exact) = inr (version, asked, exact.0, exact.1 ∙ ap (λ text. numbers_exact register text version) same)
+asked_for numbers (Err e) register atom name version same asked h = tt
+
 module _ (packages : List PackageFacts) (table : NameTable) (of : IsBuiltFrom packages table) (atom : Atom) (home : Home) where
   -- where the atom asks for no one version
   named_met : (n : ℕ) (facts : PackageFacts) → slice_get packages n ≡ Some facts → meets atom facts home ≡ true → has (numbers_named table.register atom.name) n ≡ true
   unfolding meets
-  named_met n facts at e =
+  named_met n facts stands e =
       elim (or_cases (is_met_by_name atom facts) (list_any (is_provided_by atom home) facts.provides) (and_parts _ _ e).1) [
-        | inl own ↦ subst (λ text. has (numbers_named table.register text) n ≡ true) (sym (same_bytes atom.name facts.name (and_parts _ _ own).0)) (of.own.found n facts at).named
+        | inl own ↦ subst (λ text. has (numbers_named table.register text) n ≡ true) (sym (same_bytes atom.name facts.name (and_parts _ _ own).0)) (of.own.found n facts stands).named
         | inr some ↦
             let w : (provide : Provide) × In provide facts.provides × (is_provided_by atom home provide ≡ true) = any_cases (is_provided_by atom home) facts.provides some in
-            subst (λ text. has (numbers_named table.register text) n ≡ true) (sym (same_bytes atom.name w.0.name (and_parts _ _ (and_parts _ _ w.2).1).0)) (of.provided n facts at w.0 w.1).named
+            subst (λ text. has (numbers_named table.register text) n ≡ true) (sym (same_bytes atom.name w.0.name (and_parts _ _ (and_parts _ _ w.2).1).0)) (of.provided n facts stands w.0 w.1).named
       ]
 
   -- where it asks for one
   exact_met : (version : List ℕ) → exact_version atom ≡ Some version → is_version version ≡ true → (n : ℕ) (facts : PackageFacts) → slice_get packages n ≡ Some facts → meets atom facts home ≡ true
       → has (numbers_exact table.register atom.name version) n ≡ true
   unfolding meets
-  exact_met version asked good n facts at e =
+  exact_met version asked good n facts stands e =
       elim (or_cases (is_met_by_name atom facts) (list_any (is_provided_by atom home) facts.provides) (and_parts _ _ e).1) [
         | inl own ↦
             let both = and_parts _ _ own in
             subst (λ text. has (numbers_exact table.register text version) n ≡ true) (sym (same_bytes atom.name facts.name both.0))
-            ((of.own.found n facts at).exact facts.version version refl good (bound_asked atom.bound version facts.version asked both.1))
+            ((of.own.found n facts stands).exact facts.version version refl good (bound_asked atom.bound version facts.version asked both.1))
         | inr some ↦
             let w : (provide : Provide) × In provide facts.provides × (is_provided_by atom home provide ≡ true) = any_cases (is_provided_by atom home) facts.provides some in
             let both = and_parts _ _ (and_parts _ _ w.2).1 in
             let given : (own : List ℕ) × (w.0.version ≡ Some own) × (is_eq (version_order own version) ≡ true) = provide_asked atom.bound w.0.version version asked both.1 in
             subst (λ text. has (numbers_exact table.register text version) n ≡ true) (sym (same_bytes atom.name w.0.name both.0))
-            ((of.provided n facts at w.0 w.1).exact given.0 version given.1 good given.2)
+            ((of.provided n facts stands w.0 w.1).exact given.0 version given.1 good given.2)
       ]
 
   -- whatever meets the atom is gone through
@@ -77,6 +83,6 @@ module _ (packages : List PackageFacts) (table : NameTable) (of : IsBuiltFrom pa
   all_met numbers for n = by (slice_get packages n) refl for
     where
       by : (found : Option PackageFacts) → slice_get packages n ≡ found → AreFor table.register atom numbers → option_map_or (λ facts. meets atom facts home) found false ≡ true → has numbers n ≡ true
-      by None at any h = absurd (false≢true h)
-      by (Some facts) at (inl all) h = subst (λ ns. has ns n ≡ true) (sym all) (named_met n facts at h)
-      by (Some facts) at (inr w) h = subst (λ ns. has ns n ≡ true) (sym w.3) (exact_met w.0 w.1 w.2 n facts at h)
+      by None stands any h = absurd (false≢true h)
+      by (Some facts) stands (inl all) h = subst (λ ns. has ns n ≡ true) (sym all) (named_met n facts stands h)
+      by (Some facts) stands (inr w) h = subst (λ ns. has ns n ≡ true) (sym w.3) (exact_met w.0 w.1 w.2 n facts stands h)

@@ -1,9 +1,7 @@
 -- Packages under the names that they have and the names that they provide: Debian Policy 7.5.
-use Rattle.std.specs.Prelude.{◌≡◌, ℕ, Bool, true, ◌||◌, ◌⊎◌, List, ◌++◌, Option, Some, None, slice_get}
+use Rattle.std.specs.Prelude.{◌≡◌, ℕ, Bool, true, ◌⊎◌, List, Option, Some, None, slice_get}
 use Rattle.std.specs.Coded.{Coded-set, coded_bool}
-use Rattle.std.specs.List.{list_any}
 use Rattle.std.specs.Option.{option_and_then}
-use Rattle.std.specs.Str.{bytes_eq}
 use Rattle.deb_version.specs.Grammar.{is_version}
 use Rattle.listed.specs.Lists.{In}
 use Rattle.relation_fields.specs.declared.packages.PackageFacts.{PackageFacts}
@@ -21,11 +19,7 @@ own_name facts = facts.name
 abbrev pub own_version : PackageFacts → List ℕ
 own_version facts = facts.version
 
--- the package has the name, or provides it
-abbrev pub bears : List ℕ → PackageFacts → Bool
-bears name facts = bytes_eq name facts.name || list_any (λ provide. bytes_eq name provide.name) facts.provides
-
--- the version that is asked for exactly
+-- the version, where it is asked for exactly
 abbrev pub version_asked : Op → List ℕ → Option (List ℕ)
 version_asked Earlier version = None
 version_asked EarlierEqual version = None
@@ -42,11 +36,11 @@ abbrev pub AreFor : Register → Atom → List ℕ → Type 0
 AreFor register atom numbers = (numbers ≡ numbers_named register atom.name)
     ⊎ ((version : List ℕ) × (exact_version atom ≡ Some version) × (is_version version ≡ true) × (numbers ≡ numbers_exact register atom.name version))
 
--- each provide of the packages is found under its name, and where it has a version under the name with it
+-- each provide of each package is found, by the number of the package, under its name and where it has a version under the name with that
 abbrev pub HasProvides : List PackageFacts → Register → Type 0
 HasProvides packages register = (n : ℕ) (facts : PackageFacts) → slice_get packages n ≡ Some facts → (provide : Provide) → In provide facts.provides → IsFound register provide.name provide.version n
 
--- Each package is found under its name and its version, and each of its provides is found too.
+-- Each package is found by its own name and version, and by those of each of its provides.
 pub record IsBuiltFrom (packages : List PackageFacts) (table : NameTable) : Type 0 where
   pub own : IsRegisterOf own_name own_version packages table.register
   pub provided : HasProvides packages table.register

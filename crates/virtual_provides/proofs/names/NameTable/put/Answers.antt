@@ -1,8 +1,6 @@
 use Rattle.std.proofs.Common.{◌≡◌, ◌∙◌, ◌+◌, ◌++◌, ◌∷◌, [], Some, take, ap, sym, subst}
-use Rattle.std.specs.Option.{option_copied}
 use Rattle.std.proofs.lemmas.List.{take_all, take_more}
 use Rattle.listed.specs.Lists.{In}
-use Rattle.relation_fields.specs.declared.relations.Provide.{Provide}
 use Rattle.virtual_provides.specs.declared.names.NameTable.{NameTable}
 use Rattle.package_register.specs.Registers.{IsFound}
 use Rattle.virtual_provides.proofs.Built.{one_built, put_own, put_provide, PutSo}

@@ -1,6 +1,4 @@
-use Rattle.std.proofs.Common.{List, ℕ, Some, take}
-use Rattle.listed.specs.Lists.{In}
-use Rattle.relation_fields.specs.declared.relations.Provide.{Provide}
+use Rattle.std.proofs.Common.{take}
 use Rattle.virtual_provides.proofs.Built.{PutSo}
 use Rattle.virtual_provides.proofs.names.NameTable.put.Given as goal
 

@@ -1,0 +1,6 @@
+use Rattle.std.proofs.Common.{take}
+use Rattle.virtual_provides.proofs.Built.{PutSo}
+use Rattle.virtual_provides.proofs.names.NameTable.put.Given as goal
+
+abbrev pub invariant-loop-provide : goal.invariant-loop-provide
+invariant-loop-provide l = PutSo l.fn.self.register l.self.register l.facts l.number (take l.provide-index l.provides)

@@ -12,4 +12,3 @@ pub mod Pairwise
 pub mod Deciding
 pub mod Named
 pub mod Taken
-pub mod Entering

@@ -2,7 +2,6 @@ pub mod Differing
 pub mod Mix
 pub mod Plan
 pub mod Trying
-pub mod Entered
 pub mod Promises
 pub mod Refusals
 pub mod Laws

@@ -2,6 +2,7 @@
 use crate::atom_lists::AtomList;
 use crate::relations::{ElementList, ProvideList};
 use deb_version::{Bytes, Version};
+use package_register::Named;
 
 /// The common architecture of the packages of an index; an index of `all` alone has none.
 #[derive(Drop)]
@@ -25,4 +26,18 @@ pub struct PackageFacts {
     pub against: AtomList,
     /// The provides of `Provides`.
     pub provides: ProvideList,
+}
+
+impl Named for PackageFacts {
+    ghost name_of = { λ facts. facts.name };
+
+    ghost version_of = { λ facts. facts.version };
+
+    fn name(&self) -> &[u8] {
+        self.name.as_slice()
+    }
+
+    fn version(&self) -> &Version {
+        &self.version
+    }
 }

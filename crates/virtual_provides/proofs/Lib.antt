@@ -1,6 +1,2 @@
-pub mod Keys
-pub mod Numbered
+pub mod Built
 pub mod Meeting
-pub mod ExactKeys
-pub mod Shared
-pub mod Marking

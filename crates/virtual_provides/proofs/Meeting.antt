@@ -1,30 +1,82 @@
--- A package that meets an atom has or provides its name.
-use Rattle.std.proofs.Common.{◌≡◌, Bool, true, false, List, [], ◌∷◌, refl}
-use Rattle.std.specs.Prelude.{◌&&◌, ◌||◌}
+-- A package that meets an atom is found under the atom's name, and in an equal version where the atom asks for one.
+use Rattle.std.proofs.Common.{◌≡◌, ℕ, Bool, true, false, List, [], ◌∷◌, Option, Some, None, inl, inr, refl, sym, ap, subst, ◌∙◌}
+use Rattle.std.specs.Prelude.{◌&&◌, ◌||◌, slice_get}
 use Rattle.std.specs.List.{list_any}
-use Rattle.std.specs.Option.{option_map_or}
+use Rattle.std.specs.Option.{option_and_then, option_map_or}
+use Rattle.std.specs.Ordering.{is_eq}
 use Rattle.std.specs.Str.{bytes_eq}
-use Rattle.std.proofs.lemmas.Bool.{and_parts, false≢true}
-use Rattle.relation_fields.specs.Meeting.{meets, fits, is_ignored, is_met_by_name, is_provided_by}
-use Rattle.relation_fields.specs.declared.relations.Atom.{Atom}
+use Rattle.std.proofs.lemmas.Bool.{and_parts, or_cases, false≢true}
+use Rattle.deb_version.specs.Grammar.{is_version}
+use Rattle.deb_version.specs.Order.{version_order}
+use Rattle.listed.specs.Lists.{In, has}
+use Rattle.listed.proofs.Lists.{any_cases, same_bytes}
+use Rattle.relation_fields.specs.Meeting.{wants, meets, fits, fits_provided, is_ignored, is_met_by_name, is_provided_by}
 use Rattle.relation_fields.specs.declared.packages.Home.{Home}
 use Rattle.relation_fields.specs.declared.packages.PackageFacts.{PackageFacts}
-use Rattle.virtual_provides.specs.Bearers.{bears}
+use Rattle.relation_fields.specs.declared.relations.Atom.{Atom}
+use Rattle.relation_fields.specs.declared.relations.Bound.{Bound}
+use Rattle.relation_fields.specs.declared.relations.Op.{Op}
+use Rattle.relation_fields.specs.declared.relations.Op.TheVariants.{Earlier, EarlierEqual, Exactly, LaterEqual, Later}
+use Rattle.relation_fields.specs.declared.relations.Provide.{Provide}
+use Rattle.package_register.specs.Numbers.{passes_at}
+use Rattle.package_register.specs.Registers.{numbers_exact, numbers_named, IsFound}
+use Rattle.package_register.specs.declared.register.Register.{Register}
+use Rattle.virtual_provides.specs.Bearers.{exact_version, version_asked, AreFor, IsBuiltFrom}
+use Rattle.virtual_provides.specs.declared.names.NameTable.{NameTable}
 
-pub either_wider : (a b c d : Bool) → (a ≡ true → c ≡ true) → (b ≡ true → d ≡ true) → (a || b) ≡ true → (c || d) ≡ true
-either_wider true b true d f g e = refl
-either_wider true b false d f g e = absurd (false≢true (f refl))
-either_wider false b true d f g e = refl
-either_wider false b false d f g e = g e
+fits_asked : (op : Op) (asked version own : List ℕ) → version_asked op asked ≡ Some version → wants op (version_order own asked) ≡ true → is_eq (version_order own version) ≡ true
+fits_asked Earlier asked version own e h = cc
+fits_asked EarlierEqual asked version own e h = cc
+fits_asked Exactly asked version own e h = let same : asked ≡ version = cc in ap (λ v. is_eq (version_order own v)) (sym same) ∙ h
+fits_asked LaterEqual asked version own e h = cc
+fits_asked Later asked version own e h = cc
 
-pub list_any-wider : {X : Type 0} (p q : X → Bool) → ((x : X) → p x ≡ true → q x ≡ true) → (xs : List X) → list_any p xs ≡ true → list_any q xs ≡ true
-list_any-wider p q wider [] e = e
-list_any-wider p q wider (x ∷ xs) e = either_wider (p x) (list_any p xs) (q x) (list_any q xs) (wider x) (list_any-wider p q wider xs) e
+bound_asked : (bound : Option Bound) (version own : List ℕ) → option_and_then (λ b. version_asked b.op b.version) bound ≡ Some version
+    → option_map_or (fits own) bound true ≡ true → is_eq (version_order own version) ≡ true
+bound_asked None version own e h = cc
+bound_asked (Some bound) version own e h = fits_asked bound.op bound.version version own e h
 
-pub bears_met : (atom : Atom) (home : Home) (facts : PackageFacts) → meets atom facts home ≡ true → bears atom.name facts ≡ true
-unfolding meets
-bears_met atom home facts e =
-    either_wider (is_met_by_name atom facts) (list_any (is_provided_by atom home) facts.provides) (bytes_eq atom.name facts.name) (list_any (λ provide. bytes_eq atom.name provide.name) facts.provides)
-    (λ h. (and_parts _ _ h).0)
-    (list_any-wider (is_provided_by atom home) (λ provide. bytes_eq atom.name provide.name) (λ provide h. (and_parts _ _ (and_parts _ _ h).1).0) facts.provides)
-    (and_parts _ _ e).1
+provide_asked : (bound : Option Bound) (given : Option (List ℕ)) (version : List ℕ) → option_and_then (λ b. version_asked b.op b.version) bound ≡ Some version
+    → option_map_or (fits_provided given) bound true ≡ true → (own : List ℕ) × (given ≡ Some own) × (is_eq (version_order own version) ≡ true)
+provide_asked None given version e h = absurd (let f : ⊥ = cc in f)
+provide_asked (Some bound) None version e h = absurd (false≢true h)
+provide_asked (Some bound) (Some own) version e h = (own, refl, fits_asked bound.op bound.version version own e h)
+
+module _ (packages : List PackageFacts) (table : NameTable) (of : IsBuiltFrom packages table) (atom : Atom) (home : Home) where
+  -- where the atom asks for no one version
+  named_met : (n : ℕ) (facts : PackageFacts) → slice_get packages n ≡ Some facts → meets atom facts home ≡ true → has (numbers_named table.register atom.name) n ≡ true
+  unfolding meets
+  named_met n facts at e =
+      elim (or_cases (is_met_by_name atom facts) (list_any (is_provided_by atom home) facts.provides) (and_parts _ _ e).1) [
+        | inl own ↦ subst (λ text. has (numbers_named table.register text) n ≡ true) (sym (same_bytes atom.name facts.name (and_parts _ _ own).0)) (of.own.found n facts at).named
+        | inr some ↦
+            let w : (provide : Provide) × In provide facts.provides × (is_provided_by atom home provide ≡ true) = any_cases (is_provided_by atom home) facts.provides some in
+            subst (λ text. has (numbers_named table.register text) n ≡ true) (sym (same_bytes atom.name w.0.name (and_parts _ _ (and_parts _ _ w.2).1).0)) (of.provided n facts at w.0 w.1).named
+      ]
+
+  -- where it asks for one
+  exact_met : (version : List ℕ) → exact_version atom ≡ Some version → is_version version ≡ true → (n : ℕ) (facts : PackageFacts) → slice_get packages n ≡ Some facts → meets atom facts home ≡ true
+      → has (numbers_exact table.register atom.name version) n ≡ true
+  unfolding meets
+  exact_met version asked good n facts at e =
+      elim (or_cases (is_met_by_name atom facts) (list_any (is_provided_by atom home) facts.provides) (and_parts _ _ e).1) [
+        | inl own ↦
+            let both = and_parts _ _ own in
+            subst (λ text. has (numbers_exact table.register text version) n ≡ true) (sym (same_bytes atom.name facts.name both.0))
+            ((of.own.found n facts at).exact facts.version version refl good (bound_asked atom.bound version facts.version asked both.1))
+        | inr some ↦
+            let w : (provide : Provide) × In provide facts.provides × (is_provided_by atom home provide ≡ true) = any_cases (is_provided_by atom home) facts.provides some in
+            let both = and_parts _ _ (and_parts _ _ w.2).1 in
+            let given : (own : List ℕ) × (w.0.version ≡ Some own) × (is_eq (version_order own version) ≡ true) = provide_asked atom.bound w.0.version version asked both.1 in
+            subst (λ text. has (numbers_exact table.register text version) n ≡ true) (sym (same_bytes atom.name w.0.name both.0))
+            ((of.provided n facts at w.0 w.1).exact given.0 version given.1 good given.2)
+      ]
+
+  -- whatever meets the atom is gone through
+  pub all_met : (numbers : List ℕ) → AreFor table.register atom numbers → (n : ℕ) → passes_at (λ facts. meets atom facts home) packages n ≡ true → has numbers n ≡ true
+  all_met numbers for n = by (slice_get packages n) refl for
+    where
+      by : (found : Option PackageFacts) → slice_get packages n ≡ found → AreFor table.register atom numbers → option_map_or (λ facts. meets atom facts home) found false ≡ true → has numbers n ≡ true
+      by None at any h = absurd (false≢true h)
+      by (Some facts) at (inl all) h = subst (λ ns. has ns n ≡ true) (sym all) (named_met n facts at h)
+      by (Some facts) at (inr w) h = subst (λ ns. has ns n ≡ true) (sym w.3) (exact_met w.0 w.1 w.2 n facts at h)

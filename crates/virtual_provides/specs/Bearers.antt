@@ -1,34 +1,59 @@
 -- Packages under the names that they have and the names that they provide: Debian Policy 7.5.
-use Rattle.std.specs.Prelude.{◌≡◌, ℕ, Bool, ◌||◌, if◌then◌else◌, List, [], ◌∷◌, length}
+use Rattle.std.specs.Prelude.{◌≡◌, ℕ, Bool, true, ◌||◌, ◌⊎◌, List, ◌++◌, Option, Some, None, slice_get}
 use Rattle.std.specs.List.{list_any}
+use Rattle.std.specs.Option.{option_and_then}
 use Rattle.std.specs.Str.{bytes_eq}
+use Rattle.deb_version.specs.Grammar.{is_version}
+use Rattle.listed.specs.Lists.{In}
 use Rattle.relation_fields.specs.declared.packages.PackageFacts.{PackageFacts}
+use Rattle.relation_fields.specs.declared.relations.Atom.{Atom}
+use Rattle.relation_fields.specs.declared.relations.Op.{Op}
+use Rattle.relation_fields.specs.declared.relations.Op.TheVariants.{Earlier, EarlierEqual, Exactly, LaterEqual, Later}
+use Rattle.relation_fields.specs.declared.relations.Provide.{Provide}
+use Rattle.package_register.specs.Registers.{numbers_exact, numbers_named, IsFound, IsFound-prop, IsRegisterOf, IsRegisterOf-prop}
+use Rattle.package_register.specs.declared.register.Register.{Register}
 use Rattle.virtual_provides.specs.declared.names.NameTable.{NameTable}
-use Rattle.virtual_provides.specs.declared.numbers.NumbersByName.{NumbersByName}
-use Rattle.virtual_provides.specs.Exact.{exact_key, bears_exactly, AtExactKeys}
-use Rattle.virtual_provides.specs.Numbers.{numbers_under, numbers_where, MarksShared}
+
+abbrev pub own_name : PackageFacts → List ℕ
+own_name facts = facts.name
+
+abbrev pub own_version : PackageFacts → List ℕ
+own_version facts = facts.version
 
 -- the package has the name, or provides it
 abbrev pub bears : List ℕ → PackageFacts → Bool
 bears name facts = bytes_eq name facts.name || list_any (λ provide. bytes_eq name provide.name) facts.provides
 
--- the number, where the test holds
-abbrev pub if_so : Bool → ℕ → List ℕ
-if_so holds number = if holds then number ∷ [] else []
+-- the version that is asked for exactly
+abbrev pub version_asked : Op → List ℕ → Option (List ℕ)
+version_asked Earlier version = None
+version_asked EarlierEqual version = None
+version_asked Exactly version = Some version
+version_asked LaterEqual version = None
+version_asked Later version = None
 
--- each name has the numbers of the packages that have or provide it
-abbrev pub HasBearers : List PackageFacts → NumbersByName → Type 0
-HasBearers packages bearers = (name : List ℕ) → numbers_under bearers name ≡ numbers_where (bears name) packages
+-- the version that an atom asks for exactly
+abbrev pub exact_version : Atom → Option (List ℕ)
+exact_version atom = option_and_then (λ bound. version_asked bound.op bound.version) atom.bound
 
--- each crowded name with each version has the numbers of the packages that bear the name in an equal version
-abbrev pub HasExactBearers : List PackageFacts → NumbersByName → NumbersByName → Type 0
-HasExactBearers packages bearers exact = AtExactKeys bearers (λ name version. numbers_under exact (exact_key name version) ≡ numbers_where (bears_exactly name version) packages)
+-- what is gone through for an atom: all that is found under its name, or what is found under it with the version that is asked for
+abbrev pub AreFor : Register → Atom → List ℕ → Type 0
+AreFor register atom numbers = (numbers ≡ numbers_named register atom.name)
+    ⊎ ((version : List ℕ) × (exact_version atom ≡ Some version) × (is_version version ≡ true) × (numbers ≡ numbers_exact register atom.name version))
 
--- The table has under each name the numbers of the packages that have or provide it, and under each crowded name with a
--- version the numbers of those that do so in an equal version. Each package that has or provides a name with another one
--- is marked.
+-- each provide of the packages is found under its name, and where it has a version under the name with it
+abbrev pub HasProvides : List PackageFacts → Register → Type 0
+HasProvides packages register = (n : ℕ) (facts : PackageFacts) → slice_get packages n ≡ Some facts → (provide : Provide) → In provide facts.provides → IsFound register provide.name provide.version n
+
+-- Each package is found under its name and its version, and each of its provides is found too.
 pub record IsBuiltFrom (packages : List PackageFacts) (table : NameTable) : Type 0 where
-  pub bearers : HasBearers packages table.bearers
-  pub exact : HasExactBearers packages table.bearers table.exact
-  pub marks : length table.shared.items ≡ length packages
-  pub shared : MarksShared table.bearers table.shared.items
+  pub own : IsRegisterOf own_name own_version packages table.register
+  pub provided : HasProvides packages table.register
+
+-- This fact has one proof at most, so that a value may keep it.
+pub IsBuiltFrom-prop : (packages : List PackageFacts) (table : NameTable) → IsProp (IsBuiltFrom packages table)
+IsBuiltFrom-prop packages table =
+    let own : IsProp (IsRegisterOf own_name own_version packages table.register) = IsRegisterOf-prop own_name own_version packages table.register in
+    let provided : (n : ℕ) (facts : PackageFacts) → slice_get packages n ≡ Some facts → (provide : Provide) → In provide facts.provides → IsProp (IsFound table.register provide.name provide.version n) =
+    λ n facts e provide inside. IsFound-prop table.register provide.name provide.version n in
+    hlevel (own, provided)

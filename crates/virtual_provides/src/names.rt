@@ -1,65 +1,103 @@
 //! The table of names.
-ghost use Rattle.std.specs.Prelude.{◌≡◌, ◌<◌, ◌++◌, ◌∷◌, [], List, ℕ, true, false, filter, length, slice_index_or, IfOk, OnOk};
-ghost use Rattle.deb_version.specs.Grammar.{is_version};
+ghost use Rattle.std.specs.Prelude.{◌≡◌, ◌<◌, ◌++◌, ◌∷◌, [], List, ℕ, Some, length, filter, IfOk, OnOk};
+ghost use Rattle.std.specs.List.{list_any};
+ghost use Rattle.std.specs.Option.{option_copied};
 ghost use Rattle.listed.specs.Lists.{In};
+ghost use Rattle.package_register.specs.Numbers.{numbers_where, passes_at};
+ghost use Rattle.package_register.specs.Registers.{has_name, is_version_of, Grows, IsFound};
 ghost use Rattle.relation_fields.specs.Meeting.{meets};
 ghost use Rattle.relation_fields.specs.declared.packages.PackageFacts.{PackageFacts};
-ghost use Rattle.virtual_provides.specs.Numbers.{ends_in, numbers_under, numbers_where, passes_at, MarksShared};
-ghost use Rattle.virtual_provides.specs.Bearers.{bears, if_so, HasBearers, IsBuiltFrom};
-ghost use Rattle.virtual_provides.specs.Exact.{exact_key};
+ghost use Rattle.relation_fields.specs.declared.relations.Provide.{Provide};
+ghost use Rattle.virtual_provides.specs.Bearers.{exact_version, own_name, own_version, AreFor, IsBuiltFrom};
 
-use crate::exact::{exact_bearers, exact_key, exact_version, is_crowded};
-use crate::numbers::NumbersByName;
 use deb_version::Version;
-use relation_fields::{Atom, Home, PackageFacts};
+use listed::sort_once;
+use package_register::{Candidates, Register};
+use relation_fields::{Atom, Home, Op, PackageFacts};
 use std::alloc::{AllocError, Global};
 
-/// The numbers of the packages under each name that they have or provide, and under each such name with a version where
-/// many bear the name; packages are numbered from 0 in their order.
+/// The packages by the names that they have and the names that they provide: a register in which each provide is too. Packages
+/// are numbered from 0 in their order.
 #[derive(Drop)]
 pub struct NameTable {
-    bearers: NumbersByName,
-    exact: NumbersByName,
-    // Whether a package has or provides a name that another one has or provides too.
-    shared: Vec<bool>,
+    register: Register,
 }
 
 impl NameTable {
+    /// The table of no packages; it takes no memory.
+    pub fn new(alloc: Global) -> Self
+        ensures { IsBuiltFrom [] result }
+    {
+        NameTable {
+            register: Register::new(alloc),
+        }
+    }
+
     /// The table of the packages; it fails only where no memory is found. Time is linear in their names and provides.
     pub fn build(alloc: Global, packages: &[PackageFacts]) -> Result<NameTable, AllocError>
         requires { length packages.now < u32.MAX }
         ensures { IfOk result (IsBuiltFrom packages.now) }
     {
-        let bearers = all_bearers(alloc, packages)?;
-        let shared = sharing(alloc, &bearers, packages.len())?;
-        let exact = exact_bearers(alloc, &bearers, &shared, packages)?;
-        Ok(NameTable {
-            bearers,
-            exact,
-            shared,
-        })
+        let mut table = NameTable::new(alloc);
+        for (number, facts) in packages.iter().enumerate() {
+            table.put(number as u32, facts)?;
+        }
+        Ok(table)
     }
 
-    /// Lends the numbers of the packages that have or provide a name, ascending, each once; it takes no memory.
-    pub fn bearers(&self, name: &[u8]) -> &[u32]
-        ensures { (packages : List PackageFacts) → IsBuiltFrom packages self.now → result.now ≡ numbers_where (bears name.now) packages }
+    /// Puts in a package behind the others.
+    pub fn put(&mut self, number: u32, facts: &PackageFacts) -> Result<(), AllocError>
+        ensures { OnOk result ((packages : List PackageFacts) → IsBuiltFrom packages self.old → number ≡ length packages → IsBuiltFrom (packages ++ facts.now ∷ []) self.new) }
     {
-        self.bearers.numbers(name)
+        let own = Some(&facts.version);
+        self.register.put(facts.name.as_slice(), own, number)?;
+        let provides = facts.provides.as_slice();
+        for provide in provides {
+            let version = provide.version.as_ref();
+            self.register.put(provide.name.as_slice(), version, number)?;
+        }
+        Ok(())
     }
 
-    /// Whether the package of a number has or provides a name that another one has or provides too; it takes no memory.
-    pub fn shares_names(&self, number: u32) -> bool
-        ensures { (packages : List PackageFacts) → IsBuiltFrom packages self.now → result ≡ false →
-            (name : List ℕ) → In number (numbers_where (bears name) packages) → numbers_where (bears name) packages ≡ number ∷ [] }
+    /// The numbers of the packages of a name, ascending, each once.
+    pub fn named(
+        &self,
+        alloc: Global,
+        packages: &[PackageFacts],
+        name: &[u8],
+    ) -> Result<Vec<u32>, AllocError>
+        requires { IsBuiltFrom packages.now self.now }
+        ensures { IfOk result (λ found. found.items ≡ numbers_where (has_name own_name name.now) packages.now) }
     {
-        is_marked(&self.shared, number)
+        self.register.named(alloc, packages, name)
+    }
+
+    /// The numbers of the packages of a name with an equal version, ascending, each once.
+    pub fn versioned(
+        &self,
+        alloc: Global,
+        packages: &[PackageFacts],
+        name: &[u8],
+        version: &Version,
+    ) -> Result<Vec<u32>, AllocError>
+        requires { IsBuiltFrom packages.now self.now }
+        ensures { IfOk result (λ found. found.items ≡ numbers_where (is_version_of own_name own_version name.now version.now) packages.now) }
+    {
+        self.register.versioned(alloc, packages, name, version)
+    }
+
+    /// Whether a package has the name; it takes no memory.
+    pub fn has_name(&self, packages: &[PackageFacts], name: &[u8]) -> bool
+        requires { IsBuiltFrom packages.now self.now }
+        ensures { result ≡ list_any (has_name own_name name.now) packages.now }
+    {
+        self.register.has_name(packages, name)
     }
 
     /// The numbers of the packages that meet the atom, ascending, each once; it fails only where no memory is found.
     ///
-    /// The table was built from these packages. The atom's name is looked up without a copy, and only the packages that
-    /// have or provide it are asked; where these are many and the atom asks for one version exactly, only those that
-    /// have or provide the name in an equal version.
+    /// The table was built from these packages. Only the packages that have or provide the atom's name are asked, and where
+    /// many do and the atom asks for one version exactly, few others than those in an equal version.
     pub fn meeting(
         &self,
         alloc: Global,
@@ -70,63 +108,58 @@ impl NameTable {
         requires { IsBuiltFrom packages.now self.now }
         ensures { IfOk result (λ found. found.items ≡ numbers_where (λ facts. meets atom.now facts home.now) packages.now) }
     {
-        let name = atom.name.as_slice();
-        let bearers = self.bearers.numbers(name);
-        if is_crowded(bearers) {
-            if let Some(version) = exact_version(atom) {
-                let exact = self.exact_numbers(alloc, name, version)?;
-                return met_among(alloc, packages, exact, atom, home);
-            }
-        }
-        met_among(alloc, packages, bearers, atom, home)
+        let candidates = self.candidates(alloc, atom)?;
+        let mut found = met_among(alloc, packages, candidates, atom, home)?;
+        sort_once(&mut found);
+        Ok(found)
     }
 
-    // The numbers of the packages that bear the name in a version equal to that one, where the name is crowded.
-    fn exact_numbers(
-        &self,
-        alloc: Global,
-        name: &[u8],
-        version: &Version,
-    ) -> Result<&[u32], AllocError>
-        ensures numbers { IfOk result (λ numbers. numbers.now ≡ numbers_under self.now.exact (exact_key name.now version.now)) }
-        ensures version { is_version version.now ≡ true }
+    // Numbers among which are those of all packages that meet the atom.
+    fn candidates(&self, alloc: Global, atom: &Atom) -> Result<Candidates<'_>, AllocError>
+        ensures { IfOk result (λ found. AreFor self.now.register atom.now (found.first.now ++ found.others.now)) }
     {
-        let key = exact_key(alloc, name, version)?;
-        Ok(self.exact.numbers(&key))
+        let name = atom.name.as_slice();
+        match exact_version(atom) {
+            Some(version) => self.register.candidates(alloc, name, version),
+            None => Ok(Candidates {
+                first: self.register.bearers(name),
+                others: &[],
+            }),
+        }
     }
 }
 
-// The numbers of the packages under each name that they have or provide.
-fn all_bearers(alloc: Global, packages: &[PackageFacts]) -> Result<NumbersByName, AllocError>
-    requires { length packages.now < u32.MAX }
-    ensures { IfOk result (HasBearers packages.now) }
+// The version that the atom asks for exactly, where it does.
+fn exact_version(atom: &Atom) -> Option<&Version>
+    ensures { option_copied result ≡ exact_version atom.now }
 {
-    let mut bearers = NumbersByName::with_capacity(alloc, packages.len())?;
-    for (number, package) in packages.iter().enumerate() {
-        put_package(&mut bearers, number as u32, package)?;
+    match &atom.bound {
+        Some(bound) => match bound.op {
+            Op::Exactly => Some(&bound.version),
+            Op::Earlier | Op::EarlierEqual | Op::LaterEqual | Op::Later => None,
+        },
+        None => None,
     }
-    Ok(bearers)
 }
 
-// Which of so many packages have or provide a name that another one has or provides too.
-fn sharing(alloc: Global, bearers: &NumbersByName, size: usize) -> Result<Vec<bool>, AllocError>
-    ensures len { IfOk result (λ marks. length marks.items ≡ size) }
-    ensures marks { IfOk result (λ marks. MarksShared bearers.now marks.items) }
+// Those of the candidates whose packages meet the atom.
+fn met_among(
+    alloc: Global,
+    packages: &[PackageFacts],
+    candidates: Candidates,
+    atom: &Atom,
+    home: &Home,
+) -> Result<Vec<u32>, AllocError>
+    ensures { IfOk result (λ found. found.items ≡ filter (passes_at (λ facts. meets atom.now facts home.now) packages.now) (candidates.first.now ++ candidates.others.now)) }
 {
-    let mut marks = vec![in alloc; false; size]?;
-    bearers.mark_shared(marks.as_mut_slice());
-    Ok(marks)
-}
-
-/// Whether the number is marked.
-pub(crate) fn is_marked(marks: &[bool], number: u32) -> bool
-    ensures { result ≡ slice_index_or marks.now number false }
-{
-    marks.get(number as usize).copied().unwrap_or(false)
+    let mut found = met_in(alloc, packages, candidates.first, atom, home)?;
+    let more = met_in(alloc, packages, candidates.others, atom, home)?;
+    found.extend_from_slice(more.as_slice())?;
+    Ok(found)
 }
 
 // Those of the numbers whose packages meet the atom.
-fn met_among(
+fn met_in(
     alloc: Global,
     packages: &[PackageFacts],
     numbers: &[u32],
@@ -142,22 +175,6 @@ fn met_among(
         }
     }
     Ok(found)
-}
-
-// Puts the number of a package under its name and under each name that it provides, once under each.
-fn put_package(
-    bearers: &mut NumbersByName,
-    number: u32,
-    facts: &PackageFacts,
-) -> Result<(), AllocError>
-    requires { (name : List ℕ) → ends_in number (numbers_under bearers.old name) ≡ false }
-    ensures { OnOk result ((name : List ℕ) → numbers_under bearers.new name ≡ numbers_under bearers.old name ++ if_so (bears name facts.now) number) }
-{
-    bearers.put(facts.name.as_slice(), number)?;
-    for provide in facts.provides.as_slice() {
-        bearers.put(provide.name.as_slice(), number)?;
-    }
-    Ok(())
 }
 
 // Whether there is a package of that number, and it meets the atom.

@@ -1,0 +1,4 @@
+pub mod Numbered
+pub mod Numbers
+pub mod Hashes
+pub mod Registered

@@ -1,0 +1,15 @@
+use Rattle.std.proofs.Common.{List, ℕ, ◌++◌}
+use Rattle.package_register.specs.Registers.{is_version_of}
+use Rattle.package_register.proofs.Numbered.{found_among}
+use Rattle.package_register.proofs.Registered.{versioned_all}
+use Rattle.package_register.proofs.register.Register.versioned.Goals as goal
+
+pub returns : goal.returns
+returns g c =
+    let name : List ℕ = c.args.name.now in
+    let version : List ℕ = c.args.version.now in
+    let numbers : List ℕ = c.in_ok-candidates.candidates.first.now ++ c.in_ok-candidates.candidates.others.now in
+    found_among (is_version_of g.T.Named.name_of g.T.Named.version_of name version) c.args.items.now numbers c.in_ok-found.found.items c.sort_once.new.numbers.items
+    (versioned_all g.T.Named.name_of g.T.Named.version_of c.args.items.now c.args.self.now c.requires name version numbers c.in_ok-candidates.ensures)
+    c.in_ok-found.ensures
+    c.sort_once.ensures.ascending c.sort_once.ensures.same

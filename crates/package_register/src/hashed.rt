@@ -1,0 +1,99 @@
+//! Lists of numbers by hashes.
+ghost use Rattle.std.specs.Prelude.{◌≡◌, ◌∷◌, ◌++◌, [], length, IfOk, OnOk};
+ghost use Rattle.package_register.specs.Hashed.{numbers_of, numbers_under, with_number, HasNone, Puts};
+
+use indexmap::IndexMap;
+use std::alloc::{AllocError, Global};
+use std::slice;
+
+/// The numbers under a hash. Most hashes have one, which takes no memory.
+#[derive(Drop)]
+pub(crate) enum NumberList {
+    One(u32),
+    Many(Vec<u32>),
+}
+
+impl NumberList {
+    // Lends the numbers; it takes no memory.
+    fn as_slice(&self) -> &[u32]
+        ensures { result.now ≡ numbers_of self.now }
+    {
+        match self {
+            NumberList::One(number) => slice::from_ref(number),
+            NumberList::Many(numbers) => numbers.as_slice(),
+        }
+    }
+}
+
+/// For each hash a list of numbers, which is empty for a hash that has none.
+#[derive(Drop)]
+pub(crate) struct NumbersByHash {
+    lists: IndexMap<u64, NumberList>,
+}
+
+#[tactic(auto, unfolding(crate::specs::Hashed::numbers_under))]
+impl NumbersByHash {
+    /// No hash has a number; it takes no memory.
+    pub(crate) fn new(alloc: Global) -> Self
+        ensures { HasNone result }
+    {
+        NumbersByHash {
+            lists: IndexMap::new(alloc),
+        }
+    }
+
+    /// What the memory of the lists is taken from.
+    pub(crate) fn allocator(&self) -> Global {
+        *self.lists.allocator()
+    }
+
+    /// Puts a number behind those under a hash, unless it is the last of these already.
+    pub(crate) fn put(&mut self, hash: u64, number: u32) -> Result<(), AllocError>
+        ensures { OnOk result (Puts self.old self.new hash number) }
+    {
+        let alloc = *self.lists.allocator();
+        match self.lists.get_mut(&hash) {
+            Some(numbers) => put_last(alloc, numbers, number),
+            None => {
+                self.lists.insert(hash, NumberList::One(number))?;
+                Ok(())
+            }
+        }
+    }
+
+    /// Lends the numbers under a hash, in the order in which they were put there; it takes no memory.
+    pub(crate) fn numbers(&self, hash: u64) -> &[u32]
+        ensures { result.now ≡ numbers_under self.now hash }
+    {
+        match self.lists.get(&hash) {
+            Some(numbers) => numbers.as_slice(),
+            None => &[],
+        }
+    }
+}
+
+// Puts the number behind the others, unless it is the last already.
+fn put_last(alloc: Global, numbers: &mut NumberList, number: u32) -> Result<(), AllocError>
+    ensures { OnOk result (numbers_of numbers.new ≡ with_number number (numbers_of numbers.old)) }
+{
+    if numbers.as_slice().last() == Some(&number) {
+        return Ok(());
+    }
+    if let NumberList::Many(many) = numbers {
+        many.push(number)?;
+        return Ok(());
+    }
+    let both = with_one_more(alloc, numbers.as_slice(), number)?;
+    *numbers = NumberList::Many(both);
+    Ok(())
+}
+
+// The numbers with one behind them.
+fn with_one_more(alloc: Global, numbers: &[u32], number: u32) -> Result<Vec<u32>, AllocError>
+    ensures { IfOk result (λ more. more.items ≡ numbers.now ++ number ∷ []) }
+{
+    let mut more = Vec::with_capacity(alloc, 4)?;
+    more.extend_from_slice(numbers)?;
+    more.push(number)?;
+    Ok(more)
+}

@@ -12,3 +12,4 @@ pub mod Pairwise
 pub mod Deciding
 pub mod Named
 pub mod Taken
+pub mod Flagged

@@ -1,6 +1,6 @@
 //! Which packages come into a mix: those of the newer index whose names are in a set, and those of the older one whose names are not.
-ghost use Rattle.std.specs.Prelude.{◌≡◌, ◌<◌, ◌||◌, ℕ, false, true, length, map, slice_index_or, IfOk};
-ghost use Rattle.listed.specs.Lists.{has};
+ghost use Rattle.std.specs.Prelude.{◌≡◌, false, true, map, replicate, slice_set, IfOk};
+ghost use Rattle.migrate_plan.specs.Flagged.{Raises};
 ghost use Rattle.migrate_plan.specs.Mix.{count_named, is_left, is_taken};
 
 use deb_version::Bytes;
@@ -16,10 +16,10 @@ pub(crate) fn taken_flags(
 ) -> Result<Vec<bool>, AllocError>
     ensures { IfOk result (λ flags. flags.items ≡ map (λ facts. is_taken taken.now facts.name) suite.now.packages) }
 {
-    let mut flags = vec![in alloc; false; suite.count() as usize]?;
+    let mut flags = no_flags(alloc, suite.count())?;
     for name in taken {
         let numbers = suite.named(alloc, name.as_slice())?;
-        raise(&mut flags, &numbers);
+        raise_all(&mut flags, &numbers);
     }
     Ok(flags)
 }
@@ -36,18 +36,33 @@ pub(crate) fn left_flags(
     taken.iter().map(|flag| !*flag).collect(alloc)
 }
 
+// So many flags, none of them up.
+fn no_flags(alloc: Global, count: u32) -> Result<Vec<bool>, AllocError>
+    ensures { IfOk result (λ flags. flags.items ≡ replicate count false) }
+{
+    vec![in alloc; false; count as usize]
+}
+
 // Raises the flags of these numbers.
-fn raise(flags: &mut [bool], numbers: &[u32])
-    requires { (n : ℕ) → has numbers.now n ≡ true → n < length flags.old }
-    ensures len { length flags.new ≡ length flags.old }
-    ensures flags { (n : ℕ) → slice_index_or flags.new n false ≡ (slice_index_or flags.old n false || has numbers.now n) }
+fn raise_all(flags: &mut Vec<bool>, numbers: &[u32])
+    ensures { Raises flags.old.items numbers.now flags.new.items }
 {
     for number in numbers {
-        flags[*number as usize] = true;
+        raise(flags, *number);
     }
 }
 
-/// How many packages have one of the names, of which each stands there once.
+// Raises the flag of a number, where it has one.
+fn raise(flags: &mut Vec<bool>, number: u32)
+    ensures { flags.new.items ≡ slice_set flags.old.items number true }
+{
+    let place = number as usize;
+    if place < flags.len() {
+        flags[place] = true;
+    }
+}
+
+/// How many packages have one of the names.
 pub(crate) fn count_among(
     alloc: Global,
     suite: &Suite,

@@ -1,5 +1,5 @@
 -- Registers: what has a name and a version is found under its name, and under its name with each version that compares as
--- equal. A register may give more numbers than these, and never fewer.
+-- equal to its own. A register may give more numbers than these, and never fewer.
 use Rattle.std.specs.Prelude.{◌≡◌, ℕ, Bool, true, ◌&&◌, ◌⊎◌, List, [], ◌∷◌, ◌++◌, take, slice_get, Option, Some}
 use Rattle.std.specs.Coded.{Coded-set, coded_bool}
 use Rattle.std.specs.Ordering.{is_eq}
@@ -27,7 +27,7 @@ package_key name version = version_key version ++ (32 ∷ name)
 abbrev pub numbers_named : Register → List ℕ → List ℕ
 numbers_named register name = numbers_under register.names (hash_of name)
 
--- what is found under a name with a version: the first 16 of the name, and others by their key
+-- what is found under a name with a version: the first 16 of the name, and those under their key
 abbrev pub numbers_exact : Register → List ℕ → List ℕ → List ℕ
 numbers_exact register name version = take 16 (numbers_named register name) ++ numbers_under register.versions (hash_of (package_key name version))
 
@@ -35,12 +35,12 @@ numbers_exact register name version = take 16 (numbers_named register name) ++ n
 abbrev pub AreCandidates : Register → List ℕ → List ℕ → List ℕ → Type 0
 AreCandidates register name version numbers = (numbers ≡ numbers_named register name) ⊎ ((is_version version ≡ true) × (numbers ≡ numbers_exact register name version))
 
--- the number is found under the name, and where there is a version under the name with each version that is equal to it
+-- The number is found under the name. Where it has a version of its own, it is found under the name with each version that compares as equal to that.
 pub record IsFound (register : Register) (name : List ℕ) (version : Option (List ℕ)) (n : ℕ) : Type 0 where
   pub named : has (numbers_named register name) n ≡ true
   pub exact : (own asked : List ℕ) → version ≡ Some own → is_version asked ≡ true → is_eq (version_order own asked) ≡ true → has (numbers_exact register name asked) n ≡ true
 
--- what was found is found
+-- whatever was found before is found still
 pub record Grows (old new : Register) : Type 0 where
   pub named : (name : List ℕ) (n : ℕ) → has (numbers_named old name) n ≡ true → has (numbers_named new name) n ≡ true
   pub exact : (name version : List ℕ) (n : ℕ) → has (numbers_exact old name version) n ≡ true → has (numbers_exact new name version) n ≡ true
@@ -56,13 +56,7 @@ pub record IsRegisterOf {X : Type 0} (name_of version_of : X → List ℕ) (item
 
 -- These facts have one proof at most, so that a value may keep them.
 pub IsFound-prop : (register : Register) (name : List ℕ) (version : Option (List ℕ)) (n : ℕ) → IsProp (IsFound register name version n)
-IsFound-prop register name version n =
-    let named : IsProp (has (numbers_named register name) n ≡ true) = Coded-set coded_bool (has (numbers_named register name) n) true in
-    let exact : (own asked : List ℕ) → version ≡ Some own → is_version asked ≡ true → is_eq (version_order own asked) ≡ true → IsProp (has (numbers_exact register name asked) n ≡ true) =
-    λ own asked e f g. Coded-set coded_bool (has (numbers_exact register name asked) n) true in
-    hlevel (named, exact)
+IsFound-prop register name version n = let bools : IsSet Bool = Coded-set coded_bool in hlevel bools
 
 pub IsRegisterOf-prop : {X : Type 0} (name_of version_of : X → List ℕ) (items : List X) (register : Register) → IsProp (IsRegisterOf name_of version_of items register)
-IsRegisterOf-prop {X = X} name_of version_of items register =
-    let found : (n : ℕ) (x : X) → slice_get items n ≡ Some x → IsProp (IsFound register (name_of x) (Some (version_of x)) n) = λ n x e. IsFound-prop register (name_of x) (Some (version_of x)) n in
-    hlevel found
+IsRegisterOf-prop name_of version_of items register = let bools : IsSet Bool = Coded-set coded_bool in hlevel bools

@@ -103,7 +103,7 @@ fn equal_among<T: Named>(
     name: &[u8],
     version: &Version,
 ) -> Result<Vec<u32>, AllocError>
-    ensures { IfOk result (λ found. found.items ≡ filter (passes_at (is_version_of T.name_of T.version_of name.now version.now) items.now) (candidates.first.now ++ candidates.others.now)) }
+    ensures { IfOk result (λ found. found.items ≡ filter (passes_at (is_version_of T.name_of T.version_of name.now version.now) items.now) (candidates.entry.first.now ++ candidates.entry.others.now)) }
 {
     let mut found = equal_in(alloc, items, candidates.first, name, version)?;
     let more = equal_in(alloc, items, candidates.others, name, version)?;

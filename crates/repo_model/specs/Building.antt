@@ -1,6 +1,7 @@
 -- for the bodies of this crate alone
 -- A suite that is being read, stanza by stanza.
-use Rattle.std.specs.Prelude.{◌≡◌}
+use Rattle.std.specs.Prelude.{◌≡◌, Bool}
+use Rattle.std.specs.Coded.{Coded-set, coded_bool}
 use Rattle.virtual_provides.specs.Bearers.{IsBuiltFrom, IsBuiltFrom-prop}
 use Rattle.repo_model.specs.Needs.{needs-prop, needs_of_all}
 use Rattle.repo_model.specs.declared.building.Building.{Building}
@@ -15,4 +16,5 @@ pub IsBuilt-prop : (building : Building) → IsProp (IsBuilt building)
 IsBuilt-prop building =
     let named : IsProp (IsBuiltFrom building.packages building.names) = IsBuiltFrom-prop building.packages building.names in
     let noted : IsProp (building.elements ≡ needs_of_all building.packages) = needs-prop building.elements building.packages in
-    hlevel (named, noted)
+    let bools : IsSet Bool = Coded-set coded_bool in
+    hlevel (named, noted, bools)

@@ -1,5 +1,6 @@
 -- Packages under the names that they have and the names that they provide: Debian Policy 7.5.
 use Rattle.std.specs.Prelude.{◌≡◌, ℕ, Bool, true, ◌||◌, ◌⊎◌, List, ◌++◌, Option, Some, None, slice_get}
+use Rattle.std.specs.Coded.{Coded-set, coded_bool}
 use Rattle.std.specs.List.{list_any}
 use Rattle.std.specs.Option.{option_and_then}
 use Rattle.std.specs.Str.{bytes_eq}
@@ -10,7 +11,7 @@ use Rattle.relation_fields.specs.declared.relations.Atom.{Atom}
 use Rattle.relation_fields.specs.declared.relations.Op.{Op}
 use Rattle.relation_fields.specs.declared.relations.Op.TheVariants.{Earlier, EarlierEqual, Exactly, LaterEqual, Later}
 use Rattle.relation_fields.specs.declared.relations.Provide.{Provide}
-use Rattle.package_register.specs.Registers.{numbers_exact, numbers_named, IsFound, IsFound-prop, IsRegisterOf, IsRegisterOf-prop}
+use Rattle.package_register.specs.Registers.{numbers_exact, numbers_named, IsFound, IsRegisterOf}
 use Rattle.package_register.specs.declared.register.Register.{Register}
 use Rattle.virtual_provides.specs.declared.names.NameTable.{NameTable}
 
@@ -52,8 +53,4 @@ pub record IsBuiltFrom (packages : List PackageFacts) (table : NameTable) : Type
 
 -- This fact has one proof at most, so that a value may keep it.
 pub IsBuiltFrom-prop : (packages : List PackageFacts) (table : NameTable) → IsProp (IsBuiltFrom packages table)
-IsBuiltFrom-prop packages table =
-    let own : IsProp (IsRegisterOf own_name own_version packages table.register) = IsRegisterOf-prop own_name own_version packages table.register in
-    let provided : (n : ℕ) (facts : PackageFacts) → slice_get packages n ≡ Some facts → (provide : Provide) → In provide facts.provides → IsProp (IsFound table.register provide.name provide.version n) =
-    λ n facts e provide inside. IsFound-prop table.register provide.name provide.version n in
-    hlevel (own, provided)
+IsBuiltFrom-prop packages table = let bools : IsSet Bool = Coded-set coded_bool in hlevel bools

@@ -150,7 +150,7 @@ fn met_among(
     atom: &Atom,
     home: &Home,
 ) -> Result<Vec<u32>, AllocError>
-    ensures { IfOk result (λ found. found.items ≡ filter (passes_at (λ facts. meets atom.now facts home.now) packages.now) (candidates.first.now ++ candidates.others.now)) }
+    ensures { IfOk result (λ found. found.items ≡ filter (passes_at (λ facts. meets atom.now facts home.now) packages.now) (candidates.entry.first.now ++ candidates.entry.others.now)) }
 {
     let mut found = met_in(alloc, packages, candidates.first, atom, home)?;
     let more = met_in(alloc, packages, candidates.others, atom, home)?;

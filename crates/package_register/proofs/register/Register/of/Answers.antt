@@ -5,7 +5,7 @@ use Rattle.package_register.proofs.Registered.{none_registered}
 use Rattle.package_register.proofs.register.Register.of.Goals as goal
 
 pub loop-place-init : goal.loop-place-init
-loop-place-init g c = none_registered g.T.Named.name_of g.T.Named.version_of c.new.result
+loop-place-init g c = none_registered g.T.Named.name_of g.T.Named.version_of c.new-register.result
 
 pub loop-place-preserved : goal.loop-place-preserved
 loop-place-preserved g c =

@@ -3,10 +3,13 @@ use Rattle.std.proofs.Common.{◌≡◌, ℕ, zero, suc, ◌+◌, ◌<◌, ◌�
 use Rattle.std.specs.Prelude.{◌↔◌, slice_get}
 use Rattle.std.specs.Option.{option_map_or}
 use Rattle.std.specs.List.{list_any, position_from}
+use Rattle.std.specs.Ordering.{is_eq}
 use Rattle.std.specs.Str.{bytes_eq}
+use Rattle.std.proofs.Math.Bool.{and-true}
 use Rattle.std.proofs.Math.Seq.{drop-cons}
 use Rattle.std.proofs.lemmas.Bool.{and_from, and_parts, false≢true, false_from_ne_true, not_from_false}
 use Rattle.std.proofs.lemmas.List.{map-append, take_more}
+use Rattle.deb_version.specs.Order.{version_order}
 use Rattle.listed.specs.Lists.{Ascending, Inside, In, has, here, there}
 use Rattle.row_book.specs.Numbers.{numbers}
 use Rattle.listed.proofs.Bools.{same_bool}
@@ -14,8 +17,9 @@ use Rattle.listed.proofs.Lists.{In_cases, In_map, In_map_cases, In_has, In_none,
 use Rattle.listed.proofs.Orders.{ascending_filter, ascending_same}
 use Rattle.row_book.proofs.Numbers.{numbers_ascending, numbers_from as number_in}
 use Rattle.repo_model.specs.declared.goals.Goal.{Goal}
-use Rattle.package_register.specs.Numbers.{numbers_where, passes_at}
-use Rattle.package_register.proofs.Numbered.{numbered_pass, passing_numbered}
+use Rattle.package_register.specs.Numbers.{if_so, numbers_from, numbers_where, passes_at}
+use Rattle.package_register.specs.Registers.{has_name, is_version_of}
+use Rattle.package_register.proofs.Numbered.{numbered_pass, numbers_from-cons, passing_numbered}
 use Rattle.kernel_text.specs.declared.member.Member.{Member}
 use Rattle.kernel_text.specs.Images.{class_at, image_of, is_named_by, is_named_in, is_unknown, names_in_class, unknown_goal}
 
@@ -63,6 +67,25 @@ module _ (members : List Member) (goal : Goal) where
       let class : class_at members at.0 ≡ n = ap (λ found. option_map_or (λ m. m.class) found 0) at.1 ∙ sym (eqb-true n w.0.class (and_parts _ _ w.2).0) in
       In_has (subst (λ k. In k (map (class_at members) all)) class (In_map (class_at members) all at.0 i)) in
       ap (λ cs. has cs n) are ∙ same_bool _ _ to back
+
+-- as the tests are the same, so are the numbers
+numbers_same : {X : Type 0} (p q : X → Bool) → ((x : X) → p x ≡ q x) → (n : ℕ) (xs : List X) → numbers_from n p xs ≡ numbers_from n q xs
+numbers_same p q same n [] = refl
+numbers_same p q same n (x ∷ xs) = numbers_from-cons p n x xs ∙ ap₂ (λ b ns. if_so b n ++ ns) (same x) (numbers_same p q same (n + 1) xs) ∙ sym (numbers_from-cons q n x xs)
+
+-- the members that a goal names, by whether it asks for a version
+module _ (members : List Member) (goal : Goal) (name : List ℕ) (is : name ≡ goal.name) where
+  pub of_version : (version : List ℕ) → goal.version ≡ Some version → numbers_where (is_version_of (λ m. m.name) (λ m. m.version) name version) members ≡ numbers_where (is_named_by goal) members
+  of_version version asked =
+      numbers_same (is_version_of (λ m. m.name) (λ m. m.version) name version) (is_named_by goal)
+      (λ m. ap (λ n. bytes_eq n m.name && is_eq (version_order m.version version)) is
+      ∙ ap (λ v. bytes_eq goal.name m.name && option_map_or (λ w. is_eq (version_order m.version w)) v true) (sym asked)) 0 members
+
+  pub of_any : goal.version ≡ None → numbers_where (has_name (λ m. m.name) name) members ≡ numbers_where (is_named_by goal) members
+  of_any asked =
+      numbers_same (has_name (λ m. m.name) name) (is_named_by goal)
+      (λ m. ap (λ n. bytes_eq n m.name) is ∙ sym (and-true (bytes_eq goal.name m.name))
+      ∙ ap (λ v. bytes_eq goal.name m.name && option_map_or (λ w. is_eq (version_order m.version w)) v true) (sym asked)) 0 members
 
 -- in their order, each once, they are the image
 pub image_is : (members : List Member) (size : ℕ) (goal : Goal) (classes image : List ℕ) → ((m : Member) → In m members → m.class < size) → AreClasses members goal classes → Ascending image →

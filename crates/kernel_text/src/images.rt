@@ -93,12 +93,20 @@ fn chosen_by(
 
 // The classes of the members of these numbers.
 fn classes_of(alloc: Global, members: &[Member], numbers: &[u32]) -> Result<Vec<u32>, AllocError>
-    requires { (n : ℕ) → In n numbers.now → n < length members.now }
     ensures { IfOk result (λ classes. classes.items ≡ map (class_at members.now) numbers.now) }
 {
-    let mut classes = Vec::with_capacity(alloc, numbers.len())?;
-    for number in numbers {
-        classes.push(members[*number as usize].class)?;
+    numbers
+        .iter()
+        .map(|number| class_at(members, *number))
+        .collect(alloc)
+}
+
+// The class of the member of a number.
+fn class_at(members: &[Member], number: u32) -> u32
+    ensures { result ≡ class_at members.now number }
+{
+    match members.get(number as usize) {
+        Some(member) => member.class,
+        None => 0,
     }
-    Ok(classes)
 }

@@ -1,5 +1,5 @@
 //! Which packages come into a mix: those of the newer index whose names are in a set, and those of the older one whose names are not.
-ghost use Rattle.std.specs.Prelude.{◌≡◌, false, true, map, replicate, slice_set, IfOk};
+ghost use Rattle.std.specs.Prelude.{◌≡◌, false, true, filter, length, map, not, replicate, slice_set, IfOk};
 ghost use Rattle.migrate_plan.specs.Flagged.{Raises};
 ghost use Rattle.migrate_plan.specs.Mix.{count_named, is_left, is_taken};
 
@@ -33,7 +33,15 @@ pub(crate) fn left_flags(
     ensures { IfOk result (λ flags. flags.items ≡ map (λ facts. is_left taken.now facts.name) suite.now.packages) }
 {
     let taken = taken_flags(alloc, suite, taken)?;
-    taken.iter().map(|flag| !*flag).collect(alloc)
+    let left = others(alloc, &taken)?;
+    Ok(left)
+}
+
+// For each flag whether it is not up.
+fn others(alloc: Global, flags: &[bool]) -> Result<Vec<bool>, AllocError>
+    ensures { IfOk result (λ made. made.items ≡ map not flags.now) }
+{
+    flags.iter().map(|flag| !*flag).collect(alloc)
 }
 
 // So many flags, none of them up.
@@ -71,5 +79,12 @@ pub(crate) fn count_among(
     ensures { IfOk result (λ count. count ≡ count_named names.now suite.now.packages) }
 {
     let flags = taken_flags(alloc, suite, names)?;
-    Ok(flags.iter().filter(|flag| **flag).count())
+    Ok(count_raised(&flags))
+}
+
+// How many flags are up.
+fn count_raised(flags: &[bool]) -> usize
+    ensures { result ≡ length (filter (λ flag. flag) flags.now) }
+{
+    flags.iter().filter(|flag| **flag).count()
 }

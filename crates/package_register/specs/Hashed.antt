@@ -1,4 +1,3 @@
--- for the bodies of this crate alone
 -- Lists of numbers by hashes.
 use Rattle.std.specs.Prelude.{◌≡◌, ℕ, ◌-◌, ◌++◌, Bool, false, ◌==◌, eqb, nat_eq, if◌then◌else◌, List, [], ◌∷◌, length, slice_get}
 use Rattle.std.specs.Hash.FoldHasher as folding

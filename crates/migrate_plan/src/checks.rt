@@ -82,7 +82,8 @@ fn packages_with(
 ) -> Result<u64, AllocError>
     ensures { IfOk result (λ count. count ≡ packages_with old.now.packages new.now.packages names.now) }
 {
-    let count = old.count() as u64 + count_among(alloc, new, names)? as u64;
+    let found = count_among(alloc, new, names)?;
+    let count = old.count() as u64 + found as u64;
     Ok(count)
 }
 

@@ -21,8 +21,11 @@ pub(crate) fn differing_names(
 ) -> Result<NameList, AllocError>
     ensures { IfOk result (λ names. names ≡ differing old.now.packages new.now.packages) }
 {
-    let names = names_of_either(alloc, old.packages.as_slice(), new.packages.as_slice())?;
-    those_that_differ(alloc, names.as_slice(), old, new)
+    let before = old.packages.as_slice();
+    let after = new.packages.as_slice();
+    let names = names_of_either(alloc, before, after)?;
+    let found = those_that_differ(alloc, names.as_slice(), old, new)?;
+    Ok(found)
 }
 
 // Those of the names that differ.
@@ -36,7 +39,8 @@ fn those_that_differ(
 {
     let mut made = NameList::new(alloc);
     for name in names {
-        if !differs(alloc, old, new, name.as_slice())? {
+        let differ = differs(alloc, old, new, name.as_slice())?;
+        if !differ {
             continue;
         }
         let copy = Bytes::copy(alloc, name.as_slice())?;

@@ -40,10 +40,20 @@ pub(crate) fn mix_with(
 fn with_tried(alloc: Global, taken: &[Bytes], tried: &[u8]) -> Result<Vec<Bytes>, AllocError>
     ensures { IfOk result (λ names. names.items ≡ taken.now ++ tried.now ∷ []) }
 {
-    let mut names = Vec::new(alloc);
-    for name in taken {
-        names.push(Bytes::copy(alloc, name.as_slice())?)?;
-    }
-    names.push(Bytes::copy(alloc, tried)?)?;
+    let mut names = copies_of(alloc, taken)?;
+    let last = Bytes::copy(alloc, tried)?;
+    names.push(last)?;
     Ok(names)
+}
+
+// Copies of the names.
+fn copies_of(alloc: Global, names: &[Bytes]) -> Result<Vec<Bytes>, AllocError>
+    ensures { IfOk result (λ made. made.items ≡ names.now) }
+{
+    let mut made = Vec::new(alloc);
+    for name in names {
+        let copy = Bytes::copy(alloc, name.as_slice())?;
+        made.push(copy)?;
+    }
+    Ok(made)
 }

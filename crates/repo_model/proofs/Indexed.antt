@@ -50,3 +50,10 @@ first_same facts packages numbers e =
     ap (λ ns. option_and_then (slice_get packages) (slice_get ns 0)) e
     ∙ first_where (is_version_of own_name own_version facts.name facts.version) packages
     ∙ find_same (is_version_of own_name own_version facts.name facts.version) (is_same_package facts) packages (λ x i. ap (λ b. bytes_eq facts.name x.name && b) (either_way x.version facts.version))
+
+-- and it is found by the numbers that a register gives
+pub found_same : (facts : PackageFacts) (packages : List PackageFacts) (name numbers lent : List ℕ) (first : Option PackageFacts) → name ≡ facts.name
+    → numbers ≡ numbers_where (is_version_of own_name own_version name facts.version) packages → lent ≡ numbers → first ≡ option_and_then (slice_get packages) (slice_get lent 0) → find (is_same_package facts) packages ≡ first
+found_same facts packages name numbers lent first same are value told =
+    sym (told ∙ ap (λ ns. option_and_then (slice_get packages) (slice_get ns 0)) value
+    ∙ first_same facts packages numbers (are ∙ ap (λ n. numbers_where (is_version_of own_name own_version n facts.version) packages) same))

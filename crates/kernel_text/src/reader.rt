@@ -269,7 +269,8 @@ fn enter(
     ensures { IfOk result (Enters members.now member.now register.new) }
 {
     let name = member.name.as_slice();
-    let same = register.versioned(alloc, members, name, &member.version)?;
+    let found = register.versioned(alloc, members, name, &member.version)?;
+    let same = found.as_slice();
     if !same.is_empty() {
         return Ok(false);
     }

@@ -38,13 +38,14 @@ pub(crate) fn look_up(
     let mut lines = HaveList::new(alloc);
     let mut classes = Needs::new(alloc);
     for facts in packages {
-        let numbers = numbers_of(alloc, &view.suite, facts)?;
+        let found = numbers_of(alloc, &view.suite, facts)?;
+        let numbers = found.as_slice();
         let line = line_of(alloc, facts, !numbers.is_empty())?;
         lines.push(line)?;
         if numbers.is_empty() {
             continue;
         }
-        let image = image_of(alloc, view, &numbers)?;
+        let image = image_of(alloc, view, numbers)?;
         classes.push(&image)?;
     }
     Ok(Had { lines, classes })

@@ -6,7 +6,7 @@ ghost use Rattle.suite_compare.specs.Answering.{unknown_goal};
 ghost use Rattle.explain_core.specs.Explaining.{OnUnknown};
 
 use crate::explanation::ExplainError;
-use repo_model::{Goal, NamedPackages};
+use repo_model::Goal;
 use row_book::Needs;
 use std::alloc::{AllocError, Global};
 use suite_compare::{SuiteView, image_of};
@@ -21,10 +21,9 @@ pub(crate) fn wanted_by(
     ensures known { OnOk result (unknown_goal view.now.suite.packages goals.now ≡ None) }
     ensures unknown { IfErr result (OnUnknown (λ goal. unknown_goal view.now.suite.packages goals.now ≡ Some goal)) }
 {
-    let named = NamedPackages::of(alloc, &view.suite, goals)?;
     let mut wanted = Needs::new(alloc);
     for (place, goal) in goals.iter().enumerate() {
-        let chosen = named.chosen_by(alloc, &view.suite, goal)?;
+        let chosen = view.suite.chosen_by(alloc, goal)?;
         if chosen.is_empty() {
             return Err(ExplainError::Unknown {
                 goal: place as u64 + 1,

@@ -1,11 +1,15 @@
 -- Which clause may stand next, told by the kind of the last line.
-use Rattle.std.proofs.Common.{◌≡◌, ℕ, true, false, ◌&&◌, eqb, ltb, List, [], ◌∷◌, Option, Some, None, inl, inr, refl, sym, subst, eq-eqb}
+use Rattle.std.proofs.Common.{◌≡◌, ℕ, ◌-◌, true, false, ◌&&◌, eqb, ltb, List, [], ◌∷◌, ◌++◌, length, Option, Some, None, inl, inr, refl, sym, ap, ◌∙◌, subst, eq-eqb, arith, length-append}
+use Rattle.std.specs.Prelude.{slice_get}
+use Rattle.std.specs.Option.{option_map_or}
 use Rattle.std.proofs.lemmas.Bool.{and_from, both_ways, false≢true, lt-ltb, or_left, or_right}
 use Rattle.clause_pool.specs.Lists.{Before}
 use Rattle.clause_pool.specs.Clauses.{comes_before}
 use Rattle.clause_pool.proofs.Order.{before_test, before_is}
 use Rattle.kernel_text.specs.KernelLines.{KernelLine, HeadLine, ClassLine, MemberLine, HeldLine, NeedsLine, AgainstLine, EndLine}
-use Rattle.kernel_text.specs.Reader.{kind_of_last, may_add_clause}
+use Rattle.listed.proofs.Lists.{at_end}
+use Rattle.kernel_text.specs.declared.reader.Clause.{Clause}
+use Rattle.kernel_text.specs.Reader.{kind_of_last, last_clause, may_add_clause}
 use Rattle.kernel_text.specs.Reading.{MayAddClause}
 
 abbrev IsPrevious : Option KernelLine → List ℕ → Type 0
@@ -33,3 +37,9 @@ may_not_clause (Some (EndLine x y)) previous c h e m = m
 
 pub same_clause : (c d : List ℕ) → Some (NeedsLine c) ≡ Some (NeedsLine d) → c ≡ d
 same_clause c d e = cc
+
+-- the clause that was put behind the others is the last one
+pub last_pushed : (clauses : List Clause) (c : Clause) → last_clause (clauses ++ c ∷ []) ≡ c.numbers
+last_pushed clauses c =
+    let last : length (clauses ++ c ∷ []) - 1 ≡ length clauses = omega (arith, length-append clauses (c ∷ [])) in
+    ap (λ i. option_map_or (λ d. d.numbers) (slice_get (clauses ++ c ∷ []) i) []) last ∙ ap (λ found. option_map_or (λ d. d.numbers) found []) (at_end clauses c)

@@ -1,54 +1,91 @@
 -- The classes that goals name, goal by goal.
-use Rattle.std.proofs.Common.{◌≡◌, ℕ, zero, suc, ◌+◌, ◌<◌, ◌≤◌, Bool, true, false, not, ◌&&◌, ◌||◌, ◌==◌, eqb, eqb-true, eq-eqb, List, [], ◌∷◌, ◌++◌, length, map, filter, take, drop, get_or, Some, None, refl, sym, ap, ap₂, ◌∙◌, subst, cond, add-zero, zero-add, arith}
-use Rattle.std.specs.Prelude.{◌↔◌}
+use Rattle.std.proofs.Common.{◌≡◌, ℕ, zero, suc, ◌+◌, ◌<◌, ◌≤◌, Bool, true, false, not, ◌&&◌, ◌||◌, ◌==◌, eqb, eqb-true, eq-eqb, List, [], ◌∷◌, ◌++◌, length, map, filter, take, drop, get_or, Option, Some, None, inl, inr, refl, sym, ap, ap₂, ◌∙◌, subst, cond, add-zero, zero-add, arith}
+use Rattle.std.specs.Prelude.{◌↔◌, slice_get}
+use Rattle.std.specs.Option.{option_map_or}
 use Rattle.std.specs.List.{list_any, position_from}
+use Rattle.std.specs.Ordering.{is_eq}
 use Rattle.std.specs.Str.{bytes_eq}
+use Rattle.std.proofs.Math.Bool.{and-true}
 use Rattle.std.proofs.Math.Seq.{drop-cons}
 use Rattle.std.proofs.lemmas.Bool.{and_from, and_parts, false≢true, false_from_ne_true, not_from_false}
 use Rattle.std.proofs.lemmas.List.{map-append, take_more}
-use Rattle.std.proofs.lemmas.List.Folds.{list_any_more}
-use Rattle.listed.specs.Lists.{Ascending, Inside, In, has, here}
+use Rattle.deb_version.specs.Order.{version_order}
+use Rattle.listed.specs.Lists.{Ascending, Inside, In, has, here, there}
 use Rattle.row_book.specs.Numbers.{numbers}
-use Rattle.listed.proofs.Lists.{In_has, In_none, any_cases, any_from, filter_cases, filter_from, has_In}
+use Rattle.listed.proofs.Bools.{same_bool}
+use Rattle.listed.proofs.Lists.{In_cases, In_map, In_map_cases, In_has, In_none, any_cases, any_from, filter_cases, filter_from, has_In}
 use Rattle.listed.proofs.Orders.{ascending_filter, ascending_same}
 use Rattle.row_book.proofs.Numbers.{numbers_ascending, numbers_from as number_in}
 use Rattle.repo_model.specs.declared.goals.Goal.{Goal}
-use Rattle.virtual_provides.specs.Bearers.{if_so}
-use Rattle.virtual_provides.specs.Numbers.{numbers_from, numbers_where, passes_at}
-use Rattle.virtual_provides.proofs.Numbered.{numbers_from-cons}
+use Rattle.package_register.specs.Numbers.{if_so, numbers_from, numbers_where, passes_at}
+use Rattle.package_register.specs.Registers.{has_name, is_version_of}
+use Rattle.package_register.proofs.Numbered.{numbered_pass, numbers_from-cons, passing_numbered}
 use Rattle.kernel_text.specs.declared.member.Member.{Member}
-use Rattle.kernel_text.specs.Images.{image_of, is_named_by, is_named_in, is_unknown, names_in_class, unknown_goal}
-use Rattle.kernel_text.specs.Named.{AreClasses}
+use Rattle.kernel_text.specs.Images.{class_at, image_of, is_named_by, is_named_in, is_unknown, names_in_class, unknown_goal}
 
--- one more item that is asked
-pub any_asked : {X : Type 0} (test : X → Bool) (items : List X) (i : ℕ) (x : X) (before after : Bool) → i < length items → x ≡ get_or items i x → before ≡ list_any test (take i items) →
-    after ≡ (before || test x) → after ≡ list_any test (take (i + 1) items)
-any_asked test items i x before after l is sofar step =
-    step ∙ ap (λ b. b || test x) sofar ∙ ap (λ y. list_any test (take i items) || test y) is ∙ sym (list_any_more test items i x l)
+-- items by their numbers
+pub got_in : {X : Type 0} (items : List X) (i : ℕ) (x : X) → slice_get items i ≡ Some x → In x items
+got_in [] i x e = absurd (let f : ⊥ = cc in f)
+got_in (y ∷ items) zero x e = let same : x ≡ y = cc in subst (λ z. In x (z ∷ items)) same here
+got_in (y ∷ items) (suc i) x e = there (got_in items i x e)
 
--- an item passes a test where one of those does that pass a broader one
-any_behind : (passes : ℕ → Bool) (n : ℕ) (all : List ℕ) (rest : Bool) → list_any passes all ≡ rest → (b t : Bool) → (t ≡ true → b ≡ true) → passes n ≡ t → list_any passes (if_so b n ++ all) ≡ (t || rest)
-any_behind passes n all rest e true t h at = ap₂ (λ a b. a || b) at e
-any_behind passes n all rest e false true h at = absurd (false≢true (h refl))
-any_behind passes n all rest e false false h at = e
+pub in_got : {X : Type 0} (items : List X) (x : X) → In x items → (i : ℕ) × (slice_get items i ≡ Some x)
+in_got [] x j = absurd (In_none j)
+in_got (y ∷ items) x j =
+    elim (In_cases j) [
+      | inl e ↦ (0, ap (λ z. Some z) (sym e))
+      | inr k ↦ let w : (i : ℕ) × (slice_get items i ≡ Some x) = in_got items x k in (suc w.0, w.1)
+    ]
 
-module _ {X : Type 0} (test broad : X → Bool) (broader : (x : X) → test x ≡ true → broad x ≡ true) where
-  any_numbers : (all items : List X) (n : ℕ) → ((k : ℕ) → passes_at test all (n + k) ≡ passes_at test items k) → list_any (passes_at test all) (numbers_from n broad items) ≡ list_any test items
-  any_numbers all [] n same = refl
-  any_numbers all (x ∷ items) n same =
-      let onward : (k : ℕ) → passes_at test all (n + 1 + k) ≡ passes_at test items k = λ k. let place : n + 1 + k ≡ n + suc k = omega arith in ap (passes_at test all) place ∙ same (suc k) in
-      rw (numbers_from-cons broad n x items)
-      (any_behind (passes_at test all) n (numbers_from (n + 1) broad items) (list_any test items) (any_numbers all items (n + 1) onward) (broad x) (test x) (broader x) (ap (passes_at test all) (sym (add-zero n)) ∙ same 0))
+-- the classes are those with a package that the goal names
+abbrev pub AreClasses : List Member → Goal → List ℕ → Type 0
+AreClasses members goal classes = (n : ℕ) → has classes n ≡ names_in_class members goal n
 
-  pub any_numbered : (items : List X) → list_any (passes_at test items) (numbers_where broad items) ≡ list_any test items
-  any_numbered items = any_numbers items items 0 (λ k. ap (passes_at test items) (zero-add k))
+module _ (members : List Member) (goal : Goal) where
+  member_at : (i : ℕ) → passes_at (is_named_by goal) members i ≡ true → (m : Member) × In m members × (is_named_by goal m ≡ true) × (class_at members i ≡ m.class)
+  member_at i = by (slice_get members i) refl
+    where
+      by : (found : Option Member) → slice_get members i ≡ found → option_map_or (is_named_by goal) found false ≡ true → (m : Member) × In m members × (is_named_by goal m ≡ true) × (class_at members i ≡ m.class)
+      by None e h = absurd (false≢true h)
+      by (Some m) e h = (m, got_in members i m e, h, ap (λ found. option_map_or (λ m. m.class) found 0) e)
 
--- the classes of the members of a goal's name that it names are all that it names
-pub classes_named : (members : List Member) (goal : Goal) (numbers classes : List ℕ) → numbers ≡ numbers_where (λ m. bytes_eq goal.name m.name) members →
-    ((n : ℕ) → has classes n ≡ list_any (passes_at (is_named_in goal n) members) numbers) → AreClasses members goal classes
-classes_named members goal numbers classes are asked n =
-    asked n ∙ ap (list_any (passes_at (is_named_in goal n) members)) are
-    ∙ any_numbered (is_named_in goal n) (λ m. bytes_eq goal.name m.name) (λ m h. (and_parts _ _ (and_parts _ _ h).1).0) members
+  -- as the classes of the members that it names are
+  pub classes_named : (classes : List ℕ) → classes ≡ map (class_at members) (numbers_where (is_named_by goal) members) → AreClasses members goal classes
+  classes_named classes are n =
+      let all = numbers_where (is_named_by goal) members in
+      let to : has (map (class_at members) all) n ≡ true → names_in_class members goal n ≡ true = λ h.
+      let w : (k : ℕ) × In k all × (n ≡ class_at members k) = In_map_cases (class_at members) all n (has_In (map (class_at members) all) n h) in
+      let p : (i : ℕ) × (w.0 ≡ 0 + i) × (passes_at (is_named_by goal) members i ≡ true) = numbered_pass (is_named_by goal) 0 members w.0 w.1 in
+      let m : (m : Member) × In m members × (is_named_by goal m ≡ true) × (class_at members p.0 ≡ m.class) = member_at p.0 p.2 in
+      let class : n ≡ m.0.class = w.2 ∙ ap (class_at members) (p.1 ∙ zero-add p.0) ∙ m.3 in
+      any_from (is_named_in goal n) members m.0 m.1 (and_from (eqb n m.0.class) (is_named_by goal m.0) (eq-eqb n m.0.class class) m.2) in
+      let back : names_in_class members goal n ≡ true → has (map (class_at members) all) n ≡ true = λ h.
+      let w : (m : Member) × In m members × (is_named_in goal n m ≡ true) = any_cases (is_named_in goal n) members h in
+      let at : (i : ℕ) × (slice_get members i ≡ Some w.0) = in_got members w.0 w.1 in
+      let passes : passes_at (is_named_by goal) members at.0 ≡ true = ap (λ found. option_map_or (is_named_by goal) found false) at.1 ∙ (and_parts _ _ w.2).1 in
+      let i : In at.0 all = subst (λ k. In k all) (zero-add at.0) (passing_numbered (is_named_by goal) 0 members at.0 passes) in
+      let class : class_at members at.0 ≡ n = ap (λ found. option_map_or (λ m. m.class) found 0) at.1 ∙ sym (eqb-true n w.0.class (and_parts _ _ w.2).0) in
+      In_has (subst (λ k. In k (map (class_at members) all)) class (In_map (class_at members) all at.0 i)) in
+      ap (λ cs. has cs n) are ∙ same_bool _ _ to back
+
+-- as the tests are the same, so are the numbers
+numbers_same : {X : Type 0} (p q : X → Bool) → ((x : X) → p x ≡ q x) → (n : ℕ) (xs : List X) → numbers_from n p xs ≡ numbers_from n q xs
+numbers_same p q same n [] = refl
+numbers_same p q same n (x ∷ xs) = numbers_from-cons p n x xs ∙ ap₂ (λ b ns. if_so b n ++ ns) (same x) (numbers_same p q same (n + 1) xs) ∙ sym (numbers_from-cons q n x xs)
+
+-- the members that a goal names, by whether it asks for a version
+module _ (members : List Member) (goal : Goal) (name : List ℕ) (is : name ≡ goal.name) where
+  pub of_version : (version : List ℕ) → goal.version ≡ Some version → numbers_where (is_version_of (λ m. m.name) (λ m. m.version) name version) members ≡ numbers_where (is_named_by goal) members
+  of_version version asked =
+      numbers_same (is_version_of (λ m. m.name) (λ m. m.version) name version) (is_named_by goal)
+      (λ m. ap (λ n. bytes_eq n m.name && is_eq (version_order m.version version)) is
+      ∙ ap (λ v. bytes_eq goal.name m.name && option_map_or (λ w. is_eq (version_order m.version w)) v true) (sym asked)) 0 members
+
+  pub of_any : goal.version ≡ None → numbers_where (has_name (λ m. m.name) name) members ≡ numbers_where (is_named_by goal) members
+  of_any asked =
+      numbers_same (has_name (λ m. m.name) name) (is_named_by goal)
+      (λ m. ap (λ n. bytes_eq n m.name) is ∙ sym (and-true (bytes_eq goal.name m.name))
+      ∙ ap (λ v. bytes_eq goal.name m.name && option_map_or (λ w. is_eq (version_order m.version w)) v true) (sym asked)) 0 members
 
 -- in their order, each once, they are the image
 pub image_is : (members : List Member) (size : ℕ) (goal : Goal) (classes image : List ℕ) → ((m : Member) → In m members → m.class < size) → AreClasses members goal classes → Ascending image →

@@ -15,8 +15,6 @@ pub mod Written
 pub mod Numerals
 pub mod LineWords
 pub mod NumberWords
-pub mod MemberTable
-pub mod MemberKeys
 pub mod Rising
 pub mod ClauseTaken
 pub mod Cuts
@@ -35,3 +33,4 @@ pub mod Marks
 pub mod JsonTexts
 pub mod GoalImages
 pub mod ReadBack
+pub mod Membership

@@ -1,5 +1,5 @@
 -- The classes of a stored kernel that goals name.
-use Rattle.std.specs.Prelude.{◌≡◌, ⊤, ℕ, Bool, true, not, ◌&&◌, eqb, List, Option, Some, filter}
+use Rattle.std.specs.Prelude.{◌≡◌, ⊤, ℕ, Bool, true, not, ◌&&◌, eqb, List, Option, Some, filter, slice_get}
 use Rattle.std.specs.List.{list_any, position_from}
 use Rattle.std.specs.Option.{option_map_or}
 use Rattle.std.specs.Ordering.{is_eq}
@@ -14,6 +14,10 @@ use Rattle.kernel_text.specs.declared.member.Member.{Member}
 -- the package has the goal's name, and a version that compares as equal where the goal has one
 abbrev pub is_named_by : Goal → Member → Bool
 is_named_by goal m = bytes_eq goal.name m.name && option_map_or (λ version. is_eq (version_order m.version version)) goal.version true
+
+-- the class of the member of a number
+abbrev pub class_at : List Member → ℕ → ℕ
+class_at members n = option_map_or (λ m. m.class) (slice_get members n) 0
 
 -- the package is of the class, and the goal names it
 abbrev pub is_named_in : Goal → ℕ → Member → Bool

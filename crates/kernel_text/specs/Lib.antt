@@ -10,11 +10,9 @@ pub mod Writing
 pub mod Numbers
 pub mod Words
 pub mod KernelFaults
-pub mod MemberTables
 pub mod Reader
 pub mod Strays
 pub mod Booking
 pub mod Images
-pub mod Named
 pub mod KernelJson
 pub mod JsonData

@@ -3,6 +3,8 @@ use Rattle.std.specs.Prelude.{ℕ, List, [], ◌∷◌}
 use Rattle.std.specs.List.{flat_map}
 use Rattle.relation_fields.specs.declared.packages.PackageFacts.{PackageFacts}
 use Rattle.row_book.specs.Numbers.{numbers}
+use Rattle.package_register.specs.Registers.{IsRegisterOf, IsRegisterOf-prop}
+use Rattle.package_register.specs.declared.register.Register.{Register}
 use Rattle.kernel_text.specs.declared.member.Member.{Member}
 use Rattle.kernel_text.specs.KernelText.{members_of}
 
@@ -18,3 +20,11 @@ file_members packages class_of = []
 -- the members of so many classes, class by class, and in file order within a class
 unfoldable pub kernel_members : List PackageFacts → List ℕ → ℕ → List Member
 kernel_members packages class_of classes = flat_map (members_of (file_members packages class_of)) (numbers classes 0)
+
+-- each member is found by its name and its version
+abbrev pub IsMemberRegister : List Member → Register → Type 0
+IsMemberRegister members register = IsRegisterOf (λ m. m.name) (λ m. m.version) members register
+
+-- This fact has one proof at most, so that a stored kernel may keep it.
+pub IsMemberRegister-prop : (members : List Member) (register : Register) → IsProp (IsMemberRegister members register)
+IsMemberRegister-prop members register = IsRegisterOf-prop (λ m. m.name) (λ m. m.version) members register

@@ -1,6 +1,7 @@
 -- for the bodies of this crate alone
 -- What a reader of kernel texts holds of the lines so far.
-use Rattle.std.specs.Prelude.{◌≡◌, ℕ, ◌≤◌, Bool, true, false, nat_lt, List, length, take, drop, map, Option, Some, None}
+use Rattle.std.specs.Prelude.{◌≡◌, ℕ, ◌≤◌, ◌-◌, Bool, true, false, nat_lt, List, [], ◌∷◌, ◌++◌, length, take, drop, map, slice_get, Option, Some, None}
+use Rattle.std.specs.Option.{option_map_or}
 use Rattle.clause_pool.specs.Clauses.{comes_before}
 use Rattle.kernel_text.specs.declared.reader.Clause.{Clause}
 use Rattle.kernel_text.specs.declared.reader.LastLine.{LastLine}
@@ -8,8 +9,10 @@ use Rattle.kernel_text.specs.declared.reader.LastLine.TheVariants as last
 use Rattle.kernel_text.specs.declared.reader.Reader.{Reader}
 use Rattle.kernel_text.specs.KernelLines.{KernelLine, HeadLine, ClassLine, MemberLine, HeldLine, NeedsLine, AgainstLine, EndLine, lines_of, line_text}
 use Rattle.kernel_text.specs.KernelReads.{IsEnded, IsInRange, LinesGive}
-use Rattle.kernel_text.specs.MemberTables.{IsTableOf}
-use Rattle.kernel_text.specs.Reading.{Reading, ClassClause, empty_reading, with_line, IsAllowed}
+use Rattle.kernel_text.specs.Members.{IsMemberRegister}
+use Rattle.package_register.specs.declared.register.Register.{Register}
+use Rattle.kernel_text.specs.declared.member.Member.{Member}
+use Rattle.kernel_text.specs.Reading.{Reading, ClassClause, empty_reading, with_line, IsAllowed, IsNew}
 
 -- the kind of the last line, with what of it bears on the next one
 abbrev pub kind_of_last : Option KernelLine → LastLine
@@ -60,14 +63,23 @@ may_add_conflict line m = false
 abbrev pub entry_of : Clause → ClassClause
 entry_of c = record { class = c.class; clause = c.numbers }
 
+-- the last of the clauses that were read
+abbrev pub last_clause : List Clause → List ℕ
+last_clause clauses = option_map_or (λ c. c.numbers) (slice_get clauses (length clauses - 1)) []
+
+-- by whether the member is new
+abbrev pub Enters : List Member → Member → Register → Bool → Type 0
+Enters members m register true = IsNew m members × IsMemberRegister (members ++ m ∷ []) register
+Enters members m register false = IsNew m members → ⊥
+
 -- the reader holds what the lines so far say
 pub record Holds (reader : Reader) (t : Reading) : Type 0 where
   pub last : reader.last ≡ kind_of_last t.last
-  pub previous : (clause : List ℕ) → t.last ≡ Some (NeedsLine clause) → reader.previous ≡ clause
+  pub previous : (clause : List ℕ) → t.last ≡ Some (NeedsLine clause) → last_clause reader.clauses ≡ clause
   pub of_format : reader.format ≡ t.format
   pub classes : reader.classes ≡ t.classes
   pub members : reader.members ≡ t.members
-  pub known : IsTableOf reader.members reader.table
+  pub known : IsMemberRegister reader.members reader.register
   pub held : reader.held ≡ t.held
   pub clauses : map entry_of reader.clauses ≡ t.clauses
   pub conflicts : reader.conflicts ≡ t.conflicts

@@ -2,18 +2,19 @@
 ghost use Rattle.std.specs.Prelude.{◌≡◌, ◌<◌, ◌-◌, ℕ, true, IfOk};
 ghost use Rattle.listed.specs.Lists.{In};
 ghost use Rattle.kernel_text.specs.KernelLines.{AgainstLine, ClassLine, EndLine, HeadLine, HeldLine, MemberLine, NeedsLine};
-ghost use Rattle.kernel_text.specs.Reader.{Adds, EndIsTold, Holds, may_add_clause, may_add_conflict, may_add_held, may_add_member, may_begin, Takes};
+ghost use Rattle.kernel_text.specs.Reader.{last_clause, Adds, EndIsTold, Enters, Holds, may_add_clause, may_add_conflict, may_add_held, may_add_member, may_begin, Takes};
+ghost use Rattle.kernel_text.specs.Members.{IsMemberRegister};
 ghost use Rattle.kernel_text.specs.Reading.{empty_reading, IsFormat, IsNamed, number_limit, Reading};
 ghost use Rattle.kernel_text.specs.Words.{IsWellFormed, line_of_content};
 
 use crate::clause_shape::{is_ascending, is_before};
 use crate::content::LineContent;
 use crate::member::Member;
-use crate::member_table::MemberTable;
 use crate::read_line::read_line;
 use clause_pool::NumList;
 use deb_version::{Bytes, Version};
 use listed::Listed;
+use package_register::Register;
 use row_book::{Pair, holds};
 use std::alloc::{AllocError, Global};
 
@@ -37,16 +38,15 @@ pub(crate) struct Clause {
     pub(crate) numbers: NumList,
 }
 
-/// What the lines so far say: the last of them, with its clause where it is one, the format, how many classes have begun,
-/// the members with their classes and a table of them, the held classes, the clauses and the pairs of conflicting classes.
+/// What the lines so far say: the last of them, the format, how many classes have begun,
+/// the members with their classes and a register of them, the held classes, the clauses and the pairs of conflicting classes.
 #[derive(Drop)]
 pub(crate) struct Reader {
     pub(crate) last: LastLine,
-    pub(crate) previous: NumList,
     pub(crate) format: u32,
     pub(crate) classes: u32,
     pub(crate) members: Listed<Member>,
-    pub(crate) table: MemberTable,
+    pub(crate) register: Register,
     pub(crate) held: NumList,
     pub(crate) clauses: Listed<Clause>,
     pub(crate) conflicts: Listed<Pair>,
@@ -59,11 +59,10 @@ impl Reader {
     {
         Reader {
             last: LastLine::Nothing,
-            previous: NumList::new(alloc),
             format: 0,
             classes: 0,
             members: Listed::new(alloc),
-            table: MemberTable::new(alloc),
+            register: Register::new(alloc),
             held: NumList::new(alloc),
             clauses: Listed::new(alloc),
             conflicts: Listed::new(alloc),
@@ -92,7 +91,7 @@ impl Reader {
             LineContent::Class { number } => Ok(self.take_class(number)),
             LineContent::Member { name, version } => self.take_member(alloc, name, version),
             LineContent::Held => self.take_held(),
-            LineContent::Needs { clause } => self.take_clause(alloc, clause),
+            LineContent::Needs { clause } => self.take_clause(clause),
             LineContent::Against { class } => self.take_conflict(class),
             LineContent::End { classes, members } => Ok(self.take_end(classes, members)),
         }
@@ -149,7 +148,8 @@ impl Reader {
             name,
             version,
         };
-        let is_new = self.table.enter(alloc, self.members.as_slice(), &member)?;
+        let members = self.members.as_slice();
+        let is_new = enter(alloc, &mut self.register, members, &member)?;
         if !is_new {
             return Ok(false);
         }
@@ -175,13 +175,13 @@ impl Reader {
     }
 
     // Takes a clause of the class.
-    fn take_clause(&mut self, alloc: Global, clause: NumList) -> Result<bool, AllocError>
+    fn take_clause(&mut self, clause: NumList) -> Result<bool, AllocError>
         requires { (l : ℕ) → In l clause → l < number_limit }
         ensures { (t : Reading) → Holds self.old t → IfOk result (Takes t (NeedsLine clause) self.new) }
     {
         let class = self.this_class();
         let numbers = clause.as_slice();
-        if !may_add_clause(self.last, self.previous.as_slice(), numbers) {
+        if !may_add_clause(self.last, self.previous(), numbers) {
             return Ok(false);
         }
         if !is_ascending(numbers) {
@@ -190,14 +190,22 @@ impl Reader {
         if holds(numbers, class) {
             return Ok(false);
         }
-        let previous = NumList::of(Vec::from_slice(alloc, numbers)?);
         self.clauses.push(Clause {
             class,
             numbers: clause,
         })?;
-        self.previous = previous;
         self.last = LastLine::Needs;
         Ok(true)
+    }
+
+    // The last clause that was read.
+    fn previous(&self) -> &[u32]
+        ensures { result.now ≡ last_clause self.now.clauses }
+    {
+        match self.clauses.as_slice().last() {
+            Some(clause) => clause.numbers.as_slice(),
+            None => &[],
+        }
     }
 
     // Takes a conflict of the class.
@@ -248,6 +256,29 @@ impl Reader {
             _ => false,
         }
     }
+}
+
+// Enters a member behind the others where it is new, and tells whether it is.
+fn enter(
+    alloc: Global,
+    register: &mut Register,
+    members: &[Member],
+    member: &Member,
+) -> Result<bool, AllocError>
+    requires { IsMemberRegister members.now register.old }
+    ensures { IfOk result (Enters members.now member.now register.new) }
+{
+    let name = member.name.as_slice();
+    let found = register.versioned(alloc, members, name, &member.version)?;
+    let same = found.as_slice();
+    if !same.is_empty() {
+        return Ok(false);
+    }
+    let Ok(number) = u32::try_from(members.len()) else {
+        return Err(AllocError);
+    };
+    register.add(member, number)?;
+    Ok(true)
 }
 
 // Whether the clause may stand next, where the previous one is given.

@@ -7,6 +7,7 @@ ghost use Rattle.kernel_text.specs.declared.fault.KernelFault.TheVariants.{Memor
 ghost use Rattle.kernel_text.specs.declared.member.Member.{Member};
 ghost use Rattle.kernel_text.specs.KernelFaults.{IsFault};
 ghost use Rattle.kernel_text.specs.KernelReads.{KernelReads};
+ghost use Rattle.kernel_text.specs.Members.{IsMemberRegister, IsMemberRegister-prop};
 ghost use Rattle.repo_model.specs.Limits.{most_bytes};
 
 use crate::build_book::book_of;
@@ -16,6 +17,7 @@ use crate::read::read_text;
 use crate::reader::Reader;
 use clause_pool::{NumList, Pool};
 use listed::Listed;
+use package_register::Register;
 use row_book::Book;
 use std::alloc::Global;
 
@@ -33,14 +35,16 @@ pub struct StoredKernel {
     pub members: MemberList,
     /// The held classes, ascending.
     pub held: NumList,
+    // The packages by their names and versions, as they were read.
+    pub(crate) register: Register,
     ghost inside: { (m : Member) → In m members → m.class < length book.rows },
+    ghost registered: { IsMemberRegister members register } by { IsMemberRegister-prop members register },
 }
 
 /// Reads the text of a kernel: its format, its classes, over the pool, their packages and the held ones, or the first fault
 /// of the text. The pool gains the rows of the classes and their clauses alone, and by a fault of the text nothing; what it had
 /// stays, also where no memory is found. A text has at most 1,073,741,824 bytes, the limit that the program keeps for files. Time
-/// is linear in the text; equal packages are found by a hash of the name, and where several members share it by the name and the
-/// version's key.
+/// is linear in the text; equal packages are found by a register.
 pub fn read_kernel(
     alloc: Global,
     bytes: &[u8],
@@ -59,6 +63,7 @@ pub fn read_kernel(
     let Reader {
         format,
         members,
+        register,
         held,
         ..
     } = reader;
@@ -67,5 +72,6 @@ pub fn read_kernel(
         book,
         members,
         held,
+        register,
     })
 }

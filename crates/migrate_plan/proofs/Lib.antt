@@ -12,4 +12,4 @@ pub mod Pairwise
 pub mod Deciding
 pub mod Named
 pub mod Taken
-pub mod Entering
+pub mod Flagged

@@ -6,12 +6,10 @@ use Rattle.std.proofs.lemmas.List.{map-append}
 use Rattle.relation_fields.specs.declared.packages.PackageFacts.{PackageFacts}
 use Rattle.listed.specs.Lists.{In}
 use Rattle.repo_model.specs.Stanzas.{no_stanza, stanza_at}
-use Rattle.repo_model.proofs.Chosen.{number_cases}
-use Rattle.virtual_provides.specs.Bearers.{if_so}
-use Rattle.virtual_provides.specs.Numbers.{numbers_from, numbers_under, numbers_where}
-use Rattle.virtual_provides.specs.declared.numbers.NumbersByName.{NumbersByName}
-use Rattle.virtual_provides.proofs.Numbered.{numbers_from-cons}
-use Rattle.suite_compare.specs.Names.{HasNames}
+use Rattle.repo_model.specs.Goals.{any_version, packages_named}
+use Rattle.repo_model.proofs.Chosen.{named_is, number_cases}
+use Rattle.package_register.specs.Numbers.{if_so, numbers_from}
+use Rattle.package_register.proofs.Numbered.{numbers_from-cons}
 use Rattle.migrate_plan.specs.Differing.{packages_of_name}
 
 -- the packages of the numbers are those that pass the test, behind a front
@@ -30,11 +28,10 @@ numbered test all front (x ∷ items) whole =
     by false rest is later = later
 
 -- those of a name
-pub under_name : (packages : List PackageFacts) (table : NumbersByName) (name lent : List ℕ) → HasNames packages table → lent ≡ numbers_under table name → map (stanza_at packages) lent ≡ packages_of_name packages name
-under_name packages table name lent has is =
-    ap (map (stanza_at packages)) (is ∙ has.each name) ∙ numbered (λ facts. bytes_eq name facts.name) packages [] packages refl
+pub under_name : (packages : List PackageFacts) (name numbers : List ℕ) → numbers ≡ packages_named packages (any_version name) → map (stanza_at packages) numbers ≡ packages_of_name packages name
+under_name packages name numbers is =
+    ap (map (stanza_at packages)) (is ∙ sym (named_is packages name)) ∙ numbered (λ facts. bytes_eq name facts.name) packages [] packages refl
 
 -- and they are numbers of packages
-pub under_below : (packages : List PackageFacts) (table : NumbersByName) (name lent : List ℕ) → HasNames packages table → lent ≡ numbers_under table name → (n : ℕ) → In n lent → n < length packages
-under_below packages table name lent has is n i =
-    (number_cases (λ facts. bytes_eq name facts.name) packages n (subst (In n) (is ∙ has.each name) i)).0
+pub under_below : (packages : List PackageFacts) (name numbers : List ℕ) → numbers ≡ packages_named packages (any_version name) → (n : ℕ) → In n numbers → n < length packages
+under_below packages name numbers is n i = (number_cases (λ facts. bytes_eq name facts.name) packages n (subst (In n) (is ∙ sym (named_is packages name)) i)).0

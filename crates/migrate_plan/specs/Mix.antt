@@ -1,8 +1,9 @@
 -- A mix of two indexes: the stanzas of some names are those of the new index, all others are those of the old one.
-use Rattle.std.specs.Prelude.{ℕ, Bool, not, List, [], ◌∷◌, ◌++◌, map}
+use Rattle.std.specs.Prelude.{ℕ, Bool, not, List, [], ◌∷◌, ◌++◌, filter, length, map}
 use Rattle.std.specs.List.{list_any}
 use Rattle.std.specs.Str.{bytes_eq}
 use Rattle.stanza_reader.specs.Blanking.{blanked}
+use Rattle.relation_fields.specs.declared.packages.PackageFacts.{PackageFacts}
 use Rattle.suite_compare.specs.Refusals.{packages_in}
 
 abbrev pub is_taken : List (List ℕ) → List ℕ → Bool
@@ -18,3 +19,7 @@ only_names test text = blanked (map (λ facts. test facts.name) (packages_in tex
 -- the old text without the stanzas of the names that are taken, two line feeds, and the new text with these alone
 unfoldable pub mix : List ℕ → List ℕ → List (List ℕ) → List ℕ
 mix old new taken = (only_names (is_left taken) old ++ (10 ∷ (10 ∷ []))) ++ only_names (is_taken taken) new
+
+-- how many packages have one of the names
+abbrev pub count_named : List (List ℕ) → List PackageFacts → ℕ
+count_named names packages = length (filter (λ facts. is_taken names facts.name) packages)

@@ -4,10 +4,11 @@ ghost use Rattle.migrate_plan.specs.Refusals.{above, are_apart, bytes_with, home
 ghost use Rattle.migrate_plan.specs.declared.refusals.PlanError.TheVariants.{Names, Packages, TooLong};
 ghost use Rattle.repo_model.specs.Limits.{most_bytes, most_packages};
 
-use crate::flags::{count_among, table_of};
+use crate::flags::count_among;
 use crate::refusals::PlanError;
 use deb_version::Bytes;
-use relation_fields::{Home, PackageFacts};
+use relation_fields::Home;
+use repo_model::Suite;
 use std::alloc::{AllocError, Global};
 
 /// The most names that may differ.
@@ -58,14 +59,12 @@ pub(crate) fn check_names(names: &[Bytes]) -> Result<(), PlanError>
 /// Checks that the packages of the old index, and those of the new one that have one of the names, are not too many.
 pub(crate) fn check_packages(
     alloc: Global,
-    old: &[PackageFacts],
-    new: &[PackageFacts],
+    old: &Suite,
+    new: &Suite,
     names: &[Bytes],
 ) -> Result<(), PlanError>
-    requires old { length old.now ≤ most_packages }
-    requires new { length new.now ≤ most_packages }
-    ensures refused { IfErr result (λ error. Refuses error (above most_packages Packages (packages_with old.now new.now names.now))) }
-    ensures fine { OnOk result (above most_packages Packages (packages_with old.now new.now names.now) ≡ None) }
+    ensures refused { IfErr result (λ error. Refuses error (above most_packages Packages (packages_with old.now.packages new.now.packages names.now))) }
+    ensures fine { OnOk result (above most_packages Packages (packages_with old.now.packages new.now.packages names.now) ≡ None) }
 {
     let count = packages_with(alloc, old, new, names)?;
     if count > MOST_PACKAGES {
@@ -77,16 +76,14 @@ pub(crate) fn check_packages(
 // How many packages the old index has, and the new one of these names.
 fn packages_with(
     alloc: Global,
-    old: &[PackageFacts],
-    new: &[PackageFacts],
+    old: &Suite,
+    new: &Suite,
     names: &[Bytes],
 ) -> Result<u64, AllocError>
-    requires old { length old.now ≤ most_packages }
-    requires new { length new.now ≤ most_packages }
-    ensures { IfOk result (λ count. count ≡ packages_with old.now new.now names.now) }
+    ensures { IfOk result (λ count. count ≡ packages_with old.now.packages new.now.packages names.now) }
 {
-    let table = table_of(alloc, names)?;
-    let count = old.len() as u64 + count_among(new, &table) as u64;
+    let found = count_among(alloc, new, names)?;
+    let count = old.count() as u64 + found as u64;
     Ok(count)
 }
 

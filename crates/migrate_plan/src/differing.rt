@@ -1,54 +1,46 @@
 //! The names that differ between two indexes.
-ghost use Rattle.std.specs.Prelude.{◌≡◌, ◌<◌, ◌≤◌, ℕ, filter, length, map, slice_index, IfOk};
+ghost use Rattle.std.specs.Prelude.{◌≡◌, ◌<◌, ℕ, filter, length, map, slice_index, IfOk};
 ghost use Rattle.std.specs.Cmp.Lexicographic.{pointwise};
 ghost use Rattle.listed.specs.Lists.{In};
 ghost use Rattle.repo_model.specs.Stanzas.{stanza_at};
-ghost use Rattle.suite_compare.specs.Names.{HasNames};
 ghost use Rattle.migrate_plan.specs.Differing.{differing, differs, says_same};
-ghost use Rattle.repo_model.specs.Limits.{most_packages};
 
 use crate::alike::says_same;
 use crate::names::names_of_either;
 use deb_version::Bytes;
 use relation_fields::PackageFacts;
-use repo_model::NameList;
+use repo_model::{NameList, Suite};
 use std::alloc::{AllocError, Global};
-use suite_compare::packages_by_name;
-use virtual_provides::NumbersByName;
 
 /// The names of which the packages of two indexes do not say the same, ascending by bytes.
 #[tactic(auto, unfolding(crate::specs::Differing::differing))]
 pub(crate) fn differing_names(
     alloc: Global,
-    old: &[PackageFacts],
-    new: &[PackageFacts],
+    old: &Suite,
+    new: &Suite,
 ) -> Result<NameList, AllocError>
-    requires old { length old.now ≤ most_packages }
-    requires new { length new.now ≤ most_packages }
-    ensures { IfOk result (λ names. names ≡ differing old.now new.now) }
+    ensures { IfOk result (λ names. names ≡ differing old.now.packages new.now.packages) }
 {
-    let names = names_of_either(alloc, old, new)?;
-    let old_table = packages_by_name(alloc, old)?;
-    let new_table = packages_by_name(alloc, new)?;
-    those_that_differ(alloc, names.as_slice(), old, &old_table, new, &new_table)
+    let before = old.packages.as_slice();
+    let after = new.packages.as_slice();
+    let names = names_of_either(alloc, before, after)?;
+    let found = those_that_differ(alloc, names.as_slice(), old, new)?;
+    Ok(found)
 }
 
 // Those of the names that differ.
 fn those_that_differ(
     alloc: Global,
     names: &[Bytes],
-    old: &[PackageFacts],
-    old_table: &NumbersByName,
-    new: &[PackageFacts],
-    new_table: &NumbersByName,
+    old: &Suite,
+    new: &Suite,
 ) -> Result<NameList, AllocError>
-    requires old { HasNames old.now old_table.now }
-    requires new { HasNames new.now new_table.now }
-    ensures { IfOk result (λ made. made ≡ filter (differs old.now new.now) names.now) }
+    ensures { IfOk result (λ made. made ≡ filter (differs old.now.packages new.now.packages) names.now) }
 {
     let mut made = NameList::new(alloc);
     for name in names {
-        if !differs(old, old_table, new, new_table, name.as_slice()) {
+        let differ = differs(alloc, old, new, name.as_slice())?;
+        if !differ {
             continue;
         }
         let copy = Bytes::copy(alloc, name.as_slice())?;
@@ -59,20 +51,17 @@ fn those_that_differ(
 
 // Whether the packages of a name do not say the same in both.
 #[tactic(auto, unfolding(crate::specs::Differing::differs))]
-fn differs(
-    old: &[PackageFacts],
-    old_table: &NumbersByName,
-    new: &[PackageFacts],
-    new_table: &NumbersByName,
-    name: &[u8],
-) -> bool
-    requires old { HasNames old.now old_table.now }
-    requires new { HasNames new.now new_table.now }
-    ensures { result ≡ differs old.now new.now name.now }
+fn differs(alloc: Global, old: &Suite, new: &Suite, name: &[u8]) -> Result<bool, AllocError>
+    ensures { IfOk result (λ differing. differing ≡ differs old.now.packages new.now.packages name.now) }
 {
-    let olds = old_table.numbers(name);
-    let news = new_table.numbers(name);
-    !say_same(old, olds, new, news)
+    let olds = old.named(alloc, name)?;
+    let news = new.named(alloc, name)?;
+    Ok(!say_same(
+        old.packages.as_slice(),
+        &olds,
+        new.packages.as_slice(),
+        &news,
+    ))
 }
 
 // Whether the packages of these numbers say the same, one after the other.

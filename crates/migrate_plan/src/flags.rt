@@ -1,77 +1,90 @@
 //! Which packages come into a mix: those of the newer index whose names are in a set, and those of the older one whose names are not.
-ghost use Rattle.std.specs.Prelude.{◌≡◌, ◌++◌, ◌∷◌, [], filter, length, map, not, IfOk};
-ghost use Rattle.migrate_plan.specs.Entered.{has_number, AreEntered};
+ghost use Rattle.std.specs.Prelude.{◌≡◌, false, true, filter, length, map, not, replicate, slice_set, IfOk};
+ghost use Rattle.migrate_plan.specs.Flagged.{Raises};
+ghost use Rattle.migrate_plan.specs.Mix.{count_named, is_left, is_taken};
 
 use deb_version::Bytes;
-use relation_fields::PackageFacts;
+use repo_model::Suite;
 use std::alloc::{AllocError, Global};
-use virtual_provides::NumbersByName;
 
-/// The set of these names, as a table in which each has a number: a name is looked up by its hash, however many there are.
-pub(crate) fn table_of(alloc: Global, names: &[Bytes]) -> Result<NumbersByName, AllocError>
-    ensures { IfOk result (AreEntered names.now) }
-{
-    let mut table = NumbersByName::new(alloc);
-    for name in names {
-        table.put(name.as_slice(), 0)?;
-    }
-    Ok(table)
-}
-
-/// The set of the names that are taken, and of the one that is tried with them.
-pub(crate) fn table_with(
-    alloc: Global,
-    taken: &[Bytes],
-    tried: &[u8],
-) -> Result<NumbersByName, AllocError>
-    ensures { IfOk result (AreEntered (taken.now ++ tried.now ∷ [])) }
-{
-    let mut table = table_of(alloc, taken)?;
-    table.put(tried, 0)?;
-    Ok(table)
-}
-
-/// Whether the name is in the set.
-fn has_number(table: &NumbersByName, name: &[u8]) -> bool
-    ensures { result ≡ has_number table.now name.now }
-{
-    !table.numbers(name).is_empty()
-}
-
-/// For each package whether its name is in the set.
+/// For each package whether its name is one of those that are taken. Its packages are found by the suite's register, however many
+/// there are.
 pub(crate) fn taken_flags(
     alloc: Global,
-    packages: &[PackageFacts],
-    table: &NumbersByName,
+    suite: &Suite,
+    taken: &[Bytes],
 ) -> Result<Vec<bool>, AllocError>
-    ensures { IfOk result (λ flags. flags.items ≡ map (λ facts. has_number table.now facts.name) packages.now) }
+    ensures { IfOk result (λ flags. flags.items ≡ map (λ facts. is_taken taken.now facts.name) suite.now.packages) }
 {
-    packages
-        .iter()
-        .map(|package| has_number(table, package.name.as_slice()))
-        .collect(alloc)
+    let mut flags = no_flags(alloc, suite.count())?;
+    for name in taken {
+        let numbers = suite.named(alloc, name.as_slice())?;
+        raise_all(&mut flags, &numbers);
+    }
+    Ok(flags)
 }
 
-/// For each package whether its name is not in the set.
+/// For each package whether its name is none of those that are taken.
 pub(crate) fn left_flags(
     alloc: Global,
-    packages: &[PackageFacts],
-    table: &NumbersByName,
+    suite: &Suite,
+    taken: &[Bytes],
 ) -> Result<Vec<bool>, AllocError>
-    ensures { IfOk result (λ flags. flags.items ≡ map (λ facts. not (has_number table.now facts.name)) packages.now) }
+    ensures { IfOk result (λ flags. flags.items ≡ map (λ facts. is_left taken.now facts.name) suite.now.packages) }
 {
-    packages
-        .iter()
-        .map(|package| !has_number(table, package.name.as_slice()))
-        .collect(alloc)
+    let taken = taken_flags(alloc, suite, taken)?;
+    let left = others(alloc, &taken)?;
+    Ok(left)
 }
 
-/// How many packages have a name of the set.
-pub(crate) fn count_among(packages: &[PackageFacts], table: &NumbersByName) -> usize
-    ensures { result ≡ length (filter (λ facts. has_number table.now facts.name) packages.now) }
+// For each flag whether it is not up.
+fn others(alloc: Global, flags: &[bool]) -> Result<Vec<bool>, AllocError>
+    ensures { IfOk result (λ made. made.items ≡ map not flags.now) }
 {
-    packages
-        .iter()
-        .filter(|package| has_number(table, package.name.as_slice()))
-        .count()
+    flags.iter().map(|flag| !*flag).collect(alloc)
+}
+
+// So many flags, none of them up.
+fn no_flags(alloc: Global, count: u32) -> Result<Vec<bool>, AllocError>
+    ensures { IfOk result (λ flags. flags.items ≡ replicate count false) }
+{
+    vec![in alloc; false; count as usize]
+}
+
+// Raises the flags of these numbers.
+fn raise_all(flags: &mut Vec<bool>, numbers: &[u32])
+    ensures { Raises flags.old.items numbers.now flags.new.items }
+{
+    for number in numbers {
+        raise(flags, *number);
+    }
+}
+
+// Raises the flag of a number, where it has one.
+fn raise(flags: &mut Vec<bool>, number: u32)
+    ensures { flags.new.items ≡ slice_set flags.old.items number true }
+{
+    let place = number as usize;
+    if place < flags.len() {
+        flags[place] = true;
+    }
+}
+
+/// How many packages have one of the names.
+pub(crate) fn count_among(
+    alloc: Global,
+    suite: &Suite,
+    names: &[Bytes],
+) -> Result<usize, AllocError>
+    ensures { IfOk result (λ count. count ≡ count_named names.now suite.now.packages) }
+{
+    let flags = taken_flags(alloc, suite, names)?;
+    Ok(count_raised(&flags))
+}
+
+// How many flags are up.
+fn count_raised(flags: &[bool]) -> usize
+    ensures { result ≡ length (filter (λ flag. flag) flags.now) }
+{
+    flags.iter().filter(|flag| **flag).count()
 }

@@ -53,13 +53,11 @@ pub fn make_plan(
     ensures each { IfOk result (λ made. AreRight (settings_of budget limit hold) old_bytes.now new_bytes.now [] made.lines) }
     ensures safely { IfOk result (λ made. TakesSafely (settings_of budget limit hold) old_bytes.now new_bytes.now made.lines) }
 {
-    let before = old.suite.packages.as_slice();
-    let after = new.packages.as_slice();
     check_homes(&old.suite.home, &new.home)?;
-    let found = differing_names(alloc, before, after)?;
+    let found = differing_names(alloc, &old.suite, new)?;
     let names = found.as_slice();
     check_names(names)?;
-    check_packages(alloc, before, after, names)?;
+    check_packages(alloc, &old.suite, new, names)?;
     check_length(old_bytes, new_bytes)?;
     let lines = lines_of(alloc, old_bytes, old, new_bytes, new, names, budget)?;
     Ok(Plan { lines })

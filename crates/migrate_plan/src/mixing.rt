@@ -3,7 +3,7 @@ ghost use Rattle.std.specs.Prelude.{◌≡◌, ◌++◌, ◌∷◌, [], IfOk};
 ghost use Rattle.repo_model.specs.Feeding.{IsSuiteOf};
 ghost use Rattle.migrate_plan.specs.Mix.{mix};
 
-use crate::flags::{left_flags, table_with, taken_flags};
+use crate::flags::{left_flags, taken_flags};
 use deb_version::Bytes;
 use repo_model::Suite;
 use stanza_reader::blank_lines;
@@ -25,13 +25,35 @@ pub(crate) fn mix_with(
     requires new { IsSuiteOf new_bytes.now new.now.packages new.now.home.name }
     ensures { IfOk result (λ text. text.items ≡ mix old_bytes.now new_bytes.now (taken.now ++ tried.now ∷ [])) }
 {
-    let table = table_with(alloc, taken, tried)?;
-    let left = left_flags(alloc, old.packages.as_slice(), &table)?;
+    let names = with_tried(alloc, taken, tried)?;
+    let left = left_flags(alloc, old, &names)?;
     let mut text = blank_lines(alloc, old_bytes, left.as_slice())?;
-    let kept = taken_flags(alloc, new.packages.as_slice(), &table)?;
+    let kept = taken_flags(alloc, new, &names)?;
     let behind = blank_lines(alloc, new_bytes, kept.as_slice())?;
     // The first line feed ends the last line, if it has none; the second one is a blank line between the two indexes.
     text.extend_from_slice(b"\n\n")?;
     text.extend_from_slice(behind.as_slice())?;
     Ok(text)
+}
+
+// The names that are taken, and the one that is tried with them.
+fn with_tried(alloc: Global, taken: &[Bytes], tried: &[u8]) -> Result<Vec<Bytes>, AllocError>
+    ensures { IfOk result (λ names. names.items ≡ taken.now ++ tried.now ∷ []) }
+{
+    let mut names = copies_of(alloc, taken)?;
+    let last = Bytes::copy(alloc, tried)?;
+    names.push(last)?;
+    Ok(names)
+}
+
+// Copies of the names.
+fn copies_of(alloc: Global, names: &[Bytes]) -> Result<Vec<Bytes>, AllocError>
+    ensures { IfOk result (λ made. made.items ≡ names.now) }
+{
+    let mut made = Vec::new(alloc);
+    for name in names {
+        let copy = Bytes::copy(alloc, name.as_slice())?;
+        made.push(copy)?;
+    }
+    Ok(made)
 }

@@ -3,8 +3,8 @@ use Rattle.std.proofs.Common.{◌≡◌, ℕ, suc, ◌+◌, ◌<◌, ◌↔◌, 
 use Rattle.std.specs.List.{flat_map, range_with_len, Contains, AllPairs, dedup}
 use Rattle.std.specs.List.Sorted.{IsPermutation, IsSorted}
 use Rattle.std.specs.Ordering.{nat_cmp}
-use Rattle.std.proofs.Math.Bool.{or-false}
-use Rattle.std.proofs.lemmas.Bool.{and_parts}
+use Rattle.std.specs.Str.{bytes_eq}
+use Rattle.std.proofs.Math.Bool.{and-true, or-false}
 use Rattle.std.proofs.lemmas.List.Kept.{AllPairs-from_increasing, Contains-dedup_nat, Contains-from_dedup}
 use Rattle.std.proofs.lemmas.List.Sorted.{Contains-permutation, IsPermutation-sym}
 use Rattle.std.proofs.lemmas.Map.Keys.{IsStrictlyIncreasing-dedup}
@@ -15,12 +15,9 @@ use Rattle.relation_fields.specs.declared.packages.PackageFacts.{PackageFacts}
 use Rattle.relation_fields.specs.declared.relations.Atom.{Atom}
 use Rattle.listed.specs.Lists.{Ascending, Inside, In, here, there}
 use Rattle.listed.proofs.Orders.{ascending_filter, ascending_same}
-use Rattle.virtual_provides.specs.Bearers.{if_so}
-use Rattle.virtual_provides.specs.Numbers.{numbers_from, numbers_where, passes_at}
-use Rattle.virtual_provides.proofs.Numbered.{filter-numbers_where, numbers_from-cons}
-use Rattle.repo_model.specs.declared.goals.Goal.{Goal}
-use Rattle.repo_model.specs.Goals.{is_named_by, packages_named}
-use Rattle.repo_model.specs.Pairs.{is_named}
+use Rattle.package_register.specs.Numbers.{if_so, numbers_from, numbers_where}
+use Rattle.package_register.proofs.Numbered.{numbers_from-cons}
+use Rattle.repo_model.specs.Goals.{any_version, is_named_by, packages_named}
 use Rattle.repo_model.specs.Meeting.{meeting}
 use Rattle.repo_model.specs.Repository.{clause_of, meets_any, packages_of}
 use Rattle.repo_model.specs.Stanzas.{no_stanza, stanza_at}
@@ -77,7 +74,8 @@ clause_gathered home packages element numbers all a same gathered =
     (In_flat (meeting home packages) element w.0 n w.1 (number_from (λ facts. meets w.0 facts home) packages n m.0 w.2))) in
     ascending_same numbers (clause_of home packages element) a (clause_ascending home packages element) to back
 
--- of the packages of a goal's name, those that it names are all that it names
-pub named_chosen : (packages : List PackageFacts) (goal : Goal) → filter (passes_at (is_named_by goal) packages) (numbers_where (is_named goal.name) packages) ≡ packages_named packages goal
-named_chosen packages goal =
-    filter-numbers_where (is_named_by goal) (is_named goal.name) packages (λ facts h. (and_parts _ _ h).0) ∙ numbers_chosen (is_named_by goal) packages
+-- the packages of a name are those that it names as a goal
+pub named_is : (packages : List PackageFacts) (name : List ℕ) → numbers_where (λ facts. bytes_eq name facts.name) packages ≡ packages_named packages (any_version name)
+named_is packages name =
+    numbers_chosen (λ facts. bytes_eq name facts.name) packages
+    ∙ filter_same (λ n. bytes_eq name (stanza_at packages n).name) (λ n. is_named_by (any_version name) (stanza_at packages n)) (packages_of packages) (λ n i. sym (and-true (bytes_eq name (stanza_at packages n).name)))

@@ -1,16 +1,20 @@
--- Items by their numbers: the first of those that pass a test, and one more item.
-use Rattle.std.proofs.Common.{◌≡◌, ℕ, suc, ◌+◌, Bool, true, false, cond, List, [], ◌∷◌, ◌++◌, length, Option, Some, find, not, refl, sym, ap, ◌∙◌, add-zero, zero-add, arith}
-use Rattle.std.specs.Prelude.{◌==◌, slice_get, if◌then◌else◌}
-use Rattle.std.specs.Option.{option_and_then}
+-- Items by their numbers: the first of those that pass a test.
+use Rattle.std.proofs.Common.{◌≡◌, ℕ, suc, ◌+◌, Bool, true, false, cond, List, [], ◌∷◌, ◌++◌, Option, Some, find, refl, sym, ap, ◌∙◌, add-zero, zero-add, arith}
+use Rattle.std.specs.Prelude.{◌&&◌, slice_get}
+use Rattle.std.specs.declared.cmp.Ordering.{Ordering}
+use Rattle.std.specs.declared.cmp.Ordering.TheVariants.{Less, Equal, Greater}
+use Rattle.std.specs.Ordering.{is_eq, ordering_reverse}
 use Rattle.std.specs.Str.{bytes_eq}
-use Rattle.std.proofs.lemmas.Bool.{false≢true, false_from_ne_true}
-use Rattle.std.proofs.lemmas.List.{append-nil}
-use Rattle.std.proofs.lemmas.Slice.Eq.{bytes_eq-Decides}
-use Rattle.virtual_provides.specs.declared.numbers.NumbersByName.{NumbersByName}
-use Rattle.virtual_provides.specs.Numbers.{numbers_from, numbers_under, numbers_where, with_number}
-use Rattle.virtual_provides.specs.Bearers.{if_so}
-use Rattle.virtual_provides.proofs.Numbered.{numbers_from-cons, numbers_from-push, numbers_where-fresh}
-use Rattle.repo_model.specs.Named.{is_wanted}
+use Rattle.deb_version.specs.Order.{version_order}
+use Rattle.deb_version.proofs.TotalOrder.{version_total}
+use Rattle.listed.proofs.Lists.{find_same}
+use Rattle.relation_fields.specs.declared.packages.PackageFacts.{PackageFacts}
+use Rattle.virtual_provides.specs.Bearers.{own_name, own_version}
+use Rattle.package_register.specs.Registers.{is_version_of}
+use Rattle.repo_model.specs.Facts.{is_same_package}
+use Rattle.std.specs.Option.{option_and_then}
+use Rattle.package_register.specs.Numbers.{numbers_from, numbers_where, if_so}
+use Rattle.package_register.proofs.Numbered.{numbers_from-cons}
 
 module _ {X : Type 0} (test : X → Bool) where
   first_step : (all : List X) (n : ℕ) (x : X) (numbers : List ℕ) (found : Option X) → slice_get all n ≡ Some x → option_and_then (slice_get all) (slice_get numbers 0) ≡ found
@@ -30,29 +34,26 @@ module _ {X : Type 0} (test : X → Bool) where
   pub first_where : (all : List X) → option_and_then (slice_get all) (slice_get (numbers_where test all) 0) ≡ find test all
   first_where all = first_from all all 0 (λ k. ap (slice_get all) (zero-add k))
 
-module _ {X : Type 0} (named : X → Bool) where
-  push_step : (items : List X) (b : Bool) → (if b then with_number (length items) (numbers_where named items) else numbers_where named items) ≡ numbers_where named items ++ if_so b (length items)
-  push_step items true = ap (λ last. if last then numbers_where named items else numbers_where named items ++ length items ∷ []) (numbers_where-fresh named items)
-  push_step items false = sym (append-nil (numbers_where named items))
+reversed : (order : Ordering) → is_eq (ordering_reverse order) ≡ is_eq order
+reversed Less = refl
+reversed Equal = refl
+reversed Greater = refl
 
-  -- one more item, whose number is put under its name
-  pub numbers_where-push : (items more : List X) (x : X) (n : ℕ) (now new : List ℕ) → more ≡ items ++ x ∷ [] → n ≡ length items → now ≡ numbers_where named items
-      → new ≡ (if named x then with_number n now else now) → new ≡ numbers_where named more
-  numbers_where-push items more x n now new pushed count had put =
-      put ∙ ap (λ m. if named x then with_number m now else now) count ∙ ap (λ numbers. if named x then with_number (length items) numbers else numbers) had
-      ∙ push_step items (named x) ∙ ap (λ m. numbers_where named items ++ if_so (named x) m) (sym (zero-add (length items)))
-      ∙ sym (numbers_from-push named 0 items x) ∙ ap (numbers_where named) (sym pushed)
+-- versions are equal either way
+pub either_way : (v w : List ℕ) → is_eq (version_order v w) ≡ is_eq (version_order w v)
+either_way v w = ap is_eq (version_total.antisymm v w) ∙ reversed (version_order w v)
 
-  -- one more item, which is not of the name
-  pub numbers_where-left : (items more : List X) (x : X) (now : List ℕ) → more ≡ items ++ x ∷ [] → now ≡ numbers_where named items → named x ≡ false → now ≡ numbers_where named more
-  numbers_where-left items more x now pushed had other =
-      had ∙ sym (ap (numbers_where named) pushed ∙ numbers_from-push named 0 items x ∙ ap (λ b. numbers_where named items ++ if_so b (0 + length items)) other ∙ append-nil (numbers_where named items))
+-- the first package of a name with an equal version is the first that is the same
+pub first_same : (facts : PackageFacts) (packages : List PackageFacts) (numbers : List ℕ) → numbers ≡ numbers_where (is_version_of own_name own_version facts.name facts.version) packages
+    → option_and_then (slice_get packages) (slice_get numbers 0) ≡ find (is_same_package facts) packages
+first_same facts packages numbers e =
+    ap (λ ns. option_and_then (slice_get packages) (slice_get ns 0)) e
+    ∙ first_where (is_version_of own_name own_version facts.name facts.version) packages
+    ∙ find_same (is_version_of own_name own_version facts.name facts.version) (is_same_package facts) packages (λ x i. ap (λ b. bytes_eq facts.name x.name && b) (either_way x.version facts.version))
 
--- a name that passes a test is another than one that does not
-pub other_name : (p : List ℕ → Bool) (name other : List ℕ) → p name ≡ true → p other ≡ false → bytes_eq name other ≡ false
-other_name p name other t f = false_from_ne_true (bytes_eq name other) (λ h. let e : name ≡ other = (bytes_eq-Decides name other).0 h in false≢true (sym f ∙ ap p (sym e) ∙ t))
-
--- a name of which a table lends no numbers is not wanted
-pub not_wanted : (wanted : NumbersByName) (name lent numbers : List ℕ) (empty : Bool) → lent ≡ name → numbers ≡ numbers_under wanted lent → empty ≡ (length numbers == 0) → (b : Bool) → empty ≡ b → is_wanted wanted name ≡ not b
-not_wanted wanted name lent numbers empty same are size b e =
-    ap (is_wanted wanted) (sym same) ∙ ap (λ ns. not (length ns == 0)) (sym are) ∙ ap not (sym size ∙ e)
+-- and it is found by the numbers that a register gives
+pub found_same : (facts : PackageFacts) (packages : List PackageFacts) (name numbers lent : List ℕ) (first : Option PackageFacts) → name ≡ facts.name
+    → numbers ≡ numbers_where (is_version_of own_name own_version name facts.version) packages → lent ≡ numbers → first ≡ option_and_then (slice_get packages) (slice_get lent 0) → find (is_same_package facts) packages ≡ first
+found_same facts packages name numbers lent first same are value told =
+    sym (told ∙ ap (λ ns. option_and_then (slice_get packages) (slice_get ns 0)) value
+    ∙ first_same facts packages numbers (are ∙ ap (λ n. numbers_where (is_version_of own_name own_version n facts.version) packages) same))

@@ -1,7 +1,6 @@
 pub mod Refusing
 pub mod WellFormed
 pub mod Indexed
-pub mod PackageKeys
 pub mod Closing
 pub mod Feeds
 pub mod Opening
@@ -29,6 +28,4 @@ pub mod Naming
 pub mod NameSteps
 pub mod SoundSuite
 pub mod LineCounts
-pub mod IndexSteps
-pub mod Earlier
 pub mod Picks

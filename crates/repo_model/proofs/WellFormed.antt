@@ -9,12 +9,15 @@ use Rattle.stanza_reader.specs.declared.stanza.FieldKind.{FieldKind}
 use Rattle.stanza_reader.specs.declared.stanza.FieldKind.TheVariants.{Package, Version}
 use Rattle.stanza_reader.specs.declared.stanza.RawField.{RawField}
 use Rattle.stanza_reader.specs.declared.stanza.RawStanza.{RawStanza}
-use Rattle.repo_model.specs.Building.{IsWellFormed}
 use Rattle.repo_model.specs.Facts.{facts_of}
 use Rattle.repo_model.specs.Fields.{field_of, value_of}
 use Rattle.repo_model.specs.FirstFault.{missing, unless_good, bad_value, presence_fault, value_fault, own_fault}
 use Rattle.repo_model.specs.declared.fault.IndexFault.{IndexFault}
 use Rattle.repo_model.specs.declared.fault.IndexFault.TheVariants.{MissingPackage, MissingVersion, BadPackage, BadVersion}
+
+-- the name and the version are in their grammars
+abbrev pub IsWellFormed : PackageFacts → Type 0
+IsWellFormed facts = (is_name facts.name ≡ true) × (is_version facts.version ≡ true)
 
 -- where neither of two checks finds a fault, each finds none
 pub none_of : (there more : Option IndexFault) → option_or there more ≡ None → (there ≡ None) × (more ≡ None)

@@ -20,5 +20,4 @@ pub mod Goals
 pub mod Laws
 pub mod GoalRefusals
 pub mod NameOrder
-pub mod Named
 pub mod Picking

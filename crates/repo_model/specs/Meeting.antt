@@ -5,7 +5,7 @@ use Rattle.relation_fields.specs.Meeting.{meets}
 use Rattle.relation_fields.specs.declared.packages.Home.{Home}
 use Rattle.relation_fields.specs.declared.packages.PackageFacts.{PackageFacts}
 use Rattle.relation_fields.specs.declared.relations.Atom.{Atom}
-use Rattle.virtual_provides.specs.Numbers.{numbers_where}
+use Rattle.package_register.specs.Numbers.{numbers_where}
 
 -- the numbers of the packages that meet the atom, ascending
 abbrev pub meeting : Home → List PackageFacts → Atom → List ℕ

@@ -7,7 +7,7 @@ use Rattle.relation_fields.specs.declared.packages.PackageFacts.{PackageFacts}
 use Rattle.relation_fields.specs.declared.relations.Atom.{Atom}
 use Rattle.listed.specs.Lists.{In}
 use Rattle.row_book.specs.declared.pair.Pair.{Pair}
-use Rattle.virtual_provides.specs.Numbers.{numbers_where}
+use Rattle.package_register.specs.Numbers.{numbers_where}
 use Rattle.repo_model.specs.Meeting.{meeting}
 use Rattle.repo_model.specs.Stanzas.{stanza_at}
 

@@ -1,31 +1,32 @@
 //! A suite that is being read, stanza by stanza.
 ghost use Rattle.std.specs.Prelude.{◌≡◌, ◌<◌, ◌≤◌, ◌++◌, ◌∷◌, [], None, length, IfOk, OnOk, find, slice_get};
-ghost use Rattle.std.specs.Option.{option_map, option_or, option_copied};
+ghost use Rattle.std.specs.Option.{option_and_then, option_map, option_or, option_copied};
 ghost use Rattle.repo_model.specs.Fields.{field_of, HasShortValues};
 ghost use Rattle.repo_model.specs.Facts.{facts_of, is_all, is_same_package, architecture_of};
 ghost use Rattle.repo_model.specs.FirstFault.{stanza_fault, duplicate_fault, mixed_fault, is_at_home};
 ghost use Rattle.repo_model.specs.Refusals.{Answers};
-ghost use Rattle.repo_model.specs.Building.{name_hash, IsBuilt, IsWellFormed, IsIndexOf};
+ghost use Rattle.virtual_provides.specs.Bearers.{IsBuiltFrom};
+ghost use Rattle.repo_model.specs.Building.{IsBuilt};
 ghost use Rattle.relation_fields.specs.declared.packages.PackageFacts.{PackageFacts};
 ghost use Rattle.repo_model.specs.Limits.{most_packages};
 
 use crate::facts::read_facts;
 use crate::fault::IndexFault;
 use crate::fields::find_field;
-use crate::index::{PackageIndex, name_hash};
 use crate::suite::{PackageList, Suite};
 use deb_version::Bytes;
 use relation_fields::{ElementTable, Home, PackageFacts};
 use stanza_reader::{FieldKind, RawStanza};
 use std::alloc::{AllocError, Global};
+use virtual_provides::NameTable;
 
-/// The packages of the stanzas that were read so far, with an index of their names and versions and their common
+/// The packages of the stanzas that were read so far, with a table of their names and their common
 /// architecture.
 #[derive(Drop)]
 pub(crate) struct Building {
     pub(crate) packages: PackageList,
     pub(crate) home: Home,
-    pub(crate) index: PackageIndex,
+    pub(crate) names: NameTable,
     // The elements of needs that were read, of which packages share equal ones.
     pub(crate) elements: ElementTable,
 }
@@ -40,7 +41,7 @@ impl Building {
         Building {
             packages: PackageList::new(alloc),
             home: Home { name: None },
-            index: PackageIndex::new(alloc),
+            names: NameTable::new(alloc),
             elements: ElementTable::new(alloc),
         }
     }
@@ -55,13 +56,14 @@ impl Building {
         let Building {
             packages,
             home,
+            names,
             elements,
-            ..
         } = self;
         Suite {
             packages,
             home,
             elements: elements.into_elements(),
+            names,
         }
     }
 
@@ -76,12 +78,11 @@ impl Building {
         ensures built { OnOk result (IsBuilt self.new) }
     {
         let facts = read_facts(alloc, &mut self.elements, stanza)?;
-        let hash = name_hash(facts.name.as_slice());
-        check_new(alloc, self.packages.as_slice(), &self.index, hash, &facts)?;
+        check_new(alloc, self.packages.as_slice(), &self.names, &facts)?;
         check_home(&self.home, stanza)?;
         settle_home(alloc, &mut self.home, stanza)?;
         let number = self.packages.as_slice().len() as u32;
-        self.index.put(alloc, hash, number, &facts)?;
+        self.names.put(number, &facts)?;
         self.packages.push(facts)?;
         Ok(())
     }
@@ -91,21 +92,29 @@ impl Building {
 fn check_new(
     alloc: Global,
     packages: &[PackageFacts],
-    index: &PackageIndex,
-    hash: u64,
+    names: &NameTable,
     facts: &PackageFacts,
 ) -> Result<(), IndexFault>
-    requires indexed { IsIndexOf packages.now index.now }
-    requires well_formed { IsWellFormed facts.now }
-    requires hash { hash ≡ name_hash facts.now.name }
+    requires { IsBuiltFrom packages.now names.now }
     ensures { Answers result (option_map (λ first. IndexFault.Duplicate first.line facts.now.line) (find (is_same_package facts.now) packages.now)) tt }
 {
-    match index.find_same(alloc, packages, hash, facts)? {
+    let same = names.versioned(alloc, packages, facts.name.as_slice(), &facts.version)?;
+    match first_of(packages, &same) {
         Some(first) => Err(IndexFault::Duplicate {
             first_line: first.line,
             line: facts.line,
         }),
         None => Ok(()),
+    }
+}
+
+// The package of the first of the numbers, where there is one.
+fn first_of<'a>(packages: &'a [PackageFacts], numbers: &[u32]) -> Option<&'a PackageFacts>
+    ensures { option_copied result ≡ option_and_then (slice_get packages.now) (slice_get numbers.now 0) }
+{
+    match numbers.first() {
+        Some(number) => packages.get(*number as usize),
+        None => None,
     }
 }
 

@@ -11,9 +11,7 @@ mod fault;
 mod feed;
 mod fields;
 mod goals;
-mod index;
 mod laws;
-mod named;
 mod names;
 mod pairs;
 mod picked;
@@ -36,7 +34,6 @@ pub use suite::{PackageList, Suite, read_suite};
 
 // Goals, and the packages that they name.
 pub use goals::{Goal, GoalError, GoalList};
-pub use named::NamedPackages;
 pub use names::{NameList, distinct_names};
 
 // The repository in plain lists, for those who check answers.

@@ -1,8 +1,8 @@
 //! The pairs of packages that conflict.
-ghost use Rattle.std.specs.Prelude.{◌≡◌, ◌≤◌, ◌<◌, ℕ, IfOk, OnOk, filter, length, take};
+ghost use Rattle.std.specs.Prelude.{◌≡◌, ◌≤◌, ◌<◌, ℕ, IfOk, OnOk, length, take};
 ghost use Rattle.row_book.specs.Book.{are_paired, PairsFit};
 ghost use Rattle.virtual_provides.specs.Bearers.{IsBuiltFrom};
-ghost use Rattle.virtual_provides.specs.Numbers.{numbers_where, passes_at};
+ghost use Rattle.package_register.specs.Numbers.{numbers_where};
 ghost use Rattle.repo_model.specs.Pairs.{is_named, pair_of, Adds, IsAgainst, IsPairWith};
 ghost use Rattle.repo_model.specs.Repository.{in_conflict};
 ghost use Rattle.repo_model.specs.Stanzas.{stanza_at};
@@ -50,40 +50,7 @@ fn earlier_named(
     requires place { place < length packages.now }
     ensures { IfOk result (λ found. found.items ≡ numbers_where (is_named (stanza_at packages.now place).name) (take place packages.now)) }
 {
-    // Few packages have or provide a name with another one, so that most names need not be looked up.
-    if !names.shares_names(place as u32) {
-        return Ok(Vec::new(alloc));
-    }
-    let name = packages[place].name.as_slice();
-    named_among(alloc, &packages[..place], names.bearers(name), name)
-}
-
-// Those of the numbers whose packages have the name.
-fn named_among(
-    alloc: Global,
-    packages: &[PackageFacts],
-    numbers: &[u32],
-    name: &[u8],
-) -> Result<Vec<u32>, AllocError>
-    ensures { IfOk result (λ found. found.items ≡ filter (passes_at (is_named name.now) packages.now) numbers.now) }
-{
-    let mut found = Vec::new(alloc);
-    for number in numbers {
-        if is_named_at(packages, *number, name) {
-            found.push(*number)?;
-        }
-    }
-    Ok(found)
-}
-
-// Whether there is a package of that number, and it has the name.
-fn is_named_at(packages: &[PackageFacts], number: u32, name: &[u8]) -> bool
-    ensures { result ≡ passes_at (is_named name.now) packages.now number }
-{
-    match packages.get(number as usize) {
-        Some(facts) => name == facts.name.as_slice(),
-        None => false,
-    }
+    names.named(alloc, &packages[..place], packages[place].name.as_slice())
 }
 
 // Puts in the pairs of the package and those that meet one of the atoms.

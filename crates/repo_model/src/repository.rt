@@ -10,7 +10,6 @@ use crate::suite::Suite;
 use clause_pool::Pool;
 use row_book::Book;
 use std::alloc::{AllocError, Global};
-use virtual_provides::NameTable;
 
 impl Suite {
     /// The repository of the packages, as a book over the pool: what the pool held stays, and it gains the rows of the
@@ -22,9 +21,9 @@ impl Suite {
         ensures only { IfOk result (λ book. AddsOnly pool.old pool.new book.rows) }
     {
         let packages = self.packages.as_slice();
-        let names = NameTable::build(alloc, packages)?;
-        let rows = intern_rows(alloc, pool, &names, packages, &self.home, &self.elements)?;
-        let pairs = conflict_pairs(alloc, &names, packages, &self.home)?;
+        let names = &self.names;
+        let rows = intern_rows(alloc, pool, names, packages, &self.home, &self.elements)?;
+        let pairs = conflict_pairs(alloc, names, packages, &self.home)?;
         let book = Book::build(alloc, pool, &rows, &pairs)?;
         Ok(book)
     }

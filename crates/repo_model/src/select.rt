@@ -11,6 +11,7 @@ use crate::copying::{copy_of_facts, copy_of_home};
 use crate::suite::{PackageList, Suite};
 use relation_fields::{AtomList, PackageFacts, SharedElements};
 use std::alloc::{AllocError, Global};
+use virtual_provides::NameTable;
 
 impl Suite {
     /// The suite of the packages whose flags are up, in their order and with the same common architecture.
@@ -23,10 +24,12 @@ impl Suite {
         let packages = flagged_packages(alloc, all, flags)?;
         let elements = flagged_elements(alloc, all, &self.elements, flags)?;
         let home = copy_of_home(alloc, &self.home)?;
+        let names = NameTable::build(alloc, packages.as_slice())?;
         Ok(Suite {
             packages,
             home,
             elements,
+            names,
         })
     }
 }

@@ -2,6 +2,7 @@
 ghost use Rattle.std.specs.Prelude.{◌≡◌, ◌≤◌, ◌<◌, length, map, None, Some, slice_get, IfOk, IfErr, OnOk};
 ghost use Rattle.std.specs.Option.{option_map};
 ghost use Rattle.relation_fields.specs.Elements.{elements_of};
+ghost use Rattle.virtual_provides.specs.Bearers.{IsBuiltFrom, IsBuiltFrom-prop};
 ghost use Rattle.repo_model.specs.Facts.{facts_of};
 ghost use Rattle.repo_model.specs.FirstFault.{first_fault, home_of, stanzas_of};
 ghost use Rattle.repo_model.specs.Refusals.{Refuses};
@@ -14,6 +15,7 @@ use crate::reading::read_behind;
 use listed::Listed;
 use relation_fields::{Home, PackageFacts, SharedElements};
 use std::alloc::Global;
+use virtual_provides::NameTable;
 
 /// Packages in the order of their stanzas.
 pub type PackageList = Listed<PackageFacts>;
@@ -27,8 +29,11 @@ pub struct Suite {
     pub home: Home,
     // The elements of the packages' needs, one package's behind the other's.
     pub(crate) elements: SharedElements,
+    // The packages by their names and versions, as they were read.
+    pub(crate) names: NameTable,
     ghost few: { length packages ≤ most_packages },
     ghost shared: { elements_of elements ≡ needs_of_all packages } by { needs-prop (elements_of elements) packages },
+    ghost named: { IsBuiltFrom packages names } by { IsBuiltFrom-prop packages names },
 }
 
 impl Suite {

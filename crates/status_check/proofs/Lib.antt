@@ -1,6 +1,5 @@
 pub mod Words
 pub mod OwnTexts
-pub mod Versions
 pub mod HadGoals
 pub mod Judging
 pub mod NamedHomes

@@ -1,5 +1,4 @@
 pub mod Installed
 pub mod Own
 pub mod Report
-pub mod Lookup
 pub mod Laws

@@ -1,21 +1,22 @@
 //! What the index has of the own packages, and whether these stand together in it.
-ghost use Rattle.std.specs.Prelude.{◌≡◌, length, map, IfOk};
+ghost use Rattle.std.specs.Prelude.{◌≡◌, List, length, map, IfOk};
+ghost use Rattle.relation_fields.specs.declared.packages.PackageFacts.{PackageFacts};
+ghost use Rattle.repo_model.specs.Goals.{packages_named};
 ghost use Rattle.row_book.specs.Book.{repository_of};
 ghost use Rattle.row_book.specs.Needs.{NeedsFit};
 ghost use Rattle.clause_solver.specs.Outcomes.{IsBudget};
 ghost use Rattle.suite_compare.specs.Asking.{images_of};
 ghost use Rattle.suite_compare.specs.Kinds.{kernel_verdict};
-ghost use Rattle.status_check.specs.Lookup.{HasVersions};
-ghost use Rattle.status_check.specs.Report.{had_goals, line_for, state_of};
+ghost use Rattle.status_check.specs.Report.{goal_for, had_goals, is_had, line_for, state_of};
 
-use crate::lookup::{line_of, numbers_of};
-use crate::report::{HaveList, SuiteState};
+use crate::report::{HaveLine, HaveList, SuiteState};
 use clause_solver::{Solver, Verdict};
+use deb_version::Bytes;
 use relation_fields::PackageFacts;
+use repo_model::Suite;
 use row_book::Needs;
 use std::alloc::{AllocError, Global};
 use suite_compare::{SuiteView, image_of};
-use virtual_provides::NumbersByName;
 
 /// What the index has of some packages: the line of each, and for each that it has the classes of those of the same name and an
 /// equal version.
@@ -29,17 +30,16 @@ pub(crate) struct Had {
 pub(crate) fn look_up(
     alloc: Global,
     view: &SuiteView,
-    table: &NumbersByName,
     packages: &[PackageFacts],
 ) -> Result<Had, AllocError>
-    requires { HasVersions view.now.suite.packages table.now }
     ensures lines { IfOk result (λ had. had.lines ≡ map (line_for view.now.suite.packages) packages.now) }
     ensures classes { IfOk result (λ had. had.classes ≡ images_of view.now.limit view.now.kernel.hold view.now.suite.home view.now.suite.packages (had_goals view.now.suite.packages packages.now)) }
 {
     let mut lines = HaveList::new(alloc);
     let mut classes = Needs::new(alloc);
     for facts in packages {
-        let numbers = numbers_of(alloc, table, facts)?;
+        let found = numbers_of(alloc, &view.suite, facts)?;
+        let numbers = found.as_slice();
         let line = line_of(alloc, facts, !numbers.is_empty())?;
         lines.push(line)?;
         if numbers.is_empty() {
@@ -49,6 +49,22 @@ pub(crate) fn look_up(
         classes.push(&image)?;
     }
     Ok(Had { lines, classes })
+}
+
+// The packages of the index that have the name of a package and an equal version, ascending.
+fn numbers_of(alloc: Global, suite: &Suite, facts: &PackageFacts) -> Result<Vec<u32>, AllocError>
+    ensures { IfOk result (λ numbers. numbers.items ≡ packages_named suite.now.packages (goal_for facts.now)) }
+{
+    suite.versioned(alloc, facts.name.as_slice(), &facts.version)
+}
+
+// The line of an own package.
+fn line_of(alloc: Global, facts: &PackageFacts, had: bool) -> Result<HaveLine, AllocError>
+    ensures { (index : List PackageFacts) → had ≡ is_had index facts.now → IfOk result (λ line. line ≡ line_for index facts.now) }
+{
+    let name = Bytes::copy(alloc, facts.name.as_slice())?;
+    let version = Bytes::copy(alloc, facts.version.text())?;
+    Ok(HaveLine { name, version, had })
 }
 
 /// What the search for a healthy set with one of each of these classes tells, within a budget of failed leaves.

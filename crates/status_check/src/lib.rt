@@ -4,7 +4,6 @@
 mod classes;
 mod installed;
 mod laws;
-mod lookup;
 mod own;
 mod report;
 mod state;

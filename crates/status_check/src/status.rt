@@ -11,7 +11,6 @@ ghost use Rattle.status_check.specs.Report.{all_of, had_goals, line_for, state_o
 ghost use Rattle.repo_model.specs.Limits.{most_bytes};
 
 use crate::classes::{look_up, suite_state};
-use crate::lookup::packages_by_version;
 use crate::own::read_own;
 use crate::report::StatusReport;
 use crate::state::own_state;
@@ -47,9 +46,7 @@ pub fn status_report(
 {
     let read = read_own(alloc, &view.suite.home, bytes)?;
     let packages = read.suite.packages.as_slice();
-    let index = view.suite.packages.as_slice();
-    let table = packages_by_version(alloc, index)?;
-    let had = look_up(alloc, view, &table, packages)?;
+    let had = look_up(alloc, view, packages)?;
     let own = own_state(alloc, &read.suite)?;
     let verdict = suite_state(alloc, view, &had.classes, budget)?;
     Ok(StatusReport {

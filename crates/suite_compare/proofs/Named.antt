@@ -19,36 +19,11 @@ use Rattle.repo_model.specs.Repository.{packages_of, suite_repository}
 use Rattle.repo_model.specs.Stanzas.{no_stanza, stanza_at}
 use Rattle.std.proofs.lemmas.Slice.Eq.{bytes_eq-Decides}
 use Rattle.repo_model.proofs.Packages.{length_clauses}
-use Rattle.repo_model.proofs.Chosen.{number_cases, number_from, numbers_chosen}
-use Rattle.virtual_provides.specs.Bearers.{if_so}
-use Rattle.virtual_provides.specs.Numbers.{numbers_where, with_number}
-use Rattle.virtual_provides.proofs.Numbered.{numbers_where-fresh_take, numbers_where-more}
+use Rattle.repo_model.proofs.Chosen.{named_is, number_cases, number_from}
+use Rattle.package_register.specs.Numbers.{numbers_where}
 use Rattle.suite_compare.specs.Asking.{image_of}
 use Rattle.suite_compare.specs.Names.{names_of_both, stands_in}
 use Rattle.suite_compare.proofs.SuiteKernels.{classes_ascending, classes_fit, classes_from, suite_sound}
-
--- one package more under its name
-pub named_more : (name lent : List ℕ) (packages : List PackageFacts) (i : ℕ) (x : PackageFacts) (now new : List ℕ) → i < length packages → x ≡ get_or packages i x → lent ≡ x.name
-    → now ≡ numbers_where (λ facts. bytes_eq name facts.name) (take i packages) → new ≡ (if bytes_eq name lent then with_number i now else now)
-    → new ≡ numbers_where (λ facts. bytes_eq name facts.name) (take (i + 1) packages)
-named_more name lent packages i x now new l is same so put =
-    put
-    ∙ ap (λ z. if bytes_eq name z then with_number i now else now) same
-    ∙ ap (λ z. if bytes_eq name x.name then with_number i z else z) so
-    ∙ by (bytes_eq name x.name)
-    ∙ sym (numbers_where-more (λ facts. bytes_eq name facts.name) packages i x l is)
-  where
-    by : (b : Bool) → (if b then with_number i (numbers_where (λ facts. bytes_eq name facts.name) (take i packages)) else numbers_where (λ facts. bytes_eq name facts.name) (take i packages))
-        ≡ numbers_where (λ facts. bytes_eq name facts.name) (take i packages) ++ if_so b i
-    by true = ap (λ e. if e then numbers_where (λ facts. bytes_eq name facts.name) (take i packages) else numbers_where (λ facts. bytes_eq name facts.name) (take i packages) ++ i ∷ [])
-        (numbers_where-fresh_take (λ facts. bytes_eq name facts.name) packages i l)
-    by false = sym (append-nil (numbers_where (λ facts. bytes_eq name facts.name) (take i packages)))
-
--- the packages of a name are those that it names as a goal
-pub named_is : (packages : List PackageFacts) (name : List ℕ) → numbers_where (λ facts. bytes_eq name facts.name) packages ≡ packages_named packages (any_version name)
-named_is packages name =
-    numbers_chosen (λ facts. bytes_eq name facts.name) packages
-    ∙ filter_same (λ n. bytes_eq name (stanza_at packages n).name) (λ n. is_named_by (any_version name) (stanza_at packages n)) (packages_of packages) (λ n i. sym (and-true (bytes_eq name (stanza_at packages n).name)))
 
 -- a name stands in the packages where some package has it
 pub stands_filled : (packages : List PackageFacts) (name : List ℕ) → stands_in packages name ≡ true → (n : ℕ) × In n (numbers_where (λ facts. bytes_eq name facts.name) packages)
@@ -56,23 +31,6 @@ stands_filled packages name h =
     let w : (x : PackageFacts) × In x packages × (bytes_eq name x.name ≡ true) = any_cases (λ facts. bytes_eq name facts.name) packages h in
     let p : (i : ℕ) × (i < length packages) × (get_or packages i no_stanza ≡ w.0) = In_place packages w.0 no_stanza w.1 in
     (p.0, number_from (λ facts. bytes_eq name facts.name) packages p.0 p.1 (ap (λ z. bytes_eq name z.name) p.2 ∙ w.2))
-
-pub stands_empty : (packages : List PackageFacts) (name lent : List ℕ) (r : Bool) → lent ≡ numbers_where (λ facts. bytes_eq name facts.name) packages → r ≡ eqb (length lent) 0 → r ≡ true → stands_in packages name ≡ false
-stands_empty packages name lent r is size t = false_from_ne_true (stands_in packages name) (λ h.
-    let w = stands_filled packages name h in none lent (sym size ∙ t) w.0 (subst (λ z. In w.0 z) (sym is) w.1))
-  where
-    none : (list : List ℕ) → eqb (length list) 0 ≡ true → (n : ℕ) → In n list → ⊥
-    none [] e n i = In_none i
-    none (x ∷ xs) e n i = let h : length (x ∷ xs) ≡ 0 = eqb-true (length (x ∷ xs)) 0 e in absurd (omega arith)
-
-pub stands_some : (packages : List PackageFacts) (name lent : List ℕ) (r : Bool) → lent ≡ numbers_where (λ facts. bytes_eq name facts.name) packages → r ≡ eqb (length lent) 0 → r ≡ false → stands_in packages name ≡ true
-stands_some packages name lent r is size f = by lent is (sym size ∙ f)
-  where
-    by : (list : List ℕ) → list ≡ numbers_where (λ facts. bytes_eq name facts.name) packages → eqb (length list) 0 ≡ false → stands_in packages name ≡ true
-    by [] e z = absurd (false≢true (sym z))
-    by (n ∷ ns) e z =
-        let w : (n < length packages) × (bytes_eq name (stanza_at packages n).name ≡ true) = number_cases (λ facts. bytes_eq name facts.name) packages n (subst (λ z. In n z) e here) in
-        any_from (λ facts. bytes_eq name facts.name) packages (stanza_at packages n) (In_at packages n no_stanza w.0) w.1
 
 -- the packages of a name are packages
 pub named_below : (packages : List PackageFacts) (name lent : List ℕ) → lent ≡ numbers_where (λ facts. bytes_eq name facts.name) packages → (n : ℕ) → In n lent → n < length packages

@@ -1,11 +1,9 @@
 -- The names of both suites.
-use Rattle.std.specs.Prelude.{◌≡◌, ℕ, Bool, List, filter}
+use Rattle.std.specs.Prelude.{ℕ, Bool, List, filter}
 use Rattle.std.specs.List.{list_any}
 use Rattle.std.specs.Str.{bytes_eq}
 use Rattle.relation_fields.specs.declared.packages.PackageFacts.{PackageFacts}
 use Rattle.repo_model.specs.Goals.{names_in}
-use Rattle.virtual_provides.specs.Numbers.{numbers_under, numbers_where}
-use Rattle.virtual_provides.specs.declared.numbers.NumbersByName.{NumbersByName}
 
 -- a package has the name
 abbrev pub stands_in : List PackageFacts → List ℕ → Bool
@@ -14,7 +12,3 @@ stands_in packages name = list_any (λ facts. bytes_eq name facts.name) packages
 -- the names of the old suite that a package of the new one has, ascending by bytes
 abbrev pub names_of_both : List PackageFacts → List PackageFacts → List (List ℕ)
 names_of_both old new = filter (stands_in new) (names_in old)
-
--- the table has the packages of each name
-pub record HasNames (packages : List PackageFacts) (table : NumbersByName) : Type 0 where
-  pub each : (name : List ℕ) → numbers_under table name ≡ numbers_where (λ facts. bytes_eq name facts.name) packages

@@ -8,7 +8,7 @@ ghost use Rattle.suite_compare.specs.Answering.{unknown_goal, OnUnknown};
 use crate::answers::DecideError;
 use crate::view::SuiteView;
 use listed::sort_once;
-use repo_model::{Goal, NamedPackages};
+use repo_model::Goal;
 use row_book::Needs;
 use std::alloc::{AllocError, Global};
 
@@ -26,11 +26,10 @@ pub(crate) fn ask(alloc: Global, view: &SuiteView, goals: &[Goal]) -> Result<Ask
     ensures known { OnOk result (unknown_goal view.now.suite.packages goals.now ≡ None) }
     ensures unknown { IfErr result (OnUnknown (λ goal. unknown_goal view.now.suite.packages goals.now ≡ Some goal)) }
 {
-    let named = NamedPackages::of(alloc, &view.suite, goals)?;
     let mut packages = Needs::new(alloc);
     let mut classes = Needs::new(alloc);
     for (place, goal) in goals.iter().enumerate() {
-        let chosen = named.chosen_by(alloc, &view.suite, goal)?;
+        let chosen = view.suite.chosen_by(alloc, goal)?;
         if chosen.is_empty() {
             return Err(DecideError::Unknown {
                 goal: place as u64 + 1,

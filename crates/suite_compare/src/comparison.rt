@@ -22,7 +22,7 @@ ghost use Rattle.suite_compare.specs.Report.{report};
 
 use crate::gather::{JointTable, Partners, joint_table, new_kind, old_kind, partners_of};
 use crate::kinds::kinds_of;
-use crate::names::{classes_of_names, names_among, packages_by_name};
+use crate::names::{classes_of_names, names_among};
 use crate::report::{LineList, Report};
 use crate::tell::{tell_pairs, tell_singles};
 use crate::verdicts::{BadList, Judge, bad_lists, bads_at, verdicts_alone, verdicts_by};
@@ -79,9 +79,8 @@ fn side_of<'a>(
 fn shared_names(alloc: Global, old: &SuiteView, new: &SuiteView) -> Result<Vec<Bytes>, AllocError>
     ensures { IfOk result (λ names. names.items ≡ names_of_both old.now.suite.packages new.now.suite.packages) }
 {
-    let table = packages_by_name(alloc, new.suite.packages.as_slice())?;
     let all = old.suite.names(alloc)?;
-    let names = names_among(alloc, all.as_slice(), &table)?;
+    let names = names_among(alloc, all.as_slice(), &new.suite)?;
     Ok(names)
 }
 
@@ -99,8 +98,7 @@ fn side_by_names<'a>(
     ensures kernel { IfOk result (λ side. kernel_in side.judge ≡ kernel view.now.limit view.now.kernel.hold (suite_repository view.now.suite.home view.now.suite.packages)) }
     ensures budget { IfOk result (λ side. side.judge.budget ≡ budget) }
 {
-    let table = packages_by_name(alloc, view.suite.packages.as_slice())?;
-    let lists = classes_of_names(alloc, view, &table, names)?;
+    let lists = classes_of_names(alloc, view, names)?;
     let side = side_of(
         alloc,
         &view.pool,

@@ -32,7 +32,6 @@ pub use decision::decide;
 
 // What a new suite has broken of an old one.
 pub use comparison::compare;
-pub use names::packages_by_name;
 pub use report::{Finding, LineList, Report, ReportLine};
 
 // Laws.

@@ -1,47 +1,28 @@
 //! The names of both suites, and their classes.
-ghost use Rattle.std.specs.Prelude.{◌≡◌, ◌≤◌, ℕ, List, filter, length, map, IfOk};
-ghost use Rattle.std.specs.Str.{bytes_eq};
-ghost use Rattle.virtual_provides.specs.Numbers.{numbers_under, numbers_where};
+ghost use Rattle.std.specs.Prelude.{◌≡◌, filter, map, IfOk};
 ghost use Rattle.repo_model.specs.Goals.{any_version};
 ghost use Rattle.suite_compare.specs.Asking.{image_of};
-ghost use Rattle.suite_compare.specs.Names.{stands_in, HasNames};
-ghost use Rattle.repo_model.specs.Limits.{most_packages};
+ghost use Rattle.suite_compare.specs.Names.{stands_in};
 
 use crate::ask::image_of;
 use crate::view::SuiteView;
 use clause_pool::NumList;
 use deb_version::Bytes;
 use listed::Listed;
-use relation_fields::PackageFacts;
+use repo_model::Suite;
 use std::alloc::{AllocError, Global};
-use virtual_provides::NumbersByName;
 
-/// The numbers of the packages of each name.
-pub fn packages_by_name(
-    alloc: Global,
-    packages: &[PackageFacts],
-) -> Result<NumbersByName, AllocError>
-    requires { length packages.now ≤ most_packages }
-    ensures { IfOk result (HasNames packages.now) }
-{
-    let mut table = NumbersByName::new(alloc);
-    for (number, package) in packages.iter().enumerate() {
-        table.put(package.name.as_slice(), number as u32)?;
-    }
-    Ok(table)
-}
-
-/// Those of the names that a package has.
+/// Those of the names that a package of the suite has.
 pub(crate) fn names_among(
     alloc: Global,
     names: &[Bytes],
-    table: &NumbersByName,
+    suite: &Suite,
 ) -> Result<Vec<Bytes>, AllocError>
-    ensures { (packages : List PackageFacts) → HasNames packages table.now → IfOk result (λ made. made.items ≡ filter (stands_in packages) names.now) }
+    ensures { IfOk result (λ made. made.items ≡ filter (stands_in suite.now.packages) names.now) }
 {
     let mut made = Vec::new(alloc);
     for name in names {
-        if table.numbers(name.as_slice()).is_empty() {
+        if !suite.has_name(name.as_slice()) {
             continue;
         }
         let copy = Bytes::copy(alloc, name.as_slice())?;
@@ -54,16 +35,14 @@ pub(crate) fn names_among(
 pub(crate) fn classes_of_names(
     alloc: Global,
     view: &SuiteView,
-    table: &NumbersByName,
     names: &[Bytes],
 ) -> Result<Vec<NumList>, AllocError>
-    requires { HasNames view.now.suite.packages table.now }
     ensures { IfOk result (λ lists. lists.items ≡ map (λ name. image_of view.now.limit view.now.kernel.hold view.now.suite.home view.now.suite.packages (any_version name)) names.now) }
 {
     let mut lists = Vec::new(alloc);
     for name in names {
-        let chosen = table.numbers(name.as_slice());
-        let image = image_of(alloc, view, chosen)?;
+        let chosen = view.suite.named(alloc, name.as_slice())?;
+        let image = image_of(alloc, view, &chosen)?;
         lists.push(Listed::of(image))?;
     }
     Ok(lists)

@@ -14,4 +14,5 @@ invariant_of-result c =
     record {
       inside = λ m i.
           subst (λ n. m.class < n) (sym (c.in_ok-book.ensures.size ∙ k.holds.classes)) ((orderly c.args.bytes.now k.reading k.given).members m (subst (In m) k.holds.members i));
+      registered = k.holds.known;
     }

@@ -1,11 +1,10 @@
-use Rattle.std.proofs.Common.{◌+◌, ◌∙◌, ap, arith, length}
+use Rattle.std.proofs.Common.{◌+◌, ap₂, arith}
 use Rattle.listed.proofs.Lists.{filter_short}
-use Rattle.migrate_plan.specs.Entered.{has_number}
-use Rattle.migrate_plan.proofs.Entering.{counted_by}
+use Rattle.migrate_plan.specs.Mix.{is_taken}
 use Rattle.migrate_plan.proofs.checks.packages_with.Goals as goal
 
 pub overflow_add-count : goal.overflow_add-count
-overflow_add-count c = omega (arith, c.count_among.ensures, filter_short (λ facts. has_number c.in_ok-table.table facts.name) c.args.new.now)
+overflow_add-count c = omega (arith, c.count.ensures, c.in_ok-found.ensures, filter_short (λ facts. is_taken c.args.names.now facts.name) c.args.new.now.packages, c.args.old.now.few, c.args.new.now.few)
 
 pub returns : goal.returns
-returns c = ap (λ n. length c.args.old.now + n) (c.count_among.ensures ∙ counted_by c.args.names.now c.in_ok-table.table c.args.new.now c.in_ok-table.ensures)
+returns c = ap₂ (λ m n. m + n) c.count.ensures c.in_ok-found.ensures

@@ -3,4 +3,4 @@ use Rattle.migrate_plan.specs.Differing.{differs}
 use Rattle.migrate_plan.proofs.differing.those_that_differ.Given as goal
 
 abbrev pub invariant-loop-name : goal.invariant-loop-name
-invariant-loop-name l = l.made ≡ filter (differs l.old l.new) (take l.name-index l.names)
+invariant-loop-name l = l.made ≡ filter (differs l.old.packages l.new.packages) (take l.name-index l.names)

@@ -1,6 +1,6 @@
 use Rattle.std.proofs.Common.{◌≡◌, ◌∙◌, [], ap, subst, take, length, arith}
 use Rattle.relation_fields.specs.declared.packages.PackageFacts.{PackageFacts}
-use Rattle.virtual_provides.specs.Numbers.{numbers_where}
+use Rattle.package_register.specs.Numbers.{numbers_where}
 use Rattle.repo_model.specs.Pairs.{is_named, Adds, IsAgainst, IsFound, IsPairWith}
 use Rattle.repo_model.specs.Stanzas.{stanza_at}
 use Rattle.repo_model.proofs.Numbers.{same_stanza}

@@ -1,18 +1,10 @@
-use Rattle.std.proofs.Common.{◌≤◌, ◌∙◌, ap, length, map, refl, subst, sym}
-use Rattle.repo_model.specs.Limits.{most_packages}
+use Rattle.std.proofs.Common.{◌∙◌, ap, map, refl}
 use Rattle.suite_compare.specs.Asking.{verdict_in, wanted_by}
 use Rattle.suite_compare.proofs.Answered.{classes_fit}
-use Rattle.status_check.specs.Lookup.{HasVersions}
 use Rattle.status_check.specs.Own.{own_home, own_packages}
 use Rattle.status_check.specs.Report.{had_goals, line_for, state_of}
 use Rattle.status_check.proofs.Judging.{judged, state_moved, told_healthy, verdict_of_view}
 use Rattle.status_check.proofs.status.status_report.Goals as goal
-
-pub packages_by_version-requires : goal.packages_by_version-requires
-packages_by_version-requires c = subst (λ xs. length xs ≤ most_packages) (sym c.as_slice-index.ensures) c.args.view.now.suite.few
-
-pub look_up-requires : goal.look_up-requires
-look_up-requires c = subst (λ xs. HasVersions xs c.in_ok-table.table) c.as_slice-index.ensures c.in_ok-table.ensures
 
 pub suite_state-requires-clause-fit : goal.suite_state-requires-clause-fit
 suite_state-requires-clause-fit c =

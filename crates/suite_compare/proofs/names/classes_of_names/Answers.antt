@@ -1,12 +1,14 @@
-use Rattle.std.proofs.Common.{◌∙◌, ap}
+use Rattle.std.proofs.Common.{◌∙◌, ap, sym}
 use Rattle.repo_model.specs.Goals.{any_version, packages_named}
 use Rattle.repo_model.specs.Repository.{suite_repository}
 use Rattle.suite_compare.specs.Asking.{goal_classes, image_of}
-use Rattle.suite_compare.proofs.Named.{mapped_step, named_below, named_is}
+use Rattle.repo_model.proofs.Chosen.{named_is}
+use Rattle.suite_compare.proofs.Named.{mapped_step, named_below}
 use Rattle.suite_compare.proofs.names.classes_of_names.Goals as goal
 
 pub image_of-requires : goal.image_of-requires
-image_of-requires c = named_below c.args.view.now.suite.packages c.as_slice.result.now c.numbers-chosen.result.now (c.numbers-chosen.ensures ∙ c.requires.each c.as_slice.result.now)
+image_of-requires c =
+    named_below c.args.view.now.suite.packages c.as_slice.result.now c.deref.result.now (c.deref.ensures.value ∙ c.in_ok-chosen.ensures ∙ sym (named_is c.args.view.now.suite.packages c.as_slice.result.now))
 
 pub loop-name-preserved : goal.loop-name-preserved
-loop-name-preserved c = mapped_step (λ name. image_of c.args.view.now.limit c.args.view.now.kernel.hold c.args.view.now.suite.home c.args.view.now.suite.packages (any_version name)) c.args.names.now c.loop-name.name-index c.name-item.result c.loop-name.lists.items c.push.new.self.items c.of.result c.loop-name-test.true c.name-item.is c.in_ok-push.ensures.items (c.of.ensures ∙ c.in_ok-image.ensures ∙ ap (goal_classes c.args.view.now.limit c.args.view.now.kernel.hold (suite_repository c.args.view.now.suite.home c.args.view.now.suite.packages)) (c.numbers-chosen.ensures ∙ c.requires.each c.as_slice.result.now ∙ named_is c.args.view.now.suite.packages c.as_slice.result.now ∙ ap (λ z. packages_named c.args.view.now.suite.packages (any_version z)) c.as_slice.ensures)) c.loop-name.invariant
+loop-name-preserved c = mapped_step (λ name. image_of c.args.view.now.limit c.args.view.now.kernel.hold c.args.view.now.suite.home c.args.view.now.suite.packages (any_version name)) c.args.names.now c.loop-name.name-index c.name-item.result c.loop-name.lists.items c.push.new.self.items c.of.result c.loop-name-test.true c.name-item.is c.in_ok-push.ensures.items (c.of.ensures ∙ c.in_ok-image.ensures ∙ ap (goal_classes c.args.view.now.limit c.args.view.now.kernel.hold (suite_repository c.args.view.now.suite.home c.args.view.now.suite.packages)) (c.deref.ensures.value ∙ c.in_ok-chosen.ensures ∙ ap (λ z. packages_named c.args.view.now.suite.packages (any_version z)) c.as_slice.ensures)) c.loop-name.invariant

@@ -1,7 +1,6 @@
-use Rattle.std.proofs.Common.{◌≡◌, List, filter, take}
-use Rattle.relation_fields.specs.declared.packages.PackageFacts.{PackageFacts}
-use Rattle.suite_compare.specs.Names.{stands_in, HasNames}
+use Rattle.std.proofs.Common.{◌≡◌, filter, take}
+use Rattle.suite_compare.specs.Names.{stands_in}
 use Rattle.suite_compare.proofs.names.names_among.Given as goal
 
 abbrev pub invariant-loop-name : goal.invariant-loop-name
-invariant-loop-name l = (packages : List PackageFacts) → HasNames packages l.table → l.made.items ≡ filter (stands_in packages) (take l.name-index l.names)
+invariant-loop-name l = l.made.items ≡ filter (stands_in l.suite.packages) (take l.name-index l.names)

@@ -1,5 +1,7 @@
 use Rattle.std.proofs.Common.{ap, map, refl, subst, sym}
-use Rattle.kernel_text.specs.MemberTables.{IsTableOf}
+use Rattle.package_register.proofs.Registered.{none_registered}
+use Rattle.kernel_text.specs.declared.member.Member.{Member}
+use Rattle.kernel_text.specs.Members.{IsMemberRegister}
 use Rattle.kernel_text.specs.Reader.{entry_of}
 use Rattle.kernel_text.proofs.reader.Reader.new.Goals as goal
 
@@ -9,9 +11,9 @@ returns c = record {
   previous = λ clause e. absurd (cc e);
   of_format = refl;
   classes = refl;
-  members = c.new-2.ensures;
-  known = subst (λ members. IsTableOf members c.new-3.result) (sym c.new-2.ensures) c.new-3.ensures;
-  held = c.new-4.ensures;
-  clauses = ap (map entry_of) c.new-5.ensures;
-  conflicts = c.new-6.ensures;
+  members = c.new.ensures;
+  known = subst (λ members. IsMemberRegister members c.new-2.result) (sym c.new.ensures) (none_registered (λ (m : Member). m.name) (λ m. m.version) c.new-2.result);
+  held = c.new-3.ensures;
+  clauses = ap (map entry_of) c.new-4.ensures;
+  conflicts = c.new-5.ensures;
 }

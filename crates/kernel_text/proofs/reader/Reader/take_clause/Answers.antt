@@ -3,17 +3,17 @@ use Rattle.std.proofs.lemmas.Bool.{both_ways}
 use Rattle.std.proofs.lemmas.List.{map-append}
 use Rattle.listed.specs.Lists.{Ascending, In, has}
 use Rattle.listed.proofs.Lists.{In_has, has_In}
-use Rattle.kernel_text.specs.Reader.{entry_of, may_add_clause}
+use Rattle.kernel_text.specs.Reader.{entry_of, last_clause, may_add_clause}
 use Rattle.kernel_text.specs.Reading.{ClassClause}
-use Rattle.kernel_text.proofs.ClauseTaken.{may_clause, may_not_clause, same_clause}
+use Rattle.kernel_text.proofs.ClauseTaken.{last_pushed, may_clause, may_not_clause, same_clause}
 use Rattle.kernel_text.proofs.reader.Reader.take_clause.Goals as goal
 
 -- the previous clause is the last line's, where that is one
 pub returns-then-not-may_add_clause : goal.returns-then-not-may_add_clause
 returns-then-not-may_add_clause c t h a =
-    let previous = c.args.self.now.previous in
+    let previous = last_clause c.args.self.now.clauses in
     let clause = c.args.clause in
-    let same = ap (λ kind. may_add_clause kind previous clause) (sym h.last) ∙ ap₂ (may_add_clause c.args.self.now.last) (sym c.as_slice.ensures) (sym c.as_slice-numbers.ensures) in
+    let same = ap (λ kind. may_add_clause kind previous clause) (sym h.last) ∙ ap₂ (may_add_clause c.args.self.now.last) (sym c.previous.ensures) (sym c.as_slice-numbers.ensures) in
     may_not_clause t.last previous clause h.previous (same ∙ sym c.if-not-may_add_clause.ensures) a.0
 
 -- the clause holds its own class
@@ -25,10 +25,10 @@ returns-then-holds c t h a =
 
 pub returns : goal.returns
 returns c t h =
-    let previous = c.args.self.now.previous in
+    let previous = last_clause c.args.self.now.clauses in
     let clause = c.args.clause in
     let numbers = c.as_slice-numbers.result.now in
-    let same = ap (λ kind. may_add_clause kind previous clause) (sym h.last) ∙ ap₂ (may_add_clause c.args.self.now.last) (sym c.as_slice.ensures) (sym c.as_slice-numbers.ensures) in
+    let same = ap (λ kind. may_add_clause kind previous clause) (sym h.last) ∙ ap₂ (may_add_clause c.args.self.now.last) (sym c.previous.ensures) (sym c.as_slice-numbers.ensures) in
     let class = c.this_class-class.ensures ∙ ap (λ n. n - 1) h.classes in
     let entry : ℕ → ClassClause = λ k. record { class = k; clause = clause } in (
       (
@@ -42,7 +42,7 @@ returns c t h =
       ),
       record {
         last = refl;
-        previous = λ d e. c.of-previous.ensures ∙ c.in_ok-from_slice.ensures.items ∙ c.as_slice-numbers.ensures ∙ same_clause clause d e;
+        previous = λ d e. ap last_clause c.in_ok-push.ensures.ok ∙ last_pushed c.args.self.now.clauses (record { class = c.this_class-class.result; numbers = clause }) ∙ same_clause clause d e;
         of_format = h.of_format;
         classes = h.classes;
         members = h.members;

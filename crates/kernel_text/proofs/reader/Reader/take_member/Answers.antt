@@ -1,28 +1,28 @@
 use Rattle.std.proofs.Common.{ℕ, [], ◌∷◌, ◌++◌, ◌-◌, refl, sym, ap, ap₂, ◌∙◌, subst}
 use Rattle.kernel_text.specs.declared.member.Member.{Member}
-use Rattle.kernel_text.specs.MemberTables.{Enters, IsTableOf}
-use Rattle.kernel_text.specs.Reader.{may_add_member}
+use Rattle.kernel_text.specs.Members.{IsMemberRegister}
+use Rattle.kernel_text.specs.Reader.{Enters, may_add_member}
 use Rattle.kernel_text.specs.Reading.{IsNew}
-use Rattle.kernel_text.proofs.MemberTable.{may_member, other_line}
+use Rattle.kernel_text.proofs.Membership.{may_member, other_line}
 use Rattle.kernel_text.proofs.reader.Reader.take_member.Goals as goal
 
--- the table is that of the members
-pub enter-requires-clause-table : goal.enter-requires-clause-table
-enter-requires-clause-table c = subst (λ members. IsTableOf members c.args.self.now.table) (sym c.as_slice.ensures) c.requires.holds.1.known
+-- the register is that of the members
+pub enter-requires : goal.enter-requires
+enter-requires c = subst (λ members. IsMemberRegister members c.args.self.now.register) (sym c.as_slice-members.ensures) c.requires.holds.1.known
 
 -- the package is a member before
 pub returns-then-not-is_new : goal.returns-then-not-is_new
 returns-then-not-is_new c t h a =
     let m : Member = record { class = c.this_class-class.result; name = c.args.name; version = c.args.version } in
-    let entered = subst (λ members. Enters members m c.enter.new.self c.in_ok-is_new.is_new) c.as_slice.ensures c.in_ok-is_new.ensures in
-    subst (Enters c.args.self.now.members m c.enter.new.self) c.if-not-is_new.true entered (subst (IsNew m) (sym h.members) a.2)
+    let entered = subst (λ members. Enters members m c.enter.new.register c.in_ok-is_new.is_new) c.as_slice-members.ensures c.in_ok-is_new.ensures in
+    subst (Enters c.args.self.now.members m c.enter.new.register) c.if-not-is_new.true entered (subst (IsNew m) (sym h.members) a.2)
 
 -- it is none of them, and stands behind them now
 pub returns : goal.returns
 returns c t h =
     let m : Member = record { class = c.this_class-class.result; name = c.args.name; version = c.args.version } in
-    let entered = subst (λ members. Enters members m c.enter.new.self c.in_ok-is_new.is_new) c.as_slice.ensures c.in_ok-is_new.ensures in
-    let new = subst (Enters c.args.self.now.members m c.enter.new.self) c.if-not-is_new.false entered in
+    let entered = subst (λ members. Enters members m c.enter.new.register c.in_ok-is_new.is_new) c.as_slice-members.ensures c.in_ok-is_new.ensures in
+    let new = subst (Enters c.args.self.now.members m c.enter.new.register) c.if-not-is_new.false entered in
     let named : Member → ℕ → Member = λ o k. record { class = k; name = o.name; version = o.version } in (
       (
         may_member t.last (ap may_add_member (sym h.last) ∙ sym c.if-not-may_add_member.ensures),
@@ -35,7 +35,7 @@ returns c t h =
         of_format = h.of_format;
         classes = h.classes;
         members = c.in_ok-push.ensures.ok ∙ ap₂ (λ ms k. ms ++ named m k ∷ []) h.members (c.this_class-class.ensures ∙ ap (λ n. n - 1) h.classes);
-        known = subst (λ members. IsTableOf members c.enter.new.self) (sym c.in_ok-push.ensures.ok) new.1;
+        known = subst (λ members. IsMemberRegister members c.enter.new.register) (sym c.in_ok-push.ensures.ok) new.1;
         held = h.held;
         clauses = h.clauses;
         conflicts = h.conflicts;

@@ -2,8 +2,13 @@ use Rattle.std.proofs.Common.{◌≡◌, ◌<◌, ◌+◌, ◌∙◌, [], List, 
 use Rattle.listed.specs.Lists.{Ascending, In}
 use Rattle.kernel_text.specs.declared.member.Member.{Member}
 use Rattle.kernel_text.specs.Images.{image_of, unknown_goal}
+use Rattle.kernel_text.specs.Members.{IsMemberRegister}
 use Rattle.kernel_text.proofs.GoalImages.{found_unknown, image_ascending, known_goal, no_image, none_there, one_image, some_image, some_there}
 use Rattle.kernel_text.proofs.stored.StoredKernel.images.Goals as goal
+
+-- the register is that of the members
+pub image_of-requires : goal.image_of-requires
+image_of-requires c = subst (λ members. IsMemberRegister members c.args.self.now.register) (sym c.as_slice-members.ensures) c.args.self.now.registered
 
 -- the goal has no class, so it names no package
 pub returns-then-is_empty-clause-unknown : goal.returns-then-is_empty-clause-unknown

@@ -6,22 +6,22 @@ use Rattle.repo_model.specs.Repository.{suite_repository}
 use Rattle.repo_model.proofs.Booked.{booked, numbers_fit, row_count}
 use Rattle.repo_model.proofs.suite.Suite.book.Goals as goal
 
-pub build-requires-2-clause-rows : goal.build-requires-2-clause-rows
-build-requires-2-clause-rows c = subst (RowsOf c.intern_rows.new.pool) (sym c.deref.ensures.value) c.in_ok-rows.ensures.rows.within
+pub build-requires-clause-rows : goal.build-requires-clause-rows
+build-requires-clause-rows c = subst (RowsOf c.intern_rows.new.pool) (sym c.deref.ensures.value) c.in_ok-rows.ensures.rows.within
 
-pub build-requires-2-clause-numbers : goal.build-requires-2-clause-numbers
-build-requires-2-clause-numbers c =
+pub build-requires-clause-numbers : goal.build-requires-clause-numbers
+build-requires-clause-numbers c =
     subst (NumbersFit c.intern_rows.new.pool) (sym c.deref.ensures.value)
     (numbers_fit c.args.self.now.home c.as_slice-packages.result.now c.args.pool.now c.intern_rows.new.pool c.in_ok-rows.rows.items c.in_ok-rows.ensures.rows)
 
-pub build-requires-2-clause-pairs : goal.build-requires-2-clause-pairs
-build-requires-2-clause-pairs c =
+pub build-requires-clause-pairs : goal.build-requires-clause-pairs
+build-requires-clause-pairs c =
     let count = row_count c.args.self.now.home c.as_slice-packages.result.now c.args.pool.now c.intern_rows.new.pool c.in_ok-rows.rows.items c.in_ok-rows.ensures.rows in
     subst (λ pairs. PairsFit pairs (length c.deref.result.now)) (sym c.deref-2.ensures.value)
     (subst (PairsFit c.in_ok-pairs.pairs.items) (sym (ap length c.deref.ensures.value ∙ count)) c.in_ok-pairs.ensures.fit)
 
-pub build-requires-2-clause-few : goal.build-requires-2-clause-few
-build-requires-2-clause-few c =
+pub build-requires-clause-few : goal.build-requires-clause-few
+build-requires-clause-few c =
     let count = row_count c.args.self.now.home c.as_slice-packages.result.now c.args.pool.now c.intern_rows.new.pool c.in_ok-rows.rows.items c.in_ok-rows.ensures.rows in
     let rows : length c.deref.result.now ≡ length c.as_slice-packages.result.now = ap length c.deref.ensures.value ∙ count in
     let packages : length c.as_slice-packages.result.now ≡ length c.args.self.now.packages = ap length c.as_slice-packages.ensures in

@@ -1,10 +1,10 @@
 //! The names of both suites, and their classes.
-ghost use Rattle.std.specs.Prelude.{◌≡◌, ◌≤◌, ℕ, List, filter, length, map, IfOk};
+ghost use Rattle.std.specs.Prelude.{◌≡◌, ◌≤◌, length, map, IfOk};
 ghost use Rattle.std.specs.Str.{bytes_eq};
 ghost use Rattle.virtual_provides.specs.Numbers.{numbers_under, numbers_where};
 ghost use Rattle.repo_model.specs.Goals.{any_version};
 ghost use Rattle.suite_compare.specs.Asking.{image_of};
-ghost use Rattle.suite_compare.specs.Names.{stands_in, HasNames};
+ghost use Rattle.suite_compare.specs.Names.{HasNames};
 ghost use Rattle.repo_model.specs.Limits.{most_packages};
 
 use crate::ask::image_of;
@@ -29,25 +29,6 @@ pub fn packages_by_name(
         table.put(package.name.as_slice(), number as u32)?;
     }
     Ok(table)
-}
-
-/// Those of the names that a package has.
-pub(crate) fn names_among(
-    alloc: Global,
-    names: &[Bytes],
-    table: &NumbersByName,
-) -> Result<Vec<Bytes>, AllocError>
-    ensures { (packages : List PackageFacts) → HasNames packages table.now → IfOk result (λ made. made.items ≡ filter (stands_in packages) names.now) }
-{
-    let mut made = Vec::new(alloc);
-    for name in names {
-        if table.numbers(name.as_slice()).is_empty() {
-            continue;
-        }
-        let copy = Bytes::copy(alloc, name.as_slice())?;
-        made.push(copy)?;
-    }
-    Ok(made)
 }
 
 /// The classes of the packages of each name.

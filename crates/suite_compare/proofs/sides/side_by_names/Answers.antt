@@ -6,7 +6,7 @@ use Rattle.suite_compare.specs.Comparing.{IsSide}
 use Rattle.suite_compare.specs.Kinds.{AreKinds}
 use Rattle.suite_compare.specs.Names.{HasNames}
 use Rattle.suite_compare.proofs.Named.{lists_fit, lists_need}
-use Rattle.suite_compare.proofs.comparison.side_by_names.Goals as goal
+use Rattle.suite_compare.proofs.sides.side_by_names.Goals as goal
 
 pub packages_by_name-requires : goal.packages_by_name-requires
 packages_by_name-requires c = subst (λ z. length z ≤ most_packages) (sym c.as_slice.ensures) c.args.view.now.suite.few
@@ -25,7 +25,7 @@ side_of-requires-clause-fit c =
 
 pub returns-clause-side : goal.returns-clause-side
 returns-clause-side c =
-    subst (λ n. IsSide n c.in_ok-side.side) (ap length (c.as_slice-2.ensures.value ∙ c.in_ok-lists.ensures) ∙ length-map c.args.names.now _) c.in_ok-side.ensures.side
+    subst (λ n. IsSide n c.in_ok-side.side c.in_ok-side.side.of.items) (ap length (c.as_slice-2.ensures.value ∙ c.in_ok-lists.ensures) ∙ length-map c.args.names.now _) c.in_ok-side.ensures.side
 
 pub returns-clause-kinds : goal.returns-clause-kinds
 returns-clause-kinds c =

@@ -1,5 +1,5 @@
 -- The mix that is made, and the line that is made by it.
-use Rattle.std.proofs.Common.{◌≡◌, ◌<◌, ◌≤◌, ℕ, Bool, List, [], ◌∷◌, ◌++◌, length, get_or, map, Some, None, Option, Ok, inl, inr, sym, ap, ◌∙◌, subst, arith}
+use Rattle.std.proofs.Common.{◌≡◌, ℕ, Bool, List, [], ◌∷◌, ◌++◌, length, map, Some, None, Option, Ok, inl, inr, sym, ap, ◌∙◌, subst}
 use Rattle.std.proofs.lemmas.List.{length-map}
 use Rattle.stanza_reader.specs.Blanking.{blanked, HasFlags}
 use Rattle.stanza_reader.specs.Stanzas.{all_or_fault}
@@ -17,7 +17,7 @@ use Rattle.suite_compare.specs.Asking.{verdict_in}
 use Rattle.suite_compare.specs.Names.{names_of_both}
 use Rattle.suite_compare.specs.Refusals.{home_in, packages_in, RefusesIndex}
 use Rattle.suite_compare.specs.declared.refusals.ViewError.TheVariants.{Limit}
-use Rattle.suite_compare.specs.Report.{report}
+use Rattle.suite_compare.specs.Report.{first_of, report}
 use Rattle.suite_compare.specs.declared.report.ReportLine.{ReportLine}
 use Rattle.migrate_plan.specs.Mix.{is_left, is_taken, mix}
 use Rattle.migrate_plan.specs.Plan.{line_behind, lines_between, outcome_of, passed_in, settings_of, taken_in, Settings}
@@ -90,13 +90,14 @@ all_inside taken all name inside own other i = elim (In_append_cases taken (name
 pub limit_there : (text : List ℕ) (limit : ℕ) (hold : Bool) (round gone number count : ℕ) (name version : List ℕ) → RefusesIndex text limit hold (Limit round gone number count name version) → IsViewAt text limit hold None
 limit_there text limit hold round gone number count name version h = (record { number = round; gone = gone; over = number; count = count }, h.1.there)
 
--- the line of a name by a list that was lent: it is taken where the list is empty, and else it is left with the first line
-pub taken_by_none : (name made : List ℕ) (told lent : List ReportLine) → made ≡ name → lent ≡ told → length lent < 1 → Take made ≡ outcome_of name None told
-taken_by_none name made [] lent same is short = ap Take same
-taken_by_none name made (line ∷ more) lent same is short = let long : length lent ≡ length (line ∷ more) = ap length is in absurd (omega arith)
+-- the line of a name by the first line of a list, or none: it is taken where the list is empty, and else it is left with that line
+pub taken_by_none : (name made : List ℕ) (first : Option ReportLine) (told : List ReportLine) → made ≡ name → first ≡ None → first ≡ first_of told → Take made ≡ outcome_of name None told
+taken_by_none name made first [] same is so = ap Take same
+taken_by_none name made first (line ∷ more) same is so = let e : None ≡ Some line = sym is ∙ so in absurd cc
 
-pub left_by_first : (name made : List ℕ) (told lent : List ReportLine) (first line : ReportLine) → made ≡ name → lent ≡ told → 1 ≤ length lent → first ≡ get_or lent 0 first → line ≡ first
-    → LeftLine made line ≡ outcome_of name None told
-left_by_first name made [] lent first line same is long at copied = let short : length lent ≡ length {A = ReportLine} [] = ap length is in absurd (omega arith)
-left_by_first name made (told ∷ more) lent first line same is long at copied =
-    ap (λ n. LeftLine n line) same ∙ ap (LeftLine name) (copied ∙ at ∙ ap (λ lines. get_or lines 0 first) is)
+pub left_by_first : (name made : List ℕ) (first : Option ReportLine) (line : ReportLine) (told : List ReportLine) → made ≡ name → first ≡ Some line → first ≡ first_of told → LeftLine made line ≡ outcome_of name None told
+left_by_first name made first line [] same is so = let e : Some line ≡ None = sym is ∙ so in absurd cc
+left_by_first name made first line (other ∷ more) same is so =
+    let e : Some line ≡ Some other = sym is ∙ so in
+    let l : line ≡ other = cc in
+    ap (λ n. LeftLine n line) same ∙ ap (LeftLine name) l

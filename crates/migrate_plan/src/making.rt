@@ -8,6 +8,7 @@ ghost use Rattle.migrate_plan.specs.Plan.{line_behind, lines_behind, plan, setti
 ghost use Rattle.migrate_plan.specs.Promises.{AreRight, MixesAreIndexes, TakesSafely, planned_name};
 ghost use Rattle.migrate_plan.specs.Refusals.{Refuses, plan_refusal};
 ghost use Rattle.migrate_plan.specs.declared.plan.PlanLine.{PlanLine};
+ghost use Rattle.suite_compare.specs.Comparing.{IsOldSide};
 ghost use Rattle.suite_compare.specs.Refusals.{packages_in};
 ghost use Rattle.repo_model.specs.Limits.{most_bytes};
 
@@ -20,7 +21,7 @@ use crate::trying::line_of;
 use deb_version::Bytes;
 use repo_model::Suite;
 use std::alloc::{AllocError, Global};
-use suite_compare::SuiteView;
+use suite_compare::{OldSide, SuiteView};
 
 /// Which of the names that differ can be taken over from a new index into an old one: each in turn, ascending by bytes, where
 /// the mix of the two with it and the names taken before is within the clause limit, and breaks nothing of the old index and
@@ -81,18 +82,18 @@ fn lines_of(
     requires budget { IsBudget budget }
     ensures { IfOk result (λ lines. lines ≡ lines_behind (line_behind (settings_of budget old.now.limit old.now.kernel.hold) old_bytes.now new_bytes.now) [] names.now) }
 {
+    let side = OldSide::new(alloc, old, budget)?;
     let mut lines = PlanList::new(alloc);
     let mut taken = Vec::new(alloc);
     for name in names {
         let line = try_name(
             alloc,
             old_bytes,
-            old,
+            &side,
             new_bytes,
             new,
             taken.as_slice(),
             name.as_slice(),
-            budget,
         )?;
         put_taken(alloc, &mut taken, &line)?;
         lines.push(line)?;
@@ -104,24 +105,24 @@ fn lines_of(
 fn try_name(
     alloc: Global,
     old_bytes: &[u8],
-    old: &SuiteView,
+    old: &OldSide,
     new_bytes: &[u8],
     new: &Suite,
     taken: &[Bytes],
     name: &[u8],
-    budget: u64,
 ) -> Result<PlanLine, AllocError>
-    requires old { IsSuiteOf old_bytes.now old.now.suite.packages old.now.suite.home.name }
+    requires side { IsOldSide old.now }
+    requires old { IsSuiteOf old_bytes.now old.now.view.now.suite.packages old.now.view.now.suite.home.name }
     requires new { IsSuiteOf new_bytes.now new.now.packages new.now.home.name }
     requires taken { (other : List ℕ) → In other taken.now → In other (differing (packages_in old_bytes.now) (packages_in new_bytes.now)) }
     requires name { In name.now (differing (packages_in old_bytes.now) (packages_in new_bytes.now)) }
     requires within { plan_refusal old_bytes.now new_bytes.now ≡ None }
-    requires limit { 0 < old.now.limit }
-    requires budget { IsBudget budget }
-    ensures { IfOk result (λ line. (lines : List PlanLine) → taken.now ≡ taken_in lines → line ≡ line_behind (settings_of budget old.now.limit old.now.kernel.hold) old_bytes.now new_bytes.now lines name.now) }
+    requires limit { 0 < old.now.view.now.limit }
+    ensures { let settings = settings_of old.now.budget old.now.view.now.limit old.now.view.now.kernel.hold in IfOk result (λ line. (lines : List PlanLine) → taken.now ≡ taken_in lines → line ≡ line_behind settings old_bytes.now new_bytes.now lines name.now) }
 {
-    let mix = mix_with(alloc, old_bytes, &old.suite, new_bytes, new, taken, name)?;
-    let line = line_of(alloc, old_bytes, old, mix.as_slice(), name, budget)?;
+    let suite = &old.view.suite;
+    let mix = mix_with(alloc, old_bytes, suite, new_bytes, new, taken, name)?;
+    let line = line_of(alloc, old_bytes, old, mix.as_slice(), name)?;
     Ok(line)
 }
 

@@ -21,12 +21,12 @@ use Rattle.clause_solver.specs.declared.outcomes.Verdict.{Verdict}
 use Rattle.clause_solver.specs.declared.outcomes.Verdict.TheVariants.{Spent}
 use Rattle.suite_compare.specs.Asking.{image_of, tree_of, verdict_in, verdict_of}
 use Rattle.suite_compare.specs.Bad.{AreAllBad}
-use Rattle.suite_compare.specs.Comparing.{told_report, AreVerdicts, IsSide, IsTable}
+use Rattle.suite_compare.specs.Comparing.{told_pairs, told_singles, AreVerdicts, IsSide, IsTable}
 use Rattle.suite_compare.specs.Kinds.{alone_in, kernel_in, together_in, AreJoined, AreKinds, IsJudge}
 use Rattle.suite_compare.specs.Partners.{new_kind, old_kind, ArePartners, IsJointTable}
 use Rattle.suite_compare.specs.Report.{finding, is_yes}
 use Rattle.suite_compare.specs.Telling.{partners_at, told_after, told_alone}
-use Rattle.suite_compare.specs.declared.comparison.Side.{Side}
+use Rattle.suite_compare.specs.declared.sides.Side.{Side}
 use Rattle.suite_compare.specs.declared.gather.JointTable.{JointTable}
 use Rattle.suite_compare.specs.declared.gather.Partners.{Partners}
 use Rattle.suite_compare.specs.declared.verdicts.Bad.{Bad}
@@ -34,7 +34,7 @@ use Rattle.suite_compare.specs.declared.verdicts.Judge.{Judge}
 use Rattle.suite_compare.proofs.Gathered.{is_single, pair_finding, partners_say, partners_within, PartnersSay}
 use Rattle.suite_compare.proofs.Groups.{pushed_at}
 use Rattle.suite_compare.proofs.Judged.{single_at}
-use Rattle.suite_compare.proofs.Reported.{report_told}
+use Rattle.suite_compare.proofs.Reported.{pairs_told, singles_told}
 
 -- the partners of the first n pairs
 pub record IsTableTo (n : ℕ) (old : Judge) (table : JointTable) (bad : List (List Bad)) (partners : List Partners) : Type 0 where
@@ -59,22 +59,29 @@ table_more n old table bad partners more first list one made is is_2 here so = r
 pub table_all : (n : ℕ) (old : Judge) (table : JointTable) (bad : List (List Bad)) (partners : List Partners) → n ≡ length table.joints.new.items → IsTableTo n old table bad partners → IsTable old table bad partners
 table_all n old table bad partners e so = record { long = so.long ∙ e; each = λ a l. so.each a (omega arith) }
 
--- the lines that are told are the report on the verdicts
-module _ (names : List (List ℕ)) (old new : Side) (table : JointTable) (bad : List (List Bad)) (partners : List Partners) (before after : List Verdict) (v w : List (List ℕ) → Verdict)
-    (old_is : IsSide (length names) old) (new_is : IsSide (length names) new)
-    (before_is : before ≡ map (λ k. get_or old.singles.items k Spent) old.of.items) (after_is : after ≡ map (λ k. get_or new.singles.items k Spent) new.of.items)
-    (joined : AreJoined old.of.items new.of.items table.joints.old.items table.joints.new.items table.joints.of.items) (fits : IsJointTable table) (bads : AreAllBad new.judge bad)
-    (tabled : IsTable old.judge table bad partners) (old_verdicts : AreVerdicts old names v) (new_verdicts : AreVerdicts new names w) where
+-- what is told of the kind of a name is the verdict on the name
+single_in : (names : List (List ℕ)) (side : Side) (of : List ℕ) (told : List Verdict) (u : List (List ℕ) → Verdict) → IsSide (length names) side of → told ≡ map (λ k. get_or side.singles.items k Spent) of → AreVerdicts side of names u
+    → (i : ℕ) → i < length names → get_or told i Spent ≡ u (listed_for names i ∷ [])
+single_in names side of told u is by verdicts i l =
+    ap (λ z. get_or z i Spent) by ∙ get_or-map (λ k. get_or side.singles.items k Spent) of i 0 Spent (subst (λ z. i < z) (sym is.long) l)
+    ∙ single_at side.judge side.singles.items (get_or of i 0) (is.within i l) is.told ∙ sym (verdicts.single i l)
+
+-- the lines that are told of single names are those of their verdicts
+pub single_lines_are : (names : List (List ℕ)) (old new : Side) (old_of new_of : List ℕ) (before after : List Verdict) (v w : List (List ℕ) → Verdict) → IsSide (length names) old old_of → IsSide (length names) new new_of
+    → before ≡ map (λ k. get_or old.singles.items k Spent) old_of → after ≡ map (λ k. get_or new.singles.items k Spent) new_of → AreVerdicts old old_of names v → AreVerdicts new new_of names w
+    → flat_map (told_alone names before after) (numbers (length names) 0) ≡ told_singles v w names
+single_lines_are names old new old_of new_of before after v w old_is new_is before_is after_is old_verdicts new_verdicts =
+    singles_told names before after v w (single_in names old old_of before v old_is before_is old_verdicts) (single_in names new new_of after w new_is after_is new_verdicts)
+
+-- and so are those of pairs
+module _ (names : List (List ℕ)) (old new : Side) (old_of new_of : List ℕ) (table : JointTable) (bad : List (List Bad)) (partners : List Partners) (after : List Verdict) (v w : List (List ℕ) → Verdict)
+    (old_is : IsSide (length names) old old_of) (new_is : IsSide (length names) new new_of) (after_is : after ≡ map (λ k. get_or new.singles.items k Spent) new_of)
+    (joined : AreJoined old_of new_of table.joints.old.items table.joints.new.items table.joints.of.items) (fits : IsJointTable table) (bads : AreAllBad new.judge bad)
+    (tabled : IsTable old.judge table bad partners) (old_verdicts : AreVerdicts old old_of names v) (new_verdicts : AreVerdicts new new_of names w) where
   joint_long : length table.joints.of.items ≡ length names
   joint_long = joined.long ∙ new_is.long
 
-  single_in : (side : Side) (told : List Verdict) (u : List (List ℕ) → Verdict) → IsSide (length names) side → told ≡ map (λ k. get_or side.singles.items k Spent) side.of.items → AreVerdicts side names u
-      → (i : ℕ) → i < length names → get_or told i Spent ≡ u (listed_for names i ∷ [])
-  single_in side told u is by verdicts i l =
-      ap (λ z. get_or z i Spent) by ∙ get_or-map (λ k. get_or side.singles.items k Spent) side.of.items i 0 Spent (subst (λ z. i < z) (sym is.long) l)
-      ∙ single_at side.judge side.singles.items (get_or side.of.items i 0) (is.within i l) is.told ∙ sym (verdicts.single i l)
-
-  within_new : (i : ℕ) → i < length names → i < length new.of.items
+  within_new : (i : ℕ) → i < length names → i < length new_of
   within_new i l = subst (λ z. i < z) (sym new_is.long) l
 
   joint_below : (i : ℕ) → i < length names → get_or table.joints.of.items i 0 < length table.joints.new.items
@@ -82,11 +89,11 @@ module _ (names : List (List ℕ)) (old new : Side) (table : JointTable) (bad : 
 
   news_within : (b : ℕ) → b < length table.joints.new.items → new_kind table b < length new.judge.kinds.items
   news_within b l =
-      let p : (i : ℕ) × (i < length new.of.items) × (get_or new.of.items i 0 ≡ new_kind table b) = In_place new.of.items (new_kind table b) 0 (joined.only_new (new_kind table b) (In_at table.joints.new.items b 0 l)) in
+      let p : (i : ℕ) × (i < length new_of) × (get_or new_of i 0 ≡ new_kind table b) = In_place new_of (new_kind table b) 0 (joined.only_new (new_kind table b) (In_at table.joints.new.items b 0 l)) in
       subst (λ z. z < length new.judge.kinds.items) p.2 (new_is.within p.0 (subst (λ z. p.0 < z) new_is.long p.1))
 
   alone_new : (i : ℕ) → i < length names → get_or after i Spent ≡ w (listed_for names i ∷ [])
-  alone_new = single_in new after w new_is after_is new_verdicts
+  alone_new = single_in names new new_of after w new_is after_is new_verdicts
 
   oks : (i : ℕ) → i < length names → is_single new.judge table (get_or table.joints.of.items i 0) ≡ is_yes (get_or after i Spent)
   oks i l = ap is_yes (ap (alone_in new.judge) (joined.each_new i (within_new i l)) ∙ sym (new_verdicts.single i l) ∙ sym (alone_new i l))
@@ -104,9 +111,8 @@ module _ (names : List (List ℕ)) (old new : Side) (table : JointTable) (bad : 
       partners_say old.judge new.judge table a (get_or bad (new_kind table a) []) fits (bads.each (new_kind table a) (news_within a (joint_below i l))) (partners_at partners a) yes_it
       (λ j m. joint_below j (subst (λ z. j < z) joint_long m)) news_within (tabled.each a (joint_below i l))
 
-  pub lines_are : flat_map (told_alone names before after) (numbers (length names) 0) ++ flat_map (told_after names table.joints.of.items partners) (filter (λ i. is_yes (get_or after i Spent)) (numbers (length names) 0)) ≡ told_report v w names
-  lines_are = report_told names before after table.joints.of.items partners v w (is_single new.judge table) (pair_finding old.judge new.judge table) joint_long
-      (single_in old before v old_is before_is old_verdicts) alone_new oks pairs say
+  pub pair_lines_are : flat_map (told_after names table.joints.of.items partners) (filter (λ i. is_yes (get_or after i Spent)) (numbers (length names) 0)) ≡ told_pairs v w names
+  pair_lines_are = pairs_told names after table.joints.of.items partners v w (is_single new.judge table) (pair_finding old.judge new.judge table) joint_long alone_new oks pairs say
 
 -- the partners of a name are names
 pub told_within : (n : ℕ) (old new : Judge) (table : JointTable) (bad : List (List Bad)) (partners : List Partners) → length table.joints.of.items ≡ n → IsJointTable table → length table.by_new.items ≡ length new.kinds.items
@@ -121,7 +127,7 @@ undecided_ascends old table bad partners a so l = (so.each a (subst (λ z. a < z
 
 -- the verdicts on names are those of their classes
 pub verdicts_are : (limit : ℕ) (hold : Bool) (home : Home) (stanzas : List PackageFacts) (budget : ℕ) (names lists : List (List ℕ)) (side : Side) → kernel_in side.judge ≡ kernel limit hold (suite_repository home stanzas) → side.judge.budget ≡ budget
-    → AreKinds lists side.judge.kinds.items side.of.items → lists ≡ map (λ name. image_of limit hold home stanzas (any_version name)) names → AreVerdicts side names (λ ns. verdict_in limit hold home stanzas budget (map any_version ns))
+    → AreKinds lists side.judge.kinds.items side.of.items → lists ≡ map (λ name. image_of limit hold home stanzas (any_version name)) names → AreVerdicts side side.of.items names (λ ns. verdict_in limit hold home stanzas budget (map any_version ns))
 verdicts_are limit hold home stanzas budget names lists side same spends so made = record {
   single = λ i l. ap (λ z. verdict_of budget (tree_of K (z ∷ []))) (sym (at i l)) ∙ moved (classes i ∷ []);
   pair = λ i j l m. ap₂ (λ y z. verdict_of budget (tree_of K (y ∷ (z ∷ [])))) (sym (at i l)) (sym (at j m)) ∙ moved (classes i ∷ (classes j ∷ []));
@@ -144,10 +150,10 @@ verdicts_are limit hold home stanzas budget names lists side same spends so made
 -- and at a limit and hold that are the same
 pub verdicts_at : (limit : ℕ) (hold : Bool) (own_limit : ℕ) (own_hold : Bool) → own_limit ≡ limit → own_hold ≡ hold → (home : Home) (stanzas : List PackageFacts) (budget : ℕ) (names lists : List (List ℕ)) (side : Side)
     → kernel_in side.judge ≡ kernel own_limit own_hold (suite_repository home stanzas) → side.judge.budget ≡ budget → AreKinds lists side.judge.kinds.items side.of.items
-    → lists ≡ map (λ name. image_of own_limit own_hold home stanzas (any_version name)) names → AreVerdicts side names (λ ns. verdict_in limit hold home stanzas budget (map any_version ns))
+    → lists ≡ map (λ name. image_of own_limit own_hold home stanzas (any_version name)) names → AreVerdicts side side.of.items names (λ ns. verdict_in limit hold home stanzas budget (map any_version ns))
 verdicts_at limit hold own_limit own_hold l h home stanzas budget names lists side same spends so made =
-    subst (λ n. AreVerdicts side names (λ ns. verdict_in n hold home stanzas budget (map any_version ns))) l
-    (subst (λ b. AreVerdicts side names (λ ns. verdict_in own_limit b home stanzas budget (map any_version ns))) h
+    subst (λ n. AreVerdicts side side.of.items names (λ ns. verdict_in n hold home stanzas budget (map any_version ns))) l
+    (subst (λ b. AreVerdicts side side.of.items names (λ ns. verdict_in own_limit b home stanzas budget (map any_version ns))) h
     (verdicts_are own_limit own_hold home stanzas budget names lists side same spends so made))
 
 -- what a side asks for
@@ -162,9 +168,9 @@ judge_of judge lists of sound ready needs fit allowed so = record {
 }
 
 -- a kind that is listed for a name is one of the kinds
-pub kind_within : (n : ℕ) (side : Side) (k : ℕ) → IsSide n side → In k side.of.items → k < length side.judge.kinds.items
-kind_within n side k so i =
-    let p : (j : ℕ) × (j < length side.of.items) × (get_or side.of.items j 0 ≡ k) = In_place side.of.items k 0 i in
+pub kind_within : (n : ℕ) (side : Side) (of : List ℕ) (k : ℕ) → IsSide n side of → In k of → k < length side.judge.kinds.items
+kind_within n side of k so i =
+    let p : (j : ℕ) × (j < length of) × (get_or of j 0 ≡ k) = In_place of k 0 i in
     subst (λ z. z < length side.judge.kinds.items) p.2 (so.within p.0 (subst (λ z. p.0 < z) so.long p.1))
 
 pub joint_within : (old_of new_of olds news of : List ℕ) (a : ℕ) → AreJoined old_of new_of olds news of → In a of → a < length news

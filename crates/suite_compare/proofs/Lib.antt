@@ -18,4 +18,6 @@ pub mod Swapped
 pub mod Gathered
 pub mod Told
 pub mod Reported
+pub mod Firsts
 pub mod Compared
+pub mod Parts

@@ -70,27 +70,6 @@ lists_fit limit hold home stanzas names lists size made e c i n j =
     let w = In_map_cases (λ name. image_of limit hold home stanzas (any_version name)) names c (subst (λ z. In c z) made i) in
     subst (λ z. n < z) e (classes_fit limit hold (suite_repository home stanzas) (packages_named stanzas (any_version w.0)) n (subst (λ z. In n z) w.2 j))
 
--- one name more that passes, or does not
-pub named_kept : (p : List ℕ → Bool) (names : List (List ℕ)) (i : ℕ) (item copy : List ℕ) (made new : List (List ℕ)) → i < length names → item ≡ get_or names i item → copy ≡ item → p item ≡ true → new ≡ made ++ copy ∷ []
-    → made ≡ filter p (take i names) → new ≡ filter p (take (i + 1) names)
-named_kept p names i item copy made new l is same passes e so =
-    e ∙ ap (λ z. made ++ z ∷ []) same ∙ ap (λ z. z ++ item ∷ []) so
-    ∙ sym (ap (filter p) (take_more names i item l ∙ ap (λ z. take i names ++ z ∷ []) (sym is)) ∙ filter-append p (take i names) (item ∷ []) ∙ ap (λ b. filter p (take i names) ++ cond b (item ∷ []) []) passes)
-
-pub named_skip : (p : List ℕ → Bool) (names : List (List ℕ)) (i : ℕ) (item : List ℕ) (made : List (List ℕ)) → i < length names → item ≡ get_or names i item → p item ≡ false → made ≡ filter p (take i names) → made ≡ filter p (take (i + 1) names)
-named_skip p names i item made l is fails so =
-    so ∙ sym (ap (filter p) (take_more names i item l ∙ ap (λ z. take i names ++ z ∷ []) (sym is)) ∙ filter-append p (take i names) (item ∷ []) ∙ ap (λ b. filter p (take i names) ++ cond b (item ∷ []) []) fails ∙ append-nil (filter p (take i names)))
-
-pub named_all : (p : List ℕ → Bool) (names : List (List ℕ)) (i : ℕ) (made : List (List ℕ)) → length names ≤ i → made ≡ filter p (take i names) → made ≡ filter p names
-named_all p names i made l so = so ∙ ap (filter p) (take_all i names l)
-
--- the names of both stand in both
-pub both_old : (old new : List PackageFacts) (names : List (List ℕ)) → names ≡ names_of_both old new → (name : List ℕ) → In name names → stands_in old name ≡ true
-both_old old new names e name i = own_names old name (filter_cases (stands_in new) (names_in old) name (subst (λ z. In name z) e i)).0
-
-pub both_new : (old new : List PackageFacts) (names : List (List ℕ)) → names ≡ names_of_both old new → (name : List ℕ) → In name names → stands_in new name ≡ true
-both_new old new names e name i = (filter_cases (stands_in new) (names_in old) name (subst (λ z. In name z) e i)).1
-
 -- one list of classes more
 pub mapped_step : {A B : Type 0} (f : A → B) (xs : List A) (i : ℕ) (x : A) (made new : List B) (y : B) → i < length xs → x ≡ get_or xs i x → new ≡ made ++ y ∷ [] → y ≡ f x → made ≡ map f (take i xs) → new ≡ map f (take (i + 1) xs)
 mapped_step f xs i x made new y l is e same so =

@@ -13,7 +13,7 @@ use Rattle.row_book.proofs.Numbers.{numbers_from, numbers_parts, numbers_ascendi
 use Rattle.clause_solver.specs.declared.outcomes.Verdict.{Verdict}
 use Rattle.clause_solver.specs.declared.outcomes.Verdict.TheVariants.{Spent}
 use Rattle.suite_compare.specs.Report.{finding, is_yes, pair_line, single_line, with_later}
-use Rattle.suite_compare.specs.Comparing.{told_report}
+use Rattle.suite_compare.specs.Comparing.{told_pairs, told_singles}
 use Rattle.suite_compare.specs.Telling.{found_beside, partners_at, told_after, told_alone, told_pair}
 use Rattle.suite_compare.specs.declared.gather.Partners.{Partners}
 use Rattle.suite_compare.specs.declared.report.Finding.{Finding}
@@ -99,9 +99,24 @@ places_of (x ∷ xs) d k f h =
 pub by_places : (names : List (List ℕ)) → names ≡ map (listed_for names) (numbers (length names) 0)
 by_places names = places_of names [] 0 (listed_for names) (λ i l. ap (listed_for names) (omega arith))
 
-module _ (names : List (List ℕ)) (old new : List Verdict) (joint_of : List ℕ) (table : List Partners) (v w : List (List ℕ) → Verdict) (ok : ℕ → Bool) (pair : ℕ → ℕ → Option Finding)
-    (long : length joint_of ≡ length names)
+-- the lines of single names
+module _ (names : List (List ℕ)) (old new : List Verdict) (v w : List (List ℕ) → Verdict)
     (alone_old : (i : ℕ) → i < length names → get_or old i Spent ≡ v (listed_for names i ∷ []))
+    (alone_new : (i : ℕ) → i < length names → get_or new i Spent ≡ w (listed_for names i ∷ [])) where
+  singles : flat_map (λ a. single_line a (finding (v (a ∷ [])) (w (a ∷ [])))) names ≡ flat_map (told_alone names old new) (numbers (length names) 0)
+  singles =
+      ap (flat_map (λ a. single_line a (finding (v (a ∷ [])) (w (a ∷ []))))) (by_places names)
+      ∙ flat_of_map (λ a. single_line a (finding (v (a ∷ [])) (w (a ∷ [])))) (listed_for names) (numbers (length names) 0)
+      ∙ flat_same (λ i. single_line (listed_for names i) (finding (v (listed_for names i ∷ [])) (w (listed_for names i ∷ [])))) (told_alone names old new) (numbers (length names) 0)
+      (λ i h. let p = numbers_parts (length names) 0 i h in let l : i < length names = omega (arith, p.1) in
+      ap (single_line (listed_for names i)) (ap₂ finding (sym (alone_old i l)) (sym (alone_new i l))))
+
+  pub singles_told : flat_map (told_alone names old new) (numbers (length names) 0) ≡ told_singles v w names
+  singles_told = sym singles
+
+-- the lines of pairs
+module _ (names : List (List ℕ)) (new : List Verdict) (joint_of : List ℕ) (table : List Partners) (v w : List (List ℕ) → Verdict) (ok : ℕ → Bool) (pair : ℕ → ℕ → Option Finding)
+    (long : length joint_of ≡ length names)
     (alone_new : (i : ℕ) → i < length names → get_or new i Spent ≡ w (listed_for names i ∷ []))
     (oks : (i : ℕ) → i < length names → ok (get_or joint_of i 0) ≡ is_yes (get_or new i Spent))
     (pairs : (i j : ℕ) → i < length names → j < length names → pair (get_or joint_of i 0) (get_or joint_of j 0)
@@ -122,14 +137,6 @@ module _ (names : List (List ℕ)) (old new : List Verdict) (joint_of : List ℕ
 
   found_ascending : Ascending found
   found_ascending = ascending_filter (λ i. is_yes (get_or new i Spent)) (numbers (length names) 0) (numbers_ascending (length names) 0)
-
-  singles : flat_map (λ a. single_line a (finding (v (a ∷ [])) (w (a ∷ [])))) names ≡ flat_map (told_alone names old new) (numbers (length names) 0)
-  singles =
-      ap (flat_map (λ a. single_line a (finding (v (a ∷ [])) (w (a ∷ []))))) (by_places names)
-      ∙ flat_of_map (λ a. single_line a (finding (v (a ∷ [])) (w (a ∷ [])))) (listed_for names) (numbers (length names) 0)
-      ∙ flat_same (λ i. single_line (listed_for names i) (finding (v (listed_for names i ∷ [])) (w (listed_for names i ∷ [])))) (told_alone names old new) (numbers (length names) 0)
-      (λ i h. let p = numbers_parts (length names) 0 i h in let l : i < length names = omega (arith, p.1) in
-      ap (single_line (listed_for names i)) (ap₂ finding (sym (alone_old i l)) (sym (alone_new i l))))
 
   module _ (i : ℕ) (h : In i found) where
     partners : Partners
@@ -191,6 +198,5 @@ module _ (names : List (List ℕ)) (old new : List Verdict) (joint_of : List ℕ
       ∙ later_ascending line found found_ascending
       ∙ flat_same (λ i. flat_map (line i) (filter (ltb i) found)) (told_after names joint_of table) found after
 
-  -- the lines that are told are the report
-  pub report_told : flat_map (told_alone names old new) (numbers (length names) 0) ++ flat_map (told_after names joint_of table) found ≡ told_report v w names
-  report_told = ap₂ (λ a b. a ++ b) (sym singles) (sym laters)
+  pub pairs_told : flat_map (told_after names joint_of table) found ≡ told_pairs v w names
+  pairs_told = sym laters

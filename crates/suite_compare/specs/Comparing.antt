@@ -1,26 +1,35 @@
--- for the bodies of this crate alone
 -- A comparison over kinds of names.
-use Rattle.std.specs.Prelude.{◌≡◌, ℕ, ◌<◌, List, [], ◌∷◌, ◌++◌, filter, length, slice_index_or}
+use Rattle.std.specs.Prelude.{◌≡◌, ℕ, ◌<◌, Bool, List, [], ◌∷◌, ◌++◌, filter, length, map, slice_index_or}
 use Rattle.std.specs.List.{flat_map}
 use Rattle.row_book.specs.Book.{listed_for}
+use Rattle.clause_solver.specs.Outcomes.{IsBudget}
 use Rattle.clause_solver.specs.declared.outcomes.Verdict.{Verdict}
+use Rattle.relation_fields.specs.declared.packages.PackageFacts.{PackageFacts}
+use Rattle.repo_model.specs.Goals.{any_version, names_in}
+use Rattle.repo_model.specs.declared.suite.Suite.{Suite}
+use Rattle.suite_compare.specs.Asking.{verdict_in}
 use Rattle.suite_compare.specs.Bad.{AreSingles}
 use Rattle.suite_compare.specs.Kinds.{alone_in, together_in, IsJudge}
+use Rattle.suite_compare.specs.Names.{names_of_both, stands_in}
 use Rattle.suite_compare.specs.Partners.{new_kind, old_kind, ArePartners}
 use Rattle.suite_compare.specs.Report.{finding, is_yes, pair_line, single_line, with_later}
 use Rattle.suite_compare.specs.Telling.{partners_at}
-use Rattle.suite_compare.specs.declared.comparison.Side.{Side}
+use Rattle.suite_compare.specs.declared.sides.NewSide.{NewSide}
+use Rattle.suite_compare.specs.declared.sides.OldSide.{OldSide}
+use Rattle.suite_compare.specs.declared.sides.Part.{Part}
+use Rattle.suite_compare.specs.declared.sides.Side.{Side}
 use Rattle.suite_compare.specs.declared.gather.JointTable.{JointTable}
 use Rattle.suite_compare.specs.declared.gather.Partners.{Partners}
 use Rattle.suite_compare.specs.declared.report.ReportLine.{ReportLine}
 use Rattle.suite_compare.specs.declared.verdicts.Bad.{Bad}
 use Rattle.suite_compare.specs.declared.verdicts.Judge.{Judge}
+use Rattle.suite_compare.specs.declared.view.SuiteView.{SuiteView}
 
--- a judge, for each of n names one of its kinds, and the verdict on each kind by itself
-pub record IsSide (n : ℕ) (side : Side) : Type 0 where
+-- a judge and the verdict on each of its kinds by itself, and for each of n names one of these kinds
+pub record IsSide (n : ℕ) (side : Side) (of : List ℕ) : Type 0 where
   pub judge : IsJudge side.judge
-  pub long : length side.of.items ≡ n
-  pub within : (i : ℕ) → i < n → slice_index_or side.of.items i 0 < length side.judge.kinds.items
+  pub long : length of ≡ n
+  pub within : (i : ℕ) → i < n → slice_index_or of i 0 < length side.judge.kinds.items
   pub told : AreSingles side.judge side.singles.items
 
 -- the partners of each pair of kinds
@@ -29,12 +38,41 @@ pub record IsTable (old : Judge) (table : JointTable) (bad : List (List Bad)) (p
   pub each : (a : ℕ) → a < length table.joints.new.items → ArePartners old table (old_kind table a) (slice_index_or bad (new_kind table a) []) (partners_at partners a)
 
 -- the verdicts on names and on pairs of names are those of their kinds
-pub record AreVerdicts (side : Side) (names : List (List ℕ)) (v : List (List ℕ) → Verdict) : Type 0 where
-  pub single : (i : ℕ) → i < length names → v (listed_for names i ∷ []) ≡ alone_in side.judge (slice_index_or side.of.items i 0)
-  pub pair : (i j : ℕ) → i < length names → j < length names → v (listed_for names i ∷ (listed_for names j ∷ [])) ≡ together_in side.judge (slice_index_or side.of.items i 0) (slice_index_or side.of.items j 0)
+pub record AreVerdicts (side : Side) (of : List ℕ) (names : List (List ℕ)) (v : List (List ℕ) → Verdict) : Type 0 where
+  pub single : (i : ℕ) → i < length names → v (listed_for names i ∷ []) ≡ alone_in side.judge (slice_index_or of i 0)
+  pub pair : (i j : ℕ) → i < length names → j < length names → v (listed_for names i ∷ (listed_for names j ∷ [])) ≡ together_in side.judge (slice_index_or of i 0) (slice_index_or of j 0)
 
--- the report, by the verdicts on lists of names
+-- the lines of single names and of pairs of names, and so the report, by the verdicts on lists of names
+abbrev pub told_singles : (List (List ℕ) → Verdict) → (List (List ℕ) → Verdict) → List (List ℕ) → List ReportLine
+told_singles old new names = flat_map (λ a. single_line a (finding (old (a ∷ [])) (new (a ∷ [])))) names
+
+abbrev pub told_pairs : (List (List ℕ) → Verdict) → (List (List ℕ) → Verdict) → List (List ℕ) → List ReportLine
+told_pairs old new names = with_later (λ a b. pair_line a b (finding (old (a ∷ (b ∷ []))) (new (a ∷ (b ∷ []))))) (filter (λ a. is_yes (new (a ∷ []))) names)
+
 abbrev pub told_report : (List (List ℕ) → Verdict) → (List (List ℕ) → Verdict) → List (List ℕ) → List ReportLine
-told_report old new names =
-    flat_map (λ a. single_line a (finding (old (a ∷ [])) (new (a ∷ [])))) names
-    ++ with_later (λ a b. pair_line a b (finding (old (a ∷ (b ∷ []))) (new (a ∷ (b ∷ []))))) (filter (λ a. is_yes (new (a ∷ []))) names)
+told_report old new names = told_singles old new names ++ told_pairs old new names
+
+-- the verdicts on names in a suite, as they are asked of its packages
+abbrev pub named_verdict : ℕ → Bool → Suite → ℕ → List (List ℕ) → Verdict
+named_verdict limit hold suite budget names = verdict_in limit hold suite.home suite.packages budget (map any_version names)
+
+-- those of the names that a package has, in their order, each with its kind
+pub record IsPart (packages : List PackageFacts) (names : List (List ℕ)) (of : List ℕ) (part : Part) : Type 0 where
+  pub names_are : part.names.items ≡ filter (stands_in packages) names
+  pub long : length part.of.items ≡ length part.names.items
+  pub each : (j : ℕ) → j < length part.names.items → (i : ℕ) × (i < length names) × (listed_for part.names.items j ≡ listed_for names i) × (slice_index_or part.of.items j 0 ≡ slice_index_or of i 0)
+
+-- the names of its view and the side of them, for searches within its budget
+pub record IsOldSide (old : OldSide) : Type 0 where
+  pub names_are : old.names ≡ names_in old.view.now.suite.packages
+  pub side_is : IsSide (length old.names) old.side old.side.of.items
+  pub was : AreVerdicts old.side old.side.of.items old.names (named_verdict old.view.now.limit old.view.now.kernel.hold old.view.now.suite old.budget)
+  pub allowed : IsBudget old.budget
+
+-- the names that both views have, with their kinds in the old one, and the side that the new one is of them
+pub record IsNewSide (old : OldSide) (new : SuiteView) (made : NewSide) : Type 0 where
+  pub names_are : made.part.names.items ≡ names_of_both old.view.now.suite.packages new.suite.packages
+  pub old_is : IsSide (length made.part.names.items) old.side made.part.of.items
+  pub new_is : IsSide (length made.part.names.items) made.side made.side.of.items
+  pub was : AreVerdicts old.side made.part.of.items made.part.names.items (named_verdict old.view.now.limit old.view.now.kernel.hold old.view.now.suite old.budget)
+  pub is : AreVerdicts made.side made.side.of.items made.part.names.items (named_verdict old.view.now.limit old.view.now.kernel.hold new.suite old.budget)

@@ -48,3 +48,8 @@ report old new names =
     flat_map (λ a. single_line a (finding (old (any_version a ∷ [])) (new (any_version a ∷ [])))) names
     ++ with_later (λ a b. pair_line a b (finding (old (any_version a ∷ (any_version b ∷ []))) (new (any_version a ∷ (any_version b ∷ [])))))
     (filter (λ a. is_yes (new (any_version a ∷ []))) names)
+
+-- the first of some lines, where there is one
+abbrev pub first_of : List ReportLine → Option ReportLine
+first_of [] = None
+first_of (line ∷ more) = Some line

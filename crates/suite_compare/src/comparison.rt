@@ -2,112 +2,26 @@
 //!
 //! Names with the same classes have the same verdicts, so kinds are asked. A pair is searched in the order of its names, since
 //! the number of failed leaves may depend on it.
-ghost use Rattle.std.specs.Prelude.{◌≡◌, ◌<◌, [], ℕ, true, List, IfOk, length, map, slice_index_or};
-ghost use Rattle.row_book.specs.Book.{repository_of, Sound};
-ghost use Rattle.row_book.specs.Needs.{AreNeeds, NeedsFit};
-ghost use Rattle.row_book.specs.Rounds.{kernel};
+ghost use Rattle.std.specs.Prelude.{◌≡◌, ◌<◌, ◌++◌, [], ℕ, List, IfOk, OnOk, length, slice_index_or};
 ghost use Rattle.listed.specs.Lists.{In};
-ghost use Rattle.repo_model.specs.Goals.{any_version};
-ghost use Rattle.repo_model.specs.Repository.{suite_repository};
 ghost use Rattle.clause_solver.specs.Outcomes.{IsBudget};
 ghost use Rattle.clause_solver.specs.declared.outcomes.Verdict.{Verdict};
-ghost use Rattle.clause_solver.specs.declared.outcomes.Verdict.TheVariants.{Spent};
-ghost use Rattle.suite_compare.specs.Asking.{image_of, verdict_in};
+ghost use Rattle.suite_compare.specs.Asking.{verdict_in};
 ghost use Rattle.suite_compare.specs.declared.verdicts.Bad.{Bad};
-ghost use Rattle.suite_compare.specs.Kinds.{kernel_in, AreKinds, IsJudge};
-ghost use Rattle.suite_compare.specs.Names.{names_of_both, stands_in};
-ghost use Rattle.suite_compare.specs.Comparing.{told_report, AreVerdicts, IsSide, IsTable};
+ghost use Rattle.suite_compare.specs.Kinds.{IsJudge};
+ghost use Rattle.suite_compare.specs.Names.{names_of_both};
+ghost use Rattle.suite_compare.specs.Comparing.{told_pairs, told_report, told_singles, AreVerdicts, IsOldSide, IsSide, IsTable};
 ghost use Rattle.suite_compare.specs.Partners.{IsJointTable};
-ghost use Rattle.suite_compare.specs.Report.{report};
+ghost use Rattle.suite_compare.specs.Report.{first_of, report};
 
 use crate::gather::{JointTable, Partners, joint_table, new_kind, old_kind, partners_of};
-use crate::kinds::kinds_of;
-use crate::names::{classes_of_names, names_among};
-use crate::report::{LineList, Report};
+use crate::report::{LineList, Report, ReportLine, copy_of_first};
+use crate::sides::{OldSide, Side, new_side_of, verdicts_of};
 use crate::tell::{tell_pairs, tell_singles};
-use crate::verdicts::{BadList, Judge, bad_lists, bads_at, verdicts_alone, verdicts_by};
+use crate::verdicts::{BadList, Judge, bad_lists, bads_at};
 use crate::view::SuiteView;
-use clause_pool::{NumList, Pool};
-use clause_solver::{Solver, Verdict};
 use deb_version::Bytes;
-use row_book::Book;
 use std::alloc::{AllocError, Global};
-
-/// One suite of a comparison: its judge, the kind of each name, and the verdict on each kind by itself.
-#[derive(Drop)]
-struct Side<'a> {
-    judge: Judge<'a>,
-    of: Vec<usize>,
-    singles: Vec<Verdict>,
-}
-
-/// A suite of a comparison, from the classes of each name.
-fn side_of<'a>(
-    alloc: Global,
-    pool: &'a Pool,
-    book: &'a Book,
-    lists: &[NumList],
-    budget: u64,
-) -> Result<Side<'a>, AllocError>
-    requires sound { Sound pool.now book.now }
-    requires needs { AreNeeds lists.now }
-    requires fit { NeedsFit (length book.now.rows) lists.now }
-    requires budget { IsBudget budget }
-    ensures side { IfOk result (IsSide (length lists.now)) }
-    ensures kinds { IfOk result (λ side. AreKinds lists.now side.judge.kinds.items side.of.items) }
-    ensures kernel { IfOk result (λ side. kernel_in side.judge ≡ repository_of pool.now book.now) }
-    ensures budget { IfOk result (λ side. side.judge.budget ≡ budget) }
-{
-    let solver = Solver::new(alloc, pool, book)?;
-    let kinds = kinds_of(alloc, lists)?;
-    let judge = Judge {
-        pool,
-        book,
-        solver,
-        kinds: kinds.lists,
-        budget,
-    };
-    let singles = verdicts_alone(alloc, &judge)?;
-    Ok(Side {
-        judge,
-        of: kinds.of,
-        singles,
-    })
-}
-
-/// The names of the old suite that a package of the new one has.
-fn shared_names(alloc: Global, old: &SuiteView, new: &SuiteView) -> Result<Vec<Bytes>, AllocError>
-    ensures { IfOk result (λ names. names.items ≡ names_of_both old.now.suite.packages new.now.suite.packages) }
-{
-    let all = old.suite.names(alloc)?;
-    let names = names_among(alloc, all.as_slice(), &new.suite)?;
-    Ok(names)
-}
-
-/// A suite of a comparison, from names that packages of it have.
-fn side_by_names<'a>(
-    alloc: Global,
-    view: &'a SuiteView,
-    names: &[Bytes],
-    budget: u64,
-) -> Result<Side<'a>, AllocError>
-    requires names { (name : List ℕ) → In name names.now → stands_in view.now.suite.packages name ≡ true }
-    requires budget { IsBudget budget }
-    ensures side { IfOk result (IsSide (length names.now)) }
-    ensures kinds { IfOk result (λ side. AreKinds (map (λ name. image_of view.now.limit view.now.kernel.hold view.now.suite.home view.now.suite.packages (any_version name)) names.now) side.judge.kinds.items side.of.items) }
-    ensures kernel { IfOk result (λ side. kernel_in side.judge ≡ kernel view.now.limit view.now.kernel.hold (suite_repository view.now.suite.home view.now.suite.packages)) }
-    ensures budget { IfOk result (λ side. side.judge.budget ≡ budget) }
-{
-    let lists = classes_of_names(alloc, view, names)?;
-    let side = side_of(
-        alloc,
-        &view.pool,
-        &view.kernel.book,
-        lists.as_slice(),
-        budget,
-    )?;
-    Ok(side)
-}
 
 /// For each joint (a kind in the old suite with one in the new), the names that are broken or open beside its names.
 fn all_partners(
@@ -133,35 +47,80 @@ fn all_partners(
     Ok(made)
 }
 
-/// The verdict on the kind of each name.
-fn verdicts_of(alloc: Global, side: &Side) -> Result<Vec<Verdict>, AllocError>
-    requires { IsSide (length side.now.of.items) side.now }
-    ensures { IfOk result (λ made. made.items ≡ map (λ k. slice_index_or side.now.singles.items k Spent) side.now.of.items) }
+/// The lines of the names by themselves, of which both suites have the kinds.
+fn single_lines(
+    alloc: Global,
+    names: &[Bytes],
+    old: &Side,
+    old_of: &[usize],
+    new: &Side,
+) -> Result<LineList, AllocError>
+    requires old { IsSide (length names.now) old.now old_of.now }
+    requires new { IsSide (length names.now) new.now new.now.of.items }
+    ensures { (v w : List (List ℕ) → Verdict) → AreVerdicts old.now old_of.now names.now v → AreVerdicts new.now new.now.of.items names.now w → IfOk result (λ lines. lines ≡ told_singles v w names.now) }
 {
-    verdicts_by(alloc, &side.singles, &side.of)
+    let before = verdicts_of(alloc, old, old_of)?;
+    let after = verdicts_of(alloc, new, &new.of)?;
+    let mut lines = LineList::new(alloc);
+    tell_singles(alloc, names, &before, &after, &mut lines)?;
+    Ok(lines)
+}
+
+/// Puts the lines of the pairs of names, of which both suites have the kinds, behind the others.
+fn put_pair_lines(
+    alloc: Global,
+    names: &[Bytes],
+    old: &Side,
+    old_of: &[usize],
+    new: &Side,
+    lines: &mut LineList,
+) -> Result<(), AllocError>
+    requires old { IsSide (length names.now) old.now old_of.now }
+    requires new { IsSide (length names.now) new.now new.now.of.items }
+    ensures { (v w : List (List ℕ) → Verdict) → AreVerdicts old.now old_of.now names.now v → AreVerdicts new.now new.now.of.items names.now w → OnOk result (lines.new ≡ lines.old ++ told_pairs v w names.now) }
+{
+    let bad = bad_lists(alloc, &new.judge, &new.singles)?;
+    let table = joint_table(alloc, old_of, &new.of, new.judge.kinds.len())?;
+    let partners = all_partners(alloc, &old.judge, &table, &bad)?;
+    let after = verdicts_of(alloc, new, &new.of)?;
+    tell_pairs(alloc, names, &after, &table.joints.of, &partners, lines)?;
+    Ok(())
 }
 
 /// The lines of a report on names, of which both suites have the kinds.
-fn lines_of(alloc: Global, names: &[Bytes], old: &Side, new: &Side) -> Result<LineList, AllocError>
-    requires old { IsSide (length names.now) old.now }
-    requires new { IsSide (length names.now) new.now }
-    ensures { (v w : List (List ℕ) → Verdict) → AreVerdicts old.now names.now v → AreVerdicts new.now names.now w → IfOk result (λ lines. lines ≡ told_report v w names.now) }
+fn lines_of(
+    alloc: Global,
+    names: &[Bytes],
+    old: &Side,
+    old_of: &[usize],
+    new: &Side,
+) -> Result<LineList, AllocError>
+    requires old { IsSide (length names.now) old.now old_of.now }
+    requires new { IsSide (length names.now) new.now new.now.of.items }
+    ensures { (v w : List (List ℕ) → Verdict) → AreVerdicts old.now old_of.now names.now v → AreVerdicts new.now new.now.of.items names.now w → IfOk result (λ lines. lines ≡ told_report v w names.now) }
 {
-    let bad = bad_lists(alloc, &new.judge, &new.singles)?;
-    let table = joint_table(alloc, &old.of, &new.of, new.judge.kinds.len())?;
-    let partners = all_partners(alloc, &old.judge, &table, &bad)?;
-    let before = verdicts_of(alloc, old)?;
-    let after = verdicts_of(alloc, new)?;
-    let mut lines = LineList::new(alloc);
-    tell_singles(alloc, names, &before, &after, &mut lines)?;
-    tell_pairs(
-        alloc,
-        names,
-        &after,
-        &table.joints.of,
-        &partners,
-        &mut lines,
-    )?;
+    let mut lines = single_lines(alloc, names, old, old_of, new)?;
+    put_pair_lines(alloc, names, old, old_of, new, &mut lines)?;
+    Ok(lines)
+}
+
+/// The lines of a report on names, but none of pairs where a name has a line by itself.
+fn first_lines_of(
+    alloc: Global,
+    names: &[Bytes],
+    old: &Side,
+    old_of: &[usize],
+    new: &Side,
+) -> Result<LineList, AllocError>
+    requires old { IsSide (length names.now) old.now old_of.now }
+    requires new { IsSide (length names.now) new.now new.now.of.items }
+    ensures { (v w : List (List ℕ) → Verdict) → AreVerdicts old.now old_of.now names.now v → AreVerdicts new.now new.now.of.items names.now w → IfOk result (λ lines. first_of lines ≡ first_of (told_report v w names.now)) }
+{
+    let mut lines = single_lines(alloc, names, old, old_of, new)?;
+    if !lines.as_slice().is_empty() {
+        return Ok(lines);
+    }
+    put_pair_lines(alloc, names, old, old_of, new, &mut lines)?;
     Ok(lines)
 }
 
@@ -181,10 +140,39 @@ pub fn compare(
     ensures { IfOk result (λ made. made.lines ≡ report (verdict_in old.now.limit old.now.kernel.hold old.now.suite.home old.now.suite.packages budget) (verdict_in old.now.limit old.now.kernel.hold new.now.suite.home new.now.suite.packages budget)
         (names_of_both old.now.suite.packages new.now.suite.packages)) }
 {
-    let found = shared_names(alloc, old, new)?;
-    let names = found.as_slice();
-    let before = side_by_names(alloc, old, names, budget)?;
-    let after = side_by_names(alloc, new, names, budget)?;
-    let lines = lines_of(alloc, names, &before, &after)?;
+    let before = OldSide::new(alloc, old, budget)?;
+    let after = new_side_of(alloc, &before, new)?;
+    let lines = lines_of(
+        alloc,
+        &after.part.names,
+        &before.side,
+        &after.part.of,
+        &after.side,
+    )?;
     Ok(Report { lines })
+}
+
+/// The first line of what `compare` tells of a new suite against an old one, or none. No two names are asked together where one
+/// is told of by itself. Both views were made at one and the same clause limit, and both with hold or both without.
+pub fn first_line(
+    alloc: Global,
+    old: &OldSide,
+    new: &SuiteView,
+) -> Result<Option<ReportLine>, AllocError>
+    requires side { IsOldSide old.now }
+    requires limit { new.now.limit ≡ old.now.view.now.limit }
+    requires hold { new.now.kernel.hold ≡ old.now.view.now.kernel.hold }
+    ensures { let view = old.now.view.now in IfOk result (λ first. first ≡ first_of (report (verdict_in view.limit view.kernel.hold view.suite.home view.suite.packages old.now.budget) (verdict_in view.limit view.kernel.hold new.now.suite.home new.now.suite.packages old.now.budget)
+        (names_of_both view.suite.packages new.now.suite.packages))) }
+{
+    let made = new_side_of(alloc, old, new)?;
+    let lines = first_lines_of(
+        alloc,
+        &made.part.names,
+        &old.side,
+        &made.part.of,
+        &made.side,
+    )?;
+    let first = copy_of_first(alloc, &lines)?;
+    Ok(first)
 }

@@ -15,6 +15,7 @@ mod names;
 mod places;
 mod refusals;
 mod report;
+mod sides;
 mod suspect;
 mod tell;
 mod verdicts;
@@ -31,8 +32,9 @@ pub use ask::image_of;
 pub use decision::decide;
 
 // What a new suite has broken of an old one.
-pub use comparison::compare;
+pub use comparison::{compare, first_line};
 pub use report::{Finding, LineList, Report, ReportLine};
+pub use sides::OldSide;
 
 // Laws.
 pub use laws::{answer_is_verdict, kernel_decides, verdict_is_judged};

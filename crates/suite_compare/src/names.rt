@@ -1,35 +1,14 @@
 //! The names of both suites, and their classes.
-ghost use Rattle.std.specs.Prelude.{◌≡◌, filter, map, IfOk};
+ghost use Rattle.std.specs.Prelude.{◌≡◌, map, IfOk};
 ghost use Rattle.repo_model.specs.Goals.{any_version};
 ghost use Rattle.suite_compare.specs.Asking.{image_of};
-ghost use Rattle.suite_compare.specs.Names.{stands_in};
 
 use crate::ask::image_of;
 use crate::view::SuiteView;
 use clause_pool::NumList;
 use deb_version::Bytes;
 use listed::Listed;
-use repo_model::Suite;
 use std::alloc::{AllocError, Global};
-
-/// Those of the names that a package of the suite has.
-pub(crate) fn names_among(
-    alloc: Global,
-    names: &[Bytes],
-    suite: &Suite,
-) -> Result<Vec<Bytes>, AllocError>
-    ensures { IfOk result (λ made. made.items ≡ filter (stands_in suite.now.packages) names.now) }
-{
-    let mut made = Vec::new(alloc);
-    for name in names {
-        if !suite.has_name(name.as_slice()) {
-            continue;
-        }
-        let copy = Bytes::copy(alloc, name.as_slice())?;
-        made.push(copy)?;
-    }
-    Ok(made)
-}
 
 /// The classes of the packages of each name.
 pub(crate) fn classes_of_names(

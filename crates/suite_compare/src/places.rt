@@ -8,6 +8,7 @@ ghost use Rattle.suite_compare.specs.Groups.{ArePlaces, IsEntered};
 
 use clause_pool::NumList;
 use clause_solver::Verdict;
+use deb_version::Bytes;
 use listed::{Listed, empty_lists};
 use std::alloc::{AllocError, Global};
 
@@ -65,6 +66,14 @@ pub(crate) fn holds(ascending: &[usize], number: usize) -> bool
     ensures { result ≡ has ascending.now number }
 {
     ascending.binary_search(&number).is_ok()
+}
+
+/// The name at a place of a list.
+pub(crate) fn name_at(names: &[Bytes], place: usize) -> &[u8]
+    requires { place < length names.now }
+    ensures { result.now ≡ listed_for names.now place }
+{
+    names[place].as_slice()
 }
 
 /// The number at a place of a list.

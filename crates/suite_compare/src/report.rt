@@ -1,10 +1,11 @@
 //! What a comparison tells.
-ghost use Rattle.std.specs.Prelude.{◌≡◌};
-ghost use Rattle.suite_compare.specs.Report.{finding, is_yes};
+ghost use Rattle.std.specs.Prelude.{◌≡◌, IfOk};
+ghost use Rattle.suite_compare.specs.Report.{finding, first_of, is_yes};
 
 use clause_solver::Verdict;
 use deb_version::Bytes;
 use listed::Listed;
+use std::alloc::{AllocError, Global};
 
 /// What is told of a name, or of two names together.
 #[derive(Clone, Copy, Debug, PartialEq, Eq)]
@@ -77,5 +78,47 @@ pub(crate) fn is_yes(verdict: Verdict) -> bool
         Verdict::Yes => true,
         Verdict::No => false,
         Verdict::Spent => false,
+    }
+}
+
+/// A copy of the first of some lines, or none.
+pub(crate) fn copy_of_first(
+    alloc: Global,
+    lines: &LineList,
+) -> Result<Option<ReportLine>, AllocError>
+    ensures { IfOk result (λ made. made ≡ first_of lines.now) }
+{
+    match lines.as_slice() {
+        [] => Ok(None),
+        [first, ..] => {
+            let line = copy_of_line(alloc, first)?;
+            Ok(Some(line))
+        }
+    }
+}
+
+/// A copy of a line.
+fn copy_of_line(alloc: Global, line: &ReportLine) -> Result<ReportLine, AllocError>
+    ensures { IfOk result (λ made. made ≡ line.now) }
+{
+    match line {
+        ReportLine::Broken1 { name } => {
+            let name = Bytes::copy(alloc, name.as_slice())?;
+            Ok(ReportLine::Broken1 { name })
+        }
+        ReportLine::Broken2 { first, second } => {
+            let first = Bytes::copy(alloc, first.as_slice())?;
+            let second = Bytes::copy(alloc, second.as_slice())?;
+            Ok(ReportLine::Broken2 { first, second })
+        }
+        ReportLine::Open1 { name } => {
+            let name = Bytes::copy(alloc, name.as_slice())?;
+            Ok(ReportLine::Open1 { name })
+        }
+        ReportLine::Open2 { first, second } => {
+            let first = Bytes::copy(alloc, first.as_slice())?;
+            let second = Bytes::copy(alloc, second.as_slice())?;
+            Ok(ReportLine::Open2 { first, second })
+        }
     }
 }

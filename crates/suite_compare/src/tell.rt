@@ -2,26 +2,17 @@
 ghost use Rattle.std.specs.Prelude.{◌≡◌, ◌<◌, ◌++◌, ℕ, OnOk, Some, filter, length, ltb, slice_index_or};
 ghost use Rattle.std.specs.List.{flat_map};
 ghost use Rattle.listed.specs.Lists.{In, Ascending};
-ghost use Rattle.row_book.specs.Book.{listed_for};
 ghost use Rattle.row_book.specs.Numbers.{numbers};
 ghost use Rattle.clause_solver.specs.declared.outcomes.Verdict.TheVariants.{Spent};
 ghost use Rattle.suite_compare.specs.Report.{is_yes, pair_line, single_line};
 ghost use Rattle.suite_compare.specs.Telling.{found_beside, partners_at, told_after, told_alone, told_pair};
 
 use crate::gather::Partners;
-use crate::places::{holds, place_at, verdict_at};
+use crate::places::{holds, name_at, place_at, verdict_at};
 use crate::report::{Finding, LineList, ReportLine, finding_of, is_yes};
 use clause_solver::Verdict;
 use deb_version::Bytes;
 use std::alloc::{AllocError, Global};
-
-/// The name at a place of a list.
-fn name_at(names: &[Bytes], place: usize) -> &[u8]
-    requires { place < length names.now }
-    ensures { result.now ≡ listed_for names.now place }
-{
-    names[place].as_slice()
-}
 
 /// The partners of a pair of kinds.
 fn partners_at(table: &[Partners], joint: usize) -> &Partners

@@ -1,7 +1,9 @@
-use Rattle.std.proofs.Common.{◌≡◌, ◌∙◌, ap, subst, sym}
+use Rattle.std.proofs.Common.{◌≡◌, ◌<◌, ◌∙◌, ℕ, ap, ap₂, subst, sym}
 use Rattle.listed.specs.Lists.{In}
 use Rattle.listed.proofs.Lists.{In_at}
+use Rattle.repo_model.specs.Feeding.{IsSuiteOf}
 use Rattle.suite_compare.specs.Refusals.{packages_in}
+use Rattle.suite_compare.specs.declared.view.SuiteView.{SuiteView}
 use Rattle.migrate_plan.specs.Differing.{differing}
 use Rattle.migrate_plan.specs.Plan.{line_behind, settings_of}
 use Rattle.migrate_plan.proofs.Planned.{leads_all, leads_first, leads_more, line_named}
@@ -10,6 +12,13 @@ use Rattle.migrate_plan.proofs.making.lines_of.Goals as goal
 pub loop-name-init : goal.loop-name-init
 loop-name-init c =
     leads_first (line_behind (settings_of c.args.budget c.args.old.now.limit c.args.old.now.kernel.hold) c.args.old_bytes.now c.args.new_bytes.now) c.args.names.now c.new-lines.result c.new-taken.result.items c.new-lines.ensures c.new-taken.ensures.items
+
+pub try_name-requires-clause-old : goal.try_name-requires-clause-old
+try_name-requires-clause-old c =
+    subst (λ (view : SuiteView). IsSuiteOf c.args.old_bytes.now view.suite.packages view.suite.home.name) (sym c.in_ok-side.ensures.view) c.requires.old
+
+pub try_name-requires-clause-limit : goal.try_name-requires-clause-limit
+try_name-requires-clause-limit c = subst (λ (view : SuiteView). 0 < view.limit) (sym c.in_ok-side.ensures.view) c.requires.limit
 
 pub try_name-requires-clause-taken : goal.try_name-requires-clause-taken
 try_name-requires-clause-taken c = λ other i. subst (In other) c.requires.names (c.loop-name.invariant.among other (subst (In other) c.as_slice.ensures.value i))
@@ -28,7 +37,9 @@ loop-name-preserved c =
     let new = c.args.new_bytes.now in
     let item = c.name-item.result in
     let made : c.in_ok-line.line ≡ line_behind settings old new c.loop-name.lines item =
-    c.in_ok-line.ensures c.loop-name.lines (c.as_slice.ensures.value ∙ c.loop-name.invariant.taken_is) ∙ ap (line_behind settings old new c.loop-name.lines) c.as_slice-in-loop-name.ensures in
+    c.in_ok-line.ensures c.loop-name.lines (c.as_slice.ensures.value ∙ c.loop-name.invariant.taken_is)
+    ∙ ap₂ (λ (view : SuiteView) (budget : ℕ). line_behind (settings_of budget view.limit view.kernel.hold) old new c.loop-name.lines c.as_slice-in-loop-name.result.now) c.in_ok-side.ensures.view c.in_ok-side.ensures.budget
+    ∙ ap (line_behind settings old new c.loop-name.lines) c.as_slice-in-loop-name.ensures in
     leads_more (line_behind settings old new) c.args.names.now c.loop-name.name-index c.loop-name.lines c.push.new.self c.loop-name.taken.items c.put_taken.new.taken.items item c.in_ok-line.line
     c.loop-name-test.true c.name-item.is made (line_named settings old new c.loop-name.lines item c.in_ok-line.line made) c.in_ok-push.ensures.ok c.in_ok-put_taken.ensures c.loop-name.invariant
 

@@ -22,5 +22,5 @@ line_of-requires-clause-accepted c =
 
 pub returns : goal.returns
 returns c =
-    behind_made (settings_of c.args.budget c.args.old.now.limit c.args.old.now.kernel.hold) c.args.old_bytes.now c.args.new_bytes.now c.as_slice.result.now c.args.name.now c.args.taken.now c.in_ok-line.line
+    behind_made (settings_of c.args.old.now.budget c.args.old.now.view.now.limit c.args.old.now.view.now.kernel.hold) c.args.old_bytes.now c.args.new_bytes.now c.as_slice.result.now c.args.name.now c.args.taken.now c.in_ok-line.line
     (c.as_slice.ensures.value ∙ c.in_ok-mix.ensures) c.in_ok-line.ensures

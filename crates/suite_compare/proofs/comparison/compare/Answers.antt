@@ -1,32 +1,35 @@
-use Rattle.std.proofs.Common.{◌∙◌, ℕ, List, ap, map, refl}
-use Rattle.clause_solver.specs.declared.outcomes.Verdict.{Verdict}
-use Rattle.repo_model.specs.Goals.{any_version}
-use Rattle.suite_compare.specs.Asking.{image_of, verdict_in}
-use Rattle.suite_compare.specs.Comparing.{told_report}
-use Rattle.suite_compare.proofs.Compared.{verdicts_are, verdicts_at}
-use Rattle.suite_compare.proofs.Named.{both_new, both_old}
+use Rattle.std.proofs.Common.{◌≡◌, ◌∙◌, ℕ, List, ap, ap₂, length, sym}
+use Rattle.suite_compare.specs.Asking.{verdict_in}
+use Rattle.suite_compare.specs.Comparing.{named_verdict, told_report}
+use Rattle.suite_compare.specs.Names.{names_of_both}
+use Rattle.suite_compare.specs.Report.{report}
+use Rattle.suite_compare.specs.declared.report.ReportLine.{ReportLine}
+use Rattle.suite_compare.specs.declared.view.SuiteView.{SuiteView}
 use Rattle.suite_compare.proofs.comparison.compare.Goals as goal
 
-pub side_by_names-requires-clause-names : goal.side_by_names-requires-clause-names
-side_by_names-requires-clause-names c =
-    both_old c.args.old.now.suite.packages c.args.new.now.suite.packages c.as_slice-names.result.now (c.as_slice-names.ensures.value ∙ c.in_ok-found.ensures)
+pub new_side_of-requires-clause-limit : goal.new_side_of-requires-clause-limit
+new_side_of-requires-clause-limit c = c.requires.limit ∙ sym (ap (λ (view : SuiteView). view.limit) c.in_ok-before.ensures.view)
 
-pub side_by_names-requires-2-clause-names : goal.side_by_names-requires-2-clause-names
-side_by_names-requires-2-clause-names c =
-    both_new c.args.old.now.suite.packages c.args.new.now.suite.packages c.as_slice-names.result.now (c.as_slice-names.ensures.value ∙ c.in_ok-found.ensures)
+pub new_side_of-requires-clause-hold : goal.new_side_of-requires-clause-hold
+new_side_of-requires-clause-hold c = c.requires.hold ∙ sym (ap (λ (view : SuiteView). view.kernel.hold) c.in_ok-before.ensures.view)
+
+pub lines_of-requires-clause-old : goal.lines_of-requires-clause-old
+lines_of-requires-clause-old c = rw (c.deref.ensures.value, c.deref-2.ensures.value) c.in_ok-after.ensures.old_is
+
+pub lines_of-requires-clause-new : goal.lines_of-requires-clause-new
+lines_of-requires-clause-new c = rw c.deref.ensures.value c.in_ok-after.ensures.new_is
 
 pub returns : goal.returns
 returns c =
-    let limit = c.args.old.now.limit in
-    let hold = c.args.old.now.kernel.hold in
-    let old = c.args.old.now in
+    let view = c.in_ok-before.before.view.now in
+    let budget = c.in_ok-before.before.budget in
     let new = c.args.new.now in
-    let names = c.as_slice-names.result.now in
-    let was : List (List ℕ) → Verdict = λ ns. verdict_in limit hold old.suite.home old.suite.packages c.args.budget (map any_version ns) in
-    let is : List (List ℕ) → Verdict = λ ns. verdict_in limit hold new.suite.home new.suite.packages c.args.budget (map any_version ns) in
-    c.in_ok-lines.ensures was is
-    (verdicts_are limit hold old.suite.home old.suite.packages c.args.budget names (map (λ name. image_of limit hold old.suite.home old.suite.packages (any_version name)) names) c.in_ok-before.before
-    c.in_ok-before.ensures.kernel c.in_ok-before.ensures.budget c.in_ok-before.ensures.kinds refl)
-    (verdicts_at limit hold new.limit new.kernel.hold c.requires.limit c.requires.hold new.suite.home new.suite.packages c.args.budget names (map (λ name. image_of new.limit new.kernel.hold new.suite.home new.suite.packages (any_version name)) names) c.in_ok-after.after
-    c.in_ok-after.ensures.kernel c.in_ok-after.ensures.budget c.in_ok-after.ensures.kinds refl)
-    ∙ ap (told_report was is) (c.as_slice-names.ensures.value ∙ c.in_ok-found.ensures)
+    let was = named_verdict view.limit view.kernel.hold view.suite budget in
+    let is = named_verdict view.limit view.kernel.hold new.suite budget in
+    let told : SuiteView → ℕ → List ReportLine = λ old budget.
+    report (verdict_in old.limit old.kernel.hold old.suite.home old.suite.packages budget) (verdict_in old.limit old.kernel.hold new.suite.home new.suite.packages budget)
+    (names_of_both old.suite.packages new.suite.packages) in
+    let made : c.in_ok-lines.lines ≡ told view budget =
+    c.in_ok-lines.ensures was is (rw (c.deref.ensures.value, c.deref-2.ensures.value) c.in_ok-after.ensures.was) (rw c.deref.ensures.value c.in_ok-after.ensures.is)
+    ∙ ap (told_report was is) (c.deref.ensures.value ∙ c.in_ok-after.ensures.names_are) in
+    made ∙ ap₂ told c.in_ok-before.ensures.view c.in_ok-before.ensures.budget

@@ -1,5 +1,5 @@
 use Rattle.suite_compare.proofs.Compared.{judge_of}
-use Rattle.suite_compare.proofs.comparison.side_of.Goals as goal
+use Rattle.suite_compare.proofs.sides.side_of.Goals as goal
 
 pub verdicts_alone-requires : goal.verdicts_alone-requires
 verdicts_alone-requires c = judge_of _ c.args.lists.now c.in_ok-kinds.kinds.of.items c.requires.sound c.in_ok-solver.ensures c.requires.needs c.requires.fit c.requires.budget c.in_ok-kinds.ensures

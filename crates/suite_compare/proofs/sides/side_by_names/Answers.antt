@@ -4,7 +4,7 @@ use Rattle.search_terms.proofs.Ranges.{rows_long}
 use Rattle.suite_compare.specs.Comparing.{IsSide}
 use Rattle.suite_compare.specs.Kinds.{AreKinds}
 use Rattle.suite_compare.proofs.Named.{lists_fit, lists_need}
-use Rattle.suite_compare.proofs.comparison.side_by_names.Goals as goal
+use Rattle.suite_compare.proofs.sides.side_by_names.Goals as goal
 
 pub side_of-requires-clause-needs : goal.side_of-requires-clause-needs
 side_of-requires-clause-needs c =
@@ -17,7 +17,7 @@ side_of-requires-clause-fit c =
 
 pub returns-clause-side : goal.returns-clause-side
 returns-clause-side c =
-    subst (λ n. IsSide n c.in_ok-side.side) (ap length (c.as_slice.ensures.value ∙ c.in_ok-lists.ensures) ∙ length-map c.args.names.now _) c.in_ok-side.ensures.side
+    subst (λ n. IsSide n c.in_ok-side.side c.in_ok-side.side.of.items) (ap length (c.as_slice.ensures.value ∙ c.in_ok-lists.ensures) ∙ length-map c.args.names.now _) c.in_ok-side.ensures.side
 
 pub returns-clause-kinds : goal.returns-clause-kinds
 returns-clause-kinds c =

@@ -37,54 +37,62 @@ mod tests {
         }
     }
 
-    fn made(alloc: Global, name: &[u8], version: &[u8]) -> Result<Thing, AllocError> {
-        Ok(Thing {
-            name: Bytes::copy(alloc, name)?,
-            version: Version::parse(alloc, version).map_err(|_| AllocError)?,
-        })
+    fn version(alloc: Global, text: &[u8]) -> Result<Version, AllocError> {
+        Version::parse(alloc, text).map_err(|_| AllocError)
+    }
+
+    fn made(alloc: Global, name: &[u8], text: &[u8]) -> Result<Thing, AllocError> {
+        let version = version(alloc, text)?;
+        let name = Bytes::copy(alloc, name)?;
+        Ok(Thing { name, version })
+    }
+
+    fn thing_at(alloc: Global, place: u32) -> Result<Thing, AllocError> {
+        match place {
+            1 => made(alloc, b"b", b"1"),
+            2 => made(alloc, b"a", b"2-0"),
+            28 => made(alloc, b"a", b"0:3"),
+            _ => made(alloc, b"a", b"4"),
+        }
+    }
+
+    // So many of one name that most are found by a key.
+    fn many(alloc: Global) -> Result<Vec<Thing>, AllocError> {
+        let mut things = Vec::new(alloc);
+        for place in 0..33 {
+            let thing = thing_at(alloc, place)?;
+            things.push(thing)?;
+        }
+        Ok(things)
     }
 
     #[test]
-    fn finds_by_name_and_version(rt: HostRuntime) -> Result<(), Fail> {
+    fn finds_by_name(rt: HostRuntime) -> Result<(), Fail> {
         let alloc = rt.alloc();
-        let mut things = vec![in alloc;
-            made(alloc, b"a", b"1")?,
-            made(alloc, b"b", b"1")?,
-            made(alloc, b"a", b"2-0")?,
-        ]?;
-        for place in 0..30 {
-            let version: &[u8] = if place == 25 { b"0:3" } else { b"4" };
-            things.push(made(alloc, b"a", version)?)?;
+        let things = many(alloc)?;
+        let items = things.as_slice();
+        assert!(rt; items.len() == 33);
+        let register = Register::of(alloc, items)?;
+        let found = register.named(alloc, items, b"b")?;
+        assert_eq!(rt; found.as_slice(), [1].as_slice());
+        assert!(rt; register.has_name(items, b"a"));
+        assert!(rt; !register.has_name(items, b"c"));
+        Ok(())
+    }
+
+    #[test]
+    fn finds_by_an_equal_version(rt: HostRuntime) -> Result<(), Fail> {
+        let alloc = rt.alloc();
+        let things = many(alloc)?;
+        let items = things.as_slice();
+        assert!(rt; items.len() == 33);
+        let register = Register::of(alloc, items)?;
+        let cases: [(&[u8], u32); 2] = [(b"2", 2), (b"3", 28)];
+        for (text, place) in cases {
+            let asked = version(alloc, text)?;
+            let found = register.versioned(alloc, items, b"a", &asked)?;
+            assert_eq!(rt; found.as_slice(), [place].as_slice());
         }
-        let register = Register::of(alloc, things.as_slice())?;
-        let two = Version::parse(alloc, b"2").map_err(|_| AllocError)?;
-        let three = Version::parse(alloc, b"3").map_err(|_| AllocError)?;
-        assert_eq!(rt;
-            register.named(alloc, things.as_slice(), b"b")?.as_slice(),
-            [1].as_slice()
-        );
-        assert_eq!(rt; register.named(alloc, things.as_slice(), b"a")?.len(), 32);
-        assert_eq!(rt;
-            register
-                .versioned(alloc, things.as_slice(), b"a", &two)?
-                .as_slice(),
-            [2].as_slice()
-        );
-        assert_eq!(rt;
-            register
-                .versioned(alloc, things.as_slice(), b"a", &three)?
-                .as_slice(),
-            [28].as_slice()
-        );
-        assert!(rt;
-            register
-                .versioned(alloc, things.as_slice(), b"b", &two)?
-                .is_empty()
-        );
-        assert!(rt;
-            register.has_name(things.as_slice(), b"a")
-                && !register.has_name(things.as_slice(), b"c")
-        );
         Ok(())
     }
 }

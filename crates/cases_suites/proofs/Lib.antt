@@ -1,1 +1,2 @@
 mod MoreGoals
+mod KernelMade

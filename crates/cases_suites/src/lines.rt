@@ -1,5 +1,10 @@
 //! What the tables share: short indexes, with a slash for each line feed, and numbers, with a digit each.
+ghost use Rattle.std.specs.Prelude.{IfOk};
+ghost use Rattle.row_book.specs.Book.{Sound};
+
+use clause_pool::Pool;
 use repo_model::{Suite, read_suite};
+use row_book::Book;
 use std::alloc::{AllocError, Global};
 use std::test::Fail;
 
@@ -18,6 +23,15 @@ pub(crate) fn suite_of(alloc: Global, text: &str) -> Result<Suite, Fail> {
         return Err("a long index".into());
     }
     Ok(read_suite(alloc, text.as_bytes()).ok().ok_or("a fault")?)
+}
+
+/// The book of a short index.
+pub(crate) fn book_of(alloc: Global, pool: &mut Pool, text: &str) -> Result<Book, Fail>
+    ensures { IfOk result (Sound pool.new) }
+{
+    let suite = suite_of(alloc, text)?;
+    let book = suite.book(alloc, pool)?;
+    Ok(book)
 }
 
 /// The numbers that the digits write, each by itself.

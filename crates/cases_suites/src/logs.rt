@@ -1,26 +1,28 @@
-//! Logs that are checked against the repositories of small indexes.
+//! Logs that are checked against the kernels of small indexes.
 ghost use Rattle.std.specs.Prelude.{◌<◌, IfOk, OnOk};
+ghost use Rattle.row_book.specs.Book.{Sound};
 ghost use Rattle.row_book.specs.Needs.{NeedsFit};
 ghost use Rattle.search_terms.specs.Closure.{InRange};
 
-use crate::lines::{numbers, suite_of};
+use crate::lines::{book_of, numbers};
 use clause_pool::Pool;
+use kernel_rounds::extract;
 use refutation_check::check;
-use row_book::Needs;
+use row_book::{Book, Needs};
 use search_terms::{EntryList, Literal, LiteralList, Log};
 use std::alloc::{AllocError, Global};
 use std::process::Abort;
 use std::test::Fail;
 
-/// Three packages; the last two conflict.
+/// Three packages, each a class of its own; the last two conflict.
 const THREE: &str =
     "Package: a\nVersion: 1\nDepends: b | c\n\nPackage: b\nVersion: 1\nConflicts: c\n\nPackage: c\nVersion: 1\n";
 
-/// Package 0 wants one of each of three pairs, and no three of these go together.
+/// Package 0 wants one of each of three pairs, and no three of these go together; each is a class of its own.
 const TANGLE: &str =
     "Package: p\nVersion: 1\nDepends: x1 | x2, y1 | y2, z1 | z2\n\nPackage: x1\nVersion: 1\nConflicts: y1, z1\n\nPackage: x2\nVersion: 1\nConflicts: y2, z2\n\nPackage: y1\nVersion: 1\nConflicts: z1\n\nPackage: y2\nVersion: 1\nConflicts: z2\n\nPackage: z1\nVersion: 1\n\nPackage: z2\nVersion: 1\n";
 
-/// Each line is the packages that are wanted, with a digit each; the log, with an entry for each signed digit, and a full stop for
+/// Each line is the classes that are wanted, with a digit each; the log, with an entry for each signed digit, and a full stop for
 /// the empty entry behind these; and whether it derives the empty entry.
 const THREE_LOGS: &str = "\
 12 . => derives
@@ -95,7 +97,16 @@ fn entries_of(
     Ok(entries)
 }
 
-/// Whether the log derives the empty entry over the repository and the goals.
+/// The kernel of a short index.
+fn kernel_of(alloc: Global, pool: &mut Pool, index: &str) -> Result<Book, Fail>
+    ensures { IfOk result (Sound pool.new) }
+{
+    let book = book_of(alloc, pool, index)?;
+    let made = extract(alloc, pool, &book, 65_536, false)?;
+    Ok(made.book)
+}
+
+/// Whether the log derives the empty entry over the kernel and the goals.
 fn is_derived(
     alloc: Global,
     index: &str,
@@ -103,12 +114,12 @@ fn is_derived(
     literals: &[Literal],
     ends: bool,
 ) -> Result<bool, Fail> {
-    let suite = suite_of(alloc, index)?;
     let mut pool = Pool::new(alloc)?;
-    let book = suite.book(alloc, &mut pool)?;
-    let goals = single_goals(alloc, book.size(), wanted)?;
-    let entries = entries_of(alloc, book.size(), literals, ends)?;
-    Ok(check(alloc, &pool, &book, &goals, &Log { entries })?)
+    let kernel = kernel_of(alloc, &mut pool, index)?;
+    let goals = single_goals(alloc, kernel.size(), wanted)?;
+    let entries = entries_of(alloc, kernel.size(), literals, ends)?;
+    let derived = check(alloc, &pool, &kernel, &goals, &Log { entries })?;
+    Ok(derived)
 }
 
 fn check_line(rt: &(impl Abort + AllocGlobal), index: &str, line: &str) -> Result<(), Fail> {

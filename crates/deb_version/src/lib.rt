@@ -4,12 +4,14 @@
 mod cuts;
 mod digits;
 mod keys;
+mod named;
 mod names;
 mod parts;
 mod texts;
 mod versions;
 
-// Texts and names.
+// Texts and names, and what has a name and a version.
+pub use named::Named;
 pub use names::is_package_name;
 pub use texts::Bytes;
 

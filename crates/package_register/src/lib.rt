@@ -4,16 +4,14 @@
 mod hashed;
 mod keys;
 mod lookup;
-mod named;
 mod register;
 
-pub use named::Named;
 pub use register::{Candidates, Register};
 
 #[cfg(test)]
 mod tests {
     use super::*;
-    use deb_version::{Bytes, Version};
+    use deb_version::{Bytes, Named, Version};
     use std::alloc::{AllocError, Global};
     use std::test::Fail;
 

@@ -4,9 +4,8 @@ ghost use Rattle.std.specs.List.{list_any};
 ghost use Rattle.package_register.specs.Numbers.{numbers_where, passes_at};
 ghost use Rattle.package_register.specs.Registers.{has_name, is_version_of, IsRegisterOf};
 
-use crate::named::Named;
 use crate::register::{Candidates, Register};
-use deb_version::Version;
+use deb_version::{Named, Version};
 use listed::sort_once;
 use std::alloc::{AllocError, Global};
 

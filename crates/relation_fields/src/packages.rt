@@ -1,8 +1,7 @@
 //! What a package's stanza says of it.
 use crate::atom_lists::AtomList;
 use crate::relations::{ElementList, ProvideList};
-use deb_version::{Bytes, Version};
-use package_register::Named;
+use deb_version::{Bytes, Named, Version};
 
 /// The common architecture of the packages of an index; an index of `all` alone has none.
 #[derive(Drop)]

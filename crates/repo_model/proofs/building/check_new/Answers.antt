@@ -13,6 +13,6 @@ returns-in-Some c =
 pub returns : goal.returns
 returns c = (
   ap (option_map (λ (first : PackageFacts). Duplicate first.line c.args.facts.now.line))
-  (found_same c.args.facts.now c.args.packages.now c.as_slice.result.now c.in_ok-same.same.items c.deref.result.now None c.as_slice.ensures c.in_ok-same.ensures c.deref.ensures.value c.in-None.ensures),
+      (found_same c.args.facts.now c.args.packages.now c.as_slice.result.now c.in_ok-same.same.items c.deref.result.now None c.as_slice.ensures c.in_ok-same.ensures c.deref.ensures.value c.in-None.ensures),
   refl,
 )

@@ -1,7 +1,7 @@
 //! What has a name and a version.
 ghost use Rattle.std.specs.Prelude.{◌≡◌, ℕ, List};
 
-use deb_version::Version;
+use crate::versions::Version;
 
 /// What has a name and a version, as a package of an index.
 pub trait Named {

@@ -17,7 +17,7 @@ use Rattle.suite_compare.specs.Asking.{verdict_in}
 use Rattle.suite_compare.specs.Names.{names_of_both}
 use Rattle.suite_compare.specs.Refusals.{home_in, packages_in, RefusesIndex}
 use Rattle.suite_compare.specs.declared.refusals.ViewError.TheVariants.{Limit}
-use Rattle.suite_compare.specs.Report.{first_of, report}
+use Rattle.suite_compare.specs.Report.{first_told, report}
 use Rattle.suite_compare.specs.declared.report.ReportLine.{ReportLine}
 use Rattle.migrate_plan.specs.Mix.{is_left, is_taken, mix}
 use Rattle.migrate_plan.specs.Plan.{line_behind, lines_between, outcome_of, passed_in, settings_of, taken_in, Settings}
@@ -91,11 +91,11 @@ pub limit_there : (text : List ℕ) (limit : ℕ) (hold : Bool) (round gone numb
 limit_there text limit hold round gone number count name version h = (record { number = round; gone = gone; over = number; count = count }, h.1.there)
 
 -- the line of a name by the first line of a list, or none: it is taken where the list is empty, and else it is left with that line
-pub taken_by_none : (name made : List ℕ) (first : Option ReportLine) (told : List ReportLine) → made ≡ name → first ≡ None → first ≡ first_of told → Take made ≡ outcome_of name None told
+pub taken_by_none : (name made : List ℕ) (first : Option ReportLine) (told : List ReportLine) → made ≡ name → first ≡ None → first ≡ first_told told → Take made ≡ outcome_of name None told
 taken_by_none name made first [] same is so = ap Take same
 taken_by_none name made first (line ∷ more) same is so = let e : None ≡ Some line = sym is ∙ so in absurd cc
 
-pub left_by_first : (name made : List ℕ) (first : Option ReportLine) (line : ReportLine) (told : List ReportLine) → made ≡ name → first ≡ Some line → first ≡ first_of told → LeftLine made line ≡ outcome_of name None told
+pub left_by_first : (name made : List ℕ) (first : Option ReportLine) (line : ReportLine) (told : List ReportLine) → made ≡ name → first ≡ Some line → first ≡ first_told told → LeftLine made line ≡ outcome_of name None told
 left_by_first name made first line [] same is so = let e : Some line ≡ None = sym is ∙ so in absurd cc
 left_by_first name made first line (other ∷ more) same is so =
     let e : Some line ≡ Some other = sym is ∙ so in

@@ -5,7 +5,7 @@ ghost use Rattle.repo_model.specs.Feeding.{IsSuiteOf};
 ghost use Rattle.migrate_plan.specs.Plan.{lines_between, outcome_of, passed_in, settings_of};
 ghost use Rattle.migrate_plan.specs.Trying.{IsViewAt};
 ghost use Rattle.suite_compare.specs.Comparing.{IsOldSide};
-ghost use Rattle.suite_compare.specs.Report.{first_of};
+ghost use Rattle.suite_compare.specs.Report.{first_told};
 ghost use Rattle.suite_compare.specs.declared.report.ReportLine.{ReportLine};
 ghost use Rattle.repo_model.specs.Limits.{most_bytes};
 
@@ -70,7 +70,7 @@ fn line_by_first(
     name: &[u8],
     first: Option<ReportLine>,
 ) -> Result<PlanLine, AllocError>
-    ensures { (lines : List ReportLine) → first ≡ first_of lines → IfOk result (λ line. line ≡ outcome_of name.now None lines) }
+    ensures { (lines : List ReportLine) → first ≡ first_told lines → IfOk result (λ line. line ≡ outcome_of name.now None lines) }
 {
     let name = Bytes::copy(alloc, name)?;
     match first {

@@ -1,4 +1,3 @@
--- for the bodies of this crate alone
 -- Kinds that do not go together, or are not known to.
 use Rattle.std.specs.Prelude.{◌≡◌, ℕ, ◌<◌, ◌==◌, ◌⊎◌, true, if◌then◌else◌, List, [], ◌∷◌, length, map, slice_index_or}
 use Rattle.std.specs.List.{find}

@@ -1,4 +1,3 @@
--- for bodies alone, those of other crates too
 -- Kinds: names of a kind have the same classes, and so the same verdicts.
 use Rattle.std.specs.Prelude.{◌≡◌, ℕ, ◌<◌, ◌⊎◌, true, List, [], ◌∷◌, ◌++◌, length, slice_index_or}
 use Rattle.listed.specs.Lists.{In, has}

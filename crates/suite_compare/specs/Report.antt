@@ -50,6 +50,6 @@ report old new names =
     (filter (λ a. is_yes (new (any_version a ∷ []))) names)
 
 -- the first of some lines, where there is one
-abbrev pub first_of : List ReportLine → Option ReportLine
-first_of [] = None
-first_of (line ∷ more) = Some line
+abbrev pub first_told : List ReportLine → Option ReportLine
+first_told [] = None
+first_told (line ∷ more) = Some line

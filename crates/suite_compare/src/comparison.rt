@@ -12,7 +12,7 @@ ghost use Rattle.suite_compare.specs.Kinds.{IsJudge};
 ghost use Rattle.suite_compare.specs.Names.{names_of_both};
 ghost use Rattle.suite_compare.specs.Comparing.{told_pairs, told_report, told_singles, AreVerdicts, IsOldSide, IsSide, IsTable};
 ghost use Rattle.suite_compare.specs.Partners.{IsJointTable};
-ghost use Rattle.suite_compare.specs.Report.{first_of, report};
+ghost use Rattle.suite_compare.specs.Report.{first_told, report};
 
 use crate::gather::{JointTable, Partners, joint_table, new_kind, old_kind, partners_of};
 use crate::report::{LineList, Report, ReportLine, copy_of_first};
@@ -114,7 +114,7 @@ fn first_lines_of(
 ) -> Result<LineList, AllocError>
     requires old { IsSide (length names.now) old.now old_of.now }
     requires new { IsSide (length names.now) new.now new.now.of.items }
-    ensures { (v w : List (List ℕ) → Verdict) → AreVerdicts old.now old_of.now names.now v → AreVerdicts new.now new.now.of.items names.now w → IfOk result (λ lines. first_of lines ≡ first_of (told_report v w names.now)) }
+    ensures { (v w : List (List ℕ) → Verdict) → AreVerdicts old.now old_of.now names.now v → AreVerdicts new.now new.now.of.items names.now w → IfOk result (λ lines. first_told lines ≡ first_told (told_report v w names.now)) }
 {
     let mut lines = single_lines(alloc, names, old, old_of, new)?;
     if !lines.as_slice().is_empty() {
@@ -162,7 +162,7 @@ pub fn first_line(
     requires side { IsOldSide old.now }
     requires limit { new.now.limit ≡ old.now.view.now.limit }
     requires hold { new.now.kernel.hold ≡ old.now.view.now.kernel.hold }
-    ensures { let view = old.now.view.now in IfOk result (λ first. first ≡ first_of (report (verdict_in view.limit view.kernel.hold view.suite.home view.suite.packages old.now.budget) (verdict_in view.limit view.kernel.hold new.now.suite.home new.now.suite.packages old.now.budget)
+    ensures { let view = old.now.view.now in IfOk result (λ first. first ≡ first_told (report (verdict_in view.limit view.kernel.hold view.suite.home view.suite.packages old.now.budget) (verdict_in view.limit view.kernel.hold new.now.suite.home new.now.suite.packages old.now.budget)
         (names_of_both view.suite.packages new.now.suite.packages))) }
 {
     let made = new_side_of(alloc, old, new)?;

@@ -1,6 +1,6 @@
 //! What a comparison tells.
 ghost use Rattle.std.specs.Prelude.{◌≡◌, IfOk};
-ghost use Rattle.suite_compare.specs.Report.{finding, first_of, is_yes};
+ghost use Rattle.suite_compare.specs.Report.{finding, first_told, is_yes};
 
 use clause_solver::Verdict;
 use deb_version::Bytes;
@@ -86,7 +86,7 @@ pub(crate) fn copy_of_first(
     alloc: Global,
     lines: &LineList,
 ) -> Result<Option<ReportLine>, AllocError>
-    ensures { IfOk result (λ made. made ≡ first_of lines.now) }
+    ensures { IfOk result (λ made. made ≡ first_told lines.now) }
 {
     match lines.as_slice() {
         [] => Ok(None),

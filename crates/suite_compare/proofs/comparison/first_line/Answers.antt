@@ -1,6 +1,6 @@
 use Rattle.std.proofs.Common.{◌∙◌, ap, length}
 use Rattle.suite_compare.specs.Comparing.{named_verdict, told_report}
-use Rattle.suite_compare.specs.Report.{first_of}
+use Rattle.suite_compare.specs.Report.{first_told}
 use Rattle.suite_compare.proofs.comparison.first_line.Goals as goal
 
 pub first_lines_of-requires-clause-old : goal.first_lines_of-requires-clause-old
@@ -16,4 +16,4 @@ returns c =
     let is = named_verdict view.limit view.kernel.hold c.args.new.now.suite c.args.old.now.budget in
     c.in_ok-first.ensures
     ∙ c.in_ok-lines.ensures was is (rw (c.deref.ensures.value, c.deref-2.ensures.value) c.in_ok-made.ensures.was) (rw c.deref.ensures.value c.in_ok-made.ensures.is)
-    ∙ ap (λ names. first_of (told_report was is names)) (c.deref.ensures.value ∙ c.in_ok-made.ensures.names_are)
+    ∙ ap (λ names. first_told (told_report was is names)) (c.deref.ensures.value ∙ c.in_ok-made.ensures.names_are)

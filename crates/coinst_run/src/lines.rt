@@ -173,9 +173,12 @@ pub(crate) fn too_long_line(alloc: Global, path: &str) -> Made
 pub(crate) fn push_stage(out: &mut Vec<u8>, limit: u64, round: u64, gone: u64) -> Put
     ensures { OnOk result (out.new.items ≡ out.old.items ++ stage_text limit round gone) }
 {
-    push_counted(out, b"clause limit ", limit)?;
-    push_counted(out, b" passed: round ", round)?;
-    push_counted(out, b", gone ", gone)
+    out.extend_from_slice(b"clause limit ")?;
+    push_number(out, limit)?;
+    out.extend_from_slice(b" passed: round ")?;
+    push_number(out, round)?;
+    out.extend_from_slice(b", gone ")?;
+    push_number(out, gone)
 }
 
 /// Puts which package passed it, and by how many clauses, behind the text.

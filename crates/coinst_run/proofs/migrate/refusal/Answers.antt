@@ -10,11 +10,11 @@ returns-in-Homes c = λ lines there refuses.
 
 pub returns-in-Names : goal.returns-in-Names
 returns-in-Names c = λ lines there refuses.
-    plan_refused c.args.old.now c.args.new.now lines there _ (stop_ending c.refused-in-Names.result) (rw c.in-Names.is at refuses) (c.refused-in-Names.ensures (names_line c.args.new.now) c.line_about.ensures)
+    plan_refused c.args.old.now c.args.new.now lines there _ (stop_ending c.refused-in-Names.result) (rw c.in-Names.is at refuses) (c.refused-in-Names.ensures (names_line c.args.new.now) c.line_about-line.ensures)
 
 pub returns-in-Packages : goal.returns-in-Packages
 returns-in-Packages c = λ lines there refuses.
-    plan_refused c.args.old.now c.args.new.now lines there _ (stop_ending c.refused-in-Packages.result) (rw c.in-Packages.is at refuses) (c.refused-in-Packages.ensures packages_line c.line_about-in-Packages.ensures)
+    plan_refused c.args.old.now c.args.new.now lines there _ (stop_ending c.refused-in-Packages.result) (rw c.in-Packages.is at refuses) (c.refused-in-Packages.ensures packages_line c.line_about-line-in-Packages.ensures)
 
 pub returns-in-TooLong : goal.returns-in-TooLong
 returns-in-TooLong c = λ lines there refuses.

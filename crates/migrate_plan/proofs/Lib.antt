@@ -13,3 +13,4 @@ pub mod Deciding
 pub mod Named
 pub mod Taken
 pub mod Flagged
+mod Passing

@@ -1,6 +1,6 @@
 use Rattle.std.proofs.Common.{◌∙◌, ap, sym}
-use Rattle.suite_compare.proofs.Named.{named_all, named_kept, named_skip}
 use Rattle.migrate_plan.specs.Differing.{differs}
+use Rattle.migrate_plan.proofs.Passing.{named_all, named_kept, named_skip}
 use Rattle.migrate_plan.proofs.differing.those_that_differ.Goals as goal
 
 pub loop-name-preserved-then-not-differ : goal.loop-name-preserved-then-not-differ

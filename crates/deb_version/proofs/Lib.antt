@@ -1,3 +1,4 @@
+pub mod ClassTable
 pub mod Cutting
 pub mod EqualKeys
 pub mod KeySteps

@@ -4,6 +4,7 @@ ghost use Rattle.std.specs.List.{position, suffix_len, list_all};
 ghost use Rattle.std.specs.Option.{option_copied, option_map_or};
 ghost use Rattle.deb_version.specs.Grammar.{is_colon, is_hyphen, epoch_of, behind_epoch, upstream_in, revision_in, upstream_of, revision_of, is_epoch, is_revision_byte, is_upstream_byte, is_upstream, is_revision, are_parts, is_version};
 
+use crate::classes::{is_revision_byte, is_upstream_byte};
 use listed::has_digits_alone;
 
 /// The text of a version cut into its parts; an epoch or a revision that is not written is missing.
@@ -117,23 +118,11 @@ fn fits_revision(revision: Option<&[u8]>) -> bool
 fn has_upstream_bytes(text: &[u8]) -> bool
     ensures { result ≡ list_all is_upstream_byte text.now }
 {
-    text.iter().all(|byte| may_stand_upstream(*byte))
+    text.iter().all(|byte| is_upstream_byte(*byte))
 }
 
 fn has_revision_bytes(text: &[u8]) -> bool
     ensures { result ≡ list_all is_revision_byte text.now }
 {
-    text.iter().all(|byte| may_stand_in_revision(*byte))
-}
-
-fn may_stand_upstream(byte: u8) -> bool
-    ensures { result ≡ is_upstream_byte byte }
-{
-    may_stand_in_revision(byte) || matches!(byte, b'-' | b':')
-}
-
-fn may_stand_in_revision(byte: u8) -> bool
-    ensures { result ≡ is_revision_byte byte }
-{
-    byte.is_ascii_alphanumeric() || matches!(byte, b'+' | b'.' | b'~')
+    text.iter().all(|byte| is_revision_byte(*byte))
 }

@@ -1,6 +1,7 @@
 //! Texts, package names and versions of Debian packages.
 #![tactic(auto)]
 
+mod classes;
 mod cuts;
 mod digits;
 mod keys;

@@ -3,6 +3,8 @@ ghost use Rattle.std.specs.Prelude.{◌≡◌};
 ghost use Rattle.std.specs.List.{list_all};
 ghost use Rattle.deb_version.specs.Names.{is_name, is_name_byte, has_first};
 
+use crate::classes::is_name_byte;
+
 /// Whether the text is the name of a package.
 ///
 /// A name is an ASCII letter or digit, and then ASCII letters, digits and `+ - . _`.
@@ -26,12 +28,5 @@ fn begins_well(text: &[u8]) -> bool
 fn has_name_bytes(text: &[u8]) -> bool
     ensures { result ≡ list_all is_name_byte text.now }
 {
-    text.iter().all(|byte| may_stand(*byte))
-}
-
-// Whether the byte may stand in a name.
-fn may_stand(byte: u8) -> bool
-    ensures { result ≡ is_name_byte byte }
-{
-    byte.is_ascii_alphanumeric() || matches!(byte, b'+' | b'-' | b'.' | b'_')
+    text.iter().all(|byte| is_name_byte(*byte))
 }

@@ -1,5 +1,5 @@
 -- Look-ups by a hash in a table whose values are seen as lists of numbers.
-use Rattle.std.proofs.Common.{◌≡◌, ℕ, Bool, true, false, eqb, List, [], ◌∷◌, Option, Some, None, IsSome, is_some, Result, Ok, Err, OnOk, refl, sym, ap, subst, ◌∙◌, eqb-true}
+use Rattle.std.proofs.Common.{◌≡◌, ℕ, Bool, true, false, eqb, List, [], ◌∷◌, Option, Some, None, IsSome, is_some, Result, Ok, Err, OnOk, IfOk, length, refl, sym, ap, subst, ◌∙◌, eqb-true}
 use Rattle.std.specs.Prelude.{if◌then◌else◌}
 use Rattle.std.specs.Option.{option_map_or}
 use Rattle.std.specs.Map.{KeepsOthers}
@@ -40,6 +40,10 @@ module _ {X S : Type 0} (list : X → List ℕ) where
       by true same = e ∙ ap (λ k. with_number number (list_at m k)) (sym (eqb-true other hash same))
       by false same = refl
 
+  -- what is under a hash once a value is put there
+  pub list_there : (hash : ℕ) (m n : HashMap ℕ X S) (w : X) → UpdatesAt m n hash w → list_at n hash ≡ list w
+  list_there hash m n w h = ap (λ found. option_map_or list found []) h.1
+
   -- the hash had a list, which took the number
   pub there_ok : {T E : Type 0} (result : Result T E) (hash number : ℕ) (m n : HashMap ℕ X S) (had w : X) → (IsSome (found_at m hash) → UpdatesAt m n hash w)
       → found_at m hash ≡ Some had → OnOk result (list w ≡ with_number number (list had))
@@ -47,6 +51,12 @@ module _ {X S : Type 0} (list : X → List ℕ) where
   there_ok (Ok x) hash number m n had w h there e = λ other.
       list_at-puts hash other number m n w (h (ap is_some there)) (e ∙ ap (λ found. with_number number (option_map_or list found [])) (sym there))
   there_ok (Err x) hash number m n had w h there e = tt
+
+  -- and its length is what was told
+  pub there_count : {E : Type 0} (result : Result ℕ E) (hash : ℕ) (m n : HashMap ℕ X S) (had w : X) → (IsSome (found_at m hash) → UpdatesAt m n hash w) → found_at m hash ≡ Some had
+      → IfOk result (λ count. count ≡ length (list w)) → IfOk result (λ count. count ≡ length (list_at n hash))
+  there_count (Ok count) hash m n had w h there e = e ∙ sym (ap length (list_there hash m n w (h (ap is_some there))))
+  there_count (Err x) hash m n had w h there e = tt
 
   -- a hash that had no list gets one of this number alone
   pub new_ok : (hash other number : ℕ) (m before n : HashMap ℕ X S) (w : X) → UpdatesAt before n hash w → before ≡ m → list w ≡ number ∷ [] → found_at m hash ≡ None

@@ -1,7 +1,9 @@
 -- The numbers of the items of a list that pass a test.
-use Rattle.std.proofs.Common.{◌≡◌, ℕ, zero, suc, ◌+◌, ◌↔◌, Bool, true, false, cond, List, [], ◌∷◌, ◌++◌, filter, map, inl, inr, refl, sym, subst, ◌∙◌, add-zero, zero-add, arith}
+use Rattle.std.proofs.Common.{◌≡◌, ℕ, zero, suc, ◌+◌, ◌↔◌, Bool, true, false, cond, List, [], ◌∷◌, ◌++◌, filter, length, map, inl, inr, refl, sym, ap, subst, ◌∙◌, add-zero, zero-add, arith}
+use Rattle.std.specs.Prelude.{◌==◌}
 use Rattle.std.specs.List.{enumerate_from, list_any}
 use Rattle.std.proofs.lemmas.Bool.{false≢true, or_cases, or_left, or_right}
+use Rattle.std.proofs.lemmas.Bool.Decides.{nat_tests}
 use Rattle.std.proofs.lemmas.List.Elements.{filter-append}
 use Rattle.listed.specs.Lists.{In, here, has, Ascending, Inside}
 use Rattle.listed.proofs.Lists.{In_cases, In_none, In_append_right, any_cases, any_from, filter_cases, filter_from, has_In}
@@ -12,6 +14,11 @@ use Rattle.package_register.specs.Numbers.{numbers_from, numbers_where, passes_a
 -- what passes of each of two lists is what passes of both together
 pub passing_both : (test : ℕ → Bool) (xs ys kept more all : List ℕ) → all ≡ kept ++ more → kept ≡ filter test xs → more ≡ filter test ys → all ≡ filter test (xs ++ ys)
 passing_both test xs ys kept more all e k m = let both : filter test (xs ++ ys) ≡ filter test xs ++ filter test ys = filter-append test xs ys in cc
+
+-- a list without items
+pub none_in : (xs : List ℕ) → (length xs == 0) ≡ true → xs ≡ []
+none_in [] e = refl
+none_in (x ∷ xs) e = absurd (let f : ⊥ = grind (arith, nat_tests) in f)
 
 module _ {X : Type 0} (test : X → Bool) where
   -- the first item, and the others
@@ -75,6 +82,11 @@ module _ {X : Type 0} (test : X → Bool) where
   pub found_among : (items : List X) (numbers kept found : List ℕ) → ((n : ℕ) → passes_at test items n ≡ true → has numbers n ≡ true) → kept ≡ filter (passes_at test items) numbers
       → Ascending found → ((n : ℕ) → In n found ↔ In n kept) → found ≡ numbers_where test items
   found_among items numbers kept found all is a same = found_where items numbers found all a (λ n. subst (λ ns. In n found ↔ In n ns) is (same n))
+
+  -- where none is gone through, none is found
+  pub found_none : (items : List X) (numbers found : List ℕ) → ((n : ℕ) → passes_at test items n ≡ true → has numbers n ≡ true) → numbers ≡ [] → found ≡ [] → found ≡ numbers_where test items
+  found_none items numbers found all none is =
+      found_among items numbers [] found all (sym (ap (filter (passes_at test items)) none)) (subst Ascending (sym is) tt) (λ n. subst (λ ns. In n ns ↔ In n []) (sym is) ((λ j. j), (λ j. j)))
 
   some_passes : (items : List X) (n : ℕ) → passes_at test items n ≡ true → list_any test items ≡ true
   some_passes [] n e = absurd (false≢true e)

@@ -47,16 +47,17 @@ impl NumbersByHash {
         *self.lists.allocator()
     }
 
-    /// Puts a number behind those under a hash, unless it is the last of these already.
-    pub(crate) fn put(&mut self, hash: u64, number: u32) -> Result<(), AllocError>
-        ensures { OnOk result (Puts self.old self.new hash number) }
+    /// Puts a number behind those under a hash, unless it is the last of these already, and answers how many there are now.
+    pub(crate) fn put(&mut self, hash: u64, number: u32) -> Result<usize, AllocError>
+        ensures puts { OnOk result (Puts self.old self.new hash number) }
+        ensures count { IfOk result (λ count. count ≡ length (numbers_under self.new hash)) }
     {
         let alloc = *self.lists.allocator();
         match self.lists.get_mut(&hash) {
             Some(numbers) => put_last(alloc, numbers, number),
             None => {
                 self.lists.insert(hash, NumberList::One(number))?;
-                Ok(())
+                Ok(1)
             }
         }
     }
@@ -72,20 +73,22 @@ impl NumbersByHash {
     }
 }
 
-// Puts the number behind the others, unless it is the last already.
-fn put_last(alloc: Global, numbers: &mut NumberList, number: u32) -> Result<(), AllocError>
-    ensures { OnOk result (numbers_of numbers.new ≡ with_number number (numbers_of numbers.old)) }
+// Puts the number behind the others, unless it is the last already, and answers how many there are now.
+fn put_last(alloc: Global, numbers: &mut NumberList, number: u32) -> Result<usize, AllocError>
+    ensures numbers { OnOk result (numbers_of numbers.new ≡ with_number number (numbers_of numbers.old)) }
+    ensures count { IfOk result (λ count. count ≡ length (numbers_of numbers.new)) }
 {
     if numbers.as_slice().last() == Some(&number) {
-        return Ok(());
+        return Ok(numbers.as_slice().len());
     }
     if let NumberList::Many(many) = numbers {
         many.push(number)?;
-        return Ok(());
+        return Ok(many.as_slice().len());
     }
     let both = with_one_more(alloc, numbers.as_slice(), number)?;
+    let count = both.as_slice().len();
     *numbers = NumberList::Many(both);
-    Ok(())
+    Ok(count)
 }
 
 // The numbers with one behind them.

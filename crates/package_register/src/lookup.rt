@@ -60,6 +60,10 @@ impl Register {
         requires { IsRegisterOf T.name_of T.version_of items.now self.now }
         ensures { IfOk result (λ found. found.items ≡ numbers_where (is_version_of T.name_of T.version_of name.now version.now) items.now) }
     {
+        // As things are read, most names are new.
+        if self.bearers(name).is_empty() {
+            return Ok(Vec::new(alloc));
+        }
         let candidates = self.candidates(alloc, name, version)?;
         let mut found = equal_among(alloc, items, candidates, name, version)?;
         sort_once(&mut found);

@@ -73,8 +73,7 @@ impl Register {
         ensures few { IfOk result (λ many. many ≡ false → length (numbers_named self.new name.now) ≤ 16) }
     {
         let hash = hash_of(name);
-        self.names.put(hash, number)?;
-        let count = self.names.numbers(hash).len();
+        let count = self.names.put(hash, number)?;
         Ok(count > FEW)
     }
 

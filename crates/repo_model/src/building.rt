@@ -17,7 +17,7 @@ use crate::suite::{PackageList, Suite};
 use deb_version::Bytes;
 use relation_fields::{ElementTable, Home, PackageFacts};
 use stanza_reader::{FieldKind, RawStanza};
-use std::alloc::{AllocError, Global};
+use std::alloc::Global;
 use virtual_provides::NameTable;
 
 /// The packages of the stanzas that were read so far, with a table of their names and their common
@@ -79,7 +79,6 @@ impl Building {
     {
         let facts = read_facts(alloc, &mut self.elements, stanza)?;
         check_new(alloc, self.packages.as_slice(), &self.names, &facts)?;
-        check_home(&self.home, stanza)?;
         settle_home(alloc, &mut self.home, stanza)?;
         let number = self.packages.as_slice().len() as u32;
         self.names.put(number, &facts)?;
@@ -118,22 +117,6 @@ fn first_of<'a>(packages: &'a [PackageFacts], numbers: &[u32]) -> Option<&'a Pac
     }
 }
 
-// Checks that the stanza is of the home, where it names an architecture and there is a home.
-#[tactic(auto, unfolding(crate::specs::FirstFault::mixed_fault))]
-fn check_home(home: &Home, stanza: &RawStanza) -> Result<(), IndexFault>
-    ensures { Answers result (mixed_fault home.now.name stanza.now) tt }
-{
-    let Some(field) = find_field(stanza.fields.as_slice(), FieldKind::Architecture) else {
-        return Ok(());
-    };
-    let line = field.line;
-    let architecture = field.value.as_slice();
-    if is_all(architecture) || is_at_home(home, architecture) {
-        return Ok(());
-    }
-    Err(IndexFault::Mixed { line })
-}
-
 /// Whether the architecture is `all`.
 pub fn is_all(architecture: &[u8]) -> bool
     ensures { result ≡ is_all architecture.now }
@@ -150,20 +133,27 @@ fn is_at_home(home: &Home, architecture: &[u8]) -> bool
     }
 }
 
-// Takes the architecture of the stanza as the home, where there is none yet and it is not `all`.
-#[tactic(auto, unfolding(crate::specs::Facts::architecture_of))]
-fn settle_home(alloc: Global, home: &mut Home, stanza: &RawStanza) -> Result<(), AllocError>
-    ensures { OnOk result (home.new.name ≡ option_or home.old.name (architecture_of stanza.now)) }
+// Checks that the stanza is of the home, unless its architecture is `all` or missing. Where there is no home yet, it takes the
+// architecture as the home.
+#[tactic(auto, unfolding(crate::specs::FirstFault::mixed_fault, crate::specs::Facts::architecture_of))]
+fn settle_home(alloc: Global, home: &mut Home, stanza: &RawStanza) -> Result<(), IndexFault>
+    ensures fault { Answers result (mixed_fault home.old.name stanza.now) tt }
+    ensures home { OnOk result (home.new.name ≡ option_or home.old.name (architecture_of stanza.now)) }
 {
-    if home.name.is_some() {
-        return Ok(());
-    }
     let Some(field) = find_field(stanza.fields.as_slice(), FieldKind::Architecture) else {
         return Ok(());
     };
+    let line = field.line;
     let architecture = field.value.as_slice();
-    if !is_all(architecture) {
-        home.name = Some(Bytes::copy(alloc, architecture)?);
+    if is_all(architecture) {
+        return Ok(());
     }
-    Ok(())
+    if home.name.is_none() {
+        home.name = Some(Bytes::copy(alloc, architecture)?);
+        return Ok(());
+    }
+    if is_at_home(home, architecture) {
+        return Ok(());
+    }
+    Err(IndexFault::Mixed { line })
 }

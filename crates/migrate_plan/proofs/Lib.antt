@@ -3,6 +3,8 @@ pub mod LaterFields
 pub mod Faultless
 pub mod Joined
 pub mod Mixed
+pub mod MixedFacts
+pub mod FirstHome
 pub mod Told
 pub mod Planned
 pub mod Made

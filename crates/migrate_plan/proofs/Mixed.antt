@@ -1,30 +1,27 @@
 -- Every mix of names that differ is an index without a fault.
-use Rattle.std.proofs.Common.{◌≡◌, ℕ, ◌+◌, ◌≤◌, Bool, true, false, cond, List, [], ◌∷◌, ◌++◌, length, map, Option, Some, None, Result, Ok, refl, sym, ap, ◌∙◌, subst, ◌⊎◌, inl, inr, arith, length-append, append_assoc}
+use Rattle.std.proofs.Common.{◌≡◌, ℕ, ◌+◌, ◌≤◌, Bool, true, false, cond, List, [], ◌∷◌, ◌++◌, length, map, Option, Some, None, refl, sym, ap, ◌∙◌, subst, inl, inr, arith, length-append}
 use Rattle.std.specs.Prelude.{not, ◌&&◌, filter, count_by, if◌then◌else◌}
-use Rattle.std.specs.List.{list_any}
 use Rattle.std.specs.Option.{option_or}
 use Rattle.std.specs.Ordering.{is_eq}
 use Rattle.std.specs.Str.{bytes_eq}
-use Rattle.std.proofs.lemmas.Bool.{cases_Bool, false≢true}
+use Rattle.std.proofs.lemmas.Bool.{false≢true}
 use Rattle.std.proofs.lemmas.List.{append-nil, length-map, map-append}
 use Rattle.std.proofs.lemmas.Slice.Eq.{bytes_eq-Decides}
 use Rattle.repo_model.proofs.Steps.{stanzas_in-ok}
-use Rattle.listed.proofs.Lists.{filter_short, filter_le, In_append_cases, In_cases, In_map_cases, In_none, any_cases, any_from, filter_cases}
+use Rattle.listed.proofs.Lists.{filter_short, filter_le, In_append_cases, In_map_cases, any_cases, any_from, filter_cases}
 use Rattle.deb_version.specs.Order.{version_order}
-use Rattle.stanza_reader.specs.Blanking.{blanked, picked}
+use Rattle.stanza_reader.specs.Blanking.{picked}
 use Rattle.stanza_reader.specs.Close.{readings_from}
 use Rattle.stanza_reader.specs.Lines.{is_line_feed}
 use Rattle.stanza_reader.specs.Stanzas.{readings}
 use Rattle.stanza_reader.specs.declared.stanza.RawStanza.{RawStanza}
-use Rattle.stanza_reader.specs.declared.fault.StanzaFault.{StanzaFault}
 use Rattle.stanza_reader.proofs.BlankLemmas.{map_picked, readings_picked}
-use Rattle.stanza_reader.proofs.LeftLemmas.{blanked_short}
 use Rattle.stanza_reader.proofs.PartLemmas.{reads_in_parts, readings-from}
 use Rattle.relation_fields.specs.declared.packages.PackageFacts.{PackageFacts}
 use Rattle.listed.specs.Lists.{In, here, there}
-use Rattle.repo_model.specs.Facts.{architecture_of, facts_of, is_same_package}
+use Rattle.repo_model.specs.Facts.{facts_of, is_same_package}
 use Rattle.repo_model.specs.FirstFault.{first_fault, home_of, own_fault, stanzas_in, stanzas_of}
-use Rattle.repo_model.specs.Limits.{most_bytes, most_packages}
+use Rattle.repo_model.specs.Limits.{most_packages}
 use Rattle.suite_compare.specs.Refusals.{packages_in}
 use Rattle.migrate_plan.specs.Differing.{differing}
 use Rattle.migrate_plan.specs.Mix.{is_left, is_taken, mix, only_names}
@@ -146,7 +143,7 @@ named_length test (stanza ∷ more) = by (test (facts_of stanza).name) (named_le
     by true h = omega arith
     by false h = h
 
-taken_within : (some all : List (List ℕ)) → ((name : List ℕ) → In name some → In name all) → (name : List ℕ) → is_taken some name ≡ true → is_taken all name ≡ true
+pub taken_within : (some all : List (List ℕ)) → ((name : List ℕ) → In name some → In name all) → (name : List ℕ) → is_taken some name ≡ true → is_taken all name ≡ true
 taken_within some all inside name h = let w = any_cases (bytes_eq name) some h in any_from (bytes_eq name) all w.0 (inside w.0 w.1) w.2
 
 module _ (old new : List ℕ) (taken : List (List ℕ)) (old_fine : first_fault old ≡ None) (new_fine : first_fault new ≡ None) where
@@ -206,18 +203,6 @@ mixes_are_indexes old new old_fine new_fine free = λ taken inside.
     faultless (mix old new taken) (mixed old new taken) (mix_reads old new taken old_fine new_fine)
     (fit_of (option_or (home_of (stanzas_of old)) (home_of (stanzas_of new))) (mixed old new taken)
     (mixed_few old new taken old_fine new_fine all inside f.packages) (mixed_sound old new taken old_fine new_fine f.homes))
-
-pub mix_short : (old new : List ℕ) (taken : List (List ℕ)) → plan_refusal old new ≡ None → length (mix old new taken) ≤ most_bytes
-unfolding mix
-mix_short old new taken free =
-    let f = is_free old new free in
-    let one : length (only_names (is_left taken) old) ≤ length old = blanked_short (map (λ facts. is_left taken facts.name) (packages_in old)) old in
-    let two : length (only_names (is_taken taken) new) ≤ length new = blanked_short (map (λ facts. is_taken taken facts.name) (packages_in new)) new in
-    let front : length (only_names (is_left taken) old ++ (10 ∷ (10 ∷ []))) ≡ length (only_names (is_left taken) old) + 2 = length-append (only_names (is_left taken) old) (10 ∷ (10 ∷ [])) in
-    let whole : length (mix old new taken) ≡ length (only_names (is_left taken) old ++ (10 ∷ (10 ∷ []))) + length (only_names (is_taken taken) new) =
-    length-append (only_names (is_left taken) old ++ (10 ∷ (10 ∷ []))) (only_names (is_taken taken) new) in
-    let bytes : length old + length new + 2 ≤ most_bytes = f.bytes in
-    omega arith
 
 -- the stanzas of a mix
 pub mix_stanzas : (old new : List ℕ) (taken : List (List ℕ)) → first_fault old ≡ None → first_fault new ≡ None → stanzas_of (mix old new taken) ≡ mixed old new taken

@@ -20,6 +20,10 @@ only_names test text = blanked (map (λ facts. test facts.name) (packages_in tex
 unfoldable pub mix : List ℕ → List ℕ → List (List ℕ) → List ℕ
 mix old new taken = (only_names (is_left taken) old ++ (10 ∷ (10 ∷ []))) ++ only_names (is_taken taken) new
 
+-- the packages of an old index whose names are not taken, and behind them those of a new one whose names are
+abbrev pub mixed_packages : List PackageFacts → List PackageFacts → List (List ℕ) → List PackageFacts
+mixed_packages old new taken = filter (λ facts. is_left taken facts.name) old ++ filter (λ facts. is_taken taken facts.name) new
+
 -- how many packages have one of the names
 abbrev pub count_named : List (List ℕ) → List PackageFacts → ℕ
 count_named names packages = length (filter (λ facts. is_taken names facts.name) packages)

@@ -5,6 +5,7 @@ mod alike;
 mod checks;
 mod differing;
 mod flags;
+mod homes;
 mod laws;
 mod making;
 mod mixing;

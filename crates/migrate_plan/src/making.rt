@@ -26,7 +26,7 @@ use suite_compare::{OldSide, SuiteView};
 /// Which of the names that differ can be taken over from a new index into an old one: each in turn, ascending by bytes, where
 /// the mix of the two with it and the names taken before is within the clause limit, and breaks nothing of the old index and
 /// leaves nothing open, within a budget of failed leaves a search, from 1 to 1,000,000. The old view is that of the old bytes at the clause limit, with hold or without; the new
-/// suite is that of the new bytes. At most 256 names may differ; for each of them a mix is read, reduced and compared.
+/// suite is that of the new bytes. At most 256 names may differ; for each of them a mix is made, reduced and compared.
 #[tactic(auto, unfolding(crate::specs::Plan::plan, crate::specs::Refusals::plan_refusal))]
 pub fn make_plan(
     alloc: Global,
@@ -122,7 +122,7 @@ fn try_name(
 {
     let suite = &old.view.suite;
     let mix = mix_with(alloc, old_bytes, suite, new_bytes, new, taken, name)?;
-    let line = line_of(alloc, old_bytes, old, mix.as_slice(), name)?;
+    let line = line_of(alloc, old, mix, name)?;
     Ok(line)
 }
 

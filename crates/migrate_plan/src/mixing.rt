@@ -1,17 +1,19 @@
-//! Mixes of two indexes.
-ghost use Rattle.std.specs.Prelude.{◌≡◌, ◌++◌, ◌∷◌, [], IfOk};
+//! Mixes of two indexes, as suites: no text of a mix is made.
+ghost use Rattle.std.specs.Prelude.{◌≡◌, ◌++◌, ◌∷◌, ◌≤◌, [], length, map, IfOk};
 ghost use Rattle.repo_model.specs.Feeding.{IsSuiteOf};
-ghost use Rattle.migrate_plan.specs.Mix.{mix};
+ghost use Rattle.repo_model.specs.Laws.{but_line};
+ghost use Rattle.repo_model.specs.Limits.{most_packages};
+ghost use Rattle.suite_compare.specs.Refusals.{home_in, packages_in};
+ghost use Rattle.migrate_plan.specs.Mix.{mix, mixed_packages};
 
 use crate::flags::{left_flags, taken_flags};
+use crate::homes::home_of_both;
 use deb_version::Bytes;
 use repo_model::Suite;
-use stanza_reader::blank_lines;
 use std::alloc::{AllocError, Global};
 
-/// The mix of an old and a new index, each given with its suite. Packages of the names that are taken, and of the one that is
-/// tried with them, come from the new index, and all others from the old one.
-#[tactic(auto, unfolding(crate::specs::Mix::mix))]
+/// The suite of the mix of an old and a new index, each given with its suite. Packages of the names that are taken, and of the
+/// one that is tried with them, come from the new index, and all others from the old one.
 pub(crate) fn mix_with(
     alloc: Global,
     old_bytes: &[u8],
@@ -20,20 +22,19 @@ pub(crate) fn mix_with(
     new: &Suite,
     taken: &[Bytes],
     tried: &[u8],
-) -> Result<Vec<u8>, AllocError>
+) -> Result<Suite, AllocError>
     requires old { IsSuiteOf old_bytes.now old.now.packages old.now.home.name }
     requires new { IsSuiteOf new_bytes.now new.now.packages new.now.home.name }
-    ensures { IfOk result (λ text. text.items ≡ mix old_bytes.now new_bytes.now (taken.now ++ tried.now ∷ [])) }
+    requires few { length (mixed_packages old.now.packages new.now.packages (taken.now ++ tried.now ∷ [])) ≤ most_packages }
+    ensures packages { IfOk result (λ suite. map but_line suite.packages ≡ map but_line (packages_in (mix old_bytes.now new_bytes.now (taken.now ++ tried.now ∷ [])))) }
+    ensures home { IfOk result (λ suite. suite.home ≡ home_in (mix old_bytes.now new_bytes.now (taken.now ++ tried.now ∷ []))) }
 {
     let names = with_tried(alloc, taken, tried)?;
     let left = left_flags(alloc, old, &names)?;
-    let mut text = blank_lines(alloc, old_bytes, left.as_slice())?;
     let kept = taken_flags(alloc, new, &names)?;
-    let behind = blank_lines(alloc, new_bytes, kept.as_slice())?;
-    // The first line feed ends the last line, if it has none; the second one is a blank line between the two indexes.
-    text.extend_from_slice(b"\n\n")?;
-    text.extend_from_slice(behind.as_slice())?;
-    Ok(text)
+    let home = home_of_both(alloc, old_bytes, &left, new_bytes, &kept)?;
+    let mix = old.join(alloc, &left, new, &kept, home)?;
+    Ok(mix)
 }
 
 // The names that are taken, and the one that is tried with them.

@@ -1,5 +1,5 @@
 -- Packages that are chosen by flags, and their elements.
-use Rattle.std.proofs.Common.{◌≡◌, ℕ, suc, ◌+◌, ◌<◌, ◌≤◌, ◌++◌, Bool, true, false, cond, List, [], ◌∷◌, Option, Some, None, length, get_or, drop, take, set, inl, inr, refl, sym, ap, ap₂, subst, ◌∙◌, add-one, append_assoc, length-append, drop-cons, arith}
+use Rattle.std.proofs.Common.{◌≡◌, ℕ, ◌+◌, ◌<◌, ◌≤◌, ◌++◌, Bool, true, false, cond, List, [], ◌∷◌, Option, Some, None, length, get_or, drop, take, set, inl, inr, refl, sym, ap, ap₂, subst, ◌∙◌, add-one, append_assoc, length-append, drop-cons, arith}
 use Rattle.std.specs.List.{items_where_true, flat_map}
 use Rattle.std.proofs.lemmas.Bool.{cases_eq}
 use Rattle.std.proofs.lemmas.List.{append-nil, drop_all, get_or-set_other, get_or-set_same, get_or_append_left, get_or_push, length-set, map-append, take_more}
@@ -64,6 +64,12 @@ chosen_few [] xs = omega arith
 chosen_few (b ∷ bs) [] = omega arith
 chosen_few (true ∷ bs) (x ∷ xs) = let few : length (items_where_true bs xs) ≤ length xs = chosen_few bs xs in omega arith
 chosen_few (false ∷ bs) (x ∷ xs) = let few : length (items_where_true bs xs) ≤ length xs = chosen_few bs xs in omega arith
+
+-- the packages that are chosen of two lists, where they are few together
+pub both_few : {X : Type 0} (most : ℕ) (bs cs : List Bool) (xs ys all : List X) → length (items_where_true bs xs) + length (items_where_true cs ys) ≤ most → all ≡ items_where_true bs xs ++ items_where_true cs ys → length all ≤ most
+both_few most bs cs xs ys all few same =
+    let size : length all ≡ length (items_where_true bs xs) + length (items_where_true cs ys) = ap length same ∙ length-append (items_where_true bs xs) (items_where_true cs ys) in
+    omega arith
 
 -- one more element
 pub marked_next : {A : Type 0} (distinct : List (List A)) (marks : List ℕ) (i mark : ℕ) (start made more : List (List A)) → i < length marks → mark ≡ get_or marks i 0 → made ≡ start ++ marked distinct (take i marks) →

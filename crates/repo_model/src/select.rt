@@ -1,15 +1,16 @@
 //! The suite of some packages of a suite.
-ghost use Rattle.std.specs.Prelude.{◌≡◌, ◌∷◌, ◌++◌, ◌<◌, ℕ, [], None, length, slice_index_or, IfOk, OnOk};
+ghost use Rattle.std.specs.Prelude.{◌≡◌, ◌∷◌, ◌++◌, ◌+◌, ◌<◌, ◌≤◌, ℕ, [], None, length, slice_index_or, IfOk, OnOk};
 ghost use Rattle.std.specs.List.{items_where_true};
 ghost use Rattle.relation_fields.specs.Elements.{elements_of};
 ghost use Rattle.relation_fields.specs.Shared.{marked};
 ghost use Rattle.listed.specs.Lists.{In};
+ghost use Rattle.repo_model.specs.Limits.{most_packages};
 ghost use Rattle.repo_model.specs.Needs.{needs_of_all};
 ghost use Rattle.repo_model.specs.Select.{AreRenamed};
 
 use crate::copying::{copy_of_facts, copy_of_home};
 use crate::suite::{PackageList, Suite};
-use relation_fields::{AtomList, PackageFacts, SharedElements};
+use relation_fields::{AtomList, Home, PackageFacts, SharedElements};
 use std::alloc::{AllocError, Global};
 use virtual_provides::NameTable;
 
@@ -24,6 +25,39 @@ impl Suite {
         let packages = flagged_packages(alloc, all, flags)?;
         let elements = flagged_elements(alloc, all, &self.elements, flags)?;
         let home = copy_of_home(alloc, &self.home)?;
+        let names = NameTable::build(alloc, packages.as_slice())?;
+        Ok(Suite {
+            packages,
+            home,
+            elements,
+            names,
+        })
+    }
+
+    /// The suite of the packages whose flags are up, and behind them those of another suite whose flags are up, each in their order, with
+    /// a common architecture.
+    pub fn join(
+        &self,
+        alloc: Global,
+        flags: &[bool],
+        other: &Suite,
+        others: &[bool],
+        home: Home,
+    ) -> Result<Suite, AllocError>
+        requires flags { length flags.now ≡ length self.now.packages }
+        requires others { length others.now ≡ length other.now.packages }
+        requires few { length (items_where_true flags.now self.now.packages) + length (items_where_true others.now other.now.packages) ≤ most_packages }
+        ensures packages { IfOk result (λ suite. suite.packages ≡ items_where_true flags.now self.now.packages ++ items_where_true others.now other.now.packages) }
+        ensures home { IfOk result (λ suite. suite.home ≡ home) }
+    {
+        let all = self.packages.as_slice();
+        let more = other.packages.as_slice();
+        let mut packages = flagged_packages(alloc, all, flags)?;
+        let rest = flagged_packages(alloc, more, others)?;
+        packages.append(rest)?;
+        let mut elements = flagged_elements(alloc, all, &self.elements, flags)?;
+        let behind = flagged_elements(alloc, more, &other.elements, others)?;
+        put_elements(alloc, &mut elements, &behind)?;
         let names = NameTable::build(alloc, packages.as_slice())?;
         Ok(Suite {
             packages,
@@ -79,6 +113,20 @@ fn flagged_elements(
         add_elements(&mut made, &mut places, distinct, own)?;
     }
     Ok(made)
+}
+
+// Puts the elements of others behind these.
+fn put_elements(
+    alloc: Global,
+    made: &mut SharedElements,
+    others: &SharedElements,
+) -> Result<(), AllocError>
+    ensures { OnOk result (elements_of made.new ≡ elements_of made.old ++ elements_of others.now) }
+{
+    let distinct = others.distinct.as_slice();
+    let mut places = no_places(alloc, distinct.len())?;
+    add_elements(made, &mut places, distinct, others.marks.as_slice())?;
+    Ok(())
 }
 
 // No list has a place.

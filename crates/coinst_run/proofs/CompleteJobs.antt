@@ -39,9 +39,9 @@ use Rattle.coinst_run.specs.Query.{by_found, by_tree, by_unknown, goals_answer, 
 use Rattle.coinst_run.specs.QueryText.{undecided_text}
 use Rattle.coinst_run.specs.Sample.{sample_answer, sample_limit, sample_path, size_report}
 use Rattle.coinst_run.specs.StoredQuery.{by_reading, classes_by_tree, classes_found, images_in, stored_answer, stored_by_unknown, stored_query_answer}
-use Rattle.coinst_run.specs.StoredReading.{stored_reading}
+use Rattle.kernel_text.specs.StoredReading.{stored_reading}
 use Rattle.coinst_run.specs.SystemStatus.{system_answer, system_by_fault, system_course, told_answer, system_report}
-use Rattle.coinst_run.proofs.StoredReading.{reading_is}
+use Rattle.kernel_text.proofs.StoredReading.{reading_is}
 use Rattle.coinst_run.specs.Complete.{CompleteJobsReport, GivesReport, IsComplete}
 use Rattle.coinst_run.proofs.GoingOn.{checked_used, file_step, file_used, kernel_at_step, kernel_at_used, kernel_step, kernel_used, limit_step, limit_used, some_alone, told}
 

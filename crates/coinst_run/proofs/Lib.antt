@@ -1,4 +1,3 @@
-pub mod Classes
 pub mod Ends
 pub mod Follows
 pub mod Kernels
@@ -8,8 +7,6 @@ pub mod Runs
 pub mod Telling
 pub mod Installed
 pub mod QueryMeant
-pub mod ForwardReading
-pub mod StoredReading
 pub mod StoredKernels
 pub mod Queries
 pub mod SampleMeaning

@@ -38,8 +38,9 @@ use Rattle.claims.specs.Classes.{classes_of, IsItsClass}
 use Rattle.coinst_run.specs.KernelMeaning.{KernelMeans}
 use Rattle.coinst_run.specs.Meaning.{JsonMeans, MeansJob}
 use Rattle.coinst_run.specs.Outcome.{answered, course_of, outcome_over}
-use Rattle.coinst_run.proofs.Classes.{class_within}
-use Rattle.coinst_run.proofs.Kernels.{kernel_fits, suite_sound}
+use Rattle.kernel_rounds.proofs.Classes.{class_within}
+use Rattle.kernel_text.proofs.Extracted.{kernel_fits}
+use Rattle.repo_model.proofs.SoundSuite.{suite_sound}
 use Rattle.coinst_run.proofs.CompareMeant.{compare_is_meant}
 use Rattle.coinst_run.proofs.ExplainMeant.{explain_is_meant}
 use Rattle.coinst_run.proofs.MigrateMeant.{migrate_is_meant}

@@ -34,7 +34,7 @@ use Rattle.coinst_run.specs.declared.answer.ReportVerdict.TheVariants.{Done, Neg
 use Rattle.coinst_run.specs.Answer.{Answer, refused, reported}
 use Rattle.coinst_run.specs.Course.{answers}
 use Rattle.coinst_run.specs.QueryText.{no_text, undecided_text}
-use Rattle.coinst_run.proofs.StoredReading.{reading_is}
+use Rattle.kernel_text.proofs.StoredReading.{reading_is}
 use Rattle.coinst_run.specs.StoredQuery.{by_reading, checked_kernel, class_line, classes_by_tree, classes_found, classes_text, kernel_fault_line, stored_answer, stored_by_unknown}
 
 -- a text that was read, and one that was refused

@@ -44,10 +44,10 @@ use Rattle.coinst_run.specs.Lines.{line_of_text}
 use Rattle.coinst_run.specs.Outcome.{answered, outcome_over}
 use Rattle.coinst_run.specs.QueryText.{no_text, undecided_text}
 use Rattle.coinst_run.specs.StoredMeaning.{HasClassFor, MeansStored, ServesStored, StoredMeans, StoredQueryIsMeant}
-use Rattle.coinst_run.specs.StoredReading.{stored_reading}
+use Rattle.kernel_text.specs.StoredReading.{stored_reading}
 use Rattle.coinst_run.specs.StoredQuery.{by_reading, class_line, classes_by_tree, classes_found, classes_text, images_in, stored_answer, stored_by_unknown, stored_query_answer}
 use Rattle.coinst_run.proofs.Installed.{kept}
-use Rattle.coinst_run.proofs.StoredReading.{reading_is}
+use Rattle.kernel_text.proofs.StoredReading.{reading_is}
 use Rattle.coinst_run.proofs.StoredKernels.{images_fit}
 use Rattle.coinst_run.proofs.GoingOn.{GivesThis, file_used, this_alone}
 

@@ -37,7 +37,6 @@ pub mod Status
 pub mod StoredAgrees
 pub mod StoredMeaning
 pub mod StoredQuery
-pub mod StoredReading
 pub mod SystemMeaning
 pub mod SystemStatus
 pub mod SystemText

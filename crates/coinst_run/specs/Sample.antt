@@ -1,7 +1,8 @@
 -- The command that extracts the kernel of a sample suite, and tells its size.
-use Rattle.std.specs.Prelude.{ℕ, Bool, true, false, List, length, count_by, codes}
-use Rattle.kernel_text.specs.KernelLines.{KernelLine, HeadLine, ClassLine, MemberLine, HeldLine, NeedsLine, AgainstLine, EndLine}
+use Rattle.std.specs.Prelude.{ℕ, false, List, length, count_by, codes}
+use Rattle.kernel_text.specs.KernelLines.{KernelLine}
 use Rattle.kernel_text.specs.KernelText.{format_of, kernel_lines}
+use Rattle.kernel_text.specs.LineKinds.{is_against_line, is_needs_line}
 use Rattle.relation_fields.specs.declared.packages.PackageFacts.{PackageFacts}
 use Rattle.sample_suite.specs.SampleText.{sample_text}
 use Rattle.coinst_run.specs.declared.answer.ReportVerdict.TheVariants.{Done}
@@ -18,25 +19,6 @@ sample_path = codes "sample"
 
 abbrev pub sample_limit : ℕ
 sample_limit = 65536
-
--- a line with a clause, and one with a conflict
-abbrev pub is_needs_line : KernelLine → Bool
-is_needs_line (HeadLine format) = false
-is_needs_line (ClassLine class) = false
-is_needs_line (MemberLine name version) = false
-is_needs_line HeldLine = false
-is_needs_line (NeedsLine clause) = true
-is_needs_line (AgainstLine class) = false
-is_needs_line (EndLine classes members) = false
-
-abbrev pub is_against_line : KernelLine → Bool
-is_against_line (HeadLine format) = false
-is_against_line (ClassLine class) = false
-is_against_line (MemberLine name version) = false
-is_against_line HeldLine = false
-is_against_line (NeedsLine clause) = false
-is_against_line (AgainstLine class) = true
-is_against_line (EndLine classes members) = false
 
 -- the lines of the kernel's text
 abbrev pub lines_for : List PackageFacts → ClassedKernel → List KernelLine

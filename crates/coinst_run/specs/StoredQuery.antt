@@ -17,7 +17,7 @@ use Rattle.coinst_run.specs.Course.{Course, answers, reads, then_on}
 use Rattle.coinst_run.specs.Lines.{about, at_line, counted_line, line_of_text}
 use Rattle.coinst_run.specs.Query.{unknown_answer}
 use Rattle.coinst_run.specs.QueryText.{no_text, undecided_text}
-use Rattle.coinst_run.specs.StoredReading.{stored_reading}
+use Rattle.kernel_text.specs.StoredReading.{stored_reading}
 
 -- why a text is not that of a kernel
 abbrev pub kernel_fault_text : KernelFault → List ℕ

@@ -6,7 +6,7 @@ ghost use Rattle.coinst_run.specs.MigrateMeaning.{MigrateIsMeant};
 ghost use Rattle.coinst_run.specs.QueryMeaning.{QueryIsMeant};
 ghost use Rattle.coinst_run.specs.StoredAgrees.{StoredAnswersAsIndex, StoredImagesAreOfIndex};
 ghost use Rattle.coinst_run.specs.StoredMeaning.{StoredQueryIsMeant};
-ghost use Rattle.coinst_run.specs.StoredReading.{TextsAreTold};
+ghost use Rattle.kernel_text.specs.StoredReading.{TextsAreTold};
 ghost use Rattle.coinst_run.specs.SystemMeaning.{SystemIsMeant};
 
 /// Words that ask for a job are answered by a report exactly if its files are there, accepted and within the limits, and its goals

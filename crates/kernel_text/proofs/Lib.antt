@@ -34,3 +34,7 @@ pub mod JsonTexts
 pub mod GoalImages
 pub mod ReadBack
 pub mod Membership
+pub mod ForwardReading
+pub mod StoredReading
+pub mod Extracted
+pub mod LineCounts

@@ -1,13 +1,15 @@
 -- The laws of kernel texts.
-use Rattle.std.specs.Prelude.{◌≡◌, ℕ, ◌<◌, ◌↔◌, ◌⊎◌, eqb, List, filter, length, slice_index}
+use Rattle.std.specs.Prelude.{◌≡◌, ℕ, ◌<◌, ◌↔◌, ◌⊎◌, Bool, eqb, List, filter, length, map, slice_index}
 use Rattle.std.specs.List.{list_any}
 use Rattle.relation_fields.specs.declared.packages.PackageFacts.{PackageFacts}
 use Rattle.repo_model.proofs.Accepted.{Accepted}
 use Rattle.repo_model.specs.declared.goals.Goal.{Goal}
 use Rattle.repo_model.specs.Goals.{packages_named}
 use Rattle.clause_pool.specs.Lists.{InOrder}
+use Rattle.row_book.specs.Flattening.{packages as packages_in}
 use Rattle.row_book.specs.Numbers.{numbers}
 use Rattle.row_book.specs.Repository.{Repository, clauses_of}
+use Rattle.row_book.specs.Rounds.{kernel, kernel_class, kernel_held}
 use Rattle.listed.specs.Lists.{In}
 use Rattle.row_book.specs.Sound.{SoundRepository}
 use Rattle.kernel_text.specs.declared.fault.KernelFault.{KernelFault}
@@ -16,7 +18,7 @@ use Rattle.kernel_text.specs.declared.member.Member.{Member}
 use Rattle.kernel_text.specs.Images.{image_of, is_unknown}
 use Rattle.kernel_text.specs.KernelFaults.{IsFault}
 use Rattle.kernel_text.specs.KernelReads.{HasOneReading, KernelReads}
-use Rattle.kernel_text.specs.KernelText.{FitsFormat, IsWritable, kernel_text}
+use Rattle.kernel_text.specs.KernelText.{FitsFormat, IsWritable, format_of, kernel_text}
 use Rattle.kernel_text.specs.Members.{kernel_members}
 use Rattle.kernel_text.specs.Reading.{number_limit}
 
@@ -54,6 +56,11 @@ pub record IsKernelOf (format : ℕ) (R : Repository) (packages : List PackageFa
   pub inside : (class : ℕ) → In class class_of → class < length R.clauses
   pub populated : (class : ℕ) → class < length R.clauses → In class class_of
   pub fits : FitsFormat format (length R.clauses) held
+
+-- the kernel that rounds give of the repository of an index, with the class of each package, is such a one
+abbrev pub RoundsGiveKernels : Type 0
+RoundsGiveKernels = (limit : ℕ) (hold : Bool) (R : Repository) (stanzas : List PackageFacts) → SoundRepository R → length R.clauses ≡ length stanzas → Accepted stanzas →
+    IsKernelOf (format_of hold) (kernel limit hold R) stanzas (map (kernel_class limit hold R) (packages_in R)) (kernel_held limit hold R)
 
 -- a kernel with the packages of its classes is one that the format can write
 abbrev pub KernelsAreWritable : Type 0

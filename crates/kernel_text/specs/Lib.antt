@@ -16,3 +16,5 @@ pub mod Booking
 pub mod Images
 pub mod KernelJson
 pub mod JsonData
+pub mod StoredReading
+pub mod LineKinds

@@ -1,5 +1,7 @@
 //! Laws over the definitions that the contracts of kernel texts cite; these functions do nothing.
-ghost use Rattle.kernel_text.specs.Laws.{KernelsAreWritable, ReadIsWritten, TextsAreJudged, TextsAreReadOnce, WrittenIsReadBack};
+ghost use Rattle.kernel_text.specs.Laws.{KernelsAreWritable, ReadIsWritten, RoundsGiveKernels, TextsAreJudged, TextsAreReadOnce, WrittenIsReadBack};
+ghost use Rattle.kernel_text.specs.LineKinds.{LinesAreCounted};
+ghost use Rattle.kernel_text.specs.StoredReading.{TextsAreTold};
 
 /// A text is read as one format, one repository, one list of members and one list of held classes at most.
 pub fn texts_are_read_once()
@@ -18,9 +20,25 @@ pub fn kernels_are_writable()
     ensures { KernelsAreWritable }
 {}
 
+/// The kernel that rounds give of the repository of an index is such a repository, with the class of each package.
+pub fn rounds_give_kernels()
+    ensures { RoundsGiveKernels }
+{}
+
+/// The text of a kernel has as many lines with a clause as its classes have clauses together, and as many with a conflict as there are
+/// conflicts, each counted once.
+pub fn lines_are_counted()
+    ensures { LinesAreCounted }
+{}
+
 /// A text is that of a kernel or has a fault, not both, and one fault at most.
 pub fn texts_are_judged()
     ensures { TextsAreJudged }
+{}
+
+/// What a text is read as, as a function, is the kernel by which the grammar reads it, or else the fault of the grammar.
+pub fn texts_are_told()
+    ensures { TextsAreTold }
 {}
 
 /// The text of an index's kernel is read as that kernel, and goals name in it the classes of the packages that they name in

@@ -23,7 +23,7 @@ use Rattle.kernel_text.proofs.InRange.{in_range}
 use Rattle.kernel_text.proofs.Judged.{IsRefused, Judgement, a_fault, a_kernel, allowed_formed, line_other, range_other}
 use Rattle.kernel_text.proofs.Shape.{some_none}
 use Rattle.kernel_text.proofs.StrayLines.{names_formed}
-use Rattle.coinst_run.specs.StoredReading.{adds_clause, adds_conflict, adds_held, adds_member, are_low, ascends, begins, by_line, by_lines, by_stray, ends_with, is_allowed, is_ended, is_far, line_in, read_lines, stored_reading, strays}
+use Rattle.kernel_text.specs.StoredReading.{adds_clause, adds_conflict, adds_held, adds_member, are_low, ascends, begins, by_line, by_lines, by_stray, ends_with, is_allowed, is_ended, is_far, line_in, read_lines, stored_reading, strays}
 
 -- a test tells whether something is so
 abbrev Tells : Bool → Type 0 → Type 0

@@ -8,8 +8,8 @@ use Rattle.kernel_text.specs.Laws.{IsFaultOf}
 use Rattle.kernel_text.proofs.Judged.{Judgement, a_fault, a_kernel}
 use Rattle.kernel_text.proofs.OneFault.{kernel_excludes, one_fault}
 use Rattle.kernel_text.proofs.OneReading.{one_reading}
-use Rattle.coinst_run.specs.StoredReading.{ReadingIs}
-use Rattle.coinst_run.proofs.ForwardReading.{judged_forward, told_by}
+use Rattle.kernel_text.specs.StoredReading.{ReadingIs}
+use Rattle.kernel_text.proofs.ForwardReading.{judged_forward, told_by}
 
 -- the content of a reading, or else the other
 content_or : Result KernelContent KernelFault → KernelContent → KernelContent

@@ -24,7 +24,6 @@ pub mod MigrateMeant
 pub mod OneInstallation
 pub mod StoredMeant
 pub mod StoredAgrees
-pub mod SystemStates
 pub mod SystemReports
 pub mod SystemLines
 pub mod SystemMeant

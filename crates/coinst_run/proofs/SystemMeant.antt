@@ -16,7 +16,7 @@ use Rattle.coinst_run.specs.SystemMeaning.{SystemIsMeant}
 use Rattle.coinst_run.specs.SystemStatus.{system_answer, system_by_fault, system_course, system_in, system_report, told_answer}
 use Rattle.coinst_run.specs.SystemText.{system_text, system_verdict}
 use Rattle.coinst_run.proofs.GoingOn.{GivesThis, file_used, kernel_used, this_alone}
-use Rattle.coinst_run.proofs.SystemReports.{own_there}
+use Rattle.status_check.proofs.OwnStates.{own_there}
 
 -- a status file that is read and told
 module _ (path : List ℕ) (budget limit : ℕ) (hold : Bool) (index : Index) (files : Files) (verdict : ReportVerdict) (printed : List ℕ) where

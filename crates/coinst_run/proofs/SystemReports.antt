@@ -1,15 +1,11 @@
 -- The report on an installed system, by what the call below answers.
-use Rattle.std.proofs.Common.{◌≡◌, ℕ, ◌<◌, Bool, true, false, List, length, map, Option, Some, None, inl, inr, sym, ap, ap₂, ◌∙◌, arith}
-use Rattle.std.proofs.Math.ListN.{get_or-eq_default}
-use Rattle.std.proofs.lemmas.Bool.{both_ways, cases_lt}
+use Rattle.std.proofs.Common.{◌≡◌, ℕ, ◌<◌, Bool, List, length, map, Option, Some, None, sym, ap, ap₂, ◌∙◌, arith}
 use Rattle.std.proofs.lemmas.List.{length-map}
 use Rattle.relation_fields.specs.declared.packages.Home.{Home}
 use Rattle.relation_fields.specs.declared.packages.PackageFacts.{PackageFacts}
-use Rattle.repo_model.proofs.Packages.{length_clauses}
 use Rattle.repo_model.specs.Repository.{suite_repository}
 use Rattle.repo_model.specs.declared.fault.IndexFault.{IndexFault}
 use Rattle.row_book.specs.Sets.{Is}
-use Rattle.row_book.specs.Sound.{OfPackages}
 use Rattle.suite_compare.specs.Asking.{verdict_in}
 use Rattle.status_check.specs.Own.{foreign_count, own_home, own_packages, status_fault}
 use Rattle.status_check.specs.Report.{all_of, had_goals, line_for, state_of, IsStateOf}
@@ -24,29 +20,10 @@ use Rattle.coinst_run.specs.Course.{answers, then_on}
 use Rattle.coinst_run.specs.Ending.{StopsAt}
 use Rattle.coinst_run.specs.Index.{Index, by_fault}
 use Rattle.coinst_run.specs.Outcome.{Outcome, answered, unread, not_a_command}
-use Rattle.coinst_run.specs.SystemStatus.{set_state, system_answer, system_by_fault, system_in, system_report, told_answer}
+use Rattle.status_check.specs.States.{set_state}
+use Rattle.coinst_run.specs.SystemStatus.{system_answer, system_by_fault, system_in, system_report, told_answer}
 use Rattle.coinst_run.specs.SystemText.{system_text, system_verdict, AreOfLines}
-use Rattle.coinst_run.proofs.Kernels.{suite_sound}
-use Rattle.coinst_run.proofs.SystemStates.{one_state, state_there}
-
--- all packages are packages
-among_all : (packages : List PackageFacts) (n : ℕ) → Is (all_of packages) n → n < length packages
-among_all packages n i = elim (cases_lt n (length packages)) [
-  | inl l ↦ l
-  | inr past ↦
-      let long : length (map (λ facts. true) packages) ≡ length packages = length-map packages (λ facts. true) in
-      absurd (both_ways (all_of packages n) (get_or-eq_default (map (λ facts. true) packages) false (omega (arith, long, past))) i)
-]
-
-all_within : (home : Home) (packages : List PackageFacts) → OfPackages (suite_repository home packages) (all_of packages)
-all_within home packages n i = let l = among_all packages n i in omega (arith, l, length_clauses home packages)
-
--- the state of all packages of a suite, as a function
-pub own_there : (home : Home) (packages : List PackageFacts) → IsStateOf (suite_repository home packages) (all_of packages) (set_state (suite_repository home packages) (all_of packages))
-own_there home packages = state_there (suite_repository home packages) (all_of packages) (suite_sound home packages) (all_within home packages)
-
-own_is : (home : Home) (packages : List PackageFacts) (state : OwnState) → IsStateOf (suite_repository home packages) (all_of packages) state → state ≡ set_state (suite_repository home packages) (all_of packages)
-own_is home packages state is = one_state (suite_repository home packages) (all_of packages) state (set_state (suite_repository home packages) (all_of packages)) is (own_there home packages)
+use Rattle.status_check.proofs.OwnStates.{among_all, own_is}
 
 -- the packages that a state names have lines
 pub own_of_lines : (home : Home) (index packages : List PackageFacts) (lines : List HaveLine) (state : OwnState) → lines ≡ map (line_for index) packages → IsStateOf (suite_repository home packages) (all_of packages) state → AreOfLines lines state

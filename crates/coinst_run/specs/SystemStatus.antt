@@ -1,19 +1,14 @@
 -- The command that holds an installed system against an index.
-use Rattle.std.specs.Prelude.{ℕ, Bool, not, ◌&&◌, List, find, map, Option, Some, None, Ok, Err}
-use Rattle.std.specs.List.{list_all, list_any}
+use Rattle.std.specs.Prelude.{ℕ, Bool, List, map, Option, Some, None, Ok, Err}
 use Rattle.relation_fields.specs.declared.packages.Home.{Home}
 use Rattle.relation_fields.specs.declared.packages.PackageFacts.{PackageFacts}
 use Rattle.repo_model.specs.declared.fault.IndexFault.{IndexFault}
 use Rattle.repo_model.specs.Repository.{suite_repository}
 use Rattle.row_book.specs.Flattening.{packages}
-use Rattle.row_book.specs.Repository.{Repository, clauses_of}
-use Rattle.row_book.specs.Sets.{NumSet}
-use Rattle.row_book.specs.Thinning.{conflicting_pairs}
 use Rattle.suite_compare.specs.Asking.{verdict_in}
 use Rattle.status_check.specs.Own.{foreign_count, own_home, own_packages, status_fault}
 use Rattle.status_check.specs.Report.{all_of, had_goals, line_for, state_of}
-use Rattle.status_check.specs.declared.report.OwnState.{OwnState}
-use Rattle.status_check.specs.declared.report.OwnState.TheVariants.{Healthy, Unhit, Clash}
+use Rattle.status_check.specs.States.{set_state}
 use Rattle.status_check.specs.declared.report.StatusReport.{StatusReport}
 use Rattle.coinst_run.specs.Answer.{Answer, Stage, reported, refused}
 use Rattle.coinst_run.specs.Course.{Course, answers, reads, then_on}
@@ -23,27 +18,6 @@ use Rattle.coinst_run.specs.IndexKernel.{ClassedKernel}
 use Rattle.coinst_run.specs.Kernel.{reads_kernel}
 use Rattle.coinst_run.specs.Lines.{fault_line}
 use Rattle.coinst_run.specs.SystemText.{system_text, system_verdict}
-
--- the package is in the set, and has a clause that the set does not hit
-abbrev pub is_unserved : Repository → NumSet → ℕ → Bool
-is_unserved R I n = I n && not (list_all (list_any I) (clauses_of R n))
-
--- both are in the set
-abbrev pub are_both : NumSet → ℕ × ℕ → Bool
-are_both I pair = I pair.0 && I pair.1
-
-abbrev pub by_clash : Option (ℕ × ℕ) → OwnState
-by_clash None = Healthy
-by_clash (Some pair) = Clash pair.0 pair.1
-
-abbrev pub by_unserved : Repository → NumSet → Option ℕ → OwnState
-by_unserved R I (Some n) = Unhit n
-by_unserved R I None = by_clash (find (are_both I) (conflicting_pairs R))
-
--- the state of a set: its least package with a clause that it does not hit; where there is none, its first two packages that
--- conflict; and where there are none either, it is healthy
-unfoldable pub set_state : Repository → NumSet → OwnState
-set_state R I = by_unserved R I (find (is_unserved R I) (packages R))
 
 -- an installed system: its own packages, those of no other architecture than `all` and the home of the index, with their home,
 -- and how many others there are

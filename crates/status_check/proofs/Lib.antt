@@ -5,3 +5,5 @@ pub mod Judging
 pub mod NamedHomes
 pub mod Architectures
 pub mod Counting
+pub mod States
+pub mod OwnStates

@@ -2,3 +2,4 @@ pub mod Installed
 pub mod Own
 pub mod Report
 pub mod Laws
+pub mod States

@@ -14,4 +14,4 @@ pub use report::{HaveLine, HaveList, OwnState, StatusReport, SuiteState};
 pub use status::status_report;
 
 // Laws.
-pub use laws::no_architecture_fault;
+pub use laws::{no_architecture_fault, states_are_one};

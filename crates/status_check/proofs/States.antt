@@ -20,7 +20,7 @@ use Rattle.kernel_rounds.proofs.Thins.{pairs_has}
 use Rattle.status_check.specs.Report.{IsStateOf}
 use Rattle.status_check.specs.declared.report.OwnState.{OwnState}
 use Rattle.status_check.specs.declared.report.OwnState.TheVariants as own
-use Rattle.coinst_run.specs.SystemStatus.{are_both, by_clash, by_unserved, is_unserved, set_state}
+use Rattle.status_check.specs.States.{StatesAreOne, are_both, by_clash, by_unserved, is_unserved, set_state}
 
 -- the first of numbers that passes is the least one
 least_found : (p : ℕ → Bool) (n k x y : ℕ) → find p (numbers n k) ≡ Some x → k ≤ y → y < x → p y ≡ false
@@ -230,3 +230,8 @@ module _ (R : Repository) (I : NumSet) where
   one_state (own.Clash m n) own.Healthy v w = absurd (both_ways (against R m n) (w.peace m n v.clash.clash.first v.clash.clash.second) v.clash.clash.conflict)
   one_state (own.Clash a b) (own.Unhit m) v w = absurd (unserved m w.0 w.1 (v.satisfied m w.1.chosen))
   one_state (own.Clash a b) (own.Clash c d) v w = one_pair a b c d (v.clash.least c d w.clash.clash) (w.clash.least a b v.clash.clash)
+
+pub states_are_one : StatesAreOne
+states_are_one R I state sound within =
+    let there = state_there R I sound within in
+    ((λ is. one_state R I state (set_state R I) is there), (λ same. subst (IsStateOf R I) (sym same) there))

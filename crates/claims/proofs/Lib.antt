@@ -11,3 +11,5 @@ pub mod Examples
 pub mod Kernel
 pub mod Acceptance
 pub mod Empty
+pub mod Members
+pub mod PrintedKernels

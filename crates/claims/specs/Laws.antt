@@ -8,12 +8,16 @@ use Rattle.relation_fields.specs.declared.packages.Home.{Home}
 use Rattle.relation_fields.specs.declared.packages.PackageFacts.{PackageFacts}
 use Rattle.repo_model.specs.Limits.{most_packages}
 use Rattle.repo_model.specs.Facts.{facts_of}
+use Rattle.repo_model.specs.Repository.{suite_repository}
 use Rattle.repo_model.specs.FirstFault.{first_fault, home_of, stanzas_of}
 use Rattle.claims.specs.Index.{IndexSays}
 use Rattle.kernel_text.specs.KernelReads.{KernelReads}
+use Rattle.kernel_text.specs.KernelText.{format_of, kernel_text}
+use Rattle.kernel_text.specs.Members.{kernel_members}
 use Rattle.kernel_text.specs.declared.member.Member.{Member}
 use Rattle.claims.specs.Written.{StandsForKernel, StandsForOne}
-use Rattle.row_book.specs.Rounds.{kernel, kernel_image}
+use Rattle.row_book.specs.Flattening.{packages}
+use Rattle.row_book.specs.Rounds.{kernel, kernel_class, kernel_held, kernel_image}
 use Rattle.row_book.specs.Sound.{SoundRepository}
 use Rattle.claims.specs.Kernel.{SettlesTo}
 use Rattle.repo_model.specs.Stanzas.{stanza_at, CoinstStanzas}
@@ -91,6 +95,17 @@ KernelsMeanThis = (text printed : Text) (format : ℕ) (R : Repository) (members
     → ((S : NumSet) → ((n : ℕ) → Is S n → n < length (map facts_of (stanzas_of text)))
     → (CoinstStanzas (record { name = home_of (stanzas_of text) }) (map facts_of (stanzas_of text)) S ↔ Coinst R (classes_of (map facts_of (stanzas_of text)) members S)))
     → IsFaithfulKernel text printed
+
+-- the text of the kernel of an index, at a limit, with hold or without
+abbrev pub kernel_printed : ℕ → Bool → Home → List PackageFacts → Text
+kernel_printed limit hold home stanzas =
+    kernel_text (format_of hold) (kernel limit hold (suite_repository home stanzas))
+    (kernel_members stanzas (map (kernel_class limit hold (suite_repository home stanzas)) (packages (suite_repository home stanzas))) (length (kernel limit hold (suite_repository home stanzas)).clauses))
+    (kernel_held limit hold (suite_repository home stanzas))
+
+-- So the text of the kernel of an index is a faithful kernel of it.
+abbrev pub PrintedKernelsAreFaithful : Type 0
+PrintedKernelsAreFaithful = (text : Text) (limit : ℕ) (hold : Bool) → first_fault text ≡ None → IsFaithfulKernel text (kernel_printed limit hold (home_in text) (packages_in text))
 
 -- the words of a kernel ask for it, where they ask for anything: a path that looks like an option is refused, and so is 0
 abbrev pub KernelWordsAsk : Type 0

@@ -2,7 +2,7 @@
 //! and then under a name of its own; laws tie the two. The functions do nothing, the contract of each is one law.
 #![tactic(auto)]
 
-ghost use Rattle.claims.specs.Laws.{SpellingsAreRead, TreesAreSearches, SearchesAreOne, IndexesAreRead, IndexesAreOne, IndexesAreAccepted, KernelsAreRead, KernelsAreReadOnce, KernelsAreKernels, KernelsAreOne, KernelsMeanThis, KernelWordsAsk, CompareWordsAsk, WordsAreTaken, ComparisonsMeanThis, EmptyIndexes};
+ghost use Rattle.claims.specs.Laws.{SpellingsAreRead, TreesAreSearches, SearchesAreOne, IndexesAreRead, IndexesAreOne, IndexesAreAccepted, KernelsAreRead, KernelsAreReadOnce, KernelsAreKernels, KernelsAreOne, KernelsMeanThis, PrintedKernelsAreFaithful, KernelWordsAsk, CompareWordsAsk, WordsAreTaken, ComparisonsMeanThis, EmptyIndexes};
 
 /// What is read of a relation is what it is one way of writing.
 pub fn spellings_are_read()
@@ -57,6 +57,11 @@ pub fn kernels_are_one()
 /// What the code keeps of a printed kernel is the first sentence.
 pub fn kernels_mean_this()
     ensures { KernelsMeanThis }
+{}
+
+/// The text of the kernel of an index, at any limit, with hold or without, is a faithful kernel of it.
+pub fn printed_kernels_are_faithful()
+    ensures { PrintedKernelsAreFaithful }
 {}
 
 /// The words of a kernel ask for it, where they ask for anything.

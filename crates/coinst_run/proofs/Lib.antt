@@ -2,7 +2,6 @@ pub mod Ends
 pub mod Follows
 pub mod Kernels
 pub mod Meaning
-pub mod Members
 pub mod Runs
 pub mod Telling
 pub mod Installed

@@ -14,7 +14,7 @@ use Rattle.listed.specs.Lists.{here, there}
 use Rattle.coinst_run.specs.Explain.{AreClashesOf}
 use Rattle.coinst_run.specs.ExplainText.{clash_count, clash_line, clash_text, clashes_text, core_text, goal_line, package_text}
 use Rattle.coinst_run.specs.Lines.{end_text}
-use Rattle.coinst_run.proofs.Members.{place_of_package}
+use Rattle.claims.proofs.Members.{place_of_package}
 use Rattle.coinst_run.proofs.OneInstallation.{IsPlainPackage, plain_at}
 
 -- the pieces of a line, and what stands behind it

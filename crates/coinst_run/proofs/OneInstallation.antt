@@ -15,7 +15,7 @@ use Rattle.kernel_text.proofs.Spelling.{Plain, cut_same, name_plain}
 use Rattle.kernel_text.proofs.Candidates.{version_plain}
 use Rattle.coinst_run.specs.Lines.{line_of_text}
 use Rattle.coinst_run.specs.QueryText.{install_line, yes_text}
-use Rattle.coinst_run.proofs.Members.{place_of_package}
+use Rattle.claims.proofs.Members.{place_of_package}
 
 pub record IsPlainPackage (s : PackageFacts) : Type 0 where
   pub name : Plain s.name

@@ -45,7 +45,7 @@ use Rattle.coinst_run.specs.Query.{by_found, by_tree, by_unknown, goal_of_number
 use Rattle.coinst_run.specs.QueryText.{undecided_text, unknown_line}
 use Rattle.coinst_run.specs.StoredAgrees.{AreOneAnswer, StoredAnswersAsIndex, StoredImagesAreOfIndex, no, undecided, unknown, yes}
 use Rattle.coinst_run.specs.StoredQuery.{classes_by_tree, classes_found, images_in, stored_answer, stored_by_unknown, stored_query_answer, stored_query_course}
-use Rattle.coinst_run.proofs.Meaning.{class_is, fits}
+use Rattle.claims.proofs.PrintedKernels.{class_is, fits}
 use Rattle.coinst_run.proofs.StoredKernels.{kernel_checked}
 use Rattle.coinst_run.proofs.QueryMeant.{formed}
 use Rattle.coinst_run.specs.Complete.{HasKernel}

@@ -10,7 +10,6 @@ pub mod StoredKernels
 pub mod Queries
 pub mod SampleMeaning
 pub mod Sizes
-pub mod Explanations
 pub mod OneCore
 pub mod ExplainMeant
 mod LineWords

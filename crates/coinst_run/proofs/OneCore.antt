@@ -11,7 +11,7 @@ use Rattle.repo_model.specs.Stanzas.{stanza_at}
 use Rattle.repo_model.specs.declared.goals.Goal.{Goal}
 use Rattle.repo_model.proofs.Accepted.{Accepted}
 use Rattle.listed.specs.Lists.{here, there}
-use Rattle.coinst_run.specs.Explain.{AreClashesOf}
+use Rattle.explain_core.specs.OnStanzas.{AreClashesOf}
 use Rattle.coinst_run.specs.ExplainText.{clash_count, clash_line, clash_text, clashes_text, core_text, goal_line, package_text}
 use Rattle.coinst_run.specs.Lines.{end_text}
 use Rattle.claims.proofs.Members.{place_of_package}

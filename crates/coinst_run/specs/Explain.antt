@@ -1,13 +1,10 @@
 -- The command that tells why one package for each goal cannot be installed together.
-use Rattle.std.specs.Prelude.{⊤, ℕ, ◌<◌, Bool, List, Option, Some, None, IfSome}
+use Rattle.std.specs.Prelude.{ℕ, Bool, List, Option, Some, None}
 use Rattle.explain_core.specs.Explaining.{explanation_of}
-use Rattle.explain_core.specs.Picking.{ArePlacesFrom1}
-use Rattle.explain_core.specs.declared.explanation.Clash.{Clash}
 use Rattle.explain_core.specs.declared.explanation.Explanation.{Explanation}
 use Rattle.explain_core.specs.declared.explanation.Explanation.TheVariants.{Yes, Spent, Core}
 use Rattle.relation_fields.specs.declared.packages.PackageFacts.{PackageFacts}
 use Rattle.repo_model.specs.declared.goals.Goal.{Goal}
-use Rattle.listed.specs.Lists.{In}
 use Rattle.suite_compare.specs.Answering.{unknown_goal}
 use Rattle.coinst_run.specs.declared.answer.ReportVerdict.TheVariants.{Done, Negative, Undecided}
 use Rattle.coinst_run.specs.Answer.{Answer, reported}
@@ -39,13 +36,3 @@ explain_answer goals budget limit hold index kernel = answers (goals_explained g
 
 abbrev pub explain_course : List ℕ → List Goal → ℕ → ℕ → Bool → Course
 explain_course path goals budget limit hold = reads_kernel path limit hold (explain_answer goals budget limit hold)
-
--- the conflicts are of two of so many packages
-abbrev pub AreClashesOf : ℕ → List Clash → Type 0
-AreClashesOf packages clashes = (c : Clash) → In c clashes → (c.first < packages) × (c.second < packages)
-
--- an explanation names goals and packages of so many
-abbrev pub IsTellable : ℕ → ℕ → Explanation → Type 0
-IsTellable packages goals Yes = ⊤
-IsTellable packages goals (Spent failed) = ⊤
-IsTellable packages goals (Core marks clashes) = ArePlacesFrom1 goals marks × IfSome clashes (AreClashesOf packages)

@@ -1,5 +1,5 @@
 -- What the report of an explanation means for the index that was asked, judged on its stanzas.
-use Rattle.std.specs.Prelude.{◌≡◌, ℕ, ◌<◌, Bool, true, false, List, ◌∷◌, ◌++◌, length, Option, Some, None, IfSome}
+use Rattle.std.specs.Prelude.{◌≡◌, ℕ, Bool, List, length, Option, Some, None, IfSome}
 use Rattle.byte_flow.specs.Flow.{Files}
 use Rattle.explain_core.specs.Core.{marked_goals}
 use Rattle.explain_core.specs.Explaining.{explanation_of}
@@ -7,44 +7,19 @@ use Rattle.explain_core.specs.Meaning.{IsCoreOf}
 use Rattle.explain_core.specs.declared.explanation.Clash.{Clash}
 use Rattle.explain_core.specs.declared.explanation.Explanation.TheVariants.{Core}
 use Rattle.explain_core.specs.declared.explanation.Mark.{Mark}
-use Rattle.relation_fields.specs.declared.packages.Home.{Home}
-use Rattle.relation_fields.specs.declared.packages.PackageFacts.{PackageFacts}
-use Rattle.relation_fields.specs.declared.relations.Atom.{Atom}
 use Rattle.repo_model.specs.FirstFault.{first_fault}
-use Rattle.repo_model.specs.Goals.{CoinstGoals, HasOneFor, packages_named}
-use Rattle.repo_model.specs.Repository.{in_conflict}
-use Rattle.repo_model.specs.Stanzas.{Met, stanza_at}
+use Rattle.repo_model.specs.Goals.{CoinstGoals, packages_named}
 use Rattle.repo_model.specs.declared.goals.Goal.{Goal}
 use Rattle.listed.specs.Lists.{In}
-use Rattle.row_book.specs.Sets.{Is, NumSet}
 use Rattle.suite_compare.specs.Refusals.{home_in, packages_in}
 use Rattle.coinst_run.specs.declared.answer.ReportVerdict.{ReportVerdict}
 use Rattle.coinst_run.specs.declared.answer.ReportVerdict.TheVariants.{Done, Negative, Undecided}
 use Rattle.coinst_run.specs.Answer.{reported}
-use Rattle.coinst_run.specs.Explain.{AreClashesOf, explain_course}
+use Rattle.explain_core.specs.OnStanzas.{AreClashesOf, AreEnough}
+use Rattle.coinst_run.specs.Explain.{explain_course}
 use Rattle.coinst_run.specs.ExplainText.{core_text, yes_line}
 use Rattle.coinst_run.specs.Outcome.{answered, outcome_over}
 use Rattle.coinst_run.specs.QueryMeaning.{UndecidedMeans}
-
--- a set of stanzas that would be healthy if only these packages were in conflict: each element of each member's dependencies has an
--- alternative that some member meets, and no two members are one of the pairs
-pub record HealthyButFor (home : Home) (stanzas : List PackageFacts) (clashes : List Clash) (I : NumSet) : Type 0 where
-  pub numbers : (n : ℕ) → Is I n → n < length stanzas
-  pub needs : (n : ℕ) → Is I n → (element : List Atom) → In element (stanza_at stanzas n).needs → Met home stanzas I element
-  pub apart : (c : Clash) → In c clashes → Is I c.first → Is I c.second → ⊥
-
--- goals would be co-installable if only these packages were in conflict
-pub record CoinstButFor (home : Home) (stanzas : List PackageFacts) (clashes : List Clash) (goals : List Goal) : Type 0 where
-  pub whole : NumSet
-  pub healthy : HealthyButFor home stanzas clashes whole
-  pub serves : (goal : Goal) → In goal goals → HasOneFor stanzas whole goal
-
--- Each pair is of two packages of the index that are in conflict. These conflicts alone are enough for it that the goals are not
--- co-installable, and without any one of them that is not open the others are not enough.
-pub record AreEnough (home : Home) (stanzas : List PackageFacts) (goals : List Goal) (clashes : List Clash) : Type 0 where
-  pub conflicts : (c : Clash) → In c clashes → (c.first < c.second) × (c.second < length stanzas) × (in_conflict home stanzas c.first c.second ≡ true)
-  pub enough : ¬ (CoinstButFor home stanzas clashes goals)
-  pub needed : (before after : List Clash) (c : Clash) → clashes ≡ before ++ c ∷ after → c.unsettled ≡ false → CoinstButFor home stanzas (before ++ after) goals
 
 -- The goals are co-installable.
 pub record ExplainedYes (text : List ℕ) (goals : List Goal) (printed : List ℕ) : Type 0 where

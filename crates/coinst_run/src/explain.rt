@@ -4,7 +4,8 @@ ghost use Rattle.clause_solver.specs.Outcomes.{IsBudget};
 ghost use Rattle.coinst_run.specs.Settings.{AreInLimits};
 ghost use Rattle.coinst_run.specs.Course.{answers};
 ghost use Rattle.coinst_run.specs.Ending.{Settles, ending_of};
-ghost use Rattle.coinst_run.specs.Explain.{IsTellable, explain_course, explanation_answer, goals_explained};
+ghost use Rattle.explain_core.specs.OnStanzas.{IsTellable};
+ghost use Rattle.coinst_run.specs.Explain.{explain_course, explanation_answer, goals_explained};
 ghost use Rattle.coinst_run.specs.Follows.{Follows};
 ghost use Rattle.coinst_run.specs.Index.{index_of};
 

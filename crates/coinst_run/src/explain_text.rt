@@ -2,7 +2,7 @@
 ghost use Rattle.std.specs.Prelude.{◌≡◌, ◌++◌, IfOk, IfSome, OnOk, length};
 ghost use Rattle.std.specs.List.{flat_map};
 ghost use Rattle.explain_core.specs.Picking.{ArePlacesFrom1};
-ghost use Rattle.coinst_run.specs.Explain.{AreClashesOf};
+ghost use Rattle.explain_core.specs.OnStanzas.{AreClashesOf};
 ghost use Rattle.coinst_run.specs.ExplainText.{clash_count, clash_line, clash_text, clashes_text, core_text, goal_line, goal_text};
 
 use crate::lines::{Made, Put, push_end, push_versioned};

@@ -12,3 +12,5 @@ pub mod CoreLoop
 pub mod ClashLoop
 pub mod Askings
 pub mod Answering
+pub mod Tellable
+pub mod OnStanzas

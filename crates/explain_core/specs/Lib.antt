@@ -9,3 +9,4 @@ pub mod Reasons
 pub mod Explaining
 pub mod Meaning
 pub mod Laws
+pub mod OnStanzas

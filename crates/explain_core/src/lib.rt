@@ -17,4 +17,4 @@ pub use explaining::explain;
 pub use explanation::{Clash, ClashList, ExplainError, Explanation, Mark, MarkList};
 
 // Laws.
-pub use laws::reach_is_least;
+pub use laws::{explanations_are_tellable, explanations_hold, reach_is_least};

@@ -27,7 +27,7 @@ use Rattle.row_book.specs.Sets.{NumSet}
 use Rattle.row_book.specs.declared.pair.Pair.{Pair}
 use Rattle.search_terms.specs.Tree.{failed_leaves}
 use Rattle.suite_compare.specs.Asking.{verdict_in, wanted_by}
-use Rattle.coinst_run.specs.Explain.{AreClashesOf, IsTellable}
+use Rattle.explain_core.specs.OnStanzas.{AreClashesOf, IsTellable}
 
 module _ (home : Home) (stanzas : List PackageFacts) where
   abbrev R : Repository

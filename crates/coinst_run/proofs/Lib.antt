@@ -16,12 +16,10 @@ mod LineWords
 mod Prints
 pub mod CompareMeant
 pub mod GoingOn
-mod CompleteJobs
 pub mod Migrating
 pub mod MigrateMeant
 pub mod OneInstallation
 pub mod StoredMeant
-pub mod StoredAgrees
 pub mod SystemReports
 pub mod SystemLines
 pub mod SystemMeant

@@ -7,7 +7,6 @@ pub mod Compare
 pub mod CompareMeaning
 pub mod ComparePrints
 pub mod CompareText
-pub mod Complete
 pub mod Course
 pub mod Delivers
 pub mod Ending
@@ -34,9 +33,9 @@ pub mod Run
 pub mod Sample
 pub mod Settings
 pub mod Status
-pub mod StoredAgrees
 pub mod StoredMeaning
 pub mod StoredQuery
 pub mod SystemMeaning
 pub mod SystemStatus
 pub mod SystemText
+pub mod Present

@@ -42,8 +42,9 @@ use Rattle.coinst_run.specs.StoredQuery.{by_reading, classes_by_tree, classes_fo
 use Rattle.kernel_text.specs.StoredReading.{stored_reading}
 use Rattle.coinst_run.specs.SystemStatus.{system_answer, system_by_fault, system_course, told_answer, system_report}
 use Rattle.kernel_text.proofs.StoredReading.{reading_is}
-use Rattle.coinst_run.specs.Complete.{CompleteJobsReport, GivesReport, IsComplete}
-use Rattle.coinst_run.proofs.GoingOn.{checked_used, file_step, file_used, kernel_at_step, kernel_at_used, kernel_step, kernel_used, limit_step, limit_used, some_alone, told}
+use Rattle.report_laws.specs.Complete.{CompleteJobsReport, GivesReport, IsComplete}
+use Rattle.coinst_run.proofs.GoingOn.{checked_used, file_used, kernel_at_used, kernel_used, limit_used}
+use Rattle.report_laws.proofs.Steps.{file_step, kernel_at_step, kernel_step, limit_step, some_alone, told}
 
 -- goals that are answered by a report are known
 goals_known : (answer : Option ℕ → Answer) (goals : List Goal) → ((number : ℕ) → answer (Some number) ≡ unknown_answer goals number) → (u : Option ℕ) → GivesReport (answered (answer u)) → u ≡ None

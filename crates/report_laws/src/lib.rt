@@ -1,12 +1,14 @@
-//! The laws of reports: the functions do nothing, the contract of each is one law.
+//! The laws of reports: when a command is answered by one, what each one says, and that a stored kernel answers as its index does. The
+//! functions do nothing, the contract of each is one law.
+#![tactic(auto)]
+
 ghost use Rattle.coinst_run.specs.CompareMeaning.{CompareIsMeant};
-ghost use Rattle.coinst_run.specs.Complete.{CompleteJobsReport};
+ghost use Rattle.report_laws.specs.Complete.{CompleteJobsReport};
 ghost use Rattle.coinst_run.specs.ExplainMeaning.{ExplainIsMeant};
 ghost use Rattle.coinst_run.specs.MigrateMeaning.{MigrateIsMeant};
 ghost use Rattle.coinst_run.specs.QueryMeaning.{QueryIsMeant};
-ghost use Rattle.coinst_run.specs.StoredAgrees.{StoredAnswersAsIndex, StoredImagesAreOfIndex};
+ghost use Rattle.report_laws.specs.StoredAgrees.{StoredAnswersAsIndex, StoredImagesAreOfIndex};
 ghost use Rattle.coinst_run.specs.StoredMeaning.{StoredQueryIsMeant};
-ghost use Rattle.kernel_text.specs.StoredReading.{TextsAreTold};
 ghost use Rattle.coinst_run.specs.SystemMeaning.{SystemIsMeant};
 
 /// Words that ask for a job are answered by a report exactly if its files are there, accepted and within the limits, and its goals
@@ -18,11 +20,6 @@ pub fn complete_jobs_report()
 /// What the report of a query of an index means.
 pub fn query_is_meant()
     ensures { QueryIsMeant }
-{}
-
-/// What a text is read as, as a function, is the kernel by which the grammar reads it, or else the fault of the grammar.
-pub fn texts_are_told()
-    ensures { TextsAreTold }
 {}
 
 /// What the report of a query of a stored kernel means.

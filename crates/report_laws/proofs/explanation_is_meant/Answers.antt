@@ -1,5 +1,5 @@
 use Rattle.coinst_run.proofs.ExplainMeant.{explain_is_meant}
-use Rattle.coinst_run.proofs.laws.explanation_is_meant.Goals as goal
+use Rattle.report_laws.proofs.explanation_is_meant.Goals as goal
 
 pub returns : goal.returns
 returns c = explain_is_meant

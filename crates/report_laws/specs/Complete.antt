@@ -1,15 +1,12 @@
 -- Which jobs are answered by a report: their files are there, are accepted and within the limits, and their goals are known.
-use Rattle.std.specs.Prelude.{◌≡◌, ◌↔◌, ℕ, ◌≤◌, Bool, false, List, length, Some, None}
+use Rattle.std.specs.Prelude.{◌≡◌, ◌↔◌, ℕ, false, List, Some, None}
 use Rattle.byte_flow.specs.Flow.{Files}
 use Rattle.coinst_words.specs.declared.job.Job.{Job}
 use Rattle.coinst_words.specs.declared.job.Job.TheVariants.{Kernel, Query, StoredQuery, Compare, Explain, Status, Migrate, Sample}
 use Rattle.kernel_text.specs.Images.{unknown_goal as unknown_in_kernel}
 use Rattle.kernel_text.specs.KernelReads.{KernelContent, KernelReads}
 use Rattle.migrate_plan.specs.Refusals.{plan_refusal}
-use Rattle.repo_model.specs.FirstFault.{first_fault}
-use Rattle.repo_model.specs.Repository.{suite_repository}
 use Rattle.repo_model.specs.declared.goals.Goal.{Goal}
-use Rattle.row_book.specs.Rounds.{limit_at}
 use Rattle.sample_suite.specs.SampleText.{sample_text}
 use Rattle.status_check.specs.Own.{status_fault}
 use Rattle.suite_compare.specs.Answering.{unknown_goal}
@@ -17,26 +14,9 @@ use Rattle.suite_compare.specs.Refusals.{home_in, packages_in}
 use Rattle.coinst_words.specs.Jobs.{IsInLimits, job_of}
 use Rattle.coinst_run.specs.declared.answer.ReportVerdict.{ReportVerdict}
 use Rattle.coinst_run.specs.Answer.{reported}
-use Rattle.coinst_run.specs.Outcome.{Outcome, answered, file_limit, outcome_of}
+use Rattle.coinst_run.specs.Outcome.{Outcome, answered, outcome_of}
 use Rattle.coinst_run.specs.Sample.{sample_limit}
-
--- the file at the path is there, with this text, and no longer than a file may be
-pub record HasFile (files : Files) (path text : List ℕ) : Type 0 where
-  pub is : files path ≡ Some text
-  pub short : length text ≤ file_limit
-
--- and its text is an index without a fault
-pub record HasIndex (files : Files) (path text : List ℕ) : Type 0 where
-  pub file : HasFile files path text
-  pub accepted : first_fault text ≡ None
-
--- no package of the index passes the clause limit in any round
-abbrev pub IsWithin : ℕ → Bool → List ℕ → Type 0
-IsWithin limit hold text = limit_at limit hold (suite_repository (home_in text) (packages_in text)) ≡ None
-
--- an index at the path, whose packages stay within the clause limit
-abbrev pub HasKernel : Files → List ℕ → ℕ → Bool → List ℕ → Type 0
-HasKernel files path limit hold text = HasIndex files path text × IsWithin limit hold text
+use Rattle.coinst_run.specs.Present.{HasFile, HasIndex, HasKernel, IsWithin}
 
 -- each goal names a package of the index
 abbrev pub AreKnown : List ℕ → List Goal → Type 0

@@ -43,13 +43,14 @@ use Rattle.coinst_run.specs.Kernel.{kernel_answer, kernel_course}
 use Rattle.coinst_run.specs.Outcome.{answered, file_limit, outcome_over}
 use Rattle.coinst_run.specs.Query.{by_found, by_tree, by_unknown, goal_of_number, goals_answer, query_answer, query_course}
 use Rattle.coinst_run.specs.QueryText.{undecided_text, unknown_line}
-use Rattle.coinst_run.specs.StoredAgrees.{AreOneAnswer, StoredAnswersAsIndex, StoredImagesAreOfIndex, no, undecided, unknown, yes}
+use Rattle.report_laws.specs.StoredAgrees.{AreOneAnswer, StoredAnswersAsIndex, StoredImagesAreOfIndex, no, undecided, unknown, yes}
 use Rattle.coinst_run.specs.StoredQuery.{classes_by_tree, classes_found, images_in, stored_answer, stored_by_unknown, stored_query_answer, stored_query_course}
 use Rattle.claims.proofs.PrintedKernels.{class_is, fits}
 use Rattle.coinst_run.proofs.StoredKernels.{kernel_checked}
 use Rattle.coinst_run.proofs.QueryMeant.{formed}
-use Rattle.coinst_run.specs.Complete.{HasKernel}
-use Rattle.coinst_run.proofs.GoingOn.{GivesThis, file_step, kernel_step, kernel_used, this_alone}
+use Rattle.coinst_run.specs.Present.{HasKernel}
+use Rattle.coinst_run.proofs.GoingOn.{GivesThis, kernel_used, this_alone}
+use Rattle.report_laws.proofs.Steps.{file_step, kernel_step}
 
 map_same : {A B : Type 0} (f g : A → B) (xs : List A) → ((x : A) → f x ≡ g x) → map f xs ≡ map g xs
 map_same f g [] e = refl

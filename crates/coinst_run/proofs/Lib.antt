@@ -24,3 +24,4 @@ pub mod SystemReports
 pub mod SystemLines
 pub mod SystemMeant
 pub mod Sentences
+pub mod AnswerMeant

@@ -1,7 +1,6 @@
 -- What the report of a query means.
-use Rattle.std.proofs.Common.{◌≡◌, ℕ, ◌+◌, Bool, false, cond, nat_lt, List, [], ◌∷◌, length, Option, Some, None, inl, inr, refl, sym, ap, subst, ◌∙◌}
-use Rattle.std.proofs.lemmas.Bool.{cases_Bool, ltb-true}
-use Rattle.listed.proofs.Bools.{cases_Option}
+use Rattle.std.proofs.Common.{◌≡◌, ℕ, ◌+◌, Bool, false, List, [], ◌∷◌, length, Option, Some, None, inl, inr, refl, sym, subst}
+use Rattle.std.proofs.lemmas.Bool.{cases_Bool}
 use Rattle.listed.proofs.Lists.{some_item, In_cases, In_none}
 use Rattle.relation_fields.specs.declared.packages.PackageFacts.{PackageFacts}
 use Rattle.repo_model.specs.declared.goals.Goal.{Goal}
@@ -13,22 +12,19 @@ use Rattle.repo_model.specs.Repository.{suite_repository}
 use Rattle.row_book.specs.Rounds.{kernel}
 use Rattle.listed.specs.Lists.{In}
 use Rattle.search_terms.specs.Form.{form}
-use Rattle.search_terms.specs.Tree.{Tree, failed_leaves, found_of, log_of}
+use Rattle.search_terms.specs.Tree.{Tree, found_of, log_of}
 use Rattle.search_terms.proofs.Certificates.{tree_derives}
 use Rattle.suite_compare.specs.Answering.{names_none, unknown_from, unknown_goal}
 use Rattle.suite_compare.specs.Asking.{asked_tree, images_of, installation}
 use Rattle.suite_compare.proofs.Deciding.{asked_is, found_there}
 use Rattle.suite_compare.specs.Refusals.{home_in, packages_in}
-use Rattle.coinst_run.specs.declared.answer.ReportVerdict.{ReportVerdict}
-use Rattle.coinst_run.specs.declared.answer.ReportVerdict.TheVariants.{Done, Negative, Undecided}
-use Rattle.coinst_run.specs.Answer.{reported}
 use Rattle.coinst_run.specs.Index.{index_in}
-use Rattle.coinst_run.specs.Outcome.{answered}
-use Rattle.coinst_run.specs.Query.{by_found, by_tree, by_unknown, goals_answer, query_answer}
-use Rattle.coinst_run.specs.QueryMeaning.{MeansVerdict, QueryIsMeant, QueryMeans}
-use Rattle.coinst_run.specs.QueryText.{no_text, undecided_text, yes_text}
+use Rattle.coinst_run.specs.Query.{by_tree, by_unknown, goals_answer, installed_text, query_answer}
+use Rattle.coinst_run.specs.QueryMeaning.{MeansVerdict, NoMeans, QueryIsMeant, QueryMeans, YesMeans}
+use Rattle.coinst_run.specs.QueryText.{no_text}
 use Rattle.coinst_run.proofs.Installed.{installs_ascending, installs_for, installs_healthy, installs_within}
 use Rattle.coinst_run.proofs.OneInstallation.{one_installation}
+use Rattle.coinst_run.proofs.AnswerMeant.{AnswerMeans, means_more, told_means, tree_means}
 use Rattle.coinst_run.proofs.GoingOn.{GivesThis, kernel_used, this_alone}
 
 pub formed : (text : List ℕ) → first_fault text ≡ None → Accepted (packages_in text)
@@ -45,56 +41,47 @@ all_known packages number (g ∷ gs) e goal i = elim (cases_Bool (names_none pac
   ]
 ]
 
-module _ (text : List ℕ) (goals : List Goal) (budget limit : ℕ) (hold : Bool) (verdict : ReportVerdict) (report : List ℕ) where
+module _ (text : List ℕ) (goals : List Goal) (budget limit : ℕ) (hold : Bool) where
   abbrev tree : Tree
   tree = asked_tree limit hold (home_in text) (packages_in text) goals
 
-  means_as : (told : ReportVerdict) (bytes : List ℕ) → reported told bytes ≡ reported verdict report → MeansVerdict text goals budget limit hold told bytes → MeansVerdict text goals budget limit hold verdict report
-  means_as told bytes e m =
-      let v : told ≡ verdict = cc in
-      let b : bytes ≡ report = cc in
-      subst (λ w. MeansVerdict text goals budget limit hold w report) v (subst (MeansVerdict text goals budget limit hold told) b m)
+  yes_means : Accepted (packages_in text) → (chosen : List Bool) → found_of tree ≡ Some chosen → YesMeans text goals (installed_text limit hold (index_in text) goals chosen)
+  yes_means accepted chosen some = record {
+    numbers = installation limit hold (home_in text) (packages_in text) goals chosen;
+    reads = refl;
+    once = λ other within same. sym (one_installation (packages_in text) accepted (installation limit hold (home_in text) (packages_in text) goals chosen) other
+        (installs_within limit hold (home_in text) (packages_in text) goals chosen some) within same);
+    order = installs_ascending limit hold (home_in text) (packages_in text) goals chosen some;
+    serves = record {
+      healthy = installs_healthy limit hold (home_in text) (packages_in text) goals chosen some;
+      each = installs_for limit hold (home_in text) (packages_in text) goals chosen some;
+    };
+  }
 
-  found_means : Accepted (packages_in text) → by_found limit hold (index_in text) goals tree (found_of tree) ≡ reported verdict report → MeansVerdict text goals budget limit hold verdict report
-  found_means accepted e = elim (cases_Option (found_of tree)) [
-    | inr some ↦ means_as Done (yes_text (packages_in text) (installation limit hold (home_in text) (packages_in text) goals some.0)) (sym (ap (by_found limit hold (index_in text) goals tree) some.1) ∙ e) record {
-      numbers = installation limit hold (home_in text) (packages_in text) goals some.0;
-      reads = refl;
-      once = λ other within same. sym (one_installation (packages_in text) accepted (installation limit hold (home_in text) (packages_in text) goals some.0) other
-          (installs_within limit hold (home_in text) (packages_in text) goals some.0 some.1) within same);
-      order = installs_ascending limit hold (home_in text) (packages_in text) goals some.0 some.1;
-      serves = record {
-        healthy = installs_healthy limit hold (home_in text) (packages_in text) goals some.0 some.1;
-        each = installs_for limit hold (home_in text) (packages_in text) goals some.0 some.1;
-      };
-    }
-    | inl none ↦ means_as Negative (no_text (log_of [] tree)) (sym (ap (by_found limit hold (index_in text) goals tree) none) ∙ e) record {
-      refuted = λ w. let found = found_there (home_in text) (packages_in text) limit hold goals w in let there_it_is = found.1 in cc (none, there_it_is);
-      log = log_of [] tree;
-      reads = refl;
-      derives =
-          let K = kernel limit hold (suite_repository (home_in text) (packages_in text)) in
-          tree_derives (length K.clauses) (form K (images_of limit hold (home_in text) (packages_in text) goals)) tree (asked_is (home_in text) (packages_in text) limit hold goals) none;
-    }
-  ]
+  no_means : found_of tree ≡ None → NoMeans text goals limit hold (no_text (log_of [] tree))
+  no_means none = record {
+    refuted = λ w. let found = found_there (home_in text) (packages_in text) limit hold goals w in let there_it_is = found.1 in cc (none, there_it_is);
+    log = log_of [] tree;
+    reads = refl;
+    derives =
+        let K = kernel limit hold (suite_repository (home_in text) (packages_in text)) in
+        tree_derives (length K.clauses) (form K (images_of limit hold (home_in text) (packages_in text) goals)) tree (asked_is (home_in text) (packages_in text) limit hold goals) none;
+  }
 
-  tree_means : Accepted (packages_in text) → by_tree limit hold (index_in text) goals budget tree ≡ reported verdict report → MeansVerdict text goals budget limit hold verdict report
-  tree_means accepted e = elim (cases_Bool (nat_lt budget (failed_leaves tree))) [
-    | inl t ↦
-        means_as Undecided (undecided_text budget)
-        (sym (ap (λ b. cond b (reported Undecided (undecided_text budget)) (by_found limit hold (index_in text) goals tree (found_of tree))) t) ∙ e)
-        record { reads = refl; spent = ltb-true budget (failed_leaves tree) t }
-    | inr f ↦ found_means accepted (sym (ap (λ b. cond b (reported Undecided (undecided_text budget)) (by_found limit hold (index_in text) goals tree (found_of tree))) f) ∙ e)
-  ]
-
-  goals_mean : (first : Option ℕ) → first_fault text ≡ None → unknown_goal (packages_in text) goals ≡ first → by_unknown limit hold (index_in text) goals budget first ≡ reported verdict report → QueryMeans text goals budget limit hold verdict report
-  goals_mean (Some unknown) accepted is e = absurd (cc e)
-  goals_mean None accepted is e = record { accepted = accepted; known = all_known (packages_in text) 1 goals is; means = tree_means (formed text accepted) e }
+  goals_mean : (first : Option ℕ) → first_fault text ≡ None → unknown_goal (packages_in text) goals ≡ first → AnswerMeans (QueryMeans text goals budget limit hold) (by_unknown limit hold (index_in text) goals budget first)
+  goals_mean (Some unknown) accepted is = tt
+  goals_mean None accepted is =
+      let yes : List Bool → List ℕ = installed_text limit hold (index_in text) goals in
+      means_more (MeansVerdict text goals budget limit hold) (QueryMeans text goals budget limit hold) (by_tree yes budget tree)
+      (λ verdict printed m. record { accepted = accepted; known = all_known (packages_in text) 1 goals is; means = m })
+      (tree_means (MeansVerdict text goals budget limit hold) yes budget tree (yes_means (formed text accepted)) no_means (λ past. record { reads = refl; spent = past }))
 
 -- the report of a query of the file at the path
 pub query_is_meant : QueryIsMeant
 query_is_meant path goals budget limit hold files verdict report e =
-    let first = kernel_used (GivesThis verdict report) (this_alone verdict report) files path limit hold (query_answer goals budget limit hold) e in
-    let end : answered (goals_answer goals budget limit hold (index_in first.0)) ≡ answered (reported verdict report) = first.2 in
-    let same : goals_answer goals budget limit hold (index_in first.0) ≡ reported verdict report = cc in
-    (first.0, (first.1).0.file.is, goals_mean first.0 goals budget limit hold verdict report (unknown_goal (packages_in first.0) goals) (first.1).0.accepted refl same)
+    let first = kernel_used (GivesThis verdict report) (this_alone verdict report) files path limit hold (query_answer goals budget limit hold) e in (
+      first.0,
+      (first.1).0.file.is,
+      told_means (QueryMeans first.0 goals budget limit hold) (goals_answer goals budget limit hold (index_in first.0)) verdict report first.2
+          (goals_mean first.0 goals budget limit hold (unknown_goal (packages_in first.0) goals) (first.1).0.accepted refl),
+    )

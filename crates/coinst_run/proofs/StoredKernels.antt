@@ -1,5 +1,5 @@
 -- What is answered to goals that are asked of a stored kernel.
-use Rattle.std.proofs.Common.{◌≡◌, ℕ, ◌+◌, ◌<◌, ◌≤◌, Bool, true, false, cond, List, [], ◌∷◌, ◌++◌, length, map, filter, Option, Some, None, Ok, Err, inl, inr, sym, ap, ◌∙◌, subst, lt-ltb, arith}
+use Rattle.std.proofs.Common.{◌≡◌, ℕ, ◌+◌, ◌<◌, ◌≤◌, Bool, true, false, cond, List, [], ◌∷◌, ◌++◌, length, map, filter, Some, None, Ok, Err, inl, inr, sym, ap, ◌∙◌, subst, lt-ltb, arith}
 use Rattle.std.specs.List.{flat_map, position_from}
 use Rattle.std.proofs.lemmas.Bool.{cases_Bool, le-ltb}
 use Rattle.std.proofs.lemmas.List.{append-nil, flat_map_more}
@@ -33,9 +33,10 @@ use Rattle.coinst_run.specs.declared.answer.Cause.TheVariants.{Content}
 use Rattle.coinst_run.specs.declared.answer.ReportVerdict.TheVariants.{Done, Negative, Undecided}
 use Rattle.coinst_run.specs.Answer.{Answer, refused, reported}
 use Rattle.coinst_run.specs.Course.{answers}
+use Rattle.coinst_run.specs.Query.{by_found, by_tree}
 use Rattle.coinst_run.specs.QueryText.{no_text, undecided_text}
 use Rattle.kernel_text.proofs.StoredReading.{reading_is}
-use Rattle.coinst_run.specs.StoredQuery.{by_reading, checked_kernel, class_line, classes_by_tree, classes_found, classes_text, kernel_fault_line, stored_answer, stored_by_unknown}
+use Rattle.coinst_run.specs.StoredQuery.{by_reading, checked_kernel, class_line, classes_text, kernel_fault_line, stored_answer, stored_by_unknown}
 
 -- a text that was read, and one that was refused
 pub kernel_checked : (path text : List ℕ) (format : ℕ) (R : Repository) (members : List Member) (held : List ℕ) → KernelReads text format R members held → checked_kernel path text ≡ Ok (content format R members held)
@@ -72,9 +73,9 @@ unknown_counted members goals number e = let w = unknown_within (is_unknown memb
 
 -- goals that are known are answered by the tree
 pub known_told : (format : ℕ) (R : Repository) (members : List Member) (held : List ℕ) (goals : List Goal) (budget size : ℕ) (needs : List (List ℕ)) → unknown_goal members goals ≡ None → size ≡ length R.clauses →
-    needs ≡ map (image_of members size) goals → answers (classes_by_tree budget (tree_of R needs)) ≡ answers (stored_answer goals budget (content format R members held))
+    needs ≡ map (image_of members size) goals → answers (by_tree classes_text budget (tree_of R needs)) ≡ answers (stored_answer goals budget (content format R members held))
 known_told format R members held goals budget size needs known count made =
-    ap answers (ap (λ xs. classes_by_tree budget (tree_of R xs)) (made ∙ ap (λ n. map (image_of members n) goals) count) ∙ sym (ap (stored_by_unknown (content format R members held) goals budget) known))
+    ap answers (ap (λ xs. by_tree classes_text budget (tree_of R xs)) (made ∙ ap (λ n. map (image_of members n) goals) count) ∙ sym (ap (stored_by_unknown (content format R members held) goals budget) known))
 
 -- the tree of a search is the one of the definition
 module _ (R : Repository) (goals : List (List ℕ)) (sound : SoundRepository R) (fit : NeedsFit (length R.clauses) goals) (budget : ℕ) where
@@ -83,26 +84,26 @@ module _ (R : Repository) (goals : List (List ℕ)) (sound : SoundRepository R) 
   tree_is tree is = one_tree (length R.clauses) (form R goals) [] (tree_of R goals) tree (search_tree_is (length R.clauses) (form R goals) (formula_ranged R goals sound fit)) is
 
   by_size : Bool → Tree → Answer
-  by_size b tree = cond b (reported Undecided (undecided_text budget)) (classes_found tree (found_of tree))
+  by_size b tree = cond b (reported Undecided (undecided_text budget)) (by_found classes_text tree (found_of tree))
 
-  pub found_told : (chosen : List Bool) → IsSearchOutcome R goals budget (Found chosen) → classes_by_tree budget (tree_of R goals) ≡ reported Done (classes_text chosen)
+  pub found_told : (chosen : List Bool) → IsSearchOutcome R goals budget (Found chosen) → by_tree classes_text budget (tree_of R goals) ≡ reported Done (classes_text chosen)
   unfolding by_size
   found_told chosen o =
       let tree : Tree = o.0 in
-      ap (classes_by_tree budget) (sym (tree_is tree o.1)) ∙ ap (λ b. by_size b tree) (le-ltb budget (failed_leaves tree) o.2.1) ∙ ap (classes_found tree) o.2.0
+      ap (by_tree classes_text budget) (sym (tree_is tree o.1)) ∙ ap (λ b. by_size b tree) (le-ltb budget (failed_leaves tree) o.2.1) ∙ ap (by_found classes_text tree) o.2.0
 
-  pub refuted_told : (log : Log) → IsSearchOutcome R goals budget (Refuted log) → classes_by_tree budget (tree_of R goals) ≡ reported Negative (no_text log.entries)
+  pub refuted_told : (log : Log) → IsSearchOutcome R goals budget (Refuted log) → by_tree classes_text budget (tree_of R goals) ≡ reported Negative (no_text log.entries)
   unfolding by_size
   refuted_told log o =
       let tree : Tree = o.0 in
-      ap (classes_by_tree budget) (sym (tree_is tree o.1)) ∙ ap (λ b. by_size b tree) (le-ltb budget (failed_leaves tree) o.2.1) ∙ ap (classes_found tree) o.2.0
+      ap (by_tree classes_text budget) (sym (tree_is tree o.1)) ∙ ap (λ b. by_size b tree) (le-ltb budget (failed_leaves tree) o.2.1) ∙ ap (by_found classes_text tree) o.2.0
       ∙ ap (λ xs. reported Negative (no_text xs)) (sym o.2.2)
 
-  pub spent_told : (failed : ℕ) → IsSearchOutcome R goals budget (Spent failed) → classes_by_tree budget (tree_of R goals) ≡ reported Undecided (undecided_text budget)
+  pub spent_told : (failed : ℕ) → IsSearchOutcome R goals budget (Spent failed) → by_tree classes_text budget (tree_of R goals) ≡ reported Undecided (undecided_text budget)
   unfolding by_size
   spent_told failed o =
       let tree : Tree = o.0 in
-      ap (classes_by_tree budget) (sym (tree_is tree o.1)) ∙ ap (λ b. by_size b tree) (lt-ltb budget (failed_leaves tree) o.2.0)
+      ap (by_tree classes_text budget) (sym (tree_is tree o.1)) ∙ ap (λ b. by_size b tree) (lt-ltb budget (failed_leaves tree) o.2.0)
 
 -- the lines of classes, flag by flag
 pub no_class_lines : (chosen : List Bool) (start : List ℕ) → start ≡ start ++ flat_map class_line (filter (flag chosen) (numbers 0 0))

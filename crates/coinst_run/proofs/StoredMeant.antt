@@ -1,12 +1,11 @@
 -- What the report of a query of a stored kernel means.
-use Rattle.std.proofs.Common.{◌≡◌, ℕ, ◌+◌, ◌<◌, ◌≤◌, Bool, true, false, cond, ◌&&◌, eqb, eqb-true, eq-eqb, nat_lt, List, [], ◌∷◌, ◌++◌, length, filter, Option, Some, None, Result, Ok, Err, inl, inr, refl, sym, ap, ap₂, subst, ◌∙◌, append_assoc, arith}
+use Rattle.std.proofs.Common.{◌≡◌, ℕ, ◌+◌, ◌<◌, ◌≤◌, Bool, true, false, ◌&&◌, eqb, eqb-true, eq-eqb, List, [], ◌∷◌, ◌++◌, length, filter, Option, Some, None, Result, Ok, Err, inl, inr, refl, sym, ap₂, subst, ◌∙◌, append_assoc, arith}
 use Rattle.std.specs.Prelude.{codes}
 use Rattle.std.specs.Fmt.{decimal}
 use Rattle.std.specs.List.{flat_map, list_any, position_from}
 use Rattle.std.proofs.Math.Path.{fun_ext}
-use Rattle.std.proofs.lemmas.Bool.{and_from, and_parts, both_ways, cases_Bool, ltb-true}
+use Rattle.std.proofs.lemmas.Bool.{and_from, and_parts, both_ways, cases_Bool}
 use Rattle.std.proofs.lemmas.List.{append_cancel_left}
-use Rattle.listed.proofs.Bools.{cases_Option}
 use Rattle.listed.proofs.Lists.{In_flat_cases, In_cases, In_has, In_map, In_map_cases, In_none, any_cases, any_from, filter_cases, filter_from}
 use Rattle.byte_flow.specs.Flow.{Files}
 use Rattle.kernel_text.specs.declared.fault.KernelFault.{KernelFault}
@@ -30,25 +29,26 @@ use Rattle.row_book.proofs.Flags.{flag_in}
 use Rattle.search_terms.specs.Closure.{InRange}
 use Rattle.search_terms.specs.Form.{form}
 use Rattle.search_terms.specs.Laws.{Solves}
-use Rattle.search_terms.specs.Tree.{IsTree, Tree, failed_leaves, found_of, log_of}
+use Rattle.search_terms.specs.Tree.{IsTree, Tree, found_of, log_of}
 use Rattle.search_terms.proofs.Certificates.{tree_derives}
 use Rattle.search_terms.proofs.Computed.{search_tree_is}
 use Rattle.search_terms.proofs.Found.{finds_healthy}
 use Rattle.suite_compare.specs.Asking.{tree_of}
 use Rattle.suite_compare.proofs.Ranged.{formula_ranged}
 use Rattle.coinst_run.specs.declared.answer.ReportVerdict.{ReportVerdict}
-use Rattle.coinst_run.specs.declared.answer.ReportVerdict.TheVariants.{Done, Negative, Undecided}
 use Rattle.coinst_run.specs.Answer.{reported}
 use Rattle.coinst_run.specs.Course.{answers, then_on}
 use Rattle.coinst_run.specs.Lines.{line_of_text}
 use Rattle.coinst_run.specs.Outcome.{answered, outcome_over}
-use Rattle.coinst_run.specs.QueryText.{no_text, undecided_text}
-use Rattle.coinst_run.specs.StoredMeaning.{HasClassFor, MeansStored, ServesStored, StoredMeans, StoredQueryIsMeant}
+use Rattle.coinst_run.specs.QueryText.{no_text}
+use Rattle.coinst_run.specs.StoredMeaning.{HasClassFor, MeansStored, ServesStored, StoredMeans, StoredNo, StoredQueryIsMeant, StoredYes}
+use Rattle.coinst_run.specs.Query.{by_tree}
 use Rattle.kernel_text.specs.StoredReading.{stored_reading}
-use Rattle.coinst_run.specs.StoredQuery.{by_reading, class_line, classes_by_tree, classes_found, classes_text, images_in, stored_answer, stored_by_unknown, stored_query_answer}
+use Rattle.coinst_run.specs.StoredQuery.{by_reading, class_line, classes_text, images_in, stored_answer, stored_by_unknown, stored_query_answer}
 use Rattle.coinst_run.proofs.Installed.{kept}
 use Rattle.kernel_text.proofs.StoredReading.{reading_is}
 use Rattle.coinst_run.proofs.StoredKernels.{images_fit}
+use Rattle.coinst_run.proofs.AnswerMeant.{AnswerMeans, means_more, told_means, tree_means}
 use Rattle.coinst_run.proofs.GoingOn.{GivesThis, file_used, this_alone}
 
 -- where no goal is unknown, each names a package
@@ -149,73 +149,51 @@ module _ (kernel : KernelContent) (writable : IsWritable kernel.format kernel.re
   unfolding tree_of
   is_tree = search_tree_is size (form kernel.repository images) range
 
-  module _ (budget : ℕ) (verdict : ReportVerdict) (report : List ℕ) where
-    means_as : (told : ReportVerdict) (bytes : List ℕ) → reported told bytes ≡ reported verdict report → MeansStored kernel goals budget told bytes → MeansStored kernel goals budget verdict report
-    means_as told bytes e m =
-        let v : told ≡ verdict = cc in
-        let b : bytes ≡ report = cc in
-        subst (λ w. MeansStored kernel goals budget w report) v (subst (MeansStored kernel goals budget told) b m)
+  yes_means : (chosen : List Bool) → found_of tree ≡ Some chosen → StoredYes kernel goals (classes_text chosen)
+  unfolding classes_text
+  yes_means chosen some =
+      let solves : Solves kernel.repository images (flag chosen) = (finds_healthy kernel.repository images tree range is_tree).1 chosen some in
+      let serves : ServesStored kernel goals (has (raised chosen)) = subst (ServesStored kernel goals) (sym (raised_same chosen)) (serves_from (flag chosen) solves.0 solves.1) in
+      let few : size < number_limit = writable.few_classes in
+      record {
+        classes = raised chosen;
+        reads = refl;
+        once = λ other inside same.
+            one_list other (raised chosen) (λ n i. let l = inside n i in omega arith) (λ n i. let l = serves.healthy.packages n (In_has i) in omega arith)
+            (append_cancel_left (line_of_text (codes "yes")) (flat_map class_line other) (flat_map class_line (raised chosen)) (sym same));
+        order = ascending_filter (flag chosen) (numbers (length chosen) 0) (numbers_ascending (length chosen) 0);
+        serves = serves;
+      }
 
-    yes_means : (chosen : List Bool) → found_of tree ≡ Some chosen → MeansStored kernel goals budget Done (classes_text chosen)
-    unfolding classes_text
-    yes_means chosen some =
-        let solves : Solves kernel.repository images (flag chosen) = (finds_healthy kernel.repository images tree range is_tree).1 chosen some in
-        let serves : ServesStored kernel goals (has (raised chosen)) = subst (ServesStored kernel goals) (sym (raised_same chosen)) (serves_from (flag chosen) solves.0 solves.1) in
-        let few : size < number_limit = writable.few_classes in
-        record {
-          classes = raised chosen;
-          reads = refl;
-          once = λ other inside same.
-              one_list other (raised chosen) (λ n i. let l = inside n i in omega arith) (λ n i. let l = serves.healthy.packages n (In_has i) in omega arith)
-              (append_cancel_left (line_of_text (codes "yes")) (flat_map class_line other) (flat_map class_line (raised chosen)) (sym same));
-          order = ascending_filter (flag chosen) (numbers (length chosen) 0) (numbers_ascending (length chosen) 0);
-          serves = serves;
-        }
-
-    no_means : found_of tree ≡ None → MeansStored kernel goals budget Negative (no_text (log_of [] tree))
-    no_means none = record {
-      refuted = λ w.
-          let found = (finds_healthy kernel.repository images tree range is_tree).0 (w.whole, w.serves.healthy, hits_from w.whole w.serves) in
-          let there_it_is = found.1 in
-          cc (none, there_it_is);
-      log = log_of [] tree;
-      reads = refl;
-      derives = tree_derives size (form kernel.repository images) tree is_tree none;
-    }
-
-    found_means : classes_found tree (found_of tree) ≡ reported verdict report → MeansStored kernel goals budget verdict report
-    found_means e = elim (cases_Option (found_of tree)) [
-      | inr some ↦ means_as Done (classes_text some.0) (sym (ap (classes_found tree) some.1) ∙ e) (yes_means some.0 some.1)
-      | inl none ↦ means_as Negative (no_text (log_of [] tree)) (sym (ap (classes_found tree) none) ∙ e) (no_means none)
-    ]
-
-    tree_means : classes_by_tree budget tree ≡ reported verdict report → MeansStored kernel goals budget verdict report
-    tree_means e = elim (cases_Bool (nat_lt budget (failed_leaves tree))) [
-      | inl t ↦
-          means_as Undecided (undecided_text budget) (sym (ap (λ b. cond b (reported Undecided (undecided_text budget)) (classes_found tree (found_of tree))) t) ∙ e)
-          record { reads = refl; spent = ltb-true budget (failed_leaves tree) t }
-      | inr f ↦ found_means (sym (ap (λ b. cond b (reported Undecided (undecided_text budget)) (classes_found tree (found_of tree))) f) ∙ e)
-    ]
+  no_means : found_of tree ≡ None → StoredNo kernel goals (no_text (log_of [] tree))
+  no_means none = record {
+    refuted = λ w.
+        let found = (finds_healthy kernel.repository images tree range is_tree).0 (w.whole, w.serves.healthy, hits_from w.whole w.serves) in
+        let there_it_is = found.1 in
+        cc (none, there_it_is);
+    log = log_of [] tree;
+    reads = refl;
+    derives = tree_derives size (form kernel.repository images) tree is_tree none;
+  }
 
 -- the report of a query of the stored kernel at the path
 module _ (path : List ℕ) (goals : List Goal) (budget : ℕ) (files : Files) (verdict : ReportVerdict) (report : List ℕ) where
   goals_mean : (text : List ℕ) (kernel : KernelContent) (first : Option ℕ) → KernelReads text kernel.format kernel.repository kernel.members kernel.held → unknown_goal kernel.members goals ≡ first →
-      stored_by_unknown kernel goals budget first ≡ reported verdict report → StoredMeans text goals budget verdict report
-  goals_mean text kernel (Some number) reads is e = absurd (cc e)
-  goals_mean text kernel None reads is e = record {
-    kernel = kernel;
-    reads = reads;
-    once = one_reading text;
-    known = all_known kernel.members 1 goals is;
-    means = tree_means kernel ((read_is_written text kernel.format kernel.repository kernel.members kernel.held).0 reads).0 goals budget verdict report e;
-  }
+      AnswerMeans (StoredMeans text goals budget) (stored_by_unknown kernel goals budget first)
+  goals_mean text kernel (Some number) reads is = tt
+  goals_mean text kernel None reads is =
+      let writable = ((read_is_written text kernel.format kernel.repository kernel.members kernel.held).0 reads).0 in
+      let found : Tree = tree_of kernel.repository (images_in kernel goals) in
+      means_more (MeansStored kernel goals budget) (StoredMeans text goals budget) (by_tree classes_text budget found)
+      (λ verdict printed m. record { kernel = kernel; reads = reads; once = one_reading text; known = all_known kernel.members 1 goals is; means = m })
+      (tree_means (MeansStored kernel goals budget) classes_text budget found (yes_means kernel writable goals) (no_means kernel writable goals) (λ past. record { reads = refl; spent = past }))
 
   by_text : (text : List ℕ) (found : Result KernelContent KernelFault) → stored_reading text ≡ found →
       outcome_over files (then_on (by_reading path found) (λ kernel. answers (stored_answer goals budget kernel))) ≡ answered (reported verdict report) → StoredMeans text goals budget verdict report
   by_text text (Err fault) is e = absurd cc
   by_text text (Ok kernel) is e =
-      let same : stored_answer goals budget kernel ≡ reported verdict report = cc in
-      goals_mean text kernel (unknown_goal kernel.members goals) (((reading_is text).kernels kernel.format kernel.repository kernel.members kernel.held).1 is) refl same
+      told_means (StoredMeans text goals budget) (stored_answer goals budget kernel) verdict report e
+      (goals_mean text kernel (unknown_goal kernel.members goals) (((reading_is text).kernels kernel.format kernel.repository kernel.members kernel.held).1 is) refl)
 
 pub stored_query_is_meant : StoredQueryIsMeant
 stored_query_is_meant path goals budget files verdict report e =

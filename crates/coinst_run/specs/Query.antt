@@ -22,20 +22,23 @@ goal_of_number goals number = slice_index_or goals (number - 1) (any_version [])
 abbrev pub unknown_answer : List Goal → ℕ → Answer
 unknown_answer goals number = refused UnknownGoal (unknown_line number (goal_of_number goals number))
 
--- yes and what is installed, where the tree finds classes, and otherwise no and the log of the tree
-abbrev pub by_found : ℕ → Bool → Index → List Goal → Tree → Option (List Bool) → Answer
-by_found limit hold index goals tree (Some chosen) = reported Done (yes_text index.packages (installation limit hold index.home index.packages goals chosen))
-by_found limit hold index goals tree None = reported Negative (no_text (log_of [] tree))
+-- yes, in these words, where the tree finds classes, and otherwise no and the log of the tree
+abbrev pub by_found : (List Bool → List ℕ) → Tree → Option (List Bool) → Answer
+by_found yes tree (Some chosen) = reported Done (yes chosen)
+by_found yes tree None = reported Negative (no_text (log_of [] tree))
 
 -- undecided where the tree has more failed leaves than the budget
-abbrev pub by_tree : ℕ → Bool → Index → List Goal → ℕ → Tree → Answer
-by_tree limit hold index goals budget tree =
-    if nat_lt budget (failed_leaves tree) then reported Undecided (undecided_text budget) else by_found limit hold index goals tree (found_of tree)
+abbrev pub by_tree : (List Bool → List ℕ) → ℕ → Tree → Answer
+by_tree yes budget tree = if nat_lt budget (failed_leaves tree) then reported Undecided (undecided_text budget) else by_found yes tree (found_of tree)
+
+-- yes, and what is installed where these classes are found
+abbrev pub installed_text : ℕ → Bool → Index → List Goal → List Bool → List ℕ
+installed_text limit hold index goals chosen = yes_text index.packages (installation limit hold index.home index.packages goals chosen)
 
 -- goals by the first that names no package, where there is one
 abbrev pub by_unknown : ℕ → Bool → Index → List Goal → ℕ → Option ℕ → Answer
 by_unknown limit hold index goals budget (Some number) = unknown_answer goals number
-by_unknown limit hold index goals budget None = by_tree limit hold index goals budget (asked_tree limit hold index.home index.packages goals)
+by_unknown limit hold index goals budget None = by_tree (installed_text limit hold index goals) budget (asked_tree limit hold index.home index.packages goals)
 
 -- what is answered to goals, at a clause limit, with hold or without
 abbrev pub goals_answer : List Goal → ℕ → ℕ → Bool → Index → Answer

@@ -1,5 +1,5 @@
 -- The command that asks of a stored kernel whether one package for each goal can be installed together.
-use Rattle.std.specs.Prelude.{ℕ, nat_lt, if◌then◌else◌, List, [], ◌++◌, codes, filter, length, map, Bool, Option, Some, None, Result, Ok, Err}
+use Rattle.std.specs.Prelude.{ℕ, List, ◌++◌, codes, filter, length, map, Bool, Option, Some, None, Result, Ok, Err}
 use Rattle.std.specs.List.{flat_map}
 use Rattle.kernel_text.specs.Images.{image_of, unknown_goal}
 use Rattle.kernel_text.specs.KernelReads.{KernelContent}
@@ -8,15 +8,12 @@ use Rattle.kernel_text.specs.declared.fault.KernelFault.TheVariants.{Line, End, 
 use Rattle.repo_model.specs.declared.goals.Goal.{Goal}
 use Rattle.row_book.specs.Numbers.{numbers}
 use Rattle.row_book.specs.Flags.{flag}
-use Rattle.search_terms.specs.Tree.{Tree, failed_leaves, found_of, log_of}
 use Rattle.suite_compare.specs.Asking.{tree_of}
 use Rattle.coinst_run.specs.declared.answer.Cause.TheVariants.{Content}
-use Rattle.coinst_run.specs.declared.answer.ReportVerdict.TheVariants.{Done, Negative, Undecided}
-use Rattle.coinst_run.specs.Answer.{Answer, Stage, reported, refused}
+use Rattle.coinst_run.specs.Answer.{Answer, Stage, refused}
 use Rattle.coinst_run.specs.Course.{Course, answers, reads, then_on}
 use Rattle.coinst_run.specs.Lines.{about, at_line, counted_line, line_of_text}
-use Rattle.coinst_run.specs.Query.{unknown_answer}
-use Rattle.coinst_run.specs.QueryText.{no_text, undecided_text}
+use Rattle.coinst_run.specs.Query.{by_tree, unknown_answer}
 use Rattle.kernel_text.specs.StoredReading.{stored_reading}
 
 -- why a text is not that of a kernel
@@ -50,15 +47,6 @@ listed_classes classes = line_of_text (codes "yes") ++ flat_map class_line class
 unfoldable pub classes_text : List Bool → List ℕ
 classes_text chosen = listed_classes (filter (flag chosen) (numbers (length chosen) 0))
 
--- yes and the true classes, where the tree finds some, and otherwise no and the log of the tree
-abbrev pub classes_found : Tree → Option (List Bool) → Answer
-classes_found tree (Some chosen) = reported Done (classes_text chosen)
-classes_found tree None = reported Negative (no_text (log_of [] tree))
-
--- undecided where the tree has more failed leaves than the budget
-abbrev pub classes_by_tree : ℕ → Tree → Answer
-classes_by_tree budget tree = if nat_lt budget (failed_leaves tree) then reported Undecided (undecided_text budget) else classes_found tree (found_of tree)
-
 -- for each goal the classes that it names
 abbrev pub images_in : KernelContent → List Goal → List (List ℕ)
 images_in kernel goals = map (image_of kernel.members (length kernel.repository.clauses)) goals
@@ -66,7 +54,7 @@ images_in kernel goals = map (image_of kernel.members (length kernel.repository.
 -- goals by the first that names no package, where there is one
 abbrev pub stored_by_unknown : KernelContent → List Goal → ℕ → Option ℕ → Answer
 stored_by_unknown kernel goals budget (Some number) = unknown_answer goals number
-stored_by_unknown kernel goals budget None = classes_by_tree budget (tree_of kernel.repository (images_in kernel goals))
+stored_by_unknown kernel goals budget None = by_tree classes_text budget (tree_of kernel.repository (images_in kernel goals))
 
 -- what is answered to goals
 abbrev pub stored_answer : List Goal → ℕ → KernelContent → Answer

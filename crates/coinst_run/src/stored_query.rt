@@ -15,8 +15,9 @@ ghost use Rattle.coinst_run.specs.Course.{answers};
 ghost use Rattle.coinst_run.specs.Ending.{ending_of, Settles, stop_ending, StopsAt};
 ghost use Rattle.coinst_run.specs.Follows.{Follows};
 ghost use Rattle.coinst_run.specs.Outcome.{answered};
+ghost use Rattle.coinst_run.specs.Query.{by_tree};
 ghost use Rattle.coinst_run.specs.declared.answer.Cause.TheVariants.{Content};
-ghost use Rattle.coinst_run.specs.StoredQuery.{checked_kernel, class_line, classes_by_tree, classes_text, kernel_fault_line, kernel_fault_text, stored_answer, stored_query_answer, stored_query_course};
+ghost use Rattle.coinst_run.specs.StoredQuery.{checked_kernel, class_line, classes_text, kernel_fault_line, kernel_fault_text, stored_answer, stored_query_answer, stored_query_course};
 ghost use Rattle.repo_model.specs.Limits.{most_bytes};
 
 use crate::answer::{Cause, Report, ReportVerdict, Stop};
@@ -126,7 +127,7 @@ fn tree_report(
     requires repository { SoundRepository (repository_of pool.now book.now) }
     requires fit { NeedsFit (length book.now.rows) needs.now }
     requires budget { IsBudget budget }
-    ensures { Settles (answers (classes_by_tree budget (tree_of (repository_of pool.now book.now) needs.now))) (ending_of result) }
+    ensures { Settles (answers (by_tree classes_text budget (tree_of (repository_of pool.now book.now) needs.now))) (ending_of result) }
 {
     match search(alloc, pool, book, needs, budget)? {
         Outcome::Found { chosen } => Ok(Report::of(

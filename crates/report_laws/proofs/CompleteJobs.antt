@@ -35,10 +35,10 @@ use Rattle.coinst_run.specs.Kernel.{kernel_answer}
 use Rattle.coinst_run.specs.Migrate.{by_refusal, new_answer, new_course, old_answer, plan_answer, refusal_of}
 use Rattle.coinst_run.specs.MigrateText.{plan_text, plan_verdict}
 use Rattle.coinst_run.specs.Outcome.{answered, course_of, of_job, outcome_of, outcome_over}
-use Rattle.coinst_run.specs.Query.{by_found, by_tree, by_unknown, goals_answer, query_answer, unknown_answer}
+use Rattle.coinst_run.specs.Query.{by_found, by_tree, by_unknown, goals_answer, installed_text, query_answer, unknown_answer}
 use Rattle.coinst_run.specs.QueryText.{undecided_text}
 use Rattle.coinst_run.specs.Sample.{sample_answer, sample_limit, sample_path, size_report}
-use Rattle.coinst_run.specs.StoredQuery.{by_reading, classes_by_tree, classes_found, images_in, stored_answer, stored_by_unknown, stored_query_answer}
+use Rattle.coinst_run.specs.StoredQuery.{by_reading, classes_text, images_in, stored_answer, stored_by_unknown, stored_query_answer}
 use Rattle.kernel_text.specs.StoredReading.{stored_reading}
 use Rattle.coinst_run.specs.SystemStatus.{system_answer, system_by_fault, system_course, told_answer, system_report}
 use Rattle.kernel_text.proofs.StoredReading.{reading_is}
@@ -51,21 +51,22 @@ goals_known : (answer : Option ℕ → Answer) (goals : List Goal) → ((number 
 goals_known answer goals is None g = refl
 goals_known answer goals is (Some number) g = absurd (let s = ap answered (sym (is number)) ∙ g.2 in let k : ⊥ = cc in k)
 
--- goals of an index
-found_told : (limit : ℕ) (hold : Bool) (index : Index) (goals : List Goal) (tree : Tree) (chosen : Option (List Bool)) → GivesReport (answered (by_found limit hold index goals tree chosen))
-found_told limit hold index goals tree (Some chosen) = told Done _
-found_told limit hold index goals tree None = told Negative _
+-- an answer by a tree
+found_told : (yes : List Bool → List ℕ) (tree : Tree) (chosen : Option (List Bool)) → GivesReport (answered (by_found yes tree chosen))
+found_told yes tree (Some chosen) = told Done _
+found_told yes tree None = told Negative _
 
-tree_told : (limit : ℕ) (hold : Bool) (index : Index) (goals : List Goal) (budget : ℕ) (tree : Tree) → GivesReport (answered (by_tree limit hold index goals budget tree))
-tree_told limit hold index goals budget tree = by (nat_lt budget (failed_leaves tree))
+tree_told : (yes : List Bool → List ℕ) (budget : ℕ) (tree : Tree) → GivesReport (answered (by_tree yes budget tree))
+tree_told yes budget tree = by (nat_lt budget (failed_leaves tree))
   where
-    by : (b : Bool) → GivesReport (answered (if b then reported Undecided (undecided_text budget) else by_found limit hold index goals tree (found_of tree)))
+    by : (b : Bool) → GivesReport (answered (if b then reported Undecided (undecided_text budget) else by_found yes tree (found_of tree)))
     by true = told Undecided (undecided_text budget)
-    by false = found_told limit hold index goals tree (found_of tree)
+    by false = found_told yes tree (found_of tree)
 
+-- goals of an index
 query_told : (goals : List Goal) (budget limit : ℕ) (hold : Bool) (index : Index) → unknown_goal index.packages goals ≡ None → GivesReport (answered (goals_answer goals budget limit hold index))
 query_told goals budget limit hold index e =
-    subst (λ u. GivesReport (answered (by_unknown limit hold index goals budget u))) (sym e) (tree_told limit hold index goals budget (asked_tree limit hold index.home index.packages goals))
+    subst (λ u. GivesReport (answered (by_unknown limit hold index goals budget u))) (sym e) (tree_told (installed_text limit hold index goals) budget (asked_tree limit hold index.home index.packages goals))
 
 query_known : (goals : List Goal) (budget limit : ℕ) (hold : Bool) (index : Index) → GivesReport (answered (goals_answer goals budget limit hold index)) → unknown_goal index.packages goals ≡ None
 query_known goals budget limit hold index g = goals_known (by_unknown limit hold index goals budget) goals (λ number. refl) (unknown_goal index.packages goals) g
@@ -90,19 +91,8 @@ as_stored : (text : List ℕ) (kernel : KernelContent) → stored_reading text �
 as_stored text kernel e = ((reading_is text).kernels kernel.format kernel.repository kernel.members kernel.held).1 e
 
 -- goals of a stored kernel
-classes_told : (budget : ℕ) (tree : Tree) → GivesReport (answered (classes_by_tree budget tree))
-classes_told budget tree = by (nat_lt budget (failed_leaves tree))
-  where
-    found : (chosen : Option (List Bool)) → GivesReport (answered (classes_found tree chosen))
-    found (Some chosen) = told Done _
-    found None = told Negative _
-
-    by : (b : Bool) → GivesReport (answered (if b then reported Undecided (undecided_text budget) else classes_found tree (found_of tree)))
-    by true = told Undecided (undecided_text budget)
-    by false = found (found_of tree)
-
 stored_told : (goals : List Goal) (budget : ℕ) (kernel : KernelContent) → unknown_in_kernel kernel.members goals ≡ None → GivesReport (answered (stored_answer goals budget kernel))
-stored_told goals budget kernel e = subst (λ u. GivesReport (answered (stored_by_unknown kernel goals budget u))) (sym e) (classes_told budget (tree_of kernel.repository (images_in kernel goals)))
+stored_told goals budget kernel e = subst (λ u. GivesReport (answered (stored_by_unknown kernel goals budget u))) (sym e) (tree_told classes_text budget (tree_of kernel.repository (images_in kernel goals)))
 
 stored_known : (goals : List Goal) (budget : ℕ) (kernel : KernelContent) → GivesReport (answered (stored_answer goals budget kernel)) → unknown_in_kernel kernel.members goals ≡ None
 stored_known goals budget kernel g = goals_known (stored_by_unknown kernel goals budget) goals (λ number. refl) (unknown_in_kernel kernel.members goals) g

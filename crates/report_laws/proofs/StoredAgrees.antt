@@ -41,10 +41,10 @@ use Rattle.coinst_run.specs.Index.{index_in}
 use Rattle.coinst_run.specs.IndexKernel.{classed_kernel, index_kernel, text_for}
 use Rattle.coinst_run.specs.Kernel.{kernel_answer, kernel_course}
 use Rattle.coinst_run.specs.Outcome.{answered, file_limit, outcome_over}
-use Rattle.coinst_run.specs.Query.{by_found, by_tree, by_unknown, goal_of_number, goals_answer, query_answer, query_course}
+use Rattle.coinst_run.specs.Query.{by_found, by_tree, by_unknown, goal_of_number, goals_answer, installed_text, query_answer, query_course}
 use Rattle.coinst_run.specs.QueryText.{undecided_text, unknown_line}
 use Rattle.report_laws.specs.StoredAgrees.{AreOneAnswer, StoredAnswersAsIndex, StoredImagesAreOfIndex, no, undecided, unknown, yes}
-use Rattle.coinst_run.specs.StoredQuery.{classes_by_tree, classes_found, images_in, stored_answer, stored_by_unknown, stored_query_answer, stored_query_course}
+use Rattle.coinst_run.specs.StoredQuery.{classes_text, images_in, stored_answer, stored_by_unknown, stored_query_answer, stored_query_course}
 use Rattle.claims.proofs.PrintedKernels.{class_is, fits}
 use Rattle.coinst_run.proofs.StoredKernels.{kernel_checked}
 use Rattle.coinst_run.proofs.QueryMeant.{formed}
@@ -139,11 +139,14 @@ module _ (text : List ℕ) (accepted : first_fault text ≡ None) (goals : List 
   abbrev the_content : KernelContent
   the_content = content (format_of hold) the_kernel the_members (kernel_held limit hold (suite_repository (home_in text) stanzas))
 
-  by_both : (tree : Tree) → AreOneAnswer (index_in text) goals budget limit hold (by_tree limit hold (index_in text) goals budget tree) (classes_by_tree budget tree)
+  abbrev yes_of_index : List Bool → List ℕ
+  yes_of_index = installed_text limit hold (index_in text) goals
+
+  by_both : (tree : Tree) → AreOneAnswer (index_in text) goals budget limit hold (by_tree yes_of_index budget tree) (by_tree classes_text budget tree)
   by_both tree = told (nat_lt budget (failed_leaves tree)) (found_of tree)
     where
       told : (spent : Bool) (found : Option (List Bool)) → AreOneAnswer (index_in text) goals budget limit hold
-          (cond spent (reported Undecided (undecided_text budget)) (by_found limit hold (index_in text) goals tree found)) (cond spent (reported Undecided (undecided_text budget)) (classes_found tree found))
+          (cond spent (reported Undecided (undecided_text budget)) (by_found yes_of_index tree found)) (cond spent (reported Undecided (undecided_text budget)) (by_found classes_text tree found))
       told true found = undecided
       told false (Some chosen) = yes chosen
       told false None = no (log_of [] tree)
@@ -152,7 +155,7 @@ module _ (text : List ℕ) (accepted : first_fault text ≡ None) (goals : List 
       AreOneAnswer (index_in text) goals budget limit hold (by_unknown limit hold (index_in text) goals budget first) (stored_by_unknown the_content goals budget first)
   by_first (Some number) = unknown (unknown_line number (goal_of_number goals number))
   by_first None =
-      subst (λ tree. AreOneAnswer (index_in text) goals budget limit hold (by_tree limit hold (index_in text) goals budget (asked_tree limit hold (home_in text) stanzas goals)) (classes_by_tree budget tree))
+      subst (λ tree. AreOneAnswer (index_in text) goals budget limit hold (by_tree yes_of_index budget (asked_tree limit hold (home_in text) stanzas goals)) (by_tree classes_text budget tree))
       (sym (tree_same limit hold (home_in text) stanzas (formed text accepted) goals)) (by_both (asked_tree limit hold (home_in text) stanzas goals))
 
   one_answer : AreOneAnswer (index_in text) goals budget limit hold (goals_answer goals budget limit hold (index_in text)) (stored_answer goals budget the_content)

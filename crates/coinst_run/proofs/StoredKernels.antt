@@ -1,7 +1,7 @@
 -- What is answered to goals that are asked of a stored kernel.
-use Rattle.std.proofs.Common.{◌≡◌, ℕ, ◌+◌, ◌<◌, ◌≤◌, Bool, true, false, cond, List, [], ◌∷◌, ◌++◌, length, map, filter, Some, None, Ok, Err, inl, inr, sym, ap, ◌∙◌, subst, lt-ltb, arith}
-use Rattle.std.specs.List.{flat_map, position_from}
-use Rattle.std.proofs.lemmas.Bool.{cases_Bool, le-ltb}
+use Rattle.std.proofs.Common.{◌≡◌, ℕ, ◌+◌, Bool, true, false, cond, List, [], ◌∷◌, ◌++◌, length, map, filter, None, Ok, Err, sym, ap, ◌∙◌, lt-ltb}
+use Rattle.std.specs.List.{flat_map}
+use Rattle.std.proofs.lemmas.Bool.{le-ltb}
 use Rattle.std.proofs.lemmas.List.{append-nil, flat_map_more}
 use Rattle.std.proofs.lemmas.List.Elements.{filter-append}
 use Rattle.clause_solver.specs.Outcomes.{IsSearchOutcome}
@@ -9,7 +9,7 @@ use Rattle.clause_solver.specs.declared.outcomes.Outcome.TheVariants.{Found, Ref
 use Rattle.kernel_text.specs.declared.fault.KernelFault.{KernelFault}
 use Rattle.kernel_text.specs.declared.fault.KernelFault.TheVariants.{End, Memory}
 use Rattle.kernel_text.specs.declared.member.Member.{Member}
-use Rattle.kernel_text.specs.Images.{image_of, is_unknown, names_in_class, unknown_goal}
+use Rattle.kernel_text.specs.Images.{image_of, unknown_goal}
 use Rattle.kernel_text.specs.KernelFaults.{IsFault}
 use Rattle.kernel_text.specs.KernelReads.{KernelReads, content}
 use Rattle.kernel_text.proofs.ReadIsWritten.{read_is_written}
@@ -18,10 +18,8 @@ use Rattle.row_book.specs.Numbers.{numbers}
 use Rattle.row_book.specs.Flags.{flag}
 use Rattle.row_book.specs.Needs.{NeedsFit}
 use Rattle.row_book.specs.Repository.{Repository}
-use Rattle.listed.specs.Lists.{In}
 use Rattle.row_book.specs.Sound.{SoundRepository}
-use Rattle.listed.proofs.Lists.{In_map_cases, filter_cases}
-use Rattle.row_book.proofs.Numbers.{numbers_parts, numbers_more}
+use Rattle.row_book.proofs.Numbers.{numbers_more}
 use Rattle.search_terms.specs.Form.{form}
 use Rattle.search_terms.specs.declared.literals.Log.{Log}
 use Rattle.search_terms.specs.Tree.{IsTree, Tree, failed_leaves, found_of}
@@ -50,26 +48,6 @@ kernel_refused path text fault other is = ap (by_reading path) (((reading_is tex
 
 pub end_other : End ≡ Memory → ⊥
 end_other e = let f : ⊥ = cc in f
-
--- the classes that goals name are classes
-pub images_fit : (members : List Member) (size : ℕ) (goals : List Goal) → NeedsFit size (map (image_of members size) goals)
-unfolding image_of
-images_fit members size goals c i n j =
-    let w : (g : Goal) × In g goals × (c ≡ image_of members size g) = In_map_cases (image_of members size) goals c i in
-    let k : In n (numbers size 0) = (filter_cases (names_in_class members w.0) (numbers size 0) n (subst (λ xs. In n xs) w.2 j)).0 in
-    let b : (0 ≤ n) × (n < 0 + size) = numbers_parts size 0 n k in
-    omega arith
-
--- the number of an unknown goal is one of a goal
-unknown_within : (p : Goal → Bool) (n k : ℕ) (goals : List Goal) → position_from p n goals ≡ Some k → (n ≤ k) × (k < n + length goals)
-unknown_within p n k [] e = absurd (cc e)
-unknown_within p n k (g ∷ gs) e = elim (cases_Bool (p g)) [
-  | inl t ↦ let same : n ≡ k = cc (rw t at e) in (omega (arith, same), omega (arith, same))
-  | inr f ↦ let w : (n + 1 ≤ k) × (k < n + 1 + length gs) = unknown_within p (n + 1) k gs (rw f at e) in (omega (arith, w.0), omega (arith, w.1))
-]
-
-pub unknown_counted : (members : List Member) (goals : List Goal) (number : ℕ) → unknown_goal members goals ≡ Some number → (0 < number) × (number ≤ length goals)
-unknown_counted members goals number e = let w = unknown_within (is_unknown members) 1 number goals e in (omega (arith, w.0), omega (arith, w.1))
 
 -- goals that are known are answered by the tree
 pub known_told : (format : ℕ) (R : Repository) (members : List Member) (held : List ℕ) (goals : List Goal) (budget size : ℕ) (needs : List (List ℕ)) → unknown_goal members goals ≡ None → size ≡ length R.clauses →

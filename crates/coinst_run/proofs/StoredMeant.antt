@@ -1,18 +1,16 @@
 -- What the report of a query of a stored kernel means.
-use Rattle.std.proofs.Common.{◌≡◌, ℕ, ◌+◌, ◌<◌, ◌≤◌, Bool, true, false, ◌&&◌, eqb, eqb-true, eq-eqb, List, [], ◌∷◌, ◌++◌, length, filter, Option, Some, None, Result, Ok, Err, inl, inr, refl, sym, ap₂, subst, ◌∙◌, append_assoc, arith}
+use Rattle.std.proofs.Common.{◌≡◌, ℕ, ◌+◌, ◌<◌, Bool, List, [], ◌∷◌, ◌++◌, length, filter, Option, Some, None, Result, Ok, Err, inr, refl, sym, ap₂, subst, ◌∙◌, append_assoc, arith}
 use Rattle.std.specs.Prelude.{codes}
 use Rattle.std.specs.Fmt.{decimal}
-use Rattle.std.specs.List.{flat_map, list_any, position_from}
+use Rattle.std.specs.List.{flat_map}
 use Rattle.std.proofs.Math.Path.{fun_ext}
-use Rattle.std.proofs.lemmas.Bool.{and_from, and_parts, both_ways, cases_Bool}
 use Rattle.std.proofs.lemmas.List.{append_cancel_left}
-use Rattle.listed.proofs.Lists.{In_flat_cases, In_cases, In_has, In_map, In_map_cases, In_none, any_cases, any_from, filter_cases, filter_from}
+use Rattle.listed.proofs.Lists.{In_has}
 use Rattle.byte_flow.specs.Flow.{Files}
 use Rattle.kernel_text.specs.declared.fault.KernelFault.{KernelFault}
-use Rattle.kernel_text.specs.declared.member.Member.{Member}
-use Rattle.kernel_text.specs.Images.{image_of, is_named_by, is_unknown, names_in_class, unknown_goal}
+use Rattle.kernel_text.specs.Images.{unknown_goal}
 use Rattle.kernel_text.specs.KernelReads.{KernelContent, KernelReads}
-use Rattle.kernel_text.specs.KernelText.{IsWritable, members_of}
+use Rattle.kernel_text.specs.KernelText.{IsWritable}
 use Rattle.kernel_text.specs.Reading.{number_limit}
 use Rattle.kernel_text.proofs.OneReading.{one_reading}
 use Rattle.kernel_text.proofs.ReadIsWritten.{read_is_written}
@@ -20,11 +18,9 @@ use Rattle.kernel_text.proofs.Spelling.{number_same}
 use Rattle.repo_model.specs.declared.goals.Goal.{Goal}
 use Rattle.row_book.specs.Numbers.{numbers}
 use Rattle.row_book.specs.Flags.{flag}
-use Rattle.row_book.specs.Repository.{Healthy}
-use Rattle.row_book.specs.Sets.{Hit, HitsAll, Is, NumSet}
 use Rattle.listed.specs.Lists.{In, has, here, there}
 use Rattle.listed.proofs.Orders.{ascending_filter}
-use Rattle.row_book.proofs.Numbers.{numbers_ascending, numbers_from, numbers_parts}
+use Rattle.row_book.proofs.Numbers.{numbers_ascending, numbers_from}
 use Rattle.row_book.proofs.Flags.{flag_in}
 use Rattle.search_terms.specs.Closure.{InRange}
 use Rattle.search_terms.specs.Form.{form}
@@ -41,32 +37,16 @@ use Rattle.coinst_run.specs.Course.{answers, then_on}
 use Rattle.coinst_run.specs.Lines.{line_of_text}
 use Rattle.coinst_run.specs.Outcome.{answered, outcome_over}
 use Rattle.coinst_run.specs.QueryText.{no_text}
-use Rattle.coinst_run.specs.StoredMeaning.{HasClassFor, MeansStored, ServesStored, StoredMeans, StoredNo, StoredQueryIsMeant, StoredYes}
+use Rattle.coinst_run.specs.StoredMeaning.{MeansStored, StoredMeans, StoredNo, StoredQueryIsMeant, StoredYes}
 use Rattle.coinst_run.specs.Query.{by_tree}
 use Rattle.kernel_text.specs.StoredReading.{stored_reading}
-use Rattle.coinst_run.specs.StoredQuery.{by_reading, class_line, classes_text, images_in, stored_answer, stored_by_unknown, stored_query_answer}
+use Rattle.coinst_run.specs.StoredQuery.{by_reading, class_line, classes_text, stored_answer, stored_by_unknown, stored_query_answer}
+use Rattle.kernel_text.specs.Serving.{ServesStored, images_in}
 use Rattle.coinst_run.proofs.Installed.{kept}
 use Rattle.kernel_text.proofs.StoredReading.{reading_is}
-use Rattle.coinst_run.proofs.StoredKernels.{images_fit}
+use Rattle.kernel_text.proofs.Serving.{all_known, images_fit, images_serve}
 use Rattle.coinst_run.proofs.AnswerMeant.{AnswerMeans, means_more, told_means, tree_means}
 use Rattle.coinst_run.proofs.GoingOn.{GivesThis, file_used, this_alone}
-
--- where no goal is unknown, each names a package
-named_one : (members : List Member) (goal : Goal) → is_unknown members goal ≡ false → (m : Member) × In m members × (is_named_by goal m ≡ true)
-named_one members goal e = elim (cases_Bool (list_any (is_named_by goal) members)) [
-  | inl t ↦ any_cases (is_named_by goal) members t
-  | inr f ↦ absurd (both_ways (is_unknown members goal) e (rw f refl))
-]
-
-all_known : (members : List Member) (number : ℕ) (goals : List Goal) → position_from (is_unknown members) number goals ≡ None → (goal : Goal) → In goal goals → (m : Member) × In m members × (is_named_by goal m ≡ true)
-all_known members number [] e goal i = absurd (In_none i)
-all_known members number (g ∷ gs) e goal i = elim (cases_Bool (is_unknown members g)) [
-  | inl t ↦ absurd (cc (rw t at e))
-  | inr f ↦ elim (In_cases i) [
-    | inl same ↦ named_one members goal (subst (λ k. is_unknown members k ≡ false) (sym same) f)
-    | inr later ↦ all_known members (number + 1) gs (rw f at e) goal later
-  ]
-]
 
 -- no two lists of classes have one text
 one_line : (m n : ℕ) (R S : List ℕ) → m < number_limit → n < number_limit → class_line m ++ R ≡ class_line n ++ S → (m ≡ n) × (R ≡ S)
@@ -103,45 +83,6 @@ module _ (kernel : KernelContent) (writable : IsWritable kernel.format kernel.re
   abbrev tree : Tree
   tree = tree_of kernel.repository images
 
-  member_inside : (m : Member) → In m kernel.members → m.class < size
-  member_inside m i =
-      let w : (k : ℕ) × In k (numbers size 0) × In m (members_of kernel.members k) = In_flat_cases (members_of kernel.members) (numbers size 0) m (subst (λ ms. In m ms) writable.by_class i) in
-      let same : m.class ≡ w.0 = eqb-true m.class w.0 (filter_cases (λ (o : Member). eqb o.class w.0) kernel.members m w.2).1 in
-      let p : (0 ≤ w.0) × (w.0 < 0 + size) = numbers_parts size 0 w.0 w.1 in
-      omega (arith, same, p.1)
-
-  -- a set has a class for a goal exactly where it hits the classes that the goal names
-  class_for : (I : NumSet) (goal : Goal) → Hit (Is I) (image_of kernel.members size goal) → HasClassFor kernel.members I goal
-  unfolding image_of
-  class_for I goal h =
-      let named : names_in_class kernel.members goal h.by ≡ true = (filter_cases (names_in_class kernel.members goal) (numbers size 0) h.by h.inside).1 in
-      let w : (m : Member) × In m kernel.members × ((eqb h.by m.class && is_named_by goal m) ≡ true) = any_cases (λ (m : Member). eqb h.by m.class && is_named_by goal m) kernel.members named in
-      let p : (eqb h.by w.0.class ≡ true) × (is_named_by goal w.0 ≡ true) = and_parts (eqb h.by w.0.class) (is_named_by goal w.0) w.2 in
-      record { by = w.0; listed = w.1; named = p.1; alive = subst (Is I) (eqb-true h.by w.0.class p.0) h.alive }
-
-  hit_for : (I : NumSet) (goal : Goal) → HasClassFor kernel.members I goal → Hit (Is I) (image_of kernel.members size goal)
-  unfolding image_of
-  hit_for I goal h =
-      let l : h.by.class < size = member_inside h.by h.listed in
-      record {
-        by = h.by.class;
-        inside =
-            filter_from (names_in_class kernel.members goal) (numbers size 0) h.by.class (numbers_from size 0 h.by.class (omega arith) (omega arith))
-            (any_from (λ (m : Member). eqb h.by.class m.class && is_named_by goal m) kernel.members h.by h.listed (and_from (eqb h.by.class h.by.class) (is_named_by goal h.by) (eq-eqb h.by.class h.by.class refl) h.named));
-        alive = h.alive;
-      }
-
-  serves_from : (I : NumSet) → Healthy kernel.repository I → HitsAll I images → ServesStored kernel goals I
-  serves_from I healthy hits = record {
-    healthy = healthy;
-    each = λ goal i. class_for I goal (hits (image_of kernel.members size goal) (In_map (image_of kernel.members size) goals goal i));
-  }
-
-  hits_from : (I : NumSet) → ServesStored kernel goals I → HitsAll I images
-  hits_from I s c i =
-      let g = In_map_cases (image_of kernel.members size) goals c i in
-      subst (λ d. Hit (Is I) d) (sym g.2) (hit_for I g.0 (s.each g.0 g.1))
-
   range : InRange size (form kernel.repository images)
   range = formula_ranged kernel.repository images writable.sound (images_fit kernel.members size goals)
 
@@ -153,7 +94,7 @@ module _ (kernel : KernelContent) (writable : IsWritable kernel.format kernel.re
   unfolding classes_text
   yes_means chosen some =
       let solves : Solves kernel.repository images (flag chosen) = (finds_healthy kernel.repository images tree range is_tree).1 chosen some in
-      let serves : ServesStored kernel goals (has (raised chosen)) = subst (ServesStored kernel goals) (sym (raised_same chosen)) (serves_from (flag chosen) solves.0 solves.1) in
+      let serves : ServesStored kernel goals (has (raised chosen)) = subst (ServesStored kernel goals) (sym (raised_same chosen)) ((images_serve kernel writable goals (flag chosen) solves.0).1 solves.1) in
       let few : size < number_limit = writable.few_classes in
       record {
         classes = raised chosen;
@@ -168,7 +109,7 @@ module _ (kernel : KernelContent) (writable : IsWritable kernel.format kernel.re
   no_means : found_of tree ≡ None → StoredNo kernel goals (no_text (log_of [] tree))
   no_means none = record {
     refuted = λ w.
-        let found = (finds_healthy kernel.repository images tree range is_tree).0 (w.whole, w.serves.healthy, hits_from w.whole w.serves) in
+        let found = (finds_healthy kernel.repository images tree range is_tree).0 (w.whole, w.serves.healthy, (images_serve kernel writable goals w.whole w.serves.healthy).0 w.serves) in
         let there_it_is = found.1 in
         cc (none, there_it_is);
     log = log_of [] tree;

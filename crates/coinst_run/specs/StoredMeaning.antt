@@ -6,8 +6,6 @@ use Rattle.kernel_text.specs.KernelReads.{HasOneReading, KernelContent, KernelRe
 use Rattle.kernel_text.specs.declared.member.Member.{Member}
 use Rattle.repo_model.specs.declared.goals.Goal.{Goal}
 use Rattle.listed.specs.Lists.{Ascending, In, has}
-use Rattle.row_book.specs.Repository.{Healthy}
-use Rattle.row_book.specs.Sets.{Is, NumSet}
 use Rattle.search_terms.specs.declared.literals.Literal.{Literal}
 use Rattle.search_terms.specs.Derives.{Derives}
 use Rattle.search_terms.specs.Form.{form}
@@ -18,24 +16,8 @@ use Rattle.coinst_run.specs.declared.answer.ReportVerdict.TheVariants.{Done, Neg
 use Rattle.coinst_run.specs.Answer.{reported}
 use Rattle.coinst_run.specs.Outcome.{answered, outcome_over}
 use Rattle.coinst_run.specs.QueryText.{no_text, undecided_text}
-use Rattle.coinst_run.specs.StoredQuery.{images_in, listed_classes, stored_query_course}
-
--- the goal names a package of a class in the set
-pub record HasClassFor (members : List Member) (I : NumSet) (goal : Goal) : Type 0 where
-  pub by : Member
-  pub listed : In by members
-  pub named : is_named_by goal by ≡ true
-  pub alive : Is I by.class
-
--- a healthy set of classes that has one for each goal
-pub record ServesStored (kernel : KernelContent) (goals : List Goal) (I : NumSet) : Type 0 where
-  pub healthy : Healthy kernel.repository I
-  pub each : (goal : Goal) → In goal goals → HasClassFor kernel.members I goal
-
--- goals are co-installable in a kernel where some set of classes serves them
-pub record CoinstStored (kernel : KernelContent) (goals : List Goal) : Type 0 where
-  pub whole : NumSet
-  pub serves : ServesStored kernel goals whole
+use Rattle.kernel_text.specs.Serving.{CoinstStored, ServesStored, images_in}
+use Rattle.coinst_run.specs.StoredQuery.{listed_classes, stored_query_course}
 
 -- The goals are co-installable: the printed classes, which no other ones are printed as, are ascending and serve them.
 pub record StoredYes (kernel : KernelContent) (goals : List Goal) (printed : List ℕ) : Type 0 where

@@ -1,8 +1,9 @@
 -- The command that asks of a stored kernel whether one package for each goal can be installed together.
-use Rattle.std.specs.Prelude.{ℕ, List, ◌++◌, codes, filter, length, map, Bool, Option, Some, None, Result, Ok, Err}
+use Rattle.std.specs.Prelude.{ℕ, List, ◌++◌, codes, filter, length, Bool, Option, Some, None, Result, Ok, Err}
 use Rattle.std.specs.List.{flat_map}
-use Rattle.kernel_text.specs.Images.{image_of, unknown_goal}
+use Rattle.kernel_text.specs.Images.{unknown_goal}
 use Rattle.kernel_text.specs.KernelReads.{KernelContent}
+use Rattle.kernel_text.specs.Serving.{images_in}
 use Rattle.kernel_text.specs.declared.fault.KernelFault.{KernelFault}
 use Rattle.kernel_text.specs.declared.fault.KernelFault.TheVariants.{Line, End, Range, Memory}
 use Rattle.repo_model.specs.declared.goals.Goal.{Goal}
@@ -46,10 +47,6 @@ listed_classes classes = line_of_text (codes "yes") ++ flat_map class_line class
 -- yes, and the classes whose flags are up
 unfoldable pub classes_text : List Bool → List ℕ
 classes_text chosen = listed_classes (filter (flag chosen) (numbers (length chosen) 0))
-
--- for each goal the classes that it names
-abbrev pub images_in : KernelContent → List Goal → List (List ℕ)
-images_in kernel goals = map (image_of kernel.members (length kernel.repository.clauses)) goals
 
 -- goals by the first that names no package, where there is one
 abbrev pub stored_by_unknown : KernelContent → List Goal → ℕ → Option ℕ → Answer

@@ -38,3 +38,4 @@ pub mod ForwardReading
 pub mod StoredReading
 pub mod Extracted
 pub mod LineCounts
+pub mod Serving

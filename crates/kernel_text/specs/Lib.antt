@@ -18,3 +18,4 @@ pub mod KernelJson
 pub mod JsonData
 pub mod StoredReading
 pub mod LineKinds
+pub mod Serving

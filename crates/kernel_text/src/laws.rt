@@ -1,6 +1,7 @@
 //! Laws over the definitions that the contracts of kernel texts cite; these functions do nothing.
 ghost use Rattle.kernel_text.specs.Laws.{KernelsAreWritable, ReadIsWritten, RoundsGiveKernels, TextsAreJudged, TextsAreReadOnce, WrittenIsReadBack};
 ghost use Rattle.kernel_text.specs.LineKinds.{LinesAreCounted};
+ghost use Rattle.kernel_text.specs.Serving.{ImagesServe};
 ghost use Rattle.kernel_text.specs.StoredReading.{TextsAreTold};
 
 /// A text is read as one format, one repository, one list of members and one list of held classes at most.
@@ -45,4 +46,9 @@ pub fn texts_are_told()
 /// the index. So a question to the stored kernel is that to the index.
 pub fn written_is_read_back()
     ensures { WrittenIsReadBack }
+{}
+
+/// A healthy set of classes of a kernel serves goals exactly where it hits the classes that each of them names.
+pub fn images_serve()
+    ensures { ImagesServe }
 {}

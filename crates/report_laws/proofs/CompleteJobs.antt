@@ -38,7 +38,8 @@ use Rattle.coinst_run.specs.Outcome.{answered, course_of, of_job, outcome_of, ou
 use Rattle.coinst_run.specs.Query.{by_found, by_tree, by_unknown, goals_answer, installed_text, query_answer, unknown_answer}
 use Rattle.coinst_run.specs.QueryText.{undecided_text}
 use Rattle.coinst_run.specs.Sample.{sample_answer, sample_limit, sample_path, size_report}
-use Rattle.coinst_run.specs.StoredQuery.{by_reading, classes_text, images_in, stored_answer, stored_by_unknown, stored_query_answer}
+use Rattle.coinst_run.specs.StoredQuery.{by_reading, classes_text, stored_answer, stored_by_unknown, stored_query_answer}
+use Rattle.kernel_text.specs.Serving.{images_in}
 use Rattle.kernel_text.specs.StoredReading.{stored_reading}
 use Rattle.coinst_run.specs.SystemStatus.{system_answer, system_by_fault, system_course, told_answer, system_report}
 use Rattle.kernel_text.proofs.StoredReading.{reading_is}

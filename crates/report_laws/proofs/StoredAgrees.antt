@@ -44,7 +44,8 @@ use Rattle.coinst_run.specs.Outcome.{answered, file_limit, outcome_over}
 use Rattle.coinst_run.specs.Query.{by_found, by_tree, by_unknown, goal_of_number, goals_answer, installed_text, query_answer, query_course}
 use Rattle.coinst_run.specs.QueryText.{undecided_text, unknown_line}
 use Rattle.report_laws.specs.StoredAgrees.{AreOneAnswer, StoredAnswersAsIndex, StoredImagesAreOfIndex, no, undecided, unknown, yes}
-use Rattle.coinst_run.specs.StoredQuery.{classes_text, images_in, stored_answer, stored_by_unknown, stored_query_answer, stored_query_course}
+use Rattle.coinst_run.specs.StoredQuery.{classes_text, stored_answer, stored_by_unknown, stored_query_answer, stored_query_course}
+use Rattle.kernel_text.specs.Serving.{images_in}
 use Rattle.claims.proofs.PrintedKernels.{class_is, fits}
 use Rattle.coinst_run.proofs.StoredKernels.{kernel_checked}
 use Rattle.coinst_run.proofs.QueryMeant.{formed}

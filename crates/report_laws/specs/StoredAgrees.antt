@@ -19,7 +19,8 @@ use Rattle.coinst_run.specs.Kernel.{kernel_course}
 use Rattle.coinst_run.specs.Outcome.{answered, file_limit, outcome_over}
 use Rattle.coinst_run.specs.Query.{query_course}
 use Rattle.coinst_run.specs.QueryText.{no_text, undecided_text, yes_text}
-use Rattle.coinst_run.specs.StoredQuery.{classes_text, images_in, stored_query_course}
+use Rattle.coinst_run.specs.StoredQuery.{classes_text, stored_query_course}
+use Rattle.kernel_text.specs.Serving.{images_in}
 
 -- Two answers to goals, the first over an index and the second over a stored kernel, are one: both are no with the same log, or
 -- undecided, or refuse the same goal with the same line, or both are yes, the first with the packages that are installed where

@@ -10,7 +10,8 @@ use Rattle.coinst_run.specs.Query.{unknown_answer}
 use Rattle.coinst_run.specs.StoredQuery.{stored_answer, stored_by_unknown}
 use Rattle.coinst_run.proofs.Follows.{settles_at}
 use Rattle.coinst_run.specs.Ending.{Settles, ending_of, stop_ending}
-use Rattle.coinst_run.proofs.StoredKernels.{images_fit, known_told, unknown_counted}
+use Rattle.coinst_run.proofs.StoredKernels.{known_told}
+use Rattle.kernel_text.proofs.Serving.{images_fit, unknown_counted}
 use Rattle.coinst_run.proofs.stored_query.goals_report.Goals as goal
 
 -- the classes that goals name are classes

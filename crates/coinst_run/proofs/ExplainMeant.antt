@@ -14,7 +14,8 @@ use Rattle.coinst_run.specs.Explain.{explain_answer, explained_by_unknown, expla
 use Rattle.coinst_run.specs.ExplainMeaning.{ExplainIsMeant, ExplainMeans, MeansExplained}
 use Rattle.coinst_run.specs.Index.{index_in}
 use Rattle.coinst_run.proofs.OneCore.{one_core}
-use Rattle.coinst_run.proofs.QueryMeant.{all_known, formed}
+use Rattle.suite_compare.proofs.Unknown.{all_named}
+use Rattle.coinst_run.proofs.QueryMeant.{formed}
 use Rattle.coinst_run.proofs.AnswerMeant.{AnswerMeans, means_more, told_means}
 use Rattle.coinst_run.proofs.GoingOn.{GivesThis, kernel_used, this_alone}
 use Rattle.explain_core.specs.OnStanzas.{HoldsOnStanzas, IsTellable}
@@ -50,7 +51,7 @@ module _ (text : List ℕ) (goals : List Goal) (budget limit : ℕ) (hold : Bool
   goals_mean None accepted is =
       let explanation : Explanation = explanation_of limit hold told_home told_stanzas budget goals in
       means_more (MeansExplained text goals budget limit hold) (ExplainMeans text goals budget limit hold) (explanation_answer told_stanzas goals budget explanation)
-      (λ verdict printed m. record { accepted = accepted; known = all_known told_stanzas 1 goals is; means = m })
+      (λ verdict printed m. record { accepted = accepted; known = all_named told_stanzas 1 goals is; means = m })
       (explained (formed text accepted) explanation refl (explanations_hold told_home told_stanzas limit hold budget goals))
 
 pub explain_is_meant : ExplainIsMeant

@@ -4,10 +4,8 @@ pub mod Kernels
 pub mod Meaning
 pub mod Runs
 pub mod Telling
-pub mod Installed
 pub mod QueryMeant
 pub mod StoredKernels
-pub mod Queries
 pub mod SampleMeaning
 pub mod Sizes
 pub mod OneCore

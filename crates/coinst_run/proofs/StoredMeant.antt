@@ -42,9 +42,9 @@ use Rattle.coinst_run.specs.Query.{by_tree}
 use Rattle.kernel_text.specs.StoredReading.{stored_reading}
 use Rattle.coinst_run.specs.StoredQuery.{by_reading, class_line, classes_text, stored_answer, stored_by_unknown, stored_query_answer}
 use Rattle.kernel_text.specs.Serving.{ServesStored, images_in}
-use Rattle.coinst_run.proofs.Installed.{kept}
+use Rattle.suite_compare.proofs.Installed.{kept}
 use Rattle.kernel_text.proofs.StoredReading.{reading_is}
-use Rattle.kernel_text.proofs.Serving.{all_known, images_fit, images_serve}
+use Rattle.kernel_text.proofs.Serving.{all_named, images_fit, images_serve}
 use Rattle.coinst_run.proofs.AnswerMeant.{AnswerMeans, means_more, told_means, tree_means}
 use Rattle.coinst_run.proofs.GoingOn.{GivesThis, file_used, this_alone}
 
@@ -126,7 +126,7 @@ module _ (path : List ℕ) (goals : List Goal) (budget : ℕ) (files : Files) (v
       let writable = ((read_is_written text kernel.format kernel.repository kernel.members kernel.held).0 reads).0 in
       let found : Tree = tree_of kernel.repository (images_in kernel goals) in
       means_more (MeansStored kernel goals budget) (StoredMeans text goals budget) (by_tree classes_text budget found)
-      (λ verdict printed m. record { kernel = kernel; reads = reads; once = one_reading text; known = all_known kernel.members 1 goals is; means = m })
+      (λ verdict printed m. record { kernel = kernel; reads = reads; once = one_reading text; known = all_named kernel.members 1 goals is; means = m })
       (tree_means (MeansStored kernel goals budget) classes_text budget found (yes_means kernel writable goals) (no_means kernel writable goals) (λ past. record { reads = refl; spent = past }))
 
   by_text : (text : List ℕ) (found : Result KernelContent KernelFault) → stored_reading text ≡ found →

@@ -23,13 +23,13 @@ named_one members goal e = elim (cases_Bool (list_any (is_named_by goal) members
   | inr f ↦ absurd (both_ways (is_unknown members goal) e (rw f refl))
 ]
 
-pub all_known : (members : List Member) (number : ℕ) (goals : List Goal) → position_from (is_unknown members) number goals ≡ None → (goal : Goal) → In goal goals → (m : Member) × In m members × (is_named_by goal m ≡ true)
-all_known members number [] e goal i = absurd (In_none i)
-all_known members number (g ∷ gs) e goal i = elim (cases_Bool (is_unknown members g)) [
+pub all_named : (members : List Member) (number : ℕ) (goals : List Goal) → position_from (is_unknown members) number goals ≡ None → (goal : Goal) → In goal goals → (m : Member) × In m members × (is_named_by goal m ≡ true)
+all_named members number [] e goal i = absurd (In_none i)
+all_named members number (g ∷ gs) e goal i = elim (cases_Bool (is_unknown members g)) [
   | inl t ↦ absurd (cc (rw t at e))
   | inr f ↦ elim (In_cases i) [
     | inl same ↦ named_one members goal (subst (λ k. is_unknown members k ≡ false) (sym same) f)
-    | inr later ↦ all_known members (number + 1) gs (rw f at e) goal later
+    | inr later ↦ all_named members (number + 1) gs (rw f at e) goal later
   ]
 ]
 

@@ -21,3 +21,5 @@ pub mod Reported
 pub mod Firsts
 pub mod Compared
 pub mod Parts
+pub mod Installed
+pub mod Unknown

@@ -1,5 +1,5 @@
 -- What the kernel of an index decides for goals, at every clause limit, with hold and without.
-use Rattle.std.specs.Prelude.{◌≡◌, ◌↔◌, ℕ, Bool, List}
+use Rattle.std.specs.Prelude.{◌≡◌, ◌↔◌, ℕ, Bool, List, Some}
 use Rattle.row_book.specs.Repository.{Healthy}
 use Rattle.row_book.specs.Rounds.{kernel}
 use Rattle.row_book.specs.Sets.{NumSet, HitsAll}
@@ -8,8 +8,10 @@ use Rattle.relation_fields.specs.declared.packages.PackageFacts.{PackageFacts}
 use Rattle.repo_model.specs.Goals.{CoinstGoals}
 use Rattle.repo_model.specs.Repository.{suite_repository}
 use Rattle.repo_model.specs.declared.goals.Goal.{Goal}
-use Rattle.suite_compare.specs.Asking.{HasVerdict, images_of, verdict_in}
-use Rattle.suite_compare.specs.Answering.{verdict_told, IsAnswerOf}
+use Rattle.listed.specs.Lists.{Ascending, has}
+use Rattle.search_terms.specs.Tree.{found_of}
+use Rattle.suite_compare.specs.Asking.{HasVerdict, asked_tree, images_of, installation, verdict_in}
+use Rattle.suite_compare.specs.Answering.{verdict_told, IsAnswerOf, Serves}
 use Rattle.suite_compare.specs.declared.answers.Answer.{Answer}
 
 -- some healthy set of classes has a class of each goal
@@ -28,3 +30,9 @@ VerdictIsJudged = (limit : ℕ) (hold : Bool) (home : Home) (stanzas : List Pack
 abbrev pub AnswerIsVerdict : Type 0
 AnswerIsVerdict = (limit : ℕ) (hold : Bool) (home : Home) (stanzas : List PackageFacts) (goals : List Goal) (budget : ℕ) (answer : Answer) →
     IsAnswerOf limit hold home stanzas goals budget answer → verdict_told answer ≡ verdict_in limit hold home stanzas budget goals
+
+-- what is installed for classes that the tree of goals finds is in file order, healthy, judged on the stanzas, and has a package for
+-- each goal
+abbrev pub InstallationsServe : Type 0
+InstallationsServe = (limit : ℕ) (hold : Bool) (home : Home) (stanzas : List PackageFacts) (goals : List Goal) (chosen : List Bool) → found_of (asked_tree limit hold home stanzas goals) ≡ Some chosen →
+    Ascending (installation limit hold home stanzas goals chosen) × Serves home stanzas goals (has (installation limit hold home stanzas goals chosen))

@@ -1,5 +1,5 @@
 //! The laws of goals and verdicts: the functions do nothing, the contract of each is one law.
-ghost use Rattle.suite_compare.specs.Laws.{AnswerIsVerdict, KernelDecides, VerdictIsJudged};
+ghost use Rattle.suite_compare.specs.Laws.{AnswerIsVerdict, InstallationsServe, KernelDecides, VerdictIsJudged};
 
 /// Goals are co-installable, judged on the stanzas, exactly where some healthy set of classes has a class of each goal.
 pub fn kernel_decides()
@@ -14,4 +14,9 @@ pub fn verdict_is_judged()
 /// An answer on goals tells the verdict that the search tree gives.
 pub fn answer_is_verdict()
     ensures { AnswerIsVerdict }
+{}
+
+/// What is installed for classes that the search tree of goals finds is a healthy set of stanzas with a package for each goal.
+pub fn installations_serve()
+    ensures { InstallationsServe }
 {}

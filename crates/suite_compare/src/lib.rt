@@ -37,4 +37,4 @@ pub use report::{Finding, LineList, Report, ReportLine};
 pub use sides::OldSide;
 
 // Laws.
-pub use laws::{answer_is_verdict, kernel_decides, verdict_is_judged};
+pub use laws::{answer_is_verdict, installations_serve, kernel_decides, verdict_is_judged};

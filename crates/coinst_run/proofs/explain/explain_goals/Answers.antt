@@ -8,7 +8,7 @@ use Rattle.coinst_run.specs.Index.{index_of}
 use Rattle.coinst_run.specs.Query.{unknown_answer}
 use Rattle.coinst_run.proofs.Follows.{settles_at}
 use Rattle.explain_core.proofs.Tellable.{explanation_tellable}
-use Rattle.coinst_run.proofs.Queries.{unknown_counted}
+use Rattle.suite_compare.proofs.Unknown.{unknown_counted}
 use Rattle.coinst_run.proofs.explain.explain_goals.Goals as goal
 
 -- what is told are goals and packages

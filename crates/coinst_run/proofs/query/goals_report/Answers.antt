@@ -7,7 +7,7 @@ use Rattle.coinst_run.specs.Ending.{stop_ending}
 use Rattle.coinst_run.specs.Index.{index_of}
 use Rattle.coinst_run.specs.Query.{by_unknown, goals_answer, unknown_answer}
 use Rattle.coinst_run.proofs.Follows.{settles_at}
-use Rattle.coinst_run.proofs.Queries.{unknown_counted}
+use Rattle.suite_compare.proofs.Unknown.{unknown_counted}
 use Rattle.coinst_run.proofs.query.goals_report.Goals as goal
 
 -- what is installed are packages

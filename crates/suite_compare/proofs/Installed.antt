@@ -1,5 +1,5 @@
 -- What is installed for goals is healthy, and has a package for each of them.
-use Rattle.std.proofs.Common.{◌≡◌, ℕ, ◌<◌, Bool, true, false, List, length, filter, refl, sym, subst, arith, Some}
+use Rattle.std.proofs.Common.{◌≡◌, ℕ, Bool, true, false, List, length, filter, refl, sym, subst, arith, Some}
 use Rattle.std.proofs.Math.Path.{fun_ext}
 use Rattle.install_lift.specs.Lifting.{lift_of}
 use Rattle.install_lift.specs.Laws.{HoldsMembers}
@@ -15,7 +15,7 @@ use Rattle.repo_model.specs.Stanzas.{HealthyStanzas}
 use Rattle.repo_model.specs.declared.goals.Goal.{Goal}
 use Rattle.repo_model.proofs.Elements.{range_ascending, range_from}
 use Rattle.repo_model.proofs.Healthy.{healthy_same}
-use Rattle.listed.specs.Lists.{Ascending, In, has}
+use Rattle.listed.specs.Lists.{In, has}
 use Rattle.row_book.specs.Flags.{flag}
 use Rattle.row_book.specs.Repository.{Repository, Healthy}
 use Rattle.row_book.specs.Rounds.{kernel, kernel_steps}
@@ -28,6 +28,8 @@ use Rattle.search_terms.proofs.Found.{finds_healthy}
 use Rattle.suite_compare.specs.Asking.{asked_tree, image_of, images_of, installation, installed, wanted_by}
 use Rattle.suite_compare.proofs.Deciding.{asked_is, asked_range, named_parts, named_within, sound}
 use Rattle.suite_compare.proofs.SuiteKernels.{classes_parts}
+use Rattle.suite_compare.specs.Answering.{Serves}
+use Rattle.suite_compare.specs.Laws.{InstallationsServe}
 
 -- a set of numbers that are kept is that of the test
 pub kept : (n : ℕ) (I : NumSet) (xs : List ℕ) → ((m : ℕ) → Is I m → In m xs) → has (filter I xs) n ≡ I n
@@ -81,16 +83,10 @@ module _ (limit : ℕ) (hold : Bool) (home : Home) (stanzas : List PackageFacts)
   unfolding installation
   numbers_same = fun_ext (λ n. kept n I (packages_of stanzas) (λ m h. range_from (length stanzas) 0 m (omega arith) (let l = set_healthy.numbers m h in omega (arith, l))))
 
-  pub installs_ascending : Ascending (installation limit hold home stanzas goals chosen)
-  unfolding installation
-  installs_ascending = ascending_filter I (packages_of stanzas) (range_ascending (length stanzas) 0)
-
-  pub installs_healthy : HealthyStanzas home stanzas (has (installation limit hold home stanzas goals chosen))
-  installs_healthy = subst (HealthyStanzas home stanzas) (sym numbers_same) set_healthy
-
-  pub installs_for : (goal : Goal) → In goal goals → HasOneFor stanzas (has (installation limit hold home stanzas goals chosen)) goal
-  installs_for goal i = subst (λ J. HasOneFor stanzas J goal) (sym numbers_same) (set_serves goal i)
-
-  -- each number is of a package
-  pub installs_within : (n : ℕ) → In n (installation limit hold home stanzas goals chosen) → n < length stanzas
-  installs_within n i = installs_healthy.numbers n (In_has i)
+pub installations_serve : InstallationsServe
+unfolding installation
+installations_serve limit hold home stanzas goals chosen found = (
+  ascending_filter (I limit hold home stanzas goals chosen found) (packages_of stanzas) (range_ascending (length stanzas) 0),
+  subst (Serves home stanzas goals) (sym (numbers_same limit hold home stanzas goals chosen found))
+      record { healthy = set_healthy limit hold home stanzas goals chosen found; each = set_serves limit hold home stanzas goals chosen found },
+)

@@ -1,4 +1,3 @@
--- for bodies alone, those of other crates too
 -- Goals picked by marks.
 use Rattle.std.specs.Prelude.{ℕ, ◌-◌, ◌<◌, ◌≤◌, List, map}
 use Rattle.row_book.specs.Book.{listed_for}

@@ -19,8 +19,8 @@ use Rattle.coinst_run.specs.Answer.{reported}
 use Rattle.coinst_run.specs.IndexKernel.{classed_kernel, index_kernel, json_for, members_for, text_for}
 use Rattle.coinst_run.specs.Kernel.{kernel_answer}
 use Rattle.coinst_run.specs.KernelMeaning.{KernelMeans}
-use Rattle.coinst_run.specs.Meaning.{JsonMeans, MeansJob}
-use Rattle.coinst_run.specs.Outcome.{answered, course_of, outcome_over}
+use Rattle.coinst_run.specs.Meaning.{JsonMeans, MeansJob, course_of}
+use Rattle.coinst_run.specs.Outcome.{answered, outcome_over}
 use Rattle.coinst_run.proofs.CompareMeant.{compare_is_meant}
 use Rattle.coinst_run.proofs.ExplainMeant.{explain_is_meant}
 use Rattle.coinst_run.proofs.MigrateMeant.{migrate_is_meant}

@@ -16,8 +16,8 @@ use Rattle.coinst_run.specs.Answer.{reported, refused}
 use Rattle.coinst_run.specs.Delivers.{Delivers, IsRefused, Tells, a_cut_report, a_refusal, a_report}
 use Rattle.coinst_run.specs.Ending.{stop_ending, word_stop}
 use Rattle.coinst_run.specs.Follows.{FollowsJob, of_a_job, of_no_job, without_memory, without_memory_for_words}
-use Rattle.coinst_run.specs.Meaning.{IsMeant, MeansJob}
-use Rattle.coinst_run.specs.Outcome.{Outcome, answered, unread, not_a_command, course_of, of_job, outcome_of, report_of, status_of}
+use Rattle.coinst_run.specs.Meaning.{IsMeant, MeansJob, course_of, of_job, outcome_of}
+use Rattle.coinst_run.specs.Outcome.{Outcome, answered, unread, not_a_command, report_of, status_of}
 use Rattle.claims.specs.Sentences.{CompareIsTrue, KernelIsTrue}
 use Rattle.coinst_run.proofs.Sentences.{compare_is_true, kernel_is_true, took_so}
 use Rattle.coinst_run.specs.Run.{Answers, Completes, Took}

@@ -8,7 +8,8 @@ use Rattle.coinst_run.specs.Course.{Course, answers, reads}
 use Rattle.coinst_run.specs.Index.{Index, reads_index}
 use Rattle.coinst_run.specs.IndexKernel.{ClassedKernel, index_kernel}
 use Rattle.coinst_run.specs.Kernel.{reads_kernel}
-use Rattle.coinst_run.specs.Outcome.{Outcome, answered, unread, not_a_command, course_of, file_limit, too_long}
+use Rattle.coinst_run.specs.Meaning.{course_of}
+use Rattle.coinst_run.specs.Outcome.{Outcome, answered, unread, not_a_command, file_limit, too_long}
 
 -- The file at the path was read whole, by the calls of one reading and no others, and this is its text.
 pub record WasRead {S : Type 0} (contents : S → Option Files) (faults moved : S → ℕ) (is_quiet : S → Type 0)

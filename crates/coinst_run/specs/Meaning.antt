@@ -1,5 +1,5 @@
--- What a printed report means for the files that it came from.
-use Rattle.std.specs.Prelude.{◌≡◌, ℕ, Bool, true, false, List, Some, None}
+-- Each command by its job: its course, what the program answers, and what its printed report means for the files that it came from.
+use Rattle.std.specs.Prelude.{◌≡◌, ℕ, Bool, true, false, List, Option, Some, None}
 use Rattle.suite_compare.specs.Refusals.{home_in, packages_in}
 use Rattle.coinst_run.specs.IndexKernel.{index_kernel}
 use Rattle.coinst_run.specs.Sample.{sample_limit, size_report}
@@ -19,6 +19,35 @@ use Rattle.coinst_run.specs.StoredMeaning.{StoredMeans}
 use Rattle.coinst_run.specs.SystemMeaning.{SystemMeans}
 use Rattle.coinst_run.specs.CompareMeaning.{CompareMeans}
 use Rattle.coinst_run.specs.KernelMeaning.{KernelMeans}
+use Rattle.coinst_run.specs.Compare.{compare_course}
+use Rattle.coinst_run.specs.Explain.{explain_course}
+use Rattle.coinst_run.specs.Kernel.{kernel_course}
+use Rattle.coinst_run.specs.Query.{query_course}
+use Rattle.coinst_run.specs.Migrate.{migrate_course}
+use Rattle.coinst_run.specs.Sample.{sample_course}
+use Rattle.coinst_run.specs.StoredQuery.{stored_query_course}
+use Rattle.coinst_run.specs.SystemStatus.{status_course}
+use Rattle.coinst_run.specs.Course.{Course}
+use Rattle.coinst_run.specs.Outcome.{Outcome, not_a_command, outcome_over}
+
+-- the course of each command
+abbrev pub course_of : Job → Course
+course_of (Kernel index json limit hold) = kernel_course index json limit hold
+course_of (Query index goals budget limit hold) = query_course index goals budget limit hold
+course_of (StoredQuery kernel goals budget) = stored_query_course kernel goals budget
+course_of (Compare old new budget limit hold) = compare_course old new budget limit hold
+course_of (Explain index goals budget limit hold) = explain_course index goals budget limit hold
+course_of (Status file index budget limit hold) = status_course file index budget limit hold
+course_of (Migrate old new budget limit hold) = migrate_course old new budget limit hold
+course_of (Sample seed count) = sample_course seed count
+
+abbrev pub of_job : Option Job → Files → Outcome
+of_job None files = not_a_command
+of_job (Some job) files = outcome_over files (course_of job)
+
+-- the outcome of the words over the files
+unfoldable pub outcome_of : List (List ℕ) → Files → Outcome
+outcome_of words files = of_job (job_of words) files
 
 -- A kernel text has this meaning for the index, and the printed bytes are the JSON of the format, the repository, the members and
 -- the held classes that it reads for.

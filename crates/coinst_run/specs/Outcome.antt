@@ -1,4 +1,4 @@
--- What the program answers where memory is found and no read or write fails, as a function of its words and of the files:
+-- What the program answers where memory is found and no read or write fails: where a course leads over the files, and then
 -- the status, the report on standard output and the line on standard error.
 use Rattle.std.specs.Prelude.{ℕ, nat_lt, cond, List, [], length, Option, Some, None}
 use Rattle.repo_model.specs.Limits.{most_bytes}
@@ -6,21 +6,10 @@ use Rattle.byte_flow.specs.Flow.{Files}
 use Rattle.coinst_run.specs.declared.answer.Cause.TheVariants.{TooLarge as TooLargeFile}
 use Rattle.coinst_run.specs.declared.status.Status.{Status}
 use Rattle.coinst_run.specs.declared.status.Status.TheVariants.{Words, ReadFault}
-use Rattle.coinst_words.specs.declared.job.Job.{Job}
-use Rattle.coinst_words.specs.declared.job.Job.TheVariants.{Kernel, Query, StoredQuery, Compare, Explain, Status as StatusJob, Migrate, Sample}
 use Rattle.coinst_run.specs.Answer.{Answer, reported, refused}
 use Rattle.coinst_run.specs.Course.{Course, answers, reads}
-use Rattle.coinst_run.specs.Compare.{compare_course}
-use Rattle.coinst_run.specs.Explain.{explain_course}
-use Rattle.coinst_run.specs.Kernel.{kernel_course}
-use Rattle.coinst_run.specs.Query.{query_course}
-use Rattle.coinst_run.specs.Migrate.{migrate_course}
 use Rattle.coinst_run.specs.Lines.{too_long_line, unread_line, words_line}
-use Rattle.coinst_run.specs.Sample.{sample_course}
 use Rattle.coinst_run.specs.Status.{cause_status, verdict_status}
-use Rattle.coinst_run.specs.StoredQuery.{stored_query_course}
-use Rattle.coinst_run.specs.SystemStatus.{status_course}
-use Rattle.coinst_words.specs.Jobs.{job_of}
 
 -- a command answered, or the file at a path could not be read, or the words are no command
 pub data Outcome : Type 0 where
@@ -45,25 +34,6 @@ over_file path (Some text) next = cond (nat_lt file_limit (length text)) (answer
 abbrev pub outcome_over : Files → Course → Outcome
 outcome_over files (answers answer) = answered answer
 outcome_over files (reads path next) = over_file path (files path) (λ text. outcome_over files (next text))
-
--- the course of each command
-abbrev pub course_of : Job → Course
-course_of (Kernel index json limit hold) = kernel_course index json limit hold
-course_of (Query index goals budget limit hold) = query_course index goals budget limit hold
-course_of (StoredQuery kernel goals budget) = stored_query_course kernel goals budget
-course_of (Compare old new budget limit hold) = compare_course old new budget limit hold
-course_of (Explain index goals budget limit hold) = explain_course index goals budget limit hold
-course_of (StatusJob file index budget limit hold) = status_course file index budget limit hold
-course_of (Migrate old new budget limit hold) = migrate_course old new budget limit hold
-course_of (Sample seed count) = sample_course seed count
-
-abbrev pub of_job : Option Job → Files → Outcome
-of_job None files = not_a_command
-of_job (Some job) files = outcome_over files (course_of job)
-
--- the outcome of the words over the files
-unfoldable pub outcome_of : List (List ℕ) → Files → Outcome
-outcome_of words files = of_job (job_of words) files
 
 -- the status, the report and the line of an outcome; no line with a report, and no report with a line
 abbrev pub status_of : Outcome → Status

@@ -1,5 +1,6 @@
 -- From what `clap` promises of a parse to what the words say.
-use Rattle.std.proofs.Common.{◌≡◌, inl, inr, ◌∙◌, true, refl, sym, ap, subst, List, [], Option, Some, None}
+use Rattle.std.proofs.Common.{◌≡◌, inl, inr, ◌∙◌, Bool, true, not, ◌&&◌, codes, refl, sym, ap, subst, List, [], ◌∷◌, Option, Some, None}
+use Rattle.std.proofs.lemmas.Bool.{and_parts, not-true}
 use Rattle.clap.specs.Kinds.{HasKind, Kinds}
 use Rattle.clap.specs.Faults.{fault_of, is_simple_and_free}
 use Rattle.clap.specs.Simple.{App, HasMatchesOf, is_simple, subcommand_of, subcommand_rows_of}
@@ -11,34 +12,26 @@ use Rattle.coinst_words.specs.declared.error.WordError.{WordError}
 use Rattle.coinst_words.specs.declared.error.WordError.TheVariants as words
 use Rattle.coinst_words.specs.Refusals.{OnNotACommand}
 use Rattle.coinst_words.specs.Parsed.{Enters}
-use Rattle.coinst_words.specs.Usage.{Said, Text, Usage, compare_usage, explain_usage, kernel_usage, migrate_usage, query_usage, said_of, sample_usage, status_usage, usages}
+use Rattle.coinst_words.specs.Usage.{Said, Text, Usage, is_among, said_of, usages}
 use Rattle.coinst_words.specs.Program.{app_of_usages}
-use Rattle.coinst_words.proofs.Reading.{AllSpell, IsGood}
+use Rattle.coinst_words.proofs.Reading.{AllSpell}
 use Rattle.coinst_words.proofs.Apps.{AllGood, TopAgrees, top_agrees}
 
-kernel_good : IsGood kernel_usage
-kernel_good = record { flags = refl; valued = refl }
+-- no option of a command is named as its other words are
+abbrev are_good : List Usage → Bool
+are_good [] = true
+are_good (u ∷ us) = (not (is_among u.flags (codes "words")) && not (is_among u.valued (codes "words"))) && are_good us
 
-query_good : IsGood query_usage
-query_good = record { flags = refl; valued = refl }
-
-compare_good : IsGood compare_usage
-compare_good = record { flags = refl; valued = refl }
-
-explain_good : IsGood explain_usage
-explain_good = record { flags = refl; valued = refl }
-
-status_good : IsGood status_usage
-status_good = record { flags = refl; valued = refl }
-
-migrate_good : IsGood migrate_usage
-migrate_good = record { flags = refl; valued = refl }
-
-sample_good : IsGood sample_usage
-sample_good = record { flags = refl; valued = refl }
+good_from : (us : List Usage) → are_good us ≡ true → AllGood us
+good_from [] e = tt
+good_from (u ∷ us) e =
+    let flags : Bool = is_among u.flags (codes "words") in
+    let valued : Bool = is_among u.valued (codes "words") in
+    let w = and_parts (not flags && not valued) (are_good us) e in
+    let v = and_parts (not flags) (not valued) w.0 in (record { flags = not-true flags v.0; valued = not-true valued v.1 }, good_from us w.1)
 
 good_usages : AllGood usages
-good_usages = (kernel_good, (query_good, (compare_good, (explain_good, (status_good, (migrate_good, (sample_good, tt)))))))
+good_usages = good_from usages refl
 
 simple_usages : is_simple (app_of_usages usages) ≡ true
 simple_usages = refl

@@ -1,6 +1,8 @@
 //! The job of each command, by its flags, by the values of its options and by its ordinary words.
 ghost use Rattle.std.specs.Prelude.{◌≡◌, false, true, IfOk, IfErr, None, Some, map, option_map};
-ghost use Rattle.coinst_words.specs.Jobs.{compare_job, explain_job, index_and_goals, index_query, is_on, is_path, kernel_job, migrate_job, query_job, sample_job, status_job, stored_query, two_paths, IsInLimits};
+ghost use Rattle.clap.specs.Words.{found_of, first_value};
+ghost use Rattle.coinst_words.specs.Jobs.{compare_job, explain_job, index_and_goals, index_query, is_on, is_path, job_named, kernel_job, migrate_job, query_job, sample_job, status_job, stored_query, two_paths, IsInLimits};
+ghost use Rattle.coinst_words.specs.Parsed.{words_in};
 ghost use Rattle.coinst_words.specs.Refusals.{OnNotACommand};
 
 use crate::error::WordError;
@@ -8,11 +10,12 @@ use crate::goals::goals_in;
 use crate::job::Job;
 use crate::numbers::{budget_of, clause_limit_of, count_of, seed_of};
 use crate::path::PathText;
+use clap::ArgMatches;
 use repo_model::GoalList;
 use std::alloc::Global;
 
-/// Whether a flag was given, by the value that stands for it.
-pub(crate) fn is_on(value: Option<&str>) -> bool
+// Whether a flag was given, by the value that stands for it.
+fn is_on(value: Option<&str>) -> bool
     ensures { result ≡ is_on (option_map (λ s. s.now) value.entry) }
 {
     match value {
@@ -61,8 +64,8 @@ fn index_and_goals(alloc: Global, words: &[&str]) -> Result<(PathText, GoalList)
     Ok((path_in(alloc, index)?, goals_in(alloc, goals)?))
 }
 
-/// The job of `kernel`.
-pub(crate) fn kernel_job(
+// The job of `kernel`.
+fn kernel_job(
     alloc: Global,
     json: bool,
     limit: Option<&str>,
@@ -86,8 +89,8 @@ pub(crate) fn kernel_job(
     })
 }
 
-/// The job of `compare`.
-pub(crate) fn compare_job(
+// The job of `compare`.
+fn compare_job(
     alloc: Global,
     budget: Option<&str>,
     limit: Option<&str>,
@@ -110,8 +113,8 @@ pub(crate) fn compare_job(
     })
 }
 
-/// The job of `explain`.
-pub(crate) fn explain_job(
+// The job of `explain`.
+fn explain_job(
     alloc: Global,
     budget: Option<&str>,
     limit: Option<&str>,
@@ -134,8 +137,8 @@ pub(crate) fn explain_job(
     })
 }
 
-/// The job of `status`.
-pub(crate) fn status_job(
+// The job of `status`.
+fn status_job(
     alloc: Global,
     budget: Option<&str>,
     limit: Option<&str>,
@@ -158,8 +161,8 @@ pub(crate) fn status_job(
     })
 }
 
-/// The job of `migrate`.
-pub(crate) fn migrate_job(
+// The job of `migrate`.
+fn migrate_job(
     alloc: Global,
     budget: Option<&str>,
     limit: Option<&str>,
@@ -182,8 +185,8 @@ pub(crate) fn migrate_job(
     })
 }
 
-/// The job of `sample`.
-pub(crate) fn sample_job(words: &[&str]) -> Result<Job, WordError>
+// The job of `sample`.
+fn sample_job(words: &[&str]) -> Result<Job, WordError>
     ensures job { IfOk result (λ job. sample_job (map (λ s. s.now) words.now) ≡ Some job) }
     ensures refusal { IfErr result (OnNotACommand (sample_job (map (λ s. s.now) words.now) ≡ None)) }
     ensures limited { IfOk result IsInLimits }
@@ -196,8 +199,8 @@ pub(crate) fn sample_job(words: &[&str]) -> Result<Job, WordError>
     Ok(Job::Sample { seed, count })
 }
 
-/// The job of `query`: on a stored kernel where one is named, else on the index that the first word names.
-pub(crate) fn query_job(
+// The job of `query`: on a stored kernel where one is named, else on the index that the first word names.
+fn query_job(
     alloc: Global,
     kernel: Option<&str>,
     budget: Option<&str>,
@@ -263,4 +266,63 @@ fn stored_query(
         goals,
         budget,
     })
+}
+
+/// The job of the command of this name, by what was found after it: options with their values, and ordinary words.
+pub(crate) fn job_named<'a>(alloc: Global, name: &str, given: &ArgMatches<'a>) -> Result<Job, WordError>
+    ensures job { IfOk result (λ job. job_named name.now (first_value (found_of given.now)) (words_in (found_of given.now)) ≡ Some job) }
+    ensures refusal { IfErr result (OnNotACommand (job_named name.now (first_value (found_of given.now)) (words_in (found_of given.now)) ≡ None)) }
+    ensures limited { IfOk result IsInLimits }
+{
+    // Each command takes ordinary words, so without any there is no job.
+    let Some(words) = given.get_raw("words") else {
+        return Err(WordError::NotACommand);
+    };
+    match name {
+        "kernel" => kernel_job(
+            alloc,
+            is_on(given.get_str("json")),
+            given.get_str("clause-limit"),
+            is_on(given.get_str("hold")),
+            words,
+        ),
+        "query" => query_job(
+            alloc,
+            given.get_str("kernel"),
+            given.get_str("budget"),
+            given.get_str("clause-limit"),
+            is_on(given.get_str("hold")),
+            words,
+        ),
+        "compare" => compare_job(
+            alloc,
+            given.get_str("budget"),
+            given.get_str("clause-limit"),
+            is_on(given.get_str("hold")),
+            words,
+        ),
+        "explain" => explain_job(
+            alloc,
+            given.get_str("budget"),
+            given.get_str("clause-limit"),
+            is_on(given.get_str("hold")),
+            words,
+        ),
+        "status" => status_job(
+            alloc,
+            given.get_str("budget"),
+            given.get_str("clause-limit"),
+            is_on(given.get_str("hold")),
+            words,
+        ),
+        "migrate" => migrate_job(
+            alloc,
+            given.get_str("budget"),
+            given.get_str("clause-limit"),
+            is_on(given.get_str("hold")),
+            words,
+        ),
+        "sample" => sample_job(words),
+        _ => Err(WordError::NotACommand),
+    }
 }

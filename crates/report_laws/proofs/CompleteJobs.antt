@@ -34,7 +34,8 @@ use Rattle.coinst_run.specs.Index.{Index, by_fault, index_in}
 use Rattle.coinst_run.specs.Kernel.{kernel_answer}
 use Rattle.coinst_run.specs.Migrate.{by_refusal, new_answer, new_course, old_answer, plan_answer, refusal_of}
 use Rattle.coinst_run.specs.MigrateText.{plan_text, plan_verdict}
-use Rattle.coinst_run.specs.Outcome.{answered, course_of, of_job, outcome_of, outcome_over}
+use Rattle.coinst_run.specs.Meaning.{course_of, of_job, outcome_of}
+use Rattle.coinst_run.specs.Outcome.{answered, outcome_over}
 use Rattle.coinst_run.specs.Query.{by_found, by_tree, by_unknown, goals_answer, installed_text, query_answer, unknown_answer}
 use Rattle.coinst_run.specs.QueryText.{undecided_text}
 use Rattle.coinst_run.specs.Sample.{sample_answer, sample_limit, sample_path, size_report}

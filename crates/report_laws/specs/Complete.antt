@@ -14,7 +14,8 @@ use Rattle.suite_compare.specs.Refusals.{home_in, packages_in}
 use Rattle.coinst_words.specs.Jobs.{IsInLimits, job_of}
 use Rattle.coinst_run.specs.declared.answer.ReportVerdict.{ReportVerdict}
 use Rattle.coinst_run.specs.Answer.{reported}
-use Rattle.coinst_run.specs.Outcome.{Outcome, answered, outcome_of}
+use Rattle.coinst_run.specs.Meaning.{outcome_of}
+use Rattle.coinst_run.specs.Outcome.{Outcome, answered}
 use Rattle.coinst_run.specs.Sample.{sample_limit}
 use Rattle.coinst_run.specs.Present.{HasFile, HasIndex, HasKernel, IsWithin}
 

@@ -3,7 +3,7 @@ use Rattle.std.proofs.lemmas.Result.{IfOk-weaker}
 use Rattle.clap.specs.Matches.{found_of}
 use Rattle.coinst_words.specs.Jobs.{migrate_job, status_job}
 use Rattle.coinst_words.proofs.Entered.{job_by_name, search_given}
-use Rattle.coinst_words.proofs.read.job_named.Goals as goal
+use Rattle.coinst_words.proofs.jobs.job_named.Goals as goal
 
 pub returns-in-status-clause-job : goal.returns-in-status-clause-job
 returns-in-status-clause-job c =

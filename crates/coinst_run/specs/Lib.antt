@@ -31,7 +31,6 @@ pub mod QueryMeaning
 pub mod QueryText
 pub mod Run
 pub mod Sample
-pub mod Settings
 pub mod Status
 pub mod StoredMeaning
 pub mod StoredQuery

@@ -1,7 +1,7 @@
 //! The command that lists what a newer index has broken of an older one.
 ghost use Rattle.std.specs.Prelude.{◌≡◌};
 ghost use Rattle.clause_solver.specs.Outcomes.{IsBudget};
-ghost use Rattle.coinst_run.specs.Settings.{AreInLimits};
+ghost use Rattle.coinst_words.specs.Jobs.{AreInLimits};
 ghost use Rattle.coinst_run.specs.Compare.{broken_lines, compare_course, lines_answer};
 ghost use Rattle.coinst_run.specs.Course.{answers};
 ghost use Rattle.coinst_run.specs.Ending.{Settles, ending_of};
@@ -10,9 +10,9 @@ ghost use Rattle.coinst_run.specs.Index.{index_of};
 
 use crate::answer::{Report, Stop};
 use crate::compare_text::{comparison_text, comparison_verdict};
-use crate::settings::Settings;
 use crate::views::view_at;
 use byte_flow::Shelf;
+use coinst_words::Settings;
 use std::alloc::Global;
 use suite_compare::SuiteView;
 

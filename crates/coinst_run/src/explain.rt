@@ -1,7 +1,7 @@
 //! The command that tells why one package for each goal cannot be installed together.
 ghost use Rattle.std.specs.Prelude.{length};
 ghost use Rattle.clause_solver.specs.Outcomes.{IsBudget};
-ghost use Rattle.coinst_run.specs.Settings.{AreInLimits};
+ghost use Rattle.coinst_words.specs.Jobs.{AreInLimits};
 ghost use Rattle.coinst_run.specs.Course.{answers};
 ghost use Rattle.coinst_run.specs.Ending.{Settles, ending_of};
 ghost use Rattle.explain_core.specs.OnStanzas.{IsTellable};
@@ -13,9 +13,9 @@ use crate::answer::{Report, ReportVerdict, Stop};
 use crate::explain_text::core_text;
 use crate::query::unknown_goal;
 use crate::query_text::undecided_text;
-use crate::settings::Settings;
 use crate::views::view_at;
 use byte_flow::Shelf;
+use coinst_words::Settings;
 use explain_core::{ExplainError, Explanation};
 use relation_fields::PackageFacts;
 use repo_model::Goal;

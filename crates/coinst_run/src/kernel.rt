@@ -1,6 +1,6 @@
 //! The command that prints the kernel of an index.
 ghost use Rattle.std.specs.Prelude.{◌≡◌, IfOk};
-ghost use Rattle.coinst_run.specs.Settings.{AreInLimits};
+ghost use Rattle.coinst_words.specs.Jobs.{AreInLimits};
 ghost use Rattle.kernel_text.specs.JsonData.{AreNamedPackages};
 ghost use Rattle.coinst_run.specs.Ending.{Settles, ending_of};
 ghost use Rattle.coinst_run.specs.Follows.{Follows};
@@ -10,9 +10,9 @@ ghost use Rattle.coinst_run.specs.Kernel.{kernel_answer, kernel_course, printed_
 
 use crate::answer::{Report, ReportVerdict, Stop};
 use crate::lines::Made;
-use crate::settings::Settings;
 use crate::views::view_at;
 use byte_flow::Shelf;
+use coinst_words::Settings;
 use kernel_text::{kernel_json, write_kernel};
 use std::alloc::Global;
 use suite_compare::SuiteView;

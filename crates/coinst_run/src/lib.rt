@@ -14,7 +14,6 @@ mod migrate_text;
 mod query;
 mod query_text;
 mod sample;
-mod settings;
 mod stages;
 mod status;
 mod stored_query;

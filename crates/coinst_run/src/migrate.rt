@@ -1,7 +1,7 @@
 //! The command that takes names over from a newer index into an older one, without breaking any.
 ghost use Rattle.std.specs.Prelude.{◌≡◌, ◌<◌, ◌≤◌, List, Ok, Option, IfErr, IfOk, OnOk, length};
 ghost use Rattle.clause_solver.specs.Outcomes.{IsBudget};
-ghost use Rattle.coinst_run.specs.Settings.{AreInLimits};
+ghost use Rattle.coinst_words.specs.Jobs.{AreInLimits};
 ghost use Rattle.migrate_plan.specs.Plan.{settings_of};
 ghost use Rattle.migrate_plan.specs.Refusals.{Refuses};
 ghost use Rattle.migrate_plan.specs.declared.plan.PlanLine.{PlanLine};
@@ -17,10 +17,10 @@ ghost use Rattle.repo_model.specs.Limits.{most_bytes};
 use crate::answer::{Cause, Report, Stop};
 use crate::lines::{Made, line_about, too_long_line};
 use crate::migrate_text::{plan_text, plan_verdict};
-use crate::settings::Settings;
 use crate::stages::{checked_index, text_at};
 use crate::views::view_of;
 use byte_flow::Shelf;
+use coinst_words::Settings;
 use migrate_plan::{PlanError, make_plan};
 use repo_model::Suite;
 use std::alloc::Global;

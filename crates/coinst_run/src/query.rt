@@ -1,7 +1,7 @@
 //! The command that asks whether one package for each goal can be installed together.
 ghost use Rattle.std.specs.Prelude.{◌≡◌, ◌<◌, ◌≤◌, IfSome, length};
 ghost use Rattle.clause_solver.specs.Outcomes.{IsBudget};
-ghost use Rattle.coinst_run.specs.Settings.{AreInLimits};
+ghost use Rattle.coinst_words.specs.Jobs.{AreInLimits};
 ghost use Rattle.coinst_run.specs.Course.{answers};
 ghost use Rattle.coinst_run.specs.Ending.{Settles, ending_of, stop_ending};
 ghost use Rattle.coinst_run.specs.Follows.{Follows};
@@ -11,9 +11,9 @@ ghost use Rattle.coinst_run.specs.Query.{goal_of_number, goals_answer, query_cou
 
 use crate::answer::{Cause, Report, ReportVerdict, Stop};
 use crate::query_text::{no_text, undecided_text, unknown_line, yes_text};
-use crate::settings::Settings;
 use crate::views::view_at;
 use byte_flow::Shelf;
+use coinst_words::Settings;
 use repo_model::Goal;
 use std::alloc::Global;
 use suite_compare::{Answer, DecideError, SuiteView, decide};

@@ -1,7 +1,7 @@
 //! The command that holds an installed system against an index.
 ghost use Rattle.std.specs.Prelude.{◌≤◌, length};
 ghost use Rattle.clause_solver.specs.Outcomes.{IsBudget};
-ghost use Rattle.coinst_run.specs.Settings.{AreInLimits};
+ghost use Rattle.coinst_words.specs.Jobs.{AreInLimits};
 ghost use Rattle.coinst_run.specs.Ending.{Settles, ending_of};
 ghost use Rattle.coinst_run.specs.Follows.{Follows};
 ghost use Rattle.coinst_run.specs.Index.{index_of};
@@ -9,11 +9,11 @@ ghost use Rattle.coinst_run.specs.SystemStatus.{status_course, system_answer};
 ghost use Rattle.repo_model.specs.Limits.{most_bytes};
 
 use crate::answer::{Report, Stop};
-use crate::settings::Settings;
 use crate::stages::{faulty, text_at};
 use crate::system_text::{system_text, system_verdict};
 use crate::views::view_at;
 use byte_flow::Shelf;
+use coinst_words::Settings;
 use status_check::status_report;
 use std::alloc::Global;
 use suite_compare::SuiteView;

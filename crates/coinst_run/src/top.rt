@@ -20,7 +20,6 @@ use crate::kernel::kernel;
 use crate::migrate::migrate;
 use crate::query::query;
 use crate::sample::sample;
-use crate::settings::settings_of;
 use crate::status::Status;
 use crate::stored_query::stored_query;
 use crate::system_status::system_status;
@@ -33,7 +32,7 @@ fn answer_job<F: Shelf>(alloc: Global, shelf: &mut F, job: &Job) -> Result<Repor
     requires { IsInLimits job.now }
     ensures { Follows F.contents F.faults F.moved F.is_quiet F.start_gives F.read_gives (course_of job.now) shelf.old (ending_of result) shelf.new }
 {
-    let with = settings_of(job);
+    let with = job.settings();
     match job {
         Job::Kernel { index, json, .. } => kernel(alloc, shelf, index.as_str(), *json, with),
         Job::Query { index, goals, .. } => {

@@ -5,6 +5,7 @@ use Rattle.std.specs.List.{list_all}
 use Rattle.std.specs.Str.{bytes_eq}
 use Rattle.std.specs.Str.Parse.{digits_value}
 use Rattle.coinst_words.specs.declared.job.Job.{Job}
+use Rattle.coinst_words.specs.declared.job.Settings.{Settings}
 use Rattle.coinst_words.specs.declared.job.Job.TheVariants.{Kernel, Query, StoredQuery, Compare, Explain, Status, Migrate, Sample}
 use Rattle.coinst_words.specs.Usage.{Said, Text, Usage, said_of, usages, value_of}
 use Rattle.repo_model.specs.declared.goals.Goal.{Goal}
@@ -146,3 +147,18 @@ IsInLimits (Explain index goals budget limit hold) = IsBudget budget × IsClause
 IsInLimits (Status file index budget limit hold) = IsBudget budget × IsClauseLimit limit
 IsInLimits (Migrate old new budget limit hold) = IsBudget budget × IsClauseLimit limit
 IsInLimits (Sample seed count) = IsBetween 1 most_packages count
+
+-- what a job keeps to: its budget, its clause limit, and whether packages are held; each the default where the job has none
+abbrev pub settings_of : Job → Settings
+settings_of (Kernel index json limit hold) = record { budget = 10000; clause_limit = limit; hold = hold }
+settings_of (Query index goals budget limit hold) = record { budget = budget; clause_limit = limit; hold = hold }
+settings_of (StoredQuery kernel goals budget) = record { budget = budget; clause_limit = 65536; hold = false }
+settings_of (Compare old new budget limit hold) = record { budget = budget; clause_limit = limit; hold = hold }
+settings_of (Explain index goals budget limit hold) = record { budget = budget; clause_limit = limit; hold = hold }
+settings_of (Status file index budget limit hold) = record { budget = budget; clause_limit = limit; hold = hold }
+settings_of (Migrate old new budget limit hold) = record { budget = budget; clause_limit = limit; hold = hold }
+settings_of (Sample seed count) = record { budget = 10000; clause_limit = 65536; hold = false }
+
+-- they keep the limits of a job
+abbrev pub AreInLimits : Settings → Type 0
+AreInLimits settings = IsBudget settings.budget × IsClauseLimit settings.clause_limit

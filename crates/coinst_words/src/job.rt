@@ -98,3 +98,83 @@ pub enum Job {
         count: u32,
     },
 }
+
+/// What a job keeps to.
+#[derive(Clone, Copy, Debug, PartialEq, Eq)]
+pub struct Settings {
+    /// The most failed leaves of each search, from 1 to 1,000,000.
+    pub budget: u64,
+    /// The most clauses that a row may have, from 1 to 1,000,000.
+    pub clause_limit: u32,
+    /// Whether a package stays in the kernel where its elimination would make a row pass the clause limit.
+    pub hold: bool,
+}
+
+// What a job keeps to that names none of these.
+const DEFAULTS: Settings = Settings {
+    budget: 10_000,
+    clause_limit: 65_536,
+    hold: false,
+};
+
+impl Job {
+    ghost use Rattle.std.specs.Prelude.{◌≡◌};
+    ghost use Rattle.coinst_words.specs.Jobs.{AreInLimits, IsInLimits, settings_of};
+
+    /// How far the job may go, each number and the flag the default where the job has none of its own.
+    pub fn settings(&self) -> Settings
+        ensures is { result ≡ settings_of self.now }
+        ensures within { IsInLimits self.now → AreInLimits result }
+    {
+        match self {
+            Job::Kernel {
+                clause_limit,
+                hold,
+                ..
+            } => Settings {
+                clause_limit: *clause_limit,
+                hold: *hold,
+                ..DEFAULTS
+            },
+            Job::StoredQuery { budget, .. } => Settings {
+                budget: *budget,
+                ..DEFAULTS
+            },
+            Job::Sample { .. } => DEFAULTS,
+            Job::Query {
+                budget,
+                clause_limit,
+                hold,
+                ..
+            }
+            | Job::Compare {
+                budget,
+                clause_limit,
+                hold,
+                ..
+            }
+            | Job::Explain {
+                budget,
+                clause_limit,
+                hold,
+                ..
+            }
+            | Job::Status {
+                budget,
+                clause_limit,
+                hold,
+                ..
+            }
+            | Job::Migrate {
+                budget,
+                clause_limit,
+                hold,
+                ..
+            } => Settings {
+                budget: *budget,
+                clause_limit: *clause_limit,
+                hold: *hold,
+            },
+        }
+    }
+}

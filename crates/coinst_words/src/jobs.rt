@@ -269,7 +269,11 @@ fn stored_query(
 }
 
 /// The job of the command of this name, by what was found after it: options with their values, and ordinary words.
-pub(crate) fn job_named<'a>(alloc: Global, name: &str, given: &ArgMatches<'a>) -> Result<Job, WordError>
+pub(crate) fn job_named<'a>(
+    alloc: Global,
+    name: &str,
+    given: &ArgMatches<'a>,
+) -> Result<Job, WordError>
     ensures job { IfOk result (λ job. job_named name.now (first_value (found_of given.now)) (words_in (found_of given.now)) ≡ Some job) }
     ensures refusal { IfErr result (OnNotACommand (job_named name.now (first_value (found_of given.now)) (words_in (found_of given.now)) ≡ None)) }
     ensures limited { IfOk result IsInLimits }

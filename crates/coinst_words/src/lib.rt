@@ -12,6 +12,6 @@ mod read;
 
 // Words are read as a job, or refused.
 pub use error::WordError;
-pub use job::Job;
+pub use job::{Job, Settings};
 pub use path::PathText;
 pub use read::read_words;

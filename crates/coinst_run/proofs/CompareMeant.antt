@@ -1,5 +1,5 @@
 -- What the report of a comparison means.
-use Rattle.std.proofs.Common.{◌≡◌, ℕ, Bool, true, false, List, [], ◌∷◌, refl, sym, ◌∙◌, ap, subst}
+use Rattle.std.proofs.Common.{◌≡◌, Bool, true, false, List, [], ◌∷◌, refl, subst}
 use Rattle.std.specs.Prelude.{if◌then◌else◌, filter, length}
 use Rattle.std.specs.List.{list_any}
 use Rattle.suite_compare.specs.Asking.{verdict_in}
@@ -11,27 +11,16 @@ use Rattle.headline.specs.Listing.{HasNoOpenLine, ListsExactly, is_broken}
 use Rattle.headline.proofs.Exact.{report_lists_exactly}
 use Rattle.headline.proofs.Lost.{empty_list_loses_nothing, without_open_lines}
 use Rattle.coinst_run.proofs.Prints.{exact_lists_print_exactly, lines_are_cut}
-use Rattle.coinst_run.specs.ComparePrints.{PrintsExactly}
-use Rattle.kernel_text.specs.KernelLines.{lines_of}
 use Rattle.listed.specs.Lists.{In}
 use Rattle.listed.proofs.Lists.{In_none, filter_from}
 use Rattle.suite_compare.specs.Refusals.{home_in, packages_in}
-use Rattle.coinst_run.specs.declared.answer.ReportVerdict.{ReportVerdict}
 use Rattle.coinst_run.specs.declared.answer.ReportVerdict.TheVariants.{Done, Negative, Undecided}
-use Rattle.coinst_run.specs.Answer.{reported}
 use Rattle.coinst_run.specs.Compare.{broken_lines, compare_answer, lines_answer, newer_course}
-use Rattle.coinst_run.specs.CompareMeaning.{CompareIsMeant}
-use Rattle.coinst_run.specs.CompareText.{comparison_text, comparison_verdict, is_open}
+use Rattle.coinst_run.specs.CompareMeaning.{CompareIsMeant, CompareMeans}
+use Rattle.coinst_run.specs.CompareText.{comparison_verdict, is_open}
 use Rattle.coinst_run.specs.Index.{index_in}
-use Rattle.coinst_run.specs.Outcome.{answered}
+use Rattle.coinst_run.proofs.AnswerMeant.{told_means}
 use Rattle.coinst_run.proofs.GoingOn.{GivesThis, kernel_used, this_alone}
-
--- a report on a list
-lines_verdict : (lines : List ReportLine) (verdict : ReportVerdict) (printed : List ℕ) → answered (lines_answer lines) ≡ answered (reported verdict printed) → verdict ≡ comparison_verdict lines
-lines_verdict lines verdict printed e = cc
-
-lines_text : (lines : List ReportLine) (verdict : ReportVerdict) (printed : List ℕ) → answered (lines_answer lines) ≡ answered (reported verdict printed) → printed ≡ comparison_text lines
-lines_text lines verdict printed e = cc
 
 -- nothing is told where the run is done
 open_not_done : (b : Bool) → (if b then Negative else (if true then Undecided else Done)) ≡ Done → ⊥
@@ -67,23 +56,21 @@ compare_is_meant old new budget limit hold files verdict printed e =
     let older : SearchedIndex = searched first.0 budget limit hold in
     let newer : SearchedIndex = searched second.0 budget limit hold in
     let exact : ListsExactly older newer lines = report_lists_exactly older newer (verdict_in limit hold (home_in first.0) (packages_in first.0) budget) (verdict_in limit hold (home_in second.0) (packages_in second.0) budget)
-    (λ goals. verdict_is_judged limit hold (home_in first.0) (packages_in first.0) budget goals) (λ goals. verdict_is_judged limit hold (home_in second.0) (packages_in second.0) budget goals) in
-    let reads : printed ≡ comparison_text lines = lines_text lines verdict printed second.2 in
-    let whole : verdict ≡ comparison_verdict lines = lines_verdict lines verdict printed second.2 in (
+    (λ goals. verdict_is_judged limit hold (home_in first.0) (packages_in first.0) budget goals) (λ goals. verdict_is_judged limit hold (home_in second.0) (packages_in second.0) budget goals) in (
       first.0,
       second.0,
       (first.1).0.file.is,
       (second.1).0.file.is,
-      record {
+      told_means (CompareMeans first.0 second.0 budget limit hold) (lines_answer lines) verdict printed second.2 record {
         old_accepted = (first.1).0.accepted;
         new_accepted = (second.1).0.accepted;
-        prints = subst (PrintsExactly older newer) (sym reads) (exact_lists_print_exactly older newer lines (first.1).0.accepted exact);
+        prints = exact_lists_print_exactly older newer lines (first.1).0.accepted exact;
         lines = lines;
         exact = exact;
-        cut = ap lines_of reads ∙ lines_are_cut older newer lines (first.1).0.accepted exact;
+        cut = lines_are_cut older newer lines (first.1).0.accepted exact;
         losses = λ zero. without_open_lines older newer lines exact (none_open lines zero);
-        nothing_lost = λ done. empty_list_loses_nothing older newer (subst (ListsExactly older newer) (done_is_empty lines (sym whole ∙ done)) exact);
-        reads = reads;
-        whole = whole;
+        nothing_lost = λ done. empty_list_loses_nothing older newer (subst (ListsExactly older newer) (done_is_empty lines done) exact);
+        reads = refl;
+        whole = refl;
       },
     )

@@ -1,5 +1,5 @@
 -- What the kernel text of an index means.
-use Rattle.std.proofs.Common.{◌≡◌, ℕ, Bool, true, false, List, None, refl, sym, ap, ap₂, subst, ◌∙◌}
+use Rattle.std.proofs.Common.{◌≡◌, ℕ, Bool, true, false, List, None, refl, sym, ap, ap₂, ◌∙◌}
 use Rattle.byte_flow.specs.Flow.{Files}
 use Rattle.repo_model.specs.FirstFault.{first_fault}
 use Rattle.repo_model.specs.Repository.{suite_repository}
@@ -25,6 +25,7 @@ use Rattle.coinst_run.proofs.CompareMeant.{compare_is_meant}
 use Rattle.coinst_run.proofs.ExplainMeant.{explain_is_meant}
 use Rattle.coinst_run.proofs.MigrateMeant.{migrate_is_meant}
 use Rattle.coinst_run.proofs.QueryMeant.{query_is_meant, formed}
+use Rattle.coinst_run.proofs.AnswerMeant.{told_means}
 use Rattle.coinst_run.proofs.GoingOn.{GivesThis, kernel_used, this_alone}
 use Rattle.coinst_run.proofs.SampleMeaning.{sample_report_means}
 use Rattle.coinst_run.proofs.StoredMeant.{stored_query_is_meant}
@@ -67,14 +68,12 @@ kernel_report_means : (path : List ℕ) (json : Bool) (limit : ℕ) (hold : Bool
     outcome_over files (course_of (Kernel path json limit hold)) ≡ answered (reported verdict report) → MeansJob (Kernel path json limit hold) files verdict report
 kernel_report_means path false limit hold files verdict report e =
     let first = kernel_used (GivesThis verdict report) (this_alone verdict report) files path limit hold (kernel_answer false) e in
-    let end : answered (reported Done (text_for (packages_in first.0) (index_kernel limit hold (home_in first.0) (packages_in first.0)))) ≡ answered (reported verdict report) = first.2 in
-    let same : text_for (packages_in first.0) (index_kernel limit hold (home_in first.0) (packages_in first.0)) ≡ report = cc in
-    (first.0, (first.1).0.file.is, subst (KernelMeans first.0 limit hold) same (index_kernel_means limit hold first.0 (first.1).0.accepted))
+    let text : List ℕ = text_for (packages_in first.0) (index_kernel limit hold (home_in first.0) (packages_in first.0)) in
+    (first.0, (first.1).0.file.is, told_means (λ verdict printed. KernelMeans first.0 limit hold printed) (reported Done text) verdict report first.2 (index_kernel_means limit hold first.0 (first.1).0.accepted))
 kernel_report_means path true limit hold files verdict report e =
     let first = kernel_used (GivesThis verdict report) (this_alone verdict report) files path limit hold (kernel_answer true) e in
-    let end : answered (reported Done (json_for (packages_in first.0) (index_kernel limit hold (home_in first.0) (packages_in first.0)))) ≡ answered (reported verdict report) = first.2 in
-    let same : json_for (packages_in first.0) (index_kernel limit hold (home_in first.0) (packages_in first.0)) ≡ report = cc in
-    (first.0, (first.1).0.file.is, subst (JsonMeans first.0 limit hold) same (index_json_means limit hold first.0 (first.1).0.accepted))
+    let text : List ℕ = json_for (packages_in first.0) (index_kernel limit hold (home_in first.0) (packages_in first.0)) in
+    (first.0, (first.1).0.file.is, told_means (λ verdict printed. JsonMeans first.0 limit hold printed) (reported Done text) verdict report first.2 (index_json_means limit hold first.0 (first.1).0.accepted))
 
 -- what the report on a job means
 pub report_means : (job : Job) (files : Files) (verdict : ReportVerdict) (report : List ℕ) → outcome_over files (course_of job) ≡ answered (reported verdict report) → MeansJob job files verdict report

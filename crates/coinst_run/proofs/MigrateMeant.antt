@@ -14,9 +14,9 @@ use Rattle.coinst_run.specs.declared.answer.ReportVerdict.{ReportVerdict}
 use Rattle.coinst_run.specs.Answer.{reported}
 use Rattle.coinst_run.specs.Course.{Course, answers, reads, then_on}
 use Rattle.coinst_run.specs.Migrate.{by_refusal, lines_answer, new_answer, new_course, old_answer, plan_answer}
-use Rattle.coinst_run.specs.MigrateMeaning.{MigrateIsMeant}
-use Rattle.coinst_run.specs.MigrateText.{plan_text, plan_verdict}
+use Rattle.coinst_run.specs.MigrateMeaning.{MigrateIsMeant, MigrateMeans}
 use Rattle.coinst_run.specs.Outcome.{answered, outcome_over}
+use Rattle.coinst_run.proofs.AnswerMeant.{told_means}
 use Rattle.coinst_run.proofs.GoingOn.{GivesThis, checked_used, file_used, kernel_at_used, this_alone}
 
 -- a course that leads to a report
@@ -26,13 +26,13 @@ module _ (files : Files) (verdict : ReportVerdict) (report : List ℕ) where
 
   -- the plan is not refused, and its lines are reported
   plan_used : (old new : List ℕ) (lines : List PlanLine) (there : Option PlanError) → Reports (then_on (by_refusal old new lines there) (λ shown. answers (lines_answer shown)))
-      → (there ≡ None) × (verdict ≡ plan_verdict lines) × (report ≡ plan_text lines)
+      → (there ≡ None) × (answered (lines_answer lines) ≡ answered (reported verdict report))
   plan_used old new lines (Some Homes) e = absurd cc
   plan_used old new lines (Some (Names count)) e = absurd cc
   plan_used old new lines (Some (Packages count)) e = absurd cc
   plan_used old new lines (Some (TooLong count)) e = absurd cc
   plan_used old new lines (Some Memory) e = absurd cc
-  plan_used old new lines None e = (refl, cc, cc)
+  plan_used old new lines None e = (refl, e)
 
 pub migrate_is_meant : MigrateIsMeant
 migrate_is_meant old new budget limit hold files verdict printed e =
@@ -46,7 +46,7 @@ migrate_is_meant old new budget limit hold files verdict printed e =
       second.0,
       (first.1).is,
       (second.1).is,
-      record {
+      told_means (MigrateMeans first.0 second.0 budget limit hold) (lines_answer (plan settings first.0 second.0)) verdict printed end.1 record {
         old_accepted = made.0;
         new_accepted = read.0;
         allowed = end.0;
@@ -56,7 +56,7 @@ migrate_is_meant old new budget limit hold files verdict printed e =
         each = plan_right settings first.0 second.0;
         judged = λ text goals. verdict_is_judged limit hold (home_in text) (packages_in text) budget goals;
         safely = plan_safe settings first.0 second.0 made.0 read.0;
-        reads = end.2;
-        whole = end.1;
+        reads = refl;
+        whole = refl;
       },
     )

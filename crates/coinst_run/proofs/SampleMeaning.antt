@@ -1,5 +1,5 @@
 -- What the line on the size of a sample suite's kernel means.
-use Rattle.std.proofs.Common.{◌≡◌, ℕ, false, List}
+use Rattle.std.proofs.Common.{◌≡◌, ℕ, false, List, refl}
 use Rattle.byte_flow.specs.Flow.{Files}
 use Rattle.sample_suite.specs.SampleText.{sample_text}
 use Rattle.suite_compare.specs.Refusals.{home_in, packages_in}
@@ -12,6 +12,7 @@ use Rattle.coinst_run.specs.Meaning.{SizeMeans}
 use Rattle.coinst_run.specs.Outcome.{answered, outcome_over}
 use Rattle.coinst_run.specs.Sample.{sample_answer, sample_course, sample_limit, sample_path, size_report}
 use Rattle.suite_compare.specs.Refusals.{home_in, packages_in}
+use Rattle.coinst_run.proofs.AnswerMeant.{told_means}
 use Rattle.coinst_run.proofs.GoingOn.{GivesThis, checked_used, limit_used, this_alone}
 
 pub sample_report_means : (files : Files) (verdict : ReportVerdict) (report : List ℕ) (seed count : ℕ) → outcome_over files (sample_course seed count) ≡ answered (reported verdict report) → SizeMeans (sample_text seed count) report
@@ -19,6 +20,5 @@ sample_report_means files verdict report seed count e =
     let text : List ℕ = sample_text seed count in
     let checked = checked_used (GivesThis verdict report) (this_alone verdict report) files sample_path sample_answer text e in
     let made = limit_used (GivesThis verdict report) (this_alone verdict report) files sample_path sample_limit false text (λ kernel. answers (reported Done (size_report (packages_in text) kernel))) checked.1 in
-    let end : answered (reported Done (size_report (packages_in text) (index_kernel sample_limit false (home_in text) (packages_in text)))) ≡ answered (reported verdict report) = made.1 in
-    let same : report ≡ size_report (packages_in text) (index_kernel sample_limit false (home_in text) (packages_in text)) = cc in
-    record { accepted = checked.0; line = same }
+    told_means (λ verdict printed. SizeMeans text printed) (reported Done (size_report (packages_in text) (index_kernel sample_limit false (home_in text) (packages_in text)))) verdict report made.1
+    record { accepted = checked.0; line = refl }

@@ -12,9 +12,9 @@ use Rattle.coinst_run.specs.Answer.{reported}
 use Rattle.coinst_run.specs.Course.{answers, then_on}
 use Rattle.coinst_run.specs.Index.{Index, index_in}
 use Rattle.coinst_run.specs.Outcome.{answered, outcome_over}
-use Rattle.coinst_run.specs.SystemMeaning.{SystemIsMeant}
+use Rattle.coinst_run.specs.SystemMeaning.{SystemIsMeant, SystemMeans}
 use Rattle.coinst_run.specs.SystemStatus.{system_answer, system_by_fault, system_course, system_in, system_report, told_answer}
-use Rattle.coinst_run.specs.SystemText.{system_text, system_verdict}
+use Rattle.coinst_run.proofs.AnswerMeant.{told_means}
 use Rattle.coinst_run.proofs.GoingOn.{GivesThis, file_used, kernel_used, this_alone}
 use Rattle.status_check.proofs.OwnStates.{own_there}
 
@@ -24,19 +24,12 @@ module _ (path : List ℕ) (budget limit : ℕ) (hold : Bool) (index : Index) (f
   told text = system_report budget limit hold index (system_in index.home text)
 
   abbrev IsTold : List ℕ → Type 0
-  IsTold text = (status_fault index.home text ≡ None) × (told_answer budget (told text) ≡ reported verdict printed)
+  IsTold text = (status_fault index.home text ≡ None) × (answered (told_answer budget (told text)) ≡ answered (reported verdict printed))
 
   checked : (text : List ℕ) (fault : Option IndexFault) → status_fault index.home text ≡ fault
       → outcome_over files (then_on (system_by_fault path index.home text fault) (λ system. answers (told_answer budget (system_report budget limit hold index system)))) ≡ answered (reported verdict printed) → IsTold text
   checked text (Some fault) is e = absurd cc
-  checked text None is e = (is, cc)
-
--- a report that is told
-told_verdict : (budget : ℕ) (report : StatusReport) (verdict : ReportVerdict) (printed : List ℕ) → told_answer budget report ≡ reported verdict printed → verdict ≡ system_verdict report.own report.verdict
-told_verdict budget report verdict printed e = cc
-
-told_text : (budget : ℕ) (report : StatusReport) (verdict : ReportVerdict) (printed : List ℕ) → told_answer budget report ≡ reported verdict printed → printed ≡ system_text budget report
-told_text budget report verdict printed e = cc
+  checked text None is e = (is, e)
 
 pub system_is_meant : SystemIsMeant
 unfolding system_report
@@ -53,7 +46,7 @@ system_is_meant file index budget limit hold files verdict printed e =
       text,
       (first.1).0.file.is,
       (second.1).is,
-      record {
+      told_means (SystemMeans suite text budget limit hold) (told_answer budget report) verdict printed told.1 record {
         accepted = (first.1).0.accepted;
         faultless = told.0;
         report = report;
@@ -63,7 +56,7 @@ system_is_meant file index budget limit hold files verdict printed e =
         healthy = told_healthy home packages report.own (own_there home packages);
         decided = refl;
         judged = judged limit hold (home_in suite) (packages_in suite) budget (had_goals (packages_in suite) packages) report.verdict refl;
-        reads = told_text budget report verdict printed told.1;
-        whole = told_verdict budget report verdict printed told.1;
+        reads = refl;
+        whole = refl;
       },
     )

@@ -24,11 +24,11 @@ means_more P Q (reported verdict printed) f m = f verdict printed m
 means_more P Q (refused cause line) f m = tt
 
 -- an answer by a tree
-pub tree_means : (P : ReportVerdict → List ℕ → Type 0) (yes : List Bool → List ℕ) (budget : ℕ) (tree : Tree) → ((chosen : List Bool) → found_of tree ≡ Some chosen → P Done (yes chosen)) →
-    (found_of tree ≡ None → P Negative (no_text (log_of [] tree))) → (budget < failed_leaves tree → P Undecided (undecided_text budget)) → AnswerMeans P (by_tree yes budget tree)
-tree_means P yes budget tree found none spent = by (nat_lt budget (failed_leaves tree)) refl (found_of tree) refl
+pub tree_means : (P : ReportVerdict → List ℕ → Type 0) (shown : List Bool → List ℕ) (budget : ℕ) (tree : Tree) → ((chosen : List Bool) → found_of tree ≡ Some chosen → P Done (shown chosen)) →
+    (found_of tree ≡ None → P Negative (no_text (log_of [] tree))) → (budget < failed_leaves tree → P Undecided (undecided_text budget)) → AnswerMeans P (by_tree shown budget tree)
+tree_means P shown budget tree found none spent = by (nat_lt budget (failed_leaves tree)) refl (found_of tree) refl
   where
-    by : (b : Bool) → nat_lt budget (failed_leaves tree) ≡ b → (chosen : Option (List Bool)) → found_of tree ≡ chosen → AnswerMeans P (cond b (reported Undecided (undecided_text budget)) (by_found yes tree chosen))
+    by : (b : Bool) → nat_lt budget (failed_leaves tree) ≡ b → (chosen : Option (List Bool)) → found_of tree ≡ chosen → AnswerMeans P (cond b (reported Undecided (undecided_text budget)) (by_found shown tree chosen))
     by true past chosen is = spent (ltb-true budget (failed_leaves tree) past)
     by false past (Some chosen) is = found chosen is
     by false past None is = none is

@@ -56,10 +56,10 @@ module _ (text : List ℕ) (goals : List Goal) (budget limit : ℕ) (hold : Bool
   goals_mean : (first : Option ℕ) → first_fault text ≡ None → unknown_goal (packages_in text) goals ≡ first → AnswerMeans (QueryMeans text goals budget limit hold) (by_unknown limit hold (index_in text) goals budget first)
   goals_mean (Some unknown) accepted is = tt
   goals_mean None accepted is =
-      let yes : List Bool → List ℕ = installed_text limit hold (index_in text) goals in
-      means_more (MeansVerdict text goals budget limit hold) (QueryMeans text goals budget limit hold) (by_tree yes budget tree)
+      let shown : List Bool → List ℕ = installed_text limit hold (index_in text) goals in
+      means_more (MeansVerdict text goals budget limit hold) (QueryMeans text goals budget limit hold) (by_tree shown budget tree)
       (λ verdict printed m. record { accepted = accepted; known = all_named (packages_in text) 1 goals is; means = m })
-      (tree_means (MeansVerdict text goals budget limit hold) yes budget tree (yes_means (formed text accepted)) no_means (λ past. record { reads = refl; spent = past }))
+      (tree_means (MeansVerdict text goals budget limit hold) shown budget tree (yes_means (formed text accepted)) no_means (λ past. record { reads = refl; spent = past }))
 
 -- the report of a query of the file at the path
 pub query_is_meant : QueryIsMeant

@@ -24,12 +24,12 @@ unknown_answer goals number = refused UnknownGoal (unknown_line number (goal_of_
 
 -- yes, in these words, where the tree finds classes, and otherwise no and the log of the tree
 abbrev pub by_found : (List Bool → List ℕ) → Tree → Option (List Bool) → Answer
-by_found yes tree (Some chosen) = reported Done (yes chosen)
-by_found yes tree None = reported Negative (no_text (log_of [] tree))
+by_found shown tree (Some chosen) = reported Done (shown chosen)
+by_found shown tree None = reported Negative (no_text (log_of [] tree))
 
 -- undecided where the tree has more failed leaves than the budget
 abbrev pub by_tree : (List Bool → List ℕ) → ℕ → Tree → Answer
-by_tree yes budget tree = if nat_lt budget (failed_leaves tree) then reported Undecided (undecided_text budget) else by_found yes tree (found_of tree)
+by_tree shown budget tree = if nat_lt budget (failed_leaves tree) then reported Undecided (undecided_text budget) else by_found shown tree (found_of tree)
 
 -- yes, and what is installed where these classes are found
 abbrev pub installed_text : ℕ → Bool → Index → List Goal → List Bool → List ℕ

@@ -54,16 +54,16 @@ goals_known answer goals is None g = refl
 goals_known answer goals is (Some number) g = absurd (let s = ap answered (sym (is number)) ∙ g.2 in let k : ⊥ = cc in k)
 
 -- an answer by a tree
-found_told : (yes : List Bool → List ℕ) (tree : Tree) (chosen : Option (List Bool)) → GivesReport (answered (by_found yes tree chosen))
-found_told yes tree (Some chosen) = told Done _
-found_told yes tree None = told Negative _
+found_told : (shown : List Bool → List ℕ) (tree : Tree) (chosen : Option (List Bool)) → GivesReport (answered (by_found shown tree chosen))
+found_told shown tree (Some chosen) = told Done _
+found_told shown tree None = told Negative _
 
-tree_told : (yes : List Bool → List ℕ) (budget : ℕ) (tree : Tree) → GivesReport (answered (by_tree yes budget tree))
-tree_told yes budget tree = by (nat_lt budget (failed_leaves tree))
+tree_told : (shown : List Bool → List ℕ) (budget : ℕ) (tree : Tree) → GivesReport (answered (by_tree shown budget tree))
+tree_told shown budget tree = by (nat_lt budget (failed_leaves tree))
   where
-    by : (b : Bool) → GivesReport (answered (if b then reported Undecided (undecided_text budget) else by_found yes tree (found_of tree)))
+    by : (b : Bool) → GivesReport (answered (if b then reported Undecided (undecided_text budget) else by_found shown tree (found_of tree)))
     by true = told Undecided (undecided_text budget)
-    by false = found_told yes tree (found_of tree)
+    by false = found_told shown tree (found_of tree)
 
 -- goals of an index
 query_told : (goals : List Goal) (budget limit : ℕ) (hold : Bool) (index : Index) → unknown_goal index.packages goals ≡ None → GivesReport (answered (goals_answer goals budget limit hold index))

@@ -1,5 +1,5 @@
 -- Commands that are put together argument by argument.
-use Rattle.std.proofs.Common.{◌≡◌, ◌∙◌, ℕ, ◌<◌, ◌+◌, ◌||◌, false, sym, ap, ap₂, subst, List, [], ◌∷◌, ◌++◌, map, take, append_assoc}
+use Rattle.std.proofs.Common.{◌≡◌, ◌∙◌, ℕ, ◌<◌, ◌+◌, ◌||◌, false, sym, ap, ap₂, subst, List, [], ◌∷◌, ◌++◌, map, take, drop, append_assoc}
 use Rattle.std.specs.Borrow.{Bor}
 use Rattle.clap.specs.Walk.{Rule, rule_of}
 use Rattle.clap.specs.Built.{AddsArg}
@@ -8,9 +8,9 @@ use Rattle.clap.specs.declared.builder.arg.Arg.{Arg}
 use Rattle.clap.specs.declared.builder.command.Command.{Command}
 use Rattle.clap.specs.declared.builder.command.Command.TheViews.{out-Command}
 use Rattle.std.proofs.Common.{◌≤◌, append-nil, get_or, length}
-use Rattle.std.proofs.lemmas.List.{map-append, take_all, take_more}
-use Rattle.coinst_words.specs.Usage.{Text}
-use Rattle.coinst_words.specs.Program.{IsCommand, flag_rule, valued_rule, words_rule}
+use Rattle.std.proofs.lemmas.List.{at_drop_more, map-append, take_all, take_more}
+use Rattle.coinst_words.specs.Usage.{Text, Usage}
+use Rattle.coinst_words.specs.Program.{IsCommand, bare_app, flag_rule, shape_of_usage, valued_rule, words_rule}
 
 -- the command has this name and these arguments, and nothing else
 pub record IsBuilt (name : Text) (rules : List Rule) (c : Command) : Type 0 where
@@ -51,6 +51,14 @@ finished name flags valued old a new adds rule local is =
 pub flags_all : (name : Text) (flags : List (Bor Text)) (i : ℕ) (c : Command) → length flags ≤ i → IsBuilt name (map flag_rule (map now (take i flags))) c → IsBuilt name (map flag_rule (map now flags) ++ []) c
 flags_all name flags i c past is = subst (λ (rs : List Rule). IsBuilt name rs c) (ap (λ fs. map flag_rule (map now fs)) (take_all i flags past) ∙ sym (append-nil (map flag_rule (map now flags)))) is
 
--- a program with one more command
-pub one_more : (s : Shape) (new old a : App) → old ≡ a → new ≡ with_subcommand old s → new ≡ with_subcommand a s
-one_more s new old a is adds = adds ∙ ap (λ (b : App). with_subcommand b s) is
+-- a program with more commands, one after another
+pub with_usages : App → List Usage → App
+with_usages app [] = app
+with_usages app (u ∷ us) = with_usages (with_subcommand app (shape_of_usage u)) us
+
+-- the first of the commands that are left is added
+pub one_more : {A : Type 0} (usage : A → Usage) (all : List A) (i : ℕ) (d : A) (old new goal : App) → i < length all → new ≡ with_subcommand old (shape_of_usage (usage (get_or all i d)))
+    → with_usages old (map usage (drop i all)) ≡ goal → with_usages new (map usage (drop (i + 1) all)) ≡ goal
+unfolding with_usages
+one_more usage all i d old new goal lt adds is =
+    ap (λ (a : App). with_usages a (map usage (drop (i + 1) all))) adds ∙ sym (at_drop_more (λ us. with_usages old (map usage us)) all i d lt) ∙ is

@@ -4,7 +4,7 @@ use Rattle.std.specs.Char.{digit_value, is_ascii_digit}
 use Rattle.std.specs.List.{list_all}
 use Rattle.std.specs.Str.Parse.{AllDigits, IsNumeral, digits_value, without_leading_plus}
 use Rattle.std.proofs.lemmas.Bool.{leb-true, lt-ltb, le-ltb, ne_eqb, and_parts}
-use Rattle.coinst_words.specs.Jobs.{is_number, is_within, number_in}
+use Rattle.coinst_words.specs.Words.{is_number, is_within, number_in}
 
 digit_range : (c : ℕ) → is_ascii_digit c ≡ true → (48 ≤ c) × (c ≤ 57)
 digit_range c e = let h = and_parts (nat_le 48 c) (nat_le c 57) e in (leb-true 48 c h.0, leb-true c 57 h.1)

@@ -5,7 +5,7 @@ use Rattle.std.specs.Borrow.{Bor}
 use Rattle.std.specs.Option.{option_map}
 use Rattle.std.specs.Prelude.{option_and_then}
 use Rattle.std.proofs.lemmas.List.{map-append, take_more}
-use Rattle.coinst_words.specs.Jobs.{goals_of, some_goals_of}
+use Rattle.coinst_words.specs.Words.{goals_of, some_goals_of}
 use Rattle.coinst_words.specs.Refusals.{OnNotACommand}
 use Rattle.coinst_words.specs.declared.error.WordError.{WordError}
 use Rattle.coinst_words.specs.declared.error.WordError.TheVariants.{NotACommand, Memory}

@@ -12,7 +12,8 @@ use Rattle.coinst_words.specs.declared.error.WordError.{WordError}
 use Rattle.coinst_words.specs.declared.error.WordError.TheVariants as words
 use Rattle.coinst_words.specs.Refusals.{OnNotACommand}
 use Rattle.coinst_words.specs.Parsed.{Enters}
-use Rattle.coinst_words.specs.Usage.{Said, Text, Usage, is_among, said_of, usages}
+use Rattle.coinst_words.specs.Jobs.{usages}
+use Rattle.coinst_words.specs.Usage.{Said, Text, Usage, is_among, said_of}
 use Rattle.coinst_words.specs.Program.{app_of_usages}
 use Rattle.coinst_words.proofs.Reading.{AllSpell}
 use Rattle.coinst_words.proofs.Apps.{AllGood, TopAgrees, top_agrees}

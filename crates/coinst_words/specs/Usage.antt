@@ -1,4 +1,4 @@
--- What each command takes, and what the words of a command line say.
+-- What the words of a command line say, for commands that each take some options and other words.
 use Rattle.std.specs.Prelude.{ℕ, Bool, List, [], ◌∷◌, ◌++◌, Option, Some, None, is_some, find, codes, if◌then◌else◌, option_and_then, option_map}
 use Rattle.std.specs.List.{list_any}
 use Rattle.std.specs.Str.{bytes_eq}
@@ -12,37 +12,6 @@ pub record Usage : Type 0 where
   pub name : Text
   pub flags : List Text
   pub valued : List Text
-
--- `kernel [--json] [--clause-limit N] [--hold] INDEX`
-abbrev pub kernel_usage : Usage
-kernel_usage = record { name = codes "kernel"; flags = codes "json" ∷ codes "hold" ∷ []; valued = codes "clause-limit" ∷ [] }
-
--- `query [--budget N] [--clause-limit N] [--hold] INDEX GOAL..`, or `query --kernel FILE [--budget N] GOAL..`
-abbrev pub query_usage : Usage
-query_usage = record { name = codes "query"; flags = codes "hold" ∷ []; valued = codes "budget" ∷ codes "clause-limit" ∷ codes "kernel" ∷ [] }
-
--- `compare [--budget N] [--clause-limit N] [--hold] OLD NEW`
-abbrev pub compare_usage : Usage
-compare_usage = record { name = codes "compare"; flags = codes "hold" ∷ []; valued = codes "budget" ∷ codes "clause-limit" ∷ [] }
-
--- `explain [--budget N] [--clause-limit N] [--hold] INDEX GOAL..`
-abbrev pub explain_usage : Usage
-explain_usage = record { name = codes "explain"; flags = codes "hold" ∷ []; valued = codes "budget" ∷ codes "clause-limit" ∷ [] }
-
--- `status [--budget N] [--clause-limit N] [--hold] FILE INDEX`
-abbrev pub status_usage : Usage
-status_usage = record { name = codes "status"; flags = codes "hold" ∷ []; valued = codes "budget" ∷ codes "clause-limit" ∷ [] }
-
--- `migrate [--budget N] [--clause-limit N] [--hold] OLD NEW`
-abbrev pub migrate_usage : Usage
-migrate_usage = record { name = codes "migrate"; flags = codes "hold" ∷ []; valued = codes "budget" ∷ codes "clause-limit" ∷ [] }
-
--- `sample SEED COUNT`
-abbrev pub sample_usage : Usage
-sample_usage = record { name = codes "sample"; flags = []; valued = [] }
-
-abbrev pub usages : List Usage
-usages = kernel_usage ∷ query_usage ∷ compare_usage ∷ explain_usage ∷ status_usage ∷ migrate_usage ∷ sample_usage ∷ []
 
 -- what the words behind a command's name say: the options with their values, and the ordinary words, each in order
 pub record Said : Type 0 where

@@ -1,18 +1,69 @@
-//! The job of each command, by its flags, by the values of its options and by its ordinary words.
+//! The commands: what words each takes, and its job by its options and by its ordinary words.
 ghost use Rattle.std.specs.Prelude.{◌≡◌, false, true, IfOk, IfErr, None, Some, map, option_map};
 ghost use Rattle.clap.specs.Words.{found_of, first_value};
-ghost use Rattle.coinst_words.specs.Jobs.{compare_job, explain_job, index_and_goals, index_query, is_on, is_path, job_named, kernel_job, migrate_job, query_job, sample_job, status_job, stored_query, two_paths, IsInLimits};
+ghost use Rattle.coinst_words.specs.Jobs.{compare_job, explain_job, index_query, job_named, kernel_job, migrate_job, options_by, query_job, sample_job, settings_by, status_job, stored_query, AreInLimits, IsInLimits};
+ghost use Rattle.coinst_words.specs.Words.{index_and_goals, is_on, is_path, two_paths};
+ghost use Rattle.coinst_words.specs.Given.{options_of};
 ghost use Rattle.coinst_words.specs.Parsed.{words_in};
 ghost use Rattle.coinst_words.specs.Refusals.{OnNotACommand};
 
 use crate::error::WordError;
 use crate::goals::goals_in;
-use crate::job::Job;
+use crate::job::{Job, Settings};
 use crate::numbers::{budget_of, clause_limit_of, count_of, seed_of};
 use crate::path::PathText;
 use clap::ArgMatches;
 use repo_model::GoalList;
 use std::alloc::Global;
+
+/// The commands: the name of each, its options without a value, and those with one. Other words are taken too.
+pub(crate) const USAGES: [(&str, &[&str], &[&str]); 7] = [
+    ("kernel", &["json", "hold"], &["clause-limit"]),
+    ("query", &["hold"], &["budget", "clause-limit", "kernel"]),
+    ("compare", &["hold"], &["budget", "clause-limit"]),
+    ("explain", &["hold"], &["budget", "clause-limit"]),
+    ("status", &["hold"], &["budget", "clause-limit"]),
+    ("migrate", &["hold"], &["budget", "clause-limit"]),
+    ("sample", &[], &[]),
+];
+
+// What the options say, before their numbers are read; one that the command does not take was not given.
+#[derive(Clone, Copy)]
+struct Options<'a> {
+    kernel: Option<&'a str>,
+    budget: Option<&'a str>,
+    clause_limit: Option<&'a str>,
+    json: bool,
+    hold: bool,
+}
+
+impl<'a> Options<'a> {
+    // The options that were found.
+    fn of(given: &ArgMatches<'a>) -> Options<'a>
+        ensures { options_of result ≡ options_by (first_value (found_of given.now)) }
+    {
+        Options {
+            kernel: given.get_str("kernel"),
+            budget: given.get_str("budget"),
+            clause_limit: given.get_str("clause-limit"),
+            json: is_on(given.get_str("json")),
+            hold: is_on(given.get_str("hold")),
+        }
+    }
+
+    // What a job keeps to by its options.
+    fn settings(&self) -> Result<Settings, WordError>
+        ensures settings { IfOk result (λ settings. settings_by (options_of self.now) ≡ Some settings) }
+        ensures refusal { IfErr result (OnNotACommand (settings_by (options_of self.now) ≡ None)) }
+        ensures limited { IfOk result AreInLimits }
+    {
+        Ok(Settings {
+            budget: budget_of(self.budget)?,
+            clause_limit: clause_limit_of(self.clause_limit)?,
+            hold: self.hold,
+        })
+    }
+}
 
 // Whether a flag was given, by the value that stands for it.
 fn is_on(value: Option<&str>) -> bool
@@ -65,123 +116,89 @@ fn index_and_goals(alloc: Global, words: &[&str]) -> Result<(PathText, GoalList)
 }
 
 // The job of `kernel`.
-fn kernel_job(
-    alloc: Global,
-    json: bool,
-    limit: Option<&str>,
-    hold: bool,
-    words: &[&str],
-) -> Result<Job, WordError>
-    ensures job { IfOk result (λ job. kernel_job json (option_map (λ s. s.now) limit.entry) hold (map (λ s. s.now) words.now) ≡ Some job) }
-    ensures refusal { IfErr result (OnNotACommand (kernel_job json (option_map (λ s. s.now) limit.entry) hold (map (λ s. s.now) words.now) ≡ None)) }
+fn kernel_job(alloc: Global, options: &Options<'_>, words: &[&str]) -> Result<Job, WordError>
+    ensures job { IfOk result (λ job. kernel_job (options_of options.now) (map (λ s. s.now) words.now) ≡ Some job) }
+    ensures refusal { IfErr result (OnNotACommand (kernel_job (options_of options.now) (map (λ s. s.now) words.now) ≡ None)) }
     ensures limited { IfOk result IsInLimits }
 {
     let [index] = words else {
         return Err(WordError::NotACommand);
     };
     let index = path_in(alloc, index)?;
-    let clause_limit = clause_limit_of(limit)?;
+    let settings = options.settings()?;
     Ok(Job::Kernel {
         index,
-        json,
-        clause_limit,
-        hold,
+        json: options.json,
+        clause_limit: settings.clause_limit,
+        hold: settings.hold,
     })
 }
 
 // The job of `compare`.
-fn compare_job(
-    alloc: Global,
-    budget: Option<&str>,
-    limit: Option<&str>,
-    hold: bool,
-    words: &[&str],
-) -> Result<Job, WordError>
-    ensures job { IfOk result (λ job. compare_job (option_map (λ s. s.now) budget.entry) (option_map (λ s. s.now) limit.entry) hold (map (λ s. s.now) words.now) ≡ Some job) }
-    ensures refusal { IfErr result (OnNotACommand (compare_job (option_map (λ s. s.now) budget.entry) (option_map (λ s. s.now) limit.entry) hold (map (λ s. s.now) words.now) ≡ None)) }
+fn compare_job(alloc: Global, options: &Options<'_>, words: &[&str]) -> Result<Job, WordError>
+    ensures job { IfOk result (λ job. compare_job (options_of options.now) (map (λ s. s.now) words.now) ≡ Some job) }
+    ensures refusal { IfErr result (OnNotACommand (compare_job (options_of options.now) (map (λ s. s.now) words.now) ≡ None)) }
     ensures limited { IfOk result IsInLimits }
 {
     let (old, new) = two_paths(alloc, words)?;
-    let budget = budget_of(budget)?;
-    let clause_limit = clause_limit_of(limit)?;
+    let settings = options.settings()?;
     Ok(Job::Compare {
         old,
         new,
-        budget,
-        clause_limit,
-        hold,
+        budget: settings.budget,
+        clause_limit: settings.clause_limit,
+        hold: settings.hold,
     })
 }
 
 // The job of `explain`.
-fn explain_job(
-    alloc: Global,
-    budget: Option<&str>,
-    limit: Option<&str>,
-    hold: bool,
-    words: &[&str],
-) -> Result<Job, WordError>
-    ensures job { IfOk result (λ job. explain_job (option_map (λ s. s.now) budget.entry) (option_map (λ s. s.now) limit.entry) hold (map (λ s. s.now) words.now) ≡ Some job) }
-    ensures refusal { IfErr result (OnNotACommand (explain_job (option_map (λ s. s.now) budget.entry) (option_map (λ s. s.now) limit.entry) hold (map (λ s. s.now) words.now) ≡ None)) }
+fn explain_job(alloc: Global, options: &Options<'_>, words: &[&str]) -> Result<Job, WordError>
+    ensures job { IfOk result (λ job. explain_job (options_of options.now) (map (λ s. s.now) words.now) ≡ Some job) }
+    ensures refusal { IfErr result (OnNotACommand (explain_job (options_of options.now) (map (λ s. s.now) words.now) ≡ None)) }
     ensures limited { IfOk result IsInLimits }
 {
     let (index, goals) = index_and_goals(alloc, words)?;
-    let budget = budget_of(budget)?;
-    let clause_limit = clause_limit_of(limit)?;
+    let settings = options.settings()?;
     Ok(Job::Explain {
         index,
         goals,
-        budget,
-        clause_limit,
-        hold,
+        budget: settings.budget,
+        clause_limit: settings.clause_limit,
+        hold: settings.hold,
     })
 }
 
 // The job of `status`.
-fn status_job(
-    alloc: Global,
-    budget: Option<&str>,
-    limit: Option<&str>,
-    hold: bool,
-    words: &[&str],
-) -> Result<Job, WordError>
-    ensures job { IfOk result (λ job. status_job (option_map (λ s. s.now) budget.entry) (option_map (λ s. s.now) limit.entry) hold (map (λ s. s.now) words.now) ≡ Some job) }
-    ensures refusal { IfErr result (OnNotACommand (status_job (option_map (λ s. s.now) budget.entry) (option_map (λ s. s.now) limit.entry) hold (map (λ s. s.now) words.now) ≡ None)) }
+fn status_job(alloc: Global, options: &Options<'_>, words: &[&str]) -> Result<Job, WordError>
+    ensures job { IfOk result (λ job. status_job (options_of options.now) (map (λ s. s.now) words.now) ≡ Some job) }
+    ensures refusal { IfErr result (OnNotACommand (status_job (options_of options.now) (map (λ s. s.now) words.now) ≡ None)) }
     ensures limited { IfOk result IsInLimits }
 {
     let (file, index) = two_paths(alloc, words)?;
-    let budget = budget_of(budget)?;
-    let clause_limit = clause_limit_of(limit)?;
+    let settings = options.settings()?;
     Ok(Job::Status {
         file,
         index,
-        budget,
-        clause_limit,
-        hold,
+        budget: settings.budget,
+        clause_limit: settings.clause_limit,
+        hold: settings.hold,
     })
 }
 
 // The job of `migrate`.
-fn migrate_job(
-    alloc: Global,
-    budget: Option<&str>,
-    limit: Option<&str>,
-    hold: bool,
-    words: &[&str],
-) -> Result<Job, WordError>
-    ensures job { IfOk result (λ job. migrate_job (option_map (λ s. s.now) budget.entry) (option_map (λ s. s.now) limit.entry) hold (map (λ s. s.now) words.now) ≡ Some job) }
-    ensures refusal { IfErr result (OnNotACommand (migrate_job (option_map (λ s. s.now) budget.entry) (option_map (λ s. s.now) limit.entry) hold (map (λ s. s.now) words.now) ≡ None)) }
+fn migrate_job(alloc: Global, options: &Options<'_>, words: &[&str]) -> Result<Job, WordError>
+    ensures job { IfOk result (λ job. migrate_job (options_of options.now) (map (λ s. s.now) words.now) ≡ Some job) }
+    ensures refusal { IfErr result (OnNotACommand (migrate_job (options_of options.now) (map (λ s. s.now) words.now) ≡ None)) }
     ensures limited { IfOk result IsInLimits }
 {
     let (old, new) = two_paths(alloc, words)?;
-    let budget = budget_of(budget)?;
-    let clause_limit = clause_limit_of(limit)?;
+    let settings = options.settings()?;
     Ok(Job::Migrate {
         old,
         new,
-        budget,
-        clause_limit,
-        hold,
+        budget: settings.budget,
+        clause_limit: settings.clause_limit,
+        hold: settings.hold,
     })
 }
 
@@ -200,45 +217,31 @@ fn sample_job(words: &[&str]) -> Result<Job, WordError>
 }
 
 // The job of `query`: on a stored kernel where one is named, else on the index that the first word names.
-fn query_job(
-    alloc: Global,
-    kernel: Option<&str>,
-    budget: Option<&str>,
-    limit: Option<&str>,
-    hold: bool,
-    words: &[&str],
-) -> Result<Job, WordError>
-    ensures job { IfOk result (λ job. query_job (option_map (λ s. s.now) kernel.entry) (option_map (λ s. s.now) budget.entry) (option_map (λ s. s.now) limit.entry) hold (map (λ s. s.now) words.now) ≡ Some job) }
-    ensures refusal { IfErr result (OnNotACommand (query_job (option_map (λ s. s.now) kernel.entry) (option_map (λ s. s.now) budget.entry) (option_map (λ s. s.now) limit.entry) hold (map (λ s. s.now) words.now) ≡ None)) }
+fn query_job(alloc: Global, options: &Options<'_>, words: &[&str]) -> Result<Job, WordError>
+    ensures job { IfOk result (λ job. query_job (options_of options.now) (map (λ s. s.now) words.now) ≡ Some job) }
+    ensures refusal { IfErr result (OnNotACommand (query_job (options_of options.now) (map (λ s. s.now) words.now) ≡ None)) }
     ensures limited { IfOk result IsInLimits }
 {
-    match kernel {
-        Some(kernel) => stored_query(alloc, kernel, budget, limit, hold, words),
-        None => index_query(alloc, budget, limit, hold, words),
+    match options.kernel {
+        Some(kernel) => stored_query(alloc, kernel, options, words),
+        None => index_query(alloc, options, words),
     }
 }
 
 // A query on an index.
-fn index_query(
-    alloc: Global,
-    budget: Option<&str>,
-    limit: Option<&str>,
-    hold: bool,
-    words: &[&str],
-) -> Result<Job, WordError>
-    ensures job { IfOk result (λ job. index_query (option_map (λ s. s.now) budget.entry) (option_map (λ s. s.now) limit.entry) hold (map (λ s. s.now) words.now) ≡ Some job) }
-    ensures refusal { IfErr result (OnNotACommand (index_query (option_map (λ s. s.now) budget.entry) (option_map (λ s. s.now) limit.entry) hold (map (λ s. s.now) words.now) ≡ None)) }
+fn index_query(alloc: Global, options: &Options<'_>, words: &[&str]) -> Result<Job, WordError>
+    ensures job { IfOk result (λ job. index_query (options_of options.now) (map (λ s. s.now) words.now) ≡ Some job) }
+    ensures refusal { IfErr result (OnNotACommand (index_query (options_of options.now) (map (λ s. s.now) words.now) ≡ None)) }
     ensures limited { IfOk result IsInLimits }
 {
     let (index, goals) = index_and_goals(alloc, words)?;
-    let budget = budget_of(budget)?;
-    let clause_limit = clause_limit_of(limit)?;
+    let settings = options.settings()?;
     Ok(Job::Query {
         index,
         goals,
-        budget,
-        clause_limit,
-        hold,
+        budget: settings.budget,
+        clause_limit: settings.clause_limit,
+        hold: settings.hold,
     })
 }
 
@@ -246,20 +249,18 @@ fn index_query(
 fn stored_query(
     alloc: Global,
     kernel: &str,
-    budget: Option<&str>,
-    limit: Option<&str>,
-    hold: bool,
+    options: &Options<'_>,
     words: &[&str],
 ) -> Result<Job, WordError>
-    ensures job { IfOk result (λ job. stored_query kernel.now (option_map (λ s. s.now) budget.entry) (option_map (λ s. s.now) limit.entry) hold (map (λ s. s.now) words.now) ≡ Some job) }
-    ensures refusal { IfErr result (OnNotACommand (stored_query kernel.now (option_map (λ s. s.now) budget.entry) (option_map (λ s. s.now) limit.entry) hold (map (λ s. s.now) words.now) ≡ None)) }
+    ensures job { IfOk result (λ job. stored_query kernel.now (options_of options.now).budget (options_of options.now).clause_limit (options_of options.now).hold (map (λ s. s.now) words.now) ≡ Some job) }
+    ensures refusal { IfErr result (OnNotACommand (stored_query kernel.now (options_of options.now).budget (options_of options.now).clause_limit (options_of options.now).hold (map (λ s. s.now) words.now) ≡ None)) }
     ensures limited { IfOk result IsInLimits }
 {
-    if limit.is_some() || hold {
+    if options.clause_limit.is_some() || options.hold {
         return Err(WordError::NotACommand);
     }
     let kernel = path_in(alloc, kernel)?;
-    let budget = budget_of(budget)?;
+    let budget = budget_of(options.budget)?;
     let goals = goals_in(alloc, words)?;
     Ok(Job::StoredQuery {
         kernel,
@@ -274,58 +275,22 @@ pub(crate) fn job_named<'a>(
     name: &str,
     given: &ArgMatches<'a>,
 ) -> Result<Job, WordError>
-    ensures job { IfOk result (λ job. job_named name.now (first_value (found_of given.now)) (words_in (found_of given.now)) ≡ Some job) }
-    ensures refusal { IfErr result (OnNotACommand (job_named name.now (first_value (found_of given.now)) (words_in (found_of given.now)) ≡ None)) }
+    ensures job { IfOk result (λ job. job_named name.now (options_by (first_value (found_of given.now))) (words_in (found_of given.now)) ≡ Some job) }
+    ensures refusal { IfErr result (OnNotACommand (job_named name.now (options_by (first_value (found_of given.now))) (words_in (found_of given.now)) ≡ None)) }
     ensures limited { IfOk result IsInLimits }
 {
     // Each command takes ordinary words, so without any there is no job.
     let Some(words) = given.get_raw("words") else {
         return Err(WordError::NotACommand);
     };
+    let options = Options::of(given);
     match name {
-        "kernel" => kernel_job(
-            alloc,
-            is_on(given.get_str("json")),
-            given.get_str("clause-limit"),
-            is_on(given.get_str("hold")),
-            words,
-        ),
-        "query" => query_job(
-            alloc,
-            given.get_str("kernel"),
-            given.get_str("budget"),
-            given.get_str("clause-limit"),
-            is_on(given.get_str("hold")),
-            words,
-        ),
-        "compare" => compare_job(
-            alloc,
-            given.get_str("budget"),
-            given.get_str("clause-limit"),
-            is_on(given.get_str("hold")),
-            words,
-        ),
-        "explain" => explain_job(
-            alloc,
-            given.get_str("budget"),
-            given.get_str("clause-limit"),
-            is_on(given.get_str("hold")),
-            words,
-        ),
-        "status" => status_job(
-            alloc,
-            given.get_str("budget"),
-            given.get_str("clause-limit"),
-            is_on(given.get_str("hold")),
-            words,
-        ),
-        "migrate" => migrate_job(
-            alloc,
-            given.get_str("budget"),
-            given.get_str("clause-limit"),
-            is_on(given.get_str("hold")),
-            words,
-        ),
+        "kernel" => kernel_job(alloc, &options, words),
+        "query" => query_job(alloc, &options, words),
+        "compare" => compare_job(alloc, &options, words),
+        "explain" => explain_job(alloc, &options, words),
+        "status" => status_job(alloc, &options, words),
+        "migrate" => migrate_job(alloc, &options, words),
         "sample" => sample_job(words),
         _ => Err(WordError::NotACommand),
     }

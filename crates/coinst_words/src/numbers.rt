@@ -2,7 +2,7 @@
 ghost use Rattle.std.specs.Prelude.{◌≡◌, ◌≤◌, ◌<◌, ◌^◌, None, Some, IfOk, IfErr, IfSome, option_map};
 ghost use Rattle.std.specs.Char.{is_ascii_digit};
 ghost use Rattle.std.specs.List.{list_all};
-ghost use Rattle.coinst_words.specs.Jobs.{budget_of, clause_limit_of, count_of, is_number, number_in, number_or, seed_of, IsBetween};
+ghost use Rattle.coinst_words.specs.Words.{budget_of, clause_limit_of, count_of, is_number, number_in, number_or, seed_of, IsBetween};
 ghost use Rattle.coinst_words.specs.Refusals.{OnNotACommand};
 ghost use Rattle.repo_model.specs.Limits.{most_packages};
 

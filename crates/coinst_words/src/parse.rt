@@ -2,11 +2,13 @@
 ghost use Rattle.std.specs.Prelude.{◌≡◌, Some, codes, false, true, IfOk, IfErr, ◌++◌, map, None, string_bytes, []};
 ghost use Rattle.clap.specs.Words.{app_of, kind_of, rule_of, with_subcommand};
 ghost use Rattle.coinst_words.specs.Program.{app_of_usages, bare_app, flag_rule, shape_of_usage, valued_rule, words_rule, IsCommand};
-ghost use Rattle.coinst_words.specs.Usage.{said_of, usages};
+ghost use Rattle.coinst_words.specs.Jobs.{usages};
+ghost use Rattle.coinst_words.specs.Usage.{said_of};
 ghost use Rattle.coinst_words.specs.Parsed.{Enters};
 ghost use Rattle.coinst_words.specs.Refusals.{OnNotACommand};
 
 use crate::error::WordError;
+use crate::jobs::USAGES;
 use clap::error::ErrorKind;
 use clap::{Arg, ArgAction, ArgMatches, Command, Error};
 use std::alloc::{AllocError, Global};
@@ -83,44 +85,11 @@ fn bare_program<'a>(alloc: Global) -> Command<'a>
 fn program<'a>(alloc: Global) -> Result<Command<'a>, AllocError>
     ensures { IfOk result (λ c. app_of c ≡ app_of_usages usages) }
 {
-    let bare = bare_program(alloc);
-    let with_kernel = add_command(alloc, bare, "kernel", &["json", "hold"], &["clause-limit"])?;
-    let with_query = add_command(
-        alloc,
-        with_kernel,
-        "query",
-        &["hold"],
-        &["budget", "clause-limit", "kernel"],
-    )?;
-    let with_compare = add_command(
-        alloc,
-        with_query,
-        "compare",
-        &["hold"],
-        &["budget", "clause-limit"],
-    )?;
-    let with_explain = add_command(
-        alloc,
-        with_compare,
-        "explain",
-        &["hold"],
-        &["budget", "clause-limit"],
-    )?;
-    let with_status = add_command(
-        alloc,
-        with_explain,
-        "status",
-        &["hold"],
-        &["budget", "clause-limit"],
-    )?;
-    let with_migrate = add_command(
-        alloc,
-        with_status,
-        "migrate",
-        &["hold"],
-        &["budget", "clause-limit"],
-    )?;
-    add_command(alloc, with_migrate, "sample", &[], &[])
+    let mut program = bare_program(alloc);
+    for (name, flags, valued) in USAGES {
+        program = add_command(alloc, program, name, flags, valued)?;
+    }
+    Ok(program)
 }
 
 // Want of memory is told apart from words that are refused.

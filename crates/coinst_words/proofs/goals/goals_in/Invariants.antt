@@ -1,5 +1,5 @@
 use Rattle.std.proofs.Common.{◌≡◌, map, take, Some}
-use Rattle.coinst_words.specs.Jobs.{goals_of}
+use Rattle.coinst_words.specs.Words.{goals_of}
 use Rattle.coinst_words.proofs.goals.goals_in.Given as goal
 
 abbrev pub invariant-loop-word : goal.invariant-loop-word

@@ -8,9 +8,10 @@ use Rattle.clap.specs.declared.builder.arg.Arg.{Arg}
 use Rattle.clap.specs.declared.builder.command.Command.{Command}
 use Rattle.clap.specs.declared.builder.command.Command.TheViews.{out-Command}
 use Rattle.std.proofs.Common.{◌≤◌, append-nil, get_or, length}
-use Rattle.std.proofs.lemmas.List.{at_drop_more, map-append, take_all, take_more}
+use Rattle.std.proofs.lemmas.List.{at_drop_all, at_drop_more, map-append, take_all, take_more}
+use Rattle.coinst_words.specs.Jobs.{usages}
 use Rattle.coinst_words.specs.Usage.{Text, Usage}
-use Rattle.coinst_words.specs.Program.{IsCommand, bare_app, flag_rule, shape_of_usage, valued_rule, words_rule}
+use Rattle.coinst_words.specs.Program.{IsCommand, app_of_usages, bare_app, flag_rule, shape_of_usage, valued_rule, words_rule}
 
 -- the command has this name and these arguments, and nothing else
 pub record IsBuilt (name : Text) (rules : List Rule) (c : Command) : Type 0 where
@@ -62,3 +63,13 @@ pub one_more : {A : Type 0} (usage : A → Usage) (all : List A) (i : ℕ) (d : 
 unfolding with_usages
 one_more usage all i d old new goal lt adds is =
     ap (λ (a : App). with_usages a (map usage (drop (i + 1) all))) adds ∙ sym (at_drop_more (λ us. with_usages old (map usage us)) all i d lt) ∙ is
+
+-- all commands are those of the program
+pub all_given : (app : App) → app ≡ bare_app [] → with_usages app usages ≡ app_of_usages usages
+unfolding with_usages
+all_given app is = ap (λ (a : App). with_usages a usages) is
+
+-- no command is left
+pub all_left : {A : Type 0} (usage : A → Usage) (all : List A) (i : ℕ) (app goal : App) → length all ≤ i → with_usages app (map usage (drop i all)) ≡ goal → app ≡ goal
+unfolding with_usages
+all_left usage all i app goal past is = sym (at_drop_all (λ us. with_usages app (map usage us)) all i past) ∙ is

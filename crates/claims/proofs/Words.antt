@@ -4,9 +4,11 @@ use Rattle.std.specs.Prelude.{codes, is_some, unwrap_or, option_and_then, option
 use Rattle.std.specs.Fmt.{decimal, digits}
 use Rattle.std.specs.Str.Parse.{digits_value}
 use Rattle.std.proofs.lemmas.Fmt.{decimal_is_IsNumeral}
-use Rattle.coinst_words.specs.Usage.{Usage, Said, Meaning, ends, flag, gives, asks, plain, refused, kernel_usage, compare_usage, nothing_said, meaning_of, value_of, give, say, read_word, read}
-use Rattle.coinst_words.specs.Jobs.{is_path, is_number, is_within, number_or, clause_limit_of, budget_of, is_on, kernel_job, two_paths, compare_job, job_of_said}
+use Rattle.coinst_words.specs.Usage.{Usage, Said, Meaning, ends, flag, gives, asks, plain, refused, nothing_said, meaning_of, value_of, give, say, read_word, read}
+use Rattle.coinst_words.specs.Words.{is_path, is_number, is_within, number_or, clause_limit_of, budget_of, two_paths}
+use Rattle.coinst_words.specs.Jobs.{Options, kernel_usage, compare_usage, options_by, settings_by, kernel_job, compare_job, job_of_said}
 use Rattle.coinst_words.specs.declared.job.Job.{Job}
+use Rattle.coinst_words.specs.declared.job.Settings.{Settings}
 use Rattle.coinst_words.specs.declared.job.Job.TheVariants.{Kernel, Compare}
 use Rattle.coinst_words.specs.Usage.{Text}
 use Rattle.claims.specs.Laws.{KernelWordsAsk, CompareWordsAsk, WordsAreTaken}
@@ -92,20 +94,23 @@ asked u words job e = go (read u nothing_said None words) refl e
     go None at h = absurd (let no : ⊥ = cc in no)
     go (Some said) at h = record { said = said; read_as = at; asks_for = h }
 
-no_words : (json : Bool) (limit : Option Text) (hold : Bool) (words : List Text) → length words ≤ 0 → kernel_job json limit hold words ≡ None
-no_words json limit hold [] l = refl
-no_words json limit hold (w ∷ words) l = absurd (omega arith)
+-- the options that were given
+abbrev options_in : List (Text × Text) → Options
+options_in given = options_by (λ name. value_of name given)
+
+no_words : (options : Options) (words : List Text) → length words ≤ 0 → kernel_job options words ≡ None
+no_words options [] l = refl
+no_words options (w ∷ words) l = absurd (omega arith)
 
 kernel_tail : (given : List (Text × Text)) (path : Text) (r : Said) (job : Job) → read kernel_usage (said_with given []) None (path ∷ []) ≡ Some r → job_of_said (kernel_usage, r) ≡ Some job
-    → kernel_job (is_on (value_of (codes "json") given)) (value_of (codes "clause-limit") given) (is_on (value_of (codes "hold") given)) (path ∷ []) ≡ Some job
+    → kernel_job (options_in given) (path ∷ []) ≡ Some job
 kernel_tail given path r job e wanted =
     elim (word_step kernel_usage path (said_with given []) [] r e) [
       | inl last ↦
           let is : say (path ∷ []) (said_with given []) ≡ r = read_all kernel_usage (say (path ∷ []) (said_with given [])) r last in
-          subst (λ (s : Said). kernel_job (is_on (value_of (codes "json") s.given)) (value_of (codes "clause-limit") s.given) (is_on (value_of (codes "hold") s.given)) s.ordinary ≡ Some job) (sym is) wanted
+          subst (λ (s : Said). kernel_job (options_in s.given) s.ordinary ≡ Some job) (sym is) wanted
       | inr none ↦
-          let nothing : kernel_job (is_on (value_of (codes "json") r.given)) (value_of (codes "clause-limit") r.given) (is_on (value_of (codes "hold") r.given)) r.ordinary ≡ None =
-          no_words (is_on (value_of (codes "json") r.given)) (value_of (codes "clause-limit") r.given) (is_on (value_of (codes "hold") r.given)) r.ordinary (omega (arith, none)) in
+          let nothing : kernel_job (options_in r.given) r.ordinary ≡ None = no_words (options_in r.given) r.ordinary (omega (arith, none)) in
           absurd (let no : ⊥ = cc (sym nothing ∙ wanted) in no)
     ]
 
@@ -120,10 +125,15 @@ number_told most default (Some m) n low e =
     go true value e = let is : digits_value 10 (decimal m) ≡ n = cc in sym is ∙ value
     go false value e = absurd (let no : ⊥ = cc in no)
 
-kernel_made : (path : Text) (json hold : Bool) (found : Option ℕ) (n : ℕ) (job : Job) → ((m : ℕ) → found ≡ Some m → m ≡ n) → cond (is_path path) (option_map (λ m. Kernel path json m hold) found) None ≡ Some job → job ≡ Kernel path json n hold
+-- what is kept to by these numbers
+abbrev kept : Option ℕ → Option ℕ → Bool → Option Settings
+kept budget limit hold = option_and_then (λ b. option_map (λ n. record { budget = b; clause_limit = n; hold = hold }) limit) budget
+
+kernel_made : (path : Text) (json hold : Bool) (found : Option ℕ) (n : ℕ) (job : Job) → ((m : ℕ) → found ≡ Some m → m ≡ n)
+    → cond (is_path path) (option_map (λ (s : Settings). Kernel path json s.clause_limit s.hold) (kept (Some 10000) found hold)) None ≡ Some job → job ≡ Kernel path json n hold
 kernel_made path json hold found n job told e = go (is_path path) found refl e
   where
-    go : (b : Bool) (it : Option ℕ) → found ≡ it → cond b (option_map (λ m. Kernel path json m hold) it) None ≡ Some job → job ≡ Kernel path json n hold
+    go : (b : Bool) (it : Option ℕ) → found ≡ it → cond b (option_map (λ (s : Settings). Kernel path json s.clause_limit s.hold) (kept (Some 10000) it hold)) None ≡ Some job → job ≡ Kernel path json n hold
     go false it at h = absurd (let no : ⊥ = cc in no)
     go true None at h = absurd (let no : ⊥ = cc in no)
     go true (Some m) at h = let is : Kernel path json m hold ≡ job = cc in sym is ∙ ap (λ k. Kernel path json k hold) (told m at)
@@ -150,30 +160,31 @@ short_words [] l = refl
 short_words (w ∷ []) l = refl
 short_words (w ∷ v ∷ words) l = absurd (omega arith)
 
-too_few : (budget limit : Option Text) (hold : Bool) (words : List Text) (job : Job) → length words ≤ 1 → compare_job budget limit hold words ≡ Some job → ⊥
-too_few budget limit hold words job l e =
-    let none : compare_job budget limit hold words ≡ None = ap (option_and_then (λ p. option_and_then (λ b. option_map (λ n. Compare p.0 p.1 b n hold) (clause_limit_of limit)) (budget_of budget))) (short_words words l) in
+too_few : (options : Options) (words : List Text) (job : Job) → length words ≤ 1 → compare_job options words ≡ Some job → ⊥
+too_few options words job l e =
+    let none : compare_job options words ≡ None = ap (option_and_then (λ p. option_map (λ s. Compare p.0 p.1 s.budget s.clause_limit s.hold) (settings_by options))) (short_words words l) in
     let no : ⊥ = cc (sym none ∙ e) in no
 
 compare_tail : (given : List (Text × Text)) (old new : Text) (r : Said) (job : Job) → read compare_usage (said_with given []) None (old ∷ new ∷ []) ≡ Some r → job_of_said (compare_usage, r) ≡ Some job
-    → compare_job (value_of (codes "budget") given) (value_of (codes "clause-limit") given) (is_on (value_of (codes "hold") given)) (old ∷ new ∷ []) ≡ Some job
+    → compare_job (options_in given) (old ∷ new ∷ []) ≡ Some job
 compare_tail given old new r job e wanted =
-    let few : length r.ordinary ≤ 1 → ⊥ = λ l. too_few (value_of (codes "budget") r.given) (value_of (codes "clause-limit") r.given) (is_on (value_of (codes "hold") r.given)) r.ordinary job l wanted in
+    let few : length r.ordinary ≤ 1 → ⊥ = λ l. too_few (options_in r.given) r.ordinary job l wanted in
     elim (word_step compare_usage old (said_with given []) (new ∷ []) r e) [
       | inl next ↦ elim (word_step compare_usage new (said_with given (old ∷ [])) [] r next) [
         | inl last ↦
             let is : said_with given (old ∷ new ∷ []) ≡ r = read_all compare_usage (said_with given (old ∷ new ∷ [])) r last in
-            subst (λ (s : Said). compare_job (value_of (codes "budget") s.given) (value_of (codes "clause-limit") s.given) (is_on (value_of (codes "hold") s.given)) s.ordinary ≡ Some job) (sym is) wanted
+            subst (λ (s : Said). compare_job (options_in s.given) s.ordinary ≡ Some job) (sym is) wanted
         | inr one ↦ absurd (few (omega (arith, one)))
       ]
       | inr one ↦ absurd (few (omega (arith, one)))
     ]
 
 compare_made : (old new : Text) (hold : Bool) (budget limit : Option ℕ) (b n : ℕ) (job : Job) → ((m : ℕ) → budget ≡ Some m → m ≡ b) → ((m : ℕ) → limit ≡ Some m → m ≡ n)
-    → option_and_then (λ p. option_and_then (λ k. option_map (λ m. Compare p.0 p.1 k m hold) limit) budget) (two_paths (old ∷ new ∷ [])) ≡ Some job → job ≡ Compare old new b n hold
+    → option_and_then (λ (p : Text × Text). option_map (λ (s : Settings). Compare p.0 p.1 s.budget s.clause_limit s.hold) (kept budget limit hold)) (two_paths (old ∷ new ∷ [])) ≡ Some job → job ≡ Compare old new b n hold
 compare_made old new hold budget limit b n job told_budget told_limit e = go (is_path old && is_path new) budget refl limit refl e
   where
-    go : (t : Bool) (x : Option ℕ) → budget ≡ x → (y : Option ℕ) → limit ≡ y → option_and_then (λ (p : Text × Text). option_and_then (λ k. option_map (λ m. Compare p.0 p.1 k m hold) y) x) (cond t (Some (old, new)) None) ≡ Some job → job ≡ Compare old new b n hold
+    go : (t : Bool) (x : Option ℕ) → budget ≡ x → (y : Option ℕ) → limit ≡ y
+        → option_and_then (λ (p : Text × Text). option_map (λ (s : Settings). Compare p.0 p.1 s.budget s.clause_limit s.hold) (kept x y hold)) (cond t (Some (old, new)) None) ≡ Some job → job ≡ Compare old new b n hold
     go false x f y g h = absurd (let no : ⊥ = cc in no)
     go true None f y g h = absurd (let no : ⊥ = cc in no)
     go true (Some k) f None g h = absurd (let no : ⊥ = cc in no)

@@ -11,7 +11,7 @@ import os
 import re
 import subprocess
 
-SIGN = "-conflict-pairs-only"
+SIGN, SECONDS = "-conflict-pairs-only", 600
 NUMBER = re.compile(r"p(\d+) \(= 1\)")
 
 
@@ -58,11 +58,17 @@ def pairs_of(told):
 
 
 def broken_by_coinst(program, judge, where):
-    """The names of which no package can be installed, and the pairs of others of which no two packages can be together: tuples of names."""
+    """The names of which no package can be installed, and the pairs of others of which no two packages can be together: tuples of names.
+
+    None if it takes too long: it has no limit on clauses, and a suite with its security archive has very many.
+    """
     plain, pairs = os.path.join(where, "plain"), os.path.join(where, "pairs")
     write_plain(judge, plain)
     words = [program, SIGN, "-conflicts", pairs, "-o", os.devnull, plain]
-    done = subprocess.run(words, stdin=subprocess.DEVNULL, stdout=subprocess.PIPE, stderr=subprocess.DEVNULL, text=True, check=True, timeout=3600)
+    try:
+        done = subprocess.run(words, stdin=subprocess.DEVNULL, stdout=subprocess.PIPE, stderr=subprocess.DEVNULL, text=True, check=True, timeout=SECONDS)
+    except subprocess.TimeoutExpired:
+        return None
     with open(pairs, encoding="ascii") as file:
         told = json.load(file)
     dead = dead_of(done.stdout)

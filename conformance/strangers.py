@@ -91,7 +91,11 @@ def never_by_dose(path):
     """The (name, version) that dose finds broken."""
     words = [CHECKER, "--deb-native-arch=amd64", "-f", path]
     done = subprocess.run(words, stdin=subprocess.DEVNULL, capture_output=True, text=True, timeout=3600)
-    return set(re.findall(r"^ *package: (\S+)\n *version: (\S+)\n(?: *(?!package|status)\S+: .*\n)* *status: broken", done.stdout, re.M))
+    found = set(re.findall(r"^ *package: (\S+)\n *version: (\S+)\n(?: *(?!package|status)\S+: .*\n)* *status: broken", done.stdout, re.M))
+    told = re.search(r"^broken-packages: (\d+)$", done.stdout, re.M)
+    if not told or int(told[1]) != len(found):
+        raise RuntimeError("%s ended with %d, and not with the packages that it counts" % (CHECKER, done.returncode))
+    return found
 
 
 def never_by_program(where, text):

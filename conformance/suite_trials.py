@@ -151,7 +151,7 @@ def try_comparison(tally, draw, where, paths, judges, count, has, what):
 
 def try_never_of(tally, where, path, what):
     ours, dose = never_by_program(where, write_kernel(where, path)), never_by_dose(path)
-    tally.count(bool(dose) and ours == dose, "%s: never installable: not by dose %s, by dose alone %s" % (what, sorted(ours - dose), sorted(dose - ours)))
+    tally.count(ours == dose, "%s: never installable: not by dose %s, by dose alone %s" % (what, sorted(ours - dose), sorted(dose - ours)))
     print("%s: %d packages can never be installed, %d by dose" % (what, len(ours), len(dose)), flush=True)
 
 

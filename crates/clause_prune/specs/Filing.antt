@@ -1,51 +1,99 @@
 -- for the bodies of this crate alone
--- Which packages are asked whether they see to it that a clause is hit: those that are filed under one of its members. A
--- package that does so without being a member has a clause within the one at hand, whose first number is a member.
-use Rattle.std.specs.Prelude.{◌≡◌, ◌<◌, ◌%◌, ◌⊎◌, ◌||◌, ℕ, Bool, true, List, [], ◌∷◌, length}
+-- Which packages see to it that a clause is hit: those that are filed under one of its members with a clause that lies within
+-- it. A package that does so without being a member has such a clause, whose first number is a member.
+use Rattle.std.specs.Prelude.{◌≡◌, ◌<◌, ◌%◌, ◌⊎◌, ◌&&◌, ◌||◌, ℕ, Bool, true, eqb, List, [], ◌∷◌, length, map, slice_index_or}
 use Rattle.std.specs.List.{list_any}
 use Rattle.std.specs.Global.{Vec}
-use Rattle.listed.specs.Lists.{In, has}
-use Rattle.row_book.specs.Book.{listed_for}
-use Rattle.row_book.specs.Holders.{HasAll}
-use Rattle.row_book.specs.Repository.{Repository}
+use Rattle.clause_pool.specs.Interned.{Interned, clause_at}
+use Rattle.listed.specs.Lists.{In, has, is_inside}
+use Rattle.row_book.specs.Repository.{Repository, clauses_of}
 use Rattle.row_book.specs.Pruning.{serves}
-use Rattle.row_book.specs.Uses.{lists_in}
+use Rattle.clause_prune.specs.Tests.{with_ids}
+use Rattle.clause_prune.specs.declared.filing.Entry.{Entry}
 
--- the packages that are asked about every clause, and lists of packages
+-- the packages that are asked about every clause, and lists of packages with clauses that they have
 pub record Filed : Type 0 where
   pub always : List ℕ
-  pub lists : List (List ℕ)
+  pub lists : List (List Entry)
 
-abbrev pub filed_in : List ℕ → List (Vec ℕ) → Filed
-filed_in always lists = record { always = always; lists = lists_in lists }
+abbrev pub entries_in : List (Vec Entry) → List (List Entry)
+entries_in lists = map (λ v. v.items) lists
+
+abbrev pub filed_in : List ℕ → List (Vec Entry) → Filed
+filed_in always lists = record { always = always; lists = entries_in lists }
+
+-- the list at a place
+abbrev pub entries_at : List (List Entry) → ℕ → List Entry
+entries_at lists place = slice_index_or lists place []
 
 -- the list that a number has, with others
-abbrev pub under : List (List ℕ) → ℕ → List ℕ
-under lists number = listed_for lists (number % length lists)
+abbrev pub under : List (List Entry) → ℕ → List Entry
+under lists number = entries_at lists (number % length lists)
+
+-- the package stands in the list with this clause
+pub record Stands (pool : Interned) (entries : List Entry) (n : ℕ) (c : List ℕ) : Type 0 where
+  pub entry : Entry
+  pub there : In entry entries
+  pub «package» : entry.«package» ≡ n
+  pub clause : clause_at pool entry.clause ≡ c
 
 -- the package is filed for its clause: among those that are always asked, or under the first number of the clause if that is
 -- one of the members
-abbrev pub IsFiled : List ℕ → Filed → List ℕ → ℕ → Type 0
-IsFiled members f [] n = In n f.always
-IsFiled members f (x ∷ c) n = In x members → In n f.always ⊎ In n (under f.lists x)
+abbrev pub IsFiled : Interned → List ℕ → Filed → List ℕ → ℕ → Type 0
+IsFiled pool members f [] n = In n f.always
+IsFiled pool members f (x ∷ c) n = In x members → In n f.always ⊎ Stands pool (under f.lists x) n (x ∷ c)
 
--- whether the package is asked about the clause: always, or since it is filed under a member
-abbrev pub asks : Filed → List ℕ → ℕ → Bool
-asks f d n = has f.always n || list_any (λ x. has (under f.lists x) n) d
+-- whether the entry is of the package, and its clause lies within d
+abbrev pub tells_within : Interned → List ℕ → ℕ → Entry → Bool
+tells_within pool d n e = eqb n e.«package» && is_inside (clause_at pool e.clause) d
 
--- each member of the clauses that sees to it that the clause d is hit is a member of d, or asked about it
-abbrev pub AsksServing : Repository → List (List ℕ) → Filed → List ℕ → Type 0
-AsksServing R cs f d = (c : List ℕ) → In c cs → (n : ℕ) → In n c → serves R d n ≡ true → (has d n || asks f d n) ≡ true
+-- whether one of the entries is so
+abbrev pub tell_within : Interned → List Entry → List ℕ → ℕ → Bool
+tell_within pool entries d n = list_any (tells_within pool d n) entries
 
--- no package is filed but some below the size
-pub record FiledBelow (size : ℕ) (f : Filed) : Type 0 where
-  pub always : (n : ℕ) → In n f.always → n < size
-  pub lists : (place n : ℕ) → In n (listed_for f.lists place) → n < size
+-- whether the package is filed under a member of d with a clause within d
+abbrev pub filed_within : Interned → List (List Entry) → List ℕ → ℕ → Bool
+filed_within pool lists d n = list_any (λ x. tell_within pool (under lists x) d n) d
 
--- as many lists, which have all that they had, and no others but the package
-pub record Takes (other : ℕ) (old new : Filed) : Type 0 where
+-- whether the package is asked about every clause, or filed so
+abbrev pub asks : Interned → Filed → List ℕ → ℕ → Bool
+asks pool f d n = has f.always n || filed_within pool f.lists d n
+
+-- each member of the clauses that sees to it that the clause d is hit is a member of d, asked about every clause, or filed
+-- with a clause within d
+abbrev pub AsksServing : Interned → Repository → List (List ℕ) → Filed → List ℕ → Type 0
+AsksServing pool R cs f d = (c : List ℕ) → In c cs → (n : ℕ) → In n c → serves R d n ≡ true → (has d n || asks pool f d n) ≡ true
+
+-- the clause is of the pool, and the package has it whatever is left of the pruned package p
+pub record HasClause (pool : Interned) (rows : List ℕ) (p : ℕ) (e : Entry) : Type 0 where
+  pub of_pool : e.clause < length pool.clauses
+  pub has : (left : List ℕ) → In (clause_at pool e.clause) (clauses_of (with_ids pool rows p left []) e.«package»)
+
+-- all that is filed is so, and none is always asked but packages
+pub record FiledFor (pool : Interned) (rows : List ℕ) (p : ℕ) (f : Filed) : Type 0 where
+  pub always : (n : ℕ) → In n f.always → n < length rows
+  pub lists : (place : ℕ) (e : Entry) → In e (entries_at f.lists place) → HasClause pool rows p e
+
+-- all clauses of the entries are of the pool
+abbrev pub AreOfPool : Interned → List (List Entry) → Type 0
+AreOfPool pool lists = (place : ℕ) (e : Entry) → In e (entries_at lists place) → e.clause < length pool.clauses
+
+-- as many lists, which have all that they had, and no others but the entry
+pub record Gains (entry : Entry) (old new : List (List Entry)) : Type 0 where
+  pub size : length new ≡ length old
+  pub stays : (place : ℕ) (e : Entry) → In e (entries_at old place) → In e (entries_at new place)
+  pub came : (place : ℕ) (e : Entry) → In e (entries_at new place) → In e (entries_at old place) ⊎ (e ≡ entry)
+
+-- the entry is of the package, which is another one than p, and one of these clauses
+pub record IsOf (p other : ℕ) (row : List ℕ) (e : Entry) : Type 0 where
+  pub «package» : e.«package» ≡ other
+  pub apart : other ≡ p → ⊥
+  pub clause : In e.clause row
+
+-- as many lists, which have all that they had, and no others but the package, with clauses of the row
+pub record Takes (p other : ℕ) (row : List ℕ) (old new : Filed) : Type 0 where
   pub size : length new.lists ≡ length old.lists
   pub always : (n : ℕ) → In n old.always → In n new.always
-  pub lists : HasAll old.lists new.lists
+  pub lists : (place : ℕ) (e : Entry) → In e (entries_at old.lists place) → In e (entries_at new.lists place)
   pub always_came : (n : ℕ) → In n new.always → In n old.always ⊎ (n ≡ other)
-  pub lists_came : (place n : ℕ) → In n (listed_for new.lists place) → In n (listed_for old.lists place) ⊎ (n ≡ other)
+  pub lists_came : (place : ℕ) (e : Entry) → In e (entries_at new.lists place) → In e (entries_at old.lists place) ⊎ IsOf p other row e

@@ -8,7 +8,7 @@ ghost use Rattle.row_book.specs.Repository.{Repository};
 ghost use Rattle.row_book.specs.Pruning.{prune_clause, prune_clauses};
 ghost use Rattle.row_book.specs.Rounds.{IdleStep, RoundStep};
 ghost use Rattle.row_book.specs.Trail.{trail_meaning};
-ghost use Rattle.clause_prune.specs.Filing.{AsksServing, FiledBelow};
+ghost use Rattle.clause_prune.specs.Filing.{AsksServing, FiledFor};
 ghost use Rattle.clause_prune.specs.Tests.{with_ids};
 
 use crate::filing::Filed;
@@ -41,8 +41,8 @@ fn prune_one(
     requires table { (p : ℕ) → Ascending (listed_for table.now p) }
     requires clause { clause < length pool.now.clauses }
     requires own { (n : ℕ) → In n (clause_at pool.now clause) → n < length rows.now }
-    requires below { FiledBelow (length rows.now) filed.now }
-    requires asks { AsksServing (with_ids pool.now rows.now number left.old []) (clauses_at pool.now left.old) filed.now (clause_at pool.now clause) }
+    requires filed { FiledFor pool.now rows.now number filed.now }
+    requires asks { AsksServing pool.now (with_ids pool.now rows.now number left.old []) (clauses_at pool.now left.old) filed.now (clause_at pool.now clause) }
     ensures left { OnOk result (◌≡◌ {A = Repository} (with_ids pool.now rows.now number left.new table.now)
         (prune_clause (with_ids pool.now rows.now number left.old table.now) number (clause_at pool.now clause)).left) }
     ensures part { OnOk result ((id : ℕ) → In id left.new → In id left.old) }

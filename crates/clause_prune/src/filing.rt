@@ -1,19 +1,21 @@
-//! Which packages are asked whether they see to it that a clause is hit.
-ghost use Rattle.std.specs.Prelude.{◌≡◌, ◌<◌, ◌∷◌, ◌++◌, ◌%◌, ◌⊎◌, [], ℕ, IfOk, List, OnOk, length};
-ghost use Rattle.std.specs.Bool.{OnTrue};
-ghost use Rattle.clause_pool.specs.Interned.{clauses_at, OfPool};
+//! Which packages see to it that a clause is hit.
+//!
+//! As in tests of one clause against many for inclusion (forward subsumption), each clause of a member is kept under its first
+//! number with the package that has it. A question about a clause then looks at the clauses that begin with one of its
+//! numbers, and at no whole row. Most of those that are looked at lie within it, so that no filter stands before the look.
+ghost use Rattle.std.specs.Prelude.{◌≡◌, ◌<◌, ◌≤◌, ◌∷◌, ◌++◌, ◌%◌, ◌⊎◌, ◌||◌, [], ℕ, IfOk, List, OnOk, length, map, slice_index_or};
+ghost use Rattle.std.specs.Bool.{OnFalse};
+ghost use Rattle.clause_pool.specs.Interned.{clause_at, clauses_at, IsPool, OfPool};
 ghost use Rattle.listed.specs.Lists.{has, In, Ascending};
 ghost use Rattle.clause_pool.specs.Lists.{InOrder};
 ghost use Rattle.row_book.specs.Book.{RowsFit};
 ghost use Rattle.row_book.specs.Repository.{clauses_of};
-ghost use Rattle.row_book.specs.Uses.{list_in, lists_in};
-ghost use Rattle.row_book.specs.Holders.{GainsOnly, HasAll};
-ghost use Rattle.clause_prune.specs.Filing.{asks, filed_in, under, AsksServing, FiledBelow, IsFiled, Takes};
+ghost use Rattle.clause_prune.specs.Filing.{entries_at, entries_in, filed_in, filed_within, tell_within, under, AreOfPool, AsksServing, FiledFor, Gains, IsFiled, Takes};
 ghost use Rattle.clause_prune.specs.Tests.{with_ids};
 
 use crate::forced::clauses_of;
 use clause_pool::{ClauseId, Pool, RowId};
-use listed::{empty_vectors, holds_ascending};
+use listed::{empty_vectors, holds_ascending, is_inside_ascending};
 use row_book::distinct_numbers_in;
 use std::alloc::{AllocError, Global};
 use std::marker::Model;
@@ -21,17 +23,20 @@ use std::marker::Model;
 /// A row with so few clauses that no member is filed, and each is asked about each of them.
 const SHORT: usize = 8;
 
-/// How many times as long as the row of a member the pruned row has to be for the member to be filed: going over a longer
-/// one would cost more than asking the member each time.
-const LONGER: usize = 4;
+/// A package and a clause that it has.
+#[derive(Clone, Copy)]
+pub(crate) struct Entry {
+    package: u32,
+    clause: ClauseId,
+}
 
-/// The packages that have clauses, by the first numbers of these: a package can only see to it that a clause is hit if it is
-/// a member, or if a clause of its own begins with one. Several numbers share a list, and whoever is asked is tested. A
-/// package with an empty clause or a long row is asked about every clause.
+/// The packages that have clauses, with these, by the first numbers of these: a package can only see to it that a clause is
+/// hit if it is a member, or if a clause of its own lies within, which begins with a member. Several numbers share a list.
+/// A package with an empty clause or a long row, and the one that is pruned, which loses clauses, are asked about every clause.
 #[derive(Drop)]
 pub(crate) struct Filed {
     always: Vec<u32>,
-    lists: Vec<Vec<u32>>,
+    lists: Vec<Vec<Entry>>,
 }
 
 impl Model for Filed {
@@ -57,8 +62,8 @@ impl Filed {
         requires order { InOrder (clauses_at pool.now ids.now) }
         requires members { (c : List ℕ) → In c (clauses_at pool.now ids.now) → (n : ℕ) → In n c → n < length rows.now }
         ensures asks { IfOk result (λ filed. (d : List ℕ) → In d (clauses_at pool.now ids.now) →
-            AsksServing (with_ids pool.now rows.now number ids.now []) (clauses_at pool.now ids.now) filed d) }
-        ensures below { IfOk result (FiledBelow (length rows.now)) }
+            AsksServing pool.now (with_ids pool.now rows.now number ids.now []) (clauses_at pool.now ids.now) filed d) }
+        ensures sound { IfOk result (FiledFor pool.now rows.now number) }
     {
         let mut always = Vec::new(alloc);
         let mut lists = empty_vectors(alloc, list_count(ids.len()))?;
@@ -67,12 +72,25 @@ impl Filed {
         Ok(Filed { always, lists })
     }
 
-    /// The packages that are asked about the clause beside its members.
-    pub(crate) fn asked(&self, alloc: Global, clause: &[u32]) -> Result<Vec<u32>, AllocError>
-        ensures { IfOk result (λ asked. (n : ℕ) → has asked.items n ≡ asks self.now clause.now n) }
+    /// Lends the packages that are asked about every clause.
+    pub(crate) fn always(&self) -> &[u32]
+        ensures { result.now ≡ self.now.always }
     {
-        let always = self.always.as_slice();
-        asked_among(alloc, always, self.lists.as_slice(), clause)
+        self.always.as_slice()
+    }
+
+    /// Puts the packages that are filed with a clause within the given one behind the others.
+    pub(crate) fn push_within(
+        &self,
+        pool: &Pool,
+        clause: &[u32],
+        found: &mut Vec<u32>,
+    ) -> Result<(), AllocError>
+        requires of_pool { AreOfPool pool.now self.now.lists }
+        requires clause { Ascending clause.now }
+        ensures { OnOk result ((n : ℕ) → has found.new.items n ≡ (has found.old.items n || filed_within pool.now self.now.lists clause.now n)) }
+    {
+        push_each_within(pool, self.lists.as_slice(), clause, found)
     }
 }
 
@@ -84,7 +102,7 @@ fn file_members(
     number: u32,
     ids: &[ClauseId],
     always: &mut Vec<u32>,
-    lists: &mut [Vec<u32>],
+    lists: &mut [Vec<Entry>],
 ) -> Result<(), AllocError>
     requires fit { RowsFit pool.now rows.now }
     requires inside { number < length rows.now }
@@ -92,10 +110,10 @@ fn file_members(
     requires order { InOrder (clauses_at pool.now ids.now) }
     requires members { (c : List ℕ) → In c (clauses_at pool.now ids.now) → (n : ℕ) → In n c → n < length rows.now }
     requires none { always.old.items ≡ [] }
-    requires empty { (n : ℕ) → list_in lists.old n ≡ [] }
+    requires empty { (n : ℕ) → slice_index_or (entries_in lists.old) n [] ≡ [] }
     ensures asks { OnOk result ((d : List ℕ) → In d (clauses_at pool.now ids.now) →
-        AsksServing (with_ids pool.now rows.now number ids.now []) (clauses_at pool.now ids.now) (filed_in always.new.items lists.new) d) }
-    ensures below { OnOk result (FiledBelow (length rows.now) (filed_in always.new.items lists.new)) }
+        AsksServing pool.now (with_ids pool.now rows.now number ids.now []) (clauses_at pool.now ids.now) (filed_in always.new.items lists.new) d) }
+    ensures sound { OnOk result (FiledFor pool.now rows.now number (filed_in always.new.items lists.new)) }
 {
     let members = distinct_numbers_in(alloc, pool, ids)?;
     file_each(pool, rows, number, ids, members.as_slice(), always, lists)?;
@@ -115,7 +133,7 @@ fn file_each(
     left: &[ClauseId],
     members: &[u32],
     always: &mut Vec<u32>,
-    lists: &mut [Vec<u32>],
+    lists: &mut [Vec<Entry>],
 ) -> Result<(), AllocError>
     requires fit { RowsFit pool.now rows.now }
     requires inside { number < length rows.now }
@@ -124,79 +142,96 @@ fn file_each(
     requires members { (n : ℕ) → In n members.now → n < length rows.now }
     requires ascending { Ascending members.now }
     ensures filed { OnOk result ((n : ℕ) → In n members.now → (e : List ℕ) → In e (clauses_of (with_ids pool.now rows.now number left.now []) n) →
-        IsFiled members.now (filed_in always.new.items lists.new) e n) }
-    ensures below { OnOk result (FiledBelow (length rows.now) (filed_in always.old.items lists.old) → FiledBelow (length rows.now) (filed_in always.new.items lists.new)) }
+        IsFiled pool.now members.now (filed_in always.new.items lists.new) e n) }
+    ensures sound { OnOk result (FiledFor pool.now rows.now number (filed_in always.old.items lists.old) → FiledFor pool.now rows.now number (filed_in always.new.items lists.new)) }
 {
     for member in members {
         let row = clauses_of(pool, rows, number, left, *member);
-        file_row(pool, row, members, always, lists, *member)?;
+        file_row(pool, row, members, always, lists, number, *member)?;
     }
     Ok(())
 }
 
-/// Files the package for each clause of its row.
+/// Whether a member with a row of so many clauses is asked about every clause: it is the package that is pruned, or its row is
+/// longer than there are lists, and going over it would cost more than asking the member each time.
+fn is_always_asked(number: u32, member: u32, clauses: usize, lists: usize) -> bool
+    ensures other { OnFalse result (member ≡ number → ⊥) }
+    ensures short { OnFalse result (clauses ≤ lists) }
+{
+    member == number || clauses > lists
+}
+
+/// Files the member for each clause of its row.
 fn file_row(
     pool: &Pool,
     row: &[ClauseId],
     members: &[u32],
     always: &mut Vec<u32>,
-    lists: &mut [Vec<u32>],
+    lists: &mut [Vec<Entry>],
     number: u32,
+    member: u32,
 ) -> Result<(), AllocError>
     requires row { OfPool pool.now row.now }
     requires ascending { Ascending members.now }
-    ensures filed { OnOk result ((e : List ℕ) → In e (clauses_at pool.now row.now) → IsFiled members.now (filed_in always.new.items lists.new) e number) }
-    ensures takes { OnOk result (Takes number (filed_in always.old.items lists.old) (filed_in always.new.items lists.new)) }
+    ensures filed { OnOk result ((e : List ℕ) → In e (clauses_at pool.now row.now) → IsFiled pool.now members.now (filed_in always.new.items lists.new) e member) }
+    ensures takes { OnOk result (Takes number member row.now (filed_in always.old.items lists.old) (filed_in always.new.items lists.new)) }
 {
-    if row.len() > lists.len() / LONGER {
-        always.push(number)?;
+    if is_always_asked(number, member, row.len(), lists.len()) {
+        always.push(member)?;
         return Ok(());
     }
     for id in row {
-        file_clause(pool.slice(*id), members, always, lists, number)?;
+        file_clause(pool, *id, members, always, lists, member)?;
     }
     Ok(())
 }
 
-/// Files the package for a clause that it has.
+/// Files the member for a clause that it has.
 fn file_clause(
-    clause: &[u32],
+    pool: &Pool,
+    clause: ClauseId,
     members: &[u32],
     always: &mut Vec<u32>,
-    lists: &mut [Vec<u32>],
-    number: u32,
+    lists: &mut [Vec<Entry>],
+    member: u32,
 ) -> Result<(), AllocError>
+    requires clause { clause < length pool.now.clauses }
     requires some { 0 < length lists.old }
     requires ascending { Ascending members.now }
-    ensures filed { OnOk result (IsFiled members.now (filed_in always.new.items lists.new) clause.now number) }
-    ensures takes { OnOk result (Takes number (filed_in always.old.items lists.old) (filed_in always.new.items lists.new)) }
+    ensures filed { OnOk result (IsFiled pool.now members.now (filed_in always.new.items lists.new) (clause_at pool.now clause) member) }
+    ensures takes { OnOk result ((number : ℕ) → (member ≡ number → ⊥) → Takes number member (clause ∷ []) (filed_in always.old.items lists.old) (filed_in always.new.items lists.new)) }
 {
-    match clause.split_first() {
+    match pool.slice(clause).split_first() {
         None => {
-            always.push(number)?;
+            always.push(member)?;
             Ok(())
         }
-        Some((first, _)) => file_under(*first, members, lists, number),
+        Some((first, _)) => {
+            let entry = Entry {
+                package: member,
+                clause,
+            };
+            file_under(*first, members, lists, entry)
+        }
     }
 }
 
-/// Files the package under the number, if that is one of the members.
+/// Puts the entry under the number, if that is one of the members.
 fn file_under(
     number: u32,
     members: &[u32],
-    lists: &mut [Vec<u32>],
-    member: u32,
+    lists: &mut [Vec<Entry>],
+    entry: Entry,
 ) -> Result<(), AllocError>
     requires some { 0 < length lists.old }
     requires ascending { Ascending members.now }
-    ensures filed { OnOk result (In number members.now → In member (under (lists_in lists.new) number)) }
-    ensures stays { HasAll (lists_in lists.old) (lists_in lists.new) }
-    ensures came { (place n : ℕ) → In n (list_in lists.new place) → In n (list_in lists.old place) ⊎ (n ≡ member) }
+    ensures filed { OnOk result (In number members.now → In entry (under (entries_in lists.new) number)) }
+    ensures gains { OnOk result (Gains entry (entries_in lists.old) (entries_in lists.new)) }
 {
     if !holds_ascending(members, number) {
         return Ok(());
     }
-    push_once(lists, place_in(number, lists.len()), member)
+    push_entry(lists, place_in(number, lists.len()), entry)
 }
 
 /// The place of the list that a number has among so many.
@@ -208,33 +243,19 @@ fn place_in(number: u32, size: usize) -> usize
     number as usize % size
 }
 
-/// Puts an item behind the others in a list, unless it is the last one there; where no memory is found, the list stays.
-fn push_once(lists: &mut [Vec<u32>], place: usize, item: u32) -> Result<(), AllocError>
+/// Puts an entry behind the others in a list.
+fn push_entry(lists: &mut [Vec<Entry>], place: usize, entry: Entry) -> Result<(), AllocError>
     requires { place < length lists.old }
-    ensures there { OnOk result (In item (list_in lists.new place)) }
-    ensures stays { HasAll (lists_in lists.old) (lists_in lists.new) }
-    ensures came { GainsOnly (place ∷ []) item (lists_in lists.old) (lists_in lists.new) }
+    ensures there { OnOk result (In entry (entries_at (entries_in lists.new) place)) }
+    ensures gains { OnOk result (Gains entry (entries_in lists.old) (entries_in lists.new)) }
 {
-    if ends_with(lists[place].as_slice(), item) {
-        return Ok(());
-    }
-    lists[place].push(item)?;
+    lists[place].push(entry)?;
     Ok(())
 }
 
-/// Whether the item is the last one in the list.
-fn ends_with(list: &[u32], item: u32) -> bool
-    ensures { OnTrue result (In item list.now) }
-{
-    match list.last() {
-        Some(last) => *last == item,
-        None => false,
-    }
-}
-
 /// Lends the list that a number has, which is empty where there are no lists.
-fn list_under(lists: &[Vec<u32>], number: u32) -> &[u32]
-    ensures { result.now ≡ under (lists_in lists.now) number }
+fn list_under(lists: &[Vec<Entry>], number: u32) -> &[Entry]
+    ensures { result.now ≡ under (entries_in lists.now) number }
 {
     if lists.is_empty() {
         return &[];
@@ -242,30 +263,38 @@ fn list_under(lists: &[Vec<u32>], number: u32) -> &[u32]
     lists[place_in(number, lists.len())].as_slice()
 }
 
-/// Puts the numbers in order, each once, unless they rise already; the same numbers are there.
-fn put_in_order(numbers: &mut Vec<u32>)
-    ensures { (n : ℕ) → has numbers.new.items n ≡ has numbers.old.items n }
+/// Puts the packages of those entries whose clauses lie within the given one behind the others.
+fn push_packages(
+    pool: &Pool,
+    list: &[Entry],
+    clause: &[u32],
+    found: &mut Vec<u32>,
+) -> Result<(), AllocError>
+    requires of_pool { (e : Entry) → In e list.now → e.clause < length pool.now.clauses }
+    requires clause { Ascending clause.now }
+    ensures { OnOk result ((n : ℕ) → has found.new.items n ≡ (has found.old.items n || tell_within pool.now list.now clause.now n)) }
 {
-    if numbers.is_sorted() {
-        return;
+    for entry in list {
+        if is_inside_ascending(pool.slice(entry.clause), clause) {
+            found.push(entry.package)?;
+        }
     }
-    numbers.sort_unstable();
-    numbers.dedup();
+    Ok(())
 }
 
-/// The packages that are always asked, and those in the lists of the members of the clause.
-fn asked_among(
-    alloc: Global,
-    always: &[u32],
-    lists: &[Vec<u32>],
+/// Does so with the lists of all members of the clause.
+fn push_each_within(
+    pool: &Pool,
+    lists: &[Vec<Entry>],
     clause: &[u32],
-) -> Result<Vec<u32>, AllocError>
-    ensures { IfOk result (λ asked. (n : ℕ) → has asked.items n ≡ asks (filed_in always.now lists.now) clause.now n) }
+    found: &mut Vec<u32>,
+) -> Result<(), AllocError>
+    requires of_pool { AreOfPool pool.now (entries_in lists.now) }
+    requires clause { Ascending clause.now }
+    ensures { OnOk result ((n : ℕ) → has found.new.items n ≡ (has found.old.items n || filed_within pool.now (entries_in lists.now) clause.now n)) }
 {
-    let mut asked = Vec::from_slice(alloc, always)?;
     for number in clause {
-        asked.extend_from_slice(list_under(lists, *number))?;
+        push_packages(pool, list_under(lists, *number), clause, found)?;
     }
-    put_in_order(&mut asked);
-    Ok(asked)
+    Ok(())
 }

@@ -1,5 +1,5 @@
 //! Whether a clause is hit as soon as the others are.
-ghost use Rattle.std.specs.Prelude.{◌≡◌, ◌<◌, ◌||◌, [], ℕ, IfOk, filter, length, true};
+ghost use Rattle.std.specs.Prelude.{◌≡◌, ◌<◌, ◌||◌, ◌++◌, [], ℕ, IfOk, filter, length, true};
 ghost use Rattle.clause_pool.specs.Interned.{clause_at, clauses_at, OfPool};
 ghost use Rattle.listed.specs.Lists.{has, In, Ascending};
 ghost use Rattle.clause_pool.specs.Lists.{InOrder};
@@ -7,7 +7,7 @@ ghost use Rattle.row_book.specs.Book.{RowsFit};
 ghost use Rattle.row_book.specs.Repository.{clauses_of};
 ghost use Rattle.row_book.specs.Uses.{IsListOf};
 ghost use Rattle.row_book.specs.Pruning.{is_forced, serves};
-ghost use Rattle.clause_prune.specs.Filing.{AsksServing, FiledBelow};
+ghost use Rattle.clause_prune.specs.Filing.{filed_within, AsksServing, FiledFor};
 ghost use Rattle.clause_prune.specs.Tests.{with_ids};
 
 use crate::filing::Filed;
@@ -59,8 +59,8 @@ fn serves(
     has_side_within(pool, other, row, clause)
 }
 
-/// The members of the clause, and those of the packages asked about it that see to it that it is hit, in their order.
-fn serving(
+/// The members of the clause, and those of the packages asked about it that see to it that it is hit.
+fn asked_serving(
     alloc: Global,
     pool: &Pool,
     rows: &[RowId],
@@ -75,8 +75,8 @@ fn serving(
     requires left { OfPool pool.now left.now }
     requires order { InOrder (clauses_at pool.now left.now) }
     requires clause { Ascending clause.now }
-    ensures { IfOk result (λ serving. IsListOf (λ n. has clause.now n
-        || has (filter (serves (with_ids pool.now rows.now number left.now []) clause.now) asked.now) n) serving.items) }
+    ensures { IfOk result (λ serving. serving.items ≡ clause.now
+        ++ filter (serves (with_ids pool.now rows.now number left.now []) clause.now) asked.now) }
 {
     let mut serving = Vec::from_slice(alloc, clause)?;
     for other in asked {
@@ -84,6 +84,31 @@ fn serving(
             serving.push(*other)?;
         }
     }
+    Ok(serving)
+}
+
+/// These, and the packages that are filed with a clause within the clause, in order.
+fn serving(
+    alloc: Global,
+    pool: &Pool,
+    rows: &[RowId],
+    number: u32,
+    left: &[ClauseId],
+    filed: &Filed,
+    clause: &[u32],
+) -> Result<Vec<u32>, AllocError>
+    requires fit { RowsFit pool.now rows.now }
+    requires inside { number < length rows.now }
+    requires filed { FiledFor pool.now rows.now number filed.now }
+    requires left { OfPool pool.now left.now }
+    requires order { InOrder (clauses_at pool.now left.now) }
+    requires clause { Ascending clause.now }
+    ensures { IfOk result (λ serving. IsListOf (λ n. has (clause.now
+        ++ filter (serves (with_ids pool.now rows.now number left.now []) clause.now) filed.now.always) n
+        || filed_within pool.now filed.now.lists clause.now n) serving.items) }
+{
+    let mut serving = asked_serving(alloc, pool, rows, number, left, filed.always(), clause)?;
+    filed.push_within(pool, clause, &mut serving)?;
     serving.sort_unstable();
     serving.dedup();
     Ok(serving)
@@ -104,14 +129,12 @@ pub(crate) fn is_forced(
     requires inside { number < length rows.now }
     requires left { OfPool pool.now left.now }
     requires order { InOrder (clauses_at pool.now left.now) }
-    requires below { FiledBelow (length rows.now) filed.now }
-    requires asks { AsksServing (with_ids pool.now rows.now number left.now []) (clauses_at pool.now left.now) filed.now (clause_at pool.now clause) }
+    requires filed { FiledFor pool.now rows.now number filed.now }
+    requires asks { AsksServing pool.now (with_ids pool.now rows.now number left.now []) (clauses_at pool.now left.now) filed.now (clause_at pool.now clause) }
     requires clause { clause < length pool.now.clauses }
     ensures { IfOk result (λ forced. forced ≡ is_forced (with_ids pool.now rows.now number left.now []) number (clause_at pool.now clause)) }
 {
     let numbers = pool.slice(clause);
-    let asked = filed.asked(alloc, numbers)?;
-    let others = asked.as_slice();
-    let found = serving(alloc, pool, rows, number, left, others, numbers)?;
+    let found = serving(alloc, pool, rows, number, left, filed, numbers)?;
     Ok(has_within(pool, left, &Some(clause), found.as_slice()))
 }

@@ -1,11 +1,11 @@
 use Rattle.std.proofs.Common.{◌≡◌, ℕ, List, [], length, subst, sym, true}
 use Rattle.clause_pool.specs.Interned.{clauses_at}
 use Rattle.listed.specs.Lists.{In, has}
-use Rattle.row_book.specs.Uses.{lists_in, some_holds}
+use Rattle.row_book.specs.Uses.{some_holds}
 use Rattle.listed.proofs.Lists.{In_has, any_cases, any_from, has_In}
-use Rattle.clause_prune.specs.Filing.{filed_in}
+use Rattle.clause_prune.specs.Filing.{entries_in, filed_in}
 use Rattle.clause_prune.specs.Tests.{with_ids}
-use Rattle.clause_prune.proofs.Files.{below_none, server_asked}
+use Rattle.clause_prune.proofs.Files.{filed_for_none, server_asked}
 use Rattle.clause_prune.proofs.filing.file_members.Goals as goal
 
 -- the numbers that the clauses hold are packages
@@ -20,9 +20,9 @@ pub returns-clause-asks : goal.returns-clause-asks
 returns-clause-asks c = λ d i x j n k h.
     let member : (e : List ℕ) → In e (clauses_at c.args.pool.now c.args.ids.now) → (m : ℕ) → In m e → In m c.as_slice.result.now =
     (λ e a m b. subst (λ z. In m z) (sym c.as_slice.ensures.value) (c.in_ok-members.ensures.all m (any_from (λ y. has y m) (clauses_at c.args.pool.now c.args.ids.now) e a (In_has b)))) in
-    server_asked (with_ids c.args.pool.now c.args.rows.now c.args.number c.args.ids.now []) c.as_slice.result.now (filed_in c.file_each.new.always.items c.file_each.new.lists) d n
+    server_asked c.args.pool.now (with_ids c.args.pool.now c.args.rows.now c.args.number c.args.ids.now []) c.as_slice.result.now (filed_in c.file_each.new.always.items c.file_each.new.lists) d n
     (c.in_ok-file_each.ensures.filed n (member x j n k)) (member d i) h
 
-pub returns-clause-below : goal.returns-clause-below
-returns-clause-below c =
-    c.in_ok-file_each.ensures.below (below_none (length c.args.rows.now) c.args.always.now.items (lists_in c.args.lists.now) c.requires.none c.requires.empty)
+pub returns-clause-sound : goal.returns-clause-sound
+returns-clause-sound c =
+    c.in_ok-file_each.ensures.sound (filed_for_none c.args.pool.now c.args.rows.now c.args.number c.args.always.now.items (entries_in c.args.lists.now) c.requires.none c.requires.empty)

@@ -1,41 +1,23 @@
-use Rattle.std.proofs.Common.{◌≡◌, ◌++◌, ◌∙◌, ◌||◌, [], ℕ, Bool, ap, eqb, filter, get_or, sym, arith}
-use Rattle.std.proofs.lemmas.List.{take_all}
-use Rattle.std.proofs.lemmas.List.Folds.{list_any-append}
+use Rattle.std.proofs.Common.{◌≡◌, ◌++◌, ◌∙◌, ◌||◌, [], ℕ, Bool, ap, eqb, filter, subst, sym}
 use Rattle.std.proofs.lemmas.List.Sorted.{IsNonDecreasingBy-from_sort, list_any-IsPermutation}
-use Rattle.listed.specs.Lists.{has}
+use Rattle.listed.specs.Lists.{In, has}
 use Rattle.row_book.specs.Pruning.{serves}
 use Rattle.row_book.proofs.Holders.{gathered}
-use Rattle.listed.proofs.Lists.{In_at}
+use Rattle.clause_prune.specs.Filing.{filed_within}
 use Rattle.clause_prune.specs.Tests.{with_ids}
-use Rattle.clause_prune.proofs.Forcing.{serves_not, serves_too}
-use Rattle.clause_prune.proofs.Passing.{read_zero}
 use Rattle.clause_prune.proofs.forced.serving.Goals as goal
-use Rattle.clause_prune.proofs.forced.serving.Goals.{then-serves+in_ok-push, else-serves}
 
-pub serves-requires-clause-other : goal.serves-requires-clause-other
-serves-requires-clause-other c = c.requires.asked _ (In_at c.args.asked.now c.loop-other.other-index 0 (omega arith))
+pub asked_serving-requires-clause-asked : goal.asked_serving-requires-clause-asked
+asked_serving-requires-clause-asked c = λ n i. c.requires.filed.always n (subst (λ xs. In n xs) c.always.ensures i)
 
-pub loop-other-preserved : goal.loop-other-preserved
-loop-other-preserved c =
-    let test : ℕ → Bool = serves (with_ids c.args.pool.now c.args.rows.now c.args.number c.args.left.now []) c.args.clause.now in
-    let k : ℕ = c.loop-other.other-index in
-    let e : get_or c.args.asked.now k 0 ≡ get_or c.args.asked.now k (get_or c.args.asked.now k 0) = sym (read_zero c.args.asked.now k (get_or c.args.asked.now k 0) c.loop-other-test.true) in
-    elim c.if-serves.branch [
-      | then-serves+in_ok-push w ↦
-          ap (λ v. v.items) w.serving-is
-          ∙ serves_too test c.args.clause.now c.args.asked.now k (get_or c.args.asked.now k 0) c.loop-other.serving.items c.loop-other-test.true e c.loop-other.invariant
-          w.push.new.self.items (sym c.serves.ensures ∙ w.if-serves.true) w.in_ok-push.ensures.items
-      | else-serves w ↦
-          ap (λ v. v.items) w.serving-is
-          ∙ serves_not test c.args.clause.now c.args.asked.now k (get_or c.args.asked.now k 0) c.loop-other.serving.items c.loop-other-test.true e c.loop-other.invariant
-          (sym c.serves.ensures ∙ w.if-serves.false)
-    ]
+pub push_within-requires-clause-of_pool : goal.push_within-requires-clause-of_pool
+push_within-requires-clause-of_pool c = λ place e i. (c.requires.filed.lists place e i).of_pool
 
 pub returns : goal.returns
 returns c =
     let test : ℕ → Bool = serves (with_ids c.args.pool.now c.args.rows.now c.args.number c.args.left.now []) c.args.clause.now in
-    gathered (λ n. has c.args.clause.now n || has (filter test c.args.asked.now) n) c.loop-other.serving.items c.sort_unstable.new.self.items c.dedup.new.self.items
-    (λ m. sym (list_any-IsPermutation (λ k. eqb m k) c.loop-other.serving.items c.sort_unstable.new.self.items c.sort_unstable.ensures.permutation))
+    gathered (λ n. has (c.args.clause.now ++ filter test c.args.filed.now.always) n || filed_within c.args.pool.now c.args.filed.now.lists c.args.clause.now n) c.push_within.new.found.items c.sort_unstable.new.self.items c.dedup.new.self.items
+    (λ m. sym (list_any-IsPermutation (λ k. eqb m k) c.push_within.new.found.items c.sort_unstable.new.self.items c.sort_unstable.ensures.permutation))
     (IsNonDecreasingBy-from_sort (λ x. x) c.sort_unstable.new.self.items c.sort_unstable.ensures.sorted) c.dedup.ensures.filtered
-    (λ m. ap (λ xs. has xs m) (c.loop-other.invariant ∙ ap (λ xs. c.args.clause.now ++ filter test xs) (take_all c.loop-other.other-index c.args.asked.now c.loop-other-test.false))
-    ∙ list_any-append (λ k. eqb m k) c.args.clause.now (filter test c.args.asked.now))
+    (λ m. c.in_ok-push_within.ensures m
+    ∙ ap (λ xs. has xs m || filed_within c.args.pool.now c.args.filed.now.lists c.args.clause.now m) (c.in_ok-serving.ensures ∙ ap (λ xs. c.args.clause.now ++ filter test xs) c.always.ensures))

@@ -1,4 +1,4 @@
-use Rattle.std.proofs.Common.{ℕ, List, [], get_or, length, subst, sym, arith}
+use Rattle.std.proofs.Common.{ℕ, List, [], get_or, subst, sym, arith}
 use Rattle.std.proofs.lemmas.List.{get_or_default}
 use Rattle.listed.specs.Lists.{In}
 use Rattle.row_book.specs.Repository.{clauses_of}

@@ -1,4 +1,4 @@
-use Rattle.std.proofs.Common.{ℕ, List, [], length, take}
+use Rattle.std.proofs.Common.{ℕ, List, [], take}
 use Rattle.listed.specs.Lists.{In}
 use Rattle.row_book.specs.Repository.{clauses_of}
 use Rattle.clause_prune.specs.Filing.{FiledFor, IsFiled, filed_in}

@@ -1,4 +1,4 @@
-use Rattle.std.proofs.Common.{◌≡◌, ℕ, List, [], length, subst, sym, true}
+use Rattle.std.proofs.Common.{◌≡◌, ℕ, List, [], subst, sym, true}
 use Rattle.clause_pool.specs.Interned.{clauses_at}
 use Rattle.listed.specs.Lists.{In, has}
 use Rattle.row_book.specs.Uses.{some_holds}

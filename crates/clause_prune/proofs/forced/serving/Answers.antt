@@ -1,4 +1,4 @@
-use Rattle.std.proofs.Common.{◌≡◌, ◌++◌, ◌∙◌, ◌||◌, [], ℕ, Bool, ap, eqb, filter, subst, sym}
+use Rattle.std.proofs.Common.{◌++◌, ◌∙◌, ◌||◌, [], ℕ, Bool, ap, eqb, filter, subst, sym}
 use Rattle.std.proofs.lemmas.List.Sorted.{IsNonDecreasingBy-from_sort, list_any-IsPermutation}
 use Rattle.listed.specs.Lists.{In, has}
 use Rattle.row_book.specs.Pruning.{serves}

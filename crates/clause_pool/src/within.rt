@@ -81,8 +81,8 @@ fn goes_on_below(pool: &Pool, id: ClauseId, depth: usize, number: u64) -> bool
     }
 }
 
-/// The place in the group of the first clause that has the number or a greater one at the depth.
-fn first_from(pool: &Pool, group: &[ClauseId], depth: usize, number: u64) -> usize
+/// The place in the group of the first clause that has the number or a greater one at the depth, by halving the group.
+fn first_by_halves(pool: &Pool, group: &[ClauseId], depth: usize, number: u64) -> usize
     requires group { OfPool pool.now group.now }
     requires order { InOrder (map (rest_at pool.now depth) group.now) }
     ensures within { result ≤ length group.now }
@@ -100,6 +100,28 @@ fn first_from(pool: &Pool, group: &[ClauseId], depth: usize, number: u64) -> usi
         }
     }
     low
+}
+
+/// The same place. The ends are looked at first, since mostly all clauses of a group have one number there, or the number lies
+/// before or behind theirs.
+fn first_from(pool: &Pool, group: &[ClauseId], depth: usize, number: u64) -> usize
+    requires group { OfPool pool.now group.now }
+    requires order { InOrder (map (rest_at pool.now depth) group.now) }
+    ensures within { result ≤ length group.now }
+    ensures before { (k : ℕ) → k < result → lead (rest_at pool.now depth (slice_index_or group.now k 0)) ≤ number }
+    ensures behind { (k : ℕ) → result ≤ k → k < length group.now → number < lead (rest_at pool.now depth (slice_index_or group.now k 0)) }
+{
+    let size = group.len();
+    if size == 0 {
+        return 0;
+    }
+    if !goes_on_below(pool, group[0], depth, number) {
+        return 0;
+    }
+    if goes_on_below(pool, group[size - 1], depth, number) {
+        return size;
+    }
+    first_by_halves(pool, group, depth, number)
 }
 
 /// Lends the clauses of the group that have the number at the depth.

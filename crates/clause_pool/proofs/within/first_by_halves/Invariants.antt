@@ -1,6 +1,6 @@
 use Rattle.std.proofs.Common.{ℕ, ◌<◌, ◌≤◌, ◌-◌, length, slice_index_or}
 use Rattle.clause_pool.specs.Within.{lead, rest_at}
-use Rattle.clause_pool.proofs.within.first_from.Given as goal
+use Rattle.clause_pool.proofs.within.first_by_halves.Given as goal
 
 -- what lies before is known not to have the number or a greater one at the depth, and what lies behind to have it
 abbrev pub invariant-loop-low : goal.invariant-loop-low

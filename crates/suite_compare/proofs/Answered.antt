@@ -2,15 +2,15 @@
 use Rattle.std.proofs.Common.{◌≡◌, ℕ, ◌<◌, Bool, List, [], length, filter, sym, ap, subst, ◌∙◌}
 use Rattle.std.specs.List.{range_with_len}
 use Rattle.clause_pool.specs.Interned.{Interned}
-use Rattle.clause_solver.specs.Outcomes.{IsOutcomeOf, IsSearchOutcome}
+use Rattle.clause_solver.specs.Outcomes.{IsOutcomeOf, IsSearchOutcome, IsCertified as IsCertifiedOutcome}
 use Rattle.clause_solver.specs.declared.outcomes.Outcome.{Outcome}
-use Rattle.clause_solver.specs.declared.outcomes.Outcome.TheVariants.{Found}
+use Rattle.clause_solver.specs.declared.outcomes.Outcome.TheVariants.{Found, Refuted}
 use Rattle.install_lift.specs.Lifting.{lift_of}
 use Rattle.install_lift.specs.Trimming.{trim_of}
 use Rattle.kernel_rounds.specs.declared.extraction.Kernel.{Kernel}
 use Rattle.relation_fields.specs.declared.packages.Home.{Home}
 use Rattle.relation_fields.specs.declared.packages.PackageFacts.{PackageFacts}
-use Rattle.repo_model.specs.Goals.{packages_named, CoinstGoals}
+use Rattle.repo_model.specs.Goals.{packages_named}
 use Rattle.repo_model.specs.Repository.{suite_repository}
 use Rattle.repo_model.specs.declared.goals.Goal.{Goal}
 use Rattle.repo_model.proofs.Healthy.{healthy_same}
@@ -26,14 +26,12 @@ use Rattle.row_book.specs.Trail.{trail_meaning}
 use Rattle.row_book.specs.declared.book.Book.{Book}
 use Rattle.row_book.proofs.BookRepositories.{book_size}
 use Rattle.listed.proofs.Lists.{In_map, In_map_cases}
-use Rattle.search_terms.specs.declared.literals.Literal.{Literal}
-use Rattle.search_terms.specs.Closure.{InRange}
-use Rattle.search_terms.specs.Derives.{Derives}
+use Rattle.search_terms.specs.declared.literals.Log.{Log}
 use Rattle.search_terms.specs.Form.{form}
-use Rattle.search_terms.specs.Laws.{HasNoSolution}
 use Rattle.search_terms.proofs.Found.{one_tree}
 use Rattle.suite_compare.specs.Asking.{asked_tree, image_of, images_of, installation, wanted_by}
-use Rattle.suite_compare.specs.Answering.{true_numbers, IsYes, Serves}
+use Rattle.suite_compare.specs.Answering.{true_numbers, IsCertified, IsYes, Serves}
+use Rattle.suite_compare.specs.declared.answers.Answer.TheVariants.{No}
 use Rattle.suite_compare.specs.Views.{IsViewOf}
 use Rattle.suite_compare.proofs.Deciding.{asked_is, images_fit, named_parts, named_within, sound, to_classes}
 use Rattle.suite_compare.proofs.SuiteKernels.{classes_parts}
@@ -118,13 +116,8 @@ module _ (pool : Interned) (home : Home) (stanzas : List PackageFacts) (book : B
           record { by = hit.by; member = hit.alive; named = named_parts home stanzas goal hit.by hit.inside };
     }
 
-    pub no_derives : (entries : List (List Literal)) → Derives (form K classes) entries → Derives (form (kernel limit made.hold R) (images_of limit made.hold home stanzas goals)) entries
-    no_derives entries d = subst (λ S. Derives (form S (images_of limit made.hold home stanzas goals)) entries) k_is (subst (λ cs. Derives (form K cs) entries) classes_are d)
-
-    pub no_in_range : (entries : List (List Literal)) → InRange (length K.clauses) entries → InRange (length (kernel limit made.hold R).clauses) entries
-    no_in_range entries inside = subst (λ S. InRange (length S.clauses) entries) k_is inside
-
-    pub no_coinst : HasNoSolution K classes → ¬ (CoinstGoals home stanzas goals)
-    no_coinst none w =
-        let own = to_classes home stanzas limit made.hold goals w in
-        none own.0 (subst (λ S. Healthy S own.0) (sym k_is) own.1) (subst (HitsAll own.0) (sym classes_are) own.2)
+    pub no_certified : (log : Log) → IsCertifiedOutcome K classes (Refuted log) → IsCertified limit made.hold home stanzas goals (No log)
+    no_certified log w =
+        let own : IsCertifiedOutcome (kernel limit made.hold R) (images_of limit made.hold home stanzas goals) (Refuted log) =
+        subst (λ S. IsCertifiedOutcome S (images_of limit made.hold home stanzas goals) (Refuted log)) k_is (subst (λ cs. IsCertifiedOutcome K cs (Refuted log)) classes_are w) in
+        (own.0, own.1, λ coinst. let found = to_classes home stanzas limit made.hold goals coinst in own.2 found.0 found.1 found.2)

@@ -1,210 +1,260 @@
--- First choices.
-use Rattle.std.proofs.Common.{eqb-true, ◌≡◌, ℕ, ◌<◌, ◌≤◌, ◌+◌, true, false, List, [], ◌∷◌, ◌++◌, ◌⊎◌, inl, inr, length, get_or, take, map, refl, sym, ◌∙◌, ap, subst, arith, Option, Some, None}
-use Rattle.std.specs.Prelude.{slice_get, eqb}
-use Rattle.std.specs.Option.{option_to_list}
-use Rattle.std.specs.List.{list_any}
-use Rattle.std.proofs.lemmas.Bool.{cases_Bool, cases_eq, both_ways, false_from_ne_true, false≢true}
-use Rattle.std.proofs.lemmas.List.{append-nil, take_more, take_all, map_more, get_or_append_left, length-append}
+-- First choices: along them nothing fails, and which kinds may not go together.
+use Rattle.std.proofs.Common.{◌≡◌, ℕ, Bool, true, false, not, ◌&&◌, List, [], ◌∷◌, ◌++◌, inl, inr, length, refl, ap, sym, ◌∙◌, subst, arith, Option, Some, None, ◌<◌, get_or, set, ◌+◌, eqb, take, add-one, zero-add}
+use Rattle.std.specs.List.{find, list_any, flat_map, range_with_len}
+use Rattle.std.proofs.lemmas.Bool.{or_cases, or_left, or_right, both_ways, and_parts, not-true, false_from_ne_true, cases_eq, cases_lt, cases_Bool}
+use Rattle.std.proofs.lemmas.List.Elements.{All-nil, All-push}
+use Rattle.std.proofs.lemmas.Option.{same_Some}
+use Rattle.listed.proofs.Lists.{contains_in, In_has, has_In, In_append_left, In_append_right, any_none, In_at, In_cases, In_map_cases, In_none, some_item, empty_or, filter_cases, filter_from, In_flat, In_flat_cases, In_place, In_append_cases}
+use Rattle.listed.specs.Lists.{here, In, has}
+use Rattle.row_book.specs.Sets.{NumSet, Is, Hit, union}
+use Rattle.row_book.specs.Repository.{Repository, against, clauses_of}
+use Rattle.search_terms.specs.declared.literals.Literal.{Literal}
+use Rattle.search_terms.specs.Closure.{literal, satisfies, HasGiven, Models}
+use Rattle.search_terms.specs.Form.{goal_sentence, clause_sentence, conflict_sentence, form}
+use Rattle.search_terms.specs.Tree.{is_open_need, is_undecided, Tree, IsTree, found_of, failed_leaves}
+use Rattle.search_terms.specs.Tree.Tree.{failed_leaf, found_leaf, split}
+use Rattle.search_terms.proofs.Sets.{find_some}
+use Rattle.search_terms.proofs.Models.{model_closed, clash_no_model}
+use Rattle.search_terms.proofs.Forms.{IsSentence, sentence_cases, models_from, in_either}
+use Rattle.search_terms.proofs.Forms.IsSentence.{of_goal, of_clause, of_conflict}
+use Rattle.suite_compare.specs.FirstChoices.{first_member, is_one_of, IsFirstChoice}
+use Rattle.std.proofs.Math.ListN.{get_or-eq_default}
+use Rattle.std.proofs.lemmas.List.{length-set, get_or-set_same, get_or-set_other, take_more}
+use Rattle.suite_compare.specs.Choices.{AreBelow, AreFlagged, has_first_member, HaveFirsts, IsServed, IsChosen}
+use Rattle.suite_compare.proofs.Groups.{In_last}
 use Rattle.clause_pool.specs.Interned.{Interned, clause_at, clauses_at, ids_at}
-use Rattle.clause_pool.proofs.Lists.{In_place}
-use Rattle.listed.specs.Lists.{In, here, has}
 use Rattle.row_book.specs.Book.{listed_for, repository_of, Sound}
-use Rattle.row_book.specs.Repository.{Repository, clauses_of}
 use Rattle.row_book.specs.Uses.{row_id}
 use Rattle.row_book.specs.declared.book.Book.{Book}
-use Rattle.listed.proofs.Lists.{In_cases, In_none, In_at, In_has, has_In, In_append_cases, In_append_left, In_append_right, In_map, In_map_cases, in_take, any_none}
-use Rattle.row_book.proofs.Books.{clauses_row}
-use Rattle.suite_compare.specs.FirstChoices.{first_member, is_one_of}
-use Rattle.search_terms.proofs.Ranges.{rows_long}
-use Rattle.suite_compare.specs.Choices.{AreBelow, ArePeaceful, ArePut, HaveFirsts, IsChosen, IsFollowed, with_class}
+use Rattle.search_terms.proofs.Ranges.{rows_long, listed_in, other_way}
+use Rattle.std.specs.Prelude.{◌↔◌}
+use Rattle.listed.proofs.Numbers.{range_more}
+use Rattle.row_book.specs.Needs.{NeedsFit}
+use Rattle.repo_model.proofs.Elements.{range_cases, range_from}
+use Rattle.suite_compare.specs.Groups.{IsEntered}
+use Rattle.suite_compare.specs.Suspects.{facing, without_choice, AreAllChosen, AreHeld, AreHolders, AreSuspects}
 
-pub peace_none : (conflicts : List (List ℕ)) (classes : List ℕ) → ArePeaceful conflicts [] classes
-peace_none conflicts classes m n i j = absurd (In_none i)
+undecided_one : (a b : Bool) → a ≡ false → b ≡ false → (not a && not b) ≡ true
+undecided_one a b e f = rw (e, f) refl
 
-pub peace_more : (conflicts : List (List ℕ)) (classes others : List ℕ) (i : ℕ) → i < length classes → list_any (has others) (listed_for conflicts (get_or classes i 0)) ≡ false
-    → ArePeaceful conflicts (take i classes) others → ArePeaceful conflicts (take (i + 1) classes) others
-peace_more conflicts classes others i l none so m n im jn =
-    elim (In_append_cases (take i classes) (get_or classes i 0 ∷ []) m (subst (λ z. In m z) (take_more classes i 0 l) im)) [
-      | inl o ↦ so m n o jn
-      | inr s ↦ elim (In_cases s) [
-        | inl e ↦ ap (λ z. has (listed_for conflicts z) n) e ∙ false_from_ne_true (has (listed_for conflicts (get_or classes i 0)) n) (λ h.
-            both_ways (has others n) (any_none (has others) (listed_for conflicts (get_or classes i 0)) none n (has_In (listed_for conflicts (get_or classes i 0)) n h)) (In_has jn))
-        | inr x ↦ absurd (In_none x)
-      ]
+decided_one : (a b : Bool) → b ≡ true → (not a && not b) ≡ false
+decided_one true b e = refl
+decided_one false b e = rw e refl
+
+-- in a set that lies in what T satisfies, the first undecided member of an open list of classes is its first one
+picked_first : (set : Literal → Bool) (T : NumSet) (c : List ℕ) (m : Literal) → ((l : Literal) → set l ≡ true → satisfies T l ≡ true) → is_open_need set (goal_sentence c) ≡ true → is_one_of T (first_member c) ≡ true
+    → find (is_undecided set) (goal_sentence c) ≡ Some m → (n : ℕ) × (m ≡ literal n true) × Is T n
+picked_first set T [] m under o p f = absurd (cc p)
+picked_first set T (x ∷ xs) m under o p f =
+    let w = and_parts (not (set (literal x true))) (is_open_need set (goal_sentence xs)) o in
+    let other : set (literal x false) ≡ false = false_from_ne_true (set (literal x false)) (λ h. both_ways (T x) (not-true (T x) (under (literal x false) h)) p) in
+    let take_it : is_undecided set (literal x true) ≡ true = undecided_one (set (literal x true)) (set (literal x false)) (not-true (set (literal x true)) w.0) other in
+    (x, sym (same_Some (literal x true) m (rw take_it at f)), p)
+
+head_hits : (T : NumSet) (c : List ℕ) → is_one_of T (first_member c) ≡ true → Hit (Is T) c
+head_hits T [] h = absurd (cc h)
+head_hits T (x ∷ xs) h = record { by = x; inside = here; alive = h }
+
+module _ (R : Repository) (goals : List (List ℕ)) (T : NumSet) (choice : IsFirstChoice R goals T) where
+  model : Models T (form R goals)
+  model = models_from R goals T (record { packages = choice.classes; abundance = λ n h c i. head_hits T c (choice.of_clauses n h c i); peace = choice.peace }) (λ g i. head_hits T g (choice.of_goals g i))
+
+  -- the first open need is decided by a member of T
+  decides : (set : Literal → Bool) (s : List Literal) (m : Literal) → ((l : Literal) → set l ≡ true → satisfies T l ≡ true) → IsSentence R goals s → is_open_need set s ≡ true → find (is_undecided set) s ≡ Some m
+      → (n : ℕ) × (m ≡ literal n true) × Is T n
+  decides set s m under (of_goal g i e) o f = picked_first set T g m under (subst (λ x. is_open_need set x ≡ true) e o) (choice.of_goals g i) (subst (λ x. find (is_undecided set) x ≡ Some m) e f)
+  decides set s m under (of_clause p c lt i e) o f =
+      let o' : is_open_need set (clause_sentence p c) ≡ true = subst (λ x. is_open_need set x ≡ true) e o in
+      let w = and_parts (set (literal p true)) (is_open_need set (goal_sentence c)) o' in
+      let f' : find (is_undecided set) (clause_sentence p c) ≡ Some m = subst (λ x. find (is_undecided set) x ≡ Some m) e f in
+      let skip : is_undecided set (literal p false) ≡ false = decided_one (set (literal p false)) (set (literal p true)) w.0 in
+      picked_first set T c m under w.1 (choice.of_clauses p (under (literal p true) w.0) c i) (rw skip at f')
+  decides set s m under (of_conflict p q i e) o f =
+      let o' : is_open_need set (conflict_sentence p q) ≡ true = subst (λ x. is_open_need set x ≡ true) e o in
+      let w = and_parts (set (literal p true)) (is_open_need set (literal q false ∷ [])) o' in
+      let v = and_parts (set (literal q true)) true w.1 in
+      absurd (both_ways (against R p q) (choice.peace p q (under (literal p true) w.0) (under (literal q true) v.0)) (In_has i))
+
+  tells : (decisions : List Literal) (tree : Tree) → HasGiven (satisfies T) decisions → IsTree (length R.clauses) (form R goals) decisions tree → (failed_leaves tree ≡ 0) × ((chosen : List Bool) × (found_of tree ≡ Some chosen))
+  tells decisions failed_leaf holds is = absurd (clash_no_model T (form R goals) decisions model holds is)
+  tells decisions (found_leaf chosen) holds is = (refl, (chosen, refl))
+  tells decisions (split c left right) holds is =
+      let at = is.0 in
+      let found = find_some (is_open_need at.set) (form R goals) at.need at.first in
+      let under : (l : Literal) → at.set l ≡ true → satisfies T l ≡ true = λ l h. at.closure.sound l h (satisfies T) holds (model_closed T (form R goals) model) in
+      let w = decides at.set at.need at.member under (sentence_cases R goals at.need (contains_in (form R goals) at.need found.0)) found.1 at.least in
+      let e : c ≡ w.0 = at.named ∙ ap (λ l. l.class) w.1 in
+      let more : HasGiven (satisfies T) (decisions ++ literal c true ∷ []) = All-push (λ l. satisfies T l ≡ true) decisions (literal c true) holds (rw e w.2) in
+      let rest = tells (decisions ++ literal c true ∷ []) left more is.1 in
+      let some = rest.1 in
+      rw some.1 (let z = rest.0 in omega arith, (some.0, refl))
+
+  -- the tree finds something, and has no failed leaf before it
+  pub choice_tells : (tree : Tree) → IsTree (length R.clauses) (form R goals) [] tree → (failed_leaves tree ≡ 0) × ((chosen : List Bool) × (found_of tree ≡ Some chosen))
+  choice_tells tree is = tells [] tree (All-nil (λ l. satisfies T l ≡ true)) is
+
+one_of_more : (S W : NumSet) (o : Option ℕ) → ((n : ℕ) → Is S n → Is W n) → is_one_of S o ≡ true → is_one_of W o ≡ true
+one_of_more S W None w h = absurd (cc h)
+one_of_more S W (Some n) w h = w n h
+
+-- two choices of which no members conflict are one for both lists of goals
+pub choices_join : (R : Repository) (A B : List (List ℕ)) (S T : NumSet) → ((m n : ℕ) → against R m n ≡ true → against R n m ≡ true) → IsFirstChoice R A S → IsFirstChoice R B T
+    → ((m n : ℕ) → Is S m → Is T n → against R m n ≡ false) → IsFirstChoice R (A ++ B) (union S T)
+choices_join R A B S T way a b peace = record {
+  classes = λ n h. elim (or_cases (S n) (T n) h) [ inl x ↦ a.classes n x | inr y ↦ b.classes n y ];
+  of_goals = λ g i. elim (in_either A B g i) [ inl x ↦ left_more g (a.of_goals g x) | inr y ↦ right_more g (b.of_goals g y) ];
+  of_clauses = λ p h c i. elim (or_cases (S p) (T p) h) [ inl x ↦ left_more c (a.of_clauses p x c i) | inr y ↦ right_more c (b.of_clauses p y c i) ];
+  peace = λ m n h k. elim (or_cases (S m) (T m) h) [
+    | inl x ↦ elim (or_cases (S n) (T n) k) [ inl y ↦ a.peace m n x y | inr y ↦ peace m n x y ]
+    | inr x ↦ elim (or_cases (S n) (T n) k) [
+      | inl y ↦ false_from_ne_true (against R m n) (λ t. both_ways (against R n m) (peace n m y x) (way m n t))
+      | inr y ↦ b.peace m n x y
     ]
-
-pub peace_all : (conflicts : List (List ℕ)) (classes others : List ℕ) (i : ℕ) → length classes ≤ i → classes ≡ others → ArePeaceful conflicts (take i classes) others → ArePeaceful conflicts others others
-peace_all conflicts classes others i l same so = subst (λ z. ArePeaceful conflicts z others) (take_all i classes l ∙ same) so
-
--- a class that is put in stands behind the others, or is there already
-pub put_with : (chosen : List ℕ) (n : ℕ) → ArePut chosen (with_class chosen n) (n ∷ [])
-put_with chosen n = elim (cases_Bool (has chosen n)) [
-  | inl t ↦ subst (λ z. ArePut chosen z (n ∷ [])) (sym (rw t refl)) (old t)
-  | inr f ↦ subst (λ z. ArePut chosen z (n ∷ [])) (sym (rw f refl)) new
-]
-  where
-    old : has chosen n ≡ true → ArePut chosen chosen (n ∷ [])
-    old t = record {
-      rest = [];
-      behind = sym (append-nil chosen);
-      all = λ m i. elim (In_cases i) [ inl e ↦ subst (λ z. In z chosen) (sym e) (has_In chosen n t) | inr x ↦ absurd (In_none x) ];
-      only = λ m i. absurd (In_none i);
-    }
-
-    new : ArePut chosen (chosen ++ n ∷ []) (n ∷ [])
-    new = record { rest = n ∷ []; behind = refl; all = λ m i. In_append_right chosen (n ∷ []) m i; only = λ m i. i }
-
-one_of_more : (S T : List ℕ) (o : Option ℕ) → ((n : ℕ) → In n S → In n T) → is_one_of (has S) o ≡ true → is_one_of (has T) o ≡ true
-one_of_more S T None f h = absurd (false≢true h)
-one_of_more S T (Some n) f h = In_has (f n (has_In S n h))
-
-first_is : (clause : List ℕ) (n : ℕ) → Some n ≡ slice_get clause 0 → (first_member clause ≡ Some n) × In n clause
-first_is [] n e = absurd cc
-first_is (x ∷ xs) n e = (sym e, let same : n ≡ x = cc in subst (λ z. In z (x ∷ xs)) (sym same) here)
-
-pub first_within : (size : ℕ) (clause lent : List ℕ) (n : ℕ) → lent ≡ clause → Some n ≡ slice_get lent 0 → AreBelow size clause → n < size
-first_within size clause lent n same first below = below n (subst (λ z. In n z) same (first_is lent n first).1)
-
--- the first members of some clauses are put behind what was there
-pub record FirstsTo (clauses : List (List ℕ)) (initial chosen : List ℕ) : Type 0 where
-  pub more : (rest : List ℕ) × (chosen ≡ initial ++ rest)
-  pub firsts : HaveFirsts clauses chosen
-  pub below : (size : ℕ) → AreBelow size initial → ((c : List ℕ) → In c clauses → AreBelow size c) → AreBelow size chosen
-
-pub firsts_none : (initial : List ℕ) → FirstsTo [] initial initial
-firsts_none initial = record {
-  more = ([], sym (append-nil initial));
-  firsts = λ c i. absurd (In_none i);
-  below = λ size o all. o;
-}
-
-pub firsts_more : (pool : Interned) (row : List ℕ) (i id : ℕ) (clause : List ℕ) (n : ℕ) (initial chosen new : List ℕ) → i < length row → id ≡ get_or row i id → clause ≡ clause_at pool id
-    → Some n ≡ slice_get clause 0 → ArePut chosen new (n ∷ []) → FirstsTo (clauses_at pool (take i row)) initial chosen → FirstsTo (clauses_at pool (take (i + 1) row)) initial new
-firsts_more pool row i id clause n initial chosen new l is lent first put so = record {
-  more = (so.more.0 ++ put.rest, put.behind ∙ ap (λ z. z ++ put.rest) so.more.1 ∙ assoc initial so.more.0 put.rest);
-  firsts = λ d j. elim (was d j) [
-    | inl o ↦ one_of_more chosen new (first_member d) grows (so.firsts d o)
-    | inr e ↦ ap (λ z. is_one_of (has new) (first_member z)) e ∙ ap (λ z. is_one_of (has new) z) (first_is clause n first).0 ∙ In_has (put.all n here)
   ];
-  below = λ size o all m j. elim (In_append_cases chosen put.rest m (subst (λ z. In m z) put.behind j)) [
-    | inl old ↦ so.below size o (λ d k. all d (subst (λ z. In d z) (sym step) (In_append_left (clauses_at pool (take i row)) (clause ∷ []) d k))) m old
-    | inr rest ↦ elim (In_cases (put.only m rest)) [
-      | inl e ↦ subst (λ z. z < size) (sym e) (all clause (subst (λ z. In clause z) (sym step) (In_append_right (clauses_at pool (take i row)) (clause ∷ []) clause here)) n (first_is clause n first).1)
-      | inr x ↦ absurd (In_none x)
-    ]
-  ];
 }
   where
-    assoc : (a b c : List ℕ) → (a ++ b) ++ c ≡ a ++ (b ++ c)
-    assoc [] b c = refl
-    assoc (x ∷ a) b c = ap (λ z. x ∷ z) (assoc a b c)
+    left_more : (c : List ℕ) → is_one_of S (first_member c) ≡ true → is_one_of (union S T) (first_member c) ≡ true
+    left_more c h = one_of_more S (union S T) (first_member c) (λ n x. or_left (S n) (T n) x) h
 
-    step : clauses_at pool (take (i + 1) row) ≡ clauses_at pool (take i row) ++ clause ∷ []
-    step = map_more (clause_at pool) row i id l ∙ ap (λ z. clauses_at pool (take i row) ++ z ∷ []) (ap (clause_at pool) (sym is) ∙ sym lent)
+    right_more : (c : List ℕ) → is_one_of T (first_member c) ≡ true → is_one_of (union S T) (first_member c) ≡ true
+    right_more c h = one_of_more T (union S T) (first_member c) (λ n y. or_right (S n) (T n) y) h
 
-    grows : (m : ℕ) → In m chosen → In m new
-    grows m j = subst (λ z. In m z) (sym put.behind) (In_append_left chosen put.rest m j)
-
-    was : (d : List ℕ) → In d (clauses_at pool (take (i + 1) row)) → In d (clauses_at pool (take i row)) ⊎ (d ≡ clause)
-    was d j = elim (In_append_cases (clauses_at pool (take i row)) (clause ∷ []) d (subst (λ z. In d z) step j)) [
-      | inl o ↦ inl o
-      | inr s ↦ elim (In_cases s) [ inl e ↦ inr e | inr x ↦ absurd (In_none x) ]
-    ]
-
-pub In_map_part : {A B : Type 0} (f : A → B) (xs : List A) (i : ℕ) (y : B) → In y (map f (take i xs)) → In y (map f xs)
-In_map_part f xs i y j =
-    let w : (x : _) × In x (take i xs) × (y ≡ f x) = In_map_cases f (take i xs) y j in
-    subst (λ z. In z (map f xs)) (sym w.2) (In_map f xs w.0 (in_take xs i w.0 w.1))
-
-pub firsts_all : (pool : Interned) (row : List ℕ) (i : ℕ) (initial chosen : List ℕ) → length row ≤ i → FirstsTo (clauses_at pool (take i row)) initial chosen → HaveFirsts (clauses_at pool row) chosen
-firsts_all pool row i initial chosen l so = subst (λ z. HaveFirsts (clauses_at pool z) chosen) (take_all i row l) so.firsts
-
--- the members before the n-th are followed
-pub record FollowedTo (R : Repository) (goal chosen : List ℕ) (n : ℕ) : Type 0 where
-  pub place : n ≤ length chosen
-  pub below : AreBelow (length R.clauses) chosen
-  pub goal_first : (m : ℕ) → In m chosen → HaveFirsts (goal ∷ []) chosen
-  pub clause_firsts : (j : ℕ) → j < n → HaveFirsts (clauses_of R (get_or chosen j 0)) chosen
-
-pub first_none : (goal : List ℕ) → eqb (length goal) 0 ≡ true → [] ≡ option_to_list (first_member goal)
-first_none [] e = refl
-first_none (x ∷ xs) e = let h : length (x ∷ xs) ≡ 0 = eqb-true (length (x ∷ xs)) 0 e in absurd (omega arith)
-
-pub first_some : (goal : List ℕ) → eqb (length goal) 0 ≡ false → get_or goal 0 0 ∷ [] ≡ option_to_list (first_member goal)
-first_some [] e = absurd (false≢true (sym e))
-first_some (x ∷ xs) e = refl
-
-pub some_first : (goal : List ℕ) → eqb (length goal) 0 ≡ false → 0 < length goal
-some_first [] e = absurd (false≢true (sym e))
-some_first (x ∷ xs) e = omega arith
-
-first_in : (goal : List ℕ) (m : ℕ) → In m (option_to_list (first_member goal)) → In m goal × (first_member goal ≡ Some m)
-first_in [] m i = absurd (In_none i)
-first_in (x ∷ xs) m i = elim (In_cases i) [
-  | inl e ↦ (subst (λ z. In z (x ∷ xs)) (sym e) here, ap (λ z. Some z) (sym e))
-  | inr n ↦ absurd (In_none n)
+pub flagged_below : (flags : List Bool) (members : List ℕ) → AreFlagged flags members → AreBelow (length flags) members
+flagged_below flags members f n i = elim (cases_lt n (length flags)) [
+  | inl lt ↦ lt
+  | inr ge ↦ absurd (both_ways (has members n) (sym (f.each n) ∙ get_or-eq_default flags false ge) (In_has i))
 ]
 
-pub followed_none : (pool : Interned) (book : Book) (goal chosen : List ℕ) → AreBelow (length book.rows) goal → chosen ≡ option_to_list (first_member goal) → FollowedTo (repository_of pool book) goal chosen 0
-followed_none pool book goal chosen below is = record {
-  place = omega arith;
-  below = λ m i. subst (λ z. m < z) (sym (rows_long pool book.rows)) (below m (first_in goal m (subst (λ z. In m z) is i)).0);
-  goal_first = λ m i g j. elim (In_cases j) [
-    | inl e ↦ ap (λ z. is_one_of (has chosen) (first_member z)) e ∙ ap (is_one_of (has chosen)) (first_in goal m (subst (λ z. In m z) is i)).1 ∙ In_has i
-    | inr x ↦ absurd (In_none x)
-  ];
-  clause_firsts = λ j l. absurd (omega arith);
-}
+-- the flags that are up are those of members that are left
+pub record AreLeft (size : ℕ) (flags : List Bool) (members : List ℕ) : Type 0 where
+  pub long : length flags ≡ size
+  pub below : AreBelow size members
+  pub each : (n : ℕ) → get_or flags n false ≡ true → In n members
 
--- the numbers of a row of a sound book
+pub left_all : (flags : List Bool) (members : List ℕ) → AreFlagged flags members → AreLeft (length flags) flags members
+left_all flags members f = record { long = refl; below = flagged_below flags members f; each = λ n t. has_In members n (sym (f.each n) ∙ t) }
+
+pub last_left : (size : ℕ) (flags : List Bool) (members less : List ℕ) (n : ℕ) → members ≡ less ++ n ∷ [] → AreLeft size flags members → n < length flags
+last_left size flags members less n e f = subst (λ z. n < z) (sym f.long) (f.below n (subst (λ z. In n z) (sym e) (In_append_right less (n ∷ []) n here)))
+
+pub left_less : (size : ℕ) (flags new : List Bool) (members less : List ℕ) (n : ℕ) → members ≡ less ++ n ∷ [] → new ≡ set flags n false → AreLeft size flags members → AreLeft size new less
+left_less size flags new members less n e made f = rw made (record {
+  long = length-set flags n false ∙ f.long;
+  below = λ k i. f.below k (subst (λ z. In k z) (sym e) (In_append_left less (n ∷ []) k i));
+  each = λ k t. elim (cases_eq k n) [
+    | inl same ↦ absurd (both_ways (get_or (set flags n false) n false) (get_or-set_same flags n false false (last_left size flags members less n e f)) (rw same at t))
+    | inr other ↦ elim (In_last less members n k e (f.each k (sym (get_or-set_other flags n k false false other) ∙ t))) [ inl i ↦ i | inr h ↦ absurd (other h) ]
+  ];
+})
+
+-- the row of a class of a sound book is in the pool, and its numbers are classes
+pub row_within : (pool : Interned) (book : Book) (class id : ℕ) → Sound pool book → class < length book.rows → id ≡ row_id book.rows class → id < length pool.rows
+row_within pool book class id sound l is = subst (λ z. z < length pool.rows) (sym is) (sound.rows.of_pool (row_id book.rows class) (In_at book.rows class 0 l))
+
 pub row_numbers : (pool : Interned) (book : Book) (p : ℕ) (row : List ℕ) → Sound pool book → p < length book.rows → row ≡ ids_at pool (row_id book.rows p) → (c : List ℕ) → In c (clauses_at pool row) → AreBelow (length book.rows) c
 row_numbers pool book p row sound inside lent c i = sound.rows.numbers (row_id book.rows p) (In_at book.rows p 0 inside) c (subst (λ z. In c (clauses_at pool z)) lent i)
 
-pub followed_more : (pool : Interned) (book : Book) (goal chosen new : List ℕ) (n p : ℕ) (row : List ℕ) → Sound pool book → n < length chosen → p ≡ get_or chosen n 0 → row ≡ ids_at pool (row_id book.rows p)
-    → ((rest : List ℕ) × (new ≡ chosen ++ rest)) → HaveFirsts (clauses_at pool row) new
-    → ((size : ℕ) → AreBelow size chosen → ((c : List ℕ) → In c (clauses_at pool row) → AreBelow size c) → AreBelow size new)
-    → FollowedTo (repository_of pool book) goal chosen n → FollowedTo (repository_of pool book) goal new (n + 1)
-followed_more pool book goal chosen new n p row sound l at lent more firsts below so = record {
-  place = let long : length new ≡ length chosen + length more.0 = ap length more.1 ∙ length-append chosen more.0 in omega arith;
-  below = subst (λ z. AreBelow z new) (sym (rows_long pool book.rows)) (below (length book.rows) (subst (λ z. AreBelow z chosen) (rows_long pool book.rows) so.below)
-      (λ c i. sound.rows.numbers (row_id book.rows p) (In_at book.rows p 0 inside) c (subst (λ z. In c (clauses_at pool z)) lent i)));
-  goal_first = λ m i g j. one_of_more chosen new (first_member g) grows (so.goal_first (get_or chosen n 0) (In_at chosen n 0 l) g j);
-  clause_firsts = λ j m. elim (cases_eq j n) [
-    | inl e ↦ subst (λ z. HaveFirsts (clauses_of (repository_of pool book) z) new) (sym (ap (λ z. get_or new z 0) e ∙ stays n l ∙ sym at))
-        (subst (λ z. HaveFirsts z new) (ap (clauses_at pool) lent ∙ sym (clauses_row pool book p inside)) firsts)
-    | inr o ↦ let below_n : j < n = omega arith in let inner : j < length chosen = omega arith in
-        λ c i. one_of_more chosen new (first_member c) grows (so.clause_firsts j below_n c (subst (λ z. In c (clauses_of (repository_of pool book) z)) (stays j inner) i))
+-- the first member of each clause, by the ids of the clauses
+pub have_firsts : (pool : Interned) (row chosen : List ℕ) → ((id : ℕ) → In id row → has_first_member chosen (clause_at pool id) ≡ true) → HaveFirsts (clauses_at pool row) chosen
+have_firsts pool row chosen so c i = let w = In_map_cases (clause_at pool) row c i in ap (has_first_member chosen) w.2 ∙ so w.0 w.1
+
+pub served : (pool : Interned) (book : Book) (class : ℕ) (chosen : List ℕ) (clauses : List (List ℕ)) → list_any (has chosen) (listed_for book.conflicts class) ≡ false → clauses ≡ clauses_of (repository_of pool book) class → HaveFirsts clauses chosen
+    → IsServed (repository_of pool book) chosen class
+served pool book class chosen clauses none are firsts = record {
+  firsts = subst (λ z. HaveFirsts z chosen) are firsts;
+  peace = λ n i. false_from_ne_true (has (listed_for book.conflicts class) n) (λ h.
+      both_ways (has chosen n) (any_none (has chosen) (listed_for book.conflicts class) none n (has_In (listed_for book.conflicts class) n h)) (In_has i));
+}
+
+pub choice_is : (pool : Interned) (book : Book) (goal chosen : List ℕ) → AreBelow (length book.rows) chosen → has_first_member chosen goal ≡ true → ((p : ℕ) → In p chosen → IsServed (repository_of pool book) chosen p)
+    → IsFirstChoice (repository_of pool book) (goal ∷ []) (has chosen)
+choice_is pool book goal chosen below first so = record {
+  classes = λ n h. subst (λ z. n < z) (sym (rows_long pool book.rows)) (below n (has_In chosen n h));
+  of_goals = λ g i. elim (In_cases i) [ inl e ↦ ap (has_first_member chosen) e ∙ first | inr x ↦ absurd (In_none x) ];
+  of_clauses = λ p h c i. (so p (has_In chosen p h)).firsts c i;
+  peace = λ m n h k. (so m (has_In chosen m h)).peace n (has_In chosen n k);
+}
+
+-- the members of first choices are classes
+pub chosen_fit : (pool : Interned) (book : Book) (kinds choices : List (List ℕ)) (n : ℕ) → AreAllChosen (repository_of pool book) kinds n choices → NeedsFit (length book.rows) choices
+chosen_fit pool book kinds choices n so c i m j =
+    let p : (k : ℕ) × (k < length choices) × (get_or choices k [] ≡ c) = In_place choices c [] i in
+    let chosen : IsChosen (repository_of pool book) (listed_for kinds p.0) c = subst (IsChosen (repository_of pool book) (listed_for kinds p.0)) p.2 (so.each p.0 (subst (λ z. p.0 < z) so.long p.1)) in
+    subst (λ z. m < z) (rows_long pool book.rows) ((chosen m j).classes m (In_has j))
+
+-- a kind under classes
+pub held_none : (table : List (List ℕ)) (kind : ℕ) → AreHeld table table [] kind
+held_none table kind = record { kept = λ c k i. i; all = λ c i. absurd (In_none i); only = λ c k i. inl i }
+
+pub held_more : (start table new : List (List ℕ)) (classes : List ℕ) (i kind : ℕ) → i < length classes → IsEntered table new (get_or classes i 0) kind
+    → AreHeld start table (take i classes) kind → AreHeld start new (take (i + 1) classes) kind
+held_more start table new classes i kind l e so = record {
+  kept = λ c k j. e.kept c k (so.kept c k j);
+  all = λ c j. elim (In_last (take i classes) (take (i + 1) classes) (get_or classes i 0) c (take_more classes i 0 l) j) [
+    | inl o ↦ e.kept c kind (so.all c o)
+    | inr f ↦ subst (λ z. In kind (listed_for new z)) (sym f) e.entered
+  ];
+  only = λ c k j. elim (e.only c k j) [ inl o ↦ so.only c k o | inr f ↦ inr f.1 ];
+}
+
+-- kinds under the classes of their choices
+pub holders_none : (choices table : List (List ℕ)) → ((k : ℕ) → listed_for table k ≡ []) → AreHolders 0 choices table
+holders_none choices table none = record { all = λ k c l. absurd (omega arith); only = λ c k i. absurd (In_none (subst (λ z. In k z) (none c) i)) }
+
+pub holders_more : (n : ℕ) (choices table new : List (List ℕ)) (lent : List ℕ) → lent ≡ listed_for choices n → AreHeld table new lent n → AreHolders n choices table → AreHolders (n + 1) choices new
+holders_more n choices table new lent at held so = record {
+  all = λ k c m i. elim (cases_eq k n) [
+    | inl e ↦ subst (λ z. In z (listed_for new c)) (sym e) (held.all c (subst (λ z. In c z) (ap (λ z. listed_for choices z) e ∙ sym at) i))
+    | inr o ↦ held.kept c k (so.all k c (omega arith) i)
+  ];
+  only = λ c k i. elim (held.only c k i) [ inl o ↦ let b : k < n = so.only c k o in omega arith | inr e ↦ omega arith ];
+}
+
+-- one place more
+pub range_pushed : (made new : List ℕ) (n : ℕ) → new ≡ made ++ n ∷ [] → made ≡ range_with_len 0 n → new ≡ range_with_len 0 (n + 1)
+range_pushed made new n e so = e ∙ ap (λ z. z ++ n ∷ []) so ∙ sym (rw add-one (range_more 0 n ∙ ap (λ k. range_with_len 0 n ++ k ∷ []) (zero-add n)))
+
+-- every place, where the kind has no choice
+pub all_suspects : (conflicts choices : List (List ℕ)) (kind : ℕ) (suspects : List ℕ) → suspects ≡ range_with_len 0 (length choices) → AreSuspects conflicts choices kind suspects
+all_suspects conflicts choices kind suspects e = record {
+  all = λ k l. inl (subst (λ z. In k z) (sym e) (range_from (length choices) 0 k (omega arith) (omega (arith, l))));
+  only = λ k i. let w = range_cases (length choices) 0 k (subst (λ z. In k z) e i) in omega (arith, w.1);
+}
+
+-- and else the kinds without a choice, and those that have a class which conflicts with one of the choice
+pub facing_suspects : (conflicts choices table : List (List ℕ)) (kind : ℕ) (choice without found sorted : List ℕ) → choice ≡ listed_for choices kind → eqb (length choice) 0 ≡ false → AreHolders (length choices) choices table
+    → without ≡ without_choice choices (length choices) → found ≡ without ++ facing conflicts table choice → ((k : ℕ) → In k sorted ↔ In k found) → AreSuspects conflicts choices kind sorted
+facing_suspects conflicts choices table kind choice without found sorted is some holders free made same = record {
+  all = λ k m. elim (empty_or (listed_for choices k)) [
+    | inl e ↦ inl (there_is k (In_append_left without (facing conflicts table choice) k (subst (λ z. In k z) (sym free)
+        (filter_from (λ k. eqb (length (listed_for choices k)) 0) (range_with_len 0 (length choices)) k (range_from (length choices) 0 k (omega arith) (omega (arith, m))) (ap (λ z. eqb (length z) 0) e)))))
+    | inr w ↦ elim (cases_Bool (has sorted k)) [
+      | inl t ↦ inl (has_In sorted k t)
+      | inr f ↦ inr (record {
+        first = subst (λ z. (n : ℕ) × In n z) is (some_item choice some);
+        second = w;
+        peace = λ a b ia ib. false_from_ne_true (has (listed_for conflicts a) b) (λ h. both_ways (has sorted k) f (In_has (there_is k (In_append_right without (facing conflicts table choice) k
+            (In_flat (λ c. flat_map (listed_for table) (listed_for conflicts c)) choice a k (subst (λ z. In a z) (sym is) ia) (In_flat (listed_for table) (listed_for conflicts a) b k (has_In (listed_for conflicts a) b h) (holders.all k b m ib)))))));
+      })
+    ]
+  ];
+  only = λ k j. elim (In_append_cases without (facing conflicts table choice) k (subst (λ z. In k z) made ((same k).0 j))) [
+    | inl o ↦ let w = range_cases (length choices) 0 k (filter_cases (λ k. eqb (length (listed_for choices k)) 0) (range_with_len 0 (length choices)) k (subst (λ z. In k z) free o)).0 in omega (arith, w.1)
+    | inr i ↦
+        let w = In_flat_cases (λ c. flat_map (listed_for table) (listed_for conflicts c)) choice k i in
+        let v = In_flat_cases (listed_for table) (listed_for conflicts w.0) k w.2 in
+        holders.only v.0 k v.2
   ];
 }
   where
-    grows : (m : ℕ) → In m chosen → In m new
-    grows m j = subst (λ z. In m z) (sym more.1) (In_append_left chosen more.0 m j)
+    there_is : (k : ℕ) → In k (without ++ facing conflicts table choice) → In k sorted
+    there_is k i = (same k).1 (subst (λ z. In k z) (sym made) i)
 
-    stays : (j : ℕ) → j < length chosen → get_or new j 0 ≡ get_or chosen j 0
-    stays j m = ap (λ z. get_or z j 0) more.1 ∙ get_or_append_left chosen more.0 0 j m
-
-    inside : p < length book.rows
-    inside = subst (λ z. z < length book.rows) (sym at) (subst (λ z. get_or chosen n 0 < z) (rows_long pool book.rows) (so.below (get_or chosen n 0) (In_at chosen n 0 l)))
-
-pub followed_all : (R : Repository) (goal chosen : List ℕ) (n : ℕ) → n ≡ length chosen → FollowedTo R goal chosen n → IsFollowed R goal chosen
-followed_all R goal chosen n e so = record {
-  below = so.below;
-  goal_first = so.goal_first;
-  clause_firsts = λ p i. let w : (j : ℕ) × (j < length chosen) × (get_or chosen j 0 ≡ p) = In_place chosen p 0 i in
-      subst (λ z. HaveFirsts (clauses_of R z) chosen) w.2 (so.clause_firsts w.0 (subst (λ z. w.0 < z) (sym e) w.1));
-}
-
-pub chosen_from : (pool : Interned) (book : Book) (goal chosen lent : List ℕ) → lent ≡ chosen → IsFollowed (repository_of pool book) goal chosen → ArePeaceful book.conflicts lent lent → IsChosen (repository_of pool book) goal chosen
-chosen_from pool book goal chosen lent same f peace n i = record {
-  classes = λ m h. f.below m (has_In chosen m h);
-  of_goals = λ g j. f.goal_first n i g j;
-  of_clauses = λ p h c j. f.clause_firsts p (has_In chosen p h) c j;
-  peace = λ m k h g. peace m k (subst (λ z. In m z) (sym same) (has_In chosen m h)) (subst (λ z. In k z) (sym same) (has_In chosen k g));
-}
-
-pub followed_within : (pool : Interned) (book : Book) (goal chosen : List ℕ) (n class : ℕ) → n < length chosen → class ≡ get_or chosen n 0 → FollowedTo (repository_of pool book) goal chosen n → class < length book.rows
-followed_within pool book goal chosen n class l is so =
-    subst (λ z. z < length book.rows) (sym is) (subst (λ z. get_or chosen n 0 < z) (rows_long pool book.rows) (so.below (get_or chosen n 0) (In_at chosen n 0 l)))
-
-pub row_within : (pool : Interned) (book : Book) (class id : ℕ) → Sound pool book → class < length book.rows → id ≡ row_id book.rows class → id < length pool.rows
-row_within pool book class id sound l is = subst (λ z. z < length pool.rows) (sym is) (sound.rows.of_pool (row_id book.rows class) (In_at book.rows class 0 l))
+-- what conflicts with a class is within the table
+pub conflicts_within : (pool : Interned) (book : Book) (class : ℕ) (lent : List ℕ) (table : List (List ℕ)) → Sound pool book → lent ≡ listed_for book.conflicts class → length table ≡ length (repository_of pool book).clauses → AreBelow (length table) lent
+conflicts_within pool book class lent table sound is size q i =
+    let j : In class (listed_for book.conflicts q) = other_way book.conflicts sound.conflicts class q (subst (λ z. In q z) is i) in
+    let b : q < length book.conflicts = listed_in book.conflicts q class j in
+    let e : length book.conflicts ≡ length book.rows = book.paired in
+    let r : length (repository_of pool book).clauses ≡ length book.rows = rows_long pool book.rows in
+    omega arith

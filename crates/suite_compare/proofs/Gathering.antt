@@ -1,8 +1,8 @@
 -- What goals ask for, gathered goal by goal.
-use Rattle.std.proofs.Common.{◌≡◌, ℕ, ◌<◌, Bool, List, [], ◌∷◌, length, get_or, map, sym, ap, subst, ◌∙◌, arith, zero-add}
+use Rattle.std.proofs.Common.{◌≡◌, ℕ, ◌<◌, Bool, List, length, get_or, map, sym, ap, subst, ◌∙◌, zero-add}
 use Rattle.std.specs.Prelude.{◌↔◌}
-use Rattle.listed.proofs.Lists.{filled, In_map, In_map_cases}
-use Rattle.listed.specs.Lists.{Ascending, In, here}
+use Rattle.listed.proofs.Lists.{filled, In_at, In_map, In_map_cases}
+use Rattle.listed.specs.Lists.{Ascending, In}
 use Rattle.row_book.specs.Flattening.{packages}
 use Rattle.row_book.specs.Repository.{Repository}
 use Rattle.row_book.specs.Rounds.{kernel_class}
@@ -49,10 +49,5 @@ named_ascending stanzas goal = ascending_filter (λ n. is_named_by goal (stanza_
 -- some packages have some class
 pub image_filled : (limit : ℕ) (hold : Bool) → (home : Home) (stanzas : List PackageFacts) (chosen : List ℕ) → ((n : ℕ) → In n chosen → n < length stanzas) → 0 < length chosen → 0 < length (goal_classes limit hold (suite_repository home stanzas) chosen)
 image_filled limit hold home stanzas chosen within some =
-    let one = first_member chosen some in
-    filled (goal_classes limit hold (suite_repository home stanzas) chosen) (kernel_class limit hold (suite_repository home stanzas) one.0)
-    (classes_from limit hold (suite_repository home stanzas) (suite_sound home stanzas) chosen (λ n i. subst (λ size. n < size) (sym (length_clauses home stanzas)) (within n i)) one.0 one.1)
-  where
-    first_member : (xs : List ℕ) → 0 < length xs → (x : ℕ) × In x xs
-    first_member [] l = absurd (omega arith)
-    first_member (x ∷ xs) l = (x, here)
+    filled (goal_classes limit hold (suite_repository home stanzas) chosen) (kernel_class limit hold (suite_repository home stanzas) (get_or chosen 0 0))
+    (classes_from limit hold (suite_repository home stanzas) (suite_sound home stanzas) chosen (λ n i. subst (λ size. n < size) (sym (length_clauses home stanzas)) (within n i)) (get_or chosen 0 0) (In_at chosen 0 0 some))

@@ -1,13 +1,11 @@
 -- Verdicts on kinds.
-use Rattle.std.proofs.Common.{◌≡◌, ℕ, ◌<◌, ◌≤◌, ◌+◌, Bool, true, false, cond, List, [], ◌∷◌, ◌++◌, ◌⊎◌, inl, inr, length, get_or, take, map, ltb, refl, sym, ◌∙◌, ap, subst, arith, Option, Some, None}
-use Rattle.std.specs.Prelude.{is_some, IsSome}
+use Rattle.std.proofs.Common.{◌≡◌, ℕ, ◌<◌, Bool, true, false, not, List, [], ◌∷◌, inl, inr, length, get_or, refl, sym, ◌∙◌, ap, subst, arith, Some}
 use Rattle.std.specs.List.{flat_map}
-use Rattle.std.proofs.lemmas.Bool.{cases_Bool, both_ways, false≢true, lt-ltb, le-ltb}
-use Rattle.std.proofs.lemmas.List.{length_push, append-nil, flat_map_more, get_or-map, map_more, take_all, take_more, length-map}
-use Rattle.std.proofs.lemmas.List.Concat.{flat_map-append}
-use Rattle.listed.proofs.Lists.{In_flat_cases, In_flat, In_cases, In_none, In_at, item_in, has_In}
+use Rattle.std.proofs.lemmas.Bool.{cases_lt, and_from, and_parts, cases_Bool, both_ways, false≢true, lt-ltb, le-ltb}
+use Rattle.std.proofs.lemmas.List.{get_or-map, get_or_past, length-map}
+use Rattle.listed.proofs.Lists.{in_cond_cases, in_cond_first, In_flat_cases, In_flat, In_cases, In_none, In_at, has_In}
 use Rattle.clause_pool.specs.Interned.{Interned}
-use Rattle.listed.specs.Lists.{In, here, has}
+use Rattle.listed.specs.Lists.{In, has}
 use Rattle.row_book.specs.Book.{listed_for, repository_of, Sound}
 use Rattle.row_book.specs.Needs.{AreNeeds, IsNeed, NeedsFit}
 use Rattle.row_book.specs.Repository.{Repository}
@@ -22,8 +20,8 @@ use Rattle.search_terms.proofs.Ranges.{form_ranged, rows_long}
 use Rattle.clause_solver.specs.Verdicts.{IsSearchVerdict, IsVerdictOf}
 use Rattle.clause_solver.specs.declared.outcomes.Verdict.{Verdict}
 use Rattle.clause_solver.specs.declared.outcomes.Verdict.TheVariants.{Yes, No, Spent}
-use Rattle.suite_compare.specs.Bad.{bad, bad_entry, AreAllBadTo, AreBad, AreSingles}
-use Rattle.suite_compare.specs.Choices.{AreBelow, ArePeaceful}
+use Rattle.suite_compare.specs.Bad.{bad, bad_entry, is_bad, AreAllBad, AreBad, AreSingles}
+use Rattle.suite_compare.specs.Choices.{ArePeaceful}
 use Rattle.suite_compare.specs.Kinds.{alone, alone_in, kernel_in, kernel_verdict, together, together_in, IsJudge}
 use Rattle.suite_compare.specs.Asking.{tree_of, verdict_of}
 use Rattle.suite_compare.specs.Report.{is_yes}
@@ -31,33 +29,25 @@ use Rattle.suite_compare.specs.Suspects.{AreChoices, AreSuspects}
 use Rattle.suite_compare.specs.declared.verdicts.Bad.{Bad}
 use Rattle.suite_compare.specs.declared.verdicts.Judge.{Judge}
 use Rattle.suite_compare.specs.declared.suspect.Choices.{Choices}
-use Rattle.suite_compare.proofs.FirstChoices.{choice_tells, choices_join}
-use Rattle.suite_compare.proofs.Groups.{pushed_at}
+use Rattle.suite_compare.proofs.Chosen.{choice_tells, choices_join}
 
 pub need_at : (kinds : List (List ℕ)) (k : ℕ) → k < length kinds → AreNeeds kinds → IsNeed (listed_for kinds k)
 need_at kinds k l needs = needs (listed_for kinds k) (In_at kinds k [] l)
 
-pub below_at : (size : ℕ) (kinds : List (List ℕ)) (k : ℕ) → k < length kinds → NeedsFit size kinds → AreBelow size (listed_for kinds k)
-below_at size kinds k l fit = fit (listed_for kinds k) (In_at kinds k [] l)
+pub below_at : (size : ℕ) (kinds : List (List ℕ)) (k : ℕ) → k < length kinds → NeedsFit size kinds → (i : ℕ) → i < length (listed_for kinds k) → get_or (listed_for kinds k) i 0 < size
+below_at size kinds k l fit i m = fit (listed_for kinds k) (In_at kinds k [] l) _ (In_at (listed_for kinds k) i 0 m)
 
 pub one_fits : (size : ℕ) (kinds : List (List ℕ)) (k : ℕ) → k < length kinds → NeedsFit size kinds → NeedsFit size (listed_for kinds k ∷ [])
-one_fits size kinds k l fit c i = elim (In_cases i) [ inl e ↦ λ n j. below_at size kinds k l fit n (subst (λ z. In n z) e j) | inr x ↦ absurd (In_none x) ]
+one_fits size kinds k l fit c i = elim (In_cases i) [ inl e ↦ fit c (subst (λ z. In z kinds) (sym e) (In_at kinds k [] l)) | inr x ↦ absurd (In_none x) ]
 
 pub pair_fits : (size : ℕ) (kinds : List (List ℕ)) (k m : ℕ) → k < length kinds → m < length kinds → NeedsFit size kinds → NeedsFit size (listed_for kinds k ∷ (listed_for kinds m ∷ []))
-pair_fits size kinds k m l lm fit c i = elim (In_cases i) [ inl e ↦ λ n j. below_at size kinds k l fit n (subst (λ z. In n z) e j) | inr r ↦ one_fits size kinds m lm fit c r ]
-
-is_past : (budget n : ℕ) → budget < n → ltb budget n ≡ true
-is_past budget n l = lt-ltb budget n l
-
-some_is : {X : Type 0} (o : Option X) → IsSome o → is_some o ≡ true
-some_is None s = absurd (false≢true s)
-some_is (Some x) s = refl
+pair_fits size kinds k m l lm fit c i = elim (In_cases i) [ inl e ↦ fit c (subst (λ z. In z kinds) (sym e) (In_at kinds k [] l)) | inr r ↦ one_fits size kinds m lm fit c r ]
 
 -- what a tree tells is one verdict
 pub verdict_told : (budget : ℕ) (tree : Tree) (v : Verdict) → IsVerdictOf budget tree v → v ≡ verdict_of budget tree
-verdict_told budget tree Yes w = rw (le-ltb budget (failed_leaves tree) w.1, some_is (found_of tree) w.0) refl
+verdict_told budget tree Yes w = rw (le-ltb budget (failed_leaves tree) w.1, w.0) refl
 verdict_told budget tree No w = rw (le-ltb budget (failed_leaves tree) w.1, w.0) refl
-verdict_told budget tree Spent w = rw (is_past budget (failed_leaves tree) w) refl
+verdict_told budget tree Spent w = rw (lt-ltb budget (failed_leaves tree) w) refl
 
 -- the tree of a sound book's formula is the computed one
 pub tree_is : (pool : Interned) (book : Book) (goals : List (List ℕ)) → Sound pool book → NeedsFit (length book.rows) goals
@@ -91,24 +81,6 @@ joined_yes pool book budget A B S T sound fit first second peace =
     found_yes : (budget : ℕ) (tree : Tree) → failed_leaves tree ≡ 0 → (chosen : List Bool) → found_of tree ≡ Some chosen → verdict_of budget tree ≡ Yes
     found_yes budget tree none chosen some = rw (le-ltb budget (failed_leaves tree) (omega arith), some) refl
 
-entry_cases : (judge : Judge) (singles : List Verdict) (kind other : ℕ) (b : Bad) → In b (bad_entry judge singles kind other) → (is_yes (get_or singles other Spent) ≡ true) × (b ≡ bad other (together_in judge kind other))
-entry_cases judge singles kind other b = by (is_yes (get_or singles other Spent)) (together_in judge kind other)
-  where
-    by : (s : Bool) (v : Verdict) → In b (cond s (cond (is_yes v) [] (bad other v ∷ [])) []) → (s ≡ true) × (b ≡ bad other v)
-    by false v i = absurd (In_none i)
-    by true Yes i = absurd (In_none i)
-    by true No i = elim (In_cases i) [ inl e ↦ (refl, e) | inr x ↦ absurd (In_none x) ]
-    by true Spent i = elim (In_cases i) [ inl e ↦ (refl, e) | inr x ↦ absurd (In_none x) ]
-
-entry_in : (judge : Judge) (singles : List Verdict) (kind other : ℕ) → is_yes (get_or singles other Spent) ≡ true → In (bad other (together_in judge kind other)) (bad_entry judge singles kind other) ⊎ (together_in judge kind other ≡ Yes)
-entry_in judge singles kind other = by (is_yes (get_or singles other Spent)) (together_in judge kind other)
-  where
-    by : (s : Bool) (v : Verdict) → s ≡ true → In (bad other v) (cond s (cond (is_yes v) [] (bad other v ∷ [])) []) ⊎ (v ≡ Yes)
-    by false v e = absurd (false≢true e)
-    by true Yes e = inr refl
-    by true No e = inl here
-    by true Spent e = inl here
-
 -- the verdict on a kind, as it was found to say
 pub single_at : (judge : Judge) (singles : List Verdict) (k : ℕ) → k < length judge.kinds.items → AreSingles judge singles → get_or singles k Spent ≡ alone_in judge k
 single_at judge singles k l told = ap (λ z. get_or z k Spent) told ∙ get_or-map (alone (kernel_in judge) judge.budget) judge.kinds.items k [] Spent l
@@ -125,9 +97,14 @@ bad_from judge singles choices kind suspects list so l told chosen suspected mad
       subst (λ z. is_yes (alone_in judge z) ≡ true) (sym (ap (λ z. z.kind) (entry b i).1)) (ap is_yes (sym (single_at judge singles w.0 (below w.0 w.1) told)) ∙ (entry b i).0);
   verdict = λ b i. ap (λ z. z.verdict) (entry b i).1 ∙ ap (together_in judge kind) (sym (ap (λ z. z.kind) (entry b i).1));
   whole = λ first k m yes. elim (suspected.all k (subst (λ z. k < z) (sym chosen.chosen.long) m)) [
-    | inl i ↦ elim (entry_in judge singles kind k (ap is_yes (single_at judge singles k m told) ∙ yes)) [
-      | inl e ↦ inl (bad k (together_in judge kind k), subst (λ z. In (bad k (together_in judge kind k)) z) (sym made) (In_flat (bad_entry judge singles kind) suspects k (bad k (together_in judge kind k)) i e), refl)
-      | inr e ↦ inr e
+    | inl i ↦ elim (cases_Bool (is_yes (together_in judge kind k))) [
+      | inl t ↦ inr (yes_at (together_in judge kind k) t)
+      | inr f ↦ let e : Bad = bad k (together_in judge kind k) in inl (
+        e,
+        subst (λ z. In e z) (sym made) (In_flat (bad_entry judge singles kind) suspects k e i (in_cond_first (is_bad judge singles kind k) e e []
+            (and_from (is_yes (get_or singles k Spent)) (not (is_yes (together_in judge kind k))) (ap is_yes (single_at judge singles k m told) ∙ yes) (ap not f)) refl)),
+        refl,
+      )
     ]
     | inr j ↦ inr (joined_yes judge.pool.now judge.book.now judge.budget (listed_for judge.kinds.items kind) (listed_for judge.kinds.items k) (listed_for choices.of.items kind) (listed_for choices.of.items k) so.sound
         (pair_fits (length judge.book.now.rows) judge.kinds.items kind k l m so.fit) (chosen.chosen.each kind l j.first.0 j.first.1) (chosen.chosen.each k m j.second.0 j.second.1) j.peace)
@@ -138,7 +115,10 @@ bad_from judge singles choices kind suspects list so l told chosen suspected mad
     was b i = In_flat_cases (bad_entry judge singles kind) suspects b (subst (λ z. In b z) made i)
 
     entry : (b : Bad) (i : In b list) → (is_yes (get_or singles (was b i).0 Spent) ≡ true) × (b ≡ bad (was b i).0 (together_in judge kind (was b i).0))
-    entry b i = entry_cases judge singles kind (was b i).0 b (was b i).2
+    entry b i = elim (in_cond_cases (is_bad judge singles kind (was b i).0) b (bad (was b i).0 (together_in judge kind (was b i).0)) [] (was b i).2) [
+      | inl e ↦ ((and_parts (is_yes (get_or singles (was b i).0 Spent)) (not (is_yes (together_in judge kind (was b i).0))) e.1).0, e.0)
+      | inr n ↦ absurd (In_none n)
+    ]
 
     below : (k : ℕ) → In k suspects → k < length judge.kinds.items
     below k i = subst (λ z. k < z) chosen.chosen.long (suspected.only k i)
@@ -155,28 +135,6 @@ bad_none judge kind list not_yes e = record {
     none : (b : Bad) → In b list → ⊥
     none b i = In_none (subst (λ z. In b z) e i)
 
-pub all_bad_none : (judge : Judge) (lists : List (List Bad)) → lists ≡ [] → AreAllBadTo judge lists 0
-all_bad_none judge lists e = record { long = ap length e; each = λ k l. absurd (omega arith) }
-
-pub all_bad_more : (judge : Judge) (lists new : List (List Bad)) (list : List Bad) (n : ℕ) → new ≡ lists ++ list ∷ [] → AreBad judge n list → AreAllBadTo judge lists n → AreAllBadTo judge new (n + 1)
-all_bad_more judge lists new list n made one so = record {
-  long = ap length made ∙ length_push lists list ∙ ap (λ z. z + 1) so.long;
-  each = λ k l. elim (pushed_at lists new list [] n k so.long made l) [
-    | inl w ↦ subst (AreBad judge k) (sym w.1) (so.each k w.0)
-    | inr w ↦ subst (AreBad judge k) (sym w.1) (subst (λ z. AreBad judge z list) (sym w.0) one)
-  ];
-}
-
--- one verdict more
-pub alone_more : (judge : Judge) (made new : List Verdict) (n : ℕ) (v : Verdict) → n < length judge.kinds.items → v ≡ alone_in judge n → new ≡ made ++ v ∷ []
-    → made ≡ map (alone (kernel_in judge) judge.budget) (take n judge.kinds.items) → new ≡ map (alone (kernel_in judge) judge.budget) (take (n + 1) judge.kinds.items)
-alone_more judge made new n v l is e so =
-    let f = alone (kernel_in judge) judge.budget in
-    e ∙ ap (λ z. made ++ z ∷ []) is ∙ ap (λ z. z ++ f (listed_for judge.kinds.items n) ∷ []) so ∙ sym (map_more f judge.kinds.items n [] l)
-
-pub alone_all : (judge : Judge) (made : List Verdict) (n : ℕ) → length judge.kinds.items ≤ n → made ≡ map (alone (kernel_in judge) judge.budget) (take n judge.kinds.items) → AreSingles judge made
-alone_all judge made n l so = so ∙ ap (map (alone (kernel_in judge) judge.budget)) (take_all n judge.kinds.items l)
-
 pub singles_long : (judge : Judge) (singles : List Verdict) → AreSingles judge singles → length singles ≡ length judge.kinds.items
 singles_long judge singles e = ap length e ∙ length-map judge.kinds.items (alone (kernel_in judge) judge.budget)
 
@@ -189,22 +147,8 @@ entry_off judge singles kind other off = rw off refl
 pub entry_bad : (judge : Judge) (singles : List Verdict) (kind other : ℕ) (v : Verdict) → is_yes (get_or singles other Spent) ≡ true → v ≡ together_in judge kind other → is_yes v ≡ false → bad_entry judge singles kind other ≡ bad other v ∷ []
 entry_bad judge singles kind other v single is off = rw (single, ap is_yes (sym is) ∙ off) (ap (λ z. bad other z ∷ []) (sym is))
 
--- one item of a list more
-pub flat_step : {A X : Type 0} (f : A → List X) (xs : List A) (i : ℕ) (d : A) (lines : List X) → i < length xs → lines ≡ flat_map f (take i xs) → f (get_or xs i d) ≡ [] → lines ≡ flat_map f (take (i + 1) xs)
-flat_step f xs i d lines l so none =
-    so ∙ sym (ap (flat_map f) (take_more xs i d l) ∙ flat_map-append f (take i xs) (get_or xs i d ∷ []) ∙ ap (λ z. flat_map f (take i xs) ++ (z ++ [])) none ∙ append-nil (flat_map f (take i xs)))
-
-pub flat_more : {A X : Type 0} (f : A → List X) (xs : List A) (i : ℕ) (d : A) (lines new : List X) (more : List X) → i < length xs → new ≡ lines ++ more → lines ≡ flat_map f (take i xs) → f (get_or xs i d) ≡ more → new ≡ flat_map f (take (i + 1) xs)
-flat_more f xs i d lines new more l made so is =
-    made ∙ ap (λ z. z ++ more) so
-    ∙ sym (ap (flat_map f) (take_more xs i d l) ∙ flat_map-append f (take i xs) (get_or xs i d ∷ []) ∙ ap (λ z. flat_map f (take i xs) ++ (z ++ [])) is ∙ ap (λ z. flat_map f (take i xs) ++ z) (append-nil more))
-
-pub flat_all : {A X : Type 0} (f : A → List X) (xs : List A) (i : ℕ) (lines : List X) → length xs ≤ i → lines ≡ flat_map f (take i xs) → lines ≡ flat_map f xs
-flat_all f xs i lines l so = so ∙ ap (flat_map f) (take_all i xs l)
-
--- the same behind what was there
-pub behind_more : {A X : Type 0} (f : A → List X) (xs : List A) (i : ℕ) (d : A) (initial lines new more : List X) → i < length xs → new ≡ lines ++ more → lines ≡ initial ++ flat_map f (take i xs) → f (get_or xs i d) ≡ more
-    → new ≡ initial ++ flat_map f (take (i + 1) xs)
-behind_more f xs i d initial lines new more l made so is =
-    made ∙ ap (λ z. z ++ more) so ∙ ap (λ z. (initial ++ flat_map f (take i xs)) ++ z) (sym is) ∙ flat_map_more f initial (take i xs) (get_or xs i d)
-    ∙ ap (λ z. initial ++ flat_map f z) (sym (take_more xs i d l))
+pub bad_within : (judge : Judge) (bad : List (List Bad)) (k : ℕ) (b : Bad) → AreAllBad judge bad → In b (get_or bad k []) → b.kind < length bad
+bad_within judge bad k b so i = elim (cases_lt k (length bad)) [
+  | inl l ↦ let m : k < length judge.kinds.items = omega (arith, so.long) in subst (λ z. b.kind < z) (sym so.long) ((so.each k m).within b i)
+  | inr g ↦ absurd (In_none (subst (λ z. In b z) (get_or_past bad k [] g) i))
+]

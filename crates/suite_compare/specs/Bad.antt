@@ -1,5 +1,5 @@
 -- Kinds that do not go together, or are not known to.
-use Rattle.std.specs.Prelude.{◌≡◌, ℕ, ◌<◌, ◌==◌, ◌⊎◌, true, if◌then◌else◌, List, [], ◌∷◌, length, map, slice_index_or}
+use Rattle.std.specs.Prelude.{◌≡◌, ℕ, ◌<◌, ◌==◌, ◌⊎◌, Bool, true, not, ◌&&◌, if◌then◌else◌, List, [], ◌∷◌, length, map, slice_index_or}
 use Rattle.std.specs.List.{find}
 use Rattle.std.specs.Option.{option_map_or}
 use Rattle.listed.specs.Lists.{In}
@@ -7,6 +7,7 @@ use Rattle.clause_solver.specs.declared.outcomes.Verdict.{Verdict}
 use Rattle.clause_solver.specs.declared.outcomes.Verdict.TheVariants.{Yes, Spent}
 use Rattle.suite_compare.specs.declared.verdicts.Bad.{Bad}
 use Rattle.suite_compare.specs.declared.verdicts.Judge.{Judge}
+use Rattle.suite_compare.specs.Groups.{AreEach}
 use Rattle.suite_compare.specs.Report.{is_yes}
 use Rattle.suite_compare.specs.Kinds.{alone, alone_in, kernel_in, together_in}
 
@@ -17,10 +18,12 @@ AreSingles judge singles = singles ≡ map (alone (kernel_in judge) judge.budget
 abbrev pub bad : ℕ → Verdict → Bad
 bad k verdict = record { kind = k; verdict = verdict }
 
--- the entry of a kind that goes by itself, unless the verdict on both together is yes
+-- a kind that goes by itself is bad with another one unless the verdict on both together is yes; then it has an entry
+abbrev pub is_bad : Judge → List Verdict → ℕ → ℕ → Bool
+is_bad judge singles kind other = is_yes (slice_index_or singles other Spent) && not (is_yes (together_in judge kind other))
+
 abbrev pub bad_entry : Judge → List Verdict → ℕ → ℕ → List Bad
-bad_entry judge singles kind other =
-    if is_yes (slice_index_or singles other Spent) then (let verdict = together_in judge kind other in if is_yes verdict then [] else bad other verdict ∷ []) else []
+bad_entry judge singles kind other = if is_bad judge singles kind other then bad other (together_in judge kind other) ∷ [] else []
 
 -- kinds that go by themselves, with the verdict on both together, and each such kind unless that is yes
 pub record AreBad (judge : Judge) (kind : ℕ) (list : List Bad) : Type 0 where
@@ -35,9 +38,8 @@ abbrev pub entered_verdict : List Bad → ℕ → Verdict
 entered_verdict list kind = option_map_or (λ b. b.verdict) (find (λ b. b.kind == kind) list) Yes
 
 -- the bad kinds of each of the first n kinds
-pub record AreAllBadTo (judge : Judge) (lists : List (List Bad)) (n : ℕ) : Type 0 where
-  pub long : length lists ≡ n
-  pub each : (k : ℕ) → k < n → AreBad judge k (slice_index_or lists k [])
+abbrev pub AreAllBadTo : Judge → List (List Bad) → ℕ → Type 0
+AreAllBadTo judge lists n = AreEach (AreBad judge) [] n lists
 
 -- the bad kinds of each kind
 abbrev pub AreAllBad : Judge → List (List Bad) → Type 0

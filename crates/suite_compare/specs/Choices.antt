@@ -1,9 +1,9 @@
 -- for the bodies of this crate alone
 -- First choices as lists of classes, and which of them are at peace.
-use Rattle.std.specs.Prelude.{◌≡◌, ℕ, ◌<◌, Bool, true, false, if◌then◌else◌, List, [], ◌∷◌, ◌++◌, length, slice_index_or}
+use Rattle.std.specs.Prelude.{◌≡◌, ℕ, ◌<◌, Bool, true, false, if◌then◌else◌, List, [], ◌∷◌, ◌++◌, slice_index_or}
 use Rattle.listed.specs.Lists.{In, has}
 use Rattle.row_book.specs.Book.{listed_for}
-use Rattle.row_book.specs.Repository.{Repository, clauses_of}
+use Rattle.row_book.specs.Repository.{Repository, against, clauses_of}
 use Rattle.suite_compare.specs.FirstChoices.{first_member, is_one_of, IsFirstChoice}
 
 -- each number of the list is below the size
@@ -22,23 +22,18 @@ with_class members class = if has members class then members else members ++ cla
 pub record AreFlagged (flags : List Bool) (members : List ℕ) : Type 0 where
   pub each : (n : ℕ) → slice_index_or flags n false ≡ has members n
 
--- the numbers of the second list are put behind the first, those that are not there yet
-pub record ArePut (old new more : List ℕ) : Type 0 where
-  pub rest : List ℕ
-  pub behind : new ≡ old ++ rest
-  pub all : (n : ℕ) → In n more → In n new
-  pub only : (n : ℕ) → In n rest → In n more
+-- the first member of a clause, and of each of some clauses, is among the chosen
+abbrev pub has_first_member : List ℕ → List ℕ → Bool
+has_first_member chosen clause = is_one_of (has chosen) (first_member clause)
 
--- the first member of each clause is among the chosen
 abbrev pub HaveFirsts : List (List ℕ) → List ℕ → Type 0
-HaveFirsts clauses chosen = (c : List ℕ) → In c clauses → is_one_of (has chosen) (first_member c) ≡ true
+HaveFirsts clauses chosen = (c : List ℕ) → In c clauses → has_first_member chosen c ≡ true
+
+-- so is that of each clause of a class, and none of the chosen conflicts with it
+pub record IsServed (R : Repository) (chosen : List ℕ) (p : ℕ) : Type 0 where
+  pub firsts : HaveFirsts (clauses_of R p) chosen
+  pub peace : (n : ℕ) → In n chosen → against R p n ≡ false
 
 -- where there is any, it is a first choice of the goal
 abbrev pub IsChosen : Repository → List ℕ → List ℕ → Type 0
 IsChosen R goal chosen = (n : ℕ) → In n chosen → IsFirstChoice R (goal ∷ []) (has chosen)
-
--- where there is any, the first member of the goal is there, and that of each clause of a member
-pub record IsFollowed (R : Repository) (goal chosen : List ℕ) : Type 0 where
-  pub below : AreBelow (length R.clauses) chosen
-  pub goal_first : (n : ℕ) → In n chosen → HaveFirsts (goal ∷ []) chosen
-  pub clause_firsts : (p : ℕ) → In p chosen → HaveFirsts (clauses_of R p) chosen

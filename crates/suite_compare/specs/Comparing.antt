@@ -9,11 +9,12 @@ use Rattle.repo_model.specs.Goals.{any_version, names_in}
 use Rattle.repo_model.specs.declared.suite.Suite.{Suite}
 use Rattle.suite_compare.specs.Asking.{verdict_in}
 use Rattle.suite_compare.specs.Bad.{AreSingles}
+use Rattle.suite_compare.specs.Groups.{AreEach}
 use Rattle.suite_compare.specs.Kinds.{alone_in, together_in, IsJudge}
 use Rattle.suite_compare.specs.Names.{names_of_both, stands_in}
 use Rattle.suite_compare.specs.Partners.{new_kind, old_kind, ArePartners}
 use Rattle.suite_compare.specs.Report.{finding, is_yes, pair_line, single_line, with_later}
-use Rattle.suite_compare.specs.Telling.{partners_at}
+use Rattle.suite_compare.specs.Telling.{no_partners}
 use Rattle.suite_compare.specs.declared.sides.NewSide.{NewSide}
 use Rattle.suite_compare.specs.declared.sides.OldSide.{OldSide}
 use Rattle.suite_compare.specs.declared.sides.Part.{Part}
@@ -32,10 +33,16 @@ pub record IsSide (n : ℕ) (side : Side) (of : List ℕ) : Type 0 where
   pub within : (i : ℕ) → i < n → slice_index_or of i 0 < length side.judge.kinds.items
   pub told : AreSingles side.judge side.singles.items
 
--- the partners of each pair of kinds
-pub record IsTable (old : Judge) (table : JointTable) (bad : List (List Bad)) (partners : List Partners) : Type 0 where
-  pub long : length partners ≡ length table.joints.new.items
-  pub each : (a : ℕ) → a < length table.joints.new.items → ArePartners old table (old_kind table a) (slice_index_or bad (new_kind table a) []) (partners_at partners a)
+-- the name goes by itself
+abbrev pub goes_alone : Side → ℕ → Bool
+goes_alone side i = is_yes (alone_in side.judge (slice_index_or side.of.items i 0))
+
+-- the partners of each of the first n pairs of kinds, and of each pair
+abbrev pub IsTableTo : ℕ → Judge → JointTable → List (List Bad) → List Partners → Type 0
+IsTableTo n old table bad partners = AreEach (λ a beside. ArePartners old table (old_kind table a) (slice_index_or bad (new_kind table a) []) beside) no_partners n partners
+
+abbrev pub IsTable : Judge → JointTable → List (List Bad) → List Partners → Type 0
+IsTable old table bad partners = IsTableTo (length table.joints.new.items) old table bad partners
 
 -- the verdicts on names and on pairs of names are those of their kinds
 pub record AreVerdicts (side : Side) (of : List ℕ) (names : List (List ℕ)) (v : List (List ℕ) → Verdict) : Type 0 where

@@ -1,5 +1,5 @@
 -- Kinds: names of a kind have the same classes, and so the same verdicts.
-use Rattle.std.specs.Prelude.{◌≡◌, ℕ, ◌<◌, ◌⊎◌, true, List, [], ◌∷◌, ◌++◌, length, slice_index_or}
+use Rattle.std.specs.Prelude.{◌≡◌, ℕ, ◌<◌, true, List, [], ◌∷◌, length, map, slice_index_or}
 use Rattle.listed.specs.Lists.{In, has}
 use Rattle.row_book.specs.Book.{Sound, listed_for, repository_of}
 use Rattle.row_book.specs.Needs.{AreNeeds, NeedsFit}
@@ -8,6 +8,7 @@ use Rattle.suite_compare.specs.Asking.{tree_of, verdict_of}
 use Rattle.clause_solver.specs.Outcomes.{IsBudget}
 use Rattle.clause_solver.specs.Solvers.{IsReady}
 use Rattle.clause_solver.specs.declared.outcomes.Verdict.{Verdict}
+use Rattle.suite_compare.specs.Groups.{AreEach}
 use Rattle.suite_compare.specs.declared.verdicts.Judge.{Judge}
 
 -- the verdict of a search in a kernel, for goals as lists of classes
@@ -32,11 +33,11 @@ pub record AreRivals (conflicts : List (List ℕ)) (first second : List ℕ) : T
 abbrev pub IsOneClass : List ℕ → Type 0
 IsOneClass goal = (c : ℕ) × (goal ≡ c ∷ [])
 
--- the number of an item among others, behind which it is put where it is new
-pub record IsNumbered (old new : List (List ℕ)) (item : List ℕ) (k : ℕ) : Type 0 where
-  pub within : k < length new
-  pub is : listed_for new k ≡ item
-  pub gains : (new ≡ old) ⊎ (new ≡ old ++ item ∷ [])
+-- the keys of the first n items, each once in the order in which they came, the item with which each came first, and the number of each item's key
+pub record AreNumbered (key : ℕ → List ℕ) (n : ℕ) (seen : List (List ℕ)) (firsts of : List ℕ) : Type 0 where
+  pub are : seen ≡ map key firsts
+  pub below : (i : ℕ) → In i firsts → i < n
+  pub each : AreEach (λ i k. (k < length firsts) × (key (slice_index_or firsts k 0) ≡ key i)) 0 n of
 
 -- for each list the number of a kind that is the same list, and no other kinds
 pub record AreKinds (lists kinds : List (List ℕ)) (kind_of : List ℕ) : Type 0 where
@@ -44,19 +45,6 @@ pub record AreKinds (lists kinds : List (List ℕ)) (kind_of : List ℕ) : Type 
   pub within : (i : ℕ) → i < length lists → slice_index_or kind_of i 0 < length kinds
   pub each : (i : ℕ) → i < length lists → listed_for kinds (slice_index_or kind_of i 0) ≡ listed_for lists i
   pub only : (c : List ℕ) → In c kinds → In c lists
-
--- each pair of kinds as a key of two numbers
-pub record AreKeys (keys : List (List ℕ)) (olds news : List ℕ) : Type 0 where
-  pub olds_long : length olds ≡ length keys
-  pub news_long : length news ≡ length keys
-  pub each : (k : ℕ) → k < length keys → listed_for keys k ≡ slice_index_or olds k 0 ∷ (slice_index_or news k 0 ∷ [])
-
--- the number of a pair among others, behind which it is put where it is new
-pub record IsJoined (olds new_olds news new_news : List ℕ) (old new k : ℕ) : Type 0 where
-  pub within : k < length new_news
-  pub is_old : slice_index_or new_olds k 0 ≡ old
-  pub is_new : slice_index_or new_news k 0 ≡ new
-  pub gains : ((new_olds ≡ olds) × (new_news ≡ news)) ⊎ ((new_olds ≡ olds ++ old ∷ []) × (new_news ≡ news ++ new ∷ []))
 
 -- for each name the number of the pair of its kinds, and no other pairs
 pub record AreJoined (old_of new_of olds news joint_of : List ℕ) : Type 0 where
@@ -67,6 +55,10 @@ pub record AreJoined (old_of new_of olds news joint_of : List ℕ) : Type 0 wher
   pub each_new : (i : ℕ) → i < length new_of → slice_index_or news (slice_index_or joint_of i 0) 0 ≡ slice_index_or new_of i 0
   pub only_old : (k : ℕ) → In k olds → In k old_of
   pub only_new : (k : ℕ) → In k news → In k new_of
+
+-- the pair of the kinds of a name
+abbrev pub joint_key : List ℕ → List ℕ → ℕ → List ℕ
+joint_key old_of new_of i = slice_index_or old_of i 0 ∷ (slice_index_or new_of i 0 ∷ [])
 
 -- the kernel that a judge is asked of
 abbrev pub kernel_in : Judge → Repository

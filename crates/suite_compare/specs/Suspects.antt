@@ -1,42 +1,39 @@
 -- for the bodies of this crate alone
 -- Which kinds may not go together.
-use Rattle.std.specs.Prelude.{◌≡◌, ℕ, ◌<◌, ◌⊎◌, List, [], length}
+use Rattle.std.specs.Prelude.{◌≡◌, ℕ, ◌<◌, ◌==◌, ◌⊎◌, List, [], filter, length}
+use Rattle.std.specs.List.{flat_map, range_with_len}
 use Rattle.listed.specs.Lists.{In}
 use Rattle.row_book.specs.Book.{listed_for}
-use Rattle.row_book.specs.Needs.{NeedsFit}
 use Rattle.row_book.specs.Repository.{Repository}
 use Rattle.suite_compare.specs.Choices.{ArePeaceful, IsChosen}
+use Rattle.suite_compare.specs.Groups.{AreEach}
 use Rattle.suite_compare.specs.declared.suspect.Choices.{Choices}
 
--- a first choice for each kind, empty where it has none
-pub record AreAllChosen (R : Repository) (kinds choices : List (List ℕ)) : Type 0 where
-  pub long : length choices ≡ length kinds
-  pub below : NeedsFit (length R.clauses) choices
-  pub each : (k : ℕ) → k < length kinds → IsChosen R (listed_for kinds k) (listed_for choices k)
+-- a first choice for each of the first n kinds, empty where it has none
+abbrev pub AreAllChosen : Repository → List (List ℕ) → ℕ → List (List ℕ) → Type 0
+AreAllChosen R kinds n choices = AreEach (λ k choice. IsChosen R (listed_for kinds k) choice) [] n choices
 
 -- the kind is entered under each of the classes, and nothing else is new
 pub record AreHeld (old new : List (List ℕ)) (classes : List ℕ) (kind : ℕ) : Type 0 where
-  pub size : length new ≡ length old
   pub kept : (c k : ℕ) → In k (listed_for old c) → In k (listed_for new c)
   pub all : (c : ℕ) → In c classes → In kind (listed_for new c)
   pub only : (c k : ℕ) → In k (listed_for new c) → In k (listed_for old c) ⊎ (k ≡ kind)
 
--- under each class at least the kinds whose first choice has it, and kinds alone
-pub record AreHolders (choices table : List (List ℕ)) : Type 0 where
-  pub all : (k c : ℕ) → In c (listed_for choices k) → In k (listed_for table c)
-  pub only : (c k : ℕ) → In k (listed_for table c) → k < length choices
+-- under each class those of the first n kinds whose first choice has it, and no later kinds
+pub record AreHolders (n : ℕ) (choices table : List (List ℕ)) : Type 0 where
+  pub all : (k c : ℕ) → k < n → In c (listed_for choices k) → In k (listed_for table c)
+  pub only : (c k : ℕ) → In k (listed_for table c) → k < n
 
--- the kinds without a first choice
-pub record AreWithout (choices : List (List ℕ)) (without : List ℕ) : Type 0 where
-  pub all : (k : ℕ) → k < length choices → listed_for choices k ≡ [] → In k without
-  pub only : (k : ℕ) → In k without → k < length choices
+-- those of the first n kinds that have no first choice
+abbrev pub without_choice : List (List ℕ) → ℕ → List ℕ
+without_choice choices n = filter (λ k. length (listed_for choices k) == 0) (range_with_len 0 n)
 
 -- the first choices of the kinds of a repository, with their tables
 pub record AreChoices (R : Repository) (kinds : List (List ℕ)) (choices : Choices) : Type 0 where
-  pub chosen : AreAllChosen R kinds choices.of.items
-  pub holders : AreHolders choices.of.items choices.holders.items
+  pub chosen : AreAllChosen R kinds (length kinds) choices.of.items
+  pub holders : AreHolders (length choices.of.items) choices.of.items choices.holders.items
   pub size : length choices.holders.items ≡ length R.clauses
-  pub without : AreWithout choices.of.items choices.without.items
+  pub without : choices.without.items ≡ without_choice choices.of.items (length choices.of.items)
 
 -- both have members, and no member of the one conflicts with one of the other
 pub record AreJoinable (conflicts : List (List ℕ)) (S T : List ℕ) : Type 0 where
@@ -49,8 +46,6 @@ pub record AreSuspects (conflicts choices : List (List ℕ)) (kind : ℕ) (suspe
   pub all : (k : ℕ) → k < length choices → In k suspects ⊎ AreJoinable conflicts (listed_for choices kind) (listed_for choices k)
   pub only : (k : ℕ) → In k suspects → k < length choices
 
--- what the table has under the classes is put behind the others, and nothing else
-pub record HaveMarked (classes : List ℕ) (table : List (List ℕ)) (old new : List ℕ) : Type 0 where
-  pub kept : (k : ℕ) → In k old → In k new
-  pub all : (c k : ℕ) → In c classes → In k (listed_for table c) → In k new
-  pub only : (k : ℕ) → In k new → In k old ⊎ ((c : ℕ) × In k (listed_for table c))
+-- the kinds under the classes that conflict with one of some classes
+abbrev pub facing : List (List ℕ) → List (List ℕ) → List ℕ → List ℕ
+facing conflicts table classes = flat_map (λ c. flat_map (listed_for table) (listed_for conflicts c)) classes

@@ -4,17 +4,11 @@ use Rattle.std.specs.Prelude.{ℕ, if◌then◌else◌, List, [], Some, filter, 
 use Rattle.std.specs.List.{flat_map}
 use Rattle.listed.specs.Lists.{has}
 use Rattle.row_book.specs.Book.{listed_for}
-use Rattle.clause_solver.specs.declared.outcomes.Verdict.{Verdict}
-use Rattle.clause_solver.specs.declared.outcomes.Verdict.TheVariants.{Spent}
 use Rattle.suite_compare.specs.declared.gather.Partners.{Partners}
 use Rattle.suite_compare.specs.declared.report.Finding.{Finding}
 use Rattle.suite_compare.specs.declared.report.Finding.TheVariants.{Broken, Open}
 use Rattle.suite_compare.specs.declared.report.ReportLine.{ReportLine}
-use Rattle.suite_compare.specs.Report.{finding, pair_line, single_line}
-
--- the line of a name by itself
-abbrev pub told_alone : List (List ℕ) → List Verdict → List Verdict → ℕ → List ReportLine
-told_alone names old new i = single_line (listed_for names i) (finding (slice_index_or old i Spent) (slice_index_or new i Spent))
+use Rattle.suite_compare.specs.Report.{pair_line}
 
 -- what is told of a partner
 abbrev pub found_beside : Partners → ℕ → Finding
@@ -25,8 +19,11 @@ abbrev pub told_pair : List (List ℕ) → Partners → ℕ → ℕ → List Rep
 told_pair names partners i j = pair_line (listed_for names i) (listed_for names j) (Some (found_beside partners j))
 
 -- the partners of a pair of kinds
+abbrev pub no_partners : Partners
+no_partners = record { told = []; undecided = [] }
+
 abbrev pub partners_at : List Partners → ℕ → Partners
-partners_at table a = slice_index_or table a (record { told = []; undecided = [] })
+partners_at table a = slice_index_or table a no_partners
 
 -- the lines of a name with its partners behind it
 abbrev pub told_after : List (List ℕ) → List ℕ → List Partners → ℕ → List ReportLine

@@ -1,45 +1,103 @@
 //! First choices: sets of classes that show, without a search, that goals can be met.
-ghost use Rattle.std.specs.Prelude.{◌≡◌, ◌<◌, ◌++◌, ◌∷◌, [], ℕ, List, true, false, IfOk, OnOk, length};
-ghost use Rattle.clause_pool.specs.Interned.{clauses_at, OfPool};
+//!
+//! A set is made first and tested then, so that nothing has to be known of how it was made.
+ghost use Rattle.std.specs.Prelude.{◌≡◌, ◌<◌, ◌∷◌, [], ℕ, List, true, IfOk, OnOk, length};
 ghost use Rattle.std.specs.List.{list_any};
+ghost use Rattle.clause_pool.specs.Interned.{clauses_at, OfPool};
 ghost use Rattle.listed.specs.Lists.{In, has};
 ghost use Rattle.row_book.specs.Book.{listed_for, repository_of, Sound};
-ghost use Rattle.std.specs.Option.{option_to_list};
-ghost use Rattle.suite_compare.specs.FirstChoices.{first_member};
-ghost use Rattle.suite_compare.specs.Choices.{AreBelow, ArePeaceful, HaveFirsts, IsChosen, IsFollowed};
+ghost use Rattle.row_book.specs.Repository.{clauses_of};
+ghost use Rattle.suite_compare.specs.FirstChoices.{IsFirstChoice};
+ghost use Rattle.suite_compare.specs.Choices.{has_first_member, AreBelow, HaveFirsts, IsChosen, IsServed};
 
 use crate::class_set::ClassSet;
-use crate::places::class_at;
 use clause_pool::{ClauseId, NumList, Pool};
 use listed::Listed;
 use row_book::Book;
 use std::alloc::{AllocError, Global};
 
-/// Puts the first member of each clause of a row behind the others; answers whether each clause has one, and they are not too
-/// many, as they are where a hostile index gives a class thousands of clauses.
+/// The clauses of a class.
+fn row_of<'a>(pool: &'a Pool, book: &Book, class: u32) -> &'a [ClauseId]
+    requires sound { Sound pool.now book.now }
+    requires class { class < length book.now.rows }
+    ensures of_pool { OfPool pool.now result.now }
+    ensures clauses { clauses_at pool.now result.now ≡ clauses_of (repository_of pool.now book.now) class }
+    ensures numbers { (c : List ℕ) → In c (clauses_at pool.now result.now) → AreBelow (length book.now.rows) c }
+{
+    let id = book.row(class);
+    pool.row(id)
+}
+
+/// Puts the first member of a clause behind the others, where it has one.
+fn put_first(clause: &[u32], chosen: &mut ClassSet) -> Result<(), AllocError>
+    requires { AreBelow chosen.old.0 clause.now }
+    ensures { OnOk result (chosen.new.0 ≡ chosen.old.0) }
+{
+    if clause.is_empty() {
+        return Ok(());
+    }
+    chosen.put(clause[0])
+}
+
+/// Puts the first member of each clause of a row behind the others, until these are too many, as they are where a hostile index
+/// gives a class thousands of clauses.
 fn put_firsts(
     pool: &Pool,
     row: &[ClauseId],
     most: usize,
     chosen: &mut ClassSet,
-) -> Result<bool, AllocError>
+) -> Result<(), AllocError>
     requires row { OfPool pool.now row.now }
     requires numbers { (c : List ℕ) → In c (clauses_at pool.now row.now) → AreBelow chosen.old.0 c }
-    ensures size { OnOk result (chosen.new.0 ≡ chosen.old.0) }
-    ensures behind { OnOk result ((more : List ℕ) × (chosen.new.1 ≡ chosen.old.1 ++ more)) }
-    ensures firsts { IfOk result (λ whole. whole ≡ true → HaveFirsts (clauses_at pool.now row.now) chosen.new.1) }
-    ensures below { OnOk result ((size : ℕ) → AreBelow size chosen.old.1 → ((c : List ℕ) → In c (clauses_at pool.now row.now) → AreBelow size c) → AreBelow size chosen.new.1) }
+    ensures { OnOk result (chosen.new.0 ≡ chosen.old.0) }
 {
     for id in row {
         if most < chosen.as_slice().len() {
-            return Ok(false);
+            return Ok(());
         }
-        match pool.slice(*id).first() {
-            None => return Ok(false),
-            Some(number) => chosen.put(*number)?,
+        put_first(pool.slice(*id), chosen)?;
+    }
+    Ok(())
+}
+
+/// Puts the first member of each clause of what is chosen behind the others, until none is missing, or these are too many.
+fn follow(pool: &Pool, book: &Book, most: usize, chosen: &mut ClassSet) -> Result<(), AllocError>
+    requires sound { Sound pool.now book.now }
+    requires size { chosen.old.0 ≡ length book.now.rows }
+    ensures { OnOk result (chosen.new.0 ≡ length book.now.rows) }
+{
+    for place in 0..most {
+        let members = chosen.as_slice();
+        if place >= members.len() {
+            return Ok(());
+        }
+        let row = row_of(pool, book, members[place]);
+        put_firsts(pool, row, most, chosen)?;
+    }
+    Ok(())
+}
+
+/// Whether the first member of a clause is in the set.
+fn has_first(clause: &[u32], chosen: &ClassSet) -> bool
+    ensures { result ≡ has_first_member chosen.now.1 clause.now }
+{
+    match clause.first() {
+        None => false,
+        Some(number) => chosen.has(*number),
+    }
+}
+
+/// Whether the first member of each clause of a row is in the set.
+fn has_firsts(pool: &Pool, row: &[ClauseId], chosen: &ClassSet) -> bool
+    requires { OfPool pool.now row.now }
+    ensures { result ≡ true → HaveFirsts (clauses_at pool.now row.now) chosen.now.1 }
+{
+    for clause in row {
+        if !has_first(pool.slice(*clause), chosen) {
+            return false;
         }
     }
-    Ok(true)
+    true
 }
 
 /// Whether the class conflicts with a member of the set.
@@ -50,17 +108,30 @@ fn conflicts_with_one(book: &Book, class: u32, chosen: &ClassSet) -> bool
     book.against(class).iter().any(|other| chosen.has(*other))
 }
 
-/// Whether no two members of the set conflict.
-fn are_at_peace(book: &Book, chosen: &ClassSet) -> bool
-    requires { chosen.now.0 ≡ length book.now.rows }
-    ensures { result ≡ true → ArePeaceful book.now.conflicts chosen.now.1 chosen.now.1 }
+/// Whether the set has the first member of each clause of a class, and no class that it conflicts with.
+fn is_served(pool: &Pool, book: &Book, class: u32, chosen: &ClassSet) -> bool
+    requires sound { Sound pool.now book.now }
+    requires class { class < length book.now.rows }
+    ensures { result ≡ true → IsServed (repository_of pool.now book.now) chosen.now.1 class }
+{
+    if conflicts_with_one(book, class, chosen) {
+        return false;
+    }
+    has_firsts(pool, row_of(pool, book, class), chosen)
+}
+
+/// Whether the set is a first choice of a goal.
+fn is_first_choice(pool: &Pool, book: &Book, goal: &[u32], chosen: &ClassSet) -> bool
+    requires sound { Sound pool.now book.now }
+    requires size { chosen.now.0 ≡ length book.now.rows }
+    ensures { result ≡ true → IsFirstChoice (repository_of pool.now book.now) (goal.now ∷ []) (has chosen.now.1) }
 {
     for class in chosen.as_slice() {
-        if conflicts_with_one(book, *class, chosen) {
+        if !is_served(pool, book, *class, chosen) {
             return false;
         }
     }
-    true
+    has_first(goal, chosen)
 }
 
 /// The first choice of a goal: its first member, and the first member of each clause of what is chosen, where no two of
@@ -77,59 +148,14 @@ pub(crate) fn first_choice(
     requires goal { AreBelow (length book.now.rows) goal.now }
     requires size { chosen.old.0 ≡ length book.now.rows }
     ensures size { OnOk result (chosen.new.0 ≡ length book.now.rows) }
-    ensures below { IfOk result (AreBelow (length book.now.rows)) }
     ensures chosen { IfOk result (IsChosen (repository_of pool.now book.now) goal.now) }
 {
     chosen.clear();
     put_first(goal, chosen)?;
-    if !follow(pool, book, goal, most, chosen)? {
-        return Ok(Listed::new(alloc));
-    }
-    if !are_at_peace(book, chosen) {
+    follow(pool, book, most, chosen)?;
+    if !is_first_choice(pool, book, goal, chosen) {
         return Ok(Listed::new(alloc));
     }
     let made = Vec::from_slice(alloc, chosen.as_slice())?;
     Ok(Listed::of(made))
-}
-
-/// Puts the first member of a goal into an empty set, where it has one.
-fn put_first(goal: &[u32], chosen: &mut ClassSet) -> Result<(), AllocError>
-    requires empty { chosen.old.1 ≡ [] }
-    requires goal { AreBelow chosen.old.0 goal.now }
-    ensures { OnOk result (chosen.new ≡ (chosen.old.0, option_to_list (first_member goal.now))) }
-{
-    if goal.is_empty() {
-        return Ok(());
-    }
-    chosen.put(goal[0])
-}
-
-/// Puts the first member of each clause of what is chosen behind the others; answers whether none is missing, and they are not
-/// too many.
-fn follow(
-    pool: &Pool,
-    book: &Book,
-    goal: &[u32],
-    most: usize,
-    chosen: &mut ClassSet,
-) -> Result<bool, AllocError>
-    requires sound { Sound pool.now book.now }
-    requires goal { AreBelow (length book.now.rows) goal.now }
-    requires first { chosen.old ≡ (length book.now.rows, option_to_list (first_member goal.now)) }
-    ensures size { OnOk result (chosen.new.0 ≡ length book.now.rows) }
-    ensures followed { IfOk result (λ whole. whole ≡ true → IsFollowed (repository_of pool.now book.now) goal.now chosen.new.1) }
-{
-    for place in 0..most {
-        if place == chosen.as_slice().len() {
-            return Ok(true);
-        }
-        let class = class_at(chosen.as_slice(), place);
-        let id = book.row(class);
-        let row = pool.row(id);
-        let whole = put_firsts(pool, row, most, chosen)?;
-        if !whole {
-            return Ok(false);
-        }
-    }
-    Ok(false)
 }

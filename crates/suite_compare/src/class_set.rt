@@ -45,7 +45,7 @@ impl ClassSet {
     /// The members, in their order.
     pub(crate) fn as_slice(&self) -> &[u32]
         ensures items { result.now ≡ self.now.1 }
-        ensures below { AreBelow self.now.0 self.now.1 }
+        ensures below { AreBelow self.now.0 result.now }
     {
         self.members.as_slice()
     }

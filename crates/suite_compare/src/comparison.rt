@@ -11,13 +11,14 @@ ghost use Rattle.suite_compare.specs.declared.verdicts.Bad.{Bad};
 ghost use Rattle.suite_compare.specs.Kinds.{IsJudge};
 ghost use Rattle.suite_compare.specs.Names.{names_of_both};
 ghost use Rattle.suite_compare.specs.Comparing.{told_pairs, told_report, told_singles, AreVerdicts, IsOldSide, IsSide, IsTable};
-ghost use Rattle.suite_compare.specs.Partners.{IsJointTable};
+ghost use Rattle.suite_compare.specs.Partners.{old_kind, IsJointTable};
 ghost use Rattle.suite_compare.specs.Report.{first_told, report};
 
 use crate::gather::{JointTable, Partners, joint_table, new_kind, old_kind, partners_of};
-use crate::report::{LineList, Report, ReportLine, copy_of_first};
-use crate::sides::{OldSide, Side, new_side_of, verdicts_of};
-use crate::tell::{tell_pairs, tell_singles};
+use crate::places::name_at;
+use crate::report::{LineList, Report, ReportLine, copy_of_first, finding_of};
+use crate::sides::{OldSide, Side, new_side_of, verdict_of};
+use crate::tell::{push_single, tell_pairs};
 use crate::verdicts::{BadList, Judge, bad_lists, bads_at};
 use crate::view::SuiteView;
 use deb_version::Bytes;
@@ -32,7 +33,7 @@ fn all_partners(
 ) -> Result<Vec<Partners>, AllocError>
     requires judge { IsJudge old.now }
     requires fits { IsJointTable table.now }
-    requires olds { (k : ℕ) → In k table.now.joints.old.items → k < length old.now.kinds.items }
+    requires olds { (a : ℕ) → a < length table.now.joints.old.items → old_kind table.now a < length old.now.kinds.items }
     requires count { length table.now.by_new.items ≡ length bad.now }
     requires bad { (k : ℕ) (b : Bad) → In b (slice_index_or bad.now k []) → b.kind < length bad.now }
     ensures { IfOk result (λ partners. IsTable old.now table.now bad.now partners.items) }
@@ -59,10 +60,13 @@ fn single_lines(
     requires new { IsSide (length names.now) new.now new.now.of.items }
     ensures { (v w : List (List ℕ) → Verdict) → AreVerdicts old.now old_of.now names.now v → AreVerdicts new.now new.now.of.items names.now w → IfOk result (λ lines. lines ≡ told_singles v w names.now) }
 {
-    let before = verdicts_of(alloc, old, old_of)?;
-    let after = verdicts_of(alloc, new, &new.of)?;
     let mut lines = LineList::new(alloc);
-    tell_singles(alloc, names, &before, &after, &mut lines)?;
+    for place in 0..names.len() {
+        let before = verdict_of(old, old_of, place);
+        let after = verdict_of(new, &new.of, place);
+        let finding = finding_of(before, after);
+        push_single(alloc, name_at(names, place), finding, &mut lines)?;
+    }
     Ok(lines)
 }
 
@@ -80,10 +84,9 @@ fn put_pair_lines(
     ensures { (v w : List (List ℕ) → Verdict) → AreVerdicts old.now old_of.now names.now v → AreVerdicts new.now new.now.of.items names.now w → OnOk result (lines.new ≡ lines.old ++ told_pairs v w names.now) }
 {
     let bad = bad_lists(alloc, &new.judge, &new.singles)?;
-    let table = joint_table(alloc, old_of, &new.of, new.judge.kinds.len())?;
+    let table = joint_table(alloc, old_of, new)?;
     let partners = all_partners(alloc, &old.judge, &table, &bad)?;
-    let after = verdicts_of(alloc, new, &new.of)?;
-    tell_pairs(alloc, names, &after, &table.joints.of, &partners, lines)?;
+    tell_pairs(alloc, names, new, &table, &partners, lines)?;
     Ok(())
 }
 

@@ -2,18 +2,20 @@
 //!
 //! A joint is a pair of kinds, old and new, of some name. A partner is a name of which a line is made beside it. A bad kind
 //! does not go together with another one, or is not known to.
-ghost use Rattle.std.specs.Prelude.{◌≡◌, ◌<◌, ◌++◌, ℕ, IfOk, OnOk, length};
+ghost use Rattle.std.specs.Prelude.{◌≡◌, ◌<◌, ◌++◌, ℕ, IfOk, OnOk, is_some, length, slice_index_or};
 ghost use Rattle.std.specs.List.{flat_map};
 ghost use Rattle.listed.specs.Lists.{In};
 ghost use Rattle.row_book.specs.Book.{listed_for};
+ghost use Rattle.suite_compare.specs.Comparing.{IsSide};
 ghost use Rattle.suite_compare.specs.Kinds.{together_in, AreJoined, IsJudge};
 ghost use Rattle.suite_compare.specs.Report.{finding};
 ghost use Rattle.suite_compare.specs.declared.verdicts.Bad.{Bad};
-ghost use Rattle.suite_compare.specs.Partners.{beside, beside_all, new_kind, old_kind, open_names, told_names, ArePartners, IsJointTable};
+ghost use Rattle.suite_compare.specs.Partners.{beside, beside_all, is_open, new_kind, old_kind, picked, ArePartners, IsJointTable};
 
 use crate::kinds::{Joints, joints_of};
 use crate::places::{PlaceList, place_at, places_at, places_by, sort_once};
 use crate::report::{Finding, finding_of};
+use crate::sides::Side;
 use crate::verdicts::{Bad, Judge, verdict_together};
 use clause_solver::Verdict;
 use listed::Listed;
@@ -46,22 +48,20 @@ struct Found {
     undecided: Vec<usize>,
 }
 
-/// The pairs of the kinds of each name in the old and in the new suite, of which the latter has so many.
+/// The pairs of the kinds of each name in the old and in the new suite.
 pub(crate) fn joint_table(
     alloc: Global,
     old_of: &[usize],
-    new_of: &[usize],
-    count: usize,
+    new: &Side,
 ) -> Result<JointTable, AllocError>
-    requires long { length old_of.now ≡ length new_of.now }
-    requires within { (k : ℕ) → In k new_of.now → k < count }
-    ensures joined { IfOk result (λ table. AreJoined old_of.now new_of.now table.joints.old.items table.joints.new.items table.joints.of.items) }
+    requires { IsSide (length old_of.now) new.now new.now.of.items }
+    ensures joined { IfOk result (λ table. AreJoined old_of.now new.now.of.items table.joints.old.items table.joints.new.items table.joints.of.items) }
     ensures fits { IfOk result IsJointTable }
-    ensures count { IfOk result (λ table. length table.by_new.items ≡ count) }
+    ensures count { IfOk result (λ table. length table.by_new.items ≡ length new.now.judge.kinds.items) }
 {
-    let joints = joints_of(alloc, old_of, new_of)?;
+    let joints = joints_of(alloc, old_of, &new.of)?;
     let members = places_by(alloc, joints.new.len(), &joints.of)?;
-    let by_new = places_by(alloc, count, &joints.new)?;
+    let by_new = places_by(alloc, new.judge.kinds.len(), &joints.new)?;
     Ok(JointTable {
         joints,
         members,
@@ -127,8 +127,8 @@ fn finding_with(
 
 /// Puts the names behind the others, where something is told.
 fn add_names(names: &[usize], finding: Option<Finding>, found: &mut Found) -> Result<(), AllocError>
-    ensures told { OnOk result (found.new.told.items ≡ found.old.told.items ++ told_names finding names.now) }
-    ensures undecided { OnOk result (found.new.undecided.items ≡ found.old.undecided.items ++ open_names finding names.now) }
+    ensures told { OnOk result (found.new.told.items ≡ found.old.told.items ++ picked is_some finding names.now) }
+    ensures undecided { OnOk result (found.new.undecided.items ≡ found.old.undecided.items ++ picked is_open finding names.now) }
 {
     match finding {
         None => Ok(()),
@@ -156,11 +156,11 @@ fn add_joints(
 ) -> Result<(), AllocError>
     requires judge { IsJudge old.now }
     requires first { first < length old.now.kinds.items }
-    requires olds { (k : ℕ) → In k table.now.joints.old.items → k < length old.now.kinds.items }
+    requires olds { (a : ℕ) → a < length table.now.joints.old.items → old_kind table.now a < length old.now.kinds.items }
     requires fits { IsJointTable table.now }
-    requires joints { (j : ℕ) → In j joints.now → j < length table.now.joints.old.items }
-    ensures told { OnOk result (found.new.told.items ≡ found.old.told.items ++ flat_map (beside told_names old.now table.now first verdict) joints.now) }
-    ensures undecided { OnOk result (found.new.undecided.items ≡ found.old.undecided.items ++ flat_map (beside open_names old.now table.now first verdict) joints.now) }
+    requires joints { (i : ℕ) → i < length joints.now → slice_index_or joints.now i 0 < length table.now.joints.old.items }
+    ensures told { OnOk result (found.new.told.items ≡ found.old.told.items ++ flat_map (beside is_some old.now table.now first verdict) joints.now) }
+    ensures undecided { OnOk result (found.new.undecided.items ≡ found.old.undecided.items ++ flat_map (beside is_open old.now table.now first verdict) joints.now) }
 {
     for joint in joints {
         let second = old_kind(table, *joint);
@@ -182,11 +182,11 @@ fn add_bad(
 ) -> Result<(), AllocError>
     requires judge { IsJudge old.now }
     requires first { first < length old.now.kinds.items }
-    requires olds { (k : ℕ) → In k table.now.joints.old.items → k < length old.now.kinds.items }
+    requires olds { (a : ℕ) → a < length table.now.joints.old.items → old_kind table.now a < length old.now.kinds.items }
     requires fits { IsJointTable table.now }
     requires bad { (b : Bad) → In b bad.now → b.kind < length table.now.by_new.items }
-    ensures told { OnOk result (found.new.told.items ≡ found.old.told.items ++ flat_map (beside_all told_names old.now table.now first) bad.now) }
-    ensures undecided { OnOk result (found.new.undecided.items ≡ found.old.undecided.items ++ flat_map (beside_all open_names old.now table.now first) bad.now) }
+    ensures told { OnOk result (found.new.told.items ≡ found.old.told.items ++ flat_map (beside_all is_some old.now table.now first) bad.now) }
+    ensures undecided { OnOk result (found.new.undecided.items ≡ found.old.undecided.items ++ flat_map (beside_all is_open old.now table.now first) bad.now) }
 {
     for entry in bad {
         let joints = joints_with(table, entry.kind);
@@ -205,7 +205,7 @@ pub(crate) fn partners_of(
 ) -> Result<Partners, AllocError>
     requires judge { IsJudge old.now }
     requires first { first < length old.now.kinds.items }
-    requires olds { (k : ℕ) → In k table.now.joints.old.items → k < length old.now.kinds.items }
+    requires olds { (a : ℕ) → a < length table.now.joints.old.items → old_kind table.now a < length old.now.kinds.items }
     requires fits { IsJointTable table.now }
     requires bad { (b : Bad) → In b bad.now → b.kind < length table.now.by_new.items }
     ensures { IfOk result (ArePartners old.now table.now first bad.now) }

@@ -1,7 +1,9 @@
 //! Kinds: lists of classes, each once, numbered as they came, and pairs of kinds likewise.
-ghost use Rattle.std.specs.Prelude.{◌≡◌, IfOk, OnOk, length};
-ghost use Rattle.suite_compare.specs.Kinds.{IsNumbered, AreKinds, AreKeys, IsJoined, AreJoined};
+ghost use Rattle.std.specs.Prelude.{◌≡◌, ◌<◌, ◌+◌, ℕ, List, IfOk, OnOk, length, map, slice_index_or};
+ghost use Rattle.row_book.specs.Book.{listed_for};
+ghost use Rattle.suite_compare.specs.Kinds.{AreJoined, AreKinds, AreNumbered};
 
+use crate::places::{classes_at, place_at};
 use class_merge::KeyTable;
 use clause_pool::NumList;
 use listed::Listed;
@@ -27,6 +29,44 @@ pub(crate) struct Joints {
     pub(crate) of: Vec<usize>,
 }
 
+/// The keys of items, each numbered once as it came.
+#[derive(Drop)]
+pub(crate) struct Numbering {
+    /// The keys.
+    seen: KeyTable,
+    /// For each key the first item that has it.
+    firsts: Vec<usize>,
+    /// For each item the number of its key.
+    of: Vec<usize>,
+}
+
+impl Numbering {
+    /// No items yet; it takes no memory.
+    fn new(alloc: Global) -> Numbering
+        ensures { (keys : ℕ → List ℕ) → AreNumbered keys 0 result.seen result.firsts.items result.of.items }
+    {
+        Numbering {
+            seen: KeyTable::new(alloc),
+            firsts: Vec::new(alloc),
+            of: Vec::new(alloc),
+        }
+    }
+
+    /// One more item with its key.
+    fn put(&mut self, key: &[u64]) -> Result<(), AllocError>
+        ensures { (keys : ℕ → List ℕ) (n : ℕ) → keys n ≡ key.now → AreNumbered keys n self.old.seen self.old.firsts.items self.old.of.items → OnOk result (AreNumbered keys (n + 1) self.new.seen self.new.firsts.items self.new.of.items) }
+    {
+        if let Some(number) = self.seen.find(key) {
+            self.of.push(number)?;
+            return Ok(());
+        }
+        self.firsts.push(self.of.len())?;
+        let number = self.seen.push(key)?;
+        self.of.push(number)?;
+        Ok(())
+    }
+}
+
 /// The numbers of a list.
 fn key_of(alloc: Global, list: &[u32]) -> Result<Vec<u64>, AllocError>
     ensures { IfOk result (λ key. key.items ≡ list.now) }
@@ -38,62 +78,45 @@ fn key_of(alloc: Global, list: &[u32]) -> Result<Vec<u64>, AllocError>
     Ok(key)
 }
 
-/// The kind of a list, behind the others where it is new.
-fn kind_among(
-    alloc: Global,
-    seen: &mut KeyTable,
-    kinds: &mut Vec<NumList>,
-    list: &[u32],
-) -> Result<usize, AllocError>
-    requires { kinds.old.items ≡ seen.old }
-    ensures seen { OnOk result (kinds.new.items ≡ seen.new) }
-    ensures kind { IfOk result (IsNumbered kinds.old.items kinds.new.items list.now) }
+/// Copies of the lists at these places.
+fn lists_at(alloc: Global, lists: &[NumList], places: &[usize]) -> Result<Vec<NumList>, AllocError>
+    requires { (i : ℕ) → i < length places.now → slice_index_or places.now i 0 < length lists.now }
+    ensures { IfOk result (λ made. made.items ≡ map (listed_for lists.now) places.now) }
 {
-    let key = key_of(alloc, list)?;
-    if let Some(place) = seen.find(key.as_slice()) {
-        return Ok(place);
+    let mut made = Vec::new(alloc);
+    for place in places {
+        let list = Vec::from_slice(alloc, classes_at(lists, *place))?;
+        made.push(Listed::of(list))?;
     }
-    let copy = Vec::from_slice(alloc, list)?;
-    kinds.push(Listed::of(copy))?;
-    let place = seen.push(key.as_slice())?;
-    Ok(place)
+    Ok(made)
+}
+
+/// The numbers at these places.
+fn numbers_at(alloc: Global, list: &[usize], places: &[usize]) -> Result<Vec<usize>, AllocError>
+    requires { (i : ℕ) → i < length places.now → slice_index_or places.now i 0 < length list.now }
+    ensures { IfOk result (λ made. made.items ≡ map (λ i. slice_index_or list.now i 0) places.now) }
+{
+    let mut made = Vec::new(alloc);
+    for place in places {
+        made.push(place_at(list, *place))?;
+    }
+    Ok(made)
 }
 
 /// The kinds of lists of classes.
 pub(crate) fn kinds_of(alloc: Global, lists: &[NumList]) -> Result<Kinds, AllocError>
     ensures { IfOk result (λ kinds. AreKinds lists.now kinds.lists.items kinds.of.items) }
 {
-    let mut seen = KeyTable::new(alloc);
-    let mut kinds = Vec::new(alloc);
-    let mut of = Vec::new(alloc);
+    let mut numbering = Numbering::new(alloc);
     for list in lists {
-        let kind = kind_among(alloc, &mut seen, &mut kinds, list.as_slice())?;
-        of.push(kind)?;
+        let key = key_of(alloc, list.as_slice())?;
+        numbering.put(&key)?;
     }
-    Ok(Kinds { lists: kinds, of })
-}
-
-/// The number of a pair of kinds, behind the others where it is new.
-fn joint_among(
-    alloc: Global,
-    seen: &mut KeyTable,
-    olds: &mut Vec<usize>,
-    news: &mut Vec<usize>,
-    old: usize,
-    new: usize,
-) -> Result<usize, AllocError>
-    requires { AreKeys seen.old olds.old.items news.old.items }
-    ensures seen { OnOk result (AreKeys seen.new olds.new.items news.new.items) }
-    ensures joint { IfOk result (IsJoined olds.old.items olds.new.items news.old.items news.new.items old new) }
-{
-    let key = vec![in alloc; old as u64, new as u64]?;
-    if let Some(place) = seen.find(key.as_slice()) {
-        return Ok(place);
-    }
-    olds.push(old)?;
-    news.push(new)?;
-    let place = seen.push(key.as_slice())?;
-    Ok(place)
+    let kinds = lists_at(alloc, lists, &numbering.firsts)?;
+    Ok(Kinds {
+        lists: kinds,
+        of: numbering.of,
+    })
 }
 
 /// The pairs of the kinds of each name in the old and in the new suite.
@@ -105,24 +128,16 @@ pub(crate) fn joints_of(
     requires { length old_of.now ≡ length new_of.now }
     ensures { IfOk result (λ joints. AreJoined old_of.now new_of.now joints.old.items joints.new.items joints.of.items) }
 {
-    let mut seen = KeyTable::new(alloc);
-    let mut olds = Vec::new(alloc);
-    let mut news = Vec::new(alloc);
-    let mut of = Vec::new(alloc);
+    let mut numbering = Numbering::new(alloc);
     for place in 0..old_of.len() {
-        let joint = joint_among(
-            alloc,
-            &mut seen,
-            &mut olds,
-            &mut news,
-            old_of[place],
-            new_of[place],
-        )?;
-        of.push(joint)?;
+        let key = vec![in alloc; old_of[place] as u64, new_of[place] as u64]?;
+        numbering.put(&key)?;
     }
+    let old = numbers_at(alloc, old_of, &numbering.firsts)?;
+    let new = numbers_at(alloc, new_of, &numbering.firsts)?;
     Ok(Joints {
-        old: olds,
-        new: news,
-        of,
+        old,
+        new,
+        of: numbering.of,
     })
 }

@@ -26,7 +26,7 @@ pub(crate) fn enter(table: &mut [PlaceList], key: usize, place: usize) -> Result
 
 /// Enters each place under the key that stands there.
 fn enter_all(table: &mut [PlaceList], keys: &[usize]) -> Result<(), AllocError>
-    requires within { (k : ℕ) → In k keys.now → k < length table.old }
+    requires within { (i : ℕ) → i < length keys.now → slice_index_or keys.now i 0 < length table.old }
     requires empty { (k : ℕ) → listed_for table.old k ≡ [] }
     ensures { OnOk result (ArePlaces keys.now table.new) }
 {
@@ -42,7 +42,7 @@ pub(crate) fn places_by(
     count: usize,
     keys: &[usize],
 ) -> Result<Vec<PlaceList>, AllocError>
-    requires { (k : ℕ) → In k keys.now → k < count }
+    requires { (i : ℕ) → i < length keys.now → slice_index_or keys.now i 0 < count }
     ensures size { IfOk result (λ table. length table.items ≡ count) }
     ensures places { IfOk result (λ table. ArePlaces keys.now table.items) }
 {
@@ -90,14 +90,6 @@ pub(crate) fn places_at(table: &[PlaceList], place: usize) -> &[usize]
     ensures { result.now ≡ listed_for table.now place }
 {
     table[place].as_slice()
-}
-
-/// The class at a place of a list.
-pub(crate) fn class_at(list: &[u32], place: usize) -> u32
-    requires { place < length list.now }
-    ensures { result ≡ slice_index_or list.now place 0 }
-{
-    list[place]
 }
 
 /// The classes at a place of a table.

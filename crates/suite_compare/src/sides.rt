@@ -1,28 +1,20 @@
 //! The two sides of a comparison: what is known of both suites before any two names are asked together.
-ghost use Rattle.std.specs.Prelude.{◌≡◌, ℕ, List, true, IfOk, length, map, slice_index_or};
+ghost use Rattle.std.specs.Prelude.{◌≡◌, ◌<◌, ℕ, List, true, IfOk, length, slice_index_or};
 ghost use Rattle.listed.specs.Lists.{In};
-ghost use Rattle.row_book.specs.Book.{repository_of, Sound};
-ghost use Rattle.row_book.specs.Needs.{AreNeeds, NeedsFit};
-ghost use Rattle.row_book.specs.Rounds.{kernel};
-ghost use Rattle.repo_model.specs.Goals.{any_version};
-ghost use Rattle.repo_model.specs.Repository.{suite_repository};
-ghost use Rattle.suite_compare.specs.Asking.{image_of};
 ghost use Rattle.clause_solver.specs.Outcomes.{IsBudget};
-ghost use Rattle.clause_solver.specs.declared.outcomes.Verdict.TheVariants.{Spent};
-ghost use Rattle.suite_compare.specs.Kinds.{kernel_in, AreKinds};
-ghost use Rattle.suite_compare.specs.Comparing.{IsNewSide, IsOldSide, IsPart, IsSide};
+ghost use Rattle.suite_compare.specs.Bad.{AreSingles};
+ghost use Rattle.suite_compare.specs.Kinds.{alone_in};
+ghost use Rattle.suite_compare.specs.Comparing.{named_verdict, AreVerdicts, IsNewSide, IsOldSide, IsPart, IsSide};
 ghost use Rattle.suite_compare.specs.Names.{stands_in};
 
 use crate::kinds::kinds_of;
 use crate::names::classes_of_names;
-use crate::places::{name_at, place_at};
-use crate::verdicts::{Judge, verdicts_alone, verdicts_by};
+use crate::places::{name_at, place_at, verdict_at};
+use crate::verdicts::{Judge, verdicts_alone};
 use crate::view::SuiteView;
-use clause_pool::{NumList, Pool};
 use clause_solver::{Solver, Verdict};
 use deb_version::Bytes;
 use repo_model::{NameList, Suite};
-use row_book::Book;
 use std::alloc::{AllocError, Global};
 
 /// One suite of a comparison: its judge, the kind of each name, and the verdict on each kind by itself.
@@ -67,28 +59,35 @@ pub(crate) struct Part {
     pub(crate) of: Vec<usize>,
 }
 
-/// A suite of a comparison, from the classes of each name.
+/// The verdict on the kind of a name by itself.
+pub(crate) fn verdict_of(side: &Side, of: &[usize], place: usize) -> Verdict
+    requires told { AreSingles side.now.judge side.now.singles.items }
+    requires place { place < length of.now }
+    requires kind { slice_index_or of.now place 0 < length side.now.judge.kinds.items }
+    ensures { result ≡ alone_in side.now.judge (slice_index_or of.now place 0) }
+{
+    let kind = place_at(of, place);
+    verdict_at(&side.singles, kind)
+}
+
+/// A suite of a comparison, from names that packages of it have.
 fn side_of<'a>(
     alloc: Global,
-    pool: &'a Pool,
-    book: &'a Book,
-    lists: &[NumList],
+    view: &'a SuiteView,
+    names: &[Bytes],
     budget: u64,
 ) -> Result<Side<'a>, AllocError>
-    requires sound { Sound pool.now book.now }
-    requires needs { AreNeeds lists.now }
-    requires fit { NeedsFit (length book.now.rows) lists.now }
+    requires names { (name : List ℕ) → In name names.now → stands_in view.now.suite.packages name ≡ true }
     requires budget { IsBudget budget }
-    ensures side { IfOk result (λ side. IsSide (length lists.now) side side.of.items) }
-    ensures kinds { IfOk result (λ side. AreKinds lists.now side.judge.kinds.items side.of.items) }
-    ensures kernel { IfOk result (λ side. kernel_in side.judge ≡ repository_of pool.now book.now) }
-    ensures budget { IfOk result (λ side. side.judge.budget ≡ budget) }
+    ensures side { IfOk result (λ side. IsSide (length names.now) side side.of.items) }
+    ensures verdicts { IfOk result (λ side. AreVerdicts side side.of.items names.now (named_verdict view.now.limit view.now.kernel.hold view.now.suite budget)) }
 {
-    let solver = Solver::new(alloc, pool, book)?;
-    let kinds = kinds_of(alloc, lists)?;
+    let lists = classes_of_names(alloc, view, names)?;
+    let kinds = kinds_of(alloc, &lists)?;
+    let solver = Solver::new(alloc, &view.pool, &view.kernel.book)?;
     let judge = Judge {
-        pool,
-        book,
+        pool: &view.pool,
+        book: &view.kernel.book,
         solver,
         kinds: kinds.lists,
         budget,
@@ -101,44 +100,6 @@ fn side_of<'a>(
     })
 }
 
-/// The verdict on the kind of each name.
-pub(crate) fn verdicts_of(
-    alloc: Global,
-    side: &Side,
-    of: &[usize],
-) -> Result<Vec<Verdict>, AllocError>
-    requires { IsSide (length of.now) side.now of.now }
-    ensures { IfOk result (λ made. made.items ≡ map (λ k. slice_index_or side.now.singles.items k Spent) of.now) }
-{
-    let made = verdicts_by(alloc, &side.singles, of)?;
-    Ok(made)
-}
-
-/// A suite of a comparison, from names that packages of it have.
-fn side_by_names<'a>(
-    alloc: Global,
-    view: &'a SuiteView,
-    names: &[Bytes],
-    budget: u64,
-) -> Result<Side<'a>, AllocError>
-    requires names { (name : List ℕ) → In name names.now → stands_in view.now.suite.packages name ≡ true }
-    requires budget { IsBudget budget }
-    ensures side { IfOk result (λ side. IsSide (length names.now) side side.of.items) }
-    ensures kinds { IfOk result (λ side. AreKinds (map (λ name. image_of view.now.limit view.now.kernel.hold view.now.suite.home view.now.suite.packages (any_version name)) names.now) side.judge.kinds.items side.of.items) }
-    ensures kernel { IfOk result (λ side. kernel_in side.judge ≡ kernel view.now.limit view.now.kernel.hold (suite_repository view.now.suite.home view.now.suite.packages)) }
-    ensures budget { IfOk result (λ side. side.judge.budget ≡ budget) }
-{
-    let lists = classes_of_names(alloc, view, names)?;
-    let side = side_of(
-        alloc,
-        &view.pool,
-        &view.kernel.book,
-        lists.as_slice(),
-        budget,
-    )?;
-    Ok(side)
-}
-
 impl<'a> OldSide<'a> {
     /// The side of an old view, for comparisons within a budget of failed leaves a search, from 1 to 1,000,000.
     pub fn new(alloc: Global, view: &'a SuiteView, budget: u64) -> Result<OldSide<'a>, AllocError>
@@ -148,7 +109,7 @@ impl<'a> OldSide<'a> {
         ensures budget { IfOk result (λ made. made.budget ≡ budget) }
     {
         let names = view.suite.names(alloc)?;
-        let side = side_by_names(alloc, view, names.as_slice(), budget)?;
+        let side = side_of(alloc, view, names.as_slice(), budget)?;
         Ok(OldSide {
             view,
             budget,
@@ -198,6 +159,6 @@ pub(crate) fn new_side_of<'a>(
     ensures { IfOk result (IsNewSide old.now new.now) }
 {
     let part = part_among(alloc, old.names.as_slice(), &old.side.of, &new.suite)?;
-    let side = side_by_names(alloc, new, &part.names, old.budget)?;
+    let side = side_of(alloc, new, &part.names, old.budget)?;
     Ok(NewSide { part, side })
 }

@@ -1,10 +1,9 @@
 //! Which kinds may not go together: those whose first choices are at peace do.
-ghost use Rattle.std.specs.Prelude.{◌≡◌, ◌<◌, ◌↔◌, [], ℕ, IfOk, OnOk, length};
-ghost use Rattle.listed.specs.Lists.{In};
+ghost use Rattle.std.specs.Prelude.{◌≡◌, ◌<◌, ◌++◌, [], ℕ, IfOk, OnOk, length, slice_index_or};
+ghost use Rattle.std.specs.List.{flat_map, range_with_len};
 ghost use Rattle.row_book.specs.Book.{listed_for, repository_of, Sound};
 ghost use Rattle.row_book.specs.Needs.{NeedsFit};
-ghost use Rattle.suite_compare.specs.Choices.{AreBelow};
-ghost use Rattle.suite_compare.specs.Suspects.{AreAllChosen, AreChoices, AreHeld, AreHolders, AreSuspects, AreWithout, HaveMarked};
+ghost use Rattle.suite_compare.specs.Suspects.{without_choice, AreAllChosen, AreChoices, AreHeld, AreHolders, AreSuspects};
 
 use crate::choose::first_choice;
 use crate::class_set::ClassSet;
@@ -53,7 +52,8 @@ fn choices_of(
 ) -> Result<Vec<NumList>, AllocError>
     requires sound { Sound pool.now book.now }
     requires fit { NeedsFit (length book.now.rows) kinds.now }
-    ensures { IfOk result (λ choices. AreAllChosen (repository_of pool.now book.now) kinds.now choices.items) }
+    ensures chosen { IfOk result (λ choices. AreAllChosen (repository_of pool.now book.now) kinds.now (length kinds.now) choices.items) }
+    ensures below { IfOk result (λ choices. NeedsFit (length book.now.rows) choices.items) }
 {
     let mut chosen = ClassSet::new(alloc, book.size())?;
     let mut choices = Vec::new(alloc);
@@ -69,7 +69,7 @@ fn choices_of(
 
 /// Enters a kind under each of the classes.
 fn enter_each(table: &mut [PlaceList], classes: &[u32], kind: usize) -> Result<(), AllocError>
-    requires { AreBelow (length table.old) classes.now }
+    requires { (i : ℕ) → i < length classes.now → slice_index_or classes.now i 0 < length table.old }
     ensures { OnOk result (AreHeld table.old table.new classes.now kind) }
 {
     for class in classes {
@@ -82,7 +82,7 @@ fn enter_each(table: &mut [PlaceList], classes: &[u32], kind: usize) -> Result<(
 fn enter_choices(table: &mut [PlaceList], choices: &[NumList]) -> Result<(), AllocError>
     requires below { NeedsFit (length table.old) choices.now }
     requires empty { (k : ℕ) → listed_for table.old k ≡ [] }
-    ensures { OnOk result (AreHolders choices.now table.new) }
+    ensures { OnOk result (AreHolders (length choices.now) choices.now table.new) }
 {
     for (kind, choice) in choices.iter().enumerate() {
         enter_each(table, choice.as_slice(), kind)?;
@@ -92,7 +92,7 @@ fn enter_choices(table: &mut [PlaceList], choices: &[NumList]) -> Result<(), All
 
 /// The kinds without a first choice.
 fn without_choice(alloc: Global, choices: &[NumList]) -> Result<Vec<usize>, AllocError>
-    ensures { IfOk result (λ without. AreWithout choices.now without.items) }
+    ensures { IfOk result (λ without. without.items ≡ without_choice choices.now (length choices.now)) }
 {
     let mut without = Vec::new(alloc);
     for (kind, choice) in choices.iter().enumerate() {
@@ -160,7 +160,7 @@ impl Choices {
 
 /// So many places, from 0 on.
 fn all_places(alloc: Global, count: usize) -> Result<Vec<usize>, AllocError>
-    ensures { IfOk result (λ made. (k : ℕ) → In k made.items ↔ (k < count)) }
+    ensures { IfOk result (λ made. made.items ≡ range_with_len 0 count) }
 {
     let mut made = Vec::new(alloc);
     for place in 0..count {
@@ -175,8 +175,8 @@ fn add_holders(
     holders: &[PlaceList],
     found: &mut Vec<usize>,
 ) -> Result<(), AllocError>
-    requires { AreBelow (length holders.now) classes.now }
-    ensures { OnOk result (HaveMarked classes.now holders.now found.old.items found.new.items) }
+    requires { (i : ℕ) → i < length classes.now → slice_index_or classes.now i 0 < length holders.now }
+    ensures { OnOk result (found.new.items ≡ found.old.items ++ flat_map (listed_for holders.now) classes.now) }
 {
     for class in classes {
         found.extend_from_slice(places_at(holders, *class as usize))?;

@@ -3,14 +3,14 @@ ghost use Rattle.std.specs.Prelude.{◌≡◌, ◌<◌, ◌++◌, ℕ, OnOk, Som
 ghost use Rattle.std.specs.List.{flat_map};
 ghost use Rattle.listed.specs.Lists.{In, Ascending};
 ghost use Rattle.row_book.specs.Numbers.{numbers};
-ghost use Rattle.clause_solver.specs.declared.outcomes.Verdict.TheVariants.{Spent};
-ghost use Rattle.suite_compare.specs.Report.{is_yes, pair_line, single_line};
-ghost use Rattle.suite_compare.specs.Telling.{found_beside, partners_at, told_after, told_alone, told_pair};
+ghost use Rattle.suite_compare.specs.Comparing.{goes_alone, IsSide};
+ghost use Rattle.suite_compare.specs.Report.{pair_line, single_line};
+ghost use Rattle.suite_compare.specs.Telling.{found_beside, partners_at, told_after, told_pair};
 
-use crate::gather::Partners;
-use crate::places::{holds, name_at, place_at, verdict_at};
-use crate::report::{Finding, LineList, ReportLine, finding_of, is_yes};
-use clause_solver::Verdict;
+use crate::gather::{JointTable, Partners};
+use crate::places::{holds, name_at, place_at};
+use crate::report::{Finding, LineList, ReportLine, is_yes};
+use crate::sides::{Side, verdict_of};
 use deb_version::Bytes;
 use std::alloc::{AllocError, Global};
 
@@ -23,7 +23,7 @@ fn partners_at(table: &[Partners], joint: usize) -> &Partners
 }
 
 /// Puts the line of a single name behind the others, where something is told of it.
-fn push_single(
+pub(crate) fn push_single(
     alloc: Global,
     name: &[u8],
     finding: Option<Finding>,
@@ -70,27 +70,6 @@ fn push_pair(
     }
 }
 
-/// Puts the lines of the names by themselves behind the others.
-pub(crate) fn tell_singles(
-    alloc: Global,
-    names: &[Bytes],
-    old: &[Verdict],
-    new: &[Verdict],
-    lines: &mut LineList,
-) -> Result<(), AllocError>
-    requires old { length old.now ≡ length names.now }
-    requires new { length new.now ≡ length names.now }
-    ensures { OnOk result (lines.new ≡ lines.old ++ flat_map (told_alone names.now old.now new.now) (numbers (length names.now) 0)) }
-{
-    for place in 0..names.len() {
-        let before = verdict_at(old, place);
-        let after = verdict_at(new, place);
-        let finding = finding_of(before, after);
-        push_single(alloc, name_at(names, place), finding, lines)?;
-    }
-    Ok(())
-}
-
 /// What is told of a partner.
 fn finding_beside(partners: &Partners, other: usize) -> Finding
     requires { Ascending partners.now.undecided }
@@ -133,23 +112,23 @@ fn tell_later(
 pub(crate) fn tell_pairs(
     alloc: Global,
     names: &[Bytes],
-    singles: &[Verdict],
-    joint_of: &[usize],
+    new: &Side,
+    table: &JointTable,
     partners: &[Partners],
     lines: &mut LineList,
 ) -> Result<(), AllocError>
-    requires singles { length singles.now ≡ length names.now }
-    requires joints { length joint_of.now ≡ length names.now }
-    requires within { (i : ℕ) → i < length names.now → slice_index_or joint_of.now i 0 < length partners.now }
+    requires new { IsSide (length names.now) new.now new.now.of.items }
+    requires joints { length table.now.joints.of.items ≡ length names.now }
+    requires within { (i : ℕ) → i < length names.now → slice_index_or table.now.joints.of.items i 0 < length partners.now }
     requires told { (a j : ℕ) → a < length partners.now → In j (partners_at partners.now a).told → j < length names.now }
     requires undecided { (a : ℕ) → a < length partners.now → Ascending (partners_at partners.now a).undecided }
-    ensures { OnOk result (lines.new ≡ lines.old ++ flat_map (told_after names.now joint_of.now partners.now) (filter (λ i. is_yes (slice_index_or singles.now i Spent)) (numbers (length names.now) 0))) }
+    ensures { OnOk result (lines.new ≡ lines.old ++ flat_map (told_after names.now table.now.joints.of.items partners.now) (filter (goes_alone new.now) (numbers (length names.now) 0))) }
 {
     for place in 0..names.len() {
-        if !is_yes(verdict_at(singles, place)) {
+        if !is_yes(verdict_of(new, &new.of, place)) {
             continue;
         }
-        let joint = place_at(joint_of, place);
+        let joint = place_at(&table.joints.of, place);
         tell_later(alloc, names, place, partners_at(partners, joint), lines)?;
     }
     Ok(())

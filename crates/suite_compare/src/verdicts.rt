@@ -2,15 +2,12 @@
 //!
 //! A search of two kinds is made once where one of them is a single class: such a goal is met at the root, so both orders have
 //! one tree.
-ghost use Rattle.std.specs.Prelude.{◌≡◌, ◌<◌, ◌==◌, ◌⊎◌, ◌∷◌, [], ℕ, true, IfOk, length, map, slice_index_or};
+ghost use Rattle.std.specs.Prelude.{◌≡◌, ◌<◌, ◌==◌, ◌⊎◌, ◌∷◌, [], ℕ, true, IfOk, length, slice_index_or};
 ghost use Rattle.std.specs.List.{find, flat_map};
 ghost use Rattle.std.specs.Option.{option_copied};
-ghost use Rattle.listed.specs.Lists.{In};
 ghost use Rattle.row_book.specs.Book.{listed_for};
 ghost use Rattle.row_book.specs.Needs.{IsNeed, NeedsFit};
 ghost use Rattle.suite_compare.specs.Kinds.{alone_in, kernel_in, kernel_verdict, together_in, AreRivals, IsJudge, IsOneClass};
-ghost use Rattle.suite_compare.specs.Choices.{AreBelow};
-ghost use Rattle.clause_solver.specs.declared.outcomes.Verdict.TheVariants.{Spent};
 ghost use Rattle.suite_compare.specs.Bad.{bad_entry, entered_verdict, AreAllBad, AreAllBadTo, AreBad, AreSingles};
 ghost use Rattle.suite_compare.specs.Report.{is_yes};
 ghost use Rattle.suite_compare.specs.Suspects.{AreChoices};
@@ -105,8 +102,8 @@ fn verdict_alone(alloc: Global, judge: &Judge, kind: usize) -> Result<Verdict, A
 
 /// Whether both goals are one class each, and these two conflict: then the root of their search clashes.
 fn are_rivals(book: &Book, first: &[u32], second: &[u32]) -> bool
-    requires first { AreBelow (length book.now.rows) first.now }
-    requires second { AreBelow (length book.now.rows) second.now }
+    requires first { (i : ℕ) → i < length first.now → slice_index_or first.now i 0 < length book.now.rows }
+    requires second { (i : ℕ) → i < length second.now → slice_index_or second.now i 0 < length book.now.rows }
     ensures { result ≡ true → AreRivals book.now.conflicts first.now second.now }
 {
     if first.len() != 1 || second.len() != 1 {
@@ -160,8 +157,8 @@ fn is_single(goal: &[u32]) -> bool
 /// Whether a list is asked for the verdict with the second goal: that is one of the first so many kinds, and one of both goals is
 /// a single class, so that their search is the same in both orders. It is not asked for rivals, which are told apart sooner.
 fn is_told(book: &Book, first: &[u32], second: &[u32], kind: usize, count: usize) -> bool
-    requires first { AreBelow (length book.now.rows) first.now }
-    requires second { AreBelow (length book.now.rows) second.now }
+    requires first { (i : ℕ) → i < length first.now → slice_index_or first.now i 0 < length book.now.rows }
+    requires second { (i : ℕ) → i < length second.now → slice_index_or second.now i 0 < length book.now.rows }
     ensures kind { result ≡ true → kind < count }
     ensures single { result ≡ true → IsOneClass first.now ⊎ IsOneClass second.now }
 {
@@ -232,7 +229,7 @@ fn bad_among(
     requires judge { IsJudge judge.now }
     requires singles { AreSingles judge.now singles.now }
     requires lists { AreAllBadTo judge.now lists.now (length lists.now) }
-    requires suspects { (k : ℕ) → In k suspects.now → k < length judge.now.kinds.items }
+    requires suspects { (i : ℕ) → i < length suspects.now → slice_index_or suspects.now i 0 < length judge.now.kinds.items }
     requires kind { kind < length judge.now.kinds.items }
     requires alone { is_yes (alone_in judge.now kind) ≡ true }
     ensures { IfOk result (λ bad. bad ≡ flat_map (bad_entry judge.now singles.now kind) suspects.now) }
@@ -295,22 +292,6 @@ pub(crate) fn bad_lists(
         lists.push(bad)?;
     }
     Ok(lists)
-}
-
-/// The verdict on the kind of each name.
-pub(crate) fn verdicts_by(
-    alloc: Global,
-    verdicts: &[Verdict],
-    kind_of: &[usize],
-) -> Result<Vec<Verdict>, AllocError>
-    requires { (k : ℕ) → In k kind_of.now → k < length verdicts.now }
-    ensures { IfOk result (λ made. made.items ≡ map (λ k. slice_index_or verdicts.now k Spent) kind_of.now) }
-{
-    let mut made = Vec::new(alloc);
-    for kind in kind_of {
-        made.push(verdict_at(verdicts, *kind))?;
-    }
-    Ok(made)
 }
 
 /// The bad kinds at a place of a list.

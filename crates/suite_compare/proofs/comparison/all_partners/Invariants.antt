@@ -1,4 +1,4 @@
-use Rattle.suite_compare.proofs.Compared.{IsTableTo}
+use Rattle.suite_compare.specs.Comparing.{IsTableTo}
 use Rattle.suite_compare.proofs.comparison.all_partners.Given as goal
 
 abbrev pub invariant-loop-joint : goal.invariant-loop-joint

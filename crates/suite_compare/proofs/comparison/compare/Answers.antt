@@ -1,4 +1,4 @@
-use Rattle.std.proofs.Common.{◌≡◌, ◌∙◌, ℕ, List, ap, ap₂, length, sym}
+use Rattle.std.proofs.Common.{◌≡◌, ◌∙◌, ℕ, List, ap, ap₂, sym}
 use Rattle.suite_compare.specs.Asking.{verdict_in}
 use Rattle.suite_compare.specs.Comparing.{named_verdict, told_report}
 use Rattle.suite_compare.specs.Names.{names_of_both}

@@ -1,4 +1,4 @@
-use Rattle.std.proofs.Common.{◌∙◌, ap, length}
+use Rattle.std.proofs.Common.{◌∙◌, ap}
 use Rattle.suite_compare.specs.Comparing.{named_verdict, told_report}
 use Rattle.suite_compare.specs.Report.{first_told}
 use Rattle.suite_compare.proofs.comparison.first_line.Goals as goal

@@ -1,8 +1,14 @@
-use Rattle.std.proofs.Common.{◌∙◌, ◌++◌, ap}
+use Rattle.std.proofs.Common.{◌≡◌, ◌∙◌, Bool, false, eqb, List, [], ◌∷◌, ◌++◌, length, refl, ap}
 use Rattle.suite_compare.specs.Comparing.{told_pairs}
 use Rattle.suite_compare.specs.Report.{first_told}
-use Rattle.suite_compare.proofs.Firsts.{first_there}
+use Rattle.std.proofs.lemmas.Bool.{both_ways}
+use Rattle.suite_compare.specs.declared.report.ReportLine.{ReportLine}
 use Rattle.suite_compare.proofs.comparison.first_lines_of.Goals as goal
+
+-- the first of some lines is the first of more
+first_there : (lines more lent : List ReportLine) (r : Bool) → lent ≡ lines → r ≡ eqb (length lent) 0 → r ≡ false → first_told lines ≡ first_told (lines ++ more)
+first_there [] more lent r same is some = let none : length lent ≡ 0 = ap length same in absurd (both_ways r some (is ∙ ap (λ n. eqb n 0) none))
+first_there (line ∷ lines) more lent r same is some = refl
 
 pub returns-then-not-is_empty : goal.returns-then-not-is_empty
 returns-then-not-is_empty c = λ v w first second.

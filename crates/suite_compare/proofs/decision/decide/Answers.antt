@@ -10,69 +10,40 @@ use Rattle.row_book.specs.Rounds.{kernel_class}
 use Rattle.row_book.specs.Sets.{HitsAll}
 use Rattle.row_book.specs.Trail.{trail_meaning}
 use Rattle.suite_compare.specs.Answering.{true_numbers}
-use Rattle.suite_compare.proofs.Answered.{classes_fit, no_coinst, no_derives, no_in_range, outcome_is, wanted_fit, wanted_hit, yes_is, yes_serves}
+use Rattle.suite_compare.proofs.Answered.{classes_fit, no_certified, outcome_is, wanted_fit, wanted_hit, yes_is, yes_serves}
 use Rattle.suite_compare.proofs.decision.decide.Goals as goal
 
 pub search-requires-clause-goals : goal.search-requires-clause-goals
-search-requires-clause-goals c =
-    let view = c.args.view.now in
-    classes_fit view.pool view.suite.home view.suite.packages view.book view.kernel view.limit view.of_suite c.args.goals.now c.in_ok-asked.asked.packages c.in_ok-asked.asked.classes
-    c.in_ok-asked.ensures.packages c.in_ok-asked.ensures.classes
+search-requires-clause-goals c = classes_fit _ _ _ _ _ _ c.args.view.now.of_suite c.args.goals.now _ _ c.in_ok-asked.ensures.packages c.in_ok-asked.ensures.classes
 
 pub install-requires-clause-fit : goal.install-requires-clause-fit
-install-requires-clause-fit c =
-    let view = c.args.view.now in
-    wanted_fit view.pool view.suite.home view.suite.packages view.book view.kernel view.limit view.of_suite c.args.goals.now c.in_ok-asked.asked.packages c.in_ok-asked.asked.classes
-    c.in_ok-asked.ensures.packages c.in_ok-asked.ensures.classes
+install-requires-clause-fit c = wanted_fit _ _ _ _ _ _ c.args.view.now.of_suite c.args.goals.now _ _ c.in_ok-asked.ensures.packages c.in_ok-asked.ensures.classes
 
 pub install-requires-clause-hits : goal.install-requires-clause-hits
 install-requires-clause-hits c =
     let view = c.args.view.now in
-    let own = subst (IsCertifiedOutcome (repository_of view.pool view.kernel.book) c.in_ok-asked.asked.classes) c.in-Found.is c.in_ok-outcome.ensures.certified in
+    let own = subst (IsCertifiedOutcome (repository_of c.args.view.now.pool c.args.view.now.kernel.book) c.in_ok-asked.asked.classes) c.in-Found.is c.in_ok-outcome.ensures.certified in
     subst (λ flags. HitsAll (λ n. flag flags (kernel_class view.limit view.kernel.hold (repository_of view.pool view.book) n)) c.in_ok-asked.asked.packages) (sym c.as_slice.ensures)
-    (wanted_hit view.pool view.suite.home view.suite.packages view.book view.kernel view.limit view.of_suite c.args.goals.now c.in_ok-asked.asked.packages c.in_ok-asked.asked.classes
-    c.in_ok-asked.ensures.packages c.in_ok-asked.ensures.classes c.in-Found.chosen own.1.1)
+    (wanted_hit _ _ _ _ _ _ c.args.view.now.of_suite c.args.goals.now _ _ c.in_ok-asked.ensures.packages c.in_ok-asked.ensures.classes c.in-Found.chosen own.1.1)
 
 pub returns-in-Found-clause-answer : goal.returns-in-Found-clause-answer
 returns-in-Found-clause-answer c =
     let view = c.args.view.now in
-    yes_is view.pool view.suite.home view.suite.packages view.book view.kernel view.limit view.of_suite c.args.goals.now c.in_ok-asked.asked.packages c.in_ok-asked.asked.classes
-    c.in_ok-asked.ensures.packages c.in_ok-asked.ensures.classes
-    c.args.budget c.in-Found.chosen c.in_ok-installed-in-Found.installed c.in_ok-classes-in-Found.classes
-    (subst (IsSearchOutcome (repository_of view.pool view.kernel.book) c.in_ok-asked.asked.classes c.args.budget) c.in-Found.is c.in_ok-outcome.ensures.tree)
-    (c.in_ok-classes-in-Found.ensures ∙ ap true_numbers c.as_slice-in-Found.ensures)
+    yes_is _ _ _ _ _ _ c.args.view.now.of_suite c.args.goals.now _ _ c.in_ok-asked.ensures.packages c.in_ok-asked.ensures.classes c.args.budget c.in-Found.chosen _ _
+    (subst (IsSearchOutcome (repository_of c.args.view.now.pool c.args.view.now.kernel.book) c.in_ok-asked.asked.classes c.args.budget) c.in-Found.is c.in_ok-outcome.ensures.tree) (c.in_ok-classes-in-Found.ensures ∙ ap true_numbers c.as_slice-in-Found.ensures)
     (c.in_ok-installed-in-Found.ensures.is
     ∙ ap (λ flags. filter (trim_of (repository_of view.pool view.book) c.in_ok-asked.asked.packages (lift_of (trail_meaning view.pool view.kernel.trail.steps) (flag flags))) (range_with_len 0 (length view.book.rows))) c.as_slice.ensures)
 
 pub returns-in-Found-clause-certified : goal.returns-in-Found-clause-certified
-returns-in-Found-clause-certified c =
-    let view = c.args.view.now in
-    yes_serves view.pool view.suite.home view.suite.packages view.book view.kernel view.limit view.of_suite c.args.goals.now c.in_ok-asked.asked.packages c.in_ok-asked.asked.classes
-    c.in_ok-asked.ensures.packages c.in_ok-asked.ensures.classes
-    c.in_ok-installed-in-Found.installed c.in_ok-installed-in-Found.ensures.healthy c.in_ok-installed-in-Found.ensures.hits
+returns-in-Found-clause-certified c = yes_serves _ _ _ _ _ _ c.args.view.now.of_suite c.args.goals.now _ _ c.in_ok-asked.ensures.packages c.in_ok-asked.ensures.classes _ c.in_ok-installed-in-Found.ensures.healthy c.in_ok-installed-in-Found.ensures.hits
 
 pub returns-in-Refuted-clause-answer : goal.returns-in-Refuted-clause-answer
-returns-in-Refuted-clause-answer c =
-    let view = c.args.view.now in
-    outcome_is view.pool view.suite.home view.suite.packages view.book view.kernel view.limit view.of_suite c.args.goals.now c.in_ok-asked.asked.packages c.in_ok-asked.asked.classes
-    c.in_ok-asked.ensures.packages c.in_ok-asked.ensures.classes c.args.budget (Refuted c.in-Refuted.log)
-    (subst (IsSearchOutcome (repository_of view.pool view.kernel.book) c.in_ok-asked.asked.classes c.args.budget) c.in-Refuted.is c.in_ok-outcome.ensures.tree)
+returns-in-Refuted-clause-answer c = outcome_is _ _ _ _ _ _ c.args.view.now.of_suite c.args.goals.now _ _ c.in_ok-asked.ensures.packages c.in_ok-asked.ensures.classes c.args.budget (Refuted c.in-Refuted.log)
+    (subst (IsSearchOutcome (repository_of c.args.view.now.pool c.args.view.now.kernel.book) c.in_ok-asked.asked.classes c.args.budget) c.in-Refuted.is c.in_ok-outcome.ensures.tree)
 
 pub returns-in-Refuted-clause-certified : goal.returns-in-Refuted-clause-certified
-returns-in-Refuted-clause-certified c =
-    let view = c.args.view.now in
-    let own = subst (IsCertifiedOutcome (repository_of view.pool view.kernel.book) c.in_ok-asked.asked.classes) c.in-Refuted.is c.in_ok-outcome.ensures.certified in (
-      no_in_range view.pool view.suite.home view.suite.packages view.book view.kernel view.limit view.of_suite c.args.goals.now c.in_ok-asked.asked.packages c.in_ok-asked.asked.classes
-          c.in_ok-asked.ensures.packages c.in_ok-asked.ensures.classes c.in-Refuted.log.entries own.0,
-      no_derives view.pool view.suite.home view.suite.packages view.book view.kernel view.limit view.of_suite c.args.goals.now c.in_ok-asked.asked.packages c.in_ok-asked.asked.classes
-          c.in_ok-asked.ensures.packages c.in_ok-asked.ensures.classes c.in-Refuted.log.entries own.1,
-      no_coinst view.pool view.suite.home view.suite.packages view.book view.kernel view.limit view.of_suite c.args.goals.now c.in_ok-asked.asked.packages c.in_ok-asked.asked.classes
-          c.in_ok-asked.ensures.packages c.in_ok-asked.ensures.classes own.2,
-    )
+returns-in-Refuted-clause-certified c = no_certified _ _ _ _ _ _ c.args.view.now.of_suite c.args.goals.now _ _ c.in_ok-asked.ensures.packages c.in_ok-asked.ensures.classes c.in-Refuted.log (subst (IsCertifiedOutcome (repository_of c.args.view.now.pool c.args.view.now.kernel.book) c.in_ok-asked.asked.classes) c.in-Refuted.is c.in_ok-outcome.ensures.certified)
 
 pub returns-clause-answer : goal.returns-clause-answer
-returns-clause-answer c =
-    let view = c.args.view.now in
-    outcome_is view.pool view.suite.home view.suite.packages view.book view.kernel view.limit view.of_suite c.args.goals.now c.in_ok-asked.asked.packages c.in_ok-asked.asked.classes
-    c.in_ok-asked.ensures.packages c.in_ok-asked.ensures.classes c.args.budget (Spent c.in-Spent.failed)
-    (subst (IsSearchOutcome (repository_of view.pool view.kernel.book) c.in_ok-asked.asked.classes c.args.budget) c.in-Spent.is c.in_ok-outcome.ensures.tree)
+returns-clause-answer c = outcome_is _ _ _ _ _ _ c.args.view.now.of_suite c.args.goals.now _ _ c.in_ok-asked.ensures.packages c.in_ok-asked.ensures.classes c.args.budget (Spent c.in-Spent.failed)
+    (subst (IsSearchOutcome (repository_of c.args.view.now.pool c.args.view.now.kernel.book) c.in_ok-asked.asked.classes c.args.budget) c.in-Spent.is c.in_ok-outcome.ensures.tree)

@@ -1,21 +1,33 @@
-use Rattle.std.proofs.Common.{◌<◌, arith, subst, sym}
+use Rattle.std.proofs.Common.{◌<◌, ◌∙◌, ap, arith, get_or, length, subst, sym}
 use Rattle.listed.specs.Lists.{In}
-use Rattle.suite_compare.proofs.Compared.{joint_within}
+use Rattle.listed.proofs.Lists.{In_at}
+use Rattle.suite_compare.proofs.Paired.{listed_below}
 use Rattle.suite_compare.proofs.gather.joint_table.Goals as goal
 
+pub joints_of-requires : goal.joints_of-requires
+joints_of-requires c = sym (ap length c.deref.ensures.value ∙ c.requires.long)
+
 pub places_by-requires : goal.places_by-requires
-places_by-requires c = λ a i.
-    let lt = joint_within c.args.old_of.now c.args.new_of.now c.in_ok-joints.joints.old.items c.in_ok-joints.joints.new.items c.in_ok-joints.joints.of.items a c.in_ok-joints.ensures (subst (λ z. In a z) c.deref.ensures.value i) in
-    omega (arith, lt, c.len.ensures, c.in_ok-joints.joints.new.ok.0)
+places_by-requires c = λ i l.
+    let lt = c.in_ok-joints.ensures.within i (subst (λ z. i < z) (ap length c.deref-2.ensures.value ∙ c.in_ok-joints.ensures.long) l) in
+    rw c.deref-2.ensures.value (omega (arith, lt, c.len.ensures, c.in_ok-joints.joints.new.ok.0))
 
 pub places_by-requires-2 : goal.places_by-requires-2
-places_by-requires-2 c = λ k i. c.requires.within k (c.in_ok-joints.ensures.only_new k (subst (λ z. In k z) c.deref-2.ensures.value i))
+places_by-requires-2 c = λ i l.
+    let j = c.in_ok-joints.ensures.only_new _ (In_at c.in_ok-joints.joints.new.items i 0 (subst (λ z. i < length z) c.deref-3.ensures.value l)) in
+    let lt = listed_below c.args.new.now.of.items _ _ c.requires.long c.requires.within _ (subst (λ z. In (get_or c.in_ok-joints.joints.new.items i 0) z) c.deref.ensures.value j) in
+    rw c.deref-3.ensures.value (omega (arith, lt, c.len-2.ensures, c.args.new.now.judge.kinds.ok.0))
+
+pub returns-clause-joined : goal.returns-clause-joined
+returns-clause-joined c = rw c.deref.ensures.value at c.in_ok-joints.ensures
 
 pub returns-clause-fits : goal.returns-clause-fits
 returns-clause-fits c = record {
   same = c.in_ok-joints.ensures.same;
   members_long = omega (arith, c.in_ok-members.ensures.size, c.len.ensures, c.in_ok-joints.joints.new.ok.0);
-  placed = rw c.deref.ensures.value at c.in_ok-members.ensures.places;
-  sorted = rw c.deref-2.ensures.value at c.in_ok-by_new.ensures.places;
-  news = λ k i. subst (λ z. k < z) (sym c.in_ok-by_new.ensures.size) (c.requires.within k (c.in_ok-joints.ensures.only_new k i));
+  placed = rw c.deref-2.ensures.value at c.in_ok-members.ensures.places;
+  sorted = rw c.deref-3.ensures.value at c.in_ok-by_new.ensures.places;
+  news = λ a l.
+      let lt = listed_below c.args.new.now.of.items _ _ c.requires.long c.requires.within _ (subst (λ z. In (get_or c.in_ok-joints.joints.new.items a 0) z) c.deref.ensures.value (c.in_ok-joints.ensures.only_new _ (In_at c.in_ok-joints.joints.new.items a 0 l))) in
+      omega (arith, lt, c.in_ok-by_new.ensures.size, c.len-2.ensures, c.args.new.now.judge.kinds.ok.0);
 }

@@ -1,10 +1,52 @@
-use Rattle.std.proofs.Common.{length, subst, sym}
-use Rattle.row_book.specs.Book.{repository_of}
+use Rattle.std.proofs.Common.{◌≡◌, ℕ, ◌<◌, Bool, true, false, List, length, refl, sym, ap, subst, ◌∙◌, arith}
+use Rattle.std.proofs.Math.Path.{fun_ext}
+use Rattle.std.specs.List.{range_with_len}
 use Rattle.row_book.specs.Flags.{flag}
-use Rattle.row_book.specs.Sets.{HitsAll}
+use Rattle.row_book.specs.Repository.{Repository, Healthy}
+use Rattle.row_book.specs.Sets.{Hit, HitsAll, Is, NumSet}
+use Rattle.listed.specs.Lists.{has}
+use Rattle.listed.proofs.Lists.{In_has, has_not, filter_cases, filter_from}
+use Rattle.row_book.proofs.Flags.{flag_in}
+use Rattle.repo_model.proofs.Elements.{range_from}
+use Rattle.clause_pool.specs.Interned.{Interned}
+use Rattle.install_lift.specs.Laws.{HoldsMembers, IsKernelBy}
+use Rattle.kernel_rounds.specs.declared.extraction.Kernel.{Kernel}
+use Rattle.relation_fields.specs.declared.packages.Home.{Home}
+use Rattle.relation_fields.specs.declared.packages.PackageFacts.{PackageFacts}
+use Rattle.row_book.specs.Book.{repository_of}
+use Rattle.row_book.specs.Needs.{NeedsFit}
+use Rattle.row_book.specs.Rounds.{kernel, kernel_class, kernel_steps}
+use Rattle.row_book.specs.Trail.{trail_meaning}
+use Rattle.row_book.specs.declared.book.Book.{Book}
+use Rattle.suite_compare.specs.Answering.{true_numbers}
+use Rattle.suite_compare.specs.Views.{IsViewOf}
 use Rattle.row_book.proofs.BookRepositories.{book_size}
-use Rattle.suite_compare.proofs.Installing.{healthy_numbers, hits_numbers, kernel_by, lifted_hits}
 use Rattle.suite_compare.proofs.install.install.Goals as goal
+
+-- the numbers of flags are the set of the flags
+numbers_set : (flags : List Bool) (numbers : List ℕ) → numbers ≡ true_numbers flags → has numbers ≡ flag flags
+numbers_set flags numbers e = ap has e ∙ fun_ext (λ n. at n (flag flags n) refl)
+  where
+    at : (n : ℕ) (b : Bool) → flag flags n ≡ b → has (true_numbers flags) n ≡ flag flags n
+    at n true e = In_has (filter_from (flag flags) (range_with_len 0 (length flags)) n (range_from (length flags) 0 n (omega arith) (let l = flag_in flags n e in omega (arith, l))) e) ∙ sym e
+    at n false e = has_not (true_numbers flags) n (λ i. let k = (filter_cases (flag flags) (range_with_len 0 (length flags)) n i).1 in absurd (cc (k, e))) ∙ sym e
+
+-- the kernel of a view is that of its book, by its steps
+kernel_by : (pool : Interned) (home : Home) (stanzas : List PackageFacts) (book : Book) (made : Kernel) (limit : ℕ) → IsViewOf pool home stanzas book made limit →
+    IsKernelBy (repository_of pool book) (repository_of pool made.book) (trail_meaning pool made.trail.steps)
+kernel_by pool home stanzas book made limit view = record {
+  limit = limit;
+  hold = made.hold;
+  is = view.kernel_is.book.repository ∙ sym (ap (kernel limit made.hold) view.book_is.repository);
+  steps = view.kernel_is.steps ∙ sym (ap (kernel_steps limit made.hold) view.book_is.repository);
+}
+
+-- a set that holds the members of classes hits the goals that the classes hit
+lifted_hits : (limit : ℕ) (hold : Bool) (R : Repository) (I T : NumSet) (wanted : List (List ℕ)) (size : ℕ) → length R.clauses ≡ size → NeedsFit size wanted → HoldsMembers limit hold R I T →
+    HitsAll (λ n. I (kernel_class limit hold R n)) wanted → HitsAll T wanted
+lifted_hits limit hold R I T wanted size long fit holds hits c i =
+    let h : Hit (Is (λ n. I (kernel_class limit hold R n))) c = hits c i in
+    record { by = h.by; inside = h.inside; alive = holds h.by (subst (λ n. h.by < n) (sym long) (fit c i h.by h.inside)) h.alive }
 
 pub lift-requires-clause-kernel : goal.lift-requires-clause-kernel
 lift-requires-clause-kernel c = let view = c.args.view.now in kernel_by view.pool view.suite.home view.suite.packages view.book view.kernel view.limit view.of_suite
@@ -19,10 +61,7 @@ trim-requires-clause-hits c =
     (c.in_ok-lifted.ensures.holds by) c.requires.hits)
 
 pub returns-clause-healthy : goal.returns-clause-healthy
-returns-clause-healthy c =
-    healthy_numbers (repository_of c.args.view.now.pool c.args.view.now.book) c.in_ok-trimmed.trimmed c.in_ok-numbers.numbers (rw c.as_slice-2.ensures at c.in_ok-numbers.ensures)
-    c.in_ok-trimmed.ensures.part.healthy
+returns-clause-healthy c = subst (Healthy (repository_of c.args.view.now.pool c.args.view.now.book)) (sym (numbers_set c.in_ok-trimmed.trimmed c.in_ok-numbers.numbers (rw c.as_slice-2.ensures at c.in_ok-numbers.ensures))) c.in_ok-trimmed.ensures.part.healthy
 
 pub returns-clause-hits : goal.returns-clause-hits
-returns-clause-hits c =
-    hits_numbers c.in_ok-trimmed.trimmed c.in_ok-numbers.numbers c.args.wanted.now (rw c.as_slice-2.ensures at c.in_ok-numbers.ensures) c.in_ok-trimmed.ensures.part.hits
+returns-clause-hits c = subst (λ S. HitsAll S c.args.wanted.now) (sym (numbers_set c.in_ok-trimmed.trimmed c.in_ok-numbers.numbers (rw c.as_slice-2.ensures at c.in_ok-numbers.ensures))) c.in_ok-trimmed.ensures.part.hits

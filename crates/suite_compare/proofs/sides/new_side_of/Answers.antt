@@ -1,21 +1,20 @@
-use Rattle.std.proofs.Common.{◌∙◌, ap, filter, length, refl, subst, sym}
+use Rattle.std.proofs.Common.{◌∙◌, ap, ap₂, filter, length, subst, sym}
 use Rattle.listed.specs.Lists.{In}
 use Rattle.listed.proofs.Lists.{filter_cases}
 use Rattle.suite_compare.specs.Comparing.{named_verdict, AreVerdicts, IsPart, IsSide}
 use Rattle.suite_compare.specs.Names.{stands_in}
-use Rattle.suite_compare.proofs.Compared.{verdicts_at}
-use Rattle.suite_compare.proofs.Parts.{part_side, part_verdicts}
+use Rattle.suite_compare.proofs.Named.{part_side, part_verdicts}
 use Rattle.suite_compare.proofs.sides.new_side_of.Goals as goal
 
 pub part_among-requires : goal.part_among-requires
 part_among-requires c = ap length c.deref.ensures.value ∙ c.requires.side.side_is.long ∙ sym (ap length c.as_slice.ensures)
 
-pub side_by_names-requires-clause-names : goal.side_by_names-requires-clause-names
-side_by_names-requires-clause-names c = λ name i.
+pub side_of-requires-clause-names : goal.side_of-requires-clause-names
+side_of-requires-clause-names c = λ name i.
     (filter_cases (stands_in c.args.new.now.suite.packages) c.as_slice.result.now name (subst (λ z. In name z) (c.deref-2.ensures.value ∙ c.in_ok-part.ensures.names_are) i)).1
 
-pub side_by_names-requires-clause-budget : goal.side_by_names-requires-clause-budget
-side_by_names-requires-clause-budget c = c.requires.side.allowed
+pub side_of-requires-clause-budget : goal.side_of-requires-clause-budget
+side_of-requires-clause-budget c = c.requires.side.allowed
 
 pub returns : goal.returns
 returns c =
@@ -33,6 +32,5 @@ returns c =
       new_is = subst (λ n. IsSide n side side.of.items) (ap length c.deref-2.ensures.value) c.in_ok-side.ensures.side;
       was = part_verdicts old.names part.names.items old.side.of.items part.of.items old.side was so.each c.requires.side.was;
       is = subst (λ z. AreVerdicts side side.of.items z is) c.deref-2.ensures.value
-          (verdicts_at view.limit view.kernel.hold new.limit new.kernel.hold c.requires.limit c.requires.hold new.suite.home new.suite.packages old.budget c.deref-2.result.now _ side
-          c.in_ok-side.ensures.kernel c.in_ok-side.ensures.budget c.in_ok-side.ensures.kinds refl);
+          (subst (AreVerdicts side side.of.items c.deref-2.result.now) (ap₂ (λ l h. named_verdict l h new.suite old.budget) c.requires.limit c.requires.hold) c.in_ok-side.ensures.verdicts);
     }

@@ -1,4 +1,4 @@
-use Rattle.suite_compare.proofs.Parts.{IsPartTo}
+use Rattle.suite_compare.proofs.Named.{IsPartTo}
 use Rattle.suite_compare.proofs.sides.part_among.Given as goal
 
 abbrev pub invariant-loop-place : goal.invariant-loop-place

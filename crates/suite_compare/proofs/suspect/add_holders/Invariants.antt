@@ -1,6 +1,7 @@
-use Rattle.std.proofs.Common.{take}
-use Rattle.suite_compare.specs.Suspects.{HaveMarked}
+use Rattle.std.proofs.Common.{◌≡◌, ◌++◌, take}
+use Rattle.std.specs.List.{flat_map}
+use Rattle.row_book.specs.Book.{listed_for}
 use Rattle.suite_compare.proofs.suspect.add_holders.Given as goal
 
 abbrev pub invariant-loop-class : goal.invariant-loop-class
-invariant-loop-class l = HaveMarked (take l.class-index l.classes) l.holders l.initial.found.items l.found.items
+invariant-loop-class l = l.found.items ≡ l.initial.found.items ++ flat_map (listed_for l.holders) (take l.class-index l.classes)

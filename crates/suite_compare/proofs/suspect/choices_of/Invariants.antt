@@ -1,10 +1,10 @@
 use Rattle.std.proofs.Common.{◌≡◌, length}
 use Rattle.row_book.specs.Book.{repository_of}
-use Rattle.suite_compare.proofs.Suspected.{AreAllChosenTo}
+use Rattle.suite_compare.specs.Suspects.{AreAllChosen}
 use Rattle.suite_compare.proofs.suspect.choices_of.Given as goal
 
 abbrev pub invariant-loop-kind : goal.invariant-loop-kind
 invariant-loop-kind l = record {
   size : l.chosen.0 ≡ length l.book.rows;
-  chosen : AreAllChosenTo (repository_of l.pool l.book) l.kinds l.choices.items l.kind-index;
+  chosen : AreAllChosen (repository_of l.pool l.book) l.kinds l.kind-index l.choices.items;
 }

@@ -1,17 +1,22 @@
-use Rattle.std.proofs.Common.{arith, length, subst, sym}
-use Rattle.listed.proofs.Lists.{item_in}
-use Rattle.suite_compare.specs.Choices.{AreBelow}
-use Rattle.suite_compare.proofs.Suspected.{holders_none, holders_more, holders_all}
+use Rattle.std.proofs.Common.{◌≡◌, [], get_or, length, subst, ◌∙◌, arith}
+use Rattle.std.proofs.lemmas.List.{get_or_read}
+use Rattle.listed.specs.Lists.{In}
+use Rattle.listed.proofs.Lists.{In_at, item_in}
+use Rattle.suite_compare.specs.Suspects.{AreHolders}
+use Rattle.suite_compare.proofs.Chosen.{holders_more, holders_none}
 use Rattle.suite_compare.proofs.suspect.enter_choices.Goals as goal
 
 pub loop-kind-init : goal.loop-kind-init
 loop-kind-init c = holders_none c.args.choices.now c.args.table.now c.requires.empty
 
 pub enter_each-requires : goal.enter_each-requires
-enter_each-requires c = subst (λ z. AreBelow z c.as_slice.result.now) (sym c.loop-kind.auto.table) (subst (AreBelow (length c.args.table.now)) (sym c.as_slice.ensures) (c.requires.below c.index-choices-kind.result (item_in c.args.choices.now c.loop-kind.kind c.index-choices-kind.result c.loop-kind-test.true c.index-choices-kind.is)))
+enter_each-requires c = λ i l.
+    let below = c.requires.below c.index-choices-kind.result (item_in c.args.choices.now c.loop-kind.kind c.index-choices-kind.result c.loop-kind-test.true c.index-choices-kind.is) in
+    let lt = below _ (subst (λ z. In (get_or c.as_slice.result.now i 0) z) c.as_slice.ensures (In_at c.as_slice.result.now i 0 l)) in
+    omega (arith, lt, c.loop-kind.auto.table)
 
 pub loop-kind-preserved : goal.loop-kind-preserved
-loop-kind-preserved c = holders_more c.loop-kind.kind c.args.choices.now c.loop-kind.table c.enter_each.new.table c.index-choices-kind.result c.as_slice.result.now c.loop-kind-test.true c.index-choices-kind.is c.as_slice.ensures c.in_ok-enter_each.ensures c.loop-kind.invariant
+loop-kind-preserved c = holders_more c.loop-kind.kind c.args.choices.now c.loop-kind.table c.enter_each.new.table c.as_slice.result.now (c.as_slice.ensures ∙ get_or_read c.args.choices.now c.loop-kind.kind c.index-choices-kind.result c.loop-kind-test.true c.index-choices-kind.is []) c.in_ok-enter_each.ensures c.loop-kind.invariant
 
 pub returns : goal.returns
-returns c = holders_all c.loop-kind.kind c.args.choices.now c.loop-kind.table (omega (arith, c.loop-kind-test.false, c.loop-kind.auto.kind-end)) c.loop-kind.invariant
+returns c = let e : c.loop-kind.kind ≡ length c.args.choices.now = omega (arith, c.loop-kind-test.false, c.loop-kind.auto.kind-end) in subst (λ n. AreHolders n c.args.choices.now c.loop-kind.table) e c.loop-kind.invariant

@@ -1,5 +1,5 @@
-use Rattle.suite_compare.proofs.Suspected.{AreHoldersTo}
+use Rattle.suite_compare.specs.Suspects.{AreHolders}
 use Rattle.suite_compare.proofs.suspect.enter_choices.Given as goal
 
 abbrev pub invariant-loop-kind : goal.invariant-loop-kind
-invariant-loop-kind l = AreHoldersTo l.kind l.choices l.table
+invariant-loop-kind l = AreHolders l.kind l.choices l.table

@@ -1,16 +1,20 @@
-use Rattle.std.proofs.Common.{◌+◌, ap, arith, subst, sym}
-use Rattle.suite_compare.proofs.Suspected.{AreWithoutTo, without_none, without_more, without_skip, without_all}
-use Rattle.suite_compare.proofs.suspect.without_choice.Goals.{then-is_empty+in_ok-push, else-is_empty}
+use Rattle.std.proofs.Common.{◌≡◌, ℕ, Bool, [], eqb, length, sym, ◌∙◌, ap, arith}
+use Rattle.std.proofs.lemmas.List.{get_or_read}
+use Rattle.listed.proofs.Numbers.{number_kept, number_left}
+use Rattle.row_book.specs.Book.{listed_for}
+use Rattle.suite_compare.specs.Suspects.{without_choice}
 use Rattle.suite_compare.proofs.suspect.without_choice.Goals as goal
-
-pub loop-kind-init : goal.loop-kind-init
-loop-kind-init c = without_none c.args.choices.now c.new-without.result.items c.new-without.ensures.items
+use Rattle.suite_compare.proofs.suspect.without_choice.Goals.{then-is_empty+in_ok-push, else-is_empty}
 
 pub loop-kind-preserved : goal.loop-kind-preserved
-loop-kind-preserved c = elim c.if-is_empty.branch [
-  | then-is_empty+in_ok-push w ↦ subst (AreWithoutTo (c.loop-kind.kind + 1) c.args.choices.now) (ap (λ v. v.items) (sym w.without-is)) (without_more c.loop-kind.kind c.args.choices.now c.loop-kind.without.items w.push.new.self.items w.in_ok-push.ensures.items c.loop-kind.invariant)
-  | else-is_empty w ↦ subst (AreWithoutTo (c.loop-kind.kind + 1) c.args.choices.now) (ap (λ v. v.items) (sym w.without-is)) (without_skip c.loop-kind.kind c.args.choices.now c.loop-kind.without.items c.index-choices-kind.result c.as_slice.result.now c.is_empty.result c.loop-kind-test.true c.index-choices-kind.is c.as_slice.ensures c.is_empty.ensures w.if-is_empty.false c.loop-kind.invariant)
-]
+loop-kind-preserved c =
+    let p : ℕ → Bool = λ k. eqb (length (listed_for c.args.choices.now k)) 0 in
+    let told : p c.loop-kind.kind ≡ c.is_empty.result =
+    ap (λ z. eqb (length z) 0) (sym (c.as_slice.ensures ∙ get_or_read c.args.choices.now c.loop-kind.kind c.index-choices-kind.result c.loop-kind-test.true c.index-choices-kind.is [])) ∙ sym c.is_empty.ensures in
+    elim c.if-is_empty.branch [
+      | then-is_empty+in_ok-push w ↦ number_kept p c.loop-kind.kind c.loop-kind.without.items c.if-is_empty.without.items (told ∙ w.if-is_empty.true) c.loop-kind.invariant (ap (λ v. v.items) w.without-is ∙ w.in_ok-push.ensures.items)
+      | else-is_empty w ↦ ap (λ v. v.items) w.without-is ∙ number_left p c.loop-kind.kind c.loop-kind.without.items (told ∙ w.if-is_empty.false) c.loop-kind.invariant
+    ]
 
 pub returns : goal.returns
-returns c = without_all c.loop-kind.kind c.args.choices.now c.loop-kind.without.items (omega (arith, c.loop-kind-test.false, c.loop-kind.auto.kind-end)) c.loop-kind.invariant
+returns c = let e : c.loop-kind.kind ≡ length c.args.choices.now = omega (arith, c.loop-kind-test.false, c.loop-kind.auto.kind-end) in c.loop-kind.invariant ∙ ap (without_choice c.args.choices.now) e

@@ -1,13 +1,13 @@
-use Rattle.std.proofs.Common.{◌≡◌, arith, length, subst}
-use Rattle.suite_compare.specs.Bad.{AreAllBadTo}
-use Rattle.suite_compare.proofs.Judged.{all_bad_none, all_bad_more}
+use Rattle.std.proofs.Common.{◌≡◌, [], length, subst, arith}
+use Rattle.suite_compare.specs.Bad.{AreAllBadTo, AreBad}
+use Rattle.suite_compare.proofs.Groups.{each_more, each_none}
 use Rattle.suite_compare.proofs.verdicts.bad_lists.Goals as goal
 
 pub loop-kind-init : goal.loop-kind-init
-loop-kind-init c = all_bad_none c.args.judge.now c.new-lists.result.items c.new-lists.ensures.items
+loop-kind-init c = each_none (AreBad c.args.judge.now) [] c.new-lists.result.items c.new-lists.ensures.items
 
 pub loop-kind-preserved : goal.loop-kind-preserved
-loop-kind-preserved c = all_bad_more c.args.judge.now c.loop-kind.lists.items c.push.new.self.items c.in_ok-bad.bad c.loop-kind.kind c.in_ok-push.ensures.items c.in_ok-bad.ensures c.loop-kind.invariant
+loop-kind-preserved c = each_more (AreBad c.args.judge.now) [] c.loop-kind.kind c.loop-kind.lists.items c.push.new.self.items c.in_ok-bad.bad c.in_ok-push.ensures.items c.in_ok-bad.ensures c.loop-kind.invariant
 
 pub returns : goal.returns
 returns c =

@@ -16,7 +16,7 @@ pub bad_among-requires-clause-alone : goal.bad_among-requires-clause-alone
 bad_among-requires-clause-alone c = single_yes c.args.judge.now c.args.singles.now c.args.kind c.verdict_at.result c.is_yes.result _ c.requires.kind c.requires.singles c.verdict_at.ensures c.is_yes.ensures c.if-not-is_yes.false
 
 pub bad_among-requires-clause-suspects : goal.bad_among-requires-clause-suspects
-bad_among-requires-clause-suspects c = λ k i. subst (λ z. k < z) c.requires.choices.chosen.long (c.in_ok-suspects.ensures.only k (subst (λ z. In k z) c.as_slice.ensures.value i))
+bad_among-requires-clause-suspects c = λ i l. subst (λ z. get_or c.as_slice.result.now i 0 < z) c.requires.choices.chosen.long (c.in_ok-suspects.ensures.only _ (subst (λ z. In (get_or c.as_slice.result.now i 0) z) c.as_slice.ensures.value (In_at c.as_slice.result.now i 0 l)))
 
 pub returns : goal.returns
 returns c =

@@ -1,6 +1,6 @@
 use Rattle.std.proofs.Common.{length}
 use Rattle.std.proofs.lemmas.Bool.{eqb-true}
-use Rattle.suite_compare.proofs.Swapped.{one_class}
+use Rattle.suite_compare.proofs.Saved.{one_class}
 use Rattle.suite_compare.proofs.verdicts.is_single.Goals as goal
 
 pub returns : goal.returns

@@ -1,5 +1,5 @@
 use Rattle.std.proofs.Common.{◌<◌, length, arith, refl}
-use Rattle.suite_compare.proofs.ClassSets.{last_left, left_all, left_less}
+use Rattle.suite_compare.proofs.Chosen.{last_left, left_all, left_less}
 use Rattle.suite_compare.proofs.class_set.ClassSet.clear.Goals as goal
 
 pub loop-class-init : goal.loop-class-init

@@ -1,5 +1,5 @@
 use Rattle.std.proofs.Common.{length}
-use Rattle.suite_compare.proofs.ClassSets.{AreLeft}
+use Rattle.suite_compare.proofs.Chosen.{AreLeft}
 use Rattle.suite_compare.proofs.class_set.ClassSet.clear.Given as goal
 
 abbrev pub invariant-loop-class : goal.invariant-loop-class

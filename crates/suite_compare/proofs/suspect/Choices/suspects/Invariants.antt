@@ -1,6 +1,6 @@
-use Rattle.std.proofs.Common.{take}
-use Rattle.suite_compare.proofs.Suspected.{HaveMarkedTo}
+use Rattle.std.proofs.Common.{◌≡◌, ◌++◌, take}
+use Rattle.suite_compare.specs.Suspects.{facing}
 use Rattle.suite_compare.proofs.suspect.Choices.suspects.Given as goal
 
 abbrev pub invariant-loop-class : goal.invariant-loop-class
-invariant-loop-class l = HaveMarkedTo l.book.conflicts (take l.class-index l.choice) l.self.holders.items l.self.without.items l.found.items
+invariant-loop-class l = l.found.items ≡ l.self.without.items ++ facing l.book.conflicts l.self.holders.items (take l.class-index l.choice)

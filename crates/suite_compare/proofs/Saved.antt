@@ -1,39 +1,76 @@
--- Two goals of which one is a single class have one tree in both orders: that goal is met at the root, so it is never the
--- open need that a node takes up.
-use Rattle.std.proofs.Common.{◌≡◌, ℕ, eqb, Option, Some, None, ◌<◌, ◌⊎◌, inl, inr, true, false, ◌||◌, List, [], ◌∷◌, ◌++◌, Bool, length, arith, slice_index_or, refl, sym, ◌∙◌, ap, subst}
-use Rattle.std.specs.Prelude.{Contains}
-use Rattle.std.specs.List.{find}
-use Rattle.std.specs.Option.{option_map_or}
-use Rattle.std.proofs.lemmas.Bool.{and_from, both_ways, eq-eqb, eqb-true, or_left}
-use Rattle.std.proofs.lemmas.List.Elements.{All-contains, All-head}
-use Rattle.listed.proofs.Lists.{contains_in, in_contains}
-use Rattle.clause_pool.specs.Interned.{Interned}
+-- Searches that are not made.
+use Rattle.std.proofs.Common.{◌≡◌, ℕ, ◌<◌, true, false, ◌||◌, Bool, List, [], ◌∷◌, inl, inr, length, refl, sym, ◌∙◌, ap, ap₂, subst, arith, eqb, Option, Some, None, ◌⊎◌, ◌++◌, slice_index_or}
+use Rattle.std.proofs.lemmas.Bool.{and_from, or_left, le-ltb, both_ways, eq-eqb, eqb-true}
+use Rattle.std.proofs.lemmas.List.Elements.{All-contains, All-cons, All-nil, All-head}
+use Rattle.listed.proofs.Lists.{in_contains, has_In, contains_in, find_none, find_some}
 use Rattle.listed.specs.Lists.{In, here, there}
 use Rattle.row_book.specs.Book.{listed_for, repository_of, Sound}
 use Rattle.row_book.specs.Needs.{NeedsFit}
 use Rattle.row_book.specs.Repository.{Repository}
-use Rattle.row_book.specs.declared.book.Book.{Book}
 use Rattle.search_terms.specs.declared.literals.Literal.{Literal}
-use Rattle.search_terms.specs.Closure.{literal, negation, is_same, forces, IsClosedUnder, IsUnitClosed, IsClosure, InClosure}
-use Rattle.search_terms.specs.Form.{form, goal_sentence, repository_form}
-use Rattle.search_terms.specs.Tree.{is_open_need, Tree, IsTree}
+use Rattle.search_terms.specs.Closure.{literal, negation, is_same, Clashes, InClosure, IsClosedUnder, IsUnitClosed, IsClosure}
+use Rattle.search_terms.specs.Form.{conflict_sentence, form, goal_sentence, repository_form}
 use Rattle.search_terms.specs.Tree.Tree.{failed_leaf, found_leaf, split}
 use Rattle.search_terms.proofs.Certificates.{same_refl}
+use Rattle.search_terms.proofs.Forms.{conflict_in, goal_in}
 use Rattle.search_terms.proofs.Found.{one_tree}
-use Rattle.search_terms.proofs.Sets.{find_none, find_some}
+use Rattle.clause_solver.specs.declared.outcomes.Verdict.TheVariants.{No, Yes}
+use Rattle.suite_compare.specs.Asking.{tree_of, verdict_of}
+use Rattle.suite_compare.specs.Kinds.{kernel_in, together_in, AreRivals, IsJudge, alone_in, together, IsOneClass}
+use Rattle.suite_compare.specs.declared.verdicts.Judge.{Judge}
+use Rattle.suite_compare.proofs.Judged.{pair_fits, tree_is}
+use Rattle.std.specs.Prelude.{Contains}
+use Rattle.std.specs.List.{find}
+use Rattle.std.specs.Option.{option_map_or}
+use Rattle.clause_pool.specs.Interned.{Interned}
+use Rattle.row_book.specs.declared.book.Book.{Book}
+use Rattle.search_terms.specs.Tree.{is_open_need, Tree, IsTree}
 use Rattle.clause_solver.specs.declared.outcomes.Verdict.{Verdict}
-use Rattle.clause_solver.specs.declared.outcomes.Verdict.TheVariants.{Yes}
 use Rattle.clause_solver.proofs.Calm.{closure_closed}
 use Rattle.clause_solver.proofs.Preparing.{clash_part}
 use Rattle.clause_solver.proofs.Running.{closed_part}
-use Rattle.suite_compare.specs.Asking.{tree_of, verdict_of}
 use Rattle.suite_compare.specs.Bad.{entered_verdict, AreAllBadTo}
-use Rattle.suite_compare.specs.Kinds.{alone_in, kernel_in, together, together_in, IsJudge, IsOneClass}
 use Rattle.suite_compare.specs.Report.{is_yes}
 use Rattle.suite_compare.specs.declared.verdicts.Bad.{Bad}
-use Rattle.suite_compare.specs.declared.verdicts.Judge.{Judge}
-use Rattle.suite_compare.proofs.Judged.{pair_fits, tree_is}
 
+-- Two classes that conflict do not go together, and one failed leaf tells it.
+-- the class of a goal of one class is true in each closed set, and so at the root
+one_true : (p : ℕ) (set : Literal → Bool) → IsClosedUnder set (goal_sentence (p ∷ [])) → set (literal p true) ≡ true
+one_true p set closed =
+    closed 0 (literal p true) (omega arith) (and_from (is_same (literal p true) (literal p true) || set (literal p false)) true (or_left (is_same (literal p true) (literal p true)) (set (literal p false)) (same_refl (literal p true))) refl)
+
+single_true : (R : Repository) (goals : List (List ℕ)) (p : ℕ) → In (p ∷ []) goals → InClosure (form R goals) [] (literal p true)
+single_true R goals p i = λ set holds closed.
+    one_true p set (All-contains (IsClosedUnder set) (form R goals) (goal_sentence (p ∷ [])) closed.steps (in_contains (form R goals) (goal_sentence (p ∷ [])) (goal_in R goals (p ∷ []) i)))
+
+-- so the root of two that conflict clashes
+rivals_clash : (R : Repository) (p q : ℕ) → In q (listed_for R.conflicts p) → Clashes (form R ((p ∷ []) ∷ ((q ∷ []) ∷ []))) []
+rivals_clash R p q i =
+    let goals : List (List ℕ) = (p ∷ []) ∷ ((q ∷ []) ∷ []) in
+    let c = in_contains (form R goals) (conflict_sentence p q) (conflict_in R goals p q i) in
+    inr (
+      c.0,
+      conflict_sentence p q,
+      c.1,
+      c.2,
+      All-cons (λ m. InClosure (form R goals) [] (negation m)) (literal p false) (literal q false ∷ []) (single_true R goals p here)
+          (All-cons (λ m. InClosure (form R goals) [] (negation m)) (literal q false) [] (single_true R goals q (there here)) (All-nil (λ m. InClosure (form R goals) [] (negation m)))),
+    )
+
+-- and two kinds are judged so
+pub rivals_told : (judge : Judge) (first second : ℕ) → IsJudge judge → first < length judge.kinds.items → second < length judge.kinds.items → AreRivals judge.book.now.conflicts (listed_for judge.kinds.items first) (listed_for judge.kinds.items second)
+    → No ≡ together_in judge first second
+rivals_told judge first second so l m rivals =
+    let R : Repository = kernel_in judge in
+    let goals : List (List ℕ) = (rivals.one ∷ []) ∷ ((rivals.other ∷ []) ∷ []) in
+    let same : listed_for judge.kinds.items first ∷ (listed_for judge.kinds.items second ∷ []) ≡ goals = ap₂ (λ a b. a ∷ (b ∷ [])) rivals.first_is rivals.second_is in
+    let fit : NeedsFit (length judge.book.now.rows) goals = subst (NeedsFit (length judge.book.now.rows)) same (pair_fits (length judge.book.now.rows) judge.kinds.items first second l m so.fit) in
+    let clash : Clashes (form R goals) [] = rivals_clash R rivals.one rivals.other (has_In (listed_for judge.book.now.conflicts rivals.one) rivals.other rivals.against) in
+    let leaf : tree_of R goals ≡ failed_leaf = one_tree (length R.clauses) (form R goals) [] failed_leaf (tree_of R goals) clash (tree_is judge.pool.now judge.book.now goals so.sound fit) in
+    sym (ap (λ g. verdict_of judge.budget (tree_of R g)) same ∙ ap (verdict_of judge.budget) leaf ∙ rw (le-ltb judge.budget 1 (omega (arith, so.allowed.0))) refl)
+
+-- Two goals of which one is a single class have one tree in both orders: that goal is met at the root, so it is never the
+-- open need that a node takes up.
 swap_in : {X : Type 0} {a b x : X} {rest : List X} → In x (a ∷ (b ∷ rest)) → In x (b ∷ (a ∷ rest))
 swap_in here = there here
 swap_in (there here) = here
@@ -54,11 +91,7 @@ find_swap p a b rest e = rw e refl
 
 -- a goal of one class is met in each closed set
 one_is_met : (c : ℕ) (rest : List (List Literal)) (set : Literal → Bool) → IsUnitClosed (goal_sentence (c ∷ []) ∷ rest) set → is_open_need set (goal_sentence (c ∷ [])) ≡ false
-one_is_met c rest set closed =
-    let l = literal c true in
-    let forced : forces set l (l ∷ []) ≡ true = and_from (is_same l l || set (negation l)) true (or_left (is_same l l) (set (negation l)) (same_refl l)) refl in
-    let met : set l ≡ true = All-head (λ m. forces set m (l ∷ []) ≡ true → set m ≡ true) l [] (All-head (IsClosedUnder set) (goal_sentence (c ∷ [])) rest closed.steps) forced in
-    rw met refl
+one_is_met c rest set closed = rw (one_true c set (All-head (IsClosedUnder set) (goal_sentence (c ∷ [])) rest closed.steps)) refl
 
 tree_swap : (n c : ℕ) (b : List Literal) (rest : List (List Literal)) (given : List Literal) (tree : Tree) → IsTree n (goal_sentence (c ∷ []) ∷ (b ∷ rest)) given tree → IsTree n (b ∷ (goal_sentence (c ∷ []) ∷ rest)) given tree
 tree_swap n c b rest given failed_leaf is =
@@ -122,9 +155,9 @@ entered_told judge lists first second v so l m earlier lt first_yes second_yes s
     told : (o : Option Bad) → find (λ b. eqb b.kind first) list ≡ o → option_map_or (λ b. b.verdict) o Yes ≡ together_in judge second first
     told (Some b) e =
         let found = find_some (λ x. eqb x.kind first) list b e in
-        (earlier.each second lt).verdict b (contains_in list b found.0) ∙ ap (together_in judge second) (eqb-true b.kind first found.1)
+        (earlier.each second lt).verdict b found.0 ∙ ap (together_in judge second) (eqb-true b.kind first found.1)
     told None e = elim ((earlier.each second lt).whole second_yes first l first_yes) [
-      | inl w ↦ absurd (both_ways (eqb w.0.kind first) (All-contains (λ x. eqb x.kind first ≡ false) list w.0 (find_none (λ x. eqb x.kind first) list e) (in_contains list w.0 w.1)) (eq-eqb w.0.kind first w.2))
+      | inl w ↦ absurd (both_ways (eqb w.0.kind first) (find_none (λ x. eqb x.kind first) list e w.0 w.1) (eq-eqb w.0.kind first w.2))
       | inr both ↦ sym both
     ]
 

@@ -1,0 +1,24 @@
+use Rattle.std.proofs.Common.{◌≡◌, true, sym, subst, ap, ◌∙◌}
+use Rattle.std.proofs.lemmas.Bool.{false≢true}
+use Rattle.clause_pool.specs.Interned.{clause_at}
+use Rattle.listed.proofs.Lists.{In_none, item_in}
+use Rattle.suite_compare.specs.Choices.{has_first_member}
+use Rattle.suite_compare.proofs.Groups.{first_all, first_more}
+use Rattle.suite_compare.proofs.Chosen.{have_firsts}
+use Rattle.suite_compare.proofs.choose.has_firsts.Goals as goal
+
+pub loop-clause-init : goal.loop-clause-init
+loop-clause-init c = λ id i. absurd (In_none i)
+
+pub slice-requires : goal.slice-requires
+slice-requires c = c.requires c.clause-item.result (item_in c.args.row.now c.loop-clause.clause-index c.clause-item.result c.loop-clause-test.true c.clause-item.is)
+
+pub loop-clause-preserved : goal.loop-clause-preserved
+loop-clause-preserved c = first_more (λ id. has_first_member c.args.chosen.now.1 (clause_at c.args.pool.now id) ≡ true) c.args.row.now c.loop-clause.clause-index c.clause-item.result c.loop-clause-test.true
+    (subst (λ id. has_first_member c.args.chosen.now.1 (clause_at c.args.pool.now id) ≡ true) c.clause-item.is (ap (has_first_member c.args.chosen.now.1) (sym c.slice.ensures.lent) ∙ sym c.has_first.ensures ∙ c.if-not-has_first.false)) c.loop-clause.invariant
+
+pub returns-then-not-has_first : goal.returns-then-not-has_first
+returns-then-not-has_first c = λ e. absurd (false≢true e)
+
+pub returns : goal.returns
+returns c = λ e. have_firsts c.args.pool.now c.args.row.now c.args.chosen.now.1 (first_all _ c.args.row.now c.loop-clause.clause-index c.loop-clause-test.false c.loop-clause.invariant)

@@ -1,40 +1,15 @@
 -- The answer on goals, from the outcome of the search.
-use Rattle.std.proofs.Common.{◌≡◌, ℕ, ◌<◌, Bool, List, [], length, filter, sym, ap, subst, ◌∙◌}
-use Rattle.std.specs.List.{range_with_len}
+use Rattle.std.{proofs.Common.{◌≡◌, ℕ, ◌<◌, Bool, List, [], length, filter, sym, ap, subst, ◌∙◌}, specs.List.{range_with_len}}
 use Rattle.clause_pool.specs.Interned.{Interned}
-use Rattle.clause_solver.specs.Outcomes.{IsOutcomeOf, IsSearchOutcome, IsCertified as IsCertifiedOutcome}
-use Rattle.clause_solver.specs.declared.outcomes.Outcome.{Outcome}
-use Rattle.clause_solver.specs.declared.outcomes.Outcome.TheVariants.{Found, Refuted}
-use Rattle.install_lift.specs.Lifting.{lift_of}
-use Rattle.install_lift.specs.Trimming.{trim_of}
+use Rattle.clause_solver.{specs.Outcomes.{IsOutcomeOf, IsSearchOutcome, IsCertified as IsCertifiedOutcome}, specs.declared.outcomes.Outcome.{Outcome}, specs.declared.outcomes.Outcome.TheVariants.{Found, Refuted}}
+use Rattle.install_lift.{specs.Lifting.{lift_of}, specs.Trimming.{trim_of}}
 use Rattle.kernel_rounds.specs.declared.extraction.Kernel.{Kernel}
-use Rattle.relation_fields.specs.declared.packages.Home.{Home}
-use Rattle.relation_fields.specs.declared.packages.PackageFacts.{PackageFacts}
-use Rattle.repo_model.specs.Goals.{packages_named}
-use Rattle.repo_model.specs.Repository.{suite_repository}
-use Rattle.repo_model.specs.declared.goals.Goal.{Goal}
-use Rattle.repo_model.proofs.Healthy.{healthy_same}
-use Rattle.repo_model.proofs.Packages.{length_clauses}
-use Rattle.row_book.specs.Book.{repository_of}
-use Rattle.row_book.specs.Flags.{flag}
-use Rattle.row_book.specs.Needs.{NeedsFit}
-use Rattle.row_book.specs.Repository.{Repository, Healthy}
-use Rattle.row_book.specs.Rounds.{kernel, kernel_class, kernel_steps}
-use Rattle.row_book.specs.Sets.{Hit, HitsAll, Is}
-use Rattle.listed.specs.Lists.{In, has}
-use Rattle.row_book.specs.Trail.{trail_meaning}
-use Rattle.row_book.specs.declared.book.Book.{Book}
-use Rattle.row_book.proofs.BookRepositories.{book_size}
-use Rattle.listed.proofs.Lists.{In_map, In_map_cases}
-use Rattle.search_terms.specs.declared.literals.Log.{Log}
-use Rattle.search_terms.specs.Form.{form}
-use Rattle.search_terms.proofs.Found.{one_tree}
-use Rattle.suite_compare.specs.Asking.{asked_tree, image_of, images_of, installation, wanted_by}
-use Rattle.suite_compare.specs.Answering.{true_numbers, IsCertified, IsYes, Serves}
-use Rattle.suite_compare.specs.declared.answers.Answer.TheVariants.{No}
-use Rattle.suite_compare.specs.Views.{IsViewOf}
-use Rattle.suite_compare.proofs.Deciding.{asked_is, images_fit, named_parts, named_within, sound, to_classes}
-use Rattle.suite_compare.proofs.SuiteKernels.{classes_parts}
+use Rattle.relation_fields.{specs.declared.packages.Home.{Home}, specs.declared.packages.PackageFacts.{PackageFacts}}
+use Rattle.repo_model.{specs.Goals.{packages_named}, specs.Repository.{suite_repository}, specs.declared.goals.Goal.{Goal}, proofs.Healthy.{healthy_same}, proofs.Packages.{length_clauses}}
+use Rattle.row_book.{specs.Book.{repository_of}, specs.Flags.{flag}, specs.Needs.{NeedsFit}, specs.Repository.{Repository, Healthy}, specs.Rounds.{kernel, kernel_class, kernel_steps}, specs.Sets.{Hit, HitsAll, Is}, specs.Trail.{trail_meaning}, specs.declared.book.Book.{Book}, proofs.BookRepositories.{book_size}}
+use Rattle.listed.{specs.Lists.{In, has}, proofs.Lists.{In_map, In_map_cases}}
+use Rattle.search_terms.{specs.declared.literals.Log.{Log}, specs.Form.{form}, proofs.Found.{one_tree}}
+use Rattle.suite_compare.{specs.Asking.{asked_tree, image_of, images_of, installation, wanted_by}, specs.Answering.{true_numbers, IsCertified, IsYes, Serves}, specs.declared.answers.Answer.TheVariants.{No}, specs.Views.{IsViewOf}, proofs.Deciding.{asked_is, images_fit, named_parts, named_within, sound, to_classes}, proofs.SuiteKernels.{classes_parts}}
 
 module _ (pool : Interned) (home : Home) (stanzas : List PackageFacts) (book : Book) (made : Kernel) (limit : ℕ) (view : IsViewOf pool home stanzas book made limit) where
   abbrev R : Repository

@@ -1,38 +1,11 @@
 -- First choices: along them nothing fails, and which kinds may not go together.
-use Rattle.std.proofs.Common.{◌≡◌, ℕ, Bool, true, false, not, ◌&&◌, List, [], ◌∷◌, ◌++◌, inl, inr, length, refl, ap, sym, ◌∙◌, subst, arith, Option, Some, None, ◌<◌, get_or, set, ◌+◌, eqb, take, add-one, zero-add}
-use Rattle.std.specs.List.{find, list_any, flat_map, range_with_len}
-use Rattle.std.proofs.lemmas.Bool.{or_cases, or_left, or_right, both_ways, and_parts, not-true, false_from_ne_true, cases_eq, cases_lt, cases_Bool}
-use Rattle.std.proofs.lemmas.List.Elements.{All-nil, All-push}
-use Rattle.std.proofs.lemmas.Option.{same_Some}
-use Rattle.listed.proofs.Lists.{contains_in, In_has, has_In, In_append_left, In_append_right, any_none, In_at, In_cases, In_map_cases, In_none, some_item, empty_or, filter_cases, filter_from, In_flat, In_flat_cases, In_place, In_append_cases}
-use Rattle.listed.specs.Lists.{here, In, has}
-use Rattle.row_book.specs.Sets.{NumSet, Is, Hit, union}
-use Rattle.row_book.specs.Repository.{Repository, against, clauses_of}
-use Rattle.search_terms.specs.declared.literals.Literal.{Literal}
-use Rattle.search_terms.specs.Closure.{literal, satisfies, HasGiven, Models}
-use Rattle.search_terms.specs.Form.{goal_sentence, clause_sentence, conflict_sentence, form}
-use Rattle.search_terms.specs.Tree.{is_open_need, is_undecided, Tree, IsTree, found_of, failed_leaves}
-use Rattle.search_terms.specs.Tree.Tree.{failed_leaf, found_leaf, split}
-use Rattle.search_terms.proofs.Sets.{find_some}
-use Rattle.search_terms.proofs.Models.{model_closed, clash_no_model}
-use Rattle.search_terms.proofs.Forms.{IsSentence, sentence_cases, models_from, in_either}
-use Rattle.search_terms.proofs.Forms.IsSentence.{of_goal, of_clause, of_conflict}
-use Rattle.suite_compare.specs.FirstChoices.{first_member, is_one_of, IsFirstChoice}
-use Rattle.std.proofs.Math.ListN.{get_or-eq_default}
-use Rattle.std.proofs.lemmas.List.{length-set, get_or-set_same, get_or-set_other, take_more}
-use Rattle.suite_compare.specs.Choices.{AreBelow, AreFlagged, has_first_member, HaveFirsts, IsServed, IsChosen}
-use Rattle.suite_compare.proofs.Groups.{In_last}
+use Rattle.std.{proofs.Common.{◌≡◌, ℕ, Bool, true, false, not, ◌&&◌, List, [], ◌∷◌, ◌++◌, inl, inr, length, refl, ap, sym, ◌∙◌, subst, arith, Option, Some, None, ◌<◌, get_or, set, ◌+◌, eqb, take, add-one, zero-add}, specs.List.{find, list_any, flat_map, range_with_len}, proofs.lemmas.Bool.{or_cases, or_left, or_right, both_ways, and_parts, not-true, false_from_ne_true, cases_eq, cases_lt, cases_Bool}, proofs.lemmas.List.Elements.{All-nil, All-push}, proofs.lemmas.Option.{same_Some}, proofs.Math.ListN.{get_or-eq_default}, proofs.lemmas.List.{length-set, get_or-set_same, get_or-set_other, take_more}, specs.Prelude.{◌↔◌}}
+use Rattle.listed.{proofs.Lists.{contains_in, In_has, has_In, In_append_left, In_append_right, any_none, In_at, In_cases, In_map_cases, In_none, some_item, empty_or, filter_cases, filter_from, In_flat, In_flat_cases, In_place, In_append_cases}, specs.Lists.{here, In, has}, proofs.Numbers.{range_more}}
+use Rattle.row_book.{specs.Sets.{NumSet, Is, Hit, union}, specs.Repository.{Repository, against, clauses_of}, specs.Book.{listed_for, repository_of, Sound}, specs.Uses.{row_id}, specs.declared.book.Book.{Book}, specs.Needs.{NeedsFit}}
+use Rattle.search_terms.{specs.declared.literals.Literal.{Literal}, specs.Closure.{literal, satisfies, HasGiven, Models}, specs.Form.{goal_sentence, clause_sentence, conflict_sentence, form}, specs.Tree.{is_open_need, is_undecided, Tree, IsTree, found_of, failed_leaves}, specs.Tree.Tree.{failed_leaf, found_leaf, split}, proofs.Sets.{find_some}, proofs.Models.{model_closed, clash_no_model}, proofs.Forms.{IsSentence, sentence_cases, models_from, in_either}, proofs.Forms.IsSentence.{of_goal, of_clause, of_conflict}, proofs.Ranges.{rows_long, listed_in, other_way}}
+use Rattle.suite_compare.{specs.FirstChoices.{first_member, is_one_of, IsFirstChoice}, specs.Choices.{AreBelow, AreFlagged, has_first_member, HaveFirsts, IsServed, IsChosen}, proofs.Groups.{In_last}, specs.Groups.{IsEntered}, specs.Suspects.{facing, without_choice, AreAllChosen, AreHeld, AreHolders, AreSuspects}}
 use Rattle.clause_pool.specs.Interned.{Interned, clause_at, clauses_at, ids_at}
-use Rattle.row_book.specs.Book.{listed_for, repository_of, Sound}
-use Rattle.row_book.specs.Uses.{row_id}
-use Rattle.row_book.specs.declared.book.Book.{Book}
-use Rattle.search_terms.proofs.Ranges.{rows_long, listed_in, other_way}
-use Rattle.std.specs.Prelude.{◌↔◌}
-use Rattle.listed.proofs.Numbers.{range_more}
-use Rattle.row_book.specs.Needs.{NeedsFit}
 use Rattle.repo_model.proofs.Elements.{range_cases, range_from}
-use Rattle.suite_compare.specs.Groups.{IsEntered}
-use Rattle.suite_compare.specs.Suspects.{facing, without_choice, AreAllChosen, AreHeld, AreHolders, AreSuspects}
 
 undecided_one : (a b : Bool) → a ≡ false → b ≡ false → (not a && not b) ≡ true
 undecided_one a b e f = rw (e, f) refl

@@ -1,35 +1,12 @@
 -- The kernel of an index decides for goals.
-use Rattle.std.proofs.Common.{◌≡◌, ℕ, ◌<◌, ◌≤◌, Bool, true, ◌&&◌, List, [], length, refl, ap, sym, ◌∙◌, subst, inl, inr, Some}
-use Rattle.std.specs.Prelude.{ltb}
-use Rattle.std.proofs.lemmas.Bool.{cases_Bool, ltb-true, ltb-false, and_from, and_parts, lt-ltb}
-use Rattle.listed.proofs.Bools.{cases_Option}
-use Rattle.row_book.specs.Flags.{flag}
-use Rattle.row_book.specs.Needs.{NeedsFit}
-use Rattle.row_book.specs.Repository.{Repository, Healthy, Coinst}
-use Rattle.row_book.specs.Rounds.{kernel, kernel_class, kernel_image}
-use Rattle.row_book.specs.Sets.{NumSet, Is, Within, Hit}
-use Rattle.listed.specs.Lists.{In}
-use Rattle.row_book.specs.Sound.{OfPackages, SoundRepository}
-use Rattle.listed.proofs.Lists.{In_map, In_map_cases}
-use Rattle.kernel_rounds.specs.Laws.{HasImage}
-use Rattle.kernel_rounds.proofs.Reached.{image_is_of_classes_lem, kernel_keeps_lem}
-use Rattle.relation_fields.specs.declared.packages.Home.{Home}
-use Rattle.relation_fields.specs.declared.packages.PackageFacts.{PackageFacts}
-use Rattle.repo_model.specs.Goals.{CoinstGoals, HasOneFor, is_named_by, packages_named}
-use Rattle.repo_model.specs.Repository.{suite_repository}
-use Rattle.repo_model.specs.Stanzas.{stanza_at}
-use Rattle.repo_model.specs.declared.goals.Goal.{Goal}
-use Rattle.repo_model.proofs.Healthy.{healthy_same}
-use Rattle.repo_model.proofs.Packages.{chosen_cases, chosen_from, length_clauses}
-use Rattle.search_terms.specs.Closure.{InRange}
-use Rattle.search_terms.specs.Form.{form}
-use Rattle.search_terms.specs.Tree.{IsTree, failed_leaves, found_of}
-use Rattle.search_terms.proofs.Computed.{search_tree_is}
-use Rattle.search_terms.proofs.Found.{finds_healthy}
-use Rattle.suite_compare.specs.Asking.{asked_tree, image_of, images_of, tree_of}
-use Rattle.suite_compare.specs.Laws.{CoinstImages, KernelDecides, VerdictIsJudged}
-use Rattle.suite_compare.proofs.SuiteKernels.{suite_sound, kernel_sound, classes_parts, classes_from, classes_fit}
-use Rattle.suite_compare.proofs.Ranged.{formula_ranged}
+use Rattle.std.{proofs.Common.{◌≡◌, ℕ, ◌<◌, ◌≤◌, Bool, true, ◌&&◌, List, [], length, refl, ap, sym, ◌∙◌, subst, inl, inr, Some}, specs.Prelude.{ltb}, proofs.lemmas.Bool.{cases_Bool, ltb-true, ltb-false, and_from, and_parts, lt-ltb}}
+use Rattle.listed.{proofs.Bools.{cases_Option}, specs.Lists.{In}, proofs.Lists.{In_map, In_map_cases}}
+use Rattle.row_book.{specs.Flags.{flag}, specs.Needs.{NeedsFit}, specs.Repository.{Repository, Healthy, Coinst}, specs.Rounds.{kernel, kernel_class, kernel_image}, specs.Sets.{NumSet, Is, Within, Hit}, specs.Sound.{OfPackages, SoundRepository}}
+use Rattle.kernel_rounds.{specs.Laws.{HasImage}, proofs.Reached.{image_is_of_classes_lem, kernel_keeps_lem}}
+use Rattle.relation_fields.{specs.declared.packages.Home.{Home}, specs.declared.packages.PackageFacts.{PackageFacts}}
+use Rattle.repo_model.{specs.Goals.{CoinstGoals, HasOneFor, is_named_by, packages_named}, specs.Repository.{suite_repository}, specs.Stanzas.{stanza_at}, specs.declared.goals.Goal.{Goal}, proofs.Healthy.{healthy_same}, proofs.Packages.{chosen_cases, chosen_from, length_clauses}}
+use Rattle.search_terms.{specs.Closure.{InRange}, specs.Form.{form}, specs.Tree.{IsTree, failed_leaves, found_of}, proofs.Computed.{search_tree_is}, proofs.Found.{finds_healthy}}
+use Rattle.suite_compare.{specs.Asking.{asked_tree, image_of, images_of, tree_of}, specs.Laws.{CoinstImages, KernelDecides, VerdictIsJudged}, proofs.SuiteKernels.{suite_sound, kernel_sound, classes_parts, classes_from, classes_fit}, proofs.Ranged.{formula_ranged}}
 
 module _ (home : Home) (stanzas : List PackageFacts) where
   abbrev pub R : Repository

@@ -1,24 +1,10 @@
 -- What goals ask for, gathered goal by goal.
-use Rattle.std.proofs.Common.{◌≡◌, ℕ, ◌<◌, Bool, List, length, get_or, map, sym, ap, subst, ◌∙◌, zero-add}
-use Rattle.std.specs.Prelude.{◌↔◌}
-use Rattle.listed.proofs.Lists.{filled, In_at, In_map, In_map_cases}
-use Rattle.listed.specs.Lists.{Ascending, In}
-use Rattle.row_book.specs.Flattening.{packages}
-use Rattle.row_book.specs.Repository.{Repository}
-use Rattle.row_book.specs.Rounds.{kernel_class}
-use Rattle.row_book.specs.Sound.{SoundRepository}
-use Rattle.listed.proofs.Orders.{ascending_filter, ascending_same}
-use Rattle.row_book.proofs.Numbers.{at_numbers, length_numbers}
-use Rattle.relation_fields.specs.declared.packages.PackageFacts.{PackageFacts}
-use Rattle.relation_fields.specs.declared.packages.Home.{Home}
-use Rattle.repo_model.specs.Goals.{is_named_by, packages_named}
-use Rattle.repo_model.specs.Repository.{packages_of, suite_repository}
-use Rattle.repo_model.specs.Stanzas.{stanza_at}
-use Rattle.repo_model.specs.declared.goals.Goal.{Goal}
-use Rattle.repo_model.proofs.Elements.{range_ascending}
-use Rattle.repo_model.proofs.Packages.{chosen_cases, length_clauses}
-use Rattle.suite_compare.specs.Asking.{goal_classes}
-use Rattle.suite_compare.proofs.SuiteKernels.{classes_ascending, classes_from, classes_parts, suite_sound}
+use Rattle.std.{proofs.Common.{◌≡◌, ℕ, ◌<◌, Bool, List, length, get_or, map, sym, ap, subst, ◌∙◌, zero-add}, specs.Prelude.{◌↔◌}}
+use Rattle.listed.{proofs.Lists.{filled, In_at, In_map, In_map_cases}, specs.Lists.{Ascending, In}, proofs.Orders.{ascending_filter, ascending_same}}
+use Rattle.row_book.{specs.Flattening.{packages}, specs.Repository.{Repository}, specs.Rounds.{kernel_class}, specs.Sound.{SoundRepository}, proofs.Numbers.{at_numbers, length_numbers}}
+use Rattle.relation_fields.{specs.declared.packages.PackageFacts.{PackageFacts}, specs.declared.packages.Home.{Home}}
+use Rattle.repo_model.{specs.Goals.{is_named_by, packages_named}, specs.Repository.{packages_of, suite_repository}, specs.Stanzas.{stanza_at}, specs.declared.goals.Goal.{Goal}, proofs.Elements.{range_ascending}, proofs.Packages.{chosen_cases, length_clauses}}
+use Rattle.suite_compare.{specs.Asking.{goal_classes}, proofs.SuiteKernels.{classes_ascending, classes_from, classes_parts, suite_sound}}
 
 -- the classes of packages, from the table of all classes
 module _ (limit : ℕ) (hold : Bool) (R : Repository) (sound : SoundRepository R) (class_of chosen : List ℕ) (is : class_of ≡ map (kernel_class limit hold R) (packages R)) (within : (n : ℕ) → In n chosen → n < length R.clauses) where

@@ -1,11 +1,7 @@
 -- Items at their places, and places under keys.
-use Rattle.std.proofs.Common.{◌≡◌, ℕ, ◌<◌, ◌≤◌, ◌+◌, List, [], ◌∷◌, ◌++◌, ◌⊎◌, inl, inr, length, get_or, map, set, take, refl, sym, ◌∙◌, ap, ap₂, subst, arith}
-use Rattle.std.specs.List.{flat_map}
-use Rattle.std.proofs.lemmas.Bool.{cases_eq}
-use Rattle.std.proofs.lemmas.List.{length_push, get_or-set_same, get_or-set_other, get_or_read, get_or_push, get_or_append_left, flat_map_more, map_more, take_more, take_all}
-use Rattle.listed.specs.Lists.{In, here}
+use Rattle.std.{proofs.Common.{◌≡◌, ℕ, ◌<◌, ◌≤◌, ◌+◌, List, [], ◌∷◌, ◌++◌, ◌⊎◌, inl, inr, length, get_or, map, set, take, refl, sym, ◌∙◌, ap, ap₂, subst, arith}, specs.List.{flat_map}, proofs.lemmas.Bool.{cases_eq}, proofs.lemmas.List.{length_push, get_or-set_same, get_or-set_other, get_or_read, get_or_push, get_or_append_left, flat_map_more, map_more, take_more, take_all}}
+use Rattle.listed.{specs.Lists.{In, here}, proofs.Lists.{In_cases, In_none, In_append_cases, In_append_left, In_append_right}}
 use Rattle.row_book.specs.Book.{listed_for}
-use Rattle.listed.proofs.Lists.{In_cases, In_none, In_append_cases, In_append_left, In_append_right}
 use Rattle.suite_compare.specs.Groups.{AreEach, ArePlacesTo, IsEntered}
 
 pub In_last : {X : Type 0} (xs new : List X) (x y : X) → new ≡ xs ++ x ∷ [] → In y new → In y xs ⊎ (y ≡ x)

@@ -1,35 +1,12 @@
 -- What is installed for goals is healthy, and has a package for each of them.
-use Rattle.std.proofs.Common.{◌≡◌, ℕ, Bool, true, false, List, length, filter, refl, sym, subst, arith, Some}
-use Rattle.std.proofs.Math.Path.{fun_ext}
-use Rattle.install_lift.specs.Lifting.{lift_of}
-use Rattle.install_lift.specs.Laws.{HoldsMembers}
-use Rattle.install_lift.specs.Trimming.{IsHealthyPart}
-use Rattle.install_lift.proofs.Computed.{lift_is_of, trim_is_of}
-use Rattle.install_lift.proofs.Lifted.{lift_is_healthy}
-use Rattle.install_lift.proofs.Trimmed.{trim_is_healthy}
-use Rattle.relation_fields.specs.declared.packages.Home.{Home}
-use Rattle.relation_fields.specs.declared.packages.PackageFacts.{PackageFacts}
-use Rattle.repo_model.specs.Goals.{HasOneFor, packages_named}
-use Rattle.repo_model.specs.Repository.{packages_of, suite_repository}
-use Rattle.repo_model.specs.Stanzas.{HealthyStanzas}
-use Rattle.repo_model.specs.declared.goals.Goal.{Goal}
-use Rattle.repo_model.proofs.Elements.{range_ascending, range_from}
-use Rattle.repo_model.proofs.Healthy.{healthy_same}
-use Rattle.listed.specs.Lists.{In, has}
-use Rattle.row_book.specs.Flags.{flag}
-use Rattle.row_book.specs.Repository.{Repository, Healthy}
-use Rattle.row_book.specs.Rounds.{kernel, kernel_steps}
-use Rattle.row_book.specs.Sets.{Hit, HitsAll, Is, NumSet}
-use Rattle.listed.proofs.Lists.{In_has, In_map, In_map_cases, filter_cases, filter_from, has_In}
-use Rattle.listed.proofs.Orders.{ascending_filter}
-use Rattle.search_terms.specs.Laws.{Solves}
-use Rattle.search_terms.specs.Tree.{found_of}
-use Rattle.search_terms.proofs.Found.{finds_healthy}
-use Rattle.suite_compare.specs.Asking.{asked_tree, image_of, images_of, installation, installed, wanted_by}
-use Rattle.suite_compare.proofs.Deciding.{asked_is, asked_range, named_parts, named_within, sound}
-use Rattle.suite_compare.proofs.SuiteKernels.{classes_parts}
-use Rattle.suite_compare.specs.Answering.{Serves}
-use Rattle.suite_compare.specs.Laws.{InstallationsServe}
+use Rattle.std.{proofs.Common.{◌≡◌, ℕ, Bool, true, false, List, length, filter, refl, sym, subst, arith, Some}, proofs.Math.Path.{fun_ext}}
+use Rattle.install_lift.{specs.Lifting.{lift_of}, specs.Laws.{HoldsMembers}, specs.Trimming.{IsHealthyPart}, proofs.Computed.{lift_is_of, trim_is_of}, proofs.Lifted.{lift_is_healthy}, proofs.Trimmed.{trim_is_healthy}}
+use Rattle.relation_fields.{specs.declared.packages.Home.{Home}, specs.declared.packages.PackageFacts.{PackageFacts}}
+use Rattle.repo_model.{specs.Goals.{HasOneFor, packages_named}, specs.Repository.{packages_of, suite_repository}, specs.Stanzas.{HealthyStanzas}, specs.declared.goals.Goal.{Goal}, proofs.Elements.{range_ascending, range_from}, proofs.Healthy.{healthy_same}}
+use Rattle.listed.{specs.Lists.{In, has}, proofs.Lists.{In_has, In_map, In_map_cases, filter_cases, filter_from, has_In}, proofs.Orders.{ascending_filter}}
+use Rattle.row_book.{specs.Flags.{flag}, specs.Repository.{Repository, Healthy}, specs.Rounds.{kernel, kernel_steps}, specs.Sets.{Hit, HitsAll, Is, NumSet}}
+use Rattle.search_terms.{specs.Laws.{Solves}, specs.Tree.{found_of}, proofs.Found.{finds_healthy}}
+use Rattle.suite_compare.{specs.Asking.{asked_tree, image_of, images_of, installation, installed, wanted_by}, proofs.Deciding.{asked_is, asked_range, named_parts, named_within, sound}, proofs.SuiteKernels.{classes_parts}, specs.Answering.{Serves}, specs.Laws.{InstallationsServe}}
 
 -- a set of numbers that are kept is that of the test
 pub kept : (n : ℕ) (I : NumSet) (xs : List ℕ) → ((m : ℕ) → Is I m → In m xs) → has (filter I xs) n ≡ I n

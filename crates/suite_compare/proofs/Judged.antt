@@ -1,35 +1,11 @@
 -- Verdicts on kinds.
-use Rattle.std.proofs.Common.{◌≡◌, ℕ, ◌<◌, Bool, true, false, not, List, [], ◌∷◌, inl, inr, length, get_or, refl, sym, ◌∙◌, ap, subst, arith, Some}
-use Rattle.std.specs.List.{flat_map}
-use Rattle.std.proofs.lemmas.Bool.{cases_lt, and_from, and_parts, cases_Bool, both_ways, false≢true, lt-ltb, le-ltb}
-use Rattle.std.proofs.lemmas.List.{get_or-map, get_or_past, length-map}
-use Rattle.listed.proofs.Lists.{in_cond_cases, in_cond_first, In_flat_cases, In_flat, In_cases, In_none, In_at, has_In}
+use Rattle.std.{proofs.Common.{◌≡◌, ℕ, ◌<◌, Bool, true, false, not, List, [], ◌∷◌, inl, inr, length, get_or, refl, sym, ◌∙◌, ap, subst, arith, Some}, specs.List.{flat_map}, proofs.lemmas.Bool.{cases_lt, and_from, and_parts, cases_Bool, both_ways, false≢true, lt-ltb, le-ltb}, proofs.lemmas.List.{get_or-map, get_or_past, length-map}}
+use Rattle.listed.{proofs.Lists.{in_cond_cases, in_cond_first, In_flat_cases, In_flat, In_cases, In_none, In_at, has_In}, specs.Lists.{In, has}}
 use Rattle.clause_pool.specs.Interned.{Interned}
-use Rattle.listed.specs.Lists.{In, has}
-use Rattle.row_book.specs.Book.{listed_for, repository_of, Sound}
-use Rattle.row_book.specs.Needs.{AreNeeds, IsNeed, NeedsFit}
-use Rattle.row_book.specs.Repository.{Repository}
-use Rattle.row_book.specs.declared.book.Book.{Book}
-use Rattle.suite_compare.specs.FirstChoices.{IsFirstChoice}
-use Rattle.search_terms.specs.Form.{form}
-use Rattle.search_terms.specs.Tree.{Tree, IsTree, found_of, failed_leaves}
-use Rattle.search_terms.proofs.Computed.{search_tree_is}
-use Rattle.search_terms.specs.Closure.{InRange}
-use Rattle.search_terms.proofs.Found.{one_tree}
-use Rattle.search_terms.proofs.Ranges.{form_ranged, rows_long}
-use Rattle.clause_solver.specs.Verdicts.{IsSearchVerdict, IsVerdictOf}
-use Rattle.clause_solver.specs.declared.outcomes.Verdict.{Verdict}
-use Rattle.clause_solver.specs.declared.outcomes.Verdict.TheVariants.{Yes, No, Spent}
-use Rattle.suite_compare.specs.Bad.{bad, bad_entry, is_bad, AreAllBad, AreBad, AreSingles}
-use Rattle.suite_compare.specs.Choices.{ArePeaceful}
-use Rattle.suite_compare.specs.Kinds.{alone, alone_in, kernel_in, kernel_verdict, together, together_in, IsJudge}
-use Rattle.suite_compare.specs.Asking.{tree_of, verdict_of}
-use Rattle.suite_compare.specs.Report.{is_yes}
-use Rattle.suite_compare.specs.Suspects.{AreChoices, AreSuspects}
-use Rattle.suite_compare.specs.declared.verdicts.Bad.{Bad}
-use Rattle.suite_compare.specs.declared.verdicts.Judge.{Judge}
-use Rattle.suite_compare.specs.declared.suspect.Choices.{Choices}
-use Rattle.suite_compare.proofs.Chosen.{choice_tells, choices_join}
+use Rattle.row_book.{specs.Book.{listed_for, repository_of, Sound}, specs.Needs.{AreNeeds, IsNeed, NeedsFit}, specs.Repository.{Repository}, specs.declared.book.Book.{Book}}
+use Rattle.suite_compare.{specs.FirstChoices.{IsFirstChoice}, specs.Bad.{bad, bad_entry, is_bad, AreAllBad, AreBad, AreSingles}, specs.Choices.{ArePeaceful}, specs.Kinds.{alone, alone_in, kernel_in, kernel_verdict, together, together_in, IsJudge}, specs.Asking.{tree_of, verdict_of}, specs.Report.{is_yes}, specs.Suspects.{AreChoices, AreSuspects}, specs.declared.verdicts.Bad.{Bad}, specs.declared.verdicts.Judge.{Judge}, specs.declared.suspect.Choices.{Choices}, proofs.Chosen.{choice_tells, choices_join}}
+use Rattle.search_terms.{specs.Form.{form}, specs.Tree.{Tree, IsTree, found_of, failed_leaves}, proofs.Computed.{search_tree_is}, specs.Closure.{InRange}, proofs.Found.{one_tree}, proofs.Ranges.{form_ranged, rows_long}}
+use Rattle.clause_solver.{specs.Verdicts.{IsSearchVerdict, IsVerdictOf}, specs.declared.outcomes.Verdict.{Verdict}, specs.declared.outcomes.Verdict.TheVariants.{Yes, No, Spent}}
 
 pub need_at : (kinds : List (List ℕ)) (k : ℕ) → k < length kinds → AreNeeds kinds → IsNeed (listed_for kinds k)
 need_at kinds k l needs = needs (listed_for kinds k) (In_at kinds k [] l)

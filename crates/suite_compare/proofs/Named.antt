@@ -1,37 +1,13 @@
 -- The names of both suites: their classes, and the sides of a comparison.
-use Rattle.std.proofs.Common.{◌≡◌, ℕ, ◌<◌, ◌+◌, Bool, true, List, [], ◌∷◌, ◌++◌, length, get_or, take, map, refl, ◌∙◌, ap, subst, sym, ap₂, arith, inl, inr, ◌≤◌, false, cond, filter}
-use Rattle.std.specs.Str.{bytes_eq}
-use Rattle.std.proofs.lemmas.Slice.Eq.{bytes_eq-Decides}
-use Rattle.row_book.specs.Needs.{IsNeed}
-use Rattle.listed.specs.Lists.{In}
-use Rattle.listed.proofs.Lists.{any_cases, any_from, filled, In_map_cases, In_place}
+use Rattle.std.{proofs.Common.{◌≡◌, ℕ, ◌<◌, ◌+◌, Bool, true, List, [], ◌∷◌, ◌++◌, length, get_or, take, map, refl, ◌∙◌, ap, subst, sym, ap₂, arith, inl, inr, ◌≤◌, false, cond, filter}, specs.Str.{bytes_eq}, proofs.lemmas.Slice.Eq.{bytes_eq-Decides}, proofs.lemmas.List.{get_or-map, length-map, append-nil, get_or_append_left, get_or_push, length_push, take_all, take_more}, proofs.lemmas.List.Elements.{filter-append}}
+use Rattle.row_book.{specs.Needs.{IsNeed}, specs.Book.{listed_for, Sound}, specs.Repository.{Repository}, specs.Rounds.{kernel}}
+use Rattle.listed.{specs.Lists.{In}, proofs.Lists.{any_cases, any_from, filled, In_map_cases, In_place}}
 use Rattle.clause_pool.proofs.Order.{ordered_parts}
-use Rattle.relation_fields.specs.declared.packages.Home.{Home}
-use Rattle.relation_fields.specs.declared.packages.PackageFacts.{PackageFacts}
-use Rattle.repo_model.specs.Goals.{any_version, names_in, packages_named}
-use Rattle.repo_model.specs.Repository.{suite_repository}
-use Rattle.repo_model.specs.Stanzas.{no_stanza}
-use Rattle.repo_model.proofs.Chosen.{named_is, number_from}
-use Rattle.suite_compare.specs.Asking.{image_of, tree_of, verdict_of}
-use Rattle.suite_compare.specs.Names.{stands_in}
-use Rattle.suite_compare.proofs.Gathering.{image_filled, named_inside}
-use Rattle.suite_compare.proofs.Groups.{map_pushed, pushed_at}
-use Rattle.suite_compare.proofs.SuiteKernels.{classes_ascending, classes_fit}
-use Rattle.std.proofs.lemmas.List.{get_or-map, length-map, append-nil, get_or_append_left, get_or_push, length_push, take_all, take_more}
-use Rattle.row_book.specs.Book.{listed_for, Sound}
-use Rattle.row_book.specs.Repository.{Repository}
-use Rattle.row_book.specs.Rounds.{kernel}
-use Rattle.repo_model.specs.declared.suite.Suite.{Suite}
+use Rattle.relation_fields.{specs.declared.packages.Home.{Home}, specs.declared.packages.PackageFacts.{PackageFacts}}
+use Rattle.repo_model.{specs.Goals.{any_version, names_in, packages_named}, specs.Repository.{suite_repository}, specs.Stanzas.{no_stanza}, proofs.Chosen.{named_is, number_from}, specs.declared.suite.Suite.{Suite}}
+use Rattle.suite_compare.{specs.Asking.{image_of, tree_of, verdict_of}, specs.Names.{stands_in}, proofs.Gathering.{image_filled, named_inside}, proofs.Groups.{map_pushed, pushed_at}, proofs.SuiteKernels.{classes_ascending, classes_fit}, specs.Comparing.{named_verdict, AreVerdicts, IsPart, IsSide}, specs.Kinds.{kernel_in, AreKinds, IsJudge, alone_in, together_in}, specs.declared.sides.Side.{Side}, specs.declared.verdicts.Judge.{Judge}, specs.declared.sides.Part.{Part}}
 use Rattle.search_terms.proofs.Ranges.{rows_long}
-use Rattle.clause_solver.specs.Outcomes.{IsBudget}
-use Rattle.clause_solver.specs.Solvers.{IsReady}
-use Rattle.suite_compare.specs.Comparing.{named_verdict, AreVerdicts, IsPart, IsSide}
-use Rattle.suite_compare.specs.Kinds.{kernel_in, AreKinds, IsJudge, alone_in, together_in}
-use Rattle.suite_compare.specs.declared.sides.Side.{Side}
-use Rattle.suite_compare.specs.declared.verdicts.Judge.{Judge}
-use Rattle.std.proofs.lemmas.List.Elements.{filter-append}
-use Rattle.clause_solver.specs.declared.outcomes.Verdict.{Verdict}
-use Rattle.suite_compare.specs.declared.sides.Part.{Part}
+use Rattle.clause_solver.{specs.Outcomes.{IsBudget}, specs.Solvers.{IsReady}, specs.declared.outcomes.Verdict.{Verdict}}
 
 -- the image of a name that some package has is a need of the kernel
 pub image_need : (limit : ℕ) (hold : Bool) → (home : Home) (stanzas : List PackageFacts) (name : List ℕ) → stands_in stanzas name ≡ true → IsNeed (image_of limit hold home stanzas (any_version name))

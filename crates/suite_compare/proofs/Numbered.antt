@@ -1,13 +1,9 @@
 -- Kinds and pairs of kinds, numbered as they came.
-use Rattle.std.proofs.Common.{◌≡◌, ℕ, ◌<◌, ◌+◌, List, [], ◌∷◌, ◌++◌, inl, inr, length, get_or, map, sym, ◌∙◌, ap, ap₂, subst, arith, position, nat_eq, Some}
-use Rattle.std.specs.Cmp.Lexicographic.{pointwise}
-use Rattle.std.proofs.lemmas.List.{length-map, length_push, get_or-map, get_or_push, get_or_append_left, map-append}
-use Rattle.listed.specs.Lists.{In}
-use Rattle.listed.proofs.Lists.{In_at, In_map_cases, In_none}
+use Rattle.std.{proofs.Common.{◌≡◌, ℕ, ◌<◌, ◌+◌, List, [], ◌∷◌, ◌++◌, inl, inr, length, get_or, map, sym, ◌∙◌, ap, ap₂, subst, arith, position, nat_eq, Some}, specs.Cmp.Lexicographic.{pointwise}, proofs.lemmas.List.{length-map, length_push, get_or-map, get_or_push, get_or_append_left, map-append}}
+use Rattle.listed.{specs.Lists.{In}, proofs.Lists.{In_at, In_map_cases, In_none}}
 use Rattle.row_book.specs.Book.{listed_for}
 use Rattle.class_merge.proofs.Places.{place_some}
-use Rattle.suite_compare.specs.Kinds.{joint_key, AreJoined, AreKinds, AreNumbered}
-use Rattle.suite_compare.proofs.Groups.{each_more, each_none, each_weaker, In_last}
+use Rattle.suite_compare.{specs.Kinds.{joint_key, AreJoined, AreKinds, AreNumbered}, proofs.Groups.{each_more, each_none, each_weaker, In_last}}
 
 pub numbered_none : (key : ℕ → List ℕ) (seen : List (List ℕ)) (firsts of : List ℕ) → seen ≡ [] → firsts ≡ [] → of ≡ [] → AreNumbered key 0 seen firsts of
 numbered_none key seen firsts of s f o = record { are = s ∙ sym (ap (map key) f); below = λ i j. absurd (In_none (subst (λ z. In i z) f j)); each = each_none _ 0 of o }

@@ -1,35 +1,10 @@
 -- The lines of pairs: the names of which something is told beside those of a pair of kinds, and their places.
-use Rattle.std.proofs.Common.{◌≡◌, ℕ, ◌<◌, Bool, true, false, cond, List, [], inl, inr, length, get_or, refl, sym, ◌∙◌, ap, ap₂, subst, Option, Some, None, ◌+◌, ◌∷◌, ◌++◌, map, filter, ltb, arith}
-use Rattle.std.specs.Prelude.{is_some}
-use Rattle.std.specs.List.{flat_map}
-use Rattle.std.proofs.lemmas.Bool.{cases_Bool, both_ways, false≢true, lt-ltb, le-ltb}
-use Rattle.listed.proofs.Lists.{In_flat_cases, In_flat, In_none, In_has, has_In, flat_same, filter_from, filter_cases, filter_same, In_at}
-use Rattle.listed.specs.Lists.{In, has, Ascending, here, there}
-use Rattle.row_book.specs.Book.{listed_for}
-use Rattle.clause_solver.specs.declared.outcomes.Verdict.{Verdict}
-use Rattle.clause_solver.specs.declared.outcomes.Verdict.TheVariants.{Yes, No, Spent}
-use Rattle.suite_compare.specs.Bad.{AreBad, AreAllBad}
-use Rattle.suite_compare.specs.Kinds.{alone_in, together_in, AreJoined}
-use Rattle.suite_compare.specs.Partners.{beside, beside_all, is_open, new_kind, old_kind, ArePartners, IsJointTable}
-use Rattle.suite_compare.specs.Report.{finding, is_yes, pair_line, with_later}
-use Rattle.suite_compare.specs.Telling.{found_beside, partners_at, told_after, told_pair}
-use Rattle.suite_compare.specs.declared.gather.JointTable.{JointTable}
-use Rattle.suite_compare.specs.declared.gather.Partners.{Partners}
-use Rattle.suite_compare.specs.declared.report.Finding.{Finding}
-use Rattle.suite_compare.specs.declared.report.Finding.TheVariants.{Broken, Open}
-use Rattle.suite_compare.specs.declared.verdicts.Bad.{Bad}
-use Rattle.suite_compare.specs.declared.verdicts.Judge.{Judge}
-use Rattle.std.proofs.lemmas.List.{append-nil, flat_map_more}
-use Rattle.std.proofs.lemmas.List.Elements.{filter-append}
-use Rattle.std.proofs.lemmas.List.Folds.{flat_map-map}
-use Rattle.std.proofs.lemmas.List.FromFn.{fill_by_all}
-use Rattle.row_book.specs.Numbers.{numbers}
-use Rattle.listed.proofs.Orders.{ascending_same, ascending_filter}
-use Rattle.row_book.proofs.Numbers.{numbers_from, numbers_parts, numbers_ascending, numbers_ranged}
-use Rattle.suite_compare.specs.Comparing.{told_pairs, goes_alone, AreVerdicts, IsSide, IsTable}
-use Rattle.suite_compare.specs.declared.report.ReportLine.{ReportLine}
+use Rattle.std.{proofs.Common.{◌≡◌, ℕ, ◌<◌, Bool, true, false, cond, List, [], inl, inr, length, get_or, refl, sym, ◌∙◌, ap, ap₂, subst, Option, Some, None, ◌+◌, ◌∷◌, ◌++◌, map, filter, ltb, arith}, specs.Prelude.{is_some}, specs.List.{flat_map}, proofs.lemmas.Bool.{cases_Bool, both_ways, false≢true, lt-ltb, le-ltb}, proofs.lemmas.List.{append-nil, flat_map_more}, proofs.lemmas.List.Elements.{filter-append}, proofs.lemmas.List.Folds.{flat_map-map}, proofs.lemmas.List.FromFn.{fill_by_all}}
+use Rattle.listed.{proofs.Lists.{In_flat_cases, In_flat, In_none, In_has, has_In, flat_same, filter_from, filter_cases, filter_same, In_at}, specs.Lists.{In, has, Ascending, here, there}, proofs.Orders.{ascending_same, ascending_filter}}
+use Rattle.row_book.{specs.Book.{listed_for}, specs.Numbers.{numbers}, proofs.Numbers.{numbers_from, numbers_parts, numbers_ascending, numbers_ranged}}
+use Rattle.clause_solver.{specs.declared.outcomes.Verdict.{Verdict}, specs.declared.outcomes.Verdict.TheVariants.{Yes, No, Spent}}
+use Rattle.suite_compare.{specs.Bad.{AreBad, AreAllBad}, specs.Kinds.{alone_in, together_in, AreJoined}, specs.Partners.{beside, beside_all, is_open, new_kind, old_kind, ArePartners, IsJointTable}, specs.Report.{finding, is_yes, pair_line, with_later}, specs.Telling.{found_beside, partners_at, told_after, told_pair}, specs.declared.gather.JointTable.{JointTable}, specs.declared.gather.Partners.{Partners}, specs.declared.report.Finding.{Finding}, specs.declared.report.Finding.TheVariants.{Broken, Open}, specs.declared.verdicts.Bad.{Bad}, specs.declared.verdicts.Judge.{Judge}, specs.Comparing.{told_pairs, goes_alone, AreVerdicts, IsSide, IsTable}, specs.declared.report.ReportLine.{ReportLine}, specs.declared.sides.Side.{Side}}
 use Rattle.clause_pool.proofs.Lists.{In_place}
-use Rattle.suite_compare.specs.declared.sides.Side.{Side}
 
 finding_yes : (v : Verdict) → finding v Yes ≡ None
 finding_yes Yes = refl

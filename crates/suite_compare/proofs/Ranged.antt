@@ -1,18 +1,8 @@
 -- The classes in the formula of a sound repository and goals are its packages.
-use Rattle.std.proofs.Common.{ℕ, ◌<◌, false, List, [], ◌∷◌, length, get_or, subst}
-use Rattle.std.specs.Prelude.{All}
-use Rattle.std.proofs.lemmas.List.Elements.{All-nil, All-cons, Contains-get_or}
-use Rattle.listed.proofs.Lists.{contains_in}
-use Rattle.row_book.specs.Needs.{NeedsFit}
-use Rattle.row_book.specs.Repository.{Repository, conflicts_of}
-use Rattle.listed.specs.Lists.{In}
-use Rattle.row_book.specs.Sound.{SoundRepository}
-use Rattle.search_terms.specs.declared.literals.Literal.{Literal}
-use Rattle.search_terms.specs.Closure.{literal, InRange}
-use Rattle.search_terms.specs.Form.{goal_sentence, form}
-use Rattle.search_terms.proofs.Forms.{IsSentence, sentence_cases}
-use Rattle.search_terms.proofs.Forms.IsSentence.{of_goal, of_clause, of_conflict}
-use Rattle.search_terms.proofs.Ranges.{other_way, listed_in, members_ranged}
+use Rattle.std.{proofs.Common.{ℕ, ◌<◌, false, List, [], ◌∷◌, length, get_or, subst}, specs.Prelude.{All}, proofs.lemmas.List.Elements.{All-nil, All-cons, Contains-get_or}}
+use Rattle.listed.{proofs.Lists.{contains_in}, specs.Lists.{In}}
+use Rattle.row_book.{specs.Needs.{NeedsFit}, specs.Repository.{Repository, conflicts_of}, specs.Sound.{SoundRepository}}
+use Rattle.search_terms.{specs.declared.literals.Literal.{Literal}, specs.Closure.{literal, InRange}, specs.Form.{goal_sentence, form}, proofs.Forms.{IsSentence, sentence_cases}, proofs.Forms.IsSentence.{of_goal, of_clause, of_conflict}, proofs.Ranges.{other_way, listed_in, members_ranged}}
 
 pub formula_ranged : (R : Repository) (goals : List (List ℕ)) → SoundRepository R → NeedsFit (length R.clauses) goals → InRange (length R.clauses) (form R goals)
 formula_ranged R goals sound fit = λ k d lt.

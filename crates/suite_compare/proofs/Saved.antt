@@ -1,37 +1,11 @@
 -- Searches that are not made.
-use Rattle.std.proofs.Common.{◌≡◌, ℕ, ◌<◌, true, false, ◌||◌, Bool, List, [], ◌∷◌, inl, inr, length, refl, sym, ◌∙◌, ap, ap₂, subst, arith, eqb, Option, Some, None, ◌⊎◌, ◌++◌, slice_index_or}
-use Rattle.std.proofs.lemmas.Bool.{and_from, or_left, le-ltb, both_ways, eq-eqb, eqb-true}
-use Rattle.std.proofs.lemmas.List.Elements.{All-contains, All-cons, All-nil, All-head}
-use Rattle.listed.proofs.Lists.{in_contains, has_In, contains_in, find_none, find_some}
-use Rattle.listed.specs.Lists.{In, here, there}
-use Rattle.row_book.specs.Book.{listed_for, repository_of, Sound}
-use Rattle.row_book.specs.Needs.{NeedsFit}
-use Rattle.row_book.specs.Repository.{Repository}
-use Rattle.search_terms.specs.declared.literals.Literal.{Literal}
-use Rattle.search_terms.specs.Closure.{literal, negation, is_same, Clashes, InClosure, IsClosedUnder, IsUnitClosed, IsClosure}
-use Rattle.search_terms.specs.Form.{conflict_sentence, form, goal_sentence, repository_form}
-use Rattle.search_terms.specs.Tree.Tree.{failed_leaf, found_leaf, split}
-use Rattle.search_terms.proofs.Certificates.{same_refl}
-use Rattle.search_terms.proofs.Forms.{conflict_in, goal_in}
-use Rattle.search_terms.proofs.Found.{one_tree}
-use Rattle.clause_solver.specs.declared.outcomes.Verdict.TheVariants.{No, Yes}
-use Rattle.suite_compare.specs.Asking.{tree_of, verdict_of}
-use Rattle.suite_compare.specs.Kinds.{kernel_in, together_in, AreRivals, IsJudge, alone_in, together, IsOneClass}
-use Rattle.suite_compare.specs.declared.verdicts.Judge.{Judge}
-use Rattle.suite_compare.proofs.Judged.{pair_fits, tree_is}
-use Rattle.std.specs.Prelude.{Contains}
-use Rattle.std.specs.List.{find}
-use Rattle.std.specs.Option.{option_map_or}
+use Rattle.std.{proofs.Common.{◌≡◌, ℕ, ◌<◌, true, false, ◌||◌, Bool, List, [], ◌∷◌, inl, inr, length, refl, sym, ◌∙◌, ap, ap₂, subst, arith, eqb, Option, Some, None, ◌⊎◌, ◌++◌, slice_index_or}, proofs.lemmas.Bool.{and_from, or_left, le-ltb, both_ways, eq-eqb, eqb-true}, proofs.lemmas.List.Elements.{All-contains, All-cons, All-nil, All-head}, specs.Prelude.{Contains}, specs.List.{find}, specs.Option.{option_map_or}}
+use Rattle.listed.{proofs.Lists.{in_contains, has_In, contains_in, find_none, find_some}, specs.Lists.{In, here, there}}
+use Rattle.row_book.{specs.Book.{listed_for, repository_of, Sound}, specs.Needs.{NeedsFit}, specs.Repository.{Repository}, specs.declared.book.Book.{Book}}
+use Rattle.search_terms.{specs.declared.literals.Literal.{Literal}, specs.Closure.{literal, negation, is_same, Clashes, InClosure, IsClosedUnder, IsUnitClosed, IsClosure}, specs.Form.{conflict_sentence, form, goal_sentence, repository_form}, specs.Tree.Tree.{failed_leaf, found_leaf, split}, proofs.Certificates.{same_refl}, proofs.Forms.{conflict_in, goal_in}, proofs.Found.{one_tree}, specs.Tree.{is_open_need, Tree, IsTree}}
+use Rattle.clause_solver.{specs.declared.outcomes.Verdict.TheVariants.{No, Yes}, specs.declared.outcomes.Verdict.{Verdict}, proofs.Calm.{closure_closed}, proofs.Preparing.{clash_part}, proofs.Running.{closed_part}}
+use Rattle.suite_compare.{specs.Asking.{tree_of, verdict_of}, specs.Kinds.{kernel_in, together_in, AreRivals, IsJudge, alone_in, together, IsOneClass}, specs.declared.verdicts.Judge.{Judge}, proofs.Judged.{pair_fits, tree_is}, specs.Bad.{entered_verdict, AreAllBadTo}, specs.Report.{is_yes}, specs.declared.verdicts.Bad.{Bad}}
 use Rattle.clause_pool.specs.Interned.{Interned}
-use Rattle.row_book.specs.declared.book.Book.{Book}
-use Rattle.search_terms.specs.Tree.{is_open_need, Tree, IsTree}
-use Rattle.clause_solver.specs.declared.outcomes.Verdict.{Verdict}
-use Rattle.clause_solver.proofs.Calm.{closure_closed}
-use Rattle.clause_solver.proofs.Preparing.{clash_part}
-use Rattle.clause_solver.proofs.Running.{closed_part}
-use Rattle.suite_compare.specs.Bad.{entered_verdict, AreAllBadTo}
-use Rattle.suite_compare.specs.Report.{is_yes}
-use Rattle.suite_compare.specs.declared.verdicts.Bad.{Bad}
 
 -- Two classes that conflict do not go together, and one failed leaf tells it.
 -- the class of a goal of one class is true in each closed set, and so at the root

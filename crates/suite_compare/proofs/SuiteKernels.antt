@@ -1,16 +1,8 @@
 -- The repository of an index and its kernel: both are sound, and the classes of packages are classes of the kernel.
 use Rattle.std.proofs.Common.{◌≡◌, ℕ, ◌<◌, Bool, List, true, length, refl, arith}
-use Rattle.row_book.specs.Flattening.{packages}
-use Rattle.row_book.specs.Repository.{Repository}
-use Rattle.row_book.specs.Rounds.{kernel, kernel_class, kernel_image, round_count}
-use Rattle.listed.specs.Lists.{In, has, Ascending}
-use Rattle.row_book.specs.Sound.{SoundRepository}
-use Rattle.listed.proofs.Lists.{In_has, has_In, filter_cases, filter_from}
-use Rattle.listed.proofs.Orders.{ascending_filter}
-use Rattle.row_book.proofs.Numbers.{numbers_from, numbers_parts, numbers_ascending}
-use Rattle.kernel_rounds.specs.Laws.{HasImage}
-use Rattle.kernel_rounds.proofs.Classes.{class_within}
-use Rattle.kernel_rounds.proofs.Reached.{image_is_of_classes_lem, kernel_is_lem}
+use Rattle.row_book.{specs.Flattening.{packages}, specs.Repository.{Repository}, specs.Rounds.{kernel, kernel_class, kernel_image, round_count}, specs.Sound.{SoundRepository}, proofs.Numbers.{numbers_from, numbers_parts, numbers_ascending}}
+use Rattle.listed.{specs.Lists.{In, has, Ascending}, proofs.Lists.{In_has, has_In, filter_cases, filter_from}, proofs.Orders.{ascending_filter}}
+use Rattle.kernel_rounds.{specs.Laws.{HasImage}, proofs.Classes.{class_within}, proofs.Reached.{image_is_of_classes_lem, kernel_is_lem}}
 pub use Rattle.repo_model.proofs.SoundSuite.{suite_sound}
 use Rattle.suite_compare.specs.Asking.{goal_classes}
 

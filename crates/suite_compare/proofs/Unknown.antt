@@ -1,11 +1,8 @@
 -- The first goal that is unknown: its number, and what is known of goals where there is none.
-use Rattle.std.proofs.Common.{◌≡◌, ℕ, ◌+◌, ◌<◌, ◌≤◌, false, List, [], ◌∷◌, length, Some, None, inl, inr, sym, subst, arith}
-use Rattle.std.proofs.lemmas.Bool.{cases_Bool}
-use Rattle.listed.proofs.Lists.{some_item, In_cases, In_none}
-use Rattle.listed.specs.Lists.{In}
-use Rattle.repo_model.specs.Goals.{packages_named}
+use Rattle.std.{proofs.Common.{◌≡◌, ℕ, ◌+◌, ◌<◌, ◌≤◌, false, List, [], ◌∷◌, length, Some, None, inl, inr, sym, subst, arith}, proofs.lemmas.Bool.{cases_Bool}}
+use Rattle.listed.{proofs.Lists.{some_item, In_cases, In_none}, specs.Lists.{In}}
+use Rattle.repo_model.{specs.Goals.{packages_named}, specs.declared.goals.Goal.{Goal}}
 use Rattle.relation_fields.specs.declared.packages.PackageFacts.{PackageFacts}
-use Rattle.repo_model.specs.declared.goals.Goal.{Goal}
 use Rattle.suite_compare.specs.Answering.{names_none, unknown_from, unknown_goal}
 
 -- the number of an unknown goal is one of a goal

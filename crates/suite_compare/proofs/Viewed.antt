@@ -1,23 +1,11 @@
 -- The view of a suite, from its book and the kernel that was extracted of it.
 use Rattle.std.proofs.Common.{◌≡◌, ℕ, ◌<◌, Bool, List, length, Option, Some, sym, ap, subst, ◌∙◌}
 use Rattle.clause_pool.specs.Interned.{Interned, IsPool}
-use Rattle.kernel_rounds.specs.Extracting.{IsExtracted}
-use Rattle.kernel_rounds.specs.declared.extraction.Kernel.{Kernel}
-use Rattle.kernel_rounds.proofs.Classes.{limit_inside}
-use Rattle.relation_fields.specs.declared.packages.Home.{Home}
-use Rattle.relation_fields.specs.declared.packages.PackageFacts.{PackageFacts}
-use Rattle.repo_model.specs.FirstFault.{home_of, stanzas_of}
-use Rattle.repo_model.specs.Repository.{suite_repository}
-use Rattle.repo_model.proofs.Packages.{length_clauses}
-use Rattle.repo_model.proofs.SoundSuite.{suite_sound}
-use Rattle.row_book.specs.Book.{repository_of, Sound}
-use Rattle.row_book.specs.Flattening.{packages}
-use Rattle.row_book.specs.Rounds.{PassedRound, limit_at}
-use Rattle.row_book.specs.declared.book.Book.{Book}
-use Rattle.row_book.proofs.Books.{repository_kept, sound_kept}
-use Rattle.suite_compare.specs.Refusals.{home_in, packages_in, RefusesSuite}
-use Rattle.suite_compare.specs.declared.refusals.LimitError.{LimitError}
-use Rattle.suite_compare.specs.Views.{IsKernelOf, IsViewOf}
+use Rattle.kernel_rounds.{specs.Extracting.{IsExtracted}, specs.declared.extraction.Kernel.{Kernel}, proofs.Classes.{limit_inside}}
+use Rattle.relation_fields.{specs.declared.packages.Home.{Home}, specs.declared.packages.PackageFacts.{PackageFacts}}
+use Rattle.repo_model.{specs.FirstFault.{home_of, stanzas_of}, specs.Repository.{suite_repository}, proofs.Packages.{length_clauses}, proofs.SoundSuite.{suite_sound}}
+use Rattle.row_book.{specs.Book.{repository_of, Sound}, specs.Flattening.{packages}, specs.Rounds.{PassedRound, limit_at}, specs.declared.book.Book.{Book}, proofs.Books.{repository_kept, sound_kept}}
+use Rattle.suite_compare.{specs.Refusals.{home_in, packages_in, RefusesSuite}, specs.declared.refusals.LimitError.{LimitError}, specs.Views.{IsKernelOf, IsViewOf}}
 
 -- the book stays what it is while the kernel is extracted
 pub view_made : (old new : Interned) (home : Home) (stanzas : List PackageFacts) (book : Book) (made : Kernel) (limit : ℕ) (hold : Bool) → IsPool old →

@@ -1,9 +1,7 @@
-use Rattle.std.proofs.Common.{◌<◌, length, sym, subst, ◌∙◌, arith}
-use Rattle.std.proofs.lemmas.Grind.{common_steps}
+use Rattle.std.{proofs.Common.{◌<◌, length, sym, subst, ◌∙◌, arith}, proofs.lemmas.Grind.{common_steps}}
 use Rattle.repo_model.specs.Repository.{suite_repository}
 use Rattle.listed.specs.Lists.{Ascending, In}
-use Rattle.suite_compare.proofs.Gathering.{image_filled, named_ascending, named_inside}
-use Rattle.suite_compare.proofs.SuiteKernels.{classes_ascending}
+use Rattle.suite_compare.{proofs.Gathering.{image_filled, named_ascending, named_inside}, proofs.SuiteKernels.{classes_ascending}}
 use Rattle.suite_compare.proofs.ask.ask.Goals as goal
 
 pub image_of-requires : goal.image_of-requires

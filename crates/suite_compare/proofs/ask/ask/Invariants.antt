@@ -1,7 +1,6 @@
 use Rattle.std.proofs.Common.{◌≡◌, ◌+◌, map, take, drop}
 use Rattle.repo_model.specs.Goals.{packages_named}
-use Rattle.suite_compare.specs.Asking.{image_of}
-use Rattle.suite_compare.specs.Answering.{unknown_from, unknown_goal}
+use Rattle.suite_compare.{specs.Asking.{image_of}, specs.Answering.{unknown_from, unknown_goal}}
 use Rattle.suite_compare.proofs.ask.ask.Given as goal
 
 abbrev pub invariant-loop-place : goal.invariant-loop-place

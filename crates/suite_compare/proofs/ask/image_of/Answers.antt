@@ -1,8 +1,6 @@
 use Rattle.std.proofs.Common.{◌<◌, length, ap, sym, subst, ◌∙◌, arith}
-use Rattle.repo_model.specs.Repository.{suite_repository}
-use Rattle.repo_model.proofs.Packages.{length_clauses}
-use Rattle.suite_compare.proofs.Gathering.{image_made, table_of}
-use Rattle.suite_compare.proofs.SuiteKernels.{suite_sound}
+use Rattle.repo_model.{specs.Repository.{suite_repository}, proofs.Packages.{length_clauses}}
+use Rattle.suite_compare.{proofs.Gathering.{image_made, table_of}, proofs.SuiteKernels.{suite_sound}}
 use Rattle.suite_compare.proofs.ask.image_of.Goals as goal
 
 pub each_class-requires : goal.each_class-requires

@@ -1,7 +1,6 @@
 use Rattle.std.proofs.Common.{ℕ, ◌<◌, List, get_or, sym, subst, arith}
 use Rattle.clause_pool.specs.Interned.{clauses_at}
-use Rattle.listed.specs.Lists.{In}
-use Rattle.listed.proofs.Lists.{In_at}
+use Rattle.listed.{specs.Lists.{In}, proofs.Lists.{In_at}}
 use Rattle.suite_compare.specs.Choices.{AreBelow}
 use Rattle.suite_compare.proofs.choose.follow.Goals as goal
 

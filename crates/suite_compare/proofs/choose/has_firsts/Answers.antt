@@ -1,10 +1,7 @@
-use Rattle.std.proofs.Common.{◌≡◌, true, sym, subst, ap, ◌∙◌}
-use Rattle.std.proofs.lemmas.Bool.{false≢true}
+use Rattle.std.{proofs.Common.{◌≡◌, true, sym, subst, ap, ◌∙◌}, proofs.lemmas.Bool.{false≢true}}
 use Rattle.clause_pool.specs.Interned.{clause_at}
 use Rattle.listed.proofs.Lists.{In_none, item_in}
-use Rattle.suite_compare.specs.Choices.{has_first_member}
-use Rattle.suite_compare.proofs.Groups.{first_all, first_more}
-use Rattle.suite_compare.proofs.Chosen.{have_firsts}
+use Rattle.suite_compare.{specs.Choices.{has_first_member}, proofs.Groups.{first_all, first_more}, proofs.Chosen.{have_firsts}}
 use Rattle.suite_compare.proofs.choose.has_firsts.Goals as goal
 
 pub loop-clause-init : goal.loop-clause-init

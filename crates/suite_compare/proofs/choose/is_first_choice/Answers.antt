@@ -1,11 +1,7 @@
-use Rattle.std.proofs.Common.{◌<◌, get_or, sym, subst, ◌∙◌}
-use Rattle.std.proofs.lemmas.Bool.{false≢true}
-use Rattle.listed.specs.Lists.{In}
-use Rattle.listed.proofs.Lists.{In_at, In_none}
+use Rattle.std.{proofs.Common.{◌<◌, get_or, sym, subst, ◌∙◌}, proofs.lemmas.Bool.{false≢true}}
+use Rattle.listed.{specs.Lists.{In}, proofs.Lists.{In_at, In_none}}
 use Rattle.row_book.specs.Book.{repository_of}
-use Rattle.suite_compare.specs.Choices.{AreBelow, IsServed}
-use Rattle.suite_compare.proofs.Groups.{first_all, first_more}
-use Rattle.suite_compare.proofs.Chosen.{choice_is}
+use Rattle.suite_compare.{specs.Choices.{AreBelow, IsServed}, proofs.Groups.{first_all, first_more}, proofs.Chosen.{choice_is}}
 use Rattle.suite_compare.proofs.choose.is_first_choice.Goals as goal
 
 pub loop-class-init : goal.loop-class-init

@@ -1,5 +1,4 @@
-use Rattle.std.proofs.Common.{◌∙◌, sym}
-use Rattle.std.proofs.lemmas.Bool.{false≢true}
+use Rattle.std.{proofs.Common.{◌∙◌, sym}, proofs.lemmas.Bool.{false≢true}}
 use Rattle.suite_compare.proofs.Chosen.{served}
 use Rattle.suite_compare.proofs.choose.is_served.Goals as goal
 

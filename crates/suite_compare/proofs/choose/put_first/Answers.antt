@@ -1,5 +1,4 @@
-use Rattle.std.proofs.Common.{◌<◌, length, arith}
-use Rattle.std.proofs.lemmas.Grind.{common_steps}
+use Rattle.std.{proofs.Common.{◌<◌, length, arith}, proofs.lemmas.Grind.{common_steps}}
 use Rattle.listed.proofs.Lists.{In_at}
 use Rattle.suite_compare.proofs.choose.put_first.Goals as goal
 

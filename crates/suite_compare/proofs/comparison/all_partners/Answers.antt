@@ -1,9 +1,6 @@
 use Rattle.std.proofs.Common.{◌≡◌, ◌∙◌, ◌<◌, [], ap, arith, length, slice_index_or, subst, sym}
 use Rattle.listed.specs.Lists.{In}
-use Rattle.suite_compare.specs.Comparing.{IsTableTo}
-use Rattle.suite_compare.specs.Partners.{new_kind, old_kind, ArePartners}
-use Rattle.suite_compare.specs.Telling.{no_partners}
-use Rattle.suite_compare.proofs.Groups.{each_more, each_none}
+use Rattle.suite_compare.{specs.Comparing.{IsTableTo}, specs.Partners.{new_kind, old_kind, ArePartners}, specs.Telling.{no_partners}, proofs.Groups.{each_more, each_none}}
 use Rattle.suite_compare.proofs.comparison.all_partners.Goals as goal
 
 pub loop-joint-init : goal.loop-joint-init

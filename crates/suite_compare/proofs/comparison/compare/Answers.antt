@@ -1,10 +1,5 @@
 use Rattle.std.proofs.Common.{◌≡◌, ◌∙◌, ℕ, List, ap, ap₂, sym}
-use Rattle.suite_compare.specs.Asking.{verdict_in}
-use Rattle.suite_compare.specs.Comparing.{named_verdict, told_report}
-use Rattle.suite_compare.specs.Names.{names_of_both}
-use Rattle.suite_compare.specs.Report.{report}
-use Rattle.suite_compare.specs.declared.report.ReportLine.{ReportLine}
-use Rattle.suite_compare.specs.declared.view.SuiteView.{SuiteView}
+use Rattle.suite_compare.{specs.Asking.{verdict_in}, specs.Comparing.{named_verdict, told_report}, specs.Names.{names_of_both}, specs.Report.{report}, specs.declared.report.ReportLine.{ReportLine}, specs.declared.view.SuiteView.{SuiteView}}
 use Rattle.suite_compare.proofs.comparison.compare.Goals as goal
 
 pub new_side_of-requires-clause-limit : goal.new_side_of-requires-clause-limit

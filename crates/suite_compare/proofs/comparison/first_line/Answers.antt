@@ -1,6 +1,5 @@
 use Rattle.std.proofs.Common.{◌∙◌, ap}
-use Rattle.suite_compare.specs.Comparing.{named_verdict, told_report}
-use Rattle.suite_compare.specs.Report.{first_told}
+use Rattle.suite_compare.{specs.Comparing.{named_verdict, told_report}, specs.Report.{first_told}}
 use Rattle.suite_compare.proofs.comparison.first_line.Goals as goal
 
 pub first_lines_of-requires-clause-old : goal.first_lines_of-requires-clause-old

@@ -1,8 +1,5 @@
-use Rattle.std.proofs.Common.{◌≡◌, ◌∙◌, Bool, false, eqb, List, [], ◌∷◌, ◌++◌, length, refl, ap}
-use Rattle.suite_compare.specs.Comparing.{told_pairs}
-use Rattle.suite_compare.specs.Report.{first_told}
-use Rattle.std.proofs.lemmas.Bool.{both_ways}
-use Rattle.suite_compare.specs.declared.report.ReportLine.{ReportLine}
+use Rattle.std.{proofs.Common.{◌≡◌, ◌∙◌, Bool, false, eqb, List, [], ◌∷◌, ◌++◌, length, refl, ap}, proofs.lemmas.Bool.{both_ways}}
+use Rattle.suite_compare.{specs.Comparing.{told_pairs}, specs.Report.{first_told}, specs.declared.report.ReportLine.{ReportLine}}
 use Rattle.suite_compare.proofs.comparison.first_lines_of.Goals as goal
 
 -- the first of some lines is the first of more

@@ -1,11 +1,7 @@
-use Rattle.std.proofs.Common.{◌≡◌, ◌∙◌, ◌<◌, ◌++◌, ap, filter, length, subst, sym}
-use Rattle.std.specs.List.{flat_map}
+use Rattle.std.{proofs.Common.{◌≡◌, ◌∙◌, ◌<◌, ◌++◌, ap, filter, length, subst, sym}, specs.List.{flat_map}}
 use Rattle.listed.proofs.Lists.{In_at}
 use Rattle.row_book.specs.Numbers.{numbers}
-use Rattle.suite_compare.specs.Comparing.{goes_alone, told_pairs, IsSide, IsTable}
-use Rattle.suite_compare.specs.Telling.{told_after}
-use Rattle.suite_compare.proofs.Judged.{bad_within}
-use Rattle.suite_compare.proofs.Paired.{listed_below, pair_lines_are, told_within}
+use Rattle.suite_compare.{specs.Comparing.{goes_alone, told_pairs, IsSide, IsTable}, specs.Telling.{told_after}, proofs.Judged.{bad_within}, proofs.Paired.{listed_below, pair_lines_are, told_within}}
 use Rattle.suite_compare.proofs.comparison.put_pair_lines.Goals as goal
 
 pub bad_lists-requires-clause-singles : goal.bad_lists-requires-clause-singles

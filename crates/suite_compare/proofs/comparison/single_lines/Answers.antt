@@ -1,8 +1,5 @@
-use Rattle.std.proofs.Common.{◌∙◌, ◌∷◌, [], ap, ap₂, arith, length, sym}
-use Rattle.std.proofs.lemmas.List.{take_all}
-use Rattle.suite_compare.specs.Comparing.{told_singles}
-use Rattle.suite_compare.specs.Report.{finding, single_line}
-use Rattle.suite_compare.proofs.Groups.{behind_more}
+use Rattle.std.{proofs.Common.{◌∙◌, ◌∷◌, [], ap, ap₂, arith, length, sym}, proofs.lemmas.List.{take_all}}
+use Rattle.suite_compare.{specs.Comparing.{told_singles}, specs.Report.{finding, single_line}, proofs.Groups.{behind_more}}
 use Rattle.suite_compare.proofs.comparison.single_lines.Goals as goal
 
 pub loop-place-init : goal.loop-place-init

@@ -1,16 +1,8 @@
-use Rattle.std.proofs.Common.{◌∙◌, sym, ap, subst, filter, length}
-use Rattle.std.specs.List.{range_with_len}
-use Rattle.clause_solver.specs.Outcomes.{IsSearchOutcome, IsCertified as IsCertifiedOutcome}
-use Rattle.clause_solver.specs.declared.outcomes.Outcome.TheVariants.{Refuted, Spent}
-use Rattle.install_lift.specs.Lifting.{lift_of}
-use Rattle.install_lift.specs.Trimming.{trim_of}
-use Rattle.row_book.specs.Book.{repository_of}
-use Rattle.row_book.specs.Flags.{flag}
-use Rattle.row_book.specs.Rounds.{kernel_class}
-use Rattle.row_book.specs.Sets.{HitsAll}
-use Rattle.row_book.specs.Trail.{trail_meaning}
-use Rattle.suite_compare.specs.Answering.{true_numbers}
-use Rattle.suite_compare.proofs.Answered.{classes_fit, no_certified, outcome_is, wanted_fit, wanted_hit, yes_is, yes_serves}
+use Rattle.std.{proofs.Common.{◌∙◌, sym, ap, subst, filter, length}, specs.List.{range_with_len}}
+use Rattle.clause_solver.{specs.Outcomes.{IsSearchOutcome, IsCertified as IsCertifiedOutcome}, specs.declared.outcomes.Outcome.TheVariants.{Refuted, Spent}}
+use Rattle.install_lift.{specs.Lifting.{lift_of}, specs.Trimming.{trim_of}}
+use Rattle.row_book.{specs.Book.{repository_of}, specs.Flags.{flag}, specs.Rounds.{kernel_class}, specs.Sets.{HitsAll}, specs.Trail.{trail_meaning}}
+use Rattle.suite_compare.{specs.Answering.{true_numbers}, proofs.Answered.{classes_fit, no_certified, outcome_is, wanted_fit, wanted_hit, yes_is, yes_serves}}
 use Rattle.suite_compare.proofs.decision.decide.Goals as goal
 
 pub search-requires-clause-goals : goal.search-requires-clause-goals

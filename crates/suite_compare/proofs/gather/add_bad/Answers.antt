@@ -1,12 +1,7 @@
-use Rattle.std.proofs.Common.{◌<◌, ap, get_or, subst, sym}
-use Rattle.std.specs.List.{flat_map}
-use Rattle.std.specs.Prelude.{is_some}
-use Rattle.listed.specs.Lists.{In}
-use Rattle.listed.proofs.Lists.{In_at}
+use Rattle.std.{proofs.Common.{◌<◌, ap, get_or, subst, sym}, specs.List.{flat_map}, specs.Prelude.{is_some}}
+use Rattle.listed.{specs.Lists.{In}, proofs.Lists.{In_at}}
 use Rattle.clause_solver.specs.declared.outcomes.Verdict.TheVariants.{Yes}
-use Rattle.suite_compare.specs.Bad.{bad}
-use Rattle.suite_compare.specs.Partners.{beside, beside_all, is_open}
-use Rattle.suite_compare.proofs.Groups.{behind_more}
+use Rattle.suite_compare.{specs.Bad.{bad}, specs.Partners.{beside, beside_all, is_open}, proofs.Groups.{behind_more}}
 use Rattle.suite_compare.proofs.gather.add_bad.Goals as goal
 
 pub joints_with-joints-requires : goal.joints_with-joints-requires

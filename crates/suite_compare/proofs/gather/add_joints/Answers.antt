@@ -1,9 +1,5 @@
-use Rattle.std.proofs.Common.{◌∙◌, ap, ap₂, sym}
-use Rattle.std.specs.Prelude.{is_some}
-use Rattle.suite_compare.specs.Kinds.{together_in}
-use Rattle.suite_compare.specs.Partners.{beside, is_open, picked}
-use Rattle.suite_compare.specs.Report.{finding}
-use Rattle.suite_compare.proofs.Groups.{behind_more}
+use Rattle.std.{proofs.Common.{◌∙◌, ap, ap₂, sym}, specs.Prelude.{is_some}}
+use Rattle.suite_compare.{specs.Kinds.{together_in}, specs.Partners.{beside, is_open, picked}, specs.Report.{finding}, proofs.Groups.{behind_more}}
 use Rattle.suite_compare.proofs.gather.add_joints.Goals as goal
 
 pub loop-joint-preserved : goal.loop-joint-preserved

@@ -1,6 +1,4 @@
-use Rattle.std.proofs.Common.{◌≡◌, ◌++◌, take}
-use Rattle.std.specs.List.{flat_map}
-use Rattle.std.specs.Prelude.{is_some}
+use Rattle.std.{proofs.Common.{◌≡◌, ◌++◌, take}, specs.List.{flat_map}, specs.Prelude.{is_some}}
 use Rattle.suite_compare.specs.Partners.{beside, is_open}
 use Rattle.suite_compare.proofs.gather.add_joints.Given as goal
 

@@ -1,6 +1,5 @@
 use Rattle.std.proofs.Common.{◌<◌, ◌∙◌, ap, arith, get_or, length, subst, sym}
-use Rattle.listed.specs.Lists.{In}
-use Rattle.listed.proofs.Lists.{In_at}
+use Rattle.listed.{specs.Lists.{In}, proofs.Lists.{In_at}}
 use Rattle.suite_compare.proofs.Paired.{listed_below}
 use Rattle.suite_compare.proofs.gather.joint_table.Goals as goal
 

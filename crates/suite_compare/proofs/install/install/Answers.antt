@@ -1,26 +1,12 @@
-use Rattle.std.proofs.Common.{◌≡◌, ℕ, ◌<◌, Bool, true, false, List, length, refl, sym, ap, subst, ◌∙◌, arith}
-use Rattle.std.proofs.Math.Path.{fun_ext}
-use Rattle.std.specs.List.{range_with_len}
-use Rattle.row_book.specs.Flags.{flag}
-use Rattle.row_book.specs.Repository.{Repository, Healthy}
-use Rattle.row_book.specs.Sets.{Hit, HitsAll, Is, NumSet}
-use Rattle.listed.specs.Lists.{has}
-use Rattle.listed.proofs.Lists.{In_has, has_not, filter_cases, filter_from}
-use Rattle.row_book.proofs.Flags.{flag_in}
+use Rattle.std.{proofs.Common.{◌≡◌, ℕ, ◌<◌, Bool, true, false, List, length, refl, sym, ap, subst, ◌∙◌, arith}, proofs.Math.Path.{fun_ext}, specs.List.{range_with_len}}
+use Rattle.row_book.{specs.Flags.{flag}, specs.Repository.{Repository, Healthy}, specs.Sets.{Hit, HitsAll, Is, NumSet}, proofs.Flags.{flag_in}, specs.Book.{repository_of}, specs.Needs.{NeedsFit}, specs.Rounds.{kernel, kernel_class, kernel_steps}, specs.Trail.{trail_meaning}, specs.declared.book.Book.{Book}, proofs.BookRepositories.{book_size}}
+use Rattle.listed.{specs.Lists.{has}, proofs.Lists.{In_has, has_not, filter_cases, filter_from}}
 use Rattle.repo_model.proofs.Elements.{range_from}
 use Rattle.clause_pool.specs.Interned.{Interned}
 use Rattle.install_lift.specs.Laws.{HoldsMembers, IsKernelBy}
 use Rattle.kernel_rounds.specs.declared.extraction.Kernel.{Kernel}
-use Rattle.relation_fields.specs.declared.packages.Home.{Home}
-use Rattle.relation_fields.specs.declared.packages.PackageFacts.{PackageFacts}
-use Rattle.row_book.specs.Book.{repository_of}
-use Rattle.row_book.specs.Needs.{NeedsFit}
-use Rattle.row_book.specs.Rounds.{kernel, kernel_class, kernel_steps}
-use Rattle.row_book.specs.Trail.{trail_meaning}
-use Rattle.row_book.specs.declared.book.Book.{Book}
-use Rattle.suite_compare.specs.Answering.{true_numbers}
-use Rattle.suite_compare.specs.Views.{IsViewOf}
-use Rattle.row_book.proofs.BookRepositories.{book_size}
+use Rattle.relation_fields.{specs.declared.packages.Home.{Home}, specs.declared.packages.PackageFacts.{PackageFacts}}
+use Rattle.suite_compare.{specs.Answering.{true_numbers}, specs.Views.{IsViewOf}}
 use Rattle.suite_compare.proofs.install.install.Goals as goal
 
 -- the numbers of flags are the set of the flags

@@ -1,8 +1,6 @@
 use Rattle.std.proofs.Common.{◌≡◌, ◌<◌, length, map, get_or, arith, sym, ap, subst, ◌∙◌}
-use Rattle.listed.specs.Lists.{In}
-use Rattle.listed.proofs.Lists.{In_at}
-use Rattle.suite_compare.specs.Kinds.{joint_key, AreNumbered}
-use Rattle.suite_compare.proofs.Numbered.{joined_from}
+use Rattle.listed.{specs.Lists.{In}, proofs.Lists.{In_at}}
+use Rattle.suite_compare.{specs.Kinds.{joint_key, AreNumbered}, proofs.Numbered.{joined_from}}
 use Rattle.suite_compare.proofs.kinds.joints_of.Goals as goal
 
 pub loop-place-preserved : goal.loop-place-preserved

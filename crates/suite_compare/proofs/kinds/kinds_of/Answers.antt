@@ -1,10 +1,7 @@
-use Rattle.std.proofs.Common.{◌≡◌, ◌<◌, [], get_or, length, map, arith, sym, ap, subst, ◌∙◌}
-use Rattle.std.proofs.lemmas.List.{get_or_read}
-use Rattle.listed.specs.Lists.{In}
-use Rattle.listed.proofs.Lists.{In_at}
+use Rattle.std.{proofs.Common.{◌≡◌, ◌<◌, [], get_or, length, map, arith, sym, ap, subst, ◌∙◌}, proofs.lemmas.List.{get_or_read}}
+use Rattle.listed.{specs.Lists.{In}, proofs.Lists.{In_at}}
 use Rattle.row_book.specs.Book.{listed_for}
-use Rattle.suite_compare.specs.Kinds.{AreNumbered}
-use Rattle.suite_compare.proofs.Numbered.{kinds_from}
+use Rattle.suite_compare.{specs.Kinds.{AreNumbered}, proofs.Numbered.{kinds_from}}
 use Rattle.suite_compare.proofs.kinds.kinds_of.Goals as goal
 
 pub loop-list-preserved : goal.loop-list-preserved

@@ -1,10 +1,6 @@
-use Rattle.std.proofs.Common.{ap}
-use Rattle.std.specs.Prelude.{is_some}
+use Rattle.std.{proofs.Common.{ap}, specs.Prelude.{is_some}}
 use Rattle.clause_solver.specs.declared.outcomes.Verdict.TheVariants as verdict
-use Rattle.suite_compare.specs.Asking.{asked_tree}
-use Rattle.suite_compare.specs.declared.answers.Answer.TheVariants.{Yes, No, Spent}
-use Rattle.suite_compare.specs.Laws.{AnswerIsVerdict}
-use Rattle.suite_compare.proofs.Judged.{verdict_told}
+use Rattle.suite_compare.{specs.Asking.{asked_tree}, specs.declared.answers.Answer.TheVariants.{Yes, No, Spent}, specs.Laws.{AnswerIsVerdict}, proofs.Judged.{verdict_told}}
 use Rattle.suite_compare.proofs.laws.answer_is_verdict.Goals as goal
 
 told : AnswerIsVerdict

@@ -1,10 +1,7 @@
 use Rattle.std.proofs.Common.{◌∙◌, ap, subst}
 use Rattle.listed.specs.Lists.{In}
-use Rattle.repo_model.specs.Goals.{any_version, packages_named}
-use Rattle.repo_model.specs.Repository.{suite_repository}
-use Rattle.suite_compare.specs.Asking.{goal_classes, image_of}
-use Rattle.suite_compare.proofs.Gathering.{named_inside}
-use Rattle.suite_compare.proofs.Named.{mapped_step}
+use Rattle.repo_model.{specs.Goals.{any_version, packages_named}, specs.Repository.{suite_repository}}
+use Rattle.suite_compare.{specs.Asking.{goal_classes, image_of}, proofs.Gathering.{named_inside}, proofs.Named.{mapped_step}}
 use Rattle.suite_compare.proofs.names.classes_of_names.Goals as goal
 
 pub image_of-requires : goal.image_of-requires

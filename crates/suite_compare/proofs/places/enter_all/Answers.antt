@@ -1,6 +1,5 @@
 use Rattle.std.proofs.Common.{◌≡◌, length, get_or, refl, subst, arith}
-use Rattle.suite_compare.specs.Groups.{ArePlacesTo}
-use Rattle.suite_compare.proofs.Groups.{places_more, places_none}
+use Rattle.suite_compare.{specs.Groups.{ArePlacesTo}, proofs.Groups.{places_more, places_none}}
 use Rattle.suite_compare.proofs.places.enter_all.Goals as goal
 
 pub loop-place-init : goal.loop-place-init

@@ -1,6 +1,5 @@
 use Rattle.std.proofs.Common.{◌≡◌, ◌<◌, ◌≤◌, List, [], ◌∷◌, length, get_or, refl, ◌∙◌, ap, arith, Some, None}
-use Rattle.suite_compare.specs.Report.{first_told}
-use Rattle.suite_compare.specs.declared.report.ReportLine.{ReportLine}
+use Rattle.suite_compare.{specs.Report.{first_told}, specs.declared.report.ReportLine.{ReportLine}}
 use Rattle.suite_compare.proofs.report.copy_of_first.Goals as goal
 
 -- the first of lines that were lent

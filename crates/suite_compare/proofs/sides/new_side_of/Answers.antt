@@ -1,9 +1,6 @@
 use Rattle.std.proofs.Common.{◌∙◌, ap, ap₂, filter, length, subst, sym}
-use Rattle.listed.specs.Lists.{In}
-use Rattle.listed.proofs.Lists.{filter_cases}
-use Rattle.suite_compare.specs.Comparing.{named_verdict, AreVerdicts, IsPart, IsSide}
-use Rattle.suite_compare.specs.Names.{stands_in}
-use Rattle.suite_compare.proofs.Named.{part_side, part_verdicts}
+use Rattle.listed.{specs.Lists.{In}, proofs.Lists.{filter_cases}}
+use Rattle.suite_compare.{specs.Comparing.{named_verdict, AreVerdicts, IsPart, IsSide}, specs.Names.{stands_in}, proofs.Named.{part_side, part_verdicts}}
 use Rattle.suite_compare.proofs.sides.new_side_of.Goals as goal
 
 pub part_among-requires : goal.part_among-requires

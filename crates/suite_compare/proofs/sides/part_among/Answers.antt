@@ -1,6 +1,5 @@
 use Rattle.std.proofs.Common.{◌∙◌, ap, arith, sym}
-use Rattle.suite_compare.specs.Names.{stands_in}
-use Rattle.suite_compare.proofs.Named.{part_all, part_more, part_none, part_skip}
+use Rattle.suite_compare.{specs.Names.{stands_in}, proofs.Named.{part_all, part_more, part_none, part_skip}}
 use Rattle.suite_compare.proofs.sides.part_among.Goals as goal
 
 pub loop-place-init : goal.loop-place-init

@@ -1,5 +1,4 @@
-use Rattle.std.proofs.Common.{◌∙◌, ◌<◌, ap, length, refl, sym, subst}
-use Rattle.std.proofs.lemmas.List.{length-map}
+use Rattle.std.{proofs.Common.{◌∙◌, ◌<◌, ap, length, refl, sym, subst}, proofs.lemmas.List.{length-map}}
 use Rattle.suite_compare.proofs.Named.{judge_of, verdicts_are}
 use Rattle.suite_compare.proofs.sides.side_of.Goals as goal
 

@@ -1,5 +1,4 @@
-use Rattle.std.proofs.Common.{◌≡◌}
-use Rattle.std.specs.List.{range_with_len}
+use Rattle.std.{proofs.Common.{◌≡◌}, specs.List.{range_with_len}}
 use Rattle.suite_compare.proofs.suspect.all_places.Given as goal
 
 abbrev pub invariant-loop-place : goal.invariant-loop-place

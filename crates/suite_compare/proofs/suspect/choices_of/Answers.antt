@@ -1,11 +1,7 @@
-use Rattle.std.proofs.Common.{◌≡◌, [], length, sym, ◌∙◌, ap, subst, arith}
-use Rattle.std.proofs.lemmas.List.{get_or_read}
+use Rattle.std.{proofs.Common.{◌≡◌, [], length, sym, ◌∙◌, ap, subst, arith}, proofs.lemmas.List.{get_or_read}}
 use Rattle.listed.proofs.Lists.{item_in}
 use Rattle.row_book.specs.Book.{listed_for, repository_of}
-use Rattle.suite_compare.specs.Choices.{AreBelow, IsChosen}
-use Rattle.suite_compare.specs.Suspects.{AreAllChosen}
-use Rattle.suite_compare.proofs.Groups.{each_more, each_none}
-use Rattle.suite_compare.proofs.Chosen.{chosen_fit}
+use Rattle.suite_compare.{specs.Choices.{AreBelow, IsChosen}, specs.Suspects.{AreAllChosen}, proofs.Groups.{each_more, each_none}, proofs.Chosen.{chosen_fit}}
 use Rattle.suite_compare.proofs.suspect.choices_of.Goals as goal
 
 pub loop-kind-init : goal.loop-kind-init

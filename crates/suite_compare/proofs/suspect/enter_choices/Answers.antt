@@ -1,9 +1,6 @@
-use Rattle.std.proofs.Common.{◌≡◌, [], get_or, length, subst, ◌∙◌, arith}
-use Rattle.std.proofs.lemmas.List.{get_or_read}
-use Rattle.listed.specs.Lists.{In}
-use Rattle.listed.proofs.Lists.{In_at, item_in}
-use Rattle.suite_compare.specs.Suspects.{AreHolders}
-use Rattle.suite_compare.proofs.Chosen.{holders_more, holders_none}
+use Rattle.std.{proofs.Common.{◌≡◌, [], get_or, length, subst, ◌∙◌, arith}, proofs.lemmas.List.{get_or_read}}
+use Rattle.listed.{specs.Lists.{In}, proofs.Lists.{In_at, item_in}}
+use Rattle.suite_compare.{specs.Suspects.{AreHolders}, proofs.Chosen.{holders_more, holders_none}}
 use Rattle.suite_compare.proofs.suspect.enter_choices.Goals as goal
 
 pub loop-kind-init : goal.loop-kind-init

@@ -1,7 +1,5 @@
-use Rattle.std.proofs.Common.{subst}
-use Rattle.std.proofs.lemmas.List.{take_all}
-use Rattle.suite_compare.specs.Suspects.{AreHeld}
-use Rattle.suite_compare.proofs.Chosen.{held_more, held_none}
+use Rattle.std.{proofs.Common.{subst}, proofs.lemmas.List.{take_all}}
+use Rattle.suite_compare.{specs.Suspects.{AreHeld}, proofs.Chosen.{held_more, held_none}}
 use Rattle.suite_compare.proofs.suspect.enter_each.Goals as goal
 
 pub loop-class-init : goal.loop-class-init

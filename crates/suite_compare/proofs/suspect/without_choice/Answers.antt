@@ -1,10 +1,8 @@
-use Rattle.std.proofs.Common.{◌≡◌, ℕ, Bool, [], eqb, length, sym, ◌∙◌, ap, arith}
-use Rattle.std.proofs.lemmas.List.{get_or_read}
+use Rattle.std.{proofs.Common.{◌≡◌, ℕ, Bool, [], eqb, length, sym, ◌∙◌, ap, arith}, proofs.lemmas.List.{get_or_read}}
 use Rattle.listed.proofs.Numbers.{number_kept, number_left}
 use Rattle.row_book.specs.Book.{listed_for}
-use Rattle.suite_compare.specs.Suspects.{without_choice}
+use Rattle.suite_compare.{specs.Suspects.{without_choice}, proofs.suspect.without_choice.Goals.{then-is_empty+in_ok-push, else-is_empty}}
 use Rattle.suite_compare.proofs.suspect.without_choice.Goals as goal
-use Rattle.suite_compare.proofs.suspect.without_choice.Goals.{then-is_empty+in_ok-push, else-is_empty}
 
 pub loop-kind-preserved : goal.loop-kind-preserved
 loop-kind-preserved c =

@@ -1,6 +1,5 @@
 use Rattle.std.proofs.Common.{get_or, subst}
-use Rattle.listed.specs.Lists.{In}
-use Rattle.listed.proofs.Lists.{In_at}
+use Rattle.listed.{specs.Lists.{In}, proofs.Lists.{In_at}}
 use Rattle.suite_compare.proofs.tell.tell_later.Goals as goal
 
 pub name_at-second-requires : goal.name_at-second-requires

@@ -1,5 +1,4 @@
-use Rattle.std.proofs.Common.{◌≡◌, ◌++◌, take, filter, ltb}
-use Rattle.std.specs.List.{flat_map}
+use Rattle.std.{proofs.Common.{◌≡◌, ◌++◌, take, filter, ltb}, specs.List.{flat_map}}
 use Rattle.suite_compare.specs.Telling.{told_pair}
 use Rattle.suite_compare.proofs.tell.tell_later.Given as goal
 

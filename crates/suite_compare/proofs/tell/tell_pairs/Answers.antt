@@ -1,11 +1,6 @@
-use Rattle.std.proofs.Common.{◌∙◌, ◌+◌, ◌++◌, ap, arith, filter, length, ltb, sym}
-use Rattle.std.specs.List.{flat_map}
-use Rattle.row_book.proofs.Numbers.{numbers_more}
-use Rattle.row_book.specs.Numbers.{numbers}
-use Rattle.suite_compare.specs.Comparing.{goes_alone}
-use Rattle.suite_compare.specs.Report.{is_yes}
-use Rattle.suite_compare.specs.Telling.{partners_at, told_after, told_pair}
-use Rattle.suite_compare.proofs.Paired.{kept_more, kept_none, kept_skip}
+use Rattle.std.{proofs.Common.{◌∙◌, ◌+◌, ◌++◌, ap, arith, filter, length, ltb, sym}, specs.List.{flat_map}}
+use Rattle.row_book.{proofs.Numbers.{numbers_more}, specs.Numbers.{numbers}}
+use Rattle.suite_compare.{specs.Comparing.{goes_alone}, specs.Report.{is_yes}, specs.Telling.{partners_at, told_after, told_pair}, proofs.Paired.{kept_more, kept_none, kept_skip}}
 use Rattle.suite_compare.proofs.tell.tell_pairs.Goals as goal
 
 pub loop-place-init : goal.loop-place-init

@@ -1,8 +1,6 @@
-use Rattle.std.proofs.Common.{◌≡◌, ◌++◌, filter}
-use Rattle.std.specs.List.{flat_map}
+use Rattle.std.{proofs.Common.{◌≡◌, ◌++◌, filter}, specs.List.{flat_map}}
 use Rattle.row_book.specs.Numbers.{numbers}
-use Rattle.suite_compare.specs.Comparing.{goes_alone}
-use Rattle.suite_compare.specs.Telling.{told_after}
+use Rattle.suite_compare.{specs.Comparing.{goes_alone}, specs.Telling.{told_after}}
 use Rattle.suite_compare.proofs.tell.tell_pairs.Given as goal
 
 abbrev pub invariant-loop-place : goal.invariant-loop-place

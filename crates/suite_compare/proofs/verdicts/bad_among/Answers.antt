@@ -1,10 +1,5 @@
-use Rattle.std.proofs.Common.{◌<◌, ◌∙◌, ◌∷◌, [], ap, get_or, subst, sym}
-use Rattle.std.specs.List.{flat_map}
-use Rattle.std.proofs.lemmas.List.{append-nil, take_all}
-use Rattle.suite_compare.specs.Report.{is_yes}
-use Rattle.suite_compare.specs.Bad.{bad, bad_entry}
-use Rattle.suite_compare.proofs.Judged.{entry_bad, entry_off, entry_yes, single_yes, singles_long}
-use Rattle.suite_compare.proofs.Groups.{behind_more}
+use Rattle.std.{proofs.Common.{◌<◌, ◌∙◌, ◌∷◌, [], ap, get_or, subst, sym}, specs.List.{flat_map}, proofs.lemmas.List.{append-nil, take_all}}
+use Rattle.suite_compare.{specs.Report.{is_yes}, specs.Bad.{bad, bad_entry}, proofs.Judged.{entry_bad, entry_off, entry_yes, single_yes, singles_long}, proofs.Groups.{behind_more}}
 use Rattle.suite_compare.proofs.verdicts.bad_among.Goals as goal
 
 pub verdict_at-requires : goal.verdict_at-requires

@@ -1,5 +1,4 @@
-use Rattle.std.proofs.Common.{◌≡◌, take}
-use Rattle.std.specs.List.{flat_map}
+use Rattle.std.{proofs.Common.{◌≡◌, take}, specs.List.{flat_map}}
 use Rattle.suite_compare.specs.Bad.{bad_entry}
 use Rattle.suite_compare.proofs.verdicts.bad_among.Given as goal
 

@@ -1,6 +1,5 @@
 use Rattle.std.proofs.Common.{◌≡◌, [], length, subst, arith}
-use Rattle.suite_compare.specs.Bad.{AreAllBadTo, AreBad}
-use Rattle.suite_compare.proofs.Groups.{each_more, each_none}
+use Rattle.suite_compare.{specs.Bad.{AreAllBadTo, AreBad}, proofs.Groups.{each_more, each_none}}
 use Rattle.suite_compare.proofs.verdicts.bad_lists.Goals as goal
 
 pub loop-kind-init : goal.loop-kind-init

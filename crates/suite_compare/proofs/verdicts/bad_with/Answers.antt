@@ -1,8 +1,6 @@
-use Rattle.std.proofs.Common.{◌∙◌, ◌<◌, ap, subst, sym}
+use Rattle.std.{proofs.Common.{◌∙◌, ◌<◌, ap, subst, sym}, specs.List.{flat_map}}
 use Rattle.listed.specs.Lists.{In}
-use Rattle.std.specs.List.{flat_map}
-use Rattle.suite_compare.specs.Bad.{bad_entry}
-use Rattle.suite_compare.proofs.Judged.{bad_from, bad_none, single_yes, singles_long}
+use Rattle.suite_compare.{specs.Bad.{bad_entry}, proofs.Judged.{bad_from, bad_none, single_yes, singles_long}}
 use Rattle.suite_compare.proofs.verdicts.bad_with.Goals as goal
 
 pub verdict_at-requires : goal.verdict_at-requires

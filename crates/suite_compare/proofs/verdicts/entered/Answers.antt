@@ -1,5 +1,4 @@
-use Rattle.std.proofs.Common.{ap}
-use Rattle.std.specs.Option.{option_map_or}
+use Rattle.std.{proofs.Common.{ap}, specs.Option.{option_map_or}}
 use Rattle.clause_solver.specs.declared.outcomes.Verdict.TheVariants.{Yes}
 use Rattle.suite_compare.proofs.verdicts.entered.Goals as goal
 

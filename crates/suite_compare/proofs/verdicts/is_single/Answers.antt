@@ -1,5 +1,4 @@
-use Rattle.std.proofs.Common.{length}
-use Rattle.std.proofs.lemmas.Bool.{eqb-true}
+use Rattle.std.{proofs.Common.{length}, proofs.lemmas.Bool.{eqb-true}}
 use Rattle.suite_compare.proofs.Saved.{one_class}
 use Rattle.suite_compare.proofs.verdicts.is_single.Goals as goal
 

@@ -1,6 +1,5 @@
 use Rattle.std.proofs.Common.{◌∙◌, ◌∷◌, [], ap, length}
-use Rattle.suite_compare.specs.Kinds.{kernel_in, kernel_verdict}
-use Rattle.suite_compare.proofs.Judged.{need_at, one_fits}
+use Rattle.suite_compare.{specs.Kinds.{kernel_in, kernel_verdict}, proofs.Judged.{need_at, one_fits}}
 use Rattle.suite_compare.proofs.verdicts.verdict_alone.Goals as goal
 
 pub one_goal-requires : goal.one_goal-requires

@@ -1,7 +1,5 @@
 use Rattle.std.proofs.Common.{◌∙◌, ap, length}
-use Rattle.suite_compare.specs.Bad.{entered_verdict}
-use Rattle.suite_compare.proofs.Judged.{below_at}
-use Rattle.suite_compare.proofs.Saved.{entered_told}
+use Rattle.suite_compare.{specs.Bad.{entered_verdict}, proofs.Judged.{below_at}, proofs.Saved.{entered_told}}
 use Rattle.suite_compare.proofs.verdicts.verdict_beside.Goals as goal
 
 pub is_told-requires-clause-first : goal.is_told-requires-clause-first

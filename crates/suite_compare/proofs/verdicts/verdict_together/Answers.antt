@@ -1,7 +1,5 @@
 use Rattle.std.proofs.Common.{◌∙◌, ◌∷◌, [], ap, ap₂, length}
-use Rattle.suite_compare.specs.Kinds.{kernel_in, kernel_verdict}
-use Rattle.suite_compare.proofs.Judged.{below_at, need_at, pair_fits}
-use Rattle.suite_compare.proofs.Saved.{rivals_told}
+use Rattle.suite_compare.{specs.Kinds.{kernel_in, kernel_verdict}, proofs.Judged.{below_at, need_at, pair_fits}, proofs.Saved.{rivals_told}}
 use Rattle.suite_compare.proofs.verdicts.verdict_together.Goals as goal
 
 pub are_rivals-requires-clause-first : goal.are_rivals-requires-clause-first

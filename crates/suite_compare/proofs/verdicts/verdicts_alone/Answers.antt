@@ -1,7 +1,5 @@
-use Rattle.std.proofs.Common.{[], map, ap, ◌∙◌, arith}
-use Rattle.std.proofs.lemmas.List.{take_all}
-use Rattle.suite_compare.specs.Kinds.{alone, kernel_in}
-use Rattle.suite_compare.proofs.Groups.{map_pushed}
+use Rattle.std.{proofs.Common.{[], map, ap, ◌∙◌, arith}, proofs.lemmas.List.{take_all}}
+use Rattle.suite_compare.{specs.Kinds.{alone, kernel_in}, proofs.Groups.{map_pushed}}
 use Rattle.suite_compare.proofs.verdicts.verdicts_alone.Goals as goal
 
 pub loop-kind-preserved : goal.loop-kind-preserved

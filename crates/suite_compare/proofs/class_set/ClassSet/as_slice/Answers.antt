@@ -1,6 +1,5 @@
 use Rattle.std.proofs.Common.{length, subst, sym}
-use Rattle.suite_compare.specs.Choices.{AreBelow}
-use Rattle.suite_compare.proofs.Chosen.{flagged_below}
+use Rattle.suite_compare.{specs.Choices.{AreBelow}, proofs.Chosen.{flagged_below}}
 use Rattle.suite_compare.proofs.class_set.ClassSet.as_slice.Goals as goal
 
 pub returns-clause-below : goal.returns-clause-below

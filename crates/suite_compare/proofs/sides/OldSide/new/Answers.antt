@@ -1,7 +1,6 @@
 use Rattle.std.proofs.Common.{◌∙◌, ap, length, subst}
 use Rattle.listed.specs.Lists.{In}
-use Rattle.suite_compare.specs.Comparing.{named_verdict, AreVerdicts, IsSide}
-use Rattle.suite_compare.proofs.Named.{own_names}
+use Rattle.suite_compare.{specs.Comparing.{named_verdict, AreVerdicts, IsSide}, proofs.Named.{own_names}}
 use Rattle.suite_compare.proofs.sides.OldSide.new.Goals as goal
 
 pub side_of-requires-clause-names : goal.side_of-requires-clause-names

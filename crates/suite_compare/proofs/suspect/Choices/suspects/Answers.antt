@@ -1,12 +1,7 @@
-use Rattle.std.proofs.Common.{◌≡◌, ◌<◌, ◌++◌, [], length, get_or, sym, ◌∙◌, ap, subst}
-use Rattle.std.specs.List.{flat_map, range_with_len}
-use Rattle.std.proofs.lemmas.List.{append-nil, take_all}
+use Rattle.std.{proofs.Common.{◌≡◌, ◌<◌, ◌++◌, [], length, get_or, sym, ◌∙◌, ap, subst}, specs.List.{flat_map, range_with_len}, proofs.lemmas.List.{append-nil, take_all}}
 use Rattle.listed.proofs.Lists.{In_at}
 use Rattle.row_book.specs.Book.{listed_for}
-use Rattle.suite_compare.specs.Choices.{AreBelow}
-use Rattle.suite_compare.specs.Suspects.{facing}
-use Rattle.suite_compare.proofs.Groups.{behind_more}
-use Rattle.suite_compare.proofs.Chosen.{all_suspects, chosen_fit, conflicts_within, facing_suspects}
+use Rattle.suite_compare.{specs.Choices.{AreBelow}, specs.Suspects.{facing}, proofs.Groups.{behind_more}, proofs.Chosen.{all_suspects, chosen_fit, conflicts_within, facing_suspects}}
 use Rattle.suite_compare.proofs.suspect.Choices.suspects.Goals as goal
 
 pub classes_at-choice-requires : goal.classes_at-choice-requires

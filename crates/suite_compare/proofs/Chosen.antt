@@ -7,9 +7,6 @@ use Rattle.suite_compare.{specs.FirstChoices.{first_member, is_one_of, IsFirstCh
 use Rattle.clause_pool.specs.Interned.{Interned, clause_at, clauses_at, ids_at}
 use Rattle.repo_model.proofs.Elements.{range_cases, range_from}
 
-undecided_one : (a b : Bool) → a ≡ false → b ≡ false → (not a && not b) ≡ true
-undecided_one a b e f = rw (e, f) refl
-
 decided_one : (a b : Bool) → b ≡ true → (not a && not b) ≡ false
 decided_one true b e = refl
 decided_one false b e = rw e refl
@@ -21,7 +18,7 @@ picked_first set T [] m under o p f = absurd (cc p)
 picked_first set T (x ∷ xs) m under o p f =
     let w = and_parts (not (set (literal x true))) (is_open_need set (goal_sentence xs)) o in
     let other : set (literal x false) ≡ false = false_from_ne_true (set (literal x false)) (λ h. both_ways (T x) (not-true (T x) (under (literal x false) h)) p) in
-    let take_it : is_undecided set (literal x true) ≡ true = undecided_one (set (literal x true)) (set (literal x false)) (not-true (set (literal x true)) w.0) other in
+    let take_it : is_undecided set (literal x true) ≡ true = rw (not-true (set (literal x true)) w.0, other) refl in
     (x, sym (same_Some (literal x true) m (rw take_it at f)), p)
 
 head_hits : (T : NumSet) (c : List ℕ) → is_one_of T (first_member c) ≡ true → Hit (Is T) c
@@ -120,10 +117,7 @@ left_less size flags new members less n e made f = rw made (record {
   ];
 })
 
--- the row of a class of a sound book is in the pool, and its numbers are classes
-pub row_within : (pool : Interned) (book : Book) (class id : ℕ) → Sound pool book → class < length book.rows → id ≡ row_id book.rows class → id < length pool.rows
-row_within pool book class id sound l is = subst (λ z. z < length pool.rows) (sym is) (sound.rows.of_pool (row_id book.rows class) (In_at book.rows class 0 l))
-
+-- the numbers of the row of a class of a sound book are classes
 pub row_numbers : (pool : Interned) (book : Book) (p : ℕ) (row : List ℕ) → Sound pool book → p < length book.rows → row ≡ ids_at pool (row_id book.rows p) → (c : List ℕ) → In c (clauses_at pool row) → AreBelow (length book.rows) c
 row_numbers pool book p row sound inside lent c i = sound.rows.numbers (row_id book.rows p) (In_at book.rows p 0 inside) c (subst (λ z. In c (clauses_at pool z)) lent i)
 

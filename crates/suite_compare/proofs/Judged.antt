@@ -1,10 +1,10 @@
 -- Verdicts on kinds.
-use Rattle.std.{proofs.Common.{◌≡◌, ℕ, ◌<◌, Bool, true, false, not, List, [], ◌∷◌, inl, inr, length, get_or, refl, sym, ◌∙◌, ap, subst, arith, Some}, specs.List.{flat_map}, proofs.lemmas.Bool.{cases_lt, and_from, and_parts, cases_Bool, both_ways, false≢true, lt-ltb, le-ltb}, proofs.lemmas.List.{get_or-map, get_or_past, length-map}}
+use Rattle.std.{proofs.Common.{◌≡◌, ℕ, ◌<◌, Bool, true, false, not, List, [], ◌∷◌, inl, inr, length, get_or, refl, sym, ◌∙◌, ap, subst, arith}, specs.List.{flat_map}, proofs.lemmas.Bool.{cases_lt, and_from, and_parts, cases_Bool, both_ways, false≢true, lt-ltb, le-ltb}, proofs.lemmas.List.{get_or-map, get_or_past, length-map}}
 use Rattle.listed.{proofs.Lists.{in_cond_cases, in_cond_first, In_flat_cases, In_flat, In_cases, In_none, In_at, has_In}, specs.Lists.{In, has}}
 use Rattle.clause_pool.specs.Interned.{Interned}
 use Rattle.row_book.{specs.Book.{listed_for, repository_of, Sound}, specs.Needs.{AreNeeds, IsNeed, NeedsFit}, specs.Repository.{Repository}, specs.declared.book.Book.{Book}}
 use Rattle.suite_compare.{specs.FirstChoices.{IsFirstChoice}, specs.Bad.{bad, bad_entry, is_bad, AreAllBad, AreBad, AreSingles}, specs.Choices.{ArePeaceful}, specs.Kinds.{alone, alone_in, kernel_in, kernel_verdict, together, together_in, IsJudge}, specs.Asking.{tree_of, verdict_of}, specs.Report.{is_yes}, specs.Suspects.{AreChoices, AreSuspects}, specs.declared.verdicts.Bad.{Bad}, specs.declared.verdicts.Judge.{Judge}, specs.declared.suspect.Choices.{Choices}, proofs.Chosen.{choice_tells, choices_join}}
-use Rattle.search_terms.{specs.Form.{form}, specs.Tree.{Tree, IsTree, found_of, failed_leaves}, proofs.Computed.{search_tree_is}, specs.Closure.{InRange}, proofs.Found.{one_tree}, proofs.Ranges.{form_ranged, rows_long}}
+use Rattle.search_terms.{specs.Form.{form}, specs.Tree.{Tree, IsTree, failed_leaves}, proofs.Computed.{search_tree_is}, specs.Closure.{InRange}, proofs.Found.{one_tree}, proofs.Ranges.{form_ranged, rows_long}}
 use Rattle.clause_solver.{specs.Verdicts.{IsSearchVerdict, IsVerdictOf}, specs.declared.outcomes.Verdict.{Verdict}, specs.declared.outcomes.Verdict.TheVariants.{Yes, No, Spent}}
 
 pub need_at : (kinds : List (List ℕ)) (k : ℕ) → k < length kinds → AreNeeds kinds → IsNeed (listed_for kinds k)
@@ -52,10 +52,7 @@ joined_yes pool book budget A B S T sound fit first second peace =
     let R : Repository = repository_of pool book in
     let joined = choices_join R (A ∷ []) (B ∷ []) (has S) (has T) (λ m n h. sound.conflicts.either_way m n h) first second (λ m n i j. peace m n (has_In S m i) (has_In T n j)) in
     let tells = choice_tells R (A ∷ (B ∷ [])) _ joined (tree_of R (A ∷ (B ∷ []))) (tree_is pool book (A ∷ (B ∷ [])) sound fit) in
-    found_yes budget (tree_of (repository_of pool book) (A ∷ (B ∷ []))) tells.0 tells.1.0 tells.1.1
-  where
-    found_yes : (budget : ℕ) (tree : Tree) → failed_leaves tree ≡ 0 → (chosen : List Bool) → found_of tree ≡ Some chosen → verdict_of budget tree ≡ Yes
-    found_yes budget tree none chosen some = rw (le-ltb budget (failed_leaves tree) (omega arith), some) refl
+    rw (le-ltb budget (failed_leaves (tree_of R (A ∷ (B ∷ [])))) (omega (arith, tells.0)), tells.1.1) refl
 
 -- the verdict on a kind, as it was found to say
 pub single_at : (judge : Judge) (singles : List Verdict) (k : ℕ) → k < length judge.kinds.items → AreSingles judge singles → get_or singles k Spent ≡ alone_in judge k
@@ -101,24 +98,18 @@ bad_from judge singles choices kind suspects list so l told chosen suspected mad
 
 -- and of one that does not
 pub bad_none : (judge : Judge) (kind : ℕ) (list : List Bad) → is_yes (alone_in judge kind) ≡ false → list ≡ [] → AreBad judge kind list
-bad_none judge kind list not_yes e = record {
-  within = λ b i. absurd (none b i);
-  single = λ b i. absurd (none b i);
-  verdict = λ b i. absurd (none b i);
+bad_none judge kind list not_yes e = subst (AreBad judge kind) (sym e) (record {
+  within = λ b i. absurd (In_none i);
+  single = λ b i. absurd (In_none i);
+  verdict = λ b i. absurd (In_none i);
   whole = λ first. absurd (both_ways (is_yes (alone_in judge kind)) not_yes first);
-}
-  where
-    none : (b : Bad) → In b list → ⊥
-    none b i = In_none (subst (λ z. In b z) e i)
+})
 
 pub singles_long : (judge : Judge) (singles : List Verdict) → AreSingles judge singles → length singles ≡ length judge.kinds.items
 singles_long judge singles e = ap length e ∙ length-map judge.kinds.items (alone (kernel_in judge) judge.budget)
 
 pub entry_yes : (judge : Judge) (singles : List Verdict) (kind other : ℕ) → is_yes (together_in judge kind other) ≡ true → bad_entry judge singles kind other ≡ []
 entry_yes judge singles kind other both = elim (cases_Bool (is_yes (get_or singles other Spent))) [ inl t ↦ rw (t, both) refl | inr f ↦ rw f refl ]
-
-pub entry_off : (judge : Judge) (singles : List Verdict) (kind other : ℕ) → is_yes (get_or singles other Spent) ≡ false → bad_entry judge singles kind other ≡ []
-entry_off judge singles kind other off = rw off refl
 
 pub entry_bad : (judge : Judge) (singles : List Verdict) (kind other : ℕ) (v : Verdict) → is_yes (get_or singles other Spent) ≡ true → v ≡ together_in judge kind other → is_yes v ≡ false → bad_entry judge singles kind other ≡ bad other v ∷ []
 entry_bad judge singles kind other v single is off = rw (single, ap is_yes (sym is) ∙ off) (ap (λ z. bad other z ∷ []) (sym is))

@@ -1,11 +1,11 @@
 -- The names of both suites: their classes, and the sides of a comparison.
-use Rattle.std.{proofs.Common.{◌≡◌, ℕ, ◌<◌, ◌+◌, Bool, true, List, [], ◌∷◌, ◌++◌, length, get_or, take, map, refl, ◌∙◌, ap, subst, sym, ap₂, arith, inl, inr, ◌≤◌, false, cond, filter}, specs.Str.{bytes_eq}, proofs.lemmas.Slice.Eq.{bytes_eq-Decides}, proofs.lemmas.List.{get_or-map, length-map, append-nil, get_or_append_left, get_or_push, length_push, take_all, take_more}, proofs.lemmas.List.Elements.{filter-append}}
+use Rattle.std.{proofs.Common.{◌≡◌, ℕ, ◌<◌, ◌+◌, Bool, true, List, [], ◌∷◌, ◌++◌, length, get_or, take, map, refl, ◌∙◌, ap, subst, sym, ap₂, arith, inl, inr, ◌≤◌, false, cond, filter}, specs.Str.{bytes_eq}, proofs.lemmas.Slice.Eq.{bytes_eq-Decides}, proofs.lemmas.List.{get_or-map, length-map, append-nil, get_or_append_left, get_or_push, length_push, take_all}, proofs.lemmas.List.Elements.{filter_more}}
 use Rattle.row_book.{specs.Needs.{IsNeed}, specs.Book.{listed_for, Sound}, specs.Repository.{Repository}, specs.Rounds.{kernel}}
 use Rattle.listed.{specs.Lists.{In}, proofs.Lists.{any_cases, any_from, filled, In_map_cases, In_place}}
 use Rattle.clause_pool.proofs.Order.{ordered_parts}
 use Rattle.relation_fields.{specs.declared.packages.Home.{Home}, specs.declared.packages.PackageFacts.{PackageFacts}}
 use Rattle.repo_model.{specs.Goals.{any_version, names_in, packages_named}, specs.Repository.{suite_repository}, specs.Stanzas.{no_stanza}, proofs.Chosen.{named_is, number_from}, specs.declared.suite.Suite.{Suite}}
-use Rattle.suite_compare.{specs.Asking.{image_of, tree_of, verdict_of}, specs.Names.{stands_in}, proofs.Gathering.{image_filled, named_inside}, proofs.Groups.{map_pushed, pushed_at}, proofs.SuiteKernels.{classes_ascending, classes_fit}, specs.Comparing.{named_verdict, AreVerdicts, IsPart, IsSide}, specs.Kinds.{kernel_in, AreKinds, IsJudge, alone_in, together_in}, specs.declared.sides.Side.{Side}, specs.declared.verdicts.Judge.{Judge}, specs.declared.sides.Part.{Part}}
+use Rattle.suite_compare.{specs.Asking.{image_of, tree_of, verdict_of}, specs.Names.{stands_in}, proofs.Gathering.{image_filled, named_inside}, proofs.Groups.{pushed_at}, proofs.SuiteKernels.{classes_ascending, classes_fit}, specs.Comparing.{named_verdict, AreVerdicts, IsPart, IsSide}, specs.Kinds.{kernel_in, AreKinds, IsJudge, alone_in, together_in}, specs.declared.sides.Side.{Side}, specs.declared.verdicts.Judge.{Judge}, specs.declared.sides.Part.{Part}}
 use Rattle.search_terms.proofs.Ranges.{rows_long}
 use Rattle.clause_solver.{specs.Outcomes.{IsBudget}, specs.Solvers.{IsReady}, specs.declared.outcomes.Verdict.{Verdict}}
 
@@ -27,16 +27,9 @@ own_names packages name i =
     let w : (x : PackageFacts) × In x packages × (name ≡ x.name) = In_map_cases (λ facts. facts.name) packages name (ordered_parts (map (λ facts. facts.name) packages) name i) in
     any_from (λ facts. bytes_eq name facts.name) packages w.0 w.1 (ap (λ z. bytes_eq z w.0.name) w.2 ∙ (bytes_eq-Decides w.0.name w.0.name).1 refl)
 
--- one list of classes more
-pub mapped_step : {A B : Type 0} (f : A → B) (xs : List A) (i : ℕ) (x : A) (made new : List B) (y : B) → i < length xs → x ≡ get_or xs i x → new ≡ made ++ y ∷ [] → y ≡ f x → made ≡ map f (take i xs) → new ≡ map f (take (i + 1) xs)
-mapped_step f xs i x made new y l is e same so = map_pushed f xs i x made new y l e (same ∙ ap f is) so
-
 -- a judge of the kinds of names that packages have
 module _ (limit : ℕ) (hold : Bool) (home : Home) (stanzas : List PackageFacts) (judge : Judge) (names lists : List (List ℕ)) (of : List ℕ) (is : kernel_in judge ≡ kernel limit hold (suite_repository home stanzas))
     (made : lists ≡ map (λ name. image_of limit hold home stanzas (any_version name)) names) (kinds : AreKinds lists judge.kinds.items of) where
-  abbrev K : Repository
-  K = kernel limit hold (suite_repository home stanzas)
-
   abbrev image : List ℕ → List ℕ
   image name = image_of limit hold home stanzas (any_version name)
 
@@ -98,8 +91,7 @@ part_none packages names of made kinds m k = record {
 pub part_skip : (packages : List PackageFacts) (names : List (List ℕ)) (of : List ℕ) (n : ℕ) (made : List (List ℕ)) (kinds : List ℕ) → n < length names → stands_in packages (listed_for names n) ≡ false
     → IsPartTo packages names of n made kinds → IsPartTo packages names of (n + 1) made kinds
 part_skip packages names of n made kinds l fails so = record {
-  names_are = so.names_are ∙ sym (ap (filter (stands_in packages)) (take_more names n [] l) ∙ filter-append (stands_in packages) (take n names) (listed_for names n ∷ [])
-      ∙ ap (λ b. filter (stands_in packages) (take n names) ++ cond b (listed_for names n ∷ []) []) fails ∙ append-nil (filter (stands_in packages) (take n names)));
+  names_are = so.names_are ∙ sym (filter_more (stands_in packages) names n [] l ∙ ap (λ b. filter (stands_in packages) (take n names) ++ cond b (listed_for names n ∷ []) []) fails ∙ append-nil (filter (stands_in packages) (take n names)));
   long = so.long;
   each = so.each;
 }
@@ -107,8 +99,7 @@ part_skip packages names of n made kinds l fails so = record {
 pub part_more : (packages : List PackageFacts) (names : List (List ℕ)) (of : List ℕ) (n : ℕ) (made new : List (List ℕ)) (kinds more : List ℕ) (copy : List ℕ) (k : ℕ) → n < length names → stands_in packages (listed_for names n) ≡ true
     → copy ≡ listed_for names n → k ≡ get_or of n 0 → new ≡ made ++ copy ∷ [] → more ≡ kinds ++ k ∷ [] → IsPartTo packages names of n made kinds → IsPartTo packages names of (n + 1) new more
 part_more packages names of n made new kinds more copy k l passes is at e f so = record {
-  names_are = e ∙ ap₂ (λ xs z. xs ++ z ∷ []) so.names_are is ∙ sym (ap (filter (stands_in packages)) (take_more names n [] l) ∙ filter-append (stands_in packages) (take n names) (listed_for names n ∷ [])
-      ∙ ap (λ b. filter (stands_in packages) (take n names) ++ cond b (listed_for names n ∷ []) []) passes);
+  names_are = e ∙ ap₂ (λ xs z. xs ++ z ∷ []) so.names_are is ∙ sym (filter_more (stands_in packages) names n [] l ∙ ap (λ b. filter (stands_in packages) (take n names) ++ cond b (listed_for names n ∷ []) []) passes);
   long = ap length f ∙ length_push kinds k ∙ ap (λ z. z + 1) so.long ∙ sym (ap length e ∙ length_push made copy);
   each = λ j m. elim (pushed_at made new copy [] (length made) j refl e (subst (λ z. j < z) (ap length e ∙ length_push made copy) m)) [
     | inl w ↦ let o = so.each j w.0 in (o.0, o.1, w.1 ∙ o.2, ap (λ z. get_or z j 0) f ∙ get_or_append_left kinds (k ∷ []) 0 j (subst (λ z. j < z) (sym so.long) w.0) ∙ o.3)

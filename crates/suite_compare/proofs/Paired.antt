@@ -1,7 +1,8 @@
 -- The lines of pairs: the names of which something is told beside those of a pair of kinds, and their places.
-use Rattle.std.{proofs.Common.{◌≡◌, ℕ, ◌<◌, Bool, true, false, cond, List, [], inl, inr, length, get_or, refl, sym, ◌∙◌, ap, ap₂, subst, Option, Some, None, ◌+◌, ◌∷◌, ◌++◌, map, filter, ltb, arith}, specs.Prelude.{is_some}, specs.List.{flat_map}, proofs.lemmas.Bool.{cases_Bool, both_ways, false≢true, lt-ltb, le-ltb}, proofs.lemmas.List.{append-nil, flat_map_more}, proofs.lemmas.List.Elements.{filter-append}, proofs.lemmas.List.Folds.{flat_map-map}, proofs.lemmas.List.FromFn.{fill_by_all}}
-use Rattle.listed.{proofs.Lists.{In_flat_cases, In_flat, In_none, In_has, has_In, flat_same, filter_from, filter_cases, filter_same, In_at}, specs.Lists.{In, has, Ascending, here, there}, proofs.Orders.{ascending_same, ascending_filter}}
-use Rattle.row_book.{specs.Book.{listed_for}, specs.Numbers.{numbers}, proofs.Numbers.{numbers_from, numbers_parts, numbers_ascending, numbers_ranged}}
+use Rattle.std.{proofs.Common.{◌≡◌, ℕ, ◌<◌, Bool, true, false, cond, List, [], inl, inr, length, get_or, refl, sym, ◌∙◌, ap, ap₂, subst, Option, Some, None, ◌+◌, ◌∷◌, ◌++◌, map, filter, ltb, arith}, specs.Prelude.{is_some}, specs.List.{flat_map, range_with_len}, proofs.lemmas.Bool.{cases_Bool, both_ways, false≢true, lt-ltb, le-ltb}, proofs.lemmas.List.{flat_map_more}, proofs.lemmas.List.Folds.{flat_map-map}, proofs.lemmas.List.FromFn.{fill_by_all}}
+use Rattle.listed.{proofs.Lists.{In_flat_cases, In_flat, In_none, In_has, has_In, flat_same, filter_from, filter_cases, filter_same, In_at}, specs.Lists.{In, has, Ascending, here, there}, proofs.Orders.{ascending_same, ascending_filter}, proofs.Numbers.{number_kept, number_left}}
+use Rattle.row_book.specs.Book.{listed_for}
+use Rattle.repo_model.proofs.Elements.{range_ascending, range_cases, range_from}
 use Rattle.clause_solver.{specs.declared.outcomes.Verdict.{Verdict}, specs.declared.outcomes.Verdict.TheVariants.{Yes, No, Spent}}
 use Rattle.suite_compare.{specs.Bad.{AreBad, AreAllBad}, specs.Kinds.{alone_in, together_in, AreJoined}, specs.Partners.{beside, beside_all, is_open, new_kind, old_kind, ArePartners, IsJointTable}, specs.Report.{finding, is_yes, pair_line, with_later}, specs.Telling.{found_beside, partners_at, told_after, told_pair}, specs.declared.gather.JointTable.{JointTable}, specs.declared.gather.Partners.{Partners}, specs.declared.report.Finding.{Finding}, specs.declared.report.Finding.TheVariants.{Broken, Open}, specs.declared.verdicts.Bad.{Bad}, specs.declared.verdicts.Judge.{Judge}, specs.Comparing.{told_pairs, goes_alone, AreVerdicts, IsSide, IsTable}, specs.declared.report.ReportLine.{ReportLine}, specs.declared.sides.Side.{Side}}
 use Rattle.clause_pool.proofs.Lists.{In_place}
@@ -92,20 +93,13 @@ pub listed_below : (of : List ℕ) (n size : ℕ) → length of ≡ n → ((i : 
 listed_below of n size long within k j = let p : (i : ℕ) × (i < length of) × (get_or of i 0 ≡ k) = In_place of k 0 j in subst (λ z. z < size) p.2 (within p.0 (subst (λ z. p.0 < z) long p.1))
 
 -- the steps of the loop over names that go by themselves
-pub kept_none : {X : Type 0} (f : ℕ → List X) (p : ℕ → Bool) (lines : List X) → lines ≡ lines ++ flat_map f (filter p (numbers 0 0))
-unfolding numbers
-kept_none f p lines = sym (append-nil lines)
+pub kept_more : {X : Type 0} (f : ℕ → List X) (p : ℕ → Bool) (initial lines new : List X) (n : ℕ) → p n ≡ true → new ≡ lines ++ f n → lines ≡ initial ++ flat_map f (filter p (range_with_len 0 n)) → new ≡ initial ++ flat_map f (filter p (range_with_len 0 (n + 1)))
+kept_more f p initial lines new n passes e so =
+    e ∙ ap (λ z. z ++ f n) so ∙ flat_map_more f initial (filter p (range_with_len 0 n)) n
+    ∙ ap (λ z. initial ++ flat_map f z) (number_kept p n (filter p (range_with_len 0 n)) (filter p (range_with_len 0 n) ++ n ∷ []) passes refl refl)
 
-pub kept_more : {X : Type 0} (f : ℕ → List X) (p : ℕ → Bool) (initial lines new : List X) (xs more : List ℕ) (x : ℕ) → more ≡ xs ++ x ∷ [] → p x ≡ true → new ≡ lines ++ f x
-    → lines ≡ initial ++ flat_map f (filter p xs) → new ≡ initial ++ flat_map f (filter p more)
-kept_more f p initial lines new xs more x made passes e so =
-    e ∙ ap (λ z. z ++ f x) so ∙ flat_map_more f initial (filter p xs) x
-    ∙ ap (λ z. initial ++ flat_map f z) (sym (ap (filter p) made ∙ filter-append p xs (x ∷ []) ∙ ap (λ b. filter p xs ++ cond b (x ∷ []) []) passes))
-
-pub kept_skip : {X : Type 0} (f : ℕ → List X) (p : ℕ → Bool) (initial lines : List X) (xs more : List ℕ) (x : ℕ) → more ≡ xs ++ x ∷ [] → p x ≡ false
-    → lines ≡ initial ++ flat_map f (filter p xs) → lines ≡ initial ++ flat_map f (filter p more)
-kept_skip f p initial lines xs more x made fails so =
-    so ∙ ap (λ z. initial ++ flat_map f z) (sym (ap (filter p) made ∙ filter-append p xs (x ∷ []) ∙ ap (λ b. filter p xs ++ cond b (x ∷ []) []) fails ∙ append-nil (filter p xs)))
+pub kept_skip : {X : Type 0} (f : ℕ → List X) (p : ℕ → Bool) (initial lines : List X) (n : ℕ) → p n ≡ false → lines ≡ initial ++ flat_map f (filter p (range_with_len 0 n)) → lines ≡ initial ++ flat_map f (filter p (range_with_len 0 (n + 1)))
+kept_skip f p initial lines n fails so = so ∙ ap (λ z. initial ++ flat_map f z) (number_left p n (filter p (range_with_len 0 n)) fails refl)
 
 filter_of_map : {A B : Type 0} (p : B → Bool) (g : A → B) (xs : List A) → filter p (map g xs) ≡ map g (filter (λ x. p (g x)) xs)
 filter_of_map p g [] = refl
@@ -190,17 +184,17 @@ module _ (names : List (List ℕ)) (old new : Side) (old_of : List ℕ) (table :
   line i j = pair_line (listed_for names i) (listed_for names j) (finding (v (listed_for names i ∷ (listed_for names j ∷ []))) (w (listed_for names i ∷ (listed_for names j ∷ []))))
 
   abbrev found : List ℕ
-  found = filter (goes_alone new) (numbers (length names) 0)
+  found = filter (goes_alone new) (range_with_len 0 (length names))
 
   inside : (i : ℕ) → In i found → (i < length names) × (ok (get_or joint_of i 0) ≡ true)
   inside i h =
-      let c = filter_cases (goes_alone new) (numbers (length names) 0) i h in
-      let p = numbers_parts (length names) 0 i c.0 in
+      let c = filter_cases (goes_alone new) (range_with_len 0 (length names)) i h in
+      let p = range_cases (length names) 0 i c.0 in
       let l : i < length names = omega (arith, p.1) in
       (l, oks i l ∙ c.1)
 
   found_ascending : Ascending found
-  found_ascending = ascending_filter (goes_alone new) (numbers (length names) 0) (numbers_ascending (length names) 0)
+  found_ascending = ascending_filter (goes_alone new) (range_with_len 0 (length names)) (range_ascending (length names) 0)
 
   module _ (i : ℕ) (h : In i found) where
     abbrev partners : Partners
@@ -224,7 +218,7 @@ module _ (names : List (List ℕ)) (old new : Side) (old_of : List ℕ) (table :
     told j k =
         let a = filter_cases (ltb i) partners.told j k in
         let l : j < length names = subst (λ z. j < z) long (so.within j a.0) in (
-          filter_from (ltb i) found j (filter_from (goes_alone new) (numbers (length names) 0) j (numbers_from (length names) 0 j (omega arith) (omega arith)) (sym (oks j l) ∙ so.single j a.0)) a.1,
+          filter_from (ltb i) found j (filter_from (goes_alone new) (range_with_len 0 (length names)) j (range_from (length names) 0 j (omega arith) (omega arith)) (sym (oks j l) ∙ so.single j a.0)) a.1,
           ap (pair_line (listed_for names i) (listed_for names j)) (sym (pairs i j (inside i h).0 l) ∙ so.found j a.0),
         )
 
@@ -236,11 +230,11 @@ module _ (names : List (List ℕ)) (old new : Side) (old_of : List ℕ) (table :
 
   laters : later (filter (λ a. is_yes (w (a ∷ []))) names) ≡ flat_map (told_after names joint_of lists) found
   laters =
-      ap (λ z. later (filter (λ a. is_yes (w (a ∷ []))) z)) (fill_by_all (listed_for names) names (length names) [] refl (λ k l. refl) ∙ ap (map (listed_for names)) (numbers_ranged (length names) 0))
-      ∙ ap later (filter_of_map (λ a. is_yes (w (a ∷ []))) (listed_for names) (numbers (length names) 0))
+      ap (λ z. later (filter (λ a. is_yes (w (a ∷ []))) z)) (fill_by_all (listed_for names) names (length names) [] refl (λ k l. refl))
+      ∙ ap later (filter_of_map (λ a. is_yes (w (a ∷ []))) (listed_for names) (range_with_len 0 (length names)))
       ∙ ap (λ z. later (map (listed_for names) z))
-      (filter_same (λ i. is_yes (w (listed_for names i ∷ []))) (goes_alone new) (numbers (length names) 0)
-      (λ i h. let p = numbers_parts (length names) 0 i h in let l : i < length names = omega (arith, p.1) in ap is_yes (new_verdicts.single i l)))
+      (filter_same (λ i. is_yes (w (listed_for names i ∷ []))) (goes_alone new) (range_with_len 0 (length names))
+      (λ i h. let p = range_cases (length names) 0 i h in let l : i < length names = omega (arith, p.1) in ap is_yes (new_verdicts.single i l)))
       ∙ later_of_map (λ a b. pair_line a b (finding (v (a ∷ (b ∷ []))) (w (a ∷ (b ∷ []))))) (listed_for names) found
       ∙ later_ascending line found found_ascending
       ∙ flat_same (λ i. flat_map (line i) (filter (ltb i) found)) (told_after names joint_of lists) found after

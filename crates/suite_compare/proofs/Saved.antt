@@ -1,11 +1,10 @@
 -- Searches that are not made.
 use Rattle.std.{proofs.Common.{◌≡◌, ℕ, ◌<◌, true, false, ◌||◌, Bool, List, [], ◌∷◌, inl, inr, length, refl, sym, ◌∙◌, ap, ap₂, subst, arith, eqb, Option, Some, None, ◌⊎◌, ◌++◌, slice_index_or}, proofs.lemmas.Bool.{and_from, or_left, le-ltb, both_ways, eq-eqb, eqb-true}, proofs.lemmas.List.Elements.{All-contains, All-cons, All-nil, All-head}, specs.Prelude.{Contains}, specs.List.{find}, specs.Option.{option_map_or}}
 use Rattle.listed.{proofs.Lists.{in_contains, has_In, contains_in, find_none, find_some}, specs.Lists.{In, here, there}}
-use Rattle.row_book.{specs.Book.{listed_for, repository_of, Sound}, specs.Needs.{NeedsFit}, specs.Repository.{Repository}, specs.declared.book.Book.{Book}}
+use Rattle.row_book.{specs.Book.{listed_for}, specs.Needs.{NeedsFit}, specs.Repository.{Repository}}
 use Rattle.search_terms.{specs.declared.literals.Literal.{Literal}, specs.Closure.{literal, negation, is_same, Clashes, InClosure, IsClosedUnder, IsUnitClosed, IsClosure}, specs.Form.{conflict_sentence, form, goal_sentence, repository_form}, specs.Tree.Tree.{failed_leaf, found_leaf, split}, proofs.Certificates.{same_refl}, proofs.Forms.{conflict_in, goal_in}, proofs.Found.{one_tree}, specs.Tree.{is_open_need, Tree, IsTree}}
 use Rattle.clause_solver.{specs.declared.outcomes.Verdict.TheVariants.{No, Yes}, specs.declared.outcomes.Verdict.{Verdict}, proofs.Calm.{closure_closed}, proofs.Preparing.{clash_part}, proofs.Running.{closed_part}}
-use Rattle.suite_compare.{specs.Asking.{tree_of, verdict_of}, specs.Kinds.{kernel_in, together_in, AreRivals, IsJudge, alone_in, together, IsOneClass}, specs.declared.verdicts.Judge.{Judge}, proofs.Judged.{pair_fits, tree_is}, specs.Bad.{entered_verdict, AreAllBadTo}, specs.Report.{is_yes}, specs.declared.verdicts.Bad.{Bad}}
-use Rattle.clause_pool.specs.Interned.{Interned}
+use Rattle.suite_compare.{specs.Asking.{tree_of, verdict_of}, specs.Kinds.{kernel_in, together_in, AreRivals, IsJudge, alone_in, IsOneClass}, specs.declared.verdicts.Judge.{Judge}, proofs.Judged.{pair_fits, tree_is}, specs.Bad.{entered_verdict, AreAllBadTo}, specs.Report.{is_yes}, specs.declared.verdicts.Bad.{Bad}}
 
 -- Two classes that conflict do not go together, and one failed leaf tells it.
 -- the class of a goal of one class is true in each closed set, and so at the root
@@ -67,50 +66,44 @@ find_swap p a b rest e = rw e refl
 one_is_met : (c : ℕ) (rest : List (List Literal)) (set : Literal → Bool) → IsUnitClosed (goal_sentence (c ∷ []) ∷ rest) set → is_open_need set (goal_sentence (c ∷ [])) ≡ false
 one_is_met c rest set closed = rw (one_true c set (All-head (IsClosedUnder set) (goal_sentence (c ∷ [])) rest closed.steps)) refl
 
-tree_swap : (n c : ℕ) (b : List Literal) (rest : List (List Literal)) (given : List Literal) (tree : Tree) → IsTree n (goal_sentence (c ∷ []) ∷ (b ∷ rest)) given tree → IsTree n (b ∷ (goal_sentence (c ∷ []) ∷ rest)) given tree
-tree_swap n c b rest given failed_leaf is =
-    clash_part (goal_sentence (c ∷ []) ∷ (b ∷ rest)) (b ∷ (goal_sentence (c ∷ []) ∷ rest)) given (swap_contains (goal_sentence (c ∷ [])) b rest) is
-tree_swap n c b rest given (found_leaf chosen) is = record {
+-- a sentence that is met in each closed set changes places with the next one
+tree_swap : (n : ℕ) (a b : List Literal) (rest : List (List Literal)) → ((more : List (List Literal)) (set : Literal → Bool) → IsUnitClosed (a ∷ more) set → is_open_need set a ≡ false)
+    → (given : List Literal) (tree : Tree) → IsTree n (a ∷ (b ∷ rest)) given tree → IsTree n (b ∷ (a ∷ rest)) given tree
+tree_swap n a b rest met given failed_leaf is = clash_part (a ∷ (b ∷ rest)) (b ∷ (a ∷ rest)) given (swap_contains a b rest) is
+tree_swap n a b rest met given (found_leaf chosen) is = record {
   set = is.set;
-  closure = closure_swap (goal_sentence (c ∷ [])) b rest given is.set is.closure;
-  calm = λ k. is.calm (clash_part (b ∷ (goal_sentence (c ∷ []) ∷ rest)) (goal_sentence (c ∷ []) ∷ (b ∷ rest)) given (swap_contains b (goal_sentence (c ∷ [])) rest) k);
-  met = find_swap (is_open_need is.set) (goal_sentence (c ∷ [])) b rest
-      (one_is_met c (b ∷ rest) is.set (closure_closed (goal_sentence (c ∷ []) ∷ (b ∷ rest)) given is.set is.closure)) ∙ is.met;
+  closure = closure_swap a b rest given is.set is.closure;
+  calm = λ k. is.calm (clash_part (b ∷ (a ∷ rest)) (a ∷ (b ∷ rest)) given (swap_contains b a rest) k);
+  met = find_swap (is_open_need is.set) a b rest (met (b ∷ rest) is.set (closure_closed (a ∷ (b ∷ rest)) given is.set is.closure)) ∙ is.met;
   long = is.long;
   each = is.each;
 }
-tree_swap n c b rest given (split d left right) is = (
+tree_swap n a b rest met given (split d left right) is = (
   record {
     set = is.0.set;
-    closure = closure_swap (goal_sentence (c ∷ [])) b rest given is.0.set is.0.closure;
-    calm = λ k. is.0.calm (clash_part (b ∷ (goal_sentence (c ∷ []) ∷ rest)) (goal_sentence (c ∷ []) ∷ (b ∷ rest)) given (swap_contains b (goal_sentence (c ∷ [])) rest) k);
+    closure = closure_swap a b rest given is.0.set is.0.closure;
+    calm = λ k. is.0.calm (clash_part (b ∷ (a ∷ rest)) (a ∷ (b ∷ rest)) given (swap_contains b a rest) k);
     need = is.0.need;
-    first = find_swap (is_open_need is.0.set) (goal_sentence (c ∷ [])) b rest
-        (one_is_met c (b ∷ rest) is.0.set (closure_closed (goal_sentence (c ∷ []) ∷ (b ∷ rest)) given is.0.set is.0.closure)) ∙ is.0.first;
+    first = find_swap (is_open_need is.0.set) a b rest (met (b ∷ rest) is.0.set (closure_closed (a ∷ (b ∷ rest)) given is.0.set is.0.closure)) ∙ is.0.first;
     member = is.0.member;
     least = is.0.least;
     named = is.0.named;
   },
-  tree_swap n c b rest (given ++ literal d true ∷ []) left is.1,
-  tree_swap n c b rest (given ++ literal d false ∷ []) right is.2,
+  tree_swap n a b rest met (given ++ literal d true ∷ []) left is.1,
+  tree_swap n a b rest met (given ++ literal d false ∷ []) right is.2,
 )
 
 -- so the verdict on two kinds of which one is a single class is that in the other order
-one_swap : (pool : Interned) (book : Book) (budget c : ℕ) (B : List ℕ) → Sound pool book → NeedsFit (length book.rows) ((c ∷ []) ∷ (B ∷ [])) → NeedsFit (length book.rows) (B ∷ ((c ∷ []) ∷ []))
-    → together (repository_of pool book) budget (c ∷ []) B ≡ together (repository_of pool book) budget B (c ∷ [])
-one_swap pool book budget c B sound fit back =
-    let R : Repository = repository_of pool book in
-    ap (verdict_of budget)
-    (one_tree (length R.clauses) (form R (B ∷ ((c ∷ []) ∷ []))) [] (tree_of R (B ∷ ((c ∷ []) ∷ []))) (tree_of R ((c ∷ []) ∷ (B ∷ [])))
-    (tree_is pool book (B ∷ ((c ∷ []) ∷ [])) sound back)
-    (tree_swap (length R.clauses) c (goal_sentence B) (repository_form R) [] (tree_of R ((c ∷ []) ∷ (B ∷ []))) (tree_is pool book ((c ∷ []) ∷ (B ∷ [])) sound fit)))
-
 single_swap : (judge : Judge) (first second : ℕ) → IsJudge judge → first < length judge.kinds.items → second < length judge.kinds.items → IsOneClass (listed_for judge.kinds.items first) → together_in judge first second ≡ together_in judge second first
 single_swap judge first second so l m one =
-    subst (λ z. NeedsFit (length judge.book.now.rows) (z ∷ (listed_for judge.kinds.items second ∷ [])) → NeedsFit (length judge.book.now.rows) (listed_for judge.kinds.items second ∷ (z ∷ []))
-    → together (kernel_in judge) judge.budget z (listed_for judge.kinds.items second) ≡ together (kernel_in judge) judge.budget (listed_for judge.kinds.items second) z)
-    (sym one.1) (one_swap judge.pool.now judge.book.now judge.budget one.0 (listed_for judge.kinds.items second) so.sound)
-    (pair_fits (length judge.book.now.rows) judge.kinds.items first second l m so.fit) (pair_fits (length judge.book.now.rows) judge.kinds.items second first m l so.fit)
+    let R : Repository = kernel_in judge in
+    let A : List ℕ = listed_for judge.kinds.items first in
+    let B : List ℕ = listed_for judge.kinds.items second in
+    let met : (more : List (List Literal)) (set : Literal → Bool) → IsUnitClosed (goal_sentence A ∷ more) set → is_open_need set (goal_sentence A) ≡ false = rw one.1 (one_is_met one.0) in
+    let swapped : IsTree (length R.clauses) (form R (B ∷ (A ∷ []))) [] (tree_of R (A ∷ (B ∷ []))) = tree_swap (length R.clauses) (goal_sentence A) (goal_sentence B) (repository_form R) met [] (tree_of R (A ∷ (B ∷ [])))
+    (tree_is judge.pool.now judge.book.now (A ∷ (B ∷ [])) so.sound (pair_fits (length judge.book.now.rows) judge.kinds.items first second l m so.fit)) in
+    ap (verdict_of judge.budget) (one_tree (length R.clauses) (form R (B ∷ (A ∷ []))) [] (tree_of R (B ∷ (A ∷ []))) (tree_of R (A ∷ (B ∷ [])))
+    (tree_is judge.pool.now judge.book.now (B ∷ (A ∷ [])) so.sound (pair_fits (length judge.book.now.rows) judge.kinds.items second first m l so.fit)) swapped)
 
 pub one_class : (goal : List ℕ) → length goal ≡ 1 → IsOneClass goal
 one_class [] e = absurd (omega (arith, e))

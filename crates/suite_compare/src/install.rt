@@ -7,8 +7,6 @@ ghost use Rattle.row_book.specs.Book.{repository_of};
 ghost use Rattle.row_book.specs.Flags.{flag};
 ghost use Rattle.row_book.specs.Needs.{NeedsFit};
 ghost use Rattle.row_book.specs.Repository.{Healthy};
-ghost use Rattle.row_book.specs.Rounds.{kernel_class};
-ghost use Rattle.listed.specs.Lists.{has};
 ghost use Rattle.row_book.specs.Sets.{HitsAll};
 ghost use Rattle.row_book.specs.Trail.{trail_meaning};
 ghost use Rattle.suite_compare.specs.Answering.{true_numbers};
@@ -30,10 +28,8 @@ pub(crate) fn install(
 ) -> Result<NumList, AllocError>
     requires healthy { Healthy (repository_of view.now.pool view.now.kernel.book) (flag chosen.now) }
     requires fit { NeedsFit (length view.now.book.rows) wanted.now }
-    requires hits { HitsAll (λ n. flag chosen.now (kernel_class view.now.limit view.now.kernel.hold (repository_of view.now.pool view.now.book) n)) wanted.now }
-    ensures is { IfOk result (λ install. install ≡ filter (trim_of (repository_of view.now.pool view.now.book) wanted.now (lift_of (trail_meaning view.now.pool view.now.kernel.trail.steps) (flag chosen.now))) (range_with_len 0 (length view.now.book.rows))) }
-    ensures healthy { IfOk result (λ install. Healthy (repository_of view.now.pool view.now.book) (has install)) }
-    ensures hits { IfOk result (λ install. HitsAll (has install) wanted.now) }
+    requires hits { HitsAll (lift_of (trail_meaning view.now.pool view.now.kernel.trail.steps) (flag chosen.now)) wanted.now }
+    ensures { IfOk result (λ install. install ≡ filter (trim_of (repository_of view.now.pool view.now.book) wanted.now (lift_of (trail_meaning view.now.pool view.now.kernel.trail.steps) (flag chosen.now))) (range_with_len 0 (length view.now.book.rows))) }
 {
     let lifted = lift(
         alloc,

@@ -42,6 +42,7 @@ pub(crate) struct Numbering {
 
 impl Numbering {
     /// No items yet; it takes no memory.
+    #[tactic(auto, using(crate::proofs::Numbered::numbered_none))]
     fn new(alloc: Global) -> Numbering
         ensures { (keys : ℕ → List ℕ) → AreNumbered keys 0 result.seen result.firsts.items result.of.items }
     {

@@ -7,6 +7,7 @@ pub fn kernel_decides()
 {}
 
 /// The verdict that the search tree gives is the one that is judged on the stanzas.
+#[tactic(auto, using(crate::proofs::Deciding::verdict_is_judged))]
 pub fn verdict_is_judged()
     ensures { VerdictIsJudged }
 {}
@@ -17,6 +18,7 @@ pub fn answer_is_verdict()
 {}
 
 /// What is installed for classes that the search tree of goals finds is a healthy set of stanzas with a package for each goal.
+#[tactic(auto, using(crate::proofs::Installed::installations_serve))]
 pub fn installations_serve()
     ensures { InstallationsServe }
 {}

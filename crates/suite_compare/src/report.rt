@@ -88,9 +88,9 @@ pub(crate) fn copy_of_first(
 ) -> Result<Option<ReportLine>, AllocError>
     ensures { IfOk result (λ made. made ≡ first_told lines.now) }
 {
-    match lines.as_slice() {
-        [] => Ok(None),
-        [first, ..] => {
+    match lines.as_slice().first() {
+        None => Ok(None),
+        Some(first) => {
             let line = copy_of_line(alloc, first)?;
             Ok(Some(line))
         }

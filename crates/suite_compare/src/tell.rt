@@ -1,8 +1,7 @@
 //! The lines of a report.
 ghost use Rattle.std.specs.Prelude.{◌≡◌, ◌<◌, ◌++◌, ℕ, OnOk, Some, filter, length, ltb, slice_index_or};
-ghost use Rattle.std.specs.List.{flat_map};
+ghost use Rattle.std.specs.List.{flat_map, range_with_len};
 ghost use Rattle.listed.specs.Lists.{In, Ascending};
-ghost use Rattle.row_book.specs.Numbers.{numbers};
 ghost use Rattle.suite_compare.specs.Comparing.{goes_alone, IsSide};
 ghost use Rattle.suite_compare.specs.Report.{pair_line, single_line};
 ghost use Rattle.suite_compare.specs.Telling.{found_beside, partners_at, told_after, told_pair};
@@ -122,7 +121,7 @@ pub(crate) fn tell_pairs(
     requires within { (i : ℕ) → i < length names.now → slice_index_or table.now.joints.of.items i 0 < length partners.now }
     requires told { (a j : ℕ) → a < length partners.now → In j (partners_at partners.now a).told → j < length names.now }
     requires undecided { (a : ℕ) → a < length partners.now → Ascending (partners_at partners.now a).undecided }
-    ensures { OnOk result (lines.new ≡ lines.old ++ flat_map (told_after names.now table.now.joints.of.items partners.now) (filter (goes_alone new.now) (numbers (length names.now) 0))) }
+    ensures { OnOk result (lines.new ≡ lines.old ++ flat_map (told_after names.now table.now.joints.of.items partners.now) (filter (goes_alone new.now) (range_with_len 0 (length names.now)))) }
 {
     for place in 0..names.len() {
         if !is_yes(verdict_of(new, &new.of, place)) {

@@ -50,8 +50,11 @@ pub(crate) type BadList = Listed<Bad>;
 
 /// The classes of a kind.
 fn classes_of<'a>(judge: &'a Judge, kind: usize) -> &'a [u32]
-    requires { kind < length judge.now.kinds.items }
-    ensures { result.now ≡ listed_for judge.now.kinds.items kind }
+    requires judge { IsJudge judge.now }
+    requires kind { kind < length judge.now.kinds.items }
+    ensures is { result.now ≡ listed_for judge.now.kinds.items kind }
+    ensures need { IsNeed result.now }
+    ensures below { (i : ℕ) → i < length result.now → slice_index_or result.now i 0 < length judge.now.book.now.rows }
 {
     classes_at(&judge.kinds, kind)
 }
@@ -148,6 +151,7 @@ pub(crate) fn verdicts_alone(alloc: Global, judge: &Judge) -> Result<Vec<Verdict
 }
 
 /// Whether the goal is a single class.
+#[tactic(auto, using(crate::proofs::Saved::one_class))]
 fn is_single(goal: &[u32]) -> bool
     ensures { result ≡ true → IsOneClass goal.now }
 {

@@ -1,11 +1,12 @@
 use Rattle.std.proofs.Common.{◌∙◌, ap, sym}
 use Rattle.clause_pool.specs.Interned.{clauses_at, ids_at}
+use Rattle.listed.proofs.Lists.{In_at}
 use Rattle.row_book.proofs.Books.{clauses_row}
-use Rattle.suite_compare.proofs.Chosen.{row_numbers, row_within}
+use Rattle.suite_compare.proofs.Chosen.{row_numbers}
 use Rattle.suite_compare.proofs.choose.row_of.Goals as goal
 
 pub row-requires : goal.row-requires
-row-requires c = row_within c.args.pool.now c.args.book.now c.args.class c.row-id.result c.requires.sound c.requires.class c.row-id.ensures
+row-requires c = rw c.row-id.ensures (c.requires.sound.rows.of_pool _ (In_at c.args.book.now.rows c.args.class 0 c.requires.class))
 
 pub returns-clause-clauses : goal.returns-clause-clauses
 returns-clause-clauses c = ap (clauses_at c.args.pool.now) (c.row.ensures.lent ∙ ap (ids_at c.args.pool.now) c.row-id.ensures) ∙ sym (clauses_row c.args.pool.now c.args.book.now c.args.class c.requires.class)

@@ -1,5 +1,5 @@
-use Rattle.std.{proofs.Common.{◌<◌, ◌∙◌, ◌∷◌, [], ap, get_or, subst, sym}, specs.List.{flat_map}, proofs.lemmas.List.{append-nil, take_all}}
-use Rattle.suite_compare.{specs.Report.{is_yes}, specs.Bad.{bad, bad_entry}, proofs.Judged.{entry_bad, entry_off, entry_yes, single_yes, singles_long}, proofs.Groups.{behind_more}}
+use Rattle.std.{proofs.Common.{refl, ◌<◌, ◌∙◌, ◌∷◌, [], ap, get_or, subst, sym}, specs.List.{flat_map}, proofs.lemmas.List.{append-nil, take_all}}
+use Rattle.suite_compare.{specs.Report.{is_yes}, specs.Bad.{bad, bad_entry}, proofs.Judged.{entry_bad, entry_yes, single_yes, singles_long}, proofs.Groups.{behind_more}}
 use Rattle.suite_compare.proofs.verdicts.bad_among.Goals as goal
 
 pub verdict_at-requires : goal.verdict_at-requires
@@ -12,7 +12,7 @@ verdict_beside-requires-clause-second_alone c =
 pub loop-other-preserved-then-not-is_yes : goal.loop-other-preserved-then-not-is_yes
 loop-other-preserved-then-not-is_yes c =
     behind_more (bad_entry c.args.judge.now c.args.singles.now c.args.kind) c.args.suspects.now c.loop-other.other-index 0 [] c.loop-other.bad c.loop-other.bad [] c.loop-other-test.true (sym (append-nil c.loop-other.bad)) c.loop-other.invariant
-    (entry_off c.args.judge.now c.args.singles.now c.args.kind (get_or c.args.suspects.now c.loop-other.other-index 0) (ap is_yes (sym c.verdict_at.ensures) ∙ sym c.is_yes.ensures ∙ c.if-not-is_yes.true))
+    (rw (ap is_yes (sym c.verdict_at.ensures) ∙ sym c.is_yes.ensures ∙ c.if-not-is_yes.true) refl)
 
 pub loop-other-preserved-then-is_yes : goal.loop-other-preserved-then-is_yes
 loop-other-preserved-then-is_yes c =

@@ -1,5 +1,5 @@
-use Rattle.std.proofs.Common.{◌≡◌, [], length, subst, arith}
-use Rattle.suite_compare.{specs.Bad.{AreAllBadTo, AreBad}, proofs.Groups.{each_more, each_none}}
+use Rattle.std.proofs.Common.{◌≡◌, [], length, arith}
+use Rattle.suite_compare.{specs.Bad.{AreBad}, proofs.Groups.{each_more, each_none}}
 use Rattle.suite_compare.proofs.verdicts.bad_lists.Goals as goal
 
 pub loop-kind-init : goal.loop-kind-init
@@ -10,5 +10,4 @@ loop-kind-preserved c = each_more (AreBad c.args.judge.now) [] c.loop-kind.kind 
 
 pub returns : goal.returns
 returns c =
-    let e : c.loop-kind.kind ≡ length c.args.judge.now.kinds.items = omega (arith, c.len-kind-end.ensures, c.args.judge.now.kinds.ok.0, c.loop-kind-test.false, c.loop-kind.auto.kind-end) in
-    subst (AreAllBadTo c.args.judge.now c.loop-kind.lists.items) e c.loop-kind.invariant
+    let e : c.loop-kind.kind ≡ length c.args.judge.now.kinds.items = omega (arith, c.len-kind-end.ensures, c.args.judge.now.kinds.ok.0, c.loop-kind-test.false, c.loop-kind.auto.kind-end) in rw e at c.loop-kind.invariant

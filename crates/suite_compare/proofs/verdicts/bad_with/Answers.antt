@@ -1,5 +1,5 @@
 use Rattle.std.{proofs.Common.{◌∙◌, ◌<◌, ap, subst, sym}, specs.List.{flat_map}}
-use Rattle.listed.specs.Lists.{In}
+use Rattle.listed.proofs.Lists.{In_at}
 use Rattle.suite_compare.{specs.Bad.{bad_entry}, proofs.Judged.{bad_from, bad_none, single_yes, singles_long}}
 use Rattle.suite_compare.proofs.verdicts.bad_with.Goals as goal
 
@@ -14,7 +14,7 @@ pub bad_among-requires-clause-alone : goal.bad_among-requires-clause-alone
 bad_among-requires-clause-alone c = single_yes c.args.judge.now c.args.singles.now c.args.kind c.verdict_at.result c.is_yes.result _ c.requires.kind c.requires.singles c.verdict_at.ensures c.is_yes.ensures c.if-not-is_yes.false
 
 pub bad_among-requires-clause-suspects : goal.bad_among-requires-clause-suspects
-bad_among-requires-clause-suspects c = λ i l. subst (λ z. get_or c.as_slice.result.now i 0 < z) c.requires.choices.chosen.long (c.in_ok-suspects.ensures.only _ (subst (λ z. In (get_or c.as_slice.result.now i 0) z) c.as_slice.ensures.value (In_at c.as_slice.result.now i 0 l)))
+bad_among-requires-clause-suspects c = λ i l. rw (c.as_slice.ensures.value, ← c.requires.choices.chosen.long) (c.in_ok-suspects.ensures.only _ (In_at c.in_ok-suspects.suspects.items i 0 (rw c.as_slice.ensures.value at l)))
 
 pub returns : goal.returns
 returns c =

@@ -1,12 +1,9 @@
 use Rattle.std.proofs.Common.{◌∙◌, ◌∷◌, [], ap, length}
-use Rattle.suite_compare.{specs.Kinds.{kernel_in, kernel_verdict}, proofs.Judged.{need_at, one_fits}}
+use Rattle.suite_compare.{specs.Kinds.{kernel_in, kernel_verdict}, proofs.Judged.{one_fits}}
 use Rattle.suite_compare.proofs.verdicts.verdict_alone.Goals as goal
 
-pub one_goal-requires : goal.one_goal-requires
-one_goal-requires c = rw c.classes_of.ensures (need_at c.args.judge.now.kinds.items c.args.kind c.requires.kind c.requires.judge.needs)
-
 pub verdict_on-requires-clause-goals : goal.verdict_on-requires-clause-goals
-verdict_on-requires-clause-goals c = rw (c.in_ok-goals.ensures, c.classes_of.ensures) (one_fits (length c.args.judge.now.book.now.rows) c.args.judge.now.kinds.items c.args.kind c.requires.kind c.requires.judge.fit)
+verdict_on-requires-clause-goals c = rw (c.in_ok-goals.ensures, c.classes_of.ensures.is) (one_fits (length c.args.judge.now.book.now.rows) c.args.judge.now.kinds.items c.args.kind c.requires.kind c.requires.judge.fit)
 
 pub returns : goal.returns
-returns c = c.in_ok-verdict.ensures ∙ ap (kernel_verdict (kernel_in c.args.judge.now) c.args.judge.now.budget) (c.in_ok-goals.ensures ∙ ap (λ z. z ∷ []) c.classes_of.ensures)
+returns c = c.in_ok-verdict.ensures ∙ ap (kernel_verdict (kernel_in c.args.judge.now) c.args.judge.now.budget) (c.in_ok-goals.ensures ∙ ap (λ z. z ∷ []) c.classes_of.ensures.is)

@@ -1,29 +1,26 @@
-use Rattle.std.{proofs.Common.{◌≡◌, ◌<◌, ◌++◌, [], length, get_or, sym, ◌∙◌, ap, subst}, specs.List.{flat_map, range_with_len}, proofs.lemmas.List.{append-nil, take_all}}
+use Rattle.std.{proofs.Common.{◌++◌, [], get_or, sym, ◌∙◌, ap}, specs.List.{flat_map}, proofs.lemmas.List.{append-nil, take_all}}
 use Rattle.listed.proofs.Lists.{In_at}
 use Rattle.row_book.specs.Book.{listed_for}
-use Rattle.suite_compare.{specs.Choices.{AreBelow}, specs.Suspects.{facing}, proofs.Groups.{behind_more}, proofs.Chosen.{all_suspects, chosen_fit, conflicts_within, facing_suspects}}
+use Rattle.suite_compare.{specs.Suspects.{facing}, proofs.Groups.{behind_more}, proofs.Chosen.{all_suspects, chosen_fit, conflicts_within, facing_suspects}}
 use Rattle.suite_compare.proofs.suspect.Choices.suspects.Goals as goal
 
 pub classes_at-choice-requires : goal.classes_at-choice-requires
-classes_at-choice-requires c = subst (λ z. c.args.kind < z) (sym (ap length c.as_slice-choices.ensures.value ∙ c.requires.choices.chosen.long)) c.requires.kind
+classes_at-choice-requires c = rw (c.as_slice-choices.ensures.value, c.requires.choices.chosen.long) c.requires.kind
 
 pub returns-then-is_empty : goal.returns-then-is_empty
-returns-then-is_empty c = all_suspects c.args.book.now.conflicts c.args.self.now.of.items c.args.kind c.in_ok-all.all.items (c.in_ok-all.ensures ∙ ap (λ z. range_with_len 0 (length z)) c.as_slice-choices.ensures.value)
+returns-then-is_empty c = all_suspects c.args.book.now.conflicts c.args.self.now.of.items c.args.kind c.in_ok-all.all.items (rw c.as_slice-choices.ensures.value at c.in_ok-all.ensures)
 
 pub loop-class-init : goal.loop-class-init
 loop-class-init c = c.in_ok-found.ensures.items ∙ c.as_slice-free.ensures.value ∙ sym (append-nil c.args.self.now.without.items)
 
 pub against-conflicts-requires : goal.against-conflicts-requires
-against-conflicts-requires c =
-    let within : c.args.kind < length c.args.self.now.of.items = subst (λ z. c.args.kind < z) (sym c.requires.choices.chosen.long) c.requires.kind in
-    let is : c.classes_at-choice.result.now ≡ listed_for c.args.self.now.of.items c.args.kind = c.classes_at-choice.ensures ∙ ap (λ z. listed_for z c.args.kind) c.as_slice-choices.ensures.value in
-    subst (AreBelow (length c.args.book.now.rows)) (sym is) (chosen_fit c.args.pool.now c.args.book.now c.args.kinds.now c.args.self.now.of.items _ c.requires.choices.chosen _ (In_at c.args.self.now.of.items c.args.kind [] within))
-    _ (In_at c.classes_at-choice.result.now c.loop-class.class-index 0 c.loop-class-test.true)
+against-conflicts-requires c = rw (c.classes_at-choice.ensures, c.as_slice-choices.ensures.value)
+    (chosen_fit c.args.pool.now c.args.book.now c.args.kinds.now c.args.self.now.of.items _ c.requires.choices.chosen _ (In_at c.args.self.now.of.items c.args.kind [] (rw c.requires.choices.chosen.long c.requires.kind))
+    _ (In_at (listed_for c.args.self.now.of.items c.args.kind) c.loop-class.class-index 0 (rw (c.classes_at-choice.ensures, c.as_slice-choices.ensures.value) at c.loop-class-test.true)))
 
 pub add_holders-requires : goal.add_holders-requires
-add_holders-requires c = λ i l. subst (λ z. get_or c.against-conflicts.result.now i 0 < length z) (sym c.as_slice-holders.ensures.value)
-    (conflicts_within c.args.pool.now c.args.book.now (get_or c.classes_at-choice.result.now c.loop-class.class-index 0) c.against-conflicts.result.now c.args.self.now.holders.items c.requires.sound c.against-conflicts.ensures c.requires.choices.size
-    _ (In_at c.against-conflicts.result.now i 0 l))
+add_holders-requires c = λ i l. rw c.as_slice-holders.ensures.value (conflicts_within c.args.pool.now c.args.book.now (get_or c.classes_at-choice.result.now c.loop-class.class-index 0) c.against-conflicts.result.now c.args.self.now.holders.items
+    c.requires.sound c.against-conflicts.ensures c.requires.choices.size _ (In_at c.against-conflicts.result.now i 0 l))
 
 pub loop-class-preserved : goal.loop-class-preserved
 loop-class-preserved c = behind_more (λ q. flat_map (listed_for c.args.self.now.holders.items) (listed_for c.args.book.now.conflicts q)) c.classes_at-choice.result.now c.loop-class.class-index 0 c.args.self.now.without.items c.loop-class.found.items c.add_holders.new.found.items _ c.loop-class-test.true

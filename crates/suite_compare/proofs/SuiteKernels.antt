@@ -1,5 +1,5 @@
 -- The repository of an index and its kernel: both are sound, and the classes of packages are classes of the kernel.
-use Rattle.std.proofs.Common.{◌≡◌, ℕ, ◌<◌, Bool, List, length, refl, arith}
+use Rattle.std.proofs.Common.{true, ◌≡◌, ℕ, ◌<◌, Bool, List, length, refl, arith}
 use Rattle.row_book.{specs.Flattening.{packages}, specs.Repository.{Repository}, specs.Rounds.{kernel, kernel_class, kernel_image, round_count}, specs.Sound.{SoundRepository}, proofs.Numbers.{numbers_from, numbers_parts, numbers_ascending}}
 use Rattle.listed.{specs.Lists.{In, has, Ascending}, proofs.Lists.{In_has, has_In, filter_cases, filter_from}, proofs.Orders.{ascending_filter}}
 use Rattle.kernel_rounds.{specs.Laws.{HasImage}, proofs.Classes.{class_within}, proofs.Reached.{image_is_of_classes_lem}}
@@ -9,6 +9,9 @@ use Rattle.suite_compare.specs.Asking.{goal_classes}
 -- the class of a package is a class of the kernel
 pub kernel_class_within : (limit : ℕ) (hold : Bool) → (R : Repository) → SoundRepository R → (p : ℕ) → p < length R.clauses → kernel_class limit hold R p < length (kernel limit hold R).clauses
 kernel_class_within limit hold R s p l = class_within limit hold (round_count limit hold R) R s p l
+
+pub of_packages : (R : Repository) (chosen : List ℕ) → ((n : ℕ) → In n chosen → n < length R.clauses) → (n : ℕ) → has chosen n ≡ true → n < length R.clauses
+of_packages R chosen within n t = within n (has_In chosen n t)
 
 -- the classes of some packages are those of its members, ascending
 pub classes_parts : (limit : ℕ) (hold : Bool) → (R : Repository) → SoundRepository R → (chosen : List ℕ) → ((n : ℕ) → In n chosen → n < length R.clauses) → (k : ℕ) → In k (goal_classes limit hold R chosen) →

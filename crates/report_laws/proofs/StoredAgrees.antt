@@ -31,7 +31,7 @@ use Rattle.suite_compare.specs.Answering.{names_none, unknown_from}
 use Rattle.suite_compare.specs.Asking.{asked_tree, images_of, tree_of}
 use Rattle.suite_compare.specs.Asking as asking
 use Rattle.suite_compare.proofs.Deciding.{named_within}
-use Rattle.suite_compare.proofs.SuiteKernels.{of_packages, suite_sound}
+use Rattle.suite_compare.proofs.SuiteKernels.{suite_sound}
 use Rattle.suite_compare.specs.Refusals.{home_in, packages_in}
 use Rattle.coinst_run.specs.declared.answer.ReportVerdict.{ReportVerdict}
 use Rattle.coinst_run.specs.declared.answer.ReportVerdict.TheVariants.{Done, Undecided}
@@ -95,7 +95,7 @@ module _ (limit : ℕ) (hold : Bool) (home : Home) (stanzas : List PackageFacts)
     is_class_of i = eqb n (slice_index_or classes i 0)
 
     small : (p : ℕ) → has wanted p ≡ true → p < length R.clauses
-    small = of_packages R wanted (named_within home stanzas goal)
+    small p t = named_within home stanzas goal p (has_In wanted p t)
 
     class_at : (p : ℕ) → p < length R.clauses → slice_index_or classes p 0 ≡ kernel_class limit hold R p
     class_at p l = class_is limit hold home stanzas accepted p (subst (λ k. p < k) (length_clauses home stanzas) l)

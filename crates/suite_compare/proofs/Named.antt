@@ -5,7 +5,7 @@ use Rattle.listed.{specs.Lists.{In}, proofs.Lists.{any_cases, any_from, filled, 
 use Rattle.clause_pool.proofs.Order.{ordered_parts}
 use Rattle.relation_fields.{specs.declared.packages.Home.{Home}, specs.declared.packages.PackageFacts.{PackageFacts}}
 use Rattle.repo_model.{specs.Goals.{any_version, names_in, packages_named}, specs.Repository.{suite_repository}, specs.Stanzas.{no_stanza}, proofs.Chosen.{named_is, number_from}, specs.declared.suite.Suite.{Suite}}
-use Rattle.suite_compare.{specs.Asking.{image_of, tree_of, verdict_of}, specs.Names.{stands_in}, proofs.Gathering.{image_filled, named_inside}, proofs.Groups.{map_pushed, pushed_at}, proofs.SuiteKernels.{classes_ascending, classes_fit}, specs.Comparing.{named_verdict, AreVerdicts, IsPart, IsSide}, specs.Kinds.{kernel_in, AreKinds, IsJudge, alone_in, together_in}, specs.declared.sides.Side.{Side}, specs.declared.verdicts.Judge.{Judge}, specs.declared.sides.Part.{Part}}
+use Rattle.suite_compare.{specs.Asking.{image_of, tree_of, verdict_of}, specs.Names.{stands_in}, proofs.Gathering.{image_filled, named_inside}, proofs.Groups.{pushed_at}, proofs.SuiteKernels.{classes_ascending, classes_fit}, specs.Comparing.{named_verdict, AreVerdicts, IsPart, IsSide}, specs.Kinds.{kernel_in, AreKinds, IsJudge, alone_in, together_in}, specs.declared.sides.Side.{Side}, specs.declared.verdicts.Judge.{Judge}, specs.declared.sides.Part.{Part}}
 use Rattle.search_terms.proofs.Ranges.{rows_long}
 use Rattle.clause_solver.{specs.Outcomes.{IsBudget}, specs.Solvers.{IsReady}, specs.declared.outcomes.Verdict.{Verdict}}
 
@@ -26,9 +26,6 @@ pub own_names : (packages : List PackageFacts) (name : List ℕ) → In name (na
 own_names packages name i =
     let w : (x : PackageFacts) × In x packages × (name ≡ x.name) = In_map_cases (λ facts. facts.name) packages name (ordered_parts (map (λ facts. facts.name) packages) name i) in
     any_from (λ facts. bytes_eq name facts.name) packages w.0 w.1 (ap (λ z. bytes_eq z w.0.name) w.2 ∙ (bytes_eq-Decides w.0.name w.0.name).1 refl)
-
-pub mapped_step : {A B : Type 0} (f : A → B) (xs : List A) (i : ℕ) (x : A) (made new : List B) (y : B) → i < length xs → x ≡ get_or xs i x → new ≡ made ++ y ∷ [] → y ≡ f x → made ≡ map f (take i xs) → new ≡ map f (take (i + 1) xs)
-mapped_step f xs i x made new y l is e same so = map_pushed f xs i x made new y l e (same ∙ ap f is) so
 
 -- a judge of the kinds of names that packages have
 module _ (limit : ℕ) (hold : Bool) (home : Home) (stanzas : List PackageFacts) (judge : Judge) (names lists : List (List ℕ)) (of : List ℕ) (is : kernel_in judge ≡ kernel limit hold (suite_repository home stanzas))

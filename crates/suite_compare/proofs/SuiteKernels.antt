@@ -10,9 +10,6 @@ use Rattle.suite_compare.specs.Asking.{goal_classes}
 pub kernel_class_within : (limit : ℕ) (hold : Bool) → (R : Repository) → SoundRepository R → (p : ℕ) → p < length R.clauses → kernel_class limit hold R p < length (kernel limit hold R).clauses
 kernel_class_within limit hold R s p l = class_within limit hold (round_count limit hold R) R s p l
 
-pub of_packages : (R : Repository) (chosen : List ℕ) → ((n : ℕ) → In n chosen → n < length R.clauses) → (n : ℕ) → has chosen n ≡ true → n < length R.clauses
-of_packages R chosen within n t = within n (has_In chosen n t)
-
 -- the classes of some packages are those of its members, ascending
 pub classes_parts : (limit : ℕ) (hold : Bool) → (R : Repository) → SoundRepository R → (chosen : List ℕ) → ((n : ℕ) → In n chosen → n < length R.clauses) → (k : ℕ) → In k (goal_classes limit hold R chosen) →
     (p : ℕ) × In p chosen × (kernel_class limit hold R p ≡ k)

@@ -34,7 +34,7 @@ pub use suite::{PackageList, Suite, read_suite};
 
 // Goals, and the packages that they name.
 pub use goals::{Goal, GoalError, GoalList};
-pub use names::{NameList, distinct_names};
+pub use names::{LentName, LentNames, NameList, distinct_names};
 
 // The repository in plain lists, for those who check answers.
 pub use plain::{PlainRepository, are_coinstallable, plain_repository};

@@ -21,7 +21,7 @@ use crate::sides::{OldSide, Side, new_side_of, verdict_of};
 use crate::tell::{push_single, tell_pairs};
 use crate::verdicts::{BadList, Judge, bad_lists, bads_at};
 use crate::view::SuiteView;
-use deb_version::Bytes;
+use repo_model::LentName;
 use std::alloc::{AllocError, Global};
 
 /// For each joint (a kind in the old suite with one in the new), the names that are broken or open beside its names.
@@ -51,7 +51,7 @@ fn all_partners(
 /// The lines of the names by themselves, of which both suites have the kinds.
 fn single_lines(
     alloc: Global,
-    names: &[Bytes],
+    names: &[LentName],
     old: &Side,
     old_of: &[usize],
     new: &Side,
@@ -73,7 +73,7 @@ fn single_lines(
 /// Puts the lines of the pairs of names, of which both suites have the kinds, behind the others.
 fn put_pair_lines(
     alloc: Global,
-    names: &[Bytes],
+    names: &[LentName],
     old: &Side,
     old_of: &[usize],
     new: &Side,
@@ -93,7 +93,7 @@ fn put_pair_lines(
 /// The lines of a report on names, of which both suites have the kinds.
 fn lines_of(
     alloc: Global,
-    names: &[Bytes],
+    names: &[LentName],
     old: &Side,
     old_of: &[usize],
     new: &Side,
@@ -110,7 +110,7 @@ fn lines_of(
 /// The lines of a report on names, but none of pairs where a name has a line by itself.
 fn first_lines_of(
     alloc: Global,
-    names: &[Bytes],
+    names: &[LentName],
     old: &Side,
     old_of: &[usize],
     new: &Side,

@@ -6,15 +6,15 @@ ghost use Rattle.suite_compare.specs.Asking.{image_of};
 use crate::ask::image_of;
 use crate::view::SuiteView;
 use clause_pool::NumList;
-use deb_version::Bytes;
 use listed::Listed;
+use repo_model::LentName;
 use std::alloc::{AllocError, Global};
 
 /// The classes of the packages of each name.
 pub(crate) fn classes_of_names(
     alloc: Global,
     view: &SuiteView,
-    names: &[Bytes],
+    names: &[LentName],
 ) -> Result<Vec<NumList>, AllocError>
     ensures { IfOk result (λ lists. lists.items ≡ map (λ name. image_of view.now.limit view.now.kernel.hold view.now.suite.home view.now.suite.packages (any_version name)) names.now) }
 {

@@ -8,8 +8,8 @@ ghost use Rattle.suite_compare.specs.Groups.{ArePlaces, IsEntered};
 
 use clause_pool::NumList;
 use clause_solver::Verdict;
-use deb_version::Bytes;
 use listed::{Listed, empty_lists};
+use repo_model::LentName;
 use std::alloc::{AllocError, Global};
 
 /// Places in a list.
@@ -69,7 +69,7 @@ pub(crate) fn holds(ascending: &[usize], number: usize) -> bool
 }
 
 /// The name at a place of a list.
-pub(crate) fn name_at(names: &[Bytes], place: usize) -> &[u8]
+pub(crate) fn name_at<'a>(names: &[LentName<'a>], place: usize) -> &'a [u8]
     requires { place < length names.now }
     ensures { result.now ≡ listed_for names.now place }
 {

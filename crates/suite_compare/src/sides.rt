@@ -13,8 +13,7 @@ use crate::places::{name_at, place_at, verdict_at};
 use crate::verdicts::{Judge, verdicts_alone};
 use crate::view::SuiteView;
 use clause_solver::{Solver, Verdict};
-use deb_version::Bytes;
-use repo_model::{NameList, Suite};
+use repo_model::{LentName, LentNames, Suite};
 use std::alloc::{AllocError, Global};
 
 /// One suite of a comparison: its judge, the kind of each name, and the verdict on each kind by itself.
@@ -35,26 +34,26 @@ pub struct OldSide<'a> {
     pub view: &'a SuiteView,
     /// The most failed leaves of a search.
     pub budget: u64,
-    /// Its names.
-    pub(crate) names: NameList,
+    /// Its names, lent from the suite.
+    pub(crate) names: LentNames<'a>,
     /// The suite.
     pub(crate) side: Side<'a>,
 }
 
 /// A new view in a comparison with an old one.
 #[derive(Drop)]
-pub(crate) struct NewSide<'a> {
+pub(crate) struct NewSide<'o, 'n> {
     /// The names that both have, with their kinds in the old suite.
-    pub(crate) part: Part,
+    pub(crate) part: Part<'o>,
     /// The new suite, of these names alone.
-    pub(crate) side: Side<'a>,
+    pub(crate) side: Side<'n>,
 }
 
 /// Those names of a side that another suite has.
 #[derive(Drop)]
-pub(crate) struct Part {
+pub(crate) struct Part<'a> {
     /// The names.
-    pub(crate) names: Vec<Bytes>,
+    pub(crate) names: Vec<LentName<'a>>,
     /// The kind of each of them.
     pub(crate) of: Vec<usize>,
 }
@@ -74,7 +73,7 @@ pub(crate) fn verdict_of(side: &Side, of: &[usize], place: usize) -> Verdict
 fn side_of<'a>(
     alloc: Global,
     view: &'a SuiteView,
-    names: &[Bytes],
+    names: &[LentName],
     budget: u64,
 ) -> Result<Side<'a>, AllocError>
     requires names { (name : List ℕ) → In name names.now → stands_in view.now.suite.packages name ≡ true }
@@ -108,7 +107,7 @@ impl<'a> OldSide<'a> {
         ensures view { IfOk result (λ made. made.view.now ≡ view.now) }
         ensures budget { IfOk result (λ made. made.budget ≡ budget) }
     {
-        let names = view.suite.names(alloc)?;
+        let names = view.suite.lent_names(alloc)?;
         let side = side_of(alloc, view, names.as_slice(), budget)?;
         Ok(OldSide {
             view,
@@ -120,12 +119,12 @@ impl<'a> OldSide<'a> {
 }
 
 /// Those of the names that a package of the suite has, each with its kind.
-fn part_among(
+fn part_among<'a>(
     alloc: Global,
-    names: &[Bytes],
+    names: &[LentName<'a>],
     of: &[usize],
     suite: &Suite,
-) -> Result<Part, AllocError>
+) -> Result<Part<'a>, AllocError>
     requires { length of.now ≡ length names.now }
     ensures { IfOk result (IsPart suite.now.packages names.now of.now) }
 {
@@ -136,8 +135,7 @@ fn part_among(
         if !suite.has_name(name) {
             continue;
         }
-        let copy = Bytes::copy(alloc, name)?;
-        made.push(copy)?;
+        made.push(LentName::of(name))?;
         kinds.push(place_at(of, place))?;
     }
     Ok(Part {
@@ -148,11 +146,11 @@ fn part_among(
 
 /// The side of a new view in a comparison with an old one. Both views were made at one and the same clause limit, and both with
 /// hold or both without.
-pub(crate) fn new_side_of<'a>(
+pub(crate) fn new_side_of<'o, 'n>(
     alloc: Global,
-    old: &OldSide,
-    new: &'a SuiteView,
-) -> Result<NewSide<'a>, AllocError>
+    old: &OldSide<'o>,
+    new: &'n SuiteView,
+) -> Result<NewSide<'o, 'n>, AllocError>
     requires side { IsOldSide old.now }
     requires limit { new.now.limit ≡ old.now.view.now.limit }
     requires hold { new.now.kernel.hold ≡ old.now.view.now.kernel.hold }

@@ -11,6 +11,7 @@ use crate::places::{holds, name_at, place_at};
 use crate::report::{Finding, LineList, ReportLine, is_yes};
 use crate::sides::{Side, verdict_of};
 use deb_version::Bytes;
+use repo_model::LentName;
 use std::alloc::{AllocError, Global};
 
 /// The partners of a pair of kinds.
@@ -84,7 +85,7 @@ fn finding_beside(partners: &Partners, other: usize) -> Finding
 /// Puts the lines of a name with its partners behind it behind the others.
 fn tell_later(
     alloc: Global,
-    names: &[Bytes],
+    names: &[LentName],
     place: usize,
     partners: &Partners,
     lines: &mut LineList,
@@ -110,7 +111,7 @@ fn tell_later(
 /// Puts the lines of the pairs of names, each of which is found by itself, behind the others.
 pub(crate) fn tell_pairs(
     alloc: Global,
-    names: &[Bytes],
+    names: &[LentName],
     new: &Side,
     table: &JointTable,
     partners: &[Partners],

@@ -2,7 +2,7 @@ use Rattle.std.proofs.Common.{◌∙◌, ap, map, refl, sym, subst}
 use Rattle.clause_pool.specs.Clauses.{in_row_order}
 use Rattle.repo_model.specs.NameOrder.{Rising}
 use Rattle.repo_model.proofs.NameSteps.{sorted_rising, sorted_same}
-use Rattle.repo_model.proofs.names.distinct_names.Goals as goal
+use Rattle.repo_model.proofs.names.in_order.Goals as goal
 
 pub each_once-requires : goal.each_once-requires
 each_once-requires c = subst (λ xs. Rising (map (λ name. name.now) xs)) (sym c.deref.ensures.value) (sorted_rising c.sort_unstable.new.self.items c.sort_unstable.ensures.sorted)

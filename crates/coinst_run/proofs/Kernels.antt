@@ -4,9 +4,7 @@ use Rattle.std.proofs.lemmas.List.{length-map}
 use Rattle.clause_pool.specs.Interned.{row_at}
 use Rattle.relation_fields.specs.declared.packages.Home.{Home}
 use Rattle.relation_fields.specs.declared.packages.PackageFacts.{PackageFacts}
-use Rattle.kernel_text.specs.JsonData.{AreNamedPackages}
 use Rattle.repo_model.proofs.Accepted.{Accepted}
-use Rattle.repo_model.proofs.Accepted as accepting
 use Rattle.repo_model.proofs.Packages.{length_clauses}
 use Rattle.repo_model.proofs.Standing.{not_memory}
 pub use Rattle.repo_model.proofs.SoundSuite.{suite_sound}
@@ -45,12 +43,6 @@ index_accepted path text home packages accepted said at =
     ap (by_fault path text) accepted
     ∙ ap (λ n. let h : Home = record { name = n } in Ok (index h (map facts_of (stanzas_of text)))) (sym at)
     ∙ ap (λ ps. Ok (index home ps)) (sym said)
-
--- and they have names and versions
-pub index_named : (text : List ℕ) (packages : List PackageFacts) → first_fault text ≡ None → packages ≡ map facts_of (stanzas_of text) → AreNamedPackages packages
-index_named text packages none said =
-    let accepted : Accepted (map facts_of (stanzas_of text)) = accepting.accepted text none in
-    subst AreNamedPackages (sym said) (λ facts i. let named = accepted.named facts i in (named.name, named.version))
 
 -- a fault of the text is the answer
 pub index_faulty : (fault : IndexFault) (path text : List ℕ) (there : Option IndexFault) (cause : Cause) → Refuses fault there → is_memory fault ≡ false → cause ≡ fault_cause fault →

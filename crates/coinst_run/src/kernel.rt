@@ -1,7 +1,7 @@
 //! The command that prints the kernel of an index.
 ghost use Rattle.std.specs.Prelude.{◌≡◌, IfOk};
 ghost use Rattle.coinst_words.specs.Jobs.{AreInLimits};
-ghost use Rattle.kernel_text.specs.JsonData.{AreNamedPackages};
+ghost use Rattle.repo_model.specs.Facts.{AreNamedPackages};
 ghost use Rattle.coinst_run.specs.Ending.{Settles, ending_of};
 ghost use Rattle.coinst_run.specs.Follows.{Follows};
 ghost use Rattle.coinst_run.specs.Index.{index_of};

@@ -1,6 +1,6 @@
 //! The parts of commands: a file read whole, an index checked as it is read.
 ghost use Rattle.std.specs.Prelude.{◌≡◌, ◌≤◌, ℕ, List, length, Option, Ok, IfOk, IfErr, IfSome};
-ghost use Rattle.kernel_text.specs.JsonData.{AreNamedPackages};
+ghost use Rattle.repo_model.specs.Facts.{AreNamedPackages};
 ghost use Rattle.repo_model.specs.Feed.{FeedStandsFor};
 ghost use Rattle.repo_model.specs.declared.fault.IndexFault.{IndexFault};
 ghost use Rattle.repo_model.specs.Refusals.{is_memory, Refuses};

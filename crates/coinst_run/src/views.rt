@@ -1,7 +1,7 @@
 //! The view of an index, as a part of commands: its packages, and its kernel at a clause limit.
 ghost use Rattle.std.specs.Prelude.{◌≡◌, ◌<◌, Bool, Ok, IfOk, IfErr, OnOk};
 ghost use Rattle.suite_compare.specs.Refusals.{RefusesSuite};
-ghost use Rattle.kernel_text.specs.JsonData.{AreNamedPackages};
+ghost use Rattle.repo_model.specs.Facts.{AreNamedPackages};
 ghost use Rattle.coinst_run.specs.Course.{Course};
 ghost use Rattle.coinst_run.specs.Ending.{StopsAt, stop_ending};
 ghost use Rattle.coinst_run.specs.Follows.{Follows, ReachesKernel};

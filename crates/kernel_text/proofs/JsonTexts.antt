@@ -28,7 +28,8 @@ use Rattle.serde_json.specs.declared.value.Value.{Value}
 use Rattle.serde_json.specs.declared.value.Value.TheVariants.{Array}
 use Rattle.serde_json.proofs.Views.{view-Array}
 use Rattle.kernel_text.specs.declared.member.Member.{Member}
-use Rattle.kernel_text.specs.JsonData.{AreNamedPackages, class_data, clauses_data, data_of_class, kernel_data, list_data, mark_of_class, number_data, numbers_data, package_data, packages_data}
+use Rattle.repo_model.specs.Facts.{AreNamedPackages}
+use Rattle.kernel_text.specs.JsonData.{class_data, clauses_data, data_of_class, kernel_data, list_data, mark_of_class, number_data, numbers_data, package_data, packages_data}
 use Rattle.kernel_text.specs.KernelJson.{behind_commas, class_json, held_mark, kernel_json, list_json, member_json, numbers_json, object_json, package_json, quoted_text}
 use Rattle.kernel_text.specs.KernelLines.{KernelLine, MemberLine}
 use Rattle.kernel_text.specs.KernelText.{format_of, greater_conflicts, line_of_member, members_of}

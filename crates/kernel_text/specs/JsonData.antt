@@ -1,21 +1,14 @@
 -- The JSON of a kernel as data of `serde_json`, over the packages of an index and a table of their numbers by class.
-use Rattle.std.specs.Prelude.{◌≡◌, ℕ, Bool, true, List, [], ◌∷◌, map, codes, Option, Some, None, if◌then◌else◌}
-use Rattle.deb_version.specs.Grammar.{is_version}
-use Rattle.deb_version.specs.Names.{is_name}
+use Rattle.std.specs.Prelude.{ℕ, Bool, List, [], ◌∷◌, map, codes, Option, Some, None, if◌then◌else◌}
 use Rattle.relation_fields.specs.declared.packages.PackageFacts.{PackageFacts}
 use Rattle.row_book.specs.Book.{listed_for}
 use Rattle.row_book.specs.Numbers.{numbers}
 use Rattle.row_book.specs.Flags.{flag}
 use Rattle.row_book.specs.Repository.{Repository, clauses_of}
-use Rattle.listed.specs.Lists.{In}
 use Rattle.repo_model.specs.Stanzas.{stanza_at}
 use Rattle.serde_json.specs.Data.{Data, Members, array, boolean, member, no_members, number, object, string, unsigned}
 use Rattle.serde_json.specs.View.{items_of}
 use Rattle.kernel_text.specs.KernelText.{format_of, greater_conflicts}
-
--- each package has a name and a version of their grammars
-abbrev pub AreNamedPackages : List PackageFacts → Type 0
-AreNamedPackages packages = (facts : PackageFacts) → In facts packages → (is_name facts.name ≡ true) × (is_version facts.version ≡ true)
 
 abbrev pub number_data : ℕ → Data
 number_data n = number (unsigned n)

@@ -3,13 +3,14 @@ ghost use Rattle.std.specs.Prelude.{◌≡◌, ◌++◌, ◌<◌, ℕ, ltb, code
 ghost use Rattle.std.specs.Str.{IsAscii};
 ghost use Rattle.clause_pool.specs.Interned.{clauses_at, OfPool};
 ghost use Rattle.relation_fields.specs.declared.packages.PackageFacts.{PackageFacts};
+ghost use Rattle.repo_model.specs.Facts.{AreNamedPackages};
 ghost use Rattle.repo_model.specs.Stanzas.{stanza_at};
 ghost use Rattle.row_book.specs.Book.{repository_of, Sound};
 ghost use Rattle.listed.specs.Lists.{In};
 ghost use Rattle.serde_json.specs.Data.{string};
 ghost use Rattle.serde_json.specs.View.{view};
 ghost use Rattle.serde_json.specs.Written.{compact_text};
-ghost use Rattle.kernel_text.specs.JsonData.{AreNamedPackages, clauses_data, data_of_class, kernel_data, mark_of_class, numbers_data, package_data, packages_data};
+ghost use Rattle.kernel_text.specs.JsonData.{clauses_data, data_of_class, kernel_data, mark_of_class, numbers_data, package_data, packages_data};
 ghost use Rattle.kernel_text.specs.KernelJson.{kernel_json};
 ghost use Rattle.kernel_text.specs.KernelText.{format_of};
 ghost use Rattle.kernel_text.specs.Members.{kernel_members};

@@ -16,7 +16,7 @@ use Rattle.stanza_reader.specs.declared.fault.StanzaFault.{StanzaFault}
 use Rattle.relation_fields.specs.declared.packages.PackageFacts.{PackageFacts}
 use Rattle.listed.specs.Lists.{In, here, there}
 use Rattle.listed.proofs.Lists.{In_append_cases, In_cases, In_none, find_none}
-use Rattle.repo_model.specs.Facts.{facts_of, is_same_package}
+use Rattle.repo_model.specs.Facts.{facts_of, is_same_package, AreNamedPackages}
 use Rattle.repo_model.specs.FirstFault.{first_some, own_fault, duplicate_fault, stanza_fault, reading_fault, stanzas_in, stanzas_of, fault_behind, faults_from, first_fault, home_of}
 use Rattle.repo_model.specs.declared.fault.IndexFault.{IndexFault}
 use Rattle.repo_model.specs.declared.fault.IndexFault.TheVariants.{Stanza, Duplicate, TooMany}
@@ -137,3 +137,9 @@ accepted text e =
       accepted = record { few = omega arith; single = tt; named = λ s i. absurd (In_none i) };
       faultless = e;
     })
+
+-- the packages that were read have names and versions
+pub read_named : (text : List ℕ) (packages : List PackageFacts) → first_fault text ≡ None → packages ≡ map facts_of (stanzas_of text) → AreNamedPackages packages
+read_named text packages none said =
+    let good : Accepted (map facts_of (stanzas_of text)) = accepted text none in
+    subst AreNamedPackages (sym said) (λ facts i. let named = good.named facts i in (named.name, named.version))

@@ -1,9 +1,12 @@
 -- The package that a stanza describes: Debian Policy 5.3, 5.6 and 7.
-use Rattle.std.specs.Prelude.{◌++◌, ℕ, Bool, ◌&&◌, if◌then◌else◌, List, Option, Some, None, codes}
+use Rattle.std.specs.Prelude.{◌≡◌, ◌++◌, ℕ, Bool, true, ◌&&◌, if◌then◌else◌, List, Option, Some, None, codes}
 use Rattle.std.specs.Option.{option_and_then}
 use Rattle.std.specs.Ordering.{is_eq}
 use Rattle.std.specs.Str.{bytes_eq}
+use Rattle.deb_version.specs.Grammar.{is_version}
+use Rattle.deb_version.specs.Names.{is_name}
 use Rattle.deb_version.specs.Order.{version_order}
+use Rattle.listed.specs.Lists.{In}
 use Rattle.stanza_reader.specs.declared.stanza.FieldKind.TheVariants.{Package, Version, Architecture, PreDepends, Depends, Conflicts, Breaks, Provides}
 use Rattle.stanza_reader.specs.declared.stanza.RawStanza.{RawStanza}
 use Rattle.relation_fields.specs.Grammar.{atom_of, alternatives_of, provide_of}
@@ -32,3 +35,7 @@ is_all architecture = bytes_eq architecture (codes "all")
 -- the architecture of a stanza, unless that is `all`; a missing one is read as `all`
 unfoldable pub architecture_of : RawStanza → Option (List ℕ)
 architecture_of stanza = option_and_then (λ field. if is_all field.value then None else Some field.value) (field_of Architecture stanza)
+
+-- each package has a name and a version of their grammars
+abbrev pub AreNamedPackages : List PackageFacts → Type 0
+AreNamedPackages packages = (facts : PackageFacts) → In facts packages → (is_name facts.name ≡ true) × (is_version facts.version ≡ true)

@@ -25,7 +25,7 @@ pub struct SuiteFeed {
 
 impl SuiteFeed {
     ghost use Rattle.std.specs.Prelude.{◌≡◌, List, ℕ, [], true, map, None, IfOk, IfErr, IsErrAnd, OnOk};
-    ghost use Rattle.repo_model.specs.Facts.{facts_of};
+    ghost use Rattle.repo_model.specs.Facts.{facts_of, AreNamedPackages};
     ghost use Rattle.repo_model.specs.Feed.{taken_of, was_refused, FeedStandsFor};
     ghost use Rattle.repo_model.specs.FirstFault.{first_fault, home_of, stanzas_of};
     ghost use Rattle.repo_model.specs.Refusals.{is_memory, Refuses};
@@ -50,6 +50,7 @@ impl SuiteFeed {
         ensures accepted { OnOk result ((text : List ℕ) → FeedStandsFor self text → first_fault text ≡ None) }
         ensures packages { IfOk result (λ suite. (text : List ℕ) → FeedStandsFor self text → suite.packages ≡ map facts_of (stanzas_of text)) }
         ensures home { IfOk result (λ suite. (text : List ℕ) → FeedStandsFor self text → suite.home.name ≡ home_of (stanzas_of text)) }
+        ensures named { IfOk result (λ suite. (text : List ℕ) → FeedStandsFor self text → AreNamedPackages suite.packages) }
         ensures spent { was_refused self ≡ true → IsErrAnd result (λ fault. is_memory fault ≡ true) }
     {
         let SuiteFeed { alloc, reading, .. } = self;

@@ -3,7 +3,7 @@ ghost use Rattle.std.specs.Prelude.{◌≡◌, ◌≤◌, ◌<◌, length, map, 
 ghost use Rattle.std.specs.Option.{option_map};
 ghost use Rattle.relation_fields.specs.Elements.{elements_of};
 ghost use Rattle.virtual_provides.specs.Bearers.{IsBuiltFrom, IsBuiltFrom-prop};
-ghost use Rattle.repo_model.specs.Facts.{facts_of};
+ghost use Rattle.repo_model.specs.Facts.{facts_of, AreNamedPackages};
 ghost use Rattle.repo_model.specs.FirstFault.{first_fault, home_of, stanzas_of};
 ghost use Rattle.repo_model.specs.Refusals.{Refuses};
 ghost use Rattle.repo_model.specs.Limits.{most_bytes, most_packages};
@@ -70,6 +70,7 @@ pub fn read_suite(alloc: Global, bytes: &[u8]) -> Result<Suite, IndexFault>
     ensures accepted { OnOk result (first_fault bytes.now ≡ None) }
     ensures packages { IfOk result (λ suite. suite.packages ≡ map facts_of (stanzas_of bytes.now)) }
     ensures home { IfOk result (λ suite. suite.home.name ≡ home_of (stanzas_of bytes.now)) }
+    ensures named { IfOk result (λ suite. AreNamedPackages suite.packages) }
 {
     let read = read_behind(alloc, Building::new(alloc), bytes, 1)?;
     Ok(read.building.into_suite())

@@ -1,5 +1,6 @@
 //! How views are made.
 ghost use Rattle.std.specs.Prelude.{◌≡◌, ◌<◌, ◌≤◌, length, Bool, List, ℕ, None, Some, IfOk, IfErr, OnOk};
+ghost use Rattle.repo_model.specs.Facts.{AreNamedPackages};
 ghost use Rattle.repo_model.specs.FirstFault.{first_fault};
 ghost use Rattle.repo_model.specs.Repository.{suite_repository};
 ghost use Rattle.row_book.specs.Rounds.{limit_at};
@@ -26,6 +27,7 @@ impl SuiteView {
         ensures within { OnOk result (limit_at limit hold (suite_repository (home_in bytes.now) (packages_in bytes.now)) ≡ None) }
         ensures packages { IfOk result (λ view. view.suite.packages ≡ packages_in bytes.now) }
         ensures home { IfOk result (λ view. view.suite.home ≡ home_in bytes.now) }
+        ensures named { IfOk result (λ view. AreNamedPackages view.suite.packages) }
         ensures limit { IfOk result (λ view. view.limit ≡ limit) }
         ensures hold { IfOk result (λ view. view.kernel.hold ≡ hold) }
     {

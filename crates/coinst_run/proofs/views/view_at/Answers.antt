@@ -1,6 +1,6 @@
 use Rattle.std.proofs.Common.{ap, subst, sym}
 use Rattle.std.proofs.lemmas.Result.{IfErr-weaker, IfOk-weaker, err_from_is_err_and}
-use Rattle.kernel_text.specs.JsonData.{AreNamedPackages}
+use Rattle.repo_model.specs.Facts.{AreNamedPackages}
 use Rattle.coinst_run.specs.Course.{then_on}
 use Rattle.coinst_run.specs.Ending.{stop_ending}
 use Rattle.coinst_run.specs.Index.{Index, index_of}

@@ -4,7 +4,7 @@ use Rattle.std.proofs.lemmas.Result.{IfOk-weaker}
 use Rattle.clause_pool.specs.Interned.{row_at}
 use Rattle.row_book.specs.Book.{repository_of}
 use Rattle.listed.specs.Lists.{In}
-use Rattle.kernel_text.specs.JsonData.{AreNamedPackages}
+use Rattle.repo_model.specs.Facts.{AreNamedPackages}
 use Rattle.kernel_text.specs.KernelJson.{kernel_json}
 use Rattle.kernel_text.specs.KernelText.{format_of}
 use Rattle.kernel_text.specs.Members.{kernel_members}

@@ -22,6 +22,7 @@ pub mod Runs
 pub mod WorkedRows
 pub mod UserRows
 pub mod Halfway
+mod InPlace
 pub mod Turning
 pub mod PoolRows
 pub mod Free

@@ -20,6 +20,10 @@ use Rattle.clause_flatten.proofs.WorkedRows.{lists_fit_kept, lists_tidy_kept, tu
 pub lent_row : (rows : List (List ℕ)) (p : ℕ) (row lent : List ℕ) → p < length rows → row ≡ get_or rows p row → lent ≡ row → lent ≡ listed_for rows p
 lent_row rows p row lent l e f = f ∙ e ∙ get_or_default rows p row [] l
 
+-- the same row where it is handed on to be changed
+pub slot_lent : (rows : List (List ℕ)) (p : ℕ) (row lent : List ℕ) → p < length rows → row ≡ get_or rows p row → lent ≡ listed_for rows p → get_or rows p row ≡ lent
+slot_lent rows p row lent l e f = get_or_default rows p row [] l ∙ sym f
+
 module _ (old : Interned) (rows : List (List ℕ)) (table : Holders) (ready : AreReady old rows table) where
   -- in a pool that has grown
   pub ready_kept : (new : Interned) (after : Holders) → Kept old new → TellsRows new rows after → AreReady new rows after

@@ -12,6 +12,7 @@ use clause_pool::{ClauseId, Pool};
 use listed::Listed;
 use row_book::{ClauseTable, IdList, clause_holds};
 use std::alloc::{AllocError, Global};
+use std::mem;
 
 /// Takes a package out of the rows of its users, the last of them first, and so out of all rows: each clause that holds it is
 /// replaced by its unions with the clauses of the package's own row, which stays.
@@ -60,8 +61,8 @@ fn change_row(
     let useful = useful_of(alloc, pool, user, gone, row, others)?;
     if useful.is_empty() {
         // No clause comes, so the table tells of the shorter row as it is.
-        let left = ids_without(alloc, pool, gone, uses.clauses_with(gone), row)?;
-        rows[user as usize] = Listed::of(left);
+        let places = uses.clauses_with(gone);
+        shorten(alloc, pool, &mut rows[user as usize], gone, places);
         return Ok(());
     }
     let new = with_unions(alloc, pool, gone, row, useful.as_slice())?;
@@ -70,24 +71,32 @@ fn change_row(
     Ok(())
 }
 
-/// The ids of the clauses that do not hold a number, where those that do stand at these places.
-fn ids_without(
-    alloc: Global,
-    pool: &Pool,
-    number: u32,
-    places: &[u32],
-    row: &[ClauseId],
-) -> Result<Vec<ClauseId>, AllocError>
-    requires row { OfPool pool.now row.now }
-    requires placed { ArePlaced pool.now number places.now row.now }
-    ensures ok { IfOk result (λ ids. clauses_at pool.now ids.items ≡ apart_from number (clauses_at pool.now row.now)) }
-    ensures part { IfOk result (λ ids. (id : ℕ) → In id ids.items → In id row.now) }
+/// Takes the clauses that hold a number, which are those at these places, out of a row; it takes no memory.
+fn shorten(alloc: Global, pool: &Pool, row: &mut IdList, number: u32, places: &[u32])
+    requires row { OfPool pool.now row.old }
+    requires placed { ArePlaced pool.now number places.now row.old }
+    ensures made { clauses_at pool.now row.new ≡ apart_from number (clauses_at pool.now row.old) }
+    ensures part { (id : ℕ) → In id row.new → In id row.old }
 {
-    let mut ids = Vec::with_capacity(alloc, row.len())?;
-    for id in row {
-        if !clause_holds(pool, *id, number, places) {
-            ids.push(*id)?;
+    let mut ids = mem::replace(row, Listed::new(alloc)).into_vec();
+    drop_holders(pool, &mut ids, number, places);
+    *row = Listed::of(ids);
+}
+
+/// Leaves of the clauses those that do not hold a number, in their order. Those that do stand at these places.
+fn drop_holders(pool: &Pool, ids: &mut Vec<ClauseId>, number: u32, places: &[u32])
+    requires ids { OfPool pool.now ids.old.items }
+    requires placed { ArePlaced pool.now number places.now ids.old.items }
+    ensures made { clauses_at pool.now ids.new.items ≡ apart_from number (clauses_at pool.now ids.old.items) }
+    ensures part { (id : ℕ) → In id ids.new.items → In id ids.old.items }
+{
+    let mut kept = 0;
+    for place in 0..ids.len() {
+        let id = ids[place];
+        if !clause_holds(pool, id, number, places) {
+            ids[kept] = id;
+            kept += 1;
         }
     }
-    Ok(ids)
+    ids.truncate(kept);
 }

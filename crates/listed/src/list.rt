@@ -38,6 +38,14 @@ impl<T: Drop> Listed<T> {
         Listed { items }
     }
 
+    /// The items as a vector; it takes no memory.
+    pub fn into_vec(self) -> Vec<T>
+        ensures { result.items ≡ self }
+    {
+        let Listed { items } = self;
+        items
+    }
+
     /// Puts an item behind the others; where no memory is found, the list stays as it was.
     pub fn push(&mut self, item: T) -> Result<(), AllocError>
         ensures ok { OnOk result (self.new ≡ self.old ++ item ∷ []) }

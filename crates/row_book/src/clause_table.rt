@@ -61,7 +61,7 @@ impl ClauseTable {
     {
         let clauses = list_at(self.clauses.as_slice(), number);
         let had = users_among(alloc, self.users.as_slice(), clauses)?;
-        users_still(alloc, pool, rows, had.as_slice(), number, clauses)
+        Ok(users_still(pool, rows, had, number, clauses))
     }
 
     /// Lends the places of clauses that hold a package: in a table of rows all of those that a row has; it takes no memory.
@@ -278,24 +278,19 @@ fn users_among(alloc: Global, users: &[Vec<u32>], places: &[u32]) -> Result<Vec<
 /// Those of the packages whose row has a clause that holds the number. The places are those of such clauses, and none that a
 /// row has is missing.
 fn users_still(
-    alloc: Global,
     pool: &Pool,
     rows: &[IdList],
-    packages: &[u32],
+    packages: Vec<u32>,
     number: u32,
     places: &[u32],
-) -> Result<Vec<u32>, AllocError>
+) -> Vec<u32>
     requires { ListsFit pool.now rows.now }
-    ensures { IfOk result (λ found. ((p : ℕ) → ArePlaced pool.now number places.now (listed_for rows.now p)) →
-        found.items ≡ filter (is_user pool.now rows.now number) packages.now) }
+    ensures { ((p : ℕ) → ArePlaced pool.now number places.now (listed_for rows.now p)) →
+        result.items ≡ filter (is_user pool.now rows.now number) packages.items }
 {
-    let mut found = Vec::with_capacity(alloc, packages.len())?;
-    for package in packages {
-        if is_user(pool, rows, *package, number, places) {
-            found.push(*package)?;
-        }
-    }
-    Ok(found)
+    let mut packages = packages;
+    packages.retain(|package| is_user(pool, rows, *package, number, places));
+    packages
 }
 
 /// Whether the package is one of the rows' and its row has a clause that holds the number.

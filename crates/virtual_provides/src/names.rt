@@ -152,29 +152,28 @@ fn met_among(
 ) -> Result<Vec<u32>, AllocError>
     ensures { IfOk result (λ found. found.items ≡ filter (passes_at (λ facts. meets atom.now facts home.now) packages.now) (candidates.entry.first.now ++ candidates.entry.others.now)) }
 {
-    let mut found = met_in(alloc, packages, candidates.first, atom, home)?;
-    let more = met_in(alloc, packages, candidates.others, atom, home)?;
-    found.extend_from_slice(more.as_slice())?;
+    let mut found = Vec::new(alloc);
+    put_met(packages, candidates.first, atom, home, &mut found)?;
+    put_met(packages, candidates.others, atom, home, &mut found)?;
     Ok(found)
 }
 
-// Those of the numbers whose packages meet the atom.
-fn met_in(
-    alloc: Global,
+// Puts those of the numbers whose packages meet the atom behind the others.
+fn put_met(
     packages: &[PackageFacts],
     numbers: &[u32],
     atom: &Atom,
     home: &Home,
-) -> Result<Vec<u32>, AllocError>
-    ensures { IfOk result (λ found. found.items ≡ filter (passes_at (λ facts. meets atom.now facts home.now) packages.now) numbers.now) }
+    found: &mut Vec<u32>,
+) -> Result<(), AllocError>
+    ensures { OnOk result (found.new.items ≡ found.old.items ++ filter (passes_at (λ facts. meets atom.now facts home.now) packages.now) numbers.now) }
 {
-    let mut found = Vec::new(alloc);
     for number in numbers {
         if is_met_at(packages, *number, atom, home) {
             found.push(*number)?;
         }
     }
-    Ok(found)
+    Ok(())
 }
 
 // Whether there is a package of that number, and it meets the atom.

@@ -1,8 +1,7 @@
-use Rattle.std.proofs.Common.{◌≡◌, ℕ, ◌∙◌, ap, filter, subst, sym}
+use Rattle.std.proofs.Common.{◌≡◌, ℕ, ◌∙◌, ap, subst, sym}
 use Rattle.std.specs.List.{list_any}
-use Rattle.std.proofs.lemmas.Result.{IfOk-weaker}
 use Rattle.row_book.specs.Book.{listed_for}
-use Rattle.row_book.specs.Holders.{is_user, users_in, ArePlaced, TellsRows}
+use Rattle.row_book.specs.Holders.{ArePlaced}
 use Rattle.listed.specs.Lists.{has}
 use Rattle.row_book.specs.Uses.{IsListOf, lists_in, list_in}
 use Rattle.row_book.proofs.Holders.{are_placed, users_found}
@@ -15,14 +14,7 @@ returns c =
     let users : lists_in c.as_slice-2.result.now ≡ c.args.self.now.users = ap lists_in c.as_slice-2.ensures.value ∙ ap (λ w. w.users) c.self.view_is in
     let clauses : c.list_at-clauses.result.now ≡ listed_for c.args.self.now.clauses c.args.number =
     c.list_at-clauses.ensures ∙ ap (λ t. list_in t c.args.number) c.as_slice.ensures.value ∙ ap (λ w. listed_for w.clauses c.args.number) c.self.view_is in
-    IfOk-weaker c.users_still.result
-    (λ found. ((p : ℕ) → ArePlaced c.args.pool.now c.args.number c.list_at-clauses.result.now (listed_for c.args.rows.now p)) →
-    found.items ≡ filter (is_user c.args.pool.now c.args.rows.now c.args.number) c.as_slice-3.result.now)
-    (λ found. TellsRows c.args.pool.now c.args.rows.now c.args.self.now → found.items ≡ users_in c.args.pool.now c.args.rows.now c.args.number)
-    (λ found e t.
-    users_found c.args.pool.now c.args.rows.now table n c.in_ok-had.had.items found.items t
+    λ t. users_found c.args.pool.now c.args.rows.now table n c.in_ok-had.had.items c.users_still.result.items t
     (subst (λ us. IsListOf (λ m. list_any (λ d. has (listed_for us d) m) (listed_for c.args.self.now.clauses c.args.number)) c.in_ok-had.had.items) users
     (subst (λ cs. IsListOf (λ m. list_any (λ d. has (list_in c.as_slice-2.result.now d) m) cs) c.in_ok-had.had.items) clauses c.in_ok-had.ensures))
-    (e (λ p. subst (λ ps. ArePlaced c.args.pool.now c.args.number ps (listed_for c.args.rows.now p)) (sym clauses) (are_placed c.args.pool.now c.args.rows.now table n p t))
-    ∙ ap (filter (is_user c.args.pool.now c.args.rows.now c.args.number)) c.as_slice-3.ensures.value))
-    c.users_still.ensures
+    (c.users_still.ensures (λ p. subst (λ ps. ArePlaced c.args.pool.now c.args.number ps (listed_for c.args.rows.now p)) (sym clauses) (are_placed c.args.pool.now c.args.rows.now table n p t)))

@@ -28,7 +28,7 @@ filed_asked pool members f (x ∷ e) d n i own h =
           or_right (has f.always n) (filed_within pool f.lists d n)
           (any_from (λ y. tell_within pool (under f.lists y) d n) d x j
           (any_from (tells_within pool d n) (under f.lists x) s.entry s.there
-          (and_from (eqb n s.entry.«package») (is_inside (clause_at pool s.entry.clause) d) (eq-eqb n s.entry.«package» (sym s.«package»)) (ap (λ c. is_inside c d) s.clause ∙ h))))
+          (and_from (eqb n s.entry.holder) (is_inside (clause_at pool s.entry.clause) d) (eq-eqb n s.entry.holder (sym s.holder)) (ap (λ c. is_inside c d) s.clause ∙ h))))
     ]
 
 -- so whoever sees to it that a clause is hit is a member or asked, where it is filed for its clauses
@@ -47,11 +47,11 @@ pub filed_serves : (pool : Interned) (rows : List ℕ) (p : ℕ) (left : List �
 filed_serves pool rows p left f d n s h =
     let w : (x : ℕ) × In x d × (tell_within pool (under f.lists x) d n ≡ true) = any_cases (λ x. tell_within pool (under f.lists x) d n) d h in
     let v : (e : Entry) × In e (under f.lists w.0) × (tells_within pool d n e ≡ true) = any_cases (tells_within pool d n) (under f.lists w.0) w.2 in
-    let same : n ≡ v.0.«package» = eqb-true n v.0.«package» (and_parts (eqb n v.0.«package») (is_inside (clause_at pool v.0.clause) d) v.2).0 in
+    let same : n ≡ v.0.holder = eqb-true n v.0.holder (and_parts (eqb n v.0.holder) (is_inside (clause_at pool v.0.clause) d) v.2).0 in
     or_right (has d n) (list_any (λ c. is_inside c d) (clauses_of (with_ids pool rows p left []) n))
     (any_from (λ c. is_inside c d) (clauses_of (with_ids pool rows p left []) n) (clause_at pool v.0.clause)
     (subst (λ z. In (clause_at pool v.0.clause) (clauses_of (with_ids pool rows p left []) z)) (sym same) ((s.lists (w.0 % length f.lists) v.0 v.1).has left))
-    (and_parts (eqb n v.0.«package») (is_inside (clause_at pool v.0.clause) d) v.2).1)
+    (and_parts (eqb n v.0.holder) (is_inside (clause_at pool v.0.clause) d) v.2).1)
 
 or_or : (a b c : Bool) → ((a || b) || c) ≡ (a || (b || c))
 or_or true b c = refl
@@ -62,11 +62,11 @@ module _ (pool : Interned) (list : List Entry) (d first : List ℕ) (k : ℕ) (e
   one_more : (n : ℕ) → tell_within pool (take (k + 1) list) d n ≡ (tell_within pool (take k list) d n || tells_within pool d n e)
   one_more n = list_any_more (tells_within pool d n) list k e l ∙ ap (λ z. tell_within pool (take k list) d n || tells_within pool d n z) is
 
-  pub told_more : (all : List ℕ) (n : ℕ) → is_inside (clause_at pool e.clause) d ≡ true → all ≡ found ++ e.«package» ∷ [] → has found n ≡ (has first n || tell_within pool (take k list) d n)
+  pub told_more : (all : List ℕ) (n : ℕ) → is_inside (clause_at pool e.clause) d ≡ true → all ≡ found ++ e.holder ∷ [] → has found n ≡ (has first n || tell_within pool (take k list) d n)
       → has all n ≡ (has first n || tell_within pool (take (k + 1) list) d n)
   told_more all n t v h =
-      ap (λ xs. has xs n) v ∙ list_any-append (λ m. eqb n m) found (e.«package» ∷ [])
-      ∙ ap₂ (λ a b. a || b) h (only (eqb n e.«package») (is_inside (clause_at pool e.clause) d) t)
+      ap (λ xs. has xs n) v ∙ list_any-append (λ m. eqb n m) found (e.holder ∷ [])
+      ∙ ap₂ (λ a b. a || b) h (only (eqb n e.holder) (is_inside (clause_at pool e.clause) d) t)
       ∙ or_or (has first n) (tell_within pool (take k list) d n) (tells_within pool d n e)
       ∙ ap (λ b. has first n || b) (sym (one_more n))
     where
@@ -76,7 +76,7 @@ module _ (pool : Interned) (list : List Entry) (d first : List ℕ) (k : ℕ) (e
 
   pub told_not : (n : ℕ) → is_inside (clause_at pool e.clause) d ≡ false → has found n ≡ (has first n || tell_within pool (take k list) d n)
       → has found n ≡ (has first n || tell_within pool (take (k + 1) list) d n)
-  told_not n t h = h ∙ ap (λ b. has first n || b) (sym (one_more n ∙ none (tell_within pool (take k list) d n) (eqb n e.«package») (is_inside (clause_at pool e.clause) d) t))
+  told_not n t h = h ∙ ap (λ b. has first n || b) (sym (one_more n ∙ none (tell_within pool (take k list) d n) (eqb n e.holder) (is_inside (clause_at pool e.clause) d) t))
     where
       none : (o a b : Bool) → b ≡ false → (o || (a && b)) ≡ o
       none true a b u = refl
@@ -144,12 +144,12 @@ takes_more p n row id a b c inside s t = record {
   always_came = λ m i. elim (t.always_came m i) [ inl j ↦ s.always_came m j | inr e ↦ inr e ];
   lists_came = λ k e i. elim (t.lists_came k e i) [
     | inl j ↦ s.lists_came k e j
-    | inr o ↦ inr (record { «package» = o.«package»; apart = o.apart; clause = elim (In_cases o.clause) [ inl same ↦ subst (λ z. In z row) (sym same) inside | inr none ↦ absurd (In_none none) ] })
+    | inr o ↦ inr (record { holder = o.holder; apart = o.apart; clause = elim (In_cases o.clause) [ inl same ↦ subst (λ z. In z row) (sym same) inside | inr none ↦ absurd (In_none none) ] })
   ];
 }
 
 -- one more entry
-pub takes_entry : (p n : ℕ) (id : ℕ) (always : List ℕ) (e : Entry) (old new : List (List Entry)) → e.«package» ≡ n → e.clause ≡ id → (n ≡ p → ⊥) → Gains e old new
+pub takes_entry : (p n : ℕ) (id : ℕ) (always : List ℕ) (e : Entry) (old new : List (List Entry)) → e.holder ≡ n → e.clause ≡ id → (n ≡ p → ⊥) → Gains e old new
     → Takes p n (id ∷ []) (record { always = always; lists = old }) (record { always = always; lists = new })
 takes_entry p n id always e old new s t apart g = record {
   size = g.size;
@@ -158,7 +158,7 @@ takes_entry p n id always e old new s t apart g = record {
   always_came = λ m i. inl i;
   lists_came = λ k o i. elim (g.came k o i) [
     | inl j ↦ inl j
-    | inr same ↦ inr (record { «package» = ap (λ z. z.«package») same ∙ s; apart = apart; clause = subst (λ z. In z (id ∷ [])) (sym (ap (λ z. z.clause) same ∙ t)) here })
+    | inr same ↦ inr (record { holder = ap (λ z. z.holder) same ∙ s; apart = apart; clause = subst (λ z. In z (id ∷ [])) (sym (ap (λ z. z.clause) same ∙ t)) here })
   ];
 }
 
@@ -191,16 +191,16 @@ filed_still pool members p n row old new t (x ∷ c) m i = λ inside. elim (i in
   | inr s ↦ inr (record {
     entry = s.entry;
     there = subst (λ z. In s.entry (entries_at new.lists (x % z))) (sym t.size) (t.lists (x % length old.lists) s.entry s.there);
-    «package» = s.«package»;
+    holder = s.holder;
     clause = s.clause;
   })
 ]
 
 -- under the first number of its clause
-pub filed_under : (pool : Interned) (members always : List ℕ) (lists : List (List Entry)) (c : List ℕ) (x : ℕ) (rest : List ℕ) (e : Entry) (n : ℕ) → c ≡ x ∷ rest → clause_at pool e.clause ≡ c → e.«package» ≡ n
+pub filed_under : (pool : Interned) (members always : List ℕ) (lists : List (List Entry)) (c : List ℕ) (x : ℕ) (rest : List ℕ) (e : Entry) (n : ℕ) → c ≡ x ∷ rest → clause_at pool e.clause ≡ c → e.holder ≡ n
     → (In x members → In e (under lists x)) → IsFiled pool members (record { always = always; lists = lists }) c n
 filed_under pool members always lists c x rest e n cut is of i =
-    subst (λ z. IsFiled pool members (record { always = always; lists = lists }) z n) (sym cut) (λ inside. inr (record { entry = e; there = i inside; «package» = of; clause = is ∙ cut }))
+    subst (λ z. IsFiled pool members (record { always = always; lists = lists }) z n) (sym cut) (λ inside. inr (record { entry = e; there = i inside; holder = of; clause = is ∙ cut }))
 
 -- another package has the same clauses whatever is left of the pruned one
 same_clauses : (pool : Interned) (rows : List ℕ) (p n : ℕ) (left other : List ℕ) → (n ≡ p → ⊥) → clauses_of (with_ids pool rows p left []) n ≡ clauses_of (with_ids pool rows p other []) n
@@ -216,7 +216,7 @@ filed_for_still pool rows p n left row old new l of is t f = record {
     | inr o ↦ record {
       of_pool = of e.clause o.clause;
       has = λ now.
-          subst (λ z. In (clause_at pool e.clause) (clauses_of (with_ids pool rows p now []) z)) (sym o.«package»)
+          subst (λ z. In (clause_at pool e.clause) (clauses_of (with_ids pool rows p now []) z)) (sym o.holder)
           (subst (λ cs. In (clause_at pool e.clause) cs) (is ∙ same_clauses pool rows p n left now o.apart) (In_map (clause_at pool) row e.clause o.clause));
     }
   ];

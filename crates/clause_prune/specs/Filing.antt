@@ -34,7 +34,7 @@ under lists number = entries_at lists (number % length lists)
 pub record Stands (pool : Interned) (entries : List Entry) (n : ℕ) (c : List ℕ) : Type 0 where
   pub entry : Entry
   pub there : In entry entries
-  pub «package» : entry.«package» ≡ n
+  pub holder : entry.holder ≡ n
   pub clause : clause_at pool entry.clause ≡ c
 
 -- the package is filed for its clause: among those that are always asked, or under the first number of the clause if that is
@@ -45,7 +45,7 @@ IsFiled pool members f (x ∷ c) n = In x members → In n f.always ⊎ Stands p
 
 -- whether the entry is of the package, and its clause lies within d
 abbrev pub tells_within : Interned → List ℕ → ℕ → Entry → Bool
-tells_within pool d n e = eqb n e.«package» && is_inside (clause_at pool e.clause) d
+tells_within pool d n e = eqb n e.holder && is_inside (clause_at pool e.clause) d
 
 -- whether one of the entries is so
 abbrev pub tell_within : Interned → List Entry → List ℕ → ℕ → Bool
@@ -67,7 +67,7 @@ AsksServing pool R cs f d = (c : List ℕ) → In c cs → (n : ℕ) → In n c 
 -- the clause is of the pool, and the package has it whatever is left of the pruned package p
 pub record HasClause (pool : Interned) (rows : List ℕ) (p : ℕ) (e : Entry) : Type 0 where
   pub of_pool : e.clause < length pool.clauses
-  pub has : (left : List ℕ) → In (clause_at pool e.clause) (clauses_of (with_ids pool rows p left []) e.«package»)
+  pub has : (left : List ℕ) → In (clause_at pool e.clause) (clauses_of (with_ids pool rows p left []) e.holder)
 
 -- all that is filed is so, and none is always asked but packages
 pub record FiledFor (pool : Interned) (rows : List ℕ) (p : ℕ) (f : Filed) : Type 0 where
@@ -86,7 +86,7 @@ pub record Gains (entry : Entry) (old new : List (List Entry)) : Type 0 where
 
 -- the entry is of the package, which is another one than p, and one of these clauses
 pub record IsOf (p other : ℕ) (row : List ℕ) (e : Entry) : Type 0 where
-  pub «package» : e.«package» ≡ other
+  pub holder : e.holder ≡ other
   pub apart : other ≡ p → ⊥
   pub clause : In e.clause row
 

@@ -26,7 +26,7 @@ const SHORT: usize = 8;
 /// A package and a clause that it has.
 #[derive(Clone, Copy)]
 pub(crate) struct Entry {
-    package: u32,
+    holder: u32,
     clause: ClauseId,
 }
 
@@ -208,7 +208,7 @@ fn file_clause(
         }
         Some((first, _)) => {
             let entry = Entry {
-                package: member,
+                holder: member,
                 clause,
             };
             file_under(*first, members, lists, entry)
@@ -276,7 +276,7 @@ fn push_packages(
 {
     for entry in list {
         if is_inside_ascending(pool.slice(entry.clause), clause) {
-            found.push(entry.package)?;
+            found.push(entry.holder)?;
         }
     }
     Ok(())

@@ -15,7 +15,7 @@ returns-in_ok-push-in-None-clause-takes c = λ number apart.
 
 pub returns-in-Some-clause-filed : goal.returns-in-Some-clause-filed
 returns-in-Some-clause-filed c =
-    let e : Entry = record { «package» = c.args.member; clause = c.args.clause } in
+    let e : Entry = record { holder = c.args.member; clause = c.args.clause } in
     on_ok_map c.file_under.result
     (filed_under c.args.pool.now c.args.members.now c.args.always.now.items (entries_in c.file_under.new.lists) (clause_at c.args.pool.now c.args.clause) c.in-Some.first.now c.in-Some.field-0-1.now e c.args.member
     (sym c.slice.ensures.lent ∙ c.in-Some.ensures.cases.0) refl refl)
@@ -23,7 +23,7 @@ returns-in-Some-clause-filed c =
 
 pub returns-in-Some-clause-takes : goal.returns-in-Some-clause-takes
 returns-in-Some-clause-takes c =
-    let e : Entry = record { «package» = c.args.member; clause = c.args.clause } in
+    let e : Entry = record { holder = c.args.member; clause = c.args.clause } in
     on_ok_map c.file_under.result
     (λ g number apart. takes_entry number c.args.member c.args.clause c.args.always.now.items e (entries_in c.args.lists.now) (entries_in c.file_under.new.lists) refl refl apart g)
     c.file_under.ensures.gains

@@ -1,6 +1,7 @@
 """Reads a case: one text file with the words, the files and what is wanted. `conformance/run` tells its form."""
 
 import os
+import shlex
 import sys
 
 sys.path.insert(0, os.path.join(os.path.dirname(os.path.realpath(__file__)), "..", "tools"))
@@ -16,7 +17,7 @@ def section_bytes(lines, how):
 
 
 def read_case(path):
-    case = {"status": None, "stdout": None, "words": [], "files": {}, "folders": [], "made": {}, "out": b"", "err": b""}
+    case = {"status": None, "stdout": None, "words": [], "each": [], "files": {}, "folders": [], "made": {}, "out": b"", "err": b""}
     header, lines = None, []
 
     def close():
@@ -26,6 +27,8 @@ def read_case(path):
         kind, _, name = what.partition(" ")
         if kind == "words":
             case["words"] = [line.rstrip("\n") for line in lines]
+        elif kind == "each":
+            case["each"] = [shlex.split(line) for line in lines]
         elif kind == "file":
             case["files"][name] = section_bytes(lines, how)
         elif kind == "folder":
@@ -72,10 +75,13 @@ def try_cases(folder, names, run_case):
     """Runs cases and prints what differs, and a last line; the status."""
     names, failed = names_of_cases(folder, names), 0
     for name in names:
-        case = read_case(os.path.join(folder, name + ".case"))
-        wanted, got = (case["status"], case["out"], case["err"]), run_case(case)
-        if got != wanted:
-            failed += 1
-            print("%s:\n  wanted %r\n  got    %r" % (name, wanted, got))
+        case, differs = read_case(os.path.join(folder, name + ".case")), False
+        wanted = (case["status"], case["out"], case["err"])
+        for words in case["each"] or [case["words"]]:
+            got = run_case({**case, "words": words})
+            if got != wanted:
+                differs = True
+                print("%s: %s\n  wanted %r\n  got    %r" % (name, shlex.join(words), wanted, got))
+        failed += differs
     print("%d passed, %d failed" % (len(names) - failed, failed))
     return 1 if failed or not names else 0

@@ -1,4 +1,3 @@
-pub mod Rows
 mod Plainly
 mod ByStages
 mod Refuted

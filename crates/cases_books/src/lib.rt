@@ -1,12 +1,3 @@
-//! What pools and rounds keep, and what is left when one package is taken out: a crate of tests alone, so that what it goes through
-//! is not proved once more for them. Kernels and their texts are cases of `conformance/cases`.
+//! Small repositories on which the definitions of flattening are computed, and laws that do not hold, in proofs/: a crate by itself, so that no
+//! other proves them once more.
 #![tactic(auto)]
-
-#[cfg(test)]
-mod pools;
-#[cfg(test)]
-mod rounds;
-#[cfg(test)]
-mod samples;
-#[cfg(test)]
-mod taking_out;

@@ -1,5 +1,6 @@
-//! Runs over files and streams in memory, of which chosen calls fail, against answers that were worked out by hand. Whole commands
-//! on files that can be read stand in `conformance/cases`.
+//! Runs over files and streams in memory, of which chosen calls fail, or which give a byte or seven at a time, against answers that were worked out
+//! by hand. Whole commands on files that can be read stand in `conformance/cases`. Each function has few owned values, since each of its `?` drops
+//! them all.
 use byte_flow::{MemShelf, MemSink};
 use coinst_run::run;
 use std::alloc::{AllocError, Global};
@@ -13,8 +14,9 @@ const ONE_KERNEL: &str = "coinst-kernel 1\nclass 0\nmember a 1\nend 1 1\n";
 
 /// The files of each shelf: an empty one, one with a fault of its lines and one of a relation, one of a row with two clauses, one of
 /// three packages that stand alone and one in which the first of them needs one of the two others and these conflict, a status
-/// file and a stored kernel. `N` is not there.
-const FILES: [(&str, &str); 8] = [
+/// file and a stored kernel; an index as an archive writes it; lines that are blank or are not, a package that stands twice, and two
+/// architectures. `N` is not there.
+const FILES: [(&str, &str); 13] = [
     ("E", ""),
     ("X", "x"),
     ("R", "Package: a\nVersion: 1\nProvides: x (>> 1)\n"),
@@ -35,10 +37,40 @@ const FILES: [(&str, &str); 8] = [
         "Package: p\nStatus: install ok installed\nVersion: 1\n\n",
     ),
     ("K", ONE_KERNEL),
+    (
+        "A",
+        "Package: hello\nVersion: 2.10-3\nArchitecture: amd64\nMulti-Arch: foreign\nDepends: libc6 (>= 2.14), python3:any (>= 3.5~)\nDescription: example\n .\n It is an example.\n\nPackage: libc6\nVersion: 2.36-9+deb12u4\nArchitecture: amd64\n\nPackage: python3\nVersion: 3.11.2-1+b1\nArchitecture: all",
+    ),
+    ("B", "\n \n\n\t\n"),
+    ("L", " x\n"),
+    (
+        "D",
+        "Package: a\nVersion: 1.0\n \n\nPackage: a\nVersion: 1.0-0\n",
+    ),
+    (
+        "M",
+        "Package: a\nVersion: 1\nArchitecture: amd64\n\nPackage: b\nVersion: 1\nArchitecture: arm64\n",
+    ),
 ];
 
 /// The words, and then the status, the report and the line, where no call fails.
-const ANSWERS: [(&str, u8, &str, &str); 12] = [
+const ANSWERS: [(&str, u8, &str, &str); 18] = [
+    (
+        "kernel A",
+        0,
+        "coinst-kernel 1\nclass 0\nmember hello 2.10-3\nmember libc6 2.36-9+deb12u4\nmember python3 3.11.2-1+b1\nend 1 3\n",
+        "",
+    ),
+    ("kernel B", 0, EMPTY_KERNEL, ""),
+    ("kernel X", 3, "", "X: line 1: no colon\n"),
+    (
+        "kernel L",
+        3,
+        "",
+        "L: line 1: continuation before any field\n",
+    ),
+    ("kernel D", 3, "", "D: line 5: same package as line 1\n"),
+    ("kernel M", 3, "", "M: line 7: second architecture\n"),
     (
         "kernel I",
         0,
@@ -145,6 +177,15 @@ struct Given {
     step: u32,
 }
 
+/// The status, the report and the line that are wanted of a run, and what it is called where it gives others.
+#[derive(Clone, Copy)]
+struct Wanted<'a> {
+    code: u8,
+    report: &'a str,
+    line: &'a str,
+    told: &'a str,
+}
+
 fn strings(alloc: Global, words: &str) -> Result<Vec<String>, AllocError> {
     let mut made = Vec::new(alloc);
     for word in words.split_whitespace() {
@@ -153,11 +194,16 @@ fn strings(alloc: Global, words: &str) -> Result<Vec<String>, AllocError> {
     Ok(made)
 }
 
-fn shelf(alloc: Global, given: Given) -> Result<MemShelf, AllocError> {
-    let mut shelf = MemShelf::new(alloc, given.step.max(1));
-    for (path, text) in FILES {
+fn add_files(shelf: &mut MemShelf) -> Result<(), AllocError> {
+    for (path, text) in FILES.iter() {
         shelf.add(path, text.as_bytes())?;
     }
+    Ok(())
+}
+
+fn shelf(alloc: Global, given: Given) -> Result<MemShelf, AllocError> {
+    let mut shelf = MemShelf::new(alloc, given.step.max(1));
+    add_files(&mut shelf)?;
     shelf.fail_at(given.read)?;
     Ok(shelf)
 }
@@ -170,6 +216,59 @@ fn stream(alloc: Global, failing: u64) -> Result<MemSink, AllocError> {
     Ok(stream)
 }
 
+fn check_taken(rt: &impl Abort, stream: &MemSink, wanted: &str, told: &str) {
+    assert_eq!(rt; stream.taken(), wanted.as_bytes(), "{told}");
+}
+
+fn check_run(
+    rt: &(impl Abort + AllocGlobal),
+    words: &[String],
+    shelf: &mut MemShelf,
+    out: &mut MemSink,
+    err: &mut MemSink,
+    wanted: Wanted<'_>,
+) {
+    let told = wanted.told;
+    let status = run(rt.alloc(), words, shelf, out, err);
+    assert_eq!(rt; status.code(), wanted.code, "{told}");
+    check_taken(rt, out, wanted.report, told);
+    check_taken(rt, err, wanted.line, told);
+}
+
+fn check_streams(
+    rt: &(impl Abort + AllocGlobal),
+    words: &[String],
+    shelf: &mut MemShelf,
+    given: Given,
+    wanted: Wanted<'_>,
+) -> Result<(), AllocError> {
+    let mut out = stream(rt.alloc(), given.write)?;
+    let mut err = stream(rt.alloc(), given.tell)?;
+    check_run(rt, words, shelf, &mut out, &mut err, wanted);
+    Ok(())
+}
+
+fn check_words(
+    rt: &(impl Abort + AllocGlobal),
+    words: &str,
+    given: Given,
+    wanted: Wanted<'_>,
+) -> Result<(), AllocError> {
+    let made = strings(rt.alloc(), words)?;
+    let mut shelf = shelf(rt.alloc(), given)?;
+    check_streams(rt, made.as_slice(), &mut shelf, given, wanted)
+}
+
+fn told(alloc: Global, words: &str, given: Given) -> Result<String, AllocError> {
+    let Given {
+        read,
+        write,
+        tell,
+        step,
+    } = given;
+    format!(in alloc; "{words}, read {read}, write {write}, tell {tell}, step {step}")
+}
+
 /// Holds the status, the report and the line of a run against those that are wanted.
 fn expect(
     rt: &(impl Abort + AllocGlobal),
@@ -178,34 +277,28 @@ fn expect(
     code: u8,
     report: &str,
     line: &str,
-) -> Result<(), Fail> {
-    let alloc = rt.alloc();
-    let made = strings(alloc, words)?;
-    let mut shelf = shelf(alloc, given)?;
-    let mut out = stream(alloc, given.write)?;
-    let mut err = stream(alloc, given.tell)?;
-    let status = run(alloc, made.as_slice(), &mut shelf, &mut out, &mut err);
-    let told = format!(in alloc;
-        "{words}, read {}, write {}, tell {}, step {}",
-        given.read, given.write, given.tell, given.step
-    )?;
-    assert_eq!(rt; status.code(), code, "{told}");
-    assert_eq!(rt; out.taken(), report.as_bytes(), "{told}");
-    assert_eq!(rt; err.taken(), line.as_bytes(), "{told}");
-    Ok(())
+) -> Result<(), AllocError> {
+    let told = told(rt.alloc(), words, given)?;
+    let wanted = Wanted {
+        code,
+        report,
+        line,
+        told: told.as_str(),
+    };
+    check_words(rt, words, given, wanted)
 }
 
 #[test]
 fn answers_have_their_causes(rt: HostRuntime) -> Result<(), Fail> {
-    for (words, code, report, line) in ANSWERS {
-        for step in [65_536, 7, 1] {
+    for (words, code, report, line) in ANSWERS.iter() {
+        for step in [65_536, 7, 1].iter() {
             let given = Given {
                 read: 0,
                 write: 0,
                 tell: 0,
-                step,
+                step: *step,
             };
-            expect(&rt, words, given, code, report, line)?;
+            expect(&rt, words, given, *code, report, line)?;
         }
     }
     Ok(())
@@ -213,28 +306,28 @@ fn answers_have_their_causes(rt: HostRuntime) -> Result<(), Fail> {
 
 #[test]
 fn failed_reads_end_the_work(rt: HostRuntime) -> Result<(), Fail> {
-    for (words, read, code, report, line) in READS {
+    for (words, read, code, report, line) in READS.iter() {
         let given = Given {
-            read,
+            read: *read,
             write: 0,
             tell: 0,
             step: 65_536,
         };
-        expect(&rt, words, given, code, report, line)?;
+        expect(&rt, words, given, *code, report, line)?;
     }
     Ok(())
 }
 
 #[test]
 fn failed_writes_keep_the_status(rt: HostRuntime) -> Result<(), Fail> {
-    for (words, write, tell, code, report, line) in WRITES {
+    for (words, write, tell, code, report, line) in WRITES.iter() {
         let given = Given {
             read: 0,
-            write,
-            tell,
+            write: *write,
+            tell: *tell,
             step: 65_536,
         };
-        expect(&rt, words, given, code, report, line)?;
+        expect(&rt, words, given, *code, report, line)?;
     }
     Ok(())
 }

@@ -1,2 +1,2 @@
 mod MoreGoals
-mod KernelMade
+pub mod Rows

@@ -4,7 +4,7 @@ ghost use Rattle.row_book.specs.Book.{Sound};
 ghost use Rattle.row_book.specs.Needs.{NeedsFit};
 ghost use Rattle.search_terms.specs.Closure.{InRange};
 
-use crate::lines::{book_of, numbers};
+use crate::samples::book_of;
 use clause_pool::Pool;
 use kernel_rounds::extract;
 use refutation_check::check;
@@ -22,33 +22,23 @@ const THREE: &str =
 const TANGLE: &str =
     "Package: p\nVersion: 1\nDepends: x1 | x2, y1 | y2, z1 | z2\n\nPackage: x1\nVersion: 1\nConflicts: y1, z1\n\nPackage: x2\nVersion: 1\nConflicts: y2, z2\n\nPackage: y1\nVersion: 1\nConflicts: z1\n\nPackage: y2\nVersion: 1\nConflicts: z2\n\nPackage: z1\nVersion: 1\n\nPackage: z2\nVersion: 1\n";
 
-/// Each line is the classes that are wanted, with a digit each; the log, with an entry for each signed digit, and a full stop for
-/// the empty entry behind these; and whether it derives the empty entry.
-const THREE_LOGS: &str = "\
-12 . => derives
-0 . => does not
-12  => does not
-";
+/// That class 1 is left out, and that it is chosen.
+const WITHOUT: Literal = Literal {
+    class: 1,
+    positive: false,
+};
 
-const TANGLE_LOGS: &str = "\
-0 -1+1. => derives
-0 -1. => derives
-0 . => does not
-";
+const WITH: Literal = Literal {
+    class: 1,
+    positive: true,
+};
 
-/// The literals of the signed digits.
-fn literals(alloc: Global, text: &str) -> Result<Vec<Literal>, AllocError> {
-    let mut list = Vec::new(alloc);
-    let mut positive = false;
-    for byte in text.as_bytes() {
-        if *byte == b'+' || *byte == b'-' {
-            positive = *byte == b'+';
-        } else if *byte != b'.' {
-            let class = u32::from(byte.wrapping_sub(48));
-            list.push(Literal { class, positive })?;
-        }
-    }
-    Ok(list)
+/// The classes that are wanted, and a log: an entry for each literal, and the empty entry behind these where it ends.
+#[derive(Clone, Copy)]
+struct Tried<'a> {
+    goals: &'a [u32],
+    literals: &'a [Literal],
+    ends: bool,
 }
 
 /// One more goal of one package.
@@ -109,42 +99,53 @@ fn kernel_of(alloc: Global, pool: &mut Pool, index: &str) -> Result<Book, Fail>
 /// Whether the log derives the empty entry over the kernel and the goals.
 fn is_derived(
     alloc: Global,
-    index: &str,
-    wanted: &[u32],
-    literals: &[Literal],
-    ends: bool,
-) -> Result<bool, Fail> {
-    let mut pool = Pool::new(alloc)?;
-    let kernel = kernel_of(alloc, &mut pool, index)?;
-    let goals = single_goals(alloc, kernel.size(), wanted)?;
-    let entries = entries_of(alloc, kernel.size(), literals, ends)?;
-    let derived = check(alloc, &pool, &kernel, &goals, &Log { entries })?;
-    Ok(derived)
+    pool: &Pool,
+    kernel: &Book,
+    tried: Tried<'_>,
+) -> Result<bool, AllocError>
+    requires { Sound pool.now kernel.now }
+{
+    let goals = single_goals(alloc, kernel.size(), tried.goals)?;
+    let entries = entries_of(alloc, kernel.size(), tried.literals, tried.ends)?;
+    check(alloc, pool, kernel, &goals, &Log { entries })
 }
 
-fn check_line(rt: &(impl Abort + AllocGlobal), index: &str, line: &str) -> Result<(), Fail> {
-    let (question, wanted) = line.split_once(" => ").ok_or("no answer")?;
-    let (goals, log) = question.split_once(' ').ok_or("no log")?;
-    let goals = numbers(rt.alloc(), goals)?;
-    let entries = literals(rt.alloc(), log)?;
-    let derived = is_derived(
-        rt.alloc(),
-        index,
-        goals.as_slice(),
-        entries.as_slice(),
-        log.ends_with('.'),
-    )?;
-    assert_eq!(rt; derived, wanted == "derives", "{line}");
+/// The same over the kernel of an index.
+fn is_derived_over(alloc: Global, index: &str, tried: Tried<'_>) -> Result<bool, Fail> {
+    let mut pool = Pool::new(alloc)?;
+    let kernel = kernel_of(alloc, &mut pool, index)?;
+    Ok(is_derived(alloc, &pool, &kernel, tried)?)
+}
+
+fn check_log(
+    rt: &(impl Abort + AllocGlobal),
+    index: &str,
+    goals: &[u32],
+    literals: &[Literal],
+    ends: bool,
+    wanted: bool,
+) -> Result<(), Fail> {
+    let tried = Tried {
+        goals,
+        literals,
+        ends,
+    };
+    let derived = is_derived_over(rt.alloc(), index, tried)?;
+    assert_eq!(rt;
+        derived,
+        wanted,
+        "goals {goals:?}, literals {}",
+        literals.len()
+    );
     Ok(())
 }
 
 #[test]
 fn logs_are_checked(rt: HostRuntime) -> Result<(), Fail> {
-    for line in THREE_LOGS.lines() {
-        check_line(&rt, THREE, line)?;
-    }
-    for line in TANGLE_LOGS.lines() {
-        check_line(&rt, TANGLE, line)?;
-    }
-    Ok(())
+    check_log(&rt, THREE, &[1, 2], &[], true, true)?;
+    check_log(&rt, THREE, &[0], &[], true, false)?;
+    check_log(&rt, THREE, &[1, 2], &[], false, false)?;
+    check_log(&rt, TANGLE, &[0], &[WITHOUT, WITH], true, true)?;
+    check_log(&rt, TANGLE, &[0], &[WITHOUT], true, true)?;
+    check_log(&rt, TANGLE, &[0], &[], true, false)
 }

@@ -1,0 +1,124 @@
+//! What rounds leave in a pool, over the book of a small index.
+ghost use Rattle.std.specs.Prelude.{IfOk};
+ghost use Rattle.clause_pool.specs.Interned.{Interned};
+ghost use Rattle.row_book.specs.Book.{Sound};
+ghost use Rattle.row_book.specs.Trail.{SoundSteps};
+
+use crate::samples::book_of;
+use clause_flatten::FlatError;
+use clause_pool::Pool;
+use kernel_rounds::{Rounded, one_round};
+use row_book::{Book, StepList, Trail};
+use std::alloc::Global;
+use std::process::Abort;
+use std::test::Fail;
+
+/// Package 0 depends on 1 or 2, and 1 on 3 or 4; 2, 3 and 4 conflict with 5.
+const DETOUR: &str =
+    "Package: a\nVersion: 1\nDepends: b | c\n\nPackage: b\nVersion: 1\nDepends: d | e\n\nPackage: c\nVersion: 1\nConflicts: f\n\nPackage: d\nVersion: 1\nConflicts: f\n\nPackage: e\nVersion: 1\nConflicts: f\n\nPackage: f\nVersion: 1\n";
+
+/// Whether a round changes something, its classes, and how many clauses the pool then has.
+#[derive(Clone, Copy)]
+struct Wanted<'a> {
+    changed: bool,
+    class_of: &'a [u32],
+    clauses: u64,
+}
+
+/// No steps.
+fn no_steps(alloc: Global) -> Trail
+    ensures { (pool : Interned) → SoundSteps pool result.steps }
+{
+    Trail {
+        steps: StepList::new(alloc),
+    }
+}
+
+fn check_made(rt: &impl Abort, made: &Rounded, clauses: u64, wanted: Wanted<'_>) {
+    assert_eq!(rt; made.changed, wanted.changed);
+    assert_eq!(rt; made.class_of.as_slice(), wanted.class_of);
+    assert_eq!(rt; clauses, wanted.clauses);
+}
+
+/// Asserts what one more round gives.
+fn check_round(
+    rt: &(impl Abort + AllocGlobal),
+    pool: &mut Pool,
+    book: Book,
+    past: Trail,
+    wanted: Wanted<'_>,
+) -> Result<Rounded, FlatError>
+    requires sound { Sound pool.old book }
+    requires books { SoundSteps pool.old past.steps }
+    ensures sound { IfOk result (λ made. Sound pool.new made.book) }
+    ensures books { IfOk result (λ made. SoundSteps pool.new made.trail.steps) }
+{
+    let made = one_round(rt.alloc(), pool, book, past, 65_536, false)?;
+    check_made(rt, &made, pool.clause_count(), wanted);
+    Ok(made)
+}
+
+/// Flattening gives 0 the clause of 2, 3 and 4, which merging makes the clause of their class: the longer one is gone after the
+/// round, and those of the books before stay.
+fn check_first(
+    rt: &(impl Abort + AllocGlobal),
+    pool: &mut Pool,
+    book: Book,
+) -> Result<Rounded, FlatError>
+    requires { Sound pool.old book }
+    ensures sound { IfOk result (λ made. Sound pool.new made.book) }
+    ensures books { IfOk result (λ made. SoundSteps pool.new made.trail.steps) }
+{
+    let wanted = Wanted {
+        changed: true,
+        class_of: &[0, 1, 2, 2, 2, 3],
+        clauses: 3,
+    };
+    let made = check_round(rt, pool, book, no_steps(rt.alloc()), wanted)?;
+    assert_eq!(rt; pool.find(&[2, 3, 4]), None);
+    Ok(made)
+}
+
+fn check_second(
+    rt: &(impl Abort + AllocGlobal),
+    pool: &mut Pool,
+    made: Rounded,
+) -> Result<Rounded, FlatError>
+    requires sound { Sound pool.old made.book }
+    requires books { SoundSteps pool.old made.trail.steps }
+    ensures sound { IfOk result (λ made. Sound pool.new made.book) }
+    ensures books { IfOk result (λ made. SoundSteps pool.new made.trail.steps) }
+{
+    let wanted = Wanted {
+        changed: true,
+        class_of: &[0, 0, 1, 2],
+        clauses: 4,
+    };
+    check_round(rt, pool, made.book, made.trail, wanted)
+}
+
+fn check_third(
+    rt: &(impl Abort + AllocGlobal),
+    pool: &mut Pool,
+    made: Rounded,
+) -> Result<Rounded, FlatError>
+    requires sound { Sound pool.old made.book }
+    requires books { SoundSteps pool.old made.trail.steps }
+{
+    let wanted = Wanted {
+        changed: false,
+        class_of: &[0, 1, 2],
+        clauses: 4,
+    };
+    check_round(rt, pool, made.book, made.trail, wanted)
+}
+
+#[test]
+fn rounds_leave_the_clauses_of_their_books(rt: HostRuntime) -> Result<(), Fail> {
+    let mut pool = Pool::new(rt.alloc())?;
+    let book = book_of(rt.alloc(), &mut pool, DETOUR)?;
+    let first = check_first(&rt, &mut pool, book)?;
+    let second = check_second(&rt, &mut pool, first)?;
+    check_third(&rt, &mut pool, second)?;
+    Ok(())
+}

@@ -131,12 +131,7 @@ fn check_log(
         ends,
     };
     let derived = is_derived_over(rt.alloc(), index, tried)?;
-    assert_eq!(rt;
-        derived,
-        wanted,
-        "goals {goals:?}, literals {}",
-        literals.len()
-    );
+    assert!(rt; derived == wanted, "goals {goals:?}");
     Ok(())
 }
 

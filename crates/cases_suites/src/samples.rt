@@ -15,10 +15,16 @@ pub(crate) fn suite_of(alloc: Global, text: &str) -> Result<Suite, IndexFault> {
     read_suite(alloc, text.as_bytes())
 }
 
+fn book_in(alloc: Global, pool: &mut Pool, suite: &Suite) -> Result<Book, IndexFault>
+    ensures { IfOk result (Sound pool.new) }
+{
+    Ok(suite.book(alloc, pool)?)
+}
+
 /// The book of a short index.
 pub(crate) fn book_of(alloc: Global, pool: &mut Pool, text: &str) -> Result<Book, IndexFault>
     ensures { IfOk result (Sound pool.new) }
 {
     let suite = suite_of(alloc, text)?;
-    Ok(suite.book(alloc, pool)?)
+    book_in(alloc, pool, &suite)
 }

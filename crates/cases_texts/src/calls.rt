@@ -10,7 +10,7 @@ use std::test::Fail;
 #[test]
 fn writes_keys(rt: HostRuntime) -> Result<(), Fail> {
     let key = Version::parse(rt.alloc(), b"01:02.0a00-~007")?.key(rt.alloc())?;
-    assert_eq!(rt; key.as_slice(), b"1 2.0a ~7".as_slice());
+    assert!(rt; key.as_slice() == b"1 2.0a ~7".as_slice());
     Ok(())
 }
 
@@ -31,57 +31,38 @@ fn closed_fronts(rt: HostRuntime) -> Result<(), Fail> {
     Ok(())
 }
 
-/// The names of what a package needs; an element ends in `;`.
-fn needs(alloc: Global, value: &[u8]) -> Result<Vec<u8>, RelationError> {
-    let mut text = Vec::new(alloc);
+/// How many elements there are in what a package needs.
+fn needs(alloc: Global, value: &[u8]) -> Result<usize, RelationError> {
     if value.len() > 1000 {
-        return Ok(text);
+        return Ok(0);
     }
-    for atoms in parse_needs(alloc, value)?.as_slice() {
-        for atom in atoms.as_slice() {
-            text.extend_from_slice(atom.name.as_slice())?;
-        }
-        text.extend_from_slice(b";")?;
-    }
-    Ok(text)
+    let elements = parse_needs(alloc, value)?;
+    Ok(elements.as_slice().len())
 }
 
-/// The names of what a package conflicts with.
-fn against(alloc: Global, value: &[u8]) -> Result<Vec<u8>, RelationError> {
-    let mut text = Vec::new(alloc);
+/// How many atoms there are in what a package conflicts with.
+fn against(alloc: Global, value: &[u8]) -> Result<usize, RelationError> {
     if value.len() > 1000 {
-        return Ok(text);
+        return Ok(0);
     }
-    for atom in parse_against(alloc, value)?.as_slice() {
-        text.extend_from_slice(atom.name.as_slice())?;
-    }
-    Ok(text)
+    let atoms = parse_against(alloc, value)?;
+    Ok(atoms.as_slice().len())
 }
 
-/// The names of what a package provides.
-fn provides(alloc: Global, value: &[u8]) -> Result<Vec<u8>, RelationError> {
-    let mut text = Vec::new(alloc);
+/// How many names a package provides.
+fn provides(alloc: Global, value: &[u8]) -> Result<usize, RelationError> {
     if value.len() > 1000 {
-        return Ok(text);
+        return Ok(0);
     }
-    for provide in parse_provides(alloc, value)?.as_slice() {
-        text.extend_from_slice(provide.name.as_slice())?;
-    }
-    Ok(text)
+    let provides = parse_provides(alloc, value)?;
+    Ok(provides.as_slice().len())
 }
 
 #[test]
-fn fields_are_read(rt: HostRuntime) -> Result<(), Fail> {
+fn fields_are_read(rt: HostRuntime) {
     let alloc = rt.alloc();
-    let read = needs(alloc, b"a (>= 1) , b:any | c,")?;
-    assert_eq!(rt; read.as_slice(), b"a;bc;".as_slice());
-    let read = against(alloc, b"a:any, b (<< 2),, c")?;
-    assert_eq!(rt; read.as_slice(), b"abc".as_slice());
-    let read = provides(alloc, b"a (= 1:2-3), b:amd64")?;
-    assert_eq!(rt; read.as_slice(), b"ab".as_slice());
-    assert_eq!(rt;
-        needs(alloc, b"a, |").err(),
-        Some(RelationError::Shape { element: 2 })
-    );
-    Ok(())
+    assert!(rt; needs(alloc, b"a (>= 1) , b:any | c,") == Ok(2));
+    assert!(rt; against(alloc, b"a:any, b (<< 2),, c") == Ok(3));
+    assert!(rt; provides(alloc, b"a (= 1:2-3), b:amd64") == Ok(2));
+    assert!(rt; needs(alloc, b"a, |") == Err(RelationError::Shape { element: 2 }));
 }

@@ -29,26 +29,40 @@ fn bytes_or_refusal<F: Shelf>(
     }
 }
 
-/// Asserts how a shelf of one file ends a reading, where a call fails.
+fn check_bytes<F: Shelf>(
+    rt: &(impl Abort + AllocGlobal),
+    shelf: &mut F,
+    path: &str,
+    limit: u64,
+    want: &str,
+) -> Result<(), AllocError> {
+    let got = bytes_or_refusal(rt.alloc(), shelf, path, limit)?;
+    assert!(rt;
+        got.as_slice() == want.as_bytes(),
+        "{path}, limit {limit}: {want}"
+    );
+    Ok(())
+}
+
+/// A shelf of one file, where a call fails.
+fn shelf_of(alloc: Global, call: u64) -> Result<MemShelf, AllocError> {
+    let mut shelf = MemShelf::new(alloc, 2);
+    shelf.add("a", b"old")?;
+    shelf.add("a", b"hello")?;
+    shelf.fail_at(call)?;
+    Ok(shelf)
+}
+
+/// Asserts how such a shelf ends a reading.
 fn check_reading(
     rt: &(impl Abort + AllocGlobal),
     call: u64,
     path: &str,
     limit: u64,
     want: &str,
-) -> Result<(), Fail> {
-    let alloc = rt.alloc();
-    let mut shelf = MemShelf::new(alloc, 2);
-    shelf.add("a", b"old")?;
-    shelf.add("a", b"hello")?;
-    shelf.fail_at(call)?;
-    let got = bytes_or_refusal(alloc, &mut shelf, path, limit)?;
-    assert_eq!(rt;
-        got.as_slice(),
-        want.as_bytes(),
-        "call {call}, {path}, limit {limit}"
-    );
-    Ok(())
+) -> Result<(), AllocError> {
+    let mut shelf = shelf_of(rt.alloc(), call)?;
+    check_bytes(rt, &mut shelf, path, limit, want)
 }
 
 #[test]
@@ -72,22 +86,24 @@ fn files_in_memory_are_read_or_refused(rt: HostRuntime) -> Result<(), Fail> {
 fn real_files_are_read(rt: HostRuntime) -> Result<(), Fail> {
     fs::write(&rt, "index", EMPTY_KERNEL)?;
     let mut shelf = FileShelf::new(&rt);
-    let got = bytes_or_refusal(rt.alloc(), &mut shelf, "index", 24)?;
-    assert_eq!(rt; got.as_slice(), EMPTY_KERNEL.as_bytes());
-    let missing = bytes_or_refusal(rt.alloc(), &mut shelf, "nowhere", 24)?;
-    assert_eq!(rt; missing.as_slice(), FAILED.as_bytes());
+    check_bytes(&rt, &mut shelf, "index", 24, EMPTY_KERNEL)?;
+    check_bytes(&rt, &mut shelf, "nowhere", 24, FAILED)?;
     Ok(())
 }
 
 #[test]
-fn real_streams_take_bytes_or_fail(rt: HostRuntime) -> Result<(), Fail> {
+fn real_streams_take_bytes(rt: HostRuntime) -> Result<(), Fail> {
     let mut out = StdSink::over(fs::create(&rt, "report")?);
     assert!(rt; write_all(&mut out, EMPTY_KERNEL.as_bytes()).is_ok());
     let mut shelf = FileShelf::new(&rt);
-    let got = bytes_or_refusal(rt.alloc(), &mut shelf, "report", 24)?;
-    assert_eq!(rt; got.as_slice(), EMPTY_KERNEL.as_bytes());
+    check_bytes(&rt, &mut shelf, "report", 24, EMPTY_KERNEL)?;
+    Ok(())
+}
 
-    // A file that was opened to be read takes no byte.
+/// A file that was opened to be read takes no byte.
+#[test]
+fn real_streams_fail(rt: HostRuntime) -> Result<(), Fail> {
+    fs::write(&rt, "report", EMPTY_KERNEL)?;
     let mut closed = StdSink::over(fs::open(&rt, "report")?);
     let ended = write_all(&mut closed, b"x");
     assert!(rt; matches!(ended, Err(WriteError::Failed { written: 0 })));

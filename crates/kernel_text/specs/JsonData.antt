@@ -1,3 +1,4 @@
+-- for the bodies of this crate alone
 -- The JSON of a kernel as data of `serde_json`, over the packages of an index and a table of their numbers by class.
 use Rattle.std.specs.Prelude.{ℕ, Bool, List, [], ◌∷◌, map, codes, Option, Some, None, if◌then◌else◌}
 use Rattle.relation_fields.specs.declared.packages.PackageFacts.{PackageFacts}

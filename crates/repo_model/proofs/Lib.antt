@@ -6,6 +6,8 @@ pub mod Feeds
 pub mod Opening
 pub mod Steps
 pub mod Standing
+pub mod Taking
+pub mod Pieces
 pub mod Short
 pub mod Booked
 pub mod Chosen

@@ -1,10 +1,14 @@
 -- Refusals, and faults one after another.
-use Rattle.std.proofs.Common.{◌≡◌, List, Option, None, find, ap, ◌∙◌}
+use Rattle.std.proofs.Common.{◌≡◌, ℕ, List, Option, None, find, ap, ap₂, ◌∙◌}
 use Rattle.std.specs.Option.{option_or, option_map}
 use Rattle.relation_fields.specs.declared.packages.PackageFacts.{PackageFacts}
+use Rattle.stanza_reader.specs.declared.stanza.FieldKind.TheVariants.{Package}
 use Rattle.stanza_reader.specs.declared.stanza.RawStanza.{RawStanza}
 use Rattle.repo_model.specs.Facts.{facts_of, is_same_package}
+use Rattle.repo_model.specs.Fields.{value_of}
 use Rattle.repo_model.specs.FirstFault.{duplicate_fault}
+use Rattle.repo_model.specs.Nameless.{named, nameless}
+use Rattle.repo_model.specs.declared.facts.NamelessFacts.{NamelessFacts}
 use Rattle.repo_model.specs.declared.fault.IndexFault.{IndexFault}
 use Rattle.repo_model.specs.declared.fault.IndexFault.TheVariants.{Stanza, MissingPackage, MissingVersion, BadPackage, BadVersion, BadArchitecture, BadRelation, Duplicate, Mixed, TooMany, Memory}
 use Rattle.repo_model.specs.Refusals.{UnlessMemory, Refuses}
@@ -34,10 +38,20 @@ refuses_behind fault there more none = for_same fault (λ h. ap (λ found. optio
 pub none_behind : (there more : Option IndexFault) → there ≡ None → more ≡ None → option_or there more ≡ None
 none_behind there more none h = ap (λ found. option_or found more) none ∙ h
 
+-- what was read of a stanza, and its name, are the package that it describes
+pub named_is : (facts : NamelessFacts) (name : List ℕ) (stanza : RawStanza) → facts ≡ nameless (facts_of stanza) → name ≡ value_of Package stanza → named facts name ≡ facts_of stanza
+unfolding facts_of
+named_is facts name stanza same called = ap₂ named same called
+
 -- an earlier stanza is the same package, told by the package that the stanza describes
-pub duplicate_is : (before slice : List PackageFacts) (stanza : RawStanza) (facts : PackageFacts) → slice ≡ before → facts ≡ facts_of stanza
+duplicate_by : (before slice : List PackageFacts) (stanza : RawStanza) (facts : PackageFacts) → slice ≡ before → facts ≡ facts_of stanza
     → option_map (λ (first : PackageFacts). Duplicate first.line facts.line) (find (is_same_package facts) slice) ≡ duplicate_fault before stanza
 unfolding duplicate_fault facts_of
-duplicate_is before slice stanza facts same e =
+duplicate_by before slice stanza facts same e =
     ap (λ (own : PackageFacts). option_map (λ (first : PackageFacts). Duplicate first.line own.line) (find (is_same_package own) slice)) e
     ∙ ap (λ all. option_map (λ (first : PackageFacts). Duplicate first.line stanza.line) (find (is_same_package (facts_of stanza)) all)) same
+
+-- the same, told by what was read of the stanza and its name
+pub duplicate_is : (before slice : List PackageFacts) (stanza : RawStanza) (facts : NamelessFacts) (name : List ℕ) → slice ≡ before → facts ≡ nameless (facts_of stanza) → name ≡ value_of Package stanza
+    → option_map (λ (first : PackageFacts). Duplicate first.line facts.line) (find (is_same_package (named facts name)) slice) ≡ duplicate_fault before stanza
+duplicate_is before slice stanza facts name same read called = duplicate_by before slice stanza (named facts name) same (named_is facts name stanza read called)

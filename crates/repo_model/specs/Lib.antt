@@ -5,6 +5,7 @@ pub mod FirstFault
 pub mod Refusals
 pub mod Needs
 pub mod Building
+pub mod Nameless
 pub mod Reading
 pub mod Backward
 pub mod Feeding

@@ -1,14 +1,14 @@
-//! Blank lines, seen from the end of a text.
+//! Blank lines of a text, mostly seen from its end.
 //!
-//! Only the last blank line matters, so the search goes from the end, and over a piece's own bytes alone, however long the open
-//! stanza is.
+//! The last blank line says how far a piece closes stanzas, so the search goes from the end, and over a piece's own bytes alone,
+//! however long the open stanza is. The first one says how much of the piece is read together with what was pending.
 ghost use Rattle.std.specs.Prelude.{◌≡◌, ◌<◌, ◌≤◌, length, take, drop, count_by, IfNone, IfSome};
 ghost use Rattle.stanza_reader.specs.Close.{IsClosed};
 ghost use Rattle.stanza_reader.specs.Lines.{is_blank_byte, is_line_feed};
 ghost use Rattle.repo_model.specs.Backward.{is_last_blank, IsLastFeed, NoFeed};
 ghost use Rattle.repo_model.specs.Feeding.{IsOpen};
 
-use memchr::memrchr;
+use memchr::{memchr, memrchr};
 
 /// How many bytes end with the last blank line that ends with a line feed; 0 where there is none. Of the first `from` bytes
 /// it is known that there is none among them. Only line feeds are looked at, from the last one on.
@@ -29,6 +29,35 @@ pub(crate) fn closed_length(text: &[u8], from: usize) -> usize
         end = feed;
     }
     0
+}
+
+/// How many bytes end with the first blank line that ends with a line feed and is not the first line; 0 where there is none.
+pub(crate) fn first_closed(text: &[u8]) -> usize
+    ensures { result ≤ length text.now }
+{
+    let Some(first) = next_feed(text, 0) else {
+        return 0;
+    };
+    let mut start = first + 1;
+    while let Some(feed) = next_feed(text, start) {
+        if is_last_blank(text, feed) {
+            return feed + 1;
+        }
+        start = feed + 1;
+    }
+    0
+}
+
+/// The place of the first line feed from a place on.
+fn next_feed(text: &[u8], from: usize) -> Option<usize>
+    requires { from ≤ length text.now }
+    ensures from { IfSome result (λ place. from ≤ place) }
+    ensures below { IfSome result (λ place. place < length text.now) }
+{
+    match memchr(b'\n', &text[from..]) {
+        Some(place) => Some(from + place),
+        None => None,
+    }
 }
 
 /// The place of the last line feed from one place to before another.

@@ -7,17 +7,19 @@ ghost use Rattle.repo_model.specs.FirstFault.{stanza_fault, duplicate_fault, mix
 ghost use Rattle.repo_model.specs.Refusals.{Answers};
 ghost use Rattle.virtual_provides.specs.Bearers.{IsBuiltFrom};
 ghost use Rattle.repo_model.specs.Building.{IsBuilt};
+ghost use Rattle.repo_model.specs.Nameless.{named, nameless};
+ghost use Rattle.repo_model.specs.Needs.{needs_of_all};
 ghost use Rattle.relation_fields.specs.declared.packages.PackageFacts.{PackageFacts};
 ghost use Rattle.repo_model.specs.Limits.{most_packages};
 
-use crate::facts::read_facts;
+use crate::facts::{NamelessFacts, name_in, name_of, read_facts};
 use crate::fault::IndexFault;
 use crate::fields::find_field;
 use crate::suite::{PackageList, Suite};
 use deb_version::Bytes;
 use relation_fields::{ElementTable, Home, PackageFacts};
 use stanza_reader::{FieldKind, RawStanza};
-use std::alloc::Global;
+use std::alloc::{AllocError, Global};
 use virtual_provides::NameTable;
 
 /// The packages of the stanzas that were read so far, with a table of their names and their common
@@ -68,7 +70,23 @@ impl Building {
     }
 
     /// Puts the package of a stanza behind the others, or finds the first fault of that stanza among them.
-    pub(crate) fn add(&mut self, alloc: Global, stanza: &RawStanza) -> Result<(), IndexFault>
+    pub(crate) fn add(&mut self, alloc: Global, stanza: RawStanza) -> Result<(), IndexFault>
+        requires short { HasShortValues stanza }
+        requires room { length self.old.packages < most_packages }
+        requires built { IsBuilt self.old }
+        ensures fault { Answers result (stanza_fault self.old.packages self.old.home.name stanza) tt }
+        ensures packages { OnOk result (self.new.packages ≡ self.old.packages ++ facts_of stanza ∷ []) }
+        ensures home { OnOk result (self.new.home.name ≡ option_or self.old.home.name (architecture_of stanza)) }
+        ensures built { OnOk result (IsBuilt self.new) }
+    {
+        let facts = self.read(alloc, &stanza)?;
+        let name = name_of(alloc, stanza);
+        self.put(facts.named(name))?;
+        Ok(())
+    }
+
+    /// The same with a stanza that is lent: the name is copied.
+    pub(crate) fn add_lent(&mut self, alloc: Global, stanza: &RawStanza) -> Result<(), IndexFault>
         requires short { HasShortValues stanza.now }
         requires room { length self.old.packages < most_packages }
         requires built { IsBuilt self.old }
@@ -77,9 +95,39 @@ impl Building {
         ensures home { OnOk result (self.new.home.name ≡ option_or self.old.home.name (architecture_of stanza.now)) }
         ensures built { OnOk result (IsBuilt self.new) }
     {
+        let facts = self.read(alloc, stanza)?;
+        let name = Bytes::copy(alloc, name_in(stanza))?;
+        self.put(facts.named(name))?;
+        Ok(())
+    }
+
+    /// The package of a stanza but for its name, or the first fault of that stanza among the others. Its needs are noted, and the
+    /// home is settled.
+    fn read(&mut self, alloc: Global, stanza: &RawStanza) -> Result<NamelessFacts, IndexFault>
+        requires short { HasShortValues stanza.now }
+        requires built { IsBuilt self.old }
+        ensures fault { Answers result (stanza_fault self.old.packages self.old.home.name stanza.now) (nameless (facts_of stanza.now)) }
+        ensures packages { IfOk result (λ facts. self.new.packages ≡ self.old.packages) }
+        ensures home { IfOk result (λ facts. self.new.home.name ≡ option_or self.old.home.name (architecture_of stanza.now)) }
+        ensures built { IfOk result (λ facts. IsBuiltFrom self.new.packages self.new.names) }
+        ensures noted { IfOk result (λ facts. self.new.elements ≡ needs_of_all self.new.packages ++ facts.needs) }
+    {
         let facts = read_facts(alloc, &mut self.elements, stanza)?;
-        check_new(alloc, self.packages.as_slice(), &self.names, &facts)?;
+        let name = name_in(stanza);
+        check_new(alloc, self.packages.as_slice(), &self.names, name, &facts)?;
         settle_home(alloc, &mut self.home, stanza)?;
+        Ok(facts)
+    }
+
+    /// Puts a package behind the others, whose needs are noted.
+    fn put(&mut self, facts: PackageFacts) -> Result<(), AllocError>
+        requires room { length self.old.packages < most_packages }
+        requires built { IsBuiltFrom self.old.packages self.old.names }
+        requires noted { self.old.elements ≡ needs_of_all self.old.packages ++ facts.needs }
+        ensures packages { OnOk result (self.new.packages ≡ self.old.packages ++ facts ∷ []) }
+        ensures home { OnOk result (self.new.home ≡ self.old.home) }
+        ensures built { OnOk result (IsBuilt self.new) }
+    {
         let number = self.packages.as_slice().len() as u32;
         self.names.put(number, &facts)?;
         self.packages.push(facts)?;
@@ -92,12 +140,13 @@ fn check_new(
     alloc: Global,
     packages: &[PackageFacts],
     names: &NameTable,
-    facts: &PackageFacts,
+    name: &[u8],
+    facts: &NamelessFacts,
 ) -> Result<(), IndexFault>
     requires { IsBuiltFrom packages.now names.now }
-    ensures { Answers result (option_map (λ first. IndexFault.Duplicate first.line facts.now.line) (find (is_same_package facts.now) packages.now)) tt }
+    ensures { Answers result (option_map (λ first. IndexFault.Duplicate first.line facts.now.line) (find (is_same_package (named facts.now name.now)) packages.now)) tt }
 {
-    let same = names.versioned(alloc, packages, facts.name.as_slice(), &facts.version)?;
+    let same = names.versioned(alloc, packages, name, &facts.version)?;
     match first_of(packages, &same) {
         Some(first) => Err(IndexFault::Duplicate {
             first_line: first.line,

@@ -1,4 +1,6 @@
 //! The package that a stanza describes, or the fault of its fields.
+//!
+//! The name comes last, so that whoever owns the stanza gives it away without a copy.
 ghost use Rattle.std.specs.Prelude.{◌≡◌, ◌++◌, None, Some, IfOk};
 ghost use Rattle.std.specs.List.{AllByRecursion};
 ghost use Rattle.std.specs.Option.{option_and_then, option_or};
@@ -7,30 +9,65 @@ ghost use Rattle.deb_version.specs.Grammar.{is_version};
 ghost use Rattle.relation_fields.specs.Grammar.{is_architecture, atom_of};
 ghost use Rattle.relation_fields.specs.Fields.{said_in};
 ghost use Rattle.repo_model.specs.declared.fault.IndexFault.TheVariants.{BadPackage, BadVersion, BadArchitecture};
-ghost use Rattle.repo_model.specs.Fields.{field_among, value_among, IsShort, HasShortValues};
+ghost use Rattle.repo_model.specs.Fields.{field_among, value_among, value_of, IsShort, HasShortValues};
 ghost use Rattle.repo_model.specs.Facts.{facts_of};
+ghost use Rattle.repo_model.specs.Nameless.{named, nameless};
 ghost use Rattle.repo_model.specs.FirstFault.{own_fault, unless_good, unless_said};
 ghost use Rattle.repo_model.specs.Refusals.{Answers};
 
 use crate::fault::IndexFault;
-use crate::fields::find_field;
+use crate::fields::{find_field, place_of};
 use crate::relations::{read_both, read_field};
 use deb_version::{Bytes, Version, VersionError, is_package_name};
 use relation_fields::{
-    AtomList, AtomReader, ElementTable, PackageFacts, ProvideReader, is_architecture,
+    AtomList, AtomReader, ElementList, ElementTable, PackageFacts, ProvideList, ProvideReader,
+    is_architecture,
 };
 use stanza_reader::{FieldKind, RawField, RawStanza};
 use std::alloc::Global;
 
-/// The package that a stanza describes, or the first fault of its fields.
+/// The package that a stanza describes, but for its name.
+#[derive(Drop)]
+pub(crate) struct NamelessFacts {
+    pub(crate) line: u64,
+    pub(crate) version: Version,
+    pub(crate) needs: ElementList,
+    pub(crate) against: AtomList,
+    pub(crate) provides: ProvideList,
+}
+
+impl NamelessFacts {
+    /// The package with that name; it takes no memory.
+    pub(crate) fn named(self, name: Bytes) -> PackageFacts
+        ensures { result ≡ named self name }
+    {
+        let NamelessFacts {
+            line,
+            version,
+            needs,
+            against,
+            provides,
+        } = self;
+        PackageFacts {
+            line,
+            name,
+            version,
+            needs,
+            against,
+            provides,
+        }
+    }
+}
+
+/// The package that a stanza describes, but for its name, or the first fault of its fields.
 #[tactic(auto, unfolding(crate::specs::Facts::facts_of, crate::specs::FirstFault::presence_fault, crate::specs::FirstFault::value_fault))]
 pub(crate) fn read_facts(
     alloc: Global,
     elements: &mut ElementTable,
     stanza: &RawStanza,
-) -> Result<PackageFacts, IndexFault>
+) -> Result<NamelessFacts, IndexFault>
     requires { HasShortValues stanza.now }
-    ensures facts { Answers result (own_fault stanza.now) (facts_of stanza.now) }
+    ensures facts { Answers result (own_fault stanza.now) (nameless (facts_of stanza.now)) }
     ensures noted { IfOk result (λ facts. elements.new ≡ elements.old ++ facts.needs) }
 {
     let line = stanza.line;
@@ -41,7 +78,7 @@ pub(crate) fn read_facts(
     let Some(version) = find_field(fields, FieldKind::Version) else {
         return Err(IndexFault::MissingVersion { line });
     };
-    let name = read_name(alloc, name)?;
+    check_name(name)?;
     let version = read_version(alloc, version)?;
     check_architecture(fields)?;
     let needs = read_both(
@@ -53,9 +90,8 @@ pub(crate) fn read_facts(
     )?;
     let against = read_against(alloc, fields)?;
     let provides = read_field(alloc, &mut ProvideReader, fields, FieldKind::Provides)?;
-    Ok(PackageFacts {
+    Ok(NamelessFacts {
         line,
-        name,
         version,
         needs,
         against,
@@ -78,15 +114,45 @@ fn read_against(alloc: Global, fields: &[RawField]) -> Result<AtomList, IndexFau
     Ok(AtomList::of(alloc, atoms)?)
 }
 
-// The value of `Package`, where it is a package name.
-fn read_name(alloc: Global, field: &RawField) -> Result<Bytes, IndexFault>
-    ensures { Answers result (unless_good is_name BadPackage field.now) field.now.value }
+/// The value of the field `Package`, taken out of its stanza; that of a missing field is empty. It takes no memory.
+pub(crate) fn name_of(alloc: Global, stanza: RawStanza) -> Bytes
+    ensures { result ≡ value_of FieldKind.Package stanza }
+{
+    let RawStanza { fields, .. } = stanza;
+    let mut fields = fields.into_vec();
+    match place_of(fields.as_slice(), FieldKind::Package) {
+        Some(place) => value_in(fields.swap_remove(place)),
+        None => Bytes::of(Vec::new(alloc)),
+    }
+}
+
+// The value of a field, taken out of it.
+fn value_in(field: RawField) -> Bytes
+    ensures { result ≡ field.value }
+{
+    let RawField { value, .. } = field;
+    value
+}
+
+/// Lends the value of the field `Package`; that of a missing field is empty.
+pub(crate) fn name_in(stanza: &RawStanza) -> &[u8]
+    ensures { result.now ≡ value_of FieldKind.Package stanza.now }
+{
+    match find_field(stanza.fields.as_slice(), FieldKind::Package) {
+        Some(field) => field.value.as_slice(),
+        None => &[],
+    }
+}
+
+// Checks that the value of `Package` is a package name.
+fn check_name(field: &RawField) -> Result<(), IndexFault>
+    ensures { Answers result (unless_good is_name BadPackage field.now) tt }
 {
     let line = field.line;
     if !is_package_name(field.value.as_slice()) {
         return Err(IndexFault::BadPackage { line });
     }
-    Ok(Bytes::copy(alloc, field.value.as_slice())?)
+    Ok(())
 }
 
 // The value of `Version`, where it is a version.

@@ -1,6 +1,6 @@
 //! The fields of a stanza by their kinds.
 ghost use Rattle.std.specs.Prelude.{◌≡◌, IfSome};
-ghost use Rattle.std.specs.List.{AllByRecursion};
+ghost use Rattle.std.specs.List.{AllByRecursion, position};
 ghost use Rattle.std.specs.Option.{option_copied};
 ghost use Rattle.repo_model.specs.Fields.{field_among, is_kind, IsShort};
 
@@ -12,6 +12,13 @@ pub fn find_field(fields: &[RawField], kind: FieldKind) -> Option<&RawField>
     ensures short { AllByRecursion IsShort fields.now → IfSome result (λ field. IsShort field.now) }
 {
     fields.iter().find(|field| has_kind(field, kind))
+}
+
+/// The place of the first field of a kind, where there is one.
+pub(crate) fn place_of(fields: &[RawField], kind: FieldKind) -> Option<usize>
+    ensures { result ≡ position (λ field. is_kind kind field.kind) fields.now }
+{
+    fields.iter().position(|field| has_kind(field, kind))
 }
 
 fn has_kind(field: &RawField, kind: FieldKind) -> bool

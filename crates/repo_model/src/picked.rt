@@ -59,5 +59,5 @@ fn add_next(alloc: Global, building: &mut Building, stanza: &RawStanza) -> Resul
     if is_full(building.packages.as_slice().len()) {
         return Err(IndexFault::TooMany);
     }
-    building.add(alloc, stanza)
+    building.add_lent(alloc, stanza)
 }

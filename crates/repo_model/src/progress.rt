@@ -1,9 +1,11 @@
 //! How far an index is read that comes in pieces.
+//!
+//! A piece is read where it lies, but for the stanzas at both of its ends.
 ghost use Rattle.std.specs.Prelude.{◌≡◌, ◌≤◌, drop, length};
 ghost use Rattle.repo_model.specs.Building.{IsBuilt, IsBuilt-prop};
 ghost use Rattle.repo_model.specs.Limits.{most_packages};
 
-use crate::blank::closed_length;
+use crate::blank::{closed_length, first_closed};
 use crate::building::Building;
 use crate::fault::IndexFault;
 use crate::reading::{ReadPart, read_behind};
@@ -44,6 +46,71 @@ impl Progress {
 
     /// Takes a piece behind the pending bytes, and reads the stanzas that it closes.
     pub(crate) fn add(self, alloc: Global, piece: &[u8]) -> Result<Self, IndexFault>
+        requires room { self.line + length self.pending.items + length piece.now ≤ 1073741825 }
+        requires unclosed { IsOpen self.pending.items }
+        ensures stands { (text : List ℕ) → IsProgress self text → StandsUnlessMemory result (text ++ piece.now) }
+        ensures fits { IfOk result (λ new. new.line + length new.pending.items ≤ self.line + length self.pending.items + length piece.now) }
+        ensures unclosed { IfOk result (λ new. IsOpen new.pending.items) }
+    {
+        let count = first_closed(piece);
+        let (first, more) = piece.split_at(count);
+        let begun = self.hold(alloc, first)?;
+        begun.go_on(alloc, more)
+    }
+
+    /// Takes a piece: where nothing is pending, it is read where it lies.
+    fn go_on(self, alloc: Global, piece: &[u8]) -> Result<Self, IndexFault>
+        requires room { self.line + length self.pending.items + length piece.now ≤ 1073741825 }
+        requires unclosed { IsOpen self.pending.items }
+        ensures stands { (text : List ℕ) → IsProgress self text → StandsUnlessMemory result (text ++ piece.now) }
+        ensures fits { IfOk result (λ new. new.line + length new.pending.items ≤ self.line + length self.pending.items + length piece.now) }
+        ensures unclosed { IfOk result (λ new. IsOpen new.pending.items) }
+    {
+        if self.pending.as_slice().is_empty() {
+            return self.pass(alloc, piece);
+        }
+        self.hold(alloc, piece)
+    }
+
+    /// Takes a piece where nothing is pending: the stanzas that it closes are read where they lie.
+    fn pass(self, alloc: Global, piece: &[u8]) -> Result<Self, IndexFault>
+        requires room { self.line + length piece.now ≤ 1073741825 }
+        requires nothing { self.pending.items ≡ [] }
+        ensures stands { (text : List ℕ) → IsProgress self text → StandsUnlessMemory result (text ++ piece.now) }
+        ensures fits { IfOk result (λ new. new.line + length new.pending.items ≤ self.line + length piece.now) }
+        ensures unclosed { IfOk result (λ new. IsOpen new.pending.items) }
+    {
+        let closed = closed_length(piece, 0);
+        let (part, last) = piece.split_at(closed);
+        let read = self.read(alloc, part)?;
+        read.hold(alloc, last)
+    }
+
+    /// Reads a part where it lies, behind which none of its stanzas goes on. Nothing is pending, before or after.
+    fn read(self, alloc: Global, part: &[u8]) -> Result<Self, IndexFault>
+        requires room { self.line + length part.now ≤ 1073741825 }
+        requires nothing { self.pending.items ≡ [] }
+        requires closed { IsClosed part.now }
+        ensures stands { (text : List ℕ) → IsProgress self text → StandsUnlessMemory result (text ++ part.now) }
+        ensures fits { IfOk result (λ new. new.line ≤ self.line + length part.now) }
+        ensures nothing { IfOk result (λ new. new.pending.items ≡ []) }
+    {
+        let Progress {
+            building,
+            line,
+            pending,
+        } = self;
+        let read = read_behind(alloc, building, part, line)?;
+        let ReadPart { building, line } = read;
+        Ok(Progress {
+            building,
+            line,
+            pending,
+        })
+    }
+
+    /// Puts bytes behind the pending ones, and reads the stanzas that they close from there.
+    fn hold(self, alloc: Global, piece: &[u8]) -> Result<Self, IndexFault>
         requires room { self.line + length self.pending.items + length piece.now ≤ 1073741825 }
         requires unclosed { IsOpen self.pending.items }
         ensures stands { (text : List ℕ) → IsProgress self text → StandsUnlessMemory result (text ++ piece.now) }

@@ -54,7 +54,7 @@ pub(crate) fn read_behind(
                 return Ok(ReadPart { building, line });
             }
             Next::Stanza { stanza, after } => {
-                building.add(alloc, &stanza)?;
+                building.add(alloc, stanza)?;
                 at = after;
             }
         }

@@ -1,35 +1,8 @@
-use Rattle.std.proofs.Common.{◌∙◌, length, sym, ap, subst, refl}
-use Rattle.std.proofs.lemmas.Result.{err_from_is_err_and}
-use Rattle.virtual_provides.specs.Bearers.{IsBuiltFrom}
-use Rattle.repo_model.specs.Refusals.{Refuses}
-use Rattle.repo_model.proofs.Refusing.{refuses_first, refuses_behind, none_behind, duplicate_is}
-use Rattle.repo_model.proofs.Noted.{needs_more}
+use Rattle.std.proofs.Common.{[], ◌∷◌, ◌++◌, ◌∙◌, ap₂}
+use Rattle.repo_model.proofs.Refusing.{named_is}
 use Rattle.repo_model.proofs.building.Building.add.Goals as goal
 
-pub returns-in_err-check_new-clause-fault : goal.returns-in_err-check_new-clause-fault
-returns-in_err-check_new-clause-fault c =
-    let p = err_from_is_err_and c.from_residual-in_err-check_new.result c.from_residual-in_err-check_new.ensures.1 in
-    let same = duplicate_is c.args.self.now.packages c.as_slice.result.now c.args.stanza.now c.in_ok-facts.facts c.as_slice.ensures c.in_ok-facts.ensures.facts.1 in
-    rw (p.1, p.2) (refuses_behind _ _ _ c.in_ok-facts.ensures.facts.0 (refuses_first _ _ _ (subst (Refuses c.in_err-check_new.field-0.0) same c.in_err-check_new.ensures)))
-
-pub returns-in_err-settle_home-clause-fault : goal.returns-in_err-settle_home-clause-fault
-returns-in_err-settle_home-clause-fault c =
-    let p = err_from_is_err_and c.from_residual-in_err-settle_home.result c.from_residual-in_err-settle_home.ensures.1 in
-    let new = sym (duplicate_is c.args.self.now.packages c.as_slice.result.now c.args.stanza.now c.in_ok-facts.facts c.as_slice.ensures c.in_ok-facts.ensures.facts.1) ∙ c.in_ok-check_new.ensures.0 in
-    rw (p.1, p.2) (refuses_behind _ _ _ c.in_ok-facts.ensures.facts.0 (refuses_behind _ _ _ new (refuses_first _ _ _ c.in_err-settle_home.ensures.fault)))
-
-pub returns-clause-fault : goal.returns-clause-fault
-returns-clause-fault c =
-    let new = sym (duplicate_is c.args.self.now.packages c.as_slice.result.now c.args.stanza.now c.in_ok-facts.facts c.as_slice.ensures c.in_ok-facts.ensures.facts.1) ∙ c.in_ok-check_new.ensures.0 in
-    (none_behind _ _ c.in_ok-facts.ensures.facts.0 (none_behind _ _ new (none_behind _ _ c.in_ok-settle_home.ensures.fault.0 refl)), refl)
-
-pub check_new-requires : goal.check_new-requires
-check_new-requires c = subst (λ packages. IsBuiltFrom packages c.args.self.now.names) (sym c.as_slice.ensures) c.requires.built.named
-
-pub returns-clause-built : goal.returns-clause-built
-returns-clause-built c = record {
-  named =
-      subst (λ packages. IsBuiltFrom packages c.put.new.self) (sym c.in_ok-push.ensures.ok)
-      (c.in_ok-put.ensures c.args.self.now.packages c.requires.built.named (ap length c.as_slice-2.ensures));
-  noted = needs_more _ _ c.args.self.now.packages _ c.in_ok-facts.facts c.requires.built.noted c.in_ok-facts.ensures.noted c.in_ok-push.ensures.ok;
-}
+pub returns-clause-packages : goal.returns-clause-packages
+returns-clause-packages c =
+    c.in_ok-put.ensures.packages
+    ∙ ap₂ (λ before facts. before ++ facts ∷ []) c.in_ok-facts.ensures.packages (c.named.ensures ∙ named_is _ _ c.args.stanza c.in_ok-facts.ensures.fault.1 c.name_of-name.ensures)

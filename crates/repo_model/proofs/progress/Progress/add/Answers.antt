@@ -1,20 +1,24 @@
-use Rattle.std.proofs.Common.{◌≡◌, ◌++◌, ◌∙◌, length, refl, sym, ap₂, subst, take, arith}
-use Rattle.std.proofs.lemmas.Grind.{common_steps}
-use Rattle.std.proofs.Math.Seq.{take-append_seam}
-use Rattle.repo_model.specs.Feeding.{IsOpen}
-use Rattle.repo_model.proofs.Standing.{held_more}
+use Rattle.std.proofs.Common.{arith}
+use Rattle.std.proofs.lemmas.Result.{err_from_is_err_and}
+use Rattle.repo_model.proofs.Pieces.{fault_in_parts, parts_length, stands_in_parts}
 use Rattle.repo_model.proofs.progress.Progress.add.Goals as goal
 
-pub closed_length-closed-requires : goal.closed_length-closed-requires
-closed_length-closed-requires c =
-    let pending = c.args.self.pending.items in
-    let count : c.len-before.result ≡ length pending = grind (arith, common_steps) in
-    subst IsOpen (sym (ap₂ take count (c.deref.ensures.value ∙ c.in_ok-extend_from_slice.ensures.items) ∙ take-append_seam pending c.args.piece.now)) c.requires.unclosed
+pub hold-requires-clause-room : goal.hold-requires-clause-room
+hold-requires-clause-room c =
+    let parts = parts_length c.args.piece.now _ _ c.first_closed-count.result c.split_at.ensures.front c.split_at.ensures.back in
+    omega (arith, parts, c.requires.room)
 
-pub returns-then-closed-eq0-clause-stands : goal.returns-then-closed-eq0-clause-stands
-returns-then-closed-eq0-clause-stands c = λ text stands.
-    held_more c.args.self _ text c.args.piece.now stands refl refl c.in_ok-extend_from_slice.ensures.items
+pub returns-in_err-begun-clause-stands : goal.returns-in_err-begun-clause-stands
+returns-in_err-begun-clause-stands c =
+    let p = err_from_is_err_and c.from_residual.result c.from_residual.ensures.1 in
+    rw (p.1, p.2) (λ text stands. fault_in_parts _ text c.args.piece.now _ c.first_closed-count.result c.split_at.ensures.front (c.in_err-begun.ensures.stands text stands))
 
 pub returns-clause-stands : goal.returns-clause-stands
 returns-clause-stands c = λ text stands.
-    c.close.ensures.stands (text ++ c.args.piece.now) (held_more c.args.self _ text c.args.piece.now stands refl refl (grind (arith, common_steps)))
+    stands_in_parts c.go_on.result text c.args.piece.now _ _ c.first_closed-count.result c.split_at.ensures.front c.split_at.ensures.back
+    (c.go_on.ensures.stands _ (c.in_ok-begun.ensures.stands text stands))
+
+pub go_on-requires-clause-room : goal.go_on-requires-clause-room
+go_on-requires-clause-room c =
+    let parts = parts_length c.args.piece.now _ _ c.first_closed-count.result c.split_at.ensures.front c.split_at.ensures.back in
+    omega (arith, parts, c.in_ok-begun.ensures.fits, c.requires.room)

@@ -1,0 +1,8 @@
+use Rattle.std.proofs.Common.{[], ◌∷◌, ◌++◌, ◌∙◌, ap₂}
+use Rattle.repo_model.proofs.Refusing.{named_is}
+use Rattle.repo_model.proofs.building.Building.add_lent.Goals as goal
+
+pub returns-clause-packages : goal.returns-clause-packages
+returns-clause-packages c =
+    c.in_ok-put.ensures.packages
+    ∙ ap₂ (λ before facts. before ++ facts ∷ []) c.in_ok-facts.ensures.packages (c.named.ensures ∙ named_is _ _ c.args.stanza.now c.in_ok-facts.ensures.fault.1 (c.in_ok-name.ensures ∙ c.name_in.ensures))

@@ -4,7 +4,6 @@ use Rattle.std.proofs.lemmas.List.{length-map}
 use Rattle.clause_pool.specs.Interned.{row_at}
 use Rattle.relation_fields.specs.declared.packages.Home.{Home}
 use Rattle.relation_fields.specs.declared.packages.PackageFacts.{PackageFacts}
-use Rattle.repo_model.proofs.Accepted.{Accepted}
 use Rattle.repo_model.proofs.Packages.{length_clauses}
 use Rattle.repo_model.proofs.Standing.{not_memory}
 pub use Rattle.repo_model.proofs.SoundSuite.{suite_sound}

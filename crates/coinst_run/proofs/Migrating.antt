@@ -1,5 +1,5 @@
 -- From what the calls of a plan answer to its course.
-use Rattle.std.proofs.Common.{◌≡◌, ℕ, Bool, List, Option, Some, None, Result, Ok, Err, refl, sym, ap, ap₂, ◌∙◌}
+use Rattle.std.proofs.Common.{◌≡◌, ℕ, Bool, List, Option, Some, None, Result, Ok, refl, sym, ap, ap₂, ◌∙◌}
 use Rattle.std.specs.Prelude.{IfSome}
 use Rattle.migrate_plan.specs.Plan.{Settings, plan}
 use Rattle.migrate_plan.specs.Refusals.{plan_refusal}

@@ -4,7 +4,6 @@ use Rattle.relation_fields.specs.declared.packages.Home.{Home}
 use Rattle.relation_fields.specs.declared.packages.PackageFacts.{PackageFacts}
 use Rattle.repo_model.specs.declared.fault.IndexFault.{IndexFault}
 use Rattle.repo_model.specs.Repository.{suite_repository}
-use Rattle.row_book.specs.Flattening.{packages}
 use Rattle.suite_compare.specs.Asking.{verdict_in}
 use Rattle.status_check.specs.Own.{foreign_count, own_home, own_packages, status_fault}
 use Rattle.status_check.specs.Report.{all_of, had_goals, line_for, state_of}

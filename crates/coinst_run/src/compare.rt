@@ -1,12 +1,13 @@
 //! The command that lists what a newer index has broken of an older one.
-ghost use Rattle.std.specs.Prelude.{◌≡◌};
+ghost use Rattle.std.specs.Prelude.{◌≡◌, ◌<◌};
 ghost use Rattle.clause_solver.specs.Outcomes.{IsBudget};
 ghost use Rattle.coinst_words.specs.Jobs.{AreInLimits};
-ghost use Rattle.coinst_run.specs.Compare.{broken_lines, compare_course, lines_answer};
+ghost use Rattle.coinst_run.specs.Compare.{broken_lines, compare_answer, compare_course, lines_answer};
 ghost use Rattle.coinst_run.specs.Course.{answers};
 ghost use Rattle.coinst_run.specs.Ending.{Settles, ending_of};
 ghost use Rattle.coinst_run.specs.Follows.{Follows};
 ghost use Rattle.coinst_run.specs.Index.{index_of};
+ghost use Rattle.coinst_run.specs.Kernel.{reads_kernel};
 
 use crate::answer::{Report, Stop};
 use crate::compare_text::{comparison_text, comparison_verdict};
@@ -28,8 +29,27 @@ pub fn compare<F: Shelf>(
     ensures { Follows F.contents F.faults F.moved F.is_quiet F.start_gives F.read_gives (compare_course old.now new.now with.budget with.clause_limit with.hold) shelf.old (ending_of result) shelf.new }
 {
     let before = view_at(alloc, shelf, old, with.clause_limit, with.hold)?;
-    let after = view_at(alloc, shelf, new, with.clause_limit, with.hold)?;
-    comparison(alloc, &before, &after, with.budget)
+    let report = against_newer(alloc, shelf, &before, new, with.budget);
+    drop(before);
+    report
+}
+
+// The report on what the index at a path has broken of that of an older view, at the limit of this view, with hold or without.
+fn against_newer<F: Shelf>(
+    alloc: Global,
+    shelf: &mut F,
+    old: &SuiteView,
+    new: &str,
+    budget: u64,
+) -> Result<Report, Stop>
+    requires budget { IsBudget budget }
+    requires limit { 0 < old.now.limit }
+    ensures { Follows F.contents F.faults F.moved F.is_quiet F.start_gives F.read_gives (reads_kernel new.now old.now.limit old.now.kernel.hold (compare_answer budget old.now.limit old.now.kernel.hold (index_of old.now.suite))) shelf.old (ending_of result) shelf.new }
+{
+    let after = view_at(alloc, shelf, new, old.limit, old.kernel.hold)?;
+    let report = comparison(alloc, old, &after, budget);
+    drop(after);
+    report
 }
 
 // The report on two views of one limit and hold.

@@ -34,7 +34,9 @@ pub fn explain<F: Shelf>(
     ensures { Follows F.contents F.faults F.moved F.is_quiet F.start_gives F.read_gives (explain_course path.now goals.now with.budget with.clause_limit with.hold) shelf.old (ending_of result) shelf.new }
 {
     let view = view_at(alloc, shelf, path, with.clause_limit, with.hold)?;
-    explain_goals(alloc, &view, goals, with.budget)
+    let report = explain_goals(alloc, &view, goals, with.budget);
+    drop(view);
+    report
 }
 
 // The report on goals in a view.

@@ -29,7 +29,9 @@ pub fn kernel<F: Shelf>(
     ensures { Follows F.contents F.faults F.moved F.is_quiet F.start_gives F.read_gives (kernel_course path.now json with.clause_limit with.hold) shelf.old (ending_of result) shelf.new }
 {
     let view = view_at(alloc, shelf, path, with.clause_limit, with.hold)?;
-    kernel_report(alloc, &view, json)
+    let report = kernel_report(alloc, &view, json);
+    drop(view);
+    report
 }
 
 // The report on the kernel of a view, as text or as JSON.

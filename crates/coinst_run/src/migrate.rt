@@ -11,7 +11,7 @@ ghost use Rattle.suite_compare.specs.Refusals.{home_in, packages_in};
 ghost use Rattle.coinst_run.specs.Ending.{Settles, StopsAt, ending_of, stop_ending};
 ghost use Rattle.coinst_run.specs.Follows.{Follows};
 ghost use Rattle.coinst_run.specs.IndexKernel.{index_kernel};
-ghost use Rattle.coinst_run.specs.Migrate.{by_refusal, homes_line, kernel_at, migrate_course, plan_answer};
+ghost use Rattle.coinst_run.specs.Migrate.{by_refusal, homes_line, kernel_at, migrate_course, new_answer, new_course, old_answer, plan_answer};
 ghost use Rattle.repo_model.specs.Limits.{most_bytes};
 
 use crate::answer::{Cause, Report, Stop};
@@ -39,12 +39,69 @@ pub fn migrate<F: Shelf>(
     ensures { Follows F.contents F.faults F.moved F.is_quiet F.start_gives F.read_gives (migrate_course old.now new.now with.budget with.clause_limit with.hold) shelf.old (ending_of result) shelf.new }
 {
     let text = text_at(alloc, shelf, old)?;
-    let first = text.as_slice();
-    let view = view_in(alloc, first, old, with.clause_limit, with.hold)?;
+    from_older(alloc, shelf, text.as_slice(), old, new, with)
+}
+
+// The same behind the text of the older index.
+fn from_older<F: Shelf>(
+    alloc: Global,
+    shelf: &mut F,
+    text: &[u8],
+    old: &str,
+    new: &str,
+    with: Settings,
+) -> Result<Report, Stop>
+    requires short { length text.now ≤ most_bytes }
+    requires with { AreInLimits with }
+    ensures { Follows F.contents F.faults F.moved F.is_quiet F.start_gives F.read_gives (old_answer old.now new.now (settings_of with.budget with.clause_limit with.hold) text.now) shelf.old (ending_of result) shelf.new }
+{
+    let view = view_in(alloc, text, old, with.clause_limit, with.hold)?;
+    let report = from_view(alloc, shelf, text, &view, old, new, with.budget);
+    drop(view);
+    report
+}
+
+// The same behind the kernel of the older index.
+fn from_view<F: Shelf>(
+    alloc: Global,
+    shelf: &mut F,
+    text: &[u8],
+    view: &SuiteView,
+    old: &str,
+    new: &str,
+    budget: u64,
+) -> Result<Report, Stop>
+    requires short { length text.now ≤ most_bytes }
+    requires suite { IsSuiteOf text.now view.now.suite.packages view.now.suite.home.name }
+    requires budget { IsBudget budget }
+    requires limit { 0 < view.now.limit }
+    ensures { Follows F.contents F.faults F.moved F.is_quiet F.start_gives F.read_gives (new_course old.now new.now (settings_of budget view.now.limit view.now.kernel.hold) text.now) shelf.old (ending_of result) shelf.new }
+{
     let newer = text_at(alloc, shelf, new)?;
-    let second = newer.as_slice();
-    let suite = checked_index(alloc, new, second)?;
-    plan_report(alloc, first, &view, second, &suite, old, new, with.budget)
+    from_both(alloc, text, view, newer.as_slice(), old, new, budget)
+}
+
+// The same behind the texts of both.
+fn from_both(
+    alloc: Global,
+    text: &[u8],
+    view: &SuiteView,
+    newer: &[u8],
+    old: &str,
+    new: &str,
+    budget: u64,
+) -> Result<Report, Stop>
+    requires short { length text.now ≤ most_bytes }
+    requires suite { IsSuiteOf text.now view.now.suite.packages view.now.suite.home.name }
+    requires newer_short { length newer.now ≤ most_bytes }
+    requires budget { IsBudget budget }
+    requires limit { 0 < view.now.limit }
+    ensures { Settles (new_answer old.now new.now (settings_of budget view.now.limit view.now.kernel.hold) text.now newer.now) (ending_of result) }
+{
+    let suite = checked_index(alloc, new, newer)?;
+    let report = plan_report(alloc, text, view, newer, &suite, old, new, budget);
+    drop(suite);
+    report
 }
 
 // The view of the index of a text at a clause limit, with hold or without.

@@ -30,7 +30,9 @@ pub fn query<F: Shelf>(
     ensures { Follows F.contents F.faults F.moved F.is_quiet F.start_gives F.read_gives (query_course path.now goals.now with.budget with.clause_limit with.hold) shelf.old (ending_of result) shelf.new }
 {
     let view = view_at(alloc, shelf, path, with.clause_limit, with.hold)?;
-    goals_report(alloc, &view, goals, with.budget)
+    let report = goals_report(alloc, &view, goals, with.budget);
+    drop(view);
+    report
 }
 
 /// The goal of a number, counted from 1.

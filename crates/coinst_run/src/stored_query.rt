@@ -63,7 +63,9 @@ fn stored_report(
 {
     let mut pool = Pool::new(alloc)?;
     let stored = checked_kernel(alloc, &mut pool, path, text)?;
-    goals_report(alloc, &pool, &stored, goals, budget)
+    let report = goals_report(alloc, &pool, &stored, goals, budget);
+    drop(stored);
+    report
 }
 
 // Reads a stored kernel over the pool, or refuses its fault.

@@ -2,6 +2,7 @@
 ghost use Rattle.std.specs.Prelude.{◌≤◌, length};
 ghost use Rattle.clause_solver.specs.Outcomes.{IsBudget};
 ghost use Rattle.coinst_words.specs.Jobs.{AreInLimits};
+ghost use Rattle.coinst_run.specs.Course.{reads};
 ghost use Rattle.coinst_run.specs.Ending.{Settles, ending_of};
 ghost use Rattle.coinst_run.specs.Follows.{Follows};
 ghost use Rattle.coinst_run.specs.Index.{index_of};
@@ -30,8 +31,24 @@ pub fn system_status<F: Shelf>(
     ensures { Follows F.contents F.faults F.moved F.is_quiet F.start_gives F.read_gives (status_course file.now index.now with.budget with.clause_limit with.hold) shelf.old (ending_of result) shelf.new }
 {
     let view = view_at(alloc, shelf, index, with.clause_limit, with.hold)?;
+    let report = system_at(alloc, shelf, &view, file, with.budget);
+    drop(view);
+    report
+}
+
+// The report on the installed system of the status file at a path against the index of a view.
+fn system_at<F: Shelf>(
+    alloc: Global,
+    shelf: &mut F,
+    view: &SuiteView,
+    file: &str,
+    budget: u64,
+) -> Result<Report, Stop>
+    requires { IsBudget budget }
+    ensures { Follows F.contents F.faults F.moved F.is_quiet F.start_gives F.read_gives (reads file.now (system_answer file.now budget view.now.limit view.now.kernel.hold (index_of view.now.suite))) shelf.old (ending_of result) shelf.new }
+{
     let text = text_at(alloc, shelf, file)?;
-    system_report(alloc, &view, text.as_slice(), file, with.budget)
+    system_report(alloc, view, text.as_slice(), file, budget)
 }
 
 // The report on the installed system of a text.

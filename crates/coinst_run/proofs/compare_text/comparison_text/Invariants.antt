@@ -1,4 +1,4 @@
-use Rattle.std.proofs.Common.{◌≡◌, ◌++◌, take}
+use Rattle.std.proofs.Common.{◌≡◌, take}
 use Rattle.std.specs.List.{flat_map}
 use Rattle.coinst_run.specs.CompareText.{comparison_line}
 use Rattle.coinst_run.proofs.compare_text.comparison_text.Given as goal

@@ -1,4 +1,4 @@
-use Rattle.std.proofs.Common.{◌≡◌, ◌++◌, take}
+use Rattle.std.proofs.Common.{◌≡◌, take}
 use Rattle.std.specs.List.{flat_map}
 use Rattle.coinst_run.specs.MigrateText.{plan_line}
 use Rattle.coinst_run.proofs.migrate_text.plan_text.Given as goal

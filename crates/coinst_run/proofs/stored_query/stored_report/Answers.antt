@@ -10,4 +10,4 @@ pub returns : goal.returns
 returns c =
     let stored = c.in_ok-stored.stored in
     settled_on (checked_kernel c.args.path.now c.args.text.now) (content stored.format (repository_of c.checked_kernel.new.pool stored.book) stored.members stored.held)
-    (λ kernel. answers (stored_answer c.args.goals.now c.args.budget kernel)) (ending_of c.goals_report.result) c.in_ok-stored.ensures.kernel c.goals_report.ensures
+    (λ kernel. answers (stored_answer c.args.goals.now c.args.budget kernel)) (ending_of c.goals_report-report.result) c.in_ok-stored.ensures.kernel c.goals_report-report.ensures

@@ -1,4 +1,4 @@
-use Rattle.std.proofs.Common.{◌≡◌, ◌++◌, take}
+use Rattle.std.proofs.Common.{◌≡◌, take}
 use Rattle.std.specs.List.{flat_map}
 use Rattle.coinst_run.specs.SystemText.{have_text}
 use Rattle.coinst_run.proofs.system_text.system_text.Given as goal

@@ -1,6 +1,6 @@
 //! A family of clauses as a tree, which tells without a look at each of them whether a shorter one is within a clause.
 //!
-//! Halving groups of clauses that lie far apart in memory took twice as long. A tree takes 24 bytes a number, so only a large
+//! Halving groups of clauses that lie far apart in memory took twice as long. A tree takes 16 bytes a number, so only a large
 //! family gets one.
 ghost use Rattle.std.specs.Prelude.{◌≡◌, ◌<◌, ◌≤◌, ◌+◌, ◌-◌, ◌⊎◌, ◌&&◌, ◌++◌, ◌∷◌, ℕ, List, IfOk, OnOk, ltb, length, take, drop};
 ghost use Rattle.clause_pool.specs.Interned.{clauses_at, OfPool};
@@ -15,14 +15,17 @@ use clause_pool::{ClauseId, Pool};
 use listed::holds_ascending;
 use std::alloc::{AllocError, Global};
 
+/// The places of a tree are below this, so that a node holds them in 32 bits.
+const MOST: usize = 4_294_967_295;
+
 /// A number of the tree. Behind the nodes that stand beside it, which have greater numbers, come those that go on behind
 /// it, and then the node itself.
 #[derive(Clone, Copy)]
 pub(crate) struct Node {
     /// The place where the nodes that go on behind it begin.
-    start: usize,
+    start: u32,
     /// The place behind some of the nodes that stand beside it: a walk leaps there over those between.
-    far: usize,
+    far: u32,
     number: u32,
     /// 0 where the leap is to the next one, else one more than that of the two leaps that it takes at once. A walk to any of n
     /// nodes that stand beside each other so takes some log n leaps.
@@ -128,6 +131,9 @@ fn put_nodes(nodes: &mut Vec<Node>, clause: &[u32]) -> Result<(), AllocError>
     let shared = shared(nodes.as_slice(), clause);
     let known = shared.0;
     let place = nodes.len() - known;
+    if place >= MOST {
+        return Err(AllocError);
+    }
     let leap = leap_of(&nodes[..place], shared.1);
     add_chain(nodes, place, leap.0, leap.1, &clause[known..])?;
     let last = nodes[place];
@@ -136,7 +142,7 @@ fn put_nodes(nodes: &mut Vec<Node>, clause: &[u32]) -> Result<(), AllocError>
 }
 
 /// With how many numbers the clause begins like the first one of the tree, and where the nodes begin that go on behind them.
-fn shared(nodes: &[Node], clause: &[u32]) -> (usize, usize)
+fn shared(nodes: &[Node], clause: &[u32]) -> (usize, u32)
     ensures there { result.0 ≤ length nodes.now }
     ensures within { result.0 ≤ length clause.now }
     ensures shared { (tree : Tree) → nodes.now ≡ nodes_of 0 tree → result.0 ≡ shared clause.now tree }
@@ -148,7 +154,7 @@ fn shared(nodes: &[Node], clause: &[u32]) -> (usize, usize)
         let Some((node, others)) = left.split_last() else {
             return (count, from);
         };
-        if left.len() <= from || node.number != *number {
+        if left.len() <= from as usize || node.number != *number {
             return (count, from);
         }
         from = node.start;
@@ -159,18 +165,19 @@ fn shared(nodes: &[Node], clause: &[u32]) -> (usize, usize)
 
 /// The place to which a node leaps that is put before the first branch of a tree, and its rank: where the next two leaps
 /// from there are of one rank it takes both at once, and else it goes to the next node.
-fn leap_of(nodes: &[Node], from: usize) -> (usize, u8)
+fn leap_of(nodes: &[Node], from: u32) -> (u32, u8)
+    requires { length nodes.now < 4294967295 }
     ensures { (tree : Tree) → (front : List Node) → length front ≡ from → nodes.now ≡ front ++ nodes_of from tree → Leaps from tree result.0 }
 {
-    let place = nodes.len();
+    let place = nodes.len() as u32;
     if place <= from {
         return (place, 0);
     }
-    let first = nodes[place - 1];
+    let first = nodes[(place - 1) as usize];
     if first.far <= from || place < first.far {
         return (place, 0);
     }
-    let next = nodes[first.far - 1];
+    let next = nodes[(first.far - 1) as usize];
     if next.rank == first.rank {
         return (next.far, first.rank.saturating_add(1));
     }
@@ -181,21 +188,23 @@ fn leap_of(nodes: &[Node], from: usize) -> (usize, u8)
 fn add_chain(
     nodes: &mut Vec<Node>,
     place: usize,
-    far: usize,
+    far: u32,
     rank: u8,
     numbers: &[u32],
 ) -> Result<(), AllocError>
-    requires { place ≤ length nodes.old.items }
+    requires place { place ≤ length nodes.old.items }
+    requires few { place < 4294967295 }
     ensures { OnOk result (nodes.new.items ≡ take place nodes.old.items ++ (chain place far rank numbers.now ++ drop place nodes.old.items)) }
 {
     let Some((number, rest)) = numbers.split_first() else {
         return Ok(());
     };
     let moved = nodes.len() - place;
-    push_chain(nodes, place, rest)?;
+    let start = place as u32;
+    push_chain(nodes, start, rest)?;
     let first = Node {
         number: *number,
-        start: place,
+        start,
         far,
         rank,
         ends: false,
@@ -215,7 +224,7 @@ fn turn_from(nodes: &mut [Node], place: usize, moved: usize)
 }
 
 /// Puts nodes of the numbers that follow those of a place behind the others, the last number first.
-fn push_chain(nodes: &mut Vec<Node>, place: usize, numbers: &[u32]) -> Result<(), AllocError>
+fn push_chain(nodes: &mut Vec<Node>, place: u32, numbers: &[u32]) -> Result<(), AllocError>
     ensures { OnOk result (nodes.new.items ≡ nodes.old.items ++ chain place place 0 numbers.now) }
 {
     for index in (0..numbers.len()).rev() {
@@ -235,7 +244,7 @@ fn push_chain(nodes: &mut Vec<Node>, place: usize, numbers: &[u32]) -> Result<()
 /// Whether a clause of the tree that stands in the nodes from a place on has fewer numbers than the size, all of them
 /// wanted. As clauses ascend, each goes on with the wanted numbers behind that which it has at a node. A call is made only
 /// where nodes part, so that long clauses alone make no deep calls.
-fn has_within(nodes: &[Node], from: usize, wanted: &[u32], size: usize) -> bool
+fn has_within(nodes: &[Node], from: u32, wanted: &[u32], size: usize) -> bool
     requires tree { Standing from nodes.now }
     requires ascending { Ascending wanted.now }
     ensures { (tree : Standing from nodes.now) → result ≡ any_of (is_within wanted.now size) tree.tree }
@@ -247,13 +256,13 @@ fn has_within(nodes: &[Node], from: usize, wanted: &[u32], size: usize) -> bool
         let Some((node, others)) = left.split_last() else {
             return false;
         };
-        if left.len() <= from {
+        if left.len() <= from as usize {
             return false;
         }
         if *number < node.number {
             ahead = rest;
         } else if node.number < *number {
-            left = &left[..place_behind(left, from, node, *number)];
+            left = &left[..place_behind(left, from, node, *number) as usize];
         } else {
             if is_end(node, room) {
                 return true;
@@ -265,7 +274,7 @@ fn has_within(nodes: &[Node], from: usize, wanted: &[u32], size: usize) -> bool
                 if has_within(others, node.start, rest, room.saturating_sub(1)) {
                     return true;
                 }
-                left = &left[..node.start];
+                left = &left[..node.start as usize];
             }
             ahead = rest;
         }
@@ -282,14 +291,14 @@ fn is_end(node: &Node, size: usize) -> bool
 
 /// The place to go on from behind a node with a lesser number than the wanted one: that to which it leaps, where the number
 /// there is no greater than the wanted one, or else that of the next node.
-fn place_behind(nodes: &[Node], from: usize, node: &Node, number: u32) -> usize
+fn place_behind(nodes: &[Node], from: u32, node: &Node, number: u32) -> u32
     requires { node.now.far ≤ length nodes.now }
     ensures { (result ≡ node.now.start) ⊎ Leapt nodes.now from node.now number result }
 {
     if node.far <= from {
         return node.start;
     }
-    if nodes[node.far - 1].number <= number {
+    if nodes[(node.far - 1) as usize].number <= number {
         return node.far;
     }
     node.start

@@ -109,6 +109,8 @@ impl Clause {
         }
         add_without(&mut literals, spent, &clause[i..])?;
         literals.extend_from_slice(&other[j..])?;
+        // A long family holds many of them at once.
+        literals.shrink_to_fit();
         Ok(Clause { literals })
     }
 

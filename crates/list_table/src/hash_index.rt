@@ -70,7 +70,7 @@ pub(crate) fn find_in<T: Item>(
     lists: &Spans<T>,
     wanted: u32,
     items: &[T],
-) -> Option<usize>
+) -> Option<u32>
     requires table { IsTable places.now (map T.hash_of lists.now) }
     requires hash { wanted ≡ T.hash_of items.now }
     ensures some { IfSome result (StandsAt items.now lists.now) }
@@ -87,7 +87,7 @@ pub(crate) fn find_in<T: Item>(
             return None;
         }
         if kept == wanted && T::same(lists.at((entry - 1) as usize), items) {
-            return Some((entry - 1) as usize);
+            return Some(entry - 1);
         }
         place += 1;
         if place == size {

@@ -66,7 +66,7 @@ impl<T: Item> ListTable<T> {
     }
 
     /// The place of the list with these items, of which this is the hash.
-    pub fn find(&self, hash: u32, items: &[T]) -> Option<usize>
+    pub fn find(&self, hash: u32, items: &[T]) -> Option<u32>
         requires { hash ≡ T.hash_of items.now }
         ensures some { IfSome result (StandsAt items.now self.now) }
         ensures none { IfNone result ((place : ℕ) → StandsAt items.now self.now place → ⊥) }
@@ -83,19 +83,20 @@ impl<T: Item> ListTable<T> {
     }
 
     /// Puts a list, of which this is the hash, behind the others, and answers its place.
-    pub fn push(&mut self, hash: u32, items: &[T]) -> Result<usize, AllocError>
+    pub fn push(&mut self, hash: u32, items: &[T]) -> Result<u32, AllocError>
         requires { hash ≡ T.hash_of items.now }
         ensures place { IfOk result (λ place. place ≡ length self.old) }
         ensures ok { IfOk result (λ place. self.new ≡ self.old ++ items.now ∷ []) }
         ensures err { OnErr result (self.new ≡ self.old) }
     {
-        let number = self.lists.count();
-        if number >= MOST {
+        let count = self.lists.count();
+        if count >= MOST {
             return Err(AllocError);
         }
+        let number = count as u32;
         make_room(&mut self.places, &self.lists)?;
         self.lists.push(items)?;
-        put_in(&mut self.places, hash, number as u32);
+        put_in(&mut self.places, hash, number);
         Ok(number)
     }
 }

@@ -66,8 +66,8 @@ impl ElementTable {
         let Some(place) = self.texts.find(hash, text) else {
             return Ok(None);
         };
-        let said = self.read.distinct[place].share()?;
-        self.read.push_again(place)?;
+        let said = self.read.distinct[place as usize].share()?;
+        self.read.push_again(place as usize)?;
         Ok(Some(said))
     }
 

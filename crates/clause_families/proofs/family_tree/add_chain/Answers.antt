@@ -16,5 +16,5 @@ returns c =
     take_front c.turn_from.new.nodes (drop (length c.turn_from.new.nodes) c.push.new.self.items) c.push.new.self.len (c.turn_from.ensures.len ∙ c.deref_mut.ensures.len)
     ∙ c.turn_from.ensures.turned
     ∙ ap (λ xs. take c.args.place xs ++ (drop moved (drop c.args.place xs) ++ take moved (drop c.args.place xs))) grown
-    ∙ turned old (tail ++ one) c.args.place moved c.requires (omega arith)
+    ∙ turned old (tail ++ one) c.args.place moved c.requires.place (omega arith)
     ∙ ap (λ ns. take c.args.place c.args.nodes.now.items ++ (chain c.args.place c.args.far c.args.rank ns ++ drop c.args.place c.args.nodes.now.items)) (sym c.in-Some.ensures.cases.0)

@@ -1,5 +1,5 @@
 -- Each step takes the lesser of the two first literals that are left.
-use Rattle.std.proofs.Common.{ℕ, get_or, refl, inl, inr, arith, ◌≡◌}
+use Rattle.std.proofs.Common.{ℕ, get_or, refl, inl, inr, arith, ◌≡◌, ◌∙◌}
 use Rattle.clause_families.proofs.Merged.{merge_both, merge_ends, merge_next, merge_own, merge_spent}
 use Rattle.clause_families.proofs.scratch.Clause.union_without.Goals as goal
 use Rattle.clause_families.proofs.scratch.Clause.union_without.Goals.{then-merge-test+else-j-other, else-merge-test}
@@ -32,6 +32,7 @@ merge-preserved c =
 
 pub returns : goal.returns
 returns c =
-    merge_ends c.args.spent c.args.clause.now c.args.other.now c.requires.clause c.requires.other c.merge.literals.items c.merge.i c.merge.j c.merge.invariant
+    c.shrink_to_fit.ensures.items
+    ∙ merge_ends c.args.spent c.args.clause.now c.args.other.now c.requires.clause c.requires.other c.merge.literals.items c.merge.i c.merge.j c.merge.invariant
     (elim c.merge-test.branch [ then-merge-test+else-j-other w ↦ inr w.if-j-other.false | else-merge-test w ↦ inl w.merge-test.false ])
     c.add_without.new.literals.items c.extend_from_slice.new.self.items c.in_ok-add_without.ensures c.in_ok-extend_from_slice.ensures.ok

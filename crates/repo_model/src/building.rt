@@ -2,6 +2,8 @@
 ghost use Rattle.std.specs.Prelude.{◌≡◌, ◌<◌, ◌≤◌, ◌++◌, ◌∷◌, [], None, length, IfOk, OnOk, find, slice_get};
 ghost use Rattle.std.specs.Option.{option_and_then, option_map, option_or, option_copied};
 ghost use Rattle.repo_model.specs.Fields.{field_of, HasShortValues};
+ghost use Rattle.stanza_reader.specs.declared.stanza.FieldKind.{FieldKind};
+ghost use Rattle.stanza_reader.specs.declared.stanza.RawStanza.{RawStanza};
 ghost use Rattle.repo_model.specs.Facts.{facts_of, is_all, is_same_package, architecture_of};
 ghost use Rattle.repo_model.specs.FirstFault.{stanza_fault, duplicate_fault, mixed_fault, is_at_home};
 ghost use Rattle.repo_model.specs.Refusals.{Answers};
@@ -12,13 +14,12 @@ ghost use Rattle.repo_model.specs.Needs.{needs_of_all};
 ghost use Rattle.relation_fields.specs.declared.packages.PackageFacts.{PackageFacts};
 ghost use Rattle.repo_model.specs.Limits.{most_packages};
 
-use crate::facts::{NamelessFacts, name_in, name_of, read_facts};
+use crate::facts::{NamelessFacts, architecture_in, name_in, name_of, read_facts};
 use crate::fault::IndexFault;
-use crate::fields::find_field;
 use crate::suite::{PackageList, Suite};
 use deb_version::Bytes;
 use relation_fields::{ElementTable, Home, PackageFacts};
-use stanza_reader::{FieldKind, RawStanza};
+use stanza_reader::{RawField, RawStanza};
 use std::alloc::{AllocError, Global};
 use virtual_provides::NameTable;
 
@@ -112,10 +113,11 @@ impl Building {
         ensures built { IfOk result (λ facts. IsBuiltFrom self.new.packages self.new.names) }
         ensures noted { IfOk result (λ facts. self.new.elements ≡ needs_of_all self.new.packages ++ facts.needs) }
     {
-        let facts = read_facts(alloc, &mut self.elements, stanza)?;
+        let architecture = architecture_in(stanza);
+        let facts = read_facts(alloc, &mut self.elements, stanza, architecture)?;
         let name = name_in(stanza);
         check_new(alloc, self.packages.as_slice(), &self.names, name, &facts)?;
-        settle_home(alloc, &mut self.home, stanza)?;
+        settle_home(alloc, &mut self.home, architecture)?;
         Ok(facts)
     }
 
@@ -182,14 +184,18 @@ fn is_at_home(home: &Home, architecture: &[u8]) -> bool
     }
 }
 
-// Checks that the stanza is of the home, unless its architecture is `all` or missing. Where there is no home yet, it takes the
-// architecture as the home.
+// Checks that a stanza with this field `Architecture` is of the home, unless its architecture is `all` or missing. Where there is no
+// home yet, it takes the architecture as the home.
 #[tactic(auto, unfolding(crate::specs::FirstFault::mixed_fault, crate::specs::Facts::architecture_of))]
-fn settle_home(alloc: Global, home: &mut Home, stanza: &RawStanza) -> Result<(), IndexFault>
-    ensures fault { Answers result (mixed_fault home.old.name stanza.now) tt }
-    ensures home { OnOk result (home.new.name ≡ option_or home.old.name (architecture_of stanza.now)) }
+fn settle_home(
+    alloc: Global,
+    home: &mut Home,
+    architecture: Option<&RawField>,
+) -> Result<(), IndexFault>
+    ensures fault { (stanza : RawStanza) → option_copied architecture.entry ≡ field_of FieldKind.Architecture stanza → Answers result (mixed_fault home.old.name stanza) tt }
+    ensures home { (stanza : RawStanza) → option_copied architecture.entry ≡ field_of FieldKind.Architecture stanza → OnOk result (home.new.name ≡ option_or home.old.name (architecture_of stanza)) }
 {
-    let Some(field) = find_field(stanza.fields.as_slice(), FieldKind::Architecture) else {
+    let Some(field) = architecture else {
         return Ok(());
     };
     let line = field.line;

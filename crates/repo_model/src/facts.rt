@@ -3,13 +3,13 @@
 //! The name comes last, so that whoever owns the stanza gives it away without a copy.
 ghost use Rattle.std.specs.Prelude.{◌≡◌, ◌++◌, None, Some, IfOk};
 ghost use Rattle.std.specs.List.{AllByRecursion};
-ghost use Rattle.std.specs.Option.{option_and_then, option_or};
+ghost use Rattle.std.specs.Option.{option_and_then, option_copied, option_or};
 ghost use Rattle.deb_version.specs.Names.{is_name};
 ghost use Rattle.deb_version.specs.Grammar.{is_version};
 ghost use Rattle.relation_fields.specs.Grammar.{is_architecture, atom_of};
 ghost use Rattle.relation_fields.specs.Fields.{said_in};
 ghost use Rattle.repo_model.specs.declared.fault.IndexFault.TheVariants.{BadPackage, BadVersion, BadArchitecture};
-ghost use Rattle.repo_model.specs.Fields.{field_among, value_among, value_of, IsShort, HasShortValues};
+ghost use Rattle.repo_model.specs.Fields.{field_among, field_of, value_among, value_of, IsShort, HasShortValues};
 ghost use Rattle.repo_model.specs.Facts.{facts_of};
 ghost use Rattle.repo_model.specs.Nameless.{named, nameless};
 ghost use Rattle.repo_model.specs.FirstFault.{own_fault, unless_good, unless_said};
@@ -65,8 +65,10 @@ pub(crate) fn read_facts(
     alloc: Global,
     elements: &mut ElementTable,
     stanza: &RawStanza,
+    architecture: Option<&RawField>,
 ) -> Result<NamelessFacts, IndexFault>
-    requires { HasShortValues stanza.now }
+    requires short { HasShortValues stanza.now }
+    requires architecture { option_copied architecture ≡ field_of FieldKind.Architecture stanza.now }
     ensures facts { Answers result (own_fault stanza.now) (nameless (facts_of stanza.now)) }
     ensures noted { IfOk result (λ facts. elements.new ≡ elements.old ++ facts.needs) }
 {
@@ -80,7 +82,7 @@ pub(crate) fn read_facts(
     };
     check_name(name)?;
     let version = read_version(alloc, version)?;
-    check_architecture(fields)?;
+    check_architecture(architecture)?;
     let needs = read_both(
         alloc,
         elements,
@@ -144,6 +146,13 @@ pub(crate) fn name_in(stanza: &RawStanza) -> &[u8]
     }
 }
 
+/// Lends the field `Architecture`, where there is one.
+pub(crate) fn architecture_in(stanza: &RawStanza) -> Option<&RawField>
+    ensures { option_copied result ≡ field_of FieldKind.Architecture stanza.now }
+{
+    find_field(stanza.fields.as_slice(), FieldKind::Architecture)
+}
+
 // Checks that the value of `Package` is a package name.
 fn check_name(field: &RawField) -> Result<(), IndexFault>
     ensures { Answers result (unless_good is_name BadPackage field.now) tt }
@@ -167,11 +176,11 @@ fn read_version(alloc: Global, field: &RawField) -> Result<Version, IndexFault>
     }
 }
 
-// Checks that the value of `Architecture`, where there is one, is the name of an architecture.
-fn check_architecture(fields: &[RawField]) -> Result<(), IndexFault>
-    ensures { Answers result (option_and_then (unless_good is_architecture BadArchitecture) (field_among FieldKind.Architecture fields.now)) tt }
+// Checks that the value of the field `Architecture`, where there is one, is the name of an architecture.
+fn check_architecture(field: Option<&RawField>) -> Result<(), IndexFault>
+    ensures { Answers result (option_and_then (unless_good is_architecture BadArchitecture) (option_copied field.entry)) tt }
 {
-    let Some(field) = find_field(fields, FieldKind::Architecture) else {
+    let Some(field) = field else {
         return Ok(());
     };
     let line = field.line;

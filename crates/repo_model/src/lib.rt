@@ -23,7 +23,6 @@ mod relations;
 mod repository;
 mod rows;
 mod select;
-mod stand;
 mod suite;
 
 // A suite: the packages of an index, read whole or piece by piece.

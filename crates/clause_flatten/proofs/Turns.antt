@@ -1,5 +1,5 @@
 -- What the numbers at the packages say of those that are filed.
-use Rattle.std.proofs.Common.{◌≡◌, ◌≢◌, ℕ, ◌<◌, ◌≤◌, ◌+◌, true, false, List, drop, inl, inr, ◌∙◌, ap, subst, arith}
+use Rattle.std.proofs.Common.{◌≡◌, ◌≢◌, ℕ, ◌<◌, ◌≤◌, ◌+◌, true, false, List, drop, inl, inr, ◌∙◌, ap, subst, sym, arith}
 use Rattle.std.proofs.lemmas.Bool.{cases_Bool, cases_lt, false_from_ne_true}
 use Rattle.row_book.specs.Sets.{NumSet}
 use Rattle.clause_flatten.specs.LeastTree.{node, IsTree, IsFirstLeast}
@@ -65,3 +65,12 @@ module _ (nodes turns : List ℕ) (leaves p : ℕ) (e : turns ≡ drop leaves no
               ]
             ];
       }
+
+-- a leaf that was put stays so, and the others too
+pub turn_kept : (old new : List ℕ) (leaves number : ℕ) → IsTree old leaves → IsTree new leaves → ((i : ℕ) → leaves ≤ i → i ≢ leaves + number → node new i ≡ node old i)
+    → (q : ℕ) → q ≢ number → turn (drop leaves new) q ≡ turn (drop leaves old) q
+turn_kept old new leaves number t u f q ne =
+    elim (cases_lt q leaves) [
+      | inl l ↦ leaf_at new leaves never q u l ∙ f (leaves + q) (omega arith) (λ e. ne (omega arith)) ∙ sym (leaf_at old leaves never q t l)
+      | inr g ↦ leaf_behind new leaves never q u g ∙ sym (leaf_behind old leaves never q t g)
+    ]

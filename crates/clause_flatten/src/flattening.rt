@@ -11,7 +11,7 @@ ghost use Rattle.row_book.specs.Flags.{flag};
 ghost use Rattle.row_book.specs.Flattening.{flat, held_of, passes};
 ghost use Rattle.row_book.specs.Holders.{ListsFit};
 ghost use Rattle.row_book.specs.Repository.{Repository};
-ghost use Rattle.clause_flatten.specs.Ready.{table_of, AreReady};
+ghost use Rattle.clause_flatten.specs.Ready.{table_of, AreReady, ListsTidy};
 ghost use Rattle.clause_flatten.specs.Refusals.{OnLimit};
 ghost use Rattle.clause_flatten.specs.Substitution.{length_in};
 ghost use Rattle.clause_flatten.specs.TakingOut.{is_free};
@@ -56,14 +56,14 @@ fn take_all_out(
     pool: &mut Pool,
     rows: &mut [IdList],
     uses: &mut ClauseTable,
-    mut waiting: Waiting,
+    waiting: &mut Waiting,
     book: &Book,
     rule: Rule,
 ) -> Result<Vec<bool>, FlatError>
     requires sound { Sound pool.old book.now }
     requires first { table_of pool.old rows.old ≡ tidied_table (map (row_at pool.old) book.now.rows) }
     requires ready { AreReady pool.old rows.old uses.old }
-    requires waiting { Filed waiting (λ q. ltb q (length book.now.rows) && is_free book.now.conflicts q)
+    requires waiting { Filed waiting.old (λ q. ltb q (length book.now.rows) && is_free book.now.conflicts q)
         (length_in (table_of pool.old rows.old)) }
     requires within { (p : ℕ) → p < length rows.old → length_in (table_of pool.old rows.old) p ≤ rule.limit }
     ensures flat { OnOk result (◌≡◌ {A = Repository} (record { clauses = table_of pool.new rows.new; conflicts = book.now.conflicts })
@@ -87,7 +87,7 @@ fn take_all_out(
             limit: rule.limit,
             hold: rule.hold,
         };
-        let stays = take_out_or_hold(alloc, pool, rows, uses, &mut waiting, step)?;
+        let stays = take_out_or_hold(alloc, pool, rows, uses, waiting, step)?;
         held = with_flag(held, next, stays);
     }
     Ok(held)
@@ -145,6 +145,68 @@ pub struct Flattened {
     pub held: NumList,
 }
 
+/// Takes the packages without conflicts out of the first rows of a book, unless a row has more clauses than the limit allows before
+/// any step, and answers which packages are held.
+fn eliminate_all(
+    alloc: Global,
+    pool: &mut Pool,
+    rows: &mut [IdList],
+    book: &Book,
+    rule: Rule,
+) -> Result<Vec<bool>, FlatError>
+    requires sound { Sound pool.old book.now }
+    requires first { table_of pool.old rows.old ≡ tidied_table (map (row_at pool.old) book.now.rows) }
+    requires fit { ListsFit pool.old rows.old }
+    requires tidy { ListsTidy pool.old rows.old }
+    requires count { length rows.old ≡ length book.now.rows }
+    ensures flat { OnOk result (◌≡◌ {A = Repository} (record { clauses = table_of pool.new rows.new; conflicts = book.now.conflicts })
+        (flat rule.limit rule.hold (repository_of pool.old book.now))) }
+    ensures held { IfOk result (λ held. filter (flag held.items) (numbers (length held.items) 0)
+        ≡ held_of rule.limit rule.hold (repository_of pool.old book.now)) }
+    ensures few { IfOk result (λ held. length held.items ≡ length book.now.rows) }
+    ensures fit { OnOk result (ListsFit pool.new rows.new) }
+    ensures within { OnOk result (passes rule.limit rule.hold (repository_of pool.old book.now) ≡ None) }
+    ensures passed { IfErr result (OnLimit (λ passed. passes rule.limit rule.hold (repository_of pool.old book.now) ≡ Some passed)) }
+    ensures kept { Kept pool.old pool.new }
+{
+    if let Some(number) = least_over(rows, rule.limit) {
+        return Err(FlatError::Limit {
+            gone: 0,
+            package: number,
+            count: clauses_in(rows, number),
+        });
+    }
+    let mut uses = ClauseTable::of(alloc, pool, rows)?;
+    let mut waiting = waiting_in(alloc, rows, book)?;
+    let answer = take_all_out(alloc, pool, rows, &mut uses, &mut waiting, book, rule);
+    drop(waiting);
+    drop(uses);
+    answer
+}
+
+/// The book of these rows and the conflicts of another one, with the packages whose flags are up.
+fn put_together(
+    alloc: Global,
+    pool: &mut Pool,
+    lists: &[IdList],
+    book: &Book,
+    flags: &[bool],
+) -> Result<Flattened, AllocError>
+    requires fit { ListsFit pool.old lists.now }
+    requires count { length lists.now ≡ length book.now.rows }
+    requires few { length flags.now ≡ length book.now.rows }
+    ensures rows { IfOk result (λ made. map (row_at pool.new) made.book.rows ≡ table_of pool.old lists.now) }
+    ensures conflicts { IfOk result (λ made. made.book.conflicts ≡ book.now.conflicts) }
+    ensures held { IfOk result (λ made. made.held ≡ filter (flag flags.now) (numbers (length flags.now) 0)) }
+    ensures fit { IfOk result (λ made. RowsFit pool.new made.book.rows) }
+    ensures kept { Kept pool.old pool.new }
+{
+    let held = true_numbers(alloc, flags)?;
+    let rows = put_rows(alloc, pool, lists)?;
+    let made = book.with_rows(alloc, Listed::of(rows))?;
+    Ok(Flattened { book: made, held })
+}
+
 /// The flattened book: the packages without conflicts are taken out one after another, that with the fewest clauses first;
 /// with hold a package stays whose elimination would make a row have more clauses than the limit allows.
 ///
@@ -167,27 +229,8 @@ pub fn flatten(
     ensures kept { Kept pool.old pool.new }
 {
     let mut lists = tidy_rows(alloc, pool, book.rows.as_slice())?;
-    if let Some(number) = least_over(lists.as_slice(), limit) {
-        return Err(FlatError::Limit {
-            gone: 0,
-            package: number,
-            count: clauses_in(lists.as_slice(), number),
-        });
-    }
-    let mut uses = ClauseTable::of(alloc, pool, lists.as_slice())?;
-    let waiting = waiting_in(alloc, lists.as_slice(), book)?;
     let rule = Rule { limit, hold };
-    let flags = take_all_out(
-        alloc,
-        pool,
-        lists.as_mut_slice(),
-        &mut uses,
-        waiting,
-        book,
-        rule,
-    )?;
-    let held = true_numbers(alloc, flags.as_slice())?;
-    let rows = put_rows(alloc, pool, lists.as_slice())?;
-    let made = book.with_rows(alloc, Listed::of(rows))?;
-    Ok(Flattened { book: made, held })
+    let flags = eliminate_all(alloc, pool, lists.as_mut_slice(), book, rule)?;
+    let made = put_together(alloc, pool, lists.as_slice(), book, flags.as_slice())?;
+    Ok(made)
 }

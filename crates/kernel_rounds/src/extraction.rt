@@ -11,6 +11,7 @@ ghost use Rattle.row_book.specs.Repository.{Repository};
 ghost use Rattle.row_book.specs.Keeping.{KeepsImages};
 ghost use Rattle.row_book.specs.Rounds.{kernel_image, limit_at, RoundStep, Settled};
 ghost use Rattle.row_book.specs.Sound.{SoundRepository};
+ghost use Rattle.row_book.specs.Trail.{trail_meaning, SoundSteps};
 ghost use Rattle.class_merge.specs.Classes.{class_in};
 ghost use Rattle.kernel_rounds.specs.Extracting.{refusal, HasStepsBefore, IsOwnKernel, IsOutcome, IsExtracted, IsMidway, IsReached, OnRoundLimit};
 ghost use Rattle.kernel_rounds.specs.Moving.{live_rows, HasSteps};
@@ -133,6 +134,47 @@ fn round_error(fault: FlatError, number: u32, class_of: &[u32]) -> RoundError
     }
 }
 
+/// What was known before a round: the class of each package, the steps so far, in the pool that the kernel is for, and the
+/// number of the round.
+#[derive(Drop)]
+struct Reached {
+    class_of: Vec<u32>,
+    steps: StepList,
+    number: u32,
+}
+
+/// The kernel on its way behind a round: the steps of the round, in the pool that it worked in, come into the other pool.
+fn go_on(
+    alloc: Global,
+    reached: Reached,
+    made: Rounded,
+    work: &Pool,
+    into: &mut Pool,
+) -> Result<Progress, AllocError>
+    requires into { IsPool into.old }
+    requires round { SoundSteps work.now made.trail.steps }
+    ensures book { IfOk result (λ next. next.book ≡ made.book) }
+    ensures classes { IfOk result (λ next. next.class_of.items ≡ map (class_in made.class_of) reached.class_of.items) }
+    ensures steps { (start : Interned) (told : List RoundStep) → HasSteps start into.old reached.steps told →
+        IfOk result (λ next. HasSteps start into.new next.steps (told ++ trail_meaning work.now made.trail.steps)) }
+    ensures number { IfOk result (λ next. next.number ≡ min (reached.number + 1) 4294967295) }
+    ensures kept { Kept into.old into.new }
+{
+    let Reached {
+        class_of,
+        steps,
+        number,
+    } = reached;
+    let classes = compose(alloc, class_of.as_slice(), made.class_of.as_slice())?;
+    let steps = carry_round(alloc, steps, made.trail.steps.as_slice(), work, into)?;
+    Ok(Progress {
+        book: made.book,
+        class_of: classes,
+        steps,
+        number: number.saturating_add(1),
+    })
+}
+
 /// One round more, where it changes something: its steps come into the other pool at once, so that the next round has its
 /// book alone to work on.
 fn advance(
@@ -157,38 +199,30 @@ fn advance(
 {
     let Progress {
         book: before,
-        class_of: so_far,
+        class_of,
         steps,
         number,
     } = now;
     let past = no_steps(alloc);
     let made = match one_round(alloc, work, before, past, limit, hold) {
         Ok(made) => made,
-        Err(fault) => return Err(round_error(fault, number, so_far.as_slice())),
+        Err(fault) => return Err(round_error(fault, number, class_of.as_slice())),
     };
-    let Rounded {
-        book,
-        class_of,
-        held,
-        trail,
-        changed,
-    } = made;
-    if !changed {
+    if !made.changed {
         return Ok(Outcome::Done(FixedPoint {
-            book,
-            class_of: so_far,
-            held,
+            book: made.book,
+            class_of,
+            held: made.held,
             steps,
         }));
     }
-    let next = compose(alloc, so_far.as_slice(), class_of.as_slice())?;
-    let steps = carry_round(alloc, steps, trail.steps.as_slice(), work, into)?;
-    Ok(Outcome::More(Progress {
-        book,
-        class_of: next,
+    let reached = Reached {
+        class_of,
         steps,
-        number: number.saturating_add(1),
-    }))
+        number,
+    };
+    let next = go_on(alloc, reached, made, work, into)?;
+    Ok(Outcome::More(next))
 }
 
 /// The first round: the pool that the kernel is for still holds what the other one does, so that the steps have the book as it

@@ -1,9 +1,9 @@
 -- Tables of lists of numbers: what a change of one list leaves of the others.
-use Rattle.std.proofs.Common.{◌≡◌, ◌≢◌, ℕ, zero, suc, ◌<◌, ◌≤◌, ◌+◌, ◌-◌, Bool, true, false, not, eqb, List, [], ◌∷◌, ◌++◌, ◌⊎◌, inl, inr, refl, sym, ◌∙◌, ap, ap₂, subst, arith, ◌&&◌, ◌||◌, length, take, get_or, map, ne_eqb, eq-eqb, vec_capacity, vec_len}
+use Rattle.std.proofs.Common.{◌≡◌, ◌≢◌, ℕ, zero, suc, ◌<◌, ◌≤◌, ◌+◌, ◌-◌, Bool, true, false, not, eqb, List, [], ◌∷◌, ◌++◌, ◌⊎◌, inl, inr, refl, sym, ◌∙◌, ap, ap₂, subst, arith, ◌&&◌, ◌||◌, length, take, get_or, map, ne_eqb, eq-eqb, eqb-true, vec_capacity, vec_len}
 use Rattle.std.specs.Global.{Vec}
 use Rattle.std.specs.List.{slice_set, list_any}
 use Rattle.std.proofs.Math.Bool.{or-false}
-use Rattle.std.proofs.lemmas.Bool.{cases_eq, or_right, and_from}
+use Rattle.std.proofs.lemmas.Bool.{cases_eq, or_right, and_from, false≢true}
 use Rattle.std.proofs.lemmas.List.{map-set, get_or-set_same, get_or-set_other, get_or-map, length-map}
 use Rattle.std.proofs.lemmas.List.Folds.{list_any_more, list_any-append}
 use Rattle.clause_pool.specs.Interned.{Interned, clause_at}
@@ -63,14 +63,69 @@ pub any_map : {A B : Type 0} (p : B → Bool) (f : A → B) (xs : List A) → li
 any_map p f [] = refl
 any_map p f (x ∷ xs) = ap (λ b. p (f x) || b) (any_map p f xs)
 
+-- what the clauses of a row up to one more hold
+some_more : (pool : Interned) (ids : List ℕ) (k id : ℕ) (clause : List ℕ) → k < length ids → id ≡ get_or ids k id → clause ≡ clause_at pool id
+    → (n : ℕ) → list_any (λ c. has c n) (map (clause_at pool) (take (k + 1) ids)) ≡ (list_any (λ c. has c n) (map (clause_at pool) (take k ids)) || has clause n)
+some_more pool ids k id clause l e u n =
+    any_map (λ c. has c n) (clause_at pool) (take (k + 1) ids)
+    ∙ list_any_more (λ i. has (clause_at pool i) n) ids k id l
+    ∙ ap₂ (λ a b. a || b) (sym (any_map (λ c. has c n) (clause_at pool) (take k ids))) (sym (ap (λ c. has c n) (u ∙ ap (clause_at pool) e)))
+
 -- one more clause of a row
 pub holds_more : (pool : Interned) (ids : List ℕ) (k id : ℕ) (found clause more : List ℕ) → k < length ids → id ≡ get_or ids k id → clause ≡ clause_at pool id → more ≡ found ++ clause
     → (n : ℕ) → has found n ≡ list_any (λ c. has c n) (map (clause_at pool) (take k ids)) → has more n ≡ list_any (λ c. has c n) (map (clause_at pool) (take (k + 1) ids))
 holds_more pool ids k id found clause more l e u v n h =
     ap (λ xs. has xs n) v ∙ list_any-append (λ m. eqb n m) found clause
-    ∙ ap₂ (λ a b. a || b) (h ∙ any_map (λ c. has c n) (clause_at pool) (take k ids)) (ap (λ c. has c n) (u ∙ ap (clause_at pool) e))
-    ∙ sym (list_any_more (λ i. has (clause_at pool i) n) ids k id l)
-    ∙ sym (any_map (λ c. has c n) (clause_at pool) (take (k + 1) ids))
+    ∙ ap (λ a. a || has clause n) h
+    ∙ sym (some_more pool ids k id clause l e u n)
+
+both_wanted : (a b w : Bool) → ((a && w) || (b && w)) ≡ ((a || b) && w)
+both_wanted true b true = refl
+both_wanted true true false = refl
+both_wanted true false false = refl
+both_wanted false b w = refl
+
+-- the wanted numbers of one more clause of a row
+pub wanted_more : (pool : Interned) (ids : List ℕ) (k id : ℕ) (found clause wanted more : List ℕ) → k < length ids → id ≡ get_or ids k id → clause ≡ clause_at pool id
+    → (n : ℕ) → has found n ≡ (list_any (λ c. has c n) (map (clause_at pool) (take k ids)) && has wanted n) → has more n ≡ (has found n || (has clause n && has wanted n))
+    → has more n ≡ (list_any (λ c. has c n) (map (clause_at pool) (take (k + 1) ids)) && has wanted n)
+wanted_more pool ids k id found clause wanted more l e u n h m =
+    m ∙ ap (λ a. a || (has clause n && has wanted n)) h
+    ∙ both_wanted (list_any (λ c. has c n) (map (clause_at pool) (take k ids))) (has clause n) (has wanted n)
+    ∙ ap (λ a. a && has wanted n) (sym (some_more pool ids k id clause l e u n))
+
+pushed : (b t e w : Bool) → (e ≡ true → w ≡ true) → ((b || (t && w)) || e) ≡ (b || ((t || e) && w))
+pushed true t e w f = refl
+pushed false true true true f = refl
+pushed false true true false f = absurd (false≢true (f refl))
+pushed false true false true f = refl
+pushed false true false false f = refl
+pushed false false true true f = refl
+pushed false false true false f = absurd (false≢true (f refl))
+pushed false false false w f = refl
+
+passed : (b t e w : Bool) → (e ≡ true → w ≡ false) → (b || (t && w)) ≡ (b || ((t || e) && w))
+passed true t e w f = refl
+passed false true e w f = refl
+passed false false true true f = absurd (false≢true (sym (f refl)))
+passed false false true false f = refl
+passed false false false w f = refl
+
+-- one more number of a clause, which is wanted and was put behind the others
+pub wanted_pushed : (before found more clause wanted : List ℕ) (k : ℕ) → k < length clause → true ≡ has wanted (get_or clause k 0) → more ≡ found ++ get_or clause k 0 ∷ []
+    → (n : ℕ) → has found n ≡ (has before n || (has (take k clause) n && has wanted n)) → has more n ≡ (has before n || (has (take (k + 1) clause) n && has wanted n))
+wanted_pushed before found more clause wanted k l w is n h =
+    ap (λ xs. has xs n) is ∙ list_any-append (λ m. eqb n m) found (get_or clause k 0 ∷ [])
+    ∙ ap₂ (λ a b. a || b) h (or-false (eqb n (get_or clause k 0)))
+    ∙ pushed (has before n) (has (take k clause) n) (eqb n (get_or clause k 0)) (has wanted n) (λ s. ap (has wanted) (eqb-true n (get_or clause k 0) s) ∙ sym w)
+    ∙ ap (λ a. has before n || (a && has wanted n)) (sym (list_any_more (λ m. eqb n m) clause k 0 l))
+
+-- one that is not wanted
+pub wanted_passed : (before found clause wanted : List ℕ) (k : ℕ) → k < length clause → false ≡ has wanted (get_or clause k 0)
+    → (n : ℕ) → has found n ≡ (has before n || (has (take k clause) n && has wanted n)) → has found n ≡ (has before n || (has (take (k + 1) clause) n && has wanted n))
+wanted_passed before found clause wanted k l w n h =
+    h ∙ passed (has before n) (has (take k clause) n) (eqb n (get_or clause k 0)) (has wanted n) (λ s. ap (has wanted) (eqb-true n (get_or clause k 0) s) ∙ sym w)
+    ∙ ap (λ a. has before n || (a && has wanted n)) (sym (list_any_more (λ m. eqb n m) clause k 0 l))
 
 -- room was made for the numbers up to now
 pub room_more : (table : List (Vec ℕ)) (numbers : List ℕ) (k x : ℕ) (w : Vec ℕ) → k < length numbers → x ≡ get_or numbers k x → x < length table

@@ -167,54 +167,54 @@ changed_other : (x came lost kept : Bool) → ((x || (came && false)) && not (lo
 changed_other x came lost kept = ap₂ (λ a b. (x || a) && not b) (and-false came) (and-false (lost && not kept)) ∙ and-true (x || false) ∙ or-false x
 
 pub below_changed : (H : ℕ → ℕ → Bool) (rows : List ℕ) (p old new n : ℕ) → p < length rows → row_id rows p ≡ old
-    → (xs ys zs before after kept : List ℕ) → Shifts (H old n) (H new n) (has before n) (has after n)
+    → (xs ys zs before kept : List ℕ) (came : ℕ → Bool) → Shifts (H old n) (H new n) (has before n) (came n)
     → has kept n ≡ (H new n && has before n) → IsListOf (below_with H rows (length rows) n) xs
-    → (Ascending xs → IsListOf (λ m. has xs m || (has after n && eqb m p)) ys)
+    → (Ascending xs → IsListOf (λ m. has xs m || (came n && eqb m p)) ys)
     → (Ascending ys → IsListOf (λ m. has ys m && not (has before n && not (has kept n) && eqb m p)) zs)
     → IsListOf (below_with H (slice_set rows p new) (length (slice_set rows p new)) n) zs
-below_changed H rows p old new n l o xs ys zs before after kept shifts hk first f g =
-    let second : IsListOf (λ m. has xs m || (has after n && eqb m p)) ys = f first.ascending in
+below_changed H rows p old new n l o xs ys zs before kept came shifts hk first f g =
+    let second : IsListOf (λ m. has xs m || (came n && eqb m p)) ys = f first.ascending in
     let A = H new n in
     let B = H old n in
     let size : length (slice_set rows p new) ≡ length rows = length-set rows p new in
     listed_as (λ m. has ys m && not (has before n && not (has kept n) && eqb m p)) (below_with H (slice_set rows p new) (length (slice_set rows p new)) n) zs
     (λ m.
-    ap (λ x. x && not (has before n && not (has kept n) && eqb m p)) (second.members m ∙ ap (λ x. x || (has after n && eqb m p)) (first.members m))
+    ap (λ x. x && not (has before n && not (has kept n) && eqb m p)) (second.members m ∙ ap (λ x. x || (came n && eqb m p)) (first.members m))
     ∙ elim (cases_eq m p) [
       | inl s ↦
           let own : below_with H rows (length rows) n m ≡ B = ap (below_with H rows (length rows) n) s ∙ ap₂ (λ x r. x && H r n) (lt-ltb p (length rows) l) o in
           let now : row_id (slice_set rows p new) m ≡ new = ap (row_id (slice_set rows p new)) s ∙ get_or-set_same rows p new 0 l in
-          ap₂ (λ x y. (x || (has after n && y)) && not (has before n && not (has kept n) && y)) own (eq-eqb m p s)
-          ∙ ap (λ k. (B || (has after n && true)) && not (has before n && not k && true)) hk
-          ∙ changed_here B A (has before n) (has after n) shifts
+          ap₂ (λ x y. (x || (came n && y)) && not (has before n && not (has kept n) && y)) own (eq-eqb m p s)
+          ∙ ap (λ k. (B || (came n && true)) && not (has before n && not k && true)) hk
+          ∙ changed_here B A (has before n) (came n) shifts
           ∙ sym (ap₂ (λ x r. x && H r n) (lt-ltb m (length (slice_set rows p new)) (omega (arith, s, size))) now)
       | inr ne ↦
-          ap (λ y. (below_with H rows (length rows) n m || (has after n && y)) && not (has before n && not (has kept n) && y)) (ne_eqb m p ne)
-          ∙ changed_other (below_with H rows (length rows) n m) (has after n) (has before n) (has kept n)
+          ap (λ y. (below_with H rows (length rows) n m || (came n && y)) && not (has before n && not (has kept n) && y)) (ne_eqb m p ne)
+          ∙ changed_other (below_with H rows (length rows) n m) (came n) (has before n) (has kept n)
           ∙ sym (ap₂ (λ k r. ltb m k && H r n) size (get_or-set_other rows p m new 0 ne))
     ])
     (g second.ascending)
 
 pub uses_changed : (pool : Interned) (rows : List ℕ) (p old new n : ℕ) → p < length rows → row_id rows p ≡ old
-    → (xs ys zs before after kept : List ℕ) → Shifts (row_holds pool old n) (row_holds pool new n) (has before n) (has after n)
+    → (xs ys zs before kept : List ℕ) (came : ℕ → Bool) → Shifts (row_holds pool old n) (row_holds pool new n) (has before n) (came n)
     → has kept n ≡ (row_holds pool new n && has before n) → xs ≡ users_of pool rows n
-    → (Ascending xs → IsListOf (λ m. has xs m || (has after n && eqb m p)) ys)
+    → (Ascending xs → IsListOf (λ m. has xs m || (came n && eqb m p)) ys)
     → (Ascending ys → IsListOf (λ m. has ys m && not (has before n && not (has kept n) && eqb m p)) zs)
     → IsListOf (uses_number pool (slice_set rows p new) (length (slice_set rows p new)) n) zs
-uses_changed pool rows p old new n l o xs ys zs before after kept shifts hk e f g =
-    below_changed (row_holds pool) rows p old new n l o xs ys zs before after kept shifts hk
+uses_changed pool rows p old new n l o xs ys zs before kept came shifts hk e f g =
+    below_changed (row_holds pool) rows p old new n l o xs ys zs before kept came shifts hk
     (subst (IsListOf (uses_number pool rows (length rows) n)) (sym e) (users_listed pool rows n)) f g
 
 -- the numbers of what a row lost and gained
-pub shifts_of : (pool : Interned) (old new : ℕ) (lost gained before after : List ℕ) (n : ℕ)
+pub shifts_of : (pool : Interned) (old new : ℕ) (lost gained before : List ℕ) (n : ℕ)
     → HoldsDifference (ids_at pool old) (ids_at pool new) lost → HoldsDifference (ids_at pool new) (ids_at pool old) gained
-    → has before n ≡ some_holds (clauses_at pool lost) n → has after n ≡ some_holds (clauses_at pool gained) n
-    → Shifts (row_holds pool old n) (row_holds pool new n) (has before n) (has after n)
-shifts_of pool old new lost gained before after n d g hb ha = record {
+    → has before n ≡ some_holds (clauses_at pool lost) n
+    → Shifts (row_holds pool old n) (row_holds pool new n) (has before n) (some_holds (clauses_at pool gained) n)
+shifts_of pool old new lost gained before n d g hb = record {
   lost_held = λ h. difference_held pool (ids_at pool old) (ids_at pool new) lost n d (sym hb ∙ h);
   lost_all = λ h. elim (difference_all pool (ids_at pool old) (ids_at pool new) lost n d h) [ inl a ↦ inl (hb ∙ a) | inr b ↦ inr b ];
-  came_held = λ h. difference_held pool (ids_at pool new) (ids_at pool old) gained n g (sym ha ∙ h);
-  came_all = λ h. elim (difference_all pool (ids_at pool new) (ids_at pool old) gained n g h) [ inl a ↦ inl (ha ∙ a) | inr b ↦ inr b ];
+  came_held = λ h. difference_held pool (ids_at pool new) (ids_at pool old) gained n g h;
+  came_all = λ h. elim (difference_all pool (ids_at pool new) (ids_at pool old) gained n g h) [ inl a ↦ inl a | inr b ↦ inr b ];
 }
 
 -- the numbers that a row holds are those of its clauses
@@ -237,18 +237,18 @@ row_added pool rows k row e l users lent new held same h b f n =
     (subst (λ t. IsListOf (uses_number pool rows k n) (list_in t n)) (sym same) (b n)) (f n)
 
 -- and after the package has another row
-pub uses_replaced : (pool : Interned) (rows : List ℕ) (p old new : ℕ) → p < length rows → row_id rows p ≡ old → (first second third : List (Vec ℕ)) (before after kept : List ℕ)
+pub uses_replaced : (pool : Interned) (rows : List ℕ) (p old new : ℕ) → p < length rows → row_id rows p ≡ old → (first second third : List (Vec ℕ)) (before kept : List ℕ) (came : ℕ → Bool)
     → lists_in first ≡ uses_of pool rows → length second ≡ length first → length third ≡ length second
-    → ((n : ℕ) → Shifts (row_holds pool old n) (row_holds pool new n) (has before n) (has after n)) → ((n : ℕ) → has kept n ≡ (row_holds pool new n && has before n))
-    → ((n : ℕ) → Ascending (list_in first n) → IsListOf (λ m. has (list_in first n) m || (has after n && eqb m p)) (list_in second n))
+    → ((n : ℕ) → Shifts (row_holds pool old n) (row_holds pool new n) (has before n) (came n)) → ((n : ℕ) → has kept n ≡ (row_holds pool new n && has before n))
+    → ((n : ℕ) → Ascending (list_in first n) → IsListOf (λ m. has (list_in first n) m || (came n && eqb m p)) (list_in second n))
     → ((n : ℕ) → Ascending (list_in second n) → IsListOf (λ m. has (list_in second n) m && not (has before n && not (has kept n) && eqb m p)) (list_in third n))
     → lists_in third ≡ uses_of pool (slice_set rows p new)
-uses_replaced pool rows p old new l o first second third before after kept e s t shifts hk f g =
+uses_replaced pool rows p old new l o first second third before kept came e s t shifts hk f g =
     let size : length (slice_set rows p new) ≡ length rows = length-set rows p new in
     let whole : length (lists_in third) ≡ length (slice_set rows p new) =
     length-map third (λ v. v.items) ∙ t ∙ s ∙ sym (length-map first (λ v. v.items)) ∙ ap length e ∙ length_uses pool rows ∙ sym size in
     is_uses_of (lists_in third) pool (slice_set rows p new) whole
     (λ n u.
     let k : n < length rows = omega arith in
-    uses_changed pool rows p old new n l o (list_in first n) (list_in second n) (list_in third n) before after kept (shifts n) (hk n)
+    uses_changed pool rows p old new n l o (list_in first n) (list_in second n) (list_in third n) before kept came (shifts n) (hk n)
     (ap (λ xs. get_or xs n []) e ∙ list_of_uses pool rows n k) (f n) (g n))

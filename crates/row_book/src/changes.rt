@@ -1,5 +1,5 @@
 //! What two rows do not share.
-ghost use Rattle.std.specs.Prelude.{IfOk};
+ghost use Rattle.std.specs.Prelude.{◌≡◌, [], IfOk, OnOk};
 ghost use Rattle.clause_pool.specs.Interned.{OfPool};
 ghost use Rattle.row_book.specs.Uses.{HoldsDifference};
 
@@ -15,8 +15,7 @@ pub(crate) struct Changes {
     pub(crate) gained: Vec<ClauseId>,
 }
 
-/// The changes from the old row to the new one, by a walk over both side by side: of two clauses that differ the one that
-/// comes first in order is passed.
+/// The changes from the old row to the new one.
 pub(crate) fn changes_between(
     alloc: Global,
     pool: &Pool,
@@ -30,6 +29,26 @@ pub(crate) fn changes_between(
 {
     let mut lost = Vec::new(alloc);
     let mut gained = Vec::new(alloc);
+    note_changes(pool, old, new, &mut lost, &mut gained)?;
+    Ok(Changes { lost, gained })
+}
+
+/// Notes the changes from the old row to the new one in two empty lists, by a walk over both rows side by side: of two
+/// clauses that differ the one that comes first in order is passed.
+fn note_changes(
+    pool: &Pool,
+    old: &[ClauseId],
+    new: &[ClauseId],
+    lost: &mut Vec<ClauseId>,
+    gained: &mut Vec<ClauseId>,
+) -> Result<(), AllocError>
+    requires old { OfPool pool.now old.now }
+    requires new { OfPool pool.now new.now }
+    requires none_lost { lost.old.items ≡ [] }
+    requires none_gained { gained.old.items ≡ [] }
+    ensures lost { OnOk result (HoldsDifference old.now new.now lost.new.items) }
+    ensures gained { OnOk result (HoldsDifference new.now old.now gained.new.items) }
+{
     let mut i = 0;
     let mut j = 0;
     'walk: while i < old.len() && j < new.len() {
@@ -48,7 +67,7 @@ pub(crate) fn changes_between(
     }
     lost.extend_from_slice(&old[i..])?;
     gained.extend_from_slice(&new[j..])?;
-    Ok(Changes { lost, gained })
+    Ok(())
 }
 
 /// The clauses of the new row that the old one does not have, by the same walk.

@@ -4,13 +4,13 @@
 //! goes by `ClauseTable`; only `eliminate` uses this table.
 ghost use Rattle.std.specs.Prelude.{◌≡◌, ◌<◌, ◌-◌, ◌⊎◌, ◌&&◌, ◌||◌, ℕ, List, [], IfOk, OnOk, OnErr, true, not, eqb, length, slice_set, vec_capacity, vec_len};
 ghost use Rattle.std.specs.List.Sorted.{IsNonDecreasing, IsSearchInRange};
-ghost use Rattle.clause_pool.specs.Interned.{clauses_at, row_at, OfPool};
+ghost use Rattle.clause_pool.specs.Interned.{clauses_at, ids_at, row_at, OfPool};
 ghost use Rattle.listed.specs.Lists.{In, has, Ascending};
 ghost use Rattle.row_book.specs.Sets.{plus, without};
 ghost use Rattle.row_book.specs.Book.{listed_for, RowsFit};
-ghost use Rattle.row_book.specs.Uses.{row_id, some_holds, uses_of, IsListOf, IsPlaceOf, lists_in, list_in, room_in};
+ghost use Rattle.row_book.specs.Uses.{row_id, some_holds, uses_of, HoldsDifference, IsListOf, IsPlaceOf, lists_in, list_in, room_in};
 
-use crate::changes::changes_between;
+use crate::changes::{Changes, changes_between};
 use clause_pool::{ClauseId, Pool, RowId};
 use listed::{empty_vectors, holds_sorted};
 use std::alloc::{AllocError, Global};
@@ -77,14 +77,60 @@ impl UseTable {
         ensures err { OnErr result (self.new ≡ self.old) }
     {
         let changes = changes_between(alloc, pool, pool.row(old), pool.row(new))?;
-        let before = sorted_numbers_in(alloc, pool, changes.lost.as_slice())?;
-        let after = numbers_in(alloc, pool, changes.gained.as_slice())?;
-        let kept = numbers_among(alloc, pool, pool.row(new), before.as_slice())?;
         let table = self.users.as_mut_slice();
-        add_to_each(table, after.as_slice(), number)?;
-        take_from_each(table, before.as_slice(), kept.as_slice(), number);
-        Ok(())
+        let answer = exchange(table, alloc, pool, number, new, &changes);
+        drop(changes);
+        answer
     }
+}
+
+/// Takes a package out of the lists of the numbers that only lost clauses held, and puts it into those of the gained ones:
+/// a table of rows is then that of the same rows with the new one there. Where no memory is found, the lists stay as they were.
+fn exchange(
+    table: &mut [Vec<u32>],
+    alloc: Global,
+    pool: &Pool,
+    number: u32,
+    new: RowId,
+    changes: &Changes,
+) -> Result<(), AllocError>
+    requires new { new < length pool.now.rows }
+    requires lost_of { OfPool pool.now changes.now.lost.items }
+    requires gained_of { OfPool pool.now changes.now.gained.items }
+    requires lost { (n : ℕ) → some_holds (clauses_at pool.now changes.now.lost.items) n ≡ true → n < length table.old }
+    requires gained { (n : ℕ) → some_holds (clauses_at pool.now changes.now.gained.items) n ≡ true → n < length table.old }
+    ensures ok { OnOk result ((rows : List ℕ) → number < length rows →
+        HoldsDifference (ids_at pool.now (row_id rows number)) (ids_at pool.now new) changes.now.lost.items →
+        HoldsDifference (ids_at pool.now new) (ids_at pool.now (row_id rows number)) changes.now.gained.items →
+        lists_in table.old ≡ uses_of pool.now rows → lists_in table.new ≡ uses_of pool.now (slice_set rows number new)) }
+    ensures err { OnErr result (lists_in table.new ≡ lists_in table.old) }
+{
+    let before = sorted_numbers_in(alloc, pool, changes.lost.as_slice())?;
+    let kept = numbers_among(alloc, pool, pool.row(new), before.as_slice())?;
+    add_gained(table, alloc, pool, changes.gained.as_slice(), number)?;
+    take_from_each(table, before.as_slice(), kept.as_slice(), number);
+    Ok(())
+}
+
+/// Puts the package into the list of each number that the clauses hold, where it is not there yet; where no memory is
+/// found, the lists stay as they were.
+fn add_gained(
+    table: &mut [Vec<u32>],
+    alloc: Global,
+    pool: &Pool,
+    ids: &[ClauseId],
+    number: u32,
+) -> Result<(), AllocError>
+    requires of_pool { OfPool pool.now ids.now }
+    requires within { (n : ℕ) → some_holds (clauses_at pool.now ids.now) n ≡ true → n < length table.old }
+    ensures ok { OnOk result ((n : ℕ) → Ascending (list_in table.old n) →
+        IsListOf (λ m. has (list_in table.old n) m || (some_holds (clauses_at pool.now ids.now) n && eqb m number)) (list_in table.new n)) }
+    ensures err { OnErr result (lists_in table.new ≡ lists_in table.old) }
+{
+    let after = numbers_in(alloc, pool, ids)?;
+    let answer = add_to_each(table, after.as_slice(), number);
+    drop(after);
+    answer
 }
 
 /// The numbers that clauses hold.

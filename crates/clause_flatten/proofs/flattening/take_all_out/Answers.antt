@@ -15,7 +15,7 @@ use Rattle.clause_flatten.proofs.flattening.take_all_out.Goals as goal
 
 pub loop-turn-init : goal.loop-turn-init
 loop-turn-init c =
-    run_start c.args.pool.now c.args.book.now c.args.rule.limit c.args.rule.hold c.args.rows.now c.args.uses.now c.args.waiting c.in_ok-held.held.items
+    run_start c.args.pool.now c.args.book.now c.args.rule.limit c.args.rule.hold c.args.rows.now c.args.uses.now c.args.waiting.now c.in_ok-held.held.items
     c.requires.sound.rows.is_pool c.requires.sound c.requires.first c.requires.ready c.requires.waiting c.requires.within
     (c.in_ok-held.ensures ∙ ap (λ n. replicate n false) c.size.ensures)
 

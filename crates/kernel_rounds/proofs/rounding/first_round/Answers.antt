@@ -1,30 +1,51 @@
-use Rattle.std.proofs.Common.{not, ◌∙◌, refl}
+use Rattle.std.proofs.Common.{◌≡◌, ◌∙◌, ◌↔◌, false, not, ap, refl, subst, sym}
+use Rattle.std.specs.Prelude.{if◌then◌else◌, []}
+use Rattle.row_book.specs.Book.{repository_of, Sound}
+use Rattle.row_book.specs.Rounds.{round, round_steps}
+use Rattle.row_book.specs.Trail.{trail_meaning, SoundSteps}
 use Rattle.row_book.proofs.Books.{sound_kept}
-use Rattle.kernel_rounds.proofs.Midways.{first_told, round_changes}
-use Rattle.kernel_rounds.proofs.MovedSteps.{only_book, same_copy}
+use Rattle.kernel_rounds.proofs.Midways.{first_told, round_changes, IsNext}
+use Rattle.kernel_rounds.proofs.MovedSteps.{same_copy}
 use Rattle.kernel_rounds.proofs.rounding.first_round.Goals as goal
+use Rattle.kernel_rounds.proofs.rounding.first_round.Goals.{In_ok-told}
+
+next : (c : In_ok-told) → IsNext c.args.limit c.args.hold c.args.pool.now c.args.pool.now c.args.book.now [] c.in_ok-told.told.trail.steps (not c.same_books-changed.result)
+next c =
+    let w = c.in_ok-told.ensures.steps in
+    first_told c.args.limit c.args.hold c.args.pool.now c.reduce.new.pool c.args.book.now w.0 c.in_ok-made.made.class_of [] c.in_ok-made.made.idle c.in_ok-told.told.trail.steps
+    (not c.same_books-changed.result) c.requires.sound.rows.is_pool (same_copy c.args.pool.now c.args.pool.now c.args.book.now w.0 refl w.1 w.2) c.requires.sound refl c.in_ok-made.ensures.classes
+    c.in_ok-made.ensures.idle w.3
 
 pub same_books-changed-requires-clause-first : goal.same_books-changed-requires-clause-first
 same_books-changed-requires-clause-first c = sound_kept c.args.pool.now c.reduce.new.pool c.requires.sound.rows.is_pool c.reduce.ensures.kept c.args.book.now c.requires.sound
 
+pub keep_book-requires : goal.keep_book-requires
+keep_book-requires c = subst (Sound c.reduce.new.pool) (sym c.in_ok-told.ensures.book) c.in_ok-made.ensures.sound
+
+pub returns-clause-round : goal.returns-clause-round
+returns-clause-round c = c.in_ok-kept.ensures.book.repository ∙ ap (repository_of c.reduce.new.pool) c.in_ok-told.ensures.book ∙ c.in_ok-made.ensures.round
+
+pub returns-clause-classes : goal.returns-clause-classes
+returns-clause-classes c = c.in_ok-kept.ensures.classes ∙ c.in_ok-told.ensures.classes ∙ c.in_ok-made.ensures.classes
+
+pub returns-clause-held : goal.returns-clause-held
+returns-clause-held c = c.in_ok-kept.ensures.held ∙ c.in_ok-told.ensures.held ∙ c.in_ok-made.ensures.held
+
 pub returns-clause-changed : goal.returns-clause-changed
 returns-clause-changed c =
-    round_changes c.args.limit c.args.hold c.args.pool.now c.reduce.new.pool c.args.book.now c.in_ok-made.made.book c.same_books-changed.result c.requires.sound.rows.is_pool c.reduce.ensures.kept c.requires.sound
-    c.in_ok-made.ensures.round c.same_books-changed.ensures
+    subst (λ b. (b ≡ false) ↔ (round c.args.limit c.args.hold (repository_of c.args.pool.now c.args.book.now) ≡ repository_of c.args.pool.now c.args.book.now))
+    (sym (c.in_ok-kept.ensures.changed ∙ c.in_ok-told.ensures.changed))
+    (round_changes c.args.limit c.args.hold c.args.pool.now c.reduce.new.pool c.args.book.now c.in_ok-made.made.book c.same_books-changed.result c.requires.sound.rows.is_pool c.reduce.ensures.kept c.requires.sound
+    c.in_ok-made.ensures.round c.same_books-changed.ensures)
 
 pub returns-clause-trail : goal.returns-clause-trail
 returns-clause-trail c =
-    let same = same_copy c.args.pool.now c.args.pool.now c.args.book.now c.in_ok-before.before refl c.in_ok-before.ensures.rows c.in_ok-before.ensures.conflicts in
-    (first_told c.args.limit c.args.hold c.args.pool.now c.reduce.new.pool c.args.book.now c.in_ok-before.before c.as_slice.result.now c.no_steps-past.result.steps c.in_ok-made.made.idle c.in_ok-steps.steps
-    (not c.same_books-changed.result) c.requires.sound.rows.is_pool same c.requires.sound c.no_steps-past.ensures (c.as_slice.ensures ∙ c.in_ok-made.ensures.classes)
-    c.in_ok-made.ensures.idle c.in_ok-steps.ensures).meaning
+    ap (trail_meaning c.args.pool.now) c.in_ok-kept.ensures.steps ∙ (next (goal.at.returns-clause-trail c).In_ok-told).meaning
+    ∙ ap (λ b. if b then round_steps c.args.limit c.args.hold (repository_of c.args.pool.now c.args.book.now) else [])
+    (sym (c.in_ok-kept.ensures.changed ∙ c.in_ok-told.ensures.changed))
+
+pub returns-clause-sound : goal.returns-clause-sound
+returns-clause-sound c = c.in_ok-kept.ensures.book.sound (subst (Sound c.reduce.new.pool) (sym c.in_ok-told.ensures.book) c.in_ok-made.ensures.sound)
 
 pub returns-clause-books : goal.returns-clause-books
-returns-clause-books c =
-    let same = same_copy c.args.pool.now c.args.pool.now c.args.book.now c.in_ok-before.before refl c.in_ok-before.ensures.rows c.in_ok-before.ensures.conflicts in
-    (first_told c.args.limit c.args.hold c.args.pool.now c.reduce.new.pool c.args.book.now c.in_ok-before.before c.as_slice.result.now c.no_steps-past.result.steps c.in_ok-made.made.idle c.in_ok-steps.steps
-    (not c.same_books-changed.result) c.requires.sound.rows.is_pool same c.requires.sound c.no_steps-past.ensures (c.as_slice.ensures ∙ c.in_ok-made.ensures.classes)
-    c.in_ok-made.ensures.idle c.in_ok-steps.ensures).sound
-
-pub returns-clause-only : goal.returns-clause-only
-returns-clause-only c = only_book c.reduce.new.pool c.keep_live.new.pool c.in_ok-kept.kept c.in_ok-kept.field-0-1 c.in_ok-kept.ensures.only c.in_ok-kept.ensures.steps
+returns-clause-books c = subst (SoundSteps c.args.pool.now) (sym c.in_ok-kept.ensures.steps) (next (goal.at.returns-clause-books c).In_ok-told).sound

@@ -1,20 +1,26 @@
-use Rattle.std.proofs.Common.{◌∙◌, ap}
+use Rattle.std.proofs.Common.{◌∙◌, ap, map}
 use Rattle.clause_pool.proofs.Interned.{kept_along}
-use Rattle.row_book.specs.Merging.{quotient}
-use Rattle.row_book.specs.Pruning.{prune}
-use Rattle.row_book.specs.Rounds.{round}
+use Rattle.row_book.specs.Merging.{class_list, quotient}
+use Rattle.row_book.specs.Pruning.{idle_steps, prune}
+use Rattle.row_book.specs.Rounds.{round, IdleStep}
 use Rattle.row_book.specs.Thinning.{thin}
 use Rattle.kernel_rounds.proofs.rounding.reduce.Goals as goal
 
-pub returns-in_err-thinned-clause-kept : goal.returns-in_err-thinned-clause-kept
-returns-in_err-thinned-clause-kept c =
-    kept_along c.args.pool.now c.merge.new.pool c.prune.new.pool (kept_along c.args.pool.now c.flatten.new.pool c.merge.new.pool c.flatten.ensures.kept c.merge.ensures.kept) c.prune.ensures.kept
+pub returns-in_err-made-clause-kept : goal.returns-in_err-made-clause-kept
+returns-in_err-made-clause-kept c = kept_along c.args.pool.now c.flatten.new.pool c.reduce_flat.new.pool c.flatten.ensures.kept c.reduce_flat.ensures.kept
 
 pub returns-clause-round : goal.returns-clause-round
 unfolding round
-returns-clause-round c =
-    c.in_ok-thinned.ensures.thinned ∙ ap thin (c.in_ok-pruned.ensures.pruned ∙ ap prune (c.in_ok-classes.ensures.quotient ∙ ap quotient c.in_ok-flat.ensures.flat))
+returns-clause-round c = c.in_ok-made.ensures.book ∙ ap (λ R. thin (prune (quotient R))) c.in_ok-flat.ensures.flat
+
+pub returns-clause-classes : goal.returns-clause-classes
+returns-clause-classes c = c.in_ok-made.ensures.classes ∙ ap class_list c.in_ok-flat.ensures.flat
+
+pub returns-clause-held : goal.returns-clause-held
+returns-clause-held c = c.in_ok-made.ensures.held ∙ c.in_ok-flat.ensures.held
+
+pub returns-clause-idle : goal.returns-clause-idle
+returns-clause-idle c = c.in_ok-made.ensures.idle ∙ ap (λ R. map IdleStep (idle_steps (quotient R))) c.in_ok-flat.ensures.flat
 
 pub returns-clause-kept : goal.returns-clause-kept
-returns-clause-kept c =
-    kept_along c.args.pool.now c.merge.new.pool c.prune.new.pool (kept_along c.args.pool.now c.flatten.new.pool c.merge.new.pool c.flatten.ensures.kept c.merge.ensures.kept) c.prune.ensures.kept
+returns-clause-kept c = kept_along c.args.pool.now c.flatten.new.pool c.reduce_flat.new.pool c.flatten.ensures.kept c.reduce_flat.ensures.kept

@@ -5,10 +5,16 @@ use Rattle.clause_pool.specs.Interned.{clauses_at}
 use Rattle.listed.specs.Lists.{has}
 use Rattle.row_book.specs.Uses.{some_holds}
 use Rattle.listed.proofs.Lists.{item_in}
+use Rattle.row_book.proofs.Tables.{wanted_more}
 use Rattle.row_book.proofs.uses.numbers_among.Goals as goal
 
 pub slice-requires : goal.slice-requires
 slice-requires c = c.requires.of_pool c.id-item.result (item_in c.args.ids.now c.loop-id.id-index c.id-item.result c.loop-id-test.true c.id-item.is)
+
+pub loop-id-preserved : goal.loop-id-preserved
+loop-id-preserved c = λ n.
+    wanted_more c.args.pool.now c.args.ids.now c.loop-id.id-index c.id-item.result c.loop-id.found.items c.slice.result.now c.args.wanted.now c.add_wanted.new.found.items
+    c.loop-id-test.true c.id-item.is c.slice.ensures.lent n (c.loop-id.invariant n) (c.in_ok-add_wanted.ensures n)
 
 pub returns-clause-members : goal.returns-clause-members
 returns-clause-members c = λ n.

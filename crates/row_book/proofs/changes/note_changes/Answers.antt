@@ -1,8 +1,16 @@
 use Rattle.std.proofs.Common.{◌≡◌, ◌∙◌, arith, eqb-true, subst, sym}
 use Rattle.listed.specs.Lists.{In}
 use Rattle.listed.proofs.Lists.{item_in}
-use Rattle.row_book.proofs.Differences.{difference_more, difference_rest, difference_same}
-use Rattle.row_book.proofs.changes.changes_between.Goals as goal
+use Rattle.row_book.proofs.Differences.{difference_more, difference_none, difference_rest, difference_same}
+use Rattle.row_book.proofs.changes.note_changes.Goals as goal
+
+pub walk-init : goal.walk-init
+walk-init c = record {
+  old_in = omega arith;
+  new_in = omega arith;
+  lost = difference_none c.args.old.now c.args.new.now c.args.lost.now.items c.requires.none_lost;
+  gained = difference_none c.args.new.now c.args.old.now c.args.gained.now.items c.requires.none_gained;
+}
 
 -- both rows have the clause
 pub walk-preserved-then-eq : goal.walk-preserved-then-eq

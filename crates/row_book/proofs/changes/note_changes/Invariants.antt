@@ -1,6 +1,6 @@
 use Rattle.std.proofs.Common.{◌≤◌, ◌+◌, ◌-◌, length, take}
 use Rattle.row_book.specs.Uses.{HoldsDifference}
-use Rattle.row_book.proofs.changes.changes_between.Given as goal
+use Rattle.row_book.proofs.changes.note_changes.Given as goal
 
 abbrev pub invariant-walk : goal.invariant-walk
 invariant-walk l = record {

@@ -1,5 +1,5 @@
 -- The line that is made by a mix.
-use Rattle.std.proofs.Common.{◌≡◌, ℕ, Bool, List, [], ◌∷◌, ◌++◌, map, Some, None, Option, inl, inr, sym, ap, ◌∙◌, subst}
+use Rattle.std.proofs.Common.{◌≡◌, ℕ, Bool, List, [], ◌∷◌, ◌++◌, map, Some, None, Option, Result, Ok, Err, IfOk, inl, inr, sym, ap, ◌∙◌, subst}
 use Rattle.relation_fields.specs.declared.packages.Home.{Home}
 use Rattle.relation_fields.specs.declared.packages.PackageFacts.{PackageFacts}
 use Rattle.row_book.specs.Rounds.{PassedRound, limit_at}
@@ -33,6 +33,13 @@ module _ (settings : Settings) (old_home : Home) (old : List PackageFacts) (home
   -- the line of a name whose mix passes it
   pub limit_made : (passed : PassedRound) → limit_at settings.limit settings.hold (suite_repository home packages) ≡ Some passed → line ≡ LeftLimit name → line ≡ outcome_by settings old_home old home packages name
   limit_made passed is told = told ∙ ap (λ found. outcome_of name found (told_of settings old_home old home packages)) (sym is)
+
+-- the same, of what is answered
+pub line_answered : {E : Type 0} (settings : Settings) (old_home : Home) (old : List PackageFacts) (home : Home) (packages : List PackageFacts) (name : List ℕ) (made_home : Home) (made : List PackageFacts)
+    → limit_at settings.limit settings.hold (suite_repository home packages) ≡ None → made ≡ packages → made_home ≡ home → (result : Result PlanLine E)
+    → IfOk result (λ line. line ≡ outcome_of name None (told_of settings old_home old made_home made)) → IfOk result (λ line. line ≡ outcome_by settings old_home old home packages name)
+line_answered settings old_home old home packages name made_home made within same at (Ok line) told = line_made settings old_home old home packages name line made_home made within same at told
+line_answered settings old_home old home packages name made_home made within same at (Err error) told = told
 
 -- the line of a name behind others, by the mix that was made
 pub behind_made : (settings : Settings) (old new name : List ℕ) (taken : List (List ℕ)) (old_home home : Home) (olds packages : List PackageFacts) (line : PlanLine) → IsSuiteOf old olds old_home.name

@@ -83,13 +83,35 @@ fn lines_of(
     ensures { IfOk result (λ lines. lines ≡ lines_behind (line_behind (settings_of budget old.now.limit old.now.kernel.hold) old_bytes.now new_bytes.now) [] names.now) }
 {
     let side = OldSide::new(alloc, old, budget)?;
+    let lines = lines_beside(alloc, old_bytes, &side, new_bytes, new, names);
+    drop(side);
+    lines
+}
+
+// The same, where the side of the old view was made.
+fn lines_beside(
+    alloc: Global,
+    old_bytes: &[u8],
+    old: &OldSide,
+    new_bytes: &[u8],
+    new: &Suite,
+    names: &[Bytes],
+) -> Result<PlanList, AllocError>
+    requires side { IsOldSide old.now }
+    requires old { IsSuiteOf old_bytes.now old.now.view.now.suite.packages old.now.view.now.suite.home.name }
+    requires new { IsSuiteOf new_bytes.now new.now.packages new.now.home.name }
+    requires names { names.now ≡ differing (packages_in old_bytes.now) (packages_in new_bytes.now) }
+    requires within { plan_refusal old_bytes.now new_bytes.now ≡ None }
+    requires limit { 0 < old.now.view.now.limit }
+    ensures { let settings = settings_of old.now.budget old.now.view.now.limit old.now.view.now.kernel.hold in IfOk result (λ lines. lines ≡ lines_behind (line_behind settings old_bytes.now new_bytes.now) [] names.now) }
+{
     let mut lines = PlanList::new(alloc);
     let mut taken = Vec::new(alloc);
     for name in names {
         let line = try_name(
             alloc,
             old_bytes,
-            &side,
+            old,
             new_bytes,
             new,
             taken.as_slice(),

@@ -1,7 +1,7 @@
 //! What becomes of a name, by the mix with it.
 ghost use Rattle.std.specs.Prelude.{◌≡◌, ◌<◌, List, None, IfOk};
 ghost use Rattle.migrate_plan.specs.Plan.{outcome_of, settings_of};
-ghost use Rattle.migrate_plan.specs.Trying.{outcome_by, IsViewAt};
+ghost use Rattle.migrate_plan.specs.Trying.{outcome_by, told_of, IsViewAt};
 ghost use Rattle.suite_compare.specs.Comparing.{IsOldSide};
 ghost use Rattle.suite_compare.specs.Report.{first_told};
 ghost use Rattle.suite_compare.specs.declared.report.ReportLine.{ReportLine};
@@ -26,15 +26,32 @@ pub(crate) fn line_of(
     let made = view_of(alloc, mix, old.view.limit, old.view.kernel.hold)?;
     match made {
         Some(view) => {
-            let first = first_line(alloc, old, &view)?;
-            let line = line_by_first(alloc, name, first)?;
-            Ok(line)
+            let line = line_by_view(alloc, old, &view, name);
+            drop(view);
+            line
         }
         None => {
             let name = Bytes::copy(alloc, name)?;
             Ok(PlanLine::LeftLimit { name })
         }
     }
+}
+
+// The line of a name by the view of the mix with it, at the limit and hold of the view of the old index.
+fn line_by_view(
+    alloc: Global,
+    old: &OldSide,
+    view: &SuiteView,
+    name: &[u8],
+) -> Result<PlanLine, AllocError>
+    requires side { IsOldSide old.now }
+    requires limit { view.now.limit ≡ old.now.view.now.limit }
+    requires hold { view.now.kernel.hold ≡ old.now.view.now.kernel.hold }
+    ensures { let before = old.now.view.now in let settings = settings_of old.now.budget before.limit before.kernel.hold in IfOk result (λ line. line ≡ outcome_of name.now None (told_of settings before.suite.home before.suite.packages view.now.suite.home view.now.suite.packages)) }
+{
+    let first = first_line(alloc, old, view)?;
+    let line = line_by_first(alloc, name, first)?;
+    Ok(line)
 }
 
 // The view of a mix; none where it passes the clause limit.

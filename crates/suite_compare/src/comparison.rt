@@ -17,7 +17,7 @@ ghost use Rattle.suite_compare.specs.Report.{first_told, report};
 use crate::gather::{JointTable, Partners, joint_table, new_kind, old_kind, partners_of};
 use crate::places::name_at;
 use crate::report::{LineList, Report, ReportLine, copy_of_first, finding_of};
-use crate::sides::{OldSide, Side, new_side_of, verdict_of};
+use crate::sides::{NewSide, OldSide, Side, new_side_of, verdict_of};
 use crate::tell::{push_single, tell_pairs};
 use crate::verdicts::{BadList, Judge, bad_lists, bads_at};
 use crate::view::SuiteView;
@@ -144,14 +144,32 @@ pub fn compare(
         (names_of_both old.now.suite.packages new.now.suite.packages)) }
 {
     let before = OldSide::new(alloc, old, budget)?;
-    let after = new_side_of(alloc, &before, new)?;
-    let lines = lines_of(
-        alloc,
-        &after.part.names,
-        &before.side,
-        &after.part.of,
-        &after.side,
-    )?;
+    let report = report_of(alloc, &before, new);
+    drop(before);
+    report
+}
+
+/// What a new suite has broken of an old one. Both views were made at one and the same clause limit, and both with hold or both without.
+fn report_of(alloc: Global, old: &OldSide, new: &SuiteView) -> Result<Report, AllocError>
+    requires side { IsOldSide old.now }
+    requires limit { new.now.limit ≡ old.now.view.now.limit }
+    requires hold { new.now.kernel.hold ≡ old.now.view.now.kernel.hold }
+    ensures { let view = old.now.view.now in IfOk result (λ made. made.lines ≡ report (verdict_in view.limit view.kernel.hold view.suite.home view.suite.packages old.now.budget) (verdict_in view.limit view.kernel.hold new.now.suite.home new.now.suite.packages old.now.budget)
+        (names_of_both view.suite.packages new.now.suite.packages)) }
+{
+    let after = new_side_of(alloc, old, new)?;
+    let report = report_beside(alloc, &old.side, &after);
+    drop(after);
+    report
+}
+
+/// What a new side has broken of an old one.
+fn report_beside(alloc: Global, old: &Side, new: &NewSide) -> Result<Report, AllocError>
+    requires old { IsSide (length new.now.part.names.items) old.now new.now.part.of.items }
+    requires new { IsSide (length new.now.part.names.items) new.now.side new.now.side.of.items }
+    ensures { let names = new.now.part.names.items in (v w : List (List ℕ) → Verdict) → AreVerdicts old.now new.now.part.of.items names v → AreVerdicts new.now.side new.now.side.of.items names w → IfOk result (λ made. made.lines ≡ told_report v w names) }
+{
+    let lines = lines_of(alloc, &new.part.names, old, &new.part.of, &new.side)?;
     Ok(Report { lines })
 }
 
@@ -169,13 +187,19 @@ pub fn first_line(
         (names_of_both view.suite.packages new.now.suite.packages))) }
 {
     let made = new_side_of(alloc, old, new)?;
-    let lines = first_lines_of(
-        alloc,
-        &made.part.names,
-        &old.side,
-        &made.part.of,
-        &made.side,
-    )?;
-    let first = copy_of_first(alloc, &lines)?;
-    Ok(first)
+    let first = first_beside(alloc, &old.side, &made);
+    drop(made);
+    first
+}
+
+/// The first line of what a new side has broken of an old one, or none.
+fn first_beside(alloc: Global, old: &Side, new: &NewSide) -> Result<Option<ReportLine>, AllocError>
+    requires old { IsSide (length new.now.part.names.items) old.now new.now.part.of.items }
+    requires new { IsSide (length new.now.part.names.items) new.now.side new.now.side.of.items }
+    ensures { let names = new.now.part.names.items in (v w : List (List ℕ) → Verdict) → AreVerdicts old.now new.now.part.of.items names v → AreVerdicts new.now.side new.now.side.of.items names w → IfOk result (λ first. first ≡ first_told (told_report v w names)) }
+{
+    let lines = first_lines_of(alloc, &new.part.names, old, &new.part.of, &new.side)?;
+    let first = copy_of_first(alloc, &lines);
+    drop(lines);
+    first
 }

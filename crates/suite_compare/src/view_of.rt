@@ -5,15 +5,18 @@ ghost use Rattle.repo_model.specs.FirstFault.{first_fault};
 ghost use Rattle.repo_model.specs.Repository.{suite_repository};
 ghost use Rattle.row_book.specs.Rounds.{limit_at};
 ghost use Rattle.suite_compare.specs.Refusals.{home_in, packages_in, RefusesIndex, RefusesSuite};
+ghost use Rattle.suite_compare.specs.Views.{IsViewOf};
+ghost use Rattle.clause_pool.specs.Interned.{IsPool};
 ghost use Rattle.repo_model.specs.Limits.{most_bytes};
 
 use crate::refusals::{LimitError, ViewError};
 use crate::view::SuiteView;
 use clause_pool::Pool;
 use deb_version::Bytes;
-use kernel_rounds::{RoundError, extract};
+use kernel_rounds::{Kernel, RoundError, extract};
 use relation_fields::PackageFacts;
 use repo_model::{IndexFault, Suite, read_suite};
+use row_book::Book;
 use std::alloc::{AllocError, Global};
 
 impl SuiteView {
@@ -58,26 +61,86 @@ impl SuiteView {
         ensures limit { IfOk result (λ view. view.limit ≡ limit) }
         ensures hold { IfOk result (λ view. view.kernel.hold ≡ hold) }
     {
-        let mut pool = Pool::new(alloc)?;
-        let book = suite.book(alloc, &mut pool)?;
-        match extract(alloc, &mut pool, &book, limit, hold) {
-            Ok(kernel) => Ok(SuiteView {
-                pool,
-                suite,
-                book,
-                kernel,
-                limit,
-            }),
-            Err(
-                RoundError::Limit {
-                    round,
-                    gone,
-                    package,
-                    count,
-                },
-            ) => Err(limit_of(alloc, &suite, round, gone, package, count)),
-            Err(RoundError::Memory) => Err(LimitError::Memory),
+        match reduce_suite(alloc, &suite, limit, hold) {
+            Ok(made) => Ok(view_with(suite, made, limit)),
+            Err(error) => {
+                drop(suite);
+                Err(error)
+            }
         }
+    }
+}
+
+/// What is made of a suite: its repository over a pool, and the kernel of that.
+#[derive(Drop)]
+struct Reduced {
+    pool: Pool,
+    book: Book,
+    kernel: Kernel,
+}
+
+/// The view of a suite of which this was made.
+fn view_with(suite: Suite, made: Reduced, limit: u32) -> SuiteView
+    requires { IsViewOf made.pool suite.home suite.packages made.book made.kernel limit }
+    ensures suite { result.suite ≡ suite }
+    ensures limit { result.limit ≡ limit }
+    ensures hold { result.kernel.hold ≡ made.kernel.hold }
+{
+    let Reduced { pool, book, kernel } = made;
+    SuiteView {
+        pool,
+        suite,
+        book,
+        kernel,
+        limit,
+    }
+}
+
+/// What is made of a suite, in a pool of its own.
+fn reduce_suite(alloc: Global, suite: &Suite, limit: u32, hold: bool) -> Result<Reduced, LimitError>
+    requires { 0 < limit }
+    ensures refused { IfErr result (RefusesSuite suite.now.home suite.now.packages limit hold) }
+    ensures within { OnOk result (limit_at limit hold (suite_repository suite.now.home suite.now.packages) ≡ None) }
+    ensures view { IfOk result (λ made. IsViewOf made.pool suite.now.home suite.now.packages made.book made.kernel limit) }
+    ensures hold { IfOk result (λ made. made.kernel.hold ≡ hold) }
+{
+    let mut pool = Pool::new(alloc)?;
+    match reduce_in(alloc, &mut pool, suite, limit, hold) {
+        Ok((book, kernel)) => Ok(Reduced { pool, book, kernel }),
+        Err(error) => {
+            drop(pool);
+            Err(error)
+        }
+    }
+}
+
+/// The repository of a suite and the kernel of that, in a pool.
+fn reduce_in(
+    alloc: Global,
+    pool: &mut Pool,
+    suite: &Suite,
+    limit: u32,
+    hold: bool,
+) -> Result<(Book, Kernel), LimitError>
+    requires pool { IsPool pool.old }
+    requires limit { 0 < limit }
+    ensures refused { IfErr result (RefusesSuite suite.now.home suite.now.packages limit hold) }
+    ensures within { OnOk result (limit_at limit hold (suite_repository suite.now.home suite.now.packages) ≡ None) }
+    ensures view { IfOk result (λ made. IsViewOf pool.new suite.now.home suite.now.packages made.0 made.1 limit) }
+    ensures hold { IfOk result (λ made. made.1.hold ≡ hold) }
+{
+    let book = suite.book(alloc, pool)?;
+    match extract(alloc, pool, &book, limit, hold) {
+        Ok(kernel) => Ok((book, kernel)),
+        Err(
+            RoundError::Limit {
+                round,
+                gone,
+                package,
+                count,
+            },
+        ) => Err(limit_of(alloc, suite, round, gone, package, count)),
+        Err(RoundError::Memory) => Err(LimitError::Memory),
     }
 }
 

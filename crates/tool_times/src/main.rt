@@ -4,7 +4,7 @@
 #![tactic(auto)]
 
 ghost use Rattle.std.specs.Prelude.{IfOk};
-ghost use Rattle.row_book.specs.Book.{Sound};
+ghost use Rattle.row_book.specs.Book.{RowsTidy, Sound};
 
 use byte_flow::{FileShelf, read_file};
 use class_merge::merge;
@@ -142,21 +142,67 @@ fn measure_round(
     requires { Sound pool.old book.now }
     ensures { IfOk result (Sound pool.new) }
 {
-    let alloc = rt.alloc();
     let before = since(rt, start);
-    let Ok(flat) = flatten(alloc, pool, book, MOST_CLAUSES, false) else {
+    let Ok(flat) = flatten(rt.alloc(), pool, book, MOST_CLAUSES, false) else {
         return Err(AllocError);
     };
     let flattened = since(rt, start);
-    let classes = merge(alloc, pool, &flat.book)?;
+    let _ = print!(rt; "a round from {before:?}, flattened {flattened:?}");
+    let left = measure_merge(rt, start, pool, &flat.book);
+    drop(flat);
+    left
+}
+
+/// The same from merging on.
+fn measure_merge(
+    rt: &HostRuntime,
+    start: &Instant,
+    pool: &mut Pool,
+    book: &Book,
+) -> Result<Book, AllocError>
+    requires { Sound pool.old book.now }
+    ensures { IfOk result (Sound pool.new) }
+{
+    let classes = merge(rt.alloc(), pool, book)?;
     let merged = since(rt, start);
-    let pruned = prune(alloc, pool, &classes.book)?;
-    let left = since(rt, start);
-    let thinned = thin(alloc, pool, &pruned.book)?;
+    let _ = print!(rt; ", merged {merged:?}");
+    let left = measure_prune(rt, start, pool, &classes.book);
+    drop(classes);
+    left
+}
+
+/// The same from pruning on.
+fn measure_prune(
+    rt: &HostRuntime,
+    start: &Instant,
+    pool: &mut Pool,
+    book: &Book,
+) -> Result<Book, AllocError>
+    requires sound { Sound pool.old book.now }
+    requires tidy { RowsTidy pool.old book.now.rows }
+    ensures { IfOk result (Sound pool.new) }
+{
+    let pruned = prune(rt.alloc(), pool, book)?;
     let done = since(rt, start);
-    let _ = println!(rt;
-        "a round from {before:?}, flattened {flattened:?}, merged {merged:?}, pruned {left:?}, thinned {done:?}"
-    );
+    let _ = print!(rt; ", pruned {done:?}");
+    let left = measure_thin(rt, start, pool, &pruned.book);
+    drop(pruned);
+    left
+}
+
+/// The same of the last part, which takes the redundant conflicts away.
+fn measure_thin(
+    rt: &HostRuntime,
+    start: &Instant,
+    pool: &mut Pool,
+    book: &Book,
+) -> Result<Book, AllocError>
+    requires { Sound pool.old book.now }
+    ensures { IfOk result (Sound pool.new) }
+{
+    let thinned = thin(rt.alloc(), pool, book)?;
+    let done = since(rt, start);
+    let _ = println!(rt; ", thinned {done:?}");
     Ok(thinned)
 }
 

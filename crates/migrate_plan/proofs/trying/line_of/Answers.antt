@@ -1,25 +1,22 @@
 use Rattle.std.proofs.Common.{ap}
 use Rattle.migrate_plan.specs.Plan.{settings_of}
-use Rattle.migrate_plan.specs.Trying.{told_of}
 use Rattle.migrate_plan.specs.declared.plan.PlanLine.TheVariants.{LeftLimit}
-use Rattle.migrate_plan.proofs.Made.{limit_made, line_made}
+use Rattle.migrate_plan.proofs.Made.{limit_made, line_answered}
 use Rattle.migrate_plan.proofs.trying.line_of.Goals as goal
 
-pub first_line-requires-clause-limit : goal.first_line-requires-clause-limit
-first_line-requires-clause-limit c = let made = rw c.in-Some.is at c.in_ok-made.ensures in made.limit_is
+pub line_by_view-line-requires-clause-limit : goal.line_by_view-line-requires-clause-limit
+line_by_view-line-requires-clause-limit c = let made = rw c.in-Some.is at c.in_ok-made.ensures in made.limit_is
 
-pub first_line-requires-clause-hold : goal.first_line-requires-clause-hold
-first_line-requires-clause-hold c = let made = rw c.in-Some.is at c.in_ok-made.ensures in made.hold_is
+pub line_by_view-line-requires-clause-hold : goal.line_by_view-line-requires-clause-hold
+line_by_view-line-requires-clause-hold c = let made = rw c.in-Some.is at c.in_ok-made.ensures in made.hold_is
 
-pub returns-in_ok-line-in-Some : goal.returns-in_ok-line-in-Some
-returns-in_ok-line-in-Some c =
+pub returns-in-Some : goal.returns-in-Some
+returns-in-Some c =
     let old = c.args.old.now.view.now in
-    let settings = settings_of c.args.old.now.budget old.limit old.kernel.hold in
     let view = c.in-Some.view in
     let made = rw c.in-Some.is at c.in_ok-made.ensures in
-    let told = told_of settings old.suite.home old.suite.packages view.suite.home view.suite.packages in
-    line_made settings old.suite.home old.suite.packages c.args.mix.home c.args.mix.packages c.args.name.now c.in_ok-line-in-Some.line view.suite.home view.suite.packages made.within made.packages_are made.home_is
-    (c.in_ok-line-in-Some.ensures told c.in_ok-first-in-Some.ensures)
+    line_answered (settings_of c.args.old.now.budget old.limit old.kernel.hold) old.suite.home old.suite.packages c.args.mix.home c.args.mix.packages c.args.name.now view.suite.home view.suite.packages
+    made.within made.packages_are made.home_is c.line_by_view-line.result c.line_by_view-line.ensures
 
 pub returns-in_ok-name-in-None : goal.returns-in_ok-name-in-None
 returns-in_ok-name-in-None c =

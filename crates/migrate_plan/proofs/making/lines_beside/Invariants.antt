@@ -1,0 +1,6 @@
+use Rattle.migrate_plan.specs.Plan.{line_behind, settings_of}
+use Rattle.migrate_plan.specs.Trying.{LeadsTo}
+use Rattle.migrate_plan.proofs.making.lines_beside.Given as goal
+
+abbrev pub invariant-loop-name : goal.invariant-loop-name
+invariant-loop-name l = LeadsTo (line_behind (settings_of l.old.budget l.old.view.now.limit l.old.view.now.kernel.hold) l.old_bytes l.new_bytes) l.names l.name-index l.lines l.taken.items

@@ -283,14 +283,27 @@ pub(crate) fn job_named<'a>(
     let Some(words) = given.get_raw("words") else {
         return Err(WordError::NotACommand);
     };
-    let options = Options::of(given);
+    job_by_name(alloc, name, &Options::of(given), words)
+}
+
+// The job of the command of this name.
+fn job_by_name(
+    alloc: Global,
+    name: &str,
+    options: &Options<'_>,
+    words: &[&str],
+) -> Result<Job, WordError>
+    ensures job { IfOk result (λ job. job_named name.now (options_of options.now) (map (λ s. s.now) words.now) ≡ Some job) }
+    ensures refusal { IfErr result (OnNotACommand (job_named name.now (options_of options.now) (map (λ s. s.now) words.now) ≡ None)) }
+    ensures limited { IfOk result IsInLimits }
+{
     match name {
-        "kernel" => kernel_job(alloc, &options, words),
-        "query" => query_job(alloc, &options, words),
-        "compare" => compare_job(alloc, &options, words),
-        "explain" => explain_job(alloc, &options, words),
-        "status" => status_job(alloc, &options, words),
-        "migrate" => migrate_job(alloc, &options, words),
+        "kernel" => kernel_job(alloc, options, words),
+        "query" => query_job(alloc, options, words),
+        "compare" => compare_job(alloc, options, words),
+        "explain" => explain_job(alloc, options, words),
+        "status" => status_job(alloc, options, words),
+        "migrate" => migrate_job(alloc, options, words),
         "sample" => sample_job(words),
         _ => Err(WordError::NotACommand),
     }

@@ -1,13 +1,14 @@
 -- What `serde_json` writes for a kernel.
-use Rattle.std.proofs.Common.{◌≡◌, ◌≢◌, ℕ, zero, suc, ◌+◌, ◌/◌, ◌%◌, ◌<◌, ◌≤◌, Bool, true, false, cond, ◌||◌, ◌==◌, eqb-true, List, [], ◌∷◌, ◌++◌, length, map, Option, Some, None, take, get_or, inl, inr, refl, sym, ap, ap₂, ◌∙◌, subst, append_assoc, codes, arith}
+use Rattle.std.proofs.Common.{append-nil, filter, ltb, ◌≡◌, ◌≢◌, ℕ, zero, suc, ◌+◌, ◌/◌, ◌%◌, ◌<◌, ◌≤◌, Bool, true, false, cond, ◌||◌, ◌==◌, eqb-true, List, [], ◌∷◌, ◌++◌, length, map, Option, Some, None, take, get_or, inl, inr, refl, sym, ap, ap₂, ◌∙◌, subst, append_assoc, codes, arith}
 use Rattle.std.specs.Prelude.{nat_lt, nat_le}
 use Rattle.std.specs.Char.{digit_char, is_ascii_alphanumeric}
 use Rattle.std.specs.Int.{is_in_range}
 use Rattle.std.specs.Fmt.{decimal}
 use Rattle.std.specs.List.{list_all}
 use Rattle.std.specs.Str.{IsAscii}
-use Rattle.std.proofs.lemmas.Bool.{and_parts, false_from_ne_true, false≢true, leb-true, ltb-true, or_cases}
+use Rattle.std.proofs.lemmas.Bool.{and_parts, false_from_ne_true, false≢true, le-ltb, leb-true, lt-ltb, ltb-true, or_cases}
 use Rattle.std.proofs.lemmas.List.{map-append, take_more}
+use Rattle.std.proofs.lemmas.List.Elements.{filter-append}
 use Rattle.deb_version.specs.Grammar.{is_upstream_byte, is_version}
 use Rattle.deb_version.specs.Names.{has_first, is_name, is_name_byte}
 use Rattle.json.specs.Print.{escape, escape_byte, escape_letter, quoted}
@@ -19,7 +20,7 @@ use Rattle.row_book.specs.Numbers.{numbers}
 use Rattle.row_book.specs.Repository.{Repository, clauses_of}
 use Rattle.listed.specs.Lists.{In, here, there}
 use Rattle.row_book.proofs.Numbers.{numbers_parts, numbers_more}
-use Rattle.serde_json.specs.Data.{Data, array, string}
+use Rattle.serde_json.specs.Data.{Data, Members, array, boolean, no_members, object, put, string}
 use Rattle.serde_json.specs.View.{items_of, view}
 use Rattle.serde_json.specs.Written.{compact_text, has_float, items_have_float, items_text}
 use Rattle.std.specs.declared.alloc.Global.{Global}
@@ -29,7 +30,7 @@ use Rattle.serde_json.specs.declared.value.Value.TheVariants.{Array}
 use Rattle.serde_json.proofs.Views.{view-Array}
 use Rattle.kernel_text.specs.declared.member.Member.{Member}
 use Rattle.repo_model.specs.Facts.{AreNamedPackages}
-use Rattle.kernel_text.specs.JsonData.{class_data, clauses_data, data_of_class, kernel_data, list_data, mark_of_class, number_data, numbers_data, package_data, packages_data}
+use Rattle.kernel_text.specs.JsonData.{class_data, clauses_data, data_of_class, kernel_data, list_data, mark_of_class, number_data, numbers_data, package_data, packages_data, with_told}
 use Rattle.kernel_text.specs.KernelJson.{behind_commas, class_json, held_mark, kernel_json, list_json, member_json, numbers_json, object_json, package_json, quoted_text}
 use Rattle.kernel_text.specs.KernelLines.{KernelLine, MemberLine}
 use Rattle.kernel_text.specs.KernelText.{format_of, greater_conflicts, line_of_member, members_of}
@@ -55,6 +56,23 @@ one_value f xs i d old new v l so_far is pushed =
     ap (map view) pushed ∙ map-append view old (v ∷ []) ∙ ap₂ (λ ds e. ds ++ e ∷ []) so_far is
     ∙ sym (ap (map f) (take_more xs i d l) ∙ map-append f (take i xs) (get_or xs i d ∷ []))
 
+-- one more number of a list, by whether it is greater
+more_greater : (n : ℕ) (xs : List ℕ) (i : ℕ) → i < length xs → filter (λ m. ltb n m) (take (i + 1) xs) ≡ filter (λ m. ltb n m) (take i xs) ++ cond (ltb n (get_or xs i 0)) (get_or xs i 0 ∷ []) []
+more_greater n xs i l = ap (filter (λ m. ltb n m)) (take_more xs i 0 l) ∙ filter-append (λ m. ltb n m) (take i xs) (get_or xs i 0 ∷ [])
+
+pub one_greater : (n : ℕ) (xs : List ℕ) (i : ℕ) (old new : List Value) (v : Value) → i < length xs → map view old ≡ map number_data (filter (λ m. ltb n m) (take i xs)) → n < get_or xs i 0 → view v ≡ number_data (get_or xs i 0) →
+    new ≡ old ++ v ∷ [] → map view new ≡ map number_data (filter (λ m. ltb n m) (take (i + 1) xs))
+one_greater n xs i old new v l so_far greater is pushed =
+    let more : filter (λ m. ltb n m) (take (i + 1) xs) ≡ filter (λ m. ltb n m) (take i xs) ++ get_or xs i 0 ∷ [] =
+    more_greater n xs i l ∙ ap (λ b. filter (λ m. ltb n m) (take i xs) ++ cond b (get_or xs i 0 ∷ []) []) (lt-ltb n (get_or xs i 0) greater) in
+    ap (map view) pushed ∙ map-append view old (v ∷ []) ∙ ap₂ (λ ds e. ds ++ e ∷ []) so_far is
+    ∙ sym (ap (map number_data) more ∙ map-append number_data (filter (λ m. ltb n m) (take i xs)) (get_or xs i 0 ∷ []))
+
+pub not_greater : (n : ℕ) (xs : List ℕ) (i : ℕ) → i < length xs → get_or xs i 0 ≤ n → map number_data (filter (λ m. ltb n m) (take i xs)) ≡ map number_data (filter (λ m. ltb n m) (take (i + 1) xs))
+not_greater n xs i l least =
+    ap (map number_data)
+    (sym (more_greater n xs i l ∙ ap (λ b. filter (λ m. ltb n m) (take i xs) ++ cond b (get_or xs i 0 ∷ []) []) (le-ltb n (get_or xs i 0) least) ∙ append-nil (filter (λ m. ltb n m) (take i xs))))
+
 pub no_values : (f : ℕ → Data) (items : List Value) → items ≡ [] → map view items ≡ map f (numbers 0 0)
 unfolding numbers
 no_values f items none = ap (map view) none
@@ -63,6 +81,18 @@ pub one_class_value : (f : ℕ → Data) (n : ℕ) (old new : List Value) (v : V
 one_class_value f n old new v so_far is pushed =
     ap (map view) pushed ∙ map-append view old (v ∷ []) ∙ ap₂ (λ ds e. ds ++ e ∷ []) so_far is
     ∙ sym (ap (map f) (numbers_more n) ∙ map-append f (numbers n 0) (n ∷ []))
+
+-- the members of a class, put one after another into an empty object
+pub class_made : (conflicts : List ℕ) (mark : Option Bool) (packages : List PackageFacts) (members : List ℕ) (clauses : List (List ℕ)) (none first told third all : Members) → none ≡ no_members →
+    first ≡ put (codes "against") (numbers_data conflicts) none → told ≡ with_told mark first → third ≡ put (codes "members") (packages_data packages members) told → all ≡ put (codes "needs") (clauses_data clauses) third →
+    object all ≡ class_data conflicts mark packages members clauses
+class_made conflicts None packages members clauses none first told third all a b c d e =
+    ap object (e ∙ ap (put (codes "needs") (clauses_data clauses)) (d ∙ ap (put (codes "members") (packages_data packages members)) (c ∙ b ∙ ap (put (codes "against") (numbers_data conflicts)) a)))
+class_made conflicts (Some held) packages members clauses none first told third all a b c d e =
+    ap object
+    (e
+    ∙ ap (put (codes "needs") (clauses_data clauses))
+    (d ∙ ap (put (codes "members") (packages_data packages members)) (c ∙ ap (put (codes "held") (boolean held)) (b ∙ ap (put (codes "against") (numbers_data conflicts)) a))))
 
 -- bytes that stand for themselves
 record IsPlainByte (x : ℕ) : Type 0 where

@@ -7,7 +7,7 @@ use Rattle.row_book.specs.Numbers.{numbers}
 use Rattle.row_book.specs.Flags.{flag}
 use Rattle.row_book.specs.Repository.{Repository, clauses_of}
 use Rattle.repo_model.specs.Stanzas.{stanza_at}
-use Rattle.serde_json.specs.Data.{Data, Members, array, boolean, member, no_members, number, object, string, unsigned}
+use Rattle.serde_json.specs.Data.{Data, Members, array, boolean, member, no_members, number, object, put, string, unsigned}
 use Rattle.serde_json.specs.View.{items_of}
 use Rattle.kernel_text.specs.KernelText.{format_of, greater_conflicts}
 
@@ -33,6 +33,11 @@ clauses_data clauses = list_data (map numbers_data clauses)
 abbrev pub with_mark : Option Bool → Members → Members
 with_mark None rest = rest
 with_mark (Some held) rest = member (codes "held") (boolean held) rest
+
+-- the same, put among members that are there
+abbrev pub with_told : Option Bool → Members → Members
+with_told None members = members
+with_told (Some held) members = put (codes "held") (boolean held) members
 
 abbrev pub class_data : List ℕ → Option Bool → List PackageFacts → List ℕ → List (List ℕ) → Data
 class_data conflicts mark packages members clauses =

@@ -1,7 +1,8 @@
 //! Reading the lines of a kernel text.
-ghost use Rattle.std.specs.Prelude.{◌≡◌, ℕ, ◌≤◌, IfOk, IfErr, length};
+ghost use Rattle.std.specs.Prelude.{◌≡◌, ℕ, ◌≤◌, IfOk, IfErr, OnOk, length};
 ghost use Rattle.kernel_text.specs.KernelFaults.{IsFault};
-ghost use Rattle.kernel_text.specs.Reader.{HoldsAll, HoldsKernel};
+ghost use Rattle.kernel_text.specs.Reader.{Holds, HoldsAll, HoldsKernel};
+ghost use Rattle.kernel_text.specs.Reading.{empty_reading};
 ghost use Rattle.repo_model.specs.Limits.{most_bytes};
 
 use crate::check_range::is_in_range;
@@ -17,7 +18,49 @@ pub(crate) fn read_text(alloc: Global, bytes: &[u8]) -> Result<Reader, KernelFau
     ensures read { IfOk result (HoldsKernel bytes.now) }
     ensures refused { IfErr result (IsFault bytes.now) }
 {
-    let reader = read_lines(alloc, bytes)?;
+    let mut reader = Reader::new(alloc);
+    fill(alloc, bytes, &mut reader)?;
+    Ok(reader)
+}
+
+// Takes all lines into a reader that has none, or finds the first fault.
+fn fill(alloc: Global, bytes: &[u8], reader: &mut Reader) -> Result<(), KernelFault>
+    requires size { length bytes.now ≤ most_bytes }
+    requires none { Holds reader.old empty_reading }
+    ensures read { OnOk result (HoldsKernel bytes.now reader.new) }
+    ensures refused { IfErr result (IsFault bytes.now) }
+{
+    add_lines(alloc, bytes, reader)?;
+    judge(alloc, bytes, reader)
+}
+
+// Takes all lines into a reader that has none, or finds the first that is not allowed behind those before it.
+fn add_lines(alloc: Global, bytes: &[u8], reader: &mut Reader) -> Result<(), KernelFault>
+    requires size { length bytes.now ≤ most_bytes }
+    requires none { Holds reader.old empty_reading }
+    ensures read { OnOk result (HoldsAll bytes.now reader.new) }
+    ensures refused { IfErr result (IsFault bytes.now) }
+{
+    let mut place = 0;
+    let mut line = 0u64;
+    while place < bytes.len() {
+        let end = line_end(bytes, place);
+        line += 1;
+        if !reader.add(alloc, &bytes[place..end])? {
+            return Err(KernelFault::Line { line });
+        }
+        place = end;
+    }
+    Ok(())
+}
+
+// The fault of a text whose lines are all allowed, where it has one.
+fn judge(alloc: Global, bytes: &[u8], reader: &Reader) -> Result<(), KernelFault>
+    requires size { length bytes.now ≤ most_bytes }
+    requires read { HoldsAll bytes.now reader.now }
+    ensures read { OnOk result (HoldsKernel bytes.now reader.now) }
+    ensures refused { IfErr result (IsFault bytes.now) }
+{
     if !reader.is_ended() {
         return Err(KernelFault::End);
     }
@@ -31,25 +74,5 @@ pub(crate) fn read_text(alloc: Global, bytes: &[u8]) -> Result<Reader, KernelFau
         };
         return Err(KernelFault::Range { line });
     }
-    Ok(reader)
-}
-
-// Takes all lines, or finds the first that is not allowed behind those before it.
-fn read_lines(alloc: Global, bytes: &[u8]) -> Result<Reader, KernelFault>
-    requires { length bytes.now ≤ most_bytes }
-    ensures read { IfOk result (HoldsAll bytes.now) }
-    ensures refused { IfErr result (IsFault bytes.now) }
-{
-    let mut reader = Reader::new(alloc);
-    let mut place = 0;
-    let mut line = 0u64;
-    while place < bytes.len() {
-        let end = line_end(bytes, place);
-        line += 1;
-        if !reader.add(alloc, &bytes[place..end])? {
-            return Err(KernelFault::Line { line });
-        }
-        place = end;
-    }
-    Ok(reader)
+    Ok(())
 }

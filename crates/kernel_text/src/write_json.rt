@@ -1,5 +1,5 @@
 //! Writing a kernel as JSON.
-ghost use Rattle.std.specs.Prelude.{◌≡◌, ◌++◌, ◌<◌, ℕ, ltb, codes, IfOk, filter, length};
+ghost use Rattle.std.specs.Prelude.{◌≡◌, ◌++◌, ◌<◌, ℕ, ltb, codes, IfOk, OnOk, [], filter, length, map};
 ghost use Rattle.std.specs.Str.{IsAscii};
 ghost use Rattle.clause_pool.specs.Interned.{clauses_at, OfPool};
 ghost use Rattle.relation_fields.specs.declared.packages.PackageFacts.{PackageFacts};
@@ -7,10 +7,10 @@ ghost use Rattle.repo_model.specs.Facts.{AreNamedPackages};
 ghost use Rattle.repo_model.specs.Stanzas.{stanza_at};
 ghost use Rattle.row_book.specs.Book.{repository_of, Sound};
 ghost use Rattle.listed.specs.Lists.{In};
-ghost use Rattle.serde_json.specs.Data.{string};
-ghost use Rattle.serde_json.specs.View.{view};
+ghost use Rattle.serde_json.specs.Data.{string, put as with_member};
+ghost use Rattle.serde_json.specs.View.{view, members_view};
 ghost use Rattle.serde_json.specs.Written.{compact_text};
-ghost use Rattle.kernel_text.specs.JsonData.{clauses_data, data_of_class, kernel_data, mark_of_class, numbers_data, package_data, packages_data};
+ghost use Rattle.kernel_text.specs.JsonData.{clauses_data, data_of_class, kernel_data, mark_of_class, number_data, numbers_data, package_data, packages_data, with_told};
 ghost use Rattle.kernel_text.specs.KernelJson.{kernel_json};
 ghost use Rattle.kernel_text.specs.KernelText.{format_of};
 ghost use Rattle.kernel_text.specs.Members.{kernel_members};
@@ -23,7 +23,7 @@ use kernel_rounds::Kernel;
 use relation_fields::PackageFacts;
 use repo_model::Suite;
 use row_book::Book;
-use serde_json::{Value, json};
+use serde_json::{Map, Value, json, put};
 use std::alloc::{AllocError, Global};
 
 /// The JSON of a kernel of the suite's book, in which each package of the suite is a member of its class, in file order. It
@@ -135,15 +135,76 @@ fn class_value(
     requires sound { Sound pool.now book.now }
     ensures { IfOk result (λ value. view value ≡ data_of_class (repository_of pool.now book.now) packages.now by_class.now mark number) }
 {
-    let against = against_value(alloc, number, book.against(number))?;
-    let members = members_value(alloc, packages, by_class[number as usize].as_slice())?;
-    let needs = needs_value(alloc, pool, pool.row(book.row(number)))?;
+    let mut class = Map::new(alloc);
+    put_against(&mut class, alloc, number, book.against(number))?;
+    put_mark(&mut class, alloc, mark)?;
+    put_members(
+        &mut class,
+        alloc,
+        packages,
+        by_class[number as usize].as_slice(),
+    )?;
+    put_needs(&mut class, alloc, pool, pool.row(book.row(number)))?;
+    Ok(Value::Object(class))
+}
+
+// Puts the conflicts with greater classes into an object.
+fn put_against(
+    class: &mut Map<String, Value>,
+    alloc: Global,
+    number: u32,
+    conflicts: &[u32],
+) -> Result<(), AllocError>
+    ensures { OnOk result (members_view class.new.entries
+        ≡ with_member (codes "against") (numbers_data (filter (λ m. ltb number m) conflicts.now)) (members_view class.old.entries)) }
+{
+    let against = against_value(alloc, number, conflicts)?;
+    put(class, alloc, "against", against)
+}
+
+// Puts whether the class is held into an object, where that is told.
+fn put_mark(
+    class: &mut Map<String, Value>,
+    alloc: Global,
+    mark: Option<bool>,
+) -> Result<(), AllocError>
+    ensures { OnOk result (members_view class.new.entries ≡ with_told mark (members_view class.old.entries)) }
+{
     match mark {
-        Some(held) => {
-            json!(in alloc; {"against": against, "held": held, "members": members, "needs": needs})
-        }
-        None => json!(in alloc; {"against": against, "members": members, "needs": needs}),
+        Some(held) => put(class, alloc, "held", Value::from(held)),
+        None => Ok(()),
     }
+}
+
+// Puts the packages with these numbers into an object.
+fn put_members(
+    class: &mut Map<String, Value>,
+    alloc: Global,
+    packages: &[PackageFacts],
+    members: &[u32],
+) -> Result<(), AllocError>
+    requires members { (i : ℕ) → In i members.now → i < length packages.now }
+    requires named { AreNamedPackages packages.now }
+    ensures { OnOk result (members_view class.new.entries
+        ≡ with_member (codes "members") (packages_data packages.now members.now) (members_view class.old.entries)) }
+{
+    let members = members_value(alloc, packages, members)?;
+    put(class, alloc, "members", members)
+}
+
+// Puts the clauses with these ids into an object.
+fn put_needs(
+    class: &mut Map<String, Value>,
+    alloc: Global,
+    pool: &Pool,
+    ids: &[ClauseId],
+) -> Result<(), AllocError>
+    requires { OfPool pool.now ids.now }
+    ensures { OnOk result (members_view class.new.entries
+        ≡ with_member (codes "needs") (clauses_data (clauses_at pool.now ids.now)) (members_view class.old.entries)) }
+{
+    let needs = needs_value(alloc, pool, ids)?;
+    put(class, alloc, "needs", needs)
 }
 
 // The conflicts with greater classes.
@@ -151,12 +212,21 @@ fn against_value(alloc: Global, number: u32, conflicts: &[u32]) -> Result<Value,
     ensures { IfOk result (λ value. view value ≡ numbers_data (filter (λ m. ltb number m) conflicts.now)) }
 {
     let mut items = Vec::new(alloc);
+    push_greater(&mut items, number, conflicts)?;
+    Ok(Value::Array(items))
+}
+
+// Pushes the numbers that are greater than one onto an empty list.
+fn push_greater(items: &mut Vec<Value>, number: u32, conflicts: &[u32]) -> Result<(), AllocError>
+    requires { items.old.items ≡ [] }
+    ensures { OnOk result (map view items.new.items ≡ map number_data (filter (λ m. ltb number m) conflicts.now)) }
+{
     for class in conflicts {
         if number < *class {
             items.push(Value::from(*class))?;
         }
     }
-    Ok(Value::Array(items))
+    Ok(())
 }
 
 // The packages with these numbers.
@@ -170,10 +240,26 @@ fn members_value(
     ensures { IfOk result (λ value. view value ≡ packages_data packages.now members.now) }
 {
     let mut items = Vec::new(alloc);
+    push_packages(&mut items, alloc, packages, members)?;
+    Ok(Value::Array(items))
+}
+
+// Pushes the packages with these numbers onto an empty list.
+fn push_packages(
+    items: &mut Vec<Value>,
+    alloc: Global,
+    packages: &[PackageFacts],
+    members: &[u32],
+) -> Result<(), AllocError>
+    requires none { items.old.items ≡ [] }
+    requires members { (i : ℕ) → In i members.now → i < length packages.now }
+    requires named { AreNamedPackages packages.now }
+    ensures { OnOk result (map view items.new.items ≡ map (λ i. package_data (stanza_at packages.now i)) members.now) }
+{
     for member in members {
         items.push(package_value(alloc, &packages[*member as usize])?)?;
     }
-    Ok(Value::Array(items))
+    Ok(())
 }
 
 // The name and the version of a package.
@@ -202,10 +288,25 @@ fn needs_value(alloc: Global, pool: &Pool, ids: &[ClauseId]) -> Result<Value, Al
     ensures { IfOk result (λ value. view value ≡ clauses_data (clauses_at pool.now ids.now)) }
 {
     let mut items = Vec::new(alloc);
+    push_clauses(&mut items, alloc, pool, ids)?;
+    Ok(Value::Array(items))
+}
+
+// Pushes the clauses with these ids onto an empty list.
+fn push_clauses(
+    items: &mut Vec<Value>,
+    alloc: Global,
+    pool: &Pool,
+    ids: &[ClauseId],
+) -> Result<(), AllocError>
+    requires none { items.old.items ≡ [] }
+    requires ids { OfPool pool.now ids.now }
+    ensures { OnOk result (map view items.new.items ≡ map numbers_data (clauses_at pool.now ids.now)) }
+{
     for id in ids {
         items.push(numbers_value(alloc, pool.slice(*id))?)?;
     }
-    Ok(Value::Array(items))
+    Ok(())
 }
 
 // The numbers of a clause.
@@ -213,8 +314,17 @@ fn numbers_value(alloc: Global, numbers: &[u32]) -> Result<Value, AllocError>
     ensures { IfOk result (λ value. view value ≡ numbers_data numbers.now) }
 {
     let mut items = Vec::new(alloc);
+    push_numbers(&mut items, numbers)?;
+    Ok(Value::Array(items))
+}
+
+// Pushes numbers onto an empty list.
+fn push_numbers(items: &mut Vec<Value>, numbers: &[u32]) -> Result<(), AllocError>
+    requires { items.old.items ≡ [] }
+    ensures { OnOk result (map view items.new.items ≡ map number_data numbers.now) }
+{
     for number in numbers {
         items.push(Value::from(*number))?;
     }
-    Ok(Value::Array(items))
+    Ok(())
 }

@@ -1,19 +1,5 @@
-use Rattle.std.proofs.Common.{◌∙◌, ap, map, sym, subst, take}
-use Rattle.std.proofs.lemmas.List.{take_all}
-use Rattle.clause_pool.specs.Interned.{clauses_at}
-use Rattle.listed.specs.Lists.{In}
-use Rattle.repo_model.proofs.Elements.{at_place}
-use Rattle.kernel_text.specs.JsonData.{list_data, numbers_data}
 use Rattle.kernel_text.proofs.JsonTexts.{array_is}
 use Rattle.kernel_text.proofs.write_json.needs_value.Goals as goal
 
--- each id of the row is of the pool
-pub slice-requires : goal.slice-requires
-slice-requires c =
-    c.requires c.id-item.result
-    (subst (λ id. In id c.args.ids.now) (sym c.id-item.is) (at_place c.args.ids.now c.loop-id.id-index c.id-item.result c.loop-id-test.true))
-
 pub returns : goal.returns
-returns c =
-    array_is c.loop-id.items (map numbers_data (clauses_at c.args.pool.now (take c.loop-id.id-index c.args.ids.now))) c.loop-id.invariant
-    ∙ ap (λ ids. list_data (map numbers_data (clauses_at c.args.pool.now ids))) (take_all c.loop-id.id-index c.args.ids.now c.loop-id-test.false)
+returns c = array_is c.push_clauses.new.items _ c.in_ok-push_clauses.ensures

@@ -1,7 +1,10 @@
 use Rattle.std.proofs.Common.{◌-◌, refl, subst, take, drop}
 use Rattle.kernel_text.specs.Reader.{Adds}
-use Rattle.kernel_text.proofs.Steps.{line_taken, line_refused, all_taken}
-use Rattle.kernel_text.proofs.read.read_lines.Goals as goal
+use Rattle.kernel_text.proofs.Steps.{all_taken, line_refused, line_taken, no_line_taken}
+use Rattle.kernel_text.proofs.read.add_lines.Goals as goal
+
+pub loop-place-init : goal.loop-place-init
+loop-place-init c = no_line_taken c.args.bytes.now c.args.reader.now c.requires.none
 
 pub add-requires : goal.add-requires
 add-requires c = (c.loop-place.invariant.reading, c.loop-place.invariant.holds)

@@ -1,6 +1,6 @@
 use Rattle.std.proofs.Common.{length, ◌-◌}
 use Rattle.kernel_text.specs.Reader.{HoldsUpTo}
-use Rattle.kernel_text.proofs.read.read_lines.Given as goal
+use Rattle.kernel_text.proofs.read.add_lines.Given as goal
 
 abbrev pub invariant-loop-place : goal.invariant-loop-place
 invariant-loop-place l = HoldsUpTo l.bytes l.place l.line l.reader

@@ -51,7 +51,7 @@ impl FamilyTree {
         ensures { IfOk result (λ tree. TreeOf tree family.now) }
     {
         let mut tree = FamilyTree {
-            nodes: Vec::new(alloc),
+            nodes: Vec::with_capacity(alloc, numbers_of(family))?,
             holds_empty: false,
             shortest: usize::MAX,
         };
@@ -74,7 +74,7 @@ impl FamilyTree {
         ensures { IfOk result (λ tree. TreeOf tree (apart_from number (clauses_at pool.now row.now))) }
     {
         let mut tree = FamilyTree {
-            nodes: Vec::new(alloc),
+            nodes: Vec::with_capacity(alloc, numbers_in(pool, row))?,
             holds_empty: false,
             shortest: usize::MAX,
         };
@@ -113,6 +113,27 @@ impl FamilyTree {
         }
         has_within(self.nodes.as_slice(), 0, clause, clause.len())
     }
+}
+
+/// How many numbers the clauses have together: a tree has no more nodes. With room for all at once no node is copied as a
+/// large tree grows, and room that is not used is never touched.
+fn numbers_of(family: &[Clause]) -> usize {
+    let mut count: usize = 0;
+    for clause in family {
+        count = count.saturating_add(clause.as_slice().len());
+    }
+    count
+}
+
+/// The same for the clauses of a row.
+fn numbers_in(pool: &Pool, row: &[ClauseId]) -> usize
+    requires { OfPool pool.now row.now }
+{
+    let mut count: usize = 0;
+    for id in row {
+        count = count.saturating_add(pool.slice(*id).len());
+    }
+    count
 }
 
 /// The lesser number.

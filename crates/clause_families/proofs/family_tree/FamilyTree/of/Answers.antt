@@ -6,7 +6,7 @@ use Rattle.clause_families.proofs.family_tree.FamilyTree.of.Goals as goal
 
 pub loop-place-init : goal.loop-place-init
 loop-place-init c =
-    built_none _ (drop (length c.args.family.now) c.args.family.now) (drop_all (length c.args.family.now) c.args.family.now (omega arith)) c.new.ensures.items refl
+    built_none _ (drop (length c.args.family.now) c.args.family.now) (drop_all (length c.args.family.now) c.args.family.now (omega arith)) c.in_ok-with_capacity.ensures.items refl
 
 pub loop-place-preserved : goal.loop-place-preserved
 loop-place-preserved c =

@@ -13,13 +13,13 @@ pub loop-place-init : goal.loop-place-init
 loop-place-init c =
     let cs : List (List ℕ) = clauses_at c.args.pool.now c.args.row.now in
     let size : length cs ≡ length c.args.row.now = clauses_length c.args.pool.now c.args.row.now in
-    built_none _ (apart_from c.args.number (drop (length c.args.row.now) cs)) (ap (apart_from c.args.number) (drop_all (length c.args.row.now) cs (omega arith))) c.new.ensures.items refl
+    built_none _ (apart_from c.args.number (drop (length c.args.row.now) cs)) (ap (apart_from c.args.number) (drop_all (length c.args.row.now) cs (omega arith))) c.in_ok-with_capacity.ensures.items refl
 
 pub slice-clause-requires : goal.slice-clause-requires
 slice-clause-requires c = c.requires.row c.index-row-place.result (item_in c.args.row.now (c.loop-place.place - 1) c.index-row-place.result (omega arith) c.index-row-place.is)
 
-pub loop-place-preserved-in-Continue-1 : goal.loop-place-preserved-in-Continue-1
-loop-place-preserved-in-Continue-1 c =
+pub loop-place-preserved-in_ok-put : goal.loop-place-preserved-in_ok-put
+loop-place-preserved-in_ok-put c =
     let cs : List (List ℕ) = clauses_at c.args.pool.now c.args.row.now in
     let i : ℕ = c.loop-place.place - 1 in
     let at : At cs i c.slice-clause.result.now =

@@ -1,0 +1,78 @@
+//! Some packages of a book.
+ghost use Rattle.std.specs.Prelude.{◌≡◌, ◌<◌, ◌+◌, ℕ, cond, length, map, IfOk, OnOk};
+ghost use Rattle.listed.specs.Lists.{In};
+ghost use Rattle.row_book.specs.Numbers.{numbers};
+ghost use Rattle.suite_part.specs.Parts.{chosen_in, place_in};
+
+use std::alloc::{AllocError, Global};
+
+/// Some packages of a book: for each whether it is one of them, and its number among them.
+#[derive(Drop)]
+pub struct Chosen {
+    /// For each package whether it is chosen.
+    pub flags: Vec<bool>,
+    // How many chosen ones come before each package.
+    places: Vec<u32>,
+    ghost numbered: { places.items ≡ map (place_in flags.items) (numbers (length flags.items) 0) },
+}
+
+impl Chosen {
+    /// The packages whose flags are up; 4,294,967,296 of them or more count as want of memory.
+    pub fn of(alloc: Global, flags: Vec<bool>) -> Result<Chosen, AllocError>
+        ensures { IfOk result (λ made. made.flags.items ≡ flags.items) }
+    {
+        let places = places_in(alloc, &flags)?;
+        Ok(Chosen { flags, places })
+    }
+
+    /// Those of some packages that are chosen, by their numbers among the chosen ones.
+    pub fn among(&self, alloc: Global, numbers: &[u32]) -> Result<Vec<u32>, AllocError>
+        requires { (n : ℕ) → In n numbers.now → n < length self.now.flags.items }
+        ensures { IfOk result (λ made. made.items ≡ chosen_in self.now.flags.items numbers.now) }
+    {
+        let mut made = Vec::new(alloc);
+        self.put_among(&mut made, numbers)?;
+        Ok(made)
+    }
+
+    /// Puts these into the list, in the place of what it had.
+    pub fn put_among(&self, made: &mut Vec<u32>, numbers: &[u32]) -> Result<(), AllocError>
+        requires { (n : ℕ) → In n numbers.now → n < length self.now.flags.items }
+        ensures { OnOk result (made.new.items ≡ chosen_in self.now.flags.items numbers.now) }
+    {
+        made.clear();
+        for number in numbers {
+            let place = *number as usize;
+            if self.flags[place] {
+                made.push(self.places[place])?;
+            }
+        }
+        Ok(())
+    }
+}
+
+// For each flag how many before it are up.
+fn places_in(alloc: Global, flags: &[bool]) -> Result<Vec<u32>, AllocError>
+    ensures { IfOk result (λ places. places.items ≡ map (place_in flags.now) (numbers (length flags.now) 0)) }
+{
+    let mut places = Vec::with_capacity(alloc, flags.len())?;
+    let mut count: u32 = 0;
+    for flag in flags {
+        places.push(count)?;
+        count = counted(count, *flag)?;
+    }
+    Ok(places)
+}
+
+// The count with one more, if the flag is up.
+fn counted(count: u32, is_up: bool) -> Result<u32, AllocError>
+    ensures { IfOk result (λ more. more ≡ count + cond is_up 1 0) }
+{
+    if !is_up {
+        return Ok(count);
+    }
+    if count == u32::MAX {
+        return Err(AllocError);
+    }
+    Ok(count + 1)
+}

@@ -1,0 +1,15 @@
+//! Parts of suites: the repository that some packages of a suite make, from that of all of them. The functions of `laws` do nothing, the
+//! contract of each is one law.
+#![tactic(auto)]
+
+mod chosen;
+mod laws;
+mod part;
+mod rows;
+
+// Some packages of a book, and the book that they make.
+pub use chosen::Chosen;
+pub use part::part_of;
+
+// Laws.
+pub use laws::{names_are_part, part_is_exact};

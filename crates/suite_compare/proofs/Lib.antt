@@ -5,6 +5,7 @@ pub mod Viewed
 pub mod Gathering
 pub mod Answered
 pub mod Named
+pub mod Bearing
 pub mod Groups
 pub mod Numbered
 pub mod Chosen

@@ -1,5 +1,5 @@
 -- The repository of an index and its kernel: both are sound, and the classes of packages are classes of the kernel.
-use Rattle.std.proofs.Common.{true, ◌≡◌, ℕ, ◌<◌, Bool, List, length, refl, arith}
+use Rattle.std.proofs.Common.{◌≡◌, ℕ, ◌<◌, Bool, List, length, refl, arith}
 use Rattle.row_book.{specs.Flattening.{packages}, specs.Repository.{Repository}, specs.Rounds.{kernel, kernel_class, kernel_image, round_count}, specs.Sound.{SoundRepository}, proofs.Numbers.{numbers_from, numbers_parts, numbers_ascending}}
 use Rattle.listed.{specs.Lists.{In, has, Ascending}, proofs.Lists.{In_has, has_In, filter_cases, filter_from}, proofs.Orders.{ascending_filter}}
 use Rattle.kernel_rounds.{specs.Laws.{HasImage}, proofs.Classes.{class_within}, proofs.Reached.{image_is_of_classes_lem}}

@@ -2,29 +2,28 @@
 use Rattle.std.specs.Prelude.{◌≡◌, ℕ, ◌<◌, Bool, List, [], ◌∷◌, ◌++◌, filter, length, map, slice_index_or}
 use Rattle.std.specs.List.{flat_map}
 use Rattle.row_book.specs.Book.{listed_for}
+use Rattle.row_book.specs.Repository.{Repository}
 use Rattle.clause_solver.specs.Outcomes.{IsBudget}
 use Rattle.clause_solver.specs.declared.outcomes.Verdict.{Verdict}
+use Rattle.relation_fields.specs.declared.packages.Home.{Home}
 use Rattle.relation_fields.specs.declared.packages.PackageFacts.{PackageFacts}
 use Rattle.repo_model.specs.Goals.{any_version, names_in}
-use Rattle.repo_model.specs.declared.suite.Suite.{Suite}
 use Rattle.suite_compare.specs.Asking.{verdict_in}
 use Rattle.suite_compare.specs.Bad.{AreSingles}
 use Rattle.suite_compare.specs.Groups.{AreEach}
-use Rattle.suite_compare.specs.Kinds.{alone_in, together_in, IsJudge}
-use Rattle.suite_compare.specs.Names.{names_of_both, stands_in}
+use Rattle.suite_compare.specs.Kinds.{alone_in, kernel_in, together_in, AreKinds, IsJudge}
+use Rattle.suite_compare.specs.Names.{names_of_both}
 use Rattle.suite_compare.specs.Partners.{new_kind, old_kind, ArePartners}
 use Rattle.suite_compare.specs.Report.{finding, is_yes, pair_line, single_line, with_later}
 use Rattle.suite_compare.specs.Telling.{no_partners}
 use Rattle.suite_compare.specs.declared.sides.NewSide.{NewSide}
 use Rattle.suite_compare.specs.declared.sides.OldSide.{OldSide}
-use Rattle.suite_compare.specs.declared.sides.Part.{Part}
 use Rattle.suite_compare.specs.declared.sides.Side.{Side}
 use Rattle.suite_compare.specs.declared.gather.JointTable.{JointTable}
 use Rattle.suite_compare.specs.declared.gather.Partners.{Partners}
 use Rattle.suite_compare.specs.declared.report.ReportLine.{ReportLine}
 use Rattle.suite_compare.specs.declared.verdicts.Bad.{Bad}
 use Rattle.suite_compare.specs.declared.verdicts.Judge.{Judge}
-use Rattle.suite_compare.specs.declared.view.SuiteView.{SuiteView}
 
 -- a judge and the verdict on each of its kinds by itself, and for each of n names one of these kinds
 pub record IsSide (n : ℕ) (side : Side) (of : List ℕ) : Type 0 where
@@ -60,26 +59,38 @@ abbrev pub told_report : (List (List ℕ) → Verdict) → (List (List ℕ) → 
 told_report old new names = told_singles old new names ++ told_pairs old new names
 
 -- the verdicts on names in a suite, as they are asked of its packages
-abbrev pub named_verdict : ℕ → Bool → Suite → ℕ → List (List ℕ) → Verdict
-named_verdict limit hold suite budget names = verdict_in limit hold suite.home suite.packages budget (map any_version names)
+abbrev pub named_verdict : ℕ → Bool → Home → List PackageFacts → ℕ → List (List ℕ) → Verdict
+named_verdict limit hold home stanzas budget names = verdict_in limit hold home stanzas budget (map any_version names)
 
--- those of the names that a package has, in their order, each with its kind
-pub record IsPart (packages : List PackageFacts) (names : List (List ℕ)) (of : List ℕ) (part : Part) : Type 0 where
-  pub names_are : part.names.items ≡ filter (stands_in packages) names
-  pub long : length part.of.items ≡ length part.names.items
-  pub each : (j : ℕ) → j < length part.names.items → (i : ℕ) × (i < length names) × (listed_for part.names.items j ≡ listed_for names i) × (slice_index_or part.of.items j 0 ≡ slice_index_or of i 0)
+-- a side of these lists of classes, asked of this kernel within this budget
+pub record IsSideBy (K : Repository) (budget : ℕ) (lists : List (List ℕ)) (side : Side) : Type 0 where
+  pub side_is : IsSide (length lists) side side.of.items
+  pub asked : kernel_in side.judge ≡ K
+  pub spends : side.judge.budget ≡ budget
+  pub kinds : AreKinds lists side.judge.kinds.items side.of.items
+
+-- the verdicts on names in the suite of an old side, within its budget
+abbrev pub old_verdict : OldSide → List (List ℕ) → Verdict
+old_verdict old = named_verdict old.view.now.limit old.view.now.kernel.hold old.view.now.suite.home old.view.now.suite.packages old.budget
+
+-- the verdicts on names in another suite, of which a kernel was made as that of the old side
+abbrev pub new_verdict : OldSide → Home → List PackageFacts → List (List ℕ) → Verdict
+new_verdict old home stanzas = named_verdict old.view.now.limit old.view.now.kernel.hold home stanzas old.budget
 
 -- the names of its view and the side of them, for searches within its budget
 pub record IsOldSide (old : OldSide) : Type 0 where
   pub names_are : old.names ≡ names_in old.view.now.suite.packages
   pub side_is : IsSide (length old.names) old.side old.side.of.items
-  pub was : AreVerdicts old.side old.side.of.items old.names (named_verdict old.view.now.limit old.view.now.kernel.hold old.view.now.suite old.budget)
+  pub was : AreVerdicts old.side old.side.of.items old.names (old_verdict old)
   pub allowed : IsBudget old.budget
 
--- the names that both views have, with their kinds in the old one, and the side that the new one is of them
-pub record IsNewSide (old : OldSide) (new : SuiteView) (made : NewSide) : Type 0 where
-  pub names_are : made.part.names.items ≡ names_of_both old.view.now.suite.packages new.suite.packages
+-- some names of an old side with their kinds in it, and another side of them
+pub record AreSides (old : OldSide) (made : NewSide) : Type 0 where
   pub old_is : IsSide (length made.part.names.items) old.side made.part.of.items
   pub new_is : IsSide (length made.part.names.items) made.side made.side.of.items
-  pub was : AreVerdicts old.side made.part.of.items made.part.names.items (named_verdict old.view.now.limit old.view.now.kernel.hold old.view.now.suite old.budget)
-  pub is : AreVerdicts made.side made.side.of.items made.part.names.items (named_verdict old.view.now.limit old.view.now.kernel.hold new.suite old.budget)
+  pub was : AreVerdicts old.side made.part.of.items made.part.names.items (old_verdict old)
+
+-- the names are those that other packages bear too, and the other side is that of these packages
+pub record IsNewSide (old : OldSide) (home : Home) (stanzas : List PackageFacts) (made : NewSide) : Type 0 where
+  pub names_are : made.part.names.items ≡ names_of_both old.view.now.suite.packages stanzas
+  pub is : AreVerdicts made.side made.side.of.items made.part.names.items (new_verdict old home stanzas)

@@ -13,4 +13,5 @@ pub mod Suspects
 pub mod Bad
 pub mod Partners
 pub mod Telling
+pub mod Bearers
 pub mod Comparing

@@ -4,6 +4,7 @@ ghost use Rattle.listed.specs.Lists.{Ascending, In};
 ghost use Rattle.repo_model.specs.Repository.{suite_repository};
 ghost use Rattle.suite_compare.specs.Asking.{goal_classes, images_of, wanted_by};
 ghost use Rattle.suite_compare.specs.Answering.{unknown_goal, OnUnknown};
+ghost use Rattle.suite_compare.specs.Bearers.{AreClasses};
 
 use crate::answers::DecideError;
 use crate::view::SuiteView;
@@ -47,7 +48,20 @@ pub fn image_of(alloc: Global, view: &SuiteView, chosen: &[u32]) -> Result<Vec<u
     requires { (n : ℕ) → In n chosen.now → n < length view.now.suite.packages }
     ensures { IfOk result (λ image. image.items ≡ goal_classes view.now.limit view.now.kernel.hold (suite_repository view.now.suite.home view.now.suite.packages) chosen.now) }
 {
-    let mut classes = each_class(alloc, view.kernel.class_of.as_slice(), chosen)?;
+    let classes = classes_by(alloc, view.kernel.class_of.as_slice(), chosen)?;
+    Ok(classes)
+}
+
+/// The classes of some packages, ascending, by the class of each package.
+pub(crate) fn classes_by(
+    alloc: Global,
+    class_of: &[u32],
+    chosen: &[u32],
+) -> Result<Vec<u32>, AllocError>
+    requires { (n : ℕ) → In n chosen.now → n < length class_of.now }
+    ensures { IfOk result (λ image. AreClasses class_of.now chosen.now image.items) }
+{
+    let mut classes = each_class(alloc, class_of, chosen)?;
     sort_once(&mut classes);
     Ok(classes)
 }

@@ -4,23 +4,30 @@
 //! the number of failed leaves may depend on it.
 ghost use Rattle.std.specs.Prelude.{◌≡◌, ◌<◌, ◌++◌, [], ℕ, List, IfOk, OnOk, length, slice_index_or};
 ghost use Rattle.listed.specs.Lists.{In};
+ghost use Rattle.relation_fields.specs.declared.packages.Home.{Home};
+ghost use Rattle.relation_fields.specs.declared.packages.PackageFacts.{PackageFacts};
+ghost use Rattle.repo_model.specs.Repository.{suite_repository};
 ghost use Rattle.clause_solver.specs.Outcomes.{IsBudget};
 ghost use Rattle.clause_solver.specs.declared.outcomes.Verdict.{Verdict};
 ghost use Rattle.suite_compare.specs.Asking.{verdict_in};
 ghost use Rattle.suite_compare.specs.declared.verdicts.Bad.{Bad};
+ghost use Rattle.suite_compare.specs.Bearers.{bearers_of, FitsKernel};
 ghost use Rattle.suite_compare.specs.Kinds.{IsJudge};
 ghost use Rattle.suite_compare.specs.Names.{names_of_both};
 ghost use Rattle.suite_compare.specs.Comparing.{told_pairs, told_report, told_singles, AreVerdicts, IsOldSide, IsSide, IsTable};
 ghost use Rattle.suite_compare.specs.Partners.{old_kind, IsJointTable};
 ghost use Rattle.suite_compare.specs.Report.{first_told, report};
+ghost use Rattle.suite_compare.specs.Views.{IsKernelOf};
 
 use crate::gather::{JointTable, Partners, joint_table, new_kind, old_kind, partners_of};
 use crate::places::name_at;
 use crate::report::{LineList, Report, ReportLine, copy_of_first, finding_of};
-use crate::sides::{NewSide, OldSide, Side, new_side_of, verdict_of};
+use crate::sides::{NewSide, OldSide, Side, new_side_by, new_side_of, verdict_of};
 use crate::tell::{push_single, tell_pairs};
 use crate::verdicts::{BadList, Judge, bad_lists, bads_at};
 use crate::view::SuiteView;
+use clause_pool::{NumList, Pool};
+use kernel_rounds::Kernel;
 use repo_model::LentName;
 use std::alloc::{AllocError, Global};
 
@@ -187,6 +194,28 @@ pub fn first_line(
         (names_of_both view.suite.packages new.now.suite.packages))) }
 {
     let made = new_side_of(alloc, old, new)?;
+    let first = first_beside(alloc, &old.side, &made);
+    drop(made);
+    first
+}
+
+/// The first line of what `compare` tells of other packages against the suite of an old side, or none, by the kernel of these
+/// packages, and by the packages that bear each name of the old side. The kernel was made at the clause limit of the old view,
+/// and both with hold or both without.
+pub fn first_line_by(
+    alloc: Global,
+    old: &OldSide,
+    pool: &Pool,
+    kernel: &Kernel,
+    named: &[NumList],
+) -> Result<Option<ReportLine>, AllocError>
+    requires side { IsOldSide old.now }
+    requires fits { FitsKernel pool.now kernel.now named.now }
+    requires count { length named.now ≡ length old.now.names }
+    requires hold { kernel.now.hold ≡ old.now.view.now.kernel.hold }
+    ensures { let view = old.now.view.now in (home : Home) (stanzas : List PackageFacts) → IsKernelOf pool.now kernel.now view.limit (suite_repository home stanzas) → named.now ≡ bearers_of stanzas old.now.names → IfOk result (λ first. first ≡ first_told (report (verdict_in view.limit view.kernel.hold view.suite.home view.suite.packages old.now.budget) (verdict_in view.limit view.kernel.hold home stanzas old.now.budget) (names_of_both view.suite.packages stanzas))) }
+{
+    let made = new_side_by(alloc, old, pool, kernel, named)?;
     let first = first_beside(alloc, &old.side, &made);
     drop(made);
     first

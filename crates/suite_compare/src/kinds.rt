@@ -93,7 +93,11 @@ fn lists_at(alloc: Global, lists: &[NumList], places: &[usize]) -> Result<Vec<Nu
 }
 
 /// The numbers at these places.
-fn numbers_at(alloc: Global, list: &[usize], places: &[usize]) -> Result<Vec<usize>, AllocError>
+pub(crate) fn numbers_at(
+    alloc: Global,
+    list: &[usize],
+    places: &[usize],
+) -> Result<Vec<usize>, AllocError>
     requires { (i : ℕ) → i < length places.now → slice_index_or places.now i 0 < length list.now }
     ensures { IfOk result (λ made. made.items ≡ map (λ i. slice_index_or list.now i 0) places.now) }
 {

@@ -3,6 +3,7 @@
 
 mod answers;
 mod ask;
+mod bearers;
 mod choose;
 mod class_set;
 mod comparison;
@@ -11,7 +12,6 @@ mod gather;
 mod install;
 mod kinds;
 mod laws;
-mod names;
 mod places;
 mod refusals;
 mod report;
@@ -32,7 +32,8 @@ pub use ask::image_of;
 pub use decision::decide;
 
 // What a new suite has broken of an old one.
-pub use comparison::{compare, first_line};
+pub use bearers::bearers_of;
+pub use comparison::{compare, first_line, first_line_by};
 pub use report::{Finding, LineList, Report, ReportLine};
 pub use sides::OldSide;
 

@@ -1,19 +1,29 @@
 //! The two sides of a comparison: what is known of both suites before any two names are asked together.
-ghost use Rattle.std.specs.Prelude.{◌≡◌, ◌<◌, ℕ, List, true, IfOk, length, slice_index_or};
+ghost use Rattle.std.specs.Prelude.{◌≡◌, ◌<◌, ℕ, List, true, IfOk, length, map, slice_index_or};
 ghost use Rattle.listed.specs.Lists.{In};
+ghost use Rattle.row_book.specs.Book.{listed_for, repository_of, Sound};
+ghost use Rattle.row_book.specs.Needs.{AreNeeds, NeedsFit};
+ghost use Rattle.relation_fields.specs.declared.packages.Home.{Home};
+ghost use Rattle.relation_fields.specs.declared.packages.PackageFacts.{PackageFacts};
+ghost use Rattle.repo_model.specs.Repository.{suite_repository};
 ghost use Rattle.clause_solver.specs.Outcomes.{IsBudget};
 ghost use Rattle.suite_compare.specs.Bad.{AreSingles};
+ghost use Rattle.suite_compare.specs.Bearers.{bearers_of, filled_places, FitsKernel};
 ghost use Rattle.suite_compare.specs.Kinds.{alone_in};
-ghost use Rattle.suite_compare.specs.Comparing.{named_verdict, AreVerdicts, IsNewSide, IsOldSide, IsPart, IsSide};
+ghost use Rattle.suite_compare.specs.Comparing.{named_verdict, AreSides, AreVerdicts, IsNewSide, IsOldSide, IsSide, IsSideBy};
 ghost use Rattle.suite_compare.specs.Names.{stands_in};
+ghost use Rattle.suite_compare.specs.Views.{IsKernelOf};
 
-use crate::kinds::kinds_of;
-use crate::names::classes_of_names;
-use crate::places::{name_at, place_at, verdict_at};
+use crate::bearers::{bearers_of, classes_of_each, filled_places, names_at};
+use crate::kinds::{kinds_of, numbers_at};
+use crate::places::{place_at, verdict_at};
 use crate::verdicts::{Judge, verdicts_alone};
 use crate::view::SuiteView;
+use clause_pool::{NumList, Pool};
 use clause_solver::{Solver, Verdict};
-use repo_model::{LentName, LentNames, Suite};
+use kernel_rounds::Kernel;
+use repo_model::{LentName, LentNames};
+use row_book::Book;
 use std::alloc::{AllocError, Global};
 
 /// One suite of a comparison: its judge, the kind of each name, and the verdict on each kind by itself.
@@ -69,24 +79,25 @@ pub(crate) fn verdict_of(side: &Side, of: &[usize], place: usize) -> Verdict
     verdict_at(&side.singles, kind)
 }
 
-/// A suite of a comparison, from names that packages of it have.
-fn side_of<'a>(
+/// A side of a comparison, by the classes of each name.
+fn side_by<'a>(
     alloc: Global,
-    view: &'a SuiteView,
-    names: &[LentName],
+    pool: &'a Pool,
+    book: &'a Book,
+    lists: &[NumList],
     budget: u64,
 ) -> Result<Side<'a>, AllocError>
-    requires names { (name : List ℕ) → In name names.now → stands_in view.now.suite.packages name ≡ true }
+    requires sound { Sound pool.now book.now }
+    requires needs { AreNeeds lists.now }
+    requires fit { NeedsFit (length book.now.rows) lists.now }
     requires budget { IsBudget budget }
-    ensures side { IfOk result (λ side. IsSide (length names.now) side side.of.items) }
-    ensures verdicts { IfOk result (λ side. AreVerdicts side side.of.items names.now (named_verdict view.now.limit view.now.kernel.hold view.now.suite budget)) }
+    ensures { IfOk result (IsSideBy (repository_of pool.now book.now) budget lists.now) }
 {
-    let lists = classes_of_names(alloc, view, names)?;
-    let kinds = kinds_of(alloc, &lists)?;
-    let solver = Solver::new(alloc, &view.pool, &view.kernel.book)?;
+    let kinds = kinds_of(alloc, lists)?;
+    let solver = Solver::new(alloc, pool, book)?;
     let judge = Judge {
-        pool: &view.pool,
-        book: &view.kernel.book,
+        pool,
+        book,
         solver,
         kinds: kinds.lists,
         budget,
@@ -97,6 +108,44 @@ fn side_of<'a>(
         of: kinds.of,
         singles,
     })
+}
+
+/// A side of the names at these places, by a kernel and the packages that bear each name.
+fn side_at<'a>(
+    alloc: Global,
+    pool: &'a Pool,
+    kernel: &'a Kernel,
+    named: &[NumList],
+    places: &[usize],
+    budget: u64,
+) -> Result<Side<'a>, AllocError>
+    requires fits { FitsKernel pool.now kernel.now named.now }
+    requires places { places.now ≡ filled_places named.now }
+    requires budget { IsBudget budget }
+    ensures side { IfOk result (λ side. IsSide (length places.now) side side.of.items) }
+    ensures verdicts { (limit : ℕ) (home : Home) (stanzas : List PackageFacts) (names : List (List ℕ)) → IsKernelOf pool.now kernel.now limit (suite_repository home stanzas) → named.now ≡ bearers_of stanzas names → IfOk result (λ side. AreVerdicts side side.of.items (map (listed_for names) places.now) (named_verdict limit kernel.now.hold home stanzas budget)) }
+{
+    let lists = classes_of_each(alloc, kernel.class_of.as_slice(), named, places)?;
+    let side = side_by(alloc, pool, &kernel.book, &lists, budget)?;
+    Ok(side)
+}
+
+/// The side of a view, by names that packages of its suite have.
+fn side_of<'a>(
+    alloc: Global,
+    view: &'a SuiteView,
+    names: &[LentName],
+    budget: u64,
+) -> Result<Side<'a>, AllocError>
+    requires names { (name : List ℕ) → In name names.now → stands_in view.now.suite.packages name ≡ true }
+    requires budget { IsBudget budget }
+    ensures side { IfOk result (λ side. IsSide (length names.now) side side.of.items) }
+    ensures verdicts { IfOk result (λ side. AreVerdicts side side.of.items names.now (named_verdict view.now.limit view.now.kernel.hold view.now.suite.home view.now.suite.packages budget)) }
+{
+    let named = bearers_of(alloc, &view.suite, names)?;
+    let places = filled_places(alloc, &named)?;
+    let side = side_at(alloc, &view.pool, &view.kernel, &named, &places, budget)?;
+    Ok(side)
 }
 
 impl<'a> OldSide<'a> {
@@ -116,32 +165,47 @@ impl<'a> OldSide<'a> {
             side,
         })
     }
+
+    /// The names of its packages, each once, ascending by bytes.
+    pub fn names(&self) -> &[LentName<'a>]
+        ensures { result.now ≡ self.now.names }
+    {
+        self.names.as_slice()
+    }
 }
 
-/// Those of the names that a package of the suite has, each with its kind.
-fn part_among<'a>(
-    alloc: Global,
-    names: &[LentName<'a>],
-    of: &[usize],
-    suite: &Suite,
-) -> Result<Part<'a>, AllocError>
-    requires { length of.now ≡ length names.now }
-    ensures { IfOk result (IsPart suite.now.packages names.now of.now) }
+/// Those of the names of an old side that are at these places, each with its kind.
+fn part_at<'a>(alloc: Global, old: &OldSide<'a>, places: &[usize]) -> Result<Part<'a>, AllocError>
+    requires count { length old.now.side.of.items ≡ length old.now.names }
+    requires places { (i : ℕ) → i < length places.now → slice_index_or places.now i 0 < length old.now.names }
+    ensures names { IfOk result (λ part. part.names.items ≡ map (listed_for old.now.names) places.now) }
+    ensures kinds { IfOk result (λ part. part.of.items ≡ map (λ place. slice_index_or old.now.side.of.items place 0) places.now) }
 {
-    let mut made = Vec::new(alloc);
-    let mut kinds = Vec::new(alloc);
-    for place in 0..names.len() {
-        let name = name_at(names, place);
-        if !suite.has_name(name) {
-            continue;
-        }
-        made.push(LentName::of(name))?;
-        kinds.push(place_at(of, place))?;
-    }
-    Ok(Part {
-        names: made,
-        of: kinds,
-    })
+    let names = names_at(alloc, old.names.as_slice(), places)?;
+    let of = numbers_at(alloc, &old.side.of, places)?;
+    Ok(Part { names, of })
+}
+
+/// The side of other packages in a comparison with an old view, by their kernel and by the packages that bear each name of the
+/// old side. The kernel was made at the clause limit of the old view, and both with hold or both without.
+pub(crate) fn new_side_by<'o, 'n>(
+    alloc: Global,
+    old: &OldSide<'o>,
+    pool: &'n Pool,
+    kernel: &'n Kernel,
+    named: &[NumList],
+) -> Result<NewSide<'o, 'n>, AllocError>
+    requires side { IsOldSide old.now }
+    requires fits { FitsKernel pool.now kernel.now named.now }
+    requires count { length named.now ≡ length old.now.names }
+    requires hold { kernel.now.hold ≡ old.now.view.now.kernel.hold }
+    ensures sides { IfOk result (AreSides old.now) }
+    ensures names { (home : Home) (stanzas : List PackageFacts) → IsKernelOf pool.now kernel.now old.now.view.now.limit (suite_repository home stanzas) → named.now ≡ bearers_of stanzas old.now.names → IfOk result (IsNewSide old.now home stanzas) }
+{
+    let places = filled_places(alloc, named)?;
+    let part = part_at(alloc, old, &places)?;
+    let side = side_at(alloc, pool, kernel, named, &places, old.budget)?;
+    Ok(NewSide { part, side })
 }
 
 /// The side of a new view in a comparison with an old one. Both views were made at one and the same clause limit, and both with
@@ -154,9 +218,10 @@ pub(crate) fn new_side_of<'o, 'n>(
     requires side { IsOldSide old.now }
     requires limit { new.now.limit ≡ old.now.view.now.limit }
     requires hold { new.now.kernel.hold ≡ old.now.view.now.kernel.hold }
-    ensures { IfOk result (IsNewSide old.now new.now) }
+    ensures sides { IfOk result (AreSides old.now) }
+    ensures names { IfOk result (IsNewSide old.now new.now.suite.home new.now.suite.packages) }
 {
-    let part = part_among(alloc, old.names.as_slice(), &old.side.of, &new.suite)?;
-    let side = side_of(alloc, new, &part.names, old.budget)?;
-    Ok(NewSide { part, side })
+    let named = bearers_of(alloc, &new.suite, old.names())?;
+    let made = new_side_by(alloc, old, &new.pool, &new.kernel, &named)?;
+    Ok(made)
 }

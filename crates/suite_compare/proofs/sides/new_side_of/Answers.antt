@@ -1,26 +1,16 @@
-use Rattle.std.proofs.Common.{◌∙◌, ap, filter, length, sym}
-use Rattle.listed.proofs.Lists.{filter_cases}
-use Rattle.suite_compare.{specs.Names.{stands_in}, proofs.Named.{part_side, part_verdicts}}
+use Rattle.std.{proofs.Common.{◌∙◌, ap, length, subst}}
+use Rattle.repo_model.specs.Repository.{suite_repository}
+use Rattle.suite_compare.{specs.Bearers.{bearers_of}, specs.Views.{IsKernelOf}, proofs.Bearing.{bearers_count, kernel_fits}}
 use Rattle.suite_compare.proofs.sides.new_side_of.Goals as goal
 
-pub part_among-requires : goal.part_among-requires
-part_among-requires c = ap length c.deref.ensures.value ∙ c.requires.side.side_is.long ∙ sym (ap length c.as_slice.ensures)
+pub new_side_by-requires-clause-fits : goal.new_side_by-requires-clause-fits
+new_side_by-requires-clause-fits c = kernel_fits _ _ c.args.new.now.limit c.args.new.now.suite.home c.args.new.now.suite.packages c.names.result.now c.deref.result.now c.args.new.now.of_suite.kernel_is (c.deref.ensures.value ∙ c.in_ok-named.ensures)
 
-pub side_of-requires-clause-names : goal.side_of-requires-clause-names
-side_of-requires-clause-names c = λ name i. (filter_cases (stands_in c.args.new.now.suite.packages) c.as_slice.result.now name (rw (c.deref-2.ensures.value, c.in_ok-part.ensures.names_are) at i)).1
+pub new_side_by-requires-clause-count : goal.new_side_by-requires-clause-count
+new_side_by-requires-clause-count c = bearers_count c.args.new.now.suite.packages c.names.result.now c.deref.result.now (c.deref.ensures.value ∙ c.in_ok-named.ensures) ∙ ap length c.names.ensures
 
-pub side_of-requires-clause-budget : goal.side_of-requires-clause-budget
-side_of-requires-clause-budget c = c.requires.side.allowed
-
-pub returns : goal.returns
-returns c =
-    let old = c.args.old.now in
-    let part = c.in_ok-part.part in
-    let so = rw (c.as_slice.ensures, c.deref.ensures.value) at c.in_ok-part.ensures in
-    record {
-      names_are = so.names_are ∙ ap (filter (stands_in c.args.new.now.suite.packages)) c.requires.side.names_are;
-      old_is = part_side old.names part.names.items old.side.of.items part.of.items old.side so.each so.long c.requires.side.side_is;
-      new_is = rw c.deref-2.ensures.value at c.in_ok-side.ensures.side;
-      was = part_verdicts old.names part.names.items old.side.of.items part.of.items old.side _ so.each c.requires.side.was;
-      is = rw (c.deref-2.ensures.value, c.requires.limit, c.requires.hold) at c.in_ok-side.ensures.verdicts;
-    }
+pub returns-clause-names : goal.returns-clause-names
+returns-clause-names c =
+    let new = c.args.new.now in
+    c.in_ok-made.ensures.names new.suite.home new.suite.packages (subst (λ z. IsKernelOf new.pool new.kernel z (suite_repository new.suite.home new.suite.packages)) c.requires.limit new.of_suite.kernel_is)
+    (c.deref.ensures.value ∙ c.in_ok-named.ensures ∙ ap (bearers_of new.suite.packages) c.names.ensures)

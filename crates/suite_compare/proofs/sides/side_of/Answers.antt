@@ -1,19 +1,25 @@
-use Rattle.std.{proofs.Common.{◌∙◌, ◌<◌, ap, length, refl, sym, subst}, proofs.lemmas.List.{length-map}}
-use Rattle.suite_compare.proofs.Named.{judge_of, verdicts_are}
+use Rattle.std.{proofs.Common.{◌∙◌, ap, length, subst, sym}, proofs.lemmas.List.{length-map}}
+use Rattle.row_book.specs.Book.{listed_for}
+use Rattle.suite_compare.{specs.Bearers.{filled_places}, specs.Comparing.{named_verdict, AreVerdicts, IsSide}, proofs.Bearing.{all_borne, kernel_fits}}
 use Rattle.suite_compare.proofs.sides.side_of.Goals as goal
 
-pub verdicts_alone-requires : goal.verdicts_alone-requires
-verdicts_alone-requires c = judge_of _ _ _ _ _ c.args.names.now _ _ c.args.view.now.of_suite.kernel_is.book.repository (c.deref.ensures.value ∙ c.in_ok-lists.ensures) c.in_ok-kinds.ensures c.args.view.now.of_suite.kernel_is.book.sound c.in_ok-solver.ensures c.requires.names c.requires.budget
+pub side_at-requires-clause-fits : goal.side_at-requires-clause-fits
+side_at-requires-clause-fits c = kernel_fits _ _ c.args.view.now.limit c.args.view.now.suite.home c.args.view.now.suite.packages c.args.names.now c.deref-2.result.now c.args.view.now.of_suite.kernel_is (c.deref-2.ensures.value ∙ c.in_ok-named.ensures)
+
+pub side_at-requires-clause-places : goal.side_at-requires-clause-places
+side_at-requires-clause-places c = c.deref-3.ensures.value ∙ c.in_ok-places.ensures ∙ ap filled_places (c.deref.ensures.value ∙ sym c.deref-2.ensures.value)
 
 pub returns-clause-side : goal.returns-clause-side
 returns-clause-side c =
-    let long = ap length (c.deref.ensures.value ∙ c.in_ok-lists.ensures) ∙ length-map c.args.names.now _ in
-    record {
-      judge = judge_of _ _ _ _ _ c.args.names.now _ _ c.args.view.now.of_suite.kernel_is.book.repository (c.deref.ensures.value ∙ c.in_ok-lists.ensures) c.in_ok-kinds.ensures c.args.view.now.of_suite.kernel_is.book.sound c.in_ok-solver.ensures c.requires.names c.requires.budget;
-      long = c.in_ok-kinds.ensures.long ∙ long;
-      within = λ i l. c.in_ok-kinds.ensures.within i (subst (λ z. i < z) (sym long) l);
-      told = c.in_ok-singles.ensures;
-    }
+    let names = c.args.names.now in
+    let places = c.deref-3.result.now in
+    let all = all_borne c.args.view.now.suite.packages names c.deref.result.now places (c.deref.ensures.value ∙ c.in_ok-named.ensures) (c.deref-3.ensures.value ∙ c.in_ok-places.ensures) c.requires.names in
+    subst (λ n. IsSide n c.in_ok-side.side c.in_ok-side.side.of.items) (sym (length-map places (listed_for names)) ∙ ap length all) c.in_ok-side.ensures.side
 
 pub returns-clause-verdicts : goal.returns-clause-verdicts
-returns-clause-verdicts c = verdicts_are _ _ c.args.view.now.suite _ c.args.names.now _ _ c.args.view.now.of_suite.kernel_is.book.repository refl (c.deref.ensures.value ∙ c.in_ok-lists.ensures) c.in_ok-kinds.ensures
+returns-clause-verdicts c =
+    let view = c.args.view.now in
+    let names = c.args.names.now in
+    let all = all_borne view.suite.packages names c.deref.result.now c.deref-3.result.now (c.deref.ensures.value ∙ c.in_ok-named.ensures) (c.deref-3.ensures.value ∙ c.in_ok-places.ensures) c.requires.names in
+    subst (λ z. AreVerdicts c.in_ok-side.side c.in_ok-side.side.of.items z (named_verdict view.limit view.kernel.hold view.suite.home view.suite.packages c.args.budget)) all
+    (c.in_ok-side.ensures.verdicts view.limit view.suite.home view.suite.packages names view.of_suite.kernel_is (c.deref-2.ensures.value ∙ c.in_ok-named.ensures))

@@ -1,0 +1,14 @@
+use Rattle.std.proofs.Common.{[], get_or}
+use Rattle.listed.proofs.Lists.{In_at}
+use Rattle.suite_compare.proofs.Groups.{each_more, each_none}
+use Rattle.suite_compare.proofs.bearers.classes_of_each.Goals as goal
+
+pub loop-place-init : goal.loop-place-init
+loop-place-init c = each_none _ [] c.new-made.result.items c.new-made.ensures.items
+
+pub classes_by-requires : goal.classes_by-requires
+classes_by-requires c = λ n i.
+    c.requires.known _ (In_at c.args.lists.now (get_or c.args.places.now c.loop-place.place-index 0) [] (c.requires.places c.loop-place.place-index c.loop-place-test.true)) n (rw c.classes_at.ensures at i)
+
+pub loop-place-preserved : goal.loop-place-preserved
+loop-place-preserved c = each_more _ [] c.loop-place.place-index c.loop-place.made.items c.push.new.self.items c.of.result c.in_ok-push.ensures.items (rw c.of.ensures (rw c.classes_at.ensures at c.in_ok-image.ensures)) c.loop-place.invariant

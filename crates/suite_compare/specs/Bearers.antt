@@ -1,0 +1,31 @@
+-- The packages that bear names, and their classes by the table of a kernel.
+use Rattle.std.specs.Prelude.{ℕ, ◌<◌, ◌==◌, ◌↔◌, Bool, not, List, length, map, filter, slice_index_or}
+use Rattle.listed.specs.Lists.{Ascending, In}
+use Rattle.clause_pool.specs.Interned.{Interned}
+use Rattle.row_book.specs.Book.{listed_for, Sound}
+use Rattle.row_book.specs.Numbers.{numbers}
+use Rattle.kernel_rounds.specs.declared.extraction.Kernel.{Kernel}
+use Rattle.relation_fields.specs.declared.packages.PackageFacts.{PackageFacts}
+use Rattle.repo_model.specs.Goals.{any_version, packages_named}
+
+-- for each name the packages that bear it, of any version
+abbrev pub bearers_of : List PackageFacts → List (List ℕ) → List (List ℕ)
+bearers_of packages names = map (λ name. packages_named packages (any_version name)) names
+
+-- the book is sound over the pool, each class is one of its packages, and each of the packages that bear names has a class
+pub record FitsKernel (pool : Interned) (kernel : Kernel) (named : List (List ℕ)) : Type 0 where
+  pub sound : Sound pool kernel.book
+  pub classes : (k : ℕ) → In k kernel.class_of → k < length kernel.book.rows
+  pub known : (chosen : List ℕ) → In chosen named → (n : ℕ) → In n chosen → n < length kernel.class_of
+
+-- these are the classes of some packages, ascending, by the class of each package
+pub record AreClasses (class_of chosen image : List ℕ) : Type 0 where
+  pub ascending : Ascending image
+  pub same : (k : ℕ) → In k image ↔ In k (map (λ n. slice_index_or class_of n 0) chosen)
+
+-- the places at which a list has an item
+abbrev pub is_filled : List (List ℕ) → ℕ → Bool
+is_filled lists place = not (length (listed_for lists place) == 0)
+
+abbrev pub filled_places : List (List ℕ) → List ℕ
+filled_places lists = filter (is_filled lists) (numbers (length lists) 0)

@@ -1,0 +1,78 @@
+//! The packages that bear the names of an old side, and their classes.
+ghost use Rattle.std.specs.Prelude.{◌≡◌, ◌<◌, ℕ, List, [], IfOk, length, map, slice_index_or};
+ghost use Rattle.listed.specs.Lists.{In};
+ghost use Rattle.row_book.specs.Book.{listed_for};
+ghost use Rattle.suite_compare.specs.Bearers.{bearers_of, filled_places, AreClasses};
+ghost use Rattle.suite_compare.specs.Groups.{AreEach};
+
+use crate::ask::classes_by;
+use crate::places::{classes_at, name_at};
+use clause_pool::NumList;
+use listed::Listed;
+use repo_model::{LentName, Suite};
+use std::alloc::{AllocError, Global};
+
+/// The packages that bear each name, of any version, ascending; none where no package does.
+pub fn bearers_of(
+    alloc: Global,
+    suite: &Suite,
+    names: &[LentName],
+) -> Result<Vec<NumList>, AllocError>
+    ensures { IfOk result (λ lists. lists.items ≡ bearers_of suite.now.packages names.now) }
+{
+    let mut lists = Vec::new(alloc);
+    for name in names {
+        let numbers = suite.named(alloc, name.as_slice())?;
+        lists.push(Listed::of(numbers))?;
+    }
+    Ok(lists)
+}
+
+/// The places at which a list has an item.
+pub(crate) fn filled_places(alloc: Global, lists: &[NumList]) -> Result<Vec<usize>, AllocError>
+    ensures { IfOk result (λ places. places.items ≡ filled_places lists.now) }
+{
+    let mut places = Vec::new(alloc);
+    for place in 0..lists.len() {
+        if classes_at(lists, place).is_empty() {
+            continue;
+        }
+        places.push(place)?;
+    }
+    Ok(places)
+}
+
+/// The names at these places.
+pub(crate) fn names_at<'a>(
+    alloc: Global,
+    names: &[LentName<'a>],
+    places: &[usize],
+) -> Result<Vec<LentName<'a>>, AllocError>
+    requires { (i : ℕ) → i < length places.now → slice_index_or places.now i 0 < length names.now }
+    ensures { IfOk result (λ made. made.items ≡ map (listed_for names.now) places.now) }
+{
+    let mut made = Vec::new(alloc);
+    for place in places {
+        made.push(LentName::of(name_at(names, *place)))?;
+    }
+    Ok(made)
+}
+
+/// The classes of the packages at each of these places, by the class of each package.
+pub(crate) fn classes_of_each(
+    alloc: Global,
+    class_of: &[u32],
+    lists: &[NumList],
+    places: &[usize],
+) -> Result<Vec<NumList>, AllocError>
+    requires known { (chosen : List ℕ) → In chosen lists.now → (n : ℕ) → In n chosen → n < length class_of.now }
+    requires places { (i : ℕ) → i < length places.now → slice_index_or places.now i 0 < length lists.now }
+    ensures { IfOk result (λ made. AreEach (λ i image. AreClasses class_of.now (listed_for lists.now (slice_index_or places.now i 0)) image) [] (length places.now) made.items) }
+{
+    let mut made = Vec::new(alloc);
+    for place in places {
+        let image = classes_by(alloc, class_of, classes_at(lists, *place))?;
+        made.push(Listed::of(image))?;
+    }
+    Ok(made)
+}

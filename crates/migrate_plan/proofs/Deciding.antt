@@ -1,5 +1,5 @@
 -- The tests of what packages say decide whether it is equal.
-use Rattle.std.proofs.Common.{◌≡◌, ℕ, Bool, true, false, List, Option, Some, None, refl, sym, ap, ◌∙◌, subst}
+use Rattle.std.proofs.Common.{◌≡◌, ℕ, Bool, true, List, Option, Some, None, refl, ap, ◌∙◌}
 use Rattle.std.specs.Prelude.{◌&&◌, ◌==◌}
 use Rattle.std.specs.Bool.{Decides}
 use Rattle.std.specs.Cmp.Lexicographic.{pointwise, pointwise_decides}
@@ -8,14 +8,13 @@ use Rattle.std.specs.Str.{bytes_eq}
 use Rattle.std.proofs.lemmas.Bool.{and_from, and_parts, false≢true}
 use Rattle.std.proofs.lemmas.Bool.Decides.{Decides-eqb}
 use Rattle.std.proofs.lemmas.Slice.Eq.{bytes_eq-Decides}
-use Rattle.relation_fields.specs.declared.packages.PackageFacts.{PackageFacts}
 use Rattle.relation_fields.specs.declared.relations.Atom.{Atom}
 use Rattle.relation_fields.specs.declared.relations.Bound.{Bound}
 use Rattle.relation_fields.specs.declared.relations.Op.{Op}
 use Rattle.relation_fields.specs.declared.relations.Op.TheVariants.{Earlier, EarlierEqual, Exactly, LaterEqual, Later}
 use Rattle.relation_fields.specs.declared.relations.Provide.{Provide}
 use Rattle.migrate_plan.specs.Differing.{is_same_atom, is_same_bound, is_same_provide, op_place, says_same}
-use Rattle.migrate_plan.specs.Laws.{SaysSame, TestIsEquality}
+use Rattle.migrate_plan.specs.Laws.{TestIsEquality}
 
 op_same : (a b : Op) → (op_place a == op_place b) ≡ true → a ≡ b
 op_same Earlier Earlier h = refl

@@ -5,7 +5,7 @@ use Rattle.std.specs.List.{onto_first, slice_split}
 use Rattle.std.proofs.lemmas.List.{append-nil}
 use Rattle.std.proofs.lemmas.List.Elements.{filter-append}
 use Rattle.std.proofs.lemmas.List.Splits.{length-slice_split}
-use Rattle.stanza_reader.specs.Close.{ends_blank, is_ended, readings_from, IsClosed}
+use Rattle.stanza_reader.specs.Close.{ends_blank, readings_from, IsClosed}
 use Rattle.stanza_reader.specs.Lines.{Line, is_blank, is_line_feed, lines, numbered}
 use Rattle.stanza_reader.specs.Stanzas.{groups, has_line, is_blank_line, stanza_of}
 use Rattle.stanza_reader.proofs.PartLemmas.{blank_last, ended_last, lines_parts}

@@ -1,12 +1,11 @@
 -- What a stanza says, and whether it has a fault of its own, does not depend on the numbers of its lines.
-use Rattle.std.proofs.Common.{◌≡◌, ℕ, ◌+◌, Bool, true, false, cond, List, [], ◌∷◌, Option, Some, None, map, refl, ap, sym, ◌∙◌}
-use Rattle.std.specs.Prelude.{find, is_some, if◌then◌else◌}
+use Rattle.std.proofs.Common.{◌≡◌, ℕ, ◌+◌, Bool, true, false, cond, List, [], ◌∷◌, Option, Some, None, map, refl, ap, ◌∙◌}
+use Rattle.std.specs.Prelude.{is_some, if◌then◌else◌}
 use Rattle.std.specs.Option.{option_and_then, option_map, option_map_or, option_or}
 use Rattle.deb_version.specs.Grammar.{is_version}
 use Rattle.deb_version.specs.Names.{is_name}
 use Rattle.relation_fields.specs.Fields.{first_outside}
 use Rattle.relation_fields.specs.Grammar.{alternatives_of, atom_of, is_architecture, provide_of}
-use Rattle.relation_fields.specs.declared.packages.PackageFacts.{PackageFacts}
 use Rattle.stanza_reader.specs.declared.stanza.FieldKind.{FieldKind}
 use Rattle.stanza_reader.specs.declared.stanza.FieldKind.TheVariants.{Package, Version, Architecture, PreDepends, Depends, Conflicts, Breaks, Provides}
 use Rattle.stanza_reader.specs.declared.stanza.RawField.{RawField}

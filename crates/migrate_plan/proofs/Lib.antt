@@ -4,6 +4,8 @@ pub mod Faultless
 pub mod Joined
 pub mod Mixed
 pub mod MixedFacts
+pub mod WholeMixes
+pub mod Parted
 pub mod FirstHome
 pub mod Told
 pub mod Planned

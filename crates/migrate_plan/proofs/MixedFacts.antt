@@ -65,7 +65,7 @@ all_later more [] = refl
 all_later more (stanza ∷ stanzas) = ap₂ (λ s ss. s ∷ ss) (later_says more stanza) (all_later more stanzas)
 
 -- items that pass a test are those whose flags are up, where each flag is the test's
-flagged : {A : Type 0} (test : A → Bool) (items : List A) → items_where_true (map test items) items ≡ filter test items
+pub flagged : {A : Type 0} (test : A → Bool) (items : List A) → items_where_true (map test items) items ≡ filter test items
 flagged test [] = refl
 flagged test (item ∷ more) = by (test item) (flagged test more)
   where
@@ -177,6 +177,19 @@ few_mixed old new olds news old_home new_home taken old_is new_is free inside =
         let size : length (mixed_packages (packages_in old) (packages_in new) taken) ≡ length left + length kept = length-append left kept in
         let most : length (packages_in old) + length (filter (λ facts. is_taken all facts.name) (packages_in new)) ≤ most_packages = (is_free old new free).packages in
         omega arith
+
+-- so are all packages that mixes have
+pub few_whole : (old new : List ℕ) (olds news : List PackageFacts) (old_home new_home : Option (List ℕ)) (added : List Bool) → IsSuiteOf old olds old_home → IsSuiteOf new news new_home → plan_refusal old new ≡ None
+    → added ≡ map (λ facts. is_taken (differing (packages_in old) (packages_in new)) facts.name) news → length olds + length (items_where_true added news) ≤ most_packages
+few_whole old new olds news old_home new_home added old_is new_is free adds =
+    subst (λ ps. length olds + length ps ≤ most_packages) (sym chosen)
+    (subst (λ ps. length ps + length (filter test news) ≤ most_packages) (sym old_is.facts) (subst (λ ps. length (packages_in old) + length (filter test ps) ≤ most_packages) (sym new_is.facts) (is_free old new free).packages))
+  where
+    test : PackageFacts → Bool
+    test facts = is_taken (differing (packages_in old) (packages_in new)) facts.name
+
+    chosen : items_where_true added news ≡ filter test news
+    chosen = ap (λ flags. items_where_true flags news) adds ∙ flagged test news
 
 -- packages that differ in the numbers of their lines alone are asked alike
 stands_but : (packages : List PackageFacts) (name : List ℕ) → stands_in (map but_line packages) name ≡ stands_in packages name

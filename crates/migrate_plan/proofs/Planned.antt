@@ -1,20 +1,14 @@
 -- What holds of a plan: its names, the reason of each line, and that the names taken break nothing.
-use Rattle.std.proofs.Common.{◌≡◌, ◌≢◌, ℕ, ◌+◌, ◌<◌, ◌≤◌, Bool, true, false, List, [], ◌∷◌, ◌++◌, length, get_or, drop, map, Some, None, Option, refl, sym, ap, ◌∙◌, subst, ◌⊎◌, inl, inr, append_assoc, arith}
+use Rattle.std.proofs.Common.{◌≡◌, ◌≢◌, ℕ, ◌+◌, ◌<◌, ◌≤◌, Bool, false, List, [], ◌∷◌, ◌++◌, length, get_or, drop, map, Some, None, Option, refl, sym, ap, ◌∙◌, subst, ◌⊎◌, inl, inr, append_assoc}
 use Rattle.std.proofs.lemmas.List.{append-nil, drop_all, drop_more, map-append}
-use Rattle.clause_pool.specs.Lists.{Before, InOrder}
-use Rattle.row_book.specs.Rounds.{PassedRound, limit_at}
-use Rattle.listed.specs.Lists.{In, here}
+use Rattle.row_book.specs.Rounds.{PassedRound}
+use Rattle.listed.specs.Lists.{In}
 use Rattle.listed.proofs.Lists.{In_append_cases, In_at, In_cases, In_none}
-use Rattle.clause_pool.proofs.Order.{order_filter, ordered_order}
-use Rattle.clause_solver.specs.declared.outcomes.Verdict.{Verdict}
-use Rattle.clause_solver.specs.declared.outcomes.Verdict.TheVariants.{Yes, No}
 use Rattle.stanza_reader.specs.declared.stanza.RawStanza.{RawStanza}
 use Rattle.repo_model.specs.Facts.{facts_of}
-use Rattle.repo_model.specs.FirstFault.{first_fault, home_of, stanzas_of}
-use Rattle.repo_model.specs.Goals.{any_version, CoinstGoals}
-use Rattle.repo_model.specs.declared.goals.Goal.{Goal}
-use Rattle.suite_compare.specs.Asking.{HasVerdict, verdict_in}
-use Rattle.suite_compare.specs.Names.{names_of_both, stands_in}
+use Rattle.repo_model.specs.FirstFault.{first_fault, home_of}
+use Rattle.suite_compare.specs.Asking.{verdict_in}
+use Rattle.suite_compare.specs.Names.{names_of_both}
 use Rattle.suite_compare.specs.Refusals.{home_in, packages_in}
 use Rattle.suite_compare.specs.Report.{report}
 use Rattle.suite_compare.specs.declared.report.ReportLine.{ReportLine}

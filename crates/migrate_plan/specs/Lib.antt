@@ -3,6 +3,7 @@ pub mod Mix
 pub mod Flagged
 pub mod Plan
 pub mod Trying
+pub mod Whole
 pub mod Promises
 pub mod Refusals
 pub mod Laws

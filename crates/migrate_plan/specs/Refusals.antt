@@ -3,7 +3,7 @@
 --   2. more than 256 names differ;
 --   3. the packages of the old index and those of the new one whose names differ are more than 200,000;
 --   4. the two texts and two line feeds have more than 1,073,741,824 bytes.
-use Rattle.std.specs.Prelude.{◌≡◌, ⊤, ℕ, ◌+◌, Bool, true, false, not, nat_lt, if◌then◌else◌, List, Option, Some, None, filter, length}
+use Rattle.std.specs.Prelude.{◌≡◌, ⊤, ℕ, ◌+◌, Bool, false, not, nat_lt, if◌then◌else◌, List, Option, Some, None, filter, length}
 use Rattle.std.specs.Option.{option_or}
 use Rattle.std.specs.Str.{bytes_eq}
 use Rattle.repo_model.specs.Limits.{most_bytes, most_packages}

@@ -10,9 +10,11 @@ mod laws;
 mod making;
 mod mixing;
 mod names;
+mod parting;
 mod plan;
 mod refusals;
 mod trying;
+mod whole;
 
 // A plan is made.
 pub use making::make_plan;

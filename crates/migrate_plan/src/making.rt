@@ -7,6 +7,7 @@ ghost use Rattle.migrate_plan.specs.Differing.{differing};
 ghost use Rattle.migrate_plan.specs.Plan.{line_behind, lines_behind, plan, settings_of, taken_in};
 ghost use Rattle.migrate_plan.specs.Promises.{AreRight, MixesAreIndexes, TakesSafely, planned_name};
 ghost use Rattle.migrate_plan.specs.Refusals.{Refuses, plan_refusal};
+ghost use Rattle.migrate_plan.specs.Whole.{names_between, IsWhole};
 ghost use Rattle.migrate_plan.specs.declared.plan.PlanLine.{PlanLine};
 ghost use Rattle.suite_compare.specs.Comparing.{IsOldSide};
 ghost use Rattle.suite_compare.specs.Refusals.{packages_in};
@@ -14,10 +15,12 @@ ghost use Rattle.repo_model.specs.Limits.{most_bytes};
 
 use crate::checks::{check_homes, check_length, check_names, check_packages};
 use crate::differing::differing_names;
-use crate::mixing::mix_with;
+use crate::mixing::{is_same_home, mix_with, suite_of};
+use crate::parting::{flags_in, line_in};
 use crate::plan::{Plan, PlanLine, PlanList};
 use crate::refusals::PlanError;
 use crate::trying::line_of;
+use crate::whole::{Whole, whole_of};
 use deb_version::Bytes;
 use repo_model::Suite;
 use std::alloc::{AllocError, Global};
@@ -83,13 +86,13 @@ fn lines_of(
     ensures { IfOk result (λ lines. lines ≡ lines_behind (line_behind (settings_of budget old.now.limit old.now.kernel.hold) old_bytes.now new_bytes.now) [] names.now) }
 {
     let side = OldSide::new(alloc, old, budget)?;
-    let lines = lines_beside(alloc, old_bytes, &side, new_bytes, new, names);
+    let lines = lines_with(alloc, old_bytes, &side, new_bytes, new, names);
     drop(side);
     lines
 }
 
 // The same, where the side of the old view was made.
-fn lines_beside(
+fn lines_with(
     alloc: Global,
     old_bytes: &[u8],
     old: &OldSide,
@@ -105,18 +108,29 @@ fn lines_beside(
     requires limit { 0 < old.now.view.now.limit }
     ensures { let settings = settings_of old.now.budget old.now.view.now.limit old.now.view.now.kernel.hold in IfOk result (λ lines. lines ≡ lines_behind (line_behind settings old_bytes.now new_bytes.now) [] names.now) }
 {
+    let whole = whole_of(alloc, old_bytes, old, new_bytes, new, names)?;
+    let lines = lines_beside(alloc, old, &whole, names);
+    drop(whole);
+    lines
+}
+
+// The same, where it is known what all mixes are made of.
+fn lines_beside(
+    alloc: Global,
+    old: &OldSide,
+    whole: &Whole,
+    names: &[Bytes],
+) -> Result<PlanList, AllocError>
+    requires side { IsOldSide old.now }
+    requires whole { IsWhole old.now whole.now }
+    requires names { names.now ≡ names_between whole.now }
+    requires limit { 0 < old.now.view.now.limit }
+    ensures { let settings = settings_of old.now.budget old.now.view.now.limit old.now.view.now.kernel.hold in IfOk result (λ lines. lines ≡ lines_behind (line_behind settings whole.now.old_bytes.now whole.now.new_bytes.now) [] names.now) }
+{
     let mut lines = PlanList::new(alloc);
     let mut taken = Vec::new(alloc);
     for name in names {
-        let line = try_name(
-            alloc,
-            old_bytes,
-            old,
-            new_bytes,
-            new,
-            taken.as_slice(),
-            name.as_slice(),
-        )?;
+        let line = try_name(alloc, old, whole, taken.as_slice(), name.as_slice())?;
         put_taken(alloc, &mut taken, &line)?;
         lines.push(line)?;
     }
@@ -126,25 +140,36 @@ fn lines_beside(
 // The line of a name behind others that take these names.
 fn try_name(
     alloc: Global,
-    old_bytes: &[u8],
     old: &OldSide,
-    new_bytes: &[u8],
-    new: &Suite,
+    whole: &Whole,
     taken: &[Bytes],
     name: &[u8],
 ) -> Result<PlanLine, AllocError>
     requires side { IsOldSide old.now }
-    requires old { IsSuiteOf old_bytes.now old.now.view.now.suite.packages old.now.view.now.suite.home.name }
-    requires new { IsSuiteOf new_bytes.now new.now.packages new.now.home.name }
-    requires taken { (other : List ℕ) → In other taken.now → In other (differing (packages_in old_bytes.now) (packages_in new_bytes.now)) }
-    requires name { In name.now (differing (packages_in old_bytes.now) (packages_in new_bytes.now)) }
-    requires within { plan_refusal old_bytes.now new_bytes.now ≡ None }
+    requires whole { IsWhole old.now whole.now }
+    requires taken { (other : List ℕ) → In other taken.now → In other (names_between whole.now) }
+    requires name { In name.now (names_between whole.now) }
     requires limit { 0 < old.now.view.now.limit }
-    ensures { let settings = settings_of old.now.budget old.now.view.now.limit old.now.view.now.kernel.hold in IfOk result (λ line. (lines : List PlanLine) → taken.now ≡ taken_in lines → line ≡ line_behind settings old_bytes.now new_bytes.now lines name.now) }
+    ensures { let settings = settings_of old.now.budget old.now.view.now.limit old.now.view.now.kernel.hold in IfOk result (λ line. (lines : List PlanLine) → taken.now ≡ taken_in lines → line ≡ line_behind settings whole.now.old_bytes.now whole.now.new_bytes.now lines name.now) }
 {
     let suite = &old.view.suite;
-    let mix = mix_with(alloc, old_bytes, suite, new_bytes, new, taken, name)?;
-    let line = line_of(alloc, old, mix, name)?;
+    let mix = mix_with(
+        alloc,
+        whole.old_bytes,
+        suite,
+        whole.new_bytes,
+        whole.new,
+        taken,
+        name,
+    )?;
+    if is_same_home(&mix.home, &whole.home) {
+        let flags = flags_in(alloc, &mix.left, &mix.kept, &whole.added)?;
+        let part_line = line_in(alloc, old, whole, flags, name)?;
+        return Ok(part_line);
+    }
+    // Where no package is left that tells the architecture, other packages meet each other than in the whole.
+    let made = suite_of(alloc, suite, whole.new, mix)?;
+    let line = line_of(alloc, old, made, name)?;
     Ok(line)
 }
 

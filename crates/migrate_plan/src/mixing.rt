@@ -1,19 +1,33 @@
-//! Mixes of two indexes, as suites: no text of a mix is made.
-ghost use Rattle.std.specs.Prelude.{◌≡◌, ◌++◌, ◌∷◌, ◌≤◌, [], length, map, IfOk};
+//! Mixes of two indexes: which packages a mix has. No text of a mix is made.
+ghost use Rattle.std.specs.Prelude.{◌≡◌, ◌++◌, ◌∷◌, ◌≤◌, ◌+◌, [], length, map, IfOk};
+ghost use Rattle.std.specs.Bool.{OnTrue};
+ghost use Rattle.std.specs.List.{items_where_true};
 ghost use Rattle.repo_model.specs.Feeding.{IsSuiteOf};
-ghost use Rattle.repo_model.specs.Laws.{but_line};
 ghost use Rattle.repo_model.specs.Limits.{most_packages};
-ghost use Rattle.suite_compare.specs.Refusals.{home_in, packages_in};
-ghost use Rattle.migrate_plan.specs.Mix.{mix, mixed_packages};
+ghost use Rattle.suite_compare.specs.Refusals.{home_in};
+ghost use Rattle.migrate_plan.specs.Mix.{is_left, is_taken, mix};
 
 use crate::flags::{left_flags, taken_flags};
 use crate::homes::home_of_both;
 use deb_version::Bytes;
+use relation_fields::Home;
 use repo_model::Suite;
 use std::alloc::{AllocError, Global};
 
-/// The suite of the mix of an old and a new index, each given with its suite. Packages of the names that are taken, and of the
-/// one that is tried with them, come from the new index, and all others from the old one.
+/// A mix of two suites: which packages of the old one are left in it, which of the new one are taken into it, and the common
+/// architecture.
+#[derive(Drop)]
+pub(crate) struct Mix {
+    /// For each package of the old suite whether it is in the mix.
+    pub(crate) left: Vec<bool>,
+    /// For each package of the new suite whether it is in the mix.
+    pub(crate) kept: Vec<bool>,
+    /// The common architecture.
+    pub(crate) home: Home,
+}
+
+/// The mix of an old and a new index, each given with its suite. Packages of the names that are taken, and of the one that is
+/// tried with them, come from the new index, and all others from the old one.
 pub(crate) fn mix_with(
     alloc: Global,
     old_bytes: &[u8],
@@ -22,19 +36,48 @@ pub(crate) fn mix_with(
     new: &Suite,
     taken: &[Bytes],
     tried: &[u8],
-) -> Result<Suite, AllocError>
+) -> Result<Mix, AllocError>
     requires old { IsSuiteOf old_bytes.now old.now.packages old.now.home.name }
     requires new { IsSuiteOf new_bytes.now new.now.packages new.now.home.name }
-    requires few { length (mixed_packages old.now.packages new.now.packages (taken.now ++ tried.now ∷ [])) ≤ most_packages }
-    ensures packages { IfOk result (λ suite. map but_line suite.packages ≡ map but_line (packages_in (mix old_bytes.now new_bytes.now (taken.now ++ tried.now ∷ [])))) }
-    ensures home { IfOk result (λ suite. suite.home ≡ home_in (mix old_bytes.now new_bytes.now (taken.now ++ tried.now ∷ []))) }
+    ensures left { IfOk result (λ mix. mix.left.items ≡ map (λ facts. is_left (taken.now ++ tried.now ∷ []) facts.name) old.now.packages) }
+    ensures kept { IfOk result (λ mix. mix.kept.items ≡ map (λ facts. is_taken (taken.now ++ tried.now ∷ []) facts.name) new.now.packages) }
+    ensures home { IfOk result (λ made. made.home ≡ home_in (mix old_bytes.now new_bytes.now (taken.now ++ tried.now ∷ []))) }
 {
     let names = with_tried(alloc, taken, tried)?;
     let left = left_flags(alloc, old, &names)?;
     let kept = taken_flags(alloc, new, &names)?;
     let home = home_of_both(alloc, old_bytes, &left, new_bytes, &kept)?;
-    let mix = old.join(alloc, &left, new, &kept, home)?;
-    Ok(mix)
+    Ok(Mix { left, kept, home })
+}
+
+/// The suite of a mix.
+pub(crate) fn suite_of(
+    alloc: Global,
+    old: &Suite,
+    new: &Suite,
+    mix: Mix,
+) -> Result<Suite, AllocError>
+    requires left { length mix.left.items ≡ length old.now.packages }
+    requires kept { length mix.kept.items ≡ length new.now.packages }
+    requires few { length (items_where_true mix.left.items old.now.packages) + length (items_where_true mix.kept.items new.now.packages) ≤ most_packages }
+    ensures packages { IfOk result (λ suite. suite.packages ≡ items_where_true mix.left.items old.now.packages ++ items_where_true mix.kept.items new.now.packages) }
+    ensures home { IfOk result (λ suite. suite.home ≡ mix.home) }
+{
+    let Mix { left, kept, home } = mix;
+    old.join(alloc, &left, new, &kept, home)
+}
+
+/// Whether the two are the same architecture, or both none.
+pub(crate) fn is_same_home(one: &Home, other: &Home) -> bool
+    ensures { OnTrue result (one.now ≡ other.now) }
+{
+    match &one.name {
+        Some(name) => match &other.name {
+            Some(second) => name.as_slice() == second.as_slice(),
+            None => false,
+        },
+        None => other.name.is_none(),
+    }
 }
 
 // The names that are taken, and the one that is tried with them.

@@ -71,8 +71,8 @@ fn view_of(
     }
 }
 
-// The line of a name by the first line that is told of the mix with it.
-fn line_by_first(
+/// The line of a name by the first line that is told of the mix with it.
+pub(crate) fn line_by_first(
     alloc: Global,
     name: &[u8],
     first: Option<ReportLine>,

@@ -1,4 +1,4 @@
-use Rattle.std.proofs.Common.{◌∙◌, ◌≡◌, ◌<◌, arith, length, map, sym, get_or}
+use Rattle.std.proofs.Common.{◌∙◌, ◌≡◌, ◌<◌, arith, length, map, sym}
 use Rattle.std.proofs.lemmas.List.{get_or-map, length-map}
 use Rattle.repo_model.specs.Stanzas.{stanza_at}
 use Rattle.migrate_plan.specs.Differing.{says_same}

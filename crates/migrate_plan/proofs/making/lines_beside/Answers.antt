@@ -1,15 +1,14 @@
-use Rattle.std.proofs.Common.{◌≡◌, ◌<◌, ◌∙◌, ℕ, ap, subst, sym}
+use Rattle.std.proofs.Common.{◌≡◌, ◌∙◌, ap, subst, sym}
 use Rattle.listed.specs.Lists.{In}
 use Rattle.listed.proofs.Lists.{In_at}
-use Rattle.suite_compare.specs.Refusals.{packages_in}
-use Rattle.migrate_plan.specs.Differing.{differing}
 use Rattle.migrate_plan.specs.Plan.{line_behind, settings_of}
+use Rattle.migrate_plan.specs.Whole.{names_between}
 use Rattle.migrate_plan.proofs.Planned.{leads_all, leads_first, leads_more, line_named}
 use Rattle.migrate_plan.proofs.making.lines_beside.Goals as goal
 
 pub loop-name-init : goal.loop-name-init
 loop-name-init c =
-    leads_first (line_behind (settings_of c.args.old.now.budget c.args.old.now.view.now.limit c.args.old.now.view.now.kernel.hold) c.args.old_bytes.now c.args.new_bytes.now) c.args.names.now c.new-lines.result c.new-taken.result.items c.new-lines.ensures c.new-taken.ensures.items
+    leads_first (line_behind (settings_of c.args.old.now.budget c.args.old.now.view.now.limit c.args.old.now.view.now.kernel.hold) c.args.whole.now.old_bytes.now c.args.whole.now.new_bytes.now) c.args.names.now c.new-lines.result c.new-taken.result.items c.new-lines.ensures c.new-taken.ensures.items
 
 pub try_name-requires-clause-taken : goal.try_name-requires-clause-taken
 try_name-requires-clause-taken c = λ other i. subst (In other) c.requires.names (c.loop-name.invariant.among other (subst (In other) c.as_slice.ensures.value i))
@@ -18,14 +17,14 @@ pub try_name-requires-clause-name : goal.try_name-requires-clause-name
 try_name-requires-clause-name c =
     let names = c.args.names.now in
     let item = c.name-item.result in
-    subst (λ n. In n (differing (packages_in c.args.old_bytes.now) (packages_in c.args.new_bytes.now))) (sym c.as_slice-in-loop-name.ensures)
+    subst (λ n. In n (names_between c.args.whole.now)) (sym c.as_slice-in-loop-name.ensures)
     (subst (In item) c.requires.names (subst (λ n. In n names) (sym c.name-item.is) (In_at names c.loop-name.name-index item c.loop-name-test.true)))
 
 pub loop-name-preserved : goal.loop-name-preserved
 loop-name-preserved c =
     let settings = settings_of c.args.old.now.budget c.args.old.now.view.now.limit c.args.old.now.view.now.kernel.hold in
-    let old = c.args.old_bytes.now in
-    let new = c.args.new_bytes.now in
+    let old = c.args.whole.now.old_bytes.now in
+    let new = c.args.whole.now.new_bytes.now in
     let item = c.name-item.result in
     let made : c.in_ok-line.line ≡ line_behind settings old new c.loop-name.lines item =
     c.in_ok-line.ensures c.loop-name.lines (c.as_slice.ensures.value ∙ c.loop-name.invariant.taken_is)
@@ -35,5 +34,5 @@ loop-name-preserved c =
 
 pub returns : goal.returns
 returns c =
-    leads_all (line_behind (settings_of c.args.old.now.budget c.args.old.now.view.now.limit c.args.old.now.view.now.kernel.hold) c.args.old_bytes.now c.args.new_bytes.now) c.args.names.now c.loop-name.name-index c.loop-name.lines c.loop-name.taken.items
+    leads_all (line_behind (settings_of c.args.old.now.budget c.args.old.now.view.now.limit c.args.old.now.view.now.kernel.hold) c.args.whole.now.old_bytes.now c.args.whole.now.new_bytes.now) c.args.names.now c.loop-name.name-index c.loop-name.lines c.loop-name.taken.items
     c.loop-name-test.false c.loop-name.invariant

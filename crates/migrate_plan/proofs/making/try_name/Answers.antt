@@ -1,21 +1,74 @@
-use Rattle.std.proofs.Common.{[], ◌∷◌, ◌++◌}
-use Rattle.suite_compare.specs.Refusals.{packages_in}
-use Rattle.migrate_plan.specs.Differing.{differing}
+use Rattle.std.proofs.Common.{[], ◌∷◌, ◌++◌, ◌∙◌, refl, sym}
+use Rattle.std.specs.List.{items_where_true}
 use Rattle.migrate_plan.specs.Plan.{settings_of}
+use Rattle.migrate_plan.specs.Whole.{all_packages, names_between}
 use Rattle.migrate_plan.proofs.Made.{all_inside, behind_made}
-use Rattle.migrate_plan.proofs.MixedFacts.{few_mixed}
+use Rattle.migrate_plan.proofs.MixedFacts.{few_flagged, few_mixed, packages_mixed}
+use Rattle.migrate_plan.proofs.WholeMixes.{added_long, flags_long, kept_long, left_long, mix_in_whole}
 use Rattle.migrate_plan.proofs.making.try_name.Goals as goal
 
-pub mix_with-requires-clause-few : goal.mix_with-requires-clause-few
-mix_with-requires-clause-few c =
-    let old = c.args.old_bytes.now in
-    let new = c.args.new_bytes.now in
+pub flags_in-requires : goal.flags_in-requires
+flags_in-requires c =
+    let whole = c.args.whole.now in
+    let names = c.args.taken.now ++ c.args.name.now ∷ [] in
+    added_long c.args.old.now.view.now.suite.packages whole.new.now.packages (names_between whole) names _ _ _
+    (all_inside c.args.taken.now (names_between whole) c.args.name.now c.requires.taken c.requires.name) c.in_ok-mix.ensures.left (c.deref-then-is_same_home.ensures.value ∙ c.in_ok-mix.ensures.kept) (c.deref-then-is_same_home-2.ensures.value ∙ c.requires.whole.added_are)
+
+pub line_in-requires-clause-flags : goal.line_in-requires-clause-flags
+line_in-requires-clause-flags c =
+    let whole = c.args.whole.now in
+    let names = c.args.taken.now ++ c.args.name.now ∷ [] in
+    flags_long c.args.old.now.view.now.suite.packages whole.new.now.packages (names_between whole) names _ _ _
+    (all_inside c.args.taken.now (names_between whole) c.args.name.now c.requires.taken c.requires.name) c.in_ok-mix.ensures.left c.in_ok-mix.ensures.kept c.requires.whole.added_are
+    _ (all_packages c.args.old.now whole) (rw (c.deref.ensures.value, c.deref-then-is_same_home.ensures.value, c.deref-then-is_same_home-2.ensures.value) at c.in_ok-flags.ensures) refl
+
+pub returns-then-is_same_home : goal.returns-then-is_same_home
+returns-then-is_same_home c =
+    let view = c.args.old.now.view.now in
+    let whole = c.args.whole.now in
+    let names = c.args.taken.now ++ c.args.name.now ∷ [] in
+    let flags = c.in_ok-flags.flags.items in
+    let packages = items_where_true flags (all_packages c.args.old.now whole) in
+    let are = mix_in_whole view.suite.packages whole.new.now.packages (names_between whole) names _ _ _
+    (all_inside c.args.taken.now (names_between whole) c.args.name.now c.requires.taken c.requires.name) c.in_ok-mix.ensures.left c.in_ok-mix.ensures.kept c.requires.whole.added_are
+    flags (all_packages c.args.old.now whole) (rw (c.deref.ensures.value, c.deref-then-is_same_home.ensures.value, c.deref-then-is_same_home-2.ensures.value) at c.in_ok-flags.ensures) refl in
+    behind_made (settings_of c.args.old.now.budget view.limit view.kernel.hold) whole.old_bytes.now whole.new_bytes.now c.args.name.now c.args.taken.now view.suite.home whole.home view.suite.packages packages c.in_ok-part_line.part_line
+    c.requires.whole.old_is
+    (packages_mixed whole.old_bytes.now whole.new_bytes.now view.suite.packages whole.new.now.packages view.suite.home.name whole.new.now.home.name names _ _ c.requires.whole.old_is c.requires.whole.new_is
+    c.in_ok-mix.ensures.left c.in_ok-mix.ensures.kept packages are)
+    (sym (rw c.if-is_same_home.true at c.is_same_home.ensures) ∙ c.in_ok-mix.ensures.home) c.in_ok-part_line.ensures
+
+pub suite_of-requires-clause-left : goal.suite_of-requires-clause-left
+suite_of-requires-clause-left c =
+    let whole = c.args.whole.now in
+    let names = c.args.taken.now ++ c.args.name.now ∷ [] in
+    left_long c.args.old.now.view.now.suite.packages whole.new.now.packages (names_between whole) names _ _ _
+    (all_inside c.args.taken.now (names_between whole) c.args.name.now c.requires.taken c.requires.name) c.in_ok-mix.ensures.left c.in_ok-mix.ensures.kept c.requires.whole.added_are
+
+pub suite_of-requires-clause-kept : goal.suite_of-requires-clause-kept
+suite_of-requires-clause-kept c =
+    let whole = c.args.whole.now in
+    let names = c.args.taken.now ++ c.args.name.now ∷ [] in
+    kept_long c.args.old.now.view.now.suite.packages whole.new.now.packages (names_between whole) names _ _ _
+    (all_inside c.args.taken.now (names_between whole) c.args.name.now c.requires.taken c.requires.name) c.in_ok-mix.ensures.left c.in_ok-mix.ensures.kept c.requires.whole.added_are
+
+pub suite_of-requires-clause-few : goal.suite_of-requires-clause-few
+suite_of-requires-clause-few c =
+    let whole = c.args.whole.now in
     let suite = c.args.old.now.view.now.suite in
-    few_mixed old new suite.packages c.args.new.now.packages suite.home.name c.args.new.now.home.name (c.args.taken.now ++ c.args.name.now ∷ []) c.requires.old c.requires.new c.requires.within
-    (all_inside c.args.taken.now (differing (packages_in old) (packages_in new)) c.args.name.now c.requires.taken c.requires.name)
+    let names = c.args.taken.now ++ c.args.name.now ∷ [] in
+    few_flagged whole.old_bytes.now whole.new_bytes.now suite.packages whole.new.now.packages suite.home.name whole.new.now.home.name names _ _ c.requires.whole.old_is c.requires.whole.new_is c.in_ok-mix.ensures.left c.in_ok-mix.ensures.kept
+    (few_mixed whole.old_bytes.now whole.new_bytes.now suite.packages whole.new.now.packages suite.home.name whole.new.now.home.name names c.requires.whole.old_is c.requires.whole.new_is c.requires.whole.free
+    (all_inside c.args.taken.now (names_between whole) c.args.name.now c.requires.taken c.requires.name))
 
 pub returns : goal.returns
 returns c =
     let view = c.args.old.now.view.now in
-    behind_made (settings_of c.args.old.now.budget view.limit view.kernel.hold) c.args.old_bytes.now c.args.new_bytes.now c.args.name.now c.args.taken.now view.suite.home c.in_ok-mix.mix.home view.suite.packages
-    c.in_ok-mix.mix.packages c.in_ok-line.line c.requires.old c.in_ok-mix.ensures.packages c.in_ok-mix.ensures.home c.in_ok-line.ensures
+    let whole = c.args.whole.now in
+    let names = c.args.taken.now ++ c.args.name.now ∷ [] in
+    let made = c.in_ok-made.made in
+    behind_made (settings_of c.args.old.now.budget view.limit view.kernel.hold) whole.old_bytes.now whole.new_bytes.now c.args.name.now c.args.taken.now view.suite.home made.home view.suite.packages made.packages c.in_ok-line.line
+    c.requires.whole.old_is
+    (packages_mixed whole.old_bytes.now whole.new_bytes.now view.suite.packages whole.new.now.packages view.suite.home.name whole.new.now.home.name names _ _ c.requires.whole.old_is c.requires.whole.new_is
+    c.in_ok-mix.ensures.left c.in_ok-mix.ensures.kept made.packages c.in_ok-made.ensures.packages)
+    (c.in_ok-made.ensures.home ∙ c.in_ok-mix.ensures.home) c.in_ok-line.ensures

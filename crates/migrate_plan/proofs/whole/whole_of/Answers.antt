@@ -1,0 +1,29 @@
+use Rattle.std.proofs.Common.{◌++◌, ◌∙◌, ap, map}
+use Rattle.std.specs.List.{items_where_true}
+use Rattle.suite_compare.specs.Bearers.{bearers_of}
+use Rattle.migrate_plan.specs.Mix.{is_taken}
+use Rattle.migrate_plan.proofs.MixedFacts.{few_whole}
+use Rattle.migrate_plan.proofs.Parted.{book_alike}
+use Rattle.migrate_plan.proofs.whole.whole_of.Goals as goal
+
+pub joined-requires-clause-few : goal.joined-requires-clause-few
+joined-requires-clause-few c =
+    let view = c.args.old.now.view.now in
+    let news = c.args.new.now.packages in
+    few_whole c.args.old_bytes.now c.args.new_bytes.now view.suite.packages news view.suite.home.name c.args.new.now.home.name _ c.requires.old c.requires.new c.requires.free
+    (c.deref.ensures.value ∙ c.in_ok-added.ensures ∙ ap (λ names. map (λ facts. is_taken names facts.name) news) c.requires.names)
+
+pub returns-clause-whole : goal.returns-clause-whole
+returns-clause-whole c =
+    let olds = c.args.old.now.view.now.suite.packages in
+    let news = c.args.new.now.packages in
+    let made = c.in_ok-numbered.numbered in
+    let packages = c.in_ok-suite.ensures.packages ∙ ap (λ flags. olds ++ items_where_true flags news) c.deref.ensures.value in
+    record {
+      old_is = c.requires.old;
+      new_is = c.requires.new;
+      free = c.requires.free;
+      added_are = c.in_ok-added.ensures ∙ ap (λ names. map (λ facts. is_taken names facts.name) news) c.requires.names;
+      book_is = book_alike made.pool made.book _ _ _ _ c.in_ok-suite.ensures.home packages c.in_ok-numbered.ensures.book;
+      named_are = c.in_ok-numbered.ensures.named ∙ ap (λ ps. bearers_of ps c.args.old.now.names) packages;
+    }

@@ -1,0 +1,153 @@
+//! The line of a name by the packages of its mix, as a part of those that all mixes are made of.
+ghost use Rattle.std.specs.Prelude.{◌≡◌, ◌<◌, ◌++◌, ℕ, List, None, length, map, IfOk};
+ghost use Rattle.std.specs.List.{items_where_true};
+ghost use Rattle.clause_pool.specs.Interned.{IsPool};
+ghost use Rattle.listed.specs.Lists.{In};
+ghost use Rattle.repo_model.specs.Repository.{suite_repository};
+ghost use Rattle.row_book.specs.Book.{repository_of, Sound};
+ghost use Rattle.suite_compare.specs.Comparing.{IsOldSide};
+ghost use Rattle.suite_compare.specs.Views.{IsKernelOf};
+ghost use Rattle.suite_part.specs.Parts.{chosen_in};
+ghost use Rattle.migrate_plan.specs.Plan.{outcome_of, settings_of};
+ghost use Rattle.migrate_plan.specs.Trying.{outcome_by, told_of};
+ghost use Rattle.migrate_plan.specs.Whole.{all_packages, IsKernelAt, IsWhole};
+
+use crate::plan::PlanLine;
+use crate::trying::line_by_first;
+use crate::whole::Whole;
+use clause_pool::{NumList, Pool};
+use deb_version::Bytes;
+use kernel_rounds::{Kernel, RoundError, extract};
+use listed::Listed;
+use row_book::Book;
+use std::alloc::{AllocError, Global};
+use suite_compare::{OldSide, first_line_by};
+use suite_part::{Chosen, part_of};
+
+/// For each package of a whole whether it is in a mix: those of the old suite come first, and of the new one only those that were added.
+pub(crate) fn flags_in(
+    alloc: Global,
+    left: &[bool],
+    kept: &[bool],
+    added: &[bool],
+) -> Result<Vec<bool>, AllocError>
+    requires { length added.now ≡ length kept.now }
+    ensures { IfOk result (λ flags. flags.items ≡ left.now ++ items_where_true added.now kept.now) }
+{
+    let mut flags = Vec::from_slice(alloc, left)?;
+    for (place, is_kept) in kept.iter().enumerate() {
+        let is_one = added[place];
+        if !is_one {
+            continue;
+        }
+        flags.push(*is_kept)?;
+    }
+    Ok(flags)
+}
+
+/// The line of a name whose mix has those packages of the whole whose flags are up.
+pub(crate) fn line_in(
+    alloc: Global,
+    old: &OldSide,
+    whole: &Whole,
+    flags: Vec<bool>,
+    name: &[u8],
+) -> Result<PlanLine, AllocError>
+    requires side { IsOldSide old.now }
+    requires limit { 0 < old.now.view.now.limit }
+    requires whole { IsWhole old.now whole.now }
+    requires flags { length flags.items ≡ length (all_packages old.now whole.now) }
+    ensures { let before = old.now.view.now in let settings = settings_of old.now.budget before.limit before.kernel.hold in
+        IfOk result (λ line. line ≡ outcome_by settings before.suite.home before.suite.packages whole.now.home (items_where_true flags.items (all_packages old.now whole.now)) name.now) }
+{
+    let chosen = Chosen::of(alloc, flags)?;
+    let mut pool = Pool::new(alloc)?;
+    let made = kernel_in(alloc, &mut pool, old, whole, &chosen)?;
+    match made {
+        Some(kernel) => {
+            let line = line_by_kernel(alloc, old, whole, &chosen, &pool, &kernel, name);
+            drop(kernel);
+            line
+        }
+        None => {
+            let name = Bytes::copy(alloc, name)?;
+            Ok(PlanLine::LeftLimit { name })
+        }
+    }
+}
+
+// The kernel of the chosen packages of a whole, at the limit and hold of the old view; none where it passes the clause limit.
+fn kernel_in(
+    alloc: Global,
+    pool: &mut Pool,
+    old: &OldSide,
+    whole: &Whole,
+    chosen: &Chosen,
+) -> Result<Option<Kernel>, AllocError>
+    requires pool { IsPool pool.old }
+    requires limit { 0 < old.now.view.now.limit }
+    requires whole { IsWhole old.now whole.now }
+    requires flags { length chosen.now.flags.items ≡ length (all_packages old.now whole.now) }
+    ensures { IfOk result (IsKernelAt pool.new old.now.view.now.limit old.now.view.now.kernel.hold (suite_repository whole.now.home (items_where_true chosen.now.flags.items (all_packages old.now whole.now)))) }
+{
+    let book = part_of(alloc, pool, &whole.pool, &whole.book, chosen)?;
+    let made = kernel_of(alloc, pool, &book, old.view.limit, old.view.kernel.hold);
+    drop(book);
+    made
+}
+
+// The kernel of a book; none where it passes the clause limit.
+fn kernel_of(
+    alloc: Global,
+    pool: &mut Pool,
+    book: &Book,
+    limit: u32,
+    hold: bool,
+) -> Result<Option<Kernel>, AllocError>
+    requires book { Sound pool.old book.now }
+    requires limit { 0 < limit }
+    ensures { IfOk result (IsKernelAt pool.new limit hold (repository_of pool.old book.now)) }
+{
+    match extract(alloc, pool, book, limit, hold) {
+        Ok(kernel) => Ok(Some(kernel)),
+        Err(RoundError::Limit { .. }) => Ok(None),
+        Err(RoundError::Memory) => Err(AllocError),
+    }
+}
+
+// The line of a name by the kernel of its mix, which is of the chosen packages of a whole.
+fn line_by_kernel(
+    alloc: Global,
+    old: &OldSide,
+    whole: &Whole,
+    chosen: &Chosen,
+    pool: &Pool,
+    kernel: &Kernel,
+    name: &[u8],
+) -> Result<PlanLine, AllocError>
+    requires side { IsOldSide old.now }
+    requires hold { kernel.now.hold ≡ old.now.view.now.kernel.hold }
+    requires kernel { IsKernelOf pool.now kernel.now old.now.view.now.limit (suite_repository whole.now.home (items_where_true chosen.now.flags.items (all_packages old.now whole.now))) }
+    requires whole { IsWhole old.now whole.now }
+    requires flags { length chosen.now.flags.items ≡ length (all_packages old.now whole.now) }
+    ensures { let before = old.now.view.now in let settings = settings_of old.now.budget before.limit before.kernel.hold in
+        IfOk result (λ line. line ≡ outcome_of name.now None (told_of settings before.suite.home before.suite.packages whole.now.home (items_where_true chosen.now.flags.items (all_packages old.now whole.now)))) }
+{
+    let named = named_in(alloc, &whole.named, chosen)?;
+    let first = first_line_by(alloc, old, pool, kernel, &named)?;
+    let line = line_by_first(alloc, name, first)?;
+    Ok(line)
+}
+
+// Those of each list of packages that are chosen, by their numbers among the chosen ones.
+fn named_in(alloc: Global, named: &[NumList], chosen: &Chosen) -> Result<Vec<NumList>, AllocError>
+    requires { (list : List ℕ) → In list named.now → (n : ℕ) → In n list → n < length chosen.now.flags.items }
+    ensures { IfOk result (λ lists. lists.items ≡ map (chosen_in chosen.now.flags.items) named.now) }
+{
+    let mut lists = Vec::with_capacity(alloc, named.len())?;
+    for numbers in named {
+        let list = chosen.among(alloc, numbers.as_slice())?;
+        lists.push(Listed::of(list))?;
+    }
+    Ok(lists)
+}

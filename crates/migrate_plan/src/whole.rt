@@ -1,0 +1,143 @@
+//! What all mixes of two indexes are made of, so that no mix is read, numbered and looked up anew.
+ghost use Rattle.std.specs.Prelude.{◌≡◌, ◌++◌, ◌≤◌, ◌+◌, None, length, replicate, true, IfOk};
+ghost use Rattle.std.specs.List.{items_where_true};
+ghost use Rattle.repo_model.specs.Feeding.{IsSuiteOf};
+ghost use Rattle.repo_model.specs.Limits.{most_packages};
+ghost use Rattle.repo_model.specs.Repository.{suite_repository};
+ghost use Rattle.suite_compare.specs.Bearers.{bearers_of};
+ghost use Rattle.suite_compare.specs.Refusals.{packages_in};
+ghost use Rattle.suite_compare.specs.Views.{IsBookOf};
+ghost use Rattle.migrate_plan.specs.Differing.{differing};
+ghost use Rattle.migrate_plan.specs.Refusals.{plan_refusal};
+ghost use Rattle.migrate_plan.specs.Whole.{IsWhole};
+
+use crate::flags::taken_flags;
+use clause_pool::{NumList, Pool};
+use deb_version::Bytes;
+use relation_fields::Home;
+use repo_model::Suite;
+use row_book::Book;
+use std::alloc::{AllocError, Global};
+use suite_compare::{OldSide, bearers_of};
+
+/// Two indexes, and all packages that mixes of them have: those of the old one, and behind them those of the new one whose names
+/// differ.
+#[derive(Drop)]
+pub(crate) struct Whole<'a> {
+    /// The old index.
+    pub(crate) old_bytes: &'a [u8],
+    /// The new index.
+    pub(crate) new_bytes: &'a [u8],
+    /// The suite of the new index.
+    pub(crate) new: &'a Suite,
+    /// For each package of the new suite whether its name differs.
+    pub(crate) added: Vec<bool>,
+    /// The common architecture of both indexes.
+    pub(crate) home: Home,
+    /// The pool of the rows of the book.
+    pub(crate) pool: Pool,
+    /// The repository of all these packages.
+    pub(crate) book: Book,
+    /// For each name of the old suite those of them that bear it.
+    pub(crate) named: Vec<NumList>,
+}
+
+/// What all mixes of an old and a new index are made of.
+pub(crate) fn whole_of<'a>(
+    alloc: Global,
+    old_bytes: &'a [u8],
+    old: &OldSide,
+    new_bytes: &'a [u8],
+    new: &'a Suite,
+    names: &[Bytes],
+) -> Result<Whole<'a>, AllocError>
+    requires old { IsSuiteOf old_bytes.now old.now.view.now.suite.packages old.now.view.now.suite.home.name }
+    requires new { IsSuiteOf new_bytes.now new.now.packages new.now.home.name }
+    requires names { names.now ≡ differing (packages_in old_bytes.now) (packages_in new_bytes.now) }
+    requires free { plan_refusal old_bytes.now new_bytes.now ≡ None }
+    ensures old { IfOk result (λ whole. whole.old_bytes.now ≡ old_bytes.now) }
+    ensures new { IfOk result (λ whole. whole.new_bytes.now ≡ new_bytes.now) }
+    ensures whole { IfOk result (IsWhole old.now) }
+{
+    let added = taken_flags(alloc, new, names)?;
+    let home = common_home(alloc, &old.view.suite.home, &new.home)?;
+    let suite = joined(alloc, &old.view.suite, new, &added, &home)?;
+    let numbered = numbered_of(alloc, old, &suite)?;
+    drop(suite);
+    let Numbered { pool, book, named } = numbered;
+    Ok(Whole {
+        old_bytes,
+        new_bytes,
+        new,
+        added,
+        home,
+        pool,
+        book,
+        named,
+    })
+}
+
+// What is made of all packages that mixes have: their repository over a pool, and those that bear each old name.
+#[derive(Drop)]
+struct Numbered {
+    pool: Pool,
+    book: Book,
+    named: Vec<NumList>,
+}
+
+// What is made of a suite.
+fn numbered_of(alloc: Global, old: &OldSide, suite: &Suite) -> Result<Numbered, AllocError>
+    ensures book { IfOk result (λ made. IsBookOf made.pool made.book (suite_repository suite.now.home suite.now.packages)) }
+    ensures named { IfOk result (λ made. made.named.items ≡ bearers_of suite.now.packages old.now.names) }
+{
+    let named = bearers_of(alloc, suite, old.names())?;
+    let mut pool = Pool::new(alloc)?;
+    let book = suite.book(alloc, &mut pool)?;
+    Ok(Numbered { pool, book, named })
+}
+
+// All packages of the old suite, and behind them those of the new one whose flags are up.
+fn joined(
+    alloc: Global,
+    old: &Suite,
+    new: &Suite,
+    added: &[bool],
+    home: &Home,
+) -> Result<Suite, AllocError>
+    requires flags { length added.now ≡ length new.now.packages }
+    requires few { length old.now.packages + length (items_where_true added.now new.now.packages) ≤ most_packages }
+    ensures packages { IfOk result (λ suite. suite.packages ≡ old.now.packages ++ items_where_true added.now new.now.packages) }
+    ensures home { IfOk result (λ suite. suite.home ≡ home.now) }
+{
+    let home = copy_of_home(alloc, home)?;
+    let all = all_flags(alloc, old.count())?;
+    let suite = old.join(alloc, &all, new, added, home)?;
+    Ok(suite)
+}
+
+// So many flags, all of them up.
+fn all_flags(alloc: Global, count: u32) -> Result<Vec<bool>, AllocError>
+    ensures { IfOk result (λ flags. flags.items ≡ replicate count true) }
+{
+    vec![in alloc; true; count as usize]
+}
+
+// The first of two architectures that is there.
+fn common_home(alloc: Global, old: &Home, new: &Home) -> Result<Home, AllocError> {
+    if old.name.is_some() {
+        return copy_of_home(alloc, old);
+    }
+    copy_of_home(alloc, new)
+}
+
+// The same architecture.
+fn copy_of_home(alloc: Global, home: &Home) -> Result<Home, AllocError>
+    ensures { IfOk result (λ copy. copy ≡ home.now) }
+{
+    match &home.name {
+        Some(name) => Ok(Home {
+            name: Some(Bytes::copy(alloc, name.as_slice())?),
+        }),
+        None => Ok(Home { name: None }),
+    }
+}

@@ -1,3 +1,4 @@
+-- for the bodies of this crate alone
 -- What all mixes of two indexes are made of: the packages of the old one, and behind them those of the new one whose names differ.
 use Rattle.std.specs.Prelude.{◌≡◌, ℕ, Bool, List, ◌++◌, map, Option, Some, None}
 use Rattle.std.specs.List.{items_where_true}
@@ -22,8 +23,8 @@ abbrev pub names_between : Whole → List (List ℕ)
 names_between whole = differing (packages_in whole.old_bytes.now) (packages_in whole.new_bytes.now)
 
 -- all packages that mixes of the two have
-abbrev pub all_packages : OldSide → Whole → List PackageFacts
-all_packages old whole = old.view.now.suite.packages ++ items_where_true whole.added.items whole.new.now.packages
+abbrev pub packages_of_both : OldSide → Whole → List PackageFacts
+packages_of_both old whole = old.view.now.suite.packages ++ items_where_true whole.added.items whole.new.now.packages
 
 -- two indexes without a refusal, the packages that mixes of them have with their repository, and those that bear each name of the old side
 pub record IsWhole (old : OldSide) (whole : Whole) : Type 0 where
@@ -31,8 +32,8 @@ pub record IsWhole (old : OldSide) (whole : Whole) : Type 0 where
   pub new_is : IsSuiteOf whole.new_bytes.now whole.new.now.packages whole.new.now.home.name
   pub free : plan_refusal whole.old_bytes.now whole.new_bytes.now ≡ None
   pub added_are : whole.added.items ≡ map (λ facts. is_taken (names_between whole) facts.name) whole.new.now.packages
-  pub book_is : IsBookOf whole.pool whole.book (suite_repository whole.home (all_packages old whole))
-  pub named_are : whole.named.items ≡ bearers_of (all_packages old whole) old.names
+  pub book_is : IsBookOf whole.pool whole.book (suite_repository whole.home (packages_of_both old whole))
+  pub named_are : whole.named.items ≡ bearers_of (packages_of_both old whole) old.names
 
 -- the kernel of a repository at a clause limit, with hold or without, or none where it passes the limit
 pub record IsKernelMade (pool : Interned) (limit : ℕ) (hold : Bool) (R : Repository) (made : Kernel) : Type 0 where

@@ -10,7 +10,7 @@ ghost use Rattle.suite_compare.specs.Views.{IsKernelOf};
 ghost use Rattle.suite_part.specs.Parts.{chosen_in};
 ghost use Rattle.migrate_plan.specs.Plan.{outcome_of, settings_of};
 ghost use Rattle.migrate_plan.specs.Trying.{outcome_by, told_of};
-ghost use Rattle.migrate_plan.specs.Whole.{all_packages, IsKernelAt, IsWhole};
+ghost use Rattle.migrate_plan.specs.Whole.{packages_of_both, IsKernelAt, IsWhole};
 
 use crate::plan::PlanLine;
 use crate::trying::line_by_first;
@@ -56,9 +56,9 @@ pub(crate) fn line_in(
     requires side { IsOldSide old.now }
     requires limit { 0 < old.now.view.now.limit }
     requires whole { IsWhole old.now whole.now }
-    requires flags { length flags.items ≡ length (all_packages old.now whole.now) }
+    requires flags { length flags.items ≡ length (packages_of_both old.now whole.now) }
     ensures { let before = old.now.view.now in let settings = settings_of old.now.budget before.limit before.kernel.hold in
-        IfOk result (λ line. line ≡ outcome_by settings before.suite.home before.suite.packages whole.now.home (items_where_true flags.items (all_packages old.now whole.now)) name.now) }
+        IfOk result (λ line. line ≡ outcome_by settings before.suite.home before.suite.packages whole.now.home (items_where_true flags.items (packages_of_both old.now whole.now)) name.now) }
 {
     let chosen = Chosen::of(alloc, flags)?;
     let mut pool = Pool::new(alloc)?;
@@ -87,8 +87,8 @@ fn kernel_in(
     requires pool { IsPool pool.old }
     requires limit { 0 < old.now.view.now.limit }
     requires whole { IsWhole old.now whole.now }
-    requires flags { length chosen.now.flags.items ≡ length (all_packages old.now whole.now) }
-    ensures { IfOk result (IsKernelAt pool.new old.now.view.now.limit old.now.view.now.kernel.hold (suite_repository whole.now.home (items_where_true chosen.now.flags.items (all_packages old.now whole.now)))) }
+    requires flags { length chosen.now.flags.items ≡ length (packages_of_both old.now whole.now) }
+    ensures { IfOk result (IsKernelAt pool.new old.now.view.now.limit old.now.view.now.kernel.hold (suite_repository whole.now.home (items_where_true chosen.now.flags.items (packages_of_both old.now whole.now)))) }
 {
     let book = part_of(alloc, pool, &whole.pool, &whole.book, chosen)?;
     let made = kernel_of(alloc, pool, &book, old.view.limit, old.view.kernel.hold);
@@ -127,11 +127,11 @@ fn line_by_kernel(
 ) -> Result<PlanLine, AllocError>
     requires side { IsOldSide old.now }
     requires hold { kernel.now.hold ≡ old.now.view.now.kernel.hold }
-    requires kernel { IsKernelOf pool.now kernel.now old.now.view.now.limit (suite_repository whole.now.home (items_where_true chosen.now.flags.items (all_packages old.now whole.now))) }
+    requires kernel { IsKernelOf pool.now kernel.now old.now.view.now.limit (suite_repository whole.now.home (items_where_true chosen.now.flags.items (packages_of_both old.now whole.now))) }
     requires whole { IsWhole old.now whole.now }
-    requires flags { length chosen.now.flags.items ≡ length (all_packages old.now whole.now) }
+    requires flags { length chosen.now.flags.items ≡ length (packages_of_both old.now whole.now) }
     ensures { let before = old.now.view.now in let settings = settings_of old.now.budget before.limit before.kernel.hold in
-        IfOk result (λ line. line ≡ outcome_of name.now None (told_of settings before.suite.home before.suite.packages whole.now.home (items_where_true chosen.now.flags.items (all_packages old.now whole.now)))) }
+        IfOk result (λ line. line ≡ outcome_of name.now None (told_of settings before.suite.home before.suite.packages whole.now.home (items_where_true chosen.now.flags.items (packages_of_both old.now whole.now)))) }
 {
     let named = named_in(alloc, &whole.named, chosen)?;
     let first = first_line_by(alloc, old, pool, kernel, &named)?;

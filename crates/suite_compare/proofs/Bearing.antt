@@ -7,7 +7,7 @@ use Rattle.relation_fields.{specs.declared.packages.Home.{Home}, specs.declared.
 use Rattle.kernel_rounds.specs.declared.extraction.Kernel.{Kernel}
 use Rattle.repo_model.{specs.Goals.{any_version, packages_named}, specs.Repository.{suite_repository}, specs.Stanzas.{no_stanza, stanza_at}, proofs.Chosen.{named_is, number_cases}, proofs.Packages.{length_clauses}}
 use Rattle.search_terms.proofs.Ranges.{rows_long}
-use Rattle.suite_compare.{specs.Asking.{image_of}, specs.Bearers.{bearers_of, filled_places, is_filled, AreClasses, FitsKernel}, specs.Groups.{AreEach}, specs.Names.{stands_in}, specs.Views.{IsKernelOf}, proofs.Gathering.{image_made, named_inside, table_of}, proofs.Named.{bearer_of, AreAmong}, proofs.SuiteKernels.{kernel_class_within, suite_sound}}
+use Rattle.suite_compare.{specs.Asking.{image_of}, specs.Bearers.{bearers_of, filled_places, is_borne, AreClasses, FitsKernel}, specs.Groups.{AreEach}, specs.Names.{stands_in}, specs.Views.{IsKernelOf}, proofs.Gathering.{image_made, named_inside, table_of}, proofs.Named.{bearer_of, AreAmong}, proofs.SuiteKernels.{kernel_class_within, suite_sound}}
 
 same_items : (xs ys : List (List ℕ)) → length xs ≡ length ys → ((i : ℕ) → i < length xs → listed_for xs i ≡ listed_for ys i) → xs ≡ ys
 same_items [] [] e f = refl
@@ -63,14 +63,14 @@ bearers_count stanzas names named is = ap length is ∙ length-map names (λ nam
 pub names_borne : (stanzas : List PackageFacts) (names named : List (List ℕ)) → named ≡ bearers_of stanzas names → map (listed_for names) (filled_places named) ≡ filter (stands_in stanzas) names
 names_borne stanzas names named is =
     ap (map (listed_for names))
-    (filter_same (is_filled named) (λ i. stands_in stanzas (listed_for names i)) (numbers (length named) 0)
+    (filter_same (is_borne named) (λ i. stands_in stanzas (listed_for names i)) (numbers (length named) 0)
     (λ i j. let l : i < length named = number_below (length named) i j in same i (subst (λ z. i < z) long l)) ∙ ap (λ n. filter (λ i. stands_in stanzas (listed_for names i)) (numbers n 0)) long)
     ∙ kept_at (stands_in stanzas) (listed_for names) 0 names (λ i l. ap (listed_for names) (omega arith))
   where
     long : length named ≡ length names
     long = bearers_count stanzas names named is
 
-    same : (i : ℕ) → i < length names → is_filled named i ≡ stands_in stanzas (listed_for names i)
+    same : (i : ℕ) → i < length names → is_borne named i ≡ stands_in stanzas (listed_for names i)
     same i l =
         ap (λ z. not (eqb (length (listed_for z i)) 0)) is ∙ ap (λ z. not (eqb (length z) 0)) (get_or-map (λ name. packages_named stanzas (any_version name)) names i [] [] l)
         ∙ sym (stands_where stanzas (listed_for names i))
@@ -85,26 +85,26 @@ pub all_borne : (stanzas : List PackageFacts) (names named : List (List ℕ)) (p
 all_borne stanzas names named places borne is stand = ap (map (listed_for names)) is ∙ names_borne stanzas names named borne ∙ all_kept (stands_in stanzas) names stand
 
 -- the places are found one by one
-filled_step : (named : List (List ℕ)) (n : ℕ) → filter (is_filled named) (numbers (n + 1) 0) ≡ filter (is_filled named) (numbers n 0) ++ cond (is_filled named n) (n ∷ []) []
-filled_step named n = ap (filter (is_filled named)) (numbers_more n) ∙ filter-append (is_filled named) (numbers n 0) (n ∷ [])
+filled_step : (named : List (List ℕ)) (n : ℕ) → filter (is_borne named) (numbers (n + 1) 0) ≡ filter (is_borne named) (numbers n 0) ++ cond (is_borne named n) (n ∷ []) []
+filled_step named n = ap (filter (is_borne named)) (numbers_more n) ∙ filter-append (is_borne named) (numbers n 0) (n ∷ [])
 
-pub filled_none : (named : List (List ℕ)) (places : List ℕ) → places ≡ [] → places ≡ filter (is_filled named) (numbers 0 0)
+pub filled_none : (named : List (List ℕ)) (places : List ℕ) → places ≡ [] → places ≡ filter (is_borne named) (numbers 0 0)
 unfolding numbers
 filled_none named places e = e
 
-pub filled_skip : (named : List (List ℕ)) (n : ℕ) (list places : List ℕ) → list ≡ listed_for named n → eqb (length list) 0 ≡ true → places ≡ filter (is_filled named) (numbers n 0) → places ≡ filter (is_filled named) (numbers (n + 1) 0)
+pub filled_skip : (named : List (List ℕ)) (n : ℕ) (list places : List ℕ) → list ≡ listed_for named n → eqb (length list) 0 ≡ true → places ≡ filter (is_borne named) (numbers n 0) → places ≡ filter (is_borne named) (numbers (n + 1) 0)
 filled_skip named n list places is none so =
-    so ∙ sym (filled_step named n ∙ ap (λ b. filter (is_filled named) (numbers n 0) ++ cond (not b) (n ∷ []) []) (ap (λ z. eqb (length z) 0) (sym is) ∙ none) ∙ append-nil (filter (is_filled named) (numbers n 0)))
+    so ∙ sym (filled_step named n ∙ ap (λ b. filter (is_borne named) (numbers n 0) ++ cond (not b) (n ∷ []) []) (ap (λ z. eqb (length z) 0) (sym is) ∙ none) ∙ append-nil (filter (is_borne named) (numbers n 0)))
 
-pub filled_more : (named : List (List ℕ)) (n : ℕ) (list places new : List ℕ) → list ≡ listed_for named n → eqb (length list) 0 ≡ false → new ≡ places ++ n ∷ [] → places ≡ filter (is_filled named) (numbers n 0)
-    → new ≡ filter (is_filled named) (numbers (n + 1) 0)
+pub filled_more : (named : List (List ℕ)) (n : ℕ) (list places new : List ℕ) → list ≡ listed_for named n → eqb (length list) 0 ≡ false → new ≡ places ++ n ∷ [] → places ≡ filter (is_borne named) (numbers n 0)
+    → new ≡ filter (is_borne named) (numbers (n + 1) 0)
 filled_more named n list places new is some made so =
-    made ∙ ap (λ z. z ++ n ∷ []) so ∙ sym (filled_step named n ∙ ap (λ b. filter (is_filled named) (numbers n 0) ++ cond (not b) (n ∷ []) []) (ap (λ z. eqb (length z) 0) (sym is) ∙ some))
+    made ∙ ap (λ z. z ++ n ∷ []) so ∙ sym (filled_step named n ∙ ap (λ b. filter (is_borne named) (numbers n 0) ++ cond (not b) (n ∷ []) []) (ap (λ z. eqb (length z) 0) (sym is) ∙ some))
 
 -- each of these places has an item
 pub filled_at : (named : List (List ℕ)) (j : ℕ) → j < length (filled_places named) → (get_or (filled_places named) j 0 < length named) × (0 < length (listed_for named (get_or (filled_places named) j 0)))
 filled_at named j l =
-    let w = filter_cases (is_filled named) (numbers (length named) 0) (get_or (filled_places named) j 0) (In_at (filled_places named) j 0 l) in
+    let w = filter_cases (is_borne named) (numbers (length named) 0) (get_or (filled_places named) j 0) (In_at (filled_places named) j 0 l) in
     let within = number_below (length named) (get_or (filled_places named) j 0) w.0 in
     (within, some (length (listed_for named (get_or (filled_places named) j 0))) w.1)
   where

@@ -24,8 +24,8 @@ pub record AreClasses (class_of chosen image : List ℕ) : Type 0 where
   pub same : (k : ℕ) → In k image ↔ In k (map (λ n. slice_index_or class_of n 0) chosen)
 
 -- the places at which a list has an item
-abbrev pub is_filled : List (List ℕ) → ℕ → Bool
-is_filled lists place = not (length (listed_for lists place) == 0)
+abbrev pub is_borne : List (List ℕ) → ℕ → Bool
+is_borne lists place = not (length (listed_for lists place) == 0)
 
 abbrev pub filled_places : List (List ℕ) → List ℕ
-filled_places lists = filter (is_filled lists) (numbers (length lists) 0)
+filled_places lists = filter (is_borne lists) (numbers (length lists) 0)

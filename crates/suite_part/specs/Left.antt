@@ -1,3 +1,4 @@
+-- for the bodies of this crate alone
 -- What is left of clauses, where its ids are known.
 use Rattle.std.specs.Prelude.{◌≡◌, ℕ, ◌<◌, Bool, List, Option, Some, None, length, slice_index_or}
 use Rattle.clause_pool.specs.Interned.{Interned, clause_at}

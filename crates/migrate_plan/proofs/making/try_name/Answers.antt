@@ -1,7 +1,7 @@
 use Rattle.std.proofs.Common.{[], ◌∷◌, ◌++◌, ◌∙◌, refl, sym}
 use Rattle.std.specs.List.{items_where_true}
 use Rattle.migrate_plan.specs.Plan.{settings_of}
-use Rattle.migrate_plan.specs.Whole.{all_packages, names_between}
+use Rattle.migrate_plan.specs.Whole.{packages_of_both, names_between}
 use Rattle.migrate_plan.proofs.Made.{all_inside, behind_made}
 use Rattle.migrate_plan.proofs.MixedFacts.{few_flagged, few_mixed, packages_mixed}
 use Rattle.migrate_plan.proofs.WholeMixes.{added_long, flags_long, kept_long, left_long, mix_in_whole}
@@ -20,7 +20,7 @@ line_in-requires-clause-flags c =
     let names = c.args.taken.now ++ c.args.name.now ∷ [] in
     flags_long c.args.old.now.view.now.suite.packages whole.new.now.packages (names_between whole) names _ _ _
     (all_inside c.args.taken.now (names_between whole) c.args.name.now c.requires.taken c.requires.name) c.in_ok-mix.ensures.left c.in_ok-mix.ensures.kept c.requires.whole.added_are
-    _ (all_packages c.args.old.now whole) (rw (c.deref.ensures.value, c.deref-then-is_same_home.ensures.value, c.deref-then-is_same_home-2.ensures.value) at c.in_ok-flags.ensures) refl
+    _ (packages_of_both c.args.old.now whole) (rw (c.deref.ensures.value, c.deref-then-is_same_home.ensures.value, c.deref-then-is_same_home-2.ensures.value) at c.in_ok-flags.ensures) refl
 
 pub returns-then-is_same_home : goal.returns-then-is_same_home
 returns-then-is_same_home c =
@@ -28,10 +28,10 @@ returns-then-is_same_home c =
     let whole = c.args.whole.now in
     let names = c.args.taken.now ++ c.args.name.now ∷ [] in
     let flags = c.in_ok-flags.flags.items in
-    let packages = items_where_true flags (all_packages c.args.old.now whole) in
+    let packages = items_where_true flags (packages_of_both c.args.old.now whole) in
     let are = mix_in_whole view.suite.packages whole.new.now.packages (names_between whole) names _ _ _
     (all_inside c.args.taken.now (names_between whole) c.args.name.now c.requires.taken c.requires.name) c.in_ok-mix.ensures.left c.in_ok-mix.ensures.kept c.requires.whole.added_are
-    flags (all_packages c.args.old.now whole) (rw (c.deref.ensures.value, c.deref-then-is_same_home.ensures.value, c.deref-then-is_same_home-2.ensures.value) at c.in_ok-flags.ensures) refl in
+    flags (packages_of_both c.args.old.now whole) (rw (c.deref.ensures.value, c.deref-then-is_same_home.ensures.value, c.deref-then-is_same_home-2.ensures.value) at c.in_ok-flags.ensures) refl in
     behind_made (settings_of c.args.old.now.budget view.limit view.kernel.hold) whole.old_bytes.now whole.new_bytes.now c.args.name.now c.args.taken.now view.suite.home whole.home view.suite.packages packages c.in_ok-part_line.part_line
     c.requires.whole.old_is
     (packages_mixed whole.old_bytes.now whole.new_bytes.now view.suite.packages whole.new.now.packages view.suite.home.name whole.new.now.home.name names _ _ c.requires.whole.old_is c.requires.whole.new_is

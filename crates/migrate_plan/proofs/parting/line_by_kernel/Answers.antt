@@ -2,21 +2,21 @@ use Rattle.std.proofs.Common.{◌∙◌}
 use Rattle.std.specs.List.{items_where_true}
 use Rattle.migrate_plan.specs.Plan.{settings_of}
 use Rattle.migrate_plan.specs.Trying.{told_of}
-use Rattle.migrate_plan.specs.Whole.{all_packages}
+use Rattle.migrate_plan.specs.Whole.{packages_of_both}
 use Rattle.migrate_plan.proofs.Parted.{bearers_known, chosen_bearers, part_fits, part_long}
 use Rattle.migrate_plan.proofs.parting.line_by_kernel.Goals as goal
 
 pub named_in-requires : goal.named_in-requires
-named_in-requires c = bearers_known (all_packages c.args.old.now c.args.whole.now) c.args.old.now.names _ c.args.chosen.now.flags.items c.requires.flags (c.deref.ensures.value ∙ c.requires.whole.named_are)
+named_in-requires c = bearers_known (packages_of_both c.args.old.now c.args.whole.now) c.args.old.now.names _ c.args.chosen.now.flags.items c.requires.flags (c.deref.ensures.value ∙ c.requires.whole.named_are)
 
 pub first_line_by-requires-clause-fits : goal.first_line_by-requires-clause-fits
 first_line_by-requires-clause-fits c =
-    part_fits (all_packages c.args.old.now c.args.whole.now) c.args.old.now.names _ c.args.chosen.now.flags.items c.requires.flags (c.deref.ensures.value ∙ c.requires.whole.named_are)
+    part_fits (packages_of_both c.args.old.now c.args.whole.now) c.args.old.now.names _ c.args.chosen.now.flags.items c.requires.flags (c.deref.ensures.value ∙ c.requires.whole.named_are)
     c.args.pool.now c.args.kernel.now c.args.old.now.view.now.limit c.args.whole.now.home _ (c.deref-2.ensures.value ∙ c.in_ok-named.ensures) c.requires.kernel
 
 pub first_line_by-requires-clause-count : goal.first_line_by-requires-clause-count
 first_line_by-requires-clause-count c =
-    part_long (all_packages c.args.old.now c.args.whole.now) c.args.old.now.names _ c.args.chosen.now.flags.items c.requires.flags (c.deref.ensures.value ∙ c.requires.whole.named_are)
+    part_long (packages_of_both c.args.old.now c.args.whole.now) c.args.old.now.names _ c.args.chosen.now.flags.items c.requires.flags (c.deref.ensures.value ∙ c.requires.whole.named_are)
     _ (c.deref-2.ensures.value ∙ c.in_ok-named.ensures)
 
 pub returns : goal.returns
@@ -24,7 +24,7 @@ returns c =
     let old = c.args.old.now.view.now in
     let whole = c.args.whole.now in
     let flags = c.args.chosen.now.flags.items in
-    let packages = all_packages c.args.old.now whole in
+    let packages = packages_of_both c.args.old.now whole in
     c.in_ok-line.ensures (told_of (settings_of c.args.old.now.budget old.limit old.kernel.hold) old.suite.home old.suite.packages whole.home (items_where_true flags packages))
     (c.in_ok-first.ensures whole.home (items_where_true flags packages) c.requires.kernel
     (chosen_bearers packages c.args.old.now.names _ flags c.requires.flags (c.deref.ensures.value ∙ c.requires.whole.named_are) _ (c.deref-2.ensures.value ∙ c.in_ok-named.ensures)))

@@ -1,7 +1,7 @@
 use Rattle.std.proofs.Common.{◌∙◌, ap, length, refl}
 use Rattle.std.specs.List.{items_where_true}
 use Rattle.migrate_plan.specs.Plan.{settings_of}
-use Rattle.migrate_plan.specs.Whole.{all_packages}
+use Rattle.migrate_plan.specs.Whole.{packages_of_both}
 use Rattle.migrate_plan.specs.declared.plan.PlanLine.TheVariants.{LeftLimit}
 use Rattle.migrate_plan.proofs.Made.{limit_made, line_answered}
 use Rattle.migrate_plan.proofs.Parted.{none_within, over_of}
@@ -23,7 +23,7 @@ pub returns-in-Some : goal.returns-in-Some
 returns-in-Some c =
     let old = c.args.old.now.view.now in
     let whole = c.args.whole.now in
-    let packages = all_packages c.args.old.now whole in
+    let packages = packages_of_both c.args.old.now whole in
     let same = ap (λ flags. items_where_true flags packages) c.in_ok-chosen.ensures in
     let made = rw c.in-Some.is at c.in_ok-made.ensures in
     line_answered (settings_of c.args.old.now.budget old.limit old.kernel.hold) old.suite.home old.suite.packages whole.home (items_where_true c.args.flags.items packages) c.args.name.now whole.home _
@@ -33,7 +33,7 @@ pub returns : goal.returns
 returns c =
     let old = c.args.old.now.view.now in
     let whole = c.args.whole.now in
-    let packages = all_packages c.args.old.now whole in
+    let packages = packages_of_both c.args.old.now whole in
     let same = ap (λ flags. items_where_true flags packages) c.in_ok-chosen.ensures in
     let made = rw c.in-None.is at c.in_ok-made.ensures in
     limit_made (settings_of c.args.old.now.budget old.limit old.kernel.hold) old.suite.home old.suite.packages whole.home (items_where_true c.args.flags.items packages) c.args.name.now (LeftLimit c.in_ok-name-in-None.name) made.0

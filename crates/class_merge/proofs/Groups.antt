@@ -196,9 +196,6 @@ module _ (pool : Interned) (book : Book) (is : IsPool pool) (sound : Sound pool 
       ]
     ]
 
-    its_first : ℕ
-    its_first = get_or least2 place 0
-
     its_alike : Alike R n (get_or least2 place 0)
     its_alike =
         alike_keys n (get_or least2 place 0) l (least2_below (get_or least2 place 0) (In_at least2 place 0 place_within))

@@ -1,8 +1,7 @@
 -- The rows and conflicts that are made from a list of classes are those of the merged repository.
-use Rattle.std.proofs.Common.{◌≡◌, ℕ, ◌<◌, ◌≤◌, ◌+◌, Bool, true, false, not, ◌||◌, cond, eqb, List, [], ◌∷◌, ◌++◌, length, get_or, refl, sym, ◌∙◌, ap, ap₂, subst, arith, map, eq-eqb, eqb-true, slice_index_or, ◌↔◌}
+use Rattle.std.proofs.Common.{◌≡◌, ℕ, ◌<◌, ◌≤◌, ◌+◌, true, not, ◌||◌, eqb, List, [], ◌∷◌, length, get_or, refl, sym, ◌∙◌, ap, ap₂, subst, arith, map, eq-eqb, eqb-true, slice_index_or, ◌↔◌}
 use Rattle.std.specs.List.{list_all, list_any}
-use Rattle.std.proofs.lemmas.List.{get_or-map, length-map, map-append}
-use Rattle.std.proofs.lemmas.List.Elements.{filter-append}
+use Rattle.std.proofs.lemmas.List.{get_or-map, length-map}
 use Rattle.listed.proofs.Bools.{same_bool}
 use Rattle.clause_pool.specs.Interned.{Interned, IsPool, row_at}
 use Rattle.row_book.specs.declared.book.Book.{Book}
@@ -98,16 +97,6 @@ minimal_ordered all family same order =
     (λ c i. let j : In c (minimal_of all) = ordered_parts (minimal_of all) c i in
     minimal_of_from family c (same.there c (minimal_of_parts all c j).0) (λ S u f. (minimal_of_parts all c j).1 S (same.back S u) f))
 
--- the images that do not hold a class, one more
-pub apart_more : (k : ℕ) (f : List ℕ → List ℕ) (xs : List (List ℕ)) (x : List ℕ) → apart_from k (map f (xs ++ x ∷ [])) ≡ apart_from k (map f xs) ++ cond (has (f x) k) [] (f x ∷ [])
-apart_more k f xs x =
-    ap (apart_from k) (map-append f xs (x ∷ [])) ∙ filter-append (λ c. not (has c k)) (map f xs) (f x ∷ [])
-    ∙ ap (λ b. apart_from k (map f xs) ++ b) (pick (has (f x) k))
-  where
-    pick : (b : Bool) → cond (not b) (f x ∷ []) [] ≡ cond b [] (f x ∷ [])
-    pick true = refl
-    pick false = refl
-
 -- what is asked of the lists of classes
 pub record Serves (pool : Interned) (book : Book) (least class_of : List ℕ) : Type 0 where
   pub count : length least ≡ length (firsts (repository_of pool book))
@@ -149,10 +138,6 @@ merged_table R n e = ap (λ z. map (class_clauses R) (numbers z 0)) e
 pub merged_lists : (R : Repository) (n : ℕ) → n ≡ length (firsts R) → map (class_conflicts R) (numbers n 0) ≡ (quotient R).conflicts
 unfolding quotient
 merged_lists R n e = ap (λ z. map (class_conflicts R) (numbers z 0)) e
-
--- the repository of a book
-pub made_repository : (pool : Interned) (rows : List ℕ) (book : Book) (R : Repository) → map (row_at pool) book.rows ≡ R.clauses → book.conflicts ≡ R.conflicts → repository_of pool book ≡ R
-made_repository pool rows book R e f = repository_same (repository_of pool book) R e f
 
 -- the rows of a merged book
 rows_size : (pool : Interned) (rows : List ℕ) (R : Repository) → map (row_at pool) rows ≡ R.clauses → length rows ≡ length R.clauses

@@ -1,5 +1,5 @@
 -- Members of lists in the words of the standard library, and lists that were sorted and rid of doubles.
-use Rattle.std.proofs.Common.{◌≡◌, ℕ, ◌<◌, eqb, nat_eq, List, [], ◌∷◌, ◌++◌, inl, inr, refl, sym, ◌∙◌, ap, subst}
+use Rattle.std.proofs.Common.{◌≡◌, ℕ, ◌<◌, nat_eq, List, [], ◌∷◌, inl, inr, refl, sym, ◌∙◌, ap, subst}
 use Rattle.std.specs.List.{AllByRecursion, dedup}
 use Rattle.std.specs.List.Retain.{DiffersFromLast, IsFiltered}
 use Rattle.std.specs.List.Sorted.{IsPermutation, IsSorted, IsStrictlyIncreasing, IsStrictlySortedBy}
@@ -9,34 +9,16 @@ use Rattle.std.specs.declared.cmp.Ordering.{Ordering}
 use Rattle.std.specs.declared.cmp.Ordering.TheVariants.{Less, Equal, Greater}
 use Rattle.std.proofs.lemmas.Cmp.{ranked}
 use Rattle.std.proofs.lemmas.List.Filters.{dedup_is}
-use Rattle.std.proofs.lemmas.List.Kept.{AllPairs-from_increasing, Contains-dedup, Contains-dedup_nat, Contains-from_dedup, IsStrictlySortedBy-dedup}
+use Rattle.std.proofs.lemmas.List.Kept.{AllPairs-from_increasing, Contains-dedup, Contains-from_dedup, IsStrictlySortedBy-dedup}
 use Rattle.std.proofs.lemmas.List.Sorted.{Contains-permutation, IsPermutation-sym}
-use Rattle.std.proofs.lemmas.Map.Keys.{IsStrictlyIncreasing-dedup}
-use Rattle.listed.proofs.Lists.{contains_in, in_contains, In_append_cases, In_append_left, In_append_right, In_cases, In_none}
-use Rattle.listed.proofs.Orders.{ascending_pairs, ascending_same}
+use Rattle.listed.proofs.Lists.{contains_in, in_contains, In_cases, In_none}
+use Rattle.listed.proofs.Orders.{ascending_pairs}
 use Rattle.listed.specs.Lists.{In, Ascending}
 use Rattle.clause_pool.specs.Lists.{Before, InOrder}
-use Rattle.clause_families.specs.Unions.{union_of}
 use Rattle.clause_families.specs.Families.{SameClauses}
-use Rattle.clause_families.proofs.Unions.{joined_ascending, joined_cases, joined_left, joined_right}
 
 pub increasing_ascending : (xs : List ℕ) → IsStrictlyIncreasing xs → Ascending xs
 increasing_ascending xs f = ascending_pairs xs (AllPairs-from_increasing xs f)
-
--- the union of two clauses: their numbers sorted, each once
-pub sorted_union : (xs ys sorted made : List ℕ) → Ascending ys → IsPermutation (ys ++ xs) sorted → IsSorted nat_cmp sorted → IsFiltered (DiffersFromLast eqb) [] sorted made →
-    made ≡ union_of xs ys
-sorted_union xs ys sorted made up moved order once =
-    let is : made ≡ dedup eqb sorted = dedup_is eqb sorted made once in
-    is ∙ ascending_same (dedup eqb sorted) (union_of xs ys)
-    (increasing_ascending (dedup eqb sorted) (IsStrictlyIncreasing-dedup sorted order))
-    (joined_ascending xs ys up)
-    (λ n i.
-    let k : In n (ys ++ xs) = contains_in (ys ++ xs) n (Contains-permutation sorted (ys ++ xs) n (IsPermutation-sym (ys ++ xs) sorted moved) (Contains-from_dedup eqb sorted n (in_contains (dedup eqb sorted) n i))) in
-    elim (In_append_cases ys xs n k) [ inl l ↦ joined_right xs ys n l | inr r ↦ joined_left xs ys n r ])
-    (λ n i.
-    let k : In n (ys ++ xs) = elim (joined_cases xs ys n i) [ inl l ↦ In_append_right ys xs n l | inr r ↦ In_append_left ys xs n r ] in
-    contains_in (dedup eqb sorted) n (Contains-dedup_nat sorted n (Contains-permutation (ys ++ xs) sorted n moved (in_contains (ys ++ xs) n k))))
 
 -- a family sorted, each clause once
 pub before_less : (c d : List ℕ) → slice_cmp nat_cmp c d ≡ Less → Before c d

@@ -142,9 +142,6 @@ module _ (pool : Interned) (user spent : ℕ) (row others useful : List ℕ)
         ]
 
     module _ (family : List (List ℕ)) (same : SameClauses all family) (order : InOrder family) where
-      pub family_up : (c : List ℕ) → In c family → Ascending c
-      family_up c i = wanted_up c (part c (same.back c i))
-
       pub family_minimal : minimal_of family ≡ in_row_order (substituted user spent (clauses_at pool row) (clauses_at pool others))
       family_minimal =
           order_same (minimal_of family) (in_row_order (minimal_of wanted))

@@ -6,7 +6,7 @@ use Rattle.std.proofs.Math.Pow.{pow_mono}
 use Rattle.std.proofs.lemmas.Bool.{cases_eq}
 use Rattle.std.proofs.lemmas.List.{get_or_default, get_or-drop, get_or-replicate, length-drop, length-replicate}
 use Rattle.std.proofs.lemmas.Nat.{pow_pos, shl_whole}
-use Rattle.clause_flatten.specs.LeastTree.{node, IsTree, IsFirstLeast}
+use Rattle.clause_flatten.specs.LeastTree.{node, IsTree}
 
 -- a number was put at a leaf, and all nodes but the one above a place have the lesser of the two below them
 pub record IsMended (old : List ℕ) (leaves leaf number : ℕ) (nodes : List ℕ) (place : ℕ) : Type 0 where
@@ -110,19 +110,6 @@ module _ (nodes : List ℕ) (depth level place : ℕ) (t : IsTree nodes (2 ^ dep
         ];
         least = least_below;
       }
-
-pub way_last : (nodes : List ℕ) (depth place : ℕ) → IsTree nodes (2 ^ depth) → IsWayDown nodes depth place → IsFirstLeast nodes (2 ^ depth) (place - length nodes / 2)
-way_last nodes depth place t w =
-    let size : length nodes ≡ 2 ^ depth + 2 ^ depth = t.size in
-    let low : 2 ^ depth ≤ place = w.low in
-    let high : place < 2 ^ depth + 2 ^ depth = w.high in
-    let found : 2 ^ depth + (place - length nodes / 2) ≡ place = omega arith in
-    let here : node nodes (2 ^ depth + (place - length nodes / 2)) ≡ node nodes 1 = ap (node nodes) found ∙ w.same in
-    record {
-      there = omega arith;
-      before = λ m l. let u : node nodes 1 < node nodes (2 ^ depth + m) = w.before (2 ^ depth + m) (omega arith) (omega arith) in omega arith;
-      least = λ m l. let u : node nodes 1 ≤ node nodes (2 ^ depth + m) = w.least (2 ^ depth + m) (omega arith) (omega arith) in omega arith;
-    }
 
 -- the leaves, and nothing behind them
 pub leaf_at : (nodes : List ℕ) (leaves d q : ℕ) → IsTree nodes leaves → q < leaves → get_or (drop leaves nodes) q d ≡ node nodes (leaves + q)

@@ -1,8 +1,7 @@
 -- The table of sentences, as it is made.
 use Rattle.std.proofs.Common.{◌≡◌, ℕ, ◌+◌, ◌*◌, ◌<◌, List, [], ◌∷◌, ◌++◌, ◌⊎◌, ◌≤◌, length, get_or, set, take, refl, ap, sym, ◌∙◌, arith, inl, inr, subst}
 use Rattle.std.specs.Prelude.{All, Contains}
-use Rattle.std.proofs.lemmas.Bool.{cases_eq, cases_lt}
-use Rattle.std.proofs.Math.ListN.{get_or-eq_default}
+use Rattle.std.proofs.lemmas.Bool.{cases_eq}
 use Rattle.std.proofs.lemmas.List.{get_or_default, take_all, length-set, get_or-set_same, get_or-set_other}
 use Rattle.std.proofs.lemmas.List.Elements.{All-contains, All-more, Contains-push, Contains-append_left, Contains-push_cases, Contains-get_or}
 use Rattle.search_terms.specs.declared.literals.Literal.{Literal}
@@ -62,16 +61,6 @@ pub record IsTableTo (n k : ℕ) (uses : List (List Use)) (own : List (List Lite
   pub long : length uses ≡ n * 2
   pub within : (p : ℕ) (u : Use) → Contains (get_or uses p []) u → IsUse own u
   pub listed : (j : ℕ) (m : Literal) → j < k → Contains (get_or own j []) m → Names (get_or uses (flag_place (negation m)) []) j
-
-pub table_none : (n : ℕ) (uses : List (List Use)) (own : List (List Literal)) → length uses ≡ n * 2 → All (λ row. row ≡ []) uses → IsTableTo n 0 uses own
-table_none n uses own long empty = record {
-  long = long;
-  within = λ p u c. elim (cases_lt p (length uses)) [
-    | inl lt ↦ absurd (let e = empty p [] lt in omega (arith, (rw e at c).1))
-    | inr ge ↦ absurd (omega (arith, (rw (get_or-eq_default uses [] ge) at c).1))
-  ];
-  listed = λ j m lt c. absurd (omega (arith, lt));
-}
 
 -- a use of the sentence of number k is one of the sentence at its place
 use_at : (own : List (List Literal)) (k : ℕ) (s : List Literal) (u : Use) → k < length own → s ≡ get_or own k [] → IsUseOf s k u → IsUse own u

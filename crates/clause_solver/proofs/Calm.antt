@@ -9,7 +9,7 @@ use Rattle.row_book.specs.Book.{listed_for}
 use Rattle.listed.proofs.Lists.{In_none, contains_in, in_contains, all_at}
 use Rattle.std.proofs.lemmas.List.Elements.{All-contains, All-nil, All-cons, All-append, Contains-append_left, Contains-append_right, Contains-push, Contains-get_or}
 use Rattle.std.proofs.lemmas.List.Folds.{Any-from_list_any, list_any-from_Any}
-use Rattle.std.proofs.lemmas.List.{take_at, length-append}
+use Rattle.std.proofs.lemmas.List.{take_at}
 use Rattle.std.proofs.lemmas.List.FromFn.{get_or-map-range_with_len, length-map-range_with_len}
 use Rattle.search_terms.specs.declared.literals.Literal.{Literal}
 use Rattle.search_terms.specs.Closure.{literal, negation, is_same, forces, is_refuted, IsClosedUnder, IsUnitClosed, IsClosure, InClosure, Clashes, InRange}
@@ -182,11 +182,6 @@ assume_clash F ds old new l r refuted calm = refuted_clash F (ds ++ l ∷ []) ne
 pub front_of : (old more : List Literal) → take (length old) (old ++ more) ≡ old
 front_of old more = take_at old more (length old) refl
 
-pub assume_front : (F : List (List Literal)) (old new : List Literal) (l : Literal) → Runs F (old ++ l ∷ []) new → (take (length old) new ≡ old) × (length old ≤ length new)
-assume_front F old new l r =
-    let e : new ≡ old ++ (l ∷ [] ++ r.more) = r.behind ∙ append_assoc old (l ∷ []) r.more in
-    rw e (front_of old (l ∷ [] ++ r.more), omega (arith, length-append old (l ∷ [] ++ r.more)))
-
 -- levels
 pub calm_of : (F : List (List Literal)) (ds : List Literal) (hs : List ℕ) (trail : List Literal) → IsLayered F ds hs trail → CalmAt F ds trail
 calm_of F ds hs trail (at_root e calm) = rw e calm
@@ -253,10 +248,6 @@ pairs_wait conflicts more apart = λ k d lt. one (get_or (owned_sentences confli
 
 pub first_waits : (own : List (List Literal)) (conflicts : List (List ℕ)) (old new : List Literal) → old ≡ [] → AreApart conflicts → All (Waits (length old) new) own → All (Waits 0 new) (whole_form [] own conflicts)
 first_waits own conflicts old new e apart waits = All-append (Waits 0 new) own (owned_sentences conflict_sentence 0 conflicts) (rw e at waits) (pairs_wait conflicts new apart)
-
--- marks that follow from nothing
-nothing_in : (l : Literal) → set_of_trail [] l ≡ true → ⊥
-nothing_in l h = cc h
 
 pub sound_from : (F : List (List Literal)) (old new : List Literal) → ((l : Literal) → set_of_trail old l ≡ true → InClosure F [] l) → Runs F old new → (l : Literal) → set_of_trail new l ≡ true → InClosure F [] l
 sound_from F old new sound r l h = λ s holds closed. r.sound s closed (λ x t. sound x t s holds closed) l h

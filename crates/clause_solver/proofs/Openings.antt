@@ -24,22 +24,6 @@ contains_take : (row : List Use) (i : ℕ) (d u : Use) → i < length row → Co
 contains_take row i d u lt c = All-contains (λ x. Contains (take i row) x ⊎ (x ≡ get_or row i d)) (take (i + 1) row) u
     (All-more (λ x. Contains (take i row) x ⊎ (x ≡ get_or row i d)) row i d lt (λ j e jlt. inl (Contains-get_or (take i row) j e jlt)) (inr refl)) c
 
-pub least_begin : (set : Literal → Bool) (own : List (List Literal)) (row : List Use) (before : ℕ) → IsLeastOpen set own (take 0 row) before before
-least_begin set own row before = record { lower = omega arith; opens = inl refl; none = λ u c lt. absurd (omega (arith, c.1)) }
-
-pub least_skip : (set : Literal → Bool) (own : List (List Literal)) (row : List Use) (before least i : ℕ) (d u : Use) → i < length row → u ≡ get_or row i d
-    → (u.sentence < least → is_open_need set (at own u.sentence) ≡ false) → IsLeastOpen set own (take i row) before least → IsLeastOpen set own (take (i + 1) row) before least
-least_skip set own row before least i d u lt is closed inv = record {
-  lower = inv.lower;
-  opens = inv.opens;
-  none = λ v c vlt. elim (contains_take row i d v lt c) [
-    | inl old ↦ inv.none v old vlt
-    | inr e ↦
-        let same_one : v ≡ u = e ∙ sym is in
-        subst (λ z. is_open_need set (at own z.sentence) ≡ false) (sym same_one) (closed (subst (λ z. z.sentence < least) same_one vlt))
-  ];
-}
-
 pub least_take : (set : Literal → Bool) (own : List (List Literal)) (row : List Use) (before least i : ℕ) (d u : Use) → i < length row → u ≡ get_or row i d
     → u.sentence < least → is_open_need set (at own u.sentence) ≡ true → IsLeastOpen set own (take i row) before least → IsLeastOpen set own (take (i + 1) row) before u.sentence
 least_take set own row before least i d u lt is less opens inv = record {
@@ -51,25 +35,11 @@ least_take set own row before least i d u lt is less opens inv = record {
   ];
 }
 
-pub least_end : (set : Literal → Bool) (own : List (List Literal)) (row : List Use) (before least i : ℕ) → length row ≤ i → IsLeastOpen set own (take i row) before least → IsLeastOpen set own row before least
-least_end set own row before least i le inv = subst (λ r. IsLeastOpen set own r before least) (take_all i row le) inv
-
 -- the rows of the true literals so far have no open sentence below the least
 pub record IsSwept (set : Literal → Bool) (own : List (List Literal)) (uses : List (List Use)) (seen : List Literal) (least : ℕ) : Type 0 where
   pub within : least ≤ length own
   pub opens : (least ≡ length own) ⊎ (is_open_need set (at own least) ≡ true)
   pub none : All (λ l. l.positive ≡ true → (u : Use) → Contains (get_or uses (flag_place l) []) u → u.sentence < least → is_open_need set (at own u.sentence) ≡ false) seen
-
-pub swept_begin : (set : Literal → Bool) (own : List (List Literal)) (uses : List (List Use)) (trail : List Literal) → IsSwept set own uses (take 0 trail) (length own)
-swept_begin set own uses trail = record { within = omega arith; opens = inl refl; none = λ j d lt. absurd (omega arith) }
-
-pub swept_skip : (set : Literal → Bool) (own : List (List Literal)) (uses : List (List Use)) (trail : List Literal) (least i : ℕ) (l : Literal) → i < length trail → l ≡ get_or trail i l → l.positive ≡ false
-    → IsSwept set own uses (take i trail) least → IsSwept set own uses (take (i + 1) trail) least
-swept_skip set own uses trail least i l lt e sign inv = record {
-  within = inv.within;
-  opens = inv.opens;
-  none = All-more (λ m. m.positive ≡ true → (u : Use) → Contains (get_or uses (flag_place m) []) u → u.sentence < least → is_open_need set (at own u.sentence) ≡ false) trail i l lt inv.none (rw (← e) (λ t. absurd (cc (t, sign))));
-}
 
 pub swept_more : (set : Literal → Bool) (own : List (List Literal)) (uses : List (List Use)) (trail : List Literal) (least less i : ℕ) (l : Literal) (row : List Use) → i < length trail → l ≡ get_or trail i l
     → row ≡ get_or uses (flag_place l) [] → IsLeastOpen set own row least less → IsSwept set own uses (take i trail) least → IsSwept set own uses (take (i + 1) trail) less

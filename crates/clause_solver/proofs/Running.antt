@@ -11,14 +11,13 @@ use Rattle.search_terms.specs.Form.{conflict_sentence}
 use Rattle.search_terms.proofs.Forms.{in_map}
 use Rattle.search_terms.specs.declared.literals.Literal.{Literal}
 use Rattle.search_terms.specs.Closure.{literal, negation, is_same, forces, is_refuted, IsClosedUnder, IsUnitClosed}
-use Rattle.search_terms.specs.Marks.{flag_place, IsConsistent}
+use Rattle.search_terms.specs.Marks.{IsConsistent}
 pub use Rattle.search_terms.proofs.Lists.{item_at}
 use Rattle.search_terms.proofs.Sets.{find_some, find_none, forces_mono, Contains-head}
 use Rattle.search_terms.proofs.Models.{same-true}
 use Rattle.search_terms.proofs.Certificates.{same_refl}
 use Rattle.clause_solver.specs.Marking.{set_of_trail}
 use Rattle.clause_solver.specs.Running.{Runs, Waits}
-use Rattle.clause_solver.specs.Engine.{HasTwoFree, IsUse}
 use Rattle.clause_solver.specs.declared.table.Use.{Use}
 use Rattle.clause_solver.proofs.Trails.{among_last, among_cases}
 
@@ -231,16 +230,6 @@ row_waits P row old cur new i d lt a b met before =
     (All-weaker (λ u. Waits (length old) cur (get_or P u.sentence [])) (λ u. Waits (length old) new (get_or P u.sentence []))
     (λ u w. waits_after P old cur new (get_or P u.sentence []) (get_or P (get_or row i d).sentence [] ∷ []) a b w) (take i row) before)
     (inl met)
-
--- a sentence with two literals that are not contradicted is met
-pub met_two_free : (set : Literal → Bool) (own : List (List Literal)) (u : Use) → IsUse own u → HasTwoFree set u → IsClosedUnder set (get_or own u.sentence [])
-met_two_free set own u of idle = λ i d lt h.
-    let k = get_or (get_or own u.sentence []) i d in
-    let is_k : (m : Literal) → Contains (get_or own u.sentence []) m → set (negation m) ≡ false → m ≡ k =
-    λ m here f. elim (forces_at set k (get_or own u.sentence []) m h here) [ inl e ↦ e | inr c ↦ absurd (both_ways (set (negation m)) f c) ] in
-    let first = is_k of.one.0 of.one.1 (idle.one (negation of.one.0) of.one.2) in
-    let second = is_k of.other.0 of.other.1 (idle.other (negation of.other.0) of.other.2) in
-    absurd (idle.apart (of.one.2 ∙ ap (λ m. flag_place (negation m)) (first ∙ sym second) ∙ sym of.other.2))
 
 -- the pair of a class and one that conflicts with it
 pub pair_in : (p : ℕ) (others : List ℕ) (i : ℕ) → i < length others → Contains (map (conflict_sentence p) others) (conflict_sentence p (get_or others i 0))

@@ -109,9 +109,6 @@ module _ (u : Usage) (good : IsGood u) where
   valued_use n v rows true e = rw e refl
   valued_use n v rows false e = rw e refl
 
-  words_use : (w : Text) (rows : List Row) → use_fault false words_built (w ∷ []) rows ≡ []
-  words_use w rows = refl
-
   -- a pending option with no value is a fault
   waits_fault : (n : Text) (rows : List Row) → IsValued n → settle_fault rules false (held rows (Some (n, []))) ≡ [] → ⊥
   waits_fault n rows k none =
@@ -265,9 +262,6 @@ module _ (u : Usage) (good : IsGood u) where
       by rows pending waiting x xs (option_and_then (λ s. read u s None xs) (give n v said)) y (reacted rules a values (held rows pending), next idle) k (react_fault rules false a values (held rows pending)) met_is fault_is
       (pick (is_some (value_of n said.given)) refl)
     where
-      settled_now : List Row
-      settled_now = settled_rows rules pending rows
-
       has : has_row n (settled_rows rules pending rows) ≡ is_some (value_of n said.given)
       has = given_row n (settled_rows rules pending rows) said other looks
 

@@ -1,6 +1,5 @@
 -- What the rows of a walk say of the options and the other words.
 use Rattle.std.proofs.Common.{◌≡◌, ◌∙◌, Bool, cond, true, false, refl, sym, ap, subst, codes, List, [], ◌∷◌, ◌++◌, Option, Some, None, is_some, append-nil}
-use Rattle.std.specs.List.{find}
 use Rattle.std.specs.Option.{option_map, unwrap_or}
 use Rattle.std.specs.Str.{bytes_eq}
 use Rattle.std.proofs.lemmas.Slice.Eq.{bytes_eq-Decides}
@@ -10,9 +9,6 @@ use Rattle.clap.specs.declared.builder.value_parser.Reading.{Reading}
 use Rattle.clap.specs.declared.parser.matches.ValueSource.TheVariants.{CommandLine}
 use Rattle.coinst_words.specs.Usage.{Said, Text, say, value_of}
 use Rattle.coinst_words.specs.Parsed.{row_values}
-
-abbrev words_id : Text
-words_id = codes "words"
 
 -- the rows have what was said
 pub record Looks (rows : List Row) (said : Said) : Type 0 where
@@ -26,9 +22,6 @@ eq_self x = (bytes_eq-Decides x x).1 refl
 
 abbrev is_row : Text → Row → Bool
 is_row id r = bytes_eq r.id id
-
-find_row : Text → List Row → Option Row
-find_row id rows = find (is_row id) rows
 
 pub has_row-values : (id : Text) (rows : List Row) → has_row id rows ≡ is_some (all_of id rows)
 has_row-values id [] = refl

@@ -13,10 +13,6 @@ use Rattle.row_book.proofs.Repositories.{both, has_filter, symmetric, conflict_w
 use Rattle.row_book.proofs.Facing.{face_parts, side_hit}
 use Rattle.conflict_reduce.specs.Laws.{RedundantKeeps, ThinKeeps, ThinIsSound, ThinnedFrom}
 
--- the conflicts without a pair
-less_conflicts : Repository → ℕ → ℕ → ℕ → List ℕ
-less_conflicts R a b p = filter (λ q. not (is_pair a b p q)) (conflicts_of R p)
-
 pub less_list : (R : Repository) (a b m : ℕ) → m < length R.clauses → conflicts_of (without_pair R a b) m ≡ filter (λ q. not (is_pair a b m q)) (conflicts_of R m)
 less_list R a b m l =
     at_numbers (λ p. filter (λ q. not (is_pair a b p q)) (conflicts_of R p)) [] (length R.clauses) 0 m l

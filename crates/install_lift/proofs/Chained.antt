@@ -1,7 +1,7 @@
 -- Chains of entries that grow.
 use Rattle.std.proofs.Common.{◌≡◌, ℕ, zero, suc, ◌+◌, ◌-◌, ◌<◌, ◌≤◌, List, [], ◌∷◌, ◌++◌, length, get_or, set, map, replicate, refl, ap, sym, ◌∙◌, arith, inl, inr}
-use Rattle.std.proofs.lemmas.Bool.{cases_eq, cases_lt}
-use Rattle.std.proofs.lemmas.List.{append_assoc, append-nil, length_push, length-map, length-replicate, map-set, get_or-replicate, get_or_append_left, get_or-map, get_or-set_same, get_or-set_other, get_or_past}
+use Rattle.std.proofs.lemmas.Bool.{cases_eq}
+use Rattle.std.proofs.lemmas.List.{append_assoc, append-nil, length_push, length-map, length-replicate, map-set, get_or_append_left, get_or-map, get_or-set_same, get_or-set_other}
 use Rattle.std.proofs.lemmas.Grind.{get_or_default_zero}
 use Rattle.std.proofs.Math.Seq.{get_or-append_seam}
 use Rattle.row_book.specs.Book.{listed_for}
@@ -104,15 +104,6 @@ walked_all es items all h le inv =
 pub no_chains : (heads : List ℕ) (es : List Entry) (n : ℕ) → heads ≡ replicate n 0 → es ≡ [] → chains_of heads es ≡ replicate n []
 unfolding chains_of
 no_chains heads es n e f = ap (λ xs. map (chain (length xs) xs) heads) f ∙ map-none heads ∙ ap (λ k. replicate k []) (ap length e ∙ length-replicate n 0)
-
-pub empty_chains : (heads : List ℕ) (es : List Entry) (n : ℕ) → heads ≡ replicate n 0 → es ≡ [] → AreChains heads es
-empty_chains heads es n e f = record {
-  falls = λ k lt. let none : k < 0 = rw f at lt in absurd (omega (arith, none));
-  begin = λ m. rw (e, f) (zeros n m);
-}
-  where
-    zeros : (k m : ℕ) → get_or (replicate k 0) m 0 ≤ 0
-    zeros k m = elim (cases_lt m k) [ inl lt ↦ rw (get_or-replicate {A = ℕ} k m 0 0 lt) (omega arith) | inr ge ↦ rw (get_or_past {X = ℕ} (replicate k 0) m 0 (rw length-replicate ge)) (omega arith) ]
 
 pub length_chains : (heads : List ℕ) (es : List Entry) → length (chains_of heads es) ≡ length heads
 unfolding chains_of

@@ -1,17 +1,13 @@
 -- Flags of sets, and the steps of lifting on them.
-use Rattle.std.proofs.Common.{◌≡◌, ℕ, zero, suc, ◌+◌, ◌<◌, ◌≤◌, Bool, true, false, not, ◌&&◌, ◌||◌, eqb, cond, List, [], ◌∷◌, length, get_or, set, drop, replicate, map, refl, sym, ap, ◌∙◌, subst, arith, inl, inr}
+use Rattle.std.proofs.Common.{◌≡◌, ℕ, zero, suc, ◌<◌, ◌≤◌, Bool, true, false, eqb, List, [], length, get_or, set, replicate, refl, sym, ◌∙◌, subst, arith, inl, inr}
 use Rattle.std.proofs.Math.Path.{fun_ext}
 use Rattle.std.proofs.Math.ListN.{get_or-eq_default}
-use Rattle.std.proofs.Math.Numerals.{add-one}
-use Rattle.std.proofs.Math.Seq.{drop-cons}
-use Rattle.std.specs.List.{list_any}
-use Rattle.std.proofs.lemmas.Bool.{cases_lt, cases_eq, lt-ltb, le-ltb, eq-eqb, ne_eqb, false_from_ne_true}
-use Rattle.std.proofs.lemmas.List.{get_or-set_same, get_or-set_other, length-map, length-replicate}
+use Rattle.std.proofs.lemmas.Bool.{cases_lt, cases_eq, eq-eqb, ne_eqb, false_from_ne_true}
+use Rattle.std.proofs.lemmas.List.{get_or-set_same, get_or-set_other, length-replicate}
 use Rattle.clause_pool.specs.Interned.{Interned, IsPool}
-use Rattle.row_book.specs.Sets.{NumSet, plus, union}
+use Rattle.row_book.specs.Sets.{NumSet}
 use Rattle.row_book.specs.Repository.{Repository, Healthy}
 use Rattle.row_book.specs.Flags.{flag}
-use Rattle.row_book.specs.Pruning.{lift_idle}
 use Rattle.row_book.specs.Rounds.{RoundStep}
 use Rattle.row_book.specs.Sound.{SoundRepository}
 use Rattle.row_book.specs.Book.{repository_of, Sound}
@@ -19,21 +15,13 @@ use Rattle.row_book.specs.declared.book.Book.{Book}
 use Rattle.row_book.proofs.BookRepositories.{book_size, sound_repository}
 use Rattle.install_lift.specs.Laws.{HoldsMembers, IsKernelBy}
 use Rattle.install_lift.proofs.Lifted.{lift_is_healthy}
-use Rattle.row_book.specs.Trail.{step_meaning, trail_meaning}
+use Rattle.row_book.specs.Trail.{trail_meaning}
 use Rattle.row_book.specs.declared.trail.Step.{Step}
-use Rattle.install_lift.specs.Lifting.{members_by, IsLift, IsLiftThrough}
+use Rattle.install_lift.specs.Lifting.{IsLift}
 
 -- past the flags nothing is up
 flag_past : (flags : List Bool) (n : ℕ) → length flags ≤ n → flag flags n ≡ false
 flag_past flags n le = get_or-eq_default flags false le
-
--- as many flags as the longer set has
-pub union_is : (first second made : List Bool) (size : ℕ) → length first ≤ size → length second ≤ size → length made ≡ size
-    → ((n : ℕ) → n < size → flag made n ≡ (flag first n || flag second n)) → flag made ≡ union (flag first) (flag second)
-union_is first second made size a b long each = fun_ext (λ n. elim (cases_lt n size) [
-  | inl lt ↦ each n lt
-  | inr ge ↦ flag_past made n (omega arith) ∙ sym (ap (λ x. x || flag second n) (flag_past first n (omega arith)) ∙ flag_past second n (omega arith))
-])
 
 -- one flag alone
 pub only_is : (n size : ℕ) → n < size → flag (set (replicate size false) n true) ≡ (λ m. eqb m n)
@@ -46,32 +34,6 @@ only_is n size lt = fun_ext (λ m. elim (cases_eq m n) [
     none zero m = refl
     none (suc k) zero = refl
     none (suc k) (suc m) = none k m
-
--- the classes of packages
-pub members_is : (class_of : List ℕ) (K : NumSet) (made : List Bool) → made ≡ map (λ k. K k) class_of → flag made ≡ members_by class_of K
-members_is class_of K made e = rw e (fun_ext (λ p. elim (cases_lt p (length class_of)) [
-  | inl lt ↦ at class_of p lt ∙ sym (ap (λ b. b && K (get_or class_of p 0)) (lt-ltb p (length class_of) lt))
-  | inr ge ↦ flag_past (map (λ k. K k) class_of) p (rw (length-map class_of (λ k. K k)) ge) ∙ sym (ap (λ b. b && K (get_or class_of p 0)) (le-ltb p (length class_of) ge))
-]))
-  where
-    at : (xs : List ℕ) (p : ℕ) → p < length xs → flag (map (λ k. K k) xs) p ≡ K (get_or xs p 0)
-    at [] p lt = absurd (omega arith)
-    at (x ∷ xs) zero lt = refl
-    at (x ∷ xs) (suc p) lt = at xs p (omega arith)
-
--- where the member is not wanted, the set stays
-pub idle_stays : (I : NumSet) (p : ℕ) (d : List ℕ) (x : ℕ) → (I p && not (list_any I d)) ≡ false → lift_idle I p d x ≡ I
-idle_stays I p d x e = ap (λ b. cond b (plus I x) I) e
-
-pub idle_puts : (I : NumSet) (p : ℕ) (d : List ℕ) (x : ℕ) → I p ≡ true → list_any I d ≡ false → lift_idle I p d x ≡ plus I x
-idle_puts I p d x there_it_is free = ap (λ b. cond b (plus I x) I) (ap (λ b. b && not (list_any I d)) there_it_is ∙ ap not free)
-
--- one step more
-pub lift_more : (pool : Interned) (steps : List Step) (k : ℕ) (step : Step) (classes before after : NumSet) → k < length steps → step ≡ get_or steps k step
-    → IsLift (trail_meaning pool (drop (k + 1) steps)) classes before → IsLiftThrough (step_meaning pool step) before after → IsLift (trail_meaning pool (drop k steps)) classes after
-lift_more pool steps k step classes before after lt is lifts through =
-    let cut : drop k steps ≡ step ∷ drop (k + 1) steps = rw add-one (drop-cons steps k step lt ∙ ap (λ s. s ∷ drop (suc k) steps) (sym is)) in
-    rw cut (before, lifts, through)
 
 -- all packages are among so many flags
 pub front_is : (R : Repository) (flags made : List Bool) (size : ℕ) → length R.clauses ≡ size → Healthy R (flag flags) → length made ≡ size → ((n : ℕ) → n < size → flag made n ≡ flag flags n) → flag made ≡ flag flags

@@ -123,19 +123,6 @@ only_live old new live remap moved is k same within =
 pub flat_moved : (old : Interned) (before : Book) (new : Interned) (moved : Book) → IsSameBook old before new moved → IsSameStep old (Flat before) new (Flat moved)
 flat_moved old before new moved s = record { meaning = ap FlatStep s.repository; sound = s.sound }
 
-pub idle_moved : (old new : Interned) (p added : ℕ) (clause made : List ℕ) → made ≡ clause → IsSameStep old (Idle p clause added) new (Idle p made added)
-idle_moved old new p added clause made e = record { meaning = ap (λ z. step_meaning new (Idle p z added)) e; sound = λ s. s }
-
-pub merge_moved : (old new : Interned) (class_of made : List ℕ) → made ≡ class_of → IsSameStep old (Merge class_of) new (Merge made)
-merge_moved old new class_of made e = record { meaning = ap MergeStep e; sound = λ s. s }
-
--- steps in another pool
-pub steps_none : (old new : Interned) (steps made : List Step) → steps ≡ [] → made ≡ [] → AreSameSteps old steps new made
-steps_none old new steps made e f = record {
-  meaning = ap (trail_meaning new) f ∙ sym (ap (trail_meaning old) e);
-  sound = λ s step i. absurd (In_none (subst (λ z. In step z) f i));
-}
-
 pub steps_more : (old new : Interned) (steps all : List Step) (step moved : Step) (made more : List Step) → AreSameSteps old steps new made → IsSameStep old step new moved →
     all ≡ steps ++ step ∷ [] → more ≡ made ++ moved ∷ [] → AreSameSteps old all new more
 steps_more old new steps all step moved made more s one a e = record {

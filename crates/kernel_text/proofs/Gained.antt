@@ -45,9 +45,6 @@ clause_gained start old new clause table more class id had gains rows is inside 
       | inr ne ↦ subst (λ ids. In other ids) (sym (ap (λ t. listed_for t n) made ∙ get_or-set_other table class n (listed_for table class ++ id ∷ []) [] ne)) i
     ]
 
-pub no_rows_gained : (pool : Interned) → GainsRows pool pool [] []
-no_rows_gained pool = record { clauses = refl; only = λ row l u. absurd (omega arith); each = λ ids i. absurd (In_none i) }
-
 -- one more row
 pub row_gained : (start old new : Interned) (lists : List (List ℕ)) (i : ℕ) (ids rows more : List ℕ) (row : ℕ) → i < length lists → get_or lists i [] ≡ ids → GainsRows start old (take i lists) rows →
     ((other : ℕ) → In other rows → other < length old.rows) → Kept old new → Gains old.rows ids new.rows → new.clauses ≡ old.clauses → IsIdOf new.rows ids row → more ≡ rows ++ row ∷ [] →

@@ -1,5 +1,5 @@
 -- The classes that goals name, goal by goal.
-use Rattle.std.proofs.Common.{◌≡◌, ℕ, zero, suc, ◌+◌, ◌<◌, ◌≤◌, Bool, true, false, not, ◌&&◌, ◌||◌, ◌==◌, eqb, eqb-true, eq-eqb, List, [], ◌∷◌, ◌++◌, length, map, filter, take, drop, get_or, Option, Some, None, inl, inr, refl, sym, ap, ap₂, ◌∙◌, subst, cond, add-zero, zero-add, arith}
+use Rattle.std.proofs.Common.{◌≡◌, ℕ, zero, suc, ◌+◌, ◌<◌, Bool, true, false, not, ◌&&◌, ◌==◌, eqb, eqb-true, eq-eqb, List, [], ◌∷◌, ◌++◌, length, map, filter, take, drop, get_or, Option, Some, None, inl, inr, refl, sym, ap, ap₂, ◌∙◌, subst, cond, zero-add, arith}
 use Rattle.std.specs.Prelude.{◌↔◌, slice_get}
 use Rattle.std.specs.Option.{option_map_or}
 use Rattle.std.specs.List.{list_any, position_from}
@@ -160,15 +160,6 @@ module _ (members : List Member) (goals : List Goal) (i : ℕ) (g : Goal) (l : i
 
   pub found_unknown : is_unknown members g ≡ true → unknown_goal members goals ≡ Some (i + 1)
   found_unknown e = opened ∙ ap (λ b. cond b (Some (i + 1)) (position_from (is_unknown members) (i + 1 + 1) (drop (i + 1) goals))) e
-
-pub all_known : (members : List Member) (goals : List Goal) (i : ℕ) → length goals ≤ i → IsAhead members goals i → unknown_goal members goals ≡ None
-all_known members goals i past ahead = ahead ∙ ap (position_from (is_unknown members) (i + 1)) (nothing goals i past)
-  where
-    nothing : (xs : List Goal) (k : ℕ) → length xs ≤ k → drop k xs ≡ []
-    nothing [] zero l = refl
-    nothing [] (suc k) l = refl
-    nothing (x ∷ xs) zero l = absurd (omega arith)
-    nothing (x ∷ xs) (suc k) l = nothing xs k (omega arith)
 
 pub one_image : (members : List Member) (size : ℕ) (goals : List Goal) (i : ℕ) (g : Goal) (needs new : List (List ℕ)) (image : List ℕ) → i < length goals → g ≡ get_or goals i g →
     needs ≡ map (image_of members size) (take i goals) → image ≡ image_of members size g → new ≡ needs ++ image ∷ [] → new ≡ map (image_of members size) (take (i + 1) goals)

@@ -11,7 +11,7 @@ use Rattle.kernel_text.specs.KernelLines.{behind_space}
 use Rattle.kernel_text.specs.Numbers.{NumberRead}
 use Rattle.kernel_text.specs.Reading.{number_limit}
 use Rattle.kernel_text.specs.Words.{IsCut, NumbersRead, behind_word, numbers_text}
-use Rattle.kernel_text.proofs.LineWords.{digits_word, same_cut, same_rest}
+use Rattle.kernel_text.proofs.LineWords.{digits_word, same_cut}
 
 abbrev AreLow : List ℕ → Type 0
 AreLow xs = (l : ℕ) → In l xs → l < number_limit
@@ -71,10 +71,6 @@ no_number words numbers text word rest so_far cut none clause e low =
     let w : (more : List ℕ) × (Some text ≡ numbers_text more) × AreLow more = so_far.others clause e low in
     let next : IsNext text word rest = next_of text word rest cut w.0 w.1 w.2 in
     none next.number next.word_is next.low
-
-pub all_numbers : (words : Option (List ℕ)) (numbers : List ℕ) → NumbersSoFar words numbers None → NumbersRead words (Some numbers)
-all_numbers words numbers so_far =
-    (same_rest words (numbers_text numbers) (so_far.whole ∙ append-nil (flat_map behind_space numbers) ∙ sym (behind_numbers numbers)), so_far.low)
 
 -- each word makes what is left shorter
 pub fewer_left : (text word : List ℕ) (rest left : Option (List ℕ)) → left ≡ Some text → IsCut text word rest →

@@ -6,14 +6,14 @@ use Rattle.std.proofs.lemmas.Bool.{cases_eq, cases_lt, false≢true, le-leb, leb
 use Rattle.listed.specs.Lists.{In, here, there}
 use Rattle.listed.proofs.Lists.{all_at}
 use Rattle.kernel_text.specs.declared.content.LineContent.{LineContent}
-use Rattle.kernel_text.specs.KernelFaults.{FirstStray, Names, Strays, line_at}
+use Rattle.kernel_text.specs.KernelFaults.{Names, Strays, line_at}
 use Rattle.kernel_text.specs.KernelLines.{KernelLine, HeadLine, ClassLine, MemberLine, HeldLine, NeedsLine, AgainstLine, EndLine, line_text, lines_of}
 use Rattle.kernel_text.specs.Reading.{number_limit}
 use Rattle.kernel_text.specs.Strays.{NoStrayBefore, NoneStrayedUpTo, strays_by}
 use Rattle.kernel_text.specs.Words.{IsWellFormed, LineIsRead, line_of_content}
 use Rattle.kernel_text.proofs.Added.{formed_fits}
 use Rattle.kernel_text.proofs.Spelling.{same_fit}
-use Rattle.kernel_text.proofs.Steps.{IsAt, is_at, nothing_behind}
+use Rattle.kernel_text.proofs.Steps.{IsAt, is_at}
 
 -- a number that is not below the limit
 some_far : (xs : List ℕ) (k : ℕ) → list_all (λ n. nat_lt n k) xs ≡ false → (n : ℕ) × In n xs × (k ≤ n)
@@ -92,10 +92,6 @@ no_line_strays classes line none = (
   (λ s. absurd (none s.says s.spells (names_formed s.says s.number s.named s.low))),
 )
 
--- line by line
-pub none_strayed : (bytes : List ℕ) (classes : ℕ) → NoneStrayedUpTo bytes classes 0 0
-none_strayed bytes classes = record { inside = omega arith; few = omega arith; left = refl; none = λ earlier l. absurd (omega arith) }
-
 module _ (bytes : List ℕ) (classes place line end : ℕ) (upto : NoneStrayedUpTo bytes classes place line)
     (cut : lines_of (drop place bytes) ≡ take (end - place) (drop place bytes) ∷ lines_of (drop end bytes)) where
   at : IsAt (lines_of bytes) line [] (take (end - place) (drop place bytes)) (lines_of (drop end bytes))
@@ -115,19 +111,10 @@ module _ (bytes : List ℕ) (classes place line end : ℕ) (upto : NoneStrayedUp
             ];
       }
 
-  pub stray_found : Strays classes (take (end - place) (drop place bytes)) → FirstStray bytes classes (line + 1)
-  stray_found s = (line, refl, record { inside = at.inside; strays = subst (Strays classes) (sym at.item) s; first = upto.none })
-
 no_more : {A : Type 0} (xs : List A) (n : ℕ) → drop n xs ≡ [] → length xs ≤ n
 no_more [] n e = omega arith
 no_more (x ∷ xs) zero e = absurd (let l : suc (length xs) ≡ 0 = ap length e in omega (arith, l))
 no_more (x ∷ xs) (suc n) e = let l : length xs ≤ n = no_more xs n e in omega arith
-
-pub all_passed : (bytes : List ℕ) (classes place line : ℕ) → NoneStrayedUpTo bytes classes place line → length bytes ≤ place → NoStrayBefore bytes classes (length (lines_of bytes))
-all_passed bytes classes place line upto past earlier l =
-    let none : drop line (lines_of bytes) ≡ [] = sym upto.left ∙ ap lines_of (nothing_behind bytes place past) in
-    let few : length (lines_of bytes) ≤ line = no_more (lines_of bytes) line none in
-    upto.none earlier (omega arith)
 
 -- that no line strays, for an equal number of classes
 pub none_told : (text : List ℕ) (k n : ℕ) → k ≡ n → NoStrayBefore text k (length (lines_of text)) → NoStrayBefore text n (length (lines_of text))

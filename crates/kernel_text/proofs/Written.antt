@@ -1,5 +1,5 @@
 -- What the writer puts together: the packages of each class, the blocks of classes, and the whole text.
-use Rattle.std.proofs.Common.{◌≡◌, ℕ, zero, suc, ◌+◌, ◌<◌, ◌≤◌, Bool, true, false, eqb, ltb, List, [], ◌∷◌, ◌++◌, length, take, drop, map, filter, get_or, set, inl, inr, refl, sym, ap, ap₂, ◌∙◌, subst, add-one, zero-add, eq-eqb, append_assoc, arith}
+use Rattle.std.proofs.Common.{◌≡◌, ℕ, zero, suc, ◌+◌, ◌<◌, ◌≤◌, Bool, true, false, eqb, ltb, List, [], ◌∷◌, ◌++◌, length, take, drop, map, filter, get_or, set, inl, inr, refl, sym, ap, ap₂, ◌∙◌, subst, zero-add, eq-eqb, append_assoc, arith}
 use Rattle.std.specs.List.{flat_map}
 use Rattle.std.proofs.Math.ListN.{length-set}
 use Rattle.std.proofs.Math.Seq.{drop-cons}
@@ -16,7 +16,7 @@ use Rattle.row_book.specs.Numbers.{numbers}
 use Rattle.row_book.specs.Flags.{flag}
 use Rattle.row_book.specs.Repository.{Repository, clauses_of, conflicts_of}
 use Rattle.listed.specs.Lists.{In, has}
-use Rattle.row_book.proofs.Numbers.{numbers_parts, numbers_end, numbers_more}
+use Rattle.row_book.proofs.Numbers.{numbers_parts, numbers_more}
 use Rattle.kernel_text.specs.declared.member.Member.{Member}
 use Rattle.kernel_text.specs.KernelLines.{KernelLine, HeadLine, ClassLine, NeedsLine, AgainstLine, EndLine, line_text}
 use Rattle.kernel_text.specs.KernelText.{class_lines, greater_conflicts, held_lines, kernel_lines, kernel_text, line_of_member, members_of}
@@ -28,9 +28,6 @@ use Rattle.kernel_text.proofs.Classified.{all_counted, all_of_class, file_member
 pub none_taken : (class_of : List ℕ) (size : ℕ) (table : List (List ℕ)) → length table ≡ size → ((n : ℕ) → listed_for table n ≡ []) → IsByClass class_of 0 size table
 unfolding numbers
 none_taken class_of size table count empty = record { count = count; each = λ n l. empty n }
-
-own_number : (c n i : ℕ) → c ≡ n → filter (λ k. eqb c n) (i ∷ []) ≡ i ∷ []
-own_number c n i e = rw (eq-eqb c n e) refl
 
 pub one_taken : (class_of : List ℕ) (i size : ℕ) (table new : List (List ℕ)) (c : ℕ) → c ≡ get_or class_of i 0 → c < size →
     IsByClass class_of i size table → new ≡ set table c (listed_for table c ++ i ∷ []) → IsByClass class_of (i + 1) size new

@@ -1,15 +1,14 @@
 -- Walks over the places of an index.
-use Rattle.std.proofs.Common.{◌≡◌, ◌≢◌, ℕ, zero, suc, ◌<◌, ◌≤◌, ◌-◌, ◌+◌, ◌*◌, List, [], ◌∷◌, ◌++◌, map, length, take, get_or, ◌⊎◌, inl, inr, refl, sym, ◌∙◌, ap, ap₂, subst, arith, length-append, set, get_or-set_other, get_or-set_same}
+use Rattle.std.proofs.Common.{◌≡◌, ◌≢◌, ℕ, zero, suc, ◌<◌, ◌≤◌, ◌-◌, ◌+◌, ◌*◌, List, [], ◌∷◌, ◌++◌, map, length, take, get_or, inl, inr, refl, sym, ◌∙◌, ap, ap₂, subst, arith, length-append, set, get_or-set_other, get_or-set_same}
 use Rattle.std.specs.Int.Bits.{bit_and}
 use Rattle.std.proofs.lemmas.Nat.{and_le_r}
 use Rattle.std.proofs.lemmas.Bool.{cases_lt, cases_eq}
-use Rattle.std.proofs.lemmas.List.{length-map, get_or-map, get_or_append_left, get_or_push, take_all}
-use Rattle.std.proofs.lemmas.List.Sums.{sum_by-set, sum_by-cons, sum_by_more, fold-append}
+use Rattle.std.proofs.lemmas.List.{length-map, get_or-map, get_or_append_left, get_or_push}
+use Rattle.std.proofs.lemmas.List.Sums.{sum_by-set, sum_by-cons, sum_by_more}
 use Rattle.std.proofs.Math.ListN.{length-set}
 use Rattle.std.proofs.Math.Nat.{pow-suc}
-use Rattle.list_table.specs.Index.{home, place_at, one_if_zero, is_free, free, Reaches, NoneFreeBefore, IsFirstFree, IsFoundFrom, Puts, IsIndex, IsSize, IsTable}
+use Rattle.list_table.specs.Index.{home, place_at, one_if_zero, is_free, free, Reaches, NoneFreeBefore, IsFirstFree, IsFoundFrom, Puts, IsIndex, IsSize}
 use Rattle.list_table.specs.Lists.{StandsAt}
-use Rattle.list_table.specs.Hash.{hash_with, mixed}
 
 pub home_below : (hash size : ℕ) → 0 < size → home hash size < size
 unfolding home
@@ -72,14 +71,6 @@ not_all_filled places start s l filled =
     let w : (k : ℕ) × (k < length places) × Reaches (length places) start k i = Reaches_each (length places) start i s m in
     filled w.0 i w.1 w.2) in
     omega arith
-
--- a new index is empty
-pub index_new : (size : ℕ) (places : List (ℕ × ℕ)) → length places ≡ size → ((i : ℕ) → i < size → place_at places i ≡ (0, 0)) → free places ≡ size → IsIndex places []
-index_new size places len each room = record {
-  found = λ n l. absurd (omega arith);
-  named = λ q l full. let e : (place_at places q).1 ≡ 0 = ap (λ p. p.1) (each q (omega arith)) in absurd (omega arith);
-  room = omega arith;
-}
 
 -- the entries of the first of some places, in an index of another size
 pub record Moves (from places : List (ℕ × ℕ)) (size i : ℕ) : Type 0 where
@@ -204,20 +195,7 @@ module _ (places : List (ℕ × ℕ)) (hash number place : ℕ) (at : IsFirstFre
           omega (arith, is.room, one_less);
     }
 
--- where some of the places of an index were moved into one of another size
-pub Moves_none : (from places : List (ℕ × ℕ)) (size : ℕ) → length places ≡ size → ((i : ℕ) → i < size → place_at places i ≡ (0, 0)) → free places ≡ size → Moves from places size 0
-Moves_none from places size len each room = record {
-  len = len;
-  found = λ q x n l e. absurd (omega arith);
-  named = λ q l full. let e : (place_at places q).1 ≡ 0 = ap (λ p. p.1) (each q (omega arith)) in absurd (omega arith);
-  room = let none : free (take 0 from) ≡ 0 = refl in omega arith;
-}
-
 module _ (from places : List (ℕ × ℕ)) (size i : ℕ) (is : Moves from places size i) where
-  -- room for one more
-  pub Moves_room : i < length from → length from < size → 0 < free places
-  Moves_room l m = omega (arith, is.room)
-
   -- an empty place is left out
   pub Moves_empty : i < length from → (place_at from i).1 ≡ 0 → Moves from places size (i + 1)
   Moves_empty inside empty = record {
@@ -242,21 +220,6 @@ module _ (from places : List (ℕ × ℕ)) (size i : ℕ) (is : Moves from place
       let e : (place_at from i).1 ≡ (place_at from i).1 - 1 + 1 = omega arith in
       subst (λ p. Moves from p size (i + 1)) (sym put.now)
       (moves_put places (place_at from i).0 ((place_at from i).1 - 1) put.place put.at from size i is inside (ap (λ n. ((place_at from i).0, n)) e))
-
-  pub Moves_done : i ≡ length from → (hashes : List ℕ) → IsIndex from hashes → IsIndex places hashes
-  Moves_done all hashes index = record {
-    found = λ n l.
-        let f : IsFoundFrom from (home (get_or hashes n 0) (length from)) (get_or hashes n 0) n = index.found n l in
-        is.found f.place (get_or hashes n 0) n (omega (arith, f.reached.0)) f.names;
-    named = λ q l full.
-        let w : (p : ℕ) × (p < length from) × (place_at places q ≡ place_at from p) = is.named q l full in
-        let e : (place_at places q).1 ≡ (place_at from w.0).1 = ap (λ p. p.1) w.2 in
-        let b : (place_at from w.0).1 ≤ length hashes = index.named w.0 w.1 (omega arith) in
-        omega arith;
-    room =
-        let every : free (take i from) ≡ free from = ap free (take_all i from (omega arith)) in
-        omega (arith, is.room, is.len, index.room);
-  }
 
 -- a larger index has twice as many places, or the first eight
 pub IsSize_first : IsSize 8
@@ -322,19 +285,3 @@ module _ {A : Type 0} (hash_of : List A → ℕ) (places : List (ℕ × ℕ)) (l
               omega arith
         ]
       ]
-
-  pub none_of_none : IsTable places (map hash_of lists) → length places ≡ 0 → (n : ℕ) → StandsAt items lists n → ⊥
-  none_of_none is e n at =
-      let m : length (map hash_of lists) ≡ length lists = length-map lists hash_of in
-      omega (arith, is.half, at.0)
-
-  -- an entry on the walk names a list
-  pub entry_below : (place : ℕ) → IsIndex places (map hash_of lists) → place < length places → 0 < (place_at places place).1 → (place_at places place).1 - 1 < length lists
-  entry_below place is l full =
-      let n : (place_at places place).1 ≤ length (map hash_of lists) = is.named place l full in
-      let m : length (map hash_of lists) ≡ length lists = length-map lists hash_of in
-      omega arith
-
--- the hash of one number more
-pub mixed_more : (numbers : List ℕ) (number : ℕ) → mixed (numbers ++ number ∷ []) ≡ hash_with (mixed numbers) number
-mixed_more numbers number = fold-append hash_with 0x243f_6a88_85a3_08d3 numbers (number ∷ [])

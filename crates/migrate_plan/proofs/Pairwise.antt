@@ -1,8 +1,8 @@
 -- Two lists that are compared pair by pair.
-use Rattle.std.proofs.Common.{◌≡◌, ℕ, zero, suc, ◌+◌, ◌<◌, ◌≤◌, Bool, true, false, List, [], ◌∷◌, ◌++◌, length, get_or, take, refl, sym, ap, ◌∙◌, subst, arith}
+use Rattle.std.proofs.Common.{◌≡◌, ℕ, zero, suc, ◌+◌, ◌<◌, Bool, true, false, List, [], ◌∷◌, ◌++◌, length, get_or, take, refl, sym, ap, ◌∙◌, subst, arith}
 use Rattle.std.specs.Cmp.Lexicographic.{pointwise}
 use Rattle.std.proofs.lemmas.Bool.{and_from, and_parts, false≢true, false_from_ne_true}
-use Rattle.std.proofs.lemmas.List.{take_all, take_more}
+use Rattle.std.proofs.lemmas.List.{take_more}
 
 module _ {A B : Type 0} (E : A → B → Bool) where
   pair_push : (xs : List A) (ys : List B) (x : A) (y : B) → pointwise E xs ys ≡ true → E x y ≡ true → pointwise E (xs ++ x ∷ []) (ys ++ y ∷ []) ≡ true
@@ -33,7 +33,3 @@ module _ {A B : Type 0} (E : A → B → Bool) where
   pair_fails xs ys i x y l is other fails = sym (false_from_ne_true (pointwise E xs ys) (λ same.
       let found : E x y ≡ true = ap (λ z. E z y) is ∙ ap (λ z. E (get_or xs i x) z) other ∙ pair_at xs ys i x y same l in
       false≢true (sym fails ∙ found)))
-
-  -- all pairs
-  pub pair_all : (xs : List A) (ys : List B) (i : ℕ) → length xs ≤ i → length ys ≤ i → pointwise E (take i xs) (take i ys) ≡ true → true ≡ pointwise E xs ys
-  pair_all xs ys i l m same = sym (subst (λ zs. pointwise E xs zs ≡ true) (take_all i ys m) (subst (λ zs. pointwise E zs (take i ys) ≡ true) (take_all i xs l) same))

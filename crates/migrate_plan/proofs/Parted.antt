@@ -30,10 +30,6 @@ kernel_made start pool made limit hold R told given = record {
     extracted : IsExtracted R limit made.hold start pool made.book made.class_of made.held made.trail.steps
     extracted = subst (λ h. IsExtracted R limit h start pool made.book made.class_of made.held made.trail.steps) (sym told) given
 
--- a limit that was passed
-pub kernel_over : (pool : Interned) (limit : ℕ) (hold : Bool) (R : Repository) (passed : PassedRound) → limit_at limit hold R ≡ Some passed → IsKernelAt pool limit hold R None
-kernel_over pool limit hold R passed there = (passed, there)
-
 -- the same of an equal repository, as an answer
 pub kernel_alike : {E : Type 0} (pool : Interned) (limit : ℕ) (hold : Bool) (R S : Repository) → R ≡ S → (result : Result (Option Kernel) E) → IfOk result (IsKernelAt pool limit hold R) → IfOk result (IsKernelAt pool limit hold S)
 kernel_alike pool limit hold R S same result made = subst (λ Q. IfOk result (IsKernelAt pool limit hold Q)) same made

@@ -1,8 +1,8 @@
 -- A clause put into its place among clauses in order.
-use Rattle.std.proofs.Common.{◌≡◌, ℕ, zero, suc, ◌<◌, ◌≤◌, ◌-◌, true, false, cond, List, [], ◌∷◌, ◌++◌, length, get_or, take, drop, map, refl, sym, ◌∙◌, ap, arith, drop-cons}
+use Rattle.std.proofs.Common.{◌≡◌, ℕ, zero, suc, ◌<◌, ◌≤◌, ◌-◌, true, false, cond, List, [], ◌∷◌, ◌++◌, length, get_or, take, drop, refl, sym, ◌∙◌, ap, arith}
 use Rattle.std.proofs.lemmas.Bool.{cond-true, cond-false, false_from_ne_true}
 use Rattle.std.proofs.lemmas.List.{get_or_default}
-use Rattle.clause_pool.specs.Clauses.{comes_before, insert_clause, in_row_order}
+use Rattle.clause_pool.specs.Clauses.{comes_before, insert_clause}
 use Rattle.clause_pool.proofs.Order.{before_asym, before_test}
 
 not_before : (c d : List ℕ) → comes_before d c ≡ true → comes_before c d ≡ false
@@ -32,11 +32,3 @@ placed_new c (d ∷ ds) (suc i) l b s =
 
 pub same_clause : (row : List (List ℕ)) (n : ℕ) (c : List ℕ) → n < length row → c ≡ get_or row n c → c ≡ get_or row n []
 same_clause row n c inside is = is ∙ get_or_default row n c [] inside
-
--- the next clause, in front of those that are in place
-pub row_back : {A : Type 0} (f : A → List ℕ) (xs : List A) (i : ℕ) (x : A) (row new : List (List ℕ)) → 0 < i → i ≤ length xs →
-    x ≡ get_or xs (i - 1) x → row ≡ in_row_order (map f (drop i xs)) → new ≡ insert_clause (f x) row → new ≡ in_row_order (map f (drop (i - 1) xs))
-row_back f xs i x row new some within is sofar put =
-    let back : suc (i - 1) ≡ i = omega arith in
-    put ∙ ap (insert_clause (f x)) (sofar ∙ ap (λ n. in_row_order (map f (drop n xs))) (sym back))
-    ∙ sym (ap (λ ys. in_row_order (map f ys)) (drop-cons xs (i - 1) x (omega arith)) ∙ ap (λ y. insert_clause (f y) (in_row_order (map f (drop (suc (i - 1)) xs)))) (sym is))

@@ -57,9 +57,3 @@ module _ (pool : Interned) (book : Book) where
     };
     conflicts = s.conflicts;
   }
-
-  pub tidy_book : TidyRepository (repository_of pool book) → RowsTidy pool book.rows
-  tidy_book t = record {
-    apart = λ p l c i j. t.apart p c (row_clause p l c i) j;
-    minimal = λ p l c d i j f. t.minimal p c d (row_clause p l c i) (row_clause p l d j) f;
-  }

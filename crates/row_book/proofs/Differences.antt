@@ -74,12 +74,6 @@ difference_rest first second found more i lent d =
       ];
     }
 
--- the same of equal lists
-pub difference_as : (first second found first' second' found' : List ℕ) → first ≡ first' → second ≡ second' → found ≡ found'
-    → HoldsDifference first second found → HoldsDifference first' second' found'
-difference_as first second found first' second' found' e f g d =
-    subst (λ z. HoldsDifference z second' found') e (subst (λ z. HoldsDifference first z found') f (subst (λ z. HoldsDifference first second z) g d))
-
 -- What the clauses of such a list hold.
 
 holder : (pool : Interned) (ids : List ℕ) (n : ℕ) → some_holds (clauses_at pool ids) n ≡ true → (id : ℕ) × In id ids × (has (clause_at pool id) n ≡ true)

@@ -337,10 +337,6 @@ module _ (pairs : List Pair) (size : ℕ) (fit : PairsFit pairs size) where
     apart = λ p. has_not (listed_for (lists_of_pairs pairs size) p) p (alone p);
   }
 
--- pairs one by one
-pub fit_none : (size : ℕ) → PairsFit [] size
-fit_none size = record { ordered = λ pair i. absurd (In_none i); below = λ pair i. absurd (In_none i) }
-
 pub fit_more : (x : Pair) (xs : List Pair) (size : ℕ) → x.low < x.high → x.high < size → PairsFit xs size → PairsFit (x ∷ xs) size
 fit_more x xs size l b fit = record {
   ordered = λ pair i. elim (In_cases i) [ inl e ↦ subst (λ y. y.low < y.high) (sym e) l | inr j ↦ fit.ordered pair j ];

@@ -2,13 +2,13 @@ use Rattle.std.proofs.Common.{◌≡◌, ℕ, ◌+◌, ◌*◌, ◌<◌, Bool, t
 use Rattle.std.specs.Prelude.{All, Contains, find, IfSome}
 use Rattle.std.specs.List.{list_all}
 use Rattle.std.proofs.lemmas.List.{get_or-set_same, get_or-set_other}
-use Rattle.std.proofs.lemmas.List.Elements.{All-append, All-cons, All-nil, All-contains, Contains-append_left, Contains-append_right}
+use Rattle.std.proofs.lemmas.List.Elements.{All-append, All-cons, All-nil, All-contains, Contains-append_right}
 use Rattle.std.proofs.lemmas.Bool.{cases_eq, cases_Bool, and_parts, and_from, not-true}
 use Rattle.std.specs.Prelude.{count_by}
 use Rattle.std.proofs.lemmas.List.Sums.{sum_by-set}
 use Rattle.std.proofs.lemmas.List.Elements.{All-more}
 use Rattle.search_terms.specs.declared.literals.Literal.{Literal}
-use Rattle.search_terms.specs.Closure.{negation, is_same, forces, is_refuted, IsUnitClosed, InRange}
+use Rattle.search_terms.specs.Closure.{negation, is_same, forces, IsUnitClosed, InRange}
 use Rattle.search_terms.specs.Marks.{flag_place, is_marked, IsWithin, IsForced}
 
 or_mono : (a b c : Bool) → (b ≡ true → c ≡ true) → (a || b) ≡ true → (a || c) ≡ true
@@ -23,9 +23,6 @@ all_mono p q (x ∷ xs) f h =
 
 pub forces_mono : (s t : Literal → Bool) (l : Literal) (sentence : List Literal) → IsWithin s t → forces s l sentence ≡ true → forces t l sentence ≡ true
 forces_mono s t l sentence w h = all_mono (λ m. is_same m l || s (negation m)) (λ m. is_same m l || t (negation m)) sentence (λ m. or_mono (is_same m l) (s (negation m)) (t (negation m)) (w (negation m))) h
-
-pub refuted_mono : (s t : Literal → Bool) (sentence : List Literal) → IsWithin s t → is_refuted s sentence ≡ true → is_refuted t sentence ≡ true
-refuted_mono s t sentence w h = all_mono (λ m. s (negation m)) (λ m. t (negation m)) sentence (λ m. w (negation m)) h
 
 abbrev pub literal_of : ℕ → Bool → Literal
 literal_of c sign = record { class = c; positive = sign }
@@ -116,9 +113,6 @@ closed_more formula s i sentence lt e closed none = record {
 
 pub closed_append : (first second : List (List Literal)) (s : Literal → Bool) → IsUnitClosed first s → IsUnitClosed second s → IsUnitClosed (first ++ second) s
 closed_append first second s a b = record { steps = All-append (λ x. All (λ l. forces s l x ≡ true → s l ≡ true) x) first second a.steps b.steps }
-
-pub forced_left : (first second : List (List Literal)) (s : Literal → Bool) (l : Literal) → IsForced first s l → IsForced (first ++ second) s l
-forced_left first second s l f = record { sentence = f.sentence; here = Contains-append_left first second f.sentence f.here; member = f.member; forced = f.forced; absent = f.absent }
 
 pub forced_right : (first second : List (List Literal)) (s : Literal → Bool) (l : Literal) → IsForced second s l → IsForced (first ++ second) s l
 forced_right first second s l f = record { sentence = f.sentence; here = Contains-append_right first second f.sentence f.here; member = f.member; forced = f.forced; absent = f.absent }

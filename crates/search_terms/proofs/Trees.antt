@@ -1,4 +1,4 @@
-use Rattle.std.proofs.Common.{◌≡◌, ℕ, zero, suc, ◌<◌, ◌≤◌, Bool, true, false, not, ◌&&◌, ◌||◌, eqb, cond, List, [], ◌∷◌, ◌++◌, length, get_or, refl, ap, ◌∙◌, arith, inl, inr, ◌⊎◌, Some, None, subst, append-nil}
+use Rattle.std.proofs.Common.{◌≡◌, ℕ, zero, suc, ◌<◌, ◌≤◌, Bool, true, false, not, ◌&&◌, ◌||◌, eqb, cond, List, [], ◌∷◌, ◌++◌, length, get_or, refl, ap, ◌∙◌, arith, inl, inr, ◌⊎◌, Some, None, subst}
 use Rattle.std.specs.Prelude.{All}
 use Rattle.std.specs.List.{find}
 use Rattle.std.proofs.lemmas.Bool.{cases_eq, and_parts, and_from, both_ways, or_from, not-true, ne_eqb, eq-eqb, or_right, or_left}
@@ -6,12 +6,12 @@ use Rattle.std.proofs.lemmas.List.Elements.{All-contains, All-tail, All-head}
 use Rattle.std.proofs.lemmas.List.Folds.{list_any-append, list_any-from_Any}
 use Rattle.listed.proofs.Bools.{lighter}
 use Rattle.search_terms.specs.declared.literals.Literal.{Literal}
-use Rattle.search_terms.specs.Closure.{literal, negation, is_refuted, HasGiven, IsClosure, Clashes, InRange}
+use Rattle.search_terms.specs.Closure.{literal, negation, is_refuted, HasGiven, IsClosure, InRange}
 use Rattle.search_terms.specs.Marks.{HasClash}
 use Rattle.search_terms.specs.Tree.{is_open_need, is_undecided, IsFoundLeaf, IsSplit}
 use Rattle.search_terms.specs.Marks.{is_decided, classes_left}
 use Rattle.search_terms.proofs.Sets.{literal_of, find_some, find_none}
-use Rattle.search_terms.proofs.Least.{clash_from, clash_to}
+use Rattle.search_terms.proofs.Least.{clash_to}
 
 pub given_held : (formula : List (List Literal)) (given : List Literal) (s : Literal → Bool) → IsClosure formula given s → HasGiven s given
 given_held formula given s c k d lt = c.whole (get_or given k d) (λ t holds closed. holds k d lt)
@@ -115,6 +115,3 @@ split_of classes formula decisions s need member range closure calm first least 
       free_less classes member.class true decisions lt f,
       free_less classes member.class false decisions lt f,
     )
-
-pub clash_at_end : (formula : List (List Literal)) (given : List Literal) (s : Literal → Bool) → IsClosure (formula ++ []) given s → HasClash (formula ++ []) s → Clashes formula given
-clash_at_end formula given s closure clash = rw append-nil at (clash_from (formula ++ []) given s closure clash)

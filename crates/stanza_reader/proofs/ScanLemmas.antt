@@ -1,5 +1,5 @@
 -- One pass over the lines of a group: what was found so far, and what is left.
-use Rattle.std.proofs.Common.{◌≡◌, ℕ, true, false, List, [], ◌∷◌, ◌++◌, Option, Some, None, refl, ap, sym, ◌∙◌, subst, append_assoc}
+use Rattle.std.proofs.Common.{◌≡◌, ℕ, false, List, [], ◌∷◌, ◌++◌, Option, Some, None, refl, ap, sym, ◌∙◌, subst, append_assoc}
 use Rattle.std.specs.List.{cons_option}
 use Rattle.std.specs.Option.{option_or}
 use Rattle.stanza_reader.specs.Lines.{Line, is_blank, is_continuation}
@@ -52,13 +52,6 @@ pub repeat_more : (old new : Names) (all more : List Line) (number : ℕ) (text 
     → is_continuation text ≡ false → name_of text ≡ name → IsNoted old new name number → LeadsTo old (first_group all) fault → LeadsTo new (first_group more) fault
 repeat_more old new all more number text name fault first full plain is noted held =
     noted text (first_group more) fault is plain (subst (λ group. LeadsTo old group fault) (group_more all more record { number = number; text = text } first full) held)
-
--- a continuation line has no name
-pub repeat_past : (names : Names) (all more : List Line) (line : Line) (fault : Option StanzaFault) → all ≡ line ∷ more → is_blank line.text ≡ false → is_continuation line.text ≡ true
-    → LeadsTo names (first_group all) fault → LeadsTo names (first_group more) fault
-repeat_past names all more line fault first full goes_on held =
-    let here : repeat_fault held.before (first_group all) ≡ repeat_fault held.before (first_group more) = rw (group_more all more line first full, goes_on) refl in
-    record { before = held.before; held = held.held; found = ap (option_or names.repeat) (sym here) ∙ held.found }
 
 option_or-none : (fault : Option StanzaFault) → option_or fault None ≡ fault
 option_or-none (Some fault) = refl

@@ -22,7 +22,7 @@ use Rattle.row_book.proofs.Repositories.{repository_same}
 use Rattle.suite_part.specs.Left.{IsLeft}
 use Rattle.suite_part.specs.Parts.{chosen_in, part, row_in}
 use Rattle.suite_part.proofs.PartSound.{made_count, part_sound}
-use Rattle.suite_part.proofs.Placed.{chosen_ascending, count_in, made_less, made_more}
+use Rattle.suite_part.proofs.Placed.{count_in, made_less, made_more}
 
 -- a family in order is that of its clauses
 pub same_order : (all family : List (List ℕ)) → SameClauses all family → InOrder family → family ≡ in_row_order all
@@ -43,13 +43,6 @@ pub record FirstInterned (start now : Interned) (done : List (List ℕ)) (ids : 
   pub made : clauses_at now ids ≡ done
   pub of_pool : OfPool now ids
   pub kept : Kept start now
-
-pub none_interned : (start : Interned) (ids : List ℕ) → ids ≡ [] → FirstInterned start start [] ids
-none_interned start ids e = record {
-  made = ap (clauses_at start) e;
-  of_pool = λ id i. absurd (In_none (subst (λ xs. In id xs) e i));
-  kept = kept_same start;
-}
 
 pub more_interned : (start old new : Interned) (family : List (List ℕ)) (i : ℕ) (clause : List ℕ) (ids more : List ℕ) (id : ℕ) → At family i clause → FirstInterned start old (take i family) ids → Kept old new →
     IsIdOf new.clauses clause id → more ≡ ids ++ id ∷ [] → FirstInterned start new (take (i + 1) family) more

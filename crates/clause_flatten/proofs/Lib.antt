@@ -7,6 +7,7 @@ pub mod Rows
 pub mod Lift
 pub mod Choice
 pub mod Tables
+pub mod LocalRows
 pub mod Flat
 pub mod Stages
 pub mod Shortcuts
@@ -29,3 +30,5 @@ pub mod Free
 pub mod Passing
 pub mod Running
 pub mod TidyFlat
+pub mod LocalRuns
+pub mod Besides

@@ -8,3 +8,5 @@ pub mod TidyRows
 pub mod TakingOut
 pub mod Holding
 pub mod Ready
+pub mod Locality
+pub mod Beside

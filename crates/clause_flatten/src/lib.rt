@@ -4,12 +4,14 @@
 //! `elimination` and `support` do nothing, the contract of each is one law.
 #![tactic(auto)]
 
+mod beside;
 mod changing;
 mod elimination;
 mod error;
 mod flattening;
 mod holding;
 mod least_tree;
+mod locality;
 mod substitution;
 mod support;
 mod taking_out;
@@ -17,6 +19,7 @@ mod tidy_rows;
 mod waiting;
 
 // A book is flattened.
+pub use beside::flatten_beside;
 pub use error::FlatError;
 pub use flattening::{Flattened, flatten};
 
@@ -28,6 +31,7 @@ pub use elimination::{
     core_is_reached, core_stays, flat_by_stages, flat_keeps, held_is_used, hold_stays_within,
     next_is_least, one_row, passes_by_stages, stages_run, table_step, without_hold,
 };
+pub use locality::{flat_is_local, limit_is_local};
 pub use support::{
     first_rows, keeps_every_set, lift_is_healthy, one_step, own_row_stays, row_computes,
     row_is_one, row_tells, substitutes, support_grows, untouched_stays,

@@ -28,6 +28,13 @@ map_none : {A B : Type 0} (f : A → B) (o : Option A) → option_map f o ≡ No
 map_none f None h = refl
 map_none f (Some x) h = absurd (let never : ⊥ = cc in never)
 
+-- where no round passes the limit, the first one does not
+pub first_within : (limit : ℕ) (hold : Bool) (R : Repository) → limit_at limit hold R ≡ None → passes limit hold R ≡ None
+unfolding limit_at
+first_within limit hold R h =
+    map_none (in_round limit hold R 0) (passes limit hold R)
+    (each_none (passed_in_round limit hold R) (numbers (suc (round_count limit hold R)) 0) h 0 (numbers_from (suc (round_count limit hold R)) 0 0 zero-le (omega arith)))
+
 module _ (limit : ℕ) (hold : Bool) (R : Repository) (s : SoundRepository R) where
   fixed : round limit hold (kernel limit hold R) ≡ kernel limit hold R
   fixed = (kernel_is_lem limit hold R s).fixed

@@ -29,8 +29,6 @@ use Rattle.row_book.proofs.Numbers.{length_numbers, map_same, numbers_parts}
 use Rattle.row_book.proofs.Repositories.{of_packages}
 use Rattle.class_merge.specs.Classes.{class_in}
 use Rattle.class_merge.proofs.MergedRows.{class_at}
-use Rattle.kernel_rounds.specs.declared.error.RoundError.{RoundError}
-use Rattle.kernel_rounds.specs.declared.error.RoundError.TheVariants.{Limit, Memory}
 use Rattle.kernel_rounds.specs.Extracting.{HasStepsBefore, IsMidway, IsReached, OnRoundLimit, refusal}
 use Rattle.kernel_rounds.specs.Moving.{HasSteps}
 use Rattle.clause_flatten.proofs.TidyFlat.{flat_size}
@@ -283,12 +281,6 @@ midway_gained limit hold R start pool work book classes steps number (faults.Lim
     some_is_none s = cc
 midway_gained limit hold R start pool work book classes steps number faults.Memory m e = tt
 
--- the same of an equal repository
-pub gained_of_same : (R S : Repository) (limit : ℕ) (hold : Bool) (start pool : Interned) (error : RoundError) → R ≡ S → OnRoundLimit (λ _. HasStepsBefore R limit hold start pool) error →
-    OnRoundLimit (λ _. HasStepsBefore S limit hold start pool) error
-gained_of_same R S limit hold start pool (Limit round gone p count) e h = subst (λ T. HasStepsBefore T limit hold start pool) e h
-gained_of_same R S limit hold start pool Memory e h = tt
-
 -- steps whose books are already of the pool
 pub steps_of_start : (pool : Interned) (steps : List Step) (told : List RoundStep) → trail_meaning pool steps ≡ told → SoundSteps pool steps → HasSteps pool pool steps told
 steps_of_start pool steps told e s = record {
@@ -297,11 +289,6 @@ steps_of_start pool steps told e s = record {
   only = record { rows = λ id low high. absurd (omega arith); clauses = λ id low high. absurd (omega arith) };
   kept = kept_same pool;
 }
-
--- the same where two pools hold the same
-pub gained_of_start : (R : Repository) (limit : ℕ) (hold : Bool) (work into : Interned) (error : RoundError) → work ≡ into → OnRoundLimit (λ _. HasStepsBefore R limit hold work work) error →
-    OnRoundLimit (λ _. HasStepsBefore R limit hold into into) error
-gained_of_start R limit hold work into error e h = subst (λ p. OnRoundLimit (λ _. HasStepsBefore R limit hold p p) error) e h
 
 -- before any round
 unfoldable pub midway_none : (limit : ℕ) (hold : Bool) (pool : Interned) (book : Book) (classes : List ℕ) (size : ℕ) → Sound pool book → size ≡ length book.rows → classes ≡ numbers size 0 →

@@ -1,21 +1,43 @@
 -- The extraction of a kernel: midway, after some rounds each of which changed something, and at its end.
-use Rattle.std.specs.Prelude.{◌≡◌, ◌≢◌, ℕ, suc, ◌<◌, Bool, min, eqb, List, [], map, None, ⊤}
+use Rattle.std.specs.Prelude.{◌≡◌, ◌≢◌, ◌↔◌, ℕ, suc, ◌<◌, Bool, false, if◌then◌else◌, min, eqb, List, [], length, map, None, ⊤}
 use Rattle.clause_pool.specs.Interned.{Interned, Kept}
+use Rattle.clause_flatten.specs.Beside.{IsFlattened}
 use Rattle.clause_flatten.specs.declared.error.FlatError.{FlatError}
 use Rattle.clause_flatten.specs.declared.error.FlatError.TheVariants as faults
 use Rattle.row_book.specs.declared.book.Book.{Book}
 use Rattle.row_book.specs.declared.trail.Step.{Step}
 use Rattle.row_book.specs.Book.{repository_of, Sound}
+use Rattle.row_book.specs.Numbers.{numbers}
 use Rattle.row_book.specs.Repository.{Repository}
-use Rattle.row_book.specs.Flattening.{packages, passes}
-use Rattle.row_book.specs.Merging.{place_of}
-use Rattle.row_book.specs.Rounds.{round, rounds, class_after, steps_after, kernel, kernel_class, kernel_held, kernel_steps, limit_at, round_count, PassedRound}
+use Rattle.row_book.specs.Flattening.{flat, held_of, packages, passes}
+use Rattle.row_book.specs.Merging.{class_list, place_of}
+use Rattle.row_book.specs.Rounds.{round, round_steps, rounds, class_after, steps_after, kernel, kernel_class, kernel_held, kernel_steps, limit_at, round_count, PassedRound}
 use Rattle.row_book.specs.Trail.{SoundSteps, trail_meaning}
+use Rattle.kernel_rounds.specs.declared.extraction.Begun.{Begun}
 use Rattle.kernel_rounds.specs.declared.extraction.Outcome.{Outcome}
 use Rattle.kernel_rounds.specs.declared.extraction.Outcome.TheVariants.{Done, More}
 use Rattle.kernel_rounds.specs.declared.error.RoundError.{RoundError}
 use Rattle.kernel_rounds.specs.declared.error.RoundError.TheVariants.{Limit, Memory}
 use Rattle.kernel_rounds.specs.Moving.{HasSteps}
+
+-- what the rounds begin with: the book is sound in a pool, whose ids the pool that the rounds work in has kept, and it is flattened
+-- there; each package is a class of its own
+pub record IsBegun (start : Interned) (before : Book) (limit : ℕ) (hold : Bool) (work : Interned) (begun : Begun) : Type 0 where
+  pub sound : Sound start before
+  pub kept : Kept start work
+  pub flat : IsFlattened work limit hold (repository_of start before) begun.flat.book begun.flat.held
+  pub class_of : begun.class_of.items ≡ numbers (length before.rows) 0
+
+-- the first round: what it gives is of the pool that it worked in, and its steps are of the one that the book was in before it
+-- was flattened
+pub record IsFirstRound (start : Interned) (before : Book) (limit : ℕ) (hold : Bool) (work : Interned) (book : Book) (classes held_classes : List ℕ) (trail : List Step) (changed : Bool) : Type 0 where
+  pub is : repository_of work book ≡ round limit hold (repository_of start before)
+  pub sound : Sound work book
+  pub class_of : classes ≡ class_list (flat limit hold (repository_of start before))
+  pub held : held_classes ≡ held_of limit hold (repository_of start before)
+  pub same : (changed ≡ false) ↔ (round limit hold (repository_of start before) ≡ repository_of start before)
+  pub steps : trail_meaning start trail ≡ (if changed then round_steps limit hold (repository_of start before) else [])
+  pub books : SoundSteps start trail
 
 -- after some rounds, each of which changed something and passed no limit: the book is of the pool that the rounds work in, and
 -- the steps are of another

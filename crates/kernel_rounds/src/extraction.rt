@@ -2,7 +2,8 @@
 //!
 //! Rounds work in a copy of the caller's pool, which is compacted each round, so no later round carries the first repository
 //! on. The first book has the same ids in both pools.
-ghost use Rattle.std.specs.Prelude.{Bool, Some, ◌≡◌, ◌<◌, ◌+◌, ◌∷◌, ◌++◌, [], IfErr, IfOk, OnOk, List, eqb, length, map, min, slice_index_or, ℕ};
+ghost use Rattle.std.specs.Prelude.{Bool, false, None, Some, ◌≡◌, ◌<◌, ◌+◌, ◌∷◌, ◌++◌, [], IfErr, IfOk, OnOk, List, eqb, length, map, min, slice_index_or, ℕ};
+ghost use Rattle.std.specs.Option.{ForSome};
 ghost use Rattle.clause_pool.specs.Interned.{Interned, IsPool, Kept};
 ghost use Rattle.row_book.specs.Book.{repository_of, AddsOnly, Sound};
 ghost use Rattle.row_book.specs.Numbers.{numbers};
@@ -12,15 +13,16 @@ ghost use Rattle.row_book.specs.Keeping.{KeepsImages};
 ghost use Rattle.row_book.specs.Rounds.{kernel_image, limit_at, RoundStep, Settled};
 ghost use Rattle.row_book.specs.Sound.{SoundRepository};
 ghost use Rattle.row_book.specs.Trail.{trail_meaning, SoundSteps};
+ghost use Rattle.clause_flatten.specs.Beside.{AreKnown};
 ghost use Rattle.class_merge.specs.Classes.{class_in};
-ghost use Rattle.kernel_rounds.specs.Extracting.{refusal, HasStepsBefore, IsOwnKernel, IsOutcome, IsExtracted, IsMidway, IsReached, OnRoundLimit};
+ghost use Rattle.kernel_rounds.specs.Extracting.{refusal, HasStepsBefore, IsBegun, IsOwnKernel, IsOutcome, IsExtracted, IsMidway, IsReached, OnRoundLimit};
 ghost use Rattle.kernel_rounds.specs.Moving.{live_rows, HasSteps};
 
 use crate::error::RoundError;
 use crate::moving::{carry_round, no_steps};
 use crate::rounding::{Rounded, first_round, one_round};
-use clause_flatten::FlatError;
-use clause_pool::{NumList, Pool};
+use clause_flatten::{FlatError, Flattened, flatten, flatten_beside};
+use clause_pool::{NumList, Pool, RowId};
 use listed::Listed;
 use row_book::{Book, StepList, Trail};
 use std::alloc::{AllocError, Global};
@@ -48,6 +50,13 @@ struct Progress {
     class_of: Vec<u32>,
     steps: StepList,
     number: u32,
+}
+
+/// What the rounds begin with: the flattened book, in the pool that they work in, and the class of each package, which is its own.
+#[derive(Drop)]
+struct Begun {
+    flat: Flattened,
+    class_of: Vec<u32>,
 }
 
 /// What no round changes: a book, in the pool that the rounds work in, the class of each package in it, its held
@@ -225,26 +234,24 @@ fn advance(
     Ok(Outcome::More(next))
 }
 
-/// The first round: the pool that the kernel is for still holds what the other one does, so that the steps have the book as it
-/// stands, and nothing comes into that pool.
+/// The first round, behind flattening: the pool that the kernel is for holds the book as it was before it was flattened, so that the
+/// steps have it as it stands there, and nothing comes into that pool.
 fn first_advance(
     alloc: Global,
     work: &mut Pool,
     book: &Book,
-    limit: u32,
-    hold: bool,
-) -> Result<Outcome, RoundError>
+    begun: Begun,
+) -> Result<Outcome, AllocError>
     requires sound { Sound work.old book.now }
-    requires limit { 0 < limit }
-    ensures made { IfOk result (IsOutcome (repository_of work.old book.now) limit hold work.old work.old work.new (repository_of work.old book.now)) }
-    ensures passed { IfErr result (OnRoundLimit (λ passed. limit_at limit hold (repository_of work.old book.now) ≡ Some passed)) }
-    ensures refused_only { IfErr result (OnRoundLimit (λ _. HasStepsBefore (repository_of work.old book.now) limit hold work.old work.old)) }
+    requires flat { Sound work.old begun.flat.book }
+    ensures { (start : Interned) (limit : ℕ) (hold : Bool) → IsBegun start book.now limit hold work.old begun →
+        IfOk result (IsOutcome (repository_of start book.now) limit hold start start work.new (repository_of start book.now)) }
 {
-    let so_far = own_classes(alloc, book.size())?;
-    let made = match first_round(alloc, work, book, limit, hold) {
-        Ok(made) => made,
-        Err(fault) => return Err(round_error(fault, 1, so_far.as_slice())),
-    };
+    let Begun {
+        flat,
+        class_of: so_far,
+    } = begun;
+    let made = first_round(alloc, work, book, flat)?;
     let Rounded {
         book: after,
         class_of,
@@ -269,25 +276,25 @@ fn first_advance(
     }))
 }
 
-/// The kernel of a book in a pool that each round compacts: rounds go on until one changes nothing, and their steps come into
-/// the other pool, which holds the same before, and gains the rows of their books and their clauses alone.
+/// The kernel of a book, behind its flattening, in a pool that each round compacts: rounds go on until one changes nothing, and their
+/// steps come into the other pool, which holds the book, and gains the rows of their books and their clauses alone.
 fn all_rounds(
     alloc: Global,
     work: &mut Pool,
     book: &Book,
+    begun: Begun,
     limit: u32,
     hold: bool,
     into: &mut Pool,
 ) -> Result<FixedPoint, RoundError>
-    requires sound { Sound work.old book.now }
-    requires same { work.old ≡ into.old }
     requires limit { 0 < limit }
-    ensures reached { IfOk result (λ last. IsReached (repository_of work.old book.now) limit hold into.old into.new work.new last.book last.class_of.items last.held last.steps) }
-    ensures passed { IfErr result (OnRoundLimit (λ passed. limit_at limit hold (repository_of work.old book.now) ≡ Some passed)) }
-    ensures refused_only { IfErr result (OnRoundLimit (λ _. HasStepsBefore (repository_of work.old book.now) limit hold into.old into.new)) }
+    requires begun { IsBegun into.old book.now limit hold work.old begun }
+    ensures reached { IfOk result (λ last. IsReached (repository_of into.old book.now) limit hold into.old into.new work.new last.book last.class_of.items last.held last.steps) }
+    ensures passed { IfErr result (OnRoundLimit (λ passed. limit_at limit hold (repository_of into.old book.now) ≡ Some passed)) }
+    ensures refused_only { IfErr result (OnRoundLimit (λ _. HasStepsBefore (repository_of into.old book.now) limit hold into.old into.new)) }
     ensures kept { Kept into.old into.new }
 {
-    let first = first_advance(alloc, work, book, limit, hold)?;
+    let first = first_advance(alloc, work, book, begun)?;
     let mut now = match first {
         Outcome::Done(last) => return Ok(last),
         Outcome::More(next) => next,
@@ -333,6 +340,30 @@ fn carry_kernel(
     })
 }
 
+/// The kernel of a book, behind its flattening in the pool that the rounds work in.
+fn kernel_of(
+    alloc: Global,
+    work: &mut Pool,
+    book: &Book,
+    begun: Begun,
+    limit: u32,
+    hold: bool,
+    into: &mut Pool,
+) -> Result<Kernel, RoundError>
+    requires limit { 0 < limit }
+    requires begun { IsBegun into.old book.now limit hold work.old begun }
+    ensures kernel { IfOk result (λ made. IsExtracted (repository_of into.old book.now) limit hold into.old into.new made.book made.class_of made.held made.trail.steps) }
+    ensures hold { IfOk result (λ made. made.hold ≡ hold) }
+    ensures only { IfOk result (λ made. AddsOnly into.old into.new (live_rows made.book made.trail.steps)) }
+    ensures passed { IfErr result (OnRoundLimit (λ passed. limit_at limit hold (repository_of into.old book.now) ≡ Some passed)) }
+    ensures refused_only { IfErr result (OnRoundLimit (λ _. HasStepsBefore (repository_of into.old book.now) limit hold into.old into.new)) }
+    ensures kept { Kept into.old into.new }
+{
+    let last = all_rounds(alloc, work, book, begun, limit, hold, into)?;
+    let made = carry_kernel(alloc, last, hold, work, into)?;
+    Ok(made)
+}
+
 /// The kernel of the book: rounds of flattening, merging, pruning and thinning go on until one changes nothing.
 ///
 /// Without hold it is refused where a row has more clauses than the limit allows at some stage of the flattening of some round,
@@ -361,7 +392,42 @@ pub fn extract(
     ensures kept { Kept pool.old pool.new }
 {
     let mut own = pool.copy(alloc)?;
-    let last = all_rounds(alloc, &mut own, book, limit, hold, pool)?;
-    let made = carry_kernel(alloc, last, hold, &own, pool)?;
+    let class_of = own_classes(alloc, book.size())?;
+    let flat = match flatten(alloc, &mut own, book, limit, hold) {
+        Ok(flat) => flat,
+        Err(fault) => return Err(round_error(fault, 1, class_of.as_slice())),
+    };
+    let begun = Begun { flat, class_of };
+    let made = kernel_of(alloc, &mut own, book, begun, limit, hold, pool)?;
     Ok(made)
+}
+
+/// The kernel of the book, without hold, where the rows of some packages over the core of the first round are known; none where a row
+/// has more clauses than the limit allows at some stage of some round. Its pool holds and gains what that of `extract` does.
+pub fn extract_beside(
+    alloc: Global,
+    pool: &mut Pool,
+    book: &Book,
+    limit: u32,
+    known: &[Option<RowId>],
+) -> Result<Option<Kernel>, AllocError>
+    requires sound { Sound pool.old book.now }
+    requires limit { 0 < limit }
+    requires known { AreKnown pool.old limit (repository_of pool.old book.now) known.now }
+    ensures kernel { IfOk result (λ made. ForSome made (λ kernel. IsExtracted (repository_of pool.old book.now) limit false pool.old pool.new kernel.book kernel.class_of kernel.held kernel.trail.steps)) }
+    ensures hold { IfOk result (λ made. ForSome made (λ kernel. kernel.hold ≡ false)) }
+    ensures passed { IfOk result (λ made. made ≡ None → limit_at limit false (repository_of pool.old book.now) ≡ None → ⊥) }
+    ensures kept { Kept pool.old pool.new }
+{
+    let mut own = pool.copy(alloc)?;
+    let Some(flat) = flatten_beside(alloc, &mut own, book, limit, known)? else {
+        return Ok(None);
+    };
+    let class_of = own_classes(alloc, book.size())?;
+    let begun = Begun { flat, class_of };
+    match kernel_of(alloc, &mut own, book, begun, limit, false, pool) {
+        Ok(made) => Ok(Some(made)),
+        Err(RoundError::Limit { .. }) => Ok(None),
+        Err(RoundError::Memory) => Err(AllocError),
+    }
 }

@@ -11,7 +11,7 @@ mod rounding;
 
 // The kernel of a book, or one round of it.
 pub use error::RoundError;
-pub use extraction::{Kernel, extract};
+pub use extraction::{Kernel, extract, extract_beside};
 pub use rounding::{Rounded, one_round};
 
 // Laws.

@@ -1,6 +1,7 @@
 //! One round of reduction.
-ghost use Rattle.std.specs.Prelude.{◌≡◌, ◌<◌, ◌↔◌, ◌∷◌, ◌++◌, [], false, if◌then◌else◌, IfErr, IfOk, None, OnOk, Some, map};
-ghost use Rattle.clause_pool.specs.Interned.{Kept};
+ghost use Rattle.std.specs.Prelude.{◌≡◌, ◌<◌, ◌↔◌, ◌∷◌, ◌++◌, [], ℕ, Bool, false, if◌then◌else◌, IfErr, IfOk, None, OnOk, Some, map};
+ghost use Rattle.clause_pool.specs.Interned.{Interned, Kept};
+ghost use Rattle.clause_flatten.specs.Beside.{IsFlattened};
 ghost use Rattle.clause_flatten.specs.Refusals.{OnLimit};
 ghost use Rattle.row_book.specs.Book.{repository_of, IsSameBook, RowsTidy, Sound};
 ghost use Rattle.row_book.specs.declared.book.Book.{Book};
@@ -11,6 +12,7 @@ ghost use Rattle.row_book.specs.Rounds.{IdleStep, round, round_steps};
 ghost use Rattle.row_book.specs.Thinning.{thin};
 ghost use Rattle.row_book.specs.Trail.{SoundSteps, trail_meaning};
 ghost use Rattle.row_book.specs.declared.trail.Step.TheVariants.{Flat, Merge};
+ghost use Rattle.kernel_rounds.specs.Extracting.{IsFirstRound};
 ghost use Rattle.kernel_rounds.specs.Moving.{live_rows, AreSameSteps, HasOnly};
 
 use crate::comparing::same_books;
@@ -287,29 +289,25 @@ fn tell_first(
     tell_round(alloc, past.steps, before, made, changed)
 }
 
-/// The first round, on a book whose rows have the same ids in another pool: its steps are for that pool, as it was before the
-/// round, and have the book as it stands there. At its end the pool is compacted: it has the rows of the new book, and no others.
+/// The first round, behind flattening, on a book whose rows have the same ids in another pool, as it was before it was flattened: its
+/// steps are for that pool, and have the book as it stands there. At its end the pool is compacted: it has the rows of the new book, and
+/// no others.
 pub(crate) fn first_round(
     alloc: Global,
     pool: &mut Pool,
     book: &Book,
-    limit: u32,
-    hold: bool,
-) -> Result<Rounded, FlatError>
+    flat: Flattened,
+) -> Result<Rounded, AllocError>
     requires sound { Sound pool.old book.now }
-    requires limit { 0 < limit }
-    ensures round { IfOk result (λ made. repository_of pool.new made.book ≡ round limit hold (repository_of pool.old book.now)) }
-    ensures classes { IfOk result (λ made. made.class_of ≡ class_list (flat limit hold (repository_of pool.old book.now))) }
-    ensures held { IfOk result (λ made. made.held ≡ held_of limit hold (repository_of pool.old book.now)) }
-    ensures changed { IfOk result (λ made. (made.changed ≡ false) ↔ (round limit hold (repository_of pool.old book.now) ≡ repository_of pool.old book.now)) }
-    ensures trail { IfOk result (λ made. trail_meaning pool.old made.trail.steps ≡ (if made.changed then round_steps limit hold (repository_of pool.old book.now) else [])) }
-    ensures sound { IfOk result (λ made. Sound pool.new made.book) }
-    ensures books { IfOk result (λ made. SoundSteps pool.old made.trail.steps) }
+    requires flat { Sound pool.old flat.book }
+    ensures first { (start : Interned) (limit : ℕ) (hold : Bool) → Kept start pool.old → Sound start book.now →
+        IsFlattened pool.old limit hold (repository_of start book.now) flat.book flat.held →
+        IfOk result (λ made. IsFirstRound start book.now limit hold pool.new made.book made.class_of made.held made.trail.steps made.changed) }
     ensures only { IfOk result (λ made. HasOnly pool.new made.book.rows) }
-    ensures within { OnOk result (passes limit hold (repository_of pool.old book.now) ≡ None) }
-    ensures passed { IfErr result (OnLimit (λ passed. passes limit hold (repository_of pool.old book.now) ≡ Some passed)) }
 {
-    let made = reduce(alloc, pool, book, limit, hold)?;
+    let Flattened { book: flat, held } = flat;
+    let made = reduce_flat(alloc, pool, &flat, held)?;
+    drop(flat);
     let changed = !same_books(pool, book, &made.book);
     let told = tell_first(alloc, book, made, changed)?;
     let kept = keep_book(alloc, pool, told)?;

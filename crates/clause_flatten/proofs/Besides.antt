@@ -1,0 +1,552 @@
+-- Which packages are needed, and flattening beside known rows.
+use Rattle.std.proofs.Common.{◌≡◌, ℕ, zero, suc, ◌<◌, ◌≤◌, ◌+◌, Bool, true, false, not, ◌||◌, cond, List, [], ◌∷◌, ◌++◌, ◌⊎◌, length, get_or, set, take, map, filter, replicate, inl, inr, refl, sym, ◌∙◌, ap, ap₂, subst, arith, Option, Some, None, Result, Ok, Err, IfOk, zero-le}
+use Rattle.std.specs.Prelude.{count_by}
+use Rattle.std.specs.List.{list_any}
+use Rattle.std.specs.Option.{is_some, unwrap_or}
+use Rattle.std.proofs.lemmas.Bool.{cases_Bool, cases_eq, cases_lt, both_ways}
+use Rattle.std.proofs.lemmas.List.{length-map, length-append, length-replicate, get_or-replicate, get_or_past, get_or_default, get_or-set_same, get_or-set_other, length-set, map-append, map-id, map_more, take_more}
+use Rattle.std.proofs.lemmas.List.Sums.{sum_by-set}
+use Rattle.std.proofs.lemmas.Simd.{map-map}
+use Rattle.clause_pool.specs.Interned.{Interned, IsIdOf, IsPool, Kept, clause_at, clauses_at, ids_at, row_at}
+use Rattle.clause_pool.proofs.Interned.{row_stays}
+use Rattle.listed.specs.Lists.{In, here, there}
+use Rattle.listed.proofs.{Bools.{cases_Option}, Lists.{In_append_cases, In_append_left, In_append_right, In_at, In_cases, In_map, In_map_cases, item_in, In_none}}
+use Rattle.row_book.specs.declared.book.Book.{Book}
+use Rattle.row_book.specs.Book.{AreConflicts, RowsFit, Sound, repository_of}
+use Rattle.row_book.specs.Flags.{flag}
+use Rattle.row_book.specs.Numbers.{numbers}
+use Rattle.row_book.specs.Repository.{Repository, against, clauses_of}
+use Rattle.row_book.specs.Sets.{NumSet}
+use Rattle.row_book.specs.Sound.{OfPackages}
+use Rattle.row_book.specs.Support.{IsRow, row}
+use Rattle.row_book.specs.Uses.{row_id}
+use Rattle.row_book.specs.Flattening.{core_of, flat, has_conflict, held_of, packages, passes, remaining_after, row_length, rows_over}
+use Rattle.row_book.proofs.{Books.{clauses_row}, Flags.{flag_in}, Numbers.{at_numbers, length_numbers, map_same, numbers_more, numbers_parts}}
+use Rattle.clause_flatten.specs.Beside.{AreKnown, AreNeeded, IsFlattened, Needs, known_or, masked}
+use Rattle.clause_flatten.specs.Locality.{StandsIn}
+use Rattle.clause_flatten.proofs.{LocalRuns.{flat_is_local_lem, limit_is_local_lem}, Passing.{passes_none}, Rows.{row_is}, Stages.{left_bound, without_hold_lem}, Tables.{table_at, table_length}}
+
+-- one more number that is put to the work
+in_push : (xs : List ℕ) (x n : ℕ) → In n (xs ++ x ∷ []) → In n xs ⊎ (n ≡ x)
+in_push xs x n i = elim (In_append_cases xs (x ∷ []) n i) [ inl a ↦ inl a | inr b ↦ elim (In_cases b) [ inl e ↦ inr e | inr j ↦ absurd (In_none j) ] ]
+
+pushed : (xs : List ℕ) (x n : ℕ) → n ≡ x → In n (xs ++ x ∷ [])
+pushed xs x n e = In_append_right xs (x ∷ []) n (subst (λ z. In n (z ∷ [])) e here)
+
+-- a flag that goes up
+flag_up : (flags : List Bool) (p n : ℕ) → p < length flags → n ≡ p → flag (set flags p true) n ≡ true
+flag_up flags p n l e = rw e (get_or-set_same flags p true false l)
+
+flag_stays : (flags : List Bool) (p n : ℕ) → p < length flags → flag flags n ≡ true → flag (set flags p true) n ≡ true
+flag_stays flags p n l h = elim (cases_eq n p) [ inl e ↦ flag_up flags p n l e | inr ne ↦ get_or-set_other flags p n true false ne ∙ h ]
+
+flag_old : (flags : List Bool) (p n : ℕ) → flag (set flags p true) n ≡ true → (flag flags n ≡ true) ⊎ (n ≡ p)
+flag_old flags p n h = elim (cases_eq n p) [ inl e ↦ inr e | inr ne ↦ inl (sym (get_or-set_other flags p n true false ne) ∙ h) ]
+
+fewer_down : (flags : List Bool) (p : ℕ) → p < length flags → flag flags p ≡ false → count_by not (set flags p true) + 1 ≡ count_by not flags
+fewer_down flags p l f =
+    let e : count_by not (set flags p true) + cond (not (get_or flags p false)) 1 0 ≡ count_by not flags + 0 = sum_by-set (λ b. cond (not b) 1 0) flags p true false l in
+    omega (arith, rw f at e)
+
+-- the needs of no clauses, and of a clause without members
+pub needs_none : (flags : List Bool) (work : List ℕ) → Needs [] flags work flags work
+needs_none flags work = record {
+  count = refl;
+  stays = λ p h. h;
+  all = λ c i. absurd (In_none i);
+  waits = λ p i. i;
+  gains = λ p h. inl h;
+  only = λ p i. inl i;
+  few = omega arith;
+}
+
+pub needs_first : (flags : List Bool) (work : List ℕ) → Needs ([] ∷ []) flags work flags work
+needs_first flags work = record {
+  count = refl;
+  stays = λ p h. h;
+  all = λ c i n k. elim (In_cases i) [ inl e ↦ absurd (In_none (rw e at k)) | inr j ↦ absurd (In_none j) ];
+  waits = λ p i. i;
+  gains = λ p h. inl h;
+  only = λ p i. inl i;
+  few = omega arith;
+}
+
+-- one more member of the clause
+one_more : (xs : List ℕ) (i x m : ℕ) → i < length xs → x ≡ get_or xs i 0 → In m (take (i + 1) xs) → In m (take i xs) ⊎ (m ≡ x)
+one_more xs i x m l e k = in_push (take i xs) x m (subst (λ ys. In m ys) (take_more xs i 0 l ∙ ap (λ y. take i xs ++ y ∷ []) (sym e)) k)
+
+-- which has its flag
+pub needs_up : (clause : List ℕ) (i n : ℕ) (before : List Bool) (work : List ℕ) (flags : List Bool) (more : List ℕ) → i < length clause → n ≡ get_or clause i 0 → flag flags n ≡ true →
+    Needs (take i clause ∷ []) before work flags more → Needs (take (i + 1) clause ∷ []) before work flags more
+needs_up clause i n before work flags more l e up needs = record {
+  count = needs.count;
+  stays = needs.stays;
+  all = λ c a m k. elim (In_cases a) [
+    | inr j ↦ absurd (In_none j)
+    | inl s ↦ elim (one_more clause i n m l e (subst (λ z. In m z) s k)) [ inl b ↦ needs.all (take i clause) here m b | inr b ↦ subst (λ z. flag flags z ≡ true) (sym b) up ]
+  ];
+  waits = needs.waits;
+  gains = needs.gains;
+  only = needs.only;
+  few = needs.few;
+}
+
+-- or gains it
+pub needs_down : (clause : List ℕ) (i n : ℕ) (before : List Bool) (work : List ℕ) (flags new : List Bool) (more last : List ℕ) → i < length clause → n ≡ get_or clause i 0 → flag flags n ≡ false →
+    n < length flags → new ≡ set flags n true → last ≡ more ++ n ∷ [] → Needs (take i clause ∷ []) before work flags more → Needs (take (i + 1) clause ∷ []) before work new last
+needs_down clause i n before work flags new more last l e down within f g needs =
+    let c : length (set flags n true) ≡ length before = length-set flags n true ∙ needs.count in
+    let h : count_by not (set flags n true) + 1 ≡ count_by not flags = fewer_down flags n within down in
+    let k : length (more ++ n ∷ []) ≡ length more + 1 = length-append more (n ∷ []) in
+    rw (f, g) (record {
+      count = c;
+      stays = λ p h. flag_stays flags n p within (needs.stays p h);
+      all = λ c a m k. elim (In_cases a) [
+        | inr j ↦ absurd (In_none j)
+        | inl s ↦ elim (one_more clause i n m l e (subst (λ z. In m z) s k)) [
+          | inl b ↦ flag_stays flags n m within (needs.all (take i clause) here m b)
+          | inr b ↦ flag_up flags n m within b
+        ]
+      ];
+      waits = λ p a. In_append_left more (n ∷ []) p (needs.waits p a);
+      gains = λ p h. elim (flag_old flags n p h) [
+        | inl a ↦ elim (needs.gains p a) [ inl b ↦ inl b | inr b ↦ inr (In_append_left more (n ∷ []) p b) ]
+        | inr b ↦ inr (pushed more n p b)
+      ];
+      only = λ p a. elim (in_push more n p a) [ inl b ↦ needs.only p b | inr b ↦ inr (rw (b, ← needs.count) within) ];
+      few = let q = needs.few in omega (arith, q, h, k);
+    })
+
+-- one more clause of the row
+pub needs_more : (pool : Interned) (ids : List ℕ) (i id : ℕ) (clause : List ℕ) (before : List Bool) (work : List ℕ) (flags : List Bool) (more : List ℕ) (new : List Bool) (last : List ℕ) →
+    i < length ids → id ≡ get_or ids i id → clause ≡ clause_at pool id →
+    Needs (clauses_at pool (take i ids)) before work flags more → Needs (clause ∷ []) flags more new last → Needs (clauses_at pool (take (i + 1) ids)) before work new last
+needs_more pool ids i id clause before work flags more new last l e lent first second = record {
+  count = second.count ∙ first.count;
+  stays = λ p h. second.stays p (first.stays p h);
+  all = λ c a n k. elim (In_append_cases (clauses_at pool (take i ids)) (clause ∷ []) c (subst (λ cs. In c cs) longer a)) [
+    | inl b ↦ second.stays n (first.all c b n k)
+    | inr b ↦ second.all c b n k
+  ];
+  waits = λ p i. second.waits p (first.waits p i);
+  gains = λ p h. elim (second.gains p h) [
+    | inl a ↦ elim (first.gains p a) [ inl b ↦ inl b | inr b ↦ inr (second.waits p b) ]
+    | inr b ↦ inr b
+  ];
+  only = λ p i. elim (second.only p i) [ inl a ↦ first.only p a | inr b ↦ inr (rw first.count at b) ];
+  few = let a = first.few in let b = second.few in omega (arith, a, b);
+}
+  where
+    longer : clauses_at pool (take (i + 1) ids) ≡ clauses_at pool (take i ids) ++ clause ∷ []
+    longer = map_more (clause_at pool) ids i id l ∙ ap (λ x. clauses_at pool (take i ids) ++ clause_at pool x ∷ []) (sym e) ∙ ap (λ c. clauses_at pool (take i ids) ++ c ∷ []) (sym lent)
+
+-- the flags so far of the packages whose row is not known
+pub record AreFlagged (known : List (Option ℕ)) (k : ℕ) (needed : List Bool) (work : List ℕ) : Type 0 where
+  pub count : length needed ≡ length known
+  pub unknown : (p : ℕ) → p < k → get_or known p None ≡ None → flag needed p ≡ true
+  pub waits : (p : ℕ) → flag needed p ≡ true → In p work
+  pub within : (p : ℕ) → In p work → p < length known
+
+none_up : (n p : ℕ) → flag (replicate n false) p ≡ true → ⊥
+none_up n p h = elim (cases_lt p n) [
+  | inl l ↦ both_ways (flag (replicate n false) p) (get_or-replicate n p false false l) h
+  | inr g ↦ both_ways (flag (replicate n false) p) (get_or_past (replicate n false) p false (rw length-replicate g)) h
+]
+
+pub flagged_none : (known : List (Option ℕ)) (needed : List Bool) (work : List ℕ) → length known ≡ length needed → needed ≡ replicate (length needed) false → work ≡ [] → AreFlagged known 0 needed work
+flagged_none known needed work e f g = record {
+  count = sym e;
+  unknown = λ p l. absurd (omega (arith, l));
+  waits = λ p h. absurd (none_up (length needed) p (subst (λ xs. flag xs p ≡ true) f h));
+  within = λ p i. absurd (In_none (rw g at i));
+}
+
+pub flagged_known : (known : List (Option ℕ)) (k : ℕ) (needed : List Bool) (work : List ℕ) → (get_or known k None ≡ None → ⊥) → AreFlagged known k needed work → AreFlagged known (k + 1) needed work
+flagged_known known k needed work some are = record {
+  count = are.count;
+  unknown = λ p l h. elim (cases_eq p k) [ inl e ↦ absurd (some (subst (λ z. get_or known z None ≡ None) e h)) | inr ne ↦ are.unknown p (omega (arith, l, ne)) h ];
+  waits = are.waits;
+  within = are.within;
+}
+
+pub flagged_unknown : (known : List (Option ℕ)) (k : ℕ) (needed new : List Bool) (work more : List ℕ) → k < length known → new ≡ set needed k true → more ≡ work ++ k ∷ [] →
+    AreFlagged known k needed work → AreFlagged known (k + 1) new more
+flagged_unknown known k needed new work more l f g are =
+    let below : k < length needed = omega (arith, l, are.count) in
+    rw (f, g) (record {
+      count = length-set needed k true ∙ are.count;
+      unknown = λ p m h. elim (cases_eq p k) [ inl e ↦ flag_up needed k p below e | inr ne ↦ flag_stays needed k p below (are.unknown p (omega (arith, m, ne)) h) ];
+      waits = λ p h. elim (flag_old needed k p h) [ inl a ↦ In_append_left work (k ∷ []) p (are.waits p a) | inr e ↦ pushed work k p e ];
+      within = λ p i. elim (in_push work k p i) [ inl a ↦ are.within p a | inr e ↦ rw e l ];
+    })
+
+-- an optional id that was read
+pub known_read : (known : List (Option ℕ)) (k : ℕ) (x : Option ℕ) → k < length known → x ≡ get_or known k x → get_or known k None ≡ x
+known_read known k x l e = get_or_default known k None x l ∙ sym e
+
+pub present : (known : List (Option ℕ)) (k : ℕ) (x : Option ℕ) (b : Bool) → k < length known → x ≡ get_or known k x → is_some x ≡ not b → b ≡ false → get_or known k None ≡ None → ⊥
+present known k x b l e h f none = both_ways (is_some x) (ap is_some (sym (known_read known k x l e) ∙ none)) (h ∙ ap not f)
+
+pub row_read : (rows : List ℕ) (k id : ℕ) → k < length rows → id ≡ get_or rows k id → id ≡ row_id rows k
+row_read rows k id l e = e ∙ get_or_default rows k id 0 l
+
+pub value_is : (o : Option ℕ) (d : ℕ) → unwrap_or o d ≡ known_or o d
+value_is None d = refl
+value_is (Some x) d = refl
+
+pub nothing_left : (work : List ℕ) → length work ≡ 0 → work ≡ []
+nothing_left [] e = refl
+nothing_left (x ∷ xs) e = absurd (omega arith)
+
+-- the numbers of a clause of the row are below so many
+pub clause_below : (pool : Interned) (row : List ℕ) (k id size : ℕ) (clause : List ℕ) → k < length row → id ≡ get_or row k id → clause ≡ clause_at pool id →
+    ((c : List ℕ) → In c (clauses_at pool row) → (n : ℕ) → In n c → n < size) → (n : ℕ) → In n clause → n < size
+clause_below pool row k id size clause l e lent f n i = f (clause_at pool id) (In_map (clause_at pool) row id (item_in row k id l e)) n (subst (λ c. In n c) lent i)
+
+-- flags midway: what a package with a flag needs has its flag, or the package waits
+pub record AreLooked (R : Repository) (known : List (Option ℕ)) (needed : List Bool) (work : List ℕ) : Type 0 where
+  pub count : length needed ≡ length R.clauses
+  pub unknown : (p : ℕ) → p < length R.clauses → get_or known p None ≡ None → flag needed p ≡ true
+  pub done : (p : ℕ) → flag needed p ≡ true → In p work ⊎ ((c : List ℕ) → In c (clauses_of R p) → (n : ℕ) → In n c → flag needed n ≡ true)
+  pub within : (p : ℕ) → In p work → p < length R.clauses
+
+pub looked_first : (pool : Interned) (book : Book) (known : List (Option ℕ)) (needed : List Bool) (work : List ℕ) → length known ≡ length book.rows → length needed ≡ length book.rows →
+    ((p : ℕ) → p < length known → get_or known p None ≡ None → flag needed p ≡ true) → ((p : ℕ) → flag needed p ≡ true → In p work) → ((p : ℕ) → In p work → p < length known) →
+    AreLooked (repository_of pool book) known needed work
+looked_first pool book known needed work e f unknown waits within =
+    let size : length (map (row_at pool) book.rows) ≡ length book.rows = length-map book.rows (row_at pool) in
+    record {
+      count = f ∙ sym size;
+      unknown = λ p l. unknown p (omega (arith, l, e, size));
+      done = λ p h. inl (waits p h);
+      within = λ p i. let l = within p i in omega (arith, l, e, size);
+    }
+
+pub looked_more : (R : Repository) (known : List (Option ℕ)) (needed new : List Bool) (work rest more : List ℕ) (p : ℕ) → work ≡ rest ++ p ∷ [] → Needs (clauses_of R p) needed rest new more →
+    AreLooked R known needed work → AreLooked R known new more
+looked_more R known needed new work rest more p e needs are = record {
+  count = needs.count ∙ are.count;
+  unknown = λ q l h. needs.stays q (are.unknown q l h);
+  done = λ q h. elim (needs.gains q h) [
+    | inr i ↦ inl i
+    | inl old ↦ elim (are.done q old) [
+      | inr f ↦ inr (λ c i n k. needs.stays n (f c i n k))
+      | inl w ↦ elim (in_push rest p q (rw e at w)) [
+        | inl a ↦ inl (needs.waits q a)
+        | inr s ↦ inr (λ c i n k. needs.all c (subst (λ z. In c (clauses_of R z)) s i) n k)
+      ]
+    ]
+  ];
+  within = λ q i. elim (needs.only q i) [ inl a ↦ are.within q (rw e (In_append_left rest (p ∷ []) q a)) | inr b ↦ rw are.count at b ];
+}
+
+pub looked_below : (pool : Interned) (book : Book) (known : List (Option ℕ)) (needed : List Bool) (work rest : List ℕ) (p : ℕ) → work ≡ rest ++ p ∷ [] →
+    AreLooked (repository_of pool book) known needed work → p < length book.rows
+looked_below pool book known needed work rest p e are = rw (← length-map book.rows (row_at pool)) (are.within p (rw e (pushed rest p p refl)))
+
+pub row_below : (pool : Interned) (book : Book) (known : List (Option ℕ)) (needed lent : List Bool) (work : List ℕ) (p row : ℕ) (ids : List ℕ) → Sound pool book → p < length book.rows → row ≡ row_id book.rows p →
+    ids ≡ ids_at pool row → lent ≡ needed → AreLooked (repository_of pool book) known needed work → (c : List ℕ) → In c (clauses_at pool ids) → (n : ℕ) → In n c → n < length lent
+row_below pool book known needed lent work p row ids sound l e f g are c i n k =
+    let at : In row book.rows = subst (λ z. In z book.rows) (sym e) (In_at book.rows p 0 l) in
+    let m : n < length book.rows = sound.rows.numbers row at c (subst (λ xs. In c (clauses_at pool xs)) f i) n k in
+    let s : length lent ≡ length book.rows = ap length g ∙ are.count ∙ length-map book.rows (row_at pool) in
+    omega (arith, m, s)
+
+pub looked_next : (pool : Interned) (book : Book) (known : List (Option ℕ)) (needed lent new all : List Bool) (work rest more : List ℕ) (p row : ℕ) (ids : List ℕ) → work ≡ rest ++ p ∷ [] →
+    row ≡ row_id book.rows p → ids ≡ ids_at pool row → lent ≡ needed → all ≡ new → Needs (clauses_at pool ids) lent rest new more →
+    AreLooked (repository_of pool book) known needed work → AreLooked (repository_of pool book) known all more
+looked_next pool book known needed lent new all work rest more p row ids cut e f g whole needs are =
+    let l : p < length book.rows = looked_below pool book known needed work rest p cut are in
+    let is : clauses_at pool ids ≡ clauses_of (repository_of pool book) p = ap (clauses_at pool) f ∙ ap (row_at pool) e ∙ sym (clauses_row pool book p l) in
+    subst (λ xs. AreLooked (repository_of pool book) known xs more) (sym whole)
+    (looked_more (repository_of pool book) known needed new work rest more p cut (subst (λ xs. Needs (clauses_of (repository_of pool book) p) xs rest new more) g (subst (λ cs. Needs cs lent rest new more) is needs)) are)
+
+pub looked_all : (R : Repository) (known : List (Option ℕ)) (needed : List Bool) (work : List ℕ) → work ≡ [] → AreLooked R known needed work → AreNeeded R known needed
+looked_all R known needed work e are = record {
+  count = are.count;
+  unknown = are.unknown;
+  closed = λ p h. elim (are.done p h) [ inl i ↦ absurd (In_none (rw e at i)) | inr f ↦ f ];
+}
+
+-- no number yet
+pub map_none : (f : ℕ → ℕ) (xs : List ℕ) → xs ≡ [] → xs ≡ map f (numbers 0 0)
+unfolding numbers
+map_none f xs e = e
+
+-- and all of them
+pub map_end : (f : ℕ → ℕ) (n m : ℕ) (xs : List ℕ) → n ≡ m → xs ≡ map f (numbers n 0) → xs ≡ map f (numbers m 0)
+map_end f n m xs e h = h ∙ ap (λ k. map f (numbers k 0)) e
+
+-- one more number in a list that is told by the numbers
+pub numbers_grow : (f : ℕ → ℕ) (n : ℕ) (old new : List ℕ) (x : ℕ) → old ≡ map f (numbers n 0) → x ≡ f n → new ≡ old ++ x ∷ [] → new ≡ map f (numbers (n + 1) 0)
+numbers_grow f n old new x e h g = g ∙ ap₂ (λ xs y. xs ++ y ∷ []) e h ∙ sym (ap (map f) (numbers_more n) ∙ map-append f (numbers n 0) (n ∷ []))
+
+-- the masked repository
+masked_size : (needed : List Bool) (R : Repository) → length (masked needed R).clauses ≡ length R.clauses
+unfolding masked
+masked_size needed R = length_numbers (λ p. cond (flag needed p) (clauses_of R p) []) (length R.clauses) 0
+
+masked_conflicts : (needed : List Bool) (R : Repository) → (masked needed R).conflicts ≡ R.conflicts
+unfolding masked
+masked_conflicts needed R = refl
+
+masked_at : (needed : List Bool) (R : Repository) (p : ℕ) → p < length R.clauses → clauses_of (masked needed R) p ≡ cond (flag needed p) (clauses_of R p) []
+unfolding masked
+masked_at needed R p l =
+    at_numbers (λ p. cond (flag needed p) (clauses_of R p) []) [] (length R.clauses) 0 p l
+    ∙ ap (λ q. cond (flag needed q) (clauses_of R q) []) (let e : 0 + p ≡ p = omega arith in e)
+
+masked_up : (needed : List Bool) (R : Repository) → length needed ≡ length R.clauses → (p : ℕ) → flag needed p ≡ true → clauses_of (masked needed R) p ≡ clauses_of R p
+masked_up needed R e p h =
+    let l : p < length needed = flag_in needed p h in
+    masked_at needed R p (omega (arith, l, e)) ∙ ap (λ b. cond b (clauses_of R p) []) h
+
+masked_down : (needed : List Bool) (R : Repository) (p : ℕ) → flag needed p ≡ false → clauses_of (masked needed R) p ≡ []
+masked_down needed R p h = elim (cases_lt p (length R.clauses)) [
+  | inl l ↦ masked_at needed R p l ∙ ap (λ b. cond b (clauses_of R p) []) h
+  | inr g ↦ get_or_past (masked needed R).clauses p [] (rw (masked_size needed R) g)
+]
+
+masked_conflict : (needed : List Bool) (R : Repository) (q : ℕ) → has_conflict (masked needed R) q ≡ has_conflict R q
+unfolding masked
+masked_conflict needed R q = ap (λ n. list_any (λ m. against R q m || against R m q) (numbers n 0)) (masked_size needed R)
+
+-- the book of the masked repository
+pub made_masked : (pool new : Interned) (book made : Book) (needed : List Bool) (empty : ℕ) → Sound pool book → Kept pool new → IsIdOf new.rows [] empty →
+    made.rows ≡ map (λ p. cond (flag needed p) (row_id book.rows p) empty) (numbers (length book.rows) 0) → made.conflicts ≡ book.conflicts →
+    (repository_of new made ≡ masked needed (repository_of pool book)) × Sound new made
+unfolding masked
+made_masked pool new book made needed empty sound kept none f g = (
+  ap₂ together
+      (ap (map (row_at new)) f
+      ∙ map-map (row_at new) id_of (numbers (length book.rows) 0)
+      ∙ map_same (λ p. row_at new (id_of p)) (λ p. cond (flag needed p) (clauses_of R p) []) (numbers (length book.rows) 0) (λ p i. clauses_at_id p (below p i))
+      ∙ ap (λ n. map (λ p. cond (flag needed p) (clauses_of R p) []) (numbers n 0)) (sym (length-map book.rows (row_at pool)))) g,
+  record {
+    rows = record { is_pool = kept.sound sound.rows.is_pool; of_pool = of_pool; numbers = fit };
+    conflicts = subst AreConflicts (sym g) sound.conflicts;
+  },
+)
+  where
+    R : Repository
+    R = repository_of pool book
+
+    together : List (List (List ℕ)) → List (List ℕ) → Repository
+    together xs ys = record { clauses = xs; conflicts = ys }
+
+    id_of : ℕ → ℕ
+    id_of p = cond (flag needed p) (row_id book.rows p) empty
+
+    below : (p : ℕ) → In p (numbers (length book.rows) 0) → p < length book.rows
+    below p i = let w : (0 ≤ p) × (p < 0 + length book.rows) = numbers_parts (length book.rows) 0 p i in omega (arith, w.1)
+
+    is_row : (p : ℕ) → p < length book.rows → In (row_id book.rows p) book.rows
+    is_row p l = In_at book.rows p 0 l
+
+    old_row : (p : ℕ) → p < length book.rows → row_at new (row_id book.rows p) ≡ row_at pool (row_id book.rows p)
+    old_row p l = row_stays pool new sound.rows.is_pool kept (row_id book.rows p) (sound.rows.of_pool (row_id book.rows p) (is_row p l))
+
+    no_clauses : row_at new empty ≡ []
+    no_clauses = ap (clauses_at new) none.holds
+
+    clauses_at_id : (p : ℕ) → p < length book.rows → row_at new (id_of p) ≡ cond (flag needed p) (clauses_of R p) []
+    clauses_at_id p l = pick (flag needed p)
+      where
+        pick : (b : Bool) → row_at new (cond b (row_id book.rows p) empty) ≡ cond b (clauses_of R p) []
+        pick true = old_row p l ∙ sym (clauses_row pool book p l)
+        pick false = no_clauses
+
+    place_of : (id : ℕ) → In id made.rows → (p : ℕ) × In p (numbers (length book.rows) 0) × (id ≡ id_of p)
+    place_of id i = In_map_cases id_of (numbers (length book.rows) 0) id (subst (λ xs. In id xs) f i)
+
+    of_pool : (id : ℕ) → In id made.rows → id < length new.rows
+    of_pool id i =
+        let w : (p : ℕ) × In p (numbers (length book.rows) 0) × (id ≡ id_of p) = place_of id i in
+        subst (λ z. z < length new.rows) (sym w.2) (pick w.0 (below w.0 w.1) (flag needed w.0))
+      where
+        pick : (p : ℕ) → p < length book.rows → (b : Bool) → cond b (row_id book.rows p) empty < length new.rows
+        pick p l true = (kept.rows (row_id book.rows p) (sound.rows.of_pool (row_id book.rows p) (is_row p l))).0
+        pick p l false = none.within
+
+    fit : (id : ℕ) → In id made.rows → (c : List ℕ) → In c (row_at new id) → (n : ℕ) → In n c → n < length made.rows
+    fit id i c j n k =
+        let w : (p : ℕ) × In p (numbers (length book.rows) 0) × (id ≡ id_of p) = place_of id i in
+        let m : n < length book.rows = pick w.0 (below w.0 w.1) (flag needed w.0) (subst (λ z. In c (row_at new z)) w.2 j) in
+        let s : length made.rows ≡ length book.rows = ap length f ∙ length_numbers id_of (length book.rows) 0 in
+        omega (arith, m, s)
+      where
+        pick : (p : ℕ) → p < length book.rows → (b : Bool) → In c (row_at new (cond b (row_id book.rows p) empty)) → n < length book.rows
+        pick p l true h = sound.rows.numbers (row_id book.rows p) (is_row p l) c (subst (λ cs. In c cs) (old_row p l) h) n k
+        pick p l false h = absurd (In_none (subst (λ cs. In c cs) no_clauses h))
+
+-- what is there is the same thing
+pub some_is : {A : Type 0} (x y : A) → Some x ≡ Some y → x ≡ y
+some_is {A} x y e = ap (value x) e
+  where
+    value : A → Option A → A
+    value d None = d
+    value d (Some z) = z
+
+-- two facts of an answer give a third
+pub if_ok_both : {A E : Type 0} (P Q S : A → Type 0) (r : Result A E) → ((x : A) → P x → Q x → S x) → IfOk r P → IfOk r Q → IfOk r S
+if_ok_both P Q S (Ok x) f p q = f x p q
+if_ok_both P Q S (Err e) f p q = tt
+
+-- a package without clauses has an empty row
+none_inside : {A : Type 0} (xs : List A) → ((x : A) → In x xs → ⊥) → xs ≡ []
+none_inside [] f = refl
+none_inside (x ∷ xs) f = absurd (f x here)
+
+empty_row : (R : Repository) (V : NumSet) (p : ℕ) → OfPackages R V → clauses_of R p ≡ [] → row R V p ≡ []
+empty_row R V p bound e = none_inside (row R V p) (λ T i. ((row_is R V p bound).sound T i).blocks.fails (record {
+  helpers = λ n. false;
+  packages = λ n h. absurd (both_ways false refl h);
+  outside = λ n h. absurd (both_ways false refl h);
+  own = λ c j. absurd (In_none (subst (λ cs. In c cs) e j));
+  others = λ n h. absurd (both_ways false refl h);
+}))
+
+-- without hold none is held
+filter_none : (xs : List ℕ) → filter (λ n. false) xs ≡ []
+filter_none [] = refl
+filter_none (x ∷ xs) = filter_none xs
+
+none_held_of : (limit : ℕ) (R : Repository) → held_of limit false R ≡ []
+unfolding held_of
+none_held_of limit R = ap (λ s. filter s.held (packages R)) (without_hold_lem limit R (length R.clauses)) ∙ filter_none (packages R)
+
+same_clauses : (cs : List (List ℕ)) → map (map (λ n. n)) cs ≡ cs
+same_clauses [] = refl
+same_clauses (c ∷ cs) = ap₂ (λ x xs. x ∷ xs) (map-id c) (same_clauses cs)
+
+-- the flattened book has as many packages
+pub flat_size : (R : Repository) (needed : List Bool) (limit : ℕ) (new : Interned) (book : Book) → repository_of new book ≡ flat limit false (masked needed R) → length book.rows ≡ length R.clauses
+unfolding flat
+flat_size R needed limit new book e =
+    sym (length-map book.rows (row_at new)) ∙ ap (λ r. length r.clauses) e ∙ table_length (masked needed R) (core_of limit false (masked needed R)) ∙ masked_size needed R
+
+module _ (R : Repository) (known : List (Option ℕ)) (needed : List Bool) (are : AreNeeded R known needed) where
+  in_packages : (n : ℕ) → flag needed n ≡ true → n < length R.clauses
+  in_packages n h = let l : n < length needed = flag_in needed n h in omega (arith, l, are.count)
+
+  in_masked : (n : ℕ) → flag needed n ≡ true → n < length (masked needed R).clauses
+  in_masked n h = let l : n < length R.clauses = in_packages n h in rw (masked_size needed R) l
+
+  -- the packages whose flags are up stand in both
+  stands_there : StandsIn R (flag needed) (λ n. n) (masked needed R)
+  stands_there = record {
+    packages = in_packages;
+    closed = are.closed;
+    within = in_masked;
+    rising = λ m n u v l. l;
+    clauses = λ p u. masked_up needed R are.count p u ∙ sym (same_clauses (clauses_of R p));
+    conflicts = λ p u. masked_conflict needed R p;
+  }
+
+  stands_back : StandsIn (masked needed R) (flag needed) (λ n. n) R
+  stands_back = record {
+    packages = in_masked;
+    closed = λ p u c i. are.closed p u c (subst (λ cs. In c cs) (masked_up needed R are.count p u) i);
+    within = in_packages;
+    rising = λ m n u v l. l;
+    clauses = λ p u. sym (masked_up needed R are.count p u) ∙ sym (same_clauses (clauses_of (masked needed R) p));
+    conflicts = λ p u. sym (masked_conflict needed R p);
+  }
+
+  -- so their rows over the core are the same, and the limit is passed in one where it is passed in the other
+  same_rows : (limit p : ℕ) → flag needed p ≡ true → row (masked needed R) (core_of limit false (masked needed R)) p ≡ row R (core_of limit false R) p
+  same_rows limit p u = flat_is_local_lem limit R (flag needed) (λ n. n) (masked needed R) stands_there p u ∙ same_clauses (row R (core_of limit false R) p)
+
+  pub limit_there : (limit : ℕ) → passes limit false R ≡ None → passes limit false (masked needed R) ≡ None
+  limit_there limit none = passes_none (masked needed R) limit false (λ j m p l. elim (cases_Bool (flag needed p)) [
+    | inl u ↦ limit_is_local_lem limit R (flag needed) (λ n. n) (masked needed R) stands_there none j p u
+    | inr f ↦ subst (λ cs. length cs ≤ limit)
+        (sym (empty_row (masked needed R) (remaining_after limit false (masked needed R) j).left p (left_bound limit false (masked needed R) j) (masked_down needed R p f))) zero-le
+  ])
+
+  module _ (pool : Interned) (limit : ℕ) (rows : AreKnown pool limit R known) where
+    pub limit_back : passes limit false (masked needed R) ≡ None → passes limit false R ≡ None
+    limit_back none = passes_none R limit false (λ j m p l. elim (cases_Option (get_or known p None)) [
+      | inl e ↦ limit_is_local_lem limit (masked needed R) (flag needed) (λ n. n) R stands_back none j p (are.unknown p l e)
+      | inr w ↦ (rows.each p w.0 w.1).1.within j
+    ])
+
+    -- the known rows and the others, in a pool that grew
+    row_of : (new : Interned) (book : Book) (p : ℕ) → IsPool pool → Kept pool new → repository_of new book ≡ flat limit false (masked needed R) → p < length R.clauses →
+        row_at new (known_or (get_or known p None) (row_id book.rows p)) ≡ row R (core_of limit false R) p
+    unfolding flat
+    row_of new book p is kept e l = pick (get_or known p None) refl
+      where
+        size : length book.rows ≡ length R.clauses
+        size = flat_size R needed limit new book e
+
+        other : get_or known p None ≡ None → row_at new (row_id book.rows p) ≡ row R (core_of limit false R) p
+        other h =
+            sym (clauses_row new book p (omega (arith, l, size)))
+            ∙ ap (λ r. clauses_of r p) e
+            ∙ table_at (masked needed R) (core_of limit false (masked needed R)) p (rw (masked_size needed R) l)
+            ∙ same_rows limit p (are.unknown p l h)
+
+        pick : (o : Option ℕ) → get_or known p None ≡ o → row_at new (known_or o (row_id book.rows p)) ≡ row R (core_of limit false R) p
+        pick None h = other h
+        pick (Some id) h = let w = rows.each p id h in row_stays pool new is kept id w.0 ∙ w.1.is
+
+-- the book of the known rows and the others
+pub made_flat : (pool new : Interned) (book flat_book made : Book) (known : List (Option ℕ)) (needed : List Bool) (limit : ℕ) (held : List ℕ) → Sound pool book → Kept pool new →
+    AreKnown pool limit (repository_of pool book) known → AreNeeded (repository_of pool book) known needed →
+    repository_of new flat_book ≡ flat limit false (masked needed (repository_of pool book)) → held ≡ held_of limit false (masked needed (repository_of pool book)) →
+    Sound new flat_book → passes limit false (masked needed (repository_of pool book)) ≡ None →
+    made.rows ≡ map (λ p. known_or (get_or known p None) (row_id flat_book.rows p)) (numbers (length flat_book.rows) 0) → made.conflicts ≡ flat_book.conflicts →
+    IsFlattened new limit false (repository_of pool book) made held
+unfolding flat rows_over
+made_flat pool new book flat_book made known needed limit held sound kept rows are e h flat_sound none f g = record {
+  is = ap₂ together clauses (g ∙ ap (λ r. r.conflicts) e ∙ masked_conflicts needed R);
+  held_are = h ∙ none_held_of limit (masked needed R) ∙ sym (none_held_of limit R);
+  sound = record { rows = record { is_pool = flat_sound.rows.is_pool; of_pool = of_pool; numbers = fit }; conflicts = subst AreConflicts (sym g) flat_sound.conflicts };
+  within = limit_back R known needed are pool limit rows none;
+}
+  where
+    R : Repository
+    R = repository_of pool book
+
+    together : List (List (List ℕ)) → List (List ℕ) → Repository
+    together xs ys = record { clauses = xs; conflicts = ys }
+
+    core : NumSet
+    core = core_of limit false R
+
+    id_of : ℕ → ℕ
+    id_of p = known_or (get_or known p None) (row_id flat_book.rows p)
+
+    size : length flat_book.rows ≡ length R.clauses
+    size = flat_size R needed limit new flat_book e
+
+    row_is_at : (p : ℕ) → p < length R.clauses → row_at new (id_of p) ≡ row R core p
+    row_is_at p l = row_of R known needed are pool limit rows new flat_book p sound.rows.is_pool kept e l
+
+    below : (p : ℕ) → In p (numbers (length flat_book.rows) 0) → p < length R.clauses
+    below p i = let w : (0 ≤ p) × (p < 0 + length flat_book.rows) = numbers_parts (length flat_book.rows) 0 p i in omega (arith, w.1, size)
+
+    clauses : map (row_at new) made.rows ≡ rows_over R core
+    clauses =
+        ap (map (row_at new)) f
+        ∙ map-map (row_at new) id_of (numbers (length flat_book.rows) 0)
+        ∙ map_same (λ p. row_at new (id_of p)) (row R core) (numbers (length flat_book.rows) 0) (λ p i. row_is_at p (below p i))
+        ∙ ap (λ n. map (row R core) (numbers n 0)) size
+
+    of_pool : (id : ℕ) → In id made.rows → id < length new.rows
+    of_pool id i =
+        let w : (p : ℕ) × In p (numbers (length flat_book.rows) 0) × (id ≡ id_of p) = In_map_cases id_of (numbers (length flat_book.rows) 0) id (subst (λ xs. In id xs) f i) in
+        subst (λ z. z < length new.rows) (sym w.2) (pick w.0 (below w.0 w.1) (get_or known w.0 None) refl)
+      where
+        pick : (p : ℕ) → p < length R.clauses → (o : Option ℕ) → get_or known p None ≡ o → known_or o (row_id flat_book.rows p) < length new.rows
+        pick p l None q = flat_sound.rows.of_pool (row_id flat_book.rows p) (In_at flat_book.rows p 0 (omega (arith, l, size)))
+        pick p l (Some k) q = (kept.rows k (rows.each p k q).0).0
+
+    fit : (id : ℕ) → In id made.rows → (c : List ℕ) → In c (row_at new id) → (n : ℕ) → In n c → n < length made.rows
+    fit id i c j n k =
+        let w : (p : ℕ) × In p (numbers (length flat_book.rows) 0) × (id ≡ id_of p) = In_map_cases id_of (numbers (length flat_book.rows) 0) id (subst (λ xs. In id xs) f i) in
+        let at : In c (row R core w.0) = subst (λ cs. In c cs) (ap (row_at new) w.2 ∙ row_is_at w.0 (below w.0 w.1)) j in
+        let l : n < length R.clauses = left_bound limit false R (length R.clauses) n (((row_is R core w.0 (left_bound limit false R (length R.clauses))).sound c at).blocks.within n k) in
+        let s : length made.rows ≡ length flat_book.rows = ap length f ∙ length_numbers id_of (length flat_book.rows) 0 in
+        omega (arith, l, s, size)

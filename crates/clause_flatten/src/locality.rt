@@ -1,0 +1,13 @@
+//! The laws of elimination among packages that name none but each other.
+
+ghost use Rattle.clause_flatten.specs.Locality.{FlatIsLocal, LimitIsLocal};
+
+/// Without hold the rows of packages that name none but each other are the same over the core, whatever other packages there are.
+pub fn flat_is_local()
+    ensures { FlatIsLocal }
+{}
+
+/// Without hold none of their rows passes the limit at any stage where no row does without the others.
+pub fn limit_is_local()
+    ensures { LimitIsLocal }
+{}

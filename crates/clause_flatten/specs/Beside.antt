@@ -26,7 +26,7 @@ pub record IsFlattened (pool : Interned) (limit : ℕ) (hold : Bool) (R : Reposi
   pub sound : Sound pool book
   pub within : passes limit hold R ≡ None
 
--- flags of the packages whose rows are not known, and of all that they need
+-- flags that the packages have whose rows are not known, and all that a package with a flag needs
 pub record AreNeeded (R : Repository) (known : List (Option ℕ)) (needed : List Bool) : Type 0 where
   pub count : length needed ≡ length R.clauses
   pub unknown : (p : ℕ) → p < length R.clauses → slice_index_or known p None ≡ None → flag needed p ≡ true
@@ -44,8 +44,8 @@ abbrev pub known_or : Option ℕ → ℕ → ℕ
 known_or None other = other
 known_or (Some id) other = id
 
--- the flags grow by the members of the clauses alone, all of which then have them, and each that gains its flag is put to the work,
--- which gains no others
+-- all members of the clauses have their flags then, and all that had one keep it; each that gains its flag is put to the work, which
+-- grows by no more than these
 pub record Needs (clauses : List (List ℕ)) (before : List Bool) (work : List ℕ) (after : List Bool) (more : List ℕ) : Type 0 where
   pub count : length after ≡ length before
   pub stays : (p : ℕ) → flag before p ≡ true → flag after p ≡ true

@@ -7,7 +7,7 @@ use Rattle.row_book.specs.Support.{row}
 use Rattle.row_book.specs.Flattening.{core_of, has_conflict, passes, remaining_after, row_length}
 
 -- the packages of U stand in another repository too, under other numbers in the same order. Their clauses name none but each
--- other and are the same there, and where one has a conflict it has one there
+-- other and are the same there, and each has a conflict there exactly where it has one here
 pub record StandsIn (R : Repository) (U : NumSet) (there : ℕ → ℕ) (other : Repository) : Type 0 where
   pub packages : (n : ℕ) → U n ≡ true → n < length R.clauses
   pub closed : (p : ℕ) → U p ≡ true → (c : List ℕ) → In c (clauses_of R p) → (n : ℕ) → In n c → U n ≡ true

@@ -403,7 +403,7 @@ pub fn extract(
 }
 
 /// The kernel of the book, without hold, where the rows of some packages over the core of the first round are known; none where a row
-/// has more clauses than the limit allows at some stage of some round. Its pool holds and gains what that of `extract` does.
+/// has more clauses than the limit allows at some stage of some round. What the pool held stays.
 pub fn extract_beside(
     alloc: Global,
     pool: &mut Pool,

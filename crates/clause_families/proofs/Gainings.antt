@@ -1,12 +1,7 @@
 -- Ids in the order of their clauses, and one more of them put into its place.
-use Rattle.std.proofs.Common.{◌≡◌, ◌≢◌, ℕ, zero, suc, ◌<◌, ◌≤◌, ◌+◌, true, false, List, [], ◌∷◌, ◌++◌, ◌⊎◌, inl, inr, refl, sym, ◌∙◌, ap, subst, length, get_or, map, take, drop, arith}
+use Rattle.std.proofs.Common.{◌≡◌, ◌≢◌, ℕ, zero, suc, ◌<◌, ◌≤◌, ◌+◌, true, false, List, [], ◌∷◌, ◌++◌, inl, inr, sym, ◌∙◌, ap, subst, length, get_or, map, take, drop, arith}
 use Rattle.std.specs.List.{insert}
-use Rattle.std.specs.Cmp.Lexicographic.{slice_cmp}
-use Rattle.std.specs.Ordering.{MatchOrdering, nat_cmp, ordering_then}
-use Rattle.std.specs.declared.cmp.Ordering.{Ordering}
-use Rattle.std.specs.declared.cmp.Ordering.TheVariants.{Less, Equal, Greater}
 use Rattle.std.proofs.lemmas.Bool.{both_ways, cases_Bool, cases_eq, false_from_ne_true}
-use Rattle.std.proofs.lemmas.Cmp.{ranked}
 use Rattle.std.proofs.lemmas.List.{map-append, take-append-drop}
 use Rattle.clause_pool.specs.Interned.{Interned, IsPool, OfPool, clause_at, clauses_at}
 use Rattle.clause_pool.proofs.Lists.{In_at}
@@ -18,27 +13,6 @@ use Rattle.clause_pool.proofs.Order.{before_test, before_trans, neither_before, 
 use Rattle.clause_families.specs.Families.{HasGained}
 use Rattle.clause_families.proofs.Beginnings.{order_places}
 use Rattle.clause_families.proofs.Families.{clauses_item, clauses_length}
-use Rattle.clause_families.proofs.Members.{before_less}
-
--- and as the comparison of slices tells it
-less_before : (c d : List ℕ) → Before c d → slice_cmp nat_cmp c d ≡ Less
-less_before [] [] f = absurd f
-less_before [] (y ∷ ys) f = refl
-less_before (x ∷ xs) [] f = absurd f
-less_before (x ∷ xs) (y ∷ ys) f = pick (λ b. less_before xs ys b) (nat_cmp x y) (ranked x y (nat_cmp x y) refl) f
-  where
-    pick : (Before xs ys → slice_cmp nat_cmp xs ys ≡ Less) → (o : Ordering) → MatchOrdering o (x < y) (x ≡ y) (y < x) → (x < y) ⊎ ((x ≡ y) × Before xs ys) → ordering_then o (slice_cmp nat_cmp xs ys) ≡ Less
-    pick rest Less h g = refl
-    pick rest Equal h (inl l) = absurd (omega (arith, h))
-    pick rest Equal h (inr e) = rest e.1
-    pick rest Greater h (inl l) = absurd (omega arith)
-    pick rest Greater h (inr e) = let s : x ≡ y = e.0 in absurd (omega arith)
-
-pub tells_before : (c d : List ℕ) → slice_cmp nat_cmp c d ≡ Less → comes_before c d ≡ true
-tells_before c d e = before_is c d (before_less c d e)
-
-pub tells_not_before : (c d : List ℕ) → (slice_cmp nat_cmp c d ≡ Less → ⊥) → comes_before c d ≡ false
-tells_not_before c d f = false_from_ne_true (comes_before c d) (λ h. f (less_before c d (before_test c d h)))
 
 -- ids in order at places
 module _ (pool : Interned) (ids : List ℕ) (order : InOrder (clauses_at pool ids)) where

@@ -10,6 +10,7 @@ mod needed;
 mod placing;
 mod rewriting;
 mod scratch;
+mod useful;
 
 // A clause is made in scratch space.
 pub use scratch::Clause;
@@ -22,8 +23,9 @@ pub use family_tree::FamilyTree;
 pub use needed::{is_longer, tree_of_many};
 
 // A row is told without a package, in a pool or in scratch space.
-pub use family::{add_unions, clauses_without, useful_of, with_unions};
+pub use family::{add_unions, clauses_without, with_unions};
 pub use rewriting::rewrite;
+pub use useful::useful_of;
 
 // Laws.
 pub use laws::union_merges;

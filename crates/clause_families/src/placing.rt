@@ -5,9 +5,8 @@ ghost use Rattle.clause_pool.specs.Clauses.{comes_before};
 ghost use Rattle.clause_pool.specs.Lists.{InOrder};
 ghost use Rattle.clause_families.specs.Families.{HasGained};
 
-use clause_pool::{ClauseId, Pool};
+use clause_pool::{ClauseId, Pool, is_before};
 use std::alloc::AllocError;
-use std::cmp::Ordering;
 
 /// Puts the id of a clause into its place among ids in the order of their clauses, where it is not there yet.
 pub(crate) fn put_in_place(
@@ -42,21 +41,11 @@ fn place_of(pool: &Pool, ids: &[ClauseId], clause: &[u32]) -> usize
     let mut high = ids.len();
     'halving: while low < high {
         let middle = low + (high - low) / 2;
-        if comes_before(pool.slice(ids[middle]), clause) {
+        if is_before(pool.slice(ids[middle]), clause) {
             low = middle + 1;
         } else {
             high = middle;
         }
     }
     low
-}
-
-/// Whether the first clause comes before the second in lexicographic order.
-pub(crate) fn comes_before(first: &[u32], second: &[u32]) -> bool
-    ensures { result ≡ comes_before first.now second.now }
-{
-    match first.cmp(&second) {
-        Ordering::Less => true,
-        _ => false,
-    }
 }

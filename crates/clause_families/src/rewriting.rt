@@ -6,7 +6,8 @@ ghost use Rattle.clause_pool.specs.Clauses.{apart_from, in_row_order};
 ghost use Rattle.clause_pool.specs.Lists.{InOrder};
 ghost use Rattle.clause_families.specs.Unions.{substituted};
 
-use crate::family::{useful_of, with_unions};
+use crate::family::with_unions;
+use crate::useful::useful_of;
 use clause_pool::{ClauseId, Pool};
 use std::alloc::{AllocError, Global};
 

@@ -7,11 +7,11 @@ ghost use Rattle.kernel_text.specs.Members.{IsMemberRegister};
 ghost use Rattle.kernel_text.specs.Reading.{empty_reading, IsFormat, IsNamed, number_limit, Reading};
 ghost use Rattle.kernel_text.specs.Words.{IsWellFormed, line_of_content};
 
-use crate::clause_shape::{is_ascending, is_before};
+use crate::clause_shape::is_ascending;
 use crate::content::LineContent;
 use crate::member::Member;
 use crate::read_line::read_line;
-use clause_pool::NumList;
+use clause_pool::{NumList, is_before};
 use deb_version::{Bytes, Version};
 use listed::Listed;
 use package_register::Register;

@@ -12,7 +12,6 @@ pub mod Short
 pub mod Booked
 pub mod Chosen
 pub mod Accepted
-pub mod Compared
 pub mod Elements
 pub mod Form
 pub mod Healthy

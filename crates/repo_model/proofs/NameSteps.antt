@@ -15,7 +15,7 @@ use Rattle.listed.specs.Lists.{In, here}
 use Rattle.listed.proofs.Lists.{In_cases, In_none, In_append_cases, In_append_left, In_append_right}
 use Rattle.clause_pool.proofs.Order.{before_test, neither_before, order_append, order_same, ordered_order, ordered_parts, ordered_has}
 use Rattle.repo_model.specs.NameOrder.{name_at, Rising, is_repeated}
-use Rattle.repo_model.proofs.Compared.{before_compared}
+use Rattle.clause_pool.proofs.Compared.{before_compared}
 use Rattle.repo_model.proofs.Elements.{at_place, place_of}
 
 -- of the names below a place each is taken once, and they are in order

@@ -1,7 +1,6 @@
-//! Clauses: the order in which a row has them, and the clause of an element.
+//! The clause of an element.
 ghost use Rattle.std.specs.Prelude.{◌≡◌, ◌∷◌, ◌↔◌, [], ℕ, IfOk};
 ghost use Rattle.std.specs.List.{flat_map};
-ghost use Rattle.clause_pool.specs.Clauses.{comes_before};
 ghost use Rattle.listed.specs.Lists.{Ascending, In};
 ghost use Rattle.virtual_provides.specs.Bearers.{IsBuiltFrom};
 ghost use Rattle.repo_model.specs.Meeting.{meeting};
@@ -11,14 +10,6 @@ use listed::sort_once;
 use relation_fields::{Atom, Home, PackageFacts};
 use std::alloc::{AllocError, Global};
 use virtual_provides::NameTable;
-
-/// Whether the first clause comes before the second in lexicographic order.
-#[tactic(auto, using(crate::proofs::Compared::before_compared))]
-pub(crate) fn is_before(first: &[u32], second: &[u32]) -> bool
-    ensures { result ≡ comes_before first.now second.now }
-{
-    first.cmp(second).is_lt()
-}
 
 /// The clause of an element: the packages that meet one of its alternatives, which are looked up by their names.
 pub(crate) fn element_clause(

@@ -8,8 +8,8 @@ ghost use Rattle.repo_model.specs.Repository.{clause_of, conflicting_with, in_co
 ghost use Rattle.repo_model.specs.Stanzas.{stanza_at, CoinstStanzas};
 ghost use Rattle.repo_model.specs.Limits.{most_packages};
 
-use crate::clauses::is_before;
 use crate::suite::Suite;
+use clause_pool::is_before;
 use listed::Listed;
 use relation_fields::{Atom, AtomList, Home, PackageFacts};
 use row_book::{ClauseList, NumList, is_coinst};

@@ -44,7 +44,7 @@ fn in_order(alloc: Global, pool: &Pool, ids: &[ClauseId]) -> Result<Vec<ClauseId
 }
 
 // How the clauses of two ids stand in lexicographic order.
-#[tactic(auto, using(crate::proofs::Compared::before_compared))]
+#[tactic(auto, using(clause_pool::proofs::Compared::before_compared))]
 fn order_of(pool: &Pool, one: ClauseId, other: ClauseId) -> Ordering
     ensures { is_lt result ≡ comes_before (clause_at pool.now one) (clause_at pool.now other) }
 {

@@ -2,7 +2,7 @@ use Rattle.std.proofs.Common.{◌∙◌, arith, eqb-true, subst, sym}
 use Rattle.std.proofs.lemmas.Bool.{OnTrue_from}
 use Rattle.listed.specs.Lists.{In}
 use Rattle.listed.proofs.Lists.{item_in}
-use Rattle.clause_families.proofs.family.is_at.Goals as goal
+use Rattle.clause_families.proofs.useful.is_at.Goals as goal
 
 pub returns : goal.returns
 returns c =

@@ -1,7 +1,7 @@
 use Rattle.std.proofs.Common.{ap, ◌∙◌}
 use Rattle.clause_families.proofs.Families.{of_pool_item, singles_more}
-use Rattle.clause_families.proofs.family.singles_of.Goals as goal
-use Rattle.clause_families.proofs.family.singles_of.Goals.{in-Some+then-literal-spent+in_ok-push, in-Some+else-literal-spent, in_default}
+use Rattle.clause_families.proofs.useful.singles_of.Goals as goal
+use Rattle.clause_families.proofs.useful.singles_of.Goals.{in-Some+then-literal-spent+in_ok-push, in-Some+else-literal-spent, in_default}
 
 pub slice-requires : goal.slice-requires
 slice-requires c = of_pool_item c.args.pool.now c.args.row.now c.loop-id.id-index c.id-item.result c.requires c.loop-id-test.true c.id-item.is

@@ -1,7 +1,7 @@
 use Rattle.std.proofs.Common.{get_or}
 use Rattle.std.proofs.lemmas.Bool.{OnTrue_at}
 use Rattle.clause_pool.proofs.Lists.{In_at}
-use Rattle.clause_families.proofs.family.holds_one_of.Goals as goal
+use Rattle.clause_families.proofs.useful.holds_one_of.Goals as goal
 
 pub returns-then-is_one_of : goal.returns-then-is_one_of
 returns-then-is_one_of c =

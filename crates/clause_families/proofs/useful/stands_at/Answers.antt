@@ -5,7 +5,7 @@ use Rattle.clause_pool.specs.Clauses.{apart_from}
 use Rattle.listed.specs.Lists.{has}
 use Rattle.clause_families.specs.Families.{IncludesOneOf}
 use Rattle.clause_families.proofs.Families.{row_has_it}
-use Rattle.clause_families.proofs.family.stands_at.Goals as goal
+use Rattle.clause_families.proofs.useful.stands_at.Goals as goal
 
 pub returns-then-is_at : goal.returns-then-is_at
 returns-then-is_at c =

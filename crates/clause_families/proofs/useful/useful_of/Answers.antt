@@ -5,7 +5,7 @@ use Rattle.listed.specs.Lists.{In}
 use Rattle.clause_pool.specs.Clauses.{apart_from}
 use Rattle.clause_families.specs.Families.{HoldsOneOf, IncludesOneOf, Useful}
 use Rattle.clause_families.proofs.Families.{single_inside, useful_of_useful, useful_weaker}
-use Rattle.clause_families.proofs.family.useful_of.Goals as goal
+use Rattle.clause_families.proofs.useful.useful_of.Goals as goal
 
 pub useful_beside-requires : goal.useful_beside-requires
 useful_beside-requires c id i = c.requires.others id (c.in_ok-fresh.ensures.part id (subst (λ z. In id z) c.as_slice-2.ensures.value i))

@@ -1,5 +1,5 @@
 use Rattle.clause_families.proofs.Families.{found_one}
-use Rattle.clause_families.proofs.family.is_one_of.Goals as goal
+use Rattle.clause_families.proofs.useful.is_one_of.Goals as goal
 
 pub returns : goal.returns
 returns c =

@@ -1,5 +1,5 @@
 -- Which packages are needed, and flattening beside known rows.
-use Rattle.std.proofs.Common.{◌≡◌, ℕ, zero, suc, ◌<◌, ◌≤◌, ◌+◌, Bool, true, false, not, ◌||◌, cond, List, [], ◌∷◌, ◌++◌, ◌⊎◌, length, get_or, set, take, map, filter, replicate, inl, inr, refl, sym, ◌∙◌, ap, ap₂, subst, arith, Option, Some, None, Result, Ok, Err, IfOk, zero-le}
+use Rattle.std.proofs.Common.{◌≡◌, ℕ, ◌<◌, ◌≤◌, ◌+◌, Bool, true, false, not, ◌||◌, cond, List, [], ◌∷◌, ◌++◌, ◌⊎◌, length, get_or, set, take, map, filter, replicate, inl, inr, refl, sym, ◌∙◌, ap, ap₂, subst, arith, Option, Some, None, Result, Ok, Err, IfOk, zero-le}
 use Rattle.std.specs.Prelude.{count_by}
 use Rattle.std.specs.List.{list_any}
 use Rattle.std.specs.Option.{is_some, unwrap_or}
@@ -9,18 +9,18 @@ use Rattle.std.proofs.lemmas.List.Sums.{sum_by-set}
 use Rattle.std.proofs.lemmas.Simd.{map-map}
 use Rattle.clause_pool.specs.Interned.{Interned, IsIdOf, IsPool, Kept, clause_at, clauses_at, ids_at, row_at}
 use Rattle.clause_pool.proofs.Interned.{row_stays}
-use Rattle.listed.specs.Lists.{In, here, there}
+use Rattle.listed.specs.Lists.{In, here}
 use Rattle.listed.proofs.{Bools.{cases_Option}, Lists.{In_append_cases, In_append_left, In_append_right, In_at, In_cases, In_map, In_map_cases, item_in, In_none}}
 use Rattle.row_book.specs.declared.book.Book.{Book}
-use Rattle.row_book.specs.Book.{AreConflicts, RowsFit, Sound, repository_of}
+use Rattle.row_book.specs.Book.{AreConflicts, Sound, repository_of}
 use Rattle.row_book.specs.Flags.{flag}
 use Rattle.row_book.specs.Numbers.{numbers}
 use Rattle.row_book.specs.Repository.{Repository, against, clauses_of}
 use Rattle.row_book.specs.Sets.{NumSet}
 use Rattle.row_book.specs.Sound.{OfPackages}
-use Rattle.row_book.specs.Support.{IsRow, row}
+use Rattle.row_book.specs.Support.{row}
 use Rattle.row_book.specs.Uses.{row_id}
-use Rattle.row_book.specs.Flattening.{core_of, flat, has_conflict, held_of, packages, passes, remaining_after, row_length, rows_over}
+use Rattle.row_book.specs.Flattening.{core_of, flat, has_conflict, held_of, packages, passes, remaining_after, rows_over}
 use Rattle.row_book.proofs.{Books.{clauses_row}, Flags.{flag_in}, Numbers.{at_numbers, length_numbers, map_same, numbers_more, numbers_parts}}
 use Rattle.clause_flatten.specs.Beside.{AreKnown, AreNeeded, IsFlattened, Needs, known_or, masked}
 use Rattle.clause_flatten.specs.Locality.{StandsIn}

@@ -308,6 +308,16 @@ midway_none limit hold pool book classes size s g h = record {
     same_list [] = refl
     same_list (x ∷ xs) = ap (λ z. x ∷ z) (same_list xs)
 
+-- where the first round passes the limit, the pool gains nothing
+pub none_before : (limit : ℕ) (hold : Bool) (R : Repository) (pool : Interned) → (passes limit hold R ≡ None → ⊥) → HasStepsBefore R limit hold pool pool
+none_before limit hold R pool over = record {
+  index = 0;
+  within = λ j l. absurd (omega arith);
+  over = over;
+  steps = [];
+  gained = steps_of_start pool [] [] refl (λ step i. absurd (In_none i));
+}
+
 -- the test of books tells whether a round changes nothing
 told_same : (limit : ℕ) (hold : Bool) → (old new : Interned) (book made : Book) → IsPool old → Kept old new → Sound old book → repository_of new made ≡ round limit hold (repository_of old book) →
     is_same_repository (repository_of new book) (repository_of new made) ≡ true → round limit hold (repository_of old book) ≡ repository_of old book

@@ -13,9 +13,9 @@ use Rattle.row_book.specs.Flattening.{flat, held_of, packages, passes}
 use Rattle.row_book.specs.Merging.{class_list, place_of}
 use Rattle.row_book.specs.Rounds.{round, round_steps, rounds, class_after, steps_after, kernel, kernel_class, kernel_held, kernel_steps, limit_at, round_count, PassedRound}
 use Rattle.row_book.specs.Trail.{SoundSteps, trail_meaning}
-use Rattle.kernel_rounds.specs.declared.extraction.Begun.{Begun}
-use Rattle.kernel_rounds.specs.declared.extraction.Outcome.{Outcome}
-use Rattle.kernel_rounds.specs.declared.extraction.Outcome.TheVariants.{Done, More}
+use Rattle.kernel_rounds.specs.declared.advancing.Begun.{Begun}
+use Rattle.kernel_rounds.specs.declared.advancing.Outcome.{Outcome}
+use Rattle.kernel_rounds.specs.declared.advancing.Outcome.TheVariants.{Done, More}
 use Rattle.kernel_rounds.specs.declared.error.RoundError.{RoundError}
 use Rattle.kernel_rounds.specs.declared.error.RoundError.TheVariants.{Limit, Memory}
 use Rattle.kernel_rounds.specs.Moving.{HasSteps}

@@ -2,6 +2,7 @@
 //! `laws` do nothing, the contract of each is one law.
 #![tactic(auto)]
 
+mod advancing;
 mod comparing;
 mod error;
 mod extraction;

@@ -1,4 +1,4 @@
-use Rattle.std.proofs.Common.{◌≡◌, ◌∙◌, None, Some, ap, false, subst, sym}
+use Rattle.std.proofs.Common.{◌≡◌, ◌∙◌, ap, false, subst, sym}
 use Rattle.std.proofs.lemmas.Option.{none-some}
 use Rattle.clause_pool.proofs.Interned.{kept_along}
 use Rattle.row_book.specs.{Book.{repository_of}, Flattening.{flat, held_of, passes}}

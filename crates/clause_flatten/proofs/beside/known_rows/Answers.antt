@@ -1,4 +1,4 @@
-use Rattle.std.proofs.Common.{◌∙◌, None, slice_index_or, ap₂, sym, length}
+use Rattle.std.proofs.Common.{◌∙◌, None, slice_index_or, ap₂, sym}
 use Rattle.row_book.specs.Uses.{row_id}
 use Rattle.clause_flatten.specs.Beside.{known_or}
 use Rattle.clause_flatten.proofs.Besides.{known_read, map_none, numbers_grow, row_read, value_is}

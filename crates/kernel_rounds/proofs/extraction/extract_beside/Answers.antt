@@ -5,8 +5,9 @@ use Rattle.row_book.specs.Book.{repository_of}
 use Rattle.row_book.specs.Flattening.{passes}
 use Rattle.row_book.specs.Numbers.{numbers}
 use Rattle.row_book.specs.Rounds.{limit_at}
-use Rattle.kernel_rounds.specs.Extracting.{OnRoundLimit}
+use Rattle.kernel_rounds.specs.Extracting.{HasStepsBefore, OnRoundLimit}
 use Rattle.kernel_rounds.proofs.Again.{first_within}
+use Rattle.kernel_rounds.proofs.Midways.{none_before}
 use Rattle.kernel_rounds.proofs.extraction.extract_beside.Goals as goal
 
 some_is_none : {A : Type 0} {x : A} → Some x ≡ None → ⊥
@@ -34,3 +35,12 @@ pub returns-in-Err-Limit-clause-passed : goal.returns-in-Err-Limit-clause-passed
 returns-in-Err-Limit-clause-passed c = λ _ none.
     let over = subst (OnRoundLimit (λ passed. limit_at c.args.limit false (repository_of c.args.pool.now c.args.book.now) ≡ Some passed)) c.in-Err-Limit.field-0-is c.in-Err-Limit.ensures.passed in
     some_is_none (sym over ∙ none)
+
+pub returns-in_default-clause-refused_only : goal.returns-in_default-clause-refused_only
+returns-in_default-clause-refused_only c = λ _.
+    none_before c.args.limit false (repository_of c.args.pool.now c.args.book.now) c.args.pool.now
+    (λ none. c.in_ok-flat.ensures.passed c.in_default.is (subst (λ p. passes c.args.limit false (repository_of p c.args.book.now) ≡ None) (sym c.in_ok-own.ensures.same) none))
+
+pub returns-in-Err-Limit-clause-refused_only : goal.returns-in-Err-Limit-clause-refused_only
+returns-in-Err-Limit-clause-refused_only c = λ _.
+    subst (OnRoundLimit (λ _. HasStepsBefore (repository_of c.args.pool.now c.args.book.now) c.args.limit false c.args.pool.now c.kernel_of.new.into)) c.in-Err-Limit.field-0-is c.in-Err-Limit.ensures.refused_only

@@ -8,7 +8,7 @@ use Rattle.row_book.proofs.BookRepositories.{sound_repository}
 use Rattle.kernel_rounds.specs.Extracting.{HasStepsBefore, OnRoundLimit, refusal}
 use Rattle.kernel_rounds.specs.Moving.{HasSteps}
 use Rattle.kernel_rounds.proofs.Midways.{falls, midway_end, midway_gained, midway_more, midway_refused}
-use Rattle.kernel_rounds.proofs.extraction.advance.Goals as goal
+use Rattle.kernel_rounds.proofs.advancing.advance.Goals as goal
 
 not_false : (b : Bool) → not b ≡ false → b ≡ true
 not_false true e = refl

@@ -7,7 +7,7 @@ use Rattle.row_book.proofs.Books.{sound_kept}
 use Rattle.row_book.proofs.BookRepositories.{book_size, sound_repository}
 use Rattle.kernel_rounds.specs.Extracting.{IsOutcome}
 use Rattle.kernel_rounds.proofs.Midways.{midway_size}
-use Rattle.kernel_rounds.proofs.extraction.all_rounds.Goals as goal
+use Rattle.kernel_rounds.proofs.advancing.all_rounds.Goals as goal
 
 pub first_advance-requires-clause-sound : goal.first_advance-requires-clause-sound
 first_advance-requires-clause-sound c = sound_kept c.args.into.now c.args.work.now c.requires.begun.sound.rows.is_pool c.requires.begun.kept c.args.book.now c.requires.begun.sound

@@ -2,7 +2,7 @@ use Rattle.std.proofs.Common.{◌∙◌, ◌++◌, ap₂, map, subst, sym}
 use Rattle.row_book.specs.Trail.{trail_meaning, SoundSteps}
 use Rattle.class_merge.specs.Classes.{class_in}
 use Rattle.kernel_rounds.specs.Moving.{HasSteps}
-use Rattle.kernel_rounds.proofs.extraction.go_on.Goals as goal
+use Rattle.kernel_rounds.proofs.advancing.go_on.Goals as goal
 
 pub carry_round-requires-clause-round : goal.carry_round-requires-clause-round
 carry_round-requires-clause-round c = subst (SoundSteps c.args.work.now) (sym c.as_slice-3.ensures) c.requires.round

@@ -9,7 +9,7 @@ use Rattle.row_book.proofs.BookRepositories.{sound_repository}
 use Rattle.class_merge.specs.Classes.{class_in}
 use Rattle.kernel_rounds.specs.Extracting.{IsReached}
 use Rattle.kernel_rounds.proofs.Midways.{falls, midway_end, midway_more, midway_none, steps_of_start}
-use Rattle.kernel_rounds.proofs.extraction.first_advance.Goals as goal
+use Rattle.kernel_rounds.proofs.advancing.first_advance.Goals as goal
 
 pub returns-then-not-changed : goal.returns-then-not-changed
 returns-then-not-changed c = λ start limit hold b.

@@ -23,7 +23,7 @@ one_unknown [] f (suc id) = refl
 one_unknown (x ∷ xs) f zero = f 0
 one_unknown (x ∷ xs) f (suc id) = one_unknown xs (λ n. f (suc n)) id
 
-none_some : (new : ℕ) → None ≡ Some new → ⊥
+pub none_some : (new : ℕ) → None ≡ Some new → ⊥
 none_some new e = cc
 
 pub none_left : (from : Interned) (flags : List Bool) (pool : Interned) (known : List (Option ℕ)) → length known ≡ length from.clauses → ((id : ℕ) → get_or known id None ≡ None) → AreLeft from flags pool known

@@ -4,3 +4,7 @@ pub mod Placed
 pub mod PartSound
 pub mod Lefts
 pub mod Parted
+pub mod Bases
+pub mod RowsThere
+pub mod Standing
+pub mod BaseMade

@@ -1,3 +1,5 @@
 pub mod Parts
 pub mod Left
 pub mod Laws
+pub mod BaseRows
+pub mod Bases

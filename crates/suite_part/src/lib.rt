@@ -2,12 +2,15 @@
 //! contract of each is one law.
 #![tactic(auto)]
 
+mod base;
+mod changed;
 mod chosen;
 mod laws;
 mod part;
 mod rows;
 
 // Some packages of a book, and the book that they make.
+pub use base::Base;
 pub use chosen::Chosen;
 pub use part::part_of;
 

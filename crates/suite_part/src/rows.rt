@@ -6,16 +6,15 @@ ghost use Rattle.std.specs.Prelude.{◌≡◌, ◌<◌, ℕ, List, None, length,
 ghost use Rattle.std.specs.Bool.{OnTrue};
 ghost use Rattle.clause_pool.specs.Clauses.{in_row_order};
 ghost use Rattle.clause_pool.specs.Interned.{clause_at, clauses_at, row_at, IsPool, Kept, OfPool};
-ghost use Rattle.clause_pool.specs.Lists.{Before, InOrder};
+ghost use Rattle.clause_pool.specs.Lists.{InOrder};
 ghost use Rattle.listed.specs.Lists.{Ascending, In};
 ghost use Rattle.suite_part.specs.Left.{AreLeft, IsLeft};
 ghost use Rattle.suite_part.specs.Parts.{chosen_in, row_in};
 
 use crate::chosen::Chosen;
 use clause_families::{Clause, put_in_order};
-use clause_pool::{ClauseId, Pool, RowId};
+use clause_pool::{ClauseId, Pool, RowId, is_before};
 use std::alloc::{AllocError, Global};
-use std::cmp::Ordering;
 
 /// What is left of a row.
 pub(crate) fn row_in(
@@ -120,26 +119,17 @@ fn intern_in_order(alloc: Global, pool: &mut Pool, ids: &[ClauseId]) -> Result<R
 }
 
 // Whether each clause comes before the next one.
+#[tactic(auto, using(clause_pool::proofs::Order::before_test))]
 fn are_in_order(pool: &Pool, ids: &[ClauseId]) -> bool
     requires { OfPool pool.now ids.now }
     ensures { OnTrue result (InOrder (clauses_at pool.now ids.now)) }
 {
     for place in 1..ids.len() {
-        if !comes_before(pool.slice(ids[place - 1]), pool.slice(ids[place])) {
+        if !is_before(pool.slice(ids[place - 1]), pool.slice(ids[place])) {
             return false;
         }
     }
     true
-}
-
-// Whether the first clause comes before the second.
-fn comes_before(first: &[u32], second: &[u32]) -> bool
-    ensures { OnTrue result (Before first.now second.now) }
-{
-    match first.cmp(&second) {
-        Ordering::Less => true,
-        _ => false,
-    }
 }
 
 // The clauses of the ids.

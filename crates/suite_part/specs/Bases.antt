@@ -1,0 +1,72 @@
+-- What is known of the rows of a part, and which packages of it stand in another part as they are.
+use Rattle.std.specs.Prelude.{◌≡◌, ℕ, ◌<◌, ◌≤◌, ◌-◌, ◌⊎◌, Bool, true, false, List, ◌++◌, Option, Some, None, length, map, replicate, slice_index_or}
+use Rattle.clause_pool.specs.Interned.{Interned, row_at}
+use Rattle.listed.specs.Lists.{In}
+use Rattle.row_book.specs.declared.book.Book.{Book}
+use Rattle.row_book.specs.Book.{listed_for, repository_of}
+use Rattle.row_book.specs.Flags.{flag}
+use Rattle.row_book.specs.Flattening.{flat, passes}
+use Rattle.row_book.specs.Repository.{Repository, clauses_of, conflicts_of}
+use Rattle.row_book.specs.Uses.{row_id, uses_of}
+use Rattle.suite_part.specs.Parts.{part, place_in, row_in}
+use Rattle.suite_part.specs.declared.base.Base.{Base}
+
+-- the flags of the first packages
+abbrev pub first_flags : ℕ → ℕ → List Bool
+first_flags count size = replicate count true ++ replicate (size - count) false
+
+-- the part that the first packages of a book make
+abbrev pub first_part : ℕ → Repository → Repository
+first_part count R = part (first_flags count (length R.clauses)) R
+
+-- the flattened rows of that part without hold, none of which passes the limit at any stage, and who names whom in the book
+pub record IsBase (from : Interned) (book : Book) (base : Base) : Type 0 where
+  pub within : base.count ≤ length book.rows
+  pub rows : map (row_at base.pool) base.rows.items ≡ (flat base.limit false (first_part base.count (repository_of from book))).clauses
+  pub none_passes : passes base.limit false (first_part base.count (repository_of from book)) ≡ None
+  pub users_are : base.users ≡ uses_of from book.rows
+
+-- a base has no more packages than a book, and its table of users one list for each package of the book; all numbers of that table and of
+-- the book's conflicts are of the book
+pub record FitsIn (book : Book) (base : Base) : Type 0 where
+  pub within : base.count ≤ length book.rows
+  pub users : length base.users ≡ length book.rows
+  pub numbers : (n m : ℕ) → In m (listed_for base.users n) → m < length book.rows
+  pub conflicts : (p n : ℕ) → In n (listed_for book.conflicts p) → n < length book.rows
+
+-- what a package that stands in both has about it the same, in the part of the first packages and in the part of the chosen ones:
+-- the flags of all packages that it names are down, and those that conflict with it are in both
+pub record StaysAs (R : Repository) (count : ℕ) (chosen changed : List Bool) (n : ℕ) : Type 0 where
+  pub needs : (c : List ℕ) → In c (clauses_of R n) → (m : ℕ) → In m c → flag changed m ≡ false
+  pub against : (m : ℕ) → In m (conflicts_of R n) → (m < count) × (flag chosen m ≡ true)
+
+-- each package whose flag is not up is one of the first and is chosen
+pub record AreElsewhere (count : ℕ) (chosen changed : List Bool) : Type 0 where
+  pub size : length changed ≡ length chosen
+  pub others : (n : ℕ) → n < length changed → flag changed n ≡ false → (n < count) × (flag chosen n ≡ true)
+
+-- and stays as it is
+abbrev pub AreChanged : Repository → ℕ → List Bool → List Bool → Type 0
+AreChanged R count chosen changed = (n : ℕ) → n < length changed → flag changed n ≡ false → StaysAs R count chosen changed n
+
+-- the id of the row of a package in another pool, in the numbers of the chosen ones
+pub record IsRowThere (from : Interned) (rows : List ℕ) (chosen : List Bool) (pool : Interned) (n : ℕ) (row : Option ℕ) : Type 0 where
+  pub id : ℕ
+  pub is : row ≡ Some id
+  pub within : id < length pool.rows
+  pub same : row_at pool id ≡ row_in chosen (row_at from (row_id rows n))
+
+-- for each chosen package such a row, or none where its flag is up
+pub record AreRowsThere (from : Interned) (rows : List ℕ) (chosen changed : List Bool) (pool : Interned) (known : List (Option ℕ)) : Type 0 where
+  pub count : length known ≡ place_in chosen (length chosen)
+  pub there : (n : ℕ) → flag chosen n ≡ true → flag changed n ≡ false → IsRowThere from rows chosen pool n (slice_index_or known (place_in chosen n) None)
+  pub unknown : (n : ℕ) → flag chosen n ≡ true → flag changed n ≡ true → slice_index_or known (place_in chosen n) None ≡ None
+
+-- all of the packages have their flags then, and all that had one keep it; each that gains its flag is put to the work, and nothing else but packages is
+pub record Flags (packages : List ℕ) (before : List Bool) (work : List ℕ) (after : List Bool) (more : List ℕ) : Type 0 where
+  pub size : length after ≡ length before
+  pub stays : (n : ℕ) → flag before n ≡ true → flag after n ≡ true
+  pub all : (n : ℕ) → In n packages → flag after n ≡ true
+  pub waits : (n : ℕ) → In n work → In n more
+  pub gains : (n : ℕ) → flag after n ≡ true → (flag before n ≡ true) ⊎ In n more
+  pub only : (n : ℕ) → In n more → In n work ⊎ (n < length before)

@@ -1,0 +1,45 @@
+//! Flags of packages that are not the same in two parts.
+ghost use Rattle.std.specs.Prelude.{◌≡◌, ◌+◌, ◌<◌, ◌≤◌, ℕ, false, not, count_by, IfOk, OnOk, length, replicate};
+ghost use Rattle.listed.specs.Lists.{In};
+ghost use Rattle.suite_part.specs.Bases.{first_flags, Flags};
+
+use crate::chosen::Chosen;
+use std::alloc::{AllocError, Global};
+
+/// The first packages, so many, of all.
+pub(crate) fn first_chosen(alloc: Global, count: u32, size: u32) -> Result<Chosen, AllocError>
+    requires { count ≤ size }
+    ensures { IfOk result (λ made. made.flags.items ≡ first_flags count size) }
+{
+    let mut flags = Vec::with_capacity(alloc, size as usize)?;
+    for number in 0..size {
+        flags.push(number < count)?;
+    }
+    Chosen::of(alloc, flags)
+}
+
+/// So many flags, none of them up.
+pub(crate) fn none_changed(alloc: Global, size: u32) -> Result<Vec<bool>, AllocError>
+    ensures { IfOk result (λ flags. flags.items ≡ replicate size false) }
+{
+    vec![in alloc; false; size as usize]
+}
+
+/// Flags the packages, and puts those that were not flagged to those whose users are to be looked at.
+pub(crate) fn put_changed(
+    packages: &[u32],
+    changed: &mut [bool],
+    work: &mut Vec<u32>,
+) -> Result<(), AllocError>
+    requires { (n : ℕ) → In n packages.now → n < length changed.old }
+    ensures flags { OnOk result (Flags packages.now changed.old work.old.items changed.new work.new.items) }
+    ensures count { OnOk result (count_by not changed.new + length work.new.items ≡ count_by not changed.old + length work.old.items) }
+{
+    for number in packages {
+        if !changed[*number as usize] {
+            changed[*number as usize] = true;
+            work.push(*number)?;
+        }
+    }
+    Ok(())
+}

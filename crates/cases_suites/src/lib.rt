@@ -7,6 +7,8 @@ mod choices;
 #[cfg(test)]
 mod logs;
 #[cfg(test)]
+mod plans;
+#[cfg(test)]
 mod pools;
 #[cfg(test)]
 mod rounds;

@@ -1,5 +1,5 @@
 -- From what the calls of a plan answer to its course.
-use Rattle.std.proofs.Common.{◌≡◌, ℕ, Bool, List, Option, Some, None, Result, Ok, refl, sym, ap, ap₂, ◌∙◌}
+use Rattle.std.proofs.Common.{◌≡◌, ℕ, Bool, List, Option, Some, None, Result, Ok, refl, sym, ap, ap₂, subst, ◌∙◌}
 use Rattle.std.specs.Prelude.{IfSome}
 use Rattle.migrate_plan.specs.Plan.{Settings, plan}
 use Rattle.migrate_plan.specs.Refusals.{plan_refusal}
@@ -12,7 +12,7 @@ use Rattle.repo_model.specs.FirstFault.{first_fault}
 use Rattle.repo_model.specs.declared.fault.IndexFault.{IndexFault}
 use Rattle.suite_compare.specs.Refusals.{home_in, packages_in}
 use Rattle.coinst_run.specs.declared.answer.ReportVerdict.{ReportVerdict}
-use Rattle.coinst_run.specs.Answer.{Answer, reported}
+use Rattle.coinst_run.specs.Answer.{Answer, Stage, reported}
 use Rattle.coinst_run.specs.Course.{answers, then_on}
 use Rattle.coinst_run.specs.Ending.{StopsAt}
 use Rattle.coinst_run.specs.Index.{Index, by_fault, checked_index, index_in}
@@ -37,7 +37,13 @@ suite_checked path text home packages e =
     let w = index_checked path text (record { home = home; packages = packages }) e in
     record { fine = w.0; facts = sym (ap (λ (i : Index). i.packages) w.1); common = sym (ap (λ (i : Index). i.home.name) w.1) }
 
--- and its kernel is that of its text
+-- and so is that of which this is the suite
+pub checked_read : (path text : List ℕ) (home : Home) (packages : List PackageFacts) → IsSuiteOf text packages home.name → (let index : Index = record { home = home; packages = packages } in checked_index path text ≡ Ok index)
+checked_read path text home packages suite =
+    ap (by_fault path text) suite.fine
+    ∙ ap₂ (λ (name : Option (List ℕ)) (facts : List PackageFacts). let index : Index = record { home = record { name = name }; packages = facts } in let stage : Stage Index = Ok index in stage) (sym suite.common) (sym suite.facts)
+
+-- its kernel is that of its text
 pub kernel_checked : (path text : List ℕ) (limit : ℕ) (hold : Bool) (index : Index) → checked_index path text ≡ Ok index → kernel_of path limit hold index ≡ Ok (index_kernel limit hold index.home index.packages) →
     kernel_at path limit hold text ≡ Ok (index_kernel limit hold (home_in text) (packages_in text))
 kernel_checked path text limit hold index e k =
@@ -50,6 +56,10 @@ stops_before path text limit hold None h = tt
 stops_before path text limit hold (Some (answered answer)) h = ap (kernel_behind path limit hold) h
 stops_before path text limit hold (Some (unread file)) h = absurd h
 stops_before path text limit hold (Some not_a_command) h = absurd h
+
+-- and where its kernel is refused, that of its text is
+pub stops_behind : (path text : List ℕ) (limit : ℕ) (hold : Bool) (index : Index) (ending : Option Outcome) → checked_index path text ≡ Ok index → StopsAt (kernel_of path limit hold index) ending → StopsAt (kernel_at path limit hold text) ending
+stops_behind path text limit hold index ending e h = subst (λ stage. StopsAt stage ending) (sym (ap (kernel_behind path limit hold) e)) h
 
 -- a plan that is told
 pub plan_told : (old new : List ℕ) (settings : Settings) (first second : List ℕ) (lines : List PlanLine) (verdict : ReportVerdict) (text : List ℕ) → plan_refusal first second ≡ None → lines ≡ plan settings first second

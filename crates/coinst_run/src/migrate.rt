@@ -1,17 +1,18 @@
 //! The command that takes names over from a newer index into an older one, without breaking any.
-ghost use Rattle.std.specs.Prelude.{◌≡◌, ◌<◌, ◌≤◌, List, Ok, Option, IfErr, IfOk, OnOk, length};
+ghost use Rattle.std.specs.Prelude.{◌≡◌, ◌<◌, ◌≤◌, ℕ, List, Option, IfErr, IfOk, length};
 ghost use Rattle.clause_solver.specs.Outcomes.{IsBudget};
 ghost use Rattle.coinst_words.specs.Jobs.{AreInLimits};
+ghost use Rattle.migrate_plan.specs.Notes.{AreTexts, IsNotedOf, Texts};
 ghost use Rattle.migrate_plan.specs.Plan.{settings_of};
 ghost use Rattle.migrate_plan.specs.Refusals.{Refuses};
 ghost use Rattle.migrate_plan.specs.declared.plan.PlanLine.{PlanLine};
 ghost use Rattle.migrate_plan.specs.declared.refusals.PlanError.{PlanError};
 ghost use Rattle.repo_model.specs.Feeding.{IsSuiteOf};
-ghost use Rattle.suite_compare.specs.Refusals.{home_in, packages_in};
 ghost use Rattle.coinst_run.specs.Ending.{Settles, StopsAt, ending_of, stop_ending};
 ghost use Rattle.coinst_run.specs.Follows.{Follows};
-ghost use Rattle.coinst_run.specs.IndexKernel.{index_kernel};
-ghost use Rattle.coinst_run.specs.Migrate.{by_refusal, homes_line, kernel_at, migrate_course, new_answer, new_course, old_answer, plan_answer};
+ghost use Rattle.coinst_run.specs.Index.{checked_index};
+ghost use Rattle.coinst_run.specs.Migrate.{by_refusal, homes_line, migrate_course, new_answer, new_course, old_answer, plan_answer};
+ghost use Rattle.coinst_run.specs.Noted.{IsReadOf};
 ghost use Rattle.repo_model.specs.Limits.{most_bytes};
 
 use crate::answer::{Cause, Report, Stop};
@@ -21,13 +22,13 @@ use crate::stages::{checked_index, text_at};
 use crate::views::view_of;
 use byte_flow::Shelf;
 use coinst_words::Settings;
-use migrate_plan::{PlanError, make_plan};
+use migrate_plan::{PlanError, TextNotes, plan_between};
 use repo_model::Suite;
 use std::alloc::Global;
 use suite_compare::SuiteView;
 
-/// The report on which names that differ can be taken over from the index at the newer path into that at the older one. Both
-/// texts are held whole.
+/// The report on which names that differ can be taken over from the index at the newer path into that at the older one. Each
+/// text is held only until it was read.
 pub fn migrate<F: Shelf>(
     alloc: Global,
     shelf: &mut F,
@@ -39,24 +40,42 @@ pub fn migrate<F: Shelf>(
     ensures { Follows F.contents F.faults F.moved F.is_quiet F.start_gives F.read_gives (migrate_course old.now new.now with.budget with.clause_limit with.hold) shelf.old (ending_of result) shelf.new }
 {
     let text = text_at(alloc, shelf, old)?;
-    from_older(alloc, shelf, text.as_slice(), old, new, with)
+    from_older(alloc, shelf, text, old, new, with)
 }
 
-// The same behind the text of the older index.
+// The same behind the text of the older index, which is given back.
 fn from_older<F: Shelf>(
     alloc: Global,
     shelf: &mut F,
-    text: &[u8],
+    text: Vec<u8>,
     old: &str,
     new: &str,
     with: Settings,
 ) -> Result<Report, Stop>
-    requires short { length text.now ≤ most_bytes }
+    requires short { length text.items ≤ most_bytes }
     requires with { AreInLimits with }
-    ensures { Follows F.contents F.faults F.moved F.is_quiet F.start_gives F.read_gives (old_answer old.now new.now (settings_of with.budget with.clause_limit with.hold) text.now) shelf.old (ending_of result) shelf.new }
+    ensures { Follows F.contents F.faults F.moved F.is_quiet F.start_gives F.read_gives (old_answer old.now new.now (settings_of with.budget with.clause_limit with.hold) text.items) shelf.old (ending_of result) shelf.new }
 {
-    let view = view_in(alloc, text, old, with.clause_limit, with.hold)?;
-    let report = from_view(alloc, shelf, text, &view, old, new, with.budget);
+    let noted = noted_index(alloc, old, text)?;
+    from_noted(alloc, shelf, noted, old, new, with)
+}
+
+// The same behind what was read of the older text.
+fn from_noted<F: Shelf>(
+    alloc: Global,
+    shelf: &mut F,
+    noted: NotedIndex,
+    old: &str,
+    new: &str,
+    with: Settings,
+) -> Result<Report, Stop>
+    requires short { noted.notes.length ≤ most_bytes }
+    requires with { AreInLimits with }
+    ensures { (text : List ℕ) → IsReadOf text noted → Follows F.contents F.faults F.moved F.is_quiet F.start_gives F.read_gives (old_answer old.now new.now (settings_of with.budget with.clause_limit with.hold) text) shelf.old (ending_of result) shelf.new }
+{
+    let NotedIndex { suite, notes } = noted;
+    let view = view_of(alloc, suite, old, with.clause_limit, with.hold)?;
+    let report = from_view(alloc, shelf, &notes, &view, old, new, with.budget);
     drop(view);
     report
 }
@@ -65,96 +84,82 @@ fn from_older<F: Shelf>(
 fn from_view<F: Shelf>(
     alloc: Global,
     shelf: &mut F,
-    text: &[u8],
+    notes: &TextNotes,
     view: &SuiteView,
     old: &str,
     new: &str,
     budget: u64,
 ) -> Result<Report, Stop>
-    requires short { length text.now ≤ most_bytes }
-    requires suite { IsSuiteOf text.now view.now.suite.packages view.now.suite.home.name }
+    requires short { notes.now.length ≤ most_bytes }
     requires budget { IsBudget budget }
     requires limit { 0 < view.now.limit }
-    ensures { Follows F.contents F.faults F.moved F.is_quiet F.start_gives F.read_gives (new_course old.now new.now (settings_of budget view.now.limit view.now.kernel.hold) text.now) shelf.old (ending_of result) shelf.new }
+    ensures { (text : List ℕ) → IsSuiteOf text view.now.suite.packages view.now.suite.home.name → IsNotedOf text notes.now
+        → Follows F.contents F.faults F.moved F.is_quiet F.start_gives F.read_gives (new_course old.now new.now (settings_of budget view.now.limit view.now.kernel.hold) text) shelf.old (ending_of result) shelf.new }
 {
     let newer = text_at(alloc, shelf, new)?;
-    from_both(alloc, text, view, newer.as_slice(), old, new, budget)
+    from_both(alloc, notes, view, newer, old, new, budget)
 }
 
-// The same behind the texts of both.
+// The same behind the texts of both; the newer one is given back.
 fn from_both(
     alloc: Global,
-    text: &[u8],
+    notes: &TextNotes,
     view: &SuiteView,
-    newer: &[u8],
+    newer: Vec<u8>,
     old: &str,
     new: &str,
     budget: u64,
 ) -> Result<Report, Stop>
-    requires short { length text.now ≤ most_bytes }
-    requires suite { IsSuiteOf text.now view.now.suite.packages view.now.suite.home.name }
-    requires newer_short { length newer.now ≤ most_bytes }
+    requires short { notes.now.length ≤ most_bytes }
+    requires newer_short { length newer.items ≤ most_bytes }
     requires budget { IsBudget budget }
     requires limit { 0 < view.now.limit }
-    ensures { Settles (new_answer old.now new.now (settings_of budget view.now.limit view.now.kernel.hold) text.now newer.now) (ending_of result) }
+    ensures { (text : List ℕ) → IsSuiteOf text view.now.suite.packages view.now.suite.home.name → IsNotedOf text notes.now
+        → Settles (new_answer old.now new.now (settings_of budget view.now.limit view.now.kernel.hold) text newer.items) (ending_of result) }
 {
-    let suite = checked_index(alloc, new, newer)?;
-    let report = plan_report(alloc, text, view, newer, &suite, old, new, budget);
-    drop(suite);
+    let noted = noted_index(alloc, new, newer)?;
+    let report = plan_report(alloc, notes, view, &noted, old, new, budget);
+    drop(noted);
     report
 }
 
-// The view of the index of a text at a clause limit, with hold or without.
-#[tactic(auto, using(crate::proofs::Migrating::stops_before))]
-fn view_in(
-    alloc: Global,
-    text: &[u8],
-    path: &str,
-    limit: u32,
-    hold: bool,
-) -> Result<SuiteView, Stop>
-    requires short { length text.now ≤ most_bytes }
-    requires limit { 0 < limit }
-    ensures kernel { OnOk result (kernel_at path.now limit hold text.now ≡ Ok (index_kernel limit hold (home_in text.now) (packages_in text.now))) }
-    ensures suite { IfOk result (λ view. IsSuiteOf text.now view.suite.packages view.suite.home.name) }
-    ensures limit { IfOk result (λ view. view.limit ≡ limit) }
-    ensures hold { IfOk result (λ view. view.kernel.hold ≡ hold) }
-    ensures stop { IfErr result (λ stop. StopsAt (kernel_at path.now limit hold text.now) (stop_ending stop)) }
-{
-    let suite = checked_index(alloc, path, text)?;
-    view_of(alloc, suite, path, limit, hold)
+// What was read of the text of an index: its packages, and what a plan asks of it beside them.
+#[derive(Drop)]
+struct NotedIndex {
+    suite: Suite,
+    notes: TextNotes,
 }
 
-// The report on the plan of two texts.
+// What is read of the text of the index at a path. The text is given back.
+fn noted_index(alloc: Global, path: &str, text: Vec<u8>) -> Result<NotedIndex, Stop>
+    requires { length text.items ≤ most_bytes }
+    ensures read { IfOk result (IsReadOf text.items) }
+    ensures stop { IfErr result (λ stop. StopsAt (checked_index path.now text.items) (stop_ending stop)) }
+{
+    let suite = checked_index(alloc, path, text.as_slice())?;
+    let notes = TextNotes::of(alloc, text.as_slice())?;
+    Ok(NotedIndex { suite, notes })
+}
+
+// The report on the plan of two indexes.
 #[tactic(auto, using(crate::proofs::Migrating::plan_told))]
 fn plan_report(
     alloc: Global,
-    text: &[u8],
+    notes: &TextNotes,
     view: &SuiteView,
-    newer: &[u8],
-    suite: &Suite,
+    newer: &NotedIndex,
     old: &str,
     new: &str,
     budget: u64,
 ) -> Result<Report, Stop>
-    requires short { length text.now ≤ most_bytes }
-    requires suite { IsSuiteOf text.now view.now.suite.packages view.now.suite.home.name }
-    requires newer_short { length newer.now ≤ most_bytes }
-    requires newer { IsSuiteOf newer.now suite.now.packages suite.now.home.name }
+    requires short { notes.now.length ≤ most_bytes }
+    requires newer_short { newer.now.notes.length ≤ most_bytes }
     requires budget { IsBudget budget }
     requires limit { 0 < view.now.limit }
-    ensures { Settles (plan_answer old.now new.now (settings_of budget view.now.limit view.now.kernel.hold) text.now newer.now) (ending_of result) }
+    ensures { (texts : Texts) → AreTexts texts view.now.suite notes.now newer.now.suite newer.now.notes
+        → Settles (plan_answer old.now new.now (settings_of budget view.now.limit view.now.kernel.hold) texts.old texts.new) (ending_of result) }
 {
-    match make_plan(
-        alloc,
-        text,
-        view,
-        newer,
-        suite,
-        view.limit,
-        view.kernel.hold,
-        budget,
-    ) {
+    match plan_between(alloc, notes, view, &newer.notes, &newer.suite, budget) {
         Ok(plan) => {
             let lines = plan.lines.as_slice();
             Ok(Report::of(plan_verdict(lines), plan_text(alloc, lines)?))

@@ -7,6 +7,7 @@ pub mod MixedFacts
 pub mod WholeMixes
 pub mod Parted
 pub mod FirstHome
+pub mod Noted
 pub mod Told
 pub mod Planned
 pub mod Made

@@ -24,19 +24,21 @@ use Rattle.repo_model.specs.Goals.{names_in}
 use Rattle.repo_model.specs.Laws.{but_line, IgnoresLines}
 use Rattle.repo_model.specs.Limits.{most_packages}
 use Rattle.repo_model.specs.declared.goals.Goal.{Goal}
+use Rattle.repo_model.specs.declared.suite.Suite.{Suite}
 use Rattle.repo_model.proofs.Lines.{lines_ignored}
 use Rattle.suite_compare.specs.Asking.{goal_classes, image_of, images_of, tree_of, verdict_in, verdict_of}
 use Rattle.suite_compare.specs.Names.{stands_in}
 use Rattle.suite_compare.specs.Refusals.{home_in, packages_in}
 use Rattle.suite_compare.specs.Report.{report}
-use Rattle.migrate_plan.specs.Differing.{differing}
 use Rattle.migrate_plan.specs.Mix.{is_left, is_taken, mix, mixed_packages}
 use Rattle.migrate_plan.specs.Plan.{outcome_of, Settings}
-use Rattle.migrate_plan.specs.Refusals.{plan_refusal}
+use Rattle.migrate_plan.specs.Notes.{AreTexts, Texts, first_raised}
+use Rattle.migrate_plan.specs.Refusals.{packages_with}
 use Rattle.migrate_plan.specs.Trying.{outcome_by}
+use Rattle.migrate_plan.specs.declared.notes.TextNotes.{TextNotes}
 use Rattle.migrate_plan.proofs.LaterFields.{architecture_later, value_later}
 use Rattle.migrate_plan.proofs.Mixed.{front_of, mix_stanzas, mixed, named, taken_within}
-use Rattle.migrate_plan.proofs.Refusing.{is_free}
+use Rattle.migrate_plan.proofs.Noted.{home_noted}
 use Rattle.migrate_plan.proofs.Shifted.{later_stanza}
 
 -- a stanza whose lines are counted on says the same of its package
@@ -129,9 +131,8 @@ mix_home old new taken old_fine new_fine =
     let kept : List RawStanza = named (is_taken taken) (stanzas_of new) in
     ap home_of (mix_stanzas old new taken old_fine new_fine) ∙ home_join left (map (later_stanza more) kept) ∙ ap (option_or (home_of left)) (home_later more kept)
 
--- a mix by the suites of both indexes, and a flag for each of their packages
-module _ (old new : List ℕ) (olds news : List PackageFacts) (old_home new_home : Option (List ℕ)) (taken : List (List ℕ)) (left kept : List Bool)
-    (old_is : IsSuiteOf old olds old_home) (new_is : IsSuiteOf new news new_home) (lefts : left ≡ map (λ facts. is_left taken facts.name) olds) (keeps : kept ≡ map (λ facts. is_taken taken facts.name) news) where
+-- a mix by a flag for each package of both
+module _ (olds news : List PackageFacts) (taken : List (List ℕ)) (left kept : List Bool) (lefts : left ≡ map (λ facts. is_left taken facts.name) olds) (keeps : kept ≡ map (λ facts. is_taken taken facts.name) news) where
   left_packages : items_where_true left olds ≡ filter (λ facts. is_left taken facts.name) olds
   left_packages = ap (λ flags. items_where_true flags olds) lefts ∙ flagged (λ facts. is_left taken facts.name) olds
 
@@ -146,50 +147,45 @@ module _ (old new : List ℕ) (olds news : List PackageFacts) (old_home new_home
       length-append (filter (λ facts. is_left taken facts.name) olds) (filter (λ facts. is_taken taken facts.name) news) in
       omega arith
 
-  pub packages_mixed : (packages : List PackageFacts) → packages ≡ items_where_true left olds ++ items_where_true kept news → map but_line packages ≡ map but_line (packages_in (mix old new taken))
-  packages_mixed packages are =
+  -- its packages are those of the mix of the two texts, but for the numbers of their lines
+  pub packages_mixed : (old new : List ℕ) (old_home new_home : Option (List ℕ)) (packages : List PackageFacts) → IsSuiteOf old olds old_home → IsSuiteOf new news new_home → packages ≡ items_where_true left olds ++ items_where_true kept news
+      → map but_line packages ≡ map but_line (packages_in (mix old new taken))
+  packages_mixed old new old_home new_home packages old_is new_is are =
       ap (map but_line) (are ∙ ap₂ (λ xs ys. xs ++ ys) left_packages kept_packages ∙ ap₂ (λ xs ys. mixed_packages xs ys taken) old_is.facts new_is.facts) ∙ sym (mix_is_list old new taken old_is.fine new_is.fine)
 
-  pub home_mixed : (home : Home) → home.name ≡ option_or (home_of (items_where_true left (stanzas_of old))) (home_of (items_where_true kept (stanzas_of new))) → home ≡ home_in (mix old new taken)
-  home_mixed home are =
-      let one : items_where_true left (stanzas_of old) ≡ named (is_left taken) (stanzas_of old) =
-      ap (λ flags. items_where_true flags (stanzas_of old)) (lefts ∙ ap (map (λ facts. is_left taken facts.name)) old_is.facts) ∙ stanzas_flagged (is_left taken) (stanzas_of old) in
-      let two : items_where_true kept (stanzas_of new) ≡ named (is_taken taken) (stanzas_of new) =
-      ap (λ flags. items_where_true flags (stanzas_of new)) (keeps ∙ ap (map (λ facts. is_taken taken facts.name)) new_is.facts) ∙ stanzas_flagged (is_taken taken) (stanzas_of new) in
-      ap (λ name. record { name = name }) (are ∙ ap₂ (λ xs ys. option_or (home_of xs) (home_of ys)) one two ∙ sym (mix_home old new taken old_is.fine new_is.fine))
+-- its common architecture, by the notes of the two texts
+module _ (texts : Texts) (old : Suite) (old_notes : TextNotes) (new : Suite) (new_notes : TextNotes) (are : AreTexts texts old old_notes new new_notes) (taken : List (List ℕ)) (left kept : List Bool)
+    (lefts : left ≡ map (λ facts. is_left taken facts.name) old.packages) (keeps : kept ≡ map (λ facts. is_taken taken facts.name) new.packages) where
+  old_noted : first_raised left old_notes.architectures.items ≡ home_of (named (is_left taken) (stanzas_of texts.old))
+  old_noted =
+      ap (first_raised left) are.old_noted.architectures_are ∙ home_noted left (stanzas_of texts.old)
+      ∙ ap home_of (ap (λ flags. items_where_true flags (stanzas_of texts.old)) (lefts ∙ ap (map (λ facts. is_left taken facts.name)) are.old_is.facts) ∙ stanzas_flagged (is_left taken) (stanzas_of texts.old))
 
--- the packages of a mix of names that differ are few, where no refusal comes
-pub few_mixed : (old new : List ℕ) (olds news : List PackageFacts) (old_home new_home : Option (List ℕ)) (taken : List (List ℕ)) → IsSuiteOf old olds old_home → IsSuiteOf new news new_home → plan_refusal old new ≡ None
-    → ((name : List ℕ) → In name taken → In name (differing (packages_in old) (packages_in new))) → length (mixed_packages olds news taken) ≤ most_packages
-few_mixed old new olds news old_home new_home taken old_is new_is free inside =
-    subst (λ ps. length (mixed_packages ps news taken) ≤ most_packages) (sym old_is.facts) (subst (λ ps. length (mixed_packages (packages_in old) ps taken) ≤ most_packages) (sym new_is.facts) few)
-  where
-    all : List (List ℕ)
-    all = differing (packages_in old) (packages_in new)
+  new_noted : first_raised kept new_notes.architectures.items ≡ home_of (named (is_taken taken) (stanzas_of texts.new))
+  new_noted =
+      ap (first_raised kept) are.new_noted.architectures_are ∙ home_noted kept (stanzas_of texts.new)
+      ∙ ap home_of (ap (λ flags. items_where_true flags (stanzas_of texts.new)) (keeps ∙ ap (map (λ facts. is_taken taken facts.name)) are.new_is.facts) ∙ stanzas_flagged (is_taken taken) (stanzas_of texts.new))
 
-    few : length (mixed_packages (packages_in old) (packages_in new) taken) ≤ most_packages
-    few =
-        let left : List PackageFacts = filter (λ facts. is_left taken facts.name) (packages_in old) in
-        let kept : List PackageFacts = filter (λ facts. is_taken taken facts.name) (packages_in new) in
-        let one : length left ≤ length (packages_in old) = filter_short (λ facts. is_left taken facts.name) (packages_in old) in
-        let two : length kept ≤ length (filter (λ facts. is_taken all facts.name) (packages_in new)) =
-        filter_le (λ facts. is_taken taken facts.name) (λ facts. is_taken all facts.name) (packages_in new) (λ facts h. taken_within taken all inside facts.name h) in
-        let size : length (mixed_packages (packages_in old) (packages_in new) taken) ≡ length left + length kept = length-append left kept in
-        let most : length (packages_in old) + length (filter (λ facts. is_taken all facts.name) (packages_in new)) ≤ most_packages = (is_free old new free).packages in
-        omega arith
+  pub home_mixed : (home : Home) → home.name ≡ option_or (first_raised left old_notes.architectures.items) (first_raised kept new_notes.architectures.items) → home ≡ home_in (mix texts.old texts.new taken)
+  home_mixed home is = ap (λ name. record { name = name }) (is ∙ ap₂ option_or old_noted new_noted ∙ sym (mix_home texts.old texts.new taken are.old_is.fine are.new_is.fine))
 
--- so are all packages that mixes have
-pub few_whole : (old new : List ℕ) (olds news : List PackageFacts) (old_home new_home : Option (List ℕ)) (added : List Bool) → IsSuiteOf old olds old_home → IsSuiteOf new news new_home → plan_refusal old new ≡ None
-    → added ≡ map (λ facts. is_taken (differing (packages_in old) (packages_in new)) facts.name) news → length olds + length (items_where_true added news) ≤ most_packages
-few_whole old new olds news old_home new_home added old_is new_is free adds =
-    subst (λ ps. length olds + length ps ≤ most_packages) (sym chosen)
-    (subst (λ ps. length ps + length (filter test news) ≤ most_packages) (sym old_is.facts) (subst (λ ps. length (packages_in old) + length (filter test ps) ≤ most_packages) (sym new_is.facts) (is_free old new free).packages))
-  where
-    test : PackageFacts → Bool
-    test facts = is_taken (differing (packages_in old) (packages_in new)) facts.name
+-- the packages of a mix of names that differ are few, where all that mixes have are
+pub few_mixed : (olds news : List PackageFacts) (taken all : List (List ℕ)) → packages_with olds news all ≤ most_packages → ((name : List ℕ) → In name taken → In name all) → length (mixed_packages olds news taken) ≤ most_packages
+few_mixed olds news taken all few inside =
+    let left : List PackageFacts = filter (λ facts. is_left taken facts.name) olds in
+    let kept : List PackageFacts = filter (λ facts. is_taken taken facts.name) news in
+    let one : length left ≤ length olds = filter_short (λ facts. is_left taken facts.name) olds in
+    let two : length kept ≤ length (filter (λ facts. is_taken all facts.name) news) =
+    filter_le (λ facts. is_taken taken facts.name) (λ facts. is_taken all facts.name) news (λ facts h. taken_within taken all inside facts.name h) in
+    let size : length (mixed_packages olds news taken) ≡ length left + length kept = length-append left kept in
+    let most : length olds + length (filter (λ facts. is_taken all facts.name) news) ≤ most_packages = few in
+    omega arith
 
-    chosen : items_where_true added news ≡ filter test news
-    chosen = ap (λ flags. items_where_true flags news) adds ∙ flagged test news
+-- these, by a flag for each package of the new index
+pub few_whole : (olds news : List PackageFacts) (names : List (List ℕ)) (added : List Bool) → packages_with olds news names ≤ most_packages → added ≡ map (λ facts. is_taken names facts.name) news
+    → length olds + length (items_where_true added news) ≤ most_packages
+few_whole olds news names added few adds =
+    subst (λ ps. length olds + length ps ≤ most_packages) (sym (ap (λ flags. items_where_true flags news) adds ∙ flagged (λ facts. is_taken names facts.name) news)) few
 
 -- packages that differ in the numbers of their lines alone are asked alike
 stands_but : (packages : List PackageFacts) (name : List ℕ) → stands_in (map but_line packages) name ≡ stands_in packages name

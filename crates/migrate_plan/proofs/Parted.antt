@@ -1,6 +1,7 @@
 -- The kernel of some packages of all that mixes have, and the line that is told by it.
-use Rattle.std.proofs.Common.{◌≡◌, ℕ, ◌<◌, Bool, List, [], ◌∷◌, map, length, Option, Some, None, Result, IfOk, refl, sym, ap, ap₂, subst, ◌∙◌}
+use Rattle.std.proofs.Common.{◌≡◌, ℕ, ◌<◌, Bool, false, List, [], ◌∷◌, map, length, Option, Some, None, Result, IfOk, refl, sym, ap, ap₂, subst, ◌∙◌}
 use Rattle.std.specs.List.{items_where_true}
+use Rattle.std.specs.Option.{ForSome}
 use Rattle.std.proofs.lemmas.List.{length-map}
 use Rattle.listed.{specs.Lists.{In}, proofs.Lists.{In_map_cases}}
 use Rattle.clause_pool.specs.Interned.{row_at, Interned}
@@ -33,6 +34,16 @@ kernel_made start pool made limit hold R told given = record {
 -- the same of an equal repository, as an answer
 pub kernel_alike : {E : Type 0} (pool : Interned) (limit : ℕ) (hold : Bool) (R S : Repository) → R ≡ S → (result : Result (Option Kernel) E) → IfOk result (IsKernelAt pool limit hold R) → IfOk result (IsKernelAt pool limit hold S)
 kernel_alike pool limit hold R S same result made = subst (λ Q. IfOk result (IsKernelAt pool limit hold Q)) same made
+
+-- a kernel that was extracted beside known rows, or none
+some_passed : (o : Option PassedRound) → (o ≡ None → ⊥) → (passed : PassedRound) × (o ≡ Some passed)
+some_passed None f = absurd (f refl)
+some_passed (Some passed) f = (passed, refl)
+
+pub made_beside : (start pool : Interned) (limit : ℕ) (R : Repository) (made : Option Kernel) → ForSome made (λ kernel. IsExtracted R limit false start pool kernel.book kernel.class_of kernel.held kernel.trail.steps) → ForSome made (λ kernel. kernel.hold ≡ false)
+    → (made ≡ None → limit_at limit false R ≡ None → ⊥) → IsKernelAt pool limit false R made
+made_beside start pool limit R None given told none = some_passed (limit_at limit false R) (none refl)
+made_beside start pool limit R (Some kernel) given told none = kernel_made start pool kernel limit false R (told kernel refl) (given kernel refl)
 
 -- those that bear each name among some packages
 pub bearers_part : (packages : List PackageFacts) (flags : List Bool) (names : List (List ℕ)) → length flags ≡ length packages → map (chosen_in flags) (bearers_of packages names) ≡ bearers_of (items_where_true flags packages) names

@@ -1,9 +1,9 @@
 -- What holds of a plan: its names, the reason of each line, and that the names taken break nothing.
-use Rattle.std.proofs.Common.{◌≡◌, ◌≢◌, ℕ, ◌+◌, ◌<◌, ◌≤◌, Bool, false, List, [], ◌∷◌, ◌++◌, length, get_or, drop, map, Some, None, Option, refl, sym, ap, ◌∙◌, subst, ◌⊎◌, inl, inr, append_assoc}
+use Rattle.std.proofs.Common.{◌≡◌, ◌≢◌, ℕ, ◌+◌, ◌<◌, ◌≤◌, false, List, [], ◌∷◌, ◌++◌, length, get_or, drop, map, Some, None, Option, refl, sym, ap, ◌∙◌, subst, ◌⊎◌, inl, inr, append_assoc}
 use Rattle.std.proofs.lemmas.List.{append-nil, drop_all, drop_more, map-append}
 use Rattle.row_book.specs.Rounds.{PassedRound}
 use Rattle.listed.specs.Lists.{In}
-use Rattle.listed.proofs.Lists.{In_append_cases, In_at, In_cases, In_none}
+use Rattle.listed.proofs.Lists.{In_append_cases, In_cases, In_none}
 use Rattle.stanza_reader.specs.declared.stanza.RawStanza.{RawStanza}
 use Rattle.repo_model.specs.Facts.{facts_of}
 use Rattle.repo_model.specs.FirstFault.{first_fault, home_of}
@@ -15,18 +15,18 @@ use Rattle.suite_compare.specs.declared.report.ReportLine.{ReportLine}
 use Rattle.suite_compare.proofs.Deciding.{verdict_is_judged}
 use Rattle.migrate_plan.specs.Differing.{differing}
 use Rattle.migrate_plan.specs.Mix.{mix}
-use Rattle.migrate_plan.specs.Plan.{Settings, line_behind, lines_behind, lines_between, outcome_of, passed_in, plan, settings_of, taken_in, tried_mix}
+use Rattle.migrate_plan.specs.Plan.{Settings, line_behind, lines_behind, lines_between, outcome_of, passed_in, plan, taken_in, tried_mix}
 use Rattle.headline.specs.Listing.{ListsExactly, LosesNothing, is_broken}
 use Rattle.headline.proofs.Exact.{report_lists_exactly}
 use Rattle.headline.proofs.Lost.{empty_list_loses_nothing}
 use Rattle.migrate_plan.specs.Promises.{AreRight, IsRight, TakesSafely, planned_name, searched_by}
-use Rattle.migrate_plan.specs.Trying.{LeadsTo}
+use Rattle.migrate_plan.specs.Trying.{AreTakenBy, LeadsTo}
 use Rattle.migrate_plan.specs.declared.plan.PlanLine.{PlanLine}
 use Rattle.migrate_plan.specs.declared.plan.PlanLine.TheVariants.{Take, LeftLimit, LeftLine}
 use Rattle.migrate_plan.proofs.Mixed.{mix_of_none}
 use Rattle.migrate_plan.proofs.Told.{unbroken_same}
 
-outcome_name : (name : List ℕ) (passed : Option PassedRound) (told : List ReportLine) → planned_name (outcome_of name passed told) ≡ name
+pub outcome_name : (name : List ℕ) (passed : Option PassedRound) (told : List ReportLine) → planned_name (outcome_of name passed told) ≡ name
 outcome_name name (Some passed) told = refl
 outcome_name name None [] = refl
 outcome_name name None (line ∷ more) = refl
@@ -151,44 +151,42 @@ plan_safe settings old new old_fine new_fine =
     }
 
 -- the loop of the plan: at its start, one name more, and at its end
-pub leads_first : (line : List PlanLine → List ℕ → PlanLine) (names : List (List ℕ)) (lines : List PlanLine) (taken : List (List ℕ)) → lines ≡ [] → taken ≡ [] → LeadsTo line names 0 lines taken
-leads_first line names lines taken none empty = record {
-  whole = ap (λ front. lines_behind line front names) none;
+pub taken_first : (lines : List PlanLine) (names taken : List (List ℕ)) → lines ≡ [] → taken ≡ [] → AreTakenBy lines names taken
+taken_first lines names taken none empty = record {
   taken_is = empty ∙ ap taken_in (sym none);
   among = λ name i. absurd (In_none (subst (In name) empty i));
 }
 
-pub leads_more : (line : List PlanLine → List ℕ → PlanLine) (names : List (List ℕ)) (place : ℕ) (lines more : List PlanLine) (taken new : List (List ℕ)) (name : List ℕ) (next : PlanLine)
-    → place < length names → name ≡ get_or names place name → next ≡ line lines name → planned_name next ≡ name → more ≡ lines ++ next ∷ [] → new ≡ taken ++ taken_in (next ∷ [])
-    → LeadsTo line names place lines taken → LeadsTo line names (place + 1) more new
-leads_more line names place lines more taken new name next within is made own pushed put h =
-    let behind : drop place names ≡ name ∷ drop (place + 1) names = drop_more names place name within ∙ ap (λ n. n ∷ drop (place + 1) names) (sym is) in
-    let inside : In name names = subst (λ n. In n names) (sym is) (In_at names place name within) in
-    record {
-      whole = ap (λ front. lines_behind line front (drop (place + 1) names)) (pushed ∙ ap (λ l. lines ++ l ∷ []) made) ∙ ap (lines_behind line lines) (sym behind) ∙ h.whole;
-      taken_is = put ∙ ap (λ front. front ++ taken_in (next ∷ [])) h.taken_is ∙ sym (taken_join lines (next ∷ [])) ∙ ap taken_in (sym pushed);
-      among = λ other i. elim (In_append_cases taken (taken_in (next ∷ [])) other (subst (In other) put i)) [
-        | inl j ↦ h.among other j
-        | inr j ↦ subst (λ n. In n names) (sym (only next other j ∙ own)) inside
-      ];
-    }
+pub taken_more : (lines more : List PlanLine) (names taken new : List (List ℕ)) (name : List ℕ) (next : PlanLine) → In name names → planned_name next ≡ name → more ≡ lines ++ next ∷ [] → new ≡ taken ++ taken_in (next ∷ [])
+    → AreTakenBy lines names taken → AreTakenBy more names new
+taken_more lines more names taken new name next inside own pushed put h = record {
+  taken_is = put ∙ ap (λ front. front ++ taken_in (next ∷ [])) h.taken_is ∙ sym (taken_join lines (next ∷ [])) ∙ ap taken_in (sym pushed);
+  among = λ other i. elim (In_append_cases taken (taken_in (next ∷ [])) other (subst (In other) put i)) [
+    | inl j ↦ h.among other j
+    | inr j ↦ subst (λ n. In n names) (sym (only next other j ∙ own)) inside
+  ];
+}
   where
     only : (one : PlanLine) (other : List ℕ) → In other (taken_in (one ∷ [])) → other ≡ planned_name one
     only (Take n) other i = elim (In_cases i) [ inl e ↦ e | inr none ↦ absurd (In_none none) ]
     only (LeftLimit n) other i = absurd (In_none i)
     only (LeftLine n told) other i = absurd (In_none i)
 
-pub leads_all : (line : List PlanLine → List ℕ → PlanLine) (names : List (List ℕ)) (place : ℕ) (lines : List PlanLine) (taken : List (List ℕ)) → length names ≤ place
-    → LeadsTo line names place lines taken → lines ≡ lines_behind line [] names
-leads_all line names place lines taken end h = sym (ap (lines_behind line lines) (drop_all place names end)) ∙ h.whole
+module _ (line : List PlanLine → List ℕ → PlanLine) (names : List (List ℕ)) where
+  pub leads_first : (lines : List PlanLine) → lines ≡ [] → LeadsTo line names 0 lines
+  leads_first lines none = ap (λ front. lines_behind line front names) none
 
-pub line_named : (settings : Settings) (old new : List ℕ) (lines : List PlanLine) (name : List ℕ) (line : PlanLine) → line ≡ line_behind settings old new lines name → planned_name line ≡ name
-line_named settings old new lines name line e = ap planned_name e ∙ line_name settings old new lines name
+  pub leads_more : (place : ℕ) (lines more : List PlanLine) (name : List ℕ) (next : PlanLine) → place < length names → name ≡ get_or names place name → next ≡ line lines name → more ≡ lines ++ next ∷ []
+      → LeadsTo line names place lines → LeadsTo line names (place + 1) more
+  leads_more place lines more name next within is made pushed leads =
+      let behind : drop place names ≡ name ∷ drop (place + 1) names = drop_more names place name within ∙ ap (λ n. n ∷ drop (place + 1) names) (sym is) in
+      ap (λ front. lines_behind line front (drop (place + 1) names)) (pushed ∙ ap (λ l. lines ++ l ∷ []) made) ∙ ap (lines_behind line lines) (sym behind) ∙ leads
+
+  pub leads_all : (place : ℕ) (lines : List PlanLine) → length names ≤ place → LeadsTo line names place lines → lines ≡ lines_behind line [] names
+  leads_all place lines end leads = sym (ap (lines_behind line lines) (drop_all place names end)) ∙ leads
 
 -- the lines that are made are the plan
-pub plan_is : (budget limit made_at : ℕ) (hold made_with : Bool) (old new : List ℕ) (names : List (List ℕ)) (lines : List PlanLine) → made_at ≡ limit → made_with ≡ hold → names ≡ differing (packages_in old) (packages_in new)
-    → lines ≡ lines_behind (line_behind (settings_of budget made_at made_with) old new) [] names → lines ≡ plan (settings_of budget limit hold) old new
+pub plan_is : (settings : Settings) (old new : List ℕ) (names : List (List ℕ)) (lines : List PlanLine) → names ≡ differing (packages_in old) (packages_in new) → lines ≡ lines_behind (line_behind settings old new) [] names
+    → lines ≡ plan settings old new
 unfolding plan
-plan_is budget limit made_at hold made_with old new names lines limit_is hold_is are made =
-    made ∙ ap (λ l. lines_behind (line_behind (settings_of budget l made_with) old new) [] names) limit_is ∙ ap (λ h. lines_behind (line_behind (settings_of budget limit h) old new) [] names) hold_is
-    ∙ ap (lines_behind (line_behind (settings_of budget limit hold) old new) []) are
+plan_is settings old new names lines are made = made ∙ ap (lines_behind (line_behind settings old new) []) are

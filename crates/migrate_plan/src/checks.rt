@@ -1,6 +1,6 @@
 //! When no plan is made.
-ghost use Rattle.std.specs.Prelude.{◌≡◌, ◌≤◌, None, IfErr, IfOk, OnOk, length};
-ghost use Rattle.migrate_plan.specs.Refusals.{above, are_apart, bytes_with, homes_refusal, packages_with, Refuses};
+ghost use Rattle.std.specs.Prelude.{◌≡◌, ◌≤◌, ◌+◌, None, IfErr, IfOk, OnOk, length};
+ghost use Rattle.migrate_plan.specs.Refusals.{above, are_apart, homes_refusal, packages_with, Refuses};
 ghost use Rattle.migrate_plan.specs.declared.refusals.PlanError.TheVariants.{Names, Packages, TooLong};
 ghost use Rattle.repo_model.specs.Limits.{most_bytes, most_packages};
 
@@ -87,14 +87,14 @@ fn packages_with(
     Ok(count)
 }
 
-/// Checks that both texts and two line feeds are not too long.
-pub(crate) fn check_length(old: &[u8], new: &[u8]) -> Result<(), PlanError>
-    requires old { length old.now ≤ most_bytes }
-    requires new { length new.now ≤ most_bytes }
-    ensures refused { IfErr result (λ error. Refuses error (above most_bytes TooLong (bytes_with old.now new.now))) }
-    ensures fine { OnOk result (above most_bytes TooLong (bytes_with old.now new.now) ≡ None) }
+/// Checks that two texts with so many bytes, and two line feeds, are not too long.
+pub(crate) fn check_length(old: u64, new: u64) -> Result<(), PlanError>
+    requires old { old ≤ most_bytes }
+    requires new { new ≤ most_bytes }
+    ensures refused { IfErr result (λ error. Refuses error (above most_bytes TooLong (old + new + 2))) }
+    ensures fine { OnOk result (above most_bytes TooLong (old + new + 2) ≡ None) }
 {
-    let count = old.len() as u64 + new.len() as u64 + 2;
+    let count = old + new + 2;
     if count > MOST_BYTES {
         return Err(PlanError::TooLong { count });
     }

@@ -10,6 +10,7 @@ mod laws;
 mod making;
 mod mixing;
 mod names;
+mod notes;
 mod parting;
 mod plan;
 mod refusals;
@@ -17,7 +18,8 @@ mod trying;
 mod whole;
 
 // A plan is made.
-pub use making::make_plan;
+pub use making::{make_plan, plan_between};
+pub use notes::TextNotes;
 pub use plan::{Plan, PlanLine, PlanList};
 pub use refusals::PlanError;
 

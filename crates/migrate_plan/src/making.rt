@@ -4,18 +4,20 @@ ghost use Rattle.clause_solver.specs.Outcomes.{IsBudget};
 ghost use Rattle.repo_model.specs.Feeding.{IsSuiteOf};
 ghost use Rattle.listed.specs.Lists.{In};
 ghost use Rattle.migrate_plan.specs.Differing.{differing};
+ghost use Rattle.migrate_plan.specs.Notes.{AreTexts, Texts};
 ghost use Rattle.migrate_plan.specs.Plan.{line_behind, lines_behind, plan, settings_of, taken_in};
 ghost use Rattle.migrate_plan.specs.Promises.{AreRight, MixesAreIndexes, TakesSafely, planned_name};
-ghost use Rattle.migrate_plan.specs.Refusals.{Refuses, plan_refusal};
-ghost use Rattle.migrate_plan.specs.Whole.{names_between, IsWhole};
+ghost use Rattle.migrate_plan.specs.Refusals.{Refuses, packages_with, plan_refusal};
+ghost use Rattle.migrate_plan.specs.Whole.{names_between, AreTextsOf, IsWhole};
 ghost use Rattle.migrate_plan.specs.declared.plan.PlanLine.{PlanLine};
 ghost use Rattle.suite_compare.specs.Comparing.{IsOldSide};
 ghost use Rattle.suite_compare.specs.Refusals.{packages_in};
-ghost use Rattle.repo_model.specs.Limits.{most_bytes};
+ghost use Rattle.repo_model.specs.Limits.{most_bytes, most_packages};
 
 use crate::checks::{check_homes, check_length, check_names, check_packages};
 use crate::differing::differing_names;
 use crate::mixing::{is_same_home, mix_with, suite_of};
+use crate::notes::TextNotes;
 use crate::parting::{flags_in, line_in};
 use crate::plan::{Plan, PlanLine, PlanList};
 use crate::refusals::PlanError;
@@ -30,7 +32,6 @@ use suite_compare::{OldSide, SuiteView};
 /// the mix of the two with it and the names taken before is within the clause limit, and breaks nothing of the old index and
 /// leaves nothing open, within a budget of failed leaves a search, from 1 to 1,000,000. The old view is that of the old bytes at the clause limit, with hold or without; the new
 /// suite is that of the new bytes. At most 256 names may differ; for each of them a mix is made, reduced and compared.
-#[tactic(auto, unfolding(crate::specs::Plan::plan, crate::specs::Refusals::plan_refusal))]
 pub fn make_plan(
     alloc: Global,
     old_bytes: &[u8],
@@ -57,36 +58,66 @@ pub fn make_plan(
     ensures each { IfOk result (λ made. AreRight (settings_of budget limit hold) old_bytes.now new_bytes.now [] made.lines) }
     ensures safely { IfOk result (λ made. TakesSafely (settings_of budget limit hold) old_bytes.now new_bytes.now made.lines) }
 {
+    let old_notes = TextNotes::of(alloc, old_bytes)?;
+    let new_notes = TextNotes::of(alloc, new_bytes)?;
+    plan_between(alloc, &old_notes, old, &new_notes, new, budget)
+}
+
+/// The plan that `make_plan` makes, by the notes of the two texts, which need not be kept. The old view and its notes are those of
+/// the old text, and the new suite and its notes those of the new one; the clause limit and hold are those of the view. The budget
+/// of failed leaves a search is from 1 to 1,000,000. The error is the first refusal of the two texts, or want of memory.
+pub fn plan_between(
+    alloc: Global,
+    old_notes: &TextNotes,
+    old: &SuiteView,
+    new_notes: &TextNotes,
+    new: &Suite,
+    budget: u64,
+) -> Result<Plan, PlanError>
+    requires old_short { old_notes.now.length ≤ most_bytes }
+    requires new_short { new_notes.now.length ≤ most_bytes }
+    requires limit { 0 < old.now.limit }
+    requires budget { IsBudget budget }
+    ensures refused { IfErr result (λ error. (texts : Texts) → AreTexts texts old.now.suite old_notes.now new.now new_notes.now → Refuses error (plan_refusal texts.old texts.new)) }
+    ensures accepted { OnOk result ((texts : Texts) → AreTexts texts old.now.suite old_notes.now new.now new_notes.now → plan_refusal texts.old texts.new ≡ None) }
+    ensures plan { let settings = settings_of budget old.now.limit old.now.kernel.hold in
+        IfOk result (λ made. (texts : Texts) → AreTexts texts old.now.suite old_notes.now new.now new_notes.now → made.lines ≡ plan settings texts.old texts.new) }
+    ensures mixes { OnOk result ((texts : Texts) → AreTexts texts old.now.suite old_notes.now new.now new_notes.now → MixesAreIndexes texts.old texts.new) }
+    ensures names { IfOk result (λ made. (texts : Texts) → AreTexts texts old.now.suite old_notes.now new.now new_notes.now → map planned_name made.lines ≡ differing (packages_in texts.old) (packages_in texts.new)) }
+    ensures each { let settings = settings_of budget old.now.limit old.now.kernel.hold in
+        IfOk result (λ made. (texts : Texts) → AreTexts texts old.now.suite old_notes.now new.now new_notes.now → AreRight settings texts.old texts.new [] made.lines) }
+    ensures safely { let settings = settings_of budget old.now.limit old.now.kernel.hold in
+        IfOk result (λ made. (texts : Texts) → AreTexts texts old.now.suite old_notes.now new.now new_notes.now → TakesSafely settings texts.old texts.new made.lines) }
+{
     check_homes(&old.suite.home, &new.home)?;
     let found = differing_names(alloc, &old.suite, new)?;
     let names = found.as_slice();
     check_names(names)?;
     check_packages(alloc, &old.suite, new, names)?;
-    check_length(old_bytes, new_bytes)?;
-    let lines = lines_of(alloc, old_bytes, old, new_bytes, new, names, budget)?;
+    check_length(old_notes.length, new_notes.length)?;
+    let lines = lines_of(alloc, old_notes, old, new_notes, new, names, budget)?;
     Ok(Plan { lines })
 }
 
 // The lines of the names that differ, one after the other.
 fn lines_of(
     alloc: Global,
-    old_bytes: &[u8],
+    old_notes: &TextNotes,
     old: &SuiteView,
-    new_bytes: &[u8],
+    new_notes: &TextNotes,
     new: &Suite,
     names: &[Bytes],
     budget: u64,
 ) -> Result<PlanList, AllocError>
-    requires old { IsSuiteOf old_bytes.now old.now.suite.packages old.now.suite.home.name }
-    requires new { IsSuiteOf new_bytes.now new.now.packages new.now.home.name }
-    requires names { names.now ≡ differing (packages_in old_bytes.now) (packages_in new_bytes.now) }
-    requires within { plan_refusal old_bytes.now new_bytes.now ≡ None }
+    requires names { names.now ≡ differing old.now.suite.packages new.now.packages }
+    requires few { packages_with old.now.suite.packages new.now.packages names.now ≤ most_packages }
     requires limit { 0 < old.now.limit }
     requires budget { IsBudget budget }
-    ensures { IfOk result (λ lines. lines ≡ lines_behind (line_behind (settings_of budget old.now.limit old.now.kernel.hold) old_bytes.now new_bytes.now) [] names.now) }
+    ensures { let settings = settings_of budget old.now.limit old.now.kernel.hold in
+        IfOk result (λ lines. (texts : Texts) → AreTexts texts old.now.suite old_notes.now new.now new_notes.now → lines ≡ lines_behind (line_behind settings texts.old texts.new) [] names.now) }
 {
     let side = OldSide::new(alloc, old, budget)?;
-    let lines = lines_with(alloc, old_bytes, &side, new_bytes, new, names);
+    let lines = lines_with(alloc, old_notes, &side, new_notes, new, names);
     drop(side);
     lines
 }
@@ -94,21 +125,20 @@ fn lines_of(
 // The same, where the side of the old view was made.
 fn lines_with(
     alloc: Global,
-    old_bytes: &[u8],
+    old_notes: &TextNotes,
     old: &OldSide,
-    new_bytes: &[u8],
+    new_notes: &TextNotes,
     new: &Suite,
     names: &[Bytes],
 ) -> Result<PlanList, AllocError>
     requires side { IsOldSide old.now }
-    requires old { IsSuiteOf old_bytes.now old.now.view.now.suite.packages old.now.view.now.suite.home.name }
-    requires new { IsSuiteOf new_bytes.now new.now.packages new.now.home.name }
-    requires names { names.now ≡ differing (packages_in old_bytes.now) (packages_in new_bytes.now) }
-    requires within { plan_refusal old_bytes.now new_bytes.now ≡ None }
+    requires names { names.now ≡ differing old.now.view.now.suite.packages new.now.packages }
+    requires few { packages_with old.now.view.now.suite.packages new.now.packages names.now ≤ most_packages }
     requires limit { 0 < old.now.view.now.limit }
-    ensures { let settings = settings_of old.now.budget old.now.view.now.limit old.now.view.now.kernel.hold in IfOk result (λ lines. lines ≡ lines_behind (line_behind settings old_bytes.now new_bytes.now) [] names.now) }
+    ensures { let settings = settings_of old.now.budget old.now.view.now.limit old.now.view.now.kernel.hold in
+        IfOk result (λ lines. (texts : Texts) → AreTexts texts old.now.view.now.suite old_notes.now new.now new_notes.now → lines ≡ lines_behind (line_behind settings texts.old texts.new) [] names.now) }
 {
-    let whole = whole_of(alloc, old_bytes, old, new_bytes, new, names)?;
+    let whole = whole_of(alloc, old_notes, old, new_notes, new, names)?;
     let lines = lines_beside(alloc, old, &whole, names);
     drop(whole);
     lines
@@ -123,9 +153,10 @@ fn lines_beside(
 ) -> Result<PlanList, AllocError>
     requires side { IsOldSide old.now }
     requires whole { IsWhole old.now whole.now }
-    requires names { names.now ≡ names_between whole.now }
+    requires names { names.now ≡ names_between old.now whole.now }
     requires limit { 0 < old.now.view.now.limit }
-    ensures { let settings = settings_of old.now.budget old.now.view.now.limit old.now.view.now.kernel.hold in IfOk result (λ lines. lines ≡ lines_behind (line_behind settings whole.now.old_bytes.now whole.now.new_bytes.now) [] names.now) }
+    ensures { let settings = settings_of old.now.budget old.now.view.now.limit old.now.view.now.kernel.hold in
+        IfOk result (λ lines. (texts : Texts) → AreTextsOf texts old.now whole.now → lines ≡ lines_behind (line_behind settings texts.old texts.new) [] names.now) }
 {
     let mut lines = PlanList::new(alloc);
     let mut taken = Vec::new(alloc);
@@ -147,17 +178,19 @@ fn try_name(
 ) -> Result<PlanLine, AllocError>
     requires side { IsOldSide old.now }
     requires whole { IsWhole old.now whole.now }
-    requires taken { (other : List ℕ) → In other taken.now → In other (names_between whole.now) }
-    requires name { In name.now (names_between whole.now) }
+    requires taken { (other : List ℕ) → In other taken.now → In other (names_between old.now whole.now) }
+    requires name { In name.now (names_between old.now whole.now) }
     requires limit { 0 < old.now.view.now.limit }
-    ensures { let settings = settings_of old.now.budget old.now.view.now.limit old.now.view.now.kernel.hold in IfOk result (λ line. (lines : List PlanLine) → taken.now ≡ taken_in lines → line ≡ line_behind settings whole.now.old_bytes.now whole.now.new_bytes.now lines name.now) }
+    ensures named { IfOk result (λ line. planned_name line ≡ name.now) }
+    ensures line { let settings = settings_of old.now.budget old.now.view.now.limit old.now.view.now.kernel.hold in
+        IfOk result (λ line. (texts : Texts) → AreTextsOf texts old.now whole.now → (lines : List PlanLine) → taken.now ≡ taken_in lines → line ≡ line_behind settings texts.old texts.new lines name.now) }
 {
     let suite = &old.view.suite;
     let mix = mix_with(
         alloc,
-        whole.old_bytes,
+        whole.old_notes,
         suite,
-        whole.new_bytes,
+        whole.new_notes,
         whole.new,
         taken,
         name,

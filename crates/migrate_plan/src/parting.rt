@@ -1,5 +1,5 @@
 //! The line of a name by the packages of its mix, as a part of those that all mixes are made of.
-ghost use Rattle.std.specs.Prelude.{◌≡◌, ◌<◌, ◌++◌, ℕ, List, None, length, map, IfOk};
+ghost use Rattle.std.specs.Prelude.{◌≡◌, ◌<◌, ◌++◌, ℕ, List, None, false, length, map, IfOk};
 ghost use Rattle.std.specs.List.{items_where_true};
 ghost use Rattle.clause_pool.specs.Interned.{IsPool};
 ghost use Rattle.listed.specs.Lists.{In};
@@ -7,7 +7,8 @@ ghost use Rattle.repo_model.specs.Repository.{suite_repository};
 ghost use Rattle.row_book.specs.Book.{repository_of, Sound};
 ghost use Rattle.suite_compare.specs.Comparing.{IsOldSide};
 ghost use Rattle.suite_compare.specs.Views.{IsKernelOf};
-ghost use Rattle.suite_part.specs.Parts.{chosen_in};
+ghost use Rattle.suite_part.specs.Bases.{IsBase};
+ghost use Rattle.suite_part.specs.Parts.{chosen_in, part};
 ghost use Rattle.migrate_plan.specs.Plan.{outcome_of, settings_of};
 ghost use Rattle.migrate_plan.specs.Trying.{outcome_by, told_of};
 ghost use Rattle.migrate_plan.specs.Whole.{packages_of_both, IsKernelAt, IsWhole};
@@ -17,12 +18,12 @@ use crate::trying::line_by_first;
 use crate::whole::Whole;
 use clause_pool::{NumList, Pool};
 use deb_version::Bytes;
-use kernel_rounds::{Kernel, RoundError, extract};
+use kernel_rounds::{Kernel, RoundError, extract, extract_beside};
 use listed::Listed;
 use row_book::Book;
 use std::alloc::{AllocError, Global};
 use suite_compare::{OldSide, first_line_by};
-use suite_part::{Chosen, part_of};
+use suite_part::{Base, Chosen, part_of};
 
 /// For each package of a whole whether it is in a mix: those of the old suite come first, and of the new one only those that were added.
 pub(crate) fn flags_in(
@@ -91,9 +92,58 @@ fn kernel_in(
     ensures { IfOk result (IsKernelAt pool.new old.now.view.now.limit old.now.view.now.kernel.hold (suite_repository whole.now.home (items_where_true chosen.now.flags.items (packages_of_both old.now whole.now)))) }
 {
     let book = part_of(alloc, pool, &whole.pool, &whole.book, chosen)?;
-    let made = kernel_of(alloc, pool, &book, old.view.limit, old.view.kernel.hold);
+    let made = kernel_by(alloc, pool, &book, old, whole, chosen);
     drop(book);
     made
+}
+
+// The kernel of the book of the chosen packages of a whole; none where it passes the clause limit.
+fn kernel_by(
+    alloc: Global,
+    pool: &mut Pool,
+    book: &Book,
+    old: &OldSide,
+    whole: &Whole,
+    chosen: &Chosen,
+) -> Result<Option<Kernel>, AllocError>
+    requires book { Sound pool.old book.now }
+    requires limit { 0 < old.now.view.now.limit }
+    requires whole { IsWhole old.now whole.now }
+    requires flags { length chosen.now.flags.items ≡ length whole.now.book.rows }
+    requires part { repository_of pool.old book.now ≡ part chosen.now.flags.items (repository_of whole.now.pool whole.now.book) }
+    ensures { IfOk result (IsKernelAt pool.new old.now.view.now.limit old.now.view.now.kernel.hold (repository_of pool.old book.now)) }
+{
+    let limit = old.view.limit;
+    if let Some(base) = &whole.base {
+        let made = kernel_beside(alloc, pool, book, whole, base, chosen, limit)?;
+        return Ok(made);
+    }
+    kernel_of(alloc, pool, book, limit, old.view.kernel.hold)
+}
+
+// The kernel of the book of the chosen packages of a whole, where rows of those that stay as they are in the old suite are known; none
+// where it passes the clause limit.
+fn kernel_beside(
+    alloc: Global,
+    pool: &mut Pool,
+    book: &Book,
+    whole: &Whole,
+    base: &Base,
+    chosen: &Chosen,
+    limit: u32,
+) -> Result<Option<Kernel>, AllocError>
+    requires book { Sound pool.old book.now }
+    requires limit { 0 < limit }
+    requires whole { Sound whole.now.pool whole.now.book }
+    requires base { IsBase whole.now.pool whole.now.book base.now }
+    requires same { base.now.limit ≡ limit }
+    requires flags { length chosen.now.flags.items ≡ length whole.now.book.rows }
+    requires part { repository_of pool.old book.now ≡ part chosen.now.flags.items (repository_of whole.now.pool whole.now.book) }
+    ensures { IfOk result (IsKernelAt pool.new limit false (repository_of pool.old book.now)) }
+{
+    let known = base.known_rows(alloc, pool, &whole.book, chosen)?;
+    let made = extract_beside(alloc, pool, book, limit, &known)?;
+    Ok(made)
 }
 
 // The kernel of a book; none where it passes the clause limit.

@@ -1,17 +1,18 @@
 //! What all mixes of two indexes are made of, so that no mix is read, numbered and looked up anew.
-ghost use Rattle.std.specs.Prelude.{◌≡◌, ◌++◌, ◌≤◌, ◌+◌, None, length, replicate, true, IfOk};
+ghost use Rattle.std.specs.Prelude.{◌≡◌, ◌<◌, ◌++◌, ◌≤◌, ◌+◌, length, replicate, true, IfOk};
 ghost use Rattle.std.specs.List.{items_where_true};
-ghost use Rattle.repo_model.specs.Feeding.{IsSuiteOf};
+ghost use Rattle.std.specs.Option.{ForSome};
 ghost use Rattle.repo_model.specs.Limits.{most_packages};
 ghost use Rattle.repo_model.specs.Repository.{suite_repository};
+ghost use Rattle.row_book.specs.Book.{Sound};
 ghost use Rattle.suite_compare.specs.Bearers.{bearers_of};
-ghost use Rattle.suite_compare.specs.Refusals.{packages_in};
 ghost use Rattle.suite_compare.specs.Views.{IsBookOf};
 ghost use Rattle.migrate_plan.specs.Differing.{differing};
-ghost use Rattle.migrate_plan.specs.Refusals.{plan_refusal};
-ghost use Rattle.migrate_plan.specs.Whole.{IsWhole};
+ghost use Rattle.migrate_plan.specs.Refusals.{packages_with};
+ghost use Rattle.migrate_plan.specs.Whole.{IsOldBase, IsWhole};
 
 use crate::flags::taken_flags;
+use crate::notes::TextNotes;
 use clause_pool::{NumList, Pool};
 use deb_version::Bytes;
 use relation_fields::Home;
@@ -19,15 +20,16 @@ use repo_model::Suite;
 use row_book::Book;
 use std::alloc::{AllocError, Global};
 use suite_compare::{OldSide, bearers_of};
+use suite_part::Base;
 
 /// Two indexes, and all packages that mixes of them have: those of the old one, and behind them those of the new one whose names
 /// differ.
 #[derive(Drop)]
 pub(crate) struct Whole<'a> {
-    /// The old index.
-    pub(crate) old_bytes: &'a [u8],
-    /// The new index.
-    pub(crate) new_bytes: &'a [u8],
+    /// The notes of the text of the old index.
+    pub(crate) old_notes: &'a TextNotes,
+    /// The notes of the text of the new index.
+    pub(crate) new_notes: &'a TextNotes,
     /// The suite of the new index.
     pub(crate) new: &'a Suite,
     /// For each package of the new suite whether its name differs.
@@ -40,23 +42,25 @@ pub(crate) struct Whole<'a> {
     pub(crate) book: Book,
     /// For each name of the old suite those of them that bear it.
     pub(crate) named: Vec<NumList>,
+    /// What is known of the part that the old packages make, without hold.
+    pub(crate) base: Option<Base>,
 }
 
 /// What all mixes of an old and a new index are made of.
 pub(crate) fn whole_of<'a>(
     alloc: Global,
-    old_bytes: &'a [u8],
+    old_notes: &'a TextNotes,
     old: &OldSide,
-    new_bytes: &'a [u8],
+    new_notes: &'a TextNotes,
     new: &'a Suite,
     names: &[Bytes],
 ) -> Result<Whole<'a>, AllocError>
-    requires old { IsSuiteOf old_bytes.now old.now.view.now.suite.packages old.now.view.now.suite.home.name }
-    requires new { IsSuiteOf new_bytes.now new.now.packages new.now.home.name }
-    requires names { names.now ≡ differing (packages_in old_bytes.now) (packages_in new_bytes.now) }
-    requires free { plan_refusal old_bytes.now new_bytes.now ≡ None }
-    ensures old { IfOk result (λ whole. whole.old_bytes.now ≡ old_bytes.now) }
-    ensures new { IfOk result (λ whole. whole.new_bytes.now ≡ new_bytes.now) }
+    requires names { names.now ≡ differing old.now.view.now.suite.packages new.now.packages }
+    requires few { packages_with old.now.view.now.suite.packages new.now.packages names.now ≤ most_packages }
+    requires limit { 0 < old.now.view.now.limit }
+    ensures old { IfOk result (λ whole. whole.old_notes.now ≡ old_notes.now) }
+    ensures new { IfOk result (λ whole. whole.new_notes.now ≡ new_notes.now) }
+    ensures suite { IfOk result (λ whole. whole.new.now ≡ new.now) }
     ensures whole { IfOk result (IsWhole old.now) }
 {
     let added = taken_flags(alloc, new, names)?;
@@ -65,16 +69,38 @@ pub(crate) fn whole_of<'a>(
     let numbered = numbered_of(alloc, old, &suite)?;
     drop(suite);
     let Numbered { pool, book, named } = numbered;
+    let base = base_of(alloc, old, &pool, &book)?;
     Ok(Whole {
-        old_bytes,
-        new_bytes,
+        old_notes,
+        new_notes,
         new,
         added,
         home,
         pool,
         book,
         named,
+        base,
     })
+}
+
+// What is known of the part that the old packages make. With hold a package may stay for what others name, so that no part can be
+// flattened by itself.
+fn base_of(
+    alloc: Global,
+    old: &OldSide,
+    pool: &Pool,
+    book: &Book,
+) -> Result<Option<Base>, AllocError>
+    requires book { Sound pool.now book.now }
+    requires count { length old.now.view.now.suite.packages ≤ length book.now.rows }
+    requires limit { 0 < old.now.view.now.limit }
+    ensures { IfOk result (λ base. ForSome base (IsOldBase old.now pool.now book.now)) }
+{
+    if old.view.kernel.hold {
+        return Ok(None);
+    }
+    let base = Base::of(alloc, pool, book, old.view.suite.count(), old.view.limit)?;
+    Ok(base)
 }
 
 // What is made of all packages that mixes have: their repository over a pool, and those that bear each old name.

@@ -4,21 +4,25 @@ use Rattle.coinst_run.specs.Ending.{ending_of}
 use Rattle.coinst_run.specs.Index.{checked_index, index_of}
 use Rattle.coinst_run.specs.Migrate.{plan_answer}
 use Rattle.coinst_run.proofs.Follows.{settled_on, stopped}
-use Rattle.coinst_run.proofs.Migrating.{suite_checked}
+use Rattle.coinst_run.proofs.Migrating.{checked_read}
 use Rattle.coinst_run.proofs.migrate.from_both.Goals as goal
 
-pub plan_report-report-requires-clause-newer : goal.plan_report-report-requires-clause-newer
-plan_report-report-requires-clause-newer c = suite_checked c.args.new.now c.args.newer.now c.in_ok-suite.suite.home c.in_ok-suite.suite.packages c.in_ok-suite.ensures.suite
+pub plan_report-report-requires-clause-newer_short : goal.plan_report-report-requires-clause-newer_short
+plan_report-report-requires-clause-newer_short c = rw c.in_ok-noted.ensures.read.noted.length_is c.requires.newer_short
 
 pub returns : goal.returns
-returns c =
+returns c = λ text suite noted.
     let settings = settings_of c.args.budget c.args.view.now.limit c.args.view.now.kernel.hold in
-    settled_on (checked_index c.args.new.now c.args.newer.now) (index_of c.in_ok-suite.suite) (λ index. plan_answer c.args.old.now c.args.new.now settings c.args.text.now c.args.newer.now)
-    (ending_of c.plan_report-report.result) c.in_ok-suite.ensures.suite c.plan_report-report.ensures
+    let newer = c.args.newer.items in
+    let made = c.in_ok-noted.noted.suite in
+    let read = c.in_ok-noted.ensures.read in
+    settled_on (checked_index c.args.new.now newer) (index_of made) (λ index. plan_answer c.args.old.now c.args.new.now settings text newer)
+    (ending_of c.plan_report-report.result) (checked_read c.args.new.now newer made.home made.packages read.suite_is)
+    (c.plan_report-report.ensures (record { old = text; new = newer }) (record { old_is = suite; old_noted = noted; new_is = read.suite_is; new_noted = read.noted }))
 
--- the newer text has a fault
-pub returns-in_err-suite : goal.returns-in_err-suite
-returns-in_err-suite c =
+-- the newer text has a fault, or no memory was found
+pub returns-in_err-noted : goal.returns-in_err-noted
+returns-in_err-noted c =
     let settings = settings_of c.args.budget c.args.view.now.limit c.args.view.now.kernel.hold in
     let p = err_from_is_err_and c.from_residual.result c.from_residual.ensures.1 in rw (p.1, p.2)
-    (stopped (checked_index c.args.new.now c.args.newer.now) (λ index. plan_answer c.args.old.now c.args.new.now settings c.args.text.now c.args.newer.now) _ c.in_err-suite.ensures.stop)
+    (λ text suite noted. stopped (checked_index c.args.new.now c.args.newer.items) (λ index. plan_answer c.args.old.now c.args.new.now settings text c.args.newer.items) _ c.in_err-noted.ensures.stop)

@@ -1,23 +1,22 @@
 use Rattle.std.proofs.lemmas.Result.{err_from_is_err_and}
 use Rattle.migrate_plan.specs.Plan.{settings_of}
-use Rattle.suite_compare.specs.Refusals.{home_in, packages_in}
-use Rattle.coinst_run.specs.IndexKernel.{index_kernel}
 use Rattle.coinst_run.specs.Migrate.{kernel_at, new_course, old_answer}
-use Rattle.coinst_run.proofs.Follows.{settled_follows, stage_passed, stopped}
+use Rattle.coinst_run.proofs.Follows.{settled_follows, stopped}
+use Rattle.coinst_run.proofs.Migrating.{stops_before}
 use Rattle.coinst_run.proofs.migrate.from_older.Goals as goal
 
-pub returns : goal.returns
-returns g c =
-    let settings = settings_of c.args.with.budget c.args.with.clause_limit c.args.with.hold in
-    let text = c.args.text.now in
-    stage_passed (kernel_at c.args.old.now settings.limit settings.hold text) (index_kernel settings.limit settings.hold (home_in text) (packages_in text)) (λ kernel. new_course c.args.old.now c.args.new.now settings text) _
-    c.in_ok-view.ensures.kernel _ _ (rw (c.in_ok-view.ensures.limit, c.in_ok-view.ensures.hold) at c.from_view-report.ensures)
+pub from_noted-requires-clause-short : goal.from_noted-requires-clause-short
+from_noted-requires-clause-short g c = rw c.in_ok-noted.ensures.read.noted.length_is c.requires.short
 
--- the text has a fault, or passes the clause limit, or no memory was found
-pub returns-in_err-view : goal.returns-in_err-view
-returns-in_err-view g c =
+pub returns : goal.returns
+returns g c = c.from_noted.ensures c.args.text.items c.in_ok-noted.ensures.read
+
+-- the text has a fault, or no memory was found
+pub returns-in_err-noted : goal.returns-in_err-noted
+returns-in_err-noted g c =
     let settings = settings_of c.args.with.budget c.args.with.clause_limit c.args.with.hold in
-    let text = c.args.text.now in
+    let text = c.args.text.items in
     let p = err_from_is_err_and c.from_residual.result c.from_residual.ensures.1 in rw (p.1, p.2)
     (settled_follows (old_answer c.args.old.now c.args.new.now settings text) _ _
-    (stopped (kernel_at c.args.old.now settings.limit settings.hold text) (λ kernel. new_course c.args.old.now c.args.new.now settings text) _ c.in_err-view.ensures.stop))
+    (stopped (kernel_at c.args.old.now settings.limit settings.hold text) (λ kernel. new_course c.args.old.now c.args.new.now settings text) _
+    (stops_before c.args.old.now text settings.limit settings.hold _ c.in_err-noted.ensures.stop)))

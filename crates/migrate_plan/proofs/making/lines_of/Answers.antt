@@ -1,11 +1,17 @@
-use Rattle.std.proofs.Common.{◌<◌, subst, sym}
-use Rattle.repo_model.specs.Feeding.{IsSuiteOf}
+use Rattle.std.proofs.Common.{◌≡◌, ◌<◌, ◌≤◌, subst, sym}
+use Rattle.repo_model.specs.Limits.{most_packages}
 use Rattle.suite_compare.specs.declared.view.SuiteView.{SuiteView}
+use Rattle.migrate_plan.specs.Differing.{differing}
+use Rattle.migrate_plan.specs.Refusals.{packages_with}
 use Rattle.migrate_plan.proofs.making.lines_of.Goals as goal
 
-pub lines_with-lines-requires-clause-old : goal.lines_with-lines-requires-clause-old
-lines_with-lines-requires-clause-old c =
-    subst (λ (view : SuiteView). IsSuiteOf c.args.old_bytes.now view.suite.packages view.suite.home.name) (sym c.in_ok-side.ensures.view) c.requires.old
+pub lines_with-lines-requires-clause-names : goal.lines_with-lines-requires-clause-names
+lines_with-lines-requires-clause-names c =
+    subst (λ (view : SuiteView). c.args.names.now ≡ differing view.suite.packages c.args.new.now.packages) (sym c.in_ok-side.ensures.view) c.requires.names
+
+pub lines_with-lines-requires-clause-few : goal.lines_with-lines-requires-clause-few
+lines_with-lines-requires-clause-few c =
+    subst (λ (view : SuiteView). packages_with view.suite.packages c.args.new.now.packages c.args.names.now ≤ most_packages) (sym c.in_ok-side.ensures.view) c.requires.few
 
 pub lines_with-lines-requires-clause-limit : goal.lines_with-lines-requires-clause-limit
 lines_with-lines-requires-clause-limit c = subst (λ (view : SuiteView). 0 < view.limit) (sym c.in_ok-side.ensures.view) c.requires.limit

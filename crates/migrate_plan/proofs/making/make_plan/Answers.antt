@@ -1,60 +1,62 @@
-use Rattle.std.proofs.Common.{◌∙◌, [], ap, arith, map, refl, subst, sym}
-use Rattle.std.proofs.lemmas.Result.{err_from_is_err_and}
-use Rattle.migrate_plan.specs.Differing.{differing}
-use Rattle.migrate_plan.specs.Plan.{settings_of}
-use Rattle.migrate_plan.specs.Promises.{AreRight, TakesSafely, planned_name}
-use Rattle.migrate_plan.proofs.Checked.{are_read, by_homes, by_length, by_names, by_packages, none_there}
-use Rattle.migrate_plan.proofs.Mixed.{mixes_are_indexes}
-use Rattle.migrate_plan.proofs.Planned.{plan_is, plan_names, plan_right, plan_safe}
+use Rattle.std.proofs.Common.{arith}
+use Rattle.std.proofs.lemmas.Result.{IfErr-weaker, IfOk-weaker, on_ok_weaker}
+use Rattle.migrate_plan.specs.Notes.{AreTexts, Texts}
+use Rattle.migrate_plan.proofs.making.make_plan.Goals.{In_ok-new_notes}
 use Rattle.migrate_plan.proofs.making.make_plan.Goals as goal
 
-pub returns-in_err-check_homes-clause-refused : goal.returns-in_err-check_homes-clause-refused
-returns-in_err-check_homes-clause-refused c =
-    let p = err_from_is_err_and c.from_residual.result c.from_residual.ensures.1 in
-    let read = (are_read c.args.old_bytes.now c.args.new_bytes.now c.args.old.now.suite.home c.args.new.now.home c.args.old.now.suite.packages c.args.new.now.packages c.args.old.now.suite.packages c.args.new.now.packages (differing c.args.old.now.suite.packages c.args.new.now.packages) c.requires.old c.requires.new refl refl refl) in
-    rw (p.1, p.2) (by_homes c.args.old_bytes.now c.args.new_bytes.now c.args.old.now.suite.home c.args.new.now.home c.args.old.now.suite.packages c.args.new.now.packages (differing c.args.old.now.suite.packages c.args.new.now.packages) read _ c.in_err-check_homes.ensures.refused)
+pub of-requires : goal.of-requires
+of-requires c = c.requires.old.fine
 
-pub returns-in_err-check_names-clause-refused : goal.returns-in_err-check_names-clause-refused
-returns-in_err-check_names-clause-refused c =
-    let p = err_from_is_err_and c.from_residual-in_err-check_names.result c.from_residual-in_err-check_names.ensures.1 in
-    let read = (are_read c.args.old_bytes.now c.args.new_bytes.now c.args.old.now.suite.home c.args.new.now.home c.args.old.now.suite.packages c.args.new.now.packages c.args.old.now.suite.packages c.args.new.now.packages c.as_slice-names.result.now c.requires.old c.requires.new refl refl (c.as_slice-names.ensures ∙ c.in_ok-found.ensures)) in
-    rw (p.1, p.2) (by_names c.args.old_bytes.now c.args.new_bytes.now c.args.old.now.suite.home c.args.new.now.home c.args.old.now.suite.packages c.args.new.now.packages c.as_slice-names.result.now read _ c.in_ok-check_homes.ensures.fine c.in_err-check_names.ensures.refused)
+pub of-requires-2 : goal.of-requires-2
+of-requires-2 c = c.requires.new.fine
 
-pub returns-in_err-check_packages-clause-refused : goal.returns-in_err-check_packages-clause-refused
-returns-in_err-check_packages-clause-refused c =
-    let p = err_from_is_err_and c.from_residual-in_err-check_packages.result c.from_residual-in_err-check_packages.ensures.1 in
-    let read = (are_read c.args.old_bytes.now c.args.new_bytes.now c.args.old.now.suite.home c.args.new.now.home c.args.old.now.suite.packages c.args.new.now.packages c.args.old.now.suite.packages c.args.new.now.packages c.as_slice-names.result.now c.requires.old c.requires.new refl refl (c.as_slice-names.ensures ∙ c.in_ok-found.ensures)) in
-    rw (p.1, p.2) (by_packages c.args.old_bytes.now c.args.new_bytes.now c.args.old.now.suite.home c.args.new.now.home c.args.old.now.suite.packages c.args.new.now.packages c.as_slice-names.result.now read _ c.in_ok-check_homes.ensures.fine c.in_ok-check_names.ensures.fine c.in_err-check_packages.ensures.refused)
+pub plan_between-requires-clause-old_short : goal.plan_between-requires-clause-old_short
+plan_between-requires-clause-old_short c = rw c.in_ok-old_notes.ensures.length_is c.requires.old_short
 
-pub returns-in_err-check_length-clause-refused : goal.returns-in_err-check_length-clause-refused
-returns-in_err-check_length-clause-refused c =
-    let p = err_from_is_err_and c.from_residual-in_err-check_length.result c.from_residual-in_err-check_length.ensures.1 in
-    let read = (are_read c.args.old_bytes.now c.args.new_bytes.now c.args.old.now.suite.home c.args.new.now.home c.args.old.now.suite.packages c.args.new.now.packages c.args.old.now.suite.packages c.args.new.now.packages c.as_slice-names.result.now c.requires.old c.requires.new refl refl (c.as_slice-names.ensures ∙ c.in_ok-found.ensures)) in
-    rw (p.1, p.2) (by_length c.args.old_bytes.now c.args.new_bytes.now c.args.old.now.suite.home c.args.new.now.home c.args.old.now.suite.packages c.args.new.now.packages c.as_slice-names.result.now read _ c.in_ok-check_homes.ensures.fine c.in_ok-check_names.ensures.fine c.in_ok-check_packages.ensures.fine c.in_err-check_length.ensures.refused)
+pub plan_between-requires-clause-new_short : goal.plan_between-requires-clause-new_short
+plan_between-requires-clause-new_short c = rw c.in_ok-new_notes.ensures.length_is c.requires.new_short
 
-pub lines_of-requires-clause-names : goal.lines_of-requires-clause-names
-lines_of-requires-clause-names c = (are_read c.args.old_bytes.now c.args.new_bytes.now c.args.old.now.suite.home c.args.new.now.home c.args.old.now.suite.packages c.args.new.now.packages c.args.old.now.suite.packages c.args.new.now.packages c.as_slice-names.result.now c.requires.old c.requires.new refl refl (c.as_slice-names.ensures ∙ c.in_ok-found.ensures)).names_are
+pub plan_between-requires-clause-limit : goal.plan_between-requires-clause-limit
+plan_between-requires-clause-limit c = omega (arith, c.requires.old_limit, c.requires.limit)
 
-pub lines_of-requires-clause-within : goal.lines_of-requires-clause-within
-lines_of-requires-clause-within c = none_there c.args.old_bytes.now c.args.new_bytes.now c.args.old.now.suite.home c.args.new.now.home c.args.old.now.suite.packages c.args.new.now.packages c.as_slice-names.result.now (are_read c.args.old_bytes.now c.args.new_bytes.now c.args.old.now.suite.home c.args.new.now.home c.args.old.now.suite.packages c.args.new.now.packages c.args.old.now.suite.packages c.args.new.now.packages c.as_slice-names.result.now c.requires.old c.requires.new refl refl (c.as_slice-names.ensures ∙ c.in_ok-found.ensures)) c.in_ok-check_homes.ensures.fine c.in_ok-check_names.ensures.fine c.in_ok-check_packages.ensures.fine c.in_ok-check_length.ensures.fine
+-- the two texts
+abbrev texts : In_ok-new_notes → Texts
+texts c = record { old = c.args.old_bytes.now; new = c.args.new_bytes.now }
 
-pub lines_of-requires-clause-limit : goal.lines_of-requires-clause-limit
-lines_of-requires-clause-limit c = omega (arith, c.requires.old_limit, c.requires.limit)
+are : (c : In_ok-new_notes) → AreTexts (texts c) c.args.old.now.suite c.in_ok-old_notes.old_notes c.args.new.now c.in_ok-new_notes.new_notes
+are c = record { old_is = c.requires.old; old_noted = c.in_ok-old_notes.ensures; new_is = c.requires.new; new_noted = c.in_ok-new_notes.ensures }
+
+pub returns-clause-refused : goal.returns-clause-refused
+returns-clause-refused c =
+    let read = (goal.at.returns-clause-refused c).In_ok-new_notes in
+    IfErr-weaker c.plan_between.result _ _ (λ error refuses. refuses (texts read) (are read)) c.plan_between.ensures.refused
 
 pub returns-clause-accepted : goal.returns-clause-accepted
-returns-clause-accepted c = none_there c.args.old_bytes.now c.args.new_bytes.now c.args.old.now.suite.home c.args.new.now.home c.args.old.now.suite.packages c.args.new.now.packages c.as_slice-names.result.now (are_read c.args.old_bytes.now c.args.new_bytes.now c.args.old.now.suite.home c.args.new.now.home c.args.old.now.suite.packages c.args.new.now.packages c.args.old.now.suite.packages c.args.new.now.packages c.as_slice-names.result.now c.requires.old c.requires.new refl refl (c.as_slice-names.ensures ∙ c.in_ok-found.ensures)) c.in_ok-check_homes.ensures.fine c.in_ok-check_names.ensures.fine c.in_ok-check_packages.ensures.fine c.in_ok-check_length.ensures.fine
+returns-clause-accepted c =
+    let read = (goal.at.returns-clause-accepted c).In_ok-new_notes in
+    on_ok_weaker c.plan_between.result (λ holds. holds (texts read) (are read)) c.plan_between.ensures.accepted
 
 pub returns-clause-plan : goal.returns-clause-plan
-returns-clause-plan c = plan_is c.args.budget c.args.limit c.args.old.now.limit c.args.hold c.args.old.now.kernel.hold c.args.old_bytes.now c.args.new_bytes.now c.as_slice-names.result.now c.in_ok-lines.lines c.requires.old_limit c.requires.old_hold (are_read c.args.old_bytes.now c.args.new_bytes.now c.args.old.now.suite.home c.args.new.now.home c.args.old.now.suite.packages c.args.new.now.packages c.args.old.now.suite.packages c.args.new.now.packages c.as_slice-names.result.now c.requires.old c.requires.new refl refl (c.as_slice-names.ensures ∙ c.in_ok-found.ensures)).names_are c.in_ok-lines.ensures
+returns-clause-plan c =
+    let read = (goal.at.returns-clause-plan c).In_ok-new_notes in
+    IfOk-weaker c.plan_between.result _ _ (λ made holds. holds (texts read) (are read)) (rw (c.requires.old_limit, c.requires.old_hold) at c.plan_between.ensures.plan)
 
 pub returns-clause-mixes : goal.returns-clause-mixes
-returns-clause-mixes c = mixes_are_indexes c.args.old_bytes.now c.args.new_bytes.now c.requires.old.fine c.requires.new.fine (none_there c.args.old_bytes.now c.args.new_bytes.now c.args.old.now.suite.home c.args.new.now.home c.args.old.now.suite.packages c.args.new.now.packages c.as_slice-names.result.now (are_read c.args.old_bytes.now c.args.new_bytes.now c.args.old.now.suite.home c.args.new.now.home c.args.old.now.suite.packages c.args.new.now.packages c.args.old.now.suite.packages c.args.new.now.packages c.as_slice-names.result.now c.requires.old c.requires.new refl refl (c.as_slice-names.ensures ∙ c.in_ok-found.ensures)) c.in_ok-check_homes.ensures.fine c.in_ok-check_names.ensures.fine c.in_ok-check_packages.ensures.fine c.in_ok-check_length.ensures.fine)
+returns-clause-mixes c =
+    let read = (goal.at.returns-clause-mixes c).In_ok-new_notes in
+    on_ok_weaker c.plan_between.result (λ holds. holds (texts read) (are read)) c.plan_between.ensures.mixes
 
 pub returns-clause-names : goal.returns-clause-names
-returns-clause-names c = ap (map planned_name) (plan_is c.args.budget c.args.limit c.args.old.now.limit c.args.hold c.args.old.now.kernel.hold c.args.old_bytes.now c.args.new_bytes.now c.as_slice-names.result.now c.in_ok-lines.lines c.requires.old_limit c.requires.old_hold (are_read c.args.old_bytes.now c.args.new_bytes.now c.args.old.now.suite.home c.args.new.now.home c.args.old.now.suite.packages c.args.new.now.packages c.args.old.now.suite.packages c.args.new.now.packages c.as_slice-names.result.now c.requires.old c.requires.new refl refl (c.as_slice-names.ensures ∙ c.in_ok-found.ensures)).names_are c.in_ok-lines.ensures) ∙ plan_names (settings_of c.args.budget c.args.limit c.args.hold) c.args.old_bytes.now c.args.new_bytes.now
+returns-clause-names c =
+    let read = (goal.at.returns-clause-names c).In_ok-new_notes in
+    IfOk-weaker c.plan_between.result _ _ (λ made holds. holds (texts read) (are read)) c.plan_between.ensures.names
 
 pub returns-clause-each : goal.returns-clause-each
-returns-clause-each c = subst (AreRight (settings_of c.args.budget c.args.limit c.args.hold) c.args.old_bytes.now c.args.new_bytes.now []) (sym (plan_is c.args.budget c.args.limit c.args.old.now.limit c.args.hold c.args.old.now.kernel.hold c.args.old_bytes.now c.args.new_bytes.now c.as_slice-names.result.now c.in_ok-lines.lines c.requires.old_limit c.requires.old_hold (are_read c.args.old_bytes.now c.args.new_bytes.now c.args.old.now.suite.home c.args.new.now.home c.args.old.now.suite.packages c.args.new.now.packages c.args.old.now.suite.packages c.args.new.now.packages c.as_slice-names.result.now c.requires.old c.requires.new refl refl (c.as_slice-names.ensures ∙ c.in_ok-found.ensures)).names_are c.in_ok-lines.ensures)) (plan_right (settings_of c.args.budget c.args.limit c.args.hold) c.args.old_bytes.now c.args.new_bytes.now)
+returns-clause-each c =
+    let read = (goal.at.returns-clause-each c).In_ok-new_notes in
+    IfOk-weaker c.plan_between.result _ _ (λ made holds. holds (texts read) (are read)) (rw (c.requires.old_limit, c.requires.old_hold) at c.plan_between.ensures.each)
 
 pub returns-clause-safely : goal.returns-clause-safely
-returns-clause-safely c = subst (TakesSafely (settings_of c.args.budget c.args.limit c.args.hold) c.args.old_bytes.now c.args.new_bytes.now) (sym (plan_is c.args.budget c.args.limit c.args.old.now.limit c.args.hold c.args.old.now.kernel.hold c.args.old_bytes.now c.args.new_bytes.now c.as_slice-names.result.now c.in_ok-lines.lines c.requires.old_limit c.requires.old_hold (are_read c.args.old_bytes.now c.args.new_bytes.now c.args.old.now.suite.home c.args.new.now.home c.args.old.now.suite.packages c.args.new.now.packages c.args.old.now.suite.packages c.args.new.now.packages c.as_slice-names.result.now c.requires.old c.requires.new refl refl (c.as_slice-names.ensures ∙ c.in_ok-found.ensures)).names_are c.in_ok-lines.ensures)) (plan_safe (settings_of c.args.budget c.args.limit c.args.hold) c.args.old_bytes.now c.args.new_bytes.now c.requires.old.fine c.requires.new.fine)
+returns-clause-safely c =
+    let read = (goal.at.returns-clause-safely c).In_ok-new_notes in
+    IfOk-weaker c.plan_between.result _ _ (λ made holds. holds (texts read) (are read)) (rw (c.requires.old_limit, c.requires.old_hold) at c.plan_between.ensures.safely)

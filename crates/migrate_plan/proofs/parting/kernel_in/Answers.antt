@@ -10,7 +10,10 @@ returns c =
     let flags = c.args.chosen.now.flags.items in
     let whole = c.args.whole.now in
     let same = c.in_ok-book.ensures.part ∙ ap (part flags) c.requires.whole.book_is.repository ∙ sym (repository_part whole.home (packages_of_both c.args.old.now whole) flags c.requires.flags) in
-    kernel_alike _ c.args.old.now.view.now.limit c.args.old.now.view.now.kernel.hold _ _ same c.kernel_of-made.result c.kernel_of-made.ensures
+    kernel_alike _ c.args.old.now.view.now.limit c.args.old.now.view.now.kernel.hold _ _ same c.kernel_by-made.result c.kernel_by-made.ensures
 
 pub part_of-requires-clause-flags : goal.part_of-requires-clause-flags
 part_of-requires-clause-flags c = c.requires.flags ∙ sym (book_long _ c.args.whole.now.book c.args.whole.now.home (packages_of_both c.args.old.now c.args.whole.now) c.requires.whole.book_is)
+
+pub kernel_by-made-requires-clause-flags : goal.kernel_by-made-requires-clause-flags
+kernel_by-made-requires-clause-flags c = c.requires.flags ∙ sym (book_long _ c.args.whole.now.book c.args.whole.now.home (packages_of_both c.args.old.now c.args.whole.now) c.requires.whole.book_is)

@@ -1,0 +1,24 @@
+use Rattle.std.proofs.Common.{◌≡◌, false, sym, subst}
+use Rattle.row_book.specs.Book.{repository_of}
+use Rattle.row_book.proofs.Books.{repository_kept, sound_kept}
+use Rattle.suite_part.proofs.BaseMade.{base_fits}
+use Rattle.migrate_plan.specs.Whole.{IsKernelAt}
+use Rattle.migrate_plan.proofs.Parted.{made_beside}
+use Rattle.migrate_plan.proofs.parting.kernel_beside.Goals as goal
+
+pub known_rows-requires-clause-fits : goal.known_rows-requires-clause-fits
+known_rows-requires-clause-fits c = base_fits c.args.whole.now.pool c.args.whole.now.book c.args.base.now c.requires.whole c.requires.base
+
+pub extract_beside-requires-clause-sound : goal.extract_beside-requires-clause-sound
+extract_beside-requires-clause-sound c = sound_kept c.args.pool.now c.known_rows.new.pool c.requires.book.rows.is_pool c.known_rows.ensures.kept c.args.book.now c.requires.book
+
+pub extract_beside-requires-clause-known : goal.extract_beside-requires-clause-known
+extract_beside-requires-clause-known c =
+    let same : repository_of c.known_rows.new.pool c.args.book.now ≡ repository_of c.args.pool.now c.args.book.now = repository_kept c.args.pool.now c.known_rows.new.pool c.requires.book.rows.is_pool c.known_rows.ensures.kept c.args.book.now c.requires.book in
+    rw (same, c.requires.part, sym c.requires.same, c.deref.ensures.value) (c.in_ok-known.ensures.known c.args.whole.now.pool c.requires.whole c.requires.base)
+
+pub returns : goal.returns
+returns c =
+    let same : repository_of c.known_rows.new.pool c.args.book.now ≡ repository_of c.args.pool.now c.args.book.now = repository_kept c.args.pool.now c.known_rows.new.pool c.requires.book.rows.is_pool c.known_rows.ensures.kept c.args.book.now c.requires.book in
+    subst (λ R. IsKernelAt c.extract_beside.new.pool c.args.limit false R c.in_ok-made.made) same
+    (made_beside _ _ c.args.limit _ c.in_ok-made.made c.in_ok-made.ensures.kernel c.in_ok-made.ensures.hold c.in_ok-made.ensures.passed)

@@ -4,13 +4,13 @@ use Rattle.std.specs.Prelude.{count_by}
 use Rattle.std.specs.List.{list_any}
 use Rattle.std.specs.Option.{is_some, unwrap_or}
 use Rattle.std.proofs.lemmas.Bool.{cases_Bool, cases_eq, cases_lt, both_ways}
-use Rattle.std.proofs.lemmas.List.{length-map, length-append, length-replicate, get_or-replicate, get_or_past, get_or_default, get_or-set_same, get_or-set_other, length-set, map-append, map-id, map_more, take_more}
+use Rattle.std.proofs.lemmas.List.{length-map, length-append, length-replicate, get_or-replicate, get_or_past, get_or_default, get_or-set_same, get_or-set_other, get_or-map, length-set, map-append, map-id, map_more, take_more}
 use Rattle.std.proofs.lemmas.List.Sums.{sum_by-set}
 use Rattle.std.proofs.lemmas.Simd.{map-map}
 use Rattle.clause_pool.specs.Interned.{Interned, IsIdOf, IsPool, Kept, clause_at, clauses_at, ids_at, row_at}
 use Rattle.clause_pool.proofs.Interned.{row_stays}
 use Rattle.listed.specs.Lists.{In, here}
-use Rattle.listed.proofs.{Bools.{cases_Option}, Lists.{In_append_cases, In_append_left, In_append_right, In_at, In_cases, In_map, In_map_cases, item_in, In_none}}
+use Rattle.listed.proofs.{Bools.{cases_Option}, Lists.{In_append_cases, In_append_left, In_append_right, In_at, In_cases, In_map, In_map_cases, In_place, item_in, In_none}}
 use Rattle.row_book.specs.declared.book.Book.{Book}
 use Rattle.row_book.specs.Book.{AreConflicts, Sound, repository_of}
 use Rattle.row_book.specs.Flags.{flag}
@@ -22,9 +22,9 @@ use Rattle.row_book.specs.Support.{row}
 use Rattle.row_book.specs.Uses.{row_id}
 use Rattle.row_book.specs.Flattening.{core_of, flat, has_conflict, held_of, packages, passes, remaining_after, rows_over}
 use Rattle.row_book.proofs.{Books.{clauses_row}, Flags.{flag_in}, Numbers.{at_numbers, length_numbers, map_same, numbers_more, numbers_parts}}
-use Rattle.clause_flatten.specs.Beside.{AreKnown, AreNeeded, IsFlattened, Needs, known_or, masked}
+use Rattle.clause_flatten.specs.Beside.{AreKnown, AreNeeded, IsFlattened, IsKnownRow, Needs, known_or, masked}
 use Rattle.clause_flatten.specs.Locality.{StandsIn}
-use Rattle.clause_flatten.proofs.{LocalRuns.{flat_is_local_lem, limit_is_local_lem}, Passing.{passes_none}, Rows.{row_is}, Stages.{left_bound, without_hold_lem}, Tables.{table_at, table_length}}
+use Rattle.clause_flatten.proofs.{LocalRuns.{flat_is_local_lem, limit_is_local_lem}, Passing.{passes_none}, Replacing.{same_items}, Rows.{row_is}, Stages.{left_bound, without_hold_lem}, Tables.{table_at, table_length}}
 
 -- one more number that is put to the work
 in_push : (xs : List ℕ) (x n : ℕ) → In n (xs ++ x ∷ []) → In n xs ⊎ (n ≡ x)
@@ -491,6 +491,44 @@ module _ (R : Repository) (known : List (Option ℕ)) (needed : List Bool) (are 
         pick None h = other h
         pick (Some id) h = let w = rows.each p id h in row_stays pool new is kept id w.0 ∙ w.1.is
 
+-- a book of the rows over the core, with the same conflicts
+rows_flat : (pool : Interned) (R : Repository) (made : Book) (limit : ℕ) (held : List ℕ) → IsPool pool → AreConflicts R.conflicts → length made.rows ≡ length R.clauses →
+    ((p : ℕ) → p < length R.clauses → (row_id made.rows p < length pool.rows) × (row_at pool (row_id made.rows p) ≡ row R (core_of limit false R) p)) →
+    made.conflicts ≡ R.conflicts → held ≡ held_of limit false R → passes limit false R ≡ None → IsFlattened pool limit false R made held
+unfolding flat
+rows_flat pool R made limit held is conflicts size rows g h none = record {
+  is = ap₂ together clauses g;
+  held_are = h;
+  sound = record { rows = record { is_pool = is; of_pool = of_pool; numbers = fit }; conflicts = subst AreConflicts (sym g) conflicts };
+  within = none;
+}
+  where
+    together : List (List (List ℕ)) → List (List ℕ) → Repository
+    together xs ys = record { clauses = xs; conflicts = ys }
+
+    core : NumSet
+    core = core_of limit false R
+
+    among : (p : ℕ) → p < length made.rows → p < length R.clauses
+    among p l = omega (arith, l, size)
+
+    clauses : map (row_at pool) made.rows ≡ rows_over R core
+    clauses = same_items (map (row_at pool) made.rows) (rows_over R core) [] (length-map made.rows (row_at pool) ∙ size ∙ sym (table_length R core)) (λ p m.
+        let l : p < length made.rows = rw (← length-map made.rows (row_at pool)) m in
+        clauses_row pool made p l ∙ (rows p (among p l)).1 ∙ sym (table_at R core p (among p l)))
+
+    of_pool : (id : ℕ) → In id made.rows → id < length pool.rows
+    of_pool id i =
+        let w : (p : ℕ) × (p < length made.rows) × (row_id made.rows p ≡ id) = In_place made.rows id 0 i in
+        subst (λ z. z < length pool.rows) w.2 (rows w.0 (among w.0 w.1)).0
+
+    fit : (id : ℕ) → In id made.rows → (c : List ℕ) → In c (row_at pool id) → (n : ℕ) → In n c → n < length made.rows
+    fit id i c j n k =
+        let w : (p : ℕ) × (p < length made.rows) × (row_id made.rows p ≡ id) = In_place made.rows id 0 i in
+        let at : In c (row R core w.0) = subst (λ cs. In c cs) (ap (row_at pool) (sym w.2) ∙ (rows w.0 (among w.0 w.1)).1) j in
+        let l : n < length R.clauses = left_bound limit false R (length R.clauses) n (((row_is R core w.0 (left_bound limit false R (length R.clauses))).sound c at).blocks.within n k) in
+        omega (arith, l, size)
+
 -- the book of the known rows and the others
 pub made_flat : (pool new : Interned) (book flat_book made : Book) (known : List (Option ℕ)) (needed : List Bool) (limit : ℕ) (held : List ℕ) → Sound pool book → Kept pool new →
     AreKnown pool limit (repository_of pool book) known → AreNeeded (repository_of pool book) known needed →
@@ -498,22 +536,16 @@ pub made_flat : (pool new : Interned) (book flat_book made : Book) (known : List
     Sound new flat_book → passes limit false (masked needed (repository_of pool book)) ≡ None →
     made.rows ≡ map (λ p. known_or (get_or known p None) (row_id flat_book.rows p)) (numbers (length flat_book.rows) 0) → made.conflicts ≡ flat_book.conflicts →
     IsFlattened new limit false (repository_of pool book) made held
-unfolding flat rows_over
-made_flat pool new book flat_book made known needed limit held sound kept rows are e h flat_sound none f g = record {
-  is = ap₂ together clauses (g ∙ ap (λ r. r.conflicts) e ∙ masked_conflicts needed R);
-  held_are = h ∙ none_held_of limit (masked needed R) ∙ sym (none_held_of limit R);
-  sound = record { rows = record { is_pool = flat_sound.rows.is_pool; of_pool = of_pool; numbers = fit }; conflicts = subst AreConflicts (sym g) flat_sound.conflicts };
-  within = limit_back R known needed are pool limit rows none;
-}
+unfolding flat
+made_flat pool new book flat_book made known needed limit held sound kept rows are e h flat_sound none f g =
+    rows_flat new R made limit held flat_sound.rows.is_pool sound.conflicts (ap length f ∙ length_numbers id_of (length flat_book.rows) 0 ∙ size)
+    (λ p l. subst (λ id. (id < length new.rows) × (row_at new id ≡ row R (core_of limit false R) p)) (sym (place_of p l))
+    (pick p l (get_or known p None) refl, row_of R known needed are pool limit rows new flat_book p sound.rows.is_pool kept e l))
+    (g ∙ ap (λ r. r.conflicts) e ∙ masked_conflicts needed R) (h ∙ none_held_of limit (masked needed R) ∙ sym (none_held_of limit R))
+    (limit_back R known needed are pool limit rows none)
   where
     R : Repository
     R = repository_of pool book
-
-    together : List (List (List ℕ)) → List (List ℕ) → Repository
-    together xs ys = record { clauses = xs; conflicts = ys }
-
-    core : NumSet
-    core = core_of limit false R
 
     id_of : ℕ → ℕ
     id_of p = known_or (get_or known p None) (row_id flat_book.rows p)
@@ -521,32 +553,24 @@ made_flat pool new book flat_book made known needed limit held sound kept rows a
     size : length flat_book.rows ≡ length R.clauses
     size = flat_size R needed limit new flat_book e
 
-    row_is_at : (p : ℕ) → p < length R.clauses → row_at new (id_of p) ≡ row R core p
-    row_is_at p l = row_of R known needed are pool limit rows new flat_book p sound.rows.is_pool kept e l
+    place_of : (p : ℕ) → p < length R.clauses → row_id made.rows p ≡ id_of p
+    place_of p l = ap (λ xs. row_id xs p) f ∙ at_numbers id_of 0 (length flat_book.rows) 0 p (omega (arith, l, size)) ∙ ap id_of (let z : 0 + p ≡ p = omega arith in z)
 
-    below : (p : ℕ) → In p (numbers (length flat_book.rows) 0) → p < length R.clauses
-    below p i = let w : (0 ≤ p) × (p < 0 + length flat_book.rows) = numbers_parts (length flat_book.rows) 0 p i in omega (arith, w.1, size)
+    pick : (p : ℕ) → p < length R.clauses → (o : Option ℕ) → get_or known p None ≡ o → known_or o (row_id flat_book.rows p) < length new.rows
+    pick p l None q = flat_sound.rows.of_pool (row_id flat_book.rows p) (In_at flat_book.rows p 0 (omega (arith, l, size)))
+    pick p l (Some k) q = (kept.rows k (rows.each p k q).0).0
 
-    clauses : map (row_at new) made.rows ≡ rows_over R core
-    clauses =
-        ap (map (row_at new)) f
-        ∙ map-map (row_at new) id_of (numbers (length flat_book.rows) 0)
-        ∙ map_same (λ p. row_at new (id_of p)) (row R core) (numbers (length flat_book.rows) 0) (λ p i. row_is_at p (below p i))
-        ∙ ap (λ n. map (row R core) (numbers n 0)) size
+-- the book of the known rows, where one is known of each package
+pub all_flat : (pool : Interned) (book made : Book) (known : List (Option ℕ)) (limit : ℕ) (held : List ℕ) → Sound pool book → AreKnown pool limit (repository_of pool book) known →
+    map Some made.rows ≡ known → made.conflicts ≡ book.conflicts → held ≡ [] → IsFlattened pool limit false (repository_of pool book) made held
+all_flat pool book made known limit held sound are e g h =
+    rows_flat pool R made limit held sound.rows.is_pool sound.conflicts size (λ p l. let w = is_known p l in (w.0, w.1.is)) g (h ∙ sym (none_held_of limit R)) (passes_none R limit false (λ j m p l. (is_known p l).1.within j))
+  where
+    R : Repository
+    R = repository_of pool book
 
-    of_pool : (id : ℕ) → In id made.rows → id < length new.rows
-    of_pool id i =
-        let w : (p : ℕ) × In p (numbers (length flat_book.rows) 0) × (id ≡ id_of p) = In_map_cases id_of (numbers (length flat_book.rows) 0) id (subst (λ xs. In id xs) f i) in
-        subst (λ z. z < length new.rows) (sym w.2) (pick w.0 (below w.0 w.1) (get_or known w.0 None) refl)
-      where
-        pick : (p : ℕ) → p < length R.clauses → (o : Option ℕ) → get_or known p None ≡ o → known_or o (row_id flat_book.rows p) < length new.rows
-        pick p l None q = flat_sound.rows.of_pool (row_id flat_book.rows p) (In_at flat_book.rows p 0 (omega (arith, l, size)))
-        pick p l (Some k) q = (kept.rows k (rows.each p k q).0).0
+    size : length made.rows ≡ length R.clauses
+    size = sym (length-map made.rows Some) ∙ ap length e ∙ are.count
 
-    fit : (id : ℕ) → In id made.rows → (c : List ℕ) → In c (row_at new id) → (n : ℕ) → In n c → n < length made.rows
-    fit id i c j n k =
-        let w : (p : ℕ) × In p (numbers (length flat_book.rows) 0) × (id ≡ id_of p) = In_map_cases id_of (numbers (length flat_book.rows) 0) id (subst (λ xs. In id xs) f i) in
-        let at : In c (row R core w.0) = subst (λ cs. In c cs) (ap (row_at new) w.2 ∙ row_is_at w.0 (below w.0 w.1)) j in
-        let l : n < length R.clauses = left_bound limit false R (length R.clauses) n (((row_is R core w.0 (left_bound limit false R (length R.clauses))).sound c at).blocks.within n k) in
-        let s : length made.rows ≡ length flat_book.rows = ap length f ∙ length_numbers id_of (length flat_book.rows) 0 in
-        omega (arith, l, s, size)
+    is_known : (p : ℕ) → p < length R.clauses → (row_id made.rows p < length pool.rows) × IsKnownRow R limit p (row_at pool (row_id made.rows p))
+    is_known p l = are.each p (row_id made.rows p) (ap (λ xs. get_or xs p None) (sym e) ∙ get_or-map Some made.rows p 0 None (omega (arith, l, size)))

@@ -1,7 +1,7 @@
 //! Flattening where the rows of some packages over the core are known, as they are where a book is made from another one by a few
 //! changes. Elimination is local: among packages that name none but each other it goes as if there were no others. So the packages
 //! whose rows are not known, with all that they need, are flattened alone.
-ghost use Rattle.std.specs.Prelude.{◌≡◌, ◌<◌, ◌∷◌, [], ℕ, true, false, cond, List, IfOk, None, OnOk, length, map, replicate, slice_index_or};
+ghost use Rattle.std.specs.Prelude.{◌≡◌, ◌<◌, ◌∷◌, [], ℕ, true, false, cond, List, IfOk, None, Some, OnOk, length, map, replicate, slice_index_or};
 ghost use Rattle.std.specs.Option.{ForSome};
 ghost use Rattle.clause_pool.specs.Interned.{clauses_at, Kept, OfPool};
 ghost use Rattle.listed.specs.Lists.{In};
@@ -35,6 +35,10 @@ pub fn flatten_beside(
     ensures passed { IfOk result (λ made. made ≡ None → passes limit false (repository_of pool.old book.now) ≡ None → ⊥) }
     ensures kept { Kept pool.old pool.new }
 {
+    if let Some(rows) = all_known(alloc, known)? {
+        let flat = of_known(alloc, book, rows)?;
+        return Ok(Some(flat));
+    }
     let needed = needed_by(alloc, pool, book, known)?;
     let part = masked(alloc, pool, book, &needed)?;
     drop(needed);
@@ -47,8 +51,36 @@ pub fn flatten_beside(
     Ok(Some(Flattened { book: made, held }))
 }
 
-/// Which packages have no known row, or are needed by one of them.
-fn needed_by(
+/// The known rows, where one is known of each package.
+fn all_known(alloc: Global, known: &[Option<RowId>]) -> Result<Option<Vec<RowId>>, AllocError>
+    ensures { IfOk result (λ all. ForSome all (λ rows. map Some rows.items ≡ known.now)) }
+{
+    let mut rows = Vec::with_capacity(alloc, known.len())?;
+    for row in known {
+        let Some(id) = row else {
+            return Ok(None);
+        };
+        rows.push(*id)?;
+    }
+    Ok(Some(rows))
+}
+
+/// The flattened book of these rows, with the conflicts of a book. No package is held.
+fn of_known(alloc: Global, book: &Book, rows: Vec<RowId>) -> Result<Flattened, AllocError>
+    requires { length rows.items ≡ length book.now.rows }
+    ensures rows { IfOk result (λ made. made.book.rows ≡ rows.items) }
+    ensures conflicts { IfOk result (λ made. made.book.conflicts ≡ book.now.conflicts) }
+    ensures held { IfOk result (λ made. made.held ≡ []) }
+{
+    let flat = book.with_rows(alloc, Listed::of(rows))?;
+    Ok(Flattened {
+        book: flat,
+        held: Listed::new(alloc),
+    })
+}
+
+/// Which packages have no known row, or are needed by one of them. The error is want of memory.
+pub fn needed_by(
     alloc: Global,
     pool: &Pool,
     book: &Book,

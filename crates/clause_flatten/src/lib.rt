@@ -19,7 +19,7 @@ mod tidy_rows;
 mod waiting;
 
 // A book is flattened.
-pub use beside::flatten_beside;
+pub use beside::{flatten_beside, needed_by};
 pub use error::FlatError;
 pub use flattening::{Flattened, flatten};
 

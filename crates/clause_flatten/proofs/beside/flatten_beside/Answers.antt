@@ -1,11 +1,25 @@
-use Rattle.std.proofs.Common.{◌≡◌, ◌∙◌, ap, false, subst, sym}
+use Rattle.std.proofs.Common.{◌≡◌, ◌∙◌, Some, ap, false, length, map, subst, sym}
+use Rattle.std.proofs.lemmas.List.{length-map}
 use Rattle.std.proofs.lemmas.Option.{none-some}
+use Rattle.clause_pool.specs.Interned.{row_at}
 use Rattle.clause_pool.proofs.Interned.{kept_along}
 use Rattle.row_book.specs.{Book.{repository_of}, Flattening.{flat, held_of, passes}}
 use Rattle.clause_flatten.specs.Beside.{AreNeeded, IsFlattened, masked}
-use Rattle.clause_flatten.proofs.Besides.{flat_size, limit_there, made_flat, some_is}
+use Rattle.clause_flatten.proofs.Besides.{all_flat, flat_size, limit_there, made_flat, some_is}
 use Rattle.clause_flatten.proofs.beside.flatten_beside.Goals as goal
 use Rattle.clause_flatten.proofs.beside.flatten_beside.Goals.{After-flatten}
+
+-- one row is known of each package
+pub of_known-requires : goal.of_known-requires
+of_known-requires c =
+    let e = c.in_ok-rows.ensures c.in-Some.rows c.in-Some.is in
+    sym (length-map c.in-Some.rows.items Some) ∙ ap length e ∙ c.requires.known.count ∙ length-map c.args.book.now.rows (row_at c.args.pool.now)
+
+pub returns-in-Some-clause-flat : goal.returns-in-Some-clause-flat
+returns-in-Some-clause-flat c =
+    λ x e. subst (λ z. IsFlattened c.args.pool.now c.args.limit false (repository_of c.args.pool.now c.args.book.now) z.book z.held) (some_is _ x e)
+    (all_flat c.args.pool.now c.args.book.now c.in_ok-flat.flat.book c.args.known.now c.args.limit c.in_ok-flat.flat.held c.requires.sound c.requires.known
+    (ap (map Some) c.in_ok-flat.ensures.rows ∙ c.in_ok-rows.ensures c.in-Some.rows c.in-Some.is) c.in_ok-flat.ensures.conflicts c.in_ok-flat.ensures.held)
 
 -- the flags, and the masked book
 are_needed : (c : After-flatten) → AreNeeded (repository_of c.args.pool.now c.args.book.now) c.args.known.now c.deref.result.now

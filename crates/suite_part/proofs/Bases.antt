@@ -1,15 +1,15 @@
 -- Flags of packages that are not the same in two parts.
-use Rattle.std.proofs.Common.{◌≡◌, ℕ, zero, suc, ◌+◌, ◌-◌, ◌<◌, ◌≤◌, ◌⊎◌, Bool, true, false, not, cond, ◌&&◌, ltb, List, [], ◌∷◌, ◌++◌, length, get_or, set, map, take, replicate, inl, inr, refl, sym, ◌∙◌, ap, ap₂, subst, arith}
+use Rattle.std.proofs.Common.{◌≡◌, ℕ, zero, suc, ◌+◌, ◌-◌, ◌<◌, ◌≤◌, ◌⊎◌, Bool, true, false, not, cond, ltb, List, [], ◌∷◌, ◌++◌, length, get_or, set, map, replicate, inl, inr, refl, sym, ◌∙◌, ap, ap₂, subst, arith}
 use Rattle.std.specs.Prelude.{count_by, IfOk, Result, Ok, Err}
-use Rattle.std.proofs.lemmas.Bool.{and_parts, both_ways, cases_eq, cases_lt, false_from_ne_true, le-ltb, lt-ltb, ltb-true}
-use Rattle.std.proofs.lemmas.List.{get_or-replicate, get_or-set_other, get_or-set_same, get_or_past, length-append, length-replicate, length-set, map-append, take_all, take_more}
+use Rattle.std.proofs.lemmas.Bool.{both_ways, cases_eq, cases_lt, false_from_ne_true, le-ltb, lt-ltb}
+use Rattle.std.proofs.lemmas.List.{get_or-replicate, get_or-set_other, get_or-set_same, get_or_past, length-append, length-replicate, length-set, map-append}
 use Rattle.std.proofs.lemmas.List.Sums.{sum_by-set}
 use Rattle.clause_pool.specs.Interned.{Interned, row_at}
-use Rattle.listed.specs.Lists.{In, has, here, there}
+use Rattle.listed.specs.Lists.{In, has, here}
 use Rattle.listed.proofs.Lists.{In_append_cases, In_append_left, In_append_right, In_at, In_cases, In_has, In_none, any_from}
 use Rattle.row_book.specs.{Book.{listed_for, repository_of, Sound}, Flags.{flag}, Numbers.{numbers}, Uses.{row_holds, row_id, uses_of}, declared.book.Book.{Book}}
 use Rattle.row_book.proofs.{Books.{clauses_row}, Numbers.{numbers_more}, Users.{list_of_uses, user_from}}
-use Rattle.suite_part.specs.Bases.{first_flags, AreChanged, AreElsewhere, Flags}
+use Rattle.suite_part.specs.Bases.{first_flags, AreChanged, AreElsewhere, Flags, StandsAlike}
 
 -- the flags of the first packages, one after another
 past_first : (b n s : ℕ) → b ≤ s → map (λ k. ltb k b) (numbers n s) ≡ replicate n false
@@ -109,37 +109,11 @@ one_waits mid after more most x l down e m =
     let same : count_by not after ≡ count_by not (set mid x true) = ap (count_by not) e in
     omega arith
 
--- a package that is one of the first and is chosen
-abbrev pub InBoth : ℕ → List Bool → ℕ → Type 0
-InBoth count chosen n = (n < count) × (flag chosen n ≡ true)
-
-pub in_both : (count : ℕ) (chosen : List Bool) (n : ℕ) (b : Bool) → b ≡ (ltb n count && flag chosen n) → b ≡ true → InBoth count chosen n
-in_both count chosen n b e t = let w = and_parts (ltb n count) (flag chosen n) (sym e ∙ t) in (ltb-true n count w.0, w.1)
-
--- it and all that conflict with it are
-abbrev pub NoneDiffers : List (List ℕ) → ℕ → List Bool → ℕ → Type 0
-NoneDiffers conflicts count chosen p = (n : ℕ) → In n (p ∷ listed_for conflicts p) → InBoth count chosen n
-
-pub none_differs : (conflicts : List (List ℕ)) (count : ℕ) (chosen : List Bool) (p : ℕ) → InBoth count chosen p → ((n : ℕ) → In n (listed_for conflicts p) → InBoth count chosen n) → NoneDiffers conflicts count chosen p
-none_differs conflicts count chosen p own others n i = elim (In_cases i) [ inl e ↦ subst (λ z. InBoth count chosen z) (sym e) own | inr j ↦ others n j ]
-
--- one more of those that conflict with it
-pub both_more : (count : ℕ) (chosen : List Bool) (list : List ℕ) (i x : ℕ) → i < length list → x ≡ get_or list i 0 → InBoth count chosen x → ((n : ℕ) → In n (take i list) → InBoth count chosen n)
-    → (n : ℕ) → In n (take (i + 1) list) → InBoth count chosen n
-both_more count chosen list i x l e own f n j =
-    elim (in_end (take i list) x n (subst (λ z. In n z) (take_more list i 0 l ∙ ap (λ z. take i list ++ z ∷ []) (sym e)) j)) [
-      | inl a ↦ f n a
-      | inr s ↦ subst (λ z. InBoth count chosen z) (sym s) own
-    ]
-
-pub both_all : (count : ℕ) (chosen : List Bool) (list : List ℕ) (i : ℕ) → length list ≤ i → ((n : ℕ) → In n (take i list) → InBoth count chosen n) → (n : ℕ) → In n list → InBoth count chosen n
-both_all count chosen list i l f n j = f n (subst (λ z. In n z) (sym (take_all i list l)) j)
-
--- flags that spread: none of the packages so far differs without its flag, and each that has its flag waits, or all its users
+-- flags that spread: each of the packages so far that has no flag stands alike, and each that has its flag waits, or all its users
 -- have theirs
 pub record Spreads (users conflicts : List (List ℕ)) (count : ℕ) (chosen : List Bool) (size number : ℕ) (changed : List Bool) (work : List ℕ) : Type 0 where
   pub long : length changed ≡ size
-  pub same : (n : ℕ) → n < number → flag changed n ≡ false → NoneDiffers conflicts count chosen n
+  pub same : (n : ℕ) → n < number → flag changed n ≡ false → StandsAlike conflicts count chosen n
   pub spread : (n : ℕ) → flag changed n ≡ true → In n work ⊎ ((m : ℕ) → In m (listed_for users n) → flag changed m ≡ true)
   pub waiting : (n : ℕ) → In n work → n < size
 
@@ -159,12 +133,12 @@ module _ (users conflicts : List (List ℕ)) (count : ℕ) (chosen : List Bool) 
     waiting = λ n i. absurd (In_none (subst (λ z. In n z) w i));
   }
 
-  -- a package that does not differ
-  pub spread_same : (number : ℕ) (changed : List Bool) (work : List ℕ) → NoneDiffers conflicts count chosen number → Spreads users conflicts count chosen size number changed work → Spreads users conflicts count chosen size (number + 1) changed work
+  -- a package that stands alike
+  pub spread_same : (number : ℕ) (changed : List Bool) (work : List ℕ) → StandsAlike conflicts count chosen number → Spreads users conflicts count chosen size number changed work → Spreads users conflicts count chosen size (number + 1) changed work
   spread_same number changed work own s = record {
     long = s.long;
     same = λ n l d. elim (cases_eq n number) [
-      | inl e ↦ subst (λ z. NoneDiffers conflicts count chosen z) (sym e) own
+      | inl e ↦ subst (λ z. StandsAlike conflicts count chosen z) (sym e) own
       | inr differs ↦ s.same n (omega (arith, differs)) d
     ];
     spread = s.spread;
@@ -215,7 +189,7 @@ module _ (users conflicts : List (List ℕ)) (count : ℕ) (chosen : List Bool) 
   pub spread_elsewhere : (changed : List Bool) (work : List ℕ) → length chosen ≡ size → Spreads users conflicts count chosen size size changed work → AreElsewhere count chosen changed
   spread_elsewhere changed work e s = record {
     size = s.long ∙ sym e;
-    others = λ n l d. s.same n (subst (λ z. n < z) s.long l) d n here;
+    others = λ n l d. (s.same n (subst (λ z. n < z) s.long l) d).there;
   }
 
 pub no_work : (work : List ℕ) → length work ≡ 0 → work ≡ []
@@ -237,5 +211,5 @@ spread_changed from book users count chosen changed work size all none sound are
             | inl w ↦ In_none (subst (λ z. In m z) none w)
             | inr f ↦ both_ways (flag changed n) d (f n user)
           ]);
-      against = λ m i. s.same n (subst (λ z. n < z) s.long l) d m (there i);
+      alike = s.same n (subst (λ z. n < z) s.long l) d;
     }

@@ -1,12 +1,13 @@
 -- What is known of the rows of a part, and which packages of it stand in another part as they are.
-use Rattle.std.specs.Prelude.{◌≡◌, ℕ, ◌<◌, ◌≤◌, ◌-◌, ◌⊎◌, Bool, true, false, List, ◌++◌, Option, Some, None, length, map, replicate, slice_index_or}
+use Rattle.std.specs.Prelude.{◌≡◌, ℕ, ◌<◌, ◌≤◌, ◌-◌, ◌⊎◌, Bool, true, false, ltb, List, ◌++◌, Option, Some, None, length, map, replicate, slice_index_or}
+use Rattle.std.specs.List.{list_any}
 use Rattle.clause_pool.specs.Interned.{Interned, row_at}
 use Rattle.listed.specs.Lists.{In}
 use Rattle.row_book.specs.declared.book.Book.{Book}
 use Rattle.row_book.specs.Book.{listed_for, repository_of}
 use Rattle.row_book.specs.Flags.{flag}
 use Rattle.row_book.specs.Flattening.{flat, passes}
-use Rattle.row_book.specs.Repository.{Repository, clauses_of, conflicts_of}
+use Rattle.row_book.specs.Repository.{Repository, clauses_of}
 use Rattle.row_book.specs.Uses.{row_id, uses_of}
 use Rattle.suite_part.specs.Parts.{part, place_in, row_in}
 use Rattle.suite_part.specs.declared.base.Base.{Base}
@@ -34,18 +35,23 @@ pub record FitsIn (book : Book) (base : Base) : Type 0 where
   pub numbers : (n m : ℕ) → In m (listed_for base.users n) → m < length book.rows
   pub conflicts : (p n : ℕ) → In n (listed_for book.conflicts p) → n < length book.rows
 
--- what a package that stands in both has about it the same, in the part of the first packages and in the part of the chosen ones:
--- the flags of all packages that it names are down, and those that conflict with it are in both
+-- a package is in the part of the first packages and in that of the chosen ones, or in neither; and so it is with conflicts:
+-- it has one in both parts, or in neither
+pub record StandsAlike (conflicts : List (List ℕ)) (count : ℕ) (chosen : List Bool) (n : ℕ) : Type 0 where
+  pub there : ltb n count ≡ flag chosen n
+  pub against : list_any (λ m. ltb m count) (listed_for conflicts n) ≡ list_any (flag chosen) (listed_for conflicts n)
+
+-- a package stands alike, and the flags of all that it names are down
 pub record StaysAs (R : Repository) (count : ℕ) (chosen changed : List Bool) (n : ℕ) : Type 0 where
   pub needs : (c : List ℕ) → In c (clauses_of R n) → (m : ℕ) → In m c → flag changed m ≡ false
-  pub against : (m : ℕ) → In m (conflicts_of R n) → (m < count) × (flag chosen m ≡ true)
+  pub alike : StandsAlike R.conflicts count chosen n
 
--- each package whose flag is not up is one of the first and is chosen
+-- a flag for each package, and each package whose flag is not up is one of the first where it is chosen, and only there
 pub record AreElsewhere (count : ℕ) (chosen changed : List Bool) : Type 0 where
   pub size : length changed ≡ length chosen
-  pub others : (n : ℕ) → n < length changed → flag changed n ≡ false → (n < count) × (flag chosen n ≡ true)
+  pub others : (n : ℕ) → n < length changed → flag changed n ≡ false → ltb n count ≡ flag chosen n
 
--- and stays as it is
+-- each package whose flag is not up stays as it is
 abbrev pub AreChanged : Repository → ℕ → List Bool → List Bool → Type 0
 AreChanged R count chosen changed = (n : ℕ) → n < length changed → flag changed n ≡ false → StaysAs R count chosen changed n
 

@@ -28,8 +28,9 @@ pub struct Base {
 }
 
 impl Base {
-    ghost use Rattle.std.specs.Prelude.{◌≡◌, ◌<◌, ◌≤◌, ◌∷◌, ◌&&◌, ℕ, true, false, None, IfOk, OnOk, length, ltb, replicate};
+    ghost use Rattle.std.specs.Prelude.{◌≡◌, ◌<◌, ◌≤◌, ℕ, true, false, None, IfOk, OnOk, length, ltb};
     ghost use Rattle.std.specs.Bool.{OnFalse};
+    ghost use Rattle.std.specs.List.{list_any};
     ghost use Rattle.std.specs.Option.{ForSome};
     ghost use Rattle.clause_pool.specs.Interned.{Interned, IsPool, Kept};
     ghost use Rattle.clause_flatten.specs.Beside.{AreKnown};
@@ -38,7 +39,7 @@ impl Base {
     ghost use Rattle.row_book.specs.Flags.{flag};
     ghost use Rattle.row_book.specs.Flattening.{passes};
     ghost use Rattle.row_book.specs.Uses.{uses_of};
-    ghost use Rattle.suite_part.specs.Bases.{first_flags, first_part, AreChanged, AreElsewhere, AreRowsThere, FitsIn, Flags, IsBase, IsRowThere};
+    ghost use Rattle.suite_part.specs.Bases.{first_part, AreChanged, AreElsewhere, AreRowsThere, FitsIn, Flags, IsBase, IsRowThere, StandsAlike};
     ghost use Rattle.suite_part.specs.Left.{AreLeft};
     ghost use Rattle.suite_part.specs.Parts.{part};
 
@@ -98,7 +99,8 @@ impl Base {
         self.rows_there(alloc, pool, &changed, chosen)
     }
 
-    /// Which packages are not the same in the part of the first packages and in that of the chosen ones, or need one that is not.
+    /// Which packages are in the part of the first packages or in that of the chosen ones alone, or have a conflict in one of them alone,
+    /// or need one of these.
     fn changed_by(
         &self,
         alloc: Global,
@@ -124,30 +126,25 @@ impl Base {
         Ok(changed)
     }
 
-    /// Whether a package is one of the first and is chosen.
-    fn is_in_both(&self, chosen: &Chosen, number: u32) -> bool
-        requires { number < length chosen.now.flags.items }
-        ensures { result ≡ (ltb number self.now.count && flag chosen.now.flags.items number) }
+    /// Whether some packages have one of the first.
+    fn has_first(&self, packages: &[u32]) -> bool
+        ensures { result ≡ list_any (λ n. ltb n self.now.count) packages.now }
     {
-        number < self.count && chosen.flags[number as usize]
+        packages.iter().any(|number| *number < self.count)
     }
 
-    /// Whether a package, or one that conflicts with it, is not one of the first or not chosen.
+    /// Whether a package is in one of both parts alone, or has a conflict in one of them alone.
     fn differs(&self, book: &Book, chosen: &Chosen, number: u32) -> bool
         requires number { number < length book.now.rows }
         requires flags { length chosen.now.flags.items ≡ length book.now.rows }
         requires conflicts { (n : ℕ) → In n (listed_for book.now.conflicts number) → n < length book.now.rows }
-        ensures { OnFalse result ((n : ℕ) → In n (number ∷ listed_for book.now.conflicts number) → (n < self.now.count) × (flag chosen.now.flags.items n ≡ true)) }
+        ensures { OnFalse result (StandsAlike book.now.conflicts self.now.count chosen.now.flags.items number) }
     {
-        if !self.is_in_both(chosen, number) {
+        if (number < self.count) != chosen.flags[number as usize] {
             return true;
         }
-        for other in book.against(number) {
-            if !self.is_in_both(chosen, *other) {
-                return true;
-            }
-        }
-        false
+        let against = book.against(number);
+        self.has_first(against) != chosen.has_one(against)
     }
 
     /// The rows of the chosen packages whose flags are not up, in their new numbers.
@@ -175,7 +172,7 @@ impl Base {
         Ok(known)
     }
 
-    /// The row of a package in its new numbers, unless its flag is up.
+    /// The row of a chosen package in its new numbers, unless its flag is up.
     fn row_there(
         &self,
         alloc: Global,
@@ -189,6 +186,7 @@ impl Base {
         requires within { self.now.count ≤ length chosen.now.flags.items }
         requires changed { AreElsewhere self.now.count chosen.now.flags.items changed.now }
         requires place { place < length changed.now }
+        requires is_chosen { flag chosen.now.flags.items place ≡ true }
         requires seen { AreLeft self.now.pool chosen.now.flags.items pool.old seen.old.items }
         ensures there { IfOk result (λ row. flag changed.now place ≡ false → IsRowThere self.now.pool self.now.rows.items chosen.now.flags.items pool.new place row) }
         ensures unknown { IfOk result (λ row. flag changed.now place ≡ true → row ≡ None) }

@@ -1,6 +1,8 @@
 //! Some packages of a book.
 ghost use Rattle.std.specs.Prelude.{◌≡◌, ◌<◌, ◌+◌, ℕ, cond, length, map, IfOk, OnOk};
+ghost use Rattle.std.specs.List.{list_any};
 ghost use Rattle.listed.specs.Lists.{In};
+ghost use Rattle.row_book.specs.Flags.{flag};
 ghost use Rattle.row_book.specs.Numbers.{numbers};
 ghost use Rattle.suite_part.specs.Parts.{chosen_in, place_in};
 
@@ -23,6 +25,27 @@ impl Chosen {
     {
         let places = places_in(alloc, &flags)?;
         Ok(Chosen { flags, places })
+    }
+
+    /// How many chosen packages come before a package.
+    pub(crate) fn place(&self, number: usize) -> u32
+        requires { number < length self.now.flags.items }
+        ensures { result ≡ place_in self.now.flags.items number }
+    {
+        self.places[number]
+    }
+
+    /// Whether one of some packages is chosen.
+    pub(crate) fn has_one(&self, numbers: &[u32]) -> bool
+        requires { (n : ℕ) → In n numbers.now → n < length self.now.flags.items }
+        ensures { result ≡ list_any (flag self.now.flags.items) numbers.now }
+    {
+        for number in numbers {
+            if self.flags[*number as usize] {
+                return true;
+            }
+        }
+        false
     }
 
     /// Those of some packages that are chosen, by their numbers among the chosen ones.

@@ -1,4 +1,5 @@
-use Rattle.std.proofs.Common.{◌<◌, arith, ap, subst, sym}
+use Rattle.std.proofs.Common.{◌<◌, ◌∙◌, arith, ap, subst, sym}
+use Rattle.std.proofs.lemmas.Bool.{ltb-true}
 use Rattle.listed.specs.Lists.{In}
 use Rattle.listed.proofs.Lists.{item_in}
 use Rattle.clause_pool.specs.Interned.{clauses_at}
@@ -8,8 +9,9 @@ use Rattle.suite_part.proofs.base.Base.row_there.Goals.{After-index}
 -- the id that was read is one of the rows
 read_row : (c : After-index) → In c.index.result.now c.args.self.now.rows.items
 read_row c =
-    let below = c.requires.changed.others c.args.place c.requires.place c.if-changed-place.false in
-    item_in c.args.self.now.rows.items c.args.place c.index.result.now (subst (λ z. c.args.place < z) (sym c.args.self.now.rows_are.size) below.0) c.index.ensures
+    let below : c.args.place < c.args.self.now.count =
+    ltb-true c.args.place c.args.self.now.count (c.requires.changed.others c.args.place c.requires.place c.if-changed-place.false ∙ c.requires.is_chosen) in
+    item_in c.args.self.now.rows.items c.args.place c.index.result.now (subst (λ z. c.args.place < z) (sym c.args.self.now.rows_are.size) below) c.index.ensures
 
 pub row-row-requires : goal.row-row-requires
 row-row-requires c = c.args.self.now.rows_are.of_pool c.index.result.now (read_row (goal.at.row-row-requires c).After-index)

@@ -4,7 +4,12 @@ pub mod Placed
 pub mod PartSound
 pub mod Lefts
 pub mod Parted
+pub mod Backs
+pub mod Rivals
+pub mod RowsBack
+pub mod Numbered
 pub mod Bases
 pub mod RowsThere
 pub mod Standing
+pub mod KnownApart
 pub mod BaseMade

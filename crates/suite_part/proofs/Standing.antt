@@ -12,7 +12,7 @@ use Rattle.clause_pool.specs.Lists.{InOrder}
 use Rattle.clause_pool.proofs.Order.{ordered_has, ordered_order, ordered_parts}
 use Rattle.listed.specs.Lists.{In, here, there}
 use Rattle.listed.proofs.Bools.{same_bool}
-use Rattle.listed.proofs.Lists.{In_has, In_map, In_map_cases, any_cases, any_from, filter_cases, filter_same, has_In}
+use Rattle.listed.proofs.Lists.{In_at, In_has, In_map, In_map_cases, any_cases, any_from, filter_cases, filter_same, has_In}
 use Rattle.row_book.specs.declared.book.Book.{Book}
 use Rattle.row_book.specs.Book.{repository_of, Sound}
 use Rattle.row_book.specs.Flags.{flag}
@@ -22,7 +22,7 @@ use Rattle.row_book.specs.Sets.{NumSet}
 use Rattle.row_book.specs.Sound.{SoundRepository}
 use Rattle.row_book.specs.Support.{row}
 use Rattle.row_book.specs.Uses.{row_id}
-use Rattle.row_book.proofs.{BookRepositories.{book_size, sound_repository}, Flags.{flag_in}, Repositories.{between, in_packages}}
+use Rattle.row_book.proofs.{BookRepositories.{book_size, sound_repository}, Books.{clauses_row}, Flags.{flag_in}, Repositories.{between, in_packages}}
 use Rattle.clause_flatten.specs.Beside.{AreKnown, IsKnownRow}
 use Rattle.clause_flatten.specs.Locality.{StandsIn}
 use Rattle.clause_flatten.proofs.{LocalRows.{order_there}, LocalRuns.{flat_is_local_lem, flat_stays, limit_is_local_lem}, Tables.{row_order}, TidyFlat.{flat_row, flat_size}}
@@ -151,6 +151,11 @@ module _ (R : Repository) (s : SoundRepository R) (flags : List Bool) (size : le
       let w : (m : ℕ) × In m (conflicts_of R x) × (flag flags m ≡ true) = any_cases (flag flags) (conflicts_of R x) h in
       conflict_from (part flags R) (part_sound R flags s size) (place_in flags x) (place_in flags w.0)
       (subst (λ z. In (place_in flags w.0) z) (sym (part_conflicts x up)) (chosen_from flags (conflicts_of R x) w.0 w.1 w.2)))
+
+-- the clauses of a sound book are in order
+pub rows_order : (from : Interned) (book : Book) → Sound from book → (x : ℕ) → x < length book.rows → InOrder (clauses_of (repository_of from book) x)
+rows_order from book sound x l =
+    subst InOrder (sym (clauses_row from book x l)) (sound.rows.is_pool.in_order (row_id book.rows x) (sound.rows.of_pool (row_id book.rows x) (In_at book.rows x 0 l)))
 
 module _ (W : Repository) (s : SoundRepository W) (count : ℕ) (few : count ≤ length W.clauses) (flags changed : List Bool)
     (size : length flags ≡ length W.clauses) (elsewhere : AreElsewhere count flags changed) (same : AreChanged W count flags changed) where

@@ -3,3 +3,4 @@ pub mod Left
 pub mod Laws
 pub mod BaseRows
 pub mod Bases
+pub mod Apart

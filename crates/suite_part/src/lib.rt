@@ -2,6 +2,7 @@
 //! contract of each is one law.
 #![tactic(auto)]
 
+mod apart;
 mod base;
 mod changed;
 mod chosen;
@@ -10,6 +11,7 @@ mod part;
 mod rows;
 
 // Some packages of a book, and the book that they make.
+pub use apart::known_apart;
 pub use base::Base;
 pub use chosen::Chosen;
 pub use part::part_of;

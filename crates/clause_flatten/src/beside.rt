@@ -79,7 +79,7 @@ fn of_known(alloc: Global, book: &Book, rows: Vec<RowId>) -> Result<Flattened, A
     })
 }
 
-/// Which packages have no known row, or are needed by one of them. The error is want of memory.
+/// Flags that are up at least for the packages without a known row, and for all that these need. The error is want of memory.
 pub fn needed_by(
     alloc: Global,
     pool: &Pool,

@@ -9,7 +9,7 @@ use Rattle.row_book.specs.Flags.{flag}
 use Rattle.row_book.specs.Uses.{row_id}
 use Rattle.suite_part.specs.Parts.{place_in}
 
--- all that had flags have them, and of each of these that has conflicts one package that it conflicts with
+-- all that had flags have them, and for each of these that has conflicts at least one package that it conflicts with
 pub record HasRivals (conflicts : List (List ℕ)) (needed flags : List Bool) : Type 0 where
   pub size : length flags ≡ length needed
   pub stays : (n : ℕ) → flag needed n ≡ true → flag flags n ≡ true
@@ -19,7 +19,7 @@ pub record HasRivals (conflicts : List (List ℕ)) (needed flags : List Bool) : 
 abbrev pub numbers_up : List Bool → List ℕ
 numbers_up flags = filter (flag flags) (range_with_len 0 (length flags))
 
--- the number at a place, and places of a clause and of a row as numbers
+-- the number at a place, 0 past the last, and places of a clause and of a row as numbers
 abbrev pub number_in : List ℕ → ℕ → ℕ
 number_in numbers k = slice_index_or numbers k 0
 

@@ -35,8 +35,8 @@ pub record FitsIn (book : Book) (base : Base) : Type 0 where
   pub numbers : (n m : ℕ) → In m (listed_for base.users n) → m < length book.rows
   pub conflicts : (p n : ℕ) → In n (listed_for book.conflicts p) → n < length book.rows
 
--- a package is in the part of the first packages and in that of the chosen ones, or in neither; and so it is with conflicts:
--- it has one in both parts, or in neither
+-- a package is in the part of the first packages and in that of the chosen ones, or in neither; and of the packages that conflict
+-- with it one at least is in each part, or none is in either
 pub record StandsAlike (conflicts : List (List ℕ)) (count : ℕ) (chosen : List Bool) (n : ℕ) : Type 0 where
   pub there : ltb n count ≡ flag chosen n
   pub against : list_any (λ m. ltb m count) (listed_for conflicts n) ≡ list_any (flag chosen) (listed_for conflicts n)

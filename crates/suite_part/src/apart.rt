@@ -1,6 +1,7 @@
-//! Rows of packages of which none is known yet. They are flattened apart, in a book that has them, all that they need, and of each of these
-//! that has conflicts one package that it conflicts with: elimination is local, and asks of a conflict only whether there is one.
-ghost use Rattle.std.specs.Prelude.{◌≡◌, ◌≢◌, ◌<◌, ℕ, Bool, List, true, false, None, IfOk, OnOk, length, slice_index_or};
+//! Rows of packages of which none is known yet. They are flattened apart, in a small book that has them, all that they need, and for each of these
+//! that has conflicts one rival, which it conflicts with: elimination is local, and asks of a conflict only whether there is one. A rival comes
+//! without its own needs, so its row there is not its row in the book, and is not taken back.
+ghost use Rattle.std.specs.Prelude.{◌≡◌, ◌≢◌, ◌<◌, ℕ, Bool, List, true, false, None, Some, IfOk, OnOk, length, slice_index_or};
 ghost use Rattle.std.specs.List.{list_any};
 ghost use Rattle.clause_flatten.specs.Beside.{AreKnown};
 ghost use Rattle.clause_pool.specs.Interned.{clause_at, clauses_at, row_at, IsPool, Kept, OfPool};
@@ -21,8 +22,8 @@ use listed::true_numbers;
 use row_book::Book;
 use std::alloc::{AllocError, Global};
 
-/// The known rows over the core without hold, and those of all other packages of a book; no further row where one passes the limit in the
-/// part that is flattened for them. What the pool held stays. The error is want of memory.
+/// The known rows over the core without hold, and those of all other packages of a book, which are made in a small book. Where a row of that passes the
+/// limit, be it that of a rival alone, there is none of these. What the pool held stays. The error is want of memory.
 pub fn known_apart(
     alloc: Global,
     pool: &mut Pool,
@@ -34,6 +35,7 @@ pub fn known_apart(
     requires limit { 0 < limit }
     requires known { AreKnown pool.old limit (repository_of pool.old book.now) known.items }
     ensures known { IfOk result (λ more. AreKnown pool.new limit (repository_of pool.old book.now) more.items) }
+    ensures stays { IfOk result (λ more. (n id : ℕ) → slice_index_or known.items n None ≡ Some id → slice_index_or more.items n None ≡ Some id) }
     ensures all { IfOk result (λ more. ((flags : List Bool) → passes limit false (part flags (repository_of pool.old book.now)) ≡ None) → (n : ℕ) → n < length more.items → slice_index_or more.items n None ≢ None) }
     ensures kept { Kept pool.old pool.new }
 {

@@ -1,5 +1,5 @@
 //! A book of which the first packages are flattened, so that a part that differs little from these is soon flattened: the rows of
-//! packages that name none but each other, and stand in both, are the same.
+//! packages that name none but each other, stand in both, and have a conflict in both or in neither, are the same.
 ghost use Rattle.suite_part.specs.BaseRows.{AreBaseRows};
 
 use crate::changed::{first_chosen, none_changed, put_changed};
@@ -79,8 +79,8 @@ impl Base {
         }))
     }
 
-    /// The rows over the core of the part that the chosen packages make, in the pool, for those of them that stand as they are in
-    /// the part of the first packages; none for the others.
+    /// The rows over the core of the part that the chosen packages make, in the pool, for those of them that are also among the first
+    /// packages, have a conflict in both parts or in neither, and need only such packages; none for the others.
     pub fn known_rows(
         &self,
         alloc: Global,
@@ -133,7 +133,7 @@ impl Base {
         packages.iter().any(|number| *number < self.count)
     }
 
-    /// Whether a package is in one of both parts alone, or has a conflict in one of them alone.
+    /// Whether a package is in one of both parts alone, or conflicts with packages of one of them alone.
     fn differs(&self, book: &Book, chosen: &Chosen, number: u32) -> bool
         requires number { number < length book.now.rows }
         requires flags { length chosen.now.flags.items ≡ length book.now.rows }

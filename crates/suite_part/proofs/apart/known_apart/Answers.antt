@@ -1,4 +1,5 @@
 use Rattle.std.proofs.Common.{◌≡◌, ◌∙◌, length, subst, sym}
+use Rattle.std.specs.Prelude.{None, Some, slice_index_or}
 use Rattle.std.proofs.lemmas.Result.{IfOk-weaker}
 use Rattle.clause_flatten.specs.Beside.{AreNeeded}
 use Rattle.row_book.specs.Book.{repository_of}
@@ -39,4 +40,10 @@ pub returns-clause-all : goal.returns-clause-all
 returns-clause-all c =
     IfOk-weaker c.with_rows.result _ _ (λ more back none n l.
     all_known c.flatten.new.pool c.in-Ok.made.book.rows c.in_ok-apart.apart.flags.items c.with_rows.new.pool c.deref-3.result.now more.items back n l)
+    c.with_rows.ensures.rows
+
+pub returns-clause-stays : goal.returns-clause-stays
+returns-clause-stays c =
+    IfOk-weaker c.with_rows.result _ _ (λ more back n id told.
+    back.stays n id (subst (λ z. slice_index_or z n None ≡ Some id) (sym c.deref-3.ensures.value) told))
     c.with_rows.ensures.rows

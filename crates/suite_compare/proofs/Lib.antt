@@ -14,3 +14,4 @@ pub mod Saved
 pub mod Paired
 pub mod Installed
 pub mod Unknown
+pub mod Alike

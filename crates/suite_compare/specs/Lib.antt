@@ -15,3 +15,4 @@ pub mod Partners
 pub mod Telling
 pub mod Bearers
 pub mod Comparing
+pub mod Known

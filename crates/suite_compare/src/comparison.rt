@@ -11,6 +11,9 @@ ghost use Rattle.clause_solver.specs.Outcomes.{IsBudget};
 ghost use Rattle.clause_solver.specs.declared.outcomes.Verdict.{Verdict};
 ghost use Rattle.suite_compare.specs.Asking.{verdict_in};
 ghost use Rattle.suite_compare.specs.declared.verdicts.Bad.{Bad};
+ghost use Rattle.std.specs.Option.{ForSome};
+ghost use Rattle.suite_compare.specs.Bad.{AreAllBad};
+ghost use Rattle.suite_compare.specs.Known.{AreKnownPairs};
 ghost use Rattle.suite_compare.specs.Bearers.{bearers_of, FitsKernel};
 ghost use Rattle.suite_compare.specs.Kinds.{IsJudge};
 ghost use Rattle.suite_compare.specs.Names.{names_of_both};
@@ -20,6 +23,7 @@ ghost use Rattle.suite_compare.specs.Report.{first_told, report};
 ghost use Rattle.suite_compare.specs.Views.{IsKernelOf};
 
 use crate::gather::{JointTable, Partners, joint_table, new_kind, old_kind, partners_of};
+use crate::known::{KnownPairs, pairs_of};
 use crate::places::name_at;
 use crate::report::{LineList, Report, ReportLine, copy_of_first, finding_of};
 use crate::sides::{NewSide, OldSide, Side, new_side_by, new_side_of, verdict_of};
@@ -77,22 +81,23 @@ fn single_lines(
     Ok(lines)
 }
 
-/// Puts the lines of the pairs of names, of which both suites have the kinds, behind the others.
+/// Puts the lines of the pairs of names, of which both suites have the kinds, behind the others, by the bad kinds of each kind in the new one.
 fn put_pair_lines(
     alloc: Global,
     names: &[LentName],
     old: &Side,
     old_of: &[usize],
     new: &Side,
+    bad: &[BadList],
     lines: &mut LineList,
 ) -> Result<(), AllocError>
     requires old { IsSide (length names.now) old.now old_of.now }
     requires new { IsSide (length names.now) new.now new.now.of.items }
+    requires bad { AreAllBad new.now.judge bad.now }
     ensures { (v w : List (List ℕ) → Verdict) → AreVerdicts old.now old_of.now names.now v → AreVerdicts new.now new.now.of.items names.now w → OnOk result (lines.new ≡ lines.old ++ told_pairs v w names.now) }
 {
-    let bad = bad_lists(alloc, &new.judge, &new.singles)?;
     let table = joint_table(alloc, old_of, new)?;
-    let partners = all_partners(alloc, &old.judge, &table, &bad)?;
+    let partners = all_partners(alloc, &old.judge, &table, bad)?;
     tell_pairs(alloc, names, new, &table, &partners, lines)?;
     Ok(())
 }
@@ -110,28 +115,43 @@ fn lines_of(
     ensures { (v w : List (List ℕ) → Verdict) → AreVerdicts old.now old_of.now names.now v → AreVerdicts new.now new.now.of.items names.now w → IfOk result (λ lines. lines ≡ told_report v w names.now) }
 {
     let mut lines = single_lines(alloc, names, old, old_of, new)?;
-    put_pair_lines(alloc, names, old, old_of, new, &mut lines)?;
+    let bad = bad_lists(alloc, &new.judge, &new.singles)?;
+    put_pair_lines(alloc, names, old, old_of, new, &bad, &mut lines)?;
     Ok(lines)
 }
 
-/// The lines of a report on names, but none of pairs where a name has a line by itself.
+/// Lines of a comparison up to the first, and what is known of pairs then.
+#[derive(Drop)]
+struct FirstLines {
+    lines: LineList,
+    known: Option<KnownPairs>,
+}
+
+/// The lines of a report on names, but none of pairs where a name has a line by itself; by what is known of pairs, where that tells of these.
 fn first_lines_of(
     alloc: Global,
     names: &[LentName],
     old: &Side,
     old_of: &[usize],
     new: &Side,
-) -> Result<LineList, AllocError>
+    known: Option<KnownPairs>,
+) -> Result<FirstLines, AllocError>
     requires old { IsSide (length names.now) old.now old_of.now }
     requires new { IsSide (length names.now) new.now new.now.of.items }
-    ensures { (v w : List (List ℕ) → Verdict) → AreVerdicts old.now old_of.now names.now v → AreVerdicts new.now new.now.of.items names.now w → IfOk result (λ lines. first_told lines ≡ first_told (told_report v w names.now)) }
+    requires known { ForSome known AreKnownPairs }
+    ensures lines { (v w : List (List ℕ) → Verdict) → AreVerdicts old.now old_of.now names.now v → AreVerdicts new.now new.now.of.items names.now w → IfOk result (λ made. first_told made.lines ≡ first_told (told_report v w names.now)) }
+    ensures known { IfOk result (λ made. ForSome made.known AreKnownPairs) }
 {
     let mut lines = single_lines(alloc, names, old, old_of, new)?;
     if !lines.as_slice().is_empty() {
-        return Ok(lines);
+        return Ok(FirstLines { lines, known });
     }
-    put_pair_lines(alloc, names, old, old_of, new, &mut lines)?;
-    Ok(lines)
+    let pairs = pairs_of(alloc, &new.judge, &new.singles, known)?;
+    put_pair_lines(alloc, names, old, old_of, new, &pairs.lists, &mut lines)?;
+    Ok(FirstLines {
+        lines,
+        known: Some(pairs),
+    })
 }
 
 /// What the new suite has broken of the old one, within a budget of failed leaves a search, from 1 to 1,000,000: the names
@@ -194,41 +214,68 @@ pub fn first_line(
         (names_of_both view.suite.packages new.now.suite.packages))) }
 {
     let made = new_side_of(alloc, old, new)?;
-    let first = first_beside(alloc, &old.side, &made);
+    let first = first_beside(alloc, &old.side, &made, None);
     drop(made);
-    first
+    Ok(first?.line)
+}
+
+/// The first line of a comparison, or none, and what is known of pairs then.
+#[derive(Drop)]
+pub struct FirstLine {
+    /// The line.
+    pub line: Option<ReportLine>,
+    /// What is known of pairs, for a later comparison: what was given, where a name has a line by itself.
+    pub known: Option<KnownPairs>,
 }
 
 /// The first line of what `compare` tells of other packages against the suite of an old side, or none, by the kernel of these
 /// packages, and by the packages that bear each name of the old side. The kernel was made at the clause limit of the old view,
-/// and both with hold or both without.
+/// and both with hold or both without. What is known of pairs from an earlier such comparison may be given; it saves searches, and
+/// changes no line.
 pub fn first_line_by(
     alloc: Global,
     old: &OldSide,
     pool: &Pool,
     kernel: &Kernel,
     named: &[NumList],
-) -> Result<Option<ReportLine>, AllocError>
+    known: Option<KnownPairs>,
+) -> Result<FirstLine, AllocError>
     requires side { IsOldSide old.now }
     requires fits { FitsKernel pool.now kernel.now named.now }
     requires count { length named.now ≡ length old.now.names }
     requires hold { kernel.now.hold ≡ old.now.view.now.kernel.hold }
-    ensures { let view = old.now.view.now in (home : Home) (stanzas : List PackageFacts) → IsKernelOf pool.now kernel.now view.limit (suite_repository home stanzas) → named.now ≡ bearers_of stanzas old.now.names → IfOk result (λ first. first ≡ first_told (report (verdict_in view.limit view.kernel.hold view.suite.home view.suite.packages old.now.budget) (verdict_in view.limit view.kernel.hold home stanzas old.now.budget) (names_of_both view.suite.packages stanzas))) }
+    requires known { ForSome known AreKnownPairs }
+    ensures first { let view = old.now.view.now in (home : Home) (stanzas : List PackageFacts) → IsKernelOf pool.now kernel.now view.limit (suite_repository home stanzas) → named.now ≡ bearers_of stanzas old.now.names → IfOk result (λ made. made.line ≡ first_told (report (verdict_in view.limit view.kernel.hold view.suite.home view.suite.packages old.now.budget) (verdict_in view.limit view.kernel.hold home stanzas old.now.budget) (names_of_both view.suite.packages stanzas))) }
+    ensures known { IfOk result (λ made. ForSome made.known AreKnownPairs) }
 {
     let made = new_side_by(alloc, old, pool, kernel, named)?;
-    let first = first_beside(alloc, &old.side, &made);
+    let first = first_beside(alloc, &old.side, &made, known);
     drop(made);
     first
 }
 
 /// The first line of what a new side has broken of an old one, or none.
-fn first_beside(alloc: Global, old: &Side, new: &NewSide) -> Result<Option<ReportLine>, AllocError>
+fn first_beside(
+    alloc: Global,
+    old: &Side,
+    new: &NewSide,
+    known: Option<KnownPairs>,
+) -> Result<FirstLine, AllocError>
     requires old { IsSide (length new.now.part.names.items) old.now new.now.part.of.items }
     requires new { IsSide (length new.now.part.names.items) new.now.side new.now.side.of.items }
-    ensures { let names = new.now.part.names.items in (v w : List (List ℕ) → Verdict) → AreVerdicts old.now new.now.part.of.items names v → AreVerdicts new.now.side new.now.side.of.items names w → IfOk result (λ first. first ≡ first_told (told_report v w names)) }
+    requires known { ForSome known AreKnownPairs }
+    ensures first { let names = new.now.part.names.items in (v w : List (List ℕ) → Verdict) → AreVerdicts old.now new.now.part.of.items names v → AreVerdicts new.now.side new.now.side.of.items names w → IfOk result (λ made. made.line ≡ first_told (told_report v w names)) }
+    ensures known { IfOk result (λ made. ForSome made.known AreKnownPairs) }
 {
-    let lines = first_lines_of(alloc, &new.part.names, old, &new.part.of, &new.side)?;
-    let first = copy_of_first(alloc, &lines);
-    drop(lines);
-    first
+    let part = &new.part;
+    let FirstLines { lines, known } = first_lines_of(
+        alloc,
+        &part.names,
+        old,
+        &part.of,
+        &new.side,
+        known,
+    )?;
+    let line = copy_of_first(alloc, &lines)?;
+    Ok(FirstLine { line, known })
 }

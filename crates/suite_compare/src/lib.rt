@@ -11,6 +11,7 @@ mod decision;
 mod gather;
 mod install;
 mod kinds;
+mod known;
 mod laws;
 mod places;
 mod refusals;
@@ -33,7 +34,8 @@ pub use decision::decide;
 
 // What a new suite has broken of an old one.
 pub use bearers::bearers_of;
-pub use comparison::{compare, first_line, first_line_by};
+pub use comparison::{FirstLine, compare, first_line, first_line_by};
+pub use known::KnownPairs;
 pub use report::{Finding, LineList, Report, ReportLine};
 pub use sides::OldSide;
 

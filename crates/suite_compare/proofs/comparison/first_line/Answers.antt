@@ -7,4 +7,4 @@ pub first_beside-first-requires-clause-new : goal.first_beside-first-requires-cl
 first_beside-first-requires-clause-new c = c.in_ok-made.ensures.sides.new_is
 
 pub returns : goal.returns
-returns c = rw c.in_ok-made.ensures.names.names_are at (c.first_beside-first.ensures _ _ c.in_ok-made.ensures.sides.was c.in_ok-made.ensures.names.is)
+returns c = rw c.in_ok-made.ensures.names.names_are at (c.in_ok-first.ensures.first _ _ c.in_ok-made.ensures.sides.was c.in_ok-made.ensures.names.is)

@@ -10,7 +10,9 @@ ghost use Rattle.migrate_plan.specs.Promises.{AreRight, MixesAreIndexes, TakesSa
 ghost use Rattle.migrate_plan.specs.Refusals.{Refuses, packages_with, plan_refusal};
 ghost use Rattle.migrate_plan.specs.Whole.{names_between, AreTextsOf, IsWhole};
 ghost use Rattle.migrate_plan.specs.declared.plan.PlanLine.{PlanLine};
+ghost use Rattle.std.specs.Option.{ForSome};
 ghost use Rattle.suite_compare.specs.Comparing.{IsOldSide};
+ghost use Rattle.suite_compare.specs.Known.{AreKnownPairs};
 ghost use Rattle.suite_compare.specs.Refusals.{packages_in};
 ghost use Rattle.repo_model.specs.Limits.{most_bytes, most_packages};
 
@@ -18,7 +20,7 @@ use crate::checks::{check_homes, check_length, check_names, check_packages};
 use crate::differing::differing_names;
 use crate::mixing::{is_same_home, mix_with, suite_of};
 use crate::notes::TextNotes;
-use crate::parting::{flags_in, line_in};
+use crate::parting::{Tried, flags_in, line_in};
 use crate::plan::{Plan, PlanLine, PlanList};
 use crate::refusals::PlanError;
 use crate::trying::line_of;
@@ -26,7 +28,7 @@ use crate::whole::{Whole, whole_of};
 use deb_version::Bytes;
 use repo_model::Suite;
 use std::alloc::{AllocError, Global};
-use suite_compare::{OldSide, SuiteView};
+use suite_compare::{KnownPairs, OldSide, SuiteView};
 
 /// Which of the names that differ can be taken over from a new index into an old one: each in turn, ascending by bytes, where
 /// the mix of the two with it and the names taken before is within the clause limit, and breaks nothing of the old index and
@@ -160,8 +162,11 @@ fn lines_beside(
 {
     let mut lines = PlanList::new(alloc);
     let mut taken = Vec::new(alloc);
+    let mut known = None;
     for name in names {
-        let line = try_name(alloc, old, whole, taken.as_slice(), name.as_slice())?;
+        let tried = try_name(alloc, old, whole, taken.as_slice(), name.as_slice(), known)?;
+        let Tried { line, known: more } = tried;
+        known = more;
         put_taken(alloc, &mut taken, &line)?;
         lines.push(line)?;
     }
@@ -175,15 +180,18 @@ fn try_name(
     whole: &Whole,
     taken: &[Bytes],
     name: &[u8],
-) -> Result<PlanLine, AllocError>
+    known: Option<KnownPairs>,
+) -> Result<Tried, AllocError>
     requires side { IsOldSide old.now }
     requires whole { IsWhole old.now whole.now }
     requires taken { (other : List ℕ) → In other taken.now → In other (names_between old.now whole.now) }
     requires name { In name.now (names_between old.now whole.now) }
     requires limit { 0 < old.now.view.now.limit }
-    ensures named { IfOk result (λ line. planned_name line ≡ name.now) }
+    requires known { ForSome known AreKnownPairs }
+    ensures named { IfOk result (λ tried. planned_name tried.line ≡ name.now) }
     ensures line { let settings = settings_of old.now.budget old.now.view.now.limit old.now.view.now.kernel.hold in
-        IfOk result (λ line. (texts : Texts) → AreTextsOf texts old.now whole.now → (lines : List PlanLine) → taken.now ≡ taken_in lines → line ≡ line_behind settings texts.old texts.new lines name.now) }
+        IfOk result (λ tried. (texts : Texts) → AreTextsOf texts old.now whole.now → (lines : List PlanLine) → taken.now ≡ taken_in lines → tried.line ≡ line_behind settings texts.old texts.new lines name.now) }
+    ensures known { IfOk result (λ tried. ForSome tried.known AreKnownPairs) }
 {
     let suite = &old.view.suite;
     let mix = mix_with(
@@ -197,13 +205,13 @@ fn try_name(
     )?;
     if is_same_home(&mix.home, &whole.home) {
         let flags = flags_in(alloc, &mix.left, &mix.kept, &whole.added)?;
-        let part_line = line_in(alloc, old, whole, flags, name)?;
-        return Ok(part_line);
+        let tried = line_in(alloc, old, whole, flags, name, known)?;
+        return Ok(tried);
     }
     // Where no package is left that tells the architecture, other packages meet each other than in the whole.
     let made = suite_of(alloc, suite, whole.new, mix)?;
     let line = line_of(alloc, old, made, name)?;
-    Ok(line)
+    Ok(Tried { line, known })
 }
 
 // Puts the name of a line behind those that are taken, where the line takes it.

@@ -5,13 +5,18 @@ ghost use Rattle.clause_pool.specs.Interned.{IsPool};
 ghost use Rattle.listed.specs.Lists.{In};
 ghost use Rattle.repo_model.specs.Repository.{suite_repository};
 ghost use Rattle.row_book.specs.Book.{repository_of, Sound};
+ghost use Rattle.std.specs.Option.{ForSome};
 ghost use Rattle.suite_compare.specs.Comparing.{IsOldSide};
+ghost use Rattle.suite_compare.specs.Known.{AreKnownPairs};
+ghost use Rattle.suite_compare.specs.Report.{first_told};
+ghost use Rattle.suite_compare.specs.declared.report.ReportLine.{ReportLine};
 ghost use Rattle.suite_compare.specs.Views.{IsKernelOf};
 ghost use Rattle.suite_part.specs.Bases.{IsBase};
 ghost use Rattle.suite_part.specs.Parts.{chosen_in, part};
 ghost use Rattle.migrate_plan.specs.Plan.{outcome_of, settings_of};
 ghost use Rattle.migrate_plan.specs.Trying.{outcome_by, told_of};
 ghost use Rattle.migrate_plan.specs.Whole.{packages_of_both, IsKernelAt, IsWhole};
+ghost use Rattle.migrate_plan.specs.declared.plan.PlanLine.TheVariants.{LeftLimit};
 
 use crate::plan::PlanLine;
 use crate::trying::line_by_first;
@@ -22,8 +27,8 @@ use kernel_rounds::{Kernel, RoundError, extract, extract_beside};
 use listed::Listed;
 use row_book::Book;
 use std::alloc::{AllocError, Global};
-use suite_compare::{OldSide, first_line_by};
-use suite_part::{Base, Chosen, part_of};
+use suite_compare::{FirstLine, KnownPairs, OldSide, first_line_by};
+use suite_part::{Base, Chosen, known_apart, part_of};
 
 /// For each package of a whole whether it is in a mix: those of the old suite come first, and of the new one only those that were added.
 pub(crate) fn flags_in(
@@ -46,6 +51,15 @@ pub(crate) fn flags_in(
     Ok(flags)
 }
 
+/// What becomes of a name, and what is known of pairs then.
+#[derive(Drop)]
+pub(crate) struct Tried {
+    /// The line of the name.
+    pub(crate) line: PlanLine,
+    /// What is known of pairs, for the mixes of later names.
+    pub(crate) known: Option<KnownPairs>,
+}
+
 /// The line of a name whose mix has those packages of the whole whose flags are up.
 pub(crate) fn line_in(
     alloc: Global,
@@ -53,28 +67,54 @@ pub(crate) fn line_in(
     whole: &Whole,
     flags: Vec<bool>,
     name: &[u8],
-) -> Result<PlanLine, AllocError>
+    known: Option<KnownPairs>,
+) -> Result<Tried, AllocError>
     requires side { IsOldSide old.now }
     requires limit { 0 < old.now.view.now.limit }
     requires whole { IsWhole old.now whole.now }
     requires flags { length flags.items ≡ length (packages_of_both old.now whole.now) }
-    ensures { let before = old.now.view.now in let settings = settings_of old.now.budget before.limit before.kernel.hold in
-        IfOk result (λ line. line ≡ outcome_by settings before.suite.home before.suite.packages whole.now.home (items_where_true flags.items (packages_of_both old.now whole.now)) name.now) }
+    requires known { ForSome known AreKnownPairs }
+    ensures line { let before = old.now.view.now in let settings = settings_of old.now.budget before.limit before.kernel.hold in
+        IfOk result (λ tried. tried.line ≡ outcome_by settings before.suite.home before.suite.packages whole.now.home (items_where_true flags.items (packages_of_both old.now whole.now)) name.now) }
+    ensures known { IfOk result (λ tried. ForSome tried.known AreKnownPairs) }
 {
     let chosen = Chosen::of(alloc, flags)?;
     let mut pool = Pool::new(alloc)?;
     let made = kernel_in(alloc, &mut pool, old, whole, &chosen)?;
     match made {
         Some(kernel) => {
-            let line = line_by_kernel(alloc, old, whole, &chosen, &pool, &kernel, name);
+            let first = first_in(alloc, old, whole, &chosen, &pool, &kernel, known);
             drop(kernel);
-            line
+            tried_by(alloc, name, first)
         }
-        None => {
-            let name = Bytes::copy(alloc, name)?;
-            Ok(PlanLine::LeftLimit { name })
-        }
+        None => tried_over(alloc, name, known),
     }
+}
+
+// What becomes of a name by the first line that is told of its mix.
+fn tried_by(
+    alloc: Global,
+    name: &[u8],
+    first: Result<FirstLine, AllocError>,
+) -> Result<Tried, AllocError>
+    requires known { IfOk first (λ made. ForSome made.known AreKnownPairs) }
+    ensures line { (lines : List ReportLine) → IfOk first (λ made. made.line ≡ first_told lines) → IfOk result (λ tried. tried.line ≡ outcome_of name.now None lines) }
+    ensures known { IfOk result (λ tried. ForSome tried.known AreKnownPairs) }
+{
+    let FirstLine { line: told, known } = first?;
+    let line = line_by_first(alloc, name, told)?;
+    Ok(Tried { line, known })
+}
+
+// What becomes of a name whose mix passes the clause limit.
+fn tried_over(alloc: Global, name: &[u8], known: Option<KnownPairs>) -> Result<Tried, AllocError>
+    requires known { ForSome known AreKnownPairs }
+    ensures line { IfOk result (λ tried. tried.line ≡ LeftLimit name.now) }
+    ensures known { IfOk result (λ tried. ForSome tried.known AreKnownPairs) }
+{
+    let name = Bytes::copy(alloc, name)?;
+    let line = PlanLine::LeftLimit { name };
+    Ok(Tried { line, known })
 }
 
 // The kernel of the chosen packages of a whole, at the limit and hold of the old view; none where it passes the clause limit.
@@ -141,7 +181,8 @@ fn kernel_beside(
     requires part { repository_of pool.old book.now ≡ part chosen.now.flags.items (repository_of whole.now.pool whole.now.book) }
     ensures { IfOk result (IsKernelAt pool.new limit false (repository_of pool.old book.now)) }
 {
-    let known = base.known_rows(alloc, pool, &whole.book, chosen)?;
+    let old_rows = base.known_rows(alloc, pool, &whole.book, chosen)?;
+    let known = known_apart(alloc, pool, book, limit, old_rows)?;
     let made = extract_beside(alloc, pool, book, limit, &known)?;
     Ok(made)
 }
@@ -165,28 +206,28 @@ fn kernel_of(
     }
 }
 
-// The line of a name by the kernel of its mix, which is of the chosen packages of a whole.
-fn line_by_kernel(
+// The first line that is told of a mix against the old side, by the mix's kernel, which is of the chosen packages of a whole.
+fn first_in(
     alloc: Global,
     old: &OldSide,
     whole: &Whole,
     chosen: &Chosen,
     pool: &Pool,
     kernel: &Kernel,
-    name: &[u8],
-) -> Result<PlanLine, AllocError>
+    known: Option<KnownPairs>,
+) -> Result<FirstLine, AllocError>
     requires side { IsOldSide old.now }
     requires hold { kernel.now.hold ≡ old.now.view.now.kernel.hold }
     requires kernel { IsKernelOf pool.now kernel.now old.now.view.now.limit (suite_repository whole.now.home (items_where_true chosen.now.flags.items (packages_of_both old.now whole.now))) }
     requires whole { IsWhole old.now whole.now }
     requires flags { length chosen.now.flags.items ≡ length (packages_of_both old.now whole.now) }
-    ensures { let before = old.now.view.now in let settings = settings_of old.now.budget before.limit before.kernel.hold in
-        IfOk result (λ line. line ≡ outcome_of name.now None (told_of settings before.suite.home before.suite.packages whole.now.home (items_where_true chosen.now.flags.items (packages_of_both old.now whole.now)))) }
+    requires known { ForSome known AreKnownPairs }
+    ensures first { let before = old.now.view.now in let settings = settings_of old.now.budget before.limit before.kernel.hold in
+        IfOk result (λ made. made.line ≡ first_told (told_of settings before.suite.home before.suite.packages whole.now.home (items_where_true chosen.now.flags.items (packages_of_both old.now whole.now)))) }
+    ensures known { IfOk result (λ made. ForSome made.known AreKnownPairs) }
 {
     let named = named_in(alloc, &whole.named, chosen)?;
-    let first = first_line_by(alloc, old, pool, kernel, &named)?;
-    let line = line_by_first(alloc, name, first)?;
-    Ok(line)
+    first_line_by(alloc, old, pool, kernel, &named, known)
 }
 
 // Those of each list of packages that are chosen, by their numbers among the chosen ones.

@@ -1,4 +1,3 @@
--- for the bodies of this crate alone
 -- Items at their places, and places under keys.
 use Rattle.std.specs.Prelude.{◌≡◌, ℕ, ◌<◌, ◌⊎◌, List, length, slice_index_or}
 use Rattle.listed.specs.Lists.{In}

@@ -1,3 +1,5 @@
+use Rattle.std.specs.Option.{ForSome}
+use Rattle.suite_compare.specs.Known.{AreKnownPairs}
 use Rattle.migrate_plan.specs.Notes.{Texts}
 use Rattle.migrate_plan.specs.Plan.{line_behind, settings_of}
 use Rattle.migrate_plan.specs.Trying.{AreTakenBy, LeadsTo}
@@ -8,4 +10,5 @@ abbrev pub invariant-loop-name : goal.invariant-loop-name
 invariant-loop-name l = record {
   takes : AreTakenBy l.lines l.names l.taken.items;
   leads : (texts : Texts) → AreTextsOf texts l.old l.whole → LeadsTo (line_behind (settings_of l.old.budget l.old.view.now.limit l.old.view.now.kernel.hold) texts.old texts.new) l.names l.name-index l.lines;
+  known : ForSome l.known AreKnownPairs;
 }

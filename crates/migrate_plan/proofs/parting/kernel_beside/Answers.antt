@@ -1,5 +1,5 @@
-use Rattle.std.proofs.Common.{◌≡◌, false, sym, subst}
-use Rattle.row_book.specs.Book.{repository_of}
+use Rattle.std.proofs.Common.{◌≡◌, ◌∙◌, false, sym, subst}
+use Rattle.row_book.specs.Book.{repository_of, Sound}
 use Rattle.row_book.proofs.Books.{repository_kept, sound_kept}
 use Rattle.suite_part.proofs.BaseMade.{base_fits}
 use Rattle.migrate_plan.specs.Whole.{IsKernelAt}
@@ -9,16 +9,30 @@ use Rattle.migrate_plan.proofs.parting.kernel_beside.Goals as goal
 pub known_rows-requires-clause-fits : goal.known_rows-requires-clause-fits
 known_rows-requires-clause-fits c = base_fits c.args.whole.now.pool c.args.whole.now.book c.args.base.now c.requires.whole c.requires.base
 
+pub known_apart-requires-clause-sound : goal.known_apart-requires-clause-sound
+known_apart-requires-clause-sound c = sound_kept c.args.pool.now c.known_rows.new.pool c.requires.book.rows.is_pool c.known_rows.ensures.kept c.args.book.now c.requires.book
+
+pub known_apart-requires-clause-known : goal.known_apart-requires-clause-known
+known_apart-requires-clause-known c =
+    let same : repository_of c.known_rows.new.pool c.args.book.now ≡ repository_of c.args.pool.now c.args.book.now = repository_kept c.args.pool.now c.known_rows.new.pool c.requires.book.rows.is_pool c.known_rows.ensures.kept c.args.book.now c.requires.book in
+    rw (same, c.requires.part, sym c.requires.same) (c.in_ok-old_rows.ensures.known c.args.whole.now.pool c.requires.whole c.requires.base)
+
 pub extract_beside-requires-clause-sound : goal.extract_beside-requires-clause-sound
-extract_beside-requires-clause-sound c = sound_kept c.args.pool.now c.known_rows.new.pool c.requires.book.rows.is_pool c.known_rows.ensures.kept c.args.book.now c.requires.book
+extract_beside-requires-clause-sound c =
+    let sound : Sound c.known_rows.new.pool c.args.book.now = sound_kept c.args.pool.now c.known_rows.new.pool c.requires.book.rows.is_pool c.known_rows.ensures.kept c.args.book.now c.requires.book in
+    sound_kept c.known_rows.new.pool c.known_apart.new.pool sound.rows.is_pool c.known_apart.ensures.kept c.args.book.now sound
 
 pub extract_beside-requires-clause-known : goal.extract_beside-requires-clause-known
 extract_beside-requires-clause-known c =
-    let same : repository_of c.known_rows.new.pool c.args.book.now ≡ repository_of c.args.pool.now c.args.book.now = repository_kept c.args.pool.now c.known_rows.new.pool c.requires.book.rows.is_pool c.known_rows.ensures.kept c.args.book.now c.requires.book in
-    rw (same, c.requires.part, sym c.requires.same, c.deref.ensures.value) (c.in_ok-known.ensures.known c.args.whole.now.pool c.requires.whole c.requires.base)
+    let sound : Sound c.known_rows.new.pool c.args.book.now = sound_kept c.args.pool.now c.known_rows.new.pool c.requires.book.rows.is_pool c.known_rows.ensures.kept c.args.book.now c.requires.book in
+    let same : repository_of c.known_apart.new.pool c.args.book.now ≡ repository_of c.known_rows.new.pool c.args.book.now = repository_kept c.known_rows.new.pool c.known_apart.new.pool sound.rows.is_pool c.known_apart.ensures.kept c.args.book.now sound in
+    rw (same, c.deref.ensures.value) c.in_ok-known.ensures.known
 
 pub returns : goal.returns
 returns c =
-    let same : repository_of c.known_rows.new.pool c.args.book.now ≡ repository_of c.args.pool.now c.args.book.now = repository_kept c.args.pool.now c.known_rows.new.pool c.requires.book.rows.is_pool c.known_rows.ensures.kept c.args.book.now c.requires.book in
+    let sound : Sound c.known_rows.new.pool c.args.book.now = sound_kept c.args.pool.now c.known_rows.new.pool c.requires.book.rows.is_pool c.known_rows.ensures.kept c.args.book.now c.requires.book in
+    let same : repository_of c.known_apart.new.pool c.args.book.now ≡ repository_of c.args.pool.now c.args.book.now =
+    repository_kept c.known_rows.new.pool c.known_apart.new.pool sound.rows.is_pool c.known_apart.ensures.kept c.args.book.now sound
+    ∙ repository_kept c.args.pool.now c.known_rows.new.pool c.requires.book.rows.is_pool c.known_rows.ensures.kept c.args.book.now c.requires.book in
     subst (λ R. IsKernelAt c.extract_beside.new.pool c.args.limit false R c.in_ok-made.made) same
     (made_beside _ _ c.args.limit _ c.in_ok-made.made c.in_ok-made.ensures.kernel c.in_ok-made.ensures.hold c.in_ok-made.ensures.passed)

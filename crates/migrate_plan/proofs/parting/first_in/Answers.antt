@@ -1,10 +1,8 @@
 use Rattle.std.proofs.Common.{◌∙◌}
 use Rattle.std.specs.List.{items_where_true}
-use Rattle.migrate_plan.specs.Plan.{settings_of}
-use Rattle.migrate_plan.specs.Trying.{told_of}
 use Rattle.migrate_plan.specs.Whole.{packages_of_both}
 use Rattle.migrate_plan.proofs.Parted.{bearers_known, chosen_bearers, part_fits, part_long}
-use Rattle.migrate_plan.proofs.parting.line_by_kernel.Goals as goal
+use Rattle.migrate_plan.proofs.parting.first_in.Goals as goal
 
 pub named_in-requires : goal.named_in-requires
 named_in-requires c = bearers_known (packages_of_both c.args.old.now c.args.whole.now) c.args.old.now.names _ c.args.chosen.now.flags.items c.requires.flags (c.deref.ensures.value ∙ c.requires.whole.named_are)
@@ -19,12 +17,10 @@ first_line_by-requires-clause-count c =
     part_long (packages_of_both c.args.old.now c.args.whole.now) c.args.old.now.names _ c.args.chosen.now.flags.items c.requires.flags (c.deref.ensures.value ∙ c.requires.whole.named_are)
     _ (c.deref-2.ensures.value ∙ c.in_ok-named.ensures)
 
-pub returns : goal.returns
-returns c =
-    let old = c.args.old.now.view.now in
+pub returns-clause-first : goal.returns-clause-first
+returns-clause-first c =
     let whole = c.args.whole.now in
     let flags = c.args.chosen.now.flags.items in
     let packages = packages_of_both c.args.old.now whole in
-    c.in_ok-line.ensures (told_of (settings_of c.args.old.now.budget old.limit old.kernel.hold) old.suite.home old.suite.packages whole.home (items_where_true flags packages))
-    (c.in_ok-first.ensures whole.home (items_where_true flags packages) c.requires.kernel
-    (chosen_bearers packages c.args.old.now.names _ flags c.requires.flags (c.deref.ensures.value ∙ c.requires.whole.named_are) _ (c.deref-2.ensures.value ∙ c.in_ok-named.ensures)))
+    c.first_line_by.ensures.first whole.home (items_where_true flags packages) c.requires.kernel
+    (chosen_bearers packages c.args.old.now.names _ flags c.requires.flags (c.deref.ensures.value ∙ c.requires.whole.named_are) _ (c.deref-2.ensures.value ∙ c.in_ok-named.ensures))

@@ -15,7 +15,7 @@ WORD = re.compile(rf"(?<!\.)\b{NAME}(?:\.{NAME})*|[^\w\s(){{}}.,;]+")
 HEAD = re.compile(rf"(?:(?:pub|abbrev|unfoldable) )*(record |data )?({NAME})(?= )")
 NO_HEAD = re.compile(r"(?:pub )?(?:use|mod) |unfolding")
 FIELD = re.compile(rf"  (?:pub )?({NAME}) :")
-LOGIC_USE = re.compile(r"^ *(?:ghost )?(?:pub )?use Rattle\.([\w.'-]+?)(?:\.\{([^}]*)\}| as ([\w-]+))?;?$", re.M)
+LOGIC_USE = re.compile(r"^ *(?:ghost )?(?:pub )?use Rattle\.([^;\n]*?);?$", re.M)
 TYPE_USE = re.compile(r"^use (\w+)(?:::\w+)*?::(?:\{(.*?)\}|(\w+));", re.M | re.S)
 TYPE = re.compile(r"^pub (?:struct|enum|type|trait) (\w+)\b.*?(?:;|\{\}|^\})$", re.M | re.S)
 MODEL = re.compile(r"^impl(?:<.*?>)? Model for (\w+).*?^\}", re.M | re.S)
@@ -99,13 +99,39 @@ def type_of(path, text, found, model):
 
 def scope_of(text):
     """For each word of the `use` lines its module and its name there; the name is none for a module as a whole."""
-    scope = {}
-    for module, many, alias in LOGIC_USE.findall(text):
-        items = [item.strip().partition(" as ") for item in many.split(",") if item.strip()]
-        scope.update({key_of(new or old): (module, old) for old, _, new in items})
-        if not items:
-            scope[alias or module.split(".")[-1]] = (module, None)
-    return scope
+    return {key_of(alias or name or module.split(".")[-1]): (module, name) for module, name, alias in imports_in(text)}
+
+
+def imports_in(text):
+    """What the `use` lines of a text import: each word with its module, or a module as a whole, and the name that it is given, if any."""
+    for path in LOGIC_USE.findall(text):
+        yield from imports_of(path)
+
+
+def imports_of(path):
+    """What an import names: one module, or a list of words behind it; or behind a folder of a crate a list of such modules."""
+    module, _, listed = path.partition(".{")
+    if not listed:
+        module, _, alias = path.partition(" as ")
+        yield module, None, alias
+        return
+    for part in parts_of(listed.removesuffix("}")):
+        if module.count(".") == 1 or part.endswith("}"):
+            yield from imports_of(f"{module}.{part}")
+        else:
+            name, _, alias = part.partition(" as ")
+            yield module, name, alias
+
+
+def parts_of(text):
+    """The parts of a list between braces, at its commas that no inner braces hold."""
+    parts, depth, start = [], 0, 0
+    for place, sign in enumerate(text):
+        depth += {"{": 1, "}": -1}.get(sign, 0)
+        if sign == "," and depth == 0:
+            parts.append(text[start:place].strip())
+            start = place + 1
+    return [part for part in [*parts, text[start:].strip()] if part]
 
 
 def key_of(word):

@@ -1,12 +1,8 @@
 -- Where the newest file of a path stands.
 use Rattle.std.proofs.Common.{◌≡◌, ℕ, Bool, true, false, cond, List, [], length, Option, Some, None, refl, sym, subst, inl, inr, arith}
-use Rattle.std.specs.Prelude.{MatchOption, is_some, position, slice_get, bytes_eq, string_bytes, unwrap_or, option_map, nat_lt}
-use Rattle.std.specs.List.{position_or_len}
-use Rattle.std.proofs.lemmas.List.Folds.{find_at}
-use Rattle.std.proofs.lemmas.Option.{slice_get_cases}
-use Rattle.std.proofs.lemmas.Grind.{common_steps}
-use Rattle.byte_flow.specs.declared.file_table.StoredFile.{StoredFile}
-use Rattle.byte_flow.specs.FileTable.{stored_files, bytes_from}
+use Rattle.std.proofs.{lemmas.List.Folds.{find_at}, lemmas.Option.{slice_get_cases}, lemmas.Grind.{common_steps}}
+use Rattle.std.specs.{Prelude.{MatchOption, is_some, position, slice_get, bytes_eq, string_bytes, unwrap_or, option_map, nat_lt}, List.{position_or_len}}
+use Rattle.byte_flow.specs.{declared.file_table.StoredFile.{StoredFile}, FileTable.{stored_files, bytes_from}}
 
 abbrev bytes_of : StoredFile → List ℕ
 bytes_of file = file.bytes.items

@@ -1,10 +1,7 @@
 -- How a reading goes on by one call, and how it ends.
 use Rattle.std.proofs.Common.{◌≡◌, ℕ, ◌<◌, ◌+◌, ◌≤◌, Bool, List, [], ◌++◌, Option, Some, None, Result, Ok, Err, sym, subst, ap, ◌∙◌, append_assoc}
-use Rattle.std.specs.Prelude.{IsErrAnd, IsOk, IsSome}
-use Rattle.std.specs.Io.KnownBytes.{Consumes}
-use Rattle.byte_flow.specs.Flow.{Files, Starts}
-use Rattle.byte_flow.specs.declared.transfer.ReadError.{ReadError}
-use Rattle.byte_flow.specs.declared.transfer.ReadError.TheVariants.{Memory}
+use Rattle.std.specs.{Prelude.{IsErrAnd, IsOk, IsSome}, Io.KnownBytes.{Consumes}}
+use Rattle.byte_flow.specs.{Flow.{Files, Starts}, declared.transfer.ReadError.{ReadError}, declared.transfer.ReadError.TheVariants.{Memory}}
 use Rattle.byte_flow.specs.Transfer.{Reached, read_on, StopsWithin, PassesLimit, ReadsWhole, piece_size}
 
 -- what was read and what is left are the file, where the contents are told

@@ -1,8 +1,6 @@
 -- What is not pending stays not pending.
-use Rattle.std.proofs.Common.{◌≡◌, ℕ, ◌+◌, ◌≤◌, false, List, [], ◌∷◌, refl, arith}
-use Rattle.std.specs.Prelude.{◌==◌}
-use Rattle.std.specs.List.{list_any}
-use Rattle.std.proofs.lemmas.Grind.{common_steps}
+use Rattle.std.proofs.{Common.{◌≡◌, ℕ, ◌+◌, ◌≤◌, false, List, [], ◌∷◌, refl, arith}, lemmas.Grind.{common_steps}}
+use Rattle.std.specs.{Prelude.{◌==◌}, List.{list_any}}
 use Rattle.byte_flow.specs.Schedule.{has_pending}
 
 pub none_pending_later : (calls later : ℕ) (listed : List ℕ) → calls ≤ later → has_pending calls listed ≡ false → has_pending later listed ≡ false

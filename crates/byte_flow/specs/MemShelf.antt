@@ -1,8 +1,6 @@
 -- A shelf in memory: its files, the rest of the started one, its listed calls, and what each call does to them.
 use Rattle.std.specs.Prelude.{◌≡◌, ℕ, ◌+◌, ◌-◌, ◌^◌, min, Bool, not, ◌&&◌, List, [], length, drop, Option, Some, None, is_some, unwrap_or, if◌then◌else◌}
-use Rattle.byte_flow.specs.declared.mem_shelf.MemShelf.{MemShelf}
-use Rattle.byte_flow.specs.Flow.{Files, faults_after, raised}
-use Rattle.byte_flow.specs.FileTable.{files_in, rest_in}
+use Rattle.byte_flow.specs.{declared.mem_shelf.MemShelf.{MemShelf}, Flow.{Files, faults_after, raised}, FileTable.{files_in, rest_in}}
 use Rattle.byte_flow.specs.Schedule.{has_pending, is_next_listed}
 
 -- the bytes of each path

@@ -1,6 +1,5 @@
 -- Calls that are numbered from 1, and the numbers of those that are to fail.
-use Rattle.std.specs.Prelude.{ℕ, ◌+◌, ◌-◌, ◌^◌, Bool, ◌&&◌, ◌==◌, nat_lt, List}
-use Rattle.std.specs.List.{list_any}
+use Rattle.std.specs.{Prelude.{ℕ, ◌+◌, ◌-◌, ◌^◌, Bool, ◌&&◌, ◌==◌, nat_lt, List}, List.{list_any}}
 
 -- a listed call is still to come, after so many calls
 abbrev pub has_pending : ℕ → List ℕ → Bool

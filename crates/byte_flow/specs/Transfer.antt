@@ -1,7 +1,6 @@
 -- Which calls the reading of a whole file and the writing of a whole text make, and what their refusals tell.
 use Rattle.std.specs.Prelude.{ℕ, ◌+◌, ◌<◌, ◌≤◌, Bool, true, false, ◌⊎◌, List, [], length, drop, Option, Some, None, Result, Ok, Err, ⊤}
-use Rattle.byte_flow.specs.declared.transfer.ReadError.{ReadError}
-use Rattle.byte_flow.specs.declared.transfer.ReadError.TheVariants.{Failed, TooLong, Memory}
+use Rattle.byte_flow.specs.{declared.transfer.ReadError.{ReadError}, declared.transfer.ReadError.TheVariants.{Failed, TooLong, Memory}}
 use Rattle.byte_flow.specs.declared.transfer.WriteError.{WriteError}
 use Rattle.byte_flow.specs.declared.transfer.WriteError.TheVariants.{Failed as WriteFailed}
 

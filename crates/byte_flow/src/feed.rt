@@ -1,8 +1,6 @@
 // A whole file read from a shelf, piece by piece, and given to a taker.
 ghost use Rattle.std.specs.Prelude.{◌≡◌, ◌-◌, ◌<◌, ◌≤◌, ◌^◌, IfOk, IfErr};
-ghost use Rattle.byte_flow.specs.Feeding.{IsFed};
-ghost use Rattle.byte_flow.specs.Flow.{FileIsLonger, LacksFile, Rose};
-ghost use Rattle.byte_flow.specs.Transfer.{OnFailed, OnTooLong, ReadsWhole};
+ghost use Rattle.byte_flow.specs.{Feeding.{IsFed}, Flow.{FileIsLonger, LacksFile, Rose}, Transfer.{OnFailed, OnTooLong, ReadsWhole}};
 
 use crate::transfer::make_piece;
 use crate::{ReadError, Shelf, Taker};

@@ -34,8 +34,7 @@ impl<'a, R: Files> FileShelf<'a, R> {
 
 impl<R: Files> Shelf for FileShelf<'_, R> {
     ghost use Rattle.std.specs.Prelude.{◌≡◌, None, is_some};
-    ghost use Rattle.byte_flow.specs.FileShelf.{rest_of_open};
-    ghost use Rattle.byte_flow.specs.Flow.{faults_after};
+    ghost use Rattle.byte_flow.specs.{FileShelf.{rest_of_open}, Flow.{faults_after}};
 
     ghost contents = { λ _. None };
 

@@ -1,7 +1,5 @@
 // What a shelf of files promises to those who read from it.
-ghost use Rattle.std.specs.Prelude.{◌≡◌, ◌<◌, ◌^◌, ℕ, Bool, List, Option, length, is_ok, IsOk, IsSome, OnErr, ⊤};
-ghost use Rattle.std.specs.Result.{result_ok};
-ghost use Rattle.std.specs.Io.{ReadsAtMost};
+ghost use Rattle.std.specs.{Prelude.{◌≡◌, ◌<◌, ◌^◌, ℕ, Bool, List, Option, length, is_ok, IsOk, IsSome, OnErr, ⊤}, Result.{result_ok}, Io.{ReadsAtMost}};
 ghost use Rattle.std.specs.Io.KnownBytes.{IsAtEnd, ReadConsumes};
 ghost use Rattle.byte_flow.specs.Flow.{Files, HasCause, LacksFile, Starts, moved_after};
 

@@ -1,7 +1,5 @@
 // What a sink promises to those who write into it.
-ghost use Rattle.std.specs.Prelude.{◌≡◌, ◌+◌, ◌<◌, ◌≤◌, ◌^◌, ℕ, List, Option, length, IsOk, ⊤};
-ghost use Rattle.std.specs.Result.{result_ok};
-ghost use Rattle.std.specs.Io.KnownBytes.{WriteAppends};
+ghost use Rattle.std.specs.{Prelude.{◌≡◌, ◌+◌, ◌<◌, ◌≤◌, ◌^◌, ℕ, List, Option, length, IsOk, ⊤}, Result.{result_ok}, Io.KnownBytes.{WriteAppends}};
 ghost use Rattle.byte_flow.specs.Flow.{HasCause, MakesHeadway, room_spent};
 
 use crate::Failed;

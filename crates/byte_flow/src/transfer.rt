@@ -1,8 +1,6 @@
 // A whole file read from a shelf, and a whole text written into a sink.
-ghost use Rattle.std.specs.Prelude.{◌≡◌, ◌<◌, ◌≤◌, length, take, IfOk, IfErr, IsOk};
-ghost use Rattle.std.specs.Io.KnownBytes.{Appends};
-ghost use Rattle.byte_flow.specs.Flow.{FileIs, FileIsLonger, HasCause, LacksFile, Rose};
-ghost use Rattle.byte_flow.specs.Transfer.{OnFailed, OnTooLong, ReadsWhole, WritesWhole, written_of};
+ghost use Rattle.std.specs.{Prelude.{◌≡◌, ◌<◌, ◌≤◌, length, take, IfOk, IfErr, IsOk}, Io.KnownBytes.{Appends}};
+ghost use Rattle.byte_flow.specs.{Flow.{FileIs, FileIsLonger, HasCause, LacksFile, Rose}, Transfer.{OnFailed, OnTooLong, ReadsWhole, WritesWhole, written_of}};
 ghost use Rattle.byte_flow.specs.declared.transfer.ReadError.TheVariants.{Failed as ReadFailed, Memory};
 
 use crate::{Failed, Shelf, Sink};

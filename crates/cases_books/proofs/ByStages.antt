@@ -1,13 +1,9 @@
 -- Repositories that are flattened by the definition, told by the tables of its stages.
 use Rattle.std.proofs.Common.{◌≡◌, ℕ, Bool, true, false, ◌&&◌, ltb, List, [], ◌∷◌, inl, inr, length, refl, sym, ap, arith, filter, Some, None}
+use Rattle.std.proofs.{lemmas.Bool.{and_parts, ltb-true, cases_lt}, lemmas.List.{get_or_past}}
 use Rattle.std.specs.List.{list_all}
-use Rattle.std.proofs.lemmas.Bool.{and_parts, ltb-true, cases_lt}
-use Rattle.std.proofs.lemmas.List.{get_or_past}
 use Rattle.listed.specs.Lists.{In, Ascending}
-use Rattle.row_book.specs.Repository.{Repository, clauses_of}
-use Rattle.row_book.specs.Numbers.{numbers}
-use Rattle.row_book.specs.Sound.{SoundClauses}
-use Rattle.row_book.specs.Flattening.{flat, held_of, passes, packages}
+use Rattle.row_book.specs.{Repository.{Repository, clauses_of}, Numbers.{numbers}, Sound.{SoundClauses}, Flattening.{flat, held_of, passes, packages}}
 use Rattle.listed.proofs.Lists.{In_none, all_at}
 use Rattle.row_book.proofs.Numbers.{numbers_from}
 use Rattle.clause_flatten.specs.Substitution.{table_without, table_passes, choice_in, first_table, stage_after, passes_by_stages}

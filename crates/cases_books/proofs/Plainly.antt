@@ -1,8 +1,6 @@
 -- Small repositories on which the definitions of flattening are computed plainly.
 use Rattle.std.proofs.Common.{◌≡◌, true, false, [], ◌∷◌, refl, Some, None}
-use Rattle.row_book.specs.Repository.{Repository}
-use Rattle.row_book.specs.Numbers.{numbers, nonempty_from, subsets}
-use Rattle.row_book.specs.Support.{supports, is_supported, blocks, is_minimal_block, row}
+use Rattle.row_book.specs.{Repository.{Repository}, Numbers.{numbers, nonempty_from, subsets}, Support.{supports, is_supported, blocks, is_minimal_block, row}}
 use Rattle.row_book.specs.Flattening.{next_gone, passes_over, remaining_after, rows_over, flat, held_of, passes}
 
 -- `a: Depends b`, `b`

@@ -1,14 +1,10 @@
 -- Laws that read almost as those of flattening and do not hold, each with a repository that shows it.
 use Rattle.std.proofs.Common.{◌≡◌, ◌≢◌, ℕ, ◌<◌, true, false, List, [], ◌∷◌, ◌⊎◌, ◌↔◌, inl, inr, length, refl, sym, subst, arith}
 use Rattle.std.proofs.lemmas.Bool.{both_ways, cases_eq, false≢true, ltb-true}
-use Rattle.row_book.specs.Sets.{NumSet, Is, Hit, plus, without}
+use Rattle.row_book.specs.{Sets.{NumSet, Is, Hit, plus, without}, Repository.{Repository, Coinst, clauses_of, against}, Numbers.{nonempty_from, subsets}}
+use Rattle.row_book.specs.{Support.{Support, IsRow, supports, is_supported, blocks, is_minimal_block, row}, Sound.{OfPackages}, Flattening.{all_packages}}
 use Rattle.listed.specs.Lists.{In, here, has}
-use Rattle.row_book.specs.Repository.{Repository, Coinst, clauses_of, against}
 use Rattle.clause_pool.specs.Clauses.{minimal_of}
-use Rattle.row_book.specs.Numbers.{nonempty_from, subsets}
-use Rattle.row_book.specs.Support.{Support, IsRow, supports, is_supported, blocks, is_minimal_block, row}
-use Rattle.row_book.specs.Sound.{OfPackages}
-use Rattle.row_book.specs.Flattening.{all_packages}
 use Rattle.listed.proofs.Lists.{In_cases, In_none, has_In}
 use Rattle.clause_families.specs.Unions.{all_unions_for}
 use Rattle.clause_flatten.specs.Laws.{FlattenedBy}

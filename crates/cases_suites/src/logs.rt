@@ -1,7 +1,6 @@
 //! Logs that are checked against the kernels of small indexes.
 ghost use Rattle.std.specs.Prelude.{◌<◌, IfOk, OnOk};
-ghost use Rattle.row_book.specs.Book.{Sound};
-ghost use Rattle.row_book.specs.Needs.{NeedsFit};
+ghost use Rattle.row_book.specs.{Book.{Sound}, Needs.{NeedsFit}};
 ghost use Rattle.search_terms.specs.Closure.{InRange};
 
 use crate::samples::book_of;

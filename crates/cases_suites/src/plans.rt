@@ -1,7 +1,6 @@
 //! A plan with both texts at hand, a call that no command makes: the program gives each text back once it was read.
 ghost use Rattle.std.specs.Prelude.{◌≡◌, ◌≤◌, false, length, IfOk};
-ghost use Rattle.repo_model.specs.Feeding.{IsSuiteOf};
-ghost use Rattle.repo_model.specs.Limits.{most_bytes};
+ghost use Rattle.repo_model.specs.{Feeding.{IsSuiteOf}, Limits.{most_bytes}};
 
 use migrate_plan::{Plan, PlanLine, make_plan};
 use repo_model::{IndexFault, Suite, read_suite};

@@ -1,8 +1,7 @@
 //! What rounds leave in a pool, over the book of a small index.
 ghost use Rattle.std.specs.Prelude.{IfOk};
 ghost use Rattle.clause_pool.specs.Interned.{Interned};
-ghost use Rattle.row_book.specs.Book.{Sound};
-ghost use Rattle.row_book.specs.Trail.{SoundSteps};
+ghost use Rattle.row_book.specs.{Book.{Sound}, Trail.{SoundSteps}};
 
 use crate::samples::book_of;
 use clause_flatten::FlatError;

@@ -1,60 +1,38 @@
 -- An index, as the relation has it, has no fault where its packages are no more than may be.
 use Rattle.std.proofs.Common.{◌≡◌, ◌≢◌, ℕ, suc, ◌+◌, ◌<◌, ◌≤◌, Bool, true, false, not, cond, ◌&&◌, ◌||◌, List, [], ◌∷◌, ◌++◌, Option, Some, None, length, take, map, refl, sym, ap, ◌∙◌, subst, inl, inr, ◌⊎◌, arith, length-append, append_assoc}
+use Rattle.std.proofs.{Math.Seq.{take-append_seam}, lemmas.Bool.{and_parts, cases_Bool, false_from_ne_true}, lemmas.Bool.Decides.{nat_tests}}
+use Rattle.std.proofs.{lemmas.List.{append-nil, length-map, map-append}, lemmas.List.Elements.{AllZip-get_or}, lemmas.List.Folds.{list_all-append}}
+use Rattle.std.proofs.{lemmas.Slice.Eq.{bytes_eq-Decides}, lemmas.Slice.Zip.{AllZip-long}}
 use Rattle.std.specs.Prelude.{slice_index_or, nat_le, nat_lt, codes, unwrap_or, is_some, ◌==◌}
 use Rattle.std.specs.List.{AllZip, filter, list_all, list_any, position, position_or_len, slice_split}
-use Rattle.std.specs.Option.{is_none, option_map, option_and_then, option_or}
-use Rattle.std.specs.Ordering.{is_eq}
-use Rattle.std.specs.Str.{bytes_eq}
-use Rattle.std.proofs.Math.Seq.{take-append_seam}
-use Rattle.std.proofs.lemmas.Bool.{and_parts, cases_Bool, false_from_ne_true}
-use Rattle.std.proofs.lemmas.Bool.Decides.{nat_tests}
-use Rattle.std.proofs.lemmas.List.{append-nil, length-map, map-append}
-use Rattle.std.proofs.lemmas.List.Elements.{AllZip-get_or}
-use Rattle.std.proofs.lemmas.List.Folds.{list_all-append}
-use Rattle.std.proofs.lemmas.Slice.Eq.{bytes_eq-Decides}
-use Rattle.std.proofs.lemmas.Slice.Zip.{AllZip-long}
-use Rattle.deb_version.specs.Grammar.{is_colon, is_version}
-use Rattle.deb_version.specs.Names.{is_name}
-use Rattle.listed.specs.Lists.{In, here, there}
-use Rattle.listed.specs.Texts.{is_white_byte}
+use Rattle.std.specs.{Option.{is_none, option_map, option_and_then, option_or}, Ordering.{is_eq}, Str.{bytes_eq}}
+use Rattle.deb_version.specs.{Grammar.{is_colon, is_version}, Names.{is_name}}
+use Rattle.listed.specs.{Lists.{In, here, there}, Texts.{is_white_byte}}
 use Rattle.listed.proofs.Lists.{In_append_left, In_append_right, In_cases, In_map, In_map_cases, In_none, In_place, filter_from, find_not}
 use Rattle.relation_fields.specs.Fields as whole
-use Rattle.relation_fields.specs.Fields.{first_outside, is_outside, written}
-use Rattle.relation_fields.specs.Grammar.{atom_of, alternatives_of, provide_of, is_architecture}
-use Rattle.relation_fields.specs.Spelling.{Reads}
-use Rattle.relation_fields.specs.Texts.{is_white}
-use Rattle.relation_fields.specs.declared.packages.Home.{Home}
-use Rattle.relation_fields.specs.declared.packages.PackageFacts.{PackageFacts}
+use Rattle.relation_fields.specs.{Fields.{first_outside, is_outside, written}, Grammar.{atom_of, alternatives_of, provide_of, is_architecture}}
+use Rattle.relation_fields.specs.{Spelling.{Reads}, Texts.{is_white}, declared.packages.Home.{Home}, declared.packages.PackageFacts.{PackageFacts}}
 use Rattle.stanza_reader.specs.Fields.{continued, is_field_name, is_field_name_byte, is_bad_start, is_same_name, lowered, name_of}
 use Rattle.stanza_reader.specs.Lines.{Line, is_continuation, lines, numbered}
 use Rattle.stanza_reader.specs.Stanzas as reader
 use Rattle.stanza_reader.specs.Stanzas.{texts, first_line_fault, first_number, group_shape_fault, has_name, kept_fields, line_fault, readings, repeat_fault, stanza_of, unless_fault}
 use Rattle.stanza_reader.specs.declared.stanza.FieldKind.{FieldKind}
 use Rattle.stanza_reader.specs.declared.stanza.FieldKind.TheVariants.{Package, Version, Architecture, PreDepends, Depends, Conflicts, Breaks, Provides}
-use Rattle.stanza_reader.specs.declared.stanza.RawField.{RawField}
-use Rattle.stanza_reader.specs.declared.stanza.RawStanza.{RawStanza}
+use Rattle.stanza_reader.specs.{declared.stanza.RawField.{RawField}, declared.stanza.RawStanza.{RawStanza}}
 use Rattle.stanza_reader.specs.declared.fault.StanzaFault.TheVariants.{LoneContinuation, Repeated}
-use Rattle.repo_model.specs.Facts.{facts_of, is_all, is_same_package, architecture_of}
-use Rattle.repo_model.specs.Fields.{field_of}
+use Rattle.repo_model.specs.{Facts.{facts_of, is_all, is_same_package, architecture_of}, Fields.{field_of}}
 use Rattle.repo_model.specs.FirstFault.{first_some, missing, unless_good, bad_value, unless_said, bad_relation, presence_fault, value_fault, own_fault, duplicate_fault, mixed_fault, is_at_home, home_of, stanza_fault, reading_fault, fault_behind, faults_from, first_fault, stanzas_in}
-use Rattle.repo_model.specs.Limits.{most_packages}
-use Rattle.repo_model.specs.Stanzas.{stanza_at, no_stanza}
-use Rattle.repo_model.specs.declared.fault.IndexFault.{IndexFault}
+use Rattle.repo_model.specs.{Limits.{most_packages}, Stanzas.{stanza_at, no_stanza}, declared.fault.IndexFault.{IndexFault}}
 use Rattle.repo_model.specs.declared.fault.IndexFault.TheVariants.{MissingPackage, MissingVersion, BadPackage, BadVersion, BadArchitecture, BadRelation, Duplicate, Mixed, TooMany}
-use Rattle.repo_model.proofs.Accepted.{AreSingle}
+use Rattle.repo_model.proofs.{Accepted.{AreSingle}, Refusing.{none_behind}}
 use Rattle.coinst_words.specs.Usage.{Text}
-use Rattle.claims.specs.Control.{fields, name_key, field_value, AreDistinct, IsStanza}
-use Rattle.claims.specs.Spelling.{WritesAlternatives, WritesAtom, WritesProvide}
-use Rattle.claims.specs.Index.{relation_elements, FitsHome, Says}
-use Rattle.claims.specs.Laws.{IndexesAreAccepted, SaysTheSame}
+use Rattle.claims.specs.{Control.{fields, name_key, field_value, AreDistinct, IsStanza}, Spelling.{WritesAlternatives, WritesAtom, WritesProvide}}
+use Rattle.claims.specs.{Index.{relation_elements, FitsHome, Says}, Laws.{IndexesAreAccepted, SaysTheSame}}
 use Rattle.stanza_reader.proofs.LineLemmas.{cut_later}
 use Rattle.deb_version.specs.Order.{version_order}
-use Rattle.repo_model.proofs.Refusing.{none_behind}
 use Rattle.claims.proofs.Control.{groups_are_theirs, group_is_read, name_whole, none_of, shaped}
-use Rattle.claims.proofs.Index.{first_there, Local, ok, own_field, same_text, says, says_one, stanzas_ok, zip_both, zip_left}
-use Rattle.claims.proofs.Kernel.{map_map}
-use Rattle.claims.proofs.Spelling.{spellings_are_read}
-use Rattle.claims.proofs.Values.{key, kept_value, value_is}
+use Rattle.claims.proofs.{Index.{first_there, Local, ok, own_field, same_text, says, says_one, stanzas_ok, zip_both, zip_left}, Kernel.{map_map}}
+use Rattle.claims.proofs.{Spelling.{spellings_are_read}, Values.{key, kept_value, value_is}}
 
 none_any : {A : Type 0} (p : A → Bool) (xs : List A) → ((x : A) → In x xs → p x ≡ false) → list_any p xs ≡ false
 none_any p [] f = refl

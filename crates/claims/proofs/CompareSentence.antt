@@ -1,9 +1,7 @@
 -- The second sentence, from what the code keeps of a comparison.
 use Rattle.std.proofs.Common.{◌≡◌, ℕ, ◌<◌, ◌≤◌, Bool, true, false, ◌&&◌, List, [], ◌∷◌, ◌++◌, length, map, refl, sym, ap, ◌∙◌, subst, inl, inr, ◌⊎◌, arith}
-use Rattle.std.specs.Prelude.{◌↔◌, is_some, filter}
-use Rattle.std.specs.Str.{bytes_eq}
-use Rattle.std.proofs.lemmas.Bool.{cases_lt}
-use Rattle.std.proofs.lemmas.Slice.Eq.{bytes_eq-Decides}
+use Rattle.std.proofs.{lemmas.Bool.{cases_lt}, lemmas.Slice.Eq.{bytes_eq-Decides}}
+use Rattle.std.specs.{Prelude.{◌↔◌, is_some, filter}, Str.{bytes_eq}}
 use Rattle.listed.specs.Lists.{In, here, has}
 use Rattle.listed.proofs.Lists.{In_at, In_map, In_map_cases, In_place, In_append_right, filter_same, same_bytes}
 use Rattle.headline.specs.Indexes as kept
@@ -11,30 +9,18 @@ use Rattle.headline.specs.Indexes.{SearchedIndex, HasName, failures}
 use Rattle.headline.specs.Listing as listing
 use Rattle.headline.specs.Listing.{subject_of, is_broken, AreInOrder, ArePair, BothHave, IsToldBefore, ListsExactly}
 use Rattle.relation_fields.specs.declared.packages.PackageFacts.{PackageFacts}
-use Rattle.repo_model.specs.Goals.{any_version, is_named_by, packages_named}
-use Rattle.repo_model.specs.Repository.{packages_of, suite_repository}
-use Rattle.repo_model.specs.Stanzas.{stanza_at, no_stanza}
+use Rattle.repo_model.specs.{Goals.{any_version, is_named_by, packages_named}, Repository.{packages_of, suite_repository}, Stanzas.{stanza_at, no_stanza}}
 use Rattle.repo_model.specs.declared.goals.Goal.{Goal}
 use Rattle.repo_model.proofs.SoundSuite.{suite_sound}
-use Rattle.row_book.specs.Flattening.{packages}
-use Rattle.row_book.specs.Repository.{Repository}
-use Rattle.row_book.specs.Rounds.{kernel, kernel_image}
-use Rattle.row_book.specs.Sets.{NumSet}
-use Rattle.search_terms.specs.Form.{form}
-use Rattle.search_terms.specs.Tree.{found_of, failed_leaves}
-use Rattle.suite_compare.specs.Asking.{asked_tree, goal_classes, images_of}
-use Rattle.suite_compare.specs.Refusals.{home_in, packages_in}
-use Rattle.suite_compare.specs.declared.report.ReportLine.{ReportLine}
+use Rattle.row_book.specs.{Flattening.{packages}, Repository.{Repository}, Rounds.{kernel, kernel_image}, Sets.{NumSet}}
+use Rattle.search_terms.specs.{Form.{form}, Tree.{found_of, failed_leaves}}
+use Rattle.suite_compare.specs.{Asking.{asked_tree, goal_classes, images_of}, Refusals.{home_in, packages_in}, declared.report.ReportLine.{ReportLine}}
 use Rattle.suite_compare.specs.declared.report.ReportLine.TheVariants.{Broken1, Broken2, Open1, Open2}
 use Rattle.suite_compare.proofs.Deciding.{asked_is}
 use Rattle.claims.specs.Asked.{ComparedIndex, HasPackageOf, Installs, named_packages, Fails, Spends, FoundInstallable, FoundUninstallable, IsAsked}
-use Rattle.claims.specs.Printed.{names_of, Precedes}
-use Rattle.claims.specs.Search.{Searched}
+use Rattle.claims.specs.{Printed.{names_of, Precedes}, Search.{Searched}, Laws.{suite_of, ComparisonsMeanThis}}
 use Rattle.coinst_words.specs.Usage.{Text}
-use Rattle.claims.specs.Laws.{suite_of, ComparisonsMeanThis}
-use Rattle.claims.proofs.Index.{indexes_are_read}
-use Rattle.claims.proofs.Kernel.{kernels_are_kernels, kernels_are_one}
-use Rattle.claims.proofs.Search.{searches_are_one, trees_are_searches}
+use Rattle.claims.proofs.{Index.{indexes_are_read}, Kernel.{kernels_are_kernels, kernels_are_one}, Search.{searches_are_one, trees_are_searches}}
 
 has_to : (index : SearchedIndex) (name : Text) → HasPackageOf (suite_of index) name → HasName index name
 has_to index name h = record { by = stanza_at (packages_in index.text) h.0; stands = In_at (packages_in index.text) h.0 no_stanza h.1; named = h.2 }

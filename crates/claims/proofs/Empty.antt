@@ -1,26 +1,16 @@
 -- The two sentences of empty indexes, and a kernel text that is not that of its index.
 use Rattle.std.proofs.Common.{◌≡◌, ℕ, ◌+◌, ◌<◌, false, List, [], ◌∷◌, ◌++◌, length, refl, ap, inl, arith, lit<}
-use Rattle.std.specs.Prelude.{codes}
-use Rattle.std.specs.Fmt.{digits}
-use Rattle.std.specs.List.{AllZip}
+use Rattle.std.specs.{Prelude.{codes}, Fmt.{digits}, List.{AllZip}}
 use Rattle.coinst_words.specs.Usage.{Text}
 use Rattle.kernel_text.specs.Reading.{number_limit}
 use Rattle.listed.proofs.Lists.{In_none}
 use Rattle.relation_fields.specs.declared.packages.PackageFacts.{PackageFacts}
 use Rattle.repo_model.specs.Stanzas.{stanza_at, CoinstStanzas}
-use Rattle.row_book.specs.Numbers.{numbers}
-use Rattle.row_book.specs.Repository.{Coinst, Repository}
-use Rattle.row_book.specs.Sets.{Is, NumSet}
-use Rattle.suite_compare.specs.declared.report.ReportLine.{ReportLine}
-use Rattle.suite_compare.specs.declared.report.ReportLine.TheVariants.{Broken1, Broken2, Open1, Open2}
-use Rattle.claims.specs.Asked.{HasPackageOf, IsAsked}
-use Rattle.claims.specs.Classes.{classes_of, IsItsClass}
-use Rattle.claims.specs.Control.{stanza_groups}
-use Rattle.claims.specs.Index.{IndexSays, Says}
-use Rattle.claims.specs.Laws.{a_package, empty_index, no_classes, no_home, no_lines, EmptyIndexes}
-use Rattle.claims.specs.Printed.{names_of, printed_comparison}
-use Rattle.claims.specs.Sentences.{IsFaithfulComparison, IsFaithfulKernel}
-use Rattle.claims.specs.Written.{StandsForKernel}
+use Rattle.row_book.specs.{Numbers.{numbers}, Repository.{Coinst, Repository}, Sets.{Is, NumSet}}
+use Rattle.suite_compare.specs.{declared.report.ReportLine.{ReportLine}, declared.report.ReportLine.TheVariants.{Broken1, Broken2, Open1, Open2}}
+use Rattle.claims.specs.{Asked.{HasPackageOf, IsAsked}, Classes.{classes_of, IsItsClass}, Control.{stanza_groups}, Index.{IndexSays, Says}}
+use Rattle.claims.specs.{Laws.{a_package, empty_index, no_classes, no_home, no_lines, EmptyIndexes}, Printed.{names_of, printed_comparison}}
+use Rattle.claims.specs.{Sentences.{IsFaithfulComparison, IsFaithfulKernel}, Written.{StandsForKernel}}
 use Rattle.claims.proofs.Written.{kernels_are_read_once}
 
 nothing_said : IndexSays [] no_home []

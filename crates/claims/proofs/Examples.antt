@@ -1,32 +1,19 @@
 -- The short definitions, computed at small values.
 use Rattle.std.proofs.Common.{◌≡◌, ℕ, true, false, List, [], ◌∷◌, ◌++◌, Some, None, not, ◌&&◌, ◌||◌, inl, inr, refl}
-use Rattle.std.specs.Prelude.{codes, ◌==◌}
+use Rattle.std.specs.{Prelude.{codes, ◌==◌}, Fmt.{digits}, declared.cmp.Ordering.TheVariants.{Less, Equal, Greater}}
 use Rattle.deb_version.specs.Grammar.{behind_epoch, epoch_of, is_version, revision_in, upstream_in}
-use Rattle.std.specs.Fmt.{digits}
-use Rattle.std.specs.declared.cmp.Ordering.TheVariants.{Less, Equal, Greater}
 use Rattle.listed.specs.Texts as white
 use Rattle.kernel_text.specs.declared.member.Member.{Member}
-use Rattle.row_book.specs.Numbers.{numbers}
-use Rattle.row_book.specs.Repository.{Repository}
-use Rattle.relation_fields.specs.declared.packages.Home.{Home}
-use Rattle.relation_fields.specs.declared.packages.PackageFacts.{PackageFacts}
-use Rattle.relation_fields.specs.declared.relations.Atom.{Atom}
-use Rattle.relation_fields.specs.declared.relations.Op.TheVariants.{LaterEqual}
-use Rattle.search_terms.specs.Closure.{literal}
-use Rattle.search_terms.specs.declared.literals.Literal.{Literal}
+use Rattle.row_book.specs.{Numbers.{numbers}, Repository.{Repository}}
+use Rattle.relation_fields.specs.{declared.packages.Home.{Home}, declared.packages.PackageFacts.{PackageFacts}, declared.relations.Atom.{Atom}}
+use Rattle.relation_fields.specs.{declared.relations.Op.TheVariants.{LaterEqual}, Meeting.{meets}}
+use Rattle.search_terms.specs.{Closure.{literal}, declared.literals.Literal.{Literal}, Form.{form}}
 use Rattle.suite_compare.specs.declared.report.ReportLine.TheVariants.{Broken1, Open2}
 use Rattle.coinst_words.specs.Usage.{Text}
-use Rattle.claims.specs.Printed.{printed_comparison}
-use Rattle.claims.specs.Control.{fields, stanza_groups, field_value}
-use Rattle.relation_fields.specs.Meeting.{meets}
-use Rattle.claims.specs.Index.{relation_elements, is_one_package}
+use Rattle.claims.specs.{Printed.{printed_comparison}, Control.{fields, stanza_groups, field_value}, Index.{relation_elements, is_one_package}}
+use Rattle.claims.specs.{Search.{class_to_split}, Spelling.{WritesAtom}, Words.{compare_words, kernel_words}, Written.{AreKernelLines}}
 use Rattle.repo_model.specs.Repository.{suite_repository}
-use Rattle.claims.specs.Search.{class_to_split}
-use Rattle.search_terms.specs.Form.{form}
-use Rattle.claims.specs.Spelling.{WritesAtom}
 use Rattle.deb_version.specs.Order.{behind, first_difference, number_piece, part_order, pieces_order, plain_piece, version_order}
-use Rattle.claims.specs.Words.{compare_words, kernel_words}
-use Rattle.claims.specs.Written.{AreKernelLines}
 
 a_tilde_comes_first : version_order (codes "1.0~rc1-1") (codes "1.0-1") ≡ Less
 unfolding version_order part_order first_difference pieces_order plain_piece number_piece behind epoch_of behind_epoch upstream_in revision_in

@@ -1,50 +1,32 @@
 -- An index without a fault is an index of the packages that are read of it.
 use Rattle.std.proofs.Common.{◌≡◌, ℕ, zero, suc, ◌+◌, ◌<◌, Bool, true, false, not, cond, ◌||◌, List, [], ◌∷◌, ◌++◌, Option, Some, None, Result, Ok, Err, length, take, map, refl, sym, ap, ◌∙◌, subst, inl, inr, ◌⊎◌, arith, length-append, append_assoc}
-use Rattle.std.specs.Prelude.{nat_le, codes, unwrap_or, is_some, ◌==◌}
-use Rattle.std.specs.List.{AllZip, filter, list_all, slice_split}
-use Rattle.std.specs.Option.{option_map, option_map_or, option_and_then, option_or}
-use Rattle.std.specs.Str.{bytes_eq}
-use Rattle.std.proofs.Math.Seq.{take-append_seam}
-use Rattle.std.proofs.lemmas.List.{append-nil, length-map, map-append}
+use Rattle.std.proofs.{Math.Seq.{take-append_seam}, lemmas.List.{append-nil, length-map, map-append}}
+use Rattle.std.specs.{Prelude.{nat_le, codes, unwrap_or, is_some, ◌==◌}, List.{AllZip, filter, list_all, slice_split}}
+use Rattle.std.specs.{Option.{option_map, option_map_or, option_and_then, option_or}, Str.{bytes_eq}}
 use Rattle.deb_version.specs.Names.{is_name}
 use Rattle.deb_version.specs.Grammar as grammar
-use Rattle.listed.specs.Lists.{In, here, there}
-use Rattle.listed.specs.Texts.{is_white_byte}
+use Rattle.listed.specs.{Lists.{In, here, there}, Texts.{is_white_byte}}
 use Rattle.listed.proofs.Lists.{In_append_cases, In_at, In_cases, In_map, In_none, same_bytes}
-use Rattle.relation_fields.specs.Fields.{first_outside, said_in, written}
-use Rattle.relation_fields.specs.Grammar.{atom_of, alternatives_of, provide_of, is_architecture}
-use Rattle.relation_fields.specs.Spelling.{Reads}
-use Rattle.relation_fields.specs.declared.packages.Home.{Home}
-use Rattle.relation_fields.specs.declared.packages.PackageFacts.{PackageFacts}
+use Rattle.relation_fields.specs.{Fields.{first_outside, said_in, written}, Grammar.{atom_of, alternatives_of, provide_of, is_architecture}, Spelling.{Reads}}
+use Rattle.relation_fields.specs.{declared.packages.Home.{Home}, declared.packages.PackageFacts.{PackageFacts}}
 use Rattle.relation_fields.proofs.Faults.{field_said}
 use Rattle.stanza_reader.specs.Lines.{Line, lines, numbered}
 use Rattle.stanza_reader.specs.Stanzas as reader
-use Rattle.stanza_reader.specs.Stanzas.{texts, readings, stanza_of}
-use Rattle.stanza_reader.specs.declared.stanza.FieldKind.{FieldKind}
+use Rattle.stanza_reader.specs.{Stanzas.{texts, readings, stanza_of}, declared.stanza.FieldKind.{FieldKind}}
 use Rattle.stanza_reader.specs.declared.stanza.FieldKind.TheVariants.{Package, Version, Architecture, PreDepends, Depends, Conflicts, Breaks, Provides}
-use Rattle.stanza_reader.specs.declared.stanza.RawField.{RawField}
-use Rattle.stanza_reader.specs.declared.stanza.RawStanza.{RawStanza}
-use Rattle.stanza_reader.specs.declared.fault.StanzaFault.{StanzaFault}
+use Rattle.stanza_reader.specs.{declared.stanza.RawField.{RawField}, declared.stanza.RawStanza.{RawStanza}, declared.fault.StanzaFault.{StanzaFault}}
 use Rattle.repo_model.specs.Facts.{facts_of, is_all, is_same_package, architecture_of}
 use Rattle.repo_model.specs.Fields as kinds
 use Rattle.repo_model.specs.Fields.{field_of}
 use Rattle.repo_model.specs.FirstFault.{first_some, missing, unless_good, bad_value, unless_said, bad_relation, presence_fault, value_fault, own_fault, duplicate_fault, mixed_fault, is_at_home, home_of, stanza_fault, fault_behind, faults_from, first_fault, stanzas_in, stanzas_of}
-use Rattle.repo_model.specs.Limits.{most_packages}
-use Rattle.repo_model.specs.Stanzas.{stanza_at, no_stanza}
-use Rattle.repo_model.specs.declared.fault.IndexFault.{IndexFault}
+use Rattle.repo_model.specs.{Limits.{most_packages}, Stanzas.{stanza_at, no_stanza}, declared.fault.IndexFault.{IndexFault}}
 use Rattle.repo_model.specs.declared.fault.IndexFault.TheVariants.{Stanza, MissingPackage, MissingVersion, BadPackage, BadVersion, BadArchitecture, BadRelation, Mixed, TooMany}
 use Rattle.repo_model.proofs.Accepted as accepting
-use Rattle.repo_model.proofs.Accepted.{AreSingle}
-use Rattle.repo_model.proofs.Steps.{home_of-push}
-use Rattle.repo_model.proofs.WellFormed.{none_of, facts_well_formed}
+use Rattle.repo_model.proofs.{Accepted.{AreSingle}, Steps.{home_of-push}, WellFormed.{none_of, facts_well_formed}}
 use Rattle.coinst_words.specs.Usage.{Text}
-use Rattle.claims.specs.Control.{stanza_groups, field_value}
-use Rattle.claims.specs.Spelling.{WritesAlternatives, WritesAtom, WritesProvide}
-use Rattle.claims.specs.Index.{relation_elements, FitsHome, Says, IndexSays}
-use Rattle.claims.specs.Laws.{IndexesAreOne, IndexesAreRead, SaysTheSame}
-use Rattle.claims.proofs.Control.{groups_are_theirs, group_is_read, IsRead}
-use Rattle.claims.proofs.Spelling.{spellings_are_read}
-use Rattle.claims.proofs.Values.{key, kept_value, value_is}
+use Rattle.claims.specs.{Control.{stanza_groups, field_value}, Spelling.{WritesAlternatives, WritesAtom, WritesProvide}}
+use Rattle.claims.specs.{Index.{relation_elements, FitsHome, Says, IndexSays}, Laws.{IndexesAreOne, IndexesAreRead, SaysTheSame}}
+use Rattle.claims.proofs.{Control.{groups_are_theirs, group_is_read, IsRead}, Spelling.{spellings_are_read}, Values.{key, kept_value, value_is}}
 
 -- lists side by side
 pub zip_map : {A B C D : Type 0} (R : A → B → Type 0) (S : C → D → Type 0) (f : A → C) (g : B → D) (xs : List A) (ys : List B)

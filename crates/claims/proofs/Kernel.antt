@@ -1,13 +1,8 @@
 -- The kernel that is computed is the first repository that a round leaves as it is.
 use Rattle.std.proofs.Common.{◌≡◌, ◌≢◌, ℕ, zero, suc, ◌<◌, ◌≤◌, Bool, List, [], ◌∷◌, map, refl, sym, ap, subst, arith}
 use Rattle.kernel_rounds.proofs.Reached.{kernel_is_lem}
-use Rattle.row_book.specs.Flattening.{flat}
-use Rattle.row_book.specs.Merging.{image}
-use Rattle.row_book.specs.Repository.{Repository}
-use Rattle.row_book.specs.Rounds.{image_after, round, round_count, rounds}
-use Rattle.row_book.specs.Sets.{NumSet}
-use Rattle.claims.specs.Kernel.{SettlesTo, at_rest, after}
-use Rattle.claims.specs.Laws.{KernelsAreKernels, KernelsAreOne}
+use Rattle.row_book.specs.{Flattening.{flat}, Merging.{image}, Repository.{Repository}, Rounds.{image_after, round, round_count, rounds}, Sets.{NumSet}}
+use Rattle.claims.specs.{Kernel.{SettlesTo, at_rest, after}, Laws.{KernelsAreKernels, KernelsAreOne}}
 
 pub map_map : {A B C : Type 0} (f : B → C) (g : A → B) (xs : List A) → map f (map g xs) ≡ map (λ x. f (g x)) xs
 map_map f g [] = refl

@@ -1,10 +1,8 @@
 -- The first sentence, from what the code keeps of a printed kernel.
 use Rattle.std.specs.Prelude.{map}
-use Rattle.repo_model.specs.Facts.{facts_of}
-use Rattle.repo_model.specs.FirstFault.{home_of, stanzas_of}
+use Rattle.repo_model.specs.{Facts.{facts_of}, FirstFault.{home_of, stanzas_of}}
 use Rattle.claims.specs.Laws.{KernelsMeanThis}
-use Rattle.claims.proofs.Index.{indexes_are_read}
-use Rattle.claims.proofs.Written.{kernels_are_read, kernels_are_read_once}
+use Rattle.claims.proofs.{Index.{indexes_are_read}, Written.{kernels_are_read, kernels_are_read_once}}
 
 pub kernels_mean_this : KernelsMeanThis
 kernels_mean_this text printed format R members held accepted reads stands keeps = record {

@@ -1,25 +1,17 @@
 -- The members of the classes of an index: each stanza alone in its class.
 use Rattle.std.proofs.Common.{◌≡◌, ℕ, zero, suc, ◌+◌, ◌<◌, ◌≤◌, Bool, true, ◌&&◌, List, [], ◌∷◌, length, eqb, slice_index_or, inl, inr, refl, sym, ◌∙◌, ap, subst, arith, eq-eqb, eqb-true}
-use Rattle.std.specs.Ordering.{is_eq}
-use Rattle.std.specs.Str.{bytes_eq}
-use Rattle.std.proofs.lemmas.Bool.{and_parts, and_from, both_ways}
-use Rattle.std.proofs.lemmas.Slice.Eq.{bytes_eq-Decides}
+use Rattle.std.proofs.{lemmas.Bool.{and_parts, and_from, both_ways}, lemmas.Slice.Eq.{bytes_eq-Decides}}
+use Rattle.std.specs.{Ordering.{is_eq}, Str.{bytes_eq}}
 use Rattle.listed.proofs.Lists.{same_bytes, In_flat_cases, In_flat, In_cases, In_none, any_from, any_cases, filter_cases, filter_from}
-use Rattle.kernel_text.specs.KernelText.{members_of}
-use Rattle.kernel_text.specs.Members.{file_members, kernel_members, member_in}
-use Rattle.kernel_text.specs.declared.member.Member.{Member}
-use Rattle.repo_model.proofs.Accepted.{AreSingle}
-use Rattle.repo_model.specs.Facts.{is_same_package}
-use Rattle.repo_model.specs.Repository.{packages_of}
+use Rattle.kernel_text.specs.{KernelText.{members_of}, Members.{file_members, kernel_members, member_in}, declared.member.Member.{Member}}
+use Rattle.repo_model.proofs.{Accepted.{AreSingle}, Elements.{at_place, range_from, range_cases}}
+use Rattle.repo_model.specs.{Facts.{is_same_package}, Repository.{packages_of}, Stanzas.{stanza_at, no_stanza}}
 use Rattle.claims.specs.Classes.{classes_of, is_in_class, IsItsClass}
 use Rattle.relation_fields.specs.declared.packages.PackageFacts.{PackageFacts}
-use Rattle.repo_model.specs.Stanzas.{stanza_at, no_stanza}
 use Rattle.deb_version.specs.Order.{version_order}
-use Rattle.row_book.specs.Numbers.{numbers}
-use Rattle.row_book.specs.Sets.{NumSet, Is}
+use Rattle.row_book.specs.{Numbers.{numbers}, Sets.{NumSet, Is}}
 use Rattle.listed.specs.Lists.{In, here, there}
 use Rattle.row_book.proofs.Numbers.{numbers_from}
-use Rattle.repo_model.proofs.Elements.{at_place, range_from, range_cases}
 use Rattle.deb_version.proofs.TotalOrder.{version_total_up_to_ties}
 
 pub text_same : (a b : List ℕ) → a ≡ b → bytes_eq a b ≡ true

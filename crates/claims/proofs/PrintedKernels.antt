@@ -1,35 +1,21 @@
 -- The text that is printed of the kernel of an index.
 use Rattle.std.proofs.Common.{◌≡◌, ℕ, ◌<◌, Bool, true, List, length, map, slice_index_or, refl, sym, ap, subst, ◌∙◌, arith, zero-add}
 use Rattle.std.specs.Prelude.{◌↔◌}
-use Rattle.relation_fields.specs.declared.packages.Home.{Home}
-use Rattle.relation_fields.specs.declared.packages.PackageFacts.{PackageFacts}
-use Rattle.repo_model.specs.Repository.{suite_repository}
-use Rattle.repo_model.specs.Stanzas.{CoinstStanzas, stanza_at}
+use Rattle.relation_fields.specs.{declared.packages.Home.{Home}, declared.packages.PackageFacts.{PackageFacts}}
+use Rattle.repo_model.specs.{Repository.{suite_repository}, Stanzas.{CoinstStanzas, stanza_at}}
 use Rattle.repo_model.proofs.Accepted.{Accepted}
 use Rattle.repo_model.proofs.Accepted as accepting
-use Rattle.repo_model.proofs.Healthy.{coinst_same}
-use Rattle.repo_model.proofs.Packages.{length_clauses}
-use Rattle.row_book.specs.Flattening.{packages}
-use Rattle.row_book.specs.Repository.{Repository, Coinst}
-use Rattle.row_book.specs.Rounds.{kernel, kernel_class, kernel_held, kernel_image, round_count}
+use Rattle.repo_model.proofs.{Healthy.{coinst_same}, Packages.{length_clauses}, SoundSuite.{suite_sound}}
+use Rattle.row_book.specs.{Flattening.{packages}, Repository.{Repository, Coinst}, Rounds.{kernel, kernel_class, kernel_held, kernel_image, round_count}}
 use Rattle.row_book.specs.Sets.{Is, NumSet}
 use Rattle.row_book.proofs.Numbers.{at_numbers}
 use Rattle.kernel_rounds.specs.Laws.{HasImage}
-use Rattle.kernel_rounds.proofs.Reached.{image_is_of_classes_lem, kernel_keeps_lem}
-use Rattle.kernel_text.specs.KernelReads.{KernelReads}
-use Rattle.kernel_text.specs.KernelText.{format_of, kernel_text}
-use Rattle.kernel_text.specs.Laws.{IsKernelOf}
-use Rattle.kernel_text.specs.Members.{kernel_members}
-use Rattle.kernel_text.proofs.Classified.{kernels_are_writable}
-use Rattle.kernel_text.proofs.ReadIsWritten.{read_is_written}
-use Rattle.claims.specs.Classes.{classes_of, IsItsClass}
-use Rattle.kernel_rounds.proofs.Classes.{class_within}
-use Rattle.kernel_text.proofs.Extracted.{kernel_fits}
-use Rattle.repo_model.proofs.SoundSuite.{suite_sound}
-use Rattle.claims.proofs.Members.{class_from, class_parts, stands_once}
+use Rattle.kernel_rounds.proofs.{Reached.{image_is_of_classes_lem, kernel_keeps_lem}, Classes.{class_within}}
+use Rattle.kernel_text.specs.{KernelReads.{KernelReads}, KernelText.{format_of, kernel_text}, Laws.{IsKernelOf}, Members.{kernel_members}}
+use Rattle.kernel_text.proofs.{Classified.{kernels_are_writable}, ReadIsWritten.{read_is_written}, Extracted.{kernel_fits}}
+use Rattle.claims.specs.{Classes.{classes_of, IsItsClass}, Laws.{PrintedKernelsAreFaithful, kernel_printed}}
+use Rattle.claims.proofs.{Members.{class_from, class_parts, stands_once}, KernelSentence.{kernels_mean_this}}
 use Rattle.suite_compare.specs.Refusals.{home_in, packages_in}
-use Rattle.claims.specs.Laws.{PrintedKernelsAreFaithful, kernel_printed}
-use Rattle.claims.proofs.KernelSentence.{kernels_mean_this}
 
 -- the kernel of an accepted index at a limit, with hold or without, with its members
 module _ (limit : ℕ) (hold : Bool) (home : Home) (stanzas : List PackageFacts) (accepted : Accepted stanzas) where

@@ -1,14 +1,9 @@
 -- The search, as its trees are.
 use Rattle.std.proofs.Common.{◌≡◌, ℕ, ◌+◌, Bool, true, false, List, [], ◌∷◌, ◌++◌, Option, Some, None, refl, sym, ap, ◌∙◌, subst, arith}
-use Rattle.std.specs.Prelude.{◌↔◌, is_some, if◌then◌else◌}
-use Rattle.std.specs.List.{find}
-use Rattle.std.specs.Option.{option_and_then, option_map}
-use Rattle.search_terms.specs.declared.literals.Literal.{Literal}
-use Rattle.search_terms.specs.Closure.{literal, IsClosure, InClosure}
-use Rattle.search_terms.specs.Tree.{Tree, IsTree, IsFoundLeaf, IsSplit, failed_leaves, found_of, is_undecided}
-use Rattle.search_terms.specs.Tree.Tree.{failed_leaf, found_leaf, split}
-use Rattle.claims.specs.Search.{class_to_split, SplitsOn, Searched, failed, found, found_first, tried_both}
-use Rattle.claims.specs.Laws.{TreesAreSearches, SearchesAreOne}
+use Rattle.std.specs.{Prelude.{◌↔◌, is_some, if◌then◌else◌}, List.{find}, Option.{option_and_then, option_map}}
+use Rattle.search_terms.specs.{declared.literals.Literal.{Literal}, Closure.{literal, IsClosure, InClosure}}
+use Rattle.search_terms.specs.{Tree.{Tree, IsTree, IsFoundLeaf, IsSplit, failed_leaves, found_of, is_undecided}, Tree.Tree.{failed_leaf, found_leaf, split}}
+use Rattle.claims.specs.{Search.{class_to_split, SplitsOn, Searched, failed, found, found_first, tried_both}, Laws.{TreesAreSearches, SearchesAreOne}}
 
 set_from : (formula : List (List Literal)) (ds : List Literal) (set : Literal → Bool) → IsClosure formula ds set → (l : Literal) → (set l ≡ true) ↔ InClosure formula ds l
 set_from formula ds set c l = (c.sound l, c.whole l)

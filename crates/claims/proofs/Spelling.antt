@@ -1,21 +1,14 @@
 -- What is read of a relation is what it is one way of writing.
-use Rattle.std.proofs.Common.{◌≡◌, true, List, [], ◌∷◌, ◌++◌, Option, Some, None, refl, sym, ap, ◌∙◌}
-use Rattle.std.specs.Prelude.{◌==◌}
-use Rattle.std.specs.List.{AllZip, list_all, slice_split}
-use Rattle.std.proofs.lemmas.Bool.{and_parts, and_from}
-use Rattle.std.proofs.lemmas.List.{append_assoc}
-use Rattle.std.proofs.lemmas.List.Folds.{list_all-append}
+use Rattle.std.proofs.{Common.{◌≡◌, true, List, [], ◌∷◌, ◌++◌, Option, Some, None, refl, sym, ap, ◌∙◌}, lemmas.Bool.{and_parts, and_from}}
+use Rattle.std.proofs.{lemmas.List.{append_assoc}, lemmas.List.Folds.{list_all-append}}
+use Rattle.std.specs.{Prelude.{◌==◌}, List.{AllZip, list_all, slice_split}}
 use Rattle.listed.specs.Texts.{is_white_byte}
-use Rattle.relation_fields.specs.declared.relations.Bound.{Bound}
-use Rattle.relation_fields.specs.declared.relations.Atom.{Atom}
-use Rattle.relation_fields.specs.Texts.{is_white}
+use Rattle.relation_fields.specs.{declared.relations.Bound.{Bound}, declared.relations.Atom.{Atom}, Texts.{is_white}}
 use Rattle.relation_fields.specs.Spelling as old
 use Rattle.relation_fields.specs.Spelling.{Reads}
 use Rattle.relation_fields.proofs.Readings.{atoms_read, alternatives_read, provides_read}
-use Rattle.claims.specs.Texts.{IsWhite}
+use Rattle.claims.specs.{Texts.{IsWhite}, Spelling.{WritesRestriction, WritesAtom, WritesAlternatives, WritesProvide}, Laws.{SpellingsAreRead}}
 use Rattle.coinst_words.specs.Usage.{Text}
-use Rattle.claims.specs.Spelling.{WritesRestriction, WritesAtom, WritesAlternatives, WritesProvide}
-use Rattle.claims.specs.Laws.{SpellingsAreRead}
 
 -- three texts of white space, and the three joined
 white_parts : (a b c : Text) → IsWhite (a ++ (b ++ c)) → (is_white a ≡ true) × (is_white b ≡ true) × (is_white c ≡ true)

@@ -1,16 +1,11 @@
 -- The value of a field, by its kind and by its name.
 use Rattle.std.proofs.Common.{◌≡◌, Bool, true, false, cond, List, [], ◌∷◌, ◌++◌, Option, Some, None, refl, sym, ap, ◌∙◌}
-use Rattle.std.specs.Prelude.{codes, find, if◌then◌else◌}
-use Rattle.std.specs.List.{list_any, cons_option}
-use Rattle.std.specs.Option.{option_map, option_map_or}
-use Rattle.std.specs.Str.{bytes_eq}
+use Rattle.std.specs.{Prelude.{codes, find, if◌then◌else◌}, List.{list_any, cons_option}, Option.{option_map, option_map_or}, Str.{bytes_eq}}
 use Rattle.deb_version.specs.Grammar.{is_colon}
 use Rattle.listed.specs.Texts.{trim_both}
 use Rattle.listed.proofs.Lists.{same_bytes}
-use Rattle.stanza_reader.specs.Fields.{behind_colon, continued, kind_of, lowered, name_of, trimmed}
-use Rattle.stanza_reader.specs.Lines.{Line, is_continuation}
-use Rattle.stanza_reader.specs.Stanzas.{texts, line_fault, first_line_fault, kept_field, kept_fields}
-use Rattle.stanza_reader.specs.declared.stanza.FieldKind.{FieldKind}
+use Rattle.stanza_reader.specs.{Fields.{behind_colon, continued, kind_of, lowered, name_of, trimmed}, Lines.{Line, is_continuation}}
+use Rattle.stanza_reader.specs.{Stanzas.{texts, line_fault, first_line_fault, kept_field, kept_fields}, declared.stanza.FieldKind.{FieldKind}}
 use Rattle.stanza_reader.specs.declared.stanza.FieldKind.TheVariants.{Package, Version, Architecture, PreDepends, Depends, Conflicts, Breaks, Provides, Status}
 use Rattle.stanza_reader.specs.declared.stanza.RawField.{RawField}
 use Rattle.repo_model.specs.Fields.{is_kind, field_among}

@@ -1,21 +1,16 @@
 -- A text is read as the kernel that its blocks of lines stand for.
 use Rattle.std.proofs.Common.{◌≡◌, ◌≢◌, ℕ, ◌<◌, Bool, true, false, List, [], ◌∷◌, ◌++◌, length, refl, sym, ap, ap₂, ◌∙◌, subst, inl, inr, ◌⊎◌, arith, map}
-use Rattle.std.specs.Prelude.{codes}
-use Rattle.std.specs.List.{AllZip, flat_map}
+use Rattle.std.specs.{Prelude.{codes}, List.{AllZip, flat_map}}
 use Rattle.listed.proofs.Lists.{has_In, In_has, has_not}
 use Rattle.coinst_words.specs.Usage.{Text}
 use Rattle.kernel_text.specs.KernelLines.{KernelLine, HeadLine, ClassLine, MemberLine, HeldLine, NeedsLine, AgainstLine, EndLine, behind_space, line_text, with_feed}
 use Rattle.kernel_text.specs.KernelText.{class_lines, kernel_lines, kernel_text, line_of_member, held_lines, greater_conflicts, members_of, AreSingle, IsWritable}
-use Rattle.kernel_text.specs.Reading.{is_same_member}
-use Rattle.kernel_text.specs.declared.member.Member.{Member}
-use Rattle.kernel_text.proofs.OneReading.{one_reading}
-use Rattle.kernel_text.proofs.ReadIsWritten.{read_is_written}
-use Rattle.row_book.specs.Numbers.{numbers}
-use Rattle.row_book.specs.Repository.{Repository, clauses_of, conflicts_of}
+use Rattle.kernel_text.specs.{Reading.{is_same_member}, declared.member.Member.{Member}}
+use Rattle.kernel_text.proofs.{OneReading.{one_reading}, ReadIsWritten.{read_is_written}}
+use Rattle.row_book.specs.{Numbers.{numbers}, Repository.{Repository, clauses_of, conflicts_of}}
 use Rattle.listed.specs.Lists.{In, has}
 use Rattle.row_book.proofs.Repositories.{between}
-use Rattle.claims.specs.Written.{AreKernelLines, IsClassBlock, StandsForKernel}
-use Rattle.claims.specs.Laws.{KernelsAreRead, KernelsAreReadOnce}
+use Rattle.claims.specs.{Written.{AreKernelLines, IsClassBlock, StandsForKernel}, Laws.{KernelsAreRead, KernelsAreReadOnce}}
 
 -- what a line says, without its line feed
 abbrev bare : KernelLine → Text

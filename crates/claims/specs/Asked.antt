@@ -1,20 +1,14 @@
 -- What is asked of two indexes that are compared: which names can be installed together, judged on the stanzas, and whether the search
 -- that tells it stays within its budget.
-use Rattle.std.specs.Prelude.{◌≡◌, ℕ, ◌<◌, Bool, List, [], ◌∷◌, length, map, filter, Option, unwrap_or}
-use Rattle.std.specs.Str.{bytes_eq}
+use Rattle.std.specs.{Prelude.{◌≡◌, ℕ, ◌<◌, Bool, List, [], ◌∷◌, length, map, filter, Option, unwrap_or}, Str.{bytes_eq}}
 use Rattle.clause_pool.specs.Lists.{Before}
 use Rattle.coinst_words.specs.Usage.{Text}
-use Rattle.relation_fields.specs.declared.packages.Home.{Home}
-use Rattle.relation_fields.specs.declared.packages.PackageFacts.{PackageFacts}
-use Rattle.repo_model.specs.Repository.{packages_of, suite_repository}
-use Rattle.repo_model.specs.Stanzas.{stanza_at, HealthyStanzas}
-use Rattle.row_book.specs.Flattening.{packages}
-use Rattle.row_book.specs.Repository.{Repository}
-use Rattle.row_book.specs.Sets.{NumSet, Is}
+use Rattle.relation_fields.specs.{declared.packages.Home.{Home}, declared.packages.PackageFacts.{PackageFacts}}
+use Rattle.repo_model.specs.{Repository.{packages_of, suite_repository}, Stanzas.{stanza_at, HealthyStanzas}}
+use Rattle.row_book.specs.{Flattening.{packages}, Repository.{Repository}, Sets.{NumSet, Is}}
 use Rattle.listed.specs.Lists.{In, has}
 use Rattle.search_terms.specs.Form.{form}
-use Rattle.claims.specs.Kernel.{SettlesTo}
-use Rattle.claims.specs.Search.{Searched}
+use Rattle.claims.specs.{Kernel.{SettlesTo}, Search.{Searched}}
 
 -- an index, and how a search in it is made: the clause limit of its kernel, with hold or without (with it, a package whose elimination
 -- would pass the limit stays), and the budget of failed leaves

@@ -1,12 +1,8 @@
 -- The classes of a printed kernel in which the stanzas of its index stand.
-use Rattle.std.specs.Prelude.{◌≡◌, ℕ, ◌<◌, ◌↔◌, Bool, true, ◌&&◌, List}
-use Rattle.std.specs.List.{list_any}
-use Rattle.std.specs.Str.{bytes_eq}
-use Rattle.kernel_text.specs.KernelText.{members_of}
-use Rattle.kernel_text.specs.declared.member.Member.{Member}
+use Rattle.std.specs.{Prelude.{◌≡◌, ℕ, ◌<◌, ◌↔◌, Bool, true, ◌&&◌, List}, List.{list_any}, Str.{bytes_eq}}
+use Rattle.kernel_text.specs.{KernelText.{members_of}, declared.member.Member.{Member}}
 use Rattle.relation_fields.specs.declared.packages.PackageFacts.{PackageFacts}
-use Rattle.repo_model.specs.Repository.{packages_of}
-use Rattle.repo_model.specs.Stanzas.{stanza_at}
+use Rattle.repo_model.specs.{Repository.{packages_of}, Stanzas.{stanza_at}}
 use Rattle.row_book.specs.Sets.{NumSet}
 
 -- the class has a member line of the stanza

@@ -1,19 +1,11 @@
 -- What an index says of its packages: Debian Policy 5.3 and 7. The home is the common architecture of its stanzas.
 use Rattle.std.specs.Prelude.{◌≡◌, ◌≢◌, ℕ, ◌<◌, Bool, true, false, not, ◌&&◌, ◌==◌, ◌⊎◌, List, [], ◌++◌, Some, filter, length, codes, unwrap_or}
-use Rattle.std.specs.List.{AllZip, list_all, slice_split}
-use Rattle.std.specs.Ordering.{is_eq}
-use Rattle.std.specs.Str.{bytes_eq}
-use Rattle.deb_version.specs.Grammar.{is_version}
-use Rattle.deb_version.specs.Names.{is_name}
-use Rattle.deb_version.specs.Order.{version_order}
-use Rattle.listed.specs.Lists.{In}
-use Rattle.listed.specs.Texts.{is_white_byte}
-use Rattle.relation_fields.specs.Grammar.{is_architecture}
-use Rattle.relation_fields.specs.declared.packages.Home.{Home}
-use Rattle.relation_fields.specs.declared.packages.PackageFacts.{PackageFacts}
+use Rattle.std.specs.{List.{AllZip, list_all, slice_split}, Ordering.{is_eq}, Str.{bytes_eq}}
+use Rattle.deb_version.specs.{Grammar.{is_version}, Names.{is_name}, Order.{version_order}}
+use Rattle.listed.specs.{Lists.{In}, Texts.{is_white_byte}}
+use Rattle.relation_fields.specs.{Grammar.{is_architecture}, declared.packages.Home.{Home}, declared.packages.PackageFacts.{PackageFacts}}
 use Rattle.repo_model.specs.Stanzas.{stanza_at}
-use Rattle.claims.specs.Control.{stanza_groups, field_value, IsStanza}
-use Rattle.claims.specs.Spelling.{WritesAlternatives, WritesAtom, WritesProvide}
+use Rattle.claims.specs.{Control.{stanza_groups, field_value, IsStanza}, Spelling.{WritesAlternatives, WritesAtom, WritesProvide}}
 use Rattle.coinst_words.specs.Usage.{Text}
 
 -- the elements of a relation field: what stands between its commas, 44, but for white space alone; a missing field has none

@@ -1,10 +1,6 @@
 -- The kernel of a repository, and the images of sets of packages in it.
 use Rattle.std.specs.Prelude.{◌≡◌, ◌≢◌, ℕ, Bool, List, map}
-use Rattle.row_book.specs.Flattening.{flat}
-use Rattle.row_book.specs.Merging.{image}
-use Rattle.row_book.specs.Repository.{Repository}
-use Rattle.row_book.specs.Rounds.{round}
-use Rattle.row_book.specs.Sets.{NumSet}
+use Rattle.row_book.specs.{Flattening.{flat}, Merging.{image}, Repository.{Repository}, Rounds.{round}, Sets.{NumSet}}
 
 -- the first of the repository, its round, the round of that, and so on, that a round leaves as it is; and what becomes of sets of packages
 -- on the way: the classes that have a member of them

@@ -1,44 +1,20 @@
 -- That the short definitions say the same as those that the code keeps.
 use Rattle.std.specs.Prelude.{◌≡◌, ◌↔◌, ◌<◌, ◌≤◌, codes, length, false, true, Option, Some, unwrap_or, ℕ, Bool, List, [], ◌∷◌, ◌++◌, None, is_some, map}
-use Rattle.coinst_words.specs.Usage.{Text}
-use Rattle.relation_fields.specs.Grammar.{atom_of, alternatives_of, provide_of}
-use Rattle.relation_fields.specs.Spelling.{Reads}
 use Rattle.std.specs.List.{AllZip}
-use Rattle.relation_fields.specs.declared.packages.Home.{Home}
+use Rattle.coinst_words.specs.{Usage.{Text}, Jobs.{job_of}, declared.job.Job.{Job}, declared.job.Job.TheVariants.{Kernel, Compare}}
+use Rattle.relation_fields.specs.{Grammar.{atom_of, alternatives_of, provide_of}, Spelling.{Reads}, declared.packages.Home.{Home}}
 use Rattle.relation_fields.specs.declared.packages.PackageFacts.{PackageFacts}
-use Rattle.repo_model.specs.Limits.{most_packages}
-use Rattle.repo_model.specs.Facts.{facts_of}
-use Rattle.repo_model.specs.Repository.{suite_repository}
-use Rattle.repo_model.specs.FirstFault.{first_fault, home_of, stanzas_of}
-use Rattle.claims.specs.Index.{IndexSays}
-use Rattle.kernel_text.specs.KernelReads.{KernelReads}
-use Rattle.kernel_text.specs.KernelText.{format_of, kernel_text}
-use Rattle.kernel_text.specs.Members.{kernel_members}
-use Rattle.kernel_text.specs.declared.member.Member.{Member}
-use Rattle.claims.specs.Written.{StandsForKernel, StandsForOne}
-use Rattle.row_book.specs.Flattening.{packages}
-use Rattle.row_book.specs.Rounds.{kernel, kernel_class, kernel_held, kernel_image}
-use Rattle.row_book.specs.Sound.{SoundRepository}
-use Rattle.claims.specs.Kernel.{SettlesTo}
+use Rattle.repo_model.specs.{Limits.{most_packages}, Facts.{facts_of}, Repository.{suite_repository}, FirstFault.{first_fault, home_of, stanzas_of}}
 use Rattle.repo_model.specs.Stanzas.{stanza_at, CoinstStanzas}
-use Rattle.claims.specs.Classes.{classes_of, IsItsClass}
-use Rattle.coinst_words.specs.Jobs.{job_of}
-use Rattle.coinst_words.specs.declared.job.Job.{Job}
-use Rattle.coinst_words.specs.declared.job.Job.TheVariants.{Kernel, Compare}
-use Rattle.claims.specs.Words.{compare_words, kernel_words}
-use Rattle.headline.specs.Indexes.{SearchedIndex}
-use Rattle.headline.specs.Listing.{ListsExactly}
-use Rattle.suite_compare.specs.Refusals.{home_in, packages_in}
-use Rattle.suite_compare.specs.declared.report.ReportLine.{ReportLine}
-use Rattle.claims.specs.Asked.{ComparedIndex}
-use Rattle.claims.specs.Printed.{printed_comparison}
-use Rattle.claims.specs.Sentences.{IsFaithfulComparison, IsFaithfulKernel}
-use Rattle.row_book.specs.Sets.{NumSet, Is}
+use Rattle.claims.specs.{Index.{IndexSays}, Written.{StandsForKernel, StandsForOne}, Kernel.{SettlesTo}, Classes.{classes_of, IsItsClass}}
+use Rattle.claims.specs.{Words.{compare_words, kernel_words}, Asked.{ComparedIndex}, Printed.{printed_comparison}}
+use Rattle.claims.specs.{Sentences.{IsFaithfulComparison, IsFaithfulKernel}, Search.{Searched}, Spelling.{WritesAtom, WritesAlternatives, WritesProvide}}
+use Rattle.kernel_text.specs.{KernelReads.{KernelReads}, KernelText.{format_of, kernel_text}, Members.{kernel_members}, declared.member.Member.{Member}}
+use Rattle.row_book.specs.{Flattening.{packages}, Rounds.{kernel, kernel_class, kernel_held, kernel_image}, Sound.{SoundRepository}, Sets.{NumSet, Is}}
 use Rattle.row_book.specs.Repository.{Repository, Coinst}
-use Rattle.search_terms.specs.Tree.{Tree, IsTree, failed_leaves, found_of}
-use Rattle.search_terms.specs.declared.literals.Literal.{Literal}
-use Rattle.claims.specs.Search.{Searched}
-use Rattle.claims.specs.Spelling.{WritesAtom, WritesAlternatives, WritesProvide}
+use Rattle.headline.specs.{Indexes.{SearchedIndex}, Listing.{ListsExactly}}
+use Rattle.suite_compare.specs.{Refusals.{home_in, packages_in}, declared.report.ReportLine.{ReportLine}}
+use Rattle.search_terms.specs.{Tree.{Tree, IsTree, failed_leaves, found_of}, declared.literals.Literal.{Literal}}
 
 -- what is read of a relation is what it is one way of writing
 pub record SpellingsAreRead : Type 0 where

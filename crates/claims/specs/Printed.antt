@@ -1,13 +1,10 @@
 -- The printed lines of a comparison, and their order.
-use Rattle.std.specs.Prelude.{◌≡◌, ◌⊎◌, not, List, [], ◌∷◌, ◌++◌, codes, length, filter, if◌then◌else◌}
-use Rattle.std.specs.Fmt.{decimal}
-use Rattle.std.specs.List.{flat_map}
+use Rattle.std.specs.{Prelude.{◌≡◌, ◌⊎◌, not, List, [], ◌∷◌, ◌++◌, codes, length, filter, if◌then◌else◌}, Fmt.{decimal}, List.{flat_map}}
 use Rattle.clause_pool.specs.Lists.{Before}
 use Rattle.coinst_words.specs.Usage.{Text}
 use Rattle.headline.specs.Listing.{is_broken}
 use Rattle.kernel_text.specs.KernelLines.{with_feed}
-use Rattle.suite_compare.specs.declared.report.ReportLine.{ReportLine}
-use Rattle.suite_compare.specs.declared.report.ReportLine.TheVariants.{Broken1, Broken2, Open1, Open2}
+use Rattle.suite_compare.specs.{declared.report.ReportLine.{ReportLine}, declared.report.ReportLine.TheVariants.{Broken1, Broken2, Open1, Open2}}
 
 -- the names of a line
 abbrev pub names_of : ReportLine → List Text

@@ -1,10 +1,6 @@
 -- A search by the rule of Davis, Putnam, Logemann and Loveland, on signed classes: how it goes on below some decisions, and how it ends.
-use Rattle.std.specs.Prelude.{◌≡◌, ℕ, ◌+◌, Bool, true, false, ◌↔◌, List, [], ◌∷◌, ◌++◌, Option, Some, None}
-use Rattle.std.specs.List.{find}
-use Rattle.std.specs.Option.{option_and_then, option_map}
-use Rattle.search_terms.specs.Closure.{literal, Clashes, InClosure}
-use Rattle.search_terms.specs.Tree.{is_open_need, is_undecided}
-use Rattle.search_terms.specs.declared.literals.Literal.{Literal}
+use Rattle.std.specs.{Prelude.{◌≡◌, ℕ, ◌+◌, Bool, true, false, ◌↔◌, List, [], ◌∷◌, ◌++◌, Option, Some, None}, List.{find}, Option.{option_and_then, option_map}}
+use Rattle.search_terms.specs.{Closure.{literal, Clashes, InClosure}, Tree.{is_open_need, is_undecided}, declared.literals.Literal.{Literal}}
 
 -- the class of the first undecided member of the first open need
 abbrev pub class_to_split : (Literal → Bool) → List (List Literal) → Option ℕ

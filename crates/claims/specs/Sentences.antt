@@ -5,18 +5,13 @@ use Rattle.byte_flow.specs.Flow.{Files}
 use Rattle.coinst_words.specs.Usage.{Text}
 use Rattle.headline.specs.Listing.{is_broken}
 use Rattle.kernel_text.specs.declared.member.Member.{Member}
-use Rattle.relation_fields.specs.declared.packages.Home.{Home}
-use Rattle.relation_fields.specs.declared.packages.PackageFacts.{PackageFacts}
+use Rattle.relation_fields.specs.{declared.packages.Home.{Home}, declared.packages.PackageFacts.{PackageFacts}}
 use Rattle.repo_model.specs.Stanzas.{stanza_at, CoinstStanzas}
-use Rattle.row_book.specs.Repository.{Repository, Coinst}
-use Rattle.row_book.specs.Sets.{NumSet, Is}
+use Rattle.row_book.specs.{Repository.{Repository, Coinst}, Sets.{NumSet, Is}}
 use Rattle.listed.specs.Lists.{In}
 use Rattle.suite_compare.specs.declared.report.ReportLine.{ReportLine}
-use Rattle.claims.specs.Asked.{ComparedIndex, FoundInstallable, FoundUninstallable, IsAsked, IsSearched, Spends}
-use Rattle.claims.specs.Classes.{classes_of, IsItsClass}
-use Rattle.claims.specs.Index.{IndexSays}
-use Rattle.claims.specs.Printed.{names_of, printed_comparison, Precedes}
-use Rattle.claims.specs.Words.{compare_words, kernel_words}
+use Rattle.claims.specs.{Asked.{ComparedIndex, FoundInstallable, FoundUninstallable, IsAsked, IsSearched, Spends}, Classes.{classes_of, IsItsClass}}
+use Rattle.claims.specs.{Index.{IndexSays}, Printed.{names_of, printed_comparison, Precedes}, Words.{compare_words, kernel_words}}
 use Rattle.claims.specs.Written.{StandsForKernel, StandsForOne}
 
 -- `kernel`. The text is an index of these stanzas, and the printed bytes stand for exactly one format, repository, list of members and

@@ -1,14 +1,8 @@
 -- How relations are written: Debian Policy 7.1, without its architecture and profile restrictions. Each relation says of a text that it is one way of writing a value.
-use Rattle.std.specs.Prelude.{◌≡◌, ◌==◌, true, Option, Some, None, List, [], ◌++◌, codes}
-use Rattle.std.specs.List.{AllZip, slice_split}
-use Rattle.std.specs.Option.{option_map}
-use Rattle.deb_version.specs.Grammar.{is_version}
-use Rattle.deb_version.specs.Names.{is_name}
-use Rattle.relation_fields.specs.declared.relations.Op.TheVariants.{Exactly}
-use Rattle.relation_fields.specs.declared.relations.Bound.{Bound}
-use Rattle.relation_fields.specs.declared.relations.Atom.{Atom}
-use Rattle.relation_fields.specs.declared.relations.Provide.{Provide}
-use Rattle.relation_fields.specs.Spelling.{SpellsOp, SpellsQualifier}
+use Rattle.std.specs.{Prelude.{◌≡◌, ◌==◌, true, Option, Some, None, List, [], ◌++◌, codes}, List.{AllZip, slice_split}, Option.{option_map}}
+use Rattle.deb_version.specs.{Grammar.{is_version}, Names.{is_name}}
+use Rattle.relation_fields.specs.{declared.relations.Op.TheVariants.{Exactly}, declared.relations.Bound.{Bound}, declared.relations.Atom.{Atom}}
+use Rattle.relation_fields.specs.{declared.relations.Provide.{Provide}, Spelling.{SpellsOp, SpellsQualifier}}
 use Rattle.claims.specs.Texts.{IsWhite}
 use Rattle.coinst_words.specs.Usage.{Text}
 

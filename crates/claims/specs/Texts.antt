@@ -1,6 +1,5 @@
 -- White space.
-use Rattle.std.specs.Prelude.{◌≡◌, true}
-use Rattle.std.specs.List.{list_all}
+use Rattle.std.specs.{Prelude.{◌≡◌, true}, List.{list_all}}
 use Rattle.coinst_words.specs.Usage.{Text}
 use Rattle.listed.specs.Texts.{is_white_byte}
 

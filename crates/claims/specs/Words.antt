@@ -1,7 +1,5 @@
 -- The words of the two commands, with their options in one order and each number as a word of its own. `run` takes other spellings too.
-use Rattle.std.specs.Prelude.{ℕ, Bool, List, [], ◌∷◌, ◌++◌, Option, codes, if◌then◌else◌}
-use Rattle.std.specs.Fmt.{decimal}
-use Rattle.std.specs.Option.{option_map_or}
+use Rattle.std.specs.{Prelude.{ℕ, Bool, List, [], ◌∷◌, ◌++◌, Option, codes, if◌then◌else◌}, Fmt.{decimal}, Option.{option_map_or}}
 use Rattle.coinst_words.specs.Usage.{Text}
 
 -- an option with a number, or nothing

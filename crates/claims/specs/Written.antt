@@ -1,17 +1,12 @@
 -- Kernel texts, formats 1 and 2: a head line, the lines of each class, and an end line.
-use Rattle.std.specs.Prelude.{◌≡◌, ◌≢◌, ◌⊎◌, ℕ, ◌<◌, true, false, List, [], ◌∷◌, ◌++◌, codes, length}
-use Rattle.std.specs.List.{AllZip, flat_map}
+use Rattle.std.specs.{Prelude.{◌≡◌, ◌≢◌, ◌⊎◌, ℕ, ◌<◌, true, false, List, [], ◌∷◌, ◌++◌, codes, length}, List.{AllZip, flat_map}}
 use Rattle.coinst_words.specs.Usage.{Text}
-use Rattle.deb_version.specs.Grammar.{is_version}
-use Rattle.deb_version.specs.Names.{is_name}
-use Rattle.kernel_text.specs.KernelLines.{behind_space, with_feed}
-use Rattle.kernel_text.specs.KernelText.{greater_conflicts, members_of}
-use Rattle.kernel_text.specs.Reading.{number_limit}
+use Rattle.deb_version.specs.{Grammar.{is_version}, Names.{is_name}}
+use Rattle.kernel_text.specs.{KernelLines.{behind_space, with_feed}, KernelText.{greater_conflicts, members_of}, Reading.{number_limit}}
 use Rattle.kernel_text.specs.declared.member.Member.{Member}
 use Rattle.listed.specs.Lists.{Ascending, In, has}
 use Rattle.clause_pool.specs.Lists.{InOrder}
-use Rattle.row_book.specs.Numbers.{numbers}
-use Rattle.row_book.specs.Repository.{Repository, clauses_of, conflicts_of}
+use Rattle.row_book.specs.{Numbers.{numbers}, Repository.{Repository, clauses_of, conflicts_of}}
 use Rattle.claims.specs.Index.{is_one_package}
 
 -- The lines of a class: its number; one for each member, with its name and its version; one where the class is held; one for each clause; and one

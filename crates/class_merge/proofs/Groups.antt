@@ -1,28 +1,18 @@
 -- A grouping of packages by their rows and conflicts gives the classes.
 use Rattle.std.proofs.Common.{◌≡◌, ℕ, zero, suc, ◌<◌, ◌≤◌, ◌+◌, Bool, true, false, cond, List, [], ◌∷◌, ◌++◌, length, get_or, drop, ◌⊎◌, inl, inr, refl, sym, ◌∙◌, ap, ap₂, subst, arith, map, filter, nat_eq, position, Some, None, Result, Ok, Err, IfOk, append-nil, length-append}
-use Rattle.std.specs.List.{list_any}
-use Rattle.std.specs.Cmp.Lexicographic.{pointwise}
-use Rattle.class_merge.proofs.Places.{place_in, place_none, place_some}
-use Rattle.std.proofs.lemmas.Bool.{cases_eq, cases_lt, false_from_ne_true, not_from_false}
-use Rattle.std.proofs.lemmas.List.Elements.{filter-append}
+use Rattle.std.proofs.{lemmas.Bool.{cases_eq, cases_lt, false_from_ne_true, not_from_false}, lemmas.List.Elements.{filter-append}}
 use Rattle.std.proofs.lemmas.List.{get_or-map, get_or_append_left, length-map, map-append}
+use Rattle.std.specs.{List.{list_any}, Cmp.Lexicographic.{pointwise}}
+use Rattle.class_merge.proofs.Places.{place_in, place_none, place_some}
 use Rattle.clause_pool.specs.Interned.{Interned, IsPool, EachOnce, clauses_at, ids_at, row_at, OfPool}
-use Rattle.row_book.specs.declared.book.Book.{Book}
-use Rattle.listed.specs.Lists.{In, here, there, Ascending}
-use Rattle.row_book.specs.Numbers.{numbers}
-use Rattle.row_book.specs.Uses.{row_id}
-use Rattle.row_book.specs.Book.{repository_of, Sound}
-use Rattle.row_book.specs.Repository.{Repository}
+use Rattle.row_book.specs.{declared.book.Book.{Book}, Numbers.{numbers}, Uses.{row_id}, Book.{repository_of, Sound}, Repository.{Repository}}
 use Rattle.row_book.specs.Flattening.{packages}
+use Rattle.listed.specs.Lists.{In, here, there, Ascending}
 use Rattle.row_book.specs.Merging.{are_alike, class_list, class_of as class_of_, firsts, first_of, is_first}
-use Rattle.row_book.proofs.Books.{clauses_row}
-use Rattle.listed.proofs.Lists.{In_append_cases, In_at, In_cases, In_map, In_none, any_cases, filter_cases}
-use Rattle.listed.proofs.Orders.{ascending_filter}
-use Rattle.row_book.proofs.Numbers.{at_numbers, length_numbers, numbers_ascending, numbers_parts, numbers_more, numbers_count}
-use Rattle.class_merge.specs.Classes.{key_of}
-use Rattle.class_merge.specs.Grouping.{AreClasses, IsPlaceAmong}
-use Rattle.class_merge.proofs.Plain.{filter_less, none_before}
-use Rattle.class_merge.proofs.Classes.{Alike, alike_from, alike_sym, alike_trans, class_alike, first_in, has_class_lem}
+use Rattle.row_book.proofs.{Books.{clauses_row}, Numbers.{at_numbers, length_numbers, numbers_ascending, numbers_parts, numbers_more, numbers_count}}
+use Rattle.listed.proofs.{Lists.{In_append_cases, In_at, In_cases, In_map, In_none, any_cases, filter_cases}, Orders.{ascending_filter}}
+use Rattle.class_merge.specs.{Classes.{key_of}, Grouping.{AreClasses, IsPlaceAmong}}
+use Rattle.class_merge.proofs.{Plain.{filter_less, none_before}, Classes.{Alike, alike_from, alike_sym, alike_trans, class_alike, first_in, has_class_lem}}
 
 -- rows of a pool are kept once
 ids_once : (pool : Interned) → EachOnce pool.clauses → (xs ys : List ℕ) → OfPool pool xs → OfPool pool ys → clauses_at pool xs ≡ clauses_at pool ys → xs ≡ ys

@@ -1,20 +1,13 @@
 -- Merging keeps every set, and is tidy.
 use Rattle.std.proofs.Common.{◌≡◌, ℕ, ◌<◌, true, List, [], length, inl, inr, sym, ◌∙◌, ap, ap₂, subst, arith, map, ◌&&◌}
 use Rattle.std.proofs.lemmas.Bool.{false_from_ne_true, false≢true}
-use Rattle.row_book.specs.Sets.{NumSet, Hit, Is}
-use Rattle.listed.specs.Lists.{In, has, Ascending, Inside}
-use Rattle.clause_pool.specs.Lists.{InOrder}
-use Rattle.clause_pool.specs.Clauses.{apart_from, minimal_of}
-use Rattle.row_book.specs.Repository.{Repository, Healthy, against, clauses_of, conflicts_of}
-use Rattle.row_book.specs.Sound.{SoundRepository}
+use Rattle.row_book.specs.{Sets.{NumSet, Hit, Is}, Repository.{Repository, Healthy, against, clauses_of, conflicts_of}, Sound.{SoundRepository}}
 use Rattle.row_book.specs.Merging.{firsts, first_of, classes, class_of, image, members, clause_image, class_clauses, class_conflicts, quotient}
-use Rattle.row_book.proofs.Books.{in_listed}
-use Rattle.clause_pool.proofs.Clauses.{apart_cases, apart_in, minimal_of_parts, minimal_below}
-use Rattle.listed.proofs.Lists.{In_has, has_In, In_map, In_map_cases, decided_in, filter_cases}
-use Rattle.listed.proofs.Orders.{ascending_filter, ascending_same}
-use Rattle.row_book.proofs.Numbers.{at_numbers, length_numbers, numbers_ascending}
-use Rattle.clause_pool.proofs.Order.{ordered_has, ordered_order, ordered_parts}
-use Rattle.row_book.proofs.Repositories.{each_list, has_filter, symmetric}
+use Rattle.listed.specs.Lists.{In, has, Ascending, Inside}
+use Rattle.clause_pool.specs.{Lists.{InOrder}, Clauses.{apart_from, minimal_of}}
+use Rattle.row_book.proofs.{Books.{in_listed}, Numbers.{at_numbers, length_numbers, numbers_ascending}, Repositories.{each_list, has_filter, symmetric}}
+use Rattle.clause_pool.proofs.{Clauses.{apart_cases, apart_in, minimal_of_parts, minimal_below}, Order.{ordered_has, ordered_order, ordered_parts}}
+use Rattle.listed.proofs.{Lists.{In_has, has_In, In_map, In_map_cases, decided_in, filter_cases}, Orders.{ascending_filter, ascending_same}}
 use Rattle.class_merge.specs.Laws.{MergeKeeps, MergeLifts, MergeIsTidy}
 use Rattle.class_merge.proofs.Classes.{class_alike, clause_image_ascending, clause_image_cases, clause_image_in, clause_image_within, has_class_lem, image_from, image_parts, in_classes, members_from, members_parts, of_classes}
 

@@ -1,35 +1,21 @@
 -- The rows and conflicts that are made from a list of classes are those of the merged repository.
 use Rattle.std.proofs.Common.{◌≡◌, ℕ, ◌<◌, ◌≤◌, ◌+◌, true, not, ◌||◌, eqb, List, [], ◌∷◌, length, get_or, refl, sym, ◌∙◌, ap, ap₂, subst, arith, map, eq-eqb, eqb-true, slice_index_or, ◌↔◌}
-use Rattle.std.specs.List.{list_all, list_any}
 use Rattle.std.proofs.lemmas.List.{get_or-map, length-map}
-use Rattle.listed.proofs.Bools.{same_bool}
-use Rattle.clause_pool.specs.Interned.{Interned, IsPool, row_at}
-use Rattle.row_book.specs.declared.book.Book.{Book}
-use Rattle.listed.specs.Lists.{In, here, there, has, is_inside}
-use Rattle.clause_pool.specs.Lists.{InOrder}
-use Rattle.clause_pool.specs.Clauses.{apart_from, minimal_of, in_row_order}
-use Rattle.row_book.specs.Numbers.{numbers}
-use Rattle.row_book.specs.Uses.{row_id}
-use Rattle.row_book.specs.Repository.{Repository, Coinst, against, clauses_of, conflicts_of}
-use Rattle.row_book.specs.Flattening.{packages}
-use Rattle.row_book.specs.Sound.{SoundRepository, TidyRepository}
-use Rattle.row_book.specs.Keeping.{KeepsImages}
+use Rattle.std.specs.List.{list_all, list_any}
+use Rattle.listed.proofs.{Bools.{same_bool}, Lists.{In_has, In_map_cases, any_cases, any_from, filter_same, has_In}}
+use Rattle.clause_pool.specs.{Interned.{Interned, IsPool, row_at}, Lists.{InOrder}, Clauses.{apart_from, minimal_of, in_row_order}}
+use Rattle.row_book.specs.{declared.book.Book.{Book}, Numbers.{numbers}, Uses.{row_id}, Repository.{Repository, Coinst, against, clauses_of, conflicts_of}}
+use Rattle.row_book.specs.{Flattening.{packages}, Sound.{SoundRepository, TidyRepository}, Keeping.{KeepsImages}}
 use Rattle.row_book.specs.Book.{listed_for, repository_of, RowsTidy, Sound}
 use Rattle.row_book.specs.Merging.{class_clauses, class_conflicts, class_list, class_of, classes, clause_image, firsts, first_of, image, quotient}
-use Rattle.row_book.proofs.Books.{clauses_row}
-use Rattle.row_book.proofs.BookRepositories.{book_size, sound_book, sound_repository}
-use Rattle.clause_pool.proofs.Clauses.{minimal_of_from, minimal_of_parts}
-use Rattle.listed.proofs.Lists.{In_has, In_map_cases, any_cases, any_from, filter_same, has_In}
-use Rattle.row_book.proofs.Numbers.{at_numbers, length_numbers, numbers_parts}
-use Rattle.clause_pool.proofs.Order.{order_filter, order_same, ordered_has, ordered_order, ordered_parts}
-use Rattle.row_book.proofs.Repositories.{between, ranged, repository_same, symmetric}
+use Rattle.listed.specs.Lists.{In, here, there, has, is_inside}
+use Rattle.row_book.proofs.{Books.{clauses_row}, BookRepositories.{book_size, sound_book, sound_repository}}
+use Rattle.row_book.proofs.{Numbers.{at_numbers, length_numbers, numbers_parts}, Repositories.{between, ranged, repository_same, symmetric}}
+use Rattle.clause_pool.proofs.{Clauses.{minimal_of_from, minimal_of_parts}, Order.{order_filter, order_same, ordered_has, ordered_order, ordered_parts}}
 use Rattle.clause_families.specs.Families.{SameClauses}
-use Rattle.class_merge.specs.Classes.{class_in, clauses_in, image_in, ClassesWithin, HasClasses}
-use Rattle.class_merge.specs.Grouping.{AreClasses}
-use Rattle.class_merge.proofs.Classes.{alike_self, class_alike, first_within, has_class_lem, image_from, image_parts, of_classes}
-use Rattle.class_merge.proofs.Groups.{class_unique}
-use Rattle.class_merge.proofs.Kept.{merge_is_tidy_lem, merge_keeps_lem, merged_size}
-use Rattle.class_merge.proofs.Plain.{firsts_le}
+use Rattle.class_merge.specs.{Classes.{class_in, clauses_in, image_in, ClassesWithin, HasClasses}, Grouping.{AreClasses}}
+use Rattle.class_merge.proofs.{Classes.{alike_self, class_alike, first_within, has_class_lem, image_from, image_parts, of_classes}, Groups.{class_unique}}
+use Rattle.class_merge.proofs.{Kept.{merge_is_tidy_lem, merge_keeps_lem, merged_size}, Plain.{firsts_le}}
 
 -- the classes in a list
 pub class_at : (R : Repository) (p : ℕ) → p < length R.clauses → class_in (class_list R) p ≡ class_of R p

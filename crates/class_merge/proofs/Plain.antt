@@ -1,19 +1,13 @@
 -- Merging where no two packages are alike.
 use Rattle.std.proofs.Common.{◌≡◌, ◌≢◌, ℕ, zero, suc, ◌<◌, ◌≤◌, ◌+◌, Bool, true, false, cond, List, [], ◌∷◌, length, inl, inr, refl, sym, ◌∙◌, ap, ap₂, subst, arith, map, filter, zero-le, slice_index_or}
-use Rattle.std.specs.List.{list_any}
 use Rattle.std.proofs.lemmas.Bool.{both_ways, cases_eq, not-true}
-use Rattle.listed.proofs.Bools.{same_bool}
+use Rattle.std.specs.List.{list_any}
+use Rattle.listed.proofs.{Bools.{same_bool}, Lists.{any_from, filter_cases}, Orders.{ascending_same}}
 use Rattle.listed.specs.Lists.{In, here, there, Ascending}
 use Rattle.clause_pool.specs.Clauses.{apart_from, minimal_of, in_row_order}
-use Rattle.row_book.specs.Numbers.{numbers}
-use Rattle.row_book.specs.Repository.{Repository, against, clauses_of}
-use Rattle.row_book.specs.Flattening.{packages}
-use Rattle.row_book.specs.Sound.{SoundRepository}
+use Rattle.row_book.specs.{Numbers.{numbers}, Repository.{Repository, against, clauses_of}, Flattening.{packages}, Sound.{SoundRepository}}
 use Rattle.row_book.specs.Merging.{are_alike, is_first, firsts, first_of, class_of, clause_image, quotient}
-use Rattle.listed.proofs.Lists.{any_from, filter_cases}
-use Rattle.listed.proofs.Orders.{ascending_same}
-use Rattle.row_book.proofs.Numbers.{numbers_from, numbers_count}
-use Rattle.row_book.proofs.Repositories.{conflicts_same, in_packages, between}
+use Rattle.row_book.proofs.{Numbers.{numbers_from, numbers_count}, Repositories.{conflicts_same, in_packages, between}}
 use Rattle.class_merge.specs.Laws.{MergePlain}
 use Rattle.class_merge.proofs.Classes.{Alike, alike_sym, alike_test, class_alike, clause_image_ascending, clause_image_cases, clause_image_in, has_class_lem}
 use Rattle.class_merge.proofs.Kept.{merge_is_tidy_lem, merged_against, merged_clauses, merged_size}

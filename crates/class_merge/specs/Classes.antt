@@ -1,13 +1,9 @@
 -- for bodies alone, those of other crates too
 -- Merging from a list of the least packages and a list of the classes.
-use Rattle.std.specs.Prelude.{ℕ, ◌<◌, eqb, List, ◌∷◌, map, filter, length, slice_index_or}
-use Rattle.std.specs.List.{list_any}
-use Rattle.row_book.specs.declared.book.Book.{Book}
-use Rattle.row_book.specs.Book.{listed_for}
-use Rattle.row_book.specs.Uses.{row_id}
+use Rattle.std.specs.{Prelude.{ℕ, ◌<◌, eqb, List, ◌∷◌, map, filter, length, slice_index_or}, List.{list_any}}
+use Rattle.row_book.specs.{declared.book.Book.{Book}, Book.{listed_for}, Uses.{row_id}, Numbers.{numbers}}
 use Rattle.listed.specs.Lists.{In}
 use Rattle.clause_pool.specs.Clauses.{apart_from, minimal_of, in_row_order}
-use Rattle.row_book.specs.Numbers.{numbers}
 
 -- the class of a package in a list of classes
 abbrev pub class_in : List ℕ → ℕ → ℕ

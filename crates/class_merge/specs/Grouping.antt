@@ -2,10 +2,8 @@
 -- What a grouping of packages by their rows and conflicts answers.
 use Rattle.std.specs.Prelude.{◌≡◌, ℕ, ◌<◌, ◌⊎◌, List, [], ◌∷◌, ◌++◌, length, slice_index_or}
 use Rattle.clause_pool.specs.Interned.{Interned}
-use Rattle.row_book.specs.declared.book.Book.{Book}
-use Rattle.row_book.specs.Book.{repository_of}
+use Rattle.row_book.specs.{declared.book.Book.{Book}, Book.{repository_of}, Merging.{class_list, firsts}}
 use Rattle.listed.specs.Lists.{In}
-use Rattle.row_book.specs.Merging.{class_list, firsts}
 
 -- the least package of each class, and the class of each package, in lists
 pub record AreClasses (pool : Interned) (book : Book) (least class_of : List ℕ) : Type 0 where

@@ -1,13 +1,9 @@
 //! The rows of classes and their conflicts.
 ghost use Rattle.std.specs.Prelude.{◌≡◌, ◌<◌, ◌∷◌, ◌++◌, [], ℕ, List, IfOk, OnOk, cond, length, map};
-ghost use Rattle.clause_pool.specs.Interned.{clauses_at, row_at, Kept, OfPool, IsPool};
-ghost use Rattle.row_book.specs.Book.{listed_for, repository_of, Sound};
-ghost use Rattle.clause_pool.specs.Clauses.{apart_from};
+ghost use Rattle.clause_pool.specs.{Interned.{clauses_at, row_at, Kept, OfPool, IsPool}, Clauses.{apart_from}};
+ghost use Rattle.row_book.specs.{Book.{listed_for, repository_of, Sound}, Repository.{Repository}, Merging.{quotient}};
 ghost use Rattle.listed.specs.Lists.{has, In};
-ghost use Rattle.row_book.specs.Repository.{Repository};
-ghost use Rattle.row_book.specs.Merging.{quotient};
-ghost use Rattle.class_merge.specs.Classes.{clauses_in, image_in, ClassesWithin, HasClasses};
-ghost use Rattle.class_merge.specs.Grouping.{AreClasses};
+ghost use Rattle.class_merge.specs.{Classes.{clauses_in, image_in, ClassesWithin, HasClasses}, Grouping.{AreClasses}};
 
 use crate::images::{image, image_list};
 use clause_families::{Clause, intern_minimal, put_in_order};

@@ -1,10 +1,8 @@
 //! The classes of packages that are alike: in a pool, packages have the same clauses where they have the same row.
-ghost use Rattle.std.specs.Prelude.{◌≡◌, ◌<◌, ◌∷◌, ◌++◌, [], ℕ, List, IfOk, OnOk, cond, length, map, nat_eq, position};
-ghost use Rattle.std.specs.Cmp.Lexicographic.{pointwise};
+ghost use Rattle.std.specs.{Prelude.{◌≡◌, ◌<◌, ◌∷◌, ◌++◌, [], ℕ, List, IfOk, OnOk, cond, length, map, nat_eq, position}, Cmp.Lexicographic.{pointwise}};
 ghost use Rattle.row_book.specs.Book.{Sound};
 ghost use Rattle.listed.specs.Lists.{In};
-ghost use Rattle.class_merge.specs.Classes.{key_of};
-ghost use Rattle.class_merge.specs.Grouping.{AreClasses, IsPlaceAmong};
+ghost use Rattle.class_merge.specs.{Classes.{key_of}, Grouping.{AreClasses, IsPlaceAmong}};
 
 use crate::key_table::KeyTable;
 use clause_pool::Pool;

@@ -1,6 +1,5 @@
 //! The keys of packages that were seen, each once.
-ghost use Rattle.std.specs.Prelude.{◌≡◌, ◌∷◌, ◌++◌, [], IfOk, None, OnErr, length, nat_eq, position};
-ghost use Rattle.std.specs.Cmp.Lexicographic.{pointwise};
+ghost use Rattle.std.specs.{Prelude.{◌≡◌, ◌∷◌, ◌++◌, [], IfOk, None, OnErr, length, nat_eq, position}, Cmp.Lexicographic.{pointwise}};
 
 use indexmap::IndexSet;
 use std::alloc::{AllocError, Global};
@@ -13,8 +12,7 @@ pub struct KeyTable {
 }
 
 impl Model for KeyTable {
-    ghost use Rattle.std.specs.Prelude.{ℕ, List, map};
-    ghost use Rattle.std.specs.Coded.{coded_list, coded_ℕ};
+    ghost use Rattle.std.specs.{Prelude.{ℕ, List, map}, Coded.{coded_list, coded_ℕ}};
 
     ghost Value = { List (List ℕ) };
 

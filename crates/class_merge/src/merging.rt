@@ -1,9 +1,7 @@
 //! Merging of a book.
 ghost use Rattle.std.specs.Prelude.{◌≡◌, IfOk};
 ghost use Rattle.clause_pool.specs.Interned.{Kept};
-ghost use Rattle.row_book.specs.Book.{repository_of, RowsTidy, Sound};
-ghost use Rattle.row_book.specs.Keeping.{KeepsImages};
-ghost use Rattle.row_book.specs.Merging.{class_list, image, quotient};
+ghost use Rattle.row_book.specs.{Book.{repository_of, RowsTidy, Sound}, Keeping.{KeepsImages}, Merging.{class_list, image, quotient}};
 
 use crate::class_rows::{class_conflicts, class_rows};
 use crate::grouping::classes_of;

@@ -1,7 +1,6 @@
 -- Numbers that ascend and clauses in order, by their places.
-use Rattle.std.proofs.Common.{◌≡◌, ℕ, zero, suc, ◌<◌, Bool, false, refl, List, [], ◌∷◌, length, get_or, arith}
+use Rattle.std.proofs.{Common.{◌≡◌, ℕ, zero, suc, ◌<◌, Bool, false, refl, List, [], ◌∷◌, length, get_or, arith}, lemmas.Bool.{or_from}}
 use Rattle.std.specs.List.{list_any}
-use Rattle.std.proofs.lemmas.Bool.{or_from}
 use Rattle.clause_pool.proofs.Lists.{In_at}
 use Rattle.clause_pool.specs.Lists.{Before, InOrder}
 

@@ -1,26 +1,16 @@
 -- Families of clauses in scratch space: how they grow, and what they come to.
 use Rattle.std.proofs.Common.{◌≡◌, ◌≢◌, ℕ, zero, suc, ◌<◌, ◌≤◌, ◌+◌, Bool, true, false, not, ◌&&◌, ◌||◌, ltb, cond, List, [], ◌∷◌, ◌++◌, length, get_or, take, map, filter, ◌⊎◌, inl, inr, refl, sym, ◌∙◌, ap, ap₂, subst, arith, append-nil, append_assoc, zero-le, eqb, eqb-true, lt-ltb}
-use Rattle.std.specs.List.{flat_map, list_all, HoldsAt}
-use Rattle.std.specs.Bool.{OnTrue}
-use Rattle.std.specs.Prelude.{Result, Ok, Err, IfOk}
-use Rattle.std.specs.Result.{is_ok}
-use Rattle.std.specs.List.Sorted.{IsSearchInRange}
-use Rattle.std.specs.Ordering.{MatchOrdering, nat_cmp}
-use Rattle.std.specs.declared.cmp.Ordering.TheVariants.{Equal}
 use Rattle.std.proofs.lemmas.Cmp.{ranked}
 use Rattle.std.proofs.lemmas.Bool.{OnTrue_from, false≢true, both_ways, cases_Bool, cases_lt, cond-true, cond-false, false_from_ne_true, and_from, and_parts, not_from_false, not_from_true, ltb-true}
-use Rattle.std.proofs.lemmas.List.{take_more, map-append}
-use Rattle.std.proofs.lemmas.List.Elements.{filter_more}
-use Rattle.std.proofs.lemmas.Grind.{flat_map-append}
+use Rattle.std.proofs.{lemmas.List.{take_more, map-append}, lemmas.List.Elements.{filter_more}, lemmas.Grind.{flat_map-append}}
+use Rattle.std.specs.{List.{flat_map, list_all, HoldsAt}, Bool.{OnTrue}, Prelude.{Result, Ok, Err, IfOk}, Result.{is_ok}, List.Sorted.{IsSearchInRange}}
+use Rattle.std.specs.{Ordering.{MatchOrdering, nat_cmp}, declared.cmp.Ordering.TheVariants.{Equal}}
 use Rattle.listed.proofs.Lists.{item_nil, In_append_cases, In_append_left, In_append_right, In_cases, In_has, In_map, In_none, any_from, any_cases, filter_cases, filter_from, filter_same, item_in}
-use Rattle.clause_pool.specs.Interned.{Interned, clause_at, clauses_at, row_at, Kept, OfPool, IsIdOf}
-use Rattle.clause_pool.proofs.Lists.{In_at}
-use Rattle.clause_pool.proofs.Interned.{kept_along, clauses_kept, kept_of_pool}
-use Rattle.listed.specs.Lists.{In, has, here, there, Ascending, Inside, is_inside}
-use Rattle.clause_pool.specs.Clauses.{apart_from, minimal_of}
+use Rattle.clause_pool.specs.{Interned.{Interned, clause_at, clauses_at, row_at, Kept, OfPool, IsIdOf}, Clauses.{apart_from, minimal_of}}
+use Rattle.clause_pool.proofs.{Lists.{In_at}, Interned.{kept_along, clauses_kept, kept_of_pool}}
 use Rattle.clause_pool.proofs.Clauses.{apart_in, inside_at, inside_from, minimal_of_from, minimal_of_parts}
-use Rattle.clause_families.specs.Inclusion.{has_shorter}
-use Rattle.clause_families.specs.Families.{HoldsOneOf, IncludesOneOf, InternedSoFar, Useful}
+use Rattle.listed.specs.Lists.{In, has, here, there, Ascending, Inside, is_inside}
+use Rattle.clause_families.specs.{Inclusion.{has_shorter}, Families.{HoldsOneOf, IncludesOneOf, InternedSoFar, Useful}}
 
 -- Steps of loops over lists.
 

@@ -1,18 +1,13 @@
 -- Ids in the order of their clauses, and one more of them put into its place.
 use Rattle.std.proofs.Common.{◌≡◌, ◌≢◌, ℕ, zero, suc, ◌<◌, ◌≤◌, ◌+◌, true, false, List, [], ◌∷◌, ◌++◌, inl, inr, sym, ◌∙◌, ap, subst, length, get_or, map, take, drop, arith}
+use Rattle.std.proofs.{lemmas.Bool.{both_ways, cases_Bool, cases_eq, false_from_ne_true}, lemmas.List.{map-append, take-append-drop}}
 use Rattle.std.specs.List.{insert}
-use Rattle.std.proofs.lemmas.Bool.{both_ways, cases_Bool, cases_eq, false_from_ne_true}
-use Rattle.std.proofs.lemmas.List.{map-append, take-append-drop}
-use Rattle.clause_pool.specs.Interned.{Interned, IsPool, OfPool, clause_at, clauses_at}
-use Rattle.clause_pool.proofs.Lists.{In_at}
+use Rattle.clause_pool.specs.{Interned.{Interned, IsPool, OfPool, clause_at, clauses_at}, Lists.{Before, InOrder}, Clauses.{comes_before}}
+use Rattle.clause_pool.proofs.{Lists.{In_at}, Order.{before_test, before_trans, neither_before, order_append, before_is}}
 use Rattle.listed.specs.Lists.{In, here, there}
-use Rattle.clause_pool.specs.Lists.{Before, InOrder}
-use Rattle.clause_pool.specs.Clauses.{comes_before}
 use Rattle.listed.proofs.Lists.{In_append_cases, In_append_left, In_append_right, In_cases, In_map_cases, In_none}
-use Rattle.clause_pool.proofs.Order.{before_test, before_trans, neither_before, order_append, before_is}
 use Rattle.clause_families.specs.Families.{HasGained}
-use Rattle.clause_families.proofs.Beginnings.{order_places}
-use Rattle.clause_families.proofs.Families.{clauses_item, clauses_length}
+use Rattle.clause_families.proofs.{Beginnings.{order_places}, Families.{clauses_item, clauses_length}}
 
 -- ids in order at places
 module _ (pool : Interned) (ids : List ℕ) (order : InOrder (clauses_at pool ids)) where

@@ -1,18 +1,13 @@
 -- Members of lists in the words of the standard library, and lists that were sorted and rid of doubles.
-use Rattle.std.proofs.Common.{◌≡◌, ℕ, ◌<◌, nat_eq, List, [], ◌∷◌, inl, inr, refl, sym, ◌∙◌, ap, subst}
-use Rattle.std.specs.List.{AllByRecursion, dedup}
-use Rattle.std.specs.List.Retain.{DiffersFromLast, IsFiltered}
-use Rattle.std.specs.List.Sorted.{IsPermutation, IsSorted, IsStrictlyIncreasing, IsStrictlySortedBy}
-use Rattle.std.specs.Cmp.Lexicographic.{pointwise, slice_cmp, nat_list_cmp_total, nat_list_eq_equiv, texts_ties, same_text}
-use Rattle.std.specs.Ordering.{MatchOrdering, nat_cmp, ordering_then}
-use Rattle.std.specs.declared.cmp.Ordering.{Ordering}
-use Rattle.std.specs.declared.cmp.Ordering.TheVariants.{Less, Equal, Greater}
-use Rattle.std.proofs.lemmas.Cmp.{ranked}
-use Rattle.std.proofs.lemmas.List.Filters.{dedup_is}
+use Rattle.std.proofs.{Common.{◌≡◌, ℕ, ◌<◌, nat_eq, List, [], ◌∷◌, inl, inr, refl, sym, ◌∙◌, ap, subst}, lemmas.Cmp.{ranked}, lemmas.List.Filters.{dedup_is}}
 use Rattle.std.proofs.lemmas.List.Kept.{AllPairs-from_increasing, Contains-dedup, Contains-from_dedup, IsStrictlySortedBy-dedup}
 use Rattle.std.proofs.lemmas.List.Sorted.{Contains-permutation, IsPermutation-sym}
-use Rattle.listed.proofs.Lists.{contains_in, in_contains, In_cases, In_none}
-use Rattle.listed.proofs.Orders.{ascending_pairs}
+use Rattle.std.specs.{List.{AllByRecursion, dedup}, List.Retain.{DiffersFromLast, IsFiltered}}
+use Rattle.std.specs.List.Sorted.{IsPermutation, IsSorted, IsStrictlyIncreasing, IsStrictlySortedBy}
+use Rattle.std.specs.Cmp.Lexicographic.{pointwise, slice_cmp, nat_list_cmp_total, nat_list_eq_equiv, texts_ties, same_text}
+use Rattle.std.specs.{Ordering.{MatchOrdering, nat_cmp, ordering_then}, declared.cmp.Ordering.{Ordering}}
+use Rattle.std.specs.declared.cmp.Ordering.TheVariants.{Less, Equal, Greater}
+use Rattle.listed.proofs.{Lists.{contains_in, in_contains, In_cases, In_none}, Orders.{ascending_pairs}}
 use Rattle.listed.specs.Lists.{In, Ascending}
 use Rattle.clause_pool.specs.Lists.{Before, InOrder}
 use Rattle.clause_families.specs.Families.{SameClauses}

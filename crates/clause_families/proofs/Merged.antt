@@ -1,13 +1,10 @@
 -- The union of two ascending clauses by merging.
 use Rattle.std.proofs.Common.{◌≡◌, ◌≢◌, ℕ, ◌<◌, ◌≤◌, ◌+◌, ◌-◌, not, eqb, cond, List, [], ◌∷◌, ◌++◌, ◌⊎◌, inl, inr, sym, ◌∙◌, ap, ap₂, subst, length, get_or, take, drop, arith, add-one, append_assoc, append-nil, eq-eqb, ne_eqb, length-drop, drop-cons}
 use Rattle.std.proofs.lemmas.List.{drop_all, take_all}
-use Rattle.listed.proofs.Orders.{rest_ascends, ascending_filter, ascending_same}
+use Rattle.listed.proofs.{Orders.{rest_ascends, ascending_filter, ascending_same}, Lists.{In_none, filter_cases}}
 use Rattle.listed.specs.Lists.{Ascending}
-use Rattle.listed.proofs.Lists.{In_none, filter_cases}
-use Rattle.clause_families.specs.Unions.{clause_without, union_of}
-use Rattle.clause_families.specs.Laws.{Merges}
-use Rattle.clause_families.proofs.UnionMerges.{union_merges_lem}
-use Rattle.clause_families.proofs.Unions.{joined_ascending, joined_cases, joined_left}
+use Rattle.clause_families.specs.{Unions.{clause_without, union_of}, Laws.{Merges}}
+use Rattle.clause_families.proofs.{UnionMerges.{union_merges_lem}, Unions.{joined_ascending, joined_cases, joined_left}}
 
 -- what is left begins with the literal at the place
 left_at : (xs : List ℕ) (i x : ℕ) → i < length xs → x ≡ get_or xs i 0 → drop i xs ≡ x ∷ drop (i + 1) xs

@@ -1,13 +1,10 @@
 -- Clauses of a row within a union.
-use Rattle.std.proofs.Common.{◌≡◌, ℕ, true, false, ◌&&◌, ltb, length, List, None}
-use Rattle.std.proofs.lemmas.Bool.{and_parts, both_ways, false_from_ne_true}
+use Rattle.std.proofs.{Common.{◌≡◌, ℕ, true, false, ◌&&◌, ltb, length, List, None}, lemmas.Bool.{and_parts, both_ways, false_from_ne_true}}
 use Rattle.listed.specs.Lists.{In, Inside, is_inside}
-use Rattle.clause_pool.specs.Clauses.{apart_from}
-use Rattle.clause_pool.specs.Within.{is_within, some_within}
+use Rattle.clause_pool.specs.{Clauses.{apart_from}, Within.{is_within, some_within}}
 use Rattle.listed.proofs.Lists.{any_cases, any_none}
 use Rattle.clause_pool.proofs.Clauses.{apart_cases, apart_in, inside_at, inside_from}
-use Rattle.clause_families.specs.Inclusion.{has_shorter}
-use Rattle.clause_families.specs.Families.{IncludesOneOf}
+use Rattle.clause_families.specs.{Inclusion.{has_shorter}, Families.{IncludesOneOf}}
 
 pub shorter_found : (family : List (List ℕ)) (c : List ℕ) → has_shorter family c ≡ true → IncludesOneOf family c
 shorter_found family c h =

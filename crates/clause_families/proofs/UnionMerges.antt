@@ -1,10 +1,8 @@
 -- Unions by merging.
 use Rattle.std.proofs.Common.{◌≡◌, ℕ, ◌<◌, List, ◌∷◌, inl, inr, sym, subst, arith}
 use Rattle.listed.specs.Lists.{In, here, there, Ascending}
-use Rattle.clause_families.specs.Unions.{union_of}
-use Rattle.clause_families.specs.Laws.{UnionMerges}
-use Rattle.listed.proofs.Lists.{In_cases}
-use Rattle.listed.proofs.Orders.{ascending_same}
+use Rattle.clause_families.specs.{Unions.{union_of}, Laws.{UnionMerges}}
+use Rattle.listed.proofs.{Lists.{In_cases}, Orders.{ascending_same}}
 use Rattle.clause_families.proofs.Unions.{joined_ascending, joined_cases, joined_left, joined_right}
 
 first_below : (x : ℕ) (xs ys : List ℕ) → Ascending (x ∷ xs) → ((z : ℕ) → In z ys → x < z) → (z : ℕ) → In z (union_of xs ys) → x < z

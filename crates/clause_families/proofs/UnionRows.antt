@@ -1,20 +1,16 @@
 -- A row in which unions stand for the clauses that hold a package.
 use Rattle.std.proofs.Common.{◌≡◌, ℕ, ◌<◌, ◌+◌, true, false, not, ◌&&◌, ◌||◌, List, [], ◌∷◌, ◌++◌, ◌⊎◌, inl, inr, refl, sym, ◌∙◌, ap, subst, length, take, filter}
-use Rattle.std.specs.List.{list_all}
 use Rattle.std.proofs.lemmas.Bool.{and_from, and_parts, both_ways, false_from_ne_true, not-true, not_from_false}
-use Rattle.clause_pool.proofs.Interned.{clauses_kept}
-use Rattle.clause_pool.specs.Interned.{Interned, IsIdOf, IsPool, Kept, OfPool, clause_at, clauses_at}
-use Rattle.listed.specs.Lists.{In, has, here, Ascending, Inside, is_inside}
-use Rattle.clause_pool.specs.Lists.{InOrder}
+use Rattle.std.specs.List.{list_all}
+use Rattle.clause_pool.proofs.{Interned.{clauses_kept}, Clauses.{apart_cases, minimal_of_from, minimal_of_parts}}
+use Rattle.clause_pool.proofs.Order.{order_filter, order_same, ordered_has, ordered_order, ordered_parts}
+use Rattle.clause_pool.specs.{Interned.{Interned, IsIdOf, IsPool, Kept, OfPool, clause_at, clauses_at}, Lists.{InOrder}}
 use Rattle.clause_pool.specs.Clauses.{apart_from, minimal_of, in_row_order}
+use Rattle.listed.specs.Lists.{In, has, here, Ascending, Inside, is_inside}
 use Rattle.listed.proofs.Lists.{In_append_cases, In_append_left, In_append_right, In_cases, In_map, In_map_cases, In_none, filter_cases, filter_from, has_not}
 use Rattle.listed.proofs.Orders.{ascending_same}
-use Rattle.clause_pool.proofs.Clauses.{apart_cases, minimal_of_from, minimal_of_parts}
-use Rattle.clause_pool.proofs.Order.{order_filter, order_same, ordered_has, ordered_order, ordered_parts}
-use Rattle.clause_families.specs.Inclusion.{has_shorter, stays}
-use Rattle.clause_families.specs.Families.{HasGained, HasUnions, IsNeedless, IsShortest, SameClauses, all_unions}
-use Rattle.clause_families.proofs.Families.{At, not_shorter, some_shorter, taken_at}
-use Rattle.clause_families.proofs.Rewritten.{ids_ascend, unions_apart, unions_up}
+use Rattle.clause_families.specs.{Inclusion.{has_shorter, stays}, Families.{HasGained, HasUnions, IsNeedless, IsShortest, SameClauses, all_unions}}
+use Rattle.clause_families.proofs.{Families.{At, not_shorter, some_shorter, taken_at}, Rewritten.{ids_ascend, unions_apart, unions_up}}
 
 -- no union was looked at yet
 pub unions_none : (old kept unions : List (List ℕ)) → InOrder old → HasUnions old kept unions (take 0 unions) old

@@ -1,13 +1,10 @@
 -- A walk through a tree of clauses in search of one within wanted numbers.
 use Rattle.std.proofs.Common.{◌≡◌, ℕ, zero, suc, ◌<◌, ◌≤◌, ◌+◌, ◌-◌, ◌⊎◌, Bool, true, false, ◌&&◌, ◌||◌, ltb, List, [], ◌∷◌, ◌++◌, inl, inr, refl, sym, ◌∙◌, ap, ap₂, subst, length, get_or, take, append_assoc, length-append, arith, lt-ltb, ne_eqb}
-use Rattle.std.proofs.Math.Bool.{and-true, or-false}
-use Rattle.std.proofs.lemmas.Bool.{and_right, cases_lt, le-ltb}
-use Rattle.std.proofs.lemmas.List.{append-nil}
+use Rattle.std.proofs.{Math.Bool.{and-true, or-false}, lemmas.Bool.{and_right, cases_lt, le-ltb}, lemmas.List.{append-nil}}
 use Rattle.listed.specs.Lists.{In, has, here, Ascending, is_inside}
 use Rattle.listed.proofs.Lists.{In_cases, In_has, In_none, all_same, has_not}
 use Rattle.clause_families.specs.Branches.{any_of, bare, branch, nodes_of, past, size_of, Above, Climbs, Leap, Leapt, Leaps, Standing, Tree}
-use Rattle.clause_families.specs.Inclusion.{is_within}
-use Rattle.clause_families.specs.declared.family_tree.Node.{Node}
+use Rattle.clause_families.specs.{Inclusion.{is_within}, declared.family_tree.Node.{Node}}
 
 -- a tree of which each clause fails the test
 pub none_of : (test : List ℕ → Bool) (tree : Tree) → ((n : ℕ) (c : List ℕ) → test (n ∷ c) ≡ false) → any_of test tree ≡ false

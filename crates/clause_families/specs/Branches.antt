@@ -3,8 +3,7 @@ use Rattle.std.specs.Prelude.{◌≡◌, ℕ, zero, suc, ◌<◌, ◌≤◌, ◌
 use Rattle.std.specs.List.{list_any}
 use Rattle.listed.specs.Lists.{In, Ascending}
 use Rattle.clause_pool.specs.Lists.{InOrder}
-use Rattle.clause_families.specs.declared.family_tree.FamilyTree.{FamilyTree}
-use Rattle.clause_families.specs.declared.family_tree.Node.{Node}
+use Rattle.clause_families.specs.{declared.family_tree.FamilyTree.{FamilyTree}, declared.family_tree.Node.{Node}}
 
 -- over how many of those that stand beside it a branch leaps to another one, and the rank of that leap
 pub record Leap : Type 0 where

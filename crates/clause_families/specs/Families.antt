@@ -1,11 +1,8 @@
 -- Families of clauses that are built before they are put into the pool.
-use Rattle.std.specs.Prelude.{◌≡◌, ℕ, true, false, not, cond, List, [], map, ◌⊎◌}
-use Rattle.std.specs.List.{filter, flat_map}
-use Rattle.clause_pool.specs.Interned.{Interned, clause_at, clauses_at, Kept, OfPool}
+use Rattle.std.specs.{Prelude.{◌≡◌, ℕ, true, false, not, cond, List, [], map, ◌⊎◌}, List.{filter, flat_map}}
+use Rattle.clause_pool.specs.{Interned.{Interned, clause_at, clauses_at, Kept, OfPool}, Lists.{InOrder}}
 use Rattle.listed.specs.Lists.{In, has, Inside}
-use Rattle.clause_pool.specs.Lists.{InOrder}
-use Rattle.clause_families.specs.Inclusion.{has_shorter}
-use Rattle.clause_families.specs.Unions.{clause_without, union_of}
+use Rattle.clause_families.specs.{Inclusion.{has_shorter}, Unions.{clause_without, union_of}}
 
 -- the clause holds one of the numbers
 abbrev pub HoldsOneOf : List ℕ → List ℕ → Type 0

@@ -1,6 +1,5 @@
 -- Clauses that lie within other ones.
-use Rattle.std.specs.Prelude.{ℕ, Bool, not, ◌&&◌, ltb, List, length}
-use Rattle.std.specs.List.{list_any}
+use Rattle.std.specs.{Prelude.{ℕ, Bool, not, ◌&&◌, ltb, List, length}, List.{list_any}}
 use Rattle.listed.specs.Lists.{has, is_inside}
 
 -- whether the first clause is within the second, and shorter

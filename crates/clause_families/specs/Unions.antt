@@ -1,8 +1,7 @@
 -- Unions of clauses: when a package is taken out, each clause that names it is replaced by
 -- its unions with the package's own clauses. Vouillon and Di Cosmo, "On Software Component
 -- Co-Installability", the section on flattening.
-use Rattle.std.specs.Prelude.{ℕ, not, eqb, ltb, cond, List, [], ◌∷◌, ◌++◌, map}
-use Rattle.std.specs.List.{filter}
+use Rattle.std.specs.{Prelude.{ℕ, not, eqb, ltb, cond, List, [], ◌∷◌, ◌++◌, map}, List.{filter}}
 use Rattle.listed.specs.Lists.{has}
 use Rattle.clause_pool.specs.Clauses.{apart_from, minimal_of}
 

@@ -1,14 +1,8 @@
 //! The clauses that may stand in a row once a package is taken out, in scratch space.
-ghost use Rattle.std.specs.Prelude.{◌≡◌, ℕ, ◌<◌, ◌++◌, List, IfOk, OnOk, length};
-ghost use Rattle.std.specs.List.{filter};
-ghost use Rattle.std.specs.Option.{ForSome};
-ghost use Rattle.clause_pool.specs.Interned.{clauses_at, row_at, Kept, OfPool, IsPool};
+ghost use Rattle.std.specs.{Prelude.{◌≡◌, ℕ, ◌<◌, ◌++◌, List, IfOk, OnOk, length}, List.{filter}, Option.{ForSome}};
+ghost use Rattle.clause_pool.specs.{Interned.{clauses_at, row_at, Kept, OfPool, IsPool}, Clauses.{apart_from, minimal_of, in_row_order}, Lists.{InOrder}};
 ghost use Rattle.listed.specs.Lists.{In, Ascending, Inside};
-ghost use Rattle.clause_pool.specs.Clauses.{apart_from, minimal_of, in_row_order};
-ghost use Rattle.clause_pool.specs.Lists.{InOrder};
-ghost use Rattle.clause_families.specs.Inclusion.{stays};
-ghost use Rattle.clause_families.specs.Branches.{TreeOf};
-ghost use Rattle.clause_families.specs.Families.{all_unions, unions_of, HasUnions, SameClauses};
+ghost use Rattle.clause_families.specs.{Inclusion.{stays}, Branches.{TreeOf}, Families.{all_unions, unions_of, HasUnions, SameClauses}};
 
 use crate::family_tree::FamilyTree;
 use crate::needed::{is_longer, is_needed, stays, tree_beside, tree_of_many};

@@ -3,10 +3,8 @@
 //! Halving groups of clauses that lie far apart in memory took twice as long. A tree takes 16 bytes a number, so only a large
 //! family gets one.
 ghost use Rattle.std.specs.Prelude.{◌≡◌, ◌<◌, ◌≤◌, ◌+◌, ◌-◌, ◌⊎◌, ◌&&◌, ◌++◌, ◌∷◌, ℕ, List, IfOk, OnOk, ltb, length, take, drop};
-ghost use Rattle.clause_pool.specs.Interned.{clauses_at, OfPool};
+ghost use Rattle.clause_pool.specs.{Interned.{clauses_at, OfPool}, Clauses.{apart_from}, Lists.{InOrder}};
 ghost use Rattle.listed.specs.Lists.{In, Ascending};
-ghost use Rattle.clause_pool.specs.Clauses.{apart_from};
-ghost use Rattle.clause_pool.specs.Lists.{InOrder};
 ghost use Rattle.clause_families.specs.Inclusion.{has_shorter, is_within};
 ghost use Rattle.clause_families.specs.Branches.{any_of, begin_of, chain, nodes_of, shared, BuiltOf, Grows, HasFamily, Leaps, Leapt, Standing, Tree, TreeOf};
 

@@ -2,16 +2,10 @@
 //!
 //! A union that equals a kept clause may be called needless, as that clause stays. A union holds no spent package, so no clause
 //! that holds one is within it.
-ghost use Rattle.std.specs.Prelude.{◌≡◌, ℕ, ◌<◌, List, IfOk, length, false, None};
-ghost use Rattle.std.specs.Bool.{OnFalse, OnTrue};
-ghost use Rattle.std.specs.Option.{ForSome};
-ghost use Rattle.clause_pool.specs.Interned.{clauses_at, OfPool, IsPool};
+ghost use Rattle.std.specs.{Prelude.{◌≡◌, ℕ, ◌<◌, List, IfOk, length, false, None}, Bool.{OnFalse, OnTrue}, Option.{ForSome}};
+ghost use Rattle.clause_pool.specs.{Interned.{clauses_at, OfPool, IsPool}, Clauses.{apart_from}, Lists.{InOrder}, Within.{some_within}};
 ghost use Rattle.listed.specs.Lists.{In, Ascending};
-ghost use Rattle.clause_pool.specs.Clauses.{apart_from};
-ghost use Rattle.clause_pool.specs.Lists.{InOrder};
-ghost use Rattle.clause_pool.specs.Within.{some_within};
-ghost use Rattle.clause_families.specs.Inclusion.{has_shorter, is_strictly_inside, stays};
-ghost use Rattle.clause_families.specs.Branches.{TreeOf};
+ghost use Rattle.clause_families.specs.{Inclusion.{has_shorter, is_strictly_inside, stays}, Branches.{TreeOf}};
 ghost use Rattle.clause_families.specs.Families.{IncludesOneOf, IsNeedless, IsShortest};
 
 use crate::family_tree::FamilyTree;

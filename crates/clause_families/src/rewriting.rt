@@ -1,9 +1,7 @@
 //! One row once a package is taken out.
 ghost use Rattle.std.specs.Prelude.{◌≡◌, ◌<◌, ℕ, List, IfOk, length};
-ghost use Rattle.clause_pool.specs.Interned.{clauses_at, IsPool, Kept, OfPool};
+ghost use Rattle.clause_pool.specs.{Interned.{clauses_at, IsPool, Kept, OfPool}, Clauses.{apart_from, in_row_order}, Lists.{InOrder}};
 ghost use Rattle.listed.specs.Lists.{In, Inside};
-ghost use Rattle.clause_pool.specs.Clauses.{apart_from, in_row_order};
-ghost use Rattle.clause_pool.specs.Lists.{InOrder};
 ghost use Rattle.clause_families.specs.Unions.{substituted};
 
 use crate::family::with_unions;

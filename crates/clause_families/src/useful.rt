@@ -1,9 +1,7 @@
 //! Which clauses of a spent package's row may give unions that are wanted in a user's row.
-ghost use Rattle.std.specs.Prelude.{◌≡◌, ℕ, ◌<◌, ◌∷◌, [], IfOk, IfSome, length};
-ghost use Rattle.std.specs.Bool.{OnTrue};
-ghost use Rattle.clause_pool.specs.Interned.{clause_at, clauses_at, OfPool};
+ghost use Rattle.std.specs.{Prelude.{◌≡◌, ℕ, ◌<◌, ◌∷◌, [], IfOk, IfSome, length}, Bool.{OnTrue}};
+ghost use Rattle.clause_pool.specs.{Interned.{clause_at, clauses_at, OfPool}, Clauses.{apart_from}};
 ghost use Rattle.listed.specs.Lists.{In};
-ghost use Rattle.clause_pool.specs.Clauses.{apart_from};
 ghost use Rattle.clause_families.specs.Families.{HoldsOneOf, IncludesOneOf, Useful};
 
 use clause_pool::{ClauseId, Pool, is_before};

@@ -1,30 +1,21 @@
 -- Which packages are needed, and flattening beside known rows.
 use Rattle.std.proofs.Common.{◌≡◌, ℕ, ◌<◌, ◌≤◌, ◌+◌, Bool, true, false, not, ◌||◌, cond, List, [], ◌∷◌, ◌++◌, ◌⊎◌, length, get_or, set, take, map, filter, replicate, inl, inr, refl, sym, ◌∙◌, ap, ap₂, subst, arith, Option, Some, None, Result, Ok, Err, IfOk, zero-le}
-use Rattle.std.specs.Prelude.{count_by}
-use Rattle.std.specs.List.{list_any}
-use Rattle.std.specs.Option.{is_some, unwrap_or}
 use Rattle.std.proofs.lemmas.Bool.{cases_Bool, cases_eq, cases_lt, both_ways}
 use Rattle.std.proofs.lemmas.List.{length-map, length-append, length-replicate, get_or-replicate, get_or_past, get_or_default, get_or-set_same, get_or-set_other, get_or-map, length-set, map-append, map-id, map_more, take_more}
-use Rattle.std.proofs.lemmas.List.Sums.{sum_by-set}
-use Rattle.std.proofs.lemmas.Simd.{map-map}
+use Rattle.std.proofs.{lemmas.List.Sums.{sum_by-set}, lemmas.Simd.{map-map}}
+use Rattle.std.specs.{Prelude.{count_by}, List.{list_any}, Option.{is_some, unwrap_or}}
 use Rattle.clause_pool.specs.Interned.{Interned, IsIdOf, IsPool, Kept, clause_at, clauses_at, ids_at, row_at}
 use Rattle.clause_pool.proofs.Interned.{row_stays}
 use Rattle.listed.specs.Lists.{In, here}
-use Rattle.listed.proofs.{Bools.{cases_Option}, Lists.{In_append_cases, In_append_left, In_append_right, In_at, In_cases, In_map, In_map_cases, In_place, item_in, In_none}}
-use Rattle.row_book.specs.declared.book.Book.{Book}
-use Rattle.row_book.specs.Book.{AreConflicts, Sound, repository_of}
-use Rattle.row_book.specs.Flags.{flag}
-use Rattle.row_book.specs.Numbers.{numbers}
-use Rattle.row_book.specs.Repository.{Repository, against, clauses_of}
-use Rattle.row_book.specs.Sets.{NumSet}
-use Rattle.row_book.specs.Sound.{OfPackages}
-use Rattle.row_book.specs.Support.{row}
-use Rattle.row_book.specs.Uses.{row_id}
+use Rattle.listed.proofs.Bools.{cases_Option}
+use Rattle.listed.proofs.Lists.{In_append_cases, In_append_left, In_append_right, In_at, In_cases, In_map, In_map_cases, In_place, item_in, In_none}
+use Rattle.row_book.specs.{declared.book.Book.{Book}, Book.{AreConflicts, Sound, repository_of}, Flags.{flag}, Numbers.{numbers}}
+use Rattle.row_book.specs.{Repository.{Repository, against, clauses_of}, Sets.{NumSet}, Sound.{OfPackages}, Support.{row}, Uses.{row_id}}
 use Rattle.row_book.specs.Flattening.{core_of, flat, has_conflict, held_of, packages, passes, remaining_after, rows_over}
 use Rattle.row_book.proofs.{Books.{clauses_row}, Flags.{flag_in}, Numbers.{at_numbers, length_numbers, map_same, numbers_more, numbers_parts}}
-use Rattle.clause_flatten.specs.Beside.{AreKnown, AreNeeded, IsFlattened, IsKnownRow, Needs, known_or, masked}
-use Rattle.clause_flatten.specs.Locality.{StandsIn}
-use Rattle.clause_flatten.proofs.{LocalRuns.{flat_is_local_lem, limit_is_local_lem}, Passing.{passes_none}, Replacing.{same_items}, Rows.{row_is}, Stages.{left_bound, without_hold_lem}, Tables.{table_at, table_length}}
+use Rattle.clause_flatten.specs.{Beside.{AreKnown, AreNeeded, IsFlattened, IsKnownRow, Needs, known_or, masked}, Locality.{StandsIn}}
+use Rattle.clause_flatten.proofs.{LocalRuns.{flat_is_local_lem, limit_is_local_lem}, Passing.{passes_none}, Replacing.{same_items}, Rows.{row_is}}
+use Rattle.clause_flatten.proofs.{Stages.{left_bound, without_hold_lem}, Tables.{table_at, table_length}}
 
 -- one more number that is put to the work
 in_push : (xs : List ℕ) (x n : ℕ) → In n (xs ++ x ∷ []) → In n xs ⊎ (n ≡ x)

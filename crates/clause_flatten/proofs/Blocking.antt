@@ -1,17 +1,14 @@
 -- X supports p over V exactly where it hits each clause of the row of p over V.
 use Rattle.std.proofs.Common.{◌≡◌, ◌≢◌, ℕ, ◌<◌, Bool, not, ◌&&◌, eqb, List, [], ◌∷◌, ◌↔◌, inl, inr, subst, arith, zero-le}
 use Rattle.std.proofs.lemmas.Bool.{both_ways, cases_Bool, cases_eq, and_parts, and_from, not_from_false, not-true}
-use Rattle.row_book.specs.Sets.{Hit, HitsAll, Is, NumSet, Within, minus, plus, without}
-use Rattle.listed.specs.Lists.{In, Ascending, Inside}
-use Rattle.row_book.specs.Repository.{Repository}
+use Rattle.row_book.specs.{Sets.{Hit, HitsAll, Is, NumSet, Within, minus, plus, without}, Repository.{Repository}}
 use Rattle.row_book.specs.Support.{Blocks, IsRow, MinimalBlock, Support}
+use Rattle.listed.specs.Lists.{In, Ascending, Inside}
 use Rattle.clause_families.specs.Unions.{clause_without}
 use Rattle.row_book.proofs.Sets.{plus_new, plus_old, without_from, without_parts}
-use Rattle.listed.proofs.Lists.{In_cases, In_none, decided_in}
-use Rattle.listed.proofs.Orders.{ascending_filter, ascending_same}
 use Rattle.row_book.proofs.Lists.{decided_hit, hits_or, members_from, members_from_ascending, members_from_from, members_from_parts, minus_from, minus_parts}
-use Rattle.clause_flatten.proofs.Supports.{support_grows_lem}
-use Rattle.clause_flatten.proofs.Decisions.{decided_support, support_absorbs}
+use Rattle.listed.proofs.{Lists.{In_cases, In_none, decided_in}, Orders.{ascending_filter, ascending_same}}
+use Rattle.clause_flatten.proofs.{Supports.{support_grows_lem}, Decisions.{decided_support, support_absorbs}}
 use Rattle.clause_families.proofs.Unions.{dropped_from, dropped_parts}
 
 -- a part of a set of numbers within V, not hit by X: X is within V without it

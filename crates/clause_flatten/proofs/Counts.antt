@@ -1,10 +1,7 @@
 -- How many clauses a row has, and at most once a package is taken out.
 use Rattle.std.proofs.Common.{◌≡◌, ℕ, zero, suc, ◌<◌, ◌≤◌, ◌+◌, ◌*◌, Bool, true, false, not, ◌||◌, cond, List, [], ◌∷◌, length, map, take, filter, refl, ◌∙◌, ap, arith}
+use Rattle.std.proofs.{lemmas.List.{length-append, length-map}, lemmas.List.Filters.{length-filter_both}, lemmas.Nat.{mul-le}, Math.Nat.{suc-mul}}
 use Rattle.std.specs.List.{list_all}
-use Rattle.std.proofs.lemmas.List.{length-append, length-map}
-use Rattle.std.proofs.lemmas.List.Filters.{length-filter_both}
-use Rattle.std.proofs.lemmas.Nat.{mul-le}
-use Rattle.std.proofs.Math.Nat.{suc-mul}
 use Rattle.listed.proofs.Lists.{filter_short}
 use Rattle.listed.specs.Lists.{has, is_inside}
 use Rattle.clause_pool.specs.Clauses.{apart_from, comes_before, insert_clause, in_row_order, minimal_of}

@@ -2,10 +2,8 @@
 use Rattle.std.proofs.Common.{◌≡◌, ◌≢◌, ℕ, zero, suc, ◌<◌, true, false, List, [], ◌∷◌, ◌⊎◌, inl, inr, refl, sym, ◌∙◌, subst, arith, length}
 use Rattle.std.proofs.lemmas.Bool.{both_ways, cases_Bool, cases_eq, false_from_ne_true}
 use Rattle.listed.proofs.Lists.{decided_and, Decided, In_cases, In_none}
-use Rattle.row_book.specs.Sets.{Hit, Is, NumSet, plus, without}
+use Rattle.row_book.specs.{Sets.{Hit, Is, NumSet, plus, without}, Repository.{Repository, Satisfied, clauses_of}, Support.{Alive, Support}}
 use Rattle.listed.specs.Lists.{In, here, there}
-use Rattle.row_book.specs.Repository.{Repository, Satisfied, clauses_of}
-use Rattle.row_book.specs.Support.{Alive, Support}
 use Rattle.row_book.proofs.Sets.{Hit-mono, plus_cases, plus_new, plus_old, without_from, without_parts}
 use Rattle.clause_flatten.proofs.Supports.{alive_map}
 

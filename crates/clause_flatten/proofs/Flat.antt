@@ -1,20 +1,13 @@
 -- Flattening keeps every set.
 use Rattle.std.proofs.Common.{◌≡◌, ◌≢◌, ℕ, zero, suc, ◌<◌, Bool, true, false, not, ◌&&◌, ◌||◌, cond, [], length, inl, inr, refl, sym, ◌∙◌, ap, subst, arith, Option, Some, None, zero-le}
 use Rattle.std.proofs.lemmas.Bool.{both_ways, cases_Bool, and_parts, and_from, or_parts, not-true, not_from_false, true_from_ne_false, ltb-true, lt-ltb}
-use Rattle.row_book.specs.Sets.{NumSet, plus, without}
-use Rattle.listed.specs.Lists.{In}
-use Rattle.row_book.specs.Repository.{Repository, against}
-use Rattle.row_book.specs.Support.{IsRow, row}
-use Rattle.row_book.specs.Sound.{BetweenPackages, OfPackages}
+use Rattle.row_book.specs.{Sets.{NumSet, plus, without}, Repository.{Repository, against}, Support.{IsRow, row}, Sound.{BetweenPackages, OfPackages}}
 use Rattle.row_book.specs.Flattening.{core_of, flat, gone_or_held, has_conflict, may_go, next_gone, packages, passes_over, remaining_after, row_length, rows_over, Remaining}
-use Rattle.clause_flatten.specs.Laws.{HoldsConflicts}
-use Rattle.clause_flatten.specs.FlatLaws.{FlatKeeps, NextIsLeast}
-use Rattle.row_book.proofs.Sets.{without_from, without_parts}
+use Rattle.listed.specs.Lists.{In}
+use Rattle.clause_flatten.specs.{Laws.{HoldsConflicts}, FlatLaws.{FlatKeeps, NextIsLeast}}
+use Rattle.row_book.proofs.{Sets.{without_from, without_parts}, Numbers.{at_numbers, length_numbers, numbers_from}}
 use Rattle.listed.proofs.Lists.{any_none}
-use Rattle.row_book.proofs.Numbers.{at_numbers, length_numbers, numbers_from}
-use Rattle.clause_flatten.proofs.Kept.{keeps_every_set_lem}
-use Rattle.clause_flatten.proofs.Rows.{row_is}
-use Rattle.clause_flatten.proofs.Choice.{none_soonest, soonest_from, soonest_is, soonest_least, soonest_none}
+use Rattle.clause_flatten.proofs.{Kept.{keeps_every_set_lem}, Rows.{row_is}, Choice.{none_soonest, soonest_from, soonest_is, soonest_least, soonest_none}}
 
 -- what may go is left, has no conflict, and is not held
 pub may_go_parts : (R : Repository) (s : Remaining) (q : ℕ) → may_go R s q ≡ true → (s.left q ≡ true) × (has_conflict R q ≡ false) × (s.held q ≡ false)

@@ -4,19 +4,12 @@ use Rattle.std.specs.Cmp.{both_ways as bool_same}
 use Rattle.std.proofs.lemmas.Bool.{both_ways, cases_eq, and_left, and_parts, and_from, or_left, or_cases, not_from_true, false_from_ne_true, ltb-true, lt-ltb, le-ltb, not_from_false}
 use Rattle.std.proofs.lemmas.List as lists
 use Rattle.clause_pool.specs.Interned.{Interned, row_at}
-use Rattle.row_book.specs.declared.book.Book.{Book}
+use Rattle.row_book.specs.{declared.book.Book.{Book}, Sets.{plus}, Repository.{Repository, against, conflicts_of}, Sound.{BetweenPackages}}
+use Rattle.row_book.specs.{Book.{Sound, listed_for, repository_of}, Flattening.{has_conflict, may_go, none_gone, packages}}
 use Rattle.listed.specs.Lists.{In, here}
-use Rattle.row_book.specs.Sets.{plus}
-use Rattle.row_book.specs.Repository.{Repository, against, conflicts_of}
-use Rattle.row_book.specs.Sound.{BetweenPackages}
-use Rattle.row_book.specs.Book.{Sound, listed_for, repository_of}
-use Rattle.row_book.specs.Flattening.{has_conflict, may_go, none_gone, packages}
-use Rattle.row_book.proofs.Sets.{plus_cases, plus_new, plus_old}
-use Rattle.row_book.proofs.Books.{between_packages}
+use Rattle.row_book.proofs.{Sets.{plus_cases, plus_new, plus_old}, Books.{between_packages}, Numbers.{numbers_from}}
 use Rattle.listed.proofs.Lists.{In_none, any_cases, any_from, has_In, In_has}
-use Rattle.row_book.proofs.Numbers.{numbers_from}
-use Rattle.clause_flatten.specs.TakingOut.{is_free}
-use Rattle.clause_flatten.specs.Waiting.{Filed}
+use Rattle.clause_flatten.specs.{TakingOut.{is_free}, Waiting.{Filed}}
 use Rattle.clause_flatten.proofs.Turns.{filed_as}
 
 -- packages without conflicts

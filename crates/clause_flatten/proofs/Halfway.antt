@@ -1,16 +1,13 @@
 -- A table in the middle of an elimination: the rows of some users are substituted.
 use Rattle.std.proofs.Common.{◌≡◌, ℕ, ◌<◌, ◌+◌, List, [], ◌∷◌, length, get_or, drop, drop-cons, add-one, inl, inr, refl, sym, ◌∙◌, ap, ap₂, subst}
-use Rattle.std.proofs.lemmas.Bool.{cases_eq}
-use Rattle.std.proofs.lemmas.List.{get_or-set_same, get_or-set_other, length-set}
+use Rattle.std.proofs.{lemmas.Bool.{cases_eq}, lemmas.List.{get_or-set_same, get_or-set_other, length-set}}
 use Rattle.listed.proofs.Lists.{In_drop, In_cases, In_none, decided_in}
 use Rattle.clause_pool.proofs.Lists.{In_at}
 use Rattle.listed.specs.Lists.{In, here, there, Ascending, Inside}
-use Rattle.clause_pool.specs.Lists.{InOrder}
-use Rattle.clause_pool.specs.Clauses.{in_row_order}
+use Rattle.clause_pool.specs.{Lists.{InOrder}, Clauses.{in_row_order}}
 use Rattle.clause_flatten.specs.Substitution.{table_row, table_turned, table_without}
 use Rattle.clause_families.specs.Unions.{substituted}
-use Rattle.clause_flatten.proofs.Replacing.{not_behind, same_items}
-use Rattle.clause_flatten.proofs.Runs.{eliminated_count, other_without, own_without, untouched}
+use Rattle.clause_flatten.proofs.{Replacing.{not_behind, same_items}, Runs.{eliminated_count, other_without, own_without, untouched}}
 
 pub record Halfway (start : List (List (List ℕ))) (q : ℕ) (done : List ℕ) (now : List (List (List ℕ))) : Type 0 where
   pub size : length now ≡ length start

@@ -1,24 +1,15 @@
 -- With hold: no row passes the limit, and what is held stands in some clause.
 use Rattle.std.proofs.Common.{◌≡◌, ℕ, zero, suc, ◌<◌, ◌≤◌, ◌+◌, Bool, true, false, ltb, cond, List, [], ◌∷◌, length, inl, inr, refl, sym, ◌∙◌, ap, subst, arith, Option, Some, None, zero-le}
-use Rattle.std.specs.List.{find, list_any}
-use Rattle.std.specs.Option.{option_map}
 use Rattle.std.proofs.lemmas.Bool.{both_ways, cases_Bool, cases_eq, ltb-false, ltb-true}
+use Rattle.std.specs.{List.{find, list_any}, Option.{option_map}}
 use Rattle.listed.specs.Lists.{In, has}
-use Rattle.row_book.specs.Sets.{NumSet, without}
-use Rattle.row_book.specs.Repository.{Repository}
-use Rattle.row_book.specs.Numbers.{numbers}
-use Rattle.row_book.specs.Support.{row}
-use Rattle.row_book.specs.Sound.{OfPackages}
+use Rattle.row_book.specs.{Sets.{NumSet, without}, Repository.{Repository}, Numbers.{numbers}, Support.{row}, Sound.{OfPackages}}
 use Rattle.row_book.specs.Flattening.{first_some, gone_or_held, has_conflict, next_gone, packages, Passed, passed_at, passes, passes_over, remaining_after, row_length, Remaining}
-use Rattle.row_book.proofs.Sets.{plus_cases}
+use Rattle.row_book.proofs.{Sets.{plus_cases}, Numbers.{numbers_from, numbers_parts}}
 use Rattle.listed.proofs.Lists.{In_has, any_cases, any_none, find_none, has_In}
-use Rattle.row_book.proofs.Numbers.{numbers_from, numbers_parts}
 use Rattle.clause_flatten.specs.FlatLaws.{HeldIsUsed, HoldStaysWithin}
-use Rattle.clause_flatten.proofs.Rows.{Stands, member_stands, row_is}
-use Rattle.clause_flatten.proofs.Tables.{one_row_lem, own_row, row_order}
-use Rattle.clause_flatten.proofs.Flat.{goes, next_gone_is, stays_held}
-use Rattle.clause_flatten.proofs.Shortcuts.{untouched_lem}
-use Rattle.clause_flatten.proofs.Stages.{left_bound, without_hold_lem}
+use Rattle.clause_flatten.proofs.{Rows.{Stands, member_stands, row_is}, Tables.{one_row_lem, own_row, row_order}, Flat.{goes, next_gone_is, stays_held}}
+use Rattle.clause_flatten.proofs.{Shortcuts.{untouched_lem}, Stages.{left_bound, without_hold_lem}}
 
 -- a row in which q does not stand stays as it is without q
 row_stays : (R : Repository) (V : NumSet) (p q : ℕ) → OfPackages R V → p < length R.clauses → V q ≡ true → ((T : List ℕ) → In T (row R V p) → In q T → ⊥) →

@@ -1,20 +1,16 @@
 -- Each set stays co-installable or not.
 use Rattle.std.proofs.Common.{◌≡◌, ℕ, [], slice_index_or, zero, suc, ◌<◌, Bool, true, false, not, ◌&&◌, ◌||◌, List, length, ◌⊎◌, inl, inr, refl, sym, subst, arith}
 use Rattle.std.proofs.lemmas.Bool.{both_ways, cases_Bool, cases_eq, and_parts, and_from, or_cases, or_left, or_right, not_from_false, not-true, false_from_ne_true, false≢true, lt-ltb}
-use Rattle.row_book.specs.Sets.{Hit, HitsAll, Is, NumSet, Within, minus, plus, without}
+use Rattle.row_book.specs.{Sets.{Hit, HitsAll, Is, NumSet, Within, minus, plus, without}, Repository.{Healthy, Repository, Satisfied, against, clauses_of}}
+use Rattle.row_book.specs.{Support.{Alive, Blocks, IsRow, MinimalBlock, Support}, Sound.{OfPackages}, Flattening.{all_packages, flat}}
 use Rattle.listed.specs.Lists.{In, has}
-use Rattle.row_book.specs.Repository.{Healthy, Repository, Satisfied, against, clauses_of}
 use Rattle.clause_pool.specs.Clauses.{apart_from, minimal_of}
-use Rattle.row_book.specs.Support.{Alive, Blocks, IsRow, MinimalBlock, Support}
-use Rattle.row_book.specs.Sound.{OfPackages}
-use Rattle.row_book.specs.Flattening.{all_packages, flat}
 use Rattle.clause_flatten.specs.Laws.{FirstRows, FlattenedBy, HoldsConflicts, KeepsEverySet, OwnRowStays}
 use Rattle.row_book.proofs.Sets.{Hit-mono, outside_less, outside_more, plus_new, plus_old, without_from, without_parts, hits_minimal}
-use Rattle.listed.proofs.Lists.{decided_in}
 use Rattle.row_book.proofs.Lists.{minus_from, minus_parts}
+use Rattle.listed.proofs.Lists.{decided_in}
 use Rattle.clause_pool.proofs.Clauses.{apart_cases, apart_in, minimal_of_parts}
-use Rattle.clause_flatten.proofs.Supports.{alive_map, support_grows_lem}
-use Rattle.clause_flatten.proofs.Decisions.{support_absorbs}
+use Rattle.clause_flatten.proofs.{Supports.{alive_map, support_grows_lem}, Decisions.{support_absorbs}}
 use Rattle.clause_flatten.proofs.Blocking.{hit_from_support, row_from_hits, support_from_hits}
 
 -- some number below n passes

@@ -1,11 +1,7 @@
 -- Trees of least numbers: what a step upwards mends, and what a step downwards finds.
 use Rattle.std.proofs.Common.{◌≡◌, ◌≢◌, ℕ, ◌+◌, ◌-◌, ◌*◌, ◌/◌, ◌^◌, ◌<◌, ◌≤◌, min, List, length, get_or, drop, replicate, ◌%◌, inl, inr, refl, sym, ◌∙◌, ap, subst, arith, add-one}
-use Rattle.std.proofs.Math.ListN.{get_or-eq_default}
-use Rattle.std.proofs.Math.Nat.{two-pow-succ}
-use Rattle.std.proofs.Math.Pow.{pow_mono}
-use Rattle.std.proofs.lemmas.Bool.{cases_eq}
-use Rattle.std.proofs.lemmas.List.{get_or_default, get_or-drop, get_or-replicate, length-drop, length-replicate}
-use Rattle.std.proofs.lemmas.Nat.{pow_pos, shl_whole}
+use Rattle.std.proofs.{Math.ListN.{get_or-eq_default}, Math.Nat.{two-pow-succ}, Math.Pow.{pow_mono}, lemmas.Bool.{cases_eq}}
+use Rattle.std.proofs.{lemmas.List.{get_or_default, get_or-drop, get_or-replicate, length-drop, length-replicate}, lemmas.Nat.{pow_pos, shl_whole}}
 use Rattle.clause_flatten.specs.LeastTree.{node, IsTree}
 
 -- a number was put at a leaf, and all nodes but the one above a place have the lesser of the two below them

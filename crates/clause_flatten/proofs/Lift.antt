@@ -1,10 +1,7 @@
 -- A set that is healthy with the rows is healthy with the clauses once the greatest set of helpers is put in.
 use Rattle.std.proofs.Common.{◌≡◌, ℕ, true, false, not, ◌&&◌, ◌⊎◌, inl, inr}
 use Rattle.std.proofs.lemmas.Bool.{both_ways, cases_Bool, or_cases, or_left, or_right, false_from_ne_true, and_parts, and_from, not_from_false, not-true}
-use Rattle.row_book.specs.Sets.{Is, NumSet, Within, union}
-use Rattle.row_book.specs.Repository.{Healthy, Repository, against}
-use Rattle.row_book.specs.Sound.{OfPackages}
-use Rattle.row_book.specs.Flattening.{flat}
+use Rattle.row_book.specs.{Sets.{Is, NumSet, Within, union}, Repository.{Healthy, Repository, against}, Sound.{OfPackages}, Flattening.{flat}}
 use Rattle.clause_flatten.specs.Laws.{FlattenedBy, HoldsConflicts, LiftIsHealthy, Lifts}
 use Rattle.row_book.proofs.Sets.{Hit-mono}
 use Rattle.clause_flatten.proofs.Kept.{healthy_back, in_set, joined_old, joined_supports}

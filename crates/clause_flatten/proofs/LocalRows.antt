@@ -1,24 +1,17 @@
 -- The row of a package over a set is local: among packages that name none but each other it is the same in each repository
 -- that they stand in.
 use Rattle.std.proofs.Common.{◌≡◌, ℕ, ◌<◌, true, false, ◌&&◌, eqb, List, [], ◌∷◌, length, map, inl, inr, refl, sym, ◌∙◌, ap, subst, arith, eq-eqb, eqb-true, zero-le}
+use Rattle.std.proofs.{lemmas.Bool.{and_parts, and_from, cases_eq, cases_lt}, lemmas.List.{length-map}}
 use Rattle.std.specs.List.{list_any}
-use Rattle.std.proofs.lemmas.Bool.{and_parts, and_from, cases_eq, cases_lt}
-use Rattle.std.proofs.lemmas.List.{length-map}
 use Rattle.listed.specs.Lists.{In, here, there, has, Ascending, Inside}
-use Rattle.listed.proofs.Lists.{In_has, has_In, In_map, In_map_cases, any_cases, any_from}
-use Rattle.listed.proofs.Orders.{ascending_same}
+use Rattle.listed.proofs.{Lists.{In_has, has_In, In_map, In_map_cases, any_cases, any_from}, Orders.{ascending_same}}
 use Rattle.clause_pool.specs.Lists.{Before, InOrder}
-use Rattle.row_book.specs.Sets.{Hit, Is, NumSet, minus}
-use Rattle.row_book.specs.Repository.{Repository, Satisfied, clauses_of}
-use Rattle.row_book.specs.Numbers.{numbers}
-use Rattle.row_book.specs.Support.{Alive, Blocks, IsRow, MinimalBlock, Support, row}
-use Rattle.row_book.specs.Sound.{OfPackages}
-use Rattle.row_book.specs.Flattening.{row_length}
+use Rattle.row_book.specs.{Sets.{Hit, Is, NumSet, minus}, Repository.{Repository, Satisfied, clauses_of}, Numbers.{numbers}}
+use Rattle.row_book.specs.{Support.{Alive, Blocks, IsRow, MinimalBlock, Support, row}, Sound.{OfPackages}, Flattening.{row_length}}
 use Rattle.row_book.proofs.Lists.{members_from, members_from_ascending, members_from_from, members_from_parts, minus_from, minus_parts}
 use Rattle.row_book.proofs.Numbers.{numbers_from}
 use Rattle.clause_flatten.specs.Locality.{StandsIn}
-use Rattle.clause_flatten.proofs.Rows.{row_is}
-use Rattle.clause_flatten.proofs.Tables.{row_is_one_lem, row_order}
+use Rattle.clause_flatten.proofs.{Rows.{row_is}, Tables.{row_is_one_lem, row_order}}
 
 -- the order of clauses is kept where the numbers of their members rise
 module _ (U : NumSet) (to : ℕ → ℕ) (rising : (m n : ℕ) → U m ≡ true → U n ≡ true → m < n → to m < to n) where

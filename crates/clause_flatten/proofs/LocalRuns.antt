@@ -1,22 +1,14 @@
 -- Elimination among packages that name none but each other: the stages with others follow those without.
 use Rattle.std.proofs.Common.{◌≡◌, ◌≢◌, ℕ, zero, suc, ◌<◌, ◌≤◌, ◌+◌, ◌-◌, Bool, true, false, ◌&&◌, eqb, ltb, List, ◌∷◌, length, ◌⊎◌, inl, inr, refl, sym, ◌∙◌, ap, subst, arith, map, Option, Some, None, zero-le, eq-eqb, eqb-true}
-use Rattle.std.specs.List.{find, list_any}
-use Rattle.std.specs.Option.{option_map}
 use Rattle.std.proofs.lemmas.Bool.{and_from, and_parts, both_ways, cases_Bool, cases_order, lt-ltb, ltb-false}
+use Rattle.std.specs.{List.{find, list_any}, Option.{option_map}}
 use Rattle.listed.specs.Lists.{In}
 use Rattle.listed.proofs.{Bools.{same_bool}, Lists.{any_cases, any_none, find_none}}
-use Rattle.row_book.specs.Sets.{NumSet, without}
-use Rattle.row_book.specs.Repository.{Repository}
-use Rattle.row_book.specs.Numbers.{numbers}
-use Rattle.row_book.specs.Sound.{OfPackages}
-use Rattle.row_book.specs.Support.{row}
+use Rattle.row_book.specs.{Sets.{NumSet, without}, Repository.{Repository}, Numbers.{numbers}, Sound.{OfPackages}, Support.{row}}
 use Rattle.row_book.specs.Flattening.{Passed, core_of, first_some, has_conflict, next_gone, packages, passed_at, passes, remaining_after, row_length}
 use Rattle.row_book.proofs.{Numbers.{numbers_from}, Sets.{without_from, without_parts}}
-use Rattle.clause_flatten.specs.FlatLaws.{LeastToGo, left_after, less_one, none_held}
-use Rattle.clause_flatten.specs.Locality.{FlatIsLocal, LimitIsLocal, StandsIn}
-use Rattle.clause_flatten.proofs.Flat.{next_is_least_lem}
-use Rattle.clause_flatten.proofs.Stages.{core_stays_lem, left_bound, without_hold_lem}
-use Rattle.clause_flatten.proofs.Rows.{row_is}
+use Rattle.clause_flatten.specs.{FlatLaws.{LeastToGo, left_after, less_one, none_held}, Locality.{FlatIsLocal, LimitIsLocal, StandsIn}}
+use Rattle.clause_flatten.proofs.{Flat.{next_is_least_lem}, Stages.{core_stays_lem, left_bound, without_hold_lem}, Rows.{row_is}}
 use Rattle.clause_flatten.proofs.LocalRows.{length_is_local, minimal_ours, row_is_local, to_one}
 
 -- without hold a package of the core has a conflict

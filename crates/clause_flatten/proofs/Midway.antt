@@ -2,19 +2,14 @@
 use Rattle.std.proofs.Common.{◌≡◌, ◌≢◌, ℕ, ◌<◌, ◌+◌, List, [], ◌∷◌, length, get_or, drop, drop-cons, add-one, map, ◌⊎◌, inl, inr, refl, sym, ◌∙◌, ap, ap₂, subst}
 use Rattle.std.proofs.lemmas.Bool.{cases_eq}
 use Rattle.listed.proofs.Lists.{In_drop, In_cases, In_none, decided_in}
-use Rattle.clause_pool.specs.Interned.{Interned, IsPool, Kept, row_at}
-use Rattle.clause_pool.proofs.Lists.{In_at}
-use Rattle.clause_pool.proofs.Interned.{kept_along, kept_same}
+use Rattle.clause_pool.specs.{Interned.{Interned, IsPool, Kept, row_at}, Clauses.{in_row_order}}
+use Rattle.clause_pool.proofs.{Lists.{In_at}, Interned.{kept_along, kept_same}}
 use Rattle.listed.specs.Lists.{In, here, there, Ascending}
-use Rattle.clause_pool.specs.Clauses.{in_row_order}
-use Rattle.row_book.specs.Book.{RowsFit, RowsTidy}
-use Rattle.row_book.specs.Uses.{row_id, users_of}
-use Rattle.row_book.proofs.Books.{row_kept}
-use Rattle.row_book.proofs.Users.{users_ascend}
+use Rattle.row_book.specs.{Book.{RowsFit, RowsTidy}, Uses.{row_id, users_of}}
+use Rattle.row_book.proofs.{Books.{row_kept}, Users.{users_ascend}}
 use Rattle.clause_flatten.specs.Substitution.{table_without, table_row}
 use Rattle.clause_families.specs.Unions.{substituted}
-use Rattle.clause_flatten.proofs.Replacing.{id_in, not_behind, not_user, other_eliminated, own_eliminated, own_user, table_same, user_in}
-use Rattle.clause_flatten.proofs.Runs.{untouched}
+use Rattle.clause_flatten.proofs.{Replacing.{id_in, not_behind, not_user, other_eliminated, own_eliminated, own_user, table_same, user_in}, Runs.{untouched}}
 
 pub record Midway (start : Interned) (first : List ℕ) (q : ℕ) (pool : Interned) (rows : List ℕ) (done : List ℕ) : Type 0 where
   pub size : length rows ≡ length first

@@ -1,11 +1,9 @@
 -- The row of a user once a package is taken out, in the pool: what its clauses, made of two rows of the pool, tell of the rows.
 use Rattle.std.proofs.Common.{◌≡◌, ℕ, ◌<◌, List, length, get_or, slice_set, sym, ◌∙◌, ap, ap₂, subst}
-use Rattle.clause_pool.specs.Interned.{Interned, IsIdOf, Kept, OfPool, clauses_at, ids_at, row_at}
+use Rattle.clause_pool.specs.{Interned.{Interned, IsIdOf, Kept, OfPool, clauses_at, ids_at, row_at}, Clauses.{in_row_order}}
 use Rattle.clause_pool.proofs.Interned.{kept_along}
 use Rattle.listed.specs.Lists.{In, Inside}
-use Rattle.clause_pool.specs.Clauses.{in_row_order}
-use Rattle.row_book.specs.Book.{RowsFit, RowsTidy}
-use Rattle.row_book.specs.Uses.{row_id}
+use Rattle.row_book.specs.{Book.{RowsFit, RowsTidy}, Uses.{row_id}}
 use Rattle.row_book.proofs.Books.{row_ascending}
 use Rattle.clause_families.specs.Unions.{substituted}
 use Rattle.clause_families.proofs.Families.{item_zero, row_interned}

@@ -1,20 +1,13 @@
 -- The stages of elimination that pass the clause limit, and the package that is next.
 use Rattle.std.proofs.Common.{◌≡◌, ℕ, zero, suc, ◌<◌, ◌≤◌, ◌+◌, Bool, true, false, ltb, cond, List, ◌∷◌, length, inl, inr, refl, sym, ◌∙◌, ap, arith, map, Option, Some, None}
-use Rattle.std.specs.Option.{option_map}
 use Rattle.std.proofs.lemmas.Bool.{both_ways, cases_Bool, true_from_ne_false, le-ltb}
-use Rattle.row_book.specs.Sets.{NumSet}
-use Rattle.row_book.specs.Repository.{Repository}
-use Rattle.row_book.specs.Numbers.{numbers}
-use Rattle.row_book.specs.Sound.{OfPackages, SoundClauses}
+use Rattle.std.specs.Option.{option_map}
+use Rattle.row_book.specs.{Sets.{NumSet}, Repository.{Repository}, Numbers.{numbers}, Sound.{OfPackages, SoundClauses}}
 use Rattle.row_book.specs.Flattening.{Passed, Remaining, first_some, has_conflict, may_go, next_gone, packages, passed_at, passed_by, passes, remaining_after, row_length, rows_over}
 use Rattle.listed.proofs.Lists.{find_not}
 use Rattle.row_book.proofs.Numbers.{numbers_parts}
-use Rattle.clause_flatten.specs.Substitution.{first_table, length_in, stage_after}
-use Rattle.clause_flatten.specs.TidyRows.{tidied_table}
-use Rattle.clause_flatten.specs.Waiting.{IsFirst}
-use Rattle.clause_flatten.proofs.Flat.{may_go_from, may_go_parts, next_is_least_lem}
-use Rattle.clause_flatten.proofs.Stages.{passed_same, stages_run_lem}
-use Rattle.clause_flatten.proofs.Tables.{table_at}
+use Rattle.clause_flatten.specs.{Substitution.{first_table, length_in, stage_after}, TidyRows.{tidied_table}, Waiting.{IsFirst}}
+use Rattle.clause_flatten.proofs.{Flat.{may_go_from, may_go_parts, next_is_least_lem}, Stages.{passed_same, stages_run_lem}, Tables.{table_at}}
 
 -- the lengths of the rows
 pub count_is : (R : Repository) (V : NumSet) (t : List (List (List ℕ))) → t ≡ rows_over R V → (p : ℕ) → p < length R.clauses → length_in t p ≡ row_length R V p

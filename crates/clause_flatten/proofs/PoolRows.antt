@@ -1,13 +1,10 @@
 -- Rows that come into the pool.
 use Rattle.std.proofs.Common.{◌≡◌, ℕ, ◌<◌, ◌+◌, List, [], ◌∷◌, ◌++◌, length, get_or, map, inl, inr, refl, sym, ◌∙◌, ap, ap₂, subst, take}
 use Rattle.std.proofs.lemmas.List.{length-map, map-append, take_more}
-use Rattle.clause_pool.specs.Interned.{Interned, IsPool, Kept, OfPool, clause_at, clauses_at, row_at}
-use Rattle.clause_pool.proofs.Interned.{clauses_kept, kept_along, kept_of_pool, row_stays}
-use Rattle.clause_pool.proofs.Lists.{In_place}
+use Rattle.clause_pool.specs.{Interned.{Interned, IsPool, Kept, OfPool, clause_at, clauses_at, row_at}, Lists.{InOrder}}
+use Rattle.clause_pool.proofs.{Interned.{clauses_kept, kept_along, kept_of_pool, row_stays}, Lists.{In_place}}
 use Rattle.listed.specs.Lists.{In, here, there}
-use Rattle.clause_pool.specs.Lists.{InOrder}
-use Rattle.row_book.specs.Book.{RowsFit, listed_for}
-use Rattle.row_book.specs.Holders.{ListsFit}
+use Rattle.row_book.specs.{Book.{RowsFit, listed_for}, Holders.{ListsFit}}
 use Rattle.listed.proofs.Lists.{In_append_cases, In_cases, In_map, In_map_cases, In_none}
 use Rattle.clause_flatten.specs.Ready.{table_of}
 use Rattle.clause_flatten.proofs.Turning.{lent_row}

@@ -1,21 +1,13 @@
 -- Rows of a pool of which one after another is replaced, and what a package's elimination comes to.
 use Rattle.std.proofs.Common.{◌≡◌, ◌≢◌, ℕ, zero, suc, ◌<◌, ◌≤◌, ◌+◌, true, List, [], ◌∷◌, length, get_or, drop, map, slice_set, ◌⊎◌, inl, inr, refl, sym, ◌∙◌, ap, ap₂, subst, arith}
+use Rattle.std.proofs.{lemmas.Bool.{cases_eq}, lemmas.List.{get_or-set_same, get_or-set_other, get_or-map, length-set, length-map}}
 use Rattle.std.specs.List.{list_any}
-use Rattle.std.proofs.lemmas.Bool.{cases_eq}
-use Rattle.std.proofs.lemmas.List.{get_or-set_same, get_or-set_other, get_or-map, length-set, length-map}
-use Rattle.clause_pool.specs.Interned.{Interned, IsPool, Kept, row_at}
-use Rattle.clause_pool.proofs.Lists.{In_at}
+use Rattle.clause_pool.specs.{Interned.{Interned, IsPool, Kept, row_at}, Clauses.{apart_from, in_row_order}}
+use Rattle.clause_pool.proofs.{Lists.{In_at}, Clauses.{apart_cases, minimal_of_parts}, Order.{ordered_parts}}
 use Rattle.listed.specs.Lists.{In, here, there, has, Ascending, Inside}
-use Rattle.clause_pool.specs.Clauses.{apart_from, in_row_order}
-use Rattle.row_book.specs.Numbers.{numbers}
-use Rattle.row_book.specs.Book.{RowsFit, RowsTidy, listed_for}
-use Rattle.row_book.specs.Uses.{row_holds, row_id, users_of, uses_of}
-use Rattle.listed.proofs.Lists.{In_cases, In_has, In_none, any_cases, any_from, filter_cases, filter_from, has_In, filter_same}
-use Rattle.listed.proofs.Orders.{ascending_same}
-use Rattle.row_book.proofs.Books.{row_kept}
-use Rattle.clause_pool.proofs.Clauses.{apart_cases, minimal_of_parts}
-use Rattle.row_book.proofs.Numbers.{at_numbers, map_same, numbers_from, numbers_parts}
-use Rattle.clause_pool.proofs.Order.{ordered_parts}
+use Rattle.row_book.specs.{Numbers.{numbers}, Book.{RowsFit, RowsTidy, listed_for}, Uses.{row_holds, row_id, users_of, uses_of}}
+use Rattle.listed.proofs.{Lists.{In_cases, In_has, In_none, any_cases, any_from, filter_cases, filter_from, has_In, filter_same}, Orders.{ascending_same}}
+use Rattle.row_book.proofs.{Books.{row_kept}, Numbers.{at_numbers, map_same, numbers_from, numbers_parts}}
 use Rattle.clause_flatten.specs.Substitution.{table_without, table_row}
 use Rattle.clause_families.specs.Unions.{clause_without, all_unions_for, substituted}
 use Rattle.clause_families.proofs.Unions.{Comes, dropped_parts, joined_ascending, joined_cases, replaced_cases}

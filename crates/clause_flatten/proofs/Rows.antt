@@ -1,20 +1,17 @@
 -- The computed row is the row.
 use Rattle.std.proofs.Common.{◌≡◌, ℕ, ◌<◌, Bool, true, not, ◌&&◌, ◌||◌, eqb, List, [], ◌∷◌, length, ◌⊎◌, inl, inr, refl, sym, subst, arith, eq-eqb, eqb-true, zero-le}
-use Rattle.std.specs.List.{list_all, list_any}
 use Rattle.std.proofs.lemmas.Bool.{both_ways, cases_Bool, cases_lt, and_parts, and_from, or_cases, or_left, or_right, not_from_false, not-true, false_from_ne_true}
 use Rattle.std.proofs.lemmas.List.{get_or_past}
-use Rattle.row_book.specs.Sets.{Hit, Is, NumSet, minus, without}
-use Rattle.listed.specs.Lists.{In, has, here, there, Inside, is_inside}
-use Rattle.row_book.specs.Repository.{Repository, Satisfied, clauses_of}
-use Rattle.row_book.specs.Numbers.{subsets}
+use Rattle.std.specs.List.{list_all, list_any}
+use Rattle.row_book.specs.{Sets.{Hit, Is, NumSet, minus, without}, Repository.{Repository, Satisfied, clauses_of}, Numbers.{subsets}}
 use Rattle.row_book.specs.Support.{Alive, Blocks, IsRow, MinimalBlock, Support, among, blocks, is_minimal_block, is_supported, row, supports}
-use Rattle.row_book.specs.Sound.{OfPackages}
-use Rattle.row_book.specs.Flattening.{packages}
+use Rattle.row_book.specs.{Sound.{OfPackages}, Flattening.{packages}}
+use Rattle.listed.specs.Lists.{In, has, here, there, Inside, is_inside}
 use Rattle.row_book.proofs.Sets.{Hit-mono, without_from, without_parts}
-use Rattle.listed.proofs.Lists.{In_cases, In_has, In_none, all_at, all_from, any_cases, any_from, any_none, filter_cases, filter_from, has_In}
 use Rattle.row_book.proofs.Lists.{any_hit, hit_any, members_from, members_from_ascending, members_from_from, members_from_parts, minus_from, minus_parts}
-use Rattle.clause_pool.proofs.Clauses.{inside_at, inside_from}
 use Rattle.row_book.proofs.Numbers.{numbers_from, subsets_has, subsets_parts}
+use Rattle.listed.proofs.Lists.{In_cases, In_has, In_none, all_at, all_from, any_cases, any_from, any_none, filter_cases, filter_from, has_In}
+use Rattle.clause_pool.proofs.Clauses.{inside_at, inside_from}
 use Rattle.clause_families.specs.Unions.{clause_without}
 use Rattle.clause_flatten.proofs.Supports.{support_grows_lem}
 use Rattle.clause_families.proofs.Unions.{dropped_from, dropped_parts}

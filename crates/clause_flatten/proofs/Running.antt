@@ -1,36 +1,20 @@
 -- The run of flattening over rows in a pool: where it stands after so many steps.
 use Rattle.std.proofs.Common.{◌≡◌, ℕ, zero, suc, ◌<◌, ◌≤◌, ◌+◌, ◌-◌, Bool, true, false, not, ◌&&◌, ◌||◌, eqb, ltb, cond, List, length, filter, replicate, slice_set, ◌≢◌, inl, inr, refl, sym, ◌∙◌, ap, subst, arith, map, Option, Some, None, ne_eqb}
-use Rattle.std.specs.List.{find}
 use Rattle.std.proofs.lemmas.Bool.{cases_eq, cases_lt}
+use Rattle.std.specs.List.{find}
 use Rattle.std.proofs.lemmas.List as lists
 use Rattle.clause_pool.specs.Interned.{Interned, IsPool, Kept, clauses_at, row_at}
 use Rattle.clause_pool.proofs.Interned.{kept_along, kept_same}
-use Rattle.row_book.specs.declared.book.Book.{Book}
-use Rattle.row_book.specs.Sets.{NumSet, without}
-use Rattle.row_book.specs.Repository.{Repository}
-use Rattle.row_book.specs.Numbers.{numbers}
-use Rattle.row_book.specs.Holders.{Holders}
-use Rattle.row_book.specs.Book.{Sound, repository_of}
-use Rattle.row_book.specs.Flags.{flag}
+use Rattle.row_book.specs.{declared.book.Book.{Book}, Sets.{NumSet, without}, Repository.{Repository}, Numbers.{numbers}, Holders.{Holders}}
+use Rattle.row_book.specs.{Book.{Sound, repository_of}, Flags.{flag}}
 use Rattle.row_book.specs.Flattening.{Passed, Remaining, at_last, flat, gone_or_held, has_conflict, held_of, may_go, next_gone, none_gone, packages, passed_by, passes, remaining_after, row_length, rows_over}
-use Rattle.row_book.proofs.Sets.{plus_new}
-use Rattle.row_book.proofs.Books.{sound_clauses}
+use Rattle.row_book.proofs.{Sets.{plus_new}, Books.{sound_clauses}, Numbers.{numbers_parts}}
 use Rattle.listed.proofs.Lists.{filter_same, find_some}
-use Rattle.row_book.proofs.Numbers.{numbers_parts}
-use Rattle.clause_flatten.specs.Ready.{AreReady, table_of}
-use Rattle.clause_flatten.specs.Substitution.{table_without, table_passes, length_in}
-use Rattle.clause_flatten.specs.Refusals.{OnLimit}
-use Rattle.clause_flatten.specs.declared.error.FlatError.{FlatError}
-use Rattle.clause_flatten.specs.declared.error.FlatError.TheVariants.{Limit, Memory}
-use Rattle.clause_flatten.specs.TakingOut.{is_free, is_over}
-use Rattle.clause_flatten.specs.TidyRows.{tidied_table}
-use Rattle.clause_flatten.specs.Waiting.{Filed, IsFirst}
-use Rattle.clause_flatten.proofs.Flat.{goes, next_gone_is, stays_held}
-use Rattle.clause_flatten.proofs.Stages.{core_is_reached_lem, left_bound, same_passing, stays_more}
-use Rattle.clause_flatten.proofs.Tables.{table_length, table_step_lem}
-use Rattle.clause_flatten.proofs.Turns.{filed_as}
-use Rattle.clause_flatten.proofs.Runs.{passed_some}
-use Rattle.clause_flatten.proofs.Free.{start_may}
+use Rattle.clause_flatten.specs.{Ready.{AreReady, table_of}, Substitution.{table_without, table_passes, length_in}, Refusals.{OnLimit}}
+use Rattle.clause_flatten.specs.{declared.error.FlatError.{FlatError}, declared.error.FlatError.TheVariants.{Limit, Memory}, TakingOut.{is_free, is_over}}
+use Rattle.clause_flatten.specs.{TidyRows.{tidied_table}, Waiting.{Filed, IsFirst}}
+use Rattle.clause_flatten.proofs.{Flat.{goes, next_gone_is, stays_held}, Stages.{core_is_reached_lem, left_bound, same_passing, stays_more}}
+use Rattle.clause_flatten.proofs.{Tables.{table_length, table_step_lem}, Turns.{filed_as}, Runs.{passed_some}, Free.{start_may}}
 use Rattle.clause_flatten.proofs.Passing.{IsWithin, count_is, first_stage_is, next_is, next_none, passes_at, passes_none}
 
 -- flags that tell which packages are held

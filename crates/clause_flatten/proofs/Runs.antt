@@ -1,22 +1,18 @@
 -- A package taken out of a table of rows, and what is looked at then.
 use Rattle.std.proofs.Common.{◌≡◌, ◌≢◌, ℕ, zero, suc, ◌<◌, ◌≤◌, ◌+◌, Bool, true, false, ◌&&◌, ◌||◌, eqb, ltb, cond, List, [], ◌∷◌, ◌++◌, length, get_or, inl, inr, refl, sym, ◌∙◌, ap, subst, arith, take, Some, None, eq-eqb, eqb-true, ne_eqb, zero-le}
-use Rattle.std.specs.List.{find}
-use Rattle.std.specs.Option.{option_map}
 use Rattle.std.proofs.lemmas.Bool.{cond-true, cond-false, ltb-false}
+use Rattle.std.specs.{List.{find}, Option.{option_map}}
 use Rattle.std.proofs.lemmas.List as lists
 use Rattle.listed.specs.Lists.{In, has, Inside}
-use Rattle.clause_pool.specs.Lists.{InOrder}
-use Rattle.clause_pool.specs.Clauses.{apart_from, in_row_order}
-use Rattle.row_book.specs.Numbers.{numbers}
-use Rattle.row_book.specs.Flattening.{Passed, passed_by}
+use Rattle.clause_pool.specs.{Lists.{InOrder}, Clauses.{apart_from, in_row_order}}
+use Rattle.row_book.specs.{Numbers.{numbers}, Flattening.{Passed, passed_by}}
 use Rattle.listed.proofs.Lists.{any_none, find_not, find_none}
 use Rattle.clause_pool.proofs.Clauses.{apart_cases, apart_in, minimal_of_from, minimal_of_parts}
-use Rattle.row_book.proofs.Numbers.{at_numbers, length_numbers, numbers_from, numbers_parts, numbers_count}
 use Rattle.clause_pool.proofs.Order.{order_same, ordered_has, ordered_order, ordered_parts}
-use Rattle.clause_flatten.specs.Substitution.{table_without, table_passes, length_in, table_row}
-use Rattle.clause_families.specs.Unions.{all_unions_for, substituted}
-use Rattle.clause_flatten.specs.TakingOut.{counted_anew, is_over}
+use Rattle.row_book.proofs.Numbers.{at_numbers, length_numbers, numbers_from, numbers_parts, numbers_count}
+use Rattle.clause_flatten.specs.{Substitution.{table_without, table_passes, length_in, table_row}, TakingOut.{counted_anew, is_over}}
 use Rattle.clause_flatten.specs.Waiting.{Filed, recounted}
+use Rattle.clause_families.specs.Unions.{all_unions_for, substituted}
 use Rattle.clause_families.proofs.Unions.{Comes, replaced_cases, replaced_kept}
 use Rattle.clause_flatten.proofs.Turns.{filed_as}
 

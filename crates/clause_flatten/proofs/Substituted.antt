@@ -1,21 +1,15 @@
 -- The rows when one more package is taken out are those that substitution gives.
-use Rattle.std.proofs.Common.{◌≡◌, ◌≢◌, ℕ, ◌<◌, Bool, true, false, cond, List, length, ◌⊎◌, inl, inr, refl, sym, ◌∙◌, ap, subst}
-use Rattle.std.proofs.lemmas.Bool.{both_ways}
-use Rattle.row_book.specs.Sets.{Hit, HitsAll, Is, NumSet, Within, plus, without}
+use Rattle.std.proofs.{Common.{◌≡◌, ◌≢◌, ℕ, ◌<◌, Bool, true, false, cond, List, length, ◌⊎◌, inl, inr, refl, sym, ◌∙◌, ap, subst}, lemmas.Bool.{both_ways}}
+use Rattle.row_book.specs.{Sets.{Hit, HitsAll, Is, NumSet, Within, plus, without}, Repository.{Repository}, Support.{IsRow, Support}, Sound.{OfPackages}}
 use Rattle.listed.specs.Lists.{In, Ascending}
-use Rattle.row_book.specs.Repository.{Repository}
 use Rattle.clause_pool.specs.Clauses.{apart_from}
-use Rattle.row_book.specs.Support.{IsRow, Support}
-use Rattle.row_book.specs.Sound.{OfPackages}
 use Rattle.clause_families.specs.Unions.{clause_without, union_of, all_unions_for, substituted}
 use Rattle.clause_flatten.specs.Laws.{RowTells, Substitutes, with_user}
-use Rattle.row_book.proofs.Sets.{Hit-mono, plus_cases, plus_new, plus_old, without_from, without_parts, hits_minimal}
+use Rattle.row_book.proofs.{Sets.{Hit-mono, plus_cases, plus_new, plus_old, without_from, without_parts, hits_minimal}, Lists.{hits_or}}
 use Rattle.listed.proofs.Lists.{decided_in}
-use Rattle.row_book.proofs.Lists.{hits_or}
 use Rattle.clause_pool.proofs.Clauses.{apart_cases, apart_in, minimal_of_parts}
-use Rattle.clause_flatten.proofs.Supports.{one_step_lem, with_user_cases}
+use Rattle.clause_flatten.proofs.{Supports.{one_step_lem, with_user_cases}, Blocking.{row_from_hits, row_says, support_from_hits}}
 use Rattle.clause_families.proofs.Unions.{Comes, dropped_from, dropped_parts, joined_ascending, joined_cases, joined_left, joined_right, replaced_cases, replaced_joined, replaced_kept}
-use Rattle.clause_flatten.proofs.Blocking.{row_from_hits, row_says, support_from_hits}
 
 pub row_tells_lem : RowTells
 row_tells_lem R V p rows bound r X w = row_says R V p (length R.clauses) bound rows r X w

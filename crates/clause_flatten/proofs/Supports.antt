@@ -1,9 +1,7 @@
 -- Support when the given set grows, and when one more package is gone.
 use Rattle.std.proofs.Common.{◌≡◌, ◌≢◌, ℕ, ◌<◌, Bool, true, false, length, ◌⊎◌, inl, inr, refl, sym, subst, cond}
 use Rattle.std.proofs.lemmas.Bool.{or_cases, or_left, or_right, cases_Bool, cases_eq, both_ways}
-use Rattle.row_book.specs.Sets.{Is, NumSet, plus, union, without}
-use Rattle.row_book.specs.Repository.{Repository, Satisfied}
-use Rattle.row_book.specs.Support.{Alive, Support}
+use Rattle.row_book.specs.{Sets.{Is, NumSet, plus, union, without}, Repository.{Repository, Satisfied}, Support.{Alive, Support}}
 use Rattle.clause_flatten.specs.Laws.{OneStep, SupportGrows, with_user}
 use Rattle.row_book.proofs.Sets.{Hit-mono, outside_gone, outside_less, outside_more, plus_cases, plus_new, plus_old, without_from, without_parts}
 

@@ -1,23 +1,14 @@
 -- The one row in order, and the tables of rows.
 use Rattle.std.proofs.Common.{◌≡◌, ℕ, ◌<◌, ◌≤◌, ◌+◌, eqb, cond, List, [], length, inl, inr, sym, ◌∙◌, ap, ap₂, subst, arith, map, eq-eqb, ne_eqb}
 use Rattle.std.proofs.lemmas.Bool.{cases_eq}
-use Rattle.row_book.specs.Sets.{NumSet, without}
-use Rattle.row_book.specs.Repository.{Repository}
-use Rattle.clause_pool.specs.Lists.{InOrder}
-use Rattle.row_book.specs.Numbers.{numbers, subsets}
-use Rattle.clause_pool.specs.Clauses.{in_row_order}
-use Rattle.row_book.specs.Support.{IsRow, is_minimal_block, row}
-use Rattle.row_book.specs.Sound.{OfPackages}
-use Rattle.row_book.specs.Flattening.{rows_over}
-use Rattle.clause_flatten.specs.Substitution.{table_without, table_row}
+use Rattle.row_book.specs.{Sets.{NumSet, without}, Repository.{Repository}, Numbers.{numbers, subsets}, Support.{IsRow, is_minimal_block, row}}
+use Rattle.row_book.specs.{Sound.{OfPackages}, Flattening.{rows_over}}
+use Rattle.clause_pool.specs.{Lists.{InOrder}, Clauses.{in_row_order}}
+use Rattle.clause_flatten.specs.{Substitution.{table_without, table_row}, FlatLaws.{OneRow, RowComputes, RowIsOne, TableStep}}
 use Rattle.clause_families.specs.Unions.{substituted}
-use Rattle.clause_flatten.specs.FlatLaws.{OneRow, RowComputes, RowIsOne, TableStep}
-use Rattle.row_book.proofs.Sets.{without_parts}
-use Rattle.row_book.proofs.Numbers.{at_numbers, length_numbers, map_same, numbers_parts, subsets_order}
+use Rattle.row_book.proofs.{Sets.{without_parts}, Numbers.{at_numbers, length_numbers, map_same, numbers_parts, subsets_order}}
 use Rattle.clause_pool.proofs.Order.{order_filter, order_same, ordered_has, ordered_order, ordered_parts}
-use Rattle.clause_flatten.proofs.Kept.{own_row_stays_lem}
-use Rattle.clause_flatten.proofs.Rows.{row_is}
-use Rattle.clause_flatten.proofs.Substituted.{substitutes_lem}
+use Rattle.clause_flatten.proofs.{Kept.{own_row_stays_lem}, Rows.{row_is}, Substituted.{substitutes_lem}}
 
 pub row_order : (R : Repository) (V : NumSet) (p : ℕ) → InOrder (row R V p)
 unfolding row

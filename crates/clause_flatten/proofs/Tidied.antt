@@ -1,32 +1,23 @@
 -- The first rows: the clauses that stay are the minimal ones that do not hold the package.
 use Rattle.std.proofs.Common.{◌≡◌, ℕ, ◌<◌, ◌≤◌, ◌+◌, Bool, true, false, not, ◌&&◌, ◌||◌, eqb, ltb, cond, List, [], ◌∷◌, ◌++◌, length, get_or, inl, inr, refl, sym, ◌∙◌, ap, ap₂, subst, arith, filter, map, Some}
-use Rattle.std.specs.List.{list_any}
-use Rattle.std.specs.Cmp.Lexicographic.{pointwise}
 use Rattle.std.proofs.lemmas.Bool.{both_ways, cases_Bool, cases_lt, true_from_ne_false, and_parts, and_from, not_from_false, not-true, false_from_ne_true, ltb-true, lt-ltb}
+use Rattle.std.specs.{List.{list_any}, Cmp.Lexicographic.{pointwise}}
 use Rattle.std.proofs.lemmas.List as lists
 use Rattle.std.proofs.lemmas.List.{get_or_default}
 use Rattle.listed.proofs.Bools.{same_bool}
-use Rattle.clause_pool.specs.Interned.{Interned, IsPool, OfPool, clause_at, clauses_at, ids_at, row_at}
-use Rattle.listed.specs.Lists.{In, has, here, there, Ascending, Inside, is_inside}
-use Rattle.clause_pool.specs.Lists.{InOrder}
-use Rattle.clause_pool.specs.Clauses.{apart_from, minimal_of}
-use Rattle.row_book.specs.Numbers.{numbers}
-use Rattle.row_book.specs.Uses.{row_id}
-use Rattle.row_book.specs.Book.{RowsFit, listed_for}
-use Rattle.row_book.specs.Holders.{ListsFit}
-use Rattle.row_book.proofs.Books.{in_listed, row_ascending}
 use Rattle.listed.proofs.Lists.{In_append_cases, In_cases, In_has, In_map, In_map_cases, In_none, any_cases, any_from, any_none, filter_cases, filter_from, has_not, In_at}
 use Rattle.listed.proofs.Orders.{ascending_same}
-use Rattle.clause_pool.proofs.Clauses.{apart_cases, apart_in, inside_at, inside_from, minimal_of_from, minimal_of_parts}
-use Rattle.row_book.proofs.Numbers.{at_numbers, length_numbers, map_same, numbers_parts, numbers_more}
-use Rattle.clause_pool.proofs.Order.{order_filter, order_same, ordered_has, ordered_order, ordered_parts}
-use Rattle.clause_flatten.specs.Substitution.{table_row}
+use Rattle.clause_pool.specs.{Interned.{Interned, IsPool, OfPool, clause_at, clauses_at, ids_at, row_at}, Lists.{InOrder}, Clauses.{apart_from, minimal_of}}
 use Rattle.clause_pool.specs.Within.{is_within, some_within}
+use Rattle.listed.specs.Lists.{In, has, here, there, Ascending, Inside, is_inside}
+use Rattle.row_book.specs.{Numbers.{numbers}, Uses.{row_id}, Book.{RowsFit, listed_for}, Holders.{ListsFit}}
+use Rattle.row_book.proofs.{Books.{in_listed, row_ascending}, Numbers.{at_numbers, length_numbers, map_same, numbers_parts, numbers_more}}
 use Rattle.row_book.proofs.Repositories.{numbers_test, same_numbers}
+use Rattle.clause_pool.proofs.Clauses.{apart_cases, apart_in, inside_at, inside_from, minimal_of_from, minimal_of_parts}
+use Rattle.clause_pool.proofs.Order.{order_filter, order_same, ordered_has, ordered_order, ordered_parts}
+use Rattle.clause_flatten.specs.{Substitution.{table_row}, Ready.{ListsTidy, table_of}, TidyRows.{begins_empty, first_row, tidied_table}}
 use Rattle.clause_families.specs.Inclusion.{has_shorter, is_strictly_inside, stays}
 use Rattle.clause_families.proofs.Families.{not_shorter, some_shorter}
-use Rattle.clause_flatten.specs.Ready.{ListsTidy, table_of}
-use Rattle.clause_flatten.specs.TidyRows.{begins_empty, first_row, tidied_table}
 use Rattle.clause_flatten.proofs.WorkedRows.{lists_at}
 
 -- another clause within a clause is a shorter one

@@ -2,17 +2,11 @@
 use Rattle.std.proofs.Common.{◌≡◌, ℕ, Bool, ◌<◌, List, length, refl, sym, ◌∙◌, ap, subst}
 use Rattle.listed.specs.Lists.{In}
 use Rattle.clause_pool.specs.Lists.{InOrder}
-use Rattle.row_book.specs.Repository.{Repository, clauses_of}
-use Rattle.row_book.specs.Book.{AreConflicts}
-use Rattle.row_book.specs.Support.{MinimalBlock, row}
-use Rattle.row_book.specs.Sound.{OfPackages, SoundRepository, TidyRepository}
-use Rattle.row_book.specs.Flattening.{core_of, flat}
-use Rattle.row_book.proofs.Books.{in_listed}
+use Rattle.row_book.specs.{Repository.{Repository, clauses_of}, Book.{AreConflicts}, Support.{MinimalBlock, row}}
+use Rattle.row_book.specs.{Sound.{OfPackages, SoundRepository, TidyRepository}, Flattening.{core_of, flat}}
+use Rattle.row_book.proofs.{Books.{in_listed}, Repositories.{between, each_list}}
 use Rattle.listed.proofs.Orders.{ascending_same}
-use Rattle.row_book.proofs.Repositories.{between, each_list}
-use Rattle.clause_flatten.proofs.Flat.{kept_after}
-use Rattle.clause_flatten.proofs.Rows.{row_is}
-use Rattle.clause_flatten.proofs.Tables.{row_order, table_at, table_length}
+use Rattle.clause_flatten.proofs.{Flat.{kept_after}, Rows.{row_is}, Tables.{row_order, table_at, table_length}}
 
 pub flat_size : (limit : ℕ) (hold : Bool) → (R : Repository) → length (flat limit hold R).clauses ≡ length R.clauses
 unfolding flat

@@ -1,18 +1,12 @@
 -- What becomes of rows when the row of one user is substituted, as the calls lend and make its parts.
-use Rattle.std.proofs.Common.{◌≡◌, ℕ, ◌<◌, List, [], ◌++◌, length, get_or, slice_set, sym, ◌∙◌, ap, ap₂, subst}
-use Rattle.std.proofs.lemmas.List.{get_or_default}
-use Rattle.clause_pool.specs.Interned.{Interned, Kept, OfPool, clause_at, clauses_at}
+use Rattle.std.proofs.{Common.{◌≡◌, ℕ, ◌<◌, List, [], ◌++◌, length, get_or, slice_set, sym, ◌∙◌, ap, ap₂, subst}, lemmas.List.{get_or_default}}
+use Rattle.clause_pool.specs.{Interned.{Interned, Kept, OfPool, clause_at, clauses_at}, Lists.{InOrder}, Clauses.{apart_from, in_row_order, minimal_of}}
 use Rattle.clause_pool.proofs.Interned.{kept_same}
 use Rattle.listed.specs.Lists.{In}
-use Rattle.clause_pool.specs.Lists.{InOrder}
-use Rattle.clause_pool.specs.Clauses.{apart_from, in_row_order, minimal_of}
-use Rattle.row_book.specs.Book.{listed_for}
-use Rattle.row_book.specs.Holders.{Holders, TellsRows}
+use Rattle.row_book.specs.{Book.{listed_for}, Holders.{Holders, TellsRows}}
 use Rattle.row_book.proofs.Holders.{tells_part}
-use Rattle.clause_families.specs.Families.{IncludesOneOf, Useful, all_unions}
-use Rattle.clause_flatten.specs.Ready.{AreReady, table_of}
-use Rattle.clause_flatten.specs.Substitution.{table_turned}
-use Rattle.clause_families.specs.Unions.{substituted}
+use Rattle.clause_families.specs.{Families.{IncludesOneOf, Useful, all_unions}, Unions.{substituted}}
+use Rattle.clause_flatten.specs.{Ready.{AreReady, table_of}, Substitution.{table_turned}}
 use Rattle.clause_families.proofs.Rewritten.{shortened, unions_minimal, useful_there}
 use Rattle.clause_flatten.proofs.WorkedRows.{lists_fit_kept, lists_tidy_kept, turned_below, turned_fit, turned_table, turned_tidy}
 

@@ -2,8 +2,7 @@
 use Rattle.std.proofs.Common.{◌≡◌, ◌≢◌, ℕ, ◌<◌, ◌≤◌, ◌+◌, true, false, List, drop, inl, inr, ◌∙◌, ap, subst, sym, arith}
 use Rattle.std.proofs.lemmas.Bool.{cases_Bool, cases_lt, false_from_ne_true}
 use Rattle.row_book.specs.Sets.{NumSet}
-use Rattle.clause_flatten.specs.LeastTree.{node, IsTree, IsFirstLeast}
-use Rattle.clause_flatten.specs.Waiting.{never, turn, Filed, IsFirst}
+use Rattle.clause_flatten.specs.{LeastTree.{node, IsTree, IsFirstLeast}, Waiting.{never, turn, Filed, IsFirst}}
 use Rattle.clause_flatten.proofs.Leaves.{leaf_at, leaf_behind}
 
 -- other counts and another set

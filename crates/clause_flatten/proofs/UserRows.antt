@@ -1,23 +1,17 @@
 -- Rows that do not name a package stay when it is taken out, so only those of its users are looked at.
 use Rattle.std.proofs.Common.{◌≡◌, ℕ, ◌<◌, ◌≤◌, ◌+◌, Bool, true, false, ltb, cond, List, [], ◌∷◌, length, get_or, inl, inr, refl, sym, ◌∙◌, ap, subst, arith, filter, Some, None, zero-le}
-use Rattle.std.specs.List.{find, list_any}
 use Rattle.std.proofs.lemmas.Bool.{both_ways, cases_Bool, cases_eq, cases_lt, cond-true, cond-false, false_from_ne_true, le-ltb}
+use Rattle.std.specs.List.{find, list_any}
 use Rattle.std.proofs.lemmas.List as lists
-use Rattle.clause_pool.specs.Interned.{Interned, clauses_at}
-use Rattle.row_book.specs.Book.{listed_for}
-use Rattle.clause_pool.specs.Clauses.{in_row_order}
-use Rattle.row_book.specs.Numbers.{numbers}
-use Rattle.row_book.specs.Holders.{is_user, users_in, ListsFit}
+use Rattle.clause_pool.specs.{Interned.{Interned, clauses_at}, Clauses.{in_row_order}}
+use Rattle.row_book.specs.{Book.{listed_for}, Numbers.{numbers}, Holders.{is_user, users_in, ListsFit}}
 use Rattle.listed.specs.Lists.{In, has, here, there}
 use Rattle.listed.proofs.Lists.{In_has, any_cases, any_from, filter_cases, find_none, has_not}
 use Rattle.row_book.proofs.Numbers.{numbers_from, numbers_parts}
-use Rattle.clause_flatten.specs.Ready.{ListsTidy, table_of}
-use Rattle.clause_flatten.specs.Substitution.{table_passes, table_row, table_without, length_in}
+use Rattle.clause_flatten.specs.{Ready.{ListsTidy, table_of}, Substitution.{table_passes, table_row, table_without, length_in}}
+use Rattle.clause_flatten.specs.{TakingOut.{counted_anew, is_over}, Waiting.{Filed}}
 use Rattle.clause_families.specs.Unions.{substituted}
-use Rattle.clause_flatten.specs.TakingOut.{counted_anew, is_over}
-use Rattle.clause_flatten.specs.Waiting.{Filed}
-use Rattle.clause_flatten.proofs.Runs.{eliminated_count, find_nowhere, other_without, own_without, untouched}
-use Rattle.clause_flatten.proofs.Turns.{filed_as}
+use Rattle.clause_flatten.proofs.{Runs.{eliminated_count, find_nowhere, other_without, own_without, untouched}, Turns.{filed_as}}
 use Rattle.clause_flatten.proofs.WorkedRows.{lists_at, not_named, users_below}
 
 find_filter : (f g : ℕ → Bool) (xs : List ℕ) → ((x : ℕ) → In x xs → g x ≡ false → f x ≡ false) → find f (filter g xs) ≡ find f xs

@@ -1,26 +1,16 @@
 -- Rows as the ids of their clauses: in a pool that grows, with another one in the place of one, and who names a package.
 use Rattle.std.proofs.Common.{◌≡◌, ◌≢◌, ℕ, zero, suc, ◌<◌, ◌≤◌, ◌+◌, true, List, [], ◌∷◌, length, slice_set, inl, inr, refl, sym, ◌∙◌, ap, ap₂, subst, arith}
-use Rattle.std.proofs.lemmas.Bool.{cases_eq}
-use Rattle.std.proofs.lemmas.List.{get_or-set_same, get_or-set_other, length-map, length-set, map-set}
-use Rattle.clause_pool.specs.Interned.{Interned, Kept, OfPool, clause_at, clauses_at}
-use Rattle.clause_pool.proofs.Interned.{clauses_kept, kept_of_pool}
+use Rattle.std.proofs.{lemmas.Bool.{cases_eq}, lemmas.List.{get_or-set_same, get_or-set_other, length-map, length-set, map-set}}
+use Rattle.clause_pool.specs.{Interned.{Interned, Kept, OfPool, clause_at, clauses_at}, Lists.{InOrder}, Clauses.{in_row_order}}
+use Rattle.clause_pool.proofs.{Interned.{clauses_kept, kept_of_pool}, Order.{ordered_order}}
 use Rattle.listed.specs.Lists.{In, has, here, Ascending, Inside}
-use Rattle.clause_pool.specs.Lists.{InOrder}
-use Rattle.clause_pool.specs.Clauses.{in_row_order}
-use Rattle.row_book.specs.Numbers.{numbers}
-use Rattle.row_book.specs.Book.{listed_for}
-use Rattle.row_book.specs.Holders.{is_user, users_in, ListsFit}
-use Rattle.row_book.proofs.Holders.{is_found}
-use Rattle.listed.proofs.Lists.{In_has, In_map, In_map_cases, any_cases, any_from, filter_cases, has_In}
-use Rattle.listed.proofs.Orders.{ascending_filter}
-use Rattle.row_book.proofs.Numbers.{numbers_ascending, numbers_parts}
-use Rattle.clause_pool.proofs.Order.{ordered_order}
-use Rattle.clause_flatten.specs.Ready.{ListsTidy, table_of}
-use Rattle.clause_flatten.specs.Substitution.{table_row, table_turned, table_without}
+use Rattle.row_book.specs.{Numbers.{numbers}, Book.{listed_for}, Holders.{is_user, users_in, ListsFit}}
+use Rattle.row_book.proofs.{Holders.{is_found}, Numbers.{numbers_ascending, numbers_parts}}
+use Rattle.listed.proofs.{Lists.{In_has, In_map, In_map_cases, any_cases, any_from, filter_cases, has_In}, Orders.{ascending_filter}}
+use Rattle.clause_flatten.specs.{Ready.{ListsTidy, table_of}, Substitution.{table_row, table_turned, table_without}}
 use Rattle.clause_families.specs.Unions.{substituted}
-use Rattle.clause_flatten.proofs.Replacing.{new_apart, new_numbers, new_spent, new_thin, same_items}
+use Rattle.clause_flatten.proofs.{Replacing.{new_apart, new_numbers, new_spent, new_thin, same_items}, Runs.{eliminated_count, other_without, own_without}}
 use Rattle.clause_families.proofs.Rewritten.{ids_ascend}
-use Rattle.clause_flatten.proofs.Runs.{eliminated_count, other_without, own_without}
 
 pub lists_at : (pool : Interned) (rows : List (List ℕ)) (p : ℕ) → table_row (table_of pool rows) p ≡ clauses_at pool (listed_for rows p)
 lists_at pool [] zero = refl

@@ -2,11 +2,7 @@
 use Rattle.std.specs.Prelude.{◌≡◌, ℕ, ◌<◌, ◌≤◌, ◌+◌, ◌⊎◌, Bool, true, false, not, cond, count_by, List, [], map, length, slice_index_or, Option, Some, None}
 use Rattle.clause_pool.specs.Interned.{Interned, row_at}
 use Rattle.listed.specs.Lists.{In}
-use Rattle.row_book.specs.declared.book.Book.{Book}
-use Rattle.row_book.specs.Book.{repository_of, Sound}
-use Rattle.row_book.specs.Flags.{flag}
-use Rattle.row_book.specs.Repository.{Repository, clauses_of}
-use Rattle.row_book.specs.Support.{row}
+use Rattle.row_book.specs.{declared.book.Book.{Book}, Book.{repository_of, Sound}, Flags.{flag}, Repository.{Repository, clauses_of}, Support.{row}}
 use Rattle.row_book.specs.Flattening.{core_of, flat, held_of, packages, passes, remaining_after, row_length}
 
 -- clauses of a package that are known to be its row over the core without hold, where at no stage its row passes the limit

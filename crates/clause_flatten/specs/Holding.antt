@@ -1,7 +1,6 @@
 -- for the bodies of this crate alone
 -- How many clauses a row can have once a package is taken out.
-use Rattle.std.specs.Prelude.{ℕ, ◌+◌, ◌*◌, List, length}
-use Rattle.std.specs.List.{filter}
+use Rattle.std.specs.{Prelude.{ℕ, ◌+◌, ◌*◌, List, length}, List.{filter}}
 use Rattle.listed.specs.Lists.{has}
 use Rattle.clause_pool.specs.Clauses.{apart_from}
 

@@ -1,9 +1,7 @@
 -- Elimination is local: among packages that name none but each other it goes as if there were no others.
 use Rattle.std.specs.Prelude.{◌≡◌, ℕ, ◌<◌, ◌≤◌, true, false, List, map, length, None}
 use Rattle.listed.specs.Lists.{In}
-use Rattle.row_book.specs.Sets.{NumSet}
-use Rattle.row_book.specs.Repository.{Repository, clauses_of}
-use Rattle.row_book.specs.Support.{row}
+use Rattle.row_book.specs.{Sets.{NumSet}, Repository.{Repository, clauses_of}, Support.{row}}
 use Rattle.row_book.specs.Flattening.{core_of, has_conflict, passes, remaining_after, row_length}
 
 -- the packages of U stand in another repository too, under other numbers in the same order. Their clauses name none but each

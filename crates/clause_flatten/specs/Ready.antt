@@ -3,8 +3,7 @@
 use Rattle.std.specs.Prelude.{◌≡◌, ℕ, List, map}
 use Rattle.clause_pool.specs.Interned.{Interned, clauses_at}
 use Rattle.listed.specs.Lists.{In, Inside}
-use Rattle.row_book.specs.Book.{listed_for}
-use Rattle.row_book.specs.Holders.{Holders, ListsFit, TellsRows}
+use Rattle.row_book.specs.{Book.{listed_for}, Holders.{Holders, ListsFit, TellsRows}}
 
 -- the clauses of each row
 abbrev pub table_of : Interned → List (List ℕ) → List (List (List ℕ))

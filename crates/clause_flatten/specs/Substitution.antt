@@ -1,12 +1,9 @@
 -- Tables of rows and stages: a package is taken out of all rows by substitution.
-use Rattle.std.specs.Prelude.{ℕ, zero, suc, Bool, ◌&&◌, eqb, ltb, cond, List, [], map, length, slice_index_or, slice_set, Option, Some, None}
-use Rattle.std.specs.List.{list_any}
-use Rattle.row_book.specs.Sets.{plus, without}
-use Rattle.row_book.specs.Repository.{Repository, clauses_of}
-use Rattle.clause_pool.specs.Clauses.{apart_from, minimal_of, in_row_order}
-use Rattle.row_book.specs.Numbers.{numbers}
-use Rattle.clause_families.specs.Unions.{substituted}
+use Rattle.std.specs.{Prelude.{ℕ, zero, suc, Bool, ◌&&◌, eqb, ltb, cond, List, [], map, length, slice_index_or, slice_set, Option, Some, None}, List.{list_any}}
+use Rattle.row_book.specs.{Sets.{plus, without}, Repository.{Repository, clauses_of}, Numbers.{numbers}}
 use Rattle.row_book.specs.Flattening.{packages, none_gone, may_go, soonest, Passed, passed_by, first_some, stages_tried, Remaining}
+use Rattle.clause_pool.specs.Clauses.{apart_from, minimal_of, in_row_order}
+use Rattle.clause_families.specs.Unions.{substituted}
 
 -- the row of a package in a table of rows
 abbrev pub table_row : List (List (List ℕ)) → ℕ → List (List ℕ)

@@ -5,11 +5,7 @@ ghost use Rattle.std.specs.Prelude.{◌≡◌, ◌<◌, ◌∷◌, [], ℕ, true
 ghost use Rattle.std.specs.Option.{ForSome};
 ghost use Rattle.clause_pool.specs.Interned.{clauses_at, Kept, OfPool};
 ghost use Rattle.listed.specs.Lists.{In};
-ghost use Rattle.row_book.specs.Book.{repository_of, Sound};
-ghost use Rattle.row_book.specs.Numbers.{numbers};
-ghost use Rattle.row_book.specs.Uses.{row_id};
-ghost use Rattle.row_book.specs.Flags.{flag};
-ghost use Rattle.row_book.specs.Flattening.{passes};
+ghost use Rattle.row_book.specs.{Book.{repository_of, Sound}, Numbers.{numbers}, Uses.{row_id}, Flags.{flag}, Flattening.{passes}};
 ghost use Rattle.clause_flatten.specs.Beside.{known_or, masked, AreKnown, AreNeeded, IsFlattened, Needs};
 
 use crate::error::FlatError;

@@ -1,22 +1,12 @@
 //! Flattening of a book.
 //!
 //! Until the end a row is a list of the ids of its clauses, in no pool: one that is rewritten many times would leave as many rows there.
-ghost use Rattle.std.specs.Prelude.{◌≡◌, ◌<◌, ◌≤◌, ℕ, ◌&&◌, ltb, false, None, Some, IfOk, IfErr, OnOk, length, map, replicate, slice_set};
-ghost use Rattle.std.specs.List.{filter};
-ghost use Rattle.clause_pool.specs.Interned.{clauses_at, row_at, Interned, Kept, OfPool};
-ghost use Rattle.row_book.specs.Book.{repository_of, AreConflicts, RowsFit, Sound};
-ghost use Rattle.row_book.specs.Numbers.{numbers};
-ghost use Rattle.clause_pool.specs.Lists.{InOrder};
-ghost use Rattle.row_book.specs.Flags.{flag};
-ghost use Rattle.row_book.specs.Flattening.{flat, held_of, passes};
-ghost use Rattle.row_book.specs.Holders.{ListsFit};
-ghost use Rattle.row_book.specs.Repository.{Repository};
-ghost use Rattle.clause_flatten.specs.Ready.{table_of, AreReady, ListsTidy};
-ghost use Rattle.clause_flatten.specs.Refusals.{OnLimit};
-ghost use Rattle.clause_flatten.specs.Substitution.{length_in};
-ghost use Rattle.clause_flatten.specs.TakingOut.{is_free};
-ghost use Rattle.clause_flatten.specs.TidyRows.{tidied_table};
-ghost use Rattle.clause_flatten.specs.Waiting.{Filed};
+ghost use Rattle.std.specs.{Prelude.{◌≡◌, ◌<◌, ◌≤◌, ℕ, ◌&&◌, ltb, false, None, Some, IfOk, IfErr, OnOk, length, map, replicate, slice_set}, List.{filter}};
+ghost use Rattle.clause_pool.specs.{Interned.{clauses_at, row_at, Interned, Kept, OfPool}, Lists.{InOrder}};
+ghost use Rattle.row_book.specs.{Book.{repository_of, AreConflicts, RowsFit, Sound}, Numbers.{numbers}, Flags.{flag}, Flattening.{flat, held_of, passes}};
+ghost use Rattle.row_book.specs.{Holders.{ListsFit}, Repository.{Repository}};
+ghost use Rattle.clause_flatten.specs.{Ready.{table_of, AreReady, ListsTidy}, Refusals.{OnLimit}, Substitution.{length_in}, TakingOut.{is_free}};
+ghost use Rattle.clause_flatten.specs.{TidyRows.{tidied_table}, Waiting.{Filed}};
 
 use crate::error::FlatError;
 use crate::taking_out::{Elimination, clauses_in, least_over, take_out_or_hold};

@@ -2,20 +2,13 @@
 //!
 //! A bound is tried first. Only if it passes the limit are the clauses made, in scratch space, and counted up to the first past
 //! the limit, so asking interns nothing.
-ghost use Rattle.std.specs.Prelude.{◌≡◌, ◌≢◌, ◌++◌, ℕ, ◌<◌, ◌≤◌, ltb, List, IfOk, length};
-ghost use Rattle.clause_pool.specs.Interned.{clauses_at, OfPool, IsPool};
-ghost use Rattle.clause_pool.specs.Clauses.{apart_from, in_row_order, minimal_of};
+ghost use Rattle.std.specs.{Prelude.{◌≡◌, ◌≢◌, ◌++◌, ℕ, ◌<◌, ◌≤◌, ltb, List, IfOk, length}, Option.{ForSome}};
+ghost use Rattle.clause_pool.specs.{Interned.{clauses_at, OfPool, IsPool}, Clauses.{apart_from, in_row_order, minimal_of}, Lists.{InOrder}};
 ghost use Rattle.listed.specs.Lists.{Ascending, Inside, In};
-ghost use Rattle.clause_pool.specs.Lists.{InOrder};
 ghost use Rattle.row_book.specs.Holders.{users_in, ListsFit};
-ghost use Rattle.std.specs.Option.{ForSome};
-ghost use Rattle.clause_flatten.specs.Ready.{table_of, AreReady, ListsTidy};
-ghost use Rattle.clause_families.specs.Branches.{TreeOf};
-ghost use Rattle.clause_families.specs.Families.{all_unions};
-ghost use Rattle.clause_flatten.specs.Holding.{clauses_with, most_clauses};
-ghost use Rattle.clause_flatten.specs.Substitution.{length_in, table_passes, table_without};
-ghost use Rattle.clause_families.specs.Unions.{substituted};
-ghost use Rattle.clause_flatten.specs.TakingOut.{is_over};
+ghost use Rattle.clause_flatten.specs.{Ready.{table_of, AreReady, ListsTidy}, Holding.{clauses_with, most_clauses}};
+ghost use Rattle.clause_flatten.specs.{Substitution.{length_in, table_passes, table_without}, TakingOut.{is_over}};
+ghost use Rattle.clause_families.specs.{Branches.{TreeOf}, Families.{all_unions}, Unions.{substituted}};
 
 use clause_families::{
     Clause, FamilyTree, add_unions, clauses_without, is_longer, put_in_order, tree_of_many,

@@ -2,17 +2,12 @@
 //!
 //! The limit is tried on the rows after the whole step, also on those of packages that are gone. Only rows that changed are
 //! looked at, ascending, so the first over the limit is the least.
-ghost use Rattle.std.specs.Prelude.{◌≡◌, ◌<◌, ◌≤◌, ◌&&◌, ℕ, Bool, false, cond, Some, IfOk, IfErr, OnOk, length};
-ghost use Rattle.std.specs.List.{find};
+ghost use Rattle.std.specs.{Prelude.{◌≡◌, ◌<◌, ◌≤◌, ◌&&◌, ℕ, Bool, false, cond, Some, IfOk, IfErr, OnOk, length}, List.{find}};
 ghost use Rattle.clause_pool.specs.Interned.{Interned, Kept};
 ghost use Rattle.listed.specs.Lists.{In, Ascending};
-ghost use Rattle.row_book.specs.Numbers.{numbers};
-ghost use Rattle.row_book.specs.Flattening.{passed_by};
-ghost use Rattle.clause_flatten.specs.Ready.{table_of, AreReady};
-ghost use Rattle.clause_flatten.specs.Substitution.{table_without, table_passes, length_in};
-ghost use Rattle.clause_flatten.specs.Refusals.{OnLimit};
-ghost use Rattle.clause_flatten.specs.Waiting.{never, Filed};
-ghost use Rattle.clause_flatten.specs.TakingOut.{counted_anew, is_over};
+ghost use Rattle.row_book.specs.{Numbers.{numbers}, Flattening.{passed_by}};
+ghost use Rattle.clause_flatten.specs.{Ready.{table_of, AreReady}, Substitution.{table_without, table_passes, length_in}, Refusals.{OnLimit}};
+ghost use Rattle.clause_flatten.specs.{Waiting.{never, Filed}, TakingOut.{counted_anew, is_over}};
 
 use crate::changing::change_rows;
 use crate::error::FlatError;

@@ -19,8 +19,7 @@ pub(crate) struct Waiting {
 }
 
 impl Model for Waiting {
-    ghost use Rattle.std.specs.Prelude.{List, ℕ, ◌^◌, ◌≤◌, drop};
-    ghost use Rattle.std.specs.Coded.{coded_list, coded_ℕ};
+    ghost use Rattle.std.specs.{Prelude.{List, ℕ, ◌^◌, ◌≤◌, drop}, Coded.{coded_list, coded_ℕ}};
     ghost use Rattle.clause_flatten.specs.LeastTree.{IsTree};
 
     ghost Value = { List ℕ };

@@ -1,18 +1,12 @@
 -- Rows of one pool that come into another, one after another.
 use Rattle.std.proofs.Common.{◌≡◌, ℕ, zero, suc, ◌<◌, ◌≤◌, ◌+◌, List, [], ◌∷◌, ◌++◌, inl, inr, refl, sym, ◌∙◌, ap, ap₂, subst, length, get_or, take, map, arith, length-append}
-use Rattle.std.specs.Prelude.{Option, Some, None}
-use Rattle.std.specs.List.{slice_set}
-use Rattle.std.proofs.lemmas.Bool.{cases_eq, cases_lt}
-use Rattle.std.proofs.lemmas.List.{get_or_default, get_or-set_other, get_or-set_same, map-append, take_more}
+use Rattle.std.proofs.{lemmas.Bool.{cases_eq, cases_lt}, lemmas.List.{get_or_default, get_or-set_other, get_or-set_same, map-append, take_more}}
 use Rattle.std.proofs.lemmas.Option.{none-some, same_Some}
+use Rattle.std.specs.{Prelude.{Option, Some, None}, List.{slice_set}}
 use Rattle.listed.proofs.Lists.{In_append_left, In_append_right}
-use Rattle.clause_pool.specs.Lists.{In, here, there}
-use Rattle.clause_pool.specs.Interned.{Interned, IsPool, Kept, Gains, clause_at, ids_at, row_at}
+use Rattle.clause_pool.specs.{Lists.{In, here, there}, Interned.{Interned, IsPool, Kept, Gains, clause_at, ids_at, row_at}}
 use Rattle.clause_pool.specs.Compacting.{Adds, AddsOnly, AreCarried, RowsOf, StandsFor}
-use Rattle.clause_pool.proofs.Carrying.{In_either}
-use Rattle.clause_pool.proofs.Interned.{kept_along, kept_same, row_stays}
-use Rattle.clause_pool.proofs.Lists.{In_at, In_none, In_place}
-use Rattle.clause_pool.proofs.Moved.{In_map}
+use Rattle.clause_pool.proofs.{Carrying.{In_either}, Interned.{kept_along, kept_same, row_stays}, Lists.{In_at, In_none, In_place}, Moved.{In_map}}
 
 pub next_rows : (pool : Interned) (rows : List ℕ) (i row : ℕ) → i < length rows → row ≡ get_or rows i row → map (row_at pool) (take (i + 1) rows) ≡ map (row_at pool) (take i rows) ++ row_at pool row ∷ []
 next_rows pool rows i row l e =

@@ -1,7 +1,7 @@
 -- Families of clauses: those apart from a number, and the minimal ones.
 use Rattle.std.proofs.Common.{◌≡◌, ℕ, true, not, ◌||◌, List, [], ◌∷◌, inl, inr, sym, subst}
-use Rattle.std.specs.List.{list_all}
 use Rattle.std.proofs.lemmas.Bool.{both_ways, cases_Bool, or_cases, or_left, or_right, not_from_false, not-true}
+use Rattle.std.specs.List.{list_all}
 use Rattle.listed.specs.Lists.{In, here, there, has, Inside, is_inside}
 use Rattle.clause_pool.specs.Clauses.{apart_from, minimal_of}
 use Rattle.listed.proofs.Lists.{In_has, has_In, has_not, In_cases, In_none, filter_from, filter_cases, all_from, all_at}

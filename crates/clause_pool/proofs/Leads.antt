@@ -1,8 +1,7 @@
 -- Tests of lists at their places, and clauses in lexicographic order, which rise with what they begin with.
 use Rattle.std.proofs.Common.{◌≡◌, ℕ, zero, suc, ◌<◌, ◌≤◌, Bool, true, false, ◌&&◌, List, [], ◌∷◌, length, get_or, inl, inr, refl, ◌∙◌, ap, arith, zero-le}
 use Rattle.std.specs.List.{list_all}
-use Rattle.clause_pool.specs.Lists.{Before, InOrder}
-use Rattle.clause_pool.specs.Within.{lead}
+use Rattle.clause_pool.specs.{Lists.{Before, InOrder}, Within.{lead}}
 use Rattle.listed.proofs.Lists.{In_at}
 
 -- a test over numbers

@@ -1,21 +1,13 @@
 -- A clause is forced where another one lies within those that see to it that it is hit.
 use Rattle.std.proofs.Common.{◌≡◌, ℕ, ◌<◌, ◌+◌, Bool, true, false, not, ◌&&◌, ◌||◌, cond, eqb, List, [], ◌∷◌, ◌++◌, append-nil, append_assoc, refl, sym, ◌∙◌, inl, inr, ap, ap₂, filter, length, get_or, take, Some}
-use Rattle.std.specs.List.{list_any}
-use Rattle.std.specs.Cmp.Lexicographic.{pointwise}
-use Rattle.std.proofs.lemmas.Bool.{or_cases, or_left, or_right}
-use Rattle.std.proofs.lemmas.List.{take_more}
-use Rattle.std.proofs.lemmas.List.Elements.{filter-append}
+use Rattle.std.proofs.{lemmas.Bool.{or_cases, or_left, or_right}, lemmas.List.{take_more}, lemmas.List.Elements.{filter-append}}
 use Rattle.std.proofs.lemmas.List.Folds.{list_any-append}
-use Rattle.listed.proofs.Bools.{same_bool}
-use Rattle.clause_pool.specs.Interned.{Interned}
+use Rattle.std.specs.{List.{list_any}, Cmp.Lexicographic.{pointwise}}
+use Rattle.listed.proofs.{Bools.{same_bool}, Lists.{In_has, all_same, filter_cases, filter_from, has_In}}
+use Rattle.clause_pool.specs.{Interned.{Interned}, Within.{is_within}}
 use Rattle.listed.specs.Lists.{In, has, here, there, is_inside}
-use Rattle.row_book.specs.Repository.{clauses_of}
-use Rattle.row_book.specs.Uses.{IsListOf}
-use Rattle.clause_pool.specs.Within.{is_within}
-use Rattle.row_book.specs.Pruning.{serves}
-use Rattle.listed.proofs.Lists.{In_has, all_same, filter_cases, filter_from, has_In}
-use Rattle.clause_prune.specs.Filing.{AsksServing, Filed, FiledFor, asks, filed_within}
-use Rattle.clause_prune.specs.Tests.{forces_in, with_ids}
+use Rattle.row_book.specs.{Repository.{clauses_of}, Uses.{IsListOf}, Pruning.{serves}}
+use Rattle.clause_prune.specs.{Filing.{AsksServing, Filed, FiledFor, asks, filed_within}, Tests.{forces_in, with_ids}}
 use Rattle.clause_prune.proofs.Files.{filed_serves}
 
 any_same : (p q : List ℕ → Bool) (cs : List (List ℕ)) → ((c : List ℕ) → In c cs → p c ≡ q c) → list_any p cs ≡ list_any q cs

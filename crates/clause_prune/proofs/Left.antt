@@ -1,24 +1,17 @@
 -- One clause fewer among those that are left.
 use Rattle.std.proofs.Common.{◌≡◌, ℕ, zero, suc, ◌<◌, Bool, true, false, not, ◌||◌, cond, eqb, List, [], ◌∷◌, ◌++◌, length, refl, sym, ◌∙◌, ap, ap₂, subst, inl, inr, map, filter, slice_set, append_assoc, get_or, Result, Ok, Err, OnOk, Option, Some, None, eq-eqb, ne_eqb}
-use Rattle.std.specs.List.{find, list_any}
-use Rattle.std.specs.Prelude.{is_some}
-use Rattle.std.specs.Cmp.Lexicographic.{pointwise}
-use Rattle.std.proofs.lemmas.Bool.{cases_eq}
-use Rattle.std.proofs.lemmas.List.{get_or-map, map-append, set-get_or}
-use Rattle.clause_pool.specs.Interned.{Interned, IsIdOf, IsPool, OfPool, clause_at, clauses_at, ids_at, row_at}
-use Rattle.row_book.specs.Facing.{face, against_in}
-use Rattle.row_book.specs.Uses.{row_id}
-use Rattle.listed.specs.Lists.{In, here, there}
-use Rattle.clause_pool.specs.Lists.{InOrder}
-use Rattle.listed.proofs.Lists.{filter_cases}
-use Rattle.clause_pool.proofs.Order.{order_filter}
-use Rattle.row_book.specs.Repository.{Repository, clauses_of}
+use Rattle.std.proofs.{lemmas.Bool.{cases_eq}, lemmas.List.{get_or-map, map-append, set-get_or}}
+use Rattle.std.specs.{List.{find, list_any}, Prelude.{is_some}, Cmp.Lexicographic.{pointwise}}
+use Rattle.clause_pool.specs.{Interned.{Interned, IsIdOf, IsPool, OfPool, clause_at, clauses_at, ids_at, row_at}, Lists.{InOrder}}
+use Rattle.row_book.specs.{Facing.{face, against_in}, Uses.{row_id}, Repository.{Repository, clauses_of}}
 use Rattle.row_book.specs.Pruning.{made_dead, IdleClause, prune_clause, prune_clauses, is_forced, is_idle, others, is_dead, prune_package, step_by, with_clauses, without_clause}
 use Rattle.row_book.specs.Rounds.{IdleStep, RoundStep}
+use Rattle.listed.specs.Lists.{In, here, there}
+use Rattle.listed.proofs.Lists.{filter_cases}
+use Rattle.clause_pool.proofs.Order.{order_filter}
 use Rattle.row_book.proofs.Repositories.{repository_same}
 use Rattle.clause_prune.specs.Tests.{ids_without, with_ids, repository_in}
-use Rattle.clause_prune.proofs.Lifted.{any_found}
-use Rattle.clause_prune.proofs.Passing.{left_own, other_id, same_id}
+use Rattle.clause_prune.proofs.{Lifted.{any_found}, Passing.{left_own, other_id, same_id}}
 
 set_twice : {A : Type 0} (xs : List A) (i : ℕ) (a b : A) → slice_set (slice_set xs i a) i b ≡ slice_set xs i b
 set_twice [] i a b = refl

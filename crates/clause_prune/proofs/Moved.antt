@@ -1,7 +1,7 @@
 -- One id less among ids, where those before it move up by one place.
 use Rattle.std.proofs.Common.{◌≡◌, ℕ, suc, ◌<◌, ◌+◌, ◌-◌, List, ◌++◌, length, take, drop, append_assoc, sym, ◌∙◌, ap, arith}
-use Rattle.std.specs.List.{copy_within}
 use Rattle.std.proofs.lemmas.List.{drop-append-le, drop-drop, drop_all, length-take-le}
+use Rattle.std.specs.List.{copy_within}
 use lib.Seq.{paste}
 
 pub moved_up : (xs new : List ℕ) (g p : ℕ) → g + p < length xs → new ≡ copy_within xs g (g + p) (g + 1) → drop (g + 1) new ≡ take p (drop g xs) ++ drop (suc p) (drop g xs)

@@ -2,24 +2,15 @@
 use Rattle.std.proofs.Common.{◌≡◌, ℕ, zero, suc, ◌<◌, ◌+◌, List, [], ◌∷◌, ◌++◌, length, ◌⊎◌, inl, inr, refl, sym, ◌∙◌, ap, ap₂, subst, arith, map, slice_set, append_assoc, append-nil, length-set}
 use Rattle.std.proofs.lemmas.List.{length-map, map-append, get_or-map}
 use Rattle.clause_pool.specs.Interned.{Interned, IsPool, Kept, row_at}
-use Rattle.clause_pool.proofs.Interned.{kept_same}
-use Rattle.row_book.specs.declared.book.Book.{Book}
-use Rattle.row_book.specs.declared.trail.Step.{Step}
-use Rattle.row_book.specs.declared.trail.Step.TheVariants.{Flat, Idle, Merge}
-use Rattle.listed.specs.Lists.{In, here, there}
-use Rattle.row_book.specs.Numbers.{numbers}
-use Rattle.row_book.specs.Book.{repository_of, RowsFit, RowsTidy, Sound, listed_for}
-use Rattle.row_book.proofs.BookRepositories.{sound_book, tidy_repository}
-use Rattle.row_book.specs.Repository.{Repository, clauses_of}
-use Rattle.row_book.specs.Sound.{SoundRepository, TidyRepository}
-use Rattle.row_book.specs.Uses.{row_id}
-use Rattle.row_book.specs.Pruning.{IdleClause, idle_steps, prune_package, prune, prune_over, with_clauses}
-use Rattle.row_book.specs.Rounds.{IdleStep, RoundStep}
+use Rattle.clause_pool.proofs.{Interned.{kept_same}, Lists.{In_place}, Carried.{rows_stay}}
+use Rattle.row_book.specs.{declared.book.Book.{Book}, declared.trail.Step.{Step}, declared.trail.Step.TheVariants.{Flat, Idle, Merge}, Numbers.{numbers}}
+use Rattle.row_book.specs.{Book.{repository_of, RowsFit, RowsTidy, Sound, listed_for}, Repository.{Repository, clauses_of}}
+use Rattle.row_book.specs.{Sound.{SoundRepository, TidyRepository}, Uses.{row_id}}
+use Rattle.row_book.specs.{Pruning.{IdleClause, idle_steps, prune_package, prune, prune_over, with_clauses}, Rounds.{IdleStep, RoundStep}}
 use Rattle.row_book.specs.Trail.{trail_meaning, step_meaning}
+use Rattle.listed.specs.Lists.{In, here, there}
+use Rattle.row_book.proofs.{BookRepositories.{sound_book, tidy_repository}, Repositories.{between, repository_same}}
 use Rattle.listed.proofs.Lists.{In_cases, In_has}
-use Rattle.row_book.proofs.Repositories.{between, repository_same}
-use Rattle.clause_pool.proofs.Lists.{In_place}
-use Rattle.clause_pool.proofs.Carried.{rows_stay}
 use Rattle.clause_prune.specs.Tests.{repository_in}
 use Rattle.clause_prune.proofs.Dropping.{package_step, prune_is_tidy_lem}
 

@@ -1,19 +1,14 @@
 -- What some clause of a row passes, and what none does.
 use Rattle.std.proofs.Common.{◌≡◌, ℕ, zero, suc, ◌<◌, Bool, true, false, not, ◌&&◌, ◌||◌, cond, eqb, List, [], ◌∷◌, length, get_or, refl, sym, ◌∙◌, ap, ap₂, subst, inl, inr, arith, map, Some, None, length-set}
-use Rattle.std.specs.List.{find, list_all, list_any, filter}
-use Rattle.std.specs.Cmp.Lexicographic.{pointwise}
 use Rattle.std.proofs.lemmas.Bool.{and_from, both_ways, cases_Bool, false_from_ne_true, not_from_false, not_from_true, not-true, or_cases, or_left, or_right}
 use Rattle.std.proofs.lemmas.List.{get_or-set_same, length-map}
-use Rattle.listed.proofs.Bools.{same_bool}
+use Rattle.std.specs.{List.{find, list_all, list_any, filter}, Cmp.Lexicographic.{pointwise}}
+use Rattle.listed.proofs.{Bools.{same_bool}, Lists.{In_has, In_map, all_at, all_from, all_same, has_In}}
 use Rattle.clause_pool.specs.Interned.{Interned, IsPool, clause_at, clauses_at, row_at}
 use Rattle.listed.specs.Lists.{In, has, is_inside}
-use Rattle.row_book.specs.Book.{listed_for}
-use Rattle.row_book.specs.Flattening.{packages}
-use Rattle.row_book.specs.Repository.{Repository, against, clauses_of}
-use Rattle.listed.proofs.Lists.{In_has, In_map, all_at, all_from, all_same, has_In}
+use Rattle.row_book.specs.{Book.{listed_for}, Flattening.{packages}, Repository.{Repository, against, clauses_of}}
+use Rattle.row_book.specs.{Pruning.{is_forced, is_harmless, is_idle, is_hit_anyway, serves}, Facing.{against_in}}
 use Rattle.row_book.proofs.Repositories.{in_packages, numbers_test, same_numbers}
-use Rattle.row_book.specs.Pruning.{is_forced, is_harmless, is_idle, is_hit_anyway, serves}
-use Rattle.row_book.specs.Facing.{against_in}
 use Rattle.clause_prune.specs.Tests.{forces_in, harmless_in, with_ids, hit_anyway_in}
 
 -- the clauses in what is left

@@ -1,15 +1,11 @@
 -- for the bodies of this crate alone
 -- Which packages see to it that a clause is hit: those that are filed under one of its members with a clause that lies within
 -- it. A package that does so without being a member has such a clause, whose first number is a member.
-use Rattle.std.specs.Prelude.{◌≡◌, ◌<◌, ◌%◌, ◌⊎◌, ◌&&◌, ◌||◌, ℕ, Bool, true, eqb, List, [], ◌∷◌, length, map, slice_index_or}
-use Rattle.std.specs.List.{list_any}
-use Rattle.std.specs.Global.{Vec}
+use Rattle.std.specs.{Prelude.{◌≡◌, ◌<◌, ◌%◌, ◌⊎◌, ◌&&◌, ◌||◌, ℕ, Bool, true, eqb, List, [], ◌∷◌, length, map, slice_index_or}, List.{list_any}, Global.{Vec}}
 use Rattle.clause_pool.specs.Interned.{Interned, clause_at}
 use Rattle.listed.specs.Lists.{In, has, is_inside}
-use Rattle.row_book.specs.Repository.{Repository, clauses_of}
-use Rattle.row_book.specs.Pruning.{serves}
-use Rattle.clause_prune.specs.Tests.{with_ids}
-use Rattle.clause_prune.specs.declared.filing.Entry.{Entry}
+use Rattle.row_book.specs.{Repository.{Repository, clauses_of}, Pruning.{serves}}
+use Rattle.clause_prune.specs.{Tests.{with_ids}, declared.filing.Entry.{Entry}}
 
 -- the packages that are asked about every clause, and lists of packages with clauses that they have
 pub record Filed : Type 0 where

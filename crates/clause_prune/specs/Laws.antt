@@ -1,10 +1,8 @@
 -- The laws of pruning, of each single step in the repository as it is left at that moment, and of the whole.
 use Rattle.std.specs.Prelude.{◌≡◌, ℕ, true, List, [], length, ◌⊎◌, ◌↔◌}
-use Rattle.row_book.specs.Sets.{NumSet}
-use Rattle.listed.specs.Lists.{In}
-use Rattle.row_book.specs.Repository.{Repository, Coinst, Healthy, clauses_of}
-use Rattle.row_book.specs.Sound.{TidyRepository}
+use Rattle.row_book.specs.{Sets.{NumSet}, Repository.{Repository, Coinst, Healthy, clauses_of}, Sound.{TidyRepository}}
 use Rattle.row_book.specs.Pruning.{is_dead, with_empty_clause, without_clause, is_forced, is_idle, lift_idle, prune, idle_steps, lift_all}
+use Rattle.listed.specs.Lists.{In}
 
 -- with the empty clause alone for a dead package the healthy sets are the same
 abbrev pub DeadKeeps : Type 0

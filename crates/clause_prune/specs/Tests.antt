@@ -1,13 +1,9 @@
 -- for the bodies of this crate alone
 -- The tests of pruning over a pool, a table of conflicts, and the rows as they are left.
-use Rattle.std.specs.Prelude.{ℕ, Bool, not, ◌&&◌, ◌||◌, eqb, List, [], filter, map, slice_set}
-use Rattle.std.specs.List.{list_all, list_any}
-use Rattle.std.specs.Cmp.Lexicographic.{pointwise}
+use Rattle.std.specs.{Prelude.{ℕ, Bool, not, ◌&&◌, ◌||◌, eqb, List, [], filter, map, slice_set}, List.{list_all, list_any}, Cmp.Lexicographic.{pointwise}}
 use Rattle.listed.specs.Lists.{is_inside, has}
-use Rattle.row_book.specs.Pruning.{serves}
+use Rattle.row_book.specs.{Pruning.{serves}, Repository.{Repository}, Facing.{against_in}}
 use Rattle.clause_pool.specs.Interned.{Interned, clauses_at, row_at}
-use Rattle.row_book.specs.Repository.{Repository}
-use Rattle.row_book.specs.Facing.{against_in}
 
 -- the rows with the clauses of these ids for a package
 abbrev pub with_ids : Interned → List ℕ → ℕ → List ℕ → List (List ℕ) → Repository

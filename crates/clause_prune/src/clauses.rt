@@ -1,15 +1,10 @@
 //! Pruning of the clauses of one package.
 ghost use Rattle.std.specs.Prelude.{◌≡◌, ◌<◌, ◌≤◌, ◌++◌, [], ℕ, IfOk, List, OnOk, length, map, true};
-ghost use Rattle.clause_pool.specs.Interned.{clause_at, clauses_at, OfPool};
+ghost use Rattle.clause_pool.specs.{Interned.{clause_at, clauses_at, OfPool}, Lists.{InOrder}};
 ghost use Rattle.listed.specs.Lists.{In, Ascending};
-ghost use Rattle.clause_pool.specs.Lists.{InOrder};
-ghost use Rattle.row_book.specs.Book.{listed_for, RowsFit};
-ghost use Rattle.row_book.specs.Repository.{Repository};
-ghost use Rattle.row_book.specs.Pruning.{prune_clause, prune_clauses};
-ghost use Rattle.row_book.specs.Rounds.{IdleStep, RoundStep};
+ghost use Rattle.row_book.specs.{Book.{listed_for, RowsFit}, Repository.{Repository}, Pruning.{prune_clause, prune_clauses}, Rounds.{IdleStep, RoundStep}};
 ghost use Rattle.row_book.specs.Trail.{trail_meaning};
-ghost use Rattle.clause_prune.specs.Filing.{AsksServing, FiledFor};
-ghost use Rattle.clause_prune.specs.Tests.{with_ids};
+ghost use Rattle.clause_prune.specs.{Filing.{AsksServing, FiledFor}, Tests.{with_ids}};
 
 use crate::filing::Filed;
 use crate::forced::is_forced;

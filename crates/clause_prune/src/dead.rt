@@ -2,13 +2,10 @@
 //!
 //! A dead package gets the empty clause, which conflicts as a whole with everything. So thinning drops its conflicts, and all
 //! dead packages become one class.
-ghost use Rattle.std.specs.Prelude.{◌≡◌, ◌∷◌, [], ℕ, IfOk};
-ghost use Rattle.std.specs.List.{list_any};
-ghost use Rattle.clause_pool.specs.Interned.{clauses_at, IsPool, OfPool};
-ghost use Rattle.row_book.specs.Book.{listed_for};
+ghost use Rattle.std.specs.{Prelude.{◌≡◌, ◌∷◌, [], ℕ, IfOk}, List.{list_any}};
+ghost use Rattle.clause_pool.specs.{Interned.{clauses_at, IsPool, OfPool}, Lists.{InOrder}};
+ghost use Rattle.row_book.specs.{Book.{listed_for}, Facing.{against_in, all_against, face}};
 ghost use Rattle.listed.specs.Lists.{Ascending};
-ghost use Rattle.clause_pool.specs.Lists.{InOrder};
-ghost use Rattle.row_book.specs.Facing.{against_in, all_against, face};
 
 use clause_pool::{ClauseId, NumList, Pool, has_side_within};
 use row_book::common_conflicts;

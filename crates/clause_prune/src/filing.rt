@@ -3,13 +3,10 @@
 //! As in tests of one clause against many for inclusion (forward subsumption), each clause of a member is kept under its first
 //! number with the package that has it. A question about a clause then looks at the clauses that begin with one of its
 //! numbers, and at no whole row. Most of those that are looked at lie within it, so that no filter stands before the look.
-ghost use Rattle.std.specs.Prelude.{◌≡◌, ◌<◌, ◌≤◌, ◌∷◌, ◌%◌, ◌||◌, [], ℕ, IfOk, List, OnOk, length, slice_index_or};
-ghost use Rattle.std.specs.Bool.{OnFalse};
-ghost use Rattle.clause_pool.specs.Interned.{clause_at, clauses_at, OfPool};
+ghost use Rattle.std.specs.{Prelude.{◌≡◌, ◌<◌, ◌≤◌, ◌∷◌, ◌%◌, ◌||◌, [], ℕ, IfOk, List, OnOk, length, slice_index_or}, Bool.{OnFalse}};
+ghost use Rattle.clause_pool.specs.{Interned.{clause_at, clauses_at, OfPool}, Lists.{InOrder}};
 ghost use Rattle.listed.specs.Lists.{has, In, Ascending};
-ghost use Rattle.clause_pool.specs.Lists.{InOrder};
-ghost use Rattle.row_book.specs.Book.{RowsFit};
-ghost use Rattle.row_book.specs.Repository.{clauses_of};
+ghost use Rattle.row_book.specs.{Book.{RowsFit}, Repository.{clauses_of}};
 ghost use Rattle.clause_prune.specs.Filing.{entries_at, entries_in, filed_in, filed_within, tell_within, under, AreOfPool, AsksServing, FiledFor, Gains, IsFiled, Takes};
 ghost use Rattle.clause_prune.specs.Tests.{with_ids};
 

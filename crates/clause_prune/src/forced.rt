@@ -1,14 +1,9 @@
 //! Whether a clause is hit as soon as the others are.
 ghost use Rattle.std.specs.Prelude.{◌≡◌, ◌<◌, ◌||◌, ◌++◌, [], ℕ, IfOk, filter, length, true};
-ghost use Rattle.clause_pool.specs.Interned.{clause_at, clauses_at, OfPool};
+ghost use Rattle.clause_pool.specs.{Interned.{clause_at, clauses_at, OfPool}, Lists.{InOrder}};
 ghost use Rattle.listed.specs.Lists.{has, In, Ascending};
-ghost use Rattle.clause_pool.specs.Lists.{InOrder};
-ghost use Rattle.row_book.specs.Book.{RowsFit};
-ghost use Rattle.row_book.specs.Repository.{clauses_of};
-ghost use Rattle.row_book.specs.Uses.{IsListOf};
-ghost use Rattle.row_book.specs.Pruning.{is_forced, serves};
-ghost use Rattle.clause_prune.specs.Filing.{filed_within, AsksServing, FiledFor};
-ghost use Rattle.clause_prune.specs.Tests.{with_ids};
+ghost use Rattle.row_book.specs.{Book.{RowsFit}, Repository.{clauses_of}, Uses.{IsListOf}, Pruning.{is_forced, serves}};
+ghost use Rattle.clause_prune.specs.{Filing.{filed_within, AsksServing, FiledFor}, Tests.{with_ids}};
 
 use crate::filing::Filed;
 use clause_pool::{ClauseId, Pool, RowId, has_side_within, has_within};

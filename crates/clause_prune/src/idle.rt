@@ -2,15 +2,11 @@
 //!
 //! A clause is idle by a member if that member can be put in wherever the package is: what conflicts with it is out anyway, and
 //! its clauses are hit anyway. So the clause decides nothing.
-ghost use Rattle.std.specs.Prelude.{◌≡◌, ◌<◌, ◌&&◌, ◌||◌, [], ℕ, List, eqb, filter, length, not};
-ghost use Rattle.std.specs.Cmp.Lexicographic.{pointwise};
+ghost use Rattle.std.specs.{Prelude.{◌≡◌, ◌<◌, ◌&&◌, ◌||◌, [], ℕ, List, eqb, filter, length, not}, Cmp.Lexicographic.{pointwise}};
 ghost use Rattle.std.specs.List.{find, list_all, list_any};
-ghost use Rattle.clause_pool.specs.Interned.{clause_at, clauses_at, OfPool, IsPool};
+ghost use Rattle.clause_pool.specs.{Interned.{clause_at, clauses_at, OfPool, IsPool}, Lists.{InOrder}};
 ghost use Rattle.listed.specs.Lists.{has, In, Ascending};
-ghost use Rattle.clause_pool.specs.Lists.{InOrder};
-ghost use Rattle.row_book.specs.Book.{listed_for, RowsFit};
-ghost use Rattle.row_book.specs.Pruning.{is_idle};
-ghost use Rattle.row_book.specs.Facing.{against_in};
+ghost use Rattle.row_book.specs.{Book.{listed_for, RowsFit}, Pruning.{is_idle}, Facing.{against_in}};
 ghost use Rattle.clause_prune.specs.Tests.{excludes_in, harmless_in, includes_in, with_ids, hit_anyway_in};
 
 use crate::forced::clauses_of;

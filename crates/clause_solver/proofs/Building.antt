@@ -1,14 +1,10 @@
 -- The table of sentences, as it is made.
 use Rattle.std.proofs.Common.{◌≡◌, ℕ, ◌+◌, ◌*◌, ◌<◌, List, [], ◌∷◌, ◌++◌, ◌⊎◌, ◌≤◌, length, get_or, set, take, refl, ap, sym, ◌∙◌, arith, inl, inr, subst}
-use Rattle.std.specs.Prelude.{All, Contains}
-use Rattle.std.proofs.lemmas.Bool.{cases_eq}
-use Rattle.std.proofs.lemmas.List.{get_or_default, take_all, length-set, get_or-set_same, get_or-set_other}
+use Rattle.std.proofs.{lemmas.Bool.{cases_eq}, lemmas.List.{get_or_default, take_all, length-set, get_or-set_same, get_or-set_other}}
 use Rattle.std.proofs.lemmas.List.Elements.{All-contains, All-more, Contains-push, Contains-append_left, Contains-push_cases, Contains-get_or}
-use Rattle.search_terms.specs.declared.literals.Literal.{Literal}
-use Rattle.search_terms.specs.Closure.{negation}
-use Rattle.search_terms.specs.Marks.{flag_place}
-use Rattle.clause_solver.specs.Engine.{Contradicts, Enters, IsTable, IsUse, IsUseOf, Names}
-use Rattle.clause_solver.specs.declared.table.Use.{Use}
+use Rattle.std.specs.Prelude.{All, Contains}
+use Rattle.search_terms.specs.{declared.literals.Literal.{Literal}, Closure.{negation}, Marks.{flag_place}}
+use Rattle.clause_solver.specs.{Engine.{Contradicts, Enters, IsTable, IsUse, IsUseOf, Names}, declared.table.Use.{Use}}
 
 -- the sentence is entered for its first literals
 pub record EntersTo (old new : List (List Use)) (sentence : List Literal) (i k : ℕ) : Type 0 where

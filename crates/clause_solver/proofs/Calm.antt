@@ -1,40 +1,24 @@
 -- Levels at which nothing clashes.
 use Rattle.std.proofs.Common.{◌≡◌, ℕ, ◌<◌, ◌≤◌, Bool, true, false, not, ◌||◌, List, [], ◌∷◌, ◌++◌, ◌⊎◌, length, get_or, take, refl, ap, sym, ◌∙◌, arith, inl, inr, Some, None, Option, subst, append_assoc}
-use Rattle.std.specs.Prelude.{All, Contains}
-use Rattle.std.specs.List.{find}
-use Rattle.std.proofs.lemmas.Bool.{and_parts, and_from, or_right, or_cases, not-true, false_from_ne_true, cases_lt}
-use Rattle.std.proofs.Math.ListN.{get_or-eq_default}
+use Rattle.std.proofs.{lemmas.Bool.{and_parts, and_from, or_right, or_cases, not-true, false_from_ne_true, cases_lt}, Math.ListN.{get_or-eq_default}}
+use Rattle.std.proofs.lemmas.List.Elements.{All-contains, All-nil, All-cons, All-append, Contains-append_left, Contains-append_right, Contains-push, Contains-get_or}
+use Rattle.std.proofs.{lemmas.List.Folds.{Any-from_list_any, list_any-from_Any}, lemmas.List.{take_at}}
+use Rattle.std.proofs.lemmas.List.FromFn.{get_or-map-range_with_len, length-map-range_with_len}
+use Rattle.std.specs.{Prelude.{All, Contains}, List.{find}}
 use Rattle.listed.specs.Lists.{In}
 use Rattle.row_book.specs.Book.{listed_for}
 use Rattle.listed.proofs.Lists.{In_none, contains_in, in_contains, all_at}
-use Rattle.std.proofs.lemmas.List.Elements.{All-contains, All-nil, All-cons, All-append, Contains-append_left, Contains-append_right, Contains-push, Contains-get_or}
-use Rattle.std.proofs.lemmas.List.Folds.{Any-from_list_any, list_any-from_Any}
-use Rattle.std.proofs.lemmas.List.{take_at}
-use Rattle.std.proofs.lemmas.List.FromFn.{get_or-map-range_with_len, length-map-range_with_len}
 use Rattle.search_terms.specs.declared.literals.Literal.{Literal}
 use Rattle.search_terms.specs.Closure.{literal, negation, is_same, forces, is_refuted, IsClosedUnder, IsUnitClosed, IsClosure, InClosure, Clashes, InRange}
-use Rattle.search_terms.specs.Marks.{IsConsistent, HasClash, classes_left, true_classes}
-use Rattle.search_terms.specs.Form.{owned_sentences, conflict_sentence}
+use Rattle.search_terms.specs.{Marks.{IsConsistent, HasClash, classes_left, true_classes}, Form.{owned_sentences, conflict_sentence}}
 use Rattle.search_terms.specs.Tree.{is_open_need, is_undecided, IsFoundLeaf, IsSplit}
-use Rattle.search_terms.proofs.Forms.{from_owned_sentences}
-use Rattle.search_terms.proofs.Sets.{forces_mono, Contains-head, Contains-tail}
-use Rattle.search_terms.proofs.Trees.{open_has_member, found_leaf_of, split_of}
-use Rattle.search_terms.proofs.Least.{closure_more}
-use Rattle.search_terms.proofs.Models.{same-true}
-use Rattle.clause_solver.specs.Solvers.{AreApart}
-use Rattle.clause_solver.specs.Marking.{set_of_trail}
-use Rattle.clause_solver.specs.Running.{HasRefuted, Runs, Waits}
-use Rattle.clause_solver.specs.declared.table.Use.{Use}
-use Rattle.clause_solver.specs.Engine.{whole_form, IsEngine}
-use Rattle.clause_solver.specs.Levels.{CalmAt, IsLayered, IsFallen, IsToAssume}
-use Rattle.clause_solver.specs.Levels.IsLayered.{at_root, level}
-use Rattle.clause_solver.specs.Levels.IsFallen.{nowhere, below}
-use Rattle.clause_solver.specs.Nodes.{AreFull, HaveNegative}
-use Rattle.clause_solver.proofs.Trails.{among_last, among_before, among_cases}
-use Rattle.clause_solver.proofs.Running.{among_more, waits_grow, closed_part}
-use Rattle.clause_solver.proofs.Drains.{whole_cases, IsPairOf, at_zero}
-use Rattle.clause_solver.proofs.Openings.{find_behind, find_front}
-use Rattle.clause_solver.proofs.Stacking.{snoc_same}
+use Rattle.search_terms.proofs.{Forms.{from_owned_sentences}, Sets.{forces_mono, Contains-head, Contains-tail}}
+use Rattle.search_terms.proofs.{Trees.{open_has_member, found_leaf_of, split_of}, Least.{closure_more}, Models.{same-true}}
+use Rattle.clause_solver.specs.{Solvers.{AreApart}, Marking.{set_of_trail}, Running.{HasRefuted, Runs, Waits}, declared.table.Use.{Use}}
+use Rattle.clause_solver.specs.{Engine.{whole_form, IsEngine}, Levels.{CalmAt, IsLayered, IsFallen, IsToAssume}, Levels.IsLayered.{at_root, level}}
+use Rattle.clause_solver.specs.{Levels.IsFallen.{nowhere, below}, Nodes.{AreFull, HaveNegative}}
+use Rattle.clause_solver.proofs.{Trails.{among_last, among_before, among_cases}, Running.{among_more, waits_grow, closed_part}}
+use Rattle.clause_solver.proofs.{Drains.{whole_cases, IsPairOf, at_zero}, Openings.{find_behind, find_front}, Stacking.{snoc_same}}
 
 -- the closure is closed
 pub closure_closed : (F : List (List Literal)) (given : List Literal) (set : Literal → Bool) → IsClosure F given set → IsUnitClosed F set

@@ -1,17 +1,10 @@
 -- Going on to the next part of the tree.
 use Rattle.std.proofs.Common.{◌≡◌, ℕ, zero, suc, ◌+◌, ◌<◌, ◌≤◌, Bool, true, false, List, [], ◌∷◌, ◌++◌, length, take, refl, ap, sym, ◌∙◌, arith, subst}
-use Rattle.std.specs.Prelude.{All}
-use Rattle.std.specs.Bool.{OnTrue, OnFalse}
-use Rattle.std.proofs.lemmas.List.{length_push}
-use Rattle.std.proofs.lemmas.List.Elements.{All-contains, All-push, Contains-push}
-use Rattle.search_terms.specs.declared.literals.Literal.{Literal}
-use Rattle.search_terms.specs.Closure.{literal, Clashes}
-use Rattle.search_terms.specs.Tree.{is_undecided}
-use Rattle.search_terms.specs.Marks.{classes_left}
-use Rattle.clause_solver.specs.Marking.{set_of_trail}
-use Rattle.clause_solver.specs.Levels.{IsLayered, IsFallen, IsToAssume, CalmAt, IsAt}
-use Rattle.clause_solver.proofs.Stacking.{snoc_same, range_front}
-use Rattle.clause_solver.proofs.Calm.{pop_of, undecided_negation, calm_of, ready_level, ready_fallen}
+use Rattle.std.proofs.{lemmas.List.{length_push}, lemmas.List.Elements.{All-contains, All-push, Contains-push}}
+use Rattle.std.specs.{Prelude.{All}, Bool.{OnTrue, OnFalse}}
+use Rattle.search_terms.specs.{declared.literals.Literal.{Literal}, Closure.{literal, Clashes}, Tree.{is_undecided}, Marks.{classes_left}}
+use Rattle.clause_solver.specs.{Marking.{set_of_trail}, Levels.{IsLayered, IsFallen, IsToAssume, CalmAt, IsAt}}
+use Rattle.clause_solver.proofs.{Stacking.{snoc_same, range_front}, Calm.{pop_of, undecided_negation, calm_of, ready_level, ready_fallen}}
 
 pub record IsUnder (F : List (List Literal)) (rest : List Literal) (l : Literal) (lower : List ℕ) (h : ℕ) (trail : List Literal) : Type 0 where
   pub within : h ≤ length trail

@@ -1,26 +1,17 @@
 -- Looking at all that a mark contradicts, and at all marks.
 use Rattle.std.proofs.Common.{◌≡◌, ℕ, zero, suc, ◌+◌, ◌<◌, ◌≤◌, Bool, true, false, not, List, [], ◌∷◌, ◌++◌, ◌⊎◌, length, get_or, drop, ap, sym, ◌∙◌, arith, inl, inr, subst}
-use Rattle.std.specs.Prelude.{All, Contains, map}
-use Rattle.std.proofs.lemmas.Bool.{false_from_ne_true}
-use Rattle.std.proofs.lemmas.List.{get_or_default}
+use Rattle.std.proofs.{lemmas.Bool.{false_from_ne_true}, lemmas.List.{get_or_default}}
 use Rattle.std.proofs.lemmas.List.Elements.{All-contains, Contains-append_left, Contains-append_right, Contains-append_cases, Contains-get_or}
-use Rattle.std.proofs.Math.Seq.{drop-cons}
-use Rattle.std.proofs.Math.Numerals.{add-one}
+use Rattle.std.proofs.{Math.Seq.{drop-cons}, Math.Numerals.{add-one}}
+use Rattle.std.specs.Prelude.{All, Contains, map}
 use Rattle.listed.proofs.Lists.{contains_in, in_contains, In_cases, In_none}
 use Rattle.listed.specs.Lists.{In}
 use Rattle.row_book.specs.Book.{listed_for}
-use Rattle.search_terms.specs.declared.literals.Literal.{Literal}
-use Rattle.search_terms.specs.Closure.{literal, negation, IsClosedUnder, IsUnitClosed}
-use Rattle.search_terms.specs.Marks.{flag_place, IsConsistent}
+use Rattle.search_terms.specs.{declared.literals.Literal.{Literal}, Closure.{literal, negation, IsClosedUnder, IsUnitClosed}, Marks.{flag_place, IsConsistent}}
 use Rattle.search_terms.specs.Form.{owned_sentences, conflict_sentence}
-use Rattle.search_terms.proofs.Sets.{Contains-head, Contains-tail}
-use Rattle.search_terms.proofs.Forms.{from_map, in_owned_sentences, from_owned_sentences}
-use Rattle.search_terms.proofs.Certificates.{negation_twice}
-use Rattle.clause_solver.specs.Marking.{set_of_trail}
-use Rattle.clause_solver.specs.Running.{HasRefuted, Runs, Waits}
-use Rattle.clause_solver.specs.Engine.{whole_form, Names, IsTable, IsEngine}
-use Rattle.clause_solver.specs.declared.table.Use.{Use}
-use Rattle.clause_solver.specs.Nodes.{ArePositive}
+use Rattle.search_terms.proofs.{Sets.{Contains-head, Contains-tail}, Forms.{from_map, in_owned_sentences, from_owned_sentences}, Certificates.{negation_twice}}
+use Rattle.clause_solver.specs.{Marking.{set_of_trail}, Running.{HasRefuted, Runs, Waits}, Engine.{whole_form, Names, IsTable, IsEngine}}
+use Rattle.clause_solver.specs.{declared.table.Use.{Use}, Nodes.{ArePositive}}
 use Rattle.clause_solver.proofs.Running.{met_by, runs_longer, waits_grow, waits_after}
 
 pub whole_goals : (goals own : List (List Literal)) (conflicts : List (List ℕ)) (s : List Literal) → Contains goals s → Contains (whole_form goals own conflicts) s

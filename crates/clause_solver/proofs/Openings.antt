@@ -1,19 +1,11 @@
 -- The first open need.
 use Rattle.std.proofs.Common.{◌≡◌, ℕ, zero, suc, ◌+◌, ◌<◌, ◌≤◌, Bool, true, false, not, cond, List, [], ◌∷◌, ◌++◌, ◌⊎◌, length, get_or, take, refl, ap, sym, ◌∙◌, arith, inl, inr, Some, None, subst}
-use Rattle.std.specs.Prelude.{All, Contains, slice_get}
-use Rattle.std.specs.List.{find}
-use Rattle.std.proofs.lemmas.Bool.{cases_Bool, both_ways, false_from_ne_true}
-use Rattle.std.proofs.lemmas.List.{take_all}
+use Rattle.std.proofs.{lemmas.Bool.{cases_Bool, both_ways, false_from_ne_true}, lemmas.List.{take_all}}
 use Rattle.std.proofs.lemmas.List.Elements.{All-contains, All-more, Contains-get_or}
+use Rattle.std.specs.{Prelude.{All, Contains, slice_get}, List.{find}}
 use Rattle.listed.proofs.Lists.{contains_in, all_at}
-use Rattle.search_terms.specs.declared.literals.Literal.{Literal}
-use Rattle.search_terms.specs.Closure.{literal, negation}
-use Rattle.search_terms.specs.Marks.{flag_place}
-use Rattle.search_terms.specs.Tree.{is_open_need}
-use Rattle.clause_solver.specs.Marking.{set_of_trail}
-use Rattle.clause_solver.specs.Engine.{IsTable}
-use Rattle.clause_solver.specs.Nodes.{HaveNegative, IsLeastOpen}
-use Rattle.clause_solver.specs.declared.table.Use.{Use}
+use Rattle.search_terms.specs.{declared.literals.Literal.{Literal}, Closure.{literal, negation}, Marks.{flag_place}, Tree.{is_open_need}}
+use Rattle.clause_solver.specs.{Marking.{set_of_trail}, Engine.{IsTable}, Nodes.{HaveNegative, IsLeastOpen}, declared.table.Use.{Use}}
 use Rattle.clause_solver.proofs.Running.{among_contains}
 
 abbrev pub at : List (List Literal) → ℕ → List Literal

@@ -1,41 +1,23 @@
 -- What a solver of a sound book holds, and what an answer tells by itself.
 use Rattle.std.proofs.Common.{◌≡◌, ℕ, ◌+◌, ◌<◌, ◌≤◌, ◌^◌, Bool, true, false, List, [], ◌∷◌, length, get_or, refl, ap, sym, ◌∙◌, arith, inl, inr, subst, Some}
+use Rattle.std.proofs.{lemmas.Bool.{both_ways}, lemmas.List.{get_or_default}, lemmas.List.Elements.{All-nil, All-weaker, Contains-get_or}}
 use Rattle.std.specs.Prelude.{All, Contains, map}
-use Rattle.std.proofs.lemmas.Bool.{both_ways}
-use Rattle.std.proofs.lemmas.List.{get_or_default}
-use Rattle.std.proofs.lemmas.List.Elements.{All-nil, All-weaker, Contains-get_or}
 use Rattle.listed.proofs.Lists.{contains_in, In_has}
 use Rattle.clause_pool.specs.Interned.{Interned, row_at}
 use Rattle.listed.specs.Lists.{In, has}
-use Rattle.row_book.specs.Repository.{Repository}
-use Rattle.row_book.specs.Book.{listed_for, Sound, AreConflicts, RowsFit, repository_of}
-use Rattle.row_book.specs.Needs.{AreNeeds, NeedsFit}
+use Rattle.row_book.specs.{Repository.{Repository}, Book.{listed_for, Sound, AreConflicts, RowsFit, repository_of}, Needs.{AreNeeds, NeedsFit}}
 use Rattle.row_book.specs.declared.book.Book.{Book}
-use Rattle.search_terms.specs.declared.literals.Literal.{Literal}
-use Rattle.search_terms.specs.Closure.{literal, negation, InRange, Clashes, InClosure}
-use Rattle.search_terms.specs.Form.{goal_sentence, clause_sentence, owned_sentences, form}
-use Rattle.search_terms.specs.Tree.{Tree, IsTree, failed_leaves, log_of}
-use Rattle.search_terms.specs.Marks.{true_classes}
-use Rattle.search_terms.proofs.Sets.{Contains-head}
-use Rattle.search_terms.proofs.Exists.{tree_exists, fails_whole, log_ranged}
-use Rattle.search_terms.proofs.Certificates.{tree_derives}
-use Rattle.search_terms.proofs.Found.{finds_healthy, found_long, derives_no_solution}
-use Rattle.search_terms.proofs.Forms.{from_map, from_owned_sentences}
-use Rattle.search_terms.proofs.Ranges.{own_ranged, goals_ranged, listed_in, other_way, form_ranged, rows_long}
+use Rattle.search_terms.specs.{declared.literals.Literal.{Literal}, Closure.{literal, negation, InRange, Clashes, InClosure}}
+use Rattle.search_terms.specs.{Form.{goal_sentence, clause_sentence, owned_sentences, form}, Tree.{Tree, IsTree, failed_leaves, log_of}, Marks.{true_classes}}
 use Rattle.search_terms.specs.declared.literals.Log.{Log}
-use Rattle.clause_solver.specs.declared.outcomes.Verdict.{Verdict}
-use Rattle.clause_solver.specs.declared.outcomes.Verdict.TheVariants.{Yes, No}
-use Rattle.clause_solver.specs.declared.outcomes.Outcome.{Outcome}
-use Rattle.clause_solver.specs.declared.outcomes.Outcome.TheVariants.{Found, Refuted, Spent}
-use Rattle.clause_solver.specs.Engine.{whole_form, IsTable, ConflictsFit, IsEngine}
-use Rattle.clause_solver.specs.declared.table.Use.{Use}
-use Rattle.clause_solver.specs.Nodes.{AreFull, ArePositive, HaveNegative}
-use Rattle.clause_solver.specs.Solvers.{AreApart}
-use Rattle.clause_solver.specs.Marking.{set_of_trail}
-use Rattle.clause_solver.specs.Verdicts.{IsSearchVerdict, Ends, EndsSearch}
-use Rattle.clause_solver.specs.Outcomes.{IsOutcomeOf, IsSearchOutcome, IsCertified, IsDecided}
-use Rattle.clause_solver.proofs.Running.{closed_part}
-use Rattle.clause_solver.proofs.Walking.{verdict_by}
+use Rattle.search_terms.proofs.{Sets.{Contains-head}, Exists.{tree_exists, fails_whole, log_ranged}, Certificates.{tree_derives}}
+use Rattle.search_terms.proofs.{Found.{finds_healthy, found_long, derives_no_solution}, Forms.{from_map, from_owned_sentences}}
+use Rattle.search_terms.proofs.Ranges.{own_ranged, goals_ranged, listed_in, other_way, form_ranged, rows_long}
+use Rattle.clause_solver.specs.{declared.outcomes.Verdict.{Verdict}, declared.outcomes.Verdict.TheVariants.{Yes, No}, declared.outcomes.Outcome.{Outcome}}
+use Rattle.clause_solver.specs.{declared.outcomes.Outcome.TheVariants.{Found, Refuted, Spent}, Engine.{whole_form, IsTable, ConflictsFit, IsEngine}}
+use Rattle.clause_solver.specs.{declared.table.Use.{Use}, Nodes.{AreFull, ArePositive, HaveNegative}, Solvers.{AreApart}, Marking.{set_of_trail}}
+use Rattle.clause_solver.specs.{Verdicts.{IsSearchVerdict, Ends, EndsSearch}, Outcomes.{IsOutcomeOf, IsSearchOutcome, IsCertified, IsDecided}}
+use Rattle.clause_solver.proofs.{Running.{closed_part}, Walking.{verdict_by}}
 
 pub own_negative : (clauses : List (List (List ℕ))) (own : List (List Literal)) → own ≡ owned_sentences clause_sentence 0 clauses → HaveNegative own
 own_negative clauses own e = rw e (λ k d lt. one (get_or (owned_sentences clause_sentence 0 clauses) k d) (Contains-get_or (owned_sentences clause_sentence 0 clauses) k d lt))

@@ -1,24 +1,16 @@
 -- Unit steps.
 use Rattle.std.proofs.Common.{◌≡◌, ℕ, zero, suc, ◌+◌, ◌<◌, ◌≤◌, Bool, true, false, not, ◌&&◌, ◌||◌, List, [], ◌∷◌, ◌++◌, ◌⊎◌, length, get_or, take, drop, refl, ap, sym, ◌∙◌, arith, inl, inr, Some, None, subst, append_assoc, append-nil}
-use Rattle.std.specs.Prelude.{All, Contains, map}
-use Rattle.std.specs.List.{find}
 use Rattle.std.proofs.lemmas.Bool.{or_cases, or_left, or_right, and_from, and_parts, both_ways, not-true, not-false, false_from_ne_true}
 use Rattle.std.proofs.lemmas.List.{length-append, take_all}
 use Rattle.std.proofs.lemmas.List.Elements.{All-contains, All-more, All-weaker, All-head, All-tail, Contains-append_left, Contains-append_right, Contains-append_cases, Contains-get_or}
-use Rattle.listed.proofs.Lists.{contains_in, in_contains, any_cases, any_from, In_at}
-use Rattle.listed.proofs.Bools.{cases_Option}
-use Rattle.search_terms.specs.Form.{conflict_sentence}
+use Rattle.std.specs.{Prelude.{All, Contains, map}, List.{find}}
+use Rattle.listed.proofs.{Lists.{contains_in, in_contains, any_cases, any_from, In_at}, Bools.{cases_Option}}
+use Rattle.search_terms.specs.{Form.{conflict_sentence}, declared.literals.Literal.{Literal}}
+use Rattle.search_terms.specs.{Closure.{literal, negation, is_same, forces, is_refuted, IsClosedUnder, IsUnitClosed}, Marks.{IsConsistent}}
 use Rattle.search_terms.proofs.Forms.{in_map}
-use Rattle.search_terms.specs.declared.literals.Literal.{Literal}
-use Rattle.search_terms.specs.Closure.{literal, negation, is_same, forces, is_refuted, IsClosedUnder, IsUnitClosed}
-use Rattle.search_terms.specs.Marks.{IsConsistent}
 pub use Rattle.search_terms.proofs.Lists.{item_at}
-use Rattle.search_terms.proofs.Sets.{find_some, find_none, forces_mono, Contains-head}
-use Rattle.search_terms.proofs.Models.{same-true}
-use Rattle.search_terms.proofs.Certificates.{same_refl}
-use Rattle.clause_solver.specs.Marking.{set_of_trail}
-use Rattle.clause_solver.specs.Running.{Runs, Waits}
-use Rattle.clause_solver.specs.declared.table.Use.{Use}
+use Rattle.search_terms.proofs.{Sets.{find_some, find_none, forces_mono, Contains-head}, Models.{same-true}, Certificates.{same_refl}}
+use Rattle.clause_solver.specs.{Marking.{set_of_trail}, Running.{Runs, Waits}, declared.table.Use.{Use}}
 use Rattle.clause_solver.proofs.Trails.{among_last, among_cases}
 
 pub among_contains : (trail : List Literal) (l : Literal) → set_of_trail trail l ≡ true → Contains trail l

@@ -1,15 +1,10 @@
 use Rattle.std.proofs.Common.{◌≡◌, ℕ, ◌+◌, ◌*◌, ◌-◌, ◌<◌, ◌≤◌, Bool, true, false, List, [], ◌∷◌, ◌++◌, refl, ap, sym, ◌∙◌, arith, Some, None, subst, append_assoc, zero-add}
-use Rattle.std.specs.Prelude.{map, All}
-use Rattle.std.specs.Prelude.{get_or}
 use Rattle.std.proofs.lemmas.List.Elements.{All-contains, Contains-append_left, Contains-get_or}
-use Rattle.search_terms.specs.declared.literals.Literal.{Literal}
-use Rattle.search_terms.specs.Closure.{literal, negation, Clashes}
-use Rattle.search_terms.specs.Tree.{Tree, IsTree, IsFoundLeaf, IsSplit, found_of, failed_leaves, log_of}
-use Rattle.search_terms.specs.Marks.{classes_left}
-use Rattle.search_terms.specs.Tree.Tree.{failed_leaf, split}
+use Rattle.std.specs.Prelude.{map, All, get_or}
+use Rattle.search_terms.specs.{declared.literals.Literal.{Literal}, Closure.{literal, negation, Clashes}}
+use Rattle.search_terms.specs.{Tree.{Tree, IsTree, IsFoundLeaf, IsSplit, found_of, failed_leaves, log_of}, Marks.{classes_left}, Tree.Tree.{failed_leaf, split}}
 use Rattle.clause_solver.specs.Standing.{Stands, signs, StandsIn, StandsPast}
-use Rattle.search_terms.proofs.Shapes.{fails_shape, meets_shape, splits_shape}
-use Rattle.search_terms.proofs.Computed.{left_most}
+use Rattle.search_terms.proofs.{Shapes.{fails_shape, meets_shape, splits_shape}, Computed.{left_most}}
 use Rattle.clause_solver.proofs.Standing.{stands_found, stands_fails, stands_down, stands_across, stands_is, stands_up_true, stands_up_false}
 
 pub snoc_same : {X : Type 0} (xs ys : List X) (x y : X) → xs ++ x ∷ [] ≡ ys ++ y ∷ [] → (xs ≡ ys) × (x ≡ y)

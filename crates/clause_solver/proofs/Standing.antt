@@ -1,9 +1,7 @@
 use Rattle.std.proofs.Common.{◌≡◌, ℕ, ◌+◌, ◌≤◌, Bool, true, false, List, [], ◌∷◌, ◌++◌, refl, ap, sym, ◌∙◌, arith, Some, None, append_assoc, append-nil}
-use Rattle.search_terms.specs.declared.literals.Literal.{Literal}
-use Rattle.search_terms.specs.Closure.{literal}
-use Rattle.search_terms.specs.Tree.{Tree, IsTree, found_of, failed_leaves, log_of}
-use Rattle.clause_solver.specs.Standing.{Stands}
+use Rattle.search_terms.specs.{declared.literals.Literal.{Literal}, Closure.{literal}, Tree.{Tree, IsTree, found_of, failed_leaves, log_of}}
 use Rattle.search_terms.specs.Tree.Tree.{failed_leaf, found_leaf, split}
+use Rattle.clause_solver.specs.Standing.{Stands}
 
 -- at a found leaf the tree's answer is known
 pub stands_found : (tree : Tree) (ds : List Literal) (path : List Bool) (chosen : List Bool) (below : List Literal) (failed : ℕ) (log : List (List Literal))

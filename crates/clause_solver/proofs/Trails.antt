@@ -1,20 +1,13 @@
 -- Marks, and taking them back.
 use Rattle.std.proofs.Common.{◌≡◌, ℕ, zero, suc, ◌+◌, ◌<◌, ◌≤◌, Bool, true, false, not, ◌||◌, cond, List, [], ◌∷◌, ◌++◌, ◌⊎◌, length, get_or, set, take, refl, ap, sym, ◌∙◌, arith, inl, inr, Some, subst}
-use Rattle.std.specs.Prelude.{slice_get, count_by}
 use Rattle.std.proofs.lemmas.Bool.{cases_eq, or_cases, or_left, or_right}
 use Rattle.std.proofs.lemmas.List.{length-set, length_push, get_or-set_same, get_or-set_other, take-append-le, take_at, take-take}
-use Rattle.std.proofs.lemmas.List.Folds.{list_any-append}
-use Rattle.std.proofs.lemmas.List.Sums.{sum_by-set}
-use Rattle.std.proofs.lemmas.List.Elements.{All-contains, All-push, Contains-append_left, Contains-get_or, Contains-push}
-use Rattle.std.proofs.lemmas.Option.{slice_get_within}
-use Rattle.listed.proofs.Bools.{same_bool}
-use Rattle.listed.proofs.Lists.{at_end}
-use Rattle.search_terms.specs.declared.literals.Literal.{Literal}
-use Rattle.search_terms.specs.Closure.{is_same}
-use Rattle.search_terms.specs.Marks.{flag_place, is_marked}
-use Rattle.search_terms.proofs.Sets.{place_fits, marked_set, marked_more, place_injective}
-use Rattle.search_terms.proofs.Models.{same-true}
-use Rattle.search_terms.proofs.Certificates.{same_refl}
+use Rattle.std.proofs.{lemmas.List.Folds.{list_any-append}, lemmas.List.Sums.{sum_by-set}}
+use Rattle.std.proofs.{lemmas.List.Elements.{All-contains, All-push, Contains-append_left, Contains-get_or, Contains-push}, lemmas.Option.{slice_get_within}}
+use Rattle.std.specs.Prelude.{slice_get, count_by}
+use Rattle.listed.proofs.{Bools.{same_bool}, Lists.{at_end}}
+use Rattle.search_terms.specs.{declared.literals.Literal.{Literal}, Closure.{is_same}, Marks.{flag_place, is_marked}}
+use Rattle.search_terms.proofs.{Sets.{place_fits, marked_set, marked_more, place_injective}, Models.{same-true}, Certificates.{same_refl}}
 use Rattle.clause_solver.specs.Marking.{set_of_trail, EachOnce, IsMarked}
 
 pub among_push : (trail : List Literal) (l m : Literal) → set_of_trail (trail ++ l ∷ []) m ≡ (set_of_trail trail m || (is_same l m || false))

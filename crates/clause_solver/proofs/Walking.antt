@@ -1,15 +1,10 @@
 -- The steps of a walk that keeps a log, or keeps none: where none is kept, the entries stand in the proof alone.
 use Rattle.std.proofs.Common.{◌≡◌, ℕ, ◌+◌, ◌≤◌, Bool, true, false, List, [], ◌∷◌, ◌++◌, refl, ap, ◌∙◌}
 use Rattle.std.specs.Prelude.{map}
-use Rattle.search_terms.specs.declared.literals.Literal.{Literal}
-use Rattle.search_terms.specs.Closure.{literal, negation, Clashes}
-use Rattle.search_terms.specs.Tree.{Tree, IsTree, IsFoundLeaf, IsSplit}
+use Rattle.search_terms.specs.{declared.literals.Literal.{Literal}, Closure.{literal, negation, Clashes}, Tree.{Tree, IsTree, IsFoundLeaf, IsSplit}}
 use Rattle.search_terms.specs.Marks.{true_classes}
-use Rattle.clause_solver.specs.declared.outcomes.Verdict.{Verdict}
-use Rattle.clause_solver.specs.declared.outcomes.Verdict.TheVariants.{Yes, No, Spent}
-use Rattle.clause_solver.specs.Marking.{set_of_trail}
-use Rattle.clause_solver.specs.Standing.{WalksIn, WalksPast}
-use Rattle.clause_solver.specs.Verdicts.{Ends, IsKept, IsVerdictOf}
+use Rattle.clause_solver.specs.{declared.outcomes.Verdict.{Verdict}, declared.outcomes.Verdict.TheVariants.{Yes, No, Spent}, Marking.{set_of_trail}}
+use Rattle.clause_solver.specs.{Standing.{WalksIn, WalksPast}, Verdicts.{Ends, IsKept, IsVerdictOf}}
 use Rattle.clause_solver.proofs.Stacking.{stands_first, go_across, go_up, stack_found, stack_spent, stack_down, stack_past, stack_refuted}
 
 -- one more entry

@@ -2,12 +2,8 @@
 use Rattle.std.specs.Prelude.{◌≡◌, ℕ, ◌*◌, ◌<◌, Bool, false, List, [], ◌++◌, All, length, slice_index_or, Contains, ◌⊎◌}
 use Rattle.listed.specs.Lists.{In}
 use Rattle.row_book.specs.Book.{listed_for}
-use Rattle.search_terms.specs.declared.literals.Literal.{Literal}
-use Rattle.search_terms.specs.Closure.{negation, InRange}
-use Rattle.search_terms.specs.Marks.{flag_place}
-use Rattle.search_terms.specs.Form.{owned_sentences, conflict_sentence}
-use Rattle.clause_solver.specs.declared.formula.Formula.{Formula}
-use Rattle.clause_solver.specs.declared.table.Use.{Use}
+use Rattle.search_terms.specs.{declared.literals.Literal.{Literal}, Closure.{negation, InRange}, Marks.{flag_place}, Form.{owned_sentences, conflict_sentence}}
+use Rattle.clause_solver.specs.{declared.formula.Formula.{Formula}, declared.table.Use.{Use}}
 
 -- goals, then clauses, then conflicts
 abbrev pub whole_form : List (List Literal) → List (List Literal) → List (List ℕ) → List (List Literal)

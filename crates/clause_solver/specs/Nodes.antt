@@ -1,14 +1,9 @@
 -- for bodies alone, those of other crates too
 -- What a node is whose closure does not clash.
 use Rattle.std.specs.Prelude.{◌≡◌, ℕ, ◌<◌, ◌≤◌, Bool, true, false, List, [], ◌∷◌, ◌++◌, All, Contains, slice_index_or, ◌⊎◌}
-use Rattle.search_terms.specs.declared.literals.Literal.{Literal}
-use Rattle.search_terms.specs.Closure.{literal}
-use Rattle.search_terms.specs.Tree.{IsFoundLeaf, IsSplit, is_open_need, is_undecided}
+use Rattle.search_terms.specs.{declared.literals.Literal.{Literal}, Closure.{literal}, Tree.{IsFoundLeaf, IsSplit, is_open_need, is_undecided}}
 use Rattle.search_terms.specs.Marks.{classes_left, true_classes}
-use Rattle.clause_solver.specs.Marking.{set_of_trail}
-use Rattle.clause_solver.specs.declared.nodes.Node.{Node}
-use Rattle.clause_solver.specs.declared.table.Use.{Use}
-use Rattle.clause_solver.specs.declared.nodes.Node.TheVariants.{Met, Splits}
+use Rattle.clause_solver.specs.{Marking.{set_of_trail}, declared.nodes.Node.{Node}, declared.table.Use.{Use}, declared.nodes.Node.TheVariants.{Met, Splits}}
 
 -- the trail leaves no need open, and so is that of a found leaf; or the node splits on a class, and each branch leaves fewer
 -- classes

@@ -1,12 +1,9 @@
 -- What a solver of a book holds.
 use Rattle.std.specs.Prelude.{◌≡◌, ℕ, List, [], length}
 use Rattle.listed.specs.Lists.{In}
-use Rattle.row_book.specs.Book.{listed_for}
-use Rattle.row_book.specs.Repository.{Repository}
-use Rattle.clause_solver.specs.declared.solver.Solver.{Solver}
+use Rattle.row_book.specs.{Book.{listed_for}, Repository.{Repository}}
+use Rattle.clause_solver.specs.{declared.solver.Solver.{Solver}, Engine.{whole_form, IsEngine}, Levels.{IsAt}}
 use Rattle.search_terms.specs.Form.{owned_sentences, clause_sentence}
-use Rattle.clause_solver.specs.Engine.{whole_form, IsEngine}
-use Rattle.clause_solver.specs.Levels.{IsAt}
 
 -- nothing conflicts with itself
 abbrev pub AreApart : List (List ℕ) → Type 0

@@ -1,10 +1,7 @@
 //! What the trail says of sentences.
-ghost use Rattle.std.specs.Prelude.{◌≡◌, true, not};
-ghost use Rattle.std.specs.List.{find};
-ghost use Rattle.search_terms.specs.Closure.{negation, forces};
-ghost use Rattle.search_terms.specs.Tree.{is_open_need, is_undecided};
-ghost use Rattle.clause_solver.specs.Marking.{set_of_trail};
-ghost use Rattle.clause_solver.specs.Engine.{HasTwoFree};
+ghost use Rattle.std.specs.{Prelude.{◌≡◌, true, not}, List.{find}};
+ghost use Rattle.search_terms.specs.{Closure.{negation, forces}, Tree.{is_open_need, is_undecided}};
+ghost use Rattle.clause_solver.specs.{Marking.{set_of_trail}, Engine.{HasTwoFree}};
 
 use crate::table::Use;
 use crate::trail::Trail;

@@ -5,13 +5,10 @@
 //! contradiction. There is no rule for literals of one sign, and nothing is learnt from a contradiction, since the tree and the
 //! number of its failed leaves are specified. What the book says by itself is propagated once, for all searches.
 ghost use Rattle.std.specs.Prelude.{◌≡◌, ◌<◌, ◌≤◌, ◌-◌, ◌^◌, [], ℕ, List, All, IfOk, OnOk, length};
-ghost use Rattle.row_book.specs.Book.{repository_of, Sound};
-ghost use Rattle.row_book.specs.Needs.{NeedsFit};
+ghost use Rattle.row_book.specs.{Book.{repository_of, Sound}, Needs.{NeedsFit}};
 ghost use Rattle.search_terms.specs.Closure.{InRange};
-ghost use Rattle.clause_solver.specs.Engine.{whole_form, sentences_in, IsEngine, IsFormula};
-ghost use Rattle.clause_solver.specs.Levels.{CalmAt, IsAt};
-ghost use Rattle.clause_solver.specs.Nodes.{AreFull, ArePositive, HaveNegative};
-ghost use Rattle.clause_solver.specs.Solvers.{AreApart};
+ghost use Rattle.clause_solver.specs.{Engine.{whole_form, sentences_in, IsEngine, IsFormula}, Levels.{CalmAt, IsAt}};
+ghost use Rattle.clause_solver.specs.{Nodes.{AreFull, ArePositive, HaveNegative}, Solvers.{AreApart}};
 ghost use Rattle.clause_solver.specs.Outcomes.{IsBudget, IsCertified, IsDecided, IsSearchOutcome};
 
 use crate::formula::Formula;
@@ -98,11 +95,8 @@ fn root(trail: &mut Trail, formula: &Formula) -> Result<bool, AllocError>
 
 impl Solver {
     ghost use Rattle.std.specs.Prelude.{◌≡◌, ◌<◌, ◌-◌, ◌^◌, [], ℕ, List, All, true, IfOk, length};
-    ghost use Rattle.row_book.specs.Book.{repository_of, Sound};
-    ghost use Rattle.row_book.specs.Needs.{NeedsFit};
-    ghost use Rattle.clause_solver.specs.Solvers.{IsReady};
-    ghost use Rattle.clause_solver.specs.Outcomes.{IsBudget, IsCertified, IsSearchOutcome};
-    ghost use Rattle.clause_solver.specs.Verdicts.{EndsSearch, IsSearchVerdict};
+    ghost use Rattle.row_book.specs.{Book.{repository_of, Sound}, Needs.{NeedsFit}};
+    ghost use Rattle.clause_solver.specs.{Solvers.{IsReady}, Outcomes.{IsBudget, IsCertified, IsSearchOutcome}, Verdicts.{EndsSearch, IsSearchVerdict}};
 
     /// A solver of the book; it fails only where no memory is found.
     pub fn new(alloc: Global, pool: &Pool, book: &Book) -> Result<Solver, AllocError>

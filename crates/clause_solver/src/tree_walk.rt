@@ -3,14 +3,9 @@
 //! Depth first, true before false, and nothing is learnt: the tree is specified, and its failed leaves are the budget, so no
 //! other order may be taken, and a backtrack goes to the last decision alone.
 ghost use Rattle.std.specs.Prelude.{◌≡◌, ◌+◌, ◌-◌, ◌<◌, ◌≤◌, ◌^◌, ◌∷◌, ◌++◌, [], ℕ, true, false, List, All, OnOk, IfOk, IfSome, IfNone, length, map};
-ghost use Rattle.search_terms.specs.declared.literals.Literal.{Literal};
-ghost use Rattle.search_terms.specs.Closure.{negation};
-ghost use Rattle.search_terms.specs.Tree.{Tree, IsTree};
-ghost use Rattle.clause_solver.specs.Engine.{sentences_in, IsFormula};
-ghost use Rattle.clause_solver.specs.Levels.{IsFallen, IsAt, IsToAssume};
-ghost use Rattle.clause_solver.specs.Nodes.{AreFull, ArePositive, HaveNegative};
-ghost use Rattle.clause_solver.specs.Standing.{WalksIn, WalksPast};
-ghost use Rattle.clause_solver.specs.Verdicts.{Ends};
+ghost use Rattle.search_terms.specs.{declared.literals.Literal.{Literal}, Closure.{negation}, Tree.{Tree, IsTree}};
+ghost use Rattle.clause_solver.specs.{Engine.{sentences_in, IsFormula}, Levels.{IsFallen, IsAt, IsToAssume}, Nodes.{AreFull, ArePositive, HaveNegative}};
+ghost use Rattle.clause_solver.specs.{Standing.{WalksIn, WalksPast}, Verdicts.{Ends}};
 
 use crate::decision::decide;
 use crate::formula::Formula;

@@ -1,14 +1,9 @@
 -- What an answer means, by what it is made of.
-use Rattle.std.proofs.Common.{◌≡◌, ◌<◌, ℕ, Bool, true, false, cond, List, [], Option, Some, None, refl, subst}
+use Rattle.std.proofs.{Common.{◌≡◌, ◌<◌, ℕ, Bool, true, false, cond, List, [], Option, Some, None, refl, subst}, lemmas.Bool.{ltb-true}}
 use Rattle.std.specs.Prelude.{⊤, nat_lt}
-use Rattle.std.proofs.lemmas.Bool.{ltb-true}
 use Rattle.search_terms.specs.Tree.{Tree, failed_leaves, found_of, log_of}
-use Rattle.coinst_run.specs.declared.answer.ReportVerdict.{ReportVerdict}
-use Rattle.coinst_run.specs.declared.answer.ReportVerdict.TheVariants.{Done, Negative, Undecided}
-use Rattle.coinst_run.specs.Answer.{Answer, refused, reported}
-use Rattle.coinst_run.specs.Outcome.{answered}
-use Rattle.coinst_run.specs.Query.{by_found, by_tree}
-use Rattle.coinst_run.specs.QueryText.{no_text, undecided_text}
+use Rattle.coinst_run.specs.{declared.answer.ReportVerdict.{ReportVerdict}, declared.answer.ReportVerdict.TheVariants.{Done, Negative, Undecided}}
+use Rattle.coinst_run.specs.{Answer.{Answer, refused, reported}, Outcome.{answered}, Query.{by_found, by_tree}, QueryText.{no_text, undecided_text}}
 
 -- where the answer is a report, this is what it says as a whole and in its bytes
 abbrev pub AnswerMeans : (ReportVerdict → List ℕ → Type 0) → Answer → Type 0

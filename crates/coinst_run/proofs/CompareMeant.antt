@@ -1,26 +1,17 @@
 -- What the report of a comparison means.
 use Rattle.std.proofs.Common.{◌≡◌, Bool, true, false, List, [], ◌∷◌, refl, subst}
-use Rattle.std.specs.Prelude.{if◌then◌else◌, filter, length}
-use Rattle.std.specs.List.{list_any}
-use Rattle.suite_compare.specs.Asking.{verdict_in}
+use Rattle.std.specs.{Prelude.{if◌then◌else◌, filter, length}, List.{list_any}}
+use Rattle.suite_compare.specs.{Asking.{verdict_in}, declared.report.ReportLine.{ReportLine}}
+use Rattle.suite_compare.specs.{declared.report.ReportLine.TheVariants.{Broken1, Broken2, Open1, Open2}, Refusals.{home_in, packages_in}}
 use Rattle.suite_compare.proofs.Deciding.{verdict_is_judged}
-use Rattle.suite_compare.specs.declared.report.ReportLine.{ReportLine}
-use Rattle.suite_compare.specs.declared.report.ReportLine.TheVariants.{Broken1, Broken2, Open1, Open2}
-use Rattle.headline.specs.Indexes.{SearchedIndex, searched}
-use Rattle.headline.specs.Listing.{HasNoOpenLine, ListsExactly, is_broken}
-use Rattle.headline.proofs.Exact.{report_lists_exactly}
-use Rattle.headline.proofs.Lost.{empty_list_loses_nothing, without_open_lines}
-use Rattle.coinst_run.proofs.Prints.{exact_lists_print_exactly, lines_are_cut}
+use Rattle.headline.specs.{Indexes.{SearchedIndex, searched}, Listing.{HasNoOpenLine, ListsExactly, is_broken}}
+use Rattle.headline.proofs.{Exact.{report_lists_exactly}, Lost.{empty_list_loses_nothing, without_open_lines}}
+use Rattle.coinst_run.proofs.{Prints.{exact_lists_print_exactly, lines_are_cut}, AnswerMeant.{told_means}, GoingOn.{GivesThis, kernel_used, this_alone}}
 use Rattle.listed.specs.Lists.{In}
 use Rattle.listed.proofs.Lists.{In_none, filter_from}
-use Rattle.suite_compare.specs.Refusals.{home_in, packages_in}
 use Rattle.coinst_run.specs.declared.answer.ReportVerdict.TheVariants.{Done, Negative, Undecided}
-use Rattle.coinst_run.specs.Compare.{broken_lines, compare_answer, lines_answer, newer_course}
-use Rattle.coinst_run.specs.CompareMeaning.{CompareIsMeant, CompareMeans}
-use Rattle.coinst_run.specs.CompareText.{comparison_verdict, is_open}
-use Rattle.coinst_run.specs.Index.{index_in}
-use Rattle.coinst_run.proofs.AnswerMeant.{told_means}
-use Rattle.coinst_run.proofs.GoingOn.{GivesThis, kernel_used, this_alone}
+use Rattle.coinst_run.specs.{Compare.{broken_lines, compare_answer, lines_answer, newer_course}, CompareMeaning.{CompareIsMeant, CompareMeans}}
+use Rattle.coinst_run.specs.{CompareText.{comparison_verdict, is_open}, Index.{index_in}}
 
 -- nothing is told where the run is done
 open_not_done : (b : Bool) → (if b then Negative else (if true then Undecided else Done)) ≡ Done → ⊥

@@ -1,26 +1,17 @@
 -- What the report of an explanation means.
 use Rattle.std.proofs.Common.{◌≡◌, ℕ, Bool, List, length, Option, Some, None, refl, sym, subst}
-use Rattle.explain_core.specs.Explaining.{explanation_of}
-use Rattle.explain_core.specs.declared.explanation.Explanation.{Explanation}
-use Rattle.explain_core.specs.declared.explanation.Explanation.TheVariants.{Yes, Spent, Core}
-use Rattle.relation_fields.specs.declared.packages.Home.{Home}
-use Rattle.relation_fields.specs.declared.packages.PackageFacts.{PackageFacts}
-use Rattle.repo_model.specs.FirstFault.{first_fault}
-use Rattle.repo_model.specs.declared.goals.Goal.{Goal}
+use Rattle.explain_core.specs.{Explaining.{explanation_of}, declared.explanation.Explanation.{Explanation}}
+use Rattle.explain_core.specs.{declared.explanation.Explanation.TheVariants.{Yes, Spent, Core}, OnStanzas.{HoldsOnStanzas, IsTellable}}
+use Rattle.relation_fields.specs.{declared.packages.Home.{Home}, declared.packages.PackageFacts.{PackageFacts}}
+use Rattle.repo_model.specs.{FirstFault.{first_fault}, declared.goals.Goal.{Goal}}
 use Rattle.repo_model.proofs.Accepted.{Accepted}
-use Rattle.suite_compare.specs.Answering.{unknown_goal}
-use Rattle.suite_compare.specs.Refusals.{home_in, packages_in}
+use Rattle.suite_compare.specs.{Answering.{unknown_goal}, Refusals.{home_in, packages_in}}
 use Rattle.coinst_run.specs.Explain.{explain_answer, explained_by_unknown, explanation_answer, goals_explained}
-use Rattle.coinst_run.specs.ExplainMeaning.{ExplainIsMeant, ExplainMeans, MeansExplained}
-use Rattle.coinst_run.specs.Index.{index_in}
-use Rattle.coinst_run.proofs.OneCore.{one_core}
-use Rattle.suite_compare.proofs.Unknown.{all_named}
-use Rattle.coinst_run.proofs.QueryMeant.{formed}
-use Rattle.coinst_run.proofs.AnswerMeant.{AnswerMeans, means_more, told_means}
+use Rattle.coinst_run.specs.{ExplainMeaning.{ExplainIsMeant, ExplainMeans, MeansExplained}, Index.{index_in}}
+use Rattle.coinst_run.proofs.{OneCore.{one_core}, QueryMeant.{formed}, AnswerMeant.{AnswerMeans, means_more, told_means}}
 use Rattle.coinst_run.proofs.GoingOn.{GivesThis, kernel_used, this_alone}
-use Rattle.explain_core.specs.OnStanzas.{HoldsOnStanzas, IsTellable}
-use Rattle.explain_core.proofs.OnStanzas.{explanations_hold}
-use Rattle.explain_core.proofs.Tellable.{explanation_tellable}
+use Rattle.suite_compare.proofs.Unknown.{all_named}
+use Rattle.explain_core.proofs.{OnStanzas.{explanations_hold}, Tellable.{explanation_tellable}}
 
 -- the report on goals in a text
 module _ (text : List ℕ) (goals : List Goal) (budget limit : ℕ) (hold : Bool) where

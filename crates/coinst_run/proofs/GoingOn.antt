@@ -1,22 +1,13 @@
 -- A part of a course goes on exactly where what it asks for is there.
-use Rattle.std.proofs.Common.{◌≡◌, ℕ, Bool, true, false, cond, List, length, Option, Some, None, refl, subst}
+use Rattle.std.proofs.{Common.{◌≡◌, ℕ, Bool, true, false, cond, List, length, Option, Some, None, refl, subst}, lemmas.Bool.{ltb-false}}
 use Rattle.std.specs.Prelude.{nat_lt}
-use Rattle.std.proofs.lemmas.Bool.{ltb-false}
 use Rattle.byte_flow.specs.Flow.{Files}
-use Rattle.repo_model.specs.declared.fault.IndexFault.{IndexFault}
-use Rattle.repo_model.specs.FirstFault.{first_fault}
-use Rattle.repo_model.specs.Repository.{suite_repository}
+use Rattle.repo_model.specs.{declared.fault.IndexFault.{IndexFault}, FirstFault.{first_fault}, Repository.{suite_repository}}
 use Rattle.row_book.specs.Rounds.{PassedRound, limit_at}
 use Rattle.suite_compare.specs.Refusals.{home_in, packages_in}
-use Rattle.coinst_run.specs.declared.answer.ReportVerdict.{ReportVerdict}
-use Rattle.coinst_run.specs.Answer.{reported}
-use Rattle.coinst_run.specs.Present.{HasFile, HasKernel, IsWithin}
-use Rattle.coinst_run.specs.Course.{Course, reads, then_on}
-use Rattle.coinst_run.specs.Delivers.{IsStop}
-use Rattle.coinst_run.specs.Index.{Index, by_fault, checked_index, index_in}
-use Rattle.coinst_run.specs.IndexKernel.{ClassedKernel, index_kernel}
-use Rattle.coinst_run.specs.Kernel.{by_limit, kernel_of, reads_kernel}
-use Rattle.coinst_run.specs.Migrate.{kernel_at, kernel_behind}
+use Rattle.coinst_run.specs.{declared.answer.ReportVerdict.{ReportVerdict}, Answer.{reported}, Present.{HasFile, HasKernel, IsWithin}}
+use Rattle.coinst_run.specs.{Course.{Course, reads, then_on}, Delivers.{IsStop}, Index.{Index, by_fault, checked_index, index_in}}
+use Rattle.coinst_run.specs.{IndexKernel.{ClassedKernel, index_kernel}, Kernel.{by_limit, kernel_of, reads_kernel}, Migrate.{kernel_at, kernel_behind}}
 use Rattle.coinst_run.specs.Outcome.{Outcome, answered, file_limit, outcome_over, over_file, too_long, unread}
 
 -- ---- what is said of where it leads, and of no stop, is said of where it goes on

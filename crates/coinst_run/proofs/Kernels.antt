@@ -2,36 +2,20 @@
 use Rattle.std.proofs.Common.{◌≡◌, ℕ, ◌+◌, ◌<◌, ◌≤◌, Bool, false, List, ◌++◌, length, map, Option, Some, None, Ok, Err, sym, ap, ap₂, subst, ◌∙◌, arith}
 use Rattle.std.proofs.lemmas.List.{length-map}
 use Rattle.clause_pool.specs.Interned.{row_at}
-use Rattle.relation_fields.specs.declared.packages.Home.{Home}
-use Rattle.relation_fields.specs.declared.packages.PackageFacts.{PackageFacts}
-use Rattle.repo_model.proofs.Packages.{length_clauses}
-use Rattle.repo_model.proofs.Standing.{not_memory}
+use Rattle.relation_fields.specs.{declared.packages.Home.{Home}, declared.packages.PackageFacts.{PackageFacts}}
+use Rattle.repo_model.proofs.{Packages.{length_clauses}, Standing.{not_memory}}
 pub use Rattle.repo_model.proofs.SoundSuite.{suite_sound}
-use Rattle.repo_model.specs.Facts.{facts_of}
-use Rattle.repo_model.specs.FirstFault.{first_fault, home_of, stanzas_of}
-use Rattle.repo_model.specs.Refusals.{Refuses, is_memory}
-use Rattle.repo_model.specs.Repository.{suite_repository}
+use Rattle.repo_model.specs.{Facts.{facts_of}, FirstFault.{first_fault, home_of, stanzas_of}, Refusals.{Refuses, is_memory}, Repository.{suite_repository}}
 use Rattle.repo_model.specs.declared.fault.IndexFault.{IndexFault}
-use Rattle.suite_compare.specs.Refusals.{PassesLimit}
-use Rattle.suite_compare.specs.declared.view.SuiteView.{SuiteView}
-use Rattle.row_book.specs.Flattening.{packages}
-use Rattle.row_book.specs.Repository.{Repository}
-use Rattle.row_book.specs.Rounds.{PassedRound, kernel, kernel_class, round_count}
+use Rattle.suite_compare.specs.{Refusals.{PassesLimit}, declared.view.SuiteView.{SuiteView}}
+use Rattle.row_book.specs.{Flattening.{packages}, Repository.{Repository}, Rounds.{PassedRound, kernel, kernel_class, round_count}, Book.{repository_of}}
 use Rattle.listed.specs.Lists.{In}
 use Rattle.listed.proofs.Lists.{In_map_cases}
 use Rattle.row_book.proofs.Numbers.{length_numbers, numbers_parts}
-use Rattle.kernel_text.specs.KernelJson.{kernel_json}
-use Rattle.kernel_text.specs.KernelText.{format_of, kernel_text}
-use Rattle.kernel_text.specs.Members.{kernel_members}
-use Rattle.row_book.specs.Book.{repository_of}
-use Rattle.coinst_run.specs.declared.answer.Cause.{Cause}
-use Rattle.coinst_run.specs.declared.answer.Cause.TheVariants.{ClauseLimit}
-use Rattle.coinst_run.specs.Answer.{refused}
-use Rattle.coinst_run.specs.Faults.{fault_cause}
-use Rattle.coinst_run.specs.Index.{Index, by_fault, checked_index}
-use Rattle.coinst_run.specs.IndexKernel.{ClassedKernel, classed_kernel, index_kernel, json_for, text_for}
-use Rattle.coinst_run.specs.Kernel.{FitsSuite, by_limit, kernel_in, kernel_of}
-use Rattle.coinst_run.specs.Lines.{about, fault_line, limit_line, row_text, stage_text}
+use Rattle.kernel_text.specs.{KernelJson.{kernel_json}, KernelText.{format_of, kernel_text}, Members.{kernel_members}}
+use Rattle.coinst_run.specs.{declared.answer.Cause.{Cause}, declared.answer.Cause.TheVariants.{ClauseLimit}, Answer.{refused}, Faults.{fault_cause}}
+use Rattle.coinst_run.specs.{Index.{Index, by_fault, checked_index}, IndexKernel.{ClassedKernel, classed_kernel, index_kernel, json_for, text_for}}
+use Rattle.coinst_run.specs.{Kernel.{FitsSuite, by_limit, kernel_in, kernel_of}, Lines.{about, fault_line, limit_line, row_text, stage_text}}
 use Rattle.kernel_rounds.proofs.Classes.{class_within}
 
 -- the packages that were read are those of the text

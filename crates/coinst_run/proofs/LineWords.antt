@@ -1,22 +1,16 @@
 -- The text of a comparison is cut into its lines, and each line tells what it is about.
 use Rattle.std.proofs.Common.{◌≡◌, ℕ, zero, suc, ◌==◌, ◌+◌, ◌/◌, ◌%◌, Bool, true, false, not, List, [], ◌∷◌, ◌++◌, inl, inr, refl, sym, ap, ap₂, ◌∙◌, subst, codes, eqb-true, map, length, filter, arith}
-use Rattle.std.specs.Prelude.{if◌then◌else◌, nat_lt}
-use Rattle.std.specs.Fmt.{decimal, digits, digits_onto, digit_glyph}
-use Rattle.std.specs.List.{flat_map, list_all}
-use Rattle.std.proofs.lemmas.Bool.{and_parts, and_from, not-true, not_from_false, false_from_ne_true}
-use Rattle.std.proofs.lemmas.List.{append-nil, append_assoc}
+use Rattle.std.proofs.{lemmas.Bool.{and_parts, and_from, not-true, not_from_false, false_from_ne_true}, lemmas.List.{append-nil, append_assoc}}
 use Rattle.std.proofs.lemmas.List.Folds.{list_all-append}
+use Rattle.std.specs.{Prelude.{if◌then◌else◌, nat_lt}, Fmt.{decimal, digits, digits_onto, digit_glyph}, List.{flat_map, list_all}}
 use Rattle.coinst_run.specs.CompareText.{comparison_line, comparison_text, end_text, is_open}
-use Rattle.headline.specs.Listing.{is_broken}
+use Rattle.headline.specs.{Listing.{is_broken}, Indexes.{Name}}
 use Rattle.deb_version.specs.Names.{is_name}
-use Rattle.headline.specs.Indexes.{Name}
 use Rattle.kernel_text.specs.KernelLines.{lines_of}
-use Rattle.kernel_text.proofs.Spelling.{Plain, cut_same, name_plain}
-use Rattle.kernel_text.proofs.LineCuts.{no_feed, one_line, no_feed_byte, no_feed_both, no_feed_plain}
+use Rattle.kernel_text.proofs.{Spelling.{Plain, cut_same, name_plain}, LineCuts.{no_feed, one_line, no_feed_byte, no_feed_both, no_feed_plain}}
 use Rattle.listed.specs.Lists.{In, here, there}
 use Rattle.listed.proofs.Lists.{In_cases, In_none, In_append_cases, In_append_left, In_map, In_map_cases}
-use Rattle.suite_compare.specs.declared.report.ReportLine.{ReportLine}
-use Rattle.suite_compare.specs.declared.report.ReportLine.TheVariants.{Broken1, Broken2, Open1, Open2}
+use Rattle.suite_compare.specs.{declared.report.ReportLine.{ReportLine}, declared.report.ReportLine.TheVariants.{Broken1, Broken2, Open1, Open2}}
 
 glyph_fed : (d : ℕ) → not (digit_glyph false d == 10) ≡ true
 glyph_fed d = by (nat_lt d 10)

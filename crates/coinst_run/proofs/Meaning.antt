@@ -1,35 +1,20 @@
 -- What the kernel text of an index means.
 use Rattle.std.proofs.Common.{◌≡◌, ℕ, Bool, true, false, List, None, refl, sym, ap, ap₂, ◌∙◌}
 use Rattle.byte_flow.specs.Flow.{Files}
-use Rattle.repo_model.specs.FirstFault.{first_fault}
-use Rattle.repo_model.specs.Repository.{suite_repository}
+use Rattle.repo_model.specs.{FirstFault.{first_fault}, Repository.{suite_repository}}
 use Rattle.repo_model.proofs.Accepted.{Accepted}
-use Rattle.row_book.specs.Repository.{Repository}
-use Rattle.row_book.specs.Rounds.{kernel, kernel_held}
-use Rattle.kernel_text.specs.KernelJson.{kernel_json}
-use Rattle.kernel_text.specs.KernelText.{format_of}
+use Rattle.row_book.specs.{Repository.{Repository}, Rounds.{kernel, kernel_held}}
+use Rattle.kernel_text.specs.{KernelJson.{kernel_json}, KernelText.{format_of}}
 use Rattle.kernel_text.proofs.OneReading.{one_reading}
 use Rattle.claims.proofs.PrintedKernels.{keeps, reads, stands}
 use Rattle.suite_compare.specs.Refusals.{home_in, packages_in}
-use Rattle.coinst_run.specs.declared.answer.ReportVerdict.{ReportVerdict}
-use Rattle.coinst_run.specs.declared.answer.ReportVerdict.TheVariants.{Done}
-use Rattle.coinst_words.specs.declared.job.Job.{Job}
-use Rattle.coinst_words.specs.declared.job.Job.TheVariants.{Kernel, Query, StoredQuery, Compare, Explain, Status, Migrate, Sample}
-use Rattle.coinst_run.specs.Answer.{reported}
-use Rattle.coinst_run.specs.IndexKernel.{classed_kernel, index_kernel, json_for, members_for, text_for}
-use Rattle.coinst_run.specs.Kernel.{kernel_answer}
-use Rattle.coinst_run.specs.KernelMeaning.{KernelMeans}
-use Rattle.coinst_run.specs.Meaning.{JsonMeans, MeansJob, course_of}
-use Rattle.coinst_run.specs.Outcome.{answered, outcome_over}
-use Rattle.coinst_run.proofs.CompareMeant.{compare_is_meant}
-use Rattle.coinst_run.proofs.ExplainMeant.{explain_is_meant}
-use Rattle.coinst_run.proofs.MigrateMeant.{migrate_is_meant}
-use Rattle.coinst_run.proofs.QueryMeant.{query_is_meant, formed}
-use Rattle.coinst_run.proofs.AnswerMeant.{told_means}
-use Rattle.coinst_run.proofs.GoingOn.{GivesThis, kernel_used, this_alone}
-use Rattle.coinst_run.proofs.SampleMeaning.{sample_report_means}
-use Rattle.coinst_run.proofs.StoredMeant.{stored_query_is_meant}
-use Rattle.coinst_run.proofs.SystemMeant.{system_is_meant}
+use Rattle.coinst_run.specs.{declared.answer.ReportVerdict.{ReportVerdict}, declared.answer.ReportVerdict.TheVariants.{Done}, Answer.{reported}}
+use Rattle.coinst_run.specs.{IndexKernel.{classed_kernel, index_kernel, json_for, members_for, text_for}, Kernel.{kernel_answer}, KernelMeaning.{KernelMeans}}
+use Rattle.coinst_run.specs.{Meaning.{JsonMeans, MeansJob, course_of}, Outcome.{answered, outcome_over}}
+use Rattle.coinst_words.specs.{declared.job.Job.{Job}, declared.job.Job.TheVariants.{Kernel, Query, StoredQuery, Compare, Explain, Status, Migrate, Sample}}
+use Rattle.coinst_run.proofs.{CompareMeant.{compare_is_meant}, ExplainMeant.{explain_is_meant}, MigrateMeant.{migrate_is_meant}}
+use Rattle.coinst_run.proofs.{QueryMeant.{query_is_meant, formed}, AnswerMeant.{told_means}, GoingOn.{GivesThis, kernel_used, this_alone}}
+use Rattle.coinst_run.proofs.{SampleMeaning.{sample_report_means}, StoredMeant.{stored_query_is_meant}, SystemMeant.{system_is_meant}}
 
 pub index_kernel_means : (limit : ℕ) (hold : Bool) (text : List ℕ) → first_fault text ≡ None → KernelMeans text limit hold (text_for (packages_in text) (index_kernel limit hold (home_in text) (packages_in text)))
 unfolding index_kernel classed_kernel

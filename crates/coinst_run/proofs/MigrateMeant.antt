@@ -1,23 +1,15 @@
 -- What the report on a plan means.
 use Rattle.std.proofs.Common.{◌≡◌, ℕ, List, Option, Some, None, refl}
 use Rattle.byte_flow.specs.Flow.{Files}
-use Rattle.migrate_plan.specs.Plan.{plan, settings_of}
-use Rattle.migrate_plan.specs.Refusals.{plan_refusal}
-use Rattle.migrate_plan.specs.declared.plan.PlanLine.{PlanLine}
-use Rattle.migrate_plan.specs.declared.refusals.PlanError.{PlanError}
+use Rattle.migrate_plan.specs.{Plan.{plan, settings_of}, Refusals.{plan_refusal}, declared.plan.PlanLine.{PlanLine}, declared.refusals.PlanError.{PlanError}}
 use Rattle.migrate_plan.specs.declared.refusals.PlanError.TheVariants.{Homes, Names, Packages, TooLong, Memory}
-use Rattle.migrate_plan.proofs.Mixed.{mixes_are_indexes}
-use Rattle.migrate_plan.proofs.Planned.{plan_names, plan_right, plan_safe}
+use Rattle.migrate_plan.proofs.{Mixed.{mixes_are_indexes}, Planned.{plan_names, plan_right, plan_safe}}
 use Rattle.suite_compare.specs.Refusals.{home_in, packages_in}
 use Rattle.suite_compare.proofs.Deciding.{verdict_is_judged}
-use Rattle.coinst_run.specs.declared.answer.ReportVerdict.{ReportVerdict}
-use Rattle.coinst_run.specs.Answer.{reported}
-use Rattle.coinst_run.specs.Course.{Course, answers, reads, then_on}
-use Rattle.coinst_run.specs.Migrate.{by_refusal, lines_answer, new_answer, new_course, old_answer, plan_answer}
-use Rattle.coinst_run.specs.MigrateMeaning.{MigrateIsMeant, MigrateMeans}
+use Rattle.coinst_run.specs.{declared.answer.ReportVerdict.{ReportVerdict}, Answer.{reported}, Course.{Course, answers, reads, then_on}}
+use Rattle.coinst_run.specs.{Migrate.{by_refusal, lines_answer, new_answer, new_course, old_answer, plan_answer}, MigrateMeaning.{MigrateIsMeant, MigrateMeans}}
 use Rattle.coinst_run.specs.Outcome.{answered, outcome_over}
-use Rattle.coinst_run.proofs.AnswerMeant.{told_means}
-use Rattle.coinst_run.proofs.GoingOn.{GivesThis, checked_used, file_used, kernel_at_used, this_alone}
+use Rattle.coinst_run.proofs.{AnswerMeant.{told_means}, GoingOn.{GivesThis, checked_used, file_used, kernel_at_used, this_alone}}
 
 -- a course that leads to a report
 module _ (files : Files) (verdict : ReportVerdict) (report : List ℕ) where

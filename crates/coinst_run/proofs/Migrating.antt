@@ -1,25 +1,13 @@
 -- From what the calls of a plan answer to its course.
 use Rattle.std.proofs.Common.{◌≡◌, ℕ, Bool, List, Option, Some, None, Result, Ok, refl, sym, ap, ap₂, subst, ◌∙◌}
 use Rattle.std.specs.Prelude.{IfSome}
-use Rattle.migrate_plan.specs.Plan.{Settings, plan}
-use Rattle.migrate_plan.specs.Refusals.{plan_refusal}
-use Rattle.migrate_plan.specs.declared.plan.PlanLine.{PlanLine}
-use Rattle.migrate_plan.specs.declared.refusals.PlanError.{PlanError}
-use Rattle.relation_fields.specs.declared.packages.Home.{Home}
-use Rattle.relation_fields.specs.declared.packages.PackageFacts.{PackageFacts}
-use Rattle.repo_model.specs.Feeding.{IsSuiteOf}
-use Rattle.repo_model.specs.FirstFault.{first_fault}
-use Rattle.repo_model.specs.declared.fault.IndexFault.{IndexFault}
+use Rattle.migrate_plan.specs.{Plan.{Settings, plan}, Refusals.{plan_refusal}, declared.plan.PlanLine.{PlanLine}, declared.refusals.PlanError.{PlanError}}
+use Rattle.relation_fields.specs.{declared.packages.Home.{Home}, declared.packages.PackageFacts.{PackageFacts}}
+use Rattle.repo_model.specs.{Feeding.{IsSuiteOf}, FirstFault.{first_fault}, declared.fault.IndexFault.{IndexFault}}
 use Rattle.suite_compare.specs.Refusals.{home_in, packages_in}
-use Rattle.coinst_run.specs.declared.answer.ReportVerdict.{ReportVerdict}
-use Rattle.coinst_run.specs.Answer.{Answer, Stage, reported}
-use Rattle.coinst_run.specs.Course.{answers, then_on}
-use Rattle.coinst_run.specs.Ending.{StopsAt}
-use Rattle.coinst_run.specs.Index.{Index, by_fault, checked_index, index_in}
-use Rattle.coinst_run.specs.IndexKernel.{ClassedKernel, index_kernel}
-use Rattle.coinst_run.specs.Kernel.{kernel_of}
-use Rattle.coinst_run.specs.Migrate.{by_refusal, kernel_at, kernel_behind, lines_answer, plan_answer, refusal_of}
-use Rattle.coinst_run.specs.MigrateText.{plan_text, plan_verdict}
+use Rattle.coinst_run.specs.{declared.answer.ReportVerdict.{ReportVerdict}, Answer.{Answer, Stage, reported}, Course.{answers, then_on}, Ending.{StopsAt}}
+use Rattle.coinst_run.specs.{Index.{Index, by_fault, checked_index, index_in}, IndexKernel.{ClassedKernel, index_kernel}, Kernel.{kernel_of}}
+use Rattle.coinst_run.specs.{Migrate.{by_refusal, kernel_at, kernel_behind, lines_answer, plan_answer, refusal_of}, MigrateText.{plan_text, plan_verdict}}
 use Rattle.coinst_run.specs.Outcome.{Outcome, answered, not_a_command, unread}
 use Rattle.coinst_run.proofs.Follows.{stops_at}
 

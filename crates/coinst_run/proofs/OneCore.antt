@@ -1,19 +1,14 @@
 -- No two lists of conflicts have one text behind the same goals.
 use Rattle.std.proofs.Common.{◌≡◌, ℕ, Bool, true, false, List, [], ◌∷◌, ◌++◌, length, Option, Some, None, refl, sym, ap, ap₂, ◌∙◌, inl, inr, arith, get_or, append_assoc}
-use Rattle.std.specs.Prelude.{IfSome, codes}
-use Rattle.std.specs.List.{flat_map}
 use Rattle.std.proofs.lemmas.List.{append_cancel_left}
-use Rattle.explain_core.specs.declared.explanation.Clash.{Clash}
-use Rattle.explain_core.specs.declared.explanation.Mark.{Mark}
+use Rattle.std.specs.{Prelude.{IfSome, codes}, List.{flat_map}}
+use Rattle.explain_core.specs.{declared.explanation.Clash.{Clash}, declared.explanation.Mark.{Mark}, OnStanzas.{AreClashesOf}}
 use Rattle.kernel_text.proofs.Spelling.{cut_same}
 use Rattle.relation_fields.specs.declared.packages.PackageFacts.{PackageFacts}
-use Rattle.repo_model.specs.Stanzas.{stanza_at}
-use Rattle.repo_model.specs.declared.goals.Goal.{Goal}
+use Rattle.repo_model.specs.{Stanzas.{stanza_at}, declared.goals.Goal.{Goal}}
 use Rattle.repo_model.proofs.Accepted.{Accepted}
 use Rattle.listed.specs.Lists.{here, there}
-use Rattle.explain_core.specs.OnStanzas.{AreClashesOf}
-use Rattle.coinst_run.specs.ExplainText.{clash_count, clash_line, clash_text, clashes_text, core_text, goal_line, package_text}
-use Rattle.coinst_run.specs.Lines.{end_text}
+use Rattle.coinst_run.specs.{ExplainText.{clash_count, clash_line, clash_text, clashes_text, core_text, goal_line, package_text}, Lines.{end_text}}
 use Rattle.claims.proofs.Members.{place_of_package}
 use Rattle.coinst_run.proofs.OneInstallation.{IsPlainPackage, plain_at}
 

@@ -1,20 +1,15 @@
 -- No two lists of packages of an index have one text.
 use Rattle.std.proofs.Common.{◌≡◌, ℕ, ◌<◌, true, List, [], ◌∷◌, ◌++◌, length, refl, sym, ap₂, subst, ◌∙◌, inl, inr, append_assoc}
-use Rattle.std.specs.Prelude.{codes}
-use Rattle.std.specs.List.{flat_map, list_all}
-use Rattle.std.proofs.lemmas.Bool.{and_parts, false≢true}
-use Rattle.std.proofs.lemmas.List.{append_cancel_left}
+use Rattle.std.proofs.{lemmas.Bool.{and_parts, false≢true}, lemmas.List.{append_cancel_left}}
+use Rattle.std.specs.{Prelude.{codes}, List.{flat_map, list_all}}
 use Rattle.deb_version.specs.Grammar.{is_upstream_byte}
 use Rattle.relation_fields.proofs.Bytes.{version_bytes}
 use Rattle.relation_fields.specs.declared.packages.PackageFacts.{PackageFacts}
 use Rattle.repo_model.specs.Stanzas.{no_stanza, stanza_at}
-use Rattle.repo_model.proofs.Accepted.{Accepted}
-use Rattle.repo_model.proofs.Elements.{at_place}
+use Rattle.repo_model.proofs.{Accepted.{Accepted}, Elements.{at_place}}
 use Rattle.listed.specs.Lists.{In, here, there}
-use Rattle.kernel_text.proofs.Spelling.{Plain, cut_same, name_plain}
-use Rattle.kernel_text.proofs.Candidates.{version_plain}
-use Rattle.coinst_run.specs.Lines.{line_of_text}
-use Rattle.coinst_run.specs.QueryText.{install_line, yes_text}
+use Rattle.kernel_text.proofs.{Spelling.{Plain, cut_same, name_plain}, Candidates.{version_plain}}
+use Rattle.coinst_run.specs.{Lines.{line_of_text}, QueryText.{install_line, yes_text}}
 use Rattle.claims.proofs.Members.{place_of_package}
 
 pub record IsPlainPackage (s : PackageFacts) : Type 0 where

@@ -4,24 +4,15 @@ use Rattle.listed.proofs.Lists.{In_has}
 use Rattle.repo_model.specs.declared.goals.Goal.{Goal}
 use Rattle.repo_model.proofs.Accepted.{Accepted}
 use Rattle.repo_model.proofs.Accepted as accepted
-use Rattle.repo_model.specs.FirstFault.{first_fault}
-use Rattle.repo_model.specs.Repository.{suite_repository}
+use Rattle.repo_model.specs.{FirstFault.{first_fault}, Repository.{suite_repository}}
 use Rattle.row_book.specs.Rounds.{kernel}
-use Rattle.search_terms.specs.Form.{form}
-use Rattle.search_terms.specs.Tree.{Tree, found_of, log_of}
+use Rattle.search_terms.specs.{Form.{form}, Tree.{Tree, found_of, log_of}}
 use Rattle.search_terms.proofs.Certificates.{tree_derives}
-use Rattle.suite_compare.specs.Answering.{unknown_goal}
-use Rattle.suite_compare.specs.Asking.{asked_tree, images_of, installation}
-use Rattle.suite_compare.proofs.Deciding.{asked_is, found_there}
-use Rattle.suite_compare.specs.Refusals.{home_in, packages_in}
-use Rattle.coinst_run.specs.Index.{index_in}
-use Rattle.coinst_run.specs.Query.{by_tree, by_unknown, goals_answer, installed_text, query_answer}
-use Rattle.coinst_run.specs.QueryMeaning.{MeansVerdict, NoMeans, QueryIsMeant, QueryMeans, YesMeans}
-use Rattle.coinst_run.specs.QueryText.{no_text}
-use Rattle.suite_compare.proofs.Installed.{installations_serve}
-use Rattle.suite_compare.proofs.Unknown.{all_named}
-use Rattle.coinst_run.proofs.OneInstallation.{one_installation}
-use Rattle.coinst_run.proofs.AnswerMeant.{AnswerMeans, means_more, told_means, tree_means}
+use Rattle.suite_compare.specs.{Answering.{unknown_goal}, Asking.{asked_tree, images_of, installation}, Refusals.{home_in, packages_in}}
+use Rattle.suite_compare.proofs.{Deciding.{asked_is, found_there}, Installed.{installations_serve}, Unknown.{all_named}}
+use Rattle.coinst_run.specs.{Index.{index_in}, Query.{by_tree, by_unknown, goals_answer, installed_text, query_answer}}
+use Rattle.coinst_run.specs.{QueryMeaning.{MeansVerdict, NoMeans, QueryIsMeant, QueryMeans, YesMeans}, QueryText.{no_text}}
+use Rattle.coinst_run.proofs.{OneInstallation.{one_installation}, AnswerMeant.{AnswerMeans, means_more, told_means, tree_means}}
 use Rattle.coinst_run.proofs.GoingOn.{GivesThis, kernel_used, this_alone}
 
 pub formed : (text : List ℕ) → first_fault text ≡ None → Accepted (packages_in text)

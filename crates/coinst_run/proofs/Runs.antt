@@ -1,35 +1,25 @@
 -- What a run answers, by how the course of its command ended and what the sinks took.
 use Rattle.std.proofs.Common.{◌≡◌, ℕ, Bool, List, [], Option, Some, None, refl, sym, ap, subst, ◌∙◌, inl, inr}
-use Rattle.std.specs.Prelude.{◌⊎◌, IfSome}
-use Rattle.std.specs.Io.KnownBytes.{Appends}
+use Rattle.std.specs.{Prelude.{◌⊎◌, IfSome}, Io.KnownBytes.{Appends}}
 use Rattle.byte_flow.specs.Flow.{Files, Rose}
-use Rattle.coinst_run.specs.declared.answer.Cause.{Cause}
-use Rattle.coinst_run.specs.declared.answer.Cause.TheVariants.{Content, ClauseLimit, UnknownGoal, TooLarge}
-use Rattle.coinst_run.specs.declared.answer.ReportVerdict.{ReportVerdict}
-use Rattle.coinst_run.specs.declared.answer.ReportVerdict.TheVariants.{Done, Negative, Undecided}
+use Rattle.coinst_run.specs.{declared.answer.Cause.{Cause}, declared.answer.Cause.TheVariants.{Content, ClauseLimit, UnknownGoal, TooLarge}}
+use Rattle.coinst_run.specs.{declared.answer.ReportVerdict.{ReportVerdict}, declared.answer.ReportVerdict.TheVariants.{Done, Negative, Undecided}}
 use Rattle.coinst_run.specs.declared.status.Status.{Status}
 use Rattle.coinst_run.specs.declared.status.Status.TheVariants as status
-use Rattle.coinst_words.specs.declared.job.Job.{Job}
-use Rattle.coinst_words.specs.declared.error.WordError.{WordError}
+use Rattle.coinst_words.specs.{declared.job.Job.{Job}, declared.error.WordError.{WordError}}
 use Rattle.coinst_words.specs.declared.error.WordError.TheVariants as words
-use Rattle.coinst_run.specs.Answer.{reported, refused}
-use Rattle.coinst_run.specs.Delivers.{Delivers, IsRefused, Tells, a_cut_report, a_refusal, a_report}
-use Rattle.coinst_run.specs.Ending.{stop_ending, word_stop}
-use Rattle.coinst_run.specs.Follows.{FollowsJob, of_a_job, of_no_job, without_memory, without_memory_for_words}
+use Rattle.coinst_run.specs.{Answer.{reported, refused}, Delivers.{Delivers, IsRefused, Tells, a_cut_report, a_refusal, a_report}}
+use Rattle.coinst_run.specs.{Ending.{stop_ending, word_stop}, Follows.{FollowsJob, of_a_job, of_no_job, without_memory, without_memory_for_words}}
 use Rattle.coinst_run.specs.Meaning.{IsMeant, MeansJob, course_of, of_job, outcome_of}
-use Rattle.coinst_run.specs.Outcome.{Outcome, answered, unread, not_a_command, report_of, status_of}
+use Rattle.coinst_run.specs.{Outcome.{Outcome, answered, unread, not_a_command, report_of, status_of}, Run.{Answers, Completes, Took}}
 use Rattle.claims.specs.Sentences.{CompareIsTrue, KernelIsTrue}
 use Rattle.coinst_run.proofs.Sentences.{compare_is_true, kernel_is_true, took_so}
-use Rattle.coinst_run.specs.Run.{Answers, Completes, Took}
 use Rattle.coinst_run.specs.Run as run
 use Rattle.coinst_run.specs.Status.{cause_status, verdict_status}
-use Rattle.coinst_words.specs.Jobs.{job_of}
-use Rattle.coinst_words.specs.Refusals.{OnNotACommand}
+use Rattle.coinst_words.specs.{Jobs.{job_of}, Refusals.{OnNotACommand}}
 use Rattle.coinst_run.proofs.Ends.{EndsAs}
 use Rattle.coinst_run.proofs.Ends as ends
-use Rattle.coinst_run.proofs.Follows.{ends_as, no_words, unread_rose}
-use Rattle.coinst_run.proofs.Meaning.{report_means}
-use Rattle.coinst_run.proofs.Telling.{appends_none}
+use Rattle.coinst_run.proofs.{Follows.{ends_as, no_words, unread_rose}, Meaning.{report_means}, Telling.{appends_none}}
 
 -- a fact where the contents are told
 pub each_told : (contents : Option Files) {Q : Files → Type 0} → ((files : Files) → contents ≡ Some files → Q files) → IfSome contents Q

@@ -2,18 +2,11 @@
 use Rattle.std.proofs.Common.{◌≡◌, ℕ, false, List, refl}
 use Rattle.byte_flow.specs.Flow.{Files}
 use Rattle.sample_suite.specs.SampleText.{sample_text}
-use Rattle.suite_compare.specs.Refusals.{home_in, packages_in}
-use Rattle.coinst_run.specs.declared.answer.ReportVerdict.{ReportVerdict}
-use Rattle.coinst_run.specs.declared.answer.ReportVerdict.TheVariants.{Done}
-use Rattle.coinst_run.specs.Answer.{reported}
-use Rattle.coinst_run.specs.Course.{answers}
-use Rattle.coinst_run.specs.IndexKernel.{index_kernel}
-use Rattle.coinst_run.specs.Meaning.{SizeMeans}
-use Rattle.coinst_run.specs.Outcome.{answered, outcome_over}
+use Rattle.suite_compare.specs.Refusals.{home_in, packages_in, home_in, packages_in}
+use Rattle.coinst_run.specs.{declared.answer.ReportVerdict.{ReportVerdict}, declared.answer.ReportVerdict.TheVariants.{Done}, Answer.{reported}}
+use Rattle.coinst_run.specs.{Course.{answers}, IndexKernel.{index_kernel}, Meaning.{SizeMeans}, Outcome.{answered, outcome_over}}
 use Rattle.coinst_run.specs.Sample.{sample_answer, sample_course, sample_limit, sample_path, size_report}
-use Rattle.suite_compare.specs.Refusals.{home_in, packages_in}
-use Rattle.coinst_run.proofs.AnswerMeant.{told_means}
-use Rattle.coinst_run.proofs.GoingOn.{GivesThis, checked_used, limit_used, this_alone}
+use Rattle.coinst_run.proofs.{AnswerMeant.{told_means}, GoingOn.{GivesThis, checked_used, limit_used, this_alone}}
 
 pub sample_report_means : (files : Files) (verdict : ReportVerdict) (report : List ℕ) (seed count : ℕ) → outcome_over files (sample_course seed count) ≡ answered (reported verdict report) → SizeMeans (sample_text seed count) report
 sample_report_means files verdict report seed count e =

@@ -1,31 +1,17 @@
 -- The two sentences, from what a report means.
 use Rattle.std.proofs.Common.{◌≡◌, ℕ, false, List, [], ◌++◌, Option, Some, None, filter, length, refl, sym, ap, subst, ◌∙◌, append_assoc}
-use Rattle.std.specs.Prelude.{codes, unwrap_or}
-use Rattle.std.specs.Fmt.{decimal}
-use Rattle.std.specs.List.{flat_map}
 use Rattle.std.proofs.lemmas.List.{append-nil}
+use Rattle.std.specs.{Prelude.{codes, unwrap_or}, Fmt.{decimal}, List.{flat_map}}
 use Rattle.byte_flow.specs.Flow.{Files}
-use Rattle.coinst_words.specs.Jobs.{job_of}
-use Rattle.coinst_words.specs.declared.job.Job.TheVariants.{Kernel, Compare}
-use Rattle.headline.specs.Indexes.{searched}
-use Rattle.headline.specs.Listing.{is_broken}
+use Rattle.coinst_words.specs.{Jobs.{job_of}, declared.job.Job.TheVariants.{Kernel, Compare}}
+use Rattle.headline.specs.{Indexes.{searched}, Listing.{is_broken}}
 use Rattle.kernel_text.specs.KernelText.{format_of}
 use Rattle.listed.proofs.Lists.{flat_same}
-use Rattle.suite_compare.specs.declared.report.ReportLine.{ReportLine}
-use Rattle.suite_compare.specs.declared.report.ReportLine.TheVariants.{Broken1, Broken2, Open1, Open2}
-use Rattle.claims.specs.Printed.{printed_comparison, printed_line}
-use Rattle.claims.specs.Sentences.{CompareIsTrue, KernelIsTrue}
-use Rattle.claims.specs.Laws.{suite_of}
-use Rattle.claims.proofs.CompareSentence.{comparisons_mean_this}
-use Rattle.claims.proofs.KernelSentence.{kernels_mean_this}
-use Rattle.claims.proofs.Words.{compare_words_ask, kernel_words_ask}
-use Rattle.coinst_run.specs.CompareText.{comparison_line, comparison_text, end_text, is_open}
-use Rattle.coinst_run.specs.CompareMeaning.{CompareMeans}
-use Rattle.coinst_run.specs.KernelMeaning.{KernelMeans}
-use Rattle.coinst_run.specs.Lines.{line_of_text}
-use Rattle.coinst_run.specs.Meaning.{IsMeant, MeansJob}
-use Rattle.coinst_run.specs.Run.{Took}
-use Rattle.coinst_run.specs.declared.answer.ReportVerdict.{ReportVerdict}
+use Rattle.suite_compare.specs.{declared.report.ReportLine.{ReportLine}, declared.report.ReportLine.TheVariants.{Broken1, Broken2, Open1, Open2}}
+use Rattle.claims.specs.{Printed.{printed_comparison, printed_line}, Sentences.{CompareIsTrue, KernelIsTrue}, Laws.{suite_of}}
+use Rattle.claims.proofs.{CompareSentence.{comparisons_mean_this}, KernelSentence.{kernels_mean_this}, Words.{compare_words_ask, kernel_words_ask}}
+use Rattle.coinst_run.specs.{CompareText.{comparison_line, comparison_text, end_text, is_open}, CompareMeaning.{CompareMeans}, KernelMeaning.{KernelMeans}}
+use Rattle.coinst_run.specs.{Lines.{line_of_text}, Meaning.{IsMeant, MeansJob}, Run.{Took}, declared.answer.ReportVerdict.{ReportVerdict}}
 
 -- what the taken bytes mean, in other words
 pub took_so : (old new : Option (List ℕ)) {P Q : List ℕ → Type 0} → ((bytes : List ℕ) → P bytes → Q bytes) → Took old new P → Took old new Q

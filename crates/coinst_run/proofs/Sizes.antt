@@ -1,22 +1,15 @@
 -- How many lines of each kind the text of a kernel has.
-use Rattle.std.proofs.Common.{◌≡◌, ◌∙◌, ◌+◌, ℕ, refl, sym, ap, ap₂, List, [], ◌∷◌, length, filter, ltb, arith}
-use Rattle.std.specs.List.{count_by, sum_by}
-use Rattle.std.proofs.lemmas.List.Sums.{sum_by-append}
+use Rattle.std.proofs.{Common.{◌≡◌, ◌∙◌, ◌+◌, ℕ, refl, sym, ap, ap₂, List, [], ◌∷◌, length, filter, ltb, arith}, lemmas.List.Sums.{sum_by-append}}
 use Rattle.std.proofs.lemmas.List.{length-map}
+use Rattle.std.specs.List.{count_by, sum_by}
 use Rattle.row_book.proofs.Numbers.{numbers_more}
 use Rattle.clause_pool.specs.Interned.{Interned, row_at}
 use Rattle.kernel_rounds.specs.declared.extraction.Kernel.{Kernel}
 use Rattle.relation_fields.specs.declared.packages.PackageFacts.{PackageFacts}
-use Rattle.row_book.specs.Book.{listed_for, repository_of}
-use Rattle.coinst_run.specs.IndexKernel.{members_for}
-use Rattle.coinst_run.specs.Kernel.{kernel_in}
-use Rattle.coinst_run.specs.Lines.{size_line}
-use Rattle.kernel_text.specs.KernelText.{format_of, greater_conflicts, kernel_lines}
-use Rattle.row_book.specs.Numbers.{numbers}
-use Rattle.row_book.specs.Repository.{clauses_of}
-use Rattle.coinst_run.specs.Sample.{size_report}
+use Rattle.row_book.specs.{Book.{listed_for, repository_of}, Numbers.{numbers}, Repository.{clauses_of}}
+use Rattle.coinst_run.specs.{IndexKernel.{members_for}, Kernel.{kernel_in}, Lines.{size_line}, Sample.{size_report}}
+use Rattle.kernel_text.specs.{KernelText.{format_of, greater_conflicts, kernel_lines}, LineKinds.{is_against_line, is_needs_line}}
 use Rattle.kernel_text.proofs.LineCounts.{lines_are_counted}
-use Rattle.kernel_text.specs.LineKinds.{is_against_line, is_needs_line}
 
 -- ---- sums over the classes so far
 

@@ -1,39 +1,20 @@
 -- What is answered to goals that are asked of a stored kernel.
 use Rattle.std.proofs.Common.{◌≡◌, ℕ, ◌+◌, Bool, true, false, cond, List, [], ◌∷◌, ◌++◌, length, map, filter, None, Ok, Err, sym, ap, ◌∙◌, lt-ltb}
+use Rattle.std.proofs.{lemmas.Bool.{le-ltb}, lemmas.List.{append-nil, flat_map_more}, lemmas.List.Elements.{filter-append}}
 use Rattle.std.specs.List.{flat_map}
-use Rattle.std.proofs.lemmas.Bool.{le-ltb}
-use Rattle.std.proofs.lemmas.List.{append-nil, flat_map_more}
-use Rattle.std.proofs.lemmas.List.Elements.{filter-append}
-use Rattle.clause_solver.specs.Outcomes.{IsSearchOutcome}
-use Rattle.clause_solver.specs.declared.outcomes.Outcome.TheVariants.{Found, Refuted, Spent}
-use Rattle.kernel_text.specs.declared.fault.KernelFault.{KernelFault}
-use Rattle.kernel_text.specs.declared.fault.KernelFault.TheVariants.{End, Memory}
-use Rattle.kernel_text.specs.declared.member.Member.{Member}
-use Rattle.kernel_text.specs.Images.{image_of, unknown_goal}
-use Rattle.kernel_text.specs.KernelFaults.{IsFault}
-use Rattle.kernel_text.specs.KernelReads.{KernelReads, content}
-use Rattle.kernel_text.proofs.ReadIsWritten.{read_is_written}
+use Rattle.clause_solver.specs.{Outcomes.{IsSearchOutcome}, declared.outcomes.Outcome.TheVariants.{Found, Refuted, Spent}}
+use Rattle.kernel_text.specs.{declared.fault.KernelFault.{KernelFault}, declared.fault.KernelFault.TheVariants.{End, Memory}, declared.member.Member.{Member}}
+use Rattle.kernel_text.specs.{Images.{image_of, unknown_goal}, KernelFaults.{IsFault}, KernelReads.{KernelReads, content}}
+use Rattle.kernel_text.proofs.{ReadIsWritten.{read_is_written}, StoredReading.{reading_is}}
 use Rattle.repo_model.specs.declared.goals.Goal.{Goal}
-use Rattle.row_book.specs.Numbers.{numbers}
-use Rattle.row_book.specs.Flags.{flag}
-use Rattle.row_book.specs.Needs.{NeedsFit}
-use Rattle.row_book.specs.Repository.{Repository}
-use Rattle.row_book.specs.Sound.{SoundRepository}
+use Rattle.row_book.specs.{Numbers.{numbers}, Flags.{flag}, Needs.{NeedsFit}, Repository.{Repository}, Sound.{SoundRepository}}
 use Rattle.row_book.proofs.Numbers.{numbers_more}
-use Rattle.search_terms.specs.Form.{form}
-use Rattle.search_terms.specs.declared.literals.Log.{Log}
-use Rattle.search_terms.specs.Tree.{IsTree, Tree, failed_leaves, found_of}
-use Rattle.search_terms.proofs.Computed.{search_tree_is}
-use Rattle.search_terms.proofs.Found.{one_tree}
+use Rattle.search_terms.specs.{Form.{form}, declared.literals.Log.{Log}, Tree.{IsTree, Tree, failed_leaves, found_of}}
+use Rattle.search_terms.proofs.{Computed.{search_tree_is}, Found.{one_tree}}
 use Rattle.suite_compare.specs.Asking.{tree_of}
 use Rattle.suite_compare.proofs.Ranged.{formula_ranged}
-use Rattle.coinst_run.specs.declared.answer.Cause.TheVariants.{Content}
-use Rattle.coinst_run.specs.declared.answer.ReportVerdict.TheVariants.{Done, Negative, Undecided}
-use Rattle.coinst_run.specs.Answer.{Answer, refused, reported}
-use Rattle.coinst_run.specs.Course.{answers}
-use Rattle.coinst_run.specs.Query.{by_found, by_tree}
-use Rattle.coinst_run.specs.QueryText.{no_text, undecided_text}
-use Rattle.kernel_text.proofs.StoredReading.{reading_is}
+use Rattle.coinst_run.specs.{declared.answer.Cause.TheVariants.{Content}, declared.answer.ReportVerdict.TheVariants.{Done, Negative, Undecided}}
+use Rattle.coinst_run.specs.{Answer.{Answer, refused, reported}, Course.{answers}, Query.{by_found, by_tree}, QueryText.{no_text, undecided_text}}
 use Rattle.coinst_run.specs.StoredQuery.{by_reading, checked_kernel, class_line, classes_text, kernel_fault_line, stored_answer, stored_by_unknown}
 
 -- a text that was read, and one that was refused

@@ -1,52 +1,26 @@
 -- What the report of a query of a stored kernel means.
 use Rattle.std.proofs.Common.{◌≡◌, ℕ, ◌+◌, ◌<◌, Bool, List, [], ◌∷◌, ◌++◌, length, filter, Option, Some, None, Result, Ok, Err, inr, refl, sym, ap₂, subst, ◌∙◌, append_assoc, arith}
-use Rattle.std.specs.Prelude.{codes}
-use Rattle.std.specs.Fmt.{decimal}
-use Rattle.std.specs.List.{flat_map}
-use Rattle.std.proofs.Math.Path.{fun_ext}
-use Rattle.std.proofs.lemmas.List.{append_cancel_left}
-use Rattle.listed.proofs.Lists.{In_has}
+use Rattle.std.proofs.{Math.Path.{fun_ext}, lemmas.List.{append_cancel_left}}
+use Rattle.std.specs.{Prelude.{codes}, Fmt.{decimal}, List.{flat_map}}
+use Rattle.listed.proofs.{Lists.{In_has}, Orders.{ascending_filter}}
 use Rattle.byte_flow.specs.Flow.{Files}
-use Rattle.kernel_text.specs.declared.fault.KernelFault.{KernelFault}
-use Rattle.kernel_text.specs.Images.{unknown_goal}
-use Rattle.kernel_text.specs.KernelReads.{KernelContent, KernelReads}
-use Rattle.kernel_text.specs.KernelText.{IsWritable}
-use Rattle.kernel_text.specs.Reading.{number_limit}
-use Rattle.kernel_text.proofs.OneReading.{one_reading}
-use Rattle.kernel_text.proofs.ReadIsWritten.{read_is_written}
-use Rattle.kernel_text.proofs.Spelling.{number_same}
-use Rattle.repo_model.specs.declared.goals.Goal.{Goal}
-use Rattle.row_book.specs.Numbers.{numbers}
-use Rattle.row_book.specs.Flags.{flag}
-use Rattle.listed.specs.Lists.{In, has, here, there}
-use Rattle.listed.proofs.Orders.{ascending_filter}
-use Rattle.row_book.proofs.Numbers.{numbers_ascending, numbers_from}
-use Rattle.row_book.proofs.Flags.{flag_in}
-use Rattle.search_terms.specs.Closure.{InRange}
-use Rattle.search_terms.specs.Form.{form}
-use Rattle.search_terms.specs.Laws.{Solves}
-use Rattle.search_terms.specs.Tree.{IsTree, Tree, found_of, log_of}
-use Rattle.search_terms.proofs.Certificates.{tree_derives}
-use Rattle.search_terms.proofs.Computed.{search_tree_is}
-use Rattle.search_terms.proofs.Found.{finds_healthy}
-use Rattle.suite_compare.specs.Asking.{tree_of}
-use Rattle.suite_compare.proofs.Ranged.{formula_ranged}
-use Rattle.coinst_run.specs.declared.answer.ReportVerdict.{ReportVerdict}
-use Rattle.coinst_run.specs.Answer.{reported}
-use Rattle.coinst_run.specs.Course.{answers, then_on}
-use Rattle.coinst_run.specs.Lines.{line_of_text}
-use Rattle.coinst_run.specs.Outcome.{answered, outcome_over}
-use Rattle.coinst_run.specs.QueryText.{no_text}
-use Rattle.coinst_run.specs.StoredMeaning.{MeansStored, StoredMeans, StoredNo, StoredQueryIsMeant, StoredYes}
-use Rattle.coinst_run.specs.Query.{by_tree}
-use Rattle.kernel_text.specs.StoredReading.{stored_reading}
-use Rattle.coinst_run.specs.StoredQuery.{by_reading, class_line, classes_text, stored_answer, stored_by_unknown, stored_query_answer}
-use Rattle.kernel_text.specs.Serving.{ServesStored, images_in}
-use Rattle.suite_compare.proofs.Installed.{kept}
-use Rattle.kernel_text.proofs.StoredReading.{reading_is}
+use Rattle.kernel_text.specs.{declared.fault.KernelFault.{KernelFault}, Images.{unknown_goal}, KernelReads.{KernelContent, KernelReads}}
+use Rattle.kernel_text.specs.{KernelText.{IsWritable}, Reading.{number_limit}, StoredReading.{stored_reading}, Serving.{ServesStored, images_in}}
+use Rattle.kernel_text.proofs.{OneReading.{one_reading}, ReadIsWritten.{read_is_written}, Spelling.{number_same}, StoredReading.{reading_is}}
 use Rattle.kernel_text.proofs.Serving.{all_named, images_fit, images_serve}
-use Rattle.coinst_run.proofs.AnswerMeant.{AnswerMeans, means_more, told_means, tree_means}
-use Rattle.coinst_run.proofs.GoingOn.{GivesThis, file_used, this_alone}
+use Rattle.repo_model.specs.declared.goals.Goal.{Goal}
+use Rattle.row_book.specs.{Numbers.{numbers}, Flags.{flag}}
+use Rattle.listed.specs.Lists.{In, has, here, there}
+use Rattle.row_book.proofs.{Numbers.{numbers_ascending, numbers_from}, Flags.{flag_in}}
+use Rattle.search_terms.specs.{Closure.{InRange}, Form.{form}, Laws.{Solves}, Tree.{IsTree, Tree, found_of, log_of}}
+use Rattle.search_terms.proofs.{Certificates.{tree_derives}, Computed.{search_tree_is}, Found.{finds_healthy}}
+use Rattle.suite_compare.specs.Asking.{tree_of}
+use Rattle.suite_compare.proofs.{Ranged.{formula_ranged}, Installed.{kept}}
+use Rattle.coinst_run.specs.{declared.answer.ReportVerdict.{ReportVerdict}, Answer.{reported}, Course.{answers, then_on}, Lines.{line_of_text}}
+use Rattle.coinst_run.specs.{Outcome.{answered, outcome_over}, QueryText.{no_text}}
+use Rattle.coinst_run.specs.{StoredMeaning.{MeansStored, StoredMeans, StoredNo, StoredQueryIsMeant, StoredYes}, Query.{by_tree}}
+use Rattle.coinst_run.specs.StoredQuery.{by_reading, class_line, classes_text, stored_answer, stored_by_unknown, stored_query_answer}
+use Rattle.coinst_run.proofs.{AnswerMeant.{AnswerMeans, means_more, told_means, tree_means}, GoingOn.{GivesThis, file_used, this_alone}}
 
 -- no two lists of classes have one text
 one_line : (m n : ℕ) (R S : List ℕ) → m < number_limit → n < number_limit → class_line m ++ R ≡ class_line n ++ S → (m ≡ n) × (R ≡ S)

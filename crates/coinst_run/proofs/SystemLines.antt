@@ -1,6 +1,5 @@
 -- The line of an own package, by its number.
-use Rattle.std.proofs.Common.{◌≡◌, ℕ, ◌<◌, List, length, get_or, refl}
-use Rattle.std.proofs.lemmas.List.{get_or_read_under}
+use Rattle.std.proofs.{Common.{◌≡◌, ℕ, ◌<◌, List, length, get_or, refl}, lemmas.List.{get_or_read_under}}
 use Rattle.status_check.specs.declared.report.HaveLine.{HaveLine}
 use Rattle.coinst_run.specs.SystemText.{line_at, no_line}
 

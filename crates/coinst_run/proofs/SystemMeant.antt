@@ -2,21 +2,13 @@
 use Rattle.std.proofs.Common.{◌≡◌, ℕ, Bool, List, Option, Some, None, refl}
 use Rattle.byte_flow.specs.Flow.{Files}
 use Rattle.repo_model.specs.declared.fault.IndexFault.{IndexFault}
-use Rattle.status_check.specs.Own.{own_home, own_packages, status_fault}
-use Rattle.status_check.specs.Report.{had_goals}
-use Rattle.status_check.specs.declared.report.StatusReport.{StatusReport}
-use Rattle.status_check.proofs.Judging.{judged, told_healthy}
+use Rattle.status_check.specs.{Own.{own_home, own_packages, status_fault}, Report.{had_goals}, declared.report.StatusReport.{StatusReport}}
+use Rattle.status_check.proofs.{Judging.{judged, told_healthy}, OwnStates.{own_there}}
 use Rattle.suite_compare.specs.Refusals.{home_in, packages_in}
-use Rattle.coinst_run.specs.declared.answer.ReportVerdict.{ReportVerdict}
-use Rattle.coinst_run.specs.Answer.{reported}
-use Rattle.coinst_run.specs.Course.{answers, then_on}
-use Rattle.coinst_run.specs.Index.{Index, index_in}
-use Rattle.coinst_run.specs.Outcome.{answered, outcome_over}
-use Rattle.coinst_run.specs.SystemMeaning.{SystemIsMeant, SystemMeans}
+use Rattle.coinst_run.specs.{declared.answer.ReportVerdict.{ReportVerdict}, Answer.{reported}, Course.{answers, then_on}, Index.{Index, index_in}}
+use Rattle.coinst_run.specs.{Outcome.{answered, outcome_over}, SystemMeaning.{SystemIsMeant, SystemMeans}}
 use Rattle.coinst_run.specs.SystemStatus.{system_answer, system_by_fault, system_course, system_in, system_report, told_answer}
-use Rattle.coinst_run.proofs.AnswerMeant.{told_means}
-use Rattle.coinst_run.proofs.GoingOn.{GivesThis, file_used, kernel_used, this_alone}
-use Rattle.status_check.proofs.OwnStates.{own_there}
+use Rattle.coinst_run.proofs.{AnswerMeant.{told_means}, GoingOn.{GivesThis, file_used, kernel_used, this_alone}}
 
 -- a status file that is read and told
 module _ (path : List ℕ) (budget limit : ℕ) (hold : Bool) (index : Index) (files : Files) (verdict : ReportVerdict) (printed : List ℕ) where

@@ -1,26 +1,15 @@
 -- The report on an installed system, by what the call below answers.
-use Rattle.std.proofs.Common.{◌≡◌, ℕ, ◌<◌, Bool, List, length, map, Option, Some, None, sym, ap, ap₂, ◌∙◌, arith}
-use Rattle.std.proofs.lemmas.List.{length-map}
-use Rattle.relation_fields.specs.declared.packages.Home.{Home}
-use Rattle.relation_fields.specs.declared.packages.PackageFacts.{PackageFacts}
-use Rattle.repo_model.specs.Repository.{suite_repository}
-use Rattle.repo_model.specs.declared.fault.IndexFault.{IndexFault}
+use Rattle.std.proofs.{Common.{◌≡◌, ℕ, ◌<◌, Bool, List, length, map, Option, Some, None, sym, ap, ap₂, ◌∙◌, arith}, lemmas.List.{length-map}}
+use Rattle.relation_fields.specs.{declared.packages.Home.{Home}, declared.packages.PackageFacts.{PackageFacts}}
+use Rattle.repo_model.specs.{Repository.{suite_repository}, declared.fault.IndexFault.{IndexFault}}
 use Rattle.row_book.specs.Sets.{Is}
 use Rattle.suite_compare.specs.Asking.{verdict_in}
-use Rattle.status_check.specs.Own.{foreign_count, own_home, own_packages, status_fault}
-use Rattle.status_check.specs.Report.{all_of, had_goals, line_for, state_of, IsStateOf}
-use Rattle.status_check.specs.declared.report.HaveLine.{HaveLine}
-use Rattle.status_check.specs.declared.report.OwnState.{OwnState}
-use Rattle.status_check.specs.declared.report.OwnState.TheVariants.{Healthy, Unhit, Clash}
-use Rattle.status_check.specs.declared.report.StatusReport.{StatusReport}
-use Rattle.status_check.specs.declared.report.SuiteState.{SuiteState}
-use Rattle.coinst_run.specs.declared.answer.ReportVerdict.{ReportVerdict}
-use Rattle.coinst_run.specs.Answer.{reported}
-use Rattle.coinst_run.specs.Course.{answers, then_on}
-use Rattle.coinst_run.specs.Ending.{StopsAt}
-use Rattle.coinst_run.specs.Index.{Index, by_fault}
-use Rattle.coinst_run.specs.Outcome.{Outcome, answered, unread, not_a_command}
-use Rattle.status_check.specs.States.{set_state}
+use Rattle.status_check.specs.{Own.{foreign_count, own_home, own_packages, status_fault}, Report.{all_of, had_goals, line_for, state_of, IsStateOf}}
+use Rattle.status_check.specs.{declared.report.HaveLine.{HaveLine}, declared.report.OwnState.{OwnState}}
+use Rattle.status_check.specs.{declared.report.OwnState.TheVariants.{Healthy, Unhit, Clash}, declared.report.StatusReport.{StatusReport}}
+use Rattle.status_check.specs.{declared.report.SuiteState.{SuiteState}, States.{set_state}}
+use Rattle.coinst_run.specs.{declared.answer.ReportVerdict.{ReportVerdict}, Answer.{reported}, Course.{answers, then_on}, Ending.{StopsAt}}
+use Rattle.coinst_run.specs.{Index.{Index, by_fault}, Outcome.{Outcome, answered, unread, not_a_command}}
 use Rattle.coinst_run.specs.SystemStatus.{system_answer, system_by_fault, system_in, system_report, told_answer}
 use Rattle.coinst_run.specs.SystemText.{system_text, system_verdict, AreOfLines}
 use Rattle.status_check.proofs.OwnStates.{among_all, own_is}

@@ -1,18 +1,13 @@
 -- What the report of a comparison means for the two indexes.
 use Rattle.std.specs.Prelude.{◌≡◌, ℕ, Bool, List, length, None, Some, [], ◌∷◌, ◌++◌, filter, map}
 use Rattle.byte_flow.specs.Flow.{Files}
-use Rattle.headline.specs.Indexes.{searched}
-use Rattle.headline.specs.Listing.{ListsExactly, ListsLosses, LosesNothing}
+use Rattle.headline.specs.{Indexes.{searched}, Listing.{ListsExactly, ListsLosses, LosesNothing}}
 use Rattle.kernel_text.specs.KernelLines.{lines_of}
 use Rattle.repo_model.specs.FirstFault.{first_fault}
 use Rattle.suite_compare.specs.declared.report.ReportLine.{ReportLine}
-use Rattle.coinst_run.specs.declared.answer.ReportVerdict.{ReportVerdict}
-use Rattle.coinst_run.specs.declared.answer.ReportVerdict.TheVariants.{Done}
-use Rattle.coinst_run.specs.Answer.{reported}
-use Rattle.coinst_run.specs.Compare.{compare_course}
-use Rattle.coinst_run.specs.ComparePrints.{PrintsExactly}
-use Rattle.coinst_run.specs.CompareText.{comparison_line, comparison_text, comparison_verdict, end_text, is_open}
-use Rattle.coinst_run.specs.Outcome.{answered, outcome_over}
+use Rattle.coinst_run.specs.{declared.answer.ReportVerdict.{ReportVerdict}, declared.answer.ReportVerdict.TheVariants.{Done}, Answer.{reported}}
+use Rattle.coinst_run.specs.{Compare.{compare_course}, ComparePrints.{PrintsExactly}}
+use Rattle.coinst_run.specs.{CompareText.{comparison_line, comparison_text, comparison_verdict, end_text, is_open}, Outcome.{answered, outcome_over}}
 
 -- Both texts are indexes without a fault. The line `broken NAME` is printed for exactly those names of both that the older index can
 -- install and the newer one cannot, `open NAME` for exactly those at which a search that would tell went past the budget, and so

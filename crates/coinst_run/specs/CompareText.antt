@@ -1,11 +1,8 @@
 -- The text of a comparison.
-use Rattle.std.specs.Prelude.{ℕ, Bool, not, List, ◌++◌, codes, filter, length, if◌then◌else◌}
-use Rattle.std.specs.List.{flat_map, list_any}
+use Rattle.std.specs.{Prelude.{ℕ, Bool, not, List, ◌++◌, codes, filter, length, if◌then◌else◌}, List.{flat_map, list_any}}
 use Rattle.headline.specs.Listing.{is_broken}
-use Rattle.suite_compare.specs.declared.report.ReportLine.{ReportLine}
-use Rattle.suite_compare.specs.declared.report.ReportLine.TheVariants.{Broken1, Broken2, Open1, Open2}
-use Rattle.coinst_run.specs.declared.answer.ReportVerdict.{ReportVerdict}
-use Rattle.coinst_run.specs.declared.answer.ReportVerdict.TheVariants.{Done, Negative, Undecided}
+use Rattle.suite_compare.specs.{declared.report.ReportLine.{ReportLine}, declared.report.ReportLine.TheVariants.{Broken1, Broken2, Open1, Open2}}
+use Rattle.coinst_run.specs.{declared.answer.ReportVerdict.{ReportVerdict}, declared.answer.ReportVerdict.TheVariants.{Done, Negative, Undecided}}
 use Rattle.coinst_run.specs.Lines.{end_text as counts_text, pair_text, single_text}
 
 abbrev pub comparison_line : ReportLine → List ℕ

@@ -1,15 +1,9 @@
 -- What the two sinks take of an answer, and the status.
-use Rattle.std.specs.Prelude.{◌≡◌, ℕ, ◌<◌, ◌≤◌, ◌⊎◌, List, [], ◌++◌, drop, length, take, Option, Some, None, ⊤}
-use Rattle.std.specs.Io.KnownBytes.{Appends}
-use Rattle.byte_flow.specs.Flow.{Rose}
-use Rattle.byte_flow.specs.Transfer.{LastWriteFailed, Sent}
-use Rattle.coinst_run.specs.declared.answer.ReportVerdict.{ReportVerdict}
-use Rattle.coinst_run.specs.declared.status.Status.{Status}
-use Rattle.coinst_run.specs.declared.status.Status.TheVariants.{Memory, WriteFault}
-use Rattle.coinst_run.specs.Answer.{reported, refused}
-use Rattle.coinst_run.specs.Lines.{cut_line, memory_line}
-use Rattle.coinst_run.specs.Outcome.{Outcome, answered, unread, not_a_command, line_of, status_of}
-use Rattle.coinst_run.specs.Status.{verdict_status}
+use Rattle.std.specs.{Prelude.{◌≡◌, ℕ, ◌<◌, ◌≤◌, ◌⊎◌, List, [], ◌++◌, drop, length, take, Option, Some, None, ⊤}, Io.KnownBytes.{Appends}}
+use Rattle.byte_flow.specs.{Flow.{Rose}, Transfer.{LastWriteFailed, Sent}}
+use Rattle.coinst_run.specs.{declared.answer.ReportVerdict.{ReportVerdict}, declared.status.Status.{Status}}
+use Rattle.coinst_run.specs.{declared.status.Status.TheVariants.{Memory, WriteFault}, Answer.{reported, refused}, Lines.{cut_line, memory_line}}
+use Rattle.coinst_run.specs.{Outcome.{Outcome, answered, unread, not_a_command, line_of, status_of}, Status.{verdict_status}}
 
 -- writes, each of which was given a front of what was left of the line and took at least one byte, lead from the sink `old` to a
 -- sink, and leave these bytes

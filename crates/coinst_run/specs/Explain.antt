@@ -1,19 +1,12 @@
 -- The command that tells why one package for each goal cannot be installed together.
 use Rattle.std.specs.Prelude.{ℕ, Bool, List, Option, Some, None}
-use Rattle.explain_core.specs.Explaining.{explanation_of}
-use Rattle.explain_core.specs.declared.explanation.Explanation.{Explanation}
+use Rattle.explain_core.specs.{Explaining.{explanation_of}, declared.explanation.Explanation.{Explanation}}
 use Rattle.explain_core.specs.declared.explanation.Explanation.TheVariants.{Yes, Spent, Core}
 use Rattle.relation_fields.specs.declared.packages.PackageFacts.{PackageFacts}
 use Rattle.repo_model.specs.declared.goals.Goal.{Goal}
 use Rattle.suite_compare.specs.Answering.{unknown_goal}
-use Rattle.coinst_run.specs.declared.answer.ReportVerdict.TheVariants.{Done, Negative, Undecided}
-use Rattle.coinst_run.specs.Answer.{Answer, reported}
-use Rattle.coinst_run.specs.Course.{Course, answers}
-use Rattle.coinst_run.specs.ExplainText.{core_text, yes_line}
-use Rattle.coinst_run.specs.Index.{Index}
-use Rattle.coinst_run.specs.IndexKernel.{ClassedKernel}
-use Rattle.coinst_run.specs.Kernel.{reads_kernel}
-use Rattle.coinst_run.specs.Query.{unknown_answer}
+use Rattle.coinst_run.specs.{declared.answer.ReportVerdict.TheVariants.{Done, Negative, Undecided}, Answer.{Answer, reported}, Course.{Course, answers}}
+use Rattle.coinst_run.specs.{ExplainText.{core_text, yes_line}, Index.{Index}, IndexKernel.{ClassedKernel}, Kernel.{reads_kernel}, Query.{unknown_answer}}
 use Rattle.coinst_run.specs.QueryText.{undecided_text}
 
 -- the report on an explanation

@@ -2,8 +2,7 @@
 -- An index that was read into a feed.
 use Rattle.std.specs.Prelude.{ℕ, Bool, List, Option}
 use Rattle.byte_flow.specs.Flow.{Files}
-use Rattle.repo_model.specs.Feed.{FeedStandsFor}
-use Rattle.repo_model.specs.declared.feed.SuiteFeed.{SuiteFeed}
+use Rattle.repo_model.specs.{Feed.{FeedStandsFor}, declared.feed.SuiteFeed.{SuiteFeed}}
 use Rattle.coinst_run.specs.Follows.{WasRead}
 
 -- The file at the path was read whole, and the feed stands for its text.

@@ -1,6 +1,5 @@
 -- The lines on standard error, the one on the size of a kernel, and what the lines of several reports are made of.
-use Rattle.std.specs.Prelude.{ℕ, List, [], ◌∷◌, ◌++◌, codes}
-use Rattle.std.specs.Fmt.{decimal}
+use Rattle.std.specs.{Prelude.{ℕ, List, [], ◌∷◌, ◌++◌, codes}, Fmt.{decimal}}
 use Rattle.relation_fields.specs.declared.packages.PackageFacts.{PackageFacts}
 use Rattle.stanza_reader.specs.declared.fault.StanzaFault.{StanzaFault}
 use Rattle.stanza_reader.specs.declared.fault.StanzaFault.TheVariants as shape

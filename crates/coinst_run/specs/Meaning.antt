@@ -1,34 +1,17 @@
 -- Each command by its job: its course, what the program answers, and what its printed report means for the files that it came from.
 use Rattle.std.specs.Prelude.{◌≡◌, ℕ, Bool, true, false, List, Option, Some, None}
 use Rattle.suite_compare.specs.Refusals.{home_in, packages_in}
-use Rattle.coinst_run.specs.IndexKernel.{index_kernel}
-use Rattle.coinst_run.specs.Sample.{sample_limit, size_report}
+use Rattle.coinst_run.specs.{IndexKernel.{index_kernel}, Sample.{sample_limit, size_report, sample_course}, declared.answer.ReportVerdict.{ReportVerdict}}
+use Rattle.coinst_run.specs.{ExplainMeaning.{ExplainMeans}, MigrateMeaning.{MigrateMeans}, QueryMeaning.{QueryMeans}, StoredMeaning.{StoredMeans}}
+use Rattle.coinst_run.specs.{SystemMeaning.{SystemMeans}, CompareMeaning.{CompareMeans}, KernelMeaning.{KernelMeans}, Compare.{compare_course}}
+use Rattle.coinst_run.specs.{Explain.{explain_course}, Kernel.{kernel_course}, Query.{query_course}, Migrate.{migrate_course}}
+use Rattle.coinst_run.specs.{StoredQuery.{stored_query_course}, SystemStatus.{status_course}, Course.{Course}, Outcome.{Outcome, not_a_command, outcome_over}}
 use Rattle.sample_suite.specs.SampleText.{sample_text}
-use Rattle.kernel_text.specs.KernelJson.{kernel_json}
-use Rattle.kernel_text.specs.KernelText.{format_of}
+use Rattle.kernel_text.specs.{KernelJson.{kernel_json}, KernelText.{format_of}}
 use Rattle.repo_model.specs.FirstFault.{first_fault}
-use Rattle.coinst_words.specs.Jobs.{job_of}
-use Rattle.coinst_words.specs.declared.job.Job.{Job}
+use Rattle.coinst_words.specs.{Jobs.{job_of}, declared.job.Job.{Job}}
 use Rattle.coinst_words.specs.declared.job.Job.TheVariants.{Kernel, Query, StoredQuery, Compare, Explain, Status, Migrate, Sample}
 use Rattle.byte_flow.specs.Flow.{Files}
-use Rattle.coinst_run.specs.declared.answer.ReportVerdict.{ReportVerdict}
-use Rattle.coinst_run.specs.ExplainMeaning.{ExplainMeans}
-use Rattle.coinst_run.specs.MigrateMeaning.{MigrateMeans}
-use Rattle.coinst_run.specs.QueryMeaning.{QueryMeans}
-use Rattle.coinst_run.specs.StoredMeaning.{StoredMeans}
-use Rattle.coinst_run.specs.SystemMeaning.{SystemMeans}
-use Rattle.coinst_run.specs.CompareMeaning.{CompareMeans}
-use Rattle.coinst_run.specs.KernelMeaning.{KernelMeans}
-use Rattle.coinst_run.specs.Compare.{compare_course}
-use Rattle.coinst_run.specs.Explain.{explain_course}
-use Rattle.coinst_run.specs.Kernel.{kernel_course}
-use Rattle.coinst_run.specs.Query.{query_course}
-use Rattle.coinst_run.specs.Migrate.{migrate_course}
-use Rattle.coinst_run.specs.Sample.{sample_course}
-use Rattle.coinst_run.specs.StoredQuery.{stored_query_course}
-use Rattle.coinst_run.specs.SystemStatus.{status_course}
-use Rattle.coinst_run.specs.Course.{Course}
-use Rattle.coinst_run.specs.Outcome.{Outcome, not_a_command, outcome_over}
 
 -- the course of each command
 abbrev pub course_of : Job → Course

@@ -1,19 +1,11 @@
 -- What the report on a plan means for the two indexes.
 use Rattle.std.specs.Prelude.{◌≡◌, ℕ, Bool, List, [], map, None, Some}
 use Rattle.byte_flow.specs.Flow.{Files}
-use Rattle.migrate_plan.specs.Differing.{differing}
-use Rattle.migrate_plan.specs.Plan.{settings_of}
-use Rattle.migrate_plan.specs.Promises.{AreRight, MixesAreIndexes, TakesSafely, planned_name}
-use Rattle.migrate_plan.specs.Refusals.{plan_refusal}
-use Rattle.migrate_plan.specs.declared.plan.PlanLine.{PlanLine}
-use Rattle.repo_model.specs.FirstFault.{first_fault}
-use Rattle.repo_model.specs.declared.goals.Goal.{Goal}
-use Rattle.suite_compare.specs.Asking.{HasVerdict, verdict_in}
-use Rattle.suite_compare.specs.Refusals.{home_in, packages_in}
-use Rattle.coinst_run.specs.declared.answer.ReportVerdict.{ReportVerdict}
-use Rattle.coinst_run.specs.Answer.{reported}
-use Rattle.coinst_run.specs.Migrate.{migrate_course}
-use Rattle.coinst_run.specs.MigrateText.{plan_text, plan_verdict}
+use Rattle.migrate_plan.specs.{Differing.{differing}, Plan.{settings_of}, Promises.{AreRight, MixesAreIndexes, TakesSafely, planned_name}}
+use Rattle.migrate_plan.specs.{Refusals.{plan_refusal}, declared.plan.PlanLine.{PlanLine}}
+use Rattle.repo_model.specs.{FirstFault.{first_fault}, declared.goals.Goal.{Goal}}
+use Rattle.suite_compare.specs.{Asking.{HasVerdict, verdict_in}, Refusals.{home_in, packages_in}}
+use Rattle.coinst_run.specs.{declared.answer.ReportVerdict.{ReportVerdict}, Answer.{reported}, Migrate.{migrate_course}, MigrateText.{plan_text, plan_verdict}}
 use Rattle.coinst_run.specs.Outcome.{answered, outcome_over}
 
 -- Both texts are indexes without a fault, of which a plan may be made, and every mix of names that differ is an index without a

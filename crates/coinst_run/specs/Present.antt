@@ -1,8 +1,7 @@
 -- What is there for a course to go on by: a file, an index without a fault, one within the clause limit.
 use Rattle.std.specs.Prelude.{◌≡◌, ℕ, ◌≤◌, Bool, List, length, Some, None}
 use Rattle.byte_flow.specs.Flow.{Files}
-use Rattle.repo_model.specs.FirstFault.{first_fault}
-use Rattle.repo_model.specs.Repository.{suite_repository}
+use Rattle.repo_model.specs.{FirstFault.{first_fault}, Repository.{suite_repository}}
 use Rattle.row_book.specs.Rounds.{limit_at}
 use Rattle.suite_compare.specs.Refusals.{home_in, packages_in}
 use Rattle.coinst_run.specs.Outcome.{file_limit}

@@ -1,10 +1,7 @@
 -- The texts of a query: its reports, and the line of a goal that names no package.
-use Rattle.std.specs.Prelude.{ℕ, List, [], ◌++◌, codes, if◌then◌else◌, Option, Some, None}
-use Rattle.std.specs.Fmt.{decimal}
-use Rattle.std.specs.List.{flat_map}
+use Rattle.std.specs.{Prelude.{ℕ, List, [], ◌++◌, codes, if◌then◌else◌, Option, Some, None}, Fmt.{decimal}, List.{flat_map}}
 use Rattle.relation_fields.specs.declared.packages.PackageFacts.{PackageFacts}
-use Rattle.repo_model.specs.declared.goals.Goal.{Goal}
-use Rattle.repo_model.specs.Stanzas.{stanza_at}
+use Rattle.repo_model.specs.{declared.goals.Goal.{Goal}, Stanzas.{stanza_at}}
 use Rattle.search_terms.specs.declared.literals.Literal.{Literal}
 use Rattle.coinst_run.specs.Lines.{counted_line, line_of_text, pair_text}
 

@@ -1,11 +1,7 @@
 -- What a run answers.
-use Rattle.std.specs.Prelude.{◌≡◌, ℕ, ◌<◌, ◌≤◌, ◌⊎◌, List, [], length, take, Option, Some, None, ⊤}
-use Rattle.std.specs.Io.KnownBytes.{Appends}
-use Rattle.coinst_run.specs.declared.status.Status.{Status}
-use Rattle.coinst_run.specs.declared.status.Status.TheVariants.{Memory, ReadFault, WriteFault}
-use Rattle.coinst_run.specs.Delivers.{IsStop}
-use Rattle.coinst_run.specs.Lines.{unread_line}
-use Rattle.coinst_run.specs.Outcome.{Outcome, unread, line_of, report_of, status_of}
+use Rattle.std.specs.{Prelude.{◌≡◌, ℕ, ◌<◌, ◌≤◌, ◌⊎◌, List, [], length, take, Option, Some, None, ⊤}, Io.KnownBytes.{Appends}}
+use Rattle.coinst_run.specs.{declared.status.Status.{Status}, declared.status.Status.TheVariants.{Memory, ReadFault, WriteFault}, Delivers.{IsStop}}
+use Rattle.coinst_run.specs.{Lines.{unread_line}, Outcome.{Outcome, unread, line_of, report_of, status_of}}
 
 -- a report
 abbrev pub IsReport : Outcome → Type 0

@@ -1,19 +1,11 @@
 -- What the report on an installed system means for the status file and the index.
 use Rattle.std.specs.Prelude.{◌≡◌, ◌↔◌, ℕ, Bool, List, map, Some, None}
 use Rattle.byte_flow.specs.Flow.{Files}
-use Rattle.repo_model.specs.FirstFault.{first_fault}
-use Rattle.repo_model.specs.Repository.{suite_repository}
-use Rattle.repo_model.specs.Stanzas.{HealthyStanzas}
-use Rattle.suite_compare.specs.Asking.{verdict_in}
-use Rattle.suite_compare.specs.Refusals.{home_in, packages_in}
-use Rattle.status_check.specs.Own.{foreign_count, own_home, own_packages, status_fault}
-use Rattle.status_check.specs.Report.{all_of, had_goals, line_for, state_of, IsJudged, IsStateOf}
-use Rattle.status_check.specs.declared.report.OwnState.TheVariants.{Healthy}
-use Rattle.status_check.specs.declared.report.StatusReport.{StatusReport}
-use Rattle.coinst_run.specs.declared.answer.ReportVerdict.{ReportVerdict}
-use Rattle.coinst_run.specs.Answer.{reported}
-use Rattle.coinst_run.specs.Outcome.{answered, outcome_over}
-use Rattle.coinst_run.specs.SystemStatus.{status_course}
+use Rattle.repo_model.specs.{FirstFault.{first_fault}, Repository.{suite_repository}, Stanzas.{HealthyStanzas}}
+use Rattle.suite_compare.specs.{Asking.{verdict_in}, Refusals.{home_in, packages_in}}
+use Rattle.status_check.specs.{Own.{foreign_count, own_home, own_packages, status_fault}, Report.{all_of, had_goals, line_for, state_of, IsJudged, IsStateOf}}
+use Rattle.status_check.specs.{declared.report.OwnState.TheVariants.{Healthy}, declared.report.StatusReport.{StatusReport}}
+use Rattle.coinst_run.specs.{declared.answer.ReportVerdict.{ReportVerdict}, Answer.{reported}, Outcome.{answered, outcome_over}, SystemStatus.{status_course}}
 use Rattle.coinst_run.specs.SystemText.{system_text, system_verdict}
 
 -- The suite is an index without a fault, and the status file has none against its home. The printed bytes tell a report: for

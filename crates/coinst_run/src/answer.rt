@@ -103,9 +103,7 @@ impl Report {
 
 impl Stop {
     ghost use Rattle.std.specs.Prelude.{◌≡◌, ℕ, IfOk, IfSome, List};
-    ghost use Rattle.coinst_run.specs.Answer.{refused};
-    ghost use Rattle.coinst_run.specs.Ending.{stop_ending};
-    ghost use Rattle.coinst_run.specs.Outcome.{answered};
+    ghost use Rattle.coinst_run.specs.{Answer.{refused}, Ending.{stop_ending}, Outcome.{answered}};
 
     /// The refusal of a cause with the line that says so, unless no memory was found for the line.
     pub(crate) fn refused(cause: Cause, line: Result<Vec<u8>, AllocError>) -> Self

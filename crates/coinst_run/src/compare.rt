@@ -2,12 +2,8 @@
 ghost use Rattle.std.specs.Prelude.{◌≡◌, ◌<◌};
 ghost use Rattle.clause_solver.specs.Outcomes.{IsBudget};
 ghost use Rattle.coinst_words.specs.Jobs.{AreInLimits};
-ghost use Rattle.coinst_run.specs.Compare.{broken_lines, compare_answer, compare_course, lines_answer};
-ghost use Rattle.coinst_run.specs.Course.{answers};
-ghost use Rattle.coinst_run.specs.Ending.{Settles, ending_of};
-ghost use Rattle.coinst_run.specs.Follows.{Follows};
-ghost use Rattle.coinst_run.specs.Index.{index_of};
-ghost use Rattle.coinst_run.specs.Kernel.{reads_kernel};
+ghost use Rattle.coinst_run.specs.{Compare.{broken_lines, compare_answer, compare_course, lines_answer}, Course.{answers}, Ending.{Settles, ending_of}};
+ghost use Rattle.coinst_run.specs.{Follows.{Follows}, Index.{index_of}, Kernel.{reads_kernel}};
 
 use crate::answer::{Report, Stop};
 use crate::compare_text::{comparison_text, comparison_verdict};

@@ -1,6 +1,5 @@
 //! The report of a comparison, made whole in memory.
-ghost use Rattle.std.specs.Prelude.{◌≡◌, ◌++◌, IfOk, OnOk, filter, length};
-ghost use Rattle.std.specs.List.{list_any};
+ghost use Rattle.std.specs.{Prelude.{◌≡◌, ◌++◌, IfOk, OnOk, filter, length}, List.{list_any}};
 ghost use Rattle.coinst_run.specs.CompareText.{comparison_line, comparison_text, comparison_verdict, is_open};
 ghost use Rattle.headline.specs.Listing.{is_broken};
 

@@ -2,12 +2,9 @@
 ghost use Rattle.std.specs.Prelude.{length};
 ghost use Rattle.clause_solver.specs.Outcomes.{IsBudget};
 ghost use Rattle.coinst_words.specs.Jobs.{AreInLimits};
-ghost use Rattle.coinst_run.specs.Course.{answers};
-ghost use Rattle.coinst_run.specs.Ending.{Settles, ending_of};
+ghost use Rattle.coinst_run.specs.{Course.{answers}, Ending.{Settles, ending_of}, Explain.{explain_course, explanation_answer, goals_explained}};
+ghost use Rattle.coinst_run.specs.{Follows.{Follows}, Index.{index_of}};
 ghost use Rattle.explain_core.specs.OnStanzas.{IsTellable};
-ghost use Rattle.coinst_run.specs.Explain.{explain_course, explanation_answer, goals_explained};
-ghost use Rattle.coinst_run.specs.Follows.{Follows};
-ghost use Rattle.coinst_run.specs.Index.{index_of};
 
 use crate::answer::{Report, ReportVerdict, Stop};
 use crate::explain_text::core_text;

@@ -1,8 +1,6 @@
 //! The report of an explanation, made whole in memory.
-ghost use Rattle.std.specs.Prelude.{◌≡◌, ◌++◌, IfOk, IfSome, OnOk, length};
-ghost use Rattle.std.specs.List.{flat_map};
-ghost use Rattle.explain_core.specs.Picking.{ArePlacesFrom1};
-ghost use Rattle.explain_core.specs.OnStanzas.{AreClashesOf};
+ghost use Rattle.std.specs.{Prelude.{◌≡◌, ◌++◌, IfOk, IfSome, OnOk, length}, List.{flat_map}};
+ghost use Rattle.explain_core.specs.{Picking.{ArePlacesFrom1}, OnStanzas.{AreClashesOf}};
 ghost use Rattle.coinst_run.specs.ExplainText.{clash_count, clash_line, clash_text, clashes_text, core_text, goal_line, goal_text};
 
 use crate::lines::{Made, Put, push_end, push_versioned};

@@ -2,10 +2,7 @@
 ghost use Rattle.std.specs.Prelude.{◌≡◌, IfOk};
 ghost use Rattle.coinst_words.specs.Jobs.{AreInLimits};
 ghost use Rattle.repo_model.specs.Facts.{AreNamedPackages};
-ghost use Rattle.coinst_run.specs.Ending.{Settles, ending_of};
-ghost use Rattle.coinst_run.specs.Follows.{Follows};
-ghost use Rattle.coinst_run.specs.Index.{index_of};
-ghost use Rattle.coinst_run.specs.IndexKernel.{index_kernel};
+ghost use Rattle.coinst_run.specs.{Ending.{Settles, ending_of}, Follows.{Follows}, Index.{index_of}, IndexKernel.{index_kernel}};
 ghost use Rattle.coinst_run.specs.Kernel.{kernel_answer, kernel_course, printed_kernel};
 
 use crate::answer::{Report, ReportVerdict, Stop};

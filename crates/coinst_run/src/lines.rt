@@ -1,6 +1,5 @@
 //! The lines of reports and the lines about a file, put together in memory.
-ghost use Rattle.std.specs.Prelude.{◌≡◌, ◌++◌, IfOk, OnOk};
-ghost use Rattle.std.specs.Fmt.{decimal};
+ghost use Rattle.std.specs.{Prelude.{◌≡◌, ◌++◌, IfOk, OnOk}, Fmt.{decimal}};
 ghost use Rattle.coinst_run.specs.Lines.{about, at_line, counted_line, end_text, fault_line, fault_text, pair_text, row_text, shape_text, single_text, size_line, stage_text, too_long_line, versioned_text};
 
 use itoa::Buffer;

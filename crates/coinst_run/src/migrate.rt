@@ -2,18 +2,11 @@
 ghost use Rattle.std.specs.Prelude.{◌≡◌, ◌<◌, ◌≤◌, ℕ, List, Option, IfErr, IfOk, length};
 ghost use Rattle.clause_solver.specs.Outcomes.{IsBudget};
 ghost use Rattle.coinst_words.specs.Jobs.{AreInLimits};
-ghost use Rattle.migrate_plan.specs.Notes.{AreTexts, IsNotedOf, Texts};
-ghost use Rattle.migrate_plan.specs.Plan.{settings_of};
-ghost use Rattle.migrate_plan.specs.Refusals.{Refuses};
-ghost use Rattle.migrate_plan.specs.declared.plan.PlanLine.{PlanLine};
+ghost use Rattle.migrate_plan.specs.{Notes.{AreTexts, IsNotedOf, Texts}, Plan.{settings_of}, Refusals.{Refuses}, declared.plan.PlanLine.{PlanLine}};
 ghost use Rattle.migrate_plan.specs.declared.refusals.PlanError.{PlanError};
-ghost use Rattle.repo_model.specs.Feeding.{IsSuiteOf};
-ghost use Rattle.coinst_run.specs.Ending.{Settles, StopsAt, ending_of, stop_ending};
-ghost use Rattle.coinst_run.specs.Follows.{Follows};
-ghost use Rattle.coinst_run.specs.Index.{checked_index};
-ghost use Rattle.coinst_run.specs.Migrate.{by_refusal, homes_line, migrate_course, new_answer, new_course, old_answer, plan_answer};
-ghost use Rattle.coinst_run.specs.Noted.{IsReadOf};
-ghost use Rattle.repo_model.specs.Limits.{most_bytes};
+ghost use Rattle.repo_model.specs.{Feeding.{IsSuiteOf}, Limits.{most_bytes}};
+ghost use Rattle.coinst_run.specs.{Ending.{Settles, StopsAt, ending_of, stop_ending}, Follows.{Follows}, Index.{checked_index}};
+ghost use Rattle.coinst_run.specs.{Migrate.{by_refusal, homes_line, migrate_course, new_answer, new_course, old_answer, plan_answer}, Noted.{IsReadOf}};
 
 use crate::answer::{Cause, Report, Stop};
 use crate::lines::{Made, line_about, too_long_line};

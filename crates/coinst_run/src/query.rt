@@ -2,11 +2,7 @@
 ghost use Rattle.std.specs.Prelude.{◌≡◌, ◌<◌, ◌≤◌, IfSome, length};
 ghost use Rattle.clause_solver.specs.Outcomes.{IsBudget};
 ghost use Rattle.coinst_words.specs.Jobs.{AreInLimits};
-ghost use Rattle.coinst_run.specs.Course.{answers};
-ghost use Rattle.coinst_run.specs.Ending.{Settles, ending_of, stop_ending};
-ghost use Rattle.coinst_run.specs.Follows.{Follows};
-ghost use Rattle.coinst_run.specs.Index.{index_of};
-ghost use Rattle.coinst_run.specs.Outcome.{answered};
+ghost use Rattle.coinst_run.specs.{Course.{answers}, Ending.{Settles, ending_of, stop_ending}, Follows.{Follows}, Index.{index_of}, Outcome.{answered}};
 ghost use Rattle.coinst_run.specs.Query.{goal_of_number, goals_answer, query_course, unknown_answer};
 
 use crate::answer::{Cause, Report, ReportVerdict, Stop};

@@ -1,6 +1,5 @@
 //! The texts of a query, each made whole in memory.
-ghost use Rattle.std.specs.Prelude.{◌≡◌, ◌++◌, ◌<◌, ℕ, IfOk, OnOk, length};
-ghost use Rattle.std.specs.List.{flat_map};
+ghost use Rattle.std.specs.{Prelude.{◌≡◌, ◌++◌, ◌<◌, ℕ, IfOk, OnOk, length}, List.{flat_map}};
 ghost use Rattle.repo_model.specs.Stanzas.{stanza_at};
 ghost use Rattle.listed.specs.Lists.{In};
 ghost use Rattle.coinst_run.specs.QueryText.{goal_word, install_line, literal_text, log_line, no_text, undecided_text, unknown_line, version_word, yes_text};

@@ -1,22 +1,12 @@
 //! The command that asks of a stored kernel whether one package for each goal can be installed together.
-ghost use Rattle.std.specs.Prelude.{◌≡◌, ◌++◌, ◌<◌, ◌≤◌, Ok, OnOk, IfOk, IfErr, IfSome, filter, length};
-ghost use Rattle.std.specs.List.{flat_map};
+ghost use Rattle.std.specs.{Prelude.{◌≡◌, ◌++◌, ◌<◌, ◌≤◌, Ok, OnOk, IfOk, IfErr, IfSome, filter, length}, List.{flat_map}};
 ghost use Rattle.clause_solver.specs.Outcomes.{IsBudget};
 ghost use Rattle.coinst_words.specs.Jobs.{AreInLimits};
 ghost use Rattle.kernel_text.specs.KernelReads.{content};
-ghost use Rattle.row_book.specs.Book.{repository_of, Sound};
-ghost use Rattle.row_book.specs.Numbers.{numbers};
-ghost use Rattle.row_book.specs.Flags.{flag};
-ghost use Rattle.row_book.specs.Needs.{NeedsFit};
-ghost use Rattle.row_book.specs.Sound.{SoundRepository};
+ghost use Rattle.row_book.specs.{Book.{repository_of, Sound}, Numbers.{numbers}, Flags.{flag}, Needs.{NeedsFit}, Sound.{SoundRepository}};
 ghost use Rattle.suite_compare.specs.Asking.{tree_of};
-ghost use Rattle.coinst_run.specs.Answer.{refused};
-ghost use Rattle.coinst_run.specs.Course.{answers};
-ghost use Rattle.coinst_run.specs.Ending.{ending_of, Settles, stop_ending, StopsAt};
-ghost use Rattle.coinst_run.specs.Follows.{Follows};
-ghost use Rattle.coinst_run.specs.Outcome.{answered};
-ghost use Rattle.coinst_run.specs.Query.{by_tree};
-ghost use Rattle.coinst_run.specs.declared.answer.Cause.TheVariants.{Content};
+ghost use Rattle.coinst_run.specs.{Answer.{refused}, Course.{answers}, Ending.{ending_of, Settles, stop_ending, StopsAt}, Follows.{Follows}};
+ghost use Rattle.coinst_run.specs.{Outcome.{answered}, Query.{by_tree}, declared.answer.Cause.TheVariants.{Content}};
 ghost use Rattle.coinst_run.specs.StoredQuery.{checked_kernel, class_line, classes_text, kernel_fault_line, kernel_fault_text, stored_answer, stored_query_answer, stored_query_course};
 ghost use Rattle.repo_model.specs.Limits.{most_bytes};
 

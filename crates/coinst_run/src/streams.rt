@@ -1,13 +1,7 @@
 //! The edge of the program: the top call over the files of a runtime and two streams.
-ghost use Rattle.std.specs.Prelude.{◌≡◌, Option, map, string_bytes};
-ghost use Rattle.std.specs.Process.{exit_status};
-ghost use Rattle.byte_flow.specs.declared.file_shelf.FileShelf.{FileShelf};
-ghost use Rattle.byte_flow.specs.declared.std_sink.StdSink.{StdSink};
-ghost use Rattle.coinst_run.specs.Delivers.{Delivers};
-ghost use Rattle.coinst_run.specs.Follows.{FollowsJob};
-ghost use Rattle.coinst_run.specs.Outcome.{Outcome};
-ghost use Rattle.coinst_run.specs.Status.{code_of};
-ghost use Rattle.coinst_run.specs.declared.status.Status.{Status};
+ghost use Rattle.std.specs.{Prelude.{◌≡◌, Option, map, string_bytes}, Process.{exit_status}};
+ghost use Rattle.byte_flow.specs.{declared.file_shelf.FileShelf.{FileShelf}, declared.std_sink.StdSink.{StdSink}};
+ghost use Rattle.coinst_run.specs.{Delivers.{Delivers}, Follows.{FollowsJob}, Outcome.{Outcome}, Status.{code_of}, declared.status.Status.{Status}};
 ghost use Rattle.coinst_words.specs.Jobs.{job_of};
 
 use crate::top::run;

@@ -2,10 +2,7 @@
 ghost use Rattle.std.specs.Prelude.{◌≤◌, length};
 ghost use Rattle.clause_solver.specs.Outcomes.{IsBudget};
 ghost use Rattle.coinst_words.specs.Jobs.{AreInLimits};
-ghost use Rattle.coinst_run.specs.Course.{reads};
-ghost use Rattle.coinst_run.specs.Ending.{Settles, ending_of};
-ghost use Rattle.coinst_run.specs.Follows.{Follows};
-ghost use Rattle.coinst_run.specs.Index.{index_of};
+ghost use Rattle.coinst_run.specs.{Course.{reads}, Ending.{Settles, ending_of}, Follows.{Follows}, Index.{index_of}};
 ghost use Rattle.coinst_run.specs.SystemStatus.{status_course, system_answer};
 ghost use Rattle.repo_model.specs.Limits.{most_bytes};
 

@@ -2,14 +2,8 @@
 ghost use Rattle.std.specs.Prelude.{◌≡◌, ◌⊎◌, IfSome, None, Option, map, string_bytes};
 ghost use Rattle.byte_flow.specs.Flow.{Rose};
 ghost use Rattle.claims.specs.Sentences.{CompareIsTrue, KernelIsTrue};
-ghost use Rattle.coinst_run.specs.Delivers.{Delivers, Tells};
-ghost use Rattle.coinst_run.specs.Ending.{ending_of};
-ghost use Rattle.coinst_run.specs.Follows.{Follows, FollowsJob};
-ghost use Rattle.coinst_run.specs.Meaning.{IsMeant, course_of, outcome_of};
-ghost use Rattle.coinst_run.specs.Outcome.{Outcome};
-ghost use Rattle.coinst_run.specs.Run.{Answers, Completes, Took};
-ghost use Rattle.coinst_run.specs.Status.{verdict_status};
-ghost use Rattle.coinst_run.specs.declared.answer.ReportVerdict.{ReportVerdict};
+ghost use Rattle.coinst_run.specs.{Delivers.{Delivers, Tells}, Ending.{ending_of}, Follows.{Follows, FollowsJob}, Meaning.{IsMeant, course_of, outcome_of}};
+ghost use Rattle.coinst_run.specs.{Outcome.{Outcome}, Run.{Answers, Completes, Took}, Status.{verdict_status}, declared.answer.ReportVerdict.{ReportVerdict}};
 ghost use Rattle.coinst_words.specs.Jobs.{IsInLimits, job_of};
 
 use crate::answer::{Report, Stop};

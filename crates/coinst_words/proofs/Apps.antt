@@ -1,24 +1,15 @@
 -- `clap` takes the words of a program exactly where they are said, and enters the command with what was said.
 use Rattle.std.proofs.Common.{◌≡◌, ◌∙◌, ◌&&◌, ◌||◌, ℕ, Bool, cond, true, false, refl, sym, ap, ap₂, subst, codes, List, [], ◌∷◌, ◌++◌, map, Option, Some, None, is_some, suc, length}
-use Rattle.std.specs.List.{find, fold}
-use Rattle.std.specs.Option.{option_map, option_map_or}
-use Rattle.std.specs.Prelude.{slice_get}
-use Rattle.std.specs.Str.{bytes_eq, chars}
+use Rattle.std.specs.{List.{find, fold}, Option.{option_map, option_map_or}, Prelude.{slice_get}, Str.{bytes_eq, chars}}
 use Rattle.listed.proofs.Lists.{same_bytes}
-use Rattle.clap.specs.Lexer.{long_of, short_of}
-use Rattle.clap.specs.Kinds.{Kinds, or_else}
+use Rattle.clap.specs.{Lexer.{long_of, short_of}, Kinds.{Kinds, or_else}}
 use Rattle.clap.specs.Faults.{built_fault, bundle_fault, bundle_step_fault, check_fault, defaults_fault, entered_fault, fault_of, flag_word_fault, flags_fault, level_fault, other_fault, settle_fault, step_fault, turn_fault, walk_fault}
 use Rattle.clap.specs.Walk.{Held, Names, Row, Rule, Step, Walk, after_step, answers_to, idle, long_or_other, short_or_plain, subcommand_or_other, trailing, arg_by_short, finished, nothing_held, rows_after, settled, settled_rows, walk, walk_from, walked, with_default}
-use Rattle.clap.specs.Simple.{App, Shape, built, entered, label_of, names_of, rows_at, subcommand_of}
-use Rattle.clap.specs.declared.error.kind.ErrorKind.{ErrorKind}
+use Rattle.clap.specs.{Simple.{App, Shape, built, entered, label_of, names_of, rows_at, subcommand_of}, declared.error.kind.ErrorKind.{ErrorKind}}
 use Rattle.clap.specs.declared.error.kind.ErrorKind.TheVariants as kind
 use Rattle.clap.proofs.WalkLemmas.{walk_stopped}
-use Rattle.coinst_words.specs.Usage.{Said, Text, Usage, nothing_said, read, said_by, said_of}
-use Rattle.coinst_words.specs.Program.{app_of_usages}
-use Rattle.coinst_words.proofs.Rules.{rules_built}
-use Rattle.coinst_words.proofs.Walks.{Spells, leaf, leaf_is}
-use Rattle.coinst_words.proofs.Reading.{Agrees, AllSpell, IsGood, end_rows, goes, left_none, total}
-use Rattle.coinst_words.specs.Parsed.{HoldSaid}
+use Rattle.coinst_words.specs.{Usage.{Said, Text, Usage, nothing_said, read, said_by, said_of}, Program.{app_of_usages}, Parsed.{HoldSaid}}
+use Rattle.coinst_words.proofs.{Rules.{rules_built}, Walks.{Spells, leaf, leaf_is}, Reading.{Agrees, AllSpell, IsGood, end_rows, goes, left_none, total}}
 use Rattle.coinst_words.proofs.Defaults.{checks_pass, defaults_pass, ends_with}
 
 -- ---- one command

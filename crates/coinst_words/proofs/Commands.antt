@@ -1,16 +1,10 @@
 -- Commands that are put together argument by argument.
-use Rattle.std.proofs.Common.{◌≡◌, ◌∙◌, ℕ, ◌<◌, ◌+◌, ◌||◌, false, sym, ap, ap₂, subst, List, [], ◌∷◌, ◌++◌, map, take, drop, append_assoc}
-use Rattle.std.specs.Borrow.{Bor}
-use Rattle.clap.specs.Walk.{Rule, rule_of}
-use Rattle.clap.specs.Built.{AddsArg}
-use Rattle.clap.specs.Simple.{App, Shape, app_of, new_shape, with_rule, with_subcommand}
-use Rattle.clap.specs.declared.builder.arg.Arg.{Arg}
-use Rattle.clap.specs.declared.builder.command.Command.{Command}
-use Rattle.clap.specs.declared.builder.command.Command.TheViews.{out-Command}
-use Rattle.std.proofs.Common.{◌≤◌, append-nil, get_or, length}
+use Rattle.std.proofs.Common.{◌≡◌, ◌∙◌, ℕ, ◌<◌, ◌+◌, ◌||◌, false, sym, ap, ap₂, subst, List, [], ◌∷◌, ◌++◌, map, take, drop, append_assoc, ◌≤◌, append-nil, get_or, length}
 use Rattle.std.proofs.lemmas.List.{at_drop_all, at_drop_more, map-append, take_all, take_more}
-use Rattle.coinst_words.specs.Jobs.{usages}
-use Rattle.coinst_words.specs.Usage.{Text, Usage}
+use Rattle.std.specs.Borrow.{Bor}
+use Rattle.clap.specs.{Walk.{Rule, rule_of}, Built.{AddsArg}, Simple.{App, Shape, app_of, new_shape, with_rule, with_subcommand}}
+use Rattle.clap.specs.{declared.builder.arg.Arg.{Arg}, declared.builder.command.Command.{Command}, declared.builder.command.Command.TheViews.{out-Command}}
+use Rattle.coinst_words.specs.{Jobs.{usages}, Usage.{Text, Usage}}
 use Rattle.coinst_words.specs.Program.{IsCommand, app_of_usages, bare_app, flag_rule, shape_of_usage, valued_rule, words_rule}
 
 -- the command has this name and these arguments, and nothing else

@@ -1,19 +1,13 @@
 -- What is behind the words: defaults and the last checks.
 use Rattle.std.proofs.Common.{◌≡◌, ◌∙◌, ◌&&◌, ◌||◌, Bool, cond, true, false, refl, sym, ap, codes, List, [], ◌∷◌, ◌++◌, map, Option, Some, None, not, is_some}
-use Rattle.std.specs.List.{list_any, fold}
-use Rattle.std.specs.Option.{option_map, unwrap_or}
-use Rattle.std.specs.Str.{bytes_eq}
+use Rattle.std.specs.{List.{list_any, fold}, Option.{option_map, unwrap_or}, Str.{bytes_eq}}
 use Rattle.listed.proofs.Lists.{same_bytes}
-use Rattle.clap.specs.Kinds.{Kinds, or_else}
-use Rattle.clap.specs.Faults.{default_fault, defaults_fault, check_fault}
-use Rattle.clap.specs.Takes.{is_given}
+use Rattle.clap.specs.{Kinds.{Kinds, or_else}, Faults.{default_fault, defaults_fault, check_fault}, Takes.{is_given}}
 use Rattle.clap.specs.Walk.{Row, Rule, all_of, has_row, more_values, reading_by, with_default, with_values}
 use Rattle.clap.specs.declared.parser.matches.ValueSource.TheVariants.{DefaultValue}
-use Rattle.coinst_words.specs.Usage.{Said, Text, Usage, is_among, value_of}
-use Rattle.coinst_words.proofs.Rules.{flag_built, rules_built, valued_built, words_built}
-use Rattle.coinst_words.proofs.RowsSaid.{Looks, alone, all_of-end, at_missing, has_row-values}
+use Rattle.coinst_words.specs.{Usage.{Said, Text, Usage, is_among, value_of}, Parsed.{HoldSaid}}
+use Rattle.coinst_words.proofs.{Rules.{flag_built, rules_built, valued_built, words_built}, RowsSaid.{Looks, alone, all_of-end, at_missing, has_row-values}}
 use Rattle.coinst_words.proofs.Walks.{leaf}
-use Rattle.coinst_words.specs.Parsed.{HoldSaid}
 
 fold_append : (rules more : List Rule) (rows : List Row) → fold with_default rows (rules ++ more) ≡ fold with_default (fold with_default rows rules) more
 fold_append [] more rows = refl

@@ -1,9 +1,7 @@
 -- Numbers of decimal digits.
 use Rattle.std.proofs.Common.{◌≡◌, ◌∙◌, ◌<◌, ◌≤◌, ◌==◌, ◌&&◌, ◌^◌, ℕ, Bool, cond, true, false, nat_le, nat_lt, refl, sym, ap, subst, List, [], ◌∷◌, length, drop, None, arith}
-use Rattle.std.specs.Char.{digit_value, is_ascii_digit}
-use Rattle.std.specs.List.{list_all}
-use Rattle.std.specs.Str.Parse.{AllDigits, IsNumeral, digits_value, without_leading_plus}
 use Rattle.std.proofs.lemmas.Bool.{leb-true, lt-ltb, le-ltb, ne_eqb, and_parts}
+use Rattle.std.specs.{Char.{digit_value, is_ascii_digit}, List.{list_all}, Str.Parse.{AllDigits, IsNumeral, digits_value, without_leading_plus}}
 use Rattle.coinst_words.specs.Words.{is_number, is_within, number_in}
 
 digit_range : (c : ℕ) → is_ascii_digit c ≡ true → (48 ≤ c) × (c ≤ 57)

@@ -1,25 +1,13 @@
 -- From the matches of a command to the job of the words.
 use Rattle.std.proofs.Common.{◌≡◌, ◌∙◌, ◌&&◌, Bool, true, false, not, refl, sym, ap, ap₂, subst, codes, List, [], ◌∷◌, Option, Some, None}
-use Rattle.std.specs.List.{find, list_all}
 use Rattle.std.proofs.lemmas.Bool.{and_parts}
-use Rattle.std.specs.Option.{option_map, unwrap_or}
-use Rattle.std.specs.Prelude.{option_and_then, slice_get}
-use Rattle.std.specs.Str.{bytes_eq}
-use Rattle.std.specs.Box.{box_value}
-use Rattle.clap.specs.Matches.{found_of, first_value, matched_of, raw_values, subcommand_name_of}
-use Rattle.std.specs.Prelude.{Box}
-use Rattle.clap.specs.Simple.{subcommand_rows, subcommand_rows_of}
-use Rattle.clap.specs.declared.parser.matches.SubCommand.{SubCommand}
-use Rattle.clap.specs.Walk.{Row, all_of, first_of, rows_of}
-use Rattle.clap.specs.declared.parser.matches.ArgMatches.{ArgMatches}
-use Rattle.clap.specs.declared.parser.matches.ArgMatches.TheViews.{out-ArgMatches, out-SubCommand}
-use Rattle.clap.specs.declared.parser.matches.Found.{Found}
+use Rattle.std.specs.{List.{find, list_all}, Option.{option_map, unwrap_or}, Prelude.{option_and_then, slice_get, Box}, Str.{bytes_eq}, Box.{box_value}}
+use Rattle.clap.specs.{Matches.{found_of, first_value, matched_of, raw_values, subcommand_name_of}, Simple.{subcommand_rows, subcommand_rows_of}}
+use Rattle.clap.specs.{declared.parser.matches.SubCommand.{SubCommand}, Walk.{Row, all_of, first_of, rows_of}, declared.parser.matches.ArgMatches.{ArgMatches}}
+use Rattle.clap.specs.{declared.parser.matches.ArgMatches.TheViews.{out-ArgMatches, out-SubCommand}, declared.parser.matches.Found.{Found}}
 use Rattle.clap.proofs.WalkLemmas.{first_value-rows, raw_values-rows}
-use Rattle.coinst_words.specs.Parsed.{HoldSaid, Enters, row_values, words_in}
-use Rattle.coinst_words.specs.Jobs.{job_named, job_of, job_of_said, options_by, usages}
-use Rattle.coinst_words.specs.Words.{is_on}
-use Rattle.coinst_words.specs.Usage.{Said, Text, Usage, is_among, nothing_said, read, said_by, said_of, value_of}
-use Rattle.coinst_words.specs.declared.job.Job.{Job}
+use Rattle.coinst_words.specs.{Parsed.{HoldSaid, Enters, row_values, words_in}, Jobs.{job_named, job_of, job_of_said, options_by, usages}, Words.{is_on}}
+use Rattle.coinst_words.specs.{Usage.{Said, Text, Usage, is_among, nothing_said, read, said_by, said_of, value_of}, declared.job.Job.{Job}}
 
 -- the options that have a value are no flags
 has_valued : Usage → Bool

@@ -1,17 +1,10 @@
 -- Goals that are read word by word.
 use Rattle.std.proofs.Common.{◌≡◌, ◌∙◌, ◌<◌, ◌+◌, ℕ, zero, suc, refl, sym, ap, subst, List, [], ◌∷◌, ◌++◌, map, take, length, get_or, Option, Some, None, Result, Ok, Err, IfErr, arith}
-use Rattle.std.specs.Prelude.{IsErrAnd}
-use Rattle.std.specs.Borrow.{Bor}
-use Rattle.std.specs.Option.{option_map}
-use Rattle.std.specs.Prelude.{option_and_then}
 use Rattle.std.proofs.lemmas.List.{map-append, take_more}
-use Rattle.coinst_words.specs.Words.{goals_of, some_goals_of}
-use Rattle.coinst_words.specs.Refusals.{OnNotACommand}
-use Rattle.coinst_words.specs.declared.error.WordError.{WordError}
-use Rattle.coinst_words.specs.declared.error.WordError.TheVariants.{NotACommand, Memory}
-use Rattle.coinst_words.specs.Usage.{Text}
-use Rattle.repo_model.specs.declared.goals.Goal.{Goal}
-use Rattle.repo_model.specs.Goals.{goal_of}
+use Rattle.std.specs.{Prelude.{IsErrAnd, option_and_then}, Borrow.{Bor}, Option.{option_map}}
+use Rattle.coinst_words.specs.{Words.{goals_of, some_goals_of}, Refusals.{OnNotACommand}, declared.error.WordError.{WordError}}
+use Rattle.coinst_words.specs.{declared.error.WordError.TheVariants.{NotACommand, Memory}, Usage.{Text}}
+use Rattle.repo_model.specs.{declared.goals.Goal.{Goal}, Goals.{goal_of}}
 
 abbrev with_goals : Option Goal → Option (List Goal) → Option (List Goal)
 with_goals goal goals = option_and_then (λ g. option_map (λ gs. g ∷ gs) goals) goal

@@ -1,16 +1,10 @@
 -- A word of UTF-8 spells its letters.
-use Rattle.std.proofs.Common.{◌≡◌, ◌∙◌, ◌==◌, ℕ, Bool, cond, true, false, refl, sym, ap, subst, List, [], ◌∷◌, length, Some, None, arith, suc}
-use Rattle.std.proofs.lemmas.Bool.{eqb-true}
-use Rattle.std.specs.Prelude.{option_and_then, slice_get}
-use Rattle.std.specs.Str.{IsUtf8, chars}
-use Rattle.std.proofs.lemmas.Str.{IsCharBoundary-after_ascii, IsUtf8-drop, IsUtf8-string_bytes, encodes-chars}
-use Rattle.std.proofs.Common.{map}
-use Rattle.std.specs.String.{string_bytes}
-use Rattle.std.specs.declared.string.String.{String}
+use Rattle.std.proofs.Common.{◌≡◌, ◌∙◌, ◌==◌, ℕ, Bool, cond, true, false, refl, sym, ap, subst, List, [], ◌∷◌, length, Some, None, arith, suc, map}
+use Rattle.std.proofs.{lemmas.Bool.{eqb-true}, lemmas.Str.{IsCharBoundary-after_ascii, IsUtf8-drop, IsUtf8-string_bytes, encodes-chars}}
+use Rattle.std.specs.{Prelude.{option_and_then, slice_get}, Str.{IsUtf8, chars}, String.{string_bytes}, declared.string.String.{String}}
 use Rattle.clap.specs.Lexer.{short_of_rest}
 use lib.Utf8.{encodes}
-use Rattle.coinst_words.proofs.Walks.{Spells}
-use Rattle.coinst_words.proofs.Reading.{AllSpell}
+use Rattle.coinst_words.proofs.{Walks.{Spells}, Reading.{AllSpell}}
 
 spelled : (letters : List ℕ) → IsUtf8 letters → (x : ℕ) (xs : List ℕ) → letters ≡ x ∷ xs → (k : ℕ) × (c : ℕ) × (length letters ≡ suc k) × (slice_get (chars letters) 0 ≡ Some c)
 spelled letters utf8 x xs is = go (chars letters) refl

@@ -1,22 +1,14 @@
 -- From what `clap` promises of a parse to what the words say.
 use Rattle.std.proofs.Common.{◌≡◌, inl, inr, ◌∙◌, Bool, true, not, ◌&&◌, codes, refl, sym, ap, subst, List, [], ◌∷◌, Option, Some, None}
 use Rattle.std.proofs.lemmas.Bool.{and_parts, not-true}
-use Rattle.clap.specs.Kinds.{HasKind, Kinds}
-use Rattle.clap.specs.Faults.{fault_of, is_simple_and_free}
-use Rattle.clap.specs.Simple.{App, HasMatchesOf, is_simple, subcommand_of, subcommand_rows_of}
-use Rattle.clap.specs.Values.{kind_of}
-use Rattle.clap.specs.declared.error.Error.{Error}
+use Rattle.clap.specs.{Kinds.{HasKind, Kinds}, Faults.{fault_of, is_simple_and_free}, Simple.{App, HasMatchesOf, is_simple, subcommand_of, subcommand_rows_of}}
+use Rattle.clap.specs.{Values.{kind_of}, declared.error.Error.{Error}}
 use Rattle.clap.specs.declared.error.kind.ErrorKind.TheVariants as kind
 use Rattle.clap.specs.declared.parser.matches.ArgMatches.{ArgMatches}
 use Rattle.coinst_words.specs.declared.error.WordError.{WordError}
 use Rattle.coinst_words.specs.declared.error.WordError.TheVariants as words
-use Rattle.coinst_words.specs.Refusals.{OnNotACommand}
-use Rattle.coinst_words.specs.Parsed.{Enters}
-use Rattle.coinst_words.specs.Jobs.{usages}
-use Rattle.coinst_words.specs.Usage.{Said, Text, Usage, is_among, said_of}
-use Rattle.coinst_words.specs.Program.{app_of_usages}
-use Rattle.coinst_words.proofs.Reading.{AllSpell}
-use Rattle.coinst_words.proofs.Apps.{AllGood, TopAgrees, top_agrees}
+use Rattle.coinst_words.specs.{Refusals.{OnNotACommand}, Parsed.{Enters}, Jobs.{usages}, Usage.{Said, Text, Usage, is_among, said_of}, Program.{app_of_usages}}
+use Rattle.coinst_words.proofs.{Reading.{AllSpell}, Apps.{AllGood, TopAgrees, top_agrees}}
 
 -- no option of a command is named as its other words are
 abbrev are_good : List Usage → Bool

@@ -1,14 +1,11 @@
 -- What the rows of a walk say of the options and the other words.
 use Rattle.std.proofs.Common.{◌≡◌, ◌∙◌, Bool, cond, true, false, refl, sym, ap, subst, codes, List, [], ◌∷◌, ◌++◌, Option, Some, None, is_some, append-nil}
-use Rattle.std.specs.Option.{option_map, unwrap_or}
-use Rattle.std.specs.Str.{bytes_eq}
 use Rattle.std.proofs.lemmas.Slice.Eq.{bytes_eq-Decides}
+use Rattle.std.specs.{Option.{option_map, unwrap_or}, Str.{bytes_eq}}
 use Rattle.listed.proofs.Lists.{same_bytes}
-use Rattle.clap.specs.Walk.{Row, all_of, at_row, has_row, more_values, with_values, without}
-use Rattle.clap.specs.declared.builder.value_parser.Reading.{Reading}
+use Rattle.clap.specs.{Walk.{Row, all_of, at_row, has_row, more_values, with_values, without}, declared.builder.value_parser.Reading.{Reading}}
 use Rattle.clap.specs.declared.parser.matches.ValueSource.TheVariants.{CommandLine}
-use Rattle.coinst_words.specs.Usage.{Said, Text, say, value_of}
-use Rattle.coinst_words.specs.Parsed.{row_values}
+use Rattle.coinst_words.specs.{Usage.{Said, Text, say, value_of}, Parsed.{row_values}}
 
 -- the rows have what was said
 pub record Looks (rows : List Row) (said : Said) : Type 0 where

@@ -1,14 +1,10 @@
 -- What the arguments of a usage become when `clap` builds its command, and how they are found.
 use Rattle.std.proofs.Common.{◌≡◌, ◌∙◌, ◌&&◌, ◌||◌, ℕ, Bool, cond, true, false, refl, ap, List, [], ◌∷◌, ◌++◌, map, Some, None, not, is_some}
-use Rattle.std.specs.List.{find}
-use Rattle.std.specs.Str.{bytes_eq}
-use Rattle.std.proofs.lemmas.Slice.Eq.{bytes_eq-Decides}
-use Rattle.std.proofs.Math.Bool.{or-false}
+use Rattle.std.proofs.{lemmas.Slice.Eq.{bytes_eq-Decides}, Math.Bool.{or-false}}
+use Rattle.std.specs.{List.{find}, Str.{bytes_eq}}
 use Rattle.listed.proofs.Lists.{same_bytes}
-use Rattle.clap.specs.Walk.{Rule, arg_by_id, arg_by_index, arg_by_long, arg_by_short, has_long}
-use Rattle.clap.specs.Simple.{filled, filled_from, with_index}
-use Rattle.coinst_words.specs.Usage.{Text, Usage, is_among}
-use Rattle.coinst_words.specs.Program.{flag_rule, rules_of_usage, valued_rule, words_rule}
+use Rattle.clap.specs.{Walk.{Rule, arg_by_id, arg_by_index, arg_by_long, arg_by_short, has_long}, Simple.{filled, filled_from, with_index}}
+use Rattle.coinst_words.specs.{Usage.{Text, Usage, is_among}, Program.{flag_rule, rules_of_usage, valued_rule, words_rule}}
 
 abbrev pub flag_built : Text → Rule
 flag_built name = with_index 1 (filled (flag_rule name))

@@ -1,8 +1,7 @@
 //! Goals among the words.
 ghost use Rattle.std.specs.Prelude.{◌≡◌, IfOk, IfErr, None, Some, map};
-ghost use Rattle.coinst_words.specs.Words.{some_goals_of};
+ghost use Rattle.coinst_words.specs.{Words.{some_goals_of}, Refusals.{OnNotACommand}};
 ghost use Rattle.repo_model.specs.Goals.{goal_of};
-ghost use Rattle.coinst_words.specs.Refusals.{OnNotACommand};
 
 use crate::error::WordError;
 use listed::Listed;

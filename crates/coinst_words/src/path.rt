@@ -11,8 +11,7 @@ pub struct PathText {
 }
 
 impl Model for PathText {
-    ghost use Rattle.std.specs.Prelude.{List, ℕ, string_bytes};
-    ghost use Rattle.std.specs.Coded.{coded_list, coded_ℕ};
+    ghost use Rattle.std.specs.{Prelude.{List, ℕ, string_bytes}, Coded.{coded_list, coded_ℕ}};
 
     ghost Value = { List ℕ };
 

@@ -1,7 +1,6 @@
 //! From the words to the job that they ask for.
 ghost use Rattle.std.specs.Prelude.{◌≡◌, IfOk, IfErr, None, Some, map, string_bytes};
-ghost use Rattle.coinst_words.specs.Jobs.{job_of, IsInLimits};
-ghost use Rattle.coinst_words.specs.Refusals.{OnNotACommand};
+ghost use Rattle.coinst_words.specs.{Jobs.{job_of, IsInLimits}, Refusals.{OnNotACommand}};
 
 use crate::error::WordError;
 use crate::job::Job;

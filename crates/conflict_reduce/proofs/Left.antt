@@ -1,18 +1,11 @@
 -- What is left of a table of conflicts when some are gone.
 use Rattle.std.proofs.Common.{◌≡◌, ◌≢◌, ℕ, ◌<◌, Bool, true, false, not, ◌&&◌, ◌||◌, cond, eqb, List, [], ◌∷◌, ◌++◌, ◌⊎◌, length, inl, inr, refl, sym, ◌∙◌, ap, ap₂, subst, arith, filter, map, eq-eqb, eqb-true, ne_eqb, length-set}
-use Rattle.std.proofs.lemmas.Bool.{and_parts, cases_eq, cases_lt, or_cases}
-use Rattle.std.proofs.lemmas.List.{get_or_past, get_or-set_other, get_or-set_same, length-map}
-use Rattle.listed.proofs.Orders.{ascending_push}
+use Rattle.std.proofs.{lemmas.Bool.{and_parts, cases_eq, cases_lt, or_cases}, lemmas.List.{get_or_past, get_or-set_other, get_or-set_same, length-map}}
+use Rattle.listed.proofs.{Orders.{ascending_push}, Lists.{In_has, filter_same, has_In}}
 use Rattle.clause_pool.specs.Interned.{Interned, row_at}
-use Rattle.row_book.specs.declared.book.Book.{Book}
-use Rattle.row_book.specs.declared.pair.Pair.{Pair}
+use Rattle.row_book.specs.{declared.book.Book.{Book}, declared.pair.Pair.{Pair}, Facing.{against_in}, Book.{listed_for}, Thinning.{is_pair, without_pair}}
 use Rattle.listed.specs.Lists.{In, has, Ascending}
-use Rattle.row_book.specs.Facing.{against_in}
-use Rattle.row_book.specs.Book.{listed_for}
-use Rattle.row_book.specs.Thinning.{is_pair, without_pair}
-use Rattle.listed.proofs.Lists.{In_has, filter_same, has_In}
-use Rattle.row_book.proofs.Numbers.{at_numbers, length_numbers}
-use Rattle.row_book.proofs.Repositories.{has_filter, repository_same, table_same}
+use Rattle.row_book.proofs.{Numbers.{at_numbers, length_numbers}, Repositories.{has_filter, repository_same, table_same}}
 use Rattle.conflict_reduce.specs.Tests.{book_left, conflict_but, left_for, left_of, with_behind, with_gone}
 use Rattle.conflict_reduce.proofs.Thinned.{less_count, less_list}
 

@@ -1,18 +1,12 @@
 -- A clause whose members have no conflict in common faces none but the empty one, which faces all.
 use Rattle.std.proofs.Common.{◌≡◌, ℕ, ◌<◌, ◌+◌, Bool, true, false, not, cond, eqb, List, [], ◌∷◌, length, inl, inr, refl, sym, ◌∙◌, ap, subst, arith, map, filter}
-use Rattle.std.specs.List.{list_all, list_any}
 use Rattle.std.proofs.lemmas.Bool.{false_from_ne_true, not_from_false}
-use Rattle.listed.proofs.Lists.{none_listed, In_at, In_cases, In_none, all_from, any_from, filter_cases, filter_from, has_In}
-use Rattle.listed.proofs.Bools.{same_bool}
-use Rattle.clause_pool.specs.Interned.{Interned, IsPool, OfPool, clause_at, clauses_at, ids_at, row_at}
-use Rattle.row_book.specs.declared.book.Book.{Book}
+use Rattle.std.specs.List.{list_all, list_any}
+use Rattle.listed.proofs.{Lists.{none_listed, In_at, In_cases, In_none, all_from, any_from, filter_cases, filter_from, has_In}, Bools.{same_bool}}
+use Rattle.clause_pool.specs.{Interned.{Interned, IsPool, OfPool, clause_at, clauses_at, ids_at, row_at}, Lists.{InOrder}}
+use Rattle.row_book.specs.{declared.book.Book.{Book}, Facing.{against_in, all_against, common_to, face}, Book.{listed_for, Sound}, Uses.{row_id}}
 use Rattle.listed.specs.Lists.{In, here, there}
-use Rattle.clause_pool.specs.Lists.{InOrder}
-use Rattle.row_book.specs.Facing.{against_in, all_against, common_to, face}
-use Rattle.row_book.specs.Book.{listed_for, Sound}
-use Rattle.row_book.specs.Uses.{row_id}
-use Rattle.row_book.proofs.Facing.{all_against_at, all_against_from, face_parts}
-use Rattle.row_book.proofs.Numbers.{at_numbers}
+use Rattle.row_book.proofs.{Facing.{all_against_at, all_against_from, face_parts}, Numbers.{at_numbers}}
 use Rattle.clause_pool.proofs.Order.{order_filter}
 use Rattle.conflict_reduce.specs.Live.{live_ids, live_of, may_face}
 

@@ -1,15 +1,11 @@
 -- Redundant conflicts.
 use Rattle.std.proofs.Common.{◌≡◌, ℕ, ◌<◌, Bool, true, false, not, ◌&&◌, ◌||◌, eqb, cond, List, [], ◌∷◌, length, inl, inr, refl, sym, ◌∙◌, ap, ap₂, subst, arith, eqb-true, filter, ◌↔◌}
 use Rattle.std.proofs.lemmas.Bool.{both_ways, cases_Bool, cases_lt, and_parts, and_from, and_left, or_cases, not_from_false, false_from_ne_true}
-use Rattle.row_book.specs.Sets.{NumSet, Hit, Is}
-use Rattle.listed.specs.Lists.{In, has, Ascending}
-use Rattle.row_book.specs.Repository.{Repository, Healthy, against, conflicts_of}
-use Rattle.row_book.specs.Sound.{SoundRepository}
-use Rattle.row_book.specs.Facing.{sides}
+use Rattle.row_book.specs.{Sets.{NumSet, Hit, Is}, Repository.{Repository, Healthy, against, conflicts_of}, Sound.{SoundRepository}, Facing.{sides}}
 use Rattle.row_book.specs.Thinning.{is_pair, against_but, without_pair, is_redundant, thin_pair, thin_over, conflicting_pairs, thin}
+use Rattle.listed.specs.Lists.{In, has, Ascending}
 use Rattle.listed.proofs.Orders.{ascending_filter}
-use Rattle.row_book.proofs.Numbers.{at_numbers, length_numbers}
-use Rattle.row_book.proofs.Repositories.{both, has_filter, symmetric, conflict_within, each_list}
+use Rattle.row_book.proofs.{Numbers.{at_numbers, length_numbers}, Repositories.{both, has_filter, symmetric, conflict_within, each_list}}
 use Rattle.row_book.proofs.Facing.{face_parts, side_hit}
 use Rattle.conflict_reduce.specs.Laws.{RedundantKeeps, ThinKeeps, ThinIsSound, ThinnedFrom}
 

@@ -1,16 +1,10 @@
 -- for the bodies of this crate alone
 -- Thinning by a list of what is gone: the conflicts that are left of a table, and the pairs of one package.
-use Rattle.std.specs.Prelude.{◌≡◌, ℕ, ◌<◌, Bool, not, ◌&&◌, ltb, List, [], ◌∷◌, ◌++◌, ◌⊎◌, length, map, filter, cond, slice_set}
-use Rattle.std.specs.List.{list_all}
+use Rattle.std.specs.{Prelude.{◌≡◌, ℕ, ◌<◌, Bool, not, ◌&&◌, ltb, List, [], ◌∷◌, ◌++◌, ◌⊎◌, length, map, filter, cond, slice_set}, List.{list_all}}
 use Rattle.clause_pool.specs.Interned.{Interned, row_at}
-use Rattle.row_book.specs.declared.book.Book.{Book}
-use Rattle.row_book.specs.declared.pair.Pair.{Pair}
+use Rattle.row_book.specs.{declared.book.Book.{Book}, declared.pair.Pair.{Pair}, Numbers.{numbers}, Facing.{against_in}, Book.{listed_for}}
+use Rattle.row_book.specs.{Repository.{Repository}, Thinning.{is_pair, is_redundant}}
 use Rattle.listed.specs.Lists.{In, Ascending}
-use Rattle.row_book.specs.Numbers.{numbers}
-use Rattle.row_book.specs.Facing.{against_in}
-use Rattle.row_book.specs.Book.{listed_for}
-use Rattle.row_book.specs.Repository.{Repository}
-use Rattle.row_book.specs.Thinning.{is_pair, is_redundant}
 
 -- the conflicts of a package by the first table that the second one does not have
 abbrev pub left_for : List (List ℕ) → List (List ℕ) → ℕ → List ℕ

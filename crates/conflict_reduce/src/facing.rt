@@ -1,15 +1,10 @@
 //! Whether two packages exclude each other by other conflicts that are left. No list of conflicts is gone through where a
 //! look at the members of a clause will do.
-ghost use Rattle.std.specs.Prelude.{◌≡◌, ◌<◌, ◌∷◌, [], ℕ, List, IfOk, length};
-ghost use Rattle.std.specs.List.{list_all, list_any};
-ghost use Rattle.clause_pool.specs.Interned.{clauses_at, OfPool, IsPool};
-ghost use Rattle.row_book.specs.Book.{listed_for, Sound};
+ghost use Rattle.std.specs.{Prelude.{◌≡◌, ◌<◌, ◌∷◌, [], ℕ, List, IfOk, length}, List.{list_all, list_any}};
+ghost use Rattle.clause_pool.specs.{Interned.{clauses_at, OfPool, IsPool}, Lists.{InOrder}};
+ghost use Rattle.row_book.specs.{Book.{listed_for, Sound}, Facing.{against_in, all_against, face}, Thinning.{is_pair, is_redundant}};
 ghost use Rattle.listed.specs.Lists.{Ascending};
-ghost use Rattle.clause_pool.specs.Lists.{InOrder};
-ghost use Rattle.row_book.specs.Facing.{against_in, all_against, face};
-ghost use Rattle.row_book.specs.Thinning.{is_pair, is_redundant};
-ghost use Rattle.conflict_reduce.specs.Live.{live_of};
-ghost use Rattle.conflict_reduce.specs.Tests.{book_left, common_but, conflict_but, left_of};
+ghost use Rattle.conflict_reduce.specs.{Live.{live_of}, Tests.{book_left, common_but, conflict_but, left_of}};
 
 use crate::live::IdList;
 use clause_pool::{ClauseId, NumList, Pool, has_side_within};

@@ -1,14 +1,10 @@
 //! Thinning of a book. The book's own conflicts stay in their lists, and those that are dropped are put into lists of
 //! their own: so no list is moved up for one that goes.
 ghost use Rattle.std.specs.Prelude.{◌≡◌, ◌<◌, ◌+◌, ℕ, IfOk, OnOk, filter, length, not};
-ghost use Rattle.row_book.specs.Book.{listed_for, repository_of, Sound};
-ghost use Rattle.listed.specs.Lists.{Ascending};
-ghost use Rattle.row_book.specs.Facing.{against_in};
-ghost use Rattle.row_book.specs.Repository.{Repository};
-ghost use Rattle.row_book.specs.Keeping.{KeepsHealthySets};
+ghost use Rattle.row_book.specs.{Book.{listed_for, repository_of, Sound}, Facing.{against_in}, Repository.{Repository}, Keeping.{KeepsHealthySets}};
 ghost use Rattle.row_book.specs.Thinning.{thin, thin_over};
-ghost use Rattle.conflict_reduce.specs.Live.{live_of};
-ghost use Rattle.conflict_reduce.specs.Tests.{book_left, gone_after, left_of, pairs_with, with_behind, with_gone, PassedBelow};
+ghost use Rattle.listed.specs.Lists.{Ascending};
+ghost use Rattle.conflict_reduce.specs.{Live.{live_of}, Tests.{book_left, gone_after, left_of, pairs_with, with_behind, with_gone, PassedBelow}};
 
 use crate::facing::is_redundant;
 use crate::live::{IdList, live_rows};

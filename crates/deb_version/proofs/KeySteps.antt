@@ -1,8 +1,7 @@
 -- The keys of parts, pieces taken off their fronts.
 use Rattle.std.proofs.Common.{◌≡◌, ℕ, zero, suc, ◌≤◌, List, [], ◌∷◌, ◌++◌, length, refl, sym, ap, ◌∙◌, append_assoc, arith}
 use Rattle.std.specs.List.{take_while}
-use Rattle.deb_version.specs.Keys.{number_key, front_key, fronts_key, part_key}
-use Rattle.deb_version.specs.Order.{is_plain}
+use Rattle.deb_version.specs.{Keys.{number_key, front_key, fronts_key, part_key}, Order.{is_plain}}
 use Rattle.deb_version.proofs.PieceSteps.{behind_front, shorter-behind_front}
 
 fronts_key-nothing : (n : ℕ) → fronts_key n [] ≡ []

@@ -1,15 +1,8 @@
 -- The numbers that runs of digits write, compared as runs.
 use Rattle.std.proofs.Common.{◌≡◌, ◌≢◌, ℕ, zero, suc, ◌+◌, ◌-◌, ◌*◌, ◌<◌, ◌≤◌, Bool, true, false, cond, List, [], ◌∷◌, length, drop, refl, sym, ap, ◌∙◌, arith}
-use Rattle.std.specs.Prelude.{◌==◌}
-use Rattle.std.specs.declared.cmp.Ordering.TheVariants.{Less, Greater}
-use Rattle.std.specs.Char.{is_ascii_digit}
-use Rattle.std.specs.Cmp.{nat_cmp_is}
-use Rattle.std.specs.Cmp.Lexicographic.{slice_cmp}
-use Rattle.std.specs.List.{fold, list_all, prefix_len}
-use Rattle.std.specs.Ordering.{ordering_then, nat_cmp}
-use Rattle.std.proofs.lemmas.Bool.{and_parts, eqb-true}
-use Rattle.std.proofs.lemmas.Bool.Decides.{nat_tests}
-use Rattle.std.proofs.lemmas.Cmp.{ranked, by_ranked, tied_itself, nat_cmp_total}
+use Rattle.std.proofs.{lemmas.Bool.{and_parts, eqb-true}, lemmas.Bool.Decides.{nat_tests}, lemmas.Cmp.{ranked, by_ranked, tied_itself, nat_cmp_total}}
+use Rattle.std.specs.{Prelude.{◌==◌}, declared.cmp.Ordering.TheVariants.{Less, Greater}, Char.{is_ascii_digit}, Cmp.{nat_cmp_is}, Cmp.Lexicographic.{slice_cmp}}
+use Rattle.std.specs.{List.{fold, list_all, prefix_len}, Ordering.{ordering_then, nat_cmp}}
 use Rattle.deb_version.specs.Order.{number}
 
 -- the number of digits that follow those of n

@@ -1,26 +1,17 @@
 -- Versions that have the same key compare as equal: a part and its key have the same pieces.
 use Rattle.std.proofs.Common.{◌≡◌, ℕ, zero, suc, ◌+◌, ◌≤◌, Bool, true, false, cond, not, List, [], ◌∷◌, ◌++◌, length, take, drop, refl, sym, ap, ◌∙◌, append_assoc, arith}
-use Rattle.std.specs.Prelude.{◌==◌, unwrap_or, Option, Some, None}
-use Rattle.std.specs.declared.cmp.Ordering.TheVariants.{Equal}
-use Rattle.std.specs.Char.{is_ascii_digit}
-use Rattle.std.specs.Cmp.Lexicographic.{slice_cmp}
-use Rattle.std.specs.List.{list_all, prefix_len, take_while}
-use Rattle.std.specs.Ordering.{ordering_then, nat_cmp, int_cmp}
-use Rattle.std.proofs.lemmas.Bool.{and_parts, and_from, false≢true, not-true}
-use Rattle.std.proofs.lemmas.Bool.Decides.{nat_tests}
-use Rattle.std.proofs.lemmas.Cmp.{tied_itself, tied_back, nat_cmp_total, int_cmp_total, lists_total}
-use Rattle.std.proofs.lemmas.List.Folds.{list_all-append}
+use Rattle.std.proofs.{lemmas.Bool.{and_parts, and_from, false≢true, not-true}, lemmas.Bool.Decides.{nat_tests}}
+use Rattle.std.proofs.{lemmas.Cmp.{tied_itself, tied_back, nat_cmp_total, int_cmp_total, lists_total}, lemmas.List.Folds.{list_all-append}}
 use Rattle.std.proofs.lemmas.List.Sums.{take_while-cons}
+use Rattle.std.specs.{Prelude.{◌==◌, unwrap_or, Option, Some, None}, declared.cmp.Ordering.TheVariants.{Equal}, Char.{is_ascii_digit}}
+use Rattle.std.specs.{Cmp.Lexicographic.{slice_cmp}, List.{list_all, prefix_len, take_while}, Ordering.{ordering_then, nat_cmp, int_cmp}}
 use Rattle.listed.proofs.Lists.{all_weaker}
 use Rattle.deb_version.specs.Grammar.{epoch_of, upstream_of, revision_of, is_upstream_byte, is_revision_byte, are_parts, is_version}
 use Rattle.deb_version.specs.Keys.{without_zeros, number_before, number_key, front_key, fronts_key, part_key, epoch_key, version_key}
 use Rattle.deb_version.specs.Order.{number, is_plain, weights, behind_plain, behind_digits, part_order, or_zero, epoch_number, full_revision, version_order}
-use Rattle.deb_version.proofs.Cutting.{epoch_digits}
-use Rattle.deb_version.proofs.EqualKeys.{stops, starts_plain, behind_digits-plain}
-use Rattle.deb_version.proofs.KeySteps.{part_key-step, part_key-empty}
+use Rattle.deb_version.proofs.{Cutting.{epoch_digits}, EqualKeys.{stops, starts_plain, behind_digits-plain}, KeySteps.{part_key-step, part_key-empty}}
 use Rattle.deb_version.proofs.Numbers.{number-without_zeros, list_all-drop}
-use Rattle.deb_version.proofs.PieceSteps.{behind_front, shorter-behind_front, part_order-step, part_order-empty, take_while-all}
-use Rattle.deb_version.proofs.TotalOrder.{part_total}
+use Rattle.deb_version.proofs.{PieceSteps.{behind_front, shorter-behind_front, part_order-step, part_order-empty, take_while-all}, TotalOrder.{part_total}}
 
 -- the longest front of characters that pass is found again where it is followed by one that fails
 module _ (p : ℕ → Bool) where

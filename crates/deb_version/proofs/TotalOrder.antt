@@ -1,10 +1,8 @@
 -- The order of versions is total up to equal versions.
 use Rattle.std.proofs.Common.{◌≡◌, ℕ, zero, suc, ◌+◌, true, false, length, refl, sym, ap, ◌∙◌, arith, inl, inr, ◌⊎◌}
-use Rattle.std.specs.declared.cmp.Ordering.{Ordering}
-use Rattle.std.specs.declared.cmp.Ordering.TheVariants.{Less, Equal, Greater}
-use Rattle.std.specs.Cmp.{IsTotalOrder}
-use Rattle.std.specs.Ordering.{ordering_reverse, is_le, is_gt}
 use Rattle.std.proofs.lemmas.Cmp.{nat_cmp_total, int_cmp_total, lists_total, on_total, then_total, tied_itself, upto}
+use Rattle.std.specs.{declared.cmp.Ordering.{Ordering}, declared.cmp.Ordering.TheVariants.{Less, Equal, Greater}, Cmp.{IsTotalOrder}}
+use Rattle.std.specs.Ordering.{ordering_reverse, is_le, is_gt}
 use Rattle.deb_version.specs.Order.{plain_piece, number_piece, pieces_order, first_difference, part_order, epoch_number, full_revision, version_order, IsTotalUpToTies}
 use Rattle.deb_version.specs.Grammar.{upstream_of}
 use Rattle.deb_version.proofs.PieceSteps.{part_order-at}

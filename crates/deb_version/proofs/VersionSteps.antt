@@ -1,9 +1,7 @@
 -- The order of two versions, part by part.
 use Rattle.std.proofs.Common.{◌≡◌, true, false, List, ℕ, sym, ap, ◌∙◌}
-use Rattle.std.specs.declared.cmp.Ordering.{Ordering}
-use Rattle.std.specs.Ordering.{ordering_then, nat_cmp, is_ne}
-use Rattle.deb_version.specs.Grammar.{upstream_of}
-use Rattle.deb_version.specs.Order.{part_order, epoch_number, full_revision, version_order}
+use Rattle.std.specs.{declared.cmp.Ordering.{Ordering}, Ordering.{ordering_then, nat_cmp, is_ne}}
+use Rattle.deb_version.specs.{Grammar.{upstream_of}, Order.{part_order, epoch_number, full_revision, version_order}}
 use Rattle.deb_version.proofs.PieceSteps.{decided, tied}
 
 -- the order once the epochs are compared

@@ -1,14 +1,8 @@
 -- Pieces without digits, compared weight by weight.
-use Rattle.std.proofs.Common.{◌≡◌, ℕ, ◌+◌, ◌<◌, true, false, List, [], ◌∷◌, drop, refl, sym, ap, ◌∙◌, ℤ, pos, negsuc, arith}
-use Rattle.std.specs.Prelude.{◌==◌, if◌then◌else◌}
-use Rattle.std.specs.declared.cmp.Ordering.{Ordering}
-use Rattle.std.specs.declared.cmp.Ordering.TheVariants.{Less, Greater}
-use Rattle.std.specs.Char.{is_ascii_alphabetic}
-use Rattle.std.specs.Cmp.Lexicographic.{slice_cmp}
-use Rattle.std.specs.Ordering.{ordering_then, int_cmp, is_ne}
-use Rattle.std.proofs.lemmas.Bool.Decides.{nat_tests}
-use Rattle.std.proofs.lemmas.Bool.{cond_both}
-use Rattle.std.proofs.lemmas.List.{drop-drop}
+use Rattle.std.proofs.{Common.{◌≡◌, ℕ, ◌+◌, ◌<◌, true, false, List, [], ◌∷◌, drop, refl, sym, ap, ◌∙◌, ℤ, pos, negsuc, arith}, lemmas.Bool.Decides.{nat_tests}}
+use Rattle.std.proofs.{lemmas.Bool.{cond_both}, lemmas.List.{drop-drop}}
+use Rattle.std.specs.{Prelude.{◌==◌, if◌then◌else◌}, declared.cmp.Ordering.{Ordering}, declared.cmp.Ordering.TheVariants.{Less, Greater}}
+use Rattle.std.specs.{Char.{is_ascii_alphabetic}, Cmp.Lexicographic.{slice_cmp}, Ordering.{ordering_then, int_cmp, is_ne}}
 use Rattle.deb_version.specs.Order.{weight, weights, weight_at_front}
 use Rattle.deb_version.proofs.PieceSteps.{tied}
 

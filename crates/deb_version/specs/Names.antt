@@ -1,9 +1,7 @@
 -- The names of packages. A name has at least one character, each is an ASCII letter of either case, a
 -- digit or one of `+ - . _`, and the first is a letter or a digit. This is wider than Debian Policy
 -- 5.6.1 and 5.6.7, which want two characters and more, no upper-case letter and no `_`.
-use Rattle.std.specs.Prelude.{ℕ, Bool, false, ◌&&◌, ◌||◌, ◌==◌, List, [], ◌∷◌}
-use Rattle.std.specs.Char.{is_ascii_alphanumeric}
-use Rattle.std.specs.List.{list_all}
+use Rattle.std.specs.{Prelude.{ℕ, Bool, false, ◌&&◌, ◌||◌, ◌==◌, List, [], ◌∷◌}, Char.{is_ascii_alphanumeric}, List.{list_all}}
 
 -- a letter, a digit or one of `+ - . _`
 abbrev pub is_name_byte : ℕ → Bool

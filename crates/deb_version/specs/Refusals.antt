@@ -1,7 +1,6 @@
 -- When a version is refused.
 use Rattle.std.specs.Prelude.{⊤}
-use Rattle.deb_version.specs.declared.versions.VersionError.{VersionError}
-use Rattle.deb_version.specs.declared.versions.VersionError.TheVariants.{Shape, Memory}
+use Rattle.deb_version.specs.{declared.versions.VersionError.{VersionError}, declared.versions.VersionError.TheVariants.{Shape, Memory}}
 
 -- the fact, where the text was refused for its shape
 abbrev pub OnShape : Type 0 → VersionError → Type 0

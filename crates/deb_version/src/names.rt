@@ -1,6 +1,5 @@
 //! The names of packages.
-ghost use Rattle.std.specs.Prelude.{◌≡◌};
-ghost use Rattle.std.specs.List.{list_all};
+ghost use Rattle.std.specs.{Prelude.{◌≡◌}, List.{list_all}};
 ghost use Rattle.deb_version.specs.Names.{is_name, is_name_byte, has_first};
 
 use crate::classes::is_name_byte;

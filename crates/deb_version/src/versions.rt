@@ -1,11 +1,6 @@
 //! The versions of packages and their order.
-ghost use Rattle.std.specs.Prelude.{◌≡◌, ◌++◌, true, false, List, ℕ, IfOk, IfErr, OnOk, unwrap_or};
-ghost use Rattle.std.specs.Cmp.{IsTotalOrder};
-ghost use Rattle.std.specs.Option.{option_copied};
-ghost use Rattle.deb_version.specs.Grammar.{is_version};
-ghost use Rattle.deb_version.specs.Order.{version_order, or_zero, IsTotalUpToTies};
-ghost use Rattle.deb_version.specs.Keys.{version_key};
-ghost use Rattle.deb_version.specs.Refusals.{OnShape};
+ghost use Rattle.std.specs.{Prelude.{◌≡◌, ◌++◌, true, false, List, ℕ, IfOk, IfErr, OnOk, unwrap_or}, Cmp.{IsTotalOrder}, Option.{option_copied}};
+ghost use Rattle.deb_version.specs.{Grammar.{is_version}, Order.{version_order, or_zero, IsTotalUpToTies}, Keys.{version_key}, Refusals.{OnShape}};
 
 use crate::cuts::{cut, is_well_formed};
 use crate::digits::{order_numbers, without_zeros};
@@ -43,8 +38,7 @@ pub struct Version {
 }
 
 impl Model for Version {
-    ghost use Rattle.std.specs.Prelude.{◌≡◌, List, ℕ, true};
-    ghost use Rattle.std.specs.Coded.{coded_list, coded_ℕ};
+    ghost use Rattle.std.specs.{Prelude.{◌≡◌, List, ℕ, true}, Coded.{coded_list, coded_ℕ}};
     ghost use Rattle.deb_version.specs.Grammar.{is_version};
 
     ghost Value = { List ℕ };

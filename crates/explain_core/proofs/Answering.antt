@@ -1,35 +1,22 @@
 -- An explanation, over a view of the suite.
-use Rattle.std.proofs.Common.{Bool, ◌≡◌, ℕ, List, length, Option, sym, ap, ◌∙◌, subst, arith}
-use Rattle.std.specs.List.{range_with_len}
-use Rattle.std.specs.Option.{option_map}
-use Rattle.std.proofs.lemmas.List.{length-map}
+use Rattle.std.proofs.{Common.{Bool, ◌≡◌, ℕ, List, length, Option, sym, ap, ◌∙◌, subst, arith}, lemmas.List.{length-map}}
+use Rattle.std.specs.{List.{range_with_len}, Option.{option_map}}
 use Rattle.clause_pool.specs.Interned.{Interned}
 use Rattle.clause_solver.specs.declared.outcomes.Verdict.TheVariants as verdict
 use Rattle.kernel_rounds.specs.declared.extraction.Kernel.{Kernel}
-use Rattle.relation_fields.specs.declared.packages.Home.{Home}
-use Rattle.relation_fields.specs.declared.packages.PackageFacts.{PackageFacts}
-use Rattle.repo_model.specs.Goals.{packages_named}
-use Rattle.repo_model.specs.Repository.{suite_repository}
-use Rattle.repo_model.specs.declared.goals.Goal.{Goal}
+use Rattle.relation_fields.specs.{declared.packages.Home.{Home}, declared.packages.PackageFacts.{PackageFacts}}
+use Rattle.repo_model.specs.{Goals.{packages_named}, Repository.{suite_repository}, declared.goals.Goal.{Goal}}
 use Rattle.repo_model.proofs.Elements.{range_cases}
-use Rattle.row_book.specs.Book.{repository_of}
-use Rattle.row_book.specs.Needs.{NeedsFit}
+use Rattle.row_book.specs.{Book.{repository_of}, Needs.{NeedsFit}, declared.book.Book.{Book}}
 use Rattle.listed.specs.Lists.{In}
-use Rattle.row_book.specs.declared.book.Book.{Book}
 use Rattle.row_book.proofs.BookRepositories.{book_size}
 use Rattle.listed.proofs.Lists.{In_map_cases}
-use Rattle.suite_compare.specs.Asking.{verdict_in, wanted_by}
-use Rattle.suite_compare.specs.Views.{IsViewOf}
+use Rattle.suite_compare.specs.{Asking.{verdict_in, wanted_by}, Views.{IsViewOf}}
 use Rattle.explain_core.specs.Core.{goal_core, mark, marked_goals, marks_of, verdict_on}
-use Rattle.explain_core.specs.Explaining.{clashes_for, core_explained, explained_by, explanation_of}
-use Rattle.explain_core.specs.Picking.{picked, ArePlacesFrom1}
-use Rattle.explain_core.specs.Reasons.{clashes_of, reasons_of}
-use Rattle.explain_core.specs.declared.explanation.Clash.{Clash}
-use Rattle.explain_core.specs.declared.explanation.Mark.{Mark}
+use Rattle.explain_core.specs.{Explaining.{clashes_for, core_explained, explained_by, explanation_of}, Picking.{picked, ArePlacesFrom1}}
+use Rattle.explain_core.specs.{Reasons.{clashes_of, reasons_of}, declared.explanation.Clash.{Clash}, declared.explanation.Mark.{Mark}}
 use Rattle.explain_core.specs.declared.explanation.Explanation.TheVariants.{Core}
-use Rattle.explain_core.proofs.Deleted.{kept_all}
-use Rattle.explain_core.proofs.Explained.{wanted_fits}
-use Rattle.explain_core.proofs.Told.{picked_numbered}
+use Rattle.explain_core.proofs.{Deleted.{kept_all}, Explained.{wanted_fits}, Told.{picked_numbered}}
 
 -- the marks of the core are numbers of goals
 pub core_places : (limit : ℕ) (hold : Bool) (home : Home) (stanzas : List PackageFacts) (budget : ℕ) (goals : List Goal) (marks : List Mark) → marks ≡ marks_of (goal_core limit hold home stanzas budget goals) → ArePlacesFrom1 (length goals) marks

@@ -1,33 +1,19 @@
 -- A solver of a book's clauses is one for any choice of conflicts: without goals nothing follows but negative literals, and each conflict
 -- asks for two positive ones.
 use Rattle.std.proofs.Common.{◌≡◌, ℕ, ◌+◌, Bool, true, false, not, ◌&&◌, ◌||◌, List, [], inl, inr, length, get_or, refl, sym, ap, subst, ◌∙◌, arith, map}
+use Rattle.std.proofs.{lemmas.Bool.{and_parts, and_from, or_cases}, lemmas.List.Elements.{All-contains, All-append, All-nil, Contains-get_or}}
 use Rattle.std.specs.Prelude.{Contains}
-use Rattle.std.proofs.lemmas.Bool.{and_parts, and_from, or_cases}
-use Rattle.std.proofs.lemmas.List.Elements.{All-contains, All-append, All-nil, Contains-get_or}
 use Rattle.listed.proofs.Lists.{contains_in, in_contains, all_at, In_append_left}
 use Rattle.clause_pool.specs.Interned.{Interned, row_at}
-use Rattle.row_book.specs.Book.{listed_for, lists_of_pairs, repository_of, AreConflicts, PairsFit, Sound}
+use Rattle.row_book.specs.{Book.{listed_for, lists_of_pairs, repository_of, AreConflicts, PairsFit, Sound}, declared.book.Book.{Book}}
 use Rattle.listed.specs.Lists.{In, here, there}
-use Rattle.row_book.specs.declared.book.Book.{Book}
 use Rattle.row_book.proofs.Pairs.{length_pairs, pairs_conflict}
-use Rattle.search_terms.specs.declared.literals.Literal.{Literal}
-use Rattle.search_terms.specs.Closure.{literal, negation, is_same, forces, Clashes, InClosure, IsUnitClosed}
-use Rattle.search_terms.specs.Marks.{IsWithin}
-use Rattle.search_terms.specs.Form.{conflict_sentence, owned_sentences}
-use Rattle.search_terms.proofs.Forms.{from_owned_sentences}
-use Rattle.search_terms.proofs.Models.{same-true}
-use Rattle.search_terms.proofs.Ranges.{rows_long}
-use Rattle.search_terms.proofs.Sets.{closed_append, forces_mono}
-use Rattle.clause_solver.specs.Engine.{whole_form}
-use Rattle.clause_solver.specs.Levels.{CalmAt, IsAt}
-use Rattle.clause_solver.specs.Levels.IsLayered.{at_root}
-use Rattle.clause_solver.specs.Marking.{set_of_trail}
-use Rattle.clause_solver.specs.Nodes.{HaveNegative}
-use Rattle.clause_solver.specs.Solvers.{AreApart, IsReady}
-use Rattle.clause_solver.specs.declared.solver.Solver.{Solver}
-use Rattle.clause_solver.proofs.Calm.{calm_of, closure_closed}
-use Rattle.clause_solver.proofs.Preparing.{apart_of, engine_of, own_negative}
-use Rattle.clause_solver.proofs.Running.{closed_part}
+use Rattle.search_terms.specs.{declared.literals.Literal.{Literal}, Closure.{literal, negation, is_same, forces, Clashes, InClosure, IsUnitClosed}}
+use Rattle.search_terms.specs.{Marks.{IsWithin}, Form.{conflict_sentence, owned_sentences}}
+use Rattle.search_terms.proofs.{Forms.{from_owned_sentences}, Models.{same-true}, Ranges.{rows_long}, Sets.{closed_append, forces_mono}}
+use Rattle.clause_solver.specs.{Engine.{whole_form}, Levels.{CalmAt, IsAt}, Levels.IsLayered.{at_root}, Marking.{set_of_trail}, Nodes.{HaveNegative}}
+use Rattle.clause_solver.specs.{Solvers.{AreApart, IsReady}, declared.solver.Solver.{Solver}}
+use Rattle.clause_solver.proofs.{Calm.{calm_of, closure_closed}, Preparing.{apart_of, engine_of, own_negative}, Running.{closed_part}}
 use Rattle.explain_core.specs.Solving.{SolvesAny}
 
 -- the negative literals

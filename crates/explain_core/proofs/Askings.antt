@@ -1,11 +1,7 @@
 -- What goals name, and its classes.
-use Rattle.std.proofs.Common.{Bool, ◌≡◌, ℕ, ◌<◌, ◌≤◌, List, [], ◌∷◌, length, get_or, map, take, refl, ap, ◌∙◌, subst}
-use Rattle.std.proofs.lemmas.List.{take_all}
-use Rattle.relation_fields.specs.declared.packages.Home.{Home}
-use Rattle.relation_fields.specs.declared.packages.PackageFacts.{PackageFacts}
-use Rattle.repo_model.specs.Goals.{packages_named}
-use Rattle.repo_model.specs.Repository.{suite_repository}
-use Rattle.repo_model.specs.declared.goals.Goal.{Goal}
+use Rattle.std.proofs.{Common.{Bool, ◌≡◌, ℕ, ◌<◌, ◌≤◌, List, [], ◌∷◌, length, get_or, map, take, refl, ap, ◌∙◌, subst}, lemmas.List.{take_all}}
+use Rattle.relation_fields.specs.{declared.packages.Home.{Home}, declared.packages.PackageFacts.{PackageFacts}}
+use Rattle.repo_model.specs.{Goals.{packages_named}, Repository.{suite_repository}, declared.goals.Goal.{Goal}}
 use Rattle.listed.specs.Lists.{In}
 use Rattle.listed.proofs.Lists.{In_at, In_map_cases}
 use Rattle.suite_compare.specs.Asking.{goal_classes, image_of, images_of, wanted_by}

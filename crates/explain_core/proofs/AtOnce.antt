@@ -1,43 +1,26 @@
 -- A clash at the root stays with more sentences: where the verdict within one failed leaf is no, so it is for more goals and more
 -- conflicts, within any budget.
 use Rattle.std.proofs.Common.{◌≡◌, ℕ, ◌+◌, ◌<◌, ◌≤◌, Bool, List, [], ◌++◌, inl, inr, length, map, refl, sym, ap, ◌∙◌, subst, arith, Some, None}
-use Rattle.std.specs.Prelude.{ltb}
 use Rattle.std.proofs.lemmas.Bool.{cases_Bool, ltb-false, ltb-true}
+use Rattle.std.specs.Prelude.{ltb}
 use Rattle.listed.proofs.Lists.{contains_in, in_contains, In_append_cases, In_append_left, In_append_right, In_map, In_map_cases, filter_cases, filter_from}
 use Rattle.listed.proofs.Bools.{cases_Option}
 use Rattle.clause_pool.specs.Interned.{Interned}
-use Rattle.clause_solver.specs.declared.outcomes.Verdict.TheVariants.{No, Spent}
-use Rattle.clause_solver.specs.declared.solver.Solver.{Solver}
-use Rattle.clause_solver.specs.Engine.{IsEngine}
-use Rattle.clause_solver.specs.Solvers.{IsReady}
-use Rattle.clause_solver.proofs.Calm.{range_whole}
-use Rattle.clause_solver.proofs.Preparing.{clash_part, engine_goals}
-use Rattle.relation_fields.specs.declared.packages.Home.{Home}
-use Rattle.relation_fields.specs.declared.packages.PackageFacts.{PackageFacts}
-use Rattle.repo_model.specs.Repository.{suite_repository}
-use Rattle.repo_model.specs.declared.goals.Goal.{Goal}
-use Rattle.row_book.specs.Book.{are_paired, listed_for, lists_of_pairs, repository_of, PairsFit}
-use Rattle.row_book.specs.Numbers.{numbers}
-use Rattle.row_book.specs.Needs.{NeedsFit}
-use Rattle.row_book.specs.Repository.{Repository}
-use Rattle.row_book.specs.Rounds.{kernel}
+use Rattle.clause_solver.specs.{declared.outcomes.Verdict.TheVariants.{No, Spent}, declared.solver.Solver.{Solver}, Engine.{IsEngine}, Solvers.{IsReady}}
+use Rattle.clause_solver.proofs.{Calm.{range_whole}, Preparing.{clash_part, engine_goals}}
+use Rattle.relation_fields.specs.{declared.packages.Home.{Home}, declared.packages.PackageFacts.{PackageFacts}}
+use Rattle.repo_model.specs.{Repository.{suite_repository}, declared.goals.Goal.{Goal}}
+use Rattle.row_book.specs.{Book.{are_paired, listed_for, lists_of_pairs, repository_of, PairsFit}, Numbers.{numbers}, Needs.{NeedsFit}, Repository.{Repository}}
+use Rattle.row_book.specs.{Rounds.{kernel}, declared.book.Book.{Book}, declared.pair.Pair.{Pair}}
 use Rattle.listed.specs.Lists.{In}
-use Rattle.row_book.specs.declared.book.Book.{Book}
-use Rattle.row_book.specs.declared.pair.Pair.{Pair}
-use Rattle.row_book.proofs.BookRepositories.{book_size}
-use Rattle.row_book.proofs.Pairs.{length_pairs, at_pairs}
-use Rattle.search_terms.specs.declared.literals.Literal.{Literal}
-use Rattle.search_terms.specs.Closure.{Clashes, InRange}
+use Rattle.row_book.proofs.{BookRepositories.{book_size}, Pairs.{length_pairs, at_pairs}}
+use Rattle.search_terms.specs.{declared.literals.Literal.{Literal}, Closure.{Clashes, InRange}}
 use Rattle.search_terms.specs.Form.{clause_sentence, conflict_sentence, form, goal_sentence, owned_sentences, repository_form}
-use Rattle.search_terms.specs.Tree.{Tree, IsTree, failed_leaves, found_of}
-use Rattle.search_terms.specs.Tree.Tree.{failed_leaf, found_leaf, split}
-use Rattle.search_terms.proofs.Computed.{search_tree_is}
-use Rattle.search_terms.proofs.Forms.{from_owned_sentences, in_owned_sentences}
+use Rattle.search_terms.specs.{Tree.{Tree, IsTree, failed_leaves, found_of}, Tree.Tree.{failed_leaf, found_leaf, split}}
+use Rattle.search_terms.proofs.{Computed.{search_tree_is}, Forms.{from_owned_sentences, in_owned_sentences}}
 use Rattle.suite_compare.specs.Asking.{asked_tree, image_of, images_of, tree_of, verdict_in, verdict_of}
 use Rattle.suite_compare.proofs.Deciding.{asked_is}
-use Rattle.explain_core.specs.Only.{only}
-use Rattle.explain_core.specs.Reasons.{tree_over, verdict_over}
-use Rattle.explain_core.specs.Solving.{SolvesAny}
+use Rattle.explain_core.specs.{Only.{only}, Reasons.{tree_over, verdict_over}, Solving.{SolvesAny}}
 use Rattle.explain_core.proofs.Overs.{no_from, no_none, paired_more}
 
 -- a tree that finds nothing has a failed leaf

@@ -1,39 +1,25 @@
 -- The conflicts that matter, pair by pair.
 use Rattle.std.proofs.Common.{◌≡◌, ℕ, zero, suc, ◌+◌, ◌-◌, ◌<◌, ◌≤◌, ◌⊎◌, true, false, Some, None, take, List, [], ◌∷◌, ◌++◌, length, get_or, drop, map, inl, inr, refl, sym, ap, ◌∙◌, subst, arith}
-use Rattle.std.specs.Prelude.{is_some, ltb}
-use Rattle.std.specs.Option.{option_map}
-use Rattle.std.proofs.lemmas.Bool.{cases_Bool}
-use Rattle.std.proofs.lemmas.List.{drop-drop, drop_all, drop_more, length-drop, map-append, take-append-drop, take_all}
+use Rattle.std.proofs.{lemmas.Bool.{cases_Bool}, lemmas.List.{drop-drop, drop_all, drop_more, length-drop, map-append, take-append-drop, take_all}}
 use Rattle.std.proofs.Math.Seq.{drop-nil}
+use Rattle.std.specs.{Prelude.{is_some, ltb}, Option.{option_map}}
 use Rattle.listed.proofs.Lists.{in_take, In_drop, In_append_cases, In_append_left, In_append_right, In_cases, In_none}
 use Rattle.clause_pool.specs.Interned.{Interned, row_at}
-use Rattle.clause_solver.specs.Verdicts.{IsSearchVerdict}
-use Rattle.clause_solver.specs.declared.solver.Solver.{Solver}
-use Rattle.clause_solver.specs.declared.outcomes.Verdict.{Verdict}
+use Rattle.clause_solver.specs.{Verdicts.{IsSearchVerdict}, declared.solver.Solver.{Solver}, declared.outcomes.Verdict.{Verdict}}
 use Rattle.clause_solver.specs.declared.outcomes.Verdict.TheVariants.{Yes, No, Spent}
-use Rattle.row_book.specs.Book.{lists_of_pairs, repository_of, PairsFit, Sound}
-use Rattle.row_book.specs.Needs.{NeedsFit}
-use Rattle.row_book.specs.Repository.{Repository}
+use Rattle.row_book.specs.{Book.{lists_of_pairs, repository_of, PairsFit, Sound}, Needs.{NeedsFit}, Repository.{Repository}, Sets.{NumSet}}
+use Rattle.row_book.specs.{Sound.{SoundRepository}, declared.book.Book.{Book}, declared.pair.Pair.{Pair}}
 use Rattle.listed.specs.Lists.{In, here, there}
-use Rattle.row_book.specs.Sets.{NumSet}
-use Rattle.row_book.specs.Sound.{SoundRepository}
-use Rattle.row_book.specs.declared.book.Book.{Book}
-use Rattle.row_book.specs.declared.pair.Pair.{Pair}
 use Rattle.row_book.proofs.Repositories.{repository_same}
 use Rattle.search_terms.proofs.Ranges.{rows_long}
 use Rattle.suite_compare.specs.Asking.{tree_of, verdict_of}
 use Rattle.suite_compare.proofs.Judged.{verdict_is}
-use Rattle.explain_core.specs.Deletion.{Kept, is_no, items_of, kept_behind, kept_by, kept_of}
-use Rattle.explain_core.specs.Only.{conflicts_within, only, pair}
-use Rattle.explain_core.specs.Reach.{IsReach}
+use Rattle.explain_core.specs.{Deletion.{Kept, is_no, items_of, kept_behind, kept_by, kept_of}, Only.{conflicts_within, only, pair}, Reach.{IsReach}}
 use Rattle.explain_core.specs.Solving.{SolvesAny}
-use Rattle.search_terms.specs.Tree.{Tree, failed_leaves, found_of}
-use Rattle.explain_core.proofs.Reached.{reach_one}
 use Rattle.explain_core.specs.Reasons.{clashes_of, conflicts_reached, is_spent, reasons_among, reasons_of, told_pairs, tree_over, verdict_over}
 use Rattle.explain_core.specs.declared.explanation.Clash.{Clash}
-use Rattle.explain_core.proofs.AtOnce.{pairs_at_once}
-use Rattle.explain_core.proofs.Deleted.{block_left_out, no_is}
-use Rattle.explain_core.proofs.CoreLoop.{behind_none, behind_step}
+use Rattle.search_terms.specs.Tree.{Tree, failed_leaves, found_of}
+use Rattle.explain_core.proofs.{Reached.{reach_one}, AtOnce.{pairs_at_once}, Deleted.{block_left_out, no_is}, CoreLoop.{behind_none, behind_step}}
 use Rattle.explain_core.proofs.Told.{clashes_back, clashes_items, clashes_there, kept_clash, kept_clashes}
 
 clashes_more : (clashes new : List Clash) (kept : List (Kept Pair)) → new ≡ clashes ++ clashes_of kept → kept_clashes new ≡ kept_clashes clashes ++ kept

@@ -1,34 +1,21 @@
 -- The core, goal by goal, over a view of the suite.
 use Rattle.std.proofs.Common.{◌≡◌, ℕ, zero, suc, ◌+◌, ◌-◌, ◌<◌, ◌≤◌, true, false, List, [], ◌∷◌, ◌++◌, length, drop, map, inl, inr, refl, sym, ap, ◌∙◌, subst, arith}
-use Rattle.std.specs.List.{range_with_len}
 use Rattle.std.proofs.lemmas.List.{drop-map, map-append, length-map}
+use Rattle.std.specs.List.{range_with_len}
 use Rattle.clause_pool.specs.Interned.{Interned}
-use Rattle.clause_solver.specs.Verdicts.{IsSearchVerdict}
-use Rattle.clause_solver.specs.declared.outcomes.Verdict.{Verdict}
-use Rattle.clause_solver.specs.declared.outcomes.Verdict.TheVariants.{Yes, No, Spent}
+use Rattle.clause_solver.specs.{Verdicts.{IsSearchVerdict}, declared.outcomes.Verdict.{Verdict}, declared.outcomes.Verdict.TheVariants.{Yes, No, Spent}}
 use Rattle.kernel_rounds.specs.declared.extraction.Kernel.{Kernel}
-use Rattle.relation_fields.specs.declared.packages.Home.{Home}
-use Rattle.relation_fields.specs.declared.packages.PackageFacts.{PackageFacts}
-use Rattle.repo_model.specs.Repository.{suite_repository}
-use Rattle.repo_model.specs.declared.goals.Goal.{Goal}
-use Rattle.row_book.specs.Book.{repository_of}
-use Rattle.row_book.specs.Needs.{NeedsFit}
-use Rattle.row_book.specs.Repository.{Repository}
-use Rattle.row_book.specs.Rounds.{kernel}
+use Rattle.relation_fields.specs.{declared.packages.Home.{Home}, declared.packages.PackageFacts.{PackageFacts}}
+use Rattle.repo_model.specs.{Repository.{suite_repository}, declared.goals.Goal.{Goal}}
+use Rattle.row_book.specs.{Book.{repository_of}, Needs.{NeedsFit}, Repository.{Repository}, Rounds.{kernel}, declared.book.Book.{Book}}
 use Rattle.listed.specs.Lists.{In}
-use Rattle.row_book.specs.declared.book.Book.{Book}
 use Rattle.row_book.proofs.BookRepositories.{book_size}
 use Rattle.listed.proofs.Lists.{In_append_cases, In_append_left, In_append_right, In_cases, In_none}
-use Rattle.suite_compare.specs.Asking.{image_of, images_of, tree_of, verdict_in, verdict_of}
-use Rattle.suite_compare.specs.Views.{IsViewOf}
-use Rattle.suite_compare.proofs.Deciding.{images_fit}
-use Rattle.suite_compare.proofs.Judged.{verdict_is}
-use Rattle.explain_core.specs.Core.{goal_core, goal_numbered, goals_numbered, marks_of, verdict_on}
-use Rattle.explain_core.specs.Deletion.{Kept, is_no, items_of, kept_behind, kept_by}
-use Rattle.explain_core.specs.Picking.{picked, ArePlacesFrom1}
-use Rattle.explain_core.specs.declared.explanation.Mark.{Mark}
-use Rattle.explain_core.proofs.AtOnce.{goals_at_once, In_map_more}
-use Rattle.explain_core.proofs.Deleted.{block_left_out, no_is}
+use Rattle.suite_compare.specs.{Asking.{image_of, images_of, tree_of, verdict_in, verdict_of}, Views.{IsViewOf}}
+use Rattle.suite_compare.proofs.{Deciding.{images_fit}, Judged.{verdict_is}}
+use Rattle.explain_core.specs.{Core.{goal_core, goal_numbered, goals_numbered, marks_of, verdict_on}, Deletion.{Kept, is_no, items_of, kept_behind, kept_by}}
+use Rattle.explain_core.specs.{Picking.{picked, ArePlacesFrom1}, declared.explanation.Mark.{Mark}}
+use Rattle.explain_core.proofs.{AtOnce.{goals_at_once, In_map_more}, Deleted.{block_left_out, no_is}}
 use Rattle.explain_core.proofs.Told.{kept_mark, kept_marks, marks_back, marks_items, marks_there, picked_numbered, rest_numbered}
 
 -- one item more

@@ -1,22 +1,16 @@
 -- What the core tells, judged on the stanzas.
-use Rattle.std.proofs.Common.{Bool, ◌≡◌, ℕ, List, ◌∷◌, ◌++◌, length, map, sym, ap, ◌∙◌, subst}
+use Rattle.std.proofs.{Common.{Bool, ◌≡◌, ℕ, List, ◌∷◌, ◌++◌, length, map, sym, ap, ◌∙◌, subst}, lemmas.List.{map-append}}
 use Rattle.std.specs.List.{range_with_len}
-use Rattle.std.proofs.lemmas.List.{map-append}
-use Rattle.clause_solver.specs.declared.outcomes.Verdict.{Verdict}
-use Rattle.clause_solver.specs.declared.outcomes.Verdict.TheVariants.{Yes, No}
-use Rattle.relation_fields.specs.declared.packages.Home.{Home}
-use Rattle.relation_fields.specs.declared.packages.PackageFacts.{PackageFacts}
-use Rattle.repo_model.specs.Goals.{CoinstGoals}
-use Rattle.repo_model.specs.declared.goals.Goal.{Goal}
+use Rattle.clause_solver.specs.{declared.outcomes.Verdict.{Verdict}, declared.outcomes.Verdict.TheVariants.{Yes, No}}
+use Rattle.relation_fields.specs.{declared.packages.Home.{Home}, declared.packages.PackageFacts.{PackageFacts}}
+use Rattle.repo_model.specs.{Goals.{CoinstGoals}, declared.goals.Goal.{Goal}}
 use Rattle.listed.specs.Lists.{In}
 use Rattle.listed.proofs.Lists.{In_map, In_map_cases}
 use Rattle.suite_compare.specs.Asking.{verdict_in, HasVerdict}
 use Rattle.suite_compare.proofs.Deciding.{verdict_is_judged}
-use Rattle.explain_core.specs.Core.{goal_core, goal_numbered, goals_numbered, marked_goals, marks_of, verdict_on}
-use Rattle.explain_core.specs.Deletion.{Kept, items_of, kept_of}
+use Rattle.explain_core.specs.{Core.{goal_core, goal_numbered, goals_numbered, marked_goals, marks_of, verdict_on}, Deletion.{Kept, items_of, kept_of}}
 use Rattle.explain_core.specs.Meaning.{IsCoreOf}
-use Rattle.explain_core.proofs.Deleted.{Suffice, kept_needed, kept_no}
-use Rattle.explain_core.proofs.Told.{all_numbered, kept_mark, kept_marks, marks_back, marks_items}
+use Rattle.explain_core.proofs.{Deleted.{Suffice, kept_needed, kept_no}, Told.{all_numbered, kept_mark, kept_marks, marks_back, marks_items}}
 
 module _ (limit : ℕ) (hold : Bool) (home : Home) (stanzas : List PackageFacts) (budget : ℕ) where
   -- a verdict, judged

@@ -1,44 +1,25 @@
 -- What an explanation tells.
-use Rattle.std.proofs.Common.{Bool, ◌≡◌, ℕ, ◌<◌, false, List, ◌∷◌, ◌++◌, length, refl, sym, ap, ◌∙◌, subst, inl, inr}
-use Rattle.std.specs.Prelude.{ltb, IfSome}
-use Rattle.std.specs.Option.{option_map}
-use Rattle.std.proofs.lemmas.Bool.{cases_Bool}
+use Rattle.std.proofs.{Common.{Bool, ◌≡◌, ℕ, ◌<◌, false, List, ◌∷◌, ◌++◌, length, refl, sym, ap, ◌∙◌, subst, inl, inr}, lemmas.Bool.{cases_Bool}}
 use Rattle.std.proofs.lemmas.List.{map-append}
+use Rattle.std.specs.{Prelude.{ltb, IfSome}, Option.{option_map}}
 use Rattle.clause_solver.specs.declared.outcomes.Verdict.{Verdict}
 use Rattle.clause_solver.specs.declared.outcomes.Verdict.TheVariants as verdict
-use Rattle.relation_fields.specs.declared.packages.Home.{Home}
-use Rattle.relation_fields.specs.declared.packages.PackageFacts.{PackageFacts}
-use Rattle.repo_model.specs.Goals.{packages_named, CoinstGoals}
-use Rattle.repo_model.specs.Repository.{suite_repository}
-use Rattle.repo_model.specs.declared.goals.Goal.{Goal}
+use Rattle.relation_fields.specs.{declared.packages.Home.{Home}, declared.packages.PackageFacts.{PackageFacts}}
+use Rattle.repo_model.specs.{Goals.{packages_named, CoinstGoals}, Repository.{suite_repository}, declared.goals.Goal.{Goal}}
 use Rattle.repo_model.proofs.Healthy.{healthy_same}
-use Rattle.row_book.specs.Book.{PairsFit}
-use Rattle.row_book.specs.Needs.{NeedsFit}
-use Rattle.row_book.specs.Repository.{Repository}
-use Rattle.row_book.specs.Sets.{Hit, Is, NumSet}
-use Rattle.listed.specs.Lists.{In}
-use Rattle.row_book.specs.Sound.{SoundRepository}
+use Rattle.row_book.specs.{Book.{PairsFit}, Needs.{NeedsFit}, Repository.{Repository}, Sets.{Hit, Is, NumSet}, Sound.{SoundRepository}}
 use Rattle.row_book.specs.declared.pair.Pair.{Pair}
+use Rattle.listed.specs.Lists.{In}
 use Rattle.listed.proofs.Lists.{In_map, In_map_cases}
-use Rattle.search_terms.specs.Laws.{HasNoSolution, Solves}
-use Rattle.search_terms.specs.Tree.{failed_leaves}
+use Rattle.search_terms.specs.{Laws.{HasNoSolution, Solves}, Tree.{failed_leaves}}
 use Rattle.suite_compare.specs.Asking.{verdict_in, wanted_by}
-use Rattle.suite_compare.proofs.Deciding.{named_parts, named_within}
-use Rattle.suite_compare.proofs.SuiteKernels.{suite_sound}
-use Rattle.explain_core.specs.Core.{goal_core, marked_goals, marks_of}
-use Rattle.explain_core.specs.Deletion.{Kept, items_of, kept_of}
-use Rattle.explain_core.specs.Explaining.{explained_by, explanation_of}
-use Rattle.explain_core.specs.Meaning.{AreReasons, IsCoreOf, MeansExplanation}
-use Rattle.explain_core.specs.Only.{only}
-use Rattle.explain_core.specs.Reach.{reach_of}
-use Rattle.explain_core.specs.Reasons.{clashes_of, conflicts_reached, reasons_of, told_pairs, tree_over, verdict_over}
-use Rattle.explain_core.specs.declared.explanation.Mark.{Mark}
-use Rattle.explain_core.proofs.Cores.{core_is, judged}
-use Rattle.explain_core.proofs.Deleted.{Suffice, kept_all, kept_needed, kept_no}
-use Rattle.explain_core.proofs.Overs.{fewer_pairs, no_from, over_no, over_yes, solved_none}
-use Rattle.explain_core.proofs.Reached.{reach_is}
-use Rattle.explain_core.proofs.Told.{clashes_back, clashes_items, kept_clash, kept_clashes}
-use Rattle.explain_core.proofs.Withins.{within_fit, within_none}
+use Rattle.suite_compare.proofs.{Deciding.{named_parts, named_within}, SuiteKernels.{suite_sound}}
+use Rattle.explain_core.specs.{Core.{goal_core, marked_goals, marks_of}, Deletion.{Kept, items_of, kept_of}, Explaining.{explained_by, explanation_of}}
+use Rattle.explain_core.specs.{Meaning.{AreReasons, IsCoreOf, MeansExplanation}, Only.{only}, Reach.{reach_of}}
+use Rattle.explain_core.specs.{Reasons.{clashes_of, conflicts_reached, reasons_of, told_pairs, tree_over, verdict_over}, declared.explanation.Mark.{Mark}}
+use Rattle.explain_core.proofs.{Cores.{core_is, judged}, Deleted.{Suffice, kept_all, kept_needed, kept_no}}
+use Rattle.explain_core.proofs.{Overs.{fewer_pairs, no_from, over_no, over_yes, solved_none}, Reached.{reach_is}}
+use Rattle.explain_core.proofs.{Told.{clashes_back, clashes_items, kept_clash, kept_clashes}, Withins.{within_fit, within_none}}
 
 -- the reasons for goals that no healthy set hits
 module _ (R : Repository) (sound : SoundRepository R) (budget : ℕ) (goals : List (List ℕ)) (needs : NeedsFit (length R.clauses) goals) (impossible : HasNoSolution R goals) where

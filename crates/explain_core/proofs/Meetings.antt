@@ -1,23 +1,16 @@
 -- Packages that are met one after another, and what is within reach by them.
 use Rattle.std.proofs.Common.{◌≡◌, ℕ, zero, suc, ◌+◌, ◌<◌, ◌≤◌, Bool, true, false, List, [], ◌∷◌, ◌++◌, ◌⊎◌, inl, inr, length, get_or, take, map, refl, sym, ap, ◌∙◌, subst, arith, append_assoc}
-use Rattle.std.specs.List.{concat}
-use Rattle.std.proofs.lemmas.Bool.{cases_lt}
-use Rattle.std.proofs.lemmas.List.{append-nil, length-append, map-append, take_more, get_or_default}
+use Rattle.std.proofs.{lemmas.Bool.{cases_lt}, lemmas.List.{append-nil, length-append, map-append, take_more, get_or_default}}
 use Rattle.std.proofs.lemmas.List.Folds.{concat-append}
-use Rattle.row_book.specs.Flags.{flag}
-use Rattle.row_book.specs.Needs.{NeedsFit}
-use Rattle.row_book.specs.Repository.{Repository, clauses_of}
+use Rattle.std.specs.List.{concat}
+use Rattle.row_book.specs.{Flags.{flag}, Needs.{NeedsFit}, Repository.{Repository, clauses_of}, Book.{repository_of, Sound}, Uses.{row_id}}
+use Rattle.row_book.specs.declared.book.Book.{Book}
 use Rattle.listed.specs.Lists.{In, has, here, there}
 use Rattle.listed.proofs.Lists.{In_append_cases, In_append_left, In_append_right, In_cases, In_has, In_none, In_at, has_In}
 use Rattle.clause_pool.specs.Interned.{Interned}
 use Rattle.clause_pool.proofs.Lists.{In_place}
-use Rattle.row_book.specs.Book.{repository_of, Sound}
-use Rattle.row_book.specs.Uses.{row_id}
-use Rattle.row_book.specs.declared.book.Book.{Book}
-use Rattle.row_book.proofs.BookRepositories.{book_size}
-use Rattle.row_book.proofs.Books.{clauses_row, in_listed}
-use Rattle.explain_core.specs.Meeting.{IsMetList, IsReachedTo, Meets}
-use Rattle.explain_core.specs.Reach.{IsReach}
+use Rattle.row_book.proofs.{BookRepositories.{book_size}, Books.{clauses_row, in_listed}}
+use Rattle.explain_core.specs.{Meeting.{IsMetList, IsReachedTo, Meets}, Reach.{IsReach}}
 
 pub meets_both : (old mid new front more : List ℕ) → Meets old mid front → Meets mid new more → Meets old new (front ++ more)
 meets_both old mid new front more a b = record {

@@ -1,40 +1,24 @@
 -- What an explanation tells holds on the stanzas.
 use Rattle.std.proofs.Common.{◌≡◌, ℕ, ◌<◌, Bool, true, ◌&&◌, ◌||◌, eqb, List, ◌++◌, length, Option, Some, None, inl, inr, refl, sym, ◌∙◌, subst, arith}
-use Rattle.std.specs.Prelude.{IfSome}
 use Rattle.std.proofs.lemmas.Bool.{and_from, and_parts, both_ways, eq-eqb, eqb-true, false_from_ne_true, or_cases, or_left}
+use Rattle.std.specs.Prelude.{IfSome}
 use Rattle.clause_solver.specs.declared.outcomes.Verdict.{Verdict as SearchVerdict}
 use Rattle.clause_solver.specs.declared.outcomes.Verdict.TheVariants as tells
-use Rattle.explain_core.specs.Core.{goal_core, marked_goals, marks_of}
-use Rattle.explain_core.specs.Explaining.{clashes_for, explained_by, explanation_of}
-use Rattle.explain_core.specs.Meaning.{AreReasons, MeansExplanation}
-use Rattle.explain_core.specs.Only.{only, pair}
-use Rattle.explain_core.specs.Reasons.{told_pairs}
-use Rattle.explain_core.specs.declared.explanation.Clash.{Clash}
-use Rattle.explain_core.specs.declared.explanation.Mark.{Mark}
-use Rattle.explain_core.specs.declared.explanation.Explanation.{Explanation}
+use Rattle.explain_core.specs.{Core.{goal_core, marked_goals, marks_of}, Explaining.{clashes_for, explained_by, explanation_of}}
+use Rattle.explain_core.specs.{Meaning.{AreReasons, MeansExplanation}, Only.{only, pair}, Reasons.{told_pairs}, declared.explanation.Clash.{Clash}}
+use Rattle.explain_core.specs.{declared.explanation.Mark.{Mark}, declared.explanation.Explanation.{Explanation}}
 use Rattle.explain_core.specs.declared.explanation.Explanation.TheVariants.{Yes, Spent, Core}
-use Rattle.explain_core.proofs.Explained.{explanation_means}
-use Rattle.explain_core.proofs.Overs.{only_against}
-use Rattle.relation_fields.specs.Meeting.{meets}
-use Rattle.relation_fields.specs.declared.packages.Home.{Home}
-use Rattle.relation_fields.specs.declared.packages.PackageFacts.{PackageFacts}
-use Rattle.repo_model.specs.Goals.{HasOneFor, packages_named}
-use Rattle.repo_model.specs.Repository.{clause_of, suite_repository}
-use Rattle.repo_model.specs.Stanzas.{Met, stanza_at}
-use Rattle.repo_model.specs.declared.goals.Goal.{Goal}
+use Rattle.explain_core.specs.OnStanzas.{AreEnough, CoinstButFor, ExplanationsHold, HealthyButFor, HoldsOnStanzas}
+use Rattle.explain_core.proofs.{Explained.{explanation_means}, Overs.{only_against}, Tellable.{AreInConflict, reasons_in_conflict}}
+use Rattle.relation_fields.specs.{Meeting.{meets}, declared.packages.Home.{Home}, declared.packages.PackageFacts.{PackageFacts}}
+use Rattle.repo_model.specs.{Goals.{HasOneFor, packages_named}, Repository.{clause_of, suite_repository}, Stanzas.{Met, stanza_at}, declared.goals.Goal.{Goal}}
 use Rattle.repo_model.proofs.Packages.{clause_cases, clause_from, length_clauses, literal_cases, literal_from}
-use Rattle.row_book.specs.Book.{are_paired}
-use Rattle.row_book.specs.Repository.{Healthy, Repository, against}
-use Rattle.row_book.specs.Sets.{Hit, Is, NumSet}
+use Rattle.row_book.specs.{Book.{are_paired}, Repository.{Healthy, Repository, against}, Sets.{Hit, Is, NumSet}, declared.pair.Pair.{Pair}}
 use Rattle.listed.specs.Lists.{In}
-use Rattle.row_book.specs.declared.pair.Pair.{Pair}
 use Rattle.listed.proofs.Lists.{In_map, In_map_cases, any_cases, any_from}
-use Rattle.search_terms.specs.Laws.{Solves}
-use Rattle.search_terms.specs.Tree.{failed_leaves}
+use Rattle.search_terms.specs.{Laws.{Solves}, Tree.{failed_leaves}}
 use Rattle.suite_compare.specs.Asking.{HasVerdict, asked_tree, verdict_in, wanted_by}
 use Rattle.suite_compare.proofs.Deciding.{named_from, named_parts, verdict_is_judged}
-use Rattle.explain_core.specs.OnStanzas.{AreEnough, CoinstButFor, ExplanationsHold, HealthyButFor, HoldsOnStanzas}
-use Rattle.explain_core.proofs.Tellable.{AreInConflict, reasons_in_conflict}
 
 module _ (home : Home) (stanzas : List PackageFacts) where
   abbrev R : Repository

@@ -1,32 +1,18 @@
 -- Searches over packages with chosen conflicts.
 use Rattle.std.proofs.Common.{◌≡◌, ℕ, ◌<◌, Bool, true, false, ◌&&◌, ◌||◌, eqb, List, [], inl, inr, length, filter, refl, ap, ◌∙◌, arith, Some, None, zero-add}
-use Rattle.std.specs.Prelude.{ltb}
 use Rattle.std.proofs.lemmas.Bool.{cases_Bool, both_ways, false_from_ne_true}
-use Rattle.listed.proofs.Bools.{cases_Option}
+use Rattle.std.specs.Prelude.{ltb}
+use Rattle.listed.proofs.{Bools.{cases_Option}, Lists.{In_has, any_cases, any_from}}
 use Rattle.clause_solver.specs.declared.outcomes.Verdict.TheVariants.{Yes, No, Spent}
-use Rattle.row_book.specs.Book.{are_paired, listed_for, lists_of_pairs, PairsFit}
-use Rattle.row_book.specs.Numbers.{numbers}
-use Rattle.row_book.specs.Flags.{flag}
-use Rattle.row_book.specs.Needs.{NeedsFit}
-use Rattle.row_book.specs.Repository.{Repository, against}
+use Rattle.row_book.specs.{Book.{are_paired, listed_for, lists_of_pairs, PairsFit}, Numbers.{numbers}, Flags.{flag}, Needs.{NeedsFit}}
+use Rattle.row_book.specs.{Repository.{Repository, against}, Sets.{NumSet}, Sound.{SoundRepository}, declared.pair.Pair.{Pair}}
 use Rattle.listed.specs.Lists.{In, has}
-use Rattle.row_book.specs.Sets.{NumSet}
-use Rattle.row_book.specs.Sound.{SoundRepository}
-use Rattle.row_book.specs.declared.pair.Pair.{Pair}
-use Rattle.listed.proofs.Lists.{In_has, any_cases, any_from}
-use Rattle.row_book.proofs.Numbers.{at_numbers, numbers_from}
-use Rattle.row_book.proofs.Pairs.{length_pairs, pairs_conflict, at_pairs}
-use Rattle.row_book.proofs.Repositories.{has_filter}
-use Rattle.search_terms.specs.Closure.{InRange}
-use Rattle.search_terms.specs.Form.{form}
-use Rattle.search_terms.specs.Laws.{HasNoSolution, Solves}
-use Rattle.search_terms.specs.Tree.{Tree, IsTree, failed_leaves, found_of}
-use Rattle.search_terms.proofs.Computed.{search_tree_is}
-use Rattle.search_terms.proofs.Found.{finds_healthy}
+use Rattle.row_book.proofs.{Numbers.{at_numbers, numbers_from}, Pairs.{length_pairs, pairs_conflict, at_pairs}, Repositories.{has_filter}}
+use Rattle.search_terms.specs.{Closure.{InRange}, Form.{form}, Laws.{HasNoSolution, Solves}, Tree.{Tree, IsTree, failed_leaves, found_of}}
+use Rattle.search_terms.proofs.{Computed.{search_tree_is}, Found.{finds_healthy}}
 use Rattle.suite_compare.specs.Asking.{tree_of, verdict_of}
 use Rattle.suite_compare.proofs.Ranged.{formula_ranged}
-use Rattle.explain_core.specs.Only.{only}
-use Rattle.explain_core.specs.Reasons.{tree_over, verdict_over}
+use Rattle.explain_core.specs.{Only.{only}, Reasons.{tree_over, verdict_over}}
 
 -- what a verdict tells of a tree
 yes_found : (budget : ℕ) (tree : Tree) → verdict_of budget tree ≡ Yes → (chosen : List Bool) × (found_of tree ≡ Some chosen)

@@ -1,21 +1,13 @@
 -- Reach as a test is the least set.
-use Rattle.std.proofs.Common.{◌≡◌, ℕ, ◌<◌, Bool, true, not, ◌||◌, List, inl, inr, length, arith, filter}
-use Rattle.std.proofs.Math.Path.{fun_ext}
+use Rattle.std.proofs.{Common.{◌≡◌, ℕ, ◌<◌, Bool, true, not, ◌||◌, List, inl, inr, length, arith, filter}, Math.Path.{fun_ext}}
 use Rattle.std.proofs.lemmas.Bool.{cases_Bool, and_parts, and_from, or_cases, or_left, or_right, both_ways, not-true, not_from_false}
 use Rattle.std.specs.List.{list_all}
-use Rattle.listed.proofs.Bools.{same_bool}
+use Rattle.listed.proofs.{Bools.{same_bool}, Lists.{In_has, has_In, all_from, all_at, filter_from, filter_cases}, Orders.{ascending_filter}}
 use Rattle.listed.specs.Lists.{is_inside, In, has}
-use Rattle.row_book.specs.Numbers.{numbers, subsets}
-use Rattle.row_book.specs.Needs.{NeedsFit}
-use Rattle.row_book.specs.Repository.{Repository, clauses_of}
-use Rattle.row_book.specs.Sets.{NumSet, Is}
-use Rattle.row_book.specs.Sound.{SoundRepository}
+use Rattle.row_book.specs.{Numbers.{numbers, subsets}, Needs.{NeedsFit}, Repository.{Repository, clauses_of}, Sets.{NumSet, Is}, Sound.{SoundRepository}}
 use Rattle.clause_pool.proofs.Clauses.{inside_from, inside_at}
-use Rattle.listed.proofs.Lists.{In_has, has_In, all_from, all_at, filter_from, filter_cases}
-use Rattle.listed.proofs.Orders.{ascending_filter}
 use Rattle.row_book.proofs.Numbers.{numbers_from, numbers_parts, numbers_ascending, subsets_has}
-use Rattle.explain_core.specs.Reach.{HoldsNeeds, IsReach, holds_needs, reach_of}
-use Rattle.explain_core.specs.Laws.{ReachIsLeast}
+use Rattle.explain_core.specs.{Reach.{HoldsNeeds, IsReach, holds_needs, reach_of}, Laws.{ReachIsLeast}}
 
 -- the test of a list is that of its set
 needs_from : (R : Repository) (goals : List (List ℕ)) (S : List ℕ) → HoldsNeeds R goals (has S) → holds_needs R goals S ≡ true

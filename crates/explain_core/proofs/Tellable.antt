@@ -1,33 +1,22 @@
 -- What an explanation names.
 use Rattle.std.proofs.Common.{◌≡◌, ℕ, ◌<◌, Bool, true, List, length, filter, Option, Some, None, inl, inr, refl, sym, ap, ◌∙◌, subst, arith}
-use Rattle.std.specs.Prelude.{◌&&◌, ltb, IfSome}
-use Rattle.std.specs.List.{range_with_len}
-use Rattle.std.specs.Option.{option_map}
 use Rattle.std.proofs.lemmas.Bool.{and_parts, cases_Bool, ltb-true}
+use Rattle.std.specs.{Prelude.{◌&&◌, ltb, IfSome}, List.{range_with_len}, Option.{option_map}}
 use Rattle.listed.proofs.Lists.{In_flat_cases, In_has, In_map_cases, filter_cases}
 use Rattle.clause_solver.specs.declared.outcomes.Verdict.{Verdict}
 use Rattle.clause_solver.specs.declared.outcomes.Verdict.TheVariants as verdict
-use Rattle.explain_core.specs.Core.{goal_core, marked_goals, marks_of}
-use Rattle.explain_core.specs.Deletion.{kept_of}
-use Rattle.explain_core.specs.Explaining.{clashes_for, explained_by, explanation_of}
-use Rattle.explain_core.specs.Only.{conflicts_above, conflicts_within, pair}
-use Rattle.explain_core.specs.Reach.{reach_of}
-use Rattle.explain_core.specs.Reasons.{clash, clashes_of, conflicts_reached, reasons_of, tree_over, verdict_over}
-use Rattle.explain_core.specs.declared.explanation.Clash.{Clash}
-use Rattle.explain_core.proofs.Answering.{core_places}
-use Rattle.explain_core.proofs.Deleted.{kept_all}
-use Rattle.relation_fields.specs.declared.packages.Home.{Home}
-use Rattle.relation_fields.specs.declared.packages.PackageFacts.{PackageFacts}
-use Rattle.repo_model.specs.Repository.{in_conflict, suite_repository}
-use Rattle.repo_model.specs.declared.goals.Goal.{Goal}
+use Rattle.explain_core.specs.{Core.{goal_core, marked_goals, marks_of}, Deletion.{kept_of}, Explaining.{clashes_for, explained_by, explanation_of}}
+use Rattle.explain_core.specs.{Only.{conflicts_above, conflicts_within, pair}, Reach.{reach_of}}
+use Rattle.explain_core.specs.{Reasons.{clash, clashes_of, conflicts_reached, reasons_of, tree_over, verdict_over}, declared.explanation.Clash.{Clash}}
+use Rattle.explain_core.specs.OnStanzas.{AreClashesOf, IsTellable}
+use Rattle.explain_core.proofs.{Answering.{core_places}, Deleted.{kept_all}}
+use Rattle.relation_fields.specs.{declared.packages.Home.{Home}, declared.packages.PackageFacts.{PackageFacts}}
+use Rattle.repo_model.specs.{Repository.{in_conflict, suite_repository}, declared.goals.Goal.{Goal}}
 use Rattle.repo_model.proofs.Packages.{against_cases}
-use Rattle.row_book.specs.Repository.{Repository, conflicts_of}
+use Rattle.row_book.specs.{Repository.{Repository, conflicts_of}, Sets.{NumSet}, declared.pair.Pair.{Pair}}
 use Rattle.listed.specs.Lists.{In}
-use Rattle.row_book.specs.Sets.{NumSet}
-use Rattle.row_book.specs.declared.pair.Pair.{Pair}
 use Rattle.search_terms.specs.Tree.{failed_leaves}
 use Rattle.suite_compare.specs.Asking.{verdict_in, wanted_by}
-use Rattle.explain_core.specs.OnStanzas.{AreClashesOf, IsTellable}
 
 module _ (home : Home) (stanzas : List PackageFacts) where
   abbrev R : Repository

@@ -1,18 +1,12 @@
 -- What is kept as it is told, and back.
 use Rattle.std.proofs.Common.{◌≡◌, ℕ, zero, suc, ◌+◌, ◌-◌, ◌<◌, List, [], ◌∷◌, length, get_or, drop, map, refl, sym, ap, ◌∙◌, arith}
-use Rattle.std.specs.List.{range_with_len}
 use Rattle.std.proofs.lemmas.List.{drop_more, drop_all, get_or-map}
-use Rattle.repo_model.specs.Goals.{any_version}
-use Rattle.repo_model.specs.declared.goals.Goal.{Goal}
+use Rattle.std.specs.List.{range_with_len}
+use Rattle.repo_model.specs.{Goals.{any_version}, declared.goals.Goal.{Goal}}
 use Rattle.listed.specs.Lists.{here, there}
 use Rattle.row_book.specs.declared.pair.Pair.{Pair}
-use Rattle.explain_core.specs.Core.{goal_numbered, goals_numbered, marks_of}
-use Rattle.explain_core.specs.Deletion.{Kept, kept, items_of}
-use Rattle.explain_core.specs.Picking.{picked, ArePlacesFrom1}
-use Rattle.explain_core.specs.Only.{pair}
-use Rattle.explain_core.specs.Reasons.{clashes_of, told_pairs}
-use Rattle.explain_core.specs.declared.explanation.Clash.{Clash}
-use Rattle.explain_core.specs.declared.explanation.Mark.{Mark}
+use Rattle.explain_core.specs.{Core.{goal_numbered, goals_numbered, marks_of}, Deletion.{Kept, kept, items_of}, Picking.{picked, ArePlacesFrom1}, Only.{pair}}
+use Rattle.explain_core.specs.{Reasons.{clashes_of, told_pairs}, declared.explanation.Clash.{Clash}, declared.explanation.Mark.{Mark}}
 
 -- the marked goal that was kept
 abbrev pub kept_mark : Mark → Kept ℕ

@@ -1,8 +1,6 @@
 -- The law of reach.
 use Rattle.std.specs.Prelude.{ℕ, List, length}
-use Rattle.row_book.specs.Needs.{NeedsFit}
-use Rattle.row_book.specs.Repository.{Repository}
-use Rattle.row_book.specs.Sound.{SoundRepository}
+use Rattle.row_book.specs.{Needs.{NeedsFit}, Repository.{Repository}, Sound.{SoundRepository}}
 use Rattle.explain_core.specs.Reach.{IsReach, reach_of}
 
 -- the test of reach is the least set

@@ -1,21 +1,12 @@
 -- What an explanation tells of the goals, judged on the stanzas, and of the conflicts.
 use Rattle.std.specs.Prelude.{◌≡◌, ℕ, false, List, ◌∷◌, ◌++◌, IfSome}
-use Rattle.relation_fields.specs.declared.packages.Home.{Home}
-use Rattle.relation_fields.specs.declared.packages.PackageFacts.{PackageFacts}
-use Rattle.repo_model.specs.Goals.{CoinstGoals}
-use Rattle.repo_model.specs.Repository.{suite_repository}
-use Rattle.repo_model.specs.declared.goals.Goal.{Goal}
-use Rattle.row_book.specs.Repository.{Repository}
-use Rattle.row_book.specs.Sets.{NumSet}
+use Rattle.relation_fields.specs.{declared.packages.Home.{Home}, declared.packages.PackageFacts.{PackageFacts}}
+use Rattle.repo_model.specs.{Goals.{CoinstGoals}, Repository.{suite_repository}, declared.goals.Goal.{Goal}}
+use Rattle.row_book.specs.{Repository.{Repository}, Sets.{NumSet}}
 use Rattle.search_terms.specs.Laws.{HasNoSolution, Solves}
 use Rattle.suite_compare.specs.Asking.{wanted_by}
-use Rattle.explain_core.specs.Core.{marked_goals}
-use Rattle.explain_core.specs.Only.{only}
-use Rattle.explain_core.specs.Reasons.{told_pairs}
-use Rattle.explain_core.specs.declared.explanation.Clash.{Clash}
-use Rattle.explain_core.specs.declared.explanation.Mark.{Mark}
-use Rattle.explain_core.specs.declared.explanation.Explanation.{Explanation}
-use Rattle.explain_core.specs.declared.explanation.Explanation.TheVariants.{Yes, Spent, Core}
+use Rattle.explain_core.specs.{Core.{marked_goals}, Only.{only}, Reasons.{told_pairs}, declared.explanation.Clash.{Clash}, declared.explanation.Mark.{Mark}}
+use Rattle.explain_core.specs.{declared.explanation.Explanation.{Explanation}, declared.explanation.Explanation.TheVariants.{Yes, Spent, Core}}
 
 -- the marked goals are not co-installable, and without any one of them that is not open they are
 pub record IsCoreOf (home : Home) (stanzas : List PackageFacts) (goals : List Goal) (marks : List Mark) : Type 0 where

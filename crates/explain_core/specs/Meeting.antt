@@ -1,10 +1,8 @@
 -- for the bodies of this crate alone
 -- Packages that were met, in their order, with a flag for each package.
 use Rattle.std.specs.Prelude.{◌≡◌, ℕ, ◌+◌, ◌<◌, ◌≤◌, Bool, not, List, ◌++◌, count_by, length, slice_index_or}
-use Rattle.row_book.specs.Flags.{flag}
-use Rattle.row_book.specs.Repository.{Repository, clauses_of}
+use Rattle.row_book.specs.{Flags.{flag}, Repository.{Repository, clauses_of}, Sets.{Is, NumSet}}
 use Rattle.listed.specs.Lists.{In, has}
-use Rattle.row_book.specs.Sets.{Is, NumSet}
 use Rattle.explain_core.specs.Reach.{HoldsNeeds}
 
 -- the flags that are up are those of the packages, each of which stands once

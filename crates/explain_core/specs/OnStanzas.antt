@@ -1,21 +1,12 @@
 -- What an explanation tells, judged on the stanzas alone, and that it names goals and packages that are there.
 use Rattle.std.specs.Prelude.{⊤, ◌≡◌, ℕ, ◌<◌, Bool, true, false, List, ◌∷◌, ◌++◌, length, IfSome}
-use Rattle.explain_core.specs.Core.{marked_goals}
-use Rattle.explain_core.specs.Explaining.{explanation_of}
-use Rattle.explain_core.specs.Meaning.{IsCoreOf}
-use Rattle.explain_core.specs.declared.explanation.Clash.{Clash}
-use Rattle.relation_fields.specs.declared.packages.Home.{Home}
-use Rattle.relation_fields.specs.declared.packages.PackageFacts.{PackageFacts}
-use Rattle.relation_fields.specs.declared.relations.Atom.{Atom}
-use Rattle.repo_model.specs.Goals.{CoinstGoals, HasOneFor}
-use Rattle.repo_model.specs.Repository.{in_conflict}
-use Rattle.repo_model.specs.Stanzas.{Met, stanza_at}
-use Rattle.repo_model.specs.declared.goals.Goal.{Goal}
+use Rattle.explain_core.specs.{Core.{marked_goals}, Explaining.{explanation_of}, Meaning.{IsCoreOf}, declared.explanation.Clash.{Clash}}
+use Rattle.explain_core.specs.{Picking.{ArePlacesFrom1}, declared.explanation.Explanation.{Explanation}}
+use Rattle.explain_core.specs.declared.explanation.Explanation.TheVariants.{Yes, Spent, Core}
+use Rattle.relation_fields.specs.{declared.packages.Home.{Home}, declared.packages.PackageFacts.{PackageFacts}, declared.relations.Atom.{Atom}}
+use Rattle.repo_model.specs.{Goals.{CoinstGoals, HasOneFor}, Repository.{in_conflict}, Stanzas.{Met, stanza_at}, declared.goals.Goal.{Goal}}
 use Rattle.listed.specs.Lists.{In}
 use Rattle.row_book.specs.Sets.{Is, NumSet}
-use Rattle.explain_core.specs.Picking.{ArePlacesFrom1}
-use Rattle.explain_core.specs.declared.explanation.Explanation.{Explanation}
-use Rattle.explain_core.specs.declared.explanation.Explanation.TheVariants.{Yes, Spent, Core}
 use Rattle.search_terms.specs.Tree.{failed_leaves}
 use Rattle.suite_compare.specs.Asking.{asked_tree}
 

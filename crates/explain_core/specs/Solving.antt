@@ -2,11 +2,8 @@
 -- A solver for any choice of conflicts.
 use Rattle.std.specs.Prelude.{List, length}
 use Rattle.clause_pool.specs.Interned.{Interned}
-use Rattle.clause_solver.specs.Solvers.{IsReady}
-use Rattle.clause_solver.specs.declared.solver.Solver.{Solver}
-use Rattle.row_book.specs.Book.{repository_of, PairsFit, Sound}
-use Rattle.row_book.specs.declared.book.Book.{Book}
-use Rattle.row_book.specs.declared.pair.Pair.{Pair}
+use Rattle.clause_solver.specs.{Solvers.{IsReady}, declared.solver.Solver.{Solver}}
+use Rattle.row_book.specs.{Book.{repository_of, PairsFit, Sound}, declared.book.Book.{Book}, declared.pair.Pair.{Pair}}
 use Rattle.explain_core.specs.Only.{only}
 
 -- the solver is one of the book's clauses, whichever pairs conflict: what follows from the clauses and the conflicts without goals are

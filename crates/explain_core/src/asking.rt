@@ -1,8 +1,7 @@
 //! What goals ask for: packages, and classes of the kernel.
 ghost use Rattle.std.specs.Prelude.{◌≡◌, None, Some, IfOk, IfErr, OnOk};
 ghost use Rattle.repo_model.specs.declared.goals.Goal.{Goal};
-ghost use Rattle.suite_compare.specs.Asking.{images_of, wanted_by};
-ghost use Rattle.suite_compare.specs.Answering.{unknown_goal};
+ghost use Rattle.suite_compare.specs.{Asking.{images_of, wanted_by}, Answering.{unknown_goal}};
 ghost use Rattle.explain_core.specs.Explaining.{OnUnknown};
 
 use crate::explanation::ExplainError;

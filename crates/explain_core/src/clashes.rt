@@ -1,12 +1,8 @@
 //! The conflicts that matter: one conflict after another is left out, as long as the search with the others finds nothing.
-ghost use Rattle.std.specs.Prelude.{◌≡◌, ◌++◌, IfOk, OnOk, length};
-ghost use Rattle.std.specs.Option.{option_map};
+ghost use Rattle.std.specs.{Prelude.{◌≡◌, ◌++◌, IfOk, OnOk, length}, Option.{option_map}};
 ghost use Rattle.clause_solver.specs.Outcomes.{IsBudget};
-ghost use Rattle.row_book.specs.Book.{repository_of, PairsFit};
-ghost use Rattle.row_book.specs.Needs.{NeedsFit};
-ghost use Rattle.row_book.specs.declared.pair.Pair.{Pair};
-ghost use Rattle.explain_core.specs.Deletion.{is_no, kept_by, kept_of};
-ghost use Rattle.explain_core.specs.Reasons.{clashes_of, is_spent, reasons_of, told_pairs, verdict_over};
+ghost use Rattle.row_book.specs.{Book.{repository_of, PairsFit}, Needs.{NeedsFit}, declared.pair.Pair.{Pair}};
+ghost use Rattle.explain_core.specs.{Deletion.{is_no, kept_by, kept_of}, Reasons.{clashes_of, is_spent, reasons_of, told_pairs, verdict_over}};
 ghost use Rattle.explain_core.specs.Solving.{SolvesAny};
 
 use crate::blocks::{block_behind, count_of, half, is_no, twice};

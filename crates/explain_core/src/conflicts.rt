@@ -1,7 +1,6 @@
 //! The conflicts within a set of packages.
 ghost use Rattle.std.specs.Prelude.{◌≡◌, ◌<◌, ◌&&◌, ◌++◌, ltb, IfOk, OnOk, filter, map};
-ghost use Rattle.row_book.specs.Book.{repository_of};
-ghost use Rattle.row_book.specs.Flags.{flag};
+ghost use Rattle.row_book.specs.{Book.{repository_of}, Flags.{flag}};
 ghost use Rattle.explain_core.specs.Only.{conflicts_within, pair};
 
 use clause_pool::Pool;

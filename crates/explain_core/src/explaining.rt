@@ -2,8 +2,7 @@
 ghost use Rattle.std.specs.Prelude.{◌≡◌, None, Some, IfOk, IfErr, OnOk};
 ghost use Rattle.clause_solver.specs.Outcomes.{IsBudget};
 ghost use Rattle.suite_compare.specs.Answering.{unknown_goal};
-ghost use Rattle.explain_core.specs.Explaining.{explanation_of, OnUnknown};
-ghost use Rattle.explain_core.specs.Meaning.{MeansExplanation};
+ghost use Rattle.explain_core.specs.{Explaining.{explanation_of, OnUnknown}, Meaning.{MeansExplanation}};
 
 use crate::asking::{classes_of, wanted_by};
 use crate::clashes::clashes_for;

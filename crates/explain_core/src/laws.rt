@@ -1,6 +1,5 @@
 //! The laws of explanations: the functions do nothing, the contract of each is one law.
-ghost use Rattle.explain_core.specs.Laws.{ReachIsLeast};
-ghost use Rattle.explain_core.specs.OnStanzas.{ExplanationsAreTellable, ExplanationsHold};
+ghost use Rattle.explain_core.specs.{Laws.{ReachIsLeast}, OnStanzas.{ExplanationsAreTellable, ExplanationsHold}};
 
 /// The test by which the packages within reach are told is the least set that has the packages of the goals and, with a package, the
 /// members of its clauses.

@@ -1,9 +1,7 @@
 //! Packages that were met, each once.
-ghost use Rattle.std.specs.Prelude.{◌≡◌, ◌<◌, ◌≤◌, ◌∷◌, [], ℕ, IfOk, OnOk, length};
-ghost use Rattle.std.specs.List.{concat};
+ghost use Rattle.std.specs.{Prelude.{◌≡◌, ◌<◌, ◌≤◌, ◌∷◌, [], ℕ, IfOk, OnOk, length}, List.{concat}};
 ghost use Rattle.clause_pool.specs.Interned.{clauses_at, OfPool};
-ghost use Rattle.row_book.specs.Flags.{flag};
-ghost use Rattle.row_book.specs.Needs.{NeedsFit};
+ghost use Rattle.row_book.specs.{Flags.{flag}, Needs.{NeedsFit}};
 ghost use Rattle.listed.specs.Lists.{In, has};
 ghost use Rattle.explain_core.specs.Meeting.{Meets};
 

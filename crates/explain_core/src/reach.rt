@@ -1,12 +1,8 @@
 //! Packages within reach of goals.
-ghost use Rattle.std.specs.Prelude.{◌≡◌, ◌<◌, IfOk, OnOk, length, slice_index_or};
+ghost use Rattle.std.specs.{Prelude.{◌≡◌, ◌<◌, IfOk, OnOk, length, slice_index_or}, List.{concat}};
 ghost use Rattle.clause_pool.specs.Interned.{row_at};
-ghost use Rattle.std.specs.List.{concat};
-ghost use Rattle.row_book.specs.Book.{repository_of, Sound};
-ghost use Rattle.row_book.specs.Flags.{flag};
-ghost use Rattle.row_book.specs.Needs.{NeedsFit};
-ghost use Rattle.explain_core.specs.Meeting.{Meets};
-ghost use Rattle.explain_core.specs.Reach.{IsReach};
+ghost use Rattle.row_book.specs.{Book.{repository_of, Sound}, Flags.{flag}, Needs.{NeedsFit}};
+ghost use Rattle.explain_core.specs.{Meeting.{Meets}, Reach.{IsReach}};
 
 use crate::met::Met;
 use clause_pool::Pool;

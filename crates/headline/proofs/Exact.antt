@@ -6,19 +6,14 @@ use Rattle.repo_model.specs.Goals.{any_version}
 use Rattle.clause_pool.specs.Lists.{Before, InOrder}
 use Rattle.listed.specs.Lists.{In, here}
 use Rattle.clause_pool.proofs.Order.{order_filter}
-use Rattle.suite_compare.specs.Names.{names_of_both}
-use Rattle.suite_compare.specs.Refusals.{packages_in}
-use Rattle.suite_compare.specs.Report.{is_yes, pair_line, single_line, with_later}
-use Rattle.suite_compare.specs.declared.report.Finding.{Finding}
-use Rattle.suite_compare.specs.declared.report.ReportLine.{ReportLine}
+use Rattle.suite_compare.specs.{Names.{names_of_both}, Refusals.{packages_in}, Report.{is_yes, pair_line, single_line, with_later}}
+use Rattle.suite_compare.specs.{declared.report.Finding.{Finding}, declared.report.ReportLine.{ReportLine}}
 use Rattle.suite_compare.specs.declared.report.ReportLine.TheVariants.{Broken1, Broken2, Open1, Open2}
-use Rattle.headline.specs.Indexes.{Name, SearchedIndex, Can}
-use Rattle.headline.specs.Laws.{OneListIsExact, ReportListsExactly}
+use Rattle.headline.specs.{Indexes.{Name, SearchedIndex, Can}, Laws.{OneListIsExact, ReportListsExactly}}
 use Rattle.headline.specs.Listing.{one, two, subject_of, AreInOrder, ArePair, BothHave, ListsExactly}
 use Rattle.headline.proofs.Judging.{broken_is, broken_told, can_is_yes, is_yes_can, open_is, open_told, told}
 use Rattle.headline.proofs.Members.{later_cases, later_from, not_both, pair_broken, pair_open, pair_subject, same_first, same_one, same_second, single_broken, single_open, single_subject}
-use Rattle.headline.proofs.Named.{both_from, both_have, both_order}
-use Rattle.headline.proofs.Orders.{order_differs, order_same, report_order}
+use Rattle.headline.proofs.{Named.{both_from, both_have, both_order}, Orders.{order_differs, order_same, report_order}}
 
 -- a report as lines of names and lines of pairs
 abbrev singles : (Name → Option Finding) → List Name → List ReportLine

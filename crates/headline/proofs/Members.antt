@@ -5,13 +5,10 @@ use Rattle.listed.proofs.Lists.{In_flat_cases, In_flat, In_cases, In_none, In_ap
 use Rattle.clause_pool.specs.Lists.{Before, InOrder}
 use Rattle.listed.specs.Lists.{In, here, there}
 use Rattle.clause_pool.proofs.Order.{before_asym}
-use Rattle.suite_compare.specs.Report.{pair_line, single_line, with_later}
-use Rattle.suite_compare.specs.declared.report.Finding.{Finding}
-use Rattle.suite_compare.specs.declared.report.Finding.TheVariants.{Broken, Open}
-use Rattle.suite_compare.specs.declared.report.ReportLine.{ReportLine}
+use Rattle.suite_compare.specs.{Report.{pair_line, single_line, with_later}, declared.report.Finding.{Finding}}
+use Rattle.suite_compare.specs.{declared.report.Finding.TheVariants.{Broken, Open}, declared.report.ReportLine.{ReportLine}}
 use Rattle.suite_compare.specs.declared.report.ReportLine.TheVariants.{Broken1, Broken2, Open1, Open2}
-use Rattle.headline.specs.Indexes.{Name}
-use Rattle.headline.specs.Listing.{one, two, subject_of}
+use Rattle.headline.specs.{Indexes.{Name}, Listing.{one, two, subject_of}}
 
 -- the lines of pairs
 pub later_cases : (f : Name → Name → List ReportLine) (names : List Name) → InOrder names → (line : ReportLine) → In line (with_later f names) → (a : Name) × (b : Name) × In a names × In b names × Before a b × In line (f a b)

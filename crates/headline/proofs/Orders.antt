@@ -5,12 +5,9 @@ use Rattle.listed.proofs.Lists.{In_flat_cases, In_cases, In_none, In_append_case
 use Rattle.clause_pool.specs.Lists.{Before, InOrder}
 use Rattle.listed.specs.Lists.{In, here, there}
 use Rattle.clause_pool.proofs.Order.{before_asym}
-use Rattle.suite_compare.specs.Report.{pair_line, single_line, with_later}
-use Rattle.suite_compare.specs.declared.report.Finding.{Finding}
-use Rattle.suite_compare.specs.declared.report.Finding.TheVariants.{Broken, Open}
-use Rattle.suite_compare.specs.declared.report.ReportLine.{ReportLine}
-use Rattle.headline.specs.Indexes.{Name}
-use Rattle.headline.specs.Listing.{Subject, one, two, subject_of, AreAboutDifferent, AreInOrder, IsToldBefore}
+use Rattle.suite_compare.specs.{Report.{pair_line, single_line, with_later}, declared.report.Finding.{Finding}}
+use Rattle.suite_compare.specs.{declared.report.Finding.TheVariants.{Broken, Open}, declared.report.ReportLine.{ReportLine}}
+use Rattle.headline.specs.{Indexes.{Name}, Listing.{Subject, one, two, subject_of, AreAboutDifferent, AreInOrder, IsToldBefore}}
 use Rattle.headline.proofs.Members.{later_cases, pair_subject, single_subject}
 
 told_asym : (s t : Subject) → IsToldBefore s t → IsToldBefore t s → ⊥

@@ -2,11 +2,9 @@
 use Rattle.std.proofs.Common.{◌≡◌, ℕ, zero, suc, ◌+◌, ◌-◌, ◌<◌, ◌≤◌, List, [], ◌∷◌, ◌++◌, length, get_or, set, map, replicate, refl, ap, sym, ◌∙◌, arith, inl, inr}
 use Rattle.std.proofs.lemmas.Bool.{cases_eq}
 use Rattle.std.proofs.lemmas.List.{append_assoc, append-nil, length_push, length-map, length-replicate, map-set, get_or_append_left, get_or-map, get_or-set_same, get_or-set_other}
-use Rattle.std.proofs.lemmas.Grind.{get_or_default_zero}
-use Rattle.std.proofs.Math.Seq.{get_or-append_seam}
+use Rattle.std.proofs.{lemmas.Grind.{get_or_default_zero}, Math.Seq.{get_or-append_seam}}
 use Rattle.row_book.specs.Book.{listed_for}
-use Rattle.install_lift.specs.Chains.{entry_at, chain, chains_of, Falls, AreChains}
-use Rattle.install_lift.specs.declared.user_table.Entry.{Entry}
+use Rattle.install_lift.specs.{Chains.{entry_at, chain, chains_of, Falls, AreChains}, declared.user_table.Entry.{Entry}}
 
 -- a chain is the same among more entries, and at any bound that is large enough
 chain_same : (f g : ℕ) (es more : List Entry) (h : ℕ) → Falls es → ((k : ℕ) → k < length es → entry_at more k ≡ entry_at es k) → h ≤ f → h ≤ g → h ≤ length es → chain f more h ≡ chain g es h

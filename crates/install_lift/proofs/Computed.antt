@@ -1,29 +1,21 @@
 -- What is computed is the lift, and the trim.
 use Rattle.std.proofs.Common.{◌≡◌, ℕ, zero, suc, ◌+◌, ◌<◌, ◌≤◌, Bool, true, false, not, ◌&&◌, ◌||◌, eqb, cond, List, [], ◌∷◌, ◌++◌, ◌⊎◌, length, refl, ap, sym, ◌∙◌, arith, inl, inr, subst, Option, Some, None}
-use Rattle.std.specs.List.{list_any, find, flat_map}
-use Rattle.std.specs.Option.{option_and_then}
 use Rattle.std.proofs.Math.ListN.{get_or-eq_default}
 use Rattle.std.proofs.lemmas.Bool.{cases_Bool, cases_eq, cases_lt, and_parts, and_from, or_right, both_ways, false_from_ne_true, not-true, not_from_false, eqb-true, eq-eqb}
+use Rattle.std.specs.{List.{list_any, find, flat_map}, Option.{option_and_then}}
 use Rattle.listed.proofs.Lists.{none_in, In_none, In_at, In_has, In_append_cases, has_In, any_from, any_cases, any_none, all_from, all_at}
 use Rattle.listed.proofs.Bools.{cases_Option, lighter}
-use Rattle.row_book.specs.Sets.{NumSet, Is, Within, HitsAll, plus, union}
-use Rattle.listed.specs.Lists.{In, here, has}
-use Rattle.row_book.specs.Numbers.{subsets}
-use Rattle.row_book.specs.Repository.{Repository, Healthy, clauses_of, conflicts_of, against}
-use Rattle.row_book.specs.Flattening.{packages}
+use Rattle.row_book.specs.{Sets.{NumSet, Is, Within, HitsAll, plus, union}, Numbers.{subsets}}
+use Rattle.row_book.specs.{Repository.{Repository, Healthy, clauses_of, conflicts_of, against}, Flattening.{packages}}
 use Rattle.row_book.specs.Rounds.{RoundStep, FlatStep, MergeStep, IdleStep}
-use Rattle.row_book.proofs.Lists.{any_hit, members_from, members_from_parts, members_from_from, members_from_ascending}
-use Rattle.row_book.proofs.Numbers.{subsets_has, subsets_parts}
+use Rattle.listed.specs.Lists.{In, here, has}
+use Rattle.row_book.proofs.{Lists.{any_hit, members_from, members_from_parts, members_from_from, members_from_ascending}, Numbers.{subsets_has, subsets_parts}}
 use Rattle.clause_pool.proofs.Lists.{In_place}
 use Rattle.clause_flatten.specs.Laws.{Served, Lifts}
-use Rattle.install_lift.specs.Raising.{is_served}
-use Rattle.install_lift.specs.Lifting.{is_free, are_served, supported, lift_through, lift_of, IsLiftThrough, IsLift}
-use Rattle.install_lift.specs.Laws.{LiftIsOf}
+use Rattle.install_lift.specs.{Raising.{is_served}, Lifting.{is_free, are_served, supported, lift_through, lift_of, IsLiftThrough, IsLift}, Laws.{LiftIsOf}}
 use Rattle.install_lift.specs.Trimming.{member_clauses, is_unhit, first_need, next_put, with_put, trim_after, trim_of, Trims, IsTrim, TrimIsOf}
 use Rattle.install_lift.specs.Trimming.Trims.{ends, puts}
-use Rattle.install_lift.proofs.Lowering.{served_row, row_served, hit_more}
-use Rattle.install_lift.proofs.Lifted.{lifts_one}
-use Rattle.install_lift.proofs.Trimmed.{find_in, find_num, plus_part}
+use Rattle.install_lift.proofs.{Lowering.{served_row, row_served, hit_more}, Lifted.{lifts_one}, Trimmed.{find_in, find_num, plus_part}}
 
 empty_has : (xs : List ℕ) → eqb (length xs) 0 ≡ true → (m : ℕ) → has xs m ≡ false
 empty_has [] h m = refl

@@ -1,31 +1,18 @@
 -- A healthy set of the kernel, taken back through the rounds.
 use Rattle.std.proofs.Common.{◌≡◌, ℕ, zero, suc, ◌<◌, Bool, true, false, not, ◌&&◌, ltb, eqb, cond, List, [], ◌∷◌, ◌++◌, length, map, refl, sym, ◌∙◌, ap, subst, inl, inr, slice_index_or}
-use Rattle.std.proofs.Math.Path.{fun_ext}
-use Rattle.std.proofs.lemmas.Bool.{cases_lt, and_from, or_left, lt-ltb, le-ltb}
+use Rattle.std.proofs.{Math.Path.{fun_ext}, lemmas.Bool.{cases_lt, and_from, or_left, lt-ltb, le-ltb}}
 use Rattle.std.specs.List.{list_any}
-use Rattle.row_book.specs.Sets.{NumSet, Is, plus, union}
-use Rattle.row_book.specs.Repository.{Repository, Healthy}
-use Rattle.row_book.specs.Support.{IsRow}
-use Rattle.row_book.specs.Sound.{SoundRepository}
-use Rattle.row_book.specs.Flattening.{core_of, flat}
-use Rattle.row_book.specs.Merging.{class_of, class_list, firsts, members, quotient}
-use Rattle.row_book.specs.Pruning.{IdleClause, lift_idle, lift_all, prune, idle_steps}
-use Rattle.row_book.specs.Thinning.{thin}
+use Rattle.row_book.specs.{Sets.{NumSet, Is, plus, union}, Repository.{Repository, Healthy}, Support.{IsRow}, Sound.{SoundRepository}}
+use Rattle.row_book.specs.{Flattening.{core_of, flat}, Merging.{class_of, class_list, firsts, members, quotient}}
+use Rattle.row_book.specs.{Pruning.{IdleClause, lift_idle, lift_all, prune, idle_steps}, Thinning.{thin}}
 use Rattle.row_book.specs.Rounds.{RoundStep, FlatStep, MergeStep, IdleStep, round, rounds, round_count, round_steps, steps_after, class_after}
 use Rattle.row_book.proofs.Repositories.{between}
 use Rattle.clause_flatten.specs.Laws.{FlattenedBy, Lifts}
-use Rattle.clause_flatten.proofs.Flat.{kept_after}
-use Rattle.clause_flatten.proofs.Rows.{row_is}
-use Rattle.clause_flatten.proofs.Lift.{lift_is_healthy_lem}
-use Rattle.class_merge.proofs.Classes.{has_class_lem}
-use Rattle.class_merge.proofs.Kept.{merge_is_tidy_lem, merge_lifts_lem, merged_size}
-use Rattle.class_merge.proofs.MergedRows.{class_at, list_size}
-use Rattle.clause_prune.proofs.Dropping.{prune_step}
-use Rattle.clause_prune.proofs.Lifted.{prune_lifts_lem}
+use Rattle.clause_flatten.proofs.{Flat.{kept_after}, Rows.{row_is}, Lift.{lift_is_healthy_lem}, TidyFlat.{flat_size, flat_row, flat_conflicts, flat_sound}}
+use Rattle.class_merge.proofs.{Classes.{has_class_lem}, Kept.{merge_is_tidy_lem, merge_lifts_lem, merged_size}, MergedRows.{class_at, list_size}}
+use Rattle.clause_prune.proofs.{Dropping.{prune_step}, Lifted.{prune_lifts_lem}}
 use Rattle.conflict_reduce.proofs.Thinned.{thin_is_sound_lem, thin_keeps_lem}
-use Rattle.clause_flatten.proofs.TidyFlat.{flat_size, flat_row, flat_conflicts, flat_sound}
-use Rattle.install_lift.specs.Lifting.{members_by, IsLiftThrough, IsLift}
-use Rattle.install_lift.specs.Laws.{LiftIsHealthy, LiftIsOne}
+use Rattle.install_lift.specs.{Lifting.{members_by, IsLiftThrough, IsLift}, Laws.{LiftIsHealthy, LiftIsOne}}
 
 -- the steps of one list after those of the other
 lift_parts : (xs ys : List RoundStep) (I T : NumSet) → IsLift (xs ++ ys) I T → (K : NumSet) × IsLift ys I K × IsLift xs K T

@@ -1,21 +1,15 @@
 -- Taking out what is not served.
 use Rattle.std.proofs.Common.{◌≡◌, ◌≢◌, ℕ, zero, suc, ◌+◌, ◌*◌, ◌<◌, ◌≤◌, Bool, true, false, ◌||◌, eqb, cond, List, [], ◌∷◌, ◌++◌, ◌⊎◌, length, get_or, set, refl, ap, sym, ◌∙◌, arith, inl, inr, subst, eqb-true, map, replicate}
-use Rattle.std.specs.Prelude.{count_by}
-use Rattle.std.specs.List.{list_any, sum_by}
 use Rattle.std.proofs.lemmas.Bool.{cases_Bool, cases_eq, cases_lt, or_cases, or_left, or_right, both_ways, false_from_ne_true}
 use Rattle.std.proofs.lemmas.List.{length-map, length-replicate, get_or-replicate, get_or_past, get_or-set_same, get_or-set_other}
 use Rattle.std.proofs.lemmas.List.Sums.{sum_by-set, sum_by-cons}
+use Rattle.std.specs.{Prelude.{count_by}, List.{list_any, sum_by}}
 use Rattle.listed.proofs.Lists.{none_in, In_cases, In_none, In_has, has_In, In_append_cases, item_in, any_from, any_cases, all_from, all_at}
 use Rattle.clause_pool.specs.Interned.{Interned, row_at, clause_at, clauses_at, ids_at}
-use Rattle.row_book.specs.Sets.{NumSet, Is, Within, Hit}
+use Rattle.row_book.specs.{Sets.{NumSet, Is, Within, Hit}, Repository.{Repository, clauses_of, against}, Book.{listed_for, repository_of, Sound}}
+use Rattle.row_book.specs.{declared.book.Book.{Book}, Flags.{flag}, Uses.{row_id, some_holds}}
 use Rattle.listed.specs.Lists.{In, here, there, has}
-use Rattle.row_book.specs.Repository.{Repository, clauses_of, against}
-use Rattle.row_book.specs.Book.{listed_for, repository_of, Sound}
-use Rattle.row_book.specs.declared.book.Book.{Book}
-use Rattle.row_book.specs.Flags.{flag}
-use Rattle.row_book.specs.Uses.{row_id, some_holds}
-use Rattle.row_book.proofs.Books.{clauses_row}
-use Rattle.row_book.proofs.Flags.{flag_in}
+use Rattle.row_book.proofs.{Books.{clauses_row}, Flags.{flag_in}}
 use Rattle.clause_flatten.specs.Laws.{Lifts}
 use Rattle.install_lift.specs.Raising.{is_served, IsLowering, PutsUser}
 

@@ -1,11 +1,9 @@
 -- Putting a package to the users of what it names.
 use Rattle.std.proofs.Common.{◌≡◌, ◌≢◌, ℕ, ◌+◌, ◌<◌, true, false, List, [], ◌∷◌, ◌++◌, ◌⊎◌, length, get_or, set, take, refl, ap, sym, ◌∙◌, inl, inr, subst}
-use Rattle.std.proofs.lemmas.Bool.{cases_eq, both_ways}
-use Rattle.std.proofs.lemmas.List.{length-set, map_more, take_more, get_or-set_same, get_or-set_other}
+use Rattle.std.proofs.{lemmas.Bool.{cases_eq, both_ways}, lemmas.List.{length-set, map_more, take_more, get_or-set_same, get_or-set_other}}
 use Rattle.clause_pool.specs.Interned.{Interned, clause_at, clauses_at}
-use Rattle.row_book.specs.Sets.{NumSet}
+use Rattle.row_book.specs.{Sets.{NumSet}, Book.{listed_for}}
 use Rattle.listed.specs.Lists.{In, here, there}
-use Rattle.row_book.specs.Book.{listed_for}
 use Rattle.listed.proofs.Lists.{In_cases, In_none, In_append_cases}
 use Rattle.install_lift.specs.Raising.{PutsUser}
 

@@ -1,29 +1,17 @@
 -- Steps of trimming.
 use Rattle.std.proofs.Common.{◌≡◌, ℕ, zero, suc, ◌+◌, ◌<◌, ◌≤◌, Bool, true, false, not, ◌||◌, eqb, cond, List, [], ◌∷◌, ◌++◌, length, get_or, set, take, replicate, refl, ap, sym, ◌∙◌, arith, inl, inr, subst, Option, Some, None, map}
-use Rattle.std.specs.Prelude.{All, count_by}
-use Rattle.std.specs.List.{list_any, find, flat_map}
-use Rattle.std.proofs.Math.Path.{fun_ext}
-use Rattle.std.proofs.Math.Numerals.{add-one}
+use Rattle.std.proofs.{Math.Path.{fun_ext}, Math.Numerals.{add-one}}
 use Rattle.std.proofs.lemmas.Bool.{cases_Bool, cases_eq, both_ways, or_cases, or_left, or_right, not-true, not_from_false, not_from_true, eq-eqb, ne_eqb, eqb-true, false_from_ne_true}
-use Rattle.std.proofs.lemmas.List.{get_or-set_same, get_or-set_other, get_or_default}
-use Rattle.std.proofs.lemmas.List.Sums.{sum_by-set}
+use Rattle.std.proofs.{lemmas.List.{get_or-set_same, get_or-set_other, get_or_default}, lemmas.List.Sums.{sum_by-set}}
 use Rattle.std.proofs.lemmas.List.Elements.{All-weaker, All-more, All-head, All-tail}
+use Rattle.std.specs.{Prelude.{All, count_by}, List.{list_any, find, flat_map}}
 use Rattle.clause_pool.specs.Interned.{Interned, clause_at, clauses_at, ids_at, row_at}
-use Rattle.row_book.specs.Book.{repository_of}
-use Rattle.row_book.specs.declared.book.Book.{Book}
-use Rattle.row_book.specs.Uses.{row_id}
-use Rattle.row_book.proofs.Books.{clauses_row}
-use Rattle.row_book.specs.Sets.{NumSet, Is, Within, Hit, plus}
+use Rattle.row_book.specs.{Book.{repository_of}, declared.book.Book.{Book}, Uses.{row_id}, Sets.{NumSet, Is, Within, Hit, plus}, Numbers.{numbers}}
+use Rattle.row_book.specs.{Flags.{flag}, Repository.{Repository, Healthy, clauses_of}, Flattening.{packages}}
+use Rattle.row_book.proofs.{Books.{clauses_row}, Lists.{any_hit}, Flags.{flag_in}}
 use Rattle.listed.specs.Lists.{In}
-use Rattle.row_book.specs.Numbers.{numbers}
-use Rattle.row_book.specs.Flags.{flag}
-use Rattle.row_book.specs.Repository.{Repository, Healthy, clauses_of}
-use Rattle.row_book.specs.Flattening.{packages}
 use Rattle.listed.proofs.Lists.{any_from, any_cases}
-use Rattle.row_book.proofs.Lists.{any_hit}
-use Rattle.row_book.proofs.Flags.{flag_in}
-use Rattle.install_lift.specs.Trimming.{member_clauses, is_unhit, first_need, IsTrim, IsTrimming, AreMet}
-use Rattle.install_lift.specs.Trimming.Trims.{ends, puts}
+use Rattle.install_lift.specs.{Trimming.{member_clauses, is_unhit, first_need, IsTrim, IsTrimming, AreMet}, Trimming.Trims.{ends, puts}}
 use Rattle.install_lift.proofs.Trimmed.{find_num, find_in}
 
 -- what is read at a place by another default

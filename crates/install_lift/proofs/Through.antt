@@ -1,23 +1,13 @@
 -- Flags of sets, and the steps of lifting on them.
 use Rattle.std.proofs.Common.{◌≡◌, ℕ, zero, suc, ◌<◌, ◌≤◌, Bool, true, false, eqb, List, [], length, get_or, set, replicate, refl, sym, ◌∙◌, subst, arith, inl, inr}
-use Rattle.std.proofs.Math.Path.{fun_ext}
-use Rattle.std.proofs.Math.ListN.{get_or-eq_default}
-use Rattle.std.proofs.lemmas.Bool.{cases_lt, cases_eq, eq-eqb, ne_eqb, false_from_ne_true}
+use Rattle.std.proofs.{Math.Path.{fun_ext}, Math.ListN.{get_or-eq_default}, lemmas.Bool.{cases_lt, cases_eq, eq-eqb, ne_eqb, false_from_ne_true}}
 use Rattle.std.proofs.lemmas.List.{get_or-set_same, get_or-set_other, length-replicate}
 use Rattle.clause_pool.specs.Interned.{Interned, IsPool}
-use Rattle.row_book.specs.Sets.{NumSet}
-use Rattle.row_book.specs.Repository.{Repository, Healthy}
-use Rattle.row_book.specs.Flags.{flag}
-use Rattle.row_book.specs.Rounds.{RoundStep}
-use Rattle.row_book.specs.Sound.{SoundRepository}
-use Rattle.row_book.specs.Book.{repository_of, Sound}
-use Rattle.row_book.specs.declared.book.Book.{Book}
+use Rattle.row_book.specs.{Sets.{NumSet}, Repository.{Repository, Healthy}, Flags.{flag}, Rounds.{RoundStep}, Sound.{SoundRepository}}
+use Rattle.row_book.specs.{Book.{repository_of, Sound}, declared.book.Book.{Book}, Trail.{trail_meaning}, declared.trail.Step.{Step}}
 use Rattle.row_book.proofs.BookRepositories.{book_size, sound_repository}
-use Rattle.install_lift.specs.Laws.{HoldsMembers, IsKernelBy}
+use Rattle.install_lift.specs.{Laws.{HoldsMembers, IsKernelBy}, Lifting.{IsLift}}
 use Rattle.install_lift.proofs.Lifted.{lift_is_healthy}
-use Rattle.row_book.specs.Trail.{trail_meaning}
-use Rattle.row_book.specs.declared.trail.Step.{Step}
-use Rattle.install_lift.specs.Lifting.{IsLift}
 
 -- past the flags nothing is up
 flag_past : (flags : List Bool) (n : ℕ) → length flags ≤ n → flag flags n ≡ false

@@ -1,17 +1,12 @@
 -- What trimming gives.
 use Rattle.std.proofs.Common.{◌≡◌, ℕ, Bool, true, false, eqb, List, [], ◌∷◌, ◌++◌, length, refl, ap, sym, ◌∙◌, arith, inl, inr, subst, Some, None}
+use Rattle.std.proofs.{lemmas.Bool.{cases_Bool, or_cases, not-false, eqb-true}, lemmas.Option.{same_Some}}
 use Rattle.std.specs.List.{list_any, find, flat_map}
-use Rattle.std.proofs.lemmas.Bool.{cases_Bool, or_cases, not-false, eqb-true}
-use Rattle.std.proofs.lemmas.Option.{same_Some}
-use Rattle.row_book.specs.Sets.{NumSet, Within, plus}
+use Rattle.row_book.specs.{Sets.{NumSet, Within, plus}, Repository.{Repository, Healthy}, Flattening.{packages}}
 use Rattle.listed.specs.Lists.{In, here, there}
-use Rattle.row_book.specs.Repository.{Repository, Healthy}
-use Rattle.row_book.specs.Flattening.{packages}
 use Rattle.listed.proofs.Lists.{In_cases, In_none}
-use Rattle.row_book.proofs.Lists.{hit_any}
-use Rattle.row_book.proofs.Numbers.{numbers_from}
-use Rattle.install_lift.specs.Trimming.{member_clauses, is_unhit, first_need, Trims, IsHealthyPart, TrimIsHealthy, TrimIsOne}
-use Rattle.install_lift.specs.Trimming.Trims.{ends, puts}
+use Rattle.row_book.proofs.{Lists.{hit_any}, Numbers.{numbers_from}}
+use Rattle.install_lift.specs.{Trimming.{member_clauses, is_unhit, first_need, Trims, IsHealthyPart, TrimIsHealthy, TrimIsOne}, Trimming.Trims.{ends, puts}}
 
 pub find_in : (p : List ℕ → Bool) (xs : List (List ℕ)) (x : List ℕ) → find p xs ≡ Some x → In x xs × (p x ≡ true)
 find_in p [] x h = cc

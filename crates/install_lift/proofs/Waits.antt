@@ -1,17 +1,12 @@
 -- What waits once a package is put to it or taken from it, and what is met outside it.
 use Rattle.std.proofs.Common.{◌≡◌, ℕ, zero, suc, ◌+◌, ◌*◌, ◌<◌, ◌≤◌, Bool, true, false, ◌||◌, eqb, List, length, set, replicate, inl, inr, refl, sym, ◌∙◌, ap, subst, arith, eq-eqb, None}
+use Rattle.std.proofs.{Math.Bool.{or-false}, lemmas.Bool.{cases_Bool, cases_eq, both_ways, or_parts}}
 use Rattle.std.specs.List.{find}
-use Rattle.std.proofs.Math.Bool.{or-false}
-use Rattle.std.proofs.lemmas.Bool.{cases_Bool, cases_eq, both_ways, or_parts}
 use Rattle.clause_pool.specs.Interned.{Interned}
-use Rattle.row_book.specs.Sets.{NumSet, Within, plus, without}
-use Rattle.row_book.specs.Book.{repository_of}
-use Rattle.row_book.specs.declared.book.Book.{Book}
-use Rattle.row_book.specs.Flags.{flag}
+use Rattle.row_book.specs.{Sets.{NumSet, Within, plus, without}, Book.{repository_of}, declared.book.Book.{Book}, Flags.{flag}}
 use Rattle.row_book.specs.Repository.{Repository, Healthy, clauses_of}
 use Rattle.row_book.proofs.Sets.{outside_less, without_parts, plus_cases, plus_new, plus_old}
-use Rattle.install_lift.specs.Trimming.{is_unhit, AreMet, AreMetOutside}
-use Rattle.install_lift.specs.Waiting.{IsLeast}
+use Rattle.install_lift.specs.{Trimming.{is_unhit, AreMet, AreMetOutside}, Waiting.{IsLeast}}
 use Rattle.install_lift.proofs.Steps.{flag_plus, met_more, size_of}
 
 -- what is below the least package that waits is met

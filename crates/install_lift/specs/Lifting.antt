@@ -1,12 +1,8 @@
 -- A healthy set of a kernel taken back through the steps by which the kernel came, from the last step to the first.
-use Rattle.std.specs.Prelude.{◌≡◌, ℕ, not, ◌&&◌, Bool, eqb, ltb, List, [], ◌∷◌, length, slice_index_or}
-use Rattle.std.specs.List.{list_all, list_any}
-use Rattle.row_book.specs.Sets.{NumSet, union}
-use Rattle.listed.specs.Lists.{has}
-use Rattle.row_book.specs.Repository.{Repository, clauses_of, conflicts_of}
-use Rattle.row_book.specs.Numbers.{subsets}
-use Rattle.row_book.specs.Pruning.{lift_idle}
+use Rattle.std.specs.{Prelude.{◌≡◌, ℕ, not, ◌&&◌, Bool, eqb, ltb, List, [], ◌∷◌, length, slice_index_or}, List.{list_all, list_any}}
+use Rattle.row_book.specs.{Sets.{NumSet, union}, Repository.{Repository, clauses_of, conflicts_of}, Numbers.{subsets}, Pruning.{lift_idle}}
 use Rattle.row_book.specs.Rounds.{RoundStep, FlatStep, MergeStep, IdleStep}
+use Rattle.listed.specs.Lists.{has}
 use Rattle.clause_flatten.specs.Laws.{Lifts}
 use Rattle.install_lift.specs.Raising.{is_served}
 

@@ -1,10 +1,7 @@
 -- On the way to the greatest set of packages without conflicts that a set serves.
-use Rattle.std.specs.Prelude.{◌≡◌, ℕ, ◌<◌, Bool, true, false, List, length, ◌⊎◌, ◌||◌}
-use Rattle.std.specs.List.{list_any, list_all}
-use Rattle.row_book.specs.Sets.{NumSet, Is, Within}
+use Rattle.std.specs.{Prelude.{◌≡◌, ℕ, ◌<◌, Bool, true, false, List, length, ◌⊎◌, ◌||◌}, List.{list_any, list_all}}
+use Rattle.row_book.specs.{Sets.{NumSet, Is, Within}, Book.{listed_for}, Repository.{Repository, clauses_of, against}}
 use Rattle.listed.specs.Lists.{In}
-use Rattle.row_book.specs.Book.{listed_for}
-use Rattle.row_book.specs.Repository.{Repository, clauses_of, against}
 use Rattle.clause_flatten.specs.Laws.{Served}
 
 -- each clause of the row is hit by the two sets together

@@ -1,10 +1,7 @@
 -- Trimming: as few of the chosen packages as the open needs ask for, one after another.
 use Rattle.std.specs.Prelude.{◌≡◌, ◌↔◌, ℕ, zero, suc, ◌<◌, Bool, true, false, not, cond, List, [], ◌++◌, length, Option, Some, None}
-use Rattle.std.specs.List.{list_any, find, flat_map}
-use Rattle.std.specs.Option.{option_and_then}
-use Rattle.row_book.specs.Sets.{NumSet, Within, HitsAll, plus}
-use Rattle.row_book.specs.Repository.{Repository, Healthy, clauses_of}
-use Rattle.row_book.specs.Flattening.{packages}
+use Rattle.std.specs.{List.{list_any, find, flat_map}, Option.{option_and_then}}
+use Rattle.row_book.specs.{Sets.{NumSet, Within, HitsAll, plus}, Repository.{Repository, Healthy, clauses_of}, Flattening.{packages}}
 
 -- the clauses of a package that is in the set
 abbrev pub member_clauses : Repository → NumSet → ℕ → List (List ℕ)

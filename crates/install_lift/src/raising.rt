@@ -2,12 +2,9 @@
 //!
 //! The greatest served set is found by taking out what is not served. Each package is looked at once, and again only if
 //! something that it names was taken out.
-ghost use Rattle.std.specs.Prelude.{◌≡◌, ◌∷◌, ◌++◌, ◌<◌, ◌||◌, eqb, true, false, [], IfOk, OnOk, length, replicate, slice_set};
-ghost use Rattle.std.specs.List.{list_any};
+ghost use Rattle.std.specs.{Prelude.{◌≡◌, ◌∷◌, ◌++◌, ◌<◌, ◌||◌, eqb, true, false, [], IfOk, OnOk, length, replicate, slice_set}, List.{list_any}};
 ghost use Rattle.clause_pool.specs.Interned.{clauses_at, OfPool};
-ghost use Rattle.row_book.specs.Repository.{clauses_of};
-ghost use Rattle.row_book.specs.Book.{listed_for, repository_of, Sound};
-ghost use Rattle.row_book.specs.Flags.{flag};
+ghost use Rattle.row_book.specs.{Repository.{clauses_of}, Book.{listed_for, repository_of, Sound}, Flags.{flag}};
 ghost use Rattle.clause_flatten.specs.Laws.{Lifts};
 ghost use Rattle.install_lift.specs.Raising.{is_served, IsLowering, PutsUser};
 

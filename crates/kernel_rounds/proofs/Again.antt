@@ -2,18 +2,13 @@
 use Rattle.std.proofs.Common.{◌≡◌, ℕ, Bool, suc, ◌≤◌, List, [], ◌∷◌, inl, inr, refl, sym, ◌∙◌, ap, subst, arith, map, zero-le, Option, Some, None, ◌↔◌}
 use Rattle.std.specs.Option.{option_map}
 use Rattle.listed.specs.Lists.{In}
-use Rattle.row_book.specs.Repository.{Repository, Coinst}
-use Rattle.row_book.specs.Keeping.{KeepsImages}
-use Rattle.row_book.specs.Sound.{SoundRepository}
-use Rattle.row_book.specs.Flattening.{first_some, held_of, passes}
+use Rattle.row_book.specs.{Repository.{Repository, Coinst}, Keeping.{KeepsImages}, Sound.{SoundRepository}, Flattening.{first_some, held_of, passes}}
 use Rattle.row_book.specs.Rounds.{in_round, kernel, kernel_held, kernel_image, Settled, class_after, limit_at, passed_in_round, round, rounds, round_count, steps_after}
+use Rattle.row_book.specs.Numbers.{numbers}
 use Rattle.listed.proofs.Lists.{In_cases, In_none}
 use Rattle.row_book.proofs.Numbers.{numbers_from}
-use Rattle.row_book.specs.Numbers.{numbers}
-use Rattle.kernel_rounds.specs.Laws.{KernelOfKernel, OwnKernel}
-use Rattle.kernel_rounds.specs.Extracting.{IsOwnKernel}
-use Rattle.kernel_rounds.proofs.Midways.{none_passed}
-use Rattle.kernel_rounds.proofs.Reached.{kernel_is_lem, kernel_keeps_lem}
+use Rattle.kernel_rounds.specs.{Laws.{KernelOfKernel, OwnKernel}, Extracting.{IsOwnKernel}}
+use Rattle.kernel_rounds.proofs.{Midways.{none_passed}, Reached.{kernel_is_lem, kernel_keeps_lem}}
 
 -- where no value is found, each is absent
 each_none : {A : Type 0} (f : ℕ → Option A) (xs : List ℕ) → first_some (map f xs) ≡ None → (x : ℕ) → In x xs → f x ≡ None

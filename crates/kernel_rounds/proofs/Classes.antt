@@ -1,24 +1,16 @@
 -- The classes of a kernel: each package is of one, each has a package, and there are no more of them than packages. And the
 -- package that is named where a round passes the clause limit.
 use Rattle.std.proofs.Common.{◌≡◌, ℕ, zero, suc, ◌+◌, ◌<◌, ◌≤◌, Bool, true, false, cond, eqb, List, [], ◌∷◌, length, map, Option, Some, None, refl, sym, ◌∙◌, ap, subst, arith, inl, inr, eq-eqb}
-use Rattle.std.specs.Prelude.{ltb}
-use Rattle.std.specs.List.{find}
-use Rattle.std.specs.Option.{option_map}
 use Rattle.std.proofs.lemmas.List.{length-map}
-use Rattle.row_book.specs.Numbers.{numbers}
-use Rattle.row_book.specs.Flattening.{Passed, first_some, flat, packages, passed_at, passes, remaining_after, row_length}
-use Rattle.row_book.specs.Merging.{class_of, first_of, firsts, place_of}
-use Rattle.row_book.specs.Pruning.{prune}
-use Rattle.row_book.specs.Repository.{Repository}
+use Rattle.std.specs.{Prelude.{ltb}, List.{find}, Option.{option_map}}
+use Rattle.row_book.specs.{Numbers.{numbers}, Flattening.{Passed, first_some, flat, packages, passed_at, passes, remaining_after, row_length}}
+use Rattle.row_book.specs.{Merging.{class_of, first_of, firsts, place_of}, Pruning.{prune}, Repository.{Repository}}
 use Rattle.row_book.specs.Rounds.{PassedRound, class_after, in_round, least_member, limit_at, passed_in_round, round, round_count, rounds}
+use Rattle.row_book.specs.{Sound.{SoundRepository}, Thinning.{thin}}
 use Rattle.listed.specs.Lists.{In, here, there}
-use Rattle.row_book.specs.Sound.{SoundRepository}
-use Rattle.row_book.specs.Thinning.{thin}
 use Rattle.listed.proofs.Lists.{In_cases, In_none, In_map_cases, find_some}
 use Rattle.row_book.proofs.Numbers.{length_numbers, numbers_from, numbers_parts}
-use Rattle.class_merge.proofs.Classes.{alike_self, first_within, has_class_lem}
-use Rattle.class_merge.proofs.Groups.{class_unique}
-use Rattle.class_merge.proofs.Plain.{firsts_le}
+use Rattle.class_merge.proofs.{Classes.{alike_self, first_within, has_class_lem}, Groups.{class_unique}, Plain.{firsts_le}}
 use Rattle.clause_flatten.proofs.TidyFlat.{flat_size}
 use Rattle.kernel_rounds.proofs.Tails.{round_size, round_sound, thin_tail}
 

@@ -1,17 +1,10 @@
 -- What goes down from round to round, in numbers.
 use Rattle.std.proofs.Common.{◌≡◌, ℕ, Bool, ◌<◌, ◌+◌, List, [], ◌∷◌, inl, inr, refl, ap, arith}
 use Rattle.clause_pool.specs.Lists.{Before}
-use Rattle.row_book.specs.Repository.{Repository}
-use Rattle.row_book.specs.Sound.{SoundRepository}
-use Rattle.row_book.specs.Flattening.{flat}
-use Rattle.row_book.specs.Merging.{quotient}
-use Rattle.row_book.specs.Pruning.{prune}
-use Rattle.row_book.specs.Thinning.{thin}
+use Rattle.row_book.specs.{Repository.{Repository}, Sound.{SoundRepository}, Flattening.{flat}, Merging.{quotient}, Pruning.{prune}, Thinning.{thin}}
 use Rattle.row_book.specs.Rounds.{round, weigh}
 use Rattle.kernel_rounds.specs.Laws.{RoundsGoDown, RowsInOrder, measures, total_weight}
-use Rattle.kernel_rounds.proofs.Ending.{Less, Same, outcome, sorted_after, tail_lighter, total}
-use Rattle.kernel_rounds.proofs.Tails.{thin_tail}
-use Rattle.kernel_rounds.proofs.Thins.{count_same}
+use Rattle.kernel_rounds.proofs.{Ending.{Less, Same, outcome, sorted_after, tail_lighter, total}, Tails.{thin_tail}, Thins.{count_same}}
 
 weight_is : (t : List (List (List ℕ))) → total t ≡ total_weight t
 unfolding total

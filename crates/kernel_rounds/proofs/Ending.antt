@@ -1,33 +1,22 @@
 -- The rounds end, whatever comes after merging: packages, then conflicts, then packages without conflicts in clauses, then the
 -- weight of the clauses go down.
 use Rattle.std.proofs.Common.{◌≡◌, ℕ, Bool, zero, suc, ◌<◌, ◌≤◌, ◌+◌, ◌*◌, true, false, List, [], ◌∷◌, length, ◌⊎◌, inl, inr, refl, sym, ◌∙◌, ap, ap₂, subst, arith, slice_index_or, zero-le}
-use Rattle.std.proofs.Math.Nat.{mul-le-mul_right, mul-le-mul_left}
-use Rattle.std.proofs.lemmas.Bool.{cases_Bool, cases_lt}
+use Rattle.std.proofs.{Math.Nat.{mul-le-mul_right, mul-le-mul_left}, lemmas.Bool.{cases_Bool, cases_lt}}
 use Rattle.listed.specs.Lists.{In, here, there, Ascending}
 use Rattle.clause_pool.specs.Lists.{Before, InOrder}
-use Rattle.row_book.specs.Numbers.{subsets}
-use Rattle.row_book.specs.Repository.{Repository, clauses_of}
-use Rattle.row_book.specs.Sound.{SoundRepository, TidyRepository}
-use Rattle.row_book.specs.Flattening.{core_of, flat, has_conflict}
-use Rattle.row_book.specs.Support.{MinimalBlock}
-use Rattle.row_book.specs.Merging.{firsts, quotient}
-use Rattle.row_book.specs.Rounds.{weigh, enough_rounds}
+use Rattle.row_book.specs.{Numbers.{subsets}, Repository.{Repository, clauses_of}, Sound.{SoundRepository, TidyRepository}}
+use Rattle.row_book.specs.{Flattening.{core_of, flat, has_conflict}, Support.{MinimalBlock}, Merging.{firsts, quotient}, Rounds.{weigh, enough_rounds}}
 use Rattle.listed.proofs.Lists.{In_cases, In_none}
 use Rattle.clause_pool.proofs.Order.{before_asym}
-use Rattle.row_book.proofs.Numbers.{subsets_has, subsets_order, subsets_parts}
-use Rattle.row_book.proofs.Repositories.{repository_same, table_same}
-use Rattle.clause_flatten.proofs.Stages.{core_stays_lem}
+use Rattle.row_book.proofs.{Numbers.{subsets_has, subsets_order, subsets_parts}, Repositories.{repository_same, table_same}}
+use Rattle.clause_flatten.proofs.{Stages.{core_stays_lem}, TidyFlat.{flat_conflicts, flat_minimal, flat_order, flat_row, flat_size, flat_sound, flat_tidy}}
 use Rattle.class_merge.specs.Laws.{plain_clauses}
-use Rattle.class_merge.proofs.Kept.{merged_order, merged_size}
-use Rattle.class_merge.proofs.Plain.{firsts_le, merge_plain_lem, plain_conflicts}
+use Rattle.class_merge.proofs.{Kept.{merged_order, merged_size}, Plain.{firsts_le, merge_plain_lem, plain_conflicts}}
 use Rattle.clause_prune.proofs.Dropping.{lighter_trans}
-use Rattle.kernel_rounds.specs.Tails.{Lighter, Tail, conflict_count, round_with, rounds_with}
-use Rattle.kernel_rounds.specs.Laws.{RowsInOrder, TailsEnd, standing_count, stands}
-use Rattle.clause_flatten.proofs.TidyFlat.{flat_conflicts, flat_minimal, flat_order, flat_row, flat_size, flat_sound, flat_tidy}
+use Rattle.kernel_rounds.specs.{Tails.{Lighter, Tail, conflict_count, round_with, rounds_with}, Laws.{RowsInOrder, TailsEnd, standing_count, stands}}
 use Rattle.kernel_rounds.proofs.Plain.{flat_is_plain, flat_plain_lem, plain_parts}
 use Rattle.kernel_rounds.proofs.Standing.{StandsAt, blocks_stand, standing_few, standing_or, stands_from, stands_parts}
-use Rattle.kernel_rounds.proofs.Tails.{merged_tidy, round_size, round_sound}
-use Rattle.kernel_rounds.proofs.Thins.{count_few, count_same}
+use Rattle.kernel_rounds.proofs.{Tails.{merged_tidy, round_size, round_sound}, Thins.{count_few, count_same}}
 
 -- clauses in order, all of them among others in order, are the same or weigh less
 pub sub_or : (xs ys : List (List ℕ)) → InOrder xs → InOrder ys → ((c : List ℕ) → In c xs → In c ys) → Lighter xs ys

@@ -2,8 +2,7 @@
 use Rattle.std.proofs.Common.{◌≡◌, ℕ, zero, suc, Bool, false, cond, List, [], ◌∷◌, ◌++◌, length, filter, map, refl, ◌∙◌, ap, ap₂, Option, Some, None}
 use Rattle.row_book.specs.Repository.{Repository}
 use Rattle.row_book.specs.Flattening.{Remaining, flat, gone_or_held, held_of, is_held, next_gone, packages, remaining_after, rows_over}
-use Rattle.row_book.specs.Merging.{class_list, class_of, quotient}
-use Rattle.row_book.specs.Pruning.{idle_steps, prune}
+use Rattle.row_book.specs.{Merging.{class_list, class_of, quotient}, Pruning.{idle_steps, prune}}
 use Rattle.row_book.specs.Rounds.{FlatStep, IdleStep, MergeStep, class_after, enough_rounds, is_same_repository, kernel, round, round_count, rounds, rounds_until, steps_after}
 use Rattle.row_book.specs.Thinning.{thin}
 use Rattle.kernel_rounds.specs.Laws.{LimitWithoutHold}

@@ -1,39 +1,27 @@
 -- One more round on the way to a kernel.
 use Rattle.std.proofs.Common.{◌≡◌, ℕ, zero, suc, ◌<◌, ◌≤◌, ◌+◌, Bool, true, false, not, ◌↔◌, cond, min, eqb, List, [], ◌∷◌, ◌++◌, length, inl, inr, refl, sym, ◌∙◌, ap, ap₂, subst, arith, map, zero-le, append_assoc, append-nil, Option, Some, None}
-use Rattle.std.specs.Prelude.{if◌then◌else◌}
-use Rattle.std.specs.Option.{option_map}
-use Rattle.std.proofs.lemmas.Bool.{cases_eq, cases_lt, both_ways}
-use Rattle.std.proofs.lemmas.List.{map-append}
+use Rattle.std.proofs.{lemmas.Bool.{cases_eq, cases_lt, both_ways}, lemmas.List.{map-append}}
+use Rattle.std.specs.{Prelude.{if◌then◌else◌}, Option.{option_map}}
 use Rattle.clause_pool.specs.Interned.{Interned, IsPool, Kept}
 use Rattle.clause_pool.proofs.Interned.{kept_same}
 use Rattle.clause_flatten.specs.declared.error.FlatError.{FlatError}
 use Rattle.clause_flatten.specs.declared.error.FlatError.TheVariants as faults
 use Rattle.clause_flatten.specs.Refusals.{OnLimit}
-use Rattle.row_book.specs.declared.book.Book.{Book}
-use Rattle.row_book.specs.declared.trail.Step.{Step}
-use Rattle.row_book.specs.declared.trail.Step.TheVariants.{Flat, Idle, Merge}
-use Rattle.listed.specs.Lists.{In, here, there}
-use Rattle.row_book.specs.Numbers.{numbers}
-use Rattle.row_book.specs.Repository.{Repository}
-use Rattle.row_book.specs.Book.{repository_of, IsSameBook, Sound}
-use Rattle.row_book.specs.Sound.{SoundRepository}
-use Rattle.row_book.specs.Flattening.{flat, first_some, held_of, packages, Passed, passes}
-use Rattle.row_book.specs.Merging.{class_list, class_of, quotient, place_of}
+use Rattle.row_book.specs.{declared.book.Book.{Book}, declared.trail.Step.{Step}, declared.trail.Step.TheVariants.{Flat, Idle, Merge}, Numbers.{numbers}}
+use Rattle.row_book.specs.{Repository.{Repository}, Book.{repository_of, IsSameBook, Sound}, Sound.{SoundRepository}}
+use Rattle.row_book.specs.{Flattening.{flat, first_some, held_of, packages, Passed, passes}, Merging.{class_list, class_of, quotient, place_of}}
 use Rattle.row_book.specs.Pruning.{IdleClause, idle_steps}
 use Rattle.row_book.specs.Rounds.{is_same_repository, RoundStep, FlatStep, IdleStep, MergeStep, round, rounds, round_steps, round_count, class_after, steps_after, in_round, limit_at, passed_in_round}
 use Rattle.row_book.specs.Trail.{SoundStep, SoundSteps, trail_meaning, step_meaning}
-use Rattle.row_book.proofs.BookRepositories.{book_size}
-use Rattle.row_book.proofs.Books.{repository_kept, sound_kept}
-use Rattle.listed.proofs.Lists.{In_append_cases, In_cases, In_none}
-use Rattle.row_book.proofs.Numbers.{length_numbers, map_same, numbers_parts}
+use Rattle.listed.specs.Lists.{In, here, there}
+use Rattle.row_book.proofs.{BookRepositories.{book_size}, Books.{repository_kept, sound_kept}, Numbers.{length_numbers, map_same, numbers_parts}}
 use Rattle.row_book.proofs.Repositories.{of_packages}
+use Rattle.listed.proofs.Lists.{In_append_cases, In_cases, In_none}
 use Rattle.class_merge.specs.Classes.{class_in}
 use Rattle.class_merge.proofs.MergedRows.{class_at}
-use Rattle.kernel_rounds.specs.Extracting.{HasStepsBefore, IsMidway, IsReached, OnRoundLimit, refusal}
-use Rattle.kernel_rounds.specs.Moving.{HasSteps}
+use Rattle.kernel_rounds.specs.{Extracting.{HasStepsBefore, IsMidway, IsReached, OnRoundLimit, refusal}, Moving.{HasSteps}}
 use Rattle.clause_flatten.proofs.TidyFlat.{flat_size}
-use Rattle.kernel_rounds.proofs.Reached.{kernel_is_lem, repository_test, rounds_sound, same_from}
-use Rattle.kernel_rounds.proofs.Classes.{class_within}
+use Rattle.kernel_rounds.proofs.{Reached.{kernel_is_lem, repository_test, rounds_sound, same_from}, Classes.{class_within}}
 
 -- the last of some rounds
 rounds_last : (limit : ℕ) (hold : Bool) → (n : ℕ) (R : Repository) → rounds limit hold R (suc n) ≡ round limit hold (rounds limit hold R n)

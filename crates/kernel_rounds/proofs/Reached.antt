@@ -1,34 +1,21 @@
 -- The kernel: what a round leaves is settled, and is reached.
 use Rattle.std.proofs.Common.{◌≡◌, ◌≢◌, ℕ, zero, suc, ◌<◌, ◌≤◌, ◌+◌, Bool, true, false, not, ◌||◌, eqb, cond, List, [], ◌∷◌, length, filter, inl, inr, refl, sym, ◌∙◌, ap, subst, arith, zero-le, ◌↔◌}
-use Rattle.std.specs.Cmp.Lexicographic.{pointwise}
-use Rattle.std.specs.List.{list_all, list_any}
 use Rattle.std.proofs.lemmas.Bool.{and_from, and_parts, both_ways, cases_eq}
-use Rattle.row_book.specs.Sets.{NumSet, Is}
-use Rattle.listed.specs.Lists.{In, here, there}
-use Rattle.row_book.specs.Numbers.{numbers}
-use Rattle.row_book.specs.Repository.{Repository, Coinst, clauses_of}
-use Rattle.row_book.specs.Sound.{OfPackages, SoundRepository, TidyRepository}
-use Rattle.row_book.specs.Flattening.{flat}
-use Rattle.row_book.specs.Merging.{firsts, class_of, image, quotient}
+use Rattle.std.specs.{Cmp.Lexicographic.{pointwise}, List.{list_all, list_any}}
+use Rattle.row_book.specs.{Sets.{NumSet, Is}, Numbers.{numbers}, Repository.{Repository, Coinst, clauses_of}}
+use Rattle.row_book.specs.{Sound.{OfPackages, SoundRepository, TidyRepository}, Flattening.{flat}, Merging.{firsts, class_of, image, quotient}}
 use Rattle.row_book.specs.Pruning.{made_dead, others, without_clause, is_dead, is_dropped, prune_clause, prune_clauses, prune_package, prune_over, prune, serves}
 use Rattle.row_book.specs.Thinning.{thin}
 use Rattle.row_book.specs.Rounds.{round, rounds, class_after, image_after, is_same_repository, enough_rounds, rounds_until, round_count, kernel, kernel_image}
-use Rattle.row_book.proofs.Books.{in_listed}
-use Rattle.listed.proofs.Lists.{In_cases, In_none}
-use Rattle.row_book.proofs.Numbers.{numbers_parts}
+use Rattle.listed.specs.Lists.{In, here, there}
+use Rattle.row_book.proofs.{Books.{in_listed}, Numbers.{numbers_parts}}
 use Rattle.row_book.proofs.Repositories.{repository_same, same_rows, rows_test, same_tables, tables_test, table_same}
-use Rattle.clause_flatten.proofs.Stages.{core_stays_lem}
-use Rattle.class_merge.proofs.Classes.{alike_from, image_from, image_parts}
-use Rattle.class_merge.proofs.Kept.{merged_size}
-use Rattle.class_merge.proofs.Plain.{alike_one}
-use Rattle.clause_prune.proofs.Changed.{row_new, row_other, row_cases, others_parts, others_not}
-use Rattle.clause_prune.proofs.Dropping.{Step, package_step}
-use Rattle.kernel_rounds.specs.Tails.{rounds_with, image_with}
-use Rattle.kernel_rounds.specs.Laws.{LeftByEach, FixedIsSettled, RoundsKept, KernelIs, KernelKeeps, ImageIsOfClasses}
-use Rattle.kernel_rounds.proofs.Ending.{tails_end_lem}
-use Rattle.clause_flatten.proofs.TidyFlat.{flat_minimal, flat_size, flat_tidy}
-use Rattle.kernel_rounds.proofs.Settling.{fixed_parts_lem}
-use Rattle.kernel_rounds.proofs.Tails.{image_within, round_sound, tails_keep_lem, thin_tail}
+use Rattle.listed.proofs.Lists.{In_cases, In_none}
+use Rattle.clause_flatten.proofs.{Stages.{core_stays_lem}, TidyFlat.{flat_minimal, flat_size, flat_tidy}}
+use Rattle.class_merge.proofs.{Classes.{alike_from, image_from, image_parts}, Kept.{merged_size}, Plain.{alike_one}}
+use Rattle.clause_prune.proofs.{Changed.{row_new, row_other, row_cases, others_parts, others_not}, Dropping.{Step, package_step}}
+use Rattle.kernel_rounds.specs.{Tails.{rounds_with, image_with}, Laws.{LeftByEach, FixedIsSettled, RoundsKept, KernelIs, KernelKeeps, ImageIsOfClasses}}
+use Rattle.kernel_rounds.proofs.{Ending.{tails_end_lem}, Settling.{fixed_parts_lem}, Tails.{image_within, round_sound, tails_keep_lem, thin_tail}}
 use Rattle.kernel_rounds.proofs.Thins.{thin_needed}
 
 -- pruning leaves the clauses of other packages

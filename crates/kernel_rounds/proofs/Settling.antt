@@ -2,13 +2,8 @@
 use Rattle.std.proofs.Common.{◌≡◌, ℕ, Bool, ◌<◌, true, List, [], length, ◌⊎◌, inl, inr, sym, ◌∙◌, ap, subst, slice_index_or}
 use Rattle.listed.specs.Lists.{In}
 use Rattle.clause_pool.specs.Lists.{InOrder}
-use Rattle.row_book.specs.Repository.{Repository, clauses_of}
-use Rattle.row_book.specs.Sound.{SoundRepository, TidyRepository}
-use Rattle.row_book.specs.Flattening.{core_of, flat}
-use Rattle.row_book.specs.Merging.{firsts, quotient}
-use Rattle.row_book.specs.Pruning.{prune}
-use Rattle.row_book.specs.Thinning.{thin}
-use Rattle.row_book.specs.Rounds.{round}
+use Rattle.row_book.specs.{Repository.{Repository, clauses_of}, Sound.{SoundRepository, TidyRepository}, Flattening.{core_of, flat}, Merging.{firsts, quotient}}
+use Rattle.row_book.specs.{Pruning.{prune}, Thinning.{thin}, Rounds.{round}}
 use Rattle.listed.proofs.Lists.{In_none}
 use Rattle.clause_pool.proofs.Order.{order_same}
 use Rattle.row_book.proofs.Repositories.{repository_same, table_same}
@@ -17,10 +12,8 @@ use Rattle.class_merge.proofs.Kept.{merged_order, merged_size}
 use Rattle.clause_prune.proofs.Dropping.{Step, prune_step}
 use Rattle.conflict_reduce.proofs.Thinned.{thin_is_sound_lem}
 use Rattle.kernel_rounds.specs.Laws.{FixedParts}
-use Rattle.kernel_rounds.proofs.Ending.{merge_full}
+use Rattle.kernel_rounds.proofs.{Ending.{merge_full}, Plain.{flat_plain_lem, plain_from, plain_parts}, Tails.{merged_tidy}}
 use Rattle.clause_flatten.proofs.TidyFlat.{flat_conflicts, flat_minimal, flat_order, flat_row, flat_size}
-use Rattle.kernel_rounds.proofs.Plain.{flat_plain_lem, plain_from, plain_parts}
-use Rattle.kernel_rounds.proofs.Tails.{merged_tidy}
 
 record Parts (limit : ℕ) (hold : Bool) (K : Repository) : Type 0 where
   flat_same : flat limit hold K ≡ K

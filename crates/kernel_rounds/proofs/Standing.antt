@@ -1,18 +1,12 @@
 -- Packages that stand in clauses: flattening brings no package into them, and where a round leaves as many without conflicts
 -- there, it leaves the same.
 use Rattle.std.proofs.Common.{◌≡◌, ℕ, ◌<◌, ◌≤◌, Bool, true, false, not, ◌&&◌, ◌||◌, List, [], length, filter, ◌⊎◌, inl, inr, refl, sym, ◌∙◌, ap, ap₂, subst, arith, slice_index_or, zero-le}
+use Rattle.std.proofs.{lemmas.Bool.{and_from, and_parts, both_ways, cases_Bool, not-true, not_from_false}, lemmas.List.{length-map}}
 use Rattle.std.specs.List.{list_any}
-use Rattle.std.proofs.lemmas.Bool.{and_from, and_parts, both_ways, cases_Bool, not-true, not_from_false}
 use Rattle.listed.specs.Lists.{In, has}
-use Rattle.row_book.specs.Sets.{NumSet}
-use Rattle.row_book.specs.Numbers.{numbers}
-use Rattle.row_book.specs.Repository.{Repository, clauses_of}
-use Rattle.row_book.specs.Support.{MinimalBlock}
-use Rattle.row_book.specs.Flattening.{has_conflict, packages}
-use Rattle.row_book.proofs.Books.{in_listed}
+use Rattle.row_book.specs.{Sets.{NumSet}, Numbers.{numbers}, Repository.{Repository, clauses_of}, Support.{MinimalBlock}, Flattening.{has_conflict, packages}}
+use Rattle.row_book.proofs.{Books.{in_listed}, Numbers.{length_numbers, numbers_from}}
 use Rattle.listed.proofs.Lists.{In_has, any_cases, any_from, any_none, filter_same, has_In, filter_short}
-use Rattle.row_book.proofs.Numbers.{length_numbers, numbers_from}
-use Rattle.std.proofs.lemmas.List.{length-map}
 use Rattle.clause_flatten.proofs.Rows.{member_stands}
 use Rattle.kernel_rounds.specs.Laws.{standing_count, stands}
 use Rattle.kernel_rounds.proofs.Thins.{filter_lt}

@@ -1,23 +1,15 @@
 -- Rounds keep every set, whatever comes after merging; the three choices of what comes.
 use Rattle.std.proofs.Common.{◌≡◌, ℕ, Bool, zero, suc, ◌<◌, [], length, inl, inr, refl, sym, ◌∙◌, ap, subst, slice_index_or, ◌↔◌}
-use Rattle.row_book.specs.Sets.{NumSet, Is}
+use Rattle.row_book.specs.{Sets.{NumSet, Is}, Repository.{Repository, Coinst, clauses_of}, Sound.{OfPackages, SoundRepository, TidyRepository}}
+use Rattle.row_book.specs.{Flattening.{flat}, Merging.{firsts, class_of, image, quotient}, Pruning.{prune}, Thinning.{thin}}
 use Rattle.listed.specs.Lists.{In}
 use Rattle.clause_pool.specs.Lists.{InOrder}
-use Rattle.row_book.specs.Repository.{Repository, Coinst, clauses_of}
-use Rattle.row_book.specs.Sound.{OfPackages, SoundRepository, TidyRepository}
-use Rattle.row_book.specs.Flattening.{flat}
-use Rattle.row_book.specs.Merging.{firsts, class_of, image, quotient}
-use Rattle.row_book.specs.Pruning.{prune}
-use Rattle.row_book.specs.Thinning.{thin}
 use Rattle.row_book.proofs.Repositories.{between, both, healthy_coinst}
-use Rattle.clause_flatten.proofs.Flat.{flat_keeps_lem}
-use Rattle.class_merge.proofs.Classes.{has_class_lem, image_parts}
-use Rattle.class_merge.proofs.Kept.{merge_is_tidy_lem, merge_keeps_lem, merged_size}
+use Rattle.clause_flatten.proofs.{Flat.{flat_keeps_lem}, TidyFlat.{flat_size, flat_sound}}
+use Rattle.class_merge.proofs.{Classes.{has_class_lem, image_parts}, Kept.{merge_is_tidy_lem, merge_keeps_lem, merged_size}}
 use Rattle.clause_prune.proofs.Dropping.{prune_step}
 use Rattle.conflict_reduce.proofs.Thinned.{thin_is_sound_lem, thin_keeps_lem}
-use Rattle.kernel_rounds.specs.Tails.{Lighter, Tail, conflict_count, round_with}
-use Rattle.kernel_rounds.specs.Laws.{RoundsKept, TailsKeep, ThreeTails}
-use Rattle.clause_flatten.proofs.TidyFlat.{flat_size, flat_sound}
+use Rattle.kernel_rounds.specs.{Tails.{Lighter, Tail, conflict_count, round_with}, Laws.{RoundsKept, TailsKeep, ThreeTails}}
 use Rattle.kernel_rounds.proofs.Thins.{count_same, thin_or}
 
 pub merged_tidy : (limit : ℕ) (hold : Bool) → (K : Repository) → SoundRepository K → TidyRepository (quotient (flat limit hold K))

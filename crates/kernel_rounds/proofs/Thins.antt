@@ -3,10 +3,7 @@ use Rattle.std.proofs.Common.{◌≡◌, ℕ, zero, suc, ◌<◌, ◌≤◌, ◌
 use Rattle.std.proofs.lemmas.Bool.{and_from, and_right, both_ways, cases_Bool, cases_eq, false≢true, not_from_true, or_left}
 use Rattle.listed.proofs.Lists.{filter_short, filter_le, In_append_left, In_append_right, In_cases, In_map, In_none, filter_cases, filter_from}
 use Rattle.listed.specs.Lists.{In, here, there, has}
-use Rattle.row_book.specs.Numbers.{numbers}
-use Rattle.row_book.specs.Repository.{Repository, against}
-use Rattle.row_book.specs.Sound.{SoundRepository}
-use Rattle.row_book.specs.Flattening.{packages}
+use Rattle.row_book.specs.{Numbers.{numbers}, Repository.{Repository, against}, Sound.{SoundRepository}, Flattening.{packages}}
 use Rattle.row_book.specs.Thinning.{is_pair, without_pair, is_redundant, thin_pair, thin_over, all_pairs, conflicting_pairs, thin}
 use Rattle.row_book.proofs.Numbers.{length_numbers, numbers_from}
 use Rattle.conflict_reduce.proofs.Thinned.{less_sound, less_test, thin_is_sound_lem}

@@ -1,24 +1,14 @@
 -- The extraction of a kernel: midway, after some rounds each of which changed something, and at its end.
 use Rattle.std.specs.Prelude.{◌≡◌, ◌≢◌, ◌↔◌, ℕ, suc, ◌<◌, Bool, false, if◌then◌else◌, min, eqb, List, [], length, map, None, ⊤}
 use Rattle.clause_pool.specs.Interned.{Interned, Kept}
-use Rattle.clause_flatten.specs.Beside.{IsFlattened}
-use Rattle.clause_flatten.specs.declared.error.FlatError.{FlatError}
+use Rattle.clause_flatten.specs.{Beside.{IsFlattened}, declared.error.FlatError.{FlatError}}
 use Rattle.clause_flatten.specs.declared.error.FlatError.TheVariants as faults
-use Rattle.row_book.specs.declared.book.Book.{Book}
-use Rattle.row_book.specs.declared.trail.Step.{Step}
-use Rattle.row_book.specs.Book.{repository_of, Sound}
-use Rattle.row_book.specs.Numbers.{numbers}
-use Rattle.row_book.specs.Repository.{Repository}
-use Rattle.row_book.specs.Flattening.{flat, held_of, packages, passes}
-use Rattle.row_book.specs.Merging.{class_list, place_of}
+use Rattle.row_book.specs.{declared.book.Book.{Book}, declared.trail.Step.{Step}, Book.{repository_of, Sound}, Numbers.{numbers}, Repository.{Repository}}
+use Rattle.row_book.specs.{Flattening.{flat, held_of, packages, passes}, Merging.{class_list, place_of}}
 use Rattle.row_book.specs.Rounds.{round, round_steps, rounds, class_after, steps_after, kernel, kernel_class, kernel_held, kernel_steps, limit_at, round_count, PassedRound}
 use Rattle.row_book.specs.Trail.{SoundSteps, trail_meaning}
-use Rattle.kernel_rounds.specs.declared.advancing.Begun.{Begun}
-use Rattle.kernel_rounds.specs.declared.advancing.Outcome.{Outcome}
-use Rattle.kernel_rounds.specs.declared.advancing.Outcome.TheVariants.{Done, More}
-use Rattle.kernel_rounds.specs.declared.error.RoundError.{RoundError}
-use Rattle.kernel_rounds.specs.declared.error.RoundError.TheVariants.{Limit, Memory}
-use Rattle.kernel_rounds.specs.Moving.{HasSteps}
+use Rattle.kernel_rounds.specs.{declared.advancing.Begun.{Begun}, declared.advancing.Outcome.{Outcome}, declared.advancing.Outcome.TheVariants.{Done, More}}
+use Rattle.kernel_rounds.specs.{declared.error.RoundError.{RoundError}, declared.error.RoundError.TheVariants.{Limit, Memory}, Moving.{HasSteps}}
 
 -- what the rounds begin with: the book is sound in a pool, whose ids the pool that the rounds work in has kept, and it is flattened
 -- there; each package is a class of its own

@@ -1,17 +1,10 @@
 -- The laws of the rounds and of the kernel.
-use Rattle.std.specs.Prelude.{◌≡◌, ℕ, ◌<◌, ◌≤◌, ◌+◌, ◌∷◌, ◌↔◌, Bool, true, false, not, ◌&&◌, List, [], length, filter, None}
-use Rattle.std.specs.List.{list_any}
-use Rattle.row_book.specs.Sets.{NumSet, Is}
-use Rattle.listed.specs.Lists.{In, has}
-use Rattle.row_book.specs.Repository.{Repository, Coinst, clauses_of}
-use Rattle.row_book.specs.Sound.{OfPackages, SoundRepository}
-use Rattle.clause_pool.specs.Lists.{Before, InOrder}
-use Rattle.row_book.specs.Flattening.{core_of, flat, has_conflict, packages}
-use Rattle.row_book.specs.Support.{row}
-use Rattle.row_book.specs.Merging.{quotient}
-use Rattle.row_book.specs.Pruning.{prune}
-use Rattle.row_book.specs.Thinning.{thin}
+use Rattle.std.specs.{Prelude.{◌≡◌, ℕ, ◌<◌, ◌≤◌, ◌+◌, ◌∷◌, ◌↔◌, Bool, true, false, not, ◌&&◌, List, [], length, filter, None}, List.{list_any}}
+use Rattle.row_book.specs.{Sets.{NumSet, Is}, Repository.{Repository, Coinst, clauses_of}, Sound.{OfPackages, SoundRepository}}
+use Rattle.row_book.specs.{Flattening.{core_of, flat, has_conflict, packages}, Support.{row}, Merging.{quotient}, Pruning.{prune}, Thinning.{thin}}
 use Rattle.row_book.specs.Rounds.{round, rounds, enough_rounds, round_count, kernel, kernel_class, kernel_held, kernel_image, kernel_steps, limit_at, weigh, Settled}
+use Rattle.listed.specs.Lists.{In, has}
+use Rattle.clause_pool.specs.Lists.{Before, InOrder}
 use Rattle.class_merge.specs.Laws.{plain_clauses}
 use Rattle.kernel_rounds.specs.Tails.{Tail, conflict_count, round_with, rounds_with, image_with}
 

@@ -1,14 +1,9 @@
 -- Rounds whatever comes after merging, so that one proof of their end serves each choice of parts.
 use Rattle.std.specs.Prelude.{◌≡◌, ℕ, zero, suc, ◌<◌, Bool, List, [], ◌⊎◌, ◌↔◌, length}
-use Rattle.row_book.specs.Sets.{NumSet}
+use Rattle.row_book.specs.{Sets.{NumSet}, Repository.{Repository, Coinst, clauses_of}, Sound.{SoundRepository, TidyRepository}, Flattening.{flat}}
+use Rattle.row_book.specs.{Merging.{image, quotient}, Thinning.{conflicting_pairs}, Rounds.{weigh}}
 use Rattle.listed.specs.Lists.{In}
-use Rattle.row_book.specs.Repository.{Repository, Coinst, clauses_of}
 use Rattle.clause_pool.specs.Lists.{InOrder}
-use Rattle.row_book.specs.Sound.{SoundRepository, TidyRepository}
-use Rattle.row_book.specs.Flattening.{flat}
-use Rattle.row_book.specs.Merging.{image, quotient}
-use Rattle.row_book.specs.Thinning.{conflicting_pairs}
-use Rattle.row_book.specs.Rounds.{weigh}
 
 abbrev pub round_with : ℕ → Bool → (Repository → Repository) → Repository → Repository
 round_with limit hold t R = t (quotient (flat limit hold R))

@@ -1,15 +1,10 @@
 //! The rounds of an extraction, one after another, until one changes nothing.
 ghost use Rattle.std.specs.Prelude.{Bool, Some, ◌≡◌, ◌<◌, ◌+◌, ◌++◌, IfErr, IfOk, List, eqb, length, map, min, ℕ};
 ghost use Rattle.clause_pool.specs.Interned.{Interned, IsPool, Kept};
-ghost use Rattle.row_book.specs.Book.{repository_of, Sound};
-ghost use Rattle.row_book.specs.Merging.{place_of};
-ghost use Rattle.row_book.specs.Repository.{Repository};
-ghost use Rattle.row_book.specs.Rounds.{limit_at, RoundStep};
-ghost use Rattle.row_book.specs.Sound.{SoundRepository};
-ghost use Rattle.row_book.specs.Trail.{trail_meaning, SoundSteps};
+ghost use Rattle.row_book.specs.{Book.{repository_of, Sound}, Merging.{place_of}, Repository.{Repository}, Rounds.{limit_at, RoundStep}};
+ghost use Rattle.row_book.specs.{Sound.{SoundRepository}, Trail.{trail_meaning, SoundSteps}};
 ghost use Rattle.class_merge.specs.Classes.{class_in};
-ghost use Rattle.kernel_rounds.specs.Extracting.{refusal, HasStepsBefore, IsBegun, IsOutcome, IsMidway, IsReached, OnRoundLimit};
-ghost use Rattle.kernel_rounds.specs.Moving.{HasSteps};
+ghost use Rattle.kernel_rounds.specs.{Extracting.{refusal, HasStepsBefore, IsBegun, IsOutcome, IsMidway, IsReached, OnRoundLimit}, Moving.{HasSteps}};
 
 use crate::error::RoundError;
 use crate::moving::{carry_round, no_steps};

@@ -2,17 +2,12 @@
 //!
 //! Rounds work in a copy of the caller's pool, which is compacted each round, so no later round carries the first repository
 //! on. The first book has the same ids in both pools.
-ghost use Rattle.std.specs.Prelude.{false, None, Some, ◌≡◌, ◌<◌, ◌+◌, ◌∷◌, ◌++◌, [], IfErr, IfOk, List, length, slice_index_or, ℕ};
-ghost use Rattle.std.specs.Option.{ForSome};
+ghost use Rattle.std.specs.{Prelude.{false, None, Some, ◌≡◌, ◌<◌, ◌+◌, ◌∷◌, ◌++◌, [], IfErr, IfOk, List, length, slice_index_or, ℕ}, Option.{ForSome}};
 ghost use Rattle.clause_pool.specs.Interned.{Interned, IsPool, Kept};
-ghost use Rattle.row_book.specs.Book.{repository_of, AddsOnly, Sound};
-ghost use Rattle.row_book.specs.Numbers.{numbers};
-ghost use Rattle.row_book.specs.Repository.{Repository};
-ghost use Rattle.row_book.specs.Keeping.{KeepsImages};
+ghost use Rattle.row_book.specs.{Book.{repository_of, AddsOnly, Sound}, Numbers.{numbers}, Repository.{Repository}, Keeping.{KeepsImages}};
 ghost use Rattle.row_book.specs.Rounds.{kernel_image, limit_at, RoundStep, Settled};
 ghost use Rattle.clause_flatten.specs.Beside.{AreKnown};
-ghost use Rattle.kernel_rounds.specs.Extracting.{HasStepsBefore, IsBegun, IsOwnKernel, IsExtracted, IsReached, OnRoundLimit};
-ghost use Rattle.kernel_rounds.specs.Moving.{live_rows, HasSteps};
+ghost use Rattle.kernel_rounds.specs.{Extracting.{HasStepsBefore, IsBegun, IsOwnKernel, IsExtracted, IsReached, OnRoundLimit}, Moving.{live_rows, HasSteps}};
 
 use crate::advancing::{Begun, FixedPoint, all_rounds, round_error};
 use crate::error::RoundError;

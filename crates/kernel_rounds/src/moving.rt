@@ -1,11 +1,8 @@
 //! Books and trails that come into another pool, and pools with their live rows alone.
 ghost use Rattle.std.specs.Prelude.{◌≡◌, ◌++◌, [], ℕ, List, IfOk};
-ghost use Rattle.clause_pool.specs.Interned.{Interned, IsPool, Kept};
-ghost use Rattle.clause_pool.specs.Compacting.{Compacts, Knows};
+ghost use Rattle.clause_pool.specs.{Interned.{Interned, IsPool, Kept}, Compacting.{Compacts, Knows}};
 ghost use Rattle.listed.specs.Lists.{In};
-ghost use Rattle.row_book.specs.Book.{AddsOnly, IsSameBook, Sound};
-ghost use Rattle.row_book.specs.Rounds.{RoundStep};
-ghost use Rattle.row_book.specs.Trail.{trail_meaning, SoundStep, SoundSteps};
+ghost use Rattle.row_book.specs.{Book.{AddsOnly, IsSameBook, Sound}, Rounds.{RoundStep}, Trail.{trail_meaning, SoundStep, SoundSteps}};
 ghost use Rattle.kernel_rounds.specs.Moving.{live_rows, step_rows, trail_rows, AreSameSteps, HasOnly, HasSteps, IsSameStep};
 
 use clause_pool::{NumList, Pool, Remap, RowId};

@@ -1,19 +1,11 @@
 //! One round of reduction.
 ghost use Rattle.std.specs.Prelude.{◌≡◌, ◌<◌, ◌↔◌, ◌∷◌, ◌++◌, [], ℕ, Bool, false, if◌then◌else◌, IfErr, IfOk, None, OnOk, Some, map};
 ghost use Rattle.clause_pool.specs.Interned.{Interned, Kept};
-ghost use Rattle.clause_flatten.specs.Beside.{IsFlattened};
-ghost use Rattle.clause_flatten.specs.Refusals.{OnLimit};
-ghost use Rattle.row_book.specs.Book.{repository_of, IsSameBook, RowsTidy, Sound};
-ghost use Rattle.row_book.specs.declared.book.Book.{Book};
-ghost use Rattle.row_book.specs.Flattening.{flat, held_of, passes};
-ghost use Rattle.row_book.specs.Merging.{class_list, quotient};
-ghost use Rattle.row_book.specs.Pruning.{idle_steps, prune};
-ghost use Rattle.row_book.specs.Rounds.{IdleStep, round, round_steps};
-ghost use Rattle.row_book.specs.Thinning.{thin};
-ghost use Rattle.row_book.specs.Trail.{SoundSteps, trail_meaning};
-ghost use Rattle.row_book.specs.declared.trail.Step.TheVariants.{Flat, Merge};
-ghost use Rattle.kernel_rounds.specs.Extracting.{IsFirstRound};
-ghost use Rattle.kernel_rounds.specs.Moving.{live_rows, AreSameSteps, HasOnly};
+ghost use Rattle.clause_flatten.specs.{Beside.{IsFlattened}, Refusals.{OnLimit}};
+ghost use Rattle.row_book.specs.{Book.{repository_of, IsSameBook, RowsTidy, Sound}, declared.book.Book.{Book}, Flattening.{flat, held_of, passes}};
+ghost use Rattle.row_book.specs.{Merging.{class_list, quotient}, Pruning.{idle_steps, prune}, Rounds.{IdleStep, round, round_steps}, Thinning.{thin}};
+ghost use Rattle.row_book.specs.{Trail.{SoundSteps, trail_meaning}, declared.trail.Step.TheVariants.{Flat, Merge}};
+ghost use Rattle.kernel_rounds.specs.{Extracting.{IsFirstRound}, Moving.{live_rows, AreSameSteps, HasOnly}};
 
 use crate::comparing::same_books;
 use crate::moving::{keep_live, no_steps};

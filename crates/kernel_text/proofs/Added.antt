@@ -1,11 +1,8 @@
 -- A line that is taken by what it says is taken by its bytes.
 use Rattle.std.proofs.Common.{ℕ, Bool, true, false, List, Some, sym, ◌∙◌, subst}
-use Rattle.kernel_text.specs.declared.content.LineContent.{LineContent}
-use Rattle.kernel_text.specs.declared.reader.Reader.{Reader}
-use Rattle.kernel_text.specs.KernelLines.{KernelLine, HeadLine, ClassLine, MemberLine, HeldLine, NeedsLine, AgainstLine, EndLine}
-use Rattle.kernel_text.specs.Reader.{Adds, Takes}
-use Rattle.kernel_text.specs.Reading.{Reading, IsAllowed}
-use Rattle.kernel_text.specs.Words.{IsWellFormed, LineIsRead, line_of_content}
+use Rattle.kernel_text.specs.{declared.content.LineContent.{LineContent}, declared.reader.Reader.{Reader}}
+use Rattle.kernel_text.specs.{KernelLines.{KernelLine, HeadLine, ClassLine, MemberLine, HeldLine, NeedsLine, AgainstLine, EndLine}, Reader.{Adds, Takes}}
+use Rattle.kernel_text.specs.{Reading.{Reading, IsAllowed}, Words.{IsWellFormed, LineIsRead, line_of_content}}
 use Rattle.kernel_text.proofs.Spelling.{Fits, allowed_fits, same_fit}
 
 pub formed_fits : (l : KernelLine) → IsWellFormed l → Fits l

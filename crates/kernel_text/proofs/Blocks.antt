@@ -1,27 +1,18 @@
 -- What the blocks of classes say, one behind the other, and that they are the lines of the kernel that they say.
 use Rattle.std.proofs.Common.{◌≡◌, ◌≢◌, ℕ, zero, suc, ◌+◌, ◌<◌, ◌≤◌, Bool, true, false, ◌&&◌, eqb, ltb, List, [], ◌∷◌, ◌++◌, ◌⊎◌, Option, Some, length, map, filter, get_or, inl, inr, refl, sym, ap, ap₂, ◌∙◌, subst, add-one, zero-add, eq-eqb, arith}
+use Rattle.std.proofs.{lemmas.Bool.{and_from, false_from_ne_true, or_left, lt-ltb, ltb-true}, lemmas.List.{append-nil}, lemmas.List.Elements.{filter-append}}
 use Rattle.std.specs.List.{flat_map}
-use Rattle.std.proofs.lemmas.Bool.{and_from, false_from_ne_true, or_left, lt-ltb, ltb-true}
-use Rattle.std.proofs.lemmas.List.{append-nil}
-use Rattle.std.proofs.lemmas.List.Elements.{filter-append}
-use Rattle.row_book.specs.Book.{are_paired, lists_of_pairs}
+use Rattle.row_book.specs.{Book.{are_paired, lists_of_pairs}, Numbers.{numbers}, Repository.{Repository, clauses_of, conflicts_of}, declared.pair.Pair.{Pair}}
 use Rattle.listed.specs.Lists.{Ascending, In, has, here, there}
-use Rattle.row_book.specs.Numbers.{numbers}
-use Rattle.row_book.specs.Repository.{Repository, clauses_of, conflicts_of}
-use Rattle.row_book.specs.declared.pair.Pair.{Pair}
 use Rattle.listed.proofs.Lists.{In_cases, In_has, In_none, In_map, In_map_cases, In_append_cases, any_from, filter_from, filter_cases, has_In}
 use Rattle.listed.proofs.Orders.{ascending_same, ascending_filter}
-use Rattle.row_book.proofs.Numbers.{numbers_from, numbers_ascending, length_numbers, at_numbers}
-use Rattle.row_book.proofs.Pairs.{is_of, paired_cases}
-use Rattle.kernel_text.specs.declared.member.Member.{Member}
-use Rattle.kernel_text.specs.KernelLines.{KernelLine, HeadLine, ClassLine, NeedsLine, AgainstLine, EndLine}
-use Rattle.kernel_text.specs.KernelReads.{clauses_of_class}
-use Rattle.kernel_text.specs.KernelText.{class_lines, greater_conflicts, held_lines, kernel_lines, line_of_member}
+use Rattle.row_book.proofs.{Numbers.{numbers_from, numbers_ascending, length_numbers, at_numbers}, Pairs.{is_of, paired_cases}}
+use Rattle.kernel_text.specs.{declared.member.Member.{Member}, KernelLines.{KernelLine, HeadLine, ClassLine, NeedsLine, AgainstLine, EndLine}}
+use Rattle.kernel_text.specs.{KernelReads.{clauses_of_class}, KernelText.{class_lines, greater_conflicts, held_lines, kernel_lines, line_of_member}}
 use Rattle.kernel_text.specs.Reading.{Reading, ClassClause}
 use Rattle.kernel_text.proofs.LineCuts.{with_lines}
 use Rattle.kernel_text.proofs.Printed.{reading_at, clause_entry, held_entries, pair_of, last_of, with_append, members_reading, held_reading, clauses_reading, conflicts_reading, held_last, clauses_last, conflicts_last, regrouped}
-use Rattle.kernel_text.proofs.Retold.{eqb_other}
-use Rattle.kernel_text.proofs.ClassLines.{Block, FitBlock, FitBlocks, HeldInSecond, block_lines, empty, over_blocks}
+use Rattle.kernel_text.proofs.{Retold.{eqb_other}, ClassLines.{Block, FitBlock, FitBlocks, HeldInSecond, block_lines, empty, over_blocks}}
 
 -- what blocks tell
 abbrev pub NotEnd : Option KernelLine → Type 0

@@ -2,15 +2,12 @@
 use Rattle.std.proofs.Common.{◌≡◌, ℕ, ◌<◌, List, [], ◌∷◌, ◌++◌, Option, Some, length, inl, inr, refl, sym, ap, ◌∙◌, subst, zero-add, arith}
 use Rattle.listed.specs.Lists.{Ascending, In}
 use Rattle.clause_pool.specs.Lists.{InOrder}
-use Rattle.row_book.specs.Repository.{clauses_of}
-use Rattle.row_book.specs.declared.pair.Pair.{Pair}
+use Rattle.row_book.specs.{Repository.{clauses_of}, declared.pair.Pair.{Pair}}
 use Rattle.listed.proofs.Lists.{In_append_cases, In_cases, In_none}
 use Rattle.row_book.proofs.Numbers.{at_numbers, length_numbers}
-use Rattle.kernel_text.specs.declared.member.Member.{Member}
-use Rattle.kernel_text.specs.Booking.{IsBookable}
+use Rattle.kernel_text.specs.{declared.member.Member.{Member}, Booking.{IsBookable}}
 use Rattle.kernel_text.specs.KernelLines.{KernelLine, HeadLine, ClassLine, MemberLine, HeldLine, NeedsLine, AgainstLine, EndLine, lines_of}
-use Rattle.kernel_text.specs.KernelReads.{IsEnded, IsInRange, KernelReads, LinesGive, clauses_of_class, repository_of_reading}
-use Rattle.kernel_text.specs.KernelText.{IsWritable}
+use Rattle.kernel_text.specs.{KernelReads.{IsEnded, IsInRange, KernelReads, LinesGive, clauses_of_class, repository_of_reading}, KernelText.{IsWritable}}
 use Rattle.kernel_text.specs.Reading.{ClassClause, IsAllowed, MayAddClause, MayAddConflict, MayAddHeld, MayAddMember, Reading, empty_reading, number_limit, this_class, with_line}
 use Rattle.kernel_text.proofs.ReadIsWritten.{read_is_written}
 

@@ -1,23 +1,16 @@
 -- A text spells one of a few lines that its words tell, or none.
 use Rattle.std.proofs.Common.{◌≡◌, ℕ, ◌<◌, ◌==◌, Bool, true, false, List, [], ◌∷◌, ◌++◌, map, inl, inr, refl, sym, ap, ap₂, ◌∙◌, subst, append_assoc, codes, eqb-true, arith}
-use Rattle.std.specs.Fmt.{decimal}
-use Rattle.std.specs.List.{flat_map, list_all}
-use Rattle.std.specs.Str.{bytes_eq}
-use Rattle.std.proofs.lemmas.Bool.{and_parts, both_ways, false_from_ne_true, false≢true, or_cases}
-use Rattle.std.proofs.lemmas.List.{append-nil}
+use Rattle.std.proofs.{lemmas.Bool.{and_parts, both_ways, false_from_ne_true, false≢true, or_cases}, lemmas.List.{append-nil}}
 use Rattle.std.proofs.lemmas.Slice.Eq.{bytes_eq-Decides}
+use Rattle.std.specs.{Fmt.{decimal}, List.{flat_map, list_all}, Str.{bytes_eq}}
 use Rattle.listed.proofs.Lists.{decided_and, Decided}
-use Rattle.deb_version.specs.Grammar.{is_upstream_byte}
-use Rattle.deb_version.specs.Order.{number}
+use Rattle.deb_version.specs.{Grammar.{is_upstream_byte}, Order.{number}}
 use Rattle.relation_fields.proofs.Bytes.{version_bytes}
 use Rattle.listed.specs.Lists.{In, here, there}
 use Rattle.kernel_text.specs.ByWords.{by_words, ends_word, words_of}
 use Rattle.kernel_text.specs.KernelLines.{KernelLine, HeadLine, ClassLine, MemberLine, HeldLine, NeedsLine, AgainstLine, EndLine, behind_space, line_text}
-use Rattle.kernel_text.specs.Reading.{number_limit}
-use Rattle.kernel_text.specs.Words.{IsWellFormed}
-use Rattle.kernel_text.proofs.Decisions.{some_decided}
-use Rattle.kernel_text.proofs.Numerals.{value_decimal}
-use Rattle.kernel_text.proofs.Spelling.{IsPlain, Plain, decimal_plain, format_low, name_plain}
+use Rattle.kernel_text.specs.{Reading.{number_limit}, Words.{IsWellFormed}}
+use Rattle.kernel_text.proofs.{Decisions.{some_decided}, Numerals.{value_decimal}, Spelling.{IsPlain, Plain, decimal_plain, format_low, name_plain}}
 
 goes_on : (b : ℕ) → IsPlain b → ends_word b ≡ false
 goes_on b p =

@@ -3,10 +3,8 @@ use Rattle.std.proofs.Common.{◌≡◌, ℕ, suc, ◌<◌, Bool, true, false, L
 use Rattle.listed.specs.Lists.{Ascending, In}
 use Rattle.clause_pool.specs.Lists.{InOrder}
 use Rattle.listed.proofs.Lists.{In_none}
-use Rattle.kernel_text.specs.declared.member.Member.{Member}
-use Rattle.kernel_text.specs.KernelLines.{KernelLine, ClassLine, NeedsLine, AgainstLine}
-use Rattle.kernel_text.specs.KernelText.{held_lines, line_of_member}
-use Rattle.kernel_text.specs.Reading.{IsClauseOf, IsNamed}
+use Rattle.kernel_text.specs.{declared.member.Member.{Member}, KernelLines.{KernelLine, ClassLine, NeedsLine, AgainstLine}}
+use Rattle.kernel_text.specs.{KernelText.{held_lines, line_of_member}, Reading.{IsClauseOf, IsNamed}}
 
 -- the members, clauses and greater conflicts of a class, and whether it is held
 pub record Block : Type 0 where

@@ -1,31 +1,20 @@
 -- The packages of an index, class by class, are the members of a kernel that the format can write.
 use Rattle.std.proofs.Common.{◌≡◌, ◌≢◌, ℕ, zero, suc, ◌+◌, ◌<◌, ◌≤◌, Bool, true, false, ◌&&◌, eqb, List, [], ◌∷◌, ◌++◌, length, filter, inl, inr, refl, sym, ap, ap₂, ◌∙◌, subst, eq-eqb, eqb-true, arith, length-append}
-use Rattle.std.specs.List.{flat_map}
-use Rattle.std.specs.Ordering.{is_eq, ordering_reverse}
-use Rattle.std.specs.Str.{bytes_eq}
-use Rattle.std.specs.declared.cmp.Ordering.{Ordering}
+use Rattle.std.proofs.{lemmas.Bool.{cases_eq}, lemmas.List.{append-nil}, lemmas.List.Elements.{filter-append}, lemmas.Slice.Eq.{bytes_eq-Decides}}
+use Rattle.std.specs.{List.{flat_map}, Ordering.{is_eq, ordering_reverse}, Str.{bytes_eq}, declared.cmp.Ordering.{Ordering}}
 use Rattle.std.specs.declared.cmp.Ordering.TheVariants.{Less, Equal, Greater}
-use Rattle.std.proofs.lemmas.Bool.{cases_eq}
-use Rattle.std.proofs.lemmas.List.{append-nil}
-use Rattle.std.proofs.lemmas.List.Elements.{filter-append}
-use Rattle.std.proofs.lemmas.Slice.Eq.{bytes_eq-Decides}
 use Rattle.repo_model.specs.Limits.{most_packages}
 use Rattle.listed.proofs.Lists.{In_flat_cases, flat_same, filled, In_cases, In_none, In_append_cases, filter_cases, filter_from}
 use Rattle.deb_version.specs.Order.{version_order}
 use Rattle.deb_version.proofs.TotalOrder.{version_total}
 use Rattle.relation_fields.specs.declared.packages.PackageFacts.{PackageFacts}
 use Rattle.repo_model.proofs.Accepted as index
-use Rattle.row_book.specs.Numbers.{numbers}
-use Rattle.row_book.specs.Repository.{Repository}
+use Rattle.row_book.specs.{Numbers.{numbers}, Repository.{Repository}}
 use Rattle.listed.specs.Lists.{In, here, there}
 use Rattle.row_book.proofs.Numbers.{numbers_parts}
-use Rattle.kernel_text.specs.declared.member.Member.{Member}
-use Rattle.kernel_text.specs.KernelText.{AreSingle, IsWritable, members_of}
-use Rattle.kernel_text.specs.Laws.{IsKernelOf, KernelsAreWritable}
-use Rattle.kernel_text.specs.Members.{file_members, kernel_members, member_in}
-use Rattle.kernel_text.specs.Reading.{IsNamed, is_same_member, number_limit}
-use Rattle.kernel_text.proofs.Blocks.{filter_all, filter_none}
-use Rattle.kernel_text.proofs.Retold.{eqb_other}
+use Rattle.kernel_text.specs.{declared.member.Member.{Member}, KernelText.{AreSingle, IsWritable, members_of}, Laws.{IsKernelOf, KernelsAreWritable}}
+use Rattle.kernel_text.specs.{Members.{file_members, kernel_members, member_in}, Reading.{IsNamed, is_same_member, number_limit}}
+use Rattle.kernel_text.proofs.{Blocks.{filter_all, filter_none}, Retold.{eqb_other}}
 
 -- of the members of a class those of one class: all or none
 own_members : (ms : List Member) (n : ℕ) → members_of (members_of ms n) n ≡ members_of ms n

@@ -1,16 +1,12 @@
 -- Which clause may stand next, told by the kind of the last line.
 use Rattle.std.proofs.Common.{◌≡◌, ℕ, ◌-◌, true, false, ◌&&◌, eqb, ltb, List, [], ◌∷◌, ◌++◌, length, Option, Some, None, inl, inr, refl, sym, ap, ◌∙◌, subst, eq-eqb, arith, length-append}
-use Rattle.std.specs.Prelude.{slice_get}
-use Rattle.std.specs.Option.{option_map_or}
 use Rattle.std.proofs.lemmas.Bool.{and_from, both_ways, false≢true, lt-ltb, or_left, or_right}
-use Rattle.clause_pool.specs.Lists.{Before}
-use Rattle.clause_pool.specs.Clauses.{comes_before}
+use Rattle.std.specs.{Prelude.{slice_get}, Option.{option_map_or}}
+use Rattle.clause_pool.specs.{Lists.{Before}, Clauses.{comes_before}}
 use Rattle.clause_pool.proofs.Order.{before_test, before_is}
 use Rattle.kernel_text.specs.KernelLines.{KernelLine, HeadLine, ClassLine, MemberLine, HeldLine, NeedsLine, AgainstLine, EndLine}
+use Rattle.kernel_text.specs.{declared.reader.Clause.{Clause}, Reader.{kind_of_last, last_clause, may_add_clause}, Reading.{MayAddClause}}
 use Rattle.listed.proofs.Lists.{at_end}
-use Rattle.kernel_text.specs.declared.reader.Clause.{Clause}
-use Rattle.kernel_text.specs.Reader.{kind_of_last, last_clause, may_add_clause}
-use Rattle.kernel_text.specs.Reading.{MayAddClause}
 
 abbrev IsPrevious : Option KernelLine → List ℕ → Type 0
 IsPrevious o previous = (d : List ℕ) → o ≡ Some (NeedsLine d) → previous ≡ d

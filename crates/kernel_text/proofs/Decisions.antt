@@ -2,11 +2,9 @@
 use Rattle.std.proofs.Common.{◌≡◌, ℕ, zero, suc, ◌<◌, Bool, true, false, List, [], ◌∷◌, length, get_or, Option, Some, None, ◌⊎◌, inl, inr, refl, sym, subst, arith}
 use Rattle.std.proofs.lemmas.Bool.{both_ways, cases_eq, cases_lt, false≢true}
 use Rattle.listed.proofs.Lists.{decided_and, Decided, In_cases, In_none, decided_in}
-use Rattle.deb_version.specs.Grammar.{is_version}
-use Rattle.deb_version.specs.Names.{is_name}
+use Rattle.deb_version.specs.{Grammar.{is_version}, Names.{is_name}}
 use Rattle.listed.specs.Lists.{Ascending, In, here, there}
-use Rattle.clause_pool.specs.Lists.{Before}
-use Rattle.clause_pool.specs.Clauses.{comes_before}
+use Rattle.clause_pool.specs.{Lists.{Before}, Clauses.{comes_before}}
 use Rattle.clause_pool.proofs.Order.{before_test, before_is}
 use Rattle.kernel_text.specs.KernelLines.{KernelLine, HeadLine, ClassLine, MemberLine, HeldLine, NeedsLine, AgainstLine, EndLine}
 use Rattle.kernel_text.specs.Reading.{IsAllowed, IsClauseOf, IsFormat, MayAddClause, MayAddConflict, MayAddHeld, MayAddMember, MayBegin, Reading, is_same_member, member_of_line, number_limit, this_class}

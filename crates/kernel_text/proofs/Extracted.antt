@@ -2,23 +2,15 @@
 use Rattle.std.proofs.Common.{◌≡◌, ℕ, ◌+◌, ◌<◌, ◌≤◌, Bool, true, false, inl, inr, cond, List, [], ◌∷◌, length, map, filter, refl, sym, ap, subst, ◌∙◌, arith}
 use Rattle.repo_model.specs.Limits.{most_packages}
 use Rattle.clause_pool.specs.Lists.{InOrder}
-use Rattle.row_book.specs.Flattening.{flat, held_of, is_held, packages}
-use Rattle.row_book.specs.Repository.{Repository, clauses_of}
-use Rattle.row_book.specs.Rounds.{kernel, kernel_class, round_count}
-use Rattle.listed.specs.Lists.{In}
+use Rattle.row_book.specs.{Flattening.{flat, held_of, is_held, packages}, Repository.{Repository, clauses_of}, Rounds.{kernel, kernel_class, round_count}}
 use Rattle.row_book.specs.Sound.{TidyRepository}
-use Rattle.listed.proofs.Lists.{In_map, In_map_cases, filter_cases}
-use Rattle.listed.proofs.Orders.{ascending_filter}
+use Rattle.listed.specs.Lists.{In}
+use Rattle.listed.proofs.{Lists.{In_map, In_map_cases, filter_cases}, Orders.{ascending_filter}}
 use Rattle.row_book.proofs.Numbers.{length_numbers, numbers_ascending, numbers_from, numbers_parts}
-use Rattle.clause_flatten.proofs.Stages.{without_hold_lem}
+use Rattle.clause_flatten.proofs.{Stages.{without_hold_lem}, TidyFlat.{flat_order, flat_tidy}}
 use Rattle.kernel_rounds.specs.Laws.{IsKernel}
-use Rattle.clause_flatten.proofs.TidyFlat.{flat_order, flat_tidy}
-use Rattle.kernel_rounds.proofs.Reached.{kernel_is_lem}
-use Rattle.kernel_rounds.proofs.Settling.{fixed_parts_lem}
-use Rattle.kernel_text.specs.KernelText.{FitsFormat, format_of}
-use Rattle.kernel_text.specs.Laws.{RoundsGiveKernels}
-use Rattle.kernel_text.specs.Reading.{number_limit, IsFormat}
-use Rattle.kernel_rounds.proofs.Classes.{HasPackage, class_met, class_within, classes_few}
+use Rattle.kernel_rounds.proofs.{Reached.{kernel_is_lem}, Settling.{fixed_parts_lem}, Classes.{HasPackage, class_met, class_within, classes_few}}
+use Rattle.kernel_text.specs.{KernelText.{FitsFormat, format_of}, Laws.{RoundsGiveKernels}, Reading.{number_limit, IsFormat}}
 
 -- the format of a kernel is one of the two
 known_format : (hold : Bool) → IsFormat (format_of hold)

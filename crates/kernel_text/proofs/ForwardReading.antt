@@ -1,29 +1,21 @@
 -- Reading forward finds the judgement of a text.
 use Rattle.std.proofs.Common.{◌∙◌, ◌≡◌, ℕ, zero, suc, cond, ◌+◌, ◌<◌, ◌≤◌, ◌==◌, ◌&&◌, ◌||◌, not, Bool, true, false, List, [], ◌∷◌, length, get_or, Option, Some, None, Result, Ok, Err, inl, inr, refl, sym, ap, ap₂, subst, arith, eq-eqb, eqb-true}
-use Rattle.std.specs.Prelude.{nat_lt, is_none, if◌then◌else◌}
-use Rattle.std.specs.List.{list_all, list_any, position, position_or_len}
-use Rattle.std.specs.Str.{bytes_eq}
-use Rattle.std.proofs.lemmas.Bool.{and_from, and_parts, false≢true, lt-ltb, ltb-false, ltb-true, or_cases}
-use Rattle.std.proofs.lemmas.List.Quantifiers.{position-Some}
+use Rattle.std.proofs.{lemmas.Bool.{and_from, and_parts, false≢true, lt-ltb, ltb-false, ltb-true, or_cases}, lemmas.List.Quantifiers.{position-Some}}
 use Rattle.std.proofs.lemmas.Slice.Eq.{bytes_eq-Decides}
-use Rattle.deb_version.specs.Grammar.{is_version}
-use Rattle.deb_version.specs.Names.{is_name}
+use Rattle.std.specs.{Prelude.{nat_lt, is_none, if◌then◌else◌}, List.{list_all, list_any, position, position_or_len}, Str.{bytes_eq}}
+use Rattle.deb_version.specs.{Grammar.{is_version}, Names.{is_name}}
 use Rattle.listed.proofs.Lists.{In_has, all_at, all_from, any_cases, any_from, find_none, find_some, has_In}
 use Rattle.listed.specs.Lists.{Ascending, In, has}
 use Rattle.clause_pool.proofs.Order.{before_is, before_test}
-use Rattle.kernel_text.specs.declared.fault.KernelFault.TheVariants.{End, Line, Memory, Range}
-use Rattle.kernel_text.specs.declared.fault.KernelFault.{KernelFault}
-use Rattle.kernel_text.specs.ByWords.{by_words, words_of}
-use Rattle.kernel_text.specs.KernelFaults.{Names, Strays}
+use Rattle.kernel_text.specs.{declared.fault.KernelFault.TheVariants.{End, Line, Memory, Range}, declared.fault.KernelFault.{KernelFault}}
+use Rattle.kernel_text.specs.{ByWords.{by_words, words_of}, KernelFaults.{Names, Strays}}
 use Rattle.kernel_text.specs.KernelLines.{KernelLine, HeadLine, ClassLine, MemberLine, HeldLine, NeedsLine, AgainstLine, EndLine, line_text, lines_of}
 use Rattle.kernel_text.specs.KernelReads.{KernelContent, IsEnded, LinesGive, content, repository_of_reading}
 use Rattle.kernel_text.specs.Reading.{IsAllowed, IsClauseOf, IsFormat, IsNamed, MayAddClause, MayAddConflict, MayAddHeld, MayAddMember, MayBegin, Reading, empty_reading, is_same_member, member_of_line, number_limit, this_class, with_line}
-use Rattle.kernel_text.proofs.Candidates.{among}
-use Rattle.kernel_text.proofs.InRange.{in_range}
-use Rattle.kernel_text.proofs.Judged.{IsRefused, Judgement, a_fault, a_kernel, allowed_formed, line_other, range_other}
-use Rattle.kernel_text.proofs.Shape.{some_none}
-use Rattle.kernel_text.proofs.StrayLines.{names_formed}
 use Rattle.kernel_text.specs.StoredReading.{adds_clause, adds_conflict, adds_held, adds_member, are_low, ascends, begins, by_line, by_lines, by_stray, ends_with, is_allowed, is_ended, is_far, line_in, read_lines, stored_reading, strays}
+use Rattle.kernel_text.proofs.{Candidates.{among}, InRange.{in_range}}
+use Rattle.kernel_text.proofs.{Judged.{IsRefused, Judgement, a_fault, a_kernel, allowed_formed, line_other, range_other}, Shape.{some_none}}
+use Rattle.kernel_text.proofs.StrayLines.{names_formed}
 
 -- a test tells whether something is so
 abbrev Tells : Bool → Type 0 → Type 0

@@ -1,27 +1,18 @@
 -- The classes that goals name, goal by goal.
 use Rattle.std.proofs.Common.{◌≡◌, ℕ, zero, suc, ◌+◌, ◌<◌, Bool, true, false, not, ◌&&◌, ◌==◌, eqb, eqb-true, eq-eqb, List, [], ◌∷◌, ◌++◌, length, map, filter, take, drop, get_or, Option, Some, None, inl, inr, refl, sym, ap, ap₂, ◌∙◌, subst, cond, zero-add, arith}
-use Rattle.std.specs.Prelude.{◌↔◌, slice_get}
-use Rattle.std.specs.Option.{option_map_or}
-use Rattle.std.specs.List.{list_any, position_from}
-use Rattle.std.specs.Ordering.{is_eq}
-use Rattle.std.specs.Str.{bytes_eq}
-use Rattle.std.proofs.Math.Bool.{and-true}
-use Rattle.std.proofs.Math.Seq.{drop-cons}
-use Rattle.std.proofs.lemmas.Bool.{and_from, and_parts, false≢true, false_from_ne_true, not_from_false}
+use Rattle.std.proofs.{Math.Bool.{and-true}, Math.Seq.{drop-cons}, lemmas.Bool.{and_from, and_parts, false≢true, false_from_ne_true, not_from_false}}
 use Rattle.std.proofs.lemmas.List.{map-append, take_more}
+use Rattle.std.specs.{Prelude.{◌↔◌, slice_get}, Option.{option_map_or}, List.{list_any, position_from}, Ordering.{is_eq}, Str.{bytes_eq}}
 use Rattle.deb_version.specs.Order.{version_order}
 use Rattle.listed.specs.Lists.{Ascending, Inside, In, has, here, there}
 use Rattle.row_book.specs.Numbers.{numbers}
-use Rattle.listed.proofs.Bools.{same_bool}
-use Rattle.listed.proofs.Lists.{In_cases, In_map, In_map_cases, In_has, In_none, any_cases, any_from, filter_cases, filter_from, has_In}
+use Rattle.listed.proofs.{Bools.{same_bool}, Lists.{In_cases, In_map, In_map_cases, In_has, In_none, any_cases, any_from, filter_cases, filter_from, has_In}}
 use Rattle.listed.proofs.Orders.{ascending_filter, ascending_same}
 use Rattle.row_book.proofs.Numbers.{numbers_ascending, numbers_from as number_in}
 use Rattle.repo_model.specs.declared.goals.Goal.{Goal}
-use Rattle.package_register.specs.Numbers.{if_so, numbers_from, numbers_where, passes_at}
-use Rattle.package_register.specs.Registers.{has_name, is_version_of}
+use Rattle.package_register.specs.{Numbers.{if_so, numbers_from, numbers_where, passes_at}, Registers.{has_name, is_version_of}}
 use Rattle.package_register.proofs.Numbered.{numbered_pass, numbers_from-cons, passing_numbered}
-use Rattle.kernel_text.specs.declared.member.Member.{Member}
-use Rattle.kernel_text.specs.Images.{class_at, image_of, is_named_by, is_named_in, is_unknown, names_in_class, unknown_goal}
+use Rattle.kernel_text.specs.{declared.member.Member.{Member}, Images.{class_at, image_of, is_named_by, is_named_in, is_unknown, names_in_class, unknown_goal}}
 
 -- items by their numbers
 pub got_in : {X : Type 0} (items : List X) (i : ℕ) (x : X) → slice_get items i ≡ Some x → In x items

@@ -1,26 +1,18 @@
 -- The ids of the clauses of each class, and their rows.
 use Rattle.std.specs.Prelude.{IfOk}
 use Rattle.std.proofs.Common.{◌≡◌, ◌≢◌, ℕ, zero, suc, Result, Ok, Err, ◌+◌, ◌<◌, List, [], ◌∷◌, ◌++◌, length, map, filter, get_or, set, take, eqb, inl, inr, refl, sym, ap, ap₂, ◌∙◌, subst, eq-eqb, zero-add, arith}
-use Rattle.std.proofs.Math.ListN.{length-set}
-use Rattle.std.proofs.lemmas.Bool.{cases_eq}
+use Rattle.std.proofs.{Math.ListN.{length-set}, lemmas.Bool.{cases_eq}}
 use Rattle.std.proofs.lemmas.List.{append-nil, ext_get_or, get_or-map, get_or-set_same, get_or-set_other, length-map, map-append, take_more}
 use Rattle.std.proofs.lemmas.List.Elements.{filter-append}
-use Rattle.clause_pool.specs.Interned.{Interned, IsIdOf, Kept, OfPool, clauses_at, ids_at, row_at}
+use Rattle.clause_pool.specs.{Interned.{Interned, IsIdOf, Kept, OfPool, clauses_at, ids_at, row_at}, Lists.{InOrder}}
 use Rattle.clause_pool.proofs.Interned.{kept_along, clauses_kept, kept_of_pool}
-use Rattle.row_book.specs.Book.{NumbersFit, listed_for, lists_of_pairs, repository_of}
-use Rattle.clause_pool.specs.Lists.{InOrder}
-use Rattle.row_book.specs.Numbers.{numbers}
-use Rattle.row_book.specs.Repository.{Repository}
-use Rattle.listed.specs.Lists.{In, here, there}
-use Rattle.row_book.specs.declared.book.Book.{Book}
+use Rattle.row_book.specs.{Book.{NumbersFit, listed_for, lists_of_pairs, repository_of}, Numbers.{numbers}, Repository.{Repository}, declared.book.Book.{Book}}
 use Rattle.row_book.specs.declared.pair.Pair.{Pair}
+use Rattle.listed.specs.Lists.{In, here, there}
 use Rattle.listed.proofs.Lists.{In_append_cases, In_cases, In_map, In_map_cases, In_none, filter_cases}
 use Rattle.row_book.proofs.Numbers.{at_numbers, length_numbers}
-use Rattle.kernel_text.specs.declared.reader.Clause.{Clause}
-use Rattle.kernel_text.specs.Booking.{AreRows, HasIdsByClass, IsBookable}
-use Rattle.kernel_text.specs.KernelReads.{clauses_of_class, repository_of_reading}
-use Rattle.kernel_text.specs.declared.reader.Reader.{Reader}
-use Rattle.kernel_text.specs.Reader.{Holds, entry_of}
+use Rattle.kernel_text.specs.{declared.reader.Clause.{Clause}, Booking.{AreRows, HasIdsByClass, IsBookable}}
+use Rattle.kernel_text.specs.{KernelReads.{clauses_of_class, repository_of_reading}, declared.reader.Reader.{Reader}, Reader.{Holds, entry_of}}
 use Rattle.kernel_text.specs.Reading.{ClassClause, Reading}
 use Rattle.kernel_text.proofs.Retold.{eqb_other}
 

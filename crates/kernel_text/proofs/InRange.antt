@@ -1,18 +1,14 @@
 -- All numbers are of classes, or some line strays.
 use Rattle.std.proofs.Common.{◌≡◌, ℕ, suc, ◌<◌, Bool, true, false, List, [], ◌∷◌, length, map, get_or, inl, inr, refl, sym, ap, subst, arith}
-use Rattle.std.specs.Prelude.{nat_lt}
-use Rattle.std.specs.List.{list_all}
 use Rattle.std.proofs.lemmas.Bool.{both_ways, cases_lt, lt-ltb, ltb-true}
+use Rattle.std.specs.{Prelude.{nat_lt}, List.{list_all}}
 use Rattle.listed.specs.Lists.{In}
 use Rattle.row_book.specs.declared.pair.Pair.{Pair}
 use Rattle.listed.proofs.Lists.{In_append_cases, In_cases, In_map, In_map_cases, In_none, all_at, all_from}
-use Rattle.kernel_text.specs.declared.reader.Clause.{Clause}
-use Rattle.kernel_text.specs.KernelFaults.{Strays}
+use Rattle.kernel_text.specs.{declared.reader.Clause.{Clause}, KernelFaults.{Strays}}
 use Rattle.kernel_text.specs.KernelLines.{KernelLine, HeadLine, ClassLine, MemberLine, HeldLine, NeedsLine, AgainstLine, EndLine, lines_of, line_text}
-use Rattle.kernel_text.specs.KernelReads.{IsInRange, LinesGive}
-use Rattle.kernel_text.specs.Reader.{RangeIsTold, entry_of}
-use Rattle.kernel_text.specs.Reading.{ClassClause, IsAllowed, Reading, empty_reading, with_line}
-use Rattle.kernel_text.specs.Strays.{NoStrayBefore}
+use Rattle.kernel_text.specs.{KernelReads.{IsInRange, LinesGive}, Reader.{RangeIsTold, entry_of}}
+use Rattle.kernel_text.specs.{Reading.{ClassClause, IsAllowed, Reading, empty_reading, with_line}, Strays.{NoStrayBefore}}
 
 -- the numbers of the clauses that a reader holds
 pub clauses_below : (clauses : List Clause) (entries : List ClassClause) (k : ℕ) → map entry_of clauses ≡ entries → list_all (λ (c : Clause). list_all (λ n. nat_lt n k) c.numbers) clauses ≡ true →

@@ -1,41 +1,26 @@
 -- What `serde_json` writes for a kernel.
 use Rattle.std.proofs.Common.{append-nil, filter, ltb, ◌≡◌, ◌≢◌, ℕ, zero, suc, ◌+◌, ◌/◌, ◌%◌, ◌<◌, ◌≤◌, Bool, true, false, cond, ◌||◌, ◌==◌, eqb-true, List, [], ◌∷◌, ◌++◌, length, map, Option, Some, None, take, get_or, inl, inr, refl, sym, ap, ap₂, ◌∙◌, subst, append_assoc, codes, arith}
-use Rattle.std.specs.Prelude.{nat_lt, nat_le}
-use Rattle.std.specs.Char.{digit_char, is_ascii_alphanumeric}
-use Rattle.std.specs.Int.{is_in_range}
-use Rattle.std.specs.Fmt.{decimal}
-use Rattle.std.specs.List.{list_all}
-use Rattle.std.specs.Str.{IsAscii}
 use Rattle.std.proofs.lemmas.Bool.{and_parts, false_from_ne_true, false≢true, le-ltb, leb-true, lt-ltb, ltb-true, or_cases}
-use Rattle.std.proofs.lemmas.List.{map-append, take_more}
-use Rattle.std.proofs.lemmas.List.Elements.{filter-append}
-use Rattle.deb_version.specs.Grammar.{is_upstream_byte, is_version}
-use Rattle.deb_version.specs.Names.{has_first, is_name, is_name_byte}
+use Rattle.std.proofs.{lemmas.List.{map-append, take_more}, lemmas.List.Elements.{filter-append}}
+use Rattle.std.specs.{Prelude.{nat_lt, nat_le}, Char.{digit_char, is_ascii_alphanumeric}, Int.{is_in_range}, Fmt.{decimal}, List.{list_all}, Str.{IsAscii}}
+use Rattle.std.specs.{declared.alloc.Global.{Global}, declared.vec.Vec.{Vec}}
+use Rattle.deb_version.specs.{Grammar.{is_upstream_byte, is_version}, Names.{has_first, is_name, is_name_byte}}
 use Rattle.json.specs.Print.{escape, escape_byte, escape_letter, quoted}
 use Rattle.relation_fields.proofs.Bytes.{version_bytes}
 use Rattle.relation_fields.specs.declared.packages.PackageFacts.{PackageFacts}
-use Rattle.repo_model.specs.Stanzas.{stanza_at}
-use Rattle.row_book.specs.Book.{listed_for}
-use Rattle.row_book.specs.Numbers.{numbers}
-use Rattle.row_book.specs.Repository.{Repository, clauses_of}
+use Rattle.repo_model.specs.{Stanzas.{stanza_at}, Facts.{AreNamedPackages}}
+use Rattle.row_book.specs.{Book.{listed_for}, Numbers.{numbers}, Repository.{Repository, clauses_of}}
 use Rattle.listed.specs.Lists.{In, here, there}
 use Rattle.row_book.proofs.Numbers.{numbers_parts, numbers_more}
-use Rattle.serde_json.specs.Data.{Data, Members, array, boolean, no_members, object, put, string}
-use Rattle.serde_json.specs.View.{items_of, view}
-use Rattle.serde_json.specs.Written.{compact_text, has_float, items_have_float, items_text}
-use Rattle.std.specs.declared.alloc.Global.{Global}
-use Rattle.std.specs.declared.vec.Vec.{Vec}
-use Rattle.serde_json.specs.declared.value.Value.{Value}
+use Rattle.serde_json.specs.{Data.{Data, Members, array, boolean, no_members, object, put, string}, View.{items_of, view}}
+use Rattle.serde_json.specs.{Written.{compact_text, has_float, items_have_float, items_text}, declared.value.Value.{Value}}
 use Rattle.serde_json.specs.declared.value.Value.TheVariants.{Array}
 use Rattle.serde_json.proofs.Views.{view-Array}
 use Rattle.kernel_text.specs.declared.member.Member.{Member}
-use Rattle.repo_model.specs.Facts.{AreNamedPackages}
 use Rattle.kernel_text.specs.JsonData.{class_data, clauses_data, data_of_class, kernel_data, list_data, mark_of_class, number_data, numbers_data, package_data, packages_data, with_told}
 use Rattle.kernel_text.specs.KernelJson.{behind_commas, class_json, held_mark, kernel_json, list_json, member_json, numbers_json, object_json, package_json, quoted_text}
-use Rattle.kernel_text.specs.KernelLines.{KernelLine, MemberLine}
-use Rattle.kernel_text.specs.KernelText.{format_of, greater_conflicts, line_of_member, members_of}
-use Rattle.kernel_text.specs.Members.{kernel_members}
-use Rattle.kernel_text.specs.Writing.{IsByClass, OfPackages, TellHeld, line_of_package}
+use Rattle.kernel_text.specs.{KernelLines.{KernelLine, MemberLine}, KernelText.{format_of, greater_conflicts, line_of_member, members_of}}
+use Rattle.kernel_text.specs.{Members.{kernel_members}, Writing.{IsByClass, OfPackages, TellHeld, line_of_package}}
 use Rattle.kernel_text.proofs.Written.{members_are}
 
 -- lists

@@ -3,19 +3,14 @@ use Rattle.std.proofs.Common.{◌≡◌, ℕ, suc, ◌+◌, ◌<◌, ◌≤◌, 
 use Rattle.std.proofs.lemmas.Bool.{cases_eq, cases_lt}
 use Rattle.listed.proofs.Lists.{decided_and, Decided}
 use Rattle.row_book.specs.Repository.{Repository}
-use Rattle.kernel_text.specs.declared.fault.KernelFault.{KernelFault}
-use Rattle.kernel_text.specs.declared.fault.KernelFault.TheVariants.{Line, End, Range, Memory}
-use Rattle.kernel_text.specs.declared.member.Member.{Member}
-use Rattle.kernel_text.specs.KernelFaults.{IsFault, Names, Strays}
+use Rattle.kernel_text.specs.{declared.fault.KernelFault.{KernelFault}, declared.fault.KernelFault.TheVariants.{Line, End, Range, Memory}}
+use Rattle.kernel_text.specs.{declared.member.Member.{Member}, KernelFaults.{IsFault, Names, Strays}}
 use Rattle.kernel_text.specs.KernelLines.{KernelLine, HeadLine, ClassLine, MemberLine, HeldLine, NeedsLine, AgainstLine, EndLine, lines_of, line_text}
 use Rattle.kernel_text.specs.KernelReads.{IsEnded, KernelReads, LinesGive, repository_of_reading}
-use Rattle.kernel_text.specs.Reading.{IsAllowed, Reading, empty_reading, number_limit, with_line}
-use Rattle.kernel_text.specs.Words.{IsWellFormed}
+use Rattle.kernel_text.specs.{Reading.{IsAllowed, Reading, empty_reading, number_limit, with_line}, Words.{IsWellFormed}}
 use Rattle.kernel_text.proofs.Candidates.{Spells, spelled_decided}
-use Rattle.kernel_text.proofs.Decisions.{FirstOrNone, all_decided, allowed_decided, first_or_none, less_decided, some_decided}
-use Rattle.kernel_text.proofs.InRange.{in_range}
-use Rattle.kernel_text.proofs.Shape.{some_none}
-use Rattle.kernel_text.proofs.StrayLines.{names_formed}
+use Rattle.kernel_text.proofs.{Decisions.{FirstOrNone, all_decided, allowed_decided, first_or_none, less_decided, some_decided}, InRange.{in_range}}
+use Rattle.kernel_text.proofs.{Shape.{some_none}, StrayLines.{names_formed}}
 
 pub allowed_formed : (t : Reading) (l : KernelLine) → IsAllowed t l → IsWellFormed l
 allowed_formed t (HeadLine format) a = a.1

@@ -1,14 +1,11 @@
 -- How many lines of each kind the text of a kernel has.
-use Rattle.std.proofs.Common.{◌≡◌, ◌+◌, ℕ, Bool, true, false, cond, refl, ap, List, [], ◌∷◌, ◌++◌, map, length, arith}
+use Rattle.std.proofs.{Common.{◌≡◌, ◌+◌, ℕ, Bool, true, false, cond, refl, ap, List, [], ◌∷◌, ◌++◌, map, length, arith}, lemmas.List.Sums.{sum_by-append}}
 use Rattle.std.specs.List.{count_by, flat_map, sum_by}
-use Rattle.std.proofs.lemmas.List.Sums.{sum_by-append}
 use Rattle.kernel_text.specs.KernelLines.{KernelLine, HeadLine, ClassLine, HeldLine, NeedsLine, AgainstLine, EndLine}
 use Rattle.kernel_text.specs.KernelText.{class_lines, greater_conflicts, held_lines, kernel_lines, line_of_member, members_of}
-use Rattle.kernel_text.specs.declared.member.Member.{Member}
-use Rattle.row_book.specs.Numbers.{numbers}
-use Rattle.row_book.specs.Repository.{Repository, clauses_of}
+use Rattle.kernel_text.specs.{declared.member.Member.{Member}, LineKinds.{LinesAreCounted, is_against_line, is_needs_line}}
+use Rattle.row_book.specs.{Numbers.{numbers}, Repository.{Repository, clauses_of}}
 use Rattle.listed.specs.Lists.{has}
-use Rattle.kernel_text.specs.LineKinds.{LinesAreCounted, is_against_line, is_needs_line}
 
 sum_first : {X : Type 0} (f : X → ℕ) (x : X) (xs : List X) → sum_by f (x ∷ xs) ≡ f x + sum_by f xs
 sum_first f x xs = let h : sum_by f (x ∷ xs) ≡ sum_by f (x ∷ []) + sum_by f xs = sum_by-append f (x ∷ []) xs in let one : sum_by f (x ∷ []) ≡ f x = omega arith in omega (arith, h, one)

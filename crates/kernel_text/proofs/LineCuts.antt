@@ -1,15 +1,12 @@
 -- The lines of a text that is put together from lines.
 use Rattle.std.proofs.Common.{◌≡◌, ℕ, ◌==◌, ◌<◌, Bool, true, false, not, List, [], ◌∷◌, ◌++◌, refl, sym, ap, ◌∙◌, subst, codes, eqb-true}
-use Rattle.std.specs.Fmt.{decimal}
-use Rattle.std.specs.List.{flat_map, list_all}
-use Rattle.std.proofs.lemmas.Bool.{and_parts, and_from, not-true, not_from_false, false_from_ne_true, false≢true}
-use Rattle.std.proofs.lemmas.List.Folds.{list_all-append}
+use Rattle.std.proofs.{lemmas.Bool.{and_parts, and_from, not-true, not_from_false, false_from_ne_true, false≢true}, lemmas.List.Folds.{list_all-append}}
+use Rattle.std.specs.{Fmt.{decimal}, List.{flat_map, list_all}}
 use Rattle.deb_version.specs.Grammar.{is_upstream_byte}
 use Rattle.relation_fields.proofs.Bytes.{version_bytes}
 use Rattle.listed.specs.Lists.{In, here, there}
 use Rattle.kernel_text.specs.KernelLines.{KernelLine, HeadLine, ClassLine, MemberLine, HeldLine, NeedsLine, AgainstLine, EndLine, lines_of, line_text, behind_space}
-use Rattle.kernel_text.specs.KernelReads.{LinesGive}
-use Rattle.kernel_text.specs.Reading.{Reading, IsAllowed, with_line, number_limit}
+use Rattle.kernel_text.specs.{KernelReads.{LinesGive}, Reading.{Reading, IsAllowed, with_line, number_limit}}
 use Rattle.kernel_text.proofs.Spelling.{Plain, decimal_plain, format_low, name_plain}
 
 -- no line feed

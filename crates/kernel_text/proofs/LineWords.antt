@@ -1,18 +1,13 @@
 -- The words of a line, and what they say.
 use Rattle.std.proofs.Common.{◌≡◌, ℕ, zero, suc, ◌-◌, ◌<◌, Bool, true, false, eqb, not, ◌==◌, List, [], ◌∷◌, ◌++◌, Option, Some, None, length, take, drop, get_or, inr, refl, sym, ap, ap₂, ◌∙◌, subst, codes, eqb-true, arith}
-use Rattle.std.specs.Fmt.{decimal}
-use Rattle.std.specs.Str.{bytes_eq}
 use Rattle.std.proofs.lemmas.Bool.{and_parts, and_from, both_ways, false_from_ne_true, not-true, not_from_false}
 use Rattle.std.proofs.lemmas.List.{append-nil, append_cancel_right, length-append, length-drop, take_all, take-append-drop}
-use Rattle.std.proofs.lemmas.Slice.Eq.{bytes_eq-Decides, starts_is}
-use Rattle.std.proofs.lemmas.Bool.Decides.{Decides-eqb}
-use Rattle.std.proofs.lemmas.Option.{same_Some}
-use Rattle.std.specs.List.{starts_with}
+use Rattle.std.proofs.{lemmas.Slice.Eq.{bytes_eq-Decides, starts_is}, lemmas.Bool.Decides.{Decides-eqb}, lemmas.Option.{same_Some}}
+use Rattle.std.specs.{Fmt.{decimal}, Str.{bytes_eq}, List.{starts_with}}
 use Rattle.memchr.specs.Find.{IsFirstByte, is_byte}
 use Rattle.kernel_text.specs.declared.content.LineContent.{LineContent}
 use Rattle.kernel_text.specs.KernelLines.{KernelLine, HeadLine, ClassLine, MemberLine, HeldLine, NeedsLine, AgainstLine, EndLine, line_text}
-use Rattle.kernel_text.specs.Reading.{IsFormat, IsNamed, number_limit}
-use Rattle.kernel_text.specs.Numbers.{NumberRead}
+use Rattle.kernel_text.specs.{Reading.{IsFormat, IsNamed, number_limit}, Numbers.{NumberRead}}
 use Rattle.kernel_text.specs.Words.{IsCut, LineIsRead, WordsAreRead, behind_word, first_word, is_word, line_of_content, other_words}
 use Rattle.kernel_text.proofs.Spelling.{Plain, decimal_plain, format_low, kind, kind_of, name_plain, number_same}
 

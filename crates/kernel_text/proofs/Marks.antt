@@ -1,8 +1,6 @@
 -- Which classes are held, by flags.
 use Rattle.std.proofs.Common.{◌≡◌, ℕ, ◌+◌, ◌<◌, Bool, true, false, ◌||◌, eqb, List, [], ◌∷◌, ◌++◌, length, take, get_or, set, replicate, inl, inr, refl, sym, ap, ◌∙◌, subst, arith}
-use Rattle.std.proofs.Math.ListN.{length-set}
-use Rattle.std.proofs.lemmas.Bool.{cases_eq}
-use Rattle.std.proofs.lemmas.List.{get_or-replicate, get_or-set_other, get_or-set_same, take_more}
+use Rattle.std.proofs.{Math.ListN.{length-set}, lemmas.Bool.{cases_eq}, lemmas.List.{get_or-replicate, get_or-set_other, get_or-set_same, take_more}}
 use Rattle.row_book.specs.Flags.{flag}
 use Rattle.listed.specs.Lists.{has, here}
 use Rattle.listed.proofs.Lists.{In_append_right, In_has}

@@ -1,19 +1,15 @@
 -- Members that are read, and which lines may stand behind them.
 use Rattle.std.proofs.Common.{◌≡◌, ℕ, ◌+◌, Bool, true, false, List, [], ◌∷◌, length, Option, Some, None, refl, sym, ap, subst, ◌∙◌}
-use Rattle.std.specs.Prelude.{◌&&◌, ◌==◌, slice_get}
-use Rattle.std.specs.Option.{option_map_or}
-use Rattle.std.specs.Str.{bytes_eq}
 use Rattle.std.proofs.lemmas.Bool.{false≢true, false_from_ne_true}
+use Rattle.std.specs.{Prelude.{◌&&◌, ◌==◌, slice_get}, Option.{option_map_or}, Str.{bytes_eq}}
 use Rattle.listed.specs.Lists.{In, here}
 use Rattle.listed.proofs.Lists.{In_none}
-use Rattle.package_register.specs.Numbers.{numbers_where, passes_at}
-use Rattle.package_register.specs.Registers.{is_version_of}
+use Rattle.package_register.specs.{Numbers.{numbers_where, passes_at}, Registers.{is_version_of}}
 use Rattle.package_register.proofs.Numbered.{numbered_pass, passing_numbered}
 use Rattle.repo_model.proofs.Indexed.{either_way}
 use Rattle.kernel_text.specs.declared.member.Member.{Member}
 use Rattle.kernel_text.specs.KernelLines.{KernelLine, HeadLine, ClassLine, MemberLine, HeldLine, NeedsLine, AgainstLine, EndLine}
-use Rattle.kernel_text.specs.Reader.{kind_of_last, may_add_member}
-use Rattle.kernel_text.specs.Reading.{IsNew, MayAddMember, is_same_member}
+use Rattle.kernel_text.specs.{Reader.{kind_of_last, may_add_member}, Reading.{IsNew, MayAddMember, is_same_member}}
 use Rattle.kernel_text.proofs.GoalImages.{got_in, in_got, none_there}
 
 -- what may stand next, told by the kind of the last line

@@ -1,16 +1,10 @@
 -- The numbers of a clause, word by word.
 use Rattle.std.proofs.Common.{◌≡◌, ℕ, suc, ◌+◌, ◌<◌, List, [], ◌∷◌, ◌++◌, Option, Some, None, inl, inr, refl, sym, ap, ◌∙◌, subst, append_assoc, length, length-append, arith}
-use Rattle.std.specs.Fmt.{decimal}
-use Rattle.std.specs.List.{flat_map}
-use Rattle.std.specs.Option.{option_map_or}
-use Rattle.std.proofs.lemmas.Grind.{flat_map-append}
-use Rattle.std.proofs.lemmas.List.{append-nil}
+use Rattle.std.proofs.{lemmas.Grind.{flat_map-append}, lemmas.List.{append-nil}}
+use Rattle.std.specs.{Fmt.{decimal}, List.{flat_map}, Option.{option_map_or}}
 use Rattle.listed.specs.Lists.{In, here, there}
 use Rattle.listed.proofs.Lists.{In_append_cases, In_cases, In_none}
-use Rattle.kernel_text.specs.KernelLines.{behind_space}
-use Rattle.kernel_text.specs.Numbers.{NumberRead}
-use Rattle.kernel_text.specs.Reading.{number_limit}
-use Rattle.kernel_text.specs.Words.{IsCut, NumbersRead, behind_word, numbers_text}
+use Rattle.kernel_text.specs.{KernelLines.{behind_space}, Numbers.{NumberRead}, Reading.{number_limit}, Words.{IsCut, NumbersRead, behind_word, numbers_text}}
 use Rattle.kernel_text.proofs.LineWords.{digits_word, same_cut}
 
 abbrev AreLow : List ℕ → Type 0

@@ -1,14 +1,11 @@
 -- Numbers and the digits that write them.
 use Rattle.std.proofs.Common.{◌≡◌, ℕ, ◌+◌, ◌-◌, ◌*◌, ◌^◌, ◌<◌, ◌≤◌, true, not, ◌&&◌, ◌||◌, ◌==◌, nat_le, eq-eqb, eqb-true, List, length, get_or, slice_index, inl, inr, sym, ap, rules, arith}
-use Rattle.std.specs.Char.{is_ascii_digit}
-use Rattle.std.specs.Fmt.{decimal}
-use Rattle.std.specs.List.{fold, list_all}
 use Rattle.std.proofs.lemmas.Bool.{and_parts, and_from, or_cases, or_left, or_right, false_from_ne_true, not_from_false, not-true, both_ways, cases_eq}
 use Rattle.std.proofs.lemmas.Fmt.{decimal_nonempty, decimal_digit, length-decimal-le, first_decimal, digits_decimal, digits_value-decimal, decimal-digits_value}
 use Rattle.std.proofs.lemmas.Str.Parse.{IsNumeralModel, numerals_by_fold}
+use Rattle.std.specs.{Char.{is_ascii_digit}, Fmt.{decimal}, List.{fold, list_all}}
 use Rattle.deb_version.specs.Order.{number}
-use Rattle.kernel_text.specs.Numbers.{is_numeral}
-use Rattle.kernel_text.specs.Reading.{number_limit}
+use Rattle.kernel_text.specs.{Numbers.{is_numeral}, Reading.{number_limit}}
 
 own : IsNumeralModel (λ ds. list_all is_ascii_digit ds ≡ true) number
 own = numerals_by_fold _ (search rules) (λ n ds. fold (λ n c. 10 * n + (c - 48)) n ds) (search rules)

@@ -1,24 +1,16 @@
 -- A text of a kernel has no fault, and a text has one fault at most.
 use Rattle.std.proofs.Common.{◌≡◌, ℕ, zero, suc, ◌+◌, ◌<◌, ◌≤◌, List, [], ◌∷◌, length, take, get_or, inl, inr, ◌⊎◌, refl, sym, ap, ◌∙◌, subst, arith}
 use Rattle.std.proofs.lemmas.Bool.{cases_lt}
-use Rattle.row_book.specs.Repository.{Repository}
+use Rattle.row_book.specs.{Repository.{Repository}, declared.pair.Pair.{Pair}}
 use Rattle.listed.specs.Lists.{here}
-use Rattle.row_book.specs.declared.pair.Pair.{Pair}
 use Rattle.listed.proofs.Lists.{In_append_left, In_append_right}
-use Rattle.kernel_text.specs.declared.fault.KernelFault.{KernelFault}
-use Rattle.kernel_text.specs.declared.fault.KernelFault.TheVariants.{Line, End, Range, Memory}
-use Rattle.kernel_text.specs.declared.member.Member.{Member}
-use Rattle.kernel_text.specs.KernelFaults.{IsFault, IsLineFault, Names, Strays, line_at}
+use Rattle.kernel_text.specs.{declared.fault.KernelFault.{KernelFault}, declared.fault.KernelFault.TheVariants.{Line, End, Range, Memory}}
+use Rattle.kernel_text.specs.{declared.member.Member.{Member}, KernelFaults.{IsFault, IsLineFault, Names, Strays, line_at}}
 use Rattle.kernel_text.specs.KernelLines.{KernelLine, HeadLine, ClassLine, MemberLine, HeldLine, NeedsLine, AgainstLine, EndLine, lines_of, line_text}
 use Rattle.kernel_text.specs.KernelReads.{IsEnded, IsInRange, KernelReads, LinesGive}
-use Rattle.kernel_text.specs.Reading.{ClassClause, IsAllowed, Reading, empty_reading, this_class, with_line}
-use Rattle.kernel_text.specs.Laws.{IsFaultOf, IsJudged}
-use Rattle.kernel_text.proofs.Added.{formed_fits}
-use Rattle.kernel_text.proofs.InRange.{AreBelow}
-use Rattle.kernel_text.proofs.Judged.{Judgement, a_fault, a_kernel, judgement}
-use Rattle.kernel_text.proofs.OneReading.{same_reading}
-use Rattle.kernel_text.proofs.Spelling.{allowed_fits, same_fit, same_line}
-use Rattle.kernel_text.proofs.StrayLines.{names_formed}
+use Rattle.kernel_text.specs.{Reading.{ClassClause, IsAllowed, Reading, empty_reading, this_class, with_line}, Laws.{IsFaultOf, IsJudged}}
+use Rattle.kernel_text.proofs.{Added.{formed_fits}, InRange.{AreBelow}, Judged.{Judgement, a_fault, a_kernel, judgement}, OneReading.{same_reading}}
+use Rattle.kernel_text.proofs.{Spelling.{allowed_fits, same_fit, same_line}, StrayLines.{names_formed}}
 
 -- what is given at a place is allowed behind what is given before it
 record IsGivenAt (line : List ℕ) (v : Reading) : Type 0 where

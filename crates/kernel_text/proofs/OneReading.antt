@@ -1,7 +1,6 @@
 -- A text has one reading at most.
 use Rattle.std.proofs.Common.{◌≡◌, ℕ, List, [], ◌∷◌, sym, ap, ◌∙◌, subst}
-use Rattle.kernel_text.specs.KernelLines.{lines_of}
-use Rattle.kernel_text.specs.KernelReads.{LinesGive, HasOneReading, repository_of_reading}
+use Rattle.kernel_text.specs.{KernelLines.{lines_of}, KernelReads.{LinesGive, HasOneReading, repository_of_reading}}
 use Rattle.kernel_text.specs.Reading.{Reading, empty_reading, with_line}
 use Rattle.kernel_text.proofs.Spelling.{same_line}
 

@@ -1,15 +1,12 @@
 -- The lines of a kernel are allowed, one behind the other, and what they tell.
 use Rattle.std.proofs.Common.{◌≡◌, ℕ, zero, suc, ◌+◌, ◌-◌, ◌<◌, Bool, true, false, List, [], ◌∷◌, ◌++◌, Option, Some, length, map, inl, inr, refl, sym, ap, ◌∙◌, subst, append_assoc, add-one, arith}
-use Rattle.std.specs.List.{flat_map}
 use Rattle.std.proofs.lemmas.List.{append-nil}
+use Rattle.std.specs.List.{flat_map}
 use Rattle.listed.specs.Lists.{Ascending, In, has, here, there}
 use Rattle.clause_pool.specs.Lists.{InOrder}
-use Rattle.row_book.specs.Numbers.{numbers}
-use Rattle.row_book.specs.Repository.{Repository, clauses_of}
-use Rattle.row_book.specs.declared.pair.Pair.{Pair}
+use Rattle.row_book.specs.{Numbers.{numbers}, Repository.{Repository, clauses_of}, declared.pair.Pair.{Pair}}
 use Rattle.listed.proofs.Lists.{In_cases, In_append_right}
-use Rattle.kernel_text.specs.declared.member.Member.{Member}
-use Rattle.kernel_text.specs.KernelLines.{KernelLine, ClassLine, MemberLine, HeldLine, NeedsLine, AgainstLine}
+use Rattle.kernel_text.specs.{declared.member.Member.{Member}, KernelLines.{KernelLine, ClassLine, MemberLine, HeldLine, NeedsLine, AgainstLine}}
 use Rattle.kernel_text.specs.KernelText.{AreSingle, class_lines, greater_conflicts, held_lines, line_of_member, members_of}
 use Rattle.kernel_text.specs.Reading.{Reading, ClassClause, with_line, number_limit, is_same_member, IsNamed, IsClauseOf, MayBegin, MayAddMember, MayAddClause, MayAddConflict, MayAddHeld}
 use Rattle.kernel_text.proofs.LineCuts.{with_lines, AreAllowed}

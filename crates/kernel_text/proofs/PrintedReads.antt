@@ -2,15 +2,11 @@
 use Rattle.std.proofs.Common.{◌≡◌, ℕ, ◌<◌, Bool, List, [], ◌∷◌, Some, length, filter, inl, inr, refl, sym, ap, ap₂, ◌∙◌, subst, zero-add, eqb, eqb-true, ltb, true, false, arith}
 use Rattle.std.proofs.lemmas.Bool.{ltb-true}
 use Rattle.std.specs.List.{flat_map}
-use Rattle.listed.proofs.Lists.{In_flat_cases, In_has, has_In, In_map_cases, In_none, filter_cases, filter_from}
-use Rattle.row_book.specs.Numbers.{numbers}
-use Rattle.row_book.specs.Repository.{Repository, clauses_of, conflicts_of}
+use Rattle.listed.proofs.{Lists.{In_flat_cases, In_has, has_In, In_map_cases, In_none, filter_cases, filter_from}, Orders.{ascending_filter, ascending_same}}
+use Rattle.row_book.specs.{Numbers.{numbers}, Repository.{Repository, clauses_of, conflicts_of}}
 use Rattle.listed.specs.Lists.{In, has}
-use Rattle.row_book.proofs.Books.{in_listed}
-use Rattle.listed.proofs.Orders.{ascending_filter, ascending_same}
-use Rattle.row_book.proofs.Numbers.{numbers_ascending, numbers_from}
-use Rattle.kernel_text.specs.declared.member.Member.{Member}
-use Rattle.kernel_text.specs.KernelLines.{KernelLine, HeadLine, EndLine, lines_of, line_text}
+use Rattle.row_book.proofs.{Books.{in_listed}, Numbers.{numbers_ascending, numbers_from}}
+use Rattle.kernel_text.specs.{declared.member.Member.{Member}, KernelLines.{KernelLine, HeadLine, EndLine, lines_of, line_text}}
 use Rattle.kernel_text.specs.KernelReads.{KernelReads, LinesGive, repository_of_reading}
 use Rattle.kernel_text.specs.KernelText.{AreSingle, IsWritable, class_lines, kernel_lines, kernel_text}
 use Rattle.kernel_text.specs.Reading.{Reading, ClassClause, empty_reading, number_limit}

@@ -1,28 +1,20 @@
 -- The text of an index's kernel is read as that kernel, and goals name in it the classes of the packages that they name in the
 -- index.
 use Rattle.std.proofs.Common.{◌≡◌, ℕ, zero, suc, ◌+◌, ◌<◌, ◌≤◌, Bool, true, false, not, ◌&&◌, eqb, eq-eqb, eqb-true, List, [], ◌∷◌, length, get_or, inl, inr, refl, sym, ap, ◌∙◌, arith}
-use Rattle.std.specs.List.{list_any}
 use Rattle.std.proofs.lemmas.Bool.{and_from, and_parts, both_ways, false_from_ne_true}
-use Rattle.listed.proofs.Bools.{same_bool}
-use Rattle.listed.proofs.Lists.{In_flat, In_cases, In_none, any_cases, any_from, filter_cases, filter_from, filter_same}
+use Rattle.std.specs.List.{list_any}
+use Rattle.listed.proofs.{Bools.{same_bool}, Lists.{In_flat, In_cases, In_none, any_cases, any_from, filter_cases, filter_from, filter_same}}
 use Rattle.relation_fields.specs.declared.packages.PackageFacts.{PackageFacts}
-use Rattle.repo_model.specs.declared.goals.Goal.{Goal}
-use Rattle.repo_model.specs.Goals.{packages_named}
+use Rattle.repo_model.specs.{declared.goals.Goal.{Goal}, Goals.{packages_named}}
 use Rattle.repo_model.specs.Goals as index
-use Rattle.repo_model.specs.Repository.{packages_of}
-use Rattle.repo_model.specs.Stanzas.{stanza_at}
+use Rattle.repo_model.specs.{Repository.{packages_of}, Stanzas.{stanza_at}}
 use Rattle.repo_model.proofs.Elements.{at_place, range_cases, range_from}
-use Rattle.row_book.specs.Numbers.{numbers}
-use Rattle.row_book.specs.Repository.{Repository}
+use Rattle.row_book.specs.{Numbers.{numbers}, Repository.{Repository}}
 use Rattle.listed.specs.Lists.{In, here, there}
 use Rattle.row_book.proofs.Numbers.{numbers_from}
-use Rattle.kernel_text.specs.declared.member.Member.{Member}
-use Rattle.kernel_text.specs.Images.{image_of, is_named_by, is_unknown, names_in_class}
-use Rattle.kernel_text.specs.KernelText.{kernel_text, members_of}
-use Rattle.kernel_text.specs.Laws.{IsKernelOf, IsReadBack, classes_named}
-use Rattle.kernel_text.specs.Members.{file_members, kernel_members, member_in}
-use Rattle.kernel_text.proofs.Classified.{kernels_are_writable, member_from}
-use Rattle.kernel_text.proofs.ReadIsWritten.{read_is_written}
+use Rattle.kernel_text.specs.{declared.member.Member.{Member}, Images.{image_of, is_named_by, is_unknown, names_in_class}, KernelText.{kernel_text, members_of}}
+use Rattle.kernel_text.specs.{Laws.{IsKernelOf, IsReadBack, classes_named}, Members.{file_members, kernel_members, member_in}}
+use Rattle.kernel_text.proofs.{Classified.{kernels_are_writable, member_from}, ReadIsWritten.{read_is_written}}
 
 -- the member at a place of the file
 record IsFileMember (packages : List PackageFacts) (class_of : List ℕ) (m : Member) : Type 0 where

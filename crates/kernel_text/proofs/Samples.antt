@@ -1,11 +1,8 @@
 -- Texts of small kernels, computed.
 use Rattle.std.proofs.Common.{◌≡◌, List, [], ◌∷◌, ◌++◌, codes, refl}
 use Rattle.std.specs.Fmt.{digits}
-use Rattle.row_book.specs.Numbers.{numbers}
-use Rattle.row_book.specs.Repository.{Repository}
-use Rattle.kernel_text.specs.declared.member.Member.{Member}
-use Rattle.kernel_text.specs.KernelLines.{line_text, lines_of}
-use Rattle.kernel_text.specs.KernelText.{class_lines, kernel_lines, kernel_text}
+use Rattle.row_book.specs.{Numbers.{numbers}, Repository.{Repository}}
+use Rattle.kernel_text.specs.{declared.member.Member.{Member}, KernelLines.{line_text, lines_of}, KernelText.{class_lines, kernel_lines, kernel_text}}
 
 empty : Repository
 empty = record { clauses = []; conflicts = [] }

@@ -1,20 +1,14 @@
 -- Which sets of classes of a kernel serve goals, and which goals are known.
 use Rattle.std.proofs.Common.{◌≡◌, ℕ, ◌+◌, ◌<◌, ◌≤◌, Bool, true, false, ◌&&◌, eqb, eqb-true, eq-eqb, List, [], ◌∷◌, length, Some, None, inl, inr, refl, sym, subst, arith, map}
-use Rattle.std.specs.List.{list_any, position_from}
 use Rattle.std.proofs.lemmas.Bool.{and_from, and_parts, both_ways, cases_Bool}
+use Rattle.std.specs.List.{list_any, position_from}
 use Rattle.listed.proofs.Lists.{In_flat_cases, In_cases, In_map, In_map_cases, In_none, any_cases, any_from, filter_cases, filter_from}
-use Rattle.kernel_text.specs.declared.member.Member.{Member}
-use Rattle.kernel_text.specs.Images.{image_of, is_named_by, is_unknown, names_in_class, unknown_goal}
-use Rattle.kernel_text.specs.KernelReads.{KernelContent}
-use Rattle.kernel_text.specs.KernelText.{IsWritable, members_of}
+use Rattle.kernel_text.specs.{declared.member.Member.{Member}, Images.{image_of, is_named_by, is_unknown, names_in_class, unknown_goal}}
+use Rattle.kernel_text.specs.{KernelReads.{KernelContent}, KernelText.{IsWritable, members_of}, Serving.{HasClassFor, ImagesServe, ServesStored, images_in}}
 use Rattle.repo_model.specs.declared.goals.Goal.{Goal}
-use Rattle.row_book.specs.Numbers.{numbers}
-use Rattle.row_book.specs.Repository.{Healthy}
-use Rattle.row_book.specs.Sets.{Hit, HitsAll, Is, NumSet}
+use Rattle.row_book.specs.{Numbers.{numbers}, Repository.{Healthy}, Sets.{Hit, HitsAll, Is, NumSet}, Needs.{NeedsFit}}
 use Rattle.listed.specs.Lists.{In}
 use Rattle.row_book.proofs.Numbers.{numbers_from, numbers_parts}
-use Rattle.kernel_text.specs.Serving.{HasClassFor, ImagesServe, ServesStored, images_in}
-use Rattle.row_book.specs.Needs.{NeedsFit}
 
 -- where no goal is unknown, each names a package
 named_one : (members : List Member) (goal : Goal) → is_unknown members goal ≡ false → (m : Member) × In m members × (is_named_by goal m ≡ true)

@@ -1,12 +1,8 @@
 -- What a line says is told by its bytes.
 use Rattle.std.proofs.Common.{◌≡◌, ◌≢◌, ℕ, ◌+◌, ◌*◌, ◌^◌, ◌<◌, true, List, [], ◌∷◌, ◌++◌, ◌⊎◌, inl, inr, refl, sym, ap, ap₂, ◌∙◌, subst, append_assoc, codes, arith}
-use Rattle.std.specs.Fmt.{decimal}
-use Rattle.std.specs.List.{flat_map, list_all}
-use Rattle.std.specs.Str.Parse.{AllDigits}
-use Rattle.std.proofs.lemmas.Bool.{and_parts, false≢true}
-use Rattle.std.proofs.lemmas.Fmt.{decimal_is_IsNumeral, decimal_injective}
-use Rattle.std.proofs.lemmas.List.{append_cancel_left, append_cancel_right}
-use Rattle.std.proofs.lemmas.Str.Parse.{digit_from_value}
+use Rattle.std.proofs.{lemmas.Bool.{and_parts, false≢true}, lemmas.Fmt.{decimal_is_IsNumeral, decimal_injective}}
+use Rattle.std.proofs.{lemmas.List.{append_cancel_left, append_cancel_right}, lemmas.Str.Parse.{digit_from_value}}
+use Rattle.std.specs.{Fmt.{decimal}, List.{flat_map, list_all}, Str.Parse.{AllDigits}}
 use Rattle.deb_version.specs.Names.{is_name, is_name_byte, has_first}
 use Rattle.listed.specs.Lists.{In, here, there}
 use Rattle.kernel_text.specs.KernelLines.{KernelLine, HeadLine, ClassLine, MemberLine, HeldLine, NeedsLine, AgainstLine, EndLine, line_text, behind_space}

@@ -1,11 +1,7 @@
 -- The steps of the loop over the lines.
 use Rattle.std.proofs.Common.{◌≡◌, ℕ, zero, suc, ◌+◌, ◌-◌, ◌<◌, ◌≤◌, true, false, List, [], ◌∷◌, ◌++◌, length, take, drop, get_or, refl, sym, ap, ◌∙◌, subst, add-one, arith}
-use Rattle.kernel_text.specs.declared.reader.Reader.{Reader}
-use Rattle.kernel_text.specs.KernelFaults.{IsLineFault}
-use Rattle.kernel_text.specs.KernelLines.{lines_of}
-use Rattle.kernel_text.specs.KernelReads.{LinesGive}
-use Rattle.kernel_text.specs.Reader.{Adds, Holds, HoldsAll, HoldsUpTo}
-use Rattle.kernel_text.specs.Reading.{Reading, empty_reading, with_line}
+use Rattle.kernel_text.specs.{declared.reader.Reader.{Reader}, KernelFaults.{IsLineFault}, KernelLines.{lines_of}, KernelReads.{LinesGive}}
+use Rattle.kernel_text.specs.{Reader.{Adds, Holds, HoldsAll, HoldsUpTo}, Reading.{Reading, empty_reading, with_line}}
 
 give_append : (t : Reading) (xs ys : List (List ℕ)) (u v : Reading) → LinesGive t xs u → LinesGive u ys v → LinesGive t (xs ++ ys) v
 give_append t [] ys u v p q = subst (λ s. LinesGive s ys v) (sym p) q

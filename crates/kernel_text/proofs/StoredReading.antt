@@ -1,14 +1,9 @@
 -- What a text is read as.
 use Rattle.std.proofs.Common.{◌∙◌, ◌≡◌, ℕ, List, Result, Ok, Err, ap, ap₂, sym, subst}
 use Rattle.row_book.specs.Repository.{Repository}
-use Rattle.kernel_text.specs.declared.fault.KernelFault.{KernelFault}
-use Rattle.kernel_text.specs.declared.member.Member.{Member}
-use Rattle.kernel_text.specs.KernelReads.{KernelContent, KernelReads, content}
-use Rattle.kernel_text.specs.Laws.{IsFaultOf}
-use Rattle.kernel_text.proofs.Judged.{Judgement, a_fault, a_kernel}
-use Rattle.kernel_text.proofs.OneFault.{kernel_excludes, one_fault}
-use Rattle.kernel_text.proofs.OneReading.{one_reading}
-use Rattle.kernel_text.specs.StoredReading.{ReadingIs}
+use Rattle.kernel_text.specs.{declared.fault.KernelFault.{KernelFault}, declared.member.Member.{Member}, KernelReads.{KernelContent, KernelReads, content}}
+use Rattle.kernel_text.specs.{Laws.{IsFaultOf}, StoredReading.{ReadingIs}}
+use Rattle.kernel_text.proofs.{Judged.{Judgement, a_fault, a_kernel}, OneFault.{kernel_excludes, one_fault}, OneReading.{one_reading}}
 use Rattle.kernel_text.proofs.ForwardReading.{judged_forward, told_by}
 
 -- the content of a reading, or else the other

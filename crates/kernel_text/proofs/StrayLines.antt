@@ -1,19 +1,13 @@
 -- Lines with numbers that are not of classes.
 use Rattle.std.proofs.Common.{◌≡◌, ℕ, zero, suc, ◌+◌, ◌-◌, ◌<◌, ◌≤◌, Bool, true, false, List, [], ◌∷◌, length, take, drop, inl, inr, refl, sym, ap, ◌∙◌, subst, add-one, arith, ◌↔◌}
-use Rattle.std.specs.Prelude.{nat_lt, IsTrue, Some, None}
-use Rattle.std.specs.List.{list_all}
 use Rattle.std.proofs.lemmas.Bool.{cases_eq, cases_lt, false≢true, le-leb, leb-true, ltb-true, lt-ltb, not-true, not_from_false}
+use Rattle.std.specs.{Prelude.{nat_lt, IsTrue, Some, None}, List.{list_all}}
 use Rattle.listed.specs.Lists.{In, here, there}
 use Rattle.listed.proofs.Lists.{all_at}
-use Rattle.kernel_text.specs.declared.content.LineContent.{LineContent}
-use Rattle.kernel_text.specs.KernelFaults.{Names, Strays, line_at}
+use Rattle.kernel_text.specs.{declared.content.LineContent.{LineContent}, KernelFaults.{Names, Strays, line_at}}
 use Rattle.kernel_text.specs.KernelLines.{KernelLine, HeadLine, ClassLine, MemberLine, HeldLine, NeedsLine, AgainstLine, EndLine, line_text, lines_of}
-use Rattle.kernel_text.specs.Reading.{number_limit}
-use Rattle.kernel_text.specs.Strays.{NoStrayBefore, NoneStrayedUpTo, strays_by}
-use Rattle.kernel_text.specs.Words.{IsWellFormed, LineIsRead, line_of_content}
-use Rattle.kernel_text.proofs.Added.{formed_fits}
-use Rattle.kernel_text.proofs.Spelling.{same_fit}
-use Rattle.kernel_text.proofs.Steps.{IsAt, is_at}
+use Rattle.kernel_text.specs.{Reading.{number_limit}, Strays.{NoStrayBefore, NoneStrayedUpTo, strays_by}, Words.{IsWellFormed, LineIsRead, line_of_content}}
+use Rattle.kernel_text.proofs.{Added.{formed_fits}, Spelling.{same_fit}, Steps.{IsAt, is_at}}
 
 -- a number that is not below the limit
 some_far : (xs : List ℕ) (k : ℕ) → list_all (λ n. nat_lt n k) xs ≡ false → (n : ℕ) × In n xs × (k ≤ n)

@@ -1,21 +1,15 @@
 -- A kernel that is read is one that the format can write.
 use Rattle.std.proofs.Common.{◌≡◌, ℕ, zero, suc, ◌+◌, ◌<◌, ◌≤◌, false, List, [], ◌∷◌, ◌++◌, length, filter, eqb, get_or, inl, inr, sym, ap, ◌∙◌, subst, zero-add, arith}
+use Rattle.std.proofs.{lemmas.Bool.{cases_lt}, lemmas.List.{get_or_past}}
 use Rattle.std.specs.List.{flat_map}
-use Rattle.std.proofs.lemmas.Bool.{cases_lt}
-use Rattle.std.proofs.lemmas.List.{get_or_past}
 use Rattle.clause_pool.specs.Lists.{InOrder}
-use Rattle.row_book.specs.Numbers.{numbers}
-use Rattle.row_book.specs.Repository.{Repository, clauses_of}
+use Rattle.row_book.specs.{Numbers.{numbers}, Repository.{Repository, clauses_of}, Sound.{SoundClauses}}
 use Rattle.listed.specs.Lists.{In, here, there}
-use Rattle.row_book.specs.Sound.{SoundClauses}
-use Rattle.row_book.proofs.Books.{in_listed}
+use Rattle.row_book.proofs.{Books.{in_listed}, Numbers.{at_numbers}, Pairs.{length_pairs, pairs_conflict}}
 use Rattle.listed.proofs.Lists.{In_none, In_cases, In_append_cases, In_map_cases, filter_cases}
-use Rattle.row_book.proofs.Numbers.{at_numbers}
-use Rattle.row_book.proofs.Pairs.{length_pairs, pairs_conflict}
 use Rattle.kernel_text.specs.declared.member.Member.{Member}
 use Rattle.kernel_text.specs.KernelLines.{KernelLine, HeadLine, ClassLine, MemberLine, HeldLine, NeedsLine, AgainstLine, EndLine}
-use Rattle.kernel_text.specs.KernelReads.{IsInRange, clauses_of_class, repository_of_reading}
-use Rattle.kernel_text.specs.KernelText.{AreSingle, IsWritable, members_of}
+use Rattle.kernel_text.specs.{KernelReads.{IsInRange, clauses_of_class, repository_of_reading}, KernelText.{AreSingle, IsWritable, members_of}}
 use Rattle.kernel_text.specs.Reading.{Reading, ClassClause, IsAllowed, IsClauseOf, IsFormat, IsNamed, IsNew, is_same_member, member_of_line, number_limit, with_line}
 use Rattle.kernel_text.proofs.LineCuts.{AreAllowed, with_lines}
 use Rattle.kernel_text.proofs.Blocks.{R_read, by_blocks, clause_entries_in, clauses_are, fit_at, held_ascending, held_bounds, held_in, keyed_members, members_in, none_held, picked, reading_of_blocks, rising, size_is}

@@ -1,24 +1,16 @@
 -- What the writer puts together: the packages of each class, the blocks of classes, and the whole text.
 use Rattle.std.proofs.Common.{◌≡◌, ℕ, zero, suc, ◌+◌, ◌<◌, ◌≤◌, Bool, true, false, eqb, ltb, List, [], ◌∷◌, ◌++◌, length, take, drop, map, filter, get_or, set, inl, inr, refl, sym, ap, ap₂, ◌∙◌, subst, zero-add, eq-eqb, append_assoc, arith}
-use Rattle.std.specs.List.{flat_map}
-use Rattle.std.proofs.Math.ListN.{length-set}
-use Rattle.std.proofs.Math.Seq.{drop-cons}
-use Rattle.std.proofs.lemmas.Bool.{cases_eq, cases_lt}
-use Rattle.std.proofs.lemmas.Grind.{flat_map-append}
-use Rattle.std.proofs.lemmas.List.{append-nil, flat_map_more, get_or_past, get_or-set_same, get_or-set_other, take_more}
-use Rattle.std.proofs.lemmas.List.Elements.{filter-append}
+use Rattle.std.proofs.{Math.ListN.{length-set}, Math.Seq.{drop-cons}, lemmas.Bool.{cases_eq, cases_lt}, lemmas.Grind.{flat_map-append}}
+use Rattle.std.proofs.{lemmas.List.{append-nil, flat_map_more, get_or_past, get_or-set_same, get_or-set_other, take_more}, lemmas.List.Elements.{filter-append}}
 use Rattle.std.proofs.lemmas.List.Folds.{flat_map-map}
+use Rattle.std.specs.List.{flat_map}
 use Rattle.listed.proofs.Lists.{flat_same, In_none, filter_cases}
 use Rattle.relation_fields.specs.declared.packages.PackageFacts.{PackageFacts}
 use Rattle.repo_model.specs.Stanzas.{stanza_at, no_stanza}
-use Rattle.row_book.specs.Book.{listed_for}
-use Rattle.row_book.specs.Numbers.{numbers}
-use Rattle.row_book.specs.Flags.{flag}
-use Rattle.row_book.specs.Repository.{Repository, clauses_of, conflicts_of}
+use Rattle.row_book.specs.{Book.{listed_for}, Numbers.{numbers}, Flags.{flag}, Repository.{Repository, clauses_of, conflicts_of}}
 use Rattle.listed.specs.Lists.{In, has}
 use Rattle.row_book.proofs.Numbers.{numbers_parts, numbers_more}
-use Rattle.kernel_text.specs.declared.member.Member.{Member}
-use Rattle.kernel_text.specs.KernelLines.{KernelLine, HeadLine, ClassLine, NeedsLine, AgainstLine, EndLine, line_text}
+use Rattle.kernel_text.specs.{declared.member.Member.{Member}, KernelLines.{KernelLine, HeadLine, ClassLine, NeedsLine, AgainstLine, EndLine, line_text}}
 use Rattle.kernel_text.specs.KernelText.{class_lines, greater_conflicts, held_lines, kernel_lines, kernel_text, line_of_member, members_of}
 use Rattle.kernel_text.specs.Members.{file_members, kernel_members}
 use Rattle.kernel_text.specs.Writing.{IsByClass, OfPackages, TellHeld, block_text, line_of_package, lines_text, numbers_of_class}

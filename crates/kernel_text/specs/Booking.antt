@@ -1,12 +1,10 @@
 -- for the bodies of this crate alone
 -- What was read as a book over a pool.
 use Rattle.std.specs.Prelude.{◌≡◌, ℕ, ◌<◌, ◌≤◌, List, length, map}
-use Rattle.clause_pool.specs.Interned.{Interned, clauses_at, ids_at, row_at, OfPool}
+use Rattle.clause_pool.specs.{Interned.{Interned, clauses_at, ids_at, row_at, OfPool}, Lists.{InOrder}}
 use Rattle.row_book.specs.Book.{PairsFit, listed_for}
 use Rattle.listed.specs.Lists.{Ascending, In}
-use Rattle.clause_pool.specs.Lists.{InOrder}
-use Rattle.kernel_text.specs.KernelReads.{clauses_of_class}
-use Rattle.kernel_text.specs.Reading.{Reading, ClassClause, number_limit}
+use Rattle.kernel_text.specs.{KernelReads.{clauses_of_class}, Reading.{Reading, ClassClause, number_limit}}
 
 -- each clause is one of a class, strictly ascending, in the order of clauses, and has classes alone; and so do the conflicts
 pub record IsBookable (t : Reading) : Type 0 where

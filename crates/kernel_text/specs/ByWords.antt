@@ -1,6 +1,5 @@
 -- The lines that the words of a text may be of.
-use Rattle.std.specs.Prelude.{ℕ, ◌==◌, ◌||◌, Bool, List, [], ◌∷◌, drop, get_or, map, if◌then◌else◌}
-use Rattle.std.specs.List.{onto_first}
+use Rattle.std.specs.{Prelude.{ℕ, ◌==◌, ◌||◌, Bool, List, [], ◌∷◌, drop, get_or, map, if◌then◌else◌}, List.{onto_first}}
 use Rattle.deb_version.specs.Order.{number}
 use Rattle.kernel_text.specs.KernelLines.{KernelLine, HeadLine, ClassLine, MemberLine, HeldLine, NeedsLine, AgainstLine, EndLine}
 

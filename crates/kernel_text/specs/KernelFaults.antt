@@ -1,10 +1,8 @@
 -- The first fault of a text that is not read as a kernel.
 use Rattle.std.specs.Prelude.{◌≡◌, ℕ, ◌+◌, ◌<◌, ◌≤◌, List, [], length, take, slice_index_or}
 use Rattle.listed.specs.Lists.{In}
-use Rattle.kernel_text.specs.declared.fault.KernelFault.{KernelFault}
-use Rattle.kernel_text.specs.declared.fault.KernelFault.TheVariants.{Line, End, Range, Memory}
-use Rattle.kernel_text.specs.KernelLines.{KernelLine, NeedsLine, AgainstLine, lines_of, line_text}
-use Rattle.kernel_text.specs.KernelReads.{LinesGive, IsEnded}
+use Rattle.kernel_text.specs.{declared.fault.KernelFault.{KernelFault}, declared.fault.KernelFault.TheVariants.{Line, End, Range, Memory}}
+use Rattle.kernel_text.specs.{KernelLines.{KernelLine, NeedsLine, AgainstLine, lines_of, line_text}, KernelReads.{LinesGive, IsEnded}}
 use Rattle.kernel_text.specs.Reading.{Reading, empty_reading, IsAllowed, number_limit}
 
 -- the line at a place, from 0

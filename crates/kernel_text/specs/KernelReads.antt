@@ -1,12 +1,8 @@
 -- What a kernel text is read as: the grammar of the formats.
 use Rattle.std.specs.Prelude.{◌≡◌, ℕ, ◌<◌, eqb, List, [], ◌∷◌, length, map, filter, Some}
-use Rattle.row_book.specs.Book.{lists_of_pairs}
-use Rattle.row_book.specs.Numbers.{numbers}
-use Rattle.row_book.specs.Repository.{Repository}
+use Rattle.row_book.specs.{Book.{lists_of_pairs}, Numbers.{numbers}, Repository.{Repository}, declared.pair.Pair.{Pair}}
 use Rattle.listed.specs.Lists.{In}
-use Rattle.row_book.specs.declared.pair.Pair.{Pair}
-use Rattle.kernel_text.specs.declared.member.Member.{Member}
-use Rattle.kernel_text.specs.KernelLines.{KernelLine, EndLine, lines_of, line_text}
+use Rattle.kernel_text.specs.{declared.member.Member.{Member}, KernelLines.{KernelLine, EndLine, lines_of, line_text}}
 use Rattle.kernel_text.specs.Reading.{Reading, ClassClause, empty_reading, with_line, IsAllowed}
 
 -- each line is the bytes of one that is allowed behind those before it, and with them all the reading t becomes u

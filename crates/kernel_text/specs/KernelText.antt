@@ -1,13 +1,10 @@
 -- The text of a kernel: the first line, with the number of the format; for each class, ascending, its class line, its
 -- members, that it is held where it is, its clauses and the conflicting classes with greater numbers; and the end line, with
 -- the numbers of classes and members.
-use Rattle.std.specs.Prelude.{◌≡◌, ℕ, ◌<◌, Bool, true, false, eqb, ltb, List, [], ◌∷◌, ◌++◌, length, map, filter}
-use Rattle.std.specs.List.{flat_map}
+use Rattle.std.specs.{Prelude.{◌≡◌, ℕ, ◌<◌, Bool, true, false, eqb, ltb, List, [], ◌∷◌, ◌++◌, length, map, filter}, List.{flat_map}}
 use Rattle.listed.specs.Lists.{Ascending, In, has}
 use Rattle.clause_pool.specs.Lists.{InOrder}
-use Rattle.row_book.specs.Numbers.{numbers}
-use Rattle.row_book.specs.Repository.{Repository, clauses_of, conflicts_of}
-use Rattle.row_book.specs.Sound.{SoundRepository}
+use Rattle.row_book.specs.{Numbers.{numbers}, Repository.{Repository, clauses_of, conflicts_of}, Sound.{SoundRepository}}
 use Rattle.kernel_text.specs.declared.member.Member.{Member}
 use Rattle.kernel_text.specs.KernelLines.{KernelLine, HeadLine, ClassLine, MemberLine, HeldLine, NeedsLine, AgainstLine, EndLine, line_text}
 use Rattle.kernel_text.specs.Reading.{number_limit, is_same_member, IsFormat, IsNamed}

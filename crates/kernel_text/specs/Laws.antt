@@ -1,26 +1,15 @@
 -- The laws of kernel texts.
-use Rattle.std.specs.Prelude.{◌≡◌, ℕ, ◌<◌, ◌↔◌, ◌⊎◌, Bool, eqb, List, filter, length, map, slice_index}
-use Rattle.std.specs.List.{list_any}
+use Rattle.std.specs.{Prelude.{◌≡◌, ℕ, ◌<◌, ◌↔◌, ◌⊎◌, Bool, eqb, List, filter, length, map, slice_index}, List.{list_any}}
 use Rattle.relation_fields.specs.declared.packages.PackageFacts.{PackageFacts}
 use Rattle.repo_model.proofs.Accepted.{Accepted}
-use Rattle.repo_model.specs.declared.goals.Goal.{Goal}
-use Rattle.repo_model.specs.Goals.{packages_named}
+use Rattle.repo_model.specs.{declared.goals.Goal.{Goal}, Goals.{packages_named}}
 use Rattle.clause_pool.specs.Lists.{InOrder}
 use Rattle.row_book.specs.Flattening.{packages as packages_in}
-use Rattle.row_book.specs.Numbers.{numbers}
-use Rattle.row_book.specs.Repository.{Repository, clauses_of}
-use Rattle.row_book.specs.Rounds.{kernel, kernel_class, kernel_held}
+use Rattle.row_book.specs.{Numbers.{numbers}, Repository.{Repository, clauses_of}, Rounds.{kernel, kernel_class, kernel_held}, Sound.{SoundRepository}}
 use Rattle.listed.specs.Lists.{In}
-use Rattle.row_book.specs.Sound.{SoundRepository}
-use Rattle.kernel_text.specs.declared.fault.KernelFault.{KernelFault}
-use Rattle.kernel_text.specs.declared.fault.KernelFault.TheVariants.{Memory}
-use Rattle.kernel_text.specs.declared.member.Member.{Member}
-use Rattle.kernel_text.specs.Images.{image_of, is_unknown}
-use Rattle.kernel_text.specs.KernelFaults.{IsFault}
-use Rattle.kernel_text.specs.KernelReads.{HasOneReading, KernelReads}
-use Rattle.kernel_text.specs.KernelText.{FitsFormat, IsWritable, format_of, kernel_text}
-use Rattle.kernel_text.specs.Members.{kernel_members}
-use Rattle.kernel_text.specs.Reading.{number_limit}
+use Rattle.kernel_text.specs.{declared.fault.KernelFault.{KernelFault}, declared.fault.KernelFault.TheVariants.{Memory}, declared.member.Member.{Member}}
+use Rattle.kernel_text.specs.{Images.{image_of, is_unknown}, KernelFaults.{IsFault}, KernelReads.{HasOneReading, KernelReads}}
+use Rattle.kernel_text.specs.{KernelText.{FitsFormat, IsWritable, format_of, kernel_text}, Members.{kernel_members}, Reading.{number_limit}}
 
 -- a text has one reading at most
 abbrev pub TextsAreReadOnce : Type 0

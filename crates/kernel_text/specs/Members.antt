@@ -1,12 +1,9 @@
 -- The members of a kernel's classes: the packages of an index, class by class.
-use Rattle.std.specs.Prelude.{ℕ, List, [], ◌∷◌}
-use Rattle.std.specs.List.{flat_map}
+use Rattle.std.specs.{Prelude.{ℕ, List, [], ◌∷◌}, List.{flat_map}}
 use Rattle.relation_fields.specs.declared.packages.PackageFacts.{PackageFacts}
 use Rattle.row_book.specs.Numbers.{numbers}
-use Rattle.package_register.specs.Registers.{IsRegisterOf, IsRegisterOf-prop}
-use Rattle.package_register.specs.declared.register.Register.{Register}
-use Rattle.kernel_text.specs.declared.member.Member.{Member}
-use Rattle.kernel_text.specs.KernelText.{members_of}
+use Rattle.package_register.specs.{Registers.{IsRegisterOf, IsRegisterOf-prop}, declared.register.Register.{Register}}
+use Rattle.kernel_text.specs.{declared.member.Member.{Member}, KernelText.{members_of}}
 
 -- a package as a member of a class
 abbrev pub member_in : ℕ → PackageFacts → Member

@@ -3,16 +3,13 @@
 use Rattle.std.specs.Prelude.{◌≡◌, ℕ, ◌≤◌, ◌-◌, Bool, true, false, nat_lt, List, [], ◌∷◌, ◌++◌, length, take, drop, map, slice_get, Option, Some, None}
 use Rattle.std.specs.Option.{option_map_or}
 use Rattle.clause_pool.specs.Clauses.{comes_before}
-use Rattle.kernel_text.specs.declared.reader.Clause.{Clause}
-use Rattle.kernel_text.specs.declared.reader.LastLine.{LastLine}
+use Rattle.kernel_text.specs.{declared.reader.Clause.{Clause}, declared.reader.LastLine.{LastLine}}
 use Rattle.kernel_text.specs.declared.reader.LastLine.TheVariants as last
 use Rattle.kernel_text.specs.declared.reader.Reader.{Reader}
 use Rattle.kernel_text.specs.KernelLines.{KernelLine, HeadLine, ClassLine, MemberLine, HeldLine, NeedsLine, AgainstLine, EndLine, lines_of, line_text}
-use Rattle.kernel_text.specs.KernelReads.{IsEnded, IsInRange, LinesGive}
-use Rattle.kernel_text.specs.Members.{IsMemberRegister}
-use Rattle.package_register.specs.declared.register.Register.{Register}
-use Rattle.kernel_text.specs.declared.member.Member.{Member}
+use Rattle.kernel_text.specs.{KernelReads.{IsEnded, IsInRange, LinesGive}, Members.{IsMemberRegister}, declared.member.Member.{Member}}
 use Rattle.kernel_text.specs.Reading.{Reading, ClassClause, empty_reading, with_line, IsAllowed, IsNew}
+use Rattle.package_register.specs.declared.register.Register.{Register}
 
 -- the kind of the last line, with what of it bears on the next one
 abbrev pub kind_of_last : Option KernelLine → LastLine

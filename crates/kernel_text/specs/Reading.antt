@@ -1,10 +1,7 @@
 -- What the lines of a kernel text say up to some place, and which line may stand next.
-use Rattle.std.specs.Prelude.{◌≡◌, ℕ, ◌+◌, ◌-◌, ◌^◌, ◌<◌, Bool, true, false, ◌&&◌, List, [], ◌∷◌, ◌++◌, ◌⊎◌, Option, Some, None}
-use Rattle.std.specs.Ordering.{is_eq}
+use Rattle.std.specs.{Prelude.{◌≡◌, ℕ, ◌+◌, ◌-◌, ◌^◌, ◌<◌, Bool, true, false, ◌&&◌, List, [], ◌∷◌, ◌++◌, ◌⊎◌, Option, Some, None}, Ordering.{is_eq}}
 use Rattle.std.specs.Str.{bytes_eq}
-use Rattle.deb_version.specs.Grammar.{is_version}
-use Rattle.deb_version.specs.Names.{is_name}
-use Rattle.deb_version.specs.Order.{version_order}
+use Rattle.deb_version.specs.{Grammar.{is_version}, Names.{is_name}, Order.{version_order}}
 use Rattle.listed.specs.Lists.{Ascending, In}
 use Rattle.clause_pool.specs.Lists.{Before}
 use Rattle.row_book.specs.declared.pair.Pair.{Pair}

@@ -1,20 +1,15 @@
 -- What a text is read as, as a function: its lines are taken one after another, each by its words, up to the first that is not allowed
 -- behind those before it. The law `texts_are_told` says that this is the kernel that the grammar reads, or else the grammar's fault.
 use Rattle.std.specs.Prelude.{◌≡◌, ◌↔◌, ◌==◌, ◌&&◌, ◌||◌, not, nat_lt, ℕ, ◌+◌, Bool, true, false, List, [], ◌∷◌, find, is_none, length, Option, Some, None, Result, Ok, Err, if◌then◌else◌}
-use Rattle.std.specs.List.{list_all, list_any, position}
-use Rattle.std.specs.Str.{bytes_eq}
-use Rattle.deb_version.specs.Grammar.{is_version}
-use Rattle.deb_version.specs.Names.{is_name}
+use Rattle.std.specs.{List.{list_all, list_any, position}, Str.{bytes_eq}}
+use Rattle.deb_version.specs.{Grammar.{is_version}, Names.{is_name}}
 use Rattle.clause_pool.specs.Clauses.{comes_before}
 use Rattle.row_book.specs.Repository.{Repository}
 use Rattle.listed.specs.Lists.{has}
-use Rattle.kernel_text.specs.declared.fault.KernelFault.{KernelFault}
-use Rattle.kernel_text.specs.declared.fault.KernelFault.TheVariants.{Line, End, Range}
-use Rattle.kernel_text.specs.declared.member.Member.{Member}
-use Rattle.kernel_text.specs.ByWords.{by_words, words_of}
+use Rattle.kernel_text.specs.{declared.fault.KernelFault.{KernelFault}, declared.fault.KernelFault.TheVariants.{Line, End, Range}}
+use Rattle.kernel_text.specs.{declared.member.Member.{Member}, ByWords.{by_words, words_of}}
 use Rattle.kernel_text.specs.KernelLines.{KernelLine, HeadLine, ClassLine, MemberLine, HeldLine, NeedsLine, AgainstLine, EndLine, line_text, lines_of}
-use Rattle.kernel_text.specs.KernelReads.{KernelContent, KernelReads, content, repository_of_reading}
-use Rattle.kernel_text.specs.Laws.{IsFaultOf}
+use Rattle.kernel_text.specs.{KernelReads.{KernelContent, KernelReads, content, repository_of_reading}, Laws.{IsFaultOf}}
 use Rattle.kernel_text.specs.Reading.{Reading, empty_reading, is_same_member, member_of_line, number_limit, this_class, with_line}
 
 -- behind which line a class line or the end line may stand, a member line, that the class is held, a clause, and a conflict

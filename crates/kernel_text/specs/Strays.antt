@@ -1,9 +1,7 @@
 -- for the bodies of this crate alone
 -- Lines with numbers that are not of classes, as a reader looks for them.
-use Rattle.std.specs.Prelude.{◌≡◌, ℕ, ◌<◌, ◌≤◌, Bool, false, not, nat_le, nat_lt, List, length, drop, Option, Some, None}
-use Rattle.std.specs.List.{list_all}
-use Rattle.kernel_text.specs.KernelFaults.{FirstStray, Strays, line_at}
-use Rattle.kernel_text.specs.KernelLines.{KernelLine, NeedsLine, AgainstLine, lines_of}
+use Rattle.std.specs.{Prelude.{◌≡◌, ℕ, ◌<◌, ◌≤◌, Bool, false, not, nat_le, nat_lt, List, length, drop, Option, Some, None}, List.{list_all}}
+use Rattle.kernel_text.specs.{KernelFaults.{FirstStray, Strays, line_at}, KernelLines.{KernelLine, NeedsLine, AgainstLine, lines_of}}
 
 -- whether what the line says has a number that is not one of so many classes
 abbrev pub strays_by : ℕ → KernelLine → Bool

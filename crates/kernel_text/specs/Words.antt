@@ -1,8 +1,6 @@
 -- for the bodies of this crate alone
 -- The words of a line: its first, and what stands behind the space that follows it.
-use Rattle.std.specs.Prelude.{◌≡◌, ℕ, ◌<◌, Bool, true, not, ◌==◌, List, [], ◌∷◌, ◌++◌, codes, Option, Some, None}
-use Rattle.std.specs.Fmt.{decimal}
-use Rattle.std.specs.List.{flat_map, list_all}
+use Rattle.std.specs.{Prelude.{◌≡◌, ℕ, ◌<◌, Bool, true, not, ◌==◌, List, [], ◌∷◌, ◌++◌, codes, Option, Some, None}, Fmt.{decimal}, List.{flat_map, list_all}}
 use Rattle.listed.specs.Lists.{In}
 use Rattle.kernel_text.specs.declared.content.LineContent.{LineContent}
 use Rattle.kernel_text.specs.declared.content.LineContent.TheVariants.{Head, Class, Member, Held, Needs, Against, End}

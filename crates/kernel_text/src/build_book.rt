@@ -1,14 +1,10 @@
 //! The book of the classes that were read.
 ghost use Rattle.std.specs.Prelude.{◌≡◌, ◌∷◌, ◌++◌, ◌<◌, ℕ, List, [], IfOk, OnOk, length, map, slice_set};
-ghost use Rattle.clause_pool.specs.Interned.{clauses_at, Kept, OfPool};
+ghost use Rattle.clause_pool.specs.{Interned.{clauses_at, Kept, OfPool}, Lists.{InOrder}};
 ghost use Rattle.row_book.specs.Book.{AddsOnly, listed_for, repository_of, Sound};
 ghost use Rattle.listed.specs.Lists.{Ascending, In};
-ghost use Rattle.clause_pool.specs.Lists.{InOrder};
-ghost use Rattle.kernel_text.specs.Booking.{AreRows, GainsClauses, GainsRows, HasIdsByClass, IsBookable};
-ghost use Rattle.kernel_text.specs.KernelReads.{repository_of_reading};
-ghost use Rattle.kernel_text.specs.Reader.{entry_of, Holds};
-ghost use Rattle.kernel_text.specs.Reading.{Reading};
-ghost use Rattle.kernel_text.specs.declared.reader.Clause.{Clause};
+ghost use Rattle.kernel_text.specs.{Booking.{AreRows, GainsClauses, GainsRows, HasIdsByClass, IsBookable}, KernelReads.{repository_of_reading}};
+ghost use Rattle.kernel_text.specs.{Reader.{entry_of, Holds}, Reading.{Reading}, declared.reader.Clause.{Clause}};
 
 use crate::reader::{Clause, Reader};
 use clause_pool::{ClauseId, Pool, RowId};

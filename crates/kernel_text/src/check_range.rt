@@ -1,8 +1,6 @@
 //! Whether all numbers of a text are of classes.
-ghost use Rattle.std.specs.Prelude.{◌≡◌, map, nat_lt};
-ghost use Rattle.std.specs.List.{list_all};
-ghost use Rattle.kernel_text.specs.Reader.{entry_of, RangeIsTold};
-ghost use Rattle.kernel_text.specs.Reading.{Reading};
+ghost use Rattle.std.specs.{Prelude.{◌≡◌, map, nat_lt}, List.{list_all}};
+ghost use Rattle.kernel_text.specs.{Reader.{entry_of, RangeIsTold}, Reading.{Reading}};
 
 use crate::reader::Clause;
 use row_book::Pair;

@@ -1,8 +1,6 @@
 //! The first line with a number that is not one of a class.
 ghost use Rattle.std.specs.Prelude.{◌≡◌, ◌≤◌, ◌↔◌, IsTrue, IfOk, length};
-ghost use Rattle.kernel_text.specs.KernelFaults.{Strays};
-ghost use Rattle.kernel_text.specs.Strays.{StrayIsTold, strays_by};
-ghost use Rattle.kernel_text.specs.Words.{line_of_content};
+ghost use Rattle.kernel_text.specs.{KernelFaults.{Strays}, Strays.{StrayIsTold, strays_by}, Words.{line_of_content}};
 ghost use Rattle.repo_model.specs.Limits.{most_bytes};
 
 use crate::check_range::is_below;

@@ -1,7 +1,6 @@
 //! The format of a kernel, and which of its classes are held, by flags.
 ghost use Rattle.std.specs.Prelude.{◌≡◌, true, false, IfOk, length, replicate, slice_set};
-ghost use Rattle.kernel_text.specs.KernelText.{format_of};
-ghost use Rattle.kernel_text.specs.Writing.{TellHeld};
+ghost use Rattle.kernel_text.specs.{KernelText.{format_of}, Writing.{TellHeld}};
 
 use std::alloc::{AllocError, Global};
 

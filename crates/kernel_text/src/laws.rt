@@ -1,8 +1,6 @@
 //! Laws over the definitions that the contracts of kernel texts cite; these functions do nothing.
 ghost use Rattle.kernel_text.specs.Laws.{KernelsAreWritable, ReadIsWritten, RoundsGiveKernels, TextsAreJudged, TextsAreReadOnce, WrittenIsReadBack};
-ghost use Rattle.kernel_text.specs.LineKinds.{LinesAreCounted};
-ghost use Rattle.kernel_text.specs.Serving.{ImagesServe};
-ghost use Rattle.kernel_text.specs.StoredReading.{TextsAreTold};
+ghost use Rattle.kernel_text.specs.{LineKinds.{LinesAreCounted}, Serving.{ImagesServe}, StoredReading.{TextsAreTold}};
 
 /// A text is read as one format, one repository, one list of members and one list of held classes at most.
 pub fn texts_are_read_once()

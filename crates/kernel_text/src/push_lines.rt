@@ -1,13 +1,10 @@
 //! The lines of a kernel text, put behind a text one by one.
-ghost use Rattle.std.specs.Prelude.{◌≡◌, ◌++◌, ◌<◌, ℕ, ltb, OnOk, filter, length};
-ghost use Rattle.std.specs.Fmt.{decimal};
-ghost use Rattle.std.specs.List.{flat_map};
+ghost use Rattle.std.specs.{Prelude.{◌≡◌, ◌++◌, ◌<◌, ℕ, ltb, OnOk, filter, length}, Fmt.{decimal}, List.{flat_map}};
 ghost use Rattle.clause_pool.specs.Interned.{clauses_at, OfPool};
 ghost use Rattle.listed.specs.Lists.{In};
 ghost use Rattle.repo_model.specs.Stanzas.{stanza_at};
 ghost use Rattle.kernel_text.specs.KernelLines.{AgainstLine, behind_space, ClassLine, EndLine, HeadLine, HeldLine, line_text, NeedsLine};
-ghost use Rattle.kernel_text.specs.KernelText.{held_lines};
-ghost use Rattle.kernel_text.specs.Writing.{line_of_package, lines_text};
+ghost use Rattle.kernel_text.specs.{KernelText.{held_lines}, Writing.{line_of_package, lines_text}};
 
 use clause_pool::{ClauseId, Pool};
 use itoa::Buffer;

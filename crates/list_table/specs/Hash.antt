@@ -1,7 +1,5 @@
 -- Hashes of lists.
-use Rattle.std.specs.Prelude.{ℕ, ◌*◌, ◌/◌, ◌%◌, ◌^◌, List, bit_xor}
-use Rattle.std.specs.List.{fold}
-use Rattle.std.specs.Hash.FoldHasher.{initial, write, finish}
+use Rattle.std.specs.{Prelude.{ℕ, ◌*◌, ◌/◌, ◌%◌, ◌^◌, List, bit_xor}, List.{fold}, Hash.FoldHasher.{initial, write, finish}}
 
 -- a hash and one number more
 unfoldable pub hash_with : ℕ → ℕ → ℕ

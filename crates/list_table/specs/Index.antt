@@ -1,8 +1,7 @@
 -- Indexes: vectors of places in which the number of an entry is found by a walk
 -- that begins at a place which its hash names.
-use Rattle.std.specs.Prelude.{◌≡◌, ℕ, ◌<◌, ◌≤◌, ◌+◌, ◌-◌, ◌*◌, ◌^◌, ◌⊎◌, List, length, slice_index_or, set, bit_and}
+use Rattle.std.specs.{Prelude.{◌≡◌, ℕ, ◌<◌, ◌≤◌, ◌+◌, ◌-◌, ◌*◌, ◌^◌, ◌⊎◌, List, length, slice_index_or, set, bit_and}, List.{sum_by}}
 use Rattle.std.proofs.Common.{zero, suc}
-use Rattle.std.specs.List.{sum_by}
 
 -- the place at which the walk of a hash begins, among so many
 unfoldable pub home : ℕ → ℕ → ℕ

@@ -3,8 +3,7 @@
 //! It is linear probing (Knuth, The Art of Computer Programming, vol. 3, 6.4). A list is hashed once, and the index grows by
 //! the hashes that it keeps. The hash is fixed, so lists that collide are slow and never wrong.
 ghost use Rattle.std.specs.Prelude.{◌≡◌, ℕ, ◌<◌, ◌+◌, ◌^◌, ◌∷◌, ◌++◌, ◌*◌, ◌≤◌, [], List, length, map, vec_len, IfOk, OnOk, OnErr, IfSome, IfNone};
-ghost use Rattle.list_table.specs.Index.{home, free, IsFirstFree, IsIndex, IsSize, IsTable, Puts};
-ghost use Rattle.list_table.specs.Lists.{StandsAt};
+ghost use Rattle.list_table.specs.{Index.{home, free, IsFirstFree, IsIndex, IsSize, IsTable, Puts}, Lists.{StandsAt}};
 
 use crate::item::Item;
 use crate::spans::Spans;

@@ -16,8 +16,7 @@ pub(crate) struct Spans<T> {
 }
 
 impl<T> Model for Spans<T> {
-    ghost use Rattle.std.specs.Prelude.{List, length};
-    ghost use Rattle.std.specs.Coded.{coded_list};
+    ghost use Rattle.std.specs.{Prelude.{List, length}, Coded.{coded_list}};
     ghost use Rattle.list_table.specs.Parts.{parts, SpansFit};
 
     ghost Value = { List (List T) };

@@ -19,8 +19,7 @@ pub struct ListTable<T: Item> {
 }
 
 impl<T: Item> Model for ListTable<T> {
-    ghost use Rattle.std.specs.Prelude.{List, map};
-    ghost use Rattle.std.specs.Coded.{coded_list};
+    ghost use Rattle.std.specs.{Prelude.{List, map}, Coded.{coded_list}};
     ghost use Rattle.list_table.specs.Index.{IsTable};
 
     ghost Value = { List (List T) };

@@ -1,11 +1,8 @@
 -- Elements of lists, what tests of all and of some of them say, and lists made of lists.
 use Rattle.std.proofs.Common.{◌≡◌, ℕ, zero, suc, ◌<◌, ◌≤◌, ◌-◌, Bool, true, false, eqb, cond, List, [], ◌∷◌, ◌++◌, ◌⊎◌, inl, inr, refl, sym, ◌∙◌, ap, subst, eq-eqb, eqb-true, arith, filter, map, ◌&&◌, ap₂, Some, None, length, get_or, take, drop, zero-le}
-use Rattle.std.specs.List.{flat_map, list_all, list_any, find, slice_get, position_or_len, Contains}
-use Rattle.std.specs.Prelude.{bytes_eq, nat_lt}
 use Rattle.std.proofs.lemmas.Bool.{or_cases, or_left, or_right, or_from, and_parts, and_from, both_ways, cases_Bool, false≢true, false_from_ne_true}
-use Rattle.std.proofs.lemmas.Grind.{common_steps}
-use Rattle.std.proofs.lemmas.List.{length-drop, take_all}
-use Rattle.std.proofs.lemmas.Slice.Eq.{bytes_eq-Decides}
+use Rattle.std.proofs.{lemmas.Grind.{common_steps}, lemmas.List.{length-drop, take_all}, lemmas.Slice.Eq.{bytes_eq-Decides}}
+use Rattle.std.specs.{List.{flat_map, list_all, list_any, find, slice_get, position_or_len, Contains}, Prelude.{bytes_eq, nat_lt}}
 use Rattle.listed.specs.Lists.{In, here, there, has}
 
 pub In_cases : {A : Type 0} {x y : A} {xs : List A} → In x (y ∷ xs) → (x ≡ y) ⊎ In x xs

@@ -1,13 +1,9 @@
 -- Ascending lists of numbers: their parts, how they are made, and searches in them.
 use Rattle.std.proofs.Common.{◌≡◌, ℕ, zero, suc, ◌<◌, ◌≤◌, ◌↔◌, Bool, true, false, eqb, cond, List, [], ◌∷◌, ◌++◌, inl, inr, refl, sym, ◌∙◌, ap, subst, arith, filter, length, get_or, drop}
-use Rattle.std.specs.Prelude.{Result, Ok, Err}
-use Rattle.std.specs.List.{dedup, AllPairs}
-use Rattle.std.specs.List.Sorted.{IsBinarySearchResult, IsNonDecreasing, IsPermutation, IsSorted}
-use Rattle.std.specs.Ordering.{nat_cmp}
-use Rattle.std.specs.Result.{is_ok}
 use Rattle.std.proofs.lemmas.List.Kept.{AllPairs-from_increasing, Contains-dedup_nat, Contains-from_dedup}
-use Rattle.std.proofs.lemmas.List.Sorted.{searched, Contains-permutation, IsPermutation-sym}
-use Rattle.std.proofs.lemmas.Map.Keys.{IsStrictlyIncreasing-dedup}
+use Rattle.std.proofs.{lemmas.List.Sorted.{searched, Contains-permutation, IsPermutation-sym}, lemmas.Map.Keys.{IsStrictlyIncreasing-dedup}}
+use Rattle.std.specs.{Prelude.{Result, Ok, Err}, List.{dedup, AllPairs}, List.Sorted.{IsBinarySearchResult, IsNonDecreasing, IsPermutation, IsSorted}}
+use Rattle.std.specs.{Ordering.{nat_cmp}, Result.{is_ok}}
 use Rattle.listed.specs.Lists.{In, here, there, has, Ascending, Inside}
 use Rattle.listed.proofs.Lists.{In_cases, In_none, In_at, In_place, In_has, has_not, In_append_cases, filter_cases, contains_in, in_contains}
 

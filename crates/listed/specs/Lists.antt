@@ -1,6 +1,5 @@
 -- Elements of lists, ascending lists of numbers, and which of them lie within others.
-use Rattle.std.specs.Prelude.{ℕ, ◌<◌, Bool, eqb, List, [], ◌∷◌}
-use Rattle.std.specs.List.{list_all, list_any}
+use Rattle.std.specs.{Prelude.{ℕ, ◌<◌, Bool, eqb, List, [], ◌∷◌}, List.{list_all, list_any}}
 
 -- one of the elements of a list
 pub data In {A : Type 0} : A → List A → Type 0 where

@@ -1,6 +1,5 @@
 //! Lists of numbers: which they hold, which lie within others, and how they are put in order.
-ghost use Rattle.std.specs.Prelude.{◌≡◌, ◌↔◌, ℕ};
-ghost use Rattle.std.specs.List.Sorted.{IsNonDecreasing};
+ghost use Rattle.std.specs.{Prelude.{◌≡◌, ◌↔◌, ℕ}, List.Sorted.{IsNonDecreasing}};
 ghost use Rattle.listed.specs.Lists.{has, is_inside, Ascending, In};
 
 /// A list so short that going over it is quicker than a binary search.

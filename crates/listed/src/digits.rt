@@ -1,7 +1,5 @@
 //! Decimal digits.
-ghost use Rattle.std.specs.Prelude.{◌≡◌};
-ghost use Rattle.std.specs.Char.{is_ascii_digit};
-ghost use Rattle.std.specs.List.{list_all};
+ghost use Rattle.std.specs.{Prelude.{◌≡◌}, Char.{is_ascii_digit}, List.{list_all}};
 
 /// Whether each byte of the text is a digit.
 pub fn has_digits_alone(text: &[u8]) -> bool

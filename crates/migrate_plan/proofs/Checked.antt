@@ -1,19 +1,13 @@
 -- The refusals of a plan, by what was read of the two indexes.
 use Rattle.std.proofs.Common.{◌≡◌, ℕ, ◌+◌, List, Option, None, length, ap, ap₂, ◌∙◌, subst}
 use Rattle.std.specs.Option.{option_or}
-use Rattle.relation_fields.specs.declared.packages.Home.{Home}
-use Rattle.relation_fields.specs.declared.packages.PackageFacts.{PackageFacts}
-use Rattle.repo_model.specs.Limits.{most_bytes, most_packages}
-use Rattle.repo_model.specs.declared.suite.Suite.{Suite}
+use Rattle.relation_fields.specs.{declared.packages.Home.{Home}, declared.packages.PackageFacts.{PackageFacts}}
+use Rattle.repo_model.specs.{Limits.{most_bytes, most_packages}, declared.suite.Suite.{Suite}}
 use Rattle.suite_compare.specs.Refusals.{home_in, packages_in}
-use Rattle.migrate_plan.specs.Differing.{differing}
-use Rattle.migrate_plan.specs.Notes.{AreTexts, Texts}
-use Rattle.migrate_plan.specs.Refusals.{above, homes_refusal, packages_with, plan_refusal, Refuses}
-use Rattle.migrate_plan.specs.declared.notes.TextNotes.{TextNotes}
-use Rattle.migrate_plan.specs.declared.refusals.PlanError.{PlanError}
+use Rattle.migrate_plan.specs.{Differing.{differing}, Notes.{AreTexts, Texts}, Refusals.{above, homes_refusal, packages_with, plan_refusal, Refuses}}
+use Rattle.migrate_plan.specs.{declared.notes.TextNotes.{TextNotes}, declared.refusals.PlanError.{PlanError}}
 use Rattle.migrate_plan.specs.declared.refusals.PlanError.TheVariants.{Names, Packages, TooLong}
-use Rattle.migrate_plan.proofs.Made.{home_is}
-use Rattle.migrate_plan.proofs.Refusing.{none_both, refuses_behind, refuses_first}
+use Rattle.migrate_plan.proofs.{Made.{home_is}, Refusing.{none_both, refuses_behind, refuses_first}}
 
 abbrev refusal_by : Home → Home → List PackageFacts → List PackageFacts → List (List ℕ) → ℕ → Option PlanError
 refusal_by home other olds news names bytes =

@@ -1,20 +1,10 @@
 -- The tests of what packages say decide whether it is equal.
-use Rattle.std.proofs.Common.{◌≡◌, ℕ, Bool, true, List, Option, Some, None, refl, ap, ◌∙◌}
-use Rattle.std.specs.Prelude.{◌&&◌, ◌==◌}
-use Rattle.std.specs.Bool.{Decides}
-use Rattle.std.specs.Cmp.Lexicographic.{pointwise, pointwise_decides}
-use Rattle.std.specs.Option.{option_eq}
-use Rattle.std.specs.Str.{bytes_eq}
-use Rattle.std.proofs.lemmas.Bool.{and_from, and_parts, false≢true}
-use Rattle.std.proofs.lemmas.Bool.Decides.{Decides-eqb}
-use Rattle.std.proofs.lemmas.Slice.Eq.{bytes_eq-Decides}
-use Rattle.relation_fields.specs.declared.relations.Atom.{Atom}
-use Rattle.relation_fields.specs.declared.relations.Bound.{Bound}
-use Rattle.relation_fields.specs.declared.relations.Op.{Op}
-use Rattle.relation_fields.specs.declared.relations.Op.TheVariants.{Earlier, EarlierEqual, Exactly, LaterEqual, Later}
-use Rattle.relation_fields.specs.declared.relations.Provide.{Provide}
-use Rattle.migrate_plan.specs.Differing.{is_same_atom, is_same_bound, is_same_provide, op_place, says_same}
-use Rattle.migrate_plan.specs.Laws.{TestIsEquality}
+use Rattle.std.proofs.{Common.{◌≡◌, ℕ, Bool, true, List, Option, Some, None, refl, ap, ◌∙◌}, lemmas.Bool.{and_from, and_parts, false≢true}}
+use Rattle.std.proofs.{lemmas.Bool.Decides.{Decides-eqb}, lemmas.Slice.Eq.{bytes_eq-Decides}}
+use Rattle.std.specs.{Prelude.{◌&&◌, ◌==◌}, Bool.{Decides}, Cmp.Lexicographic.{pointwise, pointwise_decides}, Option.{option_eq}, Str.{bytes_eq}}
+use Rattle.relation_fields.specs.{declared.relations.Atom.{Atom}, declared.relations.Bound.{Bound}, declared.relations.Op.{Op}}
+use Rattle.relation_fields.specs.{declared.relations.Op.TheVariants.{Earlier, EarlierEqual, Exactly, LaterEqual, Later}, declared.relations.Provide.{Provide}}
+use Rattle.migrate_plan.specs.{Differing.{is_same_atom, is_same_bound, is_same_provide, op_place, says_same}, Laws.{TestIsEquality}}
 
 op_same : (a b : Op) → (op_place a == op_place b) ≡ true → a ≡ b
 op_same Earlier Earlier h = refl

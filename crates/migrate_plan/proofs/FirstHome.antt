@@ -1,6 +1,5 @@
 -- The first architecture that is there among those whose flags are up.
-use Rattle.std.proofs.Common.{◌≡◌, ℕ, ◌≤◌, Bool, List, [], ◌∷◌, length, drop, Option, None, refl, sym, ap, ◌∙◌}
-use Rattle.std.proofs.lemmas.List.{drop_all}
+use Rattle.std.proofs.{Common.{◌≡◌, ℕ, ◌≤◌, Bool, List, [], ◌∷◌, length, drop, Option, None, refl, sym, ap, ◌∙◌}, lemmas.List.{drop_all}}
 use Rattle.migrate_plan.specs.Notes.{first_raised}
 
 -- those from a place on have the same one as all

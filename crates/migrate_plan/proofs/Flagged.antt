@@ -1,24 +1,17 @@
 -- Flags that are raised, number by number and name by name.
 use Rattle.std.proofs.Common.{◌≡◌, ℕ, suc, ◌+◌, ◌<◌, ◌≤◌, Bool, true, false, cond, eqb, eq-eqb, List, [], ◌∷◌, ◌++◌, length, get_or, set, take, map, replicate, inl, inr, refl, sym, ap, ◌∙◌, subst, arith}
-use Rattle.std.specs.Prelude.{◌≢◌, ◌||◌, not, filter}
-use Rattle.std.specs.Str.{bytes_eq}
-use Rattle.std.proofs.Math.Bool.{or-false}
-use Rattle.std.proofs.Math.ListN.{length-set}
-use Rattle.std.proofs.lemmas.Bool.{cases_eq, or_right}
+use Rattle.std.proofs.{Math.Bool.{or-false}, Math.ListN.{length-set}, lemmas.Bool.{cases_eq, or_right}}
 use Rattle.std.proofs.lemmas.List.{ext_get_or, get_or-map, get_or-set_other, get_or-set_same, length-map, take_all, take_more}
-use Rattle.std.proofs.lemmas.List.Folds.{list_any-append}
-use Rattle.std.proofs.lemmas.Slice.Eq.{bytes_eq-Decides}
+use Rattle.std.proofs.{lemmas.List.Folds.{list_any-append}, lemmas.Slice.Eq.{bytes_eq-Decides}}
+use Rattle.std.specs.{Prelude.{◌≢◌, ◌||◌, not, filter}, Str.{bytes_eq}}
 use Rattle.listed.specs.Lists.{In, has}
-use Rattle.listed.proofs.Bools.{same_bool}
-use Rattle.listed.proofs.Lists.{In_has, has_In}
+use Rattle.listed.proofs.{Bools.{same_bool}, Lists.{In_has, has_In}}
 use Rattle.package_register.specs.Numbers.{numbers_where}
 use Rattle.relation_fields.specs.declared.packages.PackageFacts.{PackageFacts}
 use Rattle.row_book.specs.Flags.{flag}
-use Rattle.repo_model.specs.Goals.{any_version, packages_named}
-use Rattle.repo_model.specs.Stanzas.{no_stanza, stanza_at}
+use Rattle.repo_model.specs.{Goals.{any_version, packages_named}, Stanzas.{no_stanza, stanza_at}}
 use Rattle.repo_model.proofs.Chosen.{named_is, number_cases, number_from}
-use Rattle.migrate_plan.specs.Flagged.{Raises}
-use Rattle.migrate_plan.specs.Mix.{is_taken}
+use Rattle.migrate_plan.specs.{Flagged.{Raises}, Mix.{is_taken}}
 use Rattle.migrate_plan.proofs.Taken.{taken_more}
 
 -- no number, and one number more

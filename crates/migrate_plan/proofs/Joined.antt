@@ -1,12 +1,8 @@
 -- A text behind which two line feeds stand: it is closed, and reads as it did.
 use Rattle.std.proofs.Common.{◌≡◌, ℕ, ◌+◌, Bool, true, false, cond, List, [], ◌∷◌, ◌++◌, length, map, refl, ap, sym, ◌∙◌, ◌⊎◌, inl, inr, arith, append_assoc}
-use Rattle.std.specs.Prelude.{count_by, filter, if◌then◌else◌}
-use Rattle.std.specs.List.{onto_first, slice_split}
-use Rattle.std.proofs.lemmas.List.{append-nil}
-use Rattle.std.proofs.lemmas.List.Elements.{filter-append}
-use Rattle.std.proofs.lemmas.List.Splits.{length-slice_split}
-use Rattle.stanza_reader.specs.Close.{ends_blank, readings_from, IsClosed}
-use Rattle.stanza_reader.specs.Lines.{Line, is_blank, is_line_feed, lines, numbered}
+use Rattle.std.proofs.{lemmas.List.{append-nil}, lemmas.List.Elements.{filter-append}, lemmas.List.Splits.{length-slice_split}}
+use Rattle.std.specs.{Prelude.{count_by, filter, if◌then◌else◌}, List.{onto_first, slice_split}}
+use Rattle.stanza_reader.specs.{Close.{ends_blank, readings_from, IsClosed}, Lines.{Line, is_blank, is_line_feed, lines, numbered}}
 use Rattle.stanza_reader.specs.Stanzas.{groups, has_line, is_blank_line, stanza_of}
 use Rattle.stanza_reader.proofs.PartLemmas.{blank_last, ended_last, lines_parts}
 

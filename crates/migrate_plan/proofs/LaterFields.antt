@@ -1,17 +1,12 @@
 -- What a stanza says, and whether it has a fault of its own, does not depend on the numbers of its lines.
 use Rattle.std.proofs.Common.{◌≡◌, ℕ, ◌+◌, Bool, true, false, cond, List, [], ◌∷◌, Option, Some, None, map, refl, ap, ◌∙◌}
-use Rattle.std.specs.Prelude.{is_some, if◌then◌else◌}
-use Rattle.std.specs.Option.{option_and_then, option_map, option_map_or, option_or}
-use Rattle.deb_version.specs.Grammar.{is_version}
-use Rattle.deb_version.specs.Names.{is_name}
-use Rattle.relation_fields.specs.Fields.{first_outside}
-use Rattle.relation_fields.specs.Grammar.{alternatives_of, atom_of, is_architecture, provide_of}
+use Rattle.std.specs.{Prelude.{is_some, if◌then◌else◌}, Option.{option_and_then, option_map, option_map_or, option_or}}
+use Rattle.deb_version.specs.{Grammar.{is_version}, Names.{is_name}}
+use Rattle.relation_fields.specs.{Fields.{first_outside}, Grammar.{alternatives_of, atom_of, is_architecture, provide_of}}
 use Rattle.stanza_reader.specs.declared.stanza.FieldKind.{FieldKind}
 use Rattle.stanza_reader.specs.declared.stanza.FieldKind.TheVariants.{Package, Version, Architecture, PreDepends, Depends, Conflicts, Breaks, Provides}
-use Rattle.stanza_reader.specs.declared.stanza.RawField.{RawField}
-use Rattle.stanza_reader.specs.declared.stanza.RawStanza.{RawStanza}
-use Rattle.repo_model.specs.Facts.{architecture_of, facts_of, is_all}
-use Rattle.repo_model.specs.Fields.{field_among, field_of, is_kind, value_of}
+use Rattle.stanza_reader.specs.{declared.stanza.RawField.{RawField}, declared.stanza.RawStanza.{RawStanza}}
+use Rattle.repo_model.specs.{Facts.{architecture_of, facts_of, is_all}, Fields.{field_among, field_of, is_kind, value_of}}
 use Rattle.repo_model.specs.FirstFault.{bad_relation, bad_value, missing, own_fault, presence_fault, unless_good, unless_said, value_fault}
 use Rattle.repo_model.specs.declared.fault.IndexFault.{IndexFault}
 use Rattle.repo_model.specs.declared.fault.IndexFault.TheVariants.{BadArchitecture, BadPackage, BadRelation, BadVersion, MissingPackage, MissingVersion}

@@ -1,22 +1,14 @@
 -- The line that is made by a mix.
 use Rattle.std.proofs.Common.{◌≡◌, ℕ, Bool, List, [], ◌∷◌, ◌++◌, map, Some, None, Option, Result, Ok, Err, IfOk, inl, inr, sym, ap, ◌∙◌, subst}
-use Rattle.relation_fields.specs.declared.packages.Home.{Home}
-use Rattle.relation_fields.specs.declared.packages.PackageFacts.{PackageFacts}
+use Rattle.relation_fields.specs.{declared.packages.Home.{Home}, declared.packages.PackageFacts.{PackageFacts}}
 use Rattle.row_book.specs.Rounds.{PassedRound, limit_at}
 use Rattle.listed.specs.Lists.{In}
 use Rattle.listed.proofs.Lists.{In_append_cases, In_cases, In_none}
-use Rattle.repo_model.specs.Feeding.{IsSuiteOf}
-use Rattle.repo_model.specs.Laws.{but_line}
-use Rattle.repo_model.specs.Repository.{suite_repository}
-use Rattle.suite_compare.specs.Refusals.{home_in, packages_in, RefusesSuite}
-use Rattle.suite_compare.specs.declared.refusals.LimitError.TheVariants.{Limit}
-use Rattle.suite_compare.specs.Report.{first_told}
+use Rattle.repo_model.specs.{Feeding.{IsSuiteOf}, Laws.{but_line}, Repository.{suite_repository}}
+use Rattle.suite_compare.specs.{Refusals.{home_in, packages_in, RefusesSuite}, declared.refusals.LimitError.TheVariants.{Limit}, Report.{first_told}}
 use Rattle.suite_compare.specs.declared.report.ReportLine.{ReportLine}
-use Rattle.migrate_plan.specs.Mix.{mix}
-use Rattle.migrate_plan.specs.Plan.{line_behind, lines_between, outcome_of, passed_in, taken_in, Settings}
-use Rattle.migrate_plan.specs.Trying.{outcome_by, told_of, IsViewAt}
-use Rattle.migrate_plan.specs.declared.plan.PlanLine.{PlanLine}
-use Rattle.migrate_plan.specs.declared.plan.PlanLine.TheVariants.{Take, LeftLimit, LeftLine}
+use Rattle.migrate_plan.specs.{Mix.{mix}, Plan.{line_behind, lines_between, outcome_of, passed_in, taken_in, Settings}, Trying.{outcome_by, told_of, IsViewAt}}
+use Rattle.migrate_plan.specs.{declared.plan.PlanLine.{PlanLine}, declared.plan.PlanLine.TheVariants.{Take, LeftLimit, LeftLine}}
 use Rattle.migrate_plan.proofs.MixedFacts.{outcome_alike}
 
 pub home_is : (text : List ℕ) (home : Home) (packages : List PackageFacts) → IsSuiteOf text packages home.name → home ≡ home_in text

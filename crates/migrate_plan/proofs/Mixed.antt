@@ -1,37 +1,20 @@
 -- Every mix of names that differ is an index without a fault.
 use Rattle.std.proofs.Common.{◌≡◌, ℕ, ◌+◌, ◌≤◌, Bool, true, false, cond, List, [], ◌∷◌, ◌++◌, length, map, Option, Some, None, refl, sym, ap, ◌∙◌, subst, inl, inr, arith, length-append}
-use Rattle.std.specs.Prelude.{not, ◌&&◌, filter, count_by, if◌then◌else◌}
-use Rattle.std.specs.Option.{option_or}
-use Rattle.std.specs.Ordering.{is_eq}
-use Rattle.std.specs.Str.{bytes_eq}
-use Rattle.std.proofs.lemmas.Bool.{false≢true}
-use Rattle.std.proofs.lemmas.List.{append-nil, length-map, map-append}
-use Rattle.std.proofs.lemmas.Slice.Eq.{bytes_eq-Decides}
+use Rattle.std.proofs.{lemmas.Bool.{false≢true}, lemmas.List.{append-nil, length-map, map-append}, lemmas.Slice.Eq.{bytes_eq-Decides}}
+use Rattle.std.specs.{Prelude.{not, ◌&&◌, filter, count_by, if◌then◌else◌}, Option.{option_or}, Ordering.{is_eq}, Str.{bytes_eq}}
 use Rattle.repo_model.proofs.Steps.{stanzas_in-ok}
 use Rattle.listed.proofs.Lists.{filter_short, filter_le, In_append_cases, In_map_cases, any_cases, any_from, filter_cases}
 use Rattle.deb_version.specs.Order.{version_order}
-use Rattle.stanza_reader.specs.Blanking.{picked}
-use Rattle.stanza_reader.specs.Close.{readings_from}
-use Rattle.stanza_reader.specs.Lines.{is_line_feed}
-use Rattle.stanza_reader.specs.Stanzas.{readings}
-use Rattle.stanza_reader.specs.declared.stanza.RawStanza.{RawStanza}
-use Rattle.stanza_reader.proofs.BlankLemmas.{map_picked, readings_picked}
-use Rattle.stanza_reader.proofs.PartLemmas.{reads_in_parts, readings-from}
+use Rattle.stanza_reader.specs.{Blanking.{picked}, Close.{readings_from}, Lines.{is_line_feed}, Stanzas.{readings}, declared.stanza.RawStanza.{RawStanza}}
+use Rattle.stanza_reader.proofs.{BlankLemmas.{map_picked, readings_picked}, PartLemmas.{reads_in_parts, readings-from}}
 use Rattle.relation_fields.specs.declared.packages.PackageFacts.{PackageFacts}
 use Rattle.listed.specs.Lists.{In, here, there}
-use Rattle.repo_model.specs.Facts.{facts_of, is_same_package}
-use Rattle.repo_model.specs.FirstFault.{first_fault, home_of, own_fault, stanzas_in, stanzas_of}
-use Rattle.repo_model.specs.Limits.{most_packages}
+use Rattle.repo_model.specs.{Facts.{facts_of, is_same_package}, FirstFault.{first_fault, home_of, own_fault, stanzas_in, stanzas_of}, Limits.{most_packages}}
 use Rattle.suite_compare.specs.Refusals.{packages_in}
-use Rattle.migrate_plan.specs.Differing.{differing}
-use Rattle.migrate_plan.specs.Mix.{is_left, is_taken, mix, only_names}
-use Rattle.migrate_plan.specs.Promises.{MixesAreIndexes}
-use Rattle.migrate_plan.specs.Refusals.{are_apart, plan_refusal}
+use Rattle.migrate_plan.specs.{Differing.{differing}, Mix.{is_left, is_taken, mix, only_names}, Promises.{MixesAreIndexes}, Refusals.{are_apart, plan_refusal}}
 use Rattle.migrate_plan.proofs.Faultless.{Apart, AreOthers, IsAt, Sound, at_longer, faultless, fit_of, reads_fine, sound_of}
-use Rattle.migrate_plan.proofs.Joined.{two_feeds_close, two_feeds_read}
-use Rattle.migrate_plan.proofs.LaterFields.{architecture_later, name_later, own_later, version_later}
-use Rattle.migrate_plan.proofs.Refusing.{is_free}
-use Rattle.migrate_plan.proofs.Shifted.{later_stanza, ok_of, readings_later}
+use Rattle.migrate_plan.proofs.{Joined.{two_feeds_close, two_feeds_read}, LaterFields.{architecture_later, name_later, own_later, version_later}}
+use Rattle.migrate_plan.proofs.{Refusing.{is_free}, Shifted.{later_stanza, ok_of, readings_later}}
 
 -- the stanzas whose names pass a test
 abbrev pub named : (List ℕ → Bool) → List RawStanza → List RawStanza

@@ -1,44 +1,23 @@
 -- The packages of a mix are those of both indexes, but for the numbers of their lines; and what they say is asked alike.
 use Rattle.std.proofs.Common.{◌≡◌, ℕ, ◌+◌, ◌≤◌, Bool, true, false, cond, List, [], ◌∷◌, ◌++◌, length, map, Option, Some, None, refl, sym, ap, ap₂, subst, ◌∙◌, arith, length-append}
-use Rattle.std.specs.Prelude.{count_by, filter, ◌||◌}
-use Rattle.std.specs.List.{items_where_true}
-use Rattle.std.specs.Option.{option_or}
-use Rattle.std.specs.Str.{bytes_eq}
-use Rattle.std.proofs.lemmas.List.{map-append}
-use Rattle.std.proofs.Math.Path.{fun_ext}
+use Rattle.std.proofs.{lemmas.List.{map-append}, Math.Path.{fun_ext}}
+use Rattle.std.specs.{Prelude.{count_by, filter, ◌||◌}, List.{items_where_true}, Option.{option_or}, Str.{bytes_eq}}
 use Rattle.stanza_reader.specs.Lines.{is_line_feed}
 use Rattle.stanza_reader.specs.declared.stanza.FieldKind.TheVariants.{Breaks, Conflicts, Depends, Package, PreDepends, Provides, Version}
 use Rattle.stanza_reader.specs.declared.stanza.RawStanza.{RawStanza}
-use Rattle.relation_fields.specs.Fields.{said_in}
-use Rattle.relation_fields.specs.Grammar.{alternatives_of, atom_of, provide_of}
-use Rattle.relation_fields.specs.declared.packages.Home.{Home}
+use Rattle.relation_fields.specs.{Fields.{said_in}, Grammar.{alternatives_of, atom_of, provide_of}, declared.packages.Home.{Home}}
 use Rattle.relation_fields.specs.declared.packages.PackageFacts.{PackageFacts}
 use Rattle.row_book.specs.Rounds.{kernel, limit_at}
 use Rattle.listed.specs.Lists.{In}
 use Rattle.listed.proofs.Lists.{filter_le, filter_short}
-use Rattle.repo_model.specs.Facts.{architecture_of, facts_of}
-use Rattle.repo_model.specs.Feeding.{IsSuiteOf}
-use Rattle.repo_model.specs.Fields.{value_of}
-use Rattle.repo_model.specs.FirstFault.{first_fault, home_of, stanzas_of}
-use Rattle.repo_model.specs.Goals.{names_in}
-use Rattle.repo_model.specs.Laws.{but_line, IgnoresLines}
-use Rattle.repo_model.specs.Limits.{most_packages}
-use Rattle.repo_model.specs.declared.goals.Goal.{Goal}
-use Rattle.repo_model.specs.declared.suite.Suite.{Suite}
+use Rattle.repo_model.specs.{Facts.{architecture_of, facts_of}, Feeding.{IsSuiteOf}, Fields.{value_of}, FirstFault.{first_fault, home_of, stanzas_of}}
+use Rattle.repo_model.specs.{Goals.{names_in}, Laws.{but_line, IgnoresLines}, Limits.{most_packages}, declared.goals.Goal.{Goal}, declared.suite.Suite.{Suite}}
 use Rattle.repo_model.proofs.Lines.{lines_ignored}
-use Rattle.suite_compare.specs.Asking.{goal_classes, image_of, images_of, tree_of, verdict_in, verdict_of}
-use Rattle.suite_compare.specs.Names.{stands_in}
-use Rattle.suite_compare.specs.Refusals.{home_in, packages_in}
+use Rattle.suite_compare.specs.{Asking.{goal_classes, image_of, images_of, tree_of, verdict_in, verdict_of}, Names.{stands_in}, Refusals.{home_in, packages_in}}
 use Rattle.suite_compare.specs.Report.{report}
-use Rattle.migrate_plan.specs.Mix.{is_left, is_taken, mix, mixed_packages}
-use Rattle.migrate_plan.specs.Plan.{outcome_of, Settings}
-use Rattle.migrate_plan.specs.Notes.{AreTexts, Texts, first_raised}
-use Rattle.migrate_plan.specs.Refusals.{packages_with}
-use Rattle.migrate_plan.specs.Trying.{outcome_by}
-use Rattle.migrate_plan.specs.declared.notes.TextNotes.{TextNotes}
-use Rattle.migrate_plan.proofs.LaterFields.{architecture_later, value_later}
-use Rattle.migrate_plan.proofs.Mixed.{front_of, mix_stanzas, mixed, named, taken_within}
-use Rattle.migrate_plan.proofs.Noted.{home_noted}
+use Rattle.migrate_plan.specs.{Mix.{is_left, is_taken, mix, mixed_packages}, Plan.{outcome_of, Settings}, Notes.{AreTexts, Texts, first_raised}}
+use Rattle.migrate_plan.specs.{Refusals.{packages_with}, Trying.{outcome_by}, declared.notes.TextNotes.{TextNotes}}
+use Rattle.migrate_plan.proofs.{LaterFields.{architecture_later, value_later}, Mixed.{front_of, mix_stanzas, mixed, named, taken_within}, Noted.{home_noted}}
 use Rattle.migrate_plan.proofs.Shifted.{later_stanza}
 
 -- a stanza whose lines are counted on says the same of its package

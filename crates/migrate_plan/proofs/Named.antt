@@ -1,11 +1,10 @@
 -- The packages of a name, by their numbers.
 use Rattle.std.proofs.Common.{◌≡◌, ℕ, ◌+◌, ◌<◌, Bool, true, false, cond, List, [], ◌∷◌, ◌++◌, length, map, filter, refl, sym, ap, ◌∙◌, subst, append_assoc, length-append}
-use Rattle.std.specs.Str.{bytes_eq}
 use Rattle.std.proofs.Math.Seq.{get_or-append_seam}
+use Rattle.std.specs.Str.{bytes_eq}
 use Rattle.relation_fields.specs.declared.packages.PackageFacts.{PackageFacts}
 use Rattle.listed.specs.Lists.{In}
-use Rattle.repo_model.specs.Stanzas.{no_stanza, stanza_at}
-use Rattle.repo_model.specs.Goals.{any_version, packages_named}
+use Rattle.repo_model.specs.{Stanzas.{no_stanza, stanza_at}, Goals.{any_version, packages_named}}
 use Rattle.repo_model.proofs.Chosen.{named_is, number_cases}
 use Rattle.package_register.specs.Numbers.{if_so, numbers_from}
 use Rattle.package_register.proofs.Numbered.{numbers_from-cons}

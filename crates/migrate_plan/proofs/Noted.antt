@@ -1,16 +1,12 @@
 -- The notes of a text, and the common architecture by them.
 use Rattle.std.proofs.Common.{◌≡◌, ℕ, Bool, true, false, List, [], ◌∷◌, ◌++◌, map, Option, Result, Ok, None, refl, sym, ap, ◌∙◌, append_assoc}
-use Rattle.std.specs.List.{items_where_true}
 use Rattle.std.proofs.lemmas.List.{append-nil}
-use Rattle.stanza_reader.specs.Reading.{readings_at}
-use Rattle.stanza_reader.specs.declared.fault.StanzaFault.{StanzaFault}
-use Rattle.stanza_reader.specs.declared.stanza.RawStanza.{RawStanza}
+use Rattle.std.specs.List.{items_where_true}
+use Rattle.stanza_reader.specs.{Reading.{readings_at}, declared.fault.StanzaFault.{StanzaFault}, declared.stanza.RawStanza.{RawStanza}}
 use Rattle.stanza_reader.proofs.ReadingLemmas.{readings_at-start}
-use Rattle.repo_model.specs.Facts.{architecture_of}
-use Rattle.repo_model.specs.FirstFault.{first_fault, first_some, home_of, stanzas_of}
+use Rattle.repo_model.specs.{Facts.{architecture_of}, FirstFault.{first_fault, first_some, home_of, stanzas_of}}
 use Rattle.migrate_plan.specs.Notes.{first_raised}
-use Rattle.migrate_plan.proofs.Faultless.{reads_fine}
-use Rattle.migrate_plan.proofs.Shifted.{ok_of}
+use Rattle.migrate_plan.proofs.{Faultless.{reads_fine}, Shifted.{ok_of}}
 
 -- what is left are some stanzas, whose architectures follow those that were found
 pub record IsFoundIn (all : List RawStanza) (found : List (Option (List ℕ))) (rest : List (Result RawStanza StanzaFault)) : Type 0 where

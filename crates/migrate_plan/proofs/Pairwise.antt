@@ -1,8 +1,7 @@
 -- Two lists that are compared pair by pair.
 use Rattle.std.proofs.Common.{◌≡◌, ℕ, zero, suc, ◌+◌, ◌<◌, Bool, true, false, List, [], ◌∷◌, ◌++◌, length, get_or, take, refl, sym, ap, ◌∙◌, subst, arith}
+use Rattle.std.proofs.{lemmas.Bool.{and_from, and_parts, false≢true, false_from_ne_true}, lemmas.List.{take_more}}
 use Rattle.std.specs.Cmp.Lexicographic.{pointwise}
-use Rattle.std.proofs.lemmas.Bool.{and_from, and_parts, false≢true, false_from_ne_true}
-use Rattle.std.proofs.lemmas.List.{take_more}
 
 module _ {A B : Type 0} (E : A → B → Bool) where
   pair_push : (xs : List A) (ys : List B) (x : A) (y : B) → pointwise E xs ys ≡ true → E x y ≡ true → pointwise E (xs ++ x ∷ []) (ys ++ y ∷ []) ≡ true

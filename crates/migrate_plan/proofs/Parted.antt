@@ -1,8 +1,7 @@
 -- The kernel of some packages of all that mixes have, and the line that is told by it.
 use Rattle.std.proofs.Common.{◌≡◌, ℕ, ◌<◌, Bool, false, List, [], ◌∷◌, map, length, Option, Some, None, Result, IfOk, refl, sym, ap, ap₂, subst, ◌∙◌}
-use Rattle.std.specs.List.{items_where_true}
-use Rattle.std.specs.Option.{ForSome}
 use Rattle.std.proofs.lemmas.List.{length-map}
+use Rattle.std.specs.{List.{items_where_true}, Option.{ForSome}}
 use Rattle.listed.{specs.Lists.{In}, proofs.Lists.{In_map_cases}}
 use Rattle.clause_pool.specs.Interned.{row_at, Interned}
 use Rattle.kernel_rounds.{specs.Extracting.{IsExtracted}, specs.declared.extraction.Kernel.{Kernel}}

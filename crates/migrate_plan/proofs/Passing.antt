@@ -1,7 +1,6 @@
 -- Names that pass a test, one after another.
 use Rattle.std.proofs.Common.{◌≡◌, ℕ, ◌<◌, ◌≤◌, ◌+◌, Bool, true, false, cond, List, [], ◌∷◌, ◌++◌, length, get_or, take, filter, sym, ◌∙◌, ap}
-use Rattle.std.proofs.lemmas.List.{append-nil, take_all, take_more}
-use Rattle.std.proofs.lemmas.List.Elements.{filter-append}
+use Rattle.std.proofs.{lemmas.List.{append-nil, take_all, take_more}, lemmas.List.Elements.{filter-append}}
 
 -- one name more that passes, or does not
 pub named_kept : (p : List ℕ → Bool) (names : List (List ℕ)) (i : ℕ) (item copy : List ℕ) (made new : List (List ℕ)) → i < length names → item ≡ get_or names i item → copy ≡ item → p item ≡ true → new ≡ made ++ copy ∷ []

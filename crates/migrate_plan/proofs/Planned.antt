@@ -5,26 +5,17 @@ use Rattle.row_book.specs.Rounds.{PassedRound}
 use Rattle.listed.specs.Lists.{In}
 use Rattle.listed.proofs.Lists.{In_append_cases, In_cases, In_none}
 use Rattle.stanza_reader.specs.declared.stanza.RawStanza.{RawStanza}
-use Rattle.repo_model.specs.Facts.{facts_of}
-use Rattle.repo_model.specs.FirstFault.{first_fault, home_of}
-use Rattle.suite_compare.specs.Asking.{verdict_in}
-use Rattle.suite_compare.specs.Names.{names_of_both}
-use Rattle.suite_compare.specs.Refusals.{home_in, packages_in}
-use Rattle.suite_compare.specs.Report.{report}
+use Rattle.repo_model.specs.{Facts.{facts_of}, FirstFault.{first_fault, home_of}}
+use Rattle.suite_compare.specs.{Asking.{verdict_in}, Names.{names_of_both}, Refusals.{home_in, packages_in}, Report.{report}}
 use Rattle.suite_compare.specs.declared.report.ReportLine.{ReportLine}
 use Rattle.suite_compare.proofs.Deciding.{verdict_is_judged}
-use Rattle.migrate_plan.specs.Differing.{differing}
-use Rattle.migrate_plan.specs.Mix.{mix}
+use Rattle.migrate_plan.specs.{Differing.{differing}, Mix.{mix}}
 use Rattle.migrate_plan.specs.Plan.{Settings, line_behind, lines_behind, lines_between, outcome_of, passed_in, plan, taken_in, tried_mix}
+use Rattle.migrate_plan.specs.{Promises.{AreRight, IsRight, TakesSafely, planned_name, searched_by}, Trying.{AreTakenBy, LeadsTo}}
+use Rattle.migrate_plan.specs.{declared.plan.PlanLine.{PlanLine}, declared.plan.PlanLine.TheVariants.{Take, LeftLimit, LeftLine}}
 use Rattle.headline.specs.Listing.{ListsExactly, LosesNothing, is_broken}
-use Rattle.headline.proofs.Exact.{report_lists_exactly}
-use Rattle.headline.proofs.Lost.{empty_list_loses_nothing}
-use Rattle.migrate_plan.specs.Promises.{AreRight, IsRight, TakesSafely, planned_name, searched_by}
-use Rattle.migrate_plan.specs.Trying.{AreTakenBy, LeadsTo}
-use Rattle.migrate_plan.specs.declared.plan.PlanLine.{PlanLine}
-use Rattle.migrate_plan.specs.declared.plan.PlanLine.TheVariants.{Take, LeftLimit, LeftLine}
-use Rattle.migrate_plan.proofs.Mixed.{mix_of_none}
-use Rattle.migrate_plan.proofs.Told.{unbroken_same}
+use Rattle.headline.proofs.{Exact.{report_lists_exactly}, Lost.{empty_list_loses_nothing}}
+use Rattle.migrate_plan.proofs.{Mixed.{mix_of_none}, Told.{unbroken_same}}
 
 pub outcome_name : (name : List ℕ) (passed : Option PassedRound) (told : List ReportLine) → planned_name (outcome_of name passed told) ≡ name
 outcome_name name (Some passed) told = refl

@@ -1,15 +1,12 @@
 -- Refusals, one after another.
-use Rattle.std.proofs.Common.{◌≡◌, ℕ, ◌≤◌, Bool, true, false, List, Option, Some, None, ap, ◌∙◌, refl, arith}
-use Rattle.std.specs.Prelude.{if◌then◌else◌, length, nat_lt}
-use Rattle.std.specs.Option.{option_or}
-use Rattle.std.proofs.lemmas.Bool.Decides.{nat_tests}
+use Rattle.std.proofs.{Common.{◌≡◌, ℕ, ◌≤◌, Bool, true, false, List, Option, Some, None, ap, ◌∙◌, refl, arith}, lemmas.Bool.Decides.{nat_tests}}
+use Rattle.std.specs.{Prelude.{if◌then◌else◌, length, nat_lt}, Option.{option_or}}
 use Rattle.repo_model.specs.Limits.{most_bytes, most_packages}
 use Rattle.relation_fields.specs.declared.packages.Home.{Home}
 use Rattle.suite_compare.specs.Refusals.{home_in, packages_in}
 use Rattle.migrate_plan.specs.Differing.{differing}
 use Rattle.migrate_plan.specs.Refusals.{above, are_apart, bytes_with, homes_refusal, packages_with, plan_refusal, Refuses, UnlessMemory}
-use Rattle.migrate_plan.specs.declared.refusals.PlanError.{PlanError}
-use Rattle.migrate_plan.specs.declared.refusals.PlanError.TheVariants.{Homes, Names, Packages, TooLong, Memory}
+use Rattle.migrate_plan.specs.{declared.refusals.PlanError.{PlanError}, declared.refusals.PlanError.TheVariants.{Homes, Names, Packages, TooLong, Memory}}
 use Rattle.migrate_plan.proofs.Shifted.{none_parts}
 
 pub for_same : (error : PlanError) {P Q : Type 0} → (P → Q) → UnlessMemory error P → UnlessMemory error Q

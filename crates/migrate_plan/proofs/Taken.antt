@@ -1,10 +1,7 @@
 -- One more name that is taken, and one more that is copied.
-use Rattle.std.proofs.Common.{◌≡◌, ℕ, ◌+◌, ◌<◌, List, [], ◌∷◌, ◌++◌, length, get_or, take, sym, ap, ap₂, ◌∙◌}
-use Rattle.std.specs.Prelude.{◌||◌}
-use Rattle.std.specs.Str.{bytes_eq}
-use Rattle.std.proofs.lemmas.List.{take_more}
-use Rattle.std.proofs.lemmas.List.Folds.{list_any-append}
-use Rattle.std.proofs.Math.Bool.{or-false}
+use Rattle.std.proofs.{Common.{◌≡◌, ℕ, ◌+◌, ◌<◌, List, [], ◌∷◌, ◌++◌, length, get_or, take, sym, ap, ap₂, ◌∙◌}, lemmas.List.{take_more}}
+use Rattle.std.proofs.{lemmas.List.Folds.{list_any-append}, Math.Bool.{or-false}}
+use Rattle.std.specs.{Prelude.{◌||◌}, Str.{bytes_eq}}
 use Rattle.migrate_plan.specs.Mix.{is_taken}
 
 pub taken_more : (taken : List (List ℕ)) (tried name : List ℕ) → is_taken (taken ++ tried ∷ []) name ≡ (is_taken taken name || bytes_eq name tried)

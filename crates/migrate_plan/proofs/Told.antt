@@ -1,15 +1,11 @@
 -- Of an index against itself nothing is broken.
 use Rattle.std.proofs.Common.{◌≡◌, ℕ, false, List, [], ◌∷◌, ap, inl, inr}
-use Rattle.std.specs.Prelude.{filter}
-use Rattle.std.specs.List.{flat_map}
-use Rattle.clause_solver.specs.declared.outcomes.Verdict.{Verdict}
-use Rattle.clause_solver.specs.declared.outcomes.Verdict.TheVariants.{Yes, No, Spent}
+use Rattle.std.specs.{Prelude.{filter}, List.{flat_map}}
+use Rattle.clause_solver.specs.{declared.outcomes.Verdict.{Verdict}, declared.outcomes.Verdict.TheVariants.{Yes, No, Spent}}
 use Rattle.listed.specs.Lists.{In}
 use Rattle.listed.proofs.Lists.{In_append_cases, In_cases, In_none}
-use Rattle.repo_model.specs.Goals.{any_version}
-use Rattle.repo_model.specs.declared.goals.Goal.{Goal}
-use Rattle.suite_compare.specs.Report.{finding, is_yes, pair_line, report, single_line, with_later}
-use Rattle.suite_compare.specs.declared.report.ReportLine.{ReportLine}
+use Rattle.repo_model.specs.{Goals.{any_version}, declared.goals.Goal.{Goal}}
+use Rattle.suite_compare.specs.{Report.{finding, is_yes, pair_line, report, single_line, with_later}, declared.report.ReportLine.{ReportLine}}
 use Rattle.headline.specs.Listing.{is_broken}
 
 -- nothing is broken where the verdicts are the same

@@ -1,7 +1,7 @@
 -- A mix by its packages among all that mixes have.
 use Rattle.std.proofs.Common.{◌≡◌, ℕ, zero, suc, ◌+◌, ◌<◌, get_or, Bool, true, false, List, [], ◌∷◌, ◌++◌, map, length, replicate, refl, sym, ap, ap₂, subst, ◌∙◌, arith, length-append}
-use Rattle.std.specs.List.{items_where_true}
 use Rattle.std.proofs.lemmas.List.{length-map}
+use Rattle.std.specs.List.{items_where_true}
 use Rattle.listed.specs.Lists.{In}
 use Rattle.relation_fields.specs.declared.packages.PackageFacts.{PackageFacts}
 use Rattle.migrate_plan.specs.Mix.{is_left, is_taken}

@@ -1,10 +1,6 @@
 -- What a plan asks of the text of an index beside its suite.
-use Rattle.std.specs.Prelude.{◌≡◌, ℕ, Bool, List, Option, length, map}
-use Rattle.std.specs.List.{items_where_true}
-use Rattle.repo_model.specs.Facts.{architecture_of}
-use Rattle.repo_model.specs.Feeding.{IsSuiteOf}
-use Rattle.repo_model.specs.FirstFault.{first_some, stanzas_of}
-use Rattle.repo_model.specs.declared.suite.Suite.{Suite}
+use Rattle.std.specs.{Prelude.{◌≡◌, ℕ, Bool, List, Option, length, map}, List.{items_where_true}}
+use Rattle.repo_model.specs.{Facts.{architecture_of}, Feeding.{IsSuiteOf}, FirstFault.{first_some, stanzas_of}, declared.suite.Suite.{Suite}}
 use Rattle.migrate_plan.specs.declared.notes.TextNotes.{TextNotes}
 
 -- how long the text is, and the architecture of each of its stanzas, where that is not `all`

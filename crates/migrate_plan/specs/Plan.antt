@@ -2,14 +2,9 @@
 use Rattle.std.specs.Prelude.{ℕ, Bool, List, [], ◌∷◌, ◌++◌, Option, Some, None}
 use Rattle.row_book.specs.Rounds.{PassedRound, limit_at}
 use Rattle.repo_model.specs.Repository.{suite_repository}
-use Rattle.suite_compare.specs.Asking.{verdict_in}
-use Rattle.suite_compare.specs.Names.{names_of_both}
-use Rattle.suite_compare.specs.Refusals.{home_in, packages_in}
-use Rattle.suite_compare.specs.Report.{report}
+use Rattle.suite_compare.specs.{Asking.{verdict_in}, Names.{names_of_both}, Refusals.{home_in, packages_in}, Report.{report}}
 use Rattle.suite_compare.specs.declared.report.ReportLine.{ReportLine}
-use Rattle.migrate_plan.specs.Differing.{differing}
-use Rattle.migrate_plan.specs.Mix.{mix}
-use Rattle.migrate_plan.specs.declared.plan.PlanLine.{PlanLine}
+use Rattle.migrate_plan.specs.{Differing.{differing}, Mix.{mix}, declared.plan.PlanLine.{PlanLine}}
 use Rattle.migrate_plan.specs.declared.plan.PlanLine.TheVariants.{Take, LeftLimit, LeftLine}
 
 -- at which budget, clause limit and hold indexes are compared

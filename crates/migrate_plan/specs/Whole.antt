@@ -1,26 +1,14 @@
 -- for the bodies of this crate alone
 -- What all mixes of two indexes are made of: the packages of the old one, and behind them those of the new one whose names differ.
-use Rattle.std.specs.Prelude.{◌≡◌, ℕ, ◌≤◌, Bool, false, List, ◌++◌, length, map, Option, Some, None}
-use Rattle.std.specs.List.{items_where_true}
-use Rattle.std.specs.Option.{ForSome}
+use Rattle.std.specs.{Prelude.{◌≡◌, ℕ, ◌≤◌, Bool, false, List, ◌++◌, length, map, Option, Some, None}, List.{items_where_true}, Option.{ForSome}}
 use Rattle.clause_pool.specs.Interned.{Interned}
 use Rattle.kernel_rounds.specs.declared.extraction.Kernel.{Kernel}
 use Rattle.relation_fields.specs.declared.packages.PackageFacts.{PackageFacts}
-use Rattle.repo_model.specs.Limits.{most_packages}
-use Rattle.repo_model.specs.Repository.{suite_repository}
-use Rattle.row_book.specs.declared.book.Book.{Book}
-use Rattle.row_book.specs.Repository.{Repository}
-use Rattle.row_book.specs.Rounds.{PassedRound, limit_at}
-use Rattle.suite_compare.specs.Bearers.{bearers_of}
-use Rattle.suite_compare.specs.Views.{IsBookOf, IsKernelOf}
-use Rattle.suite_compare.specs.declared.sides.OldSide.{OldSide}
-use Rattle.suite_part.specs.declared.base.Base.{Base}
-use Rattle.suite_part.specs.Bases.{IsBase}
-use Rattle.migrate_plan.specs.Differing.{differing}
-use Rattle.migrate_plan.specs.Mix.{is_taken}
-use Rattle.migrate_plan.specs.Notes.{AreTexts, Texts}
-use Rattle.migrate_plan.specs.Refusals.{packages_with}
-use Rattle.migrate_plan.specs.declared.whole.Whole.{Whole}
+use Rattle.repo_model.specs.{Limits.{most_packages}, Repository.{suite_repository}}
+use Rattle.row_book.specs.{declared.book.Book.{Book}, Repository.{Repository}, Rounds.{PassedRound, limit_at}}
+use Rattle.suite_compare.specs.{Bearers.{bearers_of}, Views.{IsBookOf, IsKernelOf}, declared.sides.OldSide.{OldSide}}
+use Rattle.suite_part.specs.{declared.base.Base.{Base}, Bases.{IsBase}}
+use Rattle.migrate_plan.specs.{Differing.{differing}, Mix.{is_taken}, Notes.{AreTexts, Texts}, Refusals.{packages_with}, declared.whole.Whole.{Whole}}
 
 -- the names that differ between the two indexes
 abbrev pub names_between : OldSide → Whole → List (List ℕ)

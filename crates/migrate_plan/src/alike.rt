@@ -1,8 +1,5 @@
 //! Whether two packages say the same. A name whose packages do so is no difference of two indexes, and no mix is made for it.
-ghost use Rattle.std.specs.Prelude.{◌≡◌};
-ghost use Rattle.std.specs.Cmp.Lexicographic.{pointwise};
-ghost use Rattle.std.specs.Option.{option_eq};
-ghost use Rattle.std.specs.Str.{bytes_eq};
+ghost use Rattle.std.specs.{Prelude.{◌≡◌}, Cmp.Lexicographic.{pointwise}, Option.{option_eq}, Str.{bytes_eq}};
 ghost use Rattle.migrate_plan.specs.Differing.{is_same_atom, is_same_bound, is_same_provide, op_place, says_same};
 
 use deb_version::{Bytes, Version};

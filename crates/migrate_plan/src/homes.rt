@@ -2,8 +2,7 @@
 //!
 //! A suite does not keep which of its packages have an architecture other than `all`, so it is looked up in the notes of the two
 //! texts, up to the first stanza of the mix that has one.
-ghost use Rattle.std.specs.Prelude.{◌≡◌, None, if◌then◌else◌, IfOk, slice_index_or, false};
-ghost use Rattle.std.specs.Option.{option_or};
+ghost use Rattle.std.specs.{Prelude.{◌≡◌, None, if◌then◌else◌, IfOk, slice_index_or, false}, Option.{option_or}};
 ghost use Rattle.migrate_plan.specs.Notes.{first_raised};
 
 use crate::notes::TextNotes;

@@ -1,20 +1,12 @@
 //! Makes a plan: which names of a newer index can be taken over into an older one.
-ghost use Rattle.std.specs.Prelude.{◌≡◌, ◌<◌, ◌≤◌, ◌++◌, ◌∷◌, ℕ, List, [], None, length, map, IfOk, IfErr, OnOk};
+ghost use Rattle.std.specs.{Prelude.{◌≡◌, ◌<◌, ◌≤◌, ◌++◌, ◌∷◌, ℕ, List, [], None, length, map, IfOk, IfErr, OnOk}, Option.{ForSome}};
 ghost use Rattle.clause_solver.specs.Outcomes.{IsBudget};
-ghost use Rattle.repo_model.specs.Feeding.{IsSuiteOf};
+ghost use Rattle.repo_model.specs.{Feeding.{IsSuiteOf}, Limits.{most_bytes, most_packages}};
 ghost use Rattle.listed.specs.Lists.{In};
-ghost use Rattle.migrate_plan.specs.Differing.{differing};
-ghost use Rattle.migrate_plan.specs.Notes.{AreTexts, Texts};
-ghost use Rattle.migrate_plan.specs.Plan.{line_behind, lines_behind, plan, settings_of, taken_in};
-ghost use Rattle.migrate_plan.specs.Promises.{AreRight, MixesAreIndexes, TakesSafely, planned_name};
-ghost use Rattle.migrate_plan.specs.Refusals.{Refuses, packages_with, plan_refusal};
-ghost use Rattle.migrate_plan.specs.Whole.{names_between, AreTextsOf, IsWhole};
-ghost use Rattle.migrate_plan.specs.declared.plan.PlanLine.{PlanLine};
-ghost use Rattle.std.specs.Option.{ForSome};
-ghost use Rattle.suite_compare.specs.Comparing.{IsOldSide};
-ghost use Rattle.suite_compare.specs.Known.{AreKnownPairs};
-ghost use Rattle.suite_compare.specs.Refusals.{packages_in};
-ghost use Rattle.repo_model.specs.Limits.{most_bytes, most_packages};
+ghost use Rattle.migrate_plan.specs.{Differing.{differing}, Notes.{AreTexts, Texts}, Plan.{line_behind, lines_behind, plan, settings_of, taken_in}};
+ghost use Rattle.migrate_plan.specs.{Promises.{AreRight, MixesAreIndexes, TakesSafely, planned_name}, Refusals.{Refuses, packages_with, plan_refusal}};
+ghost use Rattle.migrate_plan.specs.{Whole.{names_between, AreTextsOf, IsWhole}, declared.plan.PlanLine.{PlanLine}};
+ghost use Rattle.suite_compare.specs.{Comparing.{IsOldSide}, Known.{AreKnownPairs}, Refusals.{packages_in}};
 
 use crate::checks::{check_homes, check_length, check_names, check_packages};
 use crate::differing::differing_names;

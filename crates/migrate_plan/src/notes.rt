@@ -1,7 +1,6 @@
 //! Notes of a text, so that it need not be kept.
 ghost use Rattle.std.specs.Prelude.{◌≡◌, None, map, IfOk};
-ghost use Rattle.repo_model.specs.Facts.{architecture_of};
-ghost use Rattle.repo_model.specs.FirstFault.{first_fault, stanzas_of};
+ghost use Rattle.repo_model.specs.{Facts.{architecture_of}, FirstFault.{first_fault, stanzas_of}};
 ghost use Rattle.migrate_plan.specs.Notes.{IsNotedOf};
 
 use deb_version::Bytes;

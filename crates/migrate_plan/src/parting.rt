@@ -1,21 +1,13 @@
 //! The line of a name by the packages of its mix, as a part of those that all mixes are made of.
-ghost use Rattle.std.specs.Prelude.{◌≡◌, ◌<◌, ◌++◌, ℕ, List, None, false, length, map, IfOk};
-ghost use Rattle.std.specs.List.{items_where_true};
+ghost use Rattle.std.specs.{Prelude.{◌≡◌, ◌<◌, ◌++◌, ℕ, List, None, false, length, map, IfOk}, List.{items_where_true}, Option.{ForSome}};
 ghost use Rattle.clause_pool.specs.Interned.{IsPool};
 ghost use Rattle.listed.specs.Lists.{In};
 ghost use Rattle.repo_model.specs.Repository.{suite_repository};
 ghost use Rattle.row_book.specs.Book.{repository_of, Sound};
-ghost use Rattle.std.specs.Option.{ForSome};
-ghost use Rattle.suite_compare.specs.Comparing.{IsOldSide};
-ghost use Rattle.suite_compare.specs.Known.{AreKnownPairs};
-ghost use Rattle.suite_compare.specs.Report.{first_told};
-ghost use Rattle.suite_compare.specs.declared.report.ReportLine.{ReportLine};
+ghost use Rattle.suite_compare.specs.{Comparing.{IsOldSide}, Known.{AreKnownPairs}, Report.{first_told}, declared.report.ReportLine.{ReportLine}};
 ghost use Rattle.suite_compare.specs.Views.{IsKernelOf};
-ghost use Rattle.suite_part.specs.Bases.{IsBase};
-ghost use Rattle.suite_part.specs.Parts.{chosen_in, part};
-ghost use Rattle.migrate_plan.specs.Plan.{outcome_of, settings_of};
-ghost use Rattle.migrate_plan.specs.Trying.{outcome_by, told_of};
-ghost use Rattle.migrate_plan.specs.Whole.{packages_of_both, IsKernelAt, IsWhole};
+ghost use Rattle.suite_part.specs.{Bases.{IsBase}, Parts.{chosen_in, part}};
+ghost use Rattle.migrate_plan.specs.{Plan.{outcome_of, settings_of}, Trying.{outcome_by, told_of}, Whole.{packages_of_both, IsKernelAt, IsWhole}};
 ghost use Rattle.migrate_plan.specs.declared.plan.PlanLine.TheVariants.{LeftLimit};
 
 use crate::plan::PlanLine;

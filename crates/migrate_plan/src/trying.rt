@@ -1,10 +1,7 @@
 //! What becomes of a name, by the mix with it.
 ghost use Rattle.std.specs.Prelude.{◌≡◌, ◌<◌, List, None, IfOk};
-ghost use Rattle.migrate_plan.specs.Plan.{outcome_of, settings_of};
-ghost use Rattle.migrate_plan.specs.Trying.{outcome_by, told_of, IsViewAt};
-ghost use Rattle.suite_compare.specs.Comparing.{IsOldSide};
-ghost use Rattle.suite_compare.specs.Report.{first_told};
-ghost use Rattle.suite_compare.specs.declared.report.ReportLine.{ReportLine};
+ghost use Rattle.migrate_plan.specs.{Plan.{outcome_of, settings_of}, Trying.{outcome_by, told_of, IsViewAt}};
+ghost use Rattle.suite_compare.specs.{Comparing.{IsOldSide}, Report.{first_told}, declared.report.ReportLine.{ReportLine}};
 
 use crate::plan::PlanLine;
 use deb_version::Bytes;

@@ -1,15 +1,9 @@
 //! What all mixes of two indexes are made of, so that no mix is read, numbered and looked up anew.
-ghost use Rattle.std.specs.Prelude.{◌≡◌, ◌<◌, ◌++◌, ◌≤◌, ◌+◌, length, replicate, true, IfOk};
-ghost use Rattle.std.specs.List.{items_where_true};
-ghost use Rattle.std.specs.Option.{ForSome};
-ghost use Rattle.repo_model.specs.Limits.{most_packages};
-ghost use Rattle.repo_model.specs.Repository.{suite_repository};
+ghost use Rattle.std.specs.{Prelude.{◌≡◌, ◌<◌, ◌++◌, ◌≤◌, ◌+◌, length, replicate, true, IfOk}, List.{items_where_true}, Option.{ForSome}};
+ghost use Rattle.repo_model.specs.{Limits.{most_packages}, Repository.{suite_repository}};
 ghost use Rattle.row_book.specs.Book.{Sound};
-ghost use Rattle.suite_compare.specs.Bearers.{bearers_of};
-ghost use Rattle.suite_compare.specs.Views.{IsBookOf};
-ghost use Rattle.migrate_plan.specs.Differing.{differing};
-ghost use Rattle.migrate_plan.specs.Refusals.{packages_with};
-ghost use Rattle.migrate_plan.specs.Whole.{IsOldBase, IsWhole};
+ghost use Rattle.suite_compare.specs.{Bearers.{bearers_of}, Views.{IsBookOf}};
+ghost use Rattle.migrate_plan.specs.{Differing.{differing}, Refusals.{packages_with}, Whole.{IsOldBase, IsWhole}};
 
 use crate::flags::taken_flags;
 use crate::notes::TextNotes;

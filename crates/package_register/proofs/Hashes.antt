@@ -1,9 +1,6 @@
 -- Look-ups by a hash in a table whose values are seen as lists of numbers.
 use Rattle.std.proofs.Common.{◌≡◌, ℕ, Bool, true, false, eqb, List, [], ◌∷◌, Option, Some, None, IsSome, is_some, Result, Ok, Err, OnOk, IfOk, length, refl, sym, ap, subst, ◌∙◌, eqb-true}
-use Rattle.std.specs.Prelude.{if◌then◌else◌}
-use Rattle.std.specs.Option.{option_map_or}
-use Rattle.std.specs.Map.{KeepsOthers}
-use Rattle.std.specs.HashMap.{HashMap, get_by, UpdatesBy}
+use Rattle.std.specs.{Prelude.{if◌then◌else◌}, Option.{option_map_or}, Map.{KeepsOthers}, HashMap.{HashMap, get_by, UpdatesBy}}
 use Rattle.package_register.specs.Hashed.{with_number}
 
 module _ {X S : Type 0} (list : X → List ℕ) where

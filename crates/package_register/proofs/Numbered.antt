@@ -1,13 +1,9 @@
 -- The numbers of the items of a list that pass a test.
 use Rattle.std.proofs.Common.{◌≡◌, ℕ, zero, suc, ◌+◌, ◌↔◌, Bool, true, false, cond, List, [], ◌∷◌, ◌++◌, filter, length, map, inl, inr, refl, sym, ap, subst, ◌∙◌, add-zero, zero-add, arith}
-use Rattle.std.specs.Prelude.{◌==◌}
-use Rattle.std.specs.List.{enumerate_from, list_any}
-use Rattle.std.proofs.lemmas.Bool.{false≢true, or_cases, or_left, or_right}
-use Rattle.std.proofs.lemmas.Bool.Decides.{nat_tests}
-use Rattle.std.proofs.lemmas.List.Elements.{filter-append}
+use Rattle.std.proofs.{lemmas.Bool.{false≢true, or_cases, or_left, or_right}, lemmas.Bool.Decides.{nat_tests}, lemmas.List.Elements.{filter-append}}
+use Rattle.std.specs.{Prelude.{◌==◌}, List.{enumerate_from, list_any}}
 use Rattle.listed.specs.Lists.{In, here, has, Ascending, Inside}
-use Rattle.listed.proofs.Lists.{In_cases, In_none, In_append_right, any_cases, any_from, filter_cases, filter_from, has_In}
-use Rattle.listed.proofs.Bools.{same_bool}
+use Rattle.listed.proofs.{Lists.{In_cases, In_none, In_append_right, any_cases, any_from, filter_cases, filter_from, has_In}, Bools.{same_bool}}
 use Rattle.listed.proofs.Orders.{ascending_same}
 use Rattle.package_register.specs.Numbers.{numbers_from, numbers_where, passes_at, if_so}
 

@@ -1,14 +1,10 @@
 -- Numbers that are put behind others.
 use Rattle.std.proofs.Common.{◌≡◌, ℕ, zero, suc, ◌-◌, Bool, true, false, eqb, List, [], ◌∷◌, ◌++◌, length, take, Option, Some, None, inl, inr, refl, sym, ap, subst, ◌∙◌, eq-eqb, arith}
-use Rattle.std.specs.Prelude.{◌==◌, slice_get, if◌then◌else◌}
-use Rattle.std.specs.Option.{option_map_or}
-use Rattle.std.proofs.lemmas.Bool.{false≢true}
-use Rattle.std.proofs.lemmas.Bool.Decides.{nat_tests}
-use Rattle.std.proofs.lemmas.List.{append-nil}
+use Rattle.std.proofs.{lemmas.Bool.{false≢true}, lemmas.Bool.Decides.{nat_tests}, lemmas.List.{append-nil}}
+use Rattle.std.specs.{Prelude.{◌==◌, slice_get, if◌then◌else◌}, Option.{option_map_or}}
 use Rattle.listed.specs.Lists.{In, here, there, has}
 use Rattle.listed.proofs.Lists.{In_cases, In_none, In_append_cases, In_append_left, In_append_right, In_has, has_In}
-use Rattle.package_register.specs.Hashed.{ends_in, numbers_under, with_number, Puts}
-use Rattle.package_register.specs.declared.hashed.NumbersByHash.{NumbersByHash}
+use Rattle.package_register.specs.{Hashed.{ends_in, numbers_under, with_number, Puts}, declared.hashed.NumbersByHash.{NumbersByHash}}
 
 -- the first few of a list are among the first few of a longer one
 front_in : (k : ℕ) (xs ys : List ℕ) (n : ℕ) → In n (take k xs) → In n (take k (xs ++ ys))

@@ -1,19 +1,12 @@
 -- What a register finds, as it grows, and what is asked of it.
 use Rattle.std.proofs.Common.{◌≡◌, ℕ, zero, suc, ◌≤◌, ◌⊎◌, true, false, List, [], ◌∷◌, ◌++◌, length, take, Option, Some, None, inl, inr, refl, sym, ap, subst, ◌∙◌}
-use Rattle.std.specs.Cmp.{Equal-is}
-use Rattle.std.specs.Option.{option_map_or}
-use Rattle.std.specs.Ordering.{is_eq}
-use Rattle.std.specs.Prelude.{slice_get}
-use Rattle.std.proofs.lemmas.Bool.{and_parts, false≢true}
-use Rattle.std.proofs.lemmas.List.{take_all}
-use Rattle.deb_version.specs.Grammar.{is_version}
-use Rattle.deb_version.specs.Keys.{version_key}
-use Rattle.deb_version.specs.Order.{version_order}
+use Rattle.std.proofs.{lemmas.Bool.{and_parts, false≢true}, lemmas.List.{take_all}}
+use Rattle.std.specs.{Cmp.{Equal-is}, Option.{option_map_or}, Ordering.{is_eq}, Prelude.{slice_get}}
+use Rattle.deb_version.specs.{Grammar.{is_version}, Keys.{version_key}, Order.{version_order}}
 use Rattle.deb_version.proofs.EqualKeys.{equal_keys}
 use Rattle.listed.specs.Lists.{has}
 use Rattle.listed.proofs.Lists.{same_bytes}
-use Rattle.package_register.specs.Hashed.{hash_of, numbers_under, Puts}
-use Rattle.package_register.specs.Numbers.{passes_at}
+use Rattle.package_register.specs.{Hashed.{hash_of, numbers_under, Puts}, Numbers.{passes_at}}
 use Rattle.package_register.specs.Registers.{has_name, is_version_of, numbers_exact, numbers_named, package_key, AreCandidates, Grows, IsFound, IsRegisterOf}
 use Rattle.package_register.specs.declared.register.Register.{Register}
 use Rattle.package_register.proofs.Numbers.{has_both, has_left, has_right, puts_front, puts_keeps, puts_there}

@@ -3,8 +3,7 @@ use Rattle.std.specs.Prelude.{◌≡◌, ℕ, ◌-◌, ◌++◌, Bool, false, �
 use Rattle.std.specs.Hash.FoldHasher as folding
 use Rattle.std.specs.Option.{option_map_or}
 use Rattle.indexmap.specs.IndexMap.{get}
-use Rattle.package_register.specs.declared.hashed.NumberList.{NumberList}
-use Rattle.package_register.specs.declared.hashed.NumberList.TheVariants.{One, Many}
+use Rattle.package_register.specs.{declared.hashed.NumberList.{NumberList}, declared.hashed.NumberList.TheVariants.{One, Many}}
 use Rattle.package_register.specs.declared.hashed.NumbersByHash.{NumbersByHash}
 
 -- a number that is the same for equal texts

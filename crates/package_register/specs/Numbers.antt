@@ -1,7 +1,5 @@
 -- Numbers of the items of a list.
-use Rattle.std.specs.Prelude.{ℕ, Bool, false, if◌then◌else◌, List, [], ◌∷◌, map, filter, slice_get}
-use Rattle.std.specs.List.{enumerate_from}
-use Rattle.std.specs.Option.{option_map_or}
+use Rattle.std.specs.{Prelude.{ℕ, Bool, false, if◌then◌else◌, List, [], ◌∷◌, map, filter, slice_get}, List.{enumerate_from}, Option.{option_map_or}}
 
 -- the numbers of the items that pass the test, ascending, where the items are numbered from n in their order
 abbrev pub numbers_from : {X : Type 0} → ℕ → (X → Bool) → List X → List ℕ

@@ -1,15 +1,10 @@
 -- Registers: what has a name and a version is found under its name, and under its name with each version that compares as
 -- equal to its own. A register may give more numbers than these, and never fewer.
-use Rattle.std.specs.Prelude.{◌≡◌, ℕ, Bool, true, ◌&&◌, ◌⊎◌, List, ◌∷◌, ◌++◌, take, slice_get, Option, Some}
-use Rattle.std.specs.Coded.{Coded-set, coded_bool}
-use Rattle.std.specs.Ordering.{is_eq}
+use Rattle.std.specs.{Prelude.{◌≡◌, ℕ, Bool, true, ◌&&◌, ◌⊎◌, List, ◌∷◌, ◌++◌, take, slice_get, Option, Some}, Coded.{Coded-set, coded_bool}, Ordering.{is_eq}}
 use Rattle.std.specs.Str.{bytes_eq}
-use Rattle.deb_version.specs.Grammar.{is_version}
-use Rattle.deb_version.specs.Keys.{version_key}
-use Rattle.deb_version.specs.Order.{version_order}
+use Rattle.deb_version.specs.{Grammar.{is_version}, Keys.{version_key}, Order.{version_order}}
 use Rattle.listed.specs.Lists.{has}
-use Rattle.package_register.specs.declared.register.Register.{Register}
-use Rattle.package_register.specs.Hashed.{hash_of, numbers_under, HasNone}
+use Rattle.package_register.specs.{declared.register.Register.{Register}, Hashed.{hash_of, numbers_under, HasNone}}
 
 -- it has the name
 abbrev pub has_name : {X : Type 0} → (X → List ℕ) → List ℕ → X → Bool

@@ -1,8 +1,7 @@
 //! The key of a package, and hashes.
 ghost use Rattle.std.specs.Prelude.{◌≡◌, true, IfOk};
 ghost use Rattle.deb_version.specs.Grammar.{is_version};
-ghost use Rattle.package_register.specs.Hashed.{hash_of};
-ghost use Rattle.package_register.specs.Registers.{package_key};
+ghost use Rattle.package_register.specs.{Hashed.{hash_of}, Registers.{package_key}};
 
 use deb_version::Version;
 use std::alloc::{AllocError, Global};

@@ -1,17 +1,10 @@
 -- The entries of a log, one after another.
 use Rattle.std.proofs.Common.{Bool, true, false, ◌≡◌, ℕ, ◌+◌, ◌-◌, ◌<◌, ◌≤◌, List, [], ◌++◌, length, get_or, take, refl, ◌∙◌, arith, Some, subst, below_more}
-use Rattle.std.specs.Prelude.{All, map, slice_get}
 use Rattle.std.proofs.lemmas.Option.{slice_get_within, get_or_from_slice_get, slice_get_read}
-use Rattle.search_terms.specs.declared.literals.Literal.{Literal}
-use Rattle.search_terms.specs.Closure.{negation, Clashes}
-use Rattle.search_terms.specs.Derives.{Derives}
-use Rattle.std.specs.Prelude.{IsTrue, ◌↔◌}
-use Rattle.std.specs.Bool.{OnTrue}
+use Rattle.std.specs.{Prelude.{All, map, slice_get, IsTrue, ◌↔◌}, Bool.{OnTrue}}
+use Rattle.search_terms.specs.{declared.literals.Literal.{Literal}, Closure.{negation, Clashes}, Derives.{Derives}, Form.{form}, Laws.{HasNoSolution}}
 use Rattle.row_book.specs.Repository.{Repository}
-use Rattle.search_terms.specs.Form.{form}
-use Rattle.search_terms.specs.Laws.{HasNoSolution}
-use Rattle.search_terms.proofs.Found.{derives_no_solution}
-use Rattle.search_terms.proofs.Least.{negated_range}
+use Rattle.search_terms.proofs.{Found.{derives_no_solution}, Least.{negated_range}}
 
 -- the classes of negated literals
 pub range_of : (xs entry : List Literal) (n : ℕ) → xs ≡ map negation entry → All (λ l. l.class < n) entry → All (λ l. l.class < n) xs

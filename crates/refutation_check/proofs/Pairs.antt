@@ -1,9 +1,7 @@
 -- The sentences of conflicts, as they are made.
-use Rattle.std.proofs.Common.{◌≡◌, ℕ, ◌+◌, ◌<◌, List, [], ◌∷◌, ◌++◌, length, get_or, take, ap, sym, ◌∙◌, arith, append_assoc}
+use Rattle.std.proofs.{Common.{◌≡◌, ℕ, ◌+◌, ◌<◌, List, [], ◌∷◌, ◌++◌, length, get_or, take, ap, sym, ◌∙◌, arith, append_assoc}, lemmas.List.{take_more}}
 use Rattle.std.specs.Prelude.{map}
-use Rattle.std.proofs.lemmas.List.{take_more}
-use Rattle.search_terms.specs.declared.literals.Literal.{Literal}
-use Rattle.search_terms.specs.Form.{conflict_sentence, owned_sentences}
+use Rattle.search_terms.specs.{declared.literals.Literal.{Literal}, Form.{conflict_sentence, owned_sentences}}
 use Rattle.search_terms.proofs.Building.{owned_sentences_snoc, length_taken}
 
 pub pairs_more : (conflicts : List (List ℕ)) (p : ℕ) (others : List ℕ) (front old new : List (List Literal)) → p < length conflicts → others ≡ get_or conflicts p others

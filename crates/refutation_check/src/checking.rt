@@ -1,14 +1,9 @@
 //! The checker of logs.
 //!
 //! Plain scans on purpose: no table is shared with the search, so a fault of one cannot agree with itself.
-ghost use Rattle.std.specs.Prelude.{IfOk, IsTrue, ◌↔◌, length};
-ghost use Rattle.std.specs.Bool.{OnTrue};
-ghost use Rattle.row_book.specs.Book.{repository_of, Sound};
-ghost use Rattle.row_book.specs.Needs.{NeedsFit};
-ghost use Rattle.search_terms.specs.Closure.{InRange};
-ghost use Rattle.search_terms.specs.Derives.{Derives};
-ghost use Rattle.search_terms.specs.Form.{form};
-ghost use Rattle.search_terms.specs.Laws.{HasNoSolution};
+ghost use Rattle.std.specs.{Prelude.{IfOk, IsTrue, ◌↔◌, length}, Bool.{OnTrue}};
+ghost use Rattle.row_book.specs.{Book.{repository_of, Sound}, Needs.{NeedsFit}};
+ghost use Rattle.search_terms.specs.{Closure.{InRange}, Derives.{Derives}, Form.{form}, Laws.{HasNoSolution}};
 
 use crate::derivation::derives;
 use crate::formula::form_of;

@@ -1,7 +1,6 @@
 //! Whether the entries of a log follow one after another.
 ghost use Rattle.std.specs.Prelude.{◌≡◌, ◌-◌, Some, [], IfOk, IsTrue, ◌↔◌, length, slice_get};
-ghost use Rattle.search_terms.specs.Closure.{InRange};
-ghost use Rattle.search_terms.specs.Derives.{Derives};
+ghost use Rattle.search_terms.specs.{Closure.{InRange}, Derives.{Derives}};
 
 use crate::closures::follows;
 use search_terms::LiteralList;

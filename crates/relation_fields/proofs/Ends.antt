@@ -1,6 +1,5 @@
 -- A byte at the front of a text, and one at its end.
-use Rattle.std.proofs.Common.{◌≡◌, ℕ, ◌==◌, true, List, [], ◌∷◌, ◌++◌, Some, None, refl, arith}
-use Rattle.std.proofs.lemmas.Grind.{common_steps}
+use Rattle.std.proofs.{Common.{◌≡◌, ℕ, ◌==◌, true, List, [], ◌∷◌, ◌++◌, Some, None, refl, arith}, lemmas.Grind.{common_steps}}
 use Rattle.relation_fields.specs.Texts.{behind_byte, before_byte}
 use Rattle.relation_fields.proofs.Fronts.{stops}
 

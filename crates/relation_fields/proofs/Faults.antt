@@ -1,17 +1,10 @@
 -- What a whole field says, and its first fault, by how its elements are written.
 use Rattle.std.proofs.Common.{◌≡◌, ℕ, ◌+◌, ◌≤◌, nat_lt, Bool, true, false, cond, not, inl, inr, List, [], ◌∷◌, Option, Some, None, Result, Ok, Err, length, get_or, refl, sym, ◌∙◌, subst, arith}
-use Rattle.std.specs.Prelude.{IfOk, OnOk, IfErr}
-use Rattle.std.specs.List.{list_all, position, position_or_len, filter, filter_map, AllZip}
-use Rattle.std.specs.Option.{is_none, option_map}
-use Rattle.std.proofs.lemmas.Bool.{and_parts, and_cases, not-true, not-false, not_from_false, false≢true, ltb-false}
-use Rattle.std.proofs.lemmas.Option.{none-some}
-use Rattle.std.proofs.lemmas.List.Quantifiers.{position-Some}
-use Rattle.std.proofs.lemmas.List.Sums.{fails_before_first, list_all-from_AllPass}
-use Rattle.relation_fields.specs.declared.fields.RelationError.{RelationError}
-use Rattle.relation_fields.specs.declared.fields.RelationError.TheVariants.{Shape, Memory}
-use Rattle.relation_fields.specs.Texts.{is_white}
-use Rattle.relation_fields.specs.Fields.{elements, is_outside, first_outside, said_in}
-use Rattle.relation_fields.specs.Spelling.{SpellsEach, IsFirstFaultyElement, Reads}
+use Rattle.std.proofs.{lemmas.Bool.{and_parts, and_cases, not-true, not-false, not_from_false, false≢true, ltb-false}, lemmas.Option.{none-some}}
+use Rattle.std.proofs.{lemmas.List.Quantifiers.{position-Some}, lemmas.List.Sums.{fails_before_first, list_all-from_AllPass}}
+use Rattle.std.specs.{Prelude.{IfOk, OnOk, IfErr}, List.{list_all, position, position_or_len, filter, filter_map, AllZip}, Option.{is_none, option_map}}
+use Rattle.relation_fields.specs.{declared.fields.RelationError.{RelationError}, declared.fields.RelationError.TheVariants.{Shape, Memory}, Texts.{is_white}}
+use Rattle.relation_fields.specs.{Fields.{elements, is_outside, first_outside, said_in}, Spelling.{SpellsEach, IsFirstFaultyElement, Reads}}
 use Rattle.relation_fields.specs.Refusals.{OnFaultyElement}
 use Rattle.relation_fields.proofs.Bounds.{map_some}
 

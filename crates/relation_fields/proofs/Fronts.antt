@@ -1,13 +1,10 @@
 -- The longest front of a text whose bytes pass a test, and texts without white space at their ends.
 use Rattle.std.proofs.Common.{◌≡◌, ℕ, ◌+◌, ◌-◌, Bool, true, not, List, [], ◌∷◌, ◌++◌, length, take, drop, reverse, refl, sym, ap, ◌∙◌, arith}
-use Rattle.std.specs.List.{list_all, prefix_len, suffix_len}
-use Rattle.std.proofs.lemmas.Grind.{common_steps}
-use Rattle.std.proofs.lemmas.Bool.{and_parts, and_from}
+use Rattle.std.proofs.{lemmas.Grind.{common_steps}, lemmas.Bool.{and_parts, and_from}}
 use Rattle.std.proofs.lemmas.List.{append-nil, length-append, reverse-append, reverse-reverse, take-append-drop, take-append-le, length-reverse, length-drop}
-use Rattle.std.proofs.lemmas.List.Folds.{list_all-append}
-use Rattle.std.proofs.lemmas.List.Sums.{list_all-from_AllPass, prefix_len_passes}
-use Rattle.std.proofs.Math.Nat.{sub-zero}
+use Rattle.std.proofs.{lemmas.List.Folds.{list_all-append}, lemmas.List.Sums.{list_all-from_AllPass, prefix_len_passes}, Math.Nat.{sub-zero}}
 use Rattle.std.proofs.Math.Seq.{take-append_seam, drop-append_seam, drop-append-add, take-length}
+use Rattle.std.specs.List.{list_all, prefix_len, suffix_len}
 use Rattle.relation_fields.specs.Texts.{is_white_byte, is_white, trim_start, trim_end, trim_both}
 
 -- the text is empty, or its first byte fails

@@ -1,10 +1,8 @@
 -- Cutting a text into pieces, one piece at a time.
 use Rattle.std.proofs.Common.{◌≡◌, ℕ, ◌+◌, ◌<◌, ◌≤◌, ◌==◌, nat_lt, Bool, false, Some, None, List, [], ◌∷◌, length, take, drop, refl, arith}
-use Rattle.std.specs.List.{position, position_or_len, slice_split}
-use Rattle.std.proofs.lemmas.Grind.{common_steps}
-use Rattle.std.proofs.lemmas.List.Quantifiers.{position-Some}
-use Rattle.std.proofs.lemmas.List.Sums.{position_or_len_is, count_by-le-length}
+use Rattle.std.proofs.{lemmas.Grind.{common_steps}, lemmas.List.Quantifiers.{position-Some}, lemmas.List.Sums.{position_or_len_is, count_by-le-length}}
 use Rattle.std.proofs.lemmas.List.Splits.{slice_split_first, length-slice_split}
+use Rattle.std.specs.List.{position, position_or_len, slice_split}
 use Rattle.relation_fields.specs.Texts.{pieces}
 
 -- where the byte stands, the first piece ends before it, and the others are those of what stands behind it

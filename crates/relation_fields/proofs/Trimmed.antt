@@ -1,12 +1,9 @@
 -- White space in front of an element says nothing.
-use Rattle.std.proofs.Common.{◌≡◌, ℕ, ◌<◌, ◌==◌, true, false, List, [], ◌∷◌, ◌++◌, length, take, refl, sym, ap, ◌∙◌, arith}
-use Rattle.std.specs.List.{prefix_len, onto_first}
-use Rattle.std.proofs.lemmas.Bool.{and_parts, and_from}
+use Rattle.std.proofs.{Common.{◌≡◌, ℕ, ◌<◌, ◌==◌, true, false, List, [], ◌∷◌, ◌++◌, length, take, refl, sym, ap, ◌∙◌, arith}, lemmas.Bool.{and_parts, and_from}}
 use Rattle.std.proofs.lemmas.List.Splits.{slice_split-cons_no, length-slice_split}
-use Rattle.relation_fields.specs.Texts.{is_white_byte, is_white, trim_start, pieces}
-use Rattle.relation_fields.specs.Grammar.{atom_of, each_of, alternatives_of}
-use Rattle.relation_fields.proofs.Fronts.{front_passes, trim_start-white, trim_start-joined}
-use Rattle.relation_fields.proofs.Bytes.{fails_at_space}
+use Rattle.std.specs.List.{prefix_len, onto_first}
+use Rattle.relation_fields.specs.{Texts.{is_white_byte, is_white, trim_start, pieces}, Grammar.{atom_of, each_of, alternatives_of}}
+use Rattle.relation_fields.proofs.{Fronts.{front_passes, trim_start-white, trim_start-joined}, Bytes.{fails_at_space}}
 
 atom_behind : (front text : List ℕ) → is_white front ≡ true → atom_of (front ++ text) ≡ atom_of text
 unfolding atom_of

@@ -1,10 +1,8 @@
 -- The codes of atoms, by which an equation between lists of atoms has one proof at most.
 use Rattle.std.specs.Prelude.{◌≡◌, ℕ, Bool, true, false, List, Option, Some, None, refl}
 use Rattle.std.specs.Coded.{Coded, Coded-set, code_by, coded_list, coded_option, coded_bool, coded_ℕ, coded×}
-use Rattle.relation_fields.specs.declared.relations.Op.{Op}
-use Rattle.relation_fields.specs.declared.relations.Op.TheVariants.{Earlier, EarlierEqual, Exactly, LaterEqual, Later}
-use Rattle.relation_fields.specs.declared.relations.Bound.{Bound}
-use Rattle.relation_fields.specs.declared.relations.Atom.{Atom}
+use Rattle.relation_fields.specs.{declared.relations.Op.{Op}, declared.relations.Op.TheVariants.{Earlier, EarlierEqual, Exactly, LaterEqual, Later}}
+use Rattle.relation_fields.specs.{declared.relations.Bound.{Bound}, declared.relations.Atom.{Atom}}
 
 abbrev op_to : Op → Option (Option (Option Bool))
 op_to Earlier = None

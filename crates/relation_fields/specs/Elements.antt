@@ -1,8 +1,6 @@
 -- The elements of many packages, of which equal ones are kept once.
 use Rattle.std.specs.Prelude.{ℕ, ◌<◌, ◌^◌, List, length, vec_len, vec_capacity}
-use Rattle.relation_fields.specs.declared.relations.Atom.{Atom}
-use Rattle.relation_fields.specs.declared.shared.SharedElements.{SharedElements}
-use Rattle.relation_fields.specs.Shared.{marked}
+use Rattle.relation_fields.specs.{declared.relations.Atom.{Atom}, declared.shared.SharedElements.{SharedElements}, Shared.{marked}}
 
 -- the elements in their order
 abbrev pub elements_of : SharedElements → List (List Atom)

@@ -1,17 +1,10 @@
 -- How relations are written: Debian Policy 7.1, without its architecture and profile restrictions, and with the two
 -- deprecated operators `<` and `>`. Each relation says of a text that it is one way of writing a value.
-use Rattle.std.specs.Prelude.{◌≡◌, ◌<◌, ◌+◌, true, false, ◌⊎◌, ◌↔◌, ℕ, Option, Some, None, List, [], ◌∷◌, ◌++◌, length, slice_index_or, codes}
-use Rattle.std.specs.List.{AllZip}
-use Rattle.deb_version.specs.Names.{is_name}
-use Rattle.deb_version.specs.Grammar.{is_version}
-use Rattle.relation_fields.specs.declared.relations.Op.{Op}
-use Rattle.relation_fields.specs.declared.relations.Op.TheVariants.{Earlier, EarlierEqual, Exactly, LaterEqual, Later}
-use Rattle.relation_fields.specs.declared.relations.Bound.{Bound}
-use Rattle.relation_fields.specs.declared.relations.Atom.{Atom}
-use Rattle.relation_fields.specs.declared.relations.Provide.{Provide}
-use Rattle.relation_fields.specs.Texts.{is_white, pieces}
-use Rattle.relation_fields.specs.Grammar.{is_architecture}
-use Rattle.relation_fields.specs.Fields.{elements, written}
+use Rattle.std.specs.{Prelude.{◌≡◌, ◌<◌, ◌+◌, true, false, ◌⊎◌, ◌↔◌, ℕ, Option, Some, None, List, [], ◌∷◌, ◌++◌, length, slice_index_or, codes}, List.{AllZip}}
+use Rattle.deb_version.specs.{Names.{is_name}, Grammar.{is_version}}
+use Rattle.relation_fields.specs.{declared.relations.Op.{Op}, declared.relations.Op.TheVariants.{Earlier, EarlierEqual, Exactly, LaterEqual, Later}}
+use Rattle.relation_fields.specs.{declared.relations.Bound.{Bound}, declared.relations.Atom.{Atom}, declared.relations.Provide.{Provide}}
+use Rattle.relation_fields.specs.{Texts.{is_white, pieces}, Grammar.{is_architecture}, Fields.{elements, written}}
 
 -- the ways of writing an operator, with the old `<` and `>`
 abbrev pub SpellsOp : List ℕ → Op → Type 0

@@ -17,8 +17,7 @@ pub struct AtomList {
 }
 
 impl Model for AtomList {
-    ghost use Rattle.std.specs.Prelude.{List, []};
-    ghost use Rattle.std.specs.Option.{option_map_or};
+    ghost use Rattle.std.specs.{Prelude.{List, []}, Option.{option_map_or}};
     ghost use Rattle.relation_fields.specs.declared.relations.Atom.{Atom};
 
     ghost Value = { List Atom };

@@ -1,6 +1,5 @@
 //! Reading an atom.
-ghost use Rattle.std.specs.Prelude.{◌≡◌, true, IfOk};
-ghost use Rattle.std.specs.Option.{option_copied, option_map_or};
+ghost use Rattle.std.specs.{Prelude.{◌≡◌, true, IfOk}, Option.{option_copied, option_map_or}};
 ghost use Rattle.relation_fields.specs.Grammar.{op_of, bound_at, bound_of, in_parentheses, restriction_of, is_architecture, name_at, behind_name, qualifier_at, behind_qualifier, atom_of};
 
 use crate::grammar::is_architecture;

@@ -1,8 +1,6 @@
 //! The grammar of relations: the names of architectures, and laws.
-ghost use Rattle.std.specs.Prelude.{◌≡◌};
-ghost use Rattle.std.specs.List.{list_all};
-ghost use Rattle.relation_fields.specs.Texts.{is_architecture_byte};
-ghost use Rattle.relation_fields.specs.Grammar.{alternatives_of, atom_of, provide_of, begins_architecture, is_architecture};
+ghost use Rattle.std.specs.{Prelude.{◌≡◌}, List.{list_all}};
+ghost use Rattle.relation_fields.specs.{Texts.{is_architecture_byte}, Grammar.{alternatives_of, atom_of, provide_of, begins_architecture, is_architecture}};
 ghost use Rattle.relation_fields.specs.Spelling.{Reads, SpellsAlternatives, SpellsAtom, SpellsProvide};
 
 use crate::texts::{ByteKind, has_kind};

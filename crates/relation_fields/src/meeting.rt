@@ -1,7 +1,5 @@
 //! When a package meets an atom.
-ghost use Rattle.std.specs.Prelude.{◌≡◌, true};
-ghost use Rattle.std.specs.List.{list_any};
-ghost use Rattle.std.specs.Option.{option_map_or};
+ghost use Rattle.std.specs.{Prelude.{◌≡◌, true}, List.{list_any}, Option.{option_map_or}};
 ghost use Rattle.relation_fields.specs.Meeting.{wants, fits, is_always_ignored, is_home, is_ignored, is_met_by_name, fits_provided, is_provided_by, meets};
 
 use crate::packages::{Home, PackageFacts};

@@ -1,24 +1,16 @@
 -- The book of the rows and pairs of packages is their repository.
 use Rattle.std.proofs.Common.{◌≡◌, ℕ, suc, ◌+◌, ◌<◌, List, [], ◌∷◌, length, get_or, map, refl, sym, ap, ap₂, subst, ◌∙◌, add-zero, zero-add, arith}
-use Rattle.std.specs.List.{range_with_len}
 use Rattle.std.proofs.lemmas.List.{length-map}
+use Rattle.std.specs.List.{range_with_len}
 use Rattle.clause_pool.specs.Interned.{Interned, row_at}
-use Rattle.relation_fields.specs.declared.packages.Home.{Home}
-use Rattle.relation_fields.specs.declared.packages.PackageFacts.{PackageFacts}
-use Rattle.relation_fields.specs.declared.relations.Atom.{Atom}
-use Rattle.row_book.specs.Book.{are_paired, lists_of_pairs, repository_of, NumbersFit, Sound}
-use Rattle.row_book.specs.Repository.{Repository}
-use Rattle.listed.specs.Lists.{In}
-use Rattle.row_book.specs.declared.book.Book.{Book}
+use Rattle.relation_fields.specs.{declared.packages.Home.{Home}, declared.packages.PackageFacts.{PackageFacts}, declared.relations.Atom.{Atom}}
+use Rattle.row_book.specs.{Book.{are_paired, lists_of_pairs, repository_of, NumbersFit, Sound}, Repository.{Repository}, declared.book.Book.{Book}}
 use Rattle.row_book.specs.declared.pair.Pair.{Pair}
+use Rattle.listed.specs.Lists.{In}
 use Rattle.listed.proofs.Lists.{In_map, In_map_cases}
 use Rattle.clause_pool.proofs.Order.{ordered_parts}
-use Rattle.repo_model.specs.Interning.{HasRows}
-use Rattle.repo_model.specs.Repository.{clause_of, in_conflict, packages_of, row_of, suite_repository}
-use Rattle.repo_model.specs.Stanzas.{no_stanza, stanza_at}
-use Rattle.repo_model.proofs.Elements.{at_place}
-use Rattle.repo_model.proofs.Packages.{literal_cases}
-use Rattle.repo_model.proofs.Paired.{lists_conflict}
+use Rattle.repo_model.specs.{Interning.{HasRows}, Repository.{clause_of, in_conflict, packages_of, row_of, suite_repository}, Stanzas.{no_stanza, stanza_at}}
+use Rattle.repo_model.proofs.{Elements.{at_place}, Packages.{literal_cases}, Paired.{lists_conflict}}
 
 -- the values of the elements are those at their numbers
 mapped : {X Y : Type 0} (f : X → Y) (at : ℕ → X) (n : ℕ) (items : List X) (d : X) → ((i : ℕ) → i < length items → at (n + i) ≡ get_or items i d) →

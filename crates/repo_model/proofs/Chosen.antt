@@ -1,28 +1,17 @@
 -- The numbers of the packages that pass a test, and the clause of an element by the packages that meet its alternatives.
 use Rattle.std.proofs.Common.{◌≡◌, ℕ, suc, ◌+◌, ◌<◌, ◌↔◌, ◌++◌, Bool, true, false, cond, List, [], ◌∷◌, length, get_or, filter, inl, inr, refl, sym, ap, subst, ◌∙◌, add-zero, zero-add, eqb, arith}
-use Rattle.std.specs.List.{flat_map, range_with_len, Contains, AllPairs, dedup}
-use Rattle.std.specs.List.Sorted.{IsPermutation, IsSorted}
-use Rattle.std.specs.Ordering.{nat_cmp}
-use Rattle.std.specs.Str.{bytes_eq}
-use Rattle.std.proofs.Math.Bool.{and-true, or-false}
-use Rattle.std.proofs.lemmas.List.Kept.{AllPairs-from_increasing, Contains-dedup_nat, Contains-from_dedup}
-use Rattle.std.proofs.lemmas.List.Sorted.{Contains-permutation, IsPermutation-sym}
-use Rattle.std.proofs.lemmas.Map.Keys.{IsStrictlyIncreasing-dedup}
+use Rattle.std.proofs.{Math.Bool.{and-true, or-false}, lemmas.List.Kept.{AllPairs-from_increasing, Contains-dedup_nat, Contains-from_dedup}}
+use Rattle.std.proofs.{lemmas.List.Sorted.{Contains-permutation, IsPermutation-sym}, lemmas.Map.Keys.{IsStrictlyIncreasing-dedup}}
+use Rattle.std.specs.{List.{flat_map, range_with_len, Contains, AllPairs, dedup}, List.Sorted.{IsPermutation, IsSorted}, Ordering.{nat_cmp}, Str.{bytes_eq}}
 use Rattle.listed.proofs.Lists.{contains_in, in_contains, In_flat_cases, In_flat, In_cases, In_none, In_append_cases, In_append_left, In_append_right, any_from, any_cases, filter_same}
-use Rattle.relation_fields.specs.Meeting.{meets}
-use Rattle.relation_fields.specs.declared.packages.Home.{Home}
-use Rattle.relation_fields.specs.declared.packages.PackageFacts.{PackageFacts}
-use Rattle.relation_fields.specs.declared.relations.Atom.{Atom}
-use Rattle.listed.specs.Lists.{Ascending, Inside, In, here, there}
 use Rattle.listed.proofs.Orders.{ascending_filter, ascending_same}
+use Rattle.relation_fields.specs.{Meeting.{meets}, declared.packages.Home.{Home}, declared.packages.PackageFacts.{PackageFacts}, declared.relations.Atom.{Atom}}
+use Rattle.listed.specs.Lists.{Ascending, Inside, In, here, there}
 use Rattle.package_register.specs.Numbers.{if_so, numbers_from, numbers_where}
 use Rattle.package_register.proofs.Numbered.{numbers_from-cons}
-use Rattle.repo_model.specs.Goals.{any_version, is_named_by, packages_named}
-use Rattle.repo_model.specs.Meeting.{meeting}
-use Rattle.repo_model.specs.Repository.{clause_of, meets_any, packages_of}
+use Rattle.repo_model.specs.{Goals.{any_version, is_named_by, packages_named}, Meeting.{meeting}, Repository.{clause_of, meets_any, packages_of}}
 use Rattle.repo_model.specs.Stanzas.{no_stanza, stanza_at}
-use Rattle.repo_model.proofs.Elements.{at_place, place_of, range_ascending}
-use Rattle.repo_model.proofs.Packages.{chosen_cases, chosen_from, literal_cases, literal_from}
+use Rattle.repo_model.proofs.{Elements.{at_place, place_of, range_ascending}, Packages.{chosen_cases, chosen_from, literal_cases, literal_from}}
 
 -- the numbers of the items that pass are the numbers at which an item passes
 module _ {X : Type 0} (test : X → Bool) (at : ℕ → X) where

@@ -1,7 +1,6 @@
 -- The places of a list's elements, and the numbers of a range.
-use Rattle.std.proofs.Common.{ℕ, zero, suc, ◌<◌, ◌≤◌, ◌+◌, ◌∷◌, inl, inr, subst, arith}
+use Rattle.std.proofs.{Common.{ℕ, zero, suc, ◌<◌, ◌≤◌, ◌+◌, ◌∷◌, inl, inr, subst, arith}, lemmas.Bool.{cases_eq}}
 use Rattle.std.specs.List.{range_with_len}
-use Rattle.std.proofs.lemmas.Bool.{cases_eq}
 pub use Rattle.clause_pool.proofs.Lists.{In_at as at_place, In_place as place_of}
 use Rattle.listed.specs.Lists.{Ascending, In, here, there}
 use Rattle.listed.proofs.Lists.{In_cases, In_none}

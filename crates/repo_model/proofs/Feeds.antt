@@ -1,7 +1,6 @@
 -- The last line feed of a part of a text, as a search of that part tells it.
 use Rattle.std.proofs.Common.{◌≡◌, ℕ, ◌+◌, ◌-◌, ◌<◌, ◌≤◌, Some, None, List, length, take, drop, get_or, sym, ap, ◌∙◌, length-drop, arith}
-use Rattle.std.proofs.lemmas.Bool.{false_from_ne_true}
-use Rattle.std.proofs.lemmas.List.{get_or-drop, get_or-take, length-take-le}
+use Rattle.std.proofs.{lemmas.Bool.{false_from_ne_true}, lemmas.List.{get_or-drop, get_or-take, length-take-le}}
 use Rattle.memchr.specs.Find.{IsLastByte, is_byte}
 use Rattle.stanza_reader.specs.Lines.{is_line_feed}
 use Rattle.repo_model.specs.Backward.{IsLastFeed, NoFeed}

@@ -1,14 +1,10 @@
 -- The form of the repository of an index: its clauses are in order, ascending and of packages, and its conflicts are
 -- ascending, either way round and between two packages.
-use Rattle.std.proofs.Common.{◌≡◌, ◌≢◌, ℕ, ◌<◌, true, List, length, ◌⊎◌, inl, inr, sym, ◌∙◌, subst, arith, map}
-use Rattle.std.specs.Str.{bytes_eq}
-use Rattle.std.proofs.lemmas.Bool.{cases_lt}
+use Rattle.std.proofs.{Common.{◌≡◌, ◌≢◌, ℕ, ◌<◌, true, List, length, ◌⊎◌, inl, inr, sym, ◌∙◌, subst, arith, map}, lemmas.Bool.{cases_lt}}
 use Rattle.std.proofs.lemmas.Slice.Eq.{bytes_eq-Decides}
-use Rattle.relation_fields.specs.declared.packages.Home.{Home}
-use Rattle.relation_fields.specs.declared.packages.PackageFacts.{PackageFacts}
-use Rattle.relation_fields.specs.declared.relations.Atom.{Atom}
-use Rattle.repo_model.specs.Repository.{meets_any, packages_of, clause_of, stands_against, in_conflict, suite_repository}
-use Rattle.repo_model.specs.Stanzas.{stanza_at}
+use Rattle.std.specs.Str.{bytes_eq}
+use Rattle.relation_fields.specs.{declared.packages.Home.{Home}, declared.packages.PackageFacts.{PackageFacts}, declared.relations.Atom.{Atom}}
+use Rattle.repo_model.specs.{Repository.{meets_any, packages_of, clause_of, stands_against, in_conflict, suite_repository}, Stanzas.{stanza_at}}
 use Rattle.listed.specs.Lists.{Ascending, In}
 use Rattle.clause_pool.specs.Lists.{InOrder}
 use Rattle.row_book.specs.Repository.{clauses_of, conflicts_of, against}

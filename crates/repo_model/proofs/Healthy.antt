@@ -1,16 +1,10 @@
 -- A set of stanzas is healthy exactly when it is healthy in the repository of the index.
-use Rattle.std.proofs.Common.{◌≡◌, ◌≢◌, ℕ, ◌<◌, true, ◌↔◌, List, length, ◌⊎◌, inl, inr, sym, subst, arith}
+use Rattle.std.proofs.{Common.{◌≡◌, ◌≢◌, ℕ, ◌<◌, true, ◌↔◌, List, length, ◌⊎◌, inl, inr, sym, subst, arith}, lemmas.Bool.{both_ways, false_from_ne_true}}
 use Rattle.std.specs.Str.{bytes_eq}
-use Rattle.std.proofs.lemmas.Bool.{both_ways, false_from_ne_true}
-use Rattle.repo_model.specs.declared.plain.PlainRepository.{PlainRepository}
-use Rattle.repo_model.specs.Repository.{meets_any, clause_of, stands_against, in_conflict, suite_repository}
-use Rattle.relation_fields.specs.Meeting.{meets}
-use Rattle.relation_fields.specs.declared.packages.Home.{Home}
-use Rattle.relation_fields.specs.declared.packages.PackageFacts.{PackageFacts}
-use Rattle.relation_fields.specs.declared.relations.Atom.{Atom}
+use Rattle.repo_model.specs.{declared.plain.PlainRepository.{PlainRepository}, Repository.{meets_any, clause_of, stands_against, in_conflict, suite_repository}}
 use Rattle.repo_model.specs.Stanzas.{Met, stanza_at, HealthyStanzas, CoinstStanzas}
-use Rattle.row_book.specs.Repository.{Healthy, Coinst, against}
-use Rattle.row_book.specs.Sets.{NumSet, Is, Hit}
+use Rattle.relation_fields.specs.{Meeting.{meets}, declared.packages.Home.{Home}, declared.packages.PackageFacts.{PackageFacts}, declared.relations.Atom.{Atom}}
+use Rattle.row_book.specs.{Repository.{Healthy, Coinst, against}, Sets.{NumSet, Is, Hit}}
 use Rattle.listed.specs.Lists.{In}
 use Rattle.listed.proofs.Lists.{any_from, any_cases}
 use Rattle.repo_model.proofs.Packages.{length_clauses, literal_cases, literal_from, clause_cases, clause_from, against_cases, against_from, conflict_cases, conflict_by_name, conflict_by_first}

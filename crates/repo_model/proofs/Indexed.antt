@@ -1,19 +1,14 @@
 -- Items by their numbers: the first of those that pass a test.
 use Rattle.std.proofs.Common.{◌≡◌, ℕ, suc, ◌+◌, Bool, true, false, cond, List, [], ◌∷◌, ◌++◌, Option, Some, find, refl, sym, ap, ◌∙◌, add-zero, zero-add, arith}
-use Rattle.std.specs.Prelude.{◌&&◌, slice_get}
-use Rattle.std.specs.declared.cmp.Ordering.{Ordering}
-use Rattle.std.specs.declared.cmp.Ordering.TheVariants.{Less, Equal, Greater}
-use Rattle.std.specs.Ordering.{is_eq, ordering_reverse}
-use Rattle.std.specs.Str.{bytes_eq}
+use Rattle.std.specs.{Prelude.{◌&&◌, slice_get}, declared.cmp.Ordering.{Ordering}, declared.cmp.Ordering.TheVariants.{Less, Equal, Greater}}
+use Rattle.std.specs.{Ordering.{is_eq, ordering_reverse}, Str.{bytes_eq}, Option.{option_and_then}}
 use Rattle.deb_version.specs.Order.{version_order}
 use Rattle.deb_version.proofs.TotalOrder.{version_total}
 use Rattle.listed.proofs.Lists.{find_same}
 use Rattle.relation_fields.specs.declared.packages.PackageFacts.{PackageFacts}
 use Rattle.virtual_provides.specs.Bearers.{own_name, own_version}
-use Rattle.package_register.specs.Registers.{is_version_of}
+use Rattle.package_register.specs.{Registers.{is_version_of}, Numbers.{numbers_from, numbers_where, if_so}}
 use Rattle.repo_model.specs.Facts.{is_same_package}
-use Rattle.std.specs.Option.{option_and_then}
-use Rattle.package_register.specs.Numbers.{numbers_from, numbers_where, if_so}
 use Rattle.package_register.proofs.Numbered.{numbers_from-cons}
 
 module _ {X : Type 0} (test : X → Bool) where

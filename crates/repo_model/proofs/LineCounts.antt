@@ -1,7 +1,6 @@
 -- The number of the line behind a text, by a place in it.
-use Rattle.std.proofs.Common.{◌≡◌, ℕ, ◌+◌, cond, List, take, drop, arith}
+use Rattle.std.proofs.{Common.{◌≡◌, ℕ, ◌+◌, cond, List, take, drop, arith}, lemmas.List.Sums.{sum_by-take-drop}}
 use Rattle.std.specs.Prelude.{count_by}
-use Rattle.std.proofs.lemmas.List.Sums.{sum_by-take-drop}
 use Rattle.stanza_reader.proofs.PlaceLemmas.{feeds}
 use Rattle.stanza_reader.specs.Lines.{is_line_feed}
 

@@ -1,21 +1,15 @@
 -- Repositories, names and goals do not look at the numbers of lines.
 use Rattle.std.proofs.Common.{◌≡◌, ℕ, zero, suc, Bool, not, ◌&&◌, ◌||◌, eqb, List, [], ◌∷◌, map, filter, refl, sym, ap, ap₂, subst, ◌∙◌}
-use Rattle.std.specs.List.{list_any, range_with_len}
-use Rattle.std.specs.Str.{bytes_eq}
 use Rattle.std.proofs.lemmas.List.{length-map}
-use Rattle.relation_fields.specs.Meeting.{meets}
-use Rattle.relation_fields.specs.declared.packages.Home.{Home}
-use Rattle.relation_fields.specs.declared.packages.PackageFacts.{PackageFacts}
-use Rattle.relation_fields.specs.declared.relations.Atom.{Atom}
+use Rattle.std.specs.{List.{list_any, range_with_len}, Str.{bytes_eq}}
+use Rattle.relation_fields.specs.{Meeting.{meets}, declared.packages.Home.{Home}, declared.packages.PackageFacts.{PackageFacts}, declared.relations.Atom.{Atom}}
 use Rattle.clause_pool.specs.Clauses.{in_row_order}
 use Rattle.row_book.specs.Repository.{Repository, Healthy}
 use Rattle.listed.proofs.Lists.{filter_same}
 use Rattle.row_book.proofs.Numbers.{map_same}
-use Rattle.repo_model.specs.Goals.{is_named_by, packages_named, CoinstGoals}
-use Rattle.repo_model.specs.Laws.{but_line, IgnoresLines}
+use Rattle.repo_model.specs.{Goals.{is_named_by, packages_named, CoinstGoals}, Laws.{but_line, IgnoresLines}}
 use Rattle.repo_model.specs.Repository.{clause_of, conflicting_with, in_conflict, meets_any, packages_of, row_of, stands_against, suite_repository}
-use Rattle.repo_model.specs.Stanzas.{stanza_at}
-use Rattle.repo_model.specs.declared.goals.Goal.{Goal}
+use Rattle.repo_model.specs.{Stanzas.{stanza_at}, declared.goals.Goal.{Goal}}
 use Rattle.repo_model.proofs.Healthy.{healthy_same}
 
 stanza_but : (stanzas : List PackageFacts) (n : ℕ) → stanza_at (map but_line stanzas) n ≡ but_line (stanza_at stanzas n)

@@ -1,16 +1,12 @@
 -- The elements of packages by their marks.
 use Rattle.std.proofs.Common.{◌≡◌, ℕ, suc, ◌+◌, ◌<◌, ◌≤◌, ◌++◌, List, [], ◌∷◌, length, get_or, map, take, drop, inl, inr, refl, sym, ap, ap₂, subst, ◌∙◌, add-one, length-append, drop-cons, arith}
+use Rattle.std.proofs.{lemmas.List.{drop-map, get_or-map, length-map, map-append, take-map}, Math.Seq.{drop-append_seam, take-append_seam}}
 use Rattle.std.specs.List.{flat_map}
-use Rattle.std.proofs.lemmas.List.{drop-map, get_or-map, length-map, map-append, take-map}
-use Rattle.std.proofs.Math.Seq.{drop-append_seam, take-append_seam}
-use Rattle.clause_pool.specs.Interned.{Interned, clause_at, clauses_at}
+use Rattle.clause_pool.specs.{Interned.{Interned, clause_at, clauses_at}, Lists.{InOrder}}
 use Rattle.listed.proofs.Lists.{has_In, In_map, In_place}
 use Rattle.relation_fields.specs.Shared.{marked, AreMarked}
-use Rattle.clause_pool.specs.Lists.{InOrder}
 use Rattle.listed.specs.Lists.{In, here, there}
-use Rattle.repo_model.specs.Interning.{HasIds}
-use Rattle.repo_model.specs.Ranks.{clause_marked, clauses_marked, ids_of_ranks, AreRanked, IsRanking}
-use Rattle.repo_model.specs.declared.ranks.Ranks.{Ranks}
+use Rattle.repo_model.specs.{Interning.{HasIds}, Ranks.{clause_marked, clauses_marked, ids_of_ranks, AreRanked, IsRanking}, declared.ranks.Ranks.{Ranks}}
 
 -- each list has a mark
 pub each_marked : {A : Type 0} (distinct : List (List A)) (marks : List ℕ) → AreMarked distinct marks → (x : List A) → In x distinct → In x (marked distinct marks)

@@ -1,21 +1,15 @@
 -- Sorted names, each taken once.
 use Rattle.std.proofs.Common.{◌≡◌, ◌≢◌, ℕ, ◌<◌, ◌+◌, ◌-◌, true, false, ◌&&◌, nat_lt, List, [], ◌∷◌, ◌++◌, length, get_or, map, refl, sym, ap, subst, ◌∙◌, arith, inl, inr, Bor}
-use Rattle.std.specs.List.Sorted.{IsPermutation, IsSorted}
-use Rattle.std.specs.Ordering.{nat_cmp, is_lt}
-use Rattle.std.specs.Cmp.Lexicographic.{slice_cmp}
-use Rattle.std.specs.Str.{bytes_eq}
-use Rattle.std.proofs.lemmas.Bool.{cases_Bool, cases_eq, and_from, and_parts, lt-ltb, ltb-true, false≢true}
-use Rattle.std.proofs.lemmas.Slice.Eq.{bytes_eq-Decides}
-use Rattle.std.proofs.lemmas.Cmp.{nat_list_cmp_total}
-use Rattle.std.proofs.lemmas.List.{get_or-map, length-map}
+use Rattle.std.proofs.{lemmas.Bool.{cases_Bool, cases_eq, and_from, and_parts, lt-ltb, ltb-true, false≢true}, lemmas.Slice.Eq.{bytes_eq-Decides}}
+use Rattle.std.proofs.{lemmas.Cmp.{nat_list_cmp_total}, lemmas.List.{get_or-map, length-map}}
 use Rattle.std.proofs.lemmas.List.Sorted.{ranks_by, sorted_far, IsPermutation-map, IsPermutation-sym, Contains-permutation}
-use Rattle.clause_pool.specs.Lists.{Before, InOrder}
-use Rattle.clause_pool.specs.Clauses.{comes_before, in_row_order}
+use Rattle.std.specs.{List.Sorted.{IsPermutation, IsSorted}, Ordering.{nat_cmp, is_lt}, Cmp.Lexicographic.{slice_cmp}, Str.{bytes_eq}}
+use Rattle.clause_pool.specs.{Lists.{Before, InOrder}, Clauses.{comes_before, in_row_order}}
 use Rattle.listed.specs.Lists.{In, here}
 use Rattle.listed.proofs.Lists.{In_cases, In_none, In_append_cases, In_append_left, In_append_right}
 use Rattle.clause_pool.proofs.Order.{before_test, neither_before, order_append, order_same, ordered_order, ordered_parts, ordered_has}
-use Rattle.repo_model.specs.NameOrder.{name_at, Rising, is_repeated}
 use Rattle.clause_pool.proofs.Compared.{before_compared}
+use Rattle.repo_model.specs.NameOrder.{name_at, Rising, is_repeated}
 use Rattle.repo_model.proofs.Elements.{at_place, place_of}
 
 -- of the names below a place each is taken once, and they are in order

@@ -1,10 +1,8 @@
 -- Where a word is cut into a goal's name and its version.
 use Rattle.std.proofs.Common.{◌≡◌, ℕ, ◌+◌, ◌-◌, Bool, true, false, cond, nat_lt, List, [], ◌∷◌, Some, None, length, take, drop, refl, sym, ap, ◌∙◌, arith}
+use Rattle.std.proofs.{lemmas.Grind.{common_steps}, lemmas.Option.{cond_some}}
 use Rattle.std.specs.List.{list_any, position, position_or_len}
-use Rattle.std.proofs.lemmas.Grind.{common_steps}
-use Rattle.std.proofs.lemmas.Option.{cond_some}
-use Rattle.listed.proofs.Lists.{any_by_first, to_end}
-use Rattle.listed.proofs.Bools.{left_out}
+use Rattle.listed.proofs.{Lists.{any_by_first, to_end}, Bools.{left_out}}
 use Rattle.repo_model.specs.Goals.{is_equals, goal_of, goal_of_name, goal_of_parts}
 
 pub goal_cut : (word : List ℕ) (place : ℕ) → Some place ≡ position is_equals word → goal_of word ≡ goal_of_parts (take place word) (drop (place + 1) word)

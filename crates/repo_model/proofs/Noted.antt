@@ -1,9 +1,7 @@
 -- The elements that were read are those of the packages.
 use Rattle.std.proofs.Common.{◌≡◌, List, [], ◌∷◌, ◌++◌, ap, refl, sym, ◌∙◌, append_assoc}
 use Rattle.std.specs.List.{flat_map}
-use Rattle.relation_fields.specs.Shared.{none_behind}
-use Rattle.relation_fields.specs.declared.packages.PackageFacts.{PackageFacts}
-use Rattle.relation_fields.specs.declared.relations.Atom.{Atom}
+use Rattle.relation_fields.specs.{Shared.{none_behind}, declared.packages.PackageFacts.{PackageFacts}, declared.relations.Atom.{Atom}}
 use Rattle.repo_model.specs.Needs.{needs_of_all}
 
 needs_append : (packages : List PackageFacts) (facts : PackageFacts) → needs_of_all (packages ++ facts ∷ []) ≡ needs_of_all packages ++ facts.needs

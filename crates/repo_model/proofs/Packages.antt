@@ -1,14 +1,11 @@
 -- The clauses and conflicts of the repository of an index, by its stanzas.
 use Rattle.std.proofs.Common.{◌≡◌, ◌≢◌, ℕ, ◌+◌, ◌<◌, ◌≤◌, Bool, true, not, ◌||◌, eqb, List, [], length, ◌⊎◌, inl, inr, sym, subst, arith, map, filter}
-use Rattle.std.specs.Str.{bytes_eq}
 use Rattle.std.proofs.lemmas.Bool.{cases_lt, and_parts, and_from, or_cases, or_left, or_right, not-true, not_from_false, eqb-false, ne_eqb}
-use Rattle.std.proofs.lemmas.List.{get_or_past}
-use Rattle.std.proofs.lemmas.List.FromFn.{length-map-range_with_len, get_or-map-range_with_len}
+use Rattle.std.proofs.{lemmas.List.{get_or_past}, lemmas.List.FromFn.{length-map-range_with_len, get_or-map-range_with_len}}
+use Rattle.std.specs.Str.{bytes_eq}
 use Rattle.repo_model.specs.Repository.{packages_of, meets_any, clause_of, row_of, stands_against, in_conflict, conflicting_with, suite_repository}
-use Rattle.relation_fields.specs.declared.packages.Home.{Home}
-use Rattle.relation_fields.specs.declared.packages.PackageFacts.{PackageFacts}
-use Rattle.relation_fields.specs.declared.relations.Atom.{Atom}
 use Rattle.repo_model.specs.Stanzas.{stanza_at}
+use Rattle.relation_fields.specs.{declared.packages.Home.{Home}, declared.packages.PackageFacts.{PackageFacts}, declared.relations.Atom.{Atom}}
 use Rattle.row_book.specs.Repository.{clauses_of, conflicts_of, against}
 use Rattle.listed.specs.Lists.{In}
 use Rattle.listed.proofs.Lists.{In_none, In_has, has_In, In_map, In_map_cases, filter_from, filter_cases}

@@ -2,29 +2,17 @@
 use Rattle.std.proofs.Common.{◌≡◌, ◌≢◌, ℕ, zero, suc, ◌+◌, ◌<◌, ◌≤◌, ◌++◌, ◌⊎◌, Bool, true, ◌&&◌, ◌||◌, eqb, List, [], ◌∷◌, length, get_or, map, filter, take, inl, inr, refl, sym, ap, ap₂, subst, ◌∙◌, eq-eqb, eqb-true, arith}
 use Rattle.std.specs.Prelude.{max, min}
 use Rattle.std.specs.Cmp.{both_ways as bool_same}
-use Rattle.std.specs.List.{range_with_len}
-use Rattle.std.specs.Str.{bytes_eq}
+use Rattle.std.specs.{List.{range_with_len}, Str.{bytes_eq}}
 use Rattle.std.proofs.lemmas.Bool.{and_from, and_parts, cases_lt, or_cases, or_left, or_right}
-use Rattle.std.proofs.Math.Nat.{min-eq_left, min-eq_right, max-eq_left, max-eq_right}
-use Rattle.std.proofs.lemmas.List.{get_or-take, length-take, take_more}
-use Rattle.relation_fields.specs.Meeting.{meets}
-use Rattle.relation_fields.specs.declared.packages.Home.{Home}
-use Rattle.relation_fields.specs.declared.packages.PackageFacts.{PackageFacts}
-use Rattle.relation_fields.specs.declared.relations.Atom.{Atom}
-use Rattle.row_book.specs.Book.{are_paired, lists_of_pairs, PairsFit}
-use Rattle.row_book.specs.Numbers.{numbers}
+use Rattle.std.proofs.{Math.Nat.{min-eq_left, min-eq_right, max-eq_left, max-eq_right}, lemmas.List.{get_or-take, length-take, take_more}}
+use Rattle.relation_fields.specs.{Meeting.{meets}, declared.packages.Home.{Home}, declared.packages.PackageFacts.{PackageFacts}, declared.relations.Atom.{Atom}}
+use Rattle.row_book.specs.{Book.{are_paired, lists_of_pairs, PairsFit}, Numbers.{numbers}, declared.pair.Pair.{Pair}}
 use Rattle.listed.specs.Lists.{In, here}
-use Rattle.row_book.specs.declared.pair.Pair.{Pair}
 use Rattle.listed.proofs.Lists.{any_cases, any_from, In_append_cases, In_append_left, In_append_right, In_cases, In_none, filter_same}
-use Rattle.row_book.proofs.Numbers.{map_same}
-use Rattle.row_book.proofs.Pairs.{is_of}
-use Rattle.repo_model.specs.Meeting.{meeting}
-use Rattle.repo_model.specs.Pairs.{is_named, pair_of, Adds, IsAgainst, IsFound, IsPairWithEarlier, IsPairWith}
-use Rattle.repo_model.specs.Repository.{in_conflict, packages_of, conflicting_with, stands_against}
-use Rattle.repo_model.specs.Stanzas.{no_stanza, stanza_at}
-use Rattle.repo_model.proofs.Chosen.{number_cases, number_from}
-use Rattle.repo_model.proofs.Elements.{range_cases}
-use Rattle.repo_model.proofs.Form.{conflict_back, same_name}
+use Rattle.row_book.proofs.{Numbers.{map_same}, Pairs.{is_of}}
+use Rattle.repo_model.specs.{Meeting.{meeting}, Pairs.{is_named, pair_of, Adds, IsAgainst, IsFound, IsPairWithEarlier, IsPairWith}}
+use Rattle.repo_model.specs.{Repository.{in_conflict, packages_of, conflicting_with, stands_against}, Stanzas.{no_stanza, stanza_at}}
+use Rattle.repo_model.proofs.{Chosen.{number_cases, number_from}, Elements.{range_cases}, Form.{conflict_back, same_name}}
 use Rattle.repo_model.proofs.Packages.{conflict_by_first, conflict_by_name, conflict_cases}
 
 -- the first elements and the next one

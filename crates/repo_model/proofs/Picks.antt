@@ -1,23 +1,14 @@
 -- The stanzas whose flags are up, put one behind the other.
 use Rattle.std.proofs.Common.{◌≡◌, ℕ, ◌+◌, ◌≤◌, ◌<◌, Bool, true, false, cond, List, [], ◌∷◌, ◌++◌, length, get_or, drop, map, Option, Some, None, Ok, refl, sym, ap, ap₂, subst, ◌∙◌, add-one, append_assoc, drop-cons, length-append, arith}
-use Rattle.std.specs.Prelude.{nat_le, if◌then◌else◌}
-use Rattle.std.specs.Option.{option_or}
 use Rattle.std.proofs.lemmas.List.{append-nil, drop_all, length-map, map-append}
-use Rattle.stanza_reader.specs.Blanking.{picked}
-use Rattle.stanza_reader.specs.Stanzas.{readings, stanzas}
-use Rattle.stanza_reader.specs.declared.stanza.RawStanza.{RawStanza}
+use Rattle.std.specs.{Prelude.{nat_le, if◌then◌else◌}, Option.{option_or}}
+use Rattle.stanza_reader.specs.{Blanking.{picked}, Stanzas.{readings, stanzas}, declared.stanza.RawStanza.{RawStanza}}
 use Rattle.stanza_reader.proofs.BlankLemmas.{good_readings}
 use Rattle.relation_fields.specs.declared.packages.PackageFacts.{PackageFacts}
-use Rattle.repo_model.specs.Facts.{architecture_of, facts_of}
-use Rattle.repo_model.specs.Feeding.{IsSuiteOf}
-use Rattle.repo_model.specs.FirstFault.{first_fault, home_of, reading_fault, stanza_fault, stanzas_in, stanzas_of}
-use Rattle.repo_model.specs.Limits.{most_packages}
-use Rattle.repo_model.specs.Picking.{next_fault}
-use Rattle.repo_model.specs.Refusals.{Refuses}
-use Rattle.repo_model.specs.declared.fault.IndexFault.{IndexFault}
-use Rattle.repo_model.specs.declared.fault.IndexFault.TheVariants.{TooMany}
-use Rattle.repo_model.proofs.Refusing.{for_same}
-use Rattle.repo_model.proofs.Steps.{IsRead, Reading, behind_is, fault_from, home_of-push, ok_of, stanzas_in-ok, there_first}
+use Rattle.repo_model.specs.{Facts.{architecture_of, facts_of}, Feeding.{IsSuiteOf}}
+use Rattle.repo_model.specs.{FirstFault.{first_fault, home_of, reading_fault, stanza_fault, stanzas_in, stanzas_of}, Limits.{most_packages}}
+use Rattle.repo_model.specs.{Picking.{next_fault}, Refusals.{Refuses}, declared.fault.IndexFault.{IndexFault}, declared.fault.IndexFault.TheVariants.{TooMany}}
+use Rattle.repo_model.proofs.{Refusing.{for_same}, Steps.{IsRead, Reading, behind_is, fault_from, home_of-push, ok_of, stanzas_in-ok, there_first}}
 
 -- what the stanzas from a place on read as, where their flags are up
 abbrev pub picked_from : ℕ → List Bool → List RawStanza → List Reading

@@ -1,18 +1,11 @@
 -- A piece that is taken in parts.
 use Rattle.std.proofs.Common.{◌≡◌, true, ℕ, ◌+◌, List, [], ◌∷◌, ◌++◌, length, take, drop, Result, refl, sym, ap, ap₂, subst, ◌∙◌, append_assoc, length-append, take-append-drop, take_all, arith}
+use Rattle.std.proofs.{lemmas.Bool.{eqb-true}, lemmas.List.{append-nil}}
 use Rattle.std.specs.Prelude.{◌==◌, count_by}
-use Rattle.std.proofs.lemmas.Bool.{eqb-true}
-use Rattle.std.proofs.lemmas.List.{append-nil}
-use Rattle.stanza_reader.specs.Close.{IsClosed}
-use Rattle.stanza_reader.specs.Lines.{is_line_feed}
-use Rattle.repo_model.specs.Feeding.{HasFault, IsFront, IsOpen, IsProgress, IsSuiteOf, StandsUnlessMemory}
-use Rattle.repo_model.specs.FirstFault.{first_fault}
-use Rattle.repo_model.specs.Refusals.{UnlessMemory, Refuses}
-use Rattle.repo_model.specs.declared.fault.IndexFault.{IndexFault}
-use Rattle.repo_model.specs.declared.progress.Progress.{Progress}
-use Rattle.repo_model.proofs.Opening.{open_same}
-use Rattle.repo_model.proofs.Refusing.{for_same}
-use Rattle.repo_model.proofs.Standing.{closed_more, closed_refused}
+use Rattle.stanza_reader.specs.{Close.{IsClosed}, Lines.{is_line_feed}}
+use Rattle.repo_model.specs.{Feeding.{HasFault, IsFront, IsOpen, IsProgress, IsSuiteOf, StandsUnlessMemory}, FirstFault.{first_fault}}
+use Rattle.repo_model.specs.{Refusals.{UnlessMemory, Refuses}, declared.fault.IndexFault.{IndexFault}, declared.progress.Progress.{Progress}}
+use Rattle.repo_model.proofs.{Opening.{open_same}, Refusing.{for_same}, Standing.{closed_more, closed_refused}}
 
 front_of_nil : (front rest : List ℕ) → [] ≡ front ++ rest → front ≡ []
 front_of_nil [] rest e = refl

@@ -1,7 +1,6 @@
 -- A clause put into its place among clauses in order.
 use Rattle.std.proofs.Common.{◌≡◌, ℕ, zero, suc, ◌<◌, ◌≤◌, ◌-◌, true, false, cond, List, [], ◌∷◌, ◌++◌, length, get_or, take, drop, refl, sym, ◌∙◌, ap, arith}
-use Rattle.std.proofs.lemmas.Bool.{cond-true, cond-false, false_from_ne_true}
-use Rattle.std.proofs.lemmas.List.{get_or_default}
+use Rattle.std.proofs.{lemmas.Bool.{cond-true, cond-false, false_from_ne_true}, lemmas.List.{get_or_default}}
 use Rattle.clause_pool.specs.Clauses.{comes_before, insert_clause}
 use Rattle.clause_pool.proofs.Order.{before_asym, before_test}
 

@@ -1,21 +1,14 @@
 -- Clauses in their order, and the rank of each.
 use Rattle.std.proofs.Common.{◌≡◌, ◌≢◌, ℕ, zero, suc, ◌+◌, ◌<◌, Bool, true, false, cond, eqb, List, [], ◌∷◌, ◌++◌, length, get_or, map, set, take, inl, inr, refl, sym, ap, ap₂, subst, ◌∙◌, arith, eq-eqb}
-use Rattle.std.specs.Cmp.{IsStrictWeakOrder}
-use Rattle.std.specs.List.{dedup, dedup_from}
-use Rattle.std.specs.List.Sorted.{IsPermutation, IsSortedBy}
 use Rattle.std.proofs.lemmas.Bool.{both_ways, cases_Bool, cases_eq, cases_lt, false_from_ne_true}
-use Rattle.std.proofs.lemmas.List.{get_or-set_other, get_or-set_same, map-append, take_more}
-use Rattle.std.proofs.lemmas.List.Kept.{Contains-from_dedup}
+use Rattle.std.proofs.{lemmas.List.{get_or-set_other, get_or-set_same, map-append, take_more}, lemmas.List.Kept.{Contains-from_dedup}}
 use Rattle.std.proofs.lemmas.List.Sorted.{Contains-permutation, IsPermutation-sym}
-use Rattle.clause_pool.specs.Interned.{Interned, clause_at, clauses_at, IsPool, OfPool}
-use Rattle.listed.proofs.Orders.{once_same}
-use Rattle.clause_pool.specs.Clauses.{comes_before, in_row_order}
+use Rattle.std.specs.{Cmp.{IsStrictWeakOrder}, List.{dedup, dedup_from}, List.Sorted.{IsPermutation, IsSortedBy}}
+use Rattle.clause_pool.specs.{Interned.{Interned, clause_at, clauses_at, IsPool, OfPool}, Clauses.{comes_before, in_row_order}, Lists.{Before, InOrder}}
+use Rattle.listed.proofs.{Orders.{once_same}, Lists.{In_cases, In_none, In_map, In_map_cases, In_at, In_place, contains_in, in_contains}}
 use Rattle.listed.specs.Lists.{Ascending, In, here, there}
-use Rattle.clause_pool.specs.Lists.{Before, InOrder}
-use Rattle.listed.proofs.Lists.{In_cases, In_none, In_map, In_map_cases, In_at, In_place, contains_in, in_contains}
 use Rattle.clause_pool.proofs.Order.{before_asym, before_is, before_test, before_trans, neither_before, order_same, ordered_has, ordered_order, ordered_parts}
-use Rattle.repo_model.specs.Ranks.{clauses_marked, ids_of_ranks, AreOrdered, AreRanked, EachIdOnce, HasPlaces, IsRanking}
-use Rattle.repo_model.specs.declared.ranks.Ranks.{Ranks}
+use Rattle.repo_model.specs.{Ranks.{clauses_marked, ids_of_ranks, AreOrdered, AreRanked, EachIdOnce, HasPlaces, IsRanking}, declared.ranks.Ranks.{Ranks}}
 
 module _ (pool : Interned) where
   abbrev pub is_earlier : ℕ → ℕ → Bool

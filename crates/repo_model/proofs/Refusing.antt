@@ -2,14 +2,9 @@
 use Rattle.std.proofs.Common.{◌≡◌, ℕ, List, Option, None, find, ap, ap₂, ◌∙◌}
 use Rattle.std.specs.Option.{option_or, option_map}
 use Rattle.relation_fields.specs.declared.packages.PackageFacts.{PackageFacts}
-use Rattle.stanza_reader.specs.declared.stanza.FieldKind.TheVariants.{Package}
-use Rattle.stanza_reader.specs.declared.stanza.RawStanza.{RawStanza}
-use Rattle.repo_model.specs.Facts.{facts_of, is_same_package}
-use Rattle.repo_model.specs.Fields.{value_of}
-use Rattle.repo_model.specs.FirstFault.{duplicate_fault}
-use Rattle.repo_model.specs.Nameless.{named, nameless}
-use Rattle.repo_model.specs.declared.facts.NamelessFacts.{NamelessFacts}
-use Rattle.repo_model.specs.declared.fault.IndexFault.{IndexFault}
+use Rattle.stanza_reader.specs.{declared.stanza.FieldKind.TheVariants.{Package}, declared.stanza.RawStanza.{RawStanza}}
+use Rattle.repo_model.specs.{Facts.{facts_of, is_same_package}, Fields.{value_of}, FirstFault.{duplicate_fault}, Nameless.{named, nameless}}
+use Rattle.repo_model.specs.{declared.facts.NamelessFacts.{NamelessFacts}, declared.fault.IndexFault.{IndexFault}}
 use Rattle.repo_model.specs.declared.fault.IndexFault.TheVariants.{Stanza, MissingPackage, MissingVersion, BadPackage, BadVersion, BadArchitecture, BadRelation, Duplicate, Mixed, TooMany, Memory}
 use Rattle.repo_model.specs.Refusals.{UnlessMemory, Refuses}
 

@@ -1,9 +1,7 @@
 -- The repository of an index is sound.
 use Rattle.std.proofs.Common.{List, refl}
-use Rattle.relation_fields.specs.declared.packages.Home.{Home}
-use Rattle.relation_fields.specs.declared.packages.PackageFacts.{PackageFacts}
-use Rattle.row_book.specs.Repository.{conflicts_of}
-use Rattle.row_book.specs.Sound.{SoundRepository}
+use Rattle.relation_fields.specs.{declared.packages.Home.{Home}, declared.packages.PackageFacts.{PackageFacts}}
+use Rattle.row_book.specs.{Repository.{conflicts_of}, Sound.{SoundRepository}}
 use Rattle.listed.proofs.Lists.{In_has, has_not}
 use Rattle.repo_model.specs.Repository.{suite_repository}
 use Rattle.repo_model.proofs.Form.{clause_form, conflict_two, conflict_turned, conflicts_order, form_lists}

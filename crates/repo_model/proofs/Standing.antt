@@ -1,23 +1,14 @@
 -- What the readings of a feed stand for, from one piece to the next.
 use Rattle.std.proofs.Common.{◌≡◌, ℕ, ◌+◌, ◌≤◌, false, cond, List, [], ◌++◌, length, take, drop, Some, None, refl, sym, ap, ◌∙◌, append_assoc, take-append-drop, arith}
+use Rattle.std.proofs.{lemmas.List.{append-nil}, lemmas.List.Sums.{count_by-le-length, sum_by-append}}
 use Rattle.std.specs.Prelude.{count_by}
-use Rattle.std.proofs.lemmas.List.{append-nil}
-use Rattle.std.proofs.lemmas.List.Sums.{count_by-le-length, sum_by-append}
-use Rattle.stanza_reader.specs.Close.{IsClosed}
-use Rattle.stanza_reader.specs.Lines.{is_line_feed}
-use Rattle.stanza_reader.specs.Places.{IsPlace}
-use Rattle.stanza_reader.specs.Stanzas.{groups, readings}
-use Rattle.repo_model.specs.Feeding.{HasFault, IsFront, IsProgress, IsSuiteOf}
-use Rattle.repo_model.specs.FirstFault.{first_fault, home_of, stanzas_of}
-use Rattle.repo_model.specs.Refusals.{UnlessMemory, Refuses, is_memory}
-use Rattle.repo_model.specs.declared.building.Building.{Building}
-use Rattle.repo_model.specs.declared.fault.IndexFault.{IndexFault}
+use Rattle.stanza_reader.specs.{Close.{IsClosed}, Lines.{is_line_feed}, Places.{IsPlace}, Stanzas.{groups, readings}}
+use Rattle.repo_model.specs.{Feeding.{HasFault, IsFront, IsProgress, IsSuiteOf}, FirstFault.{first_fault, home_of, stanzas_of}}
+use Rattle.repo_model.specs.{Refusals.{UnlessMemory, Refuses, is_memory}, declared.building.Building.{Building}, declared.fault.IndexFault.{IndexFault}}
 use Rattle.repo_model.specs.declared.fault.IndexFault.TheVariants.{Stanza, MissingPackage, MissingVersion, BadPackage, BadVersion, BadArchitecture, BadRelation, Duplicate, Mixed, TooMany, Memory}
 use Rattle.repo_model.specs.declared.progress.Progress.{Progress}
 use Rattle.stanza_reader.proofs.PartLemmas.{closed_texts_join}
-use Rattle.repo_model.proofs.Closing.{closed-nil}
-use Rattle.repo_model.proofs.Refusing.{for_same}
-use Rattle.repo_model.proofs.Steps.{fault_stays}
+use Rattle.repo_model.proofs.{Closing.{closed-nil}, Refusing.{for_same}, Steps.{fault_stays}}
 
 -- what holds in any case holds unless memory ran out
 pub for_fault : (fault : IndexFault) {P : Type 0} → P → UnlessMemory fault P

@@ -1,25 +1,14 @@
 -- Reading an index stanza by stanza: what holds at each place, and how the first fault is found.
 use Rattle.std.proofs.Common.{◌≡◌, ℕ, zero, suc, ◌+◌, ◌≤◌, ◌<◌, Bool, true, false, List, [], ◌∷◌, ◌++◌, length, map, take, Option, Some, None, Result, Ok, Err, refl, sym, ap, subst, ◌∙◌, append_assoc, arith}
-use Rattle.std.specs.Prelude.{nat_le, if◌then◌else◌, count_by}
-use Rattle.std.specs.Option.{option_or, option_and_then}
-use Rattle.std.proofs.lemmas.List.{append-nil, map-append, length-map, length-append}
-use Rattle.std.proofs.lemmas.Bool.Decides.{nat_tests}
-use Rattle.stanza_reader.specs.Close.{IsClosed, readings_from}
-use Rattle.stanza_reader.specs.Lines.{is_line_feed}
-use Rattle.stanza_reader.specs.Stanzas.{readings}
-use Rattle.stanza_reader.specs.Reading.{readings_at, first_reading}
-use Rattle.stanza_reader.specs.declared.place.Place.{Place}
-use Rattle.stanza_reader.specs.declared.stanza.RawStanza.{RawStanza}
-use Rattle.stanza_reader.specs.declared.fault.StanzaFault.{StanzaFault}
+use Rattle.std.proofs.{lemmas.List.{append-nil, map-append, length-map, length-append}, lemmas.Bool.Decides.{nat_tests}}
+use Rattle.std.specs.{Prelude.{nat_le, if◌then◌else◌, count_by}, Option.{option_or, option_and_then}}
+use Rattle.stanza_reader.specs.{Close.{IsClosed, readings_from}, Lines.{is_line_feed}, Stanzas.{readings}, Reading.{readings_at, first_reading}}
+use Rattle.stanza_reader.specs.{declared.place.Place.{Place}, declared.stanza.RawStanza.{RawStanza}, declared.fault.StanzaFault.{StanzaFault}}
 use Rattle.relation_fields.specs.declared.packages.PackageFacts.{PackageFacts}
-use Rattle.repo_model.specs.Facts.{facts_of, architecture_of}
-use Rattle.repo_model.specs.Feeding.{IsSuiteOf, HasFault}
+use Rattle.repo_model.specs.{Facts.{facts_of, architecture_of}, Feeding.{IsSuiteOf, HasFault}}
 use Rattle.repo_model.specs.FirstFault.{first_some, home_of, stanza_fault, reading_fault, stanzas_in, fault_behind, faults_from, first_fault, stanzas_of}
-use Rattle.repo_model.specs.Refusals.{Refuses}
-use Rattle.repo_model.specs.Reading.{lines_fault, shape_fault, GoesOn}
-use Rattle.repo_model.specs.declared.fault.IndexFault.{IndexFault}
-use Rattle.repo_model.specs.declared.fault.IndexFault.TheVariants.{TooMany}
-use Rattle.repo_model.specs.Limits.{most_packages}
+use Rattle.repo_model.specs.{Refusals.{Refuses}, Reading.{lines_fault, shape_fault, GoesOn}, declared.fault.IndexFault.{IndexFault}}
+use Rattle.repo_model.specs.{declared.fault.IndexFault.TheVariants.{TooMany}, Limits.{most_packages}}
 use Rattle.stanza_reader.proofs.PartLemmas.{reads_in_parts}
 use Rattle.repo_model.proofs.Refusing.{for_same}
 

@@ -1,14 +1,9 @@
 -- The name that is taken out of the fields of a stanza.
 use Rattle.std.proofs.Common.{◌≡◌, ℕ, ◌<◌, Bool, List, [], Option, Some, None, length, get_or, find, sym, ap, ◌∙◌, refl, arith}
-use Rattle.std.specs.Prelude.{slice_get}
-use Rattle.std.specs.List.{position, position_or_len}
-use Rattle.std.specs.Option.{option_map_or}
-use Rattle.std.proofs.lemmas.Bool.{ltb-false, ltb-true}
-use Rattle.std.proofs.lemmas.List.Folds.{find_at}
-use Rattle.std.proofs.lemmas.Option.{cond_some, slice_get_past, slice_get_read}
+use Rattle.std.proofs.{lemmas.Bool.{ltb-false, ltb-true}, lemmas.List.Folds.{find_at}, lemmas.Option.{cond_some, slice_get_past, slice_get_read}}
+use Rattle.std.specs.{Prelude.{slice_get}, List.{position, position_or_len}, Option.{option_map_or}}
 use Rattle.listed.proofs.Bools.{left_out}
-use Rattle.stanza_reader.specs.declared.stanza.FieldKind.TheVariants.{Package}
-use Rattle.stanza_reader.specs.declared.stanza.RawField.{RawField}
+use Rattle.stanza_reader.specs.{declared.stanza.FieldKind.TheVariants.{Package}, declared.stanza.RawField.{RawField}}
 use Rattle.repo_model.specs.Fields.{is_kind, value_among}
 
 module _ {X : Type 0} (test : X → Bool) (all : List X) where

@@ -1,18 +1,12 @@
 -- A stanza without a fault of its own describes a package whose name and version are in their grammars.
 use Rattle.std.proofs.Common.{◌≡◌, ℕ, Bool, true, false, List, [], Option, Some, None, refl, ap, ◌∙◌}
-use Rattle.std.specs.Prelude.{is_some, if◌then◌else◌}
-use Rattle.std.specs.Option.{option_or, option_and_then, option_map_or}
-use Rattle.deb_version.specs.Grammar.{is_version}
-use Rattle.deb_version.specs.Names.{is_name}
+use Rattle.std.specs.{Prelude.{is_some, if◌then◌else◌}, Option.{option_or, option_and_then, option_map_or}}
+use Rattle.deb_version.specs.{Grammar.{is_version}, Names.{is_name}}
 use Rattle.relation_fields.specs.declared.packages.PackageFacts.{PackageFacts}
-use Rattle.stanza_reader.specs.declared.stanza.FieldKind.{FieldKind}
-use Rattle.stanza_reader.specs.declared.stanza.FieldKind.TheVariants.{Package, Version}
-use Rattle.stanza_reader.specs.declared.stanza.RawField.{RawField}
-use Rattle.stanza_reader.specs.declared.stanza.RawStanza.{RawStanza}
-use Rattle.repo_model.specs.Facts.{facts_of}
-use Rattle.repo_model.specs.Fields.{field_of, value_of}
-use Rattle.repo_model.specs.FirstFault.{missing, unless_good, bad_value, presence_fault, value_fault, own_fault}
-use Rattle.repo_model.specs.declared.fault.IndexFault.{IndexFault}
+use Rattle.stanza_reader.specs.{declared.stanza.FieldKind.{FieldKind}, declared.stanza.FieldKind.TheVariants.{Package, Version}}
+use Rattle.stanza_reader.specs.{declared.stanza.RawField.{RawField}, declared.stanza.RawStanza.{RawStanza}}
+use Rattle.repo_model.specs.{Facts.{facts_of}, Fields.{field_of, value_of}}
+use Rattle.repo_model.specs.{FirstFault.{missing, unless_good, bad_value, presence_fault, value_fault, own_fault}, declared.fault.IndexFault.{IndexFault}}
 use Rattle.repo_model.specs.declared.fault.IndexFault.TheVariants.{MissingPackage, MissingVersion, BadPackage, BadVersion}
 
 -- the name and the version are in their grammars

@@ -1,7 +1,6 @@
 -- for the bodies of this crate alone
 -- Blank lines, seen from the end of a text.
-use Rattle.std.specs.Prelude.{◌≡◌, ℕ, ◌+◌, ◌<◌, ◌≤◌, Bool, true, false, ◌&&◌, List, [], ◌∷◌, reverse, slice_index_or}
-use Rattle.std.specs.List.{before_first}
+use Rattle.std.specs.{Prelude.{◌≡◌, ℕ, ◌+◌, ◌<◌, ◌≤◌, Bool, true, false, ◌&&◌, List, [], ◌∷◌, reverse, slice_index_or}, List.{before_first}}
 use Rattle.stanza_reader.specs.Lines.{is_line_feed, is_blank}
 
 -- whether the last line of a text, what stands behind its last line feed, is blank

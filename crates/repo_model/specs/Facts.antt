@@ -1,17 +1,11 @@
 -- The package that a stanza describes: Debian Policy 5.3, 5.6 and 7.
-use Rattle.std.specs.Prelude.{◌≡◌, ◌++◌, ℕ, Bool, true, ◌&&◌, if◌then◌else◌, List, Option, Some, None, codes}
-use Rattle.std.specs.Option.{option_and_then}
-use Rattle.std.specs.Ordering.{is_eq}
+use Rattle.std.specs.{Prelude.{◌≡◌, ◌++◌, ℕ, Bool, true, ◌&&◌, if◌then◌else◌, List, Option, Some, None, codes}, Option.{option_and_then}, Ordering.{is_eq}}
 use Rattle.std.specs.Str.{bytes_eq}
-use Rattle.deb_version.specs.Grammar.{is_version}
-use Rattle.deb_version.specs.Names.{is_name}
-use Rattle.deb_version.specs.Order.{version_order}
+use Rattle.deb_version.specs.{Grammar.{is_version}, Names.{is_name}, Order.{version_order}}
 use Rattle.listed.specs.Lists.{In}
 use Rattle.stanza_reader.specs.declared.stanza.FieldKind.TheVariants.{Package, Version, Architecture, PreDepends, Depends, Conflicts, Breaks, Provides}
 use Rattle.stanza_reader.specs.declared.stanza.RawStanza.{RawStanza}
-use Rattle.relation_fields.specs.Grammar.{atom_of, alternatives_of, provide_of}
-use Rattle.relation_fields.specs.Fields.{said_in}
-use Rattle.relation_fields.specs.declared.packages.PackageFacts.{PackageFacts}
+use Rattle.relation_fields.specs.{Grammar.{atom_of, alternatives_of, provide_of}, Fields.{said_in}, declared.packages.PackageFacts.{PackageFacts}}
 use Rattle.repo_model.specs.Fields.{field_of, value_of}
 
 -- what a stanza says of its package; a missing relation field says nothing

@@ -1,7 +1,6 @@
 -- A feed, by what it holds.
 use Rattle.std.specs.Prelude.{ℕ, Bool, List}
-use Rattle.repo_model.specs.Feeding.{is_spent, StandsFor}
-use Rattle.repo_model.specs.declared.feed.SuiteFeed.{SuiteFeed}
+use Rattle.repo_model.specs.{Feeding.{is_spent, StandsFor}, declared.feed.SuiteFeed.{SuiteFeed}}
 
 -- how many bytes it has taken
 abbrev pub taken_of : SuiteFeed → ℕ

@@ -1,14 +1,8 @@
 -- What the repository of an index keeps of its stanzas.
 use Rattle.std.specs.Prelude.{◌≡◌, ◌↔◌, List}
-use Rattle.relation_fields.specs.declared.packages.Home.{Home}
-use Rattle.relation_fields.specs.declared.packages.PackageFacts.{PackageFacts}
-use Rattle.row_book.specs.Repository.{Healthy}
-use Rattle.row_book.specs.Sets.{NumSet}
-use Rattle.row_book.specs.Sound.{BetweenPackages, SoundClauses}
-use Rattle.repo_model.specs.Goals.{names_in, packages_named, CoinstGoals}
-use Rattle.repo_model.specs.declared.goals.Goal.{Goal}
-use Rattle.repo_model.specs.Repository.{suite_repository}
-use Rattle.repo_model.specs.Stanzas.{HealthyStanzas}
+use Rattle.relation_fields.specs.{declared.packages.Home.{Home}, declared.packages.PackageFacts.{PackageFacts}}
+use Rattle.row_book.specs.{Repository.{Healthy}, Sets.{NumSet}, Sound.{BetweenPackages, SoundClauses}}
+use Rattle.repo_model.specs.{Goals.{names_in, packages_named, CoinstGoals}, declared.goals.Goal.{Goal}, Repository.{suite_repository}, Stanzas.{HealthyStanzas}}
 
 -- for every set of stanza numbers: healthy on the stanzas exactly where healthy in their repository
 abbrev pub KeepsHealth : Home → List PackageFacts → Type 0

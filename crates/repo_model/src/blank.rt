@@ -3,10 +3,8 @@
 //! The last blank line says how far a piece closes stanzas, so the search goes from the end, and over a piece's own bytes alone,
 //! however long the open stanza is. The first one says how much of the piece is read together with what was pending.
 ghost use Rattle.std.specs.Prelude.{◌≡◌, ◌<◌, ◌≤◌, length, take, drop, count_by, IfNone, IfSome};
-ghost use Rattle.stanza_reader.specs.Close.{IsClosed};
-ghost use Rattle.stanza_reader.specs.Lines.{is_blank_byte, is_line_feed};
-ghost use Rattle.repo_model.specs.Backward.{is_last_blank, IsLastFeed, NoFeed};
-ghost use Rattle.repo_model.specs.Feeding.{IsOpen};
+ghost use Rattle.stanza_reader.specs.{Close.{IsClosed}, Lines.{is_blank_byte, is_line_feed}};
+ghost use Rattle.repo_model.specs.{Backward.{is_last_blank, IsLastFeed, NoFeed}, Feeding.{IsOpen}};
 
 use memchr::{memchr, memrchr};
 

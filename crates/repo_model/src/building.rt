@@ -1,18 +1,12 @@
 //! A suite that is being read, stanza by stanza.
 ghost use Rattle.std.specs.Prelude.{◌≡◌, ◌<◌, ◌≤◌, ◌++◌, ◌∷◌, [], None, length, IfOk, OnOk, find, slice_get};
 ghost use Rattle.std.specs.Option.{option_and_then, option_map, option_or, option_copied};
-ghost use Rattle.repo_model.specs.Fields.{field_of, HasShortValues};
-ghost use Rattle.stanza_reader.specs.declared.stanza.FieldKind.{FieldKind};
-ghost use Rattle.stanza_reader.specs.declared.stanza.RawStanza.{RawStanza};
-ghost use Rattle.repo_model.specs.Facts.{facts_of, is_all, is_same_package, architecture_of};
-ghost use Rattle.repo_model.specs.FirstFault.{stanza_fault, duplicate_fault, mixed_fault, is_at_home};
-ghost use Rattle.repo_model.specs.Refusals.{Answers};
+ghost use Rattle.repo_model.specs.{Fields.{field_of, HasShortValues}, Facts.{facts_of, is_all, is_same_package, architecture_of}};
+ghost use Rattle.repo_model.specs.{FirstFault.{stanza_fault, duplicate_fault, mixed_fault, is_at_home}, Refusals.{Answers}, Building.{IsBuilt}};
+ghost use Rattle.repo_model.specs.{Nameless.{named, nameless}, Needs.{needs_of_all}, Limits.{most_packages}};
+ghost use Rattle.stanza_reader.specs.{declared.stanza.FieldKind.{FieldKind}, declared.stanza.RawStanza.{RawStanza}};
 ghost use Rattle.virtual_provides.specs.Bearers.{IsBuiltFrom};
-ghost use Rattle.repo_model.specs.Building.{IsBuilt};
-ghost use Rattle.repo_model.specs.Nameless.{named, nameless};
-ghost use Rattle.repo_model.specs.Needs.{needs_of_all};
 ghost use Rattle.relation_fields.specs.declared.packages.PackageFacts.{PackageFacts};
-ghost use Rattle.repo_model.specs.Limits.{most_packages};
 
 use crate::facts::{NamelessFacts, architecture_in, name_in, name_of, read_facts};
 use crate::fault::IndexFault;

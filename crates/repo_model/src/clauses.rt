@@ -1,10 +1,8 @@
 //! The clause of an element.
-ghost use Rattle.std.specs.Prelude.{◌≡◌, ◌∷◌, ◌↔◌, [], ℕ, IfOk};
-ghost use Rattle.std.specs.List.{flat_map};
+ghost use Rattle.std.specs.{Prelude.{◌≡◌, ◌∷◌, ◌↔◌, [], ℕ, IfOk}, List.{flat_map}};
 ghost use Rattle.listed.specs.Lists.{Ascending, In};
 ghost use Rattle.virtual_provides.specs.Bearers.{IsBuiltFrom};
-ghost use Rattle.repo_model.specs.Meeting.{meeting};
-ghost use Rattle.repo_model.specs.Repository.{clause_of};
+ghost use Rattle.repo_model.specs.{Meeting.{meeting}, Repository.{clause_of}};
 
 use listed::sort_once;
 use relation_fields::{Atom, Home, PackageFacts};

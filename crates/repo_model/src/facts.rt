@@ -1,19 +1,12 @@
 //! The package that a stanza describes, or the fault of its fields.
 //!
 //! The name comes last, so that whoever owns the stanza gives it away without a copy.
-ghost use Rattle.std.specs.Prelude.{◌≡◌, ◌++◌, None, Some, IfOk};
-ghost use Rattle.std.specs.List.{AllByRecursion};
-ghost use Rattle.std.specs.Option.{option_and_then, option_copied, option_or};
-ghost use Rattle.deb_version.specs.Names.{is_name};
-ghost use Rattle.deb_version.specs.Grammar.{is_version};
-ghost use Rattle.relation_fields.specs.Grammar.{is_architecture, atom_of};
-ghost use Rattle.relation_fields.specs.Fields.{said_in};
+ghost use Rattle.std.specs.{Prelude.{◌≡◌, ◌++◌, None, Some, IfOk}, List.{AllByRecursion}, Option.{option_and_then, option_copied, option_or}};
+ghost use Rattle.deb_version.specs.{Names.{is_name}, Grammar.{is_version}};
+ghost use Rattle.relation_fields.specs.{Grammar.{is_architecture, atom_of}, Fields.{said_in}};
 ghost use Rattle.repo_model.specs.declared.fault.IndexFault.TheVariants.{BadPackage, BadVersion, BadArchitecture};
-ghost use Rattle.repo_model.specs.Fields.{field_among, field_of, value_among, value_of, IsShort, HasShortValues};
-ghost use Rattle.repo_model.specs.Facts.{facts_of};
-ghost use Rattle.repo_model.specs.Nameless.{named, nameless};
-ghost use Rattle.repo_model.specs.FirstFault.{own_fault, unless_good, unless_said};
-ghost use Rattle.repo_model.specs.Refusals.{Answers};
+ghost use Rattle.repo_model.specs.{Fields.{field_among, field_of, value_among, value_of, IsShort, HasShortValues}, Facts.{facts_of}};
+ghost use Rattle.repo_model.specs.{Nameless.{named, nameless}, FirstFault.{own_fault, unless_good, unless_said}, Refusals.{Answers}};
 
 use crate::fault::IndexFault;
 use crate::fields::{find_field, place_of};

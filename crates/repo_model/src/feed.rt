@@ -24,10 +24,8 @@ pub struct SuiteFeed {
 
 impl SuiteFeed {
     ghost use Rattle.std.specs.Prelude.{◌≡◌, List, ℕ, [], true, map, None, IfOk, IfErr, IsErrAnd, OnOk};
-    ghost use Rattle.repo_model.specs.Facts.{facts_of, AreNamedPackages};
-    ghost use Rattle.repo_model.specs.Feed.{taken_of, was_refused, FeedStandsFor};
-    ghost use Rattle.repo_model.specs.FirstFault.{first_fault, home_of, stanzas_of};
-    ghost use Rattle.repo_model.specs.Refusals.{is_memory, Refuses};
+    ghost use Rattle.repo_model.specs.{Facts.{facts_of, AreNamedPackages}, Feed.{taken_of, was_refused, FeedStandsFor}};
+    ghost use Rattle.repo_model.specs.{FirstFault.{first_fault, home_of, stanzas_of}, Refusals.{is_memory, Refuses}};
 
     /// A feed that has taken no byte.
     pub fn new(alloc: Global) -> Result<SuiteFeed, AllocError>

@@ -1,8 +1,7 @@
 //! The names of a suite's packages.
 ghost use Rattle.std.specs.Prelude.{◌≡◌, ◌<◌, length, map, IfOk};
 ghost use Rattle.clause_pool.specs.Clauses.{in_row_order};
-ghost use Rattle.repo_model.specs.Goals.{names_in};
-ghost use Rattle.repo_model.specs.NameOrder.{is_repeated, name_at, Rising};
+ghost use Rattle.repo_model.specs.{Goals.{names_in}, NameOrder.{is_repeated, name_at, Rising}};
 
 use crate::suite::Suite;
 use deb_version::Bytes;
@@ -21,8 +20,7 @@ pub struct LentName<'a> {
 }
 
 impl<'a> Model for LentName<'a> {
-    ghost use Rattle.std.specs.Prelude.{List, ℕ};
-    ghost use Rattle.std.specs.Coded.{coded_list, coded_ℕ};
+    ghost use Rattle.std.specs.{Prelude.{List, ℕ}, Coded.{coded_list, coded_ℕ}};
 
     ghost Value = { List ℕ };
 

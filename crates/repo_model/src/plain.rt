@@ -1,12 +1,10 @@
 //! The repository of a suite as plain lists, and co-installability by the plainest way: for tests of the fast ways.
-ghost use Rattle.std.specs.Prelude.{◌≡◌, ◌≤◌, ◌<◌, ◌↔◌, ℕ, [], IfOk, IsTrue, OnOk, map, length, slice_index_or, true, false, ◌||◌};
-ghost use Rattle.std.specs.Str.{bytes_eq};
+ghost use Rattle.std.specs.{Prelude.{◌≡◌, ◌≤◌, ◌<◌, ◌↔◌, ℕ, [], IfOk, IsTrue, OnOk, map, length, slice_index_or, true, false, ◌||◌}, Str.{bytes_eq}};
 ghost use Rattle.relation_fields.specs.Meeting.{meets};
 ghost use Rattle.clause_pool.specs.Clauses.{comes_before, in_row_order, insert_clause};
 ghost use Rattle.listed.specs.Lists.{has};
 ghost use Rattle.repo_model.specs.Repository.{clause_of, conflicting_with, in_conflict, meets_any, packages_of, row_of, stands_against, suite_repository};
-ghost use Rattle.repo_model.specs.Stanzas.{stanza_at, CoinstStanzas};
-ghost use Rattle.repo_model.specs.Limits.{most_packages};
+ghost use Rattle.repo_model.specs.{Stanzas.{stanza_at, CoinstStanzas}, Limits.{most_packages}};
 
 use crate::suite::Suite;
 use clause_pool::is_before;

@@ -2,8 +2,7 @@
 //!
 //! A piece is read where it lies, but for the stanzas at both of its ends.
 ghost use Rattle.std.specs.Prelude.{◌≡◌, ◌≤◌, drop, length};
-ghost use Rattle.repo_model.specs.Building.{IsBuilt, IsBuilt-prop};
-ghost use Rattle.repo_model.specs.Limits.{most_packages};
+ghost use Rattle.repo_model.specs.{Building.{IsBuilt, IsBuilt-prop}, Limits.{most_packages}};
 
 use crate::blank::{closed_length, first_closed};
 use crate::building::Building;
@@ -26,9 +25,7 @@ pub(crate) struct Progress {
 impl Progress {
     ghost use Rattle.std.specs.Prelude.{◌≡◌, ◌+◌, ◌++◌, List, ℕ, [], take, drop, IfOk, IfErr};
     ghost use Rattle.stanza_reader.specs.Close.{IsClosed};
-    ghost use Rattle.repo_model.specs.Feeding.{IsOpen, IsProgress, IsSuiteOf, StandsUnlessMemory};
-    ghost use Rattle.repo_model.specs.FirstFault.{first_fault};
-    ghost use Rattle.repo_model.specs.Refusals.{Refuses};
+    ghost use Rattle.repo_model.specs.{Feeding.{IsOpen, IsProgress, IsSuiteOf, StandsUnlessMemory}, FirstFault.{first_fault}, Refusals.{Refuses}};
 
     /// Nothing was read; it takes no memory.
     pub(crate) fn new(alloc: Global) -> Self

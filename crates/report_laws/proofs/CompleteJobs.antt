@@ -2,46 +2,30 @@
 use Rattle.std.proofs.Common.{◌≡◌, ℕ, Bool, true, false, List, Option, Some, None, Result, Ok, Err, refl, sym, ap, subst, ◌∙◌}
 use Rattle.std.specs.Prelude.{nat_lt, if◌then◌else◌}
 use Rattle.byte_flow.specs.Flow.{Files}
-use Rattle.coinst_words.specs.Jobs.{IsInLimits}
-use Rattle.coinst_words.specs.declared.job.Job.{Job}
+use Rattle.coinst_words.specs.{Jobs.{IsInLimits}, declared.job.Job.{Job}}
 use Rattle.coinst_words.specs.declared.job.Job.TheVariants.{Kernel, Query, StoredQuery, Compare, Explain, Status, Migrate, Sample}
-use Rattle.explain_core.specs.Explaining.{explanation_of}
-use Rattle.explain_core.specs.declared.explanation.Explanation.{Explanation}
+use Rattle.explain_core.specs.{Explaining.{explanation_of}, declared.explanation.Explanation.{Explanation}}
 use Rattle.explain_core.specs.declared.explanation.Explanation.TheVariants.{Yes, Spent, Core}
 use Rattle.kernel_text.specs.Images.{unknown_goal as unknown_in_kernel}
-use Rattle.kernel_text.specs.KernelReads.{KernelContent, KernelReads}
-use Rattle.kernel_text.specs.declared.fault.KernelFault.{KernelFault}
-use Rattle.migrate_plan.specs.Plan.{Settings, plan, settings_of}
-use Rattle.migrate_plan.specs.Refusals.{plan_refusal}
-use Rattle.migrate_plan.specs.declared.refusals.PlanError.{PlanError}
+use Rattle.kernel_text.specs.{KernelReads.{KernelContent, KernelReads}, declared.fault.KernelFault.{KernelFault}, Serving.{images_in}}
+use Rattle.kernel_text.specs.StoredReading.{stored_reading}
+use Rattle.migrate_plan.specs.{Plan.{Settings, plan, settings_of}, Refusals.{plan_refusal}, declared.refusals.PlanError.{PlanError}}
 use Rattle.migrate_plan.specs.declared.refusals.PlanError.TheVariants.{Homes, Names, Packages, TooLong, Memory}
 use Rattle.relation_fields.specs.declared.packages.PackageFacts.{PackageFacts}
-use Rattle.repo_model.specs.declared.fault.IndexFault.{IndexFault}
-use Rattle.repo_model.specs.declared.goals.Goal.{Goal}
+use Rattle.repo_model.specs.{declared.fault.IndexFault.{IndexFault}, declared.goals.Goal.{Goal}}
 use Rattle.sample_suite.specs.SampleText.{sample_text}
 use Rattle.sample_suite.proofs.Fitting.{sample_accepted}
 use Rattle.search_terms.specs.Tree.{Tree, failed_leaves, found_of}
 use Rattle.status_check.specs.Own.{status_fault}
-use Rattle.suite_compare.specs.Answering.{unknown_goal}
-use Rattle.suite_compare.specs.Asking.{asked_tree, tree_of}
-use Rattle.suite_compare.specs.Refusals.{packages_in}
-use Rattle.coinst_run.specs.declared.answer.ReportVerdict.TheVariants.{Done, Negative, Undecided}
-use Rattle.coinst_run.specs.Answer.{Answer, reported}
-use Rattle.coinst_run.specs.Compare.{compare_answer, newer_course}
-use Rattle.coinst_run.specs.Course.{Course, answers, then_on}
-use Rattle.coinst_run.specs.Explain.{explain_answer, explained_by_unknown, explanation_answer, goals_explained}
-use Rattle.coinst_run.specs.Index.{Index, by_fault, index_in}
-use Rattle.coinst_run.specs.Kernel.{kernel_answer}
-use Rattle.coinst_run.specs.Migrate.{by_refusal, new_answer, new_course, old_answer, plan_answer, refusal_of}
-use Rattle.coinst_run.specs.MigrateText.{plan_text, plan_verdict}
-use Rattle.coinst_run.specs.Meaning.{course_of, of_job, outcome_of}
-use Rattle.coinst_run.specs.Outcome.{answered, outcome_over}
-use Rattle.coinst_run.specs.Query.{by_found, by_tree, by_unknown, goals_answer, installed_text, query_answer, unknown_answer}
-use Rattle.coinst_run.specs.QueryText.{undecided_text}
+use Rattle.suite_compare.specs.{Answering.{unknown_goal}, Asking.{asked_tree, tree_of}, Refusals.{packages_in}}
+use Rattle.coinst_run.specs.{declared.answer.ReportVerdict.TheVariants.{Done, Negative, Undecided}, Answer.{Answer, reported}}
+use Rattle.coinst_run.specs.{Compare.{compare_answer, newer_course}, Course.{Course, answers, then_on}}
+use Rattle.coinst_run.specs.{Explain.{explain_answer, explained_by_unknown, explanation_answer, goals_explained}, Index.{Index, by_fault, index_in}}
+use Rattle.coinst_run.specs.{Kernel.{kernel_answer}, Migrate.{by_refusal, new_answer, new_course, old_answer, plan_answer, refusal_of}}
+use Rattle.coinst_run.specs.{MigrateText.{plan_text, plan_verdict}, Meaning.{course_of, of_job, outcome_of}, Outcome.{answered, outcome_over}}
+use Rattle.coinst_run.specs.{Query.{by_found, by_tree, by_unknown, goals_answer, installed_text, query_answer, unknown_answer}, QueryText.{undecided_text}}
 use Rattle.coinst_run.specs.Sample.{sample_answer, sample_limit, sample_path, size_report}
 use Rattle.coinst_run.specs.StoredQuery.{by_reading, classes_text, stored_answer, stored_by_unknown, stored_query_answer}
-use Rattle.kernel_text.specs.Serving.{images_in}
-use Rattle.kernel_text.specs.StoredReading.{stored_reading}
 use Rattle.coinst_run.specs.SystemStatus.{system_answer, system_by_fault, system_course, told_answer, system_report}
 use Rattle.kernel_text.proofs.StoredReading.{reading_is}
 use Rattle.report_laws.specs.Complete.{CompleteJobsReport, GivesReport, IsComplete}

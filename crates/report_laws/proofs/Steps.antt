@@ -3,17 +3,11 @@ use Rattle.std.proofs.Common.{◌≡◌, ℕ, Bool, cond, List, length, None, re
 use Rattle.byte_flow.specs.Flow.{Files}
 use Rattle.repo_model.specs.FirstFault.{first_fault}
 use Rattle.suite_compare.specs.Refusals.{home_in, packages_in}
-use Rattle.coinst_run.specs.declared.answer.ReportVerdict.{ReportVerdict}
-use Rattle.coinst_run.specs.Answer.{reported}
-use Rattle.coinst_run.specs.Present.{HasFile, HasIndex, HasKernel, IsWithin}
-use Rattle.report_laws.specs.Complete.{GivesReport}
-use Rattle.coinst_run.specs.Course.{Course, reads, then_on}
-use Rattle.coinst_run.specs.Delivers.{IsStop}
-use Rattle.coinst_run.specs.Index.{Index, by_fault, checked_index, index_in, reads_index}
-use Rattle.coinst_run.specs.IndexKernel.{ClassedKernel, index_kernel}
-use Rattle.coinst_run.specs.Kernel.{by_limit, kernel_of, reads_kernel}
-use Rattle.coinst_run.specs.Migrate.{kernel_at, kernel_behind}
+use Rattle.coinst_run.specs.{declared.answer.ReportVerdict.{ReportVerdict}, Answer.{reported}, Present.{HasFile, HasIndex, HasKernel, IsWithin}}
+use Rattle.coinst_run.specs.{Course.{Course, reads, then_on}, Delivers.{IsStop}, Index.{Index, by_fault, checked_index, index_in, reads_index}}
+use Rattle.coinst_run.specs.{IndexKernel.{ClassedKernel, index_kernel}, Kernel.{by_limit, kernel_of, reads_kernel}, Migrate.{kernel_at, kernel_behind}}
 use Rattle.coinst_run.specs.Outcome.{Outcome, answered, file_limit, outcome_over, over_file, too_long}
+use Rattle.report_laws.specs.Complete.{GivesReport}
 
 module _ (files : Files) where
   pub file_step : (path : List ℕ) (next : List ℕ → Course) (text : List ℕ) → HasFile files path text → outcome_over files (reads path next) ≡ outcome_over files (next text)

@@ -1,56 +1,33 @@
 -- The kernel text of an index answers goals as the index does.
 use Rattle.std.proofs.Common.{◌≡◌, ℕ, ◌+◌, ◌<◌, ◌≤◌, Bool, true, false, cond, eqb, eqb-true, eq-eqb, nat_lt, List, [], ◌∷◌, length, map, slice_index_or, Option, Some, None, refl, sym, ap, ap₂, subst, ◌∙◌}
 use Rattle.std.specs.List.{list_any, position_from}
-use Rattle.listed.proofs.Bools.{same_bool}
+use Rattle.listed.proofs.{Bools.{same_bool}, Lists.{In_has, any_cases, any_from, filter_same, has_In}}
 use Rattle.byte_flow.specs.Flow.{Files}
-use Rattle.relation_fields.specs.declared.packages.Home.{Home}
-use Rattle.relation_fields.specs.declared.packages.PackageFacts.{PackageFacts}
+use Rattle.relation_fields.specs.{declared.packages.Home.{Home}, declared.packages.PackageFacts.{PackageFacts}}
 use Rattle.kernel_rounds.specs.Laws.{HasImage}
 use Rattle.kernel_rounds.proofs.Reached.{image_is_of_classes_lem}
-use Rattle.kernel_text.specs.declared.member.Member.{Member}
-use Rattle.kernel_text.specs.Images.{image_of, is_unknown}
-use Rattle.kernel_text.specs.KernelReads.{KernelContent, KernelReads, content}
-use Rattle.kernel_text.specs.KernelText.{format_of}
-use Rattle.kernel_text.specs.Laws.{IsReadBack}
-use Rattle.kernel_text.specs.Members.{kernel_members}
-use Rattle.kernel_text.proofs.OneReading.{one_reading}
-use Rattle.kernel_text.proofs.ReadBack.{read_back}
-use Rattle.repo_model.specs.declared.goals.Goal.{Goal}
-use Rattle.repo_model.specs.FirstFault.{first_fault}
-use Rattle.repo_model.specs.Goals.{packages_named}
-use Rattle.repo_model.specs.Repository.{suite_repository}
-use Rattle.repo_model.proofs.Accepted.{Accepted}
-use Rattle.repo_model.proofs.Packages.{length_clauses}
-use Rattle.row_book.specs.Numbers.{numbers}
-use Rattle.row_book.specs.Repository.{Repository}
-use Rattle.row_book.specs.Rounds.{kernel, kernel_class, kernel_held, kernel_image}
+use Rattle.kernel_text.specs.{declared.member.Member.{Member}, Images.{image_of, is_unknown}, KernelReads.{KernelContent, KernelReads, content}}
+use Rattle.kernel_text.specs.{KernelText.{format_of}, Laws.{IsReadBack}, Members.{kernel_members}}
+use Rattle.kernel_text.proofs.{OneReading.{one_reading}, ReadBack.{read_back}}
+use Rattle.repo_model.specs.{declared.goals.Goal.{Goal}, FirstFault.{first_fault}, Goals.{packages_named}, Repository.{suite_repository}}
+use Rattle.repo_model.proofs.{Accepted.{Accepted}, Packages.{length_clauses}}
+use Rattle.row_book.specs.{Numbers.{numbers}, Repository.{Repository}, Rounds.{kernel, kernel_class, kernel_held, kernel_image}}
 use Rattle.listed.specs.Lists.{In, has}
-use Rattle.listed.proofs.Lists.{In_has, any_cases, any_from, filter_same, has_In}
 use Rattle.search_terms.specs.Tree.{Tree, failed_leaves, found_of, log_of}
-use Rattle.suite_compare.specs.Answering.{names_none, unknown_from}
-use Rattle.suite_compare.specs.Asking.{asked_tree, images_of, tree_of}
+use Rattle.suite_compare.specs.{Answering.{names_none, unknown_from}, Asking.{asked_tree, images_of, tree_of}}
 use Rattle.suite_compare.specs.Asking as asking
-use Rattle.suite_compare.proofs.Deciding.{named_within}
-use Rattle.suite_compare.proofs.SuiteKernels.{suite_sound}
+use Rattle.suite_compare.proofs.{Deciding.{named_within}, SuiteKernels.{suite_sound}}
 use Rattle.suite_compare.specs.Refusals.{home_in, packages_in}
-use Rattle.coinst_run.specs.declared.answer.ReportVerdict.{ReportVerdict}
-use Rattle.coinst_run.specs.declared.answer.ReportVerdict.TheVariants.{Done, Undecided}
-use Rattle.coinst_run.specs.Answer.{reported}
-use Rattle.coinst_run.specs.Course.{answers, then_on}
-use Rattle.coinst_run.specs.Index.{index_in}
-use Rattle.coinst_run.specs.IndexKernel.{classed_kernel, index_kernel, text_for}
-use Rattle.coinst_run.specs.Kernel.{kernel_answer, kernel_course}
-use Rattle.coinst_run.specs.Outcome.{answered, file_limit, outcome_over}
+use Rattle.coinst_run.specs.{declared.answer.ReportVerdict.{ReportVerdict}, declared.answer.ReportVerdict.TheVariants.{Done, Undecided}, Answer.{reported}}
+use Rattle.coinst_run.specs.{Course.{answers, then_on}, Index.{index_in}, IndexKernel.{classed_kernel, index_kernel, text_for}}
+use Rattle.coinst_run.specs.{Kernel.{kernel_answer, kernel_course}, Outcome.{answered, file_limit, outcome_over}}
 use Rattle.coinst_run.specs.Query.{by_found, by_tree, by_unknown, goal_of_number, goals_answer, installed_text, query_answer, query_course}
 use Rattle.coinst_run.specs.QueryText.{undecided_text, unknown_line}
+use Rattle.coinst_run.specs.{StoredQuery.{classes_text, stored_answer, stored_by_unknown, stored_query_answer, stored_query_course}, Present.{HasKernel}}
 use Rattle.report_laws.specs.StoredAgrees.{AreOneAnswer, StoredAnswersAsIndex, StoredImagesAreOfIndex, no, undecided, unknown, yes}
-use Rattle.coinst_run.specs.StoredQuery.{classes_text, stored_answer, stored_by_unknown, stored_query_answer, stored_query_course}
 use Rattle.kernel_text.specs.Serving.{images_in}
 use Rattle.claims.proofs.PrintedKernels.{class_is, fits}
-use Rattle.coinst_run.proofs.StoredKernels.{kernel_checked}
-use Rattle.coinst_run.proofs.QueryMeant.{formed}
-use Rattle.coinst_run.specs.Present.{HasKernel}
-use Rattle.coinst_run.proofs.GoingOn.{GivesThis, kernel_used, this_alone}
+use Rattle.coinst_run.proofs.{StoredKernels.{kernel_checked}, QueryMeant.{formed}, GoingOn.{GivesThis, kernel_used, this_alone}}
 use Rattle.report_laws.proofs.Steps.{file_step, kernel_step}
 
 map_same : {A B : Type 0} (f g : A → B) (xs : List A) → ((x : A) → f x ≡ g x) → map f xs ≡ map g xs

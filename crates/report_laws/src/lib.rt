@@ -2,14 +2,9 @@
 //! functions do nothing, the contract of each is one law.
 #![tactic(auto)]
 
-ghost use Rattle.coinst_run.specs.CompareMeaning.{CompareIsMeant};
-ghost use Rattle.report_laws.specs.Complete.{CompleteJobsReport};
-ghost use Rattle.coinst_run.specs.ExplainMeaning.{ExplainIsMeant};
-ghost use Rattle.coinst_run.specs.MigrateMeaning.{MigrateIsMeant};
-ghost use Rattle.coinst_run.specs.QueryMeaning.{QueryIsMeant};
-ghost use Rattle.report_laws.specs.StoredAgrees.{StoredAnswersAsIndex, StoredImagesAreOfIndex};
-ghost use Rattle.coinst_run.specs.StoredMeaning.{StoredQueryIsMeant};
-ghost use Rattle.coinst_run.specs.SystemMeaning.{SystemIsMeant};
+ghost use Rattle.coinst_run.specs.{CompareMeaning.{CompareIsMeant}, ExplainMeaning.{ExplainIsMeant}, MigrateMeaning.{MigrateIsMeant}};
+ghost use Rattle.coinst_run.specs.{QueryMeaning.{QueryIsMeant}, StoredMeaning.{StoredQueryIsMeant}, SystemMeaning.{SystemIsMeant}};
+ghost use Rattle.report_laws.specs.{Complete.{CompleteJobsReport}, StoredAgrees.{StoredAnswersAsIndex, StoredImagesAreOfIndex}};
 
 /// Words that ask for a job are answered by a report exactly if its files are there, accepted and within the limits, and its goals
 /// are known.

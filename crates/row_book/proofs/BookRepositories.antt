@@ -1,14 +1,10 @@
 -- A sound book has a sound repository, and the other way round where its rows are of the pool.
-use Rattle.std.proofs.Common.{◌≡◌, ℕ, ◌<◌, List, length, sym, ◌∙◌, subst}
-use Rattle.std.proofs.lemmas.List.{length-map}
+use Rattle.std.proofs.{Common.{◌≡◌, ℕ, ◌<◌, List, length, sym, ◌∙◌, subst}, lemmas.List.{length-map}}
 use Rattle.clause_pool.specs.Interned.{Interned, IsPool, row_at}
 use Rattle.clause_pool.proofs.Lists.{In_place}
-use Rattle.row_book.specs.declared.book.Book.{Book}
-use Rattle.listed.specs.Lists.{In}
-use Rattle.row_book.specs.Uses.{row_id}
-use Rattle.row_book.specs.Repository.{clauses_of}
-use Rattle.row_book.specs.Sound.{SoundRepository, TidyRepository}
+use Rattle.row_book.specs.{declared.book.Book.{Book}, Uses.{row_id}, Repository.{clauses_of}, Sound.{SoundRepository, TidyRepository}}
 use Rattle.row_book.specs.Book.{repository_of, RowsTidy, Sound}
+use Rattle.listed.specs.Lists.{In}
 use Rattle.row_book.proofs.Books.{clauses_row, in_listed, row_ascending}
 use Rattle.listed.proofs.Lists.{In_at}
 

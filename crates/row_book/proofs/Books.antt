@@ -1,16 +1,12 @@
 -- What a sound book says of its repository, and what stays of a book while its pool grows.
-use Rattle.std.proofs.Common.{◌≡◌, ℕ, ◌<◌, true, List, [], ◌∷◌, length, map, slice_index_or, inl, inr, refl, sym, ◌∙◌, ap, ap₂, subst}
-use Rattle.std.proofs.lemmas.Bool.{cases_lt}
+use Rattle.std.proofs.{Common.{◌≡◌, ℕ, ◌<◌, true, List, [], ◌∷◌, length, map, slice_index_or, inl, inr, refl, sym, ◌∙◌, ap, ap₂, subst}, lemmas.Bool.{cases_lt}}
 use Rattle.std.proofs.lemmas.List.{get_or_past, length-map}
 use Rattle.std.proofs.lemmas.List as lists
 use Rattle.clause_pool.specs.Interned.{Interned, clause_at, ids_at, clauses_at, row_at, OfPool, IsPool, Kept}
 use Rattle.clause_pool.proofs.Interned.{clauses_at_same}
-use Rattle.row_book.specs.declared.book.Book.{Book}
-use Rattle.listed.specs.Lists.{In, here, there, has, Ascending}
-use Rattle.row_book.specs.Uses.{row_id}
-use Rattle.row_book.specs.Repository.{Repository, clauses_of}
-use Rattle.row_book.specs.Sound.{SoundClauses, BetweenPackages}
+use Rattle.row_book.specs.{declared.book.Book.{Book}, Uses.{row_id}, Repository.{Repository, clauses_of}, Sound.{SoundClauses, BetweenPackages}}
 use Rattle.row_book.specs.Book.{repository_of, RowsFit, listed_for, Sound}
+use Rattle.listed.specs.Lists.{In, here, there, has, Ascending}
 use Rattle.listed.proofs.Lists.{In_none, In_at, has_In, In_map_cases}
 
 -- an element of the list at a place, which then is within

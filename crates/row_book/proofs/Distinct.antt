@@ -1,11 +1,7 @@
 -- A list without neighbours that are the same has the same numbers, and ascends where it was sorted.
 use Rattle.std.proofs.Common.{◌≡◌, ℕ, zero, suc, ◌<◌, ◌≤◌, Bool, true, false, List, [], ◌∷◌, cond, eqb, inl, inr, refl, sym, subst, arith, eq-eqb}
-use Rattle.std.specs.List.{dedup, dedup_from}
-use Rattle.std.specs.List.Retain.{DiffersFromLast, IsFiltered}
-use Rattle.std.specs.List.Sorted.{IsNonDecreasing}
-use Rattle.std.proofs.lemmas.Bool.{both_ways, cases_lt}
-use Rattle.std.proofs.lemmas.List.Filters.{dedup_is}
-use Rattle.std.proofs.lemmas.List.Kept.{Contains-dedup_nat, Contains-from_dedup}
+use Rattle.std.proofs.{lemmas.Bool.{both_ways, cases_lt}, lemmas.List.Filters.{dedup_is}, lemmas.List.Kept.{Contains-dedup_nat, Contains-from_dedup}}
+use Rattle.std.specs.{List.{dedup, dedup_from}, List.Retain.{DiffersFromLast, IsFiltered}, List.Sorted.{IsNonDecreasing}}
 use Rattle.listed.proofs.Lists.{contains_in, in_contains, In_cases, In_none}
 use Rattle.listed.specs.Lists.{In, Ascending}
 

@@ -1,14 +1,11 @@
 -- Sides that conflict as a whole.
 use Rattle.std.proofs.Common.{◌≡◌, ℕ, Bool, true, false, ◌&&◌, ◌||◌, List, [], ◌∷◌, inl, inr, refl, sym, ◌∙◌, ap, ap₂, subst, filter}
 use Rattle.std.specs.List.{list_all, list_any}
-use Rattle.listed.proofs.Bools.{same_bool}
-use Rattle.row_book.specs.Sets.{NumSet, Hit, Is}
-use Rattle.listed.specs.Lists.{In, here, there, has, Ascending, is_inside}
-use Rattle.row_book.specs.Book.{listed_for}
-use Rattle.row_book.specs.Repository.{Repository, Healthy}
-use Rattle.row_book.specs.Facing.{sides, against_in, all_against, common_to, face}
-use Rattle.listed.proofs.Lists.{In_cases, In_has, all_at, all_from, any_cases, filter_cases, filter_from, has_In}
+use Rattle.listed.proofs.{Bools.{same_bool}, Lists.{In_cases, In_has, all_at, all_from, any_cases, filter_cases, filter_from, has_In}}
 use Rattle.listed.proofs.Orders.{ascending_filter}
+use Rattle.row_book.specs.{Sets.{NumSet, Hit, Is}, Book.{listed_for}, Repository.{Repository, Healthy}}
+use Rattle.row_book.specs.Facing.{sides, against_in, all_against, common_to, face}
+use Rattle.listed.specs.Lists.{In, here, there, has, Ascending, is_inside}
 
 pub face_parts : (f : ℕ → ℕ → Bool) (ds es : List (List ℕ)) → face f ds es ≡ true →
     (d : List ℕ) × (e : List ℕ) × In d ds × In e es × ((m n : ℕ) → In m d → In n e → f m n ≡ true)

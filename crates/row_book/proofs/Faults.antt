@@ -1,18 +1,15 @@
 -- What the tests of a set of packages find.
 use Rattle.std.proofs.Common.{◌≡◌, ℕ, zero, suc, ◌<◌, ◌≤◌, ◌+◌, Bool, true, false, ◌&&◌, ltb, List, [], ◌∷◌, ◌++◌, length, take, get_or, Some, None, cond, ◌⊎◌, inl, inr, refl, sym, ◌∙◌, ap, subst, arith}
-use Rattle.std.specs.List.{find, list_any}
 use Rattle.std.proofs.lemmas.Bool.{and_parts, and_from, both_ways, cases_lt, cases_eq, lt-ltb, ltb-true}
+use Rattle.std.specs.List.{find, list_any}
 use Rattle.std.proofs.lemmas.List as lists
 use Rattle.std.proofs.lemmas.List.{length-map, map_more}
 use Rattle.clause_pool.specs.Interned.{Interned, clause_at, clauses_at}
-use Rattle.row_book.specs.Sets.{NumSet, Is, Hit, HitsAll}
-use Rattle.listed.specs.Lists.{In, here, there, Ascending}
-use Rattle.row_book.specs.Book.{listed_for, AreConflicts}
-use Rattle.row_book.specs.Flags.{flag}
+use Rattle.row_book.specs.{Sets.{NumSet, Is, Hit, HitsAll}, Book.{listed_for, AreConflicts}, Flags.{flag}}
 use Rattle.row_book.specs.Health.{IsFirstUnhit, IsClash, HasNoClash, IsFirstClash}
+use Rattle.listed.specs.Lists.{In, here, there, Ascending}
 use Rattle.listed.proofs.Lists.{In_cases, In_none, In_has, has_In, In_append_cases, In_map, find_some, find_none}
-use Rattle.row_book.proofs.Lists.{hit_any, any_hit}
-use Rattle.row_book.proofs.Flags.{flag_in}
+use Rattle.row_book.proofs.{Lists.{hit_any, any_hit}, Flags.{flag_in}}
 
 -- the clauses before a place
 before_place : {A : Type 0} (xs : List A) (k j : ℕ) (d : A) → j < k → k < length xs → In (get_or xs j d) (take k xs)

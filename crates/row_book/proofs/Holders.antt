@@ -1,26 +1,17 @@
 -- Tables of clauses: how they are made and changed, and what they tell of rows.
 use Rattle.std.proofs.Common.{◌≡◌, ◌≢◌, ℕ, zero, suc, ◌<◌, ◌≤◌, ◌+◌, Bool, true, List, [], ◌∷◌, ◌++◌, inl, inr, refl, sym, ◌∙◌, ap, ap₂, subst, arith, ◌||◌, eqb, filter, length, get_or, take, zero-le}
-use Rattle.std.specs.Global.{Vec}
-use Rattle.std.specs.List.{slice_set, list_any}
-use Rattle.std.proofs.lemmas.Bool.{cases_eq}
-use Rattle.std.proofs.lemmas.List.{get_or-set_same, get_or-set_other, length-set, take_more}
-use Rattle.std.specs.List.Retain.{DiffersFromLast, IsFiltered}
-use Rattle.std.specs.List.Sorted.{IsNonDecreasing}
+use Rattle.std.proofs.{lemmas.Bool.{cases_eq}, lemmas.List.{get_or-set_same, get_or-set_other, length-set, take_more}}
 use Rattle.std.proofs.lemmas.List.Folds.{list_any_more, list_any-append}
+use Rattle.std.specs.{Global.{Vec}, List.{slice_set, list_any}, List.Retain.{DiffersFromLast, IsFiltered}, List.Sorted.{IsNonDecreasing}}
 use Rattle.listed.proofs.Bools.{same_bool}
 use Rattle.listed.proofs.Lists.{empty_or, In_append_cases, In_append_left, In_append_right, In_cases, In_has, In_none, any_cases, any_from, decided_in, filter_cases, filter_from, has_In}
+use Rattle.listed.proofs.Orders.{ascending_filter}
 use Rattle.clause_pool.specs.Interned.{Interned, Kept, clause_at}
 use Rattle.listed.specs.Lists.{In, here, has}
-use Rattle.row_book.specs.Book.{listed_for}
-use Rattle.row_book.specs.Numbers.{numbers}
-use Rattle.row_book.specs.Uses.{HoldsDifference, IsListOf, lists_in, list_in}
+use Rattle.row_book.specs.{Book.{listed_for}, Numbers.{numbers}, Uses.{HoldsDifference, IsListOf, lists_in, list_in}}
 use Rattle.row_book.specs.Holders.{is_user, users_in, ArePlaced, GainsOnly, HasAll, Holders, ListsClauses, TellsRows}
-use Rattle.row_book.proofs.Books.{in_listed}
-use Rattle.row_book.proofs.Distinct.{distinct_ascends, distinct_from, distinct_has}
-use Rattle.row_book.proofs.Inserts.{listed_once}
-use Rattle.listed.proofs.Orders.{ascending_filter}
-use Rattle.row_book.proofs.Numbers.{numbers_ascending, numbers_from}
-use Rattle.row_book.proofs.Tables.{list_held, list_set_other, list_set_same}
+use Rattle.row_book.proofs.{Books.{in_listed}, Distinct.{distinct_ascends, distinct_from, distinct_has}, Inserts.{listed_once}}
+use Rattle.row_book.proofs.{Numbers.{numbers_ascending, numbers_from}, Tables.{list_held, list_set_other, list_set_same}}
 
 -- Lists that grow.
 

@@ -1,17 +1,11 @@
 -- A number that is put into an ascending list or taken out of it.
 use Rattle.std.proofs.Common.{◌≡◌, ℕ, zero, suc, ◌<◌, ◌≤◌, ◌-◌, Bool, true, false, not, eqb, List, [], ◌∷◌, inl, inr, sym, ◌∙◌, ap, ap₂, subst, arith, ◌&&◌, ◌||◌, length, take, drop, get_or, ne_eqb, eq-eqb, Result, Ok, Err, if◌then◌else◌}
-use Rattle.std.specs.List.{insert, remove}
-use Rattle.std.specs.List.Sorted.{IsBinarySearchResult}
-use Rattle.std.specs.Ordering.{nat_cmp}
-use Rattle.std.specs.Result.{IsOk, is_ok}
-use Rattle.std.proofs.Math.Bool.{or_assoc, or_comm, or-false, and-true, and-false}
-use Rattle.std.proofs.lemmas.Bool.{cases_eq, false≢true}
-use Rattle.std.proofs.lemmas.List.Sorted.{searched}
+use Rattle.std.proofs.{Math.Bool.{or_assoc, or_comm, or-false, and-true, and-false}, lemmas.Bool.{cases_eq, false≢true}, lemmas.List.Sorted.{searched}}
+use Rattle.std.specs.{List.{insert, remove}, List.Sorted.{IsBinarySearchResult}, Ordering.{nat_cmp}, Result.{IsOk, is_ok}}
 use Rattle.listed.proofs.Orders.{ascending_places, missed_not_there, ascending_same}
 use Rattle.listed.proofs.Lists.{In_drop, In_cases, In_none, In_at, In_has, has_In, has_not, in_take, In_append_cases}
-use Rattle.row_book.specs.Sets.{NumSet, plus, without}
+use Rattle.row_book.specs.{Sets.{NumSet, plus, without}, Uses.{IsListOf, IsPlaceOf}}
 use Rattle.listed.specs.Lists.{In, here, there, has, Ascending}
-use Rattle.row_book.specs.Uses.{IsListOf, IsPlaceOf}
 
 -- a list is the only one of its set
 pub listed_once : (S : NumSet) (xs ys : List ℕ) → IsListOf S xs → IsListOf S ys → xs ≡ ys

@@ -1,7 +1,7 @@
 -- What sets hit, and the members of a set as a list.
 use Rattle.std.proofs.Common.{◌≡◌, ℕ, zero, suc, ◌<◌, ◌≤◌, ◌+◌, true, not, cond, List, [], ◌∷◌, ◌⊎◌, inl, inr, sym, ◌∙◌, ap, subst, arith}
-use Rattle.std.specs.List.{list_any}
 use Rattle.std.proofs.lemmas.Bool.{and_parts, and_from, not_from_false, not-true, both_ways, cases_Bool, cases_eq}
+use Rattle.std.specs.List.{list_any}
 use Rattle.listed.proofs.Lists.{In_cases, In_none, In_has, has_not, any_from, any_cases, Decided, in_cond_rest, in_cond_first, in_cond_cases}
 use Rattle.listed.proofs.Orders.{ascending_cond}
 use Rattle.row_book.specs.Sets.{NumSet, Hit, Is, minus}

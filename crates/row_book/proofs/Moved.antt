@@ -1,14 +1,11 @@
 -- Books whose rows come into another pool.
 use Rattle.std.proofs.Common.{◌≡◌, ℕ, ◌<◌, ◌+◌, List, [], ◌∷◌, ◌++◌, refl, sym, ◌∙◌, ap, ap₂, subst, length, get_or, take, map, length-append}
-use Rattle.std.specs.Prelude.{Option, Result, Ok, Err, IfOk}
 use Rattle.std.proofs.lemmas.List.{length-map, map-append}
+use Rattle.std.specs.Prelude.{Option, Result, Ok, Err, IfOk}
 use Rattle.clause_pool.proofs.Carried.{next_rows, one_more}
-use Rattle.clause_pool.specs.Interned.{Interned, IsPool, row_at}
-use Rattle.clause_pool.specs.Compacting.{Compacts, Renames, StandsFor}
-use Rattle.row_book.specs.declared.book.Book.{Book}
+use Rattle.clause_pool.specs.{Interned.{Interned, IsPool, row_at}, Compacting.{Compacts, Renames, StandsFor}}
+use Rattle.row_book.specs.{declared.book.Book.{Book}, Book.{IsSameBook, RowsFit}, Repository.{Repository}}
 use Rattle.listed.specs.Lists.{In}
-use Rattle.row_book.specs.Book.{IsSameBook, RowsFit}
-use Rattle.row_book.specs.Repository.{Repository}
 use Rattle.listed.proofs.Lists.{In_map, In_map_cases, In_none}
 
 -- rows that denote the same clauses in the other pool make the same book

@@ -1,18 +1,12 @@
 -- Sound repositories: their tests of conflicts, and when two of them are the same.
 use Rattle.std.proofs.Common.{◌≡◌, ℕ, suc, ◌<◌, ◌≤◌, ◌+◌, Bool, true, ◌&&◌, List, [], ◌∷◌, length, inl, inr, refl, sym, ◌∙◌, ap₂, subst, arith, filter, slice_index_or, eqb, zero-le, ◌↔◌}
+use Rattle.std.proofs.{lemmas.Bool.{and_from, and_parts, cases_lt}, lemmas.List.{get_or_past}}
 use Rattle.std.specs.Cmp.Lexicographic.{pointwise, pointwise_decides, bytes_decides}
-use Rattle.std.proofs.lemmas.Bool.{and_from, and_parts, cases_lt}
-use Rattle.std.proofs.lemmas.List.{get_or_past}
-use Rattle.listed.proofs.Bools.{same_bool}
-use Rattle.row_book.specs.Sets.{NumSet, Hit}
-use Rattle.listed.specs.Lists.{In, has, Inside}
-use Rattle.row_book.specs.Repository.{Repository, Healthy, Coinst, against, clauses_of, conflicts_of}
-use Rattle.row_book.specs.Flattening.{packages}
+use Rattle.listed.proofs.{Bools.{same_bool}, Lists.{In_has, has_In, filter_cases, filter_from}, Orders.{ascending_same}}
+use Rattle.row_book.specs.{Sets.{NumSet, Hit}, Repository.{Repository, Healthy, Coinst, against, clauses_of, conflicts_of}, Flattening.{packages}}
 use Rattle.row_book.specs.Sound.{BetweenPackages, SoundRepository}
-use Rattle.row_book.proofs.Books.{in_listed}
-use Rattle.listed.proofs.Lists.{In_has, has_In, filter_cases, filter_from}
-use Rattle.listed.proofs.Orders.{ascending_same}
-use Rattle.row_book.proofs.Numbers.{numbers_from, numbers_parts}
+use Rattle.listed.specs.Lists.{In, has, Inside}
+use Rattle.row_book.proofs.{Books.{in_listed}, Numbers.{numbers_from, numbers_parts}}
 
 pub has_filter : (f : ℕ → Bool) (xs : List ℕ) (n : ℕ) → has (filter f xs) n ≡ (has xs n && f n)
 has_filter f xs n =

@@ -1,21 +1,15 @@
 -- The users of numbers: as members of lists, and after a row has changed.
 use Rattle.std.proofs.Common.{◌≡◌, ℕ, suc, ◌<◌, ◌≤◌, ◌+◌, Bool, true, false, not, eqb, ltb, List, [], ◌∷◌, ◌⊎◌, inl, inr, refl, sym, ◌∙◌, ap, ap₂, subst, arith, ◌&&◌, ◌||◌, length, get_or, map, ne_eqb, eq-eqb, take, drop, ◌++◌, append-nil}
-use Rattle.std.specs.Global.{Vec}
-use Rattle.std.specs.List.{slice_set}
 use Rattle.std.proofs.Math.Bool.{or-false, and-true, and-false}
 use Rattle.std.proofs.lemmas.Bool.{false≢true, cases_Bool, cases_eq, both_ways, and_parts, and_from, or_left, or_right, ltb-true, ltb-false, lt-ltb, le-ltb}
-use Rattle.std.proofs.lemmas.List.{get_or-set_same, get_or-set_other, length-set, length-map, drop_all, take_all}
-use Rattle.std.proofs.lemmas.Grind.{get_or_default_zero}
+use Rattle.std.proofs.{lemmas.List.{get_or-set_same, get_or-set_other, length-set, length-map, drop_all, take_all}, lemmas.Grind.{get_or_default_zero}}
+use Rattle.std.specs.{Global.{Vec}, List.{slice_set}}
 use Rattle.clause_pool.specs.Interned.{Interned, clauses_at, ids_at, row_at}
-use Rattle.row_book.specs.Sets.{NumSet}
-use Rattle.listed.specs.Lists.{In, has, Ascending}
-use Rattle.row_book.specs.Numbers.{numbers}
-use Rattle.row_book.specs.Book.{RowsFit}
+use Rattle.row_book.specs.{Sets.{NumSet}, Numbers.{numbers}, Book.{RowsFit}}
 use Rattle.row_book.specs.Uses.{row_id, row_holds, some_holds, users_of, uses_of, HoldsDifference, IsListOf, lists_in, list_in}
-use Rattle.listed.proofs.Lists.{In_has, has_In, has_not, any_cases, filter_from, filter_cases}
-use Rattle.listed.proofs.Orders.{ascending_filter}
-use Rattle.row_book.proofs.Numbers.{numbers_from, numbers_parts, numbers_ascending, length_numbers, at_numbers}
-use Rattle.row_book.proofs.Inserts.{listed_once, listed_as}
+use Rattle.listed.specs.Lists.{In, has, Ascending}
+use Rattle.listed.proofs.{Lists.{In_has, has_In, has_not, any_cases, filter_from, filter_cases}, Orders.{ascending_filter}}
+use Rattle.row_book.proofs.{Numbers.{numbers_from, numbers_parts, numbers_ascending, length_numbers, at_numbers}, Inserts.{listed_once, listed_as}}
 use Rattle.row_book.proofs.Differences.{difference_all, difference_held}
 
 -- members of a list of users

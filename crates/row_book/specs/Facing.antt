@@ -1,10 +1,8 @@
 -- Packages that exclude each other by what they need: a healthy set with the package has a member of each of the
 -- package's sides.
-use Rattle.std.specs.Prelude.{ℕ, Bool, List, [], ◌∷◌, filter}
-use Rattle.std.specs.List.{list_all, list_any}
+use Rattle.std.specs.{Prelude.{ℕ, Bool, List, [], ◌∷◌, filter}, List.{list_all, list_any}}
 use Rattle.listed.specs.Lists.{has}
-use Rattle.row_book.specs.Book.{listed_for}
-use Rattle.row_book.specs.Repository.{Repository, clauses_of}
+use Rattle.row_book.specs.{Book.{listed_for}, Repository.{Repository, clauses_of}}
 
 -- the package alone, and each of its clauses
 abbrev pub sides : Repository → ℕ → List (List ℕ)

@@ -3,12 +3,8 @@
 -- Co-Installability", the section on flattening. With hold, which is not theirs, a package whose
 -- elimination would make a row pass the clause limit stays.
 use Rattle.std.specs.Prelude.{ℕ, zero, suc, Bool, false, not, ◌&&◌, ◌||◌, eqb, ltb, cond, List, [], ◌∷◌, map, length, Option, Some, None}
-use Rattle.std.specs.List.{list_all, list_any, filter, find}
-use Rattle.std.specs.Option.{option_map}
-use Rattle.row_book.specs.Sets.{NumSet, plus, without}
-use Rattle.row_book.specs.Repository.{Repository, against}
-use Rattle.row_book.specs.Numbers.{numbers}
-use Rattle.row_book.specs.Support.{row}
+use Rattle.std.specs.{List.{list_all, list_any, filter, find}, Option.{option_map}}
+use Rattle.row_book.specs.{Sets.{NumSet, plus, without}, Repository.{Repository, against}, Numbers.{numbers}, Support.{row}}
 
 -- the packages in order
 abbrev pub packages : Repository → List ℕ

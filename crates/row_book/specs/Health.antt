@@ -1,12 +1,9 @@
 -- The first fault of a set of packages that is not healthy: the first clause that it does not hit, by the package's
 -- number and by the clause's place in the package's row, and where it hits them all its first conflict.
 use Rattle.std.specs.Prelude.{◌≡◌, ℕ, ◌<◌, ◌≤◌, true, List, [], ◌⊎◌, length, slice_index_or}
-use Rattle.row_book.specs.Sets.{NumSet, Is, Hit}
-use Rattle.listed.specs.Lists.{has}
-use Rattle.row_book.specs.Repository.{Repository, Satisfied, clauses_of}
-use Rattle.row_book.specs.Book.{listed_for}
-use Rattle.row_book.specs.declared.health.Unhealthy.{Unhealthy}
+use Rattle.row_book.specs.{Sets.{NumSet, Is, Hit}, Repository.{Repository, Satisfied, clauses_of}, Book.{listed_for}, declared.health.Unhealthy.{Unhealthy}}
 use Rattle.row_book.specs.declared.health.Unhealthy.TheVariants.{Unhit, Clash}
+use Rattle.listed.specs.Lists.{has}
 
 -- the set hits each clause of each of its packages
 abbrev pub AllSatisfied : Repository → NumSet → Type 0

@@ -1,13 +1,8 @@
 -- Which rows have which clauses, and which clauses hold which packages. Clauses are told by their ids.
-use Rattle.std.specs.Prelude.{◌≡◌, ℕ, ◌<◌, ◌⊎◌, Bool, List, filter, length}
-use Rattle.std.specs.Global.{Vec}
-use Rattle.std.specs.List.{list_any}
-use Rattle.clause_pool.specs.Interned.{Interned, IsPool, OfPool, clause_at, clauses_at}
+use Rattle.std.specs.{Prelude.{◌≡◌, ℕ, ◌<◌, ◌⊎◌, Bool, List, filter, length}, Global.{Vec}, List.{list_any}}
+use Rattle.clause_pool.specs.{Interned.{Interned, IsPool, OfPool, clause_at, clauses_at}, Lists.{InOrder}}
 use Rattle.listed.specs.Lists.{In, has}
-use Rattle.clause_pool.specs.Lists.{InOrder}
-use Rattle.row_book.specs.Numbers.{numbers}
-use Rattle.row_book.specs.Book.{listed_for}
-use Rattle.row_book.specs.Uses.{lists_in}
+use Rattle.row_book.specs.{Numbers.{numbers}, Book.{listed_for}, Uses.{lists_in}}
 
 -- rows that are told by the ids of their clauses: clauses of the pool, in order, and each number in them is below the number of rows
 pub record ListsFit (pool : Interned) (rows : List (List ℕ)) : Type 0 where

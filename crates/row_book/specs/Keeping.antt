@@ -1,8 +1,6 @@
 -- What a reduction keeps: whether sets of packages can be installed together.
 use Rattle.std.specs.Prelude.{◌↔◌}
-use Rattle.row_book.specs.Sets.{NumSet}
-use Rattle.row_book.specs.Repository.{Repository, Coinst, Healthy}
-use Rattle.row_book.specs.Sound.{OfPackages}
+use Rattle.row_book.specs.{Sets.{NumSet}, Repository.{Repository, Coinst, Healthy}, Sound.{OfPackages}}
 
 -- the same sets are healthy
 abbrev pub KeepsHealthySets : Repository → Repository → Type 0

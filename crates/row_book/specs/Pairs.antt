@@ -2,8 +2,7 @@
 -- Pairs in order, and lists of conflicts while they grow.
 use Rattle.std.specs.Prelude.{◌≡◌, ◌≢◌, ℕ, ◌<◌, ◌≤◌, Bool, true, false, eqb, cond, List, [], ◌∷◌, ◌++◌, ◌⊎◌, length}
 use Rattle.listed.specs.Lists.{In, Ascending}
-use Rattle.row_book.specs.Book.{listed_for, are_paired}
-use Rattle.row_book.specs.declared.pair.Pair.{Pair}
+use Rattle.row_book.specs.{Book.{listed_for, are_paired}, declared.pair.Pair.{Pair}}
 
 -- the first pair comes no later than the second, by the lesser and then by the greater number
 abbrev pub NoLater : Pair → Pair → Type 0

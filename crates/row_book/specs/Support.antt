@@ -2,12 +2,9 @@
 -- can be put into any installation as soon as its clauses are hit, so the clauses of a package may
 -- be told in terms of the packages with conflicts alone: Vouillon and Di Cosmo, "On Software
 -- Component Co-Installability", the section on flattening.
-use Rattle.std.specs.Prelude.{◌≡◌, ◌≢◌, ℕ, ◌<◌, Bool, false, not, ◌&&◌, ◌||◌, eqb, List, ◌∷◌, ◌⊎◌, length}
-use Rattle.std.specs.List.{list_all, list_any, filter}
-use Rattle.row_book.specs.Sets.{NumSet, Is, minus, without}
+use Rattle.std.specs.{Prelude.{◌≡◌, ◌≢◌, ℕ, ◌<◌, Bool, false, not, ◌&&◌, ◌||◌, eqb, List, ◌∷◌, ◌⊎◌, length}, List.{list_all, list_any, filter}}
+use Rattle.row_book.specs.{Sets.{NumSet, Is, minus, without}, Repository.{Repository, Satisfied, clauses_of}, Numbers.{subsets}}
 use Rattle.listed.specs.Lists.{In, has, Ascending, Inside, is_inside}
-use Rattle.row_book.specs.Repository.{Repository, Satisfied, clauses_of}
-use Rattle.row_book.specs.Numbers.{subsets}
 
 -- the members of X, the helpers J and the package p together
 abbrev pub Alive : NumSet → NumSet → ℕ → ℕ → Type 0

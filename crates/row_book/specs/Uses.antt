@@ -1,12 +1,9 @@
 -- Which packages name which: for each number the packages whose row has a clause that holds it.
-use Rattle.std.specs.Prelude.{◌≡◌, ℕ, ◌<◌, ◌≤◌, ◌-◌, ◌⊎◌, Bool, List, [], map, filter, length, slice_index_or, Result, Ok, Err}
-use Rattle.std.specs.List.{list_any}
-use Rattle.std.specs.Global.{Vec}
+use Rattle.std.specs.{Prelude.{◌≡◌, ℕ, ◌<◌, ◌≤◌, ◌-◌, ◌⊎◌, Bool, List, [], map, filter, length, slice_index_or, Result, Ok, Err}, List.{list_any}, Global.{Vec}}
 use Rattle.std.specs.Vec.{vec_capacity, vec_len}
 use Rattle.clause_pool.specs.Interned.{Interned, row_at}
-use Rattle.row_book.specs.Sets.{NumSet}
+use Rattle.row_book.specs.{Sets.{NumSet}, Numbers.{numbers}}
 use Rattle.listed.specs.Lists.{In, has, Ascending}
-use Rattle.row_book.specs.Numbers.{numbers}
 
 -- the id of the row of a package
 abbrev pub row_id : List ℕ → ℕ → ℕ

@@ -1,9 +1,7 @@
 //! Which packages conflict, by a table of their conflicts.
-ghost use Rattle.std.specs.Prelude.{◌≡◌, ℕ, IfOk};
-ghost use Rattle.std.specs.List.{list_all};
+ghost use Rattle.std.specs.{Prelude.{◌≡◌, ℕ, IfOk}, List.{list_all}};
 ghost use Rattle.listed.specs.Lists.{has, is_inside, Ascending};
-ghost use Rattle.row_book.specs.Book.{listed_for};
-ghost use Rattle.row_book.specs.Facing.{against_in, all_against, common_to};
+ghost use Rattle.row_book.specs.{Book.{listed_for}, Facing.{against_in, all_against, common_to}};
 
 use crate::{Book, NumList};
 use listed::{holds_ascending, is_inside};

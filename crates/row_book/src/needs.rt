@@ -15,8 +15,7 @@ pub struct Needs {
 }
 
 impl Model for Needs {
-    ghost use Rattle.std.specs.Prelude.{ℕ, List};
-    ghost use Rattle.std.specs.Coded.{coded_list, coded_ℕ};
+    ghost use Rattle.std.specs.{Prelude.{ℕ, List}, Coded.{coded_list, coded_ℕ}};
     ghost use Rattle.row_book.specs.Needs.{AreNeeds};
 
     ghost Value = { List (List ℕ) };

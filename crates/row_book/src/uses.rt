@@ -6,8 +6,7 @@ ghost use Rattle.std.specs.Prelude.{◌≡◌, ◌<◌, ◌-◌, ◌⊎◌, ◌&
 ghost use Rattle.std.specs.List.Sorted.{IsNonDecreasing, IsSearchInRange};
 ghost use Rattle.clause_pool.specs.Interned.{clauses_at, ids_at, row_at, OfPool};
 ghost use Rattle.listed.specs.Lists.{In, has, Ascending};
-ghost use Rattle.row_book.specs.Sets.{plus, without};
-ghost use Rattle.row_book.specs.Book.{listed_for, RowsFit};
+ghost use Rattle.row_book.specs.{Sets.{plus, without}, Book.{listed_for, RowsFit}};
 ghost use Rattle.row_book.specs.Uses.{row_id, some_holds, uses_of, HoldsDifference, IsListOf, IsPlaceOf, lists_in, list_in, room_in};
 
 use crate::changes::{Changes, changes_between};
@@ -23,8 +22,7 @@ pub struct UseTable {
 }
 
 impl Model for UseTable {
-    ghost use Rattle.std.specs.Prelude.{List, ℕ};
-    ghost use Rattle.std.specs.Coded.{coded_list, coded_ℕ};
+    ghost use Rattle.std.specs.{Prelude.{List, ℕ}, Coded.{coded_list, coded_ℕ}};
     ghost use Rattle.row_book.specs.Uses.{lists_in};
 
     ghost Value = { List (List ℕ) };

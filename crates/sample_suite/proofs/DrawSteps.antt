@@ -1,7 +1,7 @@
 -- Draws one after another, and what holds of each.
 use Rattle.std.proofs.Common.{◌≡◌, ◌∙◌, ◌<◌, ◌≤◌, ◌+◌, ◌-◌, ℕ, zero, suc, refl, sym, ap, List, [], ◌∷◌, ◌++◌, length, append_assoc, append-nil, arith}
-use Rattle.std.specs.List.{AllByRecursion}
 use Rattle.std.proofs.Math.Nat.{mod-lt}
+use Rattle.std.specs.List.{AllByRecursion}
 use Rattle.sample_suite.specs.Drawing.{Drawn, draw, draws, with_first}
 
 -- what was drawn before, in front of more draws

@@ -1,7 +1,6 @@
 -- The index of a sample suite, written stanza by stanza as its packages are drawn.
 use Rattle.std.proofs.Common.{◌≡◌, ◌∙◌, ◌<◌, ◌≤◌, ◌+◌, ◌-◌, ℕ, refl, sym, ap, List, [], ◌∷◌, ◌++◌, append-nil, append_assoc, arith}
-use Rattle.sample_suite.specs.declared.package.SamplePackage.{SamplePackage}
-use Rattle.sample_suite.specs.Drawing.{draw_package, draws}
+use Rattle.sample_suite.specs.{declared.package.SamplePackage.{SamplePackage}, Drawing.{draw_package, draws}}
 use Rattle.sample_suite.specs.SampleText.{sample_text, stanza_text, stanzas_text}
 use Rattle.sample_suite.proofs.DrawSteps.{draws_first, draws_none, one_left}
 

@@ -1,7 +1,6 @@
 -- What holds of the packages that are drawn.
 use Rattle.std.proofs.Common.{◌≡◌, ◌<◌, ◌≤◌, ◌+◌, ◌/◌, ◌==◌, ℕ, Bool, true, false, cond, List, length, Option, Some, None, arith}
-use Rattle.std.specs.Prelude.{⊤}
-use Rattle.std.specs.List.{AllByRecursion}
+use Rattle.std.specs.{Prelude.{⊤}, List.{AllByRecursion}}
 use Rattle.sample_suite.specs.declared.package.SamplePackage.{SamplePackage}
 use Rattle.sample_suite.specs.Drawing.{draw, draw_element, draw_needs, draw_package, draw_conflict, no_conflict, sample_packages, some_conflict}
 use Rattle.sample_suite.proofs.DrawSteps.{draw_below, draws_all, length-draws}

@@ -1,19 +1,12 @@
 -- The packages that are drawn fit what the index asks, and its text is short enough to be a file.
-use Rattle.std.proofs.Common.{◌≡◌, ◌<◌, ◌≤◌, ◌+◌, ◌*◌, ℕ, List, [], ◌∷◌, ◌++◌, length, codes, Option, Some, None, None, arith}
-use Rattle.std.specs.List.{AllByRecursion}
-use Rattle.std.proofs.lemmas.Fmt.{length-decimal-le}
+use Rattle.std.proofs.{Common.{◌≡◌, ◌<◌, ◌≤◌, ◌+◌, ◌*◌, ℕ, List, [], ◌∷◌, ◌++◌, length, codes, Option, Some, None, None, arith}, lemmas.Fmt.{length-decimal-le}}
 use Rattle.std.proofs.lemmas.List.{length-append}
-use Rattle.repo_model.specs.FirstFault.{first_fault}
-use Rattle.repo_model.specs.Limits.{most_bytes, most_packages}
-use Rattle.sample_suite.specs.declared.package.SamplePackage.{SamplePackage}
-use Rattle.sample_suite.specs.Drawing.{IsCount, sample_packages}
+use Rattle.std.specs.List.{AllByRecursion}
+use Rattle.repo_model.specs.{FirstFault.{first_fault}, Limits.{most_bytes, most_packages}}
+use Rattle.sample_suite.specs.{declared.package.SamplePackage.{SamplePackage}, Drawing.{IsCount, sample_packages}}
 use Rattle.sample_suite.specs.SampleText.{conflicts_lines, depends_lines, element_text, lines_text, needs_text, package_name, sample_text, stanza_lines, stanza_text, stanzas_text}
-use Rattle.sample_suite.proofs.Accepting.{stanzas_accepted}
-use Rattle.sample_suite.proofs.DrawnPackages.{IsElement, IsPackage, IsConflict, length-sample_packages, packages_drawn}
-use Rattle.sample_suite.proofs.Names.{IsSmall}
-use Rattle.sample_suite.proofs.SampleLines.{AreSmall, IsSmallConflict}
-use Rattle.sample_suite.proofs.SampleStanzas.{IsFit}
-use Rattle.sample_suite.proofs.Values.{AreFilled}
+use Rattle.sample_suite.proofs.{Accepting.{stanzas_accepted}, DrawnPackages.{IsElement, IsPackage, IsConflict, length-sample_packages, packages_drawn}}
+use Rattle.sample_suite.proofs.{Names.{IsSmall}, SampleLines.{AreSmall, IsSmallConflict}, SampleStanzas.{IsFit}, Values.{AreFilled}}
 
 module _ (count : ℕ) (low : count ≤ most_packages) where
   numbers_small : (numbers : List ℕ) → AllByRecursion (λ n. n < count) numbers → AllByRecursion IsSmall numbers

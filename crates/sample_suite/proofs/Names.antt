@@ -1,14 +1,8 @@
 -- The names of the packages of a sample suite.
 use Rattle.std.proofs.Common.{◌≡◌, ◌∙◌, ◌<◌, ◌≤◌, ◌^◌, ℕ, Bool, true, false, not, nat_le, refl, ap, List, [], ◌∷◌, ◌++◌}
-use Rattle.std.specs.Fmt.{decimal}
-use Rattle.std.specs.List.{list_all}
-use Rattle.std.specs.Str.{bytes_eq}
-use Rattle.std.specs.Str.Parse.{AllDigits}
-use Rattle.std.proofs.lemmas.Bool.{and_from, false_from_ne_true, le-leb, not_from_false}
-use Rattle.std.proofs.lemmas.Fmt.{decimal_injective, decimal_is_IsNumeral}
-use Rattle.std.proofs.lemmas.List.Folds.{list_all-append}
-use Rattle.std.proofs.lemmas.Slice.Eq.{bytes_eq-Decides}
-use Rattle.std.proofs.lemmas.Str.Parse.{digit_from_value}
+use Rattle.std.proofs.{lemmas.Bool.{and_from, false_from_ne_true, le-leb, not_from_false}, lemmas.Fmt.{decimal_injective, decimal_is_IsNumeral}}
+use Rattle.std.proofs.{lemmas.List.Folds.{list_all-append}, lemmas.Slice.Eq.{bytes_eq-Decides}, lemmas.Str.Parse.{digit_from_value}}
+use Rattle.std.specs.{Fmt.{decimal}, List.{list_all}, Str.{bytes_eq}, Str.Parse.{AllDigits}}
 use Rattle.deb_version.specs.Names.{is_name, is_name_byte}
 use Rattle.sample_suite.specs.SampleText.{package_name}
 

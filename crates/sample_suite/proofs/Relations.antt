@@ -1,20 +1,12 @@
 -- The relation fields of a sample suite are in the grammar.
 use Rattle.std.proofs.Common.{◌≡◌, ◌∙◌, ◌≤◌, ◌+◌, ◌==◌, ◌&&◌, ℕ, Bool, true, false, not, refl, sym, ap, subst, List, [], ◌∷◌, ◌++◌, map, length, codes, append_assoc, append-nil, Option, Some, None, arith}
-use Rattle.std.specs.List.{AllByRecursion, AllZip, flat_map, onto_first, position, position_from, slice_split}
-use Rattle.std.specs.Option.{is_none, option_map}
-use Rattle.std.proofs.lemmas.Bool.{and_parts, not-true, ne_eqb}
-use Rattle.std.proofs.lemmas.Iterator.Adapters.{position_from-zero}
-use Rattle.std.proofs.Math.Bool.{and-false}
-use Rattle.relation_fields.specs.declared.relations.Atom.{Atom}
-use Rattle.relation_fields.specs.Fields.{elements, first_outside, is_outside}
-use Rattle.relation_fields.specs.Grammar.{alternatives_of, atom_of}
-use Rattle.relation_fields.specs.Spelling.{SpellsAtom}
-use Rattle.relation_fields.specs.Texts.{is_white}
+use Rattle.std.proofs.{lemmas.Bool.{and_parts, not-true, ne_eqb}, lemmas.Iterator.Adapters.{position_from-zero}, Math.Bool.{and-false}}
+use Rattle.std.specs.{List.{AllByRecursion, AllZip, flat_map, onto_first, position, position_from, slice_split}, Option.{is_none, option_map}}
+use Rattle.relation_fields.specs.{declared.relations.Atom.{Atom}, Fields.{elements, first_outside, is_outside}, Grammar.{alternatives_of, atom_of}}
+use Rattle.relation_fields.specs.{Spelling.{SpellsAtom}, Texts.{is_white}}
 use Rattle.relation_fields.proofs.Readings.{alternatives_read, atom_read}
 use Rattle.sample_suite.specs.SampleText.{element_text, joined_by, needs_text, package_name}
-use Rattle.sample_suite.proofs.Names.{IsSmall, free_both, is_free, name_free, name_named}
-use Rattle.sample_suite.proofs.SampleLines.{AreSmall, element_free}
-use Rattle.sample_suite.proofs.Values.{AreFilled}
+use Rattle.sample_suite.proofs.{Names.{IsSmall, free_both, is_free, name_free, name_named}, SampleLines.{AreSmall, element_free}, Values.{AreFilled}}
 
 -- ---- pieces
 

@@ -1,8 +1,7 @@
 -- The lines of a sample suite's index.
 use Rattle.std.proofs.Common.{◌≡◌, ◌∙◌, ℕ, Bool, true, false, not, refl, ap, List, [], ◌∷◌, ◌++◌, map, codes, append_assoc, Option, Some, None, arith}
-use Rattle.std.specs.Prelude.{⊤}
-use Rattle.std.specs.List.{AllByRecursion, flat_map}
 use Rattle.std.proofs.lemmas.Bool.{and_parts, not-true, ne_eqb}
+use Rattle.std.specs.{Prelude.{⊤}, List.{AllByRecursion, flat_map}}
 use Rattle.stanza_reader.specs.Lines.{is_line_feed, lines}
 use Rattle.sample_suite.specs.declared.package.SamplePackage.{SamplePackage}
 use Rattle.sample_suite.specs.SampleText.{conflicts_lines, depends_lines, element_text, joined_by, lines_text, needs_text, package_name, stanza_lines, stanza_text}

@@ -1,19 +1,12 @@
 -- What the stanzas of a sample suite are read as.
 use Rattle.std.proofs.Common.{◌≡◌, ◌∙◌, ◌+◌, ℕ, refl, sym, ap, ap₂, List, [], ◌∷◌, ◌++◌, map, length, codes, Option, Some, None, Result, Ok, arith}
 use Rattle.std.specs.List.{AllByRecursion}
-use Rattle.stanza_reader.specs.Fields.{trimmed}
-use Rattle.stanza_reader.specs.Lines.{Line, lines, numbered}
-use Rattle.stanza_reader.specs.Stanzas.{groups, readings, stanza_of}
-use Rattle.stanza_reader.specs.declared.fault.StanzaFault.{StanzaFault}
-use Rattle.stanza_reader.specs.declared.stanza.FieldKind.TheVariants.{Package, Version, Depends, Conflicts}
-use Rattle.stanza_reader.specs.declared.stanza.RawField.{RawField}
-use Rattle.stanza_reader.specs.declared.stanza.RawStanza.{RawStanza}
+use Rattle.stanza_reader.specs.{Fields.{trimmed}, Lines.{Line, lines, numbered}, Stanzas.{groups, readings, stanza_of}}
+use Rattle.stanza_reader.specs.{declared.fault.StanzaFault.{StanzaFault}, declared.stanza.FieldKind.TheVariants.{Package, Version, Depends, Conflicts}}
+use Rattle.stanza_reader.specs.{declared.stanza.RawField.{RawField}, declared.stanza.RawStanza.{RawStanza}}
 use Rattle.stanza_reader.proofs.GroupLemmas.{groups-behind_blank, groups_first}
-use Rattle.sample_suite.specs.declared.package.SamplePackage.{SamplePackage}
-use Rattle.sample_suite.specs.SampleText.{needs_text, package_name, stanza_lines, stanza_text, stanzas_text}
-use Rattle.sample_suite.proofs.Names.{IsSmall}
-use Rattle.sample_suite.proofs.SampleLines.{AreSmall, IsSmallConflict, stanza_cut}
-use Rattle.sample_suite.proofs.Values.{AreFilled, name_tight, needs_tight, tight_value}
+use Rattle.sample_suite.specs.{declared.package.SamplePackage.{SamplePackage}, SampleText.{needs_text, package_name, stanza_lines, stanza_text, stanzas_text}}
+use Rattle.sample_suite.proofs.{Names.{IsSmall}, SampleLines.{AreSmall, IsSmallConflict, stanza_cut}, Values.{AreFilled, name_tight, needs_tight, tight_value}}
 use Rattle.sample_suite.proofs.Drawn.{no_stanza, first_stanza}
 
 -- the numbers of a package are small, and each of its elements has an alternative

@@ -1,8 +1,7 @@
 -- A law of samples.
 use Rattle.std.specs.Prelude.{◌≡◌, ℕ, None}
 use Rattle.repo_model.specs.FirstFault.{first_fault}
-use Rattle.sample_suite.specs.Drawing.{IsCount}
-use Rattle.sample_suite.specs.SampleText.{sample_text}
+use Rattle.sample_suite.specs.{Drawing.{IsCount}, SampleText.{sample_text}}
 
 -- the index of a sample suite has no fault
 abbrev pub SamplesAreAccepted : Type 0

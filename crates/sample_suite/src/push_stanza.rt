@@ -1,6 +1,5 @@
 //! The stanza of a package, put behind a text.
-ghost use Rattle.std.specs.Prelude.{◌≡◌, ◌++◌, ◌∷◌, [], OnOk, codes, map};
-ghost use Rattle.std.specs.List.{flat_map};
+ghost use Rattle.std.specs.{Prelude.{◌≡◌, ◌++◌, ◌∷◌, [], OnOk, codes, map}, List.{flat_map}};
 ghost use Rattle.sample_suite.specs.SampleText.{conflicts_lines, depends_lines, element_text, joined_by, lines_text, needs_text, package_name, stanza_text};
 
 use crate::package::SamplePackage;

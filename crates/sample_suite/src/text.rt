@@ -1,9 +1,7 @@
 //! The index of a sample suite.
 ghost use Rattle.std.specs.Prelude.{◌≡◌, ◌≤◌, IfOk, None, length};
-ghost use Rattle.repo_model.specs.FirstFault.{first_fault};
-ghost use Rattle.sample_suite.specs.Drawing.{IsCount};
-ghost use Rattle.sample_suite.specs.SampleText.{sample_text};
-ghost use Rattle.repo_model.specs.Limits.{most_bytes};
+ghost use Rattle.repo_model.specs.{FirstFault.{first_fault}, Limits.{most_bytes}};
+ghost use Rattle.sample_suite.specs.{Drawing.{IsCount}, SampleText.{sample_text}};
 
 use crate::draws::Draws;
 use crate::push_stanza::push_stanza;

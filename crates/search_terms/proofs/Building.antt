@@ -1,10 +1,9 @@
 -- Sentences, as they are made.
 use Rattle.std.proofs.Common.{◌≡◌, ℕ, zero, suc, ◌+◌, ◌<◌, ◌≤◌, List, [], ◌∷◌, ◌++◌, length, get_or, take, refl, ap, sym, ◌∙◌, arith, append_assoc, append-nil}
-use Rattle.std.specs.Prelude.{map}
 use Rattle.std.proofs.lemmas.List.{take_more}
+use Rattle.std.specs.Prelude.{map}
 use Rattle.clause_pool.specs.Interned.{Interned, row_at, clauses_at, ids_at}
-use Rattle.search_terms.specs.declared.literals.Literal.{Literal}
-use Rattle.search_terms.specs.Form.{owned_sentences, goal_sentence, clause_sentence}
+use Rattle.search_terms.specs.{declared.literals.Literal.{Literal}, Form.{owned_sentences, goal_sentence, clause_sentence}}
 
 pub owned_sentences_snoc : {X : Type 0} (f : ℕ → X → List Literal) (k : ℕ) (xs : List (List X)) (y : List X) → owned_sentences f k (xs ++ y ∷ []) ≡ owned_sentences f k xs ++ map (f (k + length xs)) y
 owned_sentences_snoc f k [] y = append-nil (map (f k) y) ∙ ap (λ n. map (f n) y) (zero_right k)

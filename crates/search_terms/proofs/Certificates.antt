@@ -1,14 +1,11 @@
 use Rattle.std.proofs.Common.{◌≡◌, ℕ, zero, suc, ◌+◌, ◌*◌, ◌-◌, ◌<◌, Bool, true, false, not, ◌||◌, eqb, cond, List, [], ◌∷◌, ◌++◌, length, get_or, take, refl, ap, ◌∙◌, arith, inl, inr, Option, Some, None, subst, append_assoc, append-nil}
-use Rattle.std.specs.Prelude.{All, Contains, map, slice_get, is_some}
-use Rattle.std.specs.List.{list_any}
-use Rattle.std.proofs.lemmas.List.{length_push, length-append}
-use Rattle.std.proofs.lemmas.Bool.{cases_Bool, and_from, and_cases, or_left, or_right, eq-eqb, not-false}
+use Rattle.std.proofs.{lemmas.List.{length_push, length-append}, lemmas.Bool.{cases_Bool, and_from, and_cases, or_left, or_right, eq-eqb, not-false}}
 use Rattle.std.proofs.lemmas.List.Elements.{All-contains, All-weaker, All-head, All-tail, Contains-append_left, Contains-append_right, Contains-push, Contains-get_or}
+use Rattle.std.specs.{Prelude.{All, Contains, map, slice_get, is_some}, List.{list_any}}
 use Rattle.listed.proofs.Lists.{at_end}
 use Rattle.search_terms.specs.declared.literals.Literal.{Literal}
 use Rattle.search_terms.specs.Closure.{literal, negation, is_same, same_sign, forces, IsUnitClosed, HasGiven, InClosure, Clashes, InRange, Models, satisfies}
-use Rattle.search_terms.specs.Derives.{Derives}
-use Rattle.search_terms.specs.Tree.{is_open_need, Tree, IsTree, found_of, failed_leaves, log_of}
+use Rattle.search_terms.specs.{Derives.{Derives}, Tree.{is_open_need, Tree, IsTree, found_of, failed_leaves, log_of}}
 use Rattle.search_terms.specs.Tree.Tree.{failed_leaf, found_leaf, split}
 use Rattle.search_terms.proofs.Sets.{find_none, Contains-head, Contains-tail}
 

@@ -1,26 +1,19 @@
 -- The tree that is computed is the search tree.
 use Rattle.std.proofs.Common.{◌≡◌, ℕ, zero, suc, ◌+◌, ◌*◌, ◌<◌, ◌≤◌, Bool, true, false, not, ◌&&◌, eqb, ltb, cond, List, [], ◌∷◌, ◌++◌, length, get_or, refl, ap, sym, ◌∙◌, arith, inl, inr, Option, Some, None, subst}
-use Rattle.std.specs.Prelude.{All}
-use Rattle.std.specs.List.{list_any, find, range_with_len}
-use Rattle.std.specs.Option.{option_map, option_map_or, option_and_then}
 use Rattle.std.proofs.lemmas.Bool.{cases_Bool, cases_eq, and_parts, and_from, or_cases, or_left, or_right, both_ways, eq-eqb, lt-ltb, ltb-true}
 use Rattle.std.proofs.lemmas.List.FromFn.{get_or-map-range_with_len, length-map-range_with_len}
 use Rattle.std.proofs.lemmas.List.Elements.{All-nil, All-cons, All-contains, All-push, All-weaker, Contains-get_or}
 use Rattle.std.proofs.lemmas.List.Folds.{Any-from_list_any, list_any-from_Any}
-use Rattle.listed.proofs.Bools.{cases_Option}
-use Rattle.listed.proofs.Lists.{any_cases}
+use Rattle.std.specs.{Prelude.{All}, List.{list_any, find, range_with_len}, Option.{option_map, option_map_or, option_and_then}}
+use Rattle.listed.proofs.{Bools.{cases_Option}, Lists.{any_cases}}
 use Rattle.search_terms.specs.declared.literals.Literal.{Literal}
 use Rattle.search_terms.specs.Closure.{literal, is_same, same_sign, forces, is_refuted, IsClosedUnder, IsUnitClosed, HasGiven, IsClosure, InRange}
-use Rattle.search_terms.specs.Marks.{IsWithin, IsForced, HasClash, classes_left, true_classes}
-use Rattle.search_terms.specs.Tree.{is_open_need, is_undecided, Tree, IsTree}
+use Rattle.search_terms.specs.{Marks.{IsWithin, IsForced, HasClash, classes_left, true_classes}, Tree.{is_open_need, is_undecided, Tree, IsTree}}
 use Rattle.search_terms.specs.Tree.Tree.{failed_leaf, found_leaf, split}
 use Rattle.search_terms.specs.SearchTree.{unit_in, next_unit, with_unit, unit_steps, closure_of, does_clash, next_class, node_at, tree_below, search_tree}
 use Rattle.search_terms.specs.Laws.{SearchTreeIs}
-use Rattle.search_terms.proofs.Sets.{literal_of, forces_mono, forced_there, forced_right, forced_in_range, sentence_met, Contains-head}
-use Rattle.search_terms.proofs.Models.{same-true}
-use Rattle.search_terms.proofs.Least.{clash_from}
-use Rattle.search_terms.proofs.Trees.{found_leaf_of, split_of, open_has_member}
-use Rattle.search_terms.proofs.Certificates.{same_refl}
+use Rattle.search_terms.proofs.{Sets.{literal_of, forces_mono, forced_there, forced_right, forced_in_range, sentence_met, Contains-head}, Models.{same-true}}
+use Rattle.search_terms.proofs.{Least.{clash_from}, Trees.{found_leaf_of, split_of, open_has_member}, Certificates.{same_refl}}
 
 -- the next unit is forced
 next_forced : (formula : List (List Literal)) (s : Literal → Bool) (l : Literal) → next_unit formula s ≡ Some l → IsForced formula s l

@@ -1,17 +1,14 @@
 -- The sentences of a formula, and its models.
 use Rattle.std.proofs.Common.{◌≡◌, ℕ, zero, suc, ◌+◌, ◌<◌, Bool, true, false, not, ◌||◌, List, [], ◌∷◌, inl, inr, length, get_or, refl, ap, sym, ◌∙◌, subst, arith}
-use Rattle.std.specs.Prelude.{map}
-use Rattle.std.specs.List.{list_any}
 use Rattle.std.proofs.lemmas.Bool.{cases_Bool, or_cases, or_left, or_right, both_ways, not-true, not_from_false, false_from_ne_true}
 use Rattle.std.proofs.lemmas.List.Elements.{All-contains}
+use Rattle.std.specs.{Prelude.{map}, List.{list_any}}
 use Rattle.listed.proofs.Lists.{in_contains, In_none, In_at, any_from, In_has, has_In}
 use Rattle.listed.specs.Lists.{In}
-use Rattle.row_book.specs.Sets.{NumSet, Is, Hit, HitsAll}
-use Rattle.row_book.specs.Repository.{Repository, Healthy, clauses_of, conflicts_of, against}
+use Rattle.row_book.specs.{Sets.{NumSet, Is, Hit, HitsAll}, Repository.{Repository, Healthy, clauses_of, conflicts_of, against}}
 use Rattle.row_book.proofs.Lists.{hit_any, any_hit}
 pub use Rattle.listed.proofs.Lists.{In_append_left as in_left, In_append_right as in_right, In_append_cases as in_either, In_map as in_map, In_map_cases as from_map}
-use Rattle.search_terms.specs.declared.literals.Literal.{Literal}
-use Rattle.search_terms.specs.Closure.{satisfies, Models}
+use Rattle.search_terms.specs.{declared.literals.Literal.{Literal}, Closure.{satisfies, Models}}
 use Rattle.search_terms.specs.Form.{goal_sentence, clause_sentence, conflict_sentence, owned_sentences, repository_form, form}
 
 -- the sentence of an item of a list

@@ -1,20 +1,12 @@
 -- What a tree finds, and the laws of a repository's formula.
 use Rattle.std.proofs.Common.{◌≡◌, ℕ, ◌<◌, Bool, true, false, List, [], ◌∷◌, ◌++◌, inl, inr, length, get_or, ap, ◌∙◌, subst, Some}
+use Rattle.std.proofs.{Math.ListN.{get_or-eq_default}, lemmas.Bool.{cases_Bool, cases_lt, both_ways}}
 use Rattle.std.specs.Prelude.{is_some}
-use Rattle.std.proofs.Math.ListN.{get_or-eq_default}
-use Rattle.std.proofs.lemmas.Bool.{cases_Bool, cases_lt, both_ways}
 use Rattle.listed.proofs.Bools.{cases_Option}
 use Rattle.row_book.specs.Repository.{Repository}
-use Rattle.search_terms.specs.declared.literals.Literal.{Literal}
-use Rattle.search_terms.specs.Closure.{literal}
-use Rattle.search_terms.specs.Tree.{Tree, IsTree, found_of, log_of}
-use Rattle.search_terms.specs.Tree.Tree.{failed_leaf, found_leaf, split}
-use Rattle.search_terms.specs.Form.{form}
-use Rattle.search_terms.specs.Derives.{Derives}
-use Rattle.search_terms.specs.Laws.{FindsHealthy, HasNoSolution}
-use Rattle.search_terms.proofs.Shapes.{fails_shape, meets_shape, splits_shape}
-use Rattle.search_terms.proofs.Certificates.{tree_derives, found_model}
-use Rattle.search_terms.proofs.Models.{derives_no_model}
+use Rattle.search_terms.specs.{declared.literals.Literal.{Literal}, Closure.{literal}, Tree.{Tree, IsTree, found_of, log_of}}
+use Rattle.search_terms.specs.{Tree.Tree.{failed_leaf, found_leaf, split}, Form.{form}, Derives.{Derives}, Laws.{FindsHealthy, HasNoSolution}}
+use Rattle.search_terms.proofs.{Shapes.{fails_shape, meets_shape, splits_shape}, Certificates.{tree_derives, found_model}, Models.{derives_no_model}}
 use Rattle.search_terms.proofs.Forms.{models_to, models_from}
 
 pub one_tree : (n : ℕ) (formula : List (List Literal)) (decisions : List Literal) (first second : Tree) → IsTree n formula decisions first → IsTree n formula decisions second → second ≡ first

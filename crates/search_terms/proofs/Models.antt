@@ -1,11 +1,9 @@
 use Rattle.std.proofs.Common.{◌≡◌, ℕ, zero, suc, ◌+◌, ◌-◌, ◌<◌, ◌≤◌, Bool, true, false, not, ◌||◌, eqb, List, [], ◌∷◌, ◌++◌, length, get_or, take, refl, ap, ◌∙◌, arith, inl, inr, subst}
-use Rattle.std.specs.Prelude.{All, Contains, map}
-use Rattle.std.specs.List.{list_any}
 use Rattle.std.proofs.lemmas.Option.{slice_get_within, slice_get-get_or, get_or_from_slice_get}
 use Rattle.std.proofs.lemmas.Bool.{cases_Bool, and_parts, or_cases, eqb-true, or_parts}
-use Rattle.std.proofs.lemmas.List.Elements.{All-contains, All-append, All-nil, All-cons, All-more, All-head, All-tail}
-use Rattle.std.proofs.Math.Numerals.{add-one}
+use Rattle.std.proofs.{lemmas.List.Elements.{All-contains, All-append, All-nil, All-cons, All-more, All-head, All-tail}, Math.Numerals.{add-one}}
 use Rattle.std.proofs.lemmas.List.{take_all}
+use Rattle.std.specs.{Prelude.{All, Contains, map}, List.{list_any}}
 use Rattle.search_terms.specs.declared.literals.Literal.{Literal}
 use Rattle.search_terms.specs.Closure.{negation, is_same, same_sign, satisfies, forces, Models, HaveNoModel, IsUnitClosed, HasGiven, Clashes}
 use Rattle.search_terms.specs.Derives.{Derives}

@@ -1,20 +1,13 @@
 -- The classes in the sentences of a book and of goals are below the size of the book.
 use Rattle.std.proofs.Common.{◌≡◌, ℕ, zero, suc, ◌+◌, ◌<◌, true, false, List, [], ◌∷◌, length, get_or, refl, arith, inl, inr, subst}
+use Rattle.std.proofs.{Math.ListN.{get_or-eq_default}, lemmas.Bool.{cases_lt}, lemmas.List.Elements.{Contains-append_right, All-nil, All-cons, Contains-get_or}}
 use Rattle.std.specs.Prelude.{All, Contains, map}
-use Rattle.std.proofs.Math.ListN.{get_or-eq_default}
-use Rattle.std.proofs.lemmas.Bool.{cases_lt}
-use Rattle.std.proofs.lemmas.List.Elements.{Contains-append_right, All-nil, All-cons, Contains-get_or}
 use Rattle.listed.proofs.Lists.{contains_in, in_contains, In_none, In_has, has_In}
 use Rattle.clause_pool.specs.Interned.{Interned, row_at}
 use Rattle.listed.specs.Lists.{In, here}
-use Rattle.row_book.specs.Book.{listed_for, Sound, AreConflicts, RowsFit, repository_of}
-use Rattle.row_book.specs.Needs.{NeedsFit}
-use Rattle.row_book.specs.declared.book.Book.{Book}
-use Rattle.search_terms.specs.declared.literals.Literal.{Literal}
-use Rattle.search_terms.specs.Closure.{literal, InRange}
-use Rattle.search_terms.specs.Form.{goal_sentence, clause_sentence, owned_sentences, form}
-use Rattle.search_terms.proofs.Forms.{from_map, from_owned_sentences, IsSentence, sentence_cases}
-use Rattle.search_terms.proofs.Forms.IsSentence.{of_goal, of_clause, of_conflict}
+use Rattle.row_book.specs.{Book.{listed_for, Sound, AreConflicts, RowsFit, repository_of}, Needs.{NeedsFit}, declared.book.Book.{Book}}
+use Rattle.search_terms.specs.{declared.literals.Literal.{Literal}, Closure.{literal, InRange}, Form.{goal_sentence, clause_sentence, owned_sentences, form}}
+use Rattle.search_terms.proofs.{Forms.{from_map, from_owned_sentences, IsSentence, sentence_cases}, Forms.IsSentence.{of_goal, of_clause, of_conflict}}
 
 -- what stands in a row of the book stands in a row of the pool
 row_of : {X : Type 0} (f : ℕ → List X) (rows : List ℕ) (i : ℕ) (x : X) → In x (get_or (map f rows) i []) → (id : ℕ) × In id rows × In x (f id)

@@ -1,14 +1,9 @@
 use Rattle.std.proofs.Common.{◌≡◌, ℕ, ◌+◌, ◌*◌, ◌<◌, Bool, true, false, not, ◌&&◌, ◌||◌, cond, List, [], ◌∷◌, ◌++◌, length, get_or, set, take, refl, ap, sym, ◌∙◌, arith, inl, inr, ◌⊎◌, Option, Some, None, subst}
-use Rattle.std.specs.Prelude.{All, Contains, find, IfSome}
-use Rattle.std.specs.List.{list_all}
 use Rattle.std.proofs.lemmas.List.{get_or-set_same, get_or-set_other}
-use Rattle.std.proofs.lemmas.List.Elements.{All-append, All-cons, All-nil, All-contains, Contains-append_right}
-use Rattle.std.proofs.lemmas.Bool.{cases_eq, cases_Bool, and_parts, and_from, not-true}
-use Rattle.std.specs.Prelude.{count_by}
-use Rattle.std.proofs.lemmas.List.Sums.{sum_by-set}
-use Rattle.std.proofs.lemmas.List.Elements.{All-more}
-use Rattle.search_terms.specs.declared.literals.Literal.{Literal}
-use Rattle.search_terms.specs.Closure.{negation, is_same, forces, IsUnitClosed, InRange}
+use Rattle.std.proofs.lemmas.List.Elements.{All-append, All-cons, All-nil, All-contains, Contains-append_right, All-more}
+use Rattle.std.proofs.{lemmas.Bool.{cases_eq, cases_Bool, and_parts, and_from, not-true}, lemmas.List.Sums.{sum_by-set}}
+use Rattle.std.specs.{Prelude.{All, Contains, find, IfSome, count_by}, List.{list_all}}
+use Rattle.search_terms.specs.{declared.literals.Literal.{Literal}, Closure.{negation, is_same, forces, IsUnitClosed, InRange}}
 use Rattle.search_terms.specs.Marks.{flag_place, is_marked, IsWithin, IsForced}
 
 or_mono : (a b c : Bool) → (b ≡ true → c ≡ true) → (a || b) ≡ true → (a || c) ≡ true

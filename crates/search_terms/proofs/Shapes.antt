@@ -1,13 +1,9 @@
-use Rattle.std.proofs.Common.{◌≡◌, ℕ, ◌<◌, Bool, true, false, List, [], ◌∷◌, ◌++◌, refl, ap, sym, ◌∙◌, Some, None, subst}
+use Rattle.std.proofs.{Common.{◌≡◌, ℕ, ◌<◌, Bool, true, false, List, [], ◌∷◌, ◌++◌, refl, ap, sym, ◌∙◌, Some, None, subst}, Math.Path.{fun_ext}}
+use Rattle.std.proofs.{lemmas.List.{ext_get_or}, lemmas.Option.{same_Some}}
 use Rattle.std.specs.List.{find}
-use Rattle.std.proofs.Math.Path.{fun_ext}
-use Rattle.std.proofs.lemmas.List.{ext_get_or}
-use Rattle.std.proofs.lemmas.Option.{same_Some}
 use Rattle.listed.proofs.Bools.{same_bool}
-use Rattle.search_terms.specs.declared.literals.Literal.{Literal}
-use Rattle.search_terms.specs.Closure.{literal, IsClosure, Clashes}
-use Rattle.search_terms.specs.Tree.{is_open_need, is_undecided, IsFoundLeaf, IsSplit, Tree, IsTree}
-use Rattle.search_terms.specs.Tree.Tree.{failed_leaf, found_leaf, split}
+use Rattle.search_terms.specs.{declared.literals.Literal.{Literal}, Closure.{literal, IsClosure, Clashes}}
+use Rattle.search_terms.specs.{Tree.{is_open_need, is_undecided, IsFoundLeaf, IsSplit, Tree, IsTree}, Tree.Tree.{failed_leaf, found_leaf, split}}
 
 pub one_closure : (formula : List (List Literal)) (given : List Literal) (s t : Literal → Bool) → IsClosure formula given s → IsClosure formula given t → s ≡ t
 one_closure formula given s t a b = fun_ext (λ l. same_bool (s l) (t l) (λ h. b.whole l (a.sound l h)) (λ h. a.whole l (b.sound l h)))

@@ -1,17 +1,11 @@
 use Rattle.std.proofs.Common.{◌≡◌, ℕ, zero, suc, ◌<◌, ◌≤◌, Bool, true, false, not, ◌&&◌, ◌||◌, eqb, cond, List, [], ◌∷◌, ◌++◌, length, get_or, refl, ap, ◌∙◌, arith, inl, inr, ◌⊎◌, Some, None, subst}
-use Rattle.std.specs.Prelude.{All}
-use Rattle.std.specs.List.{find}
 use Rattle.std.proofs.lemmas.Bool.{cases_eq, and_parts, and_from, both_ways, or_from, not-true, ne_eqb, eq-eqb, or_right, or_left}
-use Rattle.std.proofs.lemmas.List.Elements.{All-contains, All-tail, All-head}
-use Rattle.std.proofs.lemmas.List.Folds.{list_any-append, list_any-from_Any}
+use Rattle.std.proofs.{lemmas.List.Elements.{All-contains, All-tail, All-head}, lemmas.List.Folds.{list_any-append, list_any-from_Any}}
+use Rattle.std.specs.{Prelude.{All}, List.{find}}
 use Rattle.listed.proofs.Bools.{lighter}
-use Rattle.search_terms.specs.declared.literals.Literal.{Literal}
-use Rattle.search_terms.specs.Closure.{literal, negation, is_refuted, HasGiven, IsClosure, InRange}
-use Rattle.search_terms.specs.Marks.{HasClash}
-use Rattle.search_terms.specs.Tree.{is_open_need, is_undecided, IsFoundLeaf, IsSplit}
-use Rattle.search_terms.specs.Marks.{is_decided, classes_left}
-use Rattle.search_terms.proofs.Sets.{literal_of, find_some, find_none}
-use Rattle.search_terms.proofs.Least.{clash_to}
+use Rattle.search_terms.specs.{declared.literals.Literal.{Literal}, Closure.{literal, negation, is_refuted, HasGiven, IsClosure, InRange}}
+use Rattle.search_terms.specs.{Marks.{HasClash, is_decided, classes_left}, Tree.{is_open_need, is_undecided, IsFoundLeaf, IsSplit}}
+use Rattle.search_terms.proofs.{Sets.{literal_of, find_some, find_none}, Least.{clash_to}}
 
 pub given_held : (formula : List (List Literal)) (given : List Literal) (s : Literal → Bool) → IsClosure formula given s → HasGiven s given
 given_held formula given s c k d lt = c.whole (get_or given k d) (λ t holds closed. holds k d lt)

@@ -1,8 +1,7 @@
 -- Signed classes, sentences, and the closure of a set of signed classes under unit steps, as a least set: the unit
 -- propagation of Davis, Putnam, Logemann and Loveland. A sentence is a list of signed classes, of which one at least is to hold;
 -- a formula is a list of sentences. A set contradicts a signed class where it has the class with the other sign.
-use Rattle.std.specs.Prelude.{◌≡◌, ℕ, ◌<◌, Bool, true, false, not, ◌&&◌, ◌||◌, ◌==◌, ◌⊎◌, List, All, Any}
-use Rattle.std.specs.List.{list_all, list_any}
+use Rattle.std.specs.{Prelude.{◌≡◌, ℕ, ◌<◌, Bool, true, false, not, ◌&&◌, ◌||◌, ◌==◌, ◌⊎◌, List, All, Any}, List.{list_all, list_any}}
 use Rattle.search_terms.specs.declared.literals.Literal.{Literal}
 
 -- a class with a sign

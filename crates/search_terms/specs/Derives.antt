@@ -1,7 +1,6 @@
 -- What a log of a search derives: reverse unit propagation, as in the proofs that solvers of propositional formulas print.
 use Rattle.std.specs.Prelude.{◌≡◌, ℕ, ◌-◌, List, [], ◌++◌, length, map, take, slice_get, Some}
-use Rattle.search_terms.specs.declared.literals.Literal.{Literal}
-use Rattle.search_terms.specs.Closure.{negation, Clashes}
+use Rattle.search_terms.specs.{declared.literals.Literal.{Literal}, Closure.{negation, Clashes}}
 
 -- the log derives the empty entry: it has a last entry, which is empty, and for each entry the closure of its negated
 -- literals, over the formula and the entries before it, clashes

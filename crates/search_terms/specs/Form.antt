@@ -1,8 +1,7 @@
 -- The formula of a repository and a list of goals, each goal a set of classes of which one is wanted.
 use Rattle.std.specs.Prelude.{ℕ, suc, true, false, List, [], ◌∷◌, ◌++◌, map}
 use Rattle.row_book.specs.Repository.{Repository}
-use Rattle.search_terms.specs.declared.literals.Literal.{Literal}
-use Rattle.search_terms.specs.Closure.{literal}
+use Rattle.search_terms.specs.{declared.literals.Literal.{Literal}, Closure.{literal}}
 
 -- a member of the goal
 abbrev pub goal_sentence : List ℕ → List Literal

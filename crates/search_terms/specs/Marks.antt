@@ -1,8 +1,7 @@
 -- What the bodies of the search and of the checker, and the proofs, speak of besides.
 use Rattle.std.specs.Prelude.{◌≡◌, ℕ, zero, suc, ◌+◌, ◌*◌, Bool, true, false, ◌==◌, ◌⊎◌, List, map, slice_index_or, Contains, if◌then◌else◌}
 use Rattle.std.specs.List.{list_any, range_with_len}
-use Rattle.search_terms.specs.declared.literals.Literal.{Literal}
-use Rattle.search_terms.specs.Closure.{literal, negation, forces, is_refuted}
+use Rattle.search_terms.specs.{declared.literals.Literal.{Literal}, Closure.{literal, negation, forces, is_refuted}}
 
 -- a set has some class with both signs
 abbrev pub HasBoth : (Literal → Bool) → Type 0

@@ -2,8 +2,7 @@
 -- that of the decisions over the formula.
 use Rattle.std.specs.Prelude.{◌≡◌, ℕ, ◌+◌, ◌<◌, Bool, true, false, not, ◌&&◌, List, [], ◌∷◌, ◌++◌, length, map, slice_index_or, if◌then◌else◌, Option, Some, None, is_some}
 use Rattle.std.specs.List.{list_all, find}
-use Rattle.search_terms.specs.declared.literals.Literal.{Literal}
-use Rattle.search_terms.specs.Closure.{literal, negation, IsClosure, Clashes}
+use Rattle.search_terms.specs.{declared.literals.Literal.{Literal}, Closure.{literal, negation, IsClosure, Clashes}}
 
 -- an open need: the negated classes of the sentence are true, and none of its other members is. In the formula of a
 -- repository and goals this is a goal without a true member, or a clause of a true class without a true member

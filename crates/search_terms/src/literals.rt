@@ -29,8 +29,7 @@ pub struct Log {
 
 impl Literal {
     ghost use Rattle.std.specs.Prelude.{◌≡◌};
-    ghost use Rattle.search_terms.specs.Closure.{negation, is_same};
-    ghost use Rattle.search_terms.specs.Marks.{flag_place};
+    ghost use Rattle.search_terms.specs.{Closure.{negation, is_same}, Marks.{flag_place}};
 
     /// The class with the other sign; it takes no memory.
     pub fn negation(self) -> Literal

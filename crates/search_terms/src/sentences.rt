@@ -1,8 +1,7 @@
 //! The sentences of goals and of the clauses of a book.
 ghost use Rattle.std.specs.Prelude.{◌≡◌, ◌<◌, ◌++◌, IfOk, OnOk, length, map};
 ghost use Rattle.clause_pool.specs.Interned.{clauses_at, row_at, OfPool};
-ghost use Rattle.row_book.specs.Book.{RowsFit};
-ghost use Rattle.row_book.specs.Needs.{AreNeeds};
+ghost use Rattle.row_book.specs.{Book.{RowsFit}, Needs.{AreNeeds}};
 ghost use Rattle.search_terms.specs.Form.{goal_sentence, clause_sentence, owned_sentences};
 
 use crate::{Literal, LiteralList};

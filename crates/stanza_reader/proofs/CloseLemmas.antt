@@ -1,19 +1,13 @@
 -- The front of a text that is closed by the first blank line behind a group of lines.
 use Rattle.std.proofs.Common.{◌≡◌, ℕ, ◌+◌, ◌-◌, ◌<◌, ◌≤◌, Bool, true, false, ◌&&◌, ◌||◌, List, [], ◌∷◌, ◌++◌, length, take, drop, get_or, refl, ap, sym, ◌∙◌, subst, arith, append_assoc}
+use Rattle.std.proofs.{lemmas.Grind.{take_at_read}, lemmas.List.{append_cancel_right, drop_all, length-drop, length-map, take-append-drop, take_all}}
+use Rattle.std.proofs.{lemmas.List.Sums.{prefix_len-le-length}, lemmas.Bool.{eqb-true, and_parts, or_parts}}
 use Rattle.std.specs.List.{list_all, list_any, position_or_len, before_first, after_first}
-use Rattle.std.proofs.lemmas.Grind.{take_at_read}
-use Rattle.std.proofs.lemmas.List.{append_cancel_right, drop_all, length-drop, length-map, take-append-drop, take_all}
-use Rattle.std.proofs.lemmas.List.Sums.{prefix_len-le-length}
-use Rattle.std.proofs.lemmas.Bool.{eqb-true, and_parts, or_parts}
-use Rattle.stanza_reader.specs.Lines.{Line, is_line_feed, is_blank_byte, is_blank, lines, numbered}
-use Rattle.stanza_reader.specs.Places.{lines_at}
+use Rattle.stanza_reader.specs.{Lines.{Line, is_line_feed, is_blank_byte, is_blank, lines, numbered}, Places.{lines_at}}
 use Rattle.stanza_reader.specs.Stanzas.{groups, has_line, first_group, behind_blank, behind_group, stanza_of, texts}
-use Rattle.stanza_reader.specs.Close.{is_ended, ends_blank, IsClosedFront, ClosedFrontIsClosed, ClosedFrontIsOne, readings_from}
-use Rattle.stanza_reader.specs.declared.place.Place.{Place}
-use Rattle.stanza_reader.proofs.GroupLemmas.{groups-behind_blank, groups_first}
-use Rattle.stanza_reader.proofs.LineLemmas.{lines_first}
-use Rattle.stanza_reader.proofs.PartLemmas.{first_line, lines_parts, blank_last, ended_last}
-use Rattle.stanza_reader.proofs.PlaceLemmas.{end_from, lines_at_feed}
+use Rattle.stanza_reader.specs.{Close.{is_ended, ends_blank, IsClosedFront, ClosedFrontIsClosed, ClosedFrontIsOne, readings_from}, declared.place.Place.{Place}}
+use Rattle.stanza_reader.proofs.{GroupLemmas.{groups-behind_blank, groups_first}, LineLemmas.{lines_first}}
+use Rattle.stanza_reader.proofs.{PartLemmas.{first_line, lines_parts, blank_last, ended_last}, PlaceLemmas.{end_from, lines_at_feed}}
 
 pub texts_numbered : (n : ℕ) (all : List (List ℕ)) → texts (numbered n all) ≡ all
 texts_numbered n [] = refl

@@ -1,19 +1,12 @@
 -- The numbers and the marks of names.
 use Rattle.std.proofs.Common.{◌≡◌, ℕ, ◌+◌, ◌-◌, ◌*◌, ◌/◌, ◌%◌, ◌^◌, ◌<◌, inl, inr, false, List, [], ◌∷◌, ◌++◌, length, get_or, All, ap, sym, ◌∙◌, arith}
-use Rattle.std.specs.Prelude.{◌≤◌, bit_and, bit_or}
-use Rattle.std.specs.Char.{to_ascii_lowercase}
-use Rattle.std.specs.Int.{w32, from_be_bytes}
-use Rattle.std.proofs.lemmas.Bool.{cases_eq, cases_lt, false_from_ne_true}
-use Rattle.std.proofs.lemmas.List.{get_or-map, length-map}
-use Rattle.std.proofs.lemmas.List.Elements.{All-map, All-push, All-weaker}
-use Rattle.std.proofs.lemmas.List.Folds.{list_any_none}
-use Rattle.std.proofs.lemmas.Nat.{and_or_apart, and_or_self, one_shl, or_block, pow_apart, pow_pos}
-use Rattle.std.proofs.lemmas.Slice.Eq.{bytes_eq-Decides}
+use Rattle.std.proofs.{lemmas.Bool.{cases_eq, cases_lt, false_from_ne_true}, lemmas.List.{get_or-map, length-map}}
+use Rattle.std.proofs.{lemmas.List.Elements.{All-map, All-push, All-weaker}, lemmas.List.Folds.{list_any_none}}
+use Rattle.std.proofs.{lemmas.Nat.{and_or_apart, and_or_self, one_shl, or_block, pow_apart, pow_pos}, lemmas.Slice.Eq.{bytes_eq-Decides}}
 use Rattle.std.proofs.lemmas.Str.Ascii.{lowercase_is}
-use Rattle.stanza_reader.specs.Fields.{is_same_name, lowered}
-use Rattle.stanza_reader.specs.Note.{IsKeyed, IsMarked, folded, key_of, mark_of, mark_place, names_in, number_of, short_key}
-use Rattle.stanza_reader.specs.Stanzas.{has_name}
-use Rattle.stanza_reader.specs.declared.note.KeyedName.{KeyedName}
+use Rattle.std.specs.{Prelude.{◌≤◌, bit_and, bit_or}, Char.{to_ascii_lowercase}, Int.{w32, from_be_bytes}}
+use Rattle.stanza_reader.specs.{Fields.{is_same_name, lowered}, Note.{IsKeyed, IsMarked, folded, key_of, mark_of, mark_place, names_in, number_of, short_key}}
+use Rattle.stanza_reader.specs.{Stanzas.{has_name}, declared.note.KeyedName.{KeyedName}}
 
 mark_some : (key : ℕ) → 0 < mark_of key
 unfolding mark_of

@@ -1,9 +1,7 @@
 -- A line that begins with bytes of names and a colon.
-use Rattle.std.proofs.Common.{◌≡◌, ℕ, ◌<◌, Bool, true, false, ◌&&◌, not, List, length, take, get_or, refl, arith}
-use Rattle.std.specs.Prelude.{nat_le}
-use Rattle.std.specs.List.{list_all, position_or_len}
-use Rattle.std.proofs.lemmas.List.{get_or-take, length-take-le}
+use Rattle.std.proofs.{Common.{◌≡◌, ℕ, ◌<◌, Bool, true, false, ◌&&◌, not, List, length, take, get_or, refl, arith}, lemmas.List.{get_or-take, length-take-le}}
 use Rattle.std.proofs.lemmas.List.Sums.{AllPass-from_list_all, position_or_len_is}
+use Rattle.std.specs.{Prelude.{nat_le}, List.{list_all, position_or_len}}
 use Rattle.deb_version.specs.Grammar.{is_colon}
 use Rattle.stanza_reader.specs.Fields.{is_field_name_byte, name_of}
 

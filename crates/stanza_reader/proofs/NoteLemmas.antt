@@ -1,16 +1,8 @@
 -- The names of a stanza's field lines, noted one by one.
-use Rattle.std.proofs.Common.{◌≡◌, ℕ, Bool, true, false, cond, ◌||◌, List, ◌∷◌, ◌++◌, refl, ap, sym, ◌∙◌}
-use Rattle.std.specs.BTreeMap.{is_at}
-use Rattle.std.specs.BTreeSet.{BTreeSet, contains, Updates}
-use Rattle.std.specs.List.{list_any}
-use Rattle.std.specs.Str.{bytes_eq}
-use Rattle.std.specs.declared.vec.Vec.{Vec}
-use Rattle.std.proofs.lemmas.List.Folds.{list_any-append}
+use Rattle.std.proofs.{Common.{◌≡◌, ℕ, Bool, true, false, cond, ◌||◌, List, ◌∷◌, ◌++◌, refl, ap, sym, ◌∙◌}, lemmas.List.Folds.{list_any-append}}
 use Rattle.std.proofs.lemmas.Map.Text.{is_eq-slice_cmp}
-use Rattle.stanza_reader.specs.Fields.{is_same_name, lowered}
-use Rattle.stanza_reader.specs.Note.{HasNames, Holds, by_text, names_in}
-use Rattle.stanza_reader.specs.Stanzas.{has_name}
-use Rattle.stanza_reader.specs.declared.note.Names.{Names}
+use Rattle.std.specs.{BTreeMap.{is_at}, BTreeSet.{BTreeSet, contains, Updates}, List.{list_any}, Str.{bytes_eq}, declared.vec.Vec.{Vec}}
+use Rattle.stanza_reader.specs.{Fields.{is_same_name, lowered}, Note.{HasNames, Holds, by_text, names_in}, Stanzas.{has_name}, declared.note.Names.{Names}}
 
 either : (a b : Bool) → cond a true b ≡ (a || b)
 either true true = refl

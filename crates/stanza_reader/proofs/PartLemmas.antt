@@ -1,17 +1,11 @@
 -- A text whose first part is closed reads as its two parts, one after the other.
 use Rattle.std.proofs.Common.{◌≡◌, ℕ, ◌+◌, suc, Bool, true, false, cond, List, [], ◌∷◌, ◌++◌, length, drop, Result, Ok, Err, map, refl, ap, sym, ◌∙◌, arith}
-use Rattle.std.specs.Prelude.{filter, count_by}
-use Rattle.std.specs.List.{slice_split, onto_first, before_first, after_first}
-use Rattle.std.proofs.lemmas.List.{append-nil, map-append}
-use Rattle.std.proofs.lemmas.List.Elements.{filter-append}
-use Rattle.std.proofs.lemmas.List.Sums.{sum_by-cons}
+use Rattle.std.proofs.{lemmas.List.{append-nil, map-append}, lemmas.List.Elements.{filter-append}, lemmas.List.Sums.{sum_by-cons}}
+use Rattle.std.specs.{Prelude.{filter, count_by}, List.{slice_split, onto_first, before_first, after_first}}
 use Rattle.stanza_reader.specs.Lines.{Line, is_line_feed, is_blank, lines, numbered}
 use Rattle.stanza_reader.specs.Stanzas.{groups, is_blank_line, has_line, stanza_of, readings, all_or_fault, with_first}
-use Rattle.stanza_reader.specs.Close.{is_ended, ends_blank, readings_from, followed_by, ReadsInParts, StanzasInParts, ClosedTextsJoin}
-use Rattle.stanza_reader.specs.Reading.{readings_at}
-use Rattle.stanza_reader.specs.declared.place.Place.{Place}
-use Rattle.stanza_reader.specs.declared.stanza.RawStanza.{RawStanza}
-use Rattle.stanza_reader.specs.declared.fault.StanzaFault.{StanzaFault}
+use Rattle.stanza_reader.specs.{Close.{is_ended, ends_blank, readings_from, followed_by, ReadsInParts, StanzasInParts, ClosedTextsJoin}, Reading.{readings_at}}
+use Rattle.stanza_reader.specs.{declared.place.Place.{Place}, declared.stanza.RawStanza.{RawStanza}, declared.fault.StanzaFault.{StanzaFault}}
 use Rattle.stanza_reader.proofs.LineLemmas.{lines_first}
 
 -- a text with a byte has a first line

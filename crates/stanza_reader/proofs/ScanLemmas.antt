@@ -1,14 +1,9 @@
 -- One pass over the lines of a group: what was found so far, and what is left.
 use Rattle.std.proofs.Common.{◌≡◌, ℕ, false, List, [], ◌∷◌, ◌++◌, Option, Some, None, refl, ap, sym, ◌∙◌, subst, append_assoc}
-use Rattle.std.specs.List.{cons_option}
-use Rattle.std.specs.Option.{option_or}
-use Rattle.stanza_reader.specs.Lines.{Line, is_blank, is_continuation}
-use Rattle.stanza_reader.specs.Fields.{name_of}
-use Rattle.stanza_reader.specs.Note.{Holds, IsNoted, LeadsTo}
+use Rattle.std.specs.{List.{cons_option}, Option.{option_or}}
+use Rattle.stanza_reader.specs.{Lines.{Line, is_blank, is_continuation}, Fields.{name_of}, Note.{Holds, IsNoted, LeadsTo}}
 use Rattle.stanza_reader.specs.Stanzas.{behind_group, first_group, line_fault, first_line_fault, kept_field, kept_fields, repeat_fault}
-use Rattle.stanza_reader.specs.declared.fault.StanzaFault.{StanzaFault}
-use Rattle.stanza_reader.specs.declared.note.Names.{Names}
-use Rattle.stanza_reader.specs.declared.stanza.RawField.{RawField}
+use Rattle.stanza_reader.specs.{declared.fault.StanzaFault.{StanzaFault}, declared.note.Names.{Names}, declared.stanza.RawField.{RawField}}
 
 pub behind_more : (all more whole : List Line) (line : Line) → all ≡ line ∷ more → is_blank line.text ≡ false → behind_group all ≡ whole → behind_group more ≡ whole
 behind_more all more whole line first full held =

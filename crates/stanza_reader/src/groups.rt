@@ -1,8 +1,7 @@
 //! Groups of lines between blank lines.
 
 ghost use Rattle.std.specs.Prelude.{◌≡◌, ◌<◌, ◌≤◌, length, true, Ok, Err, IfOk, IfErr};
-ghost use Rattle.stanza_reader.specs.Places.{CountsOn, IsPlace, lines_at};
-ghost use Rattle.stanza_reader.specs.Reading.{OnTextFault};
+ghost use Rattle.stanza_reader.specs.{Places.{CountsOn, IsPlace, lines_at}, Reading.{OnTextFault}};
 ghost use Rattle.stanza_reader.specs.Stanzas.{behind_blank, behind_group, first_group, has_line, stanza_of};
 
 use crate::fault::StanzaFault;

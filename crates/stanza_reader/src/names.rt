@@ -1,7 +1,6 @@
 //! The names of fields.
 
-ghost use Rattle.std.specs.Prelude.{◌≡◌, ◌≤◌, true, length, take};
-ghost use Rattle.std.specs.List.{list_all, list_any};
+ghost use Rattle.std.specs.{Prelude.{◌≡◌, ◌≤◌, true, length, take}, List.{list_all, list_any}};
 ghost use Rattle.deb_version.specs.Grammar.{is_colon};
 ghost use Rattle.stanza_reader.specs.Fields.{is_field_name_byte, is_field_name, kind_of, name_of};
 

@@ -1,8 +1,7 @@
 //! The names of a stanza's fields, noted one by one.
 
 ghost use Rattle.std.specs.Prelude.{◌≡◌, ◌<◌, ◌≤◌, [], ◌∷◌, None, true, not, length, OnOk, IfOk, All, List, ℕ};
-ghost use Rattle.stanza_reader.specs.Fields.{is_same_name, lowered};
-ghost use Rattle.stanza_reader.specs.Note.{Holds, IsKeyed, IsMarked, IsNoted, key_of, long_key, mark_of, names_in, short_key};
+ghost use Rattle.stanza_reader.specs.{Fields.{is_same_name, lowered}, Note.{Holds, IsKeyed, IsMarked, IsNoted, key_of, long_key, mark_of, names_in, short_key}};
 ghost use Rattle.stanza_reader.specs.Stanzas.{has_name};
 
 use crate::fault::StanzaFault;

@@ -1,37 +1,23 @@
 -- No architecture of a status file is a fault.
 use Rattle.std.proofs.Common.{◌≡◌, ℕ, zero, suc, ◌+◌, Bool, true, false, not, ◌||◌, cond, inl, inr, List, [], ◌∷◌, take, map, find, length, Option, Some, None, Result, Ok, Err, refl, ap, sym, ◌∙◌, subst}
-use Rattle.std.specs.Prelude.{codes, nat_le, is_some}
-use Rattle.std.specs.Option.{option_and_then, option_map, option_map_or, option_or}
-use Rattle.std.specs.Str.{bytes_eq}
-use Rattle.std.proofs.lemmas.Bool.{and_parts, or_cases, or_left, or_right, both_ways, not-true}
-use Rattle.std.proofs.lemmas.List.{take-map}
-use Rattle.std.proofs.lemmas.Slice.Eq.{bytes_eq-Decides}
-use Rattle.deb_version.specs.Grammar.{is_version}
-use Rattle.deb_version.specs.Names.{is_name}
-use Rattle.relation_fields.specs.Fields.{first_outside}
-use Rattle.relation_fields.specs.Grammar.{is_architecture, alternatives_of, atom_of, provide_of}
-use Rattle.relation_fields.specs.declared.packages.Home.{Home}
+use Rattle.std.proofs.{lemmas.Bool.{and_parts, or_cases, or_left, or_right, both_ways, not-true}, lemmas.List.{take-map}, lemmas.Slice.Eq.{bytes_eq-Decides}}
+use Rattle.std.specs.{Prelude.{codes, nat_le, is_some}, Option.{option_and_then, option_map, option_map_or, option_or}, Str.{bytes_eq}}
+use Rattle.deb_version.specs.{Grammar.{is_version}, Names.{is_name}}
+use Rattle.relation_fields.specs.{Fields.{first_outside}, Grammar.{is_architecture, alternatives_of, atom_of, provide_of}, declared.packages.Home.{Home}}
 use Rattle.relation_fields.specs.declared.packages.PackageFacts.{PackageFacts}
-use Rattle.stanza_reader.specs.Blanking.{blanked, picked}
-use Rattle.stanza_reader.specs.Stanzas.{readings, stanzas}
-use Rattle.stanza_reader.specs.declared.fault.StanzaFault.{StanzaFault}
+use Rattle.stanza_reader.specs.{Blanking.{blanked, picked}, Stanzas.{readings, stanzas}, declared.fault.StanzaFault.{StanzaFault}}
 use Rattle.stanza_reader.specs.declared.stanza.FieldKind.{FieldKind}
 use Rattle.stanza_reader.specs.declared.stanza.FieldKind.TheVariants as kind
-use Rattle.stanza_reader.specs.declared.stanza.RawField.{RawField}
-use Rattle.stanza_reader.specs.declared.stanza.RawStanza.{RawStanza}
+use Rattle.stanza_reader.specs.{declared.stanza.RawField.{RawField}, declared.stanza.RawStanza.{RawStanza}}
 use Rattle.stanza_reader.proofs.BlankLemmas.{good, good_readings, map_picked, readings_picked}
-use Rattle.repo_model.specs.Facts.{architecture_of, facts_of, is_all, is_same_package}
-use Rattle.repo_model.specs.Fields.{field_of}
+use Rattle.repo_model.specs.{Facts.{architecture_of, facts_of, is_all, is_same_package}, Fields.{field_of}}
 use Rattle.repo_model.specs.FirstFault.{bad_relation, bad_value, duplicate_fault, fault_behind, faults_from, first_fault, first_some, home_of, is_at_home, missing, mixed_fault, presence_fault, stanza_fault, stanzas_in, unless_good, value_fault}
 use Rattle.repo_model.specs.declared.fault.IndexFault.{IndexFault}
 use Rattle.repo_model.specs.declared.fault.IndexFault.TheVariants.{Stanza, MissingPackage, MissingVersion, BadPackage, BadVersion, BadArchitecture, BadRelation, Duplicate, Mixed, TooMany, Memory}
 use Rattle.repo_model.specs.Limits.{most_packages}
 use Rattle.suite_compare.specs.Refusals.{home_in}
-use Rattle.status_check.specs.Installed.{is_elsewhere, is_installed, is_of_home, is_own}
-use Rattle.status_check.specs.Laws.{NoArchitectureFault}
-use Rattle.status_check.specs.Own.{own_text, status_fault}
-use Rattle.status_check.proofs.NamedHomes.{IsNamedHome, named_home}
-use Rattle.status_check.proofs.OwnTexts.{all_stanzas, lines_faulty, lines_fine, stanzas_good}
+use Rattle.status_check.specs.{Installed.{is_elsewhere, is_installed, is_of_home, is_own}, Laws.{NoArchitectureFault}, Own.{own_text, status_fault}}
+use Rattle.status_check.proofs.{NamedHomes.{IsNamedHome, named_home}, OwnTexts.{all_stanzas, lines_faulty, lines_fine, stanzas_good}}
 
 -- whether a fault is of an architecture
 abbrev is_of_architecture : IndexFault → Bool

@@ -1,8 +1,7 @@
 -- Counting one item after another.
-use Rattle.std.proofs.Common.{◌≡◌, ℕ, ◌+◌, ◌<◌, ◌≤◌, Bool, true, false, List, length, get_or, take, refl, ap, sym, ◌∙◌, arith}
-use Rattle.std.specs.Prelude.{count_by, if◌then◌else◌}
-use Rattle.std.proofs.lemmas.List.{length-take-le}
+use Rattle.std.proofs.{Common.{◌≡◌, ℕ, ◌+◌, ◌<◌, ◌≤◌, Bool, true, false, List, length, get_or, take, refl, ap, sym, ◌∙◌, arith}, lemmas.List.{length-take-le}}
 use Rattle.std.proofs.lemmas.List.Sums.{count_by-le-length, count_by_more_no, count_by_more_yes}
+use Rattle.std.specs.Prelude.{count_by, if◌then◌else◌}
 
 module _ {A : Type 0} (p : A → Bool) (xs : List A) (i : ℕ) (n : ℕ) (within : i < length xs) (so : n ≡ count_by p (take i xs)) where
   -- no more than there were items

@@ -1,18 +1,12 @@
 -- The goals of the packages that an index has, one after another.
 use Rattle.std.proofs.Common.{◌≡◌, ℕ, zero, suc, ◌+◌, ◌<◌, Bool, true, false, not, cond, List, [], ◌∷◌, ◌++◌, length, get_or, take, map, filter, eqb, refl, ap, sym, ◌∙◌, subst, arith}
-use Rattle.std.proofs.lemmas.List.{append-nil, map-append, take_more}
-use Rattle.std.proofs.lemmas.List.Elements.{filter-append}
-use Rattle.relation_fields.specs.declared.packages.Home.{Home}
-use Rattle.relation_fields.specs.declared.packages.PackageFacts.{PackageFacts}
-use Rattle.repo_model.specs.Goals.{packages_named}
-use Rattle.repo_model.specs.Repository.{suite_repository}
-use Rattle.repo_model.specs.declared.goals.Goal.{Goal}
+use Rattle.std.proofs.{lemmas.List.{append-nil, map-append, take_more}, lemmas.List.Elements.{filter-append}}
+use Rattle.relation_fields.specs.{declared.packages.Home.{Home}, declared.packages.PackageFacts.{PackageFacts}}
+use Rattle.repo_model.specs.{Goals.{packages_named}, Repository.{suite_repository}, declared.goals.Goal.{Goal}}
 use Rattle.listed.specs.Lists.{Ascending, In}
 use Rattle.suite_compare.specs.Asking.{goal_classes, image_of, images_of}
-use Rattle.suite_compare.proofs.Gathering.{image_filled, named_inside}
-use Rattle.suite_compare.proofs.SuiteKernels.{classes_ascending}
-use Rattle.status_check.specs.Report.{goal_for, had_goals, is_had, line_for}
-use Rattle.status_check.specs.declared.report.HaveLine.{HaveLine}
+use Rattle.suite_compare.proofs.{Gathering.{image_filled, named_inside}, SuiteKernels.{classes_ascending}}
+use Rattle.status_check.specs.{Report.{goal_for, had_goals, is_had, line_for}, declared.report.HaveLine.{HaveLine}}
 
 had_push : (index packages : List PackageFacts) (x : PackageFacts) → had_goals index (packages ++ x ∷ []) ≡ had_goals index packages ++ cond (is_had index x) (goal_for x ∷ []) []
 had_push index packages x =

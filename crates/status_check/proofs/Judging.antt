@@ -1,34 +1,19 @@
 -- What the reported states mean on the stanzas.
-use Rattle.std.proofs.Common.{◌≡◌, ℕ, ◌↔◌, Bool, true, List, [], length, map, get_or, refl, ap, sym, ◌∙◌, subst}
-use Rattle.std.proofs.lemmas.Bool.{both_ways}
+use Rattle.std.proofs.{Common.{◌≡◌, ℕ, ◌↔◌, Bool, true, List, [], length, map, get_or, refl, ap, sym, ◌∙◌, subst}, lemmas.Bool.{both_ways}}
 use Rattle.std.proofs.lemmas.List.{length-map}
 use Rattle.clause_pool.specs.Interned.{Interned}
-use Rattle.clause_solver.specs.declared.outcomes.Verdict.{Verdict}
-use Rattle.clause_solver.specs.declared.outcomes.Verdict.TheVariants.{Yes, No, Spent}
+use Rattle.clause_solver.specs.{declared.outcomes.Verdict.{Verdict}, declared.outcomes.Verdict.TheVariants.{Yes, No, Spent}}
 use Rattle.kernel_rounds.specs.declared.extraction.Kernel.{Kernel}
-use Rattle.relation_fields.specs.declared.packages.Home.{Home}
-use Rattle.relation_fields.specs.declared.packages.PackageFacts.{PackageFacts}
-use Rattle.repo_model.specs.Repository.{suite_repository}
-use Rattle.repo_model.specs.Stanzas.{HealthyStanzas}
-use Rattle.repo_model.specs.declared.goals.Goal.{Goal}
-use Rattle.repo_model.proofs.Healthy.{healthy_same}
-use Rattle.row_book.specs.Book.{repository_of}
-use Rattle.repo_model.proofs.Packages.{length_clauses}
-use Rattle.row_book.specs.Flags.{flag}
-use Rattle.row_book.specs.Health.{IsFirstFault}
-use Rattle.row_book.specs.declared.health.Unhealthy.{Unhealthy}
+use Rattle.relation_fields.specs.{declared.packages.Home.{Home}, declared.packages.PackageFacts.{PackageFacts}}
+use Rattle.repo_model.specs.{Repository.{suite_repository}, Stanzas.{HealthyStanzas}, declared.goals.Goal.{Goal}}
+use Rattle.repo_model.proofs.{Healthy.{healthy_same}, Packages.{length_clauses}}
+use Rattle.row_book.specs.{Book.{repository_of}, Flags.{flag}, Health.{IsFirstFault}, declared.health.Unhealthy.{Unhealthy}}
+use Rattle.row_book.specs.{Repository.{Repository, Healthy, clauses_of}, Rounds.{kernel}, Sets.{NumSet}, declared.book.Book.{Book}}
 use Rattle.row_book.proofs.BookRepositories.{book_size}
-use Rattle.row_book.specs.Repository.{Repository, Healthy, clauses_of}
-use Rattle.row_book.specs.Rounds.{kernel}
-use Rattle.row_book.specs.Sets.{NumSet}
-use Rattle.row_book.specs.declared.book.Book.{Book}
 use Rattle.listed.proofs.Lists.{In_at}
-use Rattle.suite_compare.specs.Asking.{images_of, verdict_in, HasVerdict}
-use Rattle.suite_compare.specs.Kinds.{kernel_verdict}
-use Rattle.suite_compare.specs.Views.{IsViewOf}
+use Rattle.suite_compare.specs.{Asking.{images_of, verdict_in, HasVerdict}, Kinds.{kernel_verdict}, Views.{IsViewOf}}
 use Rattle.suite_compare.proofs.Deciding.{verdict_is_judged}
-use Rattle.status_check.specs.Report.{all_of, state_of, IsJudged, IsStateOf}
-use Rattle.status_check.specs.declared.report.OwnState.{OwnState}
+use Rattle.status_check.specs.{Report.{all_of, state_of, IsJudged, IsStateOf}, declared.report.OwnState.{OwnState}}
 use Rattle.status_check.specs.declared.report.OwnState.TheVariants as own
 use Rattle.status_check.specs.declared.report.SuiteState.{SuiteState}
 

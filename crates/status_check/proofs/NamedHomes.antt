@@ -1,20 +1,14 @@
 -- An index without a fault has no home, or one with the name of an architecture.
 use Rattle.std.proofs.Common.{◌≡◌, ℕ, ◌+◌, Bool, true, false, cond, List, [], ◌∷◌, length, take, map, Option, Some, None, Result, Ok, Err, refl}
-use Rattle.std.specs.Prelude.{nat_le}
-use Rattle.std.specs.Option.{option_and_then, option_or}
-use Rattle.deb_version.specs.Grammar.{is_version}
-use Rattle.deb_version.specs.Names.{is_name}
+use Rattle.std.specs.{Prelude.{nat_le}, Option.{option_and_then, option_or}}
+use Rattle.deb_version.specs.{Grammar.{is_version}, Names.{is_name}}
 use Rattle.relation_fields.specs.Grammar.{is_architecture}
-use Rattle.stanza_reader.specs.Stanzas.{readings}
-use Rattle.stanza_reader.specs.declared.fault.StanzaFault.{StanzaFault}
+use Rattle.stanza_reader.specs.{Stanzas.{readings}, declared.fault.StanzaFault.{StanzaFault}}
 use Rattle.stanza_reader.specs.declared.stanza.FieldKind.TheVariants as kind
-use Rattle.stanza_reader.specs.declared.stanza.RawField.{RawField}
-use Rattle.stanza_reader.specs.declared.stanza.RawStanza.{RawStanza}
-use Rattle.repo_model.specs.Facts.{architecture_of, is_all}
-use Rattle.repo_model.specs.Fields.{field_of}
+use Rattle.stanza_reader.specs.{declared.stanza.RawField.{RawField}, declared.stanza.RawStanza.{RawStanza}}
+use Rattle.repo_model.specs.{Facts.{architecture_of, is_all}, Fields.{field_of}}
 use Rattle.repo_model.specs.FirstFault.{bad_value, fault_behind, faults_from, first_fault, first_some, home_of, own_fault, presence_fault, reading_fault, stanzas_in, stanzas_of, unless_good, value_fault}
-use Rattle.repo_model.specs.declared.fault.IndexFault.{IndexFault}
-use Rattle.repo_model.specs.declared.fault.IndexFault.TheVariants.{BadArchitecture, BadPackage, BadVersion, TooMany}
+use Rattle.repo_model.specs.{declared.fault.IndexFault.{IndexFault}, declared.fault.IndexFault.TheVariants.{BadArchitecture, BadPackage, BadVersion, TooMany}}
 use Rattle.repo_model.specs.Limits.{most_packages}
 use Rattle.repo_model.proofs.WellFormed.{none_of}
 

@@ -1,18 +1,11 @@
 -- The state of all packages of a suite.
-use Rattle.std.proofs.Common.{◌≡◌, ℕ, ◌<◌, true, false, List, length, map, inl, inr, arith}
-use Rattle.std.proofs.Math.ListN.{get_or-eq_default}
-use Rattle.std.proofs.lemmas.Bool.{both_ways, cases_lt}
+use Rattle.std.proofs.{Common.{◌≡◌, ℕ, ◌<◌, true, false, List, length, map, inl, inr, arith}, Math.ListN.{get_or-eq_default}, lemmas.Bool.{both_ways, cases_lt}}
 use Rattle.std.proofs.lemmas.List.{length-map}
-use Rattle.relation_fields.specs.declared.packages.Home.{Home}
-use Rattle.relation_fields.specs.declared.packages.PackageFacts.{PackageFacts}
-use Rattle.repo_model.proofs.Packages.{length_clauses}
+use Rattle.relation_fields.specs.{declared.packages.Home.{Home}, declared.packages.PackageFacts.{PackageFacts}}
+use Rattle.repo_model.proofs.{Packages.{length_clauses}, SoundSuite.{suite_sound}}
 use Rattle.repo_model.specs.Repository.{suite_repository}
-use Rattle.row_book.specs.Sets.{Is}
-use Rattle.row_book.specs.Sound.{OfPackages}
-use Rattle.status_check.specs.Report.{all_of, IsStateOf}
-use Rattle.status_check.specs.declared.report.OwnState.{OwnState}
-use Rattle.status_check.specs.States.{set_state}
-use Rattle.repo_model.proofs.SoundSuite.{suite_sound}
+use Rattle.row_book.specs.{Sets.{Is}, Sound.{OfPackages}}
+use Rattle.status_check.specs.{Report.{all_of, IsStateOf}, declared.report.OwnState.{OwnState}, States.{set_state}}
 use Rattle.status_check.proofs.States.{one_state, state_there}
 
 -- all packages are packages

@@ -1,18 +1,12 @@
 -- The text of the own packages of a status file, and the fault of the file.
-use Rattle.std.proofs.Common.{◌≡◌, ℕ, Bool, List, [], ◌∷◌, length, map, Some, None, Ok, Err, refl, ap, sym, ◌∙◌}
-use Rattle.std.specs.Option.{option_map}
-use Rattle.std.specs.Result.{result_err}
-use Rattle.std.proofs.lemmas.List.{length-map}
-use Rattle.stanza_reader.specs.Blanking.{blanked, picked}
-use Rattle.stanza_reader.specs.Stanzas.{readings, stanzas}
-use Rattle.stanza_reader.specs.declared.fault.StanzaFault.{StanzaFault}
+use Rattle.std.proofs.{Common.{◌≡◌, ℕ, Bool, List, [], ◌∷◌, length, map, Some, None, Ok, Err, refl, ap, sym, ◌∙◌}, lemmas.List.{length-map}}
+use Rattle.std.specs.{Option.{option_map}, Result.{result_err}}
+use Rattle.stanza_reader.specs.{Blanking.{blanked, picked}, Stanzas.{readings, stanzas}, declared.fault.StanzaFault.{StanzaFault}}
 use Rattle.stanza_reader.specs.declared.stanza.RawStanza.{RawStanza}
 use Rattle.stanza_reader.proofs.BlankLemmas.{good, good_readings, stanzas_picked}
 use Rattle.relation_fields.specs.declared.packages.Home.{Home}
-use Rattle.repo_model.specs.FirstFault.{stanzas_in, stanzas_of}
-use Rattle.repo_model.specs.declared.fault.IndexFault.TheVariants.{Stanza}
-use Rattle.status_check.specs.Installed.{is_own}
-use Rattle.status_check.specs.Own.{lines_fault, own_text}
+use Rattle.repo_model.specs.{FirstFault.{stanzas_in, stanzas_of}, declared.fault.IndexFault.TheVariants.{Stanza}}
+use Rattle.status_check.specs.{Installed.{is_own}, Own.{lines_fault, own_text}}
 
 pub stanzas_good : (all : List RawStanza) → stanzas_in (map good all) ≡ all
 stanzas_good [] = refl

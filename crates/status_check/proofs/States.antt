@@ -1,24 +1,16 @@
 -- The state of a set of packages as a function: it is one, and there is no other.
 use Rattle.std.proofs.Common.{◌≡◌, ℕ, zero, suc, ◌<◌, ◌≤◌, ◌⊎◌, Bool, true, false, not, ◌&&◌, List, [], ◌∷◌, ◌++◌, length, map, filter, Some, None, inl, inr, refl, sym, ap, ap₂, subst, ◌∙◌, arith, zero-le}
-use Rattle.std.specs.Prelude.{⊤, find, slice_index_or}
-use Rattle.std.specs.List.{list_all, list_any}
-use Rattle.std.proofs.Math.Nat.{eq-or-lt_of_le}
-use Rattle.std.proofs.lemmas.Bool.{both_ways, cases_Bool, cases_lt, not-true, and_from, and_parts}
+use Rattle.std.proofs.{Math.Nat.{eq-or-lt_of_le}, lemmas.Bool.{both_ways, cases_Bool, cases_lt, not-true, and_from, and_parts}}
+use Rattle.std.specs.{Prelude.{⊤, find, slice_index_or}, List.{list_all, list_any}}
 use Rattle.listed.proofs.Bools.{cases_Option}
-use Rattle.row_book.specs.Numbers.{numbers}
-use Rattle.row_book.specs.Flattening.{packages}
-use Rattle.row_book.specs.Health.{AllSatisfied, IsClash, IsFirstUnhit, UnhitFirst}
-use Rattle.row_book.specs.Repository.{Repository, Satisfied, against, clauses_of}
-use Rattle.row_book.specs.Sets.{Hit, Is, NumSet}
-use Rattle.listed.specs.Lists.{In, here, there}
-use Rattle.row_book.specs.Sound.{OfPackages, SoundRepository}
-use Rattle.row_book.specs.Thinning.{all_pairs, conflicting_pairs}
 use Rattle.listed.proofs.Lists.{In_append_cases, In_at, In_cases, In_map_cases, In_none, all_at, filter_cases, filter_from, find_none, find_some}
-use Rattle.row_book.proofs.Lists.{any_hit, hit_any}
-use Rattle.row_book.proofs.Numbers.{numbers_from, numbers_parts}
+use Rattle.row_book.specs.{Numbers.{numbers}, Flattening.{packages}, Health.{AllSatisfied, IsClash, IsFirstUnhit, UnhitFirst}}
+use Rattle.row_book.specs.{Repository.{Repository, Satisfied, against, clauses_of}, Sets.{Hit, Is, NumSet}, Sound.{OfPackages, SoundRepository}}
+use Rattle.row_book.specs.Thinning.{all_pairs, conflicting_pairs}
+use Rattle.listed.specs.Lists.{In, here, there}
+use Rattle.row_book.proofs.{Lists.{any_hit, hit_any}, Numbers.{numbers_from, numbers_parts}}
 use Rattle.kernel_rounds.proofs.Thins.{pairs_has}
-use Rattle.status_check.specs.Report.{IsStateOf}
-use Rattle.status_check.specs.declared.report.OwnState.{OwnState}
+use Rattle.status_check.specs.{Report.{IsStateOf}, declared.report.OwnState.{OwnState}}
 use Rattle.status_check.specs.declared.report.OwnState.TheVariants as own
 use Rattle.status_check.specs.States.{StatesAreOne, are_both, by_clash, by_unserved, is_unserved, set_state}
 

@@ -2,11 +2,9 @@
 ghost use Rattle.std.specs.Prelude.{◌≡◌, List, length, map, IfOk};
 ghost use Rattle.relation_fields.specs.declared.packages.PackageFacts.{PackageFacts};
 ghost use Rattle.repo_model.specs.Goals.{packages_named};
-ghost use Rattle.row_book.specs.Book.{repository_of};
-ghost use Rattle.row_book.specs.Needs.{NeedsFit};
+ghost use Rattle.row_book.specs.{Book.{repository_of}, Needs.{NeedsFit}};
 ghost use Rattle.clause_solver.specs.Outcomes.{IsBudget};
-ghost use Rattle.suite_compare.specs.Asking.{images_of};
-ghost use Rattle.suite_compare.specs.Kinds.{kernel_verdict};
+ghost use Rattle.suite_compare.specs.{Asking.{images_of}, Kinds.{kernel_verdict}};
 ghost use Rattle.status_check.specs.Report.{goal_for, had_goals, is_had, line_for, state_of};
 
 use crate::report::{HaveLine, HaveList, SuiteState};

@@ -1,6 +1,5 @@
 //! The laws of status files: the functions do nothing, the contract of each is one law.
-ghost use Rattle.status_check.specs.Laws.{NoArchitectureFault};
-ghost use Rattle.status_check.specs.States.{StatesAreOne};
+ghost use Rattle.status_check.specs.{Laws.{NoArchitectureFault}, States.{StatesAreOne}};
 
 /// No architecture of a status file is a fault, against whatever index without a fault.
 pub fn no_architecture_fault()

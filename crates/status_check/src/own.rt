@@ -1,9 +1,8 @@
 //! The own packages of a status file.
 ghost use Rattle.std.specs.Prelude.{◌≡◌, ◌≤◌, length, None, Ok, IfOk, IfErr, OnOk};
 ghost use Rattle.stanza_reader.specs.Stanzas.{stanzas};
-ghost use Rattle.repo_model.specs.Refusals.{Refuses};
+ghost use Rattle.repo_model.specs.{Refusals.{Refuses}, Limits.{most_bytes}};
 ghost use Rattle.status_check.specs.Own.{foreign_count, lines_fault, own_home, own_packages, status_fault};
-ghost use Rattle.repo_model.specs.Limits.{most_bytes};
 
 use crate::installed::sort_stanzas;
 use relation_fields::Home;

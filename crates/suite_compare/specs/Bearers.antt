@@ -2,8 +2,7 @@
 use Rattle.std.specs.Prelude.{ℕ, ◌<◌, ◌==◌, ◌↔◌, Bool, not, List, length, map, filter, slice_index_or}
 use Rattle.listed.specs.Lists.{Ascending, In}
 use Rattle.clause_pool.specs.Interned.{Interned}
-use Rattle.row_book.specs.Book.{listed_for, Sound}
-use Rattle.row_book.specs.Numbers.{numbers}
+use Rattle.row_book.specs.{Book.{listed_for, Sound}, Numbers.{numbers}}
 use Rattle.kernel_rounds.specs.declared.extraction.Kernel.{Kernel}
 use Rattle.relation_fields.specs.declared.packages.PackageFacts.{PackageFacts}
 use Rattle.repo_model.specs.Goals.{any_version, packages_named}

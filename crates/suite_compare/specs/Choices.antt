@@ -2,8 +2,7 @@
 -- First choices as lists of classes, and which of them are at peace.
 use Rattle.std.specs.Prelude.{◌≡◌, ℕ, ◌<◌, Bool, true, false, if◌then◌else◌, List, [], ◌∷◌, ◌++◌, slice_index_or}
 use Rattle.listed.specs.Lists.{In, has}
-use Rattle.row_book.specs.Book.{listed_for}
-use Rattle.row_book.specs.Repository.{Repository, against, clauses_of}
+use Rattle.row_book.specs.{Book.{listed_for}, Repository.{Repository, against, clauses_of}}
 use Rattle.suite_compare.specs.FirstChoices.{first_member, is_one_of, IsFirstChoice}
 
 -- each number of the list is below the size

@@ -1,29 +1,14 @@
 -- A comparison over kinds of names.
-use Rattle.std.specs.Prelude.{◌≡◌, ℕ, ◌<◌, Bool, List, [], ◌∷◌, ◌++◌, filter, length, map, slice_index_or}
-use Rattle.std.specs.List.{flat_map}
-use Rattle.row_book.specs.Book.{listed_for}
-use Rattle.row_book.specs.Repository.{Repository}
-use Rattle.clause_solver.specs.Outcomes.{IsBudget}
-use Rattle.clause_solver.specs.declared.outcomes.Verdict.{Verdict}
-use Rattle.relation_fields.specs.declared.packages.Home.{Home}
-use Rattle.relation_fields.specs.declared.packages.PackageFacts.{PackageFacts}
+use Rattle.std.specs.{Prelude.{◌≡◌, ℕ, ◌<◌, Bool, List, [], ◌∷◌, ◌++◌, filter, length, map, slice_index_or}, List.{flat_map}}
+use Rattle.row_book.specs.{Book.{listed_for}, Repository.{Repository}}
+use Rattle.clause_solver.specs.{Outcomes.{IsBudget}, declared.outcomes.Verdict.{Verdict}}
+use Rattle.relation_fields.specs.{declared.packages.Home.{Home}, declared.packages.PackageFacts.{PackageFacts}}
 use Rattle.repo_model.specs.Goals.{any_version, names_in}
-use Rattle.suite_compare.specs.Asking.{verdict_in}
-use Rattle.suite_compare.specs.Bad.{AreSingles}
-use Rattle.suite_compare.specs.Groups.{AreEach}
-use Rattle.suite_compare.specs.Kinds.{alone_in, kernel_in, together_in, AreKinds, IsJudge}
-use Rattle.suite_compare.specs.Names.{names_of_both}
-use Rattle.suite_compare.specs.Partners.{new_kind, old_kind, ArePartners}
-use Rattle.suite_compare.specs.Report.{finding, is_yes, pair_line, single_line, with_later}
-use Rattle.suite_compare.specs.Telling.{no_partners}
-use Rattle.suite_compare.specs.declared.sides.NewSide.{NewSide}
-use Rattle.suite_compare.specs.declared.sides.OldSide.{OldSide}
-use Rattle.suite_compare.specs.declared.sides.Side.{Side}
-use Rattle.suite_compare.specs.declared.gather.JointTable.{JointTable}
-use Rattle.suite_compare.specs.declared.gather.Partners.{Partners}
-use Rattle.suite_compare.specs.declared.report.ReportLine.{ReportLine}
-use Rattle.suite_compare.specs.declared.verdicts.Bad.{Bad}
-use Rattle.suite_compare.specs.declared.verdicts.Judge.{Judge}
+use Rattle.suite_compare.specs.{Asking.{verdict_in}, Bad.{AreSingles}, Groups.{AreEach}, Kinds.{alone_in, kernel_in, together_in, AreKinds, IsJudge}}
+use Rattle.suite_compare.specs.{Names.{names_of_both}, Partners.{new_kind, old_kind, ArePartners}, Report.{finding, is_yes, pair_line, single_line, with_later}}
+use Rattle.suite_compare.specs.{Telling.{no_partners}, declared.sides.NewSide.{NewSide}, declared.sides.OldSide.{OldSide}, declared.sides.Side.{Side}}
+use Rattle.suite_compare.specs.{declared.gather.JointTable.{JointTable}, declared.gather.Partners.{Partners}, declared.report.ReportLine.{ReportLine}}
+use Rattle.suite_compare.specs.{declared.verdicts.Bad.{Bad}, declared.verdicts.Judge.{Judge}}
 
 -- a judge and the verdict on each of its kinds by itself, and for each of n names one of these kinds
 pub record IsSide (n : ℕ) (side : Side) (of : List ℕ) : Type 0 where

@@ -2,9 +2,8 @@
 -- First choices: sets of classes that show, without a search, that a search finds something and fails nowhere. No two of them
 -- conflict, and with the set go the first member of each goal and of each clause of a member.
 use Rattle.std.specs.Prelude.{◌≡◌, ℕ, ◌<◌, Bool, true, false, List, length, slice_get, Option, Some, None}
-use Rattle.row_book.specs.Sets.{NumSet, Is}
+use Rattle.row_book.specs.{Sets.{NumSet, Is}, Repository.{Repository, clauses_of, against}}
 use Rattle.listed.specs.Lists.{In}
-use Rattle.row_book.specs.Repository.{Repository, clauses_of, against}
 
 abbrev pub first_member : List ℕ → Option ℕ
 first_member ns = slice_get ns 0

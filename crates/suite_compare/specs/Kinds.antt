@@ -1,15 +1,9 @@
 -- Kinds: names of a kind have the same classes, and so the same verdicts.
 use Rattle.std.specs.Prelude.{◌≡◌, ℕ, ◌<◌, true, List, [], ◌∷◌, length, map, slice_index_or}
 use Rattle.listed.specs.Lists.{In, has}
-use Rattle.row_book.specs.Book.{Sound, listed_for, repository_of}
-use Rattle.row_book.specs.Needs.{AreNeeds, NeedsFit}
-use Rattle.row_book.specs.Repository.{Repository}
-use Rattle.suite_compare.specs.Asking.{tree_of, verdict_of}
-use Rattle.clause_solver.specs.Outcomes.{IsBudget}
-use Rattle.clause_solver.specs.Solvers.{IsReady}
-use Rattle.clause_solver.specs.declared.outcomes.Verdict.{Verdict}
-use Rattle.suite_compare.specs.Groups.{AreEach}
-use Rattle.suite_compare.specs.declared.verdicts.Judge.{Judge}
+use Rattle.row_book.specs.{Book.{Sound, listed_for, repository_of}, Needs.{AreNeeds, NeedsFit}, Repository.{Repository}}
+use Rattle.suite_compare.specs.{Asking.{tree_of, verdict_of}, Groups.{AreEach}, declared.verdicts.Judge.{Judge}}
+use Rattle.clause_solver.specs.{Outcomes.{IsBudget}, Solvers.{IsReady}, declared.outcomes.Verdict.{Verdict}}
 
 -- the verdict of a search in a kernel, for goals as lists of classes
 abbrev pub kernel_verdict : Repository → ℕ → List (List ℕ) → Verdict

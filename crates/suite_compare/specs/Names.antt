@@ -1,7 +1,5 @@
 -- The names of both suites.
-use Rattle.std.specs.Prelude.{ℕ, Bool, List, filter}
-use Rattle.std.specs.List.{list_any}
-use Rattle.std.specs.Str.{bytes_eq}
+use Rattle.std.specs.{Prelude.{ℕ, Bool, List, filter}, List.{list_any}, Str.{bytes_eq}}
 use Rattle.relation_fields.specs.declared.packages.PackageFacts.{PackageFacts}
 use Rattle.repo_model.specs.Goals.{names_in}
 

@@ -5,15 +5,9 @@ use Rattle.std.specs.List.{flat_map}
 use Rattle.listed.specs.Lists.{In, Ascending}
 use Rattle.row_book.specs.Book.{listed_for}
 use Rattle.clause_solver.specs.declared.outcomes.Verdict.{Verdict}
-use Rattle.suite_compare.specs.declared.gather.JointTable.{JointTable}
-use Rattle.suite_compare.specs.declared.gather.Partners.{Partners}
-use Rattle.suite_compare.specs.declared.report.Finding.{Finding}
-use Rattle.suite_compare.specs.declared.report.Finding.TheVariants.{Broken, Open}
-use Rattle.suite_compare.specs.declared.verdicts.Bad.{Bad}
-use Rattle.suite_compare.specs.declared.verdicts.Judge.{Judge}
-use Rattle.suite_compare.specs.Groups.{ArePlaces}
-use Rattle.suite_compare.specs.Kinds.{together_in}
-use Rattle.suite_compare.specs.Report.{finding}
+use Rattle.suite_compare.specs.{declared.gather.JointTable.{JointTable}, declared.gather.Partners.{Partners}, declared.report.Finding.{Finding}}
+use Rattle.suite_compare.specs.{declared.report.Finding.TheVariants.{Broken, Open}, declared.verdicts.Bad.{Bad}, declared.verdicts.Judge.{Judge}}
+use Rattle.suite_compare.specs.{Groups.{ArePlaces}, Kinds.{together_in}, Report.{finding}}
 
 -- the kind of a pair in the old suite, and in the new one
 abbrev pub old_kind : JointTable → ℕ → ℕ

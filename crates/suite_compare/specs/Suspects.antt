@@ -1,13 +1,9 @@
 -- for the bodies of this crate alone
 -- Which kinds may not go together.
-use Rattle.std.specs.Prelude.{◌≡◌, ℕ, ◌<◌, ◌==◌, ◌⊎◌, List, [], filter, length}
-use Rattle.std.specs.List.{flat_map, range_with_len}
+use Rattle.std.specs.{Prelude.{◌≡◌, ℕ, ◌<◌, ◌==◌, ◌⊎◌, List, [], filter, length}, List.{flat_map, range_with_len}}
 use Rattle.listed.specs.Lists.{In}
-use Rattle.row_book.specs.Book.{listed_for}
-use Rattle.row_book.specs.Repository.{Repository}
-use Rattle.suite_compare.specs.Choices.{ArePeaceful, IsChosen}
-use Rattle.suite_compare.specs.Groups.{AreEach}
-use Rattle.suite_compare.specs.declared.suspect.Choices.{Choices}
+use Rattle.row_book.specs.{Book.{listed_for}, Repository.{Repository}}
+use Rattle.suite_compare.specs.{Choices.{ArePeaceful, IsChosen}, Groups.{AreEach}, declared.suspect.Choices.{Choices}}
 
 -- a first choice for each of the first n kinds, empty where it has none
 abbrev pub AreAllChosen : Repository → List (List ℕ) → ℕ → List (List ℕ) → Type 0

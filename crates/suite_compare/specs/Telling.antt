@@ -1,14 +1,10 @@
 -- for the bodies of this crate alone
 -- The lines of names by their places.
-use Rattle.std.specs.Prelude.{ℕ, if◌then◌else◌, List, [], Some, filter, ltb, slice_index_or}
-use Rattle.std.specs.List.{flat_map}
+use Rattle.std.specs.{Prelude.{ℕ, if◌then◌else◌, List, [], Some, filter, ltb, slice_index_or}, List.{flat_map}}
 use Rattle.listed.specs.Lists.{has}
 use Rattle.row_book.specs.Book.{listed_for}
-use Rattle.suite_compare.specs.declared.gather.Partners.{Partners}
-use Rattle.suite_compare.specs.declared.report.Finding.{Finding}
-use Rattle.suite_compare.specs.declared.report.Finding.TheVariants.{Broken, Open}
-use Rattle.suite_compare.specs.declared.report.ReportLine.{ReportLine}
-use Rattle.suite_compare.specs.Report.{pair_line}
+use Rattle.suite_compare.specs.{declared.gather.Partners.{Partners}, declared.report.Finding.{Finding}, declared.report.Finding.TheVariants.{Broken, Open}}
+use Rattle.suite_compare.specs.{declared.report.ReportLine.{ReportLine}, Report.{pair_line}}
 
 -- what is told of a partner
 abbrev pub found_beside : Partners → ℕ → Finding

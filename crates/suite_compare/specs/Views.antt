@@ -1,24 +1,16 @@
 -- A view of a suite: the repository of its packages as a book over a pool, and the kernel of that at a clause limit, with hold or
 -- without, with its classes, its held classes and its steps.
 use Rattle.std.specs.Prelude.{◌≡◌, ◌⊎◌, ℕ, Bool, List, [], ◌∷◌, map, refl}
-use Rattle.std.proofs.Common.{ap, inl, inr}
-use Rattle.std.proofs.Math.Nat.{ne_of_lt}
 use Rattle.std.specs.Coded.{Coded, Coded-set, code_by, coded×, coded⊎, coded_list, coded_ℕ, coded_bool, ×_prop, Unit-prop, le_prop}
-use Rattle.clause_pool.specs.Interned.{Interned, IsPool}
-use Rattle.row_book.specs.Book.{repository_of, AreConflicts, Sound}
-use Rattle.listed.specs.Lists.{Ascending, In}
-use Rattle.clause_pool.specs.Lists.{Before, InOrder}
-use Rattle.row_book.specs.Flattening.{packages}
-use Rattle.row_book.specs.Pruning.{IdleClause}
-use Rattle.row_book.specs.Repository.{Repository}
+use Rattle.std.proofs.{Common.{ap, inl, inr}, Math.Nat.{ne_of_lt}}
+use Rattle.clause_pool.specs.{Interned.{Interned, IsPool}, Lists.{Before, InOrder}}
+use Rattle.row_book.specs.{Book.{repository_of, AreConflicts, Sound}, Flattening.{packages}, Pruning.{IdleClause}, Repository.{Repository}}
 use Rattle.row_book.specs.Rounds.{RoundStep, FlatStep, MergeStep, IdleStep, kernel, kernel_class, kernel_held, kernel_steps}
-use Rattle.row_book.specs.Trail.{SoundStep, SoundSteps, trail_meaning}
-use Rattle.row_book.specs.declared.book.Book.{Book}
-use Rattle.row_book.specs.declared.trail.Step.{Step}
+use Rattle.row_book.specs.{Trail.{SoundStep, SoundSteps, trail_meaning}, declared.book.Book.{Book}, declared.trail.Step.{Step}}
 use Rattle.row_book.specs.declared.trail.Step.TheVariants.{Flat, Idle, Merge}
+use Rattle.listed.specs.Lists.{Ascending, In}
 use Rattle.kernel_rounds.specs.declared.extraction.Kernel.{Kernel}
-use Rattle.relation_fields.specs.declared.packages.Home.{Home}
-use Rattle.relation_fields.specs.declared.packages.PackageFacts.{PackageFacts}
+use Rattle.relation_fields.specs.{declared.packages.Home.{Home}, declared.packages.PackageFacts.{PackageFacts}}
 use Rattle.repo_model.specs.Repository.{suite_repository}
 
 -- a book is a repository over the pool, and sound

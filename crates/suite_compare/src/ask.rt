@@ -2,9 +2,7 @@
 ghost use Rattle.std.specs.Prelude.{◌≡◌, ◌↔◌, ◌<◌, ℕ, None, Some, map, length, slice_index_or, IfOk, IfErr, OnOk};
 ghost use Rattle.listed.specs.Lists.{Ascending, In};
 ghost use Rattle.repo_model.specs.Repository.{suite_repository};
-ghost use Rattle.suite_compare.specs.Asking.{goal_classes, images_of, wanted_by};
-ghost use Rattle.suite_compare.specs.Answering.{unknown_goal, OnUnknown};
-ghost use Rattle.suite_compare.specs.Bearers.{AreClasses};
+ghost use Rattle.suite_compare.specs.{Asking.{goal_classes, images_of, wanted_by}, Answering.{unknown_goal, OnUnknown}, Bearers.{AreClasses}};
 
 use crate::answers::DecideError;
 use crate::view::SuiteView;

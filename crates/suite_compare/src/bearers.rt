@@ -2,8 +2,7 @@
 ghost use Rattle.std.specs.Prelude.{◌≡◌, ◌<◌, ℕ, List, [], IfOk, length, map, slice_index_or};
 ghost use Rattle.listed.specs.Lists.{In};
 ghost use Rattle.row_book.specs.Book.{listed_for};
-ghost use Rattle.suite_compare.specs.Bearers.{bearers_of, filled_places, AreClasses};
-ghost use Rattle.suite_compare.specs.Groups.{AreEach};
+ghost use Rattle.suite_compare.specs.{Bearers.{bearers_of, filled_places, AreClasses}, Groups.{AreEach}};
 
 use crate::ask::classes_by;
 use crate::places::{classes_at, name_at};

@@ -2,25 +2,15 @@
 //!
 //! Names with the same classes have the same verdicts, so kinds are asked. A pair is searched in the order of its names, since
 //! the number of failed leaves may depend on it.
-ghost use Rattle.std.specs.Prelude.{◌≡◌, ◌<◌, ◌++◌, [], ℕ, List, IfOk, OnOk, length, slice_index_or};
+ghost use Rattle.std.specs.{Prelude.{◌≡◌, ◌<◌, ◌++◌, [], ℕ, List, IfOk, OnOk, length, slice_index_or}, Option.{ForSome}};
 ghost use Rattle.listed.specs.Lists.{In};
-ghost use Rattle.relation_fields.specs.declared.packages.Home.{Home};
-ghost use Rattle.relation_fields.specs.declared.packages.PackageFacts.{PackageFacts};
+ghost use Rattle.relation_fields.specs.{declared.packages.Home.{Home}, declared.packages.PackageFacts.{PackageFacts}};
 ghost use Rattle.repo_model.specs.Repository.{suite_repository};
-ghost use Rattle.clause_solver.specs.Outcomes.{IsBudget};
-ghost use Rattle.clause_solver.specs.declared.outcomes.Verdict.{Verdict};
-ghost use Rattle.suite_compare.specs.Asking.{verdict_in};
-ghost use Rattle.suite_compare.specs.declared.verdicts.Bad.{Bad};
-ghost use Rattle.std.specs.Option.{ForSome};
-ghost use Rattle.suite_compare.specs.Bad.{AreAllBad};
-ghost use Rattle.suite_compare.specs.Known.{AreKnownPairs};
-ghost use Rattle.suite_compare.specs.Bearers.{bearers_of, FitsKernel};
-ghost use Rattle.suite_compare.specs.Kinds.{IsJudge};
-ghost use Rattle.suite_compare.specs.Names.{names_of_both};
+ghost use Rattle.clause_solver.specs.{Outcomes.{IsBudget}, declared.outcomes.Verdict.{Verdict}};
+ghost use Rattle.suite_compare.specs.{Asking.{verdict_in}, declared.verdicts.Bad.{Bad}, Bad.{AreAllBad}, Known.{AreKnownPairs}};
+ghost use Rattle.suite_compare.specs.{Bearers.{bearers_of, FitsKernel}, Kinds.{IsJudge}, Names.{names_of_both}};
 ghost use Rattle.suite_compare.specs.Comparing.{told_pairs, told_report, told_singles, AreVerdicts, IsOldSide, IsSide, IsTable};
-ghost use Rattle.suite_compare.specs.Partners.{old_kind, IsJointTable};
-ghost use Rattle.suite_compare.specs.Report.{first_told, report};
-ghost use Rattle.suite_compare.specs.Views.{IsKernelOf};
+ghost use Rattle.suite_compare.specs.{Partners.{old_kind, IsJointTable}, Report.{first_told, report}, Views.{IsKernelOf}};
 
 use crate::gather::{JointTable, Partners, joint_table, new_kind, old_kind, partners_of};
 use crate::known::{KnownPairs, pairs_of};

@@ -2,14 +2,10 @@
 //!
 //! A joint is a pair of kinds, old and new, of some name. A partner is a name of which a line is made beside it. A bad kind
 //! does not go together with another one, or is not known to.
-ghost use Rattle.std.specs.Prelude.{◌≡◌, ◌<◌, ◌++◌, ℕ, IfOk, OnOk, is_some, length, slice_index_or};
-ghost use Rattle.std.specs.List.{flat_map};
+ghost use Rattle.std.specs.{Prelude.{◌≡◌, ◌<◌, ◌++◌, ℕ, IfOk, OnOk, is_some, length, slice_index_or}, List.{flat_map}};
 ghost use Rattle.listed.specs.Lists.{In};
 ghost use Rattle.row_book.specs.Book.{listed_for};
-ghost use Rattle.suite_compare.specs.Comparing.{IsSide};
-ghost use Rattle.suite_compare.specs.Kinds.{together_in, AreJoined, IsJudge};
-ghost use Rattle.suite_compare.specs.Report.{finding};
-ghost use Rattle.suite_compare.specs.declared.verdicts.Bad.{Bad};
+ghost use Rattle.suite_compare.specs.{Comparing.{IsSide}, Kinds.{together_in, AreJoined, IsJudge}, Report.{finding}, declared.verdicts.Bad.{Bad}};
 ghost use Rattle.suite_compare.specs.Partners.{beside, beside_all, is_open, new_kind, old_kind, picked, ArePartners, IsJointTable};
 
 use crate::kinds::{Joints, joints_of};

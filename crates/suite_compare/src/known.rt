@@ -1,13 +1,9 @@
 //! What is known of pairs of kinds from an earlier comparison. Many mixes of two indexes have one and the same kernel, and the same kinds in it, so
 //! that their pairs need not be searched again.
-ghost use Rattle.std.specs.Prelude.{◌≡◌, ◌<◌, length, IfOk};
-ghost use Rattle.std.specs.Bool.{OnTrue};
-ghost use Rattle.std.specs.Option.{ForSome};
+ghost use Rattle.std.specs.{Prelude.{◌≡◌, ◌<◌, length, IfOk}, Bool.{OnTrue}, Option.{ForSome}};
 ghost use Rattle.clause_pool.specs.Interned.{row_at};
 ghost use Rattle.row_book.specs.Book.{repository_of, Sound};
-ghost use Rattle.suite_compare.specs.Bad.{AreAllBad, AreSingles};
-ghost use Rattle.suite_compare.specs.Kinds.{IsJudge};
-ghost use Rattle.suite_compare.specs.Known.{AreKnownPairs, IsAskedAlike};
+ghost use Rattle.suite_compare.specs.{Bad.{AreAllBad, AreSingles}, Kinds.{IsJudge}, Known.{AreKnownPairs, IsAskedAlike}};
 
 use crate::verdicts::{BadList, Judge, bad_lists};
 use clause_pool::{NumList, Pool, RowId};

@@ -1,17 +1,12 @@
 //! The two sides of a comparison: what is known of both suites before any two names are asked together.
 ghost use Rattle.std.specs.Prelude.{◌≡◌, ◌<◌, ℕ, List, true, IfOk, length, map, slice_index_or};
 ghost use Rattle.listed.specs.Lists.{In};
-ghost use Rattle.row_book.specs.Book.{listed_for, repository_of, Sound};
-ghost use Rattle.row_book.specs.Needs.{AreNeeds, NeedsFit};
-ghost use Rattle.relation_fields.specs.declared.packages.Home.{Home};
-ghost use Rattle.relation_fields.specs.declared.packages.PackageFacts.{PackageFacts};
+ghost use Rattle.row_book.specs.{Book.{listed_for, repository_of, Sound}, Needs.{AreNeeds, NeedsFit}};
+ghost use Rattle.relation_fields.specs.{declared.packages.Home.{Home}, declared.packages.PackageFacts.{PackageFacts}};
 ghost use Rattle.repo_model.specs.Repository.{suite_repository};
 ghost use Rattle.clause_solver.specs.Outcomes.{IsBudget};
-ghost use Rattle.suite_compare.specs.Bad.{AreSingles};
-ghost use Rattle.suite_compare.specs.Bearers.{bearers_of, filled_places, FitsKernel};
-ghost use Rattle.suite_compare.specs.Kinds.{alone_in};
-ghost use Rattle.suite_compare.specs.Comparing.{named_verdict, AreSides, AreVerdicts, IsNewSide, IsOldSide, IsSide, IsSideBy};
-ghost use Rattle.suite_compare.specs.Names.{stands_in};
+ghost use Rattle.suite_compare.specs.{Bad.{AreSingles}, Bearers.{bearers_of, filled_places, FitsKernel}, Kinds.{alone_in}};
+ghost use Rattle.suite_compare.specs.{Comparing.{named_verdict, AreSides, AreVerdicts, IsNewSide, IsOldSide, IsSide, IsSideBy}, Names.{stands_in}};
 ghost use Rattle.suite_compare.specs.Views.{IsKernelOf};
 
 use crate::bearers::{bearers_of, classes_of_each, filled_places, names_at};

@@ -1,8 +1,6 @@
 //! Which kinds may not go together: those whose first choices are at peace do.
-ghost use Rattle.std.specs.Prelude.{◌≡◌, ◌<◌, ◌++◌, [], ℕ, IfOk, OnOk, length, slice_index_or};
-ghost use Rattle.std.specs.List.{flat_map, range_with_len};
-ghost use Rattle.row_book.specs.Book.{listed_for, repository_of, Sound};
-ghost use Rattle.row_book.specs.Needs.{NeedsFit};
+ghost use Rattle.std.specs.{Prelude.{◌≡◌, ◌<◌, ◌++◌, [], ℕ, IfOk, OnOk, length, slice_index_or}, List.{flat_map, range_with_len}};
+ghost use Rattle.row_book.specs.{Book.{listed_for, repository_of, Sound}, Needs.{NeedsFit}};
 ghost use Rattle.suite_compare.specs.Suspects.{without_choice, AreAllChosen, AreChoices, AreHeld, AreHolders, AreSuspects};
 
 use crate::choose::first_choice;

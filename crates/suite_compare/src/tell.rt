@@ -1,9 +1,7 @@
 //! The lines of a report.
-ghost use Rattle.std.specs.Prelude.{◌≡◌, ◌<◌, ◌++◌, ℕ, OnOk, Some, filter, length, ltb, slice_index_or};
-ghost use Rattle.std.specs.List.{flat_map, range_with_len};
+ghost use Rattle.std.specs.{Prelude.{◌≡◌, ◌<◌, ◌++◌, ℕ, OnOk, Some, filter, length, ltb, slice_index_or}, List.{flat_map, range_with_len}};
 ghost use Rattle.listed.specs.Lists.{In, Ascending};
-ghost use Rattle.suite_compare.specs.Comparing.{goes_alone, IsSide};
-ghost use Rattle.suite_compare.specs.Report.{pair_line, single_line};
+ghost use Rattle.suite_compare.specs.{Comparing.{goes_alone, IsSide}, Report.{pair_line, single_line}};
 ghost use Rattle.suite_compare.specs.Telling.{found_beside, partners_at, told_after, told_pair};
 
 use crate::gather::{JointTable, Partners};

@@ -2,15 +2,10 @@
 //!
 //! A search of two kinds is made once where one of them is a single class: such a goal is met at the root, so both orders have
 //! one tree.
-ghost use Rattle.std.specs.Prelude.{◌≡◌, ◌<◌, ◌==◌, ◌⊎◌, ◌∷◌, [], ℕ, true, IfOk, length, slice_index_or};
-ghost use Rattle.std.specs.List.{find, flat_map};
-ghost use Rattle.std.specs.Option.{option_copied};
-ghost use Rattle.row_book.specs.Book.{listed_for};
-ghost use Rattle.row_book.specs.Needs.{IsNeed, NeedsFit};
+ghost use Rattle.std.specs.{Prelude.{◌≡◌, ◌<◌, ◌==◌, ◌⊎◌, ◌∷◌, [], ℕ, true, IfOk, length, slice_index_or}, List.{find, flat_map}, Option.{option_copied}};
+ghost use Rattle.row_book.specs.{Book.{listed_for}, Needs.{IsNeed, NeedsFit}};
 ghost use Rattle.suite_compare.specs.Kinds.{alone_in, kernel_in, kernel_verdict, together_in, AreRivals, IsJudge, IsOneClass};
-ghost use Rattle.suite_compare.specs.Bad.{bad_entry, entered_verdict, AreAllBad, AreAllBadTo, AreBad, AreSingles};
-ghost use Rattle.suite_compare.specs.Report.{is_yes};
-ghost use Rattle.suite_compare.specs.Suspects.{AreChoices};
+ghost use Rattle.suite_compare.specs.{Bad.{bad_entry, entered_verdict, AreAllBad, AreAllBadTo, AreBad, AreSingles}, Report.{is_yes}, Suspects.{AreChoices}};
 
 use crate::places::{classes_at, verdict_at};
 use crate::report::is_yes;

@@ -1,13 +1,9 @@
 //! How views are made.
 ghost use Rattle.std.specs.Prelude.{◌≡◌, ◌<◌, ◌≤◌, length, Bool, List, ℕ, None, Some, IfOk, IfErr, OnOk};
-ghost use Rattle.repo_model.specs.Facts.{AreNamedPackages};
-ghost use Rattle.repo_model.specs.FirstFault.{first_fault};
-ghost use Rattle.repo_model.specs.Repository.{suite_repository};
+ghost use Rattle.repo_model.specs.{Facts.{AreNamedPackages}, FirstFault.{first_fault}, Repository.{suite_repository}, Limits.{most_bytes}};
 ghost use Rattle.row_book.specs.Rounds.{limit_at};
-ghost use Rattle.suite_compare.specs.Refusals.{home_in, packages_in, RefusesIndex, RefusesSuite};
-ghost use Rattle.suite_compare.specs.Views.{IsViewOf};
+ghost use Rattle.suite_compare.specs.{Refusals.{home_in, packages_in, RefusesIndex, RefusesSuite}, Views.{IsViewOf}};
 ghost use Rattle.clause_pool.specs.Interned.{IsPool};
-ghost use Rattle.repo_model.specs.Limits.{most_bytes};
 
 use crate::refusals::{LimitError, ViewError};
 use crate::view::SuiteView;

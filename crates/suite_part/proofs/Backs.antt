@@ -1,20 +1,16 @@
 -- Clauses and rows of a part in the numbers of the book.
 use Rattle.std.proofs.Common.{◌≡◌, ℕ, zero, suc, ◌<◌, ◌+◌, ltb, List, [], ◌∷◌, ◌++◌, length, get_or, take, Some, None, inl, inr, sym, ◌∙◌, ap, ap₂, subst, arith}
-use Rattle.std.specs.Prelude.{Option}
-use Rattle.std.specs.List.{slice_set}
-use Rattle.std.proofs.lemmas.Bool.{cases_eq, lt-ltb, ltb-true}
-use Rattle.std.proofs.lemmas.List.{get_or-set_other, get_or-set_same, length-set, map-append, take_more}
+use Rattle.std.proofs.{lemmas.Bool.{cases_eq, lt-ltb, ltb-true}, lemmas.List.{get_or-set_other, get_or-set_same, length-set, map-append, take_more}}
 use Rattle.std.proofs.lemmas.Option.{same_Some}
-use Rattle.clause_pool.specs.Interned.{Interned, clause_at, clauses_at, Kept}
-use Rattle.clause_pool.specs.Lists.{InOrder}
+use Rattle.std.specs.{Prelude.{Option}, List.{slice_set}}
+use Rattle.clause_pool.specs.{Interned.{Interned, clause_at, clauses_at, Kept}, Lists.{InOrder}}
 use Rattle.clause_pool.proofs.Interned.{clauses_kept, kept_along, kept_of_pool}
 use Rattle.clause_families.proofs.Families.{of_pool_push}
 use Rattle.clause_flatten.proofs.LocalRows.{order_there}
 use Rattle.listed.specs.Lists.{Ascending, In, there}
 use Rattle.listed.proofs.Lists.{In_at, In_map_cases}
 use Rattle.suite_part.specs.Apart.{clause_in, clauses_in, number_in, AreBack, IsBack}
-use Rattle.suite_part.proofs.Lefts.{none_some}
-use Rattle.suite_part.proofs.Parted.{FirstInterned}
+use Rattle.suite_part.proofs.{Lefts.{none_some}, Parted.{FirstInterned}}
 
 -- one more number
 pub numbers_more : (numbers places made more : List ℕ) (i x : ℕ) → i < length places → x ≡ number_in numbers (get_or places i 0) → made ≡ clause_in numbers (take i places) → more ≡ made ++ x ∷ [] → more ≡ clause_in numbers (take (i + 1) places)

@@ -1,17 +1,15 @@
 -- The base of the first packages of a book.
 use Rattle.std.proofs.Common.{◌≡◌, ℕ, zero, suc, ◌+◌, ◌-◌, ◌<◌, ◌≤◌, Bool, true, false, List, [], ◌++◌, length, map, replicate, None, inl, inr, refl, sym, ◌∙◌, ap, subst, arith}
-use Rattle.std.proofs.lemmas.Bool.{cases_lt}
-use Rattle.std.proofs.lemmas.List.{get_or_past, length-append, length-map, length-replicate}
-use Rattle.clause_pool.specs.Compacting.{RowsOf}
-use Rattle.clause_pool.specs.Interned.{Interned, row_at}
+use Rattle.std.proofs.{lemmas.Bool.{cases_lt}, lemmas.List.{get_or_past, length-append, length-map, length-replicate}}
+use Rattle.clause_pool.specs.{Compacting.{RowsOf}, Interned.{Interned, row_at}}
 use Rattle.clause_flatten.proofs.TidyFlat.{flat_size}
 use Rattle.listed.specs.Lists.{In}
 use Rattle.listed.proofs.Lists.{In_map, In_map_cases, In_none}
-use Rattle.row_book.specs.{Book.{listed_for, repository_of, Sound}, Flattening.{flat, passes}, Repository.{Repository}, Uses.{uses_of}, declared.book.Book.{Book}}
+use Rattle.row_book.specs.{Book.{listed_for, repository_of, Sound}, Flattening.{flat, passes}, Repository.{Repository}, Uses.{uses_of}}
+use Rattle.row_book.specs.declared.book.Book.{Book}
 use Rattle.row_book.proofs.Users.{length_uses, list_of_uses, user_within}
 use Rattle.suite_part.specs.{BaseRows.{AreBaseRows}, Bases.{first_flags, first_part, FitsIn, IsBase}, Parts.{part, row_in}, declared.base.Base.{Base}}
-use Rattle.suite_part.proofs.PartSound.{conflict_within, made_count}
-use Rattle.suite_part.proofs.Placed.{count_in}
+use Rattle.suite_part.proofs.{PartSound.{conflict_within, made_count}, Placed.{count_in}}
 
 count_none : (m : ℕ) → count_in (replicate m false) ≡ 0
 count_none zero = refl

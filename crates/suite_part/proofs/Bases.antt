@@ -1,13 +1,14 @@
 -- Flags of packages that are not the same in two parts.
 use Rattle.std.proofs.Common.{◌≡◌, ℕ, zero, suc, ◌+◌, ◌-◌, ◌<◌, ◌≤◌, ◌⊎◌, Bool, true, false, not, cond, ltb, List, [], ◌∷◌, ◌++◌, length, get_or, set, map, replicate, inl, inr, refl, sym, ◌∙◌, ap, ap₂, subst, arith}
-use Rattle.std.specs.Prelude.{count_by, IfOk, Result, Ok, Err}
 use Rattle.std.proofs.lemmas.Bool.{both_ways, cases_eq, cases_lt, false_from_ne_true, le-ltb, lt-ltb}
 use Rattle.std.proofs.lemmas.List.{get_or-replicate, get_or-set_other, get_or-set_same, get_or_past, length-append, length-replicate, length-set, map-append}
 use Rattle.std.proofs.lemmas.List.Sums.{sum_by-set}
+use Rattle.std.specs.Prelude.{count_by, IfOk, Result, Ok, Err}
 use Rattle.clause_pool.specs.Interned.{Interned, row_at}
 use Rattle.listed.specs.Lists.{In, has, here}
 use Rattle.listed.proofs.Lists.{In_append_cases, In_append_left, In_append_right, In_at, In_cases, In_has, In_none, any_from}
-use Rattle.row_book.specs.{Book.{listed_for, repository_of, Sound}, Flags.{flag}, Numbers.{numbers}, Uses.{row_holds, row_id, uses_of}, declared.book.Book.{Book}}
+use Rattle.row_book.specs.{Book.{listed_for, repository_of, Sound}, Flags.{flag}, Numbers.{numbers}, Uses.{row_holds, row_id, uses_of}}
+use Rattle.row_book.specs.declared.book.Book.{Book}
 use Rattle.row_book.proofs.{Books.{clauses_row}, Numbers.{numbers_more}, Users.{list_of_uses, user_from}}
 use Rattle.suite_part.specs.Bases.{first_flags, AreChanged, AreElsewhere, Flags, StandsAlike}
 

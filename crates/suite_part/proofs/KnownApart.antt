@@ -1,23 +1,19 @@
 -- Rows of packages of which none is known are those that they have apart, in the numbers of the book.
 use Rattle.std.proofs.Common.{◌≡◌, ◌≢◌, ℕ, ◌<◌, ◌≤◌, Bool, true, false, ◌&&◌, ltb, List, length, map, Some, None, inl, inr, sym, ◌∙◌, ap, subst, arith}
-use Rattle.std.specs.Prelude.{Option, slice_index_or}
-use Rattle.std.specs.List.{list_any}
-use Rattle.std.proofs.lemmas.Bool.{and_from, and_parts, cases_eq, cases_lt, lt-ltb, ltb-true}
-use Rattle.std.proofs.lemmas.List.{get_or_past}
-use Rattle.std.proofs.lemmas.Option.{same_Some}
-use Rattle.clause_pool.specs.Interned.{Interned, row_at, Kept}
-use Rattle.clause_pool.specs.Lists.{InOrder}
+use Rattle.std.proofs.{lemmas.Bool.{and_from, and_parts, cases_eq, cases_lt, lt-ltb, ltb-true}, lemmas.List.{get_or_past}, lemmas.Option.{same_Some}}
+use Rattle.std.specs.{Prelude.{Option, slice_index_or}, List.{list_any}}
+use Rattle.clause_pool.specs.{Interned.{Interned, row_at, Kept}, Lists.{InOrder}}
 use Rattle.clause_pool.proofs.Interned.{row_stays}
 use Rattle.listed.specs.Lists.{In}
-use Rattle.listed.proofs.Bools.{cases_Option, same_bool}
-use Rattle.listed.proofs.Lists.{In_map_cases, any_cases}
-use Rattle.row_book.specs.{Book.{repository_of, Sound}, Flags.{flag}, Flattening.{core_of, flat, has_conflict, passes, remaining_after, row_length}, Repository.{Repository, clauses_of, conflicts_of}, Sets.{NumSet}, Sound.{SoundRepository}, Support.{row}, Uses.{row_id}, declared.book.Book.{Book}}
+use Rattle.listed.proofs.{Bools.{cases_Option, same_bool}, Lists.{In_map_cases, any_cases}}
+use Rattle.row_book.specs.{Book.{repository_of, Sound}, Flags.{flag}, Flattening.{core_of, flat, has_conflict, passes, remaining_after, row_length}}
+use Rattle.row_book.specs.{Repository.{Repository, clauses_of, conflicts_of}, Sets.{NumSet}, Sound.{SoundRepository}, Support.{row}, Uses.{row_id}}
+use Rattle.row_book.specs.declared.book.Book.{Book}
 use Rattle.row_book.proofs.{BookRepositories.{book_size, sound_repository}, Books.{clauses_row}, Flags.{flag_in}}
 use Rattle.clause_flatten.specs.{Beside.{AreKnown, AreNeeded, IsKnownRow}, Locality.{StandsIn}}
 use Rattle.clause_flatten.proofs.{LocalRuns.{flat_is_local_lem, limit_is_local_lem}, TidyFlat.{flat_row, flat_size}}
 use Rattle.suite_part.specs.{Apart.{clauses_in, number_in, numbers_up, AreRowsBack, HasRivals, IsRowBack}, Parts.{part, place_in}}
-use Rattle.suite_part.proofs.Lefts.{none_some}
-use Rattle.suite_part.proofs.Numbered.{clauses_home, number_back, up_count, up_last}
+use Rattle.suite_part.proofs.{Lefts.{none_some}, Numbered.{clauses_home, number_back, up_count, up_last}}
 use Rattle.suite_part.proofs.Placed.{at_place, count_in, place_below, place_rises, HasPlace}
 use Rattle.suite_part.proofs.Standing.{conflict_cases, conflict_from, part_clauses, part_conflict, part_count, rows_order}
 

@@ -1,7 +1,7 @@
 -- The numbers of some packages among all, and among themselves.
 use Rattle.std.proofs.Common.{◌≡◌, ℕ, zero, suc, ◌+◌, Bool, true, false, cond, eqb, List, [], ◌∷◌, length, map, filter, inl, inr, refl, sym, ap, subst, ◌∙◌, arith}
-use Rattle.std.specs.List.{items_where_true, range_with_len}
 use Rattle.std.proofs.lemmas.Bool.{cases_eq, eq-eqb, false≢true, ne_eqb}
+use Rattle.std.specs.List.{items_where_true, range_with_len}
 use Rattle.row_book.specs.Flags.{flag}
 use Rattle.listed.proofs.Lists.{filter_cases, filter_same}
 use Rattle.row_book.proofs.Numbers.{map_same}

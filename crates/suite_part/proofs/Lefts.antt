@@ -1,13 +1,9 @@
 -- Ids of what is left of clauses, and clauses that stand in order already.
 use Rattle.std.proofs.Common.{◌≡◌, ℕ, zero, suc, ◌<◌, Bool, List, [], ◌∷◌, ◌++◌, length, get_or, Some, None, inl, inr, refl, sym, ◌∙◌, ap, subst, arith}
-use Rattle.std.specs.Prelude.{Option, Result, Ok, Err, OnOk}
-use Rattle.std.specs.List.{slice_set}
-use Rattle.std.proofs.lemmas.Bool.{cases_eq}
-use Rattle.std.proofs.lemmas.List.{get_or_default, get_or-set_other, get_or-set_same, length-set}
-use Rattle.std.proofs.lemmas.Option.{same_Some}
+use Rattle.std.proofs.{lemmas.Bool.{cases_eq}, lemmas.List.{get_or_default, get_or-set_other, get_or-set_same, length-set}, lemmas.Option.{same_Some}}
+use Rattle.std.specs.{Prelude.{Option, Result, Ok, Err, OnOk}, List.{slice_set}}
 use Rattle.listed.proofs.Lists.{In_cases, In_none}
-use Rattle.clause_pool.specs.Interned.{Interned, clause_at, clauses_at, Kept}
-use Rattle.clause_pool.specs.Lists.{Before, InOrder}
+use Rattle.clause_pool.specs.{Interned.{Interned, clause_at, clauses_at, Kept}, Lists.{Before, InOrder}}
 use Rattle.clause_pool.proofs.Order.{before_trans}
 use Rattle.clause_families.proofs.Families.{clauses_item, clauses_length}
 use Rattle.suite_part.specs.Left.{AreLeft, IsLeft}

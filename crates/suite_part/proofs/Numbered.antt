@@ -1,15 +1,13 @@
 -- The numbers of the packages whose flags are up.
 use Rattle.std.proofs.Common.{◌≡◌, ℕ, suc, ◌+◌, Bool, true, false, cond, List, [], ◌∷◌, length, get_or, map, filter, refl, sym, ◌∙◌, ap, ap₂, arith}
+use Rattle.std.proofs.{lemmas.List.FromFn.{get_or-range_with_len, length-range_with_len}, lemmas.List.{take_all}}
 use Rattle.std.specs.List.{items_where_true, range_with_len}
-use Rattle.std.proofs.lemmas.List.FromFn.{get_or-range_with_len, length-range_with_len}
-use Rattle.std.proofs.lemmas.List.{take_all}
 use Rattle.listed.specs.Lists.{Ascending, In, here, there}
 use Rattle.listed.proofs.Orders.{ascending_filter}
 use Rattle.repo_model.proofs.Elements.{range_ascending}
 use Rattle.row_book.specs.Flags.{flag}
 use Rattle.row_book.proofs.Flags.{flag_in}
-use Rattle.suite_part.specs.Apart.{clause_in, clauses_in, number_in, numbers_up}
-use Rattle.suite_part.specs.Parts.{place_in}
+use Rattle.suite_part.specs.{Apart.{clause_in, clauses_in, number_in, numbers_up}, Parts.{place_in}}
 use Rattle.suite_part.proofs.Placed.{count_in, chosen_count, chosen_item}
 
 -- a test that tells the flags picks the same numbers as the flags

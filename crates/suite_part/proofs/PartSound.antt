@@ -1,15 +1,11 @@
 -- The part of a sound repository is sound.
 use Rattle.std.proofs.Common.{◌≡◌, ℕ, ◌<◌, Bool, true, false, List, [], length, slice_index_or, map, inl, inr, sym, ◌∙◌, ap, subst, arith}
+use Rattle.std.proofs.{lemmas.Bool.{both_ways, cases_lt}, lemmas.List.{get_or-map, get_or_past, length-map}}
 use Rattle.std.specs.List.{items_where_true}
-use Rattle.std.proofs.lemmas.Bool.{both_ways, cases_lt}
-use Rattle.std.proofs.lemmas.List.{get_or-map, get_or_past, length-map}
 use Rattle.listed.specs.Lists.{In, has, Ascending}
 use Rattle.listed.proofs.Lists.{In_has, In_map_cases, has_In, has_not}
 use Rattle.clause_pool.proofs.Order.{ordered_parts}
-use Rattle.row_book.specs.Book.{listed_for, AreConflicts}
-use Rattle.row_book.specs.declared.book.Book.{Book}
-use Rattle.row_book.specs.Flags.{flag}
-use Rattle.row_book.specs.Repository.{Repository, clauses_of}
+use Rattle.row_book.specs.{Book.{listed_for, AreConflicts}, declared.book.Book.{Book}, Flags.{flag}, Repository.{Repository, clauses_of}}
 use Rattle.row_book.specs.Sound.{SoundRepository}
 use Rattle.row_book.proofs.Books.{in_listed}
 use Rattle.suite_part.specs.Parts.{chosen_in, part, place_in, row_in}

@@ -1,28 +1,18 @@
 -- Rows that are made of those of chosen packages, one after another, while the pool grows.
 use Rattle.std.proofs.Common.{◌≡◌, ℕ, ◌<◌, ◌≤◌, ◌+◌, Bool, true, false, List, [], ◌∷◌, ◌++◌, length, get_or, take, map, inl, inr, sym, ◌∙◌, ap, ap₂, subst, arith}
-use Rattle.std.specs.List.{items_where_true}
 use Rattle.std.proofs.lemmas.List.{length-map, map-append, take_more}
-use Rattle.clause_pool.specs.Clauses.{in_row_order}
-use Rattle.clause_pool.specs.Compacting.{RowsOf}
-use Rattle.clause_pool.specs.Interned.{Interned, clause_at, clauses_at, row_at, IsIdOf, IsPool, Kept, OfPool}
+use Rattle.std.specs.List.{items_where_true}
+use Rattle.clause_pool.specs.{Clauses.{in_row_order}, Compacting.{RowsOf}, Interned.{Interned, clause_at, clauses_at, row_at, IsIdOf, IsPool, Kept, OfPool}}
 use Rattle.clause_pool.specs.Lists.{InOrder}
-use Rattle.clause_pool.proofs.Interned.{clauses_kept, kept_along, kept_of_pool, kept_same}
-use Rattle.clause_pool.proofs.Order.{order_same, ordered_has, ordered_order, ordered_parts}
+use Rattle.clause_pool.proofs.{Interned.{clauses_kept, kept_along, kept_of_pool, kept_same}, Order.{order_same, ordered_has, ordered_order, ordered_parts}}
 use Rattle.clause_families.specs.Families.{SameClauses}
 use Rattle.clause_families.proofs.Families.{At, of_pool_push, taken_at}
 use Rattle.listed.specs.Lists.{In, Ascending}
 use Rattle.listed.proofs.Lists.{In_append_cases, In_cases, In_none, In_map_cases, filter_short}
-use Rattle.row_book.specs.Book.{repository_of, Sound}
-use Rattle.row_book.specs.Repository.{Repository}
-use Rattle.row_book.specs.Sound.{SoundRepository}
-use Rattle.row_book.specs.declared.book.Book.{Book}
-use Rattle.row_book.proofs.BookRepositories.{book_size, sound_book, sound_repository}
-use Rattle.row_book.proofs.Books.{rows_kept_by}
-use Rattle.row_book.proofs.Repositories.{repository_same}
-use Rattle.suite_part.specs.Left.{IsLeft}
-use Rattle.suite_part.specs.Parts.{chosen_in, part, row_in}
-use Rattle.suite_part.proofs.PartSound.{made_count, part_sound}
-use Rattle.suite_part.proofs.Placed.{count_in, made_less, made_more}
+use Rattle.row_book.specs.{Book.{repository_of, Sound}, Repository.{Repository}, Sound.{SoundRepository}, declared.book.Book.{Book}}
+use Rattle.row_book.proofs.{BookRepositories.{book_size, sound_book, sound_repository}, Books.{rows_kept_by}, Repositories.{repository_same}}
+use Rattle.suite_part.specs.{Left.{IsLeft}, Parts.{chosen_in, part, row_in}}
+use Rattle.suite_part.proofs.{PartSound.{made_count, part_sound}, Placed.{count_in, made_less, made_more}}
 
 -- a family in order is that of its clauses
 pub same_order : (all family : List (List ℕ)) → SameClauses all family → InOrder family → family ≡ in_row_order all

@@ -1,15 +1,11 @@
 -- The places of chosen packages among the chosen ones, and the items of a list at them.
 use Rattle.std.proofs.Common.{◌≡◌, ℕ, zero, suc, ◌<◌, ◌+◌, Bool, true, false, cond, List, [], ◌∷◌, ◌++◌, length, get_or, take, map, filter, inl, inr, refl, sym, ◌∙◌, ap, ap₂, subst, arith, add-one, append-nil}
-use Rattle.std.specs.List.{items_where_true}
-use Rattle.std.proofs.lemmas.Bool.{cases_eq, cases_lt, false≢true}
-use Rattle.std.proofs.lemmas.List.{map-append}
-use Rattle.std.proofs.lemmas.List.Elements.{filter_more}
+use Rattle.std.proofs.{lemmas.Bool.{cases_eq, cases_lt, false≢true}, lemmas.List.{map-append}, lemmas.List.Elements.{filter_more}}
 use Rattle.std.proofs.lemmas.List.Filters.{length-filter_more}
+use Rattle.std.specs.List.{items_where_true}
 use Rattle.listed.specs.Lists.{In, here, there, Ascending}
-use Rattle.listed.proofs.Lists.{In_map, In_map_cases, filter_cases, filter_from}
-use Rattle.listed.proofs.Orders.{ascending_filter}
-use Rattle.row_book.specs.Flags.{flag}
-use Rattle.row_book.specs.Numbers.{numbers}
+use Rattle.listed.proofs.{Lists.{In_map, In_map_cases, filter_cases, filter_from}, Orders.{ascending_filter}}
+use Rattle.row_book.specs.{Flags.{flag}, Numbers.{numbers}}
 use Rattle.row_book.proofs.Numbers.{at_numbers, length_numbers, numbers_more}
 use Rattle.suite_part.specs.Parts.{chosen_in, place_in}
 

@@ -1,13 +1,10 @@
 -- Of some packages that have conflicts, one that each conflicts with.
 use Rattle.std.proofs.Common.{◌≡◌, ℕ, ◌<◌, ◌≤◌, ◌+◌, Bool, true, false, List, [], ◌∷◌, length, set, Some, inl, inr, sym, ◌∙◌, ap, subst, arith}
+use Rattle.std.proofs.{lemmas.Bool.{both_ways, cases_eq}, lemmas.List.{get_or-set_same}, lemmas.Option.{same_Some}}
 use Rattle.std.specs.List.{list_any, slice_get}
-use Rattle.std.proofs.lemmas.Bool.{both_ways, cases_eq}
-use Rattle.std.proofs.lemmas.List.{get_or-set_same}
-use Rattle.std.proofs.lemmas.Option.{same_Some}
 use Rattle.listed.specs.Lists.{In, here}
 use Rattle.listed.proofs.Lists.{any_cases, any_from}
-use Rattle.row_book.specs.Book.{listed_for}
-use Rattle.row_book.specs.Flags.{flag}
+use Rattle.row_book.specs.{Book.{listed_for}, Flags.{flag}}
 use Rattle.row_book.proofs.Flags.{flag_in}
 use Rattle.suite_part.specs.Apart.{HasRivals}
 use Rattle.suite_part.proofs.Lefts.{none_some}

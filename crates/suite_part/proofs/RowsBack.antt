@@ -1,8 +1,7 @@
 -- The rows of packages whose rows were not known, one after another, while the pool grows.
 use Rattle.std.proofs.Common.{◌≡◌, ℕ, zero, suc, ◌+◌, ◌<◌, List, [], ◌∷◌, ◌++◌, Bool, length, get_or, slice_index_or, Some, None, inl, inr, refl, sym, ◌∙◌, ap, subst, arith}
+use Rattle.std.proofs.{lemmas.Bool.{cases_eq, cases_lt}, lemmas.List.{get_or_default, get_or_past, length_push}}
 use Rattle.std.specs.Prelude.{Option}
-use Rattle.std.proofs.lemmas.Bool.{cases_eq, cases_lt}
-use Rattle.std.proofs.lemmas.List.{get_or_default, get_or_past, length_push}
 use Rattle.clause_pool.specs.Interned.{Interned, IsPool, Kept}
 use Rattle.clause_pool.proofs.Interned.{kept_along, kept_same, row_stays}
 use Rattle.suite_part.specs.Apart.{AreRowsBack, IsRowBack}

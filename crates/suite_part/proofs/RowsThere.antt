@@ -1,14 +1,12 @@
 -- The rows of a base for the packages of another part, one after another, while the pool grows.
 use Rattle.std.proofs.Common.{◌≡◌, ℕ, zero, suc, ◌+◌, ◌<◌, Bool, true, false, List, [], ◌∷◌, ◌++◌, length, get_or, slice_index_or, None, inl, inr, refl, sym, ◌∙◌, ap, subst, arith, cond}
+use Rattle.std.proofs.{lemmas.Bool.{both_ways, cases_eq}, lemmas.List.{length_push}}
 use Rattle.std.specs.Prelude.{Option}
-use Rattle.std.proofs.lemmas.Bool.{both_ways, cases_eq}
-use Rattle.std.proofs.lemmas.List.{length_push}
 use Rattle.clause_pool.specs.Interned.{Interned, IsPool, Kept}
 use Rattle.clause_pool.proofs.Interned.{kept_along, kept_same, row_stays}
 use Rattle.row_book.specs.Flags.{flag}
 use Rattle.row_book.proofs.Flags.{flag_in}
-use Rattle.suite_part.specs.Bases.{AreRowsThere, IsRowThere}
-use Rattle.suite_part.specs.Parts.{place_in}
+use Rattle.suite_part.specs.{Bases.{AreRowsThere, IsRowThere}, Parts.{place_in}}
 use Rattle.suite_part.proofs.Placed.{place_more, place_rises}
 
 -- one more item

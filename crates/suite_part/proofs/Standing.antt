@@ -1,37 +1,22 @@
 -- Packages of a base that stand as they are in the part of the chosen ones: their rows there are known.
 use Rattle.std.proofs.Common.{◌≡◌, ℕ, zero, suc, ◌<◌, ◌≤◌, ◌+◌, ◌-◌, Bool, true, false, not, ◌&&◌, ◌||◌, cond, ltb, List, [], ◌∷◌, ◌++◌, length, map, filter, Some, None, inl, inr, refl, sym, ◌∙◌, ap, ap₂, subst, arith}
-use Rattle.std.specs.Prelude.{Option, replicate, slice_index_or}
-use Rattle.std.specs.List.{list_any}
 use Rattle.std.proofs.lemmas.Bool.{and_from, and_parts, cases_Bool, cases_lt, le-ltb, lt-ltb, ltb-true, not-true, not_from_false, or_cases, or_left}
-use Rattle.std.proofs.lemmas.List.{get_or-map, get_or_past, length-map, take_all}
-use Rattle.std.proofs.lemmas.Option.{same_Some}
-use Rattle.std.proofs.lemmas.Simd.{map-map}
-use Rattle.clause_pool.specs.Clauses.{in_row_order}
-use Rattle.clause_pool.specs.Interned.{Interned, row_at}
-use Rattle.clause_pool.specs.Lists.{InOrder}
+use Rattle.std.proofs.{lemmas.List.{get_or-map, get_or_past, length-map, take_all}, lemmas.Option.{same_Some}, lemmas.Simd.{map-map}}
+use Rattle.std.specs.{Prelude.{Option, replicate, slice_index_or}, List.{list_any}}
+use Rattle.clause_pool.specs.{Clauses.{in_row_order}, Interned.{Interned, row_at}, Lists.{InOrder}}
 use Rattle.clause_pool.proofs.Order.{ordered_has, ordered_order, ordered_parts}
 use Rattle.listed.specs.Lists.{In, here, there}
-use Rattle.listed.proofs.Bools.{same_bool}
-use Rattle.listed.proofs.Lists.{In_at, In_has, In_map, In_map_cases, any_cases, any_from, filter_cases, filter_same, has_In}
-use Rattle.row_book.specs.declared.book.Book.{Book}
-use Rattle.row_book.specs.Book.{repository_of, Sound}
-use Rattle.row_book.specs.Flags.{flag}
+use Rattle.listed.proofs.{Bools.{same_bool}, Lists.{In_at, In_has, In_map, In_map_cases, any_cases, any_from, filter_cases, filter_same, has_In}}
+use Rattle.row_book.specs.{declared.book.Book.{Book}, Book.{repository_of, Sound}, Flags.{flag}}
 use Rattle.row_book.specs.Flattening.{core_of, has_conflict, packages, remaining_after, row_length}
-use Rattle.row_book.specs.Repository.{Repository, against, clauses_of, conflicts_of}
-use Rattle.row_book.specs.Sets.{NumSet}
-use Rattle.row_book.specs.Sound.{SoundRepository}
-use Rattle.row_book.specs.Support.{row}
-use Rattle.row_book.specs.Uses.{row_id}
+use Rattle.row_book.specs.{Repository.{Repository, against, clauses_of, conflicts_of}, Sets.{NumSet}, Sound.{SoundRepository}, Support.{row}, Uses.{row_id}}
 use Rattle.row_book.proofs.{BookRepositories.{book_size, sound_repository}, Books.{clauses_row}, Flags.{flag_in}, Repositories.{between, in_packages}}
-use Rattle.clause_flatten.specs.Beside.{AreKnown, IsKnownRow}
-use Rattle.clause_flatten.specs.Locality.{StandsIn}
-use Rattle.clause_flatten.proofs.{LocalRows.{order_there}, LocalRuns.{flat_is_local_lem, flat_stays, limit_is_local_lem}, Tables.{row_order}, TidyFlat.{flat_row, flat_size}}
-use Rattle.suite_part.specs.declared.base.Base.{Base}
-use Rattle.suite_part.specs.Bases.{first_flags, first_part, AreChanged, AreElsewhere, AreRowsThere, IsBase, IsRowThere, StaysAs}
+use Rattle.clause_flatten.specs.{Beside.{AreKnown, IsKnownRow}, Locality.{StandsIn}}
+use Rattle.clause_flatten.proofs.{LocalRows.{order_there}, LocalRuns.{flat_is_local_lem, flat_stays, limit_is_local_lem}, Tables.{row_order}}
+use Rattle.clause_flatten.proofs.TidyFlat.{flat_row, flat_size}
+use Rattle.suite_part.specs.{declared.base.Base.{Base}, Bases.{first_flags, first_part, AreChanged, AreElsewhere, AreRowsThere, IsBase, IsRowThere, StaysAs}}
 use Rattle.suite_part.specs.Parts.{chosen_in, part, place_in, row_in}
-use Rattle.suite_part.proofs.Lefts.{none_some}
-use Rattle.suite_part.proofs.Parted.{ordered_already, same_order}
-use Rattle.suite_part.proofs.PartSound.{made_at, made_count, part_sound}
+use Rattle.suite_part.proofs.{Lefts.{none_some}, Parted.{ordered_already, same_order}, PartSound.{made_at, made_count, part_sound}}
 use Rattle.suite_part.proofs.Placed.{count_in, at_place, chosen_cases, chosen_from, place_below, place_rises, HasPlace, IsChosen}
 
 -- the flags of the first packages

@@ -1,12 +1,9 @@
 -- for the bodies of this crate alone
 -- Rows that were made in a part of a book, in the numbers of the book.
-use Rattle.std.specs.Prelude.{◌≡◌, ℕ, ◌<◌, Bool, true, List, Option, Some, None, filter, length, map, slice_index_or}
-use Rattle.std.specs.List.{list_any, range_with_len}
+use Rattle.std.specs.{Prelude.{◌≡◌, ℕ, ◌<◌, Bool, true, List, Option, Some, None, filter, length, map, slice_index_or}, List.{list_any, range_with_len}}
 use Rattle.clause_pool.specs.Interned.{Interned, clause_at, row_at}
 use Rattle.listed.specs.Lists.{In}
-use Rattle.row_book.specs.Book.{listed_for}
-use Rattle.row_book.specs.Flags.{flag}
-use Rattle.row_book.specs.Uses.{row_id}
+use Rattle.row_book.specs.{Book.{listed_for}, Flags.{flag}, Uses.{row_id}}
 use Rattle.suite_part.specs.Parts.{place_in}
 
 -- all that had flags have them, and for each of these that has conflicts at least one package that it conflicts with

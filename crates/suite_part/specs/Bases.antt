@@ -3,14 +3,9 @@ use Rattle.std.specs.Prelude.{◌≡◌, ℕ, ◌<◌, ◌≤◌, ◌-◌, ◌�
 use Rattle.std.specs.List.{list_any}
 use Rattle.clause_pool.specs.Interned.{Interned, row_at}
 use Rattle.listed.specs.Lists.{In}
-use Rattle.row_book.specs.declared.book.Book.{Book}
-use Rattle.row_book.specs.Book.{listed_for, repository_of}
-use Rattle.row_book.specs.Flags.{flag}
-use Rattle.row_book.specs.Flattening.{flat, passes}
-use Rattle.row_book.specs.Repository.{Repository, clauses_of}
-use Rattle.row_book.specs.Uses.{row_id, uses_of}
-use Rattle.suite_part.specs.Parts.{part, place_in, row_in}
-use Rattle.suite_part.specs.declared.base.Base.{Base}
+use Rattle.row_book.specs.{declared.book.Book.{Book}, Book.{listed_for, repository_of}, Flags.{flag}, Flattening.{flat, passes}}
+use Rattle.row_book.specs.{Repository.{Repository, clauses_of}, Uses.{row_id, uses_of}}
+use Rattle.suite_part.specs.{Parts.{part, place_in, row_in}, declared.base.Base.{Base}}
 
 -- the flags of the first packages
 abbrev pub first_flags : ℕ → ℕ → List Bool

@@ -1,10 +1,8 @@
 -- The part of a repository that some of its packages make: these alone, in their order and numbered anew, with what is left of
 -- their clauses and conflicts.
-use Rattle.std.specs.Prelude.{ℕ, Bool, List, map, filter, length, take}
-use Rattle.std.specs.List.{items_where_true}
+use Rattle.std.specs.{Prelude.{ℕ, Bool, List, map, filter, length, take}, List.{items_where_true}}
 use Rattle.clause_pool.specs.Clauses.{in_row_order}
-use Rattle.row_book.specs.Flags.{flag}
-use Rattle.row_book.specs.Repository.{Repository}
+use Rattle.row_book.specs.{Flags.{flag}, Repository.{Repository}}
 
 -- the number of a package among those whose flags are up: so many of them come before it
 abbrev pub place_in : List Bool → ℕ → ℕ

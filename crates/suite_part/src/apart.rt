@@ -1,17 +1,12 @@
 //! Rows of packages of which none is known yet. They are flattened apart, in a small book that has them, all that they need, and for each of these
 //! that has conflicts one rival, which it conflicts with: elimination is local, and asks of a conflict only whether there is one. A rival comes
 //! without its own needs, so its row there is not its row in the book, and is not taken back.
-ghost use Rattle.std.specs.Prelude.{◌≡◌, ◌≢◌, ◌<◌, ℕ, Bool, List, true, false, None, Some, IfOk, OnOk, length, slice_index_or};
-ghost use Rattle.std.specs.List.{list_any};
+ghost use Rattle.std.specs.{Prelude.{◌≡◌, ◌≢◌, ◌<◌, ℕ, Bool, List, true, false, None, Some, IfOk, OnOk, length, slice_index_or}, List.{list_any}};
 ghost use Rattle.clause_flatten.specs.Beside.{AreKnown};
-ghost use Rattle.clause_pool.specs.Interned.{clause_at, clauses_at, row_at, IsPool, Kept, OfPool};
-ghost use Rattle.clause_pool.specs.Lists.{InOrder};
+ghost use Rattle.clause_pool.specs.{Interned.{clause_at, clauses_at, row_at, IsPool, Kept, OfPool}, Lists.{InOrder}};
 ghost use Rattle.listed.specs.Lists.{Ascending, In};
-ghost use Rattle.row_book.specs.Book.{repository_of, AreConflicts, Sound};
-ghost use Rattle.row_book.specs.Flags.{flag};
-ghost use Rattle.suite_part.specs.Apart.{clause_in, clauses_in, AreBack, AreRowsBack, HasRivals, IsBack};
-ghost use Rattle.row_book.specs.Flattening.{passes};
-ghost use Rattle.suite_part.specs.Parts.{part, place_in};
+ghost use Rattle.row_book.specs.{Book.{repository_of, AreConflicts, Sound}, Flags.{flag}, Flattening.{passes}};
+ghost use Rattle.suite_part.specs.{Apart.{clause_in, clauses_in, AreBack, AreRowsBack, HasRivals, IsBack}, Parts.{part, place_in}};
 
 use crate::chosen::Chosen;
 use crate::part::part_of;

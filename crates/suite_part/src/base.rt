@@ -28,20 +28,13 @@ pub struct Base {
 }
 
 impl Base {
-    ghost use Rattle.std.specs.Prelude.{◌≡◌, ◌<◌, ◌≤◌, ℕ, true, false, None, IfOk, OnOk, length, ltb};
-    ghost use Rattle.std.specs.Bool.{OnFalse};
-    ghost use Rattle.std.specs.List.{list_any};
-    ghost use Rattle.std.specs.Option.{ForSome};
+    ghost use Rattle.std.specs.{Prelude.{◌≡◌, ◌<◌, ◌≤◌, ℕ, true, false, None, IfOk, OnOk, length, ltb}, Bool.{OnFalse}, List.{list_any}, Option.{ForSome}};
     ghost use Rattle.clause_pool.specs.Interned.{Interned, IsPool, Kept};
     ghost use Rattle.clause_flatten.specs.Beside.{AreKnown};
     ghost use Rattle.listed.specs.Lists.{In};
-    ghost use Rattle.row_book.specs.Book.{listed_for, repository_of, Sound};
-    ghost use Rattle.row_book.specs.Flags.{flag};
-    ghost use Rattle.row_book.specs.Flattening.{passes};
-    ghost use Rattle.row_book.specs.Uses.{uses_of};
+    ghost use Rattle.row_book.specs.{Book.{listed_for, repository_of, Sound}, Flags.{flag}, Flattening.{passes}, Uses.{uses_of}};
     ghost use Rattle.suite_part.specs.Bases.{first_part, AreChanged, AreElsewhere, AreRowsThere, FitsIn, Flags, IsBase, IsRowThere, StandsAlike};
-    ghost use Rattle.suite_part.specs.Left.{AreLeft};
-    ghost use Rattle.suite_part.specs.Parts.{part};
+    ghost use Rattle.suite_part.specs.{Left.{AreLeft}, Parts.{part}};
 
     /// The base of the first packages of a book, so many, without hold; none where one of their rows has more clauses than the limit allows
     /// at some stage of flattening.

@@ -1,9 +1,7 @@
 //! Some packages of a book.
-ghost use Rattle.std.specs.Prelude.{◌≡◌, ◌<◌, ◌+◌, ℕ, cond, length, map, IfOk, OnOk};
-ghost use Rattle.std.specs.List.{list_any};
+ghost use Rattle.std.specs.{Prelude.{◌≡◌, ◌<◌, ◌+◌, ℕ, cond, length, map, IfOk, OnOk}, List.{list_any}};
 ghost use Rattle.listed.specs.Lists.{In};
-ghost use Rattle.row_book.specs.Flags.{flag};
-ghost use Rattle.row_book.specs.Numbers.{numbers};
+ghost use Rattle.row_book.specs.{Flags.{flag}, Numbers.{numbers}};
 ghost use Rattle.suite_part.specs.Parts.{chosen_in, place_in};
 
 use std::alloc::{AllocError, Global};

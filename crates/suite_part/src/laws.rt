@@ -1,7 +1,6 @@
 //! The laws of parts.
 ghost use Rattle.std.specs.Prelude.{◌≡◌, Bool, List, length};
-ghost use Rattle.relation_fields.specs.declared.packages.Home.{Home};
-ghost use Rattle.relation_fields.specs.declared.packages.PackageFacts.{PackageFacts};
+ghost use Rattle.relation_fields.specs.{declared.packages.Home.{Home}, declared.packages.PackageFacts.{PackageFacts}};
 ghost use Rattle.suite_part.specs.Laws.{NamesArePart, PartIsExact};
 
 /// The repository of some packages of an index is that part of the repository of all.

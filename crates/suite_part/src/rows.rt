@@ -2,14 +2,10 @@
 //!
 //! What is left of a clause is made once, and its id is kept for the other rows that have the clause. Most rows stay in order when
 //! their clauses lose packages; the others are put in order.
-ghost use Rattle.std.specs.Prelude.{◌≡◌, ◌<◌, ℕ, List, None, length, map, slice_index_or, IfOk, OnOk};
-ghost use Rattle.std.specs.Bool.{OnTrue};
-ghost use Rattle.clause_pool.specs.Clauses.{in_row_order};
-ghost use Rattle.clause_pool.specs.Interned.{clause_at, clauses_at, row_at, IsPool, Kept, OfPool};
-ghost use Rattle.clause_pool.specs.Lists.{InOrder};
+ghost use Rattle.std.specs.{Prelude.{◌≡◌, ◌<◌, ℕ, List, None, length, map, slice_index_or, IfOk, OnOk}, Bool.{OnTrue}};
+ghost use Rattle.clause_pool.specs.{Clauses.{in_row_order}, Interned.{clause_at, clauses_at, row_at, IsPool, Kept, OfPool}, Lists.{InOrder}};
 ghost use Rattle.listed.specs.Lists.{Ascending, In};
-ghost use Rattle.suite_part.specs.Left.{AreLeft, IsLeft};
-ghost use Rattle.suite_part.specs.Parts.{chosen_in, row_in};
+ghost use Rattle.suite_part.specs.{Left.{AreLeft, IsLeft}, Parts.{chosen_in, row_in}};
 
 use crate::chosen::Chosen;
 use clause_families::{Clause, put_in_order};

@@ -3,13 +3,10 @@ use Rattle.std.proofs.Common.{◌≡◌, ℕ, zero, suc, List, [], ◌∷◌, �
 use Rattle.std.specs.Prelude.{slice_get}
 use Rattle.listed.specs.Lists.{In}
 use Rattle.listed.proofs.Lists.{In_append_cases, In_cases, In_none}
-use Rattle.relation_fields.specs.declared.packages.PackageFacts.{PackageFacts}
-use Rattle.relation_fields.specs.declared.relations.Provide.{Provide}
-use Rattle.package_register.specs.Registers.{Grows, IsFound}
-use Rattle.package_register.specs.declared.register.Register.{Register}
+use Rattle.relation_fields.specs.{declared.packages.PackageFacts.{PackageFacts}, declared.relations.Provide.{Provide}}
+use Rattle.package_register.specs.{Registers.{Grows, IsFound}, declared.register.Register.{Register}}
 use Rattle.package_register.proofs.Registered.{found_later, got_more, none_registered, one_registered}
-use Rattle.virtual_provides.specs.Bearers.{own_name, own_version, IsBuiltFrom}
-use Rattle.virtual_provides.specs.declared.names.NameTable.{NameTable}
+use Rattle.virtual_provides.specs.{Bearers.{own_name, own_version, IsBuiltFrom}, declared.names.NameTable.{NameTable}}
 
 -- no packages
 pub none_built : (table : NameTable) → IsBuiltFrom [] table

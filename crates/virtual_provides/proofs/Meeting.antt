@@ -1,27 +1,16 @@
 -- A package that meets an atom is found under the atom's name, and in an equal version where the atom asks for one exactly.
 use Rattle.std.proofs.Common.{◌≡◌, ℕ, true, false, List, Option, Some, None, Result, Ok, Err, IfOk, inl, inr, refl, sym, ap, subst, ◌∙◌}
-use Rattle.std.specs.Prelude.{slice_get}
-use Rattle.std.specs.List.{list_any}
-use Rattle.std.specs.Option.{option_and_then, option_map_or}
-use Rattle.std.specs.Ordering.{is_eq}
 use Rattle.std.proofs.lemmas.Bool.{and_parts, or_cases, false≢true}
-use Rattle.deb_version.specs.Grammar.{is_version}
-use Rattle.deb_version.specs.Order.{version_order}
+use Rattle.std.specs.{Prelude.{slice_get}, List.{list_any}, Option.{option_and_then, option_map_or}, Ordering.{is_eq}}
+use Rattle.deb_version.specs.{Grammar.{is_version}, Order.{version_order}}
 use Rattle.listed.specs.Lists.{In, has}
 use Rattle.listed.proofs.Lists.{any_cases, same_bytes}
-use Rattle.relation_fields.specs.Meeting.{wants, meets, fits, fits_provided, is_met_by_name, is_provided_by}
-use Rattle.relation_fields.specs.declared.packages.Home.{Home}
-use Rattle.relation_fields.specs.declared.packages.PackageFacts.{PackageFacts}
-use Rattle.relation_fields.specs.declared.relations.Atom.{Atom}
-use Rattle.relation_fields.specs.declared.relations.Bound.{Bound}
-use Rattle.relation_fields.specs.declared.relations.Op.{Op}
-use Rattle.relation_fields.specs.declared.relations.Op.TheVariants.{Earlier, EarlierEqual, Exactly, LaterEqual, Later}
+use Rattle.relation_fields.specs.{Meeting.{wants, meets, fits, fits_provided, is_met_by_name, is_provided_by}, declared.packages.Home.{Home}}
+use Rattle.relation_fields.specs.{declared.packages.PackageFacts.{PackageFacts}, declared.relations.Atom.{Atom}, declared.relations.Bound.{Bound}}
+use Rattle.relation_fields.specs.{declared.relations.Op.{Op}, declared.relations.Op.TheVariants.{Earlier, EarlierEqual, Exactly, LaterEqual, Later}}
 use Rattle.relation_fields.specs.declared.relations.Provide.{Provide}
-use Rattle.package_register.specs.Numbers.{passes_at}
-use Rattle.package_register.specs.Registers.{numbers_exact, numbers_named, AreCandidates}
-use Rattle.package_register.specs.declared.register.Register.{Register}
-use Rattle.virtual_provides.specs.Bearers.{exact_version, version_asked, AreFor, IsBuiltFrom}
-use Rattle.virtual_provides.specs.declared.names.NameTable.{NameTable}
+use Rattle.package_register.specs.{Numbers.{passes_at}, Registers.{numbers_exact, numbers_named, AreCandidates}, declared.register.Register.{Register}}
+use Rattle.virtual_provides.specs.{Bearers.{exact_version, version_asked, AreFor, IsBuiltFrom}, declared.names.NameTable.{NameTable}}
 
 fits_asked : (op : Op) (asked version own : List ℕ) → version_asked op asked ≡ Some version → wants op (version_order own asked) ≡ true → is_eq (version_order own version) ≡ true
 fits_asked Earlier asked version own e h = cc

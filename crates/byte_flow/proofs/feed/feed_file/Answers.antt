@@ -1,11 +1,8 @@
-use Rattle.std.proofs.Common.{◌≡◌, ◌+◌, ℕ, List, [], ◌++◌, length, take, Option, Ok, refl, sym, ap, arith, rules}
-use Rattle.std.specs.Io.KnownBytes.{Consumes}
-use Rattle.std.proofs.lemmas.Grind.{common_steps}
+use Rattle.std.proofs.{Common.{◌≡◌, ◌+◌, ℕ, List, [], ◌++◌, length, take, Option, Ok, refl, sym, ap, arith, rules}, lemmas.Grind.{common_steps}}
 use Rattle.std.proofs.lemmas.List.{length-take}
-use Rattle.byte_flow.specs.Flow.{Files}
-use Rattle.byte_flow.specs.Transfer.{started}
-use Rattle.byte_flow.proofs.ReadingSteps.{memory_ends, one_more, passes, told_at_start, told_after}
-use Rattle.byte_flow.proofs.feed.feed_file.Invariants.{IsFedSoFar}
+use Rattle.std.specs.Io.KnownBytes.{Consumes}
+use Rattle.byte_flow.specs.{Flow.{Files}, Transfer.{started}}
+use Rattle.byte_flow.proofs.{ReadingSteps.{memory_ends, one_more, passes, told_at_start, told_after}, feed.feed_file.Invariants.{IsFedSoFar}}
 use Rattle.byte_flow.proofs.feed.feed_file.Goals as goal
 
 -- what one more read gave was given on to the taker

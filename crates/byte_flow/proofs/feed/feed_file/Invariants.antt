@@ -1,6 +1,5 @@
 use Rattle.std.proofs.Common.{◌≡◌, ◌+◌, ◌-◌, ◌≤◌, ℕ, List, [], length, Option}
-use Rattle.byte_flow.specs.Flow.{Files}
-use Rattle.byte_flow.specs.Transfer.{Reached}
+use Rattle.byte_flow.specs.{Flow.{Files}, Transfer.{Reached}}
 use Rattle.byte_flow.proofs.ReadingSteps.{IsReadSoFar}
 use Rattle.byte_flow.proofs.feed.feed_file.Given as goal
 

@@ -1,6 +1,4 @@
-use Rattle.std.proofs.Common.{◌≡◌, ◌+◌, ◌++◌, length, take, Ok, refl, sym, ap, ◌∙◌, arith, rules}
-use Rattle.std.proofs.lemmas.Grind.{common_steps}
-use Rattle.std.proofs.lemmas.List.{length-append}
+use Rattle.std.proofs.{Common.{◌≡◌, ◌+◌, ◌++◌, length, take, Ok, refl, sym, ap, ◌∙◌, arith, rules}, lemmas.Grind.{common_steps}, lemmas.List.{length-append}}
 use Rattle.byte_flow.specs.Transfer.{started}
 use Rattle.byte_flow.proofs.ReadingSteps.{memory_ends, one_more, passes, told_at_start, told_after}
 use Rattle.byte_flow.proofs.transfer.read_file.Goals as goal

@@ -1,7 +1,6 @@
 use Rattle.std.proofs.Common.{◌≡◌, ℕ, List, [], ◌++◌, take, drop, Option, refl, sym, ap, ◌∙◌, append_assoc, take-append-drop, arith}
+use Rattle.std.proofs.{KnownBytes.{Appends-nil, Appends-trans}, lemmas.Grind.{common_steps}}
 use Rattle.std.specs.Io.KnownBytes.{Appends}
-use Rattle.std.proofs.KnownBytes.{Appends-nil, Appends-trans}
-use Rattle.std.proofs.lemmas.Grind.{common_steps}
 use Rattle.byte_flow.specs.Transfer.{begun, sent_on}
 use Rattle.byte_flow.proofs.transfer.write_all.Invariants.{HasSent}
 use Rattle.byte_flow.proofs.transfer.write_all.Goals as goal

@@ -1,6 +1,5 @@
 use Rattle.std.proofs.Common.{◌≡◌, ◌<◌, ◌≤◌, ◌+◌, ◌∷◌, [], ◌++◌, ◌∙◌, arith, length, refl, subst}
-use Rattle.class_merge.specs.Classes.{key_of}
-use Rattle.class_merge.specs.Grouping.{IsPlaceAmong}
+use Rattle.class_merge.specs.{Classes.{key_of}, Grouping.{IsPlaceAmong}}
 use Rattle.class_merge.proofs.Groups.{GroupsSoFar, group_all, group_more, group_none, group_short, place_within}
 use Rattle.class_merge.proofs.grouping.classes_of.Goals as goal
 

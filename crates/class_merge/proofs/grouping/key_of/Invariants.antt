@@ -1,6 +1,5 @@
 use Rattle.std.proofs.Common.{◌≡◌, ◌∷◌, take}
-use Rattle.row_book.specs.Uses.{row_id}
-use Rattle.row_book.specs.Book.{listed_for}
+use Rattle.row_book.specs.{Uses.{row_id}, Book.{listed_for}}
 use Rattle.class_merge.proofs.grouping.key_of.Given as goal
 
 abbrev pub invariant-loop-other : goal.invariant-loop-other

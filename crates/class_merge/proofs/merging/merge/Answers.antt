@@ -1,10 +1,7 @@
 use Rattle.std.proofs.Common.{◌∙◌, ap, map}
 use Rattle.clause_pool.specs.Interned.{row_at}
-use Rattle.row_book.specs.Book.{repository_of}
-use Rattle.row_book.specs.Repository.{Repository}
-use Rattle.row_book.specs.Merging.{quotient}
-use Rattle.row_book.proofs.BookRepositories.{sound_repository}
-use Rattle.row_book.proofs.Repositories.{repository_same}
+use Rattle.row_book.specs.{Book.{repository_of}, Repository.{Repository}, Merging.{quotient}}
+use Rattle.row_book.proofs.{BookRepositories.{sound_repository}, Repositories.{repository_same}}
 use Rattle.class_merge.proofs.MergedRows.{merged_few, merged_keeps, merged_paired, merged_rows_tidy, merged_sound}
 use Rattle.class_merge.proofs.merging.merge.Goals as goal
 

@@ -1,5 +1,4 @@
-use Rattle.std.proofs.Common.{ap, sym, ◌∙◌, cond, [], List, ℕ}
-use Rattle.std.proofs.lemmas.Bool.{cond-true, cond-false}
+use Rattle.std.proofs.{Common.{ap, sym, ◌∙◌, cond, [], List, ℕ}, lemmas.Bool.{cond-true, cond-false}}
 use Rattle.clause_pool.specs.Interned.{clauses_at}
 use Rattle.listed.specs.Lists.{has}
 use Rattle.clause_families.specs.Families.{unions_of}

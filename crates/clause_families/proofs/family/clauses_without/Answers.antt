@@ -1,5 +1,4 @@
-use Rattle.std.proofs.Common.{ap, sym, ◌∙◌, not}
-use Rattle.std.proofs.lemmas.Bool.{not_from_false, not_from_true}
+use Rattle.std.proofs.{Common.{ap, sym, ◌∙◌, not}, lemmas.Bool.{not_from_false, not_from_true}}
 use Rattle.clause_pool.specs.Interned.{clauses_at}
 use Rattle.listed.specs.Lists.{has}
 use Rattle.clause_families.proofs.Families.{At, at_clause, filter_push, filter_skip, of_pool_item}

@@ -1,5 +1,4 @@
-use Rattle.std.proofs.Common.{◌<◌, ap, length, sym, ◌∙◌, ◌∷◌, [], subst}
-use Rattle.std.proofs.lemmas.List.{map-append}
+use Rattle.std.proofs.{Common.{◌<◌, ap, length, sym, ◌∙◌, ◌∷◌, [], subst}, lemmas.List.{map-append}}
 use Rattle.clause_pool.specs.Interned.{clause_at, clauses_at, OfPool}
 use Rattle.clause_families.specs.Inclusion.{stays}
 use Rattle.clause_families.proofs.Families.{At, at_clause, filter_push, filter_skip, of_pool_item, of_pool_push}

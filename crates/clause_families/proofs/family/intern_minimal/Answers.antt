@@ -1,12 +1,8 @@
-use Rattle.std.proofs.Common.{◌≡◌, ap, not, ◌||◌, sym, ◌∙◌, subst}
+use Rattle.std.proofs.{Common.{◌≡◌, ap, not, ◌||◌, sym, ◌∙◌, subst}, lemmas.Result.{IfOk-weaker}}
 use Rattle.std.specs.List.{list_all}
-use Rattle.std.proofs.lemmas.Result.{IfOk-weaker}
-use Rattle.clause_pool.specs.Interned.{clauses_at, row_at, IsIdOf, OfPool}
-use Rattle.clause_pool.proofs.Interned.{kept_along}
+use Rattle.clause_pool.specs.{Interned.{clauses_at, row_at, IsIdOf, OfPool}, Clauses.{minimal_of}, Lists.{InOrder}}
+use Rattle.clause_pool.proofs.{Interned.{kept_along}, Order.{order_filter}}
 use Rattle.listed.specs.Lists.{is_inside}
-use Rattle.clause_pool.specs.Clauses.{minimal_of}
-use Rattle.clause_pool.specs.Lists.{InOrder}
-use Rattle.clause_pool.proofs.Order.{order_filter}
 use Rattle.clause_families.proofs.Families.{row_interned}
 use Rattle.clause_families.proofs.family.intern_minimal.Goals as goal
 

@@ -1,11 +1,9 @@
-use Rattle.std.proofs.Common.{ap, sym, ◌∙◌, subst, refl, not, filter, take, ◌+◌}
-use Rattle.std.proofs.lemmas.List.{take_all}
+use Rattle.std.proofs.{Common.{ap, sym, ◌∙◌, subst, refl, not, filter, take, ◌+◌}, lemmas.List.{take_all}}
 use Rattle.listed.specs.Lists.{Ascending}
 use Rattle.clause_pool.specs.Interned.{IsIdOf}
 use Rattle.clause_pool.proofs.Interned.{kept_along}
 use Rattle.listed.proofs.Lists.{item_in}
-use Rattle.clause_families.specs.Inclusion.{has_shorter}
-use Rattle.clause_families.specs.Families.{InternedSoFar}
+use Rattle.clause_families.specs.{Inclusion.{has_shorter}, Families.{InternedSoFar}}
 use Rattle.clause_families.proofs.Families.{At, at_item, interned_less, interned_more, lowest_minimal}
 use Rattle.clause_families.proofs.family.minimal_ids.Goals as goal
 use Rattle.clause_families.proofs.family.minimal_ids.Goals.{then-not-is_longer+in_ok-id+in_ok-push, else-not-is_longer}

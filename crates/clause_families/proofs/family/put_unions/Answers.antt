@@ -1,16 +1,12 @@
-use Rattle.std.proofs.Common.{◌≡◌, ap, ◌∙◌, ◌+◌, sym, subst, take, List, ℕ}
+use Rattle.std.proofs.{Common.{◌≡◌, ap, ◌∙◌, ◌+◌, sym, subst, take, List, ℕ}, lemmas.Bool.{OnFalse_at, OnTrue_at}}
 use Rattle.std.specs.Option.{ForSome}
-use Rattle.std.proofs.lemmas.Bool.{OnFalse_at, OnTrue_at}
 use Rattle.clause_pool.specs.Interned.{Interned, IsIdOf, Kept, OfPool, clauses_at}
 use Rattle.clause_pool.proofs.Interned.{kept_along, kept_same as kept_none, clauses_kept, kept_of_pool}
 use Rattle.listed.specs.Lists.{In, Ascending}
-use Rattle.clause_pool.specs.Lists.{InOrder}
-use Rattle.clause_pool.specs.Clauses.{apart_from}
+use Rattle.clause_pool.specs.{Lists.{InOrder}, Clauses.{apart_from}}
 use Rattle.listed.proofs.Lists.{item_in}
-use Rattle.clause_families.specs.Branches.{TreeOf}
-use Rattle.clause_families.specs.Families.{HasUnions, IsNeedless, IsShortest}
-use Rattle.clause_families.proofs.Families.{At, at_item}
-use Rattle.clause_families.proofs.UnionRows.{gained_of_pool, unions_less, unions_more, unions_none}
+use Rattle.clause_families.specs.{Branches.{TreeOf}, Families.{HasUnions, IsNeedless, IsShortest}}
+use Rattle.clause_families.proofs.{Families.{At, at_item}, UnionRows.{gained_of_pool, unions_less, unions_more, unions_none}}
 use Rattle.clause_families.proofs.family.put_unions.Goals as goal
 use Rattle.clause_families.proofs.family.put_unions.Goals.{then-is_needed+in_ok-id+in_ok-put_in_place, else-is_needed}
 

@@ -1,6 +1,5 @@
 use Rattle.std.proofs.Common.{take}
-use Rattle.clause_pool.specs.Interned.{clauses_at, Kept, OfPool}
-use Rattle.clause_pool.specs.Clauses.{apart_from}
+use Rattle.clause_pool.specs.{Interned.{clauses_at, Kept, OfPool}, Clauses.{apart_from}}
 use Rattle.clause_families.specs.Families.{HasUnions}
 use Rattle.clause_families.proofs.family.put_unions.Given as goal
 

@@ -2,9 +2,7 @@
 use Rattle.std.proofs.Common.{◌≡◌, ap, ◌∙◌, sym, subst, filter}
 use Rattle.std.specs.Option.{ForSome}
 use Rattle.clause_pool.specs.Interned.{clauses_at, OfPool}
-use Rattle.clause_families.specs.Branches.{TreeOf}
-use Rattle.clause_families.specs.Families.{SameClauses, all_unions}
-use Rattle.clause_families.specs.Inclusion.{stays}
+use Rattle.clause_families.specs.{Branches.{TreeOf}, Families.{SameClauses, all_unions}, Inclusion.{stays}}
 use Rattle.clause_families.proofs.UnionRows.{beside_in_order, kept_ascend, kept_in_order, row_is_minimal, unions_apart_from, unions_ascend}
 use Rattle.clause_families.proofs.family.with_unions.Goals as goal
 

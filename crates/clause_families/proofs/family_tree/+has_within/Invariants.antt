@@ -1,7 +1,6 @@
 use Rattle.std.proofs.Common.{◌≤◌, ◌+◌, length}
 use Rattle.listed.specs.Lists.{Ascending}
-use Rattle.clause_families.specs.Branches.{any_of, Standing}
-use Rattle.clause_families.specs.Inclusion.{is_within}
+use Rattle.clause_families.specs.{Branches.{any_of, Standing}, Inclusion.{is_within}}
 use Rattle.clause_families.proofs.Walked.{Left}
 use Rattle.clause_families.proofs.family_tree.+has_within.Given as goal
 

@@ -1,8 +1,6 @@
 use Rattle.std.proofs.Common.{◌≡◌, ◌++◌, ◌∷◌, ◌∙◌, ◌-◌, [], List, ap, append_assoc, arith, drop, false, length, sym, take}
-use Rattle.clause_families.specs.Branches.{chain}
-use Rattle.clause_families.specs.declared.family_tree.Node.{Node}
-use Rattle.clause_families.proofs.Walked.{take_front}
-use Rattle.clause_families.proofs.Grown.{turned}
+use Rattle.clause_families.specs.{Branches.{chain}, declared.family_tree.Node.{Node}}
+use Rattle.clause_families.proofs.{Walked.{take_front}, Grown.{turned}}
 use Rattle.clause_families.proofs.family_tree.add_chain.Goals as goal
 
 pub returns : goal.returns

@@ -1,6 +1,5 @@
 use Rattle.std.proofs.Common.{◌≡◌, suc, ◌∷◌, [], ◌++◌, ◌-◌, ◌∙◌, ap, append_assoc, arith, drop, drop-cons, false, get_or, sym, List, ℕ}
-use Rattle.clause_families.specs.Branches.{chain}
-use Rattle.clause_families.specs.declared.family_tree.Node.{Node}
+use Rattle.clause_families.specs.{Branches.{chain}, declared.family_tree.Node.{Node}}
 use Rattle.clause_families.proofs.family_tree.push_chain.Goals as goal
 
 pub loop-index-preserved : goal.loop-index-preserved

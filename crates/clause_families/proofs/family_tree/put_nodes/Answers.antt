@@ -1,5 +1,4 @@
-use Rattle.std.proofs.Common.{◌-◌, ◌++◌, ◌∙◌, ap, arith, drop, length, length-drop, take}
-use Rattle.std.proofs.lemmas.List.{take_all}
+use Rattle.std.proofs.{Common.{◌-◌, ◌++◌, ◌∙◌, ap, arith, drop, length, length-drop, take}, lemmas.List.{take_all}}
 use Rattle.clause_families.specs.Branches.{chain}
 use Rattle.clause_families.proofs.Grown.{grown_there, longer}
 use Rattle.clause_families.proofs.family_tree.put_nodes.Goals as goal

@@ -1,6 +1,5 @@
 use Rattle.std.proofs.Common.{refl, arith, [], ◌≡◌, ◌+◌, length}
-use Rattle.clause_families.proofs.Grown.{begins_apart, begins_no_more, meets_apart, meets_more, meets_no_more}
-use Rattle.clause_families.proofs.Walked.{fewer_others}
+use Rattle.clause_families.proofs.{Grown.{begins_apart, begins_no_more, meets_apart, meets_more, meets_no_more}, Walked.{fewer_others}}
 use Rattle.clause_families.proofs.family_tree.shared.Goals as goal
 use Rattle.clause_families.proofs.family_tree.shared.Goals.{then-left-from-via-then-left-from, then-left-from-via-else-left-from+then-node-number}
 

@@ -1,9 +1,6 @@
-use Rattle.std.proofs.Common.{◌≡◌, ◌∙◌, false, sym}
-use Rattle.std.proofs.lemmas.Bool.{OnFalse_from, OnTrue_from}
-use Rattle.clause_pool.specs.Interned.{clauses_at}
-use Rattle.clause_pool.specs.Clauses.{apart_from}
-use Rattle.clause_families.specs.Inclusion.{has_shorter}
-use Rattle.clause_families.specs.Families.{IncludesOneOf}
+use Rattle.std.proofs.{Common.{◌≡◌, ◌∙◌, false, sym}, lemmas.Bool.{OnFalse_from, OnTrue_from}}
+use Rattle.clause_pool.specs.{Interned.{clauses_at}, Clauses.{apart_from}}
+use Rattle.clause_families.specs.{Inclusion.{has_shorter}, Families.{IncludesOneOf}}
 use Rattle.clause_families.proofs.Sifted.{row_clear, row_found, shorter_found}
 use Rattle.clause_families.proofs.needed.includes_one.Goals as goal
 

@@ -1,7 +1,5 @@
-use Rattle.std.proofs.Common.{◌≡◌, ◌+◌, ◌-◌, ◌/◌, ◌∙◌, ap, sym, arith, get_or, ℕ}
-use Rattle.std.proofs.lemmas.List.{get_or_read}
-use Rattle.clause_pool.specs.Interned.{clause_at}
-use Rattle.clause_pool.specs.Clauses.{comes_before}
+use Rattle.std.proofs.{Common.{◌≡◌, ◌+◌, ◌-◌, ◌/◌, ◌∙◌, ap, sym, arith, get_or, ℕ}, lemmas.List.{get_or_read}}
+use Rattle.clause_pool.specs.{Interned.{clause_at}, Clauses.{comes_before}}
 use Rattle.listed.proofs.Lists.{item_in}
 use Rattle.clause_families.proofs.Gainings.{before_up_to, behind_from}
 use Rattle.clause_families.proofs.placing.place_of.Goals as goal

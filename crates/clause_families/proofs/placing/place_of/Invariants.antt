@@ -1,6 +1,5 @@
 use Rattle.std.proofs.Common.{◌≡◌, ℕ, ◌<◌, ◌≤◌, ◌-◌, true, false, get_or, length}
-use Rattle.clause_pool.specs.Interned.{clause_at}
-use Rattle.clause_pool.specs.Clauses.{comes_before}
+use Rattle.clause_pool.specs.{Interned.{clause_at}, Clauses.{comes_before}}
 use Rattle.clause_families.proofs.placing.place_of.Given as goal
 
 abbrev pub invariant-halving : goal.invariant-halving

@@ -1,9 +1,6 @@
-use Rattle.std.proofs.Common.{◌≡◌, ◌<◌, ◌∙◌, ap₂, sym, subst, arith, eqb-true, get_or, length}
-use Rattle.std.proofs.lemmas.Bool.{eqb-false}
-use Rattle.std.proofs.lemmas.List.{get_or_read}
-use Rattle.clause_pool.specs.Interned.{clause_at}
+use Rattle.std.proofs.{Common.{◌≡◌, ◌<◌, ◌∙◌, ap₂, sym, subst, arith, eqb-true, get_or, length}, lemmas.Bool.{eqb-false}, lemmas.List.{get_or_read}}
+use Rattle.clause_pool.specs.{Interned.{clause_at}, Clauses.{comes_before}}
 use Rattle.listed.specs.Lists.{In}
-use Rattle.clause_pool.specs.Clauses.{comes_before}
 use Rattle.listed.proofs.Lists.{item_in}
 use Rattle.clause_families.proofs.Gainings.{gained, gained_none, order_gained}
 use Rattle.clause_families.proofs.placing.put_in_place.Goals as goal

@@ -1,9 +1,6 @@
-use Rattle.std.proofs.Common.{◌≡◌, ◌++◌, ◌∙◌}
-use Rattle.std.proofs.lemmas.Result.{IfOk-weaker}
-use Rattle.clause_pool.specs.Interned.{clauses_at}
-use Rattle.clause_pool.specs.Clauses.{apart_from, minimal_of, in_row_order}
-use Rattle.clause_families.specs.Families.{all_unions}
-use Rattle.clause_families.specs.Unions.{substituted}
+use Rattle.std.proofs.{Common.{◌≡◌, ◌++◌, ◌∙◌}, lemmas.Result.{IfOk-weaker}}
+use Rattle.clause_pool.specs.{Interned.{clauses_at}, Clauses.{apart_from, minimal_of, in_row_order}}
+use Rattle.clause_families.specs.{Families.{all_unions}, Unions.{substituted}}
 use Rattle.clause_families.proofs.Rewritten.{unions_minimal, useful_of_pool, useful_there}
 use Rattle.clause_families.proofs.rewriting.rewrite.Goals as goal
 

@@ -1,7 +1,5 @@
-use Rattle.std.proofs.Common.{ap, sym, ◌∙◌, subst, inl, inr}
-use Rattle.std.proofs.lemmas.Bool.{OnTrue_at, both_ways}
-use Rattle.clause_pool.specs.Interned.{clauses_at}
-use Rattle.clause_pool.specs.Clauses.{apart_from}
+use Rattle.std.proofs.{Common.{ap, sym, ◌∙◌, subst, inl, inr}, lemmas.Bool.{OnTrue_at, both_ways}}
+use Rattle.clause_pool.specs.{Interned.{clauses_at}, Clauses.{apart_from}}
 use Rattle.listed.specs.Lists.{In}
 use Rattle.listed.proofs.Lists.{In_has, has_In}
 use Rattle.clause_families.specs.Families.{IncludesOneOf}

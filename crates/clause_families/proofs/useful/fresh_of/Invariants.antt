@@ -1,6 +1,5 @@
 use Rattle.std.proofs.Common.{take}
-use Rattle.clause_pool.specs.Interned.{clauses_at}
-use Rattle.clause_pool.specs.Clauses.{apart_from}
+use Rattle.clause_pool.specs.{Interned.{clauses_at}, Clauses.{apart_from}}
 use Rattle.clause_families.specs.Families.{IncludesOneOf, Useful}
 use Rattle.clause_families.proofs.useful.fresh_of.Given as goal
 

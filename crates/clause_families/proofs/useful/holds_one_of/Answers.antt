@@ -1,5 +1,4 @@
-use Rattle.std.proofs.Common.{get_or}
-use Rattle.std.proofs.lemmas.Bool.{OnTrue_at}
+use Rattle.std.proofs.{Common.{get_or}, lemmas.Bool.{OnTrue_at}}
 use Rattle.clause_pool.proofs.Lists.{In_at}
 use Rattle.clause_families.proofs.useful.holds_one_of.Goals as goal
 

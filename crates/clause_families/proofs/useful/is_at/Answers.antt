@@ -1,5 +1,4 @@
-use Rattle.std.proofs.Common.{◌∙◌, arith, eqb-true, subst, sym}
-use Rattle.std.proofs.lemmas.Bool.{OnTrue_from}
+use Rattle.std.proofs.{Common.{◌∙◌, arith, eqb-true, subst, sym}, lemmas.Bool.{OnTrue_from}}
 use Rattle.listed.specs.Lists.{In}
 use Rattle.listed.proofs.Lists.{item_in}
 use Rattle.clause_families.proofs.useful.is_at.Goals as goal

@@ -1,7 +1,6 @@
 use Rattle.std.proofs.Common.{ℕ, [], ◌∷◌}
-use Rattle.clause_pool.specs.Interned.{clauses_at}
+use Rattle.clause_pool.specs.{Interned.{clauses_at}, Clauses.{apart_from}}
 use Rattle.listed.specs.Lists.{In}
-use Rattle.clause_pool.specs.Clauses.{apart_from}
 use Rattle.clause_families.proofs.useful.singles_of.Given as goal
 
 abbrev pub invariant-loop-id : goal.invariant-loop-id

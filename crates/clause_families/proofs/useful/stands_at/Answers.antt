@@ -1,7 +1,5 @@
-use Rattle.std.proofs.Common.{◌∙◌, ap, sym}
-use Rattle.std.proofs.lemmas.Bool.{OnTrue_at, OnTrue_from, not-true}
-use Rattle.clause_pool.specs.Interned.{clause_at, clauses_at}
-use Rattle.clause_pool.specs.Clauses.{apart_from}
+use Rattle.std.proofs.{Common.{◌∙◌, ap, sym}, lemmas.Bool.{OnTrue_at, OnTrue_from, not-true}}
+use Rattle.clause_pool.specs.{Interned.{clause_at, clauses_at}, Clauses.{apart_from}}
 use Rattle.listed.specs.Lists.{has}
 use Rattle.clause_families.specs.Families.{IncludesOneOf}
 use Rattle.clause_families.proofs.Families.{row_has_it}

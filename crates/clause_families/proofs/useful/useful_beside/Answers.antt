@@ -1,5 +1,4 @@
-use Rattle.std.proofs.Common.{ap, sym, ◌∙◌, subst, inl, inr}
-use Rattle.std.proofs.lemmas.Bool.{OnTrue_at, both_ways}
+use Rattle.std.proofs.{Common.{ap, sym, ◌∙◌, subst, inl, inr}, lemmas.Bool.{OnTrue_at, both_ways}}
 use Rattle.listed.specs.Lists.{In}
 use Rattle.listed.proofs.Lists.{In_has, has_In}
 use Rattle.clause_families.specs.Families.{HoldsOneOf}

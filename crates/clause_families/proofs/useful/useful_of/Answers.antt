@@ -1,8 +1,6 @@
-use Rattle.std.proofs.Common.{subst, List, ℕ}
-use Rattle.std.proofs.lemmas.Result.{IfOk-weaker}
-use Rattle.clause_pool.specs.Interned.{clauses_at}
+use Rattle.std.proofs.{Common.{subst, List, ℕ}, lemmas.Result.{IfOk-weaker}}
+use Rattle.clause_pool.specs.{Interned.{clauses_at}, Clauses.{apart_from}}
 use Rattle.listed.specs.Lists.{In}
-use Rattle.clause_pool.specs.Clauses.{apart_from}
 use Rattle.clause_families.specs.Families.{HoldsOneOf, IncludesOneOf, Useful}
 use Rattle.clause_families.proofs.Families.{single_inside, useful_of_useful, useful_weaker}
 use Rattle.clause_families.proofs.useful.useful_of.Goals as goal

@@ -1,6 +1,4 @@
-use Rattle.std.proofs.Common.{◌≡◌, ◌∙◌, Some, ap, false, length, map, subst, sym}
-use Rattle.std.proofs.lemmas.List.{length-map}
-use Rattle.std.proofs.lemmas.Option.{none-some}
+use Rattle.std.proofs.{Common.{◌≡◌, ◌∙◌, Some, ap, false, length, map, subst, sym}, lemmas.List.{length-map}, lemmas.Option.{none-some}}
 use Rattle.clause_pool.specs.Interned.{row_at}
 use Rattle.clause_pool.proofs.Interned.{kept_along}
 use Rattle.row_book.specs.{Book.{repository_of}, Flattening.{flat, held_of, passes}}

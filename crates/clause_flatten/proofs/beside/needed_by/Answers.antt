@@ -1,5 +1,4 @@
-use Rattle.std.proofs.Common.{◌≡◌, ◌<◌, [], ◌∙◌, ap, arith, length}
-use Rattle.std.proofs.lemmas.Grind.{common_steps}
+use Rattle.std.proofs.{Common.{◌≡◌, ◌<◌, [], ◌∙◌, ap, arith, length}, lemmas.Grind.{common_steps}}
 use Rattle.listed.proofs.Lists.{In_at}
 use Rattle.row_book.specs.Book.{repository_of}
 use Rattle.row_book.proofs.Users.{lent_whole}

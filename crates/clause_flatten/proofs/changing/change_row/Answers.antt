@@ -1,9 +1,7 @@
 use Rattle.std.proofs.Common.{◌≡◌, ◌<◌, ◌∙◌, ap, get_or, refl, slice_set, subst, sym}
-use Rattle.clause_pool.specs.Clauses.{apart_from}
-use Rattle.clause_pool.specs.Interned.{clauses_at}
+use Rattle.clause_pool.specs.{Clauses.{apart_from}, Interned.{clauses_at}}
 use Rattle.listed.specs.Lists.{In}
-use Rattle.row_book.specs.Book.{listed_for}
-use Rattle.row_book.specs.Holders.{ArePlaced, TellsRows}
+use Rattle.row_book.specs.{Book.{listed_for}, Holders.{ArePlaced, TellsRows}}
 use Rattle.row_book.proofs.Holders.{are_placed, tells_kept}
 use Rattle.clause_families.proofs.Families.{empty_items}
 use Rattle.clause_flatten.proofs.Turning.{left_ready, left_table, lent_row, new_below, new_ready, new_table, ready_kept, slot_lent, useful_apart}

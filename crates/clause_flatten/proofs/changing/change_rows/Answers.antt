@@ -1,13 +1,9 @@
-use Rattle.std.proofs.Common.{◌≡◌, ◌<◌, ◌+◌, ◌-◌, ℕ, List, get_or, length, drop, subst, sym, arith}
-use Rattle.std.proofs.lemmas.List.{drop_all, length-map}
-use Rattle.clause_pool.specs.Interned.{clauses_at}
-use Rattle.clause_pool.proofs.Lists.{In_at}
-use Rattle.clause_pool.proofs.Interned.{kept_along, kept_same}
-use Rattle.clause_pool.specs.Lists.{InOrder}
+use Rattle.std.proofs.{Common.{◌≡◌, ◌<◌, ◌+◌, ◌-◌, ℕ, List, get_or, length, drop, subst, sym, arith}, lemmas.List.{drop_all, length-map}}
+use Rattle.clause_pool.specs.{Interned.{clauses_at}, Lists.{InOrder}}
+use Rattle.clause_pool.proofs.{Lists.{In_at}, Interned.{kept_along, kept_same}}
 use Rattle.row_book.specs.Book.{listed_for}
 use Rattle.listed.specs.Lists.{In}
-use Rattle.clause_flatten.specs.Ready.{table_of}
-use Rattle.clause_flatten.specs.Substitution.{table_row}
+use Rattle.clause_flatten.specs.{Ready.{table_of}, Substitution.{table_row}}
 use Rattle.clause_flatten.proofs.Halfway.{Halfway, halfway_all, halfway_none, halfway_step}
 use Rattle.clause_flatten.proofs.WorkedRows.{lists_at, not_named, not_own, users_below, users_rise}
 use Rattle.clause_flatten.proofs.changing.change_rows.Goals as goal

@@ -1,6 +1,5 @@
 use Rattle.std.proofs.Common.{ap, ap₂, sym, ◌∙◌, ◌∷◌, ◌+◌, ◌<◌, ◌++◌, ◌≡◌, [], arith, drop, get_or, inl, inr, length, not, refl, slice_set, subst, take}
-use Rattle.std.proofs.lemmas.Bool.{not_from_false, not_from_true}
-use Rattle.std.proofs.lemmas.List.{map-append}
+use Rattle.std.proofs.{lemmas.Bool.{not_from_false, not_from_true}, lemmas.List.{map-append}}
 use Rattle.clause_pool.specs.Interned.{clause_at, clauses_at}
 use Rattle.listed.specs.Lists.{In, has}
 use Rattle.listed.proofs.Lists.{In_append_cases, In_cases, In_none, item_in}

@@ -1,6 +1,5 @@
 use Rattle.std.proofs.Common.{◌≡◌, ◌≤◌, ℕ, drop, length, take}
-use Rattle.clause_pool.specs.Interned.{clauses_at}
-use Rattle.clause_pool.specs.Clauses.{apart_from}
+use Rattle.clause_pool.specs.{Interned.{clauses_at}, Clauses.{apart_from}}
 use Rattle.listed.specs.Lists.{In}
 use Rattle.clause_flatten.proofs.changing.drop_holders.Given as goal
 

@@ -1,8 +1,6 @@
 use Rattle.std.proofs.Common.{sym, length}
-use Rattle.clause_flatten.specs.Ready.{table_of}
-use Rattle.clause_flatten.specs.TakingOut.{is_over}
-use Rattle.clause_flatten.proofs.Running.{first_passed, found_below}
-use Rattle.clause_flatten.proofs.Runs.{none_over}
+use Rattle.clause_flatten.specs.{Ready.{table_of}, TakingOut.{is_over}}
+use Rattle.clause_flatten.proofs.{Running.{first_passed, found_below}, Runs.{none_over}}
 use Rattle.clause_flatten.proofs.flattening.eliminate_all.Goals as goal
 
 pub clauses_in-requires : goal.clauses_in-requires

@@ -1,13 +1,9 @@
 use Rattle.std.proofs.Common.{◌≡◌, List, ℕ, sym, ◌∙◌, ap, ap₂, filter, length, map, subst}
 use Rattle.clause_pool.specs.Interned.{row_at}
 use Rattle.clause_pool.proofs.Interned.{kept_along}
-use Rattle.row_book.specs.Numbers.{numbers}
-use Rattle.row_book.specs.Flags.{flag}
-use Rattle.row_book.specs.Holders.{ListsFit}
-use Rattle.row_book.specs.Repository.{Repository}
+use Rattle.row_book.specs.{Numbers.{numbers}, Flags.{flag}, Holders.{ListsFit}, Repository.{Repository}}
 use Rattle.row_book.proofs.Users.{lent_whole}
-use Rattle.clause_flatten.specs.Ready.{table_of, ListsTidy}
-use Rattle.clause_flatten.specs.TidyRows.{tidied_table}
+use Rattle.clause_flatten.specs.{Ready.{table_of, ListsTidy}, TidyRows.{tidied_table}}
 use Rattle.clause_flatten.proofs.flattening.flatten.Goals as goal
 use Rattle.clause_flatten.proofs.flattening.flatten.Goals.{After-as_slice-2}
 

@@ -1,5 +1,4 @@
-use Rattle.std.proofs.Common.{◌≡◌}
-use Rattle.std.proofs.lemmas.Result.{IfOk-weaker}
+use Rattle.std.proofs.{Common.{◌≡◌}, lemmas.Result.{IfOk-weaker}}
 use Rattle.clause_pool.specs.Interned.{IsIdOf, clauses_at, row_at}
 use Rattle.clause_families.proofs.Families.{row_interned}
 use Rattle.clause_flatten.proofs.flattening.put_row.Goals as goal

@@ -1,5 +1,4 @@
-use Rattle.std.proofs.Common.{◌∙◌, ap, subst}
-use Rattle.std.proofs.lemmas.List.{take_all}
+use Rattle.std.proofs.{Common.{◌∙◌, ap, subst}, lemmas.List.{take_all}}
 use Rattle.clause_pool.proofs.Interned.{kept_along}
 use Rattle.clause_pool.specs.Interned.{OfPool, clauses_at}
 use Rattle.clause_flatten.proofs.PoolRows.{in_pool_fit, in_pool_more, lent_in_order, lent_of_pool, lent_there}

@@ -1,5 +1,4 @@
-use Rattle.std.proofs.Common.{sym, ◌∙◌, ap, arith, filter, length, map}
-use Rattle.std.proofs.lemmas.List.{length-map}
+use Rattle.std.proofs.{Common.{sym, ◌∙◌, ap, arith, filter, length, map}, lemmas.List.{length-map}}
 use Rattle.clause_pool.specs.Interned.{clauses_at, row_at}
 use Rattle.row_book.specs.Flags.{flag}
 use Rattle.row_book.proofs.Numbers.{numbers_ranged}

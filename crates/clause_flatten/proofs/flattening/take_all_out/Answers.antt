@@ -2,14 +2,10 @@ use Rattle.std.proofs.Common.{◌≡◌, ◌<◌, ◌+◌, false, Some, arith, l
 use Rattle.std.proofs.lemmas.List as lists
 use Rattle.std.proofs.lemmas.Result.{err_from_is_err_and}
 use Rattle.clause_pool.specs.Interned.{row_at}
-use Rattle.clause_flatten.specs.Ready.{table_of}
+use Rattle.clause_flatten.specs.{Ready.{table_of}, Substitution.{table_without, length_in}}
 use Rattle.clause_pool.proofs.Interned.{kept_along}
-use Rattle.row_book.specs.Book.{repository_of}
-use Rattle.row_book.specs.Numbers.{numbers}
-use Rattle.row_book.specs.Flattening.{may_go, passed_by, passes, remaining_after}
-use Rattle.row_book.specs.Repository.{Repository}
+use Rattle.row_book.specs.{Book.{repository_of}, Numbers.{numbers}, Flattening.{may_go, passed_by, passes, remaining_after}, Repository.{Repository}}
 use Rattle.row_book.specs.Sets.{without}
-use Rattle.clause_flatten.specs.Substitution.{table_without, length_in}
 use Rattle.clause_flatten.proofs.Running.{HasEnded, first_there, on_limit, run_empty, run_full, run_here, run_more, run_passed, run_size, run_start}
 use Rattle.clause_flatten.proofs.flattening.take_all_out.Goals as goal
 

@@ -1,8 +1,5 @@
 use Rattle.std.proofs.Common.{◌≡◌, ◌≤◌, ◌&&◌, ◌+◌, true, false, eqb, ltb, sym, ◌∙◌, ap, arith, length, subst}
-use Rattle.clause_flatten.specs.Ready.{table_of}
-use Rattle.clause_flatten.specs.Substitution.{length_in}
-use Rattle.clause_flatten.specs.TakingOut.{is_free}
-use Rattle.clause_flatten.specs.Waiting.{Filed}
+use Rattle.clause_flatten.specs.{Ready.{table_of}, Substitution.{length_in}, TakingOut.{is_free}, Waiting.{Filed}}
 use Rattle.clause_flatten.proofs.Free.{waiting_more, waiting_none, waiting_same}
 use Rattle.clause_flatten.proofs.flattening.waiting_in.Goals as goal
 use Rattle.clause_flatten.proofs.flattening.waiting_in.Goals.{then-is_empty, else-is_empty}

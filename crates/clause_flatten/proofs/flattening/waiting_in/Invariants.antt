@@ -1,9 +1,6 @@
 use Rattle.std.proofs.Common.{◌≤◌, ◌&&◌, ltb, length}
 use Rattle.clause_pool.specs.Interned.{Interned}
-use Rattle.clause_flatten.specs.Ready.{table_of}
-use Rattle.clause_flatten.specs.Substitution.{length_in}
-use Rattle.clause_flatten.specs.TakingOut.{is_free}
-use Rattle.clause_flatten.specs.Waiting.{Filed}
+use Rattle.clause_flatten.specs.{Ready.{table_of}, Substitution.{length_in}, TakingOut.{is_free}, Waiting.{Filed}}
 use Rattle.clause_flatten.proofs.flattening.waiting_in.Given as goal
 
 abbrev pub invariant-loop-number : goal.invariant-loop-number

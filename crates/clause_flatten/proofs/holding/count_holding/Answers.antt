@@ -1,5 +1,4 @@
-use Rattle.std.proofs.Common.{◌≡◌, ◌+◌, ◌∙◌, ap, arith, length, sym}
-use Rattle.std.proofs.lemmas.List.{take_all}
+use Rattle.std.proofs.{Common.{◌≡◌, ◌+◌, ◌∙◌, ap, arith, length, sym}, lemmas.List.{take_all}}
 use Rattle.clause_pool.specs.Interned.{clauses_at}
 use Rattle.listed.specs.Lists.{has}
 use Rattle.clause_flatten.specs.Holding.{clauses_with}

@@ -1,6 +1,5 @@
 use Rattle.std.proofs.Common.{◌++◌, ◌∙◌, ap, subst}
-use Rattle.clause_pool.specs.Interned.{clauses_at}
-use Rattle.clause_pool.specs.Clauses.{apart_from}
+use Rattle.clause_pool.specs.{Interned.{clauses_at}, Clauses.{apart_from}}
 use Rattle.clause_families.specs.Families.{SameClauses, all_unions}
 use Rattle.clause_families.proofs.UnionRows.{family_is}
 use Rattle.clause_flatten.proofs.holding.family_with_unions.Goals as goal

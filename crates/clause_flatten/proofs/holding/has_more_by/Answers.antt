@@ -1,5 +1,4 @@
-use Rattle.std.proofs.Common.{◌≡◌, ◌≤◌, ◌+◌, ◌∙◌, ℕ, Bool, List, arith, ap, filter, length, not, refl, subst, sym, take}
-use Rattle.std.proofs.lemmas.Bool.{le-ltb, lt-ltb}
+use Rattle.std.proofs.{Common.{◌≡◌, ◌≤◌, ◌+◌, ◌∙◌, ℕ, Bool, List, arith, ap, filter, length, not, refl, subst, sym, take}, lemmas.Bool.{le-ltb, lt-ltb}}
 use Rattle.std.proofs.lemmas.List.{take_all}
 use Rattle.listed.specs.Lists.{Ascending}
 use Rattle.clause_pool.specs.Clauses.{minimal_of}

@@ -1,6 +1,5 @@
 use Rattle.std.proofs.Common.{◌≡◌, ◌≤◌, ◌+◌, ◌*◌, ◌-◌, arith, ap, length, ◌∙◌}
-use Rattle.clause_pool.specs.Interned.{clauses_at}
-use Rattle.clause_pool.specs.Clauses.{apart_from}
+use Rattle.clause_pool.specs.{Interned.{clauses_at}, Clauses.{apart_from}}
 use Rattle.clause_flatten.specs.Holding.{clauses_with}
 use Rattle.clause_flatten.proofs.Counts.{parts_count, product_small, with_few}
 use Rattle.clause_families.proofs.Families.{clauses_length}

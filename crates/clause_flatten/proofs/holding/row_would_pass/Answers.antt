@@ -1,17 +1,10 @@
-use Rattle.std.proofs.Common.{◌≡◌, ◌≤◌, ◌++◌, ◌∙◌, arith, ap, length, ltb, sym, subst}
-use Rattle.std.proofs.lemmas.Bool.{le-ltb}
-use Rattle.std.proofs.lemmas.Result.{IfOk-weaker}
-use Rattle.clause_pool.specs.Interned.{clauses_at, OfPool}
-use Rattle.clause_pool.specs.Clauses.{apart_from, in_row_order, minimal_of}
-use Rattle.clause_pool.specs.Lists.{InOrder}
+use Rattle.std.proofs.{Common.{◌≡◌, ◌≤◌, ◌++◌, ◌∙◌, arith, ap, length, ltb, sym, subst}, lemmas.Bool.{le-ltb}, lemmas.Result.{IfOk-weaker}}
+use Rattle.clause_pool.specs.{Interned.{clauses_at, OfPool}, Clauses.{apart_from, in_row_order, minimal_of}, Lists.{InOrder}}
 use Rattle.clause_pool.proofs.Order.{ordered_order}
-use Rattle.clause_families.specs.Families.{all_unions}
+use Rattle.clause_families.specs.{Families.{all_unions}, Unions.{substituted}}
 use Rattle.clause_flatten.specs.Holding.{most_clauses}
-use Rattle.clause_families.specs.Unions.{substituted}
 use Rattle.clause_flatten.proofs.Counts.{row_count}
-use Rattle.clause_families.proofs.Families.{clauses_length}
-use Rattle.clause_families.proofs.Rewritten.{unions_minimal, useful_of_pool}
-use Rattle.clause_families.proofs.UnionRows.{family_ascends}
+use Rattle.clause_families.proofs.{Families.{clauses_length}, Rewritten.{unions_minimal, useful_of_pool}, UnionRows.{family_ascends}}
 use Rattle.clause_flatten.proofs.holding.row_would_pass.Goals as goal
 
 pub returns-then-most-from : goal.returns-then-most-from

@@ -1,8 +1,7 @@
 use Rattle.std.proofs.Common.{◌∙◌, arith, get_or, subst, sym}
 use Rattle.listed.proofs.Lists.{In_at}
 use Rattle.listed.specs.Lists.{In}
-use Rattle.clause_flatten.proofs.UserRows.{table_over, table_within}
-use Rattle.clause_flatten.proofs.WorkedRows.{not_own, users_below}
+use Rattle.clause_flatten.proofs.{UserRows.{table_over, table_within}, WorkedRows.{not_own, users_below}}
 use Rattle.clause_flatten.proofs.holding.some_would_pass.Goals as goal
 
 pub user_would_pass-requires-clause-user : goal.user_would_pass-requires-clause-user

@@ -1,7 +1,5 @@
 use Rattle.std.proofs.Common.{◌≡◌, ℕ, ◌<◌, false, get_or}
-use Rattle.clause_flatten.specs.Ready.{table_of}
-use Rattle.clause_flatten.specs.Substitution.{table_without}
-use Rattle.clause_flatten.specs.TakingOut.{is_over}
+use Rattle.clause_flatten.specs.{Ready.{table_of}, Substitution.{table_without}, TakingOut.{is_over}}
 use Rattle.clause_flatten.proofs.holding.some_would_pass.Given as goal
 
 abbrev pub invariant-loop-user : goal.invariant-loop-user

@@ -1,18 +1,11 @@
-use Rattle.std.proofs.Common.{◌≡◌, ◌<◌, ◌≤◌, ◌∙◌, ap, ap₂, length, ltb, subst, sym}
-use Rattle.std.proofs.lemmas.List.{length-map}
-use Rattle.std.proofs.lemmas.Result.{IfOk-weaker}
-use Rattle.clause_pool.specs.Interned.{OfPool, clauses_at}
+use Rattle.std.proofs.{Common.{◌≡◌, ◌<◌, ◌≤◌, ◌∙◌, ap, ap₂, length, ltb, subst, sym}, lemmas.List.{length-map}, lemmas.Result.{IfOk-weaker}}
+use Rattle.clause_pool.specs.{Interned.{OfPool, clauses_at}, Clauses.{in_row_order}}
 use Rattle.listed.specs.Lists.{In}
 use Rattle.row_book.specs.Book.{listed_for}
-use Rattle.clause_pool.specs.Clauses.{in_row_order}
-use Rattle.clause_flatten.specs.Ready.{table_of}
-use Rattle.clause_flatten.specs.Substitution.{table_row, table_without}
+use Rattle.clause_flatten.specs.{Ready.{table_of}, Substitution.{table_row, table_without}, TakingOut.{is_over}}
 use Rattle.clause_families.specs.Unions.{substituted}
-use Rattle.clause_flatten.specs.TakingOut.{is_over}
 use Rattle.clause_families.proofs.Families.{clauses_length}
-use Rattle.clause_flatten.proofs.Runs.{other_without}
-use Rattle.clause_flatten.proofs.Turning.{lent_row}
-use Rattle.clause_flatten.proofs.WorkedRows.{lists_at}
+use Rattle.clause_flatten.proofs.{Runs.{other_without}, Turning.{lent_row}, WorkedRows.{lists_at}}
 use Rattle.clause_flatten.proofs.holding.user_would_pass.Goals as goal
 
 pub row_would_pass-requires-clause-row : goal.row_would_pass-requires-clause-row

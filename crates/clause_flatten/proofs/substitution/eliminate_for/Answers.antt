@@ -1,7 +1,5 @@
-use Rattle.std.proofs.Common.{◌≡◌, ◌<◌, ◌+◌, ◌-◌, ℕ, ap, get_or, length, drop, subst, sym, arith}
-use Rattle.std.proofs.lemmas.List.{drop_all}
-use Rattle.clause_pool.proofs.Lists.{In_at}
-use Rattle.clause_pool.proofs.Interned.{kept_along}
+use Rattle.std.proofs.{Common.{◌≡◌, ◌<◌, ◌+◌, ◌-◌, ℕ, ap, get_or, length, drop, subst, sym, arith}, lemmas.List.{drop_all}}
+use Rattle.clause_pool.proofs.{Lists.{In_at}, Interned.{kept_along}}
 use Rattle.clause_flatten.proofs.Midway.{Around, Midway, all_rows, below, each_row, midway_none, midway_refused, midway_step}
 use Rattle.clause_flatten.proofs.substitution.eliminate_for.Goals as goal
 

@@ -1,12 +1,9 @@
 use Rattle.std.proofs.Common.{◌∙◌, ap, subst, sym}
-use Rattle.clause_pool.specs.Interned.{clauses_at}
-use Rattle.clause_pool.proofs.Interned.{kept_along}
-use Rattle.clause_pool.specs.Lists.{InOrder}
+use Rattle.clause_pool.specs.{Interned.{clauses_at}, Lists.{InOrder}}
+use Rattle.clause_pool.proofs.{Interned.{kept_along}, Order.{ordered_order}}
 use Rattle.listed.proofs.Lists.{item_in}
-use Rattle.clause_pool.proofs.Order.{ordered_order}
 use Rattle.clause_families.specs.Unions.{substituted}
-use Rattle.clause_flatten.proofs.NewRow.{copied_row, id_fits, id_is, id_numbers, id_tidies, row_minimal}
-use Rattle.clause_flatten.proofs.Replacing.{at_same, fit_kept, tidy_kept}
+use Rattle.clause_flatten.proofs.{NewRow.{copied_row, id_fits, id_is, id_numbers, id_tidies, row_minimal}, Replacing.{at_same, fit_kept, tidy_kept}}
 use Rattle.clause_flatten.proofs.substitution.new_row.Goals as goal
 
 pub row-requires : goal.row-requires

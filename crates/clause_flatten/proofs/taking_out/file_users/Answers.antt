@@ -1,9 +1,6 @@
-use Rattle.std.proofs.Common.{arith, get_or, subst}
-use Rattle.std.proofs.lemmas.List.{take_all}
-use Rattle.clause_flatten.specs.Ready.{table_of}
+use Rattle.std.proofs.{Common.{arith, get_or, subst}, lemmas.List.{take_all}}
+use Rattle.clause_flatten.specs.{Ready.{table_of}, TakingOut.{counted_anew}, Waiting.{Filed, recounted}}
 use Rattle.listed.proofs.Lists.{In_at}
-use Rattle.clause_flatten.specs.TakingOut.{counted_anew}
-use Rattle.clause_flatten.specs.Waiting.{Filed, recounted}
 use Rattle.clause_flatten.proofs.Runs.{file_more}
 use Rattle.clause_flatten.proofs.taking_out.file_users.Goals as goal
 

@@ -1,8 +1,6 @@
 use Rattle.std.proofs.Common.{ℕ, Bool, take}
 use Rattle.clause_pool.specs.Interned.{Interned}
-use Rattle.clause_flatten.specs.Ready.{table_of}
-use Rattle.clause_flatten.specs.TakingOut.{counted_anew}
-use Rattle.clause_flatten.specs.Waiting.{Filed}
+use Rattle.clause_flatten.specs.{Ready.{table_of}, TakingOut.{counted_anew}, Waiting.{Filed}}
 use Rattle.clause_flatten.proofs.taking_out.file_users.Given as goal
 
 abbrev pub invariant-loop-user : goal.invariant-loop-user

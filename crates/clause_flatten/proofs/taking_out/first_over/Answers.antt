@@ -1,8 +1,6 @@
-use Rattle.std.proofs.Common.{sym, ◌∙◌, arith, get_or}
-use Rattle.std.proofs.lemmas.List.{get_or_default}
-use Rattle.clause_flatten.specs.Ready.{table_of}
+use Rattle.std.proofs.{Common.{sym, ◌∙◌, arith, get_or}, lemmas.List.{get_or_default}}
+use Rattle.clause_flatten.specs.{Ready.{table_of}, TakingOut.{is_over}}
 use Rattle.listed.proofs.Lists.{In_at}
-use Rattle.clause_flatten.specs.TakingOut.{is_over}
 use Rattle.clause_flatten.proofs.Runs.{find_at, find_nowhere}
 use Rattle.clause_flatten.proofs.taking_out.first_over.Goals as goal
 

@@ -1,8 +1,5 @@
-use Rattle.std.proofs.Common.{◌≡◌, ◌&&◌, ◌∙◌, ap, not, sym, true}
-use Rattle.std.proofs.lemmas.Bool.{both_ways, not_from_false, true_from_ne_false}
-use Rattle.std.proofs.lemmas.Result.{IfOk-weaker}
-use Rattle.clause_flatten.specs.Ready.{table_of}
-use Rattle.clause_flatten.specs.Substitution.{table_passes, table_without}
+use Rattle.std.proofs.{Common.{◌≡◌, ◌&&◌, ◌∙◌, ap, not, sym, true}, lemmas.Bool.{both_ways, not_from_false, true_from_ne_false}, lemmas.Result.{IfOk-weaker}}
+use Rattle.clause_flatten.specs.{Ready.{table_of}, Substitution.{table_passes, table_without}}
 use Rattle.clause_flatten.proofs.taking_out.is_to_stay.Goals as goal
 
 pub returns : goal.returns

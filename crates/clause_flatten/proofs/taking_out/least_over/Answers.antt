@@ -1,6 +1,5 @@
 use Rattle.std.proofs.Common.{sym, ◌∙◌, arith, length}
-use Rattle.clause_flatten.specs.Ready.{table_of}
-use Rattle.clause_flatten.specs.TakingOut.{is_over}
+use Rattle.clause_flatten.specs.{Ready.{table_of}, TakingOut.{is_over}}
 use Rattle.clause_flatten.proofs.Runs.{least_passing, none_passing}
 use Rattle.clause_flatten.proofs.taking_out.least_over.Goals as goal
 

@@ -1,7 +1,6 @@
 use Rattle.std.proofs.Common.{◌≡◌, ℕ, ◌<◌, false}
 use Rattle.clause_pool.specs.Interned.{Interned}
-use Rattle.clause_flatten.specs.Ready.{table_of}
-use Rattle.clause_flatten.specs.TakingOut.{is_over}
+use Rattle.clause_flatten.specs.{Ready.{table_of}, TakingOut.{is_over}}
 use Rattle.clause_flatten.proofs.taking_out.least_over.Given as goal
 
 abbrev pub invariant-loop-number : goal.invariant-loop-number

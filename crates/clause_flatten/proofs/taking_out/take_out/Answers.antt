@@ -1,13 +1,9 @@
 use Rattle.std.proofs.Common.{◌≡◌, ◌<◌, ℕ, List, arith, ap, sym, ◌∙◌, length}
 use Rattle.std.specs.List.{find}
-use Rattle.clause_flatten.specs.Ready.{table_of}
+use Rattle.clause_flatten.specs.{Ready.{table_of}, Substitution.{table_without, length_in}, TakingOut.{is_over}}
 use Rattle.row_book.specs.Numbers.{numbers}
 use Rattle.listed.proofs.Lists.{find_some}
-use Rattle.clause_flatten.specs.Substitution.{table_without, length_in}
-use Rattle.clause_flatten.specs.TakingOut.{is_over}
-use Rattle.clause_flatten.proofs.Runs.{none_over, passed_some}
-use Rattle.clause_flatten.proofs.UserRows.{filed_after, over_all}
-use Rattle.clause_flatten.proofs.WorkedRows.{none_left, users_below}
+use Rattle.clause_flatten.proofs.{Runs.{none_over, passed_some}, UserRows.{filed_after, over_all}, WorkedRows.{none_left, users_below}}
 use Rattle.clause_flatten.proofs.taking_out.take_out.Goals as goal
 
 pub first_over-requires : goal.first_over-requires

@@ -2,12 +2,9 @@ use Rattle.std.proofs.Common.{◌≡◌, ◌∙◌, ℕ, List, Some, false, leng
 use Rattle.std.proofs.lemmas.List as lists
 use Rattle.std.proofs.lemmas.Result.{err_from_is_err_and}
 use Rattle.clause_pool.specs.Interned.{clauses_at}
-use Rattle.clause_flatten.specs.Ready.{table_of}
-use Rattle.row_book.specs.Numbers.{numbers}
-use Rattle.row_book.specs.Flattening.{passed_by}
-use Rattle.clause_flatten.specs.Substitution.{length_in, table_without}
-use Rattle.clause_flatten.proofs.Running.{on_limit}
-use Rattle.clause_flatten.proofs.Runs.{eliminated_count, holds_none}
+use Rattle.clause_flatten.specs.{Ready.{table_of}, Substitution.{length_in, table_without}}
+use Rattle.row_book.specs.{Numbers.{numbers}, Flattening.{passed_by}}
+use Rattle.clause_flatten.proofs.{Running.{on_limit}, Runs.{eliminated_count, holds_none}}
 use Rattle.clause_flatten.proofs.taking_out.take_out_or_hold.Goals as goal
 
 pub returns-in_err-take_out-clause-passed : goal.returns-in_err-take_out-clause-passed

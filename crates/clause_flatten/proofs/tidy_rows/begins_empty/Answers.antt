@@ -1,5 +1,4 @@
-use Rattle.std.proofs.Common.{◌≡◌, ◌<◌, get_or, length, sym, subst}
-use Rattle.std.proofs.lemmas.Option.{get_or_from_slice_get}
+use Rattle.std.proofs.{Common.{◌≡◌, ◌<◌, get_or, length, sym, subst}, lemmas.Option.{get_or_from_slice_get}}
 use Rattle.listed.specs.Lists.{In}
 use Rattle.listed.proofs.Lists.{In_at}
 use Rattle.clause_flatten.proofs.tidy_rows.begins_empty.Goals as goal

@@ -1,5 +1,4 @@
-use Rattle.std.proofs.Common.{◌≡◌, ◌∙◌, ◌+◌, ◌++◌, ◌∷◌, [], ℕ, ap, append-nil, arith, cond, filter, sym, take}
-use Rattle.std.proofs.lemmas.List.Elements.{filter_more}
+use Rattle.std.proofs.{Common.{◌≡◌, ◌∙◌, ◌+◌, ◌++◌, ◌∷◌, [], ℕ, ap, append-nil, arith, cond, filter, sym, take}, lemmas.List.Elements.{filter_more}}
 use Rattle.clause_pool.specs.Interned.{clause_at, clauses_at}
 use Rattle.clause_families.specs.Inclusion.{stays}
 use Rattle.listed.proofs.Lists.{item_in}

@@ -1,7 +1,6 @@
 use Rattle.std.proofs.Common.{◌≡◌, ◌∙◌, ◌&&◌, false, not, true, ap, length, subst, sym, Some}
-use Rattle.clause_pool.specs.Interned.{clause_at, clauses_at}
+use Rattle.clause_pool.specs.{Interned.{clause_at, clauses_at}, Within.{some_within}}
 use Rattle.listed.specs.Lists.{Ascending, has}
-use Rattle.clause_pool.specs.Within.{some_within}
 use Rattle.clause_families.specs.Inclusion.{has_shorter}
 use Rattle.clause_flatten.proofs.Tidied.{shorter_is_other, shorter_than_one}
 use Rattle.clause_flatten.proofs.tidy_rows.stays_in.Goals as goal

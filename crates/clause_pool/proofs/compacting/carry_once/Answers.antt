@@ -1,9 +1,6 @@
-use Rattle.std.proofs.Common.{◌≡◌, ◌<◌, ◌∙◌, [], inl, refl, sym, subst, ap, get_or, Some, None}
+use Rattle.std.proofs.{Common.{◌≡◌, ◌<◌, ◌∙◌, [], inl, refl, sym, subst, ap, get_or, Some, None}, lemmas.List.{set-get_or}, lemmas.Option.{same_Some}}
 use Rattle.std.specs.List.{slice_set}
-use Rattle.std.proofs.lemmas.List.{set-get_or}
-use Rattle.std.proofs.lemmas.Option.{same_Some}
-use Rattle.clause_pool.proofs.Lists.{In_at}
-use Rattle.clause_pool.proofs.Carried.{known_id, known_more}
+use Rattle.clause_pool.proofs.{Lists.{In_at}, Carried.{known_id, known_more}}
 use Rattle.clause_pool.proofs.compacting.carry_once.Goals as goal
 
 pub returns-in-Some-clause-ok : goal.returns-in-Some-clause-ok

@@ -1,14 +1,10 @@
-use Rattle.std.proofs.Common.{◌≡◌, ◌∙◌, ◌+◌, ◌-◌, List, ℕ, Option, ap, ap₂, false, get_or, length, length-drop, sym, subst, arith}
-use Rattle.std.specs.List.{list_any}
-use Rattle.std.specs.Option.{option_map}
-use Rattle.std.proofs.lemmas.Bool.{OnTrue_at}
+use Rattle.std.proofs.{Common.{◌≡◌, ◌∙◌, ◌+◌, ◌-◌, List, ℕ, Option, ap, ap₂, false, get_or, length, length-drop, sym, subst, arith}, lemmas.Bool.{OnTrue_at}}
 use Rattle.std.proofs.lemmas.List.{get_or_default}
-use Rattle.listed.proofs.Orders.{rest_ascends}
-use Rattle.clause_pool.specs.Interned.{clause_at}
+use Rattle.std.specs.{List.{list_any}, Option.{option_map}}
+use Rattle.listed.proofs.{Orders.{rest_ascends}, Lists.{item_in}}
+use Rattle.clause_pool.specs.{Interned.{clause_at}, Within.{rest_within}}
 use Rattle.listed.specs.Lists.{Ascending}
-use Rattle.clause_pool.specs.Within.{rest_within}
 use Rattle.clause_pool.proofs.Groups.{in_part, none_further, none_within, one_within, part_deep, part_in_order}
-use Rattle.listed.proofs.Lists.{item_in}
 use Rattle.clause_pool.proofs.within.+has_rest_within.Goals as goal
 
 pub is_within-requires-clause-id : goal.is_within-requires-clause-id

@@ -1,6 +1,4 @@
-use Rattle.std.proofs.Common.{◌≡◌, ◌<◌, ◌-◌, get_or, length, sym, subst, arith}
-use Rattle.std.proofs.lemmas.Bool.{OnTrue_at, OnTrue_from}
-use Rattle.std.proofs.lemmas.Option.{get_or_from_slice_get}
+use Rattle.std.proofs.{Common.{◌≡◌, ◌<◌, ◌-◌, get_or, length, sym, subst, arith}, lemmas.Bool.{OnTrue_at, OnTrue_from}, lemmas.Option.{get_or_from_slice_get}}
 use Rattle.listed.specs.Lists.{In}
 use Rattle.clause_pool.proofs.Groups.{each_below}
 use Rattle.listed.proofs.Lists.{In_at}

@@ -1,7 +1,6 @@
 use Rattle.std.proofs.Common.{sym, arith}
 use Rattle.std.specs.Option.{option_map}
-use Rattle.clause_pool.specs.Interned.{clause_at}
-use Rattle.clause_pool.specs.Within.{rest_within}
+use Rattle.clause_pool.specs.{Interned.{clause_at}, Within.{rest_within}}
 use Rattle.clause_pool.proofs.Groups.{none_places}
 use Rattle.listed.proofs.Lists.{item_in}
 use Rattle.clause_pool.proofs.within.any_within.Goals as goal

@@ -1,7 +1,6 @@
 use Rattle.std.proofs.Common.{◌≡◌, ℕ, ◌<◌, false, get_or}
 use Rattle.std.specs.Option.{option_map}
-use Rattle.clause_pool.specs.Interned.{clause_at}
-use Rattle.clause_pool.specs.Within.{rest_within}
+use Rattle.clause_pool.specs.{Interned.{clause_at}, Within.{rest_within}}
 use Rattle.clause_pool.proofs.within.any_within.Given as goal
 
 abbrev pub invariant-loop-id : goal.invariant-loop-id

@@ -1,13 +1,10 @@
 use Rattle.std.proofs.Common.{◌≡◌, ◌<◌, ◌≤◌, ◌+◌, ◌∷◌, ◌++◌, ◌∙◌, [], ℕ, ap, ap₂, append-nil, arith, drop, drop-cons, length, map, refl, subst, suc, sym}
 use Rattle.std.proofs.lemmas.List.{drop_all}
 use Rattle.clause_pool.specs.Interned.{clause_at, clauses_at}
-use Rattle.row_book.specs.Pruning.{prune_clauses}
-use Rattle.row_book.specs.Rounds.{IdleStep}
-use Rattle.row_book.specs.Trail.{trail_meaning}
+use Rattle.row_book.specs.{Pruning.{prune_clauses}, Rounds.{IdleStep}, Trail.{trail_meaning}}
 use Rattle.listed.proofs.Lists.{In_map, item_in}
 use Rattle.clause_prune.specs.Tests.{with_ids}
-use Rattle.clause_prune.proofs.Files.{asks_left}
-use Rattle.clause_prune.proofs.Left.{Pruning, pruning_more}
+use Rattle.clause_prune.proofs.{Files.{asks_left}, Left.{Pruning, pruning_more}}
 use Rattle.clause_prune.proofs.clauses.prune_each.Goals as goal
 
 pub loop-id-init : goal.loop-id-init

@@ -1,13 +1,9 @@
-use Rattle.std.proofs.Common.{◌≡◌, ◌∷◌, ◌++◌, ◌∙◌, [], List, ap, false, map, sym, true, Some, None}
+use Rattle.std.proofs.{Common.{◌≡◌, ◌∷◌, ◌++◌, ◌∙◌, [], List, ap, false, map, sym, true, Some, None}, lemmas.List.{map-append}}
 use Rattle.std.specs.List.{find}
-use Rattle.std.proofs.lemmas.List.{map-append}
 use Rattle.clause_pool.specs.Interned.{clause_at}
-use Rattle.row_book.specs.Pruning.{is_forced, is_idle}
-use Rattle.row_book.specs.Rounds.{IdleStep, RoundStep}
-use Rattle.row_book.specs.Trail.{trail_meaning, step_meaning}
+use Rattle.row_book.specs.{Pruning.{is_forced, is_idle}, Rounds.{IdleStep, RoundStep}, Trail.{trail_meaning, step_meaning}}
 use Rattle.clause_prune.specs.Tests.{with_ids}
-use Rattle.clause_prune.proofs.Dropped.{ids_once}
-use Rattle.clause_prune.proofs.Left.{forced_goes, found_steps, idle_goes, none_goes, order_less, part_less}
+use Rattle.clause_prune.proofs.{Dropped.{ids_once}, Left.{forced_goes, found_steps, idle_goes, none_goes, order_less, part_less}}
 use Rattle.clause_prune.proofs.clauses.prune_one.Goals as goal
 
 pub returns-then-forced-clause-left : goal.returns-then-forced-clause-left

@@ -1,7 +1,6 @@
 use Rattle.std.proofs.Common.{◌∙◌, ◌∷◌, [], refl, sym}
 use Rattle.clause_pool.specs.Interned.{clause_at}
-use Rattle.clause_prune.specs.Filing.{entries_in}
-use Rattle.clause_prune.specs.declared.filing.Entry.{Entry}
+use Rattle.clause_prune.specs.{Filing.{entries_in}, declared.filing.Entry.{Entry}}
 use Rattle.clause_prune.proofs.Files.{filed_always, filed_under, on_ok_map, takes_always, takes_entry}
 use Rattle.clause_prune.proofs.filing.file_clause.Goals as goal
 

@@ -1,10 +1,8 @@
-use Rattle.std.proofs.Common.{ℕ, List, [], get_or, subst, sym, arith}
-use Rattle.std.proofs.lemmas.List.{get_or_default}
+use Rattle.std.proofs.{Common.{ℕ, List, [], get_or, subst, sym, arith}, lemmas.List.{get_or_default}}
 use Rattle.listed.specs.Lists.{In}
 use Rattle.row_book.specs.Repository.{clauses_of}
 use Rattle.listed.proofs.Lists.{In_at}
-use Rattle.clause_prune.specs.Filing.{Filed, IsFiled, Takes, filed_in}
-use Rattle.clause_prune.specs.Tests.{with_ids}
+use Rattle.clause_prune.specs.{Filing.{Filed, IsFiled, Takes, filed_in}, Tests.{with_ids}}
 use Rattle.clause_prune.proofs.Files.{filed_for_still, filed_still, more_items}
 use Rattle.clause_prune.proofs.filing.file_each.Goals as goal
 

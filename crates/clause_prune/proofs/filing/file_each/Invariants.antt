@@ -1,8 +1,7 @@
 use Rattle.std.proofs.Common.{ℕ, List, [], take}
 use Rattle.listed.specs.Lists.{In}
 use Rattle.row_book.specs.Repository.{clauses_of}
-use Rattle.clause_prune.specs.Filing.{FiledFor, IsFiled, filed_in}
-use Rattle.clause_prune.specs.Tests.{with_ids}
+use Rattle.clause_prune.specs.{Filing.{FiledFor, IsFiled, filed_in}, Tests.{with_ids}}
 use Rattle.clause_prune.proofs.filing.file_each.Given as goal
 
 abbrev pub invariant-loop-member : goal.invariant-loop-member

@@ -3,8 +3,7 @@ use Rattle.clause_pool.specs.Interned.{clauses_at}
 use Rattle.listed.specs.Lists.{In, has}
 use Rattle.row_book.specs.Uses.{some_holds}
 use Rattle.listed.proofs.Lists.{In_has, any_cases, any_from, has_In}
-use Rattle.clause_prune.specs.Filing.{entries_in, filed_in}
-use Rattle.clause_prune.specs.Tests.{with_ids}
+use Rattle.clause_prune.specs.{Filing.{entries_in, filed_in}, Tests.{with_ids}}
 use Rattle.clause_prune.proofs.Files.{filed_for_none, server_asked}
 use Rattle.clause_prune.proofs.filing.file_members.Goals as goal
 

@@ -1,6 +1,5 @@
-use Rattle.std.proofs.Common.{◌≡◌, ◌∷◌, [], ℕ, subst, sym, arith}
+use Rattle.std.proofs.{Common.{◌≡◌, ◌∷◌, [], ℕ, subst, sym, arith}, lemmas.List.{take_all}}
 use Rattle.std.specs.Bool.{OnFalse}
-use Rattle.std.proofs.lemmas.List.{take_all}
 use Rattle.clause_pool.specs.Interned.{clause_at}
 use Rattle.listed.specs.Lists.{In}
 use Rattle.listed.proofs.Lists.{In_map_cases, In_none, item_in}

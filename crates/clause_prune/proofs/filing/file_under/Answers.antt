@@ -1,5 +1,4 @@
-use Rattle.std.proofs.Common.{◌∙◌, sym}
-use Rattle.std.proofs.lemmas.Bool.{both_ways}
+use Rattle.std.proofs.{Common.{◌∙◌, sym}, lemmas.Bool.{both_ways}}
 use Rattle.listed.specs.Lists.{has}
 use Rattle.listed.proofs.Lists.{In_has}
 use Rattle.clause_prune.proofs.filing.file_under.Goals as goal

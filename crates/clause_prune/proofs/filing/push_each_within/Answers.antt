@@ -1,6 +1,5 @@
-use Rattle.std.proofs.Common.{◌∙◌, ◌||◌, ap, get_or}
+use Rattle.std.proofs.{Common.{◌∙◌, ◌||◌, ap, get_or}, lemmas.List.{get_or_default, take_all}}
 use Rattle.std.specs.List.{list_any}
-use Rattle.std.proofs.lemmas.List.{get_or_default, take_all}
 use Rattle.listed.specs.Lists.{has}
 use Rattle.clause_prune.specs.Filing.{entries_in, tell_within, under}
 use Rattle.clause_prune.proofs.Files.{listed_more}

@@ -1,5 +1,4 @@
-use Rattle.std.proofs.Common.{◌∙◌, ◌||◌, ap, arith, sym}
-use Rattle.std.proofs.lemmas.List.{take_all}
+use Rattle.std.proofs.{Common.{◌∙◌, ◌||◌, ap, arith, sym}, lemmas.List.{take_all}}
 use Rattle.listed.specs.Lists.{has, is_inside}
 use Rattle.listed.proofs.Lists.{item_in}
 use Rattle.clause_prune.specs.Filing.{tell_within}

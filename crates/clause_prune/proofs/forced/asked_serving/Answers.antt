@@ -1,10 +1,8 @@
-use Rattle.std.proofs.Common.{◌≡◌, ◌++◌, ◌∙◌, [], ℕ, Bool, ap, filter, get_or, sym, arith}
-use Rattle.std.proofs.lemmas.List.{take_all}
+use Rattle.std.proofs.{Common.{◌≡◌, ◌++◌, ◌∙◌, [], ℕ, Bool, ap, filter, get_or, sym, arith}, lemmas.List.{take_all}}
 use Rattle.row_book.specs.Pruning.{serves}
 use Rattle.listed.proofs.Lists.{In_at}
 use Rattle.clause_prune.specs.Tests.{with_ids}
-use Rattle.clause_prune.proofs.Forcing.{serves_not, serves_too}
-use Rattle.clause_prune.proofs.Passing.{read_zero}
+use Rattle.clause_prune.proofs.{Forcing.{serves_not, serves_too}, Passing.{read_zero}}
 use Rattle.clause_prune.proofs.forced.asked_serving.Goals as goal
 use Rattle.clause_prune.proofs.forced.asked_serving.Goals.{then-serves+in_ok-push, else-serves}
 

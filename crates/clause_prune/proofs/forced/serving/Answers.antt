@@ -3,8 +3,7 @@ use Rattle.std.proofs.lemmas.List.Sorted.{IsNonDecreasingBy-from_sort, list_any-
 use Rattle.listed.specs.Lists.{In, has}
 use Rattle.row_book.specs.Pruning.{serves}
 use Rattle.row_book.proofs.Holders.{gathered}
-use Rattle.clause_prune.specs.Filing.{filed_within}
-use Rattle.clause_prune.specs.Tests.{with_ids}
+use Rattle.clause_prune.specs.{Filing.{filed_within}, Tests.{with_ids}}
 use Rattle.clause_prune.proofs.forced.serving.Goals as goal
 
 pub asked_serving-requires-clause-asked : goal.asked_serving-requires-clause-asked

@@ -1,8 +1,7 @@
 use Rattle.std.proofs.Common.{◌≡◌, ◌∙◌, Bool, ap, false, sym, true}
 use Rattle.std.specs.List.{list_all}
 use Rattle.clause_pool.specs.Interned.{clause_at}
-use Rattle.row_book.specs.Book.{listed_for}
-use Rattle.row_book.specs.Repository.{clauses_of}
+use Rattle.row_book.specs.{Book.{listed_for}, Repository.{clauses_of}}
 use Rattle.clause_prune.specs.Tests.{harmless_in, with_ids, hit_anyway_in}
 use Rattle.clause_prune.proofs.Passing.{both_tests, first_fails, idle_is}
 use Rattle.clause_prune.proofs.idle.is_idle.Goals as goal

@@ -1,14 +1,9 @@
 use Rattle.std.proofs.Common.{◌≡◌, ◌∙◌, ◌↔◌, ap, ap₂, arith, length, map, subst, sym}
-use Rattle.row_book.specs.Pruning.{prune}
+use Rattle.row_book.specs.{Pruning.{prune}, Book.{repository_of}, Repository.{Coinst}}
 use Rattle.clause_pool.specs.Interned.{row_at}
 use Rattle.clause_prune.specs.Tests.{repository_in}
-use Rattle.row_book.specs.Book.{repository_of}
-use Rattle.row_book.specs.Repository.{Coinst}
-use Rattle.row_book.proofs.BookRepositories.{tidy_repository}
-use Rattle.row_book.proofs.Repositories.{repository_same}
-use Rattle.row_book.proofs.Users.{lent_whole}
-use Rattle.clause_prune.proofs.PassedRows.{pruned_sound, start_tidy}
-use Rattle.clause_prune.proofs.Dropping.{prune_keeps_lem}
+use Rattle.row_book.proofs.{BookRepositories.{tidy_repository}, Repositories.{repository_same}, Users.{lent_whole}}
+use Rattle.clause_prune.proofs.{PassedRows.{pruned_sound, start_tidy}, Dropping.{prune_keeps_lem}}
 use Rattle.clause_prune.proofs.pruning.prune.Goals as goal
 
 -- src/pruning.rt:110:5

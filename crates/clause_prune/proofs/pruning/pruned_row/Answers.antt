@@ -1,15 +1,10 @@
-use Rattle.std.proofs.Common.{◌≡◌, ◌++◌, ◌∙◌, ap, append-nil, false, map, subst, sym, true}
-use Rattle.std.proofs.lemmas.Result.{IfOk-weaker}
+use Rattle.std.proofs.{Common.{◌≡◌, ◌++◌, ◌∙◌, ap, append-nil, false, map, subst, sym, true}, lemmas.Result.{IfOk-weaker}}
 use Rattle.clause_pool.specs.Interned.{clauses_at, ids_at, row_at}
 use Rattle.listed.specs.Lists.{In}
-use Rattle.row_book.specs.Uses.{row_id}
-use Rattle.row_book.specs.Pruning.{is_dead}
-use Rattle.row_book.specs.Rounds.{IdleStep}
-use Rattle.row_book.specs.Trail.{trail_meaning}
+use Rattle.row_book.specs.{Uses.{row_id}, Pruning.{is_dead}, Rounds.{IdleStep}, Trail.{trail_meaning}}
 use Rattle.listed.proofs.Lists.{In_at, item_in}
 use Rattle.clause_prune.specs.Tests.{repository_in}
-use Rattle.clause_prune.proofs.Left.{dead_is, dead_package, dead_steps, interned_row, live_package, live_steps, on_ok}
-use Rattle.clause_prune.proofs.Passing.{read_zero}
+use Rattle.clause_prune.proofs.{Left.{dead_is, dead_package, dead_steps, interned_row, live_package, live_steps, on_ok}, Passing.{read_zero}}
 use Rattle.clause_prune.proofs.pruning.pruned_row.Goals as goal
 
 pub row-requires : goal.row-requires

@@ -1,7 +1,5 @@
-use Rattle.std.proofs.Common.{◌≡◌, ◌-◌, ◌<◌, ◌≤◌, ◌∙◌, ℕ, drop, get_or, length, subst, take, arith}
-use Rattle.std.proofs.lemmas.List.{length-drop, take_all}
-use Rattle.clause_prune.proofs.Dropped.{none_dropped, one_dropped}
-use Rattle.clause_prune.proofs.Moved.{moved_up}
+use Rattle.std.proofs.{Common.{◌≡◌, ◌-◌, ◌<◌, ◌≤◌, ◌∙◌, ℕ, drop, get_or, length, subst, take, arith}, lemmas.List.{length-drop, take_all}}
+use Rattle.clause_prune.proofs.{Dropped.{none_dropped, one_dropped}, Moved.{moved_up}}
 use Rattle.clause_prune.proofs.remaining.moves_up.Goals as goal
 
 pub returns-then-place-ids-clause-left : goal.returns-then-place-ids-clause-left

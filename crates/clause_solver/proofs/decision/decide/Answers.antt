@@ -1,8 +1,6 @@
 use Rattle.std.proofs.Common.{◌≡◌, ◌++◌, ◌∷◌, [], ap}
-use Rattle.clause_solver.specs.Marking.{set_of_trail}
-use Rattle.clause_solver.specs.Engine.{sentences_in}
-use Rattle.clause_solver.proofs.Running.{consistent_push}
-use Rattle.clause_solver.proofs.Calm.{closure_closed, undecided_not, assume_waits, assume_calm, assume_clash}
+use Rattle.clause_solver.specs.{Marking.{set_of_trail}, Engine.{sentences_in}}
+use Rattle.clause_solver.proofs.{Running.{consistent_push}, Calm.{closure_closed, undecided_not, assume_waits, assume_calm, assume_clash}}
 use Rattle.clause_solver.proofs.decision.decide.Goals as goal
 
 pub propagate-requires-clause-consistent : goal.propagate-requires-clause-consistent

@@ -1,7 +1,6 @@
 use Rattle.std.proofs.Common.{◌<◌, ◌≤◌, length, arith, [], refl}
 use Rattle.clause_solver.specs.Marking.{set_of_trail}
-use Rattle.clause_solver.proofs.Drains.{item_from, read_at}
-use Rattle.clause_solver.proofs.Openings.{swept_more, swept_end}
+use Rattle.clause_solver.proofs.{Drains.{item_from, read_at}, Openings.{swept_more, swept_end}}
 use Rattle.clause_solver.proofs.nodes.first_open.Goals as goal
 
 pub lesser_open-least-requires : goal.lesser_open-least-requires

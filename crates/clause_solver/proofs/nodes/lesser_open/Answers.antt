@@ -1,9 +1,7 @@
 use Rattle.std.proofs.Common.{◌≡◌, ◌<◌, true, length, get_or, arith, [], refl, sym, ◌∙◌, subst}
 use Rattle.search_terms.specs.Tree.{is_open_need}
 use Rattle.clause_solver.specs.Marking.{set_of_trail}
-use Rattle.clause_solver.proofs.Running.{no_use}
-use Rattle.clause_solver.proofs.Drains.{item_from}
-use Rattle.clause_solver.proofs.Openings.{least_take}
+use Rattle.clause_solver.proofs.{Running.{no_use}, Drains.{item_from}, Openings.{least_take}}
 use Rattle.clause_solver.proofs.nodes.lesser_open.Goals as goal
 
 pub loop-entry-preserved : goal.loop-entry-preserved

@@ -1,7 +1,6 @@
 use Rattle.std.proofs.Common.{◌<◌, ◌≤◌, ◌∙◌, length}
 use Rattle.clause_solver.specs.Engine.{sentences_in}
-use Rattle.clause_solver.proofs.Running.{runs_then}
-use Rattle.clause_solver.proofs.Drains.{drain_step, drained, read_at}
+use Rattle.clause_solver.proofs.{Running.{runs_then}, Drains.{drain_step, drained, read_at}}
 use Rattle.clause_solver.proofs.propagation.propagate.Goals as goal
 
 pub returns-then-branch-clause-runs : goal.returns-then-branch-clause-runs

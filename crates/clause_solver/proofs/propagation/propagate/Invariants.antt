@@ -1,7 +1,6 @@
 use Rattle.std.proofs.Common.{◌≡◌, ◌-◌, ◌*◌}
 use Rattle.std.specs.Prelude.{All}
-use Rattle.clause_solver.specs.Running.{Runs, Waits}
-use Rattle.clause_solver.specs.Engine.{sentences_in}
+use Rattle.clause_solver.specs.{Running.{Runs, Waits}, Engine.{sentences_in}}
 use Rattle.clause_solver.proofs.propagation.propagate.Given as goal
 
 abbrev pub invariant-loop-next : goal.invariant-loop-next

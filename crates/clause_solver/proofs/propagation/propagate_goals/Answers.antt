@@ -1,5 +1,4 @@
-use Rattle.clause_solver.proofs.Running.{runs_none}
-use Rattle.clause_solver.proofs.Drains.{each_goal_waits, no_goal_waits}
+use Rattle.clause_solver.proofs.{Running.{runs_none}, Drains.{each_goal_waits, no_goal_waits}}
 use Rattle.clause_solver.proofs.propagation.propagate_goals.Goals as goal
 
 pub returns-then-l-clause-runs : goal.returns-then-l-clause-runs

@@ -1,10 +1,7 @@
-use Rattle.std.proofs.Common.{◌≡◌, ◌<◌, refl, get_or, [], length, arith}
-use Rattle.std.proofs.lemmas.Bool.{not-true}
+use Rattle.std.proofs.{Common.{◌≡◌, ◌<◌, refl, get_or, [], length, arith}, lemmas.Bool.{not-true}}
 use Rattle.std.specs.Prelude.{map}
-use Rattle.search_terms.specs.Marks.{flag_place}
-use Rattle.search_terms.specs.Form.{conflict_sentence}
-use Rattle.clause_solver.specs.Marking.{set_of_trail}
-use Rattle.clause_solver.specs.Engine.{sentences_in}
+use Rattle.search_terms.specs.{Marks.{flag_place}, Form.{conflict_sentence}}
+use Rattle.clause_solver.specs.{Marking.{set_of_trail}, Engine.{sentences_in}}
 use Rattle.clause_solver.proofs.Running.{runs_more, runs_then}
 use Rattle.clause_solver.proofs.Drains.{whole_goals, whole_own, whole_conflicts, mark_negative, mark_positive, item_from, refuted_more}
 use Rattle.clause_solver.proofs.propagation.propagate_literal.Goals as goal

@@ -1,8 +1,6 @@
 use Rattle.std.proofs.Common.{[]}
-use Rattle.clause_solver.specs.Marking.{set_of_trail}
-use Rattle.clause_solver.specs.Engine.{whole_form}
-use Rattle.clause_solver.proofs.Running.{runs_more, runs_then}
-use Rattle.clause_solver.proofs.Drains.{whole_own, refuted_more}
+use Rattle.clause_solver.specs.{Marking.{set_of_trail}, Engine.{whole_form}}
+use Rattle.clause_solver.proofs.{Running.{runs_more, runs_then}, Drains.{whole_own, refuted_more}}
 use Rattle.clause_solver.proofs.Calm.{first_waits, sound_from, sound_none, root_calm, root_clash}
 use Rattle.clause_solver.proofs.solver.first_pass.Goals as goal
 

@@ -1,7 +1,5 @@
-use Rattle.clause_solver.specs.Marking.{set_of_trail}
-use Rattle.clause_solver.specs.Engine.{sentences_in}
-use Rattle.clause_solver.proofs.Running.{runs_more, runs_then}
-use Rattle.clause_solver.proofs.Drains.{whole_goals, refuted_more}
+use Rattle.clause_solver.specs.{Marking.{set_of_trail}, Engine.{sentences_in}}
+use Rattle.clause_solver.proofs.{Running.{runs_more, runs_then}, Drains.{whole_goals, refuted_more}}
 use Rattle.clause_solver.proofs.Calm.{base_waits, base_sound, sound_from, root_calm, root_clash}
 use Rattle.clause_solver.proofs.solver.root.Goals as goal
 

@@ -1,10 +1,7 @@
-use Rattle.std.proofs.Common.{◌++◌, [], refl}
-use Rattle.std.proofs.lemmas.List.Elements.{Contains-append_right}
+use Rattle.std.proofs.{Common.{◌++◌, [], refl}, lemmas.List.Elements.{Contains-append_right}}
 use Rattle.search_terms.specs.Form.{owned_sentences, conflict_sentence}
-use Rattle.clause_solver.specs.Engine.{sentences_in, whole_form}
-use Rattle.clause_solver.specs.Levels.IsFallen.{nowhere}
-use Rattle.clause_solver.proofs.Calm.{calm_of}
-use Rattle.clause_solver.proofs.Preparing.{clash_part}
+use Rattle.clause_solver.specs.{Engine.{sentences_in, whole_form}, Levels.IsFallen.{nowhere}}
+use Rattle.clause_solver.proofs.{Calm.{calm_of}, Preparing.{clash_part}}
 use Rattle.clause_solver.proofs.solver.start.Goals as goal
 
 pub returns-then-dead-clause-at : goal.returns-then-dead-clause-at

@@ -1,7 +1,6 @@
 use Rattle.std.proofs.Common.{◌≡◌, ◌≤◌, ◌∙◌, length, arith, refl, get_or, true, false}
 use Rattle.std.specs.Prelude.{map}
-use Rattle.search_terms.specs.Closure.{literal}
-use Rattle.search_terms.specs.Form.{conflict_sentence}
+use Rattle.search_terms.specs.{Closure.{literal}, Form.{conflict_sentence}}
 use Rattle.clause_solver.specs.Marking.{set_of_trail}
 use Rattle.clause_solver.proofs.Running.{sweep_runs, pair_in, sweep_end, excluded_more}
 use Rattle.clause_solver.proofs.steps.propagate_conflicts.Goals as goal

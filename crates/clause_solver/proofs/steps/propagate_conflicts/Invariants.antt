@@ -1,9 +1,7 @@
 use Rattle.std.proofs.Common.{◌≡◌, true, false, take}
 use Rattle.std.specs.Prelude.{All, map}
-use Rattle.search_terms.specs.Closure.{literal}
-use Rattle.search_terms.specs.Form.{conflict_sentence}
-use Rattle.clause_solver.specs.Marking.{set_of_trail}
-use Rattle.clause_solver.specs.Running.{Runs}
+use Rattle.search_terms.specs.{Closure.{literal}, Form.{conflict_sentence}}
+use Rattle.clause_solver.specs.{Marking.{set_of_trail}, Running.{Runs}}
 use Rattle.clause_solver.proofs.steps.propagate_conflicts.Given as goal
 
 abbrev pub invariant-loop-q : goal.invariant-loop-q

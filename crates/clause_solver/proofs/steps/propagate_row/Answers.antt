@@ -1,5 +1,4 @@
-use Rattle.std.proofs.Common.{◌≤◌, ◌∙◌, length, arith, get_or, []}
-use Rattle.std.proofs.lemmas.List.Elements.{Contains-get_or}
+use Rattle.std.proofs.{Common.{◌≤◌, ◌∙◌, length, arith, get_or, []}, lemmas.List.Elements.{Contains-get_or}}
 use Rattle.clause_solver.specs.Running.{Waits}
 use Rattle.clause_solver.proofs.Running.{no_use, sweep_runs, row_waits, sweep_end}
 use Rattle.clause_solver.proofs.steps.propagate_row.Goals as goal

@@ -1,5 +1,4 @@
-use Rattle.std.proofs.Common.{◌<◌, ◌∙◌, sym, ap}
-use Rattle.std.proofs.lemmas.List.Elements.{All-contains}
+use Rattle.std.proofs.{Common.{◌<◌, ◌∙◌, sym, ap}, lemmas.List.Elements.{All-contains}}
 use Rattle.clause_solver.specs.Marking.{set_of_trail}
 use Rattle.clause_solver.proofs.Running.{none_free, settle_put, settle_has, settle_not, free_is}
 use Rattle.clause_solver.proofs.steps.unit_step.Goals as goal

@@ -1,7 +1,5 @@
-use Rattle.std.proofs.Common.{◌∙◌, ◌<◌, ◌≤◌, ◌++◌, ◌∷◌, [], length, arith, refl, ap, sym}
-use Rattle.std.proofs.lemmas.List.Elements.{Contains-get_or}
-use Rattle.clause_solver.proofs.Drains.{read_at}
-use Rattle.clause_solver.proofs.Building.{enters_none, enters_more, enters_all}
+use Rattle.std.proofs.{Common.{◌∙◌, ◌<◌, ◌≤◌, ◌++◌, ◌∷◌, [], length, arith, refl, ap, sym}, lemmas.List.Elements.{Contains-get_or}}
+use Rattle.clause_solver.proofs.{Drains.{read_at}, Building.{enters_none, enters_more, enters_all}}
 use Rattle.clause_solver.proofs.table.enter.Goals as goal
 
 pub loop-l-init : goal.loop-l-init

@@ -1,6 +1,5 @@
 use Rattle.std.proofs.Common.{◌≡◌, length, arith}
-use Rattle.clause_solver.proofs.Running.{item_at}
-use Rattle.clause_solver.proofs.Building.{table_more, table_all}
+use Rattle.clause_solver.proofs.{Running.{item_at}, Building.{table_more, table_all}}
 use Rattle.clause_solver.proofs.table.enter_all.Goals as goal
 
 pub loop-k-preserved : goal.loop-k-preserved

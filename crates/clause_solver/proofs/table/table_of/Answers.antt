@@ -1,5 +1,4 @@
-use Rattle.std.proofs.Common.{◌≡◌, []}
-use Rattle.std.proofs.lemmas.List.Elements.{All-from_get_or}
+use Rattle.std.proofs.{Common.{◌≡◌, []}, lemmas.List.Elements.{All-from_get_or}}
 use Rattle.clause_solver.proofs.table.table_of.Goals as goal
 
 pub enter_all-requires-clause-empty : goal.enter_all-requires-clause-empty

@@ -1,8 +1,6 @@
 use Rattle.std.proofs.Common.{◌≡◌, ◌<◌, length}
 use Rattle.std.specs.Prelude.{All}
-use Rattle.clause_solver.specs.Engine.{sentences_in}
-use Rattle.clause_solver.specs.Levels.{IsFallen}
-use Rattle.clause_solver.specs.Standing.{WalksPast}
+use Rattle.clause_solver.specs.{Engine.{sentences_in}, Levels.{IsFallen}, Standing.{WalksPast}}
 use Rattle.clause_solver.proofs.tree_walk.backtrack.Given as goal
 
 abbrev pub invariant-loop-l : goal.invariant-loop-l

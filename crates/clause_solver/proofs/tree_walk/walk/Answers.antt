@@ -1,11 +1,8 @@
-use Rattle.std.proofs.Common.{◌≡◌, ◌∙◌, ◌++◌, ◌∷◌, [], ◌<◌, ◌+◌, ◌-◌, ◌*◌, ap, arith, length, true}
+use Rattle.std.proofs.{Common.{◌≡◌, ◌∙◌, ◌++◌, ◌∷◌, [], ◌<◌, ◌+◌, ◌-◌, ◌*◌, ap, arith, length, true}, lemmas.List.Elements.{All-nil, All-push}}
 use Rattle.std.specs.Prelude.{map}
-use Rattle.std.proofs.lemmas.List.Elements.{All-nil, All-push}
 use Rattle.search_terms.specs.Closure.{negation, literal}
 use Rattle.clause_solver.specs.Engine.{sentences_in}
-use Rattle.clause_solver.proofs.Stacking.{fewer_left}
-use Rattle.clause_solver.proofs.Walking.{walk_first, walk_found, walk_spent, walk_down, walk_past, walk_refuted}
-use Rattle.clause_solver.proofs.Calm.{calm_of}
+use Rattle.clause_solver.proofs.{Stacking.{fewer_left}, Walking.{walk_first, walk_found, walk_spent, walk_down, walk_past, walk_refuted}, Calm.{calm_of}}
 use Rattle.clause_solver.proofs.Climbing.{at_after, ready_split, ready_calm, split_less}
 use Rattle.clause_solver.proofs.tree_walk.walk.Goals as goal
 

@@ -1,9 +1,7 @@
 use Rattle.std.proofs.Common.{◌≡◌, ◌<◌, ◌≤◌, ◌+◌, ◌-◌, ◌*◌}
 use Rattle.std.specs.Prelude.{All}
 use Rattle.search_terms.specs.Marks.{classes_left}
-use Rattle.clause_solver.specs.Engine.{sentences_in}
-use Rattle.clause_solver.specs.Levels.{IsAt}
-use Rattle.clause_solver.specs.Standing.{WalksIn}
+use Rattle.clause_solver.specs.{Engine.{sentences_in}, Levels.{IsAt}, Standing.{WalksIn}}
 use Rattle.clause_solver.proofs.tree_walk.walk.Given as goal
 
 abbrev pub invariant-loop-contradiction : goal.invariant-loop-contradiction

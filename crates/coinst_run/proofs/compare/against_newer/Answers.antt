@@ -1,6 +1,4 @@
-use Rattle.coinst_run.specs.Compare.{compare_answer}
-use Rattle.coinst_run.specs.Ending.{ending_of}
-use Rattle.coinst_run.specs.Index.{index_of}
+use Rattle.coinst_run.specs.{Compare.{compare_answer}, Ending.{ending_of}, Index.{index_of}}
 use Rattle.coinst_run.proofs.Follows.{settled_follows}
 use Rattle.coinst_run.proofs.compare.against_newer.Goals as goal
 

@@ -1,7 +1,6 @@
 use Rattle.std.proofs.Common.{◌≡◌, false, true, refl, rules}
 use Rattle.byte_flow.specs.Transfer.{written_of}
-use Rattle.coinst_run.specs.Delivers.{a_cut_report, a_refusal, a_report}
-use Rattle.coinst_run.specs.Ending.{stop_ending}
+use Rattle.coinst_run.specs.{Delivers.{a_cut_report, a_refusal, a_report}, Ending.{stop_ending}}
 use Rattle.coinst_run.proofs.deliver.deliver.Goals as goal
 
 pub returns-in-Ok-write_all : goal.returns-in-Ok-write_all

@@ -1,6 +1,5 @@
 use Rattle.std.proofs.Common.{[], ◌++◌, ◌∷◌, ap₂, ◌∙◌}
-use Rattle.std.specs.Fmt.{decimal}
-use Rattle.std.specs.Prelude.{codes}
+use Rattle.std.specs.{Fmt.{decimal}, Prelude.{codes}}
 use Rattle.coinst_run.specs.Lines.{cut_line}
 use Rattle.coinst_run.proofs.Telling.{tells_same, about_path}
 use Rattle.coinst_run.proofs.deliver.tell_cut.Goals as goal

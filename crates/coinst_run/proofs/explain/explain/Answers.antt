@@ -1,5 +1,4 @@
-use Rattle.coinst_run.specs.Ending.{ending_of}
-use Rattle.coinst_run.specs.Explain.{explain_answer}
+use Rattle.coinst_run.specs.{Ending.{ending_of}, Explain.{explain_answer}}
 use Rattle.coinst_run.proofs.Follows.{settled_follows}
 use Rattle.coinst_run.proofs.explain.explain.Goals as goal
 

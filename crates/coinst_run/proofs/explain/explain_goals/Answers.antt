@@ -1,11 +1,8 @@
 use Rattle.std.proofs.Common.{◌≡◌, length, Some, ap, subst, sym, ◌∙◌}
 use Rattle.suite_compare.specs.Answering.{unknown_goal}
-use Rattle.coinst_run.specs.Course.{answers}
-use Rattle.coinst_run.specs.Ending.{Settles, ending_of, stop_ending}
+use Rattle.coinst_run.specs.{Course.{answers}, Ending.{Settles, ending_of, stop_ending}, Explain.{explained_by_unknown, explanation_answer, goals_explained}}
+use Rattle.coinst_run.specs.{Index.{index_of}, Query.{unknown_answer}}
 use Rattle.explain_core.specs.OnStanzas.{IsTellable}
-use Rattle.coinst_run.specs.Explain.{explained_by_unknown, explanation_answer, goals_explained}
-use Rattle.coinst_run.specs.Index.{index_of}
-use Rattle.coinst_run.specs.Query.{unknown_answer}
 use Rattle.coinst_run.proofs.Follows.{settles_at}
 use Rattle.explain_core.proofs.Tellable.{explanation_tellable}
 use Rattle.suite_compare.proofs.Unknown.{unknown_counted}

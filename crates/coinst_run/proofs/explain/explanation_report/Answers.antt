@@ -1,7 +1,5 @@
 use Rattle.std.proofs.Common.{length, subst, sym}
-use Rattle.explain_core.specs.Picking.{ArePlacesFrom1}
-use Rattle.explain_core.specs.declared.explanation.Explanation.TheVariants.{Core}
-use Rattle.explain_core.specs.OnStanzas.{IsTellable}
+use Rattle.explain_core.specs.{Picking.{ArePlacesFrom1}, declared.explanation.Explanation.TheVariants.{Core}, OnStanzas.{IsTellable}}
 use Rattle.coinst_run.proofs.explain.explanation_report.Goals as goal
 
 -- what a core names is there

@@ -1,5 +1,4 @@
-use Rattle.coinst_run.specs.Ending.{ending_of}
-use Rattle.coinst_run.specs.Kernel.{kernel_answer}
+use Rattle.coinst_run.specs.{Ending.{ending_of}, Kernel.{kernel_answer}}
 use Rattle.coinst_run.proofs.Follows.{settled_follows}
 use Rattle.coinst_run.proofs.kernel.kernel.Goals as goal
 

@@ -1,7 +1,5 @@
-use Rattle.std.proofs.Common.{◌∙◌, ap, sym}
-use Rattle.std.proofs.lemmas.Result.{IfOk-weaker}
-use Rattle.coinst_run.specs.Kernel.{printed_kernel}
-use Rattle.coinst_run.specs.IndexKernel.{index_kernel}
+use Rattle.std.proofs.{Common.{◌∙◌, ap, sym}, lemmas.Result.{IfOk-weaker}}
+use Rattle.coinst_run.specs.{Kernel.{printed_kernel}, IndexKernel.{index_kernel}}
 use Rattle.coinst_run.proofs.Kernels.{view_fits, view_json, view_text}
 use Rattle.coinst_run.proofs.kernel.printed_kernel.Goals as goal
 

@@ -1,10 +1,7 @@
 use Rattle.std.proofs.lemmas.Result.{err_from_is_err_and}
 use Rattle.migrate_plan.specs.Plan.{settings_of}
-use Rattle.coinst_run.specs.Ending.{ending_of}
-use Rattle.coinst_run.specs.Index.{checked_index, index_of}
-use Rattle.coinst_run.specs.Migrate.{plan_answer}
-use Rattle.coinst_run.proofs.Follows.{settled_on, stopped}
-use Rattle.coinst_run.proofs.Migrating.{checked_read}
+use Rattle.coinst_run.specs.{Ending.{ending_of}, Index.{checked_index, index_of}, Migrate.{plan_answer}}
+use Rattle.coinst_run.proofs.{Follows.{settled_on, stopped}, Migrating.{checked_read}}
 use Rattle.coinst_run.proofs.migrate.from_both.Goals as goal
 
 pub plan_report-report-requires-clause-newer_short : goal.plan_report-report-requires-clause-newer_short

@@ -1,13 +1,9 @@
-use Rattle.std.proofs.Common.{sym, subst}
-use Rattle.std.proofs.lemmas.Result.{err_from_is_err_and}
+use Rattle.std.proofs.{Common.{sym, subst}, lemmas.Result.{err_from_is_err_and}}
 use Rattle.migrate_plan.specs.Plan.{settings_of}
 use Rattle.repo_model.specs.Feeding.{IsSuiteOf}
 use Rattle.suite_compare.specs.Refusals.{home_in, packages_in}
-use Rattle.coinst_run.specs.Index.{Index, index_of}
-use Rattle.coinst_run.specs.IndexKernel.{index_kernel}
-use Rattle.coinst_run.specs.Migrate.{kernel_at, new_course, old_answer}
-use Rattle.coinst_run.proofs.Follows.{settled_follows, stage_passed, stopped}
-use Rattle.coinst_run.proofs.Migrating.{checked_read, kernel_checked, stops_behind}
+use Rattle.coinst_run.specs.{Index.{Index, index_of}, IndexKernel.{index_kernel}, Migrate.{kernel_at, new_course, old_answer}}
+use Rattle.coinst_run.proofs.{Follows.{settled_follows, stage_passed, stopped}, Migrating.{checked_read, kernel_checked, stops_behind}}
 use Rattle.coinst_run.proofs.migrate.from_noted.Goals as goal
 
 pub returns : goal.returns

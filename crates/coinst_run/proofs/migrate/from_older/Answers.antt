@@ -1,8 +1,7 @@
 use Rattle.std.proofs.lemmas.Result.{err_from_is_err_and}
 use Rattle.migrate_plan.specs.Plan.{settings_of}
 use Rattle.coinst_run.specs.Migrate.{kernel_at, new_course, old_answer}
-use Rattle.coinst_run.proofs.Follows.{settled_follows, stopped}
-use Rattle.coinst_run.proofs.Migrating.{stops_before}
+use Rattle.coinst_run.proofs.{Follows.{settled_follows, stopped}, Migrating.{stops_before}}
 use Rattle.coinst_run.proofs.migrate.from_older.Goals as goal
 
 pub from_noted-requires-clause-short : goal.from_noted-requires-clause-short

@@ -1,5 +1,4 @@
-use Rattle.std.proofs.Common.{◌++◌, ap, ap₂, ◌∙◌}
-use Rattle.std.proofs.lemmas.Result.{IfOk-weaker}
+use Rattle.std.proofs.{Common.{◌++◌, ap, ap₂, ◌∙◌}, lemmas.Result.{IfOk-weaker}}
 use Rattle.coinst_run.specs.Lines.{about}
 use Rattle.coinst_run.proofs.migrate.homes_line.Goals as goal
 

@@ -1,7 +1,5 @@
-use Rattle.migrate_plan.specs.Plan.{plan, settings_of}
-use Rattle.migrate_plan.specs.Refusals.{plan_refusal}
-use Rattle.coinst_run.specs.Course.{answers}
-use Rattle.coinst_run.specs.Migrate.{lines_answer, planned}
+use Rattle.migrate_plan.specs.{Plan.{plan, settings_of}, Refusals.{plan_refusal}}
+use Rattle.coinst_run.specs.{Course.{answers}, Migrate.{lines_answer, planned}}
 use Rattle.coinst_run.proofs.Follows.{stopped}
 use Rattle.coinst_run.proofs.migrate.plan_report.Goals as goal
 

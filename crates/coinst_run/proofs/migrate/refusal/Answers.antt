@@ -1,6 +1,4 @@
-use Rattle.coinst_run.specs.Ending.{stop_ending}
-use Rattle.coinst_run.specs.Lines.{too_long_line}
-use Rattle.coinst_run.specs.Migrate.{homes_line, mix_path, names_line, packages_line}
+use Rattle.coinst_run.specs.{Ending.{stop_ending}, Lines.{too_long_line}, Migrate.{homes_line, mix_path, names_line, packages_line}}
 use Rattle.coinst_run.proofs.Migrating.{plan_refused}
 use Rattle.coinst_run.proofs.migrate.refusal.Goals as goal
 

@@ -2,10 +2,7 @@ use Rattle.std.proofs.Common.{◌≡◌, Some, ap, subst}
 use Rattle.listed.specs.Lists.{In, has}
 use Rattle.listed.proofs.Lists.{In_has}
 use Rattle.suite_compare.specs.Answering.{Serves, unknown_goal}
-use Rattle.coinst_run.specs.Course.{answers}
-use Rattle.coinst_run.specs.Ending.{stop_ending}
-use Rattle.coinst_run.specs.Index.{index_of}
-use Rattle.coinst_run.specs.Query.{by_unknown, goals_answer, unknown_answer}
+use Rattle.coinst_run.specs.{Course.{answers}, Ending.{stop_ending}, Index.{index_of}, Query.{by_unknown, goals_answer, unknown_answer}}
 use Rattle.coinst_run.proofs.Follows.{settles_at}
 use Rattle.suite_compare.proofs.Unknown.{unknown_counted}
 use Rattle.coinst_run.proofs.query.goals_report.Goals as goal

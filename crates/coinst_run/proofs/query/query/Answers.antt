@@ -1,5 +1,4 @@
-use Rattle.coinst_run.specs.Ending.{ending_of}
-use Rattle.coinst_run.specs.Query.{query_answer}
+use Rattle.coinst_run.specs.{Ending.{ending_of}, Query.{query_answer}}
 use Rattle.coinst_run.proofs.Follows.{settled_follows}
 use Rattle.coinst_run.proofs.query.query.Goals as goal
 

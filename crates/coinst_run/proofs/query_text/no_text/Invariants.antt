@@ -1,8 +1,6 @@
 use Rattle.std.proofs.Common.{◌≡◌, ◌++◌, take}
-use Rattle.std.specs.Prelude.{codes}
-use Rattle.std.specs.List.{flat_map}
-use Rattle.coinst_run.specs.Lines.{line_of_text}
-use Rattle.coinst_run.specs.QueryText.{log_line}
+use Rattle.std.specs.{Prelude.{codes}, List.{flat_map}}
+use Rattle.coinst_run.specs.{Lines.{line_of_text}, QueryText.{log_line}}
 use Rattle.coinst_run.proofs.query_text.no_text.Given as goal
 
 abbrev pub invariant-loop-entry : goal.invariant-loop-entry

@@ -1,7 +1,6 @@
 use Rattle.std.proofs.Common.{◌++◌, ap, ◌∙◌}
 use Rattle.repo_model.specs.Stanzas.{stanza_at}
-use Rattle.repo_model.proofs.Elements.{at_place}
-use Rattle.repo_model.proofs.Numbers.{same_stanza}
+use Rattle.repo_model.proofs.{Elements.{at_place}, Numbers.{same_stanza}}
 use Rattle.kernel_text.proofs.Written.{more_text}
 use Rattle.coinst_run.specs.QueryText.{install_line}
 use Rattle.coinst_run.proofs.query_text.push_installs.Goals as goal

@@ -1,6 +1,5 @@
 use Rattle.std.proofs.Common.{◌≡◌, ◌++◌, take}
-use Rattle.std.specs.Prelude.{codes}
-use Rattle.std.specs.List.{flat_map}
+use Rattle.std.specs.{Prelude.{codes}, List.{flat_map}}
 use Rattle.coinst_run.specs.QueryText.{literal_text}
 use Rattle.coinst_run.proofs.query_text.push_log_line.Given as goal
 

@@ -1,6 +1,5 @@
 use Rattle.std.proofs.Common.{length}
-use Rattle.row_book.specs.Book.{repository_of}
-use Rattle.row_book.specs.Repository.{clauses_of}
+use Rattle.row_book.specs.{Book.{repository_of}, Repository.{clauses_of}}
 use Rattle.coinst_run.proofs.Sizes.{sum_more, sum_none}
 use Rattle.coinst_run.proofs.sample.clause_count.Goals as goal
 

@@ -1,8 +1,6 @@
 use Rattle.std.proofs.Common.{◌≡◌, length}
 use Rattle.std.specs.List.{sum_by}
-use Rattle.row_book.specs.Book.{repository_of}
-use Rattle.row_book.specs.Numbers.{numbers}
-use Rattle.row_book.specs.Repository.{clauses_of}
+use Rattle.row_book.specs.{Book.{repository_of}, Numbers.{numbers}, Repository.{clauses_of}}
 use Rattle.coinst_run.proofs.sample.clause_count.Given as goal
 
 abbrev pub invariant-loop-class : goal.invariant-loop-class

@@ -1,7 +1,6 @@
 use Rattle.std.proofs.Common.{◌≡◌, filter, length, ltb}
 use Rattle.std.specs.List.{sum_by}
-use Rattle.row_book.specs.Book.{listed_for}
-use Rattle.row_book.specs.Numbers.{numbers}
+use Rattle.row_book.specs.{Book.{listed_for}, Numbers.{numbers}}
 use Rattle.coinst_run.proofs.sample.conflict_count.Given as goal
 
 abbrev pub invariant-loop-class : goal.invariant-loop-class

@@ -1,7 +1,6 @@
 use Rattle.std.proofs.Common.{◌∙◌, ap}
 use Rattle.coinst_run.specs.Sample.{size_report}
-use Rattle.coinst_run.proofs.Kernels.{view_kernel}
-use Rattle.coinst_run.proofs.Sizes.{size_told}
+use Rattle.coinst_run.proofs.{Kernels.{view_kernel}, Sizes.{size_told}}
 use Rattle.coinst_run.proofs.sample.size_report.Goals as goal
 
 pub returns-clause-line : goal.returns-clause-line

@@ -1,10 +1,6 @@
 use Rattle.std.proofs.Common.{rules}
-use Rattle.coinst_run.specs.Answer.{refused}
-use Rattle.coinst_run.specs.Ending.{stop_ending}
-use Rattle.coinst_run.specs.Index.{by_fault}
-use Rattle.coinst_run.specs.Lines.{fault_line}
-use Rattle.coinst_run.proofs.Follows.{stops_at}
-use Rattle.coinst_run.proofs.Kernels.{index_faulty}
+use Rattle.coinst_run.specs.{Answer.{refused}, Ending.{stop_ending}, Index.{by_fault}, Lines.{fault_line}}
+use Rattle.coinst_run.proofs.{Follows.{stops_at}, Kernels.{index_faulty}}
 use Rattle.coinst_run.proofs.stages.faulty.Goals as goal
 
 pub returns : goal.returns

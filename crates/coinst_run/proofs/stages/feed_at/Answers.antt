@@ -1,8 +1,5 @@
-use Rattle.std.proofs.Common.{arith}
-use Rattle.std.proofs.lemmas.Result.{err_from_is_err_and}
-use Rattle.coinst_run.specs.Course.{reads}
-use Rattle.coinst_run.specs.Follows.{without_memory}
-use Rattle.coinst_run.specs.Ending.{stop_ending}
+use Rattle.std.proofs.{Common.{arith}, lemmas.Result.{err_from_is_err_and}}
+use Rattle.coinst_run.specs.{Course.{reads}, Follows.{without_memory}, Ending.{stop_ending}}
 use Rattle.coinst_run.proofs.Follows.{stops_reading}
 use Rattle.coinst_run.proofs.stages.feed_at.Goals as goal
 

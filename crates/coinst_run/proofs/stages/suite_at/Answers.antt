@@ -1,6 +1,5 @@
 use Rattle.std.proofs.lemmas.Result.{IfOk-weaker, IfErr-weaker}
-use Rattle.coinst_run.specs.Ending.{stop_ending}
-use Rattle.coinst_run.specs.Index.{index_of}
+use Rattle.coinst_run.specs.{Ending.{stop_ending}, Index.{index_of}}
 use Rattle.coinst_run.proofs.Follows.{index_reached, index_refused}
 use Rattle.coinst_run.proofs.stages.suite_at.Goals as goal
 

@@ -1,11 +1,8 @@
 use Rattle.row_book.specs.Book.{repository_of}
 use Rattle.kernel_text.specs.declared.fault.KernelFault.TheVariants.{Line, End, Range}
-use Rattle.coinst_run.specs.Ending.{stop_ending}
-use Rattle.coinst_run.specs.declared.answer.Cause.TheVariants.{Content}
-use Rattle.coinst_run.specs.Answer.{refused}
+use Rattle.coinst_run.specs.{Ending.{stop_ending}, declared.answer.Cause.TheVariants.{Content}, Answer.{refused}}
 use Rattle.coinst_run.specs.StoredQuery.{checked_kernel, kernel_fault_line}
-use Rattle.coinst_run.proofs.Follows.{stops_at}
-use Rattle.coinst_run.proofs.StoredKernels.{end_other, kernel_checked, kernel_refused, kernel_sound}
+use Rattle.coinst_run.proofs.{Follows.{stops_at}, StoredKernels.{end_other, kernel_checked, kernel_refused, kernel_sound}}
 use Rattle.coinst_run.proofs.stored_query.checked_kernel.Goals as goal
 use Rattle.kernel_text.proofs.Judged.{line_other, range_other}
 

@@ -1,16 +1,9 @@
-use Rattle.std.proofs.Common.{◌≡◌, length, Some, ap, sym, subst}
-use Rattle.std.proofs.lemmas.List.{length-map}
+use Rattle.std.proofs.{Common.{◌≡◌, length, Some, ap, sym, subst}, lemmas.List.{length-map}}
 use Rattle.clause_pool.specs.Interned.{row_at}
-use Rattle.kernel_text.specs.Images.{unknown_goal}
-use Rattle.row_book.specs.Book.{repository_of}
-use Rattle.row_book.specs.Needs.{NeedsFit}
-use Rattle.kernel_text.specs.KernelReads.{content}
-use Rattle.coinst_run.specs.Course.{answers}
-use Rattle.coinst_run.specs.Query.{unknown_answer}
-use Rattle.coinst_run.specs.StoredQuery.{stored_answer, stored_by_unknown}
-use Rattle.coinst_run.proofs.Follows.{settles_at}
-use Rattle.coinst_run.specs.Ending.{Settles, ending_of, stop_ending}
-use Rattle.coinst_run.proofs.StoredKernels.{known_told}
+use Rattle.kernel_text.specs.{Images.{unknown_goal}, KernelReads.{content}}
+use Rattle.row_book.specs.{Book.{repository_of}, Needs.{NeedsFit}}
+use Rattle.coinst_run.specs.{Course.{answers}, Query.{unknown_answer}, StoredQuery.{stored_answer, stored_by_unknown}, Ending.{Settles, ending_of, stop_ending}}
+use Rattle.coinst_run.proofs.{Follows.{settles_at}, StoredKernels.{known_told}}
 use Rattle.kernel_text.proofs.Serving.{images_fit, unknown_counted}
 use Rattle.coinst_run.proofs.stored_query.goals_report.Goals as goal
 

@@ -1,7 +1,6 @@
 use Rattle.std.proofs.Common.{◌≡◌, ◌++◌, filter}
 use Rattle.std.specs.List.{flat_map}
-use Rattle.row_book.specs.Numbers.{numbers}
-use Rattle.row_book.specs.Flags.{flag}
+use Rattle.row_book.specs.{Numbers.{numbers}, Flags.{flag}}
 use Rattle.coinst_run.specs.StoredQuery.{class_line}
 use Rattle.coinst_run.proofs.stored_query.push_classes.Given as goal
 

@@ -1,7 +1,5 @@
 use Rattle.std.proofs.Common.{subst}
-use Rattle.coinst_run.specs.Ending.{Settles, ending_of}
-use Rattle.coinst_run.specs.StoredQuery.{stored_query_answer}
-use Rattle.coinst_run.specs.Follows.{behind_a_text}
+use Rattle.coinst_run.specs.{Ending.{Settles, ending_of}, StoredQuery.{stored_query_answer}, Follows.{behind_a_text}}
 use Rattle.coinst_run.proofs.Follows.{settled_follows}
 use Rattle.coinst_run.proofs.stored_query.stored_query.Goals as goal
 

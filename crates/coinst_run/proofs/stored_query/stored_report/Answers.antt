@@ -1,8 +1,6 @@
 use Rattle.kernel_text.specs.KernelReads.{content}
 use Rattle.row_book.specs.Book.{repository_of}
-use Rattle.coinst_run.specs.Course.{answers}
-use Rattle.coinst_run.specs.Ending.{ending_of}
-use Rattle.coinst_run.specs.StoredQuery.{checked_kernel, stored_answer}
+use Rattle.coinst_run.specs.{Course.{answers}, Ending.{ending_of}, StoredQuery.{checked_kernel, stored_answer}}
 use Rattle.coinst_run.proofs.Follows.{settled_on}
 use Rattle.coinst_run.proofs.stored_query.stored_report.Goals as goal
 

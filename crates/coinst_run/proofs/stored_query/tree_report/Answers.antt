@@ -1,12 +1,8 @@
-use Rattle.std.proofs.Common.{sym, ap, subst, ◌∙◌}
-use Rattle.std.proofs.lemmas.List.{length-map}
+use Rattle.std.proofs.{Common.{sym, ap, subst, ◌∙◌}, lemmas.List.{length-map}}
 use Rattle.clause_pool.specs.Interned.{row_at}
 use Rattle.clause_solver.specs.Outcomes.{IsSearchOutcome}
-use Rattle.row_book.specs.Book.{repository_of}
-use Rattle.row_book.specs.Needs.{NeedsFit}
-use Rattle.coinst_run.specs.declared.answer.ReportVerdict.TheVariants.{Done, Negative, Undecided}
-use Rattle.coinst_run.specs.Answer.{reported}
-use Rattle.coinst_run.specs.Course.{answers}
+use Rattle.row_book.specs.{Book.{repository_of}, Needs.{NeedsFit}}
+use Rattle.coinst_run.specs.{declared.answer.ReportVerdict.TheVariants.{Done, Negative, Undecided}, Answer.{reported}, Course.{answers}}
 use Rattle.coinst_run.specs.StoredQuery.{classes_text}
 use Rattle.coinst_run.proofs.StoredKernels.{found_told, refuted_told, spent_told}
 use Rattle.coinst_run.proofs.stored_query.tree_report.Goals as goal

@@ -1,8 +1,5 @@
 use Rattle.std.proofs.Common.{subst}
-use Rattle.coinst_run.specs.Ending.{Settles, ending_of}
-use Rattle.coinst_run.specs.Follows.{behind_a_text}
-use Rattle.coinst_run.specs.Index.{index_of}
-use Rattle.coinst_run.specs.SystemStatus.{system_answer}
+use Rattle.coinst_run.specs.{Ending.{Settles, ending_of}, Follows.{behind_a_text}, Index.{index_of}, SystemStatus.{system_answer}}
 use Rattle.coinst_run.proofs.Follows.{settled_follows}
 use Rattle.coinst_run.proofs.system_status.system_at.Goals as goal
 

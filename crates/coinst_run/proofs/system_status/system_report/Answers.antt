@@ -1,10 +1,6 @@
 use Rattle.status_check.specs.Own.{own_home, own_packages, status_fault}
-use Rattle.coinst_run.specs.Course.{answers}
-use Rattle.coinst_run.specs.Ending.{stop_ending}
-use Rattle.coinst_run.specs.Index.{index_of}
-use Rattle.coinst_run.specs.SystemStatus.{checked_system, system_report, told_answer}
-use Rattle.coinst_run.proofs.Follows.{stopped}
-use Rattle.coinst_run.proofs.SystemReports.{own_of_lines, system_refused, system_told}
+use Rattle.coinst_run.specs.{Course.{answers}, Ending.{stop_ending}, Index.{index_of}, SystemStatus.{checked_system, system_report, told_answer}}
+use Rattle.coinst_run.proofs.{Follows.{stopped}, SystemReports.{own_of_lines, system_refused, system_told}}
 use Rattle.coinst_run.proofs.system_status.system_report.Goals as goal
 
 -- the packages that the state names have lines

@@ -1,5 +1,4 @@
-use Rattle.std.proofs.Common.{◌++◌, ap, ap₂, ◌∙◌}
-use Rattle.std.proofs.lemmas.Result.{IfOk-weaker}
+use Rattle.std.proofs.{Common.{◌++◌, ap, ap₂, ◌∙◌}, lemmas.Result.{IfOk-weaker}}
 use Rattle.coinst_run.specs.SystemText.{clash_text, unhit_text}
 use Rattle.coinst_run.proofs.SystemLines.{line_read}
 use Rattle.coinst_run.proofs.system_text.push_own.Goals as goal

@@ -1,5 +1,4 @@
-use Rattle.coinst_run.specs.Ending.{ending_of}
-use Rattle.coinst_run.specs.Sample.{sample_course}
+use Rattle.coinst_run.specs.{Ending.{ending_of}, Sample.{sample_course}}
 use Rattle.coinst_run.proofs.Follows.{settled_follows}
 use Rattle.coinst_run.proofs.top.answer_job.Goals as goal
 

@@ -1,7 +1,6 @@
 use Rattle.std.proofs.Common.{map}
 use Rattle.std.specs.Prelude.{string_bytes}
-use Rattle.coinst_run.specs.Ending.{ending_of}
-use Rattle.coinst_run.specs.Follows.{of_a_job}
+use Rattle.coinst_run.specs.{Ending.{ending_of}, Follows.{of_a_job}}
 use Rattle.coinst_words.specs.Jobs.{job_of}
 use Rattle.coinst_run.proofs.Runs.{words_refused}
 use Rattle.coinst_run.proofs.top.answer_to.Goals as goal

@@ -1,12 +1,8 @@
 use Rattle.std.proofs.Common.{◌++◌, ap, ◌∙◌}
 use Rattle.row_book.specs.Rounds.{PassedRound}
-use Rattle.coinst_run.specs.declared.answer.Cause.TheVariants.{ClauseLimit}
-use Rattle.coinst_run.specs.Answer.{refused}
-use Rattle.coinst_run.specs.Ending.{stop_ending}
-use Rattle.coinst_run.specs.Kernel.{kernel_of}
+use Rattle.coinst_run.specs.{declared.answer.Cause.TheVariants.{ClauseLimit}, Answer.{refused}, Ending.{stop_ending}, Kernel.{kernel_of}}
 use Rattle.coinst_run.specs.Lines.{about, row_text, stage_text}
-use Rattle.coinst_run.proofs.Follows.{stops_at}
-use Rattle.coinst_run.proofs.Kernels.{passed_told}
+use Rattle.coinst_run.proofs.{Follows.{stops_at}, Kernels.{passed_told}}
 use Rattle.coinst_run.proofs.views.limit_stop.Goals as goal
 
 pub returns-in_ok-push_row-in-Limit : goal.returns-in_ok-push_row-in-Limit

@@ -1,10 +1,6 @@
-use Rattle.std.proofs.Common.{ap, subst, sym}
-use Rattle.std.proofs.lemmas.Result.{IfErr-weaker, IfOk-weaker, err_from_is_err_and}
+use Rattle.std.proofs.{Common.{ap, subst, sym}, lemmas.Result.{IfErr-weaker, IfOk-weaker, err_from_is_err_and}}
 use Rattle.repo_model.specs.Facts.{AreNamedPackages}
-use Rattle.coinst_run.specs.Course.{then_on}
-use Rattle.coinst_run.specs.Ending.{stop_ending}
-use Rattle.coinst_run.specs.Index.{Index, index_of}
-use Rattle.coinst_run.specs.Kernel.{kernel_of}
+use Rattle.coinst_run.specs.{Course.{then_on}, Ending.{stop_ending}, Index.{Index, index_of}, Kernel.{kernel_of}}
 use Rattle.coinst_run.proofs.Follows.{if_ok_both, kernel_reached, kernel_refused}
 use Rattle.coinst_run.proofs.views.view_at.Goals as goal
 

@@ -1,5 +1,4 @@
-use Rattle.std.proofs.Common.{[]}
-use Rattle.std.proofs.lemmas.Result.{IfOk-weaker}
+use Rattle.std.proofs.{Common.{[]}, lemmas.Result.{IfOk-weaker}}
 use Rattle.coinst_words.specs.Program.{flag_rule, valued_rule}
 use Rattle.coinst_words.proofs.Commands.{added_next, finished, flags_all, taken_all}
 use Rattle.coinst_words.proofs.parse.command.Goals as goal

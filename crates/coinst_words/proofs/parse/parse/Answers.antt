@@ -1,6 +1,5 @@
 use Rattle.std.proofs.Common.{map, string_bytes}
-use Rattle.coinst_words.proofs.Letters.{words_spell}
-use Rattle.coinst_words.proofs.Parsing.{enters, on_refusal, refused}
+use Rattle.coinst_words.proofs.{Letters.{words_spell}, Parsing.{enters, on_refusal, refused}}
 use Rattle.coinst_words.proofs.parse.parse.Goals as goal
 
 pub returns-in-Ok-clause-said : goal.returns-in-Ok-clause-said

@@ -1,7 +1,6 @@
 use Rattle.std.proofs.Common.{◌≡◌, map, drop}
 use Rattle.clap.specs.Words.{app_of}
-use Rattle.coinst_words.specs.Jobs.{usages}
-use Rattle.coinst_words.specs.Program.{app_of_usages}
+use Rattle.coinst_words.specs.{Jobs.{usages}, Program.{app_of_usages}}
 use Rattle.coinst_words.proofs.Commands.{with_usages}
 use Rattle.coinst_words.proofs.parse.program.Given as goal
 

@@ -1,7 +1,5 @@
-use Rattle.std.proofs.Common.{◌∙◌, map, string_bytes, sym}
-use Rattle.std.proofs.lemmas.Result.{IfErr-weaker, IfOk-weaker}
-use Rattle.coinst_words.proofs.Entered.{job_is, no_job}
-use Rattle.coinst_words.proofs.Parsing.{on_refusal}
+use Rattle.std.proofs.{Common.{◌∙◌, map, string_bytes, sym}, lemmas.Result.{IfErr-weaker, IfOk-weaker}}
+use Rattle.coinst_words.proofs.{Entered.{job_is, no_job}, Parsing.{on_refusal}}
 use Rattle.coinst_words.proofs.read.read_words.Goals as goal
 
 pub returns-in-Some-clause-job : goal.returns-in-Some-clause-job

@@ -1,9 +1,8 @@
 use Rattle.std.proofs.Common.{◌≡◌, ◌∷◌, ◌||◌, ◌∙◌, [], List, ℕ, ap, sym, subst}
 use Rattle.std.specs.List.{list_all, list_any}
 use Rattle.clause_pool.specs.Interned.{clauses_at}
-use Rattle.row_book.specs.Book.{listed_for}
+use Rattle.row_book.specs.{Book.{listed_for}, Facing.{all_against}}
 use Rattle.listed.specs.Lists.{Ascending, is_inside, has}
-use Rattle.row_book.specs.Facing.{all_against}
 use Rattle.row_book.proofs.Facing.{faces_filtered}
 use Rattle.listed.proofs.Orders.{ascending_filter}
 use Rattle.conflict_reduce.specs.Tests.{common_but, conflict_but, left_of}

@@ -1,7 +1,6 @@
 use Rattle.std.proofs.Common.{◌≡◌, ◌<◌, ◌∙◌, ap, ap₂, arith, filter, length, map, subst, sym}
 use Rattle.clause_pool.specs.Interned.{clause_at, ids_at}
-use Rattle.row_book.specs.Numbers.{numbers}
-use Rattle.row_book.specs.Uses.{row_id}
+use Rattle.row_book.specs.{Numbers.{numbers}, Uses.{row_id}}
 use Rattle.listed.proofs.Lists.{In_at}
 use Rattle.row_book.proofs.Numbers.{lists_more}
 use Rattle.conflict_reduce.specs.Live.{live_ids, live_of, may_face}

@@ -1,7 +1,6 @@
 use Rattle.std.proofs.Common.{◌≡◌, ◌∙◌, ap, arith, filter, length, map, not}
 use Rattle.row_book.proofs.Numbers.{lists_more}
-use Rattle.row_book.specs.Numbers.{numbers}
-use Rattle.row_book.specs.Facing.{against_in}
+use Rattle.row_book.specs.{Numbers.{numbers}, Facing.{against_in}}
 use Rattle.conflict_reduce.specs.Tests.{left_for, left_of}
 use Rattle.conflict_reduce.proofs.Left.{left_size}
 use Rattle.conflict_reduce.proofs.thinning.left_lists.Goals as goal

@@ -1,11 +1,9 @@
 use Rattle.std.proofs.Common.{◌∙◌, ◌↔◌, ap, ap₂, map, subst, sym}
 use Rattle.clause_pool.specs.Interned.{row_at}
-use Rattle.row_book.specs.Book.{repository_of}
-use Rattle.row_book.specs.Repository.{Healthy}
+use Rattle.row_book.specs.{Book.{repository_of}, Repository.{Healthy}}
 use Rattle.row_book.proofs.Repositories.{repository_same}
 use Rattle.conflict_reduce.specs.Tests.{book_left, left_of}
-use Rattle.conflict_reduce.proofs.Passed.{thin_sound}
-use Rattle.conflict_reduce.proofs.Thinned.{thin_keeps_lem}
+use Rattle.conflict_reduce.proofs.{Passed.{thin_sound}, Thinned.{thin_keeps_lem}}
 use Rattle.conflict_reduce.proofs.thinning.thin.Goals as goal
 
 pub returns-clause-thinned : goal.returns-clause-thinned

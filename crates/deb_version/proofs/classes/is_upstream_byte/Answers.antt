@@ -1,6 +1,5 @@
 use Rattle.std.proofs.Common.{refl, arith}
-use Rattle.deb_version.specs.declared.classes.TheConstants.{CLASS}
-use Rattle.deb_version.specs.Grammar.{is_upstream_byte}
+use Rattle.deb_version.specs.{declared.classes.TheConstants.{CLASS}, Grammar.{is_upstream_byte}}
 use Rattle.deb_version.proofs.ClassTable.{agree_below, from_table}
 use Rattle.deb_version.proofs.classes.is_upstream_byte.Goals as goal
 

@@ -1,6 +1,5 @@
 use Rattle.std.proofs.Common.{◌≡◌, ◌+◌, ◌≤◌, length, take}
-use Rattle.std.specs.Prelude.{not}
-use Rattle.std.specs.List.{suffix_len}
+use Rattle.std.specs.{Prelude.{not}, List.{suffix_len}}
 use Rattle.deb_version.specs.Grammar.{is_hyphen}
 use Rattle.deb_version.proofs.cuts.tail_len.Given as goal
 

@@ -1,6 +1,4 @@
-use Rattle.std.proofs.Common.{◌≡◌, ◌∙◌, ◌++◌, sym, ap}
-use Rattle.std.proofs.lemmas.Bool.{eqb-true}
-use Rattle.std.proofs.lemmas.List.{append-nil}
+use Rattle.std.proofs.{Common.{◌≡◌, ◌∙◌, ◌++◌, sym, ap}, lemmas.Bool.{eqb-true}, lemmas.List.{append-nil}}
 use Rattle.deb_version.specs.Keys.{number_key}
 use Rattle.deb_version.proofs.KeySteps.{part_key-empty, pushed}
 use Rattle.deb_version.proofs.keys.push_part.Goals as goal

@@ -1,5 +1,4 @@
-use Rattle.std.proofs.Common.{◌≡◌, ◌∙◌, sym}
-use Rattle.std.proofs.lemmas.Bool.{eqb-true}
+use Rattle.std.proofs.{Common.{◌≡◌, ◌∙◌, sym}, lemmas.Bool.{eqb-true}}
 use Rattle.deb_version.proofs.PieceSteps.{front_order, part_order-decided, part_order-tied, part_order-empty}
 use Rattle.deb_version.proofs.parts.order_parts.Goals as goal
 

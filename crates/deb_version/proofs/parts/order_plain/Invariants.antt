@@ -1,6 +1,5 @@
 use Rattle.std.proofs.Common.{◌≡◌, drop}
-use Rattle.std.specs.Cmp.Lexicographic.{slice_cmp}
-use Rattle.std.specs.Ordering.{int_cmp}
+use Rattle.std.specs.{Cmp.Lexicographic.{slice_cmp}, Ordering.{int_cmp}}
 use Rattle.deb_version.specs.Order.{weights}
 use Rattle.deb_version.proofs.parts.order_plain.Given as goal
 

@@ -1,5 +1,4 @@
-use Rattle.std.proofs.Common.{sym, ◌∙◌, ap, not, length, arith}
-use Rattle.std.proofs.lemmas.List.Sums.{prefix_len_is}
+use Rattle.std.proofs.{Common.{sym, ◌∙◌, ap, not, length, arith}, lemmas.List.Sums.{prefix_len_is}}
 use Rattle.deb_version.specs.Order.{is_plain}
 use Rattle.deb_version.proofs.parts.plain_len.Goals as goal
 

@@ -1,5 +1,4 @@
-use Rattle.deb_version.proofs.EqualKeys.{equal_keys}
-use Rattle.deb_version.proofs.TellingKeys.{keys_tell}
+use Rattle.deb_version.proofs.{EqualKeys.{equal_keys}, TellingKeys.{keys_tell}}
 use Rattle.deb_version.proofs.versions.keys_are_shared.Goals as goal
 
 pub returns-clause-by_equals : goal.returns-clause-by_equals

@@ -1,9 +1,7 @@
 use Rattle.std.proofs.Common.{◌≡◌, ◌∙◌, sym}
 use Rattle.std.specs.Ordering.{nat_cmp}
-use Rattle.deb_version.specs.Grammar.{upstream_of}
-use Rattle.deb_version.specs.Order.{part_order, epoch_number, full_revision}
-use Rattle.deb_version.proofs.Cutting.{epoch_digits}
-use Rattle.deb_version.proofs.VersionSteps.{epochs_decide, upstreams_decide, revisions_decide}
+use Rattle.deb_version.specs.{Grammar.{upstream_of}, Order.{part_order, epoch_number, full_revision}}
+use Rattle.deb_version.proofs.{Cutting.{epoch_digits}, VersionSteps.{epochs_decide, upstreams_decide, revisions_decide}}
 use Rattle.deb_version.proofs.versions.order_texts.Goals as goal
 
 pub order_numbers-epochs-requires-clause-left : goal.order_numbers-epochs-requires-clause-left

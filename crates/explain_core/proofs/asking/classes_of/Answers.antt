@@ -1,8 +1,7 @@
 use Rattle.std.proofs.Common.{◌<◌, ◌≤◌, ◌∙◌, length, sym, subst}
 use Rattle.repo_model.specs.Repository.{suite_repository}
 use Rattle.listed.specs.Lists.{Ascending}
-use Rattle.suite_compare.proofs.Gathering.{image_filled}
-use Rattle.suite_compare.proofs.SuiteKernels.{classes_ascending}
+use Rattle.suite_compare.proofs.{Gathering.{image_filled}, SuiteKernels.{classes_ascending}}
 use Rattle.explain_core.proofs.Askings.{classes_all, wanted_inside}
 use Rattle.explain_core.proofs.asking.classes_of.Goals as goal
 

@@ -1,15 +1,8 @@
 use Rattle.std.proofs.Common.{◌∙◌, length, sym, ap, subst}
-use Rattle.row_book.specs.Book.{repository_of, PairsFit}
-use Rattle.row_book.specs.Flags.{flag}
-use Rattle.row_book.specs.Needs.{NeedsFit}
-use Rattle.row_book.specs.Sound.{SoundRepository}
+use Rattle.row_book.specs.{Book.{repository_of, PairsFit}, Flags.{flag}, Needs.{NeedsFit}, Sound.{SoundRepository}}
 use Rattle.row_book.proofs.BookRepositories.{book_size}
-use Rattle.explain_core.specs.Reach.{IsReach}
-use Rattle.explain_core.specs.Reasons.{clashes_of, verdict_over}
-use Rattle.explain_core.specs.Deletion.{kept_of}
-use Rattle.explain_core.proofs.AnyConflicts.{solves_any}
-use Rattle.explain_core.proofs.ClashLoop.{given_reasons, open_reasons, reached_are}
-use Rattle.explain_core.proofs.Withins.{within_fit}
+use Rattle.explain_core.specs.{Reach.{IsReach}, Reasons.{clashes_of, verdict_over}, Deletion.{kept_of}}
+use Rattle.explain_core.proofs.{AnyConflicts.{solves_any}, ClashLoop.{given_reasons, open_reasons, reached_are}, Withins.{within_fit}}
 use Rattle.suite_compare.proofs.SuiteKernels.{suite_sound}
 use Rattle.explain_core.proofs.clashes.clashes_for.Goals as goal
 

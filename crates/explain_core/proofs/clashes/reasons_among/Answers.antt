@@ -2,12 +2,8 @@ use Rattle.std.proofs.Common.{◌≡◌, ◌+◌, ◌∙◌, ℕ, List, [], ap, 
 use Rattle.std.specs.Prelude.{length}
 use Rattle.row_book.specs.Book.{repository_of, PairsFit}
 use Rattle.listed.proofs.Lists.{In_at}
-use Rattle.explain_core.specs.Only.{pair}
-use Rattle.explain_core.specs.Deletion.{kept_behind}
-use Rattle.explain_core.specs.Reasons.{told_pairs, verdict_over}
-use Rattle.explain_core.specs.declared.explanation.Clash.{Clash}
-use Rattle.explain_core.proofs.Told.{kept_clashes}
-use Rattle.explain_core.proofs.ClashLoop.{clash_block, clash_done, clash_step, others_are, others_fit, told_fit}
+use Rattle.explain_core.specs.{Only.{pair}, Deletion.{kept_behind}, Reasons.{told_pairs, verdict_over}, declared.explanation.Clash.{Clash}}
+use Rattle.explain_core.proofs.{Told.{kept_clashes}, ClashLoop.{clash_block, clash_done, clash_step, others_are, others_fit, told_fit}}
 use Rattle.explain_core.proofs.clashes.reasons_among.Goals as goal
 
 -- no pairs fit any book

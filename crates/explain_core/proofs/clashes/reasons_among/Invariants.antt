@@ -1,7 +1,6 @@
 use Rattle.std.proofs.Common.{◌≡◌, ◌+◌, ◌*◌, ◌-◌, ◌<◌, drop, length}
 use Rattle.row_book.specs.Book.{repository_of, PairsFit}
-use Rattle.explain_core.specs.Deletion.{kept_behind, kept_of}
-use Rattle.explain_core.specs.Reasons.{told_pairs, verdict_over}
+use Rattle.explain_core.specs.{Deletion.{kept_behind, kept_of}, Reasons.{told_pairs, verdict_over}}
 use Rattle.explain_core.proofs.Told.{kept_clashes}
 use Rattle.explain_core.proofs.clashes.reasons_among.Given as goal
 

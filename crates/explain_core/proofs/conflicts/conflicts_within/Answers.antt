@@ -1,6 +1,5 @@
 use Rattle.std.proofs.Common.{◌∙◌, sym, ap}
-use Rattle.row_book.specs.Book.{repository_of}
-use Rattle.row_book.specs.Flags.{flag}
+use Rattle.row_book.specs.{Book.{repository_of}, Flags.{flag}}
 use Rattle.explain_core.proofs.Withins.{within_left, within_more}
 use Rattle.explain_core.proofs.conflicts.conflicts_within.Goals as goal
 use Rattle.explain_core.proofs.conflicts.conflicts_within.Goals.{then-is_up+in_ok-add_above, else-is_up}

@@ -1,7 +1,6 @@
 use Rattle.std.proofs.Common.{◌≡◌, filter}
 use Rattle.std.specs.List.{flat_map, range_with_len}
-use Rattle.row_book.specs.Book.{repository_of}
-use Rattle.row_book.specs.Flags.{flag}
+use Rattle.row_book.specs.{Book.{repository_of}, Flags.{flag}}
 use Rattle.explain_core.specs.Only.{conflicts_above}
 use Rattle.explain_core.proofs.conflicts.conflicts_within.Given as goal
 

@@ -1,12 +1,8 @@
 use Rattle.std.proofs.Common.{◌≡◌, ◌∙◌, sym, ap, subst}
 use Rattle.clause_solver.specs.declared.outcomes.Verdict.TheVariants as verdict
 use Rattle.suite_compare.specs.Asking.{verdict_in}
-use Rattle.explain_core.specs.Explaining.{explained_by}
-use Rattle.explain_core.specs.Meaning.{MeansExplanation}
-use Rattle.explain_core.specs.Picking.{ArePlacesFrom1}
-use Rattle.explain_core.proofs.Answering.{core_fits, core_places, core_told, wanted_long}
-use Rattle.explain_core.proofs.CoreLoop.{images_are_fit, verdict_found}
-use Rattle.explain_core.proofs.Cores.{judged}
+use Rattle.explain_core.specs.{Explaining.{explained_by}, Meaning.{MeansExplanation}, Picking.{ArePlacesFrom1}}
+use Rattle.explain_core.proofs.{Answering.{core_fits, core_places, core_told, wanted_long}, CoreLoop.{images_are_fit, verdict_found}, Cores.{judged}}
 use Rattle.explain_core.proofs.Explained.{explanation_means}
 use Rattle.explain_core.proofs.explaining.explain.Goals as goal
 

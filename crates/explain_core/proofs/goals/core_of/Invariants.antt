@@ -1,8 +1,6 @@
 use Rattle.std.proofs.Common.{◌≡◌, ◌+◌, ◌*◌, ◌-◌, ◌<◌, length}
 use Rattle.std.specs.List.{range_with_len}
-use Rattle.explain_core.specs.Core.{goal_core, verdict_on}
-use Rattle.explain_core.specs.Deletion.{kept_behind}
-use Rattle.explain_core.specs.Picking.{ArePlacesFrom1}
+use Rattle.explain_core.specs.{Core.{goal_core, verdict_on}, Deletion.{kept_behind}, Picking.{ArePlacesFrom1}}
 use Rattle.explain_core.proofs.Told.{kept_marks}
 use Rattle.explain_core.proofs.goals.core_of.Given as goal
 

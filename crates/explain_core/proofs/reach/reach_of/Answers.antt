@@ -1,9 +1,7 @@
 use Rattle.std.proofs.Common.{◌≡◌, ℕ, ◌<◌, ◌≤◌, ◌∙◌, get_or, length, sym, ap, subst}
 use Rattle.std.specs.List.{concat}
-use Rattle.row_book.specs.Book.{repository_of}
-use Rattle.row_book.specs.Needs.{NeedsFit}
-use Rattle.row_book.proofs.BookRepositories.{book_size}
-use Rattle.row_book.proofs.Books.{clauses_row}
+use Rattle.row_book.specs.{Book.{repository_of}, Needs.{NeedsFit}}
+use Rattle.row_book.proofs.{BookRepositories.{book_size}, Books.{clauses_row}}
 use Rattle.listed.proofs.Lists.{In_at}
 use Rattle.explain_core.specs.Meeting.{Meets}
 use Rattle.explain_core.proofs.Meetings.{ranged, reached_all, reached_more, reached_start}

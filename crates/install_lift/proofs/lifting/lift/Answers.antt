@@ -1,8 +1,5 @@
-use Rattle.row_book.specs.Flags.{flag}
-use Rattle.row_book.specs.Book.{repository_of}
-use Rattle.row_book.specs.Trail.{trail_meaning}
-use Rattle.install_lift.proofs.Computed.{lifts_of}
-use Rattle.install_lift.proofs.Through.{lifted_flags, IsLifted}
+use Rattle.row_book.specs.{Flags.{flag}, Book.{repository_of}, Trail.{trail_meaning}}
+use Rattle.install_lift.proofs.{Computed.{lifts_of}, Through.{lifted_flags, IsLifted}}
 use Rattle.install_lift.proofs.lifting.lift.Goals as goal
 use Rattle.install_lift.proofs.lifting.lift.Goals.{After-of}
 

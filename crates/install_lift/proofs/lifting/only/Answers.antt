@@ -1,5 +1,4 @@
-use Rattle.std.proofs.Common.{◌≡◌, length, arith}
-use Rattle.std.proofs.lemmas.List.{take_at}
+use Rattle.std.proofs.{Common.{◌≡◌, length, arith}, lemmas.List.{take_at}}
 use Rattle.install_lift.proofs.lifting.only.Goals as goal
 
 pub returns : goal.returns

@@ -1,6 +1,5 @@
 use Rattle.std.proofs.Common.{drop, ◌≤◌, length}
-use Rattle.row_book.specs.Flags.{flag}
-use Rattle.row_book.specs.Trail.{trail_meaning}
+use Rattle.row_book.specs.{Flags.{flag}, Trail.{trail_meaning}}
 use Rattle.install_lift.specs.Lifting.{IsLift}
 use Rattle.install_lift.proofs.lifting.take_all_back.Given as goal
 

@@ -1,9 +1,7 @@
-use Rattle.std.proofs.Common.{◌≡◌, ◌∙◌, ◌++◌, [], false, length, arith, sym, ap}
-use Rattle.std.specs.List.{sum_by}
-use Rattle.std.proofs.lemmas.Grind.{common_steps}
+use Rattle.std.proofs.{Common.{◌≡◌, ◌∙◌, ◌++◌, [], false, length, arith, sym, ap}, lemmas.Grind.{common_steps}}
 use Rattle.std.proofs.lemmas.List.{length_push, length-append, length-map, length-set}
-use Rattle.row_book.specs.Book.{listed_for, repository_of}
-use Rattle.row_book.specs.Flags.{flag}
+use Rattle.std.specs.List.{sum_by}
+use Rattle.row_book.specs.{Book.{listed_for, repository_of}, Flags.{flag}}
 use Rattle.row_book.proofs.Flags.{flag_in}
 use Rattle.install_lift.proofs.Lowering.{lowered, pop_out, pop_served, taken_out, list_few, fewer_up, less_work, none_left}
 use Rattle.install_lift.proofs.raising.lower.Goals as goal

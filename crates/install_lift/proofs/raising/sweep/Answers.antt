@@ -1,7 +1,5 @@
-use Rattle.std.proofs.Common.{◌<◌, ◌∙◌, ap, false, length, arith, sym}
-use Rattle.std.proofs.lemmas.List.{length-map, length-set}
-use Rattle.row_book.specs.Book.{repository_of}
-use Rattle.row_book.specs.Flags.{flag}
+use Rattle.std.proofs.{Common.{◌<◌, ◌∙◌, ap, false, length, arith, sym}, lemmas.List.{length-map, length-set}}
+use Rattle.row_book.specs.{Book.{repository_of}, Flags.{flag}}
 use Rattle.install_lift.proofs.Lowering.{next_out, next_served, next_taken}
 use Rattle.install_lift.proofs.raising.sweep.Goals as goal
 

@@ -1,6 +1,5 @@
 use Rattle.std.proofs.Common.{◌≡◌, length}
-use Rattle.row_book.specs.Book.{repository_of}
-use Rattle.row_book.specs.Flags.{flag}
+use Rattle.row_book.specs.{Book.{repository_of}, Flags.{flag}}
 use Rattle.install_lift.specs.Raising.{IsLowering}
 use Rattle.install_lift.proofs.raising.sweep.Given as goal
 

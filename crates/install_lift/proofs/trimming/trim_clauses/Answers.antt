@@ -1,8 +1,6 @@
-use Rattle.std.proofs.Common.{◌∙◌, ◌<◌, length, arith, sym, Some, None, true}
-use Rattle.std.proofs.lemmas.List.{length-set}
+use Rattle.std.proofs.{Common.{◌∙◌, ◌<◌, length, arith, sym, Some, None, true}, lemmas.List.{length-set}}
 use Rattle.clause_pool.specs.Interned.{clause_at}
-use Rattle.row_book.specs.Book.{repository_of}
-use Rattle.row_book.specs.Flags.{flag}
+use Rattle.row_book.specs.{Book.{repository_of}, Flags.{flag}}
 use Rattle.listed.proofs.Lists.{In_at}
 use Rattle.install_lift.specs.Waiting.{is_waiting, waiting_count}
 use Rattle.install_lift.proofs.Steps.{row_first, size_of, chosen_hits, opened, open_at, open_none, trimming_more, trimming_end, chosen_below, goals_more, fewer_down}

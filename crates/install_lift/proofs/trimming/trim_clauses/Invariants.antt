@@ -1,11 +1,7 @@
 use Rattle.std.proofs.Common.{◌≡◌, ◌+◌, ◌*◌, length, true, not}
-use Rattle.std.specs.Prelude.{All, count_by}
-use Rattle.std.specs.List.{list_any}
-use Rattle.row_book.specs.Book.{repository_of}
-use Rattle.row_book.specs.Flags.{flag}
-use Rattle.row_book.specs.Sets.{Within}
-use Rattle.install_lift.specs.Trimming.{AreMetOutside, IsTrimming}
-use Rattle.install_lift.specs.Waiting.{is_waiting, waiting_count}
+use Rattle.std.specs.{Prelude.{All, count_by}, List.{list_any}}
+use Rattle.row_book.specs.{Book.{repository_of}, Flags.{flag}, Sets.{Within}}
+use Rattle.install_lift.specs.{Trimming.{AreMetOutside, IsTrimming}, Waiting.{is_waiting, waiting_count}}
 use Rattle.install_lift.proofs.trimming.trim_clauses.Given as goal
 
 abbrev pub invariant-loop-number : goal.invariant-loop-number

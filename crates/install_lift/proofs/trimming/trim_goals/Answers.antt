@@ -1,12 +1,9 @@
-use Rattle.std.proofs.Common.{◌∙◌, ◌<◌, ◌≤◌, length, arith, sym, true}
-use Rattle.std.proofs.lemmas.List.{length-set, take_all}
-use Rattle.row_book.specs.Book.{repository_of}
-use Rattle.row_book.specs.Flags.{flag}
+use Rattle.std.proofs.{Common.{◌∙◌, ◌<◌, ◌≤◌, length, arith, sym, true}, lemmas.List.{length-set, take_all}}
+use Rattle.row_book.specs.{Book.{repository_of}, Flags.{flag}}
 use Rattle.listed.proofs.Lists.{item_in}
 use Rattle.row_book.proofs.Lists.{any_hit}
-use Rattle.install_lift.proofs.Steps.{trimming_more, chosen_below, goals_more, goal_now, goals_next, goal_open, at_place}
+use Rattle.install_lift.proofs.{Steps.{trimming_more, chosen_below, goals_more, goal_now, goals_next, goal_open, at_place}, Waits.{waits_more}}
 use Rattle.install_lift.specs.Waiting.{is_waiting}
-use Rattle.install_lift.proofs.Waits.{waits_more}
 use Rattle.install_lift.proofs.trimming.trim_goals.Goals as goal
 
 pub loop-place-preserved-then-hits_one : goal.loop-place-preserved-then-hits_one

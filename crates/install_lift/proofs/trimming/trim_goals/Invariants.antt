@@ -1,10 +1,7 @@
 use Rattle.std.proofs.Common.{◌≡◌, ℕ, take, length, true}
-use Rattle.std.specs.Prelude.{All}
-use Rattle.std.specs.List.{list_any}
-use Rattle.row_book.specs.Book.{repository_of}
-use Rattle.row_book.specs.Flags.{flag}
-use Rattle.install_lift.specs.Trimming.{IsTrimming}
-use Rattle.install_lift.specs.Waiting.{is_waiting}
+use Rattle.std.specs.{Prelude.{All}, List.{list_any}}
+use Rattle.row_book.specs.{Book.{repository_of}, Flags.{flag}}
+use Rattle.install_lift.specs.{Trimming.{IsTrimming}, Waiting.{is_waiting}}
 use Rattle.install_lift.proofs.trimming.trim_goals.Given as goal
 
 abbrev pub invariant-loop-place : goal.invariant-loop-place

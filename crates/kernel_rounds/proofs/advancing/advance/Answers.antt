@@ -1,12 +1,8 @@
-use Rattle.std.proofs.Common.{◌≡◌, ◌<◌, ◌∙◌, ◌++◌, Bool, true, false, not, ap, refl, subst, sym, Some}
-use Rattle.std.proofs.lemmas.Bool.{false≢true, not-true}
+use Rattle.std.proofs.{Common.{◌≡◌, ◌<◌, ◌∙◌, ◌++◌, Bool, true, false, not, ap, refl, subst, sym, Some}, lemmas.Bool.{false≢true, not-true}}
 use Rattle.std.specs.Prelude.{if◌then◌else◌, []}
-use Rattle.row_book.specs.Book.{repository_of, Sound}
-use Rattle.row_book.specs.Rounds.{limit_at, round, round_count, round_steps, steps_after}
-use Rattle.row_book.specs.Trail.{trail_meaning}
+use Rattle.row_book.specs.{Book.{repository_of, Sound}, Rounds.{limit_at, round, round_count, round_steps, steps_after}, Trail.{trail_meaning}}
 use Rattle.row_book.proofs.BookRepositories.{sound_repository}
-use Rattle.kernel_rounds.specs.Extracting.{HasStepsBefore, OnRoundLimit, refusal}
-use Rattle.kernel_rounds.specs.Moving.{HasSteps}
+use Rattle.kernel_rounds.specs.{Extracting.{HasStepsBefore, OnRoundLimit, refusal}, Moving.{HasSteps}}
 use Rattle.kernel_rounds.proofs.Midways.{falls, midway_end, midway_gained, midway_more, midway_refused}
 use Rattle.kernel_rounds.proofs.advancing.advance.Goals as goal
 

@@ -1,10 +1,7 @@
-use Rattle.std.proofs.Common.{◌≡◌, ◌<◌, arith, length, subst}
-use Rattle.std.proofs.lemmas.Result.{err_from_is_err_and}
+use Rattle.std.proofs.{Common.{◌≡◌, ◌<◌, arith, length, subst}, lemmas.Result.{err_from_is_err_and}}
 use Rattle.clause_pool.proofs.Interned.{kept_along, kept_same}
-use Rattle.row_book.specs.Book.{repository_of}
-use Rattle.row_book.specs.Repository.{Repository}
-use Rattle.row_book.proofs.Books.{sound_kept}
-use Rattle.row_book.proofs.BookRepositories.{book_size, sound_repository}
+use Rattle.row_book.specs.{Book.{repository_of}, Repository.{Repository}}
+use Rattle.row_book.proofs.{Books.{sound_kept}, BookRepositories.{book_size, sound_repository}}
 use Rattle.kernel_rounds.specs.Extracting.{IsOutcome}
 use Rattle.kernel_rounds.proofs.Midways.{midway_size}
 use Rattle.kernel_rounds.proofs.advancing.all_rounds.Goals as goal

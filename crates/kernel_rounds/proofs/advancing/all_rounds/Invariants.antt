@@ -1,5 +1,4 @@
-use Rattle.row_book.specs.Book.{repository_of}
-use Rattle.row_book.specs.Rounds.{round_count}
+use Rattle.row_book.specs.{Book.{repository_of}, Rounds.{round_count}}
 use Rattle.kernel_rounds.specs.Extracting.{IsMidway}
 use Rattle.kernel_rounds.proofs.advancing.all_rounds.Given as goal
 

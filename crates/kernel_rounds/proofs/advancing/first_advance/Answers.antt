@@ -1,10 +1,6 @@
-use Rattle.std.proofs.Common.{◌≡◌, ◌<◌, ◌∙◌, [], ap, ap₂, length, map, refl, subst, sym}
-use Rattle.std.proofs.lemmas.Bool.{false≢true}
+use Rattle.std.proofs.{Common.{◌≡◌, ◌<◌, ◌∙◌, [], ap, ap₂, length, map, refl, subst, sym}, lemmas.Bool.{false≢true}}
 use Rattle.std.specs.Prelude.{if◌then◌else◌}
-use Rattle.row_book.specs.Book.{repository_of}
-use Rattle.row_book.specs.Repository.{Repository}
-use Rattle.row_book.specs.Rounds.{round, round_count, round_steps}
-use Rattle.row_book.specs.Trail.{trail_meaning}
+use Rattle.row_book.specs.{Book.{repository_of}, Repository.{Repository}, Rounds.{round, round_count, round_steps}, Trail.{trail_meaning}}
 use Rattle.row_book.proofs.BookRepositories.{sound_repository}
 use Rattle.class_merge.specs.Classes.{class_in}
 use Rattle.kernel_rounds.specs.Extracting.{IsReached}

@@ -2,15 +2,10 @@ use Rattle.std.proofs.Common.{◌≡◌, ◌<◌, ◌∙◌, [], ap, arith, leng
 use Rattle.clause_pool.specs.Interned.{Kept}
 use Rattle.clause_pool.proofs.Interned.{kept_same}
 use Rattle.clause_flatten.specs.Refusals.{OnLimit}
-use Rattle.row_book.specs.Book.{repository_of}
-use Rattle.row_book.specs.Flattening.{flat, held_of, passes}
-use Rattle.row_book.specs.Numbers.{numbers}
-use Rattle.row_book.specs.Repository.{Repository}
-use Rattle.row_book.specs.Rounds.{limit_at}
+use Rattle.row_book.specs.{Book.{repository_of}, Flattening.{flat, held_of, passes}, Numbers.{numbers}, Repository.{Repository}, Rounds.{limit_at}}
 use Rattle.row_book.proofs.BookRepositories.{book_size, sound_repository}
 use Rattle.kernel_rounds.specs.Extracting.{refusal, HasStepsBefore, OnRoundLimit}
-use Rattle.kernel_rounds.proofs.Midways.{midway_gained, midway_none, midway_refused, midway_size}
-use Rattle.kernel_rounds.proofs.Again.{extracted_keeps, extracted_own, extracted_settled}
+use Rattle.kernel_rounds.proofs.{Midways.{midway_gained, midway_none, midway_refused, midway_size}, Again.{extracted_keeps, extracted_own, extracted_settled}}
 use Rattle.kernel_rounds.proofs.extraction.extract.Goals as goal
 
 pub round_error-requires : goal.round_error-requires

@@ -1,13 +1,9 @@
 use Rattle.std.proofs.Common.{◌≡◌, ◌∙◌, false, ap, subst, sym, None, Some}
 use Rattle.clause_pool.specs.Interned.{Kept}
 use Rattle.clause_flatten.specs.Beside.{AreKnown, IsFlattened}
-use Rattle.row_book.specs.Book.{repository_of}
-use Rattle.row_book.specs.Flattening.{passes}
-use Rattle.row_book.specs.Numbers.{numbers}
-use Rattle.row_book.specs.Rounds.{limit_at}
+use Rattle.row_book.specs.{Book.{repository_of}, Flattening.{passes}, Numbers.{numbers}, Rounds.{limit_at}}
 use Rattle.kernel_rounds.specs.Extracting.{HasStepsBefore, OnRoundLimit}
-use Rattle.kernel_rounds.proofs.Again.{first_within}
-use Rattle.kernel_rounds.proofs.Midways.{none_before}
+use Rattle.kernel_rounds.proofs.{Again.{first_within}, Midways.{none_before}}
 use Rattle.kernel_rounds.proofs.extraction.extract_beside.Goals as goal
 
 some_is_none : {A : Type 0} {x : A} → Some x ≡ None → ⊥

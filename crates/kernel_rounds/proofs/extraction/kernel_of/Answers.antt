@@ -1,6 +1,5 @@
 use Rattle.clause_pool.proofs.Interned.{kept_along}
-use Rattle.row_book.specs.Book.{repository_of}
-use Rattle.row_book.specs.Rounds.{kernel_steps}
+use Rattle.row_book.specs.{Book.{repository_of}, Rounds.{kernel_steps}}
 use Rattle.kernel_rounds.proofs.extraction.kernel_of.Goals as goal
 
 pub carry_kernel-requires-clause-into : goal.carry_kernel-requires-clause-into

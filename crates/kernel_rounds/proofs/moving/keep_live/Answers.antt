@@ -1,6 +1,5 @@
 use Rattle.std.proofs.Common.{◌∙◌, ap, map, subst, sym}
-use Rattle.clause_pool.specs.Interned.{row_at}
-use Rattle.clause_pool.specs.Compacting.{RowsOf}
+use Rattle.clause_pool.specs.{Interned.{row_at}, Compacting.{RowsOf}}
 use Rattle.listed.specs.Lists.{In}
 use Rattle.listed.proofs.Lists.{In_append_left, In_append_right}
 use Rattle.kernel_rounds.specs.Moving.{live_rows, trail_rows}

@@ -1,5 +1,4 @@
-use Rattle.std.proofs.Common.{subst, take, ◌+◌}
-use Rattle.std.proofs.lemmas.List.{take_all}
+use Rattle.std.proofs.{Common.{subst, take, ◌+◌}, lemmas.List.{take_all}}
 use Rattle.listed.proofs.Lists.{item_in}
 use Rattle.kernel_rounds.specs.Moving.{AreSameSteps}
 use Rattle.kernel_rounds.proofs.MovedSteps.{item_rows, next_steps, steps_more}

@@ -1,6 +1,5 @@
 use Rattle.std.proofs.Common.{ℕ, List, take}
-use Rattle.clause_pool.specs.Interned.{Interned}
-use Rattle.clause_pool.specs.Compacting.{Compacts}
+use Rattle.clause_pool.specs.{Interned.{Interned}, Compacting.{Compacts}}
 use Rattle.kernel_rounds.specs.Moving.{AreSameSteps}
 use Rattle.kernel_rounds.proofs.moving.rename_steps.Given as goal
 

@@ -1,8 +1,6 @@
 use Rattle.std.proofs.Common.{◌≡◌, ◌∙◌, ◌↔◌, ◌++◌, false, not, ap, subst, sym}
 use Rattle.std.specs.Prelude.{if◌then◌else◌, []}
-use Rattle.row_book.specs.Book.{repository_of, Sound}
-use Rattle.row_book.specs.Rounds.{round, round_steps}
-use Rattle.row_book.specs.Trail.{trail_meaning}
+use Rattle.row_book.specs.{Book.{repository_of, Sound}, Rounds.{round, round_steps}, Trail.{trail_meaning}}
 use Rattle.row_book.proofs.Books.{sound_kept}
 use Rattle.kernel_rounds.proofs.Midways.{round_changes, round_told, IsNext}
 use Rattle.kernel_rounds.proofs.rounding.one_round.Goals as goal

@@ -1,9 +1,6 @@
 use Rattle.std.proofs.Common.{◌∙◌, ap, map}
 use Rattle.clause_pool.proofs.Interned.{kept_along}
-use Rattle.row_book.specs.Merging.{class_list, quotient}
-use Rattle.row_book.specs.Pruning.{idle_steps, prune}
-use Rattle.row_book.specs.Rounds.{round, IdleStep}
-use Rattle.row_book.specs.Thinning.{thin}
+use Rattle.row_book.specs.{Merging.{class_list, quotient}, Pruning.{idle_steps, prune}, Rounds.{round, IdleStep}, Thinning.{thin}}
 use Rattle.kernel_rounds.proofs.rounding.reduce.Goals as goal
 
 pub returns-in_err-made-clause-kept : goal.returns-in_err-made-clause-kept

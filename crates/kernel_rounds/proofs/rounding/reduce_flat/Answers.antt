@@ -1,8 +1,6 @@
 use Rattle.std.proofs.Common.{◌∙◌, ap, map}
 use Rattle.clause_pool.proofs.Interned.{kept_along}
-use Rattle.row_book.specs.Pruning.{idle_steps, prune}
-use Rattle.row_book.specs.Rounds.{IdleStep}
-use Rattle.row_book.specs.Thinning.{thin}
+use Rattle.row_book.specs.{Pruning.{idle_steps, prune}, Rounds.{IdleStep}, Thinning.{thin}}
 use Rattle.kernel_rounds.proofs.rounding.reduce_flat.Goals as goal
 
 pub returns-in_err-shrunk-clause-kept : goal.returns-in_err-shrunk-clause-kept

@@ -1,6 +1,5 @@
-use Rattle.std.proofs.Common.{◌∙◌, ◌∷◌, ◌++◌, [], ap}
+use Rattle.std.proofs.{Common.{◌∙◌, ◌∷◌, ◌++◌, [], ap}, lemmas.Result.{IfOk-weaker}}
 use Rattle.std.specs.Prelude.{if◌then◌else◌}
-use Rattle.std.proofs.lemmas.Result.{IfOk-weaker}
 use Rattle.row_book.specs.declared.trail.Step.TheVariants.{Flat, Merge}
 use Rattle.kernel_rounds.proofs.rounding.tell_first.Goals as goal
 

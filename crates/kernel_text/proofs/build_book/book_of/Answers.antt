@@ -1,16 +1,11 @@
-use Rattle.std.proofs.Common.{◌≡◌, ◌<◌, length, map, ap, sym, subst, ◌∙◌, arith}
+use Rattle.std.proofs.{Common.{◌≡◌, ◌<◌, length, map, ap, sym, subst, ◌∙◌, arith}, lemmas.Result.{IfOk-weaker}}
 use Rattle.clause_pool.proofs.Interned.{kept_along}
-use Rattle.clause_pool.specs.Interned.{clauses_at}
-use Rattle.clause_pool.specs.Compacting.{RowsOf}
+use Rattle.clause_pool.specs.{Interned.{clauses_at}, Compacting.{RowsOf}}
 use Rattle.row_book.specs.Book.{AddsOnly, NumbersFit, PairsFit}
 use Rattle.listed.specs.Lists.{In}
 use Rattle.listed.proofs.Lists.{In_map}
-use Rattle.kernel_text.specs.Booking.{AreRows, GainsRows, HasIdsByClass}
-use Rattle.kernel_text.specs.Reader.{entry_of}
-use Rattle.kernel_text.specs.Reading.{number_limit}
-use Rattle.std.proofs.lemmas.Result.{IfOk-weaker}
-use Rattle.kernel_text.proofs.Gained.{rows_alone}
-use Rattle.kernel_text.proofs.IdTables.{book_is, rows_count, numbers_fit, table_in_order, table_of_pool}
+use Rattle.kernel_text.specs.{Booking.{AreRows, GainsRows, HasIdsByClass}, Reader.{entry_of}, Reading.{number_limit}}
+use Rattle.kernel_text.proofs.{Gained.{rows_alone}, IdTables.{book_is, rows_count, numbers_fit, table_in_order, table_of_pool}}
 use Rattle.kernel_text.proofs.build_book.book_of.Goals as goal
 
 pub intern_clauses-requires-clause-inside : goal.intern_clauses-requires-clause-inside

@@ -3,10 +3,8 @@ use Rattle.clause_pool.specs.Interned.{IsIdOf}
 use Rattle.clause_pool.proofs.Interned.{kept_along}
 use Rattle.listed.specs.Lists.{Ascending}
 use Rattle.listed.proofs.Lists.{item_in}
-use Rattle.kernel_text.specs.Booking.{HasIdsByClass}
-use Rattle.kernel_text.specs.Reader.{entry_of}
-use Rattle.kernel_text.proofs.Gained.{clause_gained}
-use Rattle.kernel_text.proofs.IdTables.{entries_more, id_more}
+use Rattle.kernel_text.specs.{Booking.{HasIdsByClass}, Reader.{entry_of}}
+use Rattle.kernel_text.proofs.{Gained.{clause_gained}, IdTables.{entries_more, id_more}}
 use Rattle.kernel_text.proofs.build_book.intern_clauses.Goals as goal
 
 pub intern-requires : goal.intern-requires

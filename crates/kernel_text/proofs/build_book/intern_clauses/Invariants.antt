@@ -1,7 +1,6 @@
 use Rattle.std.proofs.Common.{map, take}
 use Rattle.clause_pool.specs.Interned.{Kept}
-use Rattle.kernel_text.specs.Booking.{GainsClauses, HasIdsByClass}
-use Rattle.kernel_text.specs.Reader.{entry_of}
+use Rattle.kernel_text.specs.{Booking.{GainsClauses, HasIdsByClass}, Reader.{entry_of}}
 use Rattle.kernel_text.proofs.build_book.intern_clauses.Given as goal
 
 abbrev pub invariant-loop-clause : goal.invariant-loop-clause

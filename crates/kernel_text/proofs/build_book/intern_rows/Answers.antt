@@ -1,10 +1,8 @@
 use Rattle.std.proofs.Common.{ap, sym, subst, ◌∙◌, arith}
 use Rattle.listed.proofs.Lists.{item_nil, item_in}
-use Rattle.clause_pool.specs.Interned.{Gains, IsIdOf, OfPool, clauses_at}
+use Rattle.clause_pool.specs.{Interned.{Gains, IsIdOf, OfPool, clauses_at}, Lists.{InOrder}}
 use Rattle.clause_pool.proofs.Interned.{kept_along, clauses_kept, kept_of_pool}
-use Rattle.clause_pool.specs.Lists.{InOrder}
-use Rattle.kernel_text.proofs.Gained.{row_gained}
-use Rattle.kernel_text.proofs.IdTables.{row_more}
+use Rattle.kernel_text.proofs.{Gained.{row_gained}, IdTables.{row_more}}
 use Rattle.kernel_text.proofs.build_book.intern_rows.Goals as goal
 
 pub intern_row-requires-clause-of_pool : goal.intern_row-requires-clause-of_pool

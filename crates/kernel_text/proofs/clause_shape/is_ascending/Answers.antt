@@ -1,5 +1,4 @@
-use Rattle.std.proofs.Common.{◌≡◌, ◌-◌, ◌≤◌, suc, get_or, refl, sym, subst, arith}
-use Rattle.std.proofs.lemmas.Bool.{false≢true}
+use Rattle.std.proofs.{Common.{◌≡◌, ◌-◌, ◌≤◌, suc, get_or, refl, sym, subst, arith}, lemmas.Bool.{false≢true}}
 use Rattle.kernel_text.proofs.Rising.{rise, fall}
 use Rattle.kernel_text.proofs.clause_shape.is_ascending.Goals as goal
 

@@ -1,5 +1,4 @@
-use Rattle.std.proofs.Common.{length, refl, subst}
-use Rattle.std.proofs.lemmas.List.{take_all}
+use Rattle.std.proofs.{Common.{length, refl, subst}, lemmas.List.{take_all}}
 use Rattle.kernel_text.specs.Writing.{TellHeld}
 use Rattle.kernel_text.proofs.Marks.{none_marked, one_marked}
 use Rattle.kernel_text.proofs.holding.mark_held.Goals as goal

@@ -1,6 +1,5 @@
 use Rattle.std.proofs.Common.{◌≡◌, ◌++◌, take, filter, ltb}
-use Rattle.kernel_text.specs.KernelLines.{AgainstLine}
-use Rattle.kernel_text.specs.Writing.{lines_text}
+use Rattle.kernel_text.specs.{KernelLines.{AgainstLine}, Writing.{lines_text}}
 use Rattle.kernel_text.proofs.push_lines.push_against_lines.Given as goal
 
 abbrev pub invariant-loop-class : goal.invariant-loop-class

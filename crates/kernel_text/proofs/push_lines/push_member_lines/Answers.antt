@@ -1,9 +1,7 @@
 use Rattle.std.proofs.Common.{◌++◌, ap, ◌∙◌}
-use Rattle.kernel_text.specs.KernelLines.{line_text}
-use Rattle.kernel_text.specs.Writing.{line_of_package}
+use Rattle.kernel_text.specs.{KernelLines.{line_text}, Writing.{line_of_package}}
 use Rattle.repo_model.specs.Stanzas.{stanza_at}
-use Rattle.repo_model.proofs.Elements.{at_place}
-use Rattle.repo_model.proofs.Numbers.{same_stanza}
+use Rattle.repo_model.proofs.{Elements.{at_place}, Numbers.{same_stanza}}
 use Rattle.kernel_text.proofs.Written.{more_text}
 use Rattle.kernel_text.proofs.push_lines.push_member_lines.Goals as goal
 

@@ -1,8 +1,6 @@
 use Rattle.std.proofs.Common.{map, ap, subst, ◌∙◌}
-use Rattle.kernel_text.specs.Reader.{RangeIsTold, entry_of}
-use Rattle.kernel_text.specs.Strays.{StrayIsTold}
-use Rattle.kernel_text.proofs.InRange.{in_range}
-use Rattle.kernel_text.proofs.StrayLines.{none_told}
+use Rattle.kernel_text.specs.{Reader.{RangeIsTold, entry_of}, Strays.{StrayIsTold}}
+use Rattle.kernel_text.proofs.{InRange.{in_range}, StrayLines.{none_told}}
 use Rattle.kernel_text.proofs.read.judge.Goals as goal
 
 -- some line strays, where a number is not one of a class

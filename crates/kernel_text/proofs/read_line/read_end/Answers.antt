@@ -1,7 +1,5 @@
-use Rattle.std.proofs.Common.{sym, ap, ◌∙◌}
-use Rattle.std.specs.Fmt.{decimal}
-use Rattle.std.specs.Option.{option_copied}
-use Rattle.std.proofs.lemmas.Option.{same_Some}
+use Rattle.std.proofs.{Common.{sym, ap, ◌∙◌}, lemmas.Option.{same_Some}}
+use Rattle.std.specs.{Fmt.{decimal}, Option.{option_copied}}
 use Rattle.kernel_text.proofs.LineWords.{no_end}
 use Rattle.kernel_text.proofs.read_line.read_end.Goals as goal
 

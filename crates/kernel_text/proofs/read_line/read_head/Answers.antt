@@ -1,6 +1,5 @@
 use Rattle.std.proofs.lemmas.Bool.{both_ways}
-use Rattle.kernel_text.proofs.LineWords.{no_head, other_format}
-use Rattle.kernel_text.proofs.Spelling.{format_low}
+use Rattle.kernel_text.proofs.{LineWords.{no_head, other_format}, Spelling.{format_low}}
 use Rattle.kernel_text.proofs.read_line.read_head.Goals as goal
 
 -- there is no number, or it is that of no format

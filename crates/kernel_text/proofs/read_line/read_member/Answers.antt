@@ -1,9 +1,6 @@
-use Rattle.std.proofs.Common.{◌≡◌, false, sym, ap, ◌∙◌}
+use Rattle.std.proofs.{Common.{◌≡◌, false, sym, ap, ◌∙◌}, lemmas.Bool.{both_ways}, lemmas.Option.{same_Some}}
 use Rattle.std.specs.Option.{option_copied}
-use Rattle.std.proofs.lemmas.Bool.{both_ways}
-use Rattle.std.proofs.lemmas.Option.{same_Some}
-use Rattle.deb_version.specs.Grammar.{is_version}
-use Rattle.deb_version.specs.Names.{is_name}
+use Rattle.deb_version.specs.{Grammar.{is_version}, Names.{is_name}}
 use Rattle.kernel_text.proofs.LineWords.{no_member}
 use Rattle.kernel_text.proofs.read_line.read_member.Goals as goal
 

@@ -1,5 +1,4 @@
-use Rattle.std.proofs.Common.{sym, ◌∙◌}
-use Rattle.std.proofs.lemmas.Slice.Eq.{bytes_eq-Decides}
+use Rattle.std.proofs.{Common.{sym, ◌∙◌}, lemmas.Slice.Eq.{bytes_eq-Decides}}
 use Rattle.kernel_text.proofs.read_line.read_numbered.Goals as goal
 
 pub returns-then-eq : goal.returns-then-eq

@@ -1,9 +1,7 @@
-use Rattle.std.proofs.Common.{◌≡◌, ◌<◌, ◌≤◌, sym, ap, ◌∙◌, arith}
-use Rattle.std.proofs.lemmas.Bool.{both_ways}
+use Rattle.std.proofs.{Common.{◌≡◌, ◌<◌, ◌≤◌, sym, ap, ◌∙◌, arith}, lemmas.Bool.{both_ways}}
 use Rattle.std.specs.Fmt.{decimal}
 use Rattle.deb_version.specs.Order.{number}
-use Rattle.kernel_text.specs.Numbers.{is_numeral}
-use Rattle.kernel_text.specs.Reading.{number_limit}
+use Rattle.kernel_text.specs.{Numbers.{is_numeral}, Reading.{number_limit}}
 use Rattle.kernel_text.proofs.Numerals.{decimal_numeral, numeral_decimal, value_decimal}
 use Rattle.kernel_text.proofs.read_number.read_number.Goals as goal
 

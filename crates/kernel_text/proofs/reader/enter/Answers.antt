@@ -1,7 +1,5 @@
-use Rattle.std.proofs.Common.{◌≡◌, ◌∙◌, List, ℕ, arith, length, subst, sym}
-use Rattle.std.proofs.lemmas.Grind.{common_steps}
-use Rattle.package_register.specs.Numbers.{numbers_where}
-use Rattle.package_register.specs.Registers.{is_version_of}
+use Rattle.std.proofs.{Common.{◌≡◌, ◌∙◌, List, ℕ, arith, length, subst, sym}, lemmas.Grind.{common_steps}}
+use Rattle.package_register.specs.{Numbers.{numbers_where}, Registers.{is_version_of}}
 use Rattle.kernel_text.specs.declared.member.Member.{Member}
 use Rattle.kernel_text.proofs.Membership.{new_member, old_member}
 use Rattle.kernel_text.proofs.reader.enter.Goals as goal

@@ -1,5 +1,4 @@
-use Rattle.std.proofs.Common.{sym, subst, ap, ◌∙◌, arith}
-use Rattle.std.proofs.lemmas.Result.{on_ok_weaker}
+use Rattle.std.proofs.{Common.{sym, subst, ap, ◌∙◌, arith}, lemmas.Result.{on_ok_weaker}}
 use Rattle.clause_pool.specs.Interned.{clauses_at, row_at}
 use Rattle.row_book.specs.Book.{repository_of}
 use Rattle.listed.specs.Lists.{In}

@@ -1,5 +1,4 @@
-use Rattle.row_book.specs.Book.{repository_of}
-use Rattle.row_book.specs.Flags.{flag}
+use Rattle.row_book.specs.{Book.{repository_of}, Flags.{flag}}
 use Rattle.kernel_text.specs.Writing.{block_text}
 use Rattle.kernel_text.proofs.Written.{more_blocks, no_blocks}
 use Rattle.kernel_text.proofs.write.push_classes.Goals as goal

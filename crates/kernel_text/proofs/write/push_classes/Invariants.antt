@@ -1,8 +1,6 @@
 use Rattle.std.proofs.Common.{◌≡◌, ◌++◌}
 use Rattle.std.specs.List.{flat_map}
-use Rattle.row_book.specs.Book.{repository_of}
-use Rattle.row_book.specs.Numbers.{numbers}
-use Rattle.row_book.specs.Flags.{flag}
+use Rattle.row_book.specs.{Book.{repository_of}, Numbers.{numbers}, Flags.{flag}}
 use Rattle.kernel_text.specs.Writing.{block_text}
 use Rattle.kernel_text.proofs.write.push_classes.Given as goal
 

@@ -1,12 +1,8 @@
-use Rattle.std.proofs.Common.{ℕ, List, ◌++◌, length, subst, sym, ap, ap₂, ◌∙◌}
-use Rattle.std.proofs.lemmas.List.{length-map}
+use Rattle.std.proofs.{Common.{ℕ, List, ◌++◌, length, subst, sym, ap, ap₂, ◌∙◌}, lemmas.List.{length-map}}
 use Rattle.clause_pool.specs.Interned.{row_at}
 use Rattle.row_book.specs.Book.{repository_of}
 use Rattle.listed.specs.Lists.{In}
-use Rattle.kernel_text.specs.KernelLines.{EndLine, line_text}
-use Rattle.kernel_text.specs.KernelText.{kernel_text}
-use Rattle.kernel_text.specs.Members.{kernel_members}
-use Rattle.kernel_text.specs.Writing.{IsByClass}
+use Rattle.kernel_text.specs.{KernelLines.{EndLine, line_text}, KernelText.{kernel_text}, Members.{kernel_members}, Writing.{IsByClass}}
 use Rattle.kernel_text.proofs.Written.{of_packages, whole}
 use Rattle.kernel_text.proofs.write.write_classes.Goals as goal
 

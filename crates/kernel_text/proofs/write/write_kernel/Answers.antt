@@ -1,9 +1,7 @@
 use Rattle.std.proofs.Common.{◌≡◌, length, subst}
 use Rattle.std.specs.Prelude.{IfOk}
 use Rattle.row_book.specs.Book.{repository_of}
-use Rattle.kernel_text.specs.KernelText.{kernel_text}
-use Rattle.kernel_text.specs.Members.{kernel_members}
-use Rattle.kernel_text.specs.Writing.{TellHeld}
+use Rattle.kernel_text.specs.{KernelText.{kernel_text}, Members.{kernel_members}, Writing.{TellHeld}}
 use Rattle.kernel_text.proofs.Marks.{same_told}
 use Rattle.kernel_text.proofs.write.write_kernel.Goals as goal
 

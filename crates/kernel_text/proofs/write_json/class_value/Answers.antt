@@ -6,10 +6,8 @@ use Rattle.row_book.proofs.Books.{clauses_row}
 use Rattle.row_book.specs.Book.{repository_of}
 use Rattle.serde_json.proofs.Views.{view-Object}
 use Rattle.serde_json.specs.View.{members_view}
-use Rattle.kernel_text.specs.JsonData.{class_data}
-use Rattle.kernel_text.specs.KernelText.{greater_conflicts}
-use Rattle.kernel_text.proofs.JsonTexts.{class_made}
-use Rattle.kernel_text.proofs.Written.{list_is}
+use Rattle.kernel_text.specs.{JsonData.{class_data}, KernelText.{greater_conflicts}}
+use Rattle.kernel_text.proofs.{JsonTexts.{class_made}, Written.{list_is}}
 use Rattle.kernel_text.proofs.write_json.class_value.Goals as goal
 
 -- the list of the class, as it is lent

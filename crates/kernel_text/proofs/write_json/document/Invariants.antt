@@ -1,6 +1,5 @@
 use Rattle.std.proofs.Common.{◌≡◌, map}
-use Rattle.row_book.specs.Book.{repository_of}
-use Rattle.row_book.specs.Numbers.{numbers}
+use Rattle.row_book.specs.{Book.{repository_of}, Numbers.{numbers}}
 use Rattle.serde_json.specs.View.{view}
 use Rattle.kernel_text.specs.JsonData.{data_of_class, mark_of_class}
 use Rattle.kernel_text.proofs.write_json.document.Given as goal

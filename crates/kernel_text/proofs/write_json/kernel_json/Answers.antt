@@ -1,17 +1,10 @@
-use Rattle.std.proofs.Common.{◌≡◌, ℕ, Bool, List, length, subst, sym, ap, ap₂, ◌∙◌}
-use Rattle.std.proofs.lemmas.List.{length-map}
-use Rattle.std.proofs.lemmas.Result.{IfOk-weaker}
+use Rattle.std.proofs.{Common.{◌≡◌, ℕ, Bool, List, length, subst, sym, ap, ap₂, ◌∙◌}, lemmas.List.{length-map}, lemmas.Result.{IfOk-weaker}}
 use Rattle.clause_pool.specs.Interned.{row_at}
 use Rattle.row_book.specs.Book.{repository_of}
 use Rattle.listed.specs.Lists.{In}
 use Rattle.repo_model.specs.Facts.{AreNamedPackages}
-use Rattle.kernel_text.specs.KernelJson.{kernel_json}
-use Rattle.kernel_text.specs.KernelText.{format_of}
-use Rattle.kernel_text.specs.Members.{kernel_members}
-use Rattle.kernel_text.specs.Writing.{IsByClass, TellHeld}
-use Rattle.kernel_text.proofs.JsonTexts.{document_is}
-use Rattle.kernel_text.proofs.Marks.{same_told}
-use Rattle.kernel_text.proofs.Written.{of_packages}
+use Rattle.kernel_text.specs.{KernelJson.{kernel_json}, KernelText.{format_of}, Members.{kernel_members}, Writing.{IsByClass, TellHeld}}
+use Rattle.kernel_text.proofs.{JsonTexts.{document_is}, Marks.{same_told}, Written.{of_packages}}
 use Rattle.kernel_text.proofs.write_json.kernel_json.Goals as goal
 
 -- the lent lists are those of the suite and of the classes

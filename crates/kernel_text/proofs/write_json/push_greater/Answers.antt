@@ -1,9 +1,7 @@
-use Rattle.std.proofs.Common.{◌∙◌, ap, filter, ltb, map}
-use Rattle.std.proofs.lemmas.List.{take_all}
+use Rattle.std.proofs.{Common.{◌∙◌, ap, filter, ltb, map}, lemmas.List.{take_all}}
 use Rattle.serde_json.specs.View.{view}
 use Rattle.kernel_text.specs.JsonData.{number_data}
-use Rattle.kernel_text.proofs.JsonTexts.{not_greater, one_greater}
-use Rattle.kernel_text.proofs.write_json.push_greater.Goals.{then-number-class+in_ok-push, else-number-class}
+use Rattle.kernel_text.proofs.{JsonTexts.{not_greater, one_greater}, write_json.push_greater.Goals.{then-number-class+in_ok-push, else-number-class}}
 use Rattle.kernel_text.proofs.write_json.push_greater.Goals as goal
 
 pub loop-class-init : goal.loop-class-init

@@ -1,5 +1,4 @@
-use Rattle.std.proofs.Common.{◌∙◌, ap, map}
-use Rattle.std.proofs.lemmas.List.{take_all}
+use Rattle.std.proofs.{Common.{◌∙◌, ap, map}, lemmas.List.{take_all}}
 use Rattle.serde_json.specs.View.{view}
 use Rattle.kernel_text.specs.JsonData.{number_data}
 use Rattle.kernel_text.proofs.JsonTexts.{one_value}

@@ -1,7 +1,5 @@
-use Rattle.std.proofs.Common.{◌∙◌, ap, map}
-use Rattle.std.proofs.lemmas.List.{take_all}
-use Rattle.repo_model.proofs.Elements.{at_place}
-use Rattle.repo_model.proofs.Numbers.{same_stanza}
+use Rattle.std.proofs.{Common.{◌∙◌, ap, map}, lemmas.List.{take_all}}
+use Rattle.repo_model.proofs.{Elements.{at_place}, Numbers.{same_stanza}}
 use Rattle.repo_model.specs.Stanzas.{stanza_at}
 use Rattle.listed.proofs.Lists.{item_in}
 use Rattle.serde_json.specs.View.{view}

@@ -1,5 +1,4 @@
-use Rattle.std.proofs.Common.{◌∙◌, ap}
-use Rattle.std.proofs.lemmas.Str.{IsUtf8-from_ascii}
+use Rattle.std.proofs.{Common.{◌∙◌, ap}, lemmas.Str.{IsUtf8-from_ascii}}
 use Rattle.serde_json.specs.Data.{string}
 use Rattle.kernel_text.proofs.write_json.text_value.Goals as goal
 

@@ -1,5 +1,4 @@
-use Rattle.std.proofs.Common.{◌≡◌, length, map, sym, subst, arith}
-use Rattle.std.proofs.lemmas.List.{length-map}
+use Rattle.std.proofs.{Common.{◌≡◌, length, map, sym, subst, arith}, lemmas.List.{length-map}}
 use Rattle.list_table.specs.Index.{IsIndex, IsSize}
 use Rattle.list_table.proofs.hash_index.make_room.Goals as goal
 

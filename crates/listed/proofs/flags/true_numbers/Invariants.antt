@@ -1,6 +1,5 @@
 use Rattle.std.proofs.Common.{◌≡◌, false, filter}
-use Rattle.std.specs.Prelude.{slice_index_or}
-use Rattle.std.specs.List.{range_with_len}
+use Rattle.std.specs.{Prelude.{slice_index_or}, List.{range_with_len}}
 use Rattle.listed.proofs.flags.true_numbers.Given as goal
 
 abbrev pub invariant-loop-place : goal.invariant-loop-place

@@ -1,6 +1,4 @@
-use Rattle.std.proofs.Common.{length, drop, sym, ap, ◌∙◌, arith, rules}
-use Rattle.std.proofs.Math.Seq.{drop-length}
-use Rattle.std.proofs.lemmas.List.Sums.{prefix_len_is}
+use Rattle.std.proofs.{Common.{length, drop, sym, ap, ◌∙◌, arith, rules}, Math.Seq.{drop-length}, lemmas.List.Sums.{prefix_len_is}}
 use Rattle.listed.specs.Texts.{is_white_byte, trim_start}
 use Rattle.listed.proofs.Lists.{to_end}
 use Rattle.listed.proofs.white.trim_front.Goals as goal

@@ -1,6 +1,5 @@
 use Rattle.std.proofs.Common.{ap, ◌∙◌}
-use Rattle.std.specs.Prelude.{not}
-use Rattle.std.specs.Str.{bytes_eq}
+use Rattle.std.specs.{Prelude.{not}, Str.{bytes_eq}}
 use Rattle.migrate_plan.proofs.checks.are_apart.Goals as goal
 
 pub returns-in-Some-name : goal.returns-in-Some-name

@@ -1,6 +1,5 @@
 use Rattle.std.proofs.Common.{◌∙◌, ◌<◌, ℕ, List, ap, ap₂, length, map, subst, sym}
-use Rattle.std.specs.Prelude.{not}
-use Rattle.std.specs.Cmp.Lexicographic.{pointwise}
+use Rattle.std.specs.{Prelude.{not}, Cmp.Lexicographic.{pointwise}}
 use Rattle.listed.specs.Lists.{In}
 use Rattle.repo_model.specs.Stanzas.{stanza_at}
 use Rattle.migrate_plan.specs.Differing.{differs, says_same}

@@ -1,5 +1,4 @@
-use Rattle.std.proofs.Common.{◌∙◌, ◌<◌, get_or, length}
-use Rattle.std.proofs.lemmas.List.{get_or_default}
+use Rattle.std.proofs.{Common.{◌∙◌, ◌<◌, get_or, length}, lemmas.List.{get_or_default}}
 use Rattle.listed.proofs.Lists.{In_at}
 use Rattle.repo_model.specs.Stanzas.{no_stanza}
 use Rattle.migrate_plan.proofs.differing.package_at.Goals as goal

@@ -1,5 +1,4 @@
-use Rattle.std.proofs.Common.{◌∙◌, ◌≡◌, ◌<◌, arith, length, map, sym}
-use Rattle.std.proofs.lemmas.List.{get_or-map, length-map}
+use Rattle.std.proofs.{Common.{◌∙◌, ◌≡◌, ◌<◌, arith, length, map, sym}, lemmas.List.{get_or-map, length-map}}
 use Rattle.repo_model.specs.Stanzas.{stanza_at}
 use Rattle.migrate_plan.specs.Differing.{says_same}
 use Rattle.migrate_plan.proofs.Pairwise.{pair_fails, pair_more}

@@ -1,8 +1,7 @@
 use Rattle.std.proofs.Common.{◌∙◌, ap, subst, sym}
 use Rattle.listed.specs.Lists.{In}
 use Rattle.listed.proofs.Lists.{In_at}
-use Rattle.migrate_plan.specs.Plan.{line_behind, settings_of}
-use Rattle.migrate_plan.specs.Whole.{names_between}
+use Rattle.migrate_plan.specs.{Plan.{line_behind, settings_of}, Whole.{names_between}}
 use Rattle.migrate_plan.proofs.Planned.{leads_all, leads_first, leads_more, taken_first, taken_more}
 use Rattle.migrate_plan.proofs.making.lines_beside.Goals as goal
 

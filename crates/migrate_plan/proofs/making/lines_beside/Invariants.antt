@@ -1,9 +1,6 @@
 use Rattle.std.specs.Option.{ForSome}
 use Rattle.suite_compare.specs.Known.{AreKnownPairs}
-use Rattle.migrate_plan.specs.Notes.{Texts}
-use Rattle.migrate_plan.specs.Plan.{line_behind, settings_of}
-use Rattle.migrate_plan.specs.Trying.{AreTakenBy, LeadsTo}
-use Rattle.migrate_plan.specs.Whole.{AreTextsOf}
+use Rattle.migrate_plan.specs.{Notes.{Texts}, Plan.{line_behind, settings_of}, Trying.{AreTakenBy, LeadsTo}, Whole.{AreTextsOf}}
 use Rattle.migrate_plan.proofs.making.lines_beside.Given as goal
 
 abbrev pub invariant-loop-name : goal.invariant-loop-name

@@ -1,8 +1,7 @@
 use Rattle.std.proofs.Common.{◌≡◌, ◌<◌, ◌≤◌, subst, sym}
 use Rattle.repo_model.specs.Limits.{most_packages}
 use Rattle.suite_compare.specs.declared.view.SuiteView.{SuiteView}
-use Rattle.migrate_plan.specs.Differing.{differing}
-use Rattle.migrate_plan.specs.Refusals.{packages_with}
+use Rattle.migrate_plan.specs.{Differing.{differing}, Refusals.{packages_with}}
 use Rattle.migrate_plan.proofs.making.lines_of.Goals as goal
 
 pub lines_with-lines-requires-clause-names : goal.lines_with-lines-requires-clause-names

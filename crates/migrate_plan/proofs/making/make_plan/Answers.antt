@@ -1,5 +1,4 @@
-use Rattle.std.proofs.Common.{arith}
-use Rattle.std.proofs.lemmas.Result.{IfErr-weaker, IfOk-weaker, on_ok_weaker}
+use Rattle.std.proofs.{Common.{arith}, lemmas.Result.{IfErr-weaker, IfOk-weaker, on_ok_weaker}}
 use Rattle.migrate_plan.specs.Notes.{AreTexts, Texts}
 use Rattle.migrate_plan.proofs.making.make_plan.Goals.{In_ok-new_notes}
 use Rattle.migrate_plan.proofs.making.make_plan.Goals as goal

@@ -1,17 +1,9 @@
-use Rattle.std.proofs.Common.{◌≡◌, ◌∙◌, [], None, ap, map, refl, subst, sym}
-use Rattle.std.proofs.lemmas.Result.{err_from_is_err_and}
+use Rattle.std.proofs.{Common.{◌≡◌, ◌∙◌, [], None, ap, map, refl, subst, sym}, lemmas.Result.{err_from_is_err_and}}
 use Rattle.repo_model.specs.Limits.{most_packages}
-use Rattle.migrate_plan.specs.Differing.{differing}
-use Rattle.migrate_plan.specs.Notes.{AreTexts, Texts}
-use Rattle.migrate_plan.specs.Plan.{plan, settings_of}
-use Rattle.migrate_plan.specs.Promises.{AreRight, TakesSafely, planned_name}
-use Rattle.migrate_plan.specs.Refusals.{plan_refusal}
-use Rattle.migrate_plan.specs.declared.refusals.PlanError.TheVariants.{Packages}
-use Rattle.migrate_plan.proofs.Checked.{by_homes, by_length, by_names, by_packages, names_are, none_there}
-use Rattle.migrate_plan.proofs.Mixed.{mixes_are_indexes}
-use Rattle.migrate_plan.proofs.Planned.{plan_is, plan_names, plan_right, plan_safe}
-use Rattle.migrate_plan.proofs.Refusing.{within_most}
-use Rattle.migrate_plan.proofs.making.plan_between.Goals.{In_ok-lines}
+use Rattle.migrate_plan.specs.{Differing.{differing}, Notes.{AreTexts, Texts}, Plan.{plan, settings_of}, Promises.{AreRight, TakesSafely, planned_name}}
+use Rattle.migrate_plan.specs.{Refusals.{plan_refusal}, declared.refusals.PlanError.TheVariants.{Packages}}
+use Rattle.migrate_plan.proofs.{Checked.{by_homes, by_length, by_names, by_packages, names_are, none_there}, Mixed.{mixes_are_indexes}}
+use Rattle.migrate_plan.proofs.{Planned.{plan_is, plan_names, plan_right, plan_safe}, Refusing.{within_most}, making.plan_between.Goals.{In_ok-lines}}
 use Rattle.migrate_plan.proofs.making.plan_between.Goals as goal
 
 pub returns-in_err-check_homes-clause-refused : goal.returns-in_err-check_homes-clause-refused

@@ -1,11 +1,7 @@
 use Rattle.std.proofs.Common.{[], ◌∷◌, ◌++◌, ◌∙◌, ap, refl, sym}
 use Rattle.std.specs.List.{items_where_true}
-use Rattle.migrate_plan.specs.Plan.{settings_of}
-use Rattle.migrate_plan.specs.Promises.{planned_name}
-use Rattle.migrate_plan.specs.Whole.{packages_of_both, names_between}
-use Rattle.migrate_plan.proofs.Made.{all_inside, behind_made}
-use Rattle.migrate_plan.proofs.MixedFacts.{few_flagged, few_mixed, packages_mixed}
-use Rattle.migrate_plan.proofs.Planned.{outcome_name}
+use Rattle.migrate_plan.specs.{Plan.{settings_of}, Promises.{planned_name}, Whole.{packages_of_both, names_between}}
+use Rattle.migrate_plan.proofs.{Made.{all_inside, behind_made}, MixedFacts.{few_flagged, few_mixed, packages_mixed}, Planned.{outcome_name}}
 use Rattle.migrate_plan.proofs.WholeMixes.{added_long, flags_long, kept_long, left_long, mix_in_whole}
 use Rattle.migrate_plan.proofs.making.try_name.Goals as goal
 

@@ -1,5 +1,4 @@
-use Rattle.std.proofs.Common.{◌∙◌}
-use Rattle.std.proofs.lemmas.List.{take_all}
+use Rattle.std.proofs.{Common.{◌∙◌}, lemmas.List.{take_all}}
 use Rattle.migrate_plan.proofs.Taken.{copied_more}
 use Rattle.migrate_plan.proofs.mixing.copies_of.Goals as goal
 

@@ -1,6 +1,5 @@
 use Rattle.std.proofs.Common.{◌-◌, length}
-use Rattle.stanza_reader.specs.Places.{IsPlace}
-use Rattle.stanza_reader.specs.Reading.{readings_at}
+use Rattle.stanza_reader.specs.{Places.{IsPlace}, Reading.{readings_at}}
 use Rattle.repo_model.specs.FirstFault.{stanzas_of}
 use Rattle.migrate_plan.proofs.Noted.{IsFoundIn}
 use Rattle.migrate_plan.proofs.notes.architectures_in.Given as goal

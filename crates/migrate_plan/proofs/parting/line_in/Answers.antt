@@ -1,11 +1,7 @@
-use Rattle.std.proofs.Common.{◌∙◌, ap, length, refl}
+use Rattle.std.proofs.{Common.{◌∙◌, ap, length, refl}, lemmas.Result.{IfOk-weaker}}
 use Rattle.std.specs.List.{items_where_true}
-use Rattle.std.proofs.lemmas.Result.{IfOk-weaker}
-use Rattle.migrate_plan.specs.Plan.{settings_of}
-use Rattle.migrate_plan.specs.Trying.{told_of}
-use Rattle.migrate_plan.specs.Whole.{packages_of_both}
-use Rattle.migrate_plan.proofs.Made.{limit_made, line_made}
-use Rattle.migrate_plan.proofs.Parted.{none_within, over_of}
+use Rattle.migrate_plan.specs.{Plan.{settings_of}, Trying.{told_of}, Whole.{packages_of_both}}
+use Rattle.migrate_plan.proofs.{Made.{limit_made, line_made}, Parted.{none_within, over_of}}
 use Rattle.migrate_plan.proofs.parting.line_in.Goals as goal
 
 pub kernel_in-requires-clause-flags : goal.kernel_in-requires-clause-flags

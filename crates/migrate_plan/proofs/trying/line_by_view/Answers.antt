@@ -1,5 +1,4 @@
-use Rattle.migrate_plan.specs.Plan.{settings_of}
-use Rattle.migrate_plan.specs.Trying.{told_of}
+use Rattle.migrate_plan.specs.{Plan.{settings_of}, Trying.{told_of}}
 use Rattle.migrate_plan.proofs.trying.line_by_view.Goals as goal
 
 pub returns : goal.returns

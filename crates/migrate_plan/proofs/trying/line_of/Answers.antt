@@ -1,6 +1,5 @@
 use Rattle.std.proofs.Common.{ap}
-use Rattle.migrate_plan.specs.Plan.{settings_of}
-use Rattle.migrate_plan.specs.declared.plan.PlanLine.TheVariants.{LeftLimit}
+use Rattle.migrate_plan.specs.{Plan.{settings_of}, declared.plan.PlanLine.TheVariants.{LeftLimit}}
 use Rattle.migrate_plan.proofs.Made.{limit_made, line_answered}
 use Rattle.migrate_plan.proofs.trying.line_of.Goals as goal
 

@@ -1,12 +1,9 @@
-use Rattle.std.proofs.Common.{◌≡◌, ◌+◌, ◌++◌, ◌∙◌, ◌≤◌, ap, arith, length, map, subst}
+use Rattle.std.proofs.{Common.{◌≡◌, ◌+◌, ◌++◌, ◌∙◌, ◌≤◌, ap, arith, length, map, subst}, lemmas.List.{length-append}}
 use Rattle.std.specs.List.{items_where_true}
-use Rattle.std.proofs.lemmas.List.{length-append}
 use Rattle.suite_compare.specs.Bearers.{bearers_of}
 use Rattle.repo_model.specs.Limits.{most_packages}
-use Rattle.migrate_plan.specs.Mix.{is_taken}
-use Rattle.migrate_plan.specs.Refusals.{packages_with}
-use Rattle.migrate_plan.proofs.MixedFacts.{few_whole}
-use Rattle.migrate_plan.proofs.Parted.{book_alike, book_long}
+use Rattle.migrate_plan.specs.{Mix.{is_taken}, Refusals.{packages_with}}
+use Rattle.migrate_plan.proofs.{MixedFacts.{few_whole}, Parted.{book_alike, book_long}}
 use Rattle.migrate_plan.proofs.whole.whole_of.Goals as goal
 
 pub joined-requires-clause-few : goal.joined-requires-clause-few

@@ -1,6 +1,5 @@
 use Rattle.std.proofs.Common.{List, ℕ, ◌∙◌}
-use Rattle.package_register.specs.Numbers.{passes_at}
-use Rattle.package_register.specs.Registers.{is_version_of}
+use Rattle.package_register.specs.{Numbers.{passes_at}, Registers.{is_version_of}}
 use Rattle.package_register.proofs.Numbered.{passing_both}
 use Rattle.package_register.proofs.lookup.equal_among.Goals as goal
 

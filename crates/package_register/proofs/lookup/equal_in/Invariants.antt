@@ -1,6 +1,5 @@
 use Rattle.std.proofs.Common.{◌≡◌, filter, take}
-use Rattle.package_register.specs.Numbers.{passes_at}
-use Rattle.package_register.specs.Registers.{is_version_of}
+use Rattle.package_register.specs.{Numbers.{passes_at}, Registers.{is_version_of}}
 use Rattle.package_register.proofs.lookup.equal_in.Given as goal
 
 abbrev pub invariant-loop-number : goal.invariant-loop-number

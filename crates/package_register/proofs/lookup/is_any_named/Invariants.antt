@@ -1,7 +1,6 @@
 use Rattle.std.proofs.Common.{◌≡◌, false, take}
 use Rattle.std.specs.List.{list_any}
-use Rattle.package_register.specs.Numbers.{passes_at}
-use Rattle.package_register.specs.Registers.{has_name}
+use Rattle.package_register.specs.{Numbers.{passes_at}, Registers.{has_name}}
 use Rattle.package_register.proofs.lookup.is_any_named.Given as goal
 
 abbrev pub invariant-loop-number : goal.invariant-loop-number

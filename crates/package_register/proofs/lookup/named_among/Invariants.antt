@@ -1,6 +1,5 @@
 use Rattle.std.proofs.Common.{◌≡◌, filter, take}
-use Rattle.package_register.specs.Numbers.{passes_at}
-use Rattle.package_register.specs.Registers.{has_name}
+use Rattle.package_register.specs.{Numbers.{passes_at}, Registers.{has_name}}
 use Rattle.package_register.proofs.lookup.named_among.Given as goal
 
 abbrev pub invariant-loop-number : goal.invariant-loop-number

@@ -1,7 +1,5 @@
 use Rattle.std.proofs.Common.{take, Bool}
-use Rattle.search_terms.specs.declared.literals.Literal.{Literal}
-use Rattle.search_terms.specs.Closure.{HasGiven}
-use Rattle.search_terms.specs.Marks.{IsWithin, is_marked}
+use Rattle.search_terms.specs.{declared.literals.Literal.{Literal}, Closure.{HasGiven}, Marks.{IsWithin, is_marked}}
 use Rattle.refutation_check.proofs.closures.mark_all.Given as goal
 
 abbrev pub invariant-loop-l : goal.invariant-loop-l

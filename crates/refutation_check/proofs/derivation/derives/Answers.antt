@@ -1,5 +1,4 @@
-use Rattle.std.proofs.Common.{◌<◌, length, arith, refl}
-use Rattle.std.proofs.lemmas.Bool.{both_ways}
+use Rattle.std.proofs.{Common.{◌<◌, length, arith, refl}, lemmas.Bool.{both_ways}}
 use Rattle.refutation_check.proofs.Logs.{follows_more, derives_from, derives_not}
 use Rattle.refutation_check.proofs.derivation.derives.Goals as goal
 

@@ -1,7 +1,6 @@
 use Rattle.std.proofs.Common.{ℕ, ◌<◌, ◌≡◌, ◌++◌, List, Some, take}
 use Rattle.std.specs.Prelude.{slice_get, map}
-use Rattle.search_terms.specs.declared.literals.Literal.{Literal}
-use Rattle.search_terms.specs.Closure.{Clashes, negation}
+use Rattle.search_terms.specs.{declared.literals.Literal.{Literal}, Closure.{Clashes, negation}}
 use Rattle.refutation_check.proofs.derivation.derives.Given as goal
 
 abbrev pub invariant-loop-k : goal.invariant-loop-k

@@ -1,6 +1,5 @@
 use Rattle.std.proofs.Common.{take}
-use Rattle.search_terms.specs.Closure.{IsUnitClosed}
-use Rattle.search_terms.specs.Marks.{is_marked}
+use Rattle.search_terms.specs.{Closure.{IsUnitClosed}, Marks.{is_marked}}
 use Rattle.refutation_check.proofs.flags.forced.Given as goal
 
 abbrev pub invariant-loop-sentence : goal.invariant-loop-sentence

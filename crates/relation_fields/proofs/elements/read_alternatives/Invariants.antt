@@ -1,8 +1,6 @@
 use Rattle.std.proofs.Common.{◌≡◌, ◌++◌, length}
-use Rattle.std.specs.List.{list_all, filter_map}
-use Rattle.std.specs.Option.{is_some, option_copied}
-use Rattle.relation_fields.specs.Texts.{pieces, pieces_left}
-use Rattle.relation_fields.specs.Grammar.{atom_of}
+use Rattle.std.specs.{List.{list_all, filter_map}, Option.{is_some, option_copied}}
+use Rattle.relation_fields.specs.{Texts.{pieces, pieces_left}, Grammar.{atom_of}}
 use Rattle.relation_fields.proofs.elements.read_alternatives.Given as goal
 
 -- the pieces so far are atoms, and the atoms of these and of the pieces left are those of all

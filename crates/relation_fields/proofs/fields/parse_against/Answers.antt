@@ -1,9 +1,6 @@
-use Rattle.std.proofs.Common.{◌∙◌, sym, subst}
-use Rattle.std.proofs.lemmas.Result.{err_from_is_err_and}
-use Rattle.relation_fields.specs.Grammar.{atom_of}
-use Rattle.relation_fields.specs.Spelling.{SpellsEach, SpellsAtom}
-use Rattle.relation_fields.proofs.Readings.{atoms_read}
-use Rattle.relation_fields.proofs.Faults.{field_said, fault_from}
+use Rattle.std.proofs.{Common.{◌∙◌, sym, subst}, lemmas.Result.{err_from_is_err_and}}
+use Rattle.relation_fields.specs.{Grammar.{atom_of}, Spelling.{SpellsEach, SpellsAtom}}
+use Rattle.relation_fields.proofs.{Readings.{atoms_read}, Faults.{field_said, fault_from}}
 use Rattle.relation_fields.proofs.fields.parse_against.Goals as goal
 
 pub returns-in_err-atoms-clause-fault : goal.returns-in_err-atoms-clause-fault

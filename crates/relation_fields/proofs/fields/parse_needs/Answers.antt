@@ -1,7 +1,5 @@
-use Rattle.relation_fields.specs.Grammar.{alternatives_of}
-use Rattle.relation_fields.specs.Spelling.{SpellsAlternatives}
-use Rattle.relation_fields.proofs.Readings.{alternatives_read}
-use Rattle.relation_fields.proofs.Faults.{spelled_from, refused_from}
+use Rattle.relation_fields.specs.{Grammar.{alternatives_of}, Spelling.{SpellsAlternatives}}
+use Rattle.relation_fields.proofs.{Readings.{alternatives_read}, Faults.{spelled_from, refused_from}}
 use Rattle.relation_fields.proofs.fields.parse_needs.Goals as goal
 
 pub returns-clause-spelled : goal.returns-clause-spelled

@@ -1,7 +1,5 @@
-use Rattle.relation_fields.specs.Grammar.{provide_of}
-use Rattle.relation_fields.specs.Spelling.{SpellsProvide}
-use Rattle.relation_fields.proofs.Readings.{provides_read}
-use Rattle.relation_fields.proofs.Faults.{spelled_from, refused_from}
+use Rattle.relation_fields.specs.{Grammar.{provide_of}, Spelling.{SpellsProvide}}
+use Rattle.relation_fields.proofs.{Readings.{provides_read}, Faults.{spelled_from, refused_from}}
 use Rattle.relation_fields.proofs.fields.parse_provides.Goals as goal
 
 pub returns-clause-spelled : goal.returns-clause-spelled

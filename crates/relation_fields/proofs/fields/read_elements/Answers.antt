@@ -1,5 +1,4 @@
-use Rattle.std.proofs.Common.{arith}
-use Rattle.std.proofs.lemmas.Grind.{common_steps}
+use Rattle.std.proofs.{Common.{arith}, lemmas.Grind.{common_steps}}
 use Rattle.relation_fields.proofs.Pieces.{length-pieces}
 use Rattle.relation_fields.proofs.fields.read_elements.Goals as goal
 

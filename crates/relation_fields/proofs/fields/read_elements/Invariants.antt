@@ -1,8 +1,6 @@
 use Rattle.std.proofs.Common.{◌≡◌, ◌+◌, ◌++◌, length, not}
-use Rattle.std.specs.List.{prefix_len, filter, filter_map}
-use Rattle.std.specs.Option.{option_copied}
-use Rattle.relation_fields.specs.Texts.{is_white, pieces_left}
-use Rattle.relation_fields.specs.Fields.{elements, is_outside}
+use Rattle.std.specs.{List.{prefix_len, filter, filter_map}, Option.{option_copied}}
+use Rattle.relation_fields.specs.{Texts.{is_white, pieces_left}, Fields.{elements, is_outside}}
 use Rattle.relation_fields.proofs.fields.read_elements.Given as goal
 
 -- the elements so far are white or in the grammar, and what these and the elements left say is what all say

@@ -1,5 +1,4 @@
-use Rattle.std.proofs.Common.{arith}
-use Rattle.std.proofs.lemmas.Grind.{common_steps}
+use Rattle.std.proofs.{Common.{arith}, lemmas.Grind.{common_steps}}
 use Rattle.relation_fields.proofs.Pieces.{pieces-found, pieces-none}
 use Rattle.relation_fields.proofs.texts.cut.Goals as goal
 

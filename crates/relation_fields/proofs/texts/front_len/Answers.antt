@@ -1,5 +1,4 @@
-use Rattle.std.proofs.Common.{length, sym, arith, rules}
-use Rattle.std.proofs.lemmas.List.Sums.{prefix_len_is}
+use Rattle.std.proofs.{Common.{length, sym, arith, rules}, lemmas.List.Sums.{prefix_len_is}}
 use Rattle.relation_fields.specs.Texts.{is_of_kind}
 use Rattle.relation_fields.proofs.texts.front_len.Goals as goal
 

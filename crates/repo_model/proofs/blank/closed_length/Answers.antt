@@ -1,7 +1,6 @@
 use Rattle.std.proofs.Common.{◌≡◌, ◌+◌, ◌∙◌, true, take, sym, arith}
 use Rattle.repo_model.specs.Backward.{closes}
-use Rattle.repo_model.proofs.Closing.{closes_closed}
-use Rattle.repo_model.proofs.Opening.{feed_closes, none_at, none_before, none_longer, open_behind, open_still}
+use Rattle.repo_model.proofs.{Closing.{closes_closed}, Opening.{feed_closes, none_at, none_before, none_longer, open_behind, open_still}}
 use Rattle.repo_model.proofs.blank.closed_length.Goals as goal
 
 pub loop-end-init : goal.loop-end-init

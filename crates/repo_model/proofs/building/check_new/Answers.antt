@@ -1,8 +1,7 @@
 use Rattle.std.proofs.Common.{None, Some, ap, refl}
 use Rattle.std.specs.Option.{option_map}
 use Rattle.relation_fields.specs.declared.packages.PackageFacts.{PackageFacts}
-use Rattle.repo_model.specs.Nameless.{named}
-use Rattle.repo_model.specs.declared.fault.IndexFault.TheVariants.{Duplicate}
+use Rattle.repo_model.specs.{Nameless.{named}, declared.fault.IndexFault.TheVariants.{Duplicate}}
 use Rattle.repo_model.proofs.Indexed.{found_same}
 use Rattle.repo_model.proofs.building.check_new.Goals as goal
 

@@ -1,7 +1,5 @@
-use Rattle.std.proofs.Common.{◌≡◌, ◌∙◌, ◌∷◌, []}
-use Rattle.std.proofs.lemmas.Result.{IfOk-weaker}
-use Rattle.repo_model.specs.Meeting.{meeting}
-use Rattle.repo_model.specs.Repository.{clause_of}
+use Rattle.std.proofs.{Common.{◌≡◌, ◌∙◌, ◌∷◌, []}, lemmas.Result.{IfOk-weaker}}
+use Rattle.repo_model.specs.{Meeting.{meeting}, Repository.{clause_of}}
 use Rattle.repo_model.proofs.Chosen.{clause_single}
 use Rattle.repo_model.proofs.clauses.single_clause.Goals as goal
 

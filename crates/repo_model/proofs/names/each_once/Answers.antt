@@ -1,5 +1,4 @@
-use Rattle.std.proofs.Common.{sym, ap, ◌∙◌, ◌≡◌, ◌<◌, ◌+◌, ◌++◌, ◌∷◌, [], map, length, arith, subst}
-use Rattle.std.proofs.lemmas.List.{length-map}
+use Rattle.std.proofs.{Common.{sym, ap, ◌∙◌, ◌≡◌, ◌<◌, ◌+◌, ◌++◌, ◌∷◌, [], map, length, arith, subst}, lemmas.List.{length-map}}
 use Rattle.repo_model.proofs.NameSteps.{IsTaken, taken_more, taken_again, taken_all}
 use Rattle.repo_model.proofs.names.each_once.Goals as goal
 use Rattle.repo_model.proofs.names.each_once.Goals.{then-not-is_repeated+in_ok-push, else-not-is_repeated}

@@ -1,10 +1,8 @@
 use Rattle.std.proofs.Common.{◌≡◌, ◌∙◌, [], ap, subst, take, length, arith}
 use Rattle.relation_fields.specs.declared.packages.PackageFacts.{PackageFacts}
 use Rattle.package_register.specs.Numbers.{numbers_where}
-use Rattle.repo_model.specs.Pairs.{is_named, Adds, IsAgainst, IsFound, IsPairWith}
-use Rattle.repo_model.specs.Stanzas.{stanza_at}
-use Rattle.repo_model.proofs.Numbers.{same_stanza}
-use Rattle.repo_model.proofs.Paired.{found_more, pairs_conflict, pairs_fit}
+use Rattle.repo_model.specs.{Pairs.{is_named, Adds, IsAgainst, IsFound, IsPairWith}, Stanzas.{stanza_at}}
+use Rattle.repo_model.proofs.{Numbers.{same_stanza}, Paired.{found_more, pairs_conflict, pairs_fit}}
 use Rattle.repo_model.proofs.pairs.conflict_pairs.Goals as goal
 
 pub loop-place-preserved : goal.loop-place-preserved

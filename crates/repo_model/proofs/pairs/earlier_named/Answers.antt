@@ -1,10 +1,8 @@
-use Rattle.std.proofs.Common.{◌≡◌, List, ℕ, IfOk, ap, subst, take, get_or, ◌∙◌}
-use Rattle.std.proofs.lemmas.List.{get_or_default}
+use Rattle.std.proofs.{Common.{◌≡◌, List, ℕ, IfOk, ap, subst, take, get_or, ◌∙◌}, lemmas.List.{get_or_default}}
 use Rattle.relation_fields.specs.declared.packages.PackageFacts.{PackageFacts}
 use Rattle.package_register.specs.Numbers.{numbers_where}
 use Rattle.virtual_provides.proofs.Built.{front_built}
-use Rattle.repo_model.specs.Pairs.{is_named}
-use Rattle.repo_model.specs.Stanzas.{stanza_at, no_stanza}
+use Rattle.repo_model.specs.{Pairs.{is_named}, Stanzas.{stanza_at, no_stanza}}
 use Rattle.repo_model.proofs.pairs.earlier_named.Goals as goal
 
 pub named-requires : goal.named-requires

@@ -1,5 +1,4 @@
-use Rattle.std.proofs.Common.{◌+◌, ◌∷◌, ◌++◌, ◌∙◌, [], Global, Vec, ap, subst, sym, take, get_or, arith}
-use Rattle.std.proofs.lemmas.List.{get_or_default}
+use Rattle.std.proofs.{Common.{◌+◌, ◌∷◌, ◌++◌, ◌∙◌, [], Global, Vec, ap, subst, sym, take, get_or, arith}, lemmas.List.{get_or_default}}
 use Rattle.row_book.specs.declared.pair.Pair.{Pair}
 use Rattle.repo_model.specs.Pairs.{Adds, IsPairWith}
 use Rattle.repo_model.proofs.Paired.{with_left, with_pushed}

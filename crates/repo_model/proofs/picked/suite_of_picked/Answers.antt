@@ -1,5 +1,4 @@
-use Rattle.std.proofs.Common.{◌∙◌, ap, arith, length}
-use Rattle.std.proofs.lemmas.Result.{err_from_is_err_and}
+use Rattle.std.proofs.{Common.{◌∙◌, ap, arith, length}, lemmas.Result.{err_from_is_err_and}}
 use Rattle.relation_fields.specs.declared.packages.Home.{Home}
 use Rattle.listed.proofs.Lists.{item_in}
 use Rattle.repo_model.proofs.Picks.{picked_all, picked_first, picked_more, picked_past, picked_refused}

@@ -1,6 +1,5 @@
 use Rattle.std.proofs.Common.{◌≤◌, length}
-use Rattle.repo_model.specs.Building.{IsBuilt}
-use Rattle.repo_model.specs.Limits.{most_packages}
+use Rattle.repo_model.specs.{Building.{IsBuilt}, Limits.{most_packages}}
 use Rattle.repo_model.proofs.Picks.{IsPicked}
 use Rattle.repo_model.proofs.picked.suite_of_picked.Given as goal
 

@@ -1,7 +1,6 @@
 use Rattle.std.proofs.Common.{sym, ◌∙◌}
 use Rattle.listed.proofs.Numbers.{number_kept, number_left}
-use Rattle.repo_model.specs.Repository.{meets_any}
-use Rattle.repo_model.specs.Stanzas.{stanza_at}
+use Rattle.repo_model.specs.{Repository.{meets_any}, Stanzas.{stanza_at}}
 use Rattle.repo_model.proofs.plain.clause.Goals as goal
 use Rattle.repo_model.proofs.plain.clause.Goals.{then-meets_at+in_ok-push, else-meets_at}
 

@@ -1,7 +1,6 @@
 use Rattle.std.proofs.Common.{◌≡◌, filter}
 use Rattle.std.specs.List.{range_with_len}
-use Rattle.repo_model.specs.Repository.{meets_any}
-use Rattle.repo_model.specs.Stanzas.{stanza_at}
+use Rattle.repo_model.specs.{Repository.{meets_any}, Stanzas.{stanza_at}}
 use Rattle.repo_model.proofs.plain.clause.Given as goal
 
 abbrev pub invariant-loop-number : goal.invariant-loop-number

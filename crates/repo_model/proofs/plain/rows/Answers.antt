@@ -1,5 +1,4 @@
-use Rattle.repo_model.specs.Repository.{row_of}
-use Rattle.repo_model.specs.Stanzas.{stanza_at}
+use Rattle.repo_model.specs.{Repository.{row_of}, Stanzas.{stanza_at}}
 use Rattle.repo_model.proofs.plain.rows.Goals as goal
 use Rattle.listed.proofs.Numbers.{number_mapped}
 

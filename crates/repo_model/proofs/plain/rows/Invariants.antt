@@ -1,7 +1,6 @@
 use Rattle.std.proofs.Common.{◌≡◌, map}
 use Rattle.std.specs.List.{range_with_len}
-use Rattle.repo_model.specs.Repository.{row_of}
-use Rattle.repo_model.specs.Stanzas.{stanza_at}
+use Rattle.repo_model.specs.{Repository.{row_of}, Stanzas.{stanza_at}}
 use Rattle.repo_model.proofs.plain.rows.Given as goal
 
 abbrev pub invariant-loop-number : goal.invariant-loop-number

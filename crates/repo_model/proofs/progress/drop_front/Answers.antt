@@ -1,7 +1,6 @@
 use Rattle.std.proofs.Common.{◌≡◌, ◌+◌, ◌-◌, ◌∙◌, ap, arith, drop, length, length-drop, rules, take, take_all}
 use lib.Seq.{paste}
-use Rattle.std.proofs.lemmas.List.{places, with_items_is}
-use Rattle.std.proofs.lemmas.List.Edits.{take-paste}
+use Rattle.std.proofs.{lemmas.List.{places, with_items_is}, lemmas.List.Edits.{take-paste}}
 use Rattle.repo_model.proofs.progress.drop_front.Goals as goal
 
 pub returns : goal.returns

@@ -1,7 +1,5 @@
-use Rattle.std.proofs.Common.{rules, subst}
+use Rattle.std.proofs.{Common.{rules, subst}, lemmas.List.Filters.{dedup_is}, lemmas.Fn.{always_returns_same}}
 use Rattle.std.specs.List.Sorted.{IsPermutation}
-use Rattle.std.proofs.lemmas.List.Filters.{dedup_is}
-use Rattle.std.proofs.lemmas.Fn.{always_returns_same}
 use Rattle.repo_model.proofs.Ranked.{earlier_orders, is_earlier, ordered_by_sort}
 use Rattle.repo_model.proofs.ranks.in_order.Goals as goal
 

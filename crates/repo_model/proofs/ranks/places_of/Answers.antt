@@ -1,6 +1,4 @@
-use Rattle.std.proofs.Common.{◌∙◌, arith}
-use Rattle.std.proofs.lemmas.Grind.{common_steps}
-use Rattle.std.proofs.lemmas.List.{get_or_default, length-set}
+use Rattle.std.proofs.{Common.{◌∙◌, arith}, lemmas.Grind.{common_steps}, lemmas.List.{get_or_default, length-set}}
 use Rattle.listed.proofs.Lists.{item_in}
 use Rattle.repo_model.proofs.Ranked.{placed_more}
 use Rattle.repo_model.proofs.ranks.places_of.Goals as goal

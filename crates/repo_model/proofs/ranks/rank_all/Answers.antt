@@ -1,6 +1,5 @@
 use Rattle.std.proofs.Common.{◌∙◌, ap, get_or, length, map, subst, sym, arith}
-use Rattle.clause_pool.specs.Interned.{clause_at, clauses_at}
-use Rattle.clause_pool.specs.Lists.{InOrder}
+use Rattle.clause_pool.specs.{Interned.{clause_at, clauses_at}, Lists.{InOrder}}
 use Rattle.listed.specs.Lists.{In}
 use Rattle.repo_model.specs.Ranks.{HasPlaces}
 use Rattle.repo_model.proofs.Ranked.{once_in, ranked}

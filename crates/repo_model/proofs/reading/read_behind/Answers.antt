@@ -1,8 +1,5 @@
-use Rattle.std.proofs.Common.{length, ap, arith}
-use Rattle.std.proofs.lemmas.Result.{err_from_is_err_and}
-use Rattle.repo_model.proofs.LineCounts.{line_onward}
-use Rattle.repo_model.proofs.Short.{values_short}
-use Rattle.repo_model.proofs.Steps.{few_more, read_first, shape_refused, stanza_refused, read_more, read_all}
+use Rattle.std.proofs.{Common.{length, ap, arith}, lemmas.Result.{err_from_is_err_and}}
+use Rattle.repo_model.proofs.{LineCounts.{line_onward}, Short.{values_short}, Steps.{few_more, read_first, shape_refused, stanza_refused, read_more, read_all}}
 use Rattle.repo_model.proofs.reading.read_behind.Goals as goal
 
 pub loop-building-init : goal.loop-building-init

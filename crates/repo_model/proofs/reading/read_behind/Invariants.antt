@@ -1,12 +1,7 @@
 use Rattle.std.proofs.Common.{◌≡◌, ℕ, ◌+◌, ◌≤◌, ◌-◌, List, ◌++◌, length, take}
 use Rattle.std.specs.Prelude.{count_by}
-use Rattle.stanza_reader.specs.Lines.{is_line_feed}
-use Rattle.stanza_reader.specs.Places.{IsPlace}
-use Rattle.stanza_reader.specs.Reading.{readings_at}
-use Rattle.stanza_reader.specs.Stanzas.{readings}
-use Rattle.repo_model.specs.Building.{IsBuilt}
-use Rattle.repo_model.specs.Feeding.{IsFront}
-use Rattle.repo_model.specs.Limits.{most_packages}
+use Rattle.stanza_reader.specs.{Lines.{is_line_feed}, Places.{IsPlace}, Reading.{readings_at}, Stanzas.{readings}}
+use Rattle.repo_model.specs.{Building.{IsBuilt}, Feeding.{IsFront}, Limits.{most_packages}}
 use Rattle.repo_model.proofs.Steps.{IsRead}
 use Rattle.repo_model.proofs.reading.read_behind.Given as goal
 

@@ -1,10 +1,8 @@
 use Rattle.std.proofs.Common.{◌∙◌, ◌+◌, ap, map, subst, sym, take}
 use Rattle.clause_pool.proofs.Interned.{kept_along}
 use Rattle.listed.specs.Lists.{Ascending}
-use Rattle.repo_model.specs.Interning.{HasIds}
-use Rattle.repo_model.specs.Repository.{clause_of}
-use Rattle.repo_model.proofs.Chosen.{clause_ascending}
-use Rattle.repo_model.proofs.Interning.{ids_next, no_ids}
+use Rattle.repo_model.specs.{Interning.{HasIds}, Repository.{clause_of}}
+use Rattle.repo_model.proofs.{Chosen.{clause_ascending}, Interning.{ids_next, no_ids}}
 use Rattle.repo_model.proofs.rows.clause_ids.Goals as goal
 
 pub loop-element-init : goal.loop-element-init

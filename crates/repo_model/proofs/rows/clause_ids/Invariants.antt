@@ -1,6 +1,5 @@
 use Rattle.std.proofs.Common.{map, take}
-use Rattle.repo_model.specs.Interning.{HasIds}
-use Rattle.repo_model.specs.Repository.{clause_of}
+use Rattle.repo_model.specs.{Interning.{HasIds}, Repository.{clause_of}}
 use Rattle.repo_model.proofs.rows.clause_ids.Given as goal
 
 abbrev pub invariant-loop-element : goal.invariant-loop-element

@@ -1,11 +1,8 @@
 use Rattle.std.proofs.Common.{◌≡◌, ◌∙◌, ◌<◌, ap, ap₂, get_or, length, map, subst, sym, ℕ}
-use Rattle.clause_pool.specs.Interned.{clauses_at, OfPool}
-use Rattle.clause_pool.specs.Clauses.{in_row_order}
-use Rattle.clause_pool.specs.Lists.{InOrder}
+use Rattle.clause_pool.specs.{Interned.{clauses_at, OfPool}, Clauses.{in_row_order}, Lists.{InOrder}}
 use Rattle.listed.specs.Lists.{In}
 use Rattle.repo_model.specs.Ranks.{clauses_marked, ids_of_ranks}
-use Rattle.repo_model.proofs.Interning.{row_made}
-use Rattle.repo_model.proofs.Ranked.{ranked_in_order, ranked_of_pool, ranks_within, row_ranked}
+use Rattle.repo_model.proofs.{Interning.{row_made}, Ranked.{ranked_in_order, ranked_of_pool, ranks_within, row_ranked}}
 use Rattle.repo_model.proofs.rows.intern_row.Goals as goal
 
 pub note_ids-requires : goal.note_ids-requires

@@ -1,14 +1,10 @@
-use Rattle.std.proofs.Common.{◌∙◌, ◌∷◌, [], ap, drop, length, map, refl, subst, take, arith}
-use Rattle.std.proofs.lemmas.List.{take_all}
+use Rattle.std.proofs.{Common.{◌∙◌, ◌∷◌, [], ap, drop, length, map, refl, subst, take, arith}, lemmas.List.{take_all}}
 use Rattle.clause_pool.proofs.Interned.{kept_along}
 use Rattle.listed.proofs.Lists.{in_take, In_drop}
-use Rattle.relation_fields.specs.Shared.{marked}
-use Rattle.relation_fields.specs.declared.packages.PackageFacts.{PackageFacts}
+use Rattle.relation_fields.specs.{Shared.{marked}, declared.packages.PackageFacts.{PackageFacts}}
 use Rattle.clause_pool.specs.Clauses.{in_row_order}
 use Rattle.listed.specs.Lists.{In}
-use Rattle.repo_model.specs.Interning.{HasIds, HasRows}
-use Rattle.repo_model.specs.Ranks.{AreRanked}
-use Rattle.repo_model.specs.Repository.{clause_of, row_of}
+use Rattle.repo_model.specs.{Interning.{HasIds, HasRows}, Ranks.{AreRanked}, Repository.{clause_of, row_of}}
 use Rattle.repo_model.proofs.Interning.{no_rows, rows_and_clauses, rows_next}
 use Rattle.repo_model.proofs.Marked.{clauses_of_marks, each_marked, marks_within, own_fits, own_marked, ranking_stays, ranks_counted, rest_marked}
 use Rattle.repo_model.proofs.rows.intern_rows.Goals as goal

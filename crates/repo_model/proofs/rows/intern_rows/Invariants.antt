@@ -1,9 +1,7 @@
 use Rattle.std.proofs.Common.{◌≡◌, ℕ, ◌<◌, drop, length, map, take}
 use Rattle.relation_fields.specs.Shared.{marked}
 use Rattle.listed.specs.Lists.{In}
-use Rattle.repo_model.specs.Interning.{HasRows}
-use Rattle.repo_model.specs.Needs.{needs_of_all}
-use Rattle.repo_model.specs.Repository.{row_of}
+use Rattle.repo_model.specs.{Interning.{HasRows}, Needs.{needs_of_all}, Repository.{row_of}}
 use Rattle.repo_model.proofs.rows.intern_rows.Given as goal
 
 abbrev pub invariant-loop-facts : goal.invariant-loop-facts

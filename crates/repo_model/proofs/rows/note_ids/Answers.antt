@@ -1,5 +1,4 @@
-use Rattle.std.proofs.Common.{◌∙◌, get_or}
-use Rattle.std.proofs.lemmas.List.{get_or_default}
+use Rattle.std.proofs.{Common.{◌∙◌, get_or}, lemmas.List.{get_or_default}}
 use Rattle.listed.proofs.Lists.{In_at}
 use Rattle.repo_model.proofs.Ranked.{map_more}
 use Rattle.repo_model.proofs.rows.note_ids.Goals as goal

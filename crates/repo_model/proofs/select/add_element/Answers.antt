@@ -1,6 +1,4 @@
-use Rattle.std.proofs.Common.{◌≡◌, ◌∙◌, ◌++◌, ◌∷◌, [], Some, ap, get_or, length, set, arith}
-use Rattle.std.proofs.lemmas.Grind.{common_steps}
-use Rattle.std.proofs.lemmas.List.{get_or_default}
+use Rattle.std.proofs.{Common.{◌≡◌, ◌∙◌, ◌++◌, ◌∷◌, [], Some, ap, get_or, length, set, arith}, lemmas.Grind.{common_steps}, lemmas.List.{get_or_default}}
 use Rattle.relation_fields.specs.Elements.{elements_of}
 use Rattle.repo_model.proofs.Selected.{renamed_more}
 use Rattle.repo_model.proofs.select.add_element.Goals as goal

@@ -1,6 +1,5 @@
 use Rattle.std.proofs.Common.{◌≡◌, ◌++◌, take}
-use Rattle.relation_fields.specs.Elements.{elements_of}
-use Rattle.relation_fields.specs.Shared.{marked}
+use Rattle.relation_fields.specs.{Elements.{elements_of}, Shared.{marked}}
 use Rattle.repo_model.specs.Select.{AreRenamed}
 use Rattle.repo_model.proofs.select.add_elements.Given as goal
 

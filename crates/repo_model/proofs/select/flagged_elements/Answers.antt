@@ -1,15 +1,11 @@
 use Rattle.std.proofs.Common.{◌≡◌, ◌∙◌, ◌++◌, ◌<◌, ap, ap₂, drop, length, subst, sym, take, arith}
 use Rattle.std.specs.List.{items_where_true}
 use Rattle.listed.proofs.Lists.{in_take, In_drop}
-use Rattle.relation_fields.specs.Elements.{elements_of}
-use Rattle.relation_fields.specs.Shared.{marked}
-use Rattle.relation_fields.specs.declared.packages.PackageFacts.{PackageFacts}
+use Rattle.relation_fields.specs.{Elements.{elements_of}, Shared.{marked}, declared.packages.PackageFacts.{PackageFacts}}
 use Rattle.listed.specs.Lists.{In}
 use Rattle.row_book.proofs.Users.{lent_whole}
-use Rattle.repo_model.specs.Needs.{needs_of_all}
-use Rattle.repo_model.specs.Select.{AreRenamed}
-use Rattle.repo_model.proofs.Marked.{marks_within, own_fits, own_marked, rest_marked}
-use Rattle.repo_model.proofs.Selected.{needs_all, needs_left_out, needs_next, renamed_none}
+use Rattle.repo_model.specs.{Needs.{needs_of_all}, Select.{AreRenamed}}
+use Rattle.repo_model.proofs.{Marked.{marks_within, own_fits, own_marked, rest_marked}, Selected.{needs_all, needs_left_out, needs_next, renamed_none}}
 use Rattle.repo_model.proofs.select.flagged_elements.Goals as goal
 
 pub loop-place-init : goal.loop-place-init

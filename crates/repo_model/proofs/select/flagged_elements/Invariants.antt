@@ -1,10 +1,8 @@
 use Rattle.std.proofs.Common.{◌≡◌, ◌++◌, ℕ, ◌<◌, drop, length}
 use Rattle.std.specs.List.{items_where_true}
-use Rattle.relation_fields.specs.Elements.{elements_of}
-use Rattle.relation_fields.specs.Shared.{marked}
+use Rattle.relation_fields.specs.{Elements.{elements_of}, Shared.{marked}}
 use Rattle.listed.specs.Lists.{In}
-use Rattle.repo_model.specs.Needs.{needs_of_all}
-use Rattle.repo_model.specs.Select.{AreRenamed}
+use Rattle.repo_model.specs.{Needs.{needs_of_all}, Select.{AreRenamed}}
 use Rattle.repo_model.proofs.select.flagged_elements.Given as goal
 
 abbrev pub invariant-loop-place : goal.invariant-loop-place

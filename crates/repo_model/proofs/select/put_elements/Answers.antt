@@ -1,10 +1,8 @@
 use Rattle.std.proofs.Common.{◌∙◌, ◌++◌, ◌<◌, ap, ap₂, length, subst, sym}
 use Rattle.listed.specs.Lists.{In}
-use Rattle.relation_fields.specs.Elements.{elements_of}
-use Rattle.relation_fields.specs.Shared.{marked}
+use Rattle.relation_fields.specs.{Elements.{elements_of}, Shared.{marked}}
 use Rattle.repo_model.specs.Select.{AreRenamed}
-use Rattle.repo_model.proofs.Marked.{marks_within}
-use Rattle.repo_model.proofs.Selected.{renamed_none}
+use Rattle.repo_model.proofs.{Marked.{marks_within}, Selected.{renamed_none}}
 use Rattle.repo_model.proofs.select.put_elements.Goals as goal
 
 pub add_elements-requires-clause-marks : goal.add_elements-requires-clause-marks

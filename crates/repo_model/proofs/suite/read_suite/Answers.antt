@@ -1,8 +1,6 @@
-use Rattle.std.proofs.Common.{◌∙◌, [], ap, arith}
-use Rattle.std.proofs.lemmas.Result.{err_from_is_err_and}
+use Rattle.std.proofs.{Common.{◌∙◌, [], ap, arith}, lemmas.Result.{err_from_is_err_and}}
 use Rattle.relation_fields.specs.declared.packages.Home.{Home}
-use Rattle.repo_model.proofs.Accepted.{read_named}
-use Rattle.repo_model.proofs.Standing.{front_of_nothing, place_first}
+use Rattle.repo_model.proofs.{Accepted.{read_named}, Standing.{front_of_nothing, place_first}}
 use Rattle.repo_model.proofs.suite.read_suite.Goals as goal
 
 pub returns-in_err-read-clause-refused : goal.returns-in_err-read-clause-refused

@@ -1,5 +1,4 @@
-use Rattle.std.proofs.Common.{get_or}
-use Rattle.std.proofs.lemmas.List.{get_or_default}
+use Rattle.std.proofs.{Common.{get_or}, lemmas.List.{get_or_default}}
 use Rattle.row_book.proofs.Holders.{emptied_more, spared_more}
 use Rattle.row_book.proofs.clause_table.empty_each.Goals as goal
 

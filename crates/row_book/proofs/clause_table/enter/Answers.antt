@@ -1,6 +1,5 @@
 use Rattle.std.proofs.Common.{◌∷◌, [], subst}
-use Rattle.row_book.specs.Holders.{GainsOnly}
-use Rattle.row_book.specs.Uses.{lists_in}
+use Rattle.row_book.specs.{Holders.{GainsOnly}, Uses.{lists_in}}
 use Rattle.row_book.proofs.Holders.{lists_entered}
 use Rattle.row_book.proofs.clause_table.enter.Goals as goal
 

@@ -1,7 +1,6 @@
 use Rattle.std.proofs.Common.{ℕ, take}
-use Rattle.row_book.specs.Holders.{HasAll, ListsClauses, holders_in}
+use Rattle.row_book.specs.{Holders.{HasAll, ListsClauses, holders_in}, Uses.{lists_in, list_in}}
 use Rattle.listed.specs.Lists.{In}
-use Rattle.row_book.specs.Uses.{lists_in, list_in}
 use Rattle.row_book.proofs.clause_table.enter_all.Given as goal
 
 abbrev pub invariant-loop-id : goal.invariant-loop-id

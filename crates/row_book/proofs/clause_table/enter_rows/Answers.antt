@@ -1,5 +1,4 @@
-use Rattle.std.proofs.Common.{◌∙◌, arith}
-use Rattle.std.proofs.lemmas.List.{length-map}
+use Rattle.std.proofs.{Common.{◌∙◌, arith}, lemmas.List.{length-map}}
 use Rattle.row_book.specs.Holders.{holders_in}
 use Rattle.row_book.proofs.Holders.{all_told}
 use Rattle.row_book.proofs.clause_table.enter_rows.Goals as goal

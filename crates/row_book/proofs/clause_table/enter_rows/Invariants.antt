@@ -1,5 +1,4 @@
-use Rattle.row_book.specs.Holders.{ListsClauses, holders_in}
-use Rattle.row_book.specs.Uses.{lists_in}
+use Rattle.row_book.specs.{Holders.{ListsClauses, holders_in}, Uses.{lists_in}}
 use Rattle.row_book.proofs.Holders.{AreUsers}
 use Rattle.row_book.proofs.clause_table.enter_rows.Given as goal
 

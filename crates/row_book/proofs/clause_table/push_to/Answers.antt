@@ -1,8 +1,6 @@
 use Rattle.std.proofs.Common.{get_or, refl, subst, sym}
-use Rattle.row_book.specs.Holders.{HasAll}
-use Rattle.row_book.specs.Uses.{lists_in}
-use Rattle.row_book.proofs.Holders.{gains_none, pushed_came, pushed_stays, pushed_there}
-use Rattle.row_book.proofs.Tables.{lists_kept}
+use Rattle.row_book.specs.{Holders.{HasAll}, Uses.{lists_in}}
+use Rattle.row_book.proofs.{Holders.{gains_none, pushed_came, pushed_stays, pushed_there}, Tables.{lists_kept}}
 use Rattle.row_book.proofs.clause_table.push_to.Goals as goal
 
 pub returns-in_err-push-clause-stays : goal.returns-in_err-push-clause-stays

@@ -1,5 +1,4 @@
-use Rattle.std.proofs.Common.{◌<◌, get_or, subst, sym}
-use Rattle.std.proofs.lemmas.List.{get_or_default}
+use Rattle.std.proofs.{Common.{◌<◌, get_or, subst, sym}, lemmas.List.{get_or_default}}
 use Rattle.row_book.specs.Uses.{lists_in}
 use Rattle.row_book.proofs.Holders.{gains_more, there_more}
 use Rattle.listed.proofs.Lists.{In_at}

@@ -1,7 +1,6 @@
 use Rattle.std.proofs.Common.{ℕ, take}
-use Rattle.row_book.specs.Holders.{GainsOnly, HasAll}
+use Rattle.row_book.specs.{Holders.{GainsOnly, HasAll}, Uses.{lists_in, list_in}}
 use Rattle.listed.specs.Lists.{In}
-use Rattle.row_book.specs.Uses.{lists_in, list_in}
 use Rattle.row_book.proofs.clause_table.push_to_each.Given as goal
 
 abbrev pub invariant-loop-number : goal.invariant-loop-number

@@ -1,5 +1,4 @@
-use Rattle.std.proofs.Common.{◌∙◌, ◌||◌, ap, ap₂, sym}
-use Rattle.std.proofs.lemmas.List.Folds.{list_any_more}
+use Rattle.std.proofs.{Common.{◌∙◌, ◌||◌, ap, ap₂, sym}, lemmas.List.Folds.{list_any_more}}
 use Rattle.clause_pool.specs.Interned.{clause_at}
 use Rattle.listed.specs.Lists.{In, has}
 use Rattle.listed.proofs.Lists.{any_from, item_in}

@@ -1,7 +1,6 @@
-use Rattle.std.proofs.Common.{◌∙◌, ap, eqb, get_or, sym}
-use Rattle.std.specs.List.{list_any}
-use Rattle.std.proofs.lemmas.List.{get_or_default, take_all}
+use Rattle.std.proofs.{Common.{◌∙◌, ap, eqb, get_or, sym}, lemmas.List.{get_or_default, take_all}}
 use Rattle.std.proofs.lemmas.List.Sorted.{IsNonDecreasingBy-from_sort, list_any-IsPermutation}
+use Rattle.std.specs.List.{list_any}
 use Rattle.listed.specs.Lists.{has}
 use Rattle.row_book.specs.Uses.{list_in}
 use Rattle.row_book.proofs.Holders.{gathered, gathered_more}

@@ -1,8 +1,7 @@
 use Rattle.std.proofs.Common.{◌≡◌, ◌<◌, ◌+◌, ◌∙◌, ◌++◌, ◌∷◌, ℕ, Bool, List, [], ap, append-nil, cond, filter, get_or, length, subst, sym, take}
-use Rattle.std.specs.List.{list_all}
 use Rattle.std.proofs.lemmas.List.Elements.{filter_more}
-use Rattle.row_book.specs.Book.{listed_for}
-use Rattle.row_book.specs.Facing.{against_in}
+use Rattle.std.specs.List.{list_all}
+use Rattle.row_book.specs.{Book.{listed_for}, Facing.{against_in}}
 use Rattle.row_book.proofs.conflicting.common_conflicts.Goals as goal
 use Rattle.row_book.proofs.conflicting.common_conflicts.Goals.{then-is_against_each+in_ok-push, else-is_against_each}
 

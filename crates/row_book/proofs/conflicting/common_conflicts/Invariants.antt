@@ -1,7 +1,6 @@
 use Rattle.std.proofs.Common.{◌≡◌, filter, take}
 use Rattle.std.specs.List.{list_all}
-use Rattle.row_book.specs.Book.{listed_for}
-use Rattle.row_book.specs.Facing.{against_in}
+use Rattle.row_book.specs.{Book.{listed_for}, Facing.{against_in}}
 use Rattle.row_book.proofs.conflicting.common_conflicts.Given as goal
 
 abbrev pub invariant-loop-number : goal.invariant-loop-number

@@ -1,5 +1,4 @@
-use Rattle.std.proofs.Common.{◌↔◌, ◌<◌, ◌-◌, ◌++◌, ◌∷◌, [], true, IsTrue, arith, subst}
-use Rattle.std.proofs.lemmas.Result.{IfOk-weaker}
+use Rattle.std.proofs.{Common.{◌↔◌, ◌<◌, ◌-◌, ◌++◌, ◌∷◌, [], true, IsTrue, arith, subst}, lemmas.Result.{IfOk-weaker}}
 use Rattle.row_book.specs.Flags.{Extends}
 use Rattle.row_book.proofs.Flags.{extends_last}
 use Rattle.row_book.proofs.subsets.+choices.Goals as goal

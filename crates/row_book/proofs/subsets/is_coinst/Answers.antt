@@ -1,8 +1,6 @@
-use Rattle.std.proofs.Common.{◌≡◌, ◌↔◌, IsTrue, length, subst, []}
-use Rattle.std.proofs.lemmas.Result.{IfOk-weaker}
+use Rattle.std.proofs.{Common.{◌≡◌, ◌↔◌, IsTrue, length, subst, []}, lemmas.Result.{IfOk-weaker}}
 use Rattle.listed.specs.Lists.{has}
-use Rattle.row_book.specs.Repository.{Coinst}
-use Rattle.row_book.specs.Flags.{Extends}
+use Rattle.row_book.specs.{Repository.{Coinst}, Flags.{Extends}}
 use Rattle.row_book.proofs.Flags.{extends_all}
 use Rattle.row_book.proofs.subsets.is_coinst.Goals as goal
 

@@ -1,5 +1,4 @@
-use Rattle.std.proofs.Common.{◌∙◌, ◌||◌, ◌&&◌, ap, sym, eqb, subst}
-use Rattle.std.proofs.lemmas.Result.{on_ok_weaker}
+use Rattle.std.proofs.{Common.{◌∙◌, ◌||◌, ◌&&◌, ap, sym, eqb, subst}, lemmas.Result.{on_ok_weaker}}
 use Rattle.listed.specs.Lists.{has}
 use Rattle.row_book.specs.Uses.{list_in, IsListOf}
 use Rattle.row_book.proofs.uses.add_gained.Goals as goal

@@ -1,5 +1,4 @@
-use Rattle.std.proofs.Common.{◌<◌, ◌∙◌, get_or, length, refl}
-use Rattle.std.proofs.lemmas.List.{get_or_default}
+use Rattle.std.proofs.{Common.{◌<◌, ◌∙◌, get_or, length, refl}, lemmas.List.{get_or_default}}
 use Rattle.row_book.proofs.Tables.{place_within, lists_kept, room_more}
 use Rattle.row_book.proofs.uses.make_room.Goals as goal
 

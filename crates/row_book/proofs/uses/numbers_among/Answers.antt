@@ -1,6 +1,4 @@
-use Rattle.std.proofs.Common.{◌∙◌, ◌&&◌, ap, sym, eqb}
-use Rattle.std.proofs.lemmas.List.{take_all}
-use Rattle.std.proofs.lemmas.List.Sorted.{IsNonDecreasingBy-from_sort, list_any-IsPermutation}
+use Rattle.std.proofs.{Common.{◌∙◌, ◌&&◌, ap, sym, eqb}, lemmas.List.{take_all}, lemmas.List.Sorted.{IsNonDecreasingBy-from_sort, list_any-IsPermutation}}
 use Rattle.clause_pool.specs.Interned.{clauses_at}
 use Rattle.listed.specs.Lists.{has}
 use Rattle.row_book.specs.Uses.{some_holds}

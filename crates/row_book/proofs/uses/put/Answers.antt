@@ -1,5 +1,4 @@
-use Rattle.std.proofs.Common.{arith, inl, inr, Err}
-use Rattle.std.proofs.lemmas.Bool.{both_ways}
+use Rattle.std.proofs.{Common.{arith, inl, inr, Err}, lemmas.Bool.{both_ways}}
 use Rattle.listed.specs.Lists.{has}
 use Rattle.row_book.specs.Uses.{IsPlaceOf}
 use Rattle.row_book.proofs.Inserts.{found_is_there, missed, inserted_list}

@@ -1,5 +1,4 @@
-use Rattle.std.proofs.Common.{◌<◌, get_or, length, refl}
-use Rattle.std.proofs.lemmas.List.{get_or_default}
+use Rattle.std.proofs.{Common.{◌<◌, get_or, length, refl}, lemmas.List.{get_or_default}}
 use Rattle.listed.proofs.Lists.{In_at, In_has}
 use Rattle.row_book.proofs.Tables.{place_within, put_more}
 use Rattle.row_book.proofs.uses.put_into_each.Goals as goal

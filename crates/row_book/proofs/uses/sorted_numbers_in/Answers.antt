@@ -1,5 +1,4 @@
-use Rattle.std.proofs.Common.{◌∙◌, eqb, sym}
-use Rattle.std.proofs.lemmas.List.Sorted.{IsNonDecreasingBy-from_sort, list_any-IsPermutation}
+use Rattle.std.proofs.{Common.{◌∙◌, eqb, sym}, lemmas.List.Sorted.{IsNonDecreasingBy-from_sort, list_any-IsPermutation}}
 use Rattle.row_book.proofs.uses.sorted_numbers_in.Goals as goal
 
 pub returns-clause-members : goal.returns-clause-members

@@ -1,5 +1,4 @@
-use Rattle.std.proofs.Common.{◌≡◌, ◌<◌, get_or, length, refl, false, sym, ◌∙◌}
-use Rattle.std.proofs.lemmas.List.{get_or_default}
+use Rattle.std.proofs.{Common.{◌≡◌, ◌<◌, get_or, length, refl, false, sym, ◌∙◌}, lemmas.List.{get_or_default}}
 use Rattle.listed.specs.Lists.{has}
 use Rattle.row_book.proofs.Tables.{place_within, take_more_out}
 use Rattle.row_book.proofs.uses.take_from_each.Goals as goal

@@ -1,7 +1,6 @@
 use Rattle.std.proofs.Common.{sym, subst}
 use Rattle.listed.specs.Lists.{has}
-use Rattle.row_book.specs.Sets.{without}
-use Rattle.row_book.specs.Uses.{IsListOf}
+use Rattle.row_book.specs.{Sets.{without}, Uses.{IsListOf}}
 use Rattle.row_book.proofs.Inserts.{missed_is_gone, removed_where_found}
 use Rattle.row_book.proofs.uses.take_out.Goals as goal
 

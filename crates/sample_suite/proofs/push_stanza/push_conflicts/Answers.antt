@@ -1,5 +1,4 @@
-use Rattle.std.proofs.Common.{◌++◌, ap, codes, sym, ◌∙◌}
-use Rattle.std.proofs.lemmas.Result.{on_ok_weaker}
+use Rattle.std.proofs.{Common.{◌++◌, ap, codes, sym, ◌∙◌}, lemmas.Result.{on_ok_weaker}}
 use Rattle.sample_suite.specs.SampleText.{conflicts_lines, lines_text, package_name}
 use Rattle.sample_suite.proofs.Pieces.{line_pushed, taken}
 use Rattle.sample_suite.proofs.push_stanza.push_conflicts.Goals as goal

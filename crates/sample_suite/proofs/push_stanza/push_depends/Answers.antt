@@ -1,5 +1,4 @@
-use Rattle.std.proofs.Common.{sym, ◌∙◌}
-use Rattle.std.proofs.lemmas.Result.{on_ok_weaker}
+use Rattle.std.proofs.{Common.{sym, ◌∙◌}, lemmas.Result.{on_ok_weaker}}
 use Rattle.sample_suite.proofs.Pieces.{depends_pushed, taken}
 use Rattle.sample_suite.proofs.push_stanza.push_depends.Goals as goal
 

@@ -1,9 +1,7 @@
 use Rattle.std.proofs.Common.{◌≤◌, ◌++◌, length, subst, sym, ap, ◌∙◌}
-use Rattle.repo_model.specs.FirstFault.{first_fault}
-use Rattle.repo_model.specs.Limits.{most_bytes}
+use Rattle.repo_model.specs.{FirstFault.{first_fault}, Limits.{most_bytes}}
 use Rattle.sample_suite.specs.SampleText.{sample_text, stanza_text}
-use Rattle.sample_suite.proofs.Drawn.{text_begun, text_more, text_whole}
-use Rattle.sample_suite.proofs.Fitting.{sample_accepted, sample_short}
+use Rattle.sample_suite.proofs.{Drawn.{text_begun, text_more, text_whole}, Fitting.{sample_accepted, sample_short}}
 use Rattle.sample_suite.proofs.text.sample_text.Goals as goal
 
 pub loop-number-init : goal.loop-number-init

@@ -1,8 +1,7 @@
 use Rattle.std.proofs.Common.{◌≡◌, ◌≤◌, ◌∙◌, ◌++◌, ap, eqb-true, subst, sym, length}
 use Rattle.std.specs.Prelude.{if◌then◌else◌}
 use Rattle.stanza_reader.specs.Blanking.{emptied, HasPicked}
-use Rattle.stanza_reader.proofs.BlankLemmas.{stanzas_picked}
-use Rattle.stanza_reader.proofs.LeftLemmas.{blanked_short, left_first, left_last, left_more, IsLeft}
+use Rattle.stanza_reader.proofs.{BlankLemmas.{stanzas_picked}, LeftLemmas.{blanked_short, left_first, left_last, left_more, IsLeft}}
 use Rattle.stanza_reader.proofs.blanking.blank_lines.Goals as goal
 
 pub loop-flags-init : goal.loop-flags-init

@@ -1,6 +1,5 @@
 use Rattle.std.proofs.Common.{arith}
-use Rattle.stanza_reader.proofs.CloseLemmas.{front_closed, none_closed}
-use Rattle.stanza_reader.proofs.PlaceLemmas.{feed_at, place_first}
+use Rattle.stanza_reader.proofs.{CloseLemmas.{front_closed, none_closed}, PlaceLemmas.{feed_at, place_first}}
 use Rattle.stanza_reader.proofs.close.closed_front.Goals as goal
 
 -- the blank line behind the first group ends with a line feed

@@ -1,7 +1,5 @@
-use Rattle.std.proofs.Common.{sym, ◌∙◌}
-use Rattle.std.proofs.lemmas.Result.{err_from_is_err_and}
-use Rattle.stanza_reader.specs.Places.{lines_at}
-use Rattle.stanza_reader.specs.Stanzas.{first_group}
+use Rattle.std.proofs.{Common.{sym, ◌∙◌}, lemmas.Result.{err_from_is_err_and}}
+use Rattle.stanza_reader.specs.{Places.{lines_at}, Stanzas.{first_group}}
 use Rattle.stanza_reader.proofs.GroupLemmas.{lines_refused, shape_of, lone_refused, repeat_refused, accepted, number_at}
 use Rattle.stanza_reader.proofs.groups.read_group.Goals as goal
 

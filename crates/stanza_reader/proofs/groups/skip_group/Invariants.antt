@@ -1,6 +1,5 @@
 use Rattle.std.proofs.Common.{◌≡◌, ◌-◌, ◌≤◌, length}
-use Rattle.stanza_reader.specs.Places.{IsPlace, lines_at}
-use Rattle.stanza_reader.specs.Stanzas.{behind_group}
+use Rattle.stanza_reader.specs.{Places.{IsPlace, lines_at}, Stanzas.{behind_group}}
 use Rattle.stanza_reader.proofs.groups.skip_group.Given as goal
 
 abbrev pub invariant-loop-next : goal.invariant-loop-next

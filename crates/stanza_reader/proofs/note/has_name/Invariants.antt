@@ -1,6 +1,5 @@
 use Rattle.std.proofs.Common.{◌≡◌, drop}
-use Rattle.stanza_reader.specs.Note.{names_in}
-use Rattle.stanza_reader.specs.Stanzas.{has_name}
+use Rattle.stanza_reader.specs.{Note.{names_in}, Stanzas.{has_name}}
 use Rattle.stanza_reader.proofs.note.has_name.Given as goal
 
 abbrev pub invariant-loop-one : goal.invariant-loop-one

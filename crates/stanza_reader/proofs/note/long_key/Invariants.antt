@@ -1,6 +1,5 @@
 use Rattle.std.proofs.Common.{◌≡◌, drop}
-use Rattle.stanza_reader.specs.Fields.{lowered}
-use Rattle.stanza_reader.specs.Note.{key_from, long_key}
+use Rattle.stanza_reader.specs.{Fields.{lowered}, Note.{key_from, long_key}}
 use Rattle.stanza_reader.proofs.note.long_key.Given as goal
 
 abbrev pub invariant-loop-byte : goal.invariant-loop-byte

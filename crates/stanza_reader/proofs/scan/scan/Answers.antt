@@ -1,7 +1,5 @@
-use Rattle.std.proofs.Common.{sym, ◌∙◌, refl, ap, arith}
-use Rattle.std.proofs.lemmas.List.{drop_all}
-use Rattle.stanza_reader.specs.Lines.{numbered, lines}
-use Rattle.stanza_reader.specs.Stanzas.{first_group}
+use Rattle.std.proofs.{Common.{sym, ◌∙◌, refl, ap, arith}, lemmas.List.{drop_all}}
+use Rattle.stanza_reader.specs.{Lines.{numbered, lines}, Stanzas.{first_group}}
 use Rattle.stanza_reader.proofs.PlaceLemmas.{counts_on}
 use Rattle.stanza_reader.proofs.ScanLemmas.{behind_more, shape_more, fields_more, fields_past, repeat_first, repeat_more, repeat_none}
 use Rattle.stanza_reader.proofs.scan.scan.Goals as goal

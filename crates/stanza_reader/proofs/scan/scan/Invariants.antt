@@ -1,6 +1,5 @@
 use Rattle.std.proofs.Common.{◌≡◌, ◌-◌, ◌≤◌, ◌++◌, [], true, length, None, All}
-use Rattle.stanza_reader.specs.Note.{IsKeyed, IsMarked, LeadsTo}
-use Rattle.stanza_reader.specs.Places.{CountsOn, IsPlace, lines_at}
+use Rattle.stanza_reader.specs.{Note.{IsKeyed, IsMarked, LeadsTo}, Places.{CountsOn, IsPlace, lines_at}}
 use Rattle.stanza_reader.specs.Stanzas.{behind_group, first_group, first_line_fault, has_line, kept_fields, repeat_fault}
 use Rattle.stanza_reader.proofs.scan.scan.Given as goal
 

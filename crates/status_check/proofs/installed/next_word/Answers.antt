@@ -1,8 +1,7 @@
 use Rattle.std.proofs.Common.{◌∙◌, ◌∷◌, ap, length, sym, take}
 use Rattle.listed.proofs.Lists.{none_listed, to_end}
 use Rattle.status_check.specs.Installed.{words}
-use Rattle.status_check.proofs.HadGoals.{some_numbers}
-use Rattle.status_check.proofs.Words.{first_word, no_word}
+use Rattle.status_check.proofs.{HadGoals.{some_numbers}, Words.{first_word, no_word}}
 use Rattle.status_check.proofs.installed.next_word.Goals as goal
 
 pub returns-then-is_empty : goal.returns-then-is_empty

@@ -1,11 +1,8 @@
-use Rattle.std.proofs.Common.{◌∙◌, Ok, ap, sym}
+use Rattle.std.proofs.{Common.{◌∙◌, Ok, ap, sym}, lemmas.Result.{err_from_is_err_and}}
 use Rattle.std.specs.Prelude.{count_by}
-use Rattle.std.proofs.lemmas.Result.{err_from_is_err_and}
 use Rattle.relation_fields.specs.declared.packages.Home.{Home}
-use Rattle.repo_model.proofs.Refusing.{none_behind, refuses_behind, refuses_first}
-use Rattle.repo_model.proofs.Short.{stanzas_short}
-use Rattle.status_check.specs.Installed.{is_foreign}
-use Rattle.status_check.specs.Own.{own_text}
+use Rattle.repo_model.proofs.{Refusing.{none_behind, refuses_behind, refuses_first}, Short.{stanzas_short}}
+use Rattle.status_check.specs.{Installed.{is_foreign}, Own.{own_text}}
 use Rattle.status_check.proofs.OwnTexts.{all_stanzas, flags_many, lines_fine, own_stanzas}
 use Rattle.status_check.proofs.own.read_own.Goals as goal
 

@@ -1,8 +1,7 @@
 use Rattle.std.proofs.Common.{◌∙◌, ap, map, refl}
 use Rattle.suite_compare.specs.Asking.{verdict_in, wanted_by}
 use Rattle.suite_compare.proofs.Answered.{classes_fit}
-use Rattle.status_check.specs.Own.{own_home, own_packages}
-use Rattle.status_check.specs.Report.{had_goals, line_for, state_of}
+use Rattle.status_check.specs.{Own.{own_home, own_packages}, Report.{had_goals, line_for, state_of}}
 use Rattle.status_check.proofs.Judging.{judged, state_moved, told_healthy, verdict_of_view}
 use Rattle.status_check.proofs.status.status_report.Goals as goal
 

@@ -1,5 +1,4 @@
-use Rattle.std.proofs.Common.{◌∙◌, sym}
-use Rattle.std.proofs.lemmas.Bool.{OnTrue_at, OnTrue_from}
+use Rattle.std.proofs.{Common.{◌∙◌, sym}, lemmas.Bool.{OnTrue_at, OnTrue_from}}
 use Rattle.suite_compare.specs.Known.{IsAskedAlike}
 use Rattle.suite_compare.proofs.known.is_alike.Goals as goal
 

@@ -1,5 +1,4 @@
-use Rattle.std.proofs.Common.{◌≡◌, ◌∙◌, ap, arith, length, sym}
-use Rattle.std.proofs.lemmas.Bool.{OnTrue_at}
+use Rattle.std.proofs.{Common.{◌≡◌, ◌∙◌, ap, arith, length, sym}, lemmas.Bool.{OnTrue_at}}
 use Rattle.listed.proofs.Lists.{In_at}
 use Rattle.clause_pool.specs.Interned.{row_at}
 use Rattle.row_book.specs.Book.{repository_of}

@@ -1,8 +1,7 @@
 use Rattle.std.proofs.Common.{◌<◌, ◌∙◌, ap, subst, sym}
 use Rattle.listed.specs.Lists.{Ascending, In}
 use Rattle.suite_part.specs.Apart.{clause_in}
-use Rattle.suite_part.proofs.Backs.{back_more, clause_ascends}
-use Rattle.suite_part.proofs.Lefts.{known_id}
+use Rattle.suite_part.proofs.{Backs.{back_more, clause_ascends}, Lefts.{known_id}}
 use Rattle.suite_part.proofs.apart.clause_back.Goals as goal
 
 pub returns-in-Some-clause-is : goal.returns-in-Some-clause-is

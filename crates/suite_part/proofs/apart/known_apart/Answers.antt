@@ -1,6 +1,5 @@
-use Rattle.std.proofs.Common.{◌≡◌, ◌∙◌, length, subst, sym}
+use Rattle.std.proofs.{Common.{◌≡◌, ◌∙◌, length, subst, sym}, lemmas.Result.{IfOk-weaker}}
 use Rattle.std.specs.Prelude.{None, Some, slice_index_or}
-use Rattle.std.proofs.lemmas.Result.{IfOk-weaker}
 use Rattle.clause_flatten.specs.Beside.{AreNeeded}
 use Rattle.row_book.specs.Book.{repository_of}
 use Rattle.row_book.proofs.BookRepositories.{book_size}

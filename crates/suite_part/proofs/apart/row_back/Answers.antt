@@ -1,11 +1,8 @@
-use Rattle.std.proofs.Common.{◌∙◌, ap, subst, sym}
-use Rattle.std.proofs.lemmas.Result.{IfOk-weaker}
-use Rattle.clause_pool.specs.Interned.{clauses_at, OfPool}
-use Rattle.clause_pool.specs.Lists.{InOrder}
+use Rattle.std.proofs.{Common.{◌∙◌, ap, subst, sym}, lemmas.Result.{IfOk-weaker}}
+use Rattle.clause_pool.specs.{Interned.{clauses_at, OfPool}, Lists.{InOrder}}
 use Rattle.clause_pool.proofs.Interned.{kept_along}
 use Rattle.clause_families.proofs.Families.{row_interned}
-use Rattle.suite_part.proofs.Backs.{back_kept, clauses_in_order}
-use Rattle.suite_part.proofs.Lefts.{on_ok}
+use Rattle.suite_part.proofs.{Backs.{back_kept, clauses_in_order}, Lefts.{on_ok}}
 use Rattle.suite_part.proofs.apart.row_back.Goals as goal
 
 pub intern_row-requires-clause-in_order : goal.intern_row-requires-clause-in_order

@@ -1,11 +1,9 @@
-use Rattle.std.proofs.Common.{◌≡◌, ◌<◌, ◌∙◌, ap, arith, length, subst, sym}
+use Rattle.std.proofs.Common.{◌≡◌, ◌<◌, ◌∙◌, ap, arith, length, subst, sym, true}
 use Rattle.std.specs.List.{list_any}
 use Rattle.listed.specs.Lists.{In}
 use Rattle.row_book.proofs.Users.{lent_whole}
 use Rattle.row_book.specs.Flags.{flag}
-use Rattle.std.proofs.Common.{true}
-use Rattle.suite_part.proofs.PartSound.{conflict_within}
-use Rattle.suite_part.proofs.Rivals.{rivals_all, rivals_less, rivals_more, rivals_none}
+use Rattle.suite_part.proofs.{PartSound.{conflict_within}, Rivals.{rivals_all, rivals_less, rivals_more, rivals_none}}
 use Rattle.suite_part.proofs.apart.with_rivals.Goals as goal
 use Rattle.suite_part.proofs.apart.with_rivals.Goals.{then-needed-number, else-needed-number}
 

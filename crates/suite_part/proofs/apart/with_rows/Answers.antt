@@ -6,12 +6,8 @@ use Rattle.listed.specs.Lists.{Ascending, In}
 use Rattle.listed.proofs.Lists.{In_at}
 use Rattle.row_book.specs.Uses.{row_id}
 use Rattle.row_book.proofs.Flags.{flag_in}
-use Rattle.suite_part.specs.Apart.{clauses_in, numbers_up, AreBack}
-use Rattle.suite_part.specs.Parts.{place_in}
-use Rattle.suite_part.proofs.Backs.{none_back}
-use Rattle.suite_part.proofs.Lefts.{none_some}
-use Rattle.suite_part.proofs.Numbered.{up_ascends, up_last}
-use Rattle.suite_part.proofs.Placed.{place_rises}
+use Rattle.suite_part.specs.{Apart.{clauses_in, numbers_up, AreBack}, Parts.{place_in}}
+use Rattle.suite_part.proofs.{Backs.{none_back}, Lefts.{none_some}, Numbered.{up_ascends, up_last}, Placed.{place_rises}}
 use Rattle.suite_part.proofs.RowsBack.{back_all, back_next, back_none, read_at, BackTo}
 use Rattle.suite_part.proofs.apart.with_rows.Goals as goal
 use Rattle.suite_part.proofs.apart.with_rows.Goals.{After-place-place, After-as_slice, in-Some, in-None+in_ok-id-in-None}

@@ -1,5 +1,4 @@
-use Rattle.std.proofs.Common.{◌<◌, ◌∙◌, ap, ℕ, get_or, length, subst, sym}
-use Rattle.std.proofs.lemmas.List.{take_more}
+use Rattle.std.proofs.{Common.{◌<◌, ◌∙◌, ap, ℕ, get_or, length, subst, sym}, lemmas.List.{take_more}}
 use Rattle.listed.proofs.Lists.{In_at}
 use Rattle.suite_part.proofs.Bases.{flags_more, flags_same, one_waits}
 use Rattle.suite_part.proofs.changed.put_changed.Goals as goal

@@ -1,9 +1,7 @@
-use Rattle.std.proofs.Common.{◌≡◌, ◌<◌, ◌∙◌, [], ap, arith, false, get_or, length, subst, sym}
-use Rattle.std.proofs.lemmas.List.{get_or_read}
+use Rattle.std.proofs.{Common.{◌≡◌, ◌<◌, ◌∙◌, [], ap, arith, false, get_or, length, subst, sym}, lemmas.List.{get_or_read}}
 use Rattle.listed.specs.Lists.{In}
 use Rattle.suite_part.specs.Parts.{chosen_in}
-use Rattle.suite_part.proofs.PartSound.{conflict_within}
-use Rattle.suite_part.proofs.Placed.{made_less, made_more}
+use Rattle.suite_part.proofs.{PartSound.{conflict_within}, Placed.{made_less, made_more}}
 use Rattle.suite_part.proofs.part.conflicts_in.Goals as goal
 use Rattle.suite_part.proofs.part.conflicts_in.Goals.{then-index+in_ok-list+in_ok-push, else-index}
 

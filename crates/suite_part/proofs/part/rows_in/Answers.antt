@@ -5,10 +5,8 @@ use Rattle.listed.proofs.Lists.{In_at}
 use Rattle.clause_pool.specs.Interned.{Interned, clauses_at, row_at}
 use Rattle.clause_pool.proofs.Interned.{kept_along}
 use Rattle.row_book.specs.Uses.{row_id}
-use Rattle.suite_part.specs.Left.{AreLeft}
-use Rattle.suite_part.specs.Parts.{row_in}
-use Rattle.suite_part.proofs.Lefts.{none_left}
-use Rattle.suite_part.proofs.Parted.{parted_less, parted_more, parted_none, PartedTo}
+use Rattle.suite_part.specs.{Left.{AreLeft}, Parts.{row_in}}
+use Rattle.suite_part.proofs.{Lefts.{none_left}, Parted.{parted_less, parted_more, parted_none, PartedTo}}
 use Rattle.suite_part.proofs.part.rows_in.Goals as goal
 use Rattle.suite_part.proofs.part.rows_in.Goals.{then-index+in_ok-left+in_ok-push, else-index}
 

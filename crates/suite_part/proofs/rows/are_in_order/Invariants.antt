@@ -1,6 +1,5 @@
 use Rattle.std.proofs.Common.{ℕ, suc, ◌<◌, get_or}
-use Rattle.clause_pool.specs.Interned.{clause_at}
-use Rattle.clause_pool.specs.Lists.{Before}
+use Rattle.clause_pool.specs.{Interned.{clause_at}, Lists.{Before}}
 use Rattle.suite_part.proofs.rows.are_in_order.Given as goal
 
 abbrev pub invariant-loop-place : goal.invariant-loop-place

@@ -1,6 +1,4 @@
-use Rattle.std.proofs.Common.{◌∙◌, ap, subst, sym}
-use Rattle.std.proofs.lemmas.Bool.{OnTrue_at}
-use Rattle.std.proofs.lemmas.Result.{IfOk-weaker}
+use Rattle.std.proofs.{Common.{◌∙◌, ap, subst, sym}, lemmas.Bool.{OnTrue_at}, lemmas.Result.{IfOk-weaker}}
 use Rattle.listed.specs.Lists.{In}
 use Rattle.clause_pool.specs.Interned.{clauses_at, OfPool}
 use Rattle.clause_pool.proofs.Interned.{kept_along}

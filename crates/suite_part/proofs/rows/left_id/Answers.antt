@@ -1,8 +1,7 @@
 use Rattle.std.proofs.Common.{◌<◌, ◌∙◌, ap, subst, sym}
 use Rattle.listed.specs.Lists.{Ascending}
 use Rattle.suite_part.specs.Parts.{chosen_in}
-use Rattle.suite_part.proofs.Lefts.{known_id, left_more}
-use Rattle.suite_part.proofs.Placed.{chosen_ascending}
+use Rattle.suite_part.proofs.{Lefts.{known_id, left_more}, Placed.{chosen_ascending}}
 use Rattle.suite_part.proofs.rows.left_id.Goals as goal
 
 pub returns-in-Some-clause-is : goal.returns-in-Some-clause-is

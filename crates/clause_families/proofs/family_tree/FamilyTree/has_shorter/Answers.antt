@@ -1,6 +1,5 @@
 use Rattle.std.proofs.Common.{◌&&◌, ◌||◌, ◌∙◌, ap, ap₂, arith, length, lt-ltb, ltb, refl, sym, subst, []}
-use Rattle.clause_families.specs.Branches.{any_of, tree_of, Standing}
-use Rattle.clause_families.specs.Inclusion.{is_within}
+use Rattle.clause_families.specs.{Branches.{any_of, tree_of, Standing}, Inclusion.{is_within}}
 use Rattle.clause_families.proofs.Built.{climbs_built, none_as_short, shorter_built, standing_built}
 use Rattle.clause_families.proofs.family_tree.FamilyTree.has_shorter.Goals as goal
 

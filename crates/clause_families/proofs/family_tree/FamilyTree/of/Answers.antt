@@ -1,5 +1,4 @@
-use Rattle.std.proofs.Common.{◌≡◌, suc, ◌∷◌, ◌-◌, ◌∙◌, ap₂, arith, drop, drop-cons, length, refl, subst, sym}
-use Rattle.std.proofs.lemmas.List.{drop_all}
+use Rattle.std.proofs.{Common.{◌≡◌, suc, ◌∷◌, ◌-◌, ◌∙◌, ap₂, arith, drop, drop-cons, length, refl, subst, sym}, lemmas.List.{drop_all}}
 use Rattle.clause_families.specs.Branches.{BuiltOf}
 use Rattle.clause_families.proofs.Built.{built_none}
 use Rattle.clause_families.proofs.family_tree.FamilyTree.of.Goals as goal

@@ -1,5 +1,4 @@
-use Rattle.std.proofs.Common.{refl, rules}
-use Rattle.std.proofs.lemmas.Result.{on_ok_weaker}
+use Rattle.std.proofs.{Common.{refl, rules}, lemmas.Result.{on_ok_weaker}}
 use Rattle.clause_families.proofs.Built.{built_empty, built_more}
 use Rattle.clause_families.proofs.family_tree.FamilyTree.put.Goals as goal
 

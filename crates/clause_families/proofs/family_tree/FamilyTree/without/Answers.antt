@@ -1,12 +1,9 @@
-use Rattle.std.proofs.Common.{◌≡◌, ◌+◌, ◌-◌, ◌∙◌, ◌∷◌, List, ℕ, ap, arith, drop, length, refl, subst, sym}
-use Rattle.std.proofs.lemmas.List.{drop_all}
-use Rattle.clause_pool.specs.Interned.{clauses_at}
-use Rattle.clause_pool.specs.Clauses.{apart_from}
+use Rattle.std.proofs.{Common.{◌≡◌, ◌+◌, ◌-◌, ◌∙◌, ◌∷◌, List, ℕ, ap, arith, drop, length, refl, subst, sym}, lemmas.List.{drop_all}}
+use Rattle.clause_pool.specs.{Interned.{clauses_at}, Clauses.{apart_from}}
 use Rattle.listed.specs.Lists.{has}
 use Rattle.listed.proofs.Lists.{item_in}
 use Rattle.clause_families.specs.Branches.{BuiltOf}
-use Rattle.clause_families.proofs.Built.{built_none, without_less, without_more}
-use Rattle.clause_families.proofs.Families.{At, at_clause, clauses_length}
+use Rattle.clause_families.proofs.{Built.{built_none, without_less, without_more}, Families.{At, at_clause, clauses_length}}
 use Rattle.clause_families.proofs.family_tree.FamilyTree.without.Goals as goal
 
 pub loop-place-init : goal.loop-place-init

@@ -1,6 +1,5 @@
 use Rattle.std.proofs.Common.{drop}
-use Rattle.clause_pool.specs.Interned.{clauses_at}
-use Rattle.clause_pool.specs.Clauses.{apart_from}
+use Rattle.clause_pool.specs.{Interned.{clauses_at}, Clauses.{apart_from}}
 use Rattle.clause_families.specs.Branches.{BuiltOf}
 use Rattle.clause_families.proofs.family_tree.FamilyTree.without.Given as goal
 

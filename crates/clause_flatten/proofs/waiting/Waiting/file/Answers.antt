@@ -1,9 +1,7 @@
 use Rattle.std.proofs.Common.{◌≡◌, ◌≢◌, ◌+◌, ◌/◌, ◌^◌, ◌++◌, ◌<◌, ◌≤◌, ℕ, ap, arith, drop, length, subst, sym, take, ◌∙◌}
 use Rattle.row_book.proofs.Users.{lent_whole}
-use Rattle.clause_flatten.specs.LeastTree.{node, IsTree}
-use Rattle.clause_flatten.specs.Waiting.{never, turn}
-use Rattle.clause_flatten.proofs.Leaves.{leaf_at, leaf_count}
-use Rattle.clause_flatten.proofs.Turns.{turn_kept}
+use Rattle.clause_flatten.specs.{LeastTree.{node, IsTree}, Waiting.{never, turn}}
+use Rattle.clause_flatten.proofs.{Leaves.{leaf_at, leaf_count}, Turns.{turn_kept}}
 use Rattle.clause_flatten.proofs.waiting.Waiting.file.Goals as goal
 use Rattle.clause_flatten.proofs.waiting.Waiting.file.Goals.{After-put_leaf}
 

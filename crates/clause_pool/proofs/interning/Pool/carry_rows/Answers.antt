@@ -1,10 +1,6 @@
-use Rattle.std.proofs.Common.{◌≡◌, ◌∙◌, ap, get_or, subst, sym, map}
-use Rattle.std.proofs.lemmas.List.{get_or_read, take_all}
-use Rattle.clause_pool.specs.Lists.{In}
-use Rattle.clause_pool.specs.Interned.{row_at}
-use Rattle.clause_pool.proofs.Carried.{carried_more, carried_none, none_known}
-use Rattle.clause_pool.proofs.Interned.{kept_along}
-use Rattle.clause_pool.proofs.Lists.{In_at}
+use Rattle.std.proofs.{Common.{◌≡◌, ◌∙◌, ap, get_or, subst, sym, map}, lemmas.List.{get_or_read, take_all}}
+use Rattle.clause_pool.specs.{Lists.{In}, Interned.{row_at}}
+use Rattle.clause_pool.proofs.{Carried.{carried_more, carried_none, none_known}, Interned.{kept_along}, Lists.{In_at}}
 use Rattle.clause_pool.proofs.interning.Pool.carry_rows.Goals as goal
 
 pub loop-row-init : goal.loop-row-init

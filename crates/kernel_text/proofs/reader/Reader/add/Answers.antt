@@ -1,7 +1,5 @@
-use Rattle.std.proofs.lemmas.Result.{IfOk-weaker}
-use Rattle.std.proofs.Common.{Some}
-use Rattle.kernel_text.specs.Reader.{Adds, Takes}
-use Rattle.kernel_text.specs.Words.{LineIsRead, line_of_content}
+use Rattle.std.proofs.{lemmas.Result.{IfOk-weaker}, Common.{Some}}
+use Rattle.kernel_text.specs.{Reader.{Adds, Takes}, Words.{LineIsRead, line_of_content}}
 use Rattle.kernel_text.proofs.Added.{added}
 use Rattle.kernel_text.proofs.reader.Reader.add.Goals as goal
 

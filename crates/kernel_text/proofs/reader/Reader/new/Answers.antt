@@ -1,8 +1,6 @@
 use Rattle.std.proofs.Common.{ap, map, refl, subst, sym}
 use Rattle.package_register.proofs.Registered.{none_registered}
-use Rattle.kernel_text.specs.declared.member.Member.{Member}
-use Rattle.kernel_text.specs.Members.{IsMemberRegister}
-use Rattle.kernel_text.specs.Reader.{entry_of}
+use Rattle.kernel_text.specs.{declared.member.Member.{Member}, Members.{IsMemberRegister}, Reader.{entry_of}}
 use Rattle.kernel_text.proofs.reader.Reader.new.Goals as goal
 
 pub returns : goal.returns

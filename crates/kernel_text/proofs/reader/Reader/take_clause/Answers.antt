@@ -1,10 +1,7 @@
-use Rattle.std.proofs.Common.{ℕ, [], ◌∷◌, ◌++◌, ◌-◌, map, refl, sym, ap, ap₂, ◌∙◌, subst}
-use Rattle.std.proofs.lemmas.Bool.{both_ways}
-use Rattle.std.proofs.lemmas.List.{map-append}
+use Rattle.std.proofs.{Common.{ℕ, [], ◌∷◌, ◌++◌, ◌-◌, map, refl, sym, ap, ap₂, ◌∙◌, subst}, lemmas.Bool.{both_ways}, lemmas.List.{map-append}}
 use Rattle.listed.specs.Lists.{Ascending, In, has}
 use Rattle.listed.proofs.Lists.{In_has, has_In}
-use Rattle.kernel_text.specs.Reader.{entry_of, last_clause, may_add_clause}
-use Rattle.kernel_text.specs.Reading.{ClassClause}
+use Rattle.kernel_text.specs.{Reader.{entry_of, last_clause, may_add_clause}, Reading.{ClassClause}}
 use Rattle.kernel_text.proofs.ClauseTaken.{last_pushed, may_clause, may_not_clause, same_clause}
 use Rattle.kernel_text.proofs.reader.Reader.take_clause.Goals as goal
 

@@ -1,8 +1,5 @@
 use Rattle.std.proofs.Common.{ℕ, [], ◌∷◌, ◌++◌, ◌-◌, refl, sym, ap, ap₂, ◌∙◌, subst}
-use Rattle.kernel_text.specs.declared.member.Member.{Member}
-use Rattle.kernel_text.specs.Members.{IsMemberRegister}
-use Rattle.kernel_text.specs.Reader.{Enters, may_add_member}
-use Rattle.kernel_text.specs.Reading.{IsNew}
+use Rattle.kernel_text.specs.{declared.member.Member.{Member}, Members.{IsMemberRegister}, Reader.{Enters, may_add_member}, Reading.{IsNew}}
 use Rattle.kernel_text.proofs.Membership.{may_member, other_line}
 use Rattle.kernel_text.proofs.reader.Reader.take_member.Goals as goal
 

@@ -1,8 +1,6 @@
 use Rattle.std.proofs.Common.{◌≡◌, ◌<◌, ◌+◌, ◌∙◌, [], List, Some, length, sym, subst, arith}
 use Rattle.listed.specs.Lists.{Ascending, In}
-use Rattle.kernel_text.specs.declared.member.Member.{Member}
-use Rattle.kernel_text.specs.Images.{image_of, unknown_goal}
-use Rattle.kernel_text.specs.Members.{IsMemberRegister}
+use Rattle.kernel_text.specs.{declared.member.Member.{Member}, Images.{image_of, unknown_goal}, Members.{IsMemberRegister}}
 use Rattle.kernel_text.proofs.GoalImages.{found_unknown, image_ascending, known_goal, no_image, none_there, one_image, some_image, some_there}
 use Rattle.kernel_text.proofs.stored.StoredKernel.images.Goals as goal
 

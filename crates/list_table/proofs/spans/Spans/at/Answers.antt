@@ -1,5 +1,4 @@
-use Rattle.std.proofs.Common.{◌≡◌, ◌<◌, ◌≤◌, [], length, get_or, subst, sym, ◌∙◌, ap, arith}
-use Rattle.std.proofs.lemmas.List.{length-map, get_or_read}
+use Rattle.std.proofs.{Common.{◌≡◌, ◌<◌, ◌≤◌, [], length, get_or, subst, sym, ◌∙◌, ap, arith}, lemmas.List.{length-map, get_or_read}}
 use Rattle.list_table.specs.Parts.{part}
 use Rattle.list_table.proofs.Parts.{Within_at, part_at}
 use Rattle.list_table.proofs.spans.Spans.at.Goals as goal

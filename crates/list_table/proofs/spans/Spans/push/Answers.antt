@@ -1,5 +1,4 @@
-use Rattle.std.proofs.Common.{◌≡◌, ◌+◌, ◌++◌, ◌∷◌, [], length, subst, sym, ◌∙◌, ap, ap₂, arith, length-append}
-use Rattle.std.proofs.lemmas.Result.{err_from_is_err_and}
+use Rattle.std.proofs.{Common.{◌≡◌, ◌+◌, ◌++◌, ◌∷◌, [], length, subst, sym, ◌∙◌, ap, ap₂, arith, length-append}, lemmas.Result.{err_from_is_err_and}}
 use Rattle.list_table.specs.Parts.{parts, SpansFit}
 use Rattle.list_table.proofs.Parts.{Within_more, Within_push, parts_grown, parts_push}
 use Rattle.list_table.proofs.spans.Spans.push.Goals as goal

@@ -1,9 +1,7 @@
 use Rattle.std.proofs.Common.{List, ℕ, ◌∙◌, ap}
 use Rattle.std.specs.List.{list_any}
-use Rattle.package_register.specs.Numbers.{passes_at}
-use Rattle.package_register.specs.Registers.{has_name, numbers_named}
-use Rattle.package_register.proofs.Numbered.{any_among}
-use Rattle.package_register.proofs.Registered.{named_all}
+use Rattle.package_register.specs.{Numbers.{passes_at}, Registers.{has_name, numbers_named}}
+use Rattle.package_register.proofs.{Numbered.{any_among}, Registered.{named_all}}
 use Rattle.package_register.proofs.register.Register.has_name.Goals as goal
 
 pub returns : goal.returns

@@ -1,8 +1,6 @@
 use Rattle.std.proofs.Common.{List, ℕ, ◌∙◌, ap, filter}
-use Rattle.package_register.specs.Numbers.{passes_at}
-use Rattle.package_register.specs.Registers.{has_name, numbers_named}
-use Rattle.package_register.proofs.Numbered.{found_among}
-use Rattle.package_register.proofs.Registered.{named_all}
+use Rattle.package_register.specs.{Numbers.{passes_at}, Registers.{has_name, numbers_named}}
+use Rattle.package_register.proofs.{Numbered.{found_among}, Registered.{named_all}}
 use Rattle.package_register.proofs.register.Register.named.Goals as goal
 
 pub returns : goal.returns

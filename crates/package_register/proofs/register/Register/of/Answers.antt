@@ -1,5 +1,4 @@
-use Rattle.std.proofs.Common.{◌≡◌, ◌∙◌, ◌+◌, ◌++◌, ◌∷◌, [], length, take, ap, sym, subst, arith}
-use Rattle.std.proofs.lemmas.List.{length-take, take_all, take_more}
+use Rattle.std.proofs.{Common.{◌≡◌, ◌∙◌, ◌+◌, ◌++◌, ◌∷◌, [], length, take, ap, sym, subst, arith}, lemmas.List.{length-take, take_all, take_more}}
 use Rattle.package_register.specs.Registers.{IsRegisterOf}
 use Rattle.package_register.proofs.Registered.{none_registered}
 use Rattle.package_register.proofs.register.Register.of.Goals as goal

@@ -1,7 +1,6 @@
 use Rattle.std.proofs.Common.{◌≡◌, List, ℕ, None, Some, ap, subst, sym}
 use Rattle.std.specs.Option.{option_copied}
-use Rattle.package_register.specs.Hashed.{hash_of, Puts}
-use Rattle.package_register.specs.Registers.{package_key, IsFound}
+use Rattle.package_register.specs.{Hashed.{hash_of, Puts}, Registers.{package_key, IsFound}}
 use Rattle.package_register.proofs.Registered.{found_bare, found_few, found_many, grows_named, grows_versions}
 use Rattle.package_register.proofs.register.Register.put.Goals as goal
 

@@ -1,7 +1,6 @@
 use Rattle.std.proofs.Common.{List, ℕ, ◌∙◌, ◌++◌, inl, refl, sym}
 use Rattle.package_register.specs.Registers.{is_version_of, numbers_named}
-use Rattle.package_register.proofs.Numbered.{found_among, found_none, none_in}
-use Rattle.package_register.proofs.Registered.{versioned_all}
+use Rattle.package_register.proofs.{Numbered.{found_among, found_none, none_in}, Registered.{versioned_all}}
 use Rattle.package_register.proofs.register.Register.versioned.Goals as goal
 
 pub returns-then-is_empty : goal.returns-then-is_empty

@@ -1,5 +1,4 @@
-use Rattle.std.proofs.Common.{◌≡◌, ◌∙◌, ◌∷◌, ◌++◌, [], ap, ap₂, length, arith}
-use Rattle.std.proofs.lemmas.Grind.{common_steps}
+use Rattle.std.proofs.{Common.{◌≡◌, ◌∙◌, ◌∷◌, ◌++◌, [], ap, ap₂, length, arith}, lemmas.Grind.{common_steps}}
 use Rattle.relation_fields.specs.Shared.{marked}
 use Rattle.relation_fields.proofs.Marked.{marked_more}
 use Rattle.relation_fields.proofs.shared.SharedElements.push.Goals as goal

@@ -1,5 +1,4 @@
-use Rattle.std.proofs.Common.{◌++◌, ◌∙◌, refl, sym, ap, subst}
-use Rattle.std.proofs.lemmas.Result.{err_from_is_err_and}
+use Rattle.std.proofs.{Common.{◌++◌, ◌∙◌, refl, sym, ap, subst}, lemmas.Result.{err_from_is_err_and}}
 use Rattle.virtual_provides.specs.Bearers.{IsBuiltFrom}
 use Rattle.repo_model.specs.Refusals.{Refuses}
 use Rattle.repo_model.proofs.Refusing.{refuses_first, refuses_behind, none_behind, duplicate_is}

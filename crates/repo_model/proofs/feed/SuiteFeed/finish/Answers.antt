@@ -1,6 +1,5 @@
 use Rattle.std.proofs.lemmas.Result.{IfOk-weaker}
-use Rattle.repo_model.proofs.Accepted.{read_named}
-use Rattle.repo_model.proofs.Standing.{fault_now}
+use Rattle.repo_model.proofs.{Accepted.{read_named}, Standing.{fault_now}}
 use Rattle.repo_model.proofs.feed.SuiteFeed.finish.Goals as goal
 
 pub returns-in-Err-clause-refused : goal.returns-in-Err-clause-refused

@@ -1,5 +1,4 @@
-use Rattle.std.proofs.Common.{arith}
-use Rattle.std.proofs.lemmas.Result.{err_from_is_err_and}
+use Rattle.std.proofs.{Common.{arith}, lemmas.Result.{err_from_is_err_and}}
 use Rattle.repo_model.proofs.Pieces.{fault_in_parts, parts_length, stands_in_parts}
 use Rattle.repo_model.proofs.progress.Progress.add.Goals as goal
 

@@ -1,8 +1,5 @@
-use Rattle.std.proofs.Common.{take, ap, ◌∙◌, arith}
-use Rattle.std.proofs.lemmas.Grind.{common_steps}
-use Rattle.std.proofs.lemmas.Result.{err_from_is_err_and}
-use Rattle.repo_model.proofs.Opening.{open_same}
-use Rattle.repo_model.proofs.Standing.{closed_on, closed_refused}
+use Rattle.std.proofs.{Common.{take, ap, ◌∙◌, arith}, lemmas.Grind.{common_steps}, lemmas.Result.{err_from_is_err_and}}
+use Rattle.repo_model.proofs.{Opening.{open_same}, Standing.{closed_on, closed_refused}}
 use Rattle.repo_model.proofs.progress.Progress.close.Goals as goal
 
 pub returns-in_err-read-clause-stands : goal.returns-in_err-read-clause-stands

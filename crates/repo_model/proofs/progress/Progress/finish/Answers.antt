@@ -1,5 +1,4 @@
-use Rattle.std.proofs.Common.{arith}
-use Rattle.std.proofs.lemmas.Grind.{common_steps}
+use Rattle.std.proofs.{Common.{arith}, lemmas.Grind.{common_steps}}
 use Rattle.repo_model.proofs.Standing.{place_first}
 use Rattle.repo_model.proofs.progress.Progress.finish.Goals as goal
 

@@ -1,6 +1,4 @@
-use Rattle.std.proofs.Common.{◌≡◌, ◌++◌, ◌∙◌, length, refl, sym, ap₂, subst, take, arith}
-use Rattle.std.proofs.lemmas.Grind.{common_steps}
-use Rattle.std.proofs.Math.Seq.{take-append_seam}
+use Rattle.std.proofs.{Common.{◌≡◌, ◌++◌, ◌∙◌, length, refl, sym, ap₂, subst, take, arith}, lemmas.Grind.{common_steps}, Math.Seq.{take-append_seam}}
 use Rattle.repo_model.specs.Feeding.{IsOpen}
 use Rattle.repo_model.proofs.Standing.{held_more}
 use Rattle.repo_model.proofs.progress.Progress.hold.Goals as goal

@@ -1,5 +1,4 @@
-use Rattle.std.proofs.Common.{ap, length, refl, subst, sym, arith}
-use Rattle.std.proofs.lemmas.Result.{err_from_is_err_and}
+use Rattle.std.proofs.{Common.{ap, length, refl, subst, sym, arith}, lemmas.Result.{err_from_is_err_and}}
 use Rattle.stanza_reader.specs.Close.{IsClosed}
 use Rattle.repo_model.proofs.Pieces.{fault_in_parts, open_none, parts_length, stands_in_parts}
 use Rattle.repo_model.proofs.progress.Progress.pass.Goals as goal

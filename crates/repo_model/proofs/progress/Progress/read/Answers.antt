@@ -1,5 +1,4 @@
-use Rattle.std.proofs.Common.{arith}
-use Rattle.std.proofs.lemmas.Result.{err_from_is_err_and}
+use Rattle.std.proofs.{Common.{arith}, lemmas.Result.{err_from_is_err_and}}
 use Rattle.repo_model.proofs.Pieces.{part_on, part_refused}
 use Rattle.repo_model.proofs.progress.Progress.read.Goals as goal
 

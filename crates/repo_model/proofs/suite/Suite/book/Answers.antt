@@ -1,7 +1,6 @@
 use Rattle.std.proofs.Common.{◌≡◌, ◌∙◌, ℕ, List, ap, ap₂, arith, length, subst, sym}
 use Rattle.clause_pool.specs.Compacting.{RowsOf}
-use Rattle.row_book.specs.Book.{lists_of_pairs, NumbersFit, PairsFit}
-use Rattle.row_book.specs.declared.pair.Pair.{Pair}
+use Rattle.row_book.specs.{Book.{lists_of_pairs, NumbersFit, PairsFit}, declared.pair.Pair.{Pair}}
 use Rattle.repo_model.specs.Repository.{suite_repository}
 use Rattle.repo_model.proofs.Booked.{booked, numbers_fit, row_count}
 use Rattle.repo_model.proofs.suite.Suite.book.Goals as goal

@@ -1,10 +1,8 @@
-use Rattle.std.proofs.Common.{◌≤◌, ◌∙◌, ◌++◌, ap, ap₂, length, subst, sym, arith}
+use Rattle.std.proofs.{Common.{◌≤◌, ◌∙◌, ◌++◌, ap, ap₂, length, subst, sym, arith}, lemmas.List.Concat.{flat_map-append}}
 use Rattle.std.specs.List.{items_where_true}
-use Rattle.std.proofs.lemmas.List.Concat.{flat_map-append}
 use Rattle.relation_fields.specs.declared.packages.PackageFacts.{PackageFacts}
 use Rattle.virtual_provides.specs.Bearers.{IsBuiltFrom}
-use Rattle.repo_model.specs.Limits.{most_packages}
-use Rattle.repo_model.specs.Needs.{needs_of_all}
+use Rattle.repo_model.specs.{Limits.{most_packages}, Needs.{needs_of_all}}
 use Rattle.repo_model.proofs.Selected.{both_few}
 use Rattle.repo_model.proofs.suite.Suite.join.Goals as goal
 

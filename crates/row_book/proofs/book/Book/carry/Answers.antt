@@ -1,7 +1,5 @@
-use Rattle.std.proofs.Common.{◌≡◌, ◌∙◌, ap, length, map, subst, sym}
-use Rattle.std.proofs.lemmas.List.{length-map}
-use Rattle.clause_pool.specs.Interned.{row_at}
-use Rattle.clause_pool.specs.Compacting.{RowsOf}
+use Rattle.std.proofs.{Common.{◌≡◌, ◌∙◌, ap, length, map, subst, sym}, lemmas.List.{length-map}}
+use Rattle.clause_pool.specs.{Interned.{row_at}, Compacting.{RowsOf}}
 use Rattle.row_book.specs.Book.{IsSameBook}
 use Rattle.row_book.proofs.Moved.{ok_both, same_book}
 use Rattle.row_book.proofs.book.Book.carry.Goals as goal

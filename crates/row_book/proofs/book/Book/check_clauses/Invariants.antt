@@ -1,8 +1,5 @@
 use Rattle.std.proofs.Common.{ℕ, ◌<◌}
-use Rattle.row_book.specs.Sets.{Is}
-use Rattle.row_book.specs.Repository.{Satisfied}
-use Rattle.row_book.specs.Book.{repository_of}
-use Rattle.row_book.specs.Flags.{flag}
+use Rattle.row_book.specs.{Sets.{Is}, Repository.{Satisfied}, Book.{repository_of}, Flags.{flag}}
 use Rattle.row_book.proofs.book.Book.check_clauses.Given as goal
 
 abbrev pub invariant-loop-number : goal.invariant-loop-number

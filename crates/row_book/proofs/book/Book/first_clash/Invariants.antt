@@ -1,6 +1,5 @@
 use Rattle.std.proofs.Common.{ℕ, ◌<◌}
-use Rattle.row_book.specs.Flags.{flag}
-use Rattle.row_book.specs.Health.{IsClash}
+use Rattle.row_book.specs.{Flags.{flag}, Health.{IsClash}}
 use Rattle.row_book.proofs.book.Book.first_clash.Given as goal
 
 abbrev pub invariant-loop-low : goal.invariant-loop-low

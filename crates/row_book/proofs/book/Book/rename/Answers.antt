@@ -1,7 +1,5 @@
-use Rattle.std.proofs.Common.{◌≡◌, ◌<◌, ◌∙◌, ℕ, List, ap, sym, subst, map, length, arith}
-use Rattle.std.proofs.lemmas.List.{take_all}
-use Rattle.clause_pool.specs.Interned.{Interned, row_at}
-use Rattle.clause_pool.specs.Compacting.{Compacts}
+use Rattle.std.proofs.{Common.{◌≡◌, ◌<◌, ◌∙◌, ℕ, List, ap, sym, subst, map, length, arith}, lemmas.List.{take_all}}
+use Rattle.clause_pool.specs.{Interned.{Interned, row_at}, Compacting.{Compacts}}
 use Rattle.listed.specs.Lists.{In}
 use Rattle.row_book.specs.Book.{IsSameBook}
 use Rattle.listed.proofs.Lists.{item_in}

@@ -1,10 +1,7 @@
-use Rattle.std.proofs.Common.{◌≡◌, ◌++◌, ◌∙◌, ap, ap₂, drop, length, subst, sym, take}
-use Rattle.std.proofs.lemmas.List.{length-map}
-use Rattle.row_book.specs.Holders.{TellsRows, holders_in}
+use Rattle.std.proofs.{Common.{◌≡◌, ◌++◌, ◌∙◌, ap, ap₂, drop, length, subst, sym, take}, lemmas.List.{length-map}}
+use Rattle.row_book.specs.{Holders.{TellsRows, holders_in}, Uses.{list_in}}
 use Rattle.listed.specs.Lists.{In}
-use Rattle.row_book.specs.Uses.{list_in}
-use Rattle.row_book.proofs.Holders.{tells_forgot}
-use Rattle.row_book.proofs.Users.{lent_whole}
+use Rattle.row_book.proofs.{Holders.{tells_forgot}, Users.{lent_whole}}
 use Rattle.row_book.proofs.clause_table.ClauseTable.forget.Goals as goal
 
 pub returns : goal.returns

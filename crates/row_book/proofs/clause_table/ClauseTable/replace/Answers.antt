@@ -1,13 +1,10 @@
 -- What the row gained is in the new one, so these clauses are of the pool.
-use Rattle.std.proofs.Common.{◌≡◌, ◌<◌, ◌++◌, ◌∙◌, ap, ap₂, drop, length, refl, subst, sym, take}
+use Rattle.std.proofs.{Common.{◌≡◌, ◌<◌, ◌++◌, ◌∙◌, ap, ap₂, drop, length, refl, subst, sym, take}, lemmas.List.{length-map}}
 use Rattle.std.specs.List.{slice_set}
-use Rattle.std.proofs.lemmas.List.{length-map}
 use Rattle.listed.proofs.Bools.{on_err}
-use Rattle.row_book.specs.Holders.{ListsClauses, TellsRows, holders_in}
+use Rattle.row_book.specs.{Holders.{ListsClauses, TellsRows, holders_in}, Uses.{HoldsDifference, lists_in, list_in}}
 use Rattle.listed.specs.Lists.{In}
-use Rattle.row_book.specs.Uses.{HoldsDifference, lists_in, list_in}
-use Rattle.row_book.proofs.Holders.{lists_same, tells_replaced, tells_still}
-use Rattle.row_book.proofs.Users.{lent_whole}
+use Rattle.row_book.proofs.{Holders.{lists_same, tells_replaced, tells_still}, Users.{lent_whole}}
 use Rattle.row_book.proofs.clause_table.ClauseTable.replace.Goals as goal
 
 pub returns-in_err-make_lists-clause-err : goal.returns-in_err-make_lists-clause-err

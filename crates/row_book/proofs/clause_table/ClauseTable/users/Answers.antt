@@ -1,9 +1,7 @@
 use Rattle.std.proofs.Common.{◌≡◌, ℕ, ◌∙◌, ap, subst, sym}
 use Rattle.std.specs.List.{list_any}
-use Rattle.row_book.specs.Book.{listed_for}
-use Rattle.row_book.specs.Holders.{ArePlaced}
+use Rattle.row_book.specs.{Book.{listed_for}, Holders.{ArePlaced}, Uses.{IsListOf, lists_in, list_in}}
 use Rattle.listed.specs.Lists.{has}
-use Rattle.row_book.specs.Uses.{IsListOf, lists_in, list_in}
 use Rattle.row_book.proofs.Holders.{are_placed, users_found}
 use Rattle.row_book.proofs.clause_table.ClauseTable.users.Goals as goal
 

@@ -1,5 +1,4 @@
-use Rattle.std.proofs.Common.{◌≡◌, ◌<◌, ◌+◌, ◌++◌, ◌∙◌, ap, sym, subst, length, take, drop, arith}
-use Rattle.std.proofs.lemmas.List.{length-map}
+use Rattle.std.proofs.{Common.{◌≡◌, ◌<◌, ◌+◌, ◌++◌, ◌∙◌, ap, sym, subst, length, take, drop, arith}, lemmas.List.{length-map}}
 use Rattle.listed.specs.Lists.{In, has}
 use Rattle.row_book.specs.Uses.{IsListOf, list_in, lists_in}
 use Rattle.listed.proofs.Lists.{item_in}

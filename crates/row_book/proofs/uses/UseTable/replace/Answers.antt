@@ -1,12 +1,9 @@
 -- The numbers of what the row lost and gained are held by the old row or by the new one, so they are in the table.
-use Rattle.std.proofs.Common.{◌≡◌, ◌<◌, ◌++◌, ◌∙◌, ap, sym, subst, length, take, drop}
+use Rattle.std.proofs.{Common.{◌≡◌, ◌<◌, ◌++◌, ◌∙◌, ap, sym, subst, length, take, drop}, lemmas.List.{length-map}, lemmas.Result.{on_err_weaker, on_ok_weaker}}
 use Rattle.std.specs.List.{slice_set}
-use Rattle.std.proofs.lemmas.List.{length-map}
-use Rattle.std.proofs.lemmas.Result.{on_err_weaker, on_ok_weaker}
 use Rattle.clause_pool.specs.Interned.{ids_at}
 use Rattle.row_book.specs.Uses.{lists_in, uses_of, HoldsDifference}
-use Rattle.row_book.proofs.Differences.{difference_held}
-use Rattle.row_book.proofs.Users.{held_below, lent_whole}
+use Rattle.row_book.proofs.{Differences.{difference_held}, Users.{held_below, lent_whole}}
 use Rattle.row_book.proofs.uses.UseTable.replace.Goals as goal
 
 pub exchange-answer-requires-clause-lost_of : goal.exchange-answer-requires-clause-lost_of

@@ -1,9 +1,6 @@
 use Rattle.std.proofs.Common.{◌≡◌, false, not, ◌||◌, ◌∷◌, sym, ◌∙◌, ap, arith}
-use Rattle.stanza_reader.specs.Fields.{is_same_name}
-use Rattle.stanza_reader.specs.Note.{names_in}
-use Rattle.stanza_reader.specs.Stanzas.{has_name}
-use Rattle.stanza_reader.proofs.MarkLemmas.{marks_more}
-use Rattle.stanza_reader.proofs.NoteLemmas.{in_front, left_to_set, name_is_there, set_more}
+use Rattle.stanza_reader.specs.{Fields.{is_same_name}, Note.{names_in}, Stanzas.{has_name}}
+use Rattle.stanza_reader.proofs.{MarkLemmas.{marks_more}, NoteLemmas.{in_front, left_to_set, name_is_there, set_more}}
 use Rattle.stanza_reader.proofs.note.Names.add.Goals as goal
 
 -- the name is none of those that are compared one by one, so the set decides

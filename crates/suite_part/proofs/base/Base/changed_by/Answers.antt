@@ -1,5 +1,4 @@
-use Rattle.std.proofs.Common.{◌≡◌, ◌<◌, ◌∙◌, [], ◌∷◌, ap, arith, inl, inr, length, refl, subst, sym}
-use Rattle.std.proofs.lemmas.Grind.{common_steps}
+use Rattle.std.proofs.{Common.{◌≡◌, ◌<◌, ◌∙◌, [], ◌∷◌, ap, arith, inl, inr, length, refl, subst, sym}, lemmas.Grind.{common_steps}}
 use Rattle.listed.proofs.Lists.{In_cases, In_none}
 use Rattle.row_book.specs.Book.{listed_for}
 use Rattle.row_book.proofs.Users.{lent_whole}

@@ -2,8 +2,7 @@ use Rattle.std.proofs.lemmas.Result.{IfOk-weaker}
 use Rattle.clause_flatten.specs.Beside.{AreKnown}
 use Rattle.clause_pool.specs.Interned.{Interned}
 use Rattle.row_book.specs.Book.{repository_of, Sound}
-use Rattle.suite_part.specs.Bases.{AreRowsThere, IsBase}
-use Rattle.suite_part.specs.Parts.{part}
+use Rattle.suite_part.specs.{Bases.{AreRowsThere, IsBase}, Parts.{part}}
 use Rattle.suite_part.proofs.Standing.{known_are}
 use Rattle.suite_part.proofs.base.Base.known_rows.Goals as goal
 

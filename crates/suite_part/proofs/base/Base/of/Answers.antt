@@ -1,9 +1,7 @@
-use Rattle.std.proofs.Common.{ap, false, map, sym, ◌∙◌}
-use Rattle.std.proofs.lemmas.Option.{none-some, same_Some}
+use Rattle.std.proofs.{Common.{ap, false, map, sym, ◌∙◌}, lemmas.Option.{none-some, same_Some}}
 use Rattle.clause_pool.specs.Interned.{row_at}
-use Rattle.row_book.specs.Uses.{uses_of}
+use Rattle.row_book.specs.{Uses.{uses_of}, Flattening.{passes}}
 use Rattle.suite_part.specs.Bases.{first_flags}
-use Rattle.row_book.specs.Flattening.{passes}
 use Rattle.suite_part.proofs.BaseMade.{base_made, base_rows, first_made}
 use Rattle.suite_part.proofs.base.Base.of.Goals as goal
 

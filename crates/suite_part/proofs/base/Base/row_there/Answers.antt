@@ -1,5 +1,4 @@
-use Rattle.std.proofs.Common.{◌<◌, ◌∙◌, arith, ap, subst, sym}
-use Rattle.std.proofs.lemmas.Bool.{ltb-true}
+use Rattle.std.proofs.{Common.{◌<◌, ◌∙◌, arith, ap, subst, sym}, lemmas.Bool.{ltb-true}}
 use Rattle.listed.specs.Lists.{In}
 use Rattle.listed.proofs.Lists.{item_in}
 use Rattle.clause_pool.specs.Interned.{clauses_at}

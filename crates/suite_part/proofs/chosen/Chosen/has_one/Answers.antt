@@ -1,5 +1,4 @@
-use Rattle.std.proofs.Common.{◌≡◌, ◌<◌, ◌∙◌, ℕ, List, Bool, false, arith, get_or, length, sym}
-use Rattle.std.proofs.lemmas.List.{get_or_read}
+use Rattle.std.proofs.{Common.{◌≡◌, ◌<◌, ◌∙◌, ℕ, List, Bool, false, arith, get_or, length, sym}, lemmas.List.{get_or_read}}
 use Rattle.listed.proofs.Lists.{In_at, any_from}
 use Rattle.row_book.specs.Flags.{flag}
 use Rattle.suite_part.proofs.chosen.Chosen.has_one.Goals as goal

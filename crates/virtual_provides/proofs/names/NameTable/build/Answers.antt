@@ -1,5 +1,4 @@
-use Rattle.std.proofs.Common.{◌≡◌, ◌∙◌, ◌+◌, ◌++◌, ◌∷◌, [], length, take, ap, sym, subst, arith}
-use Rattle.std.proofs.lemmas.List.{length-take, take_all, take_more}
+use Rattle.std.proofs.{Common.{◌≡◌, ◌∙◌, ◌+◌, ◌++◌, ◌∷◌, [], length, take, ap, sym, subst, arith}, lemmas.List.{length-take, take_all, take_more}}
 use Rattle.virtual_provides.specs.Bearers.{IsBuiltFrom}
 use Rattle.virtual_provides.proofs.names.NameTable.build.Goals as goal
 

@@ -1,5 +1,4 @@
-use Rattle.std.proofs.Common.{◌≡◌, ◌∙◌, ◌+◌, ◌++◌, ◌∷◌, [], Some, take, ap, sym, subst}
-use Rattle.std.proofs.lemmas.List.{take_all, take_more}
+use Rattle.std.proofs.{Common.{◌≡◌, ◌∙◌, ◌+◌, ◌++◌, ◌∷◌, [], Some, take, ap, sym, subst}, lemmas.List.{take_all, take_more}}
 use Rattle.listed.specs.Lists.{In}
 use Rattle.virtual_provides.specs.declared.names.NameTable.{NameTable}
 use Rattle.package_register.specs.Registers.{IsFound}

@@ -2,7 +2,7 @@
 //!
 //! A union that equals a kept clause may be called needless, as that clause stays. A union holds no spent package, so no clause
 //! that holds one is within it.
-ghost use Rattle.std.specs.{Prelude.{◌≡◌, ℕ, ◌<◌, List, IfOk, length, false, None}, Bool.{OnFalse, OnTrue}, Option.{ForSome}};
+ghost use Rattle.std.specs.{Prelude.{◌≡◌, ℕ, ◌<◌, ◌≤◌, List, IfOk, length, false, None}, Bool.{OnFalse, OnTrue}, Option.{ForSome}};
 ghost use Rattle.clause_pool.specs.{Interned.{clauses_at, OfPool, IsPool}, Clauses.{apart_from}, Lists.{InOrder}, Within.{some_within}};
 ghost use Rattle.listed.specs.Lists.{In, Ascending};
 ghost use Rattle.clause_families.specs.{Inclusion.{has_shorter, is_strictly_inside, stays}, Branches.{TreeOf}};
@@ -24,7 +24,8 @@ const SHARE: usize = 8;
 pub fn tree_of_many(alloc: Global, family: &[Clause]) -> Result<Option<FamilyTree>, AllocError>
     requires in_order { InOrder family.now }
     requires rising { (c : List ℕ) → In c family.now → Ascending c }
-    ensures { IfOk result (λ tree. ForSome tree (λ t. TreeOf t family.now)) }
+    ensures tree { IfOk result (λ tree. ForSome tree (λ t. TreeOf t family.now)) }
+    ensures few { IfOk result (λ tree. tree ≡ None → length family.now ≤ 4) }
 {
     if family.len() <= FEW {
         return Ok(None);

@@ -20,11 +20,11 @@ tree_beside-requires-clause-rising c = kept_ascend c.args.pool.now c.args.spent 
 
 pub ids_beside-requires-clause-tree : goal.ids_beside-requires-clause-tree
 ids_beside-requires-clause-tree c =
-    subst (λ z. ForSome c.in_ok-tree.tree (λ t. TreeOf t z)) (c.as_slice.ensures.value ∙ sym c.as_slice-3.ensures.value) c.in_ok-tree.ensures
+    subst (λ z. ForSome c.in_ok-tree.tree (λ t. TreeOf t z)) (c.as_slice.ensures.value ∙ sym c.as_slice-3.ensures.value) c.in_ok-tree.ensures.tree
 
 pub put_unions-requires-clause-tree : goal.put_unions-requires-clause-tree
 put_unions-requires-clause-tree c =
-    subst (λ z. ForSome c.in_ok-tree.tree (λ t. TreeOf t z)) (c.as_slice.ensures.value ∙ sym c.as_slice-4.ensures.value) c.in_ok-tree.ensures
+    subst (λ z. ForSome c.in_ok-tree.tree (λ t. TreeOf t z)) (c.as_slice.ensures.value ∙ sym c.as_slice-4.ensures.value) c.in_ok-tree.ensures.tree
 
 pub put_unions-requires-clause-rising : goal.put_unions-requires-clause-rising
 put_unions-requires-clause-rising c =

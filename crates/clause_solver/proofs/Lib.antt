@@ -9,3 +9,4 @@ pub mod Calm
 pub mod Climbing
 pub mod Building
 pub mod Preparing
+pub mod Local

@@ -7,3 +7,4 @@ pub mod Solvers
 pub mod Standing
 pub mod Verdicts
 pub mod Outcomes
+pub mod Laws

@@ -4,6 +4,7 @@
 
 mod decision;
 mod formula;
+mod laws;
 mod nodes;
 mod outcomes;
 mod propagation;
@@ -17,6 +18,9 @@ mod tree_walk;
 // A search, or a solver that is asked many times.
 pub use outcomes::{Outcome, Verdict};
 pub use solver::{Solver, search};
+
+// A verdict depends on nothing but what the goals reach.
+pub use laws::verdict_is_local;
 
 // What a log is made of.
 pub use search_terms::{EntryList, Literal, LiteralList, Log};

@@ -11,3 +11,7 @@ pub mod Certificates
 pub mod Forms
 pub mod Ranges
 pub mod Found
+pub mod LocalClosures
+pub mod LocalReturns
+pub mod LocalNeeds
+pub mod LocalTrees

@@ -5,3 +5,4 @@ pub mod Derives
 pub mod Tree
 pub mod SearchTree
 pub mod Laws
+pub mod Local

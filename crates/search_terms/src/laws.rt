@@ -1,5 +1,6 @@
 //! The laws of search trees and logs: the functions do nothing, the contract of each is one law.
 ghost use Rattle.search_terms.specs.Laws.{TreeIsThere, TreeIsOne, SearchTreeIs, BudgetIsEnough, SmallTreesAreWalked, LogIsShort, FoundIsModel, LogDerives, DerivesNoModel, DerivesNoSolution, ModelsAreHealthy, FindsHealthy};
+ghost use Rattle.search_terms.specs.Local.{TreeIsLocal};
 
 /// Each formula has a tree.
 pub fn tree_is_there()
@@ -59,4 +60,9 @@ pub fn models_are_healthy()
 /// A tree finds something exactly where some healthy set hits every goal.
 pub fn finds_healthy()
     ensures { FindsHealthy }
+{}
+
+/// A tree depends on nothing but what its goals reach.
+pub fn tree_is_local()
+    ensures { TreeIsLocal }
 {}

@@ -19,7 +19,7 @@ numbers_more numbers places made more i x l e so_far pushed =
     ∙ sym (ap (clause_in numbers) (take_more places i 0 l) ∙ map-append (number_in numbers) (take i places) (get_or places i 0 ∷ []))
 
 -- numbers that ascend
-numbers_rise : (numbers : List ℕ) → Ascending numbers → (m n : ℕ) → m < n → n < length numbers → number_in numbers m < number_in numbers n
+pub numbers_rise : (numbers : List ℕ) → Ascending numbers → (m n : ℕ) → m < n → n < length numbers → number_in numbers m < number_in numbers n
 numbers_rise [] a m n l k = absurd (omega arith)
 numbers_rise (x ∷ xs) a zero zero l k = absurd (omega arith)
 numbers_rise (x ∷ xs) a zero (suc n) l k = a.0 (get_or xs n 0) (In_at xs n 0 (omega arith))

@@ -1,15 +1,50 @@
 -- The base of the first packages of a book.
-use Rattle.std.proofs.Common.{◌≡◌, ℕ, zero, suc, ◌+◌, ◌-◌, ◌<◌, ◌≤◌, Bool, true, false, List, [], ◌++◌, length, map, replicate, None, inl, inr, refl, sym, ◌∙◌, ap, subst, arith}
-use Rattle.std.proofs.{lemmas.Bool.{cases_lt}, lemmas.List.{get_or_past, length-append, length-map, length-replicate}}
-use Rattle.clause_pool.specs.{Compacting.{RowsOf}, Interned.{Interned, row_at}}
-use Rattle.clause_flatten.proofs.TidyFlat.{flat_size}
-use Rattle.listed.specs.Lists.{In}
-use Rattle.listed.proofs.Lists.{In_map, In_map_cases, In_none}
-use Rattle.row_book.specs.{Book.{listed_for, repository_of, Sound}, Flattening.{flat, passes}, Repository.{Repository}, Uses.{uses_of}}
-use Rattle.row_book.specs.declared.book.Book.{Book}
-use Rattle.row_book.proofs.Users.{length_uses, list_of_uses, user_within}
-use Rattle.suite_part.specs.{BaseRows.{AreBaseRows}, Bases.{first_flags, first_part, FitsIn, IsBase}, Parts.{part, row_in}, declared.base.Base.{Base}}
-use Rattle.suite_part.proofs.{PartSound.{conflict_within, made_count}, Placed.{count_in}}
+use Rattle.std.proofs.Common.{◌≡◌, ℕ, zero, suc, ◌+◌, ◌-◌, ◌<◌, ◌≤◌, ◌⊎◌, Bool, true, false, ltb, List, [], ◌∷◌, ◌++◌, length, map, replicate, None, inl, inr, refl, sym, ◌∙◌, ap, ap₂, subst, arith}
+use Rattle.std.proofs.{lemmas.Bool.{cases_lt, le-ltb, lt-ltb, ltb-true}, lemmas.List.{get_or-map, get_or_past, length-append, length-map, length-replicate}}
+use Rattle.std.specs.Prelude.{slice_index_or}
+use Rattle.clause_pool.specs.{Compacting.{RowsOf}, Interned.{Interned, row_at, IsPool, Kept}}
+use Rattle.clause_pool.proofs.Interned.{row_stays}
+use Rattle.clause_flatten.proofs.TidyFlat.{flat_row, flat_size}
+use Rattle.listed.specs.Lists.{In, here, there}
+use Rattle.listed.proofs.Lists.{In_append_cases, In_at, In_cases, In_map, In_map_cases, In_none}
+use Rattle.row_book.specs.{Book.{listed_for, repository_of, Sound}, Flags.{flag}, Flattening.{core_of, flat, passes}, Repository.{Repository, clauses_of}}
+use Rattle.row_book.specs.{Support.{row}, Uses.{row_id, uses_of}, declared.book.Book.{Book}}
+use Rattle.row_book.proofs.{Books.{clauses_row}, Users.{length_uses, list_of_uses, user_within}}
+use Rattle.suite_part.specs.{Apart.{clause_in, clauses_in, number_in, numbers_up}, BaseRows.{AreBaseRows}}
+use Rattle.suite_part.specs.{Bases.{first_flags, first_part, row_of_part, FitsIn, IsBase}, Parts.{part, place_in, row_in}, Renewed.{EndsInEmpty}}
+use Rattle.suite_part.specs.declared.base.Base.{Base}
+use Rattle.suite_part.proofs.{Numbered.{number_back}, PartSound.{conflict_within, made_count}, Placed.{count_in}}
+
+-- the flags of the first packages
+first_up : (count k n : ℕ) → n < count → flag (replicate count true ++ replicate k false) n ≡ true
+first_up zero k n l = absurd (omega arith)
+first_up (suc count) k zero l = refl
+first_up (suc count) k (suc n) l = first_up count k n (omega arith)
+
+first_down : (count k n : ℕ) → count ≤ n → flag (replicate count true ++ replicate k false) n ≡ false
+first_down zero zero n l = refl
+first_down zero (suc k) zero l = refl
+first_down zero (suc k) (suc n) l = first_down zero k n (omega arith)
+first_down (suc count) k zero l = absurd (omega arith)
+first_down (suc count) k (suc n) l = first_down count k n (omega arith)
+
+first_flag : (count k n : ℕ) → flag (replicate count true ++ replicate k false) n ≡ ltb n count
+first_flag count k n =
+    elim (cases_lt n count) [
+      | inl l ↦ first_up count k n l ∙ sym (lt-ltb n count l)
+      | inr past ↦ first_down count k n (omega arith) ∙ sym (le-ltb n count (omega arith))
+    ]
+
+-- each of them keeps its number
+first_place : (count k n : ℕ) → n < count → place_in (replicate count true ++ replicate k false) n ≡ n
+first_place zero k n l = absurd (omega arith)
+first_place (suc count) k zero l = refl
+first_place (suc count) k (suc n) l = ap suc (first_place count k n (omega arith))
+
+-- a map that changes no element
+map_kept : {A : Type 0} (f : A → A) (xs : List A) → ((x : A) → In x xs → f x ≡ x) → map f xs ≡ xs
+map_kept f [] e = refl
+map_kept f (x ∷ xs) e = ap₂ (λ y ys. y ∷ ys) (e x here) (map_kept f xs (λ y i. e y (there i)))
 
 count_none : (m : ℕ) → count_in (replicate m false) ≡ 0
 count_none zero = refl
@@ -36,9 +71,19 @@ pub first_made : (from work : Interned) (book of_part : Book) (count : ℕ) (fla
     → repository_of work of_part ≡ first_part count (repository_of from book)
 first_made from work book of_part count flags first part_is = part_is ∙ ap (λ z. part z (repository_of from book)) (first ∙ ap (first_flags count) (sym (length-map book.rows (row_at from))))
 
-module _ (from work next new : Interned) (book of_part flattened : Book) (count limit : ℕ) (flags : List Bool) (rows : List ℕ) (l : count ≤ length book.rows) (first : flags ≡ first_flags count (length book.rows))
+-- the items of two lists
+front_item : (xs ys : List ℕ) (n : ℕ) → n < length xs → row_id (xs ++ ys) n ≡ row_id xs n
+front_item [] ys n l = absurd (omega arith)
+front_item (x ∷ xs) ys zero l = refl
+front_item (x ∷ xs) ys (suc n) l = front_item xs ys n (omega arith)
+
+one_item : (count x y : ℕ) → In y (replicate count x) → y ≡ x
+one_item zero x y i = absurd (In_none i)
+one_item (suc count) x y i = elim (In_cases i) [ inl e ↦ e | inr j ↦ one_item count x y j ]
+
+module _ (from work next new last : Interned) (book of_part flattened : Book) (count limit : ℕ) (flags : List Bool) (few rows : List ℕ) (l : count ≤ length book.rows) (first : flags ≡ first_flags count (length book.rows))
     (part_is : repository_of work of_part ≡ part flags (repository_of from book)) (flat_is : repository_of next flattened ≡ flat limit false (repository_of work of_part))
-    (same : map (row_at new) rows ≡ map (row_at next) flattened.rows) where
+    (same : map (row_at new) few ≡ map (row_at next) flattened.rows) (sound : Sound next flattened) (within : RowsOf new few) (is_pool : IsPool new) (kept : Kept new last) (more : EndsInEmpty last few (length book.rows - count) rows) where
   whole : length (repository_of from book).clauses ≡ length book.rows
   whole = length-map book.rows (row_at from)
 
@@ -50,20 +95,87 @@ module _ (from work next new : Interned) (book of_part flattened : Book) (count 
       sym (length-map flattened.rows (row_at next)) ∙ ap (λ R. length R.clauses) flat_is ∙ flat_size limit false (repository_of work of_part) ∙ ap (λ R. length R.clauses) part_first
       ∙ first_size count (repository_of from book) (subst (λ z. count ≤ z) (sym whole) l)
 
-  pub base_rows : Sound next flattened → RowsOf new rows → AreBaseRows new rows count
-  base_rows sound within = record {
-    size = sym (length-map rows (row_at new)) ∙ ap length same ∙ length-map flattened.rows (row_at next) ∙ flat_count;
-    of_pool = within;
-    numbers = λ id i c j n k.
-        let w : (old : ℕ) × In old flattened.rows × (row_at new id ≡ row_at next old) = In_map_cases (row_at next) flattened.rows (row_at new id) (subst (λ z. In (row_at new id) z) same (In_map (row_at new) rows id i)) in
-        subst (λ z. n < z) flat_count (sound.rows.numbers w.0 w.1 c (subst (λ z. In c z) w.2 j) n k);
+  few_count : length few ≡ count
+  few_count = sym (length-map few (row_at new)) ∙ ap length same ∙ length-map flattened.rows (row_at next) ∙ flat_count
+
+  -- a row that was carried over
+  few_kept : (id : ℕ) → In id few → row_at last id ≡ row_at new id
+  few_kept id i = row_stays new last is_pool kept id (within id i)
+
+  few_numbers : (id : ℕ) → In id few → (c : List ℕ) → In c (row_at last id) → (n : ℕ) → In n c → n < count
+  few_numbers id i c j n k =
+      let w : (old : ℕ) × In old flattened.rows × (row_at new id ≡ row_at next old) = In_map_cases (row_at next) flattened.rows (row_at new id) (subst (λ z. In (row_at new id) z) same (In_map (row_at new) few id i)) in
+      subst (λ z. n < z) flat_count (sound.rows.numbers w.0 w.1 c (subst (λ z. In c z) (few_kept id i ∙ w.2) j) n k)
+
+  all_within : (id : ℕ) → In id few ⊎ (id ≡ more.id) → id < length last.rows
+  all_within id (inl i) = (kept.rows id (within id i)).0
+  all_within id (inr e) = subst (λ z. z < length last.rows) (sym e) more.within
+
+  all_numbers : (id : ℕ) → In id few ⊎ (id ≡ more.id) → (c : List ℕ) → In c (row_at last id) → (n : ℕ) → In n c → n < length flags
+  all_numbers id (inl i) c j n k =
+      let small : n < count = few_numbers id i c j n k in
+      let long : length flags ≡ length book.rows = ap length first ∙ first_length count (length book.rows) l in
+      omega (arith, l)
+  all_numbers id (inr e) c j n k = absurd (In_none (subst (λ z. In c z) (ap (row_at last) e ∙ more.empty) j))
+
+  either : (id : ℕ) → In id rows → In id few ⊎ (id ≡ more.id)
+  either id i =
+      elim (In_append_cases few (replicate (length book.rows - count) more.id) id (subst (λ z. In id z) more.are i)) [
+        | inl j ↦ inl j
+        | inr j ↦ inr (one_item (length book.rows - count) more.id id j)
+      ]
+
+  pub base_rows : IsPool last → AreBaseRows last rows (length flags)
+  base_rows is = record {
+    size =
+        let parts : length rows ≡ length few + length (replicate (length book.rows - count) more.id) = ap length more.are ∙ length-append few (replicate (length book.rows - count) more.id) in
+        let long : length flags ≡ length book.rows = ap length first ∙ first_length count (length book.rows) l in
+        omega (arith, l, few_count, length-replicate (length book.rows - count) more.id);
+    of_pool = λ id i. all_within id (either id i);
+    clauses = λ id i. is.of_pool id (all_within id (either id i));
+    numbers = λ id i. all_numbers id (either id i);
   }
 
-  pub base_made : (base : Base) → base.count ≡ count → base.limit ≡ limit → base.pool ≡ new → base.rows.items ≡ rows → base.users ≡ uses_of from book.rows → passes limit false (repository_of work of_part) ≡ None → IsBase from book base
-  base_made base same_count same_limit same_pool same_rows users none = record {
-    within = subst (λ z. z ≤ length book.rows) (sym same_count) l;
-    rows = rw (same_count, same_limit, same_pool, same_rows) (same ∙ ap (λ R. R.clauses) flat_is ∙ ap (λ R. (flat limit false R).clauses) part_first);
-    none_passes = rw (same_count, same_limit) (sym (ap (passes limit false) part_first) ∙ none);
+  abbrev firsts : List Bool
+  firsts = first_flags count (length book.rows)
+
+  abbrev R : Repository
+  R = part firsts (repository_of from book)
+
+  part_firsts : repository_of work of_part ≡ R
+  part_firsts = part_is ∙ ap (λ z. part z (repository_of from book)) first
+
+  early : (n : ℕ) → flag firsts n ≡ true → n < count
+  early n up = ltb-true n count (sym (first_flag count (length book.rows - count) n) ∙ up)
+
+  own_number : (n : ℕ) → n < count → number_in (numbers_up firsts) n ≡ n
+  own_number n k =
+      ap (number_in (numbers_up firsts)) (sym (first_place count (length book.rows - count) n k)) ∙ number_back firsts n (first_up count (length book.rows - count) n k)
+
+  carried : (n : ℕ) → n < count → row_at new (row_id few n) ≡ row R (core_of limit false R) n
+  carried n k =
+      let size : length few ≡ count = few_count in
+      let long : length flattened.rows ≡ count = flat_count in
+      let many : length R.clauses ≡ count = ap (λ S. length S.clauses) (sym part_firsts ∙ part_first) ∙ first_size count (repository_of from book) (subst (λ z. count ≤ z) (sym whole) l) in
+      sym (get_or-map (row_at new) few n 0 [] (omega arith)) ∙ ap (λ table. slice_index_or table n []) same ∙ get_or-map (row_at next) flattened.rows n 0 [] (omega arith)
+      ∙ sym (clauses_row next flattened n (omega arith)) ∙ ap (λ S. clauses_of S n) (flat_is ∙ ap (flat limit false) part_firsts) ∙ flat_row limit false R n (omega arith)
+
+  first_row : (n : ℕ) → flag firsts n ≡ true → row_at last (row_id rows n) ≡ row_of_part limit firsts (repository_of from book) n
+  first_row n up =
+      let k : n < count = early n up in
+      let size : length few ≡ count = few_count in
+      let i : In (row_id few n) few = In_at few n 0 (omega arith) in
+      let stays : row_at last (row_id few n) ≡ row R (core_of limit false R) n = few_kept (row_id few n) i ∙ carried n k in
+      ap (row_at last) (ap (λ z. row_id z n) more.are ∙ front_item few (replicate (length book.rows - count) more.id) n (omega arith))
+      ∙ sym (map_kept (clause_in (numbers_up firsts)) (row_at last (row_id few n))
+      (λ c j. map_kept (number_in (numbers_up firsts)) c (λ m u. own_number m (few_numbers (row_id few n) i c j m u))))
+      ∙ ap (clauses_in (numbers_up firsts)) (stays ∙ ap (row R (core_of limit false R)) (sym (first_place count (length book.rows - count) n k)))
+
+  pub base_made : (base : Base) → base.flags.items ≡ firsts → base.limit ≡ limit → base.pool ≡ last → base.rows.items ≡ rows → base.users ≡ uses_of from book.rows → passes limit false (repository_of work of_part) ≡ None → IsBase from book base
+  base_made base same_flags same_limit same_pool same_rows users none = record {
+    size = ap length same_flags ∙ first_length count (length book.rows) l;
+    rows = rw (same_flags, same_limit, same_pool, same_rows) first_row;
+    none_passes = rw (same_flags, same_limit) (sym (ap (passes limit false) part_firsts) ∙ none);
     users_are = users;
   }
 
@@ -80,7 +192,7 @@ base_numbers from book base is n m i =
 
 pub base_fits : (from : Interned) (book : Book) (base : Base) → Sound from book → IsBase from book base → FitsIn book base
 base_fits from book base sound is = record {
-  within = is.within;
+  size = is.size;
   users = base_users from book base is;
   numbers = base_numbers from book base is;
   conflicts = conflict_within book sound.conflicts;

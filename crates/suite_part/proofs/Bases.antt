@@ -10,7 +10,7 @@ use Rattle.listed.proofs.Lists.{In_append_cases, In_append_left, In_append_right
 use Rattle.row_book.specs.{Book.{listed_for, repository_of, Sound}, Flags.{flag}, Numbers.{numbers}, Uses.{row_holds, row_id, uses_of}}
 use Rattle.row_book.specs.declared.book.Book.{Book}
 use Rattle.row_book.proofs.{Books.{clauses_row}, Numbers.{numbers_more}, Users.{list_of_uses, user_from}}
-use Rattle.suite_part.specs.Bases.{first_flags, AreChanged, AreElsewhere, Flags, StandsAlike}
+use Rattle.suite_part.specs.Bases.{first_flags, AreChanged, Flags, StandsAlike}
 
 -- the flags of the first packages, one after another
 past_first : (b n s : ℕ) → b ≤ s → map (λ k. ltb k b) (numbers n s) ≡ replicate n false
@@ -112,9 +112,9 @@ one_waits mid after more most x l down e m =
 
 -- flags that spread: each of the packages so far that has no flag stands alike, and each that has its flag waits, or all its users
 -- have theirs
-pub record Spreads (users conflicts : List (List ℕ)) (count : ℕ) (chosen : List Bool) (size number : ℕ) (changed : List Bool) (work : List ℕ) : Type 0 where
+pub record Spreads (users conflicts : List (List ℕ)) (own chosen : List Bool) (size number : ℕ) (changed : List Bool) (work : List ℕ) : Type 0 where
   pub long : length changed ≡ size
-  pub same : (n : ℕ) → n < number → flag changed n ≡ false → StandsAlike conflicts count chosen n
+  pub same : (n : ℕ) → n < number → flag changed n ≡ false → StandsAlike conflicts own chosen n
   pub spread : (n : ℕ) → flag changed n ≡ true → In n work ⊎ ((m : ℕ) → In m (listed_for users n) → flag changed m ≡ true)
   pub waiting : (n : ℕ) → In n work → n < size
 
@@ -125,8 +125,8 @@ none_up size n =
       | inr past ↦ get_or_past (replicate size false) n false (omega (arith, length-replicate size false))
     ]
 
-module _ (users conflicts : List (List ℕ)) (count : ℕ) (chosen : List Bool) (size : ℕ) where
-  pub none_spread : (changed : List Bool) (work : List ℕ) → changed ≡ replicate size false → work ≡ [] → Spreads users conflicts count chosen size 0 changed work
+module _ (users conflicts : List (List ℕ)) (own chosen : List Bool) (size : ℕ) where
+  pub none_spread : (changed : List Bool) (work : List ℕ) → changed ≡ replicate size false → work ≡ [] → Spreads users conflicts own chosen size 0 changed work
   none_spread changed work e w = record {
     long = ap length e ∙ length-replicate size false;
     same = λ n l d. absurd (omega arith);
@@ -135,11 +135,11 @@ module _ (users conflicts : List (List ℕ)) (count : ℕ) (chosen : List Bool) 
   }
 
   -- a package that stands alike
-  pub spread_same : (number : ℕ) (changed : List Bool) (work : List ℕ) → StandsAlike conflicts count chosen number → Spreads users conflicts count chosen size number changed work → Spreads users conflicts count chosen size (number + 1) changed work
-  spread_same number changed work own s = record {
+  pub spread_same : (number : ℕ) (changed : List Bool) (work : List ℕ) → StandsAlike conflicts own chosen number → Spreads users conflicts own chosen size number changed work → Spreads users conflicts own chosen size (number + 1) changed work
+  spread_same number changed work alike s = record {
     long = s.long;
     same = λ n l d. elim (cases_eq n number) [
-      | inl e ↦ subst (λ z. StandsAlike conflicts count chosen z) (sym e) own
+      | inl e ↦ subst (λ z. StandsAlike conflicts own chosen z) (sym e) alike
       | inr differs ↦ s.same n (omega (arith, differs)) d
     ];
     spread = s.spread;
@@ -147,7 +147,7 @@ module _ (users conflicts : List (List ℕ)) (count : ℕ) (chosen : List Bool) 
   }
 
   spread_by : (number : ℕ) (changed new : List Bool) (ps work rest more : List ℕ) → ((n : ℕ) → In n work → In n rest ⊎ ((m : ℕ) → In m (listed_for users n) → In m ps)) → ((n : ℕ) → In n rest → In n work)
-      → Flags ps changed rest new more → Spreads users conflicts count chosen size number changed work → Spreads users conflicts count chosen size number new more
+      → Flags ps changed rest new more → Spreads users conflicts own chosen size number changed work → Spreads users conflicts own chosen size number new more
   spread_by number changed new ps work rest more cut less f s = record {
     long = f.size ∙ s.long;
     same = λ n l d. s.same n l (false_from_ne_true (flag changed n) (λ u. both_ways (flag new n) d (f.stays n u)));
@@ -162,10 +162,10 @@ module _ (users conflicts : List (List ℕ)) (count : ℕ) (chosen : List Bool) 
   }
 
   -- a package that may differ has its flag
-  pub spread_first : (number : ℕ) (changed new : List Bool) (work more : List ℕ) → Flags (number ∷ []) changed work new more → Spreads users conflicts count chosen size number changed work
-      → Spreads users conflicts count chosen size (number + 1) new more
+  pub spread_first : (number : ℕ) (changed new : List Bool) (work more : List ℕ) → Flags (number ∷ []) changed work new more → Spreads users conflicts own chosen size number changed work
+      → Spreads users conflicts own chosen size (number + 1) new more
   spread_first number changed new work more f s =
-      let next : Spreads users conflicts count chosen size number new more = spread_by number changed new (number ∷ []) work work more (λ n i. inl i) (λ n i. i) f s in
+      let next : Spreads users conflicts own chosen size number new more = spread_by number changed new (number ∷ []) work work more (λ n i. inl i) (λ n i. i) f s in
       record {
         long = next.long;
         same = λ n l d. elim (cases_eq n number) [
@@ -177,30 +177,24 @@ module _ (users conflicts : List (List ℕ)) (count : ℕ) (chosen : List Bool) 
       }
 
   -- the users of one that waits have theirs
-  pub spread_users : (number p : ℕ) (changed new : List Bool) (work rest more : List ℕ) → work ≡ rest ++ p ∷ [] → Flags (listed_for users p) changed rest new more → Spreads users conflicts count chosen size number changed work
-      → Spreads users conflicts count chosen size number new more
+  pub spread_users : (number p : ℕ) (changed new : List Bool) (work rest more : List ℕ) → work ≡ rest ++ p ∷ [] → Flags (listed_for users p) changed rest new more → Spreads users conflicts own chosen size number changed work
+      → Spreads users conflicts own chosen size number new more
   spread_users number p changed new work rest more e f s =
       spread_by number changed new (listed_for users p) work rest more
       (λ n i. elim (in_end rest p n (subst (λ z. In n z) e i)) [ inl a ↦ inl a | inr same_one ↦ inr (λ m j. subst (λ z. In m (listed_for users z)) same_one j) ])
       (λ n i. subst (λ z. In n z) (sym e) (In_append_left rest (p ∷ []) n i)) f s
 
-  pub popped_below : (number p : ℕ) (changed : List Bool) (work rest : List ℕ) → work ≡ rest ++ p ∷ [] → Spreads users conflicts count chosen size number changed work → p < size
+  pub popped_below : (number p : ℕ) (changed : List Bool) (work rest : List ℕ) → work ≡ rest ++ p ∷ [] → Spreads users conflicts own chosen size number changed work → p < size
   popped_below number p changed work rest e s = s.waiting p (subst (λ z. In p z) (sym e) (In_append_right rest (p ∷ []) p here))
-
-  pub spread_elsewhere : (changed : List Bool) (work : List ℕ) → length chosen ≡ size → Spreads users conflicts count chosen size size changed work → AreElsewhere count chosen changed
-  spread_elsewhere changed work e s = record {
-    size = s.long ∙ sym e;
-    others = λ n l d. (s.same n (subst (λ z. n < z) s.long l) d).there;
-  }
 
 pub no_work : (work : List ℕ) → length work ≡ 0 → work ≡ []
 no_work [] e = refl
 no_work (x ∷ xs) e = absurd (omega arith)
 
 -- at the end
-pub spread_changed : (from : Interned) (book : Book) (users : List (List ℕ)) (count : ℕ) (chosen changed : List Bool) (work : List ℕ) (size : ℕ) → size ≡ length book.rows → work ≡ [] → Sound from book → users ≡ uses_of from book.rows
-    → Spreads users book.conflicts count chosen size size changed work → AreChanged (repository_of from book) count chosen changed
-spread_changed from book users count chosen changed work size all none sound are s n l d =
+pub spread_changed : (from : Interned) (book : Book) (users : List (List ℕ)) (own chosen changed : List Bool) (work : List ℕ) (size : ℕ) → size ≡ length book.rows → work ≡ [] → Sound from book → users ≡ uses_of from book.rows
+    → Spreads users book.conflicts own chosen size size changed work → AreChanged (repository_of from book) own chosen changed
+spread_changed from book users own chosen changed work size all none sound are s n l d =
     let below : n < length book.rows = subst (λ z. n < z) (s.long ∙ all) l in
     record {
       needs = λ c i m j. false_from_ne_true (flag changed m) (λ u.

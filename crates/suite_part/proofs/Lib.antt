@@ -13,3 +13,4 @@ pub mod RowsThere
 pub mod Standing
 pub mod KnownApart
 pub mod BaseMade
+pub mod Renewing

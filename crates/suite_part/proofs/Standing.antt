@@ -1,8 +1,8 @@
--- Packages of a base that stand as they are in the part of the chosen ones: their rows there are known.
-use Rattle.std.proofs.Common.{◌≡◌, ℕ, zero, suc, ◌<◌, ◌≤◌, ◌+◌, ◌-◌, Bool, true, false, not, ◌&&◌, ◌||◌, cond, ltb, List, [], ◌∷◌, ◌++◌, length, map, filter, Some, None, inl, inr, refl, sym, ◌∙◌, ap, ap₂, subst, arith}
-use Rattle.std.proofs.lemmas.Bool.{and_from, and_parts, cases_Bool, cases_lt, le-ltb, lt-ltb, ltb-true, not-true, not_from_false, or_cases, or_left}
-use Rattle.std.proofs.{lemmas.List.{get_or-map, get_or_past, length-map, take_all}, lemmas.Option.{same_Some}, lemmas.Simd.{map-map}}
-use Rattle.std.specs.{Prelude.{Option, replicate, slice_index_or}, List.{list_any}}
+-- Packages of a base that stand as they are in another part: their rows there are known, and in the numbers of the book they stay.
+use Rattle.std.proofs.Common.{◌≡◌, ℕ, ◌<◌, ◌≤◌, Bool, true, false, not, ◌&&◌, ◌||◌, cond, ltb, List, [], ◌∷◌, length, map, filter, Some, None, inl, inr, refl, sym, ◌∙◌, ap, ap₂, subst, arith}
+use Rattle.std.proofs.lemmas.Bool.{and_from, and_parts, cases_Bool, cases_lt, lt-ltb, ltb-true, not-true, not_from_false, or_cases, or_left}
+use Rattle.std.proofs.{lemmas.List.{get_or_past, take_all}, lemmas.Option.{same_Some}, lemmas.Simd.{map-map}}
+use Rattle.std.specs.{Prelude.{Option, slice_index_or}, List.{list_any}}
 use Rattle.clause_pool.specs.{Clauses.{in_row_order}, Interned.{Interned, row_at}, Lists.{InOrder}}
 use Rattle.clause_pool.proofs.Order.{ordered_has, ordered_order, ordered_parts}
 use Rattle.listed.specs.Lists.{In, here, there}
@@ -13,60 +13,15 @@ use Rattle.row_book.specs.{Repository.{Repository, against, clauses_of, conflict
 use Rattle.row_book.proofs.{BookRepositories.{book_size, sound_repository}, Books.{clauses_row}, Flags.{flag_in}, Repositories.{between, in_packages}}
 use Rattle.clause_flatten.specs.{Beside.{AreKnown, IsKnownRow}, Locality.{StandsIn}}
 use Rattle.clause_flatten.proofs.{LocalRows.{order_there}, LocalRuns.{flat_is_local_lem, flat_stays, limit_is_local_lem}, Tables.{row_order}}
-use Rattle.clause_flatten.proofs.TidyFlat.{flat_row, flat_size}
-use Rattle.suite_part.specs.{declared.base.Base.{Base}, Bases.{first_flags, first_part, AreChanged, AreElsewhere, AreRowsThere, IsBase, IsRowThere, StaysAs}}
-use Rattle.suite_part.specs.Parts.{chosen_in, part, place_in, row_in}
-use Rattle.suite_part.proofs.{Lefts.{none_some}, Parted.{ordered_already, same_order}, PartSound.{made_at, made_count, part_sound}}
+use Rattle.suite_part.specs.{declared.base.Base.{Base}, Apart.{clause_in, clauses_in, number_in, numbers_up}}
+use Rattle.suite_part.specs.{Bases.{row_of_part, AreChanged, AreRowsThere, IsBase, IsRowThere, StaysAs}, Parts.{chosen_in, part, place_in, row_in}}
+use Rattle.suite_part.proofs.{Backs.{clauses_in_order, numbers_rise}, Numbered.{number_back, up_ascends, up_count}, Lefts.{none_some}}
+use Rattle.suite_part.proofs.{Parted.{ordered_already, same_order}, PartSound.{made_at, made_count, part_sound}}
 use Rattle.suite_part.proofs.Placed.{count_in, at_place, chosen_cases, chosen_from, place_below, place_rises, HasPlace, IsChosen}
-
--- the flags of the first packages
-first_up : (count k n : ℕ) → n < count → flag (replicate count true ++ replicate k false) n ≡ true
-first_up zero k n l = absurd (omega arith)
-first_up (suc count) k zero l = refl
-first_up (suc count) k (suc n) l = first_up count k n (omega arith)
-
-first_down : (count k n : ℕ) → count ≤ n → flag (replicate count true ++ replicate k false) n ≡ false
-first_down zero zero n l = refl
-first_down zero (suc k) zero l = refl
-first_down zero (suc k) (suc n) l = first_down zero k n (omega arith)
-first_down (suc count) k zero l = absurd (omega arith)
-first_down (suc count) k (suc n) l = first_down count k n (omega arith)
-
-first_flag : (count k n : ℕ) → flag (replicate count true ++ replicate k false) n ≡ ltb n count
-first_flag count k n =
-    elim (cases_lt n count) [
-      | inl l ↦ first_up count k n l ∙ sym (lt-ltb n count l)
-      | inr past ↦ first_down count k n (omega arith) ∙ sym (le-ltb n count (omega arith))
-    ]
-
-first_length : (count k : ℕ) → length (replicate count true ++ replicate k false) ≡ count + k
-first_length zero zero = refl
-first_length zero (suc k) = let e : length (replicate zero true ++ replicate k false) ≡ zero + k = first_length zero k in omega arith
-first_length (suc count) k = let e : length (replicate count true ++ replicate k false) ≡ count + k = first_length count k in omega arith
-
-first_count : (count k : ℕ) → count_in (replicate count true ++ replicate k false) ≡ count
-first_count zero zero = refl
-first_count zero (suc k) = first_count zero k
-first_count (suc count) k = ap suc (first_count count k)
-
--- each of them keeps its number
-first_place : (count k n : ℕ) → n < count → place_in (replicate count true ++ replicate k false) n ≡ n
-first_place zero k n l = absurd (omega arith)
-first_place (suc count) k zero l = refl
-first_place (suc count) k (suc n) l = ap suc (first_place count k n (omega arith))
-
--- a map that changes no element
-map_kept : {A : Type 0} (f : A → A) (xs : List A) → ((x : A) → In x xs → f x ≡ x) → map f xs ≡ xs
-map_kept f [] e = refl
-map_kept f (x ∷ xs) e = ap₂ (λ y ys. y ∷ ys) (e x here) (map_kept f xs (λ y i. e y (there i)))
 
 map_alike : {A B : Type 0} (f g : A → B) (xs : List A) → ((x : A) → In x xs → f x ≡ g x) → map f xs ≡ map g xs
 map_alike f g [] e = refl
 map_alike f g (x ∷ xs) e = ap₂ (λ y ys. y ∷ ys) (e x here) (map_alike f g xs (λ y i. e y (there i)))
-
-any_alike : (f g : ℕ → Bool) (xs : List ℕ) → ((x : ℕ) → f x ≡ g x) → list_any f xs ≡ list_any g xs
-any_alike f g [] e = refl
-any_alike f g (x ∷ xs) e = ap₂ (λ a b. a || b) (e x) (any_alike f g xs e)
 
 -- where all are chosen, all are left
 chosen_all : (flags : List Bool) (ns : List ℕ) → ((n : ℕ) → In n ns → flag flags n ≡ true) → chosen_in flags ns ≡ map (place_in flags) ns
@@ -79,18 +34,24 @@ row_all flags cs up order =
     ap in_row_order (map_alike (chosen_in flags) (map (place_in flags)) cs (λ c i. chosen_all flags c (up c i)))
     ∙ sym (ordered_already (map (map (place_in flags)) cs) (order_there (flag flags) (place_in flags) (λ m n u v l. place_rises flags m n u l) cs up order))
 
--- rows keep their order where all that they name are chosen
-row_moved : (flags : List Bool) (cs : List (List ℕ)) → ((c : List ℕ) → In c cs → (n : ℕ) → In n c → flag flags n ≡ true) →
-    map (map (place_in flags)) (in_row_order cs) ≡ in_row_order (map (map (place_in flags)) cs)
-row_moved flags cs up =
-    same_order (map (map (place_in flags)) cs) (map (map (place_in flags)) (in_row_order cs))
+-- rows keep their order where the numbers of all that they name rise
+row_moved : (U : NumSet) (to : ℕ → ℕ) → ((m n : ℕ) → U m ≡ true → U n ≡ true → m < n → to m < to n) → (cs : List (List ℕ)) → ((c : List ℕ) → In c cs → (n : ℕ) → In n c → U n ≡ true) →
+    map (map to) (in_row_order cs) ≡ in_row_order (map (map to) cs)
+row_moved U to rises cs up =
+    same_order (map (map to) cs) (map (map to) (in_row_order cs))
     (record {
-      there = λ c i. let w : (d : List ℕ) × In d cs × (c ≡ map (place_in flags) d) = In_map_cases (map (place_in flags)) cs c i in
-          subst (λ z. In z (map (map (place_in flags)) (in_row_order cs))) (sym w.2) (In_map (map (place_in flags)) (in_row_order cs) w.0 (ordered_has cs w.0 w.1));
-      back = λ c i. let w : (d : List ℕ) × In d (in_row_order cs) × (c ≡ map (place_in flags) d) = In_map_cases (map (place_in flags)) (in_row_order cs) c i in
-          subst (λ z. In z (map (map (place_in flags)) cs)) (sym w.2) (In_map (map (place_in flags)) cs w.0 (ordered_parts cs w.0 w.1));
+      there = λ c i. let w : (d : List ℕ) × In d cs × (c ≡ map to d) = In_map_cases (map to) cs c i in
+          subst (λ z. In z (map (map to) (in_row_order cs))) (sym w.2) (In_map (map to) (in_row_order cs) w.0 (ordered_has cs w.0 w.1));
+      back = λ c i. let w : (d : List ℕ) × In d (in_row_order cs) × (c ≡ map to d) = In_map_cases (map to) (in_row_order cs) c i in
+          subst (λ z. In z (map (map to) cs)) (sym w.2) (In_map (map to) cs w.0 (ordered_parts cs w.0 w.1));
     })
-    (order_there (flag flags) (place_in flags) (λ m n u v l. place_rises flags m n u l) (in_row_order cs) (λ c i. up c (ordered_parts cs c i)) (ordered_order cs))
+    (order_there U to rises (in_row_order cs) (λ c i. up c (ordered_parts cs c i)) (ordered_order cs))
+
+-- clauses whose numbers are told in two steps
+clauses_through : (f g h : ℕ → ℕ) (cs : List (List ℕ)) → ((c : List ℕ) → In c cs → (n : ℕ) → In n c → f (g n) ≡ h n) → map (map f) (map (map g) cs) ≡ map (map h) cs
+clauses_through f g h cs e =
+    map-map (map f) (map g) cs
+    ∙ map_alike (λ c. map f (map g c)) (map h) cs (λ c i. map-map f g c ∙ map_alike (λ n. f (g n)) h c (λ n j. e c i n j))
 
 -- a package is in a conflict where it has one in its list
 pub conflict_from : (R : Repository) → SoundRepository R → (q m : ℕ) → In m (conflicts_of R q) → has_conflict R q ≡ true
@@ -142,107 +103,115 @@ pub rows_order : (from : Interned) (book : Book) → Sound from book → (x : �
 rows_order from book sound x l =
     subst InOrder (sym (clauses_row from book x l)) (sound.rows.is_pool.in_order (row_id book.rows x) (sound.rows.of_pool (row_id book.rows x) (In_at book.rows x 0 l)))
 
-module _ (W : Repository) (s : SoundRepository W) (count : ℕ) (few : count ≤ length W.clauses) (flags changed : List Bool)
-    (size : length flags ≡ length W.clauses) (elsewhere : AreElsewhere count flags changed) (same : AreChanged W count flags changed) where
-  abbrev first : List Bool
-  first = first_flags count (length W.clauses)
+-- packages of a part that are not changed in another one
+module _ (W : Repository) (s : SoundRepository W) (own flags changed : List Bool) (own_size : length own ≡ length W.clauses) (size : length flags ≡ length W.clauses)
+    (long : length changed ≡ length flags) (same : AreChanged W own flags changed) where
+  abbrev number : ℕ → ℕ
+  number = number_in (numbers_up own)
 
-  first_size : length first ≡ length W.clauses
-  first_size = let e : length first ≡ count + (length W.clauses - count) = first_length count (length W.clauses - count) in omega arith
+  -- the place there of the package of a place
+  abbrev there_at : ℕ → ℕ
+  there_at p = place_in flags (number p)
 
-  -- one of the first is told by its number, and keeps it
-  first_is : (x : ℕ) → flag first x ≡ ltb x count
-  first_is x = first_flag count (length W.clauses - count) x
-
-  first_kept : (x : ℕ) → flag first x ≡ true → place_in first x ≡ x
-  first_kept x up = first_place count (length W.clauses - count) x (ltb-true x count (sym (first_is x) ∙ up))
-
-  -- the packages of the base that are not changed
   abbrev stays : NumSet
-  stays x = ltb x count && not (flag changed x)
+  stays p = ltb p (count_in own) && not (flag changed (number p))
 
-  record Stays (x : ℕ) : Type 0 where
-    pub early : x < count
-    pub chosen : flag flags x ≡ true
-    pub is_first : flag first x ≡ true
-    pub alike : StaysAs W count flags changed x
+  record Stays (p : ℕ) : Type 0 where
+    pub member : ℕ
+    pub is_own : flag own member ≡ true
+    pub chosen : flag flags member ≡ true
+    pub place : place_in own member ≡ p
+    pub is : number p ≡ member
+    pub alike : StaysAs W own flags changed member
 
-  -- a package that is not changed is in both parts or in neither
-  in_both : (x : ℕ) → x < length W.clauses → flag changed x ≡ false → ltb x count ≡ flag flags x
-  in_both x l f =
-      let e : length changed ≡ length W.clauses = elsewhere.size ∙ size in
-      elsewhere.others x (omega arith) f
+  stays_alike : (x : ℕ) → flag own x ≡ true → flag changed x ≡ false → StaysAs W own flags changed x
+  stays_alike x up f = let l : x < length own = flag_in own x up in same x (omega (arith, long, size, own_size)) f
 
-  stays_parts : (x : ℕ) → stays x ≡ true → Stays x
-  stays_parts x u =
-      let w : (ltb x count ≡ true) × (not (flag changed x) ≡ true) = and_parts (ltb x count) (not (flag changed x)) u in
-      let l : x < count = ltb-true x count w.0 in
-      let f : flag changed x ≡ false = not-true (flag changed x) w.1 in
-      let e : length changed ≡ length W.clauses = elsewhere.size ∙ size in
-      record { early = l; chosen = sym (in_both x (omega arith) f) ∙ w.0; is_first = first_is x ∙ w.0; alike = same x (omega arith) f }
+  stays_parts : (p : ℕ) → stays p ≡ true → Stays p
+  stays_parts p u =
+      let w : (ltb p (count_in own) ≡ true) × (not (flag changed (number p)) ≡ true) = and_parts (ltb p (count_in own)) (not (flag changed (number p))) u in
+      let h : HasPlace own p = at_place own p (ltb-true p (count_in own) w.0) in
+      let is : number p ≡ h.number = ap number (sym h.is) ∙ number_back own h.number h.up in
+      let a : StaysAs W own flags changed h.number = stays_alike h.number h.up (subst (λ z. flag changed z ≡ false) is (not-true (flag changed (number p)) w.1)) in
+      record { member = h.number; is_own = h.up; chosen = sym a.alike.there ∙ h.up; place = h.is; is = is; alike = a }
 
-  stays_from : (x : ℕ) → flag flags x ≡ true → flag changed x ≡ false → stays x ≡ true
+  stays_from : (x : ℕ) → flag own x ≡ true → flag changed x ≡ false → stays (place_in own x) ≡ true
   stays_from x up f =
-      let l : x < length flags = flag_in flags x up in
-      and_from (ltb x count) (not (flag changed x)) (in_both x (omega arith) f ∙ up) (not_from_false (flag changed x) f)
+      and_from (ltb (place_in own x) (count_in own)) (not (flag changed (number (place_in own x)))) (lt-ltb (place_in own x) (count_in own) (place_below own x up))
+      (not_from_false (flag changed (number (place_in own x))) (ap (flag changed) (number_back own x up) ∙ f))
+
+  there_own : (x : ℕ) → flag own x ≡ true → there_at (place_in own x) ≡ place_in flags x
+  there_own x up = ap (place_in flags) (number_back own x up)
+
+  there_chosen : (p : ℕ) → stays p ≡ true → flag flags (number p) ≡ true
+  there_chosen p u = let st : Stays p = stays_parts p u in subst (λ z. flag flags z ≡ true) (sym st.is) st.chosen
+
+  below : (p : ℕ) → stays p ≡ true → p < count_in own
+  below p u = let w : (ltb p (count_in own) ≡ true) × (not (flag changed (number p)) ≡ true) = and_parts (ltb p (count_in own)) (not (flag changed (number p))) u in ltb-true p (count_in own) w.0
+
+  there_rises : (m n : ℕ) → stays m ≡ true → stays n ≡ true → m < n → there_at m < there_at n
+  there_rises m n u v l =
+      place_rises flags (number m) (number n) (there_chosen m u) (numbers_rise (numbers_up own) (up_ascends own) m n l (subst (λ z. n < z) (sym (up_count own)) (below n v)))
 
   -- what its clauses name is in both parts or in neither, so the same is left of them in each part
-  clause_left : (x : ℕ) → stays x ≡ true → (c : List ℕ) → In c (clauses_of W x) → chosen_in flags c ≡ map (place_in flags) (chosen_in first c)
-  clause_left x u c i =
-      ap (map (place_in flags))
-      (filter_same (flag flags) (flag first) c (λ n j. sym (in_both n ((s.clauses x c i).1 n j) ((stays_parts x u).alike.needs c i n j)) ∙ sym (first_is n))
-      ∙ sym (map_kept (place_in first) (filter (flag first) c) (λ n j. first_kept n (filter_cases (flag first) c n j).1)))
+  clause_left : (x : ℕ) → StaysAs W own flags changed x → (c : List ℕ) → In c (clauses_of W x) → chosen_in flags c ≡ map there_at (chosen_in own c)
+  clause_left x a c i =
+      let alike : (n : ℕ) → In n c → flag flags n ≡ flag own n = λ n j.
+      let l : n < length W.clauses = (s.clauses x c i).1 n j in
+      sym (same n (omega (arith, long, size)) (a.needs c i n j)).alike.there in
+      ap (map (place_in flags)) (filter_same (flag flags) (flag own) c alike)
+      ∙ sym (map-map there_at (place_in own) (filter (flag own) c) ∙ map_alike (λ n. there_at (place_in own n)) (place_in flags) (filter (flag own) c) (λ n j. there_own n (filter_cases (flag own) c n j).1))
 
   -- a member of what is left is not changed
-  left_stays : (x : ℕ) → stays x ≡ true → (c : List ℕ) → In c (map (chosen_in first) (clauses_of W x)) → (n : ℕ) → In n c → stays n ≡ true
-  left_stays x u c i n j =
-      let w : (d : List ℕ) × In d (clauses_of W x) × (c ≡ chosen_in first d) = In_map_cases (chosen_in first) (clauses_of W x) c i in
-      let v : IsChosen first w.0 n = chosen_cases first w.0 n (subst (λ z. In n z) w.2 j) in
-      let f : flag changed v.number ≡ false = (stays_parts x u).alike.needs w.0 w.1 v.number v.listed in
-      subst (λ z. stays z ≡ true) (sym (v.is ∙ first_kept v.number v.up))
-      (and_from (ltb v.number count) (not (flag changed v.number)) (sym (first_is v.number) ∙ v.up) (not_from_false (flag changed v.number) f))
+  left_stays : (x : ℕ) → StaysAs W own flags changed x → (c : List ℕ) → In c (map (chosen_in own) (clauses_of W x)) → (n : ℕ) → In n c → stays n ≡ true
+  left_stays x a c i n j =
+      let w : (d : List ℕ) × In d (clauses_of W x) × (c ≡ chosen_in own d) = In_map_cases (chosen_in own) (clauses_of W x) c i in
+      let v : IsChosen own w.0 n = chosen_cases own w.0 n (subst (λ z. In n z) w.2 j) in
+      subst (λ z. stays z ≡ true) (sym v.is) (stays_from v.number v.up (a.needs w.0 w.1 v.number v.listed))
 
-  -- its row and its conflicts in the part of the first packages
-  first_at : (x : ℕ) → stays x ≡ true → place_in first x ≡ x
-  first_at x u = first_kept x (stays_parts x u).is_first
+  own_row : (p : ℕ) (st : Stays p) → clauses_of (part own W) p ≡ row_in own (clauses_of W st.member)
+  own_row p st = ap (clauses_of (part own W)) (sym st.place) ∙ part_row W s own own_size st.member st.is_own
 
-  first_row : (x : ℕ) → stays x ≡ true → clauses_of (first_part count W) x ≡ row_in first (clauses_of W x)
-  first_row x u = ap (clauses_of (first_part count W)) (sym (first_at x u)) ∙ part_row W s first first_size x (stays_parts x u).is_first
+  own_conflict : (p : ℕ) (st : Stays p) → has_conflict (part own W) p ≡ list_any (flag own) (conflicts_of W st.member)
+  own_conflict p st = ap (has_conflict (part own W)) (sym st.place) ∙ part_conflict W s own own_size st.member st.is_own
 
-  first_conflict : (x : ℕ) → stays x ≡ true → has_conflict (first_part count W) x ≡ list_any (λ m. ltb m count) (conflicts_of W x)
-  first_conflict x u =
-      ap (has_conflict (first_part count W)) (sym (first_at x u)) ∙ part_conflict W s first first_size x (stays_parts x u).is_first
-      ∙ any_alike (flag first) (λ m. ltb m count) (conflicts_of W x) first_is
+  there_row : (p : ℕ) (st : Stays p) → clauses_of (part flags W) (there_at p) ≡ row_in flags (clauses_of W st.member)
+  there_row p st = ap (λ x. clauses_of (part flags W) (place_in flags x)) st.is ∙ part_row W s flags size st.member st.chosen
 
-  first_packages : length (first_part count W).clauses ≡ count
-  first_packages = part_count W s first first_size ∙ first_count count (length W.clauses - count)
+  there_conflict : (p : ℕ) (st : Stays p) → has_conflict (part flags W) (there_at p) ≡ list_any (flag flags) (conflicts_of W st.member)
+  there_conflict p st = ap (λ x. has_conflict (part flags W) (place_in flags x)) st.is ∙ part_conflict W s flags size st.member st.chosen
 
-  pub stands_there : StandsIn (first_part count W) stays (place_in flags) (part flags W)
+  row_there : (p : ℕ) → Stays p → clauses_of (part flags W) (there_at p) ≡ map (map there_at) (clauses_of (part own W) p)
+  row_there p st =
+      let cs : List (List ℕ) = clauses_of W st.member in
+      there_row p st
+      ∙ ap in_row_order (map_alike (chosen_in flags) (λ c. map there_at (chosen_in own c)) cs (clause_left st.member st.alike) ∙ sym (map-map (map there_at) (chosen_in own) cs))
+      ∙ sym (row_moved stays there_at there_rises (map (chosen_in own) cs) (left_stays st.member st.alike))
+      ∙ ap (map (map there_at)) (sym (own_row p st))
+
+  pub stands_there : StandsIn (part own W) stays there_at (part flags W)
   stands_there = record {
-    packages = λ x u. let e : length (first_part count W).clauses ≡ count = first_packages in let l : x < count = (stays_parts x u).early in omega arith;
-    closed = λ x u c i. left_stays x u c (ordered_parts (map (chosen_in first) (clauses_of W x)) c (subst (λ z. In c z) (first_row x u) i));
-    within = λ x u.
-        let e : length (part flags W).clauses ≡ count_in flags = part_count W s flags size in
-        let l : place_in flags x < count_in flags = place_below flags x (stays_parts x u).chosen in
-        omega arith;
-    rising = λ m n u v l. place_rises flags m n (stays_parts m u).chosen l;
-    clauses = λ x u.
-        part_row W s flags size x (stays_parts x u).chosen
-        ∙ ap in_row_order
-        (map_alike (chosen_in flags) (λ c. map (place_in flags) (chosen_in first c)) (clauses_of W x) (clause_left x u) ∙ sym (map-map (map (place_in flags)) (chosen_in first) (clauses_of W x)))
-        ∙ sym (row_moved flags (map (chosen_in first) (clauses_of W x)) (λ c i n j. (stays_parts n (left_stays x u c i n j)).chosen))
-        ∙ ap (map (map (place_in flags))) (sym (first_row x u));
-    conflicts = λ x u. part_conflict W s flags size x (stays_parts x u).chosen ∙ sym (stays_parts x u).alike.alike.against ∙ sym (first_conflict x u);
+    packages = λ p u. subst (λ z. p < z) (sym (part_count W s own own_size)) (below p u);
+    closed = λ p u c i.
+        let st : Stays p = stays_parts p u in
+        left_stays st.member st.alike c (ordered_parts (map (chosen_in own) (clauses_of W st.member)) c (subst (λ z. In c z) (own_row p st) i));
+    within = λ p u. subst (λ z. there_at p < z) (sym (part_count W s flags size)) (place_below flags (number p) (there_chosen p u));
+    rising = there_rises;
+    clauses = λ p u. row_there p (stays_parts p u);
+    conflicts = λ p u. let st : Stays p = stays_parts p u in there_conflict p st ∙ sym st.alike.alike.against ∙ sym (own_conflict p st);
   }
 
--- the row of a package that stands there is its row in the base, in its new numbers
+-- the row of such a package is its row in the base, in its new numbers, and in the numbers of the book it stays
 module _ (from : Interned) (book : Book) (base : Base) (flags changed : List Bool) (sound : Sound from book) (is : IsBase from book base) (size : length flags ≡ length book.rows)
-    (elsewhere : AreElsewhere base.count flags changed) (same : AreChanged (repository_of from book) base.count flags changed) where
+    (long : length changed ≡ length flags) (same : AreChanged (repository_of from book) base.flags.items flags changed) where
   abbrev W : Repository
   W = repository_of from book
 
+  abbrev own : List Bool
+  own = base.flags.items
+
   abbrev R : Repository
-  R = first_part base.count W
+  R = part own W
 
   abbrev M : Repository
   M = part flags W
@@ -250,45 +219,75 @@ module _ (from : Interned) (book : Book) (base : Base) (flags changed : List Boo
   whole : SoundRepository W
   whole = sound_repository from book sound.rows.is_pool sound
 
+  own_sized : length own ≡ length W.clauses
+  own_sized = is.size ∙ sym (book_size from book)
+
   sized : length flags ≡ length W.clauses
   sized = size ∙ sym (book_size from book)
 
-  few : base.count ≤ length W.clauses
-  few = let e : length W.clauses ≡ length book.rows = book_size from book in let l : base.count ≤ length book.rows = is.within in omega arith
+  abbrev unchanged : NumSet
+  unchanged = stays W whole own flags changed own_sized sized long same
 
-  stand : StandsIn R (stays W whole base.count few flags changed sized elsewhere same) (place_in flags) M
-  stand = stands_there W whole base.count few flags changed sized elsewhere same
+  abbrev there_to : ℕ → ℕ
+  there_to = there_at W whole own flags changed own_sized sized long same
 
-  here_stays : (x : ℕ) → flag flags x ≡ true → flag changed x ≡ false → stays W whole base.count few flags changed sized elsewhere same x ≡ true
-  here_stays = stays_from W whole base.count few flags changed sized elsewhere same
+  stand : StandsIn R unchanged there_to M
+  stand = stands_there W whole own flags changed own_sized sized long same
 
-  early : (x : ℕ) → stays W whole base.count few flags changed sized elsewhere same x ≡ true → x < base.count
-  early x u = (stays_parts W whole base.count few flags changed sized elsewhere same x u).early
+  abbrev numbered : ℕ → ℕ
+  numbered = number_in (numbers_up own)
 
-  base_size : length R.clauses ≡ base.count
-  base_size = first_packages W whole base.count few flags changed sized elsewhere same
+  member_chosen : (p : ℕ) → unchanged p ≡ true → flag flags (numbered p) ≡ true
+  member_chosen = there_chosen W whole own flags changed own_sized sized long same
 
-  base_row : (x : ℕ) → x < base.count → row_at base.pool (row_id base.rows.items x) ≡ row R (core_of base.limit false R) x
-  base_row x l =
-      let e : length R.clauses ≡ base.count = base_size in
-      let k : x < length R.clauses = omega arith in
-      let rows : length base.rows.items ≡ length R.clauses = sym (length-map base.rows.items (row_at base.pool)) ∙ ap length is.rows ∙ flat_size base.limit false R in
-      let m : x < length base.rows.items = omega arith in
-      sym (get_or-map (row_at base.pool) base.rows.items x 0 [] m) ∙ ap (λ table. slice_index_or table x []) is.rows ∙ flat_row base.limit false R x k
+  abbrev own_rows : ℕ → List (List ℕ)
+  own_rows x = row R (core_of base.limit false R) (place_in own x)
 
-  -- that row, in the numbers of the chosen ones
-  row_there : (x : ℕ) → stays W whole base.count few flags changed sized elsewhere same x ≡ true →
-      row_in flags (row_at base.pool (row_id base.rows.items x)) ≡ row M (core_of base.limit false M) (place_in flags x)
-  row_there x u =
-      let core : NumSet = core_of base.limit false R in
-      ap (row_in flags) (base_row x (early x u))
-      ∙ row_all flags (row R core x)
-      (λ c i n j. (stays_parts W whole base.count few flags changed sized elsewhere same n
-      (flat_stays base.limit R (stays W whole base.count few flags changed sized elsewhere same) (place_in flags) M stand x u c i n j)).chosen) (row_order R core x)
-      ∙ sym (flat_is_local_lem base.limit R (stays W whole base.count few flags changed sized elsewhere same) (place_in flags) M stand x u)
+  -- a package that is in the part and not changed is in the base
+  is_own : (x : ℕ) → flag flags x ≡ true → flag changed x ≡ false → flag own x ≡ true
+  is_own x up f = let l : x < length flags = flag_in flags x up in (same x (omega (arith, long)) f).alike.there ∙ up
 
-  within_there : (x : ℕ) → stays W whole base.count few flags changed sized elsewhere same x ≡ true → (i : ℕ) → row_length M (remaining_after base.limit false M i).left (place_in flags x) ≤ base.limit
-  within_there x u i = limit_is_local_lem base.limit R (stays W whole base.count few flags changed sized elsewhere same) (place_in flags) M stand is.none_passes i x u
+  is_unchanged : (x : ℕ) → flag own x ≡ true → flag changed x ≡ false → unchanged (place_in own x) ≡ true
+  is_unchanged = stays_from W whole own flags changed own_sized sized long same
+
+  is_there : (x : ℕ) → flag own x ≡ true → there_to (place_in own x) ≡ place_in flags x
+  is_there = there_own W whole own flags changed own_sized sized long same
+
+  member_stays : (x : ℕ) → flag own x ≡ true → flag changed x ≡ false → (c : List ℕ) → In c (own_rows x) → (n : ℕ) → In n c → unchanged n ≡ true
+  member_stays x up f = flat_stays base.limit R unchanged there_to M stand (place_in own x) (is_unchanged x up f)
+
+  row_there_is : (x : ℕ) → flag own x ≡ true → flag changed x ≡ false → row M (core_of base.limit false M) (place_in flags x) ≡ map (map there_to) (own_rows x)
+  row_there_is x up f =
+      ap (row M (core_of base.limit false M)) (sym (is_there x up)) ∙ flat_is_local_lem base.limit R unchanged there_to M stand (place_in own x) (is_unchanged x up f)
+
+  -- its row is what is left of the row of the base
+  row_left : (x : ℕ) → flag own x ≡ true → flag changed x ≡ false → row_in flags (row_at base.pool (row_id base.rows.items x)) ≡ row M (core_of base.limit false M) (place_in flags x)
+  row_left x up f =
+      ap (row_in flags) (is.rows x up)
+      ∙ row_all flags (clauses_in (numbers_up own) (own_rows x))
+      (λ c i n j.
+      let w : (d : List ℕ) × In d (own_rows x) × (c ≡ clause_in (numbers_up own) d) = In_map_cases (clause_in (numbers_up own)) (own_rows x) c i in
+      let v : (m : ℕ) × In m w.0 × (n ≡ numbered m) = In_map_cases numbered w.0 n (subst (λ z. In n z) w.2 j) in
+      subst (λ z. flag flags z ≡ true) (sym v.2) (member_chosen v.0 (member_stays x up f w.0 w.1 v.0 v.1)))
+      (clauses_in_order (numbers_up own) (own_rows x) (up_ascends own)
+      (λ c i n j. subst (λ z. n < z) (sym (up_count own)) (below W whole own flags changed own_sized sized long same n (member_stays x up f c i n j)))
+      (row_order R (core_of base.limit false R) (place_in own x)))
+      ∙ clauses_through (place_in flags) numbered there_to (own_rows x) (λ c i n j. refl)
+      ∙ sym (row_there_is x up f)
+
+  -- in the numbers of the book it is that of the base
+  pub row_same : (x : ℕ) → flag flags x ≡ true → flag changed x ≡ false → row_at base.pool (row_id base.rows.items x) ≡ row_of_part base.limit flags W x
+  row_same x chosen f =
+      let up : flag own x ≡ true = is_own x chosen f in
+      is.rows x up
+      ∙ sym (ap (clauses_in (numbers_up flags)) (row_there_is x up f)
+      ∙ clauses_through (number_in (numbers_up flags)) there_to numbered (own_rows x)
+      (λ c i n j. number_back flags (numbered n) (member_chosen n (member_stays x up f c i n j))))
+
+  within_there : (x : ℕ) → flag own x ≡ true → flag changed x ≡ false → (i : ℕ) → row_length M (remaining_after base.limit false M i).left (place_in flags x) ≤ base.limit
+  within_there x up f i =
+      subst (λ z. row_length M (remaining_after base.limit false M i).left z ≤ base.limit) (is_there x up)
+      (limit_is_local_lem base.limit R unchanged there_to M stand is.none_passes i (place_in own x) (is_unchanged x up f))
 
   places_size : place_in flags (length flags) ≡ count_in flags
   places_size = ap count_in (take_all (length flags) flags (omega arith))
@@ -301,12 +300,12 @@ module _ (from : Interned) (book : Book) (base : Base) (flags changed : List Boo
         | inl gone ↦ absurd (none_some id (sym (rows.unknown x up gone) ∙ told))
         | inr f ↦
             let found : IsRowThere base.pool base.rows.items flags pool x (slice_index_or known (place_in flags x) None) = rows.there x up f in
-            let u : stays W whole base.count few flags changed sized elsewhere same x ≡ true = here_stays x up f in
+            let u : flag own x ≡ true = is_own x up f in
             let one : found.id ≡ id = same_Some found.id id (sym found.is ∙ told) in (
               subst (λ z. z < length pool.rows) one found.within,
               record {
-                is = ap (row_at pool) (sym one) ∙ found.same ∙ row_there x u ∙ ap (row M (core_of base.limit false M)) at;
-                within = λ i. subst (λ z. row_length M (remaining_after base.limit false M i).left z ≤ base.limit) at (within_there x u i);
+                is = ap (row_at pool) (sym one) ∙ found.same ∙ row_left x u f ∙ ap (row M (core_of base.limit false M)) at;
+                within = λ i. subst (λ z. row_length M (remaining_after base.limit false M i).left z ≤ base.limit) at (within_there x u f i);
               },
             )
       ]
@@ -325,6 +324,6 @@ module _ (from : Interned) (book : Book) (base : Base) (flags changed : List Boo
 
 -- the rows that were carried over from the base are known
 pub known_are : (from pool : Interned) (book : Book) (base : Base) (flags changed : List Bool) (known : List (Option ℕ)) →
-    Sound from book → IsBase from book base → length flags ≡ length book.rows → AreElsewhere base.count flags changed → AreChanged (repository_of from book) base.count flags changed →
+    Sound from book → IsBase from book base → length flags ≡ length book.rows → length changed ≡ length flags → AreChanged (repository_of from book) base.flags.items flags changed →
     AreRowsThere base.pool base.rows.items flags changed pool known → AreKnown pool base.limit (part flags (repository_of from book)) known
-known_are from pool book base flags changed known sound is size elsewhere same rows = known_there from book base flags changed sound is size elsewhere same pool known rows
+known_are from pool book base flags changed known sound is size long same rows = known_there from book base flags changed sound is size long same pool known rows

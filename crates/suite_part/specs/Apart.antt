@@ -1,4 +1,3 @@
--- for the bodies of this crate alone
 -- Rows that were made in a part of a book, in the numbers of the book.
 use Rattle.std.specs.{Prelude.{◌≡◌, ℕ, ◌<◌, Bool, true, List, Option, Some, None, filter, length, map, slice_index_or}, List.{list_any, range_with_len}}
 use Rattle.clause_pool.specs.Interned.{Interned, clause_at, row_at}

@@ -1,11 +1,10 @@
 -- What is known of the rows of a part, and which packages of it stand in another part as they are.
-use Rattle.std.specs.Prelude.{◌≡◌, ℕ, ◌<◌, ◌≤◌, ◌-◌, ◌⊎◌, Bool, true, false, ltb, List, ◌++◌, Option, Some, None, length, map, replicate, slice_index_or}
-use Rattle.std.specs.List.{list_any}
+use Rattle.std.specs.{Prelude.{◌≡◌, ℕ, ◌<◌, ◌-◌, ◌⊎◌, Bool, true, false, List, ◌++◌, Option, Some, None, length, replicate, slice_index_or}, List.{list_any}}
 use Rattle.clause_pool.specs.Interned.{Interned, row_at}
 use Rattle.listed.specs.Lists.{In}
-use Rattle.row_book.specs.{declared.book.Book.{Book}, Book.{listed_for, repository_of}, Flags.{flag}, Flattening.{flat, passes}}
-use Rattle.row_book.specs.{Repository.{Repository, clauses_of}, Uses.{row_id, uses_of}}
-use Rattle.suite_part.specs.{Parts.{part, place_in, row_in}, declared.base.Base.{Base}}
+use Rattle.row_book.specs.{declared.book.Book.{Book}, Book.{listed_for, repository_of}, Flags.{flag}, Flattening.{core_of, passes}}
+use Rattle.row_book.specs.{Repository.{Repository, clauses_of}, Support.{row}, Uses.{row_id, uses_of}}
+use Rattle.suite_part.specs.{Apart.{clauses_in, numbers_up}, Parts.{part, place_in, row_in}, declared.base.Base.{Base}}
 
 -- the flags of the first packages
 abbrev pub first_flags : ℕ → ℕ → List Bool
@@ -15,40 +14,40 @@ first_flags count size = replicate count true ++ replicate (size - count) false
 abbrev pub first_part : ℕ → Repository → Repository
 first_part count R = part (first_flags count (length R.clauses)) R
 
--- the flattened rows of that part without hold, none of which passes the limit at any stage, and who names whom in the book
+-- the flattened row, without hold, of a package in the part that has it, in the numbers of the book
+abbrev pub row_of_part : ℕ → List Bool → Repository → ℕ → List (List ℕ)
+row_of_part limit flags R n = clauses_in (numbers_up flags) (row (part flags R) (core_of limit false (part flags R)) (place_in flags n))
+
+-- a flag for each package of the book; for each package with a flag such a row; no row of this part passes the limit at any stage; and
+-- who names whom in the book
 pub record IsBase (from : Interned) (book : Book) (base : Base) : Type 0 where
-  pub within : base.count ≤ length book.rows
-  pub rows : map (row_at base.pool) base.rows.items ≡ (flat base.limit false (first_part base.count (repository_of from book))).clauses
-  pub none_passes : passes base.limit false (first_part base.count (repository_of from book)) ≡ None
+  pub size : length base.flags.items ≡ length book.rows
+  pub rows : (n : ℕ) → flag base.flags.items n ≡ true → row_at base.pool (row_id base.rows.items n) ≡ row_of_part base.limit base.flags.items (repository_of from book) n
+  pub none_passes : passes base.limit false (part base.flags.items (repository_of from book)) ≡ None
   pub users_are : base.users ≡ uses_of from book.rows
 
--- a base has no more packages than a book, and its table of users one list for each package of the book; all numbers of that table and of
--- the book's conflicts are of the book
+-- a base has a flag for each package of a book, and its table of users a list for each; all numbers of that table and of the book's conflicts
+-- are of the book
 pub record FitsIn (book : Book) (base : Base) : Type 0 where
-  pub within : base.count ≤ length book.rows
+  pub size : length base.flags.items ≡ length book.rows
   pub users : length base.users ≡ length book.rows
   pub numbers : (n m : ℕ) → In m (listed_for base.users n) → m < length book.rows
   pub conflicts : (p n : ℕ) → In n (listed_for book.conflicts p) → n < length book.rows
 
--- a package is in the part of the first packages and in that of the chosen ones, or in neither; and of the packages that conflict
--- with it one at least is in each part, or none is in either
-pub record StandsAlike (conflicts : List (List ℕ)) (count : ℕ) (chosen : List Bool) (n : ℕ) : Type 0 where
-  pub there : ltb n count ≡ flag chosen n
-  pub against : list_any (λ m. ltb m count) (listed_for conflicts n) ≡ list_any (flag chosen) (listed_for conflicts n)
+-- a package is in both of two parts, or in neither; and of the packages that conflict with it one at least is in each part, or none is
+-- in either
+pub record StandsAlike (conflicts : List (List ℕ)) (own chosen : List Bool) (n : ℕ) : Type 0 where
+  pub there : flag own n ≡ flag chosen n
+  pub against : list_any (flag own) (listed_for conflicts n) ≡ list_any (flag chosen) (listed_for conflicts n)
 
 -- a package stands alike, and the flags of all that it names are down
-pub record StaysAs (R : Repository) (count : ℕ) (chosen changed : List Bool) (n : ℕ) : Type 0 where
+pub record StaysAs (R : Repository) (own chosen changed : List Bool) (n : ℕ) : Type 0 where
   pub needs : (c : List ℕ) → In c (clauses_of R n) → (m : ℕ) → In m c → flag changed m ≡ false
-  pub alike : StandsAlike R.conflicts count chosen n
-
--- a flag for each package, and each package whose flag is not up is one of the first where it is chosen, and only there
-pub record AreElsewhere (count : ℕ) (chosen changed : List Bool) : Type 0 where
-  pub size : length changed ≡ length chosen
-  pub others : (n : ℕ) → n < length changed → flag changed n ≡ false → ltb n count ≡ flag chosen n
+  pub alike : StandsAlike R.conflicts own chosen n
 
 -- each package whose flag is not up stays as it is
-abbrev pub AreChanged : Repository → ℕ → List Bool → List Bool → Type 0
-AreChanged R count chosen changed = (n : ℕ) → n < length changed → flag changed n ≡ false → StaysAs R count chosen changed n
+abbrev pub AreChanged : Repository → List Bool → List Bool → List Bool → Type 0
+AreChanged R own chosen changed = (n : ℕ) → n < length changed → flag changed n ≡ false → StaysAs R own chosen changed n
 
 -- the id of the row of a package in another pool, in the numbers of the chosen ones
 pub record IsRowThere (from : Interned) (rows : List ℕ) (chosen : List Bool) (pool : Interned) (n : ℕ) (row : Option ℕ) : Type 0 where

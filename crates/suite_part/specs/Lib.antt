@@ -2,5 +2,6 @@ pub mod Parts
 pub mod Left
 pub mod Laws
 pub mod BaseRows
-pub mod Bases
 pub mod Apart
+pub mod Bases
+pub mod Renewed

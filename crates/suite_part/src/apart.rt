@@ -109,8 +109,8 @@ fn with_rows(
     Ok(more)
 }
 
-// The row of a part in the numbers of the book.
-fn row_back(
+/// The row of a part in the numbers of the book.
+pub(crate) fn row_back(
     alloc: Global,
     pool: &mut Pool,
     from: &Pool,
@@ -127,6 +127,7 @@ fn row_back(
     ensures of_pool { IfOk result (λ id. id < length pool.new.rows) }
     ensures seen { OnOk result (AreBack from.now numbers.now pool.new seen.new.items) }
     ensures kept { Kept pool.old pool.new }
+    ensures sound { OnOk result (IsPool pool.new) }
 {
     let ids = ids_back(alloc, pool, from, row, numbers, seen)?;
     pool.intern_row(ids.as_slice())

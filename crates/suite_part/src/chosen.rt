@@ -33,19 +33,6 @@ impl Chosen {
         self.places[number]
     }
 
-    /// Whether one of some packages is chosen.
-    pub(crate) fn has_one(&self, numbers: &[u32]) -> bool
-        requires { (n : ℕ) → In n numbers.now → n < length self.now.flags.items }
-        ensures { result ≡ list_any (flag self.now.flags.items) numbers.now }
-    {
-        for number in numbers {
-            if self.flags[*number as usize] {
-                return true;
-            }
-        }
-        false
-    }
-
     /// Those of some packages that are chosen, by their numbers among the chosen ones.
     pub fn among(&self, alloc: Global, numbers: &[u32]) -> Result<Vec<u32>, AllocError>
         requires { (n : ℕ) → In n numbers.now → n < length self.now.flags.items }
@@ -70,6 +57,19 @@ impl Chosen {
         }
         Ok(())
     }
+}
+
+/// Whether one of some packages has its flag up.
+pub(crate) fn has_one(flags: &[bool], numbers: &[u32]) -> bool
+    requires { (n : ℕ) → In n numbers.now → n < length flags.now }
+    ensures { result ≡ list_any (flag flags.now) numbers.now }
+{
+    for number in numbers {
+        if flags[*number as usize] {
+            return true;
+        }
+    }
+    false
 }
 
 // For each flag how many before it are up.

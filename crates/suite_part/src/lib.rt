@@ -8,6 +8,7 @@ mod changed;
 mod chosen;
 mod laws;
 mod part;
+mod renewed;
 mod rows;
 
 // Some packages of a book, and the book that they make.

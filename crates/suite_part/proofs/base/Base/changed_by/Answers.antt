@@ -3,7 +3,7 @@ use Rattle.listed.proofs.Lists.{In_cases, In_none}
 use Rattle.row_book.specs.Book.{listed_for}
 use Rattle.row_book.proofs.Users.{lent_whole}
 use Rattle.suite_part.specs.Bases.{Flags}
-use Rattle.suite_part.proofs.Bases.{no_work, popped_below, spread_changed, spread_elsewhere, spread_first, spread_same, spread_users}
+use Rattle.suite_part.proofs.Bases.{no_work, popped_below, spread_changed, spread_first, spread_same, spread_users}
 use Rattle.suite_part.proofs.base.Base.changed_by.Goals as goal
 use Rattle.suite_part.proofs.base.Base.changed_by.Goals.{then-differs+in_ok-put_changed, else-differs}
 
@@ -27,18 +27,18 @@ loop-number-preserved c =
           ap (λ v. v.items) w.changed-is ∙ lent_whole c.loop-number.changed.len w.put_changed.new.changed c.loop-number.changed.items flags.size c.loop-number.changed.ok.0 in
           let work : c.if-differs.work.items ≡ w.put_changed.new.work.items = ap (λ v. v.items) w.work-is in
           rw (whole, work)
-          (spread_first users conflicts c.args.self.now.count chosen size c.loop-number.number c.loop-number.changed.items w.put_changed.new.changed c.loop-number.work.items w.put_changed.new.work.items flags c.loop-number.invariant)
+          (spread_first users conflicts c.args.self.now.flags.items chosen size c.loop-number.number c.loop-number.changed.items w.put_changed.new.changed c.loop-number.work.items w.put_changed.new.work.items flags c.loop-number.invariant)
       | else-differs w ↦
           let same : c.if-differs.changed.items ≡ c.loop-number.changed.items = ap (λ v. v.items) w.changed-is in
           let work : c.if-differs.work.items ≡ c.loop-number.work.items = ap (λ v. v.items) w.work-is in
           rw (same, work)
-          (spread_same users conflicts c.args.self.now.count chosen size c.loop-number.number c.loop-number.changed.items c.loop-number.work.items w.if-differs.ensures c.loop-number.invariant)
+          (spread_same users conflicts c.args.self.now.flags.items chosen size c.loop-number.number c.loop-number.changed.items c.loop-number.work.items w.if-differs.ensures c.loop-number.invariant)
     ]
 
 pub packages-requires : goal.packages-requires
 packages-requires c =
     let below : c.in-Some.number < length c.args.book.now.rows =
-    popped_below c.args.self.now.users c.args.book.now.conflicts c.args.self.now.count c.args.chosen.now.flags.items (length c.args.book.now.rows) (length c.args.book.now.rows) c.in-Some.number c.loop-number-2.changed.items
+    popped_below c.args.self.now.users c.args.book.now.conflicts c.args.self.now.flags.items c.args.chosen.now.flags.items (length c.args.book.now.rows) (length c.args.book.now.rows) c.in-Some.number c.loop-number-2.changed.items
     c.loop-number-2.work.items c.pop.new.self.items c.in-Some.ensures.items c.loop-number-2.invariant in
     subst (λ z. c.in-Some.number < z) (sym c.requires.fits.users) below
 
@@ -51,16 +51,14 @@ loop-number-2-preserved c =
     subst (λ z. Flags z c.deref_mut-in-Some.result.now c.pop.new.self.items new more) c.packages.ensures c.in_ok-put_changed-2.ensures.flags in
     let flags : Flags list c.loop-number-2.changed.items c.pop.new.self.items new more = subst (λ z. Flags list z c.pop.new.self.items new more) c.deref_mut-in-Some.ensures.value told in
     rw (lent_whole c.loop-number-2.changed.len new c.loop-number-2.changed.items flags.size c.loop-number-2.changed.ok.0)
-    (spread_users c.args.self.now.users c.args.book.now.conflicts c.args.self.now.count c.args.chosen.now.flags.items (length c.args.book.now.rows) (length c.args.book.now.rows) c.in-Some.number c.loop-number-2.changed.items new
+    (spread_users c.args.self.now.users c.args.book.now.conflicts c.args.self.now.flags.items c.args.chosen.now.flags.items (length c.args.book.now.rows) (length c.args.book.now.rows) c.in-Some.number c.loop-number-2.changed.items new
     c.loop-number-2.work.items c.pop.new.self.items more c.in-Some.ensures.items flags c.loop-number-2.invariant)
 
-pub returns-clause-elsewhere : goal.returns-clause-elsewhere
-returns-clause-elsewhere c =
-    spread_elsewhere c.args.self.now.users c.args.book.now.conflicts c.args.self.now.count c.args.chosen.now.flags.items (length c.args.book.now.rows) c.loop-number-2.changed.items c.loop-number-2.work.items c.requires.flags
-    c.loop-number-2.invariant
+pub returns-clause-size : goal.returns-clause-size
+returns-clause-size c = c.loop-number-2.invariant.long
 
 pub returns-clause-changed : goal.returns-clause-changed
 returns-clause-changed c = λ from sound are.
     let none : c.loop-number-2.work.items ≡ [] = grind (arith, common_steps, no_work) in
-    spread_changed from c.args.book.now c.args.self.now.users c.args.self.now.count c.args.chosen.now.flags.items c.loop-number-2.changed.items c.loop-number-2.work.items (length c.args.book.now.rows) refl none sound are
+    spread_changed from c.args.book.now c.args.self.now.users c.args.self.now.flags.items c.args.chosen.now.flags.items c.loop-number-2.changed.items c.loop-number-2.work.items (length c.args.book.now.rows) refl none sound are
     c.loop-number-2.invariant

@@ -1,4 +1,4 @@
-use Rattle.std.proofs.lemmas.Result.{IfOk-weaker}
+use Rattle.std.proofs.{Common.{◌∙◌, sym}, lemmas.Result.{IfOk-weaker}}
 use Rattle.clause_flatten.specs.Beside.{AreKnown}
 use Rattle.clause_pool.specs.Interned.{Interned}
 use Rattle.row_book.specs.Book.{repository_of, Sound}
@@ -13,5 +13,5 @@ returns-clause-known c =
     (λ known. (from : Interned) → Sound from c.args.book.now → IsBase from c.args.book.now c.args.self.now → AreKnown c.rows_there.new.pool c.args.self.now.limit (part c.args.chosen.now.flags.items (repository_of from c.args.book.now)) known.items)
     (λ known rows from sound is.
     known_are from c.rows_there.new.pool c.args.book.now c.args.self.now c.args.chosen.now.flags.items c.in_ok-changed.changed.items known.items sound is c.requires.flags
-    c.in_ok-changed.ensures.elsewhere (c.in_ok-changed.ensures.changed from sound is.users_are) rows)
+    (c.in_ok-changed.ensures.size ∙ sym c.requires.flags) (c.in_ok-changed.ensures.changed from sound is.users_are) rows)
     (rw c.deref.ensures.value at c.rows_there.ensures.rows)

@@ -19,3 +19,4 @@ pub mod Named
 pub mod Taken
 pub mod Flagged
 mod Passing
+mod Carrying

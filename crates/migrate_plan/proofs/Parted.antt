@@ -1,5 +1,5 @@
 -- The kernel of some packages of all that mixes have, and the line that is told by it.
-use Rattle.std.proofs.Common.{◌≡◌, ℕ, ◌<◌, Bool, false, List, [], ◌∷◌, map, length, Option, Some, None, Result, IfOk, refl, sym, ap, ap₂, subst, ◌∙◌}
+use Rattle.std.proofs.Common.{◌≡◌, ℕ, ◌<◌, Bool, false, List, [], ◌∷◌, map, length, Option, Some, None, refl, sym, ap, ap₂, subst, ◌∙◌}
 use Rattle.std.proofs.lemmas.List.{length-map}
 use Rattle.std.specs.{List.{items_where_true}, Option.{ForSome}}
 use Rattle.listed.{specs.Lists.{In}, proofs.Lists.{In_map_cases}}
@@ -29,10 +29,6 @@ kernel_made start pool made limit hold R told given = record {
   where
     extracted : IsExtracted R limit made.hold start pool made.book made.class_of made.held made.trail.steps
     extracted = subst (λ h. IsExtracted R limit h start pool made.book made.class_of made.held made.trail.steps) (sym told) given
-
--- the same of an equal repository, as an answer
-pub kernel_alike : {E : Type 0} (pool : Interned) (limit : ℕ) (hold : Bool) (R S : Repository) → R ≡ S → (result : Result (Option Kernel) E) → IfOk result (IsKernelAt pool limit hold R) → IfOk result (IsKernelAt pool limit hold S)
-kernel_alike pool limit hold R S same result made = subst (λ Q. IfOk result (IsKernelAt pool limit hold Q)) same made
 
 -- a kernel that was extracted beside known rows, or none
 some_passed : (o : Option PassedRound) → (o ≡ None → ⊥) → (passed : PassedRound) × (o ≡ Some passed)

@@ -1,14 +1,16 @@
 -- for the bodies of this crate alone
 -- What all mixes of two indexes are made of: the packages of the old one, and behind them those of the new one whose names differ.
-use Rattle.std.specs.{Prelude.{◌≡◌, ℕ, ◌≤◌, Bool, false, List, ◌++◌, length, map, Option, Some, None}, List.{items_where_true}, Option.{ForSome}}
+use Rattle.std.specs.{Prelude.{◌≡◌, ℕ, ◌≤◌, Bool, false, List, ◌++◌, map, Option, Some, None}, Global.{Vec}, List.{items_where_true}, Option.{ForSome}}
+use Rattle.clause_flatten.specs.Beside.{AreKnown}
 use Rattle.clause_pool.specs.Interned.{Interned}
 use Rattle.kernel_rounds.specs.declared.extraction.Kernel.{Kernel}
 use Rattle.relation_fields.specs.declared.packages.PackageFacts.{PackageFacts}
 use Rattle.repo_model.specs.{Limits.{most_packages}, Repository.{suite_repository}}
-use Rattle.row_book.specs.{declared.book.Book.{Book}, Repository.{Repository}, Rounds.{PassedRound, limit_at}}
-use Rattle.suite_compare.specs.{Bearers.{bearers_of}, Views.{IsBookOf, IsKernelOf}, declared.sides.OldSide.{OldSide}}
-use Rattle.suite_part.specs.{declared.base.Base.{Base}, Bases.{IsBase}}
-use Rattle.migrate_plan.specs.{Differing.{differing}, Mix.{is_taken}, Notes.{AreTexts, Texts}, Refusals.{packages_with}, declared.whole.Whole.{Whole}}
+use Rattle.row_book.specs.{Book.{repository_of, Sound}, declared.book.Book.{Book}, Repository.{Repository}, Rounds.{PassedRound, limit_at}}
+use Rattle.suite_compare.specs.{Bearers.{bearers_of}, Known.{AreKnownPairs}, Views.{IsBookOf, IsKernelOf}, declared.sides.OldSide.{OldSide}}
+use Rattle.suite_part.specs.{declared.base.Base.{Base}, Bases.{IsBase}, Parts.{part}}
+use Rattle.migrate_plan.specs.{Differing.{differing}, Mix.{is_taken}, Notes.{AreTexts, Texts}, Refusals.{packages_with}, declared.carried.Carried.{Carried}}
+use Rattle.migrate_plan.specs.declared.whole.Whole.{Whole}
 
 -- the names that differ between the two indexes
 abbrev pub names_between : OldSide → Whole → List (List ℕ)
@@ -22,10 +24,9 @@ AreTextsOf texts old whole = AreTexts texts old.view.now.suite whole.old_notes.n
 abbrev pub packages_of_both : OldSide → Whole → List PackageFacts
 packages_of_both old whole = old.view.now.suite.packages ++ items_where_true whole.added.items whole.new.now.packages
 
--- what is known of the part that the old packages make, at the limit of the old view without hold
-pub record IsOldBase (old : OldSide) (pool : Interned) (book : Book) (base : Base) : Type 0 where
+-- what is known of a part of a book, at the limit of the old view, which is without hold
+pub record IsBaseFor (old : OldSide) (pool : Interned) (book : Book) (base : Base) : Type 0 where
   pub hold_is : old.view.now.kernel.hold ≡ false
-  pub count_is : base.count ≡ length old.view.now.suite.packages
   pub limit_is : base.limit ≡ old.view.now.limit
   pub base_is : IsBase pool book base
 
@@ -35,7 +36,6 @@ pub record IsWhole (old : OldSide) (whole : Whole) : Type 0 where
   pub added_are : whole.added.items ≡ map (λ facts. is_taken (names_between old whole) facts.name) whole.new.now.packages
   pub book_is : IsBookOf whole.pool whole.book (suite_repository whole.home (packages_of_both old whole))
   pub named_are : whole.named.items ≡ bearers_of (packages_of_both old whole) old.names
-  pub base_is : ForSome whole.base (IsOldBase old whole.pool whole.book)
 
 -- the kernel of a repository at a clause limit, with hold or without, or none where it passes the limit
 pub record IsKernelMade (pool : Interned) (limit : ℕ) (hold : Bool) (R : Repository) (made : Kernel) : Type 0 where
@@ -46,3 +46,18 @@ pub record IsKernelMade (pool : Interned) (limit : ℕ) (hold : Bool) (R : Repos
 abbrev pub IsKernelAt : Interned → ℕ → Bool → Repository → Option Kernel → Type 0
 IsKernelAt pool limit hold R (Some made) = IsKernelMade pool limit hold R made
 IsKernelAt pool limit hold R None = (passed : PassedRound) × (limit_at limit hold R ≡ Some passed)
+
+-- what is handed on from mix to mix: what is known of a part of the whole, and of pairs
+pub record IsCarried (old : OldSide) (whole : Whole) (carried : Carried) : Type 0 where
+  pub base_is : ForSome carried.base (IsBaseFor old whole.pool whole.book)
+  pub known_are : ForSome carried.known AreKnownPairs
+
+-- rows that are known of the part of a whole are those of its packages over the core without hold, and none of them passes the limit
+abbrev pub AreKnownIn : Interned → ℕ → Whole → List Bool → Option (Vec (Option ℕ)) → Type 0
+AreKnownIn pool limit whole flags known = ForSome known (λ rows. AreKnown pool limit (part flags (repository_of whole.pool whole.book)) rows.items)
+
+-- for every old side: if the base before is one of the whole, and the known rows are those of the part, then the base after, if there is
+-- one, is one of the whole too
+abbrev pub StaysBase : Interned → Whole → List Bool → Option (Vec (Option ℕ)) → Option Base → Option Base → Type 0
+StaysBase pool whole flags known before after = (old : OldSide) → Sound whole.pool whole.book → AreKnownIn pool old.view.now.limit whole flags known
+    → ForSome before (IsBaseFor old whole.pool whole.book) → ForSome after (IsBaseFor old whole.pool whole.book)

@@ -2,6 +2,7 @@
 #![tactic(auto)]
 
 mod alike;
+mod carried;
 mod checks;
 mod differing;
 mod flags;

@@ -1,18 +1,19 @@
 //! Makes a plan: which names of a newer index can be taken over into an older one.
-ghost use Rattle.std.specs.{Prelude.{◌≡◌, ◌<◌, ◌≤◌, ◌++◌, ◌∷◌, ℕ, List, [], None, length, map, IfOk, IfErr, OnOk}, Option.{ForSome}};
+ghost use Rattle.std.specs.Prelude.{◌≡◌, ◌<◌, ◌≤◌, ◌++◌, ◌∷◌, ℕ, List, [], None, length, map, IfOk, IfErr, OnOk};
 ghost use Rattle.clause_solver.specs.Outcomes.{IsBudget};
 ghost use Rattle.repo_model.specs.{Feeding.{IsSuiteOf}, Limits.{most_bytes, most_packages}};
 ghost use Rattle.listed.specs.Lists.{In};
 ghost use Rattle.migrate_plan.specs.{Differing.{differing}, Notes.{AreTexts, Texts}, Plan.{line_behind, lines_behind, plan, settings_of, taken_in}};
 ghost use Rattle.migrate_plan.specs.{Promises.{AreRight, MixesAreIndexes, TakesSafely, planned_name}, Refusals.{Refuses, packages_with, plan_refusal}};
-ghost use Rattle.migrate_plan.specs.{Whole.{names_between, AreTextsOf, IsWhole}, declared.plan.PlanLine.{PlanLine}};
-ghost use Rattle.suite_compare.specs.{Comparing.{IsOldSide}, Known.{AreKnownPairs}, Refusals.{packages_in}};
+ghost use Rattle.migrate_plan.specs.{Whole.{names_between, AreTextsOf, IsCarried, IsWhole}, declared.plan.PlanLine.{PlanLine}};
+ghost use Rattle.suite_compare.specs.{Comparing.{IsOldSide}, Refusals.{packages_in}};
 
+use crate::carried::{Carried, first_carried};
 use crate::checks::{check_homes, check_length, check_names, check_packages};
 use crate::differing::differing_names;
 use crate::mixing::{is_same_home, mix_with, suite_of};
 use crate::notes::TextNotes;
-use crate::parting::{Tried, flags_in, line_in};
+use crate::parting::{flags_in, line_in};
 use crate::plan::{Plan, PlanLine, PlanList};
 use crate::refusals::PlanError;
 use crate::trying::line_of;
@@ -20,7 +21,7 @@ use crate::whole::{Whole, whole_of};
 use deb_version::Bytes;
 use repo_model::Suite;
 use std::alloc::{AllocError, Global};
-use suite_compare::{KnownPairs, OldSide, SuiteView};
+use suite_compare::{OldSide, SuiteView};
 
 /// Which of the names that differ can be taken over from a new index into an old one: each in turn, ascending by bytes, where
 /// the mix of the two with it and the names taken before is within the clause limit, and breaks nothing of the old index and
@@ -152,13 +153,39 @@ fn lines_beside(
     ensures { let settings = settings_of old.now.budget old.now.view.now.limit old.now.view.now.kernel.hold in
         IfOk result (λ lines. (texts : Texts) → AreTextsOf texts old.now whole.now → lines ≡ lines_behind (line_behind settings texts.old texts.new) [] names.now) }
 {
+    let mut carried = first_carried(alloc, old, whole)?;
+    let lines = lines_after(alloc, old, whole, names, &mut carried);
+    drop(carried);
+    lines
+}
+
+// The same, by what is handed on from mix to mix.
+fn lines_after(
+    alloc: Global,
+    old: &OldSide,
+    whole: &Whole,
+    names: &[Bytes],
+    carried: &mut Carried,
+) -> Result<PlanList, AllocError>
+    requires side { IsOldSide old.now }
+    requires whole { IsWhole old.now whole.now }
+    requires names { names.now ≡ names_between old.now whole.now }
+    requires limit { 0 < old.now.view.now.limit }
+    requires carried { IsCarried old.now whole.now carried.old }
+    ensures { let settings = settings_of old.now.budget old.now.view.now.limit old.now.view.now.kernel.hold in
+        IfOk result (λ lines. (texts : Texts) → AreTextsOf texts old.now whole.now → lines ≡ lines_behind (line_behind settings texts.old texts.new) [] names.now) }
+{
     let mut lines = PlanList::new(alloc);
     let mut taken = Vec::new(alloc);
-    let mut known = None;
     for name in names {
-        let tried = try_name(alloc, old, whole, taken.as_slice(), name.as_slice(), known)?;
-        let Tried { line, known: more } = tried;
-        known = more;
+        let line = try_name(
+            alloc,
+            old,
+            whole,
+            taken.as_slice(),
+            name.as_slice(),
+            carried,
+        )?;
         put_taken(alloc, &mut taken, &line)?;
         lines.push(line)?;
     }
@@ -172,18 +199,18 @@ fn try_name(
     whole: &Whole,
     taken: &[Bytes],
     name: &[u8],
-    known: Option<KnownPairs>,
-) -> Result<Tried, AllocError>
+    carried: &mut Carried,
+) -> Result<PlanLine, AllocError>
     requires side { IsOldSide old.now }
     requires whole { IsWhole old.now whole.now }
     requires taken { (other : List ℕ) → In other taken.now → In other (names_between old.now whole.now) }
     requires name { In name.now (names_between old.now whole.now) }
     requires limit { 0 < old.now.view.now.limit }
-    requires known { ForSome known AreKnownPairs }
-    ensures named { IfOk result (λ tried. planned_name tried.line ≡ name.now) }
+    requires carried { IsCarried old.now whole.now carried.old }
+    ensures named { IfOk result (λ line. planned_name line ≡ name.now) }
     ensures line { let settings = settings_of old.now.budget old.now.view.now.limit old.now.view.now.kernel.hold in
-        IfOk result (λ tried. (texts : Texts) → AreTextsOf texts old.now whole.now → (lines : List PlanLine) → taken.now ≡ taken_in lines → tried.line ≡ line_behind settings texts.old texts.new lines name.now) }
-    ensures known { IfOk result (λ tried. ForSome tried.known AreKnownPairs) }
+        IfOk result (λ line. (texts : Texts) → AreTextsOf texts old.now whole.now → (lines : List PlanLine) → taken.now ≡ taken_in lines → line ≡ line_behind settings texts.old texts.new lines name.now) }
+    ensures carried { OnOk result (IsCarried old.now whole.now carried.new) }
 {
     let suite = &old.view.suite;
     let mix = mix_with(
@@ -197,13 +224,13 @@ fn try_name(
     )?;
     if is_same_home(&mix.home, &whole.home) {
         let flags = flags_in(alloc, &mix.left, &mix.kept, &whole.added)?;
-        let tried = line_in(alloc, old, whole, flags, name, known)?;
-        return Ok(tried);
+        let found = line_in(alloc, old, whole, flags, name, carried)?;
+        return Ok(found);
     }
     // Where no package is left that tells the architecture, other packages meet each other than in the whole.
     let made = suite_of(alloc, suite, whole.new, mix)?;
     let line = line_of(alloc, old, made, name)?;
-    Ok(Tried { line, known })
+    Ok(line)
 }
 
 // Puts the name of a line behind those that are taken, where the line takes it.

@@ -1,25 +1,25 @@
 //! The line of a name by the packages of its mix, as a part of those that all mixes are made of.
-ghost use Rattle.std.specs.{Prelude.{◌≡◌, ◌<◌, ◌++◌, ℕ, List, None, false, length, map, IfOk}, List.{items_where_true}, Option.{ForSome}};
+ghost use Rattle.std.specs.{Prelude.{◌≡◌, ◌<◌, ◌++◌, ℕ, List, None, false, length, map, IfOk, OnOk}, List.{items_where_true}, Option.{ForSome}};
 ghost use Rattle.clause_pool.specs.Interned.{IsPool};
 ghost use Rattle.listed.specs.Lists.{In};
 ghost use Rattle.repo_model.specs.Repository.{suite_repository};
 ghost use Rattle.row_book.specs.Book.{repository_of, Sound};
-ghost use Rattle.suite_compare.specs.{Comparing.{IsOldSide}, Known.{AreKnownPairs}, Report.{first_told}, declared.report.ReportLine.{ReportLine}};
-ghost use Rattle.suite_compare.specs.Views.{IsKernelOf};
+ghost use Rattle.suite_compare.specs.{Comparing.{IsOldSide}, Known.{AreKnownPairs}, Report.{first_told}, Views.{IsKernelOf}};
 ghost use Rattle.suite_part.specs.{Bases.{IsBase}, Parts.{chosen_in, part}};
-ghost use Rattle.migrate_plan.specs.{Plan.{outcome_of, settings_of}, Trying.{outcome_by, told_of}, Whole.{packages_of_both, IsKernelAt, IsWhole}};
-ghost use Rattle.migrate_plan.specs.declared.plan.PlanLine.TheVariants.{LeftLimit};
+ghost use Rattle.migrate_plan.specs.{Plan.{outcome_of, settings_of}, Trying.{outcome_by, told_of}};
+ghost use Rattle.migrate_plan.specs.Whole.{packages_of_both, AreKnownIn, IsBaseFor, IsCarried, IsKernelAt, IsWhole};
 
+use crate::carried::{Carried, put_base};
 use crate::plan::PlanLine;
 use crate::trying::line_by_first;
 use crate::whole::Whole;
-use clause_pool::{NumList, Pool};
+use clause_pool::{NumList, Pool, RowId};
 use deb_version::Bytes;
 use kernel_rounds::{Kernel, RoundError, extract, extract_beside};
 use listed::Listed;
 use row_book::Book;
 use std::alloc::{AllocError, Global};
-use suite_compare::{FirstLine, KnownPairs, OldSide, first_line_by};
+use suite_compare::{FirstLine, KnownPairs, OldSide, ReportLine, first_line_by};
 use suite_part::{Base, Chosen, known_apart, part_of};
 
 /// For each package of a whole whether it is in a mix: those of the old suite come first, and of the new one only those that were added.
@@ -43,15 +43,6 @@ pub(crate) fn flags_in(
     Ok(flags)
 }
 
-/// What becomes of a name, and what is known of pairs then.
-#[derive(Drop)]
-pub(crate) struct Tried {
-    /// The line of the name.
-    pub(crate) line: PlanLine,
-    /// What is known of pairs, for the mixes of later names.
-    pub(crate) known: Option<KnownPairs>,
-}
-
 /// The line of a name whose mix has those packages of the whole whose flags are up.
 pub(crate) fn line_in(
     alloc: Global,
@@ -59,77 +50,109 @@ pub(crate) fn line_in(
     whole: &Whole,
     flags: Vec<bool>,
     name: &[u8],
-    known: Option<KnownPairs>,
-) -> Result<Tried, AllocError>
+    carried: &mut Carried,
+) -> Result<PlanLine, AllocError>
     requires side { IsOldSide old.now }
     requires limit { 0 < old.now.view.now.limit }
     requires whole { IsWhole old.now whole.now }
     requires flags { length flags.items ≡ length (packages_of_both old.now whole.now) }
-    requires known { ForSome known AreKnownPairs }
+    requires carried { IsCarried old.now whole.now carried.old }
     ensures line { let before = old.now.view.now in let settings = settings_of old.now.budget before.limit before.kernel.hold in
-        IfOk result (λ tried. tried.line ≡ outcome_by settings before.suite.home before.suite.packages whole.now.home (items_where_true flags.items (packages_of_both old.now whole.now)) name.now) }
-    ensures known { IfOk result (λ tried. ForSome tried.known AreKnownPairs) }
+        IfOk result (λ line. line ≡ outcome_by settings before.suite.home before.suite.packages whole.now.home (items_where_true flags.items (packages_of_both old.now whole.now)) name.now) }
+    ensures carried { OnOk result (IsCarried old.now whole.now carried.new) }
 {
     let chosen = Chosen::of(alloc, flags)?;
     let mut pool = Pool::new(alloc)?;
-    let made = kernel_in(alloc, &mut pool, old, whole, &chosen)?;
-    match made {
+    let made = kernel_in(alloc, &mut pool, old, whole, &chosen, &carried.base)?;
+    let MixKernel { kernel, rows } = made;
+    match kernel {
         Some(kernel) => {
-            let first = first_in(alloc, old, whole, &chosen, &pool, &kernel, known);
-            drop(kernel);
-            tried_by(alloc, name, first)
+            let told = told_by(
+                alloc,
+                old,
+                whole,
+                &chosen,
+                &pool,
+                kernel,
+                &mut carried.known,
+            )?;
+            let line = line_by_first(alloc, name, told)?;
+            put_base(
+                alloc,
+                &mut carried.base,
+                &line,
+                &pool,
+                &rows,
+                whole,
+                &chosen,
+            )?;
+            Ok(line)
         }
-        None => tried_over(alloc, name, known),
+        None => {
+            let name = Bytes::copy(alloc, name)?;
+            Ok(PlanLine::LeftLimit { name })
+        }
     }
 }
 
-// What becomes of a name by the first line that is told of its mix.
-fn tried_by(
+// The first line that is told of a mix, by its kernel.
+fn told_by(
     alloc: Global,
-    name: &[u8],
-    first: Result<FirstLine, AllocError>,
-) -> Result<Tried, AllocError>
-    requires known { IfOk first (λ made. ForSome made.known AreKnownPairs) }
-    ensures line { (lines : List ReportLine) → IfOk first (λ made. made.line ≡ first_told lines) → IfOk result (λ tried. tried.line ≡ outcome_of name.now None lines) }
-    ensures known { IfOk result (λ tried. ForSome tried.known AreKnownPairs) }
+    old: &OldSide,
+    whole: &Whole,
+    chosen: &Chosen,
+    pool: &Pool,
+    kernel: Kernel,
+    known: &mut Option<KnownPairs>,
+) -> Result<Option<ReportLine>, AllocError>
+    requires side { IsOldSide old.now }
+    requires hold { kernel.hold ≡ old.now.view.now.kernel.hold }
+    requires kernel { IsKernelOf pool.now kernel old.now.view.now.limit (suite_repository whole.now.home (items_where_true chosen.now.flags.items (packages_of_both old.now whole.now))) }
+    requires whole { IsWhole old.now whole.now }
+    requires flags { length chosen.now.flags.items ≡ length (packages_of_both old.now whole.now) }
+    requires known { ForSome known.old AreKnownPairs }
+    ensures told { let before = old.now.view.now in let settings = settings_of old.now.budget before.limit before.kernel.hold in
+        IfOk result (λ told. told ≡ first_told (told_of settings before.suite.home before.suite.packages whole.now.home (items_where_true chosen.now.flags.items (packages_of_both old.now whole.now)))) }
+    ensures known { OnOk result (ForSome known.new AreKnownPairs) }
 {
-    let FirstLine { line: told, known } = first?;
-    let line = line_by_first(alloc, name, told)?;
-    Ok(Tried { line, known })
+    let first = first_in(alloc, old, whole, chosen, pool, &kernel, known.take());
+    drop(kernel);
+    let FirstLine { line, known: more } = first?;
+    *known = more;
+    Ok(line)
 }
 
-// What becomes of a name whose mix passes the clause limit.
-fn tried_over(alloc: Global, name: &[u8], known: Option<KnownPairs>) -> Result<Tried, AllocError>
-    requires known { ForSome known AreKnownPairs }
-    ensures line { IfOk result (λ tried. tried.line ≡ LeftLimit name.now) }
-    ensures known { IfOk result (λ tried. ForSome tried.known AreKnownPairs) }
-{
-    let name = Bytes::copy(alloc, name)?;
-    let line = PlanLine::LeftLimit { name };
-    Ok(Tried { line, known })
+// The kernel of a mix, none where it passes the clause limit, and the rows of its packages that are known, if there was a base.
+#[derive(Drop)]
+struct MixKernel {
+    kernel: Option<Kernel>,
+    rows: Option<Vec<Option<RowId>>>,
 }
 
-// The kernel of the chosen packages of a whole, at the limit and hold of the old view; none where it passes the clause limit.
+// The kernel of the chosen packages of a whole, at the limit and hold of the old view.
 fn kernel_in(
     alloc: Global,
     pool: &mut Pool,
     old: &OldSide,
     whole: &Whole,
     chosen: &Chosen,
-) -> Result<Option<Kernel>, AllocError>
+    base: &Option<Base>,
+) -> Result<MixKernel, AllocError>
     requires pool { IsPool pool.old }
     requires limit { 0 < old.now.view.now.limit }
     requires whole { IsWhole old.now whole.now }
     requires flags { length chosen.now.flags.items ≡ length (packages_of_both old.now whole.now) }
-    ensures { IfOk result (IsKernelAt pool.new old.now.view.now.limit old.now.view.now.kernel.hold (suite_repository whole.now.home (items_where_true chosen.now.flags.items (packages_of_both old.now whole.now)))) }
+    requires base { ForSome base.now (IsBaseFor old.now whole.now.pool whole.now.book) }
+    ensures kernel { IfOk result (λ made. IsKernelAt pool.new old.now.view.now.limit old.now.view.now.kernel.hold (suite_repository whole.now.home (items_where_true chosen.now.flags.items (packages_of_both old.now whole.now))) made.kernel) }
+    ensures rows { IfOk result (λ made. AreKnownIn pool.new old.now.view.now.limit whole.now chosen.now.flags.items made.rows) }
 {
     let book = part_of(alloc, pool, &whole.pool, &whole.book, chosen)?;
-    let made = kernel_by(alloc, pool, &book, old, whole, chosen);
+    let made = kernel_by(alloc, pool, &book, old, whole, chosen, base);
     drop(book);
     made
 }
 
-// The kernel of the book of the chosen packages of a whole; none where it passes the clause limit.
+// The same, by the book of the chosen packages.
 fn kernel_by(
     alloc: Global,
     pool: &mut Pool,
@@ -137,24 +160,27 @@ fn kernel_by(
     old: &OldSide,
     whole: &Whole,
     chosen: &Chosen,
-) -> Result<Option<Kernel>, AllocError>
+    base: &Option<Base>,
+) -> Result<MixKernel, AllocError>
     requires book { Sound pool.old book.now }
     requires limit { 0 < old.now.view.now.limit }
     requires whole { IsWhole old.now whole.now }
     requires flags { length chosen.now.flags.items ≡ length whole.now.book.rows }
     requires part { repository_of pool.old book.now ≡ part chosen.now.flags.items (repository_of whole.now.pool whole.now.book) }
-    ensures { IfOk result (IsKernelAt pool.new old.now.view.now.limit old.now.view.now.kernel.hold (repository_of pool.old book.now)) }
+    requires base { ForSome base.now (IsBaseFor old.now whole.now.pool whole.now.book) }
+    ensures kernel { IfOk result (λ made. IsKernelAt pool.new old.now.view.now.limit old.now.view.now.kernel.hold (repository_of pool.old book.now) made.kernel) }
+    ensures rows { IfOk result (λ made. AreKnownIn pool.new old.now.view.now.limit whole.now chosen.now.flags.items made.rows) }
 {
     let limit = old.view.limit;
-    if let Some(base) = &whole.base {
+    if let Some(base) = base {
         let made = kernel_beside(alloc, pool, book, whole, base, chosen, limit)?;
         return Ok(made);
     }
-    kernel_of(alloc, pool, book, limit, old.view.kernel.hold)
+    let kernel = kernel_of(alloc, pool, book, limit, old.view.kernel.hold)?;
+    Ok(MixKernel { kernel, rows: None })
 }
 
-// The kernel of the book of the chosen packages of a whole, where rows of those that stay as they are in the old suite are known; none
-// where it passes the clause limit.
+// The kernel of the book of the chosen packages of a whole, where rows of those that stay as they are in the part of a base are known.
 fn kernel_beside(
     alloc: Global,
     pool: &mut Pool,
@@ -163,7 +189,7 @@ fn kernel_beside(
     base: &Base,
     chosen: &Chosen,
     limit: u32,
-) -> Result<Option<Kernel>, AllocError>
+) -> Result<MixKernel, AllocError>
     requires book { Sound pool.old book.now }
     requires limit { 0 < limit }
     requires whole { Sound whole.now.pool whole.now.book }
@@ -171,12 +197,16 @@ fn kernel_beside(
     requires same { base.now.limit ≡ limit }
     requires flags { length chosen.now.flags.items ≡ length whole.now.book.rows }
     requires part { repository_of pool.old book.now ≡ part chosen.now.flags.items (repository_of whole.now.pool whole.now.book) }
-    ensures { IfOk result (IsKernelAt pool.new limit false (repository_of pool.old book.now)) }
+    ensures kernel { IfOk result (λ made. IsKernelAt pool.new limit false (repository_of pool.old book.now) made.kernel) }
+    ensures rows { IfOk result (λ made. AreKnownIn pool.new limit whole.now chosen.now.flags.items made.rows) }
 {
     let old_rows = base.known_rows(alloc, pool, &whole.book, chosen)?;
     let known = known_apart(alloc, pool, book, limit, old_rows)?;
-    let made = extract_beside(alloc, pool, book, limit, &known)?;
-    Ok(made)
+    let kernel = extract_beside(alloc, pool, book, limit, &known)?;
+    Ok(MixKernel {
+        kernel,
+        rows: Some(known),
+    })
 }
 
 // The kernel of a book; none where it passes the clause limit.

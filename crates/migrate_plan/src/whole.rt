@@ -1,9 +1,8 @@
 //! What all mixes of two indexes are made of, so that no mix is read, numbered and looked up anew.
-ghost use Rattle.std.specs.{Prelude.{◌≡◌, ◌<◌, ◌++◌, ◌≤◌, ◌+◌, length, replicate, true, IfOk}, List.{items_where_true}, Option.{ForSome}};
+ghost use Rattle.std.specs.{Prelude.{◌≡◌, ◌++◌, ◌≤◌, ◌+◌, length, replicate, true, IfOk}, List.{items_where_true}};
 ghost use Rattle.repo_model.specs.{Limits.{most_packages}, Repository.{suite_repository}};
-ghost use Rattle.row_book.specs.Book.{Sound};
 ghost use Rattle.suite_compare.specs.{Bearers.{bearers_of}, Views.{IsBookOf}};
-ghost use Rattle.migrate_plan.specs.{Differing.{differing}, Refusals.{packages_with}, Whole.{IsOldBase, IsWhole}};
+ghost use Rattle.migrate_plan.specs.{Differing.{differing}, Refusals.{packages_with}, Whole.{IsWhole}};
 
 use crate::flags::taken_flags;
 use crate::notes::TextNotes;
@@ -14,7 +13,6 @@ use repo_model::Suite;
 use row_book::Book;
 use std::alloc::{AllocError, Global};
 use suite_compare::{OldSide, bearers_of};
-use suite_part::Base;
 
 /// Two indexes, and all packages that mixes of them have: those of the old one, and behind them those of the new one whose names
 /// differ.
@@ -36,8 +34,6 @@ pub(crate) struct Whole<'a> {
     pub(crate) book: Book,
     /// For each name of the old suite those of them that bear it.
     pub(crate) named: Vec<NumList>,
-    /// What is known of the part that the old packages make, without hold.
-    pub(crate) base: Option<Base>,
 }
 
 /// What all mixes of an old and a new index are made of.
@@ -51,7 +47,6 @@ pub(crate) fn whole_of<'a>(
 ) -> Result<Whole<'a>, AllocError>
     requires names { names.now ≡ differing old.now.view.now.suite.packages new.now.packages }
     requires few { packages_with old.now.view.now.suite.packages new.now.packages names.now ≤ most_packages }
-    requires limit { 0 < old.now.view.now.limit }
     ensures old { IfOk result (λ whole. whole.old_notes.now ≡ old_notes.now) }
     ensures new { IfOk result (λ whole. whole.new_notes.now ≡ new_notes.now) }
     ensures suite { IfOk result (λ whole. whole.new.now ≡ new.now) }
@@ -63,7 +58,6 @@ pub(crate) fn whole_of<'a>(
     let numbered = numbered_of(alloc, old, &suite)?;
     drop(suite);
     let Numbered { pool, book, named } = numbered;
-    let base = base_of(alloc, old, &pool, &book)?;
     Ok(Whole {
         old_notes,
         new_notes,
@@ -73,28 +67,7 @@ pub(crate) fn whole_of<'a>(
         pool,
         book,
         named,
-        base,
     })
-}
-
-// What is known of the part that the old packages make. With hold a package may stay for what others name, so that no part can be
-// flattened by itself.
-fn base_of(
-    alloc: Global,
-    old: &OldSide,
-    pool: &Pool,
-    book: &Book,
-) -> Result<Option<Base>, AllocError>
-    requires book { Sound pool.now book.now }
-    requires count { length old.now.view.now.suite.packages ≤ length book.now.rows }
-    requires limit { 0 < old.now.view.now.limit }
-    ensures { IfOk result (λ base. ForSome base (IsOldBase old.now pool.now book.now)) }
-{
-    if old.view.kernel.hold {
-        return Ok(None);
-    }
-    let base = Base::of(alloc, pool, book, old.view.suite.count(), old.view.limit)?;
-    Ok(base)
 }
 
 // What is made of all packages that mixes have: their repository over a pool, and those that bear each old name.

@@ -21,7 +21,7 @@ line_in-requires-clause-flags c =
     _ (packages_of_both c.args.old.now whole) (rw (c.deref.ensures.value, c.deref-then-is_same_home.ensures.value, c.deref-then-is_same_home-2.ensures.value) at c.in_ok-flags.ensures) refl
 
 pub returns-then-is_same_home-clause-named : goal.returns-then-is_same_home-clause-named
-returns-then-is_same_home-clause-named c = ap planned_name c.in_ok-tried.ensures.line ∙ outcome_name c.args.name.now _ _
+returns-then-is_same_home-clause-named c = ap planned_name c.in_ok-found.ensures.line ∙ outcome_name c.args.name.now _ _
 
 pub returns-then-is_same_home-clause-line : goal.returns-then-is_same_home-clause-line
 returns-then-is_same_home-clause-line c =
@@ -33,10 +33,10 @@ returns-then-is_same_home-clause-line c =
     let is = mix_in_whole view.suite.packages whole.new.now.packages (names_between c.args.old.now whole) names _ _ _
     (all_inside c.args.taken.now (names_between c.args.old.now whole) c.args.name.now c.requires.taken c.requires.name) c.in_ok-mix.ensures.left c.in_ok-mix.ensures.kept c.requires.whole.added_are
     flags (packages_of_both c.args.old.now whole) (rw (c.deref.ensures.value, c.deref-then-is_same_home.ensures.value, c.deref-then-is_same_home-2.ensures.value) at c.in_ok-flags.ensures) refl in
-    λ texts are. behind_made (settings_of c.args.old.now.budget view.limit view.kernel.hold) texts.old texts.new c.args.name.now c.args.taken.now view.suite.home whole.home view.suite.packages packages c.in_ok-tried.tried.line
+    λ texts are. behind_made (settings_of c.args.old.now.budget view.limit view.kernel.hold) texts.old texts.new c.args.name.now c.args.taken.now view.suite.home whole.home view.suite.packages packages c.in_ok-found.found
     are.old_is
     (packages_mixed view.suite.packages whole.new.now.packages names _ _ c.in_ok-mix.ensures.left c.in_ok-mix.ensures.kept texts.old texts.new view.suite.home.name whole.new.now.home.name packages are.old_is are.new_is is)
-    (sym (rw c.if-is_same_home.true at c.is_same_home.ensures) ∙ c.in_ok-mix.ensures.home texts are) c.in_ok-tried.ensures.line
+    (sym (rw c.if-is_same_home.true at c.is_same_home.ensures) ∙ c.in_ok-mix.ensures.home texts are) c.in_ok-found.ensures.line
 
 pub suite_of-requires-clause-left : goal.suite_of-requires-clause-left
 suite_of-requires-clause-left c =

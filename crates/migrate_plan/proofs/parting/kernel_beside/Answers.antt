@@ -1,9 +1,12 @@
-use Rattle.std.proofs.Common.{◌≡◌, ◌∙◌, false, sym, subst}
+use Rattle.std.proofs.{Common.{◌≡◌, ◌∙◌, Option, false, sym, subst, ℕ}, lemmas.Option.{same_Some}}
+use Rattle.std.specs.Global.{Vec}
+use Rattle.clause_flatten.specs.Beside.{AreKnown}
 use Rattle.row_book.specs.Book.{repository_of, Sound}
 use Rattle.row_book.proofs.Books.{repository_kept, sound_kept}
 use Rattle.suite_part.proofs.BaseMade.{base_fits}
+use Rattle.suite_part.specs.Parts.{part}
 use Rattle.migrate_plan.specs.Whole.{IsKernelAt}
-use Rattle.migrate_plan.proofs.Parted.{made_beside}
+use Rattle.migrate_plan.proofs.{Carrying.{known_kept}, Parted.{made_beside}}
 use Rattle.migrate_plan.proofs.parting.kernel_beside.Goals as goal
 
 pub known_rows-requires-clause-fits : goal.known_rows-requires-clause-fits
@@ -28,11 +31,21 @@ extract_beside-requires-clause-known c =
     let same : repository_of c.known_apart.new.pool c.args.book.now ≡ repository_of c.known_rows.new.pool c.args.book.now = repository_kept c.known_rows.new.pool c.known_apart.new.pool sound.rows.is_pool c.known_apart.ensures.kept c.args.book.now sound in
     rw (same, c.deref.ensures.value) c.in_ok-known.ensures.known
 
-pub returns : goal.returns
-returns c =
+pub returns-clause-kernel : goal.returns-clause-kernel
+returns-clause-kernel c =
     let sound : Sound c.known_rows.new.pool c.args.book.now = sound_kept c.args.pool.now c.known_rows.new.pool c.requires.book.rows.is_pool c.known_rows.ensures.kept c.args.book.now c.requires.book in
     let same : repository_of c.known_apart.new.pool c.args.book.now ≡ repository_of c.args.pool.now c.args.book.now =
     repository_kept c.known_rows.new.pool c.known_apart.new.pool sound.rows.is_pool c.known_apart.ensures.kept c.args.book.now sound
     ∙ repository_kept c.args.pool.now c.known_rows.new.pool c.requires.book.rows.is_pool c.known_rows.ensures.kept c.args.book.now c.requires.book in
-    subst (λ R. IsKernelAt c.extract_beside.new.pool c.args.limit false R c.in_ok-made.made) same
-    (made_beside _ _ c.args.limit _ c.in_ok-made.made c.in_ok-made.ensures.kernel c.in_ok-made.ensures.hold c.in_ok-made.ensures.passed)
+    subst (λ R. IsKernelAt c.extract_beside.new.pool c.args.limit false R c.in_ok-kernel.kernel) same
+    (made_beside _ _ c.args.limit _ c.in_ok-kernel.kernel c.in_ok-kernel.ensures.kernel c.in_ok-kernel.ensures.hold c.in_ok-kernel.ensures.passed)
+
+pub returns-clause-rows : goal.returns-clause-rows
+returns-clause-rows c = λ rows is.
+    let W = repository_of c.args.whole.now.pool c.args.whole.now.book in
+    let M = part c.args.chosen.now.flags.items W in
+    let sound : Sound c.known_rows.new.pool c.args.book.now = sound_kept c.args.pool.now c.known_rows.new.pool c.requires.book.rows.is_pool c.known_rows.ensures.kept c.args.book.now c.requires.book in
+    let same : repository_of c.known_rows.new.pool c.args.book.now ≡ M =
+    repository_kept c.args.pool.now c.known_rows.new.pool c.requires.book.rows.is_pool c.known_rows.ensures.kept c.args.book.now c.requires.book ∙ c.requires.part in
+    subst (λ (v : Vec (Option ℕ)). AreKnown c.extract_beside.new.pool c.args.limit M v.items) (same_Some _ rows is)
+    (known_kept c.known_apart.new.pool c.extract_beside.new.pool c.args.limit M _ (c.known_apart.ensures.kept.sound sound.rows.is_pool) c.extract_beside.ensures.kept (rw same at c.in_ok-known.ensures.known))

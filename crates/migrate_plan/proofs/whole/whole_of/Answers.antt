@@ -1,9 +1,9 @@
-use Rattle.std.proofs.{Common.{◌≡◌, ◌+◌, ◌++◌, ◌∙◌, ◌≤◌, ap, arith, length, map, subst}, lemmas.List.{length-append}}
+use Rattle.std.proofs.Common.{◌++◌, ◌∙◌, ◌≤◌, ap, map, subst}
 use Rattle.std.specs.List.{items_where_true}
 use Rattle.suite_compare.specs.Bearers.{bearers_of}
 use Rattle.repo_model.specs.Limits.{most_packages}
 use Rattle.migrate_plan.specs.{Mix.{is_taken}, Refusals.{packages_with}}
-use Rattle.migrate_plan.proofs.{MixedFacts.{few_whole}, Parted.{book_alike, book_long}}
+use Rattle.migrate_plan.proofs.{MixedFacts.{few_whole}, Parted.{book_alike}}
 use Rattle.migrate_plan.proofs.whole.whole_of.Goals as goal
 
 pub joined-requires-clause-few : goal.joined-requires-clause-few
@@ -22,15 +22,5 @@ returns-clause-whole c =
       few = subst (λ names. packages_with olds news names ≤ most_packages) c.requires.names c.requires.few;
       added_are = c.in_ok-added.ensures ∙ ap (λ names. map (λ facts. is_taken names facts.name) news) c.requires.names;
       book_is = book_alike made.pool made.book _ _ _ _ c.in_ok-suite.ensures.home packages c.in_ok-numbered.ensures.book;
-      base_is = c.in_ok-base.ensures;
       named_are = c.in_ok-numbered.ensures.named ∙ ap (λ ps. bearers_of ps c.args.old.now.names) packages;
     }
-
-pub base_of-requires-clause-count : goal.base_of-requires-clause-count
-base_of-requires-clause-count c =
-    let olds = c.args.old.now.view.now.suite.packages in
-    let news = items_where_true c.deref.result.now c.args.new.now.packages in
-    let made = c.in_ok-numbered.numbered in
-    let long : length made.book.rows ≡ length c.in_ok-suite.suite.packages = book_long made.pool made.book _ c.in_ok-suite.suite.packages c.in_ok-numbered.ensures.book in
-    let both : length c.in_ok-suite.suite.packages ≡ length olds + length news = ap length c.in_ok-suite.ensures.packages ∙ length-append olds news in
-    omega (arith, long, both)

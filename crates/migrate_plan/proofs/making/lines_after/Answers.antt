@@ -3,7 +3,7 @@ use Rattle.listed.specs.Lists.{In}
 use Rattle.listed.proofs.Lists.{In_at}
 use Rattle.migrate_plan.specs.{Plan.{line_behind, settings_of}, Whole.{names_between}}
 use Rattle.migrate_plan.proofs.Planned.{leads_all, leads_first, leads_more, taken_first, taken_more}
-use Rattle.migrate_plan.proofs.making.lines_beside.Goals as goal
+use Rattle.migrate_plan.proofs.making.lines_after.Goals as goal
 
 pub loop-name-init : goal.loop-name-init
 loop-name-init c =
@@ -11,7 +11,7 @@ loop-name-init c =
     record {
       takes = taken_first c.new-lines.result c.args.names.now c.new-taken.result.items c.new-lines.ensures c.new-taken.ensures.items;
       leads = λ texts are. leads_first (line_behind settings texts.old texts.new) c.args.names.now c.new-lines.result c.new-lines.ensures;
-      known = λ pairs is. absurd (cc is);
+      carried = c.requires.carried;
     }
 
 pub try_name-requires-clause-taken : goal.try_name-requires-clause-taken
@@ -24,9 +24,6 @@ try_name-requires-clause-name c =
     subst (λ n. In n (names_between c.args.old.now c.args.whole.now)) (sym c.as_slice-in-loop-name.ensures)
     (subst (In item) c.requires.names (subst (λ n. In n names) (sym c.name-item.is) (In_at names c.loop-name.name-index item c.loop-name-test.true)))
 
-pub try_name-requires-clause-known : goal.try_name-requires-clause-known
-try_name-requires-clause-known c = c.loop-name.invariant.known
-
 pub loop-name-preserved : goal.loop-name-preserved
 loop-name-preserved c =
     let settings = settings_of c.args.old.now.budget c.args.old.now.view.now.limit c.args.old.now.view.now.kernel.hold in
@@ -34,12 +31,12 @@ loop-name-preserved c =
     let item = c.name-item.result in
     let lines = c.loop-name.lines in
     record {
-      takes = taken_more lines c.push.new.self names c.loop-name.taken.items c.put_taken.new.taken.items item c.in_ok-tried.tried.line (subst (λ n. In n names) (sym c.name-item.is) (In_at names c.loop-name.name-index item c.loop-name-test.true))
-          (c.in_ok-tried.ensures.named ∙ c.as_slice-in-loop-name.ensures) c.in_ok-push.ensures.ok c.in_ok-put_taken.ensures c.loop-name.invariant.takes;
-      leads = λ texts are. leads_more (line_behind settings texts.old texts.new) names c.loop-name.name-index lines c.push.new.self item c.in_ok-tried.tried.line c.loop-name-test.true c.name-item.is
-          (c.in_ok-tried.ensures.line texts are lines (c.as_slice.ensures.value ∙ c.loop-name.invariant.takes.taken_is) ∙ ap (line_behind settings texts.old texts.new lines) c.as_slice-in-loop-name.ensures)
+      takes = taken_more lines c.push.new.self names c.loop-name.taken.items c.put_taken.new.taken.items item c.in_ok-line.line (subst (λ n. In n names) (sym c.name-item.is) (In_at names c.loop-name.name-index item c.loop-name-test.true))
+          (c.in_ok-line.ensures.named ∙ c.as_slice-in-loop-name.ensures) c.in_ok-push.ensures.ok c.in_ok-put_taken.ensures c.loop-name.invariant.takes;
+      leads = λ texts are. leads_more (line_behind settings texts.old texts.new) names c.loop-name.name-index lines c.push.new.self item c.in_ok-line.line c.loop-name-test.true c.name-item.is
+          (c.in_ok-line.ensures.line texts are lines (c.as_slice.ensures.value ∙ c.loop-name.invariant.takes.taken_is) ∙ ap (line_behind settings texts.old texts.new lines) c.as_slice-in-loop-name.ensures)
           c.in_ok-push.ensures.ok (c.loop-name.invariant.leads texts are);
-      known = c.in_ok-tried.ensures.known;
+      carried = c.in_ok-line.ensures.carried;
     }
 
 pub returns : goal.returns

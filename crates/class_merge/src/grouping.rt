@@ -16,17 +16,17 @@ pub(crate) struct Classes {
     pub(crate) class_of: Vec<u32>,
 }
 
-/// The row of a package and its conflicts.
-fn key_of(alloc: Global, book: &Book, number: u32) -> Result<Vec<u64>, AllocError>
+/// Puts the row of a package and its conflicts into the key, in the place of what it had.
+fn put_key(key: &mut Vec<u64>, book: &Book, number: u32) -> Result<(), AllocError>
     requires { number < length book.now.rows }
-    ensures { IfOk result (λ key. key.items ≡ key_of book.now number) }
+    ensures { OnOk result (key.new.items ≡ key_of book.now number) }
 {
-    let mut key = Vec::new(alloc);
+    key.clear();
     key.push(book.row(number).place() as u64)?;
     for other in book.against(number) {
         key.push(u64::from(*other))?;
     }
-    Ok(key)
+    Ok(())
 }
 
 /// The place of the key among those that were seen, behind which they are put where they are new; the package is then the
@@ -54,8 +54,9 @@ pub(crate) fn classes_of(alloc: Global, pool: &Pool, book: &Book) -> Result<Clas
     let mut seen = KeyTable::new(alloc);
     let mut firsts = Vec::new(alloc);
     let mut class_of = Vec::new(alloc);
+    let mut key = Vec::new(alloc);
     for number in 0..book.size() {
-        let key = key_of(alloc, book, number)?;
+        put_key(&mut key, book, number)?;
         let class = place_among(&mut seen, &mut firsts, number, key.as_slice())?;
         class_of.push(class as u32)?;
     }

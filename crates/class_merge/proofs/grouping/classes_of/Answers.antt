@@ -10,7 +10,7 @@ pub overflow_cast-class : goal.overflow_cast-class
 overflow_cast-class c =
     let l : c.loop-number.number < length c.args.book.now.rows = omega arith in
     let place : IsPlaceAmong c.loop-number.seen c.place_among.new.seen c.loop-number.firsts.items c.place_among.new.firsts.items c.loop-number.number (key_of c.args.book.now c.loop-number.number) c.in_ok-class.class =
-    subst (λ z. IsPlaceAmong c.loop-number.seen c.place_among.new.seen c.loop-number.firsts.items c.place_among.new.firsts.items c.loop-number.number z c.in_ok-class.class) (c.as_slice.ensures.value ∙ c.in_ok-key.ensures) c.in_ok-class.ensures in
+    subst (λ z. IsPlaceAmong c.loop-number.seen c.place_among.new.seen c.loop-number.firsts.items c.place_among.new.firsts.items c.loop-number.number z c.in_ok-class.class) (c.as_slice.ensures.value ∙ c.in_ok-put_key.ensures) c.in_ok-class.ensures in
     let made : GroupsSoFar c.args.pool.now c.args.book.now c.place_among.new.seen c.place_among.new.firsts.items (c.loop-number.class_of.items ++ c.in_ok-class.class ∷ []) (c.loop-number.number + 1) =
     group_more c.args.pool.now c.args.book.now c.requires.rows.is_pool c.requires c.loop-number.seen c.place_among.new.seen c.loop-number.firsts.items c.place_among.new.firsts.items c.loop-number.class_of.items (c.loop-number.class_of.items ++ c.in_ok-class.class ∷ []) c.loop-number.number c.in_ok-class.class
     c.loop-number.invariant l place refl in
@@ -23,7 +23,7 @@ pub loop-number-preserved : goal.loop-number-preserved
 loop-number-preserved c =
     let l : c.loop-number.number < length c.args.book.now.rows = omega arith in
     let place : IsPlaceAmong c.loop-number.seen c.place_among.new.seen c.loop-number.firsts.items c.place_among.new.firsts.items c.loop-number.number (key_of c.args.book.now c.loop-number.number) c.in_ok-class.class =
-    subst (λ z. IsPlaceAmong c.loop-number.seen c.place_among.new.seen c.loop-number.firsts.items c.place_among.new.firsts.items c.loop-number.number z c.in_ok-class.class) (c.as_slice.ensures.value ∙ c.in_ok-key.ensures) c.in_ok-class.ensures in
+    subst (λ z. IsPlaceAmong c.loop-number.seen c.place_among.new.seen c.loop-number.firsts.items c.place_among.new.firsts.items c.loop-number.number z c.in_ok-class.class) (c.as_slice.ensures.value ∙ c.in_ok-put_key.ensures) c.in_ok-class.ensures in
     group_more c.args.pool.now c.args.book.now c.requires.rows.is_pool c.requires c.loop-number.seen c.place_among.new.seen c.loop-number.firsts.items c.place_among.new.firsts.items c.loop-number.class_of.items c.push.new.self.items c.loop-number.number c.in_ok-class.class
     c.loop-number.invariant l place c.in_ok-push.ensures.items
 

@@ -23,12 +23,17 @@ map_none : {A B : Type 0} (f : A → B) (o : Option A) → option_map f o ≡ No
 map_none f None h = refl
 map_none f (Some x) h = absurd (let never : ⊥ = cc in never)
 
--- where no round passes the limit, the first one does not
-pub first_within : (limit : ℕ) (hold : Bool) (R : Repository) → limit_at limit hold R ≡ None → passes limit hold R ≡ None
+-- where no round passes the limit, none up to the last one does
+pub all_within : (limit : ℕ) (hold : Bool) (R : Repository) → limit_at limit hold R ≡ None →
+    (j : ℕ) → j ≤ round_count limit hold R → passes limit hold (rounds limit hold R j) ≡ None
 unfolding limit_at
-first_within limit hold R h =
-    map_none (in_round limit hold R 0) (passes limit hold R)
-    (each_none (passed_in_round limit hold R) (numbers (suc (round_count limit hold R)) 0) h 0 (numbers_from (suc (round_count limit hold R)) 0 0 zero-le (omega arith)))
+all_within limit hold R h j l =
+    map_none (in_round limit hold R j) (passes limit hold (rounds limit hold R j))
+    (each_none (passed_in_round limit hold R) (numbers (suc (round_count limit hold R)) 0) h j
+    (numbers_from (suc (round_count limit hold R)) 0 j zero-le (omega arith)))
+
+pub first_within : (limit : ℕ) (hold : Bool) (R : Repository) → limit_at limit hold R ≡ None → passes limit hold R ≡ None
+first_within limit hold R h = all_within limit hold R h 0 zero-le
 
 module _ (limit : ℕ) (hold : Bool) (R : Repository) (s : SoundRepository R) where
   fixed : round limit hold (kernel limit hold R) ≡ kernel limit hold R
@@ -42,11 +47,9 @@ module _ (limit : ℕ) (hold : Bool) (R : Repository) (s : SoundRepository R) wh
 
   -- the last round that the limit is asked of is the one over the kernel
   within : limit_at limit hold R ≡ None → limit_at limit hold (kernel limit hold R) ≡ None
-  unfolding limit_at
   within h =
       none_passed limit hold (kernel limit hold R) sound 0 (sym none) (λ j l. absurd (omega arith))
-      (map_none (in_round limit hold R (round_count limit hold R)) (passes limit hold (kernel limit hold R))
-      (each_none (passed_in_round limit hold R) (numbers (suc (round_count limit hold R)) 0) h (round_count limit hold R) (numbers_from (suc (round_count limit hold R)) 0 (round_count limit hold R) zero-le (omega arith))))
+      (all_within limit hold R h (round_count limit hold R) (omega arith))
 
 pub kernel_of_kernel_lem : KernelOfKernel
 kernel_of_kernel_lem limit hold R s = record {

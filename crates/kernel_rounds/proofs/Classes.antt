@@ -15,7 +15,7 @@ use Rattle.clause_flatten.proofs.TidyFlat.{flat_size}
 use Rattle.kernel_rounds.proofs.Tails.{round_size, round_sound, thin_tail}
 
 -- a round has a package for each class of the flattened repository, and stays sound
-sized : (limit : ℕ) (hold : Bool) → (R : Repository) → SoundRepository R → length (round limit hold R).clauses ≡ length (firsts (flat limit hold R))
+pub sized : (limit : ℕ) (hold : Bool) → (R : Repository) → SoundRepository R → length (round limit hold R).clauses ≡ length (firsts (flat limit hold R))
 unfolding round
 sized limit hold R s = round_size limit hold (λ R. thin (prune R)) thin_tail R s
 

@@ -9,6 +9,7 @@ pub mod Midways
 pub mod MovedSteps
 pub mod Compared
 mod Again
+mod Behind
 mod Descent
 mod Limits
 pub mod Classes

@@ -179,6 +179,10 @@ first_told limit hold old new book before next past idle steps changed is same s
       sound = w.sound;
     }
 
+pub map_map : (f g : ℕ → ℕ) (xs : List ℕ) → map f (map g xs) ≡ map (λ x. f (g x)) xs
+map_map f g [] = refl
+map_map f g (x ∷ xs) = ap (λ z. f (g x) ∷ z) (map_map f g xs)
+
 -- the classes of a list of classes
 classes_next : (limit : ℕ) (hold : Bool) → (R : Repository) → SoundRepository R → (i : ℕ) (classes next made : List ℕ) → classes ≡ map (class_after limit hold R i) (packages R) → next ≡ class_list (flat limit hold (rounds limit hold R i)) →
     made ≡ map (class_in next) classes → made ≡ map (class_after limit hold R (suc i)) (packages R)
@@ -188,10 +192,6 @@ classes_next limit hold R s i classes next made e f g =
     ∙ map_same (λ p. class_in (class_list (flat limit hold (rounds limit hold R i))) (class_after limit hold R i p)) (class_after limit hold R (suc i)) (packages R) (λ p j.
     class_at (flat limit hold (rounds limit hold R i)) (class_after limit hold R i p) (subst (λ z. class_after limit hold R i p < z) (sym (flat_size limit hold (rounds limit hold R i))) (class_within limit hold i R s p (of_packages R p j)))
     ∙ sym (class_last limit hold i R p))
-  where
-    map_map : (f g : ℕ → ℕ) (xs : List ℕ) → map f (map g xs) ≡ map (λ x. f (g x)) xs
-    map_map f g [] = refl
-    map_map f g (x ∷ xs) = ap (λ z. f (g x) ∷ z) (map_map f g xs)
 
 -- one round more
 pub midway_more : (limit : ℕ) (hold : Bool) (R : Repository) (start pool grown old new : Interned) (book made : Book) (classes next compose : List ℕ) (steps more : List Step) (number after : ℕ) →

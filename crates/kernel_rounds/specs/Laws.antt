@@ -1,7 +1,8 @@
 -- The laws of the rounds and of the kernel.
 use Rattle.std.specs.{Prelude.{◌≡◌, ℕ, ◌<◌, ◌≤◌, ◌+◌, ◌∷◌, ◌↔◌, Bool, true, false, not, ◌&&◌, List, [], length, filter, None}, List.{list_any}}
 use Rattle.row_book.specs.{Sets.{NumSet, Is}, Repository.{Repository, Coinst, clauses_of}, Sound.{OfPackages, SoundRepository}}
-use Rattle.row_book.specs.{Flattening.{core_of, flat, has_conflict, packages}, Support.{row}, Merging.{quotient}, Pruning.{prune}, Thinning.{thin}}
+use Rattle.row_book.specs.{Flattening.{core_of, flat, has_conflict, packages, passes}, Support.{row}, Merging.{class_of, quotient}, Pruning.{prune}}
+use Rattle.row_book.specs.Thinning.{thin}
 use Rattle.row_book.specs.Rounds.{round, rounds, enough_rounds, round_count, kernel, kernel_class, kernel_held, kernel_image, kernel_steps, limit_at, weigh, Settled}
 use Rattle.listed.specs.Lists.{In, has}
 use Rattle.clause_pool.specs.Lists.{Before, InOrder}
@@ -70,6 +71,16 @@ pub record HasImage (limit : ℕ) (hold : Bool) (R : Repository) (S : NumSet) (k
 
 abbrev pub ImageIsOfClasses : Type 0
 ImageIsOfClasses = (limit : ℕ) (hold : Bool) → (R : Repository) → SoundRepository R → (S : NumSet) → OfPackages R S → (k : ℕ) → (Is (kernel_image limit hold R S) k ↔ HasImage limit hold R S k)
+
+-- the kernel is that of what a round leaves, where each package has the class of its class, and no round passes the limit where the
+-- first does not and none behind it
+pub record IsBehindRound (limit : ℕ) (hold : Bool) (R : Repository) : Type 0 where
+  pub same : kernel limit hold (round limit hold R) ≡ kernel limit hold R
+  pub classes : (p : ℕ) → p < length R.clauses → kernel_class limit hold (round limit hold R) (class_of (flat limit hold R) p) ≡ kernel_class limit hold R p
+  pub within : (limit_at limit hold R ≡ None) ↔ ((passes limit hold R ≡ None) × (limit_at limit hold (round limit hold R) ≡ None))
+
+abbrev pub KernelBehindRound : Type 0
+KernelBehindRound = (limit : ℕ) (hold : Bool) → (R : Repository) → SoundRepository R → IsBehindRound limit hold R
 
 -- the kernel of a kernel, at the same limit and hold, is itself with the same held packages, with each package as its own class
 -- and without a step, and it passes no limit where the first passed none

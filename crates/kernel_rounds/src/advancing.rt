@@ -61,7 +61,7 @@ fn class_in(class_of: &[u32], number: u32) -> u32
 }
 
 /// The classes of classes.
-fn compose(alloc: Global, class_of: &[u32], next: &[u32]) -> Result<Vec<u32>, AllocError>
+pub(crate) fn compose(alloc: Global, class_of: &[u32], next: &[u32]) -> Result<Vec<u32>, AllocError>
     ensures { IfOk result (λ made. made.items ≡ map (class_in next.now) class_of.now) }
 {
     let mut made = Vec::new(alloc);

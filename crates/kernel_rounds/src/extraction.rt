@@ -2,17 +2,16 @@
 //!
 //! Rounds work in a copy of the caller's pool, which is compacted each round, so no later round carries the first repository
 //! on. The first book has the same ids in both pools.
-ghost use Rattle.std.specs.{Prelude.{false, None, Some, ◌≡◌, ◌<◌, ◌+◌, ◌∷◌, ◌++◌, [], IfErr, IfOk, List, length, slice_index_or, ℕ}, Option.{ForSome}};
+ghost use Rattle.std.specs.Prelude.{Some, ◌≡◌, ◌<◌, ◌+◌, ◌∷◌, ◌++◌, [], IfErr, IfOk, List, ℕ};
 ghost use Rattle.clause_pool.specs.Interned.{Interned, IsPool, Kept};
 ghost use Rattle.row_book.specs.{Book.{repository_of, AddsOnly, Sound}, Numbers.{numbers}, Repository.{Repository}, Keeping.{KeepsImages}};
 ghost use Rattle.row_book.specs.Rounds.{kernel_image, limit_at, RoundStep, Settled};
-ghost use Rattle.clause_flatten.specs.Beside.{AreKnown};
 ghost use Rattle.kernel_rounds.specs.{Extracting.{HasStepsBefore, IsBegun, IsOwnKernel, IsExtracted, IsReached, OnRoundLimit}, Moving.{live_rows, HasSteps}};
 
 use crate::advancing::{Begun, FixedPoint, all_rounds, round_error};
 use crate::error::RoundError;
-use clause_flatten::{flatten, flatten_beside};
-use clause_pool::{NumList, Pool, RowId};
+use clause_flatten::flatten;
+use clause_pool::{NumList, Pool};
 use listed::Listed;
 use row_book::{Book, Trail};
 use std::alloc::{AllocError, Global};
@@ -136,36 +135,4 @@ pub fn extract(
     let begun = Begun { flat, class_of };
     let made = kernel_of(alloc, &mut own, book, begun, limit, hold, pool)?;
     Ok(made)
-}
-
-/// The kernel of the book, without hold, where the rows of some packages over the core of the first round are known; none where a row
-/// has more clauses than the limit allows at some stage of some round. The pool gains what it gains by the call without known rows.
-pub fn extract_beside(
-    alloc: Global,
-    pool: &mut Pool,
-    book: &Book,
-    limit: u32,
-    known: &[Option<RowId>],
-) -> Result<Option<Kernel>, AllocError>
-    requires sound { Sound pool.old book.now }
-    requires limit { 0 < limit }
-    requires known { AreKnown pool.old limit (repository_of pool.old book.now) known.now }
-    ensures kernel { IfOk result (λ made. ForSome made (λ kernel. IsExtracted (repository_of pool.old book.now) limit false pool.old pool.new kernel.book kernel.class_of kernel.held kernel.trail.steps)) }
-    ensures hold { IfOk result (λ made. ForSome made (λ kernel. kernel.hold ≡ false)) }
-    ensures only { IfOk result (λ made. ForSome made (λ kernel. AddsOnly pool.old pool.new (live_rows kernel.book kernel.trail.steps))) }
-    ensures passed { IfOk result (λ made. made ≡ None → limit_at limit false (repository_of pool.old book.now) ≡ None → ⊥) }
-    ensures refused_only { IfOk result (λ made. made ≡ None → HasStepsBefore (repository_of pool.old book.now) limit false pool.old pool.new) }
-    ensures kept { Kept pool.old pool.new }
-{
-    let mut own = pool.copy(alloc)?;
-    let Some(flat) = flatten_beside(alloc, &mut own, book, limit, known)? else {
-        return Ok(None);
-    };
-    let class_of = own_classes(alloc, book.size())?;
-    let begun = Begun { flat, class_of };
-    match kernel_of(alloc, &mut own, book, begun, limit, false, pool) {
-        Ok(made) => Ok(Some(made)),
-        Err(RoundError::Limit { .. }) => Ok(None),
-        Err(RoundError::Memory) => Err(AllocError),
-    }
 }

@@ -6,17 +6,20 @@ mod advancing;
 mod comparing;
 mod error;
 mod extraction;
+mod known;
 mod laws;
 mod moving;
 mod rounding;
 
 // The kernel of a book, or one round of it.
 pub use error::RoundError;
-pub use extraction::{Kernel, extract, extract_beside};
+pub use extraction::{Kernel, extract};
+pub use known::{Classified, KnownRounds, classes_beside};
 pub use rounding::{Rounded, one_round};
 
 // Laws.
 pub use laws::{
-    fixed_is_settled, fixed_parts, flat_plain, image_is_of_classes, kernel_is, kernel_keeps,
-    kernel_of_kernel, limit_without_hold, rounds_go_down, tails_end, tails_keep, three_tails,
+    fixed_is_settled, fixed_parts, flat_plain, image_is_of_classes, kernel_behind_round, kernel_is,
+    kernel_keeps, kernel_of_kernel, limit_without_hold, rounds_go_down, tails_end, tails_keep,
+    three_tails,
 };

@@ -36,9 +36,9 @@ pub struct Rounded {
 /// A book after the four reductions, with the class of each package, the held packages of the book before, and the idle steps of
 /// pruning.
 #[derive(Drop)]
-struct Reduced {
-    book: Book,
-    class_of: NumList,
+pub(crate) struct Reduced {
+    pub(crate) book: Book,
+    pub(crate) class_of: NumList,
     held: NumList,
     idle: StepList,
 }
@@ -68,7 +68,7 @@ fn prune_and_thin(alloc: Global, pool: &mut Pool, book: &Book) -> Result<Shrunk,
 }
 
 /// The flat book after merging, pruning and thinning, with the packages that were held before.
-fn reduce_flat(
+pub(crate) fn reduce_flat(
     alloc: Global,
     pool: &mut Pool,
     flat: &Book,

@@ -19,6 +19,8 @@ pub struct PackageFacts {
     pub name: Bytes,
     /// The package's version.
     pub version: Version,
+    /// Whether it has an architecture other than `all`, and so that of its index.
+    pub is_bound: bool,
     /// The elements of `Pre-Depends`, and then those of `Depends`.
     pub needs: ElementList,
     /// The atoms of `Conflicts`, and then those of `Breaks`.

@@ -8,7 +8,7 @@ ghost use Rattle.stanza_reader.specs.{declared.stanza.FieldKind.{FieldKind}, dec
 ghost use Rattle.virtual_provides.specs.Bearers.{IsBuiltFrom};
 ghost use Rattle.relation_fields.specs.declared.packages.PackageFacts.{PackageFacts};
 
-use crate::facts::{NamelessFacts, architecture_in, name_in, name_of, read_facts};
+use crate::facts::{NamelessFacts, architecture_in, is_all, name_in, name_of, read_facts};
 use crate::fault::IndexFault;
 use crate::suite::{PackageList, Suite};
 use deb_version::Bytes;
@@ -160,13 +160,6 @@ fn first_of<'a>(packages: &'a [PackageFacts], numbers: &[u32]) -> Option<&'a Pac
         Some(number) => packages.get(*number as usize),
         None => None,
     }
-}
-
-/// Whether the architecture is `all`.
-pub fn is_all(architecture: &[u8]) -> bool
-    ensures { result ≡ is_all architecture.now }
-{
-    architecture == b"all".as_slice()
 }
 
 fn is_at_home(home: &Home, architecture: &[u8]) -> bool

@@ -1,11 +1,11 @@
 //! The package that a stanza describes, or the fault of its fields.
 //!
 //! The name comes last, so that whoever owns the stanza gives it away without a copy.
-ghost use Rattle.std.specs.{Prelude.{◌≡◌, ◌++◌, None, Some, IfOk}, List.{AllByRecursion}, Option.{option_and_then, option_copied, option_or}};
+ghost use Rattle.std.specs.{Prelude.{◌≡◌, ◌++◌, None, Some, IfOk, is_some}, List.{AllByRecursion}, Option.{option_and_then, option_copied, option_or}};
 ghost use Rattle.deb_version.specs.{Names.{is_name}, Grammar.{is_version}};
 ghost use Rattle.relation_fields.specs.{Grammar.{is_architecture, atom_of}, Fields.{said_in}};
 ghost use Rattle.repo_model.specs.declared.fault.IndexFault.TheVariants.{BadPackage, BadVersion, BadArchitecture};
-ghost use Rattle.repo_model.specs.{Fields.{field_among, field_of, value_among, value_of, IsShort, HasShortValues}, Facts.{facts_of}};
+ghost use Rattle.repo_model.specs.{Fields.{field_among, field_of, value_among, value_of, IsShort, HasShortValues}, Facts.{architecture_of, facts_of, is_all}};
 ghost use Rattle.repo_model.specs.{Nameless.{named, nameless}, FirstFault.{own_fault, unless_good, unless_said}, Refusals.{Answers}};
 
 use crate::fault::IndexFault;
@@ -24,6 +24,7 @@ use std::alloc::Global;
 pub(crate) struct NamelessFacts {
     pub(crate) line: u64,
     pub(crate) version: Version,
+    pub(crate) is_bound: bool,
     pub(crate) needs: ElementList,
     pub(crate) against: AtomList,
     pub(crate) provides: ProvideList,
@@ -37,6 +38,7 @@ impl NamelessFacts {
         let NamelessFacts {
             line,
             version,
+            is_bound,
             needs,
             against,
             provides,
@@ -45,6 +47,7 @@ impl NamelessFacts {
             line,
             name,
             version,
+            is_bound,
             needs,
             against,
             provides,
@@ -76,6 +79,7 @@ pub(crate) fn read_facts(
     check_name(name)?;
     let version = read_version(alloc, version)?;
     check_architecture(architecture)?;
+    let is_bound = is_bound(architecture);
     let needs = read_both(
         alloc,
         elements,
@@ -88,6 +92,7 @@ pub(crate) fn read_facts(
     Ok(NamelessFacts {
         line,
         version,
+        is_bound,
         needs,
         against,
         provides,
@@ -181,4 +186,22 @@ fn check_architecture(field: Option<&RawField>) -> Result<(), IndexFault>
         return Err(IndexFault::BadArchitecture { line });
     }
     Ok(())
+}
+
+/// Whether the architecture is `all`.
+pub fn is_all(architecture: &[u8]) -> bool
+    ensures { result ≡ is_all architecture.now }
+{
+    architecture == b"all".as_slice()
+}
+
+// Whether a stanza with this field `Architecture` has an architecture other than `all`.
+#[tactic(auto, unfolding(crate::specs::Facts::architecture_of))]
+fn is_bound(architecture: Option<&RawField>) -> bool
+    ensures { (stanza : RawStanza) → option_copied architecture.entry ≡ field_of FieldKind.Architecture stanza → result ≡ is_some (architecture_of stanza) }
+{
+    match architecture {
+        Some(field) => !is_all(field.value.as_slice()),
+        None => false,
+    }
 }

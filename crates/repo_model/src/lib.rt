@@ -39,7 +39,7 @@ pub use names::{LentName, LentNames, NameList, distinct_names};
 pub use plain::{PlainRepository, are_coinstallable, plain_repository};
 
 // Fields and architectures of a stanza.
-pub use building::is_all;
+pub use facts::is_all;
 pub use fields::find_field;
 
 // Laws.

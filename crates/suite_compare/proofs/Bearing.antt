@@ -1,13 +1,11 @@
 -- The packages that bear the names of an old side: which names these are, and the classes of the packages.
 use Rattle.std.{proofs.Common.{◌≡◌, ℕ, ◌<◌, ◌+◌, zero, suc, Bool, true, false, not, eqb, cond, filter, List, [], ◌∷◌, ◌++◌, length, get_or, map, refl, ◌∙◌, ap, ap₂, subst, sym, arith}, specs.Str.{bytes_eq}, proofs.lemmas.Bool.{both_ways, ne_eqb}, proofs.lemmas.List.{append-nil, get_or-map, length-map}, proofs.lemmas.List.Elements.{filter-append}}
-use Rattle.clause_pool.specs.Interned.{Interned}
 use Rattle.row_book.{specs.Needs.{AreNeeds, NeedsFit}, specs.Book.{listed_for}, specs.Numbers.{numbers}, specs.Repository.{Repository}, specs.Flattening.{packages}, specs.Rounds.{kernel_class}, proofs.Numbers.{numbers_more, numbers_parts}}
-use Rattle.listed.{specs.Lists.{In, here, there}, proofs.Lists.{any_none, filled, filter_cases, filter_same, has_not, In_at, In_map, In_map_cases, In_place, none_in}}
+use Rattle.listed.{specs.Lists.{In, here, there}, proofs.Lists.{any_none, filled, filter_cases, filter_same, has_not, In_at, In_map, In_map_cases, In_none, In_place, none_in}}
 use Rattle.relation_fields.{specs.declared.packages.Home.{Home}, specs.declared.packages.PackageFacts.{PackageFacts}}
-use Rattle.kernel_rounds.specs.declared.extraction.Kernel.{Kernel}
 use Rattle.repo_model.{specs.Goals.{any_version, packages_named}, specs.Repository.{suite_repository}, specs.Stanzas.{no_stanza, stanza_at}, proofs.Chosen.{named_is, number_cases}, proofs.Packages.{length_clauses}}
 use Rattle.search_terms.proofs.Ranges.{rows_long}
-use Rattle.suite_compare.{specs.Asking.{image_of}, specs.Bearers.{bearers_of, filled_places, is_borne, AreClasses, FitsKernel}, specs.Groups.{AreEach}, specs.Names.{stands_in}, specs.Views.{IsKernelOf}, proofs.Gathering.{image_made, named_inside, table_of}, proofs.Named.{bearer_of, AreAmong}, proofs.SuiteKernels.{kernel_class_within, suite_sound}}
+use Rattle.suite_compare.{specs.Asking.{image_of}, specs.Bearers.{bearers_of, filled_places, is_borne, AreClasses, FitsKernel}, specs.Groups.{AreEach}, specs.Names.{stands_in}, specs.Lent.{IsLentKernel}, specs.declared.lent.LentKernel.{LentKernel}, proofs.Gathering.{image_made, named_inside, table_of}, proofs.Named.{bearer_of, AreAmong}, proofs.SuiteKernels.{kernel_class_within, suite_sound}}
 
 same_items : (xs ys : List (List ℕ)) → length xs ≡ length ys → ((i : ℕ) → i < length xs → listed_for xs i ≡ listed_for ys i) → xs ≡ ys
 same_items [] [] e f = refl
@@ -123,6 +121,12 @@ names_among names of places made kinds within is at j l =
     let m : j < length places = subst (λ z. j < z) (ap length is ∙ length-map places (listed_for names)) l in
     (get_or places j 0, within j m, ap (λ z. listed_for z j) is ∙ get_or-map (listed_for names) places j 0 [] m, ap (λ z. get_or z j 0) at ∙ get_or-map (λ i. get_or of i 0) places j 0 0 m)
 
+-- the class of one package alone
+pub one_class : (class_of chosen image : List ℕ) → length chosen ≡ 1 → image ≡ get_or class_of (get_or chosen 0 0) 0 ∷ [] → AreClasses class_of chosen image
+one_class class_of [] image l e = absurd (let k : 0 ≡ 1 = l in omega arith)
+one_class class_of (n ∷ []) image l e = subst (AreClasses class_of (n ∷ [])) (sym e) (record { ascending = ((λ y i. absurd (In_none i)), tt); same = λ k. ((λ i. i), (λ i. i)) })
+one_class class_of (n ∷ (m ∷ ns)) image l e = absurd (let k : suc (suc (length ns)) ≡ 1 = l in omega arith)
+
 -- the classes of some packages, by a table of classes
 module _ (class_of : List ℕ) (named : List (List ℕ)) (places : List ℕ) (made : List (List ℕ)) (is : places ≡ filled_places named)
     (each : AreEach (λ j image. AreClasses class_of (listed_for named (get_or places j 0)) image) [] (length places) made) where
@@ -175,18 +179,18 @@ module _ (class_of : List ℕ) (named : List (List ℕ)) (places : List ℕ) (ma
           (map (λ n. get_or class_of n 0) (packages_named stanzas (any_version name))) (get_or made j []) refl at.ascending at.same
 
 -- The kernel of some packages fits to those that bear each of some names, as `first_line_by` asks.
-pub kernel_fits : (pool : Interned) (kernel : Kernel) (limit : ℕ) (home : Home) (stanzas : List PackageFacts) (names named : List (List ℕ)) → IsKernelOf pool kernel limit (suite_repository home stanzas) → named ≡ bearers_of stanzas names
-    → FitsKernel pool kernel named
-kernel_fits pool made limit home stanzas names named is borne = record {
-  sound = is.book.sound;
+pub kernel_fits : (lent : LentKernel) (limit : ℕ) (hold : Bool) (home : Home) (stanzas : List PackageFacts) (names named : List (List ℕ)) → IsLentKernel lent limit hold (suite_repository home stanzas) → named ≡ bearers_of stanzas names
+    → FitsKernel lent named
+kernel_fits lent limit hold home stanzas names named is borne = record {
+  sound = is.book_is.sound;
   classes = λ k i.
-      let w = In_map_cases (kernel_class limit made.hold R) (packages R) k (subst (λ z. In k z) is.class_of i) in
+      let w = In_map_cases (kernel_class limit hold R) (packages R) k (subst (λ z. In k z) is.classes_are i) in
       let l = number_below (length R.clauses) w.0 w.1 in
-      subst (λ z. z < length made.book.rows) (sym w.2)
-      (subst (λ z. kernel_class limit made.hold R w.0 < z) (sym (ap (λ R. length R.clauses) is.book.repository) ∙ rows_long pool made.book.rows) (kernel_class_within limit made.hold R (suite_sound home stanzas) w.0 l));
+      subst (λ z. z < length lent.book.now.rows) (sym w.2)
+      (subst (λ z. kernel_class limit hold R w.0 < z) (sym (ap (λ R. length R.clauses) is.book_is.repository) ∙ rows_long lent.pool.now lent.book.now.rows) (kernel_class_within limit hold R (suite_sound home stanzas) w.0 l));
   known = λ chosen i n j.
       let w = In_map_cases (λ name. packages_named stanzas (any_version name)) names chosen (subst (λ z. In chosen z) borne i) in
-      subst (λ z. n < z) (sym (table_of limit made.hold home stanzas made.class_of is.class_of)) (named_inside stanzas (any_version w.0) n (subst (λ z. In n z) w.2 j));
+      subst (λ z. n < z) (sym (table_of limit hold home stanzas lent.class_of.now is.classes_are)) (named_inside stanzas (any_version w.0) n (subst (λ z. In n z) w.2 j));
 }
   where
     R : Repository

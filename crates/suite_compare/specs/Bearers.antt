@@ -1,21 +1,20 @@
 -- The packages that bear names, and their classes by the table of a kernel.
 use Rattle.std.specs.Prelude.{ℕ, ◌<◌, ◌==◌, ◌↔◌, Bool, not, List, length, map, filter, slice_index_or}
 use Rattle.listed.specs.Lists.{Ascending, In}
-use Rattle.clause_pool.specs.Interned.{Interned}
 use Rattle.row_book.specs.{Book.{listed_for, Sound}, Numbers.{numbers}}
-use Rattle.kernel_rounds.specs.declared.extraction.Kernel.{Kernel}
 use Rattle.relation_fields.specs.declared.packages.PackageFacts.{PackageFacts}
 use Rattle.repo_model.specs.Goals.{any_version, packages_named}
+use Rattle.suite_compare.specs.declared.lent.LentKernel.{LentKernel}
 
 -- for each name the packages that bear it, of any version
 abbrev pub bearers_of : List PackageFacts → List (List ℕ) → List (List ℕ)
 bearers_of packages names = map (λ name. packages_named packages (any_version name)) names
 
 -- the book is sound over the pool, each class is one of its packages, and each of the packages that bear names has a class
-pub record FitsKernel (pool : Interned) (kernel : Kernel) (named : List (List ℕ)) : Type 0 where
-  pub sound : Sound pool kernel.book
-  pub classes : (k : ℕ) → In k kernel.class_of → k < length kernel.book.rows
-  pub known : (chosen : List ℕ) → In chosen named → (n : ℕ) → In n chosen → n < length kernel.class_of
+pub record FitsKernel (lent : LentKernel) (named : List (List ℕ)) : Type 0 where
+  pub sound : Sound lent.pool.now lent.book.now
+  pub classes : (k : ℕ) → In k lent.class_of.now → k < length lent.book.now.rows
+  pub known : (chosen : List ℕ) → In chosen named → (n : ℕ) → In n chosen → n < length lent.class_of.now
 
 -- these are the classes of some packages, ascending, by the class of each package
 pub record AreClasses (class_of chosen image : List ℕ) : Type 0 where

@@ -2,6 +2,7 @@ pub mod Report
 pub mod Asking
 pub mod Laws
 pub mod Views
+pub mod Lent
 pub mod Refusals
 pub mod Answering
 pub mod Names

@@ -5,9 +5,8 @@ ghost use Rattle.row_book.specs.Book.{listed_for};
 ghost use Rattle.suite_compare.specs.{Bearers.{bearers_of, filled_places, AreClasses}, Groups.{AreEach}};
 
 use crate::ask::classes_by;
-use crate::places::{classes_at, name_at};
-use clause_pool::NumList;
-use listed::Listed;
+use crate::few::{FewNumbers, few_at};
+use crate::places::name_at;
 use repo_model::{LentName, Suite};
 use std::alloc::{AllocError, Global};
 
@@ -16,24 +15,25 @@ pub fn bearers_of(
     alloc: Global,
     suite: &Suite,
     names: &[LentName],
-) -> Result<Vec<NumList>, AllocError>
+) -> Result<Vec<FewNumbers>, AllocError>
     ensures { IfOk result (λ lists. lists.items ≡ bearers_of suite.now.packages names.now) }
 {
     let mut lists = Vec::new(alloc);
     for name in names {
         let numbers = suite.named(alloc, name.as_slice())?;
-        lists.push(Listed::of(numbers))?;
+        let few = FewNumbers::copy(alloc, &numbers)?;
+        lists.push(few)?;
     }
     Ok(lists)
 }
 
 /// The places at which a list has an item.
-pub(crate) fn filled_places(alloc: Global, lists: &[NumList]) -> Result<Vec<usize>, AllocError>
+pub(crate) fn filled_places(alloc: Global, lists: &[FewNumbers]) -> Result<Vec<usize>, AllocError>
     ensures { IfOk result (λ places. places.items ≡ filled_places lists.now) }
 {
     let mut places = Vec::new(alloc);
     for place in 0..lists.len() {
-        if classes_at(lists, place).is_empty() {
+        if few_at(lists, place).is_empty() {
             continue;
         }
         places.push(place)?;
@@ -61,17 +61,30 @@ pub(crate) fn names_at<'a>(
 pub(crate) fn classes_of_each(
     alloc: Global,
     class_of: &[u32],
-    lists: &[NumList],
+    lists: &[FewNumbers],
     places: &[usize],
-) -> Result<Vec<NumList>, AllocError>
+) -> Result<Vec<FewNumbers>, AllocError>
     requires known { (chosen : List ℕ) → In chosen lists.now → (n : ℕ) → In n chosen → n < length class_of.now }
     requires places { (i : ℕ) → i < length places.now → slice_index_or places.now i 0 < length lists.now }
     ensures { IfOk result (λ made. AreEach (λ i image. AreClasses class_of.now (listed_for lists.now (slice_index_or places.now i 0)) image) [] (length places.now) made.items) }
 {
     let mut made = Vec::new(alloc);
     for place in places {
-        let image = classes_by(alloc, class_of, classes_at(lists, *place))?;
-        made.push(Listed::of(image))?;
+        let image = classes_of_few(alloc, class_of, few_at(lists, *place))?;
+        made.push(image)?;
     }
     Ok(made)
+}
+
+// The classes of a few packages, ascending, by the class of each package. That of a single one is not sorted.
+fn classes_of_few(alloc: Global, class_of: &[u32], chosen: &[u32]) -> Result<FewNumbers, AllocError>
+    requires { (n : ℕ) → In n chosen.now → n < length class_of.now }
+    ensures { IfOk result (AreClasses class_of.now chosen.now) }
+{
+    if chosen.len() == 1 {
+        let class = class_of[chosen[0] as usize];
+        return Ok(FewNumbers::one(alloc, class));
+    }
+    let image = classes_by(alloc, class_of, chosen)?;
+    Ok(FewNumbers::of(image))
 }

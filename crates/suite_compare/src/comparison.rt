@@ -10,18 +10,18 @@ ghost use Rattle.clause_solver.specs.{Outcomes.{IsBudget}, declared.outcomes.Ver
 ghost use Rattle.suite_compare.specs.{Asking.{verdict_in}, declared.verdicts.Bad.{Bad}, Bad.{AreAllBad}, Known.{AreKnownPairs}};
 ghost use Rattle.suite_compare.specs.{Bearers.{bearers_of, FitsKernel}, Kinds.{IsJudge}, Names.{names_of_both}};
 ghost use Rattle.suite_compare.specs.Comparing.{told_pairs, told_report, told_singles, AreVerdicts, IsOldSide, IsSide, IsTable};
-ghost use Rattle.suite_compare.specs.{Partners.{old_kind, IsJointTable}, Report.{first_told, report}, Views.{IsKernelOf}};
+ghost use Rattle.suite_compare.specs.{Partners.{old_kind, IsJointTable}, Report.{first_told, report}, Lent.{IsLentKernel}};
 
+use crate::few::FewNumbers;
 use crate::gather::{JointTable, Partners, joint_table, new_kind, old_kind, partners_of};
 use crate::known::{KnownPairs, pairs_of};
+use crate::lent::LentKernel;
 use crate::places::name_at;
 use crate::report::{LineList, Report, ReportLine, copy_of_first, finding_of};
 use crate::sides::{NewSide, OldSide, Side, new_side_by, new_side_of, verdict_of};
 use crate::tell::{push_single, tell_pairs};
 use crate::verdicts::{BadList, Judge, bad_lists, bads_at};
 use crate::view::SuiteView;
-use clause_pool::{NumList, Pool};
-use kernel_rounds::Kernel;
 use repo_model::LentName;
 use std::alloc::{AllocError, Global};
 
@@ -225,20 +225,18 @@ pub struct FirstLine {
 pub fn first_line_by(
     alloc: Global,
     old: &OldSide,
-    pool: &Pool,
-    kernel: &Kernel,
-    named: &[NumList],
+    kernel: &LentKernel,
+    named: &[FewNumbers],
     known: Option<KnownPairs>,
 ) -> Result<FirstLine, AllocError>
     requires side { IsOldSide old.now }
-    requires fits { FitsKernel pool.now kernel.now named.now }
+    requires fits { FitsKernel kernel.now named.now }
     requires count { length named.now ≡ length old.now.names }
-    requires hold { kernel.now.hold ≡ old.now.view.now.kernel.hold }
     requires known { ForSome known AreKnownPairs }
-    ensures first { let view = old.now.view.now in (home : Home) (stanzas : List PackageFacts) → IsKernelOf pool.now kernel.now view.limit (suite_repository home stanzas) → named.now ≡ bearers_of stanzas old.now.names → IfOk result (λ made. made.line ≡ first_told (report (verdict_in view.limit view.kernel.hold view.suite.home view.suite.packages old.now.budget) (verdict_in view.limit view.kernel.hold home stanzas old.now.budget) (names_of_both view.suite.packages stanzas))) }
+    ensures first { let view = old.now.view.now in (home : Home) (stanzas : List PackageFacts) → IsLentKernel kernel.now view.limit view.kernel.hold (suite_repository home stanzas) → named.now ≡ bearers_of stanzas old.now.names → IfOk result (λ made. made.line ≡ first_told (report (verdict_in view.limit view.kernel.hold view.suite.home view.suite.packages old.now.budget) (verdict_in view.limit view.kernel.hold home stanzas old.now.budget) (names_of_both view.suite.packages stanzas))) }
     ensures known { IfOk result (λ made. ForSome made.known AreKnownPairs) }
 {
-    let made = new_side_by(alloc, old, pool, kernel, named)?;
+    let made = new_side_by(alloc, old, kernel, named)?;
     let first = first_beside(alloc, &old.side, &made, known);
     drop(made);
     first

@@ -3,7 +3,8 @@ ghost use Rattle.std.specs.Prelude.{◌≡◌, ◌<◌, ◌+◌, ℕ, List, IfOk
 ghost use Rattle.row_book.specs.Book.{listed_for};
 ghost use Rattle.suite_compare.specs.Kinds.{AreJoined, AreKinds, AreNumbered};
 
-use crate::places::{classes_at, place_at};
+use crate::few::{FewNumbers, few_at};
+use crate::places::place_at;
 use class_merge::KeyTable;
 use clause_pool::NumList;
 use listed::Listed;
@@ -68,25 +69,29 @@ impl Numbering {
     }
 }
 
-/// The numbers of a list.
-fn key_of(alloc: Global, list: &[u32]) -> Result<Vec<u64>, AllocError>
-    ensures { IfOk result (λ key. key.items ≡ list.now) }
+/// Puts the numbers of a list into the key, in the place of what it had.
+fn put_key(key: &mut Vec<u64>, list: &[u32]) -> Result<(), AllocError>
+    ensures { OnOk result (key.new.items ≡ list.now) }
 {
-    let mut key = Vec::new(alloc);
+    key.clear();
     for class in list {
         key.push(u64::from(*class))?;
     }
-    Ok(key)
+    Ok(())
 }
 
 /// Copies of the lists at these places.
-fn lists_at(alloc: Global, lists: &[NumList], places: &[usize]) -> Result<Vec<NumList>, AllocError>
+fn lists_at(
+    alloc: Global,
+    lists: &[FewNumbers],
+    places: &[usize],
+) -> Result<Vec<NumList>, AllocError>
     requires { (i : ℕ) → i < length places.now → slice_index_or places.now i 0 < length lists.now }
     ensures { IfOk result (λ made. made.items ≡ map (listed_for lists.now) places.now) }
 {
     let mut made = Vec::new(alloc);
     for place in places {
-        let list = Vec::from_slice(alloc, classes_at(lists, *place))?;
+        let list = Vec::from_slice(alloc, few_at(lists, *place))?;
         made.push(Listed::of(list))?;
     }
     Ok(made)
@@ -109,12 +114,13 @@ pub(crate) fn numbers_at(
 }
 
 /// The kinds of lists of classes.
-pub(crate) fn kinds_of(alloc: Global, lists: &[NumList]) -> Result<Kinds, AllocError>
+pub(crate) fn kinds_of(alloc: Global, lists: &[FewNumbers]) -> Result<Kinds, AllocError>
     ensures { IfOk result (λ kinds. AreKinds lists.now kinds.lists.items kinds.of.items) }
 {
     let mut numbering = Numbering::new(alloc);
+    let mut key = Vec::new(alloc);
     for list in lists {
-        let key = key_of(alloc, list.as_slice())?;
+        put_key(&mut key, list.as_slice())?;
         numbering.put(&key)?;
     }
     let kinds = lists_at(alloc, lists, &numbering.firsts)?;
@@ -135,8 +141,7 @@ pub(crate) fn joints_of(
 {
     let mut numbering = Numbering::new(alloc);
     for place in 0..old_of.len() {
-        let key = vec![in alloc; old_of[place] as u64, new_of[place] as u64]?;
-        numbering.put(&key)?;
+        numbering.put(&[old_of[place] as u64, new_of[place] as u64])?;
     }
     let old = numbers_at(alloc, old_of, &numbering.firsts)?;
     let new = numbers_at(alloc, new_of, &numbering.firsts)?;

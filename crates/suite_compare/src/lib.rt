@@ -8,11 +8,13 @@ mod choose;
 mod class_set;
 mod comparison;
 mod decision;
+mod few;
 mod gather;
 mod install;
 mod kinds;
 mod known;
 mod laws;
+mod lent;
 mod places;
 mod refusals;
 mod report;
@@ -35,7 +37,9 @@ pub use decision::decide;
 // What a new suite has broken of an old one.
 pub use bearers::bearers_of;
 pub use comparison::{FirstLine, compare, first_line, first_line_by};
+pub use few::FewNumbers;
 pub use known::KnownPairs;
+pub use lent::LentKernel;
 pub use report::{Finding, LineList, Report, ReportLine};
 pub use sides::OldSide;
 

@@ -1,5 +1,5 @@
 //! The two sides of a comparison: what is known of both suites before any two names are asked together.
-ghost use Rattle.std.specs.Prelude.{◌≡◌, ◌<◌, ℕ, List, true, IfOk, length, map, slice_index_or};
+ghost use Rattle.std.specs.Prelude.{◌≡◌, ◌<◌, ℕ, Bool, List, true, IfOk, length, map, slice_index_or};
 ghost use Rattle.listed.specs.Lists.{In};
 ghost use Rattle.row_book.specs.{Book.{listed_for, repository_of, Sound}, Needs.{AreNeeds, NeedsFit}};
 ghost use Rattle.relation_fields.specs.{declared.packages.Home.{Home}, declared.packages.PackageFacts.{PackageFacts}};
@@ -7,16 +7,17 @@ ghost use Rattle.repo_model.specs.Repository.{suite_repository};
 ghost use Rattle.clause_solver.specs.Outcomes.{IsBudget};
 ghost use Rattle.suite_compare.specs.{Bad.{AreSingles}, Bearers.{bearers_of, filled_places, FitsKernel}, Kinds.{alone_in}};
 ghost use Rattle.suite_compare.specs.{Comparing.{named_verdict, AreSides, AreVerdicts, IsNewSide, IsOldSide, IsSide, IsSideBy}, Names.{stands_in}};
-ghost use Rattle.suite_compare.specs.Views.{IsKernelOf};
+ghost use Rattle.suite_compare.specs.Lent.{IsLentKernel};
 
 use crate::bearers::{bearers_of, classes_of_each, filled_places, names_at};
+use crate::few::FewNumbers;
 use crate::kinds::{kinds_of, numbers_at};
+use crate::lent::{LentKernel, kernel_of};
 use crate::places::{place_at, verdict_at};
 use crate::verdicts::{Judge, verdicts_alone};
 use crate::view::SuiteView;
-use clause_pool::{NumList, Pool};
+use clause_pool::Pool;
 use clause_solver::{Solver, Verdict};
-use kernel_rounds::Kernel;
 use repo_model::{LentName, LentNames};
 use row_book::Book;
 use std::alloc::{AllocError, Global};
@@ -79,7 +80,7 @@ fn side_by<'a>(
     alloc: Global,
     pool: &'a Pool,
     book: &'a Book,
-    lists: &[NumList],
+    lists: &[FewNumbers],
     budget: u64,
 ) -> Result<Side<'a>, AllocError>
     requires sound { Sound pool.now book.now }
@@ -108,20 +109,19 @@ fn side_by<'a>(
 /// A side of the names at these places, by a kernel and the packages that bear each name.
 fn side_at<'a>(
     alloc: Global,
-    pool: &'a Pool,
-    kernel: &'a Kernel,
-    named: &[NumList],
+    kernel: &LentKernel<'a>,
+    named: &[FewNumbers],
     places: &[usize],
     budget: u64,
 ) -> Result<Side<'a>, AllocError>
-    requires fits { FitsKernel pool.now kernel.now named.now }
+    requires fits { FitsKernel kernel.now named.now }
     requires places { places.now ≡ filled_places named.now }
     requires budget { IsBudget budget }
     ensures side { IfOk result (λ side. IsSide (length places.now) side side.of.items) }
-    ensures verdicts { (limit : ℕ) (home : Home) (stanzas : List PackageFacts) (names : List (List ℕ)) → IsKernelOf pool.now kernel.now limit (suite_repository home stanzas) → named.now ≡ bearers_of stanzas names → IfOk result (λ side. AreVerdicts side side.of.items (map (listed_for names) places.now) (named_verdict limit kernel.now.hold home stanzas budget)) }
+    ensures verdicts { (limit : ℕ) (hold : Bool) (home : Home) (stanzas : List PackageFacts) (names : List (List ℕ)) → IsLentKernel kernel.now limit hold (suite_repository home stanzas) → named.now ≡ bearers_of stanzas names → IfOk result (λ side. AreVerdicts side side.of.items (map (listed_for names) places.now) (named_verdict limit hold home stanzas budget)) }
 {
-    let lists = classes_of_each(alloc, kernel.class_of.as_slice(), named, places)?;
-    let side = side_by(alloc, pool, &kernel.book, &lists, budget)?;
+    let lists = classes_of_each(alloc, kernel.class_of, named, places)?;
+    let side = side_by(alloc, kernel.pool, kernel.book, &lists, budget)?;
     Ok(side)
 }
 
@@ -139,7 +139,8 @@ fn side_of<'a>(
 {
     let named = bearers_of(alloc, &view.suite, names)?;
     let places = filled_places(alloc, &named)?;
-    let side = side_at(alloc, &view.pool, &view.kernel, &named, &places, budget)?;
+    let kernel = kernel_of(view);
+    let side = side_at(alloc, &kernel, &named, &places, budget)?;
     Ok(side)
 }
 
@@ -186,20 +187,18 @@ fn part_at<'a>(alloc: Global, old: &OldSide<'a>, places: &[usize]) -> Result<Par
 pub(crate) fn new_side_by<'o, 'n>(
     alloc: Global,
     old: &OldSide<'o>,
-    pool: &'n Pool,
-    kernel: &'n Kernel,
-    named: &[NumList],
+    kernel: &LentKernel<'n>,
+    named: &[FewNumbers],
 ) -> Result<NewSide<'o, 'n>, AllocError>
     requires side { IsOldSide old.now }
-    requires fits { FitsKernel pool.now kernel.now named.now }
+    requires fits { FitsKernel kernel.now named.now }
     requires count { length named.now ≡ length old.now.names }
-    requires hold { kernel.now.hold ≡ old.now.view.now.kernel.hold }
     ensures sides { IfOk result (AreSides old.now) }
-    ensures names { (home : Home) (stanzas : List PackageFacts) → IsKernelOf pool.now kernel.now old.now.view.now.limit (suite_repository home stanzas) → named.now ≡ bearers_of stanzas old.now.names → IfOk result (IsNewSide old.now home stanzas) }
+    ensures names { (home : Home) (stanzas : List PackageFacts) → IsLentKernel kernel.now old.now.view.now.limit old.now.view.now.kernel.hold (suite_repository home stanzas) → named.now ≡ bearers_of stanzas old.now.names → IfOk result (IsNewSide old.now home stanzas) }
 {
     let places = filled_places(alloc, named)?;
     let part = part_at(alloc, old, &places)?;
-    let side = side_at(alloc, pool, kernel, named, &places, old.budget)?;
+    let side = side_at(alloc, kernel, named, &places, old.budget)?;
     Ok(NewSide { part, side })
 }
 
@@ -217,6 +216,7 @@ pub(crate) fn new_side_of<'o, 'n>(
     ensures names { IfOk result (IsNewSide old.now new.now.suite.home new.now.suite.packages) }
 {
     let named = bearers_of(alloc, &new.suite, old.names())?;
-    let made = new_side_by(alloc, old, &new.pool, &new.kernel, &named)?;
+    let kernel = kernel_of(new);
+    let made = new_side_by(alloc, old, &kernel, &named)?;
     Ok(made)
 }

@@ -8,7 +8,7 @@ loop-list-init c = c.new-numbering.ensures _
 
 pub loop-list-preserved : goal.loop-list-preserved
 loop-list-preserved c = c.in_ok-put.ensures _ c.loop-list.list-index
-    (sym (c.deref.ensures.value ∙ c.in_ok-key.ensures ∙ c.as_slice.ensures ∙ get_or_read c.args.lists.now c.loop-list.list-index c.list-item.result c.loop-list-test.true c.list-item.is [])) c.loop-list.invariant
+    (sym (c.deref.ensures.value ∙ c.in_ok-put_key.ensures ∙ c.as_slice.ensures ∙ get_or_read c.args.lists.now c.loop-list.list-index c.list-item.result c.loop-list-test.true c.list-item.is [])) c.loop-list.invariant
 
 pub lists_at-requires : goal.lists_at-requires
 lists_at-requires c = λ i l. rw c.deref-2.ensures.value (let b = c.loop-list.invariant.below _ (In_at c.loop-list.numbering.firsts.items i 0 (rw c.deref-2.ensures.value at l)) in omega (arith, b, c.loop-list-test.false, c.loop-list.auto.list-index-end))

@@ -1,6 +1,6 @@
 use Rattle.std.{proofs.Common.{◌≡◌, ◌∙◌, ap, filter, get_or, length, map, sym, subst}, proofs.lemmas.List.{length-map}}
 use Rattle.row_book.specs.Book.{listed_for}
-use Rattle.suite_compare.{specs.Comparing.{named_verdict, new_verdict, AreVerdicts, IsSide}, specs.Names.{stands_in}, proofs.Bearing.{names_among, names_borne, places_within}, proofs.Named.{part_side, part_verdicts}}
+use Rattle.suite_compare.{specs.Comparing.{new_verdict, AreVerdicts, IsSide}, specs.Names.{stands_in}, proofs.Bearing.{names_among, names_borne, places_within}, proofs.Named.{part_side, part_verdicts}}
 use Rattle.suite_compare.proofs.sides.new_side_by.Goals as goal
 
 pub part_at-requires-clause-count : goal.part_at-requires-clause-count
@@ -36,7 +36,7 @@ returns-clause-names c = λ home stanzas is borne.
     let named = map (listed_for old.names) c.deref-2.result.now in
     let same : named ≡ part.names.items = ap (map (listed_for old.names)) (c.deref-2.ensures.value ∙ sym c.deref.ensures.value) ∙ sym c.in_ok-part.ensures.names in
     let told : AreVerdicts side side.of.items named (new_verdict old home stanzas) =
-    subst (λ h. AreVerdicts side side.of.items named (named_verdict old.view.now.limit h home stanzas old.budget)) c.requires.hold (c.in_ok-side.ensures.verdicts old.view.now.limit home stanzas old.names is borne) in
+    c.in_ok-side.ensures.verdicts old.view.now.limit old.view.now.kernel.hold home stanzas old.names is borne in
     record {
       names_are = c.in_ok-part.ensures.names ∙ ap (map (listed_for old.names)) (c.deref.ensures.value ∙ c.in_ok-places.ensures) ∙ names_borne stanzas old.names c.args.named.now borne ∙ ap (filter (stands_in stanzas)) c.requires.side.names_are;
       is = subst (λ z. AreVerdicts side side.of.items z (new_verdict old home stanzas)) same told;

@@ -3,7 +3,7 @@ use Rattle.suite_compare.{specs.Comparing.{IsSide}, proofs.Bearing.{classes_are,
 use Rattle.suite_compare.proofs.sides.side_at.Goals as goal
 
 pub classes_of_each-requires-clause-known : goal.classes_of_each-requires-clause-known
-classes_of_each-requires-clause-known c = rw c.as_slice.ensures c.requires.fits.known
+classes_of_each-requires-clause-known c = c.requires.fits.known
 
 pub classes_of_each-requires-clause-places : goal.classes_of_each-requires-clause-places
 classes_of_each-requires-clause-places c = places_within c.args.named.now c.args.places.now (length c.args.named.now) c.requires.places refl
@@ -15,12 +15,12 @@ pub side_by-requires-clause-needs : goal.side_by-requires-clause-needs
 side_by-requires-clause-needs c = rw c.deref.ensures.value (classes_need _ c.args.named.now c.args.places.now _ c.requires.places c.in_ok-lists.ensures)
 
 pub side_by-requires-clause-fit : goal.side_by-requires-clause-fit
-side_by-requires-clause-fit c = rw c.deref.ensures.value (classes_fit_book _ c.args.named.now c.args.places.now _ c.requires.places c.in_ok-lists.ensures _ (rw c.as_slice.ensures c.requires.fits.known) (rw c.as_slice.ensures c.requires.fits.classes))
+side_by-requires-clause-fit c = rw c.deref.ensures.value (classes_fit_book _ c.args.named.now c.args.places.now _ c.requires.places c.in_ok-lists.ensures _ c.requires.fits.known c.requires.fits.classes)
 
 pub returns-clause-side : goal.returns-clause-side
 returns-clause-side c = subst (λ n. IsSide n c.in_ok-side.side c.in_ok-side.side.of.items) (rw c.deref.ensures.value c.in_ok-lists.ensures.long) c.in_ok-side.ensures.side_is
 
 pub returns-clause-verdicts : goal.returns-clause-verdicts
-returns-clause-verdicts c = λ limit home stanzas names is borne.
-    verdicts_are limit c.args.kernel.now.hold home stanzas c.args.budget _ _ c.deref.result.now c.in_ok-side.side is.book.repository
-    (c.deref.ensures.value ∙ classes_are _ c.args.named.now c.args.places.now _ c.requires.places c.in_ok-lists.ensures limit c.args.kernel.now.hold home stanzas names (c.as_slice.ensures ∙ is.class_of) borne) c.in_ok-side.ensures
+returns-clause-verdicts c = λ limit hold home stanzas names is borne.
+    verdicts_are limit hold home stanzas c.args.budget _ _ c.deref.result.now c.in_ok-side.side is.book_is.repository
+    (c.deref.ensures.value ∙ classes_are _ c.args.named.now c.args.places.now _ c.requires.places c.in_ok-lists.ensures limit hold home stanzas names is.classes_are borne) c.in_ok-side.ensures

@@ -4,7 +4,7 @@ use Rattle.suite_compare.{specs.Bearers.{filled_places}, specs.Comparing.{named_
 use Rattle.suite_compare.proofs.sides.side_of.Goals as goal
 
 pub side_at-requires-clause-fits : goal.side_at-requires-clause-fits
-side_at-requires-clause-fits c = kernel_fits _ _ c.args.view.now.limit c.args.view.now.suite.home c.args.view.now.suite.packages c.args.names.now c.deref-2.result.now c.args.view.now.of_suite.kernel_is (c.deref-2.ensures.value ∙ c.in_ok-named.ensures)
+side_at-requires-clause-fits c = kernel_fits _ c.args.view.now.limit c.args.view.now.kernel.hold c.args.view.now.suite.home c.args.view.now.suite.packages c.args.names.now c.deref-2.result.now c.kernel_of-kernel.ensures (c.deref-2.ensures.value ∙ c.in_ok-named.ensures)
 
 pub side_at-requires-clause-places : goal.side_at-requires-clause-places
 side_at-requires-clause-places c = c.deref-3.ensures.value ∙ c.in_ok-places.ensures ∙ ap filled_places (c.deref.ensures.value ∙ sym c.deref-2.ensures.value)
@@ -22,4 +22,4 @@ returns-clause-verdicts c =
     let names = c.args.names.now in
     let all = all_borne view.suite.packages names c.deref.result.now c.deref-3.result.now (c.deref.ensures.value ∙ c.in_ok-named.ensures) (c.deref-3.ensures.value ∙ c.in_ok-places.ensures) c.requires.names in
     subst (λ z. AreVerdicts c.in_ok-side.side c.in_ok-side.side.of.items z (named_verdict view.limit view.kernel.hold view.suite.home view.suite.packages c.args.budget)) all
-    (c.in_ok-side.ensures.verdicts view.limit view.suite.home view.suite.packages names view.of_suite.kernel_is (c.deref-2.ensures.value ∙ c.in_ok-named.ensures))
+    (c.in_ok-side.ensures.verdicts view.limit view.kernel.hold view.suite.home view.suite.packages names c.kernel_of-kernel.ensures (c.deref-2.ensures.value ∙ c.in_ok-named.ensures))

@@ -2,11 +2,11 @@
 use Rattle.std.proofs.Common.{◌≡◌, ℕ, ◌<◌, ◌≤◌, Bool, true, false, not, ◌&&◌, ◌||◌, cond, ltb, List, [], ◌∷◌, length, map, filter, Some, None, inl, inr, refl, sym, ◌∙◌, ap, ap₂, subst, arith}
 use Rattle.std.proofs.lemmas.Bool.{and_from, and_parts, cases_Bool, cases_lt, lt-ltb, ltb-true, not-true, not_from_false, or_cases, or_left}
 use Rattle.std.proofs.{lemmas.List.{get_or_past, take_all}, lemmas.Option.{same_Some}, lemmas.Simd.{map-map}}
-use Rattle.std.specs.{Prelude.{Option, slice_index_or}, List.{list_any}}
-use Rattle.clause_pool.specs.{Clauses.{in_row_order}, Interned.{Interned, row_at}, Lists.{InOrder}}
+use Rattle.std.specs.{Prelude.{Option, slice_index_or}, List.{list_all, list_any}}
+use Rattle.clause_pool.specs.{Clauses.{in_row_order}, Interned.{Interned, clause_at, clauses_at, row_at}, Lists.{InOrder}}
 use Rattle.clause_pool.proofs.Order.{ordered_has, ordered_order, ordered_parts}
 use Rattle.listed.specs.Lists.{In, here, there}
-use Rattle.listed.proofs.{Bools.{same_bool}, Lists.{In_at, In_has, In_map, In_map_cases, any_cases, any_from, filter_cases, filter_same, has_In}}
+use Rattle.listed.proofs.{Bools.{same_bool}, Lists.{In_at, In_has, In_map, In_map_cases, all_at, any_cases, any_from, filter_cases, filter_same, has_In}}
 use Rattle.row_book.specs.{declared.book.Book.{Book}, Book.{repository_of, Sound}, Flags.{flag}}
 use Rattle.row_book.specs.Flattening.{core_of, has_conflict, packages, remaining_after, row_length}
 use Rattle.row_book.specs.{Repository.{Repository, against, clauses_of, conflicts_of}, Sets.{NumSet}, Sound.{SoundRepository}, Support.{row}, Uses.{row_id}}
@@ -14,7 +14,8 @@ use Rattle.row_book.proofs.{BookRepositories.{book_size, sound_repository}, Book
 use Rattle.clause_flatten.specs.{Beside.{AreKnown, IsKnownRow}, Locality.{StandsIn}}
 use Rattle.clause_flatten.proofs.{LocalRows.{order_there}, LocalRuns.{flat_is_local_lem, flat_stays, limit_is_local_lem}, Tables.{row_order}}
 use Rattle.suite_part.specs.{declared.base.Base.{Base}, Apart.{clause_in, clauses_in, number_in, numbers_up}}
-use Rattle.suite_part.specs.{Bases.{row_of_part, AreChanged, AreRowsThere, IsBase, IsRowThere, StaysAs}, Parts.{chosen_in, part, place_in, row_in}}
+use Rattle.suite_part.specs.{Bases.{row_of_part, AreChanged, AreRowsThere, IsBase, IsRowThere, StaysAs}, Left.{AreLeft}}
+use Rattle.suite_part.specs.Parts.{chosen_in, part, place_in, row_in}
 use Rattle.suite_part.proofs.{Backs.{clauses_in_order, numbers_rise}, Numbered.{number_back, up_ascends, up_count}, Lefts.{none_some}}
 use Rattle.suite_part.proofs.{Parted.{ordered_already, same_order}, PartSound.{made_at, made_count, part_sound}}
 use Rattle.suite_part.proofs.Placed.{count_in, at_place, chosen_cases, chosen_from, place_below, place_rises, HasPlace, IsChosen}
@@ -33,6 +34,22 @@ row_all : (flags : List Bool) (cs : List (List ℕ)) → ((c : List ℕ) → In 
 row_all flags cs up order =
     ap in_row_order (map_alike (chosen_in flags) (map (place_in flags)) cs (λ c i. chosen_all flags c (up c i)))
     ∙ sym (ordered_already (map (map (place_in flags)) cs) (order_there (flag flags) (place_in flags) (λ m n u v l. place_rises flags m n u l) cs up order))
+
+-- and they are in order already
+row_whole : (flags : List Bool) (cs : List (List ℕ)) → ((c : List ℕ) → In c cs → (n : ℕ) → In n c → flag flags n ≡ true) → InOrder cs
+    → row_in flags cs ≡ map (chosen_in flags) cs
+row_whole flags cs up order = row_all flags cs up order ∙ sym (map_alike (chosen_in flags) (map (place_in flags)) cs (λ c i. chosen_all flags c (up c i)))
+
+-- so for a row of which each clause is told to be whole
+pub whole_row : (from pool : Interned) (flags : List Bool) (known : List (Option ℕ)) (whole given : List Bool) (row ids : List ℕ)
+    → AreLeft from flags pool known whole → given ≡ whole → list_all (flag given) row ≡ true → InOrder (clauses_at from row)
+    → clauses_at pool ids ≡ map (chosen_in flags) (clauses_at from row) → clauses_at pool ids ≡ row_in flags (clauses_at from row)
+whole_row from pool flags known whole given row ids are is told order left = left ∙ sym (row_whole flags (clauses_at from row) up order)
+  where
+    up : (c : List ℕ) → In c (clauses_at from row) → (n : ℕ) → In n c → flag flags n ≡ true
+    up c i n j =
+        let w : (id : ℕ) × In id row × (c ≡ clause_at from id) = In_map_cases (clause_at from) row c i in
+        are.all w.0 (ap (λ z. flag z w.0) (sym is) ∙ all_at (flag given) row told w.0 w.1) n (subst (λ z. In n z) w.2 j)
 
 -- rows keep their order where the numbers of all that they name rise
 row_moved : (U : NumSet) (to : ℕ → ℕ) → ((m n : ℕ) → U m ≡ true → U n ≡ true → m < n → to m < to n) → (cs : List (List ℕ)) → ((c : List ℕ) → In c cs → (n : ℕ) → In n c → U n ≡ true) →

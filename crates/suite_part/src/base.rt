@@ -3,13 +3,13 @@
 ghost use Rattle.std.specs.{Prelude.{◌≡◌, is_some, length}, List.{list_all}};
 ghost use Rattle.suite_part.specs.BaseRows.{AreBaseRows};
 
-use crate::changed::{first_chosen, none_changed, put_changed};
+use crate::changed::{first_chosen, none_flagged, put_changed};
 use crate::chosen::{Chosen, has_one};
 use crate::part::part_of;
 use crate::renewed::{renewed_rows, with_empty};
-use crate::rows::{none_known, row_in};
+use crate::rows::{LeftRows, row_left};
 use clause_flatten::{FlatError, flatten};
-use clause_pool::{ClauseId, Pool, RowId};
+use clause_pool::{Pool, RowId};
 use row_book::{Book, UseTable};
 use std::alloc::{AllocError, Global};
 
@@ -35,7 +35,7 @@ impl Base {
     ghost use Rattle.clause_flatten.specs.Beside.{AreKnown};
     ghost use Rattle.listed.specs.Lists.{In};
     ghost use Rattle.row_book.specs.{Book.{listed_for, repository_of, Sound}, Flags.{flag}, Flattening.{passes}, Uses.{uses_of}};
-    ghost use Rattle.suite_part.specs.{Bases.{first_flags, first_part, AreChanged, AreRowsThere, FitsIn, IsBase, IsRowThere, StandsAlike}, Left.{AreLeft}};
+    ghost use Rattle.suite_part.specs.{Bases.{first_flags, first_part, AreChanged, AreRowsThere, FitsIn, IsBase, IsRowThere, StandsAlike}, Left.{AreAllLeft}};
     ghost use Rattle.suite_part.specs.{Parts.{part}, Renewed.{AreRowsOf}};
 
     /// The base of the first packages of a book, so many, without hold; none where one of their rows has more clauses than the limit allows
@@ -150,7 +150,7 @@ impl Base {
         ensures changed { IfOk result (λ changed. (from : Interned) → Sound from book.now → self.now.users ≡ uses_of from book.now.rows →
             AreChanged (repository_of from book.now) self.now.flags.items chosen.now.flags.items changed.items) }
     {
-        let mut changed = none_changed(alloc, book.size())?;
+        let mut changed = none_flagged(alloc, book.size() as usize)?;
         let mut work = Vec::new(alloc);
         for number in 0..book.size() {
             if self.differs(book, chosen, number) {
@@ -192,11 +192,11 @@ impl Base {
         ensures rows { IfOk result (λ known. AreRowsThere self.now.pool self.now.rows.items chosen.now.flags.items changed.now pool.new known.items) }
         ensures kept { Kept pool.old pool.new }
     {
-        let mut seen = none_known(alloc, self.pool.clause_count() as usize)?;
+        let mut left = LeftRows::new(alloc, &self.pool)?;
         let mut known = Vec::new(alloc);
         for (place, is_chosen) in chosen.flags.iter().enumerate() {
             if *is_chosen {
-                let row = self.row_there(alloc, pool, changed, chosen, place, &mut seen)?;
+                let row = self.row_there(alloc, pool, changed, chosen, place, &mut left)?;
                 known.push(row)?;
             }
         }
@@ -211,24 +211,23 @@ impl Base {
         changed: &[bool],
         chosen: &Chosen,
         place: usize,
-        seen: &mut Vec<Option<ClauseId>>,
+        left: &mut LeftRows,
     ) -> Result<Option<RowId>, AllocError>
         requires pool { IsPool pool.old }
         requires own { length self.now.flags.items ≡ length chosen.now.flags.items }
         requires changed { length changed.now ≡ length chosen.now.flags.items }
         requires place { place < length changed.now }
         requires is_chosen { flag chosen.now.flags.items place ≡ true }
-        requires seen { AreLeft self.now.pool chosen.now.flags.items pool.old seen.old.items }
+        requires left { AreAllLeft self.now.pool chosen.now.flags.items pool.old left.old }
         ensures there { IfOk result (λ row. flag changed.now place ≡ false → IsRowThere self.now.pool self.now.rows.items chosen.now.flags.items pool.new place row) }
         ensures unknown { IfOk result (λ row. flag changed.now place ≡ true → row ≡ None) }
-        ensures seen { OnOk result (AreLeft self.now.pool chosen.now.flags.items pool.new seen.new.items) }
+        ensures left { OnOk result (AreAllLeft self.now.pool chosen.now.flags.items pool.new left.new) }
         ensures kept { Kept pool.old pool.new }
     {
         if changed[place] {
             return Ok(None);
         }
-        let row = self.pool.row(self.rows[place]);
-        let there = row_in(alloc, pool, &self.pool, row, chosen, seen)?;
+        let there = row_left(alloc, pool, &self.pool, self.rows[place], chosen, left)?;
         Ok(Some(there))
     }
 }

@@ -19,10 +19,10 @@ pub(crate) fn first_chosen(alloc: Global, count: u32, size: u32) -> Result<Chose
 }
 
 /// So many flags, none of them up.
-pub(crate) fn none_changed(alloc: Global, size: u32) -> Result<Vec<bool>, AllocError>
-    ensures { IfOk result (λ flags. flags.items ≡ replicate size false) }
+pub(crate) fn none_flagged(alloc: Global, count: usize) -> Result<Vec<bool>, AllocError>
+    ensures { IfOk result (λ flags. flags.items ≡ replicate count false) }
 {
-    vec![in alloc; false; size as usize]
+    vec![in alloc; false; count]
 }
 
 /// Flags the packages, and puts those that were not flagged to those whose users are to be looked at.

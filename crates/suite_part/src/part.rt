@@ -6,7 +6,7 @@ ghost use Rattle.row_book.specs.Book.{repository_of, AreConflicts, Sound};
 ghost use Rattle.suite_part.specs.Parts.{chosen_in, part, row_in};
 
 use crate::chosen::Chosen;
-use crate::rows::{none_known, row_in};
+use crate::rows::{LeftRows, row_left};
 use clause_pool::{NumList, Pool, RowId};
 use listed::Listed;
 use row_book::Book;
@@ -51,13 +51,12 @@ fn rows_in(
     ensures of_pool { IfOk result (λ rows. RowsOf pool.new rows.items) }
     ensures kept { Kept pool.old pool.new }
 {
-    let mut known = none_known(alloc, from.clause_count() as usize)?;
+    let mut left = LeftRows::new(alloc, from)?;
     let mut rows = Vec::new(alloc);
     for place in 0..book.size() {
         if chosen.flags[place as usize] {
-            let row = from.row(book.row(place));
-            let left = row_in(alloc, pool, from, row, chosen, &mut known)?;
-            rows.push(left)?;
+            let made = row_left(alloc, pool, from, book.row(place), chosen, &mut left)?;
+            rows.push(made)?;
         }
     }
     Ok(rows)

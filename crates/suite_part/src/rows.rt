@@ -1,41 +1,123 @@
 //! What is left of the rows of a book.
 //!
-//! What is left of a clause is made once, and its id is kept for the other rows that have the clause. Most rows stay in order when
-//! their clauses lose packages; the others are put in order.
-ghost use Rattle.std.specs.{Prelude.{◌≡◌, ◌<◌, ℕ, List, None, length, map, slice_index_or, IfOk, OnOk}, Bool.{OnTrue}};
-ghost use Rattle.clause_pool.specs.{Clauses.{in_row_order}, Interned.{clause_at, clauses_at, row_at, IsPool, Kept, OfPool}, Lists.{InOrder}};
+//! What is left of a clause is made once, and its id is kept for the other rows that have the clause; so is what is left of a row, which
+//! many packages share. A row of which no clause loses a package stays in order, and so do most others; the rest are put in order.
+ghost use Rattle.std.specs.{Prelude.{◌≡◌, ◌<◌, ℕ, Bool, List, None, length, map, slice_index_or, IfOk, OnOk}, Bool.{OnTrue}, List.{list_all}};
+ghost use Rattle.clause_pool.specs.{Clauses.{in_row_order}, Interned.{clause_at, clauses_at, row_at, Interned, IsPool, Kept, OfPool}, Lists.{InOrder}};
 ghost use Rattle.listed.specs.Lists.{Ascending, In};
-ghost use Rattle.suite_part.specs.{Left.{AreLeft, IsLeft}, Parts.{chosen_in, row_in}};
+ghost use Rattle.row_book.specs.Flags.{flag};
+ghost use Rattle.suite_part.specs.{Left.{AreAllLeft, AreLeft, IsLeft, IsRowLeft}, Parts.{chosen_in, row_in}};
 
+use crate::changed::none_flagged;
 use crate::chosen::Chosen;
 use clause_families::{Clause, put_in_order};
 use clause_pool::{ClauseId, Pool, RowId, is_before};
 use std::alloc::{AllocError, Global};
 
+// What is left of the clauses of a pool, from one row to the next.
+#[derive(Drop)]
+struct LeftClauses {
+    // For each clause of that pool the id of what is left of it, where it is known.
+    known: Vec<Option<ClauseId>>,
+    // For each clause of that pool whether it is known to lose no package.
+    whole: Vec<bool>,
+    // Room for the ids of a row.
+    ids: Vec<ClauseId>,
+    // Room for the numbers of a clause.
+    clause: Vec<u32>,
+}
+
+impl LeftClauses {
+    // The clauses of a pool, of which nothing is known yet.
+    fn new(alloc: Global, from: &Pool) -> Result<LeftClauses, AllocError>
+        ensures { IfOk result (λ left. (flags : List Bool) (pool : Interned) → AreLeft from.now flags pool left.known.items left.whole.items) }
+    {
+        let count = from.clause_count() as usize;
+        let known = none_known(alloc, count)?;
+        let whole = none_flagged(alloc, count)?;
+        Ok(LeftClauses {
+            known,
+            whole,
+            ids: Vec::new(alloc),
+            clause: Vec::new(alloc),
+        })
+    }
+}
+
+/// What is left of the rows of a pool, from one package to the next.
+#[derive(Drop)]
+pub(crate) struct LeftRows {
+    // For each row of that pool the id of what is left of it, where it is known.
+    known: Vec<Option<RowId>>,
+    // What is left of its clauses.
+    clauses: LeftClauses,
+}
+
+impl LeftRows {
+    /// The rows of a pool, of which nothing is known yet.
+    pub(crate) fn new(alloc: Global, from: &Pool) -> Result<LeftRows, AllocError>
+        ensures { IfOk result (λ left. (flags : List Bool) (pool : Interned) → AreAllLeft from.now flags pool left) }
+    {
+        let known = none_known(alloc, from.row_count())?;
+        let clauses = LeftClauses::new(alloc, from)?;
+        Ok(LeftRows { known, clauses })
+    }
+}
+
 /// What is left of a row.
-pub(crate) fn row_in(
+pub(crate) fn row_left(
+    alloc: Global,
+    pool: &mut Pool,
+    from: &Pool,
+    id: RowId,
+    chosen: &Chosen,
+    left: &mut LeftRows,
+) -> Result<RowId, AllocError>
+    requires pool { IsPool pool.old }
+    requires id { id < length from.now.rows }
+    requires numbers { (c : List ℕ) → In c (row_at from.now id) → (n : ℕ) → In n c → n < length chosen.now.flags.items }
+    requires left { AreAllLeft from.now chosen.now.flags.items pool.old left.old }
+    ensures row { IfOk result (IsRowLeft from.now chosen.now.flags.items pool.new id) }
+    ensures left { OnOk result (AreAllLeft from.now chosen.now.flags.items pool.new left.new) }
+    ensures kept { Kept pool.old pool.new }
+{
+    if let Some(new) = left.known[id.place()] {
+        return Ok(new);
+    }
+    let made = row_in(alloc, pool, from, from.row(id), chosen, &mut left.clauses)?;
+    left.known[id.place()] = Some(made);
+    Ok(made)
+}
+
+// What is left of a row of these clauses.
+fn row_in(
     alloc: Global,
     pool: &mut Pool,
     from: &Pool,
     row: &[ClauseId],
     chosen: &Chosen,
-    known: &mut Vec<Option<ClauseId>>,
+    left: &mut LeftClauses,
 ) -> Result<RowId, AllocError>
     requires pool { IsPool pool.old }
     requires row { OfPool from.now row.now }
+    requires order { InOrder (clauses_at from.now row.now) }
     requires numbers { (c : List ℕ) → In c (clauses_at from.now row.now) → (n : ℕ) → In n c → n < length chosen.now.flags.items }
-    requires known { AreLeft from.now chosen.now.flags.items pool.old known.old.items }
+    requires known { AreLeft from.now chosen.now.flags.items pool.old left.old.known.items left.old.whole.items }
     ensures row { IfOk result (λ id. row_at pool.new id ≡ row_in chosen.now.flags.items (clauses_at from.now row.now)) }
     ensures of_pool { IfOk result (λ id. id < length pool.new.rows) }
-    ensures known { OnOk result (AreLeft from.now chosen.now.flags.items pool.new known.new.items) }
+    ensures known { OnOk result (AreLeft from.now chosen.now.flags.items pool.new left.new.known.items left.new.whole.items) }
     ensures kept { Kept pool.old pool.new }
 {
-    let ids = left_ids(alloc, pool, from, row, chosen, known)?;
-    intern_in_order(alloc, pool, ids.as_slice())
+    left_ids(pool, from, row, chosen, left)?;
+    let ids = left.ids.as_slice();
+    if are_whole(left.whole.as_slice(), row) {
+        return pool.intern_row(ids);
+    }
+    intern_in_order(alloc, pool, ids)
 }
 
-/// So many clauses of which no id is known.
-pub(crate) fn none_known(alloc: Global, count: usize) -> Result<Vec<Option<ClauseId>>, AllocError>
+/// So many ids, of which none is known.
+pub(crate) fn none_known<T: Drop>(alloc: Global, count: usize) -> Result<Vec<Option<T>>, AllocError>
     ensures size { IfOk result (λ known. length known.items ≡ count) }
     ensures none { IfOk result (λ known. (id : ℕ) → slice_index_or known.items id None ≡ None) }
 {
@@ -46,30 +128,28 @@ pub(crate) fn none_known(alloc: Global, count: usize) -> Result<Vec<Option<Claus
     Ok(known)
 }
 
-// The ids of what is left of each clause of a row.
+// Puts the ids of what is left of each clause of a row into their room.
 fn left_ids(
-    alloc: Global,
     pool: &mut Pool,
     from: &Pool,
     row: &[ClauseId],
     chosen: &Chosen,
-    known: &mut Vec<Option<ClauseId>>,
-) -> Result<Vec<ClauseId>, AllocError>
+    left: &mut LeftClauses,
+) -> Result<(), AllocError>
     requires row { OfPool from.now row.now }
     requires numbers { (c : List ℕ) → In c (clauses_at from.now row.now) → (n : ℕ) → In n c → n < length chosen.now.flags.items }
-    requires known { AreLeft from.now chosen.now.flags.items pool.old known.old.items }
-    ensures ids { IfOk result (λ ids. clauses_at pool.new ids.items ≡ map (chosen_in chosen.now.flags.items) (clauses_at from.now row.now)) }
-    ensures of_pool { IfOk result (λ ids. OfPool pool.new ids.items) }
-    ensures known { OnOk result (AreLeft from.now chosen.now.flags.items pool.new known.new.items) }
+    requires known { AreLeft from.now chosen.now.flags.items pool.old left.old.known.items left.old.whole.items }
+    ensures ids { OnOk result (clauses_at pool.new left.new.ids.items ≡ map (chosen_in chosen.now.flags.items) (clauses_at from.now row.now)) }
+    ensures of_pool { OnOk result (OfPool pool.new left.new.ids.items) }
+    ensures known { OnOk result (AreLeft from.now chosen.now.flags.items pool.new left.new.known.items left.new.whole.items) }
     ensures kept { Kept pool.old pool.new }
 {
-    let mut ids = Vec::with_capacity(alloc, row.len())?;
-    let mut left = Vec::new(alloc);
+    left.ids.clear();
     for id in row {
-        let new = left_id(pool, from, chosen, known, &mut left, *id)?;
-        ids.push(new)?;
+        let new = left_id(pool, from, chosen, left, *id)?;
+        left.ids.push(new)?;
     }
-    Ok(ids)
+    Ok(())
 }
 
 // The id of what is left of a clause, which is made where none is known yet.
@@ -77,24 +157,39 @@ fn left_id(
     pool: &mut Pool,
     from: &Pool,
     chosen: &Chosen,
-    known: &mut Vec<Option<ClauseId>>,
-    left: &mut Vec<u32>,
+    left: &mut LeftClauses,
     id: ClauseId,
 ) -> Result<ClauseId, AllocError>
     requires id { id < length from.now.clauses }
     requires numbers { (n : ℕ) → In n (clause_at from.now id) → n < length chosen.now.flags.items }
-    requires known { AreLeft from.now chosen.now.flags.items pool.old known.old.items }
+    requires known { AreLeft from.now chosen.now.flags.items pool.old left.old.known.items left.old.whole.items }
     ensures is { IfOk result (IsLeft from.now chosen.now.flags.items pool.new id) }
-    ensures known { OnOk result (AreLeft from.now chosen.now.flags.items pool.new known.new.items) }
+    ensures ids { left.new.ids ≡ left.old.ids }
+    ensures known { OnOk result (AreLeft from.now chosen.now.flags.items pool.new left.new.known.items left.new.whole.items) }
     ensures kept { Kept pool.old pool.new }
 {
-    if let Some(new) = known[id.place()] {
+    if let Some(new) = left.known[id.place()] {
         return Ok(new);
     }
-    chosen.put_among(left, from.slice(id))?;
-    let made = pool.intern(left.as_slice())?;
-    known[id.place()] = Some(made);
+    let clause = from.slice(id);
+    chosen.put_among(&mut left.clause, clause)?;
+    let made = pool.intern(left.clause.as_slice())?;
+    left.known[id.place()] = Some(made);
+    left.whole[id.place()] = left.clause.as_slice().len() == clause.len();
     Ok(made)
+}
+
+// Whether the flags of all these clauses are up.
+fn are_whole(whole: &[bool], row: &[ClauseId]) -> bool
+    requires { (id : ℕ) → In id row.now → id < length whole.now }
+    ensures { result ≡ list_all (flag whole.now) row.now }
+{
+    for id in row {
+        if !whole[id.place()] {
+            return false;
+        }
+    }
+    true
 }
 
 // The row of these clauses, in order and each once.

@@ -1,3 +1,4 @@
+use Rattle.std.proofs.Common.{◌∙◌, ◌++◌, ◌∷◌, [], ap}
 use Rattle.listed.proofs.Lists.{In_map, item_in}
 use Rattle.clause_pool.specs.Interned.{clause_at}
 use Rattle.clause_pool.proofs.Interned.{kept_along}
@@ -21,7 +22,7 @@ returns-in_err-push-clause-kept c = kept_along c.args.pool.now c.loop-id.pool c.
 
 pub loop-id-preserved : goal.loop-id-preserved
 loop-id-preserved c = record {
-  made = left_interned c.args.pool.now c.loop-id.pool c.left_id.new.pool c.args.from.now c.args.chosen.now.flags.items c.args.row.now c.loop-id.id-index c.id-item.result c.loop-id.ids.items c.push.new.self.items c.in_ok-new.new
-      c.loop-id-test.true c.id-item.is c.loop-id.invariant.made c.left_id.ensures.kept c.in_ok-new.ensures.is c.in_ok-push.ensures.items;
+  made = left_interned c.args.pool.now c.loop-id.pool c.left_id.new.pool c.args.from.now c.args.chosen.now.flags.items c.args.row.now c.loop-id.id-index c.id-item.result c.loop-id.left.ids.items c.push.new.self.items c.in_ok-new.new
+      c.loop-id-test.true c.id-item.is c.loop-id.invariant.made c.left_id.ensures.kept c.in_ok-new.ensures.is (c.in_ok-push.ensures.items ∙ ap (λ v. v.items ++ c.in_ok-new.new ∷ []) c.left_id.ensures.ids);
   known = c.in_ok-new.ensures.known;
 }

@@ -1,10 +1,22 @@
-use Rattle.std.proofs.Common.{◌≡◌, ◌<◌, ◌+◌, ◌∙◌, Bool, List, ℕ, ap, get_or, length, subst, sym, false}
+use Rattle.std.proofs.Common.{◌≡◌, ◌<◌, ◌+◌, ◌∙◌, Bool, List, ℕ, ap, arith, get_or, length, subst, sym, false}
 use Rattle.clause_pool.proofs.Interned.{kept_along}
 use Rattle.clause_pool.specs.Interned.{Interned}
-use Rattle.suite_part.specs.Left.{AreLeft}
-use Rattle.suite_part.proofs.RowsThere.{rows_less, rows_more, RowsTo}
+use Rattle.suite_part.specs.Left.{AreAllLeft}
+use Rattle.suite_part.proofs.RowsThere.{rows_all, rows_less, rows_more, rows_none, RowsTo}
 use Rattle.suite_part.proofs.base.Base.rows_there.Goals as goal
 use Rattle.suite_part.proofs.base.Base.rows_there.Goals.{then-is_chosen+in_ok-row+in_ok-push, else-is_chosen}
+
+pub loop-place-init : goal.loop-place-init
+loop-place-init c = record {
+  rows = rows_none c.args.self.now.pool c.args.self.now.rows.items c.args.chosen.now.flags.items c.args.changed.now c.args.pool.now c.new-known.result.items c.new-known.ensures.items;
+  left = c.in_ok-left.ensures c.args.chosen.now.flags.items c.args.pool.now;
+}
+
+pub returns-clause-rows : goal.returns-clause-rows
+returns-clause-rows c =
+    let whole : c.loop-place.place ≡ length c.deref-is_chosen-items.result.now = omega (arith, c.loop-place-test.false, c.loop-place.auto.place-end) in
+    rows_all c.args.self.now.pool c.args.self.now.rows.items c.args.chosen.now.flags.items c.args.changed.now c.args.pool.now c.loop-place.pool c.loop-place.known.items c.loop-place.place
+    (whole ∙ ap length c.deref-is_chosen-items.ensures.value) c.loop-place.invariant.rows
 
 pub returns-in_err-row-clause-kept : goal.returns-in_err-row-clause-kept
 returns-in_err-row-clause-kept c = kept_along c.args.pool.now c.loop-place.pool c.row_there.new.pool c.loop-place.invariant.rows.kept c.row_there.ensures.kept
@@ -29,8 +41,7 @@ loop-place-preserved c =
           w.in_ok-row.ensures.there w.in_ok-row.ensures.unknown (ap (λ v. v.items) w.known-is ∙ w.in_ok-push.ensures.items) c.loop-place.invariant.rows in
           record {
             rows = subst (λ p. RowsTo c.args.pool.now from rows flags changed p c.if-is_chosen.known.items (n + 1)) (sym w.pool-is) more;
-            seen = subst (λ p. AreLeft from flags p c.if-is_chosen.seen.items) (sym w.pool-is)
-                (subst (λ v. AreLeft from flags new v) (sym (ap (λ v. v.items) w.seen-is)) w.in_ok-row.ensures.seen);
+            left = subst (λ p. AreAllLeft from flags p c.if-is_chosen.left) (sym w.pool-is) (subst (AreAllLeft from flags new) (sym w.left-is) w.in_ok-row.ensures.left);
           }
       | else-is_chosen w ↦
           let old : Interned = c.loop-place.pool in
@@ -39,7 +50,6 @@ loop-place-preserved c =
           record {
             rows = subst (λ p. RowsTo c.args.pool.now from rows flags changed p c.if-is_chosen.known.items (n + 1)) (sym w.pool-is)
                 (subst (λ v. RowsTo c.args.pool.now from rows flags changed old v (n + 1)) (sym (ap (λ v. v.items) w.known-is)) less);
-            seen = subst (λ p. AreLeft from flags p c.if-is_chosen.seen.items) (sym w.pool-is)
-                (subst (λ v. AreLeft from flags old v) (sym (ap (λ v. v.items) w.seen-is)) c.loop-place.invariant.seen);
+            left = subst (λ p. AreAllLeft from flags p c.if-is_chosen.left) (sym w.pool-is) (subst (AreAllLeft from flags old) (sym w.left-is) c.loop-place.invariant.left);
           }
     ]

@@ -16,7 +16,7 @@ checked_by : (path text : List ℕ) (index : Index) (fault : Option IndexFault) 
 checked_by path text index (Some fault) is e = absurd cc
 checked_by path text index None is e = (is, cc)
 
-pub index_checked : (path text : List ℕ) (index : Index) → checked_index path text ≡ Ok index → (first_fault text ≡ None) × (index_in text ≡ index)
+index_checked : (path text : List ℕ) (index : Index) → checked_index path text ≡ Ok index → (first_fault text ≡ None) × (index_in text ≡ index)
 index_checked path text index e = checked_by path text index (first_fault text) refl e
 
 pub suite_checked : (path text : List ℕ) (home : Home) (packages : List PackageFacts) → (let index : Index = record { home = home; packages = packages } in checked_index path text ≡ Ok index) →

@@ -25,7 +25,7 @@ pub mod Meaning
 pub mod Migrate
 pub mod MigrateMeaning
 pub mod MigrateText
-pub mod Noted
+pub mod Held
 pub mod Outcome
 pub mod Query
 pub mod QueryMeaning

@@ -2,11 +2,11 @@
 ghost use Rattle.std.specs.Prelude.{◌≡◌, ◌<◌, ◌≤◌, ℕ, List, Option, IfErr, IfOk, length};
 ghost use Rattle.clause_solver.specs.Outcomes.{IsBudget};
 ghost use Rattle.coinst_words.specs.Jobs.{AreInLimits};
-ghost use Rattle.migrate_plan.specs.{Notes.{AreTexts, IsNotedOf, Texts}, Plan.{settings_of}, Refusals.{Refuses}, declared.plan.PlanLine.{PlanLine}};
+ghost use Rattle.migrate_plan.specs.{Indexes.{AreMeasured, Texts}, Plan.{settings_of}, Refusals.{Refuses}, declared.plan.PlanLine.{PlanLine}};
 ghost use Rattle.migrate_plan.specs.declared.refusals.PlanError.{PlanError};
 ghost use Rattle.repo_model.specs.{Feeding.{IsSuiteOf}, Limits.{most_bytes}};
 ghost use Rattle.coinst_run.specs.{Ending.{Settles, StopsAt, ending_of, stop_ending}, Follows.{Follows}, Index.{checked_index}};
-ghost use Rattle.coinst_run.specs.{Migrate.{by_refusal, homes_line, migrate_course, new_answer, new_course, old_answer, plan_answer}, Noted.{IsReadOf}};
+ghost use Rattle.coinst_run.specs.{Migrate.{by_refusal, homes_line, migrate_course, new_answer, new_course, old_answer, plan_answer}, Held.{IsHeldOf}};
 
 use crate::answer::{Cause, Report, Stop};
 use crate::lines::{Made, line_about, too_long_line};
@@ -15,7 +15,7 @@ use crate::stages::{checked_index, text_at};
 use crate::views::view_of;
 use byte_flow::Shelf;
 use coinst_words::Settings;
-use migrate_plan::{PlanError, TextNotes, plan_between};
+use migrate_plan::{PlanError, TextLengths, plan_between};
 use repo_model::Suite;
 use std::alloc::Global;
 use suite_compare::SuiteView;
@@ -49,26 +49,26 @@ fn from_older<F: Shelf>(
     requires with { AreInLimits with }
     ensures { Follows F.contents F.faults F.moved F.is_quiet F.start_gives F.read_gives (old_answer old.now new.now (settings_of with.budget with.clause_limit with.hold) text.items) shelf.old (ending_of result) shelf.new }
 {
-    let noted = noted_index(alloc, old, text)?;
-    from_noted(alloc, shelf, noted, old, new, with)
+    let held = held_index(alloc, old, text)?;
+    from_held(alloc, shelf, held, old, new, with)
 }
 
-// The same behind what was read of the older text.
-fn from_noted<F: Shelf>(
+// The same behind what is held of the older index.
+fn from_held<F: Shelf>(
     alloc: Global,
     shelf: &mut F,
-    noted: NotedIndex,
+    held: HeldIndex,
     old: &str,
     new: &str,
     with: Settings,
 ) -> Result<Report, Stop>
-    requires short { noted.notes.length ≤ most_bytes }
+    requires short { held.length ≤ most_bytes }
     requires with { AreInLimits with }
-    ensures { (text : List ℕ) → IsReadOf text noted → Follows F.contents F.faults F.moved F.is_quiet F.start_gives F.read_gives (old_answer old.now new.now (settings_of with.budget with.clause_limit with.hold) text) shelf.old (ending_of result) shelf.new }
+    ensures { (text : List ℕ) → IsHeldOf text held → Follows F.contents F.faults F.moved F.is_quiet F.start_gives F.read_gives (old_answer old.now new.now (settings_of with.budget with.clause_limit with.hold) text) shelf.old (ending_of result) shelf.new }
 {
-    let NotedIndex { suite, notes } = noted;
+    let HeldIndex { suite, length } = held;
     let view = view_of(alloc, suite, old, with.clause_limit, with.hold)?;
-    let report = from_view(alloc, shelf, &notes, &view, old, new, with.budget);
+    let report = from_view(alloc, shelf, &view, length, old, new, with.budget);
     drop(view);
     report
 }
@@ -77,82 +77,89 @@ fn from_noted<F: Shelf>(
 fn from_view<F: Shelf>(
     alloc: Global,
     shelf: &mut F,
-    notes: &TextNotes,
     view: &SuiteView,
+    old_length: u64,
     old: &str,
     new: &str,
     budget: u64,
 ) -> Result<Report, Stop>
-    requires short { notes.now.length ≤ most_bytes }
+    requires short { old_length ≤ most_bytes }
     requires budget { IsBudget budget }
     requires limit { 0 < view.now.limit }
-    ensures { (text : List ℕ) → IsSuiteOf text view.now.suite.packages view.now.suite.home.name → IsNotedOf text notes.now
+    ensures { (text : List ℕ) → IsSuiteOf text view.now.suite.packages view.now.suite.home.name → old_length ≡ length text
         → Follows F.contents F.faults F.moved F.is_quiet F.start_gives F.read_gives (new_course old.now new.now (settings_of budget view.now.limit view.now.kernel.hold) text) shelf.old (ending_of result) shelf.new }
 {
     let newer = text_at(alloc, shelf, new)?;
-    from_both(alloc, notes, view, newer, old, new, budget)
+    from_both(alloc, view, old_length, newer, old, new, budget)
 }
 
 // The same behind the texts of both; the newer one is given back.
 fn from_both(
     alloc: Global,
-    notes: &TextNotes,
     view: &SuiteView,
+    old_length: u64,
     newer: Vec<u8>,
     old: &str,
     new: &str,
     budget: u64,
 ) -> Result<Report, Stop>
-    requires short { notes.now.length ≤ most_bytes }
+    requires short { old_length ≤ most_bytes }
     requires newer_short { length newer.items ≤ most_bytes }
     requires budget { IsBudget budget }
     requires limit { 0 < view.now.limit }
-    ensures { (text : List ℕ) → IsSuiteOf text view.now.suite.packages view.now.suite.home.name → IsNotedOf text notes.now
+    ensures { (text : List ℕ) → IsSuiteOf text view.now.suite.packages view.now.suite.home.name → old_length ≡ length text
         → Settles (new_answer old.now new.now (settings_of budget view.now.limit view.now.kernel.hold) text newer.items) (ending_of result) }
 {
-    let noted = noted_index(alloc, new, newer)?;
-    let report = plan_report(alloc, notes, view, &noted, old, new, budget);
-    drop(noted);
+    let held = held_index(alloc, new, newer)?;
+    let lengths = TextLengths {
+        old: old_length,
+        new: held.length,
+    };
+    let report = plan_report(alloc, view, &held.suite, lengths, old, new, budget);
+    drop(held);
     report
 }
 
-// What was read of the text of an index: its packages, and what a plan asks of it beside them.
+// What is held of an index once its text was read: its packages, and how many bytes the text has.
 #[derive(Drop)]
-struct NotedIndex {
+struct HeldIndex {
     suite: Suite,
-    notes: TextNotes,
+    length: u64,
 }
 
-// What is read of the text of the index at a path. The text is given back.
-fn noted_index(alloc: Global, path: &str, text: Vec<u8>) -> Result<NotedIndex, Stop>
+// What is held of the index at a path. The text is given back.
+fn held_index(alloc: Global, path: &str, text: Vec<u8>) -> Result<HeldIndex, Stop>
     requires { length text.items ≤ most_bytes }
-    ensures read { IfOk result (IsReadOf text.items) }
+    ensures read { IfOk result (IsHeldOf text.items) }
     ensures stop { IfErr result (λ stop. StopsAt (checked_index path.now text.items) (stop_ending stop)) }
 {
-    let suite = checked_index(alloc, path, text.as_slice())?;
-    let notes = TextNotes::of(alloc, text.as_slice())?;
-    Ok(NotedIndex { suite, notes })
+    let bytes = text.as_slice();
+    let suite = checked_index(alloc, path, bytes)?;
+    Ok(HeldIndex {
+        suite,
+        length: bytes.len() as u64,
+    })
 }
 
 // The report on the plan of two indexes.
 #[tactic(auto, using(crate::proofs::Migrating::plan_told))]
 fn plan_report(
     alloc: Global,
-    notes: &TextNotes,
     view: &SuiteView,
-    newer: &NotedIndex,
+    newer: &Suite,
+    lengths: TextLengths,
     old: &str,
     new: &str,
     budget: u64,
 ) -> Result<Report, Stop>
-    requires short { notes.now.length ≤ most_bytes }
-    requires newer_short { newer.now.notes.length ≤ most_bytes }
+    requires short { lengths.old ≤ most_bytes }
+    requires newer_short { lengths.new ≤ most_bytes }
     requires budget { IsBudget budget }
     requires limit { 0 < view.now.limit }
-    ensures { (texts : Texts) → AreTexts texts view.now.suite notes.now newer.now.suite newer.now.notes
+    ensures { (texts : Texts) → AreMeasured texts view.now.suite newer.now lengths
         → Settles (plan_answer old.now new.now (settings_of budget view.now.limit view.now.kernel.hold) texts.old texts.new) (ending_of result) }
 {
-    match plan_between(alloc, notes, view, &newer.notes, &newer.suite, budget) {
+    match plan_between(alloc, view, newer, lengths, budget) {
         Ok(plan) => {
             let lines = plan.lines.as_slice();
             Ok(Report::of(plan_verdict(lines), plan_text(alloc, lines)?))

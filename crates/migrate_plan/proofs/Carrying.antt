@@ -1,10 +1,8 @@
 -- What is handed on from mix to mix.
-use Rattle.std.proofs.{Common.{◌≡◌, ℕ, ◌<◌, ◌+◌, ◌≤◌, Bool, List, length, Option, ◌∙◌, arith}, lemmas.List.{length-append}}
+use Rattle.std.proofs.{Common.{◌≡◌, ℕ, ◌+◌, ◌≤◌, Bool, List, length, Option, arith}, lemmas.List.{length-append}}
 use Rattle.std.specs.{List.{items_where_true}, Option.{ForSome}, Global.{Vec}}
-use Rattle.clause_flatten.specs.Beside.{AreKnown, IsKnownRow}
-use Rattle.clause_pool.specs.Interned.{Interned, row_at, IsPool, Kept}
-use Rattle.clause_pool.proofs.Interned.{row_stays}
-use Rattle.row_book.specs.{Book.{Sound}, Repository.{Repository}}
+use Rattle.clause_pool.specs.Interned.{Interned}
+use Rattle.row_book.specs.Book.{Sound}
 use Rattle.suite_compare.specs.declared.sides.OldSide.{OldSide}
 use Rattle.suite_part.specs.{Bases.{FitsIn}, Renewed.{AreRowsOf}, declared.base.Base.{Base}}
 use Rattle.suite_part.proofs.{BaseMade.{base_fits}, Renewing.{known_rows_in}}
@@ -19,17 +17,6 @@ old_packages old whole is =
     let long : length whole.book.rows ≡ length (packages_of_both old whole) = book_long whole.pool whole.book whole.home (packages_of_both old whole) is.book_is in
     let both : length (packages_of_both old whole) ≡ length olds + length news = length-append olds news in
     omega (arith, long, both)
-
--- rows that are known stay so while the pool grows
-pub known_kept : (pool new : Interned) (limit : ℕ) (R : Repository) (known : List (Option ℕ)) → IsPool pool → Kept pool new → AreKnown pool limit R known → AreKnown new limit R known
-known_kept pool new limit R known is kept are = record {
-  count = are.count;
-  each = λ p id told.
-      let w : (id < length pool.rows) × IsKnownRow R limit p (row_at pool id) = are.each p id told in (
-        (kept.rows id w.0).0,
-        record { is = row_stays pool new is kept id w.0 ∙ w.1.is; within = w.1.within },
-      );
-}
 
 -- rows that are known of a part name packages of it
 pub rows_in_part : (pool : Interned) (limit : ℕ) (whole : Whole) (flags : List Bool) (known : Option (Vec (Option ℕ))) → Sound whole.pool whole.book → length flags ≡ length whole.book.rows → AreKnownIn pool limit whole flags known →

@@ -1,7 +1,7 @@
 -- The packages of a mix are those of both indexes, but for the numbers of their lines; and what they say is asked alike.
 use Rattle.std.proofs.Common.{◌≡◌, ℕ, ◌+◌, ◌≤◌, Bool, true, false, cond, List, [], ◌∷◌, ◌++◌, length, map, Option, Some, None, refl, sym, ap, ap₂, subst, ◌∙◌, arith, length-append}
 use Rattle.std.proofs.{lemmas.List.{map-append}, Math.Path.{fun_ext}}
-use Rattle.std.specs.{Prelude.{count_by, filter, ◌||◌}, List.{items_where_true}, Option.{option_or}, Str.{bytes_eq}}
+use Rattle.std.specs.{Prelude.{count_by, filter, is_some, ◌||◌, if◌then◌else◌}, List.{items_where_true, list_any}, Option.{option_or}, Str.{bytes_eq}}
 use Rattle.stanza_reader.specs.Lines.{is_line_feed}
 use Rattle.stanza_reader.specs.declared.stanza.FieldKind.TheVariants.{Breaks, Conflicts, Depends, Package, PreDepends, Provides, Version}
 use Rattle.stanza_reader.specs.declared.stanza.RawStanza.{RawStanza}
@@ -15,31 +15,35 @@ use Rattle.repo_model.specs.{Goals.{names_in}, Laws.{but_line, IgnoresLines}, Li
 use Rattle.repo_model.proofs.Lines.{lines_ignored}
 use Rattle.suite_compare.specs.{Asking.{goal_classes, image_of, images_of, tree_of, verdict_in, verdict_of}, Names.{stands_in}, Refusals.{home_in, packages_in}}
 use Rattle.suite_compare.specs.Report.{report}
-use Rattle.migrate_plan.specs.{Mix.{is_left, is_taken, mix, mixed_packages}, Plan.{outcome_of, Settings}, Notes.{AreTexts, Texts, first_raised}}
-use Rattle.migrate_plan.specs.{Refusals.{packages_with}, Trying.{outcome_by}, declared.notes.TextNotes.{TextNotes}}
-use Rattle.migrate_plan.proofs.{LaterFields.{architecture_later, value_later}, Mixed.{front_of, mix_stanzas, mixed, named, taken_within}, Noted.{home_noted}}
+use Rattle.migrate_plan.specs.{Mix.{is_left, is_taken, mix, mixed_packages}, Plan.{outcome_of, Settings}, Indexes.{AreTexts, Texts, home_where}}
+use Rattle.migrate_plan.specs.{Refusals.{packages_with}, Trying.{outcome_by}}
+use Rattle.migrate_plan.proofs.{LaterFields.{architecture_later, value_later}, Mixed.{front_of, mix_stanzas, mixed, named, taken_within}, Bound.{home_named}}
 use Rattle.migrate_plan.proofs.Shifted.{later_stanza}
 
 -- a stanza whose lines are counted on says the same of its package
 later_says : (more : ℕ) (stanza : RawStanza) → but_line (facts_of (later_stanza more stanza)) ≡ but_line (facts_of stanza)
 unfolding facts_of
 later_says more stanza =
-    let both : (name version pre needs conflicts breaks provides : List ℕ) → PackageFacts = λ name version pre needs conflicts breaks provides. record {
+    let both : (name version : List ℕ) → Bool → (pre needs conflicts breaks provides : List ℕ) → PackageFacts = λ name version bound pre needs conflicts breaks provides. record {
       line = 0;
       name = name;
       version = version;
+      is_bound = bound;
       needs = said_in alternatives_of pre ++ said_in alternatives_of needs;
       against = said_in atom_of conflicts ++ said_in atom_of breaks;
       provides = said_in provide_of provides;
     } in
     let s : RawStanza = later_stanza more stanza in
-    ap (λ z. both z (value_of Version s) (value_of PreDepends s) (value_of Depends s) (value_of Conflicts s) (value_of Breaks s) (value_of Provides s)) (value_later more Package stanza)
-    ∙ ap (λ z. both (value_of Package stanza) z (value_of PreDepends s) (value_of Depends s) (value_of Conflicts s) (value_of Breaks s) (value_of Provides s)) (value_later more Version stanza)
-    ∙ ap (λ z. both (value_of Package stanza) (value_of Version stanza) z (value_of Depends s) (value_of Conflicts s) (value_of Breaks s) (value_of Provides s)) (value_later more PreDepends stanza)
-    ∙ ap (λ z. both (value_of Package stanza) (value_of Version stanza) (value_of PreDepends stanza) z (value_of Conflicts s) (value_of Breaks s) (value_of Provides s)) (value_later more Depends stanza)
-    ∙ ap (λ z. both (value_of Package stanza) (value_of Version stanza) (value_of PreDepends stanza) (value_of Depends stanza) z (value_of Breaks s) (value_of Provides s)) (value_later more Conflicts stanza)
-    ∙ ap (λ z. both (value_of Package stanza) (value_of Version stanza) (value_of PreDepends stanza) (value_of Depends stanza) (value_of Conflicts stanza) z (value_of Provides s)) (value_later more Breaks stanza)
-    ∙ ap (λ z. both (value_of Package stanza) (value_of Version stanza) (value_of PreDepends stanza) (value_of Depends stanza) (value_of Conflicts stanza) (value_of Breaks stanza) z) (value_later more Provides stanza)
+    let b : Bool = is_some (architecture_of s) in
+    let bound : Bool = is_some (architecture_of stanza) in
+    ap (λ z. both z (value_of Version s) b (value_of PreDepends s) (value_of Depends s) (value_of Conflicts s) (value_of Breaks s) (value_of Provides s)) (value_later more Package stanza)
+    ∙ ap (λ z. both (value_of Package stanza) z b (value_of PreDepends s) (value_of Depends s) (value_of Conflicts s) (value_of Breaks s) (value_of Provides s)) (value_later more Version stanza)
+    ∙ ap (λ z. both (value_of Package stanza) (value_of Version stanza) (is_some z) (value_of PreDepends s) (value_of Depends s) (value_of Conflicts s) (value_of Breaks s) (value_of Provides s)) (architecture_later more stanza)
+    ∙ ap (λ z. both (value_of Package stanza) (value_of Version stanza) bound z (value_of Depends s) (value_of Conflicts s) (value_of Breaks s) (value_of Provides s)) (value_later more PreDepends stanza)
+    ∙ ap (λ z. both (value_of Package stanza) (value_of Version stanza) bound (value_of PreDepends stanza) z (value_of Conflicts s) (value_of Breaks s) (value_of Provides s)) (value_later more Depends stanza)
+    ∙ ap (λ z. both (value_of Package stanza) (value_of Version stanza) bound (value_of PreDepends stanza) (value_of Depends stanza) z (value_of Breaks s) (value_of Provides s)) (value_later more Conflicts stanza)
+    ∙ ap (λ z. both (value_of Package stanza) (value_of Version stanza) bound (value_of PreDepends stanza) (value_of Depends stanza) (value_of Conflicts stanza) z (value_of Provides s)) (value_later more Breaks stanza)
+    ∙ ap (λ z. both (value_of Package stanza) (value_of Version stanza) bound (value_of PreDepends stanza) (value_of Depends stanza) (value_of Conflicts stanza) (value_of Breaks stanza) z) (value_later more Provides stanza)
 
 all_later : (more : ℕ) (stanzas : List RawStanza) → map but_line (map facts_of (map (later_stanza more) stanzas)) ≡ map but_line (map facts_of stanzas)
 all_later more [] = refl
@@ -52,15 +56,6 @@ flagged test (item ∷ more) = by (test item) (flagged test more)
   where
     by : (b : Bool) → items_where_true (map test more) more ≡ filter test more → items_where_true (b ∷ map test more) (item ∷ more) ≡ cond b (item ∷ filter test more) (filter test more)
     by true h = ap (λ rest. item ∷ rest) h
-    by false h = h
-
-stanzas_flagged : (test : List ℕ → Bool) (stanzas : List RawStanza) → items_where_true (map (λ facts. test facts.name) (map facts_of stanzas)) stanzas ≡ named test stanzas
-stanzas_flagged test [] = refl
-stanzas_flagged test (stanza ∷ more) = by (test (facts_of stanza).name) (stanzas_flagged test more)
-  where
-    by : (b : Bool) → items_where_true (map (λ facts. test facts.name) (map facts_of more)) more ≡ named test more
-        → items_where_true (b ∷ map (λ facts. test facts.name) (map facts_of more)) (stanza ∷ more) ≡ cond b (stanza ∷ named test more) (named test more)
-    by true h = ap (λ rest. stanza ∷ rest) h
     by false h = h
 
 facts_named : (test : List ℕ → Bool) (stanzas : List RawStanza) → map facts_of (named test stanzas) ≡ filter (λ facts. test facts.name) (map facts_of stanzas)
@@ -110,6 +105,14 @@ mix_home old new taken old_fine new_fine =
     let kept : List RawStanza = named (is_taken taken) (stanzas_of new) in
     ap home_of (mix_stanzas old new taken old_fine new_fine) ∙ home_join left (map (later_stanza more) kept) ∙ ap (option_or (home_of left)) (home_later more kept)
 
+-- the common architecture of the packages of some names in a suite
+home_flagged : (test : List ℕ → Bool) (text : List ℕ) (suite : Suite) (flags : List Bool) → IsSuiteOf text suite.packages suite.home.name → flags ≡ map (λ facts. test facts.name) suite.packages
+    → home_where flags suite ≡ home_of (named test (stanzas_of text))
+home_flagged test text suite flags is chosen =
+    let those : items_where_true flags suite.packages ≡ map facts_of (named test (stanzas_of text)) =
+    ap (λ fs. items_where_true fs suite.packages) chosen ∙ flagged (λ facts. test facts.name) suite.packages ∙ ap (filter (λ facts. test facts.name)) is.facts ∙ sym (facts_named test (stanzas_of text)) in
+    ap (λ packages. if list_any (λ facts. facts.is_bound) packages then suite.home.name else None) those ∙ home_named test text suite.packages suite.home.name is
+
 -- a mix by a flag for each package of both
 module _ (olds news : List PackageFacts) (taken : List (List ℕ)) (left kept : List Bool) (lefts : left ≡ map (λ facts. is_left taken facts.name) olds) (keeps : kept ≡ map (λ facts. is_taken taken facts.name) news) where
   left_packages : items_where_true left olds ≡ filter (λ facts. is_left taken facts.name) olds
@@ -132,21 +135,17 @@ module _ (olds news : List PackageFacts) (taken : List (List ℕ)) (left kept : 
   packages_mixed old new old_home new_home packages old_is new_is are =
       ap (map but_line) (are ∙ ap₂ (λ xs ys. xs ++ ys) left_packages kept_packages ∙ ap₂ (λ xs ys. mixed_packages xs ys taken) old_is.facts new_is.facts) ∙ sym (mix_is_list old new taken old_is.fine new_is.fine)
 
--- its common architecture, by the notes of the two texts
-module _ (texts : Texts) (old : Suite) (old_notes : TextNotes) (new : Suite) (new_notes : TextNotes) (are : AreTexts texts old old_notes new new_notes) (taken : List (List ℕ)) (left kept : List Bool)
+-- its common architecture, by the two suites
+module _ (texts : Texts) (old new : Suite) (are : AreTexts texts old new) (taken : List (List ℕ)) (left kept : List Bool)
     (lefts : left ≡ map (λ facts. is_left taken facts.name) old.packages) (keeps : kept ≡ map (λ facts. is_taken taken facts.name) new.packages) where
-  old_noted : first_raised left old_notes.architectures.items ≡ home_of (named (is_left taken) (stanzas_of texts.old))
-  old_noted =
-      ap (first_raised left) are.old_noted.architectures_are ∙ home_noted left (stanzas_of texts.old)
-      ∙ ap home_of (ap (λ flags. items_where_true flags (stanzas_of texts.old)) (lefts ∙ ap (map (λ facts. is_left taken facts.name)) are.old_is.facts) ∙ stanzas_flagged (is_left taken) (stanzas_of texts.old))
+  old_home : home_where left old ≡ home_of (named (is_left taken) (stanzas_of texts.old))
+  old_home = home_flagged (is_left taken) texts.old old left are.old_is lefts
 
-  new_noted : first_raised kept new_notes.architectures.items ≡ home_of (named (is_taken taken) (stanzas_of texts.new))
-  new_noted =
-      ap (first_raised kept) are.new_noted.architectures_are ∙ home_noted kept (stanzas_of texts.new)
-      ∙ ap home_of (ap (λ flags. items_where_true flags (stanzas_of texts.new)) (keeps ∙ ap (map (λ facts. is_taken taken facts.name)) are.new_is.facts) ∙ stanzas_flagged (is_taken taken) (stanzas_of texts.new))
+  new_home : home_where kept new ≡ home_of (named (is_taken taken) (stanzas_of texts.new))
+  new_home = home_flagged (is_taken taken) texts.new new kept are.new_is keeps
 
-  pub home_mixed : (home : Home) → home.name ≡ option_or (first_raised left old_notes.architectures.items) (first_raised kept new_notes.architectures.items) → home ≡ home_in (mix texts.old texts.new taken)
-  home_mixed home is = ap (λ name. record { name = name }) (is ∙ ap₂ option_or old_noted new_noted ∙ sym (mix_home texts.old texts.new taken are.old_is.fine are.new_is.fine))
+  pub home_mixed : (home : Home) → home.name ≡ option_or (home_where left old) (home_where kept new) → home ≡ home_in (mix texts.old texts.new taken)
+  home_mixed home is = ap (λ name. record { name = name }) (is ∙ ap₂ option_or old_home new_home ∙ sym (mix_home texts.old texts.new taken are.old_is.fine are.new_is.fine))
 
 -- the packages of a mix of names that differ are few, where all that mixes have are
 pub few_mixed : (olds news : List PackageFacts) (taken all : List (List ℕ)) → packages_with olds news all ≤ most_packages → ((name : List ℕ) → In name taken → In name all) → length (mixed_packages olds news taken) ≤ most_packages

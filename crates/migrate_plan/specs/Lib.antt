@@ -1,6 +1,6 @@
 pub mod Differing
 pub mod Mix
-pub mod Notes
+pub mod Indexes
 pub mod Flagged
 pub mod Plan
 pub mod Trying

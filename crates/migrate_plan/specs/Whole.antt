@@ -1,16 +1,16 @@
 -- for the bodies of this crate alone
 -- What all mixes of two indexes are made of: the packages of the old one, and behind them those of the new one whose names differ.
-use Rattle.std.specs.{Prelude.{◌≡◌, ℕ, ◌≤◌, Bool, false, List, ◌++◌, map, Option, Some, None}, Global.{Vec}, List.{items_where_true}, Option.{ForSome}}
+use Rattle.std.specs.{Prelude.{◌≡◌, ℕ, ◌≤◌, Bool, false, List, ◌++◌, map, Option, Some, None, ⊤}, Global.{Vec}, List.{items_where_true}, Option.{ForSome}}
 use Rattle.clause_flatten.specs.Beside.{AreKnown}
 use Rattle.clause_pool.specs.Interned.{Interned}
-use Rattle.kernel_rounds.specs.declared.extraction.Kernel.{Kernel}
+use Rattle.kernel_rounds.specs.Known.{AreKnownRounds, IsClassified}
 use Rattle.relation_fields.specs.declared.packages.PackageFacts.{PackageFacts}
 use Rattle.repo_model.specs.{Limits.{most_packages}, Repository.{suite_repository}}
 use Rattle.row_book.specs.{Book.{repository_of, Sound}, declared.book.Book.{Book}, Repository.{Repository}, Rounds.{PassedRound, limit_at}}
 use Rattle.suite_compare.specs.{Bearers.{bearers_of}, Known.{AreKnownPairs}, Views.{IsBookOf, IsKernelOf}, declared.sides.OldSide.{OldSide}}
 use Rattle.suite_part.specs.{declared.base.Base.{Base}, Bases.{IsBase}, Parts.{part}}
-use Rattle.migrate_plan.specs.{Differing.{differing}, Mix.{is_taken}, Notes.{AreTexts, Texts}, Refusals.{packages_with}, declared.carried.Carried.{Carried}}
-use Rattle.migrate_plan.specs.declared.whole.Whole.{Whole}
+use Rattle.migrate_plan.specs.{Differing.{differing}, Mix.{is_taken}, Indexes.{AreTexts, Texts}, Refusals.{packages_with}, declared.carried.Carried.{Carried}}
+use Rattle.migrate_plan.specs.{declared.kernels.MadeKernel.{MadeKernel}, declared.kernels.MadeKernel.TheVariants.{Beside, Own}, declared.whole.Whole.{Whole}}
 
 -- the names that differ between the two indexes
 abbrev pub names_between : OldSide → Whole → List (List ℕ)
@@ -18,7 +18,7 @@ names_between old whole = differing old.view.now.suite.packages whole.new.now.pa
 
 -- the texts of the two indexes
 abbrev pub AreTextsOf : Texts → OldSide → Whole → Type 0
-AreTextsOf texts old whole = AreTexts texts old.view.now.suite whole.old_notes.now whole.new.now whole.new_notes.now
+AreTextsOf texts old whole = AreTexts texts old.view.now.suite whole.new.now
 
 -- all packages that mixes of the two have
 abbrev pub packages_of_both : OldSide → Whole → List PackageFacts
@@ -37,20 +37,31 @@ pub record IsWhole (old : OldSide) (whole : Whole) : Type 0 where
   pub book_is : IsBookOf whole.pool whole.book (suite_repository whole.home (packages_of_both old whole))
   pub named_are : whole.named.items ≡ bearers_of (packages_of_both old whole) old.names
 
--- the kernel of a repository at a clause limit, with hold or without, or none where it passes the limit
-pub record IsKernelMade (pool : Interned) (limit : ℕ) (hold : Bool) (R : Repository) (made : Kernel) : Type 0 where
-  pub within : limit_at limit hold R ≡ None
-  pub kernel_is : IsKernelOf pool made limit R
-  pub hold_is : made.hold ≡ hold
+-- a kernel is that of a repository at a clause limit, with hold or without, with the class of each package: it was made by itself over
+-- this pool, or, without hold, beside known rows
+abbrev pub IsMadeKernel : Interned → ℕ → Bool → Repository → MadeKernel → Type 0
+IsMadeKernel pool limit hold R (Own kernel) = (kernel.hold ≡ hold) × IsKernelOf pool kernel limit R
+IsMadeKernel pool limit hold R (Beside classified) = (hold ≡ false) × IsClassified limit R classified × AreKnownRounds classified.rounds
 
-abbrev pub IsKernelAt : Interned → ℕ → Bool → Repository → Option Kernel → Type 0
+-- what a kernel knows of the rounds behind the first, if anything, is so
+abbrev pub KnowsRounds : MadeKernel → Type 0
+KnowsRounds (Own kernel) = ⊤
+KnowsRounds (Beside classified) = AreKnownRounds classified.rounds
+
+-- the kernel of a repository at a clause limit, with hold or without, or none where it passes the limit
+pub record IsKernelMade (pool : Interned) (limit : ℕ) (hold : Bool) (R : Repository) (made : MadeKernel) : Type 0 where
+  pub within : limit_at limit hold R ≡ None
+  pub kernel_is : IsMadeKernel pool limit hold R made
+
+abbrev pub IsKernelAt : Interned → ℕ → Bool → Repository → Option MadeKernel → Type 0
 IsKernelAt pool limit hold R (Some made) = IsKernelMade pool limit hold R made
 IsKernelAt pool limit hold R None = (passed : PassedRound) × (limit_at limit hold R ≡ Some passed)
 
--- what is handed on from mix to mix: what is known of a part of the whole, and of pairs
+-- what is handed on from mix to mix: what is known of a part of the whole, of pairs, and of the rounds behind the first
 pub record IsCarried (old : OldSide) (whole : Whole) (carried : Carried) : Type 0 where
   pub base_is : ForSome carried.base (IsBaseFor old whole.pool whole.book)
   pub known_are : ForSome carried.known AreKnownPairs
+  pub rounds_are : ForSome carried.rounds AreKnownRounds
 
 -- rows that are known of the part of a whole are those of its packages over the core without hold, and none of them passes the limit
 abbrev pub AreKnownIn : Interned → ℕ → Whole → List Bool → Option (Vec (Option ℕ)) → Type 0

@@ -6,6 +6,7 @@ ghost use Rattle.migrate_plan.specs.Whole.{IsBaseFor, IsCarried, IsWhole, StaysB
 use crate::plan::PlanLine;
 use crate::whole::Whole;
 use clause_pool::{Pool, RowId};
+use kernel_rounds::KnownRounds;
 use std::alloc::{AllocError, Global};
 use suite_compare::{KnownPairs, OldSide};
 use suite_part::{Base, Chosen};
@@ -18,6 +19,9 @@ pub(crate) struct Carried {
     pub(crate) base: Option<Base>,
     /// What is known of pairs.
     pub(crate) known: Option<KnownPairs>,
+    /// What is known of the rounds behind the first: of the last mix that was taken, or of the first mix while none is taken. None where there is
+    /// no base.
+    pub(crate) rounds: Option<KnownRounds>,
 }
 
 /// What is handed to the first mix.
@@ -31,7 +35,11 @@ pub(crate) fn first_carried(
     ensures { IfOk result (IsCarried old.now whole.now) }
 {
     let base = base_of(alloc, old, whole)?;
-    Ok(Carried { base, known: None })
+    Ok(Carried {
+        base,
+        known: None,
+        rounds: None,
+    })
 }
 
 // What is known of the part that the old packages make. With hold a package may stay for what others name, so that no part can be

@@ -1,50 +1,65 @@
 //! The common architecture of a mix.
 //!
-//! A suite does not keep which of its packages have an architecture other than `all`, so it is looked up in the notes of the two
-//! texts, up to the first stanza of the mix that has one.
-ghost use Rattle.std.specs.{Prelude.{◌≡◌, None, if◌then◌else◌, IfOk, slice_index_or, false}, Option.{option_or}};
-ghost use Rattle.migrate_plan.specs.Notes.{first_raised};
+//! A suite has one architecture beside `all` at most, and each package knows whether it has it. So that of a mix is the first suite's,
+//! if a package of that suite that has it is in the mix, or else the second's likewise.
+ghost use Rattle.std.specs.{Prelude.{◌≡◌, ◌&&◌, IfOk, slice_index_or, false}, List.{items_where_true, list_any}, Option.{option_or}};
+ghost use Rattle.migrate_plan.specs.Indexes.{home_where};
 
-use crate::notes::TextNotes;
 use deb_version::Bytes;
-use relation_fields::Home;
+use relation_fields::{Home, PackageFacts};
+use repo_model::Suite;
 use std::alloc::{AllocError, Global};
 
-/// The common architecture of the stanzas of two indexes whose flags are up, those of the first index before the others.
+/// The common architecture of the packages of two suites whose flags are up, those of the first suite before the others.
 pub(crate) fn home_of_both(
     alloc: Global,
-    first: &TextNotes,
+    first: &Suite,
     flags: &[bool],
-    second: &TextNotes,
+    second: &Suite,
     others: &[bool],
 ) -> Result<Home, AllocError>
-    ensures { IfOk result (λ home. home.name ≡ option_or (first_raised flags.now first.now.architectures.items) (first_raised others.now second.now.architectures.items)) }
+    ensures { IfOk result (λ home. home.name ≡ option_or (home_where flags.now first.now) (home_where others.now second.now)) }
 {
-    let found = home_among(alloc, &first.architectures, flags)?;
+    let found = home_where(alloc, first, flags)?;
     match found {
         Some(name) => Ok(Home { name: Some(name) }),
         None => {
-            let name = home_among(alloc, &second.architectures, others)?;
+            let name = home_where(alloc, second, others)?;
             Ok(Home { name })
         }
     }
 }
 
-// The first architecture that is there among those whose flags are up.
-fn home_among(
-    alloc: Global,
-    architectures: &[Option<Bytes>],
-    flags: &[bool],
-) -> Result<Option<Bytes>, AllocError>
-    ensures { IfOk result (λ home. home ≡ first_raised flags.now architectures.now) }
+// The architecture of a suite, where one of its packages whose flags are up has it.
+fn home_where(alloc: Global, suite: &Suite, flags: &[bool]) -> Result<Option<Bytes>, AllocError>
+    ensures { IfOk result (λ name. name ≡ home_where flags.now suite.now) }
 {
-    for (place, architecture) in architectures.iter().enumerate() {
-        let own = architecture_where(alloc, architecture, is_raised(flags, place))?;
-        if let Some(name) = own {
-            return Ok(Some(name));
+    if !is_one_bound(suite.packages.as_slice(), flags) {
+        return Ok(None);
+    }
+    match &suite.home.name {
+        Some(name) => Ok(Some(Bytes::copy(alloc, name.as_slice())?)),
+        None => Ok(None),
+    }
+}
+
+// Whether one of the packages whose flags are up has an architecture other than `all`.
+fn is_one_bound(packages: &[PackageFacts], flags: &[bool]) -> bool
+    ensures { result ≡ list_any (λ facts. facts.is_bound) (items_where_true flags.now packages.now) }
+{
+    for (place, facts) in packages.iter().enumerate() {
+        if is_bound_where(facts, is_raised(flags, place)) {
+            return true;
         }
     }
-    Ok(None)
+    false
+}
+
+// Whether the flag is up, and the package has an architecture other than `all`.
+fn is_bound_where(facts: &PackageFacts, flag: bool) -> bool
+    ensures { result ≡ (flag && facts.now.is_bound) }
+{
+    flag && facts.is_bound
 }
 
 // Whether there is a flag at the place, and it is up.
@@ -55,21 +70,4 @@ fn is_raised(flags: &[bool], place: usize) -> bool
         return flags[place];
     }
     false
-}
-
-// An architecture whose flag is up, where it is there.
-fn architecture_where(
-    alloc: Global,
-    architecture: &Option<Bytes>,
-    flag: bool,
-) -> Result<Option<Bytes>, AllocError>
-    ensures { IfOk result (λ own. own ≡ (if flag then architecture.now else None)) }
-{
-    if !flag {
-        return Ok(None);
-    }
-    match architecture {
-        Some(name) => Ok(Some(Bytes::copy(alloc, name.as_slice())?)),
-        None => Ok(None),
-    }
 }

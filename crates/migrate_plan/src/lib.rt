@@ -7,11 +7,12 @@ mod checks;
 mod differing;
 mod flags;
 mod homes;
+mod kernels;
 mod laws;
+mod lengths;
 mod making;
 mod mixing;
 mod names;
-mod notes;
 mod parting;
 mod plan;
 mod refusals;
@@ -19,8 +20,8 @@ mod trying;
 mod whole;
 
 // A plan is made.
+pub use lengths::TextLengths;
 pub use making::{make_plan, plan_between};
-pub use notes::TextNotes;
 pub use plan::{Plan, PlanLine, PlanList};
 pub use refusals::PlanError;
 

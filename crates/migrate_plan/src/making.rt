@@ -3,7 +3,8 @@ ghost use Rattle.std.specs.Prelude.{◌≡◌, ◌<◌, ◌≤◌, ◌++◌, ◌
 ghost use Rattle.clause_solver.specs.Outcomes.{IsBudget};
 ghost use Rattle.repo_model.specs.{Feeding.{IsSuiteOf}, Limits.{most_bytes, most_packages}};
 ghost use Rattle.listed.specs.Lists.{In};
-ghost use Rattle.migrate_plan.specs.{Differing.{differing}, Notes.{AreTexts, Texts}, Plan.{line_behind, lines_behind, plan, settings_of, taken_in}};
+ghost use Rattle.migrate_plan.specs.{Differing.{differing}, Indexes.{AreMeasured, AreTexts, Texts}};
+ghost use Rattle.migrate_plan.specs.Plan.{line_behind, lines_behind, plan, settings_of, taken_in};
 ghost use Rattle.migrate_plan.specs.{Promises.{AreRight, MixesAreIndexes, TakesSafely, planned_name}, Refusals.{Refuses, packages_with, plan_refusal}};
 ghost use Rattle.migrate_plan.specs.{Whole.{names_between, AreTextsOf, IsCarried, IsWhole}, declared.plan.PlanLine.{PlanLine}};
 ghost use Rattle.suite_compare.specs.{Comparing.{IsOldSide}, Refusals.{packages_in}};
@@ -11,8 +12,8 @@ ghost use Rattle.suite_compare.specs.{Comparing.{IsOldSide}, Refusals.{packages_
 use crate::carried::{Carried, first_carried};
 use crate::checks::{check_homes, check_length, check_names, check_packages};
 use crate::differing::differing_names;
+use crate::lengths::TextLengths;
 use crate::mixing::{is_same_home, mix_with, suite_of};
-use crate::notes::TextNotes;
 use crate::parting::{flags_in, line_in};
 use crate::plan::{Plan, PlanLine, PlanList};
 use crate::refusals::PlanError;
@@ -53,53 +54,60 @@ pub fn make_plan(
     ensures each { IfOk result (λ made. AreRight (settings_of budget limit hold) old_bytes.now new_bytes.now [] made.lines) }
     ensures safely { IfOk result (λ made. TakesSafely (settings_of budget limit hold) old_bytes.now new_bytes.now made.lines) }
 {
-    let old_notes = TextNotes::of(alloc, old_bytes)?;
-    let new_notes = TextNotes::of(alloc, new_bytes)?;
-    plan_between(alloc, &old_notes, old, &new_notes, new, budget)
+    let lengths = lengths_of(old_bytes, new_bytes);
+    plan_between(alloc, old, new, lengths, budget)
 }
 
-/// The plan that `make_plan` makes, by the notes of the two texts, which need not be kept. The old view and its notes are those of
-/// the old text, and the new suite and its notes those of the new one; the clause limit and hold are those of the view. The budget
-/// of failed leaves a search is from 1 to 1,000,000. The error is the first refusal of the two texts, or want of memory.
+// How long the two texts are.
+fn lengths_of(old: &[u8], new: &[u8]) -> TextLengths
+    ensures old { result.old ≡ length old.now }
+    ensures new { result.new ≡ length new.now }
+{
+    TextLengths {
+        old: old.len() as u64,
+        new: new.len() as u64,
+    }
+}
+
+/// The plan that `make_plan` makes, by the lengths of the two texts, which need not be kept. The old view is that of the old text, and
+/// the new suite that of the new one; the clause limit and hold are those of the view. The budget of failed leaves a search is from 1
+/// to 1,000,000. The error is the first refusal of the two texts, or want of memory.
 pub fn plan_between(
     alloc: Global,
-    old_notes: &TextNotes,
     old: &SuiteView,
-    new_notes: &TextNotes,
     new: &Suite,
+    lengths: TextLengths,
     budget: u64,
 ) -> Result<Plan, PlanError>
-    requires old_short { old_notes.now.length ≤ most_bytes }
-    requires new_short { new_notes.now.length ≤ most_bytes }
+    requires old_short { lengths.old ≤ most_bytes }
+    requires new_short { lengths.new ≤ most_bytes }
     requires limit { 0 < old.now.limit }
     requires budget { IsBudget budget }
-    ensures refused { IfErr result (λ error. (texts : Texts) → AreTexts texts old.now.suite old_notes.now new.now new_notes.now → Refuses error (plan_refusal texts.old texts.new)) }
-    ensures accepted { OnOk result ((texts : Texts) → AreTexts texts old.now.suite old_notes.now new.now new_notes.now → plan_refusal texts.old texts.new ≡ None) }
+    ensures refused { IfErr result (λ error. (texts : Texts) → AreMeasured texts old.now.suite new.now lengths → Refuses error (plan_refusal texts.old texts.new)) }
+    ensures accepted { OnOk result ((texts : Texts) → AreMeasured texts old.now.suite new.now lengths → plan_refusal texts.old texts.new ≡ None) }
     ensures plan { let settings = settings_of budget old.now.limit old.now.kernel.hold in
-        IfOk result (λ made. (texts : Texts) → AreTexts texts old.now.suite old_notes.now new.now new_notes.now → made.lines ≡ plan settings texts.old texts.new) }
-    ensures mixes { OnOk result ((texts : Texts) → AreTexts texts old.now.suite old_notes.now new.now new_notes.now → MixesAreIndexes texts.old texts.new) }
-    ensures names { IfOk result (λ made. (texts : Texts) → AreTexts texts old.now.suite old_notes.now new.now new_notes.now → map planned_name made.lines ≡ differing (packages_in texts.old) (packages_in texts.new)) }
+        IfOk result (λ made. (texts : Texts) → AreMeasured texts old.now.suite new.now lengths → made.lines ≡ plan settings texts.old texts.new) }
+    ensures mixes { OnOk result ((texts : Texts) → AreMeasured texts old.now.suite new.now lengths → MixesAreIndexes texts.old texts.new) }
+    ensures names { IfOk result (λ made. (texts : Texts) → AreMeasured texts old.now.suite new.now lengths → map planned_name made.lines ≡ differing (packages_in texts.old) (packages_in texts.new)) }
     ensures each { let settings = settings_of budget old.now.limit old.now.kernel.hold in
-        IfOk result (λ made. (texts : Texts) → AreTexts texts old.now.suite old_notes.now new.now new_notes.now → AreRight settings texts.old texts.new [] made.lines) }
+        IfOk result (λ made. (texts : Texts) → AreMeasured texts old.now.suite new.now lengths → AreRight settings texts.old texts.new [] made.lines) }
     ensures safely { let settings = settings_of budget old.now.limit old.now.kernel.hold in
-        IfOk result (λ made. (texts : Texts) → AreTexts texts old.now.suite old_notes.now new.now new_notes.now → TakesSafely settings texts.old texts.new made.lines) }
+        IfOk result (λ made. (texts : Texts) → AreMeasured texts old.now.suite new.now lengths → TakesSafely settings texts.old texts.new made.lines) }
 {
     check_homes(&old.suite.home, &new.home)?;
     let found = differing_names(alloc, &old.suite, new)?;
     let names = found.as_slice();
     check_names(names)?;
     check_packages(alloc, &old.suite, new, names)?;
-    check_length(old_notes.length, new_notes.length)?;
-    let lines = lines_of(alloc, old_notes, old, new_notes, new, names, budget)?;
+    check_length(lengths.old, lengths.new)?;
+    let lines = lines_of(alloc, old, new, names, budget)?;
     Ok(Plan { lines })
 }
 
 // The lines of the names that differ, one after the other.
 fn lines_of(
     alloc: Global,
-    old_notes: &TextNotes,
     old: &SuiteView,
-    new_notes: &TextNotes,
     new: &Suite,
     names: &[Bytes],
     budget: u64,
@@ -109,10 +117,10 @@ fn lines_of(
     requires limit { 0 < old.now.limit }
     requires budget { IsBudget budget }
     ensures { let settings = settings_of budget old.now.limit old.now.kernel.hold in
-        IfOk result (λ lines. (texts : Texts) → AreTexts texts old.now.suite old_notes.now new.now new_notes.now → lines ≡ lines_behind (line_behind settings texts.old texts.new) [] names.now) }
+        IfOk result (λ lines. (texts : Texts) → AreTexts texts old.now.suite new.now → lines ≡ lines_behind (line_behind settings texts.old texts.new) [] names.now) }
 {
     let side = OldSide::new(alloc, old, budget)?;
-    let lines = lines_with(alloc, old_notes, &side, new_notes, new, names);
+    let lines = lines_with(alloc, &side, new, names);
     drop(side);
     lines
 }
@@ -120,9 +128,7 @@ fn lines_of(
 // The same, where the side of the old view was made.
 fn lines_with(
     alloc: Global,
-    old_notes: &TextNotes,
     old: &OldSide,
-    new_notes: &TextNotes,
     new: &Suite,
     names: &[Bytes],
 ) -> Result<PlanList, AllocError>
@@ -131,9 +137,9 @@ fn lines_with(
     requires few { packages_with old.now.view.now.suite.packages new.now.packages names.now ≤ most_packages }
     requires limit { 0 < old.now.view.now.limit }
     ensures { let settings = settings_of old.now.budget old.now.view.now.limit old.now.view.now.kernel.hold in
-        IfOk result (λ lines. (texts : Texts) → AreTexts texts old.now.view.now.suite old_notes.now new.now new_notes.now → lines ≡ lines_behind (line_behind settings texts.old texts.new) [] names.now) }
+        IfOk result (λ lines. (texts : Texts) → AreTexts texts old.now.view.now.suite new.now → lines ≡ lines_behind (line_behind settings texts.old texts.new) [] names.now) }
 {
-    let whole = whole_of(alloc, old_notes, old, new_notes, new, names)?;
+    let whole = whole_of(alloc, old, new, names)?;
     let lines = lines_beside(alloc, old, &whole, names);
     drop(whole);
     lines
@@ -213,15 +219,7 @@ fn try_name(
     ensures carried { OnOk result (IsCarried old.now whole.now carried.new) }
 {
     let suite = &old.view.suite;
-    let mix = mix_with(
-        alloc,
-        whole.old_notes,
-        suite,
-        whole.new_notes,
-        whole.new,
-        taken,
-        name,
-    )?;
+    let mix = mix_with(alloc, suite, whole.new, taken, name)?;
     if is_same_home(&mix.home, &whole.home) {
         let flags = flags_in(alloc, &mix.left, &mix.kept, &whole.added)?;
         let found = line_in(alloc, old, whole, flags, name, carried)?;

@@ -2,11 +2,10 @@
 ghost use Rattle.std.specs.{Prelude.{◌≡◌, ◌++◌, ◌∷◌, ◌≤◌, ◌+◌, [], length, map, IfOk}, Bool.{OnTrue}, List.{items_where_true}};
 ghost use Rattle.repo_model.specs.Limits.{most_packages};
 ghost use Rattle.suite_compare.specs.Refusals.{home_in};
-ghost use Rattle.migrate_plan.specs.{Mix.{is_left, is_taken, mix}, Notes.{AreTexts, Texts}};
+ghost use Rattle.migrate_plan.specs.{Mix.{is_left, is_taken, mix}, Indexes.{AreTexts, Texts}};
 
 use crate::flags::{left_flags, taken_flags};
 use crate::homes::home_of_both;
-use crate::notes::TextNotes;
 use deb_version::Bytes;
 use relation_fields::Home;
 use repo_model::Suite;
@@ -24,25 +23,23 @@ pub(crate) struct Mix {
     pub(crate) home: Home,
 }
 
-/// The mix of an old and a new index, of each the suite and the notes of its text. Packages of the names that are taken, and of the one that is
-/// tried with them, come from the new index, and all others from the old one.
+/// The mix of two suites. Packages of the names that are taken, and of the one that is tried with them, come from the new one, and all
+/// others from the old one.
 pub(crate) fn mix_with(
     alloc: Global,
-    old_notes: &TextNotes,
     old: &Suite,
-    new_notes: &TextNotes,
     new: &Suite,
     taken: &[Bytes],
     tried: &[u8],
 ) -> Result<Mix, AllocError>
     ensures left { IfOk result (λ mix. mix.left.items ≡ map (λ facts. is_left (taken.now ++ tried.now ∷ []) facts.name) old.now.packages) }
     ensures kept { IfOk result (λ mix. mix.kept.items ≡ map (λ facts. is_taken (taken.now ++ tried.now ∷ []) facts.name) new.now.packages) }
-    ensures home { IfOk result (λ made. (texts : Texts) → AreTexts texts old.now old_notes.now new.now new_notes.now → made.home ≡ home_in (mix texts.old texts.new (taken.now ++ tried.now ∷ []))) }
+    ensures home { IfOk result (λ made. (texts : Texts) → AreTexts texts old.now new.now → made.home ≡ home_in (mix texts.old texts.new (taken.now ++ tried.now ∷ []))) }
 {
     let names = with_tried(alloc, taken, tried)?;
     let left = left_flags(alloc, old, &names)?;
     let kept = taken_flags(alloc, new, &names)?;
-    let home = home_of_both(alloc, old_notes, &left, new_notes, &kept)?;
+    let home = home_of_both(alloc, old, &left, new, &kept)?;
     Ok(Mix { left, kept, home })
 }
 

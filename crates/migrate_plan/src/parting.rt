@@ -1,25 +1,28 @@
 //! The line of a name by the packages of its mix, as a part of those that all mixes are made of.
 ghost use Rattle.std.specs.{Prelude.{◌≡◌, ◌<◌, ◌++◌, ℕ, List, None, false, length, map, IfOk, OnOk}, List.{items_where_true}, Option.{ForSome}};
 ghost use Rattle.clause_pool.specs.Interned.{IsPool};
+ghost use Rattle.kernel_rounds.specs.Known.{AreKnownRounds};
 ghost use Rattle.listed.specs.Lists.{In};
 ghost use Rattle.repo_model.specs.Repository.{suite_repository};
 ghost use Rattle.row_book.specs.Book.{repository_of, Sound};
-ghost use Rattle.suite_compare.specs.{Comparing.{IsOldSide}, Known.{AreKnownPairs}, Report.{first_told}, Views.{IsKernelOf}};
+ghost use Rattle.suite_compare.specs.{Comparing.{IsOldSide}, Known.{AreKnownPairs}, Lent.{IsLentKernel}, Report.{first_told}};
 ghost use Rattle.suite_part.specs.{Bases.{IsBase}, Parts.{chosen_in, part}};
 ghost use Rattle.migrate_plan.specs.{Plan.{outcome_of, settings_of}, Trying.{outcome_by, told_of}};
-ghost use Rattle.migrate_plan.specs.Whole.{packages_of_both, AreKnownIn, IsBaseFor, IsCarried, IsKernelAt, IsWhole};
+ghost use Rattle.migrate_plan.specs.Whole.{packages_of_both, AreKnownIn, IsBaseFor, IsCarried, IsKernelAt, IsMadeKernel, IsWhole};
 
 use crate::carried::{Carried, put_base};
+use crate::kernels::{MadeKernel, beside, keep_rounds, lent_kernel};
 use crate::plan::PlanLine;
 use crate::trying::line_by_first;
 use crate::whole::Whole;
-use clause_pool::{NumList, Pool, RowId};
+use clause_pool::{Pool, RowId};
 use deb_version::Bytes;
-use kernel_rounds::{Kernel, RoundError, extract, extract_beside};
-use listed::Listed;
+use kernel_rounds::{KnownRounds, RoundError, classes_beside, extract};
 use row_book::Book;
 use std::alloc::{AllocError, Global};
-use suite_compare::{FirstLine, KnownPairs, OldSide, ReportLine, first_line_by};
+use suite_compare::{
+    FewNumbers, FirstLine, KnownPairs, LentKernel, OldSide, ReportLine, first_line_by,
+};
 use suite_part::{Base, Chosen, known_apart, part_of};
 
 /// For each package of a whole whether it is in a mix: those of the old suite come first, and of the new one only those that were added.
@@ -63,19 +66,19 @@ pub(crate) fn line_in(
 {
     let chosen = Chosen::of(alloc, flags)?;
     let mut pool = Pool::new(alloc)?;
-    let made = kernel_in(alloc, &mut pool, old, whole, &chosen, &carried.base)?;
+    let made = kernel_in(
+        alloc,
+        &mut pool,
+        old,
+        whole,
+        &chosen,
+        &carried.base,
+        &mut carried.rounds,
+    )?;
     let MixKernel { kernel, rows } = made;
     match kernel {
         Some(kernel) => {
-            let told = told_by(
-                alloc,
-                old,
-                whole,
-                &chosen,
-                &pool,
-                kernel,
-                &mut carried.known,
-            )?;
+            let told = told_by(alloc, old, whole, &chosen, &pool, kernel, carried)?;
             let line = line_by_first(alloc, name, told)?;
             put_base(
                 alloc,
@@ -95,37 +98,40 @@ pub(crate) fn line_in(
     }
 }
 
-// The first line that is told of a mix, by its kernel.
+// The first line that is told of a mix, by its kernel, of which the rounds behind the first are kept.
 fn told_by(
     alloc: Global,
     old: &OldSide,
     whole: &Whole,
     chosen: &Chosen,
     pool: &Pool,
-    kernel: Kernel,
-    known: &mut Option<KnownPairs>,
+    kernel: MadeKernel,
+    carried: &mut Carried,
 ) -> Result<Option<ReportLine>, AllocError>
     requires side { IsOldSide old.now }
-    requires hold { kernel.hold ≡ old.now.view.now.kernel.hold }
-    requires kernel { IsKernelOf pool.now kernel old.now.view.now.limit (suite_repository whole.now.home (items_where_true chosen.now.flags.items (packages_of_both old.now whole.now))) }
+    requires kernel { IsMadeKernel pool.now old.now.view.now.limit old.now.view.now.kernel.hold (suite_repository whole.now.home (items_where_true chosen.now.flags.items (packages_of_both old.now whole.now))) kernel }
     requires whole { IsWhole old.now whole.now }
     requires flags { length chosen.now.flags.items ≡ length (packages_of_both old.now whole.now) }
-    requires known { ForSome known.old AreKnownPairs }
+    requires known { ForSome carried.old.known AreKnownPairs }
+    requires rounds { ForSome carried.old.rounds AreKnownRounds }
     ensures told { let before = old.now.view.now in let settings = settings_of old.now.budget before.limit before.kernel.hold in
         IfOk result (λ told. told ≡ first_told (told_of settings before.suite.home before.suite.packages whole.now.home (items_where_true chosen.now.flags.items (packages_of_both old.now whole.now)))) }
-    ensures known { OnOk result (ForSome known.new AreKnownPairs) }
+    ensures base { carried.new.base ≡ carried.old.base }
+    ensures known { OnOk result (ForSome carried.new.known AreKnownPairs) }
+    ensures rounds { OnOk result (ForSome carried.new.rounds AreKnownRounds) }
 {
-    let first = first_in(alloc, old, whole, chosen, pool, &kernel, known.take());
-    drop(kernel);
-    let FirstLine { line, known: more } = first?;
-    *known = more;
+    let lent = lent_kernel(&kernel, pool);
+    let first = first_in(alloc, old, whole, chosen, &lent, carried.known.take());
+    let FirstLine { line, known } = first?;
+    carried.known = known;
+    keep_rounds(&mut carried.rounds, kernel, line.is_none());
     Ok(line)
 }
 
 // The kernel of a mix, none where it passes the clause limit, and the rows of its packages that are known, if there was a base.
 #[derive(Drop)]
 struct MixKernel {
-    kernel: Option<Kernel>,
+    kernel: Option<MadeKernel>,
     rows: Option<Vec<Option<RowId>>>,
 }
 
@@ -137,17 +143,20 @@ fn kernel_in(
     whole: &Whole,
     chosen: &Chosen,
     base: &Option<Base>,
+    rounds: &mut Option<KnownRounds>,
 ) -> Result<MixKernel, AllocError>
     requires pool { IsPool pool.old }
     requires limit { 0 < old.now.view.now.limit }
     requires whole { IsWhole old.now whole.now }
     requires flags { length chosen.now.flags.items ≡ length (packages_of_both old.now whole.now) }
     requires base { ForSome base.now (IsBaseFor old.now whole.now.pool whole.now.book) }
+    requires rounds { ForSome rounds.old AreKnownRounds }
     ensures kernel { IfOk result (λ made. IsKernelAt pool.new old.now.view.now.limit old.now.view.now.kernel.hold (suite_repository whole.now.home (items_where_true chosen.now.flags.items (packages_of_both old.now whole.now))) made.kernel) }
     ensures rows { IfOk result (λ made. AreKnownIn pool.new old.now.view.now.limit whole.now chosen.now.flags.items made.rows) }
+    ensures rounds { ForSome rounds.new AreKnownRounds }
 {
     let book = part_of(alloc, pool, &whole.pool, &whole.book, chosen)?;
-    let made = kernel_by(alloc, pool, &book, old, whole, chosen, base);
+    let made = kernel_by(alloc, pool, &book, old, whole, chosen, base, rounds);
     drop(book);
     made
 }
@@ -161,6 +170,7 @@ fn kernel_by(
     whole: &Whole,
     chosen: &Chosen,
     base: &Option<Base>,
+    rounds: &mut Option<KnownRounds>,
 ) -> Result<MixKernel, AllocError>
     requires book { Sound pool.old book.now }
     requires limit { 0 < old.now.view.now.limit }
@@ -168,12 +178,14 @@ fn kernel_by(
     requires flags { length chosen.now.flags.items ≡ length whole.now.book.rows }
     requires part { repository_of pool.old book.now ≡ part chosen.now.flags.items (repository_of whole.now.pool whole.now.book) }
     requires base { ForSome base.now (IsBaseFor old.now whole.now.pool whole.now.book) }
+    requires rounds { ForSome rounds.old AreKnownRounds }
     ensures kernel { IfOk result (λ made. IsKernelAt pool.new old.now.view.now.limit old.now.view.now.kernel.hold (repository_of pool.old book.now) made.kernel) }
     ensures rows { IfOk result (λ made. AreKnownIn pool.new old.now.view.now.limit whole.now chosen.now.flags.items made.rows) }
+    ensures rounds { ForSome rounds.new AreKnownRounds }
 {
     let limit = old.view.limit;
     if let Some(base) = base {
-        let made = kernel_beside(alloc, pool, book, whole, base, chosen, limit)?;
+        let made = kernel_beside(alloc, pool, book, whole, base, chosen, limit, rounds)?;
         return Ok(made);
     }
     let kernel = kernel_of(alloc, pool, book, limit, old.view.kernel.hold)?;
@@ -189,22 +201,25 @@ fn kernel_beside(
     base: &Base,
     chosen: &Chosen,
     limit: u32,
+    rounds: &mut Option<KnownRounds>,
 ) -> Result<MixKernel, AllocError>
     requires book { Sound pool.old book.now }
     requires limit { 0 < limit }
     requires whole { Sound whole.now.pool whole.now.book }
     requires base { IsBase whole.now.pool whole.now.book base.now }
     requires same { base.now.limit ≡ limit }
+    requires rounds { ForSome rounds.old AreKnownRounds }
     requires flags { length chosen.now.flags.items ≡ length whole.now.book.rows }
     requires part { repository_of pool.old book.now ≡ part chosen.now.flags.items (repository_of whole.now.pool whole.now.book) }
     ensures kernel { IfOk result (λ made. IsKernelAt pool.new limit false (repository_of pool.old book.now) made.kernel) }
     ensures rows { IfOk result (λ made. AreKnownIn pool.new limit whole.now chosen.now.flags.items made.rows) }
+    ensures rounds { ForSome rounds.new AreKnownRounds }
 {
     let old_rows = base.known_rows(alloc, pool, &whole.book, chosen)?;
     let known = known_apart(alloc, pool, book, limit, old_rows)?;
-    let kernel = extract_beside(alloc, pool, book, limit, &known)?;
+    let made = classes_beside(alloc, pool, book, limit, &known, rounds)?;
     Ok(MixKernel {
-        kernel,
+        kernel: beside(made),
         rows: Some(known),
     })
 }
@@ -216,13 +231,13 @@ fn kernel_of(
     book: &Book,
     limit: u32,
     hold: bool,
-) -> Result<Option<Kernel>, AllocError>
+) -> Result<Option<MadeKernel>, AllocError>
     requires book { Sound pool.old book.now }
     requires limit { 0 < limit }
     ensures { IfOk result (IsKernelAt pool.new limit hold (repository_of pool.old book.now)) }
 {
     match extract(alloc, pool, book, limit, hold) {
-        Ok(kernel) => Ok(Some(kernel)),
+        Ok(kernel) => Ok(Some(MadeKernel::Own { kernel })),
         Err(RoundError::Limit { .. }) => Ok(None),
         Err(RoundError::Memory) => Err(AllocError),
     }
@@ -234,13 +249,11 @@ fn first_in(
     old: &OldSide,
     whole: &Whole,
     chosen: &Chosen,
-    pool: &Pool,
-    kernel: &Kernel,
+    kernel: &LentKernel,
     known: Option<KnownPairs>,
 ) -> Result<FirstLine, AllocError>
     requires side { IsOldSide old.now }
-    requires hold { kernel.now.hold ≡ old.now.view.now.kernel.hold }
-    requires kernel { IsKernelOf pool.now kernel.now old.now.view.now.limit (suite_repository whole.now.home (items_where_true chosen.now.flags.items (packages_of_both old.now whole.now))) }
+    requires kernel { IsLentKernel kernel.now old.now.view.now.limit old.now.view.now.kernel.hold (suite_repository whole.now.home (items_where_true chosen.now.flags.items (packages_of_both old.now whole.now))) }
     requires whole { IsWhole old.now whole.now }
     requires flags { length chosen.now.flags.items ≡ length (packages_of_both old.now whole.now) }
     requires known { ForSome known AreKnownPairs }
@@ -249,18 +262,24 @@ fn first_in(
     ensures known { IfOk result (λ made. ForSome made.known AreKnownPairs) }
 {
     let named = named_in(alloc, &whole.named, chosen)?;
-    first_line_by(alloc, old, pool, kernel, &named, known)
+    first_line_by(alloc, old, kernel, &named, known)
 }
 
 // Those of each list of packages that are chosen, by their numbers among the chosen ones.
-fn named_in(alloc: Global, named: &[NumList], chosen: &Chosen) -> Result<Vec<NumList>, AllocError>
+fn named_in(
+    alloc: Global,
+    named: &[FewNumbers],
+    chosen: &Chosen,
+) -> Result<Vec<FewNumbers>, AllocError>
     requires { (list : List ℕ) → In list named.now → (n : ℕ) → In n list → n < length chosen.now.flags.items }
     ensures { IfOk result (λ lists. lists.items ≡ map (chosen_in chosen.now.flags.items) named.now) }
 {
     let mut lists = Vec::with_capacity(alloc, named.len())?;
+    let mut list = Vec::new(alloc);
     for numbers in named {
-        let list = chosen.among(alloc, numbers.as_slice())?;
-        lists.push(Listed::of(list))?;
+        chosen.put_among(&mut list, numbers.as_slice())?;
+        let few = FewNumbers::copy(alloc, list.as_slice())?;
+        lists.push(few)?;
     }
     Ok(lists)
 }

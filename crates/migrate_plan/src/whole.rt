@@ -5,23 +5,18 @@ ghost use Rattle.suite_compare.specs.{Bearers.{bearers_of}, Views.{IsBookOf}};
 ghost use Rattle.migrate_plan.specs.{Differing.{differing}, Refusals.{packages_with}, Whole.{IsWhole}};
 
 use crate::flags::taken_flags;
-use crate::notes::TextNotes;
-use clause_pool::{NumList, Pool};
+use clause_pool::Pool;
 use deb_version::Bytes;
 use relation_fields::Home;
 use repo_model::Suite;
 use row_book::Book;
 use std::alloc::{AllocError, Global};
-use suite_compare::{OldSide, bearers_of};
+use suite_compare::{FewNumbers, OldSide, bearers_of};
 
 /// Two indexes, and all packages that mixes of them have: those of the old one, and behind them those of the new one whose names
 /// differ.
 #[derive(Drop)]
 pub(crate) struct Whole<'a> {
-    /// The notes of the text of the old index.
-    pub(crate) old_notes: &'a TextNotes,
-    /// The notes of the text of the new index.
-    pub(crate) new_notes: &'a TextNotes,
     /// The suite of the new index.
     pub(crate) new: &'a Suite,
     /// For each package of the new suite whether its name differs.
@@ -33,22 +28,18 @@ pub(crate) struct Whole<'a> {
     /// The repository of all these packages.
     pub(crate) book: Book,
     /// For each name of the old suite those of them that bear it.
-    pub(crate) named: Vec<NumList>,
+    pub(crate) named: Vec<FewNumbers>,
 }
 
 /// What all mixes of an old and a new index are made of.
 pub(crate) fn whole_of<'a>(
     alloc: Global,
-    old_notes: &'a TextNotes,
     old: &OldSide,
-    new_notes: &'a TextNotes,
     new: &'a Suite,
     names: &[Bytes],
 ) -> Result<Whole<'a>, AllocError>
     requires names { names.now ≡ differing old.now.view.now.suite.packages new.now.packages }
     requires few { packages_with old.now.view.now.suite.packages new.now.packages names.now ≤ most_packages }
-    ensures old { IfOk result (λ whole. whole.old_notes.now ≡ old_notes.now) }
-    ensures new { IfOk result (λ whole. whole.new_notes.now ≡ new_notes.now) }
     ensures suite { IfOk result (λ whole. whole.new.now ≡ new.now) }
     ensures whole { IfOk result (IsWhole old.now) }
 {
@@ -59,8 +50,6 @@ pub(crate) fn whole_of<'a>(
     drop(suite);
     let Numbered { pool, book, named } = numbered;
     Ok(Whole {
-        old_notes,
-        new_notes,
         new,
         added,
         home,
@@ -75,7 +64,7 @@ pub(crate) fn whole_of<'a>(
 struct Numbered {
     pool: Pool,
     book: Book,
-    named: Vec<NumList>,
+    named: Vec<FewNumbers>,
 }
 
 // What is made of a suite.

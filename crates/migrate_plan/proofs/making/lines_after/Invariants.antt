@@ -1,4 +1,4 @@
-use Rattle.migrate_plan.specs.{Notes.{Texts}, Plan.{line_behind, settings_of}, Trying.{AreTakenBy, LeadsTo}, Whole.{AreTextsOf, IsCarried}}
+use Rattle.migrate_plan.specs.{Indexes.{Texts}, Plan.{line_behind, settings_of}, Trying.{AreTakenBy, LeadsTo}, Whole.{AreTextsOf, IsCarried}}
 use Rattle.migrate_plan.proofs.making.lines_after.Given as goal
 
 abbrev pub invariant-loop-name : goal.invariant-loop-name

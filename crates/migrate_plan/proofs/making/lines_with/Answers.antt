@@ -7,4 +7,4 @@ pub lines_beside-lines-requires-clause-names : goal.lines_beside-lines-requires-
 lines_beside-lines-requires-clause-names c = c.requires.names ∙ ap (λ (new : Suite). differing c.args.old.now.view.now.suite.packages new.packages) (sym c.in_ok-whole.ensures.suite)
 
 pub returns : goal.returns
-returns c = rw (c.in_ok-whole.ensures.old, c.in_ok-whole.ensures.new, c.in_ok-whole.ensures.suite) at c.lines_beside-lines.ensures
+returns c = rw c.in_ok-whole.ensures.suite at c.lines_beside-lines.ensures

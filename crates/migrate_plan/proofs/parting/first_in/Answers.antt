@@ -10,7 +10,7 @@ named_in-requires c = bearers_known (packages_of_both c.args.old.now c.args.whol
 pub first_line_by-requires-clause-fits : goal.first_line_by-requires-clause-fits
 first_line_by-requires-clause-fits c =
     part_fits (packages_of_both c.args.old.now c.args.whole.now) c.args.old.now.names _ c.args.chosen.now.flags.items c.requires.flags (c.deref.ensures.value ∙ c.requires.whole.named_are)
-    c.args.pool.now c.args.kernel.now c.args.old.now.view.now.limit c.args.whole.now.home _ (c.deref-2.ensures.value ∙ c.in_ok-named.ensures) c.requires.kernel
+    c.args.kernel.now c.args.old.now.view.now.limit c.args.old.now.view.now.kernel.hold c.args.whole.now.home _ (c.deref-2.ensures.value ∙ c.in_ok-named.ensures) c.requires.kernel
 
 pub first_line_by-requires-clause-count : goal.first_line_by-requires-clause-count
 first_line_by-requires-clause-count c =

@@ -1,12 +1,12 @@
 use Rattle.std.proofs.{Common.{◌≡◌, ◌∙◌, Option, false, sym, subst, ℕ}, lemmas.Option.{same_Some}}
-use Rattle.std.specs.Global.{Vec}
+use Rattle.std.specs.{Global.{Vec}, Option.{option_map}}
 use Rattle.clause_flatten.specs.Beside.{AreKnown}
 use Rattle.row_book.specs.Book.{repository_of, Sound}
 use Rattle.row_book.proofs.Books.{repository_kept, sound_kept}
 use Rattle.suite_part.proofs.BaseMade.{base_fits}
 use Rattle.suite_part.specs.Parts.{part}
-use Rattle.migrate_plan.specs.Whole.{IsKernelAt}
-use Rattle.migrate_plan.proofs.{Carrying.{known_kept}, Parted.{made_beside}}
+use Rattle.migrate_plan.specs.{Whole.{IsKernelAt}, declared.kernels.MadeKernel.TheVariants.{Beside}}
+use Rattle.migrate_plan.proofs.Parted.{made_beside}
 use Rattle.migrate_plan.proofs.parting.kernel_beside.Goals as goal
 
 pub known_rows-requires-clause-fits : goal.known_rows-requires-clause-fits
@@ -20,13 +20,13 @@ known_apart-requires-clause-known c =
     let same : repository_of c.known_rows.new.pool c.args.book.now ≡ repository_of c.args.pool.now c.args.book.now = repository_kept c.args.pool.now c.known_rows.new.pool c.requires.book.rows.is_pool c.known_rows.ensures.kept c.args.book.now c.requires.book in
     rw (same, c.requires.part, sym c.requires.same) (c.in_ok-old_rows.ensures.known c.args.whole.now.pool c.requires.whole c.requires.base)
 
-pub extract_beside-requires-clause-sound : goal.extract_beside-requires-clause-sound
-extract_beside-requires-clause-sound c =
+pub classes_beside-requires-clause-sound : goal.classes_beside-requires-clause-sound
+classes_beside-requires-clause-sound c =
     let sound : Sound c.known_rows.new.pool c.args.book.now = sound_kept c.args.pool.now c.known_rows.new.pool c.requires.book.rows.is_pool c.known_rows.ensures.kept c.args.book.now c.requires.book in
     sound_kept c.known_rows.new.pool c.known_apart.new.pool sound.rows.is_pool c.known_apart.ensures.kept c.args.book.now sound
 
-pub extract_beside-requires-clause-known : goal.extract_beside-requires-clause-known
-extract_beside-requires-clause-known c =
+pub classes_beside-requires-clause-known : goal.classes_beside-requires-clause-known
+classes_beside-requires-clause-known c =
     let sound : Sound c.known_rows.new.pool c.args.book.now = sound_kept c.args.pool.now c.known_rows.new.pool c.requires.book.rows.is_pool c.known_rows.ensures.kept c.args.book.now c.requires.book in
     let same : repository_of c.known_apart.new.pool c.args.book.now ≡ repository_of c.known_rows.new.pool c.args.book.now = repository_kept c.known_rows.new.pool c.known_apart.new.pool sound.rows.is_pool c.known_apart.ensures.kept c.args.book.now sound in
     rw (same, c.deref.ensures.value) c.in_ok-known.ensures.known
@@ -37,15 +37,14 @@ returns-clause-kernel c =
     let same : repository_of c.known_apart.new.pool c.args.book.now ≡ repository_of c.args.pool.now c.args.book.now =
     repository_kept c.known_rows.new.pool c.known_apart.new.pool sound.rows.is_pool c.known_apart.ensures.kept c.args.book.now sound
     ∙ repository_kept c.args.pool.now c.known_rows.new.pool c.requires.book.rows.is_pool c.known_rows.ensures.kept c.args.book.now c.requires.book in
-    subst (λ R. IsKernelAt c.extract_beside.new.pool c.args.limit false R c.in_ok-kernel.kernel) same
-    (made_beside _ _ c.args.limit _ c.in_ok-kernel.kernel c.in_ok-kernel.ensures.kernel c.in_ok-kernel.ensures.hold c.in_ok-kernel.ensures.passed)
+    subst (λ kernel. IsKernelAt c.known_apart.new.pool c.args.limit false (repository_of c.args.pool.now c.args.book.now) kernel) (sym c.beside.ensures)
+    (subst (λ R. IsKernelAt c.known_apart.new.pool c.args.limit false R (option_map Beside c.in_ok-made.made)) same
+    (made_beside _ c.args.limit _ c.in_ok-made.made c.in_ok-made.ensures.classes c.in_ok-made.ensures.rounds c.in_ok-made.ensures.passed))
 
 pub returns-clause-rows : goal.returns-clause-rows
 returns-clause-rows c = λ rows is.
     let W = repository_of c.args.whole.now.pool c.args.whole.now.book in
     let M = part c.args.chosen.now.flags.items W in
-    let sound : Sound c.known_rows.new.pool c.args.book.now = sound_kept c.args.pool.now c.known_rows.new.pool c.requires.book.rows.is_pool c.known_rows.ensures.kept c.args.book.now c.requires.book in
     let same : repository_of c.known_rows.new.pool c.args.book.now ≡ M =
     repository_kept c.args.pool.now c.known_rows.new.pool c.requires.book.rows.is_pool c.known_rows.ensures.kept c.args.book.now c.requires.book ∙ c.requires.part in
-    subst (λ (v : Vec (Option ℕ)). AreKnown c.extract_beside.new.pool c.args.limit M v.items) (same_Some _ rows is)
-    (known_kept c.known_apart.new.pool c.extract_beside.new.pool c.args.limit M _ (c.known_apart.ensures.kept.sound sound.rows.is_pool) c.extract_beside.ensures.kept (rw same at c.in_ok-known.ensures.known))
+    subst (λ (v : Vec (Option ℕ)). AreKnown c.known_apart.new.pool c.args.limit M v.items) (same_Some _ rows is) (rw same at c.in_ok-known.ensures.known)

@@ -14,9 +14,6 @@ sized c =
 pub kernel_in-requires-clause-flags : goal.kernel_in-requires-clause-flags
 kernel_in-requires-clause-flags c = ap length c.in_ok-chosen.ensures ∙ c.requires.flags
 
-pub told_by-requires-clause-hold : goal.told_by-requires-clause-hold
-told_by-requires-clause-hold c = let made = rw c.in-Some.is at c.in_ok-made.ensures.kernel in made.hold_is
-
 pub told_by-requires-clause-kernel : goal.told_by-requires-clause-kernel
 told_by-requires-clause-kernel c = let made = rw c.in-Some.is at c.in_ok-made.ensures.kernel in made.kernel_is
 
@@ -24,7 +21,7 @@ pub told_by-requires-clause-flags : goal.told_by-requires-clause-flags
 told_by-requires-clause-flags c = ap length c.in_ok-chosen.ensures ∙ c.requires.flags
 
 pub put_base-requires-clause-fits : goal.put_base-requires-clause-fits
-put_base-requires-clause-fits c = bases_fit c.args.old.now c.args.whole.now c.args.carried.now.base c.requires.whole.book_is.sound c.requires.carried.base_is
+put_base-requires-clause-fits c = bases_fit c.args.old.now c.args.whole.now c.told_by.new.carried.base c.requires.whole.book_is.sound (rw c.told_by.ensures.base c.requires.carried.base_is)
 
 pub put_base-requires-clause-flags : goal.put_base-requires-clause-flags
 put_base-requires-clause-flags c = sized (goal.at.put_base-requires-clause-flags c).In_ok-chosen
@@ -36,8 +33,9 @@ put_base-requires-clause-rows c =
 
 pub returns-in-Some-clause-carried : goal.returns-in-Some-clause-carried
 returns-in-Some-clause-carried c = record {
-  base_is = c.in_ok-put_base-in-Some.ensures c.args.old.now c.requires.whole.book_is.sound c.in_ok-made.ensures.rows c.requires.carried.base_is;
+  base_is = c.in_ok-put_base-in-Some.ensures c.args.old.now c.requires.whole.book_is.sound c.in_ok-made.ensures.rows (rw c.told_by.ensures.base c.requires.carried.base_is);
   known_are = c.in_ok-told-in-Some.ensures.known;
+  rounds_are = c.in_ok-told-in-Some.ensures.rounds;
 }
 
 pub returns-in-Some-clause-line : goal.returns-in-Some-clause-line

@@ -1,0 +1,19 @@
+-- Whether one of the packages whose flags are up is bound to an architecture.
+use Rattle.std.proofs.{Common.{◌≡◌, ℕ, ◌≤◌, Bool, false, List, [], ◌∷◌, length, drop, refl, sym, ap, ◌∙◌}, lemmas.List.{drop_all}}
+use Rattle.std.specs.List.{items_where_true, list_any}
+use Rattle.relation_fields.specs.declared.packages.PackageFacts.{PackageFacts}
+
+abbrev any_bound : List Bool → List PackageFacts → Bool
+any_bound flags packages = list_any (λ facts. facts.is_bound) (items_where_true flags packages)
+
+-- one of those from a place on is, exactly where one of all is
+abbrev pub IsBehind : List Bool → List PackageFacts → ℕ → Type 0
+IsBehind flags all i = any_bound flags all ≡ any_bound (drop i flags) (drop i all)
+
+-- there are no more
+pub none_behind : (flags : List Bool) (all : List PackageFacts) (i : ℕ) → length all ≤ i → IsBehind flags all i → false ≡ any_bound flags all
+none_behind flags all i past behind = sym (behind ∙ ap (any_bound (drop i flags)) (drop_all i all past) ∙ none (drop i flags))
+  where
+    none : (fs : List Bool) → any_bound fs [] ≡ false
+    none [] = refl
+    none (f ∷ fs) = refl

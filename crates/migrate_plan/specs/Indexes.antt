@@ -1,0 +1,24 @@
+-- An old and a new index, by their texts and by what is kept of these.
+use Rattle.std.specs.{Prelude.{◌≡◌, ℕ, Bool, List, Option, None, length, if◌then◌else◌}, List.{items_where_true, list_any}}
+use Rattle.repo_model.specs.{Feeding.{IsSuiteOf}, declared.suite.Suite.{Suite}}
+use Rattle.migrate_plan.specs.declared.lengths.TextLengths.{TextLengths}
+
+-- the texts of an old and of a new index
+pub record Texts : Type 0 where
+  pub old : List ℕ
+  pub new : List ℕ
+
+-- texts of which these are the suites
+pub record AreTexts (texts : Texts) (old new : Suite) : Type 0 where
+  pub old_is : IsSuiteOf texts.old old.packages old.home.name
+  pub new_is : IsSuiteOf texts.new new.packages new.home.name
+
+-- texts of which these are the suites and the lengths
+pub record AreMeasured (texts : Texts) (old new : Suite) (lengths : TextLengths) : Type 0 where
+  pub suites : AreTexts texts old new
+  pub old_length_is : lengths.old ≡ length texts.old
+  pub new_length_is : lengths.new ≡ length texts.new
+
+-- the common architecture of a suite, if one of its packages whose flags are up has it
+abbrev pub home_where : List Bool → Suite → Option (List ℕ)
+home_where flags suite = if list_any (λ facts. facts.is_bound) (items_where_true flags suite.packages) then suite.home.name else None

@@ -4,29 +4,16 @@ use Rattle.std.proofs.{lemmas.Bool.{cases_eq, cases_lt, false_from_ne_true, not_
 use Rattle.std.proofs.lemmas.List.{get_or-map, get_or_append_left, length-map, map-append}
 use Rattle.std.specs.{List.{list_any}, Cmp.Lexicographic.{pointwise}}
 use Rattle.class_merge.proofs.Places.{place_in, place_none, place_some}
-use Rattle.clause_pool.specs.Interned.{Interned, IsPool, EachOnce, clauses_at, ids_at, row_at, OfPool}
+use Rattle.clause_pool.specs.Interned.{Interned, IsPool, row_at}
 use Rattle.row_book.specs.{declared.book.Book.{Book}, Numbers.{numbers}, Uses.{row_id}, Book.{repository_of, Sound}, Repository.{Repository}}
 use Rattle.row_book.specs.Flattening.{packages}
-use Rattle.listed.specs.Lists.{In, here, there, Ascending}
+use Rattle.listed.specs.Lists.{In, Ascending}
 use Rattle.row_book.specs.Merging.{are_alike, class_list, class_of as class_of_, firsts, first_of, is_first}
-use Rattle.row_book.proofs.{Books.{clauses_row}, Numbers.{at_numbers, length_numbers, numbers_ascending, numbers_parts, numbers_more, numbers_count}}
+use Rattle.row_book.proofs.{Books.{clauses_row}, Compared.{row_once}}
+use Rattle.row_book.proofs.Numbers.{at_numbers, length_numbers, numbers_ascending, numbers_parts, numbers_more, numbers_count}
 use Rattle.listed.proofs.{Lists.{In_append_cases, In_at, In_cases, In_map, In_none, any_cases, filter_cases}, Orders.{ascending_filter}}
 use Rattle.class_merge.specs.{Classes.{key_of}, Grouping.{AreClasses, IsPlaceAmong}}
 use Rattle.class_merge.proofs.{Plain.{filter_less, none_before}, Classes.{Alike, alike_from, alike_sym, alike_trans, class_alike, first_in, has_class_lem}}
-
--- rows of a pool are kept once
-ids_once : (pool : Interned) → EachOnce pool.clauses → (xs ys : List ℕ) → OfPool pool xs → OfPool pool ys → clauses_at pool xs ≡ clauses_at pool ys → xs ≡ ys
-ids_once pool once [] [] f g e = refl
-ids_once pool once [] (y ∷ ys) f g e = absurd (let h : 0 ≡ suc (length (clauses_at pool ys)) = ap length e in omega (arith, h))
-ids_once pool once (x ∷ xs) [] f g e = absurd (let h : suc (length (clauses_at pool xs)) ≡ 0 = ap length e in omega (arith, h))
-ids_once pool once (x ∷ xs) (y ∷ ys) f g e =
-    ap₂ (λ z zs. z ∷ zs)
-    (once x y (f x here) (g y here) (ap (λ zs. get_or zs 0 []) e))
-    (ids_once pool once xs ys (λ i j. f i (there j)) (λ i j. g i (there j)) (ap (drop 1) e))
-
-pub row_once : (pool : Interned) → IsPool pool → (i j : ℕ) → i < length pool.rows → j < length pool.rows → row_at pool i ≡ row_at pool j → i ≡ j
-row_once pool is i j l m e =
-    is.rows_once i j l m (ids_once pool is.clauses_once (ids_at pool i) (ids_at pool j) (is.of_pool i l) (is.of_pool j m) e)
 
 -- places in an ascending list
 ascending_at : (xs : List ℕ) → Ascending xs → (i j : ℕ) → i < j → j < length xs → get_or xs i 0 < get_or xs j 0

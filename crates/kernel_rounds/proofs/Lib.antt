@@ -7,7 +7,7 @@ pub mod Settling
 pub mod Reached
 pub mod Midways
 pub mod MovedSteps
-pub mod Compared
+pub mod FirstPlace
 mod Again
 mod Behind
 mod Descent

@@ -3,12 +3,11 @@ use Rattle.std.proofs.Common.{◌≡◌, ℕ, Bool, ◌<◌, ◌+◌, List, [], 
 use Rattle.std.proofs.{lemmas.Bool.{cases_lt}, lemmas.List.{map-append, take_more}}
 use Rattle.clause_pool.specs.{Interned.{Interned, IsPool, Kept, clause_at, ids_at, row_at}, Compacting.{Compacts, Renames, RowsOf}}
 use Rattle.clause_pool.proofs.Interned.{kept_along}
-use Rattle.class_merge.proofs.Groups.{row_once}
+use Rattle.row_book.proofs.{Compared.{row_once}, Repositories.{repository_same}}
 use Rattle.row_book.specs.{declared.book.Book.{Book}, declared.trail.Step.{Step}, declared.trail.Step.TheVariants.{Flat, Idle, Merge}}
 use Rattle.row_book.specs.{Book.{repository_of, AddsOnly, AreConflicts, IsSameBook, RowsFit, Sound}, Repository.{Repository}}
 use Rattle.row_book.specs.{Rounds.{RoundStep, FlatStep, IdleStep, MergeStep}, Trail.{SoundStep, SoundSteps, step_meaning, trail_meaning}}
 use Rattle.listed.specs.Lists.{In, here, there}
-use Rattle.row_book.proofs.Repositories.{repository_same}
 use Rattle.listed.proofs.Lists.{In_append_cases, In_append_left, In_append_right, In_at, In_cases, In_map, In_map_cases, In_none}
 use Rattle.kernel_rounds.specs.{Extracting.{IsExtracted, IsReached}, Moving.{live_rows, step_rows, trail_rows, AreSameSteps, HasOnly, HasSteps, IsSameStep}}
 use Rattle.kernel_rounds.proofs.Midways.{sound_step, told_kept}

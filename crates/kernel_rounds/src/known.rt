@@ -6,7 +6,6 @@ ghost use Rattle.row_book.specs.{Book.{repository_of, Sound}, Flattening.{passes
 ghost use Rattle.kernel_rounds.specs.{Known.{AreKnownRounds, AreRoundsOf, IsClassified, IsLeftByFirst}, declared.known.KnownRounds.{KnownRounds}};
 
 use crate::advancing::compose;
-use crate::comparing::is_same_book;
 use crate::error::RoundError;
 use crate::extraction::{Kernel, extract};
 use crate::moving::keep_live;
@@ -14,10 +13,10 @@ use crate::rounding::reduce_flat;
 use clause_flatten::{Flattened, flatten_beside};
 use clause_pool::{NumList, Pool, RowId};
 use listed::Listed;
-use row_book::Book;
+use row_book::{Book, is_same_book};
 use std::alloc::{AllocError, Global};
 
-/// The kernel of what a first round has left, without hold, and the class of each of its packages in that.
+/// What a first round has left, without hold, with its kernel, and the class in that kernel of each package that was left.
 #[derive(Drop)]
 pub struct KnownRounds {
     /// The pool of the kernel's rows.
@@ -26,7 +25,7 @@ pub struct KnownRounds {
     pub kernel: Book,
     // What the first round has left, in the same pool.
     pub(crate) first: Book,
-    // For each of its packages its class in the kernel.
+    // For each package of `first` its class in the kernel.
     pub(crate) class_of: NumList,
     // The clause limit.
     pub(crate) limit: u32,

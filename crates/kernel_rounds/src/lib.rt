@@ -3,7 +3,6 @@
 #![tactic(auto)]
 
 mod advancing;
-mod comparing;
 mod error;
 mod extraction;
 mod known;

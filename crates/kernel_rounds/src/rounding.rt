@@ -7,7 +7,6 @@ ghost use Rattle.row_book.specs.{Merging.{class_list, quotient}, Pruning.{idle_s
 ghost use Rattle.row_book.specs.{Trail.{SoundSteps, trail_meaning}, declared.trail.Step.TheVariants.{Flat, Merge}};
 ghost use Rattle.kernel_rounds.specs.{Extracting.{IsFirstRound}, Moving.{live_rows, AreSameSteps, HasOnly}};
 
-use crate::comparing::same_books;
 use crate::moving::{keep_live, no_steps};
 use class_merge::merge;
 use clause_flatten::{FlatError, Flattened, flatten};
@@ -15,7 +14,7 @@ use clause_pool::{NumList, Pool};
 use clause_prune::prune;
 use conflict_reduce::thin;
 use listed::Listed;
-use row_book::{Book, Step, StepList, Trail};
+use row_book::{Book, Step, StepList, Trail, same_books};
 use std::alloc::{AllocError, Global};
 
 /// What one round gives.

@@ -16,3 +16,4 @@ pub mod Repositories
 pub mod Facing
 pub mod BookRepositories
 pub mod Distinct
+pub mod Compared

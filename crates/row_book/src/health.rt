@@ -12,11 +12,11 @@ use clause_pool::{ClauseId, Pool};
 /// The first reason why a set of packages is not healthy.
 #[derive(Clone, Copy, Debug, PartialEq, Eq)]
 pub enum Unhealthy {
-    /// A clause of a package of the set, counted from 0, of which the set has no number.
+    /// A clause of a package of the set, of which the set has no member.
     Unhit {
         /// The least package with such a clause.
         package: u32,
-        /// The place of its first such clause.
+        /// The place of its first such clause, from 0.
         clause: u64,
     },
     /// Two packages of the set that conflict, where every clause is hit.

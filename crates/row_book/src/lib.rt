@@ -4,6 +4,7 @@
 mod book;
 mod changes;
 mod clause_table;
+mod comparing;
 mod conflicting;
 mod health;
 mod moving;
@@ -18,6 +19,9 @@ mod uses;
 pub use book::{Book, ConflictTable, RowList};
 pub use needs::Needs;
 pub use pair::Pair;
+
+// Whether books or lists are the same.
+pub use comparing::{are_same_lists, is_same_book, same_books};
 
 // Which packages are healthy or conflict, and which lists hold or hit others.
 pub use conflicting::{are_against, common_conflicts, conflicts_of};

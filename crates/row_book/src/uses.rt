@@ -1,7 +1,7 @@
 //! Which packages name which.
 //!
 //! The table holds a pair for each package and each number, so a long clause that many rows share costs a square. Flattening
-//! goes by `ClauseTable`; only `eliminate` uses this table.
+//! goes by `ClauseTable`. This table serves `eliminate`, and `suite_part`, which asks it who needs a package that has changed.
 ghost use Rattle.std.specs.Prelude.{◌≡◌, ◌<◌, ◌-◌, ◌⊎◌, ◌&&◌, ◌||◌, ℕ, List, [], IfOk, OnOk, OnErr, true, not, eqb, length, slice_set, vec_capacity, vec_len};
 ghost use Rattle.std.specs.List.Sorted.{IsNonDecreasing, IsSearchInRange};
 ghost use Rattle.clause_pool.specs.Interned.{clauses_at, ids_at, row_at, OfPool};

@@ -1,5 +1,5 @@
 -- Judges that are asked alike, and lists that are compared place by place.
-use Rattle.std.proofs.Common.{◌≡◌, ℕ, suc, ◌<◌, List, [], ◌∷◌, inl, inr, length, get_or, map, refl, sym, ◌∙◌, ap, ap₂, subst, arith}
+use Rattle.std.proofs.Common.{◌≡◌, ℕ, ◌<◌, List, [], inl, inr, length, get_or, sym, ◌∙◌, ap, subst}
 use Rattle.row_book.specs.Book.{listed_for}
 use Rattle.suite_compare.{specs.Bad.{AreAllBad, AreBad}, specs.Kinds.{alone, alone_in, kernel_in, together, together_in}, specs.Report.{is_yes}, specs.declared.verdicts.Bad.{Bad}, specs.declared.verdicts.Judge.{Judge}}
 
@@ -33,10 +33,3 @@ module _ (judge other : Judge) (kernel : kernel_in other ≡ kernel_in judge) (k
     long = all.long ∙ sym (ap length kinds);
     each = λ k l. same_bad k (get_or lists k []) (all.each k (subst (λ z. k < length z) kinds l));
   }
-
--- lists whose items mean the same at each place
-pub same_mapped : {A : Type 0} (f g : ℕ → A) (xs ys : List ℕ) → length xs ≡ length ys → ((k : ℕ) → k < length xs → f (get_or xs k 0) ≡ g (get_or ys k 0)) → map f xs ≡ map g ys
-same_mapped f g [] [] e same = refl
-same_mapped f g [] (y ∷ ys) e same = absurd (omega (arith, e))
-same_mapped f g (x ∷ xs) [] e same = absurd (omega (arith, e))
-same_mapped f g (x ∷ xs) (y ∷ ys) e same = ap₂ (λ z zs. z ∷ zs) (same 0 (omega arith)) (same_mapped f g xs ys (omega (arith, e)) (λ k l. same (suc k) (omega arith)))

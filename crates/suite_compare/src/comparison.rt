@@ -110,7 +110,7 @@ fn lines_of(
     Ok(lines)
 }
 
-/// Lines of a comparison up to the first, and what is known of pairs then.
+/// The lines of names by themselves, or those of pairs if there are none, and what is known of pairs then.
 #[derive(Drop)]
 struct FirstLines {
     lines: LineList,

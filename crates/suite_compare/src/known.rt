@@ -1,18 +1,17 @@
 //! What is known of pairs of kinds from an earlier comparison. Many mixes of two indexes have one and the same kernel, and the same kinds in it, so
 //! that their pairs need not be searched again.
-ghost use Rattle.std.specs.{Prelude.{◌≡◌, ◌<◌, length, IfOk}, Bool.{OnTrue}, Option.{ForSome}};
-ghost use Rattle.clause_pool.specs.Interned.{row_at};
-ghost use Rattle.row_book.specs.Book.{repository_of, Sound};
+ghost use Rattle.std.specs.{Prelude.{◌≡◌, ◌<◌, IfOk}, Bool.{OnTrue}, Option.{ForSome}};
+ghost use Rattle.row_book.specs.Book.{Sound};
 ghost use Rattle.suite_compare.specs.{Bad.{AreAllBad, AreSingles}, Kinds.{IsJudge}, Known.{AreKnownPairs, IsAskedAlike}};
 
 use crate::verdicts::{BadList, Judge, bad_lists};
 use clause_pool::{NumList, Pool, RowId};
 use clause_solver::Verdict;
 use listed::Listed;
-use row_book::Book;
+use row_book::{Book, are_same_lists, is_same_book};
 use std::alloc::{AllocError, Global};
 
-/// The kinds of a kernel with those that are bad with each of them.
+/// A kernel and its kinds, and for each kind those that do not go together with it, or are not known to, within a budget.
 #[derive(Drop)]
 pub struct KnownPairs {
     // The pool of the book's rows.
@@ -95,56 +94,4 @@ fn is_alike(known: &KnownPairs, judge: &Judge) -> bool
         return false;
     }
     is_same_book(&known.pool, &known.book, judge.pool, judge.book)
-}
-
-// Whether two lists of lists are the same.
-fn are_same_lists(one: &[NumList], other: &[NumList]) -> bool
-    ensures { OnTrue result (one.now ≡ other.now) }
-{
-    if one.len() != other.len() {
-        return false;
-    }
-    for place in 0..one.len() {
-        if one[place].as_slice() != other[place].as_slice() {
-            return false;
-        }
-    }
-    true
-}
-
-// Whether two books, each in a pool of its own, are of the same repository.
-fn is_same_book(pool: &Pool, book: &Book, other_pool: &Pool, other: &Book) -> bool
-    requires one { Sound pool.now book.now }
-    requires other { Sound other_pool.now other.now }
-    ensures { OnTrue result (repository_of pool.now book.now ≡ repository_of other_pool.now other.now) }
-{
-    if !are_same_lists(book.conflicts.as_slice(), other.conflicts.as_slice()) {
-        return false;
-    }
-    // A book has as many rows as lists of conflicts.
-    for number in 0..book.size() {
-        if !is_same_row(pool, book.row(number), other_pool, other.row(number)) {
-            return false;
-        }
-    }
-    true
-}
-
-// Whether two rows, each in a pool of its own, have the same clauses.
-fn is_same_row(pool: &Pool, row: RowId, other_pool: &Pool, other: RowId) -> bool
-    requires one { row < length pool.now.rows }
-    requires other { other < length other_pool.now.rows }
-    ensures { OnTrue result (row_at pool.now row ≡ row_at other_pool.now other) }
-{
-    let ids = pool.row(row);
-    let others = other_pool.row(other);
-    if ids.len() != others.len() {
-        return false;
-    }
-    for place in 0..ids.len() {
-        if pool.slice(ids[place]) != other_pool.slice(others[place]) {
-            return false;
-        }
-    }
-    true
 }

@@ -42,7 +42,7 @@ pub struct OldSide<'a> {
     pub budget: u64,
     /// Its names, lent from the suite.
     pub(crate) names: LentNames<'a>,
-    /// The suite.
+    /// The side of its suite, the same in all comparisons.
     pub(crate) side: Side<'a>,
 }
 
@@ -51,7 +51,7 @@ pub struct OldSide<'a> {
 pub(crate) struct NewSide<'o, 'n> {
     /// The names that both have, with their kinds in the old suite.
     pub(crate) part: Part<'o>,
-    /// The new suite, of these names alone.
+    /// The side of the new suite, of these names alone.
     pub(crate) side: Side<'n>,
 }
 

@@ -154,7 +154,8 @@ fn is_single(goal: &[u32]) -> bool
 }
 
 /// Whether a list is asked for the verdict with the second goal: that is one of the first so many kinds, and one of both goals is
-/// a single class, so that their search is the same in both orders. It is not asked for rivals, which are told apart sooner.
+/// a single class, so that their search is the same in both orders. It is not asked for two single classes in conflict: these
+/// need no search at all.
 fn is_told(book: &Book, first: &[u32], second: &[u32], kind: usize, count: usize) -> bool
     requires first { (i : ℕ) → i < length first.now → slice_index_or first.now i 0 < length book.now.rows }
     requires second { (i : ℕ) → i < length second.now → slice_index_or second.now i 0 < length book.now.rows }

@@ -2,9 +2,8 @@ use Rattle.std.proofs.Common.{◌≡◌, ◌∙◌, ap, arith, length, sym}
 use Rattle.listed.proofs.Lists.{In_at}
 use Rattle.clause_pool.specs.Interned.{row_at}
 use Rattle.row_book.specs.Book.{repository_of}
-use Rattle.row_book.proofs.Repositories.{repository_same, same_rows}
-use Rattle.kernel_rounds.proofs.Compared.{same_mapped}
-use Rattle.kernel_rounds.proofs.comparing.is_same_book.Goals as goal
+use Rattle.row_book.proofs.{Repositories.{repository_same, same_rows}, Compared.{same_mapped}}
+use Rattle.row_book.proofs.comparing.is_same_book.Goals as goal
 
 pub is_same_row-requires-clause-one : goal.is_same_row-requires-clause-one
 is_same_row-requires-clause-one c = rw c.row.ensures (c.requires.one.rows.of_pool _ (In_at c.args.book.now.rows c.loop-number.number 0 (omega arith)))
@@ -12,7 +11,7 @@ is_same_row-requires-clause-one c = rw c.row.ensures (c.requires.one.rows.of_poo
 pub is_same_row-requires-clause-other : goal.is_same_row-requires-clause-other
 is_same_row-requires-clause-other c =
     let conflicts : c.args.book.now.conflicts ≡ c.args.other.now.conflicts =
-    sym c.as_slice.ensures ∙ same_rows c.as_slice.result.now c.as_slice-2.result.now (sym c.same_lists.ensures ∙ c.if-not-same_lists.false)
+    sym c.as_slice.ensures ∙ same_rows c.as_slice.result.now c.as_slice-2.result.now (sym c.are_same_lists.ensures ∙ c.if-not-are_same_lists.false)
     ∙ c.as_slice-2.ensures in
     let size : length c.args.book.now.rows ≡ length c.args.other.now.rows = sym c.args.book.now.paired ∙ ap length conflicts ∙ c.args.other.now.paired in
     rw c.row-in-loop-number.ensures (c.requires.other.rows.of_pool _ (In_at c.args.other.now.rows c.loop-number.number 0 (omega arith)))
@@ -20,7 +19,7 @@ is_same_row-requires-clause-other c =
 pub returns : goal.returns
 returns c =
     let conflicts : c.args.book.now.conflicts ≡ c.args.other.now.conflicts =
-    sym c.as_slice.ensures ∙ same_rows c.as_slice.result.now c.as_slice-2.result.now (sym c.same_lists.ensures ∙ c.if-not-same_lists.false)
+    sym c.as_slice.ensures ∙ same_rows c.as_slice.result.now c.as_slice-2.result.now (sym c.are_same_lists.ensures ∙ c.if-not-are_same_lists.false)
     ∙ c.as_slice-2.ensures in
     let size : length c.args.book.now.rows ≡ length c.args.other.now.rows = sym c.args.book.now.paired ∙ ap length conflicts ∙ c.args.other.now.paired in
     repository_same (repository_of c.args.pool.now c.args.book.now) (repository_of c.args.other_pool.now c.args.other.now)

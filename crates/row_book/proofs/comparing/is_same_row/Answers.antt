@@ -1,8 +1,8 @@
 use Rattle.std.proofs.Common.{◌∙◌, ap, arith, map, sym}
 use Rattle.listed.proofs.Lists.{item_in}
 use Rattle.clause_pool.specs.Interned.{clause_at}
-use Rattle.kernel_rounds.proofs.Compared.{same_mapped}
-use Rattle.kernel_rounds.proofs.comparing.is_same_row.Goals as goal
+use Rattle.row_book.proofs.Compared.{same_mapped}
+use Rattle.row_book.proofs.comparing.is_same_row.Goals as goal
 
 pub slice-requires : goal.slice-requires
 slice-requires c =

@@ -85,10 +85,10 @@ abbrev of_any : Home
 of_any = record { name = None }
 
 abbrev a_facts : PackageFacts
-a_facts = record { line = 1; name = codes "a"; version = codes "1"; is_bound = false; needs = []; against = []; provides = record { name = codes "b"; qualifier = None; version = Some (codes "1.0") } ∷ [] }
+a_facts = record { line = 1; name = codes "a"; version = codes "1"; is_arch_dependent = false; needs = []; against = []; provides = record { name = codes "b"; qualifier = None; version = Some (codes "1.0") } ∷ [] }
 
 abbrev b_facts : PackageFacts
-b_facts = record { line = 4; name = codes "b"; version = codes "0~1"; is_bound = false; needs = (b_from_one ∷ []) ∷ []; against = b_from_one ∷ []; provides = [] }
+b_facts = record { line = 4; name = codes "b"; version = codes "0~1"; is_arch_dependent = false; needs = (b_from_one ∷ []) ∷ []; against = b_from_one ∷ []; provides = [] }
 
 a_meets : meets b_from_one a_facts of_any ≡ true
 unfolding meets version_order part_order first_difference pieces_order plain_piece number_piece behind epoch_of behind_epoch upstream_in revision_in

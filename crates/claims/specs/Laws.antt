@@ -38,7 +38,8 @@ IndexesAreRead = (text : Text) → first_fault text ≡ None → IndexSays text 
 abbrev pub IndexesAreAccepted : Type 0
 IndexesAreAccepted = (text : Text) (home : Home) (stanzas : List PackageFacts) → IndexSays text home stanzas → length stanzas ≤ most_packages → first_fault text ≡ None
 
--- two packages with the same name, version and relations; the lines on which they stand, and whether they are bound to the home, are no part of that
+-- two packages with the same name, version and relations; the lines on which they stand, and whether they have an architecture other than
+-- `all`, are no part of that
 abbrev pub SaysTheSame : PackageFacts → PackageFacts → Type 0
 SaysTheSame one other = (one.name ≡ other.name) × (one.version ≡ other.version) × (one.needs ≡ other.needs) × (one.against ≡ other.against) × (one.provides ≡ other.provides)
 

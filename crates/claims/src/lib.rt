@@ -29,7 +29,8 @@ pub fn indexes_are_accepted()
     ensures { IndexesAreAccepted }
 {}
 
-/// A text is an index of one list of packages, but for the lines on which they stand and whether they are bound to the home, and has one home.
+/// A text is an index of one list of packages, but for the lines on which they stand and whether they have an architecture other than `all`,
+/// and has one home.
 pub fn indexes_are_one()
     ensures { IndexesAreOne }
 {}

@@ -20,7 +20,7 @@ pub struct PackageFacts {
     /// The package's version.
     pub version: Version,
     /// Whether it has an architecture other than `all`, and so that of its index.
-    pub is_bound: bool,
+    pub is_arch_dependent: bool,
     /// The elements of `Pre-Depends`, and then those of `Depends`.
     pub needs: ElementList,
     /// The atoms of `Conflicts`, and then those of `Breaks`.

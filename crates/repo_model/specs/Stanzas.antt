@@ -7,7 +7,7 @@ use Rattle.listed.specs.Lists.{In}
 
 -- no package: it has no name and no relations
 abbrev pub no_stanza : PackageFacts
-no_stanza = record { line = 0; name = []; version = []; is_bound = false; needs = []; against = []; provides = [] }
+no_stanza = record { line = 0; name = []; version = []; is_arch_dependent = false; needs = []; against = []; provides = [] }
 
 -- the stanza with that number, counted from 0
 abbrev pub stanza_at : List PackageFacts → ℕ → PackageFacts

@@ -14,7 +14,7 @@ pub(crate) fn copy_of_facts(alloc: Global, facts: &PackageFacts) -> Result<Packa
         line: facts.line,
         name: Bytes::copy(alloc, facts.name.as_slice())?,
         version: copy_of_version(alloc, &facts.version)?,
-        is_bound: facts.is_bound,
+        is_arch_dependent: facts.is_arch_dependent,
         needs: shared(alloc, facts.needs.as_slice())?,
         against: facts.against.share()?,
         provides: copy_of_provides(alloc, facts.provides.as_slice())?,

@@ -24,7 +24,7 @@ use std::alloc::Global;
 pub(crate) struct NamelessFacts {
     pub(crate) line: u64,
     pub(crate) version: Version,
-    pub(crate) is_bound: bool,
+    pub(crate) is_arch_dependent: bool,
     pub(crate) needs: ElementList,
     pub(crate) against: AtomList,
     pub(crate) provides: ProvideList,
@@ -38,7 +38,7 @@ impl NamelessFacts {
         let NamelessFacts {
             line,
             version,
-            is_bound,
+            is_arch_dependent,
             needs,
             against,
             provides,
@@ -47,7 +47,7 @@ impl NamelessFacts {
             line,
             name,
             version,
-            is_bound,
+            is_arch_dependent,
             needs,
             against,
             provides,
@@ -79,7 +79,7 @@ pub(crate) fn read_facts(
     check_name(name)?;
     let version = read_version(alloc, version)?;
     check_architecture(architecture)?;
-    let is_bound = is_bound(architecture);
+    let is_arch_dependent = is_arch_dependent(architecture);
     let needs = read_both(
         alloc,
         elements,
@@ -92,7 +92,7 @@ pub(crate) fn read_facts(
     Ok(NamelessFacts {
         line,
         version,
-        is_bound,
+        is_arch_dependent,
         needs,
         against,
         provides,
@@ -197,7 +197,7 @@ pub fn is_all(architecture: &[u8]) -> bool
 
 // Whether a stanza with this field `Architecture` has an architecture other than `all`.
 #[tactic(auto, unfolding(crate::specs::Facts::architecture_of))]
-fn is_bound(architecture: Option<&RawField>) -> bool
+fn is_arch_dependent(architecture: Option<&RawField>) -> bool
     ensures { (stanza : RawStanza) → option_copied architecture.entry ≡ field_of FieldKind.Architecture stanza → result ≡ is_some (architecture_of stanza) }
 {
     match architecture {

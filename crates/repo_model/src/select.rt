@@ -125,7 +125,7 @@ fn put_elements(
     Ok(())
 }
 
-// No list has a place.
+// So many lists, of which none has a place yet.
 fn no_places(alloc: Global, count: usize) -> Result<Vec<Option<u32>>, AllocError>
     ensures size { IfOk result (λ made. length made.items ≡ count) }
     ensures none { IfOk result (λ made. (mark : ℕ) → slice_index_or made.items mark None ≡ None) }

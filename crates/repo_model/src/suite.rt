@@ -25,7 +25,7 @@ pub struct Suite {
     pub home: Home,
     // The elements of the packages' needs, one package's behind the other's.
     pub(crate) elements: SharedElements,
-    // The packages by their names and versions, as they were read.
+    // The register of the packages and of what they provide, by names and versions.
     pub(crate) names: NameTable,
     ghost few: { length packages ≤ most_packages },
     ghost shared: { elements_of elements ≡ needs_of_all packages } by { needs-prop (elements_of elements) packages },

@@ -6,12 +6,12 @@
 ghost use Rattle.std.specs.{Prelude.{◌≡◌, ◌<◌, ◌≤◌, ◌∷◌, ◌%◌, ◌||◌, [], ℕ, IfOk, List, OnOk, length, slice_index_or}, Bool.{OnFalse}};
 ghost use Rattle.clause_pool.specs.{Interned.{clause_at, clauses_at, OfPool}, Lists.{InOrder}};
 ghost use Rattle.listed.specs.Lists.{has, In, Ascending};
-ghost use Rattle.row_book.specs.{Book.{RowsFit}, Repository.{clauses_of}};
+ghost use Rattle.row_book.specs.Repository.{clauses_of};
 ghost use Rattle.clause_prune.specs.Filing.{entries_at, entries_in, filed_in, filed_within, tell_within, under, AreOfPool, AsksServing, FiledFor, Gains, IsFiled, Takes};
-ghost use Rattle.clause_prune.specs.Tests.{with_ids};
+ghost use Rattle.clause_prune.specs.PrunedPackages.{bare_with, IsPrunable};
 
-use crate::forced::clauses_of;
-use clause_pool::{ClauseId, Pool, RowId};
+use crate::pruned_package::PrunedPackage;
+use clause_pool::{ClauseId, Pool};
 use listed::{empty_vectors, holds_ascending, is_inside_ascending};
 use row_book::distinct_numbers_in;
 use std::alloc::{AllocError, Global};
@@ -48,24 +48,21 @@ impl Filed {
     /// The members of the clauses of the package, filed for their clauses.
     pub(crate) fn of(
         alloc: Global,
-        pool: &Pool,
-        rows: &[RowId],
-        number: u32,
+        pruned: &PrunedPackage,
         ids: &[ClauseId],
     ) -> Result<Filed, AllocError>
-        requires fit { RowsFit pool.now rows.now }
-        requires inside { number < length rows.now }
-        requires ids { OfPool pool.now ids.now }
-        requires order { InOrder (clauses_at pool.now ids.now) }
-        requires members { (c : List ℕ) → In c (clauses_at pool.now ids.now) → (n : ℕ) → In n c → n < length rows.now }
-        ensures asks { IfOk result (λ filed. (d : List ℕ) → In d (clauses_at pool.now ids.now) →
-            AsksServing pool.now (with_ids pool.now rows.now number ids.now []) (clauses_at pool.now ids.now) filed d) }
-        ensures sound { IfOk result (FiledFor pool.now rows.now number) }
+        requires fits { IsPrunable pruned.now }
+        requires ids { OfPool pruned.now.pool.now ids.now }
+        requires order { InOrder (clauses_at pruned.now.pool.now ids.now) }
+        requires members { (c : List ℕ) → In c (clauses_at pruned.now.pool.now ids.now) → (n : ℕ) → In n c → n < length pruned.now.rows.now }
+        ensures asks { IfOk result (λ filed. (d : List ℕ) → In d (clauses_at pruned.now.pool.now ids.now) →
+            AsksServing pruned.now.pool.now (bare_with pruned.now ids.now) (clauses_at pruned.now.pool.now ids.now) filed d) }
+        ensures sound { IfOk result (FiledFor pruned.now.pool.now pruned.now.rows.now pruned.now.number) }
     {
         let mut always = Vec::new(alloc);
         let mut lists = empty_vectors(alloc, list_count(ids.len()))?;
         let table = lists.as_mut_slice();
-        file_members(alloc, pool, rows, number, ids, &mut always, table)?;
+        file_members(alloc, pruned, ids, &mut always, table)?;
         Ok(Filed { always, lists })
     }
 
@@ -91,66 +88,61 @@ impl Filed {
     }
 }
 
-/// Files the members of the clauses of the package, where nobody is filed yet.
+// Files the members of the clauses of the package, where nobody is filed yet.
 fn file_members(
     alloc: Global,
-    pool: &Pool,
-    rows: &[RowId],
-    number: u32,
+    pruned: &PrunedPackage,
     ids: &[ClauseId],
     always: &mut Vec<u32>,
     lists: &mut [Vec<Entry>],
 ) -> Result<(), AllocError>
-    requires fit { RowsFit pool.now rows.now }
-    requires inside { number < length rows.now }
-    requires ids { OfPool pool.now ids.now }
-    requires order { InOrder (clauses_at pool.now ids.now) }
-    requires members { (c : List ℕ) → In c (clauses_at pool.now ids.now) → (n : ℕ) → In n c → n < length rows.now }
+    requires fits { IsPrunable pruned.now }
+    requires ids { OfPool pruned.now.pool.now ids.now }
+    requires order { InOrder (clauses_at pruned.now.pool.now ids.now) }
+    requires members { (c : List ℕ) → In c (clauses_at pruned.now.pool.now ids.now) → (n : ℕ) → In n c → n < length pruned.now.rows.now }
     requires none { always.old.items ≡ [] }
     requires empty { (n : ℕ) → slice_index_or (entries_in lists.old) n [] ≡ [] }
-    ensures asks { OnOk result ((d : List ℕ) → In d (clauses_at pool.now ids.now) →
-        AsksServing pool.now (with_ids pool.now rows.now number ids.now []) (clauses_at pool.now ids.now) (filed_in always.new.items lists.new) d) }
-    ensures sound { OnOk result (FiledFor pool.now rows.now number (filed_in always.new.items lists.new)) }
+    ensures asks { OnOk result ((d : List ℕ) → In d (clauses_at pruned.now.pool.now ids.now) →
+        AsksServing pruned.now.pool.now (bare_with pruned.now ids.now) (clauses_at pruned.now.pool.now ids.now) (filed_in always.new.items lists.new) d) }
+    ensures sound { OnOk result (FiledFor pruned.now.pool.now pruned.now.rows.now pruned.now.number (filed_in always.new.items lists.new)) }
 {
-    let members = distinct_numbers_in(alloc, pool, ids)?;
-    file_each(pool, rows, number, ids, members.as_slice(), always, lists)?;
+    let members = distinct_numbers_in(alloc, pruned.pool, ids)?;
+    file_each(pruned, ids, members.as_slice(), always, lists)?;
     Ok(())
 }
 
-/// How many lists there are for a row of so many clauses.
+// How many lists there are for a row of so many clauses.
 fn list_count(clauses: usize) -> usize {
     if clauses > SHORT { clauses } else { 0 }
 }
 
-/// Files each of the packages for its clauses: of the one that is pruned those that are left.
-fn file_each(
-    pool: &Pool,
-    rows: &[RowId],
-    number: u32,
-    left: &[ClauseId],
+// Files each of the packages for its clauses: of the one that is pruned those that are left.
+fn file_each<'a>(
+    pruned: &'a PrunedPackage,
+    left: &'a [ClauseId],
     members: &[u32],
     always: &mut Vec<u32>,
     lists: &mut [Vec<Entry>],
 ) -> Result<(), AllocError>
-    requires fit { RowsFit pool.now rows.now }
-    requires inside { number < length rows.now }
-    requires left { OfPool pool.now left.now }
-    requires order { InOrder (clauses_at pool.now left.now) }
-    requires members { (n : ℕ) → In n members.now → n < length rows.now }
+    requires fits { IsPrunable pruned.now }
+    requires left { OfPool pruned.now.pool.now left.now }
+    requires order { InOrder (clauses_at pruned.now.pool.now left.now) }
+    requires members { (n : ℕ) → In n members.now → n < length pruned.now.rows.now }
     requires ascending { Ascending members.now }
-    ensures filed { OnOk result ((n : ℕ) → In n members.now → (e : List ℕ) → In e (clauses_of (with_ids pool.now rows.now number left.now []) n) →
-        IsFiled pool.now members.now (filed_in always.new.items lists.new) e n) }
-    ensures sound { OnOk result (FiledFor pool.now rows.now number (filed_in always.old.items lists.old) → FiledFor pool.now rows.now number (filed_in always.new.items lists.new)) }
+    ensures filed { OnOk result ((n : ℕ) → In n members.now → (e : List ℕ) → In e (clauses_of (bare_with pruned.now left.now) n) →
+        IsFiled pruned.now.pool.now members.now (filed_in always.new.items lists.new) e n) }
+    ensures sound { OnOk result (FiledFor pruned.now.pool.now pruned.now.rows.now pruned.now.number (filed_in always.old.items lists.old)
+        → FiledFor pruned.now.pool.now pruned.now.rows.now pruned.now.number (filed_in always.new.items lists.new)) }
 {
     for member in members {
-        let row = clauses_of(pool, rows, number, left, *member);
-        file_row(pool, row, members, always, lists, number, *member)?;
+        let row = pruned.clauses_of(left, *member);
+        file_row(pruned, row, members, always, lists, *member)?;
     }
     Ok(())
 }
 
-/// Whether a member with a row of so many clauses is asked about every clause: it is the package that is pruned, or its row is
-/// longer than there are lists, and going over it would cost more than asking the member each time.
+// Whether a member with a row of so many clauses is asked about every clause: it is the package that is pruned, or its row is
+// longer than there are lists, and going over it would cost more than asking the member each time.
 fn is_always_asked(number: u32, member: u32, clauses: usize, lists: usize) -> bool
     ensures other { OnFalse result (member ≡ number → ⊥) }
     ensures short { OnFalse result (clauses ≤ lists) }
@@ -158,32 +150,31 @@ fn is_always_asked(number: u32, member: u32, clauses: usize, lists: usize) -> bo
     member == number || clauses > lists
 }
 
-/// Files the member for each clause of its row.
+// Files the member for each clause of its row.
 fn file_row(
-    pool: &Pool,
+    pruned: &PrunedPackage,
     row: &[ClauseId],
     members: &[u32],
     always: &mut Vec<u32>,
     lists: &mut [Vec<Entry>],
-    number: u32,
     member: u32,
 ) -> Result<(), AllocError>
-    requires row { OfPool pool.now row.now }
+    requires row { OfPool pruned.now.pool.now row.now }
     requires ascending { Ascending members.now }
-    ensures filed { OnOk result ((e : List ℕ) → In e (clauses_at pool.now row.now) → IsFiled pool.now members.now (filed_in always.new.items lists.new) e member) }
-    ensures takes { OnOk result (Takes number member row.now (filed_in always.old.items lists.old) (filed_in always.new.items lists.new)) }
+    ensures filed { OnOk result ((e : List ℕ) → In e (clauses_at pruned.now.pool.now row.now) → IsFiled pruned.now.pool.now members.now (filed_in always.new.items lists.new) e member) }
+    ensures takes { OnOk result (Takes pruned.now.number member row.now (filed_in always.old.items lists.old) (filed_in always.new.items lists.new)) }
 {
-    if is_always_asked(number, member, row.len(), lists.len()) {
+    if is_always_asked(pruned.number, member, row.len(), lists.len()) {
         always.push(member)?;
         return Ok(());
     }
     for id in row {
-        file_clause(pool, *id, members, always, lists, member)?;
+        file_clause(pruned.pool, *id, members, always, lists, member)?;
     }
     Ok(())
 }
 
-/// Files the member for a clause that it has.
+// Files the member for a clause that it has.
 fn file_clause(
     pool: &Pool,
     clause: ClauseId,
@@ -213,7 +204,7 @@ fn file_clause(
     }
 }
 
-/// Puts the entry under the number, if that is one of the members.
+// Puts the entry under the number, if that is one of the members.
 fn file_under(
     number: u32,
     members: &[u32],
@@ -231,7 +222,7 @@ fn file_under(
     push_entry(lists, place_in(number, lists.len()), entry)
 }
 
-/// The place of the list that a number has among so many.
+// The place of the list that a number has among so many.
 fn place_in(number: u32, size: usize) -> usize
     requires { 0 < size }
     ensures is { result ≡ number % size }
@@ -240,7 +231,7 @@ fn place_in(number: u32, size: usize) -> usize
     number as usize % size
 }
 
-/// Puts an entry behind the others in a list.
+// Puts an entry behind the others in a list.
 fn push_entry(lists: &mut [Vec<Entry>], place: usize, entry: Entry) -> Result<(), AllocError>
     requires { place < length lists.old }
     ensures there { OnOk result (In entry (entries_at (entries_in lists.new) place)) }
@@ -250,7 +241,7 @@ fn push_entry(lists: &mut [Vec<Entry>], place: usize, entry: Entry) -> Result<()
     Ok(())
 }
 
-/// Lends the list that a number has, which is empty where there are no lists.
+// Lends the list that a number has, which is empty where there are no lists.
 fn list_under(lists: &[Vec<Entry>], number: u32) -> &[Entry]
     ensures { result.now ≡ under (entries_in lists.now) number }
 {
@@ -260,7 +251,7 @@ fn list_under(lists: &[Vec<Entry>], number: u32) -> &[Entry]
     lists[place_in(number, lists.len())].as_slice()
 }
 
-/// Puts the packages of those entries whose clauses lie within the given one behind the others.
+// Puts the packages of those entries whose clauses lie within the given one behind the others.
 fn push_packages(
     pool: &Pool,
     list: &[Entry],
@@ -279,7 +270,7 @@ fn push_packages(
     Ok(())
 }
 
-/// Does so with the lists of all members of the clause.
+// Does so with the lists of all members of the clause.
 fn push_each_within(
     pool: &Pool,
     lists: &[Vec<Entry>],

@@ -1,13 +1,12 @@
 //! Pruning of a book.
-ghost use Rattle.std.specs.Prelude.{◌≡◌, ◌<◌, ◌++◌, ◌∷◌, [], ℕ, List, IfOk, OnOk, length, map};
+ghost use Rattle.std.specs.Prelude.{◌≡◌, ◌<◌, ◌++◌, ◌∷◌, [], ℕ, IfOk, OnOk, length, map};
 ghost use Rattle.clause_pool.specs.Interned.{row_at, Kept, IsPool};
 ghost use Rattle.listed.specs.Lists.{In, Ascending};
 ghost use Rattle.row_book.specs.{Book.{listed_for, repository_of, RowsFit, RowsTidy, Sound}, Repository.{Repository}, Keeping.{KeepsSets}};
 ghost use Rattle.row_book.specs.{Sound.{TidyRepository}, Pruning.{idle_steps, prune_package, prune, with_clauses}, Rounds.{IdleStep}, Trail.{trail_meaning}};
 ghost use Rattle.clause_prune.specs.Tests.{repository_in};
 
-use crate::clauses::prune_each;
-use crate::dead::is_dead;
+use crate::pruned_package::PrunedPackage;
 use clause_pool::{NumList, Pool, RowId};
 use listed::Listed;
 use row_book::{Book, StepList};
@@ -22,7 +21,7 @@ pub struct Pruned {
     pub idle: StepList,
 }
 
-/// The row of the empty clause alone.
+// The row of the empty clause alone.
 fn empty_row(pool: &mut Pool) -> Result<RowId, AllocError>
     ensures row { IfOk result (λ id. row_at pool.new id ≡ [] ∷ []) }
     ensures of_pool { IfOk result (λ id. id < length pool.new.rows) }
@@ -32,7 +31,7 @@ fn empty_row(pool: &mut Pool) -> Result<RowId, AllocError>
     pool.intern_row(&[empty])
 }
 
-/// The row of the package when it is pruned among the rows.
+// The row of the package when it is pruned among the rows.
 fn pruned_row(
     alloc: Global,
     pool: &mut Pool,
@@ -51,15 +50,21 @@ fn pruned_row(
     ensures kept { Kept pool.old pool.new }
 {
     let ids = Vec::from_slice(alloc, pool.row(rows[number as usize]))?;
-    let dead = is_dead(alloc, pool, table, number, ids.as_slice())?;
+    let pruned = PrunedPackage {
+        pool,
+        rows,
+        table,
+        number,
+    };
+    let dead = pruned.is_dead(alloc, ids.as_slice())?;
     if dead {
         return empty_row(pool);
     }
-    let left = prune_each(alloc, pool, rows, table, number, ids.as_slice(), idle)?;
+    let left = pruned.prune_each(alloc, ids.as_slice(), idle)?;
     pool.intern_row(left.as_slice())
 }
 
-/// Prunes one package after another among the rows.
+// Prunes one package after another among the rows.
 fn prune_rows(
     alloc: Global,
     pool: &mut Pool,

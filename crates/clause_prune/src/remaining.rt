@@ -53,7 +53,7 @@ impl Left {
     }
 }
 
-/// The place of the clause among those that are left, or how many they are.
+// The place of the clause among those that are left, or how many they are.
 fn place_of(left: &[ClauseId], clause: ClauseId) -> usize
     ensures within { result ≤ length left.now }
     ensures before { (k : ℕ) → k < result → slice_index_or left.now k 0 ≡ clause → ⊥ }
@@ -67,7 +67,7 @@ fn place_of(left: &[ClauseId], clause: ClauseId) -> usize
     left.len()
 }
 
-/// Moves those that stand before the clause up by one place, where it is there behind those that are gone.
+// Moves those that stand before the clause up by one place, where it is there behind those that are gone.
 fn moves_up(ids: &mut [ClauseId], gone: usize, clause: ClauseId) -> bool
     requires within { gone ≤ length ids.old }
     requires once { (i j : ℕ) → i < j → j < length (drop gone ids.old) → slice_index_or (drop gone ids.old) i 0 ≡ slice_index_or (drop gone ids.old) j 0 → ⊥ }

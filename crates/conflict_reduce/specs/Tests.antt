@@ -1,10 +1,11 @@
 -- for the bodies of this crate alone
 -- Thinning by a list of what is gone: the conflicts that are left of a table, and the pairs of one package.
-use Rattle.std.specs.{Prelude.{◌≡◌, ℕ, ◌<◌, Bool, not, ◌&&◌, ltb, List, [], ◌∷◌, ◌++◌, ◌⊎◌, length, map, filter, cond, slice_set}, List.{list_all}}
+use Rattle.std.specs.Prelude.{◌≡◌, ℕ, ◌<◌, Bool, not, ◌&&◌, ltb, List, [], ◌∷◌, ◌++◌, ◌⊎◌, length, map, filter, cond, slice_set}
 use Rattle.clause_pool.specs.Interned.{Interned, row_at}
 use Rattle.row_book.specs.{declared.book.Book.{Book}, declared.pair.Pair.{Pair}, Numbers.{numbers}, Facing.{against_in}, Book.{listed_for}}
 use Rattle.row_book.specs.{Repository.{Repository}, Thinning.{is_pair, is_redundant}}
-use Rattle.listed.specs.Lists.{In, Ascending}
+use Rattle.listed.specs.Lists.{In}
+use Rattle.conflict_reduce.specs.Ascending.{AreAscending}
 
 -- the conflicts of a package by the first table that the second one does not have
 abbrev pub left_for : List (List ℕ) → List (List ℕ) → ℕ → List ℕ
@@ -21,11 +22,6 @@ book_left pool book gone = record { clauses = map (row_at pool) book.rows; confl
 -- whether m and n conflict in the table, by another pair than the given one
 abbrev pub conflict_but : List (List ℕ) → Pair → ℕ → ℕ → Bool
 conflict_but table pair m n = against_in table m n && not (is_pair pair.low pair.high m n)
-
--- the conflicts of the first package by the table with which each number of the list conflicts, in what is left, by
--- another pair
-abbrev pub common_but : List (List ℕ) → List (List ℕ) → Pair → ℕ → List ℕ → List ℕ
-common_but table gone pair first list = filter (λ n. list_all (λ m. conflict_but (left_of table gone) pair m n) list) (listed_for table first)
 
 -- the table with a number behind the list of a package
 abbrev pub with_behind : List (List ℕ) → ℕ → ℕ → List (List ℕ)
@@ -46,5 +42,5 @@ pairs_with a list = map (λ b. (a, b)) (filter (λ b. ltb a b) list)
 -- lists of what is gone of so many packages: each ascends, and each conflict in them has a package below the given one
 pub record PassedBelow (gone : List (List ℕ)) (size a : ℕ) : Type 0 where
   pub count : length gone ≡ size
-  pub ascending : (p : ℕ) → Ascending (listed_for gone p)
+  pub ascending : AreAscending gone
   pub below : (p q : ℕ) → In q (listed_for gone p) → (p < a) ⊎ (q < a)

@@ -1,285 +1,233 @@
 //! Whether two packages exclude each other by other conflicts that are left. No list of conflicts is gone through where a
 //! look at the members of a clause will do.
-ghost use Rattle.std.specs.{Prelude.{◌≡◌, ◌<◌, ◌∷◌, [], ℕ, List, IfOk, length}, List.{list_all, list_any}};
-ghost use Rattle.clause_pool.specs.{Interned.{clauses_at, OfPool, IsPool}, Lists.{InOrder}};
-ghost use Rattle.row_book.specs.{Book.{listed_for, Sound}, Facing.{against_in, all_against, face}, Thinning.{is_pair, is_redundant}};
-ghost use Rattle.listed.specs.Lists.{Ascending};
-ghost use Rattle.conflict_reduce.specs.{Live.{live_of}, Tests.{book_left, common_but, conflict_but, left_of}};
+ghost use Rattle.std.specs.Prelude.{◌≡◌};
+ghost use Rattle.row_book.specs.Thinning.{is_pair};
+ghost use Rattle.conflict_reduce.specs.Ascending.{AreAscending, AreAscending-prop};
 
-use crate::live::IdList;
+use crate::live::LiveBook;
 use clause_pool::{ClauseId, NumList, Pool, has_side_within};
-use row_book::{Book, Pair, are_against, conflicts_of};
+use row_book::{Pair, are_against, conflicts_of};
 use std::alloc::{AllocError, Global};
 
-/// Whether m and n are the two of the pair.
+/// The conflicts of a table that are not gone, but for that of one pair.
+#[derive(Clone, Copy)]
+pub(crate) struct OtherConflicts<'a> {
+    /// The conflicts of each package.
+    pub(crate) table: &'a [NumList],
+    /// Those of them that are gone.
+    pub(crate) gone: &'a [NumList],
+    /// The pair whose conflict does not count.
+    pub(crate) pair: Pair,
+    ghost table_ascends: { AreAscending table.now } by { AreAscending-prop table.now },
+    ghost gone_ascends: { AreAscending gone.now } by { AreAscending-prop gone.now },
+}
+
+// Whether m and n are the two of the pair.
 fn is_the_pair(pair: Pair, m: u32, n: u32) -> bool
     ensures { result ≡ is_pair pair.low pair.high m n }
 {
     (m == pair.low && n == pair.high) || (m == pair.high && n == pair.low)
 }
 
-/// Whether m and n conflict by the table, and not by what is gone.
-fn are_left(table: &[NumList], gone: &[NumList], m: u32, n: u32) -> bool
-    requires table { Ascending (listed_for table.now m) }
-    requires gone { Ascending (listed_for gone.now m) }
-    ensures { result ≡ against_in (left_of table.now gone.now) m n }
-{
-    are_against(table, m, n) && !are_against(gone, m, n)
-}
+impl OtherConflicts<'_> {
+    ghost use Rattle.std.specs.{Prelude.{◌≡◌, ◌∷◌, [], ℕ, List, IfOk}, List.{list_all, list_any}};
+    ghost use Rattle.clause_pool.specs.{Interned.{clauses_at, OfPool, IsPool}, Lists.{InOrder}};
+    ghost use Rattle.row_book.specs.Facing.{against_in, all_against, face};
+    ghost use Rattle.conflict_reduce.specs.{Others.{common_others, is_other_conflict}, Tests.{left_of}};
 
-/// Whether a conflict of m and n is left, by another pair than the given one.
-fn conflict_but(table: &[NumList], gone: &[NumList], pair: Pair, m: u32, n: u32) -> bool
-    requires table { Ascending (listed_for table.now m) }
-    requires gone { Ascending (listed_for gone.now m) }
-    ensures { result ≡ conflict_but (left_of table.now gone.now) pair m n }
-{
-    !is_the_pair(pair, m, n) && are_left(table, gone, m, n)
-}
-
-/// Whether each number of the list conflicts so with the package.
-fn each_conflicts_but(
-    table: &[NumList],
-    gone: &[NumList],
-    pair: Pair,
-    list: &[u32],
-    number: u32,
-) -> bool
-    requires table { (p : ℕ) → Ascending (listed_for table.now p) }
-    requires gone { (p : ℕ) → Ascending (listed_for gone.now p) }
-    ensures { result ≡ list_all (λ m. conflict_but (left_of table.now gone.now) pair m number) list.now }
-{
-    for member in list {
-        if !conflict_but(table, gone, pair, *member, number) {
-            return false;
-        }
+    // Whether m and n conflict by the table, and not by what is gone.
+    fn are_left(&self, m: u32, n: u32) -> bool
+        ensures { result ≡ against_in (left_of self.now.table.now self.now.gone.now) m n }
+    {
+        are_against(self.table, m, n) && !are_against(self.gone, m, n)
     }
-    true
-}
 
-/// The conflicts of the first package, by the table, with which each number of the list conflicts so.
-fn common_but(
-    alloc: Global,
-    table: &[NumList],
-    gone: &[NumList],
-    pair: Pair,
-    first: u32,
-    list: &[u32],
-) -> Result<Vec<u32>, AllocError>
-    requires table { (p : ℕ) → Ascending (listed_for table.now p) }
-    requires gone { (p : ℕ) → Ascending (listed_for gone.now p) }
-    ensures { IfOk result (λ common. common.items ≡ common_but table.now gone.now pair first list.now) }
-{
-    let mut common = Vec::new(alloc);
-    for number in conflicts_of(table, first) {
-        if each_conflicts_but(table, gone, pair, list, *number) {
-            common.push(*number)?;
-        }
+    // Whether a conflict of m and n is left, by another pair than the given one.
+    fn conflict(&self, m: u32, n: u32) -> bool
+        ensures { result ≡ is_other_conflict self.now m n }
+    {
+        !is_the_pair(self.pair, m, n) && self.are_left(m, n)
     }
-    Ok(common)
-}
 
-/// Whether the package conflicts so with each number of the list.
-fn conflicts_with_each(
-    table: &[NumList],
-    gone: &[NumList],
-    pair: Pair,
-    number: u32,
-    list: &[u32],
-) -> bool
-    requires table { Ascending (listed_for table.now number) }
-    requires gone { Ascending (listed_for gone.now number) }
-    ensures { result ≡ list_all (conflict_but (left_of table.now gone.now) pair number) list.now }
-{
-    for member in list {
-        if !conflict_but(table, gone, pair, number, *member) {
-            return false;
-        }
-    }
-    true
-}
-
-/// Whether the lists conflict so as a whole.
-fn all_conflict_but(
-    table: &[NumList],
-    gone: &[NumList],
-    pair: Pair,
-    list: &[u32],
-    other: &[u32],
-) -> bool
-    requires table { (p : ℕ) → Ascending (listed_for table.now p) }
-    requires gone { (p : ℕ) → Ascending (listed_for gone.now p) }
-    ensures { result ≡ all_against (conflict_but (left_of table.now gone.now) pair) list.now other.now }
-{
-    for number in list {
-        if !conflicts_with_each(table, gone, pair, *number, other) {
-            return false;
-        }
-    }
-    true
-}
-
-/// Whether the list conflicts so as a whole with a clause of the row, by a look at each.
-fn faces_clause(
-    pool: &Pool,
-    table: &[NumList],
-    gone: &[NumList],
-    pair: Pair,
-    list: &[u32],
-    row: &[ClauseId],
-) -> bool
-    requires row { OfPool pool.now row.now }
-    requires table { (p : ℕ) → Ascending (listed_for table.now p) }
-    requires gone { (p : ℕ) → Ascending (listed_for gone.now p) }
-    ensures { result ≡ list_any (all_against (conflict_but (left_of table.now gone.now) pair) list.now) (clauses_at pool.now row.now) }
-{
-    for id in row {
-        if all_conflict_but(table, gone, pair, list, pool.slice(*id)) {
-            return true;
-        }
-    }
-    false
-}
-
-/// Whether the list, which begins with the first number, conflicts so as a whole with the greater package of the pair, or
-/// with a clause of its row: whether that is within the packages that conflict so with each member of the list.
-fn faces_common(
-    alloc: Global,
-    pool: &Pool,
-    table: &[NumList],
-    gone: &[NumList],
-    pair: Pair,
-    first: u32,
-    list: &[u32],
-    row: &[ClauseId],
-) -> Result<bool, AllocError>
-    requires pool { IsPool pool.now }
-    requires first { (others : List ℕ) × (list.now ≡ first ∷ others) }
-    requires row { OfPool pool.now row.now }
-    requires order { InOrder (clauses_at pool.now row.now) }
-    requires table { (p : ℕ) → Ascending (listed_for table.now p) }
-    requires gone { (p : ℕ) → Ascending (listed_for gone.now p) }
-    ensures { IfOk result (λ faces. faces ≡ list_any (all_against (conflict_but (left_of table.now gone.now) pair) list.now) ((pair.high ∷ []) ∷ clauses_at pool.now row.now)) }
-{
-    let common = common_but(alloc, table, gone, pair, first, list)?;
-    let faces = has_side_within(pool, pair.high, row, common.as_slice());
-    Ok(faces)
-}
-
-/// Whether the list conflicts so as a whole with the greater package of the pair, or with a clause of its row. A row that
-/// is longer than the list of a member's conflicts is not gone through.
-fn faces_greater(
-    alloc: Global,
-    pool: &Pool,
-    table: &[NumList],
-    gone: &[NumList],
-    pair: Pair,
-    list: &[u32],
-    row: &[ClauseId],
-) -> Result<bool, AllocError>
-    requires pool { IsPool pool.now }
-    requires row { OfPool pool.now row.now }
-    requires order { InOrder (clauses_at pool.now row.now) }
-    requires table { (p : ℕ) → Ascending (listed_for table.now p) }
-    requires gone { (p : ℕ) → Ascending (listed_for gone.now p) }
-    ensures { IfOk result (λ faces. faces ≡ list_any (all_against (conflict_but (left_of table.now gone.now) pair) list.now) ((pair.high ∷ []) ∷ clauses_at pool.now row.now)) }
-{
-    match list.split_first() {
-        None => Ok(true),
-        Some((first, _others)) => {
-            if row.len() > conflicts_of(table, *first).len() {
-                return faces_common(alloc, pool, table, gone, pair, *first, list, row);
+    // Whether each number of the list conflicts so with the package.
+    fn each_conflicts(&self, list: &[u32], number: u32) -> bool
+        ensures { result ≡ list_all (λ m. is_other_conflict self.now m number) list.now }
+    {
+        for member in list {
+            if !self.conflict(*member, number) {
+                return false;
             }
-            Ok(
-                all_conflict_but(table, gone, pair, list, &[pair.high])
-                    || faces_clause(pool, table, gone, pair, list, row),
-            )
+        }
+        true
+    }
+
+    // The conflicts of the first package, by the table, with which each number of the list conflicts so.
+    fn common(&self, alloc: Global, first: u32, list: &[u32]) -> Result<Vec<u32>, AllocError>
+        ensures { IfOk result (λ common. common.items ≡ common_others self.now first list.now) }
+    {
+        let mut common = Vec::new(alloc);
+        for number in conflicts_of(self.table, first) {
+            if self.each_conflicts(list, *number) {
+                common.push(*number)?;
+            }
+        }
+        Ok(common)
+    }
+
+    // Whether the package conflicts so with each number of the list.
+    fn conflicts_with_each(&self, number: u32, list: &[u32]) -> bool
+        ensures { result ≡ list_all (is_other_conflict self.now number) list.now }
+    {
+        for member in list {
+            if !self.conflict(number, *member) {
+                return false;
+            }
+        }
+        true
+    }
+
+    // Whether the lists conflict so as a whole.
+    fn all_conflict(&self, list: &[u32], other: &[u32]) -> bool
+        ensures { result ≡ all_against (is_other_conflict self.now) list.now other.now }
+    {
+        for number in list {
+            if !self.conflicts_with_each(*number, other) {
+                return false;
+            }
+        }
+        true
+    }
+
+    // Whether the list conflicts so as a whole with a clause of the row, by a look at each.
+    fn faces_clause(&self, pool: &Pool, list: &[u32], row: &[ClauseId]) -> bool
+        requires row { OfPool pool.now row.now }
+        ensures { result ≡ list_any (all_against (is_other_conflict self.now) list.now) (clauses_at pool.now row.now) }
+    {
+        for id in row {
+            if self.all_conflict(list, pool.slice(*id)) {
+                return true;
+            }
+        }
+        false
+    }
+
+    // Whether the list, which begins with the first number, conflicts so as a whole with the greater package of the pair, or
+    // with a clause of its row: whether that is within the packages that conflict so with each member of the list.
+    fn faces_common(
+        &self,
+        alloc: Global,
+        pool: &Pool,
+        first: u32,
+        list: &[u32],
+        row: &[ClauseId],
+    ) -> Result<bool, AllocError>
+        requires pool { IsPool pool.now }
+        requires first { (others : List ℕ) × (list.now ≡ first ∷ others) }
+        requires row { OfPool pool.now row.now }
+        requires order { InOrder (clauses_at pool.now row.now) }
+        ensures { IfOk result (λ faces. faces ≡ list_any (all_against (is_other_conflict self.now) list.now) ((self.now.pair.high ∷ []) ∷ clauses_at pool.now row.now)) }
+    {
+        let common = self.common(alloc, first, list)?;
+        let faces = has_side_within(pool, self.pair.high, row, common.as_slice());
+        Ok(faces)
+    }
+
+    // Whether the list conflicts so as a whole with the greater package of the pair, or with a clause of its row. A row that
+    // is longer than the list of a member's conflicts is not gone through.
+    fn faces_greater(
+        &self,
+        alloc: Global,
+        pool: &Pool,
+        list: &[u32],
+        row: &[ClauseId],
+    ) -> Result<bool, AllocError>
+        requires pool { IsPool pool.now }
+        requires row { OfPool pool.now row.now }
+        requires order { InOrder (clauses_at pool.now row.now) }
+        ensures { IfOk result (λ faces. faces ≡ list_any (all_against (is_other_conflict self.now) list.now) ((self.now.pair.high ∷ []) ∷ clauses_at pool.now row.now)) }
+    {
+        match list.split_first() {
+            None => Ok(true),
+            Some((first, _others)) => {
+                if row.len() > conflicts_of(self.table, *first).len() {
+                    return self.faces_common(alloc, pool, *first, list, row);
+                }
+                Ok(self.all_conflict(list, &[self.pair.high]) || self.faces_clause(pool, list, row))
+            }
         }
     }
-}
 
-/// Whether a clause of the one row conflicts so as a whole with a side of the greater package.
-fn rows_face(
-    alloc: Global,
-    pool: &Pool,
-    table: &[NumList],
-    gone: &[NumList],
-    pair: Pair,
-    first: &[ClauseId],
-    second: &[ClauseId],
-) -> Result<bool, AllocError>
-    requires pool { IsPool pool.now }
-    requires first { OfPool pool.now first.now }
-    requires second { OfPool pool.now second.now }
-    requires order { InOrder (clauses_at pool.now second.now) }
-    requires table { (p : ℕ) → Ascending (listed_for table.now p) }
-    requires gone { (p : ℕ) → Ascending (listed_for gone.now p) }
-    ensures { IfOk result (λ faces. faces ≡ face (conflict_but (left_of table.now gone.now) pair) (clauses_at pool.now first.now) ((pair.high ∷ []) ∷ clauses_at pool.now second.now)) }
-{
-    for id in first {
-        let faces = faces_greater(alloc, pool, table, gone, pair, pool.slice(*id), second)?;
+    // Whether a clause of the one row conflicts so as a whole with a side of the greater package.
+    fn rows_face(
+        &self,
+        alloc: Global,
+        pool: &Pool,
+        first: &[ClauseId],
+        second: &[ClauseId],
+    ) -> Result<bool, AllocError>
+        requires pool { IsPool pool.now }
+        requires first { OfPool pool.now first.now }
+        requires second { OfPool pool.now second.now }
+        requires order { InOrder (clauses_at pool.now second.now) }
+        ensures { IfOk result (λ faces. faces ≡ face (is_other_conflict self.now) (clauses_at pool.now first.now) ((self.now.pair.high ∷ []) ∷ clauses_at pool.now second.now)) }
+    {
+        for id in first {
+            let faces = self.faces_greater(alloc, pool, pool.slice(*id), second)?;
+            if faces {
+                return Ok(true);
+            }
+        }
+        Ok(false)
+    }
+
+    // Whether a side of the lesser package conflicts so as a whole with a side of the greater one, by their rows.
+    fn sides_face(
+        &self,
+        alloc: Global,
+        pool: &Pool,
+        first: &[ClauseId],
+        second: &[ClauseId],
+    ) -> Result<bool, AllocError>
+        requires pool { IsPool pool.now }
+        requires first { OfPool pool.now first.now }
+        requires second { OfPool pool.now second.now }
+        requires order { InOrder (clauses_at pool.now second.now) }
+        ensures { IfOk result (λ faces. faces ≡ face (is_other_conflict self.now) ((self.now.pair.low ∷ []) ∷ clauses_at pool.now first.now) ((self.now.pair.high ∷ []) ∷ clauses_at pool.now second.now)) }
+    {
+        let faces = self.faces_greater(alloc, pool, &[self.pair.low], second)?;
         if faces {
             return Ok(true);
         }
-    }
-    Ok(false)
-}
-
-/// Whether a side of the lesser package conflicts so as a whole with a side of the greater one, by their rows.
-fn sides_face(
-    alloc: Global,
-    pool: &Pool,
-    table: &[NumList],
-    gone: &[NumList],
-    pair: Pair,
-    first: &[ClauseId],
-    second: &[ClauseId],
-) -> Result<bool, AllocError>
-    requires pool { IsPool pool.now }
-    requires first { OfPool pool.now first.now }
-    requires second { OfPool pool.now second.now }
-    requires order { InOrder (clauses_at pool.now second.now) }
-    requires table { (p : ℕ) → Ascending (listed_for table.now p) }
-    requires gone { (p : ℕ) → Ascending (listed_for gone.now p) }
-    ensures { IfOk result (λ faces. faces ≡ face (conflict_but (left_of table.now gone.now) pair) ((pair.low ∷ []) ∷ clauses_at pool.now first.now) ((pair.high ∷ []) ∷ clauses_at pool.now second.now)) }
-{
-    let faces = faces_greater(alloc, pool, table, gone, pair, &[pair.low], second)?;
-    if faces {
-        return Ok(true);
-    }
-    rows_face(alloc, pool, table, gone, pair, first, second)
-}
-
-/// The ids that the list has for a package.
-fn live_for(live: &[IdList], number: u32) -> &[ClauseId]
-    ensures { result.now ≡ listed_for live.now number }
-{
-    match live.get(number as usize) {
-        Some(list) => list.as_slice(),
-        None => &[],
+        self.rows_face(alloc, pool, first, second)
     }
 }
 
-/// Whether the packages of the pair exclude each other by other conflicts that are left of the book's, whose table it is; for
-/// each package those of its clauses are given that can take part.
-pub(crate) fn is_redundant(
-    alloc: Global,
-    pool: &Pool,
-    book: &Book,
-    table: &[NumList],
-    live: &[IdList],
-    gone: &[NumList],
-    pair: Pair,
-) -> Result<bool, AllocError>
-    requires sound { Sound pool.now book.now }
-    requires table { table.now ≡ book.now.conflicts }
-    requires live { live.now ≡ live_of pool.now book.now }
-    requires low { pair.low < length book.now.rows }
-    requires high { pair.high < length book.now.rows }
-    requires gone { (p : ℕ) → Ascending (listed_for gone.now p) }
-    ensures { IfOk result (λ redundant. redundant ≡ is_redundant (book_left pool.now book.now gone.now) pair.low pair.high) }
-{
-    let first = live_for(live, pair.low);
-    let second = live_for(live, pair.high);
-    let faces = sides_face(alloc, pool, table, gone, pair, first, second)?;
-    Ok(faces)
+impl LiveBook<'_> {
+    ghost use Rattle.std.specs.Prelude.{◌≡◌, ◌<◌, IfOk, length};
+    ghost use Rattle.row_book.specs.Thinning.{is_redundant};
+    ghost use Rattle.conflict_reduce.specs.{Ascending.{AreAscending}, Live.{IsLiveBook}, Tests.{book_left}};
+
+    /// Whether the packages of the pair exclude each other by other conflicts of the book that are left.
+    pub(crate) fn is_redundant(
+        &self,
+        alloc: Global,
+        gone: &[NumList],
+        pair: Pair,
+    ) -> Result<bool, AllocError>
+        requires live { IsLiveBook self.now }
+        requires low { pair.low < length self.now.book.now.rows }
+        requires high { pair.high < length self.now.book.now.rows }
+        requires gone { AreAscending gone.now }
+        ensures { IfOk result (λ redundant. redundant ≡ is_redundant (book_left self.now.pool.now self.now.book.now gone.now) pair.low pair.high) }
+    {
+        let others = OtherConflicts {
+            table: self.book.conflicts.as_slice(),
+            gone,
+            pair,
+        };
+        let first = self.live_for(pair.low);
+        let second = self.live_for(pair.high);
+        let faces = others.sides_face(alloc, self.pool, first, second)?;
+        Ok(faces)
+    }
 }

@@ -1,19 +1,19 @@
 //! Thinning of a book. The book's own conflicts stay in their lists, and those that are dropped are put into lists of
 //! their own: so no list is moved up for one that goes.
-ghost use Rattle.std.specs.Prelude.{◌≡◌, ◌<◌, ◌+◌, ℕ, IfOk, OnOk, filter, length, not};
+ghost use Rattle.std.specs.Prelude.{◌≡◌, ◌<◌, ◌+◌, IfOk, OnOk, filter, length, not};
 ghost use Rattle.row_book.specs.{Book.{listed_for, repository_of, Sound}, Facing.{against_in}, Repository.{Repository}, Keeping.{KeepsHealthySets}};
 ghost use Rattle.row_book.specs.Thinning.{thin, thin_over};
 ghost use Rattle.listed.specs.Lists.{Ascending};
-ghost use Rattle.conflict_reduce.specs.{Live.{live_of}, Tests.{book_left, gone_after, left_of, pairs_with, with_behind, with_gone, PassedBelow}};
+ghost use Rattle.conflict_reduce.specs.{Ascending.{AreAscending}, Live.{IsLiveBook}};
+ghost use Rattle.conflict_reduce.specs.Tests.{book_left, gone_after, left_of, pairs_with, with_behind, with_gone, PassedBelow};
 
-use crate::facing::is_redundant;
-use crate::live::{IdList, live_rows};
+use crate::live::{LiveBook, live_rows};
 use clause_pool::{NumList, Pool};
 use listed::{Listed, empty_lists};
 use row_book::{Book, Pair, are_against, conflicts_of};
 use std::alloc::{AllocError, Global};
 
-/// Puts the number behind the list of a package.
+// Puts the number behind the list of a package.
 fn put_behind(table: &mut Vec<NumList>, holder: u32, number: u32) -> Result<(), AllocError>
     requires { holder < length table.old.items }
     ensures { OnOk result (table.new.items ≡ with_behind table.old.items holder number) }
@@ -23,7 +23,7 @@ fn put_behind(table: &mut Vec<NumList>, holder: u32, number: u32) -> Result<(), 
     Ok(())
 }
 
-/// Puts the conflict of two packages behind those that are gone.
+// Puts the conflict of two packages behind those that are gone.
 fn drop_conflict(gone: &mut Vec<NumList>, a: u32, b: u32) -> Result<(), AllocError>
     requires a { a < length gone.old.items }
     requires b { b < length gone.old.items }
@@ -33,82 +33,73 @@ fn drop_conflict(gone: &mut Vec<NumList>, a: u32, b: u32) -> Result<(), AllocErr
     put_behind(gone, b, a)
 }
 
-/// Drops the conflict of a package with another one, where that is the greater and the conflict is redundant in what is
-/// left.
-fn thin_pair(
-    alloc: Global,
-    pool: &Pool,
-    book: &Book,
-    table: &[NumList],
-    live: &[IdList],
-    gone: &mut Vec<NumList>,
-    a: u32,
-    b: u32,
-) -> Result<(), AllocError>
-    requires sound { Sound pool.now book.now }
-    requires table { table.now ≡ book.now.conflicts }
-    requires live { live.now ≡ live_of pool.now book.now }
-    requires count { length gone.old.items ≡ length book.now.rows }
-    requires gone { (p : ℕ) → Ascending (listed_for gone.old.items p) }
-    requires a { a < length book.now.rows }
-    requires b { b < length book.now.rows }
-    ensures { OnOk result (gone.new.items ≡ gone_after (book_left pool.now book.now gone.old.items) gone.old.items a b) }
-{
-    if a >= b {
-        return Ok(());
+impl LiveBook<'_> {
+    // Drops the conflict of a package with another one, where that is the greater and the conflict is redundant in what is
+    // left.
+    fn thin_pair(
+        &self,
+        alloc: Global,
+        gone: &mut Vec<NumList>,
+        a: u32,
+        b: u32,
+    ) -> Result<(), AllocError>
+        requires live { IsLiveBook self.now }
+        requires count { length gone.old.items ≡ length self.now.book.now.rows }
+        requires gone { AreAscending gone.old.items }
+        requires a { a < length self.now.book.now.rows }
+        requires b { b < length self.now.book.now.rows }
+        ensures { OnOk result (gone.new.items ≡ gone_after (book_left self.now.pool.now self.now.book.now gone.old.items) gone.old.items a b) }
+    {
+        if a >= b {
+            return Ok(());
+        }
+        let pair = Pair { low: a, high: b };
+        let redundant = self.is_redundant(alloc, gone.as_slice(), pair)?;
+        if redundant {
+            drop_conflict(gone, a, b)?;
+        }
+        Ok(())
     }
-    let pair = Pair { low: a, high: b };
-    let redundant = is_redundant(alloc, pool, book, table, live, gone.as_slice(), pair)?;
-    if redundant {
-        drop_conflict(gone, a, b)?;
+
+    // Drops the conflicts of a package with the greater ones in turn, each where it is redundant in what is left.
+    fn thin_package(
+        &self,
+        alloc: Global,
+        gone: &mut Vec<NumList>,
+        number: u32,
+        list: &[u32],
+    ) -> Result<(), AllocError>
+        requires live { IsLiveBook self.now }
+        requires inside { number < length self.now.book.now.rows }
+        requires list { list.now ≡ listed_for self.now.book.now.conflicts number }
+        requires passed { PassedBelow gone.old.items (length self.now.book.now.rows) number }
+        ensures left { OnOk result (◌≡◌ {A = Repository} (book_left self.now.pool.now self.now.book.now gone.new.items) (thin_over (book_left self.now.pool.now self.now.book.now gone.old.items) (pairs_with number list.now))) }
+        ensures passed { OnOk result (PassedBelow gone.new.items (length self.now.book.now.rows) (number + 1)) }
+    {
+        for other in list {
+            self.thin_pair(alloc, gone, number, *other)?;
+        }
+        Ok(())
     }
-    Ok(())
 }
 
-/// Drops the conflicts of a package with the greater ones in turn, each where it is redundant in what is left.
-fn thin_package(
-    alloc: Global,
-    pool: &Pool,
-    book: &Book,
-    table: &[NumList],
-    live: &[IdList],
-    gone: &mut Vec<NumList>,
-    number: u32,
-    list: &[u32],
-) -> Result<(), AllocError>
-    requires sound { Sound pool.now book.now }
-    requires table { table.now ≡ book.now.conflicts }
-    requires live { live.now ≡ live_of pool.now book.now }
-    requires inside { number < length book.now.rows }
-    requires list { list.now ≡ listed_for book.now.conflicts number }
-    requires passed { PassedBelow gone.old.items (length book.now.rows) number }
-    ensures left { OnOk result (◌≡◌ {A = Repository} (book_left pool.now book.now gone.new.items) (thin_over (book_left pool.now book.now gone.old.items) (pairs_with number list.now))) }
-    ensures passed { OnOk result (PassedBelow gone.new.items (length book.now.rows) (number + 1)) }
-{
-    for other in list {
-        thin_pair(alloc, pool, book, table, live, gone, number, *other)?;
-    }
-    Ok(())
-}
-
-/// The conflicts that go when the book is thinned.
+// The conflicts that go when the book is thinned.
 fn gone_of(alloc: Global, pool: &Pool, book: &Book) -> Result<Vec<NumList>, AllocError>
     requires { Sound pool.now book.now }
     ensures thinned { IfOk result (λ gone. ◌≡◌ {A = Repository} (book_left pool.now book.now gone.items) (thin (repository_of pool.now book.now))) }
-    ensures ascending { IfOk result (λ gone. (p : ℕ) → Ascending (listed_for gone.items p)) }
+    ensures ascending { IfOk result (λ gone. AreAscending gone.items) }
 {
-    let table = book.conflicts.as_slice();
-    let live = live_rows(alloc, pool, book, table)?;
-    let ids = live.as_slice();
+    let live = live_rows(alloc, pool, book)?;
+    let thinned = LiveBook { pool, book, live };
     let mut gone = empty_lists(alloc, book.size() as usize)?;
     for number in 0..book.size() {
         let list = book.against(number);
-        thin_package(alloc, pool, book, table, ids, &mut gone, number, list)?;
+        thinned.thin_package(alloc, &mut gone, number, list)?;
     }
     Ok(gone)
 }
 
-/// The conflicts of a package in the list that are not gone.
+// The conflicts of a package in the list that are not gone.
 fn left_list(
     alloc: Global,
     gone: &[NumList],
@@ -130,7 +121,7 @@ fn left_list(
     Ok(made)
 }
 
-/// What is left of so many lists of conflicts.
+// What is left of so many lists of conflicts.
 fn left_lists(
     alloc: Global,
     table: &[NumList],
@@ -138,7 +129,7 @@ fn left_lists(
     size: u32,
 ) -> Result<Vec<NumList>, AllocError>
     requires size { length table.now ≡ size }
-    requires gone { (p : ℕ) → Ascending (listed_for gone.now p) }
+    requires gone { AreAscending gone.now }
     ensures left { IfOk result (λ made. made.items ≡ left_of table.now gone.now) }
     ensures count { IfOk result (λ made. length made.items ≡ size) }
 {

@@ -1,6 +1,0 @@
-use Rattle.std.proofs.Common.{◌≡◌, ℕ, ◌<◌, true, get_or}
-use Rattle.conflict_reduce.specs.Tests.{conflict_but, left_of}
-use Rattle.conflict_reduce.proofs.facing.each_conflicts_but.Given as goal
-
-abbrev pub invariant-loop-member : goal.invariant-loop-member
-invariant-loop-member l = (k : ℕ) → k < l.member-index → conflict_but (left_of l.table l.gone) l.pair (get_or l.list k 0) l.number ≡ true

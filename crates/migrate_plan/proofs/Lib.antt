@@ -6,8 +6,8 @@ pub mod Mixed
 pub mod MixedFacts
 pub mod WholeMixes
 pub mod Parted
-pub mod OneBound
-pub mod Bound
+pub mod AnyDependent
+pub mod OwnHome
 pub mod Told
 pub mod Planned
 pub mod Made

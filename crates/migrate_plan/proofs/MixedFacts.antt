@@ -1,7 +1,7 @@
 -- The packages of a mix are those of both indexes, but for the numbers of their lines; and what they say is asked alike.
 use Rattle.std.proofs.Common.{◌≡◌, ℕ, ◌+◌, ◌≤◌, Bool, true, false, cond, List, [], ◌∷◌, ◌++◌, length, map, Option, Some, None, refl, sym, ap, ap₂, subst, ◌∙◌, arith, length-append}
 use Rattle.std.proofs.{lemmas.List.{map-append}, Math.Path.{fun_ext}}
-use Rattle.std.specs.{Prelude.{count_by, filter, is_some, ◌||◌, if◌then◌else◌}, List.{items_where_true, list_any}, Option.{option_or}, Str.{bytes_eq}}
+use Rattle.std.specs.{Prelude.{count_by, filter, is_some, ◌||◌, if◌then◌else◌}, List.{items_where_true}, Option.{option_or}, Str.{bytes_eq}}
 use Rattle.stanza_reader.specs.Lines.{is_line_feed}
 use Rattle.stanza_reader.specs.declared.stanza.FieldKind.TheVariants.{Breaks, Conflicts, Depends, Package, PreDepends, Provides, Version}
 use Rattle.stanza_reader.specs.declared.stanza.RawStanza.{RawStanza}
@@ -15,9 +15,9 @@ use Rattle.repo_model.specs.{Goals.{names_in}, Laws.{but_line, IgnoresLines}, Li
 use Rattle.repo_model.proofs.Lines.{lines_ignored}
 use Rattle.suite_compare.specs.{Asking.{goal_classes, image_of, images_of, tree_of, verdict_in, verdict_of}, Names.{stands_in}, Refusals.{home_in, packages_in}}
 use Rattle.suite_compare.specs.Report.{report}
-use Rattle.migrate_plan.specs.{Mix.{is_left, is_taken, mix, mixed_packages}, Plan.{outcome_of, Settings}, Indexes.{AreTexts, Texts, home_where}}
-use Rattle.migrate_plan.specs.{Refusals.{packages_with}, Trying.{outcome_by}}
-use Rattle.migrate_plan.proofs.{LaterFields.{architecture_later, value_later}, Mixed.{front_of, mix_stanzas, mixed, named, taken_within}, Bound.{home_named}}
+use Rattle.migrate_plan.specs.{Mix.{is_left, is_taken, mix, mixed_packages}, Plan.{outcome_of, Settings}}
+use Rattle.migrate_plan.specs.{Indexes.{AreTexts, Texts, has_arch_dependent, home_where}, Refusals.{packages_with}, Trying.{outcome_by}}
+use Rattle.migrate_plan.proofs.{LaterFields.{architecture_later, value_later}, Mixed.{front_of, mix_stanzas, mixed, named, taken_within}, OwnHome.{home_named}}
 use Rattle.migrate_plan.proofs.Shifted.{later_stanza}
 
 -- a stanza whose lines are counted on says the same of its package
@@ -28,7 +28,7 @@ later_says more stanza =
       line = 0;
       name = name;
       version = version;
-      is_bound = bound;
+      is_arch_dependent = bound;
       needs = said_in alternatives_of pre ++ said_in alternatives_of needs;
       against = said_in atom_of conflicts ++ said_in atom_of breaks;
       provides = said_in provide_of provides;
@@ -111,7 +111,7 @@ home_flagged : (test : List ℕ → Bool) (text : List ℕ) (suite : Suite) (fla
 home_flagged test text suite flags is chosen =
     let those : items_where_true flags suite.packages ≡ map facts_of (named test (stanzas_of text)) =
     ap (λ fs. items_where_true fs suite.packages) chosen ∙ flagged (λ facts. test facts.name) suite.packages ∙ ap (filter (λ facts. test facts.name)) is.facts ∙ sym (facts_named test (stanzas_of text)) in
-    ap (λ packages. if list_any (λ facts. facts.is_bound) packages then suite.home.name else None) those ∙ home_named test text suite.packages suite.home.name is
+    ap (λ packages. if has_arch_dependent packages then suite.home.name else None) those ∙ home_named test text suite.packages suite.home.name is
 
 -- a mix by a flag for each package of both
 module _ (olds news : List PackageFacts) (taken : List (List ℕ)) (left kept : List Bool) (lefts : left ≡ map (λ facts. is_left taken facts.name) olds) (keeps : kept ≡ map (λ facts. is_taken taken facts.name) news) where

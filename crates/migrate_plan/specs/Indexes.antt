@@ -1,5 +1,6 @@
 -- An old and a new index, by their texts and by what is kept of these.
 use Rattle.std.specs.{Prelude.{◌≡◌, ℕ, Bool, List, Option, None, length, if◌then◌else◌}, List.{items_where_true, list_any}}
+use Rattle.relation_fields.specs.declared.packages.PackageFacts.{PackageFacts}
 use Rattle.repo_model.specs.{Feeding.{IsSuiteOf}, declared.suite.Suite.{Suite}}
 use Rattle.migrate_plan.specs.declared.lengths.TextLengths.{TextLengths}
 
@@ -19,6 +20,10 @@ pub record AreMeasured (texts : Texts) (old new : Suite) (lengths : TextLengths)
   pub old_length_is : lengths.old ≡ length texts.old
   pub new_length_is : lengths.new ≡ length texts.new
 
+-- whether one of the packages has an architecture other than `all`
+abbrev pub has_arch_dependent : List PackageFacts → Bool
+has_arch_dependent packages = list_any (λ facts. facts.is_arch_dependent) packages
+
 -- the common architecture of a suite, if one of its packages whose flags are up has it
 abbrev pub home_where : List Bool → Suite → Option (List ℕ)
-home_where flags suite = if list_any (λ facts. facts.is_bound) (items_where_true flags suite.packages) then suite.home.name else None
+home_where flags suite = if has_arch_dependent (items_where_true flags suite.packages) then suite.home.name else None

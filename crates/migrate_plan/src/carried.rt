@@ -8,7 +8,7 @@ use crate::whole::Whole;
 use clause_pool::{Pool, RowId};
 use kernel_rounds::KnownRounds;
 use std::alloc::{AllocError, Global};
-use suite_compare::{KnownPairs, OldSide};
+use suite_compare::KnownPairs;
 use suite_part::{Base, Chosen};
 
 /// What is handed on from mix to mix.
@@ -19,22 +19,18 @@ pub(crate) struct Carried {
     pub(crate) base: Option<Base>,
     /// What is known of pairs.
     pub(crate) known: Option<KnownPairs>,
-    /// What is known of the rounds behind the first: of the last mix that was taken, or of the first mix while none is taken. None where there is
-    /// no base.
+    /// What is known of the rounds behind the first: of the last mix that was taken, or of the first mix with a kernel, while none is taken. None
+    /// if there is no base.
     pub(crate) rounds: Option<KnownRounds>,
 }
 
 /// What is handed to the first mix.
-pub(crate) fn first_carried(
-    alloc: Global,
-    old: &OldSide,
-    whole: &Whole,
-) -> Result<Carried, AllocError>
-    requires whole { IsWhole old.now whole.now }
-    requires limit { 0 < old.now.view.now.limit }
-    ensures { IfOk result (IsCarried old.now whole.now) }
+pub(crate) fn first_carried(alloc: Global, whole: &Whole) -> Result<Carried, AllocError>
+    requires whole { IsWhole whole.now }
+    requires limit { 0 < whole.now.old.now.view.now.limit }
+    ensures { IfOk result (IsCarried whole.now) }
 {
-    let base = base_of(alloc, old, whole)?;
+    let base = base_of(alloc, whole)?;
     Ok(Carried {
         base,
         known: None,
@@ -44,20 +40,21 @@ pub(crate) fn first_carried(
 
 // What is known of the part that the old packages make. With hold a package may stay for what others name, so that no part can be
 // flattened by itself.
-fn base_of(alloc: Global, old: &OldSide, whole: &Whole) -> Result<Option<Base>, AllocError>
-    requires whole { IsWhole old.now whole.now }
-    requires limit { 0 < old.now.view.now.limit }
-    ensures { IfOk result (λ base. ForSome base (IsBaseFor old.now whole.now.pool whole.now.book)) }
+fn base_of(alloc: Global, whole: &Whole) -> Result<Option<Base>, AllocError>
+    requires whole { IsWhole whole.now }
+    requires limit { 0 < whole.now.old.now.view.now.limit }
+    ensures { IfOk result (λ base. ForSome base (IsBaseFor whole.now)) }
 {
-    if old.view.kernel.hold {
+    let view = whole.old.view;
+    if view.kernel.hold {
         return Ok(None);
     }
     let base = Base::of(
         alloc,
         &whole.pool,
         &whole.book,
-        old.view.suite.count(),
-        old.view.limit,
+        view.suite.count(),
+        view.limit,
     )?;
     Ok(base)
 }

@@ -2,8 +2,8 @@
 //!
 //! A suite has one architecture beside `all` at most, and each package knows whether it has it. So that of a mix is the first suite's,
 //! if a package of that suite that has it is in the mix, or else the second's likewise.
-ghost use Rattle.std.specs.{Prelude.{◌≡◌, ◌&&◌, IfOk, slice_index_or, false}, List.{items_where_true, list_any}, Option.{option_or}};
-ghost use Rattle.migrate_plan.specs.Indexes.{home_where};
+ghost use Rattle.std.specs.{Prelude.{◌≡◌, ◌&&◌, IfOk, slice_index_or, false}, List.{items_where_true}, Option.{option_or}};
+ghost use Rattle.migrate_plan.specs.Indexes.{has_arch_dependent, home_where};
 
 use deb_version::Bytes;
 use relation_fields::{Home, PackageFacts};
@@ -34,7 +34,7 @@ pub(crate) fn home_of_both(
 fn home_where(alloc: Global, suite: &Suite, flags: &[bool]) -> Result<Option<Bytes>, AllocError>
     ensures { IfOk result (λ name. name ≡ home_where flags.now suite.now) }
 {
-    if !is_one_bound(suite.packages.as_slice(), flags) {
+    if !has_arch_dependent(suite.packages.as_slice(), flags) {
         return Ok(None);
     }
     match &suite.home.name {
@@ -44,11 +44,11 @@ fn home_where(alloc: Global, suite: &Suite, flags: &[bool]) -> Result<Option<Byt
 }
 
 // Whether one of the packages whose flags are up has an architecture other than `all`.
-fn is_one_bound(packages: &[PackageFacts], flags: &[bool]) -> bool
-    ensures { result ≡ list_any (λ facts. facts.is_bound) (items_where_true flags.now packages.now) }
+fn has_arch_dependent(packages: &[PackageFacts], flags: &[bool]) -> bool
+    ensures { result ≡ has_arch_dependent (items_where_true flags.now packages.now) }
 {
     for (place, facts) in packages.iter().enumerate() {
-        if is_bound_where(facts, is_raised(flags, place)) {
+        if is_dependent_where(facts, is_raised(flags, place)) {
             return true;
         }
     }
@@ -56,10 +56,10 @@ fn is_one_bound(packages: &[PackageFacts], flags: &[bool]) -> bool
 }
 
 // Whether the flag is up, and the package has an architecture other than `all`.
-fn is_bound_where(facts: &PackageFacts, flag: bool) -> bool
-    ensures { result ≡ (flag && facts.now.is_bound) }
+fn is_dependent_where(facts: &PackageFacts, flag: bool) -> bool
+    ensures { result ≡ (flag && facts.now.is_arch_dependent) }
 {
-    flag && facts.is_bound
+    flag && facts.is_arch_dependent
 }
 
 // Whether there is a flag at the place, and it is up.

@@ -6,7 +6,7 @@ ghost use Rattle.listed.specs.Lists.{In};
 ghost use Rattle.migrate_plan.specs.{Differing.{differing}, Indexes.{AreMeasured, AreTexts, Texts}};
 ghost use Rattle.migrate_plan.specs.Plan.{line_behind, lines_behind, plan, settings_of, taken_in};
 ghost use Rattle.migrate_plan.specs.{Promises.{AreRight, MixesAreIndexes, TakesSafely, planned_name}, Refusals.{Refuses, packages_with, plan_refusal}};
-ghost use Rattle.migrate_plan.specs.{Whole.{names_between, AreTextsOf, IsCarried, IsWhole}, declared.plan.PlanLine.{PlanLine}};
+ghost use Rattle.migrate_plan.specs.{Whole.{names_between, settings_between, AreTextsOf, IsCarried, IsWhole}, declared.plan.PlanLine.{PlanLine}};
 ghost use Rattle.suite_compare.specs.{Comparing.{IsOldSide}, Refusals.{packages_in}};
 
 use crate::carried::{Carried, first_carried};
@@ -140,27 +140,21 @@ fn lines_with(
         IfOk result (λ lines. (texts : Texts) → AreTexts texts old.now.view.now.suite new.now → lines ≡ lines_behind (line_behind settings texts.old texts.new) [] names.now) }
 {
     let whole = whole_of(alloc, old, new, names)?;
-    let lines = lines_beside(alloc, old, &whole, names);
+    let lines = lines_beside(alloc, &whole, names);
     drop(whole);
     lines
 }
 
 // The same, where it is known what all mixes are made of.
-fn lines_beside(
-    alloc: Global,
-    old: &OldSide,
-    whole: &Whole,
-    names: &[Bytes],
-) -> Result<PlanList, AllocError>
-    requires side { IsOldSide old.now }
-    requires whole { IsWhole old.now whole.now }
-    requires names { names.now ≡ names_between old.now whole.now }
-    requires limit { 0 < old.now.view.now.limit }
-    ensures { let settings = settings_of old.now.budget old.now.view.now.limit old.now.view.now.kernel.hold in
-        IfOk result (λ lines. (texts : Texts) → AreTextsOf texts old.now whole.now → lines ≡ lines_behind (line_behind settings texts.old texts.new) [] names.now) }
+fn lines_beside(alloc: Global, whole: &Whole, names: &[Bytes]) -> Result<PlanList, AllocError>
+    requires side { IsOldSide whole.now.old.now }
+    requires whole { IsWhole whole.now }
+    requires names { names.now ≡ names_between whole.now }
+    requires limit { 0 < whole.now.old.now.view.now.limit }
+    ensures { IfOk result (λ lines. (texts : Texts) → AreTextsOf texts whole.now → lines ≡ lines_behind (line_behind (settings_between whole.now) texts.old texts.new) [] names.now) }
 {
-    let mut carried = first_carried(alloc, old, whole)?;
-    let lines = lines_after(alloc, old, whole, names, &mut carried);
+    let mut carried = first_carried(alloc, whole)?;
+    let lines = lines_after(alloc, whole, names, &mut carried);
     drop(carried);
     lines
 }
@@ -168,66 +162,55 @@ fn lines_beside(
 // The same, by what is handed on from mix to mix.
 fn lines_after(
     alloc: Global,
-    old: &OldSide,
     whole: &Whole,
     names: &[Bytes],
     carried: &mut Carried,
 ) -> Result<PlanList, AllocError>
-    requires side { IsOldSide old.now }
-    requires whole { IsWhole old.now whole.now }
-    requires names { names.now ≡ names_between old.now whole.now }
-    requires limit { 0 < old.now.view.now.limit }
-    requires carried { IsCarried old.now whole.now carried.old }
-    ensures { let settings = settings_of old.now.budget old.now.view.now.limit old.now.view.now.kernel.hold in
-        IfOk result (λ lines. (texts : Texts) → AreTextsOf texts old.now whole.now → lines ≡ lines_behind (line_behind settings texts.old texts.new) [] names.now) }
+    requires side { IsOldSide whole.now.old.now }
+    requires whole { IsWhole whole.now }
+    requires names { names.now ≡ names_between whole.now }
+    requires limit { 0 < whole.now.old.now.view.now.limit }
+    requires carried { IsCarried whole.now carried.old }
+    ensures { IfOk result (λ lines. (texts : Texts) → AreTextsOf texts whole.now → lines ≡ lines_behind (line_behind (settings_between whole.now) texts.old texts.new) [] names.now) }
 {
     let mut lines = PlanList::new(alloc);
     let mut taken = Vec::new(alloc);
     for name in names {
-        let line = try_name(
-            alloc,
-            old,
-            whole,
-            taken.as_slice(),
-            name.as_slice(),
-            carried,
-        )?;
+        let line = try_name(alloc, whole, taken.as_slice(), name.as_slice(), carried)?;
         put_taken(alloc, &mut taken, &line)?;
         lines.push(line)?;
     }
     Ok(lines)
 }
 
-// The line of a name behind others that take these names.
+// The line of a name after lines that take these names.
 fn try_name(
     alloc: Global,
-    old: &OldSide,
     whole: &Whole,
     taken: &[Bytes],
     name: &[u8],
     carried: &mut Carried,
 ) -> Result<PlanLine, AllocError>
-    requires side { IsOldSide old.now }
-    requires whole { IsWhole old.now whole.now }
-    requires taken { (other : List ℕ) → In other taken.now → In other (names_between old.now whole.now) }
-    requires name { In name.now (names_between old.now whole.now) }
-    requires limit { 0 < old.now.view.now.limit }
-    requires carried { IsCarried old.now whole.now carried.old }
+    requires side { IsOldSide whole.now.old.now }
+    requires whole { IsWhole whole.now }
+    requires taken { (other : List ℕ) → In other taken.now → In other (names_between whole.now) }
+    requires name { In name.now (names_between whole.now) }
+    requires limit { 0 < whole.now.old.now.view.now.limit }
+    requires carried { IsCarried whole.now carried.old }
     ensures named { IfOk result (λ line. planned_name line ≡ name.now) }
-    ensures line { let settings = settings_of old.now.budget old.now.view.now.limit old.now.view.now.kernel.hold in
-        IfOk result (λ line. (texts : Texts) → AreTextsOf texts old.now whole.now → (lines : List PlanLine) → taken.now ≡ taken_in lines → line ≡ line_behind settings texts.old texts.new lines name.now) }
-    ensures carried { OnOk result (IsCarried old.now whole.now carried.new) }
+    ensures line { IfOk result (λ line. (texts : Texts) → AreTextsOf texts whole.now → (lines : List PlanLine) → taken.now ≡ taken_in lines → line ≡ line_behind (settings_between whole.now) texts.old texts.new lines name.now) }
+    ensures carried { OnOk result (IsCarried whole.now carried.new) }
 {
-    let suite = &old.view.suite;
+    let suite = &whole.old.view.suite;
     let mix = mix_with(alloc, suite, whole.new, taken, name)?;
     if is_same_home(&mix.home, &whole.home) {
         let flags = flags_in(alloc, &mix.left, &mix.kept, &whole.added)?;
-        let found = line_in(alloc, old, whole, flags, name, carried)?;
+        let found = line_in(alloc, whole, flags, name, carried)?;
         return Ok(found);
     }
-    // Where no package is left that tells the architecture, other packages meet each other than in the whole.
+    // If no package of that architecture is in the mix, packages meet each other in another way than in the whole.
     let made = suite_of(alloc, suite, whole.new, mix)?;
-    let line = line_of(alloc, old, made, name)?;
+    let line = line_of(alloc, whole.old, made, name)?;
     Ok(line)
 }
 

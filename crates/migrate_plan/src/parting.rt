@@ -6,9 +6,9 @@ ghost use Rattle.listed.specs.Lists.{In};
 ghost use Rattle.repo_model.specs.Repository.{suite_repository};
 ghost use Rattle.row_book.specs.Book.{repository_of, Sound};
 ghost use Rattle.suite_compare.specs.{Comparing.{IsOldSide}, Known.{AreKnownPairs}, Lent.{IsLentKernel}, Report.{first_told}};
-ghost use Rattle.suite_part.specs.{Bases.{IsBase}, Parts.{chosen_in, part}};
-ghost use Rattle.migrate_plan.specs.{Plan.{outcome_of, settings_of}, Trying.{outcome_by, told_of}};
-ghost use Rattle.migrate_plan.specs.Whole.{packages_of_both, AreKnownIn, IsBaseFor, IsCarried, IsKernelAt, IsMadeKernel, IsWhole};
+ghost use Rattle.suite_part.specs.Parts.{chosen_in, part};
+ghost use Rattle.migrate_plan.specs.Trying.{outcome_by, told_of};
+ghost use Rattle.migrate_plan.specs.Whole.{packages_of_both, settings_between, AreKnownIn, IsBaseFor, IsCarried, IsKernelAt, IsMadeKernel, IsWhole};
 
 use crate::carried::{Carried, put_base};
 use crate::kernels::{MadeKernel, beside, keep_rounds, lent_kernel};
@@ -20,9 +20,7 @@ use deb_version::Bytes;
 use kernel_rounds::{KnownRounds, RoundError, classes_beside, extract};
 use row_book::Book;
 use std::alloc::{AllocError, Global};
-use suite_compare::{
-    FewNumbers, FirstLine, KnownPairs, LentKernel, OldSide, ReportLine, first_line_by,
-};
+use suite_compare::{FewNumbers, FirstLine, KnownPairs, LentKernel, ReportLine, first_line_by};
 use suite_part::{Base, Chosen, known_apart, part_of};
 
 /// For each package of a whole whether it is in a mix: those of the old suite come first, and of the new one only those that were added.
@@ -49,27 +47,25 @@ pub(crate) fn flags_in(
 /// The line of a name whose mix has those packages of the whole whose flags are up.
 pub(crate) fn line_in(
     alloc: Global,
-    old: &OldSide,
     whole: &Whole,
     flags: Vec<bool>,
     name: &[u8],
     carried: &mut Carried,
 ) -> Result<PlanLine, AllocError>
-    requires side { IsOldSide old.now }
-    requires limit { 0 < old.now.view.now.limit }
-    requires whole { IsWhole old.now whole.now }
-    requires flags { length flags.items ≡ length (packages_of_both old.now whole.now) }
-    requires carried { IsCarried old.now whole.now carried.old }
-    ensures line { let before = old.now.view.now in let settings = settings_of old.now.budget before.limit before.kernel.hold in
-        IfOk result (λ line. line ≡ outcome_by settings before.suite.home before.suite.packages whole.now.home (items_where_true flags.items (packages_of_both old.now whole.now)) name.now) }
-    ensures carried { OnOk result (IsCarried old.now whole.now carried.new) }
+    requires side { IsOldSide whole.now.old.now }
+    requires limit { 0 < whole.now.old.now.view.now.limit }
+    requires whole { IsWhole whole.now }
+    requires flags { length flags.items ≡ length (packages_of_both whole.now) }
+    requires carried { IsCarried whole.now carried.old }
+    ensures line { let before = whole.now.old.now.view.now in
+        IfOk result (λ line. line ≡ outcome_by (settings_between whole.now) before.suite.home before.suite.packages whole.now.home (items_where_true flags.items (packages_of_both whole.now)) name.now) }
+    ensures carried { OnOk result (IsCarried whole.now carried.new) }
 {
     let chosen = Chosen::of(alloc, flags)?;
     let mut pool = Pool::new(alloc)?;
     let made = kernel_in(
         alloc,
         &mut pool,
-        old,
         whole,
         &chosen,
         &carried.base,
@@ -78,7 +74,7 @@ pub(crate) fn line_in(
     let MixKernel { kernel, rows } = made;
     match kernel {
         Some(kernel) => {
-            let told = told_by(alloc, old, whole, &chosen, &pool, kernel, carried)?;
+            let told = told_by(alloc, whole, &chosen, &pool, kernel, carried)?;
             let line = line_by_first(alloc, name, told)?;
             put_base(
                 alloc,
@@ -101,27 +97,26 @@ pub(crate) fn line_in(
 // The first line that is told of a mix, by its kernel, of which the rounds behind the first are kept.
 fn told_by(
     alloc: Global,
-    old: &OldSide,
     whole: &Whole,
     chosen: &Chosen,
     pool: &Pool,
     kernel: MadeKernel,
     carried: &mut Carried,
 ) -> Result<Option<ReportLine>, AllocError>
-    requires side { IsOldSide old.now }
-    requires kernel { IsMadeKernel pool.now old.now.view.now.limit old.now.view.now.kernel.hold (suite_repository whole.now.home (items_where_true chosen.now.flags.items (packages_of_both old.now whole.now))) kernel }
-    requires whole { IsWhole old.now whole.now }
-    requires flags { length chosen.now.flags.items ≡ length (packages_of_both old.now whole.now) }
+    requires side { IsOldSide whole.now.old.now }
+    requires kernel { let before = whole.now.old.now.view.now in IsMadeKernel pool.now before.limit before.kernel.hold (suite_repository whole.now.home (items_where_true chosen.now.flags.items (packages_of_both whole.now))) kernel }
+    requires whole { IsWhole whole.now }
+    requires flags { length chosen.now.flags.items ≡ length (packages_of_both whole.now) }
     requires known { ForSome carried.old.known AreKnownPairs }
     requires rounds { ForSome carried.old.rounds AreKnownRounds }
-    ensures told { let before = old.now.view.now in let settings = settings_of old.now.budget before.limit before.kernel.hold in
-        IfOk result (λ told. told ≡ first_told (told_of settings before.suite.home before.suite.packages whole.now.home (items_where_true chosen.now.flags.items (packages_of_both old.now whole.now)))) }
+    ensures told { let before = whole.now.old.now.view.now in
+        IfOk result (λ told. told ≡ first_told (told_of (settings_between whole.now) before.suite.home before.suite.packages whole.now.home (items_where_true chosen.now.flags.items (packages_of_both whole.now)))) }
     ensures base { carried.new.base ≡ carried.old.base }
     ensures known { OnOk result (ForSome carried.new.known AreKnownPairs) }
     ensures rounds { OnOk result (ForSome carried.new.rounds AreKnownRounds) }
 {
     let lent = lent_kernel(&kernel, pool);
-    let first = first_in(alloc, old, whole, chosen, &lent, carried.known.take());
+    let first = first_in(alloc, whole, chosen, &lent, carried.known.take());
     let FirstLine { line, known } = first?;
     carried.known = known;
     keep_rounds(&mut carried.rounds, kernel, line.is_none());
@@ -139,24 +134,23 @@ struct MixKernel {
 fn kernel_in(
     alloc: Global,
     pool: &mut Pool,
-    old: &OldSide,
     whole: &Whole,
     chosen: &Chosen,
     base: &Option<Base>,
     rounds: &mut Option<KnownRounds>,
 ) -> Result<MixKernel, AllocError>
     requires pool { IsPool pool.old }
-    requires limit { 0 < old.now.view.now.limit }
-    requires whole { IsWhole old.now whole.now }
-    requires flags { length chosen.now.flags.items ≡ length (packages_of_both old.now whole.now) }
-    requires base { ForSome base.now (IsBaseFor old.now whole.now.pool whole.now.book) }
+    requires limit { 0 < whole.now.old.now.view.now.limit }
+    requires whole { IsWhole whole.now }
+    requires flags { length chosen.now.flags.items ≡ length (packages_of_both whole.now) }
+    requires base { ForSome base.now (IsBaseFor whole.now) }
     requires rounds { ForSome rounds.old AreKnownRounds }
-    ensures kernel { IfOk result (λ made. IsKernelAt pool.new old.now.view.now.limit old.now.view.now.kernel.hold (suite_repository whole.now.home (items_where_true chosen.now.flags.items (packages_of_both old.now whole.now))) made.kernel) }
-    ensures rows { IfOk result (λ made. AreKnownIn pool.new old.now.view.now.limit whole.now chosen.now.flags.items made.rows) }
+    ensures kernel { let before = whole.now.old.now.view.now in IfOk result (λ made. IsKernelAt pool.new before.limit before.kernel.hold (suite_repository whole.now.home (items_where_true chosen.now.flags.items (packages_of_both whole.now))) made.kernel) }
+    ensures rows { IfOk result (λ made. AreKnownIn pool.new whole.now chosen.now.flags.items made.rows) }
     ensures rounds { ForSome rounds.new AreKnownRounds }
 {
     let book = part_of(alloc, pool, &whole.pool, &whole.book, chosen)?;
-    let made = kernel_by(alloc, pool, &book, old, whole, chosen, base, rounds);
+    let made = kernel_by(alloc, pool, &book, whole, chosen, base, rounds);
     drop(book);
     made
 }
@@ -166,29 +160,28 @@ fn kernel_by(
     alloc: Global,
     pool: &mut Pool,
     book: &Book,
-    old: &OldSide,
     whole: &Whole,
     chosen: &Chosen,
     base: &Option<Base>,
     rounds: &mut Option<KnownRounds>,
 ) -> Result<MixKernel, AllocError>
     requires book { Sound pool.old book.now }
-    requires limit { 0 < old.now.view.now.limit }
-    requires whole { IsWhole old.now whole.now }
+    requires limit { 0 < whole.now.old.now.view.now.limit }
+    requires whole { IsWhole whole.now }
     requires flags { length chosen.now.flags.items ≡ length whole.now.book.rows }
     requires part { repository_of pool.old book.now ≡ part chosen.now.flags.items (repository_of whole.now.pool whole.now.book) }
-    requires base { ForSome base.now (IsBaseFor old.now whole.now.pool whole.now.book) }
+    requires base { ForSome base.now (IsBaseFor whole.now) }
     requires rounds { ForSome rounds.old AreKnownRounds }
-    ensures kernel { IfOk result (λ made. IsKernelAt pool.new old.now.view.now.limit old.now.view.now.kernel.hold (repository_of pool.old book.now) made.kernel) }
-    ensures rows { IfOk result (λ made. AreKnownIn pool.new old.now.view.now.limit whole.now chosen.now.flags.items made.rows) }
+    ensures kernel { let before = whole.now.old.now.view.now in IfOk result (λ made. IsKernelAt pool.new before.limit before.kernel.hold (repository_of pool.old book.now) made.kernel) }
+    ensures rows { IfOk result (λ made. AreKnownIn pool.new whole.now chosen.now.flags.items made.rows) }
     ensures rounds { ForSome rounds.new AreKnownRounds }
 {
-    let limit = old.view.limit;
     if let Some(base) = base {
-        let made = kernel_beside(alloc, pool, book, whole, base, chosen, limit, rounds)?;
+        let made = kernel_beside(alloc, pool, book, whole, base, chosen, rounds)?;
         return Ok(made);
     }
-    let kernel = kernel_of(alloc, pool, book, limit, old.view.kernel.hold)?;
+    let view = whole.old.view;
+    let kernel = kernel_of(alloc, pool, book, view.limit, view.kernel.hold)?;
     Ok(MixKernel { kernel, rows: None })
 }
 
@@ -200,21 +193,20 @@ fn kernel_beside(
     whole: &Whole,
     base: &Base,
     chosen: &Chosen,
-    limit: u32,
     rounds: &mut Option<KnownRounds>,
 ) -> Result<MixKernel, AllocError>
     requires book { Sound pool.old book.now }
-    requires limit { 0 < limit }
+    requires limit { 0 < whole.now.old.now.view.now.limit }
     requires whole { Sound whole.now.pool whole.now.book }
-    requires base { IsBase whole.now.pool whole.now.book base.now }
-    requires same { base.now.limit ≡ limit }
+    requires base { IsBaseFor whole.now base.now }
     requires rounds { ForSome rounds.old AreKnownRounds }
     requires flags { length chosen.now.flags.items ≡ length whole.now.book.rows }
     requires part { repository_of pool.old book.now ≡ part chosen.now.flags.items (repository_of whole.now.pool whole.now.book) }
-    ensures kernel { IfOk result (λ made. IsKernelAt pool.new limit false (repository_of pool.old book.now) made.kernel) }
-    ensures rows { IfOk result (λ made. AreKnownIn pool.new limit whole.now chosen.now.flags.items made.rows) }
+    ensures kernel { IfOk result (λ made. IsKernelAt pool.new whole.now.old.now.view.now.limit false (repository_of pool.old book.now) made.kernel) }
+    ensures rows { IfOk result (λ made. AreKnownIn pool.new whole.now chosen.now.flags.items made.rows) }
     ensures rounds { ForSome rounds.new AreKnownRounds }
 {
+    let limit = whole.old.view.limit;
     let old_rows = base.known_rows(alloc, pool, &whole.book, chosen)?;
     let known = known_apart(alloc, pool, book, limit, old_rows)?;
     let made = classes_beside(alloc, pool, book, limit, &known, rounds)?;
@@ -246,23 +238,22 @@ fn kernel_of(
 // The first line that is told of a mix against the old side, by the mix's kernel, which is of the chosen packages of a whole.
 fn first_in(
     alloc: Global,
-    old: &OldSide,
     whole: &Whole,
     chosen: &Chosen,
     kernel: &LentKernel,
     known: Option<KnownPairs>,
 ) -> Result<FirstLine, AllocError>
-    requires side { IsOldSide old.now }
-    requires kernel { IsLentKernel kernel.now old.now.view.now.limit old.now.view.now.kernel.hold (suite_repository whole.now.home (items_where_true chosen.now.flags.items (packages_of_both old.now whole.now))) }
-    requires whole { IsWhole old.now whole.now }
-    requires flags { length chosen.now.flags.items ≡ length (packages_of_both old.now whole.now) }
+    requires side { IsOldSide whole.now.old.now }
+    requires kernel { let before = whole.now.old.now.view.now in IsLentKernel kernel.now before.limit before.kernel.hold (suite_repository whole.now.home (items_where_true chosen.now.flags.items (packages_of_both whole.now))) }
+    requires whole { IsWhole whole.now }
+    requires flags { length chosen.now.flags.items ≡ length (packages_of_both whole.now) }
     requires known { ForSome known AreKnownPairs }
-    ensures first { let before = old.now.view.now in let settings = settings_of old.now.budget before.limit before.kernel.hold in
-        IfOk result (λ made. made.line ≡ first_told (told_of settings before.suite.home before.suite.packages whole.now.home (items_where_true chosen.now.flags.items (packages_of_both old.now whole.now)))) }
+    ensures first { let before = whole.now.old.now.view.now in
+        IfOk result (λ made. made.line ≡ first_told (told_of (settings_between whole.now) before.suite.home before.suite.packages whole.now.home (items_where_true chosen.now.flags.items (packages_of_both whole.now)))) }
     ensures known { IfOk result (λ made. ForSome made.known AreKnownPairs) }
 {
     let named = named_in(alloc, &whole.named, chosen)?;
-    first_line_by(alloc, old, kernel, &named, known)
+    first_line_by(alloc, whole.old, kernel, &named, known)
 }
 
 // Those of each list of packages that are chosen, by their numbers among the chosen ones.

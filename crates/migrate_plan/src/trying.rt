@@ -9,7 +9,8 @@ use repo_model::Suite;
 use std::alloc::{AllocError, Global};
 use suite_compare::{LimitError, OldSide, ReportLine, SuiteView, first_line};
 
-/// The line of a name by the mix with it, at the limit and hold of the view of the old index.
+/// The line of a name by the suite of the mix with it, at the limit and hold of the view of the old index. Such a suite is made only if the mix has
+/// another common architecture than the whole.
 pub(crate) fn line_of(
     alloc: Global,
     old: &OldSide,

@@ -17,6 +17,8 @@ use suite_compare::{FewNumbers, OldSide, bearers_of};
 /// differ.
 #[derive(Drop)]
 pub(crate) struct Whole<'a> {
+    /// The side of the old index in comparisons.
+    pub(crate) old: &'a OldSide<'a>,
     /// The suite of the new index.
     pub(crate) new: &'a Suite,
     /// For each package of the new suite whether its name differs.
@@ -27,21 +29,22 @@ pub(crate) struct Whole<'a> {
     pub(crate) pool: Pool,
     /// The repository of all these packages.
     pub(crate) book: Book,
-    /// For each name of the old suite those of them that bear it.
+    /// For each name of the old suite the packages of the whole that bear it.
     pub(crate) named: Vec<FewNumbers>,
 }
 
 /// What all mixes of an old and a new index are made of.
 pub(crate) fn whole_of<'a>(
     alloc: Global,
-    old: &OldSide,
+    old: &'a OldSide<'a>,
     new: &'a Suite,
     names: &[Bytes],
 ) -> Result<Whole<'a>, AllocError>
     requires names { names.now ≡ differing old.now.view.now.suite.packages new.now.packages }
     requires few { packages_with old.now.view.now.suite.packages new.now.packages names.now ≤ most_packages }
+    ensures side { IfOk result (λ whole. whole.old.now ≡ old.now) }
     ensures suite { IfOk result (λ whole. whole.new.now ≡ new.now) }
-    ensures whole { IfOk result (IsWhole old.now) }
+    ensures whole { IfOk result IsWhole }
 {
     let added = taken_flags(alloc, new, names)?;
     let home = common_home(alloc, &old.view.suite.home, &new.home)?;
@@ -50,6 +53,7 @@ pub(crate) fn whole_of<'a>(
     drop(suite);
     let Numbered { pool, book, named } = numbered;
     Ok(Whole {
+        old,
         new,
         added,
         home,

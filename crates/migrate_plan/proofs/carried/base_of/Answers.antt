@@ -3,9 +3,9 @@ use Rattle.migrate_plan.proofs.Carrying.{old_packages}
 use Rattle.migrate_plan.proofs.carried.base_of.Goals as goal
 
 pub of-requires-clause-count : goal.of-requires-clause-count
-of-requires-clause-count c = subst (λ z. z ≤ length c.args.whole.now.book.rows) (sym c.count.ensures) (old_packages c.args.old.now c.args.whole.now c.requires.whole)
+of-requires-clause-count c = subst (λ z. z ≤ length c.args.whole.now.book.rows) (sym c.count.ensures) (old_packages c.args.whole.now c.requires.whole)
 
 pub returns : goal.returns
 returns c = λ base is.
     let made = c.in_ok-base.ensures.base base is in
-    record { hold_is = c.if-old.false; limit_is = made.2; base_is = made.0 }
+    record { hold_is = c.if-view.false; limit_is = made.2; base_is = made.0 }

@@ -1,13 +1,13 @@
 use Rattle.std.proofs.Common.{◌∙◌, ap, subst, sym}
 use Rattle.listed.specs.Lists.{In}
 use Rattle.listed.proofs.Lists.{In_at}
-use Rattle.migrate_plan.specs.{Plan.{line_behind, settings_of}, Whole.{names_between}}
+use Rattle.migrate_plan.specs.{Plan.{line_behind}, Whole.{names_between, settings_between}}
 use Rattle.migrate_plan.proofs.Planned.{leads_all, leads_first, leads_more, taken_first, taken_more}
 use Rattle.migrate_plan.proofs.making.lines_after.Goals as goal
 
 pub loop-name-init : goal.loop-name-init
 loop-name-init c =
-    let settings = settings_of c.args.old.now.budget c.args.old.now.view.now.limit c.args.old.now.view.now.kernel.hold in
+    let settings = settings_between c.args.whole.now in
     record {
       takes = taken_first c.new-lines.result c.args.names.now c.new-taken.result.items c.new-lines.ensures c.new-taken.ensures.items;
       leads = λ texts are. leads_first (line_behind settings texts.old texts.new) c.args.names.now c.new-lines.result c.new-lines.ensures;
@@ -21,12 +21,12 @@ pub try_name-requires-clause-name : goal.try_name-requires-clause-name
 try_name-requires-clause-name c =
     let names = c.args.names.now in
     let item = c.name-item.result in
-    subst (λ n. In n (names_between c.args.old.now c.args.whole.now)) (sym c.as_slice-in-loop-name.ensures)
+    subst (λ n. In n (names_between c.args.whole.now)) (sym c.as_slice-in-loop-name.ensures)
     (subst (In item) c.requires.names (subst (λ n. In n names) (sym c.name-item.is) (In_at names c.loop-name.name-index item c.loop-name-test.true)))
 
 pub loop-name-preserved : goal.loop-name-preserved
 loop-name-preserved c =
-    let settings = settings_of c.args.old.now.budget c.args.old.now.view.now.limit c.args.old.now.view.now.kernel.hold in
+    let settings = settings_between c.args.whole.now in
     let names = c.args.names.now in
     let item = c.name-item.result in
     let lines = c.loop-name.lines in
@@ -41,5 +41,5 @@ loop-name-preserved c =
 
 pub returns : goal.returns
 returns c =
-    let settings = settings_of c.args.old.now.budget c.args.old.now.view.now.limit c.args.old.now.view.now.kernel.hold in
+    let settings = settings_between c.args.whole.now in
     λ texts are. leads_all (line_behind settings texts.old texts.new) c.args.names.now c.loop-name.name-index c.loop-name.lines c.loop-name-test.false (c.loop-name.invariant.leads texts are)

@@ -1,10 +1,12 @@
-use Rattle.std.proofs.Common.{◌∙◌, ap, sym}
+use Rattle.std.proofs.Common.{◌∙◌, ap₂, sym}
 use Rattle.repo_model.specs.declared.suite.Suite.{Suite}
+use Rattle.suite_compare.specs.declared.sides.OldSide.{OldSide}
 use Rattle.migrate_plan.specs.Differing.{differing}
 use Rattle.migrate_plan.proofs.making.lines_with.Goals as goal
 
 pub lines_beside-lines-requires-clause-names : goal.lines_beside-lines-requires-clause-names
-lines_beside-lines-requires-clause-names c = c.requires.names ∙ ap (λ (new : Suite). differing c.args.old.now.view.now.suite.packages new.packages) (sym c.in_ok-whole.ensures.suite)
+lines_beside-lines-requires-clause-names c =
+    c.requires.names ∙ ap₂ (λ (old : OldSide) (new : Suite). differing old.view.now.suite.packages new.packages) (sym c.in_ok-whole.ensures.side) (sym c.in_ok-whole.ensures.suite)
 
 pub returns : goal.returns
-returns c = rw c.in_ok-whole.ensures.suite at c.lines_beside-lines.ensures
+returns c = rw (c.in_ok-whole.ensures.side, c.in_ok-whole.ensures.suite) at c.lines_beside-lines.ensures

@@ -10,7 +10,7 @@ use Rattle.migrate_plan.proofs.Parted.{made_beside}
 use Rattle.migrate_plan.proofs.parting.kernel_beside.Goals as goal
 
 pub known_rows-requires-clause-fits : goal.known_rows-requires-clause-fits
-known_rows-requires-clause-fits c = base_fits c.args.whole.now.pool c.args.whole.now.book c.args.base.now c.requires.whole c.requires.base
+known_rows-requires-clause-fits c = base_fits c.args.whole.now.pool c.args.whole.now.book c.args.base.now c.requires.whole c.requires.base.base_is
 
 pub known_apart-requires-clause-sound : goal.known_apart-requires-clause-sound
 known_apart-requires-clause-sound c = sound_kept c.args.pool.now c.known_rows.new.pool c.requires.book.rows.is_pool c.known_rows.ensures.kept c.args.book.now c.requires.book
@@ -18,7 +18,7 @@ known_apart-requires-clause-sound c = sound_kept c.args.pool.now c.known_rows.ne
 pub known_apart-requires-clause-known : goal.known_apart-requires-clause-known
 known_apart-requires-clause-known c =
     let same : repository_of c.known_rows.new.pool c.args.book.now ≡ repository_of c.args.pool.now c.args.book.now = repository_kept c.args.pool.now c.known_rows.new.pool c.requires.book.rows.is_pool c.known_rows.ensures.kept c.args.book.now c.requires.book in
-    rw (same, c.requires.part, sym c.requires.same) (c.in_ok-old_rows.ensures.known c.args.whole.now.pool c.requires.whole c.requires.base)
+    rw (same, c.requires.part, sym c.requires.base.limit_is) (c.in_ok-old_rows.ensures.known c.args.whole.now.pool c.requires.whole c.requires.base.base_is)
 
 pub classes_beside-requires-clause-sound : goal.classes_beside-requires-clause-sound
 classes_beside-requires-clause-sound c =
@@ -37,9 +37,9 @@ returns-clause-kernel c =
     let same : repository_of c.known_apart.new.pool c.args.book.now ≡ repository_of c.args.pool.now c.args.book.now =
     repository_kept c.known_rows.new.pool c.known_apart.new.pool sound.rows.is_pool c.known_apart.ensures.kept c.args.book.now sound
     ∙ repository_kept c.args.pool.now c.known_rows.new.pool c.requires.book.rows.is_pool c.known_rows.ensures.kept c.args.book.now c.requires.book in
-    subst (λ kernel. IsKernelAt c.known_apart.new.pool c.args.limit false (repository_of c.args.pool.now c.args.book.now) kernel) (sym c.beside.ensures)
-    (subst (λ R. IsKernelAt c.known_apart.new.pool c.args.limit false R (option_map Beside c.in_ok-made.made)) same
-    (made_beside _ c.args.limit _ c.in_ok-made.made c.in_ok-made.ensures.classes c.in_ok-made.ensures.rounds c.in_ok-made.ensures.passed))
+    subst (λ kernel. IsKernelAt c.known_apart.new.pool c.args.whole.now.old.now.view.now.limit false (repository_of c.args.pool.now c.args.book.now) kernel) (sym c.beside.ensures)
+    (subst (λ R. IsKernelAt c.known_apart.new.pool c.args.whole.now.old.now.view.now.limit false R (option_map Beside c.in_ok-made.made)) same
+    (made_beside _ c.args.whole.now.old.now.view.now.limit _ c.in_ok-made.made c.in_ok-made.ensures.classes c.in_ok-made.ensures.rounds c.in_ok-made.ensures.passed))
 
 pub returns-clause-rows : goal.returns-clause-rows
 returns-clause-rows c = λ rows is.
@@ -47,4 +47,4 @@ returns-clause-rows c = λ rows is.
     let M = part c.args.chosen.now.flags.items W in
     let same : repository_of c.known_rows.new.pool c.args.book.now ≡ M =
     repository_kept c.args.pool.now c.known_rows.new.pool c.requires.book.rows.is_pool c.known_rows.ensures.kept c.args.book.now c.requires.book ∙ c.requires.part in
-    subst (λ (v : Vec (Option ℕ)). AreKnown c.known_apart.new.pool c.args.limit M v.items) (same_Some _ rows is) (rw same at c.in_ok-known.ensures.known)
+    subst (λ (v : Vec (Option ℕ)). AreKnown c.known_apart.new.pool c.args.whole.now.old.now.view.now.limit M v.items) (same_Some _ rows is) (rw same at c.in_ok-known.ensures.known)

@@ -57,17 +57,6 @@ set_up flags x n l u =
       | inr d ↦ get_or-set_other flags x n true false d ∙ u
     ]
 
--- flags that grow
-pub flags_none : (before : List Bool) (work : List ℕ) → Flags [] before work before work
-flags_none before work = record {
-  size = refl;
-  stays = λ n u. u;
-  all = λ n i. absurd (In_none i);
-  waits = λ n i. i;
-  gains = λ n u. inl u;
-  only = λ n i. inl i;
-}
-
 module _ (ps qs : List ℕ) (before mid : List Bool) (work more : List ℕ) (x : ℕ) (next : qs ≡ ps ++ x ∷ []) (f : Flags ps before work mid more) where
   pub flags_more : (after : List Bool) (most : List ℕ) → x < length mid → after ≡ set mid x true → most ≡ more ++ x ∷ [] → Flags qs before work after most
   flags_more after most l e m =
@@ -126,14 +115,6 @@ none_up size n =
     ]
 
 module _ (users conflicts : List (List ℕ)) (own chosen : List Bool) (size : ℕ) where
-  pub none_spread : (changed : List Bool) (work : List ℕ) → changed ≡ replicate size false → work ≡ [] → Spreads users conflicts own chosen size 0 changed work
-  none_spread changed work e w = record {
-    long = ap length e ∙ length-replicate size false;
-    same = λ n l d. absurd (omega arith);
-    spread = λ n u. absurd (both_ways (flag (replicate size false) n) (none_up size n) (subst (λ z. flag z n ≡ true) e u));
-    waiting = λ n i. absurd (In_none (subst (λ z. In n z) w i));
-  }
-
   -- a package that stands alike
   pub spread_same : (number : ℕ) (changed : List Bool) (work : List ℕ) → StandsAlike conflicts own chosen number → Spreads users conflicts own chosen size number changed work → Spreads users conflicts own chosen size (number + 1) changed work
   spread_same number changed work alike s = record {

@@ -17,8 +17,8 @@ use listed::true_numbers;
 use row_book::Book;
 use std::alloc::{AllocError, Global};
 
-/// The known rows over the core without hold, and those of all other packages of a book, which are made in a small book. Where a row of that passes the
-/// limit, be it that of a rival alone, there is none of these. What the pool held stays. The error is want of memory.
+/// The known rows over the core without hold, and those of all other packages of a book, which are made in a small book. If a row of that book
+/// passes the limit, be it that of a rival alone, the known rows are given as they came. What the pool held stays. The error is want of memory.
 pub fn known_apart(
     alloc: Global,
     pool: &mut Pool,

@@ -178,7 +178,7 @@ impl Base {
         has_one(&self.flags, against) != has_one(&chosen.flags, against)
     }
 
-    /// The rows of the chosen packages whose flags are not up, in their new numbers.
+    /// For each chosen package its row in the new numbers; none if it has changed.
     fn rows_there(
         &self,
         alloc: Global,
@@ -203,7 +203,7 @@ impl Base {
         Ok(known)
     }
 
-    /// The row of a chosen package in its new numbers, unless its flag is up.
+    /// The row of a chosen package in its new numbers; none if it has changed.
     fn row_there(
         &self,
         alloc: Global,

@@ -6,7 +6,7 @@ ghost use Rattle.suite_part.specs.Parts.{chosen_in, place_in};
 
 use std::alloc::{AllocError, Global};
 
-/// Some packages of a book: for each whether it is one of them, and its number among them.
+/// Some packages of a book: for each package of the book whether it is one of them, and how many of them come before it.
 #[derive(Drop)]
 pub struct Chosen {
     /// For each package whether it is chosen.
@@ -43,7 +43,7 @@ impl Chosen {
         Ok(made)
     }
 
-    /// Puts these into the list, in the place of what it had.
+    /// Makes the list that of `among`, whatever it had.
     pub fn put_among(&self, made: &mut Vec<u32>, numbers: &[u32]) -> Result<(), AllocError>
         requires { (n : ℕ) → In n numbers.now → n < length self.now.flags.items }
         ensures { OnOk result (made.new.items ≡ chosen_in self.now.flags.items numbers.now) }

@@ -1,7 +1,7 @@
 use Rattle.std.proofs.Common.{◌∙◌, None, slice_index_or, ap₂, sym}
 use Rattle.row_book.specs.Uses.{row_id}
 use Rattle.clause_flatten.specs.Beside.{known_or}
-use Rattle.clause_flatten.proofs.Besides.{known_read, map_none, numbers_grow, row_read, value_is}
+use Rattle.clause_flatten.proofs.{NeededBy.{known_read, row_read, value_is}, Besides.{map_none, numbers_grow}}
 use Rattle.clause_flatten.proofs.beside.known_rows.Goals as goal
 
 pub loop-place-init : goal.loop-place-init

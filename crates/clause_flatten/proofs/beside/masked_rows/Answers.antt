@@ -1,6 +1,6 @@
 use Rattle.std.proofs.Common.{◌∙◌, ap, cond, sym}
 use Rattle.row_book.specs.{Flags.{flag}, Uses.{row_id}}
-use Rattle.clause_flatten.proofs.Besides.{map_none, numbers_grow, row_read}
+use Rattle.clause_flatten.proofs.{NeededBy.{row_read}, Besides.{map_none, numbers_grow}}
 use Rattle.clause_flatten.proofs.beside.masked_rows.Goals as goal
 use Rattle.clause_flatten.proofs.beside.masked_rows.Goals.{then-needed-place, else-needed-place}
 

@@ -1,6 +1,6 @@
 use Rattle.std.proofs.Common.{get_or, refl}
 use Rattle.listed.proofs.Lists.{In_at}
-use Rattle.clause_flatten.proofs.Besides.{needs_down, needs_first, needs_up}
+use Rattle.clause_flatten.proofs.NeededBy.{needs_down, needs_first, needs_up}
 use Rattle.clause_flatten.proofs.beside.need_each.Goals as goal
 use Rattle.clause_flatten.proofs.beside.need_each.Goals.{then-not-needed-member+in_ok-push, else-not-needed-member}
 

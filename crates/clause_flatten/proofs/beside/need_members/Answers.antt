@@ -1,6 +1,6 @@
 use Rattle.std.proofs.Common.{length}
 use Rattle.listed.proofs.Lists.{item_in}
-use Rattle.clause_flatten.proofs.Besides.{clause_below, needs_more}
+use Rattle.clause_flatten.proofs.NeededBy.{clause_below, needs_more}
 use Rattle.clause_flatten.proofs.beside.need_members.Goals as goal
 
 pub slice-requires : goal.slice-requires

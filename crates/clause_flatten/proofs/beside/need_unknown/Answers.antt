@@ -1,4 +1,4 @@
-use Rattle.clause_flatten.proofs.Besides.{flagged_known, flagged_unknown, present}
+use Rattle.clause_flatten.proofs.NeededBy.{flagged_known, flagged_unknown, present}
 use Rattle.clause_flatten.proofs.beside.need_unknown.Goals as goal
 use Rattle.clause_flatten.proofs.beside.need_unknown.Goals.{then-is_none+in_ok-push, else-is_none}
 

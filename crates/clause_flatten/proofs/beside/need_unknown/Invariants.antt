@@ -1,4 +1,4 @@
-use Rattle.clause_flatten.proofs.Besides.{AreFlagged}
+use Rattle.clause_flatten.proofs.NeededBy.{AreFlagged}
 use Rattle.clause_flatten.proofs.beside.need_unknown.Given as goal
 
 abbrev pub invariant-loop-number : goal.invariant-loop-number

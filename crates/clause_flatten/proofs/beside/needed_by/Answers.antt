@@ -2,7 +2,7 @@ use Rattle.std.proofs.{Common.{◌≡◌, ◌<◌, [], ◌∙◌, ap, arith, len
 use Rattle.listed.proofs.Lists.{In_at}
 use Rattle.row_book.specs.Book.{repository_of}
 use Rattle.row_book.proofs.Users.{lent_whole}
-use Rattle.clause_flatten.proofs.Besides.{looked_all, looked_below, looked_next, nothing_left, row_below}
+use Rattle.clause_flatten.proofs.NeededBy.{looked_all, looked_below, looked_next, nothing_left, row_below}
 use Rattle.clause_flatten.proofs.beside.needed_by.Goals as goal
 use Rattle.clause_flatten.proofs.beside.needed_by.Goals.{In-Some}
 

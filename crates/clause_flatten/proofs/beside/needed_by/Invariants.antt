@@ -1,7 +1,7 @@
 use Rattle.std.proofs.Common.{◌+◌, length, not}
 use Rattle.std.specs.Prelude.{count_by}
 use Rattle.row_book.specs.Book.{repository_of}
-use Rattle.clause_flatten.proofs.Besides.{AreLooked}
+use Rattle.clause_flatten.proofs.NeededBy.{AreLooked}
 use Rattle.clause_flatten.proofs.beside.needed_by.Given as goal
 
 abbrev pub invariant-loop-number : goal.invariant-loop-number

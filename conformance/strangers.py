@@ -84,7 +84,9 @@ def installation_holds(where, path, report):
     wanted, cut = installed_by(report), os.path.join(where, "installed")
     count = cut_out(path, wanted, cut)
     done = subprocess.run([INSTALLER, "--deb-native-arch=amd64", "-f", cut], stdin=subprocess.DEVNULL, capture_output=True, text=True, timeout=600)
-    return count == len(wanted) and done.returncode == 0 and "broken" not in done.stdout
+    # What can be installed is printed in stanzas, and a name such as libroken19-heimdal may have the word in it.
+    broken = re.search(r"^ *status: broken", done.stdout, re.M)
+    return count == len(wanted) and done.returncode == 0 and not broken
 
 
 def never_by_dose(path):

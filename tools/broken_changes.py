@@ -70,7 +70,8 @@ class Changes:
         was, now = ("/".join(p.version for p in index.named.get(name, ())) for index in (self.old, self.new))
         if was:
             return name + " " + (was + " -> " + now if now and was != now else was)
-        gone = {p.name for p in self.old.built_from.get(self.new.named[name][0].source, ())} - set(self.new.named)
+        built = self.old.built_from.get(self.new.named[name][0].source, ())
+        gone = {p.name for p in built if p.name not in self.new.named}
         near = [n for n in sorted(gone) if len(os.path.commonprefix([n, name])) >= max(4, 0.7 * len(name))]
         return "%s %s (new%s)" % (name, now, ", perhaps for " + near[0] if near else "")
 
@@ -117,7 +118,7 @@ class Changes:
             lead = "source %s %s is gone, and with it " % (had.source, had.source_version)
             return Change("gone:" + had.source, "source gone", lead, [had.source]), had.name
         lead = "source %s %s -> %s no longer builds " % (had.source, had.source_version, newest)
-        fresh = sorted({p.name for p in self.new.built_from[had.source]} - set(self.old.named))
+        fresh = sorted({p.name for p in self.new.built_from[had.source] if p.name not in self.old.named})
         note = "new from that source: " + shorten(fresh, 5) if fresh else None
         return Change("gone:" + had.source, "no longer built", lead, [had.source], note), had.name
 

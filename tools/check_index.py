@@ -18,7 +18,7 @@ sys.dont_write_bytecode = True
 import dpkg
 from built import require
 from command import HERE, parser_of, run
-from debian_index import FIELD, fields_of, stanzas
+from debian_index import FIELD, packages_of
 
 RELATIONS = {"pre-depends", "depends", "conflicts", "breaks", "provides", "recommends", "suggests", "enhances", "replaces"}
 RESTRICTION = re.compile(r"\(\s*(?:<<|<=|=|>=|>>|<|>)\s*([^\s)]+)\s*\)")
@@ -26,8 +26,8 @@ RESTRICTION = re.compile(r"\(\s*(?:<<|<=|=|>=|>>|<|>)\s*([^\s)]+)\s*\)")
 
 def versions_of(path):
     found = set()
-    for _, stanza in stanzas(path):
-        for field, value in fields_of(stanza, FIELD).items():
+    for package in packages_of(path):
+        for field, value in package.fields(FIELD).items():
             found.update([value] if field == "version" else RESTRICTION.findall(value) if field in RELATIONS else ())
     return sorted(found)
 

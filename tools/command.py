@@ -72,6 +72,22 @@ def write_out(text):
     sys.stdout.buffer.write(text.encode(**TEXT))
 
 
+def write_stanzas(packages):
+    """Writes stanzas to standard output byte for byte, those that stand behind each other in one piece."""
+    start = end = 0
+    data = None
+    for package in packages:
+        if package.data is not data or package.start != end + 2:
+            if data:
+                sys.stdout.buffer.write(memoryview(data)[start:end])
+                sys.stdout.buffer.write(b"\n\n")
+            data, start = package.data, package.start
+        end = package.end
+    if data:
+        sys.stdout.buffer.write(memoryview(data)[start:end])
+        sys.stdout.buffer.write(b"\n\n")
+
+
 def run(main):
     """Runs a script's main, and ends with what it returns, or with the status of its fault."""
     signal.signal(signal.SIGPIPE, signal.SIG_DFL)

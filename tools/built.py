@@ -1,11 +1,14 @@
-"""Where the program is that ./coinst builds, and how scripts of tools/, bench/ and conformance/ end where it, or a name, is not there."""
+"""Where the program is, and how scripts of tools/, bench/ and conformance/ end if it, or a name, is not there."""
 
 import difflib
 import os
 import sys
 
-TOP = os.path.dirname(os.path.dirname(os.path.realpath(__file__)))
-BUILT = os.path.join(TOP, "crates", "coinst_cli", "out", "coinst_cli")
+HERE = os.path.dirname(os.path.realpath(__file__))
+TOP = os.path.dirname(HERE)
+# The program that ./coinst compiles and runs, or the one beside which tools/install put the scripts.
+INSTALLED = os.path.join(HERE, "program")
+BUILT = INSTALLED if os.path.exists(INSTALLED) else os.path.join(TOP, "out", "coinst")
 NOT_BUILT = 70
 
 
@@ -18,14 +21,14 @@ def leave(status, text):
     sys.exit(status)
 
 
-def require(program=BUILT, how="./coinst builds it, with all its proofs"):
-    """Ends the script where the program is not there; it never starts a build."""
+def require(program=BUILT, how="./coinst compiles it, in two minutes"):
+    """Ends the script if the program is not there; it never starts a build."""
     if not os.path.isfile(program) or not os.access(program, os.X_OK):
         leave(NOT_BUILT, "no program at %s: %s" % (os.path.relpath(program), how))
 
 
 def chosen(names, there, what):
-    """The names, or all where none is given; ends the script with status 2 where one is not there."""
+    """The names, or all if none is given; ends the script with status 2 if one is not there."""
     for name in names:
         if name not in there:
             near = [] if len(there) <= 50 else difflib.get_close_matches(name, there, 9, 0.4)

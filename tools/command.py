@@ -36,7 +36,7 @@ def parser_of(text):
 
 
 def add_program(parser):
-    parser.add_argument("--program", metavar="COINST", default=BUILT, help="the program (without this, the one that ./coinst builds)")
+    parser.add_argument("--program", metavar="COINST", default=BUILT, help="the program (without this, the one that ./coinst runs)")
 
 
 def add_limits(parser):

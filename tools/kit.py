@@ -21,13 +21,25 @@ def below(name, own):
     return {**found, name: True}
 
 
-def kit_folder():
-    """Where the kit is; ends the script where `rt` is not on the path."""
+def asked_of_kit(word):
+    """What `rt` says to a word, in one line; nothing if `rt` is not there."""
     try:
-        told = subprocess.run(["rt", "doc"], stdin=subprocess.DEVNULL, capture_output=True, text=True, check=True).stdout.split()
+        return subprocess.run(["rt", word], stdin=subprocess.DEVNULL, capture_output=True, text=True, check=True).stdout.strip()
     except (OSError, subprocess.CalledProcessError):
-        leave(NOT_BUILT, "`rt doc` did not tell where the Rattle kit is; is `rt` on the path?")
-    return os.path.dirname(told[0])
+        return ""
+
+
+def kit_name():
+    """The name of the kit and the sum of its logic, or nothing if `rt` is not there."""
+    return asked_of_kit("version")
+
+
+def kit_folder():
+    """Where the kit is; ends the script if `rt` is not on the path."""
+    page = asked_of_kit("doc").partition("\n")[0]
+    if not page:
+        leave(NOT_BUILT, "no `rt` is on the path: the Rattle kit is needed, and `rt version` prints its name")
+    return os.path.dirname(page)
 
 
 def library_words(name, uses, folder):

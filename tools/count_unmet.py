@@ -1,5 +1,5 @@
 #!/usr/bin/env python3
-"""Counts the packages of an index with an element that no package meets, straight from its text.
+"""Counts the packages of an index with a dependency that nothing satisfies, straight from its text.
 
     tools/count_unmet.py INDEX
 
@@ -18,7 +18,7 @@ def main():
     parser.add_argument("index")
     index = Index(parser.parse_args().index)
     unmet = sum(not all(map(index.meeting, package.needs)) for package in index.packages)
-    print("%d packages, %d with an element that nobody meets" % (len(index.packages), unmet))
+    print("%d packages, %d with a dependency that nothing satisfies" % (len(index.packages), unmet))
     return 0
 
 

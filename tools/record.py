@@ -17,6 +17,8 @@ PROVED_HERE = os.path.join(TOP, "out", "proved-here")
 CODE, ALL = ("src",), ("src", "specs", "proofs")
 HEAD = "# What was proved. tools/proved writes this file, and .ci/run fails if what it has proved is anything else.\n"
 WORDS = ("kit", "sources", "program")
+# The word of the last line, a sum of the others: so a slip of the hand is seen before any program is there.
+LINES = "lines"
 
 
 def sum_of_file(path: str) -> str:
@@ -63,9 +65,14 @@ def write_whole(path: str, text: str) -> None:
     os.replace(part, path)
 
 
+def sum_of_lines(found: dict[str, str]) -> str:
+    return hashlib.sha256("".join("%s %s\n" % (word, found.get(word, "")) for word in WORDS).encode()).hexdigest()
+
+
 def record(found: dict[str, str]) -> None:
     """Writes PROVED."""
-    write_whole(RECORD, HEAD + "".join("%s %s\n" % (word, found[word]) for word in WORDS))
+    lines = {**{word: found[word] for word in WORDS}, LINES: sum_of_lines(found)}
+    write_whole(RECORD, HEAD + "".join("%s %s\n" % line for line in lines.items()))
 
 
 def is_proved(program: str) -> bool:

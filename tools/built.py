@@ -1,8 +1,12 @@
 """Where the program is, and how scripts of tools/, bench/ and conformance/ end if it, or a name, is not there."""
 
+from __future__ import annotations
+
 import difflib
 import os
 import sys
+from collections.abc import Collection
+from typing import NoReturn
 
 HERE = os.path.dirname(os.path.realpath(__file__))
 TOP = os.path.dirname(HERE)
@@ -12,22 +16,22 @@ BUILT = INSTALLED if os.path.exists(INSTALLED) else os.path.join(TOP, "out", "co
 NOT_BUILT = 70
 
 
-def say(text):
+def say(text: object) -> None:
     print("%s: %s" % (os.path.basename(sys.argv[0]), text), file=sys.stderr, flush=True)
 
 
-def leave(status, text):
+def leave(status: int, text: object) -> NoReturn:
     say(text)
     sys.exit(status)
 
 
-def require(program=BUILT, how="./coinst compiles it, in two minutes"):
+def require(program: str = BUILT, how: str = "./coinst compiles it, in two minutes") -> None:
     """Ends the script if the program is not there; it never starts a build."""
     if not os.path.isfile(program) or not os.access(program, os.X_OK):
         leave(NOT_BUILT, "no program at %s: %s" % (os.path.relpath(program), how))
 
 
-def chosen(names, there, what):
+def chosen(names: list[str], there: Collection[str], what: str) -> list[str]:
     """The names, or all if none is given; ends the script with status 2 if one is not there."""
     for name in names:
         if name not in there:

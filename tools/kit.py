@@ -1,27 +1,29 @@
 """The crates of the repository, and the Rattle kit that they are built with."""
 
+from __future__ import annotations
+
 import os
 import subprocess
 
 from built import NOT_BUILT, TOP, leave
 
 
-def crates():
+def crates() -> dict[str, list[str]]:
     """Each crate of the repository with those that it names."""
     with open(os.path.join(TOP, "crates.txt"), encoding="utf-8") as file:
         lines = [line.split("#")[0].partition(":") for line in file]
     return {name.strip(): below.split() for name, colon, below in lines if colon}
 
 
-def below(name, own):
+def below(name: str, own: dict[str, list[str]]) -> dict[str, bool]:
     """A crate after all crates of the repository that it stands on, each after those that it names."""
-    found = {}
+    found: dict[str, bool] = {}
     for other in own[name]:
         found.update(below(other, own) if other in own else {})
     return {**found, name: True}
 
 
-def asked_of_kit(word):
+def asked_of_kit(word: str) -> str:
     """What `rt` says to a word, in one line; nothing if `rt` is not there."""
     try:
         return subprocess.run(["rt", word], stdin=subprocess.DEVNULL, capture_output=True, text=True, check=True).stdout.strip()
@@ -29,12 +31,12 @@ def asked_of_kit(word):
         return ""
 
 
-def kit_name():
+def kit_name() -> str:
     """The name of the kit and the sum of its logic, or nothing if `rt` is not there."""
     return asked_of_kit("version")
 
 
-def kit_folder():
+def kit_folder() -> str:
     """Where the kit is; ends the script if `rt` is not on the path."""
     page = asked_of_kit("doc").partition("\n")[0]
     if not page:
@@ -42,6 +44,6 @@ def kit_folder():
     return os.path.dirname(page)
 
 
-def library_words(name, uses, folder):
+def library_words(name: str, uses: list[str], folder: str) -> list[str]:
     """The words that hand the kit's programs a library as its source."""
     return ["--lib", "%s:%s=%s" % (name, ",".join(dict.fromkeys(["core", "std", *uses])), os.path.join(folder, name, "src", "lib.rt"))]

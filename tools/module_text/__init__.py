@@ -22,6 +22,7 @@ from .start import main_of
 from .stops import SHUFFLE, without_stops
 
 NAME = re.compile(r'@(?:"([^"]*)"|([\w.]+))\(')
+GROUP = re.compile(r" #\d+ \{$")
 ATTRIBUTES = 'nounwind "probe-stack"="inline-asm" "stack-probe-size"="3072" "target-cpu"="%s"'
 OLD_CPU, CPU = "x86-64", "x86-64-v2"
 # What the new `main`, and the one instruction that chooses bytes, call.
@@ -41,6 +42,12 @@ class Groups:
         return ("attributes #%d = { %s }" % (number, words) for words, number in self.numbers.items())
 
 
+def name_of(head: str) -> str:
+    """The name of a function, by its head."""
+    found = NAME.search(head)
+    return "".join(filter(None, found.groups())) if found else ""
+
+
 def function_of(line: str, lines: Iterator[str]) -> list[str]:
     """The lines of a function that begins with this one."""
     function = [line]
@@ -55,7 +62,7 @@ def made_of(text: list[str], groups: Groups, hints: str) -> Iterator[str]:
     without_stops(function)
     mark_addresses(function)
     words = " ".join(filter(None, [hints, ATTRIBUTES % CPU]))
-    function.head = re.sub(r" #\d+ \{$", " %s {" % groups.of(words), function.head)
+    function.head = GROUP.sub(" %s {" % groups.of(words), function.head)
     return function.text()
 
 
@@ -64,7 +71,7 @@ def rewritten(lines: Iterator[str], crate: str, comment: str, source_of: Callabl
     hints, groups = Hints(source_of), Groups()
     for line in (line.rstrip("\n") for line in lines):
         if line.startswith("define"):
-            text, name = function_of(line, lines), "".join(filter(None, NAME.search(line).groups()))
+            text, name = function_of(line, lines), name_of(line)
             if name == "main":
                 yield from main_of(crate, groups.of(ATTRIBUTES % OLD_CPU))
             elif not name.startswith(STOPS_OWN):

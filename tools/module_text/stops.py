@@ -53,17 +53,20 @@ def take_stops(function: Function) -> list[str]:
 def shuffle_at_once(function: Function) -> None:
     """One instruction for the loads that choose bytes by places."""
     for block in function.blocks:
-        for place in [at for at, line in enumerate(block.lines) if PLACES.match(line.text)]:
-            shuffle_from(block, place)
+        for number, line in enumerate(block.lines):
+            places = PLACES.match(line.text)
+            if places:
+                shuffle_from(block, number, places.group(1))
 
 
-def shuffle_from(block: Block, place: int) -> None:
+def shuffle_from(block: Block, start: int, places: str) -> None:
     texts = [line.text for line in block.lines]
-    end = next((at for at in range(place, min(place + LONGEST, len(texts))) if CHOSEN.match(texts[at])), 0)
-    vector = vector_of(texts[:place], texts[place:end])
-    if vector:
-        call = SHUFFLE % (" " + vector, " " + PLACES.match(texts[place]).group(1))
-        block.lines[place : end + 1] = [Line("  %s = call %s" % (CHOSEN.match(texts[end]).group(1), call))]
+    found = ((end, CHOSEN.match(texts[end])) for end in range(start, min(start + LONGEST, len(texts))))
+    end, chosen = next(((end, chosen) for end, chosen in found if chosen), (start, None))
+    vector = vector_of(texts[:start], texts[start:end])
+    if chosen and vector:
+        call = SHUFFLE % (" " + vector, " " + places)
+        block.lines[start : end + 1] = [Line("  %s = call %s" % (chosen.group(1), call))]
 
 
 def vector_of(before: list[str], loads: list[str]) -> str:

@@ -95,7 +95,10 @@ class Changes:
             return self.left_over(owner)
         texts = [text.strip() for text in element.split("|")]
         text = next(filter(self.old.meeting, texts), texts[0])
+        name = parse_atom(text).name
         had = next(iter(self.old.meeting(text)), None)
+        if not had and name not in self.new.offers:
+            had, text = next((package for package, _ in self.old.offers.get(name, ())), None), name
         if had and had.name in self.new.named:
             return self.other_version(had, text)
         if had:

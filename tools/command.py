@@ -1,7 +1,7 @@
 """What the scripts of this folder share: how they ask the program, what they say, and how they end.
 
 A script that ends by BadWords, BadIndex or a file that it cannot open says so in one line, with status 2; a pipe that is closed ends it
-in silence; any other fault of a script ends it with status 70.
+in silence; SIGTERM ends it as an exit does, so that no folder stays; any other fault of a script ends it with status 70.
 """
 
 import argparse
@@ -24,10 +24,11 @@ class BadWords(Exception):
 
 def progress(text):
     """One line that is written over, on a terminal alone; without a text it is wiped."""
-    if sys.stderr.isatty():
+    stream = sys.__stderr__
+    if stream and stream.isatty():
         width = shutil.get_terminal_size().columns - 1
-        sys.stderr.write("\r" + text[:width].ljust(width) + "\r" * (not text))
-        sys.stderr.flush()
+        stream.write("\r" + text[:width].ljust(width) + "\r" * (not text))
+        stream.flush()
 
 
 def parser_of(text):
@@ -58,9 +59,14 @@ class Program:
         require(path)
         self.path, self.options = os.path.abspath(path), list(options)
 
+    def options_of(self, what):
+        """The options that a command takes; a kernel is made without a budget."""
+        at = self.options.index("--budget") if what == "kernel" and "--budget" in self.options else len(self.options)
+        return self.options[:at] + self.options[at + 2 :]
+
     def ask(self, what, *words):
         """The status, 0, 1 or 8, and the lines of the report in words; at any other status the script ends as the program did."""
-        done = subprocess.run([self.path, what, *self.options, "--", *words], stdin=subprocess.DEVNULL, capture_output=True, **TEXT)
+        done = subprocess.run([self.path, what, *self.options_of(what), "--", *words], stdin=subprocess.DEVNULL, capture_output=True, **TEXT)
         if done.returncode not in (0, 1, 8):
             sys.stderr.write(done.stderr)
             sys.exit(done.returncode if done.returncode > 0 else NOT_BUILT)
@@ -91,6 +97,7 @@ def write_stanzas(packages):
 def run(main):
     """Runs a script's main, and ends with what it returns, or with the status of its fault."""
     signal.signal(signal.SIGPIPE, signal.SIG_DFL)
+    signal.signal(signal.SIGTERM, lambda *_: sys.exit(128 + signal.SIGTERM))
     sys.stdout.reconfigure(errors="surrogateescape")
     sys.stderr.reconfigure(errors="surrogateescape")
     try:

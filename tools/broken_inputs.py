@@ -1,0 +1,250 @@
+"""Reads the indexes of a report, pairs them by architecture, and studies the pairs side by side, each in a process of its own."""
+
+from __future__ import annotations
+
+import bz2
+import contextlib
+import dataclasses
+import gzip
+import hashlib
+import io
+import lzma
+import multiprocessing
+import multiprocessing.connection
+import multiprocessing.process
+import os
+import pickle
+import re
+import signal
+import sys
+import time
+import traceback
+from collections.abc import Callable, Iterator, Sequence
+from typing import BinaryIO
+
+from broken_causes import Asking, causes_of
+from broken_records import File, Found, Refused, Sets, Study
+from broken_sets import sets_of
+from built import NOT_BUILT
+from command import BadWords, Program, progress
+from debian_index import BadIndex, Index
+
+OPENERS: dict[str, Callable[[str], BinaryIO]] = {".xz": lzma.open, ".gz": gzip.open, ".bz2": bz2.open}
+ARCHITECTURE = re.compile(rb"^Architecture:[ \t]*(\S+)", re.I | re.M)
+PIECE = 1 << 20
+BYTES_FOR_A_BYTE = 6  # of memory, for each byte of the two indexes of an architecture
+UNREADABLE, EMPTY = 5, 2  # statuses: as the program has it for a file that it cannot read; of files that nothing can be done with
+
+
+@dataclasses.dataclass
+class Pair:
+    """The two indexes of an architecture."""
+
+    architecture: str
+    old: str
+    new: str
+
+    def size(self) -> int:
+        return os.path.getsize(self.old) + os.path.getsize(self.new)
+
+
+@dataclasses.dataclass
+class Job:
+    """What each pair is studied with."""
+
+    program: Program
+    folder: str
+    with_sets: bool
+
+
+# Files
+
+
+def plain(path: str, folder: str) -> str:
+    """The path of an index that is not compressed: its own, or that of a decompressed one."""
+    stem, ending = os.path.splitext(path)
+    if ending not in OPENERS:
+        return path
+    inside = os.path.join(folder, "plain%d" % len(os.listdir(folder)))
+    os.mkdir(inside)
+    out = os.path.join(inside, os.path.basename(stem))
+    with OPENERS[ending](path) as packed, open(out, "wb") as file:
+        while piece := packed.read(PIECE):
+            file.write(piece)
+    return out
+
+
+def architecture_of(path: str) -> str | None:
+    """The first architecture in an index that is not `all`; None if there is no package in it."""
+    with open(path, "rb") as file:
+        text, rest = file.read(PIECE), b""
+        if not text.strip():
+            return None
+        while text:
+            cut = text.rfind(b"\n") + 1 or len(text)
+            found = (value.decode("utf-8", "replace") for value in ARCHITECTURE.findall(rest + text[:cut]))
+            if name := next((name for name in found if name != "all"), None):
+                return name
+            rest, text = text[cut:], file.read(PIECE)
+    return "all"
+
+
+class Inputs:
+    """The indexes that were named: pairs, those without a partner, and those that cannot be read."""
+
+    def __init__(self, paths: Sequence[str], folder: str):
+        self.refused: list[Refused] = []
+        self.places: dict[str, list[str]] = {}
+        for path in paths:
+            if place := self.place(path, folder):
+                self.places.setdefault(place[0], []).append(place[1])
+        if len(paths) == 2 and not self.refused:  # two are a pair, whatever they say of themselves
+            old, new = (files for files in ([path] for mine in self.places.values() for path in mine))
+            self.places = {list(self.places)[-1]: old + new}
+        for name, mine in self.places.items():
+            if len(mine) > 2:
+                raise BadWords("%s has more than two indexes: %s" % (name, " ".join(mine)))
+        self.pairs = [Pair(name, *mine) for name, mine in sorted(self.places.items()) if len(mine) == 2]
+        self.alone = {name: os.path.basename(mine[0]) for name, mine in sorted(self.places.items()) if len(mine) == 1}
+
+    def place(self, path: str, folder: str) -> tuple[str, str] | None:
+        """The architecture of an index and the path of its plain text."""
+        try:
+            text = plain(path, folder)
+            name = architecture_of(text)
+        except (OSError, EOFError, lzma.LZMAError) as fault:
+            self.refused.append(Refused(None, "%s: %s" % (path, getattr(fault, "strerror", None) or "not decompressed: %s" % fault), UNREADABLE))
+            return None
+        if name is None:
+            self.refused.append(Refused(None, "%s: no package is in it" % path, EMPTY))
+            return None
+        return name, text
+
+
+# One architecture
+
+
+def file_of(index: Index) -> File:
+    data = memoryview(index.packages[0].data)[1:] if index.packages else b""
+    return File(index.label, hashlib.sha256(data).hexdigest(), len(index.packages), len(index.named))
+
+
+def joined(causes: list[Found], more: list[Found]) -> list[Found]:
+    """The causes of lines, and with them, or after them, those of larger sets."""
+    by_key = {cause.key: cause for cause in causes}
+    for cause in more:
+        if cause.key in by_key:
+            by_key[cause.key].sets = cause.sets
+        else:
+            by_key[cause.key] = cause
+    return list(by_key.values())
+
+
+def study(pair: Pair, job: Job) -> Study:
+    """What NEW breaks of OLD on one architecture."""
+    asking = Asking(job.program, os.path.join(job.folder, pair.architecture))
+    progress("%s: comparing" % pair.architecture)
+    status, broken, left = asking.compare(pair.old, pair.new)
+    old, new = Index(pair.old), Index(pair.new)
+    if 2 * len(new.named) < len(old.named):
+        raise BadWords("%s: %d names, less than half of the %d of %s" % (pair.new, len(new.named), len(old.named), pair.old))
+    causes = causes_of(old, new, broken, asking)
+    sets, more = sets_of(job.program, asking.folder, (old, new), broken, left) if job.with_sets else (None, [])
+    return Study(
+        architecture=pair.architecture, old=file_of(old), new=file_of(new), status=status, broken=len(broken), open=left,
+        causes=joined(causes, more), both=set(old.named) & set(new.named), dropped=set(old.named) - set(new.named), sets=sets,
+        for_all={name for line in broken if len(line) == 1 for name in line if all(p.architecture == "all" for p in new.named[name])},
+    )
+
+
+def study_or_refusal(pair: Pair, job: Job) -> Study | Refused:
+    """The study of a pair, or the line and the status with which the program, or this script, refused it."""
+    start, said = time.monotonic(), io.StringIO()
+    try:
+        with contextlib.redirect_stderr(said):
+            found = study(pair, job)
+    except SystemExit as end:
+        return Refused(pair.architecture, said.getvalue().strip(), end.code)
+    except (BadWords, BadIndex) as fault:
+        return Refused(pair.architecture, str(fault), EMPTY)
+    found.seconds = round(time.monotonic() - start, 1)
+    return found
+
+
+# All of them
+
+
+def free_memory() -> int:
+    try:
+        with open("/proc/meminfo", encoding="ascii") as file:
+            return next(int(line.split()[1]) << 10 for line in file if line.startswith("MemAvailable"))
+    except (OSError, StopIteration):
+        return 1 << 40
+
+
+def processes(pairs: Sequence[Pair], most: int | None) -> int:
+    """How many architectures at once: no more than processors, and than what is free of memory can hold."""
+    widest = max((pair.size() for pair in pairs), default=0) * BYTES_FOR_A_BYTE
+    return max(1, min(len(os.sched_getaffinity(0)), len(pairs), free_memory() // max(1, widest), most or len(pairs)))
+
+
+def work(pair: Pair, job: Job) -> None:
+    """A process of its own, and a group of processes with the program: its result is a file."""
+    os.setpgid(0, 0)
+    signal.signal(signal.SIGTERM, signal.SIG_DFL)
+    try:
+        found = study_or_refusal(pair, job)
+    except Exception:
+        traceback.print_exc()
+        sys.exit(NOT_BUILT)
+    with open(os.path.join(job.folder, pair.architecture, "study"), "wb") as file:
+        pickle.dump(found, file)
+
+
+class Crew:
+    """The processes at work; those that are left when it ends are ended with what they started."""
+
+    def __init__(self, job: Job):
+        self.job = job
+        self.at_work: dict[multiprocessing.process.BaseProcess, Pair] = {}
+
+    def begin(self, pair: Pair) -> None:
+        os.makedirs(os.path.join(self.job.folder, pair.architecture))
+        process = multiprocessing.get_context("fork").Process(target=work, args=(pair, self.job))
+        process.start()
+        with contextlib.suppress(OSError):  # the process does so too, whoever is first
+            os.setpgid(process.pid, process.pid)
+        self.at_work[process] = pair
+
+    def wait(self) -> Iterator[Study | Refused]:
+        """What the processes have found that end next."""
+        ready = multiprocessing.connection.wait([process.sentinel for process in self.at_work])
+        for process in [process for process in self.at_work if process.sentinel in ready]:
+            process.join()
+            pair = self.at_work.pop(process)
+            if process.exitcode:
+                sys.exit(NOT_BUILT)
+            with open(os.path.join(self.job.folder, pair.architecture, "study"), "rb") as file:
+                yield pickle.load(file)
+
+    def end(self) -> None:
+        for process in self.at_work:
+            with contextlib.suppress(ProcessLookupError):
+                os.killpg(process.pid, signal.SIGKILL)
+            process.join()
+
+
+def study_all(pairs: Sequence[Pair], job: Job, at_once: int) -> Iterator[Study | Refused]:
+    """What was found on each architecture, as it ends; the largest are begun first."""
+    todo, crew, done = sorted(pairs, key=lambda pair: pair.size()), Crew(job), 0
+    try:
+        while todo or crew.at_work:
+            while todo and len(crew.at_work) < at_once:
+                crew.begin(todo.pop())
+            for found in crew.wait():
+                done += 1
+                progress("%d of %d architectures done, the last %s" % (done, len(pairs), found.architecture))
+                yield found
+    finally:
+        crew.end()
+        progress("")

@@ -64,7 +64,7 @@ class Allowed:
 
     def rule(self, number: int, text: str) -> Rule:
         """The rule of a line: what stands behind its last names or its key is cut off from the end."""
-        bugs, text, places, most = BUGS.findall(text), NOTE.sub("", text), [], None
+        bugs, text, places, most = BUGS.findall(text), NOTE.sub("", text).rstrip(), [], None
         if found := ON.search(text):
             text, places = text[: found.start()], re.split(r"[\s,]+", found[1])
         if found := MOST.search(text):

@@ -81,11 +81,13 @@ def bug_of(report: Report, cause: Cause) -> str:
     told = ", ".join(counted(number, what[:-1]) for what, number in numbers.items() if number)
     names = affected(cause)
     places = report.places()
-    out += wrapped("Subject: %s: %s of %s cannot be installed in %s" % (cause.sources[0].source if cause.sources else cause.key, told, report.old, report.new), "    ", "")
+    lead = source_text(cause.sources[0]) if cause.sources else cause.key
+    out.append("Subject: %s: %s that %s can install and %s cannot" % (lead, told, report.old, report.new))
     out += wrapped("Suites: %s -> %s, %s, as of %s" % (report.old, report.new, " ".join(cause.on) if len(places) > 1 else places[0], report.made), "    ", "")
     out += [line for source in cause.sources[:8] for line in wrapped("Source: " + source_text(source), "    ", "")]
     part("What changed", [cause.title])
-    part("Why %s can no longer be installed%s (on %s)" % (" and ".join(cause.why.line), " together" * (len(cause.why.line) > 1), cause.told_of), why_lines(cause.why))
+    on = " on " + cause.told_of if len(places) > 1 else ""
+    part("Why %s can no longer be installed%s%s" % (" and ".join(cause.why.line), " together" * (len(cause.why.line) > 1), on), why_lines(cause.why))
     part("Checked", [mended_text(cause)] + ["not confirmed on " + name for name, on in cause.on.items() if not on.confirmed])
     more = ["and %s more" % format(len(names) - MOST_NAMES, ",")] if len(names) > MOST_NAMES else []
     part("Affected packages (%s)" % format(len(names), ","), [" ".join(names[:MOST_NAMES])] + more)

@@ -260,7 +260,8 @@ class Changes:
     @staticmethod
     def needs_change(links: list[Link]) -> Change:
         targets = dict.fromkeys(target.name for _, _, target in links)
-        return NewNeed("need:" + "+".join(sorted(targets)), "new dependency", " and ".join(targets))
+        word = " or " if len({element for _, element, _ in links}) == 1 else " and "
+        return NewNeed("need:" + "+".join(sorted(targets)), "new dependency", word.join(targets))
 
     def new_needs(self, links: list[Link]) -> tuple[Change, list[str]]:
         """The change of dependencies that lead to their targets since OLD, and who depends; all new ones on a target go."""

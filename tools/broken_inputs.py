@@ -147,7 +147,7 @@ def study(pair: Pair, job: Job) -> Study:
     status, broken, left = asking.compare(pair.old, pair.new)
     old, new = Index(pair.old), Index(pair.new)
     if 2 * len(new.named) < len(old.named):
-        raise BadWords("%s: %d names, less than half of the %d of %s" % (pair.new, len(new.named), len(old.named), pair.old))
+        raise BadWords("%s: names: %d, less than half of the %d in %s" % (pair.new, len(new.named), len(old.named), pair.old))
     causes = causes_of(old, new, broken, asking)
     sets, more = sets_of(job.program, asking.folder, (old, new), broken, left) if job.with_sets else (None, [])
     return Study(

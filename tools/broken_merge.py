@@ -104,6 +104,8 @@ class Merge:
             problem.sets = [kinds for kinds, count in zip(problem.sets, counts) if count]
             told.allowed += problem.name_sets - sum(counts)
             problem.name_sets = sum(counts)
+            if self.allowed.has_line(tuple(sorted(problem.example)), place) and problem.sets:
+                problem.example = next(list(line) for line in self.use.lines(told, problem.sets[0]) if not self.allowed.has_line(line, place))
             problems += [problem] if problem.sets else []
         kept = SetsOf(sum(len(p.sets) for p in problems), sum(p.name_sets for p in problems), problems)
         return kept if problems else None
@@ -164,6 +166,8 @@ class Merge:
                 told.absent += 1
             elif line in self.all_lines[place]:
                 told.other_cause += 1
+            elif line in self.free[place]:
+                told.left_out += 1
             else:
                 told.not_broken += 1
         return told

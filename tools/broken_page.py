@@ -13,7 +13,7 @@ from collections.abc import Iterable, Sequence
 from broken_records import Cause, Change, Group, Report, SetsOf, Source
 from broken_text import (
     FRESH, KINDS, all_changes, counted, in_order, made_text, mended_text, number_of, number_rows, open_lines, problem_lines, sets_remarks,
-    title_of, where,
+    sign_of, title_of, where,
 )
 from command import HERE
 from drawing import dot_of, svgs
@@ -156,8 +156,8 @@ class Page:
             return self.number(number_of(cause, place, what))
         off = cause.off[place]
         told = "; ".join("%s: %d" % (name.replace("_", " "), number) for name, number in vars(off).items() if number)
-        sign, kind = ("ok", "ok") if off.not_broken else ("=", "off") if off.other_cause else ("·", "off")
-        return tag("span", self.padded(sign), "n " + kind, title=told)
+        sign = sign_of(off)
+        return tag("span", self.padded(sign), "n ok" if sign == "ok" else "n off", title=told)
 
     def row(self, cause: Cause, what: str) -> str:
         spread, state = where(cause.on, self.places), cause.since.state if cause.since else "same"
@@ -176,7 +176,7 @@ class Page:
         told += [tag("span", esc(spread), "badge spread")] if spread not in ("everywhere", "") else []
         told += [tag("span", "arch: all", "badge all", title="all these names are of packages for all architectures")] if is_all and len(self.places) > 1 else []
         told += [] if all(part.confirmed for part in cause.on.values()) else [tag("span", "not confirmed", "badge warn")]
-        told += [tag("span", "%s use it" % format(cause.use, ","), "badge")] if cause.use is not None else []
+        told += [tag("span", "%s machines" % format(cause.use, ","), "badge")] if cause.use is not None else []
         return " ".join(told) + self.bugs(cause.bugs)
 
     @staticmethod

@@ -228,6 +228,7 @@ class Off:
 
     absent: int = 0
     other_cause: int = 0
+    left_out: int = 0
     not_broken: int = 0
 
 

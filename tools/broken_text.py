@@ -5,7 +5,7 @@ from __future__ import annotations
 import textwrap
 from collections.abc import Iterable, Iterator, Mapping, Sequence
 
-from broken_records import Architecture, Cause, Change, Group, Line, Problem, Report, Source
+from broken_records import Architecture, Cause, Change, Group, Line, Off, Problem, Report, Side, Source
 
 WIDTH = 78
 KINDS = (
@@ -50,6 +50,11 @@ def in_order(causes: Iterable[Cause], what: str) -> list[tuple[Cause, list[Cause
     return [(head, sorted(below.get(head.key, ()), key=lambda c: (-size[c.key], c.key))) for head in heads]
 
 
+def sign_of(off: Off) -> str:
+    """What becomes of a cause's lines on an architecture that does not have it, in a sign."""
+    return "ok" if off.not_broken else "=" if off.other_cause else "-" if off.left_out else "."
+
+
 def told_change(numbers: Mapping[str, int], sign: str, why: Mapping[str, int], every: Sequence[str]) -> str:
     """`+3 everywhere`, or each number with its architectures; and of lines that are gone, why."""
     by_number: dict[int, list[str]] = {}
@@ -83,11 +88,17 @@ def mended_text(cause: Cause) -> str:
 def problem_lines(problem: Problem) -> list[str]:
     """A problem: the example that most dependencies name, and its sides."""
     lines = ["%s: %s" % (counted(problem.name_sets, "set"), " + ".join(problem.example))]
-    for side in problem.sides:
-        verb = "name depends on" if side.names == 1 else "names depend on"
-        more = ", .." if side.names > len(side.first) else ""
-        lines.append("%s %s %s: %s%s" % (format(side.names, ","), verb, " or ".join(side.needs), ", ".join(side.first), more))
-    return lines
+    return lines + [side_text(side) for side in problem.sides]
+
+
+def side_text(side: Side) -> str:
+    """One side of a problem: how many names it has, and those that most dependencies name."""
+    if side.first == side.needs:
+        return side.first[0]
+    among = bool(set(side.needs) & set(side.first))
+    verb = ("is or " * among + "depends on") if side.names == 1 else ("are or " * among + "depend on")
+    more = ", .." if side.names > len(side.first) else ""
+    return "%s %s %s: %s%s" % (counted(side.names, "name"), verb, " or ".join(side.needs), ", ".join(side.first), more)
 
 
 def sets_cell(one: Architecture) -> str:
@@ -120,7 +131,7 @@ def number_rows(report: Report, causes: Sequence[Cause]) -> Iterator[tuple[str, 
     yield "larger sets broken", [sets_cell(one) for one in ones]
     yield "causes", [format(len(parts[one.architecture]), ",") for one in ones]
     if any(one.allowed_lines for one in ones):
-        yield "lines allowed", [format(len(one.allowed_lines), ",") for one in ones]
+        yield "lines left out", [format(len(one.allowed_lines), ",") for one in ones]
     if any(one.open or one.sets and one.sets.open for one in ones):
         yield "undecided", [format(len(one.open) + len(one.sets.open if one.sets else ()), ",") for one in ones]
     if report.since:
@@ -243,7 +254,8 @@ class Text:
         if since.moved:
             self.say(*wrapped("%s stand under another cause than then" % counted(sum(moved.lines for moved in since.moved), "line"), "    ", "  "))
         for names in since.dropped:
-            told = "%s dropped %s: %s" % (counted(len(names.names), "name"), where(names.on, self.places), more(names.names, 2 * self.examples))
+            on = " " + where(names.on, self.places) if len(self.places) > 1 else ""
+            told = "%s dropped%s: %s" % (counted(len(names.names), "name"), on, more(names.names, 2 * self.examples))
             self.say(*wrapped(told, "    ", "  "))
 
     def changed(self, word: str, key: str, change: Change, sign: str, bugs: Sequence[str]) -> None:
@@ -275,6 +287,8 @@ class Text:
 
     def legend(self, what: str, causes: Sequence[Cause]) -> None:
         told = [". such names are not there", "ok they are, and are not broken", "= other cause"] if len(self.places) > 1 else []
+        if any(self.cell(cause, place, what) == "-" for cause in causes for place in cause.off):
+            told.append("- left out")
         if what == "names" and len(self.places) > 1 and any(self.marks_all(cause, place) for cause in causes for place in cause.on):
             told.append("a all of them are packages for all architectures")
         if told:
@@ -283,7 +297,7 @@ class Text:
     def row(self, cause: Cause, what: str) -> None:
         cells = " ".join("%*s" % (width, self.cell(cause, name, what)) for width, name in zip(self.widths, self.places))
         mark = "  " + cause.since.state.upper() if cause.since and cause.since.state in FRESH else ""
-        use = "  (%s use it)" % format(cause.use, ",") if cause.use is not None else ""
+        use = "  (%s machines)" % format(cause.use, ",") if cause.use is not None else ""
         room = max(30, 96 - len(cells))
         name = cause.key if len(self.places) > 1 else cause.title
         key = name if len(name) <= room else name[: room - 2] + ".."
@@ -305,8 +319,7 @@ class Text:
         if place in cause.on:
             mark = "a" if what == "names" and len(self.places) > 1 and self.marks_all(cause, place) else ""
             return str(number_of(cause, place, what) or "") + mark
-        off = cause.off[place]
-        return "ok" if off.not_broken else "=" if off.other_cause else "."
+        return sign_of(cause.off[place])
 
     # Causes
 

@@ -5,7 +5,7 @@ from __future__ import annotations
 import itertools
 import os
 import re
-from collections.abc import Callable, Iterable, Mapping
+from collections.abc import Callable, Iterable, Iterator, Mapping
 
 from broken_records import Line, Sets, SetsOf
 from command import BadWords
@@ -40,4 +40,9 @@ class Use:
     @staticmethod
     def count(sets: Sets, kinds: Iterable[int], keep: Callable[[Line], bool]) -> int:
         """How many sets of names of these kinds are to be kept."""
-        return sum(map(keep, (tuple(sorted(line)) for line in itertools.product(*(sets.kinds[str(kind)] for kind in kinds)))))
+        return sum(map(keep, Use.lines(sets, kinds)))
+
+    @staticmethod
+    def lines(sets: Sets, kinds: Iterable[int]) -> Iterator[Line]:
+        """All sets of names of these kinds."""
+        return (tuple(sorted(line)) for line in itertools.product(*(sets.kinds[str(kind)] for kind in kinds)))

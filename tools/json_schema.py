@@ -12,7 +12,7 @@ from typing import Any
 TYPES: dict[str, tuple[type, ...]] = {
     "object": (dict,), "array": (list, tuple), "string": (str,), "integer": (int,), "number": (int, float), "boolean": (bool,), "null": (type(None),),
 }
-SAID = {"$schema", "$id", "$defs", "title", "description"}
+SAID = {"$schema", "$id", "$defs", "title", "description", "required"}
 
 
 def is_of(value: Any, name: str) -> bool:
@@ -32,7 +32,6 @@ TESTS: dict[str, Callable[[Any, Any], bool]] = {
     "minItems": lambda value, wanted: not of_type(value, "array") or len(value) >= wanted,
     "maxItems": lambda value, wanted: not of_type(value, "array") or len(value) <= wanted,
     "pattern": lambda value, wanted: not isinstance(value, str) or re.search(wanted, value) is not None,
-    "required": lambda value, wanted: not isinstance(value, dict) or all(key in value for key in wanted),
 }
 
 
@@ -65,5 +64,7 @@ def faults(value: Any, schema: dict, root: dict | None = None, where: str = "") 
         elif key in INNER:
             for place, part, one in inner(value, schema, key):
                 yield from faults(part, one, root, where + place)
+        elif key == "required" and isinstance(value, dict):
+            yield from ("%s: no %s" % (where.lstrip(".") or "all", name) for name in wanted if name not in value)
         elif key not in SAID and not TESTS[key](value, wanted):
             yield "%s: not as `%s` wants it" % (where.lstrip(".") or "all", key)

@@ -109,7 +109,7 @@ class Comparing:
         new, gone = self.new.get(key, {}), self.gone.get(key, {})
         return Change(
             state=self.state(key, known), new={place: len(lines) for place, lines in new.items()},
-            gone={place: len(lines) for place, lines in gone.items()}, why_gone=dict(self.why_gone[key]) if gone else {},
+            gone={place: len(lines) for place, lines in gone.items()}, why_gone=dict(sorted(self.why_gone[key].items())) if gone else {},
             new_lines=groups_of(new), gone_lines=groups_of(gone), new_sets=self.new_sets.get(key, {}), gone_sets=self.gone_sets.get(key, {}),
         )
 
@@ -132,7 +132,7 @@ class Comparing:
             first_time=[place for place in self.now if place not in self.then], not_this_time=[place for place in self.then if place not in self.now],
             lines={place: self.line_change(place) for place in self.common}, dropped=self.dropped(),
             ended=[Ended(c.key, c.id, c.kind, c.title, c.sources, c.bugs, self.change(c.key, known)) for c in ended],
-            moved=[MovedLines(was, new, lines) for (was, new), lines in self.moved.most_common()],
+            moved=[MovedLines(was, new, lines) for (was, new), lines in sorted(self.moved.items(), key=lambda item: (-item[1], item[0]))],
         )
 
 

@@ -299,8 +299,7 @@ class Text:
         mark = "  " + cause.since.state.upper() if cause.since and cause.since.state in FRESH else ""
         use = "  (%s machines)" % format(cause.use, ",") if cause.use is not None else ""
         room = max(30, 96 - len(cells))
-        name = cause.key if len(self.places) > 1 else cause.title
-        key = name if len(name) <= room else name[: room - 2] + ".."
+        key = cause.key if len(cause.key) <= room else cause.key[: room - 2] + ".."
         self.say("%s  %s%s%s%s" % (cells, key, use, mark, self.bugs(cause.bugs)))
 
     def rest(self, causes: Sequence[Cause], what: str, words: str) -> None:

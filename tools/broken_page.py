@@ -80,7 +80,7 @@ class Page:
         rows = [tag("tr", tag("th") + "".join(tag("th", esc(name), "n") for name in self.places))]
         for head, cells in number_rows(self.report, self.open):
             told = "".join(tag("td", esc(cell), "n" + (" zero" if cell.strip("+-") in ("0", "") else "")) for cell in cells)
-            rows.append(tag("tr", tag("th", esc(head)) + told))
+            rows.append(tag("tr", tag("th", esc(head).replace("  ", 2 * HARD)) + told))
         remarks = ["%s: %s." % (one.architecture, told) for one in self.report.architectures for told in sets_remarks(one)]
         return tag("table", "".join(rows), "suites") + "".join(tag("p", esc(told), "quiet") for told in remarks)
 
@@ -140,20 +140,21 @@ class Page:
         """The causes of several changes that stand under one, folded."""
         if not causes:
             return ""
-        cells = " ".join(self.number(sum(number_of(cause, place, what) for cause in causes)) for place in self.places)
+        cells = " ".join(self.number(sum(number_of(cause, place, what) for cause in causes), place) for place in self.places)
         told = tag("span", tag("span", "and %s of this with other changes" % counted(len(causes), "cause"), "quiet"), "told")
         return tag("details", tag("summary", tag("div", cells + " " + told)) + "".join(self.row(cause, what) for cause in causes), "more")
 
-    def number(self, number: int) -> str:
-        """A cell; the larger its number, the warmer."""
+    def number(self, number: int, place: str) -> str:
+        """A cell; the larger its number, the warmer. Its architecture stands in it if the page is too narrow for columns."""
         if not number:
             return tag("span", self.padded(""), "n")
         heat = min(0.65, 0.10 + 0.55 * math.log(number + 1) / math.log(self.most + 1)) if self.most > 1 else 0.3
-        return tag("span", self.padded(format(number, ",")), "n on", style="--heat:%.2f" % heat)
+        label = place if len(self.places) > 1 else None
+        return tag("span", self.padded(format(number, ",")), "n on", style="--heat:%.2f" % heat, data_place=label)
 
     def cell(self, cause: Cause, place: str, what: str) -> str:
         if place in cause.on:
-            return self.number(number_of(cause, place, what))
+            return self.number(number_of(cause, place, what), place)
         off = cause.off[place]
         told = "; ".join("%s: %d" % (name.replace("_", " "), number) for name, number in vars(off).items() if number)
         sign = sign_of(off)
@@ -219,7 +220,7 @@ class Page:
         text = "".join(tag("pre", esc("\n".join(chain))) for chain in cause.chains)
         if cause.key not in self.pictures:
             return text
-        return tag("div", self.pictures[cause.key], "picture") + folded("as text", text)
+        return folded("as text", text) + tag("div", self.pictures[cause.key], "picture")
 
     def group(self, group: Group) -> str:
         told = tag("div", esc(" ".join(group.names)), "names") if group.names else ""

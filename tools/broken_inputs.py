@@ -98,14 +98,18 @@ class Inputs:
         for path in paths:
             if place := self.place(path, folder):
                 self.places.setdefault(place[0], []).append(place[1])
-        if len(paths) == 2 and not self.refused:  # two are a pair, whatever they say of themselves
-            old, new = (files for files in ([path] for mine in self.places.values() for path in mine))
-            self.places = {list(self.places)[-1]: old + new}
+        self.join_two()
         for name, mine in self.places.items():
             if len(mine) > 2:
                 raise BadWords("%s has more than two indexes: %s" % (name, " ".join(mine)))
         self.pairs = [Pair(name, *mine) for name, mine in sorted(self.places.items()) if len(mine) == 2]
         self.alone = {name: os.path.basename(mine[0]) for name, mine in sorted(self.places.items()) if len(mine) == 1}
+
+    def join_two(self) -> None:
+        """Of two indexes alone one may have nothing but packages for all architectures: they are a pair all the same."""
+        names = [name for name in self.places if name != "all"]
+        if len(self.places) == 2 and len(names) == 1 and all(len(mine) == 1 for mine in self.places.values()):
+            self.places = {names[0]: [path for mine in self.places.values() for path in mine]}
 
     def place(self, path: str, folder: str) -> tuple[str, str] | None:
         """The architecture of an index and the path of its plain text."""

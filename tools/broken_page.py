@@ -10,7 +10,7 @@ import math
 import os
 from collections.abc import Iterable, Sequence
 
-from broken_records import Cause, Change, Group, Report, SetsOf, Source
+from broken_records import Cause, Change, Ended, Group, Report, SetsOf, Source
 from broken_text import (
     FRESH, KINDS, all_changes, counted, in_order, made_text, mended_text, number_of, number_rows, open_lines, problem_lines, sets_remarks,
     sign_of, title_of, where,
@@ -101,7 +101,7 @@ class Page:
             told.append(tag("p", esc("%s dropped %s:" % (counted(len(names.names), "name"), place_of(names.on, self.places)))) + name_list(names.names))
         return tag("h2", esc("Since %s" % since.made), id="since") + "".join(told)
 
-    def changed(self, word: str, cause: Cause, change: Change, sign: str, link: bool = True) -> str:
+    def changed(self, word: str, cause: Cause | Ended, change: Change, sign: str, link: bool = True) -> str:
         key = tag("a", esc(cause.key), href="#" + cause.id) if link else esc(cause.key)
         told = tag("td", tag("span", word, "badge " + word)) + tag("td", key + self.bugs(cause.bugs))
         return tag("tr", told + tag("td", esc(all_changes(change, sign, self.places))))

@@ -101,9 +101,13 @@ def side_text(side: Side) -> str:
     return "%s %s %s: %s%s" % (counted(side.names, "name"), verb, " or ".join(side.needs), ", ".join(side.first), more)
 
 
-def sets_cell(one: Architecture) -> str:
+def sets_cell(report: Report, one: Architecture) -> str:
     """The number of lost sets of an architecture; a question mark if it is not known, and a hyphen if none were looked for."""
-    return "-" if not one.sets else "?" if one.sets.status == 8 and not one.sets.kind_sets else format(one.sets.name_sets - one.sets.allowed, ",")
+    if not one.sets:
+        return "-"
+    left_out = sum(cause.on[one.architecture].name_sets for cause in report.causes if cause.allowed and one.architecture in cause.on)
+    unknown = one.sets.status == 8 and not one.sets.kind_sets
+    return "?" if unknown else format(one.sets.name_sets - one.sets.allowed - left_out, ",")
 
 
 def sets_remarks(one: Architecture) -> list[str]:
@@ -128,7 +132,7 @@ def number_rows(report: Report, causes: Sequence[Cause]) -> Iterator[tuple[str, 
     if any(one.architecture != "all" for one in ones):
         yield "  of architecture all", summed("all")
     yield "pairs broken", summed("pairs")
-    yield "larger sets broken", [sets_cell(one) for one in ones]
+    yield "larger sets broken", [sets_cell(report, one) for one in ones]
     yield "causes", [format(len(parts[one.architecture]), ",") for one in ones]
     if any(one.allowed_lines for one in ones):
         yield "lines left out", [format(len(one.allowed_lines), ",") for one in ones]

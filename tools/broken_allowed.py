@@ -63,7 +63,7 @@ class Allowed:
         return BadWords("%s: line %d: %s" % (self.path, number, why))
 
     def rule(self, number: int, text: str) -> Rule:
-        """The rule of a line: what stands behind its last names or its key is cut off from the end."""
+        """The rule of a line: what follows its names or its key is cut off from the end."""
         bugs, text, places, most = BUGS.findall(text), NOTE.sub("", text).rstrip(), [], None
         if found := ON.search(text):
             text, places = text[: found.start()], re.split(r"[\s,]+", found[1])

@@ -55,7 +55,7 @@ class Asking:
         return set(self.compare(old, new)[1]).intersection(lines)
 
     def confirms(self, lines: Sequence[Line], index: Index) -> bool:
-        """Whether the lines are broken in the slice, judged against an index where each name is bare."""
+        """Whether the lines are broken in the slice, judged against an index in which each name is bare."""
         names = names_of(lines)
         bare = "\n".join("Package: %s\nVersion: 1\n" % name for name in names)
         return set(self.compare(self.keep("mended", bare), self.keep("slice", index.slice(names)))[1]).issuperset(lines)
@@ -184,7 +184,7 @@ class Search:
             self.put(line, [self.reason(line, clashes)])
 
     def reason(self, line: Line, clashes: list[Clash]) -> Reason:
-        """The reason where conflicts hold a line, though no change was seen, or the program left it open."""
+        """The reason of a line that conflicts hold, or of one for which no change was seen or that the program left open."""
         if found := self.changes.conflict(line, clashes, self.needs):
             return found
         key = "held:" + "+".join(sorted({package.name for clash in clashes for package in clash}))

@@ -13,7 +13,7 @@ from broken_allowed import Allowed
 from broken_causes import way_lines
 from broken_groups import groups_of, groups_of_names
 from broken_records import (
-    FORMAT, LINKS, Architecture, Cause, Found, Line, Off, On, Otherwise, Refused, Report, SetsOf, Source, Study,
+    FORMAT, LINKS, Architecture, Cause, Found, Line, Off, On, Otherwise, Problem, Refused, Report, Sets, SetsOf, Source, Study,
 )
 from broken_use import Use
 from built import TOP
@@ -91,24 +91,26 @@ class Merge:
                 self.sets[found.key][place] = sets
 
     def is_elsewhere(self, place: str, line: Line) -> bool:
-        """Whether a line is of a package for all architectures, and of an architecture where these do not count."""
+        """Whether a line is of a package for all architectures, and of an architecture on which these do not count."""
         return bool(self.all_on) and place not in self.all_on and len(line) == 1 and line[0] in self.studies[place].for_all
 
     def kept_sets(self, place: str, sets: SetsOf) -> SetsOf | None:
         """The sets less those of which each set of names may break."""
         if not any(size > 2 for size in self.allowed.sizes()):
             return sets
-        told, problems = self.studies[place].sets, []
-        for problem in sets.problems:
-            counts = [self.use.count(told, kinds, lambda line: not self.allowed.has_line(line, place)) for kinds in problem.sets]
-            problem.sets = [kinds for kinds, count in zip(problem.sets, counts) if count]
-            told.allowed += problem.name_sets - sum(counts)
-            problem.name_sets = sum(counts)
-            if self.allowed.has_line(tuple(sorted(problem.example)), place) and problem.sets:
-                problem.example = next(list(line) for line in self.use.lines(told, problem.sets[0]) if not self.allowed.has_line(line, place))
-            problems += [problem] if problem.sets else []
-        kept = SetsOf(sum(len(p.sets) for p in problems), sum(p.name_sets for p in problems), problems)
+        every = self.studies[place].sets
+        problems = [kept for problem in sets.problems if (kept := self.kept_problem(place, problem, every))]
+        kept = SetsOf(sum(len(problem.sets) for problem in problems), sum(problem.name_sets for problem in problems), problems)
+        every.allowed += sets.name_sets - kept.name_sets
         return kept if problems else None
+
+    def kept_problem(self, place: str, problem: Problem, every: Sets) -> Problem | None:
+        """A problem less the sets that may break; its example is one that is left."""
+        left = [[line for line in every.lines(kinds) if not self.allowed.has_line(line, place)] for kinds in problem.sets]
+        sets = [kinds for kinds, lines in zip(problem.sets, left) if lines]
+        lines = [line for lines in left for line in lines]
+        example = tuple(sorted(problem.example))
+        return Problem(list(example if example in lines else lines[0]), problem.sides, sets, len(lines)) if lines else None
 
     # What may be
 

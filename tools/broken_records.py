@@ -4,10 +4,12 @@ from __future__ import annotations
 
 import dataclasses
 import functools
+import itertools
 import json
 import os
 import types
 import typing
+from collections.abc import Iterable, Iterator
 
 from built import TOP
 from command import BadWords
@@ -133,6 +135,10 @@ class Sets:
     no_cause: list[list[str]] = dataclasses.field(default_factory=list)
     kinds: dict[str, list[str]] = dataclasses.field(default_factory=dict)
     allowed: int = 0
+
+    def lines(self, kinds: Iterable[int]) -> Iterator[Line]:
+        """All sets of names with one of each of these kinds."""
+        return (tuple(sorted(line)) for line in itertools.product(*(self.kinds[str(kind)] for kind in kinds)))
 
 
 # What one architecture gives to the report

@@ -182,7 +182,7 @@ def wrapped(text: str, indent: str = "", first: str | None = None, lines: int | 
 
 
 class Text:
-    """The report as lines of text, of which `shown` causes of each kind and `examples` of each are told."""
+    """The report as lines of text, with `shown` causes of each kind and `examples` of each."""
 
     def __init__(self, report: Report, shown: int, examples: int):
         self.report, self.shown, self.examples = report, shown, examples
@@ -273,7 +273,7 @@ class Text:
     # The table
 
     def table(self, what: str, words: str) -> list[Cause]:
-        """The causes with such lines and the architectures; the causes that are told in full."""
+        """The causes with such lines and the architectures; the causes that follow in full."""
         ordered = in_order(self.causes, what)
         if not ordered:
             return []

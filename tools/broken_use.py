@@ -2,12 +2,11 @@
 
 from __future__ import annotations
 
-import itertools
 import os
 import re
-from collections.abc import Callable, Iterable, Iterator, Mapping
+from collections.abc import Iterable, Mapping
 
-from broken_records import Line, Sets, SetsOf
+from broken_records import Line, SetsOf
 from command import BadWords
 from debian_index import TEXT
 
@@ -36,13 +35,3 @@ class Use:
             return None
         examples = [problem.example for part in sets.values() for problem in part.problems]
         return max(map(self.of_line, [*lines, *examples]), default=0)
-
-    @staticmethod
-    def count(sets: Sets, kinds: Iterable[int], keep: Callable[[Line], bool]) -> int:
-        """How many sets of names of these kinds are to be kept."""
-        return sum(map(keep, Use.lines(sets, kinds)))
-
-    @staticmethod
-    def lines(sets: Sets, kinds: Iterable[int]) -> Iterator[Line]:
-        """All sets of names of these kinds."""
-        return (tuple(sorted(line)) for line in itertools.product(*(sets.kinds[str(kind)] for kind in kinds)))

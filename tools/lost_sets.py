@@ -177,7 +177,7 @@ class Parts:
         return 1 << self.number[what]
 
     def bits(self, start: int) -> Bits:
-        """The parts of a class; a feature without conflicts bears on nothing. Choices that a feature meets count too: what a part implies stays."""
+        """The parts of a class; a feature without conflicts bears on nothing. A choice that a feature meets is a part too."""
         found = 0
         for c in self.kernel.features(start):
             if self.kernel.against[c]:

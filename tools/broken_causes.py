@@ -18,6 +18,7 @@ from needs import Needs
 
 MOST_CHANGES = 12  # of one cause
 MOST_TRIES = 40  # for the lines that a cause does not mend
+MOST_BYTES = 200_000_000  # of slices that are tried for all such lines; trixie to sid takes a fourth of it
 
 
 def names_of(lines: Iterable[Line]) -> tuple[str, ...]:
@@ -28,12 +29,12 @@ class Asking:
     """The program, asked about slices of an index."""
 
     def __init__(self, program: Program, folder: str):
-        self.program, self.folder = program, folder
+        self.program, self.folder, self.written = program, folder, 0
 
     def keep(self, name: str, text: str) -> str:
         path = os.path.join(self.folder, name)
         with open(path, "w", **TEXT) as file:
-            file.write(text)
+            self.written += file.write(text)
         return path
 
     def compare(self, old_path: str, new_path: str) -> tuple[int, list[Line], list[Line]]:
@@ -197,19 +198,30 @@ class Search:
 
     def refine(self) -> None:
         """Has each cause tried; lines that it does not mend go to a cause of all the changes that they need."""
-        todo = list(self.causes.values())
+        todo = sorted(self.causes.values(), key=lambda cause: (-len(cause.lines), cause.key()))
+        rests = []
         for place, cause in enumerate(todo, 1):
             progress("trying cause %d of %d" % (place, len(todo)))
-            self.try_cause(cause)
+            rests.append(self.try_cause(cause))
+        self.limit = self.asking.written + MOST_BYTES
+        for cause, rest in zip(todo, rests):
+            self.sort_rest(cause, rest)
 
-    def try_cause(self, cause: Cause) -> None:
+    def try_cause(self, cause: Cause) -> set[Line]:
+        """The lines that the cause does not mend."""
         lines = sorted(cause.lines)
         cause.mended |= self.asking.mends(lines, self.new, cause.strike()) if cause.strike() else set()
         rest = set(lines) - cause.mended
         cause.confirmed = not rest or self.asking.confirms(lines, self.new)
+        return rest
+
+    def sort_rest(self, cause: Cause, rest: set[Line]) -> None:
         for _ in range(MOST_TRIES):
-            if rest:
+            if rest and self.asking.written < self.limit:
+                progress("sorting lines that one change does not mend, %d of %s" % (len(rest), cause.key()))
                 rest -= self.move_on(cause, min(rest), rest)
+        if rest:
+            cause.held["what else holds them was not looked for"] = len(rest)
 
     def move_on(self, cause: Cause, line: Line, rest: set[Line]) -> set[Line]:
         """Finds what else holds a line that the cause does not mend; the lines that all of it mends go to a cause of their own."""

@@ -205,7 +205,7 @@ class Changes:
         change, thing = self.fate(owner, element)
         change = self.keep(change)
         change.things[thing] = True
-        for other, lacking in self.unmet_of[change.key]:
+        for other, lacking in () if change.strike else self.unmet_of[change.key]:  # once for all names of the change
             change.strike_need(other, lacking)
         return Reason(change, [chain], ["%s (source %s) depends on %s" % (owner, owner.source, element)])
 

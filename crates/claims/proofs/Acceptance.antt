@@ -27,7 +27,7 @@ use Rattle.repo_model.specs.declared.fault.IndexFault.TheVariants.{MissingPackag
 use Rattle.repo_model.proofs.{Accepted.{AreSingle}, Refusing.{none_behind}}
 use Rattle.coinst_words.specs.Usage.{Text}
 use Rattle.claims.specs.{Control.{fields, name_key, field_value, AreDistinct, IsStanza}, Spelling.{WritesAlternatives, WritesAtom, WritesProvide}}
-use Rattle.claims.specs.{Index.{relation_elements, FitsHome, Says}, Laws.{IndexesAreAccepted, SaysTheSame}}
+use Rattle.claims.specs.{Index.{relation_elements, FitsHome, Says, SaysTheSame}, Laws.{IndexesAreAccepted}}
 use Rattle.stanza_reader.proofs.LineLemmas.{cut_later}
 use Rattle.deb_version.specs.Order.{version_order}
 use Rattle.claims.proofs.Control.{groups_are_theirs, group_is_read, name_whole, none_of, shaped}

@@ -25,7 +25,7 @@ use Rattle.repo_model.proofs.Accepted as accepting
 use Rattle.repo_model.proofs.{Accepted.{AreSingle}, Steps.{home_of-push}, WellFormed.{none_of, facts_well_formed}}
 use Rattle.coinst_words.specs.Usage.{Text}
 use Rattle.claims.specs.{Control.{stanza_groups, field_value}, Spelling.{WritesAlternatives, WritesAtom, WritesProvide}}
-use Rattle.claims.specs.{Index.{relation_elements, FitsHome, Says, IndexSays}, Laws.{IndexesAreOne, IndexesAreRead, SaysTheSame}}
+use Rattle.claims.specs.{Index.{relation_elements, FitsHome, Says, IndexSays, SaysTheSame}, Laws.{IndexesAreOne, IndexesAreRead}}
 use Rattle.claims.proofs.{Control.{groups_are_theirs, group_is_read, IsRead}, Spelling.{spellings_are_read}, Values.{key, kept_value, value_is}}
 
 -- lists side by side
@@ -42,7 +42,7 @@ zip_append R [] (y ∷ ys) more others z w = absurd z
 zip_append R (x ∷ xs) [] more others z w = absurd z
 zip_append R (x ∷ xs) (y ∷ ys) more others z w = (z.0, zip_append R xs ys more others z.1 w)
 
-zip_in : {A B : Type 0} (R : A → B → Type 0) (xs : List A) (ys : List B) (y : B) → AllZip R xs ys → In y ys → (x : A) × In x xs × R x y
+pub zip_in : {A B : Type 0} (R : A → B → Type 0) (xs : List A) (ys : List B) (y : B) → AllZip R xs ys → In y ys → (x : A) × In x xs × R x y
 zip_in R [] [] y z i = absurd (In_none i)
 zip_in R [] (w ∷ ys) y z i = absurd z
 zip_in R (x ∷ xs) [] y z i = absurd z
@@ -225,7 +225,7 @@ walk all before (Err fault ∷ more) is f none =
     let never : Some (Stanza fault) ≡ None = early (length (take (length before) all)) (Some (Stanza fault)) both.0 in
     absurd (let no : ⊥ = cc in no)
 
-zip_ok : (groups : List (List Line)) (stanzas : List RawStanza) → map stanza_of groups ≡ map ok stanzas → AllZip (λ g s. stanza_of g ≡ Ok s) groups stanzas
+pub zip_ok : (groups : List (List Line)) (stanzas : List RawStanza) → map stanza_of groups ≡ map ok stanzas → AllZip (λ g s. stanza_of g ≡ Ok s) groups stanzas
 zip_ok [] [] e = tt
 zip_ok [] (s ∷ ss) e = absurd (let no : ⊥ = cc in no)
 zip_ok (g ∷ gs) [] e = absurd (let no : ⊥ = cc in no)

@@ -82,19 +82,15 @@ impl Shelf for MemShelf {
     ghost use Rattle.std.proofs.Common.{rules};
     ghost use Rattle.byte_flow.specs.MemShelf.{Read, Started, faults_of, files_of, is_waiting, moved_of, rest_of};
 
-    ghost contents = { λ s. Some (files_of s) };
-
-    ghost rest = { λ s. Some (rest_of s) };
-
-    ghost faults = { faults_of };
-
-    ghost moved = { moved_of };
-
-    ghost is_quiet = { λ s. is_waiting s ≡ false };
-
-    ghost start_gives = { Started };
-
-    ghost read_gives = { Read };
+    ghost model = { record {
+      contents = λ s. Some (files_of s);
+      rest = λ s. Some (rest_of s);
+      faults = faults_of;
+      moved = moved_of;
+      is_quiet = λ s. is_waiting s ≡ false;
+      start_gives = Started;
+      read_gives = Read;
+    } };
 
     ghost quiet_tells = { λ s _. Prim.search rules };
 

@@ -87,13 +87,7 @@ impl Sink for MemSink {
     ghost use Rattle.std.specs.Prelude.{Some};
     ghost use Rattle.byte_flow.specs.MemSink.{Written, faults_of, room_of, taken_of};
 
-    ghost taken = { λ s. Some (taken_of s) };
-
-    ghost faults = { faults_of };
-
-    ghost room = { room_of };
-
-    ghost write_gives = { Written };
+    ghost model = { record { taken = λ s. Some (taken_of s); faults = faults_of; room = room_of; write_gives = Written } };
 
     ghost counted = { λ s. s.faults.fits };
 

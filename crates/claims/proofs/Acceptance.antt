@@ -21,13 +21,13 @@ use Rattle.stanza_reader.specs.declared.stanza.FieldKind.TheVariants.{Package, V
 use Rattle.stanza_reader.specs.{declared.stanza.RawField.{RawField}, declared.stanza.RawStanza.{RawStanza}}
 use Rattle.stanza_reader.specs.declared.fault.StanzaFault.TheVariants.{LoneContinuation, Repeated}
 use Rattle.repo_model.specs.{Facts.{facts_of, is_all, is_same_package, architecture_of}, Fields.{field_of}}
-use Rattle.repo_model.specs.FirstFault.{first_some, missing, unless_good, bad_value, unless_said, bad_relation, presence_fault, value_fault, own_fault, duplicate_fault, mixed_fault, is_at_home, home_of, stanza_fault, reading_fault, fault_behind, faults_from, first_fault, stanzas_in}
+use Rattle.repo_model.specs.FirstFault.{first_present, missing, unless_good, bad_value, unless_said, bad_relation, presence_fault, value_fault, own_fault, duplicate_fault, mixed_fault, is_at_home, home_of, stanza_fault, reading_fault, fault_behind, faults_from, first_fault, stanzas_in}
 use Rattle.repo_model.specs.{Limits.{most_packages}, Stanzas.{stanza_at, no_stanza}, declared.fault.IndexFault.{IndexFault}}
 use Rattle.repo_model.specs.declared.fault.IndexFault.TheVariants.{MissingPackage, MissingVersion, BadPackage, BadVersion, BadArchitecture, BadRelation, Duplicate, Mixed, TooMany}
 use Rattle.repo_model.proofs.{Accepted.{AreSingle}, Refusing.{none_behind}}
 use Rattle.coinst_words.specs.Usage.{Text}
 use Rattle.claims.specs.{Control.{fields, name_key, field_value, AreDistinct, IsStanza}, Spelling.{WritesAlternatives, WritesAtom, WritesProvide}}
-use Rattle.claims.specs.{Index.{relation_elements, FitsHome, Says}, Laws.{IndexesAreAccepted, SaysTheSame}}
+use Rattle.claims.specs.{Index.{relation_elements, FitsHome, Says, SaysTheSame}, Laws.{IndexesAreAccepted}}
 use Rattle.stanza_reader.proofs.LineLemmas.{cut_later}
 use Rattle.deb_version.specs.Order.{version_order}
 use Rattle.claims.proofs.Control.{groups_are_theirs, group_is_read, name_whole, none_of, shaped}
@@ -267,7 +267,7 @@ mixed_none : (home : Option Text) (before : List RawStanza) (s : RawStanza) → 
 unfolding mixed_fault home_of
 mixed_none home before s earlier own = go (field_of Architecture s) refl
   where
-    known : (field : RawField) → home ≡ Some field.value → (it : Option Text) → first_some (map architecture_of before) ≡ it → is_at_home it field.value ≡ true
+    known : (field : RawField) → home ≡ Some field.value → (it : Option Text) → first_present (map architecture_of before) ≡ it → is_at_home it field.value ≡ true
     known field same None e = refl
     known field same (Some h) e =
         let first = first_there before h e in
@@ -277,16 +277,16 @@ mixed_none home before s earlier own = go (field_of Architecture s) refl
           | inr at ↦ (bytes_eq-Decides field.value h).1 (same_text field.value h (sym same ∙ at ∙ ap Some f.3))
         ]
 
-    kept : (field : RawField) → field_of Architecture s ≡ Some field → (is_all field.value || is_at_home (first_some (map architecture_of before)) field.value) ≡ true
+    kept : (field : RawField) → field_of Architecture s ≡ Some field → (is_all field.value || is_at_home (first_present (map architecture_of before)) field.value) ≡ true
     kept field at = elim (own field at) [
-      | inl all ↦ ap (λ b. b || is_at_home (first_some (map architecture_of before)) field.value) all
-      | inr same ↦ or_last (is_all field.value) (is_at_home (first_some (map architecture_of before)) field.value) (known field same (first_some (map architecture_of before)) refl)
+      | inl all ↦ ap (λ b. b || is_at_home (first_present (map architecture_of before)) field.value) all
+      | inr same ↦ or_last (is_all field.value) (is_at_home (first_present (map architecture_of before)) field.value) (known field same (first_present (map architecture_of before)) refl)
     ]
 
-    go : (found : Option RawField) → field_of Architecture s ≡ found → option_and_then (λ (field : RawField). cond (is_all field.value || is_at_home (first_some (map architecture_of before)) field.value) None (Some (Mixed field.line))) (field_of Architecture s) ≡ None
-    go None at = ap (option_and_then (λ (field : RawField). cond (is_all field.value || is_at_home (first_some (map architecture_of before)) field.value) None (Some (Mixed field.line)))) at
+    go : (found : Option RawField) → field_of Architecture s ≡ found → option_and_then (λ (field : RawField). cond (is_all field.value || is_at_home (first_present (map architecture_of before)) field.value) None (Some (Mixed field.line))) (field_of Architecture s) ≡ None
+    go None at = ap (option_and_then (λ (field : RawField). cond (is_all field.value || is_at_home (first_present (map architecture_of before)) field.value) None (Some (Mixed field.line)))) at
     go (Some field) at =
-        ap (option_and_then (λ (f : RawField). cond (is_all f.value || is_at_home (first_some (map architecture_of before)) f.value) None (Some (Mixed f.line)))) at
+        ap (option_and_then (λ (f : RawField). cond (is_all f.value || is_at_home (first_present (map architecture_of before)) f.value) None (Some (Mixed f.line)))) at
         ∙ ap (λ b. cond b None (Some (Mixed field.line))) (kept field at)
 
 module _ (home : Option Text) (ss : List RawStanza) (few : length ss ≤ most_packages) (own : (s : RawStanza) → In s ss → own_fault s ≡ None) (local : (s : RawStanza) → In s ss → Local home s) (single : AreSingle (map facts_of ss)) where
@@ -301,7 +301,7 @@ module _ (home : Option Text) (ss : List RawStanza) (few : length ss ≤ most_pa
       (ap (option_map (λ (first : PackageFacts). Duplicate first.line s.line)) (find_not (is_same_package (facts_of s)) (map facts_of before) (single_before (map facts_of before) (facts_of s) (map facts_of more) all)))
       (none_behind (mixed_fault (home_of before) s) _ (mixed_none home before s (λ t i. local t (in_ss t i)) (local s self)) refl))
 
-  walk_on : (before more : List RawStanza) → ss ≡ before ++ more → first_some (faults_from (map ok ss) (length before) (map ok more)) ≡ None
+  walk_on : (before more : List RawStanza) → ss ≡ before ++ more → first_present (faults_from (map ok ss) (length before) (map ok more)) ≡ None
   walk_on before [] is = refl
   walk_on before (s ∷ more) is =
       let front : take (length before) (map ok ss) ≡ map ok before
@@ -312,9 +312,9 @@ module _ (home : Option Text) (ss : List RawStanza) (few : length ss ≤ most_pa
       let own_none : reading_fault (stanzas_in (map ok before)) (ok s) ≡ None = subst (λ xs. stanza_fault (map facts_of xs) (home_of xs) s ≡ None) (sym (stanzas_ok before)) (stanza_none before s more is) in
       let first : fault_behind (map ok before) (ok s) ≡ None = ap (λ b. cond b (Some TooMany) (reading_fault (stanzas_in (map ok before)) (ok s))) room ∙ own_none in
       let next : ss ≡ (before ++ s ∷ []) ++ more = is ∙ sym (append_assoc before (s ∷ []) more) in
-      none_behind (fault_behind (take (length before) (map ok ss)) (ok s)) (first_some (faults_from (map ok ss) (length before + 1) (map ok more)))
+      none_behind (fault_behind (take (length before) (map ok ss)) (ok s)) (first_present (faults_from (map ok ss) (length before + 1) (map ok more)))
       (subst (λ xs. fault_behind xs (ok s) ≡ None) (sym front) first)
-      (subst (λ n. first_some (faults_from (map ok ss) n (map ok more)) ≡ None) (length-append before (s ∷ [])) (walk_on (before ++ s ∷ []) more next))
+      (subst (λ n. first_present (faults_from (map ok ss) n (map ok more)) ≡ None) (length-append before (s ∷ [])) (walk_on (before ++ s ∷ []) more next))
 
 map_in : {A B : Type 0} (f g : A → B) (xs : List A) → ((x : A) → In x xs → f x ≡ g x) → map f xs ≡ map g xs
 map_in f g [] e = refl
@@ -351,4 +351,4 @@ indexes_are_accepted text home stanzas i few =
     ap (λ t. t && is_eq (version_order (stanza_at (map facts_of ss) n).version (stanza_at (map facts_of ss) m).version)) names
     ∙ ap (λ o. bytes_eq (stanza_at stanzas n).name (stanza_at stanzas m).name && is_eq o) orders
     ∙ i.single m n less (omega (arith, long, l))) in
-    ap (λ all. first_some (faults_from all 0 all)) read ∙ walk_on home.name ss (omega (arith, long, size, few)) own local single [] ss refl
+    ap (λ all. first_present (faults_from all 0 all)) read ∙ walk_on home.name ss (omega (arith, long, size, few)) own local single [] ss refl

@@ -22,10 +22,10 @@ use Rattle.claims.specs.{Printed.{names_of, Precedes}, Search.{Searched}, Laws.{
 use Rattle.coinst_words.specs.Usage.{Text}
 use Rattle.claims.proofs.{Index.{indexes_are_read}, Kernel.{kernels_are_kernels, kernels_are_one}, Search.{searches_are_one, trees_are_searches}}
 
-has_to : (index : SearchedIndex) (name : Text) → HasPackageOf (suite_of index) name → HasName index name
+pub has_to : (index : SearchedIndex) (name : Text) → HasPackageOf (suite_of index) name → HasName index name
 has_to index name h = record { by = stanza_at (packages_in index.text) h.0; stands = In_at (packages_in index.text) h.0 no_stanza h.1; named = h.2 }
 
-has_from : (index : SearchedIndex) (name : Text) → HasName index name → HasPackageOf (suite_of index) name
+pub has_from : (index : SearchedIndex) (name : Text) → HasName index name → HasPackageOf (suite_of index) name
 has_from index name h = let at = In_place (packages_in index.text) h.by no_stanza h.stands in (at.0, at.1, ap (λ (s : PackageFacts). s.name) at.2 ∙ h.named)
 
 no_more : (b : Bool) → (b && true) ≡ b
@@ -38,7 +38,7 @@ named_from s name e = no_more (bytes_eq name s.name) ∙ (bytes_eq-Decides name 
 named_to : (s : PackageFacts) (name : Text) → is_named_by (any_version name) s ≡ true → s.name ≡ name
 named_to s name e = sym (same_bytes name s.name (sym (no_more (bytes_eq name s.name)) ∙ e))
 
-installs_to : (index : SearchedIndex) (names : List Text) → Installs (suite_of index) names → kept.Installable index names
+pub installs_to : (index : SearchedIndex) (names : List Text) → Installs (suite_of index) names → kept.Installable index names
 installs_to index names i = record {
   whole = i.0;
   healthy = i.1;
@@ -48,7 +48,7 @@ installs_to index names i = record {
       record { by = n.0; member = n.1; named = ap (λ g. is_named_by g (stanza_at (packages_in index.text) n.0)) m.2 ∙ named_from (stanza_at (packages_in index.text) n.0) m.0 n.2 };
 }
 
-installs_from : (index : SearchedIndex) (names : List Text) → kept.Installable index names → Installs (suite_of index) names
+pub installs_from : (index : SearchedIndex) (names : List Text) → kept.Installable index names → Installs (suite_of index) names
 installs_from index names c = (
   c.whole,
   c.healthy,
@@ -203,11 +203,9 @@ ordered [] (x ∷ front) middle back k l o e = absurd (let no : ⊥ = cc in no)
 ordered (y ∷ lines) (x ∷ front) middle back k l o e = ordered lines front middle back k l o.1 (let rest : lines ≡ front ++ k ∷ (middle ++ l ∷ back) = cc in rest)
 
 pub comparisons_mean_this : ComparisonsMeanThis
-comparisons_mean_this old new lines printed old_accepted new_accepted exact reads = record {
+comparisons_mean_this old new lines old_accepted new_accepted exact = record {
   older = indexes_are_read old.text old_accepted;
   newer = indexes_are_read new.text new_accepted;
-  lines = lines;
-  reads = reads;
   broken = broken_same old new lines exact;
   undecided = open_same old new lines exact;
   order = λ front middle back k l e. told_before k l (ordered lines front middle back k l exact.order e);

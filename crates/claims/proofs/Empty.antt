@@ -10,8 +10,9 @@ use Rattle.row_book.specs.{Numbers.{numbers}, Repository.{Coinst, Repository}, S
 use Rattle.suite_compare.specs.{declared.report.ReportLine.{ReportLine}, declared.report.ReportLine.TheVariants.{Broken1, Broken2, Open1, Open2}}
 use Rattle.claims.specs.{Asked.{HasPackageOf, IsAsked}, Classes.{classes_of, IsItsClass}, Control.{stanza_groups}, Index.{IndexSays, Says}}
 use Rattle.claims.specs.{Laws.{a_package, empty_index, no_classes, no_home, no_lines, EmptyIndexes}, Printed.{names_of, printed_comparison}}
-use Rattle.claims.specs.{Sentences.{IsFaithfulComparison, IsFaithfulKernel}, Written.{StandsForKernel}}
-use Rattle.claims.proofs.Written.{kernels_are_read_once}
+use Rattle.claims.specs.Sentences.{IsFaithfulList, IsFaithfulKernel}
+use Rattle.kernel_text.specs.{KernelLines.{line_text}, KernelReads.{KernelReads}, KernelText.{kernel_lines, kernel_text}}
+use Rattle.kernel_text.proofs.StoredReading.{one_reading}
 
 nothing_said : IndexSays [] no_home []
 unfolding stanza_groups
@@ -20,25 +21,31 @@ nothing_said = record { each = tt; single = λ m n less l. absurd (let low : n <
 abbrev no_repository : Repository
 no_repository = record { clauses = []; conflicts = [] }
 
+it_stands : KernelReads no_classes 1 no_repository [] []
+unfolding digits number_limit numbers kernel_text kernel_lines line_text
+it_stands = record {
+  writable = record {
+    few_classes = lit< tt;
+    few_members = lit< tt;
+    by_class = refl;
+    populated = λ n l. absurd (let low : n < 0 = l in omega (arith, low));
+    named = λ m i. absurd (In_none i);
+    single = tt;
+    order = λ n. tt;
+    apart = λ n c i. absurd (In_none i);
+    sound = record {
+      clauses = λ n c i. absurd (In_none i);
+      count = refl;
+      conflicts = record { ascending = λ n. tt; either_way = λ n m e. absurd (let no : ⊥ = cc in no); apart = λ n. refl };
+    };
+    fits = record { known = inl refl; ascending = tt; inside = λ n i. absurd (In_none i); none_in_first = λ e. refl };
+  };
+  lines = refl;
+}
+
 no_middle : {A : Type 0} (front back : List A) (x : A) → [] ≡ front ++ x ∷ back → ⊥
 no_middle [] back x e = cc
 no_middle (y ∷ front) back x e = cc
-
-it_stands : StandsForKernel no_classes 1 no_repository [] []
-unfolding digits number_limit numbers
-it_stands = record {
-  lines = record { head = codes "coinst-kernel 1"; blocks = []; end = codes "end 0 0"; joined = refl; of_format = refl; of_classes = tt; of_end = refl };
-  few = (lit< tt, lit< tt);
-  by_class = refl;
-  populated = λ n l. absurd (let low : n < 0 = l in omega (arith, low));
-  named = λ m i. absurd (In_none i);
-  single = λ before after m o e i. absurd (no_middle before after m e);
-  clauses = λ n. (tt, (λ c i. absurd (In_none i)));
-  count = refl;
-  conflicts = λ n. ((tt, (λ m i. absurd (In_none i))), (λ m i. absurd (In_none i)));
-  held_classes = (tt, (λ n i. absurd (In_none i)));
-  formats = inl (refl, refl);
-}
 
 together : (S : NumSet) → ((n : ℕ) → Is S n → n < 0) → CoinstStanzas no_home [] S
 together S inside = record {
@@ -69,7 +76,8 @@ kernel_of_none = record {
   members = [];
   held = [];
   reads = it_stands;
-  once = kernels_are_read_once no_classes;
+  once = one_reading no_classes;
+  people = λ m i. absurd (In_none i);
   stands = λ i l. absurd (let low : i < 0 = l in omega (arith, low));
   keeps = λ S inside. ((λ c. together_there S), (λ c. together S inside));
 }
@@ -95,17 +103,18 @@ none_asked (Open1 a) t = has_none a t.0
 none_asked (Broken2 a b) t = has_none a t.1.0
 none_asked (Open2 a b) t = has_none a t.1.0
 
-comparison_of_none : IsFaithfulComparison empty_index empty_index no_lines
-unfolding digits printed_comparison
+comparison_of_none : IsFaithfulList empty_index empty_index []
 comparison_of_none = record {
   older = nothing_said;
   newer = nothing_said;
-  lines = [];
-  reads = refl;
   broken = λ l e. ((λ i. absurd (In_none i)), (λ t. absurd (none_asked l t.0)));
   undecided = λ l e. ((λ i. absurd (In_none i)), (λ t. absurd (none_asked l t.0)));
   order = λ front middle back k l e. absurd (no_middle front (middle ++ l ∷ back) k e);
 }
 
+lines_of_none : printed_comparison [] ≡ no_lines
+unfolding digits printed_comparison
+lines_of_none = refl
+
 pub empty_indexes : EmptyIndexes
-empty_indexes = record { kernel = kernel_of_none; comparison = comparison_of_none; wrong = λ k. not_there k k.stanzas k.index.each k.stands }
+empty_indexes = record { kernel = kernel_of_none; comparison = comparison_of_none; printed = lines_of_none; wrong = λ k. not_there k k.stanzas k.index.each k.stands }

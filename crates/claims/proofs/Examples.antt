@@ -3,7 +3,7 @@ use Rattle.std.proofs.Common.{◌≡◌, ℕ, true, false, List, [], ◌∷◌, 
 use Rattle.std.specs.{Prelude.{codes, ◌==◌}, Fmt.{digits}, declared.cmp.Ordering.TheVariants.{Less, Equal, Greater}}
 use Rattle.deb_version.specs.Grammar.{behind_epoch, epoch_of, is_version, revision_in, upstream_in}
 use Rattle.listed.specs.Texts as white
-use Rattle.kernel_text.specs.declared.member.Member.{Member}
+use Rattle.kernel_text.specs.{KernelLines.{line_text}, KernelText.{class_lines, kernel_lines, kernel_text}, declared.member.Member.{Member}}
 use Rattle.row_book.specs.{Numbers.{numbers}, Repository.{Repository}}
 use Rattle.relation_fields.specs.{declared.packages.Home.{Home}, declared.packages.PackageFacts.{PackageFacts}, declared.relations.Atom.{Atom}}
 use Rattle.relation_fields.specs.{declared.relations.Op.TheVariants.{LaterEqual}, Meeting.{meets}}
@@ -11,7 +11,7 @@ use Rattle.search_terms.specs.{Closure.{literal}, declared.literals.Literal.{Lit
 use Rattle.suite_compare.specs.declared.report.ReportLine.TheVariants.{Broken1, Open2}
 use Rattle.coinst_words.specs.Usage.{Text}
 use Rattle.claims.specs.{Printed.{printed_comparison}, Control.{fields, stanza_groups, field_value}, Index.{relation_elements, is_one_package}}
-use Rattle.claims.specs.{Search.{class_to_split}, Spelling.{WritesAtom}, Words.{compare_words, kernel_words}, Written.{AreKernelLines}}
+use Rattle.claims.specs.{Search.{class_to_split}, Spelling.{WritesAtom}, Words.{compare_words, kernel_words}}
 use Rattle.repo_model.specs.Repository.{suite_repository}
 use Rattle.deb_version.specs.Order.{behind, first_difference, number_piece, part_order, pieces_order, plain_piece, version_order}
 
@@ -114,35 +114,9 @@ kernel_bytes =
     (codes "coinst-kernel 2" ++ 10 ∷ []) ++ (codes "class 0" ++ 10 ∷ []) ++ (codes "member a 1" ++ 10 ∷ []) ++ (codes "class 1" ++ 10 ∷ []) ++ (codes "member b 2-1" ++ 10 ∷ []) ++ (codes "held" ++ 10 ∷ [])
     ++ (codes "needs 0 2" ++ 10 ∷ []) ++ (codes "against 2" ++ 10 ∷ []) ++ (codes "class 2" ++ 10 ∷ []) ++ (codes "member c 3" ++ 10 ∷ []) ++ (codes "end 3 3" ++ 10 ∷ [])
 
-its_lines : AreKernelLines kernel_bytes 2 three members (1 ∷ [])
-unfolding numbers digits
-its_lines = record {
-  head = codes "coinst-kernel 2";
-  blocks = (codes "class 0" ∷ codes "member a 1" ∷ []) ∷ (codes "class 1" ∷ codes "member b 2-1" ∷ codes "held" ∷ codes "needs 0 2" ∷ codes "against 2" ∷ []) ∷ (codes "class 2" ∷ codes "member c 3" ∷ []) ∷ [];
-  end = codes "end 3 3";
-  joined = refl;
-  of_format = refl;
-  of_classes = (
-    record { class_line = codes "class 0"; member_lines = codes "member a 1" ∷ []; held_lines = []; needs_lines = []; against_lines = []; joined = refl; of_class = refl; of_members = (refl, tt); of_held = inr (refl, refl); of_clauses = tt; of_conflicts = tt },
-    (
-      record {
-        class_line = codes "class 1";
-        member_lines = codes "member b 2-1" ∷ [];
-        held_lines = codes "held" ∷ [];
-        needs_lines = codes "needs 0 2" ∷ [];
-        against_lines = codes "against 2" ∷ [];
-        joined = refl;
-        of_class = refl;
-        of_members = (refl, tt);
-        of_held = inl (refl, refl);
-        of_clauses = (refl, tt);
-        of_conflicts = (refl, tt);
-      },
-      (record { class_line = codes "class 2"; member_lines = codes "member c 3" ∷ []; held_lines = []; needs_lines = []; against_lines = []; joined = refl; of_class = refl; of_members = (refl, tt); of_held = inr (refl, refl); of_clauses = tt; of_conflicts = tt }, tt),
-    ),
-  );
-  of_end = refl;
-}
+its_lines : kernel_bytes ≡ kernel_text 2 three members (1 ∷ [])
+unfolding numbers digits kernel_text kernel_lines class_lines line_text
+its_lines = refl
 
 abbrev yes : ℕ → Literal
 yes c = literal c true

@@ -18,14 +18,14 @@ use Rattle.stanza_reader.specs.{declared.stanza.RawField.{RawField}, declared.st
 use Rattle.repo_model.specs.Facts.{facts_of, is_all, is_same_package, architecture_of}
 use Rattle.repo_model.specs.Fields as kinds
 use Rattle.repo_model.specs.Fields.{field_of}
-use Rattle.repo_model.specs.FirstFault.{first_some, missing, unless_good, bad_value, unless_said, bad_relation, presence_fault, value_fault, own_fault, duplicate_fault, mixed_fault, is_at_home, home_of, stanza_fault, fault_behind, faults_from, first_fault, stanzas_in, stanzas_of}
+use Rattle.repo_model.specs.FirstFault.{first_present, missing, unless_good, bad_value, unless_said, bad_relation, presence_fault, value_fault, own_fault, duplicate_fault, mixed_fault, is_at_home, home_of, stanza_fault, fault_behind, faults_from, first_fault, stanzas_in, stanzas_of}
 use Rattle.repo_model.specs.{Limits.{most_packages}, Stanzas.{stanza_at, no_stanza}, declared.fault.IndexFault.{IndexFault}}
 use Rattle.repo_model.specs.declared.fault.IndexFault.TheVariants.{Stanza, MissingPackage, MissingVersion, BadPackage, BadVersion, BadArchitecture, BadRelation, Mixed, TooMany}
 use Rattle.repo_model.proofs.Accepted as accepting
 use Rattle.repo_model.proofs.{Accepted.{AreSingle}, Steps.{home_of-push}, WellFormed.{none_of, facts_well_formed}}
 use Rattle.coinst_words.specs.Usage.{Text}
 use Rattle.claims.specs.{Control.{stanza_groups, field_value}, Spelling.{WritesAlternatives, WritesAtom, WritesProvide}}
-use Rattle.claims.specs.{Index.{relation_elements, FitsHome, Says, IndexSays}, Laws.{IndexesAreOne, IndexesAreRead, SaysTheSame}}
+use Rattle.claims.specs.{Index.{relation_elements, FitsHome, Says, IndexSays, SaysTheSame}, Laws.{IndexesAreOne, IndexesAreRead}}
 use Rattle.claims.proofs.{Control.{groups_are_theirs, group_is_read, IsRead}, Spelling.{spellings_are_read}, Values.{key, kept_value, value_is}}
 
 -- lists side by side
@@ -42,7 +42,7 @@ zip_append R [] (y ∷ ys) more others z w = absurd z
 zip_append R (x ∷ xs) [] more others z w = absurd z
 zip_append R (x ∷ xs) (y ∷ ys) more others z w = (z.0, zip_append R xs ys more others z.1 w)
 
-zip_in : {A B : Type 0} (R : A → B → Type 0) (xs : List A) (ys : List B) (y : B) → AllZip R xs ys → In y ys → (x : A) × In x xs × R x y
+pub zip_in : {A B : Type 0} (R : A → B → Type 0) (xs : List A) (ys : List B) (y : B) → AllZip R xs ys → In y ys → (x : A) × In x xs × R x y
 zip_in R [] [] y z i = absurd (In_none i)
 zip_in R [] (w ∷ ys) y z i = absurd z
 zip_in R (x ∷ xs) [] y z i = absurd z
@@ -209,23 +209,23 @@ record Stanzas (all : List (Result RawStanza StanzaFault)) : Type 0 where
   faultless : Faultless stanzas
 
 walk : (all : List (Result RawStanza StanzaFault)) (before : List RawStanza) (more : List (Result RawStanza StanzaFault)) → all ≡ map ok before ++ more → Faultless before
-    → first_some (faults_from all (length before) more) ≡ None → Stanzas all
+    → first_present (faults_from all (length before) more) ≡ None → Stanzas all
 walk all before [] is f none = record { stanzas = before; read = is ∙ append-nil (map ok before); faultless = f }
 walk all before (Ok s ∷ more) is f none =
-    let both = none_of (fault_behind (take (length before) all) (Ok s)) (first_some (faults_from all (length before + 1) more)) none in
+    let both = none_of (fault_behind (take (length before) all) (Ok s)) (first_present (faults_from all (length before + 1) more)) none in
     let front : take (length before) all ≡ map ok before
     = ap (take (length before)) is ∙ ap (λ n. take n (map ok before ++ Ok s ∷ more)) (let long : length before ≡ length (map ok before) = simp length-map in long) ∙ take-append_seam (map ok before) (Ok s ∷ more) in
     let own : fault_behind (map ok before) (Ok s) ≡ None = subst (λ xs. fault_behind xs (Ok s) ≡ None) front both.0 in
     let now : stanza_fault (map facts_of (stanzas_in (map ok before))) (home_of (stanzas_in (map ok before))) s ≡ None = early (length (map ok before)) _ own in
     let known : stanza_fault (map facts_of before) (home_of before) s ≡ None = subst (λ ss. stanza_fault (map facts_of ss) (home_of ss) s ≡ None) (stanzas_ok before) now in
     walk all (before ++ s ∷ []) more (is ∙ sym (ap (λ xs. xs ++ more) (map-append ok before (s ∷ [])) ∙ append_assoc (map ok before) (Ok s ∷ []) more))
-    (faultless_more before s known f) (subst (λ n. first_some (faults_from all n more) ≡ None) (sym (length-append before (s ∷ []))) both.1)
+    (faultless_more before s known f) (subst (λ n. first_present (faults_from all n more) ≡ None) (sym (length-append before (s ∷ []))) both.1)
 walk all before (Err fault ∷ more) is f none =
-    let both = none_of (fault_behind (take (length before) all) (Err fault)) (first_some (faults_from all (length before + 1) more)) none in
+    let both = none_of (fault_behind (take (length before) all) (Err fault)) (first_present (faults_from all (length before + 1) more)) none in
     let never : Some (Stanza fault) ≡ None = early (length (take (length before) all)) (Some (Stanza fault)) both.0 in
     absurd (let no : ⊥ = cc in no)
 
-zip_ok : (groups : List (List Line)) (stanzas : List RawStanza) → map stanza_of groups ≡ map ok stanzas → AllZip (λ g s. stanza_of g ≡ Ok s) groups stanzas
+pub zip_ok : (groups : List (List Line)) (stanzas : List RawStanza) → map stanza_of groups ≡ map ok stanzas → AllZip (λ g s. stanza_of g ≡ Ok s) groups stanzas
 zip_ok [] [] e = tt
 zip_ok [] (s ∷ ss) e = absurd (let no : ⊥ = cc in no)
 zip_ok (g ∷ gs) [] e = absurd (let no : ⊥ = cc in no)
@@ -239,12 +239,12 @@ single_at (s ∷ more) a (suc m) zero less l = absurd (omega arith)
 single_at (s ∷ more) a (suc m) (suc n) less l = single_at more a.1 m n (omega arith) (omega arith)
 
 -- the home is the architecture of some stanza
-pub first_there : (ss : List RawStanza) (a : Text) → first_some (map architecture_of ss) ≡ Some a → (s : RawStanza) × In s ss × (architecture_of s ≡ Some a)
+pub first_there : (ss : List RawStanza) (a : Text) → first_present (map architecture_of ss) ≡ Some a → (s : RawStanza) × In s ss × (architecture_of s ≡ Some a)
 first_there [] a e = absurd (let no : ⊥ = cc in no)
 first_there (s ∷ ss) a e = go (architecture_of s) refl (first_there ss a) e
   where
-    go : (found : Option Text) → architecture_of s ≡ found → (first_some (map architecture_of ss) ≡ Some a → (t : RawStanza) × In t ss × (architecture_of t ≡ Some a))
-        → option_or found (first_some (map architecture_of ss)) ≡ Some a → (t : RawStanza) × In t (s ∷ ss) × (architecture_of t ≡ Some a)
+    go : (found : Option Text) → architecture_of s ≡ found → (first_present (map architecture_of ss) ≡ Some a → (t : RawStanza) × In t ss × (architecture_of t ≡ Some a))
+        → option_or found (first_present (map architecture_of ss)) ≡ Some a → (t : RawStanza) × In t (s ∷ ss) × (architecture_of t ≡ Some a)
     go None at later h = let more = later h in (more.0, there more.1, more.2)
     go (Some b) at later h = (s, here, at ∙ h)
 

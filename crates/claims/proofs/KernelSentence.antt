@@ -2,10 +2,11 @@
 use Rattle.std.specs.Prelude.{map}
 use Rattle.repo_model.specs.{Facts.{facts_of}, FirstFault.{home_of, stanzas_of}}
 use Rattle.claims.specs.Laws.{KernelsMeanThis}
-use Rattle.claims.proofs.{Index.{indexes_are_read}, Written.{kernels_are_read, kernels_are_read_once}}
+use Rattle.claims.proofs.Index.{indexes_are_read}
+use Rattle.kernel_text.proofs.StoredReading.{one_reading}
 
 pub kernels_mean_this : KernelsMeanThis
-kernels_mean_this text printed format R members held accepted reads stands keeps = record {
+kernels_mean_this text printed format R members held accepted reads people stands keeps = record {
   home = record { name = home_of (stanzas_of text) };
   stanzas = map facts_of (stanzas_of text);
   index = indexes_are_read text accepted;
@@ -13,8 +14,9 @@ kernels_mean_this text printed format R members held accepted reads stands keeps
   repository = R;
   members = members;
   held = held;
-  reads = (kernels_are_read printed format R members held).1 reads;
-  once = kernels_are_read_once printed;
+  reads = reads;
+  once = one_reading printed;
+  people = people;
   stands = stands;
   keeps = keeps;
 }

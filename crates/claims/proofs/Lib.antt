@@ -2,7 +2,6 @@ pub mod Spelling
 pub mod Control
 pub mod Values
 pub mod Index
-pub mod Written
 pub mod Search
 pub mod KernelSentence
 pub mod Words
@@ -13,3 +12,13 @@ pub mod Acceptance
 pub mod Empty
 pub mod Members
 pub mod PrintedKernels
+pub mod Goals
+pub mod KernelTexts
+pub mod AskingWords
+pub mod Meeting
+pub mod StoredAsking
+pub mod Groups
+pub mod Passing
+pub mod Plans
+pub mod Systems
+pub mod Wrong

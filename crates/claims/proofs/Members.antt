@@ -35,7 +35,7 @@ place_of_package (s ∷ stanzas) d (suc i) zero l m e f =
 place_of_package (s ∷ stanzas) d (suc i) (suc j) l m e f = ap suc (place_of_package stanzas d.1 i j (omega arith) (omega arith) e f)
 
 -- the members of the file, by their places
-file_at : (stanzas : List PackageFacts) (class_of : List ℕ) → length class_of ≡ length stanzas → (m : Member) → In m (file_members stanzas class_of) →
+pub file_at : (stanzas : List PackageFacts) (class_of : List ℕ) → length class_of ≡ length stanzas → (m : Member) → In m (file_members stanzas class_of) →
     (j : ℕ) × (j < length stanzas) × (m ≡ member_in (slice_index_or class_of j 0) (stanza_at stanzas j))
 file_at [] class_of e m i = absurd (In_none i)
 file_at (s ∷ stanzas) [] e m i = absurd (omega (arith, e))

@@ -1,5 +1,5 @@
 -- The text that is printed of the kernel of an index.
-use Rattle.std.proofs.Common.{◌≡◌, ℕ, ◌<◌, Bool, true, List, length, map, slice_index_or, refl, sym, ap, subst, ◌∙◌, arith, zero-add}
+use Rattle.std.proofs.Common.{◌≡◌, ℕ, ◌<◌, Bool, true, List, [], ◌∷◌, length, map, eqb, slice_index_or, refl, sym, ap, subst, ◌∙◌, arith, zero-add}
 use Rattle.std.specs.Prelude.{◌↔◌}
 use Rattle.relation_fields.specs.{declared.packages.Home.{Home}, declared.packages.PackageFacts.{PackageFacts}}
 use Rattle.repo_model.specs.{Repository.{suite_repository}, Stanzas.{CoinstStanzas, stanza_at}}
@@ -10,11 +10,13 @@ use Rattle.row_book.specs.{Flattening.{packages}, Repository.{Repository, Coinst
 use Rattle.row_book.specs.Sets.{Is, NumSet}
 use Rattle.row_book.proofs.Numbers.{at_numbers}
 use Rattle.kernel_rounds.specs.Laws.{HasImage}
-use Rattle.kernel_rounds.proofs.{Reached.{image_is_of_classes_lem, kernel_keeps_lem}, Classes.{class_within}}
-use Rattle.kernel_text.specs.{KernelReads.{KernelReads}, KernelText.{format_of, kernel_text}, Laws.{IsKernelOf}, Members.{kernel_members}}
+use Rattle.kernel_rounds.proofs.{Reached.{image_is_of_classes_lem, kernel_is_lem, kernel_keeps_lem}, Classes.{class_within}}
+use Rattle.kernel_text.specs.{KernelReads.{KernelReads}, KernelText.{format_of, kernel_text, members_of}, Laws.{IsKernelOf}, Members.{file_members, kernel_members}, declared.member.Member.{Member}}
+use Rattle.listed.{proofs.Bools.{same_bool}, proofs.Lists.{In_flat_cases, filter_cases}, specs.Lists.{In}}
+use Rattle.row_book.specs.Numbers.{numbers}
 use Rattle.kernel_text.proofs.{Classified.{kernels_are_writable}, ReadIsWritten.{read_is_written}, Extracted.{kernel_fits}}
-use Rattle.claims.specs.{Classes.{classes_of, IsItsClass}, Laws.{PrintedKernelsAreFaithful, kernel_printed}}
-use Rattle.claims.proofs.{Members.{class_from, class_parts, stands_once}, KernelSentence.{kernels_mean_this}}
+use Rattle.claims.specs.{Classes.{classes_of, IsItsClass, IsOneOf}, Kernel.{SettlesTo, at_rest}, Laws.{KernelTextsAreThere, PrintedKernelsAreFaithful, kernel_printed}}
+use Rattle.claims.proofs.{Index.{indexes_are_read}, Kernel.{kernels_are_kernels}, Members.{class_from, class_parts, file_at, stands_once}, KernelSentence.{kernels_mean_this}}
 use Rattle.suite_compare.specs.Refusals.{home_in, packages_in}
 
 -- the kernel of an accepted index at a limit, with hold or without, with its members
@@ -52,6 +54,39 @@ module _ (limit : ℕ) (hold : Bool) (home : Home) (stanzas : List PackageFacts)
       (read_is_written (kernel_text (format_of hold) K (kernel_members stanzas classes size) held) (format_of hold) K (kernel_members stanzas classes size) held).1
       (kernels_are_writable (format_of hold) K stanzas classes held fits, refl)
 
+  -- each member is a stanza
+  pub people : (m : Member) → In m (kernel_members stanzas classes size) → IsOneOf stanzas m
+  unfolding kernel_members
+  people m i =
+      let block = In_flat_cases (members_of (file_members stanzas classes)) (numbers size 0) m i in
+      let filed = (filter_cases (λ (o : Member). eqb o.class block.0) (file_members stanzas classes) m block.2).0 in
+      let at = file_at stanzas classes fits.each m filed in
+      (at.0, at.1, sym (ap (λ (o : Member). o.name) at.2), sym (ap (λ (o : Member). o.version) at.2))
+
+  -- the classes of a set are its image
+  module _ (S : NumSet) (small : (n : ℕ) → Is S n → n < length stanzas) where
+    few : (n : ℕ) → S n ≡ true → n < length (suite_repository home stanzas).clauses
+    few n h = let l : n < length stanzas = small n h in omega (arith, length_clauses home stanzas)
+
+    image_to : (n : ℕ) → Is (classes_of stanzas (kernel_members stanzas classes size) S) n → Is (kernel_image limit hold (suite_repository home stanzas) S) n
+    image_to n h =
+        let w : (i : ℕ) × (i < length stanzas) × Is S i × (slice_index_or classes i 0 ≡ n) = class_parts stanzas accepted.single classes fits.each size within S n h in
+        (image_is_of_classes_lem limit hold (suite_repository home stanzas) (suite_sound home stanzas) S few n).1 (record { by = w.0; within = few w.0 w.2; inside = w.2; class = sym (class_is w.0 w.1) ∙ w.3 })
+
+    image_from : (n : ℕ) → Is (kernel_image limit hold (suite_repository home stanzas) S) n → Is (classes_of stanzas (kernel_members stanzas classes size) S) n
+    image_from n h =
+        let w : HasImage limit hold (suite_repository home stanzas) S n = (image_is_of_classes_lem limit hold (suite_repository home stanzas) (suite_sound home stanzas) S few n).0 h in
+        let l : w.by < length stanzas = small w.by w.inside in
+        subst (λ z. Is (classes_of stanzas (kernel_members stanzas classes size) S) z) (class_is w.by l ∙ w.class) (class_from stanzas accepted.single classes fits.each size within S w.by l w.inside)
+
+    pub comes : SettlesTo limit hold (suite_repository home stanzas) (S ∷ []) K (classes_of stanzas (kernel_members stanzas classes size) S ∷ [])
+    comes =
+        let image : NumSet = kernel_image limit hold (suite_repository home stanzas) S in
+        let own : NumSet = classes_of stanzas (kernel_members stanzas classes size) S in
+        let each : (n : ℕ) → image n ≡ own n = λ n. same_bool (image n) (own n) (image_from n) (image_to n) in
+        let same : image ≡ own = λ i n. each n i in
+        subst (λ (set : NumSet). SettlesTo limit hold (suite_repository home stanzas) (S ∷ []) K (set ∷ [])) same (kernels_are_kernels limit hold (suite_repository home stanzas) (S ∷ []) (suite_sound home stanzas))
+
   -- a set of stanzas is co-installable exactly when its classes are
   pub keeps : (S : NumSet) → ((n : ℕ) → Is S n → n < length stanzas) →
       (CoinstStanzas home stanzas S ↔ Coinst K (classes_of stanzas (kernel_members stanzas classes size) S))
@@ -85,4 +120,23 @@ printed_kernels_are_faithful text limit hold fine =
     let stanzas : List PackageFacts = packages_in text in
     let f : Accepted stanzas = accepting.accepted text fine in
     kernels_mean_this text (kernel_printed limit hold home stanzas) (format_of hold) (K limit hold home stanzas f) (kernel_members stanzas (classes limit hold home stanzas f) (size limit hold home stanzas f))
-    (held limit hold home stanzas f) fine (reads limit hold home stanzas f) (stands limit hold home stanzas f) (keeps limit hold home stanzas f)
+    (held limit hold home stanzas f) fine (reads limit hold home stanzas f) (people limit hold home stanzas f) (stands limit hold home stanzas f) (keeps limit hold home stanzas f)
+
+pub kernel_texts_are_there : KernelTextsAreThere
+kernel_texts_are_there index fine =
+    let home : Home = home_in index.text in
+    let stanzas : List PackageFacts = packages_in index.text in
+    let f : Accepted stanzas = accepting.accepted index.text fine in
+    let limit : ℕ = index.limit in
+    let hold : Bool = index.hold in
+    record {
+      index = indexes_are_read index.text fine;
+      repository = K limit hold home stanzas f;
+      members = kernel_members stanzas (classes limit hold home stanzas f) (size limit hold home stanzas f);
+      held = held limit hold home stanzas f;
+      reads = reads limit hold home stanzas f;
+      people = people limit hold home stanzas f;
+      comes = comes limit hold home stanzas f;
+      stay = refl;
+      settled = (kernel_is_lem limit hold (suite_repository home stanzas) (suite_sound home stanzas)).settled;
+    }

@@ -64,12 +64,12 @@ word_step : (u : Usage) (word : Text) (said : Said) (rest : List Text) (r : Said
 unfolding read
 word_step u word said rest r e = step u (meaning_of u word) word said rest (λ s w. read u s w rest) r (few_read u rest r) e
 
-word_waits : (u : Usage) (word : Text) (said : Said) (name : Text) (rest : List Text) (r : Said) → read u said (Some name) (word ∷ rest) ≡ Some r → option_and_then (λ s. read u s None rest) (give name word said) ≡ Some r
+pub word_waits : (u : Usage) (word : Text) (said : Said) (name : Text) (rest : List Text) (r : Said) → read u said (Some name) (word ∷ rest) ≡ Some r → option_and_then (λ s. read u s None rest) (give name word said) ≡ Some r
 unfolding read
 word_waits u word said name rest r e = waits u (meaning_of u word) word said name rest (λ s w. read u s w rest) r e
 
 -- the words said first
-abbrev said_with : List (Text × Text) → List Text → Said
+abbrev pub said_with : List (Text × Text) → List Text → Said
 said_with given words = record { given = given; ordinary = words }
 
 read_all : (u : Usage) (s r : Said) → read u s None [] ≡ Some r → s ≡ r
@@ -77,12 +77,12 @@ unfolding read
 read_all u s r e = cc
 
 -- the job of what is read behind a command's name
-record Asked (u : Usage) (words : List Text) (job : Job) : Type 0 where
-  said : Said
-  read_as : read u nothing_said None words ≡ Some said
-  asks_for : job_of_said (u, said) ≡ Some job
+pub record Asked (u : Usage) (words : List Text) (job : Job) : Type 0 where
+  pub said : Said
+  pub read_as : read u nothing_said None words ≡ Some said
+  pub asks_for : job_of_said (u, said) ≡ Some job
 
-asked : (u : Usage) (words : List Text) (job : Job) → option_and_then job_of_said (option_map (λ said. (u, said)) (read u nothing_said None words)) ≡ Some job → Asked u words job
+pub asked : (u : Usage) (words : List Text) (job : Job) → option_and_then job_of_said (option_map (λ said. (u, said)) (read u nothing_said None words)) ≡ Some job → Asked u words job
 asked u words job e = go (read u nothing_said None words) refl e
   where
     go : (found : Option Said) → read u nothing_said None words ≡ found → option_and_then job_of_said (option_map (λ said. (u, said)) found) ≡ Some job → Asked u words job
@@ -90,7 +90,7 @@ asked u words job e = go (read u nothing_said None words) refl e
     go (Some said) at h = record { said = said; read_as = at; asks_for = h }
 
 -- the options that were given
-abbrev options_in : List (Text × Text) → Options
+abbrev pub options_in : List (Text × Text) → Options
 options_in given = options_by (λ name. value_of name given)
 
 no_words : (options : Options) (words : List Text) → length words ≤ 0 → kernel_job options words ≡ None
@@ -110,7 +110,7 @@ kernel_tail given path r job e wanted =
     ]
 
 -- the number of an option
-number_told : (most default : ℕ) (limit : Option ℕ) (n : ℕ) → unwrap_or limit default ≤ 1000000 → number_or 1 most default (option_map decimal limit) ≡ Some n → n ≡ unwrap_or limit default
+pub number_told : (most default : ℕ) (limit : Option ℕ) (n : ℕ) → unwrap_or limit default ≤ 1000000 → number_or 1 most default (option_map decimal limit) ≡ Some n → n ≡ unwrap_or limit default
 number_told most default None n low e = let is : default ≡ n = cc in sym is
 number_told most default (Some m) n low e =
     let value : digits_value 10 (decimal m) ≡ m = (decimal_is_IsNumeral m (let top : 1000000 < 2 ^ 64 = lit< tt in omega (arith, top, low))).1 in
@@ -121,7 +121,7 @@ number_told most default (Some m) n low e =
     go false value e = absurd (let no : ⊥ = cc in no)
 
 -- what is kept to by these numbers
-abbrev kept : Option ℕ → Option ℕ → Bool → Option Settings
+abbrev pub kept : Option ℕ → Option ℕ → Bool → Option Settings
 kept budget limit hold = option_and_then (λ b. option_map (λ n. record { budget = b; clause_limit = n; hold = hold }) limit) budget
 
 kernel_made : (path : Text) (json hold : Bool) (found : Option ℕ) (n : ℕ) (job : Job) → ((m : ℕ) → found ≡ Some m → m ≡ n)
@@ -150,10 +150,21 @@ kernel_words_ask (Some n) true path job low e =
     let w = word_waits kernel_usage (decimal n) nothing_said (codes "clause-limit") (codes "--hold" ∷ path ∷ []) a.said a.read_as in
     kernel_made path false true (clause_limit_of (Some (decimal n))) n job (λ m h. number_told 1000000 65536 (Some n) m low h) (kernel_tail ((codes "clause-limit", decimal n) ∷ (codes "hold", codes "true") ∷ []) path a.said job w a.asks_for)
 
-short_words : (words : List Text) → length words ≤ 1 → two_paths words ≡ None
+pub short_words : (words : List Text) → length words ≤ 1 → two_paths words ≡ None
 short_words [] l = refl
 short_words (w ∷ []) l = refl
 short_words (w ∷ v ∷ words) l = absurd (omega arith)
+
+-- two words that are not fewer when they are read are the two that are said
+pub two_said : (u : Usage) (given : List (Text × Text)) (first second : Text) (r : Said) → (length r.ordinary ≤ 1 → ⊥) → read u (said_with given []) None (first ∷ second ∷ []) ≡ Some r → said_with given (first ∷ second ∷ []) ≡ r
+two_said u given first second r few e =
+    elim (word_step u first (said_with given []) (second ∷ []) r e) [
+      | inl next ↦ elim (word_step u second (said_with given (first ∷ [])) [] r next) [
+        | inl last ↦ read_all u (said_with given (first ∷ second ∷ [])) r last
+        | inr one ↦ absurd (few (omega (arith, one)))
+      ]
+      | inr one ↦ absurd (few (omega (arith, one)))
+    ]
 
 too_few : (options : Options) (words : List Text) (job : Job) → length words ≤ 1 → compare_job options words ≡ Some job → ⊥
 too_few options words job l e =
@@ -163,16 +174,7 @@ too_few options words job l e =
 compare_tail : (given : List (Text × Text)) (old new : Text) (r : Said) (job : Job) → read compare_usage (said_with given []) None (old ∷ new ∷ []) ≡ Some r → job_of_said (compare_usage, r) ≡ Some job
     → compare_job (options_in given) (old ∷ new ∷ []) ≡ Some job
 compare_tail given old new r job e wanted =
-    let few : length r.ordinary ≤ 1 → ⊥ = λ l. too_few (options_in r.given) r.ordinary job l wanted in
-    elim (word_step compare_usage old (said_with given []) (new ∷ []) r e) [
-      | inl next ↦ elim (word_step compare_usage new (said_with given (old ∷ [])) [] r next) [
-        | inl last ↦
-            let is : said_with given (old ∷ new ∷ []) ≡ r = read_all compare_usage (said_with given (old ∷ new ∷ [])) r last in
-            subst (λ (s : Said). compare_job (options_in s.given) s.ordinary ≡ Some job) (sym is) wanted
-        | inr one ↦ absurd (few (omega (arith, one)))
-      ]
-      | inr one ↦ absurd (few (omega (arith, one)))
-    ]
+    subst (λ (s : Said). compare_job (options_in s.given) s.ordinary ≡ Some job) (sym (two_said compare_usage given old new r (λ l. too_few (options_in r.given) r.ordinary job l wanted) e)) wanted
 
 compare_made : (old new : Text) (hold : Bool) (budget limit : Option ℕ) (b n : ℕ) (job : Job) → ((m : ℕ) → budget ≡ Some m → m ≡ b) → ((m : ℕ) → limit ≡ Some m → m ≡ n)
     → option_and_then (λ (p : Text × Text). option_map (λ (s : Settings). Compare p.0 p.1 s.budget s.clause_limit s.hold) (kept budget limit hold)) (two_paths (old ∷ new ∷ [])) ≡ Some job → job ≡ Compare old new b n hold

@@ -1,5 +1,5 @@
 -- The classes of a printed kernel in which the stanzas of its index stand.
-use Rattle.std.specs.{Prelude.{◌≡◌, ℕ, ◌<◌, ◌↔◌, Bool, true, ◌&&◌, List}, List.{list_any}, Str.{bytes_eq}}
+use Rattle.std.specs.{Prelude.{◌≡◌, ℕ, ◌<◌, ◌↔◌, Bool, true, ◌&&◌, List, length}, List.{list_any}, Str.{bytes_eq}}
 use Rattle.kernel_text.specs.{KernelText.{members_of}, declared.member.Member.{Member}}
 use Rattle.relation_fields.specs.declared.packages.PackageFacts.{PackageFacts}
 use Rattle.repo_model.specs.{Repository.{packages_of}, Stanzas.{stanza_at}}
@@ -16,3 +16,7 @@ classes_of stanzas members S n = list_any (λ i. S i && is_in_class members (sta
 -- the class is one of so many, and it and no other has a member line of the stanza
 abbrev pub IsItsClass : ℕ → List Member → PackageFacts → ℕ → Type 0
 IsItsClass classes members s k = (k < classes) × ((n : ℕ) → (is_in_class members s n ≡ true) ↔ (n ≡ k))
+
+-- the member is one of the stanzas
+abbrev pub IsOneOf : List PackageFacts → Member → Type 0
+IsOneOf stanzas m = (n : ℕ) × (n < length stanzas) × ((stanza_at stanzas n).name ≡ m.name) × ((stanza_at stanzas n).version ≡ m.version)

@@ -31,9 +31,18 @@ pub record Says (home : Home) (group : List Text) (facts : PackageFacts) : Type 
   pub against : AllZip WritesAtom (relation_elements (codes "conflicts") group ++ relation_elements (codes "breaks") group) facts.against
   pub provides : AllZip WritesProvide (relation_elements (codes "provides") group) facts.provides
 
--- the text is an index of these packages, of any number, none of them twice; the home, if it has a name, is the architecture of some stanza, and
--- not `all`
-pub record IndexSays (text : Text) (home : Home) (stanzas : List PackageFacts) : Type 0 where
-  pub each : AllZip (Says home) (stanza_groups text) stanzas
+-- The groups say this of their packages, of any number, none of them twice; the home, if it has a name, is the architecture of some stanza, and
+-- not `all`.
+pub record GroupsSay (groups : List (List Text)) (home : Home) (stanzas : List PackageFacts) : Type 0 where
+  pub each : AllZip (Says home) groups stanzas
   pub single : (m n : ℕ) → m < n → n < length stanzas → is_one_package (stanza_at stanzas n).name (stanza_at stanzas n).version (stanza_at stanzas m).name (stanza_at stanzas m).version ≡ false
-  pub local : (a : Text) → home.name ≡ Some a → (a ≢ codes "all") × ((group : List Text) × In group (stanza_groups text) × (field_value (codes "architecture") group ≡ Some a))
+  pub local : (a : Text) → home.name ≡ Some a → (a ≢ codes "all") × ((group : List Text) × In group groups × (field_value (codes "architecture") group ≡ Some a))
+
+-- the text is an index of these packages
+abbrev pub IndexSays : Text → Home → List PackageFacts → Type 0
+IndexSays text home stanzas = GroupsSay (stanza_groups text) home stanzas
+
+-- two packages with the same name, version and relations; the lines on which they stand, and whether they have an architecture other than
+-- `all`, are no part of that
+abbrev pub SaysTheSame : PackageFacts → PackageFacts → Type 0
+SaysTheSame one other = (one.name ≡ other.name) × (one.version ≡ other.version) × (one.needs ≡ other.needs) × (one.against ≡ other.against) × (one.provides ≡ other.provides)

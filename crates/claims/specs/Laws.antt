@@ -1,18 +1,21 @@
 -- That the short definitions say the same as those that the code keeps.
-use Rattle.std.specs.Prelude.{◌≡◌, ◌↔◌, ◌<◌, ◌≤◌, codes, length, false, true, Option, Some, unwrap_or, ℕ, Bool, List, [], ◌∷◌, ◌++◌, None, is_some, map}
+use Rattle.std.specs.Prelude.{◌≡◌, ◌↔◌, ◌<◌, ◌≤◌, codes, length, false, true, Option, Some, unwrap_or, ℕ, Bool, List, [], ◌∷◌, ◌++◌, None, is_some, map, filter}
 use Rattle.std.specs.List.{AllZip}
 use Rattle.coinst_words.specs.{Usage.{Text}, Jobs.{job_of}, declared.job.Job.{Job}, declared.job.Job.TheVariants.{Kernel, Compare}}
 use Rattle.relation_fields.specs.{Grammar.{atom_of, alternatives_of, provide_of}, Spelling.{Reads}, declared.packages.Home.{Home}}
 use Rattle.relation_fields.specs.declared.packages.PackageFacts.{PackageFacts}
 use Rattle.repo_model.specs.{Limits.{most_packages}, Facts.{facts_of}, Repository.{suite_repository}, FirstFault.{first_fault, home_of, stanzas_of}}
-use Rattle.repo_model.specs.Stanzas.{stanza_at, CoinstStanzas}
-use Rattle.claims.specs.{Index.{IndexSays}, Written.{StandsForKernel, StandsForOne}, Kernel.{SettlesTo}, Classes.{classes_of, IsItsClass}}
-use Rattle.claims.specs.{Words.{compare_words, kernel_words}, Asked.{ComparedIndex}, Printed.{printed_comparison}}
-use Rattle.claims.specs.{Sentences.{IsFaithfulComparison, IsFaithfulKernel}, Search.{Searched}, Spelling.{WritesAtom, WritesAlternatives, WritesProvide}}
+use Rattle.repo_model.specs.Stanzas.{stanza_at, CoinstStanzas, HealthyStanzas}
+use Rattle.claims.specs.{Answers.{printed_installation, printed_no}, Control.{stanza_groups}, Explained.{printed_core}, Plans.{IsMix}, Systems.{all_stanzas, is_own_group}}
+use Rattle.claims.specs.{Index.{GroupsSay, IndexSays, SaysTheSame}, Kernel.{SettlesTo}, Classes.{classes_of, IsItsClass, IsOneOf}, Settled.{IsKernelText}}
+use Rattle.listed.specs.Lists.{In}
+use Rattle.migrate_plan.specs.{declared.plan.PlanLine.{PlanLine}, declared.plan.PlanLine.TheVariants.{Take}}
+use Rattle.claims.specs.{Words.{compare_words, kernel_words}, Asked.{ComparedIndex, FoundInstallable, FoundUninstallable, IsAsked}, Printed.{comparison_status, names_of, printed_comparison}}
+use Rattle.claims.specs.{Sentences.{IsFaithfulAnswer, IsFaithfulExplanation, IsFaithfulKernel, IsFaithfulList, IsFaithfulPlan, IsFaithfulStoredAnswer, IsFaithfulSystem}, Search.{Searched}, Spelling.{WritesAtom, WritesAlternatives, WritesProvide}}
 use Rattle.kernel_text.specs.{KernelReads.{KernelReads}, KernelText.{format_of, kernel_text}, Members.{kernel_members}, declared.member.Member.{Member}}
 use Rattle.row_book.specs.{Flattening.{packages}, Rounds.{kernel, kernel_class, kernel_held, kernel_image}, Sound.{SoundRepository}, Sets.{NumSet, Is}}
 use Rattle.row_book.specs.Repository.{Repository, Coinst}
-use Rattle.headline.specs.{Indexes.{SearchedIndex}, Listing.{ListsExactly}}
+use Rattle.headline.specs.{Indexes.{SearchedIndex}, Listing.{ListsExactly, is_broken}}
 use Rattle.suite_compare.specs.{Refusals.{home_in, packages_in}, declared.report.ReportLine.{ReportLine}}
 use Rattle.search_terms.specs.{Tree.{Tree, IsTree, failed_leaves, found_of}, declared.literals.Literal.{Literal}}
 
@@ -38,22 +41,9 @@ IndexesAreRead = (text : Text) → first_fault text ≡ None → IndexSays text 
 abbrev pub IndexesAreAccepted : Type 0
 IndexesAreAccepted = (text : Text) (home : Home) (stanzas : List PackageFacts) → IndexSays text home stanzas → length stanzas ≤ most_packages → first_fault text ≡ None
 
--- two packages with the same name, version and relations; the lines on which they stand, and whether they have an architecture other than
--- `all`, are no part of that
-abbrev pub SaysTheSame : PackageFacts → PackageFacts → Type 0
-SaysTheSame one other = (one.name ≡ other.name) × (one.version ≡ other.version) × (one.needs ≡ other.needs) × (one.against ≡ other.against) × (one.provides ≡ other.provides)
-
 -- a text is an index of one list of packages and one home
 abbrev pub IndexesAreOne : Type 0
 IndexesAreOne = (text : Text) (home other : Home) (stanzas others : List PackageFacts) → IndexSays text home stanzas → IndexSays text other others → (home ≡ other) × AllZip SaysTheSame stanzas others
-
--- a text stands for a kernel by its blocks of lines exactly where it is read as one, line by line
-abbrev pub KernelsAreRead : Type 0
-KernelsAreRead = (text : Text) (format : ℕ) (R : Repository) (members : List Member) (held : List ℕ) → (StandsForKernel text format R members held ↔ KernelReads text format R members held)
-
--- and for one kernel
-abbrev pub KernelsAreReadOnce : Type 0
-KernelsAreReadOnce = (text : Text) → StandsForOne text
 
 -- the kernel that is computed is the first repository that a round leaves as it is
 abbrev pub KernelsAreKernels : Type 0
@@ -68,10 +58,15 @@ KernelsAreOne = (limit : ℕ) (hold : Bool) (R : Repository) (sets : List NumSet
 -- in one of which each stanza stands, and which can be together exactly where the stanzas can.
 abbrev pub KernelsMeanThis : Type 0
 KernelsMeanThis = (text printed : Text) (format : ℕ) (R : Repository) (members : List Member) (held : List ℕ) → first_fault text ≡ None → KernelReads printed format R members held
+    → ((m : Member) → In m members → IsOneOf (map facts_of (stanzas_of text)) m)
     → ((i : ℕ) → i < length (map facts_of (stanzas_of text)) → (k : ℕ) × IsItsClass (length R.clauses) members (stanza_at (map facts_of (stanzas_of text)) i) k)
     → ((S : NumSet) → ((n : ℕ) → Is S n → n < length (map facts_of (stanzas_of text)))
     → (CoinstStanzas (record { name = home_of (stanzas_of text) }) (map facts_of (stanzas_of text)) S ↔ Coinst R (classes_of (map facts_of (stanzas_of text)) members S)))
     → IsFaithfulKernel text printed
+
+-- an index as it is read, with its searches
+abbrev pub suite_of : SearchedIndex → ComparedIndex
+suite_of index = record { text = index.text; home = home_in index.text; stanzas = packages_in index.text; limit = index.limit; hold = index.hold; budget = index.budget }
 
 -- the text of the kernel of an index, at a limit, with hold or without
 abbrev pub kernel_printed : ℕ → Bool → Home → List PackageFacts → Text
@@ -83,6 +78,10 @@ kernel_printed limit hold home stanzas =
 -- So the text of the kernel of an index is a faithful kernel of it.
 abbrev pub PrintedKernelsAreFaithful : Type 0
 PrintedKernelsAreFaithful = (text : Text) (limit : ℕ) (hold : Bool) → first_fault text ≡ None → IsFaithfulKernel text (kernel_printed limit hold (home_in text) (packages_in text))
+
+-- and it is that of the kernel of the index as the sentences speak of it, so that they speak of some text
+abbrev pub KernelTextsAreThere : Type 0
+KernelTextsAreThere = (index : SearchedIndex) → first_fault index.text ≡ None → IsKernelText (suite_of index) (kernel_printed index.limit index.hold (home_in index.text) (packages_in index.text))
 
 -- the words of a kernel ask for it, where they ask for anything: a path that looks like an option is refused, and so is 0
 abbrev pub KernelWordsAsk : Type 0
@@ -100,15 +99,10 @@ pub record WordsAreTaken : Type 0 where
   pub compare : job_of (compare_words None None false (codes "old") (codes "new")) ≡ Some (Compare (codes "old") (codes "new") 10000 65536 false)
   pub compare_with_options : job_of (compare_words (Some 500) (Some 4096) true (codes "old") (codes "new")) ≡ Some (Compare (codes "old") (codes "new") 500 4096 true)
 
--- an index as it is read, with its searches
-abbrev pub suite_of : SearchedIndex → ComparedIndex
-suite_of index = record { text = index.text; home = home_in index.text; stanzas = packages_in index.text; limit = index.limit; hold = index.hold; budget = index.budget }
-
 -- What is kept of a comparison is the second sentence: two texts without a fault, and the text of a list that lists exactly what is broken and
 -- what is open.
 abbrev pub ComparisonsMeanThis : Type 0
-ComparisonsMeanThis = (old new : SearchedIndex) (lines : List ReportLine) (printed : Text) → first_fault old.text ≡ None → first_fault new.text ≡ None → ListsExactly old new lines → printed ≡ printed_comparison lines
-    → IsFaithfulComparison (suite_of old) (suite_of new) printed
+ComparisonsMeanThis = (old new : SearchedIndex) (lines : List ReportLine) → first_fault old.text ≡ None → first_fault new.text ≡ None → ListsExactly old new lines → IsFaithfulList (suite_of old) (suite_of new) lines
 
 -- an empty index, and what is printed for it: a kernel without classes, and a comparison without lines
 abbrev pub no_home : Home
@@ -130,5 +124,27 @@ a_package = codes "Package: a" ++ 10 ∷ (codes "Version: 1" ++ 10 ∷ [])
 -- The sentences are true of empty indexes, and the first is not of a kernel that lacks the package of its index.
 pub record EmptyIndexes : Type 0 where
   pub kernel : IsFaithfulKernel [] no_classes
-  pub comparison : IsFaithfulComparison empty_index empty_index no_lines
+  pub comparison : IsFaithfulList empty_index empty_index []
+  pub printed : printed_comparison [] ≡ no_lines
   pub wrong : ¬ (IsFaithfulKernel a_package no_classes)
+
+-- a kernel of one class with one package
+abbrev pub a_class : Text
+a_class = codes "coinst-kernel 1" ++ 10 ∷ (codes "class 0" ++ 10 ∷ (codes "member a 1" ++ 10 ∷ (codes "end 1 1" ++ 10 ∷ [])))
+
+-- Reports of which the sentences are not true: of an empty index a kernel with a package; a yes without a package for a goal; a no for the one package
+-- of an index; a no whose log lacks its last entry; a list with a line twice, or of a broken line with status 0; an explanation with no goal; a
+-- machine with status 0 that is not healthy; a plan that takes a name although it breaks something.
+pub record WrongReports : Type 0 where
+  pub stranger : ¬ (IsFaithfulKernel [] a_class)
+  pub no_package : (index : ComparedIndex) (status : ℕ) → ¬ (IsFaithfulAnswer index (codes "a" ∷ []) status (printed_installation index.stanzas []))
+  pub no_for_a_package : (index : ComparedIndex) (log : List (List Literal)) (status : ℕ) → GroupsSay (stanza_groups a_package) index.home index.stanzas → ¬ (IsFaithfulAnswer index (codes "a" ∷ []) status (printed_no log))
+  pub no_entry : (index : SearchedIndex) (goals : List Text) (status : ℕ) → first_fault index.text ≡ None → ¬ (IsFaithfulAnswer (suite_of index) goals status (printed_no []))
+  pub no_entry_of_classes : (kernel : Text) (R : Repository) (members : List Member) (goals : List Text) (budget status : ℕ) → ¬ (IsFaithfulStoredAnswer kernel R members goals budget status (printed_no []))
+  pub line_twice : (old new : ComparedIndex) (l : ReportLine) → ¬ (IsFaithfulList old new (l ∷ l ∷ []))
+  pub broken_is_told : (l : ReportLine) (lines : List ReportLine) → is_broken l ≡ true → comparison_status (l ∷ lines) ≡ 1
+  pub no_goal : (index : ComparedIndex) (goals : List Text) (status : ℕ) → ¬ (IsFaithfulExplanation index goals status (printed_core index.stanzas [] (Some [])))
+  pub well : (index : ComparedIndex) (file printed : Text) → IsFaithfulSystem index file 0 printed →
+      (home : Home) × (own : List PackageFacts) × GroupsSay (filter (is_own_group index.home) (stanza_groups file)) home own × HealthyStanzas home own (all_stanzas own)
+  pub taken : (old new : ComparedIndex) (name : Text) (lines : List PlanLine) → IsFaithfulPlan old new (Take name ∷ lines) → (mix : ComparedIndex) × IsMix old new (name ∷ []) mix
+      × ((l : ReportLine) → is_broken l ≡ true → IsAsked old mix (names_of l) → FoundInstallable old (names_of l) → ¬ (FoundUninstallable mix (names_of l)))

@@ -1,5 +1,5 @@
 -- The printed lines of a comparison, and their order.
-use Rattle.std.specs.{Prelude.{◌≡◌, ◌⊎◌, not, List, [], ◌∷◌, ◌++◌, codes, length, filter, if◌then◌else◌}, Fmt.{decimal}, List.{flat_map}}
+use Rattle.std.specs.{Prelude.{◌≡◌, ◌⊎◌, ℕ, not, List, [], ◌∷◌, ◌++◌, codes, length, filter, if◌then◌else◌}, Fmt.{decimal}, List.{flat_map, list_any}}
 use Rattle.clause_pool.specs.Lists.{Before}
 use Rattle.coinst_words.specs.Usage.{Text}
 use Rattle.headline.specs.Listing.{is_broken}
@@ -22,6 +22,10 @@ unfoldable pub printed_comparison : List ReportLine → Text
 printed_comparison lines =
     flat_map printed_line lines
     ++ with_feed (codes "end " ++ (decimal (length (filter is_broken lines)) ++ (codes " " ++ decimal (length (filter (λ l. not (is_broken l)) lines)))))
+
+-- the status of a comparison: 1 if a line is broken, or else 8 if a line is open, or else 0
+abbrev pub comparison_status : List ReportLine → ℕ
+comparison_status lines = if list_any is_broken lines then 1 else (if list_any (λ l. not (is_broken l)) lines then 8 else 0)
 
 -- names come before pairs; names, and pairs by their first names and then by their second ones, in the order of bytes
 abbrev pub Precedes : List Text → List Text → Type 0

@@ -1,8 +1,8 @@
-//! The two sentences, in specs/Sentences.antt. What they rest on is said here only where the code says it as a function, or at greater length,
+//! The sentences on what the commands print, in specs/Sentences.antt. What they rest on is said here only where the code says it as a function, or at greater length,
 //! and then under a name of its own; laws tie the two. The functions do nothing, the contract of each is one law.
 #![tactic(auto)]
 
-ghost use Rattle.claims.specs.Laws.{SpellingsAreRead, TreesAreSearches, SearchesAreOne, IndexesAreRead, IndexesAreOne, IndexesAreAccepted, KernelsAreRead, KernelsAreReadOnce, KernelsAreKernels, KernelsAreOne, KernelsMeanThis, PrintedKernelsAreFaithful, KernelWordsAsk, CompareWordsAsk, WordsAreTaken, ComparisonsMeanThis, EmptyIndexes};
+ghost use Rattle.claims.specs.Laws.{SpellingsAreRead, TreesAreSearches, SearchesAreOne, IndexesAreRead, IndexesAreOne, IndexesAreAccepted, KernelsAreKernels, KernelsAreOne, KernelsMeanThis, PrintedKernelsAreFaithful, KernelTextsAreThere, KernelWordsAsk, CompareWordsAsk, WordsAreTaken, ComparisonsMeanThis, EmptyIndexes, WrongReports};
 
 /// What is read of a relation is what it is one way of writing.
 pub fn spellings_are_read()
@@ -35,16 +35,6 @@ pub fn indexes_are_one()
     ensures { IndexesAreOne }
 {}
 
-/// A text stands for a kernel by its blocks of lines exactly where it is read as that kernel line by line.
-pub fn kernels_are_read()
-    ensures { KernelsAreRead }
-{}
-
-/// A text stands for one kernel.
-pub fn kernels_are_read_once()
-    ensures { KernelsAreReadOnce }
-{}
-
 /// The kernel that is computed is the first repository that a round leaves as it is.
 pub fn kernels_are_kernels()
     ensures { KernelsAreKernels }
@@ -63,6 +53,11 @@ pub fn kernels_mean_this()
 /// The text of the kernel of an index, at any limit, with hold or without, is a faithful kernel of it.
 pub fn printed_kernels_are_faithful()
     ensures { PrintedKernelsAreFaithful }
+{}
+
+/// The text of the kernel of an index is one in the words of the sentences, so that they speak of some text.
+pub fn kernel_texts_are_there()
+    ensures { KernelTextsAreThere }
 {}
 
 /// The words of a kernel ask for it, where they ask for anything.
@@ -88,4 +83,9 @@ pub fn comparisons_mean_this()
 /// The sentences are true of empty indexes, and the first is not of a kernel that lacks the package of its index.
 pub fn empty_indexes()
     ensures { EmptyIndexes }
+{}
+
+/// Reports of which the sentences are not true, each for one reason.
+pub fn wrong_reports()
+    ensures { WrongReports }
 {}

@@ -1,12 +1,12 @@
 -- What the report of a comparison means.
-use Rattle.std.proofs.Common.{◌≡◌, Bool, true, false, List, [], ◌∷◌, refl, subst}
+use Rattle.std.proofs.Common.{◌≡◌, Bool, true, false, List, [], ◌∷◌, ap, refl, subst, ◌∙◌}
 use Rattle.std.specs.{Prelude.{if◌then◌else◌, filter, length}, List.{list_any}}
 use Rattle.suite_compare.specs.{Asking.{verdict_in}, declared.report.ReportLine.{ReportLine}}
 use Rattle.suite_compare.specs.{declared.report.ReportLine.TheVariants.{Broken1, Broken2, Open1, Open2}, Refusals.{home_in, packages_in}}
 use Rattle.suite_compare.proofs.Deciding.{verdict_is_judged}
 use Rattle.headline.specs.{Indexes.{SearchedIndex, searched}, Listing.{HasNoOpenLine, ListsExactly, is_broken}}
 use Rattle.headline.proofs.{Exact.{report_lists_exactly}, Lost.{empty_list_loses_nothing, without_open_lines}}
-use Rattle.coinst_run.proofs.{Prints.{exact_lists_print_exactly, lines_are_cut}, AnswerMeant.{told_means}, GoingOn.{GivesThis, kernel_used, this_alone}}
+use Rattle.coinst_run.proofs.{Prints.{exact_lists_print_exactly, lines_are_cut}, AnswerMeant.{told_means}, Given.{at_end, kernel_read}}
 use Rattle.listed.specs.Lists.{In}
 use Rattle.listed.proofs.Lists.{In_none, filter_from}
 use Rattle.coinst_run.specs.declared.answer.ReportVerdict.TheVariants.{Done, Negative, Undecided}
@@ -40,25 +40,25 @@ none_open lines zero =
 
 pub compare_is_meant : CompareIsMeant
 unfolding broken_lines
-compare_is_meant old new budget limit hold files verdict printed e =
-    let first = kernel_used (GivesThis verdict printed) (this_alone verdict printed) files old limit hold (newer_course new budget limit hold) e in
-    let second = kernel_used (GivesThis verdict printed) (this_alone verdict printed) files new limit hold (compare_answer budget limit hold (index_in first.0)) first.2 in
+compare_is_meant old new budget limit hold readings verdict printed e =
+    let first = kernel_read verdict printed old limit hold (newer_course new budget limit hold) readings e in
+    let second = kernel_read verdict printed new limit hold (compare_answer budget limit hold (index_in first.0)) first.1 first.4 in
     let lines : List ReportLine = broken_lines budget limit hold (index_in first.0) (index_in second.0) in
+    let end = at_end verdict printed (lines_answer lines) second.1 second.4 in
     let older : SearchedIndex = searched first.0 budget limit hold in
     let newer : SearchedIndex = searched second.0 budget limit hold in
     let exact : ListsExactly older newer lines = report_lists_exactly older newer (verdict_in limit hold (home_in first.0) (packages_in first.0) budget) (verdict_in limit hold (home_in second.0) (packages_in second.0) budget)
     (λ goals. verdict_is_judged limit hold (home_in first.0) (packages_in first.0) budget goals) (λ goals. verdict_is_judged limit hold (home_in second.0) (packages_in second.0) budget goals) in (
       first.0,
       second.0,
-      (first.1).0.file.is,
-      (second.1).0.file.is,
-      told_means (CompareMeans first.0 second.0 budget limit hold) (lines_answer lines) verdict printed second.2 record {
-        old_accepted = (first.1).0.accepted;
-        new_accepted = (second.1).0.accepted;
-        prints = exact_lists_print_exactly older newer lines (first.1).0.accepted exact;
+      first.2 ∙ ap (λ rest. (old, first.0) ∷ rest) (second.2 ∙ ap (λ rest. (new, second.0) ∷ rest) end.0),
+      told_means (CompareMeans first.0 second.0 budget limit hold) (lines_answer lines) verdict printed end.1 record {
+        old_accepted = first.3;
+        new_accepted = second.3;
+        prints = exact_lists_print_exactly older newer lines first.3 exact;
         lines = lines;
         exact = exact;
-        cut = lines_are_cut older newer lines (first.1).0.accepted exact;
+        cut = lines_are_cut older newer lines first.3 exact;
         losses = λ zero. without_open_lines older newer lines exact (none_open lines zero);
         nothing_lost = λ done. empty_list_loses_nothing older newer (subst (ListsExactly older newer) (done_is_empty lines done) exact);
         reads = refl;

@@ -2,7 +2,9 @@ pub mod Ends
 pub mod Follows
 pub mod Kernels
 pub mod Meaning
+pub mod Readings
 pub mod Runs
+pub mod Noted
 pub mod Telling
 pub mod QueryMeant
 pub mod StoredKernels
@@ -14,6 +16,7 @@ mod LineWords
 mod Prints
 pub mod CompareMeant
 pub mod GoingOn
+pub mod Given
 pub mod Migrating
 pub mod MigrateMeant
 pub mod OneInstallation
@@ -23,3 +26,7 @@ pub mod SystemLines
 pub mod SystemMeant
 pub mod Sentences
 pub mod AnswerMeant
+pub mod QuerySentences
+pub mod ExplainSentence
+pub mod MigrateSentence
+pub mod StatusSentence

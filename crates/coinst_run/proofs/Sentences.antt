@@ -1,29 +1,39 @@
 -- The two sentences, from what a report means.
-use Rattle.std.proofs.Common.{◌≡◌, ℕ, false, List, [], ◌++◌, Option, Some, None, filter, length, refl, sym, ap, subst, ◌∙◌, append_assoc}
+use Rattle.std.proofs.Common.{◌≡◌, ℕ, Bool, true, false, cond, List, [], ◌++◌, Option, Some, None, filter, length, refl, sym, ap, subst, ◌∙◌, append_assoc}
 use Rattle.std.proofs.lemmas.List.{append-nil}
-use Rattle.std.specs.{Prelude.{codes, unwrap_or}, Fmt.{decimal}, List.{flat_map}}
-use Rattle.byte_flow.specs.Flow.{Files}
+use Rattle.std.specs.{Prelude.{codes, unwrap_or}, Fmt.{decimal}, List.{flat_map, list_any}}
+use Rattle.byte_flow.specs.History.{Reading}
 use Rattle.coinst_words.specs.{Jobs.{job_of}, declared.job.Job.TheVariants.{Kernel, Compare}}
 use Rattle.headline.specs.{Indexes.{searched}, Listing.{is_broken}}
-use Rattle.kernel_text.specs.KernelText.{format_of}
+use Rattle.kernel_text.specs.{KernelText.{format_of}, declared.member.Member.{Member}}
+use Rattle.listed.specs.Lists.{In}
+use Rattle.repo_model.proofs.Accepted.{accepted}
+use Rattle.suite_compare.specs.Refusals.{home_in, packages_in}
+use Rattle.claims.specs.Classes.{IsOneOf}
+use Rattle.claims.proofs.PrintedKernels.{people}
+use Rattle.coinst_run.specs.IndexKernel.{classed_kernel, index_kernel}
 use Rattle.listed.proofs.Lists.{flat_same}
 use Rattle.suite_compare.specs.{declared.report.ReportLine.{ReportLine}, declared.report.ReportLine.TheVariants.{Broken1, Broken2, Open1, Open2}}
-use Rattle.claims.specs.{Printed.{printed_comparison, printed_line}, Sentences.{CompareIsTrue, KernelIsTrue}, Laws.{suite_of}}
+use Rattle.claims.specs.{Printed.{comparison_status, printed_comparison, printed_line}, Sentences.{CompareIsTrue, KernelIsTrue}, Laws.{suite_of}}
 use Rattle.claims.proofs.{CompareSentence.{comparisons_mean_this}, KernelSentence.{kernels_mean_this}, Words.{compare_words_ask, kernel_words_ask}}
-use Rattle.coinst_run.specs.{CompareText.{comparison_line, comparison_text, end_text, is_open}, CompareMeaning.{CompareMeans}, KernelMeaning.{KernelMeans}}
-use Rattle.coinst_run.specs.{Lines.{line_of_text}, Meaning.{IsMeant, MeansJob}, Run.{Took}, declared.answer.ReportVerdict.{ReportVerdict}}
+use Rattle.coinst_run.specs.{CompareText.{comparison_line, comparison_text, comparison_verdict, end_text, is_open}, CompareMeaning.{CompareMeans}, KernelMeaning.{KernelMeans}}
+use Rattle.coinst_run.specs.{Lines.{line_of_text}, Meaning.{IsMeant, MeansJob}, Status.{code_of, verdict_status}, declared.answer.ReportVerdict.{ReportVerdict}, declared.answer.ReportVerdict.TheVariants.{Done, Negative, Undecided}}
 
--- what the taken bytes mean, in other words
-pub took_so : (old new : Option (List ℕ)) {P Q : List ℕ → Type 0} → ((bytes : List ℕ) → P bytes → Q bytes) → Took old new P → Took old new Q
-took_so None new to t = tt
-took_so (Some xs) new to t = (t.0, t.1, to t.0 t.2)
+-- each member is a stanza
+people_of : (text : List ℕ) (limit : ℕ) (hold : Bool) (printed : List ℕ) (k : KernelMeans text limit hold printed) → (m : Member) → In m k.members → IsOneOf (packages_in text) m
+unfolding index_kernel classed_kernel
+people_of text limit hold printed k m i = people limit hold (home_in text) (packages_in text) (accepted text k.accepted) m (subst (λ ms. In m ms) k.people i)
 
-pub kernel_is_true : (words : List (List ℕ)) (files : Files) (verdict : ReportVerdict) (printed : List ℕ) → IsMeant words files verdict printed → KernelIsTrue words files printed
-kernel_is_true words files verdict printed m limit hold path low is =
+pub kernel_is_true : (words : List (List ℕ)) (readings : List Reading) (verdict : ReportVerdict) (printed : List ℕ) → IsMeant words readings verdict printed → KernelIsTrue words readings (code_of (verdict_status verdict)) printed
+kernel_is_true words readings verdict printed m limit hold path low is =
     let job : m.job ≡ Kernel path false (unwrap_or limit 65536) hold = kernel_words_ask limit hold path m.job low (ap job_of (sym is) ∙ m.asked) in
-    let means : MeansJob (Kernel path false (unwrap_or limit 65536) hold) files verdict printed = subst (λ j. MeansJob j files verdict printed) job m.means in
-    let k : KernelMeans means.0 (unwrap_or limit 65536) hold printed = means.2 in
-    (means.0, means.1, kernels_mean_this means.0 printed (format_of hold) k.repository k.members k.held k.accepted k.reads k.stands k.keeps)
+    let means : MeansJob (Kernel path false (unwrap_or limit 65536) hold) readings verdict printed = subst (λ j. MeansJob j readings verdict printed) job m.means in
+    let k : KernelMeans means.0 (unwrap_or limit 65536) hold printed = means.3 in (
+      means.0,
+      means.1,
+      ap (λ v. code_of (verdict_status v)) means.2,
+      kernels_mean_this means.0 printed (format_of hold) k.repository k.members k.held k.accepted k.reads (people_of means.0 (unwrap_or limit 65536) hold printed k) k.stands k.keeps,
+    )
 
 -- the lines in both spellings
 one_name : (word name : List ℕ) → word ++ (codes " " ++ name) ≡ word ++ ((codes " " ++ name) ++ [])
@@ -32,7 +42,7 @@ one_name word name = ap (λ t. word ++ t) (sym (append-nil (codes " " ++ name)))
 two_names : (word first second : List ℕ) → word ++ (codes " " ++ (first ++ (codes " " ++ second))) ≡ word ++ ((codes " " ++ first) ++ ((codes " " ++ second) ++ []))
 two_names word first second = ap (λ t. word ++ (codes " " ++ (first ++ t))) (sym (append-nil (codes " " ++ second)))
 
-same_line : (l : ReportLine) → comparison_line l ≡ printed_line l
+pub same_line : (l : ReportLine) → comparison_line l ≡ printed_line l
 same_line (Broken1 a) = ap line_of_text (one_name (codes "broken") a)
 same_line (Broken2 a b) = ap (λ t. line_of_text (codes "broken" ++ (codes " " ++ t))) (append_assoc a (codes " ") b) ∙ ap line_of_text (two_names (codes "broken") a b)
 same_line (Open1 a) = ap line_of_text (one_name (codes "open") a)
@@ -46,18 +56,31 @@ same_text lines =
     ap (λ t. t ++ end_text lines) (flat_same comparison_line printed_line lines (λ l i. same_line l))
     ∙ ap (λ t. flat_map printed_line lines ++ line_of_text (codes "end " ++ t)) (append_assoc broken (codes " ") undecided)
 
-pub compare_is_true : (words : List (List ℕ)) (files : Files) (verdict : ReportVerdict) (printed : List ℕ) → IsMeant words files verdict printed → CompareIsTrue words files printed
-compare_is_true words files verdict printed m budget limit hold first second low small is =
+-- the status of a list in both spellings
+comparison_ends : (lines : List ReportLine) → code_of (verdict_status (comparison_verdict lines)) ≡ comparison_status lines
+comparison_ends lines = by (list_any is_broken lines) (list_any is_open lines)
+  where
+    by : (a b : Bool) → code_of (verdict_status (cond a Negative (cond b Undecided Done))) ≡ cond a 1 (cond b 8 0)
+    by true b = refl
+    by false true = refl
+    by false false = refl
+
+pub compare_is_true : (words : List (List ℕ)) (readings : List Reading) (verdict : ReportVerdict) (printed : List ℕ) → IsMeant words readings verdict printed → CompareIsTrue words readings (code_of (verdict_status verdict)) printed
+compare_is_true words readings verdict printed m budget limit hold first second low small is =
     let b : ℕ = unwrap_or budget 10000 in
     let n : ℕ = unwrap_or limit 65536 in
     let job : m.job ≡ Compare first second b n hold = compare_words_ask budget limit hold first second m.job low small (ap job_of (sym is) ∙ m.asked) in
-    let means : MeansJob (Compare first second b n hold) files verdict printed = subst (λ j. MeansJob j files verdict printed) job m.means in
-    let k : CompareMeans means.0 means.1 b n hold verdict printed = means.4 in (
+    let means : MeansJob (Compare first second b n hold) readings verdict printed = subst (λ j. MeansJob j readings verdict printed) job m.means in
+    let k : CompareMeans means.0 means.1 b n hold verdict printed = means.3 in (
       suite_of (searched means.0 b n hold),
       suite_of (searched means.1 b n hold),
       means.2,
-      means.3,
       (refl, refl, refl),
       (refl, refl, refl),
-      comparisons_mean_this (searched means.0 b n hold) (searched means.1 b n hold) k.lines printed k.old_accepted k.new_accepted k.exact (k.reads ∙ same_text k.lines),
+      (
+        k.lines,
+        comparisons_mean_this (searched means.0 b n hold) (searched means.1 b n hold) k.lines k.old_accepted k.new_accepted k.exact,
+        k.reads ∙ same_text k.lines,
+        ap (λ v. code_of (verdict_status v)) k.whole ∙ comparison_ends k.lines,
+      ),
     )

@@ -3,9 +3,9 @@ use Rattle.std.proofs.Common.{◌≡◌, ℕ, ◌+◌, Bool, true, false, cond, 
 use Rattle.std.proofs.{lemmas.Bool.{le-ltb}, lemmas.List.{append-nil, flat_map_more}, lemmas.List.Elements.{filter-append}}
 use Rattle.std.specs.List.{flat_map}
 use Rattle.clause_solver.specs.{Outcomes.{IsSearchOutcome}, declared.outcomes.Outcome.TheVariants.{Found, Refuted, Spent}}
-use Rattle.kernel_text.specs.{declared.fault.KernelFault.{KernelFault}, declared.fault.KernelFault.TheVariants.{End, Memory}, declared.member.Member.{Member}}
-use Rattle.kernel_text.specs.{Images.{image_of, unknown_goal}, KernelFaults.{IsFault}, KernelReads.{KernelReads, content}}
-use Rattle.kernel_text.proofs.{ReadIsWritten.{read_is_written}, StoredReading.{reading_is}}
+use Rattle.kernel_text.specs.{declared.fault.KernelFault.{KernelFault}, declared.member.Member.{Member}}
+use Rattle.kernel_text.specs.{Images.{image_of, unknown_goal}, KernelReads.{KernelReads, content}, StoredReading.{stored_reading}}
+use Rattle.kernel_text.proofs.StoredReading.{texts_are_told}
 use Rattle.repo_model.specs.declared.goals.Goal.{Goal}
 use Rattle.row_book.specs.{Numbers.{numbers}, Flags.{flag}, Needs.{NeedsFit}, Repository.{Repository}, Sound.{SoundRepository}}
 use Rattle.row_book.proofs.Numbers.{numbers_more}
@@ -19,16 +19,13 @@ use Rattle.coinst_run.specs.StoredQuery.{by_reading, checked_kernel, class_line,
 
 -- a text that was read, and one that was refused
 pub kernel_checked : (path text : List ℕ) (format : ℕ) (R : Repository) (members : List Member) (held : List ℕ) → KernelReads text format R members held → checked_kernel path text ≡ Ok (content format R members held)
-kernel_checked path text format R members held k = ap (by_reading path) (((reading_is text).kernels format R members held).0 k)
+kernel_checked path text format R members held k = ap (by_reading path) ((texts_are_told text format R members held).0 k)
 
 pub kernel_sound : (text : List ℕ) (format : ℕ) (R : Repository) (members : List Member) (held : List ℕ) → KernelReads text format R members held → SoundRepository R
-kernel_sound text format R members held k = (((read_is_written text format R members held).0 k).0).sound
+kernel_sound text format R members held k = k.writable.sound
 
-pub kernel_refused : (path text : List ℕ) (fault : KernelFault) → (fault ≡ Memory → ⊥) → IsFault text fault → checked_kernel path text ≡ Err (refused Content (kernel_fault_line path fault))
-kernel_refused path text fault other is = ap (by_reading path) (((reading_is text).faults fault).0 (other, is))
-
-pub end_other : End ≡ Memory → ⊥
-end_other e = let f : ⊥ = cc in f
+pub kernel_refused : (path text : List ℕ) (fault : KernelFault) → stored_reading text ≡ Err fault → checked_kernel path text ≡ Err (refused Content (kernel_fault_line path fault))
+kernel_refused path text fault is = ap (by_reading path) is
 
 -- goals that are known are answered by the tree
 pub known_told : (format : ℕ) (R : Repository) (members : List Member) (held : List ℕ) (goals : List Goal) (budget size : ℕ) (needs : List (List ℕ)) → unknown_goal members goals ≡ None → size ≡ length R.clauses →

@@ -1,13 +1,13 @@
 -- What the report of a comparison means for the two indexes.
 use Rattle.std.specs.Prelude.{◌≡◌, ℕ, Bool, List, length, None, Some, [], ◌∷◌, ◌++◌, filter, map}
-use Rattle.byte_flow.specs.Flow.{Files}
+use Rattle.byte_flow.specs.History.{Reading}
 use Rattle.headline.specs.{Indexes.{searched}, Listing.{ListsExactly, ListsLosses, LosesNothing}}
 use Rattle.kernel_text.specs.KernelLines.{lines_of}
 use Rattle.repo_model.specs.FirstFault.{first_fault}
 use Rattle.suite_compare.specs.declared.report.ReportLine.{ReportLine}
 use Rattle.coinst_run.specs.{declared.answer.ReportVerdict.{ReportVerdict}, declared.answer.ReportVerdict.TheVariants.{Done}, Answer.{reported}}
 use Rattle.coinst_run.specs.{Compare.{compare_course}, ComparePrints.{PrintsExactly}}
-use Rattle.coinst_run.specs.{CompareText.{comparison_line, comparison_text, comparison_verdict, end_text, is_open}, Outcome.{answered, outcome_over}}
+use Rattle.coinst_run.specs.{CompareText.{comparison_line, comparison_text, comparison_verdict, end_text, is_open}, Outcome.{Gives}}
 
 -- Both texts are indexes without a fault. The line `broken NAME` is printed for exactly those names of both that the older index can
 -- install and the newer one cannot, `open NAME` for exactly those at which a search that would tell went past the budget, and so
@@ -26,7 +26,7 @@ pub record CompareMeans (old new : List ℕ) (budget limit : ℕ) (hold : Bool) 
   pub reads : printed ≡ comparison_text lines
   pub whole : verdict ≡ comparison_verdict lines
 
--- what is reported over files means this for the files at the two paths
+-- what is reported of two files means this for their texts
 abbrev pub CompareIsMeant : Type 0
-CompareIsMeant = (old new : List ℕ) (budget limit : ℕ) (hold : Bool) (files : Files) (verdict : ReportVerdict) (printed : List ℕ) → outcome_over files (compare_course old new budget limit hold) ≡ answered (reported verdict printed) →
-    (first second : List ℕ) × (files old ≡ Some first) × (files new ≡ Some second) × CompareMeans first second budget limit hold verdict printed
+CompareIsMeant = (old new : List ℕ) (budget limit : ℕ) (hold : Bool) (readings : List Reading) (verdict : ReportVerdict) (printed : List ℕ) → Gives (compare_course old new budget limit hold) readings (reported verdict printed) →
+    (first second : List ℕ) × (readings ≡ (old, first) ∷ (new, second) ∷ []) × CompareMeans first second budget limit hold verdict printed

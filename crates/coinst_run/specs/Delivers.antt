@@ -1,29 +1,29 @@
 -- What the two sinks take of an answer, and the status.
 use Rattle.std.specs.{Prelude.{◌≡◌, ℕ, ◌<◌, ◌≤◌, ◌⊎◌, List, [], ◌++◌, drop, length, take, Option, Some, None, ⊤}, Io.KnownBytes.{Appends}}
-use Rattle.byte_flow.specs.{Flow.{Rose}, Transfer.{LastWriteFailed, Sent}}
+use Rattle.byte_flow.specs.{Flow.{Rose}, Models.{SinkModel}, Transfer.{LastWriteFailed, Sent}}
 use Rattle.coinst_run.specs.{declared.answer.ReportVerdict.{ReportVerdict}, declared.status.Status.{Status}}
 use Rattle.coinst_run.specs.{declared.status.Status.TheVariants.{Memory, WriteFault}, Answer.{reported, refused}, Lines.{cut_line, memory_line}}
 use Rattle.coinst_run.specs.{Outcome.{Outcome, answered, unread, not_a_command, line_of, status_of}, Status.{verdict_status}}
 
 -- writes, each of which was given a front of what was left of the line and took at least one byte, lead from the sink `old` to a
 -- sink, and leave these bytes
-pub data Offered {E : Type 0} (write : E → List ℕ → Option ℕ → E → Type 0) (old : E) (line : List ℕ) : E → List ℕ → Type 0 where
-  not_begun : Offered write old line old line
-  offered_on : {s t : E} {n : ℕ} (front left : List ℕ) → Offered write old line s (front ++ left) → write s front (Some n) t → 0 < n → Offered write old line t (drop n front ++ left)
+pub data Offered {E : Type 0} (N : SinkModel E) (old : E) (line : List ℕ) : E → List ℕ → Type 0 where
+  not_begun : Offered N old line old line
+  offered_on : {s t : E} {n : ℕ} (front left : List ℕ) → Offered N old line s (front ++ left) → N.write_gives s front (Some n) t → 0 < n → Offered N old line t (drop n front ++ left)
 
 -- the last call was a write of a front of what was left, not nothing, and it failed
-pub record LastOfferFailed {E : Type 0} (write : E → List ℕ → Option ℕ → E → Type 0) (old : E) (line : List ℕ) (new : E) : Type 0 where
+pub record LastOfferFailed {E : Type 0} (N : SinkModel E) (old : E) (line : List ℕ) (new : E) : Type 0 where
   pub before : E
   pub front : List ℕ
   pub left : List ℕ
   pub some : 0 < length front
-  pub offered : Offered write old line before (front ++ left)
-  pub last : write before front None new
+  pub offered : Offered N old line before (front ++ left)
+  pub last : N.write_gives before front None new
 
 -- Standard error took the line, by the writes of it and no others, or after a failed write, the last, a front of it.
-pub record Tells {E : Type 0} (taken : E → Option (List ℕ)) (faults : E → ℕ) (write : E → List ℕ → Option ℕ → E → Type 0) (old new : E) (line : List ℕ) : Type 0 where
-  pub took : Appends (taken old) (taken new) line ⊎ (Rose (faults old) (faults new) × ((n : ℕ) × Appends (taken old) (taken new) (take n line)))
-  pub calls : Offered write old line new [] ⊎ LastOfferFailed write old line new
+pub record Tells {E : Type 0} (N : SinkModel E) (old new : E) (line : List ℕ) : Type 0 where
+  pub took : Appends (N.taken old) (N.taken new) line ⊎ (Rose (N.faults old) (N.faults new) × ((n : ℕ) × Appends (N.taken old) (N.taken new) (take n line)))
+  pub calls : Offered N old line new [] ⊎ LastOfferFailed N old line new
 
 -- an outcome without a report
 abbrev pub IsStop : Outcome → Type 0
@@ -33,38 +33,36 @@ IsStop (unread path) = ⊤
 IsStop not_a_command = ⊤
 
 -- The report was taken whole, by the writes of it and no others, and nothing was told.
-pub record IsWritten {O E : Type 0} (taken : O → Option (List ℕ)) (write : O → List ℕ → Option ℕ → O → Type 0)
+pub record IsWritten {O E : Type 0} (N : SinkModel O)
     (out : O) (err : E) (verdict : ReportVerdict) (report : List ℕ) (result : Status) (out_after : O) (err_after : E) : Type 0 where
   pub status : result ≡ verdict_status verdict
-  pub calls : Sent write out report out_after []
-  pub took : Appends (taken out) (taken out_after) report
+  pub calls : Sent N out report out_after []
+  pub took : Appends (N.taken out) (N.taken out_after) report
   pub quiet : err_after ≡ err
 
 -- A write of the report failed, the last, and what was taken before it is told by its length.
-pub record IsCut {O E : Type 0} (taken : O → Option (List ℕ)) (faults room : O → ℕ) (write : O → List ℕ → Option ℕ → O → Type 0)
-    (told : E → Option (List ℕ)) (told_faults : E → ℕ) (told_write : E → List ℕ → Option ℕ → E → Type 0)
+pub record IsCut {O E : Type 0} (N : SinkModel O) (L : SinkModel E)
     (out : O) (err : E) (report : List ℕ) (result : Status) (out_after : O) (err_after : E) : Type 0 where
   pub status : result ≡ WriteFault
-  pub calls : LastWriteFailed write out report out_after
+  pub calls : LastWriteFailed N out report out_after
   pub written : ℕ
   pub short : written < length report
-  pub took : Appends (taken out) (taken out_after) (take written report)
-  pub rose : Rose (faults out) (faults out_after)
-  pub roomless : length report ≤ room out → ⊥
-  pub line : Tells told told_faults told_write err err_after (cut_line written)
+  pub took : Appends (N.taken out) (N.taken out_after) (take written report)
+  pub rose : Rose (N.faults out) (N.faults out_after)
+  pub roomless : length report ≤ N.room out → ⊥
+  pub line : Tells L err err_after (cut_line written)
 
 -- There is no report, and the line of the outcome is told, or that of want of memory.
-abbrev pub IsRefused : {E : Type 0} → (E → Option (List ℕ)) → (E → ℕ) → (E → List ℕ → Option ℕ → E → Type 0) → E → Option Outcome → Status → E → Type 0
-IsRefused told faults write err None result after = (result ≡ Memory) × Tells told faults write err after memory_line
-IsRefused told faults write err (Some outcome) result after = IsStop outcome × (result ≡ status_of outcome) × Tells told faults write err after (line_of outcome)
+abbrev pub IsRefused : {E : Type 0} → SinkModel E → E → Option Outcome → Status → E → Type 0
+IsRefused L err None result after = (result ≡ Memory) × Tells L err after memory_line
+IsRefused L err (Some outcome) result after = IsStop outcome × (result ≡ status_of outcome) × Tells L err after (line_of outcome)
 
 -- What the sinks take, by the ending, which alone decides the status and the line: that a write of the line fails changes neither.
-pub data Delivers {O E : Type 0} (taken : O → Option (List ℕ)) (faults room : O → ℕ) (write : O → List ℕ → Option ℕ → O → Type 0)
-    (told : E → Option (List ℕ)) (told_faults : E → ℕ) (told_write : E → List ℕ → Option ℕ → E → Type 0)
+pub data Delivers {O E : Type 0} (N : SinkModel O) (L : SinkModel E)
     (out : O) (err : E) (result : Status) (out_after : O) (err_after : E) : Option Outcome → Type 0 where
-  a_report : (verdict : ReportVerdict) (report : List ℕ) → IsWritten taken write out err verdict report result out_after err_after →
-      Delivers taken faults room write told told_faults told_write out err result out_after err_after (Some (answered (reported verdict report)))
-  a_cut_report : (verdict : ReportVerdict) (report : List ℕ) → IsCut taken faults room write told told_faults told_write out err report result out_after err_after →
-      Delivers taken faults room write told told_faults told_write out err result out_after err_after (Some (answered (reported verdict report)))
-  a_refusal : (ending : Option Outcome) → out_after ≡ out → IsRefused told told_faults told_write err ending result err_after →
-      Delivers taken faults room write told told_faults told_write out err result out_after err_after ending
+  a_report : (verdict : ReportVerdict) (report : List ℕ) → IsWritten N out err verdict report result out_after err_after →
+      Delivers N L out err result out_after err_after (Some (answered (reported verdict report)))
+  a_cut_report : (verdict : ReportVerdict) (report : List ℕ) → IsCut N L out err report result out_after err_after →
+      Delivers N L out err result out_after err_after (Some (answered (reported verdict report)))
+  a_refusal : (ending : Option Outcome) → out_after ≡ out → IsRefused L err ending result err_after →
+      Delivers N L out err result out_after err_after ending

@@ -1,17 +1,19 @@
 -- What the report of an explanation means for the index that was asked, judged on its stanzas.
-use Rattle.std.specs.Prelude.{◌≡◌, ℕ, Bool, List, length, Option, Some, None, IfSome}
-use Rattle.byte_flow.specs.Flow.{Files}
+use Rattle.std.specs.Prelude.{◌≡◌, ℕ, Bool, List, length, Option, Some, None, IfSome, [], ◌∷◌, ◌≤◌}
+use Rattle.byte_flow.specs.History.{Reading}
 use Rattle.explain_core.specs.{Core.{marked_goals}, Explaining.{explanation_of}, Meaning.{IsCoreOf}, declared.explanation.Clash.{Clash}}
 use Rattle.explain_core.specs.{declared.explanation.Explanation.TheVariants.{Core}, declared.explanation.Mark.{Mark}, OnStanzas.{AreClashesOf, AreEnough}}
 use Rattle.repo_model.specs.{FirstFault.{first_fault}, Goals.{CoinstGoals, packages_named}, declared.goals.Goal.{Goal}}
 use Rattle.listed.specs.Lists.{In}
-use Rattle.suite_compare.specs.Refusals.{home_in, packages_in}
+use Rattle.search_terms.specs.Tree.{failed_leaves}
+use Rattle.suite_compare.specs.{Asking.{asked_tree}, Refusals.{home_in, packages_in}}
 use Rattle.coinst_run.specs.{declared.answer.ReportVerdict.{ReportVerdict}, declared.answer.ReportVerdict.TheVariants.{Done, Negative, Undecided}}
-use Rattle.coinst_run.specs.{Answer.{reported}, Explain.{explain_course}, ExplainText.{core_text, yes_line}, Outcome.{answered, outcome_over}}
+use Rattle.coinst_run.specs.{Answer.{reported}, Explain.{explain_course}, ExplainText.{core_text, yes_line}, Outcome.{Gives}}
 use Rattle.coinst_run.specs.QueryMeaning.{UndecidedMeans}
 
 -- The goals are co-installable.
-pub record ExplainedYes (text : List ℕ) (goals : List Goal) (printed : List ℕ) : Type 0 where
+pub record ExplainedYes (text : List ℕ) (goals : List Goal) (budget limit : ℕ) (hold : Bool) (printed : List ℕ) : Type 0 where
+  pub within : failed_leaves (asked_tree limit hold (home_in text) (packages_in text) goals) ≤ budget
   pub reads : printed ≡ yes_line
   pub possible : CoinstGoals (home_in text) (packages_in text) goals
 
@@ -19,6 +21,7 @@ pub record ExplainedYes (text : List ℕ) (goals : List Goal) (printed : List �
 -- printed so. The printed goals are not co-installable, and without any one of them that is not open they are; the printed
 -- conflicts, unless they are open as a whole, are enough for these goals, and none of them that is not open can be spared.
 pub record ExplainedCore (text : List ℕ) (goals : List Goal) (budget limit : ℕ) (hold : Bool) (printed : List ℕ) : Type 0 where
+  pub within : failed_leaves (asked_tree limit hold (home_in text) (packages_in text) goals) ≤ budget
   pub marks : List Mark
   pub clashes : Option (List Clash)
   pub is : explanation_of limit hold (home_in text) (packages_in text) budget goals ≡ Core marks clashes
@@ -28,7 +31,7 @@ pub record ExplainedCore (text : List ℕ) (goals : List Goal) (budget limit : �
   pub reasons : IfSome clashes (AreEnough (home_in text) (packages_in text) (marked_goals goals marks))
 
 abbrev pub MeansExplained : List ℕ → List Goal → ℕ → ℕ → Bool → ReportVerdict → List ℕ → Type 0
-MeansExplained text goals budget limit hold Done printed = ExplainedYes text goals printed
+MeansExplained text goals budget limit hold Done printed = ExplainedYes text goals budget limit hold printed
 MeansExplained text goals budget limit hold Negative printed = ExplainedCore text goals budget limit hold printed
 MeansExplained text goals budget limit hold Undecided printed = UndecidedMeans text goals budget limit hold printed
 
@@ -38,7 +41,7 @@ pub record ExplainMeans (text : List ℕ) (goals : List Goal) (budget limit : �
   pub known : (goal : Goal) → In goal goals → (n : ℕ) × In n (packages_named (packages_in text) goal)
   pub means : MeansExplained text goals budget limit hold verdict printed
 
--- what is reported over files means this for the file at the path
+-- what is reported of a file means this for its text
 abbrev pub ExplainIsMeant : Type 0
-ExplainIsMeant = (path : List ℕ) (goals : List Goal) (budget limit : ℕ) (hold : Bool) (files : Files) (verdict : ReportVerdict) (printed : List ℕ) → outcome_over files (explain_course path goals budget limit hold) ≡ answered (reported verdict printed) →
-    (text : List ℕ) × (files path ≡ Some text) × ExplainMeans text goals budget limit hold verdict printed
+ExplainIsMeant = (path : List ℕ) (goals : List Goal) (budget limit : ℕ) (hold : Bool) (readings : List Reading) (verdict : ReportVerdict) (printed : List ℕ) → Gives (explain_course path goals budget limit hold) readings (reported verdict printed) →
+    (text : List ℕ) × (readings ≡ (path, text) ∷ []) × ExplainMeans text goals budget limit hold verdict printed

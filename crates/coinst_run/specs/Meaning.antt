@@ -1,7 +1,7 @@
--- Each command by its job: its course, what the program answers, and what its printed report means for the files that it came from.
-use Rattle.std.specs.Prelude.{◌≡◌, ℕ, Bool, true, false, List, Option, Some, None}
+-- Each command by its job: its course, what the program answers, and what its printed report means for the files that were read.
+use Rattle.std.specs.Prelude.{◌≡◌, ℕ, Bool, true, false, List, [], ◌∷◌, Option, Some, None}
 use Rattle.suite_compare.specs.Refusals.{home_in, packages_in}
-use Rattle.coinst_run.specs.{IndexKernel.{index_kernel}, Sample.{sample_limit, size_report, sample_course}, declared.answer.ReportVerdict.{ReportVerdict}}
+use Rattle.coinst_run.specs.{IndexKernel.{index_kernel}, Sample.{sample_limit, size_report, sample_course}, declared.answer.ReportVerdict.{ReportVerdict}, declared.answer.ReportVerdict.TheVariants.{Done}}
 use Rattle.coinst_run.specs.{ExplainMeaning.{ExplainMeans}, MigrateMeaning.{MigrateMeans}, QueryMeaning.{QueryMeans}, StoredMeaning.{StoredMeans}}
 use Rattle.coinst_run.specs.{SystemMeaning.{SystemMeans}, CompareMeaning.{CompareMeans}, KernelMeaning.{KernelMeans}, Compare.{compare_course}}
 use Rattle.coinst_run.specs.{Explain.{explain_course}, Kernel.{kernel_course}, Query.{query_course}, Migrate.{migrate_course}}
@@ -11,7 +11,7 @@ use Rattle.kernel_text.specs.{KernelJson.{kernel_json}, KernelText.{format_of}}
 use Rattle.repo_model.specs.FirstFault.{first_fault}
 use Rattle.coinst_words.specs.{Jobs.{job_of}, declared.job.Job.{Job}}
 use Rattle.coinst_words.specs.declared.job.Job.TheVariants.{Kernel, Query, StoredQuery, Compare, Explain, Status, Migrate, Sample}
-use Rattle.byte_flow.specs.Flow.{Files}
+use Rattle.byte_flow.specs.{Flow.{Files}, History.{Reading}}
 
 -- the course of each command
 abbrev pub course_of : Job → Course
@@ -44,23 +44,23 @@ pub record SizeMeans (text printed : List ℕ) : Type 0 where
   pub accepted : first_fault text ≡ None
   pub line : printed ≡ size_report (packages_in text) (index_kernel sample_limit false (home_in text) (packages_in text))
 
--- what a printed report means for the job that it was asked for, by its verdict
-abbrev pub MeansJob : Job → Files → ReportVerdict → List ℕ → Type 0
-MeansJob (Kernel path false limit hold) files verdict printed = (text : List ℕ) × (files path ≡ Some text) × KernelMeans text limit hold printed
-MeansJob (Kernel path true limit hold) files verdict printed = (text : List ℕ) × (files path ≡ Some text) × JsonMeans text limit hold printed
-MeansJob (Query index goals budget limit hold) files verdict printed = (text : List ℕ) × (files index ≡ Some text) × QueryMeans text goals budget limit hold verdict printed
-MeansJob (StoredQuery path goals budget) files verdict printed = (text : List ℕ) × (files path ≡ Some text) × StoredMeans text goals budget verdict printed
-MeansJob (Compare old new budget limit hold) files verdict printed =
-    (first second : List ℕ) × (files old ≡ Some first) × (files new ≡ Some second) × CompareMeans first second budget limit hold verdict printed
-MeansJob (Explain index goals budget limit hold) files verdict printed = (text : List ℕ) × (files index ≡ Some text) × ExplainMeans text goals budget limit hold verdict printed
-MeansJob (Status file index budget limit hold) files verdict printed =
-    (suite text : List ℕ) × (files index ≡ Some suite) × (files file ≡ Some text) × SystemMeans suite text budget limit hold verdict printed
-MeansJob (Migrate old new budget limit hold) files verdict printed =
-    (first second : List ℕ) × (files old ≡ Some first) × (files new ≡ Some second) × MigrateMeans first second budget limit hold verdict printed
-MeansJob (Sample seed count) files verdict printed = SizeMeans (sample_text seed count) printed
+-- what a printed report means for the job that it was asked for, by its verdict, and for what was read
+abbrev pub MeansJob : Job → List Reading → ReportVerdict → List ℕ → Type 0
+MeansJob (Kernel path false limit hold) readings verdict printed = (text : List ℕ) × (readings ≡ (path, text) ∷ []) × (verdict ≡ Done) × KernelMeans text limit hold printed
+MeansJob (Kernel path true limit hold) readings verdict printed = (text : List ℕ) × (readings ≡ (path, text) ∷ []) × (verdict ≡ Done) × JsonMeans text limit hold printed
+MeansJob (Query path goals budget limit hold) readings verdict printed = (text : List ℕ) × (readings ≡ (path, text) ∷ []) × QueryMeans text goals budget limit hold verdict printed
+MeansJob (StoredQuery path goals budget) readings verdict printed = (text : List ℕ) × (readings ≡ (path, text) ∷ []) × StoredMeans text goals budget verdict printed
+MeansJob (Compare old new budget limit hold) readings verdict printed =
+    (first second : List ℕ) × (readings ≡ (old, first) ∷ (new, second) ∷ []) × CompareMeans first second budget limit hold verdict printed
+MeansJob (Explain path goals budget limit hold) readings verdict printed = (text : List ℕ) × (readings ≡ (path, text) ∷ []) × ExplainMeans text goals budget limit hold verdict printed
+MeansJob (Status file index budget limit hold) readings verdict printed =
+    (suite text : List ℕ) × (readings ≡ (index, suite) ∷ (file, text) ∷ []) × SystemMeans suite text budget limit hold verdict printed
+MeansJob (Migrate old new budget limit hold) readings verdict printed =
+    (first second : List ℕ) × (readings ≡ (old, first) ∷ (new, second) ∷ []) × MigrateMeans first second budget limit hold verdict printed
+MeansJob (Sample seed count) readings verdict printed = (readings ≡ []) × (verdict ≡ Done) × SizeMeans (sample_text seed count) printed
 
 -- The words ask for a job, and this is what the printed bytes mean for it.
-pub record IsMeant (words : List (List ℕ)) (files : Files) (verdict : ReportVerdict) (printed : List ℕ) : Type 0 where
+pub record IsMeant (words : List (List ℕ)) (readings : List Reading) (verdict : ReportVerdict) (printed : List ℕ) : Type 0 where
   pub job : Job
   pub asked : job_of words ≡ Some job
-  pub means : MeansJob job files verdict printed
+  pub means : MeansJob job readings verdict printed

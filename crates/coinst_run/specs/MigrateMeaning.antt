@@ -1,12 +1,12 @@
 -- What the report on a plan means for the two indexes.
-use Rattle.std.specs.Prelude.{◌≡◌, ℕ, Bool, List, [], map, None, Some}
-use Rattle.byte_flow.specs.Flow.{Files}
+use Rattle.std.specs.Prelude.{◌≡◌, ℕ, Bool, List, [], map, None, Some, ◌∷◌}
+use Rattle.byte_flow.specs.History.{Reading}
 use Rattle.migrate_plan.specs.{Differing.{differing}, Plan.{settings_of}, Promises.{AreRight, MixesAreIndexes, TakesSafely, planned_name}}
 use Rattle.migrate_plan.specs.{Refusals.{plan_refusal}, declared.plan.PlanLine.{PlanLine}}
 use Rattle.repo_model.specs.{FirstFault.{first_fault}, declared.goals.Goal.{Goal}}
 use Rattle.suite_compare.specs.{Asking.{HasVerdict, verdict_in}, Refusals.{home_in, packages_in}}
 use Rattle.coinst_run.specs.{declared.answer.ReportVerdict.{ReportVerdict}, Answer.{reported}, Migrate.{migrate_course}, MigrateText.{plan_text, plan_verdict}}
-use Rattle.coinst_run.specs.Outcome.{answered, outcome_over}
+use Rattle.coinst_run.specs.Outcome.{Gives}
 
 -- Both texts are indexes without a fault, of which a plan may be made, and every mix of names that differ is an index without a
 -- fault. The printed lines are one for each name that differs, ascending by bytes. A name is taken where the mix of it and of the
@@ -27,7 +27,7 @@ pub record MigrateMeans (old new : List ℕ) (budget limit : ℕ) (hold : Bool) 
   pub reads : printed ≡ plan_text lines
   pub whole : verdict ≡ plan_verdict lines
 
--- what is reported over files means this for the files at the two paths
+-- what is reported of two files means this for their texts
 abbrev pub MigrateIsMeant : Type 0
-MigrateIsMeant = (old new : List ℕ) (budget limit : ℕ) (hold : Bool) (files : Files) (verdict : ReportVerdict) (printed : List ℕ) → outcome_over files (migrate_course old new budget limit hold) ≡ answered (reported verdict printed) →
-    (first second : List ℕ) × (files old ≡ Some first) × (files new ≡ Some second) × MigrateMeans first second budget limit hold verdict printed
+MigrateIsMeant = (old new : List ℕ) (budget limit : ℕ) (hold : Bool) (readings : List Reading) (verdict : ReportVerdict) (printed : List ℕ) → Gives (migrate_course old new budget limit hold) readings (reported verdict printed) →
+    (first second : List ℕ) × (readings ≡ (old, first) ∷ (new, second) ∷ []) × MigrateMeans first second budget limit hold verdict printed

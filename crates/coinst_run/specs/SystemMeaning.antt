@@ -1,11 +1,11 @@
 -- What the report on an installed system means for the status file and the index.
-use Rattle.std.specs.Prelude.{◌≡◌, ◌↔◌, ℕ, Bool, List, map, Some, None}
-use Rattle.byte_flow.specs.Flow.{Files}
+use Rattle.std.specs.Prelude.{◌≡◌, ◌↔◌, ℕ, Bool, List, map, Some, None, [], ◌∷◌}
+use Rattle.byte_flow.specs.History.{Reading}
 use Rattle.repo_model.specs.{FirstFault.{first_fault}, Repository.{suite_repository}, Stanzas.{HealthyStanzas}}
 use Rattle.suite_compare.specs.{Asking.{verdict_in}, Refusals.{home_in, packages_in}}
 use Rattle.status_check.specs.{Own.{foreign_count, own_home, own_packages, status_fault}, Report.{all_of, had_goals, line_for, state_of, IsJudged, IsStateOf}}
 use Rattle.status_check.specs.{declared.report.OwnState.TheVariants.{Healthy}, declared.report.StatusReport.{StatusReport}}
-use Rattle.coinst_run.specs.{declared.answer.ReportVerdict.{ReportVerdict}, Answer.{reported}, Outcome.{answered, outcome_over}, SystemStatus.{status_course}}
+use Rattle.coinst_run.specs.{declared.answer.ReportVerdict.{ReportVerdict}, Answer.{reported}, Outcome.{Gives}, SystemStatus.{status_course}}
 use Rattle.coinst_run.specs.SystemText.{system_text, system_verdict}
 
 -- The suite is an index without a fault, and the status file has none against its home. The printed bytes tell a report: for
@@ -25,7 +25,7 @@ pub record SystemMeans (suite file : List ℕ) (budget limit : ℕ) (hold : Bool
   pub reads : printed ≡ system_text budget report
   pub whole : verdict ≡ system_verdict report.own report.verdict
 
--- what is reported over files means this for the files at the two paths
+-- what is reported of two files means this for their texts
 abbrev pub SystemIsMeant : Type 0
-SystemIsMeant = (file index : List ℕ) (budget limit : ℕ) (hold : Bool) (files : Files) (verdict : ReportVerdict) (printed : List ℕ) → outcome_over files (status_course file index budget limit hold) ≡ answered (reported verdict printed) →
-    (suite text : List ℕ) × (files index ≡ Some suite) × (files file ≡ Some text) × SystemMeans suite text budget limit hold verdict printed
+SystemIsMeant = (file index : List ℕ) (budget limit : ℕ) (hold : Bool) (readings : List Reading) (verdict : ReportVerdict) (printed : List ℕ) → Gives (status_course file index budget limit hold) readings (reported verdict printed) →
+    (suite text : List ℕ) × (readings ≡ (index, suite) ∷ (file, text) ∷ []) × SystemMeans suite text budget limit hold verdict printed

@@ -22,7 +22,7 @@ pub fn compare<F: Shelf>(
     with: Settings,
 ) -> Result<Report, Stop>
     requires { AreInLimits with }
-    ensures { Follows F.contents F.faults F.moved F.is_quiet F.start_gives F.read_gives (compare_course old.now new.now with.budget with.clause_limit with.hold) shelf.old (ending_of result) shelf.new }
+    ensures { Follows F.model (compare_course old.now new.now with.budget with.clause_limit with.hold) shelf.old (ending_of result) shelf.new }
 {
     let before = view_at(alloc, shelf, old, with.clause_limit, with.hold)?;
     let report = against_newer(alloc, shelf, &before, new, with.budget);
@@ -40,7 +40,7 @@ fn against_newer<F: Shelf>(
 ) -> Result<Report, Stop>
     requires budget { IsBudget budget }
     requires limit { 0 < old.now.limit }
-    ensures { Follows F.contents F.faults F.moved F.is_quiet F.start_gives F.read_gives (reads_kernel new.now old.now.limit old.now.kernel.hold (compare_answer budget old.now.limit old.now.kernel.hold (index_of old.now.suite))) shelf.old (ending_of result) shelf.new }
+    ensures { Follows F.model (reads_kernel new.now old.now.limit old.now.kernel.hold (compare_answer budget old.now.limit old.now.kernel.hold (index_of old.now.suite))) shelf.old (ending_of result) shelf.new }
 {
     let after = view_at(alloc, shelf, new, old.limit, old.kernel.hold)?;
     let report = comparison(alloc, old, &after, budget);

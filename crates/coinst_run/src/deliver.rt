@@ -11,7 +11,7 @@ use itoa::Buffer;
 // Writes the pieces of a line one after another, up to the first that is not taken whole. It takes no
 // memory, so that the line of a failed write and that of want of memory are always told.
 fn tell<E: Sink>(err: &mut E, pieces: &[&[u8]])
-    ensures { Tells E.taken E.faults E.write_gives err.old err.new (flat_map (λ p. p.now) pieces.now) }
+    ensures { Tells E.model err.old err.new (flat_map (λ p. p.now) pieces.now) }
 {
     for piece in pieces {
         match write_all(err, piece) {
@@ -23,7 +23,7 @@ fn tell<E: Sink>(err: &mut E, pieces: &[&[u8]])
 
 // Tells after how many bytes a write failed.
 fn tell_cut<E: Sink>(err: &mut E, written: u64)
-    ensures { Tells E.taken E.faults E.write_gives err.old err.new (cut_line written) }
+    ensures { Tells E.model err.old err.new (cut_line written) }
 {
     let mut buffer = Buffer::new();
     let digits = buffer.format(written).as_bytes();
@@ -39,14 +39,14 @@ fn tell_cut<E: Sink>(err: &mut E, written: u64)
 
 // Tells that the file at a path could not be read.
 fn tell_unread<E: Sink>(err: &mut E, path: &str)
-    ensures { Tells E.taken E.faults E.write_gives err.old err.new (unread_line path.now) }
+    ensures { Tells E.model err.old err.new (unread_line path.now) }
 {
     tell(err, &[path.as_bytes(), b": read failed\n".as_slice()]);
 }
 
 // Tells a line that is whole.
 fn tell_line<E: Sink>(err: &mut E, line: &[u8])
-    ensures { Tells E.taken E.faults E.write_gives err.old err.new line.now }
+    ensures { Tells E.model err.old err.new line.now }
 {
     tell(err, &[line]);
 }
@@ -54,7 +54,7 @@ fn tell_line<E: Sink>(err: &mut E, line: &[u8])
 // Tells why there is no report.
 #[tactic(auto, unfolding(crate::specs::Lines::words_line, crate::specs::Lines::memory_line))]
 fn refuse<E: Sink>(err: &mut E, stop: &Stop) -> Status
-    ensures { IsRefused E.taken E.faults E.write_gives err.old (stop_ending stop.now) result err.new }
+    ensures { IsRefused E.model err.old (stop_ending stop.now) result err.new }
 {
     match stop {
         Stop::NotACommand => {
@@ -78,7 +78,7 @@ fn refuse<E: Sink>(err: &mut E, stop: &Stop) -> Status
 
 /// Writes a report to one sink, or tells why there is none, or where it was cut, on the other.
 pub fn deliver<O: Sink, E: Sink>(out: &mut O, err: &mut E, answer: &Result<Report, Stop>) -> Status
-    ensures { Delivers O.taken O.faults O.room O.write_gives E.taken E.faults E.write_gives out.old err.old result out.new err.new (ending_of answer.now) }
+    ensures { Delivers O.model E.model out.old err.old result out.new err.new (ending_of answer.now) }
 {
     match answer {
         Ok(report) => match write_all(out, report.text.as_slice()) {

@@ -28,7 +28,7 @@ pub fn explain<F: Shelf>(
     with: Settings,
 ) -> Result<Report, Stop>
     requires { AreInLimits with }
-    ensures { Follows F.contents F.faults F.moved F.is_quiet F.start_gives F.read_gives (explain_course path.now goals.now with.budget with.clause_limit with.hold) shelf.old (ending_of result) shelf.new }
+    ensures { Follows F.model (explain_course path.now goals.now with.budget with.clause_limit with.hold) shelf.old (ending_of result) shelf.new }
 {
     let view = view_at(alloc, shelf, path, with.clause_limit, with.hold)?;
     let report = explain_goals(alloc, &view, goals, with.budget);

@@ -23,7 +23,7 @@ pub fn kernel<F: Shelf>(
     with: Settings,
 ) -> Result<Report, Stop>
     requires { AreInLimits with }
-    ensures { Follows F.contents F.faults F.moved F.is_quiet F.start_gives F.read_gives (kernel_course path.now json with.clause_limit with.hold) shelf.old (ending_of result) shelf.new }
+    ensures { Follows F.model (kernel_course path.now json with.clause_limit with.hold) shelf.old (ending_of result) shelf.new }
 {
     let view = view_at(alloc, shelf, path, with.clause_limit, with.hold)?;
     let report = kernel_report(alloc, &view, json);

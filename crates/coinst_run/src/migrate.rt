@@ -30,7 +30,7 @@ pub fn migrate<F: Shelf>(
     with: Settings,
 ) -> Result<Report, Stop>
     requires { AreInLimits with }
-    ensures { Follows F.contents F.faults F.moved F.is_quiet F.start_gives F.read_gives (migrate_course old.now new.now with.budget with.clause_limit with.hold) shelf.old (ending_of result) shelf.new }
+    ensures { Follows F.model (migrate_course old.now new.now with.budget with.clause_limit with.hold) shelf.old (ending_of result) shelf.new }
 {
     let text = text_at(alloc, shelf, old)?;
     from_older(alloc, shelf, text, old, new, with)
@@ -47,7 +47,7 @@ fn from_older<F: Shelf>(
 ) -> Result<Report, Stop>
     requires short { length text.items ≤ most_bytes }
     requires with { AreInLimits with }
-    ensures { Follows F.contents F.faults F.moved F.is_quiet F.start_gives F.read_gives (old_answer old.now new.now (settings_of with.budget with.clause_limit with.hold) text.items) shelf.old (ending_of result) shelf.new }
+    ensures { Follows F.model (old_answer old.now new.now (settings_of with.budget with.clause_limit with.hold) text.items) shelf.old (ending_of result) shelf.new }
 {
     let held = held_index(alloc, old, text)?;
     from_held(alloc, shelf, held, old, new, with)
@@ -64,7 +64,7 @@ fn from_held<F: Shelf>(
 ) -> Result<Report, Stop>
     requires short { held.length ≤ most_bytes }
     requires with { AreInLimits with }
-    ensures { (text : List ℕ) → IsHeldOf text held → Follows F.contents F.faults F.moved F.is_quiet F.start_gives F.read_gives (old_answer old.now new.now (settings_of with.budget with.clause_limit with.hold) text) shelf.old (ending_of result) shelf.new }
+    ensures { (text : List ℕ) → IsHeldOf text held → Follows F.model (old_answer old.now new.now (settings_of with.budget with.clause_limit with.hold) text) shelf.old (ending_of result) shelf.new }
 {
     let HeldIndex { suite, length } = held;
     let view = view_of(alloc, suite, old, with.clause_limit, with.hold)?;
@@ -87,7 +87,7 @@ fn from_view<F: Shelf>(
     requires budget { IsBudget budget }
     requires limit { 0 < view.now.limit }
     ensures { (text : List ℕ) → IsSuiteOf text view.now.suite.packages view.now.suite.home.name → old_length ≡ length text
-        → Follows F.contents F.faults F.moved F.is_quiet F.start_gives F.read_gives (new_course old.now new.now (settings_of budget view.now.limit view.now.kernel.hold) text) shelf.old (ending_of result) shelf.new }
+        → Follows F.model (new_course old.now new.now (settings_of budget view.now.limit view.now.kernel.hold) text) shelf.old (ending_of result) shelf.new }
 {
     let newer = text_at(alloc, shelf, new)?;
     from_both(alloc, view, old_length, newer, old, new, budget)

@@ -50,8 +50,8 @@ fn unread(alloc: Global, path: &str, error: ReadError) -> Stop
 
 /// Reads the file at a path whole.
 pub(crate) fn text_at<F: Shelf>(alloc: Global, shelf: &mut F, path: &str) -> Result<Vec<u8>, Stop>
-    ensures text { IfOk result (λ text. WasRead F.contents F.faults F.moved F.is_quiet F.start_gives F.read_gives shelf.old path.now text.items shelf.new) }
-    ensures stop { IfErr result (λ stop. (next : List ℕ → Course) → Follows F.contents F.faults F.moved F.is_quiet F.start_gives F.read_gives (reads path.now next) shelf.old (stop_ending stop) shelf.new) }
+    ensures text { IfOk result (λ text. WasRead F.model shelf.old path.now text.items shelf.new) }
+    ensures stop { IfErr result (λ stop. (next : List ℕ → Course) → Follows F.model (reads path.now next) shelf.old (stop_ending stop) shelf.new) }
 {
     match read_file(alloc, shelf, path, FILE_LIMIT) {
         Ok(text) => Ok(text),
@@ -91,8 +91,8 @@ pub fn checked_index(alloc: Global, path: &str, text: &[u8]) -> Result<Suite, St
 
 // Gives the file at a path whole to a feed, piece by piece.
 fn feed_at<F: Shelf>(alloc: Global, shelf: &mut F, path: &str) -> Result<SuiteFeed, Stop>
-    ensures fed { IfOk result (λ feed. WasFed F.contents F.faults F.moved F.is_quiet F.start_gives F.read_gives shelf.old path.now feed shelf.new) }
-    ensures stop { IfErr result (λ stop. (next : List ℕ → Course) → Follows F.contents F.faults F.moved F.is_quiet F.start_gives F.read_gives (reads path.now next) shelf.old (stop_ending stop) shelf.new) }
+    ensures fed { IfOk result (λ feed. WasFed F.model shelf.old path.now feed shelf.new) }
+    ensures stop { IfErr result (λ stop. (next : List ℕ → Course) → Follows F.model (reads path.now next) shelf.old (stop_ending stop) shelf.new) }
 {
     let mut feed = SuiteFeed::new(alloc)?;
     match feed_file(alloc, shelf, path, FILE_LIMIT, &mut feed) {
@@ -116,9 +116,9 @@ fn finished_index(alloc: Global, path: &str, feed: SuiteFeed) -> Result<Suite, S
 /// Reads the index at a path whole, piece by piece, and checks it as it is read, or says why it cannot be used. Of its text
 /// only the stanza that is open is held.
 pub fn suite_at<F: Shelf>(alloc: Global, shelf: &mut F, path: &str) -> Result<Suite, Stop>
-    ensures suite { IfOk result (λ suite. ReachesIndex F.contents F.faults F.moved F.is_quiet F.start_gives F.read_gives shelf.old path.now (index_of suite) shelf.new) }
+    ensures suite { IfOk result (λ suite. ReachesIndex F.model shelf.old path.now (index_of suite) shelf.new) }
     ensures named { IfOk result (λ suite. AreNamedPackages suite.packages) }
-    ensures stop { IfErr result (λ stop. (next : Index → Course) → Follows F.contents F.faults F.moved F.is_quiet F.start_gives F.read_gives (reads_index path.now next) shelf.old (stop_ending stop) shelf.new) }
+    ensures stop { IfErr result (λ stop. (next : Index → Course) → Follows F.model (reads_index path.now next) shelf.old (stop_ending stop) shelf.new) }
 {
     let feed = feed_at(alloc, shelf, path)?;
     finished_index(alloc, path, feed)

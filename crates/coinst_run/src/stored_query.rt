@@ -33,7 +33,7 @@ pub fn stored_query<F: Shelf>(
     with: Settings,
 ) -> Result<Report, Stop>
     requires { AreInLimits with }
-    ensures { Follows F.contents F.faults F.moved F.is_quiet F.start_gives F.read_gives (stored_query_course path.now goals.now with.budget) shelf.old (ending_of result) shelf.new }
+    ensures { Follows F.model (stored_query_course path.now goals.now with.budget) shelf.old (ending_of result) shelf.new }
 {
     let text = text_at(alloc, shelf, path)?;
     stored_report(alloc, text.as_slice(), path, goals, with.budget)

@@ -25,7 +25,7 @@ pub fn system_status<F: Shelf>(
     with: Settings,
 ) -> Result<Report, Stop>
     requires { AreInLimits with }
-    ensures { Follows F.contents F.faults F.moved F.is_quiet F.start_gives F.read_gives (status_course file.now index.now with.budget with.clause_limit with.hold) shelf.old (ending_of result) shelf.new }
+    ensures { Follows F.model (status_course file.now index.now with.budget with.clause_limit with.hold) shelf.old (ending_of result) shelf.new }
 {
     let view = view_at(alloc, shelf, index, with.clause_limit, with.hold)?;
     let report = system_at(alloc, shelf, &view, file, with.budget);
@@ -42,7 +42,7 @@ fn system_at<F: Shelf>(
     budget: u64,
 ) -> Result<Report, Stop>
     requires { IsBudget budget }
-    ensures { Follows F.contents F.faults F.moved F.is_quiet F.start_gives F.read_gives (reads file.now (system_answer file.now budget view.now.limit view.now.kernel.hold (index_of view.now.suite))) shelf.old (ending_of result) shelf.new }
+    ensures { Follows F.model (reads file.now (system_answer file.now budget view.now.limit view.now.kernel.hold (index_of view.now.suite))) shelf.old (ending_of result) shelf.new }
 {
     let text = text_at(alloc, shelf, file)?;
     system_report(alloc, view, text.as_slice(), file, budget)

@@ -1,9 +1,9 @@
 //! The top call: all that the program does, over any shelf and any two sinks.
 ghost use Rattle.std.specs.Prelude.{◌≡◌, ◌⊎◌, IfSome, None, Option, map, string_bytes};
 ghost use Rattle.byte_flow.specs.Flow.{Rose};
-ghost use Rattle.claims.specs.Sentences.{CompareIsTrue, KernelIsTrue};
+ghost use Rattle.claims.specs.Sentences.{CompareIsTrue, ExplainIsTrue, KernelIsSettled, KernelIsTrue, MigrateIsTrue, QueryIsTrue, StatusIsTrue, StoredQueryIsTrue};
 ghost use Rattle.coinst_run.specs.{Delivers.{Delivers, Tells}, Ending.{ending_of}, Follows.{Follows, FollowsJob}, Meaning.{IsMeant, course_of, outcome_of}};
-ghost use Rattle.coinst_run.specs.{Outcome.{Outcome}, Run.{Answers, Completes, Took}, Status.{verdict_status}, declared.answer.ReportVerdict.{ReportVerdict}};
+ghost use Rattle.coinst_run.specs.{Outcome.{Outcome}, Readings.{IsOfText, Prints, Refuses, Reports}, Run.{Answers, Completes}, Status.{cause_status, verdict_status}, declared.answer.Cause.{Cause}, declared.answer.ReportVerdict.{ReportVerdict}};
 ghost use Rattle.coinst_words.specs.Jobs.{IsInLimits, job_of};
 
 use crate::answer::{Report, Stop};
@@ -24,7 +24,7 @@ use std::alloc::Global;
 // What the command of a job makes of the shelf.
 fn answer_job<F: Shelf>(alloc: Global, shelf: &mut F, job: &Job) -> Result<Report, Stop>
     requires { IsInLimits job.now }
-    ensures { Follows F.contents F.faults F.moved F.is_quiet F.start_gives F.read_gives (course_of job.now) shelf.old (ending_of result) shelf.new }
+    ensures { Follows F.model (course_of job.now) shelf.old (ending_of result) shelf.new }
 {
     let with = job.settings();
     match job {
@@ -49,7 +49,7 @@ fn answer_job<F: Shelf>(alloc: Global, shelf: &mut F, job: &Job) -> Result<Repor
 
 // The answer to the words.
 fn answer_to<F: Shelf>(alloc: Global, words: &[String], shelf: &mut F) -> Result<Report, Stop>
-    ensures { FollowsJob F.contents F.faults F.moved F.is_quiet F.start_gives F.read_gives (job_of (map string_bytes words.now)) shelf.old (ending_of result) shelf.new }
+    ensures { FollowsJob F.model (job_of (map string_bytes words.now)) shelf.old (ending_of result) shelf.new }
 {
     match read_words(alloc, words) {
         Ok(job) => answer_job(alloc, shelf, &job),
@@ -67,31 +67,40 @@ pub fn run<F: Shelf, O: Sink, E: Sink>(
     err: &mut E,
 ) -> Status
     // Where the shelf tells its contents, the status and the bytes are those of the outcome, or of one of three causes.
-    ensures answers { IfSome (F.contents shelf.old) (λ files. Answers (F.is_quiet shelf.old) (Rose (F.faults shelf.old) (F.faults shelf.new)) (Rose (O.faults out.old) (O.faults out.new)) (O.room out.old)
-        (Tells E.taken E.faults E.write_gives err.old err.new) (outcome_of (map string_bytes words.now) files) (O.taken out.old) (O.taken out.new) result) }
+    ensures answers { IfSome (F.model.contents shelf.old) (λ files. Answers (F.model.is_quiet shelf.old) (Rose (F.model.faults shelf.old) (F.model.faults shelf.new)) (Rose (O.model.faults out.old) (O.model.faults out.new)) (O.model.room out.old)
+        (Tells E.model err.old err.new) (outcome_of (map string_bytes words.now) files) (O.model.taken out.old) (O.model.taken out.new) result) }
 
-    // What was printed means what the stanzas of the indexes say.
-    ensures meaning { (verdict : ReportVerdict) → result ≡ verdict_status verdict → IfSome (F.contents shelf.old) (λ files. Took (O.taken out.old) (O.taken out.new) (IsMeant (map string_bytes words.now) files verdict)) }
+    // On any shelf and any sinks: if the status is that of a report, the run read its files whole, wrote these bytes whole, and did no more; and they
+    // mean what the stanzas say of the texts that the reads handed over.
+    ensures meaning { (verdict : ReportVerdict) → result ≡ verdict_status verdict → Reports F.model O.model shelf.old shelf.new out.old out.new (λ readings printed. IsMeant (map string_bytes words.now) readings verdict printed) }
 
-    // The two sentences: what was printed for `kernel`, and for `compare`, with the options in one order, is a faithful kernel and a
-    // faithful comparison of the files.
-    ensures kernel_is_true { (verdict : ReportVerdict) → result ≡ verdict_status verdict → IfSome (F.contents shelf.old) (λ files. Took (O.taken out.old) (O.taken out.new) (KernelIsTrue (map string_bytes words.now) files)) }
-    ensures compare_is_true { (verdict : ReportVerdict) → result ≡ verdict_status verdict → IfSome (F.contents shelf.old) (λ files. Took (O.taken out.old) (O.taken out.new) (CompareIsTrue (map string_bytes words.now) files)) }
+    // The sentences, of any run too: for each command what was printed, with the options in one order, is true of what was read.
+    ensures kernel_is_true { Prints F.model O.model shelf.old shelf.new out.old out.new result (KernelIsTrue (map string_bytes words.now)) }
+    ensures kernel_is_settled { Prints F.model O.model shelf.old shelf.new out.old out.new result (KernelIsSettled (map string_bytes words.now)) }
+    ensures query_is_true { Prints F.model O.model shelf.old shelf.new out.old out.new result (QueryIsTrue (map string_bytes words.now)) }
+    ensures stored_query_is_true { Prints F.model O.model shelf.old shelf.new out.old out.new result (StoredQueryIsTrue (map string_bytes words.now)) }
+    ensures compare_is_true { Prints F.model O.model shelf.old shelf.new out.old out.new result (CompareIsTrue (map string_bytes words.now)) }
+    ensures explain_is_true { Prints F.model O.model shelf.old shelf.new out.old out.new result (ExplainIsTrue (map string_bytes words.now)) }
+    ensures status_is_true { Prints F.model O.model shelf.old shelf.new out.old out.new result (StatusIsTrue (map string_bytes words.now)) }
+    ensures migrate_is_true { Prints F.model O.model shelf.old shelf.new out.old out.new result (MigrateIsTrue (map string_bytes words.now)) }
+
+    // If the status is that of a refusal for what was read, the line is that to which the course of the command leads over it, and no report was written.
+    ensures refuses { (cause : Cause) → IsOfText cause → result ≡ cause_status cause → Refuses F.model shelf.old shelf.new out.old out.new (map string_bytes words.now) cause (Tells E.model err.old err.new) }
 
     // Where no call failed, a report is written whole unless no memory is found.
-    ensures completes { IfSome (F.contents shelf.old) (λ files. (Rose (F.faults shelf.old) (F.faults shelf.new) → ⊥) → (Rose (O.faults out.old) (O.faults out.new) → ⊥) → Completes result (outcome_of (map string_bytes words.now) files)) }
+    ensures completes { IfSome (F.model.contents shelf.old) (λ files. (Rose (F.model.faults shelf.old) (F.model.faults shelf.new) → ⊥) → (Rose (O.model.faults out.old) (O.model.faults out.new) → ⊥) → Completes result (outcome_of (map string_bytes words.now) files)) }
 
     // On any shelf and any sinks: what the run did, by how it ended. How it ended decides the status and which line standard error
     // is given, so a fault of standard error changes neither the status nor the report.
     ensures runs { (ending : Option Outcome)
-        × FollowsJob F.contents F.faults F.moved F.is_quiet F.start_gives F.read_gives (job_of (map string_bytes words.now)) shelf.old ending shelf.new
-        × Delivers O.taken O.faults O.room O.write_gives E.taken E.faults E.write_gives out.old err.old result out.new err.new ending }
+        × FollowsJob F.model (job_of (map string_bytes words.now)) shelf.old ending shelf.new
+        × Delivers O.model E.model out.old err.old result out.new err.new ending }
 
     // Why the statuses of the words, of a failed read and of a failed write come.
     ensures words { result ≡ Status.Words → job_of (map string_bytes words.now) ≡ None }
     ensures no_job { job_of (map string_bytes words.now) ≡ None → (result ≡ Status.Words) ⊎ (result ≡ Status.Memory) }
-    ensures read_fault { result ≡ Status.ReadFault → Rose (F.faults shelf.old) (F.faults shelf.new) }
-    ensures write_fault { result ≡ Status.WriteFault → Rose (O.faults out.old) (O.faults out.new) }
+    ensures read_fault { result ≡ Status.ReadFault → Rose (F.model.faults shelf.old) (F.model.faults shelf.new) }
+    ensures write_fault { result ≡ Status.WriteFault → Rose (O.model.faults out.old) (O.model.faults out.new) }
 {
     let answer = answer_to(alloc, words, shelf);
     deliver(out, err, &answer)

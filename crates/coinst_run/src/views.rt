@@ -72,11 +72,11 @@ pub fn view_at<F: Shelf>(
     hold: bool,
 ) -> Result<SuiteView, Stop>
     requires { 0 < limit }
-    ensures view { IfOk result (λ view. ReachesKernel F.contents F.faults F.moved F.is_quiet F.start_gives F.read_gives shelf.old path.now limit hold (index_of view.suite) shelf.new) }
+    ensures view { IfOk result (λ view. ReachesKernel F.model shelf.old path.now limit hold (index_of view.suite) shelf.new) }
     ensures named { IfOk result (λ view. AreNamedPackages view.suite.packages) }
     ensures limit { IfOk result (λ view. view.limit ≡ limit) }
     ensures hold { IfOk result (λ view. view.kernel.hold ≡ hold) }
-    ensures stop { IfErr result (λ stop. (next : Index → ClassedKernel → Course) → Follows F.contents F.faults F.moved F.is_quiet F.start_gives F.read_gives (reads_kernel path.now limit hold next) shelf.old (stop_ending stop) shelf.new) }
+    ensures stop { IfErr result (λ stop. (next : Index → ClassedKernel → Course) → Follows F.model (reads_kernel path.now limit hold next) shelf.old (stop_ending stop) shelf.new) }
 {
     let suite = suite_at(alloc, shelf, path)?;
     view_of(alloc, suite, path, limit, hold)

@@ -7,9 +7,10 @@ use Rattle.listed.proofs.Lists.{In_append_cases, In_cases, In_none}
 use Rattle.row_book.proofs.Numbers.{at_numbers, length_numbers}
 use Rattle.kernel_text.specs.{declared.member.Member.{Member}, Booking.{IsBookable}}
 use Rattle.kernel_text.specs.KernelLines.{KernelLine, HeadLine, ClassLine, MemberLine, HeldLine, NeedsLine, AgainstLine, EndLine, lines_of}
-use Rattle.kernel_text.specs.{KernelReads.{IsEnded, IsInRange, KernelReads, LinesGive, clauses_of_class, repository_of_reading}, KernelText.{IsWritable}}
-use Rattle.kernel_text.specs.Reading.{ClassClause, IsAllowed, MayAddClause, MayAddConflict, MayAddHeld, MayAddMember, Reading, empty_reading, number_limit, this_class, with_line}
-use Rattle.kernel_text.proofs.ReadIsWritten.{read_is_written}
+use Rattle.kernel_text.specs.{Reader.{IsInRange}, KernelText.{IsWritable}}
+use Rattle.kernel_text.specs.Reading.{ClassClause, Reading, clauses_of_class, empty_reading, number_limit, repository_of_reading, this_class, with_line}
+use Rattle.kernel_text.proofs.Allowed.{IsAllowed, IsEnded, IsRead, LinesGive, MayAddClause, MayAddConflict, MayAddHeld, MayAddMember}
+use Rattle.kernel_text.proofs.ReadIsWritten.{written}
 
 -- the last line stands in the block of a class
 abbrev InBlock : Option KernelLine → Type 0
@@ -117,11 +118,11 @@ orderly text t given =
     })
 
 module _ (text : List ℕ) (t : Reading) (given : LinesGive empty_reading (lines_of text) t) (ended : IsEnded t) (range : IsInRange t) where
-  pub reads : KernelReads text t.format (repository_of_reading t) t.members t.held
+  pub reads : IsRead text t.format (repository_of_reading t) t.members t.held
   reads = record { reading = t; given = given; ended = ended; in_range = range; of_format = refl; repository = refl; member_list = refl; held_list = refl }
 
   writable : IsWritable t.format (repository_of_reading t) t.members t.held
-  writable = ((read_is_written text t.format (repository_of_reading t) t.members t.held).0 reads).0
+  writable = (written text t.format (repository_of_reading t) t.members t.held reads).0
 
   size : length (repository_of_reading t).clauses ≡ t.classes
   unfolding repository_of_reading

@@ -4,7 +4,8 @@ use Rattle.listed.specs.Lists.{Ascending, In}
 use Rattle.clause_pool.specs.Lists.{InOrder}
 use Rattle.listed.proofs.Lists.{In_none}
 use Rattle.kernel_text.specs.{declared.member.Member.{Member}, KernelLines.{KernelLine, ClassLine, NeedsLine, AgainstLine}}
-use Rattle.kernel_text.specs.{KernelText.{held_lines, line_of_member}, Reading.{IsClauseOf, IsNamed}}
+use Rattle.kernel_text.specs.{KernelText.{held_lines, line_of_member}, Reading.{IsNamed}}
+use Rattle.kernel_text.proofs.Allowed.{IsClauseOf}
 
 -- the members, clauses and greater conflicts of a class, and whether it is held
 pub record Block : Type 0 where

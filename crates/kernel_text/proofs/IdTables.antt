@@ -1,6 +1,6 @@
 -- The ids of the clauses of each class, and their rows.
 use Rattle.std.specs.Prelude.{IfOk}
-use Rattle.std.proofs.Common.{◌≡◌, ◌≢◌, ℕ, zero, suc, Result, Ok, Err, ◌+◌, ◌<◌, List, [], ◌∷◌, ◌++◌, length, map, filter, get_or, set, take, eqb, inl, inr, refl, sym, ap, ap₂, ◌∙◌, subst, eq-eqb, zero-add, arith}
+use Rattle.std.proofs.Common.{◌≡◌, ◌≢◌, ℕ, suc, Result, Ok, Err, ◌+◌, ◌<◌, List, [], ◌∷◌, ◌++◌, length, map, filter, get_or, set, take, eqb, inl, inr, refl, sym, ap, ap₂, ◌∙◌, subst, eq-eqb, zero-add, arith}
 use Rattle.std.proofs.{Math.ListN.{length-set}, lemmas.Bool.{cases_eq}}
 use Rattle.std.proofs.lemmas.List.{append-nil, ext_get_or, get_or-map, get_or-set_same, get_or-set_other, length-map, map-append, take_more}
 use Rattle.std.proofs.lemmas.List.Elements.{filter-append}
@@ -12,7 +12,7 @@ use Rattle.listed.specs.Lists.{In, here, there}
 use Rattle.listed.proofs.Lists.{In_append_cases, In_cases, In_map, In_map_cases, In_none, filter_cases}
 use Rattle.row_book.proofs.Numbers.{at_numbers, length_numbers}
 use Rattle.kernel_text.specs.{declared.reader.Clause.{Clause}, Booking.{AreRows, HasIdsByClass, IsBookable}}
-use Rattle.kernel_text.specs.{KernelReads.{clauses_of_class, repository_of_reading}, declared.reader.Reader.{Reader}, Reader.{Holds, entry_of}}
+use Rattle.kernel_text.specs.{Reading.{clauses_of_class, repository_of_reading}, declared.reader.Reader.{Reader}, Reader.{Holds, entry_of}}
 use Rattle.kernel_text.specs.Reading.{ClassClause, Reading}
 use Rattle.kernel_text.proofs.Retold.{eqb_other}
 

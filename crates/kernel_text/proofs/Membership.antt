@@ -1,5 +1,5 @@
 -- Members that are read, and which lines may stand behind them.
-use Rattle.std.proofs.Common.{◌≡◌, ℕ, ◌+◌, Bool, true, false, List, [], ◌∷◌, length, Option, Some, None, refl, sym, ap, subst, ◌∙◌}
+use Rattle.std.proofs.Common.{◌≡◌, ℕ, ◌+◌, true, false, List, [], ◌∷◌, length, Option, Some, None, refl, sym, ap, subst, ◌∙◌}
 use Rattle.std.proofs.lemmas.Bool.{false≢true, false_from_ne_true}
 use Rattle.std.specs.{Prelude.{◌&&◌, ◌==◌, slice_get}, Option.{option_map_or}, Str.{bytes_eq}}
 use Rattle.listed.specs.Lists.{In, here}
@@ -8,20 +8,9 @@ use Rattle.package_register.specs.{Numbers.{numbers_where, passes_at}, Registers
 use Rattle.package_register.proofs.Numbered.{numbered_pass, passing_numbered}
 use Rattle.repo_model.proofs.Indexed.{either_way}
 use Rattle.kernel_text.specs.declared.member.Member.{Member}
-use Rattle.kernel_text.specs.KernelLines.{KernelLine, HeadLine, ClassLine, MemberLine, HeldLine, NeedsLine, AgainstLine, EndLine}
-use Rattle.kernel_text.specs.{Reader.{kind_of_last, may_add_member}, Reading.{IsNew, MayAddMember, is_same_member}}
+use Rattle.kernel_text.specs.KernelLines.{MemberLine, NeedsLine}
+use Rattle.kernel_text.specs.{Reader.{IsNew}, Reading.{is_same_member}}
 use Rattle.kernel_text.proofs.GoalImages.{got_in, in_got, none_there}
-
--- what may stand next, told by the kind of the last line
-pub may_member : (o : Option KernelLine) → may_add_member (kind_of_last o) ≡ true → MayAddMember o
-may_member (Some (ClassLine n)) e = tt
-may_member (Some (MemberLine a v)) e = tt
-may_member None e = absurd (false≢true e)
-may_member (Some (HeadLine f)) e = absurd (false≢true e)
-may_member (Some HeldLine) e = absurd (false≢true e)
-may_member (Some (NeedsLine c)) e = absurd (false≢true e)
-may_member (Some (AgainstLine m)) e = absurd (false≢true e)
-may_member (Some (EndLine c d)) e = absurd (false≢true e)
 
 pub other_line : (name version clause : List ℕ) → Some (MemberLine name version) ≡ Some (NeedsLine clause) → ⊥
 other_line name version clause e = let f : ⊥ = cc in f

@@ -7,9 +7,9 @@ use Rattle.row_book.specs.{Numbers.{numbers}, Repository.{Repository, clauses_of
 use Rattle.listed.specs.Lists.{In, has}
 use Rattle.row_book.proofs.{Books.{in_listed}, Numbers.{numbers_ascending, numbers_from}}
 use Rattle.kernel_text.specs.{declared.member.Member.{Member}, KernelLines.{KernelLine, HeadLine, EndLine, lines_of, line_text}}
-use Rattle.kernel_text.specs.KernelReads.{KernelReads, LinesGive, repository_of_reading}
 use Rattle.kernel_text.specs.KernelText.{AreSingle, IsWritable, class_lines, kernel_lines, kernel_text}
-use Rattle.kernel_text.specs.Reading.{Reading, ClassClause, empty_reading, number_limit}
+use Rattle.kernel_text.specs.Reading.{Reading, ClassClause, empty_reading, number_limit, repository_of_reading}
+use Rattle.kernel_text.proofs.Allowed.{IsRead, LinesGive}
 use Rattle.kernel_text.proofs.LineCuts.{with_lines, AreAllowed, text_gives}
 use Rattle.kernel_text.proofs.Printed.{Blocks, IsBlock, all_blocks, allowed_append, clause_entry, clause_entries, held_of, pairs_of, reading_at, with_append}
 use Rattle.kernel_text.proofs.Retold.{clauses_retold, conflicts_retold, high_low}
@@ -115,7 +115,7 @@ module _ (f : ℕ) (R : Repository) (members : List Member) (held : List ℕ) (k
       let made : List (List (List ℕ)) → List (List ℕ) → Repository = λ cs xs. record { clauses = cs; conflicts = xs } in
       ap₂ made (clauses_retold R) (conflicts_retold R size kernel.sound.count kernel.sound.conflicts conflict_low)
 
-  pub printed_reads : KernelReads (kernel_text f R members held) f R members held
+  pub printed_reads : IsRead (kernel_text f R members held) f R members held
   printed_reads = record {
     reading = reading;
     given = text_reading;

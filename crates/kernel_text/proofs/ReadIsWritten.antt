@@ -4,13 +4,14 @@ use Rattle.std.specs.List.{flat_map, onto_first}
 use Rattle.row_book.specs.Repository.{Repository}
 use Rattle.kernel_text.specs.declared.member.Member.{Member}
 use Rattle.kernel_text.specs.KernelLines.{KernelLine, HeadLine, ClassLine, MemberLine, HeldLine, NeedsLine, AgainstLine, EndLine, lines_of, line_text}
-use Rattle.kernel_text.specs.KernelReads.{KernelReads, LinesGive, IsEnded, IsInRange, repository_of_reading}
+use Rattle.kernel_text.specs.{Reader.{IsInRange}}
 use Rattle.kernel_text.specs.{KernelText.{AreSingle, IsWritable, held_lines, kernel_lines, kernel_text, line_of_member}, Laws.{ReadIsWritten}}
-use Rattle.kernel_text.specs.Reading.{IsFormat, Reading, empty_reading, number_limit, with_line}
+use Rattle.kernel_text.specs.Reading.{IsFormat, Reading, empty_reading, number_limit, repository_of_reading, with_line}
+use Rattle.kernel_text.proofs.Allowed.{IsEnded, IsRead, LinesGive, some_none}
 use Rattle.kernel_text.proofs.Blocks.{BlocksRead, NotEnd, blocks_reading, clause_entries_in, held_in, lines_are, members_in, pairs_in, reading_of_blocks}
-use Rattle.kernel_text.proofs.{LineCuts.{with_lines, AreAllowed}, Printed.{reading_at, with_append}, PrintedReads.{printed_reads}}
+use Rattle.kernel_text.proofs.{LineCuts.{with_lines, AreAllowed}, Printed.{reading_at, with_append}}
 use Rattle.kernel_text.proofs.ClassLines.{ArePopulated, Block, FitBlocks, HeldInSecond, block_lines, over_blocks}
-use Rattle.kernel_text.proofs.{Shape.{IsOfEnd, IsTail, Shaped, shape, some_none}, Writable.{single_lines, writable}}
+use Rattle.kernel_text.proofs.{Shape.{IsOfEnd, IsTail, Shaped, shape}, Writable.{single_lines, writable}}
 
 -- a text is its lines
 onto_flat : (b : ℕ) (xs : List (List ℕ)) → flat_map (λ (x : List ℕ). x) (onto_first b xs) ≡ b ∷ flat_map (λ (x : List ℕ). x) xs
@@ -149,7 +150,7 @@ of_equals : (P : ℕ → Repository → List Member → List ℕ → Type 0) (f 
 of_equals P f g R S ms ns hs is a b c d p =
     subst (λ k. P k R ms hs) (sym a) (subst (λ T. P g T ms hs) (sym b) (subst (λ os. P g S os hs) (sym c) (subst (λ js. P g S ns js) (sym d) p)))
 
-written : (text : List ℕ) (format : ℕ) (R : Repository) (members : List Member) (held : List ℕ) → KernelReads text format R members held →
+pub written : (text : List ℕ) (format : ℕ) (R : Repository) (members : List Member) (held : List ℕ) → IsRead text format R members held →
     IsWritable format R members held × (text ≡ kernel_text format R members held)
 unfolding kernel_text
 written text format R members held k =
@@ -160,5 +161,4 @@ written text format R members held k =
     k.of_format k.repository k.member_list k.held_list (b.writable, same ∙ ap (flat_map line_text) b.same_lines)
 
 pub read_is_written : ReadIsWritten
-read_is_written text format R members held =
-    (written text format R members held, (λ w. subst (λ t. KernelReads t format R members held) (sym w.1) (printed_reads format R members held w.0)))
+read_is_written text format R members held = ((λ k. (k.writable, k.lines)), (λ w. record { writable = w.0; lines = w.1 }))

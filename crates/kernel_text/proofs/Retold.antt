@@ -3,13 +3,13 @@ use Rattle.std.proofs.Common.{◌≡◌, ◌≢◌, ℕ, zero, suc, ◌+◌, ◌
 use Rattle.std.proofs.{lemmas.Bool.{cases_lt, cases_eq, and_from, or_left, or_right, lt-ltb, both_ways}, lemmas.List.{append-nil, map-append, ext_get_or}}
 use Rattle.std.proofs.lemmas.List.Elements.{filter-append}
 use Rattle.std.specs.List.{flat_map}
-use Rattle.listed.proofs.Lists.{In_flat_cases, In_flat, In_cases, In_none, In_has, has_In, In_append_cases, In_append_left, In_append_right, In_map, In_map_cases, any_from, filter_from, filter_cases}
+use Rattle.listed.proofs.Lists.{In_flat_cases, In_flat, In_has, has_In, In_map, In_map_cases, any_from, filter_from, filter_cases}
 use Rattle.listed.proofs.Orders.{ascending_same, ascending_filter}
 use Rattle.row_book.specs.{Book.{are_paired, lists_of_pairs, AreConflicts}, Numbers.{numbers}, Repository.{Repository, clauses_of, conflicts_of}}
 use Rattle.row_book.specs.declared.pair.Pair.{Pair}
-use Rattle.listed.specs.Lists.{In, here, there, has}
+use Rattle.listed.specs.Lists.{In, has}
 use Rattle.row_book.proofs.{Numbers.{numbers_from, numbers_ascending, length_numbers, at_numbers}, Pairs.{is_of, paired_cases}}
-use Rattle.kernel_text.specs.{KernelReads.{clauses_of_class}, KernelText.{greater_conflicts}, Reading.{ClassClause}}
+use Rattle.kernel_text.specs.{KernelText.{greater_conflicts}, Reading.{ClassClause, clauses_of_class}}
 use Rattle.kernel_text.proofs.Printed.{clause_entry, clause_entries, pair_of, pairs_of}
 
 -- the clauses of one class among those of all

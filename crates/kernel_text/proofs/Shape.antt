@@ -8,7 +8,8 @@ use Rattle.clause_pool.proofs.Order.{before_trans}
 use Rattle.kernel_text.specs.declared.member.Member.{Member}
 use Rattle.kernel_text.specs.KernelLines.{KernelLine, HeadLine, ClassLine, MemberLine, HeldLine, NeedsLine, AgainstLine, EndLine}
 use Rattle.kernel_text.specs.KernelText.{held_lines, line_of_member}
-use Rattle.kernel_text.specs.Reading.{Reading, IsAllowed, IsClauseOf, IsNamed, with_line, this_class, member_of_line, MayBegin, MayAddMember, MayAddClause, MayAddConflict, MayAddHeld}
+use Rattle.kernel_text.specs.Reading.{Reading, IsNamed, with_line, this_class, member_of_line}
+use Rattle.kernel_text.proofs.Allowed.{IsAllowed, IsClauseOf, MayBegin, MayAddMember, MayAddClause, MayAddConflict, MayAddHeld, some_none}
 use Rattle.kernel_text.proofs.ClassLines.{ArePopulated, Block, FitBlock, FitBlocks, HeldInSecond, block_lines, empty, empty_fits, over_blocks}
 use Rattle.kernel_text.proofs.LineCuts.{AreAllowed, with_lines}
 
@@ -71,9 +72,6 @@ pub record Shaped (t : Reading) (ls : List KernelLine) : Type 0 where
   pub no_conflicts_left : PastAll t.last → now.conflicts ≡ []
   pub later_clauses : (c : List ℕ) → In c now.clauses → Behind t.last c
   pub later : (m : ℕ) → In m now.conflicts → Above t.last m
-
-pub some_none : (l : KernelLine) → Some l ≡ None → ⊥
-some_none l e = let f : ⊥ = cc in f
 
 -- nothing is allowed behind the end line
 nothing_behind : (t : Reading) (classes members : ℕ) (ls : List KernelLine) → t.last ≡ Some (EndLine classes members) → AreAllowed t ls → ls ≡ []

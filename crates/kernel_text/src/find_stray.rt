@@ -1,6 +1,6 @@
 //! The first line with a number that is not one of a class.
-ghost use Rattle.std.specs.Prelude.{◌≡◌, ◌≤◌, ◌↔◌, IsTrue, IfOk, length};
-ghost use Rattle.kernel_text.specs.{KernelFaults.{Strays}, Strays.{StrayIsTold, strays_by}, Words.{line_of_content}};
+ghost use Rattle.std.specs.{Prelude.{◌≡◌, ◌≤◌, IfOk, length}, List.{position_from}};
+ghost use Rattle.kernel_text.specs.{KernelLines.{lines_of}, StoredReading.{strays}, Strays.{strays_by}, Words.{line_of_content}};
 ghost use Rattle.repo_model.specs.Limits.{most_bytes};
 
 use crate::check_range::is_below;
@@ -17,7 +17,7 @@ pub(crate) fn first_stray(
     classes: u32,
 ) -> Result<Option<u64>, AllocError>
     requires { length bytes.now ≤ most_bytes }
-    ensures { IfOk result (StrayIsTold bytes.now classes) }
+    ensures { IfOk result (λ found. found ≡ position_from (strays classes) 1 (lines_of bytes.now)) }
 {
     let mut place = 0;
     let mut line = 0u64;
@@ -34,7 +34,7 @@ pub(crate) fn first_stray(
 
 // Whether the line has a number that is not one of so many classes.
 fn is_stray(alloc: Global, line: &[u8], classes: u32) -> Result<bool, AllocError>
-    ensures { IfOk result (λ found. IsTrue found ↔ Strays classes line.now) }
+    ensures { IfOk result (λ found. found ≡ strays classes line.now) }
 {
     match read_line(alloc, line)? {
         Some(content) => Ok(has_stray(&content, classes)),

@@ -1,6 +1,6 @@
 //! Laws over the definitions that the contracts of kernel texts cite; these functions do nothing.
 ghost use Rattle.kernel_text.specs.Laws.{KernelsAreWritable, ReadIsWritten, RoundsGiveKernels, TextsAreJudged, TextsAreReadOnce, WrittenIsReadBack};
-ghost use Rattle.kernel_text.specs.{LineKinds.{LinesAreCounted}, Serving.{ImagesServe}, StoredReading.{TextsAreTold}};
+ghost use Rattle.kernel_text.specs.{LineKinds.{LinesAreCounted}, Serving.{ImagesServe}, StoredReading.{LinesAreFound, TextsAreTold}};
 
 /// A text is read as one format, one repository, one list of members and one list of held classes at most.
 pub fn texts_are_read_once()
@@ -35,9 +35,14 @@ pub fn texts_are_judged()
     ensures { TextsAreJudged }
 {}
 
-/// What a text is read as, as a function, is the kernel by which the grammar reads it, or else the fault of the grammar.
+/// What a text is read as, line by line, is the kernel whose text it is.
 pub fn texts_are_told()
     ensures { TextsAreTold }
+{}
+
+/// A line is found by its words exactly if it has the bytes of the text and is allowed.
+pub fn lines_are_found()
+    ensures { LinesAreFound }
 {}
 
 /// The text of an index's kernel is read as that kernel, and goals name in it the classes of the packages that they name in

@@ -35,6 +35,7 @@ pub use stored::{MemberList, StoredKernel, read_kernel};
 
 // Laws.
 pub use laws::{
-    images_serve, kernels_are_writable, lines_are_counted, read_is_written, rounds_give_kernels,
-    texts_are_judged, texts_are_read_once, texts_are_told, written_is_read_back,
+    images_serve, kernels_are_writable, lines_are_counted, lines_are_found, read_is_written,
+    rounds_give_kernels, texts_are_judged, texts_are_read_once, texts_are_told,
+    written_is_read_back,
 };

@@ -2,8 +2,9 @@
 ghost use Rattle.std.specs.Prelude.{◌≡◌, ◌<◌, ◌-◌, ℕ, true, IfOk};
 ghost use Rattle.listed.specs.Lists.{In};
 ghost use Rattle.kernel_text.specs.KernelLines.{AgainstLine, ClassLine, EndLine, HeadLine, HeldLine, MemberLine, NeedsLine};
-ghost use Rattle.kernel_text.specs.Reader.{last_clause, Adds, EndIsTold, Enters, Holds, may_add_clause, may_add_conflict, may_add_held, may_add_member, may_begin, Takes};
-ghost use Rattle.kernel_text.specs.{Members.{IsMemberRegister}, Reading.{empty_reading, IsFormat, IsNamed, number_limit, Reading}};
+ghost use Rattle.kernel_text.specs.Reader.{last_clause, Adds, Enters, Holds, Takes};
+ghost use Rattle.kernel_text.specs.{StoredReading.{is_ended}};
+ghost use Rattle.kernel_text.specs.{Members.{IsMemberRegister}, Reading.{empty_reading, IsFormat, IsNamed, may_add_clause, may_add_conflict, may_add_held, may_add_member, may_begin, number_limit, Reading}};
 ghost use Rattle.kernel_text.specs.Words.{IsWellFormed, line_of_content};
 
 use crate::clause_shape::is_ascending;
@@ -246,7 +247,7 @@ impl Reader {
 
     /// Whether the last line is the end line with the right numbers.
     pub(crate) fn is_ended(&self) -> bool
-        ensures { (t : Reading) → Holds self.now t → EndIsTold t result }
+        ensures { (t : Reading) → Holds self.now t → result ≡ is_ended t }
     {
         match self.last {
             LastLine::End { classes, members } => {

@@ -10,7 +10,7 @@ use Rattle.relation_fields.specs.declared.packages.PackageFacts.{PackageFacts}
 use Rattle.listed.specs.Lists.{In, here, there}
 use Rattle.listed.proofs.Lists.{In_append_cases, In_append_left, In_cases, In_map, In_map_cases, In_none, find_none, find_not}
 use Rattle.repo_model.specs.{Facts.{architecture_of, facts_of, is_all, is_same_package}, Fields.{field_of}}
-use Rattle.repo_model.specs.FirstFault.{duplicate_fault, fault_behind, faults_from, first_fault, first_some, home_of, is_at_home, mixed_fault, own_fault, reading_fault, stanza_fault, stanzas_in, stanzas_of}
+use Rattle.repo_model.specs.FirstFault.{duplicate_fault, fault_behind, faults_from, first_fault, first_present, home_of, is_at_home, mixed_fault, own_fault, reading_fault, stanza_fault, stanzas_in, stanzas_of}
 use Rattle.repo_model.specs.{declared.fault.IndexFault.{IndexFault}, declared.fault.IndexFault.TheVariants.{Duplicate, Mixed, TooMany}, Limits.{most_packages}}
 use Rattle.repo_model.proofs.{Refusing.{none_behind}, WellFormed.{none_of}, Steps.{home_of-push, stanzas_in-ok}}
 use Rattle.migrate_plan.proofs.Shifted.{ok_of}
@@ -49,10 +49,10 @@ walk_step before (Ok stanza) more room fine later =
     record { stanzas = stanza ∷ next.stanzas; are = ap (λ others. ok_of stanza ∷ others) next.are; fit = (record { room = room; fine = fine }, next.fit) }
 
 walk : (all : List (Result RawStanza StanzaFault)) (before : List RawStanza) (more : List (Result RawStanza StanzaFault)) → all ≡ map ok_of before ++ more
-    → first_some (faults_from all (length before) more) ≡ None → Walked before more
+    → first_present (faults_from all (length before) more) ≡ None → Walked before more
 walk all before [] whole none = record { stanzas = []; are = refl; fit = tt }
 walk all before (reading ∷ more) whole none =
-    let both = none_of (fault_behind (take (length before) all) reading) (first_some (faults_from all (length before + 1) more)) none in
+    let both = none_of (fault_behind (take (length before) all) reading) (first_present (faults_from all (length before + 1) more)) none in
     let front : take (length before) all ≡ map ok_of before =
     ap (take (length before)) whole ∙ ap (λ n. take n (map ok_of before ++ reading ∷ more)) (sym (length-map before ok_of)) ∙ take-append_seam (map ok_of before) (reading ∷ more) in
     let own : fault_behind (map ok_of before) reading ≡ None = subst (λ xs. fault_behind xs reading ≡ None) front both.0 in
@@ -63,7 +63,7 @@ walk all before (reading ∷ more) whole none =
     let longer : length (before ++ stanza ∷ []) ≡ length before + 1 = length-append before (stanza ∷ []) in
     walk all (before ++ stanza ∷ []) more
     (whole ∙ ap (λ r. map ok_of before ++ r ∷ more) is ∙ sym (append_assoc (map ok_of before) (ok_of stanza ∷ []) more) ∙ ap (λ front. front ++ more) (sym (map-append ok_of before (stanza ∷ []))))
-    (subst (λ n. first_some (faults_from all n more) ≡ None) (sym longer) both.1))
+    (subst (λ n. first_present (faults_from all n more) ≡ None) (sym longer) both.1))
 
 -- an index without a fault reads as its stanzas, and they fit
 pub record ReadsFine (text : List ℕ) : Type 0 where
@@ -78,7 +78,7 @@ reads_fine text none =
     record { are = w.are ∙ ap (map ok_of) (sym same); fit = subst (AllFit []) (sym same) w.fit }
 
 -- stanzas that fit have no fault among all of them
-no_faults : (before stanzas : List RawStanza) → AllFit before stanzas → first_some (faults_from (map ok_of (before ++ stanzas)) (length before) (map ok_of stanzas)) ≡ None
+no_faults : (before stanzas : List RawStanza) → AllFit before stanzas → first_present (faults_from (map ok_of (before ++ stanzas)) (length before) (map ok_of stanzas)) ≡ None
 no_faults before [] fit = refl
 no_faults before (stanza ∷ more) fit =
     let all : List (Result RawStanza StanzaFault) = map ok_of (before ++ stanza ∷ more) in
@@ -90,16 +90,16 @@ no_faults before (stanza ∷ more) fit =
     ∙ ap (λ b. if b then Some TooMany else reading_fault (stanzas_in (map ok_of before)) (Ok stanza)) (not_early (length before) fit.0.room)
     ∙ ap (λ xs. reading_fault xs (Ok stanza)) (stanzas_in-ok before) ∙ fit.0.fine in
     let longer : length (before ++ stanza ∷ []) ≡ length before + 1 = length-append before (stanza ∷ []) in
-    let rest : first_some (faults_from (map ok_of ((before ++ stanza ∷ []) ++ more)) (length (before ++ stanza ∷ [])) (map ok_of more)) ≡ None = no_faults (before ++ stanza ∷ []) more fit.1 in
-    let same : first_some (faults_from all (length before + 1) (map ok_of more)) ≡ None =
-    ap (λ xs. first_some (faults_from (map ok_of xs) (length before + 1) (map ok_of more))) (sym (append_assoc before (stanza ∷ []) more))
-    ∙ ap (λ n. first_some (faults_from (map ok_of ((before ++ stanza ∷ []) ++ more)) n (map ok_of more))) (sym longer) ∙ rest in
-    none_behind (fault_behind (take (length before) all) (Ok stanza)) (first_some (faults_from all (length before + 1) (map ok_of more))) first same
+    let rest : first_present (faults_from (map ok_of ((before ++ stanza ∷ []) ++ more)) (length (before ++ stanza ∷ [])) (map ok_of more)) ≡ None = no_faults (before ++ stanza ∷ []) more fit.1 in
+    let same : first_present (faults_from all (length before + 1) (map ok_of more)) ≡ None =
+    ap (λ xs. first_present (faults_from (map ok_of xs) (length before + 1) (map ok_of more))) (sym (append_assoc before (stanza ∷ []) more))
+    ∙ ap (λ n. first_present (faults_from (map ok_of ((before ++ stanza ∷ []) ++ more)) n (map ok_of more))) (sym longer) ∙ rest in
+    none_behind (fault_behind (take (length before) all) (Ok stanza)) (first_present (faults_from all (length before + 1) (map ok_of more))) first same
 
 -- a text that reads as stanzas that fit is an index without a fault
 pub faultless : (text : List ℕ) (stanzas : List RawStanza) → readings text ≡ map ok_of stanzas → AllFit [] stanzas → first_fault text ≡ None
 unfolding first_fault
-faultless text stanzas are fit = ap (λ all. first_some (faults_from all 0 all)) are ∙ no_faults [] stanzas fit
+faultless text stanzas are fit = ap (λ all. first_present (faults_from all 0 all)) are ∙ no_faults [] stanzas fit
 
 -- a later stanza is not of the package of an earlier one
 abbrev pub AreOthers : RawStanza → RawStanza → Type 0
@@ -191,12 +191,12 @@ unfolding home_of
 home_by home [] at = inl refl
 home_by home (stanza ∷ more) at = elim (at stanza here) [
   | inl none ↦ elim (home_by home more (λ t i. at t (there i))) [
-    | inl e ↦ inl (ap (λ found. option_or found (first_some (map architecture_of more))) none ∙ e)
-    | inr e ↦ inr (ap (λ found. option_or found (first_some (map architecture_of more))) none ∙ e)
+    | inl e ↦ inl (ap (λ found. option_or found (first_present (map architecture_of more))) none ∙ e)
+    | inr e ↦ inr (ap (λ found. option_or found (first_present (map architecture_of more))) none ∙ e)
   ]
   | inr is ↦ elim (home_by home more (λ t i. at t (there i))) [
-    | inl e ↦ inr (ap (λ found. option_or found (first_some (map architecture_of more))) is ∙ ap (option_or home) e ∙ alone home)
-    | inr e ↦ inr (ap (λ found. option_or found (first_some (map architecture_of more))) is ∙ ap (option_or home) e ∙ twice home)
+    | inl e ↦ inr (ap (λ found. option_or found (first_present (map architecture_of more))) is ∙ ap (option_or home) e ∙ alone home)
+    | inr e ↦ inr (ap (λ found. option_or found (first_present (map architecture_of more))) is ∙ ap (option_or home) e ∙ twice home)
   ]
 ]
   where

@@ -4,7 +4,7 @@ use Rattle.std.specs.{Prelude.{is_some, if◌then◌else◌, ◌||◌}, Option.{
 use Rattle.stanza_reader.specs.declared.stanza.RawStanza.{RawStanza}
 use Rattle.listed.specs.Lists.{In, here, there}
 use Rattle.listed.proofs.Lists.{filter_cases}
-use Rattle.repo_model.specs.{Facts.{architecture_of, facts_of}, Feeding.{IsSuiteOf}, FirstFault.{first_some, home_of, stanzas_of}}
+use Rattle.repo_model.specs.{Facts.{architecture_of, facts_of}, Feeding.{IsSuiteOf}, FirstFault.{first_present, home_of, stanzas_of}}
 use Rattle.relation_fields.specs.declared.packages.PackageFacts.{PackageFacts}
 use Rattle.migrate_plan.specs.Indexes.{has_arch_dependent}
 use Rattle.migrate_plan.proofs.{Faultless.{IsAt, reads_fine, sound_of}, Mixed.{named}}
@@ -17,13 +17,13 @@ home_if_any home stanzas = if has_arch_dependent (map facts_of stanzas) then hom
 any_past : (home : Option (List ℕ)) (stanza : RawStanza) (more : List RawStanza) → architecture_of stanza ≡ None → home_if_any home more ≡ home_of more → home_if_any home (stanza ∷ more) ≡ home_of (stanza ∷ more)
 unfolding facts_of home_of
 any_past home stanza more none rest =
-    ap (λ (found : Option (List ℕ)). if is_some found || has_arch_dependent (map facts_of more) then home else None) none ∙ rest ∙ sym (ap (λ found. option_or found (first_some (map architecture_of more))) none)
+    ap (λ (found : Option (List ℕ)). if is_some found || has_arch_dependent (map facts_of more) then home else None) none ∙ rest ∙ sym (ap (λ found. option_or found (first_present (map architecture_of more))) none)
 
 -- and one of the home tells it
 any_here : (home : List ℕ) (stanza : RawStanza) (more : List RawStanza) → architecture_of stanza ≡ Some home → home_if_any (Some home) (stanza ∷ more) ≡ home_of (stanza ∷ more)
 unfolding facts_of home_of
 any_here home stanza more is =
-    ap (λ (found : Option (List ℕ)). if is_some found || has_arch_dependent (map facts_of more) then Some home else None) is ∙ sym (ap (λ found. option_or found (first_some (map architecture_of more))) is)
+    ap (λ (found : Option (List ℕ)). if is_some found || has_arch_dependent (map facts_of more) then Some home else None) is ∙ sym (ap (λ found. option_or found (first_present (map architecture_of more))) is)
 
 home_any : (home : Option (List ℕ)) (stanzas : List RawStanza) → ((t : RawStanza) → In t stanzas → IsAt home t) → home_if_any home stanzas ≡ home_of stanzas
 unfolding home_of

@@ -10,7 +10,7 @@ use Rattle.relation_fields.specs.declared.packages.PackageFacts.{PackageFacts}
 use Rattle.listed.specs.Lists.{In, here, there}
 use Rattle.listed.proofs.Lists.{In_append_cases, In_cases, In_none, find_none}
 use Rattle.repo_model.specs.Facts.{facts_of, is_same_package, AreNamedPackages}
-use Rattle.repo_model.specs.FirstFault.{first_some, own_fault, duplicate_fault, stanza_fault, reading_fault, stanzas_in, stanzas_of, fault_behind, faults_from, first_fault, home_of}
+use Rattle.repo_model.specs.FirstFault.{first_present, own_fault, duplicate_fault, stanza_fault, reading_fault, stanzas_in, stanzas_of, fault_behind, faults_from, first_fault, home_of}
 use Rattle.repo_model.specs.{declared.fault.IndexFault.{IndexFault}, declared.fault.IndexFault.TheVariants.{Stanza, Duplicate, TooMany}, Limits.{most_packages}}
 use Rattle.repo_model.proofs.WellFormed.{none_of, facts_well_formed}
 
@@ -88,11 +88,11 @@ record Read (all front more : List (Result RawStanza StanzaFault)) : Type 0 wher
   count : length (stanzas_in front) ≡ length front
   few : length front ≤ most_packages
   accepted : Accepted (map facts_of (stanzas_in front))
-  faultless : first_some (faults_from all (length front) more) ≡ None
+  faultless : first_present (faults_from all (length front) more) ≡ None
 
 read_more : (all front more : List (Result RawStanza StanzaFault)) (stanza : RawStanza) → Read all front (Ok stanza ∷ more) → Read all (front ++ Ok stanza ∷ []) more
 read_more all front more stanza r =
-    let both = none_of (fault_behind (take (length front) all) (Ok stanza)) (first_some (faults_from all (length front + 1) more)) r.faultless in
+    let both = none_of (fault_behind (take (length front) all) (Ok stanza)) (first_present (faults_from all (length front + 1) more)) r.faultless in
     let before : take (length front) all ≡ front = ap (take (length front)) r.whole ∙ take-append_seam front (Ok stanza ∷ more) in
     let own : fault_behind front (Ok stanza) ≡ None = subst (λ xs. fault_behind xs (Ok stanza) ≡ None) before both.0 in
     let now = early (length front) (reading_fault (stanzas_in front) (Ok stanza)) own in
@@ -106,14 +106,14 @@ read_more all front more stanza r =
       few = omega arith;
       accepted = subst (λ xs. Accepted (map facts_of xs)) (sym kept)
           (subst Accepted (sym (map-append facts_of (stanzas_in front) (stanza ∷ []))) (accepted_more (stanzas_in front) stanza (omega arith) now.1 r.accepted));
-      faultless = subst (λ n. first_some (faults_from all n more) ≡ None) (sym longer) both.1;
+      faultless = subst (λ n. first_present (faults_from all n more) ≡ None) (sym longer) both.1;
     }
 
 walk : (all front more : List (Result RawStanza StanzaFault)) → Read all front more → Accepted (map facts_of (stanzas_in all))
 walk all front [] r = subst (λ xs. Accepted (map facts_of (stanzas_in xs))) (sym (r.whole ∙ append-nil front)) r.accepted
 walk all front (Ok stanza ∷ more) r = walk all (front ++ Ok stanza ∷ []) more (read_more all front more stanza r)
 walk all front (Err fault ∷ more) r =
-    let both = none_of (fault_behind (take (length front) all) (Err fault)) (first_some (faults_from all (length front + 1) more)) r.faultless in
+    let both = none_of (fault_behind (take (length front) all) (Err fault)) (first_present (faults_from all (length front + 1) more)) r.faultless in
     let now = early (length (take (length front) all)) (Some (Stanza fault)) both.0 in
     let never : Some (Stanza fault) ≡ None = now.1 in
     absurd (let k : ⊥ = cc in k)

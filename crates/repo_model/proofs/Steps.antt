@@ -6,7 +6,7 @@ use Rattle.stanza_reader.specs.{Close.{IsClosed, readings_from}, Lines.{is_line_
 use Rattle.stanza_reader.specs.{declared.place.Place.{Place}, declared.stanza.RawStanza.{RawStanza}, declared.fault.StanzaFault.{StanzaFault}}
 use Rattle.relation_fields.specs.declared.packages.PackageFacts.{PackageFacts}
 use Rattle.repo_model.specs.{Facts.{facts_of, architecture_of}, Feeding.{IsSuiteOf, HasFault}}
-use Rattle.repo_model.specs.FirstFault.{first_some, home_of, stanza_fault, reading_fault, stanzas_in, fault_behind, faults_from, first_fault, stanzas_of}
+use Rattle.repo_model.specs.FirstFault.{first_present, home_of, stanza_fault, reading_fault, stanzas_in, fault_behind, faults_from, first_fault, stanzas_of}
 use Rattle.repo_model.specs.{Refusals.{Refuses}, Reading.{lines_fault, shape_fault, GoesOn}, declared.fault.IndexFault.{IndexFault}}
 use Rattle.repo_model.specs.{declared.fault.IndexFault.TheVariants.{TooMany}, Limits.{most_packages}}
 use Rattle.stanza_reader.proofs.PartLemmas.{reads_in_parts}
@@ -21,7 +21,7 @@ ok_of stanza = Ok stanza
 
 -- the first fault of the stanzas from the n-th on
 abbrev pub fault_from : List Reading → ℕ → List Reading → Option IndexFault
-fault_from all n more = first_some (faults_from all n more)
+fault_from all n more = first_present (faults_from all n more)
 
 -- The packages so far are those of the stanzas before what is left, none of which has a fault.
 pub record IsRead (all more : List Reading) (packages : List PackageFacts) (home : Option (List ℕ)) : Type 0 where
@@ -78,15 +78,15 @@ stanza_is : (all : List Reading) (before : List RawStanza) (stanza : RawStanza) 
 stanza_is all before stanza more read room =
     behind_is all before more (Ok stanza) read ∙ ap (λ b. if b then Some TooMany else reading_fault before (Ok stanza)) (room_is (length before) room)
 
-pub first_some-push : {X : Type 0} (xs : List (Option X)) (x : Option X) → first_some (xs ++ x ∷ []) ≡ option_or (first_some xs) x
-first_some-push [] None = refl
-first_some-push [] (Some x) = refl
-first_some-push (None ∷ xs) x = first_some-push xs x
-first_some-push (Some y ∷ xs) x = refl
+pub first_present-push : {X : Type 0} (xs : List (Option X)) (x : Option X) → first_present (xs ++ x ∷ []) ≡ option_or (first_present xs) x
+first_present-push [] None = refl
+first_present-push [] (Some x) = refl
+first_present-push (None ∷ xs) x = first_present-push xs x
+first_present-push (Some y ∷ xs) x = refl
 
 pub home_of-push : (before : List RawStanza) (stanza : RawStanza) → home_of (before ++ stanza ∷ []) ≡ option_or (home_of before) (architecture_of stanza)
 unfolding home_of
-home_of-push before stanza = ap first_some (map-append architecture_of before (stanza ∷ [])) ∙ first_some-push (map architecture_of before) (architecture_of stanza)
+home_of-push before stanza = ap first_present (map-append architecture_of before (stanza ∷ [])) ∙ first_present-push (map architecture_of before) (architecture_of stanza)
 
 -- the first of two faults, one after the other
 or_assoc : {X : Type 0} (a b c : Option X) → option_or (option_or a b) c ≡ option_or a (option_or b c)

@@ -22,9 +22,9 @@ use Rattle.repo_model.specs.declared.fault.IndexFault.TheVariants.{Stanza, Missi
 use Rattle.repo_model.specs.Limits.{most_packages}
 
 -- the first that is there
-abbrev pub first_some : {X : Type 0} → List (Option X) → Option X
-first_some [] = None
-first_some (found ∷ more) = option_or found (first_some more)
+abbrev pub first_present : {X : Type 0} → List (Option X) → Option X
+first_present [] = None
+first_present (found ∷ more) = option_or found (first_present more)
 
 -- the fault of a stanza that has no field of the kind
 abbrev pub missing : FieldKind → IndexFault → RawStanza → Option IndexFault
@@ -48,13 +48,13 @@ bad_relation kind one stanza = option_and_then (unless_said one) (field_of kind 
 
 -- a field is missing
 unfoldable pub presence_fault : RawStanza → Option IndexFault
-presence_fault stanza = first_some (
+presence_fault stanza = first_present (
     missing Package (MissingPackage stanza.line) stanza
     ∷ missing Version (MissingVersion stanza.line) stanza ∷ [])
 
 -- a value is bad
 unfoldable pub value_fault : RawStanza → Option IndexFault
-value_fault stanza = first_some (
+value_fault stanza = first_present (
     bad_value Package is_name BadPackage stanza
     ∷ bad_value Version is_version BadVersion stanza
     ∷ bad_value Architecture is_architecture BadArchitecture stanza
@@ -74,7 +74,7 @@ duplicate_fault before stanza = option_map (λ first. Duplicate first.line stanz
 
 -- the common architecture of some stanzas: that of the first that has one other than `all`
 unfoldable pub home_of : List RawStanza → Option (List ℕ)
-home_of stanzas = first_some (map architecture_of stanzas)
+home_of stanzas = first_present (map architecture_of stanzas)
 
 -- there is no home, or it is this architecture
 abbrev pub is_at_home : Option (List ℕ) → List ℕ → Bool
@@ -86,7 +86,7 @@ mixed_fault home stanza = option_and_then (λ field. if is_all field.value || is
 
 -- the fault of a stanza that was read, with the packages and the common architecture of the stanzas before this one
 abbrev pub stanza_fault : List PackageFacts → Option (List ℕ) → RawStanza → Option IndexFault
-stanza_fault before home stanza = first_some (own_fault stanza ∷ duplicate_fault before stanza ∷ mixed_fault home stanza ∷ [])
+stanza_fault before home stanza = first_present (own_fault stanza ∷ duplicate_fault before stanza ∷ mixed_fault home stanza ∷ [])
 
 -- the fault of what is read of a stanza, in its lines or else in the stanza, with the stanzas before it
 abbrev pub reading_fault : List RawStanza → Result RawStanza StanzaFault → Option IndexFault
@@ -107,7 +107,7 @@ faults_from all n more = map (λ e. fault_behind (take e.0 all) e.1) (enumerate_
 
 -- the fault of the first stanza that has one
 unfoldable pub first_fault : List ℕ → Option IndexFault
-first_fault text = first_some (faults_from (readings text) 0 (readings text))
+first_fault text = first_present (faults_from (readings text) 0 (readings text))
 
 -- the stanzas of an index, without those that have a fault of their lines
 unfoldable pub stanzas_of : List ℕ → List RawStanza

@@ -27,7 +27,7 @@ use Rattle.coinst_run.specs.{Query.{by_found, by_tree, by_unknown, goals_answer,
 use Rattle.coinst_run.specs.Sample.{sample_answer, sample_limit, sample_path, size_report}
 use Rattle.coinst_run.specs.StoredQuery.{by_reading, classes_text, stored_answer, stored_by_unknown, stored_query_answer}
 use Rattle.coinst_run.specs.SystemStatus.{system_answer, system_by_fault, system_course, told_answer, system_report}
-use Rattle.kernel_text.proofs.StoredReading.{reading_is}
+use Rattle.kernel_text.proofs.StoredReading.{texts_are_told}
 use Rattle.report_laws.specs.Complete.{CompleteJobsReport, GivesReport, IsComplete}
 use Rattle.coinst_run.proofs.GoingOn.{checked_used, file_used, kernel_at_used, kernel_used, limit_used}
 use Rattle.report_laws.proofs.Steps.{file_step, kernel_at_step, kernel_step, limit_step, some_alone, told}
@@ -71,10 +71,10 @@ explain_known goals budget limit hold index g = goals_known (explained_by_unknow
 
 -- a stored kernel is what the grammar reads
 stored_as : (text : List ℕ) (kernel : KernelContent) → KernelReads text kernel.format kernel.repository kernel.members kernel.held → stored_reading text ≡ Ok kernel
-stored_as text kernel h = ((reading_is text).kernels kernel.format kernel.repository kernel.members kernel.held).0 h
+stored_as text kernel h = (texts_are_told text kernel.format kernel.repository kernel.members kernel.held).0 h
 
 as_stored : (text : List ℕ) (kernel : KernelContent) → stored_reading text ≡ Ok kernel → KernelReads text kernel.format kernel.repository kernel.members kernel.held
-as_stored text kernel e = ((reading_is text).kernels kernel.format kernel.repository kernel.members kernel.held).1 e
+as_stored text kernel e = (texts_are_told text kernel.format kernel.repository kernel.members kernel.held).1 e
 
 -- goals of a stored kernel
 stored_told : (goals : List Goal) (budget : ℕ) (kernel : KernelContent) → unknown_in_kernel kernel.members goals ≡ None → GivesReport (answered (stored_answer goals budget kernel))

@@ -8,7 +8,7 @@ use Rattle.kernel_rounds.specs.Laws.{HasImage}
 use Rattle.kernel_rounds.proofs.Reached.{image_is_of_classes_lem}
 use Rattle.kernel_text.specs.{declared.member.Member.{Member}, Images.{image_of, is_unknown}, KernelReads.{KernelContent, KernelReads, content}}
 use Rattle.kernel_text.specs.{KernelText.{format_of}, Laws.{IsReadBack}, Members.{kernel_members}}
-use Rattle.kernel_text.proofs.{OneReading.{one_reading}, ReadBack.{read_back}}
+use Rattle.kernel_text.proofs.{ReadBack.{read_back}, StoredReading.{one_reading}}
 use Rattle.repo_model.specs.{declared.goals.Goal.{Goal}, FirstFault.{first_fault}, Goals.{packages_named}, Repository.{suite_repository}}
 use Rattle.repo_model.proofs.{Accepted.{Accepted}, Packages.{length_clauses}}
 use Rattle.row_book.specs.{Numbers.{numbers}, Repository.{Repository}, Rounds.{kernel, kernel_class, kernel_held, kernel_image}}

@@ -6,7 +6,7 @@ use Rattle.deb_version.specs.{Grammar.{is_version, epoch_of, behind_epoch, upstr
 use Rattle.relation_fields.specs.declared.packages.PackageFacts.{PackageFacts}
 use Rattle.stanza_reader.specs.{declared.fault.StanzaFault.{StanzaFault}, declared.stanza.RawStanza.{RawStanza}}
 use Rattle.repo_model.specs.Facts.{facts_of, is_same_package}
-use Rattle.repo_model.specs.FirstFault.{duplicate_fault, fault_behind, faults_from, first_fault, first_some, home_of, mixed_fault, presence_fault, reading_fault, stanzas_in, value_fault}
+use Rattle.repo_model.specs.FirstFault.{duplicate_fault, fault_behind, faults_from, first_fault, first_present, home_of, mixed_fault, presence_fault, reading_fault, stanzas_in, value_fault}
 use Rattle.repo_model.specs.Limits.{most_packages}
 use Rattle.sample_suite.specs.{declared.package.SamplePackage.{SamplePackage}, SampleText.{package_name, stanzas_text}}
 use Rattle.sample_suite.proofs.{Names.{IsSmall, name_named, names_differ}, Relations.{name_said, needs_said}}
@@ -106,7 +106,7 @@ clean_behind line n p before low fit front =
     rw room (clean_stanza line n p (omega (arith, low)) fit (stanzas_in before) front.below)
 
 clean_from : (all : List (Result RawStanza StanzaFault)) → ((j : ℕ) → IsFront j (take j all)) → (line n : ℕ) (more : List SamplePackage) → n + length more ≤ most_packages → AllByRecursion IsFit more →
-    first_some (faults_from all n (map Ok (stanzas_from line n more))) ≡ None
+    first_present (faults_from all n (map Ok (stanzas_from line n more))) ≡ None
 unfolding stanzas_from
 clean_from all front line n [] room fit = refl
 clean_from all front line n (p ∷ more) room fit =
@@ -117,5 +117,5 @@ clean_from all front line n (p ∷ more) room fit =
 pub stanzas_accepted : (all : List SamplePackage) → length all ≤ most_packages → AllByRecursion IsFit all → first_fault (stanzas_text 0 all) ≡ None
 unfolding first_fault
 stanzas_accepted all room fit =
-    ap (λ rs. first_some (faults_from rs 0 rs)) (sample_readings all (omega (arith, room)) fit)
+    ap (λ rs. first_present (faults_from rs 0 rs)) (sample_readings all (omega (arith, room)) fit)
     ∙ clean_from (map Ok (stanzas_from 1 0 all)) (fronts all) 1 0 all (omega (arith, room)) fit

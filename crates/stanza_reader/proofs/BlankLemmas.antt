@@ -53,13 +53,13 @@ concat_whole [] = refl
 concat_whole (b ∷ bs) = concat_step b bs (is_line_feed b) refl (concat_whole bs)
 
 -- a line that ends with its one line feed
-record HasFeed (line : List ℕ) : Type 0 where
+pub record HasFeed (line : List ℕ) : Type 0 where
   body : List ℕ
   is : line ≡ body ++ 10 ∷ []
   plain : list_any is_line_feed body ≡ false
 
 -- a line that has a byte and no line feed
-record IsOpen (line : List ℕ) : Type 0 where
+pub record IsOpen (line : List ℕ) : Type 0 where
   first : ℕ
   others : List ℕ
   is : line ≡ first ∷ others
@@ -90,7 +90,7 @@ are_step b bs false text later =
     let whole : whole_lines (b ∷ bs) ≡ onto_first b (whole_lines bs) = rw text refl in
     subst AreLines (sym whole) (lines_onto b (whole_lines bs) text later)
 
-are_lines : (text : List ℕ) → AreLines (whole_lines text)
+pub are_lines : (text : List ℕ) → AreLines (whole_lines text)
 are_lines [] = tt
 are_lines (b ∷ bs) = are_step b bs (is_line_feed b) refl (are_lines bs)
 
@@ -322,7 +322,7 @@ module _ (n : ℕ) (line : List ℕ) (more : List (List ℕ)) (are : AreLines (l
   one_step flags true blank = blank_step flags blank
   one_step flags false full = full_step flags (is_at_blank more) refl full
 
-picks : (n : ℕ) (flags : List Bool) (all : List (List ℕ)) → AreLines all → groups (lines_from n (concat (lines_left flags all))) ≡ picked flags (groups (lines_from n (concat all)))
+pub picks : (n : ℕ) (flags : List Bool) (all : List (List ℕ)) → AreLines all → groups (lines_from n (concat (lines_left flags all))) ≡ picked flags (groups (lines_from n (concat all)))
 picks n flags [] are = no_groups ∙ sym (ap (picked flags) no_groups ∙ picked_none flags)
 picks n flags (line ∷ more) are = one_step n line more are flags (is_blank_whole line) refl (picks (n + 1) (flags_behind flags line more) more are.1)
 

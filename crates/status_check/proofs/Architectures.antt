@@ -11,7 +11,7 @@ use Rattle.stanza_reader.specs.declared.stanza.FieldKind.TheVariants as kind
 use Rattle.stanza_reader.specs.{declared.stanza.RawField.{RawField}, declared.stanza.RawStanza.{RawStanza}}
 use Rattle.stanza_reader.proofs.BlankLemmas.{good, good_readings, map_picked, readings_picked}
 use Rattle.repo_model.specs.{Facts.{architecture_of, facts_of, is_all, is_same_package}, Fields.{field_of}}
-use Rattle.repo_model.specs.FirstFault.{bad_relation, bad_value, duplicate_fault, fault_behind, faults_from, first_fault, first_some, home_of, is_at_home, missing, mixed_fault, presence_fault, stanza_fault, stanzas_in, unless_good, value_fault}
+use Rattle.repo_model.specs.FirstFault.{bad_relation, bad_value, duplicate_fault, fault_behind, faults_from, first_fault, first_present, home_of, is_at_home, missing, mixed_fault, presence_fault, stanza_fault, stanzas_in, unless_good, value_fault}
 use Rattle.repo_model.specs.declared.fault.IndexFault.{IndexFault}
 use Rattle.repo_model.specs.declared.fault.IndexFault.TheVariants.{Stanza, MissingPackage, MissingVersion, BadPackage, BadVersion, BadArchitecture, BadRelation, Duplicate, Mixed, TooMany, Memory}
 use Rattle.repo_model.specs.Limits.{most_packages}
@@ -164,11 +164,11 @@ same_home None value other e h = cc
 same_home (Some name) value other e h = (bytes_eq-Decides value other).1 ((bytes_eq-Decides value name).0 e ∙ sym ((bytes_eq-Decides other name).0 h))
 
 -- the own stanzas have no other home
-at_home : (home : Home) (before : List RawStanza) (value : List ℕ) → AreOwn home before → is_of_home home value ≡ true → is_at_home (first_some (map architecture_of before)) value ≡ true
+at_home : (home : Home) (before : List RawStanza) (value : List ℕ) → AreOwn home before → is_of_home home value ≡ true → is_at_home (first_present (map architecture_of before)) value ≡ true
 at_home home [] value own e = refl
 at_home home (stanza ∷ more) value own e = go (at_home home more value own.1 e) (architecture_of stanza) refl
   where
-    go : is_at_home (first_some (map architecture_of more)) value ≡ true → (found : Option (List ℕ)) → architecture_of stanza ≡ found → is_at_home (option_or found (first_some (map architecture_of more))) value ≡ true
+    go : is_at_home (first_present (map architecture_of more)) value ≡ true → (found : Option (List ℕ)) → architecture_of stanza ≡ found → is_at_home (option_or found (first_present (map architecture_of more))) value ≡ true
     go later None is = later
     go later (Some architecture) is = same_home home.name value architecture e (of_home home stanza architecture own.0 is)
 
@@ -176,17 +176,17 @@ mixed_passes : (home : Home) (before : List RawStanza) (stanza : RawStanza) → 
 unfolding mixed_fault home_of
 mixed_passes home before stanza all own = go (field_of kind.Architecture stanza) refl
   where
-    fine : (field : RawField) → field_of kind.Architecture stanza ≡ Some field → (is_all field.value || is_at_home (first_some (map architecture_of before)) field.value) ≡ true
+    fine : (field : RawField) → field_of kind.Architecture stanza ≡ Some field → (is_all field.value || is_at_home (first_present (map architecture_of before)) field.value) ≡ true
     fine field e = elim (or_cases (is_all field.value) (is_of_home home field.value) (known home stanza field own e)) [
-      | inl every ↦ or_left (is_all field.value) (is_at_home (first_some (map architecture_of before)) field.value) every
-      | inr one ↦ or_right (is_all field.value) (is_at_home (first_some (map architecture_of before)) field.value) (at_home home before field.value all one)
+      | inl every ↦ or_left (is_all field.value) (is_at_home (first_present (map architecture_of before)) field.value) every
+      | inr one ↦ or_right (is_all field.value) (is_at_home (first_present (map architecture_of before)) field.value) (at_home home before field.value all one)
     ]
 
     go : (found : Option RawField) → field_of kind.Architecture stanza ≡ found
-        → Passes (option_and_then (λ (field : RawField). cond (is_all field.value || is_at_home (first_some (map architecture_of before)) field.value) None (Some (Mixed field.line))) found)
+        → Passes (option_and_then (λ (field : RawField). cond (is_all field.value || is_at_home (first_present (map architecture_of before)) field.value) None (Some (Mixed field.line))) found)
     go None e = tt
     go (Some field) e =
-        let none : cond (is_all field.value || is_at_home (first_some (map architecture_of before)) field.value) None (Some (Mixed field.line)) ≡ None = ap (λ b. cond b None (Some (Mixed field.line))) (fine field e) in
+        let none : cond (is_all field.value || is_at_home (first_present (map architecture_of before)) field.value) None (Some (Mixed field.line)) ≡ None = ap (λ b. cond b None (Some (Mixed field.line))) (fine field e) in
         subst Passes (sym none) tt
 
 stanza_passes : (home : Home) (before : List RawStanza) (stanza : RawStanza) → IsNamedHome home.name → AreOwn home before → is_own home stanza ≡ true → Passes (stanza_fault (map facts_of before) (home_of before) stanza)
@@ -204,7 +204,7 @@ behind_passes home before stanza named all own = by (nat_le most_packages (lengt
     by true = refl
     by false = passes
 
-faults_pass : (home : Home) (all : List RawStanza) (n : ℕ) (more : List RawStanza) → IsNamedHome home.name → AreOwn home all → AreOwn home more → Passes (first_some (faults_from (map good all) n (map good more)))
+faults_pass : (home : Home) (all : List RawStanza) (n : ℕ) (more : List RawStanza) → IsNamedHome home.name → AreOwn home all → AreOwn home more → Passes (first_present (faults_from (map good all) n (map good more)))
 faults_pass home all n [] named own left = tt
 faults_pass home all n (stanza ∷ more) named own left =
     first_passes _ _
@@ -220,7 +220,7 @@ own_readings home file all e =
 own_passes : (home : Home) (file : List ℕ) (all : List RawStanza) → IsNamedHome home.name → stanzas file ≡ Ok all → Passes (first_fault (own_text home file))
 unfolding first_fault
 own_passes home file all named e =
-    subst (λ read. Passes (first_some (faults_from read 0 read))) (sym (own_readings home file all e))
+    subst (λ read. Passes (first_present (faults_from read 0 read))) (sym (own_readings home file all e))
     (faults_pass home (picked (map (is_own home) all) all) 0 (picked (map (is_own home) all) all) named (own_picked home all) (own_picked home all))
 
 status_passes : (home : Home) (file : List ℕ) → IsNamedHome home.name → Passes (status_fault home file)

@@ -7,7 +7,7 @@ use Rattle.stanza_reader.specs.{Stanzas.{readings}, declared.fault.StanzaFault.{
 use Rattle.stanza_reader.specs.declared.stanza.FieldKind.TheVariants as kind
 use Rattle.stanza_reader.specs.{declared.stanza.RawField.{RawField}, declared.stanza.RawStanza.{RawStanza}}
 use Rattle.repo_model.specs.{Facts.{architecture_of, is_all}, Fields.{field_of}}
-use Rattle.repo_model.specs.FirstFault.{bad_value, fault_behind, faults_from, first_fault, first_some, home_of, own_fault, presence_fault, reading_fault, stanzas_in, stanzas_of, unless_good, value_fault}
+use Rattle.repo_model.specs.FirstFault.{bad_value, fault_behind, faults_from, first_fault, first_present, home_of, own_fault, presence_fault, reading_fault, stanzas_in, stanzas_of, unless_good, value_fault}
 use Rattle.repo_model.specs.{declared.fault.IndexFault.{IndexFault}, declared.fault.IndexFault.TheVariants.{BadArchitecture, BadPackage, BadVersion, TooMany}}
 use Rattle.repo_model.specs.Limits.{most_packages}
 use Rattle.repo_model.proofs.WellFormed.{none_of}
@@ -50,14 +50,14 @@ few : (b : Bool) (there : Option IndexFault) → cond b (Some TooMany) there ≡
 few true there e = cc
 few false there e = e
 
-named_from : (all : List (Result RawStanza StanzaFault)) (n : ℕ) (more : List (Result RawStanza StanzaFault)) → first_some (faults_from all n more) ≡ None → IsNamedHome (home_of (stanzas_in more))
+named_from : (all : List (Result RawStanza StanzaFault)) (n : ℕ) (more : List (Result RawStanza StanzaFault)) → first_present (faults_from all n more) ≡ None → IsNamedHome (home_of (stanzas_in more))
 unfolding home_of
 named_from all n [] e = tt
 named_from all n (Ok stanza ∷ more) e =
-    let both = none_of (fault_behind (take n all) (Ok stanza)) (first_some (faults_from all (n + 1) more)) e in
+    let both = none_of (fault_behind (take n all) (Ok stanza)) (first_present (faults_from all (n + 1) more)) e in
     let fine = few (nat_le most_packages (length (take n all))) (reading_fault (stanzas_in (take n all)) (Ok stanza)) both.0 in
-    first_named (architecture_of stanza) (first_some (map architecture_of (stanzas_in more))) (named_stanza stanza (fine_architecture stanza (none_of (own_fault stanza) _ fine).0)) (named_from all (n + 1) more both.1)
-named_from all n (Err fault ∷ more) e = named_from all (n + 1) more (none_of (fault_behind (take n all) (Err fault)) (first_some (faults_from all (n + 1) more)) e).1
+    first_named (architecture_of stanza) (first_present (map architecture_of (stanzas_in more))) (named_stanza stanza (fine_architecture stanza (none_of (own_fault stanza) _ fine).0)) (named_from all (n + 1) more both.1)
+named_from all n (Err fault ∷ more) e = named_from all (n + 1) more (none_of (fault_behind (take n all) (Err fault)) (first_present (faults_from all (n + 1) more)) e).1
 
 pub named_home : (index : List ℕ) → first_fault index ≡ None → IsNamedHome (home_of (stanzas_of index))
 unfolding first_fault stanzas_of

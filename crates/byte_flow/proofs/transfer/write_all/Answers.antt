@@ -15,7 +15,7 @@ sent_more old mid new bytes rest after n sent took left = record {
 }
 
 pub loop-rest-init : goal.loop-rest-init
-loop-rest-init g c = record { sent = record { front = []; whole = refl; taken = Appends-nil (g.S.Sink.taken c.args.sink.now) }; later = omega arith; room = omega arith; calls = begun }
+loop-rest-init g c = record { sent = record { front = []; whole = refl; taken = Appends-nil (g.S.Sink.model.taken c.args.sink.now) }; later = omega arith; room = omega arith; calls = begun }
 
 pub loop-rest-preserved : goal.loop-rest-preserved
 loop-rest-preserved g c = record {

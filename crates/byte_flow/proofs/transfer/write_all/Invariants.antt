@@ -11,10 +11,10 @@ pub record HasSent (old new : Option (List ℕ)) (bytes rest : List ℕ) : Type 
 
 abbrev pub invariant-loop-rest : goal.invariant-loop-rest
 invariant-loop-rest g l = record {
-  sent : HasSent (g.S.Sink.taken l.fn.sink) (g.S.Sink.taken l.sink) l.bytes l.rest;
-  later : g.S.Sink.faults l.fn.sink ≤ g.S.Sink.faults l.sink;
-  room : g.S.Sink.room l.fn.sink + length l.rest ≤ g.S.Sink.room l.sink + length l.bytes;
-  calls : Sent g.S.Sink.write_gives l.fn.sink l.bytes l.sink l.rest;
+  sent : HasSent (g.S.Sink.model.taken l.fn.sink) (g.S.Sink.model.taken l.sink) l.bytes l.rest;
+  later : g.S.Sink.model.faults l.fn.sink ≤ g.S.Sink.model.faults l.sink;
+  room : g.S.Sink.model.room l.fn.sink + length l.rest ≤ g.S.Sink.model.room l.sink + length l.bytes;
+  calls : Sent g.S.Sink.model l.fn.sink l.bytes l.sink l.rest;
 }
 
 abbrev pub decreases-loop-rest : goal.decreases-loop-rest

@@ -1,4 +1,4 @@
-use Rattle.kernel_text.proofs.OneFault.{is_judged}
+use Rattle.kernel_text.proofs.StoredReading.{is_judged}
 use Rattle.kernel_text.proofs.laws.texts_are_judged.Goals as goal
 
 pub returns : goal.returns

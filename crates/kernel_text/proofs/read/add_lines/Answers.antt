@@ -1,4 +1,4 @@
-use Rattle.std.proofs.Common.{◌-◌, refl, subst, take, drop}
+use Rattle.std.proofs.Common.{◌-◌, subst, take, drop}
 use Rattle.kernel_text.specs.Reader.{Adds}
 use Rattle.kernel_text.proofs.Steps.{all_taken, line_refused, line_taken, no_line_taken}
 use Rattle.kernel_text.proofs.read.add_lines.Goals as goal
@@ -28,9 +28,6 @@ returns-then-not-branch-clause-refused c =
     let bytes = c.args.bytes.now in
     let place = c.loop-place.place in
     let end = c.line_end-end.result in
-    let upto = c.loop-place.invariant in (
-      c.loop-place.line,
-      refl,
-      line_refused bytes place c.loop-place.line end c.loop-place.reader upto e.cut c.add.new.self
-          (subst (Adds upto.reading (take (end - place) (drop place bytes)) c.add.new.self) c.if-not-branch.true (c.in_ok-add.ensures upto.reading upto.holds)),
-    )
+    let upto = c.loop-place.invariant in
+    line_refused bytes place c.loop-place.line end c.loop-place.reader upto e.cut c.add.new.self
+    (subst (Adds upto.reading (take (end - place) (drop place bytes)) c.add.new.self) c.if-not-branch.true (c.in_ok-add.ensures upto.reading upto.holds))

@@ -1,13 +1,27 @@
-use Rattle.std.proofs.Common.{map, ap, subst, ◌∙◌}
-use Rattle.kernel_text.specs.{Reader.{RangeIsTold, entry_of}, Strays.{StrayIsTold}}
-use Rattle.kernel_text.proofs.{InRange.{in_range}, StrayLines.{none_told}}
+use Rattle.std.proofs.Common.{map, ap, sym, subst, ◌∙◌, Some}
+use Rattle.std.specs.List.{position_from}
+use Rattle.kernel_text.specs.{KernelLines.{lines_of}, Reader.{RangeIsTold, entry_of}, StoredReading.{strays}}
+use Rattle.kernel_text.proofs.{InRange.{in_range}, Steps.{end_fault, ranged}, StoredReading.{lines_given}}
+use Rattle.kernel_text.specs.Reading.{empty_reading}
 use Rattle.kernel_text.proofs.read.judge.Goals as goal
 
--- some line strays, where a number is not one of a class
 pub unreachable-requires : goal.unreachable-requires
 unreachable-requires c =
     let k = c.requires.read in
+    let bytes = c.args.bytes.now in
     let told = c.is_in_range.ensures k.reading (ap (map entry_of) c.as_slice.ensures ∙ k.holds.clauses) (c.as_slice-2.ensures ∙ k.holds.conflicts) k.holds.classes in
     subst (RangeIsTold k.reading) c.if-not-is_in_range.true told
-    (in_range c.args.bytes.now k.reading k.given
-    (none_told c.args.bytes.now c.args.reader.now.classes k.reading.classes k.holds.classes (subst (StrayIsTold c.args.bytes.now c.args.reader.now.classes) c.in_default.is c.in_ok-line.ensures)))
+    (in_range bytes k.reading (lines_given (lines_of bytes) empty_reading k.reading 1 k.given)
+    (ap (λ n. position_from (strays n) 1 (lines_of bytes)) (sym k.holds.classes) ∙ sym c.in_ok-line.ensures ∙ c.in_default.is))
+
+pub returns-then-not-is_ended-clause-refused : goal.returns-then-not-is_ended-clause-refused
+returns-then-not-is_ended-clause-refused c =
+    let k = c.requires.read in
+    end_fault c.args.bytes.now k.reading k.given (sym (c.is_ended.ensures k.reading k.holds) ∙ c.if-not-is_ended.true)
+
+pub returns-then-not-is_in_range-clause-refused : goal.returns-then-not-is_in_range-clause-refused
+returns-then-not-is_in_range-clause-refused c =
+    let k = c.requires.read in
+    let bytes = c.args.bytes.now in
+    ranged bytes k.reading k.given (Some c.in-Some.line) (sym (c.is_ended.ensures k.reading k.holds) ∙ c.if-not-is_ended.false)
+    (ap (λ n. position_from (strays n) 1 (lines_of bytes)) (sym k.holds.classes) ∙ sym c.in_ok-line.ensures ∙ c.in-Some.is)

@@ -1,0 +1,218 @@
+-- Reports of which the sentences are not true.
+use Rattle.std.proofs.Common.{◌≡◌, ◌≢◌, ℕ, zero, suc, ◌<◌, ◌≤◌, Bool, true, false, not, cond, ◌||◌, eqb, eqb-true, List, [], ◌∷◌, ◌++◌, Result, Ok, Err, Some, None, length, refl, sym, ap, subst, ◌∙◌, arith, inl, inr}
+use Rattle.std.specs.{Prelude.{codes, slice_index_or}, Fmt.{digits}, List.{AllZip, list_any}}
+use Rattle.deb_version.specs.Grammar.{behind_epoch, epoch_of, is_version, revision_in, upstream_in}
+use Rattle.clause_pool.proofs.Order.{before_asym}
+use Rattle.coinst_words.specs.Usage.{Text}
+use Rattle.explain_core.specs.declared.explanation.Clash.{Clash}
+use Rattle.headline.specs.{Indexes.{SearchedIndex}, Listing.{is_broken}}
+use Rattle.kernel_text.specs.{KernelLines.{line_text, with_feed}, KernelReads.{KernelContent, KernelReads, content}, Reading.{number_limit, repository_of_reading}, StoredReading.{stored_reading}}
+use Rattle.kernel_text.specs.{declared.fault.KernelFault.{KernelFault}, declared.member.Member.{Member}}
+use Rattle.kernel_text.proofs.StoredReading.{texts_are_told}
+use Rattle.listed.specs.Lists.{In, has, here}
+use Rattle.listed.specs.Texts as white
+use Rattle.listed.proofs.Lists.{In_cases, In_none}
+use Rattle.migrate_plan.specs.{declared.plan.PlanLine.{PlanLine}, declared.plan.PlanLine.TheVariants.{Take}}
+use Rattle.relation_fields.specs.{declared.packages.Home.{Home}, declared.packages.PackageFacts.{PackageFacts}, declared.relations.Atom.{Atom}}
+use Rattle.repo_model.specs.{FirstFault.{first_fault}, Stanzas.{HealthyStanzas, stanza_at}}
+use Rattle.row_book.specs.Sets.{Is, NumSet}
+use Rattle.search_terms.specs.{Derives.{Derives}, declared.literals.Literal.{Literal}}
+use Rattle.status_check.specs.{declared.report.OwnState.{OwnState}, declared.report.OwnState.TheVariants.{Healthy, Unhit, Clash as Clashing}}
+use Rattle.suite_compare.specs.{Refusals.{home_in, packages_in}, declared.report.ReportLine.{ReportLine}, declared.report.ReportLine.TheVariants.{Broken1, Broken2, Open1, Open2}}
+use Rattle.claims.specs.{Answers.{printed_entry, printed_installation, printed_no, printed_undecided}, Asked.{ComparedIndex, FoundInstallable, FoundUninstallable, IsAsked}, Certificates.{AreAsked, Refutes}}
+use Rattle.claims.specs.{Control.{field_value, stanza_groups}, Explained.{ToldGoal, printed_core, told_words}, Goals.{CanMeet, HasEach}, Index.{GroupsSay, Says}, Plans.{IsMix}}
+use Rattle.claims.specs.{Laws.{WrongReports, a_class, a_package, kernel_printed, suite_of}, Printed.{Precedes, comparison_status, names_of}, Systems.{IsOwnState, all_stanzas, system_status}}
+use Rattle.claims.specs.Sentences.{IsFaithfulAnswer, IsFaithfulExplanation, IsFaithfulKernel, IsFaithfulList, IsFaithfulPlan, IsFaithfulStoredAnswer, IsFaithfulSystem, IsRightStep}
+use Rattle.claims.specs.Spelling.{WritesAlternatives, WritesAtom}
+use Rattle.claims.specs.Sentences.IsFaithfulAnswer.{yes as answer_yes, no as answer_no, undecided as answer_undecided}
+use Rattle.claims.specs.Sentences.IsFaithfulStoredAnswer.{yes as classes_yes, no as classes_no, undecided as classes_undecided}
+use Rattle.claims.specs.Sentences.IsFaithfulExplanation.{yes as told_yes, core as told_core, undecided as told_undecided}
+use Rattle.claims.proofs.PrintedKernels.{kernel_texts_are_there}
+use Rattle.row_book.specs.Repository.{Repository}
+
+nothing : {A B : Type 0} (R : A → B → Type 0) (ys : List B) → AllZip R [] ys → ys ≡ []
+nothing R [] z = refl
+nothing R (y ∷ ys) z = absurd z
+
+-- the first byte of a text
+abbrev head_of : Text → ℕ
+head_of text = slice_index_or text 0 0
+
+-- a kernel text with a package that an empty index has not
+member_a : Member
+member_a = record { class = 0; name = codes "a"; version = codes "1" }
+
+abbrev content_of : Result KernelContent KernelFault → List Member
+content_of (Ok c) = c.members
+content_of (Err fault) = []
+
+reads_a : content_of (stored_reading a_class) ≡ member_a ∷ []
+unfolding stored_reading number_limit repository_of_reading member_a line_text digits is_version epoch_of behind_epoch upstream_in revision_in
+reads_a = refl
+
+empty_groups : stanza_groups [] ≡ []
+unfolding stanza_groups
+empty_groups = refl
+
+stranger : ¬ (IsFaithfulKernel [] a_class)
+stranger k =
+    let read : stored_reading a_class ≡ Ok (content k.format k.repository k.members k.held) = (texts_are_told a_class k.format k.repository k.members k.held).0 k.reads in
+    let them : k.members ≡ member_a ∷ [] = sym (ap content_of read) ∙ reads_a in
+    let at = k.people member_a (subst (λ ms. In member_a ms) (sym them) here) in
+    let none : k.stanzas ≡ [] = nothing (Says k.home) k.stanzas (subst (λ groups. AllZip (Says k.home) groups k.stanzas) empty_groups k.index.each) in
+    let low : at.0 < length k.stanzas = at.1 in
+    let zero_long : length k.stanzas ≡ 0 = ap length none in
+    omega (arith, low, zero_long)
+
+-- the package of an index of one
+abbrev group : List Text
+group = codes "Package: a" ∷ (codes "Version: 1" ∷ [])
+
+one_group : stanza_groups a_package ≡ group ∷ []
+unfolding stanza_groups
+one_group = refl
+
+is_a : (home : Home) (s : PackageFacts) → Says home group s → s.name ≡ codes "a"
+unfolding white.trim_both white.trim_end white.trim_start
+is_a home s it = let e : Some (codes "a") ≡ Some s.name = it.name.0 in let same : codes "a" ≡ s.name = cc in sym same
+
+needs_none : (home : Home) (s : PackageFacts) → Says home group s → s.needs ≡ []
+needs_none home s it = nothing {A = Text} WritesAlternatives s.needs it.needs
+
+against_none : (home : Home) (s : PackageFacts) → Says home group s → s.against ≡ []
+against_none home s it = nothing {A = Text} WritesAtom s.against it.against
+
+abbrev first_alone : NumSet
+first_alone n = eqb n 0
+
+meets_a : (index : ComparedIndex) (s : PackageFacts) → index.stanzas ≡ s ∷ [] → Says index.home group s → CanMeet index (codes "a" ∷ [])
+meets_a index s is it = subst (λ all. (whole : NumSet) × HealthyStanzas index.home all whole × HasEach all whole (codes "a" ∷ [])) (sym is) (
+  first_alone,
+  record {
+    numbers = λ n i. (let z : n ≡ 0 = eqb-true n 0 i in omega (arith, z));
+    needs = λ n i element j. absurd (In_none (subst (In element) (needs_none index.home s it) (subst (λ m. In element (stanza_at (s ∷ []) m).needs) (eqb-true n 0 i) j)));
+    conflicts = λ m n i j apart atom k. absurd (In_none (subst (In atom) (against_none index.home s it) (subst (λ q. In atom (stanza_at (s ∷ []) q).against) (eqb-true m 0 i) k)));
+    names = λ m n i j apart. absurd (apart (eqb-true m 0 i ∙ sym (eqb-true n 0 j)));
+  },
+  (λ goal i. elim (In_cases i) [ inl same ↦ (0, refl, inl (same ∙ sym (is_a index.home s it))) | inr j ↦ absurd (In_none j) ]),
+)
+
+there_are_packages : (index : ComparedIndex) → AllZip (Says index.home) (group ∷ []) index.stanzas → CanMeet index (codes "a" ∷ [])
+there_are_packages index z = go index.stanzas refl z
+  where
+    go : (all : List PackageFacts) → index.stanzas ≡ all → AllZip (Says index.home) (group ∷ []) all → CanMeet index (codes "a" ∷ [])
+    go [] is z = absurd z
+    go (s ∷ all) is z = meets_a index s (is ∙ ap (λ more. s ∷ more) (nothing (Says index.home) all z.1)) z.0
+
+no_is_wrong : (index : ComparedIndex) (log : List (List Literal)) (status : ℕ) → GroupsSay (stanza_groups a_package) index.home index.stanzas → ¬ (IsFaithfulAnswer index (codes "a" ∷ []) status (printed_no log))
+no_is_wrong index log status says (answer_yes ends set e within order healthy each) = let h : 110 ≡ 121 = ap head_of e in omega (arith, h)
+no_is_wrong index log status says (answer_no ends other e within none refutes) = none (there_are_packages index (subst (λ groups. AllZip (Says index.home) groups index.stanzas) one_group says.each))
+no_is_wrong index log status says (answer_undecided ends e past) = let h : 110 ≡ 117 = ap head_of e in omega (arith, h)
+
+-- without a package
+longer : (stanzas : List PackageFacts) (n : ℕ) (set : List ℕ) → printed_installation stanzas [] ≡ printed_installation stanzas (n ∷ set) → ⊥
+longer stanzas n set e = let h : 0 ≡ 105 = ap (λ (text : Text). slice_index_or text 4 0) e in omega (arith, h)
+
+empty_is_wrong : (index : ComparedIndex) (status : ℕ) → ¬ (IsFaithfulAnswer index (codes "a" ∷ []) status (printed_installation index.stanzas []))
+empty_is_wrong index status (answer_yes ends [] e within order healthy each) = let w = each (codes "a") here in absurd (let none : false ≡ true = w.1 in let wrong : ⊥ = cc in wrong)
+empty_is_wrong index status (answer_yes ends (n ∷ set) e within order healthy each) = longer index.stanzas n set e
+empty_is_wrong index status (answer_no ends log e within none refutes) = let h : 121 ≡ 110 = ap head_of e in omega (arith, h)
+empty_is_wrong index status (answer_undecided ends e past) = let h : 121 ≡ 117 = ap head_of e in omega (arith, h)
+
+-- a log without its last entry
+no_entries : (log : List (List Literal)) → printed_no [] ≡ printed_no log → log ≡ []
+no_entries [] e = refl
+no_entries (entry ∷ log) e = let h : 0 ≡ 108 = ap (λ (text : Text). slice_index_or text 3 0) e in absurd (omega (arith, h))
+
+derives_not : (formula : List (List Literal)) → ¬ (Derives formula [])
+derives_not formula d = let last = d.last in let no : ⊥ = cc in no
+
+no_entry : (index : SearchedIndex) (goals : List Text) (status : ℕ) → first_fault index.text ≡ None → ¬ (IsFaithfulAnswer (suite_of index) goals status (printed_no []))
+no_entry index goals status fine (answer_yes ends set e within order healthy each) = let h : 110 ≡ 121 = ap head_of e in omega (arith, h)
+no_entry index goals status fine (answer_no ends log e within none refutes) =
+    let shown : Refutes (kernel_printed index.limit index.hold (home_in index.text) (packages_in index.text)) goals log
+    = refutes (kernel_printed index.limit index.hold (home_in index.text) (packages_in index.text)) (kernel_texts_are_there index fine) in
+    derives_not shown.0 (subst (Derives shown.0) (no_entries log e) shown.2)
+no_entry index goals status fine (answer_undecided ends e past) = let h : 110 ≡ 117 = ap head_of e in omega (arith, h)
+
+stored_no_entry : (kernel : Text) (R : Repository) (members : List Member) (goals : List Text) (budget status : ℕ) → ¬ (IsFaithfulStoredAnswer kernel R members goals budget status (printed_no []))
+stored_no_entry kernel R members goals budget status (classes_yes ends classes e within order healthy each index) = let h : 110 ≡ 121 = ap head_of e in omega (arith, h)
+stored_no_entry kernel R members goals budget status (classes_no ends log e within none refutes index) = derives_not refutes.0 (subst (Derives refutes.0) (no_entries log e) refutes.2)
+stored_no_entry kernel R members goals budget status (classes_undecided ends e past) = let h : 110 ≡ 117 = ap head_of e in omega (arith, h)
+
+-- a line twice
+no_self : (l : ReportLine) → Precedes (names_of l) (names_of l) → ⊥
+no_self (Broken1 a) p = before_asym a a p p
+no_self (Open1 a) p = before_asym a a p p
+no_self (Broken2 a b) p = elim p [ inl first ↦ before_asym a a first first | inr second ↦ before_asym b b second.1 second.1 ]
+no_self (Open2 a b) p = elim p [ inl first ↦ before_asym a a first first | inr second ↦ before_asym b b second.1 second.1 ]
+
+line_twice : (old new : ComparedIndex) (l : ReportLine) → ¬ (IsFaithfulList old new (l ∷ l ∷ []))
+line_twice old new l k = no_self l (k.order [] [] [] l l refl)
+
+broken_done : (l : ReportLine) (lines : List ReportLine) → is_broken l ≡ true → comparison_status (l ∷ lines) ≡ 1
+broken_done l lines e = ap (λ b. cond (b || list_any is_broken lines) 1 (cond (list_any (λ m. not (is_broken m)) (l ∷ lines)) 8 0)) e
+
+-- no goal that is printed
+meets_none : (index : ComparedIndex) → CanMeet index []
+meets_none index = (
+  (λ n. false),
+  record {
+    numbers = λ n i. absurd (let no : ⊥ = cc in no);
+    needs = λ n i. absurd (let no : ⊥ = cc in no);
+    conflicts = λ m n i. absurd (let no : ⊥ = cc in no);
+    names = λ m n i. absurd (let no : ⊥ = cc in no);
+  },
+  (λ goal i. absurd (In_none i)),
+)
+
+goal_first : (b : Bool) (word rest : Text) → head_of (with_feed (cond b (codes "goal-open ") (codes "goal ") ++ word) ++ rest) ≡ 103
+goal_first true word rest = refl
+goal_first false word rest = refl
+
+no_goal : (index : ComparedIndex) (goals : List Text) (status : ℕ) → ¬ (IsFaithfulExplanation index goals status (printed_core index.stanzas [] (Some [])))
+no_goal index goals status (told_yes ends e within met) = let h : 101 ≡ 121 = ap head_of e in omega (arith, h)
+no_goal index goals status (told_core ends told clashes e within core reasons) = go told e core.impossible
+  where
+    go : (told : List ToldGoal) → printed_core index.stanzas [] (Some []) ≡ printed_core index.stanzas told clashes → ¬ (CanMeet index (told_words told)) → ⊥
+    go [] e none = none (meets_none index)
+    go (t ∷ told) e none = let h : 101 ≡ 103 = ap head_of e ∙ first t told in omega (arith, h)
+      where
+        first : (t : ToldGoal) (told : List ToldGoal) → head_of (printed_core index.stanzas (t ∷ told) clashes) ≡ 103
+        first t told = by t.undecided
+          where
+            by : (b : Bool) → head_of (printed_core index.stanzas (record { word = t.word; undecided = b } ∷ told) clashes) ≡ 103
+            by true = refl
+            by false = refl
+no_goal index goals status (told_undecided ends e past) = let h : 101 ≡ 117 = ap head_of e in omega (arith, h)
+
+-- a machine that does not stand together
+well : (index : ComparedIndex) (file printed : Text) (k : IsFaithfulSystem index file 0 printed) → HealthyStanzas k.home k.own (all_stanzas k.own)
+well index file printed k = by k.state k.stands k.ends
+  where
+    by : (state : OwnState) → IsOwnState k.home k.own state → 0 ≡ system_status state k.answer → HealthyStanzas k.home k.own (all_stanzas k.own)
+    by Healthy h e = h
+    by (Unhit n) h e = absurd (let wrong : 0 ≡ 1 = e in omega (arith, wrong))
+    by (Clashing m n) h e = absurd (let wrong : 0 ≡ 1 = e in omega (arith, wrong))
+
+-- a name that is taken breaks nothing
+taken_sound : (old new : ComparedIndex) (name : Text) (lines : List PlanLine) → IsFaithfulPlan old new (Take name ∷ lines) → (mix : ComparedIndex) × IsMix old new (name ∷ []) mix
+    × ((l : ReportLine) → is_broken l ≡ true → IsAsked old mix (names_of l) → FoundInstallable old (names_of l) → ¬ (FoundUninstallable mix (names_of l)))
+taken_sound old new name lines k =
+    let s = k.each [] lines (Take name) refl in
+    let right : IsRightStep old s.0 (Take name) = s.2 in
+    (s.0, s.1, (λ l broken asked can cannot. In_none (((right.1).broken l broken).1 (asked, can, cannot))))
+
+pub wrong_reports : WrongReports
+wrong_reports = record {
+  stranger = stranger;
+  no_package = empty_is_wrong;
+  no_for_a_package = no_is_wrong;
+  no_entry = no_entry;
+  no_entry_of_classes = stored_no_entry;
+  line_twice = line_twice;
+  broken_is_told = broken_done;
+  no_goal = no_goal;
+  well = λ index file printed k. (k.home, k.own, k.says, well index file printed k);
+  taken = taken_sound;
+}

@@ -1,0 +1,174 @@
+-- The sentence of `explain`, from what its report means.
+use Rattle.std.proofs.Common.{◌≡◌, ℕ, ◌+◌, ◌-◌, ◌<◌, ◌≤◌, Bool, true, false, cond, List, [], ◌∷◌, ◌++◌, Option, Some, None, length, map, slice_index_or, refl, sym, ap, ap₂, subst, ◌∙◌, arith, inl, inr}
+use Rattle.std.proofs.lemmas.List.{length-map, map-append}
+use Rattle.std.specs.{Prelude.{codes, unwrap_or, IfSome}, Fmt.{decimal}, List.{flat_map}, Option.{option_map_or}}
+use Rattle.byte_flow.specs.History.{Reading}
+use Rattle.coinst_words.specs.{Jobs.{job_of}, Usage.{Text}, declared.job.Job.TheVariants.{Explain}}
+use Rattle.deb_version.specs.Names.{is_name}
+use Rattle.explain_core.specs.{Core.{goal_numbered, goals_numbered, marked_goals}, Meaning.{IsCoreOf}, OnStanzas.{AreEnough, CoinstButFor, HealthyButFor, IsTellable}, Picking.{ArePlacesFrom1}}
+use Rattle.explain_core.specs.{declared.explanation.Clash.{Clash}, declared.explanation.Explanation.TheVariants.{Core}, declared.explanation.Mark.{Mark}}
+use Rattle.explain_core.proofs.Tellable.{explanation_tellable}
+use Rattle.headline.specs.Indexes.{searched}
+use Rattle.kernel_text.specs.KernelLines.{with_feed}
+use Rattle.listed.specs.Lists.{In, here, there}
+use Rattle.listed.proofs.Lists.{In_cases, In_map_cases, In_none}
+use Rattle.relation_fields.specs.declared.packages.PackageFacts.{PackageFacts}
+use Rattle.repo_model.specs.{FirstFault.{first_fault}, Goals.{any_version, goal_of}, Stanzas.{stanza_at}, declared.goals.Goal.{Goal}}
+use Rattle.suite_compare.specs.Refusals.{home_in, packages_in}
+use Rattle.claims.specs.{Asked.{ComparedIndex}, Explained.{AreReasonsFor, CouldMeet, IsCoreOfGoals, ToldGoal, clashes_told, printed_clashes, printed_core, told_words}, Goals.{CanMeet}, Laws.{suite_of}}
+use Rattle.claims.specs.Sentences.{ExplainIsTrue, IsFaithfulExplanation}
+use Rattle.claims.specs.Sentences.IsFaithfulExplanation.{yes as told_yes, core as told_core, undecided as told_undecided}
+use Rattle.claims.proofs.{AskingWords.{explain_words_ask}, Goals.{AreGoals, word_at, word_is}, Index.{indexes_are_read}, Meeting.{can_meet, each_from, each_to, meets_goals}}
+use Rattle.coinst_run.specs.{Status.{code_of, verdict_status}, declared.answer.ReportVerdict.{ReportVerdict}}
+use Rattle.coinst_run.specs.declared.answer.ReportVerdict.TheVariants.{Done, Negative, Undecided}
+use Rattle.coinst_run.specs.{ExplainMeaning.{ExplainMeans, ExplainedCore, ExplainedYes, MeansExplained}, ExplainText.{core_text, clash_count, clashes_text, goal_line, yes_line}, Meaning.{IsMeant, MeansJob}}
+use Rattle.coinst_run.specs.QueryText.{goal_word, undecided_text, version_word}
+use Rattle.coinst_run.proofs.QuerySentences.{all_known, in_time, named, past}
+
+-- the goals that are marked, by their words
+abbrev told_of : List Text → Mark → ToldGoal
+told_of words m = record { word = slice_index_or words (m.goal - 1) []; undecided = m.unsettled }
+
+abbrev all_told : List Text → List Mark → List ToldGoal
+all_told words marks = map (told_of words) marks
+
+version_told : (version : Option Text) → version_word version ≡ option_map_or (λ v. codes "=" ++ v) version []
+version_told None = refl
+version_told (Some version) = refl
+
+goal_told : (word : Text) (goal : Goal) → goal_of word ≡ Some goal → goal_word goal ≡ word
+goal_told word goal e = ap (λ v. goal.name ++ v) (version_told goal.version) ∙ word_is word goal e
+
+-- a split of what a function gives is one of its list
+record IsSplitOf {A B : Type 0} (f : A → B) (xs : List A) (before after : List B) (y : B) : Type 0 where
+  front : List A
+  item : A
+  back : List A
+  whole : xs ≡ front ++ item ∷ back
+  of_front : map f front ≡ before
+  of_item : f item ≡ y
+  of_back : map f back ≡ after
+
+split_of : {A B : Type 0} (f : A → B) (xs : List A) (before after : List B) (y : B) → map f xs ≡ before ++ y ∷ after → IsSplitOf f xs before after y
+split_of f [] [] after y e = absurd (let no : ⊥ = cc in no)
+split_of f [] (b ∷ before) after y e = absurd (let no : ⊥ = cc in no)
+split_of f (x ∷ xs) [] after y e = record { front = []; item = x; back = xs; whole = refl; of_front = refl; of_item = (let is : f x ≡ y = cc in is); of_back = (let is : map f xs ≡ after = cc in is) }
+split_of f (x ∷ xs) (b ∷ before) after y e =
+    let first : f x ≡ b = cc in
+    let rest : map f xs ≡ before ++ y ∷ after = cc in
+    let s = split_of f xs before after y rest in
+    record { front = x ∷ s.front; item = s.item; back = s.back; whole = ap (λ zs. x ∷ zs) s.whole; of_front = ap₂ (λ z zs. z ∷ zs) first s.of_front; of_item = s.of_item; of_back = s.of_back }
+
+module _ (text : Text) (budget limit : ℕ) (hold : Bool) (words : List Text) (goals : List Goal) (z : AreGoals words goals) (accepted : first_fault text ≡ None) where
+  abbrev index : ComparedIndex
+  index = suite_of (searched text budget limit hold)
+
+  abbrev stanzas : List PackageFacts
+  stanzas = packages_in text
+
+  known_names : (n : ℕ) → n < length stanzas → is_name (stanza_at stanzas n).name ≡ true
+  known_names = named text budget limit hold words goals z accepted
+
+  -- each marked goal has its word
+  marked_word : (m : Mark) → (0 < m.goal) × (m.goal ≤ length goals) → (goal_of (told_of words m).word ≡ Some (goal_numbered goals m.goal)) × In (told_of words m).word words
+  marked_word m place = word_at words goals (any_version []) z (m.goal - 1) (let low : 0 < m.goal = place.0 in let high : m.goal ≤ length goals = place.1 in omega (arith, low, high))
+
+  marked : (marks : List Mark) → ArePlacesFrom1 (length goals) marks → AreGoals (told_words (all_told words marks)) (marked_goals goals marks)
+  marked [] p = tt
+  marked (m ∷ marks) p = ((marked_word m (p m here)).0, marked marks (λ o i. p o (there i)))
+
+  -- the texts are one
+  line_same : (m : Mark) → (0 < m.goal) × (m.goal ≤ length goals) → goal_line goals m ≡ with_feed (cond m.unsettled (codes "goal-open ") (codes "goal ") ++ (told_of words m).word)
+  line_same m place = ap (λ w. with_feed (cond m.unsettled (codes "goal-open ") (codes "goal ") ++ w)) (goal_told (told_of words m).word (goal_numbered goals m.goal) (marked_word m place).0)
+
+  lines_same : (marks : List Mark) → ArePlacesFrom1 (length goals) marks
+      → flat_map (goal_line goals) marks ≡ flat_map (λ (t : ToldGoal). with_feed (cond t.undecided (codes "goal-open ") (codes "goal ") ++ t.word)) (all_told words marks)
+  lines_same [] p = refl
+  lines_same (m ∷ marks) p = ap₂ (λ x y. x ++ y) (line_same m (p m here)) (lines_same marks (λ o i. p o (there i)))
+
+  counted : (clashes : Option (List Clash)) → clash_count clashes ≡ clashes_told clashes
+  counted None = refl
+  counted (Some clashes) = refl
+
+  clashes_same : (clashes : Option (List Clash)) → clashes_text stanzas clashes ≡ printed_clashes stanzas clashes
+  clashes_same None = refl
+  clashes_same (Some clashes) = refl
+
+  core_same : (marks : List Mark) (clashes : Option (List Clash)) → ArePlacesFrom1 (length goals) marks → core_text stanzas goals marks clashes ≡ printed_core stanzas (all_told words marks) clashes
+  unfolding core_text
+  core_same marks clashes p =
+      let long : length (all_told words marks) ≡ length marks = simp length-map in
+      ap₂ (λ x y. x ++ y ++ with_feed (codes "end " ++ decimal (length marks) ++ codes " " ++ decimal (clash_count clashes))) (lines_same marks p) (clashes_same clashes)
+      ∙ ap₂ (λ m n. flat_map (λ (t : ToldGoal). with_feed (cond t.undecided (codes "goal-open ") (codes "goal ") ++ t.word)) (all_told words marks) ++ printed_clashes stanzas clashes ++ with_feed (codes "end " ++ decimal m ++ codes " " ++ decimal n))
+      (sym long) (counted clashes)
+
+  -- the core
+  asked : (marks : List Mark) → ArePlacesFrom1 (length goals) marks → (word : Text) → In word (told_words (all_told words marks)) → In word words
+  asked [] p word i = absurd (In_none i)
+  asked (m ∷ marks) p word i = elim (In_cases i) [
+    | inl same ↦ subst (λ w. In w words) (sym same) (marked_word m (p m here)).1
+    | inr j ↦ asked marks (λ o k. p o (there k)) word j
+  ]
+
+  some_marks : (front : List Mark) (m : Mark) (back : List Mark) → ArePlacesFrom1 (length goals) (front ++ m ∷ back) → ArePlacesFrom1 (length goals) (front ++ back)
+  some_marks [] m back p o i = p o (there i)
+  some_marks (x ∷ front) m back p o i = elim (In_cases i) [
+    | inl same ↦ p o (subst (λ y. In y (x ∷ (front ++ m ∷ back))) (sym same) here)
+    | inr j ↦ some_marks front m back (λ q k. p q (there k)) o j
+  ]
+
+  core_so : (marks : List Mark) → ArePlacesFrom1 (length goals) marks → IsCoreOf (home_in text) stanzas goals marks → IsCoreOfGoals index words (all_told words marks)
+  core_so marks p c = record {
+    asked = asked marks p;
+    impossible = λ met. c.impossible (meets_goals index (told_words (all_told words marks)) (marked_goals goals marks) (marked marks p) known_names met);
+    needed = λ before after t e closed.
+        let w = split_of (told_of words) marks before after t e in
+        let open_same : (w.item).unsettled ≡ false = ap (λ (g : ToldGoal). g.undecided) w.of_item ∙ closed in
+        let rest : List Mark = w.front ++ w.back in
+        let places : ArePlacesFrom1 (length goals) rest = some_marks w.front w.item w.back (subst (ArePlacesFrom1 (length goals)) w.whole p) in
+        let met : CanMeet index (told_words (all_told words rest)) = can_meet index (told_words (all_told words rest)) (marked_goals goals rest) (marked rest places) (c.needed w.front w.back w.item w.whole open_same) in
+        let same : all_told words rest ≡ before ++ after = map-append (told_of words) w.front w.back ∙ ap₂ (λ x y. x ++ y) w.of_front w.of_back in
+        subst (λ told. CanMeet index (told_words told)) same met;
+  }
+
+  -- the reasons
+  could_from : (clashes : List Clash) (some : List Text) (picked : List Goal) → AreGoals some picked → CoinstButFor (home_in text) stanzas clashes picked → CouldMeet index clashes some
+  could_from clashes some picked y c = (c.whole, c.healthy, each_from stanzas c.whole some picked y c.serves)
+
+  could_to : (clashes : List Clash) (some : List Text) (picked : List Goal) → AreGoals some picked → CouldMeet index clashes some → CoinstButFor (home_in text) stanzas clashes picked
+  could_to clashes some picked y c =
+      let healthy : HealthyButFor (home_in text) stanzas clashes c.0 = c.1 in
+      record { whole = c.0; healthy = healthy; serves = each_to stanzas c.0 some picked y (λ n i. known_names n (healthy.numbers n i)) c.2 }
+
+  reasons_so : (some : List Text) (picked : List Goal) → AreGoals some picked → (clashes : Option (List Clash)) → IfSome clashes (AreEnough (home_in text) stanzas picked) → IfSome clashes (AreReasonsFor index some)
+  reasons_so some picked y None r = tt
+  reasons_so some picked y (Some clashes) r = record {
+    conflicts = r.conflicts;
+    enough = λ c. r.enough (could_to clashes some picked y c);
+    needed = λ before after c e closed. could_from (before ++ after) some picked y (r.needed before after c e closed);
+  }
+
+  explained_so : (verdict : ReportVerdict) (printed : Text) → MeansExplained text goals budget limit hold verdict printed → IsFaithfulExplanation index words (code_of (verdict_status verdict)) printed
+  unfolding yes_line undecided_text
+  explained_so Done printed m = told_yes refl m.reads (in_time text budget limit hold words goals z accepted m.within) (can_meet index words goals z m.possible)
+  explained_so Negative printed m =
+      let tellable : IsTellable (length stanzas) (length goals) (Core m.marks m.clashes) = subst (IsTellable (length stanzas) (length goals)) m.is (explanation_tellable (home_in text) stanzas limit hold budget goals) in
+      let places : ArePlacesFrom1 (length goals) m.marks = tellable.0 in
+      told_core refl (all_told words m.marks) m.clashes (m.reads ∙ core_same m.marks m.clashes places) (in_time text budget limit hold words goals z accepted m.within) (core_so m.marks places m.core)
+      (reasons_so (told_words (all_told words m.marks)) (marked_goals goals m.marks) (marked m.marks places) m.clashes m.reasons)
+  explained_so Undecided printed m = told_undecided refl m.reads (past text budget limit hold words goals z accepted m.spent)
+
+pub explain_is_true : (words : List Text) (readings : List Reading) (verdict : ReportVerdict) (printed : Text) → IsMeant words readings verdict printed → ExplainIsTrue words readings (code_of (verdict_status verdict)) printed
+explain_is_true words readings verdict printed m budget limit hold path goals low small o is =
+    let b : ℕ = unwrap_or budget 10000 in
+    let n : ℕ = unwrap_or limit 65536 in
+    let w = explain_words_ask budget limit hold low small path goals m.job o (ap job_of (sym is) ∙ m.asked) in
+    let means : MeansJob (Explain path w.0 b n hold) readings verdict printed = subst (λ j. MeansJob j readings verdict printed) w.2 m.means in
+    let k : ExplainMeans means.0 w.0 b n hold verdict printed = means.2 in (
+      suite_of (searched means.0 b n hold),
+      means.1,
+      indexes_are_read means.0 k.accepted,
+      (refl, refl, refl),
+      all_known means.0 b n hold goals w.0 w.1 k.accepted k.known,
+      explained_so means.0 b n hold goals w.0 w.1 k.accepted verdict printed k.means,
+    )

@@ -2,7 +2,7 @@
 use Rattle.std.proofs.Common.{◌≡◌, ℕ, ◌+◌, ◌<◌, false, List, [], ◌∷◌, ◌++◌, length, refl, ap, inl, arith, lit<}
 use Rattle.std.specs.{Prelude.{codes}, Fmt.{digits}, List.{AllZip}}
 use Rattle.coinst_words.specs.Usage.{Text}
-use Rattle.kernel_text.specs.Reading.{number_limit}
+use Rattle.kernel_text.specs.{Reading.{number_limit}, KernelLines.{line_text}, KernelReads.{KernelReads}, KernelText.{kernel_lines, kernel_text}}
 use Rattle.listed.proofs.Lists.{In_none}
 use Rattle.relation_fields.specs.declared.packages.PackageFacts.{PackageFacts}
 use Rattle.repo_model.specs.Stanzas.{stanza_at, CoinstStanzas}
@@ -11,7 +11,6 @@ use Rattle.suite_compare.specs.{declared.report.ReportLine.{ReportLine}, declare
 use Rattle.claims.specs.{Asked.{HasPackageOf, IsAsked}, Classes.{classes_of, IsItsClass}, Control.{stanza_groups}, Index.{IndexSays, Says}}
 use Rattle.claims.specs.{Laws.{a_package, empty_index, no_classes, no_home, no_lines, EmptyIndexes}, Printed.{names_of, printed_comparison}}
 use Rattle.claims.specs.Sentences.{IsFaithfulList, IsFaithfulKernel}
-use Rattle.kernel_text.specs.{KernelLines.{line_text}, KernelReads.{KernelReads}, KernelText.{kernel_lines, kernel_text}}
 use Rattle.kernel_text.proofs.StoredReading.{one_reading}
 
 nothing_said : IndexSays [] no_home []

@@ -7,16 +7,19 @@ use Rattle.deb_version.specs.Names.{is_name}
 use Rattle.kernel_text.proofs.StoredReading.{one_reading}
 use Rattle.kernel_text.specs.{KernelReads.{KernelReads}, KernelText.{format_of, members_of}, declared.member.Member.{Member}}
 use Rattle.listed.specs.Lists.{Ascending, In, has}
-use Rattle.listed.proofs.{Lists.{In_flat_cases, In_has, any_cases, any_from, filter_cases, filter_from, has_In, same_bytes}, Orders.{ascending_filter, ascending_same}}
+use Rattle.listed.proofs.Lists.{In_flat_cases, In_has, any_cases, any_from, filter_cases, filter_from, has_In, same_bytes}
+use Rattle.listed.proofs.Orders.{ascending_filter, ascending_same}
 use Rattle.relation_fields.specs.{declared.packages.Home.{Home}, declared.packages.PackageFacts.{PackageFacts}}
-use Rattle.repo_model.specs.{declared.goals.Goal.{Goal}, Goals.{goal_of, is_named_by, packages_named}, Repository.{packages_of, suite_repository}, Stanzas.{stanza_at}}
+use Rattle.repo_model.specs.{declared.goals.Goal.{Goal}, Goals.{goal_of, is_named_by, packages_named}, Repository.{packages_of, suite_repository}}
+use Rattle.repo_model.specs.Stanzas.{stanza_at}
 use Rattle.repo_model.proofs.{Elements.{range_cases, range_from}, SoundSuite.{suite_sound}}
 use Rattle.row_book.specs.{Flattening.{packages}, Numbers.{numbers}, Repository.{Repository}, Rounds.{kernel, kernel_image}, Sets.{Is, NumSet}}
 use Rattle.row_book.proofs.Numbers.{numbers_ascending, numbers_from, numbers_parts}
 use Rattle.search_terms.specs.{declared.literals.Literal.{Literal}, Form.{form}}
 use Rattle.suite_compare.specs.Asking.{goal_classes, image_of, images_of}
 use Rattle.suite_compare.proofs.Deciding.{named_from}
-use Rattle.claims.specs.{Asked.{ComparedIndex}, Certificates.{AreAsked, AreClassesFor}, Classes.{classes_of, is_in_class}, Goals.{NamesPackage}, Kernel.{SettlesTo}, Settled.{IsKernelText}}
+use Rattle.claims.specs.{Asked.{ComparedIndex}, Certificates.{AreAsked, AreClassesFor}, Classes.{classes_of, is_in_class}, Goals.{NamesPackage}}
+use Rattle.claims.specs.{Kernel.{SettlesTo}, Settled.{IsKernelText}}
 use Rattle.claims.proofs.{Goals.{AreGoals, names_from, names_to}, Kernel.{kernels_are_kernels, kernels_are_one}, Members.{text_same}}
 
 first_same : (X Y : NumSet) → X ∷ [] ≡ Y ∷ [] → (n : ℕ) → X n ≡ Y n

@@ -4,11 +4,10 @@ use Rattle.std.proofs.lemmas.Bool.{cases_lt}
 use Rattle.std.specs.Option.{option_map}
 use Rattle.kernel_rounds.proofs.Reached.{kernel_is_lem}
 use Rattle.listed.proofs.Lists.{In_cases, In_none}
-use Rattle.row_book.proofs.Numbers.{numbers_from}
+use Rattle.row_book.proofs.Numbers.{numbers_from, numbers_parts}
 use Rattle.listed.specs.Lists.{In, here, there}
 use Rattle.row_book.specs.{Flattening.{Passed, first_some, passes}, Numbers.{numbers}, Repository.{Repository}, Sound.{SoundRepository}}
 use Rattle.row_book.specs.Rounds.{PassedRound, in_round, limit_at, passed_in_round, round, round_count, rounds}
-use Rattle.row_book.proofs.Numbers.{numbers_parts}
 use Rattle.claims.specs.Kernel.{PassesOnTheWay, now, later}
 
 -- where no value is found, each is absent

@@ -11,12 +11,15 @@ use Rattle.row_book.specs.Sets.{Is, NumSet}
 use Rattle.row_book.proofs.Numbers.{at_numbers}
 use Rattle.kernel_rounds.specs.Laws.{HasImage}
 use Rattle.kernel_rounds.proofs.{Reached.{image_is_of_classes_lem, kernel_is_lem, kernel_keeps_lem}, Classes.{class_within}}
-use Rattle.kernel_text.specs.{KernelReads.{KernelReads}, KernelText.{format_of, kernel_text, members_of}, Laws.{IsKernelOf}, Members.{file_members, kernel_members}, declared.member.Member.{Member}}
+use Rattle.kernel_text.specs.{KernelReads.{KernelReads}, KernelText.{format_of, kernel_text, members_of}, Laws.{IsKernelOf}}
+use Rattle.kernel_text.specs.{Members.{file_members, kernel_members}, declared.member.Member.{Member}}
 use Rattle.listed.{proofs.Bools.{same_bool}, proofs.Lists.{In_flat_cases, filter_cases}, specs.Lists.{In}}
 use Rattle.row_book.specs.Numbers.{numbers}
 use Rattle.kernel_text.proofs.{Classified.{kernels_are_writable}, ReadIsWritten.{read_is_written}, Extracted.{kernel_fits}}
-use Rattle.claims.specs.{Classes.{classes_of, IsItsClass, IsOneOf}, Kernel.{SettlesTo, at_rest}, Laws.{KernelTextsAreThere, PrintedKernelsAreFaithful, kernel_printed}}
-use Rattle.claims.proofs.{Index.{indexes_are_read}, Kernel.{kernels_are_kernels}, Members.{class_from, class_parts, file_at, stands_once}, KernelSentence.{kernels_mean_this}}
+use Rattle.claims.specs.{Classes.{classes_of, IsItsClass, IsOneOf}, Kernel.{SettlesTo, at_rest}}
+use Rattle.claims.specs.Laws.{KernelTextsAreThere, PrintedKernelsAreFaithful, kernel_printed}
+use Rattle.claims.proofs.{Index.{indexes_are_read}, Kernel.{kernels_are_kernels}, Members.{class_from, class_parts, file_at, stands_once}}
+use Rattle.claims.proofs.KernelSentence.{kernels_mean_this}
 use Rattle.suite_compare.specs.Refusals.{home_in, packages_in}
 
 -- the kernel of an accepted index at a limit, with hold or without, with its members

@@ -4,9 +4,9 @@ use Rattle.std.proofs.lemmas.Bool.{and_from, and_parts}
 use Rattle.std.specs.List.{AllZip, list_any}
 use Rattle.coinst_words.specs.Usage.{Text}
 use Rattle.deb_version.specs.Names.{is_name}
-use Rattle.kernel_text.specs.{Images.{image_of, is_named_by, is_named_in, names_in_class}, KernelReads.{KernelContent, KernelReads}, KernelText.{format_of}, declared.member.Member.{Member}}
+use Rattle.kernel_text.specs.{Images.{image_of, is_named_by, is_named_in, names_in_class}, KernelReads.{KernelContent, KernelReads}, KernelText.{format_of}}
+use Rattle.kernel_text.specs.{declared.member.Member.{Member}, Serving.{CoinstStored, HasClassFor, ServesStored, images_in}}
 use Rattle.kernel_text.proofs.StoredReading.{one_reading}
-use Rattle.kernel_text.specs.Serving.{CoinstStored, HasClassFor, ServesStored, images_in}
 use Rattle.listed.specs.Lists.{In, has}
 use Rattle.listed.proofs.{Lists.{In_map, In_map_cases, any_cases, any_from, filter_cases, filter_from}, Orders.{ascending_filter}}
 use Rattle.repo_model.specs.{declared.goals.Goal.{Goal}, Goals.{goal_of, CoinstGoals}, Repository.{suite_repository}}

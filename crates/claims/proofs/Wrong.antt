@@ -6,8 +6,9 @@ use Rattle.clause_pool.proofs.Order.{before_asym}
 use Rattle.coinst_words.specs.Usage.{Text}
 use Rattle.explain_core.specs.declared.explanation.Clash.{Clash}
 use Rattle.headline.specs.{Indexes.{SearchedIndex}, Listing.{is_broken}}
-use Rattle.kernel_text.specs.{KernelLines.{line_text, with_feed}, KernelReads.{KernelContent, KernelReads, content}, Reading.{number_limit, repository_of_reading}, StoredReading.{stored_reading}}
-use Rattle.kernel_text.specs.{declared.fault.KernelFault.{KernelFault}, declared.member.Member.{Member}}
+use Rattle.kernel_text.specs.{KernelLines.{line_text, with_feed}, KernelReads.{KernelContent, KernelReads, content}}
+use Rattle.kernel_text.specs.{Reading.{number_limit, repository_of_reading}, StoredReading.{stored_reading}, declared.fault.KernelFault.{KernelFault}}
+use Rattle.kernel_text.specs.declared.member.Member.{Member}
 use Rattle.kernel_text.proofs.StoredReading.{texts_are_told}
 use Rattle.listed.specs.Lists.{In, has, here}
 use Rattle.listed.specs.Texts as white
@@ -18,10 +19,13 @@ use Rattle.repo_model.specs.{FirstFault.{first_fault}, Stanzas.{HealthyStanzas, 
 use Rattle.row_book.specs.Sets.{Is, NumSet}
 use Rattle.search_terms.specs.{Derives.{Derives}, declared.literals.Literal.{Literal}}
 use Rattle.status_check.specs.{declared.report.OwnState.{OwnState}, declared.report.OwnState.TheVariants.{Healthy, Unhit, Clash as Clashing}}
-use Rattle.suite_compare.specs.{Refusals.{home_in, packages_in}, declared.report.ReportLine.{ReportLine}, declared.report.ReportLine.TheVariants.{Broken1, Broken2, Open1, Open2}}
-use Rattle.claims.specs.{Answers.{printed_entry, printed_installation, printed_no, printed_undecided}, Asked.{ComparedIndex, FoundInstallable, FoundUninstallable, IsAsked}, Certificates.{AreAsked, Refutes}}
-use Rattle.claims.specs.{Control.{field_value, stanza_groups}, Explained.{ToldGoal, printed_core, told_words}, Goals.{CanMeet, HasEach}, Index.{GroupsSay, Says}, Plans.{IsMix}}
-use Rattle.claims.specs.{Laws.{WrongReports, a_class, a_package, kernel_printed, suite_of}, Printed.{Precedes, comparison_status, names_of}, Systems.{IsOwnState, all_stanzas, system_status}}
+use Rattle.suite_compare.specs.{Refusals.{home_in, packages_in}, declared.report.ReportLine.{ReportLine}}
+use Rattle.suite_compare.specs.declared.report.ReportLine.TheVariants.{Broken1, Broken2, Open1, Open2}
+use Rattle.claims.specs.Answers.{printed_entry, printed_installation, printed_no, printed_undecided}
+use Rattle.claims.specs.{Asked.{ComparedIndex, FoundInstallable, FoundUninstallable, IsAsked}, Certificates.{AreAsked, Refutes}}
+use Rattle.claims.specs.{Control.{field_value, stanza_groups}, Explained.{ToldGoal, printed_core, told_words}, Goals.{CanMeet, HasEach}}
+use Rattle.claims.specs.{Index.{GroupsSay, Says}, Plans.{IsMix}, Laws.{WrongReports, a_class, a_package, kernel_printed, suite_of}}
+use Rattle.claims.specs.{Printed.{Precedes, comparison_status, names_of}, Systems.{IsOwnState, all_stanzas, system_status}}
 use Rattle.claims.specs.Sentences.{IsFaithfulAnswer, IsFaithfulExplanation, IsFaithfulKernel, IsFaithfulList, IsFaithfulPlan, IsFaithfulStoredAnswer, IsFaithfulSystem, IsRightStep}
 use Rattle.claims.specs.Spelling.{WritesAlternatives, WritesAtom}
 use Rattle.claims.specs.Sentences.IsFaithfulAnswer.{yes as answer_yes, no as answer_no, undecided as answer_undecided}

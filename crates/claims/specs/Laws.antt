@@ -6,12 +6,14 @@ use Rattle.relation_fields.specs.{Grammar.{atom_of, alternatives_of, provide_of}
 use Rattle.relation_fields.specs.declared.packages.PackageFacts.{PackageFacts}
 use Rattle.repo_model.specs.{Limits.{most_packages}, Facts.{facts_of}, Repository.{suite_repository}, FirstFault.{first_fault, home_of, stanzas_of}}
 use Rattle.repo_model.specs.Stanzas.{stanza_at, CoinstStanzas, HealthyStanzas}
-use Rattle.claims.specs.{Answers.{printed_installation, printed_no}, Control.{stanza_groups}, Explained.{printed_core}, Plans.{IsMix}, Systems.{all_stanzas, is_own_group}}
-use Rattle.claims.specs.{Index.{GroupsSay, IndexSays, SaysTheSame}, Kernel.{SettlesTo}, Classes.{classes_of, IsItsClass, IsOneOf}, Settled.{IsKernelText}}
+use Rattle.claims.specs.{Answers.{printed_installation, printed_no}, Control.{stanza_groups}, Explained.{printed_core}, Plans.{IsMix}}
+use Rattle.claims.specs.{Systems.{all_stanzas, is_own_group}, Index.{GroupsSay, IndexSays, SaysTheSame}, Kernel.{SettlesTo}}
+use Rattle.claims.specs.{Classes.{classes_of, IsItsClass, IsOneOf}, Settled.{IsKernelText}, Words.{compare_words, kernel_words}}
+use Rattle.claims.specs.{Asked.{ComparedIndex, FoundInstallable, FoundUninstallable, IsAsked}, Printed.{comparison_status, names_of, printed_comparison}}
+use Rattle.claims.specs.Sentences.{IsFaithfulAnswer, IsFaithfulExplanation, IsFaithfulKernel, IsFaithfulList, IsFaithfulPlan, IsFaithfulStoredAnswer, IsFaithfulSystem}
+use Rattle.claims.specs.{Search.{Searched}, Spelling.{WritesAtom, WritesAlternatives, WritesProvide}}
 use Rattle.listed.specs.Lists.{In}
 use Rattle.migrate_plan.specs.{declared.plan.PlanLine.{PlanLine}, declared.plan.PlanLine.TheVariants.{Take}}
-use Rattle.claims.specs.{Words.{compare_words, kernel_words}, Asked.{ComparedIndex, FoundInstallable, FoundUninstallable, IsAsked}, Printed.{comparison_status, names_of, printed_comparison}}
-use Rattle.claims.specs.{Sentences.{IsFaithfulAnswer, IsFaithfulExplanation, IsFaithfulKernel, IsFaithfulList, IsFaithfulPlan, IsFaithfulStoredAnswer, IsFaithfulSystem}, Search.{Searched}, Spelling.{WritesAtom, WritesAlternatives, WritesProvide}}
 use Rattle.kernel_text.specs.{KernelReads.{KernelReads}, KernelText.{format_of, kernel_text}, Members.{kernel_members}, declared.member.Member.{Member}}
 use Rattle.row_book.specs.{Flattening.{packages}, Rounds.{kernel, kernel_class, kernel_held, kernel_image}, Sound.{SoundRepository}, Sets.{NumSet, Is}}
 use Rattle.row_book.specs.Repository.{Repository, Coinst}

@@ -1,9 +1,11 @@
 -- Plans: which names differ between two indexes, and the mixes of the two.
-use Rattle.std.specs.{Prelude.{◌≡◌, ℕ, Bool, true, false, if◌then◌else◌, not, List, [], ◌∷◌, ◌++◌, ◌-◌, codes, filter, length, unwrap_or}, Fmt.{decimal}, List.{AllZip, flat_map, list_any}, Str.{bytes_eq}}
+use Rattle.std.specs.{Prelude.{◌≡◌, ℕ, Bool, true, false, if◌then◌else◌, not, List, [], ◌∷◌, ◌++◌, ◌-◌, codes, filter, length, unwrap_or}, Fmt.{decimal}}
+use Rattle.std.specs.{List.{AllZip, flat_map, list_any}, Str.{bytes_eq}}
 use Rattle.coinst_words.specs.Usage.{Text}
 use Rattle.headline.specs.Listing.{is_broken}
 use Rattle.kernel_text.specs.KernelLines.{with_feed}
-use Rattle.migrate_plan.specs.{Mix.{is_taken}, Plan.{taken_in}, declared.plan.PlanLine.{PlanLine}, declared.plan.PlanLine.TheVariants.{Take, LeftLimit, LeftLine}}
+use Rattle.migrate_plan.specs.{Mix.{is_taken}, Plan.{taken_in}, declared.plan.PlanLine.{PlanLine}}
+use Rattle.migrate_plan.specs.declared.plan.PlanLine.TheVariants.{Take, LeftLimit, LeftLine}
 use Rattle.claims.specs.{Asked.{ComparedIndex}, Control.{field_value, stanza_groups}, Index.{IndexSays, SaysTheSame}, Printed.{printed_line}}
 
 -- the packages of the name are not the same in both indexes, one behind the other

@@ -10,18 +10,22 @@ use Rattle.explain_core.specs.declared.explanation.Clash.{Clash}
 use Rattle.headline.specs.Listing.{is_broken}
 use Rattle.kernel_text.specs.{KernelLines.{with_feed}, KernelReads.{HasOneReading, KernelReads}, declared.member.Member.{Member}}
 use Rattle.listed.specs.Lists.{Ascending, In, has}
-use Rattle.migrate_plan.specs.{Plan.{taken_in}, Promises.{planned_name}, declared.plan.PlanLine.{PlanLine}, declared.plan.PlanLine.TheVariants.{Take, LeftLimit, LeftLine}}
+use Rattle.migrate_plan.specs.{Plan.{taken_in}, Promises.{planned_name}, declared.plan.PlanLine.{PlanLine}}
+use Rattle.migrate_plan.specs.declared.plan.PlanLine.TheVariants.{Take, LeftLimit, LeftLine}
 use Rattle.relation_fields.specs.{declared.packages.Home.{Home}, declared.packages.PackageFacts.{PackageFacts}}
 use Rattle.repo_model.specs.{Repository.{suite_repository}, Stanzas.{stanza_at, CoinstStanzas, HealthyStanzas}}
 use Rattle.row_book.specs.{Repository.{Repository, Coinst, Healthy}, Sets.{NumSet, Is}}
 use Rattle.search_terms.specs.declared.literals.Literal.{Literal}
 use Rattle.status_check.specs.declared.report.OwnState.{OwnState}
 use Rattle.suite_compare.specs.declared.report.ReportLine.{ReportLine}
-use Rattle.claims.specs.{Answers.{printed_classes, printed_installation, printed_no, printed_undecided}, Asked.{ComparedIndex, FoundInstallable, FoundUninstallable, HasPackageOf, Installs, IsAsked, IsSearched, Spends}}
+use Rattle.claims.specs.Answers.{printed_classes, printed_installation, printed_no, printed_undecided}
+use Rattle.claims.specs.Asked.{ComparedIndex, FoundInstallable, FoundUninstallable, HasPackageOf, Installs, IsAsked, IsSearched, Spends}
 use Rattle.claims.specs.{Certificates.{HasClassOfEach, IsTooLong, Refutes}, Classes.{classes_of, IsItsClass, IsOneOf}, Control.{IsStanza, stanza_groups}}
-use Rattle.claims.specs.{Explained.{AreReasonsFor, IsCoreOfGoals, ToldGoal, printed_core, told_words}, Goals.{CanMeet, HasEach}, Index.{GroupsSay, IndexSays}, Kernel.{PassesOnTheWay}}
-use Rattle.claims.specs.{Plans.{Differs, IsMix, plan_status, printed_plan}, Printed.{comparison_status, names_of, printed_comparison, Precedes}, Settled.{IsKernelText, IsPastBudget, IsWithinBudget}}
-use Rattle.claims.specs.{Systems.{IsOwnState, goal_word_of, has_package, is_foreign_group, is_own_group, printed_system, system_status}, Words.{AreOrdinary, asking_words, compare_words, kernel_words, stored_words}}
+use Rattle.claims.specs.{Explained.{AreReasonsFor, IsCoreOfGoals, ToldGoal, printed_core, told_words}, Goals.{CanMeet, HasEach}, Index.{GroupsSay, IndexSays}}
+use Rattle.claims.specs.{Kernel.{PassesOnTheWay}, Plans.{Differs, IsMix, plan_status, printed_plan}}
+use Rattle.claims.specs.{Printed.{comparison_status, names_of, printed_comparison, Precedes}, Settled.{IsKernelText, IsPastBudget, IsWithinBudget}}
+use Rattle.claims.specs.Systems.{IsOwnState, goal_word_of, has_package, is_foreign_group, is_own_group, printed_system, system_status}
+use Rattle.claims.specs.Words.{AreOrdinary, asking_words, compare_words, kernel_words, stored_words}
 
 -- `kernel`. The text is an index of these stanzas, and the printed bytes read as exactly one format, repository, list of members and list of held
 -- classes. Each member is a stanza, each stanza stands in exactly one class, and a set of stanzas can be installed together exactly when its classes

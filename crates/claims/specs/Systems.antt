@@ -1,5 +1,6 @@
 -- What a dpkg status file says of an installed system, and what is told of it.
-use Rattle.std.specs.{Prelude.{◌≡◌, ℕ, ◌<◌, ◌≤◌, ◌⊎◌, ◌-◌, Bool, true, false, not, ◌&&◌, ◌||◌, List, [], ◌∷◌, ◌++◌, codes, filter, length, nat_lt, unwrap_or, if◌then◌else◌}, Fmt.{decimal}, List.{flat_map, list_any}, Option.{option_map_or}, Str.{bytes_eq}}
+use Rattle.std.specs.Prelude.{◌≡◌, ℕ, ◌<◌, ◌≤◌, ◌⊎◌, ◌-◌, Bool, true, false, not, ◌&&◌, ◌||◌, List, [], ◌∷◌, ◌++◌, codes, filter, length, nat_lt, unwrap_or, if◌then◌else◌}
+use Rattle.std.specs.{Fmt.{decimal}, List.{flat_map, list_any}, Option.{option_map_or}, Str.{bytes_eq}}
 use Rattle.coinst_words.specs.Usage.{Text}
 use Rattle.kernel_text.specs.KernelLines.{with_feed}
 use Rattle.listed.specs.Lists.{In}

@@ -2,19 +2,18 @@
 use Rattle.std.proofs.Common.{◌≡◌, ℕ, ◌≤◌, Bool, List, [], ◌∷◌, length, Option, Some, None, ap, refl, sym, subst, ◌∙◌}
 use Rattle.clause_solver.specs.declared.outcomes.Verdict.{Verdict}
 use Rattle.clause_solver.specs.declared.outcomes.Verdict.TheVariants as verdict
-use Rattle.explain_core.specs.{Explaining.{explained_by, explanation_of}, declared.explanation.Clash.{Clash}, declared.explanation.Explanation.{Explanation}, declared.explanation.Mark.{Mark}}
-use Rattle.explain_core.specs.{declared.explanation.Explanation.TheVariants.{Yes, Spent, Core}, OnStanzas.{HoldsOnStanzas, IsTellable}}
+use Rattle.explain_core.specs.{Explaining.{explained_by, explanation_of}, declared.explanation.Clash.{Clash}, declared.explanation.Explanation.{Explanation}}
+use Rattle.explain_core.specs.{declared.explanation.Mark.{Mark}, declared.explanation.Explanation.TheVariants.{Yes, Spent, Core}}
+use Rattle.explain_core.specs.OnStanzas.{HoldsOnStanzas, IsTellable}
 use Rattle.relation_fields.specs.{declared.packages.Home.{Home}, declared.packages.PackageFacts.{PackageFacts}}
 use Rattle.repo_model.specs.{FirstFault.{first_fault}, declared.goals.Goal.{Goal}}
 use Rattle.repo_model.proofs.Accepted.{Accepted}
 use Rattle.search_terms.specs.Tree.{failed_leaves}
-use Rattle.suite_compare.proofs.Deciding.{verdict_is_judged}
+use Rattle.suite_compare.proofs.{Deciding.{verdict_is_judged}, Unknown.{all_named}}
 use Rattle.suite_compare.specs.{Answering.{unknown_goal}, Asking.{HasVerdict, asked_tree, verdict_in}, Refusals.{home_in, packages_in}}
 use Rattle.coinst_run.specs.Explain.{explain_answer, explained_by_unknown, explanation_answer, goals_explained}
 use Rattle.coinst_run.specs.{ExplainMeaning.{ExplainIsMeant, ExplainMeans, MeansExplained}, Index.{index_in}}
-use Rattle.coinst_run.proofs.{OneCore.{one_core}, QueryMeant.{formed}, AnswerMeant.{AnswerMeans, means_more, told_means}}
-use Rattle.coinst_run.proofs.Given.{at_end, kernel_read}
-use Rattle.suite_compare.proofs.Unknown.{all_named}
+use Rattle.coinst_run.proofs.{OneCore.{one_core}, QueryMeant.{formed}, AnswerMeant.{AnswerMeans, means_more, told_means}, Given.{at_end, kernel_read}}
 use Rattle.explain_core.proofs.{OnStanzas.{explanations_hold}, Tellable.{explanation_tellable}}
 
 -- the report on goals in a text

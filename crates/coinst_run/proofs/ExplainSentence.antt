@@ -5,8 +5,9 @@ use Rattle.std.specs.{Prelude.{codes, unwrap_or, IfSome}, Fmt.{decimal}, List.{f
 use Rattle.byte_flow.specs.History.{Reading}
 use Rattle.coinst_words.specs.{Jobs.{job_of}, Usage.{Text}, declared.job.Job.TheVariants.{Explain}}
 use Rattle.deb_version.specs.Names.{is_name}
-use Rattle.explain_core.specs.{Core.{goal_numbered, goals_numbered, marked_goals}, Meaning.{IsCoreOf}, OnStanzas.{AreEnough, CoinstButFor, HealthyButFor, IsTellable}, Picking.{ArePlacesFrom1}}
-use Rattle.explain_core.specs.{declared.explanation.Clash.{Clash}, declared.explanation.Explanation.TheVariants.{Core}, declared.explanation.Mark.{Mark}}
+use Rattle.explain_core.specs.{Core.{goal_numbered, goals_numbered, marked_goals}, Meaning.{IsCoreOf}}
+use Rattle.explain_core.specs.{OnStanzas.{AreEnough, CoinstButFor, HealthyButFor, IsTellable}, Picking.{ArePlacesFrom1}, declared.explanation.Clash.{Clash}}
+use Rattle.explain_core.specs.{declared.explanation.Explanation.TheVariants.{Core}, declared.explanation.Mark.{Mark}}
 use Rattle.explain_core.proofs.Tellable.{explanation_tellable}
 use Rattle.headline.specs.Indexes.{searched}
 use Rattle.kernel_text.specs.KernelLines.{with_feed}
@@ -15,13 +16,16 @@ use Rattle.listed.proofs.Lists.{In_cases, In_map_cases, In_none}
 use Rattle.relation_fields.specs.declared.packages.PackageFacts.{PackageFacts}
 use Rattle.repo_model.specs.{FirstFault.{first_fault}, Goals.{any_version, goal_of}, Stanzas.{stanza_at}, declared.goals.Goal.{Goal}}
 use Rattle.suite_compare.specs.Refusals.{home_in, packages_in}
-use Rattle.claims.specs.{Asked.{ComparedIndex}, Explained.{AreReasonsFor, CouldMeet, IsCoreOfGoals, ToldGoal, clashes_told, printed_clashes, printed_core, told_words}, Goals.{CanMeet}, Laws.{suite_of}}
-use Rattle.claims.specs.Sentences.{ExplainIsTrue, IsFaithfulExplanation}
+use Rattle.claims.specs.Asked.{ComparedIndex}
+use Rattle.claims.specs.Explained.{AreReasonsFor, CouldMeet, IsCoreOfGoals, ToldGoal, clashes_told, printed_clashes, printed_core, told_words}
+use Rattle.claims.specs.{Goals.{CanMeet}, Laws.{suite_of}, Sentences.{ExplainIsTrue, IsFaithfulExplanation}}
 use Rattle.claims.specs.Sentences.IsFaithfulExplanation.{yes as told_yes, core as told_core, undecided as told_undecided}
-use Rattle.claims.proofs.{AskingWords.{explain_words_ask}, Goals.{AreGoals, word_at, word_is}, Index.{indexes_are_read}, Meeting.{can_meet, each_from, each_to, meets_goals}}
+use Rattle.claims.proofs.{AskingWords.{explain_words_ask}, Goals.{AreGoals, word_at, word_is}, Index.{indexes_are_read}}
+use Rattle.claims.proofs.Meeting.{can_meet, each_from, each_to, meets_goals}
 use Rattle.coinst_run.specs.{Status.{code_of, verdict_status}, declared.answer.ReportVerdict.{ReportVerdict}}
 use Rattle.coinst_run.specs.declared.answer.ReportVerdict.TheVariants.{Done, Negative, Undecided}
-use Rattle.coinst_run.specs.{ExplainMeaning.{ExplainMeans, ExplainedCore, ExplainedYes, MeansExplained}, ExplainText.{core_text, clash_count, clashes_text, goal_line, yes_line}, Meaning.{IsMeant, MeansJob}}
+use Rattle.coinst_run.specs.ExplainMeaning.{ExplainMeans, ExplainedCore, ExplainedYes, MeansExplained}
+use Rattle.coinst_run.specs.{ExplainText.{core_text, clash_count, clashes_text, goal_line, yes_line}, Meaning.{IsMeant, MeansJob}}
 use Rattle.coinst_run.specs.QueryText.{goal_word, undecided_text, version_word}
 use Rattle.coinst_run.proofs.QuerySentences.{all_known, in_time, named, past}
 

@@ -4,10 +4,9 @@ use Rattle.byte_flow.specs.History.{Reading}
 use Rattle.repo_model.specs.{declared.fault.IndexFault.{IndexFault}, FirstFault.{first_fault}, Repository.{suite_repository}}
 use Rattle.row_book.specs.Rounds.{PassedRound, limit_at}
 use Rattle.suite_compare.specs.Refusals.{home_in, packages_in}
-use Rattle.coinst_run.specs.{declared.answer.ReportVerdict.{ReportVerdict}, Answer.{Answer, reported}}
-use Rattle.coinst_run.specs.{Course.{Course, answers, reads, then_on}, Index.{Index, by_fault, checked_index, index_in}}
-use Rattle.coinst_run.specs.{IndexKernel.{ClassedKernel, index_kernel}, Kernel.{by_limit, kernel_of, reads_kernel}, Migrate.{kernel_at, kernel_behind}}
-use Rattle.coinst_run.specs.Outcome.{Gives, at_once, by_text}
+use Rattle.coinst_run.specs.{declared.answer.ReportVerdict.{ReportVerdict}, Answer.{Answer, reported}, Course.{Course, answers, reads, then_on}}
+use Rattle.coinst_run.specs.{Index.{Index, by_fault, checked_index, index_in}, IndexKernel.{ClassedKernel, index_kernel}}
+use Rattle.coinst_run.specs.{Kernel.{by_limit, kernel_of, reads_kernel}, Migrate.{kernel_at, kernel_behind}, Outcome.{Gives, at_once, by_text}}
 
 module _ (verdict : ReportVerdict) (printed : List ℕ) where
   abbrev pub Reported : Course → List Reading → Type 0

@@ -13,8 +13,8 @@ use Rattle.coinst_run.specs.{IndexKernel.{classed_kernel, index_kernel, json_for
 use Rattle.coinst_run.specs.{Meaning.{JsonMeans, MeansJob, course_of}, Outcome.{Gives}}
 use Rattle.coinst_words.specs.{declared.job.Job.{Job}, declared.job.Job.TheVariants.{Kernel, Query, StoredQuery, Compare, Explain, Status, Migrate, Sample}}
 use Rattle.coinst_run.proofs.{CompareMeant.{compare_is_meant}, ExplainMeant.{explain_is_meant}, MigrateMeant.{migrate_is_meant}}
-use Rattle.coinst_run.proofs.{QueryMeant.{query_is_meant, formed}, AnswerMeant.{told_means}, Given.{at_end, kernel_read}}
-use Rattle.coinst_run.proofs.{SampleMeaning.{sample_report_means}, StoredMeant.{stored_query_is_meant}, SystemMeant.{system_is_meant}}
+use Rattle.coinst_run.proofs.{QueryMeant.{query_is_meant, formed}, AnswerMeant.{told_means}, Given.{at_end, kernel_read}, SampleMeaning.{sample_report_means}}
+use Rattle.coinst_run.proofs.{StoredMeant.{stored_query_is_meant}, SystemMeant.{system_is_meant}}
 
 pub index_kernel_means : (limit : ℕ) (hold : Bool) (text : List ℕ) → first_fault text ≡ None → KernelMeans text limit hold (text_for (packages_in text) (index_kernel limit hold (home_in text) (packages_in text)))
 unfolding index_kernel classed_kernel

@@ -10,17 +10,21 @@ use Rattle.headline.proofs.Exact.{report_lists_exactly}
 use Rattle.kernel_text.specs.KernelLines.{with_feed}
 use Rattle.listed.specs.Lists.{In, here, there}
 use Rattle.listed.proofs.Lists.{In_append_cases, In_cases, In_none, flat_same}
-use Rattle.migrate_plan.specs.{Differing.{differing}, Mix.{mix}, Plan.{Settings, lines_between, passed_in, settings_of, taken_in, tried_mix}, Promises.{AreRight, IsRight, planned_name, searched_by}}
-use Rattle.migrate_plan.specs.{declared.plan.PlanLine.{PlanLine}, declared.plan.PlanLine.TheVariants.{Take, LeftLimit, LeftLine}}
+use Rattle.migrate_plan.specs.{Differing.{differing}, Mix.{mix}, Plan.{Settings, lines_between, passed_in, settings_of, taken_in, tried_mix}}
+use Rattle.migrate_plan.specs.{Promises.{AreRight, IsRight, planned_name, searched_by}, declared.plan.PlanLine.{PlanLine}}
+use Rattle.migrate_plan.specs.declared.plan.PlanLine.TheVariants.{Take, LeftLimit, LeftLine}
 use Rattle.repo_model.specs.{FirstFault.{first_fault}, Repository.{suite_repository}}
 use Rattle.repo_model.proofs.SoundSuite.{suite_sound}
 use Rattle.suite_compare.specs.{Asking.{verdict_in}, Refusals.{home_in, packages_in}, declared.report.ReportLine.{ReportLine}}
 use Rattle.suite_compare.proofs.Deciding.{verdict_is_judged}
-use Rattle.claims.specs.{Asked.{ComparedIndex, HasPackageOf, Installs}, Kernel.{PassesOnTheWay}, Laws.{suite_of}, Plans.{Differs, IsMix, is_left_broken, is_left_name, plan_status, printed_plan, printed_step}, Printed.{printed_line}}
+use Rattle.claims.specs.{Asked.{ComparedIndex, HasPackageOf, Installs}, Kernel.{PassesOnTheWay}, Laws.{suite_of}}
+use Rattle.claims.specs.{Plans.{Differs, IsMix, is_left_broken, is_left_name, plan_status, printed_plan, printed_step}, Printed.{printed_line}}
 use Rattle.claims.specs.Sentences.{IsFaithfulList, IsFaithfulPlan, IsRightStep, MigrateIsTrue}
-use Rattle.claims.proofs.{AskingWords.{migrate_words_ask}, CompareSentence.{comparisons_mean_this, has_to, installs_from, installs_to}, Index.{indexes_are_read}, Passing.{passes_not, passes_so}, Plans.{differing_order, differs_from, differs_to, mix_is}}
-use Rattle.coinst_run.specs.{CompareText.{comparison_line}, Lines.{end_text}, Meaning.{IsMeant, MeansJob}, MigrateMeaning.{MigrateMeans}, MigrateText.{is_left, is_take, plan_line, plan_text, plan_verdict, would_break}}
-use Rattle.coinst_run.specs.{Status.{code_of, verdict_status}, declared.answer.ReportVerdict.{ReportVerdict}, declared.answer.ReportVerdict.TheVariants.{Done, Negative, Undecided}}
+use Rattle.claims.proofs.{AskingWords.{migrate_words_ask}, CompareSentence.{comparisons_mean_this, has_to, installs_from, installs_to}}
+use Rattle.claims.proofs.{Index.{indexes_are_read}, Passing.{passes_not, passes_so}, Plans.{differing_order, differs_from, differs_to, mix_is}}
+use Rattle.coinst_run.specs.{CompareText.{comparison_line}, Lines.{end_text}, Meaning.{IsMeant, MeansJob}, MigrateMeaning.{MigrateMeans}}
+use Rattle.coinst_run.specs.{MigrateText.{is_left, is_take, plan_line, plan_text, plan_verdict, would_break}, Status.{code_of, verdict_status}}
+use Rattle.coinst_run.specs.{declared.answer.ReportVerdict.{ReportVerdict}, declared.answer.ReportVerdict.TheVariants.{Done, Negative, Undecided}}
 use Rattle.coinst_run.proofs.Sentences.{same_line}
 
 -- the texts are one

@@ -12,8 +12,7 @@ use Rattle.suite_compare.specs.{Answering.{unknown_goal}, Asking.{asked_tree, im
 use Rattle.suite_compare.proofs.{Deciding.{asked_is, found_there}, Installed.{installations_serve}, Unknown.{all_named}}
 use Rattle.coinst_run.specs.{Index.{index_in}, Query.{by_tree, by_unknown, goals_answer, installed_text, query_answer}}
 use Rattle.coinst_run.specs.{QueryMeaning.{MeansVerdict, NoMeans, QueryIsMeant, QueryMeans, YesMeans}, QueryText.{no_text}}
-use Rattle.coinst_run.proofs.{OneInstallation.{one_installation}, AnswerMeant.{AnswerMeans, means_more, told_means, tree_means}}
-use Rattle.coinst_run.proofs.Given.{at_end, kernel_read}
+use Rattle.coinst_run.proofs.{OneInstallation.{one_installation}, AnswerMeant.{AnswerMeans, means_more, told_means, tree_means}, Given.{at_end, kernel_read}}
 
 pub formed : (text : List ℕ) → first_fault text ≡ None → Accepted (packages_in text)
 formed text e = accepted.accepted text e

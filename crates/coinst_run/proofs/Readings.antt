@@ -1,7 +1,8 @@
 -- What a run read and printed, by how its course ended.
 use Rattle.std.proofs.Common.{◌≡◌, ℕ, Bool, true, List, [], ◌∷◌, ◌++◌, take, drop, Option, Some, None, refl, sym, ap, subst, ◌∙◌, append_assoc, append-nil, take-append-drop}
 use Rattle.std.specs.Prelude.{IfSome}
-use Rattle.byte_flow.specs.{Flow.{FileIs, Files}, History.{Reading, noted, with_more}, Models.{ShelfModel, SinkModel}, Transfer.{HandsOver, Reached, Sent, begun, piece_size, read_on, sent_on, started}}
+use Rattle.byte_flow.specs.{Flow.{FileIs, Files}, History.{Reading, noted, with_more}, Models.{ShelfModel, SinkModel}}
+use Rattle.byte_flow.specs.Transfer.{HandsOver, Reached, Sent, begun, piece_size, read_on, sent_on, started}
 use Rattle.coinst_run.specs.{Answer.{Answer}, Course.{Course, answers}}
 use Rattle.coinst_run.specs.Follows.{Follows, WasRead, at_its_end, behind_a_text, at_an_unread_file, at_a_long_file, without_memory, without_memory_for_a_file}
 use Rattle.coinst_run.specs.{Outcome.{Gives, Outcome, answered, at_once, by_text, too_long}, Readings.{AreOf, HasRead, no_file, a_file}}

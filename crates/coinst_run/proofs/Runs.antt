@@ -11,7 +11,8 @@ use Rattle.coinst_words.specs.declared.error.WordError.TheVariants as words
 use Rattle.coinst_run.specs.{Answer.{reported, refused}, Delivers.{Delivers, IsRefused, Tells, a_cut_report, a_refusal, a_report}}
 use Rattle.coinst_run.specs.{Ending.{stop_ending, word_stop}, Follows.{FollowsJob, of_a_job, of_no_job, without_memory, without_memory_for_words}}
 use Rattle.coinst_run.specs.Meaning.{IsMeant, MeansJob, course_of, of_job, outcome_of}
-use Rattle.coinst_run.specs.{Outcome.{Outcome, answered, unread, not_a_command, report_of, status_of, too_long}, Readings.{IsOfText, Prints, Refuses, Reports}, Run.{Answers, Completes}}
+use Rattle.coinst_run.specs.{Outcome.{Outcome, answered, unread, not_a_command, report_of, status_of, too_long}, Readings.{IsOfText, Prints, Refuses, Reports}}
+use Rattle.coinst_run.specs.Run.{Answers, Completes}
 use Rattle.coinst_run.proofs.Readings.{LedTo, led_to}
 use Rattle.coinst_run.specs.Run as run
 use Rattle.coinst_run.specs.Status.{cause_status, code_of, verdict_status}

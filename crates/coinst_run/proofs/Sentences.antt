@@ -8,16 +8,17 @@ use Rattle.headline.specs.{Indexes.{searched}, Listing.{is_broken}}
 use Rattle.kernel_text.specs.{KernelText.{format_of}, declared.member.Member.{Member}}
 use Rattle.listed.specs.Lists.{In}
 use Rattle.repo_model.proofs.Accepted.{accepted}
-use Rattle.suite_compare.specs.Refusals.{home_in, packages_in}
-use Rattle.claims.specs.Classes.{IsOneOf}
-use Rattle.claims.proofs.PrintedKernels.{people}
-use Rattle.coinst_run.specs.IndexKernel.{classed_kernel, index_kernel}
+use Rattle.suite_compare.specs.{Refusals.{home_in, packages_in}, declared.report.ReportLine.{ReportLine}}
+use Rattle.suite_compare.specs.declared.report.ReportLine.TheVariants.{Broken1, Broken2, Open1, Open2}
+use Rattle.claims.specs.{Classes.{IsOneOf}, Printed.{comparison_status, printed_comparison, printed_line}, Sentences.{CompareIsTrue, KernelIsTrue}}
+use Rattle.claims.specs.Laws.{suite_of}
+use Rattle.claims.proofs.{PrintedKernels.{people}, CompareSentence.{comparisons_mean_this}, KernelSentence.{kernels_mean_this}}
+use Rattle.claims.proofs.Words.{compare_words_ask, kernel_words_ask}
+use Rattle.coinst_run.specs.{IndexKernel.{classed_kernel, index_kernel}, CompareText.{comparison_line, comparison_text, comparison_verdict, end_text, is_open}}
+use Rattle.coinst_run.specs.{CompareMeaning.{CompareMeans}, KernelMeaning.{KernelMeans}, Lines.{line_of_text}, Meaning.{IsMeant, MeansJob}}
+use Rattle.coinst_run.specs.{Status.{code_of, verdict_status}, declared.answer.ReportVerdict.{ReportVerdict}}
+use Rattle.coinst_run.specs.declared.answer.ReportVerdict.TheVariants.{Done, Negative, Undecided}
 use Rattle.listed.proofs.Lists.{flat_same}
-use Rattle.suite_compare.specs.{declared.report.ReportLine.{ReportLine}, declared.report.ReportLine.TheVariants.{Broken1, Broken2, Open1, Open2}}
-use Rattle.claims.specs.{Printed.{comparison_status, printed_comparison, printed_line}, Sentences.{CompareIsTrue, KernelIsTrue}, Laws.{suite_of}}
-use Rattle.claims.proofs.{CompareSentence.{comparisons_mean_this}, KernelSentence.{kernels_mean_this}, Words.{compare_words_ask, kernel_words_ask}}
-use Rattle.coinst_run.specs.{CompareText.{comparison_line, comparison_text, comparison_verdict, end_text, is_open}, CompareMeaning.{CompareMeans}, KernelMeaning.{KernelMeans}}
-use Rattle.coinst_run.specs.{Lines.{line_of_text}, Meaning.{IsMeant, MeansJob}, Status.{code_of, verdict_status}, declared.answer.ReportVerdict.{ReportVerdict}, declared.answer.ReportVerdict.TheVariants.{Done, Negative, Undecided}}
 
 -- each member is a stanza
 people_of : (text : List ℕ) (limit : ℕ) (hold : Bool) (printed : List ℕ) (k : KernelMeans text limit hold printed) → (m : Member) → In m k.members → IsOneOf (packages_in text) m

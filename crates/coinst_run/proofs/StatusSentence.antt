@@ -11,18 +11,21 @@ use Rattle.kernel_text.specs.KernelLines.{with_feed}
 use Rattle.listed.specs.Lists.{In, here, there}
 use Rattle.listed.proofs.{Bools.{same_bool}, Lists.{In_at, In_place, any_cases, any_from, filled, filter_cases, filter_same, same_bytes, some_item}}
 use Rattle.relation_fields.specs.declared.packages.PackageFacts.{PackageFacts}
-use Rattle.repo_model.specs.{FirstFault.{first_fault}, Goals.{CoinstGoals, goal_of, is_named_by, packages_named}, Stanzas.{no_stanza, stanza_at}, declared.goals.Goal.{Goal}}
+use Rattle.repo_model.specs.{FirstFault.{first_fault}, Goals.{CoinstGoals, goal_of, is_named_by, packages_named}, Stanzas.{no_stanza, stanza_at}}
+use Rattle.repo_model.specs.declared.goals.Goal.{Goal}
 use Rattle.repo_model.proofs.Accepted.{Accepted, accepted}
-use Rattle.status_check.specs.{Own.{foreign_count, own_home, own_packages}, Report.{goal_for, had_goals, is_had, line_for, state_of}, declared.report.HaveLine.{HaveLine}}
-use Rattle.status_check.specs.{declared.report.OwnState.{OwnState}, declared.report.StatusReport.{StatusReport}, declared.report.SuiteState.{SuiteState}}
+use Rattle.status_check.specs.{Own.{foreign_count, own_home, own_packages}, Report.{goal_for, had_goals, is_had, line_for, state_of}}
+use Rattle.status_check.specs.{declared.report.HaveLine.{HaveLine}, declared.report.OwnState.{OwnState}, declared.report.StatusReport.{StatusReport}}
+use Rattle.status_check.specs.declared.report.SuiteState.{SuiteState}
 use Rattle.status_check.specs.declared.report.OwnState.TheVariants as state
 use Rattle.status_check.specs.declared.report.SuiteState.TheVariants as suite
 use Rattle.suite_compare.specs.{Asking.{HasVerdict, verdict_in}, Refusals.{home_in, packages_in}}
 use Rattle.suite_compare.proofs.Deciding.{named_from, named_parts, verdict_is_judged}
-use Rattle.claims.specs.{Asked.{ComparedIndex}, Control.{stanza_groups}, Index.{is_one_package}, Laws.{suite_of}, Systems.{goal_word_of, has_package, is_foreign_group, printed_state, printed_system, system_status}}
-use Rattle.claims.specs.Sentences.{IsFaithfulSystem, IsSuiteAnswer, StatusIsTrue}
-use Rattle.claims.specs.Sentences.IsSuiteAnswer.{suite_no, suite_undecided, suite_yes}
-use Rattle.claims.proofs.{AskingWords.{status_words_ask}, Goals.{AreGoals, goal_cut}, Index.{indexes_are_read}, Meeting.{can_meet}, Members.{text_same}, Systems.{Tells, state_of_all, tells}}
+use Rattle.claims.specs.{Asked.{ComparedIndex}, Control.{stanza_groups}, Index.{is_one_package}, Laws.{suite_of}}
+use Rattle.claims.specs.Systems.{goal_word_of, has_package, is_foreign_group, printed_state, printed_system, system_status}
+use Rattle.claims.specs.{Sentences.{IsFaithfulSystem, IsSuiteAnswer, StatusIsTrue}, Sentences.IsSuiteAnswer.{suite_no, suite_undecided, suite_yes}}
+use Rattle.claims.proofs.{AskingWords.{status_words_ask}, Goals.{AreGoals, goal_cut}, Index.{indexes_are_read}, Meeting.{can_meet}, Members.{text_same}}
+use Rattle.claims.proofs.Systems.{Tells, state_of_all, tells}
 use Rattle.coinst_run.specs.{Meaning.{IsMeant, MeansJob}, SystemMeaning.{SystemMeans}, Lines.{end_text}}
 use Rattle.coinst_run.specs.SystemText.{have_text, is_had as line_had, is_lacking, line_at, no_line, own_text, suite_text, system_text, system_verdict}
 use Rattle.coinst_run.specs.{Status.{code_of, verdict_status}, declared.answer.ReportVerdict.{ReportVerdict}}

@@ -3,8 +3,8 @@ use Rattle.std.proofs.Common.{◌≡◌, ℕ, ◌+◌, Bool, true, false, cond, 
 use Rattle.std.proofs.{lemmas.Bool.{le-ltb}, lemmas.List.{append-nil, flat_map_more}, lemmas.List.Elements.{filter-append}}
 use Rattle.std.specs.List.{flat_map}
 use Rattle.clause_solver.specs.{Outcomes.{IsSearchOutcome}, declared.outcomes.Outcome.TheVariants.{Found, Refuted, Spent}}
-use Rattle.kernel_text.specs.{declared.fault.KernelFault.{KernelFault}, declared.member.Member.{Member}}
-use Rattle.kernel_text.specs.{Images.{image_of, unknown_goal}, KernelReads.{KernelReads, content}, StoredReading.{stored_reading}}
+use Rattle.kernel_text.specs.{declared.fault.KernelFault.{KernelFault}, declared.member.Member.{Member}, Images.{image_of, unknown_goal}}
+use Rattle.kernel_text.specs.{KernelReads.{KernelReads, content}, StoredReading.{stored_reading}}
 use Rattle.kernel_text.proofs.StoredReading.{texts_are_told}
 use Rattle.repo_model.specs.declared.goals.Goal.{Goal}
 use Rattle.row_book.specs.{Numbers.{numbers}, Flags.{flag}, Needs.{NeedsFit}, Repository.{Repository}, Sound.{SoundRepository}}

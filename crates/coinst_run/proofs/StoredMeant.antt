@@ -6,8 +6,7 @@ use Rattle.listed.proofs.{Lists.{In_has}, Orders.{ascending_filter}}
 use Rattle.byte_flow.specs.History.{Reading}
 use Rattle.kernel_text.specs.{declared.fault.KernelFault.{KernelFault}, Images.{unknown_goal}, KernelReads.{KernelContent, KernelReads}}
 use Rattle.kernel_text.specs.{KernelText.{IsWritable}, Reading.{number_limit}, StoredReading.{stored_reading}, Serving.{ServesStored, images_in}}
-use Rattle.kernel_text.proofs.{Spelling.{number_same}, StoredReading.{one_reading, texts_are_told}}
-use Rattle.kernel_text.proofs.Serving.{all_named, images_fit, images_serve}
+use Rattle.kernel_text.proofs.{Spelling.{number_same}, StoredReading.{one_reading, texts_are_told}, Serving.{all_named, images_fit, images_serve}}
 use Rattle.repo_model.specs.declared.goals.Goal.{Goal}
 use Rattle.row_book.specs.{Numbers.{numbers}, Flags.{flag}}
 use Rattle.listed.specs.Lists.{In, has, here, there}
@@ -17,8 +16,7 @@ use Rattle.search_terms.proofs.{Certificates.{tree_derives}, Computed.{search_tr
 use Rattle.suite_compare.specs.Asking.{tree_of}
 use Rattle.suite_compare.proofs.{Ranged.{formula_ranged}, Installed.{kept}}
 use Rattle.coinst_run.specs.{declared.answer.ReportVerdict.{ReportVerdict}, Answer.{reported}, Course.{answers, then_on}, Lines.{line_of_text}}
-use Rattle.coinst_run.specs.QueryText.{no_text}
-use Rattle.coinst_run.specs.{StoredMeaning.{MeansStored, StoredMeans, StoredNo, StoredQueryIsMeant, StoredYes}, Query.{by_tree}}
+use Rattle.coinst_run.specs.{QueryText.{no_text}, StoredMeaning.{MeansStored, StoredMeans, StoredNo, StoredQueryIsMeant, StoredYes}, Query.{by_tree}}
 use Rattle.coinst_run.specs.StoredQuery.{by_reading, class_line, classes_text, stored_answer, stored_by_unknown, stored_query_answer}
 use Rattle.coinst_run.proofs.{AnswerMeant.{AnswerMeans, means_more, told_means, tree_means}, Given.{Reported, at_end, file_read}}
 

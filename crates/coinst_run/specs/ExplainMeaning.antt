@@ -8,8 +8,7 @@ use Rattle.listed.specs.Lists.{In}
 use Rattle.search_terms.specs.Tree.{failed_leaves}
 use Rattle.suite_compare.specs.{Asking.{asked_tree}, Refusals.{home_in, packages_in}}
 use Rattle.coinst_run.specs.{declared.answer.ReportVerdict.{ReportVerdict}, declared.answer.ReportVerdict.TheVariants.{Done, Negative, Undecided}}
-use Rattle.coinst_run.specs.{Answer.{reported}, Explain.{explain_course}, ExplainText.{core_text, yes_line}, Outcome.{Gives}}
-use Rattle.coinst_run.specs.QueryMeaning.{UndecidedMeans}
+use Rattle.coinst_run.specs.{Answer.{reported}, Explain.{explain_course}, ExplainText.{core_text, yes_line}, Outcome.{Gives}, QueryMeaning.{UndecidedMeans}}
 
 -- The goals are co-installable.
 pub record ExplainedYes (text : List ℕ) (goals : List Goal) (budget limit : ℕ) (hold : Bool) (printed : List ℕ) : Type 0 where

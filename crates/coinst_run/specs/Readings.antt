@@ -3,8 +3,8 @@ use Rattle.std.specs.{Prelude.{◌≡◌, ℕ, List, [], ◌∷◌, ◌++◌, Op
 use Rattle.byte_flow.specs.{Flow.{Files}, History.{Reading, noted}, Models.{ShelfModel, SinkModel}, Transfer.{HandsOver, Sent}}
 use Rattle.coinst_words.specs.{Jobs.{job_of}, declared.job.Job.{Job}}
 use Rattle.coinst_run.specs.{declared.answer.Cause.{Cause}, declared.answer.Cause.TheVariants.{Content, ClauseLimit, UnknownGoal, TooLarge}}
-use Rattle.coinst_run.specs.{declared.answer.ReportVerdict.{ReportVerdict}, declared.status.Status.{Status}, Status.{code_of, verdict_status}}
-use Rattle.coinst_run.specs.{Answer.{refused}, Meaning.{course_of}, Outcome.{Gives, file_limit}}
+use Rattle.coinst_run.specs.{declared.answer.ReportVerdict.{ReportVerdict}, declared.status.Status.{Status}, Status.{code_of, verdict_status}, Answer.{refused}}
+use Rattle.coinst_run.specs.{Meaning.{course_of}, Outcome.{Gives, file_limit}}
 
 -- These files were read one after another, each whole, by these calls of the shelf and no others: each is a path, and the text that
 -- the reads of its reading handed over.

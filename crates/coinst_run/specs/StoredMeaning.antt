@@ -8,8 +8,7 @@ use Rattle.listed.specs.Lists.{Ascending, In, has}
 use Rattle.search_terms.specs.{declared.literals.Literal.{Literal}, Derives.{Derives}, Form.{form}, Tree.{failed_leaves}}
 use Rattle.suite_compare.specs.Asking.{tree_of}
 use Rattle.coinst_run.specs.{declared.answer.ReportVerdict.{ReportVerdict}, declared.answer.ReportVerdict.TheVariants.{Done, Negative, Undecided}}
-use Rattle.coinst_run.specs.{Answer.{reported}, Outcome.{Gives}, QueryText.{no_text, undecided_text}}
-use Rattle.coinst_run.specs.StoredQuery.{listed_classes, stored_query_course}
+use Rattle.coinst_run.specs.{Answer.{reported}, Outcome.{Gives}, QueryText.{no_text, undecided_text}, StoredQuery.{listed_classes, stored_query_course}}
 
 -- The goals are co-installable: the printed classes, which no other ones are printed as, are ascending and serve them.
 pub record StoredYes (kernel : KernelContent) (goals : List Goal) (budget : ℕ) (printed : List ℕ) : Type 0 where

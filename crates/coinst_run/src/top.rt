@@ -3,7 +3,8 @@ ghost use Rattle.std.specs.Prelude.{◌≡◌, ◌⊎◌, IfSome, None, Option, 
 ghost use Rattle.byte_flow.specs.Flow.{Rose};
 ghost use Rattle.claims.specs.Sentences.{CompareIsTrue, ExplainIsTrue, KernelIsSettled, KernelIsTrue, MigrateIsTrue, QueryIsTrue, StatusIsTrue, StoredQueryIsTrue};
 ghost use Rattle.coinst_run.specs.{Delivers.{Delivers, Tells}, Ending.{ending_of}, Follows.{Follows, FollowsJob}, Meaning.{IsMeant, course_of, outcome_of}};
-ghost use Rattle.coinst_run.specs.{Outcome.{Outcome}, Readings.{IsOfText, Prints, Refuses, Reports}, Run.{Answers, Completes}, Status.{cause_status, verdict_status}, declared.answer.Cause.{Cause}, declared.answer.ReportVerdict.{ReportVerdict}};
+ghost use Rattle.coinst_run.specs.{Outcome.{Outcome}, Readings.{IsOfText, Prints, Refuses, Reports}, Run.{Answers, Completes}};
+ghost use Rattle.coinst_run.specs.{Status.{cause_status, verdict_status}, declared.answer.Cause.{Cause}, declared.answer.ReportVerdict.{ReportVerdict}};
 ghost use Rattle.coinst_words.specs.Jobs.{IsInLimits, job_of};
 
 use crate::answer::{Report, Stop};

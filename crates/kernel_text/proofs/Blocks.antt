@@ -8,8 +8,8 @@ use Rattle.listed.proofs.Lists.{In_cases, In_has, In_none, In_map, In_map_cases,
 use Rattle.listed.proofs.Orders.{ascending_same, ascending_filter}
 use Rattle.row_book.proofs.{Numbers.{numbers_from, numbers_ascending, length_numbers, at_numbers}, Pairs.{is_of, paired_cases}}
 use Rattle.kernel_text.specs.{declared.member.Member.{Member}, KernelLines.{KernelLine, HeadLine, ClassLine, NeedsLine, AgainstLine, EndLine}}
-use Rattle.kernel_text.specs.{Reading.{clauses_of_class}, KernelText.{class_lines, greater_conflicts, held_lines, kernel_lines, line_of_member}}
-use Rattle.kernel_text.specs.Reading.{Reading, ClassClause}
+use Rattle.kernel_text.specs.Reading.{clauses_of_class, Reading, ClassClause}
+use Rattle.kernel_text.specs.KernelText.{class_lines, greater_conflicts, held_lines, kernel_lines, line_of_member}
 use Rattle.kernel_text.proofs.LineCuts.{with_lines}
 use Rattle.kernel_text.proofs.Printed.{reading_at, clause_entry, held_entries, pair_of, last_of, with_append, members_reading, held_reading, clauses_reading, conflicts_reading, held_last, clauses_last, conflicts_last, regrouped}
 use Rattle.kernel_text.proofs.{Retold.{eqb_other}, ClassLines.{Block, FitBlock, FitBlocks, HeldInSecond, block_lines, empty, over_blocks}}

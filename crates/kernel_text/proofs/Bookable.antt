@@ -9,8 +9,7 @@ use Rattle.kernel_text.specs.{declared.member.Member.{Member}, Booking.{IsBookab
 use Rattle.kernel_text.specs.KernelLines.{KernelLine, HeadLine, ClassLine, MemberLine, HeldLine, NeedsLine, AgainstLine, EndLine, lines_of}
 use Rattle.kernel_text.specs.{Reader.{IsInRange}, KernelText.{IsWritable}}
 use Rattle.kernel_text.specs.Reading.{ClassClause, Reading, clauses_of_class, empty_reading, number_limit, repository_of_reading, this_class, with_line}
-use Rattle.kernel_text.proofs.Allowed.{IsAllowed, IsEnded, IsRead, LinesGive, MayAddClause, MayAddConflict, MayAddHeld, MayAddMember}
-use Rattle.kernel_text.proofs.ReadIsWritten.{written}
+use Rattle.kernel_text.proofs.{Allowed.{IsAllowed, IsEnded, IsRead, LinesGive, MayAddClause, MayAddConflict, MayAddHeld, MayAddMember}, ReadIsWritten.{written}}
 
 -- the last line stands in the block of a class
 abbrev InBlock : Option KernelLine → Type 0

@@ -12,8 +12,8 @@ use Rattle.listed.specs.Lists.{In, here, there}
 use Rattle.listed.proofs.Lists.{In_append_cases, In_cases, In_map, In_map_cases, In_none, filter_cases}
 use Rattle.row_book.proofs.Numbers.{at_numbers, length_numbers}
 use Rattle.kernel_text.specs.{declared.reader.Clause.{Clause}, Booking.{AreRows, HasIdsByClass, IsBookable}}
-use Rattle.kernel_text.specs.{Reading.{clauses_of_class, repository_of_reading}, declared.reader.Reader.{Reader}, Reader.{Holds, entry_of}}
-use Rattle.kernel_text.specs.Reading.{ClassClause, Reading}
+use Rattle.kernel_text.specs.{Reading.{clauses_of_class, repository_of_reading, ClassClause, Reading}, declared.reader.Reader.{Reader}}
+use Rattle.kernel_text.specs.Reader.{Holds, entry_of}
 use Rattle.kernel_text.proofs.Retold.{eqb_other}
 
 pub no_ids : (pool : Interned) (classes : ℕ) (table : List (List ℕ)) → length table ≡ classes → ((n : ℕ) → listed_for table n ≡ []) → HasIdsByClass pool [] classes table

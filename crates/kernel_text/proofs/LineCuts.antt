@@ -7,8 +7,7 @@ use Rattle.relation_fields.proofs.Bytes.{version_bytes}
 use Rattle.listed.specs.Lists.{In, here, there}
 use Rattle.kernel_text.specs.KernelLines.{KernelLine, HeadLine, ClassLine, MemberLine, HeldLine, NeedsLine, AgainstLine, EndLine, lines_of, line_text, behind_space}
 use Rattle.kernel_text.specs.Reading.{Reading, with_line, number_limit}
-use Rattle.kernel_text.proofs.Allowed.{IsAllowed, LinesGive}
-use Rattle.kernel_text.proofs.Spelling.{Plain, decimal_plain, format_low, name_plain}
+use Rattle.kernel_text.proofs.{Allowed.{IsAllowed, LinesGive}, Spelling.{Plain, decimal_plain, format_low, name_plain}}
 
 -- no line feed
 abbrev pub no_feed : List ℕ → Bool

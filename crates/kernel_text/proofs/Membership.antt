@@ -7,9 +7,7 @@ use Rattle.listed.proofs.Lists.{In_none}
 use Rattle.package_register.specs.{Numbers.{numbers_where, passes_at}, Registers.{is_version_of}}
 use Rattle.package_register.proofs.Numbered.{numbered_pass, passing_numbered}
 use Rattle.repo_model.proofs.Indexed.{either_way}
-use Rattle.kernel_text.specs.declared.member.Member.{Member}
-use Rattle.kernel_text.specs.KernelLines.{MemberLine, NeedsLine}
-use Rattle.kernel_text.specs.{Reader.{IsNew}, Reading.{is_same_member}}
+use Rattle.kernel_text.specs.{declared.member.Member.{Member}, KernelLines.{MemberLine, NeedsLine}, Reader.{IsNew}, Reading.{is_same_member}}
 use Rattle.kernel_text.proofs.GoalImages.{got_in, in_got, none_there}
 
 pub other_line : (name version clause : List ℕ) → Some (MemberLine name version) ≡ Some (NeedsLine clause) → ⊥

@@ -9,8 +9,7 @@ use Rattle.listed.proofs.Lists.{In_cases, In_append_right}
 use Rattle.kernel_text.specs.{declared.member.Member.{Member}, KernelLines.{KernelLine, ClassLine, MemberLine, HeldLine, NeedsLine, AgainstLine}}
 use Rattle.kernel_text.specs.KernelText.{AreSingle, class_lines, greater_conflicts, held_lines, line_of_member, members_of}
 use Rattle.kernel_text.specs.Reading.{Reading, ClassClause, with_line, number_limit, is_same_member, IsNamed}
-use Rattle.kernel_text.proofs.Allowed.{IsClauseOf, MayBegin, MayAddMember, MayAddClause, MayAddConflict, MayAddHeld}
-use Rattle.kernel_text.proofs.LineCuts.{with_lines, AreAllowed}
+use Rattle.kernel_text.proofs.{Allowed.{IsClauseOf, MayBegin, MayAddMember, MayAddClause, MayAddConflict, MayAddHeld}, LineCuts.{with_lines, AreAllowed}}
 
 -- of a format, with held classes
 abbrev pub reading_at : ℕ → List ℕ → Option KernelLine → ℕ → List Member → List ClassClause → List Pair → Reading

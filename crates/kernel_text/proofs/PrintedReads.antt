@@ -9,8 +9,7 @@ use Rattle.row_book.proofs.{Books.{in_listed}, Numbers.{numbers_ascending, numbe
 use Rattle.kernel_text.specs.{declared.member.Member.{Member}, KernelLines.{KernelLine, HeadLine, EndLine, lines_of, line_text}}
 use Rattle.kernel_text.specs.KernelText.{AreSingle, IsWritable, class_lines, kernel_lines, kernel_text}
 use Rattle.kernel_text.specs.Reading.{Reading, ClassClause, empty_reading, number_limit, repository_of_reading}
-use Rattle.kernel_text.proofs.Allowed.{IsRead, LinesGive}
-use Rattle.kernel_text.proofs.LineCuts.{with_lines, AreAllowed, text_gives}
+use Rattle.kernel_text.proofs.{Allowed.{IsRead, LinesGive}, LineCuts.{with_lines, AreAllowed, text_gives}}
 use Rattle.kernel_text.proofs.Printed.{Blocks, IsBlock, all_blocks, allowed_append, clause_entry, clause_entries, held_of, pairs_of, reading_at, with_append}
 use Rattle.kernel_text.proofs.Retold.{clauses_retold, conflicts_retold, high_low}
 

@@ -4,14 +4,13 @@ use Rattle.std.specs.List.{flat_map, onto_first}
 use Rattle.row_book.specs.Repository.{Repository}
 use Rattle.kernel_text.specs.declared.member.Member.{Member}
 use Rattle.kernel_text.specs.KernelLines.{KernelLine, HeadLine, ClassLine, MemberLine, HeldLine, NeedsLine, AgainstLine, EndLine, lines_of, line_text}
-use Rattle.kernel_text.specs.{Reader.{IsInRange}}
-use Rattle.kernel_text.specs.{KernelText.{AreSingle, IsWritable, held_lines, kernel_lines, kernel_text, line_of_member}, Laws.{ReadIsWritten}}
-use Rattle.kernel_text.specs.Reading.{IsFormat, Reading, empty_reading, number_limit, repository_of_reading, with_line}
+use Rattle.kernel_text.specs.{Reader.{IsInRange}, KernelText.{AreSingle, IsWritable, held_lines, kernel_lines, kernel_text, line_of_member}}
+use Rattle.kernel_text.specs.{Laws.{ReadIsWritten}, Reading.{IsFormat, Reading, empty_reading, number_limit, repository_of_reading, with_line}}
 use Rattle.kernel_text.proofs.Allowed.{IsEnded, IsRead, LinesGive, some_none}
 use Rattle.kernel_text.proofs.Blocks.{BlocksRead, NotEnd, blocks_reading, clause_entries_in, held_in, lines_are, members_in, pairs_in, reading_of_blocks}
 use Rattle.kernel_text.proofs.{LineCuts.{with_lines, AreAllowed}, Printed.{reading_at, with_append}}
-use Rattle.kernel_text.proofs.ClassLines.{ArePopulated, Block, FitBlocks, HeldInSecond, block_lines, over_blocks}
-use Rattle.kernel_text.proofs.{Shape.{IsOfEnd, IsTail, Shaped, shape}, Writable.{single_lines, writable}}
+use Rattle.kernel_text.proofs.{ClassLines.{ArePopulated, Block, FitBlocks, HeldInSecond, block_lines, over_blocks}, Shape.{IsOfEnd, IsTail, Shaped, shape}}
+use Rattle.kernel_text.proofs.Writable.{single_lines, writable}
 
 -- a text is its lines
 onto_flat : (b : ℕ) (xs : List (List ℕ)) → flat_map (λ (x : List ℕ). x) (onto_first b xs) ≡ b ∷ flat_map (λ (x : List ℕ). x) xs

@@ -7,8 +7,7 @@ use Rattle.listed.proofs.Lists.{In_cases, In_none}
 use Rattle.clause_pool.proofs.Order.{before_trans}
 use Rattle.kernel_text.specs.declared.member.Member.{Member}
 use Rattle.kernel_text.specs.KernelLines.{KernelLine, HeadLine, ClassLine, MemberLine, HeldLine, NeedsLine, AgainstLine, EndLine}
-use Rattle.kernel_text.specs.KernelText.{held_lines, line_of_member}
-use Rattle.kernel_text.specs.Reading.{Reading, IsNamed, with_line, this_class, member_of_line}
+use Rattle.kernel_text.specs.{KernelText.{held_lines, line_of_member}, Reading.{Reading, IsNamed, with_line, this_class, member_of_line}}
 use Rattle.kernel_text.proofs.Allowed.{IsAllowed, IsClauseOf, MayBegin, MayAddMember, MayAddClause, MayAddConflict, MayAddHeld, some_none}
 use Rattle.kernel_text.proofs.ClassLines.{ArePopulated, Block, FitBlock, FitBlocks, HeldInSecond, block_lines, empty, empty_fits, over_blocks}
 use Rattle.kernel_text.proofs.LineCuts.{AreAllowed, with_lines}

@@ -8,11 +8,10 @@ use Rattle.listed.specs.Lists.{In, here, there}
 use Rattle.row_book.proofs.{Books.{in_listed}, Numbers.{at_numbers}, Pairs.{length_pairs, pairs_conflict}}
 use Rattle.listed.proofs.Lists.{In_none, In_cases, In_append_cases, In_map_cases, filter_cases}
 use Rattle.kernel_text.specs.declared.member.Member.{Member}
-use Rattle.kernel_text.specs.KernelLines.{KernelLine, HeadLine, ClassLine, MemberLine, HeldLine, NeedsLine, AgainstLine, EndLine}
-use Rattle.kernel_text.specs.{Reader.{IsInRange, IsNew}, KernelText.{AreSingle, IsWritable, members_of}}
+use Rattle.kernel_text.specs.{KernelLines.{KernelLine, HeadLine, ClassLine, MemberLine, HeldLine, NeedsLine, AgainstLine, EndLine}, Reader.{IsInRange, IsNew}}
+use Rattle.kernel_text.specs.KernelText.{AreSingle, IsWritable, members_of}
 use Rattle.kernel_text.specs.Reading.{Reading, ClassClause, IsFormat, IsNamed, clauses_of_class, is_same_member, member_of_line, number_limit, repository_of_reading, with_line}
-use Rattle.kernel_text.proofs.Allowed.{IsAllowed, IsClauseOf}
-use Rattle.kernel_text.proofs.LineCuts.{AreAllowed, with_lines}
+use Rattle.kernel_text.proofs.{Allowed.{IsAllowed, IsClauseOf}, LineCuts.{AreAllowed, with_lines}}
 use Rattle.kernel_text.proofs.Blocks.{R_read, by_blocks, clause_entries_in, clauses_are, fit_at, held_ascending, held_bounds, held_in, keyed_members, members_in, none_held, picked, reading_of_blocks, rising, size_is}
 use Rattle.kernel_text.proofs.ClassLines.{ArePopulated, Block, FitBlocks, HeldInSecond, empty, over_blocks}
 

@@ -3,8 +3,8 @@ ghost use Rattle.std.specs.Prelude.{◌≡◌, ◌∷◌, ◌++◌, ◌<◌, ℕ
 ghost use Rattle.clause_pool.specs.{Interned.{clauses_at, Kept, OfPool}, Lists.{InOrder}};
 ghost use Rattle.row_book.specs.Book.{AddsOnly, listed_for, repository_of, Sound};
 ghost use Rattle.listed.specs.Lists.{Ascending, In};
-ghost use Rattle.kernel_text.specs.{Booking.{AreRows, GainsClauses, GainsRows, HasIdsByClass, IsBookable}, Reading.{repository_of_reading}};
-ghost use Rattle.kernel_text.specs.{Reader.{entry_of, Holds}, Reading.{Reading}, declared.reader.Clause.{Clause}};
+ghost use Rattle.kernel_text.specs.{Booking.{AreRows, GainsClauses, GainsRows, HasIdsByClass, IsBookable}, Reading.{repository_of_reading, Reading}};
+ghost use Rattle.kernel_text.specs.{Reader.{entry_of, Holds}, declared.reader.Clause.{Clause}};
 
 use crate::reader::{Clause, Reader};
 use clause_pool::{ClauseId, Pool, RowId};

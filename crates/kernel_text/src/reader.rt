@@ -2,9 +2,8 @@
 ghost use Rattle.std.specs.Prelude.{◌≡◌, ◌<◌, ◌-◌, ℕ, true, IfOk};
 ghost use Rattle.listed.specs.Lists.{In};
 ghost use Rattle.kernel_text.specs.KernelLines.{AgainstLine, ClassLine, EndLine, HeadLine, HeldLine, MemberLine, NeedsLine};
-ghost use Rattle.kernel_text.specs.Reader.{last_clause, Adds, Enters, Holds, Takes};
-ghost use Rattle.kernel_text.specs.{StoredReading.{is_ended}};
-ghost use Rattle.kernel_text.specs.{Members.{IsMemberRegister}, Reading.{empty_reading, IsFormat, IsNamed, may_add_clause, may_add_conflict, may_add_held, may_add_member, may_begin, number_limit, Reading}};
+ghost use Rattle.kernel_text.specs.{Reader.{last_clause, Adds, Enters, Holds, Takes}, StoredReading.{is_ended}, Members.{IsMemberRegister}};
+ghost use Rattle.kernel_text.specs.Reading.{empty_reading, IsFormat, IsNamed, may_add_clause, may_add_conflict, may_add_held, may_add_member, may_begin, number_limit, Reading};
 ghost use Rattle.kernel_text.specs.Words.{IsWellFormed, line_of_content};
 
 use crate::clause_shape::is_ascending;

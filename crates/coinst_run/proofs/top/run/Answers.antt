@@ -2,7 +2,9 @@ use Rattle.std.proofs.Common.{map}
 use Rattle.std.specs.Prelude.{string_bytes}
 use Rattle.coinst_run.specs.Ending.{ending_of}
 use Rattle.claims.specs.Sentences.{CompareIsTrue, ExplainIsTrue, KernelIsSettled, KernelIsTrue, MigrateIsTrue, QueryIsTrue, StatusIsTrue, StoredQueryIsTrue}
-use Rattle.coinst_run.proofs.{ExplainSentence.{explain_is_true}, MigrateSentence.{migrate_is_true}, QuerySentences.{kernel_is_settled, query_is_true, stored_query_is_true}, Sentences.{compare_is_true, kernel_is_true}, StatusSentence.{status_is_true}}
+use Rattle.coinst_run.proofs.{ExplainSentence.{explain_is_true}, MigrateSentence.{migrate_is_true}}
+use Rattle.coinst_run.proofs.{QuerySentences.{kernel_is_settled, query_is_true, stored_query_is_true}, Sentences.{compare_is_true, kernel_is_true}}
+use Rattle.coinst_run.proofs.StatusSentence.{status_is_true}
 use Rattle.coinst_run.proofs.Runs.{answers_run, completes_run, cut_rose, meaning_run, no_job_run, read_fault_run, refuses_run, sentence_run, words_run}
 use Rattle.coinst_run.proofs.top.run.Goals as goal
 

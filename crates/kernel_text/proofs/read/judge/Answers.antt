@@ -1,8 +1,7 @@
 use Rattle.std.proofs.Common.{map, ap, sym, subst, ◌∙◌, Some}
 use Rattle.std.specs.List.{position_from}
-use Rattle.kernel_text.specs.{KernelLines.{lines_of}, Reader.{RangeIsTold, entry_of}, StoredReading.{strays}}
+use Rattle.kernel_text.specs.{KernelLines.{lines_of}, Reader.{RangeIsTold, entry_of}, StoredReading.{strays}, Reading.{empty_reading}}
 use Rattle.kernel_text.proofs.{InRange.{in_range}, Steps.{end_fault, ranged}, StoredReading.{lines_given}}
-use Rattle.kernel_text.specs.Reading.{empty_reading}
 use Rattle.kernel_text.proofs.read.judge.Goals as goal
 
 pub unreachable-requires : goal.unreachable-requires

@@ -1,5 +1,6 @@
 use Rattle.std.proofs.{lemmas.Result.{IfOk-weaker}, Common.{ℕ, List, Bool, true, false, Some, None}}
-use Rattle.kernel_text.specs.{declared.content.LineContent.{LineContent}, declared.reader.Reader.{Reader}, Reader.{Adds, Takes}, Reading.{Reading, is_allowed}, Words.{LineIsRead, line_of_content}}
+use Rattle.kernel_text.specs.{declared.content.LineContent.{LineContent}, declared.reader.Reader.{Reader}, Reader.{Adds, Takes}, Reading.{Reading, is_allowed}}
+use Rattle.kernel_text.specs.Words.{LineIsRead, line_of_content}
 use Rattle.kernel_text.proofs.Candidates.{formed_line, is_found, none_found, not_found}
 use Rattle.kernel_text.proofs.reader.Reader.add.Goals as goal
 

@@ -1,7 +1,7 @@
 use Rattle.std.proofs.Common.{ℕ, [], ◌∷◌, ◌++◌, ◌-◌, refl, sym, ap, ap₂, ◌∙◌, subst}
-use Rattle.kernel_text.specs.{declared.member.Member.{Member}, Members.{IsMemberRegister}, KernelLines.{MemberLine}, Reader.{Enters, IsNew}, Reading.{kind_of_last, may_add_member}}
-use Rattle.kernel_text.proofs.Allowed.{allowed_told, not_allowed, so}
-use Rattle.kernel_text.proofs.Membership.{other_line}
+use Rattle.kernel_text.specs.{declared.member.Member.{Member}, Members.{IsMemberRegister}, KernelLines.{MemberLine}, Reader.{Enters, IsNew}}
+use Rattle.kernel_text.specs.Reading.{kind_of_last, may_add_member}
+use Rattle.kernel_text.proofs.{Allowed.{allowed_told, not_allowed, so}, Membership.{other_line}}
 use Rattle.kernel_text.proofs.reader.Reader.take_member.Goals as goal
 
 -- the register is that of the members

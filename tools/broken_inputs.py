@@ -43,6 +43,7 @@ class Pair:
     architecture: str
     old: str
     new: str
+    folder: str  # for what is handed to the program, and for what is found
 
     def size(self) -> int:
         return os.path.getsize(self.old) + os.path.getsize(self.new)
@@ -53,7 +54,6 @@ class Job:
     """What each pair is studied with."""
 
     program: Program
-    folder: str
     with_sets: bool
 
 
@@ -102,7 +102,8 @@ class Inputs:
         for name, mine in self.places.items():
             if len(mine) > 2:
                 raise BadWords("%s has more than two indexes: %s" % (name, " ".join(mine)))
-        self.pairs = [Pair(name, *mine) for name, mine in sorted(self.places.items()) if len(mine) == 2]
+        pairs = [(name, *mine) for name, mine in sorted(self.places.items()) if len(mine) == 2]
+        self.pairs = [Pair(*pair, os.path.join(folder, "pair%d" % number)) for number, pair in enumerate(pairs)]
         self.alone = {name: os.path.basename(mine[0]) for name, mine in sorted(self.places.items()) if len(mine) == 1}
 
     def join_two(self) -> None:
@@ -146,14 +147,14 @@ def joined(causes: list[Found], more: list[Found]) -> list[Found]:
 
 def study(pair: Pair, job: Job) -> Study:
     """What NEW breaks of OLD on one architecture."""
-    asking = Asking(job.program, os.path.join(job.folder, pair.architecture))
+    asking = Asking(job.program, pair.folder)
     progress("%s: comparing" % pair.architecture)
     status, broken, left = asking.compare(pair.old, pair.new)
     old, new = Index(pair.old), Index(pair.new)
     if 2 * len(new.named) < len(old.named):
         raise BadWords("%s: names: %d, less than half of the %d in %s" % (pair.new, len(new.named), len(old.named), pair.old))
     causes = causes_of(old, new, broken, asking)
-    sets, more = sets_of(job.program, asking.folder, (old, new), broken, left) if job.with_sets else (None, [])
+    sets, more = sets_of(job.program, pair.folder, (old, new), broken, left) if job.with_sets else (None, [])
     return Study(
         architecture=pair.architecture, old=file_of(old), new=file_of(new), status=status, broken=len(broken), open=left,
         causes=joined(causes, more), both=set(old.named) & set(new.named), dropped=set(old.named) - set(new.named), sets=sets,
@@ -201,7 +202,7 @@ def work(pair: Pair, job: Job) -> None:
     except Exception:
         traceback.print_exc()
         sys.exit(NOT_BUILT)
-    with open(os.path.join(job.folder, pair.architecture, "study"), "wb") as file:
+    with open(os.path.join(pair.folder, "study"), "wb") as file:
         pickle.dump(found, file)
 
 
@@ -213,7 +214,7 @@ class Crew:
         self.at_work: dict[multiprocessing.process.BaseProcess, Pair] = {}
 
     def begin(self, pair: Pair) -> None:
-        os.makedirs(os.path.join(self.job.folder, pair.architecture))
+        os.mkdir(pair.folder)
         process = multiprocessing.get_context("fork").Process(target=work, args=(pair, self.job))
         process.start()
         with contextlib.suppress(OSError):  # the process does so too, whoever is first
@@ -228,7 +229,7 @@ class Crew:
             pair = self.at_work.pop(process)
             if process.exitcode:
                 sys.exit(NOT_BUILT)
-            with open(os.path.join(self.job.folder, pair.architecture, "study"), "rb") as file:
+            with open(os.path.join(pair.folder, "study"), "rb") as file:
                 yield pickle.load(file)
 
     def end(self) -> None:

@@ -13,10 +13,9 @@ from broken_allowed import Allowed
 from broken_causes import way_lines
 from broken_groups import groups_of, groups_of_names
 from broken_records import (
-    FORMAT, LINKS, Architecture, Cause, Found, Line, Off, On, Otherwise, Problem, Refused, Report, Sets, SetsOf, Source, Study,
+    FORMAT, LINKS, Architecture, Cause, Found, Line, Off, On, Otherwise, Problem, Refused, Report, Sets, SetsOf, Source, Study, own_file,
 )
 from broken_use import Use
-from built import TOP
 from debian_index import TEXT
 
 
@@ -25,13 +24,10 @@ def made() -> str:
     return time.strftime("%Y-%m-%dT%H:%M:%SZ", time.gmtime(int(os.environ.get("SOURCE_DATE_EPOCH", time.time()))))
 
 
-def version() -> str | None:
+def version() -> str:
     """The version of these sources."""
-    try:
-        with open(os.path.join(TOP, "VERSION"), encoding="utf-8") as file:
-            return file.read().strip()
-    except OSError:
-        return None
+    with open(own_file("VERSION"), encoding="utf-8") as file:
+        return file.read().strip()
 
 
 def id_of(key: str) -> str:

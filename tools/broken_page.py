@@ -15,7 +15,7 @@ from broken_text import (
     FRESH, KINDS, all_changes, counted, in_order, made_text, mended_text, number_of, number_rows, open_lines, problem_lines, sets_remarks,
     sign_of, title_of, where,
 )
-from command import HERE
+from built import HERE
 from drawing import dot_of, svgs
 
 FEW = 8  # names that stand without unfolding

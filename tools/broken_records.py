@@ -11,13 +11,12 @@ import types
 import typing
 from collections.abc import Iterable, Iterator
 
-from built import TOP
+from built import HERE, TOP
 from command import BadWords
 from debian_index import TEXT
 from json_schema import faults
 
 FORMAT = "coinst-report 1"
-SCHEMA = os.path.join(TOP, "docs", "report.schema.json")
 LINKS = {
     "source": "https://tracker.debian.org/pkg/{source}", "bugs": "https://bugs.debian.org/src:{source}",
     "bug": "https://bugs.debian.org/{bug}", "package": "https://packages.debian.org/{package}",
@@ -385,7 +384,7 @@ class Report:
 
     format: str
     made: str
-    coinst: str | None
+    coinst: str
     program: str
     options: list[str]
     all_on: list[str]
@@ -405,6 +404,15 @@ class Report:
 
 
 # JSON
+
+
+def own_file(name: str, folder: str = "") -> str:
+    """A file of these sources, or the one that tools/install put beside the scripts."""
+    path = os.path.join(TOP, folder, name)
+    return path if os.path.exists(path) else os.path.join(HERE, name)
+
+
+SCHEMA = own_file("report.schema.json", "docs")
 
 
 @functools.lru_cache(None)

@@ -1,9 +1,10 @@
 """Finds the sets of three names and more that NEW has lost, has the program confirm each, and sorts them under causes.
 
 They are found on the two kernels that the program prints, by the rule of lost_sets.py. What is printed, the program alone says: a name
-that depends on all names of a set is put into both indexes, one for each set, and `compare` lists those that NEW has lost. That no
-smaller set is lost, the pair lines say for sets of three; larger ones are tried in the same way, without one name at a time. The names
-and pairs that the rule finds have to be the lines of `compare`. That there are no other sets is the word of this script.
+that depends on all names of a set is put into a slice of both indexes, one for each set, and `compare` lists those that NEW has lost. That
+no smaller set is lost, the pair lines say for sets of three; larger ones are tried in the same way, without one name at a time. The
+names and pairs that the rule finds have to be the lines of `compare`. That there are no other sets is the word of this script. A set
+with a name that no element can name alone, as another package provides it in the same version, is left open.
 
 A cause is looked for on one set for each problem of NEW that has no cause yet. Under it stand the sets that are well without the
 change, by the program's word, and that no cause of fewer changes, or a wider one, of the same round mends.
@@ -144,8 +145,10 @@ class SetSearch:
     def name_of(self, kind: int) -> str:
         """The name of a kind that most dependencies of NEW name, among those that an element can name alone."""
         names = self.found.members[kind]
-        fit = [name for name in names if self.asking.exactly(self.old, name) and self.asking.exactly(self.new, name)]
-        return max(fit or names, key=lambda name: self.new.asked[name])
+        return max(list(filter(self.fits, names)) or names, key=lambda name: self.new.asked[name])
+
+    def fits(self, name: str) -> bool:
+        return all(self.asking.exactly(index, name) for index in (self.old, self.new))
 
     def size(self, kinds: Kinds) -> int:
         return math.prod(len(self.found.members[kind]) for kind in kinds)
@@ -161,10 +164,13 @@ class SetSearch:
 
     def confirm(self) -> None:
         """Has the program say that each set is lost and no smaller one; those that it leaves open go to `open`."""
-        lines = list(self.lines.values())
+        self.open = [kinds for kinds, line in self.lines.items() if not all(map(self.fits, line))]
+        lines = [line for kinds, line in self.lines.items() if kinds not in self.open]
         broken, left = self.asking.are_lost(lines, self.old, self.new) if lines else (set(), set())
         dead, unsure = self.asking.dead(sorted({small for line in lines if len(line) > 3 for small in smaller(line)}), self.new)
         for kinds, line in self.lines.items():
+            if kinds in self.open:
+                continue
             if line in left or unsure.intersection(smaller(line)):
                 self.open.append(kinds)
             elif line not in broken or dead.intersection(smaller(line)):

@@ -168,7 +168,7 @@ def title_of(report: Report) -> str:
 def made_text(report: Report) -> str:
     options = " with " + " ".join(report.options) if report.options else ""
     use = ", by use as %s has it" % report.popcon if report.popcon else ""
-    return "made %s by coinst %s%s%s" % (report.made, report.coinst or "", options, use)
+    return "made %s by coinst %s%s%s" % (report.made, report.coinst, options, use)
 
 
 # The text

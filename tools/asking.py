@@ -25,9 +25,11 @@ Lines = typing.List[typing.List[str]]
 class Question:
     """A question that the program answers meanwhile; it ends with the block."""
 
-    def __init__(self, program: Program, what: str, words: typing.Sequence[str], options: typing.Sequence[str] = ()) -> None:
+    def __init__(
+        self, program: Program, what: str, words: typing.Sequence[str], options: typing.Sequence[str] = (), out: typing.IO[bytes] | None = None
+    ) -> None:
         command = [program.path, what, *program.options, *options, "--", *words]
-        self.process = subprocess.Popen(command, stdin=subprocess.DEVNULL, stdout=subprocess.PIPE, stderr=subprocess.PIPE, **TEXT)
+        self.process = subprocess.Popen(command, stdin=subprocess.DEVNULL, stdout=out or subprocess.PIPE, stderr=subprocess.PIPE, **TEXT)
 
     def __enter__(self) -> Question:
         return self
@@ -44,7 +46,7 @@ class Question:
         if status not in (0, 1, 8) and status not in also:
             sys.stderr.write(shown(fault))
             sys.exit(status if status > 0 else NOT_BUILT)
-        return status, [line.split() for line in out.splitlines()]
+        return status, [line.split() for line in (out or "").splitlines()]
 
 
 @dataclasses.dataclass

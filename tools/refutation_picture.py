@@ -14,7 +14,7 @@ from command import BadWords
 from debian_index import TEXT, Index, Package
 from older import Older
 from refutation import Conflict, Goal, Held, Need, Nogood, Refutation, Way, packages_in
-from refutation_text import Line, Phrases, Teller, is_same
+from refutation_text import Line, Phrases, Teller, is_same, plain_text
 
 HEAD = """digraph why {
   rankdir=TB; bgcolor="transparent"; nodesep=0.35; ranksep=0.35; margin=0.05;
@@ -34,11 +34,6 @@ Boxes = typing.Dict[Held, str]
 def quoted(text: str) -> str:
     """A text as a label."""
     return '"%s"' % text.replace("\\", "\\\\").replace('"', '\\"').replace("\n", "\\n")
-
-
-def plain(text: str) -> str:
-    """A text without marks."""
-    return " ".join(Line(0, "", text).wrapped(10_000))
 
 
 def folded(relation: str) -> str:
@@ -93,7 +88,7 @@ class Picture:
         self.edge(held[reason.one], held[reason.other], label + ("\n(new)" if is_new else ""), CLASH)
 
     def nothing(self, need: Need, held: Boxes) -> None:
-        had = "\n".join(plain(self.phrases.had(atom.name)) for atom in self.index.atoms(need.element))
+        had = "\n".join(plain_text(self.phrases.had(atom.name)) for atom in self.index.atoms(need.element))
         fails = self.box("nothing satisfies %s\nthe index has %s" % (folded(need.element), had), FAILS)
         self.edge(held[need.owner], fails, "", self.style(need))
         before = self.older and self.older.satisfied(need.owner, need.element) if not isinstance(need.owner, Goal) else ""
@@ -120,7 +115,7 @@ class Picture:
     def need(self, need: Need, held: Boxes) -> None:
         groups = self.groups(need)
         is_goal = isinstance(need.owner, Goal)
-        absent = [] if is_goal else [text.partition(":")[0] for text in map(plain, self.phrases.absent(need.element))]
+        absent = [] if is_goal else [text.partition(":")[0] for text in map(plain_text, self.phrases.absent(need.element))]
         start = held.get(need.owner)
         label = "" if is_goal else folded(need.element)
         if len(groups) + len(absent) > 1:

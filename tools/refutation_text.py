@@ -53,6 +53,11 @@ def marked(relation: str) -> str:
     return BOUND.sub("(\\1 \x03\\2\x04)", relation)
 
 
+def plain_text(text: str) -> str:
+    """A phrase without its marks, on one line."""
+    return " ".join(Line(0, "", text).wrapped(1_000_000))
+
+
 def is_same(blocks: typing.Sequence[Block]) -> bool:
     """Whether blocks are the same but for versions."""
     return len({tuple((line.indent, line.bullet, line.plain()) for line in block) for block in blocks}) == 1

@@ -15,7 +15,7 @@ from debian_index import TEXT, BadIndex, Index
 from index_part import reached
 from inputs import shown
 
-LIMIT, UNKNOWN = 4, 9  # statuses of the program
+FAULT, LIMIT, UNKNOWN = 3, 4, 9  # statuses of the program
 HELD = ("--clause-limit", "512", "--hold")
 SEVERAL = 10  # if one name in so many has several versions, the index is of several suites
 LARGE = 20_000  # packages of an index that is looked at so
@@ -131,6 +131,12 @@ def ask_goals(program: Program, what: str, path: str, goals: typing.Sequence[str
     return ask_part(program, what, index, goals, folder, why)
 
 
+def tell_fault(program: Program, path: str, goals: typing.Sequence[str]) -> None:
+    """Ends the script with what the program says of an index whose part it refused: only so the line is that of the index."""
+    with Question(program, "query", [path, *goals]) as question:
+        question.answer((LIMIT,))
+
+
 def ask_part(program: Program, what: str, index: Index, goals: typing.Sequence[str], folder: str, why: str) -> Answer:
     """Asks what the goals reach, if need be with --hold, and says so."""
     part, count = write_part(index, goals, folder)
@@ -138,7 +144,9 @@ def ask_part(program: Program, what: str, index: Index, goals: typing.Sequence[s
     is_free = not {"--hold", "--clause-limit"} & set(program.options)
     options: tuple[str, ...] = ()
     with Question(program, what, [part, *goals]) as question:
-        status, lines = question.answer((LIMIT,) if is_free else ())
+        status, lines = question.answer((FAULT, LIMIT) if is_free else (FAULT,))
+    if status == FAULT:
+        tell_fault(program, index.path, goals)
     if status == LIMIT:
         options = HELD
         say("these pass the clause limit too, so they are asked with %s" % " ".join(options))

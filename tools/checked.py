@@ -8,7 +8,7 @@ import subprocess
 import sys
 import typing
 
-from command import HERE
+import check_refutation
 from debian_index import TEXT
 
 
@@ -20,7 +20,7 @@ class Checker:
     """The checker as a program of its own; it ends with the block."""
 
     def __init__(self, path: str, goals: typing.Sequence[str]) -> None:
-        command = [sys.executable, os.path.join(HERE, "check_refutation.py"), path, "/dev/stdin", *goals]
+        command = [sys.executable, os.path.realpath(check_refutation.__file__), path, "/dev/stdin", *goals]
         self.process = subprocess.Popen(command, stdin=subprocess.PIPE, stdout=subprocess.PIPE, stderr=subprocess.PIPE, **TEXT)
 
     def __enter__(self) -> Checker:

@@ -73,11 +73,16 @@ class Problem:
         self.hard = self.hard_needs(elements)
         self.far = self.distances()
         self.order = sorted(self.far, key=lambda p: p.place)
-        self.owners: dict[Package, list[tuple[Held, Element]]] = collections.defaultdict(list)
+        self.owners = self.owners_of()
+
+    def owners_of(self) -> dict[Package, list[tuple[Held, Element]]]:
+        """The hard needs that each package satisfies, with their owners."""
+        owners: dict[Package, list[tuple[Held, Element]]] = collections.defaultdict(list)
         for p in self.far:
             for element in self.hard[p]:
                 for q in element[1]:
-                    self.owners[q].append((p, element))
+                    owners[q].append((p, element))
+        return owners
 
     def hard_needs(self, elements: dict[Package, list[Element]]) -> dict[Held, list[Element]]:
         """The needs of packages and goals that may fail."""
@@ -160,6 +165,7 @@ class Search:
     def __init__(self, problem: Problem, seed: int, limit: Limit) -> None:
         self.problem, self.limit, self.why = problem, limit, typing.cast(Reasons, {})
         self.of: dict[Held, list[Nogood]] = collections.defaultdict(list)
+        self.model: frozenset[Held] = frozenset()  # what was held together at last without a nogood
         luck = random.Random(seed)
         self.rank: dict[Held, float] = {p: (place if seed == 0 else luck.random()) for place, p in enumerate(problem.far)}
         for conflict in problem.conflicts():
@@ -217,8 +223,10 @@ class Search:
         """A nogood of what is held; None if it can be together by these conflicts."""
         trail: list[_Forced] = []
         nogood, waiting = self.steps(held, trail)
-        if nogood is None:
-            nogood = self.split(held, min(waiting)) if waiting else None
+        if nogood is None and waiting:
+            nogood = self.split(held, min(waiting))
+        elif nogood is None:
+            self.model = frozenset(held)
         return nogood and self.back(trail, nogood)
 
     def split(self, held: set[Held], need: _Waiting) -> Nogood | None:
@@ -349,13 +357,3 @@ def by_conflicts(problem: Problem, best: Refutation | None, steps: int) -> Refut
     shorter = min((r for r in (best, found) if r), key=lambda r: r.size, default=None)
     ended = shortened(problem, shorter, steps)
     return ended and polished(ended)
-
-
-def refutation(index: Index, words: typing.Sequence[str], pairs: typing.Sequence[Pair] | None, steps: int = STEPS) -> Refutation | None:
-    """The shortest refutation that is found; None if the search passed its limit, or if the goals can be together.
-
-    `pairs`: conflicts that are enough, which give a first one and its length as a bound; None if no such are known. Then all conflicts that
-    the goals reach are taken.
-    """
-    first = by_conflicts(Problem(index, words, pairs), None, steps) if pairs is not None else None
-    return by_conflicts(Problem(index, words, None), first, steps)

@@ -121,7 +121,7 @@ class Phrases:
         """Why two packages conflict, with the first as the subject if it declares it."""
         if one.name == other.name:
             return "only one version of %s can be installed, and not %s with %s" % (one.name, one.version, other.version)
-        told = sorted(self.index.declared(one, other), key=lambda t: (t[0] is not one, t[1] != "conflicts"))
+        told = sorted(self.index.declared(one, other), key=lambda t: (not self.is_always(t[0], one, other), t[0] is not one, t[1] != "conflicts"))
         mine, kind, text = told[0]
         his = other if mine is one else one
         new = " (new)" if self.older and self.older.is_new_conflict(mine, his) else ""
@@ -130,6 +130,12 @@ class Phrases:
             return "%s %s %s%s, which %s provides" % (self.name(mine), VERBS[kind], marked(text), new, self.name(his))
         here = " (here \x03%s\x04)" % his.version if atom.operator else ""
         return "%s %s %s%s%s" % (self.name(mine), VERBS[kind], marked(text) if atom.operator else self.name(his), here, new)
+
+    def is_always(self, mine: Package, one: Package, other: Package) -> bool:
+        """Whether all versions of the name of a package declare against all of the other's."""
+        his = other if mine is one else one
+        mine_all, his_all = self.index.named[mine.name], self.index.named[his.name]
+        return all(any(who is p for who, _, _ in self.index.declared(p, q)) for p in mine_all for q in his_all)
 
     def nothing(self, owner: Held, element: str) -> str:
         """What is there in place of what nothing satisfies."""
@@ -304,7 +310,7 @@ class Telling:
                 return self.end("%s: not together, by (%d)" % (self.say.names(packages_in(nogood)), self.teller.number[nogood]))
             top = False
             if isinstance(reason, Conflict):
-                return self.end(self.say.clash(reason.one, reason.other))
+                return self.end(self.say.clash(*sorted((reason.one, reason.other), key=lambda p: (p.name, p.place))))
             following = self.goal(reason) if isinstance(reason.owner, Goal) else self.step(nogood, reason)
             if following is None:
                 self.flush()
@@ -351,14 +357,23 @@ class Telling:
         names = {way.package.name for way in need.ways}
         if len(names) > 1 or self.say.absent(need.element) or self.depth == 0:
             return False
-        blocks = [Telling(self.teller, self.indent, self.depth).tell(way.nogood, False) for way in need.ways]
+        blocks = [self.version(need, way, depends) for way in need.ways]
         if not is_same(blocks):
             return False
-        first = need.ways[0].package
-        self.add(need.owner, depends if self.say.is_by_name(first, need.element) else "%s: only %s" % (depends, self.say.offer(first, need.element)))
-        self.flush()
+        self.sentence = ""
         self.out += as_one(blocks, self.teller.note(way.package for way in need.ways))
         return True
+
+    def version(self, need: Need, way: Way, depends: str) -> Block:
+        """A relation as if one version alone satisfied it, and all that follows."""
+        one = Telling(self.teller, self.indent, self.depth)
+        one.sentence, one.last = self.sentence, self.last
+        plain = self.say.is_by_name(way.package, need.element)
+        one.add(need.owner, depends if plain else "%s: only %s" % (depends, self.say.offer(way.package, need.element)))
+        if not plain:
+            one.flush()
+        one.last = way.package
+        return one.tell(way.nogood, False)
 
     def unit_step(self, need: Need, way: Way, depends: str) -> Nogood:
         """All ways but one fail at once."""

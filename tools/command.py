@@ -4,16 +4,21 @@ A script that ends by BadWords, BadIndex or a file that it cannot open says so i
 in silence; SIGTERM ends it as an exit does, so that no folder stays; any other fault of a script ends it with status 70.
 """
 
+from __future__ import annotations
+
 import argparse
+import io
 import os
 import shutil
 import signal
 import subprocess
 import sys
+import time
 import traceback
+import typing
 
 from built import BUILT, NOT_BUILT, require, say
-from debian_index import TEXT, BadIndex
+from debian_index import TEXT, BadIndex, Package
 
 HERE = os.path.dirname(os.path.realpath(__file__))
 
@@ -22,32 +27,40 @@ class BadWords(Exception):
     """Words that a script cannot do anything with."""
 
 
-def progress(text):
-    """One line that is written over, on a terminal alone; without a text it is wiped."""
+MINUTE = 60
+_told = time.monotonic()  # when the last line of progress was written
+
+
+def progress(text: str) -> None:
+    """How far a script is: one line that is written over on a terminal, and else a line a minute; without a text it is wiped."""
+    global _told
     stream = sys.__stderr__
     if stream and stream.isatty():
         width = shutil.get_terminal_size().columns - 1
         stream.write("\r" + text[:width].ljust(width) + "\r" * (not text))
         stream.flush()
+    elif text and time.monotonic() - _told >= MINUTE:
+        _told = time.monotonic()
+        say(text)
 
 
-def parser_of(text):
+def parser_of(text: str | None) -> argparse.ArgumentParser:
     """A reader of words whose help is the head of the script."""
     return argparse.ArgumentParser(description=text, formatter_class=argparse.RawDescriptionHelpFormatter)
 
 
-def add_program(parser):
+def add_program(parser: argparse.ArgumentParser) -> None:
     parser.add_argument("--program", metavar="COINST", default=BUILT, help="the program (without this, the one that ./coinst runs)")
 
 
-def add_limits(parser):
+def add_limits(parser: argparse.ArgumentParser) -> None:
     """The options of the program that bear on its answers."""
     parser.add_argument("--budget", metavar="N", help="as the program takes it")
     parser.add_argument("--clause-limit", metavar="N", help="as the program takes it")
     parser.add_argument("--hold", action="store_true", help="as the program takes it")
 
 
-def limits_of(words):
+def limits_of(words: argparse.Namespace) -> list[str]:
     named = [("--budget", words.budget), ("--clause-limit", words.clause_limit)]
     return [word for name, value in named if value is not None for word in (name, value)] + ["--hold"] * words.hold
 
@@ -55,16 +68,16 @@ def limits_of(words):
 class Program:
     """coinst, asked with the same options again and again."""
 
-    def __init__(self, path, options=()):
+    def __init__(self, path: str, options: typing.Iterable[str] = ()) -> None:
         require(path)
         self.path, self.options = os.path.abspath(path), list(options)
 
-    def options_of(self, what):
+    def options_of(self, what: str) -> list[str]:
         """The options that a command takes; a kernel is made without a budget."""
         at = self.options.index("--budget") if what == "kernel" and "--budget" in self.options else len(self.options)
         return self.options[:at] + self.options[at + 2 :]
 
-    def ask(self, what, *words):
+    def ask(self, what: str, *words: str) -> tuple[int, list[list[str]]]:
         """The status, 0, 1 or 8, and the lines of the report in words; at any other status the script ends as the program did."""
         done = subprocess.run([self.path, what, *self.options_of(what), "--", *words], stdin=subprocess.DEVNULL, capture_output=True, **TEXT)
         if done.returncode not in (0, 1, 8):
@@ -73,15 +86,15 @@ class Program:
         return done.returncode, [line.split() for line in done.stdout.splitlines()]
 
 
-def write_out(text):
+def write_out(text: str) -> None:
     """Writes to standard output, bytes that are no UTF-8 as they came."""
     sys.stdout.buffer.write(text.encode(**TEXT))
 
 
-def write_stanzas(packages):
+def write_stanzas(packages: typing.Iterable[Package]) -> None:
     """Writes stanzas to standard output byte for byte, those that stand behind each other in one piece."""
     start = end = 0
-    data = None
+    data: bytes | None = None
     for package in packages:
         if package.data is not data or package.start != end + 2:
             if data:
@@ -94,17 +107,32 @@ def write_stanzas(packages):
         sys.stdout.buffer.write(b"\n\n")
 
 
-def run(main):
-    """Runs a script's main, and ends with what it returns, or with the status of its fault."""
+def _end(number: int, _: object) -> typing.NoReturn:
+    """Ends the script at a signal, so that nothing is left: neither folders nor programs."""
+    sys.exit(128 + number)
+
+
+def _end_by_pipe() -> None:
+    """Ends as a program does whose reader has left."""
     signal.signal(signal.SIGPIPE, signal.SIG_DFL)
-    signal.signal(signal.SIGTERM, lambda *_: sys.exit(128 + signal.SIGTERM))
-    sys.stdout.reconfigure(errors="surrogateescape")
-    sys.stderr.reconfigure(errors="surrogateescape")
+    os.kill(os.getpid(), signal.SIGPIPE)
+
+
+def run(main: typing.Callable[[], int]) -> typing.NoReturn:
+    """Runs a script's main, and ends with what it returns, or with the status of its fault."""
+    for number in (signal.SIGTERM, signal.SIGHUP):
+        signal.signal(number, _end)
+    for stream in (sys.stdout, sys.stderr):
+        typing.cast(io.TextIOWrapper, stream).reconfigure(errors="surrogateescape")
     try:
-        sys.exit(main())
+        status = main()
+        sys.stdout.flush()
+        sys.exit(status)
     except (BadWords, BadIndex) as fault:
         say(fault)
         sys.exit(2)
+    except BrokenPipeError:
+        _end_by_pipe()
     except OSError as fault:
         say("%s: %s" % (fault.filename, fault.strerror) if fault.filename else fault.strerror)
         sys.exit(2 if fault.filename else NOT_BUILT)
@@ -112,4 +140,4 @@ def run(main):
         sys.exit(130)
     except Exception:
         traceback.print_exc()
-        sys.exit(NOT_BUILT)
+    sys.exit(NOT_BUILT)

@@ -136,7 +136,11 @@ def fault_text(found: Found) -> str:
 
 
 def root_texts(calls: Calls, root: str) -> list[str]:
-    return list(dict.fromkeys("           %s: %s" % (found.architecture, fault_text(found)) for found in calls.root_faults(root)))
+    """What no source mends: of each package one fault, and all architectures on which it has one."""
+    of: dict[str, list[Found]] = {}
+    for found in calls.root_faults(root):
+        of.setdefault(found.fault.owner.split()[0], []).append(found)
+    return ["           %s: %s" % (" ".join(sorted({f.architecture for f in mine})), fault_text(mine[0])) for mine in of.values()]
 
 
 def roots_text(calls: Calls, limit: int | None = None) -> list[str]:

@@ -4,7 +4,7 @@ from __future__ import annotations
 
 import dataclasses
 import time
-from collections.abc import Callable, Iterable, Sequence
+from collections.abc import Callable, Collection, Iterable, Sequence
 
 from plan_archive import Archive
 from plan_asking import Asking, End, Outcome
@@ -16,7 +16,7 @@ SOURCES_AT_ONCE = 500  # in one index, which has the packages of both suites for
 FEW_GROUPS = 4 * GROUPS_AT_ONCE  # of more, several are first tried as one step
 STEP_SIZES = (16, 4, 1)
 MOST_PARTNERS = 400  # in a group that is tried
-MOST_TO_LESSEN = 25  # in a group of which some may be left out again
+MOST_TO_LESSEN = 12  # in a group of which some may be left out again
 Group = tuple[str, ...]
 
 
@@ -62,24 +62,45 @@ class Limits:
         return time.monotonic() > self.until
 
 
+@dataclasses.dataclass
+class Trial:
+    """A group that was refused, with the partners that it is tried with, and what refused it last."""
+
+    first: Group
+    group: set[str]
+    refusal: Refusal
+
+
+def disjoint(trials: Iterable[Trial], come: Collection[str]) -> dict[Step, Trial]:
+    """Of trials in their order those that share no source with one before them, as steps of what has not come."""
+    found: dict[Step, Trial] = {}
+    seen: set[str] = set()
+    for trial in trials:
+        group = trial.group.difference(come)
+        if len(found) < GROUPS_AT_ONCE and seen.isdisjoint(group) and (not found or len(seen | group) <= SOURCES_AT_ONCE):
+            found[Step((tuple(sorted(group)),))] = trial
+            seen |= group
+    return found
+
+
 class Batch:
     """Steps that are tried in one call, until all architectures take the same ones in the same order."""
 
-    def __init__(self, archive: Archive, come: frozenset[str], steps: Sequence[Step]) -> None:
-        self.archive, self.come, self.steps = archive, come, list(steps)
+    def __init__(self, archive: Archive, come: frozenset[str], steps: Sequence[Step], suspects: Collection[str] = ()) -> None:
+        self.archive, self.come, self.steps, self.suspects = archive, come, list(steps), suspects
         self.refusals: list[Refusal] = []
         self.took: dict[str, list[Step]] = {}
         self.has: dict[str, set[Step]] = {}
 
     def run(self) -> list[Step]:
-        """The steps that all take."""
+        """The steps that all take. The suspects, which have refused something before, are asked first: often no other need be."""
         while self.steps:
             self.leave_faults()
-            asked = [name for name in self.archive.names if not self.is_taken_by(name)]
-            answers = self.archive.ask(Asking.migrate, [step.sources for step in self.steps], self.come, only=asked) if self.steps else {}
-            refused = self.read(answers)
-            if not refused:
+            left = [name for name in self.archive.names if not self.is_taken_by(name)]
+            if not left or not self.steps:
                 break
+            asked = [name for name in left if name in self.suspects] or left
+            refused = self.read(self.archive.ask(Asking.migrate, [step.sources for step in self.steps], self.come, only=asked))
             self.steps = [step for step in self.steps if step not in refused]
         return self.steps
 
@@ -177,29 +198,51 @@ class Plan:
 
     # Partners
 
-    def attempt(self, group: set[str]) -> Refusal | None:
-        """What refuses a group on top of all that has come."""
-        tried = tuple(sorted(group))
-        batch = Batch(self.archive, frozenset(self.come), [Step((tried,))])
-        batch.run()
-        return batch.refusals[0] if batch.refusals else None
+    def passes(self, group: set[str]) -> bool:
+        """Whether a group comes on top of all that has come."""
+        return bool(Batch(self.archive, frozenset(self.come), [Step((tuple(sorted(group)),))]).run())
 
-    def grow(self, refusal: Refusal) -> set[str] | None:
-        """A larger group that all architectures take; if there is none, what refused the last is kept."""
-        group, first = set(refusal.tried), refusal.tried
+    def join(self, waiting: Iterable[Group]) -> None:
+        """Tries the groups that were refused with partners, and with more of them as long as they are refused."""
+        trials = [Trial(first, set(first), self.refusals[first]) for first in sorted(waiting, key=len)]
         for _ in range(self.limits.tries):
-            if self.limits.is_over() or self.is_lost(refusal):
+            trials = self.try_disjoint([trial for trial in trials if self.grow(trial)])
+
+    def grow(self, trial: Trial) -> bool:
+        """Takes partners into a group, if there are any to try."""
+        if self.limits.is_over() or self.come.issuperset(trial.first) or self.is_lost(trial.refusal):
+            return False
+        more, self.refusals[trial.first] = self.partners(trial.group, trial.refusal)
+        trial.group |= more
+        return bool(more) and len(trial.group) <= MOST_PARTNERS
+
+    def try_disjoint(self, trials: list[Trial]) -> list[Trial]:
+        """Tries groups, at once those that share no source; those that are refused."""
+        refused: list[Trial] = []
+        while trials and not self.limits.is_over():
+            trials = [trial for trial in trials if not self.come.issuperset(trial.first)]
+            now = disjoint(trials, self.come)
+            suspects = {name for trial in now.values() for name in trial.refusal.lines}
+            batch = Batch(self.archive, frozenset(self.come), list(now), suspects)
+            taken = self.add_lessened([(step, now[step]) for step in batch.run()])
+            for refusal in batch.refusals:
+                trial = now[Step((refusal.tried,))]
+                trial.refusal = self.refusals[trial.first] = refusal
+                refused.append(trial)
+            done = [id(trial) for trial in taken + refused]
+            trials = [trial for trial in trials if id(trial) not in done]
+        return refused
+
+    def add_lessened(self, taken: list[tuple[Step, Trial]]) -> list[Trial]:
+        """Adds steps that were taken, up to one from which something may be left out again: those after it were not tried without that."""
+        added = []
+        for step, trial in taken:
+            added.append(trial)
+            group = self.lessen(set(step.sources), trial.first)
+            self.add(Step((tuple(sorted(group)),)))
+            if len(group) < len(step.sources):
                 break
-            more, refusal = self.partners(group, refusal)
-            if not more or len(group) + len(more) > MOST_PARTNERS:
-                break
-            group |= more
-            last = self.attempt(group)
-            if last is None:
-                return group
-            refusal = last
-        self.refusals[first] = refusal
-        return None
+        return added
 
     def is_lost(self, refusal: Refusal) -> bool:
         """Whether NEW itself has lost what refuses a group."""
@@ -233,20 +276,12 @@ class Plan:
     def lessen(self, group: set[str], wanted: Iterable[str]) -> set[str]:
         """Leaves out what a group can do without: one source at a time, with all that call for it."""
         keep = set(wanted)
-        if len(group) <= MOST_TO_LESSEN:
+        if len(group - keep) > 1 and len(group) <= MOST_TO_LESSEN:  # the wanted ones alone were refused
             for source in sorted(group - keep):
                 gone = {s for s in group if source in self.calls.closure([s])}
-                if source in group and not gone & keep and not self.limits.is_over() and self.attempt(group - gone) is None:
+                if source in group and not gone & keep and not self.limits.is_over() and self.passes(group - gone):
                     group = group - gone
         return group
-
-    def join(self, waiting: list[Group]) -> None:
-        """Tries the groups that were refused with partners."""
-        for first in sorted(waiting, key=len):
-            if set(first) <= self.come or self.limits.is_over():
-                continue
-            if group := self.grow(self.refusals[first]):
-                self.add(Step((tuple(sorted(self.lessen(group, first) - self.come)),)))
 
     # The whole
 

@@ -23,6 +23,14 @@ class Found:
     fault: Fault
 
 
+@dataclasses.dataclass(frozen=True)
+class Link:
+    """A blocked source, and the fault that blocks it."""
+
+    source: str
+    found: Found
+
+
 class Calls:
     """The faults of each source that comes alone, and what follows from them."""
 
@@ -63,12 +71,13 @@ class Calls:
     def root_faults(self, source: str) -> list[Found]:
         return [found for found in self.sure(source) if not found.fault.mends]
 
-    def chain(self, source: str) -> list[Found]:
-        """From a blocked source to a root: each fault would be mended by the source of the next."""
-        chain = [self.blocked[source]]
-        while mends := chain[-1].fault.mends:
-            chain.append(self.blocked[min(mends, key=lambda s: self.order[s])])
-        return chain
+    def chain(self, source: str) -> list[Link]:
+        """From a blocked source to a root: each fault would be mended by the source of the next, or by others that are blocked."""
+        links = [Link(source, self.blocked[source])]
+        while mends := links[-1].found.fault.mends:
+            first = min(mends, key=lambda s: self.order[s])
+            links.append(Link(first, self.blocked[first]))
+        return links
 
     def waiting(self, source: str) -> list[str]:
         """What a source calls for, blocked or not: of several that would mend a fault the first by a rule of thumb."""

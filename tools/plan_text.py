@@ -9,7 +9,7 @@ from collections.abc import Iterable, Iterator, Sequence
 from typing import Any
 
 from plan_asking import End, Facts, Memory
-from plan_calls import Calls, Found
+from plan_calls import Calls, Found, Link
 from plan_faults import UNBUILT
 from plan_making import Plan, Refusal, Step
 from plan_mixes import newest
@@ -17,6 +17,7 @@ from plan_program import Line
 
 FORMAT = "coinst-plan 1"
 MOST_ROOT_SETS = 12  # that the text tells
+MOST_LINKS = 5
 
 
 def some(words: Iterable[str], limit: int, of_what: str) -> str:
@@ -112,14 +113,19 @@ class Report:
             yield "      it loses %s, which OLD can install together" % " ".join(refusal.loses)
 
     def blocked_text(self, source: str) -> list[str]:
+        """The chain to a root: each fault would be mended by the source of the next."""
         chain = self.calls.chain(source)
-        lines = ["  %s: blocked, whatever comes with it" % self.items.text(source)]
-        lines.append("      %s: %s" % (chain[0].architecture, fault_text(chain[0])))
-        if len(chain) > 1:
-            lines.append("      in the end, for %s, %s: %s" % (chain[-1].fault.source, chain[-1].architecture, fault_text(chain[-1])))
-        if chain[-1].fault.in_old:
-            lines.append("      OLD can install %s" % chain[-1].fault.owner.split()[0])
-        return lines
+        links = [self.link_text(link, link is chain[0]) for link in chain]
+        if len(links) > MOST_LINKS:
+            links[MOST_LINKS - 1 : -1] = ["      .. and so on, %d more" % (len(links) - MOST_LINKS)]
+        root = chain[-1].found.fault
+        links += ["      OLD can install %s" % root.owner.split()[0]] if root.in_old else []
+        return ["  %s: blocked, whatever comes with it" % self.items.text(source), *links]
+
+    @staticmethod
+    def link_text(link: Link, is_first: bool) -> str:
+        waits = "" if is_first else "it waits for %s, on " % link.source
+        return "      %s%s: %s" % (waits, link.found.architecture, fault_text(link.found))
 
     # The end
 
@@ -195,7 +201,7 @@ def stay_json(report: Report, source: str) -> dict[str, Any]:
     refusal = report.refused.get(source)
     item = {"item": report.items.text(source)}
     if source in report.calls.blocked:
-        return {**item, "why": "blocked", "chain": [fault_json(found) for found in report.calls.chain(source)]}
+        return {**item, "why": "blocked", "chain": [{"of": link.source, "fault": fault_json(link.found)} for link in report.calls.chain(source)]}
     if refusal is None or not refusal.is_alone():
         return {**item, "why": "not tried"}
     return {**item, "why": "lost" if report.plan.is_lost(refusal) else "refused", "refusal": refusal_json(report, refusal)}

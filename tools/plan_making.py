@@ -93,13 +93,13 @@ class Batch:
         self.has: dict[str, set[Step]] = {}
 
     def run(self) -> list[Step]:
-        """The steps that all take. The suspects, which have refused something before, are asked first: often no other need be."""
+        """The steps that all take. The suspects, which have refused some before, or else one architecture, are asked first: the others less then."""
         while self.steps:
             self.leave_faults()
             left = [name for name in self.archive.names if not self.is_taken_by(name)]
             if not left or not self.steps:
                 break
-            asked = [name for name in left if name in self.suspects] or left
+            asked = left if self.took else [name for name in left if name in self.suspects] or left[:1]
             refused = self.read(self.archive.ask(Asking.migrate, [step.sources for step in self.steps], self.come, only=asked))
             self.steps = [step for step in self.steps if step not in refused]
         return self.steps
@@ -170,6 +170,11 @@ class Plan:
             steps = [Step(tuple(todo[first : first + size])) for first in range(0, len(todo), size)]
             todo = self.take_steps(steps)
 
+    def suspects(self, steps: Iterable[Step]) -> set[str]:
+        """The architectures that have refused some of these before."""
+        refusals = [self.refusals[group] for step in steps for group in step.groups if group in self.refusals]
+        return {name for refusal in refusals for name in refusal.lines}
+
     def rest(self, group: Group) -> Group:
         """What has not come of a group; its refusal is that of the rest."""
         rest = tuple(source for source in group if source not in self.come)
@@ -182,7 +187,7 @@ class Plan:
         refused: list[Group] = []
         while steps and not self.limits.is_over():
             count = batch_size(steps)
-            batch = Batch(self.archive, frozenset(self.come), steps[:count])
+            batch = Batch(self.archive, frozenset(self.come), steps[:count], self.suspects(steps[:count]))
             for step in batch.run():
                 self.add(step)
             for refusal in batch.refusals:

@@ -6,7 +6,6 @@ import collections
 import functools
 import multiprocessing
 import signal
-import time
 import traceback
 from collections.abc import Callable, Collection, Sequence
 from multiprocessing.connection import Connection
@@ -70,10 +69,10 @@ def answers(pipe: Connection, gate: Any, make: Callable[[], Asking]) -> None:
 
 
 class Archive:
-    """The architectures; `seconds` has how long what was asked took by the clock."""
+    """The architectures, and the pipes to their processes."""
 
     def __init__(self, pairs: dict[str, Pair], make: Callable[[str, Pair], Asking], at_once: int) -> None:
-        self.names, self.seconds = sorted(pairs), collections.defaultdict[str, float](float)
+        self.names = sorted(pairs)
         gate = multiprocessing.BoundedSemaphore(at_once)
         self.pipes: dict[str, Connection] = {}
         for name in self.names:
@@ -86,14 +85,12 @@ class Archive:
         return self.ask_each(method, {name: words for name in (self.names if only is None else sorted(only))})
 
     def ask_each(self, method: Callable[..., Answer], words: dict[str, tuple[Any, ...]]) -> dict[str, Answer]:
-        start = time.monotonic()
         for name in words:
             self.pipes[name].send((method, words[name]))
         found = {name: self.pipes[name].recv() for name in words}
         for answer in found.values():
             if isinstance(answer, Exception):
                 raise answer
-        self.seconds[method.__name__] += time.monotonic() - start
         return found
 
     def link(self) -> list[str]:

@@ -6,7 +6,7 @@ import dataclasses
 import hashlib
 import os
 import sys
-from collections.abc import Collection, Iterable, Sequence
+from collections.abc import Callable, Collection, Iterable, Sequence
 
 from command import HERE
 from debian_index import TEXT
@@ -50,11 +50,15 @@ def in_order(line: Sequence[str]) -> Line:
     return line[0], *sorted(line[1:])
 
 
+def digest_of(value: object) -> str:
+    return hashlib.sha256(repr(value).encode(**TEXT)).hexdigest()
+
+
 class Asking:
     """The program, asked about the suites of one architecture."""
 
     def __init__(self, program: Coinst, rules: Rules, paths: tuple[str, str], memory: Memory) -> None:
-        self.program, self.rules, self.memory, self.asked = program, rules, memory, 0
+        self.program, self.rules, self.memory = program, rules, memory
         self.files = Files(*paths)
         self.paths = self.files.paths
 
@@ -66,10 +70,24 @@ class Asking:
         self.suites = Suites(self.files, everywhere, self.rules)
         self.home = self.suites.pool.home or "all"
         self.check()
-        self.lost = frozenset(self.compare(self.paths[OLD], self.paths[NEW]))
-        can = Installable(self.installable(self.paths[OLD], self.suites.names[OLD]), self.installable(self.paths[NEW], self.suites.names[NEW]))
-        self.can, self.faults = can, Faults(self.suites, can)
+        self.lost = frozenset(self.kept("lost", [OLD, NEW], lambda: self.compare(self.paths[OLD], self.paths[NEW])))
+        self.can = Installable(self.installable_in(OLD), self.installable_in(NEW))
+        self.faults = Faults(self.suites, self.can)
         return set(self.suites.sources)
+
+    def kept(self, what: str, suites: Sequence[str], ask: Callable[[], list[Line]]) -> list[Line]:
+        """What was said of whole files: asked, or remembered of the same files."""
+        digests = [self.program.digest_of(self.paths[suite]) for suite in suites]
+        key = "%s %s" % (what, digest_of((self.program.digest, self.program.options, sorted(self.suites.may_break), digests)))
+        if key not in self.memory:
+            self.memory[key] = list(ask())
+        return [line for line in self.memory[key] if line is not None]
+
+    def installable_in(self, suite: str) -> frozenset[str]:
+        """The names that a suite can install; those that it cannot are remembered, which are few."""
+        names = self.suites.names[suite]
+        cannot = self.kept("cannot", [suite], lambda: [(name,) for name in sorted(names - self.installable(self.paths[suite], names))])
+        return frozenset(names.difference(line[0] for line in cannot))
 
     def check(self) -> None:
         """That the index with switches can stand for the mixes: its names are free, and all of them have one architecture."""
@@ -121,14 +139,13 @@ class Asking:
         digest = self.suites.source_digest
         of_groups = [[(source, digest(source)) for source in group] for group in groups]
         everything = (self.program.digest, self.program.options, self.suites.old_digest, of_groups, [(s, digest(s)) for s in sorted(come)])
-        return hashlib.sha256(repr(everything).encode(**TEXT)).hexdigest()
+        return digest_of(everything)
 
     def ask_migrate(self, groups: Sequence[Group], come: Mix) -> list[Outcome]:
         index = encoded(self.suites, groups, come)
         if not index.live:
             return [None] * len(groups)
         paths = [self.program.write("groups-%d" % version, index.file(version)) for version in (0, 1)]
-        self.asked += len(index.live)
         outcomes = self.read_plan(self.migrated(paths), len(groups))
         for path in paths:
             os.remove(path)
@@ -156,8 +173,8 @@ class Asking:
     def lost_lines(self) -> frozenset[Line]:
         return self.lost
 
-    def remembered(self) -> tuple[Memory, int]:
-        return self.memory, self.asked
+    def remembered(self) -> Memory:
+        return self.memory
 
     # What is told
 

@@ -93,7 +93,7 @@ class Batch:
         self.has: dict[str, set[Step]] = {}
 
     def run(self) -> list[Step]:
-        """The steps that all take. The suspects, which have refused some before, or else one architecture, are asked first: the others less then."""
+        """The steps that all take. First the suspects are asked, which have refused some before, or else one architecture; then the others less."""
         while self.steps:
             self.leave_faults()
             left = [name for name in self.archive.names if not self.is_taken_by(name)]
@@ -143,7 +143,7 @@ class Batch:
 
 
 class Plan:
-    """The steps so far; `stays` has what refused a source."""
+    """The steps so far, and what refused the groups that have not come."""
 
     def __init__(self, archive: Archive, calls: Calls, limits: Limits, say: Callable[[str], None]) -> None:
         self.archive, self.calls, self.limits, self.say = archive, calls, limits, say
@@ -324,7 +324,7 @@ class Plan:
             self.refusals[step.groups[0]] = Refusal(step.groups[0], frozenset(self.come), loses=names)
         else:
             self.take_steps([Step((group,)) for group in step.groups])
-        self.take_steps(later)
+        self.take_steps([Step((group,)) for group in self.take_steps(later)])
 
     def losing(self, name: str, names: Line) -> int:
         """The first step whose mix cannot install the names: those that a mix has lost a later one may have again, so by halves."""

@@ -27,8 +27,12 @@ class Coinst:
 
     @functools.cached_property
     def digest(self) -> str:
-        with open(self.path, "rb") as file:
-            return hashlib.sha256(file.read()).hexdigest()
+        return self.digest_of(self.path)
+
+    @staticmethod
+    def digest_of(path: str) -> str:
+        with open(path, "rb") as file:
+            return hashlib.file_digest(file, "sha256").hexdigest()
 
     def options_of(self, command: str) -> list[str]:
         """The options that a command takes: `kernel` has no budget."""

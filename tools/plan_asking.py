@@ -10,7 +10,7 @@ from collections.abc import Callable, Collection, Iterable, Sequence
 
 from command import HERE
 from debian_index import TEXT
-from lost_sets import Lost, TooMany
+from lost_sets import Kernel, Lost, TooMany
 from plan_faults import Fault, Faults, Installable
 from plan_mixes import BOTH, NEW, OLD, Built, Everywhere, Files, Mix, Rules, Suites, newest
 from plan_program import Coinst, Line, Refused
@@ -227,17 +227,15 @@ class Asking:
         sets, unknown = self.lost_sets(mix)
         return End(self.compare(self.paths[OLD], mix), sorted((brings & self.can.new) - can), sets, unknown)
 
-    def kernel(self, path: str, name: str) -> str:
-        return self.program.keep(name, [self.program.path, "kernel", *self.program.options_of("kernel"), "--", path])
-
     def lost_sets(self, mix: str) -> tuple[list[Line], str | None]:
         """An example for each kind of set of three names and more that the mix has lost, or why that is not known."""
         try:
-            found = Lost(self.kernel(self.paths[OLD], "kernel-0"), self.kernel(mix, "kernel-1"))
-            kinds = [[[n for n in found.members(kind) if n not in self.suites.may_break] for kind in kinds] for kinds in found.sets()]
+            lost = Lost(*(Kernel(self.program.ask("kernel", [path])) for path in (self.paths[OLD], mix)))
+            judged = [[name for name in names if name not in self.suites.may_break] for names in lost.members]
+            sets = [[judged[kind] for kind in kinds] for kinds in lost.sets()]
         except TooMany as fault:
             return [], str(fault)
-        return sorted(tuple(sorted(names[0] for names in one)) for one in kinds if all(one)), None
+        return sorted(tuple(sorted(names[0] for names in one)) for one in sets if all(one)), None
 
     def can_together(self, names: Sequence[str], come: Mix) -> bool:
         """Whether the mix of some sources can install these names together."""

@@ -8,6 +8,8 @@ import os
 import subprocess
 from collections.abc import Sequence
 
+from command import Program
+
 Line = tuple[str, ...]
 
 
@@ -34,14 +36,6 @@ class Coinst:
         with open(path, "rb") as file:
             return hashlib.file_digest(file, "sha256").hexdigest()
 
-    def options_of(self, command: str) -> list[str]:
-        """The options that a command takes: `kernel` has no budget."""
-        words = list(self.options)
-        if command == "kernel" and "--budget" in words:
-            first = words.index("--budget")
-            del words[first : first + 2]
-        return words
-
     def place(self, name: str) -> str:
         return os.path.join(self.folder, name)
 
@@ -61,7 +55,7 @@ class Coinst:
 
     def ask(self, command: str, paths: Sequence[str], goals: Sequence[str] = (), more: Sequence[str] = ()) -> list[Line]:
         """The lines of a report in words."""
-        words = [self.path, command, *self.options, *more, "--", *paths, *goals]
+        words = [self.path, command, *Program(self.path, self.options).options_of(command), *more, "--", *paths, *goals]
         done = subprocess.run(words, stdin=subprocess.DEVNULL, capture_output=True, encoding="utf-8", errors="surrogateescape")
         if done.returncode not in (0, 1, 8):
             raise Refused(done.returncode if done.returncode > 0 else 70, done.stderr)

@@ -50,13 +50,18 @@ def pairs_of(paths: Sequence[str]) -> dict[str, Pair]:
     return {name: (mine[0], mine[1]) for name, mine in sorted(found.items())}
 
 
-def answers(pipe: Connection, gate: Any, make: Callable[[], Asking]) -> None:
-    """Answers what the pipe asks, an Asking's method and its words, until it asks nothing."""
+def answers(pipe: Connection, others: Sequence[Connection], gate: Any, make: Callable[[], Asking]) -> None:
+    """Answers what the pipe asks, an Asking's method and its words, until nobody asks; `others` are the ends that only the asking side has."""
+    for end in others:
+        end.close()
     signal.signal(signal.SIGINT, lambda *_: None)  # not ignored, as the programs that are asked would ignore it too
     signal.signal(signal.SIGTERM, signal.SIG_DFL)
     asking: Asking | None = None
-    while request := pipe.recv():
-        method, words = request
+    while True:
+        try:
+            method, words = pipe.recv()
+        except EOFError:
+            return
         with gate:
             try:
                 asking = asking or make()
@@ -77,8 +82,9 @@ class Archive:
         self.pipes: dict[str, Connection] = {}
         for name in self.names:
             self.pipes[name], his = multiprocessing.Pipe()
-            words = (his, gate, functools.partial(make, name, pairs[name]))
+            words = (his, list(self.pipes.values()), gate, functools.partial(make, name, pairs[name]))
             multiprocessing.Process(target=answers, args=words, daemon=True).start()
+            his.close()
 
     def ask(self, method: Callable[..., Answer], *words: Any, only: Collection[str] | None = None) -> dict[str, Answer]:
         """What each architecture answers to a question, a method of Asking."""
@@ -102,7 +108,7 @@ class Archive:
 
     def end(self) -> None:
         for pipe in self.pipes.values():
-            pipe.send(None)
+            pipe.close()
 
 
 def unbuilt(built: dict[str, dict[str, Built]], name: str) -> frozenset[str]:

@@ -1,3 +1,4 @@
+-- for the bodies of this crate alone
 -- What a shelf over real files tells of the rest.
 use Rattle.std.specs.Prelude.{ℕ, List, [], Option, Some, None}
 

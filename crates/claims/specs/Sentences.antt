@@ -3,7 +3,7 @@
 -- status and of the bytes that it printed. That a report came, and no refusal, is said by the clause `runs` of `run`, and not here.
 use Rattle.std.specs.Prelude.{◌≡◌, ℕ, ◌≤◌, ◌⊎◌, ◌↔◌, ◌≢◌, count_by, filter, map, Bool, true, false, List, [], ◌∷◌, ◌++◌, length, nat_lt, codes, Option, Some, None, unwrap_or, IfSome, ◌<◌}
 use Rattle.std.specs.Fmt.{decimal}
-use Rattle.byte_flow.specs.History.{Reading}
+use Rattle.byte_flow.specs.History.{OpenedFile}
 use Rattle.clause_pool.specs.Lists.{InOrder}
 use Rattle.coinst_words.specs.Usage.{Text}
 use Rattle.explain_core.specs.declared.explanation.Clash.{Clash}
@@ -47,12 +47,12 @@ pub record IsFaithfulKernel (text printed : Text) : Type 0 where
 -- What a run prints for `kernel`, with its options in the order of `kernel_words`, is a faithful kernel of the file that it read, with status 0. A
 -- number that is not given is the default; `run` refuses 0 and numbers above a million. The clause `meaning` of `run` speaks of all other
 -- spellings of the words too, and of `--json`.
-abbrev pub KernelIsTrue : List Text → List Reading → ℕ → Text → Type 0
+abbrev pub KernelIsTrue : List Text → List OpenedFile → ℕ → Text → Type 0
 KernelIsTrue words readings status printed = (limit : Option ℕ) (hold : Bool) (path : Text) → unwrap_or limit 65536 ≤ 1000000 → words ≡ kernel_words limit hold path →
     (text : Text) × (readings ≡ (path, text) ∷ []) × (status ≡ 0) × IsFaithfulKernel text printed
 
 -- `kernel` once more: what is printed is the text of the kernel of the index at the limit that was asked for, and is settled.
-abbrev pub KernelIsSettled : List Text → List Reading → ℕ → Text → Type 0
+abbrev pub KernelIsSettled : List Text → List OpenedFile → ℕ → Text → Type 0
 KernelIsSettled words readings status printed = (limit : Option ℕ) (hold : Bool) (path : Text) → unwrap_or limit 65536 ≤ 1000000 → words ≡ kernel_words limit hold path →
     (index : ComparedIndex) × (readings ≡ (path, index.text) ∷ []) × (status ≡ 0) × IsSearched None limit hold index × IsKernelText index printed
 
@@ -67,7 +67,7 @@ pub data IsFaithfulAnswer (index : ComparedIndex) (goals : List Text) (status : 
   undecided : status ≡ 8 → printed ≡ printed_undecided index.budget → IsPastBudget index goals → IsFaithfulAnswer index goals status printed
 
 -- What a run prints for `query`, with its options in the order of `asking_words`, is a faithful answer to its goals, each of which names a package.
-abbrev pub QueryIsTrue : List Text → List Reading → ℕ → Text → Type 0
+abbrev pub QueryIsTrue : List Text → List OpenedFile → ℕ → Text → Type 0
 QueryIsTrue words readings status printed = (budget limit : Option ℕ) (hold : Bool) (path : Text) (goals : List Text) → unwrap_or budget 10000 ≤ 1000000 → unwrap_or limit 65536 ≤ 1000000 → AreOrdinary (path ∷ goals) →
     words ≡ asking_words (codes "query") budget limit hold (path ∷ goals) →
     (index : ComparedIndex) × (readings ≡ (path, index.text) ∷ []) × IndexSays index.text index.home index.stanzas × IsSearched budget limit hold index
@@ -85,7 +85,7 @@ pub data IsFaithfulStoredAnswer (kernel : Text) (repository : Repository) (membe
 
 -- What a run prints for `query --kernel`, with its option in the order of `stored_words`, is a faithful answer to its goals, each of which names a
 -- member.
-abbrev pub StoredQueryIsTrue : List Text → List Reading → ℕ → Text → Type 0
+abbrev pub StoredQueryIsTrue : List Text → List OpenedFile → ℕ → Text → Type 0
 StoredQueryIsTrue words readings status printed = (budget : Option ℕ) (path : Text) (goals : List Text) → unwrap_or budget 10000 ≤ 1000000 → AreOrdinary goals → words ≡ stored_words budget path goals →
     (kernel : Text) × (readings ≡ (path, kernel) ∷ []) × HasOneReading kernel × ((format : ℕ) × (repository : Repository) × (members : List Member) × (held : List ℕ) × KernelReads kernel format repository members held
     × HasClassOfEach members (λ k. nat_lt k (length repository.clauses)) goals × IsFaithfulStoredAnswer kernel repository members goals (unwrap_or budget 10000) status printed)
@@ -103,7 +103,7 @@ pub record IsFaithfulList (old new : ComparedIndex) (lines : List ReportLine) : 
 
 -- What a run prints for `compare`, with its options in the order of `compare_words`, is the lines of a faithful list for the two files, and the status is
 -- that of these lines: 1 if one is broken, or else 8 if one is open, or else 0.
-abbrev pub CompareIsTrue : List Text → List Reading → ℕ → Text → Type 0
+abbrev pub CompareIsTrue : List Text → List OpenedFile → ℕ → Text → Type 0
 CompareIsTrue words readings status printed = (budget limit : Option ℕ) (hold : Bool) (first second : Text) → unwrap_or budget 10000 ≤ 1000000 → unwrap_or limit 65536 ≤ 1000000 → words ≡ compare_words budget limit hold first second →
     (old new : ComparedIndex) × (readings ≡ (first, old.text) ∷ (second, new.text) ∷ []) × IsSearched budget limit hold old × IsSearched budget limit hold new
     × ((lines : List ReportLine) × IsFaithfulList old new lines × (printed ≡ printed_comparison lines) × (status ≡ comparison_status lines))
@@ -117,7 +117,7 @@ pub data IsFaithfulExplanation (index : ComparedIndex) (goals : List Text) (stat
   undecided : status ≡ 8 → printed ≡ printed_undecided index.budget → IsPastBudget index goals → IsFaithfulExplanation index goals status printed
 
 -- What a run prints for `explain`, with its options in the order of `asking_words`, is a faithful explanation of its goals, each of which names a package.
-abbrev pub ExplainIsTrue : List Text → List Reading → ℕ → Text → Type 0
+abbrev pub ExplainIsTrue : List Text → List OpenedFile → ℕ → Text → Type 0
 ExplainIsTrue words readings status printed = (budget limit : Option ℕ) (hold : Bool) (path : Text) (goals : List Text) → unwrap_or budget 10000 ≤ 1000000 → unwrap_or limit 65536 ≤ 1000000 → AreOrdinary (path ∷ goals) →
     words ≡ asking_words (codes "explain") budget limit hold (path ∷ goals) →
     (index : ComparedIndex) × (readings ≡ (path, index.text) ∷ []) × IndexSays index.text index.home index.stanzas × IsSearched budget limit hold index
@@ -146,7 +146,7 @@ pub record IsFaithfulSystem (index : ComparedIndex) (file : Text) (status : ℕ)
   pub reads : printed ≡ printed_system index own (count_by (is_foreign_group index.home) (stanza_groups file)) state suite
 
 -- What a run prints for `status`, with its options in the order of `asking_words`, is a faithful report on the file against the index, which is read first.
-abbrev pub StatusIsTrue : List Text → List Reading → ℕ → Text → Type 0
+abbrev pub StatusIsTrue : List Text → List OpenedFile → ℕ → Text → Type 0
 StatusIsTrue words readings status printed = (budget limit : Option ℕ) (hold : Bool) (path index_path : Text) → unwrap_or budget 10000 ≤ 1000000 → unwrap_or limit 65536 ≤ 1000000 →
     words ≡ asking_words (codes "status") budget limit hold (path ∷ index_path ∷ []) →
     (index : ComparedIndex) × (file : Text) × (readings ≡ (index_path, index.text) ∷ (path, file) ∷ []) × IndexSays index.text index.home index.stanzas × IsSearched budget limit hold index
@@ -171,7 +171,7 @@ pub record IsFaithfulPlan (old new : ComparedIndex) (lines : List PlanLine) : Ty
 
 -- What a run prints for `migrate`, with its options in the order of `asking_words`, is the lines of a faithful plan for the two files, and the status is
 -- that of these lines: 1 if a name is left for a broken line, or else 8 if a name is left, or else 0.
-abbrev pub MigrateIsTrue : List Text → List Reading → ℕ → Text → Type 0
+abbrev pub MigrateIsTrue : List Text → List OpenedFile → ℕ → Text → Type 0
 MigrateIsTrue words readings status printed = (budget limit : Option ℕ) (hold : Bool) (first second : Text) → unwrap_or budget 10000 ≤ 1000000 → unwrap_or limit 65536 ≤ 1000000 →
     words ≡ asking_words (codes "migrate") budget limit hold (first ∷ second ∷ []) →
     (old new : ComparedIndex) × (readings ≡ (first, old.text) ∷ (second, new.text) ∷ []) × IsSearched budget limit hold old

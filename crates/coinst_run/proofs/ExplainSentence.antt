@@ -2,7 +2,7 @@
 use Rattle.std.proofs.Common.{◌≡◌, ℕ, ◌+◌, ◌-◌, ◌<◌, ◌≤◌, Bool, true, false, cond, List, [], ◌∷◌, ◌++◌, Option, Some, None, length, map, slice_index_or, refl, sym, ap, ap₂, subst, ◌∙◌, arith, inl, inr}
 use Rattle.std.proofs.lemmas.List.{length-map, map-append}
 use Rattle.std.specs.{Prelude.{codes, unwrap_or, IfSome}, Fmt.{decimal}, List.{flat_map}, Option.{option_map_or}}
-use Rattle.byte_flow.specs.History.{Reading}
+use Rattle.byte_flow.specs.History.{OpenedFile}
 use Rattle.coinst_words.specs.{Jobs.{job_of}, Usage.{Text}, declared.job.Job.TheVariants.{Explain}}
 use Rattle.deb_version.specs.Names.{is_name}
 use Rattle.explain_core.specs.{Core.{goal_numbered, goals_numbered, marked_goals}, Meaning.{IsCoreOf}}
@@ -162,7 +162,7 @@ module _ (text : Text) (budget limit : ℕ) (hold : Bool) (words : List Text) (g
       (reasons_so (told_words (all_told words m.marks)) (marked_goals goals m.marks) (marked m.marks places) m.clashes m.reasons)
   explained_so Undecided printed m = told_undecided refl m.reads (past text budget limit hold words goals z accepted m.spent)
 
-pub explain_is_true : (words : List Text) (readings : List Reading) (verdict : ReportVerdict) (printed : Text) → IsMeant words readings verdict printed → ExplainIsTrue words readings (code_of (verdict_status verdict)) printed
+pub explain_is_true : (words : List Text) (readings : List OpenedFile) (verdict : ReportVerdict) (printed : Text) → IsMeant words readings verdict printed → ExplainIsTrue words readings (code_of (verdict_status verdict)) printed
 explain_is_true words readings verdict printed m budget limit hold path goals low small o is =
     let b : ℕ = unwrap_or budget 10000 in
     let n : ℕ = unwrap_or limit 65536 in

@@ -1,6 +1,6 @@
 -- What the kernel text of an index means.
 use Rattle.std.proofs.Common.{◌≡◌, ℕ, Bool, true, false, List, [], ◌∷◌, None, refl, sym, ap, ap₂, ◌∙◌}
-use Rattle.byte_flow.specs.History.{Reading}
+use Rattle.byte_flow.specs.History.{OpenedFile}
 use Rattle.repo_model.specs.{FirstFault.{first_fault}, Repository.{suite_repository}}
 use Rattle.repo_model.proofs.Accepted.{Accepted}
 use Rattle.row_book.specs.{Repository.{Repository}, Rounds.{kernel, kernel_held}}
@@ -49,7 +49,7 @@ index_json_means limit hold text e =
     }
 
 -- the report of the command, as text and as JSON
-kernel_report_means : (path : List ℕ) (json : Bool) (limit : ℕ) (hold : Bool) (readings : List Reading) (verdict : ReportVerdict) (report : List ℕ) →
+kernel_report_means : (path : List ℕ) (json : Bool) (limit : ℕ) (hold : Bool) (readings : List OpenedFile) (verdict : ReportVerdict) (report : List ℕ) →
     Gives (course_of (Kernel path json limit hold)) readings (reported verdict report) → MeansJob (Kernel path json limit hold) readings verdict report
 kernel_report_means path false limit hold readings verdict report e =
     let first = kernel_read verdict report path limit hold (kernel_answer false) readings e in
@@ -67,7 +67,7 @@ kernel_report_means path true limit hold readings verdict report e =
     (first.0, first.2 ∙ ap (λ rest. (path, first.0) ∷ rest) end.0, means.0, means.1)
 
 -- what the report on a job means
-pub report_means : (job : Job) (readings : List Reading) (verdict : ReportVerdict) (report : List ℕ) → Gives (course_of job) readings (reported verdict report) → MeansJob job readings verdict report
+pub report_means : (job : Job) (readings : List OpenedFile) (verdict : ReportVerdict) (report : List ℕ) → Gives (course_of job) readings (reported verdict report) → MeansJob job readings verdict report
 report_means (Kernel path json limit hold) readings verdict report e = kernel_report_means path json limit hold readings verdict report e
 report_means (Query path goals budget limit hold) readings verdict report e = query_is_meant path goals budget limit hold readings verdict report e
 report_means (StoredQuery path goals budget) readings verdict report e = stored_query_is_meant path goals budget readings verdict report e

@@ -1,6 +1,6 @@
 -- What the report on a plan means.
 use Rattle.std.proofs.Common.{◌≡◌, ℕ, List, [], ◌∷◌, Option, Some, None, ap, refl, ◌∙◌}
-use Rattle.byte_flow.specs.History.{Reading}
+use Rattle.byte_flow.specs.History.{OpenedFile}
 use Rattle.migrate_plan.specs.{Plan.{plan, settings_of}, Refusals.{plan_refusal}, declared.plan.PlanLine.{PlanLine}, declared.refusals.PlanError.{PlanError}}
 use Rattle.migrate_plan.specs.declared.refusals.PlanError.TheVariants.{Homes, Names, Packages, TooLong, Memory}
 use Rattle.migrate_plan.proofs.{Mixed.{mixes_are_indexes}, Planned.{plan_names, plan_right, plan_safe}}
@@ -11,7 +11,7 @@ use Rattle.coinst_run.specs.{Migrate.{by_refusal, lines_answer, new_answer, new_
 use Rattle.coinst_run.proofs.{AnswerMeant.{told_means}, Given.{Reported, at_end, checked_read, file_read, kernel_at_read}}
 
 -- the plan is not refused, and its lines are reported
-plan_used : (verdict : ReportVerdict) (report : List ℕ) (readings : List Reading) (old new : List ℕ) (lines : List PlanLine) (there : Option PlanError)
+plan_used : (verdict : ReportVerdict) (report : List ℕ) (readings : List OpenedFile) (old new : List ℕ) (lines : List PlanLine) (there : Option PlanError)
     → Reported verdict report (then_on (by_refusal old new lines there) (λ shown. answers (lines_answer shown))) readings → (there ≡ None) × (readings ≡ []) × (lines_answer lines ≡ reported verdict report)
 plan_used verdict report readings old new lines (Some Homes) g = absurd (let e = (at_end verdict report _ readings g).1 in let no : ⊥ = cc in no)
 plan_used verdict report readings old new lines (Some (Names count)) g = absurd (let e = (at_end verdict report _ readings g).1 in let no : ⊥ = cc in no)

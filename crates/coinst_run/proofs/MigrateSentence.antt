@@ -2,7 +2,7 @@
 use Rattle.std.proofs.Common.{◌≡◌, ◌≢◌, ℕ, ◌+◌, ◌-◌, ◌<◌, ◌≤◌, Bool, true, false, not, cond, ◌||◌, List, [], ◌∷◌, ◌++◌, Option, Some, None, filter, length, map, refl, sym, ap, ap₂, subst, ◌∙◌, arith, append_assoc, inl, inr}
 use Rattle.std.proofs.lemmas.List.{append-nil}
 use Rattle.std.specs.{Prelude.{codes, unwrap_or}, Fmt.{decimal}, List.{flat_map, list_any}}
-use Rattle.byte_flow.specs.History.{Reading}
+use Rattle.byte_flow.specs.History.{OpenedFile}
 use Rattle.clause_pool.specs.Lists.{InOrder}
 use Rattle.coinst_words.specs.{Jobs.{job_of}, Usage.{Text}, declared.job.Job.TheVariants.{Migrate}}
 use Rattle.headline.specs.{Indexes.{SearchedIndex, HasName, searched}, Listing.{BothHave, ListsExactly, LosesNothing, is_broken}}
@@ -163,7 +163,7 @@ module _ (old new : Text) (budget limit : ℕ) (hold : Bool) where
             );
       }
 
-pub migrate_is_true : (words : List Text) (readings : List Reading) (verdict : ReportVerdict) (printed : Text) → IsMeant words readings verdict printed → MigrateIsTrue words readings (code_of (verdict_status verdict)) printed
+pub migrate_is_true : (words : List Text) (readings : List OpenedFile) (verdict : ReportVerdict) (printed : Text) → IsMeant words readings verdict printed → MigrateIsTrue words readings (code_of (verdict_status verdict)) printed
 migrate_is_true words readings verdict printed m budget limit hold first second low small is =
     let b : ℕ = unwrap_or budget 10000 in
     let n : ℕ = unwrap_or limit 65536 in

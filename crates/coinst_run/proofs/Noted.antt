@@ -1,7 +1,7 @@
 -- What the notes of the real shelf and the real sink say of a run.
 use Rattle.std.proofs.Common.{◌≡◌, ℕ, Bool, true, false, cond, List, [], ◌∷◌, ◌++◌, take, Option, Some, refl, sym, ap, subst, ◌∙◌}
 use Rattle.std.specs.Prelude.{◌==◌}
-use Rattle.byte_flow.specs.{History.{Reading, with_more}, Models.{ShelfModel, SinkModel}}
+use Rattle.byte_flow.specs.{History.{OpenedFile, with_more}, Models.{ShelfModel, SinkModel}}
 use Rattle.coinst_run.specs.{declared.answer.ReportVerdict.{ReportVerdict}, Readings.{Noted, NotesReport, Prints, Reports}, declared.status.Status.{Status}}
 use Rattle.coinst_run.specs.declared.status.Status.TheVariants.{Done, Negative, Words, Content, ClauseLimit, ReadFault, WriteFault, Memory, Undecided, UnknownGoal, TooLarge}
 use Rattle.coinst_run.specs.Status.{code_of, verdict_status}
@@ -31,11 +31,11 @@ status_again TooLarge = refl
 pub one_status : (s t : Status) → code_of s ≡ code_of t → s ≡ t
 one_status s t e = sym (status_again s) ∙ ap status_at e ∙ status_again t
 
-module _ {S O : Type 0} {M : ShelfModel S} {N : SinkModel O} (handed : S → List Reading) (passed_on : O → List ℕ)
+module _ {S O : Type 0} {M : ShelfModel S} {N : SinkModel O} (handed : S → List OpenedFile) (passed_on : O → List ℕ)
     (starts : (s t : S) (path : List ℕ) → M.start_gives s path true t → handed t ≡ (path, []) ∷ handed s)
     (gives : (s t : S) (asked : ℕ) (bytes : List ℕ) → M.read_gives s asked (Some bytes) t → handed t ≡ with_more bytes (handed s))
     (takes : (s t : O) (piece : List ℕ) (n : ℕ) → N.write_gives s piece (Some n) t → passed_on t ≡ passed_on s ++ take n piece) where
-  pub noted_so : {old new : S} {out out_after : O} {P : List Reading → List ℕ → Type 0} → Reports M N old new out out_after P → Noted (handed old) (handed new) (passed_on out) (passed_on out_after) P
+  pub noted_so : {old new : S} {out out_after : O} {P : List OpenedFile → List ℕ → Type 0} → Reports M N old new out out_after P → Noted (handed old) (handed new) (passed_on out) (passed_on out_after) P
   noted_so r = record {
     readings = r.readings;
     printed = r.printed;
@@ -45,7 +45,7 @@ module _ {S O : Type 0} {M : ShelfModel S} {N : SinkModel O} (handed : S → Lis
   }
 
   -- a sentence of the run is one of what was noted
-  pub notes_so : {old new : S} {out out_after : O} (P : List Reading → ℕ → List ℕ → Type 0) (result : Status) (code : ℕ) → code ≡ code_of result → Prints M N old new out out_after result P →
+  pub notes_so : {old new : S} {out out_after : O} (P : List OpenedFile → ℕ → List ℕ → Type 0) (result : Status) (code : ℕ) → code ≡ code_of result → Prints M N old new out out_after result P →
       NotesReport (handed old) (handed new) (passed_on out) (passed_on out_after) code P
   notes_so {old} {new} {out} {out_after} P result code is prints verdict e =
       noted_so (subst (λ c. Reports M N old new out out_after (λ readings. P readings c)) (sym is) (prints verdict (one_status result (verdict_status verdict) (sym is ∙ e))))

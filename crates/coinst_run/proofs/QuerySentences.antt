@@ -2,7 +2,7 @@
 use Rattle.std.proofs.Common.{◌≡◌, ℕ, ◌<◌, ◌≤◌, Bool, true, false, List, [], ◌∷◌, Some, None, length, map, refl, sym, ap, ap₂, subst, ◌∙◌, ◌+◌, arith}
 use Rattle.std.proofs.lemmas.Bool.Decides.{nat_tests}
 use Rattle.std.specs.Prelude.{codes, is_some, nat_lt, unwrap_or}
-use Rattle.byte_flow.specs.History.{Reading}
+use Rattle.byte_flow.specs.History.{OpenedFile}
 use Rattle.coinst_words.specs.{Jobs.{job_of}, Usage.{Text}, declared.job.Job.TheVariants.{Kernel, Query, StoredQuery}}
 use Rattle.deb_version.specs.Names.{is_name}
 use Rattle.headline.specs.Indexes.{SearchedIndex, searched}
@@ -45,7 +45,7 @@ kernel_is_printed text limit hold printed k =
     ∙ ap₂ (λ R ms. kernel_text (format_of hold) R ms k.held) k.kernel k.people
     ∙ ap (λ hs. kernel_text (format_of hold) (kernel limit hold (suite_repository (home_in text) (packages_in text))) (members_for (packages_in text) (index_kernel limit hold (home_in text) (packages_in text))) hs) k.stay
 
-pub kernel_is_settled : (words : List Text) (readings : List Reading) (verdict : ReportVerdict) (printed : Text) → IsMeant words readings verdict printed → KernelIsSettled words readings (code_of (verdict_status verdict)) printed
+pub kernel_is_settled : (words : List Text) (readings : List OpenedFile) (verdict : ReportVerdict) (printed : Text) → IsMeant words readings verdict printed → KernelIsSettled words readings (code_of (verdict_status verdict)) printed
 kernel_is_settled words readings verdict printed m limit hold path low is =
     let n : ℕ = unwrap_or limit 65536 in
     let job = kernel_words_ask limit hold path m.job low (ap job_of (sym is) ∙ m.asked) in
@@ -127,7 +127,7 @@ module _ (text : Text) (budget limit : ℕ) (hold : Bool) (words : List Text) (g
       let up : nat_lt n.0 (length (packages_in text)) ≡ true = grind (arith, nat_tests, inside) in
       (n.0, up, names_from word (stanza_at (packages_in text) n.0).name (stanza_at (packages_in text) n.0).version g.0 g.2 (named_parts (home_in text) (packages_in text) g.0 n.0 n.1))
 
-pub query_is_true : (words : List Text) (readings : List Reading) (verdict : ReportVerdict) (printed : Text) → IsMeant words readings verdict printed → QueryIsTrue words readings (code_of (verdict_status verdict)) printed
+pub query_is_true : (words : List Text) (readings : List OpenedFile) (verdict : ReportVerdict) (printed : Text) → IsMeant words readings verdict printed → QueryIsTrue words readings (code_of (verdict_status verdict)) printed
 query_is_true words readings verdict printed m budget limit hold path goals low small o is =
     let b : ℕ = unwrap_or budget 10000 in
     let n : ℕ = unwrap_or limit 65536 in
@@ -194,7 +194,7 @@ module _ (text : Text) (c : KernelContent) (stands : KernelReads text c.format c
       let up : nat_lt (m.0).class (length c.repository.clauses) ≡ true = grind (arith, nat_tests, inside) in
       (m.0, m.1, up, names_from word (m.0).name (m.0).version g.0 g.2 m.2)
 
-pub stored_query_is_true : (words : List Text) (readings : List Reading) (verdict : ReportVerdict) (printed : Text) → IsMeant words readings verdict printed → StoredQueryIsTrue words readings (code_of (verdict_status verdict)) printed
+pub stored_query_is_true : (words : List Text) (readings : List OpenedFile) (verdict : ReportVerdict) (printed : Text) → IsMeant words readings verdict printed → StoredQueryIsTrue words readings (code_of (verdict_status verdict)) printed
 stored_query_is_true words readings verdict printed m budget path goals low o is =
     let b : ℕ = unwrap_or budget 10000 in
     let w = stored_words_ask budget path goals m.job low o (ap job_of (sym is) ∙ m.asked) in

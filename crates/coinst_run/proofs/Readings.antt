@@ -1,7 +1,7 @@
 -- What a run read and printed, by how its course ended.
 use Rattle.std.proofs.Common.{◌≡◌, ℕ, Bool, true, List, [], ◌∷◌, ◌++◌, take, drop, Option, Some, None, refl, sym, ap, subst, ◌∙◌, append_assoc, append-nil, take-append-drop}
 use Rattle.std.specs.Prelude.{IfSome}
-use Rattle.byte_flow.specs.{Flow.{FileIs, Files}, History.{Reading, noted, with_more}, Models.{ShelfModel, SinkModel}}
+use Rattle.byte_flow.specs.{Flow.{FileIs, Files}, History.{OpenedFile, noted, with_more}, Models.{ShelfModel, SinkModel}}
 use Rattle.byte_flow.specs.Transfer.{HandsOver, Reached, Sent, begun, piece_size, read_on, sent_on, started}
 use Rattle.coinst_run.specs.{Answer.{Answer}, Course.{Course, answers}}
 use Rattle.coinst_run.specs.Follows.{Follows, WasRead, at_its_end, behind_a_text, at_an_unread_file, at_a_long_file, without_memory, without_memory_for_a_file}
@@ -9,13 +9,13 @@ use Rattle.coinst_run.specs.{Outcome.{Gives, Outcome, answered, at_once, by_text
 
 -- a course that ended at an answer: what it read, and that it leads from these texts to this answer
 pub record LedTo {S : Type 0} (M : ShelfModel S) (course : Course) (old new : S) (answer : Answer) : Type 0 where
-  pub readings : List Reading
+  pub readings : List OpenedFile
   pub was_read : HasRead M old readings new
   pub told : IfSome (M.contents old) (λ files. AreOf files readings)
   pub gives : Gives course readings answer
 
 -- the text is the file's where the contents are told
-told_both : (before after : Option Files) (path text : List ℕ) (readings : List Reading) → after ≡ before → FileIs before path text → IfSome after (λ files. AreOf files readings) →
+told_both : (before after : Option Files) (path text : List ℕ) (readings : List OpenedFile) → after ≡ before → FileIs before path text → IfSome after (λ files. AreOf files readings) →
     IfSome before (λ files. AreOf files ((path, text) ∷ readings))
 told_both None after path text readings same is rest = tt
 told_both (Some files) after path text readings same is rest = (is, subst (λ (o : Option Files). IfSome o (λ files. AreOf files readings)) same rest)
@@ -42,7 +42,7 @@ module _ {S : Type 0} {M : ShelfModel S} where
   led_to answer short (without_memory_for_a_file path next s t w) e = absurd cc
 
 -- what a history notes of the readings
-module _ {S : Type 0} {M : ShelfModel S} (handed : S → List Reading)
+module _ {S : Type 0} {M : ShelfModel S} (handed : S → List OpenedFile)
     (starts : (s t : S) (path : List ℕ) → M.start_gives s path true t → handed t ≡ (path, []) ∷ handed s)
     (gives : (s t : S) (asked : ℕ) (bytes : List ℕ) → M.read_gives s asked (Some bytes) t → handed t ≡ with_more bytes (handed s)) where
   reached_noted : {old : S} {path text : List ℕ} {s : S} → Reached M old path text s → handed s ≡ (path, text) ∷ handed old
@@ -53,7 +53,7 @@ module _ {S : Type 0} {M : ShelfModel S} (handed : S → List Reading)
   reading_noted {old} {new} {path} {text} h =
       gives h.before new piece_size [] h.last ∙ ap (with_more []) (reached_noted h.reached) ∙ ap (λ t. (path, t) ∷ handed old) (append-nil text)
 
-  pub readings_noted : {old new : S} {readings : List Reading} → HasRead M old readings new → handed new ≡ noted readings (handed old)
+  pub readings_noted : {old new : S} {readings : List OpenedFile} → HasRead M old readings new → handed new ≡ noted readings (handed old)
   readings_noted (no_file s) = refl
   readings_noted (a_file path text readings s t u one rest) = readings_noted rest ∙ ap (noted readings) (reading_noted one)
 

@@ -1,7 +1,7 @@
 -- What a run answers, by how the course of its command ended and what the sinks took.
 use Rattle.std.proofs.Common.{◌≡◌, ℕ, Bool, List, [], Option, Some, None, refl, sym, ap, subst, ◌∙◌, inl, inr}
 use Rattle.std.specs.{Prelude.{◌⊎◌, IfSome}, Io.KnownBytes.{Appends}}
-use Rattle.byte_flow.specs.{Flow.{Files, Rose}, History.{Reading}, Models.{ShelfModel, SinkModel}, Transfer.{Sent}}
+use Rattle.byte_flow.specs.{Flow.{Files, Rose}, History.{OpenedFile}, Models.{ShelfModel, SinkModel}, Transfer.{Sent}}
 use Rattle.coinst_run.specs.{declared.answer.Cause.{Cause}, declared.answer.Cause.TheVariants.{Content, ClauseLimit, UnknownGoal, TooLarge}}
 use Rattle.coinst_run.specs.{declared.answer.ReportVerdict.{ReportVerdict}, declared.answer.ReportVerdict.TheVariants.{Done, Negative, Undecided}}
 use Rattle.coinst_run.specs.declared.status.Status.{Status}
@@ -207,9 +207,9 @@ module _ {F : Type 0} {M : ShelfModel F} where
   words_refused (Some job) words.Memory h s = of_a_job job s s None (without_memory (course_of job) s)
 
   -- a run with the status of a report read files whole and wrote their report whole, and this holds of them
-  reports_job : {O : Type 0} {N : SinkModel O} {job : Option Job} {shelf : F} {ending : Option Outcome} {after : F} {out out_after : O} (words : List (List ℕ)) (verdict : ReportVerdict) (report : List ℕ) (P : List Reading → List ℕ → Type 0) → job_of words ≡ job →
+  reports_job : {O : Type 0} {N : SinkModel O} {job : Option Job} {shelf : F} {ending : Option Outcome} {after : F} {out out_after : O} (words : List (List ℕ)) (verdict : ReportVerdict) (report : List ℕ) (P : List OpenedFile → List ℕ → Type 0) → job_of words ≡ job →
       FollowsJob M job shelf ending after → ending ≡ Some (answered (reported verdict report)) → Sent N out report out_after [] → Appends (N.taken out) (N.taken out_after) report →
-      ((readings : List Reading) (printed : List ℕ) → IsMeant words readings verdict printed → P readings printed) → Reports M N shelf after out out_after P
+      ((readings : List OpenedFile) (printed : List ℕ) → IsMeant words readings verdict printed → P readings printed) → Reports M N shelf after out out_after P
   reports_job words verdict report P asked (of_no_job s) e sent took to = absurd cc
   reports_job words verdict report P asked (without_memory_for_words s) e sent took to = absurd cc
   reports_job words verdict report P asked (of_a_job job s t x f) e sent took to =
@@ -252,8 +252,8 @@ module _ {F : Type 0} {M : ShelfModel F} where
     unfolding outcome_of
     answers_run {shelf = shelf} words f d = each_told (M.contents shelf) (λ files is. answers_told (of_job (job_of words) files) (job_ends files f is) (λ path e. job_rose f e) d)
 
-    pub reports_run : {shelf after : F} {ending : Option Outcome} {out out_after : O} {err err_after : E} {result : Status} (words : List (List ℕ)) (verdict : ReportVerdict) (P : List Reading → List ℕ → Type 0) →
-        ((readings : List Reading) (printed : List ℕ) → IsMeant words readings verdict printed → P readings printed) → FollowsJob M (job_of words) shelf ending after →
+    pub reports_run : {shelf after : F} {ending : Option Outcome} {out out_after : O} {err err_after : E} {result : Status} (words : List (List ℕ)) (verdict : ReportVerdict) (P : List OpenedFile → List ℕ → Type 0) →
+        ((readings : List OpenedFile) (printed : List ℕ) → IsMeant words readings verdict printed → P readings printed) → FollowsJob M (job_of words) shelf ending after →
         Delivers N L out err result out_after err_after ending → result ≡ verdict_status verdict → Reports M N shelf after out out_after P
     reports_run {ending = ending} words verdict P to f d e = let w = wrote ending verdict d e in reports_job words verdict w.0 P refl f w.1 w.2 w.3 to
 
@@ -267,8 +267,8 @@ module _ {F : Type 0} {M : ShelfModel F} where
     meaning_run words verdict f d e = reports_run words verdict (λ readings printed. IsMeant words readings verdict printed) (λ readings printed m. m) f d e
 
     -- each sentence follows from the meaning
-    pub sentence_run : {shelf after : F} {ending : Option Outcome} {out out_after : O} {err err_after : E} {result : Status} (words : List (List ℕ)) (Sentence : List Reading → ℕ → List ℕ → Type 0) →
-        ((readings : List Reading) (verdict : ReportVerdict) (printed : List ℕ) → IsMeant words readings verdict printed → Sentence readings (code_of (verdict_status verdict)) printed) → FollowsJob M (job_of words) shelf ending after →
+    pub sentence_run : {shelf after : F} {ending : Option Outcome} {out out_after : O} {err err_after : E} {result : Status} (words : List (List ℕ)) (Sentence : List OpenedFile → ℕ → List ℕ → Type 0) →
+        ((readings : List OpenedFile) (verdict : ReportVerdict) (printed : List ℕ) → IsMeant words readings verdict printed → Sentence readings (code_of (verdict_status verdict)) printed) → FollowsJob M (job_of words) shelf ending after →
         Delivers N L out err result out_after err_after ending → Prints M N shelf after out out_after result Sentence
     sentence_run {result = result} words Sentence so f d verdict e =
         reports_run words verdict (λ readings printed. Sentence readings (code_of result) printed) (λ readings printed m. subst (λ c. Sentence readings c printed) (ap code_of (sym e)) (so readings verdict printed m)) f d e

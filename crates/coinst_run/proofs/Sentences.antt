@@ -2,7 +2,7 @@
 use Rattle.std.proofs.Common.{◌≡◌, ℕ, Bool, true, false, cond, List, [], ◌++◌, Option, Some, None, filter, length, refl, sym, ap, subst, ◌∙◌, append_assoc}
 use Rattle.std.proofs.lemmas.List.{append-nil}
 use Rattle.std.specs.{Prelude.{codes, unwrap_or}, Fmt.{decimal}, List.{flat_map, list_any}}
-use Rattle.byte_flow.specs.History.{Reading}
+use Rattle.byte_flow.specs.History.{OpenedFile}
 use Rattle.coinst_words.specs.{Jobs.{job_of}, declared.job.Job.TheVariants.{Kernel, Compare}}
 use Rattle.headline.specs.{Indexes.{searched}, Listing.{is_broken}}
 use Rattle.kernel_text.specs.{KernelText.{format_of}, declared.member.Member.{Member}}
@@ -25,7 +25,7 @@ people_of : (text : List ℕ) (limit : ℕ) (hold : Bool) (printed : List ℕ) (
 unfolding index_kernel classed_kernel
 people_of text limit hold printed k m i = people limit hold (home_in text) (packages_in text) (accepted text k.accepted) m (subst (λ ms. In m ms) k.people i)
 
-pub kernel_is_true : (words : List (List ℕ)) (readings : List Reading) (verdict : ReportVerdict) (printed : List ℕ) → IsMeant words readings verdict printed → KernelIsTrue words readings (code_of (verdict_status verdict)) printed
+pub kernel_is_true : (words : List (List ℕ)) (readings : List OpenedFile) (verdict : ReportVerdict) (printed : List ℕ) → IsMeant words readings verdict printed → KernelIsTrue words readings (code_of (verdict_status verdict)) printed
 kernel_is_true words readings verdict printed m limit hold path low is =
     let job : m.job ≡ Kernel path false (unwrap_or limit 65536) hold = kernel_words_ask limit hold path m.job low (ap job_of (sym is) ∙ m.asked) in
     let means : MeansJob (Kernel path false (unwrap_or limit 65536) hold) readings verdict printed = subst (λ j. MeansJob j readings verdict printed) job m.means in
@@ -66,7 +66,7 @@ comparison_ends lines = by (list_any is_broken lines) (list_any is_open lines)
     by false true = refl
     by false false = refl
 
-pub compare_is_true : (words : List (List ℕ)) (readings : List Reading) (verdict : ReportVerdict) (printed : List ℕ) → IsMeant words readings verdict printed → CompareIsTrue words readings (code_of (verdict_status verdict)) printed
+pub compare_is_true : (words : List (List ℕ)) (readings : List OpenedFile) (verdict : ReportVerdict) (printed : List ℕ) → IsMeant words readings verdict printed → CompareIsTrue words readings (code_of (verdict_status verdict)) printed
 compare_is_true words readings verdict printed m budget limit hold first second low small is =
     let b : ℕ = unwrap_or budget 10000 in
     let n : ℕ = unwrap_or limit 65536 in

@@ -2,7 +2,7 @@
 use Rattle.std.proofs.Common.{◌≡◌, ℕ, zero, suc, ◌+◌, ◌-◌, ◌<◌, ◌≤◌, Bool, true, false, not, cond, ◌&&◌, eqb, List, [], ◌∷◌, ◌++◌, Option, Some, None, filter, length, map, slice_index_or, refl, sym, ap, ap₂, subst, ◌∙◌, arith, inl, inr, eqb-true}
 use Rattle.std.proofs.{lemmas.Bool.{and_from, and_parts, cases_Bool}, lemmas.List.{length-map}}
 use Rattle.std.specs.{Prelude.{codes, count_by, unwrap_or}, Fmt.{decimal}, List.{flat_map, list_any}, Ordering.{is_eq}, Str.{bytes_eq}}
-use Rattle.byte_flow.specs.History.{Reading}
+use Rattle.byte_flow.specs.History.{OpenedFile}
 use Rattle.clause_solver.specs.{declared.outcomes.Verdict.{Verdict}, declared.outcomes.Verdict.TheVariants.{Yes, No, Spent}}
 use Rattle.coinst_words.specs.{Jobs.{job_of}, Usage.{Text}, declared.job.Job.TheVariants.{Status}}
 use Rattle.deb_version.specs.Order.{version_order}
@@ -203,7 +203,7 @@ module _ (text : Text) (budget limit : ℕ) (hold : Bool) (fine : first_fault te
         reads = k.reads ∙ same;
       }
 
-pub status_is_true : (words : List Text) (readings : List Reading) (verdict : ReportVerdict) (printed : Text) → IsMeant words readings verdict printed → StatusIsTrue words readings (code_of (verdict_status verdict)) printed
+pub status_is_true : (words : List Text) (readings : List OpenedFile) (verdict : ReportVerdict) (printed : Text) → IsMeant words readings verdict printed → StatusIsTrue words readings (code_of (verdict_status verdict)) printed
 status_is_true words readings verdict printed m budget limit hold path index_path low small is =
     let b : ℕ = unwrap_or budget 10000 in
     let n : ℕ = unwrap_or limit 65536 in

@@ -3,7 +3,7 @@ use Rattle.std.proofs.Common.{◌≡◌, ℕ, ◌+◌, ◌<◌, ◌≤◌, Bool,
 use Rattle.std.proofs.{Math.Path.{fun_ext}, lemmas.List.{append_cancel_left}}
 use Rattle.std.specs.{Prelude.{codes}, Fmt.{decimal}, List.{flat_map}}
 use Rattle.listed.proofs.{Lists.{In_has}, Orders.{ascending_filter}}
-use Rattle.byte_flow.specs.History.{Reading}
+use Rattle.byte_flow.specs.History.{OpenedFile}
 use Rattle.kernel_text.specs.{declared.fault.KernelFault.{KernelFault}, Images.{unknown_goal}, KernelReads.{KernelContent, KernelReads}}
 use Rattle.kernel_text.specs.{KernelText.{IsWritable}, Reading.{number_limit}, StoredReading.{stored_reading}, Serving.{ServesStored, images_in}}
 use Rattle.kernel_text.proofs.{Spelling.{number_same}, StoredReading.{one_reading, texts_are_told}, Serving.{all_named, images_fit, images_serve}}
@@ -92,7 +92,7 @@ module _ (kernel : KernelContent) (writable : IsWritable kernel.format kernel.re
   }
 
 -- the report of a query of the stored kernel at the path
-module _ (path : List ℕ) (goals : List Goal) (budget : ℕ) (readings : List Reading) (verdict : ReportVerdict) (report : List ℕ) where
+module _ (path : List ℕ) (goals : List Goal) (budget : ℕ) (readings : List OpenedFile) (verdict : ReportVerdict) (report : List ℕ) where
   goals_mean : (text : List ℕ) (kernel : KernelContent) (first : Option ℕ) → KernelReads text kernel.format kernel.repository kernel.members kernel.held → unknown_goal kernel.members goals ≡ first →
       AnswerMeans (StoredMeans text goals budget) (stored_by_unknown kernel goals budget first)
   goals_mean text kernel (Some number) reads is = tt

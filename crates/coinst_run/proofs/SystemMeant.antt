@@ -1,6 +1,6 @@
 -- What the report on an installed system means.
 use Rattle.std.proofs.Common.{◌≡◌, ℕ, Bool, List, [], ◌∷◌, Option, Some, None, ap, refl, ◌∙◌}
-use Rattle.byte_flow.specs.History.{Reading}
+use Rattle.byte_flow.specs.History.{OpenedFile}
 use Rattle.repo_model.specs.declared.fault.IndexFault.{IndexFault}
 use Rattle.status_check.specs.{Own.{own_home, own_packages, status_fault}, Report.{had_goals}, declared.report.StatusReport.{StatusReport}}
 use Rattle.status_check.proofs.{Judging.{judged, told_healthy}, OwnStates.{own_there}}
@@ -11,7 +11,7 @@ use Rattle.coinst_run.specs.SystemStatus.{system_answer, system_by_fault, system
 use Rattle.coinst_run.proofs.{AnswerMeant.{told_means}, Given.{Reported, at_end, file_read, kernel_read}}
 
 -- a status file that is read and told
-module _ (path : List ℕ) (budget limit : ℕ) (hold : Bool) (index : Index) (readings : List Reading) (verdict : ReportVerdict) (printed : List ℕ) where
+module _ (path : List ℕ) (budget limit : ℕ) (hold : Bool) (index : Index) (readings : List OpenedFile) (verdict : ReportVerdict) (printed : List ℕ) where
   abbrev told : List ℕ → StatusReport
   told text = system_report budget limit hold index (system_in index.home text)
 

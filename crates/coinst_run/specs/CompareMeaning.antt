@@ -1,6 +1,6 @@
 -- What the report of a comparison means for the two indexes.
 use Rattle.std.specs.Prelude.{◌≡◌, ℕ, Bool, List, length, None, Some, [], ◌∷◌, ◌++◌, filter, map}
-use Rattle.byte_flow.specs.History.{Reading}
+use Rattle.byte_flow.specs.History.{OpenedFile}
 use Rattle.headline.specs.{Indexes.{searched}, Listing.{ListsExactly, ListsLosses, LosesNothing}}
 use Rattle.kernel_text.specs.KernelLines.{lines_of}
 use Rattle.repo_model.specs.FirstFault.{first_fault}
@@ -28,5 +28,5 @@ pub record CompareMeans (old new : List ℕ) (budget limit : ℕ) (hold : Bool) 
 
 -- what is reported of two files means this for their texts
 abbrev pub CompareIsMeant : Type 0
-CompareIsMeant = (old new : List ℕ) (budget limit : ℕ) (hold : Bool) (readings : List Reading) (verdict : ReportVerdict) (printed : List ℕ) → Gives (compare_course old new budget limit hold) readings (reported verdict printed) →
+CompareIsMeant = (old new : List ℕ) (budget limit : ℕ) (hold : Bool) (readings : List OpenedFile) (verdict : ReportVerdict) (printed : List ℕ) → Gives (compare_course old new budget limit hold) readings (reported verdict printed) →
     (first second : List ℕ) × (readings ≡ (old, first) ∷ (new, second) ∷ []) × CompareMeans first second budget limit hold verdict printed

@@ -1,6 +1,6 @@
 -- What the report of an explanation means for the index that was asked, judged on its stanzas.
 use Rattle.std.specs.Prelude.{◌≡◌, ℕ, Bool, List, length, Option, Some, None, IfSome, [], ◌∷◌, ◌≤◌}
-use Rattle.byte_flow.specs.History.{Reading}
+use Rattle.byte_flow.specs.History.{OpenedFile}
 use Rattle.explain_core.specs.{Core.{marked_goals}, Explaining.{explanation_of}, Meaning.{IsCoreOf}, declared.explanation.Clash.{Clash}}
 use Rattle.explain_core.specs.{declared.explanation.Explanation.TheVariants.{Core}, declared.explanation.Mark.{Mark}, OnStanzas.{AreClashesOf, AreEnough}}
 use Rattle.repo_model.specs.{FirstFault.{first_fault}, Goals.{CoinstGoals, packages_named}, declared.goals.Goal.{Goal}}
@@ -42,5 +42,5 @@ pub record ExplainMeans (text : List ℕ) (goals : List Goal) (budget limit : �
 
 -- what is reported of a file means this for its text
 abbrev pub ExplainIsMeant : Type 0
-ExplainIsMeant = (path : List ℕ) (goals : List Goal) (budget limit : ℕ) (hold : Bool) (readings : List Reading) (verdict : ReportVerdict) (printed : List ℕ) → Gives (explain_course path goals budget limit hold) readings (reported verdict printed) →
+ExplainIsMeant = (path : List ℕ) (goals : List Goal) (budget limit : ℕ) (hold : Bool) (readings : List OpenedFile) (verdict : ReportVerdict) (printed : List ℕ) → Gives (explain_course path goals budget limit hold) readings (reported verdict printed) →
     (text : List ℕ) × (readings ≡ (path, text) ∷ []) × ExplainMeans text goals budget limit hold verdict printed

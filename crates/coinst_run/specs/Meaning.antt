@@ -12,7 +12,7 @@ use Rattle.kernel_text.specs.{KernelJson.{kernel_json}, KernelText.{format_of}}
 use Rattle.repo_model.specs.FirstFault.{first_fault}
 use Rattle.coinst_words.specs.{Jobs.{job_of}, declared.job.Job.{Job}}
 use Rattle.coinst_words.specs.declared.job.Job.TheVariants.{Kernel, Query, StoredQuery, Compare, Explain, Status, Migrate, Sample}
-use Rattle.byte_flow.specs.{Flow.{Files}, History.{Reading}}
+use Rattle.byte_flow.specs.{Flow.{Files}, History.{OpenedFile}}
 
 -- the course of each command
 abbrev pub course_of : Job → Course
@@ -46,7 +46,7 @@ pub record SizeMeans (text printed : List ℕ) : Type 0 where
   pub line : printed ≡ size_report (packages_in text) (index_kernel sample_limit false (home_in text) (packages_in text))
 
 -- what a printed report means for the job that it was asked for, by its verdict, and for what was read
-abbrev pub MeansJob : Job → List Reading → ReportVerdict → List ℕ → Type 0
+abbrev pub MeansJob : Job → List OpenedFile → ReportVerdict → List ℕ → Type 0
 MeansJob (Kernel path false limit hold) readings verdict printed = (text : List ℕ) × (readings ≡ (path, text) ∷ []) × (verdict ≡ Done) × KernelMeans text limit hold printed
 MeansJob (Kernel path true limit hold) readings verdict printed = (text : List ℕ) × (readings ≡ (path, text) ∷ []) × (verdict ≡ Done) × JsonMeans text limit hold printed
 MeansJob (Query path goals budget limit hold) readings verdict printed = (text : List ℕ) × (readings ≡ (path, text) ∷ []) × QueryMeans text goals budget limit hold verdict printed
@@ -61,7 +61,7 @@ MeansJob (Migrate old new budget limit hold) readings verdict printed =
 MeansJob (Sample seed count) readings verdict printed = (readings ≡ []) × (verdict ≡ Done) × SizeMeans (sample_text seed count) printed
 
 -- The words ask for a job, and this is what the printed bytes mean for it.
-pub record IsMeant (words : List (List ℕ)) (readings : List Reading) (verdict : ReportVerdict) (printed : List ℕ) : Type 0 where
+pub record IsMeant (words : List (List ℕ)) (readings : List OpenedFile) (verdict : ReportVerdict) (printed : List ℕ) : Type 0 where
   pub job : Job
   pub asked : job_of words ≡ Some job
   pub means : MeansJob job readings verdict printed

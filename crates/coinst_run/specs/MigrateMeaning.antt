@@ -1,6 +1,6 @@
 -- What the report on a plan means for the two indexes.
 use Rattle.std.specs.Prelude.{◌≡◌, ℕ, Bool, List, [], map, None, Some, ◌∷◌}
-use Rattle.byte_flow.specs.History.{Reading}
+use Rattle.byte_flow.specs.History.{OpenedFile}
 use Rattle.migrate_plan.specs.{Differing.{differing}, Plan.{settings_of}, Promises.{AreRight, MixesAreIndexes, TakesSafely, planned_name}}
 use Rattle.migrate_plan.specs.{Refusals.{plan_refusal}, declared.plan.PlanLine.{PlanLine}}
 use Rattle.repo_model.specs.{FirstFault.{first_fault}, declared.goals.Goal.{Goal}}
@@ -29,5 +29,5 @@ pub record MigrateMeans (old new : List ℕ) (budget limit : ℕ) (hold : Bool) 
 
 -- what is reported of two files means this for their texts
 abbrev pub MigrateIsMeant : Type 0
-MigrateIsMeant = (old new : List ℕ) (budget limit : ℕ) (hold : Bool) (readings : List Reading) (verdict : ReportVerdict) (printed : List ℕ) → Gives (migrate_course old new budget limit hold) readings (reported verdict printed) →
+MigrateIsMeant = (old new : List ℕ) (budget limit : ℕ) (hold : Bool) (readings : List OpenedFile) (verdict : ReportVerdict) (printed : List ℕ) → Gives (migrate_course old new budget limit hold) readings (reported verdict printed) →
     (first second : List ℕ) × (readings ≡ (old, first) ∷ (new, second) ∷ []) × MigrateMeans first second budget limit hold verdict printed

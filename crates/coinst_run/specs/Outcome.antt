@@ -2,7 +2,7 @@
 -- the status, the report on standard output and the line on standard error.
 use Rattle.std.specs.Prelude.{◌≤◌, ℕ, nat_lt, cond, List, [], ◌∷◌, length, Option, Some, None}
 use Rattle.repo_model.specs.Limits.{most_bytes}
-use Rattle.byte_flow.specs.{Flow.{Files}, History.{Reading}}
+use Rattle.byte_flow.specs.{Flow.{Files}, History.{OpenedFile}}
 use Rattle.coinst_run.specs.declared.answer.Cause.TheVariants.{TooLarge as TooLargeFile}
 use Rattle.coinst_run.specs.{declared.status.Status.{Status}, declared.status.Status.TheVariants.{Words, ReadFault}, Answer.{Answer, reported, refused}}
 use Rattle.coinst_run.specs.{Course.{Course, answers, reads}, Lines.{too_long_line, unread_line, words_line}, Status.{cause_status, verdict_status}}
@@ -32,9 +32,9 @@ outcome_over files (answers answer) = answered answer
 outcome_over files (reads path next) = over_file path (files path) (λ text. outcome_over files (next text))
 
 -- where a course leads if its files have these texts, one after another
-pub data Gives : Course → List Reading → Answer → Type 0 where
+pub data Gives : Course → List OpenedFile → Answer → Type 0 where
   at_once : (answer : Answer) → Gives (answers answer) [] answer
-  by_text : (path text : List ℕ) (next : List ℕ → Course) (readings : List Reading) (answer : Answer) → length text ≤ file_limit → Gives (next text) readings answer →
+  by_text : (path text : List ℕ) (next : List ℕ → Course) (readings : List OpenedFile) (answer : Answer) → length text ≤ file_limit → Gives (next text) readings answer →
       Gives (reads path next) ((path, text) ∷ readings) answer
 
 -- the status, the report and the line of an outcome; no line with a report, and no report with a line

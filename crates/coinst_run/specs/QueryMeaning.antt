@@ -1,6 +1,6 @@
 -- What the report of a query means for the index that was asked.
 use Rattle.std.specs.Prelude.{◌≡◌, ℕ, ◌<◌, ◌≤◌, Bool, List, length, Some, None, [], ◌∷◌}
-use Rattle.byte_flow.specs.History.{Reading}
+use Rattle.byte_flow.specs.History.{OpenedFile}
 use Rattle.repo_model.specs.{FirstFault.{first_fault}, Goals.{CoinstGoals, packages_named}, Repository.{suite_repository}, declared.goals.Goal.{Goal}}
 use Rattle.listed.specs.Lists.{Ascending, In, has}
 use Rattle.row_book.specs.Rounds.{kernel}
@@ -46,5 +46,5 @@ pub record QueryMeans (text : List ℕ) (goals : List Goal) (budget limit : ℕ)
 
 -- what is reported of a file means this for its text
 abbrev pub QueryIsMeant : Type 0
-QueryIsMeant = (path : List ℕ) (goals : List Goal) (budget limit : ℕ) (hold : Bool) (readings : List Reading) (verdict : ReportVerdict) (printed : List ℕ) → Gives (query_course path goals budget limit hold) readings (reported verdict printed) →
+QueryIsMeant = (path : List ℕ) (goals : List Goal) (budget limit : ℕ) (hold : Bool) (readings : List OpenedFile) (verdict : ReportVerdict) (printed : List ℕ) → Gives (query_course path goals budget limit hold) readings (reported verdict printed) →
     (text : List ℕ) × (readings ≡ (path, text) ∷ []) × QueryMeans text goals budget limit hold verdict printed

@@ -1,6 +1,6 @@
 -- What the report of a query of a stored kernel means for the kernel that its text stands for.
 use Rattle.std.specs.Prelude.{◌≡◌, ℕ, ◌<◌, true, List, length, Some, [], ◌∷◌, ◌≤◌}
-use Rattle.byte_flow.specs.History.{Reading}
+use Rattle.byte_flow.specs.History.{OpenedFile}
 use Rattle.kernel_text.specs.{Images.{is_named_by}, KernelReads.{HasOneReading, KernelContent, KernelReads}, declared.member.Member.{Member}}
 use Rattle.kernel_text.specs.Serving.{CoinstStored, ServesStored, images_in}
 use Rattle.repo_model.specs.declared.goals.Goal.{Goal}
@@ -49,5 +49,5 @@ pub record StoredMeans (text : List ℕ) (goals : List Goal) (budget : ℕ) (ver
 
 -- what is reported of a file means this for its text
 abbrev pub StoredQueryIsMeant : Type 0
-StoredQueryIsMeant = (path : List ℕ) (goals : List Goal) (budget : ℕ) (readings : List Reading) (verdict : ReportVerdict) (printed : List ℕ) → Gives (stored_query_course path goals budget) readings (reported verdict printed) →
+StoredQueryIsMeant = (path : List ℕ) (goals : List Goal) (budget : ℕ) (readings : List OpenedFile) (verdict : ReportVerdict) (printed : List ℕ) → Gives (stored_query_course path goals budget) readings (reported verdict printed) →
     (text : List ℕ) × (readings ≡ (path, text) ∷ []) × StoredMeans text goals budget verdict printed

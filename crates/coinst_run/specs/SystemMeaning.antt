@@ -1,6 +1,6 @@
 -- What the report on an installed system means for the status file and the index.
 use Rattle.std.specs.Prelude.{◌≡◌, ◌↔◌, ℕ, Bool, List, map, Some, None, [], ◌∷◌}
-use Rattle.byte_flow.specs.History.{Reading}
+use Rattle.byte_flow.specs.History.{OpenedFile}
 use Rattle.repo_model.specs.{FirstFault.{first_fault}, Repository.{suite_repository}, Stanzas.{HealthyStanzas}}
 use Rattle.suite_compare.specs.{Asking.{verdict_in}, Refusals.{home_in, packages_in}}
 use Rattle.status_check.specs.{Own.{foreign_count, own_home, own_packages, status_fault}, Report.{all_of, had_goals, line_for, state_of, IsJudged, IsStateOf}}
@@ -27,5 +27,5 @@ pub record SystemMeans (suite file : List ℕ) (budget limit : ℕ) (hold : Bool
 
 -- what is reported of two files means this for their texts
 abbrev pub SystemIsMeant : Type 0
-SystemIsMeant = (file index : List ℕ) (budget limit : ℕ) (hold : Bool) (readings : List Reading) (verdict : ReportVerdict) (printed : List ℕ) → Gives (status_course file index budget limit hold) readings (reported verdict printed) →
+SystemIsMeant = (file index : List ℕ) (budget limit : ℕ) (hold : Bool) (readings : List OpenedFile) (verdict : ReportVerdict) (printed : List ℕ) → Gives (status_course file index budget limit hold) readings (reported verdict printed) →
     (suite text : List ℕ) × (readings ≡ (index, suite) ∷ (file, text) ∷ []) × SystemMeans suite text budget limit hold verdict printed

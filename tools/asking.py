@@ -28,7 +28,7 @@ class Question:
     def __init__(
         self, program: Program, what: str, words: typing.Sequence[str], options: typing.Sequence[str] = (), out: typing.IO[bytes] | None = None
     ) -> None:
-        command = [program.path, what, *program.options, *options, "--", *words]
+        command = [program.path, what, *program.options_of(what), *options, "--", *words]
         self.process = subprocess.Popen(command, stdin=subprocess.DEVNULL, stdout=out or subprocess.PIPE, stderr=subprocess.PIPE, **TEXT)
 
     def __enter__(self) -> Question:

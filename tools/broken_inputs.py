@@ -23,7 +23,7 @@ from collections.abc import Callable, Iterator, Sequence
 from typing import BinaryIO
 
 from broken_causes import Asking, causes_of
-from broken_records import File, Found, Refused, Sets, Study
+from broken_records import File, Found, Refused, Study
 from broken_sets import sets_of
 from built import NOT_BUILT
 from command import BadWords, Program, progress

@@ -49,8 +49,13 @@ def parser_of(text: str | None) -> argparse.ArgumentParser:
     return argparse.ArgumentParser(description=text, formatter_class=argparse.RawDescriptionHelpFormatter)
 
 
+def program_found() -> str:
+    """The program that COINST names; else that of these sources; else the one that is installed under its own name."""
+    return os.environ.get("COINST") or (BUILT if os.path.exists(BUILT) else shutil.which("coinst-proved") or BUILT)
+
+
 def add_program(parser: argparse.ArgumentParser) -> None:
-    parser.add_argument("--program", metavar="COINST", default=BUILT, help="the program (without this, the one that ./coinst runs)")
+    parser.add_argument("--program", metavar="COINST", default=program_found(), help="the program (without this, $COINST, or the one that ./coinst runs)")
 
 
 def add_limits(parser: argparse.ArgumentParser) -> None:
@@ -69,6 +74,7 @@ class Program:
     """coinst, asked with the same options again and again."""
 
     def __init__(self, path: str, options: typing.Iterable[str] = ()) -> None:
+        path = path if os.path.exists(path) or os.sep in path else shutil.which(path) or path
         require(path)
         self.path, self.options = os.path.abspath(path), list(options)
 

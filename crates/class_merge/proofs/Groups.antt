@@ -1,19 +1,17 @@
--- A grouping of packages by their rows and conflicts gives the classes.
-use Rattle.std.proofs.Common.{◌≡◌, ℕ, zero, suc, ◌<◌, ◌≤◌, ◌+◌, Bool, true, false, cond, List, [], ◌∷◌, ◌++◌, length, get_or, drop, ◌⊎◌, inl, inr, refl, sym, ◌∙◌, ap, ap₂, subst, arith, map, filter, nat_eq, position, Some, None, Result, Ok, Err, IfOk, append-nil, length-append}
-use Rattle.std.proofs.{lemmas.Bool.{cases_eq, cases_lt, false_from_ne_true, not_from_false}, lemmas.List.Elements.{filter-append}}
-use Rattle.std.proofs.lemmas.List.{get_or-map, get_or_append_left, length-map, map-append}
-use Rattle.std.specs.{List.{list_any}, Cmp.Lexicographic.{pointwise}}
+-- The groups of the packages of a mask, made one after another.
+use Rattle.std.proofs.Common.{◌≡◌, ℕ, zero, suc, ◌<◌, ◌≤◌, ◌+◌, Bool, true, false, List, [], ◌∷◌, ◌++◌, length, get_or, drop, ◌⊎◌, inl, inr, refl, sym, ◌∙◌, ap, ap₂, subst, arith, map, nat_eq, position, Some, None, Result, Ok, Err, IfOk, length-append}
+use Rattle.std.proofs.{lemmas.Bool.{both_ways, cases_eq, cases_lt}, lemmas.List.{get_or-map, get_or_append_left, get_or_default, length-map, map-append}}
+use Rattle.std.specs.Cmp.Lexicographic.{pointwise}
 use Rattle.class_merge.proofs.Places.{place_in, place_none, place_some}
-use Rattle.clause_pool.specs.Interned.{Interned, IsPool, row_at}
-use Rattle.row_book.specs.{declared.book.Book.{Book}, Numbers.{numbers}, Uses.{row_id}, Book.{repository_of, Sound}, Repository.{Repository}}
-use Rattle.row_book.specs.Flattening.{packages}
+use Rattle.clause_pool.specs.Interned.{row_at}
+use Rattle.row_book.specs.{Flags.{flag}, Flattening.{packages}, Repository.{Repository, clauses_of, conflicts_of}, Uses.{row_id}}
 use Rattle.listed.specs.Lists.{In, Ascending}
-use Rattle.row_book.specs.Merging.{are_alike, class_list, class_of as class_of_, firsts, first_of, is_first}
-use Rattle.row_book.proofs.{Books.{clauses_row}, Compared.{row_once}}
-use Rattle.row_book.proofs.Numbers.{at_numbers, length_numbers, numbers_ascending, numbers_parts, numbers_more, numbers_count}
-use Rattle.listed.proofs.{Lists.{In_append_cases, In_at, In_cases, In_map, In_none, any_cases, filter_cases}, Orders.{ascending_filter}}
-use Rattle.class_merge.specs.{Classes.{key_of}, Grouping.{AreClasses, IsPlaceAmong}}
-use Rattle.class_merge.proofs.{Plain.{filter_less, none_before}, Classes.{Alike, alike_from, alike_sym, alike_trans, class_alike, first_in, has_class_lem}}
+use Rattle.row_book.specs.Merging.{class_of as class_of_, firsts, first_of, is_first}
+use Rattle.row_book.proofs.{Compared.{row_once}, Flags.{flag_in}, Numbers.{numbers_ascending}, Repositories.{between}}
+use Rattle.listed.proofs.{Lists.{In_append_cases, In_at, In_cases, In_has, In_map, In_none, filter_cases}, Orders.{ascending_filter, ascending_push}}
+use Rattle.class_merge.specs.{Grouping.{key_of, AreClasses, IsPlaceAmong}, Masks.{masked_repository, AlikeInMask, IsMaskOfRows}}
+use Rattle.class_merge.specs.declared.{grouping.Classes.{Classes}, masked.MaskedRows.{MaskedRows}}
+use Rattle.class_merge.proofs.{Plain.{none_before}, Classes.{Alike, alike_sym, alike_trans, class_alike, first_in, has_class_lem}}
 
 -- places in an ascending list
 ascending_at : (xs : List ℕ) → Ascending xs → (i j : ℕ) → i < j → j < length xs → get_or xs i 0 < get_or xs j 0
@@ -39,11 +37,7 @@ firsts_once R p q f g a =
       | inr v ↦ elim (cases_lt q p) [ inl u ↦ absurd (none_before R p q f u a) | inr u ↦ omega arith ]
     ]
 
-firsts_is : (R : Repository) → filter (is_first R) (packages R) ≡ firsts R
-unfolding firsts
-firsts_is R = refl
-
-firsts_ascend : (R : Repository) → Ascending (firsts R)
+pub firsts_ascend : (R : Repository) → Ascending (firsts R)
 unfolding firsts
 firsts_ascend R = ascending_filter (is_first R) (packages R) (numbers_ascending (length R.clauses) 0)
 
@@ -58,13 +52,6 @@ class_unique R p k l m a =
     place_once (firsts R) (firsts_ascend R) k (class_of_ R p) m n
     (firsts_once R (first_of R k) (first_of R (class_of_ R p)) (of_firsts R (first_of R k) (first_in R k m)) (of_firsts R (first_of R (class_of_ R p)) (first_in R (class_of_ R p) n))
     (alike_trans R (first_of R k) p (first_of R (class_of_ R p)) (alike_sym R p (first_of R k) a) (class_alike R p l)))
-
--- equal lists by their places
-list_same : (xs ys : List ℕ) → length xs ≡ length ys → ((i : ℕ) → i < length xs → get_or xs i 0 ≡ get_or ys i 0) → xs ≡ ys
-list_same [] [] e f = refl
-list_same [] (y ∷ ys) e f = absurd (omega (arith, e))
-list_same (x ∷ xs) [] e f = absurd (omega (arith, e))
-list_same (x ∷ xs) (y ∷ ys) e f = ap₂ (λ z zs. z ∷ zs) (f 0 (omega arith)) (list_same xs ys (omega (arith, e)) (λ i l. f (suc i) (omega arith)))
 
 -- a list that may have gained one number
 front_stays : (xs ys : List ℕ) (n : ℕ) → (ys ≡ xs) ⊎ (ys ≡ xs ++ n ∷ []) → (k : ℕ) → k < length xs → (k < length ys) × (get_or ys k 0 ≡ get_or xs k 0)
@@ -82,9 +69,6 @@ push_new [] x zero e = refl
 push_new [] x (suc n) e = absurd (omega (arith, e))
 push_new (y ∷ ys) x zero e = absurd (omega (arith, e))
 push_new (y ∷ ys) x (suc n) e = push_new ys x n (omega (arith, e))
-
-filter_last : (f : ℕ → Bool) (n : ℕ) → filter f (numbers (n + 1) 0) ≡ filter f (numbers n 0) ++ cond (f n) (n ∷ []) []
-filter_last f n = ap (filter f) (numbers_more n) ∙ filter-append f (numbers n 0) (n ∷ [])
 
 -- the place of a list among lists
 pub placed_old : (lists : List (List ℕ)) (first list : List ℕ) (n place : ℕ) → Some place ≡ position (pointwise nat_eq list) lists → IsPlaceAmong lists lists first first n list place
@@ -107,139 +91,205 @@ placed_new old new first next list n (Ok place) h p a b =
       gains = inr (place_none list old (sym h), b, p);
     }
 
--- the grouping of the packages below n
-pub record GroupsSoFar (pool : Interned) (book : Book) (seen : List (List ℕ)) (least class_of : List ℕ) (n : ℕ) : Type 0 where
-  pub key : seen ≡ map (key_of book) least
-  pub firsts : least ≡ filter (is_first (repository_of pool book)) (numbers n 0)
-  pub count : length class_of ≡ n
-  pub within : (q : ℕ) → q < n → get_or class_of q 0 < length least
-  pub alike : (q : ℕ) → q < n → Alike (repository_of pool book) q (get_or least (get_or class_of q 0) 0)
+-- the groups of the packages of the mask below n
+pub record GroupsSoFar (masked : MaskedRows) (seen : List (List ℕ)) (least group_of : List ℕ) (n : ℕ) : Type 0 where
+  pub key : seen ≡ map (key_of masked) least
+  pub count : length group_of ≡ n
+  pub short : length least ≤ n
+  pub ascending : Ascending least
+  pub below : (p : ℕ) → In p least → p < n
+  pub there : (p : ℕ) → In p least → flag masked.flags.now p ≡ true
+  pub first : (p q : ℕ) → In p least → flag masked.flags.now q ≡ true → q < p → AlikeInMask (masked_repository masked) masked.flags.now q p → ⊥
+  pub within : (q : ℕ) → q < n → flag masked.flags.now q ≡ true → get_or group_of q 0 < length least
+  pub alike : (q : ℕ) → q < n → flag masked.flags.now q ≡ true → AlikeInMask (masked_repository masked) masked.flags.now q (get_or least (get_or group_of q 0) 0)
 
-module _ (pool : Interned) (book : Book) (is : IsPool pool) (sound : Sound pool book) where
+module _ (masked : MaskedRows) (is : IsMaskOfRows masked) where
   abbrev R : Repository
-  R = repository_of pool book
+  R = masked_repository masked
 
-  size : length R.clauses ≡ length book.rows
-  size = length-map book.rows (row_at pool)
+  abbrev flags : List Bool
+  flags = masked.flags.now
 
-  row_within : (p : ℕ) → p < length book.rows → row_id book.rows p < length pool.rows
-  row_within p l = sound.rows.of_pool (row_id book.rows p) (In_at book.rows p 0 l)
+  pub masked_size : length R.clauses ≡ length masked.rows.now
+  masked_size = length-map masked.rows.now (row_at masked.pool.now)
 
-  alike_keys : (p q : ℕ) → p < length book.rows → q < length book.rows → key_of book p ≡ key_of book q → Alike R p q
+  pub flags_size : length flags ≡ length masked.rows.now
+  flags_size = is.mask.size ∙ masked_size
+
+  pub lists_size : length masked.conflicts.now ≡ length masked.rows.now
+  lists_size = is.mask.sound.count ∙ masked_size
+
+  pub masked_row : (p : ℕ) → p < length masked.rows.now → clauses_of R p ≡ row_at masked.pool.now (row_id masked.rows.now p)
+  masked_row p l = get_or-map (row_at masked.pool.now) masked.rows.now p 0 [] l
+
+  pub row_within : (p : ℕ) → p < length masked.rows.now → row_id masked.rows.now p < length masked.pool.now.rows
+  row_within p l = is.of_pool (row_id masked.rows.now p) (In_at masked.rows.now p 0 l)
+
+  -- what was read at a place
+  pub row_read : (p d : ℕ) → p < length masked.rows.now → get_or masked.rows.now p d ≡ row_id masked.rows.now p
+  row_read p d l = sym (get_or_default masked.rows.now p 0 d l)
+
+  pub list_read : (p : ℕ) (d list : List ℕ) → p < length masked.rows.now → list ≡ get_or masked.conflicts.now p d → list ≡ conflicts_of R p
+  list_read p d list l e = e ∙ sym (get_or_default masked.conflicts.now p [] d (omega (arith, l, lists_size)))
+
+  pub list_within : (p : ℕ) (d list : List ℕ) → p < length masked.rows.now → list ≡ get_or masked.conflicts.now p d → (n : ℕ) → In n list → n < length flags
+  list_within p d list l e n i =
+      let w : n < length R.clauses = (between R is.mask.sound p n (In_has (subst (λ xs. In n xs) (list_read p d list l e) i))).1 in
+      omega (arith, w, is.mask.size)
+
+  alike_keys : (p q : ℕ) → p < length masked.rows.now → q < length masked.rows.now → key_of masked p ≡ key_of masked q → AlikeInMask R flags p q
   alike_keys p q l m e = record {
-    clauses = clauses_row pool book p l ∙ ap (row_at pool) (ap (λ xs. get_or xs 0 0) e) ∙ sym (clauses_row pool book q m);
+    clauses = masked_row p l ∙ ap (row_at masked.pool.now) (ap (λ xs. get_or xs 0 0) e) ∙ sym (masked_row q m);
     conflicts = ap (drop 1) e;
   }
 
-  keys_alike : (p q : ℕ) → p < length book.rows → q < length book.rows → Alike R p q → key_of book p ≡ key_of book q
+  keys_alike : (p q : ℕ) → p < length masked.rows.now → q < length masked.rows.now → AlikeInMask R flags p q → key_of masked p ≡ key_of masked q
   keys_alike p q l m a =
       ap₂ (λ x xs. x ∷ xs)
-      (row_once pool is (row_id book.rows p) (row_id book.rows q) (row_within p l) (row_within q m) (sym (clauses_row pool book p l) ∙ a.clauses ∙ clauses_row pool book q m))
+      (row_once masked.pool.now is.is_pool (row_id masked.rows.now p) (row_id masked.rows.now q) (row_within p l) (row_within q m) (sym (masked_row p l) ∙ a.clauses ∙ masked_row q m))
       a.conflicts
 
-  pub group_none : (seen : List (List ℕ)) (least class_of : List ℕ) → seen ≡ [] → least ≡ [] → class_of ≡ [] → GroupsSoFar pool book seen least class_of 0
-  unfolding numbers
-  group_none seen least class_of e f g = record {
-    key = e ∙ sym (ap (map (key_of book)) f);
-    firsts = f;
+  pub group_none : (seen : List (List ℕ)) (least group_of : List ℕ) → seen ≡ [] → least ≡ [] → group_of ≡ [] → GroupsSoFar masked seen least group_of 0
+  group_none seen least group_of e f g = record {
+    key = e ∙ sym (ap (map (key_of masked)) f);
     count = ap length g;
-    within = λ q l. absurd (omega arith);
-    alike = λ q l. absurd (omega arith);
+    short = (let z : length least ≡ 0 = ap length f in omega (arith, z));
+    ascending = subst Ascending (sym f) tt;
+    below = λ p i. absurd (In_none (subst (λ xs. In p xs) f i));
+    there = λ p i. absurd (In_none (subst (λ xs. In p xs) f i));
+    first = λ p q i u l a. In_none (subst (λ xs. In p xs) f i);
+    within = λ q l u. absurd (omega arith);
+    alike = λ q l u. absurd (omega arith);
   }
 
-  module _ (seen seen2 : List (List ℕ)) (least least2 class_of class_of2 : List ℕ) (n place : ℕ) (g : GroupsSoFar pool book seen least class_of n) (l : n < length book.rows)
-      (placed : IsPlaceAmong seen seen2 least least2 n (key_of book n) place) (pushed : class_of2 ≡ class_of ++ place ∷ []) where
-    least_below : (f : ℕ) → In f least → f < n
-    least_below f i = let w : (0 ≤ f) × (f < 0 + n) = numbers_parts n 0 f (filter_cases (is_first R) (numbers n 0) f (subst (λ z. In f z) g.firsts i)).0 in omega arith
+  module _ (seen : List (List ℕ)) (least group_of group_of2 : List ℕ) (n place : ℕ) (g : GroupsSoFar masked seen least group_of n) (pushed : group_of2 ≡ group_of ++ place ∷ []) where
+    old_place : (q : ℕ) → q < n → get_or group_of2 q 0 ≡ get_or group_of q 0
+    old_place q u = ap (λ z. get_or z q 0) pushed ∙ push_old group_of place q (let h : length group_of ≡ n = g.count in omega (arith, h))
 
-    gained : (least2 ≡ least) ⊎ (least2 ≡ least ++ n ∷ [])
-    gained = elim placed.gains [ inl w ↦ inl w.2 | inr w ↦ inr w.2 ]
+    own_place : get_or group_of2 n 0 ≡ place
+    own_place = ap (λ z. get_or z n 0) pushed ∙ push_new group_of place n g.count
 
-    seen_is : seen2 ≡ map (key_of book) least2
-    seen_is = elim placed.gains [
-      | inl w ↦ w.1 ∙ g.key ∙ sym (ap (map (key_of book)) w.2)
-      | inr w ↦ w.1 ∙ ap (λ z. z ++ key_of book n ∷ []) g.key ∙ sym (map-append (key_of book) least (n ∷ [])) ∙ sym (ap (map (key_of book)) w.2)
-    ]
+    count_more : length group_of2 ≡ n + 1
+    count_more = ap length pushed ∙ (let e : length (group_of ++ place ∷ []) ≡ length group_of + 1 = length-append group_of (place ∷ []) in let h : length group_of ≡ n = g.count in omega (arith, e, h))
 
-    pub place_within : place < length least2
-    place_within = let e : length seen2 ≡ length least2 = ap length seen_is ∙ length-map least2 (key_of book) in let w : place < length seen2 = placed.within in omega (arith, e, w)
+    -- a package that is not in the mask
+    pub group_skip : flag flags n ≡ false → GroupsSoFar masked seen least group_of2 (n + 1)
+    group_skip down =
+        let before : (q : ℕ) → q < n + 1 → flag flags q ≡ true → q < n = λ q l u.
+        elim (cases_eq q n) [ inl e ↦ absurd (both_ways (flag flags n) down (subst (λ z. flag flags z ≡ true) e u)) | inr ne ↦ omega (arith, ne) ] in
+        let s : length least ≤ n = g.short in
+        record {
+          key = g.key;
+          count = count_more;
+          short = omega (arith, s);
+          ascending = g.ascending;
+          below = λ p i. (let b : p < n = g.below p i in omega (arith, b));
+          there = g.there;
+          first = g.first;
+          within = λ q l u. subst (λ z. z < length least) (sym (old_place q (before q l u))) (g.within q (before q l u) u);
+          alike = λ q l u. subst (λ z. AlikeInMask R flags q (get_or least z 0)) (sym (old_place q (before q l u))) (g.alike q (before q l u) u);
+        }
 
-    least2_below : (f : ℕ) → In f least2 → f < length book.rows
-    least2_below f i = elim gained [
-      | inl e ↦ (let w : f < n = least_below f (subst (λ z. In f z) e i) in omega arith)
-      | inr e ↦ elim (In_append_cases least (n ∷ []) f (subst (λ z. In f z) e i)) [
-        | inl j ↦ (let w : f < n = least_below f j in omega arith)
-        | inr j ↦ elim (In_cases j) [ inl s ↦ subst (λ z. z < length book.rows) (sym s) l | inr k ↦ absurd (In_none k) ]
+    module _ (seen2 : List (List ℕ)) (least2 : List ℕ) (l : n < length masked.rows.now) (up : flag flags n ≡ true) (placed : IsPlaceAmong seen seen2 least least2 n (key_of masked n) place) where
+      gained : (least2 ≡ least) ⊎ (least2 ≡ least ++ n ∷ [])
+      gained = elim placed.gains [ inl w ↦ inl w.2 | inr w ↦ inr w.2 ]
+
+      seen_is : seen2 ≡ map (key_of masked) least2
+      seen_is = elim placed.gains [
+        | inl w ↦ w.1 ∙ g.key ∙ sym (ap (map (key_of masked)) w.2)
+        | inr w ↦ w.1 ∙ ap (λ z. z ++ key_of masked n ∷ []) g.key ∙ sym (map-append (key_of masked) least (n ∷ [])) ∙ sym (ap (map (key_of masked)) w.2)
       ]
-    ]
 
-    its_alike : Alike R n (get_or least2 place 0)
-    its_alike =
-        alike_keys n (get_or least2 place 0) l (least2_below (get_or least2 place 0) (In_at least2 place 0 place_within))
-        (sym placed.holds ∙ ap (λ z. get_or z place []) seen_is ∙ get_or-map (key_of book) least2 place 0 [] place_within)
+      pub place_within : place < length least2
+      place_within = let e : length seen2 ≡ length least2 = ap length seen_is ∙ length-map least2 (key_of masked) in let w : place < length seen2 = placed.within in omega (arith, e, w)
 
-    firsts_are : least2 ≡ filter (is_first R) (numbers (n + 1) 0)
-    firsts_are = elim placed.gains [
-      | inl w ↦
-          let i : In (get_or least2 place 0) least = subst (λ z. In (get_or z place 0) least) (sym w.2) (In_at least place 0 (subst (λ z. place < length z) w.2 place_within)) in
-          let no : is_first R n ≡ false = false_from_ne_true (is_first R n) (λ t. none_before R n (get_or least2 place 0) t (least_below (get_or least2 place 0) i) its_alike) in
-          w.2 ∙ g.firsts ∙ sym (filter_last (is_first R) n ∙ ap (λ b. filter (is_first R) (numbers n 0) ++ cond b (n ∷ []) []) no ∙ append-nil (filter (is_first R) (numbers n 0)))
-      | inr w ↦
-          let none : (q : ℕ) → q < n → Alike R n q → ⊥ = λ q m a.
-          let k : ℕ = get_or class_of q 0 in
+      pub place_short : length least2 ≤ n + 1
+      place_short =
+          let s : length least ≤ n = g.short in
+          elim gained [
+            | inl e ↦ (let h : length least2 ≡ length least = ap length e in omega (arith, h, s))
+            | inr e ↦ (let h : length least2 ≡ length least + 1 = ap length e ∙ length-append least (n ∷ []) in omega (arith, h, s))
+          ]
+
+      -- one that was among the least, or the package itself
+      least2_cases : (p : ℕ) → In p least2 → In p least ⊎ (p ≡ n)
+      least2_cases p i = elim gained [
+        | inl e ↦ inl (subst (λ z. In p z) e i)
+        | inr e ↦ elim (In_append_cases least (n ∷ []) p (subst (λ z. In p z) e i)) [
+          | inl j ↦ inl j
+          | inr j ↦ elim (In_cases j) [ inl s ↦ inr s | inr k ↦ absurd (In_none k) ]
+        ]
+      ]
+
+      least2_below : (p : ℕ) → In p least2 → p < n + 1
+      least2_below p i = elim (least2_cases p i) [ inl j ↦ (let b : p < n = g.below p j in omega (arith, b)) | inr e ↦ omega (arith, e) ]
+
+      its_alike : AlikeInMask R flags n (get_or least2 place 0)
+      its_alike =
+          alike_keys n (get_or least2 place 0) l (let b : get_or least2 place 0 < n + 1 = least2_below (get_or least2 place 0) (In_at least2 place 0 place_within) in omega (arith, b, l))
+          (sym placed.holds ∙ ap (λ z. get_or z place []) seen_is ∙ get_or-map (key_of masked) least2 place 0 [] place_within)
+
+      -- no lesser one is like a new one
+      new_first : (In (key_of masked n) seen → ⊥) → (q : ℕ) → flag flags q ≡ true → q < n → AlikeInMask R flags q n → ⊥
+      new_first none q u m a =
+          let k : ℕ = get_or group_of q 0 in
           let f : ℕ = get_or least k 0 in
-          let i : In f least = In_at least k 0 (g.within q m) in
-          let b : f < n = least_below f i in
-          w.0 (subst (λ z. In (key_of book n) z) (sym g.key)
-          (subst (λ z. In z (map (key_of book) least)) (sym (keys_alike n f l (omega arith) (alike_trans R n q f a (g.alike q m)))) (In_map (key_of book) least f i))) in
-          let yes : is_first R n ≡ true = not_from_false (list_any (are_alike R n) (numbers n 0)) (false_from_ne_true (list_any (are_alike R n) (numbers n 0)) (λ t.
-          let v : (q : ℕ) × In q (numbers n 0) × (are_alike R n q ≡ true) = any_cases (are_alike R n) (numbers n 0) t in
-          let u : (0 ≤ v.0) × (v.0 < 0 + n) = numbers_parts n 0 v.0 v.1 in
-          none v.0 (omega arith) (alike_from R n v.0 v.2))) in
-          w.2 ∙ ap (λ z. z ++ n ∷ []) g.firsts ∙ sym (filter_last (is_first R) n ∙ ap (λ b. filter (is_first R) (numbers n 0) ++ cond b (n ∷ []) []) yes)
-    ]
+          let i : In f least = In_at least k 0 (g.within q m u) in
+          let b : f < n = g.below f i in
+          let same : AlikeInMask R flags q f = g.alike q m u in
+          none (subst (λ z. In (key_of masked n) z) (sym g.key)
+          (subst (λ z. In z (map (key_of masked) least))
+          (sym (keys_alike n f l (omega (arith, b, l)) (record { clauses = sym a.clauses ∙ same.clauses; conflicts = sym a.conflicts ∙ same.conflicts })))
+          (In_map (key_of masked) least f i)))
 
-    pub group_more : GroupsSoFar pool book seen2 least2 class_of2 (n + 1)
-    group_more = record {
-      key = seen_is;
-      firsts = firsts_are;
-      count = ap length pushed ∙ (let e : length (class_of ++ place ∷ []) ≡ length class_of + 1 = length-append class_of (place ∷ []) in let h : length class_of ≡ n = g.count in omega (arith, e, h));
-      within = λ q m. elim (cases_eq q n) [
-        | inl e ↦ subst (λ z. z < length least2) (sym (ap (λ z. get_or z q 0) pushed ∙ ap (λ z. get_or (class_of ++ place ∷ []) z 0) e ∙ push_new class_of place n g.count)) place_within
-        | inr ne ↦
-            let u : q < n = omega (arith, ne) in
-            subst (λ z. z < length least2) (sym (old q u)) (front_stays least least2 n gained (get_or class_of q 0) (g.within q u)).0
-      ];
-      alike = λ q m. elim (cases_eq q n) [
-        | inl e ↦ subst (λ z. Alike R q (get_or least2 z 0)) (sym (ap (λ z. get_or z q 0) pushed ∙ ap (λ z. get_or (class_of ++ place ∷ []) z 0) e ∙ push_new class_of place n g.count))
-            (subst (λ z. Alike R z (get_or least2 place 0)) (sym e) its_alike)
-        | inr ne ↦
-            let u : q < n = omega (arith, ne) in
-            subst (λ z. Alike R q (get_or least2 z 0)) (sym (old q u))
-            (subst (λ z. Alike R q z) (sym (front_stays least least2 n gained (get_or class_of q 0) (g.within q u)).1) (g.alike q u))
-      ];
-    }
-      where
-        old : (q : ℕ) → q < n → get_or class_of2 q 0 ≡ get_or class_of q 0
-        old q u = ap (λ z. get_or z q 0) pushed ∙ push_old class_of place q (let h : length class_of ≡ n = g.count in omega (arith, h))
+      ascends : Ascending least2
+      ascends = elim gained [
+        | inl e ↦ subst Ascending (sym e) g.ascending
+        | inr e ↦ subst Ascending (sym e) (ascending_push least n g.ascending g.below)
+      ]
 
-  pub group_all : (seen : List (List ℕ)) (least class_of : List ℕ) (n : ℕ) → n ≡ length book.rows → GroupsSoFar pool book seen least class_of n → AreClasses pool book least class_of
-  group_all seen least class_of n e g =
-      let m : n ≡ length R.clauses = e ∙ sym size in
-      let first : least ≡ firsts R = g.firsts ∙ ap (λ z. filter (is_first R) (numbers z 0)) m ∙ firsts_is R in
-      record {
-        firsts = first;
-        classes = list_same class_of (class_list R) (g.count ∙ (m ∙ sym (length_numbers (class_of_ R) (length R.clauses) 0))) (λ q l.
-            let u : q < n = subst (λ z. q < z) g.count l in
-            let v : q < length R.clauses = subst (λ z. q < z) m u in
-            class_unique R q (get_or class_of q 0) v (subst (λ z. get_or class_of q 0 < length z) first (g.within q u))
-            (subst (λ z. Alike R q (get_or z (get_or class_of q 0) 0)) first (g.alike q u))
-            ∙ sym (at_numbers (class_of_ R) 0 (length R.clauses) 0 q v ∙ ap (class_of_ R) (omega arith)));
+      firsts_alone : (p q : ℕ) → In p least2 → flag flags q ≡ true → q < p → AlikeInMask R flags q p → ⊥
+      firsts_alone p q i u m a = elim placed.gains [
+        | inl w ↦ g.first p q (subst (λ z. In p z) w.2 i) u m a
+        | inr w ↦ elim (least2_cases p i) [
+          | inl j ↦ g.first p q j u m a
+          | inr e ↦ new_first w.0 q u (subst (λ z. q < z) e m) (subst (λ z. AlikeInMask R flags q z) e a)
+        ]
+      ]
+
+      pub group_more : GroupsSoFar masked seen2 least2 group_of2 (n + 1)
+      group_more = record {
+        key = seen_is;
+        count = count_more;
+        short = place_short;
+        ascending = ascends;
+        below = least2_below;
+        there = λ p i. elim (least2_cases p i) [ inl j ↦ g.there p j | inr e ↦ subst (λ z. flag flags z ≡ true) (sym e) up ];
+        first = firsts_alone;
+        within = λ q m u. elim (cases_eq q n) [
+          | inl e ↦ subst (λ z. z < length least2) (sym (ap (λ z. get_or group_of2 z 0) e ∙ own_place)) place_within
+          | inr ne ↦
+              let b : q < n = omega (arith, ne, m) in
+              subst (λ z. z < length least2) (sym (old_place q b)) (front_stays least least2 n gained (get_or group_of q 0) (g.within q b u)).0
+        ];
+        alike = λ q m u. elim (cases_eq q n) [
+          | inl e ↦ subst (λ z. AlikeInMask R flags q (get_or least2 z 0)) (sym (ap (λ z. get_or group_of2 z 0) e ∙ own_place)) (subst (λ z. AlikeInMask R flags z (get_or least2 place 0)) (sym e) its_alike)
+          | inr ne ↦
+              let b : q < n = omega (arith, ne, m) in
+              subst (λ z. AlikeInMask R flags q (get_or least2 z 0)) (sym (old_place q b))
+              (subst (λ z. AlikeInMask R flags q z) (sym (front_stays least least2 n gained (get_or group_of q 0) (g.within q b u)).1) (g.alike q b u))
+        ];
       }
 
-  pub group_short : (seen : List (List ℕ)) (least class_of : List ℕ) (n : ℕ) → GroupsSoFar pool book seen least class_of n → length least ≤ n
-  group_short seen least class_of n g =
-      let e : length least ≡ length (filter (is_first R) (numbers n 0)) = ap length g.firsts in
-      let l : length (filter (is_first R) (numbers n 0)) ≤ length (numbers n 0) = filter_less (is_first R) (numbers n 0) in
-      let m : length (numbers n 0) ≡ n = numbers_count n 0 in
-      omega (arith, e, l, m)
+  pub group_all : (seen : List (List ℕ)) (classes : Classes) (n : ℕ) → n ≡ length flags → GroupsSoFar masked seen classes.firsts.items classes.class_of.items n → AreClasses masked classes
+  group_all seen classes n e g = record {
+    grouped = record {
+      ascending = g.ascending;
+      there = g.there;
+      first = g.first;
+      within = λ p up. g.within p (subst (λ z. p < z) (sym e) (flag_in flags p up)) up;
+      alike = λ p up. g.alike p (subst (λ z. p < z) (sym e) (flag_in flags p up)) up;
+    };
+    size = g.count ∙ e;
+    short = (let s : length classes.firsts.items ≤ n = g.short in omega (arith, s, e));
+  }

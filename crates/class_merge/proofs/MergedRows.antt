@@ -1,21 +1,19 @@
 -- The rows and conflicts that are made from a list of classes are those of the merged repository.
-use Rattle.std.proofs.Common.{◌≡◌, ℕ, ◌<◌, ◌≤◌, ◌+◌, true, not, ◌||◌, eqb, List, [], ◌∷◌, length, get_or, refl, sym, ◌∙◌, ap, ap₂, subst, arith, map, eq-eqb, eqb-true, slice_index_or, ◌↔◌}
-use Rattle.std.proofs.lemmas.List.{get_or-map, length-map}
+use Rattle.std.proofs.Common.{◌≡◌, ℕ, ◌<◌, true, not, ◌||◌, eqb, List, [], length, sym, ◌∙◌, ap, subst, arith, map, eq-eqb, eqb-true, slice_index_or, ◌↔◌}
+use Rattle.std.proofs.lemmas.List.{get_or-map}
 use Rattle.std.specs.List.{list_all, list_any}
-use Rattle.listed.proofs.{Bools.{same_bool}, Lists.{In_has, In_map_cases, any_cases, any_from, filter_same, has_In}}
-use Rattle.clause_pool.specs.{Interned.{Interned, IsPool, row_at}, Lists.{InOrder}, Clauses.{apart_from, minimal_of, in_row_order}}
-use Rattle.row_book.specs.{declared.book.Book.{Book}, Numbers.{numbers}, Uses.{row_id}, Repository.{Repository, Coinst, against, clauses_of, conflicts_of}}
-use Rattle.row_book.specs.{Flattening.{packages}, Sound.{SoundRepository, TidyRepository}, Keeping.{KeepsImages}}
-use Rattle.row_book.specs.Book.{listed_for, repository_of, RowsTidy, Sound}
+use Rattle.listed.proofs.{Bools.{same_bool}, Lists.{In_has, any_cases, any_from, filter_same, has_In}}
+use Rattle.clause_pool.specs.{Interned.{Interned, row_at}, Lists.{InOrder}, Clauses.{apart_from, minimal_of, in_row_order}}
+use Rattle.row_book.specs.{Numbers.{numbers}, Uses.{row_id}, Repository.{Repository, Coinst, against, clauses_of, conflicts_of}}
+use Rattle.row_book.specs.{Sound.{SoundRepository, TidyRepository}, Keeping.{KeepsImages}, Book.{RowsTidy}}
 use Rattle.row_book.specs.Merging.{class_clauses, class_conflicts, class_list, class_of, classes, clause_image, firsts, first_of, image, quotient}
-use Rattle.listed.specs.Lists.{In, here, there, has, is_inside}
-use Rattle.row_book.proofs.{Books.{clauses_row}, BookRepositories.{book_size, sound_book, sound_repository}}
-use Rattle.row_book.proofs.{Numbers.{at_numbers, length_numbers, numbers_parts}, Repositories.{between, ranged, repository_same, symmetric}}
+use Rattle.listed.specs.Lists.{In, has, is_inside}
+use Rattle.row_book.proofs.{Numbers.{at_numbers, length_numbers}, Parts.{map_alike}, Repositories.{between, ranged, symmetric}}
 use Rattle.clause_pool.proofs.{Clauses.{minimal_of_from, minimal_of_parts}, Order.{order_filter, order_same, ordered_has, ordered_order, ordered_parts}}
 use Rattle.clause_families.specs.Families.{SameClauses}
-use Rattle.class_merge.specs.{Classes.{class_in, clauses_in, image_in, ClassesWithin, HasClasses}, Grouping.{AreClasses}}
-use Rattle.class_merge.proofs.{Classes.{alike_self, class_alike, first_within, has_class_lem, image_from, image_parts, of_classes}, Groups.{class_unique}}
-use Rattle.class_merge.proofs.{Kept.{merge_is_tidy_lem, merge_keeps_lem, merged_size}, Plain.{firsts_le}}
+use Rattle.class_merge.specs.Classes.{class_in, clauses_in, image_in}
+use Rattle.class_merge.proofs.{Classes.{alike_self, class_alike, first_within, image_from, image_parts, of_classes}, Groups.{class_unique}}
+use Rattle.class_merge.proofs.Kept.{merge_keeps_lem}
 
 -- the classes in a list
 pub class_at : (R : Repository) (p : ℕ) → p < length R.clauses → class_in (class_list R) p ≡ class_of R p
@@ -23,12 +21,6 @@ class_at R p l = at_numbers (class_of R) 0 (length R.clauses) 0 p l ∙ ap (clas
 
 pub list_size : (R : Repository) → length (class_list R) ≡ length R.clauses
 list_size R = length_numbers (class_of R) (length R.clauses) 0
-
-pub list_within : (R : Repository) → ClassesWithin (length (firsts R)) (class_list R)
-list_within R k i =
-    let w : (p : ℕ) × In p (packages R) × (k ≡ class_of R p) = In_map_cases (class_of R) (packages R) k i in
-    let l : (0 ≤ w.0) × (w.0 < 0 + length R.clauses) = numbers_parts (length R.clauses) 0 w.0 w.1 in
-    subst (λ z. z < length (firsts R)) (sym w.2) (has_class_lem R w.0 (omega arith)).within
 
 -- the image of a clause
 pub image_at : (R : Repository) (c : List ℕ) → ((n : ℕ) → In n c → n < length R.clauses) → image_in (length (firsts R)) (class_list R) c ≡ clause_image R c
@@ -43,10 +35,6 @@ image_at R c range =
     (λ t.
     let w : (p : ℕ) × (p < length R.clauses) × (has c p ≡ true) × (class_of R p ≡ k) = image_parts R (has c) k t in
     any_from (λ n. eqb (class_in (class_list R) n) k) c w.0 (has_In c w.0 w.2) (eq-eqb (class_in (class_list R) w.0) k (class_at R w.0 w.1 ∙ w.3))))
-
-map_same_list : (f g : List ℕ → List ℕ) (cs : List (List ℕ)) → ((c : List ℕ) → In c cs → f c ≡ g c) → map f cs ≡ map g cs
-map_same_list f g [] e = refl
-map_same_list f g (c ∷ cs) e = ap₂ (λ x xs. x ∷ xs) (e c here) (map_same_list f g cs (λ d i. e d (there i)))
 
 -- the conflicts of a class
 pub conflicts_at : (R : Repository) → SoundRepository R → (k : ℕ) → k < length (firsts R) → image_in (length (firsts R)) (class_list R) (conflicts_of R (first_of R k)) ≡ class_conflicts R k
@@ -73,7 +61,7 @@ conflicts_at R s k l =
 pub clauses_at_class : (R : Repository) → SoundRepository R → (k : ℕ) → k < length (firsts R) → clauses_in (length (firsts R)) (class_list R) k (clauses_of R (first_of R k)) ≡ class_clauses R k
 clauses_at_class R s k l =
     ap (λ cs. in_row_order (minimal_of (apart_from k cs)))
-    (map_same_list (image_in (length (firsts R)) (class_list R)) (clause_image R) (clauses_of R (first_of R k)) (λ c i. image_at R c (ranged R s (first_of R k) c i)))
+    (map_alike (image_in (length (firsts R)) (class_list R)) (clause_image R) (clauses_of R (first_of R k)) (λ c i. image_at R c (ranged R s (first_of R k) c i)))
 
 -- a family in order has its minimal clauses in order
 pub minimal_ordered : (all family : List (List ℕ)) → SameClauses all family → InOrder family → minimal_of family ≡ in_row_order (minimal_of all)
@@ -82,39 +70,6 @@ minimal_ordered all family same order =
     (λ c i. ordered_has (minimal_of all) c (minimal_of_from all c (same.back c (minimal_of_parts family c i).0) (λ S j f. (minimal_of_parts family c i).1 S (same.there S j) f)))
     (λ c i. let j : In c (minimal_of all) = ordered_parts (minimal_of all) c i in
     minimal_of_from family c (same.there c (minimal_of_parts all c j).0) (λ S u f. (minimal_of_parts all c j).1 S (same.back S u) f))
-
--- what is asked of the lists of classes
-pub record Serves (pool : Interned) (book : Book) (least class_of : List ℕ) : Type 0 where
-  pub count : length least ≡ length (firsts (repository_of pool book))
-  pub few : length least < 4294967295
-  pub inside : (k : ℕ) → k < length least → get_or least k 0 < length book.rows
-  pub within : ClassesWithin (length least) class_of
-  pub has_row : (k : ℕ) → k < length least → (c : List ℕ) → In c (row_at pool (row_id book.rows (get_or least k 0))) → HasClasses class_of c
-  pub row : (k : ℕ) → k < length least → clauses_in (length least) class_of k (row_at pool (row_id book.rows (get_or least k 0))) ≡ class_clauses (repository_of pool book) k
-  pub has_list : (k : ℕ) → k < length least → HasClasses class_of (listed_for book.conflicts (get_or least k 0))
-  pub list : (k : ℕ) → k < length least → image_in (length least) class_of (listed_for book.conflicts (get_or least k 0)) ≡ class_conflicts (repository_of pool book) k
-
-its_own : (pool : Interned) (book : Book) → IsPool pool → Sound pool book → Serves pool book (firsts (repository_of pool book)) (class_list (repository_of pool book))
-its_own pool book is sound =
-    let R : Repository = repository_of pool book in
-    let s : SoundRepository R = sound_repository pool book is sound in
-    let size : length R.clauses ≡ length book.rows = book_size pool book in
-    let inside : (k : ℕ) → k < length (firsts R) → first_of R k < length book.rows = λ k l. subst (λ z. first_of R k < z) size (first_within R k l) in
-    record {
-      count = refl;
-      few = (let a : length (firsts R) ≤ length R.clauses = firsts_le R in let b : length book.rows < 4294967295 = book.few in omega (arith, a, b, size));
-      inside = inside;
-      within = list_within R;
-      has_row = λ k l c i n j. subst (λ z. n < z) (sym (list_size R))
-          (ranged R s (first_of R k) c (subst (λ cs. In c cs) (sym (clauses_row pool book (first_of R k) (inside k l))) i) n j);
-      row = λ k l. ap (clauses_in (length (firsts R)) (class_list R) k) (sym (clauses_row pool book (first_of R k) (inside k l))) ∙ clauses_at_class R s k l;
-      has_list = λ k l n i. subst (λ z. n < z) (sym (list_size R)) (between R s (first_of R k) n (In_has i)).1;
-      list = λ k l. conflicts_at R s k l;
-    }
-
-pub classes_serve : (pool : Interned) (book : Book) (least class_of : List ℕ) → IsPool pool → Sound pool book → AreClasses pool book least class_of → Serves pool book least class_of
-classes_serve pool book least class_of is sound a =
-    subst (λ z. Serves pool book z class_of) (sym a.firsts) (subst (λ z. Serves pool book (firsts (repository_of pool book)) z) (sym a.classes) (its_own pool book is sound))
 
 -- the tables of the merged repository
 pub merged_table : (R : Repository) (n : ℕ) → n ≡ length (firsts R) → map (class_clauses R) (numbers n 0) ≡ (quotient R).clauses
@@ -125,34 +80,6 @@ pub merged_lists : (R : Repository) (n : ℕ) → n ≡ length (firsts R) → ma
 unfolding quotient
 merged_lists R n e = ap (λ z. map (class_conflicts R) (numbers z 0)) e
 
--- the rows of a merged book
-rows_size : (pool : Interned) (rows : List ℕ) (R : Repository) → map (row_at pool) rows ≡ R.clauses → length rows ≡ length R.clauses
-rows_size pool rows R e = sym (length-map rows (row_at pool)) ∙ ap length e
-
-pub merged_few : (start new : Interned) (book : Book) (rows given : List ℕ) → map (row_at new) rows ≡ (quotient (repository_of start book)).clauses → given ≡ rows → length given < 4294967295
-merged_few start new book rows given e g =
-    let R : Repository = repository_of start book in
-    let a : length rows ≡ length (firsts R) = rows_size new rows (quotient R) e ∙ merged_size R in
-    let b : length (firsts R) ≤ length R.clauses = firsts_le R in
-    let c : length R.clauses ≡ length book.rows = book_size start book in
-    let d : length book.rows < 4294967295 = book.few in
-    let f : length given ≡ length rows = ap length g in
-    omega (arith, a, b, c, d, f)
-
-pub merged_paired : (start new : Interned) (book : Book) (rows given : List ℕ) (lists told : List (List ℕ)) → IsPool start → Sound start book → map (row_at new) rows ≡ (quotient (repository_of start book)).clauses → given ≡ rows →
-    lists ≡ (quotient (repository_of start book)).conflicts → told ≡ lists → length told ≡ length given
-merged_paired start new book rows given lists told is s e g f h =
-    ap length h ∙ ap length f ∙ (merge_is_tidy_lem (repository_of start book) (sound_repository start book is s)).sound.count
-    ∙ sym (ap length g ∙ rows_size new rows (quotient (repository_of start book)) e)
-
-pub merged_sound : (start new : Interned) (book made : Book) (rows : List ℕ) (lists : List (List ℕ)) → IsPool start → IsPool new → Sound start book → map (row_at new) rows ≡ (quotient (repository_of start book)).clauses → made.rows ≡ rows →
-    lists ≡ (quotient (repository_of start book)).conflicts → made.conflicts ≡ lists → ((id : ℕ) → In id rows → id < length new.rows) → Sound new made
-merged_sound start new book made rows lists is now s e g f h of =
-    let M : Repository = quotient (repository_of start book) in
-    let same : repository_of new made ≡ M = repository_same (repository_of new made) M (ap (map (row_at new)) g ∙ e) (h ∙ f) in
-    sound_book new made now (λ id i. of id (subst (λ z. In id z) g i))
-    (subst SoundRepository (sym same) (merge_is_tidy_lem (repository_of start book) (sound_repository start book is s)).sound)
-
 pub rows_tidy : (new : Interned) (R : Repository) (rows given : List ℕ) → TidyRepository R → map (row_at new) rows ≡ R.clauses → given ≡ rows → RowsTidy new given
 rows_tidy new R rows given t e g = subst (RowsTidy new) (sym g) (record {
   apart = λ p l c i j. t.apart p c (at p l c i) j;
@@ -161,10 +88,6 @@ rows_tidy new R rows given t e g = subst (RowsTidy new) (sym g) (record {
   where
     at : (p : ℕ) → p < length rows → (c : List ℕ) → In c (row_at new (row_id rows p)) → In c (clauses_of R p)
     at p l c i = subst (λ cs. In c cs) (sym (get_or-map (row_at new) rows p 0 [] l) ∙ ap (λ t. slice_index_or t p []) e) i
-
-pub merged_rows_tidy : (start new : Interned) (book : Book) (rows given : List ℕ) → IsPool start → Sound start book → map (row_at new) rows ≡ (quotient (repository_of start book)).clauses → given ≡ rows → RowsTidy new given
-merged_rows_tidy start new book rows given is s e g =
-    rows_tidy new (quotient (repository_of start book)) rows given (merge_is_tidy_lem (repository_of start book) (sound_repository start book is s)) e g
 
 -- a book that is the quotient keeps every set, by images
 pub merged_keeps : (R F : Repository) → SoundRepository R → F ≡ quotient R → KeepsImages R F (image R)

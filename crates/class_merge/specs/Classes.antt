@@ -1,7 +1,6 @@
--- for bodies alone, those of other crates too
 -- Merging from a list of the least packages and a list of the classes.
-use Rattle.std.specs.{Prelude.{ℕ, ◌<◌, eqb, List, ◌∷◌, map, filter, length, slice_index_or}, List.{list_any}}
-use Rattle.row_book.specs.{declared.book.Book.{Book}, Book.{listed_for}, Uses.{row_id}, Numbers.{numbers}}
+use Rattle.std.specs.{Prelude.{ℕ, ◌<◌, eqb, List, map, filter, length, slice_index_or}, List.{list_any}}
+use Rattle.row_book.specs.Numbers.{numbers}
 use Rattle.listed.specs.Lists.{In}
 use Rattle.clause_pool.specs.Clauses.{apart_from, minimal_of, in_row_order}
 
@@ -13,18 +12,15 @@ class_in class_of p = slice_index_or class_of p 0
 unfoldable pub image_in : ℕ → List ℕ → List ℕ → List ℕ
 image_in count class_of c = filter (λ k. list_any (λ n. eqb (class_in class_of n) k) c) (numbers count 0)
 
--- each class of the list is one of so many
-abbrev pub ClassesWithin : ℕ → List ℕ → Type 0
-ClassesWithin count class_of = (k : ℕ) → In k class_of → k < count
+-- a number is a place of the list, and its class is one of so many
+pub record IsClassed (count : ℕ) (class_of : List ℕ) (n : ℕ) : Type 0 where
+  pub listed : n < length class_of
+  pub within : class_in class_of n < count
 
--- each number of the clause is a place of the list
-abbrev pub HasClasses : List ℕ → List ℕ → Type 0
-HasClasses class_of c = (n : ℕ) → In n c → n < length class_of
+-- so for each number of a clause
+abbrev pub HasClasses : ℕ → List ℕ → List ℕ → Type 0
+HasClasses count class_of c = (n : ℕ) → In n c → IsClassed count class_of n
 
 -- the clauses of a class from those of its least package
 abbrev pub clauses_in : ℕ → List ℕ → ℕ → List (List ℕ) → List (List ℕ)
 clauses_in count class_of k cs = in_row_order (minimal_of (apart_from k (map (image_in count class_of) cs)))
-
--- the row of a package and its conflicts: packages with the same of these are alike
-abbrev pub key_of : Book → ℕ → List ℕ
-key_of book p = row_id book.rows p ∷ listed_for book.conflicts p

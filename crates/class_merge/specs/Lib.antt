@@ -1,3 +1,4 @@
 pub mod Laws
 pub mod Classes
+pub mod Masks
 pub mod Grouping

@@ -1,36 +1,46 @@
-//! The classes of packages that are alike: in a pool, packages have the same clauses where they have the same row.
-ghost use Rattle.std.specs.{Prelude.{◌≡◌, ◌<◌, ◌∷◌, ◌++◌, [], ℕ, List, IfOk, OnOk, cond, length, map, nat_eq, position}, Cmp.Lexicographic.{pointwise}};
-ghost use Rattle.row_book.specs.Book.{Sound};
+//! The groups of packages of a mask that are alike: in a pool, packages have the same clauses if they have the same row.
+ghost use Rattle.std.specs.{Prelude.{◌≡◌, ◌<◌, ◌∷◌, ◌++◌, [], ℕ, List, IfOk, OnOk, cond, filter, length, map, nat_eq, position}, Cmp.Lexicographic.{pointwise}};
 ghost use Rattle.listed.specs.Lists.{In};
-ghost use Rattle.class_merge.specs.{Classes.{key_of}, Grouping.{AreClasses, IsPlaceAmong}};
+ghost use Rattle.row_book.specs.Flags.{flag};
+ghost use Rattle.class_merge.specs.{Grouping.{key_of, AreClasses, IsPlaceAmong}, Masks.{IsMaskOfRows}};
 
 use crate::key_table::KeyTable;
-use clause_pool::Pool;
-use row_book::Book;
+use crate::masked::MaskedRows;
 use std::alloc::{AllocError, Global};
 
-/// The least package of each class, ascending, and the class of each package.
+/// The least package of each class, ascending, and for each package of a mask its class, in the numbers of all packages. The class of any other
+/// package is 0.
 #[derive(Drop)]
 pub(crate) struct Classes {
     pub(crate) firsts: Vec<u32>,
     pub(crate) class_of: Vec<u32>,
 }
 
-/// Puts the row of a package and its conflicts into the key, in the place of what it had.
-fn put_key(key: &mut Vec<u64>, book: &Book, number: u32) -> Result<(), AllocError>
-    requires { number < length book.now.rows }
-    ensures { OnOk result (key.new.items ≡ key_of book.now number) }
+/// Puts the row of a package and its conflicts with packages of the mask into the key, in the place of what it had.
+fn put_key(key: &mut Vec<u64>, masked: &MaskedRows, number: usize) -> Result<(), AllocError>
+    requires mask { IsMaskOfRows masked.now }
+    requires number { number < length masked.now.rows.now }
+    ensures { OnOk result (key.new.items ≡ key_of masked.now number) }
 {
     key.clear();
-    key.push(book.row(number).place() as u64)?;
-    for other in book.against(number) {
-        key.push(u64::from(*other))?;
+    key.push(masked.rows[number].place() as u64)?;
+    put_flagged(key, masked.conflicts[number].as_slice(), masked.flags)
+}
+
+/// Appends the numbers whose flags are up.
+fn put_flagged(key: &mut Vec<u64>, numbers: &[u32], flags: &[bool]) -> Result<(), AllocError>
+    requires { (n : ℕ) → In n numbers.now → n < length flags.now }
+    ensures { OnOk result (key.new.items ≡ key.old.items ++ filter (flag flags.now) numbers.now) }
+{
+    for number in numbers {
+        if flags[*number as usize] {
+            key.push(u64::from(*number))?;
+        }
     }
     Ok(())
 }
 
-/// The place of the key among those that were seen, behind which they are put where they are new; the package is then the
-/// first of its class.
+/// The place of the key among those that were seen. A new key is appended, and the package is then the first of its class.
 fn place_among(
     seen: &mut KeyTable,
     firsts: &mut Vec<u32>,
@@ -46,18 +56,22 @@ fn place_among(
     seen.push(key)
 }
 
-/// The classes of the book's packages.
-pub(crate) fn classes_of(alloc: Global, pool: &Pool, book: &Book) -> Result<Classes, AllocError>
-    requires { Sound pool.now book.now }
-    ensures { IfOk result (λ made. AreClasses pool.now book.now made.firsts.items made.class_of.items) }
+/// The classes of the packages of a mask.
+pub(crate) fn classes_of(alloc: Global, masked: &MaskedRows) -> Result<Classes, AllocError>
+    requires { IsMaskOfRows masked.now }
+    ensures { IfOk result (AreClasses masked.now) }
 {
     let mut seen = KeyTable::new(alloc);
     let mut firsts = Vec::new(alloc);
     let mut class_of = Vec::new(alloc);
     let mut key = Vec::new(alloc);
-    for number in 0..book.size() {
-        put_key(&mut key, book, number)?;
-        let class = place_among(&mut seen, &mut firsts, number, key.as_slice())?;
+    for number in 0..masked.flags.len() {
+        if !masked.flags[number] {
+            class_of.push(0)?;
+            continue;
+        }
+        put_key(&mut key, masked, number)?;
+        let class = place_among(&mut seen, &mut firsts, number as u32, key.as_slice())?;
         class_of.push(class as u32)?;
     }
     Ok(Classes { firsts, class_of })

@@ -7,13 +7,15 @@ mod grouping;
 mod images;
 mod key_table;
 mod laws;
+mod masked;
 mod merging;
 
-// A book is merged.
-pub use merging::{Merged, merge};
+// A book, or some packages of one, are merged.
+pub use masked::MaskedRows;
+pub use merging::{Merged, merge, merge_chosen};
 
 // Keys that are numbered as they come.
 pub use key_table::KeyTable;
 
 // Laws.
-pub use laws::{has_class, merge_is_tidy, merge_keeps, merge_lifts, merge_plain};
+pub use laws::{has_class, merge_is_tidy, merge_keeps, merge_lifts, merge_plain, quotient_of_part};

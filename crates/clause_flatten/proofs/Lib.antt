@@ -31,5 +31,3 @@ pub mod Passing
 pub mod Running
 pub mod TidyFlat
 pub mod LocalRuns
-pub mod NeededBy
-pub mod Besides

@@ -5,30 +5,12 @@ use Rattle.std.proofs.{lemmas.Bool.{and_parts, and_from, cases_eq, cases_lt}, le
 use Rattle.std.specs.List.{list_any}
 use Rattle.listed.specs.Lists.{In, here, there, has, Ascending, Inside}
 use Rattle.listed.proofs.{Lists.{In_has, has_In, In_map, In_map_cases, any_cases, any_from}, Orders.{ascending_same}}
-use Rattle.clause_pool.specs.Lists.{Before, InOrder}
 use Rattle.row_book.specs.{Sets.{Hit, Is, NumSet, minus}, Repository.{Repository, Satisfied, clauses_of}, Numbers.{numbers}}
 use Rattle.row_book.specs.{Support.{Alive, Blocks, IsRow, MinimalBlock, Support, row}, Sound.{OfPackages}, Flattening.{row_length}}
 use Rattle.row_book.proofs.Lists.{members_from, members_from_ascending, members_from_from, members_from_parts, minus_from, minus_parts}
-use Rattle.row_book.proofs.Numbers.{numbers_from}
+use Rattle.row_book.proofs.{Numbers.{numbers_from}, Parts.{order_there}}
 use Rattle.clause_flatten.specs.Locality.{StandsIn}
 use Rattle.clause_flatten.proofs.{Rows.{row_is}, Tables.{row_is_one_lem, row_order}}
-
--- the order of clauses is kept where the numbers of their members rise
-module _ (U : NumSet) (to : ℕ → ℕ) (rising : (m n : ℕ) → U m ≡ true → U n ≡ true → m < n → to m < to n) where
-  before_there : (S T : List ℕ) → ((n : ℕ) → In n S → U n ≡ true) → ((n : ℕ) → In n T → U n ≡ true) → Before S T → Before (map to S) (map to T)
-  before_there [] [] f g b = b
-  before_there [] (y ∷ ys) f g b = tt
-  before_there (x ∷ xs) [] f g b = b
-  before_there (x ∷ xs) (y ∷ ys) f g (inl l) = inl (rising x y (f x here) (g y here) l)
-  before_there (x ∷ xs) (y ∷ ys) f g (inr b) = inr (ap to b.0, before_there xs ys (λ n i. f n (there i)) (λ n i. g n (there i)) b.1)
-
-  pub order_there : (cs : List (List ℕ)) → ((c : List ℕ) → In c cs → (n : ℕ) → In n c → U n ≡ true) → InOrder cs → InOrder (map (map to) cs)
-  order_there [] f o = tt
-  order_there (c ∷ cs) f o = (
-    (λ d i. let w : (e : List ℕ) × In e cs × (d ≡ map to e) = In_map_cases (map to) cs d i in
-        subst (λ z. Before (map to c) z) (sym w.2) (before_there c w.0 (f c here) (f w.0 (there w.1)) (o.0 w.0 w.1))),
-    order_there cs (λ d i. f d (there i)) o.1,
-  )
 
 module _ (R : Repository) (U : NumSet) (to : ℕ → ℕ) (other : Repository) (is : StandsIn R U to other) where
   size : ℕ

@@ -9,4 +9,3 @@ pub mod TakingOut
 pub mod Holding
 pub mod Ready
 pub mod Locality
-pub mod Beside

@@ -4,7 +4,6 @@
 //! `elimination` and `support` do nothing, the contract of each is one law.
 #![tactic(auto)]
 
-mod beside;
 mod changing;
 mod elimination;
 mod error;
@@ -19,7 +18,6 @@ mod tidy_rows;
 mod waiting;
 
 // A book is flattened.
-pub use beside::{flatten_beside, needed_by};
 pub use error::FlatError;
 pub use flattening::{Flattened, flatten};
 

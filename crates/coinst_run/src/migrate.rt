@@ -1,17 +1,17 @@
 //! The command that takes names over from a newer index into an older one, without breaking any.
-ghost use Rattle.std.specs.Prelude.{◌≡◌, ◌<◌, ◌≤◌, ℕ, List, Option, IfErr, IfOk, length};
+ghost use Rattle.std.specs.Prelude.{◌≡◌, ◌<◌, ◌≤◌, ℕ, List, Option, IfOk, length};
 ghost use Rattle.clause_solver.specs.Outcomes.{IsBudget};
 ghost use Rattle.coinst_words.specs.Jobs.{AreInLimits};
 ghost use Rattle.migrate_plan.specs.{Indexes.{AreMeasured, Texts}, Plan.{settings_of}, Refusals.{Refuses}, declared.plan.PlanLine.{PlanLine}};
 ghost use Rattle.migrate_plan.specs.declared.refusals.PlanError.{PlanError};
 ghost use Rattle.repo_model.specs.{Feeding.{IsSuiteOf}, Limits.{most_bytes}};
-ghost use Rattle.coinst_run.specs.{Ending.{Settles, StopsAt, ending_of, stop_ending}, Follows.{Follows}, Index.{checked_index}};
-ghost use Rattle.coinst_run.specs.{Migrate.{by_refusal, homes_line, migrate_course, new_answer, new_course, old_answer, plan_answer}, Held.{IsHeldOf}};
+ghost use Rattle.coinst_run.specs.{Ending.{Settles, StopsAt, ending_of, stop_ending}, Follows.{Follows}};
+ghost use Rattle.coinst_run.specs.Migrate.{by_refusal, homes_line, migrate_course, new_course, plan_answer};
 
 use crate::answer::{Cause, Report, Stop};
 use crate::lines::{Made, line_about, too_long_line};
 use crate::migrate_text::{plan_text, plan_verdict};
-use crate::stages::{checked_index, text_at};
+use crate::stages::{MeasuredIndex, measured_at};
 use crate::views::view_of;
 use byte_flow::Shelf;
 use coinst_words::Settings;
@@ -20,8 +20,8 @@ use repo_model::Suite;
 use std::alloc::Global;
 use suite_compare::SuiteView;
 
-/// The report on which names that differ can be taken over from the index at the newer path into that at the older one. Each
-/// text is held only until it was read.
+/// The report on which names that differ can be taken over from the index at the newer path into that at the older one. Of each text only
+/// the stanza that is open is held.
 pub fn migrate<F: Shelf>(
     alloc: Global,
     shelf: &mut F,
@@ -32,49 +32,16 @@ pub fn migrate<F: Shelf>(
     requires { AreInLimits with }
     ensures { Follows F.model (migrate_course old.now new.now with.budget with.clause_limit with.hold) shelf.old (ending_of result) shelf.new }
 {
-    let text = text_at(alloc, shelf, old)?;
-    from_older(alloc, shelf, text, old, new, with)
-}
-
-// The same behind the text of the older index, which is given back.
-fn from_older<F: Shelf>(
-    alloc: Global,
-    shelf: &mut F,
-    text: Vec<u8>,
-    old: &str,
-    new: &str,
-    with: Settings,
-) -> Result<Report, Stop>
-    requires short { length text.items ≤ most_bytes }
-    requires with { AreInLimits with }
-    ensures { Follows F.model (old_answer old.now new.now (settings_of with.budget with.clause_limit with.hold) text.items) shelf.old (ending_of result) shelf.new }
-{
-    let held = held_index(alloc, old, text)?;
-    from_held(alloc, shelf, held, old, new, with)
-}
-
-// The same behind what is held of the older index.
-fn from_held<F: Shelf>(
-    alloc: Global,
-    shelf: &mut F,
-    held: HeldIndex,
-    old: &str,
-    new: &str,
-    with: Settings,
-) -> Result<Report, Stop>
-    requires short { held.length ≤ most_bytes }
-    requires with { AreInLimits with }
-    ensures { (text : List ℕ) → IsHeldOf text held → Follows F.model (old_answer old.now new.now (settings_of with.budget with.clause_limit with.hold) text) shelf.old (ending_of result) shelf.new }
-{
-    let HeldIndex { suite, length } = held;
+    let older = measured_at(alloc, shelf, old)?;
+    let MeasuredIndex { suite, length } = older;
     let view = view_of(alloc, suite, old, with.clause_limit, with.hold)?;
-    let report = from_view(alloc, shelf, &view, length, old, new, with.budget);
+    let report = with_newer(alloc, shelf, &view, length, old, new, with.budget);
     drop(view);
     report
 }
 
-// The same behind the kernel of the older index.
-fn from_view<F: Shelf>(
+// The same after the kernel of the older index.
+fn with_newer<F: Shelf>(
     alloc: Global,
     shelf: &mut F,
     view: &SuiteView,
@@ -89,56 +56,14 @@ fn from_view<F: Shelf>(
     ensures { (text : List ℕ) → IsSuiteOf text view.now.suite.packages view.now.suite.home.name → old_length ≡ length text
         → Follows F.model (new_course old.now new.now (settings_of budget view.now.limit view.now.kernel.hold) text) shelf.old (ending_of result) shelf.new }
 {
-    let newer = text_at(alloc, shelf, new)?;
-    from_both(alloc, view, old_length, newer, old, new, budget)
-}
-
-// The same behind the texts of both; the newer one is given back.
-fn from_both(
-    alloc: Global,
-    view: &SuiteView,
-    old_length: u64,
-    newer: Vec<u8>,
-    old: &str,
-    new: &str,
-    budget: u64,
-) -> Result<Report, Stop>
-    requires short { old_length ≤ most_bytes }
-    requires newer_short { length newer.items ≤ most_bytes }
-    requires budget { IsBudget budget }
-    requires limit { 0 < view.now.limit }
-    ensures { (text : List ℕ) → IsSuiteOf text view.now.suite.packages view.now.suite.home.name → old_length ≡ length text
-        → Settles (new_answer old.now new.now (settings_of budget view.now.limit view.now.kernel.hold) text newer.items) (ending_of result) }
-{
-    let held = held_index(alloc, new, newer)?;
+    let newer = measured_at(alloc, shelf, new)?;
     let lengths = TextLengths {
         old: old_length,
-        new: held.length,
+        new: newer.length,
     };
-    let report = plan_report(alloc, view, &held.suite, lengths, old, new, budget);
-    drop(held);
+    let report = plan_report(alloc, view, &newer.suite, lengths, old, new, budget);
+    drop(newer);
     report
-}
-
-// What is held of an index once its text was read: its packages, and how many bytes the text has.
-#[derive(Drop)]
-struct HeldIndex {
-    suite: Suite,
-    length: u64,
-}
-
-// What is held of the index at a path. The text is given back.
-fn held_index(alloc: Global, path: &str, text: Vec<u8>) -> Result<HeldIndex, Stop>
-    requires { length text.items ≤ most_bytes }
-    ensures read { IfOk result (IsHeldOf text.items) }
-    ensures stop { IfErr result (λ stop. StopsAt (checked_index path.now text.items) (stop_ending stop)) }
-{
-    let bytes = text.as_slice();
-    let suite = checked_index(alloc, path, bytes)?;
-    Ok(HeldIndex {
-        suite,
-        length: bytes.len() as u64,
-    })
 }
 
 // The report on the plan of two indexes.

@@ -2,8 +2,8 @@
 ghost use Rattle.std.specs.Prelude.{◌≡◌, ◌≤◌, ℕ, List, length, Option, Ok, IfOk, IfErr, IfSome};
 ghost use Rattle.repo_model.specs.{Facts.{AreNamedPackages}, Feed.{FeedStandsFor}, declared.fault.IndexFault.{IndexFault}, Refusals.{is_memory, Refuses}};
 ghost use Rattle.repo_model.specs.Limits.{most_bytes};
-ghost use Rattle.coinst_run.specs.{Ending.{IsReadEnding, StopsAt, stop_ending}, Course.{Course, reads}, Faults.{fault_cause}, Feeding.{WasFed}};
-ghost use Rattle.coinst_run.specs.{Follows.{Follows, ReachesIndex, WasRead}, Index.{Index, by_fault, checked_index, index_of, reads_index}};
+ghost use Rattle.coinst_run.specs.{Ending.{IsReadEnding, Settles, StopsAt, stop_ending}, Course.{Course, reads}, Faults.{fault_cause}, Feeding.{WasFed}};
+ghost use Rattle.coinst_run.specs.{Held.{WasMeasured}, Follows.{Follows, ReachesIndex, WasRead}, Index.{Index, by_fault, checked_index, index_of, reads_index}};
 
 use crate::answer::{Cause, Stop};
 use crate::lines::{fault_line, too_long_line};
@@ -122,4 +122,27 @@ pub fn suite_at<F: Shelf>(alloc: Global, shelf: &mut F, path: &str) -> Result<Su
 {
     let feed = feed_at(alloc, shelf, path)?;
     finished_index(alloc, path, feed)
+}
+
+/// The packages of an index, and how many bytes its text has.
+#[derive(Drop)]
+pub(crate) struct MeasuredIndex {
+    pub(crate) suite: Suite,
+    pub(crate) length: u64,
+}
+
+/// Reads the index at a path as `suite_at` does, and counts its bytes.
+pub(crate) fn measured_at<F: Shelf>(
+    alloc: Global,
+    shelf: &mut F,
+    path: &str,
+) -> Result<MeasuredIndex, Stop>
+    ensures index { IfOk result (λ made. WasMeasured F.model shelf.old path.now made shelf.new) }
+    ensures stop { IfErr result (λ stop. (next : List ℕ → Course) → ((text : List ℕ) → StopsAt (checked_index path.now text) (stop_ending stop) → Settles (next text) (stop_ending stop))
+        → Follows F.model (reads path.now next) shelf.old (stop_ending stop) shelf.new) }
+{
+    let feed = feed_at(alloc, shelf, path)?;
+    let length = feed.taken();
+    let suite = finished_index(alloc, path, feed)?;
+    Ok(MeasuredIndex { suite, length })
 }

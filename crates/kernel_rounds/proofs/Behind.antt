@@ -1,16 +1,16 @@
 -- The rounds behind the first one reach the kernel.
-use Rattle.std.proofs.Common.{◌≡◌, ℕ, zero, suc, ◌<◌, ◌≤◌, Bool, false, List, length, ◌⊎◌, inl, inr, refl, sym, ◌∙◌, ap, ap₂, subst, arith, map, None}
-use Rattle.std.proofs.lemmas.Bool.{both_ways, cases_Bool}
-use Rattle.row_book.specs.{Book.{repository_of}, Repository.{Repository}, Sound.{SoundRepository}, Flattening.{flat, packages, passes}}
-use Rattle.row_book.specs.{Merging.{class_list, class_of}, Numbers.{numbers}}
+use Rattle.std.proofs.Common.{◌≡◌, ℕ, zero, suc, ◌<◌, ◌≤◌, Bool, true, false, List, length, ◌⊎◌, inl, inr, refl, sym, ◌∙◌, ap, ap₂, subst, arith, map, None}
+use Rattle.std.proofs.lemmas.{Bool.{both_ways, cases_Bool}, List.{get_or-map, length-map}}
+use Rattle.row_book.specs.{Repository.{Repository}, Sound.{SoundRepository}, Flattening.{flat, packages, passes}, Flags.{flag}, Merging.{class_of, quotient}}
+use Rattle.row_book.specs.{Parts.{part, place_in}, Pruning.{prune}, Thinning.{thin}}
 use Rattle.row_book.specs.Rounds.{class_after, is_same_repository, kernel, kernel_class, limit_at, round, round_count, rounds}
-use Rattle.row_book.proofs.{Numbers.{at_numbers, map_same}, Repositories.{of_packages}}
+use Rattle.row_book.proofs.{Flags.{flag_in}, Numbers.{at_numbers}, Parts.{part_count}, Placed.{place_below}}
 use Rattle.clause_flatten.proofs.TidyFlat.{flat_size}
-use Rattle.class_merge.specs.Classes.{class_in}
+use Rattle.class_merge.specs.{Classes.{class_in}, Masks.{masked_repository, AreClassesOfPart, IsMaskOfRows}, declared.masked.MaskedRows.{MaskedRows}}
 use Rattle.class_merge.proofs.Plain.{class_same}
-use Rattle.kernel_rounds.specs.declared.known.{FirstRound.{FirstRound}, KnownRounds.{KnownRounds}}
-use Rattle.kernel_rounds.specs.{Known.{known_first, AreKnownRounds, AreRoundsOf, IsClassified, IsLeftByFirst}, Laws.{KernelBehindRound}}
-use Rattle.kernel_rounds.proofs.{Again.{all_within, first_within}, Classes.{class_within, sized}, Midways.{falls, map_map, none_passed}}
+use Rattle.kernel_rounds.specs.{declared.known.KnownRounds.{KnownRounds}, Known.{known_first, AreKnownRounds, AreRoundsOf, IsClassifiedPart, IsFlatPart}}
+use Rattle.kernel_rounds.specs.Laws.{KernelBehindRound}
+use Rattle.kernel_rounds.proofs.{Again.{all_within, first_within}, Classes.{class_within, sized}, Midways.{falls, none_passed}}
 use Rattle.kernel_rounds.proofs.Reached.{kernel_is_lem, repository_test, rounds_sound, same_from}
 
 module _ (limit : ℕ) (hold : Bool) (R : Repository) (s : SoundRepository R) where
@@ -78,28 +78,38 @@ kernel_behind_round_lem limit hold R s = record {
   within = ((λ h. (first_within limit hold R h, none_behind limit hold R s h)), (λ w. none_in_all limit hold R s w.0 w.1));
 }
 
--- the classes of the classes of a first round
-pub classes_behind : (limit : ℕ) (hold : Bool) (R : Repository) → SoundRepository R → (first next made : List ℕ) → first ≡ class_list (flat limit hold R) →
-    next ≡ map (kernel_class limit hold (round limit hold R)) (packages (round limit hold R)) →
-    made ≡ map (class_in next) first → made ≡ map (kernel_class limit hold R) (packages R)
-classes_behind limit hold R s first next made e f g =
-    let F : Repository = round limit hold R in
-    g ∙ ap₂ (λ n c. map (class_in n) c) f (e ∙ ap (λ n. map (class_of (flat limit hold R)) (numbers n 0)) (flat_size limit hold R))
-    ∙ map_map (class_in (map (kernel_class limit hold F) (packages F))) (class_of (flat limit hold R)) (packages R)
-    ∙ map_same (λ p. class_in (map (kernel_class limit hold F) (packages F)) (class_of (flat limit hold R) p)) (kernel_class limit hold R) (packages R) (λ p j.
-    at_numbers (kernel_class limit hold F) 0 (length F.clauses) 0 (class_of (flat limit hold R) p) (class_within limit hold 1 R s p (of_packages R p j))
-    ∙ ap (kernel_class limit hold F) (omega arith) ∙ classes limit hold R s p (of_packages R p j))
+-- what is made of packages of a mask and of what is known of the rounds after the first
+module _ (limit : ℕ) (P : Repository) (masked : MaskedRows) (is : IsMaskOfRows masked) (flat_is : IsFlatPart limit P masked) where
+  abbrev flags : List Bool
+  flags = masked.flags.now
 
--- what is made of the first round and of what is known of the rounds behind it
-pub classified : (limit : ℕ) (R : Repository) → SoundRepository R → (first : FirstRound) (rounds : KnownRounds) (classes : List ℕ) →
-    IsLeftByFirst limit R first → AreKnownRounds rounds → AreRoundsOf rounds limit (repository_of first.pool first.book) →
-    classes ≡ map (class_in rounds.class_of) first.class_of → IsClassified limit R (record { class_of = classes; rounds = rounds })
-classified limit R s first rounds classes left known of made =
-    let same : known_first rounds ≡ round limit false R = of.is ∙ left.is in
-    record {
-      is = known.is ∙ ap₂ (λ l F. kernel l false F) of.limit_is same ∙ (kernel_behind_round_lem limit false R s).same;
-      class_of =
-          classes_behind limit false R s first.class_of rounds.class_of classes left.class_of
-          (known.class_of ∙ ap₂ (λ l F. map (kernel_class l false F) (packages F)) of.limit_is same) made;
-      within = (kernel_behind_round_lem limit false R s).within.1 (left.within, ap₂ (λ l F. limit_at l false F) (sym of.limit_is) (sym same) ∙ known.within);
-    }
+  place_within : (p : ℕ) → flag flags p ≡ true → place_in flags p < length P.clauses
+  place_within p up =
+      subst (λ n. place_in flags p < n)
+      (sym (part_count (masked_repository masked) is.mask.sound flags is.mask.size) ∙ ap (λ F. length F.clauses) flat_is.is ∙ flat_size limit false P)
+      (place_below flags p up)
+
+  pub left_by_first : (R : Repository) → R ≡ thin (prune (quotient (part flags (masked_repository masked)))) → R ≡ round limit false P
+  unfolding round
+  left_by_first R e = e ∙ ap (λ F. thin (prune (quotient F))) flat_is.is
+
+  pub classified_part : (R : Repository) (rounds : KnownRounds) (merged classes : List ℕ) → R ≡ round limit false P → AreKnownRounds rounds → AreRoundsOf rounds limit R →
+      AreClassesOfPart (masked_repository masked) flags merged → length merged ≡ length flags → classes ≡ map (class_in rounds.class_of) merged →
+      IsClassifiedPart limit P flags (record { class_of = classes; rounds = rounds })
+  classified_part R rounds merged classes left known of own size made =
+      let same : known_first rounds ≡ round limit false P = of.is ∙ left in
+      let next : rounds.class_of ≡ map (kernel_class limit false (round limit false P)) (packages (round limit false P)) =
+      known.class_of ∙ ap₂ (λ l F. map (kernel_class l false F) (packages F)) of.limit_is same in
+      record {
+        is = known.is ∙ ap₂ (λ l F. kernel l false F) of.limit_is same ∙ (kernel_behind_round_lem limit false P flat_is.sound).same;
+        size = ap length made ∙ length-map merged (class_in rounds.class_of) ∙ size;
+        class_of = λ p up.
+            let l : place_in flags p < length P.clauses = place_within p up in
+            let k : class_in merged p ≡ class_of (flat limit false P) (place_in flags p) = own p up ∙ ap (λ F. class_of F (place_in flags p)) flat_is.is in
+            ap (λ z. class_in z p) made ∙ get_or-map (class_in rounds.class_of) merged p 0 0 (subst (λ n. p < n) (sym size) (flag_in flags p up))
+            ∙ ap₂ class_in next k
+            ∙ at_numbers (kernel_class limit false (round limit false P)) 0 (length (round limit false P).clauses) 0 (class_of (flat limit false P) (place_in flags p))
+            (class_within limit false 1 P flat_is.sound (place_in flags p) l)
+            ∙ ap (kernel_class limit false (round limit false P)) (omega arith) ∙ (kernel_behind_round_lem limit false P flat_is.sound).classes (place_in flags p) l;
+        within = (kernel_behind_round_lem limit false P flat_is.sound).within.1 (flat_is.within, ap₂ (λ l F. limit_at l false F) (sym of.limit_is) (sym same) ∙ known.within);
+      }

@@ -13,3 +13,4 @@ mod Behind
 mod Descent
 mod Limits
 pub mod Classes
+pub mod Unheld

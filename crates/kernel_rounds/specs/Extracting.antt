@@ -1,7 +1,7 @@
 -- The extraction of a kernel: midway, after some rounds each of which changed something, and at its end.
 use Rattle.std.specs.Prelude.{◌≡◌, ◌≢◌, ◌↔◌, ℕ, suc, ◌<◌, Bool, false, if◌then◌else◌, min, eqb, List, [], length, map, None, ⊤}
 use Rattle.clause_pool.specs.Interned.{Interned, Kept}
-use Rattle.clause_flatten.specs.{Beside.{IsFlattened}, declared.error.FlatError.{FlatError}}
+use Rattle.clause_flatten.specs.declared.error.FlatError.{FlatError}
 use Rattle.clause_flatten.specs.declared.error.FlatError.TheVariants as faults
 use Rattle.row_book.specs.{declared.book.Book.{Book}, declared.trail.Step.{Step}, Book.{repository_of, Sound}, Numbers.{numbers}, Repository.{Repository}}
 use Rattle.row_book.specs.{Flattening.{flat, held_of, packages, passes}, Merging.{class_list, place_of}}
@@ -9,6 +9,13 @@ use Rattle.row_book.specs.Rounds.{round, round_steps, rounds, class_after, steps
 use Rattle.row_book.specs.Trail.{SoundSteps, trail_meaning}
 use Rattle.kernel_rounds.specs.{declared.advancing.Begun.{Begun}, declared.advancing.Outcome.{Outcome}, declared.advancing.Outcome.TheVariants.{Done, More}}
 use Rattle.kernel_rounds.specs.{declared.error.RoundError.{RoundError}, declared.error.RoundError.TheVariants.{Limit, Memory}, Moving.{HasSteps}}
+
+-- a book of the flattened repository with the held packages, where no row passes the limit
+pub record IsFlattened (pool : Interned) (limit : ℕ) (hold : Bool) (R : Repository) (book : Book) (held : List ℕ) : Type 0 where
+  pub is : repository_of pool book ≡ flat limit hold R
+  pub held_are : held ≡ held_of limit hold R
+  pub sound : Sound pool book
+  pub within : passes limit hold R ≡ None
 
 -- what the rounds begin with: the book is sound in a pool, whose ids the pool that the rounds work in has kept, and it is flattened
 -- there; each package is a class of its own

@@ -1,8 +1,9 @@
 -- What is known of the rounds behind the first, and what is told by it.
-use Rattle.std.specs.Prelude.{◌≡◌, ℕ, false, map, None}
-use Rattle.row_book.specs.{Book.{repository_of, Sound}, Flattening.{flat, packages, passes}, Merging.{class_list}, Repository.{Repository}}
-use Rattle.row_book.specs.Rounds.{kernel, kernel_class, limit_at, round}
-use Rattle.kernel_rounds.specs.declared.known.{Classified.{Classified}, FirstRound.{FirstRound}, KnownRounds.{KnownRounds}}
+use Rattle.std.specs.Prelude.{◌≡◌, ℕ, Bool, true, false, List, length, map, None}
+use Rattle.class_merge.specs.{Classes.{class_in}, Masks.{masked_repository}, declared.masked.MaskedRows.{MaskedRows}}
+use Rattle.row_book.specs.{Book.{repository_of, Sound}, Flags.{flag}, Flattening.{flat, packages, passes}, Parts.{part, place_in}, Repository.{Repository}}
+use Rattle.row_book.specs.{Rounds.{kernel, kernel_class, limit_at}, Sound.{SoundRepository}}
+use Rattle.kernel_rounds.specs.declared.known.{Classified.{Classified}, KnownRounds.{KnownRounds}}
 
 -- the repository behind a first round
 abbrev pub known_first : KnownRounds → Repository
@@ -21,15 +22,15 @@ pub record AreRoundsOf (known : KnownRounds) (limit : ℕ) (R : Repository) : Ty
   pub limit_is : known.limit ≡ limit
   pub is : known_first known ≡ R
 
--- the repository that the first round leaves, without hold, with the class of each package, where that round does not pass the limit
-pub record IsLeftByFirst (limit : ℕ) (R : Repository) (made : FirstRound) : Type 0 where
-  pub is : repository_of made.pool made.book ≡ round limit false R
-  pub sound : Sound made.pool made.book
-  pub class_of : made.class_of ≡ class_list (flat limit false R)
-  pub within : passes limit false R ≡ None
+-- the packages of a mask have the rows of a repository that is flattened without hold and passes no limit
+pub record IsFlatPart (limit : ℕ) (P : Repository) (masked : MaskedRows) : Type 0 where
+  pub sound : SoundRepository P
+  pub within : passes limit false P ≡ None
+  pub is : part masked.flags.now (masked_repository masked) ≡ flat limit false P
 
--- the kernel without hold, and the class of each package in it, where no round passes the limit
-pub record IsClassified (limit : ℕ) (R : Repository) (made : Classified) : Type 0 where
-  pub is : repository_of made.rounds.pool made.rounds.kernel ≡ kernel limit false R
-  pub class_of : made.class_of ≡ map (kernel_class limit false R) (packages R)
-  pub within : limit_at limit false R ≡ None
+-- the kernel without hold, where no round passes the limit, and the class in it of each package of a mask
+pub record IsClassifiedPart (limit : ℕ) (P : Repository) (flags : List Bool) (made : Classified) : Type 0 where
+  pub is : repository_of made.rounds.pool made.rounds.kernel ≡ kernel limit false P
+  pub size : length made.class_of ≡ length flags
+  pub class_of : (p : ℕ) → flag flags p ≡ true → class_in made.class_of p ≡ kernel_class limit false P (place_in flags p)
+  pub within : limit_at limit false P ≡ None

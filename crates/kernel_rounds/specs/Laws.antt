@@ -134,3 +134,12 @@ pub record SameWithoutHold (limit other : ℕ) (R : Repository) : Type 0 where
 
 abbrev pub LimitWithoutHold : Type 0
 LimitWithoutHold = (limit other : ℕ) → (R : Repository) → SameWithoutHold limit other R
+
+-- if no round without hold passes the limit, hold changes nothing
+pub record HoldUnused (limit : ℕ) (R : Repository) : Type 0 where
+  pub same : kernel limit true R ≡ kernel limit false R
+  pub classes : (p : ℕ) → kernel_class limit true R p ≡ kernel_class limit false R p
+  pub within : limit_at limit true R ≡ None
+
+abbrev pub HoldIsUnused : Type 0
+HoldIsUnused = (limit : ℕ) (R : Repository) → SoundRepository R → limit_at limit false R ≡ None → HoldUnused limit R

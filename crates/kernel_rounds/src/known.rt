@@ -1,17 +1,17 @@
 //! What is known of the rounds behind the first from an earlier extraction. Many books that differ by a few changes come to one and the same
 //! repository by their first round, so that the rounds behind it need not be run again.
 ghost use Rattle.std.specs.{Prelude.{◌≡◌, ◌<◌, false, None, Some, IfOk}, Bool.{OnTrue}, Option.{ForSome}};
-ghost use Rattle.clause_flatten.specs.Beside.{AreKnown};
-ghost use Rattle.row_book.specs.{Book.{repository_of, Sound}, Flattening.{passes}, Rounds.{limit_at}};
-ghost use Rattle.kernel_rounds.specs.{Known.{AreKnownRounds, AreRoundsOf, IsClassified, IsLeftByFirst}, declared.known.KnownRounds.{KnownRounds}};
+ghost use Rattle.class_merge.specs.Masks.{IsMaskOfRows};
+ghost use Rattle.row_book.specs.{Book.{repository_of, Sound}, Repository.{Repository}, Rounds.{limit_at}};
+ghost use Rattle.kernel_rounds.specs.{Known.{AreKnownRounds, AreRoundsOf, IsClassifiedPart, IsFlatPart}, declared.known.KnownRounds.{KnownRounds}};
 
 use crate::advancing::compose;
 use crate::error::RoundError;
 use crate::extraction::{Kernel, extract};
 use crate::moving::keep_live;
-use crate::rounding::reduce_flat;
-use clause_flatten::{Flattened, flatten_beside};
-use clause_pool::{NumList, Pool, RowId};
+use crate::rounding::prune_and_thin;
+use class_merge::{MaskedRows, merge_chosen};
+use clause_pool::{NumList, Pool};
 use listed::Listed;
 use row_book::{Book, is_same_book};
 use std::alloc::{AllocError, Global};
@@ -31,87 +31,43 @@ pub struct KnownRounds {
     pub(crate) limit: u32,
 }
 
-/// The class of each package of a book in its kernel, and the kernel.
+/// The class of each package of a mask in the kernel of their part, in the numbers of all packages, and the kernel.
 #[derive(Drop)]
 pub struct Classified {
-    /// For each package its class.
+    /// For each package its class; that of a package that is not in the mask says nothing.
     pub class_of: NumList,
-    /// The kernel, with what is known of the rounds behind the first.
+    /// The kernel, with what is known of the rounds after the first.
     pub rounds: KnownRounds,
 }
 
-/// What the first round leaves of a book: a book of a pool of its own, and for each package of the old book its class.
-#[derive(Drop)]
-pub(crate) struct FirstRound {
-    pub(crate) pool: Pool,
-    pub(crate) book: Book,
-    pub(crate) class_of: NumList,
-}
-
-/// The class of each package of the book in its kernel, without hold, and the kernel, where the rows of some packages over the core of
-/// the first round are known; none where a row has more clauses than the limit allows at some stage of some round. What is known of the
-/// rounds behind the first from an earlier call may be given; if the first round leaves the same repository at the same limit it is taken,
-/// which saves these rounds and changes neither classes nor kernel, and else it stays: that tells on time alone.
-pub fn classes_beside(
+/// The class of each package of a mask in the kernel of their part, without hold, and the kernel, by the flattened rows of the part, in the numbers of
+/// all packages. None if a row has more clauses than the limit allows at some stage of a round after the first. What is known of the rounds after
+/// the first from an earlier call may be given; if the first round leaves the same repository at the same limit it is taken, which saves
+/// these rounds and changes neither classes nor kernel.
+pub fn classes_of_part(
     alloc: Global,
-    pool: &Pool,
-    book: &Book,
+    masked: &MaskedRows,
     limit: u32,
-    known: &[Option<RowId>],
     earlier: &mut Option<KnownRounds>,
 ) -> Result<Option<Classified>, AllocError>
-    requires sound { Sound pool.now book.now }
+    requires mask { IsMaskOfRows masked.now }
     requires limit { 0 < limit }
-    requires known { AreKnown pool.now limit (repository_of pool.now book.now) known.now }
     requires earlier { ForSome earlier.old AreKnownRounds }
-    ensures classes { IfOk result (λ made. ForSome made (IsClassified limit (repository_of pool.now book.now))) }
+    ensures classes { (P : Repository) → IsFlatPart limit P masked.now → IfOk result (λ made. ForSome made (IsClassifiedPart limit P masked.now.flags.now)) }
     ensures rounds { IfOk result (λ made. ForSome made (λ classified. AreKnownRounds classified.rounds)) }
-    ensures passed { IfOk result (λ made. made ≡ None → limit_at limit false (repository_of pool.now book.now) ≡ None → ⊥) }
+    ensures passed { (P : Repository) → IsFlatPart limit P masked.now → IfOk result (λ made. made ≡ None → limit_at limit false P ≡ None → ⊥) }
     ensures earlier { ForSome earlier.new AreKnownRounds }
 {
-    let Some(first) = first_beside(alloc, pool, book, limit, known)? else {
+    let mut pool = Pool::new(alloc)?;
+    let merged = merge_chosen(alloc, &mut pool, masked)?;
+    let left = prune_and_thin(alloc, &mut pool, &merged.book)?;
+    let Some(rounds) = rounds_behind(alloc, pool, left.book, limit, earlier)? else {
         return Ok(None);
     };
-    let FirstRound {
-        pool: own,
-        book: left,
-        class_of,
-    } = first;
-    let Some(rounds) = rounds_behind(alloc, own, left, limit, earlier)? else {
-        return Ok(None);
-    };
-    let classes = compose(alloc, class_of.as_slice(), rounds.class_of.as_slice())?;
+    let classes = compose(alloc, merged.class_of.as_slice(), rounds.class_of.as_slice())?;
     Ok(Some(Classified {
         class_of: Listed::of(classes),
         rounds,
-    }))
-}
-
-// What the first round leaves of the book, without hold, where the rows of some packages over the core are known; none where a row has
-// more clauses than the limit allows at some stage.
-fn first_beside(
-    alloc: Global,
-    pool: &Pool,
-    book: &Book,
-    limit: u32,
-    known: &[Option<RowId>],
-) -> Result<Option<FirstRound>, AllocError>
-    requires sound { Sound pool.now book.now }
-    requires limit { 0 < limit }
-    requires known { AreKnown pool.now limit (repository_of pool.now book.now) known.now }
-    ensures first { IfOk result (λ made. ForSome made (IsLeftByFirst limit (repository_of pool.now book.now))) }
-    ensures passed { IfOk result (λ made. made ≡ None → passes limit false (repository_of pool.now book.now) ≡ None → ⊥) }
-{
-    let mut own = pool.copy(alloc)?;
-    let Some(flat) = flatten_beside(alloc, &mut own, book, limit, known)? else {
-        return Ok(None);
-    };
-    let Flattened { book: flat, held } = flat;
-    let made = reduce_flat(alloc, &mut own, &flat, held)?;
-    Ok(Some(FirstRound {
-        pool: own,
-        book: made.book,
-        class_of: made.class_of,
     }))
 }
 

@@ -13,12 +13,12 @@ mod rounding;
 // The kernel of a book, or one round of it.
 pub use error::RoundError;
 pub use extraction::{Kernel, extract};
-pub use known::{Classified, KnownRounds, classes_beside};
+pub use known::{Classified, KnownRounds, classes_of_part};
 pub use rounding::{Rounded, one_round};
 
 // Laws.
 pub use laws::{
-    fixed_is_settled, fixed_parts, flat_plain, image_is_of_classes, kernel_behind_round, kernel_is,
-    kernel_keeps, kernel_of_kernel, limit_without_hold, rounds_go_down, tails_end, tails_keep,
+    fixed_is_settled, fixed_parts, flat_plain, hold_is_unused, image_is_of_classes,
+    kernel_behind_round, kernel_is, kernel_keeps, kernel_of_kernel, limit_without_hold, rounds_go_down, tails_end, tails_keep,
     three_tails,
 };

@@ -1,11 +1,11 @@
 //! One round of reduction.
 ghost use Rattle.std.specs.Prelude.{◌≡◌, ◌<◌, ◌↔◌, ◌∷◌, ◌++◌, [], ℕ, Bool, false, if◌then◌else◌, IfErr, IfOk, None, OnOk, Some, map};
 ghost use Rattle.clause_pool.specs.Interned.{Interned, Kept};
-ghost use Rattle.clause_flatten.specs.{Beside.{IsFlattened}, Refusals.{OnLimit}};
+ghost use Rattle.clause_flatten.specs.Refusals.{OnLimit};
 ghost use Rattle.row_book.specs.{Book.{repository_of, IsSameBook, RowsTidy, Sound}, declared.book.Book.{Book}, Flattening.{flat, held_of, passes}};
 ghost use Rattle.row_book.specs.{Merging.{class_list, quotient}, Pruning.{idle_steps, prune}, Rounds.{IdleStep, round, round_steps}, Thinning.{thin}};
 ghost use Rattle.row_book.specs.{Trail.{SoundSteps, trail_meaning}, declared.trail.Step.TheVariants.{Flat, Merge}};
-ghost use Rattle.kernel_rounds.specs.{Extracting.{IsFirstRound}, Moving.{live_rows, AreSameSteps, HasOnly}};
+ghost use Rattle.kernel_rounds.specs.{Extracting.{IsFirstRound, IsFlattened}, Moving.{live_rows, AreSameSteps, HasOnly}};
 
 use crate::moving::{keep_live, no_steps};
 use class_merge::merge;
@@ -44,13 +44,13 @@ pub(crate) struct Reduced {
 
 /// A book after pruning and thinning, with the idle steps of pruning.
 #[derive(Drop)]
-struct Shrunk {
-    book: Book,
+pub(crate) struct Shrunk {
+    pub(crate) book: Book,
     idle: StepList,
 }
 
 /// The book after pruning and thinning.
-fn prune_and_thin(alloc: Global, pool: &mut Pool, book: &Book) -> Result<Shrunk, AllocError>
+pub(crate) fn prune_and_thin(alloc: Global, pool: &mut Pool, book: &Book) -> Result<Shrunk, AllocError>
     requires sound { Sound pool.old book.now }
     requires tidy { RowsTidy pool.old book.now.rows }
     ensures book { IfOk result (λ made. repository_of pool.new made.book ≡ thin (prune (repository_of pool.old book.now))) }

@@ -1,14 +1,15 @@
 -- for the bodies of this crate alone
 -- What all mixes of two indexes are made of: the packages of the old one, and behind them those of the new one whose names differ.
-use Rattle.std.specs.{Prelude.{◌≡◌, ℕ, ◌≤◌, Bool, false, List, ◌++◌, map, Option, Some, None, ⊤}, Global.{Vec}, List.{items_where_true}, Option.{ForSome}}
-use Rattle.clause_flatten.specs.Beside.{AreKnown}
+use Rattle.std.specs.{Prelude.{◌≡◌, ℕ, ◌≤◌, Bool, true, List, ◌++◌, length, map, Option, Some, None, ⊤}, List.{items_where_true}, Option.{ForSome}}
+use Rattle.class_merge.specs.Classes.{class_in}
 use Rattle.clause_pool.specs.Interned.{Interned}
-use Rattle.kernel_rounds.specs.Known.{AreKnownRounds, IsClassified}
+use Rattle.kernel_rounds.specs.Known.{AreKnownRounds}
 use Rattle.relation_fields.specs.declared.packages.PackageFacts.{PackageFacts}
 use Rattle.repo_model.specs.{Limits.{most_packages}, Repository.{suite_repository}}
-use Rattle.row_book.specs.{Book.{repository_of, Sound}, Repository.{Repository}, Rounds.{PassedRound, limit_at}}
-use Rattle.suite_compare.specs.{Bearers.{bearers_of}, Known.{AreKnownPairs}, Views.{IsBookOf, IsKernelOf}}
-use Rattle.suite_part.specs.{declared.base.Base.{Base}, Bases.{IsBase}, Parts.{part}}
+use Rattle.row_book.specs.{declared.book.Book.{Book}, Flags.{flag}, Parts.{part, place_in}, Repository.{Repository}}
+use Rattle.row_book.specs.Rounds.{PassedRound, kernel, kernel_class, limit_at}
+use Rattle.suite_compare.specs.{Bearers.{bearers_of}, Known.{AreKnownPairs}, Views.{IsBookOf}}
+use Rattle.suite_part.specs.{declared.base.Base.{Base}, BaseRows.{AreBaseRows}, Bases.{IsBase}, Mixes.{AreMixRows}}
 use Rattle.migrate_plan.specs.{Differing.{differing}, Mix.{is_taken}, Indexes.{AreTexts, Texts}, Plan.{settings_of, Settings}, Refusals.{packages_with}}
 use Rattle.migrate_plan.specs.{declared.carried.Carried.{Carried}, declared.kernels.MadeKernel.{MadeKernel}}
 use Rattle.migrate_plan.specs.{declared.kernels.MadeKernel.TheVariants.{Beside, Own}, declared.whole.Whole.{Whole}}
@@ -29,9 +30,8 @@ AreTextsOf texts whole = AreTexts texts whole.old.now.view.now.suite whole.new.n
 abbrev pub packages_of_both : Whole → List PackageFacts
 packages_of_both whole = whole.old.now.view.now.suite.packages ++ items_where_true whole.added.items whole.new.now.packages
 
--- what is known of a part of a whole, at the limit of the old view, which is without hold
+-- what is known of a part of a whole without hold, at the limit of the old view
 pub record IsBaseFor (whole : Whole) (base : Base) : Type 0 where
-  pub hold_is : whole.old.now.view.now.kernel.hold ≡ false
   pub limit_is : base.limit ≡ whole.old.now.view.now.limit
   pub base_is : IsBase whole.pool whole.book base
 
@@ -42,38 +42,49 @@ pub record IsWhole (whole : Whole) : Type 0 where
   pub book_is : IsBookOf whole.pool whole.book (suite_repository whole.home (packages_of_both whole))
   pub named_are : whole.named.items ≡ bearers_of (packages_of_both whole) whole.old.now.names
 
--- a kernel is that of a repository at a clause limit, with hold or without, with the class of each package: it was made by itself over
--- this pool, or, without hold, beside known rows
-abbrev pub IsMadeKernel : Interned → ℕ → Bool → Repository → MadeKernel → Type 0
-IsMadeKernel pool limit hold R (Own kernel) = (kernel.hold ≡ hold) × IsKernelOf pool kernel limit R
-IsMadeKernel pool limit hold R (Beside classified) = (hold ≡ false) × IsClassified limit R classified × AreKnownRounds classified.rounds
+-- the book of a kernel with its pool, and the class of each package
+abbrev pub pool_made : MadeKernel → Interned
+pool_made (Own pool kernel class_of) = pool
+pool_made (Beside classified rows) = classified.rounds.pool
 
--- what a kernel knows of the rounds behind the first, if anything, is so
+abbrev pub book_made : MadeKernel → Book
+book_made (Own pool kernel class_of) = kernel.book
+book_made (Beside classified rows) = classified.rounds.kernel
+
+abbrev pub classes_made : MadeKernel → List ℕ
+classes_made (Own pool kernel class_of) = class_of.items
+classes_made (Beside classified rows) = classified.class_of
+
+-- the kernel of a mix, which is the part of the whole that has these flags, at a clause limit, with hold or without, where no round passes the
+-- limit; and the class of each package of the mix, in the numbers of the whole
+pub record IsMadeKernel (limit : ℕ) (hold : Bool) (W : Repository) (flags : List Bool) (made : MadeKernel) : Type 0 where
+  pub within : limit_at limit hold (part flags W) ≡ None
+  pub book_is : IsBookOf (pool_made made) (book_made made) (kernel limit hold (part flags W))
+  pub size : length (classes_made made) ≡ length flags
+  pub class_of : (p : ℕ) → flag flags p ≡ true → class_in (classes_made made) p ≡ kernel_class limit hold (part flags W) (place_in flags p)
+
+-- such a kernel, or none if the mix passes the limit
+abbrev pub IsKernelAt : ℕ → Bool → Repository → List Bool → Option MadeKernel → Type 0
+IsKernelAt limit hold W flags (Some made) = IsMadeKernel limit hold W flags made
+IsKernelAt limit hold W flags None = (passed : PassedRound) × (limit_at limit hold (part flags W) ≡ Some passed)
+
+-- what a kernel knows of the rounds after the first, if anything, is so
 abbrev pub KnowsRounds : MadeKernel → Type 0
-KnowsRounds (Own kernel) = ⊤
-KnowsRounds (Beside classified) = AreKnownRounds classified.rounds
+KnowsRounds (Own pool kernel class_of) = ⊤
+KnowsRounds (Beside classified rows) = AreKnownRounds classified.rounds
 
--- the kernel of a repository at a clause limit, with hold or without, or none where it passes the limit
-pub record IsKernelMade (pool : Interned) (limit : ℕ) (hold : Bool) (R : Repository) (made : MadeKernel) : Type 0 where
-  pub within : limit_at limit hold R ≡ None
-  pub kernel_is : IsMadeKernel pool limit hold R made
+-- the rows of a mix, if it has any, are rows over a base, and so the base may follow
+abbrev pub CanFollow : Option Base → List Bool → MadeKernel → Type 0
+CanFollow base flags (Own pool kernel class_of) = ⊤
+CanFollow base flags (Beside classified rows) = ForSome base (λ before. AreBaseRows before.pool rows.items (length flags))
 
-abbrev pub IsKernelAt : Interned → ℕ → Bool → Repository → Option MadeKernel → Type 0
-IsKernelAt pool limit hold R (Some made) = IsKernelMade pool limit hold R made
-IsKernelAt pool limit hold R None = (passed : PassedRound) × (limit_at limit hold R ≡ Some passed)
+-- and they are those of the mix
+abbrev pub HasMixRows : Whole → Option Base → List Bool → MadeKernel → Type 0
+HasMixRows whole base flags (Own pool kernel class_of) = ⊤
+HasMixRows whole base flags (Beside classified rows) = ForSome base (λ before. AreMixRows whole.pool whole.book before flags rows.items)
 
--- what is handed on from mix to mix: what is known of a part of the whole, of pairs, and of the rounds behind the first
+-- what is handed on from mix to mix: what is known of a part of the whole, of pairs, and of the rounds after the first
 pub record IsCarried (whole : Whole) (carried : Carried) : Type 0 where
   pub base_is : ForSome carried.base (IsBaseFor whole)
   pub known_are : ForSome carried.known AreKnownPairs
   pub rounds_are : ForSome carried.rounds AreKnownRounds
-
--- rows that are known of the part of a whole are those of its packages over the core without hold, and none of them passes the limit
-abbrev pub AreKnownIn : Interned → Whole → List Bool → Option (Vec (Option ℕ)) → Type 0
-AreKnownIn pool whole flags known = ForSome known (λ rows. AreKnown pool whole.old.now.view.now.limit (part flags (repository_of whole.pool whole.book)) rows.items)
-
--- if the base before is one of the whole, and the known rows are those of the part, then the base after, if there is one, is one of the
--- whole too
-abbrev pub StaysBase : Interned → Whole → List Bool → Option (Vec (Option ℕ)) → Option Base → Option Base → Type 0
-StaysBase pool whole flags known before after = Sound whole.pool whole.book → AreKnownIn pool whole flags known
-    → ForSome before (IsBaseFor whole) → ForSome after (IsBaseFor whole)

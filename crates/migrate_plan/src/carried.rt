@@ -1,21 +1,21 @@
 //! What is handed on from mix to mix.
-ghost use Rattle.std.specs.{Prelude.{◌≡◌, ◌<◌, IfOk, OnOk, length}, Option.{ForSome}};
-ghost use Rattle.suite_part.specs.{Bases.{FitsIn}, Renewed.{AreRowsOf}};
-ghost use Rattle.migrate_plan.specs.Whole.{IsBaseFor, IsCarried, IsWhole, StaysBase};
+ghost use Rattle.std.specs.{Prelude.{◌<◌, IfOk, length}, Option.{ForSome}};
+ghost use Rattle.kernel_rounds.specs.Known.{AreKnownRounds};
+ghost use Rattle.suite_part.specs.{BaseRows.{AreBaseRows}, Mixes.{AreMixRows}};
+ghost use Rattle.migrate_plan.specs.{declared.whole.Whole.{Whole}, Whole.{CanFollow, HasMixRows, IsBaseFor, IsCarried, IsWhole, KnowsRounds}};
 
-use crate::plan::PlanLine;
+use crate::kernels::MadeKernel;
 use crate::whole::Whole;
-use clause_pool::{Pool, RowId};
+use clause_pool::RowId;
 use kernel_rounds::KnownRounds;
 use std::alloc::{AllocError, Global};
 use suite_compare::KnownPairs;
-use suite_part::{Base, Chosen};
+use suite_part::Base;
 
 /// What is handed on from mix to mix.
 #[derive(Drop)]
 pub(crate) struct Carried {
-    /// What is known of a mix that was taken, the last one of which all rows were known, or of the old packages. None with hold, or if the old
-    /// packages pass the limit in the whole.
+    /// What is known of the last mix that was taken, or of the old packages, without hold. None if the old packages pass the limit in the whole.
     pub(crate) base: Option<Base>,
     /// What is known of pairs.
     pub(crate) known: Option<KnownPairs>,
@@ -38,17 +38,13 @@ pub(crate) fn first_carried(alloc: Global, whole: &Whole) -> Result<Carried, All
     })
 }
 
-// What is known of the part that the old packages make. With hold a package may stay for what others name, so that no part can be
-// flattened by itself.
+// What is known of the part that the old packages make, without hold.
 fn base_of(alloc: Global, whole: &Whole) -> Result<Option<Base>, AllocError>
     requires whole { IsWhole whole.now }
     requires limit { 0 < whole.now.old.now.view.now.limit }
     ensures { IfOk result (λ base. ForSome base (IsBaseFor whole.now)) }
 {
     let view = whole.old.view;
-    if view.kernel.hold {
-        return Ok(None);
-    }
     let base = Base::of(
         alloc,
         &whole.pool,
@@ -59,48 +55,36 @@ fn base_of(alloc: Global, whole: &Whole) -> Result<Option<Base>, AllocError>
     Ok(base)
 }
 
-/// Makes the base that of a mix, if the line of its name takes it, and the rows of all its packages are known. What is promised is that it
-/// stays a base; which one it is tells on time alone.
-pub(crate) fn put_base(
-    alloc: Global,
-    base: &mut Option<Base>,
-    line: &PlanLine,
-    pool: &Pool,
-    known: &Option<Vec<Option<RowId>>>,
-    whole: &Whole,
-    chosen: &Chosen,
-) -> Result<(), AllocError>
-    requires fits { ForSome base.old (FitsIn whole.now.book) }
-    requires flags { length chosen.now.flags.items ≡ length whole.now.book.rows }
-    requires rows { ForSome known.now (λ rows. AreRowsOf pool.now chosen.now.flags.items rows.items) }
-    ensures { OnOk result (StaysBase pool.now whole.now chosen.now.flags.items known.now base.old base.new) }
+/// Keeps what is known of a mix: its rows as the base if its name was taken, and the rounds after the first if it was, or if none are kept.
+/// Which are kept affects time alone.
+pub(crate) fn keep(carried: &mut Carried, made: MadeKernel, flags: Vec<bool>, is_taken: bool)
+    requires { CanFollow carried.old.base flags.items made }
+    ensures { (whole : Whole) → IsCarried whole carried.old → KnowsRounds made → HasMixRows whole carried.old.base flags.items made → IsCarried whole carried.new }
 {
-    match line {
-        PlanLine::Take { name: _ } => renew_base(alloc, base, pool, known, whole, chosen),
-        PlanLine::LeftLimit { name: _ } => Ok(()),
-        PlanLine::LeftLine { name: _, line: _ } => Ok(()),
+    let MadeKernel::Beside { classified, rows } = made else {
+        return;
+    };
+    keep_rounds(&mut carried.rounds, classified.rounds, is_taken);
+    if is_taken {
+        follow(&mut carried.base, flags, rows);
     }
 }
 
-// The same, if the line takes the name.
-fn renew_base(
-    alloc: Global,
-    base: &mut Option<Base>,
-    pool: &Pool,
-    known: &Option<Vec<Option<RowId>>>,
-    whole: &Whole,
-    chosen: &Chosen,
-) -> Result<(), AllocError>
-    requires fits { ForSome base.old (FitsIn whole.now.book) }
-    requires flags { length chosen.now.flags.items ≡ length whole.now.book.rows }
-    requires rows { ForSome known.now (λ rows. AreRowsOf pool.now chosen.now.flags.items rows.items) }
-    ensures { OnOk result (StaysBase pool.now whole.now chosen.now.flags.items known.now base.old base.new) }
+// Keeps the rounds after the first.
+fn keep_rounds(kept: &mut Option<KnownRounds>, rounds: KnownRounds, is_taken: bool)
+    ensures { ForSome kept.old AreKnownRounds → AreKnownRounds rounds → ForSome kept.new AreKnownRounds }
 {
-    let Some(rows) = known else {
-        return Ok(());
-    };
-    if let Some(base) = base {
-        base.renew(alloc, pool, rows, chosen, &whole.book)?;
+    if is_taken || kept.is_none() {
+        *kept = Some(rounds);
     }
-    Ok(())
+}
+
+// Makes the base that of a mix.
+fn follow(base: &mut Option<Base>, flags: Vec<bool>, rows: Vec<RowId>)
+    requires { ForSome base.old (λ before. AreBaseRows before.pool rows.items (length flags.items)) }
+    ensures { (whole : Whole) → ForSome base.old (IsBaseFor whole) → ForSome base.old (λ before. AreMixRows whole.pool whole.book before flags.items rows.items) → ForSome base.new (IsBaseFor whole) }
+{
+    if let Some(base) = base {
+        base.follow(flags, rows);
+    }
 }

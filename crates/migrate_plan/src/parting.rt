@@ -1,27 +1,23 @@
 //! The line of a name by the packages of its mix, as a part of those that all mixes are made of.
-ghost use Rattle.std.specs.{Prelude.{◌≡◌, ◌<◌, ◌++◌, ℕ, List, None, false, length, map, IfOk, OnOk}, List.{items_where_true}, Option.{ForSome}};
-ghost use Rattle.clause_pool.specs.Interned.{IsPool};
+ghost use Rattle.std.specs.{Prelude.{◌≡◌, ◌<◌, ◌++◌, Option, Some, None, false, length, IfOk, OnOk}, List.{items_where_true}, Option.{ForSome, option_map}};
 ghost use Rattle.kernel_rounds.specs.Known.{AreKnownRounds};
-ghost use Rattle.listed.specs.Lists.{In};
-ghost use Rattle.repo_model.specs.Repository.{suite_repository};
 ghost use Rattle.row_book.specs.Book.{repository_of, Sound};
-ghost use Rattle.suite_compare.specs.{Comparing.{IsOldSide}, Known.{AreKnownPairs}, Lent.{IsLentKernel}, Report.{first_told}};
-ghost use Rattle.suite_part.specs.Parts.{chosen_in, part};
-ghost use Rattle.migrate_plan.specs.Trying.{outcome_by, told_of};
-ghost use Rattle.migrate_plan.specs.Whole.{packages_of_both, settings_between, AreKnownIn, IsBaseFor, IsCarried, IsKernelAt, IsMadeKernel, IsWhole};
+ghost use Rattle.suite_compare.specs.{Comparing.{IsOldSide}, Known.{AreKnownPairs}, Report.{first_told}};
+ghost use Rattle.suite_part.specs.declared.base.Base.{Base};
+ghost use Rattle.migrate_plan.specs.{Trying.{outcome_by, told_of}, declared.kernels.MadeKernel.TheVariants.{Beside}};
+ghost use Rattle.migrate_plan.specs.Whole.{packages_of_both, settings_between, HasMixRows, IsBaseFor, IsCarried, IsKernelAt, IsMadeKernel, IsWhole, KnowsRounds};
 
-use crate::carried::{Carried, put_base};
-use crate::kernels::{MadeKernel, beside, keep_rounds, lent_kernel};
+use crate::carried::{Carried, keep};
+use crate::kernels::{MadeKernel, classes_in, lent_kernel};
 use crate::plan::PlanLine;
 use crate::trying::line_by_first;
 use crate::whole::Whole;
 use clause_pool::{Pool, RowId};
 use deb_version::Bytes;
-use kernel_rounds::{KnownRounds, RoundError, classes_beside, extract};
-use row_book::Book;
+use kernel_rounds::{Classified, KnownRounds, RoundError, classes_of_part, extract};
 use std::alloc::{AllocError, Global};
-use suite_compare::{FewNumbers, FirstLine, KnownPairs, LentKernel, ReportLine, first_line_by};
-use suite_part::{Base, Chosen, known_apart, part_of};
+use suite_compare::{FirstLine, ReportLine, classes_of_chosen, first_line_by};
+use suite_part::{Base, Chosen, part_of};
 
 /// For each package of a whole whether it is in a mix: those of the old suite come first, and of the new one only those that were added.
 pub(crate) fn flags_in(
@@ -61,216 +57,174 @@ pub(crate) fn line_in(
         IfOk result (λ line. line ≡ outcome_by (settings_between whole.now) before.suite.home before.suite.packages whole.now.home (items_where_true flags.items (packages_of_both whole.now)) name.now) }
     ensures carried { OnOk result (IsCarried whole.now carried.new) }
 {
-    let chosen = Chosen::of(alloc, flags)?;
-    let mut pool = Pool::new(alloc)?;
-    let made = kernel_in(
-        alloc,
-        &mut pool,
-        whole,
-        &chosen,
-        &carried.base,
-        &mut carried.rounds,
-    )?;
-    let MixKernel { kernel, rows } = made;
-    match kernel {
-        Some(kernel) => {
-            let told = told_by(alloc, whole, &chosen, &pool, kernel, carried)?;
-            let line = line_by_first(alloc, name, told)?;
-            put_base(
-                alloc,
-                &mut carried.base,
-                &line,
-                &pool,
-                &rows,
-                whole,
-                &chosen,
-            )?;
-            Ok(line)
-        }
-        None => {
-            let name = Bytes::copy(alloc, name)?;
-            Ok(PlanLine::LeftLimit { name })
-        }
-    }
+    let Some(made) = kernel_in(alloc, whole, &flags, carried)? else {
+        let name = Bytes::copy(alloc, name)?;
+        return Ok(PlanLine::LeftLimit { name });
+    };
+    let told = told_by(alloc, whole, &flags, &made, carried)?;
+    keep(carried, made, flags, told.is_none());
+    line_by_first(alloc, name, told)
 }
 
-// The first line that is told of a mix, by its kernel, of which the rounds behind the first are kept.
+// The first line of the comparison of a mix with the old side, by the kernel of the mix.
 fn told_by(
     alloc: Global,
     whole: &Whole,
-    chosen: &Chosen,
-    pool: &Pool,
-    kernel: MadeKernel,
+    flags: &[bool],
+    made: &MadeKernel,
     carried: &mut Carried,
 ) -> Result<Option<ReportLine>, AllocError>
     requires side { IsOldSide whole.now.old.now }
-    requires kernel { let before = whole.now.old.now.view.now in IsMadeKernel pool.now before.limit before.kernel.hold (suite_repository whole.now.home (items_where_true chosen.now.flags.items (packages_of_both whole.now))) kernel }
     requires whole { IsWhole whole.now }
-    requires flags { length chosen.now.flags.items ≡ length (packages_of_both whole.now) }
+    requires flags { length flags.now ≡ length (packages_of_both whole.now) }
+    requires kernel { let before = whole.now.old.now.view.now in IsMadeKernel before.limit before.kernel.hold (repository_of whole.now.pool whole.now.book) flags.now made.now }
     requires known { ForSome carried.old.known AreKnownPairs }
-    requires rounds { ForSome carried.old.rounds AreKnownRounds }
     ensures told { let before = whole.now.old.now.view.now in
-        IfOk result (λ told. told ≡ first_told (told_of (settings_between whole.now) before.suite.home before.suite.packages whole.now.home (items_where_true chosen.now.flags.items (packages_of_both whole.now)))) }
+        IfOk result (λ told. told ≡ first_told (told_of (settings_between whole.now) before.suite.home before.suite.packages whole.now.home (items_where_true flags.now (packages_of_both whole.now)))) }
     ensures base { carried.new.base ≡ carried.old.base }
+    ensures rounds { carried.new.rounds ≡ carried.old.rounds }
     ensures known { OnOk result (ForSome carried.new.known AreKnownPairs) }
-    ensures rounds { OnOk result (ForSome carried.new.rounds AreKnownRounds) }
 {
-    let lent = lent_kernel(&kernel, pool);
-    let first = first_in(alloc, whole, chosen, &lent, carried.known.take());
+    let kernel = lent_kernel(made);
+    let classes = classes_of_chosen(alloc, classes_in(made), &whole.named, flags)?;
+    let first = first_line_by(alloc, whole.old, &kernel, classes, carried.known.take());
+    drop(kernel);
     let FirstLine { line, known } = first?;
     carried.known = known;
-    keep_rounds(&mut carried.rounds, kernel, line.is_none());
     Ok(line)
 }
 
-// The kernel of a mix, none where it passes the clause limit, and the rows of its packages that are known, if there was a base.
-#[derive(Drop)]
-struct MixKernel {
-    kernel: Option<MadeKernel>,
-    rows: Option<Vec<Option<RowId>>>,
-}
-
-// The kernel of the chosen packages of a whole, at the limit and hold of the old view.
+// The kernel of a mix, at the limit and hold of the old view; none if it passes the clause limit.
 fn kernel_in(
     alloc: Global,
-    pool: &mut Pool,
     whole: &Whole,
-    chosen: &Chosen,
-    base: &Option<Base>,
-    rounds: &mut Option<KnownRounds>,
-) -> Result<MixKernel, AllocError>
-    requires pool { IsPool pool.old }
+    flags: &[bool],
+    carried: &mut Carried,
+) -> Result<Option<MadeKernel>, AllocError>
     requires limit { 0 < whole.now.old.now.view.now.limit }
-    requires whole { IsWhole whole.now }
-    requires flags { length chosen.now.flags.items ≡ length (packages_of_both whole.now) }
-    requires base { ForSome base.now (IsBaseFor whole.now) }
-    requires rounds { ForSome rounds.old AreKnownRounds }
-    ensures kernel { let before = whole.now.old.now.view.now in IfOk result (λ made. IsKernelAt pool.new before.limit before.kernel.hold (suite_repository whole.now.home (items_where_true chosen.now.flags.items (packages_of_both whole.now))) made.kernel) }
-    ensures rows { IfOk result (λ made. AreKnownIn pool.new whole.now chosen.now.flags.items made.rows) }
-    ensures rounds { ForSome rounds.new AreKnownRounds }
+    requires book { Sound whole.now.pool whole.now.book }
+    requires flags { length flags.now ≡ length whole.now.book.rows }
+    requires carried { IsCarried whole.now carried.old }
+    ensures kernel { let before = whole.now.old.now.view.now in IfOk result (IsKernelAt before.limit before.kernel.hold (repository_of whole.now.pool whole.now.book) flags.now) }
+    ensures known { IfOk result (λ made. ForSome made KnowsRounds) }
+    ensures rows { IfOk result (λ made. ForSome made (HasMixRows whole.now carried.new.base flags.now)) }
+    ensures carried { IsCarried whole.now carried.new }
 {
-    let book = part_of(alloc, pool, &whole.pool, &whole.book, chosen)?;
-    let made = kernel_by(alloc, pool, &book, whole, chosen, base, rounds);
-    drop(book);
-    made
+    match &mut carried.base {
+        Some(base) => kernel_by(alloc, whole, flags, base, &mut carried.rounds),
+        None => kernel_alone(alloc, whole, flags),
+    }
 }
 
-// The same, by the book of the chosen packages.
+// The same, by what is known of a part of the whole. If no row of the mix passes the limit without hold, hold changes nothing.
 fn kernel_by(
     alloc: Global,
-    pool: &mut Pool,
-    book: &Book,
     whole: &Whole,
-    chosen: &Chosen,
-    base: &Option<Base>,
+    flags: &[bool],
+    base: &mut Base,
     rounds: &mut Option<KnownRounds>,
-) -> Result<MixKernel, AllocError>
-    requires book { Sound pool.old book.now }
+) -> Result<Option<MadeKernel>, AllocError>
     requires limit { 0 < whole.now.old.now.view.now.limit }
-    requires whole { IsWhole whole.now }
-    requires flags { length chosen.now.flags.items ≡ length whole.now.book.rows }
-    requires part { repository_of pool.old book.now ≡ part chosen.now.flags.items (repository_of whole.now.pool whole.now.book) }
-    requires base { ForSome base.now (IsBaseFor whole.now) }
+    requires book { Sound whole.now.pool whole.now.book }
+    requires flags { length flags.now ≡ length whole.now.book.rows }
+    requires base { IsBaseFor whole.now base.old }
     requires rounds { ForSome rounds.old AreKnownRounds }
-    ensures kernel { let before = whole.now.old.now.view.now in IfOk result (λ made. IsKernelAt pool.new before.limit before.kernel.hold (repository_of pool.old book.now) made.kernel) }
-    ensures rows { IfOk result (λ made. AreKnownIn pool.new whole.now chosen.now.flags.items made.rows) }
+    ensures kernel { let before = whole.now.old.now.view.now in IfOk result (IsKernelAt before.limit before.kernel.hold (repository_of whole.now.pool whole.now.book) flags.now) }
+    ensures known { IfOk result (λ made. ForSome made KnowsRounds) }
+    ensures rows { IfOk result (λ made. ForSome made (HasMixRows whole.now (Some base.new) flags.now)) }
+    ensures base { IsBaseFor whole.now base.new }
     ensures rounds { ForSome rounds.new AreKnownRounds }
 {
-    if let Some(base) = base {
-        let made = kernel_beside(alloc, pool, book, whole, base, chosen, rounds)?;
-        return Ok(made);
+    match kernel_beside(alloc, whole, flags, base, rounds)? {
+        Some(made) => Ok(Some(made)),
+        None => kernel_over(alloc, whole, flags),
     }
-    let view = whole.old.view;
-    let kernel = kernel_of(alloc, pool, book, view.limit, view.kernel.hold)?;
-    Ok(MixKernel { kernel, rows: None })
 }
 
-// The kernel of the book of the chosen packages of a whole, where rows of those that stay as they are in the part of a base are known.
+// The kernel of a mix that passes the limit without hold.
+fn kernel_over(
+    alloc: Global,
+    whole: &Whole,
+    flags: &[bool],
+) -> Result<Option<MadeKernel>, AllocError>
+    requires limit { 0 < whole.now.old.now.view.now.limit }
+    requires book { Sound whole.now.pool whole.now.book }
+    requires flags { length flags.now ≡ length whole.now.book.rows }
+    requires over { IsKernelAt whole.now.old.now.view.now.limit false (repository_of whole.now.pool whole.now.book) flags.now None }
+    ensures kernel { let before = whole.now.old.now.view.now in IfOk result (IsKernelAt before.limit before.kernel.hold (repository_of whole.now.pool whole.now.book) flags.now) }
+    ensures known { IfOk result (λ made. ForSome made KnowsRounds) }
+    ensures rows { (base : Option Base) → IfOk result (λ made. ForSome made (HasMixRows whole.now base flags.now)) }
+{
+    if !whole.old.view.kernel.hold {
+        return Ok(None);
+    }
+    kernel_alone(alloc, whole, flags)
+}
+
+// The kernel of a mix without hold, by the rows of the base and those that have changed; none if it passes the clause limit.
 fn kernel_beside(
     alloc: Global,
-    pool: &mut Pool,
-    book: &Book,
     whole: &Whole,
-    base: &Base,
-    chosen: &Chosen,
+    flags: &[bool],
+    base: &mut Base,
     rounds: &mut Option<KnownRounds>,
-) -> Result<MixKernel, AllocError>
-    requires book { Sound pool.old book.now }
+) -> Result<Option<MadeKernel>, AllocError>
     requires limit { 0 < whole.now.old.now.view.now.limit }
-    requires whole { Sound whole.now.pool whole.now.book }
-    requires base { IsBaseFor whole.now base.now }
+    requires book { Sound whole.now.pool whole.now.book }
+    requires flags { length flags.now ≡ length whole.now.book.rows }
+    requires base { IsBaseFor whole.now base.old }
     requires rounds { ForSome rounds.old AreKnownRounds }
-    requires flags { length chosen.now.flags.items ≡ length whole.now.book.rows }
-    requires part { repository_of pool.old book.now ≡ part chosen.now.flags.items (repository_of whole.now.pool whole.now.book) }
-    ensures kernel { IfOk result (λ made. IsKernelAt pool.new whole.now.old.now.view.now.limit false (repository_of pool.old book.now) made.kernel) }
-    ensures rows { IfOk result (λ made. AreKnownIn pool.new whole.now chosen.now.flags.items made.rows) }
+    ensures kernel { IfOk result (IsKernelAt whole.now.old.now.view.now.limit false (repository_of whole.now.pool whole.now.book) flags.now) }
+    ensures known { IfOk result (λ made. ForSome made KnowsRounds) }
+    ensures rows { IfOk result (λ made. ForSome made (HasMixRows whole.now (Some base.new) flags.now)) }
+    ensures base { IsBaseFor whole.now base.new }
     ensures rounds { ForSome rounds.new AreKnownRounds }
 {
+    let Some(rows) = base.rows_in(alloc, &whole.pool, &whole.book, flags)? else {
+        return Ok(None);
+    };
     let limit = whole.old.view.limit;
-    let old_rows = base.known_rows(alloc, pool, &whole.book, chosen)?;
-    let known = known_apart(alloc, pool, book, limit, old_rows)?;
-    let made = classes_beside(alloc, pool, book, limit, &known, rounds)?;
-    Ok(MixKernel {
-        kernel: beside(made),
-        rows: Some(known),
-    })
+    let masked = base.masked(&rows, &whole.book, flags);
+    let made = classes_of_part(alloc, &masked, limit, rounds)?;
+    Ok(beside(made, rows))
 }
 
-// The kernel of a book; none where it passes the clause limit.
-fn kernel_of(
-    alloc: Global,
-    pool: &mut Pool,
-    book: &Book,
-    limit: u32,
-    hold: bool,
-) -> Result<Option<MadeKernel>, AllocError>
-    requires book { Sound pool.old book.now }
-    requires limit { 0 < limit }
-    ensures { IfOk result (IsKernelAt pool.new limit hold (repository_of pool.old book.now)) }
+// The kernel with the rows of its mix.
+fn beside(made: Option<Classified>, rows: Vec<RowId>) -> Option<MadeKernel>
+    ensures { result ≡ option_map (λ classified. Beside classified rows) made }
 {
-    match extract(alloc, pool, book, limit, hold) {
-        Ok(kernel) => Ok(Some(MadeKernel::Own { kernel })),
-        Err(RoundError::Limit { .. }) => Ok(None),
-        Err(RoundError::Memory) => Err(AllocError),
+    match made {
+        Some(classified) => Some(MadeKernel::Beside { classified, rows }),
+        None => None,
     }
 }
 
-// The first line that is told of a mix against the old side, by the mix's kernel, which is of the chosen packages of a whole.
-fn first_in(
+// The kernel of a mix at the limit and hold of the old view, from the book of the mix; none if it passes the clause limit.
+fn kernel_alone(
     alloc: Global,
     whole: &Whole,
-    chosen: &Chosen,
-    kernel: &LentKernel,
-    known: Option<KnownPairs>,
-) -> Result<FirstLine, AllocError>
-    requires side { IsOldSide whole.now.old.now }
-    requires kernel { let before = whole.now.old.now.view.now in IsLentKernel kernel.now before.limit before.kernel.hold (suite_repository whole.now.home (items_where_true chosen.now.flags.items (packages_of_both whole.now))) }
-    requires whole { IsWhole whole.now }
-    requires flags { length chosen.now.flags.items ≡ length (packages_of_both whole.now) }
-    requires known { ForSome known AreKnownPairs }
-    ensures first { let before = whole.now.old.now.view.now in
-        IfOk result (λ made. made.line ≡ first_told (told_of (settings_between whole.now) before.suite.home before.suite.packages whole.now.home (items_where_true chosen.now.flags.items (packages_of_both whole.now)))) }
-    ensures known { IfOk result (λ made. ForSome made.known AreKnownPairs) }
+    flags: &[bool],
+) -> Result<Option<MadeKernel>, AllocError>
+    requires limit { 0 < whole.now.old.now.view.now.limit }
+    requires book { Sound whole.now.pool whole.now.book }
+    requires flags { length flags.now ≡ length whole.now.book.rows }
+    ensures kernel { let before = whole.now.old.now.view.now in IfOk result (IsKernelAt before.limit before.kernel.hold (repository_of whole.now.pool whole.now.book) flags.now) }
+    ensures known { IfOk result (λ made. ForSome made KnowsRounds) }
+    ensures rows { (base : Option Base) → IfOk result (λ made. ForSome made (HasMixRows whole.now base flags.now)) }
 {
-    let named = named_in(alloc, &whole.named, chosen)?;
-    first_line_by(alloc, whole.old, kernel, &named, known)
-}
-
-// Those of each list of packages that are chosen, by their numbers among the chosen ones.
-fn named_in(
-    alloc: Global,
-    named: &[FewNumbers],
-    chosen: &Chosen,
-) -> Result<Vec<FewNumbers>, AllocError>
-    requires { (list : List ℕ) → In list named.now → (n : ℕ) → In n list → n < length chosen.now.flags.items }
-    ensures { IfOk result (λ lists. lists.items ≡ map (chosen_in chosen.now.flags.items) named.now) }
-{
-    let mut lists = Vec::with_capacity(alloc, named.len())?;
-    let mut list = Vec::new(alloc);
-    for numbers in named {
-        chosen.put_among(&mut list, numbers.as_slice())?;
-        let few = FewNumbers::copy(alloc, list.as_slice())?;
-        lists.push(few)?;
-    }
-    Ok(lists)
+    let chosen = Chosen::of(alloc, Vec::from_slice(alloc, flags)?)?;
+    let mut pool = Pool::new(alloc)?;
+    let book = part_of(alloc, &mut pool, &whole.pool, &whole.book, &chosen)?;
+    let view = whole.old.view;
+    let kernel = match extract(alloc, &mut pool, &book, view.limit, view.kernel.hold) {
+        Ok(kernel) => kernel,
+        Err(RoundError::Limit { .. }) => return Ok(None),
+        Err(RoundError::Memory) => return Err(AllocError),
+    };
+    let class_of = chosen.spread(alloc, kernel.class_of.as_slice())?;
+    Ok(Some(MadeKernel::Own {
+        pool,
+        kernel,
+        class_of,
+    }))
 }

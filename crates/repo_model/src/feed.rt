@@ -40,6 +40,13 @@ impl SuiteFeed {
         })
     }
 
+    /// How many bytes were taken.
+    pub fn taken(&self) -> u64
+        ensures { result ≡ taken_of self.now }
+    {
+        self.taken
+    }
+
     /// The suite of the bytes that were taken, or their first fault, as if they were read at once. Where a piece was refused the
     /// answer is want of memory.
     pub fn finish(self) -> Result<Suite, IndexFault>

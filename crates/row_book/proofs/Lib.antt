@@ -17,3 +17,7 @@ pub mod Facing
 pub mod BookRepositories
 pub mod Distinct
 pub mod Compared
+pub mod Placed
+pub mod Numbered
+pub mod PartSound
+pub mod Parts

@@ -18,3 +18,4 @@ pub mod Pruning
 pub mod Thinning
 pub mod Rounds
 pub mod Trail
+pub mod Parts

@@ -1,11 +1,12 @@
 -- The packages that bear the names of an old side: which names these are, and the classes of the packages.
 use Rattle.std.{proofs.Common.{◌≡◌, ℕ, ◌<◌, ◌+◌, zero, suc, Bool, true, false, not, eqb, cond, filter, List, [], ◌∷◌, ◌++◌, length, get_or, map, refl, ◌∙◌, ap, ap₂, subst, sym, arith}, specs.Str.{bytes_eq}, proofs.lemmas.Bool.{both_ways, ne_eqb}, proofs.lemmas.List.{append-nil, get_or-map, length-map}, proofs.lemmas.List.Elements.{filter-append}}
-use Rattle.row_book.{specs.Needs.{AreNeeds, NeedsFit}, specs.Book.{listed_for}, specs.Numbers.{numbers}, specs.Repository.{Repository}, specs.Flattening.{packages}, specs.Rounds.{kernel_class}, proofs.Numbers.{numbers_more, numbers_parts}}
-use Rattle.listed.{specs.Lists.{In, here, there}, proofs.Lists.{any_none, filled, filter_cases, filter_same, has_not, In_at, In_map, In_map_cases, In_none, In_place, none_in}}
+use Rattle.row_book.{specs.Needs.{AreNeeds, NeedsFit}, specs.Book.{listed_for, repository_of}, specs.Numbers.{numbers}, specs.Repository.{Repository}, specs.declared.book.Book.{Book}, specs.Flattening.{packages}, specs.Rounds.{kernel, kernel_class, kernel_image}, proofs.Numbers.{numbers_more, numbers_parts}}
+use Rattle.listed.{specs.Lists.{Ascending, has, In, here, there}, proofs.Lists.{any_none, filled, filter_cases, filter_same, has_not, In_at, In_map, In_map_cases, In_none, In_place, none_in}}
 use Rattle.relation_fields.{specs.declared.packages.Home.{Home}, specs.declared.packages.PackageFacts.{PackageFacts}}
 use Rattle.repo_model.{specs.Goals.{any_version, packages_named}, specs.Repository.{suite_repository}, specs.Stanzas.{no_stanza, stanza_at}, proofs.Chosen.{named_is, number_cases}, proofs.Packages.{length_clauses}}
+use Rattle.clause_pool.specs.Interned.{Interned}
 use Rattle.search_terms.proofs.Ranges.{rows_long}
-use Rattle.suite_compare.{specs.Asking.{image_of}, specs.Bearers.{bearers_of, filled_places, is_borne, AreClasses, FitsKernel}, specs.Groups.{AreEach}, specs.Names.{stands_in}, specs.Lent.{IsLentKernel}, specs.declared.lent.LentKernel.{LentKernel}, proofs.Gathering.{image_made, named_inside, table_of}, proofs.Named.{bearer_of, AreAmong}, proofs.SuiteKernels.{kernel_class_within, suite_sound}}
+use Rattle.suite_compare.{specs.Asking.{image_of}, specs.Bearers.{bearer_classes, bearers_of, filled_places, is_borne, AreClasses, FitsKernel}, specs.Groups.{AreEach}, specs.Names.{stands_in}, specs.Lent.{IsLentKernel}, specs.Views.{IsBookOf}, specs.declared.lent.LentKernel.{LentKernel}, proofs.Gathering.{image_filled, image_made, named_inside, table_of}, proofs.Named.{bearer_of, AreAmong}, proofs.SuiteKernels.{classes_ascending, classes_parts, suite_sound}}
 
 same_items : (xs ys : List (List ℕ)) → length xs ≡ length ys → ((i : ℕ) → i < length xs → listed_for xs i ≡ listed_for ys i) → xs ≡ ys
 same_items [] [] e f = refl
@@ -57,31 +58,6 @@ kept_at p at k (x ∷ xs) e = by (kept_at p at (suc k) xs (λ i l. ap at (omega 
 pub bearers_count : (stanzas : List PackageFacts) (names named : List (List ℕ)) → named ≡ bearers_of stanzas names → length named ≡ length names
 bearers_count stanzas names named is = ap length is ∙ length-map names (λ name. packages_named stanzas (any_version name))
 
--- the names at the places that packages bear are those that stand in the packages
-pub names_borne : (stanzas : List PackageFacts) (names named : List (List ℕ)) → named ≡ bearers_of stanzas names → map (listed_for names) (filled_places named) ≡ filter (stands_in stanzas) names
-names_borne stanzas names named is =
-    ap (map (listed_for names))
-    (filter_same (is_borne named) (λ i. stands_in stanzas (listed_for names i)) (numbers (length named) 0)
-    (λ i j. let l : i < length named = number_below (length named) i j in same i (subst (λ z. i < z) long l)) ∙ ap (λ n. filter (λ i. stands_in stanzas (listed_for names i)) (numbers n 0)) long)
-    ∙ kept_at (stands_in stanzas) (listed_for names) 0 names (λ i l. ap (listed_for names) (omega arith))
-  where
-    long : length named ≡ length names
-    long = bearers_count stanzas names named is
-
-    same : (i : ℕ) → i < length names → is_borne named i ≡ stands_in stanzas (listed_for names i)
-    same i l =
-        ap (λ z. not (eqb (length (listed_for z i)) 0)) is ∙ ap (λ z. not (eqb (length z) 0)) (get_or-map (λ name. packages_named stanzas (any_version name)) names i [] [] l)
-        ∙ sym (stands_where stanzas (listed_for names i))
-
--- they are all names, where each stands in the packages
-all_kept : (p : List ℕ → Bool) (xs : List (List ℕ)) → ((x : List ℕ) → In x xs → p x ≡ true) → filter p xs ≡ xs
-all_kept p [] f = refl
-all_kept p (x ∷ xs) f = ap (λ b. cond b (x ∷ filter p xs) (filter p xs)) (f x here) ∙ ap (λ z. x ∷ z) (all_kept p xs (λ y i. f y (there i)))
-
-pub all_borne : (stanzas : List PackageFacts) (names named : List (List ℕ)) (places : List ℕ) → named ≡ bearers_of stanzas names → places ≡ filled_places named → ((name : List ℕ) → In name names → stands_in stanzas name ≡ true)
-    → map (listed_for names) places ≡ names
-all_borne stanzas names named places borne is stand = ap (map (listed_for names)) is ∙ names_borne stanzas names named borne ∙ all_kept (stands_in stanzas) names stand
-
 -- the places are found one by one
 filled_step : (named : List (List ℕ)) (n : ℕ) → filter (is_borne named) (numbers (n + 1) 0) ≡ filter (is_borne named) (numbers n 0) ++ cond (is_borne named n) (n ∷ []) []
 filled_step named n = ap (filter (is_borne named)) (numbers_more n) ∙ filter-append (is_borne named) (numbers n 0) (n ∷ [])
@@ -127,71 +103,136 @@ one_class class_of [] image l e = absurd (let k : 0 ≡ 1 = l in omega arith)
 one_class class_of (n ∷ []) image l e = subst (AreClasses class_of (n ∷ [])) (sym e) (record { ascending = ((λ y i. absurd (In_none i)), tt); same = λ k. ((λ i. i), (λ i. i)) })
 one_class class_of (n ∷ (m ∷ ns)) image l e = absurd (let k : suc (suc (length ns)) ≡ 1 = l in omega arith)
 
--- the classes of some packages, by a table of classes
-module _ (class_of : List ℕ) (named : List (List ℕ)) (places : List ℕ) (made : List (List ℕ)) (is : places ≡ filled_places named)
-    (each : AreEach (λ j image. AreClasses class_of (listed_for named (get_or places j 0)) image) [] (length places) made) where
-  -- each of them is a list of classes at one place
-  at_place : (c : List ℕ) → In c made → (chosen : List ℕ) × In chosen named × (0 < length chosen) × AreClasses class_of chosen c
-  at_place c i =
-      let w = In_place made c [] i in
-      let l : w.0 < length places = subst (λ z. w.0 < z) each.long w.1 in
-      let f = filled_at named w.0 (subst (λ z. w.0 < length z) is l) in
-      let e : get_or (filled_places named) w.0 0 ≡ get_or places w.0 0 = ap (λ z. get_or z w.0 0) (sym is) in (
-        listed_for named (get_or places w.0 0),
-        In_at named (get_or places w.0 0) [] (subst (λ z. z < length named) e f.0),
-        subst (λ z. 0 < length (listed_for named z)) e f.1,
-        subst (AreClasses class_of (listed_for named (get_or places w.0 0))) w.2 (each.each w.0 l),
-      )
+-- the classes of the packages that bear names, in the kernel of some packages
+module _ (limit : ℕ) (hold : Bool) (home : Home) (stanzas : List PackageFacts) where
+  abbrev R : Repository
+  R = suite_repository home stanzas
 
-  pub classes_need : AreNeeds made
-  classes_need c i =
-      let w = at_place c i in
-      let n : In (get_or w.0 0 0) w.0 = In_at w.0 0 0 w.2 in
-      record { ascending = w.3.ascending; filled = filled c (get_or class_of (get_or w.0 0 0) 0) ((w.3.same (get_or class_of (get_or w.0 0 0) 0)).1 (In_map (λ n. get_or class_of n 0) w.0 (get_or w.0 0 0) n)) }
+  abbrev chosen : List ℕ → List ℕ
+  chosen name = packages_named stanzas (any_version name)
 
-  pub classes_fit_book : (size : ℕ) → ((chosen : List ℕ) → In chosen named → (n : ℕ) → In n chosen → n < length class_of) → ((k : ℕ) → In k class_of → k < size) → NeedsFit size made
-  classes_fit_book size known below c i k j =
-      let w = at_place c i in
-      let m = In_map_cases (λ n. get_or class_of n 0) w.0 k ((w.3.same k).0 j) in
-      subst (λ z. z < size) (sym m.2) (below (get_or class_of m.0 0) (In_at class_of m.0 0 (known w.0 w.1 m.0 m.1)))
+  abbrev image : List ℕ → List ℕ
+  image name = image_of limit hold home stanzas (any_version name)
 
-  -- those of a kernel are the images of the names
-  pub classes_are : (limit : ℕ) (hold : Bool) (home : Home) (stanzas : List PackageFacts) (names : List (List ℕ)) → class_of ≡ map (kernel_class limit hold (suite_repository home stanzas)) (packages (suite_repository home stanzas))
-      → named ≡ bearers_of stanzas names → made ≡ map (λ name. image_of limit hold home stanzas (any_version name)) (map (listed_for names) places)
-  classes_are limit hold home stanzas names table borne = same_items made (map image (map (listed_for names) places)) (each.long ∙ sym long) (λ j l.
-      let m : j < length places = subst (λ z. j < z) each.long l in
-      one j m (each.each j m) ∙ sym (get_or-map image (map (listed_for names) places) j [] [] (subst (λ z. j < z) (sym (length-map places (listed_for names))) m) ∙ ap image (get_or-map (listed_for names) places j 0 [] m)))
+  chosen_within : (name : List ℕ) (n : ℕ) → In n (chosen name) → n < length R.clauses
+  chosen_within name n i = subst (λ size. n < size) (sym (length_clauses home stanzas)) (named_inside stanzas (any_version name) n i)
+
+  image_within : (name : List ℕ) (k : ℕ) → In k (image name) → k < length (kernel limit hold R).clauses
+  image_within name k i =
+      number_below (length (kernel limit hold R).clauses) k (filter_cases (kernel_image limit hold R (has (chosen name))) (packages (kernel limit hold R)) k i).0
+
+  -- a name has a class exactly if a package bears it
+  image_borne : (name : List ℕ) → not (eqb (length (image name)) 0) ≡ stands_in stanzas name
+  image_borne name = by (stands_in stanzas name) refl
     where
-      image : List ℕ → List ℕ
-      image name = image_of limit hold home stanzas (any_version name)
+      by : (b : Bool) → stands_in stanzas name ≡ b → not (eqb (length (image name)) 0) ≡ stands_in stanzas name
+      by true h =
+          let w = bearer_of stanzas name h in
+          let some : 0 < length (image name) = image_filled limit hold home stanzas (chosen name) (λ n i. named_inside stanzas (any_version name) n i) (filled (chosen name) w.0 w.1) in
+          ap not (ne_eqb (length (image name)) 0 (λ e. absurd (omega (arith, some, e)))) ∙ sym h
+      by false h =
+          ap not (none_in (image name) (λ k. has_not (image name) k (λ i.
+              let w = classes_parts limit hold R (suite_sound home stanzas) (chosen name) (chosen_within name) k i in
+              both_ways (eqb (length (chosen name)) 0) (ne_eqb (length (chosen name)) 0 (λ e. let some : 0 < length (chosen name) = filled (chosen name) w.0 w.1 in absurd (omega (arith, some, e))))
+              (nobody name h)))) ∙ sym h
 
-      long : length (map image (map (listed_for names) places)) ≡ length places
-      long = length-map (map (listed_for names) places) image ∙ length-map places (listed_for names)
+      not_false_eq : (b : Bool) → not b ≡ false → b ≡ true
+      not_false_eq true e = refl
+      not_false_eq false e = absurd (both_ways true e refl)
 
-      one : (j : ℕ) → j < length places → AreClasses class_of (listed_for named (get_or places j 0)) (get_or made j []) → get_or made j [] ≡ image (listed_for names (get_or places j 0))
-      one j l so =
-          let name : List ℕ = listed_for names (get_or places j 0) in
-          let within : get_or places j 0 < length names = places_within named places (length names) is (bearers_count stanzas names named borne) j l in
-          let e : listed_for named (get_or places j 0) ≡ packages_named stanzas (any_version name) = ap (λ z. listed_for z (get_or places j 0)) borne ∙ get_or-map (λ name. packages_named stanzas (any_version name)) names (get_or places j 0) [] [] within in
-          let at : AreClasses class_of (packages_named stanzas (any_version name)) (get_or made j []) = subst (λ z. AreClasses class_of z (get_or made j [])) e so in
-          image_made limit hold (suite_repository home stanzas) (suite_sound home stanzas) class_of (packages_named stanzas (any_version name)) table
-          (λ n i. subst (λ size. n < size) (sym (length_clauses home stanzas)) (named_inside stanzas (any_version name) n i))
-          (map (λ n. get_or class_of n 0) (packages_named stanzas (any_version name))) (get_or made j []) refl at.ascending at.same
+      nobody : (name : List ℕ) → stands_in stanzas name ≡ false → eqb (length (chosen name)) 0 ≡ true
+      nobody name h = not_false_eq (eqb (length (chosen name)) 0) (sym (stands_where stanzas name) ∙ h)
 
--- The kernel of some packages fits to those that bear each of some names, as `first_line_by` asks.
-pub kernel_fits : (lent : LentKernel) (limit : ℕ) (hold : Bool) (home : Home) (stanzas : List PackageFacts) (names named : List (List ℕ)) → IsLentKernel lent limit hold (suite_repository home stanzas) → named ≡ bearers_of stanzas names
-    → FitsKernel lent named
-kernel_fits lent limit hold home stanzas names named is borne = record {
-  sound = is.book_is.sound;
-  classes = λ k i.
-      let w = In_map_cases (kernel_class limit hold R) (packages R) k (subst (λ z. In k z) is.classes_are i) in
-      let l = number_below (length R.clauses) w.0 w.1 in
-      subst (λ z. z < length lent.book.now.rows) (sym w.2)
-      (subst (λ z. kernel_class limit hold R w.0 < z) (sym (ap (λ R. length R.clauses) is.book_is.repository) ∙ rows_long lent.pool.now lent.book.now.rows) (kernel_class_within limit hold R (suite_sound home stanzas) w.0 l));
-  known = λ chosen i n j.
-      let w = In_map_cases (λ name. packages_named stanzas (any_version name)) names chosen (subst (λ z. In chosen z) borne i) in
-      subst (λ z. n < z) (sym (table_of limit hold home stanzas lent.class_of.now is.classes_are)) (named_inside stanzas (any_version w.0) n (subst (λ z. In n z) w.2 j));
-}
-  where
-    R : Repository
-    R = suite_repository home stanzas
+  -- the names at the places that have a class are those that stand in the packages
+  pub names_borne : (names classes : List (List ℕ)) → classes ≡ bearer_classes limit hold home stanzas names → map (listed_for names) (filled_places classes) ≡ filter (stands_in stanzas) names
+  names_borne names classes is =
+      ap (map (listed_for names))
+      (filter_same (is_borne classes) (λ i. stands_in stanzas (listed_for names i)) (numbers (length classes) 0)
+      (λ i j. let l : i < length classes = number_below (length classes) i j in same i (subst (λ z. i < z) long l)) ∙ ap (λ n. filter (λ i. stands_in stanzas (listed_for names i)) (numbers n 0)) long)
+      ∙ kept_at (stands_in stanzas) (listed_for names) 0 names (λ i l. ap (listed_for names) (omega arith))
+    where
+      long : length classes ≡ length names
+      long = ap length is ∙ length-map names image
+
+      same : (i : ℕ) → i < length names → is_borne classes i ≡ stands_in stanzas (listed_for names i)
+      same i l = ap (λ z. not (eqb (length (listed_for z i)) 0)) is ∙ ap (λ z. not (eqb (length z) 0)) (get_or-map image names i [] [] l) ∙ image_borne (listed_for names i)
+
+  -- what is made of such classes at some places
+  pub images_at : (names classes : List (List ℕ)) (places : List ℕ) → classes ≡ bearer_classes limit hold home stanzas names → ((i : ℕ) → i < length places → get_or places i 0 < length names)
+      → map (listed_for classes) places ≡ bearer_classes limit hold home stanzas (map (listed_for names) places)
+  images_at names classes places is within =
+      same_items (map (listed_for classes) places) (map image (map (listed_for names) places)) (length-map places (listed_for classes) ∙ sym (length-map (map (listed_for names) places) image ∙ length-map places (listed_for names))) (λ i l.
+          let m : i < length places = subst (λ z. i < z) (length-map places (listed_for classes)) l in
+          get_or-map (listed_for classes) places i 0 [] m ∙ ap (λ z. listed_for z (get_or places i 0)) is ∙ get_or-map image names (get_or places i 0) [] [] (within i m)
+          ∙ sym (get_or-map image (map (listed_for names) places) i [] [] (subst (λ z. i < z) (sym (length-map places (listed_for names))) m) ∙ ap image (get_or-map (listed_for names) places i 0 [] m)))
+
+  -- they are made of a table of the classes
+  pub images_are : (table : List ℕ) → table ≡ map (kernel_class limit hold R) (packages R) → (names made : List (List ℕ)) → AreEach (λ i classes. AreClasses table (chosen (listed_for names i)) classes) [] (length names) made
+      → made ≡ bearer_classes limit hold home stanzas names
+  images_are table told names made each = same_items made (map image names) (each.long ∙ sym (length-map names image)) (λ i l.
+      let m : i < length names = subst (λ z. i < z) each.long l in
+      let so : AreClasses table (chosen (listed_for names i)) (listed_for made i) = each.each i m in
+      image_made limit hold R (suite_sound home stanzas) table (chosen (listed_for names i)) told (chosen_within (listed_for names i))
+      (map (λ n. get_or table n 0) (chosen (listed_for names i))) (listed_for made i) refl so.ascending so.same
+      ∙ sym (get_or-map image names i [] [] m))
+
+  -- they fit to the kernel
+  pub images_fit : (pool : Interned) (book : Book) (names classes : List (List ℕ)) → IsBookOf pool book (kernel limit hold R) → classes ≡ bearer_classes limit hold home stanzas names → NeedsFit (length book.rows) classes
+  images_fit pool book names classes is are c i k j =
+      let w : (name : List ℕ) × In name names × (c ≡ image name) = In_map_cases image names c (subst (λ z. In c z) are i) in
+      subst (λ z. k < z) (sym (ap (λ R. length R.clauses) is.repository) ∙ rows_long pool book.rows) (image_within w.0 k (subst (λ z. In k z) w.2 j))
+
+  pub classes_fit : (lent : LentKernel) (names classes : List (List ℕ)) → IsLentKernel lent limit hold R → classes ≡ bearer_classes limit hold home stanzas names → FitsKernel lent classes
+  classes_fit lent names classes is are = record {
+    sound = is.sound;
+    ascending = λ c i. let w : (name : List ℕ) × In name names × (c ≡ image name) = In_map_cases image names c (subst (λ z. In c z) are i) in
+        subst Ascending (sym w.2) (classes_ascending limit hold R (chosen w.0));
+    within = images_fit lent.pool.now lent.book.now names classes is are;
+  }
+
+  -- they are needs, if each name stands in the packages
+  pub all_need : (names classes : List (List ℕ)) → classes ≡ bearer_classes limit hold home stanzas names → ((name : List ℕ) → In name names → stands_in stanzas name ≡ true) → AreNeeds classes
+  all_need names classes are stand c i =
+      let w : (name : List ℕ) × In name names × (c ≡ image name) = In_map_cases image names c (subst (λ z. In c z) are i) in
+      let v = bearer_of stanzas w.0 (stand w.0 w.1) in
+      record {
+        ascending = subst Ascending (sym w.2) (classes_ascending limit hold R (chosen w.0));
+        filled = subst (λ z. 0 < length z) (sym w.2) (image_filled limit hold home stanzas (chosen w.0) (λ n j. named_inside stanzas (any_version w.0) n j) (filled (chosen w.0) v.0 v.1));
+      }
+
+  -- each of the packages that bear names has a class
+  pub bearers_known : (table : List ℕ) → table ≡ map (kernel_class limit hold R) (packages R) → (names named : List (List ℕ)) → named ≡ bearers_of stanzas names → (list : List ℕ) → In list named → (n : ℕ) → In n list → n < length table
+  bearers_known table told names named borne list i n j =
+      let w = In_map_cases (λ name. packages_named stanzas (any_version name)) names list (subst (λ z. In list z) borne i) in
+      subst (λ z. n < z) (sym (table_of limit hold home stanzas table told)) (named_inside stanzas (any_version w.0) n (subst (λ z. In n z) w.2 j))
+
+  -- the classes of lists of bearers are those of the names
+  pub bearers_each : (table : List ℕ) → table ≡ map (kernel_class limit hold R) (packages R) → (names named made : List (List ℕ)) → named ≡ bearers_of stanzas names
+      → AreEach (λ i classes. AreClasses table (listed_for named i) classes) [] (length named) made → made ≡ bearer_classes limit hold home stanzas names
+  bearers_each table told names named made borne each =
+      let long : length named ≡ length names = bearers_count stanzas names named borne in
+      images_are table told names made (record {
+        long = each.long ∙ long;
+        each = λ i l. subst (λ z. AreClasses table z (listed_for made i)) (ap (λ z. listed_for z i) borne ∙ get_or-map (λ name. packages_named stanzas (any_version name)) names i [] [] l)
+            (each.each i (subst (λ z. i < z) (sym long) l));
+      })
+
+-- lists that have an item, at their places
+pub lists_need : (classes lists : List (List ℕ)) (places : List ℕ) → places ≡ filled_places classes → lists ≡ map (listed_for classes) places → ((c : List ℕ) → In c classes → Ascending c) → AreNeeds lists
+lists_need classes lists places is are ascend c i =
+    let w : (k : ℕ) × In k places × (c ≡ listed_for classes k) = In_map_cases (listed_for classes) places c (subst (λ z. In c z) are i) in
+    let p = In_place places w.0 0 w.1 in
+    let f = filled_at classes p.0 (subst (λ z. p.0 < length z) is p.1) in
+    let e : get_or (filled_places classes) p.0 0 ≡ w.0 = ap (λ z. get_or z p.0 0) (sym is) ∙ p.2 in
+    record {
+      ascending = subst Ascending (sym w.2) (ascend (listed_for classes w.0) (In_at classes w.0 [] (subst (λ z. z < length classes) e f.0)));
+      filled = subst (λ z. 0 < length z) (sym w.2) (subst (λ z. 0 < length (listed_for classes z)) e f.1);
+    }
+
+pub lists_fit : (size : ℕ) (classes lists : List (List ℕ)) (places : List ℕ) → places ≡ filled_places classes → lists ≡ map (listed_for classes) places → ((c : List ℕ) → In c classes → (k : ℕ) → In k c → k < size) → NeedsFit size lists
+lists_fit size classes lists places is are within c i k j =
+    let w : (k : ℕ) × In k places × (c ≡ listed_for classes k) = In_map_cases (listed_for classes) places c (subst (λ z. In c z) are i) in
+    let p = In_place places w.0 0 w.1 in
+    let f = filled_at classes p.0 (subst (λ z. p.0 < length z) is p.1) in
+    let e : get_or (filled_places classes) p.0 0 ≡ w.0 = ap (λ z. get_or z p.0 0) (sym is) ∙ p.2 in
+    within (listed_for classes w.0) (In_at classes w.0 [] (subst (λ z. z < length classes) e f.0)) k (subst (λ z. In k z) w.2 j)

@@ -2,19 +2,23 @@
 use Rattle.std.specs.Prelude.{ℕ, ◌<◌, ◌==◌, ◌↔◌, Bool, not, List, length, map, filter, slice_index_or}
 use Rattle.listed.specs.Lists.{Ascending, In}
 use Rattle.row_book.specs.{Book.{listed_for, Sound}, Numbers.{numbers}}
-use Rattle.relation_fields.specs.declared.packages.PackageFacts.{PackageFacts}
+use Rattle.relation_fields.specs.{declared.packages.Home.{Home}, declared.packages.PackageFacts.{PackageFacts}}
 use Rattle.repo_model.specs.Goals.{any_version, packages_named}
-use Rattle.suite_compare.specs.declared.lent.LentKernel.{LentKernel}
+use Rattle.suite_compare.specs.{Asking.{image_of}, declared.lent.LentKernel.{LentKernel}}
 
 -- for each name the packages that bear it, of any version
 abbrev pub bearers_of : List PackageFacts → List (List ℕ) → List (List ℕ)
 bearers_of packages names = map (λ name. packages_named packages (any_version name)) names
 
--- the book is sound over the pool, each class is one of its packages, and each of the packages that bear names has a class
-pub record FitsKernel (lent : LentKernel) (named : List (List ℕ)) : Type 0 where
+-- the book is sound over the pool, and these are lists of its packages, each ascending
+pub record FitsKernel (lent : LentKernel) (classes : List (List ℕ)) : Type 0 where
   pub sound : Sound lent.pool.now lent.book.now
-  pub classes : (k : ℕ) → In k lent.class_of.now → k < length lent.book.now.rows
-  pub known : (chosen : List ℕ) → In chosen named → (n : ℕ) → In n chosen → n < length lent.class_of.now
+  pub ascending : (image : List ℕ) → In image classes → Ascending image
+  pub within : (image : List ℕ) → In image classes → (k : ℕ) → In k image → k < length lent.book.now.rows
+
+-- for each name the classes of the packages that bear it, of any version, in the kernel of some packages
+abbrev pub bearer_classes : ℕ → Bool → Home → List PackageFacts → List (List ℕ) → List (List ℕ)
+bearer_classes limit hold home stanzas names = map (λ name. image_of limit hold home stanzas (any_version name)) names
 
 -- these are the classes of some packages, ascending, by the class of each package
 pub record AreClasses (class_of chosen image : List ℕ) : Type 0 where

@@ -1,7 +1,7 @@
 //! The packages that bear the names of an old side, and their classes.
-ghost use Rattle.std.specs.Prelude.{◌≡◌, ◌<◌, ℕ, List, [], IfOk, length, map, slice_index_or};
+ghost use Rattle.std.specs.Prelude.{◌≡◌, ◌<◌, ℕ, List, [], IfOk, OnOk, filter, length, map, slice_index_or};
 ghost use Rattle.listed.specs.Lists.{In};
-ghost use Rattle.row_book.specs.Book.{listed_for};
+ghost use Rattle.row_book.specs.{Book.{listed_for}, Flags.{flag}};
 ghost use Rattle.suite_compare.specs.{Bearers.{bearers_of, filled_places, AreClasses}, Groups.{AreEach}};
 
 use crate::ask::classes_by;
@@ -57,23 +57,73 @@ pub(crate) fn names_at<'a>(
     Ok(made)
 }
 
-/// The classes of the packages at each of these places, by the class of each package.
+/// The lists at these places.
+pub(crate) fn lists_at(
+    alloc: Global,
+    lists: &[FewNumbers],
+    places: &[usize],
+) -> Result<Vec<FewNumbers>, AllocError>
+    requires { (i : ℕ) → i < length places.now → slice_index_or places.now i 0 < length lists.now }
+    ensures { IfOk result (λ made. made.items ≡ map (listed_for lists.now) places.now) }
+{
+    let mut made = Vec::new(alloc);
+    for place in places {
+        let list = FewNumbers::copy(alloc, few_at(lists, *place))?;
+        made.push(list)?;
+    }
+    Ok(made)
+}
+
+/// The classes of each list of packages, by the class of each package.
 pub(crate) fn classes_of_each(
     alloc: Global,
     class_of: &[u32],
     lists: &[FewNumbers],
-    places: &[usize],
 ) -> Result<Vec<FewNumbers>, AllocError>
-    requires known { (chosen : List ℕ) → In chosen lists.now → (n : ℕ) → In n chosen → n < length class_of.now }
-    requires places { (i : ℕ) → i < length places.now → slice_index_or places.now i 0 < length lists.now }
-    ensures { IfOk result (λ made. AreEach (λ i image. AreClasses class_of.now (listed_for lists.now (slice_index_or places.now i 0)) image) [] (length places.now) made.items) }
+    requires { (chosen : List ℕ) → In chosen lists.now → (n : ℕ) → In n chosen → n < length class_of.now }
+    ensures { IfOk result (λ made. AreEach (λ i image. AreClasses class_of.now (listed_for lists.now i) image) [] (length lists.now) made.items) }
 {
     let mut made = Vec::new(alloc);
-    for place in places {
-        let image = classes_of_few(alloc, class_of, few_at(lists, *place))?;
+    for place in 0..lists.len() {
+        let image = classes_of_few(alloc, class_of, few_at(lists, place))?;
         made.push(image)?;
     }
     Ok(made)
+}
+
+/// The classes of those packages of each list that are in a mask, by the class of each package.
+pub fn classes_of_chosen(
+    alloc: Global,
+    class_of: &[u32],
+    lists: &[FewNumbers],
+    flags: &[bool],
+) -> Result<Vec<FewNumbers>, AllocError>
+    requires flags { (chosen : List ℕ) → In chosen lists.now → (n : ℕ) → In n chosen → n < length flags.now }
+    requires classes { length class_of.now ≡ length flags.now }
+    ensures { IfOk result (λ made. AreEach (λ i image. AreClasses class_of.now (filter (flag flags.now) (listed_for lists.now i)) image) [] (length lists.now) made.items) }
+{
+    let mut made = Vec::new(alloc);
+    let mut chosen = Vec::new(alloc);
+    for place in 0..lists.len() {
+        put_chosen(&mut chosen, few_at(lists, place), flags)?;
+        let image = classes_of_few(alloc, class_of, chosen.as_slice())?;
+        made.push(image)?;
+    }
+    Ok(made)
+}
+
+// Makes the list that of the numbers whose flags are up.
+fn put_chosen(chosen: &mut Vec<u32>, numbers: &[u32], flags: &[bool]) -> Result<(), AllocError>
+    requires { (n : ℕ) → In n numbers.now → n < length flags.now }
+    ensures { OnOk result (chosen.new.items ≡ filter (flag flags.now) numbers.now) }
+{
+    chosen.clear();
+    for number in numbers {
+        if flags[*number as usize] {
+            chosen.push(*number)?;
+        }
+    }
+    Ok(())
 }
 
 // The classes of a few packages, ascending, by the class of each package. That of a single one is not sorted.

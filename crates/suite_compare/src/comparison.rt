@@ -8,7 +8,7 @@ ghost use Rattle.relation_fields.specs.{declared.packages.Home.{Home}, declared.
 ghost use Rattle.repo_model.specs.Repository.{suite_repository};
 ghost use Rattle.clause_solver.specs.{Outcomes.{IsBudget}, declared.outcomes.Verdict.{Verdict}};
 ghost use Rattle.suite_compare.specs.{Asking.{verdict_in}, declared.verdicts.Bad.{Bad}, Bad.{AreAllBad}, Known.{AreKnownPairs}};
-ghost use Rattle.suite_compare.specs.{Bearers.{bearers_of, FitsKernel}, Kinds.{IsJudge}, Names.{names_of_both}};
+ghost use Rattle.suite_compare.specs.{Bearers.{bearer_classes, FitsKernel}, Kinds.{IsJudge}, Names.{names_of_both}};
 ghost use Rattle.suite_compare.specs.Comparing.{told_pairs, told_report, told_singles, AreVerdicts, IsOldSide, IsSide, IsTable};
 ghost use Rattle.suite_compare.specs.{Partners.{old_kind, IsJointTable}, Report.{first_told, report}, Lent.{IsLentKernel}};
 
@@ -219,24 +219,26 @@ pub struct FirstLine {
 }
 
 /// The first line of what `compare` tells of other packages against the suite of an old side, or none, by the kernel of these
-/// packages, and by the packages that bear each name of the old side. The kernel was made at the clause limit of the old view,
+/// packages, and by the classes of the packages that bear each name of the old side. The kernel was made at the clause limit of the old view,
 /// and both with hold or both without. What is known of pairs from an earlier such comparison may be given; it saves searches, and
 /// changes no line.
 pub fn first_line_by(
     alloc: Global,
     old: &OldSide,
     kernel: &LentKernel,
-    named: &[FewNumbers],
+    classes: Vec<FewNumbers>,
     known: Option<KnownPairs>,
 ) -> Result<FirstLine, AllocError>
     requires side { IsOldSide old.now }
-    requires fits { FitsKernel kernel.now named.now }
-    requires count { length named.now ≡ length old.now.names }
+    requires fits { FitsKernel kernel.now classes.items }
+    requires count { length classes.items ≡ length old.now.names }
     requires known { ForSome known AreKnownPairs }
-    ensures first { let view = old.now.view.now in (home : Home) (stanzas : List PackageFacts) → IsLentKernel kernel.now view.limit view.kernel.hold (suite_repository home stanzas) → named.now ≡ bearers_of stanzas old.now.names → IfOk result (λ made. made.line ≡ first_told (report (verdict_in view.limit view.kernel.hold view.suite.home view.suite.packages old.now.budget) (verdict_in view.limit view.kernel.hold home stanzas old.now.budget) (names_of_both view.suite.packages stanzas))) }
+    ensures first { let view = old.now.view.now in (home : Home) (stanzas : List PackageFacts) → IsLentKernel kernel.now view.limit view.kernel.hold (suite_repository home stanzas)
+        → classes.items ≡ bearer_classes view.limit view.kernel.hold home stanzas old.now.names
+        → IfOk result (λ made. made.line ≡ first_told (report (verdict_in view.limit view.kernel.hold view.suite.home view.suite.packages old.now.budget) (verdict_in view.limit view.kernel.hold home stanzas old.now.budget) (names_of_both view.suite.packages stanzas))) }
     ensures known { IfOk result (λ made. ForSome made.known AreKnownPairs) }
 {
-    let made = new_side_by(alloc, old, kernel, named)?;
+    let made = new_side_by(alloc, old, kernel, classes)?;
     let first = first_beside(alloc, &old.side, &made, known);
     drop(made);
     first

@@ -13,8 +13,6 @@ pub struct LentKernel<'a> {
     pub pool: &'a Pool,
     /// The classes as packages.
     pub book: &'a Book,
-    /// For each package its class.
-    pub class_of: &'a [u32],
 }
 
 /// The kernel of a view.
@@ -24,6 +22,5 @@ pub(crate) fn kernel_of(view: &SuiteView) -> LentKernel<'_>
     LentKernel {
         pool: &view.pool,
         book: &view.kernel.book,
-        class_of: view.kernel.class_of.as_slice(),
     }
 }

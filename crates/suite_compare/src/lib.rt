@@ -35,7 +35,7 @@ pub use ask::image_of;
 pub use decision::decide;
 
 // What a new suite has broken of an old one.
-pub use bearers::bearers_of;
+pub use bearers::{bearers_of, classes_of_chosen};
 pub use comparison::{FirstLine, compare, first_line, first_line_by};
 pub use few::FewNumbers;
 pub use known::KnownPairs;

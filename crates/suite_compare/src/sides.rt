@@ -1,15 +1,15 @@
 //! The two sides of a comparison: what is known of both suites before any two names are asked together.
-ghost use Rattle.std.specs.Prelude.{◌≡◌, ◌<◌, ℕ, Bool, List, true, IfOk, length, map, slice_index_or};
+ghost use Rattle.std.specs.Prelude.{◌≡◌, ◌<◌, ℕ, List, true, IfOk, length, map, slice_index_or};
 ghost use Rattle.listed.specs.Lists.{In};
 ghost use Rattle.row_book.specs.{Book.{listed_for, repository_of, Sound}, Needs.{AreNeeds, NeedsFit}};
 ghost use Rattle.relation_fields.specs.{declared.packages.Home.{Home}, declared.packages.PackageFacts.{PackageFacts}};
 ghost use Rattle.repo_model.specs.Repository.{suite_repository};
 ghost use Rattle.clause_solver.specs.Outcomes.{IsBudget};
-ghost use Rattle.suite_compare.specs.{Bad.{AreSingles}, Bearers.{bearers_of, filled_places, FitsKernel}, Kinds.{alone_in}};
+ghost use Rattle.suite_compare.specs.{Bad.{AreSingles}, Bearers.{bearer_classes, FitsKernel}, Kinds.{alone_in}};
 ghost use Rattle.suite_compare.specs.{Comparing.{named_verdict, AreSides, AreVerdicts, IsNewSide, IsOldSide, IsSide, IsSideBy}, Names.{stands_in}};
 ghost use Rattle.suite_compare.specs.Lent.{IsLentKernel};
 
-use crate::bearers::{bearers_of, classes_of_each, filled_places, names_at};
+use crate::bearers::{bearers_of, classes_of_each, filled_places, lists_at, names_at};
 use crate::few::FewNumbers;
 use crate::kinds::{kinds_of, numbers_at};
 use crate::lent::{LentKernel, kernel_of};
@@ -106,25 +106,6 @@ fn side_by<'a>(
     })
 }
 
-/// A side of the names at these places, by a kernel and the packages that bear each name.
-fn side_at<'a>(
-    alloc: Global,
-    kernel: &LentKernel<'a>,
-    named: &[FewNumbers],
-    places: &[usize],
-    budget: u64,
-) -> Result<Side<'a>, AllocError>
-    requires fits { FitsKernel kernel.now named.now }
-    requires places { places.now ≡ filled_places named.now }
-    requires budget { IsBudget budget }
-    ensures side { IfOk result (λ side. IsSide (length places.now) side side.of.items) }
-    ensures verdicts { (limit : ℕ) (hold : Bool) (home : Home) (stanzas : List PackageFacts) (names : List (List ℕ)) → IsLentKernel kernel.now limit hold (suite_repository home stanzas) → named.now ≡ bearers_of stanzas names → IfOk result (λ side. AreVerdicts side side.of.items (map (listed_for names) places.now) (named_verdict limit hold home stanzas budget)) }
-{
-    let lists = classes_of_each(alloc, kernel.class_of, named, places)?;
-    let side = side_by(alloc, kernel.pool, kernel.book, &lists, budget)?;
-    Ok(side)
-}
-
 /// The side of a view, by names that packages of its suite have.
 fn side_of<'a>(
     alloc: Global,
@@ -138,10 +119,8 @@ fn side_of<'a>(
     ensures verdicts { IfOk result (λ side. AreVerdicts side side.of.items names.now (named_verdict view.now.limit view.now.kernel.hold view.now.suite.home view.now.suite.packages budget)) }
 {
     let named = bearers_of(alloc, &view.suite, names)?;
-    let places = filled_places(alloc, &named)?;
-    let kernel = kernel_of(view);
-    let side = side_at(alloc, &kernel, &named, &places, budget)?;
-    Ok(side)
+    let classes = classes_of_each(alloc, view.kernel.class_of.as_slice(), &named)?;
+    side_by(alloc, &view.pool, &view.kernel.book, &classes, budget)
 }
 
 impl<'a> OldSide<'a> {
@@ -182,23 +161,25 @@ fn part_at<'a>(alloc: Global, old: &OldSide<'a>, places: &[usize]) -> Result<Par
     Ok(Part { names, of })
 }
 
-/// The side of other packages in a comparison with an old view, by their kernel and by the packages that bear each name of the
-/// old side. The kernel was made at the clause limit of the old view, and both with hold or both without.
+/// The side of other packages in a comparison with an old view, by their kernel and by the classes of the packages that bear each name of
+/// the old side. The kernel was made at the clause limit of the old view, and both with hold or both without.
 pub(crate) fn new_side_by<'o, 'n>(
     alloc: Global,
     old: &OldSide<'o>,
     kernel: &LentKernel<'n>,
-    named: &[FewNumbers],
+    classes: Vec<FewNumbers>,
 ) -> Result<NewSide<'o, 'n>, AllocError>
     requires side { IsOldSide old.now }
-    requires fits { FitsKernel kernel.now named.now }
-    requires count { length named.now ≡ length old.now.names }
+    requires fits { FitsKernel kernel.now classes.items }
+    requires count { length classes.items ≡ length old.now.names }
     ensures sides { IfOk result (AreSides old.now) }
-    ensures names { (home : Home) (stanzas : List PackageFacts) → IsLentKernel kernel.now old.now.view.now.limit old.now.view.now.kernel.hold (suite_repository home stanzas) → named.now ≡ bearers_of stanzas old.now.names → IfOk result (IsNewSide old.now home stanzas) }
+    ensures names { let view = old.now.view.now in (home : Home) (stanzas : List PackageFacts) → IsLentKernel kernel.now view.limit view.kernel.hold (suite_repository home stanzas)
+        → classes.items ≡ bearer_classes view.limit view.kernel.hold home stanzas old.now.names → IfOk result (IsNewSide old.now home stanzas) }
 {
-    let places = filled_places(alloc, named)?;
+    let places = filled_places(alloc, &classes)?;
     let part = part_at(alloc, old, &places)?;
-    let side = side_at(alloc, kernel, named, &places, old.budget)?;
+    let lists = lists_at(alloc, &classes, &places)?;
+    let side = side_by(alloc, kernel.pool, kernel.book, &lists, old.budget)?;
     Ok(NewSide { part, side })
 }
 
@@ -216,7 +197,8 @@ pub(crate) fn new_side_of<'o, 'n>(
     ensures names { IfOk result (IsNewSide old.now new.now.suite.home new.now.suite.packages) }
 {
     let named = bearers_of(alloc, &new.suite, old.names())?;
+    let classes = classes_of_each(alloc, new.kernel.class_of.as_slice(), &named)?;
     let kernel = kernel_of(new);
-    let made = new_side_by(alloc, old, &kernel, &named)?;
+    let made = new_side_by(alloc, old, &kernel, classes)?;
     Ok(made)
 }

@@ -2,14 +2,15 @@
 use Rattle.std.proofs.Common.{◌≡◌, ℕ, zero, suc, ◌<◌, ◌+◌, ltb, List, [], ◌∷◌, ◌++◌, length, get_or, take, Some, None, inl, inr, sym, ◌∙◌, ap, ap₂, subst, arith}
 use Rattle.std.proofs.{lemmas.Bool.{cases_eq, lt-ltb, ltb-true}, lemmas.List.{get_or-set_other, get_or-set_same, length-set, map-append, take_more}}
 use Rattle.std.proofs.lemmas.Option.{same_Some}
+use Rattle.row_book.specs.Parts.{clause_in, clauses_in, number_in}
 use Rattle.std.specs.{Prelude.{Option}, List.{slice_set}}
 use Rattle.clause_pool.specs.{Interned.{Interned, clause_at, clauses_at, Kept}, Lists.{InOrder}}
 use Rattle.clause_pool.proofs.Interned.{clauses_kept, kept_along, kept_of_pool}
 use Rattle.clause_families.proofs.Families.{of_pool_push}
-use Rattle.clause_flatten.proofs.LocalRows.{order_there}
+use Rattle.row_book.proofs.Parts.{order_there}
 use Rattle.listed.specs.Lists.{Ascending, In, there}
 use Rattle.listed.proofs.Lists.{In_at, In_map_cases}
-use Rattle.suite_part.specs.Apart.{clause_in, clauses_in, number_in, AreBack, IsBack}
+use Rattle.suite_part.specs.Back.{AreBack, IsBack}
 use Rattle.suite_part.proofs.{Lefts.{none_some}, Parted.{FirstInterned}}
 
 -- one more number

@@ -1,19 +1,19 @@
 -- The base of the first packages of a book.
 use Rattle.std.proofs.Common.{◌≡◌, ℕ, zero, suc, ◌+◌, ◌-◌, ◌<◌, ◌≤◌, ◌⊎◌, Bool, true, false, ltb, List, [], ◌∷◌, ◌++◌, length, map, replicate, None, inl, inr, refl, sym, ◌∙◌, ap, ap₂, subst, arith}
 use Rattle.std.proofs.{lemmas.Bool.{cases_lt, le-ltb, lt-ltb, ltb-true}, lemmas.List.{get_or-map, get_or_past, length-append, length-map, length-replicate}}
+use Rattle.row_book.specs.{Parts.{clause_in, clauses_in, number_in, numbers_up, part, place_in, row_in}, Book.{listed_for, repository_of, Sound}, Flags.{flag}}
+use Rattle.row_book.specs.{Flattening.{core_of, flat, passes}, Repository.{Repository, clauses_of}, Support.{row}, Uses.{row_id, uses_of}}
+use Rattle.row_book.specs.declared.book.Book.{Book}
+use Rattle.row_book.proofs.{Numbered.{number_back}, PartSound.{conflict_in_book, made_count}, Placed.{count_in}, Books.{clauses_row}}
+use Rattle.row_book.proofs.Users.{length_uses, list_of_uses, user_within}
 use Rattle.std.specs.Prelude.{slice_index_or}
 use Rattle.clause_pool.specs.{Compacting.{RowsOf}, Interned.{Interned, row_at, IsPool, Kept}}
 use Rattle.clause_pool.proofs.Interned.{row_stays}
 use Rattle.clause_flatten.proofs.TidyFlat.{flat_row, flat_size}
 use Rattle.listed.specs.Lists.{In, here, there}
 use Rattle.listed.proofs.Lists.{In_append_cases, In_at, In_cases, In_map, In_map_cases, In_none}
-use Rattle.row_book.specs.{Book.{listed_for, repository_of, Sound}, Flags.{flag}, Flattening.{core_of, flat, passes}, Repository.{Repository, clauses_of}}
-use Rattle.row_book.specs.{Support.{row}, Uses.{row_id, uses_of}, declared.book.Book.{Book}}
-use Rattle.row_book.proofs.{Books.{clauses_row}, Users.{length_uses, list_of_uses, user_within}}
-use Rattle.suite_part.specs.{Apart.{clause_in, clauses_in, number_in, numbers_up}, BaseRows.{AreBaseRows}}
-use Rattle.suite_part.specs.{Bases.{first_flags, first_part, row_of_part, FitsIn, IsBase}, Parts.{part, place_in, row_in}, Renewed.{EndsInEmpty}}
+use Rattle.suite_part.specs.{BaseRows.{AreBaseRows}, Bases.{first_flags, first_part, row_of_part, FitsIn, IsBase}, Renewed.{EndsInEmpty}}
 use Rattle.suite_part.specs.declared.base.Base.{Base}
-use Rattle.suite_part.proofs.{Numbered.{number_back}, PartSound.{conflict_within, made_count}, Placed.{count_in}}
 
 -- the flags of the first packages
 first_up : (count k n : ℕ) → n < count → flag (replicate count true ++ replicate k false) n ≡ true
@@ -171,8 +171,9 @@ module _ (from work next new last : Interned) (book of_part flattened : Book) (c
       (λ c j. map_kept (number_in (numbers_up firsts)) c (λ m u. own_number m (few_numbers (row_id few n) i c j m u))))
       ∙ ap (clauses_in (numbers_up firsts)) (stays ∙ ap (row R (core_of limit false R)) (sym (first_place count (length book.rows - count) n k)))
 
-  pub base_made : (base : Base) → base.flags.items ≡ firsts → base.limit ≡ limit → base.pool ≡ last → base.rows.items ≡ rows → base.users ≡ uses_of from book.rows → passes limit false (repository_of work of_part) ≡ None → IsBase from book base
-  base_made base same_flags same_limit same_pool same_rows users none = record {
+  pub base_made : (base : Base) → base.flags.items ≡ firsts → base.limit ≡ limit → base.pool ≡ last → base.rows.items ≡ rows → base.users ≡ uses_of from book.rows → passes limit false (repository_of work of_part) ≡ None → IsPool last → IsBase from book base
+  base_made base same_flags same_limit same_pool same_rows users none pool = record {
+    is_pool = subst IsPool (sym same_pool) pool;
     size = ap length same_flags ∙ first_length count (length book.rows) l;
     rows = rw (same_flags, same_limit, same_pool, same_rows) first_row;
     none_passes = rw (same_flags, same_limit) (sym (ap (passes limit false) part_firsts) ∙ none);
@@ -195,5 +196,5 @@ base_fits from book base sound is = record {
   size = is.size;
   users = base_users from book base is;
   numbers = base_numbers from book base is;
-  conflicts = conflict_within book sound.conflicts;
+  conflicts = conflict_in_book book sound.conflicts;
 }

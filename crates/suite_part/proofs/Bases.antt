@@ -61,11 +61,18 @@ module _ (ps qs : List ℕ) (before mid : List Bool) (work more : List ℕ) (x :
   pub flags_more : (after : List Bool) (most : List ℕ) → x < length mid → after ≡ set mid x true → most ≡ more ++ x ∷ [] → Flags qs before work after most
   flags_more after most l e m =
       let up : (n : ℕ) → flag mid n ≡ true → flag after n ≡ true = λ n u. subst (λ z. flag z n ≡ true) (sym e) (set_up mid x n l u) in
-      let own : flag after x ≡ true = subst (λ z. flag z x ≡ true) (sym e) (get_or-set_same mid x true false l) in
+      let its : flag after x ≡ true = subst (λ z. flag z x ≡ true) (sym e) (get_or-set_same mid x true false l) in
       record {
         size = ap length e ∙ length-set mid x true ∙ f.size;
         stays = λ n u. up n (f.stays n u);
-        all = λ n i. elim (in_end ps x n (subst (λ z. In n z) next i)) [ inl a ↦ up n (f.all n a) | inr s ↦ subst (λ z. flag after z ≡ true) (sym s) own ];
+        all = λ n i. elim (in_end ps x n (subst (λ z. In n z) next i)) [ inl a ↦ up n (f.all n a) | inr s ↦ subst (λ z. flag after z ≡ true) (sym s) its ];
+        own = λ n u. elim (cases_eq n x) [
+          | inl s ↦ inr (subst (λ z. In n z) (sym next) (In_append_right ps (x ∷ []) n (subst (λ z. In z (x ∷ [])) (sym s) here)))
+          | inr d ↦ elim (f.own n (sym (get_or-set_other mid x n true false d) ∙ ap (λ z. flag z n) (sym e) ∙ u)) [
+            | inl a ↦ inl a
+            | inr i ↦ inr (subst (λ z. In n z) (sym next) (In_append_left ps (x ∷ []) n i))
+          ]
+        ];
         waits = λ n i. subst (λ z. In n z) (sym m) (In_append_left more (x ∷ []) n (f.waits n i));
         gains = λ n u. elim (cases_eq n x) [
           | inl s ↦ inr (subst (λ z. In n z) (sym m) (In_append_right more (x ∷ []) n (subst (λ z. In z (x ∷ [])) (sym s) here)))
@@ -85,6 +92,7 @@ module _ (ps qs : List ℕ) (before mid : List Bool) (work more : List ℕ) (x :
     size = f.size;
     stays = f.stays;
     all = λ n i. elim (in_end ps x n (subst (λ z. In n z) next i)) [ inl a ↦ f.all n a | inr s ↦ subst (λ z. flag mid z ≡ true) (sym s) u ];
+    own = λ n v. elim (f.own n v) [ inl a ↦ inl a | inr i ↦ inr (subst (λ z. In n z) (sym next) (In_append_left ps (x ∷ []) n i)) ];
     waits = f.waits;
     gains = f.gains;
     only = f.only;

@@ -2,10 +2,9 @@
 use Rattle.std.proofs.Common.{◌≡◌, ℕ, zero, suc, ◌+◌, Bool, true, false, cond, eqb, List, [], ◌∷◌, length, map, filter, inl, inr, refl, sym, ap, subst, ◌∙◌, arith}
 use Rattle.std.proofs.lemmas.Bool.{cases_eq, eq-eqb, false≢true, ne_eqb}
 use Rattle.std.specs.List.{items_where_true, range_with_len}
-use Rattle.row_book.specs.Flags.{flag}
+use Rattle.row_book.specs.{Flags.{flag}, Parts.{chosen_in, place_in}}
 use Rattle.listed.proofs.Lists.{filter_cases, filter_same}
 use Rattle.row_book.proofs.Numbers.{map_same}
-use Rattle.suite_part.specs.Parts.{chosen_in, place_in}
 
 map_map : {A B C : Type 0} (f : B → C) (g : A → B) (xs : List A) → map f (map g xs) ≡ map (λ x. f (g x)) xs
 map_map f g [] = refl

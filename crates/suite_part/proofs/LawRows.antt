@@ -1,16 +1,16 @@
 -- What some packages of an index are among themselves, by what they are among all.
 use Rattle.std.proofs.Common.{◌≡◌, ℕ, zero, suc, Bool, true, false, not, ◌&&◌, ◌||◌, List, [], ◌∷◌, length, map, refl, sym, ap, ap₂, subst, ◌∙◌}
 use Rattle.std.proofs.lemmas.Bool.{false≢true}
+use Rattle.row_book.specs.{Parts.{chosen_in, part, place_in, row_in}, Flags.{flag}, Repository.{Repository}}
 use Rattle.std.specs.{List.{items_where_true}, Str.{bytes_eq}}
 use Rattle.relation_fields.specs.{declared.packages.Home.{Home}, declared.packages.PackageFacts.{PackageFacts}, declared.relations.Atom.{Atom}}
 use Rattle.listed.specs.Lists.{In}
 use Rattle.listed.proofs.Lists.{In_map, In_map_cases}
 use Rattle.clause_pool.specs.Clauses.{in_row_order}
 use Rattle.clause_pool.proofs.Order.{order_same, ordered_has, ordered_order, ordered_parts}
-use Rattle.row_book.specs.{Flags.{flag}, Repository.{Repository}}
 use Rattle.repo_model.specs.{Goals.{is_named_by}, Repository.{clause_of, conflicting_with, in_conflict, meets_any, row_of, stands_against, suite_repository}}
 use Rattle.repo_model.specs.Stanzas.{stanza_at}
-use Rattle.suite_part.specs.{Laws.{NamesArePart, PartIsExact}, Parts.{chosen_in, part, place_in, row_in}}
+use Rattle.suite_part.specs.Laws.{NamesArePart, PartIsExact}
 use Rattle.suite_part.proofs.LawPlaces.{place_apart, table_part, tests_part}
 
 -- the order of the images of clauses does not ask for the order of the clauses

@@ -2,14 +2,14 @@
 use Rattle.std.proofs.Common.{◌≡◌, ℕ, zero, suc, ◌<◌, ◌≤◌, Bool, true, false, cond, List, [], ◌∷◌, ◌++◌, length, get_or, filter, replicate, Some, None, inl, inr, refl, sym, ◌∙◌, ap, subst, arith}
 use Rattle.std.proofs.lemmas.Bool.{both_ways, cases_Bool, cases_eq}
 use Rattle.std.proofs.{lemmas.List.{get_or_default, get_or-set_other, get_or-set_same, length-map, length-replicate, length-set}, lemmas.Option.{same_Some}}
+use Rattle.row_book.specs.{Parts.{chosen_in, place_in}, Flags.{flag}}
 use Rattle.std.specs.{Prelude.{Option, Result, Ok, Err, OnOk}, List.{slice_set}}
 use Rattle.listed.specs.Lists.{In}
 use Rattle.listed.proofs.Lists.{In_cases, In_none, filter_short}
 use Rattle.clause_pool.specs.{Interned.{Interned, clause_at, clauses_at, IsPool, Kept}, Lists.{Before, InOrder}}
 use Rattle.clause_pool.proofs.{Interned.{row_stays}, Order.{before_trans}}
 use Rattle.clause_families.proofs.Families.{clauses_item, clauses_length}
-use Rattle.row_book.specs.Flags.{flag}
-use Rattle.suite_part.specs.{Left.{AreLeft, AreRowsLeft, IsLeft, IsRowLeft}, Parts.{chosen_in, place_in}}
+use Rattle.suite_part.specs.Left.{AreLeft, AreRowsLeft, IsLeft, IsRowLeft}
 
 -- the known id of a place
 pub known_id : (known : List (Option ℕ)) (place id : ℕ) (x : Option ℕ) (new : ℕ) → place ≡ id → id < length known → x ≡ get_or known place x → x ≡ Some new → get_or known id None ≡ Some new

@@ -1,6 +1,10 @@
 -- Rows that are made of those of chosen packages, one after another, while the pool grows.
 use Rattle.std.proofs.Common.{◌≡◌, ℕ, ◌<◌, ◌≤◌, ◌+◌, Bool, true, false, List, [], ◌∷◌, ◌++◌, length, get_or, take, map, inl, inr, sym, ◌∙◌, ap, ap₂, subst, arith}
 use Rattle.std.proofs.lemmas.List.{length-map, map-append, take_more}
+use Rattle.row_book.specs.{Parts.{chosen_in, part, row_in}, Book.{repository_of, Sound}, Repository.{Repository}, Sound.{SoundRepository}}
+use Rattle.row_book.specs.declared.book.Book.{Book}
+use Rattle.row_book.proofs.{PartSound.{made_count, part_sound}, Placed.{count_in, made_less, made_more}}
+use Rattle.row_book.proofs.{BookRepositories.{book_size, sound_book, sound_repository}, Books.{rows_kept_by}, Repositories.{repository_same}}
 use Rattle.std.specs.List.{items_where_true}
 use Rattle.clause_pool.specs.{Clauses.{in_row_order}, Compacting.{RowsOf}, Interned.{Interned, clause_at, clauses_at, row_at, IsIdOf, IsPool, Kept, OfPool}}
 use Rattle.clause_pool.specs.Lists.{InOrder}
@@ -9,18 +13,12 @@ use Rattle.clause_families.specs.Families.{SameClauses}
 use Rattle.clause_families.proofs.Families.{At, of_pool_push, taken_at}
 use Rattle.listed.specs.Lists.{In, Ascending}
 use Rattle.listed.proofs.Lists.{In_append_cases, In_cases, In_none, In_map_cases, filter_short}
-use Rattle.row_book.specs.{Book.{repository_of, Sound}, Repository.{Repository}, Sound.{SoundRepository}, declared.book.Book.{Book}}
-use Rattle.row_book.proofs.{BookRepositories.{book_size, sound_book, sound_repository}, Books.{rows_kept_by}, Repositories.{repository_same}}
-use Rattle.suite_part.specs.{Left.{IsLeft}, Parts.{chosen_in, part, row_in}}
-use Rattle.suite_part.proofs.{PartSound.{made_count, part_sound}, Placed.{count_in, made_less, made_more}}
+use Rattle.suite_part.specs.Left.{IsLeft}
 
 -- a family in order is that of its clauses
 pub same_order : (all family : List (List ℕ)) → SameClauses all family → InOrder family → family ≡ in_row_order all
 same_order all family same order =
     order_same family (in_row_order all) order (ordered_order all) (λ c i. ordered_has all c (same.back c i)) (λ c i. same.there c (ordered_parts all c i))
-
-pub ordered_already : (cs : List (List ℕ)) → InOrder cs → cs ≡ in_row_order cs
-ordered_already cs order = same_order cs cs (record { there = λ c i. i; back = λ c i. i }) order
 
 -- the clauses of a pool are ascending
 pub clauses_ascend : (pool : Interned) (ids : List ℕ) → IsPool pool → OfPool pool ids → (c : List ℕ) → In c (clauses_at pool ids) → Ascending c

@@ -1,21 +1,29 @@
--- Of some packages that have conflicts, one that each conflicts with.
-use Rattle.std.proofs.Common.{◌≡◌, ℕ, ◌<◌, ◌≤◌, ◌+◌, Bool, true, false, List, [], ◌∷◌, length, set, Some, inl, inr, sym, ◌∙◌, ap, subst, arith}
-use Rattle.std.proofs.{lemmas.Bool.{both_ways, cases_eq}, lemmas.List.{get_or-set_same}, lemmas.Option.{same_Some}}
-use Rattle.std.specs.List.{list_any, slice_get}
-use Rattle.listed.specs.Lists.{In, here}
+-- Of packages that conflict with packages of a mix, one that each conflicts with.
+use Rattle.std.proofs.Common.{◌≡◌, ℕ, ◌<◌, ◌≤◌, ◌+◌, ◌⊎◌, Bool, true, false, List, length, set, inl, inr, sym, ◌∙◌, ap, subst, arith}
+use Rattle.std.proofs.{lemmas.Bool.{both_ways, cases_eq}, lemmas.List.{get_or-set_other, get_or-set_same, length-set}}
+use Rattle.std.specs.List.{list_any}
+use Rattle.listed.specs.Lists.{In}
 use Rattle.listed.proofs.Lists.{any_cases, any_from}
 use Rattle.row_book.specs.{Book.{listed_for}, Flags.{flag}}
 use Rattle.row_book.proofs.Flags.{flag_in}
-use Rattle.suite_part.specs.Apart.{HasRivals}
-use Rattle.suite_part.proofs.Lefts.{none_some}
+use Rattle.suite_part.specs.Small.{HasRivals}
 
--- the first of some packages
-pub first_in : (xs : List ℕ) (x : ℕ) → Some x ≡ slice_get xs 0 → In x xs
-first_in [] x e = absurd (none_some x (sym e))
-first_in (y ∷ ys) x e = subst (λ z. In z (y ∷ ys)) (sym (same_Some x y e)) here
+-- one more flag
+module _ (apart : List Bool) (x : ℕ) (l : x < length apart) where
+  pub up_stays : (n : ℕ) → flag apart n ≡ true → flag (set apart x true) n ≡ true
+  up_stays n u = elim (cases_eq n x) [
+    | inl e ↦ subst (λ z. flag (set apart x true) z ≡ true) (sym e) (get_or-set_same apart x true false l)
+    | inr d ↦ get_or-set_other apart x n true false d ∙ u
+  ]
 
-pub one_up : (flags : List Bool) (ns : List ℕ) (x : ℕ) → x < length flags → In x ns → list_any (flag (set flags x true)) ns ≡ true
-one_up flags ns x l i = any_from (flag (set flags x true)) ns x i (get_or-set_same flags x true false l)
+  pub up_gains : (flags : List Bool) → flag flags x ≡ true → (n : ℕ) → flag (set apart x true) n ≡ true → (flag apart n ≡ true) ⊎ (flag flags n ≡ true)
+  up_gains flags v n u = elim (cases_eq n x) [
+    | inl e ↦ inr (subst (λ z. flag flags z ≡ true) (sym e) v)
+    | inr d ↦ inl (sym (get_or-set_other apart x n true false d) ∙ u)
+  ]
+
+  pub one_up : (ns : List ℕ) → In x ns → list_any (flag (set apart x true)) ns ≡ true
+  one_up ns i = any_from (flag (set apart x true)) ns x i (get_or-set_same apart x true false l)
 
 -- what has a flag among some packages still has one when there are more flags
 any_stays : (old new : List Bool) (ns : List ℕ) → ((n : ℕ) → flag old n ≡ true → flag new n ≡ true) → list_any (flag old) ns ≡ true → list_any (flag new) ns ≡ true
@@ -24,39 +32,49 @@ any_stays old new ns up t =
     any_from (flag new) ns w.0 w.1 (up w.0 w.2)
 
 -- those of the packages before a number have rivals
-pub record RivalsTo (conflicts : List (List ℕ)) (needed flags : List Bool) (n : ℕ) : Type 0 where
-  pub size : length flags ≡ length needed
-  pub stays : (m : ℕ) → flag needed m ≡ true → flag flags m ≡ true
-  pub rivals : (m k : ℕ) → m < n → flag needed m ≡ true → In k (listed_for conflicts m) → list_any (flag flags) (listed_for conflicts m) ≡ true
+pub record RivalsTo (conflicts : List (List ℕ)) (flags needed apart : List Bool) (n : ℕ) : Type 0 where
+  pub size : length apart ≡ length needed
+  pub stays : (m : ℕ) → flag needed m ≡ true → flag apart m ≡ true
+  pub mix : (m : ℕ) → flag apart m ≡ true → flag flags m ≡ true
+  pub rivals : (m k : ℕ) → m < n → flag needed m ≡ true → In k (listed_for conflicts m) → flag flags k ≡ true → list_any (flag apart) (listed_for conflicts m) ≡ true
 
-module _ (conflicts : List (List ℕ)) (needed : List Bool) where
-  pub rivals_none : (flags : List Bool) → flags ≡ needed → RivalsTo conflicts needed flags 0
-  rivals_none flags e = record { size = ap length e; stays = λ m u. ap (λ z. flag z m) e ∙ u; rivals = λ m k l. absurd (omega arith) }
+module _ (conflicts : List (List ℕ)) (flags needed : List Bool) where
+  pub rivals_none : (apart : List Bool) → apart ≡ needed → ((m : ℕ) → flag needed m ≡ true → flag flags m ≡ true) → RivalsTo conflicts flags needed apart 0
+  rivals_none apart e mix = record {
+    size = ap length e;
+    stays = λ m u. ap (λ z. flag z m) e ∙ u;
+    mix = λ m u. mix m (ap (λ z. flag z m) (sym e) ∙ u);
+    rivals = λ m k l. absurd (omega arith);
+  }
 
-  pub rivals_less : (flags : List Bool) (n : ℕ) → flag needed n ≡ false → RivalsTo conflicts needed flags n → RivalsTo conflicts needed flags (n + 1)
-  rivals_less flags n down r = record {
+  pub rivals_less : (apart : List Bool) (n : ℕ) → flag needed n ≡ false → RivalsTo conflicts flags needed apart n → RivalsTo conflicts flags needed apart (n + 1)
+  rivals_less apart n down r = record {
     size = r.size;
     stays = r.stays;
-    rivals = λ m k l u i. elim (cases_eq m n) [
+    mix = r.mix;
+    rivals = λ m k l u i v. elim (cases_eq m n) [
       | inl e ↦ absurd (both_ways (flag needed n) down (subst (λ z. flag needed z ≡ true) e u))
-      | inr d ↦ r.rivals m k (omega (arith, d)) u i
+      | inr d ↦ r.rivals m k (omega (arith, d)) u i v
     ];
   }
 
-  pub rivals_more : (old new : List Bool) (n : ℕ) → length new ≡ length old → ((m : ℕ) → flag old m ≡ true → flag new m ≡ true) → ((m : ℕ) → In m (listed_for conflicts n) → list_any (flag new) (listed_for conflicts n) ≡ true) →
-      RivalsTo conflicts needed old n → RivalsTo conflicts needed new (n + 1)
-  rivals_more old new n size up one r = record {
+  pub rivals_more : (old new : List Bool) (n : ℕ) → length new ≡ length old → ((m : ℕ) → flag old m ≡ true → flag new m ≡ true) → ((m : ℕ) → flag new m ≡ true → (flag old m ≡ true) ⊎ (flag flags m ≡ true))
+      → ((m : ℕ) → In m (listed_for conflicts n) → flag flags m ≡ true → list_any (flag new) (listed_for conflicts n) ≡ true) →
+      RivalsTo conflicts flags needed old n → RivalsTo conflicts flags needed new (n + 1)
+  rivals_more old new n size up gains one r = record {
     size = size ∙ r.size;
     stays = λ m u. up m (r.stays m u);
-    rivals = λ m k l u i. elim (cases_eq m n) [
-      | inl e ↦ subst (λ z. list_any (flag new) (listed_for conflicts z) ≡ true) (sym e) (one k (subst (λ z. In k (listed_for conflicts z)) e i))
-      | inr d ↦ any_stays old new (listed_for conflicts m) up (r.rivals m k (omega (arith, d)) u i)
+    mix = λ m u. elim (gains m u) [ inl a ↦ r.mix m a | inr b ↦ b ];
+    rivals = λ m k l u i v. elim (cases_eq m n) [
+      | inl e ↦ subst (λ z. list_any (flag new) (listed_for conflicts z) ≡ true) (sym e) (one k (subst (λ z. In k (listed_for conflicts z)) e i) v)
+      | inr d ↦ any_stays old new (listed_for conflicts m) up (r.rivals m k (omega (arith, d)) u i v)
     ];
   }
 
-pub rivals_all : (conflicts : List (List ℕ)) (needed flags : List Bool) (n : ℕ) → length needed ≤ n → RivalsTo conflicts needed flags n → HasRivals conflicts needed flags
-rivals_all conflicts needed flags n l r = record {
+pub rivals_all : (conflicts : List (List ℕ)) (flags needed apart : List Bool) (n : ℕ) → length needed ≤ n → RivalsTo conflicts flags needed apart n → HasRivals conflicts flags needed apart
+rivals_all conflicts flags needed apart n l r = record {
   size = r.size;
   stays = r.stays;
-  rivals = λ m k u i. let below : m < length needed = flag_in needed m u in r.rivals m k (omega arith) u i;
+  mix = r.mix;
+  rivals = λ m k u i v. let below : m < length needed = flag_in needed m u in r.rivals m k (omega arith) u i v;
 }

@@ -2,43 +2,22 @@
 use Rattle.std.proofs.Common.{◌≡◌, ℕ, ◌<◌, ◌≤◌, Bool, true, false, not, ◌&&◌, ◌||◌, cond, ltb, List, [], ◌∷◌, length, map, filter, Some, None, inl, inr, refl, sym, ◌∙◌, ap, ap₂, subst, arith}
 use Rattle.std.proofs.lemmas.Bool.{and_from, and_parts, cases_Bool, cases_lt, lt-ltb, ltb-true, not-true, not_from_false, or_cases, or_left}
 use Rattle.std.proofs.{lemmas.List.{get_or_past, take_all}, lemmas.Option.{same_Some}, lemmas.Simd.{map-map}}
+use Rattle.row_book.proofs.Parts.{ordered_already, clauses_through, map_alike, part_conflicts, part_count, part_row, row_moved, row_whole}
+use Rattle.row_book.proofs.{Numbered.{number_back, up_ascends, up_count}, PartSound.{made_at, made_count, part_sound}}
+use Rattle.row_book.proofs.{BookRepositories.{book_size, sound_repository}, Books.{clauses_row}, Flags.{flag_in}, Repositories.{between, in_packages}}
+use Rattle.row_book.proofs.Placed.{count_in, at_place, chosen_cases, chosen_from, place_below, place_rises, HasPlace, IsChosen}
+use Rattle.row_book.specs.{Parts.{clause_in, clauses_in, number_in, numbers_up, chosen_in, part, place_in, row_in}, declared.book.Book.{Book}}
+use Rattle.row_book.specs.{Book.{repository_of, Sound}, Flags.{flag}, Flattening.{core_of, has_conflict, packages, remaining_after, row_length}}
+use Rattle.row_book.specs.{Repository.{Repository, against, clauses_of, conflicts_of}, Sets.{NumSet}, Sound.{SoundRepository}, Support.{row}, Uses.{row_id}}
 use Rattle.std.specs.{Prelude.{Option, slice_index_or}, List.{list_all, list_any}}
 use Rattle.clause_pool.specs.{Clauses.{in_row_order}, Interned.{Interned, clause_at, clauses_at, row_at}, Lists.{InOrder}}
 use Rattle.clause_pool.proofs.Order.{ordered_has, ordered_order, ordered_parts}
 use Rattle.listed.specs.Lists.{In, here, there}
 use Rattle.listed.proofs.{Bools.{same_bool}, Lists.{In_at, In_has, In_map, In_map_cases, all_at, any_cases, any_from, filter_cases, filter_same, has_In}}
-use Rattle.row_book.specs.{declared.book.Book.{Book}, Book.{repository_of, Sound}, Flags.{flag}}
-use Rattle.row_book.specs.Flattening.{core_of, has_conflict, packages, remaining_after, row_length}
-use Rattle.row_book.specs.{Repository.{Repository, against, clauses_of, conflicts_of}, Sets.{NumSet}, Sound.{SoundRepository}, Support.{row}, Uses.{row_id}}
-use Rattle.row_book.proofs.{BookRepositories.{book_size, sound_repository}, Books.{clauses_row}, Flags.{flag_in}, Repositories.{between, in_packages}}
-use Rattle.clause_flatten.specs.{Beside.{AreKnown, IsKnownRow}, Locality.{StandsIn}}
-use Rattle.clause_flatten.proofs.{LocalRows.{order_there}, LocalRuns.{flat_is_local_lem, flat_stays, limit_is_local_lem}, Tables.{row_order}}
-use Rattle.suite_part.specs.{declared.base.Base.{Base}, Apart.{clause_in, clauses_in, number_in, numbers_up}}
-use Rattle.suite_part.specs.{Bases.{row_of_part, AreChanged, AreRowsThere, IsBase, IsRowThere, StaysAs}, Left.{AreLeft}}
-use Rattle.suite_part.specs.Parts.{chosen_in, part, place_in, row_in}
-use Rattle.suite_part.proofs.{Backs.{clauses_in_order, numbers_rise}, Numbered.{number_back, up_ascends, up_count}, Lefts.{none_some}}
-use Rattle.suite_part.proofs.{Parted.{ordered_already, same_order}, PartSound.{made_at, made_count, part_sound}}
-use Rattle.suite_part.proofs.Placed.{count_in, at_place, chosen_cases, chosen_from, place_below, place_rises, HasPlace, IsChosen}
-
-map_alike : {A B : Type 0} (f g : A → B) (xs : List A) → ((x : A) → In x xs → f x ≡ g x) → map f xs ≡ map g xs
-map_alike f g [] e = refl
-map_alike f g (x ∷ xs) e = ap₂ (λ y ys. y ∷ ys) (e x here) (map_alike f g xs (λ y i. e y (there i)))
-
--- where all are chosen, all are left
-chosen_all : (flags : List Bool) (ns : List ℕ) → ((n : ℕ) → In n ns → flag flags n ≡ true) → chosen_in flags ns ≡ map (place_in flags) ns
-chosen_all flags [] up = refl
-chosen_all flags (n ∷ ns) up =
-    ap (λ b. map (place_in flags) (cond b (n ∷ filter (flag flags) ns) (filter (flag flags) ns))) (up n here) ∙ ap (λ more. place_in flags n ∷ more) (chosen_all flags ns (λ m i. up m (there i)))
-
-row_all : (flags : List Bool) (cs : List (List ℕ)) → ((c : List ℕ) → In c cs → (n : ℕ) → In n c → flag flags n ≡ true) → InOrder cs → row_in flags cs ≡ map (map (place_in flags)) cs
-row_all flags cs up order =
-    ap in_row_order (map_alike (chosen_in flags) (map (place_in flags)) cs (λ c i. chosen_all flags c (up c i)))
-    ∙ sym (ordered_already (map (map (place_in flags)) cs) (order_there (flag flags) (place_in flags) (λ m n u v l. place_rises flags m n u l) cs up order))
-
--- and they are in order already
-row_whole : (flags : List Bool) (cs : List (List ℕ)) → ((c : List ℕ) → In c cs → (n : ℕ) → In n c → flag flags n ≡ true) → InOrder cs
-    → row_in flags cs ≡ map (chosen_in flags) cs
-row_whole flags cs up order = row_all flags cs up order ∙ sym (map_alike (chosen_in flags) (map (place_in flags)) cs (λ c i. chosen_all flags c (up c i)))
+use Rattle.clause_flatten.specs.Locality.{StandsIn}
+use Rattle.clause_flatten.proofs.{LocalRuns.{flat_is_local_lem, flat_stays, limit_is_local_lem}, Tables.{row_order}}
+use Rattle.suite_part.specs.{declared.base.Base.{Base}, Bases.{row_of_part, AreChanged, IsBase, StaysAs}, Left.{AreLeft}}
+use Rattle.suite_part.proofs.{Backs.{clauses_in_order, numbers_rise}, Lefts.{none_some}, Parted.{same_order}}
 
 -- so for a row of which each clause is told to be whole
 pub whole_row : (from pool : Interned) (flags : List Bool) (known : List (Option ℕ)) (whole given : List Bool) (row ids : List ℕ)
@@ -50,25 +29,6 @@ whole_row from pool flags known whole given row ids are is told order left = lef
     up c i n j =
         let w : (id : ℕ) × In id row × (c ≡ clause_at from id) = In_map_cases (clause_at from) row c i in
         are.all w.0 (ap (λ z. flag z w.0) (sym is) ∙ all_at (flag given) row told w.0 w.1) n (subst (λ z. In n z) w.2 j)
-
--- rows keep their order where the numbers of all that they name rise
-row_moved : (U : NumSet) (to : ℕ → ℕ) → ((m n : ℕ) → U m ≡ true → U n ≡ true → m < n → to m < to n) → (cs : List (List ℕ)) → ((c : List ℕ) → In c cs → (n : ℕ) → In n c → U n ≡ true) →
-    map (map to) (in_row_order cs) ≡ in_row_order (map (map to) cs)
-row_moved U to rises cs up =
-    same_order (map (map to) cs) (map (map to) (in_row_order cs))
-    (record {
-      there = λ c i. let w : (d : List ℕ) × In d cs × (c ≡ map to d) = In_map_cases (map to) cs c i in
-          subst (λ z. In z (map (map to) (in_row_order cs))) (sym w.2) (In_map (map to) (in_row_order cs) w.0 (ordered_has cs w.0 w.1));
-      back = λ c i. let w : (d : List ℕ) × In d (in_row_order cs) × (c ≡ map to d) = In_map_cases (map to) (in_row_order cs) c i in
-          subst (λ z. In z (map (map to) cs)) (sym w.2) (In_map (map to) cs w.0 (ordered_parts cs w.0 w.1));
-    })
-    (order_there U to rises (in_row_order cs) (λ c i. up c (ordered_parts cs c i)) (ordered_order cs))
-
--- clauses whose numbers are told in two steps
-clauses_through : (f g h : ℕ → ℕ) (cs : List (List ℕ)) → ((c : List ℕ) → In c cs → (n : ℕ) → In n c → f (g n) ≡ h n) → map (map f) (map (map g) cs) ≡ map (map h) cs
-clauses_through f g h cs e =
-    map-map (map f) (map g) cs
-    ∙ map_alike (λ c. map f (map g c)) (map h) cs (λ c i. map-map f g c ∙ map_alike (λ n. f (g n)) h c (λ n j. e c i n j))
 
 -- a package is in a conflict where it has one in its list
 pub conflict_from : (R : Repository) → SoundRepository R → (q m : ℕ) → In m (conflicts_of R q) → has_conflict R q ≡ true
@@ -85,35 +45,18 @@ conflict_cases R s q h =
 
 -- what the part of chosen packages has of one of them
 module _ (R : Repository) (s : SoundRepository R) (flags : List Bool) (size : length flags ≡ length R.clauses) where
-  pub part_count : length (part flags R).clauses ≡ count_in flags
-  unfolding part
-  part_count = made_count (row_in flags) flags R.clauses size
-
-  pub part_conflicts : (x : ℕ) → flag flags x ≡ true → conflicts_of (part flags R) (place_in flags x) ≡ chosen_in flags (conflicts_of R x)
-  unfolding part
-  part_conflicts x up = made_at (chosen_in flags) flags R.conflicts [] [] (size ∙ sym s.count) x up
-
-  pub part_row : (x : ℕ) → flag flags x ≡ true → clauses_of (part flags R) (place_in flags x) ≡ row_in flags (clauses_of R x)
-  unfolding part
-  part_row x up = made_at (row_in flags) flags R.clauses [] [] size x up
-
-  -- where all that its clauses name are chosen, these are the same
-  pub part_clauses : (x : ℕ) → flag flags x ≡ true → ((c : List ℕ) → In c (clauses_of R x) → (n : ℕ) → In n c → flag flags n ≡ true) → InOrder (clauses_of R x) →
-      clauses_of (part flags R) (place_in flags x) ≡ map (map (place_in flags)) (clauses_of R x)
-  part_clauses x up all order = part_row x up ∙ row_all flags (clauses_of R x) all order
-
   -- it is in a conflict where one that conflicts with it is chosen
   pub part_conflict : (x : ℕ) → flag flags x ≡ true → has_conflict (part flags R) (place_in flags x) ≡ list_any (flag flags) (conflicts_of R x)
   part_conflict x up =
       same_bool (has_conflict (part flags R) (place_in flags x)) (list_any (flag flags) (conflicts_of R x))
       (λ h.
       let w : (m : ℕ) × In m (conflicts_of (part flags R) (place_in flags x)) = conflict_cases (part flags R) (part_sound R flags s size) (place_in flags x) h in
-      let v : IsChosen flags (conflicts_of R x) w.0 = chosen_cases flags (conflicts_of R x) w.0 (subst (λ z. In w.0 z) (part_conflicts x up) w.1) in
+      let v : IsChosen flags (conflicts_of R x) w.0 = chosen_cases flags (conflicts_of R x) w.0 (subst (λ z. In w.0 z) (part_conflicts R s flags size x up) w.1) in
       any_from (flag flags) (conflicts_of R x) v.number v.listed v.up)
       (λ h.
       let w : (m : ℕ) × In m (conflicts_of R x) × (flag flags m ≡ true) = any_cases (flag flags) (conflicts_of R x) h in
       conflict_from (part flags R) (part_sound R flags s size) (place_in flags x) (place_in flags w.0)
-      (subst (λ z. In (place_in flags w.0) z) (sym (part_conflicts x up)) (chosen_from flags (conflicts_of R x) w.0 w.1 w.2)))
+      (subst (λ z. In (place_in flags w.0) z) (sym (part_conflicts R s flags size x up)) (chosen_from flags (conflicts_of R x) w.0 w.1 w.2)))
 
 -- the clauses of a sound book are in order
 pub rows_order : (from : Interned) (book : Book) → Sound from book → (x : ℕ) → x < length book.rows → InOrder (clauses_of (repository_of from book) x)
@@ -261,7 +204,7 @@ module _ (from : Interned) (book : Book) (base : Base) (flags changed : List Boo
   own_rows x = row R (core_of base.limit false R) (place_in own x)
 
   -- a package that is in the part and not changed is in the base
-  is_own : (x : ℕ) → flag flags x ≡ true → flag changed x ≡ false → flag own x ≡ true
+  pub is_own : (x : ℕ) → flag flags x ≡ true → flag changed x ≡ false → flag own x ≡ true
   is_own x up f = let l : x < length flags = flag_in flags x up in (same x (omega (arith, long)) f).alike.there ∙ up
 
   is_unchanged : (x : ℕ) → flag own x ≡ true → flag changed x ≡ false → unchanged (place_in own x) ≡ true
@@ -277,21 +220,6 @@ module _ (from : Interned) (book : Book) (base : Base) (flags changed : List Boo
   row_there_is x up f =
       ap (row M (core_of base.limit false M)) (sym (is_there x up)) ∙ flat_is_local_lem base.limit R unchanged there_to M stand (place_in own x) (is_unchanged x up f)
 
-  -- its row is what is left of the row of the base
-  row_left : (x : ℕ) → flag own x ≡ true → flag changed x ≡ false → row_in flags (row_at base.pool (row_id base.rows.items x)) ≡ row M (core_of base.limit false M) (place_in flags x)
-  row_left x up f =
-      ap (row_in flags) (is.rows x up)
-      ∙ row_all flags (clauses_in (numbers_up own) (own_rows x))
-      (λ c i n j.
-      let w : (d : List ℕ) × In d (own_rows x) × (c ≡ clause_in (numbers_up own) d) = In_map_cases (clause_in (numbers_up own)) (own_rows x) c i in
-      let v : (m : ℕ) × In m w.0 × (n ≡ numbered m) = In_map_cases numbered w.0 n (subst (λ z. In n z) w.2 j) in
-      subst (λ z. flag flags z ≡ true) (sym v.2) (member_chosen v.0 (member_stays x up f w.0 w.1 v.0 v.1)))
-      (clauses_in_order (numbers_up own) (own_rows x) (up_ascends own)
-      (λ c i n j. subst (λ z. n < z) (sym (up_count own)) (below W whole own flags changed own_sized sized long same n (member_stays x up f c i n j)))
-      (row_order R (core_of base.limit false R) (place_in own x)))
-      ∙ clauses_through (place_in flags) numbered there_to (own_rows x) (λ c i n j. refl)
-      ∙ sym (row_there_is x up f)
-
   -- in the numbers of the book it is that of the base
   pub row_same : (x : ℕ) → flag flags x ≡ true → flag changed x ≡ false → row_at base.pool (row_id base.rows.items x) ≡ row_of_part base.limit flags W x
   row_same x chosen f =
@@ -301,46 +229,7 @@ module _ (from : Interned) (book : Book) (base : Base) (flags changed : List Boo
       ∙ clauses_through (number_in (numbers_up flags)) there_to numbered (own_rows x)
       (λ c i n j. number_back flags (numbered n) (member_chosen n (member_stays x up f c i n j))))
 
-  within_there : (x : ℕ) → flag own x ≡ true → flag changed x ≡ false → (i : ℕ) → row_length M (remaining_after base.limit false M i).left (place_in flags x) ≤ base.limit
+  pub within_there : (x : ℕ) → flag own x ≡ true → flag changed x ≡ false → (i : ℕ) → row_length M (remaining_after base.limit false M i).left (place_in flags x) ≤ base.limit
   within_there x up f i =
       subst (λ z. row_length M (remaining_after base.limit false M i).left z ≤ base.limit) (is_there x up)
       (limit_is_local_lem base.limit R unchanged there_to M stand is.none_passes i (place_in own x) (is_unchanged x up f))
-
-  places_size : place_in flags (length flags) ≡ count_in flags
-  places_size = ap count_in (take_all (length flags) flags (omega arith))
-
-  known_place : (pool : Interned) (known : List (Option ℕ)) → AreRowsThere base.pool base.rows.items flags changed pool known → (p id : ℕ) → slice_index_or known p None ≡ Some id →
-      (x : ℕ) → flag flags x ≡ true → place_in flags x ≡ p → (id < length pool.rows) × IsKnownRow M base.limit p (row_at pool id)
-  known_place pool known rows p id e x up at =
-      let told : slice_index_or known (place_in flags x) None ≡ Some id = ap (λ n. slice_index_or known n None) at ∙ e in
-      elim (cases_Bool (flag changed x)) [
-        | inl gone ↦ absurd (none_some id (sym (rows.unknown x up gone) ∙ told))
-        | inr f ↦
-            let found : IsRowThere base.pool base.rows.items flags pool x (slice_index_or known (place_in flags x) None) = rows.there x up f in
-            let u : flag own x ≡ true = is_own x up f in
-            let one : found.id ≡ id = same_Some found.id id (sym found.is ∙ told) in (
-              subst (λ z. z < length pool.rows) one found.within,
-              record {
-                is = ap (row_at pool) (sym one) ∙ found.same ∙ row_left x u f ∙ ap (row M (core_of base.limit false M)) at;
-                within = λ i. subst (λ z. row_length M (remaining_after base.limit false M i).left z ≤ base.limit) at (within_there x u f i);
-              },
-            )
-      ]
-
-  pub known_there : (pool : Interned) (known : List (Option ℕ)) → AreRowsThere base.pool base.rows.items flags changed pool known → AreKnown pool base.limit M known
-  known_there pool known rows = record {
-    count = rows.count ∙ places_size ∙ sym (part_count W whole flags sized);
-    each = λ p id e. elim (cases_lt p (length known)) [
-      | inl l ↦
-          let count : length known ≡ count_in flags = rows.count ∙ places_size in
-          let at : HasPlace flags p = at_place flags p (omega arith) in
-          known_place pool known rows p id e at.number at.up at.is
-      | inr past ↦ absurd (none_some id (sym (get_or_past known p None past) ∙ e))
-    ];
-  }
-
--- the rows that were carried over from the base are known
-pub known_are : (from pool : Interned) (book : Book) (base : Base) (flags changed : List Bool) (known : List (Option ℕ)) →
-    Sound from book → IsBase from book base → length flags ≡ length book.rows → length changed ≡ length flags → AreChanged (repository_of from book) base.flags.items flags changed →
-    AreRowsThere base.pool base.rows.items flags changed pool known → AreKnown pool base.limit (part flags (repository_of from book)) known
-known_are from pool book base flags changed known sound is size long same rows = known_there from book base flags changed sound is size long same pool known rows

@@ -1,10 +1,10 @@
 -- What is known of the rows of a part, and which packages of it stand in another part as they are.
-use Rattle.std.specs.{Prelude.{◌≡◌, ℕ, ◌<◌, ◌-◌, ◌⊎◌, Bool, true, false, List, ◌++◌, Option, Some, None, length, replicate, slice_index_or}, List.{list_any}}
-use Rattle.clause_pool.specs.Interned.{Interned, row_at}
+use Rattle.std.specs.{Prelude.{◌≡◌, ℕ, ◌<◌, ◌-◌, ◌⊎◌, Bool, true, false, List, ◌++◌, None, length, replicate}, List.{list_any}}
+use Rattle.clause_pool.specs.Interned.{Interned, row_at, IsPool}
 use Rattle.listed.specs.Lists.{In}
 use Rattle.row_book.specs.{declared.book.Book.{Book}, Book.{listed_for, repository_of}, Flags.{flag}, Flattening.{core_of, passes}}
-use Rattle.row_book.specs.{Repository.{Repository, clauses_of}, Support.{row}, Uses.{row_id, uses_of}}
-use Rattle.suite_part.specs.{Apart.{clauses_in, numbers_up}, Parts.{part, place_in, row_in}, declared.base.Base.{Base}}
+use Rattle.row_book.specs.{Parts.{clauses_in, numbers_up, part, place_in}, Repository.{Repository, clauses_of}, Support.{row}, Uses.{row_id, uses_of}}
+use Rattle.suite_part.specs.declared.base.Base.{Base}
 
 -- the flags of the first packages
 abbrev pub first_flags : ℕ → ℕ → List Bool
@@ -21,6 +21,7 @@ row_of_part limit flags R n = clauses_in (numbers_up flags) (row (part flags R) 
 -- a flag for each package of the book; for each package with a flag such a row; no row of this part passes the limit at any stage; and
 -- who names whom in the book
 pub record IsBase (from : Interned) (book : Book) (base : Base) : Type 0 where
+  pub is_pool : IsPool base.pool
   pub size : length base.flags.items ≡ length book.rows
   pub rows : (n : ℕ) → flag base.flags.items n ≡ true → row_at base.pool (row_id base.rows.items n) ≡ row_of_part base.limit base.flags.items (repository_of from book) n
   pub none_passes : passes base.limit false (part base.flags.items (repository_of from book)) ≡ None
@@ -49,24 +50,13 @@ pub record StaysAs (R : Repository) (own chosen changed : List Bool) (n : ℕ) :
 abbrev pub AreChanged : Repository → List Bool → List Bool → List Bool → Type 0
 AreChanged R own chosen changed = (n : ℕ) → n < length changed → flag changed n ≡ false → StaysAs R own chosen changed n
 
--- the id of the row of a package in another pool, in the numbers of the chosen ones
-pub record IsRowThere (from : Interned) (rows : List ℕ) (chosen : List Bool) (pool : Interned) (n : ℕ) (row : Option ℕ) : Type 0 where
-  pub id : ℕ
-  pub is : row ≡ Some id
-  pub within : id < length pool.rows
-  pub same : row_at pool id ≡ row_in chosen (row_at from (row_id rows n))
-
--- for each chosen package such a row, or none where its flag is up
-pub record AreRowsThere (from : Interned) (rows : List ℕ) (chosen changed : List Bool) (pool : Interned) (known : List (Option ℕ)) : Type 0 where
-  pub count : length known ≡ place_in chosen (length chosen)
-  pub there : (n : ℕ) → flag chosen n ≡ true → flag changed n ≡ false → IsRowThere from rows chosen pool n (slice_index_or known (place_in chosen n) None)
-  pub unknown : (n : ℕ) → flag chosen n ≡ true → flag changed n ≡ true → slice_index_or known (place_in chosen n) None ≡ None
-
--- all of the packages have their flags then, and all that had one keep it; each that gains its flag is put to the work, and nothing else but packages is
+-- all of the packages have their flags then, and all that had one keep it; each that gains its flag is one of them and is put to the work, and
+-- nothing else but packages is
 pub record Flags (packages : List ℕ) (before : List Bool) (work : List ℕ) (after : List Bool) (more : List ℕ) : Type 0 where
   pub size : length after ≡ length before
   pub stays : (n : ℕ) → flag before n ≡ true → flag after n ≡ true
   pub all : (n : ℕ) → In n packages → flag after n ≡ true
+  pub own : (n : ℕ) → flag after n ≡ true → (flag before n ≡ true) ⊎ In n packages
   pub waits : (n : ℕ) → In n work → In n more
   pub gains : (n : ℕ) → flag after n ≡ true → (flag before n ≡ true) ⊎ In n more
   pub only : (n : ℕ) → In n more → In n work ⊎ (n < length before)

@@ -2,7 +2,7 @@
 use Rattle.std.specs.{Prelude.{◌≡◌, Bool, List}, List.{items_where_true}}
 use Rattle.relation_fields.specs.{declared.packages.Home.{Home}, declared.packages.PackageFacts.{PackageFacts}}
 use Rattle.repo_model.specs.{Goals.{packages_named}, declared.goals.Goal.{Goal}, Repository.{suite_repository}}
-use Rattle.suite_part.specs.Parts.{chosen_in, part}
+use Rattle.row_book.specs.Parts.{chosen_in, part}
 
 -- the repository of some packages is that part of the repository of all
 abbrev pub PartIsExact : Home → List PackageFacts → List Bool → Type 0

@@ -3,8 +3,8 @@
 use Rattle.std.specs.Prelude.{◌≡◌, ℕ, ◌<◌, Bool, true, List, Option, Some, None, length, slice_index_or}
 use Rattle.clause_pool.specs.Interned.{Interned, clause_at, row_at}
 use Rattle.listed.specs.Lists.{In}
-use Rattle.row_book.specs.Flags.{flag}
-use Rattle.suite_part.specs.{Parts.{chosen_in, row_in}, declared.rows.LeftRows.{LeftRows}}
+use Rattle.row_book.specs.{Flags.{flag}, Parts.{chosen_in, row_in}}
+use Rattle.suite_part.specs.declared.rows.LeftRows.{LeftRows}
 
 -- the id of what is left of a clause of another pool
 pub record IsLeft (from : Interned) (flags : List Bool) (pool : Interned) (id new : ℕ) : Type 0 where

@@ -1,7 +1,8 @@
-pub mod Parts
 pub mod Left
 pub mod Laws
 pub mod BaseRows
-pub mod Apart
+pub mod Back
 pub mod Bases
+pub mod Mixes
+pub mod Small
 pub mod Renewed

@@ -1,9 +1,9 @@
--- The rows of a base that becomes that of another part.
-use Rattle.std.specs.Prelude.{◌≡◌, ℕ, ◌<◌, ◌++◌, Bool, true, false, List, [], Option, Some, None, length, replicate, slice_index_or}
+-- for the bodies of this crate alone
+-- The rows of a base with some of them made anew.
+use Rattle.std.specs.Prelude.{◌≡◌, ℕ, ◌<◌, ◌++◌, Bool, true, false, List, [], Option, Some, length, replicate}
 use Rattle.clause_pool.specs.Interned.{Interned, ids_at, row_at, OfPool}
 use Rattle.listed.specs.Lists.{In}
-use Rattle.row_book.specs.{Flags.{flag}, Uses.{row_id}}
-use Rattle.suite_part.specs.{Apart.{clauses_in, numbers_up}, Parts.{place_in}}
+use Rattle.row_book.specs.{Flags.{flag}, Parts.{clauses_in, numbers_up, place_in}, Uses.{row_id}}
 
 -- rows, followed by so many empty ones
 pub record EndsInEmpty (pool : Interned) (rows : List ℕ) (count : ℕ) (all : List ℕ) : Type 0 where
@@ -12,29 +12,28 @@ pub record EndsInEmpty (pool : Interned) (rows : List ℕ) (count : ℕ) (all : 
   pub empty : row_at pool id ≡ []
   pub are : all ≡ rows ++ replicate count id
 
--- for each chosen package a row of the pool, or none; the clauses of these rows name no numbers but those of chosen packages
-pub record AreRowsOf (pool : Interned) (chosen : List Bool) (known : List (Option ℕ)) : Type 0 where
-  pub count : length known ≡ place_in chosen (length chosen)
-  pub of_pool : (k id : ℕ) → slice_index_or known k None ≡ Some id → id < length pool.rows
-  pub numbers : (k id : ℕ) → slice_index_or known k None ≡ Some id → (c : List ℕ) → In c (row_at pool id) → (n : ℕ) → In n c → n < length known
+-- rows of a part of a book, one for each of its packages; their clauses name no others
+pub record AreRowsOf (pool : Interned) (apart : List Bool) (rows : List ℕ) : Type 0 where
+  pub count : length rows ≡ place_in apart (length apart)
+  pub of_pool : (id : ℕ) → In id rows → id < length pool.rows
+  pub numbers : (id : ℕ) → In id rows → (c : List ℕ) → In c (row_at pool id) → (n : ℕ) → In n c → n < length rows
 
--- the id of the row of a package that is chosen and has changed, and whose row is known
-pub record IsNewRow (chosen changed : List Bool) (known : List (Option ℕ)) (n id : ℕ) : Type 0 where
-  pub chosen_is : flag chosen n ≡ true
+-- the id of the row of a package in a part, if it has changed and is there
+pub record IsNewRow (rows : List ℕ) (apart changed : List Bool) (n id : ℕ) : Type 0 where
+  pub there : flag apart n ≡ true
   pub changed_is : flag changed n ≡ true
-  pub known_is : slice_index_or known (place_in chosen n) None ≡ Some id
+  pub is : row_id rows (place_in apart n) ≡ id
 
 -- a row of the pool, whose clauses are of the pool and name packages of the book alone. If the package has not changed, it is the old
--- one. If it has changed and is chosen, and its row is known, it is that row in the numbers of the book. Of a package that is gone
--- nothing more is said
-pub record IsRenewed (from : Interned) (known : List (Option ℕ)) (chosen changed : List Bool) (pool : Interned) (rows : List ℕ) (n row : ℕ) : Type 0 where
+-- one. If it has changed and is in the part, it is its row there in the numbers of the book. Of any other package nothing more is said
+pub record IsRenewed (from : Interned) (made : List ℕ) (apart changed : List Bool) (pool : Interned) (rows : List ℕ) (n row : ℕ) : Type 0 where
   pub within : row < length pool.rows
   pub clauses : OfPool pool (ids_at pool row)
   pub numbers : (c : List ℕ) → In c (row_at pool row) → (m : ℕ) → In m c → m < length rows
   pub stays : flag changed n ≡ false → row ≡ row_id rows n
-  pub made : (id : ℕ) → IsNewRow chosen changed known n id → row_at pool row ≡ clauses_in (numbers_up chosen) (row_at from id)
+  pub new : (id : ℕ) → IsNewRow made apart changed n id → row_at pool row ≡ clauses_in (numbers_up apart) (row_at from id)
 
 -- for each package of the book such a row
-pub record AreRenewed (from : Interned) (known : List (Option ℕ)) (chosen changed : List Bool) (pool : Interned) (rows more : List ℕ) : Type 0 where
+pub record AreRenewed (from : Interned) (made : List ℕ) (apart changed : List Bool) (pool : Interned) (rows more : List ℕ) : Type 0 where
   pub count : length more ≡ length rows
-  pub each : (n : ℕ) → n < length rows → IsRenewed from known chosen changed pool rows n (row_id more n)
+  pub each : (n : ℕ) → n < length rows → IsRenewed from made apart changed pool rows n (row_id more n)

@@ -1,8 +1,7 @@
 //! Some packages of a book.
 ghost use Rattle.std.specs.{Prelude.{◌≡◌, ◌<◌, ◌+◌, ℕ, cond, length, map, IfOk, OnOk}, List.{list_any}};
 ghost use Rattle.listed.specs.Lists.{In};
-ghost use Rattle.row_book.specs.{Flags.{flag}, Numbers.{numbers}};
-ghost use Rattle.suite_part.specs.Parts.{chosen_in, place_in};
+ghost use Rattle.row_book.specs.{Flags.{flag}, Numbers.{numbers}, Parts.{chosen_in, number_in, place_in}};
 
 use std::alloc::{AllocError, Global};
 
@@ -33,6 +32,17 @@ impl Chosen {
         self.places[number]
     }
 
+    /// For each package what a list has at its place among the chosen ones. For a package that is not chosen it says nothing.
+    pub fn spread(&self, alloc: Global, list: &[u32]) -> Result<Vec<u32>, AllocError>
+        ensures { IfOk result (λ made. made.items ≡ map (λ n. number_in list.now (place_in self.now.flags.items n)) (numbers (length self.now.flags.items) 0)) }
+    {
+        let mut made = Vec::with_capacity(alloc, self.places.len())?;
+        for place in &self.places {
+            made.push(number_at(list, *place))?;
+        }
+        Ok(made)
+    }
+
     /// Those of some packages that are chosen, by their numbers among the chosen ones.
     pub fn among(&self, alloc: Global, numbers: &[u32]) -> Result<Vec<u32>, AllocError>
         requires { (n : ℕ) → In n numbers.now → n < length self.now.flags.items }
@@ -56,6 +66,16 @@ impl Chosen {
             }
         }
         Ok(())
+    }
+}
+
+// The number at a place, 0 past the last.
+fn number_at(list: &[u32], place: u32) -> u32
+    ensures { result ≡ number_in list.now place }
+{
+    match list.get(place as usize) {
+        Some(number) => *number,
+        None => 0,
     }
 }
 

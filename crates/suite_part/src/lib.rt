@@ -2,7 +2,7 @@
 //! contract of each is one law.
 #![tactic(auto)]
 
-mod apart;
+mod back;
 mod base;
 mod changed;
 mod chosen;
@@ -10,12 +10,12 @@ mod laws;
 mod part;
 mod renewed;
 mod rows;
+mod small;
 
 // Some packages of a book, and the book that they make.
-pub use apart::known_apart;
 pub use base::Base;
 pub use chosen::Chosen;
 pub use part::part_of;
 
 // Laws.
-pub use laws::{names_are_part, part_is_exact};
+pub use laws::{merged_mix, mix_follows, names_are_part, part_is_exact, small_tells};

@@ -2,8 +2,7 @@
 ghost use Rattle.std.specs.{Prelude.{◌≡◌, ◌<◌, ℕ, List, length, map, IfOk}, List.{items_where_true}};
 ghost use Rattle.clause_pool.specs.{Compacting.{RowsOf}, Interned.{clauses_at, row_at, IsPool, Kept, OfPool}};
 ghost use Rattle.listed.specs.Lists.{Ascending, In};
-ghost use Rattle.row_book.specs.Book.{repository_of, AreConflicts, Sound};
-ghost use Rattle.suite_part.specs.Parts.{chosen_in, part, row_in};
+ghost use Rattle.row_book.specs.{Book.{repository_of, AreConflicts, Sound}, Parts.{chosen_in, part, row_in}};
 
 use crate::chosen::Chosen;
 use crate::rows::{LeftRows, row_left};

@@ -1,11 +1,11 @@
-//! The rows of a base that becomes that of another part: those of packages that have not changed stay, since in the numbers of the book they
-//! are the same in both parts.
-ghost use Rattle.std.specs.{Prelude.{◌≡◌, ◌<◌, None, IfNone, IfOk, length, slice_index_or, true}, Option.{ForSome}};
+//! The rows of a base with some of them made anew: those of packages that have not changed stay, since in the numbers of the book they are the
+//! same in both parts.
+ghost use Rattle.std.specs.{Prelude.{◌≡◌, ◌<◌, IfNone, IfOk, length, true}, Option.{ForSome}};
 ghost use Rattle.clause_pool.specs.Interned.{IsPool, Kept};
-ghost use Rattle.row_book.specs.Flags.{flag};
-ghost use Rattle.suite_part.specs.{BaseRows.{AreBaseRows}, Parts.{place_in}, Renewed.{AreRenewed, AreRowsOf, EndsInEmpty, IsNewRow}};
+ghost use Rattle.row_book.specs.{Flags.{flag}, Parts.{place_in}};
+ghost use Rattle.suite_part.specs.{BaseRows.{AreBaseRows}, Renewed.{AreRenewed, AreRowsOf, EndsInEmpty, IsNewRow}};
 
-use crate::apart::row_back;
+use crate::back::row_back;
 use crate::chosen::Chosen;
 use crate::rows::none_known;
 use clause_pool::{Pool, RowId};
@@ -30,28 +30,28 @@ pub(crate) fn with_empty(
     Ok(all)
 }
 
-/// The rows; those of chosen packages that have changed are replaced by the known ones, in the numbers of the book.
+/// The rows; those of packages that have changed are replaced by the ones that they have in a part, in the numbers of the book.
 pub(crate) fn renewed_rows(
     alloc: Global,
     pool: &mut Pool,
     rows: &[RowId],
     from: &Pool,
-    known: &[Option<RowId>],
+    made: &[RowId],
     changed: &[bool],
-    chosen: &Chosen,
+    apart: &Chosen,
 ) -> Result<Vec<RowId>, AllocError>
-    requires rows { AreBaseRows pool.old rows.now (length chosen.now.flags.items) }
-    requires few { length chosen.now.flags.items < 4294967296 }
-    requires known { AreRowsOf from.now chosen.now.flags.items known.now }
-    requires changed { length changed.now ≡ length chosen.now.flags.items }
-    ensures rows { IfOk result (λ more. AreRenewed from.now known.now chosen.now.flags.items changed.now pool.new rows.now more.items) }
+    requires rows { AreBaseRows pool.old rows.now (length apart.now.flags.items) }
+    requires few { length apart.now.flags.items < 4294967296 }
+    requires made { AreRowsOf from.now apart.now.flags.items made.now }
+    requires changed { length changed.now ≡ length apart.now.flags.items }
+    ensures rows { IfOk result (λ more. AreRenewed from.now made.now apart.now.flags.items changed.now pool.new rows.now more.items) }
     ensures kept { Kept pool.old pool.new }
 {
-    let numbers = true_numbers(alloc, &chosen.flags)?;
+    let numbers = true_numbers(alloc, &apart.flags)?;
     let mut seen = none_known(alloc, from.clause_count() as usize)?;
     let mut more = Vec::with_capacity(alloc, rows.len())?;
     for (number, row) in rows.iter().enumerate() {
-        let id = match new_row(known, changed, chosen, number) {
+        let id = match new_row(made, changed, apart, number) {
             Some(new) => {
                 let there = from.row(new);
                 row_back(alloc, pool, from, there, numbers.as_slice(), &mut seen)?
@@ -63,25 +63,19 @@ pub(crate) fn renewed_rows(
     Ok(more)
 }
 
-// The known row of a package that is chosen and has changed.
-fn new_row(
-    known: &[Option<RowId>],
-    changed: &[bool],
-    chosen: &Chosen,
-    number: usize,
-) -> Option<RowId>
+/// The row of a package in a part, if it has changed and is there.
+fn new_row(made: &[RowId], changed: &[bool], apart: &Chosen, number: usize) -> Option<RowId>
     requires number { number < length changed.now }
-    requires changed { length changed.now ≡ length chosen.now.flags.items }
-    requires known { length known.now ≡ place_in chosen.now.flags.items (length chosen.now.flags.items) }
-    ensures some { ForSome result (IsNewRow chosen.now.flags.items changed.now known.now number) }
-    ensures none { IfNone result (flag chosen.now.flags.items number ≡ true → flag changed.now number ≡ true
-        → slice_index_or known.now (place_in chosen.now.flags.items number) None ≡ None) }
+    requires changed { length changed.now ≡ length apart.now.flags.items }
+    requires made { length made.now ≡ place_in apart.now.flags.items (length apart.now.flags.items) }
+    ensures some { ForSome result (IsNewRow made.now apart.now.flags.items changed.now number) }
+    ensures none { IfNone result (flag apart.now.flags.items number ≡ true → flag changed.now number ≡ true → ⊥) }
 {
     if !changed[number] {
         return None;
     }
-    if !chosen.flags[number] {
+    if !apart.flags[number] {
         return None;
     }
-    known[chosen.place(number) as usize]
+    Some(made[apart.place(number) as usize])
 }

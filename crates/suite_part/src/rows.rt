@@ -5,8 +5,8 @@
 ghost use Rattle.std.specs.{Prelude.{◌≡◌, ◌<◌, ℕ, Bool, List, None, length, map, slice_index_or, IfOk, OnOk}, Bool.{OnTrue}, List.{list_all}};
 ghost use Rattle.clause_pool.specs.{Clauses.{in_row_order}, Interned.{clause_at, clauses_at, row_at, Interned, IsPool, Kept, OfPool}, Lists.{InOrder}};
 ghost use Rattle.listed.specs.Lists.{Ascending, In};
-ghost use Rattle.row_book.specs.Flags.{flag};
-ghost use Rattle.suite_part.specs.{Left.{AreAllLeft, AreLeft, IsLeft, IsRowLeft}, Parts.{chosen_in, row_in}};
+ghost use Rattle.row_book.specs.{Flags.{flag}, Parts.{chosen_in, row_in}};
+ghost use Rattle.suite_part.specs.Left.{AreAllLeft, AreLeft, IsLeft, IsRowLeft};
 
 use crate::changed::none_flagged;
 use crate::chosen::Chosen;

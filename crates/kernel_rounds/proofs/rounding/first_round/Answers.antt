@@ -2,10 +2,10 @@ use Rattle.std.proofs.Common.{◌≡◌, ◌∙◌, ◌↔◌, Bool, ℕ, false,
 use Rattle.std.specs.Prelude.{if◌then◌else◌, []}
 use Rattle.clause_pool.specs.Interned.{Interned}
 use Rattle.clause_pool.proofs.Interned.{kept_along}
-use Rattle.clause_flatten.specs.Beside.{IsFlattened}
 use Rattle.row_book.specs.{Book.{repository_of, Sound}, Merging.{class_list, quotient}, Pruning.{idle_steps, prune}, Rounds.{round, round_steps, IdleStep}}
 use Rattle.row_book.specs.{Thinning.{thin}, Trail.{trail_meaning, SoundSteps}}
 use Rattle.row_book.proofs.Books.{sound_kept}
+use Rattle.kernel_rounds.specs.Extracting.{IsFlattened}
 use Rattle.kernel_rounds.proofs.{Midways.{first_told, round_changes, IsNext}, MovedSteps.{same_copy}}
 use Rattle.kernel_rounds.proofs.rounding.first_round.Goals as goal
 use Rattle.kernel_rounds.proofs.rounding.first_round.Goals.{In_ok-made, In_ok-told}

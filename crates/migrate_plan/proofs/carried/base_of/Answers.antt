@@ -8,4 +8,4 @@ of-requires-clause-count c = subst (λ z. z ≤ length c.args.whole.now.book.row
 pub returns : goal.returns
 returns c = λ base is.
     let made = c.in_ok-base.ensures.base base is in
-    record { hold_is = c.if-view.false; limit_is = made.2; base_is = made.0 }
+    record { limit_is = made.2; base_is = made.0 }

@@ -1,25 +1,46 @@
-use Rattle.std.{proofs.Common.{◌∙◌, ap, length, subst, sym}, proofs.lemmas.List.{length-map}}
-use Rattle.row_book.specs.Book.{listed_for}
-use Rattle.suite_compare.{specs.Bearers.{filled_places}, specs.Comparing.{named_verdict, AreVerdicts, IsSide}, proofs.Bearing.{all_borne, kernel_fits}}
+use Rattle.std.{proofs.Common.{◌≡◌, ◌∙◌, List, ℕ, ap, length, map, subst, sym}, proofs.lemmas.List.{length-map}, proofs.lemmas.Result.{IfOk-weaker}}
+use Rattle.repo_model.specs.Goals.{any_version}
+use Rattle.suite_compare.specs.{Asking.{image_of}, Bearers.{bearer_classes}, Comparing.{IsSide}}
+use Rattle.suite_compare.proofs.{Bearing.{all_need, bearers_each, bearers_known, images_fit}, Named.{verdicts_are}}
 use Rattle.suite_compare.proofs.sides.side_of.Goals as goal
+use Rattle.suite_compare.proofs.sides.side_of.Goals.{In_ok-classes}
 
-pub side_at-requires-clause-fits : goal.side_at-requires-clause-fits
-side_at-requires-clause-fits c = kernel_fits _ c.args.view.now.limit c.args.view.now.kernel.hold c.args.view.now.suite.home c.args.view.now.suite.packages c.args.names.now c.deref-2.result.now c.kernel_of-kernel.ensures (c.deref-2.ensures.value ∙ c.in_ok-named.ensures)
+-- the classes of the names
+classes_are : (c : In_ok-classes) → c.in_ok-classes.classes.items ≡ bearer_classes c.args.view.now.limit c.args.view.now.kernel.hold c.args.view.now.suite.home c.args.view.now.suite.packages c.args.names.now
+classes_are c =
+    let view = c.args.view.now in
+    bearers_each view.limit view.kernel.hold view.suite.home view.suite.packages c.as_slice.result.now (c.as_slice.ensures ∙ view.of_suite.kernel_is.class_of) c.args.names.now c.deref.result.now c.in_ok-classes.classes.items
+    (c.deref.ensures.value ∙ c.in_ok-named.ensures) c.in_ok-classes.ensures
 
-pub side_at-requires-clause-places : goal.side_at-requires-clause-places
-side_at-requires-clause-places c = c.deref-3.ensures.value ∙ c.in_ok-places.ensures ∙ ap filled_places (c.deref.ensures.value ∙ sym c.deref-2.ensures.value)
+pub classes_of_each-requires : goal.classes_of_each-requires
+classes_of_each-requires c =
+    let view = c.args.view.now in
+    bearers_known view.limit view.kernel.hold view.suite.home view.suite.packages c.as_slice.result.now (c.as_slice.ensures ∙ view.of_suite.kernel_is.class_of) c.args.names.now c.deref.result.now (c.deref.ensures.value ∙ c.in_ok-named.ensures)
+
+pub side_by-requires-clause-sound : goal.side_by-requires-clause-sound
+side_by-requires-clause-sound c = c.args.view.now.of_suite.kernel_is.book.sound
+
+pub side_by-requires-clause-needs : goal.side_by-requires-clause-needs
+side_by-requires-clause-needs c =
+    let view = c.args.view.now in
+    all_need view.limit view.kernel.hold view.suite.home view.suite.packages c.args.names.now c.deref-2.result.now (c.deref-2.ensures.value ∙ classes_are (goal.at.side_by-requires-clause-needs c).In_ok-classes) c.requires.names
+
+pub side_by-requires-clause-fit : goal.side_by-requires-clause-fit
+side_by-requires-clause-fit c =
+    let view = c.args.view.now in
+    images_fit view.limit view.kernel.hold view.suite.home view.suite.packages view.pool view.kernel.book c.args.names.now c.deref-2.result.now view.of_suite.kernel_is.book
+    (c.deref-2.ensures.value ∙ classes_are (goal.at.side_by-requires-clause-fit c).In_ok-classes)
 
 pub returns-clause-side : goal.returns-clause-side
 returns-clause-side c =
-    let names = c.args.names.now in
-    let places = c.deref-3.result.now in
-    let all = all_borne c.args.view.now.suite.packages names c.deref.result.now places (c.deref.ensures.value ∙ c.in_ok-named.ensures) (c.deref-3.ensures.value ∙ c.in_ok-places.ensures) c.requires.names in
-    subst (λ n. IsSide n c.in_ok-side.side c.in_ok-side.side.of.items) (sym (length-map places (listed_for names)) ∙ ap length all) c.in_ok-side.ensures.side
+    let view = c.args.view.now in
+    let image : List ℕ → List ℕ = λ name. image_of view.limit view.kernel.hold view.suite.home view.suite.packages (any_version name) in
+    let count : length c.deref-2.result.now ≡ length c.args.names.now = ap length (c.deref-2.ensures.value ∙ classes_are (goal.at.returns-clause-side c).In_ok-classes) ∙ length-map c.args.names.now image in
+    IfOk-weaker c.side_by.result _ _ (λ side is. subst (λ n. IsSide n side side.of.items) count is.side_is) c.side_by.ensures
 
 pub returns-clause-verdicts : goal.returns-clause-verdicts
 returns-clause-verdicts c =
     let view = c.args.view.now in
-    let names = c.args.names.now in
-    let all = all_borne view.suite.packages names c.deref.result.now c.deref-3.result.now (c.deref.ensures.value ∙ c.in_ok-named.ensures) (c.deref-3.ensures.value ∙ c.in_ok-places.ensures) c.requires.names in
-    subst (λ z. AreVerdicts c.in_ok-side.side c.in_ok-side.side.of.items z (named_verdict view.limit view.kernel.hold view.suite.home view.suite.packages c.args.budget)) all
-    (c.in_ok-side.ensures.verdicts view.limit view.kernel.hold view.suite.home view.suite.packages names c.kernel_of-kernel.ensures (c.deref-2.ensures.value ∙ c.in_ok-named.ensures))
+    IfOk-weaker c.side_by.result _ _ (λ side is.
+    verdicts_are view.limit view.kernel.hold view.suite.home view.suite.packages c.args.budget _ c.args.names.now c.deref-2.result.now side view.of_suite.kernel_is.book.repository
+    (c.deref-2.ensures.value ∙ classes_are (goal.at.returns-clause-verdicts c).In_ok-classes) is) c.side_by.ensures

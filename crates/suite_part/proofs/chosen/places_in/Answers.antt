@@ -1,6 +1,6 @@
 use Rattle.std.proofs.Common.{◌∙◌, ◌+◌, ap, cond, sym, refl, get_or, false}
 use Rattle.row_book.specs.Numbers.{numbers}
-use Rattle.suite_part.proofs.Placed.{place_more, places_more}
+use Rattle.row_book.proofs.Placed.{place_more, places_more}
 use Rattle.suite_part.proofs.chosen.places_in.Goals as goal
 
 pub loop-flag-init : goal.loop-flag-init

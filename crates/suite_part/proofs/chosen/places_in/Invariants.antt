@@ -1,6 +1,5 @@
 use Rattle.std.proofs.Common.{◌≡◌, map}
-use Rattle.row_book.specs.Numbers.{numbers}
-use Rattle.suite_part.specs.Parts.{place_in}
+use Rattle.row_book.specs.{Numbers.{numbers}, Parts.{place_in}}
 use Rattle.suite_part.proofs.chosen.places_in.Given as goal
 
 abbrev pub invariant-loop-flag : goal.invariant-loop-flag

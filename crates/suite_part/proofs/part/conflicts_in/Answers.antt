@@ -1,13 +1,13 @@
 use Rattle.std.proofs.{Common.{◌≡◌, ◌<◌, ◌∙◌, [], ap, arith, false, get_or, length, subst, sym}, lemmas.List.{get_or_read}}
+use Rattle.row_book.proofs.{PartSound.{conflict_in_book}, Placed.{made_less, made_more}}
 use Rattle.listed.specs.Lists.{In}
-use Rattle.suite_part.specs.Parts.{chosen_in}
-use Rattle.suite_part.proofs.{PartSound.{conflict_within}, Placed.{made_less, made_more}}
+use Rattle.row_book.specs.Parts.{chosen_in}
 use Rattle.suite_part.proofs.part.conflicts_in.Goals as goal
 use Rattle.suite_part.proofs.part.conflicts_in.Goals.{then-index+in_ok-list+in_ok-push, else-index}
 
 pub among-requires : goal.among-requires
 among-requires c = λ n i.
-    subst (λ z. n < z) (sym c.requires.flags) (conflict_within c.args.book.now c.requires.conflicts c.loop-number.number n (subst (λ z. In n z) c.against.ensures i))
+    subst (λ z. n < z) (sym c.requires.flags) (conflict_in_book c.args.book.now c.requires.conflicts c.loop-number.number n (subst (λ z. In n z) c.against.ensures i))
 
 pub loop-number-preserved : goal.loop-number-preserved
 loop-number-preserved c =

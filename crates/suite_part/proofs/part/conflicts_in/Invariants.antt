@@ -1,6 +1,6 @@
 use Rattle.std.proofs.Common.{◌≡◌, map, take}
 use Rattle.std.specs.List.{items_where_true}
-use Rattle.suite_part.specs.Parts.{chosen_in}
+use Rattle.row_book.specs.Parts.{chosen_in}
 use Rattle.suite_part.proofs.part.conflicts_in.Given as goal
 
 abbrev pub invariant-loop-number : goal.invariant-loop-number

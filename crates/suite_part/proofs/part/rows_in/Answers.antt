@@ -1,11 +1,11 @@
 use Rattle.std.proofs.Common.{◌≡◌, ◌<◌, ◌+◌, ◌∙◌, [], List, ℕ, ap, arith, false, get_or, length, map, subst, sym}
 use Rattle.std.proofs.lemmas.List.{get_or_read, get_or-map, length-map}
+use Rattle.row_book.specs.{Parts.{row_in}, Uses.{row_id}}
 use Rattle.listed.specs.Lists.{In}
 use Rattle.listed.proofs.Lists.{In_at}
 use Rattle.clause_pool.specs.Interned.{Interned, row_at}
 use Rattle.clause_pool.proofs.Interned.{kept_along}
-use Rattle.row_book.specs.Uses.{row_id}
-use Rattle.suite_part.specs.{Left.{AreAllLeft}, Parts.{row_in}}
+use Rattle.suite_part.specs.Left.{AreAllLeft}
 use Rattle.suite_part.proofs.Parted.{parted_less, parted_more, parted_none, PartedTo}
 use Rattle.suite_part.proofs.part.rows_in.Goals as goal
 use Rattle.suite_part.proofs.part.rows_in.Goals.{then-index+in_ok-made+in_ok-push, else-index}

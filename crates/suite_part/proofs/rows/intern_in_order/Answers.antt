@@ -1,10 +1,11 @@
 use Rattle.std.proofs.{Common.{◌∙◌, ap, subst, sym}, lemmas.Bool.{OnTrue_at}, lemmas.Result.{IfOk-weaker}}
+use Rattle.row_book.proofs.Parts.{ordered_already}
 use Rattle.listed.specs.Lists.{In}
 use Rattle.clause_pool.specs.Interned.{clauses_at, OfPool}
 use Rattle.clause_pool.proofs.Interned.{kept_along}
 use Rattle.clause_families.specs.Families.{SameClauses}
 use Rattle.clause_families.proofs.Families.{row_interned}
-use Rattle.suite_part.proofs.Parted.{clauses_ascend, ordered_already, same_order}
+use Rattle.suite_part.proofs.Parted.{clauses_ascend, same_order}
 use Rattle.suite_part.proofs.rows.intern_in_order.Goals as goal
 
 pub returns-then-are_in_order-clause-row : goal.returns-then-are_in_order-clause-row

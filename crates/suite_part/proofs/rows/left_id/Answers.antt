@@ -1,8 +1,9 @@
 use Rattle.std.proofs.Common.{◌≡◌, ◌<◌, ◌∙◌, ap, eqb-true, length, subst, sym}
+use Rattle.row_book.proofs.Placed.{chosen_ascending}
 use Rattle.listed.specs.Lists.{Ascending}
 use Rattle.clause_pool.specs.Interned.{clause_at}
-use Rattle.suite_part.specs.Parts.{chosen_in}
-use Rattle.suite_part.proofs.{Lefts.{known_id, left_more, whole_clause}, Placed.{chosen_ascending}}
+use Rattle.row_book.specs.Parts.{chosen_in}
+use Rattle.suite_part.proofs.Lefts.{known_id, left_more, whole_clause}
 use Rattle.suite_part.proofs.rows.left_id.Goals as goal
 
 pub returns-in-Some-clause-is : goal.returns-in-Some-clause-is

@@ -1,6 +1,7 @@
 use Rattle.std.proofs.Common.{take, map}
+use Rattle.row_book.specs.Parts.{chosen_in}
 use Rattle.clause_pool.specs.Interned.{clauses_at}
-use Rattle.suite_part.specs.{Left.{AreLeft}, Parts.{chosen_in}}
+use Rattle.suite_part.specs.Left.{AreLeft}
 use Rattle.suite_part.proofs.Parted.{FirstInterned}
 use Rattle.suite_part.proofs.rows.left_ids.Given as goal
 

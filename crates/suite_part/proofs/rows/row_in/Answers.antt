@@ -2,7 +2,7 @@ use Rattle.std.proofs.{Common.{◌≡◌, ◌∙◌, ap, map, subst, sym}, lemma
 use Rattle.clause_pool.specs.{Interned.{clauses_at, OfPool}, Lists.{InOrder}}
 use Rattle.clause_pool.proofs.Order.{ordered_order}
 use Rattle.clause_families.proofs.Families.{row_interned}
-use Rattle.suite_part.specs.Parts.{chosen_in, row_in}
+use Rattle.row_book.specs.Parts.{chosen_in, row_in}
 use Rattle.suite_part.proofs.{Lefts.{left_kept, on_ok}, Standing.{whole_row}}
 use Rattle.suite_part.proofs.rows.row_in.Goals as goal
 use Rattle.suite_part.proofs.rows.row_in.Goals.{Then-are_whole}

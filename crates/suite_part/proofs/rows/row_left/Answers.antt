@@ -1,7 +1,7 @@
 use Rattle.std.proofs.Common.{◌<◌, ◌∙◌, ap, subst, sym}
 use Rattle.listed.specs.Lists.{In}
 use Rattle.clause_pool.specs.Interned.{clauses_at}
-use Rattle.suite_part.specs.Parts.{row_in}
+use Rattle.row_book.specs.Parts.{row_in}
 use Rattle.suite_part.proofs.Lefts.{known_id, rows_left_more}
 use Rattle.suite_part.proofs.rows.row_left.Goals as goal
 

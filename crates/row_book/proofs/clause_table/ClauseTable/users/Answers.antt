@@ -1,4 +1,4 @@
-use Rattle.std.proofs.Common.{◌≡◌, ℕ, ◌∙◌, ap, subst, sym}
+use Rattle.std.proofs.Common.{◌≡◌, ◌∙◌, ap, subst, sym}
 use Rattle.std.specs.List.{list_any}
 use Rattle.row_book.specs.{Book.{listed_for}, Holders.{ArePlaced}, Uses.{IsListOf, lists_in, list_in}}
 use Rattle.listed.specs.Lists.{has}

@@ -17,7 +17,7 @@ pub loop-number-preserved : goal.loop-number-preserved
 loop-number-preserved c =
     let users = c.args.self.now.users in
     let conflicts = c.args.book.now.conflicts in
-    let chosen = c.args.chosen.now.flags.items in
+    let chosen = c.args.flags.now in
     let size = length c.args.book.now.rows in
     elim c.if-differs.branch [
       | then-differs+in_ok-put_changed w ↦
@@ -38,7 +38,7 @@ loop-number-preserved c =
 pub packages-requires : goal.packages-requires
 packages-requires c =
     let below : c.in-Some.number < length c.args.book.now.rows =
-    popped_below c.args.self.now.users c.args.book.now.conflicts c.args.self.now.flags.items c.args.chosen.now.flags.items (length c.args.book.now.rows) (length c.args.book.now.rows) c.in-Some.number c.loop-number-2.changed.items
+    popped_below c.args.self.now.users c.args.book.now.conflicts c.args.self.now.flags.items c.args.flags.now (length c.args.book.now.rows) (length c.args.book.now.rows) c.in-Some.number c.loop-number-2.changed.items
     c.loop-number-2.work.items c.pop.new.self.items c.in-Some.ensures.items c.loop-number-2.invariant in
     subst (λ z. c.in-Some.number < z) (sym c.requires.fits.users) below
 
@@ -51,7 +51,7 @@ loop-number-2-preserved c =
     subst (λ z. Flags z c.deref_mut-in-Some.result.now c.pop.new.self.items new more) c.packages.ensures c.in_ok-put_changed-2.ensures.flags in
     let flags : Flags list c.loop-number-2.changed.items c.pop.new.self.items new more = subst (λ z. Flags list z c.pop.new.self.items new more) c.deref_mut-in-Some.ensures.value told in
     rw (lent_whole c.loop-number-2.changed.len new c.loop-number-2.changed.items flags.size c.loop-number-2.changed.ok.0)
-    (spread_users c.args.self.now.users c.args.book.now.conflicts c.args.self.now.flags.items c.args.chosen.now.flags.items (length c.args.book.now.rows) (length c.args.book.now.rows) c.in-Some.number c.loop-number-2.changed.items new
+    (spread_users c.args.self.now.users c.args.book.now.conflicts c.args.self.now.flags.items c.args.flags.now (length c.args.book.now.rows) (length c.args.book.now.rows) c.in-Some.number c.loop-number-2.changed.items new
     c.loop-number-2.work.items c.pop.new.self.items more c.in-Some.ensures.items flags c.loop-number-2.invariant)
 
 pub returns-clause-size : goal.returns-clause-size
@@ -60,5 +60,5 @@ returns-clause-size c = c.loop-number-2.invariant.long
 pub returns-clause-changed : goal.returns-clause-changed
 returns-clause-changed c = λ from sound are.
     let none : c.loop-number-2.work.items ≡ [] = grind (arith, common_steps, no_work) in
-    spread_changed from c.args.book.now c.args.self.now.users c.args.self.now.flags.items c.args.chosen.now.flags.items c.loop-number-2.changed.items c.loop-number-2.work.items (length c.args.book.now.rows) refl none sound are
+    spread_changed from c.args.book.now c.args.self.now.users c.args.self.now.flags.items c.args.flags.now c.loop-number-2.changed.items c.loop-number-2.work.items (length c.args.book.now.rows) refl none sound are
     c.loop-number-2.invariant

@@ -34,7 +34,7 @@ returns-clause-base c = λ made is.
           c.in_ok-first_rows.first_rows.items c.in_ok-rows.rows.items c.requires.count (firsts at) c.in_ok-part.ensures.part c.in-Ok.ensures.flat
           (c.in_ok-first_rows.ensures.same ∙ ap (map (row_at c.flatten.new.pool)) c.as_slice-2.ensures) c.in-Ok.ensures.sound c.in_ok-first_rows.ensures.within c.carry_rows.ensures.sound c.with_empty.ensures.kept (filled at)
           made flags (sym (ap (λ b. b.limit) same)) (sym (ap (λ b. b.pool) same)) (sym (ap (λ b. b.rows.items) same))
-          (sym (ap (λ b. b.users) same) ∙ c.in_ok-users.ensures ∙ ap (uses_of c.args.from.now) c.as_slice.ensures) c.in-Ok.ensures.within,
+          (sym (ap (λ b. b.users) same) ∙ c.in_ok-users.ensures ∙ ap (uses_of c.args.from.now) c.as_slice.ensures) c.in-Ok.ensures.within c.with_empty.ensures.sound,
       flags,
       sym (ap (λ b. b.limit) same),
     )

@@ -1,6 +1,5 @@
 use Rattle.std.proofs.Common.{◌∙◌, ap, length, map}
-use Rattle.row_book.specs.Numbers.{numbers}
-use Rattle.suite_part.specs.Parts.{place_in}
+use Rattle.row_book.specs.{Numbers.{numbers}, Parts.{place_in}}
 use Rattle.suite_part.proofs.chosen.Chosen.of.Goals as goal
 
 pub invariant_of-result : goal.invariant_of-result

@@ -1,5 +1,5 @@
 use Rattle.std.proofs.Common.{◌≡◌, ◌∙◌, arith, length}
-use Rattle.suite_part.proofs.Placed.{place_told, places_count}
+use Rattle.row_book.proofs.Placed.{place_told, places_count}
 use Rattle.suite_part.proofs.chosen.Chosen.place.Goals as goal
 
 pub index-requires : goal.index-requires

@@ -1,6 +1,6 @@
 use Rattle.std.proofs.{Common.{◌≡◌, ◌<◌, ◌∙◌, ℕ, false, arith, ap, get_or, length, sym}, lemmas.List.{get_or_read}}
 use Rattle.listed.proofs.Lists.{In_at}
-use Rattle.suite_part.proofs.Placed.{among_less, among_more, place_told, places_count}
+use Rattle.row_book.proofs.Placed.{among_less, among_more, place_told, places_count}
 use Rattle.suite_part.proofs.chosen.Chosen.put_among.Goals as goal
 use Rattle.suite_part.proofs.chosen.Chosen.put_among.Goals.{then-index+in_ok-push, else-index}
 

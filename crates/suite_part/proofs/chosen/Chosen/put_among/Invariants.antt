@@ -1,5 +1,5 @@
 use Rattle.std.proofs.Common.{◌≡◌, take}
-use Rattle.suite_part.specs.Parts.{chosen_in}
+use Rattle.row_book.specs.Parts.{chosen_in}
 use Rattle.suite_part.proofs.chosen.Chosen.put_among.Given as goal
 
 abbrev pub invariant-loop-number : goal.invariant-loop-number

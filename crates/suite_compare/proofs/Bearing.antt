@@ -125,6 +125,13 @@ module _ (limit : ℕ) (hold : Bool) (home : Home) (stanzas : List PackageFacts)
   image_borne : (name : List ℕ) → not (eqb (length (image name)) 0) ≡ stands_in stanzas name
   image_borne name = by (stands_in stanzas name) refl
     where
+      up_again : (b : Bool) → not b ≡ false → b ≡ true
+      up_again true e = refl
+      up_again false e = absurd (both_ways true e refl)
+
+      nobody : stands_in stanzas name ≡ false → eqb (length (chosen name)) 0 ≡ true
+      nobody h = up_again (eqb (length (chosen name)) 0) (sym (stands_where stanzas name) ∙ h)
+
       by : (b : Bool) → stands_in stanzas name ≡ b → not (eqb (length (image name)) 0) ≡ stands_in stanzas name
       by true h =
           let w = bearer_of stanzas name h in
@@ -134,14 +141,7 @@ module _ (limit : ℕ) (hold : Bool) (home : Home) (stanzas : List PackageFacts)
           ap not (none_in (image name) (λ k. has_not (image name) k (λ i.
               let w = classes_parts limit hold R (suite_sound home stanzas) (chosen name) (chosen_within name) k i in
               both_ways (eqb (length (chosen name)) 0) (ne_eqb (length (chosen name)) 0 (λ e. let some : 0 < length (chosen name) = filled (chosen name) w.0 w.1 in absurd (omega (arith, some, e))))
-              (nobody name h)))) ∙ sym h
-
-      not_false_eq : (b : Bool) → not b ≡ false → b ≡ true
-      not_false_eq true e = refl
-      not_false_eq false e = absurd (both_ways true e refl)
-
-      nobody : (name : List ℕ) → stands_in stanzas name ≡ false → eqb (length (chosen name)) 0 ≡ true
-      nobody name h = not_false_eq (eqb (length (chosen name)) 0) (sym (stands_where stanzas name) ∙ h)
+              (nobody h)))) ∙ sym h
 
   -- the names at the places that have a class are those that stand in the packages
   pub names_borne : (names classes : List (List ℕ)) → classes ≡ bearer_classes limit hold home stanzas names → map (listed_for names) (filled_places classes) ≡ filter (stands_in stanzas) names

@@ -64,7 +64,11 @@ pub fn classes_of_part(
     let Some(rounds) = rounds_behind(alloc, pool, left.book, limit, earlier)? else {
         return Ok(None);
     };
-    let classes = compose(alloc, merged.class_of.as_slice(), rounds.class_of.as_slice())?;
+    let classes = compose(
+        alloc,
+        merged.class_of.as_slice(),
+        rounds.class_of.as_slice(),
+    )?;
     Ok(Some(Classified {
         class_of: Listed::of(classes),
         rounds,

@@ -50,7 +50,11 @@ pub(crate) struct Shrunk {
 }
 
 /// The book after pruning and thinning.
-pub(crate) fn prune_and_thin(alloc: Global, pool: &mut Pool, book: &Book) -> Result<Shrunk, AllocError>
+pub(crate) fn prune_and_thin(
+    alloc: Global,
+    pool: &mut Pool,
+    book: &Book,
+) -> Result<Shrunk, AllocError>
     requires sound { Sound pool.old book.now }
     requires tidy { RowsTidy pool.old book.now.rows }
     ensures book { IfOk result (λ made. repository_of pool.new made.book ≡ thin (prune (repository_of pool.old book.now))) }

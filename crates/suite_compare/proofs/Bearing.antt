@@ -139,9 +139,9 @@ module _ (limit : ℕ) (hold : Bool) (home : Home) (stanzas : List PackageFacts)
           ap not (ne_eqb (length (image name)) 0 (λ e. absurd (omega (arith, some, e)))) ∙ sym h
       by false h =
           ap not (none_in (image name) (λ k. has_not (image name) k (λ i.
-              let w = classes_parts limit hold R (suite_sound home stanzas) (chosen name) (chosen_within name) k i in
-              both_ways (eqb (length (chosen name)) 0) (ne_eqb (length (chosen name)) 0 (λ e. let some : 0 < length (chosen name) = filled (chosen name) w.0 w.1 in absurd (omega (arith, some, e))))
-              (nobody h)))) ∙ sym h
+          let w = classes_parts limit hold R (suite_sound home stanzas) (chosen name) (chosen_within name) k i in
+          both_ways (eqb (length (chosen name)) 0) (ne_eqb (length (chosen name)) 0 (λ e. let some : 0 < length (chosen name) = filled (chosen name) w.0 w.1 in absurd (omega (arith, some, e))))
+          (nobody h)))) ∙ sym h
 
   -- the names at the places that have a class are those that stand in the packages
   pub names_borne : (names classes : List (List ℕ)) → classes ≡ bearer_classes limit hold home stanzas names → map (listed_for names) (filled_places classes) ≡ filter (stands_in stanzas) names
@@ -162,9 +162,9 @@ module _ (limit : ℕ) (hold : Bool) (home : Home) (stanzas : List PackageFacts)
       → map (listed_for classes) places ≡ bearer_classes limit hold home stanzas (map (listed_for names) places)
   images_at names classes places is within =
       same_items (map (listed_for classes) places) (map image (map (listed_for names) places)) (length-map places (listed_for classes) ∙ sym (length-map (map (listed_for names) places) image ∙ length-map places (listed_for names))) (λ i l.
-          let m : i < length places = subst (λ z. i < z) (length-map places (listed_for classes)) l in
-          get_or-map (listed_for classes) places i 0 [] m ∙ ap (λ z. listed_for z (get_or places i 0)) is ∙ get_or-map image names (get_or places i 0) [] [] (within i m)
-          ∙ sym (get_or-map image (map (listed_for names) places) i [] [] (subst (λ z. i < z) (sym (length-map places (listed_for names))) m) ∙ ap image (get_or-map (listed_for names) places i 0 [] m)))
+      let m : i < length places = subst (λ z. i < z) (length-map places (listed_for classes)) l in
+      get_or-map (listed_for classes) places i 0 [] m ∙ ap (λ z. listed_for z (get_or places i 0)) is ∙ get_or-map image names (get_or places i 0) [] [] (within i m)
+      ∙ sym (get_or-map image (map (listed_for names) places) i [] [] (subst (λ z. i < z) (sym (length-map places (listed_for names))) m) ∙ ap image (get_or-map (listed_for names) places i 0 [] m)))
 
   -- they are made of a table of the classes
   pub images_are : (table : List ℕ) → table ≡ map (kernel_class limit hold R) (packages R) → (names made : List (List ℕ)) → AreEach (λ i classes. AreClasses table (chosen (listed_for names i)) classes) [] (length names) made

@@ -46,7 +46,7 @@ returns-clause-sides c =
     let count : length part.names.items ≡ length places = ap length c.in_ok-part.ensures.names ∙ length-map places (listed_for old.names) in
     let long : length part.of.items ≡ length part.names.items = ap length c.in_ok-part.ensures.kinds ∙ length-map places (λ place. get_or old.side.of.items place 0) ∙ sym count in
     let among = names_among old.names old.side.of.items places part.names.items part.of.items (places_within c.args.classes.items places (length old.names) (c.deref-2.ensures.value ∙ are) c.requires.count)
-        c.in_ok-part.ensures.names c.in_ok-part.ensures.kinds in
+    c.in_ok-part.ensures.names c.in_ok-part.ensures.kinds in
     let lists : length c.deref-5.result.now ≡ length places =
     ap length (c.deref-5.ensures.value ∙ c.in_ok-lists.ensures) ∙ length-map c.deref-4.result.now (listed_for c.deref-3.result.now) ∙ ap length (c.deref-4.ensures.value ∙ sym c.deref-2.ensures.value) in
     record {
@@ -67,7 +67,7 @@ returns-clause-names c = λ home stanzas is borne.
     let named = map (listed_for old.names) places in
     let same : named ≡ part.names.items = ap (map (listed_for old.names)) (c.deref-4.ensures.value ∙ sym c.deref-2.ensures.value) ∙ sym c.in_ok-part.ensures.names in
     let lists = c.deref-5.ensures.value ∙ c.in_ok-lists.ensures ∙ ap (λ z. map (listed_for z) places) c.deref-3.ensures.value
-        ∙ images_at view.limit view.kernel.hold home stanzas old.names classes places borne (places_within classes places (length old.names) (c.deref-4.ensures.value ∙ are) c.requires.count) in
+    ∙ images_at view.limit view.kernel.hold home stanzas old.names classes places borne (places_within classes places (length old.names) (c.deref-4.ensures.value ∙ are) c.requires.count) in
     let told : AreVerdicts side side.of.items named (new_verdict old home stanzas) =
     verdicts_are view.limit view.kernel.hold home stanzas old.budget _ named c.deref-5.result.now side is.repository lists c.in_ok-side.ensures in
     record {
